@@ -1,0 +1,9 @@
+//! Instruction words of RV32I and of the word AMOs of the A extension, to and from instructions.
+//!
+//! The contract: [`decode`] answers an instruction exactly where the word means it by the table of
+//! the RISC-V Unprivileged ISA (`specs/Means.antt`), and `None` exactly where no row of it applies.
+//! This crate executes nothing, keeps no state and takes no memory.
+
+#![tactic(auto)]
+
+pub mod instruction;
