@@ -1,0 +1,10 @@
+//! One hart by itself: what its next instruction wants of the machine, and the state that it leaves.
+//!
+//! The contract: [`Hart::next_need`] is `need_of` and [`Hart::advance`] is `advanced` of
+//! `specs/Steps.antt`, which say by the manual's words what an instruction does to registers and pc.
+//! This crate knows no memory word, no store buffer and no other hart.
+
+#![tactic(auto)]
+
+pub mod need;
+pub mod status;
