@@ -1,0 +1,5 @@
+pub mod History
+pub mod Entries
+pub mod Paths
+pub mod Legal
+pub mod Runs
