@@ -3,3 +3,4 @@ pub mod Follows
 pub mod Balanced
 pub mod Decides
 pub mod Happening
+pub mod Stays
