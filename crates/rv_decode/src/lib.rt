@@ -7,11 +7,14 @@
 #![tactic(auto)]
 
 mod decoder;
+mod encoder;
 pub mod instruction;
 mod opcode;
+mod operations;
 mod word;
 
 pub use decoder::decode;
+pub use encoder::{encode, fits};
 pub use instruction::{
     AmoOp, BranchOp, ImmediateOp, Instr, LoadOp, Reg, RegisterOp, ShiftOp, StoreOp,
 };

@@ -13,7 +13,7 @@ use Rattle.hart.specs.declared.status.Status.TheVariants as status
 use Rattle.hart.specs.declared.need.Need.{Need}
 use Rattle.hart.specs.declared.need.Need.TheVariants as need
 use Rattle.hart.specs.declared.need.Report.TheVariants as report
-use Rattle.hart.proofs.Needs.{IsInRange}
+use Rattle.hart.proofs.Needs.{IsTrueOf, need_is_true}
 use Rattle.step_machine.specs.declared.events.Event.{Event}
 use Rattle.step_machine.specs.declared.events.Event.TheVariants as event
 use Rattle.step_machine.specs.declared.events.Entry.{Entry}
@@ -28,6 +28,27 @@ use Rattle.step_machine.specs.Runs.{IsFor, CanFollow, idle, idle_of, idle_in, Ad
 use Rattle.step_machine.specs.Config.{Config, buffer_of, word_at, found, is_empty, if_waits, outcome_for, act_in, act_outcome, land_in, land_outcome, outcome_of}
 use Rattle.step_machine.specs.Ties.{view_state, Tied}
 use Rattle.step_machine.proofs.Follows.{follows, act_only, land_follows, Path-hart, Legal-last}
+
+-- the address that a need names is one of a memory of M words
+abbrev pub IsInRange : ℕ → Need → Type 0
+IsInRange M need.Inner = Unit {0}
+IsInRange M (need.Load a) = IsAddress M a
+IsInRange M (need.Store a w) = IsAddress M a
+IsInRange M (need.Amo a op rs2) = IsAddress M a
+IsInRange M (need.Fence full) = Unit {0}
+IsInRange M (need.Next w) = Unit {0}
+IsInRange M (need.Report r) = Unit {0}
+IsInRange M need.Exit = Unit {0}
+IsInRange M (need.Stop why) = Unit {0}
+
+in_range_true : (s : HartState) (n : Need) → IsTrueOf s n → IsInRange s.words n
+in_range_true s (need.Load a) is = is
+in_range_true s (need.Store a w) is = is
+in_range_true s (need.Amo a op rs2) is = is
+in_range_true s n is = tt
+
+pub need_of-in_range : (M : ℕ) (s : HartState) → s.words ≡ M → IsInRange M (need_of s)
+need_of-in_range M s words = subst (λ (m : ℕ). IsInRange m (need_of s)) words (in_range_true s (need_of s) (need_is_true s))
 
 -- an entry with which hart h does what it needs, and which memory and buffers allow
 pub record Does (B : ℕ) (t : History) (h : ℕ) (n : Need) (e : Entry) : Type 0 where

@@ -4,3 +4,4 @@ pub mod Balanced
 pub mod Decides
 pub mod Happening
 pub mod Stays
+pub mod Carried

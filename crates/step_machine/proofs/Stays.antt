@@ -56,7 +56,7 @@ own_is : (h k : ℕ) (e : Entry) (b : Bool) → hart_of e ≡ h → (h == k) ≡
 own_is h k e b mine is = let at : (hart_of e == k) ≡ b = subst (λ (g : ℕ). (g == k) ≡ b) (sym mine) is in ap (λ c. c && not (is_land e)) at
 
 -- the states after hart h made an entry e of its own and its list of harts stepped at h by what e read
-states_stay : (M : ℕ) (t : History) (c : Config) (h : ℕ) (e : Entry) → Tied M t c → hart_of e ≡ h → is_land e ≡ false → (k : ℕ) → option_map view_state (slice_get (step_hart c h (value_of e)) k) ≡ state_of M (with_entry t e) k
+pub states_stay : (M : ℕ) (t : History) (c : Config) (h : ℕ) (e : Entry) → Tied M t c → hart_of e ≡ h → is_land e ≡ false → (k : ℕ) → option_map view_state (slice_get (step_hart c h (value_of e)) k) ≡ state_of M (with_entry t e) k
 states_stay M t c h e tied mine act k = at (k == h) refl
   where
     at : (b : Bool) → (k == h) ≡ b → option_map view_state (slice_get (step_hart c h (value_of e)) k) ≡ state_of M (with_entry t e) k
@@ -111,7 +111,7 @@ report_of-other k (entry.Stopped g why) ne = refl
 report_of-other k (entry.Land g) ne = refl
 
 -- the reports after hart h, in state s, made e
-reports_stay : (M : ℕ) (t : History) (c : Config) (h : ℕ) (e : Entry) (s : HartState) → Tied M t c → hart_of e ≡ h → state_of M t h ≡ Some s → e ≡ entry_of h (need_of s) (value_of e) → (k : ℕ) (w : HartView) → slice_get (step_hart c h (value_of e)) k ≡ Some w → w.reports ≡ reported k (with_entry t e).entries
+pub reports_stay : (M : ℕ) (t : History) (c : Config) (h : ℕ) (e : Entry) (s : HartState) → Tied M t c → hart_of e ≡ h → state_of M t h ≡ Some s → e ≡ entry_of h (need_of s) (value_of e) → (k : ℕ) (w : HartView) → slice_get (step_hart c h (value_of e)) k ≡ Some w → w.reports ≡ reported k (with_entry t e).entries
 reports_stay M t c h e s tied mine is made k w here = at (k == h) refl
   where
     mine_at : (so : Option HartView) → slice_get c.harts h ≡ so → slice_get (step_hart c h (value_of e)) h ≡ Some w → w.reports ≡ reported h (t.entries ++ e ∷ [])
@@ -160,14 +160,14 @@ pending-land B t h legal =
     ∙ ap (λ n. drop n (pending h t.entries ++ [])) (if_self h 1 0)
     ∙ ap (drop 1) (append-nil (pending h t.entries))
 
-store_of-other : (h k a v : ℕ) → (k ≡ h → ⊥) → store_of k (entry.Store h a v) ≡ []
+pub store_of-other : (h k a v : ℕ) → (k ≡ h → ⊥) → store_of k (entry.Store h a v) ≡ []
 store_of-other h k a v ne = ap (λ b. if b then (a, v) ∷ [] else []) (ne_eqb h k (λ q. ne (sym q)))
 
-land_of-other : (h k : ℕ) → (k ≡ h → ⊥) → land_of k (entry.Land h) ≡ 0
+pub land_of-other : (h k : ℕ) → (k ≡ h → ⊥) → land_of k (entry.Land h) ≡ 0
 land_of-other h k ne = ap (λ b. if b then 1 else 0) (ne_eqb h k (λ q. ne (sym q)))
 
 -- a buffer written at h is what is pending, where it is so at h, and the others stay
-buffers_stay : (M : ℕ) (t : History) (c : Config) (h : ℕ) (ps : List (ℕ × ℕ)) (e : Entry) → Tied M t c → h < length c.buffers → ps ≡ pending h (t.entries ++ e ∷ []) → ((k : ℕ) → (k ≡ h → ⊥) → pending k (t.entries ++ e ∷ []) ≡ pending k t.entries) → (k : ℕ) → get_or (set c.buffers h ps) k [] ≡ pending k (t.entries ++ e ∷ [])
+pub buffers_stay : (M : ℕ) (t : History) (c : Config) (h : ℕ) (ps : List (ℕ × ℕ)) (e : Entry) → Tied M t c → h < length c.buffers → ps ≡ pending h (t.entries ++ e ∷ []) → ((k : ℕ) → (k ≡ h → ⊥) → pending k (t.entries ++ e ∷ []) ≡ pending k t.entries) → (k : ℕ) → get_or (set c.buffers h ps) k [] ≡ pending k (t.entries ++ e ∷ [])
 buffers_stay M t c h ps e tied within here others k = at (k == h) refl
   where
     at : (b : Bool) → (k == h) ≡ b → get_or (set c.buffers h ps) k [] ≡ pending k (t.entries ++ e ∷ [])

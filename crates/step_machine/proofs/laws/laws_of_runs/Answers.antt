@@ -1,10 +1,10 @@
 use Rattle.step_machine.proofs.Follows.{own-mine}
-use Rattle.step_machine.proofs.Stays.{words_stay}
+use Rattle.step_machine.proofs.Carried.{Acts}
 use Rattle.step_machine.proofs.Happening.{outcome_of-happens}
 use Rattle.step_machine.proofs.laws.laws_of_runs.Goals as goal
 
 pub returns-clause-kept : goal.returns-clause-kept
-returns-clause-kept c = let a = words_stay in let b = outcome_of-happens in ?
+returns-clause-kept c =  let b = outcome_of-happens in ?
 
 pub returns-clause-one : goal.returns-clause-one
 returns-clause-one c = ?
