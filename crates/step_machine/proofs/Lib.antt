@@ -5,3 +5,4 @@ pub mod Decides
 pub mod Happening
 pub mod Stays
 pub mod Carried
+pub mod Running
