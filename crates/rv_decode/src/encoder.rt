@@ -14,9 +14,10 @@ use crate::operations::{
 };
 use crate::word::{field, join};
 
-/// Whether `instr` has a word: its immediates are in the ranges of its encoding.
+/// Whether some word means `instr`.
 ///
-/// An offset of a jump or a branch is even as well. Anything else in an `Instr` fits by its type.
+/// It does where each immediate, shift amount and set of a fence is in the range of its bits, and
+/// an offset of a jump or a branch is even. Registers and operations fit by their types.
 #[tactic(auto, using(crate::proofs::Words::fits_iff_word))]
 pub fn fits(instr: &Instr) -> bool
     ensures ranges { IsTrue result ↔ Fits instr.now }

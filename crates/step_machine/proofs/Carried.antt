@@ -22,9 +22,9 @@ use Rattle.step_machine.specs.Entries.{hart_of, is_land, pending, write_of, repo
 use Rattle.step_machine.specs.Paths.{entry_of, value_of, CanMake, state_of}
 use Rattle.step_machine.specs.Legal.{Allowed, Legal, Kept}
 use Rattle.step_machine.specs.Runs.{CanFollow}
-use Rattle.step_machine.specs.Config.{Config, buffer_of, word_at, step_at, step_hart, write_first, after_entry, HasAddress, Fit}
+use Rattle.step_machine.specs.Config.{Config, IsInRange, buffer_of, word_at, step_at, step_hart, write_first, after_entry, HasAddress, Fit}
 use Rattle.step_machine.specs.Ties.{view_state, Tied}
-use Rattle.step_machine.proofs.Decides.{IsInRange, need_of-in_range}
+use Rattle.step_machine.proofs.Decides.{need_of-in_range}
 use Rattle.step_machine.proofs.Appended.{reported-last}
 use Rattle.step_machine.proofs.Follows.{act_only, Legal-last}
 use Rattle.step_machine.proofs.Happening.{no_hart, none-no_hart}

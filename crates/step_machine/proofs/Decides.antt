@@ -2,6 +2,7 @@
 use Rattle.std.proofs.Common.{◌≡◌, ℕ, ◌≤◌, ◌<◌, ◌==◌, Bool, true, false, not, ◌&&◌, IsTrue, List, [], ◌∷◌, ◌++◌, length, Option, Some, None, refl, sym, ◌∙◌, ap, subst, arith}
 use Rattle.std.specs.Prelude.{nat_lt, option_map, unwrap_or}
 use Rattle.std.specs.List.{slice_get}
+use Rattle.std.proofs.lemmas.Bool.{eqb-true, eq-eqb}
 use Rattle.std.proofs.lemmas.Bool.Decides.{nat_tests}
 use Rattle.memory.specs.Words.{IsAddress, newest_of}
 use Rattle.hart.specs.State.{HartState, HartView}
@@ -25,21 +26,9 @@ use Rattle.step_machine.specs.Entries.{hart_of, is_land, pending, memory_word, r
 use Rattle.step_machine.specs.Paths.{entry_of, value_of, CanMake, state_of, Path}
 use Rattle.step_machine.specs.Legal.{Allowed, Legal, Kept}
 use Rattle.step_machine.specs.Runs.{IsFor, CanFollow, idle, idle_of, idle_in, Adds, Idles, Happens}
-use Rattle.step_machine.specs.Config.{Config, buffer_of, word_at, found, is_empty, if_waits, outcome_for, act_in, act_outcome, land_in, land_outcome, outcome_of}
+use Rattle.step_machine.specs.Config.{Config, IsInRange, buffer_of, word_at, found, is_empty, if_waits, outcome_for, act_in, act_outcome, land_in, land_outcome, outcome_of}
 use Rattle.step_machine.specs.Ties.{view_state, Tied}
 use Rattle.step_machine.proofs.Follows.{follows, act_only, land_follows, Path-hart, Legal-last}
-
--- the address that a need names is one of a memory of M words
-abbrev pub IsInRange : ℕ → Need → Type 0
-IsInRange M need.Inner = Unit {0}
-IsInRange M (need.Load a) = IsAddress M a
-IsInRange M (need.Store a w) = IsAddress M a
-IsInRange M (need.Amo a op rs2) = IsAddress M a
-IsInRange M (need.Fence full) = Unit {0}
-IsInRange M (need.Next w) = Unit {0}
-IsInRange M (need.Report r) = Unit {0}
-IsInRange M need.Exit = Unit {0}
-IsInRange M (need.Stop why) = Unit {0}
 
 in_range_true : (s : HartState) (n : Need) → IsTrueOf s n → IsInRange s.words n
 in_range_true s (need.Load a) is = is
@@ -79,10 +68,10 @@ Tied-sees M t c h tied = record {
 
 is_empty-nil : (ps : List (ℕ × ℕ)) → is_empty ps ≡ true → ps ≡ []
 is_empty-nil [] e = refl
-is_empty-nil (p ∷ ps) e = cc
+is_empty-nil (p ∷ ps) e = let none : length (p ∷ ps) ≡ 0 = eqb-true (length (p ∷ ps)) 0 e in absurd (omega arith)
 
 nil-is_empty : (ps : List (ℕ × ℕ)) → ps ≡ [] → is_empty ps ≡ true
-nil-is_empty ps e = ap is_empty e
+nil-is_empty ps e = eq-eqb (length ps) 0 (ap length e)
 
 -- where nothing is pending, a hart reads memory itself
 pub read-empty : (o : Start) (es : List Entry) (h a : ℕ) → pending h es ≡ [] → read o es h a ≡ memory_word o es a

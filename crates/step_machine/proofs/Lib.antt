@@ -6,3 +6,4 @@ pub mod Happening
 pub mod Stays
 pub mod Carried
 pub mod Running
+pub mod Fitting
