@@ -1,7 +1,7 @@
 //! What the machine holds: its harts, their store buffers and the memory, and what an event makes of
 //! them. Nothing here knows a history.
 
-ghost use Rattle.std.specs.Prelude.{◌≡◌, ◌≤◌, ◌<◌, ℕ, List, [], ◌∷◌, ◌++◌, length, slice_get, slice_set, All, IfSome, IsSomeAnd, OnOk, OnErr, unwrap_or, is_some};
+ghost use Rattle.std.specs.Prelude.{◌≡◌, ◌≤◌, ◌<◌, ℕ, true, false, List, [], ◌∷◌, ◌++◌, length, slice_get, slice_set, All, IfSome, IsSomeAnd, OnOk, OnErr, unwrap_or, is_some};
 ghost use Rattle.memory.specs.Words.{IsAddress};
 ghost use Rattle.hart.specs.Steps.{need_of, reads, first_state};
 
@@ -54,15 +54,18 @@ impl<const B: usize, const M: usize> Cores<B, M> {
         ensures outcome { result ≡ act_outcome B self.old hart (slice_get self.old.harts hart) }
         ensures after { self.new ≡ after_outcome self.old result }
     {
-        let index = hart as usize;
-        if index >= self.harts.len() {
+        if hart as usize >= self.harts.len() {
             return Outcome::NoHart;
         }
-        if self.harts[index].status() != Status::Running {
-            return Outcome::Over;
+        let here = &self.harts[hart as usize];
+        match here.status() {
+            Status::Running => {
+                let need = here.next_need();
+                self.meet(hart, need)
+            }
+            Status::Ended => Outcome::Over,
+            Status::Stopped(_) => Outcome::Over,
         }
-        let need = self.harts[index].next_need();
-        self.meet(hart, need)
     }
 
     /// Does what a running hart needs, or lets it wait.
