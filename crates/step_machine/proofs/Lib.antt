@@ -7,3 +7,5 @@ pub mod Stays
 pub mod Carried
 pub mod Running
 pub mod Fitting
+pub mod Rooms
+pub mod Opens
