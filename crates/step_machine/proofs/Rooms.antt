@@ -26,7 +26,7 @@ pub same_roomy : (c : Config) (h n : ℕ) → SameButRoom c (record c { harts = 
 same_roomy c h n = record { harts = same_in c.harts h n (slice_get c.harts h) refl; buffers = refl; words = refl }
 
 -- a hart written at h: what a test says of it and of the others
-written_at_place : (P : HartView → Type 0) (hs : List HartView) (h k : ℕ) (x v : HartView) → h < length hs → P x → ((w : HartView) → slice_get hs k ≡ Some w → P w) → slice_get (set hs h x) k ≡ Some v → P v
+pub written_at_place : (P : HartView → Type 0) (hs : List HartView) (h k : ℕ) (x v : HartView) → h < length hs → P x → ((w : HartView) → slice_get hs k ≡ Some w → P w) → slice_get (set hs h x) k ≡ Some v → P v
 written_at_place P hs h k x v within here others is = at (k == h) refl
   where
     at : (b : Bool) → (k == h) ≡ b → P v

@@ -12,3 +12,4 @@ mod cores;
 pub mod events;
 pub mod opening;
 pub mod laws;
+pub mod machine;

@@ -1,5 +1,6 @@
 //! Where a machine begins.
 
+use crate::events::Entry;
 use std::marker::Model;
 
 /// One hart's beginning: its instruction words, its registers and the words it will be given.
@@ -32,4 +33,19 @@ impl Model for Opening {
     ghost Value = { Start };
 
     ghost view = { λ o. record { harts = o.harts.items; words = o.words.items } };
+}
+
+/// A history by itself: where a machine began, and what was done since, oldest first.
+#[derive(Debug, Drop)]
+pub struct Trace {
+    pub opening: Opening,
+    pub entries: Vec<Entry>,
+}
+
+impl Model for Trace {
+    ghost use Rattle.step_machine.specs.History.{History};
+
+    ghost Value = { History };
+
+    ghost view = { λ t. record { opening = t.opening; entries = t.entries.items } };
 }
