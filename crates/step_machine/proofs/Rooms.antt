@@ -72,6 +72,9 @@ room_below_more hs i n below k v lt got = at (k == i) refl
         let ne : k ≡ i → ⊥ = eqb-false k i other in
         below_in hs i n (slice_get hs i) refl below k v (omega arith) got
 
+pub room_below_next : (c d : Config) (i n : ℕ) → d ≡ record c { harts = roomy_at c.harts i n } → RoomBelow i n c.harts → RoomBelow (i + 1) n d.harts
+room_below_next c d i n is below = subst (λ (k : Config). RoomBelow (i + 1) n k.harts) (sym is) (room_below_more c.harts i n below)
+
 -- all harts have room where all before the end have it
 pub all_have_room : (hs : List HartView) (i n : ℕ) → length hs ≤ i → RoomBelow i n hs → AllHaveRoom n hs
 all_have_room hs i n end below h v got = let within : h < length hs = slice_get_within hs h v got in below h v (omega arith) got

@@ -120,8 +120,8 @@ fit_same M c d fit same = record {
     pending = subst (λ (bs : List (List (ℕ × ℕ))). All (λ (ps : List (ℕ × ℕ)). All (HasAddress M) ps) bs) (sym same.buffers) fit.pending;
   }
 
-pub sound_same : (B M n : ℕ) (t : History) (c d : Config) → Sound B M t c n → SameButRoom c d → AllHaveRoom n d.harts → Sound B M t d n
-sound_same B M n t c d sound same room = record {
+pub sound_same : (B M n m : ℕ) (t : History) (c d : Config) → Sound B M t c n → SameButRoom c d → AllHaveRoom m d.harts → Sound B M t d m
+sound_same B M n m t c d sound same room = record {
     fits = sound.fits;
     kept = sound.kept;
     tied = tied_same M t c d sound.tied same;
@@ -167,9 +167,9 @@ sound_held B M o es c fits none is =
     (subst (λ (xs : List Entry). Sound B M (record { opening = o; entries = xs }) (opened_config M o) 0) (sym none) (sound_opened B M o fits))
 
 -- the same entries and the same machine but for room
-pub sound_moved : (B M n : ℕ) (o : Start) (es moved : List Entry) (c d : Config) → Sound B M (record { opening = o; entries = es }) c n → moved ≡ es → SameButRoom c d → AllHaveRoom n d.harts → Sound B M (record { opening = o; entries = moved }) d n
-sound_moved B M n o es moved c d sound is same room =
-    subst (λ (xs : List Entry). Sound B M (record { opening = o; entries = xs }) d n) (sym is) (sound_same B M n (record { opening = o; entries = es }) c d sound same room)
+pub sound_moved : (B M n m : ℕ) (o : Start) (es moved : List Entry) (c d : Config) → Sound B M (record { opening = o; entries = es }) c n → moved ≡ es → SameButRoom c d → AllHaveRoom m d.harts → Sound B M (record { opening = o; entries = moved }) d m
+sound_moved B M n m o es moved c d sound is same room =
+    subst (λ (xs : List Entry). Sound B M (record { opening = o; entries = xs }) d m) (sym is) (sound_same B M n m (record { opening = o; entries = es }) c d sound same room)
 
 -- a step of a sound machine, and what it leaves
 pub happens_stepped : (B M n : ℕ) (t : History) (c : Config) (ev : Event) (o : Outcome) (es : List Entry) → Sound B M t c n → o ≡ outcome_of B c ev → es ≡ entries_after t.entries o → Happens B M t ev o (record { opening = t.opening; entries = es })

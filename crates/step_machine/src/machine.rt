@@ -74,6 +74,118 @@ impl<const B: usize, const M: usize> Machine<B, M> {
         self.room = self.room.saturating_sub(1);
         Ok(outcome)
     }
+
+    /// The events one after the other. An error names how many of them came before it: the machine
+    /// stands after those.
+    pub fn run(&mut self, events: &[Event]) -> Result<(), (usize, AllocError)>
+        ensures ok { OnOk result (RunFrom B M self.old.history events.now self.new.history) }
+        ensures err { IfErr result (λ e. RunFrom B M self.old.history (take e.0 events.now) self.new.history) }
+        ensures reserved { length events.now ≤ self.old.room → IsOk result }
+    {
+        for (done, event) in events.iter().enumerate() {
+            match self.step(*event) {
+                Ok(_) => {}
+                Err(error) => return Err((done, error)),
+            }
+        }
+        Ok(())
+    }
+
+    /// Makes room for `n` steps. Neither outcome changes the history.
+    pub fn reserve(&mut self, n: usize) -> Result<(), AllocError>
+        ensures history { self.new.history ≡ self.old.history }
+        ensures room { OnOk result (n ≤ self.new.room) }
+        ensures kept { self.old.room ≤ self.new.room }
+        ensures err { OnErr result (self.new ≡ self.old) }
+    {
+        if self.room < n {
+            self.entries.reserve(n)?;
+            self.cores.reserve(n)?;
+            self.room = n;
+        }
+        Ok(())
+    }
+
+    /// Where the machine began.
+    pub fn opening(&self) -> &Opening
+        ensures { result.now ≡ self.now.history.opening }
+    {
+        &self.opening
+    }
+
+    /// What was done since the opening, oldest first.
+    pub fn entries(&self) -> &[Entry]
+        ensures value { result.now ≡ self.now.history.entries }
+        ensures kept { Kept B M self.now.history }
+    {
+        &self.entries
+    }
+
+    /// A copy of the history.
+    pub fn trace(&self, alloc: Global) -> Result<Trace, AllocError>
+        ensures value { IfOk result (λ t. t ≡ self.now.history) }
+        ensures kept { Kept B M self.now.history }
+    {
+        let opening = self.opening.copy(alloc)?;
+        let entries = Vec::from_slice(alloc, &self.entries)?;
+        Ok(Trace { opening, entries })
+    }
+
+    /// How many harts there are, 1 to 64.
+    pub fn harts(&self) -> u32
+        ensures { result ≡ length self.now.history.opening.harts }
+    {
+        self.opening.harts.len() as u32
+    }
+
+    /// Whether the hart goes on.
+    pub fn status(&self, hart: u32) -> Status
+        requires { hart < length self.now.history.opening.harts }
+        ensures { option_map (λ s. s.status) (state_of M self.now.history hart) ≡ Some result }
+    {
+        self.cores.hart(hart).status()
+    }
+
+    /// The address in bytes of the hart's next instruction.
+    pub fn pc(&self, hart: u32) -> u32
+        requires { hart < length self.now.history.opening.harts }
+        ensures { option_map (λ s. s.pc) (state_of M self.now.history hart) ≡ Some result }
+    {
+        self.cores.hart(hart).pc()
+    }
+
+    /// The word in the hart's register x`number`.
+    pub fn register(&self, hart: u32, number: u8) -> u32
+        requires hart { hart < length self.now.history.opening.harts }
+        requires number { number < 32 }
+        ensures { option_map (λ s. slice_index s.registers number) (state_of M self.now.history hart) ≡ Some result }
+    {
+        self.cores.hart(hart).register(number)
+    }
+
+    /// The hart's reports, oldest first.
+    pub fn reports(&self, hart: u32) -> &[Report]
+        requires { hart < length self.now.history.opening.harts }
+        ensures { result.now ≡ reported hart self.now.history.entries }
+    {
+        self.cores.hart(hart).reports()
+    }
+
+    /// The hart's pending stores, pairs of address and value, oldest first.
+    pub fn pending(&self, hart: u32) -> &[(u32, u32)]
+        requires { hart < length self.now.history.opening.harts }
+        ensures { result.now ≡ pending hart self.now.history.entries }
+    {
+        self.cores.pending(hart)
+    }
+
+    /// The word of memory at an address, a multiple of 4 below 4 times `M`.
+    pub fn word(&self, addr: u32) -> u32
+        requires { IsAddress M addr }
+        ensures { result ≡ memory_word self.now.history.opening self.now.history.entries addr }
+    {
+        self.cores.word(addr)
+    }
 }
 
 /// Makes room for one more entry and for a step of the hart that the event lets act, where none of
