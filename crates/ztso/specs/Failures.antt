@@ -1,5 +1,5 @@
 -- How the program fails, and the exit statuses.
-use Rattle.std.specs.Prelude.{ℕ, ◌≡◌, ◌≢◌}
+use Rattle.std.specs.Prelude.{ℕ, ◌≡◌, ◌⊎◌}
 use Rattle.ztso.specs.declared.failure.Failure.{Failure}
 use Rattle.ztso.specs.declared.failure.Failure.TheVariants.{BadCommandLine, Engine}
 use Rattle.ztso_engines.specs.declared.fault.Fault.TheVariants.{NoMemory}
@@ -10,7 +10,7 @@ abbrev pub status_of : Failure → ℕ
 status_of BadCommandLine = 2
 status_of (Engine fault) = fault_status_of fault
 
--- want of memory is told as such, and all else is the command line's fault
-pub record IsToldAs (WantOfMemory : Type 0) (failure : Failure) : Type 0 where
-  pub memory : WantOfMemory → failure ≡ Engine NoMemory
-  pub words : (WantOfMemory → ⊥) → failure ≡ BadCommandLine
+-- want of memory is told as such, and every other error as a bad command line
+abbrev pub IsToldAs : Type 0 → Failure → Type 0
+IsToldAs WantOfMemory failure = (WantOfMemory × (failure ≡ Engine NoMemory))
+    ⊎ ((WantOfMemory → ⊥) × (failure ≡ BadCommandLine))

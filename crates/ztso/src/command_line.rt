@@ -1,5 +1,10 @@
 //! The command line, read as a job.
 
+ghost use Rattle.std.specs.Prelude.{◌≡◌, ◌∷◌, ℕ, List, IfOk, map, option_and_then};
+ghost use Rattle.clap.specs.Words.{FailsBy, fault_of, subcommand_of, subcommand_rows_of};
+ghost use Rattle.ztso.specs.CommandLines.{Answers, IsSpelling, capacity_said, job_in, job_said, ztso_command};
+ghost use Rattle.ztso.specs.declared.command_line.Job.{Job};
+
 use crate::failure::Failure;
 use clap::{Arg, ArgAction, ArgMatches, Command};
 use std::alloc::Global;
@@ -21,37 +26,55 @@ pub enum Job {
     Steps { capacity: Capacity },
 }
 
-/// The texts of the capacities that `--buffer` takes.
-static CAPACITIES: [&str; 4] = ["1", "2", "4", "16"];
-
 /// The job that the words ask for, the first of which is the program's name.
 ///
-/// A request for help is refused like any other words that name no job. Which words are taken is
-/// tested and not proved.
-pub fn job_of<'a, S: AsStr>(alloc: Global, words: &'a [S]) -> Result<Job, Failure> {
+/// A request for help is refused like any other words that ask for no job.
+pub fn job_of<'a, S: AsStr>(alloc: Global, words: &'a [S]) -> Result<Job, Failure>
+    ensures said { Answers (job_said (map S.text words.entry.now)) result }
+
+    // Each way of writing a job is taken, whatever name the program is called by.
+    ensures spelled { (name : List ℕ) (rest : List (List ℕ)) (job : Job)
+        → map S.text words.entry.now ≡ name ∷ rest → IsSpelling job rest → Answers (Some job) result }
+{
+    let matches = matches_of(alloc, words)?;
+    job_in_matches(&matches).ok_or(Failure::BadCommandLine)
+}
+
+fn matches_of<'a, S: AsStr>(alloc: Global, words: &'a [S]) -> Result<ArgMatches<'a>, clap::Error>
+    ensures kinds { FailsBy (fault_of ztso_command (map S.text words.entry.now)) result }
+    ensures subcommand { IfOk result (λ matches.
+        subcommand_rows_of matches ≡ subcommand_of ztso_command (map S.text words.entry.now)) }
+{
     let buffer = Arg::new(alloc, "buffer")
         .long("buffer")
         .action(ArgAction::Set)
-        .value_parser(CAPACITIES.as_slice())
         .default_value("4");
     let steps = Command::new(alloc, "steps").arg(buffer)?;
     let ztso = Command::new(alloc, "ztso").subcommand(steps)?;
-    let matches = ztso.try_get_matches_from(words)?;
-    match matches.subcommand() {
-        Some(("steps", options)) => Ok(Job::Steps {
-            capacity: capacity_in(options)?,
-        }),
-        _ => Err(Failure::BadCommandLine),
+    ztso.try_get_matches_from(words)
+}
+
+fn job_in_matches(matches: &ArgMatches<'_>) -> Option<Job>
+    ensures { result ≡ option_and_then job_in (subcommand_rows_of matches.now) }
+{
+    match matches.subcommand()? {
+        ("steps", options) => {
+            let capacity = capacity_of(options.get_str("buffer")?)?;
+            Some(Job::Steps { capacity })
+        }
+        _ => None,
     }
 }
 
-fn capacity_in(options: &ArgMatches<'_>) -> Result<Capacity, Failure> {
-    match options.get_str("buffer") {
-        Some("1") => Ok(Capacity::One),
-        Some("2") => Ok(Capacity::Two),
-        Some("4") => Ok(Capacity::Four),
-        Some("16") => Ok(Capacity::Sixteen),
-        _ => Err(Failure::BadCommandLine),
+fn capacity_of(text: &str) -> Option<Capacity>
+    ensures { result ≡ capacity_said text.now }
+{
+    match text {
+        "1" => Some(Capacity::One),
+        "2" => Some(Capacity::Two),
+        "4" => Some(Capacity::Four),
+        "16" => Some(Capacity::Sixteen),
+        _ => None,
     }
 }
 
