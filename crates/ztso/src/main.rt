@@ -8,17 +8,14 @@
 
 mod command_line;
 mod failure;
+mod work;
 
-use command_line::{Capacity, Job, job_of};
+use command_line::job_of;
 use failure::Failure;
 use std::process::ExitCode;
 use std::rt::Env;
 use std::{env, io};
-use ztso_engines::fault::Fault;
-use ztso_engines::steps::steps_engine;
-
-/// The words of the program's memory.
-const WORDS: usize = 4096;
+use work::do_job;
 
 fn main(rt: HostRuntime) -> ExitCode {
     match run(&rt) {
@@ -30,24 +27,11 @@ fn main(rt: HostRuntime) -> ExitCode {
     }
 }
 
-/// Does the job that the command line asks for.
+/// Does the job that the command line asks for, over the standard streams.
 fn run<R: Env + Input + Print + AllocGlobal>(rt: &R) -> Result<(), Failure> {
     let arguments = env::args(rt).map_err(Failure::of_arguments)?;
     let words: Vec<String> = arguments.collect(rt.alloc())?;
-    match job_of(rt.alloc(), &words)? {
-        Job::Steps { capacity } => steps(rt, capacity)?,
-    }
+    let job = job_of(rt.alloc(), &words)?;
+    do_job(rt.alloc(), job, &mut rt.reader(), &mut io::writer(rt))?;
     Ok(())
-}
-
-/// `ztso steps`: the steps text on standard input, the state text on standard output.
-fn steps<R: Input + Print + AllocGlobal>(rt: &R, capacity: Capacity) -> Result<(), Fault> {
-    let mut reader = rt.reader();
-    let mut writer = io::writer(rt);
-    match capacity {
-        Capacity::One => steps_engine::<1, WORDS, _, _>(rt.alloc(), &mut reader, &mut writer),
-        Capacity::Two => steps_engine::<2, WORDS, _, _>(rt.alloc(), &mut reader, &mut writer),
-        Capacity::Four => steps_engine::<4, WORDS, _, _>(rt.alloc(), &mut reader, &mut writer),
-        Capacity::Sixteen => steps_engine::<16, WORDS, _, _>(rt.alloc(), &mut reader, &mut writer),
-    }
 }
