@@ -11,5 +11,4 @@ ghost use Rattle.step_machine.specs.declared.events.Event.{Event};
 pub fn laws_of_runs()
     ensures kept { (B M : ℕ) (o : Start) (evs : List Event) (t : History) → Run B M o evs t → Kept B M t }
     ensures one { (B M : ℕ) (o : Start) (evs : List Event) (t u : History) → Run B M o evs t → Run B M o evs u → t ≡ u }
-{
-}
+{}
