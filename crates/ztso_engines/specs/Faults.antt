@@ -1,0 +1,21 @@
+-- Faults, their exit statuses and the refusals that all inputs share.
+use Rattle.std.specs.Prelude.{ℕ}
+use Rattle.ztso_engines.specs.declared.fault.Fault.{Fault}
+use Rattle.ztso_engines.specs.declared.fault.Fault.TheVariants.{ReadFailed, WriteFailed, NoMemory, Refused}
+use Rattle.ztso_engines.specs.declared.fault.Refusal.{Refusal}
+use Rattle.ztso_engines.specs.declared.fault.Place.TheVariants.{Nowhere}
+
+-- the exit status of a program that ends with a fault
+abbrev pub status_of : Fault → ℕ
+status_of ReadFailed = 3
+status_of WriteFailed = 3
+status_of NoMemory = 4
+status_of (Refused refusal) = 2
+
+-- an input that isn't UTF-8
+abbrev pub not_text : Refusal
+not_text = record { number = 36; place = Nowhere }
+
+-- an input past the limit
+abbrev pub too_large : Refusal
+too_large = record { number = 37; place = Nowhere }
