@@ -2,6 +2,8 @@
 -- whole list; there is no buffer and no memory here.
 use Rattle.std.specs.Prelude.{ℕ, ◌+◌, ◌/◌, ◌==◌, Bool, true, false, not, ◌&&◌, if◌then◌else◌, List, [], ◌∷◌, ◌++◌, take, drop, slice_index, Option, Some, None, unwrap_or}
 use Rattle.memory.specs.Words.{newest_of}
+use Rattle.hart.specs.declared.need.Report.{Report}
+use Rattle.hart.specs.declared.need.Report.TheVariants as report
 use Rattle.step_machine.specs.declared.events.Entry.{Entry}
 use Rattle.step_machine.specs.declared.events.Entry.TheVariants as entry
 use Rattle.step_machine.specs.History.{Start}
@@ -105,6 +107,25 @@ landed_after before (e ∷ es) = write_of before e ++ landed_after (before ++ e 
 -- the writes in the order in which they reached memory
 abbrev pub landed : List Entry → List (ℕ × ℕ)
 landed es = landed_after [] es
+
+-- what the hart reports by this entry
+abbrev pub report_of : ℕ → Entry → List Report
+report_of h (entry.Inner g) = []
+report_of h (entry.Load g a v) = []
+report_of h (entry.Store g a v) = []
+report_of h (entry.Amo g a old new) = []
+report_of h (entry.Fence g full) = []
+report_of h (entry.Next g w) = []
+report_of h (entry.Took g i w) = if g == h then report.Took i w ∷ [] else []
+report_of h (entry.Closed g i) = if g == h then report.Closed i ∷ [] else []
+report_of h (entry.Ended g) = []
+report_of h (entry.Stopped g why) = []
+report_of h (entry.Land g) = []
+
+-- the hart's reports, oldest first
+abbrev pub reported : ℕ → List Entry → List Report
+reported h [] = []
+reported h (e ∷ es) = report_of h e ++ reported h es
 
 -- the word with which an address opens
 abbrev pub opening_word : Start → ℕ → ℕ

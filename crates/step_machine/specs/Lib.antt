@@ -3,3 +3,5 @@ pub mod Entries
 pub mod Paths
 pub mod Legal
 pub mod Runs
+pub mod Config
+pub mod Ties
