@@ -8,3 +8,4 @@
 
 pub mod fault;
 pub mod input;
+mod state_text;
