@@ -8,4 +8,6 @@
 
 pub mod fault;
 pub mod input;
+mod script;
 mod state_text;
+mod words;
