@@ -8,4 +8,11 @@
 
 pub mod effects;
 pub mod need;
+mod state;
 pub mod status;
+mod wanted;
+
+pub use effects::amo;
+pub use need::{Need, Report};
+pub use state::Hart;
+pub use status::{Status, Stop};
