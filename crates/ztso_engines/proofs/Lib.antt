@@ -1,2 +1,4 @@
 pub mod WordLaws
 pub mod Registers
+pub mod NumberWords
+pub mod Lines

@@ -1,5 +1,5 @@
 -- Faults, their exit statuses and the refusals that all inputs share.
-use Rattle.std.specs.Prelude.{ℕ}
+use Rattle.std.specs.Prelude.{ℕ, ◌≡◌, Result, Ok, Err}
 use Rattle.ztso_engines.specs.declared.fault.Fault.{Fault}
 use Rattle.ztso_engines.specs.declared.fault.Fault.TheVariants.{ReadFailed, WriteFailed, NoMemory, Refused}
 use Rattle.ztso_engines.specs.declared.fault.Refusal.{Refusal}
@@ -19,3 +19,12 @@ not_text = record { number = 36; place = Nowhere }
 -- an input past the limit
 abbrev pub too_large : Refusal
 too_large = record { number = 37; place = Nowhere }
+
+-- What a function returned, seen by view, is the answer, unless memory ran out. It reads and writes
+-- nothing.
+abbrev pub Answers : {X Y : Type 0} → (X → Y) → Result X Fault → Result Y Refusal → Type 0
+Answers view (Ok x) answer = answer ≡ Ok (view x)
+Answers view (Err (Refused refusal)) answer = answer ≡ Err refusal
+Answers view (Err NoMemory) answer = Unit {0}
+Answers view (Err ReadFailed) answer = ⊥
+Answers view (Err WriteFailed) answer = ⊥

@@ -4,4 +4,5 @@ pub mod Words
 pub mod Script
 pub mod StepsText
 pub mod StepsReading
+pub mod Told
 pub mod StateText

@@ -7,6 +7,11 @@ use Rattle.texts.specs.Numbers.{word_of, hex_word_of}
 use Rattle.texts.specs.Results.{◌>>=◌}
 use Rattle.step_machine.specs.History.{HartStart}
 use Rattle.step_machine.specs.declared.events.Event.{Event}
+use Rattle.recorder.specs.declared.faults.ScheduleFault.{ScheduleFault}
+use Rattle.recorder.specs.declared.faults.ScheduleError.{ScheduleError}
+use Rattle.recorder.specs.declared.faults.ScheduleError.TheVariants as error
+use Rattle.recorder.specs.Faults.{number_of}
+use Rattle.recorder.specs.Reading.{tokens_after}
 use Rattle.ztso_engines.specs.declared.fault.Refusal.{Refusal}
 use Rattle.ztso_engines.specs.declared.fault.Place.TheVariants.{Nowhere, Line}
 use Rattle.ztso_engines.specs.declared.script.Keyword.{Keyword}
@@ -20,6 +25,11 @@ use Rattle.ztso_engines.specs.Script.{Told, untold, fresh, register_set}
 abbrev pub number_in : LineFault → Option ℕ
 number_in NoMemory = None
 number_in (Refused number) = Some number
+
+-- a fault of tokens as a line's fault
+abbrev pub tokens_fault : ScheduleError → LineFault
+tokens_fault error.NoMemory = NoMemory
+tokens_fault (error.Refused refused place) = Refused (number_of refused)
 
 abbrev pub bad_line : ℕ
 bad_line = 34
@@ -77,10 +87,17 @@ with_register harts text = do
 unfoldable pub with_word : List ℕ → List (List ℕ) → Result (List ℕ) ℕ
 with_word memory text = do
   said ← two_numbers text
-  if (said.0 % 4 == 0) && nat_lt (said.0 / 4) (length memory) then Ok (slice_set memory (said.0 / 4) said.1) else Err bad_line
+  if not (said.0 % 4 == 0) || nat_le (length memory) (said.0 / 4) then Err bad_line else Ok (slice_set memory (said.0 / 4) said.1)
+
+-- a fault of tokens, by its number
+abbrev pub numbered : {A : Type 0} → Result A (ScheduleFault × ℕ) → Result A ℕ
+numbered (Ok x) = Ok x
+numbered (Err refused) = Err (number_of refused.0)
 
 unfoldable pub with_steps : List Event → List ℕ → Result (List Event) ℕ
-with_steps events text = Err bad_line
+with_steps events text = do
+  more ← numbered (tokens_after (length events) text)
+  Ok (events ++ more)
 
 -- ---- a line
 
@@ -119,7 +136,7 @@ after_line t line = by_cut t (first_cut line)
 -- a line's fault is refused at the line
 abbrev pub at_line : {A : Type 0} → ℕ → Result A ℕ → Result A Refusal
 at_line number (Ok x) = Ok x
-at_line number (Err fault) = Err (record { number = fault; place = Line number })
+at_line number (Err refused) = Err (record { number = refused; place = Line number })
 
 -- what is told behind these lines, the first of which has this number
 unfoldable pub after_lines : Told → (number : ℕ) → List (List ℕ) → Result Told Refusal

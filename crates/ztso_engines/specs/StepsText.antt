@@ -3,6 +3,7 @@ use Rattle.std.specs.Prelude.{ℕ, ◌≡◌, ◌<◌, ◌≤◌, ◌^◌, ◌�
 use Rattle.std.specs.List.{AllZip}
 use Rattle.std.specs.Str.Lines.{lines}
 use Rattle.texts.specs.Numbers.{Says, IsHexWord}
+use Rattle.recorder.specs.Schedule.{IsTokensOf}
 use Rattle.ztso_engines.specs.Words.{words, first_cut}
 use Rattle.ztso_engines.specs.Script.{Told, untold, Statement, hart, reg, word, steps, with_statement, MayCome}
 
@@ -15,7 +16,7 @@ abbrev pub LineSays : List ℕ → Statement → Type 0
 LineSays line (hart code) = (numbers : List (List ℕ)) × (words line ≡ codes "hart" ∷ numbers) × AllZip IsHexWord numbers code
 LineSays line (reg h n v) = (H N V : List ℕ) × (words line ≡ codes "reg" ∷ H ∷ N ∷ V ∷ []) × SaysWord H h × SaysWord N n × SaysWord V v
 LineSays line (word a v) = (A V : List ℕ) × (words line ≡ codes "word" ∷ A ∷ V ∷ []) × SaysWord A a × SaysWord V v
-LineSays line (steps events) = (tokens : List ℕ) × (first_cut line ≡ Some (codes "steps", tokens)) × (events ≡ [])
+LineSays line (steps events) = (tokens : List ℕ) × (first_cut line ≡ Some (codes "steps", tokens)) × IsTokensOf tokens events
 
 -- From the top, each line says what may come there, or has no word and says nothing.
 abbrev pub LinesTell : Told → List (List ℕ) → Told → Type 0

@@ -8,6 +8,7 @@
 
 pub mod fault;
 pub mod input;
+pub mod laws;
 mod script;
 mod state_text;
 mod words;

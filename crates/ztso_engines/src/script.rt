@@ -1,17 +1,23 @@
 //! The steps text: harts, registers, words and events, a line each.
 
-ghost use Rattle.std.specs.Prelude.{◌≡◌, ℕ, List, length, vec_len};
+ghost use Rattle.std.specs.Prelude.{◌≡◌, ℕ, List, length, vec_len, IfOk};
+ghost use Rattle.std.specs.Str.Lines.{lines};
 ghost use Rattle.texts.specs.Results.{Gives};
 ghost use Rattle.step_machine.specs.History.{HartStart};
 ghost use Rattle.ztso_engines.specs.declared.script.LineFault.TheVariants.{NoMemory};
+ghost use Rattle.ztso_engines.specs.Faults.{Answers};
+ghost use Rattle.ztso_engines.specs.Script.{untold};
+ghost use Rattle.ztso_engines.specs.Told.{told_by};
 ghost use Rattle.ztso_engines.specs.Words.{words, words as words_of};
-ghost use Rattle.ztso_engines.specs.StepsReading.{number_in, keyword_named, code_at, number_at, two_numbers, three_numbers, with_hart, with_register, with_word};
+ghost use Rattle.ztso_engines.specs.StepsReading.{number_in, tokens_fault, keyword_named, code_at, number_at, two_numbers, three_numbers, with_hart, with_register, with_word, with_steps, after_line, at_line, after_lines, script_at};
 
-use crate::fault::BAD_LINE;
+use crate::fault::{BAD_LINE, Fault, Place, Refusal};
 use crate::words::first_word;
+use recorder::{ScheduleError, push_tokens_of};
 use std::alloc::{AllocError, AllocFailed, Global};
 use step_machine::opening::HartOpening;
-use texts::{hex_word, word};
+use step_machine::events::Event;
+use texts::{first_line, hex_word, word};
 
 /// What a line begins with.
 #[derive(Clone, Copy)]
@@ -43,6 +49,17 @@ impl<T: Drop> From<AllocFailed<T>> for LineFault {
 
     fn from(_error: AllocFailed<T>) -> LineFault {
         LineFault::NoMemory
+    }
+}
+
+impl From<ScheduleError> for LineFault {
+    ghost from_gives = { λ error fault. fault ≡ tokens_fault error };
+
+    fn from(error: ScheduleError) -> LineFault {
+        match error {
+            ScheduleError::NoMemory => LineFault::NoMemory,
+            ScheduleError::Refused { fault, .. } => LineFault::Refused(fault.number()),
+        }
     }
 }
 
@@ -158,4 +175,96 @@ fn set_word(words: &mut Vec<u32>, text: &[u8]) -> Result<(), LineFault>
     }
     words[place] = value;
     Ok(())
+}
+
+/// Appends the events of a text of tokens.
+#[tactic(auto, unfolding(crate::specs::StepsReading::with_steps))]
+fn add_steps(events: &mut Vec<Event>, text: &[u8]) -> Result<(), LineFault>
+    ensures { Gives number_in (λ x. events.new.items) result (with_steps events.old.items text.now) }
+{
+    push_tokens_of(events, text)?;
+    Ok(())
+}
+
+/// What a steps text tells.
+#[derive(Drop)]
+pub struct Script {
+    pub harts: Vec<HartOpening>,
+    /// All words of memory.
+    pub words: Vec<u32>,
+    pub events: Vec<Event>,
+}
+
+impl Script {
+    /// Nothing is told yet of a machine with M words.
+    fn new<const M: usize>(alloc: Global) -> Result<Script, AllocError>
+        ensures { IfOk result (λ script. told_by script ≡ untold M) }
+    {
+        Ok(Script {
+            harts: Vec::new(alloc),
+            words: vec![in alloc; 0; M]?,
+            events: Vec::new(alloc),
+        })
+    }
+
+    /// Follows one more line.
+    #[tactic(auto, unfolding(crate::specs::StepsReading::after_line))]
+    fn add_line(&mut self, alloc: Global, line: &[u8]) -> Result<(), LineFault>
+        ensures { Gives number_in (λ x. told_by self.new) result (after_line (told_by self.old) line.now) }
+    {
+        let Some((name, rest)) = first_word(line) else {
+            return Ok(());
+        };
+        match keyword_of(name).ok_or(BAD)? {
+            Keyword::Hart => add_hart(alloc, &mut self.harts, rest),
+            Keyword::Register => set_register(&mut self.harts, rest),
+            Keyword::Word => set_word(&mut self.words, rest),
+            Keyword::Steps => add_steps(&mut self.events, rest),
+        }
+    }
+
+    /// Follows the line of this number.
+    fn add_line_at(&mut self, alloc: Global, line: &[u8], number: usize) -> Result<(), Fault>
+        ensures { Answers (λ x. told_by self.new) result (at_line number (after_line (told_by self.old) line.now)) }
+    {
+        match self.add_line(alloc, line) {
+            Ok(()) => Ok(()),
+            Err(LineFault::NoMemory) => Err(Fault::NoMemory),
+            Err(LineFault::Refused(refusal)) => Err(Fault::Refused(Refusal {
+                number: refusal,
+                place: Place::Line(number),
+            })),
+        }
+    }
+
+    /// Follows all lines of a text.
+    #[tactic(auto, unfolding(crate::specs::StepsReading::after_lines))]
+    fn add_lines(&mut self, alloc: Global, text: &[u8]) -> Result<(), Fault>
+        ensures { Answers (λ x. told_by self.new) result (after_lines (told_by self.old) 1 (lines text.now)) }
+    {
+        let mut rest = text;
+        let mut number = 0;
+        while let Some((line, after)) = first_line(rest) {
+            number += 1;
+            self.add_line_at(alloc, line, number)?;
+            rest = after;
+        }
+        Ok(())
+    }
+}
+
+/// What the text tells of a machine with M words.
+#[tactic(auto, unfolding(crate::specs::StepsReading::script_at))]
+pub fn read_script<const M: usize>(alloc: Global, text: &[u8]) -> Result<Script, Fault>
+    ensures exact { Answers told_by result (script_at M text.now) }
+{
+    let mut script = Script::new::<M>(alloc)?;
+    script.add_lines(alloc, text)?;
+    if script.harts.is_empty() {
+        return Err(Fault::Refused(Refusal {
+            number: BAD_LINE,
+            place: Place::Nowhere,
+        }));
+    }
+    Ok(script)
 }
