@@ -1,5 +1,5 @@
 -- A line of a steps text: what is read of it is what it says.
-use Rattle.std.proofs.Common.{◌≡◌, ℕ, ◌+◌, ◌*◌, ◌/◌, ◌%◌, ◌^◌, ◌<◌, ◌≤◌, Bool, true, false, not, ◌&&◌, ◌||◌, cond, eqb, ltb, leb, List, [], ◌∷◌, ◌++◌, length, set, Option, Some, None, Result, Ok, Err, refl, sym, ap, subst, ◌∙◌, ◌⊎◌, inl, inr, arith}
+use Rattle.std.proofs.Common.{◌≡◌, ℕ, ◌+◌, ◌-◌, ◌*◌, ◌/◌, ◌%◌, ◌^◌, ◌<◌, ◌≤◌, Bool, true, false, not, ◌&&◌, ◌||◌, cond, eqb, ltb, leb, List, [], ◌∷◌, ◌++◌, length, set, Option, Some, None, Result, Ok, Err, refl, sym, ap, subst, ◌∙◌, ◌⊎◌, inl, inr, arith}
 use Rattle.std.specs.Prelude.{codes}
 use Rattle.std.specs.List.{AllZip}
 use Rattle.std.specs.Str.{bytes_eq}
@@ -11,13 +11,17 @@ use Rattle.texts.proofs.ResultLaws.{bind_ok, guard_ok, ok_is}
 use Rattle.memory.specs.Words.{IsAddress}
 use Rattle.step_machine.specs.History.{HartStart}
 use Rattle.step_machine.specs.declared.events.Event.{Event}
+use Rattle.recorder.specs.declared.faults.ScheduleFault.{ScheduleFault}
+use Rattle.recorder.specs.Schedule.{IsTokensOf}
+use Rattle.recorder.specs.Reading.{tokens_at, tokens_after}
+use Rattle.recorder.proofs.TextLaws.{tokens_at-IsTokensOf, IsTokensOf-tokens_after}
 use Rattle.ztso_engines.specs.declared.script.Keyword.{Keyword}
 use Rattle.ztso_engines.specs.declared.script.Keyword.TheVariants as keyword
 use Rattle.ztso_engines.specs.Words.{words, first_cut}
 use Rattle.ztso_engines.specs.Script.{Told, Statement, hart, reg, word, steps, fresh, register_set, with_statement, MayCome}
 use Rattle.ztso_engines.specs.StepsText.{SaysWord, LineSays}
-use Rattle.ztso_engines.specs.StepsReading.{bad_line, code_at, two_numbers, three_numbers, with_hart, with_register, with_word, with_steps, keyword_named, by_keyword, by_cut, after_line}
-use Rattle.ztso_engines.proofs.WordLaws.{words_cut, words_uncut}
+use Rattle.ztso_engines.specs.StepsReading.{bad_line, code_at, two_numbers, three_numbers, with_hart, with_register, with_word, with_steps, numbered, keyword_named, by_keyword, by_cut, after_line}
+use Rattle.ztso_engines.proofs.WordLaws.{words_cut, words_uncut, words_first, words_none}
 use Rattle.ztso_engines.proofs.NumberWords.{code_said, says_code, two_said, says_two, three_said, says_three}
 
 -- ---- keywords
@@ -112,6 +116,28 @@ makes_with_word memory A V a v p q address =
     let within : a / 4 < length memory = omega arith in
     rw (says_two A V a v p q, or_from _ _ aligned (lt-leb (length memory) (a / 4) within)) refl
 
+abbrev Refused : Type 0
+Refused = ScheduleFault × ℕ
+
+numbered_ok : (r : Result (List Event) Refused) (events : List Event) → numbered r ≡ Ok events → r ≡ Ok events
+numbered_ok (Ok read) events e = ap (λ (es : List Event). Ok es) (ok_is ℕ read events e)
+numbered_ok (Err refused) events e = absurd cc
+
+with_steps_made : (events : List Event) (text : List ℕ) (made : List Event) → length events ≤ 1048576 → with_steps events text ≡ Ok made
+    → (more : List Event) × IsTokensOf text more × (length events + length more ≤ 1048576) × (made ≡ events ++ more)
+unfolding with_steps tokens_after
+with_steps_made events text made few e =
+    let read = bind_ok (numbered (tokens_after (length events) text)) (λ more. Ok (events ++ more)) made e in
+    let more = read.0 in
+    let found : tokens_after (length events) text ≡ Ok more = numbered_ok (tokens_after (length events) text) more read.1 in
+    let second = bind_ok (tokens_at 1048576 text) (λ own. tokens_at (1048576 - length events) text) more found in
+    let said = tokens_at-IsTokensOf (1048576 - length events) text more (omega arith) second.2 in
+    (more, said.0, omega (arith, said.1), sym (ok_is ℕ (events ++ more) made read.2))
+
+makes_with_steps : (events : List Event) (text : List ℕ) (more : List Event) → IsTokensOf text more → length events + length more ≤ 1048576 → with_steps events text ≡ Ok (events ++ more)
+unfolding with_steps
+makes_with_steps events text more said few = rw (IsTokensOf-tokens_after (length events) text more said few) refl
+
 -- ---- a line
 
 -- the line has no word and changes nothing, or says what may come and changes that
@@ -119,6 +145,9 @@ abbrev pub LineMakes : Told → List ℕ → Told → Type 0
 LineMakes before line made = ((words line ≡ []) × (made ≡ before)) ⊎ ((s : Statement) × LineSays line s × MayCome before s × (made ≡ with_statement before s))
 
 -- ---- what is read of a line is what it says
+
+abbrev cut_of : List ℕ → List ℕ → Option (List ℕ × List ℕ)
+cut_of name rest = Some (name, rest)
 
 with_name : (line name rest : List ℕ) (k : Keyword) → first_cut line ≡ Some (name, rest) → keyword_named name ≡ Some k → words line ≡ spelling k ∷ words rest
 with_name line name rest k cut e = words_cut line name rest cut ∙ ap (λ (w : List ℕ). w ∷ words rest) (named name k e)
@@ -148,20 +177,60 @@ word_made t line name rest made cut k e =
       change.7,
       sym (ok_is ℕ (record t { words = read.0 }) made read.2) ∙ ap (λ (memory : List ℕ). record t { words = memory }) change.8)
 
-steps_made : (t : Told) (line name rest : List ℕ) (made : Told) → first_cut line ≡ Some (name, rest) → keyword_named name ≡ Some keyword.Steps → by_keyword t (Some keyword.Steps) rest ≡ Ok made → LineMakes t line made
-steps_made t line name rest made cut k e = ?
+steps_made : (t : Told) (line name rest : List ℕ) (made : Told) → first_cut line ≡ Some (name, rest) → keyword_named name ≡ Some keyword.Steps → length t.events ≤ 1048576 → by_keyword t (Some keyword.Steps) rest ≡ Ok made → LineMakes t line made
+steps_made t line name rest made cut k few e =
+    let read = bind_ok (with_steps t.events rest) (λ events. Ok (record t { events = events })) made e in
+    let change = with_steps_made t.events rest read.0 few read.1 in
+    inr (steps change.0,
+      (rest, subst (λ (w : List ℕ). first_cut line ≡ cut_of w rest) (named name keyword.Steps k) cut, change.1),
+      change.2,
+      sym (ok_is ℕ (record t { events = read.0 }) made read.2) ∙ ap (λ (events : List Event). record t { events = events }) change.3)
 
-name_made : (t : Told) (line name rest : List ℕ) (made : Told) → first_cut line ≡ Some (name, rest) → (k : Option Keyword) → keyword_named name ≡ k → by_keyword t k rest ≡ Ok made → LineMakes t line made
-name_made t line name rest made cut None k e = absurd cc
-name_made t line name rest made cut (Some keyword.Hart) k e = hart_made t line name rest made cut k e
-name_made t line name rest made cut (Some keyword.Register) k e = register_made t line name rest made cut k e
-name_made t line name rest made cut (Some keyword.Word) k e = word_made t line name rest made cut k e
-name_made t line name rest made cut (Some keyword.Steps) k e = steps_made t line name rest made cut k e
+name_made : (t : Told) (line name rest : List ℕ) (made : Told) → first_cut line ≡ Some (name, rest) → (k : Option Keyword) → keyword_named name ≡ k → length t.events ≤ 1048576 → by_keyword t k rest ≡ Ok made → LineMakes t line made
+name_made t line name rest made cut None k few e = absurd cc
+name_made t line name rest made cut (Some keyword.Hart) k few e = hart_made t line name rest made cut k e
+name_made t line name rest made cut (Some keyword.Register) k few e = register_made t line name rest made cut k e
+name_made t line name rest made cut (Some keyword.Word) k few e = word_made t line name rest made cut k e
+name_made t line name rest made cut (Some keyword.Steps) k few e = steps_made t line name rest made cut k few e
 
-cut_made : (t : Told) (line : List ℕ) (made : Told) (cut : Option (List ℕ × List ℕ)) → first_cut line ≡ cut → by_cut t cut ≡ Ok made → LineMakes t line made
-cut_made t line made None cut e = inl (words_uncut line cut, sym (ok_is ℕ t made e))
-cut_made t line made (Some (name, rest)) cut e = name_made t line name rest made cut (keyword_named name) refl e
+cut_made : (t : Told) (line : List ℕ) (made : Told) (cut : Option (List ℕ × List ℕ)) → first_cut line ≡ cut → length t.events ≤ 1048576 → by_cut t cut ≡ Ok made → LineMakes t line made
+cut_made t line made None cut few e = inl (words_uncut line cut, sym (ok_is ℕ t made e))
+cut_made t line made (Some (name, rest)) cut few e = name_made t line name rest made cut (keyword_named name) refl few e
 
-pub line_made : (t : Told) (line : List ℕ) (made : Told) → after_line t line ≡ Ok made → LineMakes t line made
+pub line_made : (t : Told) (line : List ℕ) (made : Told) → length t.events ≤ 1048576 → after_line t line ≡ Ok made → LineMakes t line made
 unfolding after_line
-line_made t line made e = cut_made t line made (first_cut line) refl e
+line_made t line made few e = cut_made t line made (first_cut line) refl few e
+
+-- ---- what a line says is read
+
+hart_read : (t : Told) (line code : List ℕ) → LineSays line (hart code) → MayCome t (hart code) → after_line t line ≡ Ok (with_statement t (hart code))
+unfolding after_line
+hart_read t line code said fits =
+    let first = words_first line (codes "hart") said.0 said.1 in
+    rw (first.1, first.2, makes_with_hart t.harts said.0 code said.2 fits.0 fits.1) refl
+
+register_read : (t : Told) (line : List ℕ) (h n v : ℕ) → LineSays line (reg h n v) → MayCome t (reg h n v) → after_line t line ≡ Ok (with_statement t (reg h n v))
+unfolding after_line
+register_read t line h n v said fits =
+    let first = words_first line (codes "reg") (said.0 ∷ said.1 ∷ said.2 ∷ []) said.3 in
+    rw (first.1, first.2, makes_with_register t.harts said.0 said.1 said.2 h n v said.4 said.5 said.6 fits.0 fits.1 fits.2) refl
+
+word_read : (t : Told) (line : List ℕ) (a v : ℕ) → LineSays line (word a v) → MayCome t (word a v) → after_line t line ≡ Ok (with_statement t (word a v))
+unfolding after_line
+word_read t line a v said fits =
+    let first = words_first line (codes "word") (said.0 ∷ said.1 ∷ []) said.2 in
+    rw (first.1, first.2, makes_with_word t.words said.0 said.1 a v said.3 said.4 fits) refl
+
+steps_read : (t : Told) (line : List ℕ) (events : List Event) → LineSays line (steps events) → MayCome t (steps events) → after_line t line ≡ Ok (with_statement t (steps events))
+unfolding after_line
+steps_read t line events said fits = rw (said.1, makes_with_steps t.events said.0 events said.2 fits) refl
+
+pub statement_read : (t : Told) (line : List ℕ) (s : Statement) → LineSays line s → MayCome t s → after_line t line ≡ Ok (with_statement t s)
+statement_read t line (hart code) said fits = hart_read t line code said fits
+statement_read t line (reg h n v) said fits = register_read t line h n v said fits
+statement_read t line (word a v) said fits = word_read t line a v said fits
+statement_read t line (steps events) said fits = steps_read t line events said fits
+
+pub blank_read : (t : Told) (line : List ℕ) → words line ≡ [] → after_line t line ≡ Ok t
+unfolding after_line
+blank_read t line none = rw (words_none line none) refl

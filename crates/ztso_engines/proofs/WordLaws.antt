@@ -112,3 +112,21 @@ words_uncut (byte ∷ line) e = elim (cases_Bool (is_blank byte)) [
     | inl blank ↦ words_blank byte line blank ∙ words_uncut line (rw blank at e)
     | inr solid ↦ absurd (let f = rw solid at e in cc)
   ]
+
+-- a line that has words has a first one
+pub words_first : (line name : List ℕ) (others : List (List ℕ)) → words line ≡ name ∷ others → (rest : List ℕ) × (first_cut line ≡ Some (name, rest)) × (words rest ≡ others)
+words_first line name others e = cut_first (first_cut line) refl
+  where
+    cut_first : (cut : Option (List ℕ × List ℕ)) → first_cut line ≡ cut → (rest : List ℕ) × (first_cut line ≡ Some (name, rest)) × (words rest ≡ others)
+    cut_first None is = absurd (let none : words line ≡ [] = words_uncut line is in cc)
+    cut_first (Some (word, rest)) is =
+        let both : word ∷ words rest ≡ name ∷ others = sym (words_cut line word rest is) ∙ e in
+        let same : word ≡ name = cc in
+        (rest, is ∙ ap (λ (w : List ℕ). cut_of w rest) same, cc)
+
+pub words_none : (line : List ℕ) → words line ≡ [] → first_cut line ≡ None
+words_none line e = cut_none (first_cut line) refl
+  where
+    cut_none : (cut : Option (List ℕ × List ℕ)) → first_cut line ≡ cut → first_cut line ≡ None
+    cut_none None is = is
+    cut_none (Some (word, rest)) is = absurd (let some = words_cut line word rest is in cc)

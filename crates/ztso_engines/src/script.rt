@@ -1,12 +1,13 @@
 //! The steps text: harts, registers, words and events, a line each.
 
-ghost use Rattle.std.specs.Prelude.{◌≡◌, ℕ, List, length, vec_len, IfOk};
+ghost use Rattle.std.specs.Prelude.{◌≡◌, ℕ, List, length, vec_len, Ok, IfOk};
 ghost use Rattle.std.specs.Str.Lines.{lines};
 ghost use Rattle.texts.specs.Results.{Gives};
-ghost use Rattle.step_machine.specs.History.{HartStart};
+ghost use Rattle.step_machine.specs.History.{HartStart, FitsIn};
 ghost use Rattle.ztso_engines.specs.declared.script.LineFault.TheVariants.{NoMemory};
 ghost use Rattle.ztso_engines.specs.Faults.{Answers};
-ghost use Rattle.ztso_engines.specs.Script.{untold};
+ghost use Rattle.ztso_engines.specs.Script.{Told, untold, opening_of};
+ghost use Rattle.ztso_engines.specs.StepsText.{Tells};
 ghost use Rattle.ztso_engines.specs.Told.{told_by};
 ghost use Rattle.ztso_engines.specs.Words.{words, words as words_of};
 ghost use Rattle.ztso_engines.specs.StepsReading.{number_in, tokens_fault, keyword_named, code_at, number_at, two_numbers, three_numbers, with_hart, with_register, with_word, with_steps, after_line, at_line, after_lines, script_at};
@@ -253,10 +254,9 @@ impl Script {
     }
 }
 
-/// What the text tells of a machine with M words.
 #[tactic(auto, unfolding(crate::specs::StepsReading::script_at))]
-pub fn read_script<const M: usize>(alloc: Global, text: &[u8]) -> Result<Script, Fault>
-    ensures exact { Answers told_by result (script_at M text.now) }
+fn script_of<const M: usize>(alloc: Global, text: &[u8]) -> Result<Script, Fault>
+    ensures { Answers told_by result (script_at M text.now) }
 {
     let mut script = Script::new::<M>(alloc)?;
     script.add_lines(alloc, text)?;
@@ -267,4 +267,18 @@ pub fn read_script<const M: usize>(alloc: Global, text: &[u8]) -> Result<Script,
         }));
     }
     Ok(script)
+}
+
+/// What a steps text tells of a machine with M words.
+///
+/// A line that says nothing that may come there is [`BAD_LINE`] at the line, and so is a text without
+/// a hart, at no line; tokens behind `steps` are refused as [`push_tokens_of`] refuses them, at the
+/// line. The first faulty line is answered.
+pub fn read_script<const M: usize>(alloc: Global, text: &[u8]) -> Result<Script, Fault>
+    ensures found { IfOk result (λ script. Tells M text.now (told_by script)) }
+    ensures only { (told : Told) → Tells M text.now told → Answers told_by result (Ok told) }
+    ensures exact { Answers told_by result (script_at M text.now) }
+    ensures fits { IfOk result (λ script. FitsIn M (opening_of (told_by script))) }
+{
+    script_of::<M>(alloc, text)
 }
