@@ -5,3 +5,6 @@ pub mod Lines
 pub mod Telling
 pub mod Limits
 pub mod Answered
+pub mod Counted
+pub mod StateLines
+pub mod Judging

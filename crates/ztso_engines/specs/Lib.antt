@@ -6,3 +6,5 @@ pub mod StepsText
 pub mod StepsReading
 pub mod Told
 pub mod StateText
+pub mod Engines
+pub mod Steps

@@ -28,23 +28,28 @@ register_line number value = if value == 0 then [] else (codes "x" ++ decimal nu
 abbrev pub word_line : (addr value : ℕ) → List ℕ
 word_line addr value = if value == 0 then [] else (codes "word " ++ decimal addr ++ codes " = " ++ decimal value ++ 10 ∷ [])
 
--- the lines of x0 and the registers above, of which there are so many
-abbrev pub register_lines : List ℕ → ℕ → List ℕ
-register_lines registers count = flat_map (λ n. register_line n (slice_index registers n)) (range_with_len 0 count)
+-- the lines of a state's first registers, from x0
+unfoldable pub registers_shown : Option HartState → (count : ℕ) → List ℕ
+registers_shown None count = []
+registers_shown (Some s) count = flat_map (λ n. register_line n (slice_index s.registers n)) (range_with_len 0 count)
+
+-- the lines of a hart in this state, with so many stores pending
+unfoldable pub hart_text : (hart : ℕ) → Option HartState → (pending : ℕ) → List ℕ
+hart_text hart None count = []
+hart_text hart (Some s) count = hart_line hart s.status s.pc count ++ registers_shown (Some s) 32
 
 -- a hart's lines
-abbrev pub hart_text : (hart : ℕ) → Option HartState → (count : ℕ) → List ℕ
-hart_text hart None count = []
-hart_text hart (Some s) count = hart_line hart s.status s.pc count ++ register_lines s.registers 32
+unfoldable pub hart_shown : ℕ → History → (hart : ℕ) → List ℕ
+hart_shown M t hart = hart_text hart (state_of M t hart) (length (pending hart t.entries))
 
 -- the lines of a history's first harts
-unfoldable pub hart_texts : ℕ → History → ℕ → List ℕ
-hart_texts M t count = flat_map (λ h. hart_text h (state_of M t h) (length (pending h t.entries))) (range_with_len 0 count)
+unfoldable pub harts_shown : ℕ → History → (count : ℕ) → List ℕ
+harts_shown M t count = flat_map (hart_shown M t) (range_with_len 0 count)
 
--- the lines of the first words
-unfoldable pub word_lines : History → ℕ → List ℕ
-word_lines t count = flat_map (λ k. word_line (4 * k) (memory_word t.opening t.entries (4 * k))) (range_with_len 0 count)
+-- the lines of the first words of memory
+unfoldable pub words_shown : History → (count : ℕ) → List ℕ
+words_shown t count = flat_map (λ k. word_line (4 * k) (memory_word t.opening t.entries (4 * k))) (range_with_len 0 count)
 
 -- the state text of a history over a memory of M words
 unfoldable pub shown : ℕ → History → List ℕ
-shown M t = hart_texts M t (length t.opening.harts) ++ word_lines t M
+shown M t = harts_shown M t (length t.opening.harts) ++ words_shown t M

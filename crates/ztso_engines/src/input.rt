@@ -1,9 +1,12 @@
 //! An input as a whole, with its limit.
 
-ghost use Rattle.std.specs.Prelude.{◌≤◌, IfOk, IfSome, vec_len};
+ghost use Rattle.std.specs.Prelude.{◌≡◌, ◌≤◌, IfOk, IfErr, IfSome, vec_len};
+ghost use Rattle.std.specs.Str.{IsUtf8};
+ghost use Rattle.ztso_engines.specs.declared.fault.Fault.TheVariants.{Refused};
+ghost use Rattle.ztso_engines.specs.Faults.{not_text};
 ghost use Rattle.ztso_engines.specs.Input.{IsInput};
 
-use crate::fault::{Fault, Place, Refusal, TOO_LARGE};
+use crate::fault::{Fault, NOT_TEXT, Place, Refusal, TOO_LARGE};
 use std::alloc::Global;
 use std::io::{ErrorKind, Read};
 
@@ -35,4 +38,18 @@ pub fn read_input<R: Read>(alloc: Global, reader: &mut R) -> Result<Vec<u8>, Fau
         }
     }
     Err(Fault::ReadFailed)
+}
+
+/// The input as a text, where it is UTF-8.
+pub fn text_of(input: &[u8]) -> Result<&str, Fault>
+    ensures text { IfOk result (λ text. (text.now ≡ input.now) × IsUtf8 input.now) }
+    ensures refused { IfErr result (λ fault. (fault ≡ Refused not_text) × (IsUtf8 input.now → ⊥)) }
+{
+    match str::from_utf8(input) {
+        Ok(text) => Ok(text),
+        Err(_) => Err(Fault::Refused(Refusal {
+            number: NOT_TEXT,
+            place: Place::Nowhere,
+        })),
+    }
 }

@@ -11,4 +11,5 @@ pub mod input;
 pub mod laws;
 mod script;
 mod state_text;
+pub mod steps;
 mod words;

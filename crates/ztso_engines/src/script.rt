@@ -255,11 +255,11 @@ impl Script {
 }
 
 #[tactic(auto, unfolding(crate::specs::StepsReading::script_at))]
-fn script_of<const M: usize>(alloc: Global, text: &[u8]) -> Result<Script, Fault>
+fn script_of<const M: usize>(alloc: Global, text: &str) -> Result<Script, Fault>
     ensures { Answers told_by result (script_at M text.now) }
 {
     let mut script = Script::new::<M>(alloc)?;
-    script.add_lines(alloc, text)?;
+    script.add_lines(alloc, text.as_bytes())?;
     if script.harts.is_empty() {
         return Err(Fault::Refused(Refusal {
             number: BAD_LINE,
@@ -274,7 +274,7 @@ fn script_of<const M: usize>(alloc: Global, text: &[u8]) -> Result<Script, Fault
 /// A line that says nothing that may come there is [`BAD_LINE`] at the line, and so is a text without
 /// a hart, at no line; tokens behind `steps` are refused as [`push_tokens_of`] refuses them, at the
 /// line. The first faulty line is answered.
-pub fn read_script<const M: usize>(alloc: Global, text: &[u8]) -> Result<Script, Fault>
+pub fn read_script<const M: usize>(alloc: Global, text: &str) -> Result<Script, Fault>
     ensures found { IfOk result (λ script. Tells M text.now (told_by script)) }
     ensures only { (told : Told) → Tells M text.now told → Answers told_by result (Ok told) }
     ensures exact { Answers told_by result (script_at M text.now) }
