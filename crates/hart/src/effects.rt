@@ -17,18 +17,10 @@ pub fn amo(op: AmoOp, old: u32, rs2: u32) -> u32
         AmoOp::Xor => old ^ rs2,
         AmoOp::Or => old | rs2,
         AmoOp::And => old & rs2,
-        AmoOp::Min => if rs2.cast_signed() < old.cast_signed() {
-            rs2
-        } else {
-            old
-        },
-        AmoOp::Max => if old.cast_signed() < rs2.cast_signed() {
-            rs2
-        } else {
-            old
-        },
-        AmoOp::MinUnsigned => if rs2 < old { rs2 } else { old },
-        AmoOp::MaxUnsigned => if old < rs2 { rs2 } else { old },
+        AmoOp::Min => old.cast_signed().min(rs2.cast_signed()).cast_unsigned(),
+        AmoOp::Max => old.cast_signed().max(rs2.cast_signed()).cast_unsigned(),
+        AmoOp::MinUnsigned => old.min(rs2),
+        AmoOp::MaxUnsigned => old.max(rs2),
     }
 }
 

@@ -10,6 +10,8 @@ pub mod effects;
 pub mod need;
 mod state;
 pub mod status;
+#[cfg(test)]
+mod tests;
 mod wanted;
 
 pub use effects::amo;

@@ -6,8 +6,8 @@ ghost use Rattle.hart.specs.Steps.{jump_need, word_need, call_need, is_full};
 use crate::need::{Need, Report};
 use crate::status::Stop;
 
-/// The registers by which an environment call goes, by the calling convention: its number in a7,
-/// its arguments in a0 and a1.
+// The registers by which an environment call goes, as the calling convention names them: its number
+// in a7, its arguments in a0 and a1.
 pub(crate) const A0: usize = 10;
 
 pub(crate) const A1: usize = 11;

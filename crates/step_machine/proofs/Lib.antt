@@ -7,3 +7,6 @@ pub mod Stays
 pub mod Carried
 pub mod Running
 pub mod Fitting
+pub mod Rooms
+pub mod Opens
+pub mod Sounds

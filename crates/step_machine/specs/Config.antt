@@ -1,6 +1,6 @@
 -- What the machine holds at one moment, and what an event makes of it: plain functions, which the code
 -- of `cores.rt` meets and `proofs/` ties to histories. No public clause names them.
-use Rattle.std.specs.Prelude.{ℕ, ◌≡◌, ◌≤◌, ◌/◌, ◌<◌, ◌==◌, Bool, true, false, not, ◌&&◌, nat_lt, if◌then◌else◌, List, [], ◌∷◌, ◌++◌, All, length, drop, map, slice_index, slice_set, Option, Some, None, IfSome, IsSomeAnd, unwrap_or}
+use Rattle.std.specs.Prelude.{ℕ, ◌≡◌, ◌≤◌, ◌/◌, ◌<◌, ◌==◌, Bool, true, false, not, ◌&&◌, nat_lt, if◌then◌else◌, List, [], ◌∷◌, ◌++◌, All, length, drop, map, max, replicate, slice_index, slice_set, Option, Some, None, IfSome, IsSomeAnd, unwrap_or}
 use Rattle.std.specs.List.{slice_get, slice_index_or}
 use Rattle.memory.specs.Words.{IsAddress, newest_of}
 use Rattle.hart.specs.State.{HartState, HartView}
@@ -12,6 +12,8 @@ use Rattle.hart.specs.declared.need.Need.{Need}
 use Rattle.hart.specs.declared.need.Need.TheVariants as need
 use Rattle.hart.specs.declared.need.Report.{Report}
 use Rattle.hart.specs.declared.need.Report.TheVariants as report
+use Rattle.step_machine.specs.History.{Start}
+use Rattle.step_machine.specs.Opened.{opened_hart}
 use Rattle.step_machine.specs.declared.events.Event.{Event}
 use Rattle.step_machine.specs.declared.events.Event.TheVariants as event
 use Rattle.step_machine.specs.declared.events.Entry.{Entry}
@@ -161,4 +163,31 @@ pub record SameButRoom (c d : Config) : Type 0 where
 
 -- each hart has room for n steps
 abbrev pub AllHaveRoom : ℕ → List HartView → Type 0
-AllHaveRoom n hs = All (λ (v : HartView). n ≤ v.room) hs
+AllHaveRoom n hs = (h : ℕ) (v : HartView) → slice_get hs h ≡ Some v → n ≤ v.room
+
+-- a hart with room for at least n steps, and the list of harts with it at h
+abbrev pub roomy : ℕ → HartView → HartView
+roomy n v = record v { room = max v.room n }
+
+abbrev pub roomy_in : List HartView → ℕ → ℕ → Option HartView → List HartView
+roomy_in hs h n None = hs
+roomy_in hs h n (Some v) = slice_set hs h (roomy n v)
+
+abbrev pub roomy_at : List HartView → ℕ → ℕ → List HartView
+roomy_at hs h n = roomy_in hs h n (slice_get hs h)
+
+-- what an opening gives
+abbrev pub opened_config : ℕ → Start → Config
+opened_config M o = record {
+  harts = map (opened_hart M) o.harts;
+  buffers = replicate (length o.harts) [];
+  words = o.words ++ drop (length o.words) (replicate M 0);
+}
+
+-- the entries after an outcome
+abbrev pub entries_after : List Entry → Outcome → List Entry
+entries_after es (outcome.Did e) = es ++ e ∷ []
+entries_after es outcome.Waited = es
+entries_after es outcome.NothingToLand = es
+entries_after es outcome.Over = es
+entries_after es outcome.NoHart = es

@@ -1,18 +1,19 @@
 //! What the machine holds: its harts, their store buffers and the memory, and what an event makes of
 //! them. Nothing here knows a history.
 
-ghost use Rattle.std.specs.Prelude.{◌≡◌, ◌≤◌, ◌<◌, ℕ, List, [], ◌∷◌, ◌++◌, length, slice_get, slice_set, All, IfSome, IsSomeAnd, OnOk, OnErr, unwrap_or, is_some};
+ghost use Rattle.std.specs.Prelude.{◌≡◌, ◌≤◌, ◌<◌, ℕ, true, false, [], length, slice_get, map, replicate, All, IfOk, IfSome, IsSomeAnd, OnOk, OnErr, unwrap_or, is_some};
 ghost use Rattle.memory.specs.Words.{IsAddress};
-ghost use Rattle.hart.specs.Steps.{need_of, reads, first_state};
+ghost use Rattle.step_machine.specs.Opened.{opened_hart};
 
 use crate::events::{Entry, Event, Outcome};
+use crate::opening::{HartOpening, Opening};
 use hart::need::{Need, Report};
 use hart::status::Status;
 use hart::{Hart, amo};
 use memory::store_buffer::StoreBuffer;
 use memory::words::Memory;
 use rv_decode::instruction::AmoOp;
-use std::alloc::AllocError;
+use std::alloc::{AllocError, Global};
 use std::marker::Model;
 
 /// Harts, a store buffer of `B` pairs for each, and a memory of `M` words.
@@ -35,18 +36,40 @@ impl<const B: usize, const M: usize> Model for Cores<B, M> {
 }
 
 impl<const B: usize, const M: usize> Cores<B, M> {
-    ghost use Rattle.step_machine.specs.Config.{Fit, HasRoom, outcome_of, outcome_for, act_outcome, land_outcome, after_outcome, step_hart, found, IsNext, CanAdvance, IsInRange};
+    ghost use Rattle.step_machine.specs.History.{FitsIn};
+    ghost use Rattle.step_machine.specs.Config.{Fit, opened_config, HasRoom, outcome_of, outcome_for, act_outcome, land_outcome, after_outcome, step_hart, found, buffer_of, word_at, roomy_at, SameButRoom, AllHaveRoom, IsNext, CanAdvance, IsInRange};
+
+    /// What an opening gives: harts at their beginnings, empty buffers, and the opening's words.
+    pub fn open(alloc: Global, opening: &Opening) -> Result<Self, AllocError>
+        requires capacity { B ≤ 64 }
+        requires size { M ≤ 65536 }
+        requires fits { FitsIn M opening.now }
+        ensures { IfOk result (λ c. c ≡ opened_config M opening.now) }
+    {
+        let mut memory = Memory::new(alloc)?;
+        memory.fill(&opening.words);
+        let harts = open_harts(alloc, &opening.harts, M)?;
+        let buffers = empty_buffers(alloc, opening.harts.len())?;
+        Ok(Cores {
+            harts,
+            buffers,
+            memory,
+        })
+    }
 
     /// What the event answers, and does.
     pub fn happen(&mut self, event: Event) -> Outcome
         requires room { HasRoom self.old.harts event }
         ensures outcome { result ≡ outcome_of B self.old event }
         ensures after { self.new ≡ after_outcome self.old result }
+        ensures fit { Fit M self.new }
     {
-        match event {
+        let outcome = match event {
             Event::Act(hart) => self.act(hart),
             Event::Land(hart) => self.land(hart),
-        }
+        };
+        let _ = &self.harts;
+        outcome
     }
 
     fn act(&mut self, hart: u32) -> Outcome
@@ -54,15 +77,18 @@ impl<const B: usize, const M: usize> Cores<B, M> {
         ensures outcome { result ≡ act_outcome B self.old hart (slice_get self.old.harts hart) }
         ensures after { self.new ≡ after_outcome self.old result }
     {
-        let index = hart as usize;
-        if index >= self.harts.len() {
+        if hart as usize >= self.harts.len() {
             return Outcome::NoHart;
         }
-        if self.harts[index].status() != Status::Running {
-            return Outcome::Over;
+        let here = &self.harts[hart as usize];
+        match here.status() {
+            Status::Running => {
+                let need = here.next_need();
+                self.meet(hart, need)
+            }
+            Status::Ended => Outcome::Over,
+            Status::Stopped(_) => Outcome::Over,
         }
-        let need = self.harts[index].next_need();
-        self.meet(hart, need)
     }
 
     /// Does what a running hart needs, or lets it wait.
@@ -194,4 +220,90 @@ impl<const B: usize, const M: usize> Cores<B, M> {
             None => Outcome::Over,
         }
     }
+
+    /// Makes room for a step of the hart that the event lets act. An error leaves all as it was.
+    pub fn reserve_for(&mut self, event: Event) -> Result<(), AllocError>
+        ensures room { OnOk result (HasRoom self.new.harts event) }
+        ensures same { SameButRoom self.old self.new }
+        ensures err { OnErr result (self.new ≡ self.old) }
+    {
+        match event {
+            Event::Act(hart) => self.reserve_at(hart as usize, 1),
+            Event::Land(_) => Ok(()),
+        }
+    }
+
+    /// Makes room for `n` steps. After an error some harts may have it.
+    pub fn reserve(&mut self, n: usize) -> Result<(), AllocError>
+        ensures room { OnOk result (AllHaveRoom n self.new.harts) }
+        ensures more { (r : ℕ) → AllHaveRoom r self.old.harts → AllHaveRoom r self.new.harts }
+        ensures same { SameButRoom self.old self.new }
+    {
+        for index in 0..self.harts.len() {
+            self.reserve_at(index, n)?;
+        }
+        Ok(())
+    }
+
+    fn reserve_at(&mut self, index: usize, n: usize) -> Result<(), AllocError>
+        ensures ok { OnOk result (self.new ≡ record self.old { harts = roomy_at self.old.harts index n }) }
+        ensures err { OnErr result (self.new ≡ self.old) }
+    {
+        match self.harts.get_mut(index) {
+            Some(hart) => hart.reserve(n),
+            None => Ok(()),
+        }
+    }
+
+    pub fn len(&self) -> usize
+        ensures { result ≡ length self.now.harts }
+    {
+        self.harts.len()
+    }
+
+    pub fn hart(&self, hart: u32) -> &Hart
+        requires { hart < length self.now.harts }
+        ensures { slice_get self.now.harts hart ≡ Some result.now }
+    {
+        &self.harts[hart as usize]
+    }
+
+    pub fn pending(&self, hart: u32) -> &[(u32, u32)]
+        requires { hart < length self.now.harts }
+        ensures { result.now ≡ buffer_of self.now hart }
+    {
+        self.buffers[hart as usize].as_slice()
+    }
+
+    pub fn word(&self, addr: u32) -> u32
+        requires { IsAddress M addr }
+        ensures { result ≡ word_at self.now addr }
+    {
+        self.memory.load(addr)
+    }
+}
+
+fn open_harts(alloc: Global, openings: &[HartOpening], words: usize) -> Result<Vec<Hart>, AllocError>
+    requires words { words ≤ 65536 }
+    requires code { All (λ o. length o.code ≤ 4096) openings.now }
+    ensures { IfOk result (λ harts. harts.items ≡ map (opened_hart words) openings.now) }
+{
+    let mut harts = Vec::with_capacity(alloc, openings.len())?;
+    for opening in openings {
+        let code = Vec::from_slice(alloc, &opening.code)?;
+        let inbox = Vec::from_slice(alloc, &opening.inbox)?;
+        harts.push(Hart::new(alloc, code, opening.registers, inbox, words))?;
+    }
+    Ok(harts)
+}
+
+fn empty_buffers<const B: usize>(alloc: Global, count: usize) -> Result<Vec<StoreBuffer<B>>, AllocError>
+    requires { B ≤ 64 }
+    ensures { IfOk result (λ buffers. buffers.items ≡ replicate count []) }
+{
+    let mut buffers = Vec::with_capacity(alloc, count)?;
+    for _ in 0..count {
+        buffers.push(StoreBuffer::new())?;
+    }
+    Ok(buffers)
 }

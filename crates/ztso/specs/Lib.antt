@@ -1,0 +1,3 @@
+pub mod CommandLines
+pub mod Failures
+pub mod Work

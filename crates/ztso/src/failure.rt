@@ -1,0 +1,122 @@
+//! How the program fails.
+
+ghost use Rattle.std.specs.Prelude.{◌≡◌};
+ghost use Rattle.clap.specs.Words.{kind_of};
+ghost use Rattle.clap.specs.declared.error.kind.ErrorKind.TheVariants as kind;
+ghost use Rattle.std.specs.IoError.{error_kind};
+ghost use Rattle.std.specs.declared.io.ErrorKind.TheVariants as io_kind;
+ghost use Rattle.ztso.specs.Failures.{IsToldAs, status_of};
+ghost use Rattle.ztso.specs.declared.failure.Failure.TheVariants.{Engine};
+ghost use Rattle.ztso_engines.specs.declared.fault.Fault.TheVariants.{NoMemory};
+
+use clap::error::ErrorKind;
+use std::alloc::AllocError;
+use std::io;
+use thiserror::Error;
+use ztso_engines::fault::Fault;
+
+/// Why the program ends without having done a job. Its text is what stands after `ztso: ` on
+/// standard error.
+#[derive(Clone, Copy, Debug, PartialEq, Eq, Error)]
+pub enum Failure {
+    /// The words ask for no job. It is told the same where they ask for help.
+    #[error("bad command line")]
+    BadCommandLine,
+    /// The job's engine failed, or there was no memory to read the command line.
+    #[error(transparent)]
+    Engine(Fault),
+}
+
+impl Failure {
+    /// The program's exit status.
+    pub fn status(&self) -> u8
+        ensures { result ≡ status_of self.now }
+    {
+        match self {
+            Failure::BadCommandLine => 2,
+            Failure::Engine(fault) => fault.status(),
+        }
+    }
+}
+
+impl From<AllocError> for Failure {
+    ghost from_gives = { λ _ failure. failure ≡ Engine NoMemory };
+
+    fn from(_error: AllocError) -> Failure {
+        Failure::Engine(Fault::NoMemory)
+    }
+}
+
+impl From<Fault> for Failure {
+    ghost from_gives = { λ fault failure. failure ≡ Engine fault };
+
+    fn from(fault: Fault) -> Failure {
+        Failure::Engine(fault)
+    }
+}
+
+impl From<clap::Error> for Failure {
+    ghost from_gives = { λ error failure. IsToldAs (kind_of error ≡ kind.OutOfMemory) failure };
+
+    fn from(error: clap::Error) -> Failure {
+        match error.kind() {
+            ErrorKind::OutOfMemory => Failure::Engine(Fault::NoMemory),
+            _ => Failure::BadCommandLine,
+        }
+    }
+}
+
+impl Failure {
+    /// The failure to read the arguments at all: one of them is no text, or there is no memory.
+    pub fn of_arguments(error: io::Error) -> Failure
+        ensures { IsToldAs (error_kind error ≡ io_kind.OutOfMemory) result }
+    {
+        if error.kind() == io::ErrorKind::OutOfMemory {
+            Failure::Engine(Fault::NoMemory)
+        } else {
+            Failure::BadCommandLine
+        }
+    }
+}
+
+#[cfg(test)]
+mod tests {
+    use super::*;
+    use std::test::Fail;
+    use ztso_engines::fault::{Place, Refusal};
+
+    #[test]
+    fn failures_are_told(rt: HostRuntime) -> Result<(), Fail> {
+        let refused = Refusal {
+            number: 34,
+            place: Place::Line(7),
+        };
+        let table = [
+            (Failure::BadCommandLine, "bad command line", 2),
+            (Failure::Engine(Fault::ReadFailed), "read failed", 3),
+            (Failure::Engine(Fault::WriteFailed), "write failed", 3),
+            (Failure::Engine(Fault::NoMemory), "no memory", 4),
+            (
+                Failure::Engine(Fault::Refused(refused)),
+                "refused 34 at line 7",
+                2,
+            ),
+        ];
+        for (failure, text, status) in table {
+            assert_eq!(rt; failure.to_string(rt.alloc())?.as_str(), text);
+            assert_eq!(rt; failure.status(), status);
+        }
+        Ok(())
+    }
+
+    #[test]
+    fn want_of_memory_is_told_apart(rt: HostRuntime) {
+        let memory = io::Error::from(io::ErrorKind::OutOfMemory);
+        assert_eq!(rt;
+            Failure::of_arguments(memory),
+            Failure::Engine(Fault::NoMemory)
+        );
+        let no_text = io::Error::from(io::ErrorKind::InvalidData);
+        assert_eq!(rt; Failure::of_arguments(no_text), Failure::BadCommandLine);
+    }
+}

@@ -1,0 +1,37 @@
+//! The program `ztso`: its command line, and the standard streams for the engine that a job wants.
+//!
+//! The contract: [`command_line::job_of`] reads a command line as a job, and [`failure::Failure`] tells
+//! each way to fail by one line and an exit status. This crate knows no text, no instruction and no
+//! machine, waits for nothing and starts no thread.
+
+#![tactic(auto)]
+
+mod command_line;
+mod failure;
+mod work;
+
+use command_line::job_of;
+use failure::Failure;
+use std::process::ExitCode;
+use std::rt::Env;
+use std::{env, io};
+use work::do_job;
+
+fn main(rt: HostRuntime) -> ExitCode {
+    match run(&rt) {
+        Ok(()) => ExitCode::SUCCESS,
+        Err(failure) => {
+            let _ = eprintln!(rt; "ztso: {failure}");
+            ExitCode::from(failure.status())
+        }
+    }
+}
+
+/// Does the job that the command line asks for, over the standard streams.
+fn run<R: Env + Input + Print + AllocGlobal>(rt: &R) -> Result<(), Failure> {
+    let arguments = env::args(rt).map_err(Failure::of_arguments)?;
+    let words: Vec<String> = arguments.collect(rt.alloc())?;
+    let job = job_of(rt.alloc(), &words)?;
+    do_job(rt.alloc(), job, &mut rt.reader(), &mut io::writer(rt))?;
+    Ok(())
+}
