@@ -1,5 +1,5 @@
 -- An input that is judged.
-use Rattle.std.proofs.Common.{◌≡◌, ℕ, ◌≤◌, Bool, true, false, cond, ltb, List, length, Result, Ok, Err, refl, inl, inr}
+use Rattle.std.proofs.Common.{◌≡◌, ℕ, ◌≤◌, Bool, true, false, cond, ltb, List, length, Result, Ok, Err, refl, ◌∙◌, inl, inr}
 use Rattle.std.specs.Str.{IsUtf8, is_utf8}
 use Rattle.std.proofs.lemmas.Bool.{cases_Bool, le-ltb, ltb-false}
 use Rattle.std.proofs.lemmas.Str.{IsUtf8-from_is_utf8, is_utf8-from_IsUtf8}
@@ -9,7 +9,7 @@ use Rattle.ztso_engines.specs.Engines.{Accepted, judged}
 use Rattle.ztso_engines.specs.Script.{Told}
 use Rattle.ztso_engines.specs.StepsText.{Tells}
 use Rattle.ztso_engines.specs.StepsReading.{script_at}
-use Rattle.ztso_engines.proofs.Telling.{text_told}
+use Rattle.ztso_engines.proofs.Telling.{text_told, text_read}
 use Rattle.texts.proofs.ResultLaws.{guard_err}
 
 -- a text within the limit is judged by its own rules
@@ -37,3 +37,6 @@ pub accepted_script : (M : ℕ) (input : List ℕ) (told : Told) → judged (scr
 accepted_script M input told e =
     let well = judged_well (script_at M) input told e in
     record { few = well.0; text = well.1; value_is = text_told M input told well.2 }
+
+pub accepted_judged : (M : ℕ) (input : List ℕ) (told : Told) → Accepted (Tells M) input told → judged (script_at M) input ≡ Ok told
+accepted_judged M input told accepted = judged_text (script_at M) input accepted.few accepted.text ∙ text_read M input told accepted.value_is

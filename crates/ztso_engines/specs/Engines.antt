@@ -13,20 +13,16 @@ pub record Accepted {V : Type 0} (IsValue : List ℕ → V → Type 0) (input : 
   pub text : IsUtf8 input
   pub value_is : IsValue input value
 
--- the output of an accepted input: what its value shows
-abbrev pub IsOutputOf : {V : Type 0} → (List ℕ → V → Type 0) → (V → List ℕ → Type 0) → List ℕ → List ℕ → Type 0
-IsOutputOf {V} IsValue Shows input out = (value : V) × Accepted IsValue input value × Shows value out
-
 -- the value of an input, or why it is refused: as too large, else as no text, else by its own rules
 abbrev pub judged : {V : Type 0} → (List ℕ → Result V Refusal) → List ℕ → Result V Refusal
 judged value_at input = if nat_lt 1048576 (length input) then Err too_large else (if is_utf8 input then value_at input else Err not_text)
 
 -- How an engine with one input ends, where the bytes of its reader and of its writer are known: it
--- writes the output of an accepted input, or refuses the input for its first fault and writes nothing.
--- Where a read failed or memory ran out it wrote nothing; where a write failed nothing is said.
-abbrev pub EndsBy : {V : Type 0} → (List ℕ → V → Type 0) → (List ℕ → Result V Refusal) → (V → List ℕ → Type 0) → Result (Unit {0}) Fault → (input old new : Option (List ℕ)) → Type 0
-EndsBy IsValue value_at Shows (Ok x) input old new = IfSome input (λ bytes. (out : List ℕ) × IsOutputOf IsValue Shows bytes out × Appends old new out)
-EndsBy IsValue value_at Shows (Err (Refused refusal)) input old new = IfSome input (λ bytes. judged value_at bytes ≡ Err refusal) × Keeps old new
-EndsBy IsValue value_at Shows (Err ReadFailed) input old new = Keeps old new
-EndsBy IsValue value_at Shows (Err NoMemory) input old new = Keeps old new
-EndsBy IsValue value_at Shows (Err WriteFailed) input old new = Unit {0}
+-- wrote what answers the input, or refuses the input as the answer says and wrote nothing. Where a read
+-- failed or memory ran out it wrote nothing; where a write failed nothing is said.
+abbrev pub EndsBy : (List ℕ → Result (List ℕ) Refusal → Type 0) → Result (Unit {0}) Fault → (input old new : Option (List ℕ)) → Type 0
+EndsBy IsAnswer (Ok x) input old new = IfSome input (λ bytes. (out : List ℕ) × IsAnswer bytes (Ok out) × Appends old new out)
+EndsBy IsAnswer (Err (Refused refusal)) input old new = IfSome input (λ bytes. IsAnswer bytes (Err refusal)) × Keeps old new
+EndsBy IsAnswer (Err ReadFailed) input old new = Keeps old new
+EndsBy IsAnswer (Err NoMemory) input old new = Keeps old new
+EndsBy IsAnswer (Err WriteFailed) input old new = Unit {0}

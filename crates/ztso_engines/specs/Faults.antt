@@ -20,11 +20,15 @@ not_text = record { number = 36; place = Nowhere }
 abbrev pub too_large : Refusal
 too_large = record { number = 37; place = Nowhere }
 
--- What a function returned, seen by view, is the answer, unless memory ran out. It reads and writes
--- nothing.
+-- What a function that reads and writes nothing returned, seen by view, is an answer, unless memory ran
+-- out.
+abbrev pub AnswersAs : {X Y : Type 0} → (Result Y Refusal → Type 0) → (X → Y) → Result X Fault → Type 0
+AnswersAs IsAnswer view (Ok x) = IsAnswer (Ok (view x))
+AnswersAs IsAnswer view (Err (Refused refusal)) = IsAnswer (Err refusal)
+AnswersAs IsAnswer view (Err NoMemory) = Unit {0}
+AnswersAs IsAnswer view (Err ReadFailed) = ⊥
+AnswersAs IsAnswer view (Err WriteFailed) = ⊥
+
+-- and is this answer
 abbrev pub Answers : {X Y : Type 0} → (X → Y) → Result X Fault → Result Y Refusal → Type 0
-Answers view (Ok x) answer = answer ≡ Ok (view x)
-Answers view (Err (Refused refusal)) answer = answer ≡ Err refusal
-Answers view (Err NoMemory) answer = Unit {0}
-Answers view (Err ReadFailed) answer = ⊥
-Answers view (Err WriteFailed) answer = ⊥
+Answers view result answer = AnswersAs (λ given. answer ≡ given) view result

@@ -16,8 +16,7 @@ use crate::fault::{BAD_LINE, Fault, Place, Refusal};
 use crate::words::first_word;
 use recorder::{ScheduleError, push_tokens_of};
 use std::alloc::{AllocError, AllocFailed, Global};
-use step_machine::opening::HartOpening;
-use step_machine::events::Event;
+use step_machine::{Event, HartOpening};
 use texts::{first_line, hex_word, word};
 
 /// What a line begins with.

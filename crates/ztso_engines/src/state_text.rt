@@ -7,8 +7,8 @@ ghost use Rattle.step_machine.specs.Paths.{state_of};
 ghost use Rattle.ztso_engines.specs.StateText.{status_text, hart_line, register_line, word_line, registers_shown, hart_shown, harts_shown, words_shown, shown};
 
 use hart::status::{Status, Stop};
-use step_machine::machine::Machine;
 use std::alloc::{AllocError, Global};
+use step_machine::Machine;
 
 /// A hart has x0 and so many registers in all.
 const REGISTERS: u8 = 32;

@@ -4,22 +4,20 @@ ghost use Rattle.std.specs.Prelude.{◌≡◌, ◌≤◌, length, IfOk, MatchRes
 ghost use Rattle.std.specs.String.{string_bytes};
 ghost use Rattle.step_machine.specs.History.{FitsIn};
 ghost use Rattle.step_machine.specs.Runs.{Run};
-ghost use Rattle.ztso_engines.specs.Faults.{Answers};
+ghost use Rattle.ztso_engines.specs.Faults.{Answers, AnswersAs};
 ghost use Rattle.ztso_engines.specs.Engines.{EndsBy, judged};
 ghost use Rattle.ztso_engines.specs.Script.{opening_of};
 ghost use Rattle.ztso_engines.specs.Told.{told_by};
-ghost use Rattle.ztso_engines.specs.StepsText.{Tells};
 ghost use Rattle.ztso_engines.specs.StepsReading.{script_at};
-ghost use Rattle.ztso_engines.specs.Steps.{IsStateText, IsAnswer};
+ghost use Rattle.ztso_engines.specs.Steps.{IsStepsAnswer};
 
 use crate::fault::Fault;
 use crate::input::{read_input, text_of};
-use step_machine::machine::Machine;
 use crate::script::{Script, read_script};
 use crate::state_text::state_text;
 use std::alloc::Global;
 use std::io::{Read, Write};
-use step_machine::opening::Opening;
+use step_machine::{Machine, Opening};
 
 /// What an input tells.
 #[tactic(auto, using(crate::proofs::Judging::judged_text, crate::proofs::Judging::judged_no_text))]
@@ -62,7 +60,7 @@ fn answer<const B: usize, const M: usize>(alloc: Global, input: Vec<u8>) -> Resu
     requires some_word { 1 ≤ M }
     requires size { M ≤ 65536 }
     requires few { vec_len input ≤ 1048576 }
-    ensures { IsAnswer B M string_bytes input.items result }
+    ensures { AnswersAs (IsStepsAnswer B M input.items) string_bytes result }
 {
     let script = script_of_input::<M>(alloc, &input)?;
     drop(input);
@@ -84,7 +82,7 @@ pub fn steps_engine<const B: usize, const M: usize, R: Read, W: Write>(
     requires capacity { B ≤ 64 }
     requires some_word { 1 ≤ M }
     requires size { M ≤ 65536 }
-    ensures { EndsBy (Tells M) (script_at M) (IsStateText B M) result (R.remaining reader.old) (W.contents writer.old) (W.contents writer.new) }
+    ensures { EndsBy (IsStepsAnswer B M) result (R.remaining reader.old) (W.contents writer.old) (W.contents writer.new) }
 {
     let input = read_input(alloc, reader)?;
     let out = answer::<B, M>(alloc, input)?;
