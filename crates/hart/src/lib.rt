@@ -6,5 +6,15 @@
 
 #![tactic(auto)]
 
+pub mod effects;
 pub mod need;
+mod state;
 pub mod status;
+#[cfg(test)]
+mod tests;
+mod wanted;
+
+pub use effects::amo;
+pub use need::{Need, Report};
+pub use state::Hart;
+pub use status::{Status, Stop};
