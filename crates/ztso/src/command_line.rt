@@ -28,7 +28,8 @@ pub enum Job {
 
 /// The job that the words ask for, the first of which is the program's name.
 ///
-/// A request for help is refused like any other words that ask for no job.
+/// Any other words are a bad command line, and so is a request for help; as clap has it, a last `--`
+/// is taken. The other failure is want of memory.
 pub fn job_of<'a, S: AsStr>(alloc: Global, words: &'a [S]) -> Result<Job, Failure>
     ensures said { Answers (job_said (map S.text words.entry.now)) result }
 

@@ -1,8 +1,8 @@
 //! The program `ztso`: its command line, and the standard streams for the engine that a job wants.
 //!
-//! The contract: [`command_line::job_of`] reads a command line as a job, and [`failure::Failure`] tells
-//! each way to fail by one line and an exit status. This crate knows no text, no instruction and no
-//! machine, waits for nothing and starts no thread.
+//! The contract: [`command_line::job_of`] says which words ask for which job, [`work::do_job`] which engine
+//! does it with what capacity, and [`failure::Failure`] the exit status of each failure. This crate
+//! knows no text, no instruction and no machine, waits for nothing and starts no thread.
 
 #![tactic(auto)]
 

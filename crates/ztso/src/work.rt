@@ -1,7 +1,6 @@
 //! Which engine does a job.
 
-ghost use Rattle.ztso.specs.Work.{answer_to};
-ghost use Rattle.ztso_engines.specs.Engines.{EndsBy};
+ghost use Rattle.ztso.specs.Work.{JobEndsBy};
 
 use crate::command_line::{Capacity, Job};
 use std::alloc::Global;
@@ -19,7 +18,7 @@ pub fn do_job<R: Read, W: Write>(
     reader: &mut R,
     writer: &mut W,
 ) -> Result<(), Fault>
-    ensures { EndsBy (answer_to job) result (R.remaining reader.old) (W.contents writer.old)
+    ensures { JobEndsBy job result (R.remaining reader.old) (W.contents writer.old)
         (W.contents writer.new) }
 {
     match job {
@@ -29,5 +28,35 @@ pub fn do_job<R: Read, W: Write>(
             Capacity::Four => steps_engine::<4, WORDS, _, _>(alloc, reader, writer),
             Capacity::Sixteen => steps_engine::<16, WORDS, _, _>(alloc, reader, writer),
         },
+    }
+}
+
+#[cfg(test)]
+mod tests {
+    use super::*;
+    use std::test::Fail;
+
+    /// A hart of five stores, of which only those that the buffer holds are done.
+    const FIVE_STORES: &str = "hart 00532023 00532023 00532023 00532023 00532023\nsteps a0*5\n";
+
+    #[test]
+    fn buffers_hold_their_capacity(rt: HostRuntime) -> Result<(), Fail> {
+        for (capacity, state) in [
+            (Capacity::One, "hart 0 running pc 4 pending 1\n"),
+            (Capacity::Two, "hart 0 running pc 8 pending 2\n"),
+            (Capacity::Four, "hart 0 running pc 16 pending 4\n"),
+            (Capacity::Sixteen, "hart 0 ended pc 20 pending 5\n"),
+        ] {
+            let mut written = Vec::new(rt.alloc());
+            let mut reader = FIVE_STORES.as_bytes();
+            do_job(
+                rt.alloc(),
+                Job::Steps { capacity },
+                &mut reader,
+                &mut written,
+            )?;
+            assert_eq!(rt; written.as_slice(), state.as_bytes());
+        }
+        Ok(())
     }
 }
