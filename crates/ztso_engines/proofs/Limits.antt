@@ -6,7 +6,7 @@ use Rattle.std.proofs.lemmas.List.{length-replicate}
 use Rattle.std.proofs.lemmas.List.Elements.{All-from_recursion}
 use Rattle.step_machine.specs.History.{HartStart, FitsIn}
 use Rattle.ztso_engines.specs.Words.{words}
-use Rattle.ztso_engines.specs.Script.{Told, untold, opening_of, fresh, register_set, Statement, hart, reg, word, steps, with_statement, MayCome}
+use Rattle.ztso_engines.specs.Told.{Told, untold, opening_of, fresh, register_set, Statement, hart, reg, word, steps, with_statement, MayCome}
 use Rattle.ztso_engines.specs.StepsText.{LineSays, LinesTell, Tells}
 
 abbrev IsShort : HartStart → Type 0

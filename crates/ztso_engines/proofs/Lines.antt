@@ -15,10 +15,10 @@ use Rattle.recorder.specs.declared.faults.ScheduleFault.{ScheduleFault}
 use Rattle.recorder.specs.Schedule.{IsTokensOf}
 use Rattle.recorder.specs.Reading.{tokens_at, tokens_after}
 use Rattle.recorder.proofs.TextLaws.{tokens_at-IsTokensOf, IsTokensOf-tokens_after}
-use Rattle.ztso_engines.specs.declared.script.Keyword.{Keyword}
-use Rattle.ztso_engines.specs.declared.script.Keyword.TheVariants as keyword
+use Rattle.ztso_engines.specs.declared.steps.line.Keyword.{Keyword}
+use Rattle.ztso_engines.specs.declared.steps.line.Keyword.TheVariants as keyword
 use Rattle.ztso_engines.specs.Words.{words, first_cut}
-use Rattle.ztso_engines.specs.Script.{Told, Statement, hart, reg, word, steps, fresh, register_set, with_statement, MayCome}
+use Rattle.ztso_engines.specs.Told.{Told, Statement, hart, reg, word, steps, fresh, register_set, with_statement, MayCome}
 use Rattle.ztso_engines.specs.StepsText.{SaysWord, LineSays}
 use Rattle.ztso_engines.specs.StepsReading.{bad_line, code_at, two_numbers, three_numbers, with_hart, with_register, with_word, with_steps, numbered, keyword_named, by_keyword, by_cut, after_line}
 use Rattle.ztso_engines.proofs.WordLaws.{words_cut, words_uncut, words_first, words_none}

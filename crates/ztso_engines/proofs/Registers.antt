@@ -3,7 +3,7 @@ use Rattle.std.proofs.Common.{◌≡◌, ℕ, zero, suc, ◌<◌, ◌≤◌, Boo
 use Rattle.std.proofs.lemmas.Bool.{lt-leb, ne_eqb, or_from, cond-false}
 use Rattle.texts.specs.Results.{◌>>=◌}
 use Rattle.step_machine.specs.History.{HartStart}
-use Rattle.ztso_engines.specs.Script.{register_set}
+use Rattle.ztso_engines.specs.Told.{register_set}
 use Rattle.ztso_engines.specs.StepsReading.{bad_line, three_numbers, with_register}
 
 -- the hart x, with v in register n

@@ -7,7 +7,7 @@ use Rattle.texts.proofs.ResultLaws.{bind_ok, guard_ok, ok_is}
 use Rattle.ztso_engines.specs.declared.fault.Refusal.{Refusal}
 use Rattle.ztso_engines.specs.declared.fault.Place.TheVariants.{Nowhere}
 use Rattle.ztso_engines.specs.Words.{words}
-use Rattle.ztso_engines.specs.Script.{Told, untold, Statement, hart, reg, word, steps, with_statement, MayCome}
+use Rattle.ztso_engines.specs.Told.{Told, untold, Statement, hart, reg, word, steps, with_statement, MayCome}
 use Rattle.ztso_engines.specs.StepsText.{LineSays, LinesTell, Tells}
 use Rattle.ztso_engines.specs.StepsReading.{bad_line, after_line, at_line, after_lines, with_some_hart, script_at}
 use Rattle.ztso_engines.proofs.Lines.{LineMakes, line_made, statement_read, blank_read}

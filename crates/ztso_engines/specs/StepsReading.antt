@@ -14,12 +14,12 @@ use Rattle.recorder.specs.Faults.{number_of}
 use Rattle.recorder.specs.Reading.{tokens_after}
 use Rattle.ztso_engines.specs.declared.fault.Refusal.{Refusal}
 use Rattle.ztso_engines.specs.declared.fault.Place.TheVariants.{Nowhere, Line}
-use Rattle.ztso_engines.specs.declared.script.Keyword.{Keyword}
-use Rattle.ztso_engines.specs.declared.script.Keyword.TheVariants as keyword
-use Rattle.ztso_engines.specs.declared.script.LineFault.{LineFault}
-use Rattle.ztso_engines.specs.declared.script.LineFault.TheVariants.{NoMemory, Refused}
+use Rattle.ztso_engines.specs.declared.steps.line.Keyword.{Keyword}
+use Rattle.ztso_engines.specs.declared.steps.line.Keyword.TheVariants as keyword
+use Rattle.ztso_engines.specs.declared.steps.line.LineFault.{LineFault}
+use Rattle.ztso_engines.specs.declared.steps.line.LineFault.TheVariants.{NoMemory, Refused}
 use Rattle.ztso_engines.specs.Words.{words, first_cut}
-use Rattle.ztso_engines.specs.Script.{Told, untold, fresh, register_set}
+use Rattle.ztso_engines.specs.Told.{Told, untold, fresh, register_set}
 
 -- the number in a line's fault; memory that ran out has none
 abbrev pub number_in : LineFault → Option ℕ

@@ -2,7 +2,7 @@
 
 ghost use Rattle.std.specs.Prelude.{◌≡◌, ◌↔◌, ℕ, List, Ok};
 ghost use Rattle.ztso_engines.specs.Engines.{Accepted, judged};
-ghost use Rattle.ztso_engines.specs.Script.{Told};
+ghost use Rattle.ztso_engines.specs.Told.{Told};
 ghost use Rattle.ztso_engines.specs.StepsText.{Tells};
 ghost use Rattle.ztso_engines.specs.StepsReading.{script_at};
 

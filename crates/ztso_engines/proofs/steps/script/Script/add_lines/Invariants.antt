@@ -2,7 +2,7 @@ use Rattle.std.proofs.Common.{◌≡◌, ◌+◌, ◌≤◌, length}
 use Rattle.std.specs.Str.Lines.{lines}
 use Rattle.ztso_engines.specs.Told.{told_by}
 use Rattle.ztso_engines.specs.StepsReading.{after_lines}
-use Rattle.ztso_engines.proofs.script.Script.add_lines.Given as goal
+use Rattle.ztso_engines.proofs.steps.script.Script.add_lines.Given as goal
 
 -- the lines left, behind what is told so far, tell what all lines tell
 abbrev pub invariant-loop-line : goal.invariant-loop-line
