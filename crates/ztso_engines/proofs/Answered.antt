@@ -1,5 +1,5 @@
 -- What the reader of steps texts answers, in the words of the text.
-use Rattle.std.proofs.Common.{◌≡◌, ℕ, List, Result, Ok, Err, subst, sym}
+use Rattle.std.proofs.Common.{ℕ, List, Result, Ok, Err, subst}
 use Rattle.std.specs.Prelude.{IfOk}
 use Rattle.step_machine.specs.History.{FitsIn}
 use Rattle.ztso_engines.specs.declared.fault.Fault.{Fault}

@@ -1,6 +1,6 @@
 -- Reading a steps text from the top, with the first fault that is met. A line's fault is the number of
 -- its refusal.
-use Rattle.std.specs.Prelude.{ℕ, ◌≡◌, ◌+◌, ◌*◌, ◌/◌, ◌%◌, ◌==◌, nat_lt, nat_le, ◌||◌, ◌&&◌, not, if◌then◌else◌, List, [], ◌∷◌, ◌++◌, length, slice_set, Option, None, Some, Result, Ok, Err, codes}
+use Rattle.std.specs.Prelude.{ℕ, ◌+◌, ◌/◌, ◌%◌, ◌==◌, nat_lt, nat_le, ◌||◌, not, if◌then◌else◌, List, [], ◌∷◌, ◌++◌, length, slice_set, Option, None, Some, Result, Ok, Err, codes}
 use Rattle.std.specs.Str.{bytes_eq}
 use Rattle.std.specs.Str.Lines.{lines}
 use Rattle.texts.specs.Numbers.{word_of, hex_word_of}
@@ -103,10 +103,10 @@ with_steps events text = do
 
 abbrev pub keyword_named : List ℕ → Option Keyword
 keyword_named name =
-  if bytes_eq name (codes "hart") then Some keyword.Hart else
-  (if bytes_eq name (codes "reg") then Some keyword.Register else
-  (if bytes_eq name (codes "word") then Some keyword.Word else
-  (if bytes_eq name (codes "steps") then Some keyword.Steps else None)))
+    if bytes_eq name (codes "hart") then Some keyword.Hart else
+    (if bytes_eq name (codes "reg") then Some keyword.Register else
+    (if bytes_eq name (codes "word") then Some keyword.Word else
+    (if bytes_eq name (codes "steps") then Some keyword.Steps else None)))
 
 abbrev pub by_keyword : Told → Option Keyword → List ℕ → Result Told ℕ
 by_keyword t None rest = Err bad_line

@@ -1,5 +1,5 @@
 -- What a steps text tells: an opening, and the events to run from it.
-use Rattle.std.specs.Prelude.{ℕ, ◌≡◌, ◌+◌, ◌/◌, ◌<◌, ◌≤◌, zero, suc, List, [], ◌∷◌, ◌++◌, length, replicate, slice_set}
+use Rattle.std.specs.Prelude.{ℕ, ◌+◌, ◌/◌, ◌<◌, ◌≤◌, zero, suc, List, [], ◌∷◌, ◌++◌, length, replicate, slice_set}
 use Rattle.memory.specs.Words.{IsAddress}
 use Rattle.step_machine.specs.History.{HartStart, Start}
 use Rattle.step_machine.specs.declared.events.Event.{Event}

@@ -12,5 +12,4 @@ pub fn laws_of_steps_texts()
     ensures read { (M : ℕ) (text : List ℕ) (told : Told) → (script_at M text ≡ Ok told) ↔ Tells M text told }
     ensures judged { (M : ℕ) (input : List ℕ) (told : Told) → (judged (script_at M) input ≡ Ok told) ↔ Accepted (Tells M) input told }
     ensures one { (M : ℕ) (text : List ℕ) (a b : Told) → Tells M text a → Tells M text b → a ≡ b }
-{
-}
+{}

@@ -12,15 +12,14 @@ ghost use Rattle.ztso_engines.specs.Steps.{IsStepsAnswer};
 
 use crate::fault::Fault;
 use crate::input::{read_input, text_of};
-use crate::steps::script::{Script, read_script};
 use crate::state_text::state_text;
+use crate::steps::script::{Script, read_script};
 use std::alloc::Global;
 use std::io::{Read, Write};
 use step_machine::{Machine, Opening};
 
 mod line;
 mod script;
-
 #[cfg(test)]
 mod tests;
 

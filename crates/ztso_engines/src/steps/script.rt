@@ -10,7 +10,9 @@ ghost use Rattle.ztso_engines.specs.StepsText.{Tells};
 ghost use Rattle.ztso_engines.specs.StepsReading.{number_in, after_line, at_line, after_lines, script_at};
 
 use crate::fault::{BAD_LINE, Fault, Place};
-use crate::steps::line::{BAD, Keyword, LineFault, add_hart, add_steps, keyword_of, set_register, set_word};
+use crate::steps::line::{
+    BAD, Keyword, LineFault, add_hart, add_steps, keyword_of, set_register, set_word,
+};
 use crate::words::first_word;
 use std::alloc::{AllocError, Global};
 use step_machine::{Event, HartOpening};

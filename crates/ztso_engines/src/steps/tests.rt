@@ -79,15 +79,33 @@ fn lines_have_many_forms(rt: HostRuntime) -> Result<(), Fail> {
     for (text, want) in [
         ("hart", one_hart),
         ("\n \t\r\n\thart  \r\nsteps", one_hart),
-        ("hart\nreg 0 31 4294967295", "hart 0 ended pc 0 pending 0\nx31 = 4294967295\n"),
-        ("hart\nreg 0 5 1\nreg 0 5 2\nreg 0 6 1\nreg 0 6 0", "hart 0 ended pc 0 pending 0\nx5 = 2\n"),
-        ("hart\nword 0016380 7\nword 4 1\nword 4 0", "hart 0 ended pc 0 pending 0\nword 16380 = 7\n"),
+        (
+            "hart\nreg 0 31 4294967295",
+            "hart 0 ended pc 0 pending 0\nx31 = 4294967295\n",
+        ),
+        (
+            "hart\nreg 0 5 1\nreg 0 5 2\nreg 0 6 1\nreg 0 6 0",
+            "hart 0 ended pc 0 pending 0\nx5 = 2\n",
+        ),
+        (
+            "hart\nword 0016380 7\nword 4 1\nword 4 0",
+            "hart 0 ended pc 0 pending 0\nword 16380 = 7\n",
+        ),
         // addi x5,x5,-1, in hex digits of either case
-        ("hart fff28293 FFF28293\nreg 0 5 3\nsteps a0*2", "hart 0 ended pc 8 pending 0\nx5 = 1\n"),
+        (
+            "hart fff28293 FFF28293\nreg 0 5 3\nsteps a0*2",
+            "hart 0 ended pc 8 pending 0\nx5 = 1\n",
+        ),
         // no instruction: illegal
-        ("hart\nhart 0042829a\nsteps a1", "hart 0 ended pc 0 pending 0\nhart 1 stopped 8 pc 0 pending 0\n"),
+        (
+            "hart\nhart 0042829a\nsteps a1",
+            "hart 0 ended pc 0 pending 0\nhart 1 stopped 8 pc 0 pending 0\n",
+        ),
         // the tokens of later lines come later; a CR between tokens is a blank
-        ("hart 00532023 00042383\nreg 0 5 1\nsteps a0\rl0\nsteps a0*5", "hart 0 ended pc 8 pending 0\nx5 = 1\nx7 = 1\nword 0 = 1\n"),
+        (
+            "hart 00532023 00042383\nreg 0 5 1\nsteps a0\rl0\nsteps a0*5",
+            "hart 0 ended pc 8 pending 0\nx5 = 1\nx7 = 1\nword 0 = 1\n",
+        ),
     ] {
         let (end, out) = steps_of(alloc, text.as_bytes());
         assert_eq!(rt; end, Ok(()), "{text}");
