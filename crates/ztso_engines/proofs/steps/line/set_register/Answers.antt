@@ -1,7 +1,7 @@
 use Rattle.std.proofs.Common.{◌≡◌, ◌<◌, length, get_or, subst, sym, rules}
 use Rattle.step_machine.specs.History.{HartStart}
 use Rattle.ztso_engines.proofs.Registers.{with_register_done}
-use Rattle.ztso_engines.proofs.script.set_register.Goals as goal
+use Rattle.ztso_engines.proofs.steps.line.set_register.Goals as goal
 
 pub returns : goal.returns
 returns c =
