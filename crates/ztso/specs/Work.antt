@@ -2,9 +2,7 @@
 use Rattle.std.specs.Prelude.{ℕ, List, Option, Result}
 use Rattle.ztso_engines.specs.declared.fault.Fault.{Fault}
 use Rattle.ztso_engines.specs.Engines.{EndsBy}
-use Rattle.ztso_engines.specs.Steps.{IsStateText}
-use Rattle.ztso_engines.specs.StepsReading.{script_at}
-use Rattle.ztso_engines.specs.StepsText.{Tells}
+use Rattle.ztso_engines.specs.Steps.{IsStepsAnswer}
 use Rattle.ztso.specs.declared.command_line.Capacity.{Capacity}
 use Rattle.ztso.specs.declared.command_line.Capacity.TheVariants.{One, Two, Four, Sixteen}
 use Rattle.ztso.specs.declared.command_line.Job.{Job}
@@ -19,4 +17,4 @@ stores_of Sixteen = 16
 
 -- what a job reads, refuses and writes; the program's memory has 4,096 words
 abbrev pub JobEndsBy : Job → Result (Unit {0}) Fault → (input old new : Option (List ℕ)) → Type 0
-JobEndsBy (Steps capacity) = EndsBy (Tells 4096) (script_at 4096) (IsStateText (stores_of capacity) 4096)
+JobEndsBy (Steps capacity) = EndsBy (IsStepsAnswer (stores_of capacity) 4096)
