@@ -1,16 +1,15 @@
 -- What one more entry at the end does to a hart's own entries, its stores and landings, its pending
 -- stores, what landed, and its path.
-use Rattle.std.proofs.Common.{◌≡◌, ℕ, zero, suc, ◌+◌, ◌≤◌, ◌<◌, ◌==◌, Bool, true, false, not, ◌&&◌, if◌then◌else◌, List, [], ◌∷◌, ◌++◌, length, take, drop, Option, Some, None, unwrap_or, refl, sym, ◌∙◌, ap, append_assoc, add_assoc, zero-add, arith, length-append, append-nil}
+use Rattle.std.proofs.Common.{◌≡◌, ℕ, ◌+◌, ◌≤◌, ◌==◌, true, false, if◌then◌else◌, List, [], ◌∷◌, ◌++◌, length, drop, Option, Some, refl, sym, ◌∙◌, ap, append_assoc, add_assoc, zero-add, arith, append-nil}
 use Rattle.std.proofs.lemmas.List.{drop-append-le, drop-drop}
 use Rattle.memory.specs.Words.{newest_of}
 use Rattle.hart.specs.State.{HartState}
 use Rattle.hart.specs.Steps.{advanced}
 use Rattle.step_machine.specs.declared.events.Entry.{Entry}
-use Rattle.step_machine.specs.declared.events.Entry.TheVariants as entry
-use Rattle.step_machine.specs.History.{Start, History, with_entry}
+use Rattle.step_machine.specs.History.{Start}
 use Rattle.step_machine.specs.Entries.{is_own, own, store_of, stores, land_of, lands, pending, write_of, landed_after, landed, report_of, reported}
-use Rattle.step_machine.specs.Paths.{value_of, CanMake, after_entries, Makes}
-use Rattle.step_machine.specs.Legal.{Allowed, LegalAfter}
+use Rattle.step_machine.specs.Paths.{value_of, after_entries, Makes}
+use Rattle.step_machine.specs.Legal.{LegalAfter}
 
 pub own-append : (h : ℕ) (es fs : List Entry) → own h (es ++ fs) ≡ own h es ++ own h fs
 own-append h [] fs = refl

@@ -1,33 +1,28 @@
 -- One more entry: what the machine holds after it is what the longer history says.
-use Rattle.std.proofs.Common.{◌≡◌, ℕ, ◌+◌, ◌*◌, ◌/◌, ◌%◌, ◌≤◌, ◌<◌, ◌==◌, Bool, true, false, List, [], ◌∷◌, ◌++◌, length, take, drop, set, get_or, Option, Some, None, refl, sym, ◌∙◌, ap, subst, arith, append-nil}
+use Rattle.std.proofs.Common.{◌≡◌, ℕ, ◌<◌, false, List, [], ◌∷◌, ◌++◌, length, take, drop, get_or, Option, Some, None, refl, sym, ◌∙◌, ap, subst, arith, append-nil}
 use Rattle.std.specs.Prelude.{option_map, All}
-use Rattle.std.specs.List.{slice_get, slice_index_or}
+use Rattle.std.specs.List.{slice_get}
 use Rattle.std.proofs.lemmas.Option.{slice_get_within, get_or_from_slice_get}
-use Rattle.std.proofs.lemmas.List.{length-set}
-use Rattle.std.proofs.lemmas.List.Elements.{All-get_or, All-set, All-push, All-drop, All-head}
+use Rattle.std.proofs.lemmas.List.Elements.{All-head}
 use Rattle.memory.specs.Words.{IsAddress}
 use Rattle.hart.specs.State.{HartState, HartView}
-use Rattle.hart.specs.Steps.{need_of, stepped}
+use Rattle.hart.specs.Steps.{need_of}
 use Rattle.hart.specs.declared.need.Need.{Need}
 use Rattle.hart.specs.declared.need.Need.TheVariants as need
 use Rattle.hart.specs.declared.need.Report.TheVariants as report
-use Rattle.hart.proofs.Advances.{advanced-words}
-use Rattle.step_machine.specs.declared.events.Event.{Event}
-use Rattle.step_machine.specs.declared.events.Event.TheVariants as event
 use Rattle.step_machine.specs.declared.events.Entry.{Entry}
 use Rattle.step_machine.specs.declared.events.Entry.TheVariants as entry
-use Rattle.step_machine.specs.declared.events.Outcome.TheVariants as outcome
 use Rattle.step_machine.specs.History.{History, with_entry}
 use Rattle.step_machine.specs.Entries.{hart_of, is_land, pending, write_of, reported, memory_word}
 use Rattle.step_machine.specs.Paths.{entry_of, value_of, CanMake, state_of}
-use Rattle.step_machine.specs.Legal.{Allowed, Legal, Kept}
+use Rattle.step_machine.specs.Legal.{Legal, Kept}
 use Rattle.step_machine.specs.Runs.{CanFollow}
-use Rattle.step_machine.specs.Config.{Config, IsInRange, buffer_of, word_at, step_at, step_hart, write_first, after_entry, HasAddress, Fit}
+use Rattle.step_machine.specs.Config.{Config, IsInRange, buffer_of, word_at, step_hart, write_first, after_entry, HasAddress, Fit}
 use Rattle.step_machine.specs.Ties.{view_state, Tied}
 use Rattle.step_machine.proofs.Decides.{need_of-in_range}
 use Rattle.step_machine.proofs.Appended.{reported-last}
-use Rattle.step_machine.proofs.Follows.{act_only, Legal-last}
-use Rattle.step_machine.proofs.Happening.{no_hart, none-no_hart}
+use Rattle.step_machine.proofs.Follows.{act_only}
+use Rattle.step_machine.proofs.Happening.{none-no_hart}
 use Rattle.step_machine.proofs.Stays.{states_stay, states_land, reports_stay, pending-other, pending-store, pending-land, store_of-other, land_of-other, buffers_stay, memory_word-other, words_stay}
 
 -- an entry that follows, of hart h in state s
@@ -54,8 +49,8 @@ carried_store B M t c h a v s legal tied within acts =
       states = states_stay M t c h (entry.Store h a v) tied acts.mine acts.act;
       reports = reports_stay M t c h (entry.Store h a v) s tied acts.mine acts.state acts.made;
       buffers = buffers_stay M t c h (buffer_of c h ++ (a, v) ∷ []) (entry.Store h a v) tied within
-        (ap (λ ps. ps ++ (a, v) ∷ []) (tied.buffers h) ∙ sym (pending-store B t h a v legal))
-        (λ k ne. pending-other B t k (entry.Store h a v) legal (store_of-other h k a v ne) refl);
+          (ap (λ ps. ps ++ (a, v) ∷ []) (tied.buffers h) ∙ sym (pending-store B t h a v legal))
+          (λ k ne. pending-other B t k (entry.Store h a v) legal (store_of-other h k a v ne) refl);
       words = λ x is. tied.words x is ∙ sym (memory_word-other t.opening t.entries (entry.Store h a v) x refl);
     }
 
@@ -80,8 +75,8 @@ carried_land B M t c h legal tied count within all =
       states = λ k. tied.states k ∙ sym (states_land M t h k);
       reports = λ k v is. tied.reports k v is ∙ sym (append-nil (reported k t.entries)) ∙ sym (reported-last k t.entries (entry.Land h));
       buffers = buffers_stay M t c h (drop 1 (buffer_of c h)) (entry.Land h) tied within
-        (ap (drop 1) (tied.buffers h) ∙ sym (pending-land B t h legal))
-        (λ k ne. pending-other B t k (entry.Land h) legal refl (land_of-other h k ne));
+          (ap (drop 1) (tied.buffers h) ∙ sym (pending-land B t h legal))
+          (λ k ne. pending-other B t k (entry.Land h) legal refl (land_of-other h k ne));
       words = landed_words M t c h (buffer_of c h) tied count all (sym (tied.buffers h));
     }
 

@@ -1,34 +1,27 @@
 -- What a machine that holds what its history says answers is the outcome that the history allows.
-use Rattle.std.proofs.Common.{◌≡◌, ℕ, ◌≤◌, ◌<◌, ◌==◌, Bool, true, false, not, ◌&&◌, IsTrue, List, [], ◌∷◌, ◌++◌, length, Option, Some, None, refl, sym, ◌∙◌, ap, subst, arith}
-use Rattle.std.specs.Prelude.{nat_lt, option_map, unwrap_or}
-use Rattle.std.specs.List.{slice_get}
+use Rattle.std.proofs.Common.{◌≡◌, ℕ, ◌≤◌, ◌<◌, Bool, true, false, not, ◌&&◌, List, [], ◌∷◌, length, None, refl, sym, ◌∙◌, ap, subst, arith}
+use Rattle.std.specs.Prelude.{nat_lt, unwrap_or}
 use Rattle.std.proofs.lemmas.Bool.{eqb-true, eq-eqb}
 use Rattle.std.proofs.lemmas.Bool.Decides.{nat_tests}
 use Rattle.memory.specs.Words.{IsAddress, newest_of}
-use Rattle.hart.specs.State.{HartState, HartView}
+use Rattle.hart.specs.State.{HartState}
 use Rattle.hart.specs.Steps.{need_of}
 use Rattle.rv_decode.specs.declared.instruction.AmoOp.{AmoOp}
 use Rattle.hart.specs.Effects.{updated}
-use Rattle.hart.specs.declared.status.Status.{Status}
-use Rattle.hart.specs.declared.status.Status.TheVariants as status
 use Rattle.hart.specs.declared.need.Need.{Need}
 use Rattle.hart.specs.declared.need.Need.TheVariants as need
 use Rattle.hart.specs.declared.need.Report.TheVariants as report
 use Rattle.hart.proofs.Needs.{IsTrueOf, need_is_true}
-use Rattle.step_machine.specs.declared.events.Event.{Event}
-use Rattle.step_machine.specs.declared.events.Event.TheVariants as event
 use Rattle.step_machine.specs.declared.events.Entry.{Entry}
 use Rattle.step_machine.specs.declared.events.Entry.TheVariants as entry
 use Rattle.step_machine.specs.declared.events.Outcome.{Outcome}
 use Rattle.step_machine.specs.declared.events.Outcome.TheVariants as outcome
-use Rattle.step_machine.specs.History.{Start, History, with_entry}
+use Rattle.step_machine.specs.History.{Start, History}
 use Rattle.step_machine.specs.Entries.{hart_of, is_land, pending, memory_word, read}
-use Rattle.step_machine.specs.Paths.{entry_of, value_of, CanMake, state_of, Path}
-use Rattle.step_machine.specs.Legal.{Allowed, Legal, Kept}
-use Rattle.step_machine.specs.Runs.{IsFor, CanFollow, idle, idle_of, idle_in, Adds, Idles, Happens}
-use Rattle.step_machine.specs.Config.{Config, IsInRange, buffer_of, word_at, found, is_empty, if_waits, outcome_for, act_in, act_outcome, land_in, land_outcome, outcome_of}
-use Rattle.step_machine.specs.Ties.{view_state, Tied}
-use Rattle.step_machine.proofs.Follows.{follows, act_only, land_follows, Path-hart, Legal-last}
+use Rattle.step_machine.specs.Paths.{entry_of, value_of}
+use Rattle.step_machine.specs.Legal.{Allowed}
+use Rattle.step_machine.specs.Config.{Config, IsInRange, buffer_of, word_at, found, is_empty, if_waits, outcome_for}
+use Rattle.step_machine.specs.Ties.{Tied}
 
 in_range_true : (s : HartState) (n : Need) → IsTrueOf s n → IsInRange s.words n
 in_range_true s (need.Load a) is = is
@@ -61,10 +54,10 @@ pub record Sees (M : ℕ) (t : History) (c : Config) (h : ℕ) : Type 0 where
 
 pub Tied-sees : (M : ℕ) (t : History) (c : Config) (h : ℕ) → Tied M t c → Sees M t c h
 Tied-sees M t c h tied = record {
-    buffer = tied.buffers h;
-    finds = λ a is. ap (λ ps. unwrap_or (newest_of a None ps) (word_at c a)) (tied.buffers h) ∙ ap (λ w. unwrap_or (newest_of a None (pending h t.entries)) w) (tied.words a is);
-    words = tied.words;
-  }
+  buffer = tied.buffers h;
+  finds = λ a is. ap (λ ps. unwrap_or (newest_of a None ps) (word_at c a)) (tied.buffers h) ∙ ap (λ w. unwrap_or (newest_of a None (pending h t.entries)) w) (tied.words a is);
+  words = tied.words;
+}
 
 is_empty-nil : (ps : List (ℕ × ℕ)) → is_empty ps ≡ true → ps ≡ []
 is_empty-nil [] e = refl
@@ -82,9 +75,12 @@ alone : (B : ℕ) (t : History) (h : ℕ) (n : Need) (e : Entry) → hart_of e �
 alone B t h n e mine act made allowed only = (mine, act, record { made = made; allowed = allowed }, λ d does. only d does.made)
 
 decided_load : (B M : ℕ) (t : History) (c : Config) (h a : ℕ) → Sees M t c h → IsAddress M a → Decided B t h (need.Load a) (outcome.Did (entry.Load h a (found c h a)))
-decided_load B M t c h a sees is =
-    (refl, refl, record { made = refl; allowed = sees.finds a is },
-     λ d does. does.made ∙ ap (λ v. entry.Load h a v) (subst (Allowed B t.opening t.entries) does.made does.allowed ∙ sym (sees.finds a is)))
+decided_load B M t c h a sees is = (
+  refl,
+  refl,
+  record { made = refl; allowed = sees.finds a is },
+  λ d does. does.made ∙ ap (λ v. entry.Load h a v) (subst (Allowed B t.opening t.entries) does.made does.allowed ∙ sym (sees.finds a is)),
+)
 
 decided_store : (B M : ℕ) (t : History) (c : Config) (h a w : ℕ) (b : Bool) → Sees M t c h → nat_lt (length (buffer_of c h)) B ≡ b → Decided B t h (need.Store a w) (if_waits (not b) (entry.Store h a w))
 decided_store B M t c h a w true sees is =
@@ -99,9 +95,12 @@ decided_store B M t c h a w false sees is = λ d does.
 decided_amo : (B M : ℕ) (t : History) (c : Config) (h a : ℕ) (op : AmoOp) (rs2 : ℕ) (b : Bool) → Sees M t c h → IsAddress M a → is_empty (buffer_of c h) ≡ b → Decided B t h (need.Amo a op rs2) (if_waits (not b) (entry.Amo h a (word_at c a) (updated op (word_at c a) rs2)))
 decided_amo B M t c h a op rs2 true sees is b =
     let empty : pending h t.entries ≡ [] = sym sees.buffer ∙ is_empty-nil (buffer_of c h) b in
-    let word : word_at c a ≡ read t.opening t.entries h a = sees.words a is ∙ sym (read-empty t.opening t.entries h a empty) in
-    (refl, refl, record { made = refl; allowed = (empty, word) },
-     λ d does. does.made ∙ ap (λ v. entry.Amo h a v (updated op v rs2)) ((subst (Allowed B t.opening t.entries) does.made does.allowed).1 ∙ sym word))
+    let word : word_at c a ≡ read t.opening t.entries h a = sees.words a is ∙ sym (read-empty t.opening t.entries h a empty) in (
+      refl,
+      refl,
+      record { made = refl; allowed = (empty, word) },
+      λ d does. does.made ∙ ap (λ v. entry.Amo h a v (updated op v rs2)) ((subst (Allowed B t.opening t.entries) does.made does.allowed).1 ∙ sym word),
+    )
 decided_amo B M t c h a op rs2 false sees is b = λ d does.
     let empty : pending h t.entries ≡ [] = (subst (Allowed B t.opening t.entries) does.made does.allowed).0 in
     let yes : is_empty (buffer_of c h) ≡ true = nil-is_empty (buffer_of c h) (sees.buffer ∙ empty) in

@@ -1,5 +1,5 @@
 -- A step of one hart, a store, an AMO and a landing keep harts, buffers and memory fit for each other.
-use Rattle.std.proofs.Common.{◌≡◌, ℕ, ◌+◌, ◌*◌, ◌/◌, ◌≤◌, ◌<◌, List, [], ◌∷◌, ◌++◌, length, drop, set, get_or, Option, Some, None, refl, sym, ◌∙◌, ap, subst, arith}
+use Rattle.std.proofs.Common.{◌≡◌, ℕ, ◌<◌, List, [], ◌∷◌, ◌++◌, length, drop, set, get_or, Option, Some, None, refl, sym, ◌∙◌, ap, subst}
 use Rattle.std.specs.Prelude.{All, IfSome, IsSomeAnd}
 use Rattle.std.specs.List.{slice_get}
 use Rattle.std.proofs.lemmas.Option.{slice_get_within, slice_get_read, get_or_from_slice_get}
@@ -31,37 +31,37 @@ words_step_at M hs h v (Some x) is all =
 
 pub fit_step : (M : ℕ) (c : Config) (h v : ℕ) → Fit M c → Fit M (record c { harts = step_hart c h v })
 fit_step M c h v fit = record {
-    buffers = fit.buffers ∙ sym (length-step_at c.harts h v (slice_get c.harts h));
-    words = fit.words;
-    harts = words_step_at M c.harts h v (slice_get c.harts h) refl fit.harts;
-    pending = fit.pending;
-  }
+  buffers = fit.buffers ∙ sym (length-step_at c.harts h v (slice_get c.harts h));
+  words = fit.words;
+  harts = words_step_at M c.harts h v (slice_get c.harts h) refl fit.harts;
+  pending = fit.pending;
+}
 
 pub fit_store : (M : ℕ) (c : Config) (h a v : ℕ) → h < length c.buffers → IsAddress M a → Fit M c → Fit M (record c { buffers = set c.buffers h (buffer_of c h ++ (a, v) ∷ []) })
 fit_store M c h a v within is fit = record {
-    buffers = length-set c.buffers h (buffer_of c h ++ (a, v) ∷ []) ∙ fit.buffers;
-    words = fit.words;
-    harts = fit.harts;
-    pending = All-set (λ (ps : List (ℕ × ℕ)). All (HasAddress M) ps) c.buffers h (buffer_of c h ++ (a, v) ∷ [])
+  buffers = length-set c.buffers h (buffer_of c h ++ (a, v) ∷ []) ∙ fit.buffers;
+  words = fit.words;
+  harts = fit.harts;
+  pending = All-set (λ (ps : List (ℕ × ℕ)). All (HasAddress M) ps) c.buffers h (buffer_of c h ++ (a, v) ∷ [])
       (All-push (HasAddress M) (buffer_of c h) (a, v) (fit.pending h [] within) is) fit.pending;
-  }
+}
 
 pub fit_word : (M : ℕ) (c : Config) (i v : ℕ) → Fit M c → Fit M (record c { words = set c.words i v })
 fit_word M c i v fit = record {
-    buffers = fit.buffers;
-    words = length-set c.words i v ∙ fit.words;
-    harts = fit.harts;
-    pending = fit.pending;
-  }
+  buffers = fit.buffers;
+  words = length-set c.words i v ∙ fit.words;
+  harts = fit.harts;
+  pending = fit.pending;
+}
 
 pub fit_land : (M : ℕ) (c : Config) (h : ℕ) → h < length c.buffers → Fit M c → Fit M (record c { buffers = set c.buffers h (drop 1 (buffer_of c h)) })
 fit_land M c h within fit = record {
-    buffers = length-set c.buffers h (drop 1 (buffer_of c h)) ∙ fit.buffers;
-    words = fit.words;
-    harts = fit.harts;
-    pending = All-set (λ (ps : List (ℕ × ℕ)). All (HasAddress M) ps) c.buffers h (drop 1 (buffer_of c h))
+  buffers = length-set c.buffers h (drop 1 (buffer_of c h)) ∙ fit.buffers;
+  words = fit.words;
+  harts = fit.harts;
+  pending = All-set (λ (ps : List (ℕ × ℕ)). All (HasAddress M) ps) c.buffers h (drop 1 (buffer_of c h))
       (All-drop (HasAddress M) 1 (buffer_of c h) (fit.pending h [] within)) fit.pending;
-  }
+}
 
 pub fit_stepped : (M : ℕ) (c : Config) (h v : ℕ) (x y : HartView) → h < length c.harts → x ≡ get_or c.harts h x → y ≡ stepped x v → Fit M c → Fit M (record c { harts = set c.harts h y })
 fit_stepped M c h v x y within is step fit =
@@ -72,9 +72,11 @@ pub ready_in_place : (M : ℕ) (c : Config) (h : ℕ) (x : HartView) (n : Need) 
 ready_in_place M c h x n within is running next room fit =
     let here : slice_get c.harts h ≡ Some x = slice_get_read c.harts (length c.harts) h x refl within is in
     let some : 0 < x.room = subst (λ (o : Option HartView). IfSome o (λ (v : HartView). 0 < v.room)) here room in
-    let words : x.state.words ≡ M = subst (λ (y : HartView). y.state.words ≡ M) (sym is) (fit.harts h x within) in
-    (subst (λ (o : Option HartView). IsSomeAnd o (IsReady n)) (sym here) (record { running = running; next = sym next; room = some }),
-     within, subst (IsInRange M) (sym next) (need_of-in_range M x.state words))
+    let words : x.state.words ≡ M = subst (λ (y : HartView). y.state.words ≡ M) (sym is) (fit.harts h x within) in (
+      subst (λ (o : Option HartView). IsSomeAnd o (IsReady n)) (sym here) (record { running = running; next = sym next; room = some }),
+      within,
+      subst (IsInRange M) (sym next) (need_of-in_range M x.state words),
+    )
 
 -- an act of a hart in this status
 pub act_outcome-status : (B : ℕ) (c : Config) (h : ℕ) (x : HartView) (st : Status) → h < length c.harts → x ≡ get_or c.harts h x → x.state.status ≡ st → act_outcome B c h (slice_get c.harts h) ≡ act_in st (outcome_for B c h (need_of x.state))

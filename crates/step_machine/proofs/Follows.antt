@@ -1,15 +1,15 @@
 -- Which entries can follow a history: those that the hart's state makes and that memory and buffers allow.
-use Rattle.std.proofs.Common.{◌≡◌, ℕ, ◌≤◌, ◌<◌, ◌==◌, Bool, true, false, not, ◌&&◌, List, [], ◌∷◌, ◌++◌, length, Option, Some, None, refl, sym, ◌∙◌, ap, subst, arith, eq-eqb, append-nil, append_assoc}
+use Rattle.std.proofs.Common.{◌≡◌, ℕ, ◌==◌, Bool, true, false, ◌&&◌, List, [], ◌∷◌, ◌++◌, Option, Some, None, refl, sym, ◌∙◌, ap, subst, eq-eqb, append-nil}
 use Rattle.std.specs.List.{slice_get}
 use Rattle.std.specs.Prelude.{option_map, if◌then◌else◌}
 use Rattle.hart.specs.State.{HartState}
 use Rattle.hart.specs.Steps.{advanced}
 use Rattle.step_machine.specs.declared.events.Entry.{Entry}
 use Rattle.step_machine.specs.declared.events.Entry.TheVariants as entry
-use Rattle.step_machine.specs.History.{HartStart, Start, History, with_entry}
+use Rattle.step_machine.specs.History.{HartStart, History, with_entry}
 use Rattle.step_machine.specs.Entries.{hart_of, is_land, is_own, own}
-use Rattle.step_machine.specs.Paths.{value_of, CanMake, after_entries, Makes, opens_as, state_of, PathOf, Path}
-use Rattle.step_machine.specs.Legal.{Allowed, LegalAfter, Legal}
+use Rattle.step_machine.specs.Paths.{value_of, CanMake, after_entries, opens_as, state_of, PathOf, Path}
+use Rattle.step_machine.specs.Legal.{Allowed, Legal}
 use Rattle.step_machine.specs.Runs.{CanFollow}
 use Rattle.step_machine.proofs.Appended.{own-append, after_entries-append, Makes-append, Makes-front, Makes-back, LegalAfter-append, LegalAfter-front, LegalAfter-back}
 

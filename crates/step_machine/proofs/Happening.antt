@@ -1,5 +1,5 @@
 -- What a machine that holds what its history says does is what happens to the history.
-use Rattle.std.proofs.Common.{◌≡◌, ℕ, ◌≤◌, ◌<◌, Bool, true, false, List, [], ◌∷◌, ◌++◌, length, Option, Some, None, refl, sym, ◌∙◌, ap, subst, arith}
+use Rattle.std.proofs.Common.{◌≡◌, ℕ, ◌<◌, List, [], ◌∷◌, length, Option, Some, None, refl, sym, ◌∙◌, ap, subst, arith}
 use Rattle.std.specs.Prelude.{option_map}
 use Rattle.std.specs.List.{slice_get}
 use Rattle.std.proofs.lemmas.Option.{slice_get_within}
@@ -7,22 +7,20 @@ use Rattle.hart.specs.State.{HartState, HartView}
 use Rattle.hart.specs.Steps.{need_of}
 use Rattle.hart.specs.declared.status.Status.{Status}
 use Rattle.hart.specs.declared.status.Status.TheVariants as status
-use Rattle.hart.specs.declared.need.Need.{Need}
 use Rattle.step_machine.specs.declared.events.Event.{Event}
 use Rattle.step_machine.specs.declared.events.Event.TheVariants as event
 use Rattle.step_machine.specs.declared.events.Entry.{Entry}
-use Rattle.step_machine.specs.declared.events.Entry.TheVariants as entry
 use Rattle.step_machine.specs.declared.events.Outcome.{Outcome}
 use Rattle.step_machine.specs.declared.events.Outcome.TheVariants as outcome
-use Rattle.step_machine.specs.History.{HartStart, Start, History, with_entry}
-use Rattle.step_machine.specs.Entries.{hart_of, is_land, own, pending}
-use Rattle.step_machine.specs.Paths.{entry_of, value_of, CanMake, opens_as, after_entries, state_of, Path}
-use Rattle.step_machine.specs.Legal.{Allowed, Legal, Kept}
-use Rattle.step_machine.specs.Runs.{IsFor, CanFollow, NoEntry, idle, idle_of, idle_in, Adds, Idles, Happens}
+use Rattle.step_machine.specs.History.{HartStart, History, with_entry}
+use Rattle.step_machine.specs.Entries.{hart_of, own, pending}
+use Rattle.step_machine.specs.Paths.{entry_of, value_of, CanMake, state_of, Path}
+use Rattle.step_machine.specs.Legal.{Allowed, Kept}
+use Rattle.step_machine.specs.Runs.{CanFollow, NoEntry, idle_of, idle_in, Happens}
 use Rattle.step_machine.specs.Config.{Config, IsInRange, buffer_of, entries_after, outcome_for, act_in, act_outcome, land_in, land_outcome, outcome_of}
 use Rattle.step_machine.specs.Ties.{view_state, Tied}
 use Rattle.step_machine.proofs.Follows.{state_after, follows, act_only, land_follows, Path-hart, Legal-last}
-use Rattle.step_machine.proofs.Decides.{need_of-in_range, Does, Decided, Sees, Tied-sees, outcome_for-decided}
+use Rattle.step_machine.proofs.Decides.{need_of-in_range, Decided, Tied-sees, outcome_for-decided}
 
 -- the history after an outcome
 abbrev pub history_after : History → Outcome → History
@@ -58,13 +56,13 @@ running_happens B M t h s (outcome.Did e) kept is run d =
       for_event = (d.0, d.1);
       follows = follows B M t h s e d.0 d.1 kept.legal path is can d.2.allowed;
       only = λ x for_x f. (let only : CanMake s x × Allowed B t.opening t.entries x = act_only B M t h s x for_x.0 for_x.1 is f in
-        d.3 x (record { made = only.0.made ∙ ap (λ k. entry_of k (need_of s) (value_of x)) for_x.0; allowed = only.1 }));
+          d.3 x (record { made = only.0.made ∙ ap (λ k. entry_of k (need_of s) (value_of x)) for_x.0; allowed = only.1 }));
       after = refl;
     }
 running_happens B M t h s outcome.Waited kept is run d =
     record {
       none = λ x for_x f. (let only : CanMake s x × Allowed B t.opening t.entries x = act_only B M t h s x for_x.0 for_x.1 is f in
-        d x (record { made = only.0.made ∙ ap (λ k. entry_of k (need_of s) (value_of x)) for_x.0; allowed = only.1 }));
+          d x (record { made = only.0.made ∙ ap (λ k. entry_of k (need_of s) (value_of x)) for_x.0; allowed = only.1 }));
       why = sym (ap (λ o. idle_of o outcome.Waited) is ∙ ap (λ st. idle_in st outcome.Waited) run);
       after = refl;
     }

@@ -10,3 +10,4 @@ pub mod Fitting
 pub mod Rooms
 pub mod Opens
 pub mod Sounds
+pub mod Landings

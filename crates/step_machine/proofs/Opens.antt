@@ -1,15 +1,12 @@
 -- What an opening gives is fit, and is what the history of no entry says.
-use Rattle.std.proofs.Common.{◌≡◌, ℕ, zero, suc, ◌+◌, ◌*◌, ◌-◌, ◌/◌, ◌≤◌, ◌<◌, List, [], ◌∷◌, ◌++◌, length, drop, get_or, replicate, Option, Some, None, refl, sym, ◌∙◌, ap, subst, arith, length-append, length-drop}
-use Rattle.std.specs.Prelude.{map, option_map, All, nat_lt}
+use Rattle.std.proofs.Common.{◌≡◌, ℕ, zero, suc, ◌+◌, ◌-◌, ◌/◌, ◌≤◌, List, [], ◌∷◌, ◌++◌, length, drop, get_or, replicate, Option, Some, None, refl, sym, ◌∙◌, ap, subst, arith, length-append, length-drop}
+use Rattle.std.specs.Prelude.{option_map, All}
 use Rattle.std.specs.List.{slice_get}
 use Rattle.std.proofs.lemmas.List.{length-map, length-replicate, drop-replicate}
 use Rattle.std.proofs.lemmas.List.Elements.{All-map, All-nil, All-replicate}
 use Rattle.std.proofs.lemmas.Option.{slice_get-map}
-use Rattle.memory.specs.Words.{IsAddress}
-use Rattle.hart.specs.State.{HartState, HartView}
-use Rattle.hart.specs.declared.need.Report.{Report}
-use Rattle.step_machine.specs.History.{HartStart, Start, History, unrun, FitsIn}
-use Rattle.step_machine.specs.Entries.{opening_word}
+use Rattle.hart.specs.State.{HartView}
+use Rattle.step_machine.specs.History.{HartStart, Start, unrun, FitsIn}
 use Rattle.step_machine.specs.Paths.{opens_as}
 use Rattle.step_machine.specs.Opened.{opened_hart}
 use Rattle.step_machine.specs.Config.{Config, HasAddress, Fit, opened_config}
@@ -17,11 +14,11 @@ use Rattle.step_machine.specs.Ties.{view_state, Tied}
 
 pub fit_opened : (M : ℕ) (o : Start) → FitsIn M o → Fit M (opened_config M o)
 fit_opened M o fits = record {
-    buffers = length-replicate (length o.harts) [] ∙ sym (length-map o.harts (opened_hart M));
-    words = length-append o.words (drop (length o.words) (replicate M 0)) ∙ rest (length o.words) fits.words;
-    harts = All-map (λ (v : HartView). v.state.words ≡ M) (opened_hart M) o.harts (λ k d lt. refl);
-    pending = All-replicate (λ (ps : List (ℕ × ℕ)). All (HasAddress M) ps) (length o.harts) [] (All-nil (HasAddress M));
-  }
+  buffers = length-replicate (length o.harts) [] ∙ sym (length-map o.harts (opened_hart M));
+  words = length-append o.words (drop (length o.words) (replicate M 0)) ∙ rest (length o.words) fits.words;
+  harts = All-map (λ (v : HartView). v.state.words ≡ M) (opened_hart M) o.harts (λ k d lt. refl);
+  pending = All-replicate (λ (ps : List (ℕ × ℕ)). All (HasAddress M) ps) (length o.harts) [] (All-nil (HasAddress M));
+}
   where
     rest : (n : ℕ) → n ≤ M → n + length {A = ℕ} (drop n (replicate M 0)) ≡ M
     rest n le =
@@ -58,8 +55,8 @@ zeros_after (x ∷ xs) m (suc i) = zeros_after xs m i
 
 pub tied_opened : (M : ℕ) (o : Start) → Tied M (unrun o) (opened_config M o)
 tied_opened M o = record {
-    states = λ h. ap (option_map view_state) (slice_get-map (opened_hart M) o.harts h) ∙ view_opened M (slice_get o.harts h);
-    reports = λ h v is. reports_opened M (slice_get o.harts h) v (sym (slice_get-map (opened_hart M) o.harts h) ∙ is);
-    buffers = λ h. none_everywhere (length o.harts) h;
-    words = λ a is. ap (λ (ws : List ℕ). get_or (o.words ++ ws) (a / 4) 0) (drop-replicate (length o.words) M 0) ∙ zeros_after o.words (M - length o.words) (a / 4);
-  }
+  states = λ h. ap (option_map view_state) (slice_get-map (opened_hart M) o.harts h) ∙ view_opened M (slice_get o.harts h);
+  reports = λ h v is. reports_opened M (slice_get o.harts h) v (sym (slice_get-map (opened_hart M) o.harts h) ∙ is);
+  buffers = λ h. none_everywhere (length o.harts) h;
+  words = λ a is. ap (λ (ws : List ℕ). get_or (o.words ++ ws) (a / 4) 0) (drop-replicate (length o.words) M 0) ∙ zeros_after o.words (M - length o.words) (a / 4);
+}

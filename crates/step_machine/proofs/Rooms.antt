@@ -1,14 +1,12 @@
 -- Room for steps: making it changes nothing else, and it is never lost but by steps.
-use Rattle.std.proofs.Common.{◌≡◌, ℕ, ◌+◌, ◌-◌, ◌≤◌, ◌<◌, ◌==◌, Bool, true, false, List, [], ◌∷◌, length, set, get_or, Option, Some, None, refl, sym, ◌∙◌, ap, subst, arith}
-use Rattle.std.specs.Prelude.{map, max, Result, Ok, Err, OnOk, OnErr}
+use Rattle.std.proofs.Common.{◌≡◌, ℕ, ◌+◌, ◌≤◌, ◌<◌, ◌==◌, Bool, true, false, List, length, set, Option, Some, None, refl, sym, ◌∙◌, ap, subst, arith}
+use Rattle.std.specs.Prelude.{map, Result, Ok, Err, OnOk, OnErr}
 use Rattle.std.specs.List.{slice_get}
 use Rattle.std.proofs.lemmas.Bool.{eqb-true, eqb-false}
 use Rattle.std.proofs.lemmas.List.{length-map}
 use Rattle.std.proofs.lemmas.Option.{slice_get_within, get_or_from_slice_get}
 use Rattle.std.proofs.Math.Seq.{map-set_same}
-use Rattle.hart.specs.State.{HartState, HartView}
-use Rattle.hart.specs.Steps.{stepped}
-use Rattle.hart.specs.declared.need.Report.{Report}
+use Rattle.hart.specs.State.{HartView}
 use Rattle.step_machine.specs.Config.{Config, told, SameButRoom, AllHaveRoom, roomy, roomy_in, roomy_at}
 use Rattle.step_machine.proofs.Stays.{slice_get-set_same, slice_get-set_other}
 

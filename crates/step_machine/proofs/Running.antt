@@ -1,6 +1,6 @@
 -- Runs: each is legal with a path for every hart, goes on from its end, and is the only one of its
 -- events.
-use Rattle.std.proofs.Common.{◌≡◌, ℕ, ◌+◌, ◌≤◌, ◌<◌, ◌==◌, Bool, true, false, not, ◌&&◌, ◌⊎◌, inl, inr, List, [], ◌∷◌, ◌++◌, length, take, get_or, Option, Some, None, refl, sym, ◌∙◌, ap, subst, arith}
+use Rattle.std.proofs.Common.{◌≡◌, ℕ, ◌+◌, ◌<◌, ◌==◌, Bool, true, false, not, ◌&&◌, ◌⊎◌, inl, inr, List, [], ◌∷◌, ◌++◌, length, take, get_or, Option, Some, None, refl, sym, ◌∙◌, ap, subst}
 use Rattle.std.specs.List.{slice_get}
 use Rattle.std.proofs.lemmas.Bool.{eqb-true}
 use Rattle.std.proofs.lemmas.List.{take_more}
@@ -10,12 +10,11 @@ use Rattle.step_machine.specs.declared.events.Entry.{Entry}
 use Rattle.step_machine.specs.declared.events.Outcome.{Outcome}
 use Rattle.step_machine.specs.declared.events.Outcome.TheVariants as outcome
 use Rattle.step_machine.specs.History.{HartStart, Start, History, unrun, with_entry}
-use Rattle.step_machine.specs.Entries.{hart_of, is_land, is_own, own}
+use Rattle.step_machine.specs.Entries.{hart_of, is_land, is_own}
 use Rattle.step_machine.specs.Paths.{PathOf, Path}
 use Rattle.step_machine.specs.Legal.{Kept}
-use Rattle.step_machine.specs.Runs.{CanFollow, idle, Adds, Idles, Happens, RunFrom, Run}
+use Rattle.step_machine.specs.Runs.{CanFollow, Adds, Idles, Happens, RunFrom}
 use Rattle.step_machine.proofs.Follows.{Path-other}
-use Rattle.step_machine.proofs.Happening.{history_after}
 
 -- an outcome is an entry added, or nothing
 pub shape_of : (B M : ℕ) (t : History) (ev : Event) (o : Outcome) (new : History) → Happens B M t ev o new → ((e : Entry) × (o ≡ outcome.Did e) × Adds B M t ev e new) ⊎ Idles B M t ev o new
@@ -41,9 +40,10 @@ kept_after B M t e kept f = record { legal = f.legal; paths = λ k within. at k 
 
 pub kept-happens : (B M : ℕ) (t : History) (ev : Event) (o : Outcome) (new : History) → Kept B M t → Happens B M t ev o new → Kept B M new
 kept-happens B M t ev o new kept h =
-    elim (shape_of B M t ev o new h)
-    [ inl a ↦ subst (Kept B M) (sym a.2.after) (kept_after B M t a.0 kept a.2.follows)
-    | inr i ↦ subst (Kept B M) (sym i.after) kept ]
+    elim (shape_of B M t ev o new h) [
+      | inl a ↦ subst (Kept B M) (sym a.2.after) (kept_after B M t a.0 kept a.2.follows)
+      | inr i ↦ subst (Kept B M) (sym i.after) kept
+    ]
 
 pub kept-unrun : (B M : ℕ) (o : Start) → Kept B M (unrun o)
 kept-unrun B M o = record { legal = tt; paths = λ h within. at h within (slice_get o.harts h) refl }

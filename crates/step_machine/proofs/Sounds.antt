@@ -1,5 +1,5 @@
 -- A sound machine stays sound, whatever the event.
-use Rattle.std.proofs.Common.{◌≡◌, ℕ, ◌+◌, ◌-◌, ◌/◌, ◌≤◌, ◌<◌, ◌==◌, Bool, true, false, List, [], ◌∷◌, length, set, get_or, Option, Some, None, refl, sym, ◌∙◌, ap, subst, arith}
+use Rattle.std.proofs.Common.{◌≡◌, ℕ, ◌-◌, ◌/◌, ◌≤◌, ◌<◌, List, [], length, get_or, Option, Some, None, refl, sym, ◌∙◌, ap, subst, arith}
 use Rattle.std.specs.Prelude.{map, option_map, IfSome, All}
 use Rattle.std.specs.List.{slice_get}
 use Rattle.std.proofs.lemmas.List.{length-map}
@@ -14,16 +14,15 @@ use Rattle.step_machine.specs.declared.events.Entry.TheVariants as entry
 use Rattle.step_machine.specs.declared.events.Outcome.{Outcome}
 use Rattle.step_machine.specs.declared.events.Outcome.TheVariants as outcome
 use Rattle.step_machine.specs.History.{Start, History, unrun, FitsIn}
-use Rattle.step_machine.specs.Legal.{Kept}
 use Rattle.step_machine.specs.Runs.{Happens}
-use Rattle.step_machine.specs.Config.{Config, HasAddress, Fit, AllHaveRoom, HasRoom, SameButRoom, told, step_at, step_hart, after_entry, after_outcome, entries_after, outcome_of, opened_config}
+use Rattle.step_machine.specs.Config.{Config, HasAddress, Fit, AllHaveRoom, HasRoom, SameButRoom, told, step_at, after_entry, after_outcome, entries_after, outcome_of, opened_config}
 use Rattle.step_machine.specs.Ties.{view_state, Tied, Sound}
 use Rattle.step_machine.proofs.Carried.{carried}
 use Rattle.step_machine.proofs.Fitting.{length-step_at}
-use Rattle.step_machine.proofs.Happening.{Stands, history_after, outcome_of-happens}
+use Rattle.step_machine.proofs.Happening.{history_after, outcome_of-happens}
 use Rattle.step_machine.proofs.Opens.{fit_opened, tied_opened}
 use Rattle.step_machine.proofs.Rooms.{written_at_place, same-length}
-use Rattle.step_machine.proofs.Running.{kept-unrun, kept_after, kept-happens}
+use Rattle.step_machine.proofs.Running.{kept-unrun, kept_after}
 
 -- room is no part of what a history says
 
@@ -45,11 +44,11 @@ reports_told (Some x) v rs is all = let both : told x ≡ told v = cc in sym (ap
 
 pub tied_same : (M : ℕ) (t : History) (c d : Config) → Tied M t c → SameButRoom c d → Tied M t d
 tied_same M t c d tied same = record {
-    states = λ h. states_told (slice_get d.harts h) (slice_get c.harts h) (told_same c d h same) ∙ tied.states h;
-    reports = λ h v is. reports_told (slice_get c.harts h) v _ (sym (told_same c d h same) ∙ ap (option_map told) is) (tied.reports h);
-    buffers = λ h. ap (λ (bs : List (List (ℕ × ℕ))). get_or bs h []) same.buffers ∙ tied.buffers h;
-    words = λ a is. ap (λ (ws : List ℕ). get_or ws (a / 4) 0) same.words ∙ tied.words a is;
-  }
+  states = λ h. states_told (slice_get d.harts h) (slice_get c.harts h) (told_same c d h same) ∙ tied.states h;
+  reports = λ h v is. reports_told (slice_get c.harts h) v _ (sym (told_same c d h same) ∙ ap (option_map told) is) (tied.reports h);
+  buffers = λ h. ap (λ (bs : List (List (ℕ × ℕ))). get_or bs h []) same.buffers ∙ tied.buffers h;
+  words = λ a is. ap (λ (ws : List ℕ). get_or ws (a / 4) 0) same.words ∙ tied.words a is;
+}
 
 -- room after a step
 
@@ -57,9 +56,9 @@ step_room : (hs : List HartView) (h v n : ℕ) (so : Option HartView) → slice_
 step_room hs h v n None is all = λ k w got. (let some : n ≤ w.room = all k w got in omega arith)
 step_room hs h v n (Some x) is all = λ k w got.
     (let here : n ≤ x.room = all h x is in
-     let stepped_room : n - 1 ≤ (stepped x v).room = omega arith in
-     written_at_place (λ (y : HartView). n - 1 ≤ y.room) hs h k (stepped x v) w (slice_get_within hs h x is) stepped_room
-     (λ y other. (let some : n ≤ y.room = all k y other in omega arith)) got)
+    let stepped_room : n - 1 ≤ (stepped x v).room = omega arith in
+    written_at_place (λ (y : HartView). n - 1 ≤ y.room) hs h k (stepped x v) w (slice_get_within hs h x is) stepped_room
+    (λ y other. (let some : n ≤ y.room = all k y other in omega arith)) got)
 
 less_room : (hs : List HartView) (n : ℕ) → AllHaveRoom n hs → AllHaveRoom (n - 1) hs
 less_room hs n all h v is = let some : n ≤ v.room = all h v is in omega arith
@@ -94,13 +93,13 @@ entry_count c (entry.Land h) = refl
 
 pub sound_opened : (B M : ℕ) (o : Start) → FitsIn M o → Sound B M (unrun o) (opened_config M o) 0
 sound_opened B M o fits = record {
-    fits = fits;
-    kept = kept-unrun B M o;
-    tied = tied_opened M o;
-    fit = fit_opened M o fits;
-    count = length-map o.harts _;
-    room = λ h v is. omega arith;
-  }
+  fits = fits;
+  kept = kept-unrun B M o;
+  tied = tied_opened M o;
+  fit = fit_opened M o fits;
+  count = length-map o.harts _;
+  room = λ h v is. omega arith;
+}
 
 -- a machine with other room is as fit, and as sound
 
@@ -113,22 +112,22 @@ words_told M (Some x) v is all = let both : told x ≡ told v = cc in sym (ap (�
 
 pub fit_same : (M : ℕ) (c d : Config) → Fit M c → SameButRoom c d → Fit M d
 fit_same M c d fit same = record {
-    buffers = ap length same.buffers ∙ fit.buffers ∙ sym (same-length c d same);
-    words = ap length same.words ∙ fit.words;
-    harts = λ h x lt. (let here : slice_get d.harts h ≡ Some (get_or d.harts h x) = slice_get-get_or d.harts h x lt in
+  buffers = ap length same.buffers ∙ fit.buffers ∙ sym (same-length c d same);
+  words = ap length same.words ∙ fit.words;
+  harts = λ h x lt. (let here : slice_get d.harts h ≡ Some (get_or d.harts h x) = slice_get-get_or d.harts h x lt in
       words_told M (slice_get c.harts h) (get_or d.harts h x) (sym (told_same c d h same) ∙ ap (option_map told) here) (words_of M c fit h));
-    pending = subst (λ (bs : List (List (ℕ × ℕ))). All (λ (ps : List (ℕ × ℕ)). All (HasAddress M) ps) bs) (sym same.buffers) fit.pending;
-  }
+  pending = subst (λ (bs : List (List (ℕ × ℕ))). All (λ (ps : List (ℕ × ℕ)). All (HasAddress M) ps) bs) (sym same.buffers) fit.pending;
+}
 
 pub sound_same : (B M n m : ℕ) (t : History) (c d : Config) → Sound B M t c n → SameButRoom c d → AllHaveRoom m d.harts → Sound B M t d m
 sound_same B M n m t c d sound same room = record {
-    fits = sound.fits;
-    kept = sound.kept;
-    tied = tied_same M t c d sound.tied same;
-    fit = fit_same M c d sound.fit same;
-    count = same-length c d same ∙ sound.count;
-    room = room;
-  }
+  fits = sound.fits;
+  kept = sound.kept;
+  tied = tied_same M t c d sound.tied same;
+  fit = fit_same M c d sound.fit same;
+  count = same-length c d same ∙ sound.count;
+  room = room;
+}
 
 -- steps
 
@@ -140,13 +139,13 @@ still B M n t c sound = record { fits = sound.fits; kept = sound.kept; tied = so
 
 sound_outcome : (B M n : ℕ) (t : History) (c : Config) (ev : Event) (o : Outcome) → Sound B M t c n → Happens B M t ev o (history_after t o) → Fit M (after_outcome c o) → Sound B M (history_after t o) (after_outcome c o) (n - 1)
 sound_outcome B M n t c ev (outcome.Did e) sound adds fit = record {
-    fits = sound.fits;
-    kept = kept_after B M t e sound.kept adds.follows;
-    tied = carried B M t c e sound.kept sound.tied sound.fit adds.follows;
-    fit = fit;
-    count = entry_count c e ∙ sound.count;
-    room = entry_room c e n sound.room;
-  }
+  fits = sound.fits;
+  kept = kept_after B M t e sound.kept adds.follows;
+  tied = carried B M t c e sound.kept sound.tied sound.fit adds.follows;
+  fit = fit;
+  count = entry_count c e ∙ sound.count;
+  room = entry_room c e n sound.room;
+}
 sound_outcome B M n t c ev outcome.Waited sound idles fit = still B M n t c sound
 sound_outcome B M n t c ev outcome.NothingToLand sound idles fit = still B M n t c sound
 sound_outcome B M n t c ev outcome.Over sound idles fit = still B M n t c sound
@@ -182,5 +181,5 @@ sound_stepped B M n t c d ev o es sound is after fit added =
     subst (λ (k : Config). Sound B M (record { opening = t.opening; entries = es }) k (n - 1)) (sym after)
     (subst (λ (xs : List Entry). Sound B M (record { opening = t.opening; entries = xs }) (after_outcome c o) (n - 1)) (sym added)
     (sound_outcome B M n t c ev o sound
-      (subst (λ (p : Outcome). Happens B M t ev p (history_after t p)) (sym is) (sound_happens B M n t c ev sound))
-      (subst (Fit M) after fit)))
+    (subst (λ (p : Outcome). Happens B M t ev p (history_after t p)) (sym is) (sound_happens B M n t c ev sound))
+    (subst (Fit M) after fit)))

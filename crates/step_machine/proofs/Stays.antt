@@ -1,5 +1,5 @@
 -- What the machine holds stays what its history says, over one more entry.
-use Rattle.std.proofs.Common.{◌≡◌, ◌≢◌, ℕ, zero, suc, ◌+◌, ◌*◌, ◌/◌, ◌%◌, ◌≤◌, ◌<◌, ◌==◌, Bool, true, false, not, ◌&&◌, if◌then◌else◌, List, [], ◌∷◌, ◌++◌, length, take, drop, set, get_or, Option, Some, None, refl, sym, ◌∙◌, ap, subst, arith, append-nil, get_or-set_same, get_or-set_other, length-set}
+use Rattle.std.proofs.Common.{◌≡◌, ◌≢◌, ℕ, zero, suc, ◌/◌, ◌<◌, ◌==◌, Bool, true, false, not, ◌&&◌, if◌then◌else◌, List, [], ◌∷◌, ◌++◌, length, drop, set, get_or, Option, Some, None, refl, sym, ◌∙◌, ap, subst, arith, append-nil, get_or-set_same, get_or-set_other}
 use Rattle.std.specs.Prelude.{option_map, unwrap_or}
 use Rattle.std.specs.List.{slice_get}
 use Rattle.std.proofs.lemmas.Bool.{eqb-true, eqb-false, eq-eqb, ne_eqb}
@@ -15,10 +15,9 @@ use Rattle.step_machine.specs.declared.events.Entry.{Entry}
 use Rattle.step_machine.specs.declared.events.Entry.TheVariants as entry
 use Rattle.step_machine.specs.History.{Start, History, with_entry}
 use Rattle.step_machine.specs.Entries.{hart_of, is_land, is_own, store_of, land_of, report_of, reported, pending, write_of, landed, opening_word, memory_word}
-use Rattle.step_machine.specs.Paths.{entry_of, value_of, CanMake, state_of, Path}
-use Rattle.step_machine.specs.Legal.{Allowed, Legal, Kept}
-use Rattle.step_machine.specs.Runs.{CanFollow}
-use Rattle.step_machine.specs.Config.{Config, buffer_of, word_at, step_at, step_hart, write_first, after_entry, HasAddress, Fit}
+use Rattle.step_machine.specs.Paths.{entry_of, value_of, state_of}
+use Rattle.step_machine.specs.Legal.{Legal}
+use Rattle.step_machine.specs.Config.{Config, step_at, step_hart}
 use Rattle.step_machine.specs.Ties.{view_state, Tied}
 use Rattle.step_machine.proofs.Appended.{pending-last, landed-last, newest_of-append, reported-last}
 use Rattle.step_machine.proofs.Balanced.{balanced}
@@ -127,6 +126,7 @@ reports_stay M t c h e s tied mine is made k w here = at (k == h) refl
         ∙ ap (λ (d : Entry). x.reports ++ report_of h d) (sym made)
         ∙ ap (λ (rs : List Report). rs ++ report_of h e) (tied.reports h x found)
         ∙ sym (reported-last h t.entries e)
+
     at : (b : Bool) → (k == h) ≡ b → w.reports ≡ reported k (t.entries ++ e ∷ [])
     at true same =
         let k_is : k ≡ h = eqb-true k h same in

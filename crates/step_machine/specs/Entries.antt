@@ -1,6 +1,7 @@
 -- What a list of entries says of a hart, of its pending stores and of memory. Each is read off the
 -- whole list; there is no buffer and no memory here.
-use Rattle.std.specs.Prelude.{ℕ, ◌+◌, ◌/◌, ◌==◌, Bool, true, false, not, ◌&&◌, if◌then◌else◌, List, [], ◌∷◌, ◌++◌, take, drop, slice_index, Option, Some, None, unwrap_or}
+use Rattle.std.specs.Prelude.{ℕ, ◌+◌, ◌/◌, ◌==◌, Bool, true, false, not, ◌&&◌, if◌then◌else◌, List, [], ◌∷◌, ◌++◌, take, drop, slice_index, None, option_to_list, unwrap_or}
+use Rattle.std.specs.List.{slice_get}
 use Rattle.memory.specs.Words.{newest_of}
 use Rattle.hart.specs.declared.need.Report.{Report}
 use Rattle.hart.specs.declared.need.Report.TheVariants as report
@@ -107,6 +108,28 @@ landed_after before (e ∷ es) = write_of before e ++ landed_after (before ++ e 
 -- the writes in the order in which they reached memory
 abbrev pub landed : List Entry → List (ℕ × ℕ)
 landed es = landed_after [] es
+
+-- The same by counting over the whole list: the k-th landing of a hart writes its k-th store. A law
+-- says that the two agree on every legal list.
+abbrev pub write_by_count : List Entry → List Entry → Entry → List (ℕ × ℕ)
+write_by_count whole before (entry.Inner h) = []
+write_by_count whole before (entry.Load h a v) = []
+write_by_count whole before (entry.Store h a v) = []
+write_by_count whole before (entry.Amo h a old new) = (a, new) ∷ []
+write_by_count whole before (entry.Fence h full) = []
+write_by_count whole before (entry.Next h w) = []
+write_by_count whole before (entry.Took h i w) = []
+write_by_count whole before (entry.Closed h i) = []
+write_by_count whole before (entry.Ended h) = []
+write_by_count whole before (entry.Stopped h why) = []
+write_by_count whole before (entry.Land h) = option_to_list (slice_get (stores h whole) (lands h before))
+
+abbrev pub landed_by_count_after : List Entry → List Entry → List Entry → List (ℕ × ℕ)
+landed_by_count_after whole before [] = []
+landed_by_count_after whole before (e ∷ es) = write_by_count whole before e ++ landed_by_count_after whole (before ++ e ∷ []) es
+
+abbrev pub landed_by_count : List Entry → List (ℕ × ℕ)
+landed_by_count es = landed_by_count_after es [] es
 
 -- what the hart reports by this entry
 abbrev pub report_of : ℕ → Entry → List Report

@@ -1,7 +1,7 @@
 -- One hart's path: the states that its own entries lead through, and that each entry is the one that
 -- its state makes. One hart alone: no memory and no other hart is in it, and what its loads and AMOs
 -- read is free.
-use Rattle.std.specs.Prelude.{ℕ, ◌≡◌, ◌<◌, Bool, List, [], ◌∷◌, ◌++◌, Option, Some, None, option_map}
+use Rattle.std.specs.Prelude.{ℕ, ◌≡◌, List, [], ◌∷◌, Option, Some, None, option_map}
 use Rattle.std.specs.List.{slice_get}
 use Rattle.hart.specs.State.{HartState}
 use Rattle.hart.specs.Steps.{first_state, need_of, advanced}
@@ -12,7 +12,7 @@ use Rattle.hart.specs.declared.need.Need.TheVariants as need
 use Rattle.hart.specs.declared.need.Report.TheVariants as report
 use Rattle.step_machine.specs.declared.events.Entry.{Entry}
 use Rattle.step_machine.specs.declared.events.Entry.TheVariants as entry
-use Rattle.step_machine.specs.History.{HartStart, Start, History}
+use Rattle.step_machine.specs.History.{HartStart, History}
 use Rattle.step_machine.specs.Entries.{hart_of, own}
 
 -- the entry by which hart h does what its next instruction wants, when v is the word read

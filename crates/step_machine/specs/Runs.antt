@@ -1,7 +1,7 @@
 -- What a list of events makes of an opening. An event adds the one entry of its kind with which the
 -- whole list stays legal and its hart keeps a path; where there is none it adds nothing, and the
 -- outcome says why.
-use Rattle.std.specs.Prelude.{ℕ, ◌≡◌, ◌==◌, Bool, true, false, List, [], ◌∷◌, Option, Some, None}
+use Rattle.std.specs.Prelude.{ℕ, ◌≡◌, false, List, [], ◌∷◌, Option, Some, None}
 use Rattle.hart.specs.State.{HartState}
 use Rattle.hart.specs.declared.status.Status.{Status}
 use Rattle.hart.specs.declared.status.Status.TheVariants as status

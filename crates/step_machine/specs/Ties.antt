@@ -1,9 +1,8 @@
 -- What the machine holds is what its history says. No public clause names it.
-use Rattle.std.specs.Prelude.{ℕ, ◌≡◌, List, [], ◌∷◌, ◌++◌, Option, Some, option_map, length}
+use Rattle.std.specs.Prelude.{ℕ, ◌≡◌, Some, option_map, length}
 use Rattle.std.specs.List.{slice_get}
 use Rattle.memory.specs.Words.{IsAddress}
 use Rattle.hart.specs.State.{HartState, HartView}
-use Rattle.hart.specs.declared.need.Report.{Report}
 use Rattle.step_machine.specs.History.{History, FitsIn}
 use Rattle.step_machine.specs.Legal.{Kept}
 use Rattle.step_machine.specs.Entries.{pending, memory_word, reported}

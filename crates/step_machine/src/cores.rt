@@ -283,7 +283,11 @@ impl<const B: usize, const M: usize> Cores<B, M> {
     }
 }
 
-fn open_harts(alloc: Global, openings: &[HartOpening], words: usize) -> Result<Vec<Hart>, AllocError>
+fn open_harts(
+    alloc: Global,
+    openings: &[HartOpening],
+    words: usize,
+) -> Result<Vec<Hart>, AllocError>
     requires words { words ≤ 65536 }
     requires code { All (λ o. length o.code ≤ 4096) openings.now }
     ensures { IfOk result (λ harts. harts.items ≡ map (opened_hart words) openings.now) }
@@ -297,7 +301,10 @@ fn open_harts(alloc: Global, openings: &[HartOpening], words: usize) -> Result<V
     Ok(harts)
 }
 
-fn empty_buffers<const B: usize>(alloc: Global, count: usize) -> Result<Vec<StoreBuffer<B>>, AllocError>
+fn empty_buffers<const B: usize>(
+    alloc: Global,
+    count: usize,
+) -> Result<Vec<StoreBuffer<B>>, AllocError>
     requires { B ≤ 64 }
     ensures { IfOk result (λ buffers. buffers.items ≡ replicate count []) }
 {

@@ -15,24 +15,59 @@ pub enum Event {
 #[derive(Clone, Copy, Debug, PartialEq, Eq)]
 pub enum Entry {
     /// An instruction that does nothing of the others.
-    Inner { hart: u32 },
-    Load { hart: u32, addr: u32, value: u32 },
+    Inner {
+        hart: u32,
+    },
+    Load {
+        hart: u32,
+        addr: u32,
+        value: u32,
+    },
     /// A store joined the hart's store buffer.
-    Store { hart: u32, addr: u32, value: u32 },
+    Store {
+        hart: u32,
+        addr: u32,
+        value: u32,
+    },
     /// An AMO replaced the word `old` by `new` in one step.
-    Amo { hart: u32, addr: u32, old: u32, new: u32 },
-    Fence { hart: u32, full: bool },
+    Amo {
+        hart: u32,
+        addr: u32,
+        old: u32,
+        new: u32,
+    },
+    Fence {
+        hart: u32,
+        full: bool,
+    },
     /// The hart asked for its inbox's next word, and got it or learned that there is none.
-    Next { hart: u32, word: Option<u32> },
+    Next {
+        hart: u32,
+        word: Option<u32>,
+    },
     /// The hart reported a word taken from this sender.
-    Took { hart: u32, sender: u32, word: u32 },
+    Took {
+        hart: u32,
+        sender: u32,
+        word: u32,
+    },
     /// The hart reported that this sender has nothing more.
-    Closed { hart: u32, sender: u32 },
+    Closed {
+        hart: u32,
+        sender: u32,
+    },
     /// The exit call.
-    Ended { hart: u32 },
-    Stopped { hart: u32, why: Stop },
+    Ended {
+        hart: u32,
+    },
+    Stopped {
+        hart: u32,
+        why: Stop,
+    },
     /// The hart's oldest pending store reached memory.
-    Land { hart: u32 },
+    Land {
+        hart: u32,
+    },
 }
 
 /// What a step answers.

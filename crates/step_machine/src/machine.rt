@@ -64,6 +64,7 @@ impl<const B: usize, const M: usize> Machine<B, M> {
     /// no error.
     pub fn step(&mut self, event: Event) -> Result<Outcome, AllocError>
         ensures happens { IfOk result (λ o. Happens B M self.old.history event o self.new.history) }
+        ensures opening { self.new.history.opening ≡ self.old.history.opening }
         ensures err { OnErr result (self.new ≡ self.old) }
         ensures reserved { 0 < self.old.room → IsOk result }
         ensures room { self.old.room ≤ self.new.room + 1 }
@@ -80,6 +81,7 @@ impl<const B: usize, const M: usize> Machine<B, M> {
     pub fn run(&mut self, events: &[Event]) -> Result<(), (usize, AllocError)>
         ensures ok { OnOk result (RunFrom B M self.old.history events.now self.new.history) }
         ensures err { IfErr result (λ e. RunFrom B M self.old.history (take e.0 events.now) self.new.history) }
+        ensures opening { self.new.history.opening ≡ self.old.history.opening }
         ensures reserved { length events.now ≤ self.old.room → IsOk result }
     {
         for (done, event) in events.iter().enumerate() {

@@ -1,8 +1,7 @@
 -- The hart in its place, its status and what it needs.
 use Rattle.std.proofs.Common.{◌≡◌, ◌<◌, ◌∙◌, length, get_or, refl, sym, ap, subst, arith, lit<}
-use Rattle.hart.specs.Steps.{need_of}
 use Rattle.hart.specs.declared.status.Status.TheVariants as status
-use Rattle.step_machine.specs.Config.{Config, Fit, IsInRange, IsNext, act_in, act_outcome, outcome_for}
+use Rattle.step_machine.specs.Config.{Config, Fit, IsInRange, IsNext, outcome_for}
 use Rattle.step_machine.proofs.Fitting.{ready_in_place, act_outcome-status}
 use Rattle.step_machine.proofs.cores.Cores.act.Goals as goal
 
@@ -12,7 +11,7 @@ meet-requires g c =
     let here : c.index-here.result.now ≡ get_or c.args.self.now.harts c.args.hart c.index-here.result.now = subst (λ (k : Config). c.index-here.result.now ≡ get_or k.harts c.args.hart c.index-here.result.now) c.self.view_is c.index-here.ensures in
     let fit : Fit g.row.M c.args.self.now = subst (Fit g.row.M) c.self.view_is c.self.invariant.1 in
     let ready : IsNext c.args.self.now c.args.hart c.next_need-need.result × (c.args.hart < length c.args.self.now.harts) × IsInRange g.row.M c.next_need-need.result =
-      ready_in_place g.row.M c.args.self.now c.args.hart c.index-here.result.now c.next_need-need.result within here (sym c.in-Running.ensures) c.next_need-need.ensures c.requires.room fit in
+    ready_in_place g.row.M c.args.self.now c.args.hart c.index-here.result.now c.next_need-need.result within here (sym c.in-Running.ensures) c.next_need-need.ensures c.requires.room fit in
     (lit< tt, (ready.0, (ready.1, ready.2)))
 
 pub returns-in-Running-clause-outcome : goal.returns-in-Running-clause-outcome

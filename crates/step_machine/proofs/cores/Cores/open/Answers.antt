@@ -1,9 +1,7 @@
-use Rattle.std.proofs.Common.{◌≡◌, ◌∙◌, ap, sym, length, replicate, [], drop, ◌++◌, arith}
-use Rattle.std.specs.Prelude.{map}
+use Rattle.std.proofs.Common.{◌≡◌, arith}
 use Rattle.std.proofs.lemmas.Grind.{common_steps}
-use Rattle.step_machine.specs.Opened.{opened_hart}
 use Rattle.step_machine.specs.Config.{Config, opened_config}
-use Rattle.step_machine.proofs.Opens.{fit_held, tied_opened}
+use Rattle.step_machine.proofs.Opens.{fit_held}
 use Rattle.step_machine.proofs.cores.Cores.open.Goals as goal
 
 pub invariant_of-result : goal.invariant_of-result

@@ -11,7 +11,7 @@ returns-in_err-reserve_at-clause-more g c = λ r all.
 pub loop-index-preserved : goal.loop-index-preserved
 loop-index-preserved g c =
     let same : SameButRoom c.loop-index.self c.reserve_at.new.self =
-      same_whichever c.loop-index.self c.reserve_at.new.self c.loop-index.index c.args.n c.reserve_at.result c.reserve_at.ensures.ok c.reserve_at.ensures.err in
+    same_whichever c.loop-index.self c.reserve_at.new.self c.loop-index.index c.args.n c.reserve_at.result c.reserve_at.ensures.ok c.reserve_at.ensures.err in
     record {
       below = room_below_next c.loop-index.self c.reserve_at.new.self c.loop-index.index c.args.n c.in_ok-reserve_at.ensures.ok c.loop-index.invariant.below;
       more = λ r all. more_whichever c.loop-index.self c.reserve_at.new.self c.loop-index.index c.args.n r c.reserve_at.result c.reserve_at.ensures.ok c.reserve_at.ensures.err (c.loop-index.invariant.more r all);

@@ -1,8 +1,5 @@
 -- What the opening gives is sound.
-use Rattle.std.proofs.Common.{sym, subst, arith}
-use Rattle.step_machine.specs.History.{History}
-use Rattle.step_machine.specs.Config.{Config}
-use Rattle.step_machine.specs.Ties.{Sound}
+use Rattle.std.proofs.Common.{arith}
 use Rattle.step_machine.proofs.Sounds.{sound_held}
 use Rattle.step_machine.proofs.machine.Machine.open.Goals as goal
 

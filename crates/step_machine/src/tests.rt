@@ -1,0 +1,434 @@
+//! Runs with entries worked out by hand from the model.
+
+ghost use Rattle.std.specs.Prelude.{◌≤◌};
+
+use crate::events::{Entry, Event, Outcome};
+use crate::machine::Machine;
+use crate::opening::{HartOpening, Opening};
+use hart::need::Report;
+use hart::status::{Status, Stop};
+use std::alloc::{AllocError, Global};
+use std::process::Abort;
+use std::test::Fail;
+
+const SW_X5_X6: u32 = 0x0053_2023; // sw x5,0(x6)
+
+const LW_X7_X8: u32 = 0x0004_2383; // lw x7,0(x8)
+
+/// A hart with these words of code and these registers; all others are 0.
+fn hart(
+    alloc: Global,
+    code: &[u32],
+    settings: &[(u8, u32)],
+    inbox: &[u32],
+) -> Result<HartOpening, AllocError> {
+    let mut registers = [0; 32];
+    for (number, value) in settings {
+        if let Some(register) = registers.get_mut(*number as usize) {
+            *register = *value;
+        }
+    }
+    Ok(HartOpening {
+        code: Vec::from_slice(alloc, code)?,
+        registers,
+        inbox: Vec::from_slice(alloc, inbox)?,
+    })
+}
+
+fn machine<const B: usize>(
+    rt: &(impl Abort + AllocGlobal),
+    harts: Vec<HartOpening>,
+    words: &[u32],
+) -> Result<Machine<B, 4096>, AllocError>
+    requires some { 1 ≤ B }
+    requires capacity { B ≤ 64 }
+{
+    let words = Vec::from_slice(rt.alloc(), words)?;
+    let opening = Opening { harts, words };
+    assert!(rt; opening.fits(4096));
+    Machine::open(rt.alloc(), opening)
+}
+
+/// Store buffering: each hart stores 1 to a word of its own and then loads the other's.
+fn store_buffering(alloc: Global, between: &[u32]) -> Result<Vec<HartOpening>, AllocError> {
+    let mut code = Vec::new(alloc);
+    code.push(SW_X5_X6)?;
+    code.extend_from_slice(between)?;
+    code.push(LW_X7_X8)?;
+    let mut harts = Vec::new(alloc);
+    harts.push(hart(alloc, &code, &[(5, 1), (8, 4)], &[])?)?;
+    harts.push(hart(alloc, &code, &[(5, 1), (6, 4)], &[])?)?;
+    Ok(harts)
+}
+
+fn store(hart: u32, addr: u32, value: u32) -> Outcome {
+    Outcome::Did(Entry::Store { hart, addr, value })
+}
+
+fn load(hart: u32, addr: u32, value: u32) -> Outcome {
+    Outcome::Did(Entry::Load { hart, addr, value })
+}
+
+fn land(hart: u32) -> Outcome {
+    Outcome::Did(Entry::Land { hart })
+}
+
+/// Each event has the outcome beside it.
+fn expect_outcomes<const B: usize>(
+    rt: &impl Abort,
+    machine: &mut Machine<B, 4096>,
+    steps: &[(Event, Outcome)],
+) -> Result<(), AllocError> {
+    for (event, outcome) in steps {
+        assert_eq!(rt; machine.step(*event)?, *outcome, "{event:?}");
+    }
+    Ok(())
+}
+
+const A0: Event = Event::Act(0);
+
+const A1: Event = Event::Act(1);
+
+const L0: Event = Event::Land(0);
+
+const L1: Event = Event::Land(1);
+
+#[test]
+fn both_loads_of_store_buffering_may_read_0(rt: HostRuntime) -> Result<(), Fail> {
+    let harts = store_buffering(rt.alloc(), &[])?;
+    let mut machine = machine::<4>(&rt, harts, &[])?;
+    machine
+        .run(&[A0, A1, A0, A1, L0, L1])
+        .map_err(|error| error.1)?;
+    let wanted = [
+        Entry::Store {
+            hart: 0,
+            addr: 0,
+            value: 1,
+        },
+        Entry::Store {
+            hart: 1,
+            addr: 4,
+            value: 1,
+        },
+        Entry::Load {
+            hart: 0,
+            addr: 4,
+            value: 0,
+        },
+        Entry::Load {
+            hart: 1,
+            addr: 0,
+            value: 0,
+        },
+        Entry::Land { hart: 0 },
+        Entry::Land { hart: 1 },
+    ];
+    assert_eq!(rt; machine.entries(), wanted.as_slice());
+    assert_eq!(rt; machine.harts(), 2);
+    assert_eq!(rt; machine.status(1), Status::Ended);
+    assert_eq!(rt; machine.pc(1), 8);
+    assert_eq!(rt; machine.register(1, 7), 0);
+    assert_eq!(rt; machine.pending(0).len(), 0);
+    assert_eq!(rt; machine.word(4), 1);
+    let trace = machine.trace(rt.alloc())?;
+    assert_eq!(rt; trace.entries.as_slice(), wanted.as_slice());
+    assert_eq!(rt; trace.opening.harts.len(), 2);
+    Ok(())
+}
+
+#[test]
+fn a_full_fence_waits_for_the_buffer(rt: HostRuntime) -> Result<(), Fail> {
+    let harts = store_buffering(rt.alloc(), &[0x0330_000f])?;
+    let mut machine = machine::<4>(&rt, harts, &[])?;
+    expect_outcomes(
+        &rt,
+        &mut machine,
+        &[
+            (A0, store(0, 0, 1)),
+            (A0, Outcome::Waited),
+            (A1, store(1, 4, 1)),
+            (A1, Outcome::Waited),
+            (L0, land(0)),
+            (
+                A0,
+                Outcome::Did(Entry::Fence {
+                    hart: 0,
+                    full: true,
+                }),
+            ),
+            (A0, load(0, 4, 0)),
+            (L1, land(1)),
+            (
+                A1,
+                Outcome::Did(Entry::Fence {
+                    hart: 1,
+                    full: true,
+                }),
+            ),
+            (A1, load(1, 0, 1)),
+        ],
+    )?;
+    Ok(())
+}
+
+#[test]
+fn fence_tso_never_waits(rt: HostRuntime) -> Result<(), Fail> {
+    let harts = store_buffering(rt.alloc(), &[0x8330_000f])?;
+    let mut machine = machine::<4>(&rt, harts, &[])?;
+    expect_outcomes(
+        &rt,
+        &mut machine,
+        &[
+            (A0, store(0, 0, 1)),
+            (
+                A0,
+                Outcome::Did(Entry::Fence {
+                    hart: 0,
+                    full: false,
+                }),
+            ),
+        ],
+    )?;
+    Ok(())
+}
+
+#[test]
+fn a_load_sees_the_newest_of_its_own_stores(rt: HostRuntime) -> Result<(), Fail> {
+    let mut harts = Vec::new(rt.alloc());
+    // sw x5,0(x6); sw x9,0(x6); lw x7,0(x6)
+    let code = [SW_X5_X6, 0x0093_2023, 0x0003_2383];
+    harts.push(hart(rt.alloc(), &code, &[(5, 1), (9, 2)], &[])?)?;
+    // lw x7,0(x6); lw x10,0(x6)
+    harts.push(hart(rt.alloc(), &[0x0003_2383, 0x0003_2503], &[], &[])?)?;
+    let mut machine = machine::<4>(&rt, harts, &[])?;
+    expect_outcomes(
+        &rt,
+        &mut machine,
+        &[
+            (A0, store(0, 0, 1)),
+            (A0, store(0, 0, 2)),
+            (A0, load(0, 0, 2)),
+            (A1, load(1, 0, 0)),
+            (L0, land(0)),
+            (A1, load(1, 0, 1)),
+        ],
+    )?;
+    Ok(())
+}
+
+#[test]
+fn an_amo_waits_and_then_reads_and_writes_at_once(rt: HostRuntime) -> Result<(), Fail> {
+    let mut harts = Vec::new(rt.alloc());
+    // sw x5,4(x6); amoadd.w x10,x11,(x6)
+    let code = [0x0053_2223, 0x00b3_252f];
+    harts.push(hart(rt.alloc(), &code, &[(5, 1), (11, 1)], &[])?)?;
+    let mut machine = machine::<4>(&rt, harts, &[u32::MAX])?;
+    let amo = Entry::Amo {
+        hart: 0,
+        addr: 0,
+        old: u32::MAX,
+        new: 0,
+    };
+    expect_outcomes(
+        &rt,
+        &mut machine,
+        &[
+            (A0, store(0, 4, 1)),
+            (A0, Outcome::Waited),
+            (L0, land(0)),
+            (A0, Outcome::Did(amo)),
+        ],
+    )?;
+    assert_eq!(rt; machine.harts(), 1);
+    assert_eq!(rt; machine.register(0, 10), u32::MAX);
+    assert_eq!(rt; machine.word(0), 0);
+    assert_eq!(rt; machine.word(4), 1);
+    Ok(())
+}
+
+#[test]
+fn a_store_waits_at_a_full_buffer(rt: HostRuntime) -> Result<(), Fail> {
+    let mut harts = Vec::new(rt.alloc());
+    harts.push(hart(rt.alloc(), &[SW_X5_X6, SW_X5_X6], &[(5, 7)], &[])?)?;
+    let mut machine = machine::<1>(&rt, harts, &[])?;
+    expect_outcomes(
+        &rt,
+        &mut machine,
+        &[
+            (A0, store(0, 0, 7)),
+            (A0, Outcome::Waited),
+            (L0, land(0)),
+            (L0, Outcome::NothingToLand),
+            (A0, store(0, 0, 7)),
+            (A0, Outcome::Over),
+            (A1, Outcome::NoHart),
+            (L1, Outcome::NoHart),
+        ],
+    )?;
+    assert_eq!(rt; machine.harts(), 1);
+    assert_eq!(rt; machine.pending(0), [(0, 7)].as_slice());
+    expect_outcomes(&rt, &mut machine, &[(L0, land(0)), (L0, Outcome::Over)])?;
+    Ok(())
+}
+
+#[test]
+fn environment_calls_take_words_and_report(rt: HostRuntime) -> Result<(), Fail> {
+    let mut harts = Vec::new(rt.alloc());
+    // addi x17,x0,N and ecall, for next twice, took, closed and exit
+    let code = [
+        0x0010_0893,
+        0x0000_0073,
+        0x0000_0073,
+        0x0020_0893,
+        0x0000_0073,
+        0x0030_0893,
+        0x0000_0073,
+        0x05d0_0893,
+        0x0000_0073,
+    ];
+    harts.push(hart(rt.alloc(), &code, &[], &[7])?)?;
+    let mut machine = machine::<1>(&rt, harts, &[])?;
+    machine.run(&[A0; 9]).map_err(|error| error.1)?;
+    let inner = Entry::Inner { hart: 0 };
+    let wanted = [
+        inner,
+        Entry::Next {
+            hart: 0,
+            word: Some(7),
+        },
+        Entry::Next {
+            hart: 0,
+            word: None,
+        },
+        inner,
+        Entry::Took {
+            hart: 0,
+            sender: 7,
+            word: 0,
+        },
+        inner,
+        Entry::Closed { hart: 0, sender: 7 },
+        inner,
+        Entry::Ended { hart: 0 },
+    ];
+    assert_eq!(rt; machine.entries(), wanted.as_slice());
+    assert_eq!(rt; machine.harts(), 1);
+    let reports = [
+        Report::Took { sender: 7, word: 0 },
+        Report::Closed { sender: 7 },
+    ];
+    assert_eq!(rt; machine.reports(0), reports.as_slice());
+    assert_eq!(rt; machine.pc(0), 32);
+    Ok(())
+}
+
+/// What the only hart does with its one instruction, in a memory of 4,096 words.
+fn only_entry(
+    rt: &(impl Abort + AllocGlobal),
+    word: u32,
+    settings: &[(u8, u32)],
+) -> Result<Entry, AllocError> {
+    let mut harts = Vec::new(rt.alloc());
+    harts.push(hart(rt.alloc(), &[word], settings, &[])?)?;
+    let mut machine = machine::<4>(rt, harts, &[])?;
+    match machine.step(A0)? {
+        Outcome::Did(entry) => Ok(entry),
+        outcome => panic!(rt; "{outcome:?}"),
+    }
+}
+
+#[test]
+fn a_hart_stops_where_it_cannot_go_on(rt: HostRuntime) -> Result<(), Fail> {
+    let lw = 0x0003_2383; // lw x7,0(x6)
+    let table: [(u32, &[(u8, u32)], Stop); 7] = [
+        (0, &[], Stop::Illegal),
+        (lw, &[(6, 2)], Stop::Misaligned),
+        (lw, &[(6, 16384)], Stop::OutOfRange),
+        (0x0060_02ef, &[], Stop::MisalignedJump), // jal x5,6
+        (0x0003_0283, &[], Stop::SubWord), // lb x5,0(x6)
+        (0x0000_0073, &[(17, 5)], Stop::UnknownCall),
+        (0x0010_0073, &[], Stop::Break),
+    ];
+    for (word, settings, why) in table {
+        assert_eq!(rt;
+            only_entry(&rt, word, settings)?,
+            Entry::Stopped { hart: 0, why }
+        );
+    }
+    Ok(())
+}
+
+#[test]
+fn a_jump_past_the_code_stops_at_its_target(rt: HostRuntime) -> Result<(), Fail> {
+    let mut harts = Vec::new(rt.alloc());
+    harts.push(hart(rt.alloc(), &[0x0080_006f], &[], &[])?)?; // jal x0,8
+    harts.push(hart(rt.alloc(), &[0x0040_006f], &[], &[])?)?; // jal x0,4
+    let mut machine = machine::<4>(&rt, harts, &[])?;
+    let stopped = Entry::Stopped {
+        hart: 0,
+        why: Stop::NoCode,
+    };
+    expect_outcomes(
+        &rt,
+        &mut machine,
+        &[
+            (A0, Outcome::Did(Entry::Inner { hart: 0 })),
+            (A0, Outcome::Did(stopped)),
+            (A0, Outcome::Over),
+            (A1, Outcome::Did(Entry::Inner { hart: 1 })),
+            (A1, Outcome::Over),
+        ],
+    )?;
+    assert_eq!(rt; machine.harts(), 2);
+    assert_eq!(rt; machine.pc(0), 8);
+    assert_eq!(rt; machine.status(1), Status::Ended);
+    Ok(())
+}
+
+#[test]
+fn steps_within_reserved_room_succeed(rt: HostRuntime) -> Result<(), Fail> {
+    let harts = store_buffering(rt.alloc(), &[])?;
+    let first = Opening {
+        harts,
+        words: Vec::new(rt.alloc()),
+    };
+    let opening = first.copy(rt.alloc())?;
+    assert!(rt; opening.fits(4096));
+    let mut machine = Machine::<4, 4096>::open(rt.alloc(), opening)?;
+    machine.reserve(6)?;
+    machine.run(&[A0, A1, A0, A1, L0, L1]).unwrap();
+    assert_eq!(rt; machine.entries().len(), 6);
+    assert_eq!(rt; machine.opening().harts.len(), 2);
+    assert_eq!(rt; machine.word(0), 1);
+    Ok(())
+}
+
+#[test]
+fn an_opening_past_the_limits_does_not_fit(rt: HostRuntime) -> Result<(), Fail> {
+    let none = Opening {
+        harts: Vec::new(rt.alloc()),
+        words: Vec::new(rt.alloc()),
+    };
+    assert!(rt; !none.fits(4096));
+    let mut harts = Vec::new(rt.alloc());
+    for _ in 0..64 {
+        harts.push(hart(rt.alloc(), &[], &[], &[])?)?;
+    }
+    let mut most = Opening {
+        harts,
+        words: vec![in rt.alloc(); 0; 2]?,
+    };
+    assert!(rt; most.fits(2));
+    assert!(rt; !most.fits(1));
+    most.harts.push(hart(rt.alloc(), &[], &[], &[])?)?;
+    assert!(rt; !most.fits(2));
+    let mut long = Vec::new(rt.alloc());
+    long.push(hart(rt.alloc(), &[0; 4097], &[], &[])?)?;
+    let long = Opening {
+        harts: long,
+        words: Vec::new(rt.alloc()),
+    };
+    assert!(rt; !long.fits(4096));
+    Ok(())
+}

@@ -1,0 +1,35 @@
+-- Lists made number by number.
+use Rattle.std.proofs.Common.{◌≡◌, ℕ, zero, suc, ◌+◌, List, [], ◌∷◌, ◌++◌, refl, sym, ap, ◌∙◌, append_assoc, arith, Result, Ok, Err}
+use Rattle.std.specs.Prelude.{OnOk}
+use Rattle.std.specs.List.{flat_map, range_with_len}
+use Rattle.std.proofs.lemmas.List.{append-nil}
+
+flat_map_from : (f : ℕ → List ℕ) (a n : ℕ) → flat_map f (range_with_len a (suc n)) ≡ flat_map f (range_with_len a n) ++ f (a + n)
+flat_map_from f a zero = append-nil (f a) ∙ ap f (let e : a ≡ a + 0 = omega arith in e)
+flat_map_from f a (suc n) =
+    ap (λ (xs : List ℕ). f a ++ xs) (flat_map_from f (a + 1) n)
+    ∙ sym (append_assoc (f a) (flat_map f (range_with_len (a + 1) n)) (f (a + 1 + n)))
+    ∙ ap (λ (k : ℕ). (f a ++ flat_map f (range_with_len (a + 1) n)) ++ f k) (let e : a + 1 + n ≡ a + suc n = omega arith in e)
+
+-- one number more
+pub flat_map_counted : (f : ℕ → List ℕ) (n : ℕ) → flat_map f (range_with_len 0 (n + 1)) ≡ flat_map f (range_with_len 0 n) ++ f n
+flat_map_counted f n =
+    let more : n + 1 ≡ suc n = omega arith in
+    let same : 0 + n ≡ n = omega arith in
+    ap (λ (k : ℕ). flat_map f (range_with_len 0 k)) more ∙ flat_map_from f 0 n ∙ ap (λ (k : ℕ). flat_map f (range_with_len 0 n) ++ f k) same
+
+-- ---- a text to which line by line is added
+
+-- nothing yet
+pub none_added : (old shown : List ℕ) → shown ≡ [] → old ≡ old ++ shown
+none_added old shown none = sym (append-nil old) ∙ ap (λ (xs : List ℕ). old ++ xs) (sym none)
+
+-- one line more
+pub one_added : (old mid new shown more line : List ℕ) → mid ≡ old ++ shown → new ≡ mid ++ line → more ≡ shown ++ line → new ≡ old ++ more
+one_added old mid new shown more line before added is =
+    added ∙ ap (λ (xs : List ℕ). xs ++ line) before ∙ append_assoc old shown line ∙ ap (λ (xs : List ℕ). old ++ xs) (sym is)
+
+-- two parts, the second of which may fail
+pub two_added : {E : Type 0} (r : Result (Unit {0}) E) (old mid new first second both : List ℕ) → mid ≡ old ++ first → OnOk r (new ≡ mid ++ second) → both ≡ first ++ second → OnOk r (new ≡ old ++ both)
+two_added (Ok x) old mid new first second both before added is = one_added old mid new first both second before added is
+two_added (Err e) old mid new first second both before added is = tt

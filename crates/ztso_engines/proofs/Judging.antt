@@ -1,0 +1,42 @@
+-- An input that is judged.
+use Rattle.std.proofs.Common.{◌≡◌, ℕ, ◌≤◌, Bool, true, false, cond, ltb, List, length, Result, Ok, Err, refl, ◌∙◌, inl, inr}
+use Rattle.std.specs.Str.{IsUtf8, is_utf8}
+use Rattle.std.proofs.lemmas.Bool.{cases_Bool, le-ltb, ltb-false}
+use Rattle.std.proofs.lemmas.Str.{IsUtf8-from_is_utf8, is_utf8-from_IsUtf8}
+use Rattle.ztso_engines.specs.declared.fault.Refusal.{Refusal}
+use Rattle.ztso_engines.specs.Faults.{too_large, not_text}
+use Rattle.ztso_engines.specs.Engines.{Accepted, judged}
+use Rattle.ztso_engines.specs.Script.{Told}
+use Rattle.ztso_engines.specs.StepsText.{Tells}
+use Rattle.ztso_engines.specs.StepsReading.{script_at}
+use Rattle.ztso_engines.proofs.Telling.{text_told, text_read}
+use Rattle.texts.proofs.ResultLaws.{guard_err}
+
+-- a text within the limit is judged by its own rules
+pub judged_text : {V : Type 0} (value_at : List ℕ → Result V Refusal) (input : List ℕ) → length input ≤ 1048576 → IsUtf8 input → judged value_at input ≡ value_at input
+judged_text value_at input few text = rw (le-ltb 1048576 (length input) few, is_utf8-from_IsUtf8 input text) refl
+
+-- and what is no text is refused as such
+pub judged_no_text : {V : Type 0} (value_at : List ℕ → Result V Refusal) (input : List ℕ) → length input ≤ 1048576 → (IsUtf8 input → ⊥) → judged value_at input ≡ Err not_text
+judged_no_text value_at input few none =
+    elim (cases_Bool (is_utf8 input)) [
+      | inl text ↦ absurd (none (IsUtf8-from_is_utf8 input text))
+      | inr no_text ↦ rw (le-ltb 1048576 (length input) few, no_text) refl
+    ]
+
+-- what is judged well is a text within the limit, and well by its own rules
+pub judged_well : {V : Type 0} (value_at : List ℕ → Result V Refusal) (input : List ℕ) (v : V) → judged value_at input ≡ Ok v → (length input ≤ 1048576) × IsUtf8 input × (value_at input ≡ Ok v)
+judged_well value_at input v e =
+    let within = guard_err (ltb 1048576 (length input)) too_large (cond (is_utf8 input) (value_at input) (Err not_text)) v e in
+    elim (cases_Bool (is_utf8 input)) [
+      | inl text ↦ (ltb-false 1048576 (length input) within.0, IsUtf8-from_is_utf8 input text, rw text at within.1)
+      | inr no_text ↦ absurd (let f = rw no_text at within.1 in cc)
+    ]
+
+pub accepted_script : (M : ℕ) (input : List ℕ) (told : Told) → judged (script_at M) input ≡ Ok told → Accepted (Tells M) input told
+accepted_script M input told e =
+    let well = judged_well (script_at M) input told e in
+    record { few = well.0; text = well.1; value_is = text_told M input told well.2 }
+
+pub accepted_judged : (M : ℕ) (input : List ℕ) (told : Told) → Accepted (Tells M) input told → judged (script_at M) input ≡ Ok told
+accepted_judged M input told accepted = judged_text (script_at M) input accepted.few accepted.text ∙ text_read M input told accepted.value_is

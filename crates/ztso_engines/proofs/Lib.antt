@@ -1,0 +1,10 @@
+pub mod WordLaws
+pub mod Registers
+pub mod NumberWords
+pub mod Lines
+pub mod Telling
+pub mod Limits
+pub mod Answered
+pub mod Counted
+pub mod StateLines
+pub mod Judging

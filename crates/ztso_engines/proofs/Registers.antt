@@ -1,0 +1,23 @@
+-- A register set in a list of harts.
+use Rattle.std.proofs.Common.{◌≡◌, ℕ, zero, suc, ◌<◌, ◌≤◌, Bool, false, ◌||◌, cond, eqb, leb, List, [], ◌∷◌, length, get_or, set, Result, Ok, Err, refl, sym, ap, ◌∙◌, arith}
+use Rattle.std.proofs.lemmas.Bool.{lt-leb, ne_eqb, or_from, cond-false}
+use Rattle.texts.specs.Results.{◌>>=◌}
+use Rattle.step_machine.specs.History.{HartStart}
+use Rattle.ztso_engines.specs.Script.{register_set}
+use Rattle.ztso_engines.specs.StepsReading.{bad_line, three_numbers, with_register}
+
+-- the hart x, with v in register n
+abbrev pub with_value : HartStart → (n v : ℕ) → HartStart
+with_value x n v = record x { registers = set x.registers n v }
+
+pub register_set_is : (harts : List HartStart) (h n v : ℕ) (x : HartStart) → h < length harts → x ≡ get_or harts h x → register_set harts h n v ≡ set harts h (with_value x n v)
+register_set_is [] h n v x lt e = absurd (omega arith)
+register_set_is (first ∷ others) zero n v x lt e = ap (λ (y : HartStart). with_value y n v ∷ others) (sym e)
+register_set_is (first ∷ others) (suc h) n v x lt e = ap (λ (ys : List HartStart). first ∷ ys) (register_set_is others h n v x (omega arith) e)
+
+pub with_register_done : (harts : List HartStart) (text : List (List ℕ)) (h n v : ℕ) (x : HartStart)
+    → three_numbers text ≡ Ok (h, n, v) → h < length harts → (n ≡ 0 → ⊥) → n < 32 → x ≡ get_or harts h x → with_register harts text ≡ Ok (set harts h (with_value x n v))
+unfolding with_register
+with_register_done harts text h n v x said lt some below e =
+    let within : (leb (length harts) h || eqb n 0 || leb 32 n) ≡ false = or_from _ _ (or_from _ _ (lt-leb (length harts) h lt) (ne_eqb n 0 some)) (lt-leb 32 n below) in
+    rw (said, within) (ap (λ (ys : List HartStart). Ok ys) (register_set_is harts h n v x lt e))

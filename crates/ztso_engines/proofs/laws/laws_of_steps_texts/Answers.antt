@@ -1,0 +1,12 @@
+use Rattle.ztso_engines.proofs.Telling.{text_told, text_read, one_told}
+use Rattle.ztso_engines.proofs.Judging.{accepted_script, accepted_judged}
+use Rattle.ztso_engines.proofs.laws.laws_of_steps_texts.Goals as goal
+
+pub returns-clause-read : goal.returns-clause-read
+returns-clause-read c = λ M text told. (text_told M text told, text_read M text told)
+
+pub returns-clause-one : goal.returns-clause-one
+returns-clause-one c = one_told
+
+pub returns-clause-judged : goal.returns-clause-judged
+returns-clause-judged c = λ M input told. (accepted_script M input told, accepted_judged M input told)

@@ -1,0 +1,10 @@
+pub mod Faults
+pub mod Input
+pub mod Words
+pub mod Script
+pub mod StepsText
+pub mod StepsReading
+pub mod Told
+pub mod StateText
+pub mod Engines
+pub mod Steps

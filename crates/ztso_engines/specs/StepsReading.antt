@@ -1,0 +1,156 @@
+-- Reading a steps text from the top, with the first fault that is met. A line's fault is the number of
+-- its refusal.
+use Rattle.std.specs.Prelude.{ℕ, ◌≡◌, ◌+◌, ◌*◌, ◌/◌, ◌%◌, ◌==◌, nat_lt, nat_le, ◌||◌, ◌&&◌, not, if◌then◌else◌, List, [], ◌∷◌, ◌++◌, length, slice_set, Option, None, Some, Result, Ok, Err, codes}
+use Rattle.std.specs.Str.{bytes_eq}
+use Rattle.std.specs.Str.Lines.{lines}
+use Rattle.texts.specs.Numbers.{word_of, hex_word_of}
+use Rattle.texts.specs.Results.{◌>>=◌}
+use Rattle.step_machine.specs.History.{HartStart}
+use Rattle.step_machine.specs.declared.events.Event.{Event}
+use Rattle.recorder.specs.declared.faults.ScheduleFault.{ScheduleFault}
+use Rattle.recorder.specs.declared.faults.ScheduleError.{ScheduleError}
+use Rattle.recorder.specs.declared.faults.ScheduleError.TheVariants as error
+use Rattle.recorder.specs.Faults.{number_of}
+use Rattle.recorder.specs.Reading.{tokens_after}
+use Rattle.ztso_engines.specs.declared.fault.Refusal.{Refusal}
+use Rattle.ztso_engines.specs.declared.fault.Place.TheVariants.{Nowhere, Line}
+use Rattle.ztso_engines.specs.declared.script.Keyword.{Keyword}
+use Rattle.ztso_engines.specs.declared.script.Keyword.TheVariants as keyword
+use Rattle.ztso_engines.specs.declared.script.LineFault.{LineFault}
+use Rattle.ztso_engines.specs.declared.script.LineFault.TheVariants.{NoMemory, Refused}
+use Rattle.ztso_engines.specs.Words.{words, first_cut}
+use Rattle.ztso_engines.specs.Script.{Told, untold, fresh, register_set}
+
+-- the number in a line's fault; memory that ran out has none
+abbrev pub number_in : LineFault → Option ℕ
+number_in NoMemory = None
+number_in (Refused number) = Some number
+
+-- a fault of tokens as a line's fault
+abbrev pub tokens_fault : ScheduleError → LineFault
+tokens_fault error.NoMemory = NoMemory
+tokens_fault (error.Refused refused place) = Refused (number_of refused)
+
+abbrev pub bad_line : ℕ
+bad_line = 34
+
+abbrev pub or_bad : {A : Type 0} → Option A → Result A ℕ
+or_bad None = Err bad_line
+or_bad (Some x) = Ok x
+
+-- ---- the words behind a keyword
+
+-- the instruction words that all of the words say
+unfoldable pub code_at : List (List ℕ) → Result (List ℕ) ℕ
+code_at [] = Ok []
+code_at (digits ∷ others) = do
+  instruction ← or_bad (hex_word_of digits)
+  code ← code_at others
+  Ok (instruction ∷ code)
+
+-- the number that the first word says, and the words behind it
+unfoldable pub number_at : List (List ℕ) → Result (ℕ × List (List ℕ)) ℕ
+number_at [] = Err bad_line
+number_at (digits ∷ others) = do
+  number ← or_bad (word_of digits)
+  Ok (number, others)
+
+-- a value behind which no word is left
+abbrev pub with_no_more : {A : Type 0} → A → List (List ℕ) → Result A ℕ
+with_no_more x [] = Ok x
+with_no_more x (digits ∷ others) = Err bad_line
+
+unfoldable pub two_numbers : List (List ℕ) → Result (ℕ × ℕ) ℕ
+two_numbers text = do
+  a ← number_at text
+  b ← number_at a.1
+  with_no_more (a.0, b.0) b.1
+
+unfoldable pub three_numbers : List (List ℕ) → Result (ℕ × ℕ × ℕ) ℕ
+three_numbers text = do
+  a ← number_at text
+  bc ← two_numbers a.1
+  Ok (a.0, bc.0, bc.1)
+
+-- ---- what a line changes
+
+unfoldable pub with_hart : List HartStart → List (List ℕ) → Result (List HartStart) ℕ
+with_hart harts text = do
+  code ← code_at text
+  if nat_le 64 (length harts) || nat_lt 4096 (length code) then Err bad_line else Ok (harts ++ fresh code ∷ [])
+
+unfoldable pub with_register : List HartStart → List (List ℕ) → Result (List HartStart) ℕ
+with_register harts text = do
+  said ← three_numbers text
+  if nat_le (length harts) said.0 || (said.1 == 0) || nat_le 32 said.1 then Err bad_line else Ok (register_set harts said.0 said.1 said.2)
+
+unfoldable pub with_word : List ℕ → List (List ℕ) → Result (List ℕ) ℕ
+with_word memory text = do
+  said ← two_numbers text
+  if not (said.0 % 4 == 0) || nat_le (length memory) (said.0 / 4) then Err bad_line else Ok (slice_set memory (said.0 / 4) said.1)
+
+-- a fault of tokens, by its number
+abbrev pub numbered : {A : Type 0} → Result A (ScheduleFault × ℕ) → Result A ℕ
+numbered (Ok x) = Ok x
+numbered (Err refused) = Err (number_of refused.0)
+
+unfoldable pub with_steps : List Event → List ℕ → Result (List Event) ℕ
+with_steps events text = do
+  more ← numbered (tokens_after (length events) text)
+  Ok (events ++ more)
+
+-- ---- a line
+
+abbrev pub keyword_named : List ℕ → Option Keyword
+keyword_named name =
+  if bytes_eq name (codes "hart") then Some keyword.Hart else
+  (if bytes_eq name (codes "reg") then Some keyword.Register else
+  (if bytes_eq name (codes "word") then Some keyword.Word else
+  (if bytes_eq name (codes "steps") then Some keyword.Steps else None)))
+
+abbrev pub by_keyword : Told → Option Keyword → List ℕ → Result Told ℕ
+by_keyword t None rest = Err bad_line
+by_keyword t (Some keyword.Hart) rest = do
+  harts ← with_hart t.harts (words rest)
+  Ok (record t { harts = harts })
+by_keyword t (Some keyword.Register) rest = do
+  harts ← with_register t.harts (words rest)
+  Ok (record t { harts = harts })
+by_keyword t (Some keyword.Word) rest = do
+  memory ← with_word t.words (words rest)
+  Ok (record t { words = memory })
+by_keyword t (Some keyword.Steps) rest = do
+  events ← with_steps t.events rest
+  Ok (record t { events = events })
+
+abbrev pub by_cut : Told → Option (List ℕ × List ℕ) → Result Told ℕ
+by_cut t None = Ok t
+by_cut t (Some cut) = by_keyword t (keyword_named cut.0) cut.1
+
+-- what is told behind one more line; a line without a word tells nothing
+unfoldable pub after_line : Told → List ℕ → Result Told ℕ
+after_line t line = by_cut t (first_cut line)
+
+-- ---- a text
+
+-- a line's fault is refused at the line
+abbrev pub at_line : {A : Type 0} → ℕ → Result A ℕ → Result A Refusal
+at_line number (Ok x) = Ok x
+at_line number (Err refused) = Err (record { number = refused; place = Line number })
+
+-- what is told behind these lines, the first of which has this number
+unfoldable pub after_lines : Told → (number : ℕ) → List (List ℕ) → Result Told Refusal
+after_lines t number [] = Ok t
+after_lines t number (line ∷ others) = do
+  next ← at_line number (after_line t line)
+  after_lines next (number + 1) others
+
+-- a text without a hart is refused as a whole, where no line is
+abbrev pub with_some_hart : Told → Result Told Refusal
+with_some_hart t = if length t.harts == 0 then Err (record { number = bad_line; place = Nowhere }) else Ok t
+
+-- what a steps text tells of a machine with M words, or its first fault
+unfoldable pub script_at : (M : ℕ) → List ℕ → Result Told Refusal
+script_at M text = do
+  told ← after_lines (untold M) 1 (lines text)
+  with_some_hart told

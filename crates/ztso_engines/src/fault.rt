@@ -1,0 +1,114 @@
+//! Why a command ends without its output.
+
+ghost use Rattle.std.specs.Prelude.{◌≡◌};
+ghost use Rattle.ztso_engines.specs.Faults.{status_of};
+ghost use Rattle.ztso_engines.specs.declared.fault.Fault.TheVariants.{NoMemory};
+
+use std::alloc::{AllocError, AllocFailed};
+use std::fmt;
+use thiserror::Error;
+
+/// A line that no rule of its text allows, or a text that lacks a line.
+pub const BAD_LINE: u8 = 34;
+/// An input that isn't UTF-8.
+pub const NOT_TEXT: u8 = 36;
+/// An input of more than [`crate::input::INPUT_BYTES`] bytes.
+pub const TOO_LARGE: u8 = 37;
+
+/// Where an input was refused.
+#[derive(Clone, Copy, Debug, PartialEq, Eq)]
+pub enum Place {
+    /// The input as a whole.
+    Nowhere,
+    /// A line, counted from 1.
+    Line(usize),
+    /// A byte, counted from 0.
+    Byte(usize),
+}
+
+impl fmt::Display for Place {
+    fn fmt<W: fmt::Write>(&self, f: &mut fmt::Formatter<W>) -> fmt::Result {
+        match self {
+            Place::Nowhere => Ok(()),
+            Place::Line(line) => write!(f, " at line {line}"),
+            Place::Byte(byte) => write!(f, " at byte {byte}"),
+        }
+    }
+}
+
+/// A refused input: the refusal's number, and where it was refused.
+#[derive(Clone, Copy, Debug, PartialEq, Eq, Error)]
+#[error("refused {number}{place}")]
+pub struct Refusal {
+    pub number: u8,
+    pub place: Place,
+}
+
+/// Why a command failed.
+#[derive(Clone, Copy, Debug, PartialEq, Eq, Error)]
+pub enum Fault {
+    /// A reader failed.
+    #[error("read failed")]
+    ReadFailed,
+    /// The writer failed. Nothing is said of what it had taken by then.
+    #[error("write failed")]
+    WriteFailed,
+    /// A growth was refused.
+    #[error("no memory")]
+    NoMemory,
+    /// An input was refused.
+    #[error(transparent)]
+    Refused(Refusal),
+}
+
+impl Fault {
+    /// The exit status of a program that ends with this fault.
+    pub fn status(&self) -> u8
+        ensures { result ≡ status_of self.now }
+    {
+        match self {
+            Fault::Refused(_) => 2,
+            Fault::ReadFailed | Fault::WriteFailed => 3,
+            Fault::NoMemory => 4,
+        }
+    }
+}
+
+impl From<AllocError> for Fault {
+    ghost from_gives = { λ _ e. e ≡ NoMemory };
+
+    fn from(_error: AllocError) -> Fault {
+        Fault::NoMemory
+    }
+}
+
+impl<T: Drop> From<AllocFailed<T>> for Fault {
+    ghost from_gives = { λ _ e. e ≡ NoMemory };
+
+    fn from(_error: AllocFailed<T>) -> Fault {
+        Fault::NoMemory
+    }
+}
+
+#[cfg(test)]
+mod tests {
+    use super::*;
+    use std::test::Fail;
+
+    #[test]
+    fn faults_are_told(rt: HostRuntime) -> Result<(), Fail> {
+        let refused = |number, place| Fault::Refused(Refusal { number, place });
+        for (fault, text, status) in [
+            (Fault::ReadFailed, "read failed", 3),
+            (Fault::WriteFailed, "write failed", 3),
+            (Fault::NoMemory, "no memory", 4),
+            (refused(37, Place::Nowhere), "refused 37", 2),
+            (refused(34, Place::Line(3)), "refused 34 at line 3", 2),
+            (refused(28, Place::Byte(16)), "refused 28 at byte 16", 2),
+        ] {
+            assert_eq!(rt; fault.to_string(rt.alloc())?.as_str(), text);
+            assert_eq!(rt; fault.status(), status);
+        }
+        Ok(())
+    }
+}

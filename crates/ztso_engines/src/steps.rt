@@ -1,0 +1,93 @@
+//! The command `steps`: a steps text in, the state text of its run out.
+
+ghost use Rattle.std.specs.Prelude.{◌≡◌, ◌≤◌, length, IfOk, MatchResult, vec_len};
+ghost use Rattle.std.specs.String.{string_bytes};
+ghost use Rattle.step_machine.specs.History.{FitsIn};
+ghost use Rattle.step_machine.specs.Runs.{Run};
+ghost use Rattle.ztso_engines.specs.Faults.{Answers, AnswersAs};
+ghost use Rattle.ztso_engines.specs.Engines.{EndsBy, judged};
+ghost use Rattle.ztso_engines.specs.Script.{opening_of};
+ghost use Rattle.ztso_engines.specs.Told.{told_by};
+ghost use Rattle.ztso_engines.specs.StepsReading.{script_at};
+ghost use Rattle.ztso_engines.specs.Steps.{IsStepsAnswer};
+
+use crate::fault::Fault;
+use crate::input::{read_input, text_of};
+use crate::script::{Script, read_script};
+use crate::state_text::state_text;
+use std::alloc::Global;
+use std::io::{Read, Write};
+use step_machine::{Machine, Opening};
+
+/// What an input tells.
+#[tactic(auto, using(crate::proofs::Judging::judged_text, crate::proofs::Judging::judged_no_text))]
+fn script_of_input<const M: usize>(alloc: Global, input: &[u8]) -> Result<Script, Fault>
+    requires { length input.now ≤ 1048576 }
+    ensures exact { Answers told_by result (judged (script_at M) input.now) }
+    ensures fits { IfOk result (λ script. FitsIn M (opening_of (told_by script))) }
+{
+    read_script::<M>(alloc, text_of(input)?)
+}
+
+/// The machine behind the run of a script.
+fn machine_after<const B: usize, const M: usize>(
+    alloc: Global,
+    script: Script,
+) -> Result<Machine<B, M>, Fault>
+    requires some_capacity { 1 ≤ B }
+    requires capacity { B ≤ 64 }
+    requires some_word { 1 ≤ M }
+    requires size { M ≤ 65536 }
+    requires fits { FitsIn M (opening_of (told_by script)) }
+    ensures { MatchResult result (λ machine. Run B M (opening_of (told_by script)) (told_by script).events machine.history) (λ fault. fault ≡ Fault.NoMemory) }
+{
+    let Script {
+        harts,
+        words,
+        events,
+    } = script;
+    let mut machine = Machine::<B, M>::open(alloc, Opening { harts, words })?;
+    match machine.run(&events) {
+        Ok(()) => Ok(machine),
+        Err(_) => Err(Fault::NoMemory),
+    }
+}
+
+/// The state text behind the run of an input. The input is let go before the run.
+fn answer<const B: usize, const M: usize>(alloc: Global, input: Vec<u8>) -> Result<String, Fault>
+    requires some_capacity { 1 ≤ B }
+    requires capacity { B ≤ 64 }
+    requires some_word { 1 ≤ M }
+    requires size { M ≤ 65536 }
+    requires few { vec_len input ≤ 1048576 }
+    ensures { AnswersAs (IsStepsAnswer B M input.items) string_bytes result }
+{
+    let script = script_of_input::<M>(alloc, &input)?;
+    drop(input);
+    let machine = machine_after::<B, M>(alloc, script)?;
+    Ok(state_text(alloc, &machine)?)
+}
+
+/// Reads a steps text to its end, runs what it tells with store buffers of `B` pairs and `M` words of
+/// memory, and writes the state text.
+///
+/// An input is refused as too large ([`TOO_LARGE`]), else as no text ([`NOT_TEXT`]), else as
+/// [`read_script`] says, and then nothing was written.
+pub fn steps_engine<const B: usize, const M: usize, R: Read, W: Write>(
+    alloc: Global,
+    reader: &mut R,
+    writer: &mut W,
+) -> Result<(), Fault>
+    requires some_capacity { 1 ≤ B }
+    requires capacity { B ≤ 64 }
+    requires some_word { 1 ≤ M }
+    requires size { M ≤ 65536 }
+    ensures { EndsBy (IsStepsAnswer B M) result (R.remaining reader.old) (W.contents writer.old) (W.contents writer.new) }
+{
+    let input = read_input(alloc, reader)?;
+    let out = answer::<B, M>(alloc, input)?;
+    writer
+        .write_all(out.as_bytes())
+        .map_err(|_| Fault::WriteFailed)?;
+    writer.flush().map_err(|_| Fault::WriteFailed)
+}
