@@ -1,7 +1,6 @@
--- How each job ends.
-use Rattle.std.specs.Prelude.{ℕ, List, Option, Result}
-use Rattle.ztso_engines.specs.declared.fault.Fault.{Fault}
-use Rattle.ztso_engines.specs.Engines.{EndsBy}
+-- What answers a job's input.
+use Rattle.std.specs.Prelude.{ℕ, List, Result}
+use Rattle.ztso_engines.specs.declared.fault.Refusal.{Refusal}
 use Rattle.ztso_engines.specs.Steps.{IsStepsAnswer}
 use Rattle.ztso.specs.declared.command_line.Capacity.{Capacity}
 use Rattle.ztso.specs.declared.command_line.Capacity.TheVariants.{One, Two, Four, Sixteen}
@@ -15,6 +14,6 @@ stores_of Two = 2
 stores_of Four = 4
 stores_of Sixteen = 16
 
--- what a job reads, refuses and writes; the program's memory has 4,096 words
-abbrev pub JobEndsBy : Job → Result (Unit {0}) Fault → (input old new : Option (List ℕ)) → Type 0
-JobEndsBy (Steps capacity) = EndsBy (IsStepsAnswer (stores_of capacity) 4096)
+-- the output for an input, or its refusal; the program's memory has 4,096 words
+abbrev pub IsAnswerTo : Job → List ℕ → Result (List ℕ) Refusal → Type 0
+IsAnswerTo (Steps capacity) = IsStepsAnswer (stores_of capacity) 4096

@@ -1,6 +1,7 @@
 //! Which engine does a job.
 
-ghost use Rattle.ztso.specs.Work.{JobEndsBy};
+ghost use Rattle.ztso.specs.Work.{IsAnswerTo};
+ghost use Rattle.ztso_engines.specs.Engines.{EndsBy};
 
 use crate::command_line::{Capacity, Job};
 use std::alloc::Global;
@@ -18,7 +19,7 @@ pub fn do_job<R: Read, W: Write>(
     reader: &mut R,
     writer: &mut W,
 ) -> Result<(), Fault>
-    ensures { JobEndsBy job result (R.remaining reader.old) (W.contents writer.old)
+    ensures { EndsBy (IsAnswerTo job) result (R.remaining reader.old) (W.contents writer.old)
         (W.contents writer.new) }
 {
     match job {
