@@ -46,13 +46,13 @@ fn push_register_line(out: &mut String, number: u8, value: u32) -> Result<(), Al
     writeln!(out, "x{number} = {value}")
 }
 
-fn push_word_line(out: &mut String, addr: u32, value: u32) -> Result<(), AllocError>
-    ensures { OnOk result (string_bytes out.new ≡ string_bytes out.old ++ word_line addr value) }
+fn push_word_line(out: &mut String, addr: u32, word: u32) -> Result<(), AllocError>
+    ensures { OnOk result (string_bytes out.new ≡ string_bytes out.old ++ word_line addr word) }
 {
-    if value == 0 {
+    if word == 0 {
         return Ok(());
     }
-    writeln!(out, "word {addr} = {value}")
+    writeln!(out, "word {addr} = {word}")
 }
 
 /// The lines of a hart's registers.

@@ -69,7 +69,8 @@ fn answer<const B: usize, const M: usize>(alloc: Global, input: Vec<u8>) -> Resu
     let script = script_of_input::<M>(alloc, &input)?;
     drop(input);
     let machine = machine_after::<B, M>(alloc, script)?;
-    Ok(state_text(alloc, &machine)?)
+    let text = state_text(alloc, &machine)?;
+    Ok(text)
 }
 
 /// Reads a steps text to its end, runs what it tells with store buffers of `B` pairs and `M` words of

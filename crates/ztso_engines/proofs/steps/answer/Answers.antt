@@ -6,5 +6,5 @@ pub returns : goal.returns
 returns g c = (
   told_by c.in_ok-script.script,
   accepted_script g.row.M c.args.input.items (told_by c.in_ok-script.script) (rw c.deref.ensures.value at c.in_ok-script.ensures.exact),
-  record { history = c.in_ok-machine.machine.history; ran = c.in_ok-machine.ensures; is_shown = c.in_ok-state_text.ensures },
+  record { history = c.in_ok-machine.machine.history; ran = c.in_ok-machine.ensures; is_shown = c.in_ok-text.ensures },
 )
