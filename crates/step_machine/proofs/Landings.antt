@@ -36,8 +36,8 @@ counted_after B o before [] l = refl
 counted_after B o before (e ∷ es) l =
     ap (λ (ps : List (ℕ × ℕ)). ps ++ landed_after (before ++ e ∷ []) es) (write_counted B o before e es l.0)
     ∙ ap (λ (ps : List (ℕ × ℕ)). write_by_count (before ++ e ∷ es) before e ++ ps)
-      (counted_after B o (before ++ e ∷ []) es l.1
-      ∙ ap (λ (whole : List Entry). landed_by_count_after whole (before ++ e ∷ []) es) (append_assoc before (e ∷ []) es))
+    (counted_after B o (before ++ e ∷ []) es l.1
+    ∙ ap (λ (whole : List Entry). landed_by_count_after whole (before ++ e ∷ []) es) (append_assoc before (e ∷ []) es))
 
 pub landed-counted : (B : ℕ) (t : History) → Legal B t → landed t.entries ≡ landed_by_count t.entries
 landed-counted B t l = counted_after B t.opening [] t.entries l

@@ -1,11 +1,11 @@
 -- What the reader of steps texts answers, in the words of the text.
-use Rattle.std.proofs.Common.{◌≡◌, ℕ, List, Result, Ok, Err, subst, sym}
+use Rattle.std.proofs.Common.{ℕ, List, Result, Ok, Err, subst}
 use Rattle.std.specs.Prelude.{IfOk}
 use Rattle.step_machine.specs.History.{FitsIn}
 use Rattle.ztso_engines.specs.declared.fault.Fault.{Fault}
 use Rattle.ztso_engines.specs.declared.fault.Refusal.{Refusal}
 use Rattle.ztso_engines.specs.Faults.{Answers}
-use Rattle.ztso_engines.specs.Script.{Told, opening_of}
+use Rattle.ztso_engines.specs.Told.{Told, opening_of}
 use Rattle.ztso_engines.specs.StepsText.{Tells}
 use Rattle.ztso_engines.specs.StepsReading.{script_at}
 use Rattle.ztso_engines.proofs.Telling.{text_told, text_read}

@@ -1,12 +1,12 @@
 -- An input that is judged.
-use Rattle.std.proofs.Common.{◌≡◌, ℕ, ◌≤◌, Bool, true, false, cond, ltb, List, length, Result, Ok, Err, refl, ◌∙◌, inl, inr}
+use Rattle.std.proofs.Common.{◌≡◌, ℕ, ◌≤◌, cond, ltb, List, length, Result, Ok, Err, refl, ◌∙◌, inl, inr}
 use Rattle.std.specs.Str.{IsUtf8, is_utf8}
 use Rattle.std.proofs.lemmas.Bool.{cases_Bool, le-ltb, ltb-false}
 use Rattle.std.proofs.lemmas.Str.{IsUtf8-from_is_utf8, is_utf8-from_IsUtf8}
 use Rattle.ztso_engines.specs.declared.fault.Refusal.{Refusal}
 use Rattle.ztso_engines.specs.Faults.{too_large, not_text}
 use Rattle.ztso_engines.specs.Engines.{Accepted, judged}
-use Rattle.ztso_engines.specs.Script.{Told}
+use Rattle.ztso_engines.specs.Told.{Told}
 use Rattle.ztso_engines.specs.StepsText.{Tells}
 use Rattle.ztso_engines.specs.StepsReading.{script_at}
 use Rattle.ztso_engines.proofs.Telling.{text_told, text_read}

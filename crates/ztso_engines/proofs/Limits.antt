@@ -1,13 +1,12 @@
 -- What a steps text tells keeps within the limits of an opening.
-use Rattle.std.proofs.Common.{◌≡◌, ℕ, zero, suc, ◌+◌, ◌*◌, ◌/◌, ◌≤◌, ◌<◌, List, [], ◌∷◌, ◌++◌, length, set, refl, sym, ap, subst, ◌∙◌, ◌⊎◌, inl, inr, arith, length-append, length-set, replicate}
+use Rattle.std.proofs.Common.{◌≡◌, ℕ, zero, suc, ◌≤◌, List, [], ◌∷◌, ◌++◌, length, refl, ap, inl, inr, arith, length-append, length-set}
 use Rattle.std.specs.List.{AllByRecursion}
 use Rattle.std.specs.Str.Lines.{lines}
 use Rattle.std.proofs.lemmas.List.{length-replicate}
 use Rattle.std.proofs.lemmas.List.Elements.{All-from_recursion}
 use Rattle.step_machine.specs.History.{HartStart, FitsIn}
-use Rattle.ztso_engines.specs.Words.{words}
-use Rattle.ztso_engines.specs.Script.{Told, untold, opening_of, fresh, register_set, Statement, hart, reg, word, steps, with_statement, MayCome}
-use Rattle.ztso_engines.specs.StepsText.{LineSays, LinesTell, Tells}
+use Rattle.ztso_engines.specs.Told.{Told, untold, opening_of, fresh, register_set, Statement, hart, reg, word, steps, with_statement, MayCome}
+use Rattle.ztso_engines.specs.StepsText.{LinesTell, Tells}
 
 abbrev IsShort : HartStart → Type 0
 IsShort h = length h.code ≤ 4096

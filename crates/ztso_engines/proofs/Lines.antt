@@ -1,12 +1,11 @@
 -- A line of a steps text: what is read of it is what it says.
-use Rattle.std.proofs.Common.{◌≡◌, ℕ, ◌+◌, ◌-◌, ◌*◌, ◌/◌, ◌%◌, ◌^◌, ◌<◌, ◌≤◌, Bool, true, false, not, ◌&&◌, ◌||◌, cond, eqb, ltb, leb, List, [], ◌∷◌, ◌++◌, length, set, Option, Some, None, Result, Ok, Err, refl, sym, ap, subst, ◌∙◌, ◌⊎◌, inl, inr, arith}
+use Rattle.std.proofs.Common.{◌≡◌, ℕ, ◌+◌, ◌-◌, ◌/◌, ◌%◌, ◌<◌, ◌≤◌, true, false, not, ◌||◌, cond, eqb, ltb, leb, List, [], ◌∷◌, ◌++◌, length, set, Option, Some, None, Result, Ok, Err, refl, sym, ap, subst, ◌∙◌, ◌⊎◌, inl, inr, arith}
 use Rattle.std.specs.Prelude.{codes}
 use Rattle.std.specs.List.{AllZip}
 use Rattle.std.specs.Str.{bytes_eq}
-use Rattle.std.proofs.lemmas.Bool.{cases_Bool, or_parts, or_from, and_parts, and_from, eqb-true, eq-eqb, eqb-false, ne_eqb, ltb-true, lt-ltb, ltb-false, le-ltb, leb-false, lt-leb, not-false, not_from_true}
+use Rattle.std.proofs.lemmas.Bool.{cases_Bool, or_parts, or_from, eqb-true, eq-eqb, eqb-false, ne_eqb, ltb-false, le-ltb, leb-false, lt-leb, not-false, not_from_true}
 use Rattle.std.proofs.lemmas.Slice.Eq.{bytes_eq-Decides}
 use Rattle.texts.specs.Numbers.{IsHexWord}
-use Rattle.texts.specs.Results.{◌>>=◌}
 use Rattle.texts.proofs.ResultLaws.{bind_ok, guard_ok, ok_is}
 use Rattle.memory.specs.Words.{IsAddress}
 use Rattle.step_machine.specs.History.{HartStart}
@@ -15,10 +14,10 @@ use Rattle.recorder.specs.declared.faults.ScheduleFault.{ScheduleFault}
 use Rattle.recorder.specs.Schedule.{IsTokensOf}
 use Rattle.recorder.specs.Reading.{tokens_at, tokens_after}
 use Rattle.recorder.proofs.TextLaws.{tokens_at-IsTokensOf, IsTokensOf-tokens_after}
-use Rattle.ztso_engines.specs.declared.script.Keyword.{Keyword}
-use Rattle.ztso_engines.specs.declared.script.Keyword.TheVariants as keyword
+use Rattle.ztso_engines.specs.declared.steps.line.Keyword.{Keyword}
+use Rattle.ztso_engines.specs.declared.steps.line.Keyword.TheVariants as keyword
 use Rattle.ztso_engines.specs.Words.{words, first_cut}
-use Rattle.ztso_engines.specs.Script.{Told, Statement, hart, reg, word, steps, fresh, register_set, with_statement, MayCome}
+use Rattle.ztso_engines.specs.Told.{Told, Statement, hart, reg, word, steps, fresh, register_set, with_statement, MayCome}
 use Rattle.ztso_engines.specs.StepsText.{SaysWord, LineSays}
 use Rattle.ztso_engines.specs.StepsReading.{bad_line, code_at, two_numbers, three_numbers, with_hart, with_register, with_word, with_steps, numbered, keyword_named, by_keyword, by_cut, after_line}
 use Rattle.ztso_engines.proofs.WordLaws.{words_cut, words_uncut, words_first, words_none}
@@ -40,18 +39,18 @@ some_is a b e = cc
 
 named : (name : List ℕ) (k : Keyword) → keyword_named name ≡ Some k → name ≡ spelling k
 named name k e = elim (cases_Bool (bytes_eq name (codes "hart"))) [
-    | inl is ↦ is_spelled keyword.Hart is (rw is at e)
-    | inr no_hart ↦ elim (cases_Bool (bytes_eq name (codes "reg"))) [
-      | inl is ↦ is_spelled keyword.Register is (rw (no_hart, is) at e)
-      | inr no_reg ↦ elim (cases_Bool (bytes_eq name (codes "word"))) [
-        | inl is ↦ is_spelled keyword.Word is (rw (no_hart, no_reg, is) at e)
-        | inr no_word ↦ elim (cases_Bool (bytes_eq name (codes "steps"))) [
-          | inl is ↦ is_spelled keyword.Steps is (rw (no_hart, no_reg, no_word, is) at e)
-          | inr no_steps ↦ absurd (let f = rw (no_hart, no_reg, no_word, no_steps) at e in cc)
-        ]
+  | inl is ↦ is_spelled keyword.Hart is (rw is at e)
+  | inr no_hart ↦ elim (cases_Bool (bytes_eq name (codes "reg"))) [
+    | inl is ↦ is_spelled keyword.Register is (rw (no_hart, is) at e)
+    | inr no_reg ↦ elim (cases_Bool (bytes_eq name (codes "word"))) [
+      | inl is ↦ is_spelled keyword.Word is (rw (no_hart, no_reg, is) at e)
+      | inr no_word ↦ elim (cases_Bool (bytes_eq name (codes "steps"))) [
+        | inl is ↦ is_spelled keyword.Steps is (rw (no_hart, no_reg, no_word, is) at e)
+        | inr no_steps ↦ absurd (let f = rw (no_hart, no_reg, no_word, no_steps) at e in cc)
       ]
     ]
   ]
+]
   where
     is_spelled : (j : Keyword) → bytes_eq name (spelling j) ≡ true → some j ≡ some k → name ≡ spelling k
     is_spelled j is f = (bytes_eq-Decides name (spelling j)).0 is ∙ ap spelling (some_is j k f)
@@ -156,35 +155,45 @@ hart_made : (t : Told) (line name rest : List ℕ) (made : Told) → first_cut l
 hart_made t line name rest made cut k e =
     let read = bind_ok (with_hart t.harts (words rest)) (λ harts. Ok (record t { harts = harts })) made e in
     let change = with_hart_made t.harts (words rest) read.0 read.1 in
-    inr (hart change.0, (words rest, with_name line name rest keyword.Hart cut k, change.1), (change.2, change.3),
-      sym (ok_is ℕ (record t { harts = read.0 }) made read.2) ∙ ap (λ (harts : List HartStart). record t { harts = harts }) change.4)
+    inr (
+      hart change.0,
+      (words rest, with_name line name rest keyword.Hart cut k, change.1),
+      (change.2, change.3),
+      sym (ok_is ℕ (record t { harts = read.0 }) made read.2) ∙ ap (λ (harts : List HartStart). record t { harts = harts }) change.4,
+    )
 
 register_made : (t : Told) (line name rest : List ℕ) (made : Told) → first_cut line ≡ Some (name, rest) → keyword_named name ≡ Some keyword.Register → by_keyword t (Some keyword.Register) rest ≡ Ok made → LineMakes t line made
 register_made t line name rest made cut k e =
     let read = bind_ok (with_register t.harts (words rest)) (λ harts. Ok (record t { harts = harts })) made e in
     let change = with_register_made t.harts (words rest) read.0 read.1 in
-    inr (reg change.0 change.1 change.2,
+    inr (
+      reg change.0 change.1 change.2,
       (change.3, change.4, change.5, with_name line name rest keyword.Register cut k ∙ ap (λ (ws : List (List ℕ)). codes "reg" ∷ ws) change.6, change.7, change.8, change.9),
       (change.10, change.11, change.12),
-      sym (ok_is ℕ (record t { harts = read.0 }) made read.2) ∙ ap (λ (harts : List HartStart). record t { harts = harts }) change.13)
+      sym (ok_is ℕ (record t { harts = read.0 }) made read.2) ∙ ap (λ (harts : List HartStart). record t { harts = harts }) change.13,
+    )
 
 word_made : (t : Told) (line name rest : List ℕ) (made : Told) → first_cut line ≡ Some (name, rest) → keyword_named name ≡ Some keyword.Word → by_keyword t (Some keyword.Word) rest ≡ Ok made → LineMakes t line made
 word_made t line name rest made cut k e =
     let read = bind_ok (with_word t.words (words rest)) (λ memory. Ok (record t { words = memory })) made e in
     let change = with_word_made t.words (words rest) read.0 read.1 in
-    inr (word change.0 change.1,
+    inr (
+      word change.0 change.1,
       (change.2, change.3, with_name line name rest keyword.Word cut k ∙ ap (λ (ws : List (List ℕ)). codes "word" ∷ ws) change.4, change.5, change.6),
       change.7,
-      sym (ok_is ℕ (record t { words = read.0 }) made read.2) ∙ ap (λ (memory : List ℕ). record t { words = memory }) change.8)
+      sym (ok_is ℕ (record t { words = read.0 }) made read.2) ∙ ap (λ (memory : List ℕ). record t { words = memory }) change.8,
+    )
 
 steps_made : (t : Told) (line name rest : List ℕ) (made : Told) → first_cut line ≡ Some (name, rest) → keyword_named name ≡ Some keyword.Steps → length t.events ≤ 1048576 → by_keyword t (Some keyword.Steps) rest ≡ Ok made → LineMakes t line made
 steps_made t line name rest made cut k few e =
     let read = bind_ok (with_steps t.events rest) (λ events. Ok (record t { events = events })) made e in
     let change = with_steps_made t.events rest read.0 few read.1 in
-    inr (steps change.0,
+    inr (
+      steps change.0,
       (rest, subst (λ (w : List ℕ). first_cut line ≡ cut_of w rest) (named name keyword.Steps k) cut, change.1),
       change.2,
-      sym (ok_is ℕ (record t { events = read.0 }) made read.2) ∙ ap (λ (events : List Event). record t { events = events }) change.3)
+      sym (ok_is ℕ (record t { events = read.0 }) made read.2) ∙ ap (λ (events : List Event). record t { events = events }) change.3,
+    )
 
 name_made : (t : Told) (line name rest : List ℕ) (made : Told) → first_cut line ≡ Some (name, rest) → (k : Option Keyword) → keyword_named name ≡ k → length t.events ≤ 1048576 → by_keyword t k rest ≡ Ok made → LineMakes t line made
 name_made t line name rest made cut None k few e = absurd cc

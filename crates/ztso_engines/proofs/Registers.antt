@@ -1,10 +1,9 @@
 -- A register set in a list of harts.
-use Rattle.std.proofs.Common.{◌≡◌, ℕ, zero, suc, ◌<◌, ◌≤◌, Bool, false, ◌||◌, cond, eqb, leb, List, [], ◌∷◌, length, get_or, set, Result, Ok, Err, refl, sym, ap, ◌∙◌, arith}
-use Rattle.std.proofs.lemmas.Bool.{lt-leb, ne_eqb, or_from, cond-false}
-use Rattle.texts.specs.Results.{◌>>=◌}
+use Rattle.std.proofs.Common.{◌≡◌, ℕ, zero, suc, ◌<◌, false, ◌||◌, eqb, leb, List, [], ◌∷◌, length, get_or, set, Ok, sym, ap, arith}
+use Rattle.std.proofs.lemmas.Bool.{lt-leb, ne_eqb, or_from}
 use Rattle.step_machine.specs.History.{HartStart}
-use Rattle.ztso_engines.specs.Script.{register_set}
-use Rattle.ztso_engines.specs.StepsReading.{bad_line, three_numbers, with_register}
+use Rattle.ztso_engines.specs.Told.{register_set}
+use Rattle.ztso_engines.specs.StepsReading.{three_numbers, with_register}
 
 -- the hart x, with v in register n
 abbrev pub with_value : HartStart → (n v : ℕ) → HartStart

@@ -1,11 +1,10 @@
 -- The lines of a state text, one more at a time.
-use Rattle.std.proofs.Common.{◌≡◌, ℕ, ◌+◌, ◌*◌, List, [], ◌∷◌, ◌++◌, length, get_or, Option, Some, None, option_map, refl, sym, ap, ◌∙◌}
+use Rattle.std.proofs.Common.{◌≡◌, ℕ, ◌+◌, ◌*◌, [], ◌++◌, get_or, Option, Some, None, option_map, refl, ap, ◌∙◌}
 use Rattle.std.specs.List.{flat_map, range_with_len}
 use Rattle.hart.specs.State.{HartState}
 use Rattle.hart.specs.declared.status.Status.{Status}
 use Rattle.step_machine.specs.History.{History}
-use Rattle.step_machine.specs.Entries.{pending, memory_word}
-use Rattle.step_machine.specs.Paths.{state_of}
+use Rattle.step_machine.specs.Entries.{memory_word}
 use Rattle.ztso_engines.specs.StateText.{hart_line, register_line, word_line, registers_shown, hart_text, hart_shown, harts_shown, words_shown}
 use Rattle.ztso_engines.proofs.Counted.{flat_map_counted}
 

@@ -1,16 +1,14 @@
 -- A steps text as a whole: what is read is what it tells, and what it tells is read.
-use Rattle.std.proofs.Common.{◌≡◌, ℕ, ◌+◌, ◌≤◌, ◌<◌, Bool, true, false, cond, eqb, length-append, List, [], ◌∷◌, ◌++◌, length, Result, Ok, Err, refl, sym, ap, subst, ◌∙◌, ◌⊎◌, inl, inr, arith}
+use Rattle.std.proofs.Common.{◌≡◌, ℕ, ◌+◌, ◌≤◌, false, eqb, length-append, List, [], ◌∷◌, length, Result, Ok, Err, refl, sym, ap, subst, ◌∙◌, inl, inr, arith}
 use Rattle.std.specs.Str.Lines.{lines}
 use Rattle.std.proofs.lemmas.Bool.{eqb-false, ne_eqb}
-use Rattle.texts.specs.Results.{◌>>=◌}
 use Rattle.texts.proofs.ResultLaws.{bind_ok, guard_ok, ok_is}
 use Rattle.ztso_engines.specs.declared.fault.Refusal.{Refusal}
 use Rattle.ztso_engines.specs.declared.fault.Place.TheVariants.{Nowhere}
-use Rattle.ztso_engines.specs.Words.{words}
-use Rattle.ztso_engines.specs.Script.{Told, untold, Statement, hart, reg, word, steps, with_statement, MayCome}
-use Rattle.ztso_engines.specs.StepsText.{LineSays, LinesTell, Tells}
+use Rattle.ztso_engines.specs.Told.{Told, untold, Statement, hart, reg, word, steps, with_statement, MayCome}
+use Rattle.ztso_engines.specs.StepsText.{LinesTell, Tells}
 use Rattle.ztso_engines.specs.StepsReading.{bad_line, after_line, at_line, after_lines, with_some_hart, script_at}
-use Rattle.ztso_engines.proofs.Lines.{LineMakes, line_made, statement_read, blank_read}
+use Rattle.ztso_engines.proofs.Lines.{line_made, statement_read, blank_read}
 
 -- the events stay within their limit
 few_stay : (t : Told) (s : Statement) → length t.events ≤ 1048576 → MayCome t s → length (with_statement t s).events ≤ 1048576

@@ -1,12 +1,11 @@
 -- A line, its blanks and its words.
-use Rattle.std.proofs.Common.{◌≡◌, ℕ, suc, ◌+◌, ◌-◌, ◌<◌, ◌≤◌, Bool, true, false, not, cond, ltb, List, [], ◌∷◌, length, take, drop, Option, Some, None, refl, sym, ap, subst, ◌∙◌, inl, inr, arith}
+use Rattle.std.proofs.Common.{◌≡◌, ℕ, suc, ◌+◌, ◌<◌, ◌≤◌, Bool, true, false, not, cond, ltb, List, [], ◌∷◌, length, take, drop, Option, Some, None, refl, sym, ap, ◌∙◌, inl, inr, arith}
 use Rattle.std.specs.Prelude.{position}
 use Rattle.std.specs.List.{filter, before_first, after_first, position_or_len, slice_split}
 use Rattle.std.proofs.lemmas.Bool.{cases_Bool, cases_lt, le-ltb, lt-ltb}
 use Rattle.std.proofs.lemmas.List.{take_all, drop_all}
 use Rattle.std.proofs.lemmas.List.Splits.{slice_split_first}
 use Rattle.texts.specs.Pieces.{is_blank, pieces}
-use Rattle.texts.specs.declared.pieces.Separators.TheVariants.{Blanks}
 use Rattle.texts.proofs.PieceLaws.{position_is, position_past, slice_split_whole}
 use Rattle.ztso_engines.specs.Words.{words, unindented, cut_at_blank, first_cut}
 
@@ -18,9 +17,9 @@ is_solid byte = not (is_blank byte)
 unindented_is : (line : List ℕ) → unindented line ≡ drop (position_or_len is_solid line) line
 unindented_is [] = refl
 unindented_is (byte ∷ line) = elim (cases_Bool (is_blank byte)) [
-    | inl blank ↦ (let one : 1 + position_or_len is_solid line ≡ suc (position_or_len is_solid line) = omega arith in rw (blank, one) (unindented_is line))
-    | inr solid ↦ rw solid refl
-  ]
+  | inl blank ↦ (let one : 1 + position_or_len is_solid line ≡ suc (position_or_len is_solid line) = omega arith in rw (blank, one) (unindented_is line))
+  | inr solid ↦ rw solid refl
+]
 
 pub unindented_found : (line : List ℕ) (i : ℕ) → position is_solid line ≡ Some i → unindented line ≡ drop i line
 unindented_found line i e = unindented_is line ∙ ap (λ (k : ℕ). drop k line) (position_is is_solid line i e).1
@@ -31,9 +30,9 @@ unindented_none line e = unindented_is line ∙ drop_all (position_or_len is_sol
 pub length-unindented : (line : List ℕ) → length (unindented line) ≤ length line
 length-unindented [] = omega arith
 length-unindented (byte ∷ line) = elim (cases_Bool (is_blank byte)) [
-    | inl blank ↦ rw blank (omega (arith, length-unindented line))
-    | inr solid ↦ rw solid (omega arith)
-  ]
+  | inl blank ↦ rw blank (omega (arith, length-unindented line))
+  | inr solid ↦ rw solid (omega arith)
+]
 
 -- ---- a text cut at its first blank
 
@@ -74,10 +73,10 @@ words_solid byte text solid =
     elim (cases_lt k (length (byte ∷ text))) [
       | inl lt ↦ ap (filter is_word) (slice_split_first is_blank (byte ∷ text) 0 lt) ∙ filter_kept (take k (byte ∷ text)) (slice_split is_blank (drop (k + 1) (byte ∷ text))) (before_has byte text solid)
       | inr past ↦ (
-        let nowhere : position is_blank (byte ∷ text) ≡ None = ap (λ (b : Bool). cond b (Some k) None) (le-ltb k (length (byte ∷ text)) past) in
-        let whole : filter is_word (slice_split is_blank (byte ∷ text)) ≡ (byte ∷ text) ∷ [] = ap (filter is_word) (slice_split_whole is_blank (byte ∷ text) nowhere) ∙ filter_kept (byte ∷ text) [] (omega arith) in
-        let nothing : drop (k + 1) (byte ∷ text) ≡ [] = drop_all (k + 1) (byte ∷ text) (omega arith) in
-        whole
+          let nowhere : position is_blank (byte ∷ text) ≡ None = ap (λ (b : Bool). cond b (Some k) None) (le-ltb k (length (byte ∷ text)) past) in
+          let whole : filter is_word (slice_split is_blank (byte ∷ text)) ≡ (byte ∷ text) ∷ [] = ap (filter is_word) (slice_split_whole is_blank (byte ∷ text) nowhere) ∙ filter_kept (byte ∷ text) [] (omega arith) in
+          let nothing : drop (k + 1) (byte ∷ text) ≡ [] = drop_all (k + 1) (byte ∷ text) (omega arith) in
+          whole
           ∙ ap (λ (w : List ℕ). w ∷ []) (sym (take_all k (byte ∷ text) past))
           ∙ ap (λ (r : List ℕ). take k (byte ∷ text) ∷ filter is_word (slice_split is_blank r)) (sym nothing))
     ]
@@ -101,17 +100,17 @@ pub words_cut : (line word rest : List ℕ) → first_cut line ≡ Some (word, r
 unfolding first_cut
 words_cut [] word rest e = absurd cc
 words_cut (byte ∷ line) word rest e = elim (cases_Bool (is_blank byte)) [
-    | inl blank ↦ words_blank byte line blank ∙ words_cut line word rest (rw blank at e)
-    | inr solid ↦ (let parts = cut_is (before_first is_blank (byte ∷ line)) (after_first is_blank (byte ∷ line)) word rest (rw solid at e) in words_solid byte line solid ∙ ap (λ (w : List ℕ). w ∷ words (after_first is_blank (byte ∷ line))) parts.0 ∙ ap (λ (r : List ℕ). word ∷ words r) parts.1)
-  ]
+  | inl blank ↦ words_blank byte line blank ∙ words_cut line word rest (rw blank at e)
+  | inr solid ↦ (let parts = cut_is (before_first is_blank (byte ∷ line)) (after_first is_blank (byte ∷ line)) word rest (rw solid at e) in words_solid byte line solid ∙ ap (λ (w : List ℕ). w ∷ words (after_first is_blank (byte ∷ line))) parts.0 ∙ ap (λ (r : List ℕ). word ∷ words r) parts.1)
+]
 
 pub words_uncut : (line : List ℕ) → first_cut line ≡ None → words line ≡ []
 unfolding first_cut words
 words_uncut [] e = refl
 words_uncut (byte ∷ line) e = elim (cases_Bool (is_blank byte)) [
-    | inl blank ↦ words_blank byte line blank ∙ words_uncut line (rw blank at e)
-    | inr solid ↦ absurd (let f = rw solid at e in cc)
-  ]
+  | inl blank ↦ words_blank byte line blank ∙ words_uncut line (rw blank at e)
+  | inr solid ↦ absurd (let f = rw solid at e in cc)
+]
 
 -- a line that has words has a first one
 pub words_first : (line name : List ℕ) (others : List (List ℕ)) → words line ≡ name ∷ others → (rest : List ℕ) × (first_cut line ≡ Some (name, rest)) × (words rest ≡ others)

@@ -1,5 +1,5 @@
 -- How an engine ends: what it writes for what its reader tells, and what each fault means.
-use Rattle.std.specs.Prelude.{ℕ, ◌≡◌, ◌≤◌, nat_lt, if◌then◌else◌, List, length, Option, Result, Ok, Err, IfSome}
+use Rattle.std.specs.Prelude.{ℕ, ◌≤◌, nat_lt, if◌then◌else◌, List, length, Option, Result, Ok, Err, IfSome}
 use Rattle.std.specs.Str.{IsUtf8, is_utf8}
 use Rattle.std.specs.Io.KnownBytes.{Appends, Keeps}
 use Rattle.ztso_engines.specs.declared.fault.Fault.{Fault}

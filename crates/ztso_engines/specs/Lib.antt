@@ -1,10 +1,9 @@
 pub mod Faults
 pub mod Input
 pub mod Words
-pub mod Script
+pub mod Told
 pub mod StepsText
 pub mod StepsReading
-pub mod Told
 pub mod StateText
 pub mod Engines
 pub mod Steps

@@ -1,6 +1,6 @@
 -- Reading a steps text from the top, with the first fault that is met. A line's fault is the number of
 -- its refusal.
-use Rattle.std.specs.Prelude.{ℕ, ◌≡◌, ◌+◌, ◌*◌, ◌/◌, ◌%◌, ◌==◌, nat_lt, nat_le, ◌||◌, ◌&&◌, not, if◌then◌else◌, List, [], ◌∷◌, ◌++◌, length, slice_set, Option, None, Some, Result, Ok, Err, codes}
+use Rattle.std.specs.Prelude.{ℕ, ◌+◌, ◌/◌, ◌%◌, ◌==◌, nat_lt, nat_le, ◌||◌, not, if◌then◌else◌, List, [], ◌∷◌, ◌++◌, length, slice_set, Option, None, Some, Result, Ok, Err, codes}
 use Rattle.std.specs.Str.{bytes_eq}
 use Rattle.std.specs.Str.Lines.{lines}
 use Rattle.texts.specs.Numbers.{word_of, hex_word_of}
@@ -14,12 +14,12 @@ use Rattle.recorder.specs.Faults.{number_of}
 use Rattle.recorder.specs.Reading.{tokens_after}
 use Rattle.ztso_engines.specs.declared.fault.Refusal.{Refusal}
 use Rattle.ztso_engines.specs.declared.fault.Place.TheVariants.{Nowhere, Line}
-use Rattle.ztso_engines.specs.declared.script.Keyword.{Keyword}
-use Rattle.ztso_engines.specs.declared.script.Keyword.TheVariants as keyword
-use Rattle.ztso_engines.specs.declared.script.LineFault.{LineFault}
-use Rattle.ztso_engines.specs.declared.script.LineFault.TheVariants.{NoMemory, Refused}
+use Rattle.ztso_engines.specs.declared.steps.line.Keyword.{Keyword}
+use Rattle.ztso_engines.specs.declared.steps.line.Keyword.TheVariants as keyword
+use Rattle.ztso_engines.specs.declared.steps.line.LineFault.{LineFault}
+use Rattle.ztso_engines.specs.declared.steps.line.LineFault.TheVariants.{NoMemory, Refused}
 use Rattle.ztso_engines.specs.Words.{words, first_cut}
-use Rattle.ztso_engines.specs.Script.{Told, untold, fresh, register_set}
+use Rattle.ztso_engines.specs.Told.{Told, untold, fresh, register_set}
 
 -- the number in a line's fault; memory that ran out has none
 abbrev pub number_in : LineFault → Option ℕ
@@ -103,10 +103,10 @@ with_steps events text = do
 
 abbrev pub keyword_named : List ℕ → Option Keyword
 keyword_named name =
-  if bytes_eq name (codes "hart") then Some keyword.Hart else
-  (if bytes_eq name (codes "reg") then Some keyword.Register else
-  (if bytes_eq name (codes "word") then Some keyword.Word else
-  (if bytes_eq name (codes "steps") then Some keyword.Steps else None)))
+    if bytes_eq name (codes "hart") then Some keyword.Hart else
+    (if bytes_eq name (codes "reg") then Some keyword.Register else
+    (if bytes_eq name (codes "word") then Some keyword.Word else
+    (if bytes_eq name (codes "steps") then Some keyword.Steps else None)))
 
 abbrev pub by_keyword : Told → Option Keyword → List ℕ → Result Told ℕ
 by_keyword t None rest = Err bad_line

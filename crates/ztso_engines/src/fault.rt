@@ -2,7 +2,7 @@
 
 ghost use Rattle.std.specs.Prelude.{◌≡◌};
 ghost use Rattle.ztso_engines.specs.Faults.{status_of};
-ghost use Rattle.ztso_engines.specs.declared.fault.Fault.TheVariants.{NoMemory};
+ghost use Rattle.ztso_engines.specs.declared.fault.Fault.TheVariants.{NoMemory, Refused};
 
 use std::alloc::{AllocError, AllocFailed};
 use std::fmt;
@@ -72,6 +72,13 @@ impl Fault {
             Fault::NoMemory => 4,
         }
     }
+
+    /// An input refused for this reason at this place.
+    pub(crate) fn refused(number: u8, place: Place) -> Fault
+        ensures { result ≡ Refused (record { number = number; place = place }) }
+    {
+        Fault::Refused(Refusal { number, place })
+    }
 }
 
 impl From<AllocError> for Fault {
@@ -97,14 +104,21 @@ mod tests {
 
     #[test]
     fn faults_are_told(rt: HostRuntime) -> Result<(), Fail> {
-        let refused = |number, place| Fault::Refused(Refusal { number, place });
         for (fault, text, status) in [
             (Fault::ReadFailed, "read failed", 3),
             (Fault::WriteFailed, "write failed", 3),
             (Fault::NoMemory, "no memory", 4),
-            (refused(37, Place::Nowhere), "refused 37", 2),
-            (refused(34, Place::Line(3)), "refused 34 at line 3", 2),
-            (refused(28, Place::Byte(16)), "refused 28 at byte 16", 2),
+            (Fault::refused(37, Place::Nowhere), "refused 37", 2),
+            (
+                Fault::refused(34, Place::Line(3)),
+                "refused 34 at line 3",
+                2,
+            ),
+            (
+                Fault::refused(28, Place::Byte(16)),
+                "refused 28 at byte 16",
+                2,
+            ),
         ] {
             assert_eq!(rt; fault.to_string(rt.alloc())?.as_str(), text);
             assert_eq!(rt; fault.status(), status);

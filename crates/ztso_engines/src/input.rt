@@ -6,7 +6,7 @@ ghost use Rattle.ztso_engines.specs.declared.fault.Fault.TheVariants.{Refused};
 ghost use Rattle.ztso_engines.specs.Faults.{not_text};
 ghost use Rattle.ztso_engines.specs.Input.{IsInput};
 
-use crate::fault::{Fault, NOT_TEXT, Place, Refusal, TOO_LARGE};
+use crate::fault::{Fault, NOT_TEXT, Place, TOO_LARGE};
 use std::alloc::Global;
 use std::io::{ErrorKind, Read};
 
@@ -27,10 +27,7 @@ pub fn read_input<R: Read>(alloc: Global, reader: &mut R) -> Result<Vec<u8>, Fau
         match reader.read(&mut chunk) {
             Ok(0) => return Ok(input),
             Ok(count) if count > INPUT_BYTES - input.len() => {
-                return Err(Fault::Refused(Refusal {
-                    number: TOO_LARGE,
-                    place: Place::Nowhere,
-                }));
+                return Err(Fault::refused(TOO_LARGE, Place::Nowhere));
             }
             Ok(count) => input.extend_from_slice(&chunk[..count])?,
             Err(error) if error.kind() == ErrorKind::Interrupted => {}
@@ -47,9 +44,6 @@ pub fn text_of(input: &[u8]) -> Result<&str, Fault>
 {
     match str::from_utf8(input) {
         Ok(text) => Ok(text),
-        Err(_) => Err(Fault::Refused(Refusal {
-            number: NOT_TEXT,
-            place: Place::Nowhere,
-        })),
+        Err(_) => Err(Fault::refused(NOT_TEXT, Place::Nowhere)),
     }
 }

@@ -9,7 +9,6 @@
 pub mod fault;
 pub mod input;
 pub mod laws;
-mod script;
 mod state_text;
 pub mod steps;
 mod words;

@@ -2,32 +2,15 @@
 
 ghost use Rattle.std.specs.Prelude.{◌≡◌, ◌++◌, ◌<◌, ◌≤◌, ℕ, length, OnOk, IfOk};
 ghost use Rattle.std.specs.String.{string_bytes};
-ghost use Rattle.hart.specs.Steps.{stop_number};
 ghost use Rattle.step_machine.specs.Paths.{state_of};
 ghost use Rattle.ztso_engines.specs.StateText.{status_text, hart_line, register_line, word_line, registers_shown, hart_shown, harts_shown, words_shown, shown};
 
-use hart::status::{Status, Stop};
+use hart::status::Status;
 use std::alloc::{AllocError, Global};
 use step_machine::Machine;
 
 /// A hart has x0 and so many registers in all.
 const REGISTERS: u8 = 32;
-
-/// The number by which texts name the reason to stop.
-fn stop_number_of(why: Stop) -> u8
-    ensures { result ≡ stop_number why }
-{
-    match why {
-        Stop::Illegal => 8,
-        Stop::Misaligned => 9,
-        Stop::SubWord => 10,
-        Stop::OutOfRange => 11,
-        Stop::MisalignedJump => 12,
-        Stop::NoCode => 13,
-        Stop::UnknownCall => 14,
-        Stop::Break => 15,
-    }
-}
 
 fn push_status(out: &mut String, status: Status) -> Result<(), AllocError>
     ensures { OnOk result (string_bytes out.new ≡ string_bytes out.old ++ status_text status) }
@@ -35,7 +18,7 @@ fn push_status(out: &mut String, status: Status) -> Result<(), AllocError>
     match status {
         Status::Running => write!(out, "running"),
         Status::Ended => write!(out, "ended"),
-        Status::Stopped(why) => write!(out, "stopped {}", stop_number_of(why)),
+        Status::Stopped(why) => write!(out, "stopped {}", why.number()),
     }
 }
 
@@ -63,13 +46,13 @@ fn push_register_line(out: &mut String, number: u8, value: u32) -> Result<(), Al
     writeln!(out, "x{number} = {value}")
 }
 
-fn push_word_line(out: &mut String, addr: u32, value: u32) -> Result<(), AllocError>
-    ensures { OnOk result (string_bytes out.new ≡ string_bytes out.old ++ word_line addr value) }
+fn push_word_line(out: &mut String, addr: u32, word: u32) -> Result<(), AllocError>
+    ensures { OnOk result (string_bytes out.new ≡ string_bytes out.old ++ word_line addr word) }
 {
-    if value == 0 {
+    if word == 0 {
         return Ok(());
     }
-    writeln!(out, "word {addr} = {value}")
+    writeln!(out, "word {addr} = {word}")
 }
 
 /// The lines of a hart's registers.

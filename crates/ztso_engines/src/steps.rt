@@ -6,18 +6,22 @@ ghost use Rattle.step_machine.specs.History.{FitsIn};
 ghost use Rattle.step_machine.specs.Runs.{Run};
 ghost use Rattle.ztso_engines.specs.Faults.{Answers, AnswersAs};
 ghost use Rattle.ztso_engines.specs.Engines.{EndsBy, judged};
-ghost use Rattle.ztso_engines.specs.Script.{opening_of};
-ghost use Rattle.ztso_engines.specs.Told.{told_by};
+ghost use Rattle.ztso_engines.specs.Told.{told_by, opening_of};
 ghost use Rattle.ztso_engines.specs.StepsReading.{script_at};
 ghost use Rattle.ztso_engines.specs.Steps.{IsStepsAnswer};
 
 use crate::fault::Fault;
 use crate::input::{read_input, text_of};
-use crate::script::{Script, read_script};
 use crate::state_text::state_text;
+use crate::steps::script::{Script, read_script};
 use std::alloc::Global;
 use std::io::{Read, Write};
 use step_machine::{Machine, Opening};
+
+mod line;
+mod script;
+#[cfg(test)]
+mod tests;
 
 /// What an input tells.
 #[tactic(auto, using(crate::proofs::Judging::judged_text, crate::proofs::Judging::judged_no_text))]
@@ -65,7 +69,8 @@ fn answer<const B: usize, const M: usize>(alloc: Global, input: Vec<u8>) -> Resu
     let script = script_of_input::<M>(alloc, &input)?;
     drop(input);
     let machine = machine_after::<B, M>(alloc, script)?;
-    Ok(state_text(alloc, &machine)?)
+    let text = state_text(alloc, &machine)?;
+    Ok(text)
 }
 
 /// Reads a steps text to its end, runs what it tells with store buffers of `B` pairs and `M` words of

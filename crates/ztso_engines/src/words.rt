@@ -10,14 +10,18 @@ use texts::Separators;
 fn solid_in(bytes: &[u8]) -> Option<usize>
     ensures { result ≡ position (λ byte. not (is_blank byte)) bytes.now }
 {
-    bytes.iter().position(|byte| !Separators::Blanks.contain(*byte))
+    bytes
+        .iter()
+        .position(|byte| !Separators::Blanks.contain(*byte))
 }
 
 /// The place of the first blank.
 fn blank_in(bytes: &[u8]) -> Option<usize>
     ensures { result ≡ position is_blank bytes.now }
 {
-    bytes.iter().position(|byte| Separators::Blanks.contain(*byte))
+    bytes
+        .iter()
+        .position(|byte| Separators::Blanks.contain(*byte))
 }
 
 /// The line without the blanks before its first word.

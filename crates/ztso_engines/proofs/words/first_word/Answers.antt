@@ -1,4 +1,4 @@
-use Rattle.std.proofs.Common.{◌≡◌, ◌+◌, ◌<◌, ◌≤◌, length, refl, sym, ◌∙◌, arith, rules}
+use Rattle.std.proofs.Common.{◌≡◌, ◌+◌, ◌<◌, ◌≤◌, length, refl, sym, arith, rules}
 use Rattle.std.proofs.lemmas.List.{take_rest, nil_from_length, length-take, length-drop}
 use Rattle.ztso_engines.specs.Words.{first_cut}
 use Rattle.ztso_engines.proofs.WordLaws.{cut_found, cut_whole, words_cut, words_uncut, length-unindented}

@@ -1,4 +1,4 @@
-use Rattle.std.proofs.Common.{sym, ◌∙◌}
+use Rattle.std.proofs.Common.{sym}
 use Rattle.std.proofs.lemmas.List.{take_rest}
 use Rattle.ztso_engines.proofs.WordLaws.{unindented_found, unindented_none}
 use Rattle.ztso_engines.proofs.words.without_indent.Goals as goal

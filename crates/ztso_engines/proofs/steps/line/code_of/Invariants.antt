@@ -2,7 +2,7 @@ use Rattle.std.proofs.Common.{◌≡◌, ℕ, List, ◌++◌, length, Result, Ok
 use Rattle.texts.specs.Results.{◌>>=◌}
 use Rattle.ztso_engines.specs.Words.{words}
 use Rattle.ztso_engines.specs.StepsReading.{code_at}
-use Rattle.ztso_engines.proofs.script.code_of.Given as goal
+use Rattle.ztso_engines.proofs.steps.line.code_of.Given as goal
 
 -- what was read before, and what is still read
 abbrev with_front : List ℕ → Result (List ℕ) ℕ → Result (List ℕ) ℕ

@@ -1,6 +1,6 @@
 use Rattle.ztso_engines.specs.Told.{told_by}
 use Rattle.ztso_engines.proofs.Answered.{found_script, only_script, fitting_script}
-use Rattle.ztso_engines.proofs.script.read_script.Goals as goal
+use Rattle.ztso_engines.proofs.steps.script.read_script.Goals as goal
 
 pub returns-clause-found : goal.returns-clause-found
 returns-clause-found g c = found_script told_by g.row.M c.args.text.now c.script_of.result c.script_of.ensures

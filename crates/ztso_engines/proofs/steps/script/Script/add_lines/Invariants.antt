@@ -2,14 +2,14 @@ use Rattle.std.proofs.Common.{◌≡◌, ◌+◌, ◌≤◌, length}
 use Rattle.std.specs.Str.Lines.{lines}
 use Rattle.ztso_engines.specs.Told.{told_by}
 use Rattle.ztso_engines.specs.StepsReading.{after_lines}
-use Rattle.ztso_engines.proofs.script.Script.add_lines.Given as goal
+use Rattle.ztso_engines.proofs.steps.script.Script.add_lines.Given as goal
 
 -- the lines left, behind what is told so far, tell what all lines tell
 abbrev pub invariant-loop-line : goal.invariant-loop-line
 invariant-loop-line l = record {
-    so_far : after_lines (told_by l.self) (l.number + 1) (lines l.rest) ≡ after_lines (told_by l.fn.self) 1 (lines l.text);
-    few : l.number + length l.rest ≤ length l.text;
-  }
+  so_far : after_lines (told_by l.self) (l.number + 1) (lines l.rest) ≡ after_lines (told_by l.fn.self) 1 (lines l.text);
+  few : l.number + length l.rest ≤ length l.text;
+}
 
 abbrev pub decreases-loop-line : goal.decreases-loop-line
 decreases-loop-line l = length l.rest

@@ -1,0 +1,109 @@
+//! The steps text: harts, registers, words and events, a line each.
+
+ghost use Rattle.std.specs.Prelude.{◌≡◌, Ok, IfOk};
+ghost use Rattle.std.specs.Str.Lines.{lines};
+ghost use Rattle.texts.specs.Results.{Gives};
+ghost use Rattle.step_machine.specs.History.{FitsIn};
+ghost use Rattle.ztso_engines.specs.Faults.{Answers};
+ghost use Rattle.ztso_engines.specs.Told.{Told, told_by, untold, opening_of};
+ghost use Rattle.ztso_engines.specs.StepsText.{Tells};
+ghost use Rattle.ztso_engines.specs.StepsReading.{number_in, after_line, at_line, after_lines, script_at};
+
+use crate::fault::{BAD_LINE, Fault, Place};
+use crate::steps::line::{
+    BAD, Keyword, LineFault, add_hart, add_steps, keyword_of, set_register, set_word,
+};
+use crate::words::first_word;
+use std::alloc::{AllocError, Global};
+use step_machine::{Event, HartOpening};
+use texts::first_line;
+
+/// What a steps text tells.
+#[derive(Drop)]
+pub struct Script {
+    pub harts: Vec<HartOpening>,
+    /// All words of memory.
+    pub words: Vec<u32>,
+    pub events: Vec<Event>,
+}
+
+impl Script {
+    /// Nothing is told yet of a machine with M words.
+    fn new<const M: usize>(alloc: Global) -> Result<Script, AllocError>
+        ensures { IfOk result (λ script. told_by script ≡ untold M) }
+    {
+        Ok(Script {
+            harts: Vec::new(alloc),
+            words: vec![in alloc; 0; M]?,
+            events: Vec::new(alloc),
+        })
+    }
+
+    /// Follows one more line.
+    #[tactic(auto, unfolding(crate::specs::StepsReading::after_line))]
+    fn add_line(&mut self, alloc: Global, line: &[u8]) -> Result<(), LineFault>
+        ensures { Gives number_in (λ x. told_by self.new) result (after_line (told_by self.old) line.now) }
+    {
+        let Some((name, rest)) = first_word(line) else {
+            return Ok(());
+        };
+        match keyword_of(name).ok_or(BAD)? {
+            Keyword::Hart => add_hart(alloc, &mut self.harts, rest),
+            Keyword::Register => set_register(&mut self.harts, rest),
+            Keyword::Word => set_word(&mut self.words, rest),
+            Keyword::Steps => add_steps(&mut self.events, rest),
+        }
+    }
+
+    /// Follows the line of this number.
+    fn add_line_at(&mut self, alloc: Global, line: &[u8], number: usize) -> Result<(), Fault>
+        ensures { Answers (λ x. told_by self.new) result (at_line number (after_line (told_by self.old) line.now)) }
+    {
+        match self.add_line(alloc, line) {
+            Ok(()) => Ok(()),
+            Err(LineFault::NoMemory) => Err(Fault::NoMemory),
+            Err(LineFault::Refused(refusal)) => Err(Fault::refused(refusal, Place::Line(number))),
+        }
+    }
+
+    /// Follows all lines of a text.
+    #[tactic(auto, unfolding(crate::specs::StepsReading::after_lines))]
+    fn add_lines(&mut self, alloc: Global, text: &[u8]) -> Result<(), Fault>
+        ensures { Answers (λ x. told_by self.new) result (after_lines (told_by self.old) 1 (lines text.now)) }
+    {
+        let mut rest = text;
+        let mut number = 0;
+        while let Some((line, after)) = first_line(rest) {
+            number += 1;
+            self.add_line_at(alloc, line, number)?;
+            rest = after;
+        }
+        Ok(())
+    }
+}
+
+#[tactic(auto, unfolding(crate::specs::StepsReading::script_at))]
+fn script_of<const M: usize>(alloc: Global, text: &str) -> Result<Script, Fault>
+    ensures { Answers told_by result (script_at M text.now) }
+{
+    let mut script = Script::new::<M>(alloc)?;
+    script.add_lines(alloc, text.as_bytes())?;
+    if script.harts.is_empty() {
+        return Err(Fault::refused(BAD_LINE, Place::Nowhere));
+    }
+    Ok(script)
+}
+
+/// What a steps text tells of a machine with M words.
+///
+/// A line that says nothing that may come there is [`BAD_LINE`] at the line, and so is a text without
+/// a hart, at no line; tokens behind `steps` are refused as [`recorder::push_tokens_of`] refuses them, at the
+/// line. The first faulty line is answered.
+pub fn read_script<const M: usize>(alloc: Global, text: &str) -> Result<Script, Fault>
+    ensures found { IfOk result (λ script. Tells M text.now (told_by script)) }
+    ensures only { (told : Told) → Tells M text.now told → Answers told_by result (Ok told) }
+    ensures exact { Answers told_by result (script_at M text.now) }
+    ensures fits { IfOk result (λ script. FitsIn M (opening_of (told_by script))) }
+{
+    script_of::<M>(alloc, text)
+}
