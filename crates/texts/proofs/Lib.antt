@@ -1,0 +1,4 @@
+pub mod PieceLaws
+pub mod LineLaws
+pub mod NumberLaws
+pub mod ResultLaws

@@ -1,6 +1,22 @@
-//! What all texts here share: blanks and the pieces between them, lines, decimal and hex numbers.
+//! What every text of the program is made of: pieces between blanks, lines, and numbers in digits.
 //!
-//! The contract: each function answers a definition over lists of bytes (`specs/`), which the grammars
-//! of the crates above speak in. This crate knows no format and prints nothing.
+//! The contract: each reader answers what the definitions of `specs/` say of its bytes, so
+//! [`first_piece`] and [`first_line`] walk a text by `pieces` and `lines`, and [`number`], [`word`]
+//! and [`hex_word`] answer exactly where the bytes spell a number. `proofs/` has the laws that the
+//! grammars above share.
+//! This crate knows no grammar, names no fault and keeps nothing; only [`push_decimal`] takes memory.
 
 #![tactic(auto)]
+
+pub mod decimal;
+pub mod lines;
+pub mod numbers;
+pub mod pieces;
+
+pub use decimal::push_decimal;
+pub use lines::first_line;
+pub use numbers::{hex_number, hex_word, number, word};
+pub use pieces::{Separators, first_piece};
+
+#[cfg(test)]
+mod tests;

@@ -1,0 +1,39 @@
+-- What an answer says of the steps that made it.
+use Rattle.std.proofs.Common.{◌≡◌, Bool, true, false, cond, Result, Ok, Err, refl, inl, inr, ◌⊎◌}
+use Rattle.texts.specs.Results.{◌>>=◌}
+
+-- the value of a step that did not fail
+pub bind_ok : {A B E : Type 0} (r : Result A E) (f : A → Result B E) (y : B) → (r >>= f) ≡ Ok y → (x : A) × (r ≡ Ok x) × (f x ≡ Ok y)
+bind_ok (Ok x) f y e = (x, refl, e)
+bind_ok (Err d) f y e = absurd cc
+
+-- a fault is that of the first step, or that of the steps behind it
+pub bind_err : {A B E : Type 0} (r : Result A E) (f : A → Result B E) (d : E) → (r >>= f) ≡ Err d → (r ≡ Err d) ⊎ ((x : A) × (r ≡ Ok x) × (f x ≡ Err d))
+bind_err (Ok x) f d e = inr (x, refl, e)
+bind_err (Err c) f d e = inl cc
+
+pub bind_assoc : {A B C E : Type 0} (r : Result A E) (f : A → Result B E) (g : B → Result C E) → ((r >>= f) >>= g) ≡ (r >>= λ x. f x >>= g)
+bind_assoc (Ok x) f g = refl
+bind_assoc (Err d) f g = refl
+
+-- a test that did not refuse
+pub guard_err : {A E : Type 0} (b : Bool) (d : E) (r : Result A E) (y : A) → cond b (Err d) r ≡ Ok y → (b ≡ false) × (r ≡ Ok y)
+guard_err true d r y e = absurd cc
+guard_err false d r y e = (refl, e)
+
+-- a value that is handed out where a test passes
+pub guard_ok : {A E : Type 0} (b : Bool) (d : E) (x y : A) → cond b (Err d) (Ok x) ≡ Ok y → (b ≡ false) × (x ≡ y)
+guard_ok true d x y e = absurd cc
+guard_ok false d x y e = (refl, cc)
+
+abbrev done : {A : Type 0} (E : Type 0) → A → Result A E
+done E x = Ok x
+
+abbrev failed : (A : Type 0) {E : Type 0} → E → Result A E
+failed A d = Err d
+
+pub ok_is : {A : Type 0} (E : Type 0) (x y : A) → done E x ≡ done E y → x ≡ y
+ok_is E x y e = cc
+
+pub err_is : (A : Type 0) {E : Type 0} (c d : E) → failed A c ≡ failed A d → c ≡ d
+err_is A c d e = cc

@@ -1,0 +1,53 @@
+use crate::{
+    Separators, first_line, first_piece, hex_number, hex_word, number, push_decimal, word,
+};
+use std::test::Fail;
+
+#[test]
+fn pieces_of_a_text(rt: HostRuntime) {
+    let (piece, rest) = first_piece(Separators::Blanks, b"a0\t\r\n l1");
+    assert_eq!(rt; piece, b"a0".as_slice());
+    assert_eq!(rt; rest, Some(b"\r\n l1".as_slice()));
+    let (piece, rest) = first_piece(Separators::BlanksAndLineEnds, b"\r\n l1");
+    assert_eq!(rt; piece, b"".as_slice());
+    assert_eq!(rt; rest, Some(b"\n l1".as_slice()));
+    let (piece, rest) = first_piece(Separators::BlanksAndLineEnds, b"l1");
+    assert_eq!(rt; piece, b"l1".as_slice());
+    assert_eq!(rt; rest, None);
+}
+
+#[test]
+fn lines_of_a_text(rt: HostRuntime) -> Result<(), Fail> {
+    let (line, rest) = first_line(b"a\rb\r\nc\n").ok_or("a line")?;
+    assert_eq!(rt; line, b"a\rb".as_slice());
+    let (line, rest) = first_line(rest).ok_or("a second line")?;
+    assert_eq!(rt; line, b"c".as_slice());
+    assert_eq!(rt; first_line(rest).is_none(), true);
+    let (line, _) = first_line(b"d\r").ok_or("a line with a CR")?;
+    assert_eq!(rt; line, b"d\r".as_slice());
+    Ok(())
+}
+
+#[test]
+fn numbers_in_digits(rt: HostRuntime) {
+    assert_eq!(rt; number(b"0017"), Some(17));
+    assert_eq!(rt; number(b"4294967295"), Some(4294967295));
+    assert_eq!(rt; number(b"99999999999999999999"), Some(4294967296));
+    assert_eq!(rt; number(b""), None);
+    assert_eq!(rt; number(b"1f"), None);
+    assert_eq!(rt; hex_number(b"1F"), Some(31));
+    assert_eq!(rt; word(b"4294967295"), Some(4294967295));
+    assert_eq!(rt; word(b"4294967296"), None);
+    assert_eq!(rt; hex_word(b"00A00fEf"), Some(0x00a00fef));
+    assert_eq!(rt; hex_word(b"0a00fef"), None);
+    assert_eq!(rt; hex_word(b"0x000001"), None);
+}
+
+#[test]
+fn decimal_is_appended(rt: HostRuntime) -> Result<(), Fail> {
+    let mut out = String::from_str(rt.alloc(), "x5 = ")?;
+    push_decimal(&mut out, 4096)?;
+    push_decimal(&mut out, 0)?;
+    assert_eq!(rt; out.as_str(), "x5 = 40960");
+    Ok(())
+}
