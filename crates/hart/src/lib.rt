@@ -6,5 +6,6 @@
 
 #![tactic(auto)]
 
+pub mod effects;
 pub mod need;
 pub mod status;

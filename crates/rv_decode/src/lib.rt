@@ -6,4 +6,12 @@
 
 #![tactic(auto)]
 
+mod decoder;
 pub mod instruction;
+mod opcode;
+mod word;
+
+pub use decoder::decode;
+pub use instruction::{
+    AmoOp, BranchOp, ImmediateOp, Instr, LoadOp, Reg, RegisterOp, ShiftOp, StoreOp,
+};

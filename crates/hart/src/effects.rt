@@ -1,0 +1,174 @@
+//! What an instruction leaves in the registers and the pc.
+
+ghost use Rattle.std.specs.Prelude.{◌≡◌, ◌<◌};
+ghost use Rattle.hart.specs.Effects.{updated, computed, with_immediate, shifted, is_taken, read, written, next_pc, address, registers_after, pc_after, FieldsFit};
+
+use rv_decode::instruction::{AmoOp, BranchOp, ImmediateOp, Instr, Reg, RegisterOp, ShiftOp};
+
+/// The word that an atomic memory operation leaves in memory, of the word `old` that was there and
+/// its source register `rs2`.
+pub fn amo(op: AmoOp, old: u32, rs2: u32) -> u32
+    ensures { result ≡ updated op old rs2 }
+{
+    match op {
+        AmoOp::Add => old.wrapping_add(rs2),
+        AmoOp::Swap => rs2,
+        AmoOp::Xor => old ^ rs2,
+        AmoOp::Or => old | rs2,
+        AmoOp::And => old & rs2,
+        AmoOp::Min => if rs2.cast_signed() < old.cast_signed() {
+            rs2
+        } else {
+            old
+        },
+        AmoOp::Max => if old.cast_signed() < rs2.cast_signed() {
+            rs2
+        } else {
+            old
+        },
+        AmoOp::MinUnsigned => if rs2 < old { rs2 } else { old },
+        AmoOp::MaxUnsigned => if old < rs2 { rs2 } else { old },
+    }
+}
+
+fn computed(op: RegisterOp, left: u32, right: u32) -> u32
+    ensures { result ≡ computed op left right }
+{
+    match op {
+        RegisterOp::Add => left.wrapping_add(right),
+        RegisterOp::Sub => left.wrapping_sub(right),
+        RegisterOp::ShiftLeft => left.wrapping_shl(right),
+        RegisterOp::SetLess => u32::from(left.cast_signed() < right.cast_signed()),
+        RegisterOp::SetLessUnsigned => u32::from(left < right),
+        RegisterOp::Xor => left ^ right,
+        RegisterOp::ShiftRight => left.wrapping_shr(right),
+        RegisterOp::ShiftRightArithmetic => left.cast_signed().wrapping_shr(right).cast_unsigned(),
+        RegisterOp::Or => left | right,
+        RegisterOp::And => left & right,
+    }
+}
+
+fn with_immediate(op: ImmediateOp, left: u32, immediate: i32) -> u32
+    ensures { result ≡ with_immediate op left immediate }
+{
+    let right = immediate.cast_unsigned();
+    match op {
+        ImmediateOp::Add => left.wrapping_add(right),
+        ImmediateOp::SetLess => u32::from(left.cast_signed() < immediate),
+        ImmediateOp::SetLessUnsigned => u32::from(left < right),
+        ImmediateOp::Xor => left ^ right,
+        ImmediateOp::Or => left | right,
+        ImmediateOp::And => left & right,
+    }
+}
+
+fn shifted(op: ShiftOp, word: u32, amount: u32) -> u32
+    requires { amount < 32 }
+    ensures { result ≡ shifted op word amount }
+{
+    match op {
+        ShiftOp::Left => word << amount,
+        ShiftOp::Right => word >> amount,
+        ShiftOp::RightArithmetic => (word.cast_signed() >> amount).cast_unsigned(),
+    }
+}
+
+/// Whether a conditional branch is taken.
+pub(crate) fn is_taken(op: BranchOp, left: u32, right: u32) -> bool
+    ensures { result ≡ is_taken op left right }
+{
+    match op {
+        BranchOp::Equal => left == right,
+        BranchOp::NotEqual => left != right,
+        BranchOp::Less => left.cast_signed() < right.cast_signed(),
+        BranchOp::GreaterEqual => left.cast_signed() >= right.cast_signed(),
+        BranchOp::LessUnsigned => left < right,
+        BranchOp::GreaterEqualUnsigned => left >= right,
+    }
+}
+
+/// The register's word.
+pub(crate) fn read(registers: &[u32; 32], register: Reg) -> u32
+    ensures { result ≡ read registers.now register }
+{
+    registers[register.number as usize]
+}
+
+/// Puts `word` into the register; a write to x0 is dropped.
+fn write(registers: &mut [u32; 32], register: Reg, word: u32)
+    ensures { registers.new ≡ written registers.old register word }
+{
+    if register.number != 0 {
+        registers[register.number as usize] = word;
+    }
+}
+
+/// Where a load, a store or a jump by `offset` from `base` points.
+pub(crate) fn address(base: u32, offset: i32) -> u32
+    ensures { result ≡ address base offset }
+{
+    base.wrapping_add(offset.cast_unsigned())
+}
+
+pub(crate) fn next_pc(pc: u32) -> u32
+    ensures { result ≡ next_pc pc }
+{
+    pc.wrapping_add(4)
+}
+
+/// The pc after the instruction at `pc`.
+pub(crate) fn pc_after(instr: &Instr, registers: &[u32; 32], pc: u32) -> u32
+    ensures { result ≡ pc_after instr.now registers.now pc }
+{
+    match *instr {
+        Instr::Jal { offset, .. } => address(pc, offset),
+        Instr::Jalr { rs1, offset, .. } => address(read(registers, rs1), offset) & !1,
+        Instr::Branch {
+            op,
+            rs1,
+            rs2,
+            offset,
+        } => {
+            if is_taken(op, read(registers, rs1), read(registers, rs2)) {
+                address(pc, offset)
+            } else {
+                next_pc(pc)
+            }
+        }
+        _ => next_pc(pc),
+    }
+}
+
+/// Leaves the registers as the instruction at `pc` does; `loaded` is the word that a load or an
+/// AMO read, and is not looked at elsewhere.
+pub(crate) fn apply(instr: &Instr, registers: &mut [u32; 32], pc: u32, loaded: u32)
+    requires { FieldsFit instr.now }
+    ensures { registers.new ≡ registers_after instr.now registers.old pc loaded }
+{
+    let (rd, word) = match *instr {
+        Instr::Lui { rd, upper } => (rd, upper << 12),
+        Instr::Auipc { rd, upper } => (rd, pc.wrapping_add(upper << 12)),
+        Instr::Jal { rd, .. } => (rd, next_pc(pc)),
+        Instr::Jalr { rd, .. } => (rd, next_pc(pc)),
+        Instr::Load { rd, .. } => (rd, loaded),
+        Instr::Immediate {
+            op,
+            rd,
+            rs1,
+            immediate,
+        } => { (rd, with_immediate(op, read(registers, rs1), immediate)) }
+        Instr::Shift {
+            op,
+            rd,
+            rs1,
+            amount,
+        } => (rd, shifted(op, read(registers, rs1), amount)),
+        Instr::Register { op, rd, rs1, rs2 } => {
+            (rd, computed(op, read(registers, rs1), read(registers, rs2)))
+        }
+        Instr::Amo { rd, .. } => (rd, loaded),
+        Instr::Branch { .. } | Instr::Store { .. } => return,
+        Instr::Fence { .. } | Instr::FenceTso | Instr::Ecall | Instr::Ebreak => return,
+    };
+    write(registers, rd, word);
+}

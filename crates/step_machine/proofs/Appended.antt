@@ -1,0 +1,88 @@
+-- What one more entry at the end does to a hart's own entries, its stores and landings, its pending
+-- stores, what landed, and its path.
+use Rattle.std.proofs.Common.{◌≡◌, ℕ, zero, suc, ◌+◌, ◌≤◌, ◌<◌, ◌==◌, Bool, true, false, not, ◌&&◌, if◌then◌else◌, List, [], ◌∷◌, ◌++◌, length, take, drop, Option, Some, None, unwrap_or, refl, sym, ◌∙◌, ap, append_assoc, add_assoc, zero-add, arith, length-append, append-nil}
+use Rattle.std.proofs.lemmas.List.{drop-append-le, drop-drop}
+use Rattle.memory.specs.Words.{newest_of}
+use Rattle.hart.specs.State.{HartState}
+use Rattle.hart.specs.Steps.{advanced}
+use Rattle.step_machine.specs.declared.events.Entry.{Entry}
+use Rattle.step_machine.specs.declared.events.Entry.TheVariants as entry
+use Rattle.step_machine.specs.History.{Start, History, with_entry}
+use Rattle.step_machine.specs.Entries.{is_own, own, store_of, stores, land_of, lands, pending, write_of, landed_after, landed, report_of, reported}
+use Rattle.step_machine.specs.Paths.{value_of, CanMake, after_entries, Makes}
+use Rattle.step_machine.specs.Legal.{Allowed, LegalAfter}
+
+pub own-append : (h : ℕ) (es fs : List Entry) → own h (es ++ fs) ≡ own h es ++ own h fs
+own-append h [] fs = refl
+own-append h (e ∷ es) fs =
+    elim (is_own h e) as (λ b. (if b then e ∷ own h (es ++ fs) else own h (es ++ fs)) ≡ (if b then e ∷ own h es else own h es) ++ own h fs)
+    [ true ↦ ap (λ t. e ∷ t) (own-append h es fs) | false ↦ own-append h es fs ]
+
+pub stores-append : (h : ℕ) (es fs : List Entry) → stores h (es ++ fs) ≡ stores h es ++ stores h fs
+stores-append h [] fs = refl
+stores-append h (e ∷ es) fs = ap (λ t. store_of h e ++ t) (stores-append h es fs) ∙ sym (append_assoc (store_of h e) (stores h es) (stores h fs))
+
+pub lands-append : (h : ℕ) (es fs : List Entry) → lands h (es ++ fs) ≡ lands h es + lands h fs
+lands-append h [] fs = sym (zero-add (lands h fs))
+lands-append h (e ∷ es) fs = ap (λ n. land_of h e + n) (lands-append h es fs) ∙ sym (add_assoc (land_of h e) (lands h es) (lands h fs))
+
+pub reported-append : (h : ℕ) (es fs : List Entry) → reported h (es ++ fs) ≡ reported h es ++ reported h fs
+reported-append h [] fs = refl
+reported-append h (e ∷ es) fs = ap (λ t. report_of h e ++ t) (reported-append h es fs) ∙ sym (append_assoc (report_of h e) (reported h es) (reported h fs))
+
+pub reported-last : (h : ℕ) (es : List Entry) (e : Entry) → reported h (es ++ e ∷ []) ≡ reported h es ++ report_of h e
+reported-last h es e = reported-append h es (e ∷ []) ∙ ap (λ t. reported h es ++ t) (append-nil (report_of h e))
+
+pub landed_after-append : (before es fs : List Entry) → landed_after before (es ++ fs) ≡ landed_after before es ++ landed_after (before ++ es) fs
+landed_after-append before [] fs = ap (λ b. landed_after b fs) (sym (append-nil before))
+landed_after-append before (e ∷ es) fs =
+    ap (λ t. write_of before e ++ t) (landed_after-append (before ++ e ∷ []) es fs)
+    ∙ ap (λ b. write_of before e ++ (landed_after (before ++ e ∷ []) es ++ landed_after b fs)) (append_assoc before (e ∷ []) es)
+    ∙ sym (append_assoc (write_of before e) (landed_after (before ++ e ∷ []) es) (landed_after (before ++ e ∷ es) fs))
+
+pub landed-last : (es : List Entry) (e : Entry) → landed (es ++ e ∷ []) ≡ landed es ++ write_of es e
+landed-last es e = landed_after-append [] es (e ∷ []) ∙ ap (λ t. landed es ++ t) (append-nil (write_of es e))
+
+pub newest_of-append : (a : ℕ) (found : Option ℕ) (ps qs : List (ℕ × ℕ)) → newest_of a found (ps ++ qs) ≡ newest_of a (newest_of a found ps) qs
+newest_of-append a found [] qs = refl
+newest_of-append a found (p ∷ ps) qs = newest_of-append a (if p.0 == a then Some p.1 else found) ps qs
+
+pub after_entries-append : (s : HartState) (es fs : List Entry) → after_entries s (es ++ fs) ≡ after_entries (after_entries s es) fs
+after_entries-append s [] fs = refl
+after_entries-append s (e ∷ es) fs = after_entries-append (advanced s (value_of e)) es fs
+
+-- a path goes on by entries that the state after it makes
+pub Makes-append : (s : HartState) (es fs : List Entry) → Makes s es → Makes (after_entries s es) fs → Makes s (es ++ fs)
+Makes-append s [] fs m n = n
+Makes-append s (e ∷ es) fs m n = (m.0, Makes-append (advanced s (value_of e)) es fs m.1 n)
+
+pub Makes-front : (s : HartState) (es fs : List Entry) → Makes s (es ++ fs) → Makes s es
+Makes-front s [] fs m = tt
+Makes-front s (e ∷ es) fs m = (m.0, Makes-front (advanced s (value_of e)) es fs m.1)
+
+pub Makes-back : (s : HartState) (es fs : List Entry) → Makes s (es ++ fs) → Makes (after_entries s es) fs
+Makes-back s [] fs m = m
+Makes-back s (e ∷ es) fs m = Makes-back (advanced s (value_of e)) es fs m.1
+
+pub LegalAfter-append : (B : ℕ) (o : Start) (before es fs : List Entry) → LegalAfter B o before es → LegalAfter B o (before ++ es) fs → LegalAfter B o before (es ++ fs)
+LegalAfter-append B o before [] fs l m = rw append-nil at m
+LegalAfter-append B o before (e ∷ es) fs l m = (l.0, LegalAfter-append B o (before ++ e ∷ []) es fs l.1 (rw append_assoc m))
+
+pub LegalAfter-front : (B : ℕ) (o : Start) (before es fs : List Entry) → LegalAfter B o before (es ++ fs) → LegalAfter B o before es
+LegalAfter-front B o before [] fs l = tt
+LegalAfter-front B o before (e ∷ es) fs l = (l.0, LegalAfter-front B o (before ++ e ∷ []) es fs l.1)
+
+pub LegalAfter-back : (B : ℕ) (o : Start) (before es fs : List Entry) → LegalAfter B o before (es ++ fs) → LegalAfter B o (before ++ es) fs
+LegalAfter-back B o before [] fs l = rw append-nil l
+LegalAfter-back B o before (e ∷ es) fs l = rw (← append_assoc before (e ∷ []) es) (LegalAfter-back B o (before ++ e ∷ []) es fs l.1)
+
+-- the hart's pending stores after one more entry
+pub pending-last : (h : ℕ) (es : List Entry) (e : Entry) → lands h es ≤ length (stores h es) → pending h (es ++ e ∷ []) ≡ drop (land_of h e) (pending h es ++ store_of h e)
+pending-last h es e le =
+    let whole : stores h (es ++ e ∷ []) ≡ stores h es ++ store_of h e = stores-append h es (e ∷ []) ∙ ap (λ t. stores h es ++ t) (append-nil (store_of h e)) in
+    let one : lands h (e ∷ []) ≡ land_of h e = omega arith in
+    let count : lands h (es ++ e ∷ []) ≡ lands h es + land_of h e = lands-append h es (e ∷ []) ∙ ap (λ n. lands h es + n) one in
+    ap (λ n. drop n (stores h (es ++ e ∷ []))) count
+    ∙ ap (λ t. drop (lands h es + land_of h e) t) whole
+    ∙ sym (drop-drop (land_of h e) (lands h es) (stores h es ++ store_of h e))
+    ∙ ap (λ t. drop (land_of h e) t) (drop-append-le (lands h es) (stores h es) (store_of h e) le)

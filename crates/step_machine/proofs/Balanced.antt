@@ -1,0 +1,46 @@
+-- On a legal list no hart has more landings than stores.
+use Rattle.std.proofs.Common.{◌≡◌, ℕ, ◌+◌, ◌-◌, ◌≤◌, ◌<◌, ◌==◌, Bool, true, false, if◌then◌else◌, List, [], ◌∷◌, ◌++◌, length, drop, refl, sym, ◌∙◌, ap, subst, arith, length-append, length-drop, append-nil, append_assoc}
+use Rattle.std.proofs.lemmas.Bool.{eqb-true}
+use Rattle.step_machine.specs.declared.events.Entry.{Entry}
+use Rattle.step_machine.specs.declared.events.Entry.TheVariants as entry
+use Rattle.step_machine.specs.History.{Start, History}
+use Rattle.step_machine.specs.Entries.{store_of, stores, land_of, lands, pending}
+use Rattle.step_machine.specs.Legal.{Allowed, LegalAfter, Legal}
+use Rattle.step_machine.proofs.Appended.{stores-append, lands-append}
+
+land_of_allowed : (B : ℕ) (o : Start) (before : List Entry) (h g : ℕ) (b : Bool) → (g == h) ≡ b → 0 < length (pending g before) → (if b then 1 else 0) ≤ length (pending h before)
+land_of_allowed B o before h g true is some =
+    let same : g ≡ h = eqb-true g h is in
+    let here : 0 < length (pending h before) = subst (λ (k : ℕ). 0 < length (pending k before)) same some in
+    omega arith
+land_of_allowed B o before h g false is some = omega arith
+
+-- an entry lands no more of a hart than is pending
+pub land_of-allowed : (B : ℕ) (o : Start) (before : List Entry) (h : ℕ) (e : Entry) → Allowed B o before e → land_of h e ≤ length (pending h before)
+land_of-allowed B o before h (entry.Inner g) a = omega arith
+land_of-allowed B o before h (entry.Load g x v) a = omega arith
+land_of-allowed B o before h (entry.Store g x v) a = omega arith
+land_of-allowed B o before h (entry.Amo g x old new) a = omega arith
+land_of-allowed B o before h (entry.Fence g full) a = omega arith
+land_of-allowed B o before h (entry.Next g w) a = omega arith
+land_of-allowed B o before h (entry.Took g i w) a = omega arith
+land_of-allowed B o before h (entry.Closed g i) a = omega arith
+land_of-allowed B o before h (entry.Ended g) a = omega arith
+land_of-allowed B o before h (entry.Stopped g why) a = omega arith
+land_of-allowed B o before h (entry.Land g) a = land_of_allowed B o before h g (g == h) refl a
+
+pub balanced-last : (B : ℕ) (o : Start) (before : List Entry) (h : ℕ) (e : Entry) → Allowed B o before e → lands h before ≤ length (stores h before) → lands h (before ++ e ∷ []) ≤ length (stores h (before ++ e ∷ []))
+balanced-last B o before h e a le =
+    let few : land_of h e ≤ length (pending h before) = land_of-allowed B o before h e a in
+    let left : length (pending h before) ≡ length (stores h before) - lands h before = length-drop (lands h before) (stores h before) in
+    let count : lands h (before ++ e ∷ []) ≡ lands h before + lands h (e ∷ []) = lands-append h before (e ∷ []) in
+    let whole : length (stores h (before ++ e ∷ [])) ≡ length (stores h before) + length (stores h (e ∷ [])) = ap length (stores-append h before (e ∷ [])) ∙ length-append (stores h before) (stores h (e ∷ [])) in
+    omega arith
+
+pub balanced-after : (B : ℕ) (o : Start) (before es : List Entry) (h : ℕ) → LegalAfter B o before es → lands h before ≤ length (stores h before) → lands h (before ++ es) ≤ length (stores h (before ++ es))
+balanced-after B o before [] h l le = rw append-nil le
+balanced-after B o before (e ∷ es) h l le =
+    rw (← append_assoc before (e ∷ []) es) (balanced-after B o (before ++ e ∷ []) es h l.1 (balanced-last B o before h e l.0 le))
+
+pub balanced : (B : ℕ) (t : History) (h : ℕ) → Legal B t → lands h t.entries ≤ length (stores h t.entries)
+balanced B t h l = balanced-after B t.opening [] t.entries h l (omega arith)

@@ -1,0 +1,120 @@
+-- What a machine that holds what its history says answers is the outcome that the history allows.
+use Rattle.std.proofs.Common.{◌≡◌, ℕ, ◌≤◌, ◌<◌, ◌==◌, Bool, true, false, not, ◌&&◌, IsTrue, List, [], ◌∷◌, ◌++◌, length, Option, Some, None, refl, sym, ◌∙◌, ap, subst, arith}
+use Rattle.std.specs.Prelude.{nat_lt, option_map, unwrap_or}
+use Rattle.std.specs.List.{slice_get}
+use Rattle.std.proofs.lemmas.Bool.Decides.{nat_tests}
+use Rattle.memory.specs.Words.{IsAddress, newest_of}
+use Rattle.hart.specs.State.{HartState, HartView}
+use Rattle.hart.specs.Steps.{need_of}
+use Rattle.rv_decode.specs.declared.instruction.AmoOp.{AmoOp}
+use Rattle.hart.specs.Effects.{updated}
+use Rattle.hart.specs.declared.status.Status.{Status}
+use Rattle.hart.specs.declared.status.Status.TheVariants as status
+use Rattle.hart.specs.declared.need.Need.{Need}
+use Rattle.hart.specs.declared.need.Need.TheVariants as need
+use Rattle.hart.specs.declared.need.Report.TheVariants as report
+use Rattle.hart.proofs.Needs.{IsInRange}
+use Rattle.step_machine.specs.declared.events.Event.{Event}
+use Rattle.step_machine.specs.declared.events.Event.TheVariants as event
+use Rattle.step_machine.specs.declared.events.Entry.{Entry}
+use Rattle.step_machine.specs.declared.events.Entry.TheVariants as entry
+use Rattle.step_machine.specs.declared.events.Outcome.{Outcome}
+use Rattle.step_machine.specs.declared.events.Outcome.TheVariants as outcome
+use Rattle.step_machine.specs.History.{Start, History, with_entry}
+use Rattle.step_machine.specs.Entries.{hart_of, is_land, pending, memory_word, read}
+use Rattle.step_machine.specs.Paths.{entry_of, value_of, CanMake, state_of, Path}
+use Rattle.step_machine.specs.Legal.{Allowed, Legal, Kept}
+use Rattle.step_machine.specs.Runs.{IsFor, CanFollow, idle, idle_of, idle_in, Adds, Idles, Happens}
+use Rattle.step_machine.specs.Config.{Config, buffer_of, word_at, found, is_empty, if_waits, outcome_for, act_in, act_outcome, land_in, land_outcome, outcome_of}
+use Rattle.step_machine.specs.Ties.{view_state, Tied}
+use Rattle.step_machine.proofs.Follows.{follows, act_only, land_follows, Path-hart, Legal-last}
+
+-- an entry with which hart h does what it needs, and which memory and buffers allow
+pub record Does (B : ℕ) (t : History) (h : ℕ) (n : Need) (e : Entry) : Type 0 where
+  pub made : e ≡ entry_of h n (value_of e)
+  pub allowed : Allowed B t.opening t.entries e
+
+-- the outcome of an act of a running hart that needs n: the one entry that does it, or waiting
+-- because none can
+abbrev pub Decided : ℕ → History → ℕ → Need → Outcome → Type 0
+Decided B t h n (outcome.Did e) = (hart_of e ≡ h) × (is_land e ≡ false) × Does B t h n e × ((d : Entry) → Does B t h n d → d ≡ e)
+Decided B t h n outcome.Waited = (d : Entry) → Does B t h n d → ⊥
+Decided B t h n outcome.NothingToLand = ⊥
+Decided B t h n outcome.Over = ⊥
+Decided B t h n outcome.NoHart = ⊥
+
+-- what an act sees of memory and of its own buffer
+pub record Sees (M : ℕ) (t : History) (c : Config) (h : ℕ) : Type 0 where
+  pub buffer : buffer_of c h ≡ pending h t.entries
+  pub finds : (a : ℕ) → IsAddress M a → found c h a ≡ read t.opening t.entries h a
+  pub words : (a : ℕ) → IsAddress M a → word_at c a ≡ memory_word t.opening t.entries a
+
+pub Tied-sees : (M : ℕ) (t : History) (c : Config) (h : ℕ) → Tied M t c → Sees M t c h
+Tied-sees M t c h tied = record {
+    buffer = tied.buffers h;
+    finds = λ a is. ap (λ ps. unwrap_or (newest_of a None ps) (word_at c a)) (tied.buffers h) ∙ ap (λ w. unwrap_or (newest_of a None (pending h t.entries)) w) (tied.words a is);
+    words = tied.words;
+  }
+
+is_empty-nil : (ps : List (ℕ × ℕ)) → is_empty ps ≡ true → ps ≡ []
+is_empty-nil [] e = refl
+is_empty-nil (p ∷ ps) e = cc
+
+nil-is_empty : (ps : List (ℕ × ℕ)) → ps ≡ [] → is_empty ps ≡ true
+nil-is_empty ps e = ap is_empty e
+
+-- where nothing is pending, a hart reads memory itself
+pub read-empty : (o : Start) (es : List Entry) (h a : ℕ) → pending h es ≡ [] → read o es h a ≡ memory_word o es a
+read-empty o es h a e = ap (λ ps. unwrap_or (newest_of a None ps) (memory_word o es a)) e
+
+-- an entry that is the only one, whatever it read
+alone : (B : ℕ) (t : History) (h : ℕ) (n : Need) (e : Entry) → hart_of e ≡ h → is_land e ≡ false → e ≡ entry_of h n (value_of e) → Allowed B t.opening t.entries e → ((d : Entry) → d ≡ entry_of h n (value_of d) → d ≡ e) → Decided B t h n (outcome.Did e)
+alone B t h n e mine act made allowed only = (mine, act, record { made = made; allowed = allowed }, λ d does. only d does.made)
+
+decided_load : (B M : ℕ) (t : History) (c : Config) (h a : ℕ) → Sees M t c h → IsAddress M a → Decided B t h (need.Load a) (outcome.Did (entry.Load h a (found c h a)))
+decided_load B M t c h a sees is =
+    (refl, refl, record { made = refl; allowed = sees.finds a is },
+     λ d does. does.made ∙ ap (λ v. entry.Load h a v) (subst (Allowed B t.opening t.entries) does.made does.allowed ∙ sym (sees.finds a is)))
+
+decided_store : (B M : ℕ) (t : History) (c : Config) (h a w : ℕ) (b : Bool) → Sees M t c h → nat_lt (length (buffer_of c h)) B ≡ b → Decided B t h (need.Store a w) (if_waits (not b) (entry.Store h a w))
+decided_store B M t c h a w true sees is =
+    let few : length (buffer_of c h) < B = grind (arith, nat_tests) in
+    alone B t h (need.Store a w) (entry.Store h a w) refl refl refl (subst (λ (ps : List (ℕ × ℕ)). length ps < B) sees.buffer few) (λ d made. made)
+decided_store B M t c h a w false sees is = λ d does.
+    let few : length (pending h t.entries) < B = subst (Allowed B t.opening t.entries) does.made does.allowed in
+    let same : length (buffer_of c h) ≡ length (pending h t.entries) = ap length sees.buffer in
+    let full : B ≤ length (buffer_of c h) = grind (arith, nat_tests) in
+    absurd (omega arith)
+
+decided_amo : (B M : ℕ) (t : History) (c : Config) (h a : ℕ) (op : AmoOp) (rs2 : ℕ) (b : Bool) → Sees M t c h → IsAddress M a → is_empty (buffer_of c h) ≡ b → Decided B t h (need.Amo a op rs2) (if_waits (not b) (entry.Amo h a (word_at c a) (updated op (word_at c a) rs2)))
+decided_amo B M t c h a op rs2 true sees is b =
+    let empty : pending h t.entries ≡ [] = sym sees.buffer ∙ is_empty-nil (buffer_of c h) b in
+    let word : word_at c a ≡ read t.opening t.entries h a = sees.words a is ∙ sym (read-empty t.opening t.entries h a empty) in
+    (refl, refl, record { made = refl; allowed = (empty, word) },
+     λ d does. does.made ∙ ap (λ v. entry.Amo h a v (updated op v rs2)) ((subst (Allowed B t.opening t.entries) does.made does.allowed).1 ∙ sym word))
+decided_amo B M t c h a op rs2 false sees is b = λ d does.
+    let empty : pending h t.entries ≡ [] = (subst (Allowed B t.opening t.entries) does.made does.allowed).0 in
+    let yes : is_empty (buffer_of c h) ≡ true = nil-is_empty (buffer_of c h) (sees.buffer ∙ empty) in
+    cc
+
+decided_fence : (B M : ℕ) (t : History) (c : Config) (h : ℕ) (full b : Bool) → Sees M t c h → is_empty (buffer_of c h) ≡ b → Decided B t h (need.Fence full) (if_waits (full && not b) (entry.Fence h full))
+decided_fence B M t c h false b sees is = alone B t h (need.Fence false) (entry.Fence h false) refl refl refl (λ bad. absurd (cc)) (λ d made. made)
+decided_fence B M t c h true true sees is =
+    alone B t h (need.Fence true) (entry.Fence h true) refl refl refl (λ _. sym sees.buffer ∙ is_empty-nil (buffer_of c h) is) (λ d made. made)
+decided_fence B M t c h true false sees is = λ d does.
+    let empty : pending h t.entries ≡ [] = subst (Allowed B t.opening t.entries) does.made does.allowed refl in
+    let yes : is_empty (buffer_of c h) ≡ true = nil-is_empty (buffer_of c h) (sees.buffer ∙ empty) in
+    cc
+
+-- what a running hart's act answers is decided
+pub outcome_for-decided : (B M : ℕ) (t : History) (c : Config) (h : ℕ) (n : Need) → Sees M t c h → IsInRange M n → Decided B t h n (outcome_for B c h n)
+outcome_for-decided B M t c h need.Inner sees is = alone B t h need.Inner (entry.Inner h) refl refl refl tt (λ d made. made)
+outcome_for-decided B M t c h (need.Load a) sees is = decided_load B M t c h a sees is
+outcome_for-decided B M t c h (need.Store a w) sees is = decided_store B M t c h a w (nat_lt (length (buffer_of c h)) B) sees refl
+outcome_for-decided B M t c h (need.Amo a op rs2) sees is = decided_amo B M t c h a op rs2 (is_empty (buffer_of c h)) sees is refl
+outcome_for-decided B M t c h (need.Fence full) sees is = decided_fence B M t c h full (is_empty (buffer_of c h)) sees refl
+outcome_for-decided B M t c h (need.Next w) sees is = alone B t h (need.Next w) (entry.Next h w) refl refl refl tt (λ d made. made)
+outcome_for-decided B M t c h (need.Report (report.Took i w)) sees is = alone B t h (need.Report (report.Took i w)) (entry.Took h i w) refl refl refl tt (λ d made. made)
+outcome_for-decided B M t c h (need.Report (report.Closed i)) sees is = alone B t h (need.Report (report.Closed i)) (entry.Closed h i) refl refl refl tt (λ d made. made)
+outcome_for-decided B M t c h need.Exit sees is = alone B t h need.Exit (entry.Ended h) refl refl refl tt (λ d made. made)
+outcome_for-decided B M t c h (need.Stop why) sees is = alone B t h (need.Stop why) (entry.Stopped h why) refl refl refl tt (λ d made. made)

@@ -1,0 +1,143 @@
+-- What a machine that holds what its history says does is what happens to the history.
+use Rattle.std.proofs.Common.{◌≡◌, ℕ, ◌≤◌, ◌<◌, Bool, true, false, List, [], ◌∷◌, ◌++◌, length, Option, Some, None, refl, sym, ◌∙◌, ap, subst, arith}
+use Rattle.std.specs.Prelude.{option_map}
+use Rattle.std.specs.List.{slice_get}
+use Rattle.std.proofs.lemmas.Option.{slice_get_within}
+use Rattle.hart.specs.State.{HartState, HartView}
+use Rattle.hart.specs.Steps.{need_of}
+use Rattle.hart.specs.declared.status.Status.{Status}
+use Rattle.hart.specs.declared.status.Status.TheVariants as status
+use Rattle.hart.specs.declared.need.Need.{Need}
+use Rattle.hart.proofs.Needs.{IsInRange, need_of-in_range}
+use Rattle.step_machine.specs.declared.events.Event.{Event}
+use Rattle.step_machine.specs.declared.events.Event.TheVariants as event
+use Rattle.step_machine.specs.declared.events.Entry.{Entry}
+use Rattle.step_machine.specs.declared.events.Entry.TheVariants as entry
+use Rattle.step_machine.specs.declared.events.Outcome.{Outcome}
+use Rattle.step_machine.specs.declared.events.Outcome.TheVariants as outcome
+use Rattle.step_machine.specs.History.{HartStart, Start, History, with_entry}
+use Rattle.step_machine.specs.Entries.{hart_of, is_land, own, pending}
+use Rattle.step_machine.specs.Paths.{entry_of, value_of, CanMake, opens_as, after_entries, state_of, Path}
+use Rattle.step_machine.specs.Legal.{Allowed, Legal, Kept}
+use Rattle.step_machine.specs.Runs.{IsFor, CanFollow, NoEntry, idle, idle_of, idle_in, Adds, Idles, Happens}
+use Rattle.step_machine.specs.Config.{Config, buffer_of, outcome_for, act_in, act_outcome, land_in, land_outcome, outcome_of}
+use Rattle.step_machine.specs.Ties.{view_state, Tied}
+use Rattle.step_machine.proofs.Follows.{state_after, follows, act_only, land_follows, Path-hart, Legal-last}
+use Rattle.step_machine.proofs.Decides.{Does, Decided, Sees, Tied-sees, outcome_for-decided}
+
+-- the history after an outcome
+abbrev pub history_after : History → Outcome → History
+history_after t (outcome.Did e) = with_entry t e
+history_after t outcome.Waited = t
+history_after t outcome.NothingToLand = t
+history_after t outcome.Over = t
+history_after t outcome.NoHart = t
+
+-- what is known of a machine between two steps
+pub record Stands (B M : ℕ) (t : History) (c : Config) : Type 0 where
+  pub kept : Kept B M t
+  pub tied : Tied M t c
+
+no_hart : {X Y : Type 0} (f : X → Y) (o : Option X) → option_map f o ≡ None → o ≡ None
+no_hart f None e = refl
+no_hart f (Some x) e = cc
+
+-- no entry of a hart that isn't there can follow
+pub none-no_hart : (B M : ℕ) (t : History) (h : ℕ) (d : Entry) → state_of M t h ≡ None → hart_of d ≡ h → CanFollow B M t d → ⊥
+none-no_hart B M t h d none mine f =
+    Path-hart M (with_entry t d) h (subst (Path M (with_entry t d)) mine f.path) (no_hart (state_after M (own h t.entries)) (slice_get t.opening.harts h) none)
+
+-- a hart with a state is one of the opening's, and keeps its path
+pub state_of-hart : (M : ℕ) (t : History) (h : ℕ) (s : HartState) → state_of M t h ≡ Some s → h < length t.opening.harts
+state_of-hart M t h s is = within (slice_get t.opening.harts h) refl is
+  where
+    within : (o : Option HartStart) → slice_get t.opening.harts h ≡ o → option_map (state_after M (own h t.entries)) o ≡ Some s → h < length t.opening.harts
+    within None e none = cc
+    within (Some x) e some = slice_get_within t.opening.harts h x e
+
+running_happens : (B M : ℕ) (t : History) (h : ℕ) (s : HartState) (o : Outcome) → Kept B M t → state_of M t h ≡ Some s → s.status ≡ status.Running → Decided B t h (need_of s) o → Happens B M t (event.Act h) o (history_after t o)
+running_happens B M t h s (outcome.Did e) kept is run d =
+    let path : Path M t h = kept.paths h (state_of-hart M t h s is) in
+    let can : CanMake s e = record { running = run; made = d.2.made ∙ ap (λ k. entry_of k (need_of s) (value_of e)) (sym d.0) } in
+    record {
+      for_event = (d.0, d.1);
+      follows = follows B M t h s e d.0 d.1 kept.legal path is can d.2.allowed;
+      only = λ x for_x f. (let only : CanMake s x × Allowed B t.opening t.entries x = act_only B M t h s x for_x.0 for_x.1 is f in
+        d.3 x (record { made = only.0.made ∙ ap (λ k. entry_of k (need_of s) (value_of x)) for_x.0; allowed = only.1 }));
+      after = refl;
+    }
+running_happens B M t h s outcome.Waited kept is run d =
+    record {
+      none = λ x for_x f. (let only : CanMake s x × Allowed B t.opening t.entries x = act_only B M t h s x for_x.0 for_x.1 is f in
+        d x (record { made = only.0.made ∙ ap (λ k. entry_of k (need_of s) (value_of x)) for_x.0; allowed = only.1 }));
+      why = sym (ap (λ o. idle_of o outcome.Waited) is ∙ ap (λ st. idle_in st outcome.Waited) run);
+      after = refl;
+    }
+running_happens B M t h s outcome.NothingToLand kept is run d = absurd d
+running_happens B M t h s outcome.Over kept is run d = absurd d
+running_happens B M t h s outcome.NoHart kept is run d = absurd d
+
+-- a hart that doesn't run does nothing more
+over_happens : (B M : ℕ) (t : History) (h : ℕ) (s : HartState) → state_of M t h ≡ Some s → (s.status ≡ status.Running → ⊥) → idle_in s.status outcome.Waited ≡ outcome.Over → Happens B M t (event.Act h) outcome.Over t
+over_happens B M t h s is over idles =
+    record {
+      none = λ x for_x f. over (act_only B M t h s x for_x.0 for_x.1 is f).0.running;
+      why = sym (ap (λ o. idle_of o outcome.Waited) is ∙ idles);
+      after = refl;
+    }
+
+status_happens : (B M : ℕ) (t : History) (h : ℕ) (s : HartState) (st : Status) (o : Outcome) → Kept B M t → state_of M t h ≡ Some s → s.status ≡ st → Decided B t h (need_of s) o → Happens B M t (event.Act h) (act_in st o) (history_after t (act_in st o))
+status_happens B M t h s status.Running o kept is run d = running_happens B M t h s o kept is run d
+status_happens B M t h s status.Ended o kept is run d = over_happens B M t h s is (λ r. cc) (ap (λ x. idle_in x outcome.Waited) run)
+status_happens B M t h s (status.Stopped why) o kept is run d = over_happens B M t h s is (λ r. cc) (ap (λ x. idle_in x outcome.Waited) run)
+
+act_happens : (B M : ℕ) (t : History) (c : Config) (h : ℕ) (so : Option HartView) → Stands B M t c → ((v : HartView) → so ≡ Some v → v.state.words ≡ M) → option_map view_state so ≡ state_of M t h → Happens B M t (event.Act h) (act_outcome B c h so) (history_after t (act_outcome B c h so))
+act_happens B M t c h None stands words is =
+    record {
+      none = λ x for_x f. none-no_hart B M t h x (sym is) for_x.0 f;
+      why = ap (λ o. idle_of o outcome.Waited) is;
+      after = refl;
+    }
+act_happens B M t c h (Some v) stands words is =
+    let range : IsInRange M (need_of v.state) = subst (λ (m : ℕ). IsInRange m (need_of v.state)) (words v refl) (need_of-in_range v.state) in
+    status_happens B M t h v.state v.state.status (outcome_for B c h (need_of v.state)) stands.kept (sym is) refl
+    (outcome_for-decided B M t c h (need_of v.state) (Tied-sees M t c h stands.tied) range)
+
+land_none : (B M : ℕ) (t : History) (h : ℕ) → pending h t.entries ≡ [] → NoEntry B M t (event.Land h)
+land_none B M t h empty d is f =
+    let some : 0 < length (pending h t.entries) = subst (Allowed B t.opening t.entries) is (Legal-last B t d f.legal) in
+    let none : length (pending h t.entries) ≡ 0 = ap length empty in
+    absurd (omega arith)
+
+idle_land : (B M : ℕ) (t : History) (h : ℕ) (s : HartState) (st : Status) → state_of M t h ≡ Some s → s.status ≡ st → pending h t.entries ≡ [] → Happens B M t (event.Land h) (act_in st outcome.NothingToLand) (history_after t (act_in st outcome.NothingToLand))
+idle_land B M t h s status.Running is run empty =
+    record { none = land_none B M t h empty; why = sym (ap (λ o. idle_of o outcome.NothingToLand) is ∙ ap (λ x. idle_in x outcome.NothingToLand) run); after = refl }
+idle_land B M t h s status.Ended is run empty =
+    record { none = land_none B M t h empty; why = sym (ap (λ o. idle_of o outcome.NothingToLand) is ∙ ap (λ x. idle_in x outcome.NothingToLand) run); after = refl }
+idle_land B M t h s (status.Stopped why) is run empty =
+    record { none = land_none B M t h empty; why = sym (ap (λ o. idle_of o outcome.NothingToLand) is ∙ ap (λ x. idle_in x outcome.NothingToLand) run); after = refl }
+
+some_land : (B M : ℕ) (t : History) (h : ℕ) (s : HartState) (ps : List (ℕ × ℕ)) → Kept B M t → state_of M t h ≡ Some s → ps ≡ pending h t.entries → Happens B M t (event.Land h) (land_in ps h s.status) (history_after t (land_in ps h s.status))
+some_land B M t h s [] kept is ps = idle_land B M t h s s.status is refl (sym ps)
+some_land B M t h s (p ∷ ps) kept is e =
+    let count : length (p ∷ ps) ≡ length (pending h t.entries) = ap length e in
+    record {
+      for_event = refl;
+      follows = land_follows B M t h kept.legal (kept.paths h (state_of-hart M t h s is)) (omega arith);
+      only = λ x for_x f. for_x;
+      after = refl;
+    }
+
+land_happens : (B M : ℕ) (t : History) (c : Config) (h : ℕ) (so : Option HartView) → Stands B M t c → option_map view_state so ≡ state_of M t h → Happens B M t (event.Land h) (land_outcome c h so) (history_after t (land_outcome c h so))
+land_happens B M t c h None stands is =
+    record {
+      none = λ x for_x f. none-no_hart B M t h x (sym is) (ap hart_of for_x) f;
+      why = ap (λ o. idle_of o outcome.NothingToLand) is;
+      after = refl;
+    }
+land_happens B M t c h (Some v) stands is = some_land B M t h v.state (buffer_of c h) stands.kept (sym is) (stands.tied.buffers h)
+
+-- the outcome of an event is the one that the history allows, and the history goes on by it
+pub outcome_of-happens : (B M : ℕ) (t : History) (c : Config) (ev : Event) → Stands B M t c → ((h : ℕ) (v : HartView) → slice_get c.harts h ≡ Some v → v.state.words ≡ M) → Happens B M t ev (outcome_of B c ev) (history_after t (outcome_of B c ev))
+outcome_of-happens B M t c (event.Act h) stands words = act_happens B M t c h (slice_get c.harts h) stands (words h) (stands.tied.states h)
+outcome_of-happens B M t c (event.Land h) stands words = land_happens B M t c h (slice_get c.harts h) stands (stands.tied.states h)

@@ -1,0 +1,118 @@
+-- What the machine holds at one moment, and what an event makes of it: plain functions, which the code
+-- of `cores.rt` meets and `proofs/` ties to histories. No public clause names them.
+use Rattle.std.specs.Prelude.{ℕ, ◌≡◌, ◌≤◌, ◌/◌, ◌<◌, Bool, true, false, not, ◌&&◌, nat_lt, if◌then◌else◌, List, [], ◌∷◌, ◌++◌, All, length, drop, slice_index, slice_set, Option, Some, None, unwrap_or}
+use Rattle.std.specs.List.{slice_get, slice_index_or}
+use Rattle.memory.specs.Words.{IsAddress, newest_of}
+use Rattle.hart.specs.State.{HartState, HartView}
+use Rattle.hart.specs.Steps.{need_of, stepped}
+use Rattle.hart.specs.Effects.{updated}
+use Rattle.hart.specs.declared.status.Status.{Status}
+use Rattle.hart.specs.declared.status.Status.TheVariants as status
+use Rattle.hart.specs.declared.need.Need.{Need}
+use Rattle.hart.specs.declared.need.Need.TheVariants as need
+use Rattle.hart.specs.declared.need.Report.TheVariants as report
+use Rattle.step_machine.specs.declared.events.Event.{Event}
+use Rattle.step_machine.specs.declared.events.Event.TheVariants as event
+use Rattle.step_machine.specs.declared.events.Entry.{Entry}
+use Rattle.step_machine.specs.declared.events.Entry.TheVariants as entry
+use Rattle.step_machine.specs.declared.events.Outcome.{Outcome}
+use Rattle.step_machine.specs.declared.events.Outcome.TheVariants as outcome
+
+pub record Config : Type 0 where
+  pub harts : List HartView
+  pub buffers : List (List (ℕ × ℕ))
+  pub words : List ℕ
+
+abbrev pub buffer_of : Config → ℕ → List (ℕ × ℕ)
+buffer_of c h = slice_index_or c.buffers h []
+
+abbrev pub word_at : Config → ℕ → ℕ
+word_at c a = slice_index c.words (a / 4)
+
+-- what hart h finds at an address
+abbrev pub found : Config → ℕ → ℕ → ℕ
+found c h a = unwrap_or (newest_of a None (buffer_of c h)) (word_at c a)
+
+abbrev pub is_empty : List (ℕ × ℕ) → Bool
+is_empty [] = true
+is_empty (p ∷ ps) = false
+
+abbrev pub if_waits : Bool → Entry → Outcome
+if_waits true e = outcome.Waited
+if_waits false e = outcome.Did e
+
+abbrev pub outcome_for : ℕ → Config → ℕ → Need → Outcome
+outcome_for B c h need.Inner = outcome.Did (entry.Inner h)
+outcome_for B c h (need.Load a) = outcome.Did (entry.Load h a (found c h a))
+outcome_for B c h (need.Store a w) = if_waits (not (nat_lt (length (buffer_of c h)) B)) (entry.Store h a w)
+outcome_for B c h (need.Amo a op rs2) = if_waits (not (is_empty (buffer_of c h))) (entry.Amo h a (word_at c a) (updated op (word_at c a) rs2))
+outcome_for B c h (need.Fence full) = if_waits (full && not (is_empty (buffer_of c h))) (entry.Fence h full)
+outcome_for B c h (need.Next w) = outcome.Did (entry.Next h w)
+outcome_for B c h (need.Report (report.Took i w)) = outcome.Did (entry.Took h i w)
+outcome_for B c h (need.Report (report.Closed i)) = outcome.Did (entry.Closed h i)
+outcome_for B c h need.Exit = outcome.Did (entry.Ended h)
+outcome_for B c h (need.Stop why) = outcome.Did (entry.Stopped h why)
+
+abbrev pub act_in : Status → Outcome → Outcome
+act_in status.Running o = o
+act_in status.Ended o = outcome.Over
+act_in (status.Stopped why) o = outcome.Over
+
+abbrev pub act_outcome : ℕ → Config → ℕ → Option HartView → Outcome
+act_outcome B c h None = outcome.NoHart
+act_outcome B c h (Some v) = act_in v.state.status (outcome_for B c h (need_of v.state))
+
+abbrev pub land_in : List (ℕ × ℕ) → ℕ → Status → Outcome
+land_in [] h s = act_in s outcome.NothingToLand
+land_in (p ∷ ps) h s = outcome.Did (entry.Land h)
+
+abbrev pub land_outcome : Config → ℕ → Option HartView → Outcome
+land_outcome c h None = outcome.NoHart
+land_outcome c h (Some v) = land_in (buffer_of c h) h v.state.status
+
+-- what the event answers
+abbrev pub outcome_of : ℕ → Config → Event → Outcome
+outcome_of B c (event.Act h) = act_outcome B c h (slice_get c.harts h)
+outcome_of B c (event.Land h) = land_outcome c h (slice_get c.harts h)
+
+abbrev pub step_at : List HartView → ℕ → ℕ → Option HartView → List HartView
+step_at hs h v None = hs
+step_at hs h v (Some x) = slice_set hs h (stepped x v)
+
+abbrev pub step_hart : Config → ℕ → ℕ → List HartView
+step_hart c h v = step_at c.harts h v (slice_get c.harts h)
+
+abbrev pub write_first : List (ℕ × ℕ) → List ℕ → List ℕ
+write_first [] words = words
+write_first (p ∷ ps) words = slice_set words (p.0 / 4) p.1
+
+-- what an entry makes of what the machine holds
+abbrev pub after_entry : Config → Entry → Config
+after_entry c (entry.Inner h) = record c { harts = step_hart c h 0 }
+after_entry c (entry.Load h a v) = record c { harts = step_hart c h v }
+after_entry c (entry.Store h a v) = record c { harts = step_hart c h 0; buffers = slice_set c.buffers h (buffer_of c h ++ (a, v) ∷ []) }
+after_entry c (entry.Amo h a old new) = record c { harts = step_hart c h old; words = slice_set c.words (a / 4) new }
+after_entry c (entry.Fence h full) = record c { harts = step_hart c h 0 }
+after_entry c (entry.Next h w) = record c { harts = step_hart c h 0 }
+after_entry c (entry.Took h i w) = record c { harts = step_hart c h 0 }
+after_entry c (entry.Closed h i) = record c { harts = step_hart c h 0 }
+after_entry c (entry.Ended h) = record c { harts = step_hart c h 0 }
+after_entry c (entry.Stopped h why) = record c { harts = step_hart c h 0 }
+after_entry c (entry.Land h) = record c { buffers = slice_set c.buffers h (drop 1 (buffer_of c h)); words = write_first (buffer_of c h) c.words }
+
+abbrev pub after_outcome : Config → Outcome → Config
+after_outcome c (outcome.Did e) = after_entry c e
+after_outcome c outcome.Waited = c
+after_outcome c outcome.NothingToLand = c
+after_outcome c outcome.Over = c
+after_outcome c outcome.NoHart = c
+
+abbrev pub HasAddress : ℕ → ℕ × ℕ → Type 0
+HasAddress M p = IsAddress M p.0
+
+-- as many buffers as harts, memory and harts of M words, and pending stores to addresses of words
+pub record Fit (M : ℕ) (c : Config) : Type 0 where
+  pub buffers : length c.buffers ≡ length c.harts
+  pub words : length c.words ≡ M
+  pub harts : All (λ (v : HartView). v.state.words ≡ M) c.harts
+  pub pending : All (λ (ps : List (ℕ × ℕ)). All (HasAddress M) ps) c.buffers

@@ -1,0 +1,73 @@
+-- One hart's path: the states that its own entries lead through, and that each entry is the one that
+-- its state makes. One hart alone: no memory and no other hart is in it, and what its loads and AMOs
+-- read is free.
+use Rattle.std.specs.Prelude.{ℕ, ◌≡◌, ◌<◌, Bool, List, [], ◌∷◌, ◌++◌, Option, Some, None, option_map}
+use Rattle.std.specs.List.{slice_get}
+use Rattle.hart.specs.State.{HartState}
+use Rattle.hart.specs.Steps.{first_state, need_of, advanced}
+use Rattle.hart.specs.Effects.{updated}
+use Rattle.hart.specs.declared.status.Status.TheVariants as status
+use Rattle.hart.specs.declared.need.Need.{Need}
+use Rattle.hart.specs.declared.need.Need.TheVariants as need
+use Rattle.hart.specs.declared.need.Report.TheVariants as report
+use Rattle.step_machine.specs.declared.events.Entry.{Entry}
+use Rattle.step_machine.specs.declared.events.Entry.TheVariants as entry
+use Rattle.step_machine.specs.History.{HartStart, Start, History}
+use Rattle.step_machine.specs.Entries.{hart_of, own}
+
+-- the entry by which hart h does what its next instruction wants, when v is the word read
+abbrev pub entry_of : ℕ → Need → ℕ → Entry
+entry_of h need.Inner v = entry.Inner h
+entry_of h (need.Load a) v = entry.Load h a v
+entry_of h (need.Store a w) v = entry.Store h a w
+entry_of h (need.Amo a op rs2) v = entry.Amo h a v (updated op v rs2)
+entry_of h (need.Fence full) v = entry.Fence h full
+entry_of h (need.Next w) v = entry.Next h w
+entry_of h (need.Report (report.Took i w)) v = entry.Took h i w
+entry_of h (need.Report (report.Closed i)) v = entry.Closed h i
+entry_of h need.Exit v = entry.Ended h
+entry_of h (need.Stop why) v = entry.Stopped h why
+
+-- the word that an entry read, and 0 where it read none
+abbrev pub value_of : Entry → ℕ
+value_of (entry.Inner h) = 0
+value_of (entry.Load h a v) = v
+value_of (entry.Store h a v) = 0
+value_of (entry.Amo h a old new) = old
+value_of (entry.Fence h full) = 0
+value_of (entry.Next h w) = 0
+value_of (entry.Took h i w) = 0
+value_of (entry.Closed h i) = 0
+value_of (entry.Ended h) = 0
+value_of (entry.Stopped h why) = 0
+value_of (entry.Land h) = 0
+
+-- a running hart in this state can make this entry
+pub record CanMake (s : HartState) (e : Entry) : Type 0 where
+  pub running : s.status ≡ status.Running
+  pub made : e ≡ entry_of (hart_of e) (need_of s) (value_of e)
+
+-- the state after these entries of the hart's own
+abbrev pub after_entries : HartState → List Entry → HartState
+after_entries s [] = s
+after_entries s (e ∷ es) = after_entries (advanced s (value_of e)) es
+
+-- each of these entries is the one that the state before it makes
+abbrev pub Makes : HartState → List Entry → Type 0
+Makes s [] = Unit {0}
+Makes s (e ∷ es) = CanMake s e × Makes (advanced s (value_of e)) es
+
+abbrev pub opens_as : ℕ → HartStart → HartState
+opens_as M o = first_state o.code o.registers o.inbox M
+
+-- the state of hart h after all its own entries, where h is a hart
+abbrev pub state_of : ℕ → History → ℕ → Option HartState
+state_of M t h = option_map (λ o. after_entries (opens_as M o) (own h t.entries)) (slice_get t.opening.harts h)
+
+abbrev pub PathOf : ℕ → Option HartStart → List Entry → Type 0
+PathOf M None es = ⊥
+PathOf M (Some o) es = Makes (opens_as M o) es
+
+-- h is a hart, and its own entries are a path from its opening
+abbrev pub Path : ℕ → History → ℕ → Type 0
+Path M t h = PathOf M (slice_get t.opening.harts h) (own h t.entries)

@@ -1,0 +1,51 @@
+//! What may happen to a machine, what did, and what a step answers.
+
+use hart::status::Stop;
+
+/// One atomic step. Harts are numbered from 0.
+#[derive(Clone, Copy, Debug, PartialEq, Eq)]
+pub enum Event {
+    /// This hart executes one instruction.
+    Act(u32),
+    /// This hart's oldest pending store reaches memory.
+    Land(u32),
+}
+
+/// What an event did. Addresses are in bytes, values are words.
+#[derive(Clone, Copy, Debug, PartialEq, Eq)]
+pub enum Entry {
+    /// An instruction that does nothing of the others.
+    Inner { hart: u32 },
+    Load { hart: u32, addr: u32, value: u32 },
+    /// A store joined the hart's store buffer.
+    Store { hart: u32, addr: u32, value: u32 },
+    /// An AMO replaced the word `old` by `new` in one step.
+    Amo { hart: u32, addr: u32, old: u32, new: u32 },
+    Fence { hart: u32, full: bool },
+    /// The hart asked for its inbox's next word, and got it or learned that there is none.
+    Next { hart: u32, word: Option<u32> },
+    /// The hart reported a word taken from this sender.
+    Took { hart: u32, sender: u32, word: u32 },
+    /// The hart reported that this sender has nothing more.
+    Closed { hart: u32, sender: u32 },
+    /// The exit call.
+    Ended { hart: u32 },
+    Stopped { hart: u32, why: Stop },
+    /// The hart's oldest pending store reached memory.
+    Land { hart: u32 },
+}
+
+/// What a step answers.
+#[derive(Clone, Copy, Debug, PartialEq, Eq)]
+pub enum Outcome {
+    /// The event happened, and this entry was added.
+    Did(Entry),
+    /// The hart has to wait: for its store buffer to be empty, or for room in it.
+    Waited,
+    /// The hart has no pending store.
+    NothingToLand,
+    /// The hart has ended or stopped (and, for a landing, has no pending store).
+    Over,
+    /// There is no hart of this number.
+    NoHart,
+}

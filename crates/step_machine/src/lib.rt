@@ -1,0 +1,13 @@
+//! The step machine: harts with store buffers over one word memory, one event at a time.
+//!
+//! The contract: a [`Machine`] is seen as its history, the opening and the list of entries so far, and
+//! [`Machine::step`] adds the one entry that the store buffer model allows for the event, or none
+//! (`Happens` of `specs/Runs.antt`); registers, pending stores and memory words are read off that
+//! history by definitions that know no machine. This crate reads and prints no text, and nothing above
+//! it names how the history is kept.
+
+#![tactic(auto)]
+
+pub mod events;
+pub mod opening;
+pub mod laws;
