@@ -26,9 +26,9 @@ pieces_after separators None = []
 pieces_after separators (Some text) = pieces separators text
 
 -- how many bytes are left of a text, with the separator before them
-abbrev pub room_of : Option (List ℕ) → ℕ
-room_of None = 0
-room_of (Some text) = length text + 1
+abbrev pub bytes_left : Option (List ℕ) → ℕ
+bytes_left None = 0
+bytes_left (Some text) = length text + 1
 
 -- how many bytes the pieces take, each with one separator
 abbrev pub span : List (List ℕ) → ℕ

@@ -2,7 +2,7 @@
 
 ghost use Rattle.std.specs.Prelude.{◌≡◌, ◌+◌, ◌∷◌, length, position};
 ghost use Rattle.std.specs.Option.{option_copied};
-ghost use Rattle.texts.specs.Pieces.{separates, pieces, pieces_after, room_of};
+ghost use Rattle.texts.specs.Pieces.{separates, pieces, pieces_after, bytes_left};
 
 /// Which bytes part the pieces of a text.
 #[derive(Clone, Copy, Debug, PartialEq, Eq)]
@@ -42,7 +42,7 @@ fn separator_in(separators: Separators, bytes: &[u8]) -> Option<usize>
 pub fn first_piece(separators: Separators, bytes: &[u8]) -> (&[u8], Option<&[u8]>)
     ensures cut { pieces separators bytes.now ≡ result.0.now ∷ pieces_after separators (option_copied result.1) }
     // each piece and the separator behind it are one step through the text
-    ensures rest { length result.0.now + room_of (option_copied result.1) ≡ length bytes.now }
+    ensures rest { length result.0.now + bytes_left (option_copied result.1) ≡ length bytes.now }
 {
     match separator_in(separators, bytes) {
         Some(at) => (&bytes[..at], Some(&bytes[at + 1..])),

@@ -1,0 +1,118 @@
+-- A text's tokens: what the reader answers stands there, and what stands there is answered.
+use Rattle.std.proofs.Common.{◌≡◌, ℕ, ◌+◌, ◌-◌, ◌^◌, ◌<◌, ◌≤◌, List, [], ◌∷◌, ◌++◌, length, replicate, Result, Ok, Err, refl, sym, ap, subst, ◌∙◌, length-append, arith}
+use Rattle.step_machine.specs.declared.events.Event.{Event}
+use Rattle.std.proofs.lemmas.List.{length-replicate}
+use Rattle.std.specs.Prelude.{IfSome, IfOk, OnOk}
+use Rattle.texts.specs.Results.{◌>>=◌, Gives}
+use Rattle.recorder.specs.declared.faults.ScheduleError.{ScheduleError}
+use Rattle.recorder.specs.declared.faults.ScheduleError.TheVariants.{NoMemory, Refused}
+use Rattle.texts.specs.Pieces.{pieces}
+use Rattle.texts.specs.declared.pieces.Separators.TheVariants.{BlanksAndLineEnds}
+use Rattle.texts.proofs.ResultLaws.{bind_ok, bind_assoc, ok_is}
+use Rattle.recorder.specs.Schedule.{Stand, IsTokensOf}
+use Rattle.recorder.specs.Reading.{Refusal, refusal_of, run_at, piece_at, events_at, tokens_at, tokens_after, Pushes}
+use Rattle.recorder.proofs.TokenLaws.{IsRun, run_at-IsRun, run_at-from_IsRun}
+
+-- a token that was taken and what stands behind it
+run_stands : (room c : ℕ) (word : List ℕ) (others : List (List ℕ)) (run : Event × ℕ) (rest events : List Event) → IsRun room (c ∷ word) run.0 run.1 → Stand others rest → length rest ≤ room - length (replicate run.1 run.0) → replicate run.1 run.0 ++ rest ≡ events → Stand ((c ∷ word) ∷ others) events × (length events ≤ room)
+run_stands room c word others run rest events is stand few same =
+    let most = is.most in
+    ((run.0, run.1, rest, is.spells, is.hart, is.least, sym same, stand), omega (arith, ap length same, length-append (replicate run.1 run.0) rest, length-replicate run.1 run.0))
+
+pub events_at-Stand : (end place room : ℕ) (all : List (List ℕ)) (events : List Event) → room < 2 ^ 32 → events_at end place room all ≡ Ok events → Stand all events × (length events ≤ room)
+unfolding events_at piece_at
+events_at-Stand end place room [] events small e = let none : [] ≡ events = ok_is Refusal [] events e in (sym none, omega (arith, ap length none))
+events_at-Stand end place room ([] ∷ others) events small e =
+    let rest = bind_ok (events_at end (place + 0 + 1) (room - 0) others) (λ r. Ok ([] ++ r)) events e in
+    let same = ok_is Refusal rest.0 events rest.2 in
+    let stand = events_at-Stand end (place + 0 + 1) (room - 0) others rest.0 (omega arith) rest.1 in
+    subst (λ (es : List Event). Stand others es × (length es ≤ room)) same (stand.0, omega (arith, stand.1))
+events_at-Stand end place room ((c ∷ word) ∷ others) events small e =
+    let read = bind_ok (run_at end place room (c ∷ word)) (λ run. later run >>= λ rest. Ok (replicate run.1 run.0 ++ rest)) events
+    (sym (bind_assoc (run_at end place room (c ∷ word)) (λ run. Ok (replicate run.1 run.0)) (λ first. events_at end (place + length (c ∷ word) + 1) (room - length first) others >>= λ rest. Ok (first ++ rest))) ∙ e) in
+    let rest = bind_ok (later read.0) (λ rest. Ok (replicate read.0.1 read.0.0 ++ rest)) events read.2 in
+    let stand = events_at-Stand end (place + length (c ∷ word) + 1) (room - length (replicate read.0.1 read.0.0)) others rest.0 (omega arith) rest.1 in
+    run_stands room c word others read.0 rest.0 events (run_at-IsRun end place room (c ∷ word) read.0 small read.1) stand.0 stand.1 (ok_is Refusal (replicate read.0.1 read.0.0 ++ rest.0) events rest.2)
+  where
+    later : Event × ℕ → Result (List Event) Refusal
+    later run = events_at end (place + length (c ∷ word) + 1) (room - length (replicate run.1 run.0)) others
+
+pub Stand-events_at : (end place room : ℕ) (all : List (List ℕ)) (events : List Event) → room < 2 ^ 32 → Stand all events → length events ≤ room → events_at end place room all ≡ Ok events
+unfolding events_at piece_at
+Stand-events_at end place room [] events small stand few = rw stand refl
+Stand-events_at end place room ([] ∷ others) events small stand few =
+    rw (Stand-events_at end (place + 0 + 1) (room - 0) others events (omega arith) stand (omega arith)) refl
+Stand-events_at end place room ((c ∷ word) ∷ others) events small (event, times, rest, spells, hart, least, same, stand) few =
+    let len : length (replicate times event) ≡ times = length-replicate times event in
+    let total : length events ≡ times + length rest = omega (arith, ap length same, length-append (replicate times event) rest, len) in
+    let run = run_at-from_IsRun end place room (c ∷ word) event times small (record { spells = spells; hart = hart; least = least; most = omega arith }) in
+    let later = Stand-events_at end (place + length (c ∷ word) + 1) (room - length (replicate times event)) others rest (omega arith) stand (omega arith) in
+    rw (run, later) (ap (λ (es : List Event). Ok es) (sym same))
+
+-- ---- a whole text
+
+pub tokens_at-IsTokensOf : (room : ℕ) (text : List ℕ) (events : List Event) → room ≤ 1048576 → tokens_at room text ≡ Ok events → IsTokensOf text events × (length events ≤ room)
+unfolding tokens_at
+tokens_at-IsTokensOf room text events small e =
+    let stand = events_at-Stand (length text) 0 room (pieces BlanksAndLineEnds text) events (omega arith) e in
+    ((stand.0, omega (arith, stand.1)), stand.1)
+
+pub IsTokensOf-tokens_at : (room : ℕ) (text : List ℕ) (events : List Event) → room ≤ 1048576 → IsTokensOf text events → length events ≤ room → tokens_at room text ≡ Ok events
+unfolding tokens_at
+IsTokensOf-tokens_at room text events small is few = Stand-events_at (length text) 0 room (pieces BlanksAndLineEnds text) events (omega arith) is.0 few
+
+-- events that have room anyway are read in less room
+pub tokens_at-less : (room : ℕ) (text : List ℕ) (events : List Event) → room ≤ 1048576 → tokens_at 1048576 text ≡ Ok events → length events ≤ room → tokens_at room text ≡ Ok events
+tokens_at-less room text events small e few = IsTokensOf-tokens_at room text events small (tokens_at-IsTokensOf 1048576 text events (omega arith) e).0 few
+
+pub one_list : (text : List ℕ) (a b : List Event) → IsTokensOf text a → IsTokensOf text b → a ≡ b
+one_list text a b is_a is_b = ok_is Refusal a b (sym (IsTokensOf-tokens_at 1048576 text a (omega arith) is_a is_a.1) ∙ IsTokensOf-tokens_at 1048576 text b (omega arith) is_b is_b.1)
+
+-- ---- what the readers answer
+
+pub found_tokens : {X : Type 0} (view : X → List Event) (text : List ℕ) (result : Result X ScheduleError) → Gives refusal_of view result (tokens_at 1048576 text) → IfOk result (λ x. IsTokensOf text (view x))
+found_tokens view text (Ok x) gives = (tokens_at-IsTokensOf 1048576 text (view x) (omega arith) gives).0
+found_tokens view text (Err e) gives = tt
+
+pub only_tokens : {X : Type 0} (view : X → List Event) (text : List ℕ) (events : List Event) (result : Result X ScheduleError) → Gives refusal_of view result (tokens_at 1048576 text) → IsTokensOf text events → Gives refusal_of view result (Ok events)
+only_tokens view text events result gives is = subst (λ (read : Result (List Event) Refusal). Gives refusal_of view result read) (IsTokensOf-tokens_at 1048576 text events (omega arith) is is.1) gives
+
+-- a text with a fault of its own
+pub tokens_after-refused : (before : ℕ) (text : List ℕ) (refusal : Refusal) → tokens_at 1048576 text ≡ Err refusal → tokens_after before text ≡ Err refusal
+unfolding tokens_after
+tokens_after-refused before text refusal e = rw e refl
+
+-- and one without
+pub tokens_after-read : (before : ℕ) (text : List ℕ) (own : List Event) → tokens_at 1048576 text ≡ Ok own → tokens_after before text ≡ tokens_at (1048576 - before) text
+unfolding tokens_after
+tokens_after-read before text own e = rw e refl
+
+pub tokens_after-less : (before : ℕ) (text : List ℕ) (own : List Event) → tokens_at 1048576 text ≡ Ok own → length own ≤ 1048576 - before → tokens_after before text ≡ Ok own
+tokens_after-less before text own e few = tokens_after-read before text own e ∙ tokens_at-less (1048576 - before) text own (omega arith) e few
+
+pub gives_refused : {X : Type 0} (view : X → List Event) (before : ℕ) (text : List ℕ) (result : Result X ScheduleError) (answered e : ScheduleError) → IfSome (refusal_of e) (λ refusal. tokens_at 1048576 text ≡ Err refusal) → result ≡ Err answered → answered ≡ e → Gives refusal_of view result (tokens_after before text)
+gives_refused view before text result answered NoMemory refused is same = rw (is, same) tt
+gives_refused view before text result answered (Refused fault place) refused is same = rw (is, same) (tokens_after-refused before text (fault, place) refused)
+
+-- ---- what stands behind the events of other texts
+
+pub tokens_after-IsTokensOf : (before : ℕ) (text : List ℕ) (events : List Event) → tokens_after before text ≡ Ok events → IsTokensOf text events
+unfolding tokens_after
+tokens_after-IsTokensOf before text events e =
+    let own = bind_ok (tokens_at 1048576 text) (λ own. tokens_at (1048576 - before) text) events e in
+    (tokens_at-IsTokensOf (1048576 - before) text events (omega arith) own.2).0
+
+pub IsTokensOf-tokens_after : (before : ℕ) (text : List ℕ) (events : List Event) → IsTokensOf text events → before + length events ≤ 1048576 → tokens_after before text ≡ Ok events
+IsTokensOf-tokens_after before text events is few = tokens_after-less before text events (IsTokensOf-tokens_at 1048576 text events (omega arith) is is.1) (omega arith)
+
+pub found_pushed : (before : ℕ) (text : List ℕ) (old new : List Event) (result : Result (Unit {0}) ScheduleError) → Pushes old new result (tokens_after before text) → OnOk result ((read : List Event) × IsTokensOf text read × (new ≡ old ++ read))
+found_pushed before text old new (Ok x) pushes = (pushes.0, tokens_after-IsTokensOf before text pushes.0 pushes.1, pushes.2)
+found_pushed before text old new (Err e) pushes = tt
+
+pub only_pushed : (before : ℕ) (text : List ℕ) (old new read : List Event) (result : Result (Unit {0}) ScheduleError) → Pushes old new result (tokens_after before text) → IsTokensOf text read → before + length read ≤ 1048576 → Pushes old new result (Ok read)
+only_pushed before text old new read result pushes is few = subst (λ (answer : Result (List Event) Refusal). Pushes old new result answer) (IsTokensOf-tokens_after before text read is few) pushes
+
+-- an error of the reader is one of the call that appends
+pub pushes_refused : (old : List Event) (answer : Result (List Event) Refusal) (result : Result (Unit {0}) ScheduleError) (answered e : ScheduleError) → IfSome (refusal_of e) (λ refusal. answer ≡ Err refusal) → result ≡ Err answered → answered ≡ e → Pushes old old result answer
+pushes_refused old answer result answered NoMemory refused is same = rw (is, same) (refl, tt)
+pushes_refused old answer result answered (Refused fault place) refused is same = rw (is, same) (refl, refused)

@@ -1,0 +1,8 @@
+use Rattle.recorder.proofs.TextLaws.{found_tokens, only_tokens}
+use Rattle.recorder.proofs.reading.read_tokens.Goals as goal
+
+pub returns-clause-found : goal.returns-clause-found
+returns-clause-found c = found_tokens _ c.args.text.now c.tokens_within.result (rw c.as_bytes.ensures.value at c.tokens_within.ensures)
+
+pub returns-clause-only : goal.returns-clause-only
+returns-clause-only c events is = only_tokens _ c.args.text.now events c.tokens_within.result (rw c.as_bytes.ensures.value at c.tokens_within.ensures) is

@@ -1,0 +1,111 @@
+-- Reading tokens from the left, with the first fault that is met and its byte.
+use Rattle.std.specs.Prelude.{◌≡◌, ℕ, ◌+◌, ◌-◌, ◌==◌, nat_lt, nat_le, is_some, Bool, false, ◌&&◌, ◌||◌, if◌then◌else◌, List, [], ◌∷◌, ◌++◌, length, take, drop, position, replicate, Option, Some, None, Result, Ok, Err, IfSome}
+use Rattle.step_machine.specs.declared.events.Event.{Event}
+use Rattle.step_machine.specs.declared.events.Event.TheVariants.{Act, Land}
+use Rattle.recorder.specs.declared.faults.ScheduleFault.{ScheduleFault}
+use Rattle.recorder.specs.declared.faults.ScheduleFault.TheVariants.{BadToken, BadHart, BadCount, Truncated}
+use Rattle.recorder.specs.declared.faults.ScheduleError.{ScheduleError}
+use Rattle.recorder.specs.declared.faults.ScheduleError.TheVariants.{NoMemory, Refused}
+use Rattle.recorder.specs.declared.tokens.Kind.{Kind}
+use Rattle.recorder.specs.declared.tokens.Kind.TheVariants as kinds
+use Rattle.recorder.specs.declared.tokens.Token.{Token}
+use Rattle.texts.specs.declared.pieces.Separators.TheVariants.{BlanksAndLineEnds}
+use Rattle.texts.specs.Pieces.{pieces}
+use Rattle.texts.specs.Numbers.{number_of}
+use Rattle.texts.specs.Results.{◌>>=◌}
+
+-- the fault, and the byte at which it is answered
+abbrev pub Refusal : Type 0
+Refusal = ScheduleFault × ℕ
+
+-- the refusal in an error; memory that ran out is none
+abbrev pub refusal_of : ScheduleError → Option Refusal
+refusal_of NoMemory = None
+refusal_of (Refused fault place) = Some (fault, place)
+
+-- ---- a token: `a` is 97, `l` is 108, `*` is 42
+
+abbrev pub star_in : List ℕ → Option ℕ
+star_in numbers = position (λ byte. byte == 42) numbers
+
+-- the hart and the count that stand behind a token's letter
+abbrev pub Numbers : Type 0
+Numbers = ℕ × ℕ
+
+abbrev pub once_of : Option ℕ → Option Numbers
+once_of None = None
+once_of (Some hart) = Some (hart, 1)
+
+abbrev pub counted : Option ℕ → Option ℕ → Option Numbers
+counted None times = None
+counted (Some hart) None = None
+counted (Some hart) (Some times) = Some (hart, times)
+
+abbrev pub numbers_round : List ℕ → Option ℕ → Option Numbers
+numbers_round numbers None = once_of (number_of numbers)
+numbers_round numbers (Some at) = counted (number_of (take at numbers)) (number_of (drop (at + 1) numbers))
+
+unfoldable pub numbers_of : List ℕ → Option Numbers
+numbers_of numbers = numbers_round numbers (star_in numbers)
+
+abbrev pub token_of : Kind → Option Numbers → Option Token
+token_of kind None = None
+token_of kind (Some numbers) = Some (record { kind = kind; hart = numbers.0; times = numbers.1 })
+
+unfoldable pub said_by : List ℕ → Option Token
+said_by [] = None
+said_by (c ∷ numbers) = if c == 97 then token_of kinds.Act (numbers_of numbers) else (if c == 108 then token_of kinds.Land (numbers_of numbers) else None)
+
+abbrev pub ends_at : List ℕ → Option ℕ → Bool
+ends_at numbers None = false
+ends_at numbers (Some at) = ((at + 1) == length numbers) && is_some (number_of (take at numbers))
+
+-- a letter alone, or a letter, a hart and a star: what more bytes would have made a token
+unfoldable pub is_cut : List ℕ → Bool
+is_cut [] = false
+is_cut (c ∷ numbers) = ((c == 97) || (c == 108)) && ((length numbers == 0) || ends_at numbers (star_in numbers))
+
+abbrev pub event_of : Kind → ℕ → Event
+event_of kinds.Act hart = Act hart
+event_of kinds.Land hart = Land hart
+
+-- The run of one event for which a token stands that begins at `place` in a text of `end` bytes, where
+-- `room` more events may come.
+abbrev pub judged : (end place room : ℕ) → List ℕ → Option Token → Result (Event × ℕ) Refusal
+judged end place room word None = Err (if is_cut word && ((place + length word) == end) then (Truncated, end) else (BadToken, place))
+judged end place room word (Some token) = if nat_le 64 token.hart then Err (BadHart, place) else (if (token.times == 0) || nat_lt room token.times then Err (BadCount, place) else Ok (event_of token.kind token.hart, token.times))
+
+unfoldable pub run_at : (end place room : ℕ) → List ℕ → Result (Event × ℕ) Refusal
+run_at end place room word = judged end place room word (said_by word)
+
+-- ---- a text
+
+unfoldable pub piece_at : (end place room : ℕ) → List ℕ → Result (List Event) Refusal
+piece_at end place room [] = Ok []
+piece_at end place room (c ∷ word) = do
+  run ← run_at end place room (c ∷ word)
+  Ok (replicate run.1 run.0)
+
+unfoldable pub events_at : (end place room : ℕ) → List (List ℕ) → Result (List Event) Refusal
+events_at end place room [] = Ok []
+events_at end place room (piece ∷ others) = do
+  events ← piece_at end place room piece
+  rest ← events_at end (place + length piece + 1) (room - length events) others
+  Ok (events ++ rest)
+
+-- the events of a text's tokens, where `room` events may come
+unfoldable pub tokens_at : (room : ℕ) → List ℕ → Result (List Event) Refusal
+tokens_at room text = events_at (length text) 0 room (pieces BlanksAndLineEnds text)
+
+-- The events of a text's tokens behind `before` events of other texts: a fault of the text by itself
+-- comes first, and then the token with which the total passes the limit.
+unfoldable pub tokens_after : (before : ℕ) → List ℕ → Result (List Event) Refusal
+tokens_after before text = do
+  own ← tokens_at 1048576 text
+  tokens_at (1048576 - before) text
+
+-- What a function did that appends events: those that are answered, or none, where the answer is a
+-- refusal or memory ran out.
+abbrev pub Pushes : List Event → List Event → Result (Unit {0}) ScheduleError → Result (List Event) Refusal → Type 0
+Pushes old new (Ok x) answer = (events : List Event) × (answer ≡ Ok events) × (new ≡ old ++ events)
+Pushes old new (Err e) answer = (new ≡ old) × IfSome (refusal_of e) (λ refusal. answer ≡ Err refusal)

@@ -1,0 +1,33 @@
+-- The texts of schedules: which text stands for which list of events.
+use Rattle.std.specs.Prelude.{◌≡◌, ℕ, ◌<◌, ◌≤◌, List, [], ◌∷◌, ◌++◌, length, replicate}
+use Rattle.step_machine.specs.declared.events.Event.{Event}
+use Rattle.step_machine.specs.declared.events.Event.TheVariants.{Act, Land}
+use Rattle.texts.specs.declared.pieces.Separators.TheVariants.{BlanksAndLineEnds}
+use Rattle.texts.specs.Pieces.{pieces}
+use Rattle.texts.specs.Numbers.{Says}
+
+-- an act is written by an `a`, a landing by an `l`
+abbrev pub letter : Event → ℕ
+letter (Act hart) = 97
+letter (Land hart) = 108
+
+abbrev pub hart_of : Event → ℕ
+hart_of (Act hart) = hart
+hart_of (Land hart) = hart
+
+-- A token spells an event, so many times: its letter, its hart, and a star and the count, or no count for once.
+pub data Spells (event : Event) : List ℕ → ℕ → Type 0 where
+  once : (hart : List ℕ) → Says hart (hart_of event) → Spells event (letter event ∷ hart) 1
+  repeated : (hart count : List ℕ) (times : ℕ) → Says hart (hart_of event) → Says count times → Spells event (letter event ∷ (hart ++ 42 ∷ count)) times
+
+-- The pieces of a text stand for these events: a token for a run of one event of one of 64 harts, once
+-- at least, and an empty piece for none.
+abbrev pub Stand : List (List ℕ) → List Event → Type 0
+Stand [] events = events ≡ []
+Stand ([] ∷ others) events = Stand others events
+Stand ((c ∷ token) ∷ others) events = (event : Event) × (times : ℕ) × (rest : List Event) × Spells event (c ∷ token) times × (hart_of event < 64) × (0 < times) × (events ≡ replicate times event ++ rest) × Stand others rest
+
+-- The tokens of the text stand for these events, which are at most 1,048,576. Tokens are parted by
+-- spaces, tabs, CR and LF.
+abbrev pub IsTokensOf : List ℕ → List Event → Type 0
+IsTokensOf text events = Stand (pieces BlanksAndLineEnds text) events × (length events ≤ 1048576)

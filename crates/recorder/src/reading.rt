@@ -1,0 +1,109 @@
+//! Reading the tokens of a schedule text.
+
+ghost use Rattle.std.specs.Prelude.{◌≡◌, ◌+◌, ◌-◌, ◌≤◌, ◌<◌, ◌^◌, ◌++◌, List, length, replicate, Ok, IfOk, OnOk, OnErr, vec_len};
+ghost use Rattle.step_machine.specs.declared.events.Event.{Event};
+ghost use Rattle.texts.specs.Results.{Gives};
+ghost use Rattle.recorder.specs.Schedule.{IsTokensOf};
+ghost use Rattle.recorder.specs.Reading.{refusal_of, piece_at, tokens_at, tokens_after, Pushes};
+
+use crate::faults::ScheduleError;
+use crate::tokens::run_of;
+use std::alloc::{AllocError, Global};
+use step_machine::events::Event;
+use texts::{Separators, first_piece};
+
+/// A schedule has at most so many events.
+pub const MAX_EVENTS: usize = 1_048_576;
+
+/// Appends the event so many times, or nothing where memory runs out.
+fn push_run(events: &mut Vec<Event>, event: Event, times: usize) -> Result<(), AllocError>
+    requires { vec_len events.old + times < 2 ^ 32 }
+    ensures ok { OnOk result (events.new.items ≡ events.old.items ++ replicate times event) }
+    ensures len { OnOk result (vec_len events.new ≡ vec_len events.old + times) }
+    ensures err { OnErr result (events.new.items ≡ events.old.items) }
+{
+    let len = events.len() + times;
+    events.resize(len, event)
+}
+
+/// Appends the events of one piece, where `room` events may stand in all.
+#[tactic(auto, unfolding(crate::specs::Reading::piece_at))]
+fn push_piece(
+    events: &mut Vec<Event>,
+    piece: &[u8],
+    place: usize,
+    end: usize,
+    room: usize,
+) -> Result<(), ScheduleError>
+    requires within { place + length piece.now ≤ end }
+    requires few { vec_len events.old ≤ room }
+    requires most { room ≤ MAX_EVENTS }
+    ensures exact { Pushes events.old.items events.new.items result (piece_at end place (room - vec_len events.old) piece.now) }
+    ensures few { OnOk result (vec_len events.new ≤ room) }
+{
+    if piece.is_empty() {
+        return Ok(());
+    }
+    let (event, times) = run_of(piece, place, end, room - events.len())?;
+    push_run(events, event, times)?;
+    Ok(())
+}
+
+/// The events of a text's tokens, where `room` events may come.
+fn tokens_within(alloc: Global, text: &[u8], room: usize) -> Result<Vec<Event>, ScheduleError>
+    requires { room ≤ MAX_EVENTS }
+    ensures { Gives refusal_of (λ events. events.items) result (tokens_at room text.now) }
+{
+    let mut events = Vec::new(alloc);
+    let mut place = 0;
+    let mut rest = Some(text);
+    while let Some(bytes) = rest {
+        let (piece, after) = first_piece(Separators::BlanksAndLineEnds, bytes);
+        push_piece(&mut events, piece, place, text.len(), room)?;
+        place += piece.len() + 1;
+        rest = after;
+    }
+    Ok(events)
+}
+
+/// The events for which the text's tokens stand.
+///
+/// The first fault from the left is answered: `Truncated`, at the text's length, where the text ends
+/// right after a token's letter or its `*`; else, at the token's first byte, `BadToken` for another
+/// wrong shape, `BadHart` for a hart from 64 on, and `BadCount` for a count of 0, for one over
+/// [`MAX_EVENTS`] and where the events so far pass it.
+pub fn read_tokens(alloc: Global, text: &str) -> Result<Vec<Event>, ScheduleError>
+    ensures found { IfOk result (λ events. IsTokensOf text.now events.items) }
+    ensures only { (events : List Event) → IsTokensOf text.now events → Gives refusal_of (λ read. read.items) result (Ok events) }
+    ensures exact { Gives refusal_of (λ events. events.items) result (tokens_at MAX_EVENTS text.now) }
+{
+    tokens_within(alloc, text.as_bytes(), MAX_EVENTS)
+}
+
+/// The events of a further text's tokens, where `before` events stand already.
+fn tokens_behind(alloc: Global, text: &[u8], before: usize) -> Result<Vec<Event>, ScheduleError>
+    ensures { Gives refusal_of (λ events. events.items) result (tokens_after before text.now) }
+{
+    let events = tokens_within(alloc, text, MAX_EVENTS)?;
+    let room = MAX_EVENTS.saturating_sub(before);
+    if events.len() <= room {
+        return Ok(events);
+    }
+    tokens_within(alloc, text, room)
+}
+
+/// Appends the events for which the tokens of a further text stand; at an `Err` the events stay as
+/// they were.
+///
+/// The total may be [`MAX_EVENTS`]. A fault of the text by itself is answered as [`read_tokens`]
+/// answers it; where it has none and the total passes the limit, it is `BadCount` at the token that
+/// passes it.
+pub fn push_tokens_of(events: &mut Vec<Event>, text: &[u8]) -> Result<(), ScheduleError>
+    ensures found { OnOk result ((read : List Event) × IsTokensOf text.now read × (events.new.items ≡ events.old.items ++ read)) }
+    ensures only { (read : List Event) → IsTokensOf text.now read → vec_len events.old + length read ≤ MAX_EVENTS → Pushes events.old.items events.new.items result (Ok read) }
+    ensures exact { Pushes events.old.items events.new.items result (tokens_after (vec_len events.old) text.now) }
+{
+    let read = tokens_behind(*events.allocator(), text, events.len())?;
+    events.extend_from_slice(&read)?;
+    Ok(())
+}

@@ -1,0 +1,90 @@
+use crate::{MAX_EVENTS, ScheduleError, ScheduleFault, one_value, push_tokens_of, read_tokens};
+use std::test::Fail;
+use step_machine::events::Event;
+
+#[test]
+fn tokens_stand_for_events(rt: HostRuntime) -> Result<(), Fail> {
+    let alloc = rt.alloc();
+    assert_eq!(rt; read_tokens(alloc, "")?.len(), 0);
+    let three = read_tokens(alloc, "a0 a0\r\n\ta0 ")?;
+    assert_eq!(rt;
+        three.as_slice(),
+        [Event::Act(0), Event::Act(0), Event::Act(0)].as_slice()
+    );
+    let mixed = read_tokens(alloc, "l07*002 a63")?;
+    assert_eq!(rt;
+        mixed.as_slice(),
+        [Event::Land(7), Event::Land(7), Event::Act(63)].as_slice()
+    );
+    assert_eq!(rt; read_tokens(alloc, "a0*1048576")?.len(), MAX_EVENTS);
+    one_value();
+    Ok(())
+}
+
+#[test]
+fn the_first_fault_is_named(rt: HostRuntime) {
+    let rows = [
+        ("a0*0", 30, 0),
+        ("a", 31, 1),
+        ("a64", 29, 0),
+        ("b0", 28, 0),
+        ("a0*1048577", 30, 0),
+        ("a0*", 31, 3),
+        ("a ", 28, 0),
+        ("a*", 28, 0),
+        ("l1 a0*1048576", 30, 3),
+        ("a0 a4294967297 b", 29, 3),
+        ("a0 A0", 28, 3),
+        ("a0*1*2", 28, 0),
+        ("a64*0", 29, 0),
+        ("a0 l5*", 31, 6),
+    ];
+    for (text, number, place) in rows {
+        match read_tokens(rt.alloc(), text) {
+            Err(ScheduleError::Refused { fault, place: byte }) => {
+                assert_eq!(rt; fault.number(), number, "at {text}");
+                assert_eq!(rt; byte, place, "at {text}");
+            }
+            _ => assert!(rt; false, "{text} is refused"),
+        }
+    }
+}
+
+#[test]
+fn texts_share_one_total(rt: HostRuntime) -> Result<(), Fail> {
+    let mut events = Vec::new(rt.alloc());
+    push_tokens_of(&mut events, b"a0*1048575")?;
+    push_tokens_of(&mut events, b" ")?;
+    let passed = ScheduleError::Refused {
+        fault: ScheduleFault::BadCount,
+        place: 3,
+    };
+    assert_eq!(rt; push_tokens_of(&mut events, b"l1 l1"), Err(passed));
+    let own = ScheduleError::Refused {
+        fault: ScheduleFault::BadToken,
+        place: 6,
+    };
+    assert_eq!(rt; push_tokens_of(&mut events, b"l1 l1 x"), Err(own));
+    assert_eq!(rt; events.len(), 1048575);
+    push_tokens_of(&mut events, b"l1")?;
+    assert_eq!(rt; events.as_slice().last(), Some(&Event::Land(1)));
+    Ok(())
+}
+
+#[test]
+fn faults_are_printed(rt: HostRuntime) -> Result<(), Fail> {
+    let refused = ScheduleError::Refused {
+        fault: ScheduleFault::BadHart,
+        place: 16,
+    };
+    assert_eq!(rt;
+        refused.to_string(rt.alloc())?.as_str(),
+        "bad hart at byte 16"
+    );
+    assert_eq!(rt;
+        ScheduleError::NoMemory.to_string(rt.alloc())?.as_str(),
+        "no memory"
+    );
+    assert_eq!(rt; ScheduleFault::BadHead.number(), 27);
+    Ok(())
+}

@@ -1,0 +1,116 @@
+//! One token of a schedule text.
+
+ghost use Rattle.std.specs.Prelude.{◌≡◌, ◌+◌, ◌≤◌, ℕ, length, IfOk};
+ghost use Rattle.step_machine.specs.declared.events.Event.{Event};
+ghost use Rattle.texts.specs.Results.{Gives};
+ghost use Rattle.recorder.specs.Reading.{refusal_of, star_in, numbers_of, said_by, is_cut, event_of, run_at};
+
+use crate::faults::{ScheduleError, ScheduleFault};
+use step_machine::events::Event;
+use texts::number;
+
+/// Harts have numbers below this one.
+const HARTS: u64 = 64;
+
+/// What a token's letter tells.
+#[derive(Clone, Copy)]
+pub enum Kind {
+    Act,
+    Land,
+}
+
+/// What a token says, before its numbers are judged.
+#[derive(Clone, Copy)]
+pub struct Token {
+    pub kind: Kind,
+    pub hart: u64,
+    pub times: u64,
+}
+
+impl Kind {
+    /// The event of this kind.
+    fn of_hart(self, hart: u32) -> Event
+        ensures { result ≡ event_of self hart }
+    {
+        match self {
+            Kind::Act => Event::Act(hart),
+            Kind::Land => Event::Land(hart),
+        }
+    }
+}
+
+/// The place of the first `*`.
+fn first_star(numbers: &[u8]) -> Option<usize>
+    ensures { result ≡ star_in numbers.now }
+{
+    numbers.iter().position(|byte| *byte == b'*')
+}
+
+/// The hart and the count behind a token's letter; no count is once.
+#[tactic(auto, unfolding(crate::specs::Reading::numbers_of))]
+fn numbers_in(numbers: &[u8]) -> Option<(u64, u64)>
+    ensures { result ≡ numbers_of numbers.now }
+{
+    match first_star(numbers) {
+        None => Some((number(numbers)?, 1)),
+        Some(at) => Some((number(&numbers[..at])?, number(&numbers[at + 1..])?)),
+    }
+}
+
+/// What the word says as a token; `None` where its shape is another one.
+#[tactic(auto, unfolding(crate::specs::Reading::said_by))]
+fn token_in(word: &[u8]) -> Option<Token>
+    ensures { result ≡ said_by word.now }
+{
+    let (kind, numbers) = match word {
+        [b'a', numbers @ ..] => (Kind::Act, numbers),
+        [b'l', numbers @ ..] => (Kind::Land, numbers),
+        _ => return None,
+    };
+    let (hart, times) = numbers_in(numbers)?;
+    Some(Token { kind, hart, times })
+}
+
+/// Whether the word is a token that ends too early: a letter alone, or a letter, a hart and a `*`.
+#[tactic(auto, unfolding(crate::specs::Reading::is_cut))]
+fn is_cut_short(word: &[u8]) -> bool
+    ensures { result ≡ is_cut word.now }
+{
+    match word {
+        [b'a' | b'l'] => true,
+        [b'a' | b'l', numbers @ ..] => match first_star(numbers) {
+            Some(at) => at + 1 == numbers.len() && number(&numbers[..at]).is_some(),
+            None => false,
+        },
+        _ => false,
+    }
+}
+
+/// The event for which the word stands, and how often, where the word begins at `place` in a text of
+/// `end` bytes and `room` more events may come.
+#[tactic(auto, unfolding(crate::specs::Reading::run_at))]
+pub fn run_of(
+    word: &[u8],
+    place: usize,
+    end: usize,
+    room: usize,
+) -> Result<(Event, usize), ScheduleError>
+    requires { place + length word.now ≤ end }
+    ensures exact { Gives refusal_of (λ (run : Event × ℕ). run) result (run_at end place room word.now) }
+    ensures few { IfOk result (λ run. run.1 ≤ room) }
+{
+    let Some(token) = token_in(word) else {
+        return Err(if is_cut_short(word) && place + word.len() == end {
+            ScheduleFault::Truncated.at(end)
+        } else {
+            ScheduleFault::BadToken.at(place)
+        });
+    };
+    if token.hart >= HARTS {
+        return Err(ScheduleFault::BadHart.at(place));
+    }
+    if token.times == 0 || token.times > room as u64 {
+        return Err(ScheduleFault::BadCount.at(place));
+    }
+    Ok((token.kind.of_hart(token.hart as u32), token.times as usize))
+}
