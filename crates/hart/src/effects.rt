@@ -1,7 +1,8 @@
 //! What an instruction leaves in the registers and the pc.
 
 ghost use Rattle.std.specs.Prelude.{◌≡◌, ◌<◌};
-ghost use Rattle.hart.specs.Effects.{updated, computed, with_immediate, shifted, is_taken, read, written, next_pc, address, registers_after, pc_after, FieldsFit};
+ghost use Rattle.rv_decode.specs.Fits.{Fits};
+ghost use Rattle.hart.specs.Effects.{updated, computed, with_immediate, shifted, is_taken, read, written, next_pc, address, registers_after, pc_after};
 
 use rv_decode::instruction::{AmoOp, BranchOp, ImmediateOp, Instr, Reg, RegisterOp, ShiftOp};
 
@@ -16,18 +17,10 @@ pub fn amo(op: AmoOp, old: u32, rs2: u32) -> u32
         AmoOp::Xor => old ^ rs2,
         AmoOp::Or => old | rs2,
         AmoOp::And => old & rs2,
-        AmoOp::Min => if rs2.cast_signed() < old.cast_signed() {
-            rs2
-        } else {
-            old
-        },
-        AmoOp::Max => if old.cast_signed() < rs2.cast_signed() {
-            rs2
-        } else {
-            old
-        },
-        AmoOp::MinUnsigned => if rs2 < old { rs2 } else { old },
-        AmoOp::MaxUnsigned => if old < rs2 { rs2 } else { old },
+        AmoOp::Min => old.cast_signed().min(rs2.cast_signed()).cast_unsigned(),
+        AmoOp::Max => old.cast_signed().max(rs2.cast_signed()).cast_unsigned(),
+        AmoOp::MinUnsigned => old.min(rs2),
+        AmoOp::MaxUnsigned => old.max(rs2),
     }
 }
 
@@ -142,7 +135,7 @@ pub(crate) fn pc_after(instr: &Instr, registers: &[u32; 32], pc: u32) -> u32
 /// Leaves the registers as the instruction at `pc` does; `loaded` is the word that a load or an
 /// AMO read, and is not looked at elsewhere.
 pub(crate) fn apply(instr: &Instr, registers: &mut [u32; 32], pc: u32, loaded: u32)
-    requires { FieldsFit instr.now }
+    requires { Fits instr.now }
     ensures { registers.new ≡ registers_after instr.now registers.old pc loaded }
 {
     let (rd, word) = match *instr {

@@ -8,4 +8,13 @@
 
 pub mod effects;
 pub mod need;
+mod state;
 pub mod status;
+#[cfg(test)]
+mod tests;
+mod wanted;
+
+pub use effects::amo;
+pub use need::{Need, Report};
+pub use state::Hart;
+pub use status::{Status, Stop};

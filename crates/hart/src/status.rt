@@ -1,5 +1,7 @@
 //! Whether a hart still runs, and why it stopped where it stopped.
 
+ghost use Rattle.std.specs.Prelude.{◌≡◌};
+
 /// Why a hart stopped. Each reason has the number by which texts name it.
 #[derive(Clone, Copy, Debug, PartialEq, Eq)]
 pub enum Stop {
@@ -19,6 +21,26 @@ pub enum Stop {
     UnknownCall,
     /// An EBREAK.
     Break,
+}
+
+impl Stop {
+    ghost use Rattle.hart.specs.Steps.{stop_number};
+
+    /// The number by which texts name this reason, 8 to 15.
+    pub fn number(self) -> u8
+        ensures { result ≡ stop_number self }
+    {
+        match self {
+            Stop::Illegal => 8,
+            Stop::Misaligned => 9,
+            Stop::SubWord => 10,
+            Stop::OutOfRange => 11,
+            Stop::MisalignedJump => 12,
+            Stop::NoCode => 13,
+            Stop::UnknownCall => 14,
+            Stop::Break => 15,
+        }
+    }
 }
 
 /// Whether a hart goes on.

@@ -1,3 +1,4 @@
 pub mod Bits
 pub mod Unique
 pub mod Meanings
+pub mod Words

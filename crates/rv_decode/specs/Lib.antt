@@ -1,3 +1,4 @@
 pub mod Word
 pub mod Means
 pub mod Meaning
+pub mod Fits

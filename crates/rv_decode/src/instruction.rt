@@ -92,19 +92,72 @@ pub enum AmoOp {
 /// them; `upper` is the 20-bit number that the instruction shifts left by 12.
 #[derive(Clone, Copy, Debug, PartialEq, Eq)]
 pub enum Instr {
-    Lui { rd: Reg, upper: u32 },
-    Auipc { rd: Reg, upper: u32 },
-    Jal { rd: Reg, offset: i32 },
-    Jalr { rd: Reg, rs1: Reg, offset: i32 },
-    Branch { op: BranchOp, rs1: Reg, rs2: Reg, offset: i32 },
-    Load { op: LoadOp, rd: Reg, rs1: Reg, offset: i32 },
-    Store { op: StoreOp, rs1: Reg, rs2: Reg, offset: i32 },
-    Immediate { op: ImmediateOp, rd: Reg, rs1: Reg, immediate: i32 },
-    Shift { op: ShiftOp, rd: Reg, rs1: Reg, amount: u32 },
-    Register { op: RegisterOp, rd: Reg, rs1: Reg, rs2: Reg },
-    Fence { pred: u32, succ: u32 },
+    Lui {
+        rd: Reg,
+        upper: u32,
+    },
+    Auipc {
+        rd: Reg,
+        upper: u32,
+    },
+    Jal {
+        rd: Reg,
+        offset: i32,
+    },
+    Jalr {
+        rd: Reg,
+        rs1: Reg,
+        offset: i32,
+    },
+    Branch {
+        op: BranchOp,
+        rs1: Reg,
+        rs2: Reg,
+        offset: i32,
+    },
+    Load {
+        op: LoadOp,
+        rd: Reg,
+        rs1: Reg,
+        offset: i32,
+    },
+    Store {
+        op: StoreOp,
+        rs1: Reg,
+        rs2: Reg,
+        offset: i32,
+    },
+    Immediate {
+        op: ImmediateOp,
+        rd: Reg,
+        rs1: Reg,
+        immediate: i32,
+    },
+    Shift {
+        op: ShiftOp,
+        rd: Reg,
+        rs1: Reg,
+        amount: u32,
+    },
+    Register {
+        op: RegisterOp,
+        rd: Reg,
+        rs1: Reg,
+        rs2: Reg,
+    },
+    Fence {
+        pred: u32,
+        succ: u32,
+    },
     FenceTso,
     Ecall,
     Ebreak,
-    Amo { op: AmoOp, rd: Reg, rs1: Reg, rs2: Reg, aq: bool, rl: bool },
+    Amo {
+        op: AmoOp,
+        rd: Reg,
+        rs1: Reg,
+        rs2: Reg,
+        aq: bool,
+        rl: bool,
+    },
 }

@@ -2,16 +2,22 @@
 //!
 //! The contract: [`decode`] answers an instruction exactly where the word means it by the table of
 //! the RISC-V Unprivileged ISA (`specs/Means.antt`), and `None` exactly where no row of it applies.
+//! [`encode`] gives a word that means the instruction, wherever [`fits`] says that there is one.
 //! This crate executes nothing, keeps no state and takes no memory.
 
 #![tactic(auto)]
 
 mod decoder;
+mod encoder;
 pub mod instruction;
 mod opcode;
+mod operations;
+#[cfg(test)]
+mod tests;
 mod word;
 
 pub use decoder::decode;
+pub use encoder::{encode, fits};
 pub use instruction::{
     AmoOp, BranchOp, ImmediateOp, Instr, LoadOp, Reg, RegisterOp, ShiftOp, StoreOp,
 };

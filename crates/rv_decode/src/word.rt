@@ -31,7 +31,9 @@ pub(crate) fn register(word: u32, low: u32) -> Reg
     requires { low < 32 }
     ensures { result.number ≡ field word low 5 }
 {
-    Reg { number: field(word, low, 5) as u8 }
+    Reg {
+        number: field(word, low, 5) as u8,
+    }
 }
 
 pub(crate) fn imm_i(word: u32) -> i32

@@ -2,6 +2,7 @@
 use Rattle.std.proofs.Common.{◌≡◌, ℕ, ◌≤◌, ◌<◌, ◌==◌, Bool, true, false, not, ◌&&◌, IsTrue, List, [], ◌∷◌, ◌++◌, length, Option, Some, None, refl, sym, ◌∙◌, ap, subst, arith}
 use Rattle.std.specs.Prelude.{nat_lt, option_map, unwrap_or}
 use Rattle.std.specs.List.{slice_get}
+use Rattle.std.proofs.lemmas.Bool.{eqb-true, eq-eqb}
 use Rattle.std.proofs.lemmas.Bool.Decides.{nat_tests}
 use Rattle.memory.specs.Words.{IsAddress, newest_of}
 use Rattle.hart.specs.State.{HartState, HartView}
@@ -13,7 +14,7 @@ use Rattle.hart.specs.declared.status.Status.TheVariants as status
 use Rattle.hart.specs.declared.need.Need.{Need}
 use Rattle.hart.specs.declared.need.Need.TheVariants as need
 use Rattle.hart.specs.declared.need.Report.TheVariants as report
-use Rattle.hart.proofs.Needs.{IsInRange}
+use Rattle.hart.proofs.Needs.{IsTrueOf, need_is_true}
 use Rattle.step_machine.specs.declared.events.Event.{Event}
 use Rattle.step_machine.specs.declared.events.Event.TheVariants as event
 use Rattle.step_machine.specs.declared.events.Entry.{Entry}
@@ -25,9 +26,18 @@ use Rattle.step_machine.specs.Entries.{hart_of, is_land, pending, memory_word, r
 use Rattle.step_machine.specs.Paths.{entry_of, value_of, CanMake, state_of, Path}
 use Rattle.step_machine.specs.Legal.{Allowed, Legal, Kept}
 use Rattle.step_machine.specs.Runs.{IsFor, CanFollow, idle, idle_of, idle_in, Adds, Idles, Happens}
-use Rattle.step_machine.specs.Config.{Config, buffer_of, word_at, found, is_empty, if_waits, outcome_for, act_in, act_outcome, land_in, land_outcome, outcome_of}
+use Rattle.step_machine.specs.Config.{Config, IsInRange, buffer_of, word_at, found, is_empty, if_waits, outcome_for, act_in, act_outcome, land_in, land_outcome, outcome_of}
 use Rattle.step_machine.specs.Ties.{view_state, Tied}
 use Rattle.step_machine.proofs.Follows.{follows, act_only, land_follows, Path-hart, Legal-last}
+
+in_range_true : (s : HartState) (n : Need) → IsTrueOf s n → IsInRange s.words n
+in_range_true s (need.Load a) is = is
+in_range_true s (need.Store a w) is = is
+in_range_true s (need.Amo a op rs2) is = is
+in_range_true s n is = tt
+
+pub need_of-in_range : (M : ℕ) (s : HartState) → s.words ≡ M → IsInRange M (need_of s)
+need_of-in_range M s words = subst (λ (m : ℕ). IsInRange m (need_of s)) words (in_range_true s (need_of s) (need_is_true s))
 
 -- an entry with which hart h does what it needs, and which memory and buffers allow
 pub record Does (B : ℕ) (t : History) (h : ℕ) (n : Need) (e : Entry) : Type 0 where
@@ -58,10 +68,10 @@ Tied-sees M t c h tied = record {
 
 is_empty-nil : (ps : List (ℕ × ℕ)) → is_empty ps ≡ true → ps ≡ []
 is_empty-nil [] e = refl
-is_empty-nil (p ∷ ps) e = cc
+is_empty-nil (p ∷ ps) e = let none : length (p ∷ ps) ≡ 0 = eqb-true (length (p ∷ ps)) 0 e in absurd (omega arith)
 
 nil-is_empty : (ps : List (ℕ × ℕ)) → ps ≡ [] → is_empty ps ≡ true
-nil-is_empty ps e = ap is_empty e
+nil-is_empty ps e = eq-eqb (length ps) 0 (ap length e)
 
 -- where nothing is pending, a hart reads memory itself
 pub read-empty : (o : Start) (es : List Entry) (h a : ℕ) → pending h es ≡ [] → read o es h a ≡ memory_word o es a

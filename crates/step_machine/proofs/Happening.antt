@@ -8,7 +8,6 @@ use Rattle.hart.specs.Steps.{need_of}
 use Rattle.hart.specs.declared.status.Status.{Status}
 use Rattle.hart.specs.declared.status.Status.TheVariants as status
 use Rattle.hart.specs.declared.need.Need.{Need}
-use Rattle.hart.proofs.Needs.{IsInRange, need_of-in_range}
 use Rattle.step_machine.specs.declared.events.Event.{Event}
 use Rattle.step_machine.specs.declared.events.Event.TheVariants as event
 use Rattle.step_machine.specs.declared.events.Entry.{Entry}
@@ -20,10 +19,10 @@ use Rattle.step_machine.specs.Entries.{hart_of, is_land, own, pending}
 use Rattle.step_machine.specs.Paths.{entry_of, value_of, CanMake, opens_as, after_entries, state_of, Path}
 use Rattle.step_machine.specs.Legal.{Allowed, Legal, Kept}
 use Rattle.step_machine.specs.Runs.{IsFor, CanFollow, NoEntry, idle, idle_of, idle_in, Adds, Idles, Happens}
-use Rattle.step_machine.specs.Config.{Config, buffer_of, outcome_for, act_in, act_outcome, land_in, land_outcome, outcome_of}
+use Rattle.step_machine.specs.Config.{Config, IsInRange, buffer_of, outcome_for, act_in, act_outcome, land_in, land_outcome, outcome_of}
 use Rattle.step_machine.specs.Ties.{view_state, Tied}
 use Rattle.step_machine.proofs.Follows.{state_after, follows, act_only, land_follows, Path-hart, Legal-last}
-use Rattle.step_machine.proofs.Decides.{Does, Decided, Sees, Tied-sees, outcome_for-decided}
+use Rattle.step_machine.proofs.Decides.{need_of-in_range, Does, Decided, Sees, Tied-sees, outcome_for-decided}
 
 -- the history after an outcome
 abbrev pub history_after : History → Outcome → History
@@ -38,7 +37,7 @@ pub record Stands (B M : ℕ) (t : History) (c : Config) : Type 0 where
   pub kept : Kept B M t
   pub tied : Tied M t c
 
-no_hart : {X Y : Type 0} (f : X → Y) (o : Option X) → option_map f o ≡ None → o ≡ None
+pub no_hart : {X Y : Type 0} (f : X → Y) (o : Option X) → option_map f o ≡ None → o ≡ None
 no_hart f None e = refl
 no_hart f (Some x) e = cc
 
@@ -99,7 +98,7 @@ act_happens B M t c h None stands words is =
       after = refl;
     }
 act_happens B M t c h (Some v) stands words is =
-    let range : IsInRange M (need_of v.state) = subst (λ (m : ℕ). IsInRange m (need_of v.state)) (words v refl) (need_of-in_range v.state) in
+    let range : IsInRange M (need_of v.state) = need_of-in_range M v.state (words v refl) in
     status_happens B M t h v.state v.state.status (outcome_for B c h (need_of v.state)) stands.kept (sym is) refl
     (outcome_for-decided B M t c h (need_of v.state) (Tied-sees M t c h stands.tied) range)
 

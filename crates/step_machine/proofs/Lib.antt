@@ -3,3 +3,9 @@ pub mod Follows
 pub mod Balanced
 pub mod Decides
 pub mod Happening
+pub mod Stays
+pub mod Carried
+pub mod Running
+pub mod Fitting
+pub mod Rooms
+pub mod Opens

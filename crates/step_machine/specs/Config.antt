@@ -1,16 +1,19 @@
 -- What the machine holds at one moment, and what an event makes of it: plain functions, which the code
 -- of `cores.rt` meets and `proofs/` ties to histories. No public clause names them.
-use Rattle.std.specs.Prelude.{ℕ, ◌≡◌, ◌≤◌, ◌/◌, ◌<◌, Bool, true, false, not, ◌&&◌, nat_lt, if◌then◌else◌, List, [], ◌∷◌, ◌++◌, All, length, drop, slice_index, slice_set, Option, Some, None, unwrap_or}
+use Rattle.std.specs.Prelude.{ℕ, ◌≡◌, ◌≤◌, ◌/◌, ◌<◌, ◌==◌, Bool, true, false, not, ◌&&◌, nat_lt, if◌then◌else◌, List, [], ◌∷◌, ◌++◌, All, length, drop, map, max, replicate, slice_index, slice_set, Option, Some, None, IfSome, IsSomeAnd, unwrap_or}
 use Rattle.std.specs.List.{slice_get, slice_index_or}
 use Rattle.memory.specs.Words.{IsAddress, newest_of}
 use Rattle.hart.specs.State.{HartState, HartView}
-use Rattle.hart.specs.Steps.{need_of, stepped}
+use Rattle.hart.specs.Steps.{need_of, stepped, reads}
 use Rattle.hart.specs.Effects.{updated}
 use Rattle.hart.specs.declared.status.Status.{Status}
 use Rattle.hart.specs.declared.status.Status.TheVariants as status
 use Rattle.hart.specs.declared.need.Need.{Need}
 use Rattle.hart.specs.declared.need.Need.TheVariants as need
+use Rattle.hart.specs.declared.need.Report.{Report}
 use Rattle.hart.specs.declared.need.Report.TheVariants as report
+use Rattle.step_machine.specs.History.{Start}
+use Rattle.step_machine.specs.Opened.{opened_hart}
 use Rattle.step_machine.specs.declared.events.Event.{Event}
 use Rattle.step_machine.specs.declared.events.Event.TheVariants as event
 use Rattle.step_machine.specs.declared.events.Entry.{Entry}
@@ -34,8 +37,7 @@ abbrev pub found : Config → ℕ → ℕ → ℕ
 found c h a = unwrap_or (newest_of a None (buffer_of c h)) (word_at c a)
 
 abbrev pub is_empty : List (ℕ × ℕ) → Bool
-is_empty [] = true
-is_empty (p ∷ ps) = false
+is_empty ps = length ps == 0
 
 abbrev pub if_waits : Bool → Entry → Outcome
 if_waits true e = outcome.Waited
@@ -116,3 +118,68 @@ pub record Fit (M : ℕ) (c : Config) : Type 0 where
   pub words : length c.words ≡ M
   pub harts : All (λ (v : HartView). v.state.words ≡ M) c.harts
   pub pending : All (λ (ps : List (ℕ × ℕ)). All (HasAddress M) ps) c.buffers
+
+-- the hart that the event lets act has room for a step
+abbrev pub HasRoom : List HartView → Event → Type 0
+HasRoom hs (event.Act h) = IfSome (slice_get hs h) (λ (v : HartView). 0 < v.room)
+HasRoom hs (event.Land h) = Unit {0}
+
+-- the address that a need names is one of a memory of M words
+abbrev pub IsInRange : ℕ → Need → Type 0
+IsInRange M need.Inner = Unit {0}
+IsInRange M (need.Load a) = IsAddress M a
+IsInRange M (need.Store a w) = IsAddress M a
+IsInRange M (need.Amo a op rs2) = IsAddress M a
+IsInRange M (need.Fence full) = Unit {0}
+IsInRange M (need.Next w) = Unit {0}
+IsInRange M (need.Report r) = Unit {0}
+IsInRange M need.Exit = Unit {0}
+IsInRange M (need.Stop why) = Unit {0}
+
+-- hart h is there, runs, needs n next, and has room for a step
+pub record IsReady (n : Need) (v : HartView) : Type 0 where
+  pub running : v.state.status ≡ status.Running
+  pub next : need_of v.state ≡ n
+  pub room : 0 < v.room
+
+-- the hart runs, and a word is given exactly where it needs one
+pub record CanAdvance (given : Bool) (v : HartView) : Type 0 where
+  pub running : v.state.status ≡ status.Running
+  pub read : given ≡ reads (need_of v.state)
+  pub room : 0 < v.room
+
+abbrev pub IsNext : Config → ℕ → Need → Type 0
+IsNext c h n = IsSomeAnd (slice_get c.harts h) (IsReady n)
+
+-- a hart as a history sees it, without its room
+abbrev pub told : HartView → HartState × List Report
+told v = (v.state, v.reports)
+
+-- the same but for room
+pub record SameButRoom (c d : Config) : Type 0 where
+  pub harts : map told d.harts ≡ map told c.harts
+  pub buffers : d.buffers ≡ c.buffers
+  pub words : d.words ≡ c.words
+
+-- each hart has room for n steps
+abbrev pub AllHaveRoom : ℕ → List HartView → Type 0
+AllHaveRoom n hs = (h : ℕ) (v : HartView) → slice_get hs h ≡ Some v → n ≤ v.room
+
+-- a hart with room for at least n steps, and the list of harts with it at h
+abbrev pub roomy : ℕ → HartView → HartView
+roomy n v = record v { room = max v.room n }
+
+abbrev pub roomy_in : List HartView → ℕ → ℕ → Option HartView → List HartView
+roomy_in hs h n None = hs
+roomy_in hs h n (Some v) = slice_set hs h (roomy n v)
+
+abbrev pub roomy_at : List HartView → ℕ → ℕ → List HartView
+roomy_at hs h n = roomy_in hs h n (slice_get hs h)
+
+-- what an opening gives
+abbrev pub opened_config : ℕ → Start → Config
+opened_config M o = record {
+  harts = map (opened_hart M) o.harts;
+  buffers = replicate (length o.harts) [];
+  words = o.words ++ drop (length o.words) (replicate M 0);
+}

@@ -5,3 +5,4 @@ pub mod Legal
 pub mod Runs
 pub mod Config
 pub mod Ties
+pub mod Opened

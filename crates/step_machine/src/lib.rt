@@ -8,6 +8,7 @@
 
 #![tactic(auto)]
 
+mod cores;
 pub mod events;
 pub mod opening;
 pub mod laws;

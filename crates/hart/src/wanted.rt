@@ -1,0 +1,67 @@
+//! The needs of single instructions.
+
+ghost use Rattle.std.specs.Prelude.{◌≡◌, ◌≤◌};
+ghost use Rattle.hart.specs.Steps.{jump_need, word_need, call_need, is_full};
+
+use crate::need::{Need, Report};
+use crate::status::Stop;
+
+// The registers by which an environment call goes, as the calling convention names them: its number
+// in a7, its arguments in a0 and a1.
+pub(crate) const A0: usize = 10;
+
+pub(crate) const A1: usize = 11;
+
+const A7: usize = 17;
+
+/// What a jump to `target` wants.
+pub(crate) fn jump_need(target: u32) -> Need
+    ensures { result ≡ jump_need target }
+{
+    if target % 4 == 0 {
+        Need::Inner
+    } else {
+        Need::Stop(Stop::MisalignedJump)
+    }
+}
+
+/// What an access to the word at `addr` wants, in a memory of so many words.
+pub(crate) fn word_need(words: usize, addr: u32, wanted: Need) -> Need
+    requires { words ≤ 65536 }
+    ensures { result ≡ word_need words addr wanted }
+{
+    if addr % 4 != 0 {
+        Need::Stop(Stop::Misaligned)
+    } else if (addr as usize) < 4 * words {
+        wanted
+    } else {
+        Need::Stop(Stop::OutOfRange)
+    }
+}
+
+/// Whether a fence orders earlier stores before later loads, of its two sets.
+pub(crate) fn is_full(pred: u32, succ: u32) -> bool
+    ensures { result ≡ is_full pred succ }
+{
+    pred % 2 == 1 && succ / 2 % 2 == 1
+}
+
+/// What an environment call wants, of the words that the inbox has left.
+pub(crate) fn call_need(registers: &[u32; 32], inbox: &[u32]) -> Need
+    ensures { result ≡ call_need registers.now inbox.now }
+{
+    match registers[A7] {
+        1 => Need::Next {
+            word: inbox.first().copied(),
+        },
+        2 => Need::Report(Report::Took {
+            sender: registers[A0],
+            word: registers[A1],
+        }),
+        3 => Need::Report(Report::Closed {
+            sender: registers[A0],
+        }),
+        93 => Need::Exit,
+        _ => Need::Stop(Stop::UnknownCall),
+    }
+}

@@ -1,0 +1,86 @@
+//! The words that all harts share.
+
+ghost use Rattle.std.specs.Prelude.{◌≡◌, ◌+◌, ◌*◌, ◌/◌, ◌<◌, ◌≤◌, ◌++◌, length, drop, replicate, slice_index, slice_set, IfOk};
+ghost use Rattle.memory.specs.Words.{IsAddress};
+
+use std::alloc::{AllocError, Global};
+use std::marker::Model;
+
+/// `M` words of 32 bits, at the byte addresses 0, 4, .. below `4 * M`; seen as the list of the words.
+#[derive(Drop)]
+pub struct Memory<const M: usize> {
+    words: Vec<u32>,
+}
+
+impl<const M: usize> Model for Memory<M> {
+    ghost use Rattle.std.specs.Prelude.{ℕ, List};
+    ghost use Rattle.memory.specs.Words.{IsMemory};
+
+    ghost Value = { List ℕ };
+
+    ghost view = { λ m. m.words.items };
+
+    ghost invariant = { λ m. IsMemory M m.words.items };
+}
+
+impl<const M: usize> Memory<M> {
+    /// A memory of zeros. It is the one call of this crate that takes memory.
+    pub fn new(alloc: Global) -> Result<Self, AllocError>
+        requires { M ≤ 65536 }
+        ensures { IfOk result (λ m. m ≡ replicate M 0) }
+    {
+        let words = vec![in alloc; 0; M]?;
+        Ok(Memory { words })
+    }
+
+    /// The words in order, that at byte address `4 * i` at index `i`.
+    pub fn words(&self) -> &[u32]
+        ensures value { result.now ≡ self.now }
+        ensures len { length self.now ≡ M }
+    {
+        &self.words
+    }
+
+    /// The word at byte address `addr`.
+    pub fn load(&self, addr: u32) -> u32
+        requires { IsAddress M addr }
+        ensures { result ≡ slice_index self.now (addr / 4) }
+    {
+        self.words[(addr / 4) as usize]
+    }
+
+    /// Makes `value` the word at byte address `addr`.
+    pub fn store(&mut self, addr: u32, value: u32)
+        requires { IsAddress M addr }
+        ensures { self.new ≡ slice_set self.old (addr / 4) value }
+    {
+        let index = (addr / 4) as usize;
+        self.words[index] = value;
+    }
+
+    /// Puts `words` in the place of the first ones, as an opening does.
+    pub fn fill(&mut self, words: &[u32])
+        requires { length words.now ≤ M }
+        ensures { self.new ≡ words.now ++ drop (length words.now) self.old }
+    {
+        let (first, _) = self.words.split_at_mut(words.len());
+        first.copy_from_slice(words);
+    }
+}
+
+#[cfg(test)]
+mod tests {
+    use super::Memory;
+    use std::test::Fail;
+
+    #[test]
+    fn words_stand_where_they_were_put(rt: HostRuntime) -> Result<(), Fail> {
+        let mut memory = Memory::<4>::new(rt.alloc())?;
+        memory.fill(&[7, 8]);
+        memory.store(4, 9);
+        memory.store(12, 5);
+        assert_eq!(rt; memory.words(), [7, 9, 0, 5].as_slice());
+        assert_eq!(rt; memory.load(4), 9);
+        Ok(())
+    }
+}

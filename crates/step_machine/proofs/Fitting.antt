@@ -1,0 +1,83 @@
+-- A step of one hart, a store, an AMO and a landing keep harts, buffers and memory fit for each other.
+use Rattle.std.proofs.Common.{◌≡◌, ℕ, ◌+◌, ◌*◌, ◌/◌, ◌≤◌, ◌<◌, List, [], ◌∷◌, ◌++◌, length, drop, set, get_or, Option, Some, None, refl, sym, ◌∙◌, ap, subst, arith}
+use Rattle.std.specs.Prelude.{All, IfSome, IsSomeAnd}
+use Rattle.std.specs.List.{slice_get}
+use Rattle.std.proofs.lemmas.Option.{slice_get_within, slice_get_read, get_or_from_slice_get}
+use Rattle.std.proofs.lemmas.List.{length-set}
+use Rattle.std.proofs.lemmas.List.Elements.{All-set, All-push, All-drop}
+use Rattle.memory.specs.Words.{IsAddress}
+use Rattle.hart.specs.State.{HartView}
+use Rattle.hart.specs.Steps.{need_of, stepped}
+use Rattle.hart.specs.declared.need.Need.{Need}
+use Rattle.hart.specs.declared.status.Status.{Status}
+use Rattle.hart.specs.declared.status.Status.TheVariants as status
+use Rattle.hart.proofs.Advances.{advanced-words}
+use Rattle.step_machine.specs.Config.{Config, IsInRange, buffer_of, step_at, step_hart, HasAddress, Fit, IsNext, IsReady, act_in, act_outcome, outcome_for}
+use Rattle.step_machine.proofs.Decides.{need_of-in_range}
+
+-- the element x of the list, stepped in its place
+pub stepped_in_place : (hs : List HartView) (h v : ℕ) (x : HartView) → h < length hs → x ≡ get_or hs h x → set hs h (stepped x v) ≡ step_at hs h v (slice_get hs h)
+stepped_in_place hs h v x within is = ap (step_at hs h v) (sym (slice_get_read hs (length hs) h x refl within is))
+
+length-step_at : (hs : List HartView) (h v : ℕ) (so : Option HartView) → length (step_at hs h v so) ≡ length hs
+length-step_at hs h v None = refl
+length-step_at hs h v (Some x) = length-set hs h (stepped x v)
+
+words_step_at : (M : ℕ) (hs : List HartView) (h v : ℕ) (so : Option HartView) → slice_get hs h ≡ so → All (λ (x : HartView). x.state.words ≡ M) hs → All (λ (x : HartView). x.state.words ≡ M) (step_at hs h v so)
+words_step_at M hs h v None is all = all
+words_step_at M hs h v (Some x) is all =
+    let words : x.state.words ≡ M = subst (λ (y : HartView). y.state.words ≡ M) (get_or_from_slice_get hs h x x is) (all h x (slice_get_within hs h x is)) in
+    All-set (λ (y : HartView). y.state.words ≡ M) hs h (stepped x v) (advanced-words x.state v ∙ words) all
+
+pub fit_step : (M : ℕ) (c : Config) (h v : ℕ) → Fit M c → Fit M (record c { harts = step_hart c h v })
+fit_step M c h v fit = record {
+    buffers = fit.buffers ∙ sym (length-step_at c.harts h v (slice_get c.harts h));
+    words = fit.words;
+    harts = words_step_at M c.harts h v (slice_get c.harts h) refl fit.harts;
+    pending = fit.pending;
+  }
+
+pub fit_store : (M : ℕ) (c : Config) (h a v : ℕ) → h < length c.buffers → IsAddress M a → Fit M c → Fit M (record c { buffers = set c.buffers h (buffer_of c h ++ (a, v) ∷ []) })
+fit_store M c h a v within is fit = record {
+    buffers = length-set c.buffers h (buffer_of c h ++ (a, v) ∷ []) ∙ fit.buffers;
+    words = fit.words;
+    harts = fit.harts;
+    pending = All-set (λ (ps : List (ℕ × ℕ)). All (HasAddress M) ps) c.buffers h (buffer_of c h ++ (a, v) ∷ [])
+      (All-push (HasAddress M) (buffer_of c h) (a, v) (fit.pending h [] within) is) fit.pending;
+  }
+
+pub fit_word : (M : ℕ) (c : Config) (i v : ℕ) → Fit M c → Fit M (record c { words = set c.words i v })
+fit_word M c i v fit = record {
+    buffers = fit.buffers;
+    words = length-set c.words i v ∙ fit.words;
+    harts = fit.harts;
+    pending = fit.pending;
+  }
+
+pub fit_land : (M : ℕ) (c : Config) (h : ℕ) → h < length c.buffers → Fit M c → Fit M (record c { buffers = set c.buffers h (drop 1 (buffer_of c h)) })
+fit_land M c h within fit = record {
+    buffers = length-set c.buffers h (drop 1 (buffer_of c h)) ∙ fit.buffers;
+    words = fit.words;
+    harts = fit.harts;
+    pending = All-set (λ (ps : List (ℕ × ℕ)). All (HasAddress M) ps) c.buffers h (drop 1 (buffer_of c h))
+      (All-drop (HasAddress M) 1 (buffer_of c h) (fit.pending h [] within)) fit.pending;
+  }
+
+pub fit_stepped : (M : ℕ) (c : Config) (h v : ℕ) (x y : HartView) → h < length c.harts → x ≡ get_or c.harts h x → y ≡ stepped x v → Fit M c → Fit M (record c { harts = set c.harts h y })
+fit_stepped M c h v x y within is step fit =
+    subst (λ (hs : List HartView). Fit M (record c { harts = hs })) (sym (ap (set c.harts h) step ∙ stepped_in_place c.harts h v x within is)) (fit_step M c h v fit)
+
+-- hart h, which is x, is ready to do what it needs
+pub ready_in_place : (M : ℕ) (c : Config) (h : ℕ) (x : HartView) (n : Need) → h < length c.harts → x ≡ get_or c.harts h x → x.state.status ≡ status.Running → n ≡ need_of x.state → IfSome (slice_get c.harts h) (λ (v : HartView). 0 < v.room) → Fit M c → IsNext c h n × (h < length c.harts) × IsInRange M n
+ready_in_place M c h x n within is running next room fit =
+    let here : slice_get c.harts h ≡ Some x = slice_get_read c.harts (length c.harts) h x refl within is in
+    let some : 0 < x.room = subst (λ (o : Option HartView). IfSome o (λ (v : HartView). 0 < v.room)) here room in
+    let words : x.state.words ≡ M = subst (λ (y : HartView). y.state.words ≡ M) (sym is) (fit.harts h x within) in
+    (subst (λ (o : Option HartView). IsSomeAnd o (IsReady n)) (sym here) (record { running = running; next = sym next; room = some }),
+     within, subst (IsInRange M) (sym next) (need_of-in_range M x.state words))
+
+-- an act of a hart in this status
+pub act_outcome-status : (B : ℕ) (c : Config) (h : ℕ) (x : HartView) (st : Status) → h < length c.harts → x ≡ get_or c.harts h x → x.state.status ≡ st → act_outcome B c h (slice_get c.harts h) ≡ act_in st (outcome_for B c h (need_of x.state))
+act_outcome-status B c h x st within is status_is =
+    let here : slice_get c.harts h ≡ Some x = slice_get_read c.harts (length c.harts) h x refl within is in
+    ap (act_outcome B c h) here ∙ ap (λ s. act_in s (outcome_for B c h (need_of x.state))) status_is

@@ -1,0 +1,65 @@
+-- What an opening gives is fit, and is what the history of no entry says.
+use Rattle.std.proofs.Common.{◌≡◌, ℕ, zero, suc, ◌+◌, ◌*◌, ◌-◌, ◌/◌, ◌≤◌, ◌<◌, List, [], ◌∷◌, ◌++◌, length, drop, get_or, replicate, Option, Some, None, refl, sym, ◌∙◌, ap, subst, arith, length-append, length-drop}
+use Rattle.std.specs.Prelude.{map, option_map, All, nat_lt}
+use Rattle.std.specs.List.{slice_get}
+use Rattle.std.proofs.lemmas.List.{length-map, length-replicate, drop-replicate}
+use Rattle.std.proofs.lemmas.List.Elements.{All-map, All-nil, All-replicate}
+use Rattle.std.proofs.lemmas.Option.{slice_get-map}
+use Rattle.memory.specs.Words.{IsAddress}
+use Rattle.hart.specs.State.{HartState, HartView}
+use Rattle.hart.specs.declared.need.Report.{Report}
+use Rattle.step_machine.specs.History.{HartStart, Start, History, unrun, FitsIn}
+use Rattle.step_machine.specs.Entries.{opening_word}
+use Rattle.step_machine.specs.Paths.{opens_as}
+use Rattle.step_machine.specs.Opened.{opened_hart}
+use Rattle.step_machine.specs.Config.{Config, HasAddress, Fit, opened_config}
+use Rattle.step_machine.specs.Ties.{view_state, Tied}
+
+pub fit_opened : (M : ℕ) (o : Start) → FitsIn M o → Fit M (opened_config M o)
+fit_opened M o fits = record {
+    buffers = length-replicate (length o.harts) [] ∙ sym (length-map o.harts (opened_hart M));
+    words = length-append o.words (drop (length o.words) (replicate M 0)) ∙ rest (length o.words) fits.words;
+    harts = All-map (λ (v : HartView). v.state.words ≡ M) (opened_hart M) o.harts (λ k d lt. refl);
+    pending = All-replicate (λ (ps : List (ℕ × ℕ)). All (HasAddress M) ps) (length o.harts) [] (All-nil (HasAddress M));
+  }
+  where
+    rest : (n : ℕ) → n ≤ M → n + length {A = ℕ} (drop n (replicate M 0)) ≡ M
+    rest n le =
+        let zeros : List ℕ = replicate M 0 in
+        let left : length (drop n zeros) ≡ length zeros - n = length-drop n zeros in
+        let all : length zeros ≡ M = length-replicate {A = ℕ} M 0 in
+        omega arith
+
+pub fit_held : (M : ℕ) (o : Start) (c : Config) → FitsIn M o → c ≡ opened_config M o → Fit M c
+fit_held M o c fits is = subst (Fit M) (sym is) (fit_opened M o fits)
+
+view_opened : (M : ℕ) (so : Option HartStart) → option_map view_state (option_map (opened_hart M) so) ≡ option_map (opens_as M) so
+view_opened M None = refl
+view_opened M (Some o) = refl
+
+reports_opened : (M : ℕ) (so : Option HartStart) (v : HartView) → option_map (opened_hart M) so ≡ Some v → v.reports ≡ []
+reports_opened M None v is = cc
+reports_opened M (Some o) v is = let v_is : opened_hart M o ≡ v = cc in sym (ap (λ (w : HartView). w.reports) v_is)
+
+none_everywhere : (n h : ℕ) → get_or {A = List (ℕ × ℕ)} (replicate n []) h [] ≡ []
+none_everywhere zero h = refl
+none_everywhere (suc n) zero = refl
+none_everywhere (suc n) (suc h) = none_everywhere n h
+
+zeros_everywhere : (m i : ℕ) → get_or {A = ℕ} (replicate m 0) i 0 ≡ 0
+zeros_everywhere zero i = refl
+zeros_everywhere (suc m) zero = refl
+zeros_everywhere (suc m) (suc i) = zeros_everywhere m i
+
+zeros_after : (xs : List ℕ) (m i : ℕ) → get_or (xs ++ replicate m 0) i 0 ≡ get_or xs i 0
+zeros_after [] m i = zeros_everywhere m i
+zeros_after (x ∷ xs) m zero = refl
+zeros_after (x ∷ xs) m (suc i) = zeros_after xs m i
+
+pub tied_opened : (M : ℕ) (o : Start) → Tied M (unrun o) (opened_config M o)
+tied_opened M o = record {
+    states = λ h. ap (option_map view_state) (slice_get-map (opened_hart M) o.harts h) ∙ view_opened M (slice_get o.harts h);
+    reports = λ h v is. reports_opened M (slice_get o.harts h) v (sym (slice_get-map (opened_hart M) o.harts h) ∙ is);
+    buffers = λ h. none_everywhere (length o.harts) h;
+    words = λ a is. ap (λ (ws : List ℕ). get_or (o.words ++ ws) (a / 4) 0) (drop-replicate (length o.words) M 0) ∙ zeros_after o.words (M - length o.words) (a / 4);
+  }

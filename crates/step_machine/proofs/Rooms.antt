@@ -1,0 +1,89 @@
+-- Room for steps: making it changes nothing else, and it is never lost but by steps.
+use Rattle.std.proofs.Common.{◌≡◌, ℕ, ◌+◌, ◌-◌, ◌≤◌, ◌<◌, ◌==◌, Bool, true, false, List, [], ◌∷◌, length, set, get_or, Option, Some, None, refl, sym, ◌∙◌, ap, subst, arith}
+use Rattle.std.specs.Prelude.{map, max, Result, Ok, Err, OnOk, OnErr}
+use Rattle.std.specs.List.{slice_get}
+use Rattle.std.proofs.lemmas.Bool.{eqb-true, eqb-false}
+use Rattle.std.proofs.lemmas.List.{length-map}
+use Rattle.std.proofs.lemmas.Option.{slice_get_within, get_or_from_slice_get}
+use Rattle.std.proofs.Math.Seq.{map-set_same}
+use Rattle.hart.specs.State.{HartState, HartView}
+use Rattle.hart.specs.Steps.{stepped}
+use Rattle.hart.specs.declared.need.Report.{Report}
+use Rattle.step_machine.specs.Config.{Config, told, SameButRoom, AllHaveRoom, roomy, roomy_in, roomy_at}
+use Rattle.step_machine.proofs.Stays.{slice_get-set_same, slice_get-set_other}
+
+pub same_self : (c : Config) → SameButRoom c c
+same_self c = record { harts = refl; buffers = refl; words = refl }
+
+pub same_after : (c d e : Config) → SameButRoom c d → SameButRoom d e → SameButRoom c e
+same_after c d e s t = record { harts = t.harts ∙ s.harts; buffers = t.buffers ∙ s.buffers; words = t.words ∙ s.words }
+
+same_in : (hs : List HartView) (h n : ℕ) (so : Option HartView) → slice_get hs h ≡ so → map told (roomy_in hs h n so) ≡ map told hs
+same_in hs h n None is = refl
+same_in hs h n (Some v) is = map-set_same told hs h (roomy n v) v (ap told (sym (get_or_from_slice_get hs h v v is)))
+
+pub same_roomy : (c : Config) (h n : ℕ) → SameButRoom c (record c { harts = roomy_at c.harts h n })
+same_roomy c h n = record { harts = same_in c.harts h n (slice_get c.harts h) refl; buffers = refl; words = refl }
+
+-- a hart written at h: what a test says of it and of the others
+written_at_place : (P : HartView → Type 0) (hs : List HartView) (h k : ℕ) (x v : HartView) → h < length hs → P x → ((w : HartView) → slice_get hs k ≡ Some w → P w) → slice_get (set hs h x) k ≡ Some v → P v
+written_at_place P hs h k x v within here others is = at (k == h) refl
+  where
+    at : (b : Bool) → (k == h) ≡ b → P v
+    at true same =
+        let k_is : k ≡ h = eqb-true k h same in
+        let got : Some x ≡ Some v = sym (slice_get-set_same hs h x within) ∙ subst (λ (j : ℕ). slice_get (set hs h x) j ≡ Some v) k_is is in
+        let x_is : x ≡ v = cc in
+        subst P x_is here
+    at false other = others v (sym (slice_get-set_other hs h k x (eqb-false k h other)) ∙ is)
+
+more_in : (hs : List HartView) (h n r : ℕ) (so : Option HartView) → slice_get hs h ≡ so → AllHaveRoom r hs → AllHaveRoom r (roomy_in hs h n so)
+more_in hs h n r None is all = all
+more_in hs h n r (Some x) is all = λ k v got.
+    let old : r ≤ x.room = all h x is in
+    written_at_place (λ (w : HartView). r ≤ w.room) hs h k (roomy n x) v (slice_get_within hs h x is) (omega arith) (all k) got
+
+-- no hart loses room
+pub more_roomy : (hs : List HartView) (h n r : ℕ) → AllHaveRoom r hs → AllHaveRoom r (roomy_at hs h n)
+more_roomy hs h n r all = more_in hs h n r (slice_get hs h) refl all
+
+has_in : (hs : List HartView) (h n : ℕ) (v : HartView) (so : Option HartView) → slice_get hs h ≡ so → slice_get (roomy_in hs h n so) h ≡ Some v → n ≤ v.room
+has_in hs h n v None is got = let none : None ≡ Some v = sym is ∙ got in cc
+has_in hs h n v (Some x) is got =
+    let some : Some (roomy n x) ≡ Some v = sym (slice_get-set_same hs h (roomy n x) (slice_get_within hs h x is)) ∙ got in
+    let v_is : roomy n x ≡ v = cc in
+    subst (λ (w : HartView). n ≤ w.room) v_is (omega arith)
+
+-- the harts before the i-th have room for n steps
+abbrev pub RoomBelow : ℕ → ℕ → List HartView → Type 0
+RoomBelow i n hs = (k : ℕ) (v : HartView) → k < i → slice_get hs k ≡ Some v → n ≤ v.room
+
+below_in : (hs : List HartView) (i n : ℕ) (so : Option HartView) → slice_get hs i ≡ so → RoomBelow i n hs → RoomBelow i n (roomy_in hs i n so)
+below_in hs i n None is below = below
+below_in hs i n (Some x) is below = λ k v lt got.
+    written_at_place (λ (w : HartView). n ≤ w.room) hs i k (roomy n x) v (slice_get_within hs i x is) (omega arith) (λ w here. below k w lt here) got
+
+pub room_below_more : (hs : List HartView) (i n : ℕ) → RoomBelow i n hs → RoomBelow (i + 1) n (roomy_at hs i n)
+room_below_more hs i n below k v lt got = at (k == i) refl
+  where
+    at : (b : Bool) → (k == i) ≡ b → n ≤ v.room
+    at true same = has_in hs i n v (slice_get hs i) refl (subst (λ (j : ℕ). slice_get (roomy_at hs i n) j ≡ Some v) (eqb-true k i same) got)
+    at false other =
+        let ne : k ≡ i → ⊥ = eqb-false k i other in
+        below_in hs i n (slice_get hs i) refl below k v (omega arith) got
+
+-- all harts have room where all before the end have it
+pub all_have_room : (hs : List HartView) (i n : ℕ) → length hs ≤ i → RoomBelow i n hs → AllHaveRoom n hs
+all_have_room hs i n end below h v got = let within : h < length hs = slice_get_within hs h v got in below h v (omega arith) got
+
+pub same-length : (c d : Config) → SameButRoom c d → length d.harts ≡ length c.harts
+same-length c d same = sym (length-map d.harts told) ∙ ap length same.harts ∙ length-map c.harts told
+
+-- whatever the result, all stays but room
+pub same_whichever : {E : Type 0} (c d : Config) (h n : ℕ) (r : Result (Unit {0}) E) → OnOk r (d ≡ record c { harts = roomy_at c.harts h n }) → OnErr r (d ≡ c) → SameButRoom c d
+same_whichever c d h n (Ok x) ok err = subst (SameButRoom c) (sym ok) (same_roomy c h n)
+same_whichever c d h n (Err e) ok err = subst (SameButRoom c) (sym err) (same_self c)
+
+pub more_whichever : {E : Type 0} (c d : Config) (h n r : ℕ) (result : Result (Unit {0}) E) → OnOk result (d ≡ record c { harts = roomy_at c.harts h n }) → OnErr result (d ≡ c) → AllHaveRoom r c.harts → AllHaveRoom r d.harts
+more_whichever c d h n r (Ok x) ok err all = subst (λ (k : Config). AllHaveRoom r k.harts) (sym ok) (more_roomy c.harts h n r all)
+more_whichever c d h n r (Err e) ok err all = subst (λ (k : Config). AllHaveRoom r k.harts) (sym err) all

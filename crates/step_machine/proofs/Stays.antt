@@ -1,0 +1,210 @@
+-- What the machine holds stays what its history says, over one more entry.
+use Rattle.std.proofs.Common.{◌≡◌, ◌≢◌, ℕ, zero, suc, ◌+◌, ◌*◌, ◌/◌, ◌%◌, ◌≤◌, ◌<◌, ◌==◌, Bool, true, false, not, ◌&&◌, if◌then◌else◌, List, [], ◌∷◌, ◌++◌, length, take, drop, set, get_or, Option, Some, None, refl, sym, ◌∙◌, ap, subst, arith, append-nil, get_or-set_same, get_or-set_other, length-set}
+use Rattle.std.specs.Prelude.{option_map, unwrap_or}
+use Rattle.std.specs.List.{slice_get}
+use Rattle.std.proofs.lemmas.Bool.{eqb-true, eqb-false, eq-eqb, ne_eqb}
+use Rattle.std.proofs.lemmas.Option.{slice_get_within}
+use Rattle.memory.specs.Words.{IsAddress, newest_of}
+use Rattle.hart.specs.State.{HartState, HartView}
+use Rattle.hart.specs.Steps.{need_of, advanced, stepped, reports_after}
+use Rattle.hart.specs.declared.need.Need.{Need}
+use Rattle.hart.specs.declared.need.Need.TheVariants as need
+use Rattle.hart.specs.declared.need.Report.{Report}
+use Rattle.hart.specs.declared.need.Report.TheVariants as report
+use Rattle.step_machine.specs.declared.events.Entry.{Entry}
+use Rattle.step_machine.specs.declared.events.Entry.TheVariants as entry
+use Rattle.step_machine.specs.History.{Start, History, with_entry}
+use Rattle.step_machine.specs.Entries.{hart_of, is_land, is_own, store_of, land_of, report_of, reported, pending, write_of, landed, opening_word, memory_word}
+use Rattle.step_machine.specs.Paths.{entry_of, value_of, CanMake, state_of, Path}
+use Rattle.step_machine.specs.Legal.{Allowed, Legal, Kept}
+use Rattle.step_machine.specs.Runs.{CanFollow}
+use Rattle.step_machine.specs.Config.{Config, buffer_of, word_at, step_at, step_hart, write_first, after_entry, HasAddress, Fit}
+use Rattle.step_machine.specs.Ties.{view_state, Tied}
+use Rattle.step_machine.proofs.Appended.{pending-last, landed-last, newest_of-append, reported-last}
+use Rattle.step_machine.proofs.Balanced.{balanced}
+use Rattle.step_machine.proofs.Follows.{advance_by, state_of-mine, state_of-other}
+
+-- one element written, and the elements beside it
+
+pub slice_get-set_same : {X : Type 0} (xs : List X) (i : ℕ) (y : X) → i < length xs → slice_get (set xs i y) i ≡ Some y
+slice_get-set_same [] i y lt = absurd (omega arith)
+slice_get-set_same (x ∷ xs) zero y lt = refl
+slice_get-set_same (x ∷ xs) (suc i) y lt = slice_get-set_same xs i y (omega arith)
+
+pub slice_get-set_other : {X : Type 0} (xs : List X) (i k : ℕ) (y : X) → (k ≡ i → ⊥) → slice_get (set xs i y) k ≡ slice_get xs k
+slice_get-set_other [] i k y ne = refl
+slice_get-set_other (x ∷ xs) zero zero y ne = absurd (ne refl)
+slice_get-set_other (x ∷ xs) zero (suc k) y ne = refl
+slice_get-set_other (x ∷ xs) (suc i) zero y ne = refl
+slice_get-set_other (x ∷ xs) (suc i) (suc k) y ne = slice_get-set_other xs i k y (λ e. ne (ap suc e))
+
+-- the harts after one of them stepped
+
+step_at-same : (hs : List HartView) (h v : ℕ) (so : Option HartView) → slice_get hs h ≡ so → slice_get (step_at hs h v so) h ≡ option_map (λ (x : HartView). stepped x v) so
+step_at-same hs h v None is = is
+step_at-same hs h v (Some x) is = slice_get-set_same hs h (stepped x v) (slice_get_within hs h x is)
+
+step_at-other : (hs : List HartView) (h v k : ℕ) (so : Option HartView) → (k ≡ h → ⊥) → slice_get (step_at hs h v so) k ≡ slice_get hs k
+step_at-other hs h v k None ne = refl
+step_at-other hs h v k (Some x) ne = slice_get-set_other hs h k (stepped x v) ne
+
+map_stepped : (v : ℕ) (so : Option HartView) → option_map view_state (option_map (λ (x : HartView). stepped x v) so) ≡ option_map (λ (s : HartState). advanced s v) (option_map view_state so)
+map_stepped v None = refl
+map_stepped v (Some x) = refl
+
+own_is : (h k : ℕ) (e : Entry) (b : Bool) → hart_of e ≡ h → (h == k) ≡ b → is_own k e ≡ (b && not (is_land e))
+own_is h k e b mine is = let at : (hart_of e == k) ≡ b = subst (λ (g : ℕ). (g == k) ≡ b) (sym mine) is in ap (λ c. c && not (is_land e)) at
+
+-- the states after hart h made an entry e of its own and its list of harts stepped at h by what e read
+pub states_stay : (M : ℕ) (t : History) (c : Config) (h : ℕ) (e : Entry) → Tied M t c → hart_of e ≡ h → is_land e ≡ false → (k : ℕ) → option_map view_state (slice_get (step_hart c h (value_of e)) k) ≡ state_of M (with_entry t e) k
+states_stay M t c h e tied mine act k = at (k == h) refl
+  where
+    at : (b : Bool) → (k == h) ≡ b → option_map view_state (slice_get (step_hart c h (value_of e)) k) ≡ state_of M (with_entry t e) k
+    at true is =
+        let same : k ≡ h = eqb-true k h is in
+        subst (λ (j : ℕ). option_map view_state (slice_get (step_hart c h (value_of e)) j) ≡ state_of M (with_entry t e) j) (sym same)
+        (ap (option_map view_state) (step_at-same c.harts h (value_of e) (slice_get c.harts h) refl)
+        ∙ map_stepped (value_of e) (slice_get c.harts h)
+        ∙ ap (option_map (advance_by e)) (tied.states h)
+        ∙ sym (state_of-mine M t h e mine act))
+    at false is =
+        let ne : k ≡ h → ⊥ = eqb-false k h is in
+        let other : is_own k e ≡ false = own_is h k e false mine (ne_eqb h k (λ q. ne (sym q))) in
+        ap (option_map view_state) (step_at-other c.harts h (value_of e) k (slice_get c.harts h) ne) ∙ tied.states k ∙ sym (state_of-other M t k e other)
+
+-- a landing leaves every hart's state
+pub states_land : (M : ℕ) (t : History) (h k : ℕ) → state_of M (with_entry t (entry.Land h)) k ≡ state_of M t k
+states_land M t h k = state_of-other M t k (entry.Land h) (own_is h k (entry.Land h) (h == k) refl refl ∙ and_no (h == k))
+  where
+    and_no : (b : Bool) → b && false ≡ false
+    and_no true = refl
+    and_no false = refl
+
+-- reports
+
+if_self : {X : Type 0} (h : ℕ) (x y : X) → (if h == h then x else y) ≡ x
+if_self h x y = ap (λ b. if b then x else y) (eq-eqb h h refl)
+
+pub reports_after-entry : (rs : List Report) (n : Need) (h v : ℕ) → reports_after rs n ≡ rs ++ report_of h (entry_of h n v)
+reports_after-entry rs need.Inner h v = sym (append-nil rs)
+reports_after-entry rs (need.Load a) h v = sym (append-nil rs)
+reports_after-entry rs (need.Store a w) h v = sym (append-nil rs)
+reports_after-entry rs (need.Amo a op rs2) h v = sym (append-nil rs)
+reports_after-entry rs (need.Fence full) h v = sym (append-nil rs)
+reports_after-entry rs (need.Next w) h v = sym (append-nil rs)
+reports_after-entry rs (need.Report (report.Took i w)) h v = ap (λ (x : List Report). rs ++ x) (sym (if_self h (report.Took i w ∷ []) []))
+reports_after-entry rs (need.Report (report.Closed i)) h v = ap (λ (x : List Report). rs ++ x) (sym (if_self h (report.Closed i ∷ []) []))
+reports_after-entry rs need.Exit h v = sym (append-nil rs)
+reports_after-entry rs (need.Stop why) h v = sym (append-nil rs)
+
+pub report_of-other : (k : ℕ) (e : Entry) → (hart_of e == k) ≡ false → report_of k e ≡ []
+report_of-other k (entry.Inner g) ne = refl
+report_of-other k (entry.Load g a v) ne = refl
+report_of-other k (entry.Store g a v) ne = refl
+report_of-other k (entry.Amo g a old new) ne = refl
+report_of-other k (entry.Fence g full) ne = refl
+report_of-other k (entry.Next g w) ne = refl
+report_of-other k (entry.Took g i w) ne = ap (λ b. if b then report.Took i w ∷ [] else []) ne
+report_of-other k (entry.Closed g i) ne = ap (λ b. if b then report.Closed i ∷ [] else []) ne
+report_of-other k (entry.Ended g) ne = refl
+report_of-other k (entry.Stopped g why) ne = refl
+report_of-other k (entry.Land g) ne = refl
+
+-- the reports after hart h, in state s, made e
+pub reports_stay : (M : ℕ) (t : History) (c : Config) (h : ℕ) (e : Entry) (s : HartState) → Tied M t c → hart_of e ≡ h → state_of M t h ≡ Some s → e ≡ entry_of h (need_of s) (value_of e) → (k : ℕ) (w : HartView) → slice_get (step_hart c h (value_of e)) k ≡ Some w → w.reports ≡ reported k (with_entry t e).entries
+reports_stay M t c h e s tied mine is made k w here = at (k == h) refl
+  where
+    mine_at : (so : Option HartView) → slice_get c.harts h ≡ so → slice_get (step_hart c h (value_of e)) h ≡ Some w → w.reports ≡ reported h (t.entries ++ e ∷ [])
+    mine_at None none some = let got : slice_get (step_hart c h (value_of e)) h ≡ None = step_at-same c.harts h (value_of e) (slice_get c.harts h) refl ∙ ap (option_map (λ (x : HartView). stepped x (value_of e))) none in cc
+    mine_at (Some x) found some =
+        let got : slice_get (step_hart c h (value_of e)) h ≡ Some (stepped x (value_of e)) = step_at-same c.harts h (value_of e) (slice_get c.harts h) refl ∙ ap (option_map (λ (y : HartView). stepped y (value_of e))) found in
+        let stepped_is : w ≡ stepped x (value_of e) = cc in
+        let state_is : Some x.state ≡ Some s = sym (ap (option_map view_state) found) ∙ tied.states h ∙ is in
+        let state : x.state ≡ s = cc in
+        ap (λ (y : HartView). y.reports) stepped_is
+        ∙ reports_after-entry x.reports (need_of x.state) h (value_of e)
+        ∙ ap (λ (r : HartState). x.reports ++ report_of h (entry_of h (need_of r) (value_of e))) state
+        ∙ ap (λ (d : Entry). x.reports ++ report_of h d) (sym made)
+        ∙ ap (λ (rs : List Report). rs ++ report_of h e) (tied.reports h x found)
+        ∙ sym (reported-last h t.entries e)
+    at : (b : Bool) → (k == h) ≡ b → w.reports ≡ reported k (t.entries ++ e ∷ [])
+    at true same =
+        let k_is : k ≡ h = eqb-true k h same in
+        subst (λ (j : ℕ). w.reports ≡ reported j (t.entries ++ e ∷ [])) (sym k_is) (mine_at (slice_get c.harts h) refl (subst (λ (j : ℕ). slice_get (step_hart c h (value_of e)) j ≡ Some w) k_is here))
+    at false other =
+        let ne : k ≡ h → ⊥ = eqb-false k h other in
+        let none : report_of k e ≡ [] = report_of-other k e (subst (λ (g : ℕ). (g == k) ≡ false) (sym mine) (ne_eqb h k (λ q. ne (sym q)))) in
+        tied.reports k w (sym (step_at-other c.harts h (value_of e) k (slice_get c.harts h) ne) ∙ here)
+        ∙ sym (append-nil (reported k t.entries))
+        ∙ ap (λ (rs : List Report). reported k t.entries ++ rs) (sym none)
+        ∙ sym (reported-last k t.entries e)
+
+-- buffers
+
+-- an entry that neither stores nor lands leaves what is pending
+pub pending-other : (B : ℕ) (t : History) (k : ℕ) (e : Entry) → Legal B t → store_of k e ≡ [] → land_of k e ≡ 0 → pending k (t.entries ++ e ∷ []) ≡ pending k t.entries
+pending-other B t k e legal no_store no_land =
+    pending-last k t.entries e (balanced B t k legal)
+    ∙ ap (λ n. drop n (pending k t.entries ++ store_of k e)) no_land
+    ∙ ap (λ ps. pending k t.entries ++ ps) no_store
+    ∙ append-nil (pending k t.entries)
+
+-- a store joins what is pending of its hart at the end
+pub pending-store : (B : ℕ) (t : History) (h a v : ℕ) → Legal B t → pending h (t.entries ++ entry.Store h a v ∷ []) ≡ pending h t.entries ++ (a, v) ∷ []
+pending-store B t h a v legal = pending-last h t.entries (entry.Store h a v) (balanced B t h legal) ∙ ap (λ ps. pending h t.entries ++ ps) (if_self h ((a, v) ∷ []) [])
+
+-- a landing takes the first of what is pending of its hart
+pub pending-land : (B : ℕ) (t : History) (h : ℕ) → Legal B t → pending h (t.entries ++ entry.Land h ∷ []) ≡ drop 1 (pending h t.entries)
+pending-land B t h legal =
+    pending-last h t.entries (entry.Land h) (balanced B t h legal)
+    ∙ ap (λ n. drop n (pending h t.entries ++ [])) (if_self h 1 0)
+    ∙ ap (drop 1) (append-nil (pending h t.entries))
+
+pub store_of-other : (h k a v : ℕ) → (k ≡ h → ⊥) → store_of k (entry.Store h a v) ≡ []
+store_of-other h k a v ne = ap (λ b. if b then (a, v) ∷ [] else []) (ne_eqb h k (λ q. ne (sym q)))
+
+pub land_of-other : (h k : ℕ) → (k ≡ h → ⊥) → land_of k (entry.Land h) ≡ 0
+land_of-other h k ne = ap (λ b. if b then 1 else 0) (ne_eqb h k (λ q. ne (sym q)))
+
+-- a buffer written at h is what is pending, where it is so at h, and the others stay
+pub buffers_stay : (M : ℕ) (t : History) (c : Config) (h : ℕ) (ps : List (ℕ × ℕ)) (e : Entry) → Tied M t c → h < length c.buffers → ps ≡ pending h (t.entries ++ e ∷ []) → ((k : ℕ) → (k ≡ h → ⊥) → pending k (t.entries ++ e ∷ []) ≡ pending k t.entries) → (k : ℕ) → get_or (set c.buffers h ps) k [] ≡ pending k (t.entries ++ e ∷ [])
+buffers_stay M t c h ps e tied within here others k = at (k == h) refl
+  where
+    at : (b : Bool) → (k == h) ≡ b → get_or (set c.buffers h ps) k [] ≡ pending k (t.entries ++ e ∷ [])
+    at true same =
+        let k_is : k ≡ h = eqb-true k h same in
+        subst (λ (j : ℕ). get_or (set c.buffers h ps) j [] ≡ pending j (t.entries ++ e ∷ [])) (sym k_is) (get_or-set_same c.buffers h ps [] within ∙ here)
+    at false other =
+        let ne : k ≡ h → ⊥ = eqb-false k h other in
+        get_or-set_other c.buffers h k ps [] ne ∙ tied.buffers k ∙ sym (others k ne)
+
+-- words
+
+-- an entry that writes nothing leaves every word
+pub memory_word-other : (o : Start) (es : List Entry) (e : Entry) (a : ℕ) → write_of es e ≡ [] → memory_word o (es ++ e ∷ []) a ≡ memory_word o es a
+memory_word-other o es e a none = ap (λ ps. unwrap_or (newest_of a None ps) (opening_word o a)) (landed-last es e ∙ ap (λ ps. landed es ++ ps) none ∙ append-nil (landed es))
+
+-- an entry that writes a pair changes the word at its address
+pub memory_word-write : (o : Start) (es : List Entry) (e : Entry) (x v a : ℕ) → write_of es e ≡ (x, v) ∷ [] → memory_word o (es ++ e ∷ []) a ≡ (if x == a then v else memory_word o es a)
+memory_word-write o es e x v a is =
+    ap (λ ps. unwrap_or (newest_of a None ps) (opening_word o a)) (landed-last es e ∙ ap (λ ps. landed es ++ ps) is)
+    ∙ ap (λ w. unwrap_or w (opening_word o a)) (newest_of-append a None (landed es) ((x, v) ∷ []))
+    ∙ chosen (x == a)
+  where
+    chosen : (b : Bool) → unwrap_or (if b then Some v else newest_of a None (landed es)) (opening_word o a) ≡ (if b then v else memory_word o es a)
+    chosen true = refl
+    chosen false = refl
+
+-- words written at the place of an address say what memory says after that write
+pub words_stay : (M : ℕ) (t : History) (c : Config) (e : Entry) (x v : ℕ) → Tied M t c → length c.words ≡ M → IsAddress M x → write_of t.entries e ≡ (x, v) ∷ [] → (a : ℕ) → IsAddress M a → get_or (set c.words (x / 4) v) (a / 4) 0 ≡ memory_word t.opening (t.entries ++ e ∷ []) a
+words_stay M t c e x v tied count aligned is a at_a = at (x == a) refl ∙ sym (memory_word-write t.opening t.entries e x v a is)
+  where
+    at : (b : Bool) → (x == a) ≡ b → get_or (set c.words (x / 4) v) (a / 4) 0 ≡ (if x == a then v else memory_word t.opening t.entries a)
+    at true same =
+        let x_is : x ≡ a = eqb-true x a same in
+        let within : x / 4 < length c.words = omega arith in
+        subst (λ (j : ℕ). get_or (set c.words (x / 4) v) (j / 4) 0 ≡ v) x_is (get_or-set_same c.words (x / 4) v 0 within) ∙ ap (λ b. if b then v else memory_word t.opening t.entries a) (sym same)
+    at false other =
+        let x_not : x ≡ a → ⊥ = eqb-false x a other in
+        let ne : a / 4 ≢ x / 4 = λ q. x_not (omega arith) in
+        get_or-set_other c.words (x / 4) (a / 4) v 0 ne ∙ tied.words a at_a ∙ ap (λ b. if b then v else memory_word t.opening t.entries a) (sym other)

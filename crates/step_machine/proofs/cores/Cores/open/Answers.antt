@@ -1,0 +1,13 @@
+use Rattle.std.proofs.Common.{◌≡◌, ◌∙◌, ap, sym, length, replicate, [], drop, ◌++◌, arith}
+use Rattle.std.specs.Prelude.{map}
+use Rattle.std.proofs.lemmas.Grind.{common_steps}
+use Rattle.step_machine.specs.Opened.{opened_hart}
+use Rattle.step_machine.specs.Config.{Config, opened_config}
+use Rattle.step_machine.proofs.Opens.{fit_held, tied_opened}
+use Rattle.step_machine.proofs.cores.Cores.open.Goals as goal
+
+pub invariant_of-result : goal.invariant_of-result
+invariant_of-result g c =
+    let held : Config = record { harts = c.in_ok-harts.harts.items; buffers = c.in_ok-buffers.buffers.items; words = c.fill.new.self } in
+    let is : held ≡ opened_config g.row.M c.args.opening.now = grind (arith, common_steps) in
+    (c.requires.capacity, fit_held g.row.M c.args.opening.now held c.requires.fits is)

@@ -1,0 +1,8 @@
+-- A hart as the machine opens it.
+use Rattle.std.specs.Prelude.{ℕ}
+use Rattle.hart.specs.State.{HartView}
+use Rattle.hart.specs.Steps.{opened}
+use Rattle.step_machine.specs.History.{HartStart}
+
+abbrev pub opened_hart : ℕ → HartStart → HartView
+opened_hart M o = opened o.code o.registers o.inbox M
