@@ -19,7 +19,7 @@ use Rattle.step_machine.proofs.Decides.{need_of-in_range}
 pub stepped_in_place : (hs : List HartView) (h v : ℕ) (x : HartView) → h < length hs → x ≡ get_or hs h x → set hs h (stepped x v) ≡ step_at hs h v (slice_get hs h)
 stepped_in_place hs h v x within is = ap (step_at hs h v) (sym (slice_get_read hs (length hs) h x refl within is))
 
-length-step_at : (hs : List HartView) (h v : ℕ) (so : Option HartView) → length (step_at hs h v so) ≡ length hs
+pub length-step_at : (hs : List HartView) (h v : ℕ) (so : Option HartView) → length (step_at hs h v so) ≡ length hs
 length-step_at hs h v None = refl
 length-step_at hs h v (Some x) = length-set hs h (stepped x v)
 

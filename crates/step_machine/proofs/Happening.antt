@@ -19,18 +19,14 @@ use Rattle.step_machine.specs.Entries.{hart_of, is_land, own, pending}
 use Rattle.step_machine.specs.Paths.{entry_of, value_of, CanMake, opens_as, after_entries, state_of, Path}
 use Rattle.step_machine.specs.Legal.{Allowed, Legal, Kept}
 use Rattle.step_machine.specs.Runs.{IsFor, CanFollow, NoEntry, idle, idle_of, idle_in, Adds, Idles, Happens}
-use Rattle.step_machine.specs.Config.{Config, IsInRange, buffer_of, outcome_for, act_in, act_outcome, land_in, land_outcome, outcome_of}
+use Rattle.step_machine.specs.Config.{Config, IsInRange, buffer_of, entries_after, outcome_for, act_in, act_outcome, land_in, land_outcome, outcome_of}
 use Rattle.step_machine.specs.Ties.{view_state, Tied}
 use Rattle.step_machine.proofs.Follows.{state_after, follows, act_only, land_follows, Path-hart, Legal-last}
 use Rattle.step_machine.proofs.Decides.{need_of-in_range, Does, Decided, Sees, Tied-sees, outcome_for-decided}
 
 -- the history after an outcome
 abbrev pub history_after : History → Outcome → History
-history_after t (outcome.Did e) = with_entry t e
-history_after t outcome.Waited = t
-history_after t outcome.NothingToLand = t
-history_after t outcome.Over = t
-history_after t outcome.NoHart = t
+history_after t o = record { opening = t.opening; entries = entries_after t.entries o }
 
 -- what is known of a machine between two steps
 pub record Stands (B M : ℕ) (t : History) (c : Config) : Type 0 where

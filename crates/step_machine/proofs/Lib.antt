@@ -9,3 +9,4 @@ pub mod Running
 pub mod Fitting
 pub mod Rooms
 pub mod Opens
+pub mod Sounds

@@ -26,7 +26,7 @@ pub same_roomy : (c : Config) (h n : ℕ) → SameButRoom c (record c { harts = 
 same_roomy c h n = record { harts = same_in c.harts h n (slice_get c.harts h) refl; buffers = refl; words = refl }
 
 -- a hart written at h: what a test says of it and of the others
-written_at_place : (P : HartView → Type 0) (hs : List HartView) (h k : ℕ) (x v : HartView) → h < length hs → P x → ((w : HartView) → slice_get hs k ≡ Some w → P w) → slice_get (set hs h x) k ≡ Some v → P v
+pub written_at_place : (P : HartView → Type 0) (hs : List HartView) (h k : ℕ) (x v : HartView) → h < length hs → P x → ((w : HartView) → slice_get hs k ≡ Some w → P w) → slice_get (set hs h x) k ≡ Some v → P v
 written_at_place P hs h k x v within here others is = at (k == h) refl
   where
     at : (b : Bool) → (k == h) ≡ b → P v
@@ -71,6 +71,9 @@ room_below_more hs i n below k v lt got = at (k == i) refl
     at false other =
         let ne : k ≡ i → ⊥ = eqb-false k i other in
         below_in hs i n (slice_get hs i) refl below k v (omega arith) got
+
+pub room_below_next : (c d : Config) (i n : ℕ) → d ≡ record c { harts = roomy_at c.harts i n } → RoomBelow i n c.harts → RoomBelow (i + 1) n d.harts
+room_below_next c d i n is below = subst (λ (k : Config). RoomBelow (i + 1) n k.harts) (sym is) (room_below_more c.harts i n below)
 
 -- all harts have room where all before the end have it
 pub all_have_room : (hs : List HartView) (i n : ℕ) → length hs ≤ i → RoomBelow i n hs → AllHaveRoom n hs

@@ -183,3 +183,11 @@ opened_config M o = record {
   buffers = replicate (length o.harts) [];
   words = o.words ++ drop (length o.words) (replicate M 0);
 }
+
+-- the entries after an outcome
+abbrev pub entries_after : List Entry → Outcome → List Entry
+entries_after es (outcome.Did e) = es ++ e ∷ []
+entries_after es outcome.Waited = es
+entries_after es outcome.NothingToLand = es
+entries_after es outcome.Over = es
+entries_after es outcome.NoHart = es

@@ -18,6 +18,11 @@ pub record History : Type 0 where
   pub opening : Start
   pub entries : List Entry
 
+-- what a contract sees of a machine: its history, and for how many more steps room is reserved
+pub record Progress : Type 0 where
+  pub history : History
+  pub room : ℕ
+
 -- nothing was done yet
 abbrev pub unrun : Start → History
 unrun o = record { opening = o; entries = [] }

@@ -1,13 +1,14 @@
 -- What the machine holds is what its history says. No public clause names it.
-use Rattle.std.specs.Prelude.{ℕ, ◌≡◌, List, [], ◌∷◌, ◌++◌, Option, Some, option_map}
+use Rattle.std.specs.Prelude.{ℕ, ◌≡◌, List, [], ◌∷◌, ◌++◌, Option, Some, option_map, length}
 use Rattle.std.specs.List.{slice_get}
 use Rattle.memory.specs.Words.{IsAddress}
 use Rattle.hart.specs.State.{HartState, HartView}
 use Rattle.hart.specs.declared.need.Report.{Report}
-use Rattle.step_machine.specs.History.{History}
+use Rattle.step_machine.specs.History.{History, FitsIn}
+use Rattle.step_machine.specs.Legal.{Kept}
 use Rattle.step_machine.specs.Entries.{pending, memory_word, reported}
 use Rattle.step_machine.specs.Paths.{state_of}
-use Rattle.step_machine.specs.Config.{Config, buffer_of, word_at}
+use Rattle.step_machine.specs.Config.{Config, Fit, AllHaveRoom, buffer_of, word_at}
 
 abbrev pub view_state : HartView → HartState
 view_state v = v.state
@@ -17,3 +18,12 @@ pub record Tied (M : ℕ) (t : History) (c : Config) : Type 0 where
   pub reports : (h : ℕ) (v : HartView) → slice_get c.harts h ≡ Some v → v.reports ≡ reported h t.entries
   pub buffers : (h : ℕ) → buffer_of c h ≡ pending h t.entries
   pub words : (a : ℕ) → IsAddress M a → word_at c a ≡ memory_word t.opening t.entries a
+
+-- a history that is kept, and a machine that holds what it says, with room for n more steps
+pub record Sound (B M : ℕ) (t : History) (c : Config) (n : ℕ) : Type 0 where
+  pub fits : FitsIn M t.opening
+  pub kept : Kept B M t
+  pub tied : Tied M t c
+  pub fit : Fit M c
+  pub count : length c.harts ≡ length t.opening.harts
+  pub room : AllHaveRoom n c.harts

@@ -37,7 +37,7 @@ impl<const B: usize, const M: usize> Model for Cores<B, M> {
 
 impl<const B: usize, const M: usize> Cores<B, M> {
     ghost use Rattle.step_machine.specs.History.{FitsIn};
-    ghost use Rattle.step_machine.specs.Config.{opened_config, HasRoom, outcome_of, outcome_for, act_outcome, land_outcome, after_outcome, step_hart, found, buffer_of, word_at, roomy_at, SameButRoom, AllHaveRoom, IsNext, CanAdvance, IsInRange};
+    ghost use Rattle.step_machine.specs.Config.{Fit, opened_config, HasRoom, outcome_of, outcome_for, act_outcome, land_outcome, after_outcome, step_hart, found, buffer_of, word_at, roomy_at, SameButRoom, AllHaveRoom, IsNext, CanAdvance, IsInRange};
 
     /// What an opening gives: harts at their beginnings, empty buffers, and the opening's words.
     pub fn open(alloc: Global, opening: &Opening) -> Result<Self, AllocError>
@@ -62,11 +62,14 @@ impl<const B: usize, const M: usize> Cores<B, M> {
         requires room { HasRoom self.old.harts event }
         ensures outcome { result ≡ outcome_of B self.old event }
         ensures after { self.new ≡ after_outcome self.old result }
+        ensures fit { Fit M self.new }
     {
-        match event {
+        let outcome = match event {
             Event::Act(hart) => self.act(hart),
             Event::Land(hart) => self.land(hart),
-        }
+        };
+        let _ = &self.harts;
+        outcome
     }
 
     fn act(&mut self, hart: u32) -> Outcome

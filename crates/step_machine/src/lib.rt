@@ -10,5 +10,10 @@
 
 mod cores;
 pub mod events;
-pub mod opening;
 pub mod laws;
+pub mod machine;
+pub mod opening;
+
+pub use events::{Entry, Event, Outcome};
+pub use machine::Machine;
+pub use opening::{HartOpening, Opening, Trace};

@@ -1,6 +1,16 @@
 //! Where a machine begins.
 
+ghost use Rattle.std.specs.Prelude.{◌≡◌, ◌↔◌, IsTrue, IfOk};
+
+use crate::events::Entry;
+use std::alloc::{AllocError, Global};
 use std::marker::Model;
+
+/// How many harts a machine may have.
+pub const MAX_HARTS: usize = 64;
+
+/// How many instructions a hart's code may have.
+pub const MAX_CODE: usize = 4096;
 
 /// One hart's beginning: its instruction words, its registers and the words it will be given.
 #[derive(Debug, Drop)]
@@ -32,4 +42,60 @@ impl Model for Opening {
     ghost Value = { Start };
 
     ghost view = { λ o. record { harts = o.harts.items; words = o.words.items } };
+}
+
+impl HartOpening {
+    /// A copy of this beginning.
+    pub fn copy(&self, alloc: Global) -> Result<HartOpening, AllocError>
+        ensures { IfOk result (λ o. o ≡ self.now) }
+    {
+        let code = Vec::from_slice(alloc, &self.code)?;
+        let inbox = Vec::from_slice(alloc, &self.inbox)?;
+        Ok(HartOpening {
+            code,
+            registers: self.registers,
+            inbox,
+        })
+    }
+}
+
+impl Opening {
+    ghost use Rattle.step_machine.specs.History.{FitsIn};
+
+    /// Whether the opening is within the limits over a memory of `words` words: 1 to 64 harts, of at
+    /// most 4,096 instructions each, and at most `words` words.
+    pub fn fits(&self, words: usize) -> bool
+        ensures { IsTrue result ↔ FitsIn words self.now }
+    {
+        let some = !self.harts.is_empty() && self.harts.len() <= MAX_HARTS;
+        let short = self.harts.iter().all(|hart| hart.code.len() <= MAX_CODE);
+        some && short && self.words.len() <= words
+    }
+
+    /// A copy of this beginning.
+    pub fn copy(&self, alloc: Global) -> Result<Opening, AllocError>
+        ensures { IfOk result (λ o. o ≡ self.now) }
+    {
+        let mut harts = Vec::with_capacity(alloc, self.harts.len())?;
+        for hart in &self.harts {
+            harts.push(hart.copy(alloc)?)?;
+        }
+        let words = Vec::from_slice(alloc, &self.words)?;
+        Ok(Opening { harts, words })
+    }
+}
+
+/// A history by itself: where a machine began, and what was done since, oldest first.
+#[derive(Debug, Drop)]
+pub struct Trace {
+    pub opening: Opening,
+    pub entries: Vec<Entry>,
+}
+
+impl Model for Trace {
+    ghost use Rattle.step_machine.specs.History.{History};
+
+    ghost Value = { History };
+
+    ghost view = { λ t. record { opening = t.opening; entries = t.entries.items } };
 }

@@ -1,6 +1,5 @@
 use Rattle.step_machine.specs.History.{unrun}
 use Rattle.step_machine.proofs.Running.{kept-unrun, kept-run, run-one}
-use Rattle.step_machine.proofs.Carried.{carried}
 use Rattle.step_machine.proofs.Happening.{outcome_of-happens}
 use Rattle.step_machine.proofs.laws.laws_of_runs.Goals as goal
 

@@ -1,0 +1,186 @@
+-- A sound machine stays sound, whatever the event.
+use Rattle.std.proofs.Common.{◌≡◌, ℕ, ◌+◌, ◌-◌, ◌/◌, ◌≤◌, ◌<◌, ◌==◌, Bool, true, false, List, [], ◌∷◌, length, set, get_or, Option, Some, None, refl, sym, ◌∙◌, ap, subst, arith}
+use Rattle.std.specs.Prelude.{map, option_map, IfSome, All}
+use Rattle.std.specs.List.{slice_get}
+use Rattle.std.proofs.lemmas.List.{length-map}
+use Rattle.std.proofs.lemmas.Option.{slice_get_within, slice_get-get_or, get_or_from_slice_get, slice_get-map}
+use Rattle.hart.specs.State.{HartState, HartView}
+use Rattle.hart.specs.Steps.{stepped}
+use Rattle.hart.specs.declared.need.Report.{Report}
+use Rattle.step_machine.specs.declared.events.Event.{Event}
+use Rattle.step_machine.specs.declared.events.Event.TheVariants as event
+use Rattle.step_machine.specs.declared.events.Entry.{Entry}
+use Rattle.step_machine.specs.declared.events.Entry.TheVariants as entry
+use Rattle.step_machine.specs.declared.events.Outcome.{Outcome}
+use Rattle.step_machine.specs.declared.events.Outcome.TheVariants as outcome
+use Rattle.step_machine.specs.History.{Start, History, unrun, FitsIn}
+use Rattle.step_machine.specs.Legal.{Kept}
+use Rattle.step_machine.specs.Runs.{Happens}
+use Rattle.step_machine.specs.Config.{Config, HasAddress, Fit, AllHaveRoom, HasRoom, SameButRoom, told, step_at, step_hart, after_entry, after_outcome, entries_after, outcome_of, opened_config}
+use Rattle.step_machine.specs.Ties.{view_state, Tied, Sound}
+use Rattle.step_machine.proofs.Carried.{carried}
+use Rattle.step_machine.proofs.Fitting.{length-step_at}
+use Rattle.step_machine.proofs.Happening.{Stands, history_after, outcome_of-happens}
+use Rattle.step_machine.proofs.Opens.{fit_opened, tied_opened}
+use Rattle.step_machine.proofs.Rooms.{written_at_place, same-length}
+use Rattle.step_machine.proofs.Running.{kept-unrun, kept_after, kept-happens}
+
+-- room is no part of what a history says
+
+told_of : (c : Config) (h : ℕ) → option_map told (slice_get c.harts h) ≡ slice_get (map told c.harts) h
+told_of c h = sym (slice_get-map told c.harts h)
+
+told_same : (c d : Config) (h : ℕ) → SameButRoom c d → option_map told (slice_get d.harts h) ≡ option_map told (slice_get c.harts h)
+told_same c d h same = told_of d h ∙ ap (λ (ts : List (HartState × List Report)). slice_get ts h) same.harts ∙ sym (told_of c h)
+
+states_told : (so to : Option HartView) → option_map told so ≡ option_map told to → option_map view_state so ≡ option_map view_state to
+states_told None None is = refl
+states_told None (Some y) is = cc
+states_told (Some x) None is = cc
+states_told (Some x) (Some y) is = let both : told x ≡ told y = cc in ap (λ (p : HartState × List Report). Some p.0) both
+
+reports_told : (so : Option HartView) (v : HartView) (rs : List Report) → option_map told so ≡ Some (told v) → ((w : HartView) → so ≡ Some w → w.reports ≡ rs) → v.reports ≡ rs
+reports_told None v rs is all = cc
+reports_told (Some x) v rs is all = let both : told x ≡ told v = cc in sym (ap (λ (p : HartState × List Report). p.1) both) ∙ all x refl
+
+pub tied_same : (M : ℕ) (t : History) (c d : Config) → Tied M t c → SameButRoom c d → Tied M t d
+tied_same M t c d tied same = record {
+    states = λ h. states_told (slice_get d.harts h) (slice_get c.harts h) (told_same c d h same) ∙ tied.states h;
+    reports = λ h v is. reports_told (slice_get c.harts h) v _ (sym (told_same c d h same) ∙ ap (option_map told) is) (tied.reports h);
+    buffers = λ h. ap (λ (bs : List (List (ℕ × ℕ))). get_or bs h []) same.buffers ∙ tied.buffers h;
+    words = λ a is. ap (λ (ws : List ℕ). get_or ws (a / 4) 0) same.words ∙ tied.words a is;
+  }
+
+-- room after a step
+
+step_room : (hs : List HartView) (h v n : ℕ) (so : Option HartView) → slice_get hs h ≡ so → AllHaveRoom n hs → AllHaveRoom (n - 1) (step_at hs h v so)
+step_room hs h v n None is all = λ k w got. (let some : n ≤ w.room = all k w got in omega arith)
+step_room hs h v n (Some x) is all = λ k w got.
+    (let here : n ≤ x.room = all h x is in
+     let stepped_room : n - 1 ≤ (stepped x v).room = omega arith in
+     written_at_place (λ (y : HartView). n - 1 ≤ y.room) hs h k (stepped x v) w (slice_get_within hs h x is) stepped_room
+     (λ y other. (let some : n ≤ y.room = all k y other in omega arith)) got)
+
+less_room : (hs : List HartView) (n : ℕ) → AllHaveRoom n hs → AllHaveRoom (n - 1) hs
+less_room hs n all h v is = let some : n ≤ v.room = all h v is in omega arith
+
+entry_room : (c : Config) (e : Entry) (n : ℕ) → AllHaveRoom n c.harts → AllHaveRoom (n - 1) (after_entry c e).harts
+entry_room c (entry.Inner h) n all = step_room c.harts h 0 n (slice_get c.harts h) refl all
+entry_room c (entry.Load h a v) n all = step_room c.harts h v n (slice_get c.harts h) refl all
+entry_room c (entry.Store h a v) n all = step_room c.harts h 0 n (slice_get c.harts h) refl all
+entry_room c (entry.Amo h a old new) n all = step_room c.harts h old n (slice_get c.harts h) refl all
+entry_room c (entry.Fence h full) n all = step_room c.harts h 0 n (slice_get c.harts h) refl all
+entry_room c (entry.Next h w) n all = step_room c.harts h 0 n (slice_get c.harts h) refl all
+entry_room c (entry.Took h i w) n all = step_room c.harts h 0 n (slice_get c.harts h) refl all
+entry_room c (entry.Closed h i) n all = step_room c.harts h 0 n (slice_get c.harts h) refl all
+entry_room c (entry.Ended h) n all = step_room c.harts h 0 n (slice_get c.harts h) refl all
+entry_room c (entry.Stopped h why) n all = step_room c.harts h 0 n (slice_get c.harts h) refl all
+entry_room c (entry.Land h) n all = less_room c.harts n all
+
+entry_count : (c : Config) (e : Entry) → length (after_entry c e).harts ≡ length c.harts
+entry_count c (entry.Inner h) = length-step_at c.harts h 0 (slice_get c.harts h)
+entry_count c (entry.Load h a v) = length-step_at c.harts h v (slice_get c.harts h)
+entry_count c (entry.Store h a v) = length-step_at c.harts h 0 (slice_get c.harts h)
+entry_count c (entry.Amo h a old new) = length-step_at c.harts h old (slice_get c.harts h)
+entry_count c (entry.Fence h full) = length-step_at c.harts h 0 (slice_get c.harts h)
+entry_count c (entry.Next h w) = length-step_at c.harts h 0 (slice_get c.harts h)
+entry_count c (entry.Took h i w) = length-step_at c.harts h 0 (slice_get c.harts h)
+entry_count c (entry.Closed h i) = length-step_at c.harts h 0 (slice_get c.harts h)
+entry_count c (entry.Ended h) = length-step_at c.harts h 0 (slice_get c.harts h)
+entry_count c (entry.Stopped h why) = length-step_at c.harts h 0 (slice_get c.harts h)
+entry_count c (entry.Land h) = refl
+
+-- openings
+
+pub sound_opened : (B M : ℕ) (o : Start) → FitsIn M o → Sound B M (unrun o) (opened_config M o) 0
+sound_opened B M o fits = record {
+    fits = fits;
+    kept = kept-unrun B M o;
+    tied = tied_opened M o;
+    fit = fit_opened M o fits;
+    count = length-map o.harts _;
+    room = λ h v is. omega arith;
+  }
+
+-- a machine with other room is as fit, and as sound
+
+words_of : (M : ℕ) (c : Config) → Fit M c → (h : ℕ) (v : HartView) → slice_get c.harts h ≡ Some v → v.state.words ≡ M
+words_of M c fit h v is = subst (λ (y : HartView). y.state.words ≡ M) (get_or_from_slice_get c.harts h v v is) (fit.harts h v (slice_get_within c.harts h v is))
+
+words_told : (M : ℕ) (so : Option HartView) (v : HartView) → option_map told so ≡ Some (told v) → ((w : HartView) → so ≡ Some w → w.state.words ≡ M) → v.state.words ≡ M
+words_told M None v is all = cc
+words_told M (Some x) v is all = let both : told x ≡ told v = cc in sym (ap (λ (p : HartState × List Report). p.0.words) both) ∙ all x refl
+
+pub fit_same : (M : ℕ) (c d : Config) → Fit M c → SameButRoom c d → Fit M d
+fit_same M c d fit same = record {
+    buffers = ap length same.buffers ∙ fit.buffers ∙ sym (same-length c d same);
+    words = ap length same.words ∙ fit.words;
+    harts = λ h x lt. (let here : slice_get d.harts h ≡ Some (get_or d.harts h x) = slice_get-get_or d.harts h x lt in
+      words_told M (slice_get c.harts h) (get_or d.harts h x) (sym (told_same c d h same) ∙ ap (option_map told) here) (words_of M c fit h));
+    pending = subst (λ (bs : List (List (ℕ × ℕ))). All (λ (ps : List (ℕ × ℕ)). All (HasAddress M) ps) bs) (sym same.buffers) fit.pending;
+  }
+
+pub sound_same : (B M n m : ℕ) (t : History) (c d : Config) → Sound B M t c n → SameButRoom c d → AllHaveRoom m d.harts → Sound B M t d m
+sound_same B M n m t c d sound same room = record {
+    fits = sound.fits;
+    kept = sound.kept;
+    tied = tied_same M t c d sound.tied same;
+    fit = fit_same M c d sound.fit same;
+    count = same-length c d same ∙ sound.count;
+    room = room;
+  }
+
+-- steps
+
+pub sound_happens : (B M n : ℕ) (t : History) (c : Config) (ev : Event) → Sound B M t c n → Happens B M t ev (outcome_of B c ev) (history_after t (outcome_of B c ev))
+sound_happens B M n t c ev sound = outcome_of-happens B M t c ev (record { kept = sound.kept; tied = sound.tied }) (words_of M c sound.fit)
+
+still : (B M n : ℕ) (t : History) (c : Config) → Sound B M t c n → Sound B M t c (n - 1)
+still B M n t c sound = record { fits = sound.fits; kept = sound.kept; tied = sound.tied; fit = sound.fit; count = sound.count; room = less_room c.harts n sound.room }
+
+sound_outcome : (B M n : ℕ) (t : History) (c : Config) (ev : Event) (o : Outcome) → Sound B M t c n → Happens B M t ev o (history_after t o) → Fit M (after_outcome c o) → Sound B M (history_after t o) (after_outcome c o) (n - 1)
+sound_outcome B M n t c ev (outcome.Did e) sound adds fit = record {
+    fits = sound.fits;
+    kept = kept_after B M t e sound.kept adds.follows;
+    tied = carried B M t c e sound.kept sound.tied sound.fit adds.follows;
+    fit = fit;
+    count = entry_count c e ∙ sound.count;
+    room = entry_room c e n sound.room;
+  }
+sound_outcome B M n t c ev outcome.Waited sound idles fit = still B M n t c sound
+sound_outcome B M n t c ev outcome.NothingToLand sound idles fit = still B M n t c sound
+sound_outcome B M n t c ev outcome.Over sound idles fit = still B M n t c sound
+sound_outcome B M n t c ev outcome.NoHart sound idles fit = still B M n t c sound
+
+-- where every hart has room, so has the one that acts
+pub has_room : (n : ℕ) (hs : List HartView) (ev : Event) → 0 < n → AllHaveRoom n hs → HasRoom hs ev
+has_room n hs (event.Act h) some all = at (slice_get hs h) refl
+  where
+    at : (so : Option HartView) → slice_get hs h ≡ so → IfSome so (λ (v : HartView). 0 < v.room)
+    at None is = tt
+    at (Some v) is = let room : n ≤ v.room = all h v is in omega arith
+has_room n hs (event.Land h) some all = tt
+
+pub sound_held : (B M : ℕ) (o : Start) (es : List Entry) (c : Config) → FitsIn M o → es ≡ [] → c ≡ opened_config M o → Sound B M (record { opening = o; entries = es }) c 0
+sound_held B M o es c fits none is =
+    subst (λ (k : Config). Sound B M (record { opening = o; entries = es }) k 0) (sym is)
+    (subst (λ (xs : List Entry). Sound B M (record { opening = o; entries = xs }) (opened_config M o) 0) (sym none) (sound_opened B M o fits))
+
+-- the same entries and the same machine but for room
+pub sound_moved : (B M n m : ℕ) (o : Start) (es moved : List Entry) (c d : Config) → Sound B M (record { opening = o; entries = es }) c n → moved ≡ es → SameButRoom c d → AllHaveRoom m d.harts → Sound B M (record { opening = o; entries = moved }) d m
+sound_moved B M n m o es moved c d sound is same room =
+    subst (λ (xs : List Entry). Sound B M (record { opening = o; entries = xs }) d m) (sym is) (sound_same B M n m (record { opening = o; entries = es }) c d sound same room)
+
+-- a step of a sound machine, and what it leaves
+pub happens_stepped : (B M n : ℕ) (t : History) (c : Config) (ev : Event) (o : Outcome) (es : List Entry) → Sound B M t c n → o ≡ outcome_of B c ev → es ≡ entries_after t.entries o → Happens B M t ev o (record { opening = t.opening; entries = es })
+happens_stepped B M n t c ev o es sound is added =
+    subst (λ (xs : List Entry). Happens B M t ev o (record { opening = t.opening; entries = xs })) (sym added)
+    (subst (λ (p : Outcome). Happens B M t ev p (history_after t p)) (sym is) (sound_happens B M n t c ev sound))
+
+pub sound_stepped : (B M n : ℕ) (t : History) (c d : Config) (ev : Event) (o : Outcome) (es : List Entry) → Sound B M t c n → o ≡ outcome_of B c ev → d ≡ after_outcome c o → Fit M d → es ≡ entries_after t.entries o → Sound B M (record { opening = t.opening; entries = es }) d (n - 1)
+sound_stepped B M n t c d ev o es sound is after fit added =
+    subst (λ (k : Config). Sound B M (record { opening = t.opening; entries = es }) k (n - 1)) (sym after)
+    (subst (λ (xs : List Entry). Sound B M (record { opening = t.opening; entries = xs }) (after_outcome c o) (n - 1)) (sym added)
+    (sound_outcome B M n t c ev o sound
+      (subst (λ (p : Outcome). Happens B M t ev p (history_after t p)) (sym is) (sound_happens B M n t c ev sound))
+      (subst (Fit M) after fit)))

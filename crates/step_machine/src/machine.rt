@@ -1,0 +1,227 @@
+//! The machine: an opening, the entries since, and what the harts, buffers and memory hold by now.
+
+ghost use Rattle.std.specs.Prelude.{◌≡◌, ◌+◌, ◌≤◌, ◌<◌, ℕ, List, length, take, option_map, slice_index, IfOk, IfErr, IsOk, OnOk, OnErr, vec_len, vec_capacity};
+ghost use Rattle.hart.specs.State.{HartState};
+ghost use Rattle.memory.specs.Words.{IsAddress};
+ghost use Rattle.step_machine.specs.Config.{AllHaveRoom, HasRoom, SameButRoom, entries_after};
+
+use crate::cores::Cores;
+use crate::events::{Entry, Event, Outcome};
+use crate::opening::{Opening, Trace};
+use hart::need::Report;
+use hart::status::Status;
+use std::alloc::{AllocError, Global};
+use std::marker::Model;
+
+/// Harts with store buffers of `B` pairs over one memory of `M` words. A contract sees its history
+/// and for how many more steps it has room.
+#[derive(Drop)]
+pub struct Machine<const B: usize, const M: usize> {
+    opening: Opening,
+    entries: Vec<Entry>,
+    cores: Cores<B, M>,
+    room: usize,
+}
+
+impl<const B: usize, const M: usize> Model for Machine<B, M> {
+    ghost use Rattle.std.specs.Prelude.{◌+◌, ◌≤◌, vec_len, vec_capacity};
+    ghost use Rattle.step_machine.specs.History.{Progress};
+    ghost use Rattle.step_machine.specs.Ties.{Sound};
+
+    ghost Value = { Progress };
+
+    ghost view = { λ m. record { history = record { opening = m.opening; entries = m.entries.items }; room = m.room } };
+
+    ghost invariant = { λ m. Sound B M (record { opening = m.opening; entries = m.entries.items }) m.cores m.room × (m.room + vec_len m.entries ≤ vec_capacity m.entries) };
+}
+
+impl<const B: usize, const M: usize> Machine<B, M> {
+    ghost use Rattle.step_machine.specs.History.{FitsIn, unrun};
+    ghost use Rattle.step_machine.specs.Entries.{pending, reported, memory_word};
+    ghost use Rattle.step_machine.specs.Paths.{state_of};
+    ghost use Rattle.step_machine.specs.Legal.{Kept};
+    ghost use Rattle.step_machine.specs.Runs.{Happens, RunFrom};
+
+    /// A machine at its opening.
+    pub fn open(alloc: Global, opening: Opening) -> Result<Self, AllocError>
+        requires some_capacity { 1 ≤ B }
+        requires capacity { B ≤ 64 }
+        requires some_word { 1 ≤ M }
+        requires size { M ≤ 65536 }
+        requires fits { FitsIn M opening }
+        ensures { IfOk result (λ m. m.history ≡ unrun opening) }
+    {
+        let cores = Cores::open(alloc, &opening)?;
+        Ok(Machine {
+            opening,
+            entries: Vec::new(alloc),
+            cores,
+            room: 0,
+        })
+    }
+
+    /// One event. All growth comes first, so an error changes nothing; within reserved room there is
+    /// no error.
+    pub fn step(&mut self, event: Event) -> Result<Outcome, AllocError>
+        ensures happens { IfOk result (λ o. Happens B M self.old.history event o self.new.history) }
+        ensures err { OnErr result (self.new ≡ self.old) }
+        ensures reserved { 0 < self.old.room → IsOk result }
+        ensures room { self.old.room ≤ self.new.room + 1 }
+    {
+        make_room(&mut self.entries, &mut self.cores, self.room, event)?;
+        let outcome = self.cores.happen(event);
+        add_entry(&mut self.entries, outcome);
+        self.room = self.room.saturating_sub(1);
+        Ok(outcome)
+    }
+
+    /// The events one after the other. An error names how many of them came before it: the machine
+    /// stands after those.
+    pub fn run(&mut self, events: &[Event]) -> Result<(), (usize, AllocError)>
+        ensures ok { OnOk result (RunFrom B M self.old.history events.now self.new.history) }
+        ensures err { IfErr result (λ e. RunFrom B M self.old.history (take e.0 events.now) self.new.history) }
+        ensures reserved { length events.now ≤ self.old.room → IsOk result }
+    {
+        for (done, event) in events.iter().enumerate() {
+            match self.step(*event) {
+                Ok(_) => {}
+                Err(error) => return Err((done, error)),
+            }
+        }
+        Ok(())
+    }
+
+    /// Makes room for `n` steps. Neither outcome changes the history.
+    pub fn reserve(&mut self, n: usize) -> Result<(), AllocError>
+        ensures history { self.new.history ≡ self.old.history }
+        ensures room { OnOk result (n ≤ self.new.room) }
+        ensures kept { self.old.room ≤ self.new.room }
+        ensures err { OnErr result (self.new ≡ self.old) }
+    {
+        if self.room < n {
+            self.entries.reserve(n)?;
+            self.cores.reserve(n)?;
+            self.room = n;
+        }
+        Ok(())
+    }
+
+    /// Where the machine began.
+    pub fn opening(&self) -> &Opening
+        ensures { result.now ≡ self.now.history.opening }
+    {
+        &self.opening
+    }
+
+    /// What was done since the opening, oldest first.
+    pub fn entries(&self) -> &[Entry]
+        ensures value { result.now ≡ self.now.history.entries }
+        ensures kept { Kept B M self.now.history }
+    {
+        &self.entries
+    }
+
+    /// A copy of the history.
+    pub fn trace(&self, alloc: Global) -> Result<Trace, AllocError>
+        ensures value { IfOk result (λ t. t ≡ self.now.history) }
+        ensures kept { Kept B M self.now.history }
+    {
+        let opening = self.opening.copy(alloc)?;
+        let entries = Vec::from_slice(alloc, &self.entries)?;
+        Ok(Trace { opening, entries })
+    }
+
+    /// How many harts there are, 1 to 64.
+    pub fn harts(&self) -> u32
+        ensures { result ≡ length self.now.history.opening.harts }
+    {
+        self.opening.harts.len() as u32
+    }
+
+    /// Whether the hart goes on.
+    pub fn status(&self, hart: u32) -> Status
+        requires { hart < length self.now.history.opening.harts }
+        ensures { option_map (λ s. s.status) (state_of M self.now.history hart) ≡ Some result }
+    {
+        self.cores.hart(hart).status()
+    }
+
+    /// The address in bytes of the hart's next instruction.
+    pub fn pc(&self, hart: u32) -> u32
+        requires { hart < length self.now.history.opening.harts }
+        ensures { option_map (λ s. s.pc) (state_of M self.now.history hart) ≡ Some result }
+    {
+        self.cores.hart(hart).pc()
+    }
+
+    /// The word in the hart's register x`number`.
+    pub fn register(&self, hart: u32, number: u8) -> u32
+        requires hart { hart < length self.now.history.opening.harts }
+        requires number { number < 32 }
+        ensures { option_map (λ s. slice_index s.registers number) (state_of M self.now.history hart) ≡ Some result }
+    {
+        self.cores.hart(hart).register(number)
+    }
+
+    /// The hart's reports, oldest first.
+    pub fn reports(&self, hart: u32) -> &[Report]
+        requires { hart < length self.now.history.opening.harts }
+        ensures { result.now ≡ reported hart self.now.history.entries }
+    {
+        self.cores.hart(hart).reports()
+    }
+
+    /// The hart's pending stores, pairs of address and value, oldest first.
+    pub fn pending(&self, hart: u32) -> &[(u32, u32)]
+        requires { hart < length self.now.history.opening.harts }
+        ensures { result.now ≡ pending hart self.now.history.entries }
+    {
+        self.cores.pending(hart)
+    }
+
+    /// The word of memory at an address, a multiple of 4 below 4 times `M`.
+    pub fn word(&self, addr: u32) -> u32
+        requires { IsAddress M addr }
+        ensures { result ≡ memory_word self.now.history.opening self.now.history.entries addr }
+    {
+        self.cores.word(addr)
+    }
+}
+
+/// Makes room for one more entry and for a step of the hart that the event lets act, where none of
+/// either is reserved.
+fn make_room<const B: usize, const M: usize>(
+    entries: &mut Vec<Entry>,
+    cores: &mut Cores<B, M>,
+    room: usize,
+    event: Event,
+) -> Result<(), AllocError>
+    requires harts { AllHaveRoom room cores.old.harts }
+    requires entries { room + vec_len entries.old ≤ vec_capacity entries.old }
+    ensures items { entries.new.items ≡ entries.old.items }
+    ensures len { vec_len entries.new ≡ vec_len entries.old }
+    ensures grown { vec_capacity entries.old ≤ vec_capacity entries.new }
+    ensures same { SameButRoom cores.old cores.new }
+    ensures harts { AllHaveRoom room cores.new.harts }
+    ensures hart { OnOk result (HasRoom cores.new.harts event) }
+    ensures space { OnOk result (vec_len entries.new < vec_capacity entries.new) }
+    ensures reserved { 0 < room → IsOk result }
+{
+    if room == 0 {
+        entries.reserve(1)?;
+        cores.reserve_for(event)?;
+    }
+    Ok(())
+}
+
+/// Adds the entry of an outcome that has one.
+fn add_entry(entries: &mut Vec<Entry>, outcome: Outcome)
+    requires { vec_len entries.old < vec_capacity entries.old }
+    ensures items { entries.new.items ≡ entries_after entries.old.items outcome }
+    ensures len { vec_len entries.new ≤ vec_len entries.old + 1 }
+    ensures kept { vec_capacity entries.new ≡ vec_capacity entries.old }
+{
+    if let Outcome::Did(entry) = outcome {
+        entries.push_reserved(entry);
+    }
+}
