@@ -1,3 +1,4 @@
 pub mod Turns
 pub mod TokenLaws
 pub mod TextLaws
+pub mod HeadLaws

@@ -9,13 +9,14 @@
 #![tactic(auto)]
 
 pub mod faults;
+mod heads;
 pub mod laws;
 pub mod reading;
 mod tokens;
 
 pub use faults::{ScheduleError, ScheduleFault};
 pub use laws::one_value;
-pub use reading::{MAX_EVENTS, push_tokens_of, read_tokens};
+pub use reading::{MAX_EVENTS, push_tokens_of, read_schedule, read_tokens};
 
 #[cfg(test)]
 mod tests;

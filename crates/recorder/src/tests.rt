@@ -1,4 +1,6 @@
-use crate::{MAX_EVENTS, ScheduleError, ScheduleFault, one_value, push_tokens_of, read_tokens};
+use crate::{
+    MAX_EVENTS, ScheduleError, ScheduleFault, one_value, push_tokens_of, read_schedule, read_tokens,
+};
 use std::test::Fail;
 use step_machine::events::Event;
 
@@ -48,6 +50,40 @@ fn the_first_fault_is_named(rt: HostRuntime) {
             _ => assert!(rt; false, "{text} is refused"),
         }
     }
+}
+
+#[test]
+fn schedules_are_a_head_and_tokens(rt: HostRuntime) -> Result<(), Fail> {
+    let alloc = rt.alloc();
+    assert_eq!(rt; read_schedule(alloc, "ztso-schedule 1")?.len(), 0);
+    let events = read_schedule(alloc, "ztso-schedule 1\r\na1\nl1*2\n")?;
+    assert_eq!(rt;
+        events.as_slice(),
+        [Event::Act(1), Event::Land(1), Event::Land(1)].as_slice()
+    );
+    let rows = [
+        ("ztso-schedule 1\na0*0", 30, 16),
+        ("ztso-schedule 1\na", 31, 17),
+        ("ztso-schedule 1\na64", 29, 16),
+        ("ztso-schedule 1\nb0", 28, 16),
+        ("ztso-schedule 1\na0*1048577", 30, 16),
+        ("ztso-schedule 1\r\nl1 a0*1048576", 30, 20),
+        ("ztso-schedule 3", 27, 0),
+        ("", 27, 0),
+        ("ztso-schedule 1\r", 27, 0),
+        ("ztso-schedule 1 \na0", 27, 0),
+        ("ztso-schedule 1\r\r\na0", 27, 0),
+    ];
+    for (text, number, place) in rows {
+        match read_schedule(alloc, text) {
+            Err(ScheduleError::Refused { fault, place: byte }) => {
+                assert_eq!(rt; fault.number(), number, "at {text}");
+                assert_eq!(rt; byte, place, "at {text}");
+            }
+            _ => assert!(rt; false, "{text} is refused"),
+        }
+    }
+    Ok(())
 }
 
 #[test]
