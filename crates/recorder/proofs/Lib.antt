@@ -2,3 +2,5 @@ pub mod Turns
 pub mod TokenLaws
 pub mod TextLaws
 pub mod HeadLaws
+pub mod Runs
+pub mod RoundTrip

@@ -5,7 +5,7 @@ ghost use Rattle.recorder.specs.Reading.{ends_line};
 ghost use Rattle.recorder.specs.Reading as reading;
 
 /// The first line of each schedule, without its end.
-pub const HEAD: &[u8] = b"ztso-schedule 1";
+pub const HEAD: &str = "ztso-schedule 1";
 
 /// Whether a line ends where these bytes begin.
 fn line_ends(behind: &[u8]) -> bool
@@ -20,5 +20,5 @@ pub fn has_head(text: &[u8]) -> bool
     ensures exact { result ≡ reading.has_head text.now }
     ensures whole { IsTrue result → 15 ≤ length text.now }
 {
-    text.starts_with(HEAD) && line_ends(&text[HEAD.len()..])
+    text.starts_with(HEAD.as_bytes()) && line_ends(&text[HEAD.len()..])
 }

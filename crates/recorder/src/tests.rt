@@ -1,5 +1,6 @@
 use crate::{
-    MAX_EVENTS, ScheduleError, ScheduleFault, one_value, push_tokens_of, read_schedule, read_tokens,
+    MAX_EVENTS, ScheduleError, ScheduleFault, one_value, push_tokens, push_tokens_of,
+    read_schedule, read_tokens, write_schedule,
 };
 use std::test::Fail;
 use step_machine::events::Event;
@@ -122,5 +123,27 @@ fn faults_are_printed(rt: HostRuntime) -> Result<(), Fail> {
         "no memory"
     );
     assert_eq!(rt; ScheduleFault::BadHead.number(), 27);
+    Ok(())
+}
+
+#[test]
+fn schedules_are_written_in_longest_runs(rt: HostRuntime) -> Result<(), Fail> {
+    let alloc = rt.alloc();
+    let rows = [
+        ("a0 a0 a0", "ztso-schedule 1\na0*3\n"),
+        ("", "ztso-schedule 1\n"),
+        ("a012", "ztso-schedule 1\na12\n"),
+        (
+            "a0*2\ta0*1 l0*2 l0 a1 l01*1048000",
+            "ztso-schedule 1\na0*3 l0*3 a1 l1*1048000\n",
+        ),
+    ];
+    for (read, written) in rows {
+        let events = read_tokens(alloc, read)?;
+        assert_eq!(rt; write_schedule(alloc, &events)?.as_str(), written);
+    }
+    let mut line = String::from_str(alloc, "seen: ")?;
+    push_tokens(&mut line, &[Event::Land(3), Event::Act(3)])?;
+    assert_eq!(rt; line.as_str(), "seen: l3 a3");
     Ok(())
 }

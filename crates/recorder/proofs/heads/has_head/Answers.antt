@@ -7,5 +7,5 @@ pub returns-then-starts_with-clause-exact : goal.returns-then-starts_with-clause
 unfolding has_head
 returns-then-starts_with-clause-exact c =
     let here = rw (rest_from 15 c.args.text.now) at c.line_ends.ensures in
-    let starts = sym c.starts_with.ensures.value ∙ c.if-starts_with.true in
-    rw (starts) here
+    let starts = rw c.as_bytes.ensures.value at (sym c.starts_with.ensures.value ∙ c.if-starts_with.true) in
+    rw starts here
