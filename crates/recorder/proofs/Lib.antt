@@ -4,3 +4,4 @@ pub mod TextLaws
 pub mod HeadLaws
 pub mod Runs
 pub mod RoundTrip
+pub mod Drawn

@@ -8,16 +8,20 @@
 
 #![tactic(auto)]
 
+pub mod drawing;
 pub mod faults;
 mod heads;
 pub mod laws;
 pub mod reading;
+pub mod replaying;
 mod tokens;
 pub mod writing;
 
+pub use drawing::seeded;
 pub use faults::{ScheduleError, ScheduleFault};
 pub use laws::one_value;
 pub use reading::{MAX_EVENTS, push_tokens_of, read_schedule, read_tokens};
+pub use replaying::replay;
 pub use writing::{push_tokens, write_schedule};
 
 #[cfg(test)]
