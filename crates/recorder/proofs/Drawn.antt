@@ -1,12 +1,11 @@
 -- A generator's words, one more at a time.
-use Rattle.std.proofs.Common.{◌≡◌, ℕ, zero, suc, ◌+◌, ◌-◌, ◌*◌, ◌<◌, ◌≤◌, ◌%◌, Bool, true, false, ltb, List, [], ◌∷◌, ◌++◌, length, refl, sym, ap, subst, ◌∙◌, add-one, map, inl, inr, arith}
-use Rattle.std.specs.Prelude.{IfOk, Result, Ok, Err}
+use Rattle.std.proofs.Common.{◌≡◌, ℕ, zero, suc, ◌+◌, ◌*◌, ◌<◌, ◌≤◌, ◌%◌, List, [], ◌∷◌, ◌++◌, refl, sym, ap, ◌∙◌, add-one, map, inl, inr, arith}
 use Rattle.std.proofs.lemmas.Bool.{cases_lt, lt-ltb, le-ltb}
 use Rattle.std.proofs.lemmas.List.Elements.{All-nil, All-cons}
 use Rattle.rand_core.specs.Stream.{Stream, next_u32}
 use Rattle.step_machine.specs.declared.events.Event.{Event}
 use Rattle.recorder.specs.Schedule.{hart_of, OfHarts}
-use Rattle.recorder.specs.Drawing.{numbered, drawn, words, left_after}
+use Rattle.recorder.specs.Drawing.{drawn, words, left_after}
 
 left_after-suc : (i : ℕ) (stream : Stream) → left_after (suc i) stream ≡ (next_u32 (left_after i stream)).1
 unfolding left_after

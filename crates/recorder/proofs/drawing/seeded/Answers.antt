@@ -1,5 +1,4 @@
-use Rattle.std.proofs.Common.{◌≡◌, ◌++◌, [], ◌∷◌, ap, ◌∙◌, refl, sym, arith}
-use Rattle.recorder.specs.Schedule.{OfHarts}
+use Rattle.std.proofs.Common.{◌++◌, [], ◌∷◌, ap, ◌∙◌, refl, arith}
 use Rattle.recorder.specs.Drawing.{words, left_after}
 use Rattle.recorder.proofs.Drawn.{left-more, words-more, drawn-OfHarts}
 use Rattle.recorder.proofs.drawing.seeded.Goals as goal

@@ -1,4 +1,4 @@
-use Rattle.std.proofs.Common.{◌≡◌, ◌≤◌, ◌+◌, map, vec_len, vec_capacity}
+use Rattle.std.proofs.Common.{◌≡◌, ◌≤◌, map, vec_len, vec_capacity}
 use Rattle.recorder.specs.Drawing.{drawn, words, left_after}
 use Rattle.recorder.proofs.drawing.seeded.Given as goal
 
