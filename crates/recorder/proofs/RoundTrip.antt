@@ -1,5 +1,5 @@
 -- What the writer writes is a schedule of its events.
-use Rattle.std.proofs.Common.{◌≡◌, ℕ, ◌+◌, ◌^◌, ◌<◌, ◌≤◌, Bool, true, false, List, [], ◌∷◌, ◌++◌, length, replicate, refl, sym, ap, subst, inl, inr, ◌∙◌, append_assoc, length-append, arith}
+use Rattle.std.proofs.Common.{◌≡◌, ℕ, ◌+◌, ◌^◌, ◌<◌, ◌≤◌, Bool, true, false, List, [], ◌∷◌, ◌++◌, length, replicate, refl, sym, ap, subst, inl, inr, append_assoc, length-append, arith}
 use Rattle.std.specs.Prelude.{All}
 use Rattle.std.specs.List.{AllByRecursion}
 use Rattle.std.specs.Fmt.{decimal}
@@ -7,7 +7,7 @@ use Rattle.std.specs.Str.Parse.{AllDigits}
 use Rattle.std.proofs.lemmas.Bool.{cases_lt, lt-ltb, le-ltb, ne_eqb}
 use Rattle.std.proofs.lemmas.Fmt.{decimal_is_IsNumeral}
 use Rattle.std.proofs.lemmas.Str.Parse.{digit_from_value}
-use Rattle.std.proofs.lemmas.List.{append-nil, length-replicate, replicate-append-replicate}
+use Rattle.std.proofs.lemmas.List.{append-nil, length-replicate}
 use Rattle.std.proofs.lemmas.List.Elements.{All-nil, All-cons, recursion_from_All}
 use Rattle.std.proofs.lemmas.List.Splits.{slice_split_at}
 use Rattle.step_machine.specs.declared.events.Event.{Event}
@@ -18,31 +18,10 @@ use Rattle.texts.specs.Numbers.{Says}
 use Rattle.recorder.specs.Schedule.{letter, hart_of, Spells, Stand, OfHarts, IsTokensOf, EndsLine, IsScheduleOf}
 use Rattle.recorder.specs.Schedule.Spells.{once, repeated}
 use Rattle.recorder.specs.Reading.{head}
-use Rattle.recorder.specs.Writing.{is_same, Run, joined, runs_of, token_of, text_of, tokens_of, canon}
-use Rattle.recorder.proofs.Runs.{is_same-true}
+use Rattle.recorder.specs.Writing.{is_same, Run, joined, runs_of, expanded, token_of, text_of, tokens_of, canon}
+use Rattle.recorder.proofs.Longest.{expanded-runs_of}
 
--- ---- runs stand for their events
-
-abbrev expanded : List Run → List Event
-expanded [] = []
-expanded (run ∷ runs) = replicate run.1 run.0 ++ expanded runs
-
-expanded-joined : (run : Run) (runs : List Run) → expanded (joined run runs) ≡ replicate run.1 run.0 ++ expanded runs
-expanded-joined run [] = refl
-expanded-joined run (next ∷ runs) = go (is_same run.0 next.0) refl
-  where
-    go : (b : Bool) → is_same run.0 next.0 ≡ b → expanded (joined run (next ∷ runs)) ≡ replicate run.1 run.0 ++ (replicate next.1 next.0 ++ expanded runs)
-    go true is =
-        rw is
-        (ap (λ (front : List Event). front ++ expanded runs) (sym (replicate-append-replicate run.1 next.1 run.0))
-        ∙ append_assoc (replicate run.1 run.0) (replicate next.1 run.0) (expanded runs)
-        ∙ ap (λ (e : Event). replicate run.1 run.0 ++ (replicate next.1 e ++ expanded runs)) (is_same-true run.0 next.0 is))
-    go false isnt = rw isnt refl
-
-expanded-runs_of : (events : List Event) → expanded (runs_of events) ≡ events
-unfolding runs_of
-expanded-runs_of [] = refl
-expanded-runs_of (event ∷ events) = expanded-joined (event, 1) (runs_of events) ∙ ap (λ (rest : List Event). event ∷ rest) (expanded-runs_of events)
+-- ---- the runs of events of 64 harts
 
 -- a run of one of 64 harts, of one event at least
 abbrev IsFit : Run → Type 0

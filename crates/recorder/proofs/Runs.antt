@@ -13,7 +13,7 @@ is_same-true (Act a) (Land b) e = absurd cc
 is_same-true (Land a) (Act b) e = absurd cc
 is_same-true (Land a) (Land b) e = ap (λ (h : ℕ). Land h) (eqb-true a b e)
 
-is_same-refl : (a : Event) → is_same a a ≡ true
+pub is_same-refl : (a : Event) → is_same a a ≡ true
 is_same-refl (Act a) = eq-eqb a a refl
 is_same-refl (Land a) = eq-eqb a a refl
 

@@ -1,6 +1,6 @@
 -- The one text in which a schedule is written: the longest runs of equal events as tokens, with a space
 -- between them.
-use Rattle.std.specs.Prelude.{ℕ, ◌+◌, ◌==◌, nat_lt, Bool, false, if◌then◌else◌, List, [], ◌∷◌, ◌++◌}
+use Rattle.std.specs.Prelude.{◌≢◌, ℕ, ◌+◌, ◌<◌, ◌==◌, nat_lt, Bool, false, if◌then◌else◌, List, [], ◌∷◌, ◌++◌, replicate}
 use Rattle.std.specs.Fmt.{decimal}
 use Rattle.step_machine.specs.declared.events.Event.{Event}
 use Rattle.step_machine.specs.declared.events.Event.TheVariants.{Act, Land}
@@ -26,6 +26,17 @@ joined run (next ∷ runs) = if is_same run.0 next.0 then (run.0, run.1 + next.1
 unfoldable pub runs_of : List Event → List Run
 runs_of [] = []
 runs_of (event ∷ events) = joined (event, 1) (runs_of events)
+
+-- the events of runs
+abbrev pub expanded : List Run → List Event
+expanded [] = []
+expanded (run ∷ runs) = replicate run.1 run.0 ++ expanded runs
+
+-- each run is of one event at least, and no two neighbours are of the same event
+abbrev pub AreLongest : List Run → Type 0
+AreLongest [] = Unit {0}
+AreLongest (run ∷ []) = 0 < run.1
+AreLongest (run ∷ next ∷ runs) = (0 < run.1) × (run.0 ≢ next.0) × AreLongest (next ∷ runs)
 
 -- a run's token: the letter, the hart, and a `*` (42) and the count where it isn't 1
 abbrev pub token_of : Run → List ℕ

@@ -2,7 +2,7 @@ ghost use Rattle.std.specs.Prelude.{ℕ, ◌+◌, ◌%◌, ◌^◌};
 ghost use Rattle.rand_core.specs.Steps.{stream_of, steps_u32};
 
 use crate::{
-    MAX_EVENTS, ScheduleError, ScheduleFault, one_value, push_tokens, push_tokens_of,
+    MAX_EVENTS, ScheduleError, ScheduleFault, longest_runs, one_value, push_tokens, push_tokens_of,
     read_schedule, read_tokens, replay, seeded, write_schedule,
 };
 use rand_core::utils::NextWord;
@@ -29,6 +29,7 @@ fn tokens_stand_for_events(rt: HostRuntime) -> Result<(), Fail> {
     );
     assert_eq!(rt; read_tokens(alloc, "a0*1048576")?.len(), MAX_EVENTS);
     one_value();
+    longest_runs();
     Ok(())
 }
 

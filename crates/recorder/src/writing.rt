@@ -45,7 +45,8 @@ fn tokens(alloc: Global, events: &[Event]) -> Result<String, AllocError>
     let mut event = *first;
     let mut times = 0;
     for next in events {
-        if are_same(event, *next) {
+        let goes_on = are_same(event, *next);
+        if goes_on {
             times += 1;
         } else {
             push_token(&mut text, event, times)?;
