@@ -1,3 +1,8 @@
 pub mod Turns
 pub mod TokenLaws
 pub mod TextLaws
+pub mod HeadLaws
+pub mod Runs
+pub mod Longest
+pub mod RoundTrip
+pub mod Drawn

@@ -1,7 +1,8 @@
 -- A text's tokens: what the reader answers stands there, and what stands there is answered.
-use Rattle.std.proofs.Common.{◌≡◌, ℕ, ◌+◌, ◌-◌, ◌^◌, ◌<◌, ◌≤◌, List, [], ◌∷◌, ◌++◌, length, replicate, Result, Ok, Err, refl, sym, ap, subst, ◌∙◌, length-append, arith}
+use Rattle.std.proofs.Common.{◌≡◌, ℕ, ◌+◌, ◌-◌, ◌^◌, ◌<◌, ◌≤◌, List, [], ◌∷◌, ◌++◌, length, drop, zero, suc, replicate, Result, Ok, Err, refl, sym, ap, subst, ◌∙◌, length-append, arith}
 use Rattle.step_machine.specs.declared.events.Event.{Event}
 use Rattle.std.proofs.lemmas.List.{length-replicate}
+use Rattle.std.proofs.lemmas.List.Elements.{All-nil, All-cons}
 use Rattle.std.specs.Prelude.{IfSome, IfOk, OnOk}
 use Rattle.texts.specs.Results.{◌>>=◌, Gives}
 use Rattle.recorder.specs.declared.faults.ScheduleError.{ScheduleError}
@@ -9,8 +10,8 @@ use Rattle.recorder.specs.declared.faults.ScheduleError.TheVariants.{NoMemory, R
 use Rattle.texts.specs.Pieces.{pieces}
 use Rattle.texts.specs.declared.pieces.Separators.TheVariants.{BlanksAndLineEnds}
 use Rattle.texts.proofs.ResultLaws.{bind_ok, bind_assoc, ok_is}
-use Rattle.recorder.specs.Schedule.{Stand, IsTokensOf}
-use Rattle.recorder.specs.Reading.{Refusal, refusal_of, run_at, piece_at, events_at, tokens_at, tokens_after, Pushes}
+use Rattle.recorder.specs.Schedule.{hart_of, OfHarts, Stand, IsTokensOf}
+use Rattle.recorder.specs.Reading.{Refusal, refusal_of, run_at, piece_at, events_at, tokens_from, tokens_at, tokens_after, Pushes}
 use Rattle.recorder.proofs.TokenLaws.{IsRun, run_at-IsRun, run_at-from_IsRun}
 
 -- a token that was taken and what stands behind it
@@ -51,15 +52,35 @@ Stand-events_at end place room ((c ∷ word) ∷ others) events small (event, ti
 
 -- ---- a whole text
 
-pub tokens_at-IsTokensOf : (room : ℕ) (text : List ℕ) (events : List Event) → room ≤ 1048576 → tokens_at room text ≡ Ok events → IsTokensOf text events × (length events ≤ room)
-unfolding tokens_at
-tokens_at-IsTokensOf room text events small e =
-    let stand = events_at-Stand (length text) 0 room (pieces BlanksAndLineEnds text) events (omega arith) e in
+pub tokens_from-IsTokensOf : (start room : ℕ) (text : List ℕ) (events : List Event) → room ≤ 1048576 → tokens_from start room text ≡ Ok events → IsTokensOf (drop start text) events × (length events ≤ room)
+unfolding tokens_from
+tokens_from-IsTokensOf start room text events small e =
+    let stand = events_at-Stand (length text) start room (pieces BlanksAndLineEnds (drop start text)) events (omega arith) e in
     ((stand.0, omega (arith, stand.1)), stand.1)
 
+pub IsTokensOf-tokens_from : (start room : ℕ) (text : List ℕ) (events : List Event) → room ≤ 1048576 → IsTokensOf (drop start text) events → length events ≤ room → tokens_from start room text ≡ Ok events
+unfolding tokens_from
+IsTokensOf-tokens_from start room text events small is few = Stand-events_at (length text) start room (pieces BlanksAndLineEnds (drop start text)) events (omega arith) is.0 few
+
+pub tokens_at-IsTokensOf : (room : ℕ) (text : List ℕ) (events : List Event) → room ≤ 1048576 → tokens_at room text ≡ Ok events → IsTokensOf text events × (length events ≤ room)
+tokens_at-IsTokensOf room text events small e = tokens_from-IsTokensOf 0 room text events small e
+
 pub IsTokensOf-tokens_at : (room : ℕ) (text : List ℕ) (events : List Event) → room ≤ 1048576 → IsTokensOf text events → length events ≤ room → tokens_at room text ≡ Ok events
-unfolding tokens_at
-IsTokensOf-tokens_at room text events small is few = Stand-events_at (length text) 0 room (pieces BlanksAndLineEnds text) events (omega arith) is.0 few
+IsTokensOf-tokens_at room text events small is few = IsTokensOf-tokens_from 0 room text events small is few
+
+-- each event that stands in a text is of one of 64 harts
+replicate-OfHarts : (times : ℕ) (event : Event) (rest : List Event) → hart_of event < 64 → OfHarts rest → OfHarts (replicate times event ++ rest)
+replicate-OfHarts zero event rest hart others = others
+replicate-OfHarts (suc times) event rest hart others = All-cons (λ (e : Event). hart_of e < 64) event (replicate times event ++ rest) hart (replicate-OfHarts times event rest hart others)
+
+Stand-OfHarts : (all : List (List ℕ)) (events : List Event) → Stand all events → OfHarts events
+Stand-OfHarts [] events stand = rw stand (All-nil (λ (e : Event). hart_of e < 64))
+Stand-OfHarts ([] ∷ others) events stand = Stand-OfHarts others events stand
+Stand-OfHarts ((c ∷ word) ∷ others) events (event, times, rest, spells, hart, least, same, stand) =
+    subst OfHarts (sym same) (replicate-OfHarts times event rest hart (Stand-OfHarts others rest stand))
+
+pub IsTokensOf-OfHarts : (text : List ℕ) (events : List Event) → IsTokensOf text events → OfHarts events
+IsTokensOf-OfHarts text events is = Stand-OfHarts (pieces BlanksAndLineEnds text) events is.0
 
 -- events that have room anyway are read in less room
 pub tokens_at-less : (room : ℕ) (text : List ℕ) (events : List Event) → room ≤ 1048576 → tokens_at 1048576 text ≡ Ok events → length events ≤ room → tokens_at room text ≡ Ok events
@@ -76,6 +97,14 @@ found_tokens view text (Err e) gives = tt
 
 pub only_tokens : {X : Type 0} (view : X → List Event) (text : List ℕ) (events : List Event) (result : Result X ScheduleError) → Gives refusal_of view result (tokens_at 1048576 text) → IsTokensOf text events → Gives refusal_of view result (Ok events)
 only_tokens view text events result gives is = subst (λ (read : Result (List Event) Refusal). Gives refusal_of view result read) (IsTokensOf-tokens_at 1048576 text events (omega arith) is is.1) gives
+
+pub found_harts : {X : Type 0} (view : X → List Event) (text : List ℕ) (result : Result X ScheduleError) → Gives refusal_of view result (tokens_at 1048576 text) → IfOk result (λ x. OfHarts (view x))
+found_harts view text (Ok x) gives = IsTokensOf-OfHarts text (view x) (tokens_at-IsTokensOf 1048576 text (view x) (omega arith) gives).0
+found_harts view text (Err e) gives = tt
+
+pub found_few : {X : Type 0} (view : X → List Event) (text : List ℕ) (result : Result X ScheduleError) → Gives refusal_of view result (tokens_at 1048576 text) → IfOk result (λ x. length (view x) ≤ 1048576)
+found_few view text (Ok x) gives = (tokens_at-IsTokensOf 1048576 text (view x) (omega arith) gives).1
+found_few view text (Err e) gives = tt
 
 -- a text with a fault of its own
 pub tokens_after-refused : (before : ℕ) (text : List ℕ) (refusal : Refusal) → tokens_at 1048576 text ≡ Err refusal → tokens_after before text ≡ Err refusal

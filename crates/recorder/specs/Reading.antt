@@ -1,9 +1,10 @@
 -- Reading tokens from the left, with the first fault that is met and its byte.
-use Rattle.std.specs.Prelude.{◌≡◌, ℕ, ◌+◌, ◌-◌, ◌==◌, nat_lt, nat_le, is_some, Bool, false, ◌&&◌, ◌||◌, if◌then◌else◌, List, [], ◌∷◌, ◌++◌, length, take, drop, position, replicate, Option, Some, None, Result, Ok, Err, IfSome}
+use Rattle.std.specs.Prelude.{◌≡◌, ℕ, ◌+◌, ◌-◌, ◌==◌, nat_lt, nat_le, is_some, Bool, true, false, ◌&&◌, ◌||◌, if◌then◌else◌, List, [], ◌∷◌, ◌++◌, length, take, drop, position, replicate, Option, Some, None, Result, Ok, Err, IfSome, codes, nat_eq}
+use Rattle.std.specs.List.{starts_with}
 use Rattle.step_machine.specs.declared.events.Event.{Event}
 use Rattle.step_machine.specs.declared.events.Event.TheVariants.{Act, Land}
 use Rattle.recorder.specs.declared.faults.ScheduleFault.{ScheduleFault}
-use Rattle.recorder.specs.declared.faults.ScheduleFault.TheVariants.{BadToken, BadHart, BadCount, Truncated}
+use Rattle.recorder.specs.declared.faults.ScheduleFault.TheVariants.{BadHead, BadToken, BadHart, BadCount, Truncated}
 use Rattle.recorder.specs.declared.faults.ScheduleError.{ScheduleError}
 use Rattle.recorder.specs.declared.faults.ScheduleError.TheVariants.{NoMemory, Refused}
 use Rattle.recorder.specs.declared.tokens.Kind.{Kind}
@@ -93,9 +94,13 @@ events_at end place room (piece ∷ others) = do
   rest ← events_at end (place + length piece + 1) (room - length events) others
   Ok (events ++ rest)
 
--- the events of a text's tokens, where `room` events may come
-unfoldable pub tokens_at : (room : ℕ) → List ℕ → Result (List Event) Refusal
-tokens_at room text = events_at (length text) 0 room (pieces BlanksAndLineEnds text)
+-- the events of the tokens that a text has from the byte `start` on, where `room` events may come
+unfoldable pub tokens_from : (start room : ℕ) → List ℕ → Result (List Event) Refusal
+tokens_from start room text = events_at (length text) start room (pieces BlanksAndLineEnds (drop start text))
+
+-- the events of a text's tokens
+abbrev pub tokens_at : (room : ℕ) → List ℕ → Result (List Event) Refusal
+tokens_at room text = tokens_from 0 room text
 
 -- The events of a text's tokens behind `before` events of other texts: a fault of the text by itself
 -- comes first, and then the token with which the total passes the limit.
@@ -103,6 +108,26 @@ unfoldable pub tokens_after : (before : ℕ) → List ℕ → Result (List Event
 tokens_after before text = do
   own ← tokens_at 1048576 text
   tokens_at (1048576 - before) text
+
+-- ---- a schedule
+
+abbrev pub head : List ℕ
+head = codes "ztso-schedule 1"
+
+abbrev pub begins_with_lf : List ℕ → Bool
+begins_with_lf [] = false
+begins_with_lf (c ∷ rest) = c == 10
+
+abbrev pub ends_line : List ℕ → Bool
+ends_line [] = true
+ends_line (c ∷ rest) = (c == 10) || ((c == 13) && begins_with_lf rest)
+
+unfoldable pub has_head : List ℕ → Bool
+has_head text = starts_with nat_eq text head && ends_line (drop 15 text)
+
+-- The events of a schedule: its first line has to be the head, and tokens follow.
+unfoldable pub schedule_at : List ℕ → Result (List Event) Refusal
+schedule_at text = if has_head text then tokens_from 15 1048576 text else Err (BadHead, 0)
 
 -- What a function did that appends events: those that are answered, or none, where the answer is a
 -- refusal or memory ran out.

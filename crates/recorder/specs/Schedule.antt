@@ -1,5 +1,5 @@
 -- The texts of schedules: which text stands for which list of events.
-use Rattle.std.specs.Prelude.{◌≡◌, ℕ, ◌<◌, ◌≤◌, List, [], ◌∷◌, ◌++◌, length, replicate}
+use Rattle.std.specs.Prelude.{◌≡◌, ℕ, ◌<◌, ◌≤◌, ◌⊎◌, List, [], ◌∷◌, ◌++◌, length, replicate, All, codes}
 use Rattle.step_machine.specs.declared.events.Event.{Event}
 use Rattle.step_machine.specs.declared.events.Event.TheVariants.{Act, Land}
 use Rattle.texts.specs.declared.pieces.Separators.TheVariants.{BlanksAndLineEnds}
@@ -31,3 +31,17 @@ Stand ((c ∷ token) ∷ others) events = (event : Event) × (times : ℕ) × (r
 -- spaces, tabs, CR and LF.
 abbrev pub IsTokensOf : List ℕ → List Event → Type 0
 IsTokensOf text events = Stand (pieces BlanksAndLineEnds text) events × (length events ≤ 1048576)
+
+-- each event is of one of 64 harts
+abbrev pub OfHarts : List Event → Type 0
+OfHarts events = All (λ event. hart_of event < 64) events
+
+-- A line ends here: by LF (10), by CR (13) and LF, or since nothing follows.
+abbrev pub EndsLine : List ℕ → Type 0
+EndsLine [] = Unit {0}
+EndsLine (c ∷ []) = c ≡ 10
+EndsLine (c ∷ d ∷ rest) = (c ≡ 10) ⊎ ((c ≡ 13) × (d ≡ 10))
+
+-- The text is a schedule of these events: the head line, and then tokens.
+abbrev pub IsScheduleOf : List ℕ → List Event → Type 0
+IsScheduleOf text events = (body : List ℕ) × (text ≡ codes "ztso-schedule 1" ++ body) × EndsLine body × IsTokensOf body events

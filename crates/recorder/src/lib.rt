@@ -1,21 +1,28 @@
 //! The texts of schedules: lists of events, written as tokens.
 //!
-//! The contract: [`read_tokens`] answers the one list of events that a text stands for by the grammar
-//! of `specs/Schedule.antt`, or names the first fault from the left and its byte
-//! (`specs/Reading.antt`).
-//! This crate runs no machine, and a schedule of any events is read, whether a machine could follow
-//! it or not.
+//! The contract: [`read_schedule`] and [`read_tokens`] answer the one list of events that a text
+//! stands for by the grammar of `specs/Schedule.antt`, or name the first fault from the left and its
+//! byte (`specs/Reading.antt`); [`write_schedule`] writes the one canonical text of its events
+//! (`specs/Writing.antt`), which is read as these events again.
+//! A schedule of any events is read, whether a machine could follow it or not.
 
 #![tactic(auto)]
 
+pub mod drawing;
 pub mod faults;
+mod heads;
 pub mod laws;
 pub mod reading;
+pub mod replaying;
 mod tokens;
+pub mod writing;
 
+pub use drawing::seeded;
 pub use faults::{ScheduleError, ScheduleFault};
-pub use laws::one_value;
-pub use reading::{MAX_EVENTS, push_tokens_of, read_tokens};
+pub use laws::{longest_runs, one_value};
+pub use reading::{MAX_EVENTS, push_tokens_of, read_schedule, read_tokens};
+pub use replaying::replay;
+pub use writing::{push_tokens, write_schedule};
 
 #[cfg(test)]
 mod tests;

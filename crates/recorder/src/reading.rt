@@ -3,10 +3,11 @@
 ghost use Rattle.std.specs.Prelude.{◌≡◌, ◌+◌, ◌-◌, ◌≤◌, ◌<◌, ◌^◌, ◌++◌, List, length, replicate, Ok, IfOk, OnOk, OnErr, vec_len};
 ghost use Rattle.step_machine.specs.declared.events.Event.{Event};
 ghost use Rattle.texts.specs.Results.{Gives};
-ghost use Rattle.recorder.specs.Schedule.{IsTokensOf};
-ghost use Rattle.recorder.specs.Reading.{refusal_of, piece_at, tokens_at, tokens_after, Pushes};
+ghost use Rattle.recorder.specs.Schedule.{OfHarts, IsTokensOf, IsScheduleOf};
+ghost use Rattle.recorder.specs.Reading.{refusal_of, piece_at, tokens_from, tokens_at, tokens_after, schedule_at, Pushes};
 
-use crate::faults::ScheduleError;
+use crate::faults::{ScheduleError, ScheduleFault};
+use crate::heads::{HEAD, has_head};
 use crate::tokens::run_of;
 use std::alloc::{AllocError, Global};
 use step_machine::events::Event;
@@ -49,14 +50,20 @@ fn push_piece(
     Ok(())
 }
 
-/// The events of a text's tokens, where `room` events may come.
-fn tokens_within(alloc: Global, text: &[u8], room: usize) -> Result<Vec<Event>, ScheduleError>
-    requires { room ≤ MAX_EVENTS }
-    ensures { Gives refusal_of (λ events. events.items) result (tokens_at room text.now) }
+/// The events of the tokens that a text has from the byte `start` on, where `room` events may come.
+fn tokens_within(
+    alloc: Global,
+    text: &[u8],
+    start: usize,
+    room: usize,
+) -> Result<Vec<Event>, ScheduleError>
+    requires start { start ≤ length text.now }
+    requires room { room ≤ MAX_EVENTS }
+    ensures { Gives refusal_of (λ events. events.items) result (tokens_from start room text.now) }
 {
     let mut events = Vec::new(alloc);
-    let mut place = 0;
-    let mut rest = Some(text);
+    let mut place = start;
+    let mut rest = Some(&text[start..]);
     while let Some(bytes) = rest {
         let (piece, after) = first_piece(Separators::BlanksAndLineEnds, bytes);
         push_piece(&mut events, piece, place, text.len(), room)?;
@@ -76,20 +83,47 @@ pub fn read_tokens(alloc: Global, text: &str) -> Result<Vec<Event>, ScheduleErro
     ensures found { IfOk result (λ events. IsTokensOf text.now events.items) }
     ensures only { (events : List Event) → IsTokensOf text.now events → Gives refusal_of (λ read. read.items) result (Ok events) }
     ensures exact { Gives refusal_of (λ events. events.items) result (tokens_at MAX_EVENTS text.now) }
+    ensures harts { IfOk result (λ events. OfHarts events.items) }
+    ensures few { IfOk result (λ events. length events.items ≤ MAX_EVENTS) }
 {
-    tokens_within(alloc, text.as_bytes(), MAX_EVENTS)
+    tokens_within(alloc, text.as_bytes(), 0, MAX_EVENTS)
+}
+
+/// The events of the schedule that stands in these bytes.
+fn schedule_in(alloc: Global, text: &[u8]) -> Result<Vec<Event>, ScheduleError>
+    ensures { Gives refusal_of (λ events. events.items) result (schedule_at text.now) }
+{
+    if !has_head(text) {
+        return Err(ScheduleFault::BadHead.at(0));
+    }
+    tokens_within(alloc, text, HEAD.len(), MAX_EVENTS)
+}
+
+/// The events of a schedule: its first line is `ztso-schedule 1`, ended by LF, CR LF or the end of
+/// the text, and tokens follow.
+///
+/// Another first line is `BadHead` at byte 0; then the first faulty token is answered as
+/// [`read_tokens`] answers it, its place counted from the schedule's first byte.
+pub fn read_schedule(alloc: Global, text: &str) -> Result<Vec<Event>, ScheduleError>
+    ensures found { IfOk result (λ events. IsScheduleOf text.now events.items) }
+    ensures only { (events : List Event) → IsScheduleOf text.now events → Gives refusal_of (λ read. read.items) result (Ok events) }
+    ensures exact { Gives refusal_of (λ events. events.items) result (schedule_at text.now) }
+    ensures harts { IfOk result (λ events. OfHarts events.items) }
+    ensures few { IfOk result (λ events. length events.items ≤ MAX_EVENTS) }
+{
+    schedule_in(alloc, text.as_bytes())
 }
 
 /// The events of a further text's tokens, where `before` events stand already.
 fn tokens_behind(alloc: Global, text: &[u8], before: usize) -> Result<Vec<Event>, ScheduleError>
     ensures { Gives refusal_of (λ events. events.items) result (tokens_after before text.now) }
 {
-    let events = tokens_within(alloc, text, MAX_EVENTS)?;
+    let events = tokens_within(alloc, text, 0, MAX_EVENTS)?;
     let room = MAX_EVENTS.saturating_sub(before);
     if events.len() <= room {
         return Ok(events);
     }
-    tokens_within(alloc, text, room)
+    tokens_within(alloc, text, 0, room)
 }
 
 /// Appends the events for which the tokens of a further text stand; at an `Err` the events stay as

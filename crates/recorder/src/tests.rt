@@ -1,6 +1,17 @@
-use crate::{MAX_EVENTS, ScheduleError, ScheduleFault, one_value, push_tokens_of, read_tokens};
+ghost use Rattle.std.specs.Prelude.{ℕ, ◌+◌, ◌%◌, ◌^◌};
+ghost use Rattle.rand_core.specs.Steps.{stream_of, steps_u32};
+
+use crate::{
+    MAX_EVENTS, ScheduleError, ScheduleFault, longest_runs, one_value, push_tokens, push_tokens_of,
+    read_schedule, read_tokens, replay, seeded, write_schedule,
+};
+use rand_core::utils::NextWord;
+use rand_core::{Rng, utils};
+use std::alloc::{AllocError, Global};
+use std::marker::Model;
 use std::test::Fail;
-use step_machine::events::Event;
+use step_machine::events::{Entry, Event};
+use step_machine::{HartOpening, Opening};
 
 #[test]
 fn tokens_stand_for_events(rt: HostRuntime) -> Result<(), Fail> {
@@ -18,6 +29,7 @@ fn tokens_stand_for_events(rt: HostRuntime) -> Result<(), Fail> {
     );
     assert_eq!(rt; read_tokens(alloc, "a0*1048576")?.len(), MAX_EVENTS);
     one_value();
+    longest_runs();
     Ok(())
 }
 
@@ -48,6 +60,40 @@ fn the_first_fault_is_named(rt: HostRuntime) {
             _ => assert!(rt; false, "{text} is refused"),
         }
     }
+}
+
+#[test]
+fn schedules_are_a_head_and_tokens(rt: HostRuntime) -> Result<(), Fail> {
+    let alloc = rt.alloc();
+    assert_eq!(rt; read_schedule(alloc, "ztso-schedule 1")?.len(), 0);
+    let events = read_schedule(alloc, "ztso-schedule 1\r\na1\nl1*2\n")?;
+    assert_eq!(rt;
+        events.as_slice(),
+        [Event::Act(1), Event::Land(1), Event::Land(1)].as_slice()
+    );
+    let rows = [
+        ("ztso-schedule 1\na0*0", 30, 16),
+        ("ztso-schedule 1\na", 31, 17),
+        ("ztso-schedule 1\na64", 29, 16),
+        ("ztso-schedule 1\nb0", 28, 16),
+        ("ztso-schedule 1\na0*1048577", 30, 16),
+        ("ztso-schedule 1\r\nl1 a0*1048576", 30, 20),
+        ("ztso-schedule 3", 27, 0),
+        ("", 27, 0),
+        ("ztso-schedule 1\r", 27, 0),
+        ("ztso-schedule 1 \na0", 27, 0),
+        ("ztso-schedule 1\r\r\na0", 27, 0),
+    ];
+    for (text, number, place) in rows {
+        match read_schedule(alloc, text) {
+            Err(ScheduleError::Refused { fault, place: byte }) => {
+                assert_eq!(rt; fault.number(), number, "at {text}");
+                assert_eq!(rt; byte, place, "at {text}");
+            }
+            _ => assert!(rt; false, "{text} is refused"),
+        }
+    }
+    Ok(())
 }
 
 #[test]
@@ -86,5 +132,132 @@ fn faults_are_printed(rt: HostRuntime) -> Result<(), Fail> {
         "no memory"
     );
     assert_eq!(rt; ScheduleFault::BadHead.number(), 27);
+    Ok(())
+}
+
+#[test]
+fn schedules_are_written_in_longest_runs(rt: HostRuntime) -> Result<(), Fail> {
+    let alloc = rt.alloc();
+    let rows = [
+        ("a0 a0 a0", "ztso-schedule 1\na0*3\n"),
+        ("", "ztso-schedule 1\n"),
+        ("a012", "ztso-schedule 1\na12\n"),
+        (
+            "a0*2\ta0*1 l0*2 l0 a1 l01*1048000",
+            "ztso-schedule 1\na0*3 l0*3 a1 l1*1048000\n",
+        ),
+    ];
+    for (read, written) in rows {
+        let events = read_tokens(alloc, read)?;
+        assert_eq!(rt; write_schedule(alloc, &events)?.as_str(), written);
+    }
+    let mut line = String::from_str(alloc, "seen: ")?;
+    push_tokens(&mut line, &[Event::Land(3), Event::Act(3)])?;
+    assert_eq!(rt; line.as_str(), "seen: l3 a3");
+    Ok(())
+}
+
+/// A generator that counts: it gives its number, and then the next ones.
+#[derive(Drop)]
+struct Counting(u32);
+
+impl Model for Counting {
+    ghost Value = { ℕ };
+
+    ghost view = { λ generator. generator.0 };
+}
+
+impl NextWord<u32> for Counting {
+    ghost step = { λ number. (number, (number + 1) % 2 ^ 32) };
+
+    fn next_word(&mut self) -> u32 {
+        let number = self.0;
+        self.0 = number.wrapping_add(1);
+        number
+    }
+}
+
+impl Rng for Counting {
+    ghost stream = { stream_of (steps_u32 (λ number. (number, (number + 1) % 2 ^ 32))) };
+
+    fn next_u32(&mut self) -> u32 {
+        self.next_word()
+    }
+
+    fn next_u64(&mut self) -> u64 {
+        utils::next_u64_via_u32(self)
+    }
+
+    fn fill_bytes(&mut self, dst: &mut [u8]) {
+        utils::fill_bytes_via_u32(self, dst)
+    }
+}
+
+#[test]
+fn words_draw_events(rt: HostRuntime) -> Result<(), Fail> {
+    let alloc = rt.alloc();
+    let mut generator = Counting(0);
+    let events = seeded(alloc, &mut generator, 2, 4)?;
+    assert_eq!(rt;
+        events.as_slice(),
+        [Event::Act(0), Event::Act(1), Event::Land(0), Event::Land(1)].as_slice()
+    );
+    assert_eq!(rt; generator.next_u32(), 4);
+    let last = seeded(alloc, &mut Counting(4294967295), 3, 1)?;
+    assert_eq!(rt; last.as_slice(), [Event::Land(0)].as_slice());
+    Ok(())
+}
+
+/// A hart that runs `sw x5,0(x6)` and `lw x7,0(x8)` from these values of x5, x6 and x8.
+fn storing(alloc: Global, x5: u32, x6: u32, x8: u32) -> Result<HartOpening, AllocError> {
+    let mut registers = [0; 32];
+    registers[5] = x5;
+    registers[6] = x6;
+    registers[8] = x8;
+    let code = Vec::from_slice(alloc, &[0x00532023, 0x00042383])?;
+    let inbox = Vec::new(alloc);
+    Ok(HartOpening {
+        code,
+        registers,
+        inbox,
+    })
+}
+
+#[test]
+fn store_buffering_is_replayed(rt: HostRuntime) -> Result<(), Fail> {
+    let alloc = rt.alloc();
+    let mut harts = Vec::new(alloc);
+    harts.push(storing(alloc, 1, 0, 4)?)?;
+    harts.push(storing(alloc, 1, 4, 0)?)?;
+    let words = Vec::new(alloc);
+    let opening = Opening { harts, words };
+    assert!(rt; opening.fits(2), "the opening fits");
+    let events = read_tokens(alloc, "a0 a1 a0 a1 l0 l1")?;
+    let machine = replay::<4, 2>(alloc, opening, &events)?;
+    let entries = [
+        Entry::Store {
+            hart: 0,
+            addr: 0,
+            value: 1,
+        },
+        Entry::Store {
+            hart: 1,
+            addr: 4,
+            value: 1,
+        },
+        Entry::Load {
+            hart: 0,
+            addr: 4,
+            value: 0,
+        },
+        Entry::Load {
+            hart: 1,
+            addr: 0,
+            value: 0,
+        },
+        Entry::Land { hart: 0 },
+        Entry::Land { hart: 1 },
+    ];
+    assert_eq!(rt; machine.entries(), entries.as_slice());
     Ok(())
 }

@@ -1,27 +1,29 @@
-use Rattle.std.proofs.Common.{◌≡◌, ◌+◌, ◌-◌, length, vec_len, sym, ◌∙◌, arith}
+use Rattle.std.proofs.Common.{◌≡◌, ◌+◌, ◌-◌, length, vec_len, sym, ap, ◌∙◌, arith}
 use Rattle.texts.specs.declared.pieces.Separators.TheVariants.{BlanksAndLineEnds}
-use Rattle.texts.specs.Pieces.{pieces, pieces_after}
+use Rattle.texts.specs.Pieces.{pieces_after}
 use Rattle.std.specs.Option.{option_copied}
-use Rattle.recorder.specs.Reading.{tokens_at, events_at}
+use Rattle.recorder.specs.Reading.{tokens_from}
 use Rattle.std.proofs.lemmas.Result.{err_from_is_err_and}
+use Rattle.std.proofs.lemmas.List.{length-drop}
+use Rattle.recorder.proofs.HeadLaws.{rest_from}
 use Rattle.recorder.proofs.Turns.{with_front-nil, turn_ok, turn_gives, turns_end}
 use Rattle.recorder.proofs.reading.tokens_within.Goals as goal
 
 pub loop-rest-init : goal.loop-rest-init
-unfolding tokens_at
+unfolding tokens_from
 loop-rest-init c =
     let none : c.args.room - vec_len c.new-events.result ≡ c.args.room = omega (arith, c.new-events.ensures.len) in
     record {
       few = omega (arith, c.new-events.ensures.len);
-      where_it_is = omega arith;
-      so_far = rw (none, c.new-events.ensures.items) (with_front-nil (events_at (length c.args.text.now) 0 c.args.room (pieces BlanksAndLineEnds c.args.text.now)));
+      where_it_is = omega (arith, ap length (rest_from c.args.start c.args.text.now), length-drop c.args.start c.args.text.now);
+      so_far = rw (none, c.new-events.ensures.items, rest_from c.args.start c.args.text.now) (with_front-nil (tokens_from c.args.start c.args.room c.args.text.now));
     }
 
 pub returns-in_err-push_piece : goal.returns-in_err-push_piece
 returns-in_err-push_piece c =
     let p = err_from_is_err_and c.from_residual.result c.from_residual.ensures.1 in
     let so_far = rw (c.in-Some.is, c.first_piece.ensures.cut) at c.loop-rest.invariant.so_far in
-    turn_gives _ (length c.args.text.now) c.loop-rest.place (c.args.room - vec_len c.loop-rest.events) c.loop-rest.events.items c.first_piece.result.0.now (pieces_after BlanksAndLineEnds (option_copied c.first_piece.result.1)) (tokens_at c.args.room c.args.text.now) c.from_residual.result p.0 c.in_err-push_piece.field-0.0 so_far c.in_err-push_piece.ensures.exact.1 p.1 p.2
+    turn_gives _ (length c.args.text.now) c.loop-rest.place (c.args.room - vec_len c.loop-rest.events) c.loop-rest.events.items c.first_piece.result.0.now (pieces_after BlanksAndLineEnds (option_copied c.first_piece.result.1)) (tokens_from c.args.start c.args.room c.args.text.now) c.from_residual.result p.0 c.in_err-push_piece.field-0.0 so_far c.in_err-push_piece.ensures.exact.1 p.1 p.2
 
 pub loop-rest-preserved : goal.loop-rest-preserved
 loop-rest-preserved c =

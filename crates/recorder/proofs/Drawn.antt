@@ -1,0 +1,49 @@
+-- A generator's words, one more at a time.
+use Rattle.std.proofs.Common.{◌≡◌, ℕ, zero, suc, ◌+◌, ◌*◌, ◌<◌, ◌≤◌, ◌%◌, List, [], ◌∷◌, ◌++◌, refl, sym, ap, ◌∙◌, add-one, map, inl, inr, arith}
+use Rattle.std.proofs.lemmas.Bool.{cases_lt, lt-ltb, le-ltb}
+use Rattle.std.proofs.lemmas.List.Elements.{All-nil, All-cons}
+use Rattle.rand_core.specs.Stream.{Stream, next_u32}
+use Rattle.step_machine.specs.declared.events.Event.{Event}
+use Rattle.recorder.specs.Schedule.{hart_of, OfHarts}
+use Rattle.recorder.specs.Drawing.{drawn, words, left_after}
+
+left_after-suc : (i : ℕ) (stream : Stream) → left_after (suc i) stream ≡ (next_u32 (left_after i stream)).1
+unfolding left_after
+left_after-suc zero stream = refl
+left_after-suc (suc i) stream = left_after-suc i (next_u32 stream).1
+
+words-suc : (i : ℕ) (stream : Stream) → words (suc i) stream ≡ words i stream ++ (next_u32 (left_after i stream)).0 ∷ []
+unfolding words left_after
+words-suc zero stream = refl
+words-suc (suc i) stream = ap (λ (rest : List ℕ). (next_u32 stream).0 ∷ rest) (words-suc i (next_u32 stream).1)
+
+drawn-more : (harts : ℕ) (front : List ℕ) (word : ℕ) → map (drawn harts) (front ++ word ∷ []) ≡ map (drawn harts) front ++ drawn harts word ∷ []
+drawn-more harts [] word = refl
+drawn-more harts (c ∷ front) word = ap (λ (rest : List Event). drawn harts c ∷ rest) (drawn-more harts front word)
+
+-- one more word was given
+pub left-more : (i word : ℕ) (first before after : Stream) → before ≡ left_after i first → (word, after) ≡ next_u32 before → after ≡ left_after (i + 1) first
+left-more i word first before after was given =
+    ap (λ (p : ℕ × Stream). p.1) given ∙ ap (λ (s : Stream). (next_u32 s).1) was ∙ sym (left_after-suc i first) ∙ ap (λ (k : ℕ). left_after k first) (sym (add-one i))
+
+pub words-more : (harts i word : ℕ) (first before after : Stream) (old new : List Event) → old ≡ map (drawn harts) (words i first) → before ≡ left_after i first → (word, after) ≡ next_u32 before → new ≡ old ++ drawn harts word ∷ [] → new ≡ map (drawn harts) (words (i + 1) first)
+words-more harts i word first before after old new so_far was given pushed =
+    let here : word ≡ (next_u32 (left_after i first)).0 = ap (λ (p : ℕ × Stream). p.0) given ∙ ap (λ (s : Stream). (next_u32 s).0) was in
+    pushed
+    ∙ ap (λ (front : List Event). front ++ drawn harts word ∷ []) so_far
+    ∙ ap (λ (w : ℕ). map (drawn harts) (words i first) ++ drawn harts w ∷ []) here
+    ∙ sym (drawn-more harts (words i first) (next_u32 (left_after i first)).0)
+    ∙ ap (map (drawn harts)) (sym (words-suc i first))
+    ∙ ap (λ (k : ℕ). map (drawn harts) (words k first)) (sym (add-one i))
+
+-- ---- what was drawn is of these harts
+
+drawn-hart : (harts word : ℕ) → 1 ≤ harts → hart_of (drawn harts word) < harts
+drawn-hart harts word some = elim (cases_lt (word % (2 * harts)) harts) [
+  | inl act ↦ rw (lt-ltb (word % (2 * harts)) harts act) act
+  | inr land ↦ rw (le-ltb (word % (2 * harts)) harts land) (omega arith)
+]
+
+pub drawn-OfHarts : (harts : ℕ) (front : List ℕ) → 1 ≤ harts → harts ≤ 64 → OfHarts (map (drawn harts) front)
+drawn-OfHarts harts [] some most = All-nil (λ (e : Event). hart_of e < 64)
+drawn-OfHarts harts (word ∷ front) some most = All-cons (λ (e : Event). hart_of e < 64) (drawn harts word) (map (drawn harts) front) (omega (arith, drawn-hart harts word some)) (drawn-OfHarts harts front some most)

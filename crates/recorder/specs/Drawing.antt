@@ -1,0 +1,23 @@
+-- The events that a generator's words draw.
+use Rattle.std.specs.Prelude.{ℕ, zero, suc, ◌-◌, ◌*◌, ◌%◌, nat_lt, if◌then◌else◌, List, [], ◌∷◌}
+use Rattle.rand_core.specs.Stream.{Stream, next_u32}
+use Rattle.step_machine.specs.declared.events.Event.{Event}
+use Rattle.step_machine.specs.declared.events.Event.TheVariants.{Act, Land}
+
+-- the event of a number below twice the harts: their acts come first, and then their landings
+abbrev pub numbered : (harts number : ℕ) → Event
+numbered harts number = if nat_lt number harts then Act number else Land (number - harts)
+
+-- the event that a word draws
+abbrev pub drawn : (harts word : ℕ) → Event
+drawn harts word = numbered harts (word % (2 * harts))
+
+-- the next n words of 32 bits that a generator gives
+unfoldable pub words : (n : ℕ) → Stream → List ℕ
+words zero stream = []
+words (suc n) stream = (next_u32 stream).0 ∷ words n (next_u32 stream).1
+
+-- what it will give after them
+unfoldable pub left_after : (n : ℕ) → Stream → Stream
+left_after zero stream = stream
+left_after (suc n) stream = left_after n (next_u32 stream).1

@@ -1,0 +1,50 @@
+//! Drawing schedules from a generator.
+
+ghost use Rattle.std.specs.Prelude.{◌≡◌, ◌≤◌, length, map, IfOk, OnOk, OnErr};
+ghost use Rattle.recorder.specs.Schedule.{OfHarts};
+ghost use Rattle.recorder.specs.Drawing.{drawn, words, left_after};
+
+use rand_core::Rng;
+use std::alloc::{AllocError, Global};
+use step_machine::events::Event;
+
+/// The event that the word draws.
+fn event_of(word: u32, harts: u32) -> Event
+    requires some { 1 ≤ harts }
+    requires most { harts ≤ 64 }
+    ensures { result ≡ drawn harts word }
+{
+    let number = word % (2 * harts);
+    if number < harts {
+        Event::Act(number)
+    } else {
+        Event::Land(number - harts)
+    }
+}
+
+/// So many events of so many harts, 1 to 64, each drawn by one word of 32 bits.
+///
+/// A word draws the event of the number that it leaves modulo twice the harts: the act of that hart,
+/// or from `harts` on the landing of the hart that is `harts` less. Where memory runs out, the
+/// generator is left as it was.
+pub fn seeded<R: Rng>(
+    alloc: Global,
+    generator: &mut R,
+    harts: u32,
+    n: u32,
+) -> Result<Vec<Event>, AllocError>
+    requires some_hart { 1 ≤ harts }
+    requires most_harts { harts ≤ 64 }
+    ensures drawn { IfOk result (λ events. events.items ≡ map (drawn harts) (words n (R.stream generator.old))) }
+    ensures rest { OnOk result (R.stream generator.new ≡ left_after n (R.stream generator.old)) }
+    ensures err { OnErr result (generator.new ≡ generator.old) }
+    ensures harts { IfOk result (λ events. OfHarts events.items) }
+    ensures len { IfOk result (λ events. length events.items ≡ n) }
+{
+    // room comes first, so that no word is drawn in vain
+    let mut events = Vec::with_capacity(alloc, n as usize)?;
+    for _ in 0..n {
+        events.push_reserved(event_of(generator.next_u32(), harts));
+    }
+    Ok(events)
+}
