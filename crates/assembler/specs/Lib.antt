@@ -1,0 +1,4 @@
+pub mod Faults
+pub mod Tables
+pub mod Registers
+pub mod Mnemonics

@@ -1,0 +1,9 @@
+//! Assembly texts of RV32I and the word AMOs, to and from instruction words.
+
+#![tactic(auto)]
+
+pub mod faults;
+pub mod form;
+mod tables;
+
+pub use faults::{AsmError, AsmFault};
