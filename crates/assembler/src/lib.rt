@@ -4,6 +4,7 @@
 
 pub mod faults;
 pub mod form;
+mod cutting;
 mod tables;
 
 pub use faults::{AsmError, AsmFault};
