@@ -1,2 +1,3 @@
 pub mod TableLaws
 pub mod CuttingLaws
+pub mod Magnitudes

@@ -3,3 +3,5 @@ pub mod Tables
 pub mod Registers
 pub mod Mnemonics
 pub mod Cutting
+pub mod Sets
+pub mod Operands

@@ -5,6 +5,7 @@
 pub mod faults;
 pub mod form;
 mod cutting;
+mod operands;
 mod tables;
 
 pub use faults::{AsmError, AsmFault};

@@ -5,6 +5,7 @@ ghost use Rattle.std.specs.Option.{option_copied};
 ghost use Rattle.rv_decode.specs.Meaning.{reg_of};
 ghost use Rattle.assembler.specs.Tables.{told, row_of};
 ghost use Rattle.assembler.specs.Registers.{register_named};
+ghost use Rattle.assembler.specs.Sets.{set_named};
 ghost use Rattle.assembler.specs.Mnemonics.{form_named};
 
 use crate::form::Form;
@@ -66,6 +67,13 @@ pub fn form_named(text: &[u8]) -> Option<Form>
     ensures { result ≡ form_named text.now }
 {
     form_in(&MNEMONICS, text)
+}
+
+/// The number of the set of accesses, in the letters of a fence; `None` for other texts.
+pub fn set_named(text: &[u8]) -> Option<u8>
+    ensures { result ≡ set_named text.now }
+{
+    number_in(&SETS, text)
 }
 
 const REGISTERS: [(&str, u8); 65] = [
@@ -234,4 +242,23 @@ const MNEMONICS: [(&str, Form); 97] = [
     ("j", Form::Jump),
     ("ret", Form::Return),
     ("li", Form::LoadImmediate),
+];
+
+const SETS: [(&str, u8); 16] = [
+    ("0", 0),
+    ("w", 1),
+    ("r", 2),
+    ("rw", 3),
+    ("o", 4),
+    ("ow", 5),
+    ("or", 6),
+    ("orw", 7),
+    ("i", 8),
+    ("iw", 9),
+    ("ir", 10),
+    ("irw", 11),
+    ("io", 12),
+    ("iow", 13),
+    ("ior", 14),
+    ("iorw", 15),
 ];
