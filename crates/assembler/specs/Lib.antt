@@ -5,3 +5,4 @@ pub mod Mnemonics
 pub mod Cutting
 pub mod Sets
 pub mod Operands
+pub mod Statements

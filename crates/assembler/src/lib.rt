@@ -6,6 +6,7 @@ pub mod faults;
 pub mod form;
 mod cutting;
 mod operands;
+mod statement;
 mod tables;
 
 pub use faults::{AsmError, AsmFault};

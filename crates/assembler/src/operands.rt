@@ -1,6 +1,6 @@
 //! What an operand says.
 
-ghost use Rattle.std.specs.Prelude.{◌≡◌, ◌<◌, ◌^◌, ◌<ℤ◌, ◌≤ℤ◌, pos, neg_ℤ, ◌≤◌, option_map, IfSome};
+ghost use Rattle.std.specs.Prelude.{◌≡◌, ◌<◌, ◌^◌, ◌<ℤ◌, ◌≤ℤ◌, pos, negsuc, neg_ℤ, IfOk, ◌≤◌, option_map, IfSome};
 ghost use Rattle.assembler.specs.Operands.{is_hex, is_negative};
 ghost use Rattle.std.specs.Option.{option_copied};
 ghost use Rattle.assembler.specs.Operands.{register_at, magnitude_of, integer_of, in_range, number_at, up_to, natural_at, base_at, offset_at, target_of, in_reach, target_at, or_zero, Tells, set_at, nothing_at};
@@ -84,7 +84,8 @@ fn integer(text: &[u8]) -> Option<i64>
 }
 
 fn in_range(number: Option<i64>, low: i64, high: i64) -> Result<i64, AsmFault>
-    ensures { result ≡ in_range low high number }
+    ensures value { result ≡ in_range low high number }
+    ensures within { IfOk result (λ n. (low ≤ℤ n) × (n ≤ℤ high)) }
 {
     match number {
         None => Err(AsmFault::BadOperand),
@@ -95,11 +96,22 @@ fn in_range(number: Option<i64>, low: i64, high: i64) -> Result<i64, AsmFault>
 
 /// A number from `low` to `high`.
 pub fn number_from(operand: Option<&[u8]>, low: i64, high: i64) -> Result<i64, AsmFault>
-    ensures { result ≡ number_at low high (option_copied operand.entry) }
+    ensures value { result ≡ number_at low high (option_copied operand.entry) }
+    ensures within { IfOk result (λ n. (low ≤ℤ n) × (n ≤ℤ high)) }
 {
     match operand {
         Some(text) => in_range(integer(text), low, high),
         None => Err(AsmFault::BadOperand),
+    }
+}
+
+/// A signed number of 12 bits.
+pub fn short_number(operand: Option<&[u8]>) -> Result<i32, AsmFault>
+    ensures { result ≡ number_at (negsuc 2047) (pos 2047) (option_copied operand.entry) }
+{
+    match number_from(operand, -2048, 2047) {
+        Ok(number) => Ok(number as i32),
+        Err(fault) => Err(fault),
     }
 }
 
@@ -141,7 +153,10 @@ pub fn base(operand: Option<&[u8]>) -> Result<Reg, AsmFault>
 }
 
 fn number_or_zero(text: &[u8], low: i64, high: i64) -> Result<i64, AsmFault>
-    ensures { result ≡ or_zero low high text.now }
+    requires low { low ≤ℤ pos 0 }
+    requires high { pos 0 ≤ℤ high }
+    ensures value { result ≡ or_zero low high text.now }
+    ensures within { IfOk result (λ n. (low ≤ℤ n) × (n ≤ℤ high)) }
 {
     if text.is_empty() {
         Ok(0)
@@ -150,14 +165,33 @@ fn number_or_zero(text: &[u8], low: i64, high: i64) -> Result<i64, AsmFault>
     }
 }
 
-/// The number before the parenthesis of `n(rs1)`, which is 0 where it is left out.
-pub fn offset(operand: Option<&[u8]>, low: i64, high: i64) -> Result<i64, AsmFault>
-    ensures { result ≡ offset_at low high (option_copied operand.entry) }
+fn offset(operand: Option<&[u8]>, low: i64, high: i64) -> Result<i64, AsmFault>
+    requires low { low ≤ℤ pos 0 }
+    requires high { pos 0 ≤ℤ high }
+    ensures value { result ≡ offset_at low high (option_copied operand.entry) }
+    ensures within { IfOk result (λ n. (low ≤ℤ n) × (n ≤ℤ high)) }
 {
     match operand {
         Some(text) => number_or_zero(trimmed(cut_at(text, b'(').0), low, high),
         None => Err(AsmFault::BadOperand),
     }
+}
+
+/// The number before the parenthesis of `n(rs1)`, of 12 bits; it is 0 where it is left out.
+pub fn short_offset(operand: Option<&[u8]>) -> Result<i32, AsmFault>
+    ensures { result ≡ offset_at (negsuc 2047) (pos 2047) (option_copied operand.entry) }
+{
+    match offset(operand, -2048, 2047) {
+        Ok(number) => Ok(number as i32),
+        Err(fault) => Err(fault),
+    }
+}
+
+/// No number before the parenthesis of `(rs1)`, or 0.
+pub fn no_offset(operand: Option<&[u8]>) -> Result<i64, AsmFault>
+    ensures { result ≡ offset_at (pos 0) (pos 0) (option_copied operand.entry) }
+{
+    offset(operand, 0, 0)
 }
 
 fn in_reach<'a>(number: Option<i64>, bound: i64) -> Result<Place<'a>, AsmFault>

@@ -47,7 +47,7 @@ fn form_in(table: &[(&'static str, Form)], text: &[u8]) -> Option<Form>
 
 /// The register of the number, which is taken modulo 32.
 #[tactic(auto, using(rv_decode::proofs::Unique::same_reg))]
-const fn reg(number: u8) -> Reg
+pub const fn reg(number: u8) -> Reg
     ensures { result ≡ reg_of number }
 {
     Reg {
