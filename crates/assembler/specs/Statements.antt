@@ -85,13 +85,13 @@ alone i a = do
   end ← nothing_at a
   Ok (one i)
 
--- an instruction of two registers
-abbrev pub of_two : (Reg → Reg → Instr) → (a b c : Option (List ℕ)) → Result Made AsmFault
-of_two made a b c = do
+-- two registers and nothing more
+abbrev pub two_registers : (a b c : Option (List ℕ)) → Result (Reg × Reg) AsmFault
+two_registers a b c = do
   rd ← register_at a
   rs ← register_at b
   end ← nothing_at c
-  Ok (one (made rd rs))
+  Ok (rd, rs)
 
 -- what the form makes of its first four operands; no form has more than three
 unfoldable pub statement_of : Form → (a b c d : Option (List ℕ)) → Result Made AsmFault
@@ -161,11 +161,21 @@ statement_of (Amo op aq rl) a b c d = do
   end ← nothing_at d
   Ok (one (instr.Amo op rd rs1 rs2 aq rl))
 statement_of Nop a b c d = alone (instr.Immediate immediate.Add (reg_of 0) (reg_of 0) (pos 0)) a
-statement_of Move a b c d = of_two (λ rd rs. instr.Immediate immediate.Add rd rs (pos 0)) a b c
-statement_of Invert a b c d = of_two (λ rd rs. instr.Immediate immediate.Xor rd rs (negsuc 0)) a b c
-statement_of Negate a b c d = of_two (λ rd rs. instr.Register register.Sub rd (reg_of 0) rs) a b c
-statement_of IsZero a b c d = of_two (λ rd rs. instr.Immediate immediate.SetLessUnsigned rd rs (pos 1)) a b c
-statement_of IsNotZero a b c d = of_two (λ rd rs. instr.Register register.SetLessUnsigned rd (reg_of 0) rs) a b c
+statement_of Move a b c d = do
+  pair ← two_registers a b c
+  Ok (one (instr.Immediate immediate.Add pair.0 pair.1 (pos 0)))
+statement_of Invert a b c d = do
+  pair ← two_registers a b c
+  Ok (one (instr.Immediate immediate.Xor pair.0 pair.1 (negsuc 0)))
+statement_of Negate a b c d = do
+  pair ← two_registers a b c
+  Ok (one (instr.Register register.Sub pair.0 (reg_of 0) pair.1))
+statement_of IsZero a b c d = do
+  pair ← two_registers a b c
+  Ok (one (instr.Immediate immediate.SetLessUnsigned pair.0 pair.1 (pos 1)))
+statement_of IsNotZero a b c d = do
+  pair ← two_registers a b c
+  Ok (one (instr.Register register.SetLessUnsigned pair.0 (reg_of 0) pair.1))
 statement_of (BranchZero op) a b c d = do
   rs ← register_at a
   to ← target_at (pos 4096) b
