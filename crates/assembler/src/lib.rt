@@ -6,6 +6,8 @@ pub mod faults;
 pub mod form;
 mod cutting;
 mod operands;
+mod loading;
+mod shapes;
 mod statement;
 mod tables;
 
