@@ -1,3 +1,4 @@
 pub mod TableLaws
 pub mod CuttingLaws
 pub mod Magnitudes
+pub mod LineLaws

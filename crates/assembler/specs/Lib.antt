@@ -6,3 +6,4 @@ pub mod Cutting
 pub mod Sets
 pub mod Operands
 pub mod Statements
+pub mod Lines

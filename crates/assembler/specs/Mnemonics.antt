@@ -112,5 +112,5 @@ mnemonics =
   (codes "li", LoadImmediate) ∷
   []
 
-abbrev pub form_named : List ℕ → Option Form
+unfoldable pub form_named : List ℕ → Option Form
 form_named text = row_of (λ row. row.0) (λ row. row.1) mnemonics text

@@ -73,5 +73,5 @@ register_names =
   (codes "fp", 8) ∷
   []
 
-abbrev pub register_named : List ℕ → Option Reg
+unfoldable pub register_named : List ℕ → Option Reg
 register_named text = option_map reg_of (row_of (λ row. row.0) (λ row. row.1) register_names text)

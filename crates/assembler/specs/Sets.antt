@@ -23,5 +23,5 @@ set_names =
   (codes "iorw", 15) ∷
   []
 
-abbrev pub set_named : List ℕ → Option ℕ
+unfoldable pub set_named : List ℕ → Option ℕ
 set_named text = row_of (λ row. row.0) (λ row. row.1) set_names text

@@ -6,6 +6,7 @@ pub mod faults;
 pub mod form;
 mod cutting;
 mod operands;
+mod line;
 mod loading;
 mod shapes;
 mod statement;

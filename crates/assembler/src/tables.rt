@@ -56,6 +56,7 @@ pub const fn reg(number: u8) -> Reg
 }
 
 /// The register of this name: x0 to x31, a name of the calling convention, or fp.
+#[tactic(auto, unfolding(crate::specs::Registers::register_named))]
 pub fn register_named(text: &[u8]) -> Option<Reg>
     ensures { result ≡ register_named text.now }
 {
@@ -63,6 +64,7 @@ pub fn register_named(text: &[u8]) -> Option<Reg>
 }
 
 /// What the mnemonic asks for; `None` where it is no mnemonic.
+#[tactic(auto, unfolding(crate::specs::Mnemonics::form_named))]
 pub fn form_named(text: &[u8]) -> Option<Form>
     ensures { result ≡ form_named text.now }
 {
@@ -70,6 +72,7 @@ pub fn form_named(text: &[u8]) -> Option<Form>
 }
 
 /// The number of the set of accesses, in the letters of a fence; `None` for other texts.
+#[tactic(auto, unfolding(crate::specs::Sets::set_named))]
 pub fn set_named(text: &[u8]) -> Option<u8>
     ensures { result ≡ set_named text.now }
 {
