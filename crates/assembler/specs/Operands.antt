@@ -1,6 +1,7 @@
 -- What an operand says, and what is wrong with it where it says nothing that its place asks for.
-use Rattle.std.specs.Prelude.{◌≡◌, ℕ, ℤ, pos, neg_ℤ, int_lt, unsigned_abs, ◌==◌, ◌%◌, ◌^◌, Bool, ◌&&◌, ◌||◌, not, nat_lt, List, [], ◌∷◌, length, drop, slice_index, Option, Some, None, option_map, Result, Ok, Err, if◌then◌else◌}
+use Rattle.std.specs.Prelude.{◌≡◌, ◌≤ℤ◌, ◌<ℤ◌, ℕ, ℤ, pos, neg_ℤ, int_lt, unsigned_abs, ◌==◌, ◌%◌, ◌^◌, Bool, ◌&&◌, ◌||◌, not, nat_lt, List, [], ◌∷◌, length, drop, slice_index, Option, Some, None, option_map, Result, Ok, Err, if◌then◌else◌}
 use Rattle.texts.specs.Numbers.{number_of, hex_number_of}
+use Rattle.rv_decode.specs.Fits.{IsEven}
 use Rattle.rv_decode.specs.declared.instruction.Reg.{Reg}
 use Rattle.assembler.specs.declared.faults.AsmFault.{AsmFault}
 use Rattle.assembler.specs.declared.faults.AsmFault.TheVariants.{UnknownName, BadOperand, OutOfRange}
@@ -89,12 +90,20 @@ pub data Target : Type 0 where
   bytes : ℤ → Target
   label : List ℕ → Target
 
-abbrev pub is_odd : ℤ → Bool
-is_odd n = unsigned_abs n % 2 == 1
+abbrev pub is_even : ℤ → Bool
+is_even n = unsigned_abs n % 2 == 0
+
+abbrev pub is_reached : ℤ → ℤ → Bool
+is_reached bound n = is_even n && not (int_lt n (neg_ℤ bound)) && int_lt n bound
 
 abbrev pub in_reach : ℤ → Option ℤ → Result Target AsmFault
 in_reach bound None = Err BadOperand
-in_reach bound (Some n) = if is_odd n || int_lt n (neg_ℤ bound) || not (int_lt n bound) then Err OutOfRange else Ok (bytes n)
+in_reach bound (Some n) = if is_reached bound n then Ok (bytes n) else Err OutOfRange
+
+-- a number of bytes is even and within the bound
+abbrev pub IsReached : ℤ → Target → Type 0
+IsReached bound (bytes n) = (neg_ℤ bound ≤ℤ n) × (n <ℤ bound) × IsEven n
+IsReached bound (label name) = Unit {0}
 
 abbrev pub target_at : ℤ → Option (List ℕ) → Result Target AsmFault
 target_at bound None = Err BadOperand

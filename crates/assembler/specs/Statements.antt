@@ -4,6 +4,7 @@ use Rattle.std.specs.Prelude.{◌≡◌, ℕ, ℤ, pos, negsuc, ◌+ℤ◌, ◌-
 use Rattle.std.specs.Int.{int_rem_euclid, int_div_euclid}
 use Rattle.std.specs.Option.{option_copied}
 use Rattle.texts.specs.Results.{◌>>=◌}
+use Rattle.rv_decode.specs.Fits.{Fits}
 use Rattle.rv_decode.specs.Meaning.{reg_of}
 use Rattle.rv_decode.specs.declared.instruction.Reg.{Reg}
 use Rattle.rv_decode.specs.declared.instruction.BranchOp.{BranchOp}
@@ -203,3 +204,10 @@ made_of (statement.Branch op rs1 rs2 name) = branch op rs1 rs2 name.now
 -- what the form makes of the operands that the code holds
 abbrev pub asked : Form → Operands → Result Made AsmFault
 asked form o = statement_of form (option_copied o.first) (option_copied o.second) (option_copied o.third) (option_copied o.fourth)
+
+-- each instruction has a word
+abbrev pub MadeFits : Made → Type 0
+MadeFits (one i) = Fits i
+MadeFits (two i j) = Fits i × Fits j
+MadeFits (jump rd name) = Unit {0}
+MadeFits (branch op rs1 rs2 name) = Unit {0}

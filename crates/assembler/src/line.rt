@@ -1,11 +1,11 @@
 //! A line's parts, and what its statement makes.
 
-ghost use Rattle.std.specs.Prelude.{◌≡◌, map};
+ghost use Rattle.std.specs.Prelude.{◌≡◌, map, IfOk, IfSome};
 ghost use Rattle.std.specs.Option.{option_copied};
 ghost use Rattle.std.specs.List.{slice_split};
 ghost use Rattle.assembler.specs.Cutting.{is_byte};
 ghost use Rattle.assembler.specs.Operands.{Tells};
-ghost use Rattle.assembler.specs.Statements.{made_of, asked};
+ghost use Rattle.assembler.specs.Statements.{made_of, MadeFits, asked};
 ghost use Rattle.assembler.specs.Lines.{code_of, front_of, label_of, statement_text, between_commas, trimmed_text, operands_of, first_of, rest_of, made_of_list, made_in, made_by};
 
 use crate::cutting::{cut_at, cut_at_blank, is_name, trimmed, without_front};
@@ -92,7 +92,8 @@ fn operands(rest: Option<&[u8]>) -> Operands<'_>
 /// What the statement makes, which is nothing where there is none, or its first fault from the left.
 #[tactic(auto, unfolding(crate::specs::Lines::made_in))]
 pub fn statement_in(text: &[u8]) -> Result<Option<Statement<'_>>, AsmFault>
-    ensures { Tells made_by result (made_in text.now) }
+    ensures made { Tells made_by result (made_in text.now) }
+    ensures fits { IfOk result (λ statement. IfSome statement (λ s. MadeFits (made_of s))) }
 {
     if text.is_empty() {
         return Ok(None);

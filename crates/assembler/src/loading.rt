@@ -1,8 +1,9 @@
 //! A number put into a register, by one instruction or two.
 
-ghost use Rattle.std.specs.Prelude.{◌≡◌, ◌≤ℤ◌, ◌<ℤ◌, pos, negsuc, ◌^◌, ◌-ℤ◌, unsigned_abs};
+ghost use Rattle.std.specs.Prelude.{◌≡◌, ◌≤ℤ◌, ◌<ℤ◌, ◌<◌, pos, negsuc, ◌^◌, ◌-ℤ◌, unsigned_abs};
 ghost use Rattle.std.specs.Int.{int_rem_euclid, int_div_euclid};
-ghost use Rattle.assembler.specs.Statements.{made_of, loaded, is_short, low_of, high_of};
+ghost use Rattle.rv_decode.specs.Fits.{IsSigned};
+ghost use Rattle.assembler.specs.Statements.{made_of, MadeFits, loaded, is_short, low_of, high_of};
 
 use crate::statement::Statement;
 use crate::tables::reg;
@@ -18,7 +19,8 @@ fn is_short(number: i64) -> bool
 fn low_part(number: i64) -> i32
     requires low { negsuc 2147483647 ≤ℤ number }
     requires high { number <ℤ pos (2 ^ 31) }
-    ensures { result ≡ low_of number }
+    ensures value { result ≡ low_of number }
+    ensures short { IsSigned 11 result }
 {
     ((number + 2048).rem_euclid(4096) - 2048) as i32
 }
@@ -33,7 +35,8 @@ fn pages(number: i64, low: i32) -> i64
 }
 
 fn upper_bits(pages: i64) -> u32
-    ensures { result ≡ unsigned_abs (int_rem_euclid pages (pos 1048576)) }
+    ensures value { result ≡ unsigned_abs (int_rem_euclid pages (pos 1048576)) }
+    ensures small { result < 2 ^ 20 }
 {
     pages.rem_euclid(0x10_0000).unsigned_abs() as u32
 }
@@ -43,7 +46,8 @@ fn high_part(number: i64, low: i32) -> u32
     requires low { negsuc 2147483647 ≤ℤ number }
     requires high { number <ℤ pos (2 ^ 31) }
     requires same { low ≡ low_of number }
-    ensures { result ≡ high_of number }
+    ensures value { result ≡ high_of number }
+    ensures small { result < 2 ^ 20 }
 {
     upper_bits(pages(number, low))
 }
@@ -52,7 +56,8 @@ fn high_part(number: i64, low: i32) -> u32
 pub fn loaded<'a>(rd: Reg, number: i64) -> Statement<'a>
     requires low { negsuc 2147483647 ≤ℤ number }
     requires high { number <ℤ pos (2 ^ 31) }
-    ensures { made_of result ≡ loaded rd number }
+    ensures made { made_of result ≡ loaded rd number }
+    ensures fits { MadeFits (made_of result) }
 {
     let op = ImmediateOp::Add;
     if is_short(number) {

@@ -1,9 +1,10 @@
 //! What an operand says.
 
-ghost use Rattle.std.specs.Prelude.{◌≡◌, ◌<◌, ◌^◌, ◌<ℤ◌, ◌≤ℤ◌, pos, negsuc, neg_ℤ, IfOk, ◌≤◌, option_map, IfSome};
+ghost use Rattle.std.specs.Prelude.{◌≡◌, ◌<◌, ◌^◌, ◌<ℤ◌, ◌≤ℤ◌, pos, negsuc, neg_ℤ, IfOk, IsTrue, ◌≤◌, option_map, IfSome};
 ghost use Rattle.assembler.specs.Operands.{is_hex, is_negative};
 ghost use Rattle.std.specs.Option.{option_copied};
-ghost use Rattle.assembler.specs.Operands.{register_at, magnitude_of, integer_of, in_range, number_at, up_to, natural_at, base_at, offset_at, target_of, in_reach, target_at, or_zero, Tells, set_at, nothing_at};
+ghost use Rattle.rv_decode.specs.Fits.{IsSigned};
+ghost use Rattle.assembler.specs.Operands.{register_at, magnitude_of, integer_of, in_range, number_at, up_to, natural_at, base_at, offset_at, target_of, in_reach, target_at, or_zero, IsReached, is_reached, bytes, Tells, set_at, nothing_at};
 
 use crate::cutting::{cut_at, is_name, trimmed};
 use crate::faults::AsmFault;
@@ -107,7 +108,8 @@ pub fn number_from(operand: Option<&[u8]>, low: i64, high: i64) -> Result<i64, A
 
 /// A signed number of 12 bits.
 pub fn short_number(operand: Option<&[u8]>) -> Result<i32, AsmFault>
-    ensures { result ≡ number_at (negsuc 2047) (pos 2047) (option_copied operand.entry) }
+    ensures value { result ≡ number_at (negsuc 2047) (pos 2047) (option_copied operand.entry) }
+    ensures short { IfOk result (IsSigned 11) }
 {
     match number_from(operand, -2048, 2047) {
         Ok(number) => Ok(number as i32),
@@ -116,7 +118,8 @@ pub fn short_number(operand: Option<&[u8]>) -> Result<i32, AsmFault>
 }
 
 fn up_to(number: Option<i64>, most: u32) -> Result<u32, AsmFault>
-    ensures { result ≡ up_to most number }
+    ensures value { result ≡ up_to most number }
+    ensures within { IfOk result (λ n. n ≤ most) }
 {
     match number {
         None => Err(AsmFault::BadOperand),
@@ -127,7 +130,8 @@ fn up_to(number: Option<i64>, most: u32) -> Result<u32, AsmFault>
 
 /// A number from 0 to `most`.
 pub fn natural(operand: Option<&[u8]>, most: u32) -> Result<u32, AsmFault>
-    ensures { result ≡ natural_at most (option_copied operand.entry) }
+    ensures value { result ≡ natural_at most (option_copied operand.entry) }
+    ensures within { IfOk result (λ n. n ≤ most) }
 {
     match operand {
         Some(text) => up_to(integer(text), most),
@@ -179,7 +183,8 @@ fn offset(operand: Option<&[u8]>, low: i64, high: i64) -> Result<i64, AsmFault>
 
 /// The number before the parenthesis of `n(rs1)`, of 12 bits; it is 0 where it is left out.
 pub fn short_offset(operand: Option<&[u8]>) -> Result<i32, AsmFault>
-    ensures { result ≡ offset_at (negsuc 2047) (pos 2047) (option_copied operand.entry) }
+    ensures value { result ≡ offset_at (negsuc 2047) (pos 2047) (option_copied operand.entry) }
+    ensures short { IfOk result (IsSigned 11) }
 {
     match offset(operand, -2048, 2047) {
         Ok(number) => Ok(number as i32),
@@ -194,17 +199,25 @@ pub fn no_offset(operand: Option<&[u8]>) -> Result<i64, AsmFault>
     offset(operand, 0, 0)
 }
 
+fn is_reached(number: i64, bound: i64) -> bool
+    requires low { pos 0 ≤ℤ bound }
+    requires high { bound <ℤ pos (2 ^ 31) }
+    ensures value { result ≡ is_reached bound number }
+    ensures reached { IsTrue result → IsReached bound (bytes number) }
+{
+    number.unsigned_abs() % 2 == 0 && number >= -bound && number < bound
+}
+
 fn in_reach<'a>(number: Option<i64>, bound: i64) -> Result<Place<'a>, AsmFault>
     requires low { pos 0 ≤ℤ bound }
     requires high { bound <ℤ pos (2 ^ 31) }
-    ensures { Tells target_of result (in_reach bound number) }
+    ensures place { Tells target_of result (in_reach bound number) }
+    ensures reached { IfOk result (λ place. IsReached bound (target_of place)) }
 {
     match number {
         None => Err(AsmFault::BadOperand),
-        Some(number) if number.unsigned_abs() % 2 == 1 || number < -bound || number >= bound => {
-            Err(AsmFault::OutOfRange)
-        }
-        Some(number) => Ok(Place::Bytes(number as i32)),
+        Some(number) if is_reached(number, bound) => Ok(Place::Bytes(number as i32)),
+        Some(_) => Err(AsmFault::OutOfRange),
     }
 }
 
@@ -212,7 +225,8 @@ fn in_reach<'a>(number: Option<i64>, bound: i64) -> Result<Place<'a>, AsmFault>
 pub fn target(operand: Option<&[u8]>, bound: i64) -> Result<Place<'_>, AsmFault>
     requires low { pos 0 ≤ℤ bound }
     requires high { bound <ℤ pos (2 ^ 31) }
-    ensures { Tells target_of result (target_at bound (option_copied operand.entry)) }
+    ensures place { Tells target_of result (target_at bound (option_copied operand.entry)) }
+    ensures reached { IfOk result (λ place. IsReached bound (target_of place)) }
 {
     match operand {
         Some(text) if is_name(text) => Ok(Place::Label(text)),
@@ -223,7 +237,8 @@ pub fn target(operand: Option<&[u8]>, bound: i64) -> Result<Place<'_>, AsmFault>
 
 /// A set of accesses, as a fence orders them.
 pub fn set(operand: Option<&[u8]>) -> Result<u32, AsmFault>
-    ensures { result ≡ set_at (option_copied operand.entry) }
+    ensures value { result ≡ set_at (option_copied operand.entry) }
+    ensures small { IfOk result (λ set. set < 2 ^ 4) }
 {
     let Some(text) = operand else {
         return Err(AsmFault::BadOperand);

@@ -1,14 +1,15 @@
 //! The operands of each mnemonic: a function for each row of the manual's assembly syntax, and for
 //! each pseudoinstruction.
 
-ghost use Rattle.std.specs.Prelude.{◌≡◌, pos};
+ghost use Rattle.std.specs.Prelude.{◌≡◌, pos, IfOk};
 ghost use Rattle.std.specs.Option.{option_copied};
 ghost use Rattle.rv_decode.specs.Meaning.{reg_of};
 ghost use Rattle.rv_decode.specs.declared.instruction.Instr.TheVariants as instr;
 ghost use Rattle.rv_decode.specs.declared.instruction.ImmediateOp.TheVariants as immediate_op;
-ghost use Rattle.assembler.specs.Operands.{Tells, target_of};
+ghost use Rattle.assembler.specs.Operands.{Tells, target_of, IsReached};
+ghost use Rattle.rv_decode.specs.Fits.{Fits};
 ghost use Rattle.assembler.specs.declared.form.Form.TheVariants as form;
-ghost use Rattle.assembler.specs.Statements.{asked, made_of, jump_to, branch_to, alone, two_registers};
+ghost use Rattle.assembler.specs.Statements.{asked, made_of, MadeFits, jump_to, branch_to, alone, two_registers};
 
 use crate::faults::AsmFault;
 use crate::form::Form;
@@ -24,7 +25,9 @@ use rv_decode::{
 };
 
 fn jump_to(rd: Reg, place: Place<'_>) -> Statement<'_>
-    ensures { made_of result ≡ jump_to rd (target_of place.entry) }
+    requires { IsReached (pos 1048576) (target_of place) }
+    ensures made { made_of result ≡ jump_to rd (target_of place.entry) }
+    ensures fits { MadeFits (made_of result) }
 {
     match place {
         Place::Bytes(offset) => Statement::One(Instr::Jal { rd, offset }),
@@ -33,7 +36,9 @@ fn jump_to(rd: Reg, place: Place<'_>) -> Statement<'_>
 }
 
 fn branch_to(op: BranchOp, rs1: Reg, rs2: Reg, place: Place<'_>) -> Statement<'_>
-    ensures { made_of result ≡ branch_to op rs1 rs2 (target_of place.entry) }
+    requires { IsReached (pos 4096) (target_of place) }
+    ensures made { made_of result ≡ branch_to op rs1 rs2 (target_of place.entry) }
+    ensures fits { MadeFits (made_of result) }
 {
     match place {
         Place::Bytes(offset) => Statement::One(Instr::Branch {
@@ -53,7 +58,8 @@ fn branch_to(op: BranchOp, rs1: Reg, rs2: Reg, place: Place<'_>) -> Statement<'_
 
 #[tactic(auto, unfolding(crate::specs::Statements::statement_of))]
 fn lui<'a>(operands: &Operands<'a>) -> Result<Statement<'a>, AsmFault>
-    ensures { Tells made_of result (asked form.Lui operands.now) }
+    ensures made { Tells made_of result (asked form.Lui operands.now) }
+    ensures fits { IfOk result (λ statement. MadeFits (made_of statement)) }
 {
     let rd = register(operands.first)?;
     let upper = natural(operands.second, 0xF_FFFF)?;
@@ -63,7 +69,8 @@ fn lui<'a>(operands: &Operands<'a>) -> Result<Statement<'a>, AsmFault>
 
 #[tactic(auto, unfolding(crate::specs::Statements::statement_of))]
 fn auipc<'a>(operands: &Operands<'a>) -> Result<Statement<'a>, AsmFault>
-    ensures { Tells made_of result (asked form.Auipc operands.now) }
+    ensures made { Tells made_of result (asked form.Auipc operands.now) }
+    ensures fits { IfOk result (λ statement. MadeFits (made_of statement)) }
 {
     let rd = register(operands.first)?;
     let upper = natural(operands.second, 0xF_FFFF)?;
@@ -73,7 +80,8 @@ fn auipc<'a>(operands: &Operands<'a>) -> Result<Statement<'a>, AsmFault>
 
 #[tactic(auto, unfolding(crate::specs::Statements::statement_of))]
 fn jal<'a>(operands: &Operands<'a>) -> Result<Statement<'a>, AsmFault>
-    ensures { Tells made_of result (asked form.Jal operands.now) }
+    ensures made { Tells made_of result (asked form.Jal operands.now) }
+    ensures fits { IfOk result (λ statement. MadeFits (made_of statement)) }
 {
     let rd = register(operands.first)?;
     let to = target(operands.second, 0x10_0000)?;
@@ -83,7 +91,8 @@ fn jal<'a>(operands: &Operands<'a>) -> Result<Statement<'a>, AsmFault>
 
 #[tactic(auto, unfolding(crate::specs::Statements::statement_of))]
 fn jalr<'a>(operands: &Operands<'a>) -> Result<Statement<'a>, AsmFault>
-    ensures { Tells made_of result (asked form.Jalr operands.now) }
+    ensures made { Tells made_of result (asked form.Jalr operands.now) }
+    ensures fits { IfOk result (λ statement. MadeFits (made_of statement)) }
 {
     let rd = register(operands.first)?;
     if operands.third.is_none() {
@@ -99,7 +108,8 @@ fn jalr<'a>(operands: &Operands<'a>) -> Result<Statement<'a>, AsmFault>
 
 #[tactic(auto, unfolding(crate::specs::Statements::statement_of))]
 fn branch<'a>(op: BranchOp, operands: &Operands<'a>) -> Result<Statement<'a>, AsmFault>
-    ensures { Tells made_of result (asked (form.Branch op) operands.now) }
+    ensures made { Tells made_of result (asked (form.Branch op) operands.now) }
+    ensures fits { IfOk result (λ statement. MadeFits (made_of statement)) }
 {
     let rs1 = register(operands.first)?;
     let rs2 = register(operands.second)?;
@@ -110,7 +120,8 @@ fn branch<'a>(op: BranchOp, operands: &Operands<'a>) -> Result<Statement<'a>, As
 
 #[tactic(auto, unfolding(crate::specs::Statements::statement_of))]
 fn load<'a>(op: LoadOp, operands: &Operands<'a>) -> Result<Statement<'a>, AsmFault>
-    ensures { Tells made_of result (asked (form.Load op) operands.now) }
+    ensures made { Tells made_of result (asked (form.Load op) operands.now) }
+    ensures fits { IfOk result (λ statement. MadeFits (made_of statement)) }
 {
     let rd = register(operands.first)?;
     let rs1 = base(operands.second)?;
@@ -121,7 +132,8 @@ fn load<'a>(op: LoadOp, operands: &Operands<'a>) -> Result<Statement<'a>, AsmFau
 
 #[tactic(auto, unfolding(crate::specs::Statements::statement_of))]
 fn store<'a>(op: StoreOp, operands: &Operands<'a>) -> Result<Statement<'a>, AsmFault>
-    ensures { Tells made_of result (asked (form.Store op) operands.now) }
+    ensures made { Tells made_of result (asked (form.Store op) operands.now) }
+    ensures fits { IfOk result (λ statement. MadeFits (made_of statement)) }
 {
     let rs2 = register(operands.first)?;
     let rs1 = base(operands.second)?;
@@ -132,7 +144,8 @@ fn store<'a>(op: StoreOp, operands: &Operands<'a>) -> Result<Statement<'a>, AsmF
 
 #[tactic(auto, unfolding(crate::specs::Statements::statement_of))]
 fn immediate<'a>(op: ImmediateOp, operands: &Operands<'a>) -> Result<Statement<'a>, AsmFault>
-    ensures { Tells made_of result (asked (form.Immediate op) operands.now) }
+    ensures made { Tells made_of result (asked (form.Immediate op) operands.now) }
+    ensures fits { IfOk result (λ statement. MadeFits (made_of statement)) }
 {
     let rd = register(operands.first)?;
     let rs1 = register(operands.second)?;
@@ -143,7 +156,8 @@ fn immediate<'a>(op: ImmediateOp, operands: &Operands<'a>) -> Result<Statement<'
 
 #[tactic(auto, unfolding(crate::specs::Statements::statement_of))]
 fn shift<'a>(op: ShiftOp, operands: &Operands<'a>) -> Result<Statement<'a>, AsmFault>
-    ensures { Tells made_of result (asked (form.Shift op) operands.now) }
+    ensures made { Tells made_of result (asked (form.Shift op) operands.now) }
+    ensures fits { IfOk result (λ statement. MadeFits (made_of statement)) }
 {
     let rd = register(operands.first)?;
     let rs1 = register(operands.second)?;
@@ -154,7 +168,8 @@ fn shift<'a>(op: ShiftOp, operands: &Operands<'a>) -> Result<Statement<'a>, AsmF
 
 #[tactic(auto, unfolding(crate::specs::Statements::statement_of))]
 fn of_registers<'a>(op: RegisterOp, operands: &Operands<'a>) -> Result<Statement<'a>, AsmFault>
-    ensures { Tells made_of result (asked (form.Register op) operands.now) }
+    ensures made { Tells made_of result (asked (form.Register op) operands.now) }
+    ensures fits { IfOk result (λ statement. MadeFits (made_of statement)) }
 {
     let rd = register(operands.first)?;
     let rs1 = register(operands.second)?;
@@ -165,7 +180,8 @@ fn of_registers<'a>(op: RegisterOp, operands: &Operands<'a>) -> Result<Statement
 
 #[tactic(auto, unfolding(crate::specs::Statements::statement_of))]
 fn fence<'a>(operands: &Operands<'a>) -> Result<Statement<'a>, AsmFault>
-    ensures { Tells made_of result (asked form.Fence operands.now) }
+    ensures made { Tells made_of result (asked form.Fence operands.now) }
+    ensures fits { IfOk result (λ statement. MadeFits (made_of statement)) }
 {
     if operands.first.is_none() {
         return Ok(Statement::One(Instr::Fence { pred: 15, succ: 15 }));
@@ -178,7 +194,8 @@ fn fence<'a>(operands: &Operands<'a>) -> Result<Statement<'a>, AsmFault>
 
 #[tactic(auto, unfolding(crate::specs::Statements::statement_of))]
 fn amo<'a>(op: AmoOp, aq: bool, rl: bool, operands: &Operands<'a>) -> Result<Statement<'a>, AsmFault>
-    ensures { Tells made_of result (asked (form.Amo op aq rl) operands.now) }
+    ensures made { Tells made_of result (asked (form.Amo op aq rl) operands.now) }
+    ensures fits { IfOk result (λ statement. MadeFits (made_of statement)) }
 {
     let rd = register(operands.first)?;
     let rs2 = register(operands.second)?;
@@ -190,7 +207,8 @@ fn amo<'a>(op: AmoOp, aq: bool, rl: bool, operands: &Operands<'a>) -> Result<Sta
 
 #[tactic(auto, unfolding(crate::specs::Statements::statement_of))]
 fn branch_zero<'a>(op: BranchOp, operands: &Operands<'a>) -> Result<Statement<'a>, AsmFault>
-    ensures { Tells made_of result (asked (form.BranchZero op) operands.now) }
+    ensures made { Tells made_of result (asked (form.BranchZero op) operands.now) }
+    ensures fits { IfOk result (λ statement. MadeFits (made_of statement)) }
 {
     let rs1 = register(operands.first)?;
     let to = target(operands.second, 0x1000)?;
@@ -200,7 +218,8 @@ fn branch_zero<'a>(op: BranchOp, operands: &Operands<'a>) -> Result<Statement<'a
 
 #[tactic(auto, unfolding(crate::specs::Statements::statement_of))]
 fn jump<'a>(operands: &Operands<'a>) -> Result<Statement<'a>, AsmFault>
-    ensures { Tells made_of result (asked form.Jump operands.now) }
+    ensures made { Tells made_of result (asked form.Jump operands.now) }
+    ensures fits { IfOk result (λ statement. MadeFits (made_of statement)) }
 {
     let to = target(operands.first, 0x10_0000)?;
     nothing(operands.second)?;
@@ -209,7 +228,9 @@ fn jump<'a>(operands: &Operands<'a>) -> Result<Statement<'a>, AsmFault>
 
 /// An instruction without operands.
 fn alone<'a>(instr: Instr, operands: &Operands<'a>) -> Result<Statement<'a>, AsmFault>
-    ensures { Tells made_of result (alone instr (option_copied operands.now.first)) }
+    requires { Fits instr }
+    ensures made { Tells made_of result (alone instr (option_copied operands.now.first)) }
+    ensures fits { IfOk result (λ statement. MadeFits (made_of statement)) }
 {
     nothing(operands.first)?;
     Ok(Statement::One(instr))
@@ -232,7 +253,8 @@ fn pair(operands: &Operands<'_>) -> Result<TwoRegisters, AsmFault>
 
 #[tactic(auto, unfolding(crate::specs::Statements::statement_of))]
 fn load_immediate<'a>(operands: &Operands<'a>) -> Result<Statement<'a>, AsmFault>
-    ensures { Tells made_of result (asked form.LoadImmediate operands.now) }
+    ensures made { Tells made_of result (asked form.LoadImmediate operands.now) }
+    ensures fits { IfOk result (λ statement. MadeFits (made_of statement)) }
 {
     let rd = register(operands.first)?;
     let number = number_from(operands.second, -0x8000_0000, 0xFFFF_FFFF)?;
@@ -243,7 +265,8 @@ fn load_immediate<'a>(operands: &Operands<'a>) -> Result<Statement<'a>, AsmFault
 
 #[tactic(auto, unfolding(crate::specs::Statements::statement_of))]
 fn moved<'a>(operands: &Operands<'a>) -> Result<Statement<'a>, AsmFault>
-    ensures { Tells made_of result (asked form.Move operands.now) }
+    ensures made { Tells made_of result (asked form.Move operands.now) }
+    ensures fits { IfOk result (λ statement. MadeFits (made_of statement)) }
 {
     let TwoRegisters { rd, rs } = pair(operands)?;
     Ok(Statement::One(Instr::Immediate { op: ImmediateOp::Add, rd, rs1: rs, immediate: 0 }))
@@ -251,7 +274,8 @@ fn moved<'a>(operands: &Operands<'a>) -> Result<Statement<'a>, AsmFault>
 
 #[tactic(auto, unfolding(crate::specs::Statements::statement_of))]
 fn inverted<'a>(operands: &Operands<'a>) -> Result<Statement<'a>, AsmFault>
-    ensures { Tells made_of result (asked form.Invert operands.now) }
+    ensures made { Tells made_of result (asked form.Invert operands.now) }
+    ensures fits { IfOk result (λ statement. MadeFits (made_of statement)) }
 {
     let TwoRegisters { rd, rs } = pair(operands)?;
     Ok(Statement::One(Instr::Immediate { op: ImmediateOp::Xor, rd, rs1: rs, immediate: -1 }))
@@ -259,7 +283,8 @@ fn inverted<'a>(operands: &Operands<'a>) -> Result<Statement<'a>, AsmFault>
 
 #[tactic(auto, unfolding(crate::specs::Statements::statement_of))]
 fn negated<'a>(operands: &Operands<'a>) -> Result<Statement<'a>, AsmFault>
-    ensures { Tells made_of result (asked form.Negate operands.now) }
+    ensures made { Tells made_of result (asked form.Negate operands.now) }
+    ensures fits { IfOk result (λ statement. MadeFits (made_of statement)) }
 {
     let TwoRegisters { rd, rs } = pair(operands)?;
     Ok(Statement::One(Instr::Register { op: RegisterOp::Sub, rd, rs1: reg(0), rs2: rs }))
@@ -267,7 +292,8 @@ fn negated<'a>(operands: &Operands<'a>) -> Result<Statement<'a>, AsmFault>
 
 #[tactic(auto, unfolding(crate::specs::Statements::statement_of))]
 fn is_zero<'a>(operands: &Operands<'a>) -> Result<Statement<'a>, AsmFault>
-    ensures { Tells made_of result (asked form.IsZero operands.now) }
+    ensures made { Tells made_of result (asked form.IsZero operands.now) }
+    ensures fits { IfOk result (λ statement. MadeFits (made_of statement)) }
 {
     let TwoRegisters { rd, rs } = pair(operands)?;
     Ok(Statement::One(Instr::Immediate { op: ImmediateOp::SetLessUnsigned, rd, rs1: rs, immediate: 1 }))
@@ -275,7 +301,8 @@ fn is_zero<'a>(operands: &Operands<'a>) -> Result<Statement<'a>, AsmFault>
 
 #[tactic(auto, unfolding(crate::specs::Statements::statement_of))]
 fn is_not_zero<'a>(operands: &Operands<'a>) -> Result<Statement<'a>, AsmFault>
-    ensures { Tells made_of result (asked form.IsNotZero operands.now) }
+    ensures made { Tells made_of result (asked form.IsNotZero operands.now) }
+    ensures fits { IfOk result (λ statement. MadeFits (made_of statement)) }
 {
     let TwoRegisters { rd, rs } = pair(operands)?;
     Ok(Statement::One(Instr::Register { op: RegisterOp::SetLessUnsigned, rd, rs1: reg(0), rs2: rs }))
@@ -284,7 +311,8 @@ fn is_not_zero<'a>(operands: &Operands<'a>) -> Result<Statement<'a>, AsmFault>
 /// What the form makes of its operands, or the first fault of them from the left.
 #[tactic(auto, unfolding(crate::specs::Statements::statement_of))]
 pub fn statement<'a>(kind: Form, operands: &Operands<'a>) -> Result<Statement<'a>, AsmFault>
-    ensures { Tells made_of result (asked kind operands.now) }
+    ensures made { Tells made_of result (asked kind operands.now) }
+    ensures fits { IfOk result (λ statement. MadeFits (made_of statement)) }
 {
     match kind {
         Form::Lui => lui(operands),
@@ -316,13 +344,15 @@ pub fn statement<'a>(kind: Form, operands: &Operands<'a>) -> Result<Statement<'a
 }
 
 fn nop<'a>(operands: &Operands<'a>) -> Result<Statement<'a>, AsmFault>
-    ensures { Tells made_of result (alone (instr.Immediate immediate_op.Add (reg_of 0) (reg_of 0) (pos 0)) (option_copied operands.now.first)) }
+    ensures made { Tells made_of result (alone (instr.Immediate immediate_op.Add (reg_of 0) (reg_of 0) (pos 0)) (option_copied operands.now.first)) }
+    ensures fits { IfOk result (λ statement. MadeFits (made_of statement)) }
 {
     alone(Instr::Immediate { op: ImmediateOp::Add, rd: reg(0), rs1: reg(0), immediate: 0 }, operands)
 }
 
 fn returned<'a>(operands: &Operands<'a>) -> Result<Statement<'a>, AsmFault>
-    ensures { Tells made_of result (alone (instr.Jalr (reg_of 0) (reg_of 1) (pos 0)) (option_copied operands.now.first)) }
+    ensures made { Tells made_of result (alone (instr.Jalr (reg_of 0) (reg_of 1) (pos 0)) (option_copied operands.now.first)) }
+    ensures fits { IfOk result (λ statement. MadeFits (made_of statement)) }
 {
     alone(Instr::Jalr { rd: reg(0), rs1: reg(1), offset: 0 }, operands)
 }

@@ -1,6 +1,6 @@
 //! Names and what they stand for: registers, mnemonics and the sets of a fence.
 
-ghost use Rattle.std.specs.Prelude.{◌≡◌, find};
+ghost use Rattle.std.specs.Prelude.{◌≡◌, ◌<◌, ◌^◌, IfSome, find};
 ghost use Rattle.std.specs.Option.{option_copied};
 ghost use Rattle.rv_decode.specs.Meaning.{reg_of};
 ghost use Rattle.assembler.specs.Tables.{told, row_of};
@@ -72,9 +72,10 @@ pub fn form_named(text: &[u8]) -> Option<Form>
 }
 
 /// The number of the set of accesses, in the letters of a fence; `None` for other texts.
-#[tactic(auto, unfolding(crate::specs::Sets::set_named))]
+#[tactic(auto, using(crate::proofs::TableLaws::row_below), unfolding(crate::specs::Sets::set_named))]
 pub fn set_named(text: &[u8]) -> Option<u8>
-    ensures { result ≡ set_named text.now }
+    ensures value { result ≡ set_named text.now }
+    ensures small { IfSome result (λ set. set < 2 ^ 4) }
 {
     number_in(&SETS, text)
 }
