@@ -2,3 +2,4 @@ pub mod TableLaws
 pub mod CuttingLaws
 pub mod Magnitudes
 pub mod LineLaws
+pub mod PlaceLaws

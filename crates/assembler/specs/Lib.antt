@@ -7,3 +7,5 @@ pub mod Sets
 pub mod Operands
 pub mod Statements
 pub mod Lines
+pub mod Drafts
+pub mod Kept

@@ -6,10 +6,20 @@ pub mod faults;
 pub mod form;
 mod cutting;
 mod operands;
+mod assembling;
+mod draft;
+mod kept;
 mod line;
 mod loading;
+mod places;
+mod placing;
 mod shapes;
 mod statement;
 mod tables;
 
 pub use faults::{AsmError, AsmFault};
+pub use assembling::assemble;
+pub use draft::Draft;
+
+#[cfg(test)]
+mod tests;

@@ -1,0 +1,21 @@
+//! Whole texts.
+
+use crate::draft::Draft;
+use crate::faults::AsmError;
+use std::alloc::Global;
+use texts::first_line;
+
+/// The words of an assembly text: a [`Draft`] of its lines. A line ends with LF, CR LF or the end of
+/// the text, and a last LF begins no further line.
+///
+/// The fault is the first one, in the order of [`Draft::line`] for all lines from the top and then
+/// that of [`Draft::finish`].
+pub fn assemble(alloc: Global, text: &str) -> Result<Vec<u32>, AsmError> {
+    let mut draft = Draft::new(alloc);
+    let mut rest = text.as_bytes();
+    while let Some((line, after)) = first_line(rest) {
+        draft.read(line)?;
+        rest = after;
+    }
+    draft.finish()
+}
