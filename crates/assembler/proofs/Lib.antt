@@ -3,3 +3,4 @@ pub mod CuttingLaws
 pub mod Magnitudes
 pub mod LineLaws
 pub mod PlaceLaws
+pub mod DraftLaws

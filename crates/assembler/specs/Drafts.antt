@@ -1,6 +1,6 @@
 -- A text, told line by line, and the first fault of it: those of the lines from the top, then a text
 -- that is too long, and then the places of labels, from the top again.
-use Rattle.std.specs.Prelude.{ℕ, ℤ, pos, neg_ℤ, ◌-ℤ◌, int_lt, ◌+◌, ◌*◌, ◌^◌, ◌≡◌, Bool, false, ◌||◌, not, nat_lt, List, [], ◌∷◌, ◌++◌, length, map, Option, Some, None, option_map, Result, Ok, Err, if◌then◌else◌, IfSome}
+use Rattle.std.specs.Prelude.{ℕ, ℤ, pos, ◌-ℤ◌, ◌+◌, ◌*◌, ◌^◌, ◌≡◌, Bool, false, nat_lt, List, [], ◌∷◌, ◌++◌, length, map, Option, Some, None, option_map, Result, Ok, Err, if◌then◌else◌, IfSome}
 use Rattle.std.specs.Str.{bytes_eq}
 use Rattle.std.specs.Option.{is_some}
 use Rattle.std.specs.Str.Lines.{lines}
@@ -10,6 +10,7 @@ use Rattle.rv_decode.specs.declared.instruction.Instr.TheVariants as instr
 use Rattle.assembler.specs.declared.faults.AsmFault.{AsmFault}
 use Rattle.assembler.specs.declared.faults.AsmFault.TheVariants.{OutOfRange, NoSuchLabel, LabelTwice, TooLong}
 use Rattle.assembler.specs.Faults.{Refusal}
+use Rattle.assembler.specs.Operands.{is_reached}
 use Rattle.assembler.specs.Statements.{Made, one, two, jump, branch, MadeFits}
 use Rattle.assembler.specs.Lines.{label_of, statement_text, made_in}
 
@@ -80,7 +81,7 @@ in_bytes at place = pos (4 * place) -ℤ pos (4 * at)
 -- from the instruction at to the label, in bytes
 abbrev pub distance : ℤ → ℕ → Option ℕ → Result ℤ AsmFault
 distance bound at None = Err NoSuchLabel
-distance bound at (Some place) = if int_lt (in_bytes at place) (neg_ℤ bound) || not (int_lt (in_bytes at place) bound) then Err OutOfRange else Ok (in_bytes at place)
+distance bound at (Some place) = if is_reached bound (in_bytes at place) then Ok (in_bytes at place) else Err OutOfRange
 
 -- the instructions of a statement at a place, where found tells the labels' places
 abbrev pub placed : (List ℕ → Option ℕ) → ℕ → Option Made → Result (List (Option Instr)) AsmFault
@@ -132,6 +133,6 @@ AllFit [] = Unit {0}
 AllFit (line ∷ rest) = Fitting line.made × AllFit rest
 
 pub record IsKept (found : List ℕ → Option ℕ) (words : ℕ) (all : List Line) : Type 0 where
-  places : (name : List ℕ) → found name ≡ place_of all name
-  size : words ≡ words_of all
-  fits : AllFit all
+  pub places : (name : List ℕ) → found name ≡ place_of all name
+  pub size : words ≡ words_of all
+  pub fits : AllFit all

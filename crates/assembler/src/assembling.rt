@@ -1,5 +1,11 @@
 //! Whole texts.
 
+ghost use Rattle.std.specs.Prelude.{map};
+ghost use Rattle.rv_decode.specs.Meaning.{meaning};
+ghost use Rattle.texts.specs.Results.{Gives};
+ghost use Rattle.assembler.specs.Faults.{refusal_of};
+ghost use Rattle.assembler.specs.Drafts.{assembled};
+
 use crate::draft::Draft;
 use crate::faults::AsmError;
 use std::alloc::Global;
@@ -10,7 +16,9 @@ use texts::first_line;
 ///
 /// The fault is the first one, in the order of [`Draft::line`] for all lines from the top and then
 /// that of [`Draft::finish`].
-pub fn assemble(alloc: Global, text: &str) -> Result<Vec<u32>, AsmError> {
+pub fn assemble(alloc: Global, text: &str) -> Result<Vec<u32>, AsmError>
+    ensures exact { Gives refusal_of (λ words. map meaning words.items) result (assembled text.now) }
+{
     let mut draft = Draft::new(alloc);
     let mut rest = text.as_bytes();
     while let Some((line, after)) = first_line(rest) {

@@ -1,20 +1,29 @@
 //! A text, told line by line.
 
-ghost use Rattle.std.specs.Prelude.{◌≡◌, List, [], ◌++◌, length, map, OnErr, IfOk};
+ghost use Rattle.std.specs.Prelude.{◌≡◌, List, [], ◌∷◌, ◌++◌, ◌<◌, ◌^◌, false, length, map, vec_len, vec_capacity, OnOk, OnErr};
 ghost use Rattle.rv_decode.specs.Meaning.{meaning};
 ghost use Rattle.texts.specs.Results.{Gives};
 ghost use Rattle.assembler.specs.Faults.{refusal_of};
-ghost use Rattle.assembler.specs.Drafts.{Line, IsKept, words_of, told, finished};
+ghost use Rattle.assembler.specs.Drafts.{Line, IsKept, Fitting, is_twice, words_of, told, finished};
+ghost use Rattle.assembler.specs.Lines.{made_by};
+ghost use Rattle.std.specs.Option.{option_copied};
 ghost use Rattle.assembler.specs.Kept.{place_in as found, line_of};
 
 use crate::faults::{AsmError, AsmFault};
 use crate::kept::{KeptLine, keep_name, keep_statement, size};
 use crate::line::{Line, parts, statement_in};
 use crate::placing::{MAX_WORDS, first_over, place_all};
-use crate::places::{Places, define, no_places, place_in};
+use crate::places::{Places, define_label, no_places, place_in};
 use crate::statement::Statement;
 use std::alloc::{AllocError, Global};
 use std::marker::Model;
+
+fn append(lines: &mut Vec<KeptLine>, line: KeptLine)
+    requires { vec_len lines.old < vec_capacity lines.old }
+    ensures { lines.new.items ≡ lines.old.items ++ line ∷ [] }
+{
+    lines.push(line).unwrap();
+}
 
 /// The lines of an assembly text so far.
 #[derive(Drop)]
@@ -62,11 +71,12 @@ impl Draft {
         self.read(line.as_bytes())
     }
 
+    #[tactic(auto, using(crate::proofs::DraftLaws::told_twice, crate::proofs::DraftLaws::told_added, crate::proofs::DraftLaws::told_faulty))]
     pub(crate) fn read(&mut self, line: &[u8]) -> Result<(), AsmError>
         ensures exact { Gives refusal_of (λ _. self.new) result (told self.old line.now) }
         ensures kept { OnErr result (self.new ≡ self.old) }
     {
-        let line_number = self.lines.len() + 1;
+        let line_number = self.count() + 1;
         let Line { label, statement } = parts(line);
         if self.defines(label) {
             return Err(AsmError::Refused {
@@ -83,7 +93,17 @@ impl Draft {
         }
     }
 
-    fn defines(&self, label: Option<&[u8]>) -> bool {
+    /// How many lines there are so far.
+    fn count(&self) -> usize
+        ensures count { result ≡ length self.now }
+        ensures room { result < 2 ^ 63 }
+    {
+        self.lines.len()
+    }
+
+    fn defines(&self, label: Option<&[u8]>) -> bool
+        ensures { result ≡ is_twice self.now (option_copied label.entry) }
+    {
         match label {
             Some(name) => place_in(&self.places, name).is_some(),
             None => false,
@@ -94,19 +114,22 @@ impl Draft {
         &mut self,
         label: Option<&[u8]>,
         statement: Option<Statement<'_>>,
-    ) -> Result<(), AllocError> {
+    ) -> Result<(), AllocError>
+        requires fresh { is_twice self.old (option_copied label) ≡ false }
+        requires fits { Fitting (made_by statement) }
+        ensures added { OnOk result (self.new ≡ self.old ++ (record { label = option_copied label.entry; made = made_by statement.entry }) ∷ []) }
+        ensures kept { OnErr result (self.new ≡ self.old) }
+    {
         let alloc = *self.lines.allocator();
         let line = KeptLine {
             label: keep_name(alloc, label)?,
             statement: keep_statement(alloc, statement)?,
         };
-        let words = self.words + size(&line.statement);
         self.lines.reserve(1)?;
-        if let Some(name) = label {
-            define(&mut self.places, Vec::from_slice(alloc, name)?, self.words)?;
-        }
+        let words = self.words + size(&line.statement);
+        define_label(&mut self.places, alloc, label, self.words)?;
         self.words = words;
-        self.lines.push(line)?;
+        append(&mut self.lines, line);
         Ok(())
     }
 

@@ -1,6 +1,6 @@
 //! Lines as a draft keeps them.
 
-ghost use Rattle.std.specs.Prelude.{◌≡◌, IfOk};
+ghost use Rattle.std.specs.Prelude.{◌≡◌, ◌≤◌, IfOk};
 ghost use Rattle.std.specs.Option.{option_copied};
 ghost use Rattle.assembler.specs.Statements.{made_of};
 ghost use Rattle.assembler.specs.Lines.{made_by};
@@ -82,7 +82,8 @@ pub fn keep_name(alloc: Global, name: Option<&[u8]>) -> Result<Option<Vec<u8>>, 
 
 /// How many words the statement makes.
 pub fn size(statement: &Option<Kept>) -> usize
-    ensures { result ≡ size_of (statement_of_kept statement.now) }
+    ensures value { result ≡ size_of (statement_of_kept statement.now) }
+    ensures small { result ≤ 2 }
 {
     match statement {
         None => 0,

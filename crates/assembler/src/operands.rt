@@ -199,7 +199,8 @@ pub fn no_offset(operand: Option<&[u8]>) -> Result<i64, AsmFault>
     offset(operand, 0, 0)
 }
 
-fn is_reached(number: i64, bound: i64) -> bool
+/// Whether the number of bytes is even, and from `-bound` on and below `bound`.
+pub fn is_reached(number: i64, bound: i64) -> bool
     requires low { pos 0 ≤ℤ bound }
     requires high { bound <ℤ pos (2 ^ 31) }
     ensures value { result ≡ is_reached bound number }

@@ -1,0 +1,22 @@
+use Rattle.std.proofs.Common.{◌≡◌, ◌<◌, ◌≤◌, ℕ, List, map, sym, ap, subst, ◌∙◌, arith}
+use Rattle.std.specs.Prelude.{Err}
+use Rattle.texts.specs.Results.{Gives}
+use Rattle.rv_decode.specs.Meaning.{meaning}
+use Rattle.assembler.specs.Faults.{refusal_of}
+use Rattle.assembler.specs.Kept.{line_of, place_in}
+use Rattle.assembler.specs.Drafts.{Line, finished, over, words_of}
+use Rattle.assembler.proofs.DraftLaws.{place_within, finished_long, finished_short}
+use Rattle.assembler.proofs.draft.Draft.finish.Goals as goal
+
+pub returns-then-self-gt-MAX_WORDS : goal.returns-then-self-gt-MAX_WORDS
+returns-then-self-gt-MAX_WORDS c =
+    rw (c.first_over.ensures, c.deref.ensures.value, ← c.self.view_is)
+    (finished_long (map line_of c.self.inside.lines.items) (omega (arith, c.self.invariant.size)))
+
+pub place_all-requires-clause-near : goal.place_all-requires-clause-near
+place_all-requires-clause-near c = λ name. place_within (map line_of c.self.inside.lines.items) name 4096 (omega (arith, c.self.invariant.size)) _ (c.self.invariant.places name)
+
+pub returns : goal.returns
+returns c =
+    rw (← c.self.view_is, ← finished_short (place_in c.self.inside.places) (map line_of c.self.inside.lines.items) (omega (arith, c.self.invariant.size)) c.self.invariant.places, ← c.deref-2.ensures.value)
+    c.place_all.ensures
