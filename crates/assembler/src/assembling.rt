@@ -16,6 +16,7 @@ use texts::first_line;
 ///
 /// The fault is the first one, in the order of [`Draft::line`] for all lines from the top and then
 /// that of [`Draft::finish`].
+#[tactic(auto, unfolding(crate::specs::Drafts::assembled))]
 pub fn assemble(alloc: Global, text: &str) -> Result<Vec<u32>, AsmError>
     ensures exact { Gives refusal_of (λ words. map meaning words.items) result (assembled text.now) }
 {
