@@ -9,3 +9,4 @@ pub mod Statements
 pub mod Lines
 pub mod Drafts
 pub mod Kept
+pub mod Writing

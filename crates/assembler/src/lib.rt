@@ -5,6 +5,7 @@
 pub mod faults;
 pub mod form;
 mod cutting;
+mod naming;
 mod operands;
 mod assembling;
 mod draft;
@@ -16,10 +17,12 @@ mod placing;
 mod shapes;
 mod statement;
 mod tables;
+mod writer;
 
 pub use faults::{AsmError, AsmFault};
 pub use assembling::assemble;
 pub use draft::Draft;
+pub use writer::write_instr;
 
 #[cfg(test)]
 mod tests;
