@@ -4,3 +4,4 @@ pub mod Magnitudes
 pub mod LineLaws
 pub mod PlaceLaws
 pub mod DraftLaws
+pub mod WordLaws

@@ -5,6 +5,8 @@ use Rattle.std.specs.Str.{bytes_eq}
 use Rattle.std.specs.Option.{is_some}
 use Rattle.std.specs.Str.Lines.{lines}
 use Rattle.texts.specs.Results.{◌>>=◌}
+use Rattle.rv_decode.specs.Meaning.{meaning}
+use Rattle.rv_decode.specs.Fits.{HasPlainFence}
 use Rattle.rv_decode.specs.declared.instruction.Instr.{Instr}
 use Rattle.rv_decode.specs.declared.instruction.Instr.TheVariants as instr
 use Rattle.assembler.specs.declared.faults.AsmFault.{AsmFault}
@@ -136,3 +138,13 @@ pub record IsKept (found : List ℕ → Option ℕ) (words : ℕ) (all : List Li
   pub places : (name : List ℕ) → found name ≡ place_of all name
   pub size : words ≡ words_of all
   pub fits : AllFit all
+
+-- ---- words
+
+-- the fields of the word that decide nothing are zero
+abbrev pub IsPlain : ℕ → Type 0
+IsPlain word = IfSome (meaning word) (HasPlainFence word)
+
+abbrev pub AllPlain : List ℕ → Type 0
+AllPlain [] = Unit {0}
+AllPlain (word ∷ rest) = IsPlain word × AllPlain rest

@@ -1,10 +1,10 @@
 //! Whole texts.
 
-ghost use Rattle.std.specs.Prelude.{map};
+ghost use Rattle.std.specs.Prelude.{map, IfOk};
 ghost use Rattle.rv_decode.specs.Meaning.{meaning};
 ghost use Rattle.texts.specs.Results.{Gives};
 ghost use Rattle.assembler.specs.Faults.{refusal_of};
-ghost use Rattle.assembler.specs.Drafts.{assembled};
+ghost use Rattle.assembler.specs.Drafts.{assembled, AllPlain};
 
 use crate::draft::Draft;
 use crate::faults::AsmError;
@@ -19,6 +19,7 @@ use texts::first_line;
 #[tactic(auto, unfolding(crate::specs::Drafts::assembled))]
 pub fn assemble(alloc: Global, text: &str) -> Result<Vec<u32>, AsmError>
     ensures exact { Gives refusal_of (λ words. map meaning words.items) result (assembled text.now) }
+    ensures plain { IfOk result (λ words. AllPlain words.items) }
 {
     let mut draft = Draft::new(alloc);
     let mut rest = text.as_bytes();

@@ -1,10 +1,10 @@
 //! A text, told line by line.
 
-ghost use Rattle.std.specs.Prelude.{◌≡◌, List, [], ◌∷◌, ◌++◌, ◌<◌, ◌^◌, false, length, map, vec_len, vec_capacity, OnOk, OnErr};
+ghost use Rattle.std.specs.Prelude.{◌≡◌, List, [], ◌∷◌, ◌++◌, ◌<◌, ◌^◌, false, length, map, vec_len, vec_capacity, IfOk, OnOk, OnErr};
 ghost use Rattle.rv_decode.specs.Meaning.{meaning};
 ghost use Rattle.texts.specs.Results.{Gives};
 ghost use Rattle.assembler.specs.Faults.{refusal_of};
-ghost use Rattle.assembler.specs.Drafts.{Line, IsKept, Fitting, is_twice, words_of, told, finished};
+ghost use Rattle.assembler.specs.Drafts.{Line, IsKept, Fitting, is_twice, words_of, told, finished, AllPlain};
 ghost use Rattle.assembler.specs.Lines.{made_by};
 ghost use Rattle.std.specs.Option.{option_copied};
 ghost use Rattle.assembler.specs.Kept.{place_in as found, line_of};
@@ -138,7 +138,8 @@ impl Draft {
     /// The faults that are left are `TooLong`, at the first line whose words go past 4,096, and then
     /// line by line from the top `NoSuchLabel`, and `OutOfRange` where a label is too far away.
     pub fn finish(self) -> Result<Vec<u32>, AsmError>
-        ensures { Gives refusal_of (λ words. map meaning words.items) result (finished self) }
+        ensures exact { Gives refusal_of (λ words. map meaning words.items) result (finished self) }
+        ensures plain { IfOk result (λ words. AllPlain words.items) }
     {
         if self.words > MAX_WORDS {
             return Err(AsmError::Refused {

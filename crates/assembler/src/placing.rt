@@ -4,7 +4,8 @@ ghost use Rattle.std.specs.Prelude.{◌≡◌, ◌≤◌, ◌<◌, ℕ, pos, ◌
 ghost use Rattle.rv_decode.specs.Meaning.{meaning};
 ghost use Rattle.texts.specs.Results.{Gives};
 ghost use Rattle.assembler.specs.Faults.{refusal_of};
-ghost use Rattle.assembler.specs.Drafts.{in_bytes, distance, placed, onto, at_line, all_placed, over, words_of, size_of, AllFit};
+ghost use Rattle.assembler.specs.Drafts.{in_bytes, distance, placed, onto, at_line, all_placed, over, words_of, size_of, AllFit, IsPlain, AllPlain};
+ghost use Rattle.rv_decode.specs.Fits.{Fits};
 ghost use Rattle.assembler.specs.Statements.{MadeFits};
 ghost use Rattle.assembler.specs.Operands.{IsReached, bytes};
 ghost use Rattle.assembler.specs.Kept.{place_in as found, kept_made, line_of};
@@ -62,6 +63,17 @@ fn distance_to(places: &Places, label: &[u8], word: usize, bound: i64) -> Result
     }
 }
 
+/// The word of the instruction, with zeros in the fields that decide nothing.
+#[tactic(auto, using(crate::proofs::WordLaws::plain_of))]
+fn word_of(instr: &Instr) -> u32
+    requires { Fits instr.now }
+    ensures means { meaning result ≡ Some instr.now }
+    ensures plain { IsPlain result }
+{
+    encode(instr)
+}
+
+#[tactic(auto, using(crate::proofs::WordLaws::all_plain_more))]
 fn push_words(
     words: &mut Vec<u32>,
     places: &Places,
@@ -72,17 +84,18 @@ fn push_words(
     requires word { vec_len words.old ≤ 4096 }
     requires fits { MadeFits (kept_made statement.now) }
     ensures exact { Gives refusal_of (λ _. map meaning words.new.items) result (onto (map meaning words.old.items) (at_line line (placed (found places.now) (vec_len words.old) (Some (kept_made statement.now))))) }
+    ensures plain { OnOk result (AllPlain words.old.items → AllPlain words.new.items) }
     ensures len { OnOk result (vec_len words.new ≡ vec_len words.old + size_of (Some (kept_made statement.now))) }
 {
     let word = words.len();
     match statement {
-        Kept::One(instr) => words.push(encode(instr))?,
+        Kept::One(instr) => words.push(word_of(instr))?,
         Kept::Two(first, second) => {
-            words.push(encode(first))?;
-            words.push(encode(second))?;
+            words.push(word_of(first))?;
+            words.push(word_of(second))?;
         }
         Kept::Jump { rd, label } => match distance_to(places, label, word, 0x10_0000) {
-            Ok(offset) => words.push(encode(&Instr::Jal { rd: *rd, offset }))?,
+            Ok(offset) => words.push(word_of(&Instr::Jal { rd: *rd, offset }))?,
             Err(fault) => return Err(AsmError::Refused { fault, line }),
         },
         Kept::Branch {
@@ -91,7 +104,7 @@ fn push_words(
             rs2,
             label,
         } => match distance_to(places, label, word, 0x1000) {
-            Ok(offset) => words.push(encode(&Instr::Branch {
+            Ok(offset) => words.push(word_of(&Instr::Branch {
                 op: *op,
                 rs1: *rs1,
                 rs2: *rs2,
@@ -108,7 +121,8 @@ pub fn place_all(alloc: Global, places: &Places, lines: &[KeptLine]) -> Result<V
     requires near { (name : List ℕ) → IfSome (found places.now name) (λ place. place ≤ 4096) }
     requires few { words_of (map line_of lines.now) ≤ 4096 }
     requires fits { AllFit (map line_of lines.now) }
-    ensures { Gives refusal_of (λ words. map meaning words.items) result (all_placed (found places.now) 0 1 (map line_of lines.now)) }
+    ensures exact { Gives refusal_of (λ words. map meaning words.items) result (all_placed (found places.now) 0 1 (map line_of lines.now)) }
+    ensures plain { IfOk result (λ words. AllPlain words.items) }
 {
     let mut words = Vec::new(alloc);
     for (index, line) in lines.iter().enumerate() {
