@@ -1,4 +1,13 @@
-//! Assembly texts of RV32I and the word AMOs, to and from instruction words.
+//! Assembly texts of RV32I and the word AMOs, to words, and instructions to texts.
+//!
+//! The contract: [`assemble`] answers the words of exactly the instructions that the text stands for
+//! by the definitions of `specs/` (a line's parts in `Lines`, the mnemonics in `Mnemonics`, a case
+//! for each row of the manual's assembly syntax in `Statements`, labels in `Drafts`), or the first
+//! fault with its line, in the order that [`Draft::line`] and [`Draft::finish`] tell. A [`Draft`] is
+//! the same, told line by line. [`write_instr`] appends the text of `Writing`.
+//! That the text of an instruction is assembled to its one word again is tested, and proved nowhere;
+//! nor is there a relation beside the definitions, which are functions.
+//! This crate reads no file, relaxes no jump, and knows no section, directive or macro.
 
 #![tactic(auto)]
 
