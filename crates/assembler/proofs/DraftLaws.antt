@@ -1,19 +1,17 @@
 -- One more line of a draft, and what is known of all of them.
-use Rattle.std.proofs.Common.{◌≡◌, ℕ, ◌+◌, ◌*◌, ◌<◌, ◌≤◌, Bool, true, false, cond, List, [], ◌∷◌, ◌++◌, length, map, Option, Some, None, Result, Ok, Err, refl, sym, ap, subst, ◌∙◌, inl, inr, arith}
+use Rattle.std.proofs.Common.{◌≡◌, ℕ, ◌+◌, ◌*◌, ◌<◌, ◌≤◌, true, false, cond, List, [], ◌∷◌, ◌++◌, length, map, Option, Some, None, Result, Ok, Err, refl, sym, ap, subst, ◌∙◌, inl, inr, arith}
 use Rattle.std.specs.Prelude.{IfSome}
-use Rattle.std.specs.Str.{bytes_eq}
 use Rattle.std.specs.Option.{is_some}
 use Rattle.std.proofs.lemmas.Bool.{cases_Bool, lt-ltb, le-ltb}
 use Rattle.assembler.specs.declared.kept.KeptLine.{KeptLine}
 use Rattle.assembler.specs.Kept.{line_of}
 use Rattle.std.proofs.lemmas.Slice.Eq.{bytes_eq-Decides}
-use Rattle.rv_decode.specs.declared.instruction.Instr.{Instr}
 use Rattle.assembler.specs.declared.faults.AsmFault.{AsmFault}
 use Rattle.assembler.specs.declared.faults.AsmFault.TheVariants.{LabelTwice, TooLong}
 use Rattle.assembler.specs.Faults.{Refusal}
 use Rattle.assembler.specs.Statements.{Made, one, two, jump, branch}
 use Rattle.assembler.specs.Lines.{label_of, statement_text, made_in}
-use Rattle.assembler.specs.Drafts.{Line, size_of, words_of, is_label, place_from, place_of, is_twice, line_below, told, at_line, distance, placed, onto, all_placed, Fitting, AllFit, IsKept, over, finished}
+use Rattle.assembler.specs.Drafts.{Line, size_of, words_of, is_label, place_from, place_of, is_twice, line_below, told, placed, all_placed, Fitting, AllFit, IsKept, over, finished}
 
 abbrev line_fault : AsmFault → ℕ → Result (List Line) Refusal
 line_fault fault line = Err (record { fault = fault; line = line })
@@ -104,7 +102,7 @@ pub kept_more : (found after : List ℕ → Option ℕ) (words : ℕ) (all : Lis
 kept_more found after words all line kept defined fresh fits = record {
   places = λ name. defined name ∙ rw (kept.size, kept.places name) (place_of-push all line name fresh);
   size = rw kept.size (sym (words_of-push all line));
-  fits = AllFit-push all line kept.fits fits
+  fits = AllFit-push all line kept.fits fits;
 }
 
 pub kept_same : (found after : List ℕ → Option ℕ) (words : ℕ) (all : List Line) → IsKept found words all → ((name : List ℕ) → after name ≡ found name) → IsKept after words all

@@ -1,7 +1,6 @@
 -- A line's parts: what stands before a comment is a label, or none, and a statement, or none.
-use Rattle.std.specs.Prelude.{ℕ, ◌==◌, Bool, List, [], ◌∷◌, length, map, Option, Some, None, option_map, Result, Ok, Err, if◌then◌else◌}
+use Rattle.std.specs.Prelude.{ℕ, ◌==◌, List, [], ◌∷◌, length, map, Option, Some, None, Result, Ok, Err, if◌then◌else◌}
 use Rattle.std.specs.List.{slice_split}
-use Rattle.std.specs.Option.{option_copied}
 use Rattle.texts.specs.Pieces.{is_blank}
 use Rattle.texts.specs.Results.{◌>>=◌}
 use Rattle.assembler.specs.declared.faults.AsmFault.{AsmFault}

@@ -1,6 +1,6 @@
 -- What a statement makes of its operands: a case for each row of the manual's assembly syntax, and for
 -- each pseudoinstruction. Operands are judged from the left, and one too many where it is met.
-use Rattle.std.specs.Prelude.{◌≡◌, ℕ, ℤ, pos, negsuc, ◌+ℤ◌, ◌-ℤ◌, int_lt, unsigned_abs, ◌==◌, ◌^◌, Bool, true, false, ◌&&◌, not, List, Option, Some, None, Result, Ok, Err, if◌then◌else◌}
+use Rattle.std.specs.Prelude.{ℕ, ℤ, pos, negsuc, ◌+ℤ◌, ◌-ℤ◌, int_lt, unsigned_abs, ◌==◌, ◌^◌, Bool, ◌&&◌, not, List, Option, Some, None, Result, Ok, if◌then◌else◌}
 use Rattle.std.specs.Int.{int_rem_euclid, int_div_euclid}
 use Rattle.std.specs.Option.{option_copied}
 use Rattle.texts.specs.Results.{◌>>=◌}

@@ -11,16 +11,16 @@
 
 #![tactic(auto)]
 
+mod assembling;
+mod cutting;
+mod draft;
 pub mod faults;
 pub mod form;
-mod cutting;
-mod naming;
-mod operands;
-mod assembling;
-mod draft;
 mod kept;
 mod line;
 mod loading;
+mod naming;
+mod operands;
 mod places;
 mod placing;
 mod shapes;
@@ -28,9 +28,9 @@ mod statement;
 mod tables;
 mod writer;
 
-pub use faults::{AsmError, AsmFault};
 pub use assembling::assemble;
 pub use draft::Draft;
+pub use faults::{AsmError, AsmFault};
 pub use writer::write_instr;
 
 #[cfg(test)]

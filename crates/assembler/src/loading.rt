@@ -62,13 +62,28 @@ pub fn loaded<'a>(rd: Reg, number: i64) -> Statement<'a>
     let op = ImmediateOp::Add;
     if is_short(number) {
         let immediate = number as i32;
-        return Statement::One(Instr::Immediate { op, rd, rs1: reg(0), immediate });
+        return Statement::One(Instr::Immediate {
+            op,
+            rd,
+            rs1: reg(0),
+            immediate,
+        });
     }
     let low = low_part(number);
-    let lui = Instr::Lui { rd, upper: high_part(number, low) };
+    let lui = Instr::Lui {
+        rd,
+        upper: high_part(number, low),
+    };
     if low.unsigned_abs() == 0 {
         return Statement::One(lui);
     }
-    Statement::Two(lui, Instr::Immediate { op, rd, rs1: rd, immediate: low })
+    Statement::Two(
+        lui,
+        Instr::Immediate {
+            op,
+            rd,
+            rs1: rd,
+            immediate: low,
+        },
+    )
 }
-

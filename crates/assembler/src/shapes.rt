@@ -20,9 +20,7 @@ use crate::operands::{
 };
 use crate::statement::{Operands, Statement};
 use crate::tables::reg;
-use rv_decode::{
-    AmoOp, BranchOp, ImmediateOp, Instr, LoadOp, Reg, RegisterOp, ShiftOp, StoreOp,
-};
+use rv_decode::{AmoOp, BranchOp, ImmediateOp, Instr, LoadOp, Reg, RegisterOp, ShiftOp, StoreOp};
 
 fn jump_to(rd: Reg, place: Place<'_>) -> Statement<'_>
     requires { IsReached (pos 1048576) (target_of place) }
@@ -127,7 +125,12 @@ fn load<'a>(op: LoadOp, operands: &Operands<'a>) -> Result<Statement<'a>, AsmFau
     let rs1 = base(operands.second)?;
     let offset = short_offset(operands.second)?;
     nothing(operands.third)?;
-    Ok(Statement::One(Instr::Load { op, rd, rs1, offset }))
+    Ok(Statement::One(Instr::Load {
+        op,
+        rd,
+        rs1,
+        offset,
+    }))
 }
 
 #[tactic(auto, unfolding(crate::specs::Statements::statement_of))]
@@ -139,7 +142,12 @@ fn store<'a>(op: StoreOp, operands: &Operands<'a>) -> Result<Statement<'a>, AsmF
     let rs1 = base(operands.second)?;
     let offset = short_offset(operands.second)?;
     nothing(operands.third)?;
-    Ok(Statement::One(Instr::Store { op, rs1, rs2, offset }))
+    Ok(Statement::One(Instr::Store {
+        op,
+        rs1,
+        rs2,
+        offset,
+    }))
 }
 
 #[tactic(auto, unfolding(crate::specs::Statements::statement_of))]
@@ -151,7 +159,12 @@ fn immediate<'a>(op: ImmediateOp, operands: &Operands<'a>) -> Result<Statement<'
     let rs1 = register(operands.second)?;
     let immediate = short_number(operands.third)?;
     nothing(operands.fourth)?;
-    Ok(Statement::One(Instr::Immediate { op, rd, rs1, immediate }))
+    Ok(Statement::One(Instr::Immediate {
+        op,
+        rd,
+        rs1,
+        immediate,
+    }))
 }
 
 #[tactic(auto, unfolding(crate::specs::Statements::statement_of))]
@@ -163,7 +176,12 @@ fn shift<'a>(op: ShiftOp, operands: &Operands<'a>) -> Result<Statement<'a>, AsmF
     let rs1 = register(operands.second)?;
     let amount = natural(operands.third, 31)?;
     nothing(operands.fourth)?;
-    Ok(Statement::One(Instr::Shift { op, rd, rs1, amount }))
+    Ok(Statement::One(Instr::Shift {
+        op,
+        rd,
+        rs1,
+        amount,
+    }))
 }
 
 #[tactic(auto, unfolding(crate::specs::Statements::statement_of))]
@@ -193,7 +211,12 @@ fn fence<'a>(operands: &Operands<'a>) -> Result<Statement<'a>, AsmFault>
 }
 
 #[tactic(auto, unfolding(crate::specs::Statements::statement_of))]
-fn amo<'a>(op: AmoOp, aq: bool, rl: bool, operands: &Operands<'a>) -> Result<Statement<'a>, AsmFault>
+fn amo<'a>(
+    op: AmoOp,
+    aq: bool,
+    rl: bool,
+    operands: &Operands<'a>,
+) -> Result<Statement<'a>, AsmFault>
     ensures made { Tells made_of result (asked (form.Amo op aq rl) operands.now) }
     ensures fits { IfOk result (λ statement. MadeFits (made_of statement)) }
 {
@@ -202,7 +225,14 @@ fn amo<'a>(op: AmoOp, aq: bool, rl: bool, operands: &Operands<'a>) -> Result<Sta
     let rs1 = base(operands.third)?;
     no_offset(operands.third)?;
     nothing(operands.fourth)?;
-    Ok(Statement::One(Instr::Amo { op, rd, rs1, rs2, aq, rl }))
+    Ok(Statement::One(Instr::Amo {
+        op,
+        rd,
+        rs1,
+        rs2,
+        aq,
+        rl,
+    }))
 }
 
 #[tactic(auto, unfolding(crate::specs::Statements::statement_of))]
@@ -259,7 +289,11 @@ fn load_immediate<'a>(operands: &Operands<'a>) -> Result<Statement<'a>, AsmFault
     let rd = register(operands.first)?;
     let number = number_from(operands.second, -0x8000_0000, 0xFFFF_FFFF)?;
     nothing(operands.third)?;
-    let wrapped = if number < 0x8000_0000 { number } else { number - 0x1_0000_0000 };
+    let wrapped = if number < 0x8000_0000 {
+        number
+    } else {
+        number - 0x1_0000_0000
+    };
     Ok(loaded(rd, wrapped))
 }
 
@@ -269,7 +303,12 @@ fn moved<'a>(operands: &Operands<'a>) -> Result<Statement<'a>, AsmFault>
     ensures fits { IfOk result (λ statement. MadeFits (made_of statement)) }
 {
     let TwoRegisters { rd, rs } = pair(operands)?;
-    Ok(Statement::One(Instr::Immediate { op: ImmediateOp::Add, rd, rs1: rs, immediate: 0 }))
+    Ok(Statement::One(Instr::Immediate {
+        op: ImmediateOp::Add,
+        rd,
+        rs1: rs,
+        immediate: 0,
+    }))
 }
 
 #[tactic(auto, unfolding(crate::specs::Statements::statement_of))]
@@ -278,7 +317,12 @@ fn inverted<'a>(operands: &Operands<'a>) -> Result<Statement<'a>, AsmFault>
     ensures fits { IfOk result (λ statement. MadeFits (made_of statement)) }
 {
     let TwoRegisters { rd, rs } = pair(operands)?;
-    Ok(Statement::One(Instr::Immediate { op: ImmediateOp::Xor, rd, rs1: rs, immediate: -1 }))
+    Ok(Statement::One(Instr::Immediate {
+        op: ImmediateOp::Xor,
+        rd,
+        rs1: rs,
+        immediate: -1,
+    }))
 }
 
 #[tactic(auto, unfolding(crate::specs::Statements::statement_of))]
@@ -287,7 +331,12 @@ fn negated<'a>(operands: &Operands<'a>) -> Result<Statement<'a>, AsmFault>
     ensures fits { IfOk result (λ statement. MadeFits (made_of statement)) }
 {
     let TwoRegisters { rd, rs } = pair(operands)?;
-    Ok(Statement::One(Instr::Register { op: RegisterOp::Sub, rd, rs1: reg(0), rs2: rs }))
+    Ok(Statement::One(Instr::Register {
+        op: RegisterOp::Sub,
+        rd,
+        rs1: reg(0),
+        rs2: rs,
+    }))
 }
 
 #[tactic(auto, unfolding(crate::specs::Statements::statement_of))]
@@ -296,7 +345,12 @@ fn is_zero<'a>(operands: &Operands<'a>) -> Result<Statement<'a>, AsmFault>
     ensures fits { IfOk result (λ statement. MadeFits (made_of statement)) }
 {
     let TwoRegisters { rd, rs } = pair(operands)?;
-    Ok(Statement::One(Instr::Immediate { op: ImmediateOp::SetLessUnsigned, rd, rs1: rs, immediate: 1 }))
+    Ok(Statement::One(Instr::Immediate {
+        op: ImmediateOp::SetLessUnsigned,
+        rd,
+        rs1: rs,
+        immediate: 1,
+    }))
 }
 
 #[tactic(auto, unfolding(crate::specs::Statements::statement_of))]
@@ -305,7 +359,12 @@ fn is_not_zero<'a>(operands: &Operands<'a>) -> Result<Statement<'a>, AsmFault>
     ensures fits { IfOk result (λ statement. MadeFits (made_of statement)) }
 {
     let TwoRegisters { rd, rs } = pair(operands)?;
-    Ok(Statement::One(Instr::Register { op: RegisterOp::SetLessUnsigned, rd, rs1: reg(0), rs2: rs }))
+    Ok(Statement::One(Instr::Register {
+        op: RegisterOp::SetLessUnsigned,
+        rd,
+        rs1: reg(0),
+        rs2: rs,
+    }))
 }
 
 /// What the form makes of its operands, or the first fault of them from the left.
@@ -347,12 +406,27 @@ fn nop<'a>(operands: &Operands<'a>) -> Result<Statement<'a>, AsmFault>
     ensures made { Tells made_of result (alone (instr.Immediate immediate_op.Add (reg_of 0) (reg_of 0) (pos 0)) (option_copied operands.now.first)) }
     ensures fits { IfOk result (λ statement. MadeFits (made_of statement)) }
 {
-    alone(Instr::Immediate { op: ImmediateOp::Add, rd: reg(0), rs1: reg(0), immediate: 0 }, operands)
+    alone(
+        Instr::Immediate {
+            op: ImmediateOp::Add,
+            rd: reg(0),
+            rs1: reg(0),
+            immediate: 0,
+        },
+        operands,
+    )
 }
 
 fn returned<'a>(operands: &Operands<'a>) -> Result<Statement<'a>, AsmFault>
     ensures made { Tells made_of result (alone (instr.Jalr (reg_of 0) (reg_of 1) (pos 0)) (option_copied operands.now.first)) }
     ensures fits { IfOk result (λ statement. MadeFits (made_of statement)) }
 {
-    alone(Instr::Jalr { rd: reg(0), rs1: reg(1), offset: 0 }, operands)
+    alone(
+        Instr::Jalr {
+            rd: reg(0),
+            rs1: reg(1),
+            offset: 0,
+        },
+        operands,
+    )
 }

@@ -10,7 +10,10 @@ pub enum Statement<'a> {
     /// Two instructions, as a number of more than 12 bits takes.
     Two(Instr, Instr),
     /// A jump to the label.
-    Jump { rd: Reg, label: &'a [u8] },
+    Jump {
+        rd: Reg,
+        label: &'a [u8],
+    },
     /// A branch to the label.
     Branch {
         op: BranchOp,

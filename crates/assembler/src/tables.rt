@@ -18,10 +18,7 @@ fn is_text(name: &str, text: &[u8]) -> bool
 }
 
 /// The table's first row with this name.
-fn row_in<'a, T: Copy>(
-    table: &'a [(&'static str, T)],
-    text: &[u8],
-) -> Option<&'a (&'static str, T)>
+fn row_in<'a, T: Copy>(table: &'a [(&'static str, T)], text: &[u8]) -> Option<&'a (&'static str, T)>
     ensures { option_copied result ≡ find (λ row. told row.0.now text.now) table.now }
 {
     table.iter().find(|row| is_text(row.0, text))

@@ -89,7 +89,10 @@ fn amo_form(
 ) -> Result<String, AllocError>
     ensures { IfOk result (λ text. string_bytes text ≡ with_three (name.now ++ order.now) (register_text rd) (register_text rs2) (codes "(" ++ (register_text rs1 ++ codes ")"))) }
 {
-    format!(in alloc; "{name}{order} x{},x{},(x{})", rd.number, rs2.number, rs1.number)
+    format!(in alloc;
+        "{name}{order} x{},x{},(x{})",
+        rd.number, rs2.number, rs1.number
+    )
 }
 
 /// The text of the instruction.
@@ -103,17 +106,36 @@ fn text_of(alloc: Global, instr: &Instr) -> Result<String, AllocError>
         Instr::Auipc { rd, upper } => upper_text(alloc, "auipc", rd, upper),
         Instr::Jal { rd, offset } => jump_text(alloc, rd, offset),
         Instr::Jalr { rd, rs1, offset } => address_form(alloc, "jalr", rd, offset, rs1),
-        Instr::Branch { op, rs1, rs2, offset } => {
-            number_form(alloc, branch_name(op), rs1, rs2, offset)
-        }
-        Instr::Load { op, rd, rs1, offset } => address_form(alloc, load_name(op), rd, offset, rs1),
-        Instr::Store { op, rs1, rs2, offset } => {
-            address_form(alloc, store_name(op), rs2, offset, rs1)
-        }
-        Instr::Immediate { op, rd, rs1, immediate } => {
-            number_form(alloc, immediate_name(op), rd, rs1, immediate)
-        }
-        Instr::Shift { op, rd, rs1, amount } => shift_form(alloc, shift_name(op), rd, rs1, amount),
+        Instr::Branch {
+            op,
+            rs1,
+            rs2,
+            offset,
+        } => { number_form(alloc, branch_name(op), rs1, rs2, offset) }
+        Instr::Load {
+            op,
+            rd,
+            rs1,
+            offset,
+        } => address_form(alloc, load_name(op), rd, offset, rs1),
+        Instr::Store {
+            op,
+            rs1,
+            rs2,
+            offset,
+        } => { address_form(alloc, store_name(op), rs2, offset, rs1) }
+        Instr::Immediate {
+            op,
+            rd,
+            rs1,
+            immediate,
+        } => { number_form(alloc, immediate_name(op), rd, rs1, immediate) }
+        Instr::Shift {
+            op,
+            rd,
+            rs1,
+            amount,
+        } => shift_form(alloc, shift_name(op), rd, rs1, amount),
         Instr::Register { op, rd, rs1, rs2 } => {
             register_form(alloc, register_name(op), rd, rs1, rs2)
         }
@@ -121,9 +143,14 @@ fn text_of(alloc: Global, instr: &Instr) -> Result<String, AllocError>
         Instr::FenceTso => String::from_str(alloc, "fence.tso"),
         Instr::Ecall => String::from_str(alloc, "ecall"),
         Instr::Ebreak => String::from_str(alloc, "ebreak"),
-        Instr::Amo { op, rd, rs1, rs2, aq, rl } => {
-            amo_form(alloc, amo_name(op), order_name(aq, rl), rd, rs2, rs1)
-        }
+        Instr::Amo {
+            op,
+            rd,
+            rs1,
+            rs2,
+            aq,
+            rl,
+        } => { amo_form(alloc, amo_name(op), order_name(aq, rl), rd, rs2, rs1) }
     }
 }
 

@@ -1,4 +1,4 @@
-use Rattle.std.proofs.Common.{◌≡◌, ◌≤◌, sym, ◌∙◌, take, [], refl, arith, ap}
+use Rattle.std.proofs.Common.{◌≡◌, sym, ◌∙◌, take, arith, ap}
 use Rattle.assembler.specs.Cutting.{without_end}
 use Rattle.assembler.proofs.CuttingLaws.{end_step, end_stop}
 use Rattle.assembler.proofs.cutting.without_end.Goals as goal
@@ -7,7 +7,7 @@ use Rattle.assembler.proofs.cutting.without_end.Goals.{then-loop-end-test+else-i
 pub loop-end-preserved : goal.loop-end-preserved
 loop-end-preserved c = record {
   within = omega arith;
-  same = end_step c.args.text.now c.loop-end.end (omega arith) c.loop-end.invariant.within (sym c.is_blank.ensures ∙ c.if-is_blank.true) ∙ c.loop-end.invariant.same
+  same = end_step c.args.text.now c.loop-end.end (omega arith) c.loop-end.invariant.within (sym c.is_blank.ensures ∙ c.if-is_blank.true) ∙ c.loop-end.invariant.same;
 }
 
 pub returns : goal.returns

@@ -6,8 +6,8 @@ use Rattle.assembler.proofs.placing.place_all.Given as goal
 
 abbrev pub invariant-loop-index : goal.invariant-loop-index
 invariant-loop-index l = record {
-    few : vec_len l.words + words_of (map line_of (drop l.index l.lines)) ≤ 4096;
-    fit : AllFit (map line_of (drop l.index l.lines));
-    plain : AllPlain l.words.items;
-    so_far : onto (map meaning l.words.items) (all_placed (place_in l.places) (vec_len l.words) (l.index + 1) (map line_of (drop l.index l.lines))) ≡ all_placed (place_in l.places) 0 1 (map line_of l.lines);
-  }
+  few : vec_len l.words + words_of (map line_of (drop l.index l.lines)) ≤ 4096;
+  fit : AllFit (map line_of (drop l.index l.lines));
+  plain : AllPlain l.words.items;
+  so_far : onto (map meaning l.words.items) (all_placed (place_in l.places) (vec_len l.words) (l.index + 1) (map line_of (drop l.index l.lines))) ≡ all_placed (place_in l.places) 0 1 (map line_of l.lines);
+}

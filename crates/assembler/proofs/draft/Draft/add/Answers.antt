@@ -1,6 +1,5 @@
-use Rattle.std.proofs.Common.{◌≡◌, ℕ, List, Some, cond, ◌+◌, ◌*◌, ◌<◌, ◌≤◌, ◌^◌, false, map, length, sym, ap, subst, ◌∙◌, arith, vec_len, vec_capacity}
+use Rattle.std.proofs.Common.{◌≡◌, ℕ, List, Some, cond, false, map, arith}
 use Rattle.std.proofs.lemmas.List.{length-map}
-use Rattle.std.specs.Option.{option_copied}
 use Rattle.assembler.specs.declared.kept.KeptLine.{KeptLine}
 use Rattle.assembler.specs.Drafts.{is_twice, is_label, Fitting}
 use Rattle.assembler.specs.Kept.{line_of, place_in}

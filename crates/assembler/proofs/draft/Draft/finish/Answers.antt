@@ -1,10 +1,5 @@
-use Rattle.std.proofs.Common.{◌≡◌, ◌<◌, ◌≤◌, ℕ, List, map, sym, ap, subst, ◌∙◌, arith}
-use Rattle.std.specs.Prelude.{Err}
-use Rattle.texts.specs.Results.{Gives}
-use Rattle.rv_decode.specs.Meaning.{meaning}
-use Rattle.assembler.specs.Faults.{refusal_of}
+use Rattle.std.proofs.Common.{map, arith}
 use Rattle.assembler.specs.Kept.{line_of, place_in}
-use Rattle.assembler.specs.Drafts.{Line, finished, over, words_of}
 use Rattle.assembler.proofs.DraftLaws.{place_within, finished_long, finished_short}
 use Rattle.assembler.proofs.draft.Draft.finish.Goals as goal
 
