@@ -1,0 +1,148 @@
+-- One more line of a draft, and what is known of all of them.
+use Rattle.std.proofs.Common.{◌≡◌, ℕ, ◌+◌, ◌*◌, ◌<◌, ◌≤◌, true, false, cond, List, [], ◌∷◌, ◌++◌, length, map, Option, Some, None, Result, Ok, Err, refl, sym, ap, subst, ◌∙◌, inl, inr, arith}
+use Rattle.std.specs.Prelude.{IfSome}
+use Rattle.std.specs.Option.{is_some}
+use Rattle.std.proofs.lemmas.Bool.{cases_Bool, lt-ltb, le-ltb}
+use Rattle.assembler.specs.declared.kept.KeptLine.{KeptLine}
+use Rattle.assembler.specs.Kept.{line_of}
+use Rattle.std.proofs.lemmas.Slice.Eq.{bytes_eq-Decides}
+use Rattle.assembler.specs.declared.faults.AsmFault.{AsmFault}
+use Rattle.assembler.specs.declared.faults.AsmFault.TheVariants.{LabelTwice, TooLong}
+use Rattle.assembler.specs.Faults.{Refusal}
+use Rattle.assembler.specs.Statements.{Made, one, two, jump, branch}
+use Rattle.assembler.specs.Lines.{label_of, statement_text, made_in}
+use Rattle.assembler.specs.Drafts.{Line, size_of, words_of, is_label, place_from, place_of, is_twice, line_below, told, placed, all_placed, Fitting, AllFit, IsKept, over, finished}
+
+abbrev line_fault : AsmFault → ℕ → Result (List Line) Refusal
+line_fault fault line = Err (record { fault = fault; line = line })
+
+pub told_twice : (above : List Line) (text : List ℕ) → is_twice above (label_of text) ≡ true → told above text ≡ Err (record { fault = LabelTwice; line = length above + 1 })
+unfolding told line_below
+told_twice above text twice = rw twice refl
+
+pub told_added : (above : List Line) (text : List ℕ) (made : Option Made) → is_twice above (label_of text) ≡ false → made_in (statement_text text) ≡ Ok made → told above text ≡ Ok (above ++ (record { label = label_of text; made = made }) ∷ [])
+unfolding told line_below
+told_added above text made fresh e = rw (fresh, e) refl
+
+pub told_faulty : (above : List Line) (text : List ℕ) (fault : AsmFault) → is_twice above (label_of text) ≡ false → made_in (statement_text text) ≡ Err fault → told above text ≡ Err (record { fault = fault; line = length above + 1 })
+unfolding told line_below
+told_faulty above text fault fresh e = rw (fresh, e) refl
+
+-- ---- places
+
+abbrev or_else : Option ℕ → Option ℕ → Option ℕ
+or_else None other = other
+or_else (Some place) other = Some place
+
+place_from-push : (name : List ℕ) (at : ℕ) (all : List Line) (line : Line) → place_from name at (all ++ line ∷ []) ≡ or_else (place_from name at all) (cond (is_label name line.label) (Some (at + words_of all)) None)
+place_from-push name at [] line = let same : at + 0 ≡ at = omega arith in rw same refl
+place_from-push name at (first ∷ rest) line = elim (cases_Bool (is_label name first.label)) [
+  | inl here ↦ rw here refl
+  | inr other ↦ (
+      let sum : at + size_of first.made + words_of rest ≡ at + (size_of first.made + words_of rest) = omega arith in
+      rw (other, ← sum) (place_from-push name (at + size_of first.made) rest line))
+]
+
+place_from-le : (name : List ℕ) (at : ℕ) (all : List Line) → IfSome (place_from name at all) (λ place. place ≤ at + words_of all)
+place_from-le name at [] = tt
+place_from-le name at (first ∷ rest) = elim (cases_Bool (is_label name first.label)) [
+  | inl here ↦ (let le : at ≤ at + (size_of first.made + words_of rest) = omega arith in rw here le)
+  | inr other ↦ (
+      let sum : at + size_of first.made + words_of rest ≡ at + (size_of first.made + words_of rest) = omega arith in
+      rw (other, ← sum) (place_from-le name (at + size_of first.made) rest))
+]
+
+-- no label's place is behind the last word
+pub place_within : (all : List Line) (name : List ℕ) (most : ℕ) → words_of all ≤ most → (r : Option ℕ) → r ≡ place_of all name → IfSome r (λ place. place ≤ most)
+unfolding place_of
+place_within all name most few None e = tt
+place_within all name most few (Some place) e =
+    let bound : IfSome (place_from name 0 all) (λ p. p ≤ 0 + words_of all) = place_from-le name 0 all in
+    let within : place ≤ 0 + words_of all = rw (← e) at bound in
+    omega arith
+
+-- ---- what a draft knows
+
+words_of-push : (all : List Line) (line : Line) → words_of (all ++ line ∷ []) ≡ words_of all + size_of line.made
+words_of-push [] line = omega arith
+words_of-push (first ∷ rest) line = rw (words_of-push rest line) (omega arith)
+
+AllFit-push : (all : List Line) (line : Line) → AllFit all → Fitting line.made → AllFit (all ++ line ∷ [])
+AllFit-push [] line all_fit fits = (fits, tt)
+AllFit-push (first ∷ rest) line all_fit fits = (all_fit.0, AllFit-push rest line all_fit.1 fits)
+
+none_of_fresh : (r : Option ℕ) → is_some r ≡ false → r ≡ None
+none_of_fresh None e = refl
+none_of_fresh (Some place) e = absurd cc
+
+-- a fresh label's name has no place yet
+fresh_place : (all : List Line) (name : List ℕ) (label : Option (List ℕ)) → is_twice all label ≡ false → is_label name label ≡ true → place_of all name ≡ None
+fresh_place all name None fresh here = absurd cc
+fresh_place all name (Some other) fresh here = subst (λ (l : List ℕ). place_of all l ≡ None) ((bytes_eq-Decides other name).0 here) (none_of_fresh (place_of all other) fresh)
+
+or_none : (r : Option ℕ) → or_else r None ≡ r
+or_none None = refl
+or_none (Some place) = refl
+
+found_last : (all : List Line) (line : Line) (name : List ℕ) → is_label name line.label ≡ true → place_of all name ≡ None → place_of (all ++ line ∷ []) name ≡ Some (words_of all)
+unfolding place_of
+found_last all line name here none = place_from-push name 0 all line ∙ rw (here, none) (ap Some (omega arith))
+
+found_above : (all : List Line) (line : Line) (name : List ℕ) → is_label name line.label ≡ false → place_of (all ++ line ∷ []) name ≡ place_of all name
+unfolding place_of
+found_above all line name other = place_from-push name 0 all line ∙ rw other (or_none (place_from name 0 all))
+
+place_of-push : (all : List Line) (line : Line) (name : List ℕ) → is_twice all line.label ≡ false → cond (is_label name line.label) (Some (words_of all)) (place_of all name) ≡ place_of (all ++ line ∷ []) name
+place_of-push all line name fresh = elim (cases_Bool (is_label name line.label)) [
+  | inl here ↦ rw here (sym (found_last all line name here (fresh_place all name line.label fresh here)))
+  | inr other ↦ rw other (sym (found_above all line name other))
+]
+
+pub kept_more : (found after : List ℕ → Option ℕ) (words : ℕ) (all : List Line) (line : Line) → IsKept found words all → ((name : List ℕ) → after name ≡ cond (is_label name line.label) (Some words) (found name)) → is_twice all line.label ≡ false → Fitting line.made → IsKept after (words + size_of line.made) (all ++ line ∷ [])
+kept_more found after words all line kept defined fresh fits = record {
+  places = λ name. defined name ∙ rw (kept.size, kept.places name) (place_of-push all line name fresh);
+  size = rw kept.size (sym (words_of-push all line));
+  fits = AllFit-push all line kept.fits fits;
+}
+
+pub kept_same : (found after : List ℕ → Option ℕ) (words : ℕ) (all : List Line) → IsKept found words all → ((name : List ℕ) → after name ≡ found name) → IsKept after words all
+kept_same found after words all kept same = record { places = λ name. same name ∙ kept.places name; size = kept.size; fits = kept.fits }
+
+size_le : (made : Option Made) → size_of made ≤ 2
+size_le None = omega arith
+size_le (Some (one i)) = omega arith
+size_le (Some (two i j)) = omega arith
+size_le (Some (jump rd name)) = omega arith
+size_le (Some (branch op rs1 rs2 name)) = omega arith
+
+-- a line makes two words at most
+pub words_le : (all : List Line) → words_of all ≤ 2 * length all
+words_le [] = omega arith
+words_le (first ∷ rest) = let here = size_le first.made in let more = words_le rest in omega arith
+
+-- ---- the same places, the same words
+
+placed-same : (f g : List ℕ → Option ℕ) → ((name : List ℕ) → f name ≡ g name) → (at : ℕ) (made : Option Made) → placed f at made ≡ placed g at made
+placed-same f g same at None = refl
+placed-same f g same at (Some (one i)) = refl
+placed-same f g same at (Some (two i j)) = refl
+placed-same f g same at (Some (jump rd name)) = rw (same name) refl
+placed-same f g same at (Some (branch op rs1 rs2 name)) = rw (same name) refl
+
+pub all_placed-same : (f g : List ℕ → Option ℕ) → ((name : List ℕ) → f name ≡ g name) → (at line : ℕ) (all : List Line) → all_placed f at line all ≡ all_placed g at line all
+all_placed-same f g same at line [] = refl
+all_placed-same f g same at line (first ∷ rest) = rw (placed-same f g same at first.made, all_placed-same f g same (at + size_of first.made) (line + 1) rest) refl
+
+-- ---- the end of a draft
+
+pub finished_long : (all : List Line) → 4096 < words_of all → finished all ≡ Err (record { fault = TooLong; line = over 0 1 all })
+unfolding finished
+finished_long all long = rw (lt-ltb 4096 (words_of all) long) refl
+
+pub finished_short : (found : List ℕ → Option ℕ) (all : List Line) → words_of all ≤ 4096 → ((name : List ℕ) → found name ≡ place_of all name) → all_placed found 0 1 all ≡ finished all
+unfolding finished
+finished_short found all few same = rw (le-ltb 4096 (words_of all) few) (all_placed-same found (place_of all) same 0 1 all)
+
+pub lines-push : (items : List KeptLine) (line : KeptLine) → map line_of (items ++ line ∷ []) ≡ map line_of items ++ line_of line ∷ []
+lines-push [] line = refl
+lines-push (first ∷ rest) line = rw (lines-push rest line) refl

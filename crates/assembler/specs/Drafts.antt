@@ -1,0 +1,150 @@
+-- A text, told line by line, and the first fault of it: those of the lines from the top, then a text
+-- that is too long, and then the places of labels, from the top again.
+use Rattle.std.specs.Prelude.{ℕ, ℤ, pos, ◌-ℤ◌, ◌+◌, ◌*◌, ◌≡◌, Bool, false, nat_lt, List, [], ◌∷◌, ◌++◌, length, Option, Some, None, Result, Ok, Err, if◌then◌else◌, IfSome}
+use Rattle.std.specs.Str.{bytes_eq}
+use Rattle.std.specs.Option.{is_some}
+use Rattle.std.specs.Str.Lines.{lines}
+use Rattle.texts.specs.Results.{◌>>=◌}
+use Rattle.rv_decode.specs.Meaning.{meaning}
+use Rattle.rv_decode.specs.Fits.{HasPlainFence}
+use Rattle.rv_decode.specs.declared.instruction.Instr.{Instr}
+use Rattle.rv_decode.specs.declared.instruction.Instr.TheVariants as instr
+use Rattle.assembler.specs.declared.faults.AsmFault.{AsmFault}
+use Rattle.assembler.specs.declared.faults.AsmFault.TheVariants.{OutOfRange, NoSuchLabel, LabelTwice, TooLong}
+use Rattle.assembler.specs.Faults.{Refusal}
+use Rattle.assembler.specs.Operands.{is_reached}
+use Rattle.assembler.specs.Statements.{Made, one, two, jump, branch, MadeFits}
+use Rattle.assembler.specs.Lines.{label_of, statement_text, made_in}
+
+-- what a line defines and makes
+pub record Line : Type 0 where
+  pub label : Option (List ℕ)
+  pub made : Option Made
+
+-- how many words a statement makes
+abbrev pub size_of : Option Made → ℕ
+size_of None = 0
+size_of (Some (one i)) = 1
+size_of (Some (two i j)) = 2
+size_of (Some (jump rd name)) = 1
+size_of (Some (branch op rs1 rs2 name)) = 1
+
+abbrev pub words_of : List Line → ℕ
+words_of [] = 0
+words_of (line ∷ rest) = size_of line.made + words_of rest
+
+abbrev pub is_label : List ℕ → Option (List ℕ) → Bool
+is_label name None = false
+is_label name (Some other) = bytes_eq other name
+
+abbrev pub place_from : List ℕ → ℕ → List Line → Option ℕ
+place_from name at [] = None
+place_from name at (line ∷ rest) = if is_label name line.label then Some at else place_from name (at + size_of line.made) rest
+
+-- a label stands for the number of words before the line that defines it
+unfoldable pub place_of : List Line → List ℕ → Option ℕ
+place_of all name = place_from name 0 all
+
+abbrev pub is_twice : List Line → Option (List ℕ) → Bool
+is_twice above None = false
+is_twice above (Some name) = is_some (place_of above name)
+
+abbrev pub with_label : Option (List ℕ) → Result (Option Made) AsmFault → Result Line AsmFault
+with_label label answer = do
+  made ← answer
+  Ok (record { label = label; made = made })
+
+-- a line below the lines above, or its first fault
+unfoldable pub line_below : List Line → List ℕ → Result Line AsmFault
+line_below above text = if is_twice above (label_of text) then Err LabelTwice else with_label (label_of text) (made_in (statement_text text))
+
+-- a fault is told with its line
+abbrev pub at_line : {A : Type 0} → ℕ → Result A AsmFault → Result A Refusal
+at_line line (Ok x) = Ok x
+at_line line (Err fault) = Err (record { fault = fault; line = line })
+
+-- the lines above with one more
+unfoldable pub told : List Line → List ℕ → Result (List Line) Refusal
+told above text = do
+  line ← at_line (length above + 1) (line_below above text)
+  Ok (above ++ line ∷ [])
+
+abbrev pub all_told : List Line → List (List ℕ) → Result (List Line) Refusal
+all_told above [] = Ok above
+all_told above (text ∷ rest) = do
+  more ← told above text
+  all_told more rest
+
+-- ---- the places of labels
+
+abbrev pub in_bytes : ℕ → ℕ → ℤ
+in_bytes at place = pos (4 * place) -ℤ pos (4 * at)
+
+-- from the instruction at to the label, in bytes
+abbrev pub distance : ℤ → ℕ → Option ℕ → Result ℤ AsmFault
+distance bound at None = Err NoSuchLabel
+distance bound at (Some place) = if is_reached bound (in_bytes at place) then Ok (in_bytes at place) else Err OutOfRange
+
+-- the instructions of a statement at a place, where found tells the labels' places
+abbrev pub placed : (List ℕ → Option ℕ) → ℕ → Option Made → Result (List (Option Instr)) AsmFault
+placed found at None = Ok []
+placed found at (Some (one i)) = Ok (Some i ∷ [])
+placed found at (Some (two i j)) = Ok (Some i ∷ Some j ∷ [])
+placed found at (Some (jump rd name)) = do
+  n ← distance (pos 1048576) at (found name)
+  Ok (Some (instr.Jal rd n) ∷ [])
+placed found at (Some (branch op rs1 rs2 name)) = do
+  n ← distance (pos 4096) at (found name)
+  Ok (Some (instr.Branch op rs1 rs2 n) ∷ [])
+
+-- what is in front of an answer
+abbrev pub onto : {A E : Type 0} → List A → Result (List A) E → Result (List A) E
+onto front answer = do
+  more ← answer
+  Ok (front ++ more)
+
+abbrev pub all_placed : (List ℕ → Option ℕ) → (at line : ℕ) → List Line → Result (List (Option Instr)) Refusal
+all_placed found at line [] = Ok []
+all_placed found at line (first ∷ rest) = do
+  front ← at_line line (placed found at first.made)
+  onto front (all_placed found (at + size_of first.made) (line + 1) rest)
+
+-- the first line whose words go past the limit
+abbrev pub over : (at line : ℕ) → List Line → ℕ
+over at line [] = line
+over at line (first ∷ rest) = if nat_lt 4096 (at + size_of first.made) then line else over (at + size_of first.made) (line + 1) rest
+
+-- the instructions of all lines
+unfoldable pub finished : List Line → Result (List (Option Instr)) Refusal
+finished all = if nat_lt 4096 (words_of all) then Err (record { fault = TooLong; line = over 0 1 all }) else all_placed (place_of all) 0 1 all
+
+-- the instructions of a text, or its first fault
+unfoldable pub assembled : List ℕ → Result (List (Option Instr)) Refusal
+assembled text = do
+  all ← all_told [] (lines text)
+  finished all
+
+-- ---- what a draft knows of its lines
+
+abbrev pub Fitting : Option Made → Type 0
+Fitting None = Unit {0}
+Fitting (Some made) = MadeFits made
+
+abbrev pub AllFit : List Line → Type 0
+AllFit [] = Unit {0}
+AllFit (line ∷ rest) = Fitting line.made × AllFit rest
+
+pub record IsKept (found : List ℕ → Option ℕ) (words : ℕ) (all : List Line) : Type 0 where
+  pub places : (name : List ℕ) → found name ≡ place_of all name
+  pub size : words ≡ words_of all
+  pub fits : AllFit all
+
+-- ---- words
+
+-- the fields of the word that decide nothing are zero
+abbrev pub IsPlain : ℕ → Type 0
+IsPlain word = IfSome (meaning word) (HasPlainFence word)
+
+abbrev pub AllPlain : List ℕ → Type 0
+AllPlain [] = Unit {0}
+AllPlain (word ∷ rest) = IsPlain word × AllPlain rest

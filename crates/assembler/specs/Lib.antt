@@ -1,0 +1,12 @@
+pub mod Faults
+pub mod Tables
+pub mod Registers
+pub mod Mnemonics
+pub mod Cutting
+pub mod Sets
+pub mod Operands
+pub mod Statements
+pub mod Lines
+pub mod Drafts
+pub mod Kept
+pub mod Writing
