@@ -1,0 +1,9 @@
+//! RVWMO with Ztso as axioms over a global memory order, and the order in which a trace performed.
+
+#![tactic(auto)]
+
+mod operation;
+mod checking;
+
+pub use checking::check;
+pub use operation::Op;
