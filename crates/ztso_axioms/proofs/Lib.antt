@@ -1,2 +1,5 @@
 pub mod Listing
 pub mod Checked
+pub mod Places
+pub mod Walks
+pub mod Members

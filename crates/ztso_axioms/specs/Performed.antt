@@ -1,6 +1,6 @@
 -- The order in which a trace performed its operations: loads and AMOs at their own places, a hart's
 -- k-th store at the place of its k-th landing, and last the stores without such a landing, hart by hart.
-use Rattle.std.specs.Prelude.{ℕ, zero, suc, ◌≡◌, ◌==◌, ◌&&◌, if◌then◌else◌, max, List, [], ◌∷◌, ◌++◌, length, drop, Option, Some, None, option_to_list}
+use Rattle.std.specs.Prelude.{ℕ, zero, suc, ◌==◌, Bool, ◌&&◌, if◌then◌else◌, max, List, [], ◌∷◌, ◌++◌, length, drop, Option, Some, None, option_to_list}
 use Rattle.std.specs.List.{slice_get}
 use Rattle.step_machine.specs.Entries.{hart_of, lands}
 use Rattle.step_machine.specs.History.{History}
@@ -8,14 +8,17 @@ use Rattle.step_machine.specs.declared.events.Entry.{Entry}
 use Rattle.step_machine.specs.declared.events.Entry.TheVariants as entry
 use Rattle.ztso_axioms.specs.Operations.{is_store}
 
--- the places of hart h's stores among entries that begin at place n
-abbrev pub stores_from : ℕ → ℕ → List Entry → List ℕ
-stores_from h n [] = []
-stores_from h n (e ∷ es) = if is_store e && (hart_of e == h) then n ∷ stores_from h (suc n) es else stores_from h (suc n) es
+-- the places of the entries that pass a test, where the entries begin at place n
+abbrev pub places_of : (Entry → Bool) → ℕ → List Entry → List ℕ
+places_of test n [] = []
+places_of test n (e ∷ es) = if test e then n ∷ places_of test (suc n) es else places_of test (suc n) es
+
+abbrev pub is_store_of : ℕ → Entry → Bool
+is_store_of h e = is_store e && (hart_of e == h)
 
 -- the places of hart h's stores
 abbrev pub store_places : ℕ → List Entry → List ℕ
-store_places h es = stores_from h 0 es
+store_places h es = places_of (is_store_of h) 0 es
 
 -- what an entry performs, after the entries before it: a load and an AMO themselves, the hart's k-th
 -- landing the hart's k-th store among all entries

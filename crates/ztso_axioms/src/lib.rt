@@ -3,7 +3,9 @@
 #![tactic(auto)]
 
 mod operation;
+mod performing;
 mod checking;
 
 pub use checking::check;
 pub use operation::Op;
+pub use performing::order_of;
