@@ -3,3 +3,4 @@ pub mod Checked
 pub mod Places
 pub mod Walks
 pub mod Members
+pub mod Performs
