@@ -4,3 +4,4 @@ pub mod Places
 pub mod Walks
 pub mod Members
 pub mod Performs
+pub mod Fronts
