@@ -5,3 +5,4 @@ pub mod Walks
 pub mod Members
 pub mod Performs
 pub mod Fronts
+pub mod Ordered
