@@ -6,3 +6,4 @@ pub mod Members
 pub mod Performs
 pub mod Fronts
 pub mod Ordered
+pub mod Values

@@ -14,9 +14,9 @@ use Rattle.ztso_axioms.proofs.Listing.{times-none, named-none, named-some, times
 abbrev pub Each : (ℕ → Bool) → List ℕ → Type 0
 Each test xs = (x : ℕ) → is_named x xs ≡ true → test x ≡ true
 
-or_right : (a b : Bool) → b ≡ true → (a || b) ≡ true
-or_right true b e = refl
-or_right false b e = e
+pub or_true : (a b : Bool) → b ≡ true → (a || b) ≡ true
+or_true true b e = refl
+or_true false b e = e
 
 or_left : (a b : Bool) → a ≡ true → (a || b) ≡ true
 or_left true b e = refl
@@ -26,10 +26,10 @@ pub Each-head : (test : ℕ → Bool) (x : ℕ) (xs : List ℕ) → Each test (x
 Each-head test x xs each = each x (or_left (x == x) (is_named x xs) (eq-eqb x x refl))
 
 pub Each-tail : (test : ℕ → Bool) (x : ℕ) (xs : List ℕ) → Each test (x ∷ xs) → Each test xs
-Each-tail test x xs each y is = each y (or_right (x == y) (is_named y xs) is)
+Each-tail test x xs each y is = each y (or_true (x == y) (is_named y xs) is)
 
 pub Each-back : (test : ℕ → Bool) (xs ys : List ℕ) → Each test (xs ++ ys) → Each test ys
-Each-back test xs ys each y is = each y (named-append y xs ys ∙ or_right (is_named y xs) (is_named y ys) is)
+Each-back test xs ys each y is = each y (named-append y xs ys ∙ or_true (is_named y xs) (is_named y ys) is)
 
 pub Each-front : (test : ℕ → Bool) (xs ys : List ℕ) → Each test (xs ++ ys) → Each test xs
 Each-front test xs ys each y is = each y (named-append y xs ys ∙ or_left (is_named y xs) (is_named y ys) is)
@@ -83,7 +83,7 @@ pub filter-same : (test other : ℕ → Bool) (xs : List ℕ) → ((x : ℕ) →
 filter-same test other [] agree = refl
 filter-same test other (x ∷ xs) agree =
     ap (λ b. if b then x ∷ filter test xs else filter test xs) (agree x (or_left (x == x) (is_named x xs) (eq-eqb x x refl)))
-    ∙ ap (λ zs. if other x then x ∷ zs else zs) (filter-same test other xs (λ y is. agree y (or_right (x == y) (is_named y xs) is)))
+    ∙ ap (λ zs. if other x then x ∷ zs else zs) (filter-same test other xs (λ y is. agree y (or_true (x == y) (is_named y xs) is)))
 
 pub filter-both : (test other : ℕ → Bool) (xs : List ℕ) → filter (λ x. test x && other x) xs ≡ filter other (filter test xs)
 filter-both test other [] = refl
@@ -139,7 +139,7 @@ before-split (x ∷ xs) ys p q some none = at (x == q) none
   where
     here : (b : Bool) → (x == p) ≡ b → (b || is_named p xs) ≡ true → (is_named p xs ≡ true → is_before (xs ++ ys) p q ≡ true) → is_named p (x ∷ before q (xs ++ ys)) ≡ true
     here true same so more = or_left (x == p) (is_named p (before q (xs ++ ys))) same
-    here false other so more = or_right (x == p) (is_named p (before q (xs ++ ys))) (more so)
+    here false other so more = or_true (x == p) (is_named p (before q (xs ++ ys))) (more so)
     at : (c : Bool) → (c || is_named q xs) ≡ false → (is_named q xs ≡ false → is_named p (x ∷ before q (xs ++ ys)) ≡ true) → is_named p (if c then [] else x ∷ before q (xs ++ ys)) ≡ true
     at true absent more = cc
     at false absent more = more absent

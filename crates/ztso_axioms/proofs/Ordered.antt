@@ -81,10 +81,10 @@ by_front es us ws p q split some none =
     ap (λ gs. is_before gs p q) (order-front es us ws split)
     ∙ before-split (performed_after es [] us) (performed_after es us ws ++ left_below (hart_bound es) es) p q some none
 
-read_performed : (es us ws : List Entry) (p : ℕ) → es ≡ us ++ ws → reads_at es p ≡ true → p < length us → is_named p (performed_after es [] us) ≡ true
+pub read_performed : (es us ws : List Entry) (p : ℕ) → es ≡ us ++ ws → reads_at es p ≡ true → p < length us → is_named p (performed_after es [] us) ≡ true
 read_performed es us ws p split reads lt = read_in_front es us ws p split reads ∙ at_front is_reader es us ws p split lt ∙ reads
 
-read_not_yet : (es us ws : List Entry) (q : ℕ) → es ≡ us ++ ws → reads_at es q ≡ true → length us ≤ q → is_named q (performed_after es [] us) ≡ false
+pub read_not_yet : (es us ws : List Entry) (q : ℕ) → es ≡ us ++ ws → reads_at es q ≡ true → length us ≤ q → is_named q (performed_after es [] us) ≡ false
 read_not_yet es us ws q split reads le = read_in_front es us ws q split reads ∙ at_past is_reader us q le
 
 -- the entries before a place
