@@ -1,18 +1,18 @@
 -- What the checks of a list establish.
-use Rattle.std.proofs.Common.{◌≡◌, ℕ, zero, suc, ◌+◌, ◌-◌, ◌≤◌, ◌<◌, ◌==◌, Bool, true, false, not, ◌&&◌, ◌||◌, if◌then◌else◌, nat_lt, IsTrue, List, [], ◌∷◌, ◌++◌, length, take, drop, get_or, Option, Some, None, refl, sym, ◌∙◌, ap, subst, arith, append-nil, length-take, length-drop, get_or-drop}
+use Rattle.std.proofs.Common.{◌≡◌, ℕ, ◌+◌, ◌-◌, ◌≤◌, ◌<◌, Bool, true, false, not, ◌&&◌, ◌||◌, if◌then◌else◌, nat_lt, List, [], ◌∷◌, ◌++◌, length, take, drop, get_or, Option, Some, None, refl, sym, ◌∙◌, ap, subst, arith, append-nil, length-drop, get_or-drop}
 use Rattle.std.specs.Prelude.{All, filter, unwrap_or, option_and_then}
-use Rattle.std.specs.List.{slice_get, list_any}
+use Rattle.std.specs.List.{slice_get}
 use Rattle.std.proofs.lemmas.Bool.{and_parts, ltb-true, ltb-false, lt-ltb, le-ltb}
-use Rattle.std.proofs.lemmas.List.{take_more, take_rest, get_or_default, get_or_read}
+use Rattle.std.proofs.lemmas.List.{take_rest, get_or_default, get_or_read}
 use Rattle.std.proofs.lemmas.List.Elements.{filter_more}
-use Rattle.std.proofs.lemmas.Option.{slice_get_past, slice_get_within}
+use Rattle.std.proofs.lemmas.Option.{slice_get_past}
 use Rattle.step_machine.specs.History.{Start}
 use Rattle.step_machine.specs.Entries.{opening_word}
 use Rattle.step_machine.specs.declared.events.Entry.{Entry}
 use Rattle.step_machine.specs.declared.events.Entry.TheVariants as entry
-use Rattle.ztso_axioms.specs.Operations.{is_load, is_store, is_operation, passes, is_at, hart_at, read_of, read_at, written_at}
-use Rattle.ztso_axioms.specs.Axioms.{times_named, before, is_named, is_before, in_program_order, is_barrier, may_pass, is_preserved, is_seen, last_written, value_for, NamesEachOnce, KeepsProgramOrder, HasLoadValue}
-use Rattle.ztso_axioms.proofs.Listing.{Once, times-append, times-none, times-some, named-some, named_at, index_of, is_before-index}
+use Rattle.ztso_axioms.specs.Operations.{is_operation, passes, is_at, read_of, read_at, written_at}
+use Rattle.ztso_axioms.specs.Axioms.{times_named, is_named, is_before, in_program_order, may_pass, is_preserved, is_seen, last_written, NamesEachOnce, KeepsProgramOrder, HasLoadValue}
+use Rattle.ztso_axioms.proofs.Listing.{Once, times-none, times-some, named-some, named_at, index_of, is_before-index}
 
 pub once_of : (es : List Entry) (gs : List ℕ) → NamesEachOnce es gs → Once gs
 once_of es gs n = record { once = λ p. at p (is_at is_operation es p) (n p) }
@@ -38,6 +38,7 @@ names_from es gs each within p = at (nat_lt p (length es)) refl
         let lt : get_or gs there.0 0 < length es = within there.0 0 there.1 in
         let same : get_or gs there.0 0 ≡ p = there.2 in
         absurd (omega arith)
+
     at : (b : Bool) → nat_lt p (length es) ≡ b → times_named p gs ≡ (if is_at is_operation es p then 1 else 0)
     at true is = each p (ltb-true p (length es) is)
     at false is =
@@ -135,6 +136,7 @@ seen_more o es gs q a j w new seen lt is before_it after =
     pushed : (b : Bool) → (if b then unwrap_or (written_at es a (get_or gs j 0)) (last_written es a (opening_word o a) (filter (is_seen es gs q) (take j gs))) else last_written es a (opening_word o a) (filter (is_seen es gs q) (take j gs))) ≡ last_written es a (opening_word o a) (filter (is_seen es gs q) (take j gs) ++ (if b then get_or gs j 0 ∷ [] else []))
     pushed true = sym (last_written-append es a (opening_word o a) (filter (is_seen es gs q) (take j gs)) (get_or gs j 0 ∷ []))
     pushed false = ap (last_written es a (opening_word o a)) (sym (append-nil (filter (is_seen es gs q) (take j gs))))
+
     at : (b : Bool) → is_seen es gs q (get_or gs j 0) ≡ b → (if b then unwrap_or (written_at es a (get_or gs j 0)) w else w) ≡ last_written es a (opening_word o a) (filter (is_seen es gs q) (take j gs) ++ (if is_seen es gs q (get_or gs j 0) then get_or gs j 0 ∷ [] else []))
     at b is_b =
         ap (λ x. if b then unwrap_or (written_at es a (get_or gs j 0)) x else x) before_it

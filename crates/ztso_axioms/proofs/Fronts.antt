@@ -1,23 +1,23 @@
 -- The front of a trace, and what it has performed.
-use Rattle.std.proofs.Common.{◌≡◌, ℕ, zero, suc, ◌+◌, ◌-◌, ◌≤◌, ◌<◌, ◌==◌, Bool, true, false, not, ◌&&◌, ◌||◌, if◌then◌else◌, nat_lt, ◌⊎◌, inl, inr, List, [], ◌∷◌, ◌++◌, length, take, drop, Option, Some, None, refl, sym, ◌∙◌, ap, subst, arith, append-nil, append_assoc, length-append, length-drop, length-take}
-use Rattle.std.specs.Prelude.{filter, option_to_list, option_and_then}
-use Rattle.std.specs.List.{slice_get, list_any}
-use Rattle.std.proofs.lemmas.Bool.{eqb-true, eq-eqb, and_parts}
+use Rattle.std.proofs.Common.{◌≡◌, ℕ, zero, suc, ◌≤◌, ◌<◌, ◌==◌, Bool, true, false, ◌||◌, if◌then◌else◌, List, [], ◌∷◌, ◌++◌, length, take, drop, Option, Some, None, refl, sym, ◌∙◌, ap, subst, arith, append_assoc, length-append, length-drop}
+use Rattle.std.specs.Prelude.{option_and_then}
+use Rattle.std.specs.List.{slice_get}
+use Rattle.std.proofs.lemmas.Bool.{eqb-true, and_parts}
 use Rattle.std.proofs.lemmas.List.{take-append-drop, take-append-le, take_all}
 use Rattle.std.proofs.lemmas.Option.{slice_get_past}
 use Rattle.step_machine.specs.History.{Start}
-use Rattle.step_machine.specs.Entries.{hart_of, store_of, stores, lands, pending}
+use Rattle.step_machine.specs.Entries.{store_of, stores, lands, pending}
 use Rattle.step_machine.specs.Legal.{Allowed, LegalAfter}
 use Rattle.step_machine.specs.declared.events.Entry.{Entry}
 use Rattle.step_machine.specs.declared.events.Entry.TheVariants as entry
 use Rattle.step_machine.proofs.Appended.{LegalAfter-front, LegalAfter-back}
 use Rattle.step_machine.proofs.Balanced.{balanced-after}
-use Rattle.ztso_axioms.specs.Operations.{is_load, is_store, is_amo, is_full_fence, is_operation, passes, is_at, hart_at, written_to, written_at}
-use Rattle.ztso_axioms.specs.Axioms.{times_named, before, is_named, is_before, is_barrier}
-use Rattle.ztso_axioms.specs.Performed.{places_of, is_store_of, store_places, performed_by, performed_after, left_places, left_below, hart_bound}
+use Rattle.ztso_axioms.specs.Operations.{passes, is_at, written_to, written_at}
+use Rattle.ztso_axioms.specs.Axioms.{is_named, is_barrier}
+use Rattle.ztso_axioms.specs.Performed.{places_of, is_store_of, store_places, performed_after, left_below, hart_bound}
 use Rattle.ztso_axioms.proofs.Listing.{named-append}
 use Rattle.ztso_axioms.proofs.Places.{places_of-cons, places_of-split, place_of, performed_after-append}
-use Rattle.ztso_axioms.proofs.Members.{Each, Each-places, named-filter, named-places}
+use Rattle.ztso_axioms.proofs.Members.{named-filter, named-places}
 use Rattle.ztso_axioms.proofs.Performs.{is_reader, stores_at, reads_at, entry_here, stores_performed, reads_performed}
 
 -- entries by place
@@ -97,6 +97,7 @@ told_by all us e ws h rest split gs told = at e split
       where
         writes : (b : ℕ) → written_at all b (length us) ≡ (if a == b then Some v else None)
         writes b = ap (λ zs. written_at zs b (length us)) here ∙ ap (option_and_then (written_to b)) (entry_here us (entry.Store g a v) ws)
+
         mine : (b : Bool) → Told all ((if b then length us ∷ [] else []) ++ gs) ((if b then (a, v) ∷ [] else []) ++ stores h rest)
         mine true = (writes, told)
         mine false = told
@@ -114,7 +115,7 @@ told_stores all us [] ws h split = tt
 told_stores all us (e ∷ es) ws h split =
     let len : length (us ++ e ∷ []) ≡ suc (length us) = omega (arith, length-append us (e ∷ [])) in
     let rest : Told all (places_of (is_store_of h) (suc (length us)) es) (stores h es)
-        = subst (λ (n : ℕ). Told all (places_of (is_store_of h) n es) (stores h es)) len (told_stores all (us ++ e ∷ []) es ws h (split ∙ sym (append_assoc us (e ∷ []) (es ++ ws)))) in
+    = subst (λ (n : ℕ). Told all (places_of (is_store_of h) n es) (stores h es)) len (told_stores all (us ++ e ∷ []) es ws h (split ∙ sym (append_assoc us (e ∷ []) (es ++ ws)))) in
     subst (λ (zs : List ℕ). Told all zs (store_of h e ++ stores h es)) (sym (places_of-cons (is_store_of h) (length us) e es))
     (told_by all us e (es ++ ws) h es split (places_of (is_store_of h) (suc (length us)) es) rest)
 
@@ -164,7 +165,7 @@ store_not_yet B o es us ws h q legal split own le =
     at false is = is
     at true is =
         let whole : is_named q (store_places h us) ≡ true
-            = ap (is_named q) (sym (take-append-drop (lands h us) (store_places h us))) ∙ named-append q (take (lands h us) (store_places h us)) (drop (lands h us) (store_places h us)) ∙ ap (λ b. b || is_named q (drop (lands h us) (store_places h us))) is in
+        = ap (is_named q) (sym (take-append-drop (lands h us) (store_places h us))) ∙ named-append q (take (lands h us) (store_places h us)) (drop (lands h us) (store_places h us)) ∙ ap (λ b. b || is_named q (drop (lands h us) (store_places h us))) is in
         let here : is_at (is_store_of h) us q ≡ true = sym (named-places (is_store_of h) q us) ∙ whole in
         let past : is_at (is_store_of h) us q ≡ false = at_past (is_store_of h) us q le in
         cc

@@ -1,6 +1,6 @@
 -- Lists of places: how often they name one, and what stands before it.
-use Rattle.std.proofs.Common.{◌≡◌, ℕ, zero, suc, ◌+◌, ◌-◌, ◌≤◌, ◌<◌, ◌==◌, Bool, true, false, ◌||◌, if◌then◌else◌, nat_lt, List, [], ◌∷◌, ◌++◌, length, take, drop, get_or, refl, sym, ◌∙◌, ap, subst, arith, add_assoc, zero-add, length-append, length-take, length-drop, get_or-take, get_or-drop}
-use Rattle.std.proofs.lemmas.Bool.{eqb-true, eqb-false, eq-eqb, ne_eqb, ltb-true, ltb-false, lt-ltb, le-ltb}
+use Rattle.std.proofs.Common.{◌≡◌, ℕ, zero, suc, ◌+◌, ◌-◌, ◌≤◌, ◌<◌, ◌==◌, Bool, true, false, ◌||◌, if◌then◌else◌, nat_lt, List, [], ◌∷◌, ◌++◌, length, take, drop, get_or, refl, sym, ◌∙◌, ap, subst, arith, zero-add, length-take, length-drop, get_or-take, get_or-drop}
+use Rattle.std.proofs.lemmas.Bool.{eqb-true, eq-eqb, ne_eqb, ltb-true, ltb-false}
 use Rattle.std.proofs.lemmas.List.{take-append-drop, drop_more, take_more, get_or_read}
 use Rattle.ztso_axioms.specs.Axioms.{times_named, before, is_named, is_before}
 
@@ -25,21 +25,21 @@ pub times-none : (p : ℕ) (xs : List ℕ) → is_named p xs ≡ false → times
 times-none p [] none = refl
 times-none p (x ∷ xs) none =
     let at : (b : Bool) → (b || is_named p xs) ≡ false → (if b then suc (times_named p xs) else times_named p xs) ≡ 0
-        = λ (b : Bool). elim b as (λ c. (c || is_named p xs) ≡ false → (if c then suc (times_named p xs) else times_named p xs) ≡ 0) [ true ↦ λ no. cc | false ↦ times-none p xs ] in
+    = λ (b : Bool). elim b as (λ c. (c || is_named p xs) ≡ false → (if c then suc (times_named p xs) else times_named p xs) ≡ 0) [ true ↦ λ no. cc | false ↦ times-none p xs ] in
     at (x == p) none
 
 pub named-none : (p : ℕ) (xs : List ℕ) → times_named p xs ≡ 0 → is_named p xs ≡ false
 named-none p [] none = refl
 named-none p (x ∷ xs) none =
     let at : (b : Bool) → (if b then suc (times_named p xs) else times_named p xs) ≡ 0 → (b || is_named p xs) ≡ false
-        = λ (b : Bool). elim b as (λ c. (if c then suc (times_named p xs) else times_named p xs) ≡ 0 → (c || is_named p xs) ≡ false) [ true ↦ λ no. absurd (omega arith) | false ↦ named-none p xs ] in
+    = λ (b : Bool). elim b as (λ c. (if c then suc (times_named p xs) else times_named p xs) ≡ 0 → (c || is_named p xs) ≡ false) [ true ↦ λ no. absurd (omega arith) | false ↦ named-none p xs ] in
     at (x == p) none
 
 pub times-some : (p : ℕ) (xs : List ℕ) → is_named p xs ≡ true → 1 ≤ times_named p xs
 times-some p [] some = cc
 times-some p (x ∷ xs) some =
     let at : (b : Bool) → (b || is_named p xs) ≡ true → 1 ≤ (if b then suc (times_named p xs) else times_named p xs)
-        = λ (b : Bool). elim b as (λ c. (c || is_named p xs) ≡ true → 1 ≤ (if c then suc (times_named p xs) else times_named p xs)) [ true ↦ λ so. omega arith | false ↦ times-some p xs ] in
+    = λ (b : Bool). elim b as (λ c. (c || is_named p xs) ≡ true → 1 ≤ (if c then suc (times_named p xs) else times_named p xs)) [ true ↦ λ so. omega arith | false ↦ times-some p xs ] in
     at (x == p) some
 
 pub named-some : (p : ℕ) (xs : List ℕ) → 1 ≤ times_named p xs → is_named p xs ≡ true
@@ -71,7 +71,7 @@ pub before-at : (q : ℕ) (xs ys : List ℕ) → times_named q xs ≡ 0 → befo
 before-at q [] ys none = ap (λ b. if b then [] else q ∷ before q ys) (eq-eqb q q refl)
 before-at q (x ∷ xs) ys none =
     let at : (b : Bool) → (if b then suc (times_named q xs) else times_named q xs) ≡ 0 → (if b then [] else x ∷ before q (xs ++ q ∷ ys)) ≡ x ∷ xs
-        = λ (b : Bool). elim b as (λ c. (if c then suc (times_named q xs) else times_named q xs) ≡ 0 → (if c then [] else x ∷ before q (xs ++ q ∷ ys)) ≡ x ∷ xs) [ true ↦ λ no. absurd (omega arith) | false ↦ λ no. ap (λ zs. x ∷ zs) (before-at q xs ys no) ] in
+    = λ (b : Bool). elim b as (λ c. (if c then suc (times_named q xs) else times_named q xs) ≡ 0 → (if c then [] else x ∷ before q (xs ++ q ∷ ys)) ≡ x ∷ xs) [ true ↦ λ no. absurd (omega arith) | false ↦ λ no. ap (λ zs. x ∷ zs) (before-at q xs ys no) ] in
     at (x == q) none
 
 pub times-self : (q : ℕ) (ys : List ℕ) → times_named q (q ∷ ys) ≡ suc (times_named q ys)
@@ -94,6 +94,7 @@ is_before-index gs j i o lt_j lt_i = ap (is_named (get_or gs j 0)) (before-index
   where
     p : ℕ
     p = get_or gs j 0
+
     at : (b : Bool) → nat_lt j i ≡ b → is_named (get_or gs j 0) (take i gs) ≡ b
     at true is =
         let lt : j < i = ltb-true j i is in

@@ -1,11 +1,10 @@
 -- Which places a list names, and what a filter of it names.
-use Rattle.std.proofs.Common.{◌≡◌, ℕ, zero, suc, ◌+◌, ◌-◌, ◌≤◌, ◌<◌, ◌==◌, Bool, true, false, not, ◌&&◌, ◌||◌, if◌then◌else◌, nat_lt, List, [], ◌∷◌, ◌++◌, length, take, drop, Option, Some, None, refl, sym, ◌∙◌, ap, subst, arith, append-nil, length-append}
+use Rattle.std.proofs.Common.{◌≡◌, ℕ, zero, suc, ◌+◌, ◌≤◌, ◌<◌, ◌==◌, Bool, true, false, not, ◌&&◌, ◌||◌, if◌then◌else◌, List, [], ◌∷◌, ◌++◌, drop, refl, sym, ◌∙◌, ap, subst, arith}
 use Rattle.std.specs.Prelude.{filter, option_to_list}
 use Rattle.std.specs.List.{slice_get}
-use Rattle.std.proofs.lemmas.Bool.{eqb-true, eqb-false, eq-eqb, ne_eqb}
-use Rattle.std.proofs.lemmas.Option.{slice_get_past}
+use Rattle.std.proofs.lemmas.Bool.{eqb-true, eq-eqb, ne_eqb}
 use Rattle.step_machine.specs.declared.events.Entry.{Entry}
-use Rattle.ztso_axioms.specs.Operations.{passes, is_at}
+use Rattle.ztso_axioms.specs.Operations.{is_at}
 use Rattle.ztso_axioms.specs.Axioms.{times_named, before, is_named, is_before}
 use Rattle.ztso_axioms.specs.Performed.{places_of}
 use Rattle.ztso_axioms.proofs.Listing.{times-none, named-none, named-some, times-some, named-append}
@@ -135,11 +134,12 @@ is_before-filter test p q xs pass_p pass_q = ap (is_named p) (before-filter test
 pub before-split : (xs ys : List ℕ) (p q : ℕ) → is_named p xs ≡ true → is_named q xs ≡ false → is_before (xs ++ ys) p q ≡ true
 before-split [] ys p q some none = cc
 before-split (x ∷ xs) ys p q some none = at (x == q) none
-  (λ rest. here (x == p) refl some (λ so. before-split xs ys p q so rest))
+    (λ rest. here (x == p) refl some (λ so. before-split xs ys p q so rest))
   where
     here : (b : Bool) → (x == p) ≡ b → (b || is_named p xs) ≡ true → (is_named p xs ≡ true → is_before (xs ++ ys) p q ≡ true) → is_named p (x ∷ before q (xs ++ ys)) ≡ true
     here true same so more = or_left (x == p) (is_named p (before q (xs ++ ys))) same
     here false other so more = or_true (x == p) (is_named p (before q (xs ++ ys))) (more so)
+
     at : (c : Bool) → (c || is_named q xs) ≡ false → (is_named q xs ≡ false → is_named p (x ∷ before q (xs ++ ys)) ≡ true) → is_named p (if c then [] else x ∷ before q (xs ++ ys)) ≡ true
     at true absent more = cc
     at false absent more = more absent

@@ -1,21 +1,20 @@
 -- The order of performing names each operation once and keeps the preserved program order.
-use Rattle.std.proofs.Common.{◌≡◌, ℕ, zero, suc, ◌+◌, ◌-◌, ◌≤◌, ◌<◌, ◌==◌, Bool, true, false, not, ◌&&◌, ◌||◌, if◌then◌else◌, nat_lt, ◌⊎◌, inl, inr, List, [], ◌∷◌, ◌++◌, length, take, drop, Option, Some, None, refl, sym, ◌∙◌, ap, subst, arith, append-nil, append_assoc, length-append, length-drop, length-take}
-use Rattle.std.specs.Prelude.{filter, option_to_list}
+use Rattle.std.proofs.Common.{◌≡◌, ℕ, suc, ◌+◌, ◌≤◌, ◌<◌, ◌==◌, Bool, true, false, not, ◌&&◌, ◌||◌, if◌then◌else◌, nat_lt, ◌⊎◌, inl, inr, List, [], ◌∷◌, ◌++◌, length, take, drop, Option, Some, None, refl, sym, ◌∙◌, ap, subst, arith, append_assoc, length-append}
 use Rattle.std.specs.List.{slice_get, list_any}
 use Rattle.std.specs.Option.{option_map_or}
 use Rattle.std.proofs.lemmas.Bool.{eqb-true, eq-eqb, and_parts, ltb-true}
 use Rattle.std.proofs.lemmas.List.{take-append-drop, length-take-le}
 use Rattle.std.proofs.lemmas.Option.{slice_get_within}
 use Rattle.step_machine.specs.History.{Start}
-use Rattle.step_machine.specs.Entries.{hart_of, lands, pending}
+use Rattle.step_machine.specs.Entries.{hart_of}
 use Rattle.step_machine.specs.Legal.{LegalAfter}
 use Rattle.step_machine.specs.declared.events.Entry.{Entry}
 use Rattle.step_machine.specs.declared.events.Entry.TheVariants as entry
 use Rattle.ztso_axioms.specs.Operations.{is_load, is_store, is_amo, is_full_fence, is_operation, passes, is_at, hart_at}
-use Rattle.ztso_axioms.specs.Axioms.{times_named, before, is_named, is_before, in_program_order, is_barrier, is_fenced, may_pass, is_preserved, NamesEachOnce, KeepsProgramOrder}
+use Rattle.ztso_axioms.specs.Axioms.{times_named, is_named, is_before, in_program_order, is_barrier, is_fenced, may_pass, NamesEachOnce, KeepsProgramOrder}
 use Rattle.ztso_axioms.specs.Performed.{places_of, is_store_of, store_places, performed_after, left_below, hart_bound}
-use Rattle.ztso_axioms.proofs.Listing.{times-none, named-none}
-use Rattle.ztso_axioms.proofs.Members.{Each, times-filter, times-all_places, named-places, before-split, is_before-filter}
+use Rattle.ztso_axioms.proofs.Listing.{times-none}
+use Rattle.ztso_axioms.proofs.Members.{times-filter, times-all_places, named-places, before-split, is_before-filter}
 use Rattle.ztso_axioms.proofs.Performs.{is_reader, stores_at, reads_at, order-stores, order-reads, order-operations}
 use Rattle.ztso_axioms.proofs.Fronts.{some_at, split_entry, at_front, at_past, order-front, read_in_front, front_stores, front_allows, store_performed, store_not_yet, barrier_waits}
 
@@ -68,9 +67,11 @@ order-once es p = at (is_at is_operation es p) refl
         sym (times-filter (reads_at es) p (performed_order es) reads) ∙ ap (times_named p) (order-reads es) ∙ times-all_places is_reader p es ∙ ap (λ b. if b then 1 else 0) reads
     once (inr own) =
         sym (times-filter (stores_at es (hart_at es p)) p (performed_order es) own) ∙ ap (times_named p) (order-stores es (hart_at es p)) ∙ times-all_places (is_store_of (hart_at es p)) p es ∙ ap (λ b. if b then 1 else 0) own
+
     never : is_at is_operation es p ≡ false → (b : Bool) → is_named p (performed_order es) ≡ b → times_named p (performed_order es) ≡ 0
     never none true named = let op : is_at is_operation es p ≡ true = order-operations es p named in cc
     never none false named = times-none p (performed_order es) named
+
     at : (b : Bool) → is_at is_operation es p ≡ b → times_named p (performed_order es) ≡ (if b then 1 else 0)
     at true op = once (kind_at es p op)
     at false none = never none (is_named p (performed_order es)) refl
@@ -113,9 +114,9 @@ by_fence B o es h p q legal fenced own lt within reads = at (any_split (is_barri
     at found =
         let us : List Entry = take (suc p) (take q es) ++ found.0 in
         let front : take q es ≡ us ++ found.1 ∷ found.2
-            = sym (take-append-drop (suc p) (take q es)) ∙ ap (λ zs. take (suc p) (take q es) ++ zs) found.3 ∙ sym (append_assoc (take (suc p) (take q es)) found.0 (found.1 ∷ found.2)) in
+        = sym (take-append-drop (suc p) (take q es)) ∙ ap (λ zs. take (suc p) (take q es) ++ zs) found.3 ∙ sym (append_assoc (take (suc p) (take q es)) found.0 (found.1 ∷ found.2)) in
         let split : es ≡ us ++ found.1 ∷ (found.2 ++ drop q es)
-            = front_of es q ∙ ap (λ zs. zs ++ drop q es) front ∙ append_assoc us (found.1 ∷ found.2) (drop q es) in
+        = front_of es q ∙ ap (λ zs. zs ++ drop q es) front ∙ append_assoc us (found.1 ∷ found.2) (drop q es) in
         let len_q : length (take q es) ≡ q = length-take-le q es (omega arith) in
         let len_p : length (take (suc p) (take q es)) ≡ suc p = length-take-le (suc p) (take q es) (omega arith) in
         let len_us : length us ≡ suc p + length found.0 = length-append (take (suc p) (take q es)) found.0 ∙ ap (λ n. n + length found.0) len_p in
@@ -144,6 +145,7 @@ by_read B o es p q legal reads kind lt within =
   where
     len : length (take (suc p) es) ≡ suc p
     len = length-take-le (suc p) es (omega arith)
+
     later : (reads_at es q ≡ true) ⊎ (stores_at es (hart_at es q) q ≡ true) → is_named q (performed_after es [] (take (suc p) es)) ≡ false
     later (inl r) = read_not_yet es (take (suc p) es) (drop (suc p) es) q (front_of es (suc p)) r (omega (arith, len))
     later (inr s) = store_not_yet B o es (take (suc p) es) (drop (suc p) es) (hart_at es q) q legal (front_of es (suc p)) s (omega (arith, len))
@@ -155,11 +157,13 @@ by_store B o es h p q legal own hart held lt within reads = at (load_or_amo es q
     not_false : (b : Bool) → not b ≡ false → b ≡ true
     not_false true e = refl
     not_false false e = cc
+
     amo_barrier : (e : Entry) → slice_get es q ≡ Some e → is_amo e ≡ true → is_barrier h e ≡ true
     amo_barrier e here amo =
         let mine : hart_of e ≡ h = sym (hart ∙ ap (λ so. option_map_or hart_of so 0) here) in
         let same : (hart_of e == h) ≡ true = eq-eqb (hart_of e) h mine in
         ap (λ b. (b || is_full_fence e) && (hart_of e == h)) amo ∙ same
+
     at : (is_at is_load es q ≡ true) ⊎ (is_at is_amo es q ≡ true) → is_before (performed_order es) p q ≡ true
     at (inl load) =
         let plain : is_at is_store es p ≡ true = store_plain es h p own in
@@ -186,6 +190,7 @@ order-program B o es legal p q is =
     not_true : (c : Bool) → not c ≡ true → c ≡ false
     not_true true e = cc
     not_true false e = refl
+
     at : hart_at es p ≡ hart_at es q → p < q → q < length es → may_pass es p q ≡ false → (reads_at es p ≡ true) ⊎ (stores_at es (hart_at es p) p ≡ true) → (reads_at es q ≡ true) ⊎ (stores_at es (hart_at es q) q ≡ true) → is_before (performed_order es) p q ≡ true
     at hart lt within held (inl reads) kind = by_read B o es p q legal reads kind lt within
     at hart lt within held (inr own) (inl reads) = by_store B o es (hart_at es p) p q legal own hart held lt within reads

@@ -1,9 +1,9 @@
 -- What the entries of a trace perform: of each hart its stores in order, as many as it has landings,
 -- and each load and AMO at its place.
-use Rattle.std.proofs.Common.{◌≡◌, ℕ, zero, suc, ◌+◌, ◌-◌, ◌≤◌, ◌<◌, ◌==◌, Bool, true, false, not, ◌&&◌, ◌||◌, if◌then◌else◌, nat_lt, List, [], ◌∷◌, ◌++◌, length, take, drop, Option, Some, None, refl, sym, ◌∙◌, ap, subst, arith, append-nil, append_assoc, length-append}
+use Rattle.std.proofs.Common.{◌≡◌, ℕ, zero, suc, ◌+◌, ◌≤◌, ◌<◌, ◌==◌, Bool, true, false, not, ◌&&◌, ◌||◌, if◌then◌else◌, nat_lt, List, [], ◌∷◌, ◌++◌, length, take, drop, Option, Some, None, refl, sym, ◌∙◌, ap, arith, append-nil, append_assoc, length-append}
 use Rattle.std.specs.Prelude.{filter, option_to_list}
 use Rattle.std.specs.List.{slice_get}
-use Rattle.std.proofs.lemmas.Bool.{eqb-true, eqb-false, eq-eqb, ne_eqb, and_parts, ltb-true, ltb-false}
+use Rattle.std.proofs.lemmas.Bool.{eqb-true, eqb-false, ne_eqb, and_parts, ltb-true, ltb-false}
 use Rattle.std.proofs.lemmas.List.{take-append-drop}
 use Rattle.std.proofs.lemmas.List.Elements.{filter-append}
 use Rattle.step_machine.specs.Entries.{hart_of, land_of, lands}
@@ -40,6 +40,7 @@ take_next [] k n = ap (λ zs. take n zs) (drop_nil (k + 1)) ∙ take_nil n ∙ s
     drop_nil : (m : ℕ) → drop {A = ℕ} m [] ≡ []
     drop_nil zero = refl
     drop_nil (suc m) = refl
+
     take_nil : (m : ℕ) → take {A = ℕ} m [] ≡ []
     take_nil zero = refl
     take_nil (suc m) = refl
@@ -78,12 +79,16 @@ stores_by all us e ws h split n = at e (at_here (is_store_of h) all us e ws spli
   where
     S : List ℕ
     S = store_places h all
+
     same : (k : ℕ) → k ≡ k + 0
     same k = omega arith
+
     still : take n (drop (lands h us + 0) (store_places h all)) ≡ take (0 + n) (drop (lands h us) (store_places h all))
     still = let a : lands h us + 0 ≡ lands h us = omega arith in let b : n ≡ 0 + n = omega arith in ap (λ k. take n (drop k (store_places h all))) a ∙ ap (λ m. take m (drop (lands h us) (store_places h all))) b
+
     alone : stores_at all h (length us) ≡ false → filter (stores_at all h) (length us ∷ []) ++ take n (drop (lands h us + 0) (store_places h all)) ≡ take (0 + n) (drop (lands h us) (store_places h all))
     alone off = ap (λ b. (if b then length us ∷ [] else []) ++ take n (drop (lands h us + 0) (store_places h all))) off ∙ still
+
     landing : (g : ℕ) (b : Bool) → (g == h) ≡ b → filter (stores_at all h) (option_to_list (slice_get (store_places g all) (lands g us))) ++ take n (drop (lands h us + (if b then 1 else 0)) (store_places h all)) ≡ take ((if b then 1 else 0) + n) (drop (lands h us) (store_places h all))
     landing g true is =
         let mine : g ≡ h = eqb-true g h is in
@@ -93,6 +98,7 @@ stores_by all us e ws h split n = at e (at_here (is_store_of h) all us e ws spli
     landing g false is =
         ap (λ zs. zs ++ take n (drop (lands h us + 0) (store_places h all))) (filter_others all h g (option_to_list (slice_get (store_places g all) (lands g us))) (eqb-false g h is) (Each-get (stores_at all g) (store_places g all) (lands g us) (Each-places (is_store_of g) all)))
         ∙ still
+
     at : (d : Entry) → stores_at all h (length us) ≡ is_store_of h d → filter (stores_at all h) (performed_by all us d) ++ take n (drop (lands h us + land_of h d) (store_places h all)) ≡ take (land_of h d + n) (drop (lands h us) (store_places h all))
     at (entry.Inner g) here = still
     at (entry.Load g a v) here = alone here
@@ -112,7 +118,7 @@ stores_performed all us [] ws h split = refl
 stores_performed all us (e ∷ es) ws h split =
     filter-append (stores_at all h) (performed_by all us e) (performed_after all (us ++ e ∷ []) es)
     ∙ ap (λ zs. filter (stores_at all h) (performed_by all us e) ++ zs)
-        (stores_performed all (us ++ e ∷ []) es ws h (split ∙ sym (append_assoc us (e ∷ []) (es ++ ws))) ∙ ap (λ k. take (lands h es) (drop k (store_places h all))) (lands-last h us e))
+    (stores_performed all (us ++ e ∷ []) es ws h (split ∙ sym (append_assoc us (e ∷ []) (es ++ ws))) ∙ ap (λ k. take (lands h es) (drop k (store_places h all))) (lands-last h us e))
     ∙ stores_by all us e (es ++ ws) h split (lands h es)
 
 -- what is left of hart h's stores
@@ -218,6 +224,7 @@ operations_by all us e ws split = at e (at_here is_operation all us e ws split)
   where
     none : Each (is_at is_operation all) []
     none = Each-nil (is_at is_operation all)
+
     at : (d : Entry) → is_at is_operation all (length us) ≡ is_operation d → Each (is_at is_operation all) (performed_by all us d)
     at (entry.Inner g) here = none
     at (entry.Load g a v) here = Each-one (is_at is_operation all) (length us) here
@@ -261,6 +268,7 @@ order-stores es h =
     take_none : (m : ℕ) → take {A = ℕ} m [] ≡ []
     take_none zero = refl
     take_none (suc m) = refl
+
     at : (b : Bool) → nat_lt h (hart_bound es) ≡ b → take (lands h es) (store_places h es) ++ filter (stores_at es h) (left_below (hart_bound es) es) ≡ store_places h es
     at true is = ap (λ zs. take (lands h es) (store_places h es) ++ zs) (stores_left es h (hart_bound es) (ltb-true h (hart_bound es) is)) ∙ take-append-drop (lands h es) (store_places h es)
     at false is =

@@ -1,9 +1,7 @@
 -- The places of a hart's stores, and what the entries of a list perform, over one more entry.
-use Rattle.std.proofs.Common.{◌≡◌, ℕ, zero, suc, ◌+◌, ◌-◌, ◌≤◌, ◌<◌, ◌==◌, Bool, true, false, ◌&&◌, if◌then◌else◌, List, [], ◌∷◌, ◌++◌, length, take, drop, get_or, Option, Some, None, refl, sym, ◌∙◌, ap, subst, arith, append-nil, append_assoc, length-take}
-use Rattle.std.proofs.lemmas.List.{take_more, length-take-le}
-use Rattle.step_machine.specs.Entries.{hart_of, land_of, lands}
+use Rattle.std.proofs.Common.{◌≡◌, ℕ, suc, ◌+◌, Bool, true, false, if◌then◌else◌, List, [], ◌∷◌, ◌++◌, length, refl, sym, ◌∙◌, ap, arith, append-nil, append_assoc}
+use Rattle.step_machine.specs.Entries.{land_of, lands}
 use Rattle.step_machine.specs.declared.events.Entry.{Entry}
-use Rattle.step_machine.specs.declared.events.Entry.TheVariants as entry
 use Rattle.step_machine.proofs.Appended.{lands-append}
 use Rattle.ztso_axioms.specs.Performed.{places_of, performed_by, performed_after}
 

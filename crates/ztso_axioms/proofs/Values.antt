@@ -1,21 +1,21 @@
 -- In the order of performing, a read has the value of the Load Value Axiom.
-use Rattle.std.proofs.Common.{◌≡◌, ℕ, zero, suc, ◌+◌, ◌-◌, ◌≤◌, ◌<◌, ◌==◌, Bool, true, false, not, ◌&&◌, ◌||◌, if◌then◌else◌, nat_lt, ◌⊎◌, inl, inr, List, [], ◌∷◌, ◌++◌, length, take, drop, Option, Some, None, unwrap_or, refl, sym, ◌∙◌, ap, subst, arith, append-nil, append_assoc, length-append, length-drop, length-take}
+use Rattle.std.proofs.Common.{◌≡◌, ℕ, zero, suc, ◌+◌, ◌≤◌, ◌<◌, ◌==◌, Bool, true, false, not, ◌&&◌, ◌||◌, if◌then◌else◌, nat_lt, ◌⊎◌, inl, inr, List, [], ◌∷◌, ◌++◌, length, take, drop, Option, Some, None, unwrap_or, refl, sym, ◌∙◌, ap, subst, arith, append-nil, append_assoc, length-drop}
 use Rattle.std.specs.Prelude.{filter, option_to_list, option_and_then}
 use Rattle.std.specs.List.{slice_get}
 use Rattle.std.specs.Option.{option_map_or}
-use Rattle.std.proofs.lemmas.Bool.{lt-ltb, le-ltb, ltb-true, ltb-false}
+use Rattle.std.proofs.lemmas.Bool.{ltb-true, ltb-false}
 use Rattle.std.proofs.lemmas.List.{take-append-drop, length-take-le, drop-append-le, append_cancel_left}
 use Rattle.std.proofs.lemmas.List.Elements.{filter-append}
 use Rattle.std.proofs.lemmas.Option.{slice_get_within, some_pair_parts}
 use Rattle.memory.specs.Words.{newest_of}
 use Rattle.step_machine.specs.History.{Start, History}
-use Rattle.step_machine.specs.Entries.{hart_of, stores, lands, pending, write_of, landed_after, landed, opening_word, memory_word, read}
-use Rattle.step_machine.specs.Legal.{Allowed, LegalAfter, Legal, Kept}
+use Rattle.step_machine.specs.Entries.{hart_of, stores, lands, write_of, landed_after, opening_word, memory_word, read}
+use Rattle.step_machine.specs.Legal.{Allowed, LegalAfter, Kept}
 use Rattle.step_machine.specs.declared.events.Entry.{Entry}
 use Rattle.step_machine.specs.declared.events.Entry.TheVariants as entry
 use Rattle.step_machine.proofs.Appended.{LegalAfter-front, newest_of-append}
-use Rattle.ztso_axioms.specs.Operations.{is_store, is_operation, passes, is_at, hart_at, read_of, written_to, read_at, written_at}
-use Rattle.ztso_axioms.specs.Axioms.{times_named, before, is_named, is_before, in_program_order, is_seen, last_written, value_for, HasLoadValue, Ztso}
+use Rattle.ztso_axioms.specs.Operations.{is_operation, passes, is_at, hart_at, read_of, written_to, written_at}
+use Rattle.ztso_axioms.specs.Axioms.{times_named, before, is_named, in_program_order, is_seen, last_written, value_for, HasLoadValue, Ztso}
 use Rattle.ztso_axioms.specs.Performed.{places_of, is_store_of, store_places, performed_by, performed_after, left_below, hart_bound, order}
 use Rattle.ztso_axioms.proofs.Listing.{times-append, times-none, times-some, named-append, before-at}
 use Rattle.ztso_axioms.proofs.Checked.{once_of, last_written-append}
@@ -56,6 +56,7 @@ writes_by B o all us e ws a w found split = at e split
   where
     written : (d : Entry) → all ≡ us ++ d ∷ ws → written_at all a (length us) ≡ written_to a d
     written d here = ap (λ zs. written_at zs a (length us)) here ∙ ap (option_and_then (written_to a)) (entry_here us d ws)
+
     at : (d : Entry) → all ≡ us ++ d ∷ ws → Allowed B o us d → last_written all a (unwrap_or found w) (performed_by all us d) ≡ unwrap_or (newest_of a found (write_of us d)) w
     at (entry.Inner g) here may = refl
     at (entry.Load g b v) here may = ap (λ so. unwrap_or so (unwrap_or found w)) (written (entry.Load g b v) here)
@@ -74,7 +75,7 @@ writes_by B o all us e ws a w found split = at e split
         ap (λ zs. last_written all a (unwrap_or found w) (option_to_list (slice_get zs (lands g us)))) (front_stores all us (entry.Land g ∷ ws) g here)
         ∙ ap (last_written all a (unwrap_or found w)) (first_of (store_places g us) (places_of (is_store_of g) (length us) (entry.Land g ∷ ws)) (lands g us) some)
         ∙ told_values all a w found (take 1 (drop (lands g us) (store_places g us))) (take 1 (drop (lands g us) (stores g us)))
-          (told_first all (drop (lands g us) (store_places g us)) (drop (lands g us) (stores g us)) (Told-drop all (lands g us) (store_places g us) (stores g us) told))
+        (told_first all (drop (lands g us) (store_places g us)) (drop (lands g us) (stores g us)) (Told-drop all (lands g us) (store_places g us) (stores g us) told))
 
 -- what entries perform writes what reaches memory
 writes_after : (B : ℕ) (o : Start) (all us es ws : List Entry) (a w : ℕ) (found : Option ℕ) → all ≡ us ++ (es ++ ws) → LegalAfter B o us es → last_written all a (unwrap_or found w) (performed_after all us es) ≡ unwrap_or (newest_of a found (landed_after us es)) w
@@ -100,6 +101,7 @@ sees_own es q x us ws split len out op = at (kind_at es x op)
     off true false = refl
     off false true = refl
     off false false = refl
+
     reader : reads_at es x ≡ true → (b : Bool) → nat_lt x q ≡ b → in_program_order es x q ≡ (stores_at es (hart_at es q) x && nat_lt x q)
     reader reads true is =
         let lt : x < q = ltb-true x q is in
@@ -107,6 +109,7 @@ sees_own es q x us ws split len out op = at (kind_at es x op)
         cc
     reader reads false is =
         ap (λ b. (hart_at es x == hart_at es q) && b) is ∙ off (hart_at es x == hart_at es q) (stores_at es (hart_at es q) x) ∙ ap (λ b. stores_at es (hart_at es q) x && b) (sym is)
+
     writer : (so : Option Entry) → passes (is_store_of (option_map_or hart_of so 0)) so ≡ true → (option_map_or hart_of so 0 == hart_at es q) ≡ passes (is_store_of (hart_at es q)) so
     writer None own = cc
     writer (Some (entry.Inner h)) own = cc
@@ -120,6 +123,7 @@ sees_own es q x us ws split len out op = at (kind_at es x op)
     writer (Some (entry.Ended h)) own = cc
     writer (Some (entry.Stopped h why)) own = cc
     writer (Some (entry.Land h)) own = cc
+
     at : (reads_at es x ≡ true) ⊎ (stores_at es (hart_at es x) x ≡ true) → in_program_order es x q ≡ (stores_at es (hart_at es q) x && nat_lt x q)
     at (inl reads) = reader reads (nat_lt x q) refl
     at (inr own) = ap (λ b. b && nat_lt x q) (writer (slice_get es x) own)
@@ -150,8 +154,10 @@ pending_places B o es us ws h q legal split len =
         let le : q ≤ x = ltb-false x q lt in
         let past : is_at (is_store_of h) us x ≡ false = at_past (is_store_of h) us x (omega arith) in
         cc
+
     early : Each (λ x. nat_lt x q) (store_places h us)
     early x named = early_at x (Each-places (is_store_of h) us x named) (nat_lt x q) refl
+
     late_at : (x : ℕ) → is_named x (places_of (is_store_of h) (length us) ws) ≡ true → (b : Bool) → nat_lt x q ≡ b → not b ≡ true
     late_at x named false lt = refl
     late_at x named true lt =
@@ -159,6 +165,7 @@ pending_places B o es us ws h q legal split len =
         let none : times_named x (places_of (is_store_of h) (length us) ws) ≡ 0 = times-low (is_store_of h) x (length us) ws (omega arith) in
         let some : 1 ≤ times_named x (places_of (is_store_of h) (length us) ws) = times-some x (places_of (is_store_of h) (length us) ws) named in
         absurd (omega arith)
+
     late : Each (λ x. not (nat_lt x q)) (places_of (is_store_of h) (length us) ws)
     late x named = late_at x named (nat_lt x q) refl
 
@@ -192,27 +199,31 @@ seen_by_read B o es us e ws q legal split len reader reads =
     ∙ filter-append (is_seen es (performed_order es) q) (performed_after es [] us) (performed_after es us (e ∷ ws) ++ left_below (hart_bound es) es)
     ∙ ap (λ zs. zs ++ filter (is_seen es (performed_order es) q) (performed_after es us (e ∷ ws) ++ left_below (hart_bound es) es)) (filter-every (is_seen es (performed_order es) q) (performed_after es [] us) front)
     ∙ ap (λ zs. performed_after es [] us ++ zs)
-        (filter-same (is_seen es (performed_order es) q) (λ x. stores_at es (hart_at es q) x && nat_lt x q) (performed_after es us (e ∷ ws) ++ left_below (hart_bound es) es) back
-        ∙ filter-both (stores_at es (hart_at es q)) (λ x. nat_lt x q) (performed_after es us (e ∷ ws) ++ left_below (hart_bound es) es)
-        ∙ ap (filter (λ x. nat_lt x q)) (back_stores es us (e ∷ ws) (hart_at es q) split)
-        ∙ pending_places B o es us (e ∷ ws) (hart_at es q) q legal split len)
+    (filter-same (is_seen es (performed_order es) q) (λ x. stores_at es (hart_at es q) x && nat_lt x q) (performed_after es us (e ∷ ws) ++ left_below (hart_bound es) es) back
+    ∙ filter-both (stores_at es (hart_at es q)) (λ x. nat_lt x q) (performed_after es us (e ∷ ws) ++ left_below (hart_bound es) es)
+    ∙ ap (filter (λ x. nat_lt x q)) (back_stores es us (e ∷ ws) (hart_at es q) split)
+    ∙ pending_places B o es us (e ∷ ws) (hart_at es q) q legal split len)
   where
     seen_is : (x : ℕ) → is_seen es (performed_order es) q x ≡ (is_named x (performed_after es [] us) || in_program_order es x q)
     seen_is x = ap (λ gs. is_named x gs || in_program_order es x q) (before_read es us e ws q split len reader reads)
+
     front : Each (is_seen es (performed_order es) q) (performed_after es [] us)
     front x named = seen_is x ∙ ap (λ b. b || in_program_order es x q) named
+
     not_in_front : (x : ℕ) → is_named x (performed_after es us (e ∷ ws) ++ left_below (hart_bound es) es) ≡ true → (b : Bool) → is_named x (performed_after es [] us) ≡ b → is_named x (performed_after es [] us) ≡ false
     not_in_front x named false is = is
     not_in_front x named true is =
         let whole : times_named x (performed_order es) ≡ times_named x (performed_after es [] us) + times_named x (performed_after es us (e ∷ ws) ++ left_below (hart_bound es) es)
-            = ap (times_named x) (order-front es us (e ∷ ws) split) ∙ times-append x (performed_after es [] us) (performed_after es us (e ∷ ws) ++ left_below (hart_bound es) es) in
+        = ap (times_named x) (order-front es us (e ∷ ws) split) ∙ times-append x (performed_after es [] us) (performed_after es us (e ∷ ws) ++ left_below (hart_bound es) es) in
         let some : 1 ≤ times_named x (performed_after es [] us) = times-some x (performed_after es [] us) is in
         let more : 1 ≤ times_named x (performed_after es us (e ∷ ws) ++ left_below (hart_bound es) es) = times-some x (performed_after es us (e ∷ ws) ++ left_below (hart_bound es) es) named in
         let few : times_named x (performed_order es) ≤ 1 = (once_of es (performed_order es) (order-once es)).once x in
         absurd (omega arith)
+
     operation : (x : ℕ) → is_named x (performed_after es us (e ∷ ws) ++ left_below (hart_bound es) es) ≡ true → is_at is_operation es x ≡ true
     operation x named =
         order-operations es x (ap (is_named x) (order-front es us (e ∷ ws) split) ∙ named-append x (performed_after es [] us) (performed_after es us (e ∷ ws) ++ left_below (hart_bound es) es) ∙ or_true (is_named x (performed_after es [] us)) (is_named x (performed_after es us (e ∷ ws) ++ left_below (hart_bound es) es)) named)
+
     back : (x : ℕ) → is_named x (performed_after es us (e ∷ ws) ++ left_below (hart_bound es) es) ≡ true → is_seen es (performed_order es) q x ≡ (stores_at es (hart_at es q) x && nat_lt x q)
     back x named =
         let out : is_named x (performed_after es [] us) ≡ false = not_in_front x named (is_named x (performed_after es [] us)) refl in
@@ -225,7 +236,7 @@ value_of_read B o es us e ws q a legal split len reader reads =
     ∙ last_written-append es a (opening_word o a) (performed_after es [] us) (drop (lands (hart_at es q) us) (store_places (hart_at es q) us))
     ∙ ap (λ w. last_written es a w (drop (lands (hart_at es q) us) (store_places (hart_at es q) us))) (front_memory B o es us (e ∷ ws) a legal split)
     ∙ told_values es a (memory_word o us a) None (drop (lands (hart_at es q) us) (store_places (hart_at es q) us)) (drop (lands (hart_at es q) us) (stores (hart_at es q) us))
-      (Told-drop es (lands (hart_at es q) us) (store_places (hart_at es q) us) (stores (hart_at es q) us) (front_told es us (e ∷ ws) (hart_at es q) split))
+    (Told-drop es (lands (hart_at es q) us) (store_places (hart_at es q) us) (stores (hart_at es q) us) (front_told es us (e ∷ ws) (hart_at es q) split))
 
 reads_what : (B : ℕ) (o : Start) (us : List Entry) (e : Entry) (a v : ℕ) → read_of e ≡ Some (a, v) → Allowed B o us e → (is_reader e ≡ true) × (v ≡ read o us (hart_of e) a)
 reads_what B o us (entry.Inner g) a v is may = cc

@@ -97,6 +97,7 @@ names_more es n h old new next named adds i g lt is = at (g == h) refl
         let least : n ≤ g → h ≤ g = at_entry (λ (d : Entry). n ≤ hart_of d → h ≤ hart_of d) es i (entry.Land g) next.least is in
         let above : h ≤ g = least le in
         absurd (ne (omega arith))
+
     at : (b : Bool) → (g == h) ≡ b → get_or new i None ≡ landed_at es g i
     at true same =
         let g_is : g ≡ h = eqb-true g h same in
@@ -220,6 +221,7 @@ naming_hit es h i count old landed d stands n lt is stands_is =
   where
     lt_of : (k : ℕ) → (k ≡ i → ⊥) → k < i + 1 → k < i
     lt_of k ne below = omega arith
+
     at : (k : ℕ) (b : Bool) → (k == i) ≡ b → k < i + 1 → slice_get es k ≡ Some (entry.Land h) → i < length landed → get_or (set landed i stands) k None ≡ landed_at es h k
     at k true same below is_k within =
         let k_is : k ≡ i = eqb-true k i same in

@@ -1,6 +1,6 @@
 -- What RVWMO with Ztso asks of a global memory order over a trace's operations (RISC-V Unprivileged
 -- ISA, chapters RVWMO and Ztso). The order is a list of places; there is no buffer in it and no memory.
-use Rattle.std.specs.Prelude.{ℕ, zero, suc, ◌≡◌, ◌==◌, Bool, true, false, not, ◌&&◌, ◌||◌, if◌then◌else◌, nat_lt, IsTrue, List, [], ◌∷◌, drop, take, filter, Option, Some, None, unwrap_or}
+use Rattle.std.specs.Prelude.{ℕ, suc, ◌≡◌, ◌==◌, Bool, not, ◌&&◌, ◌||◌, if◌then◌else◌, nat_lt, IsTrue, List, [], ◌∷◌, drop, take, filter, Some, unwrap_or}
 use Rattle.std.specs.List.{list_any}
 use Rattle.step_machine.specs.Entries.{hart_of, opening_word}
 use Rattle.step_machine.specs.History.{Start, History}

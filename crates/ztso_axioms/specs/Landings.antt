@@ -1,5 +1,5 @@
 -- Which store each landing of a trace performs, as a list that the walk over the trace reads.
-use Rattle.std.specs.Prelude.{ℕ, ◌≡◌, ◌<◌, ◌≤◌, ◌&&◌, if◌then◌else◌, nat_lt, nat_le, List, [], take, slice_index_or, Option, Some, None, All}
+use Rattle.std.specs.Prelude.{ℕ, ◌≡◌, ◌<◌, ◌≤◌, ◌&&◌, if◌then◌else◌, nat_lt, nat_le, List, take, slice_index_or, Option, Some, None, All}
 use Rattle.std.specs.List.{slice_get}
 use Rattle.step_machine.specs.Entries.{hart_of, lands}
 use Rattle.step_machine.specs.declared.events.Entry.{Entry}

@@ -1,6 +1,6 @@
 -- The order in which a trace performed its operations: loads and AMOs at their own places, a hart's
 -- k-th store at the place of its k-th landing, and last the stores without such a landing, hart by hart.
-use Rattle.std.specs.Prelude.{ℕ, zero, suc, ◌==◌, Bool, ◌&&◌, if◌then◌else◌, max, List, [], ◌∷◌, ◌++◌, length, drop, Option, Some, None, option_to_list}
+use Rattle.std.specs.Prelude.{ℕ, zero, suc, ◌==◌, Bool, ◌&&◌, if◌then◌else◌, max, List, [], ◌∷◌, ◌++◌, length, drop, option_to_list}
 use Rattle.std.specs.List.{slice_get}
 use Rattle.step_machine.specs.Entries.{hart_of, lands}
 use Rattle.step_machine.specs.History.{History}

@@ -6,7 +6,10 @@ ghost use Rattle.step_machine.specs.Entries.{opening_word};
 ghost use Rattle.ztso_axioms.specs.Operations.{written_at, hart_at};
 ghost use Rattle.ztso_axioms.specs.Axioms.{times_named, is_barrier, is_fenced, is_preserved, in_program_order, is_seen, value_for, NamesEachOnce, KeepsProgramOrder, HasLoadValue, Ztso};
 
-use crate::operation::{Op, entry_at, hart_named, hart_of_entry, is_memory_operation, is_plain_load, is_plain_store, orders, value_named, value_read};
+use crate::operation::{
+    Op, entry_at, hart_named, hart_of_entry, is_memory_operation, is_plain_load, is_plain_store,
+    orders, value_named, value_read,
+};
 use step_machine::{Entry, Opening, Trace};
 
 /// Whether the list is a global memory order that Ztso allows for the trace. A list that names a place

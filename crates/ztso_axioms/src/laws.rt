@@ -10,5 +10,4 @@ ghost use Rattle.ztso_axioms.specs.Performed.{order};
 /// which it performed its operations; so every trace of a machine does. It does nothing.
 pub fn traces_satisfy_ztso()
     ensures { (B M : ℕ) (t : History) → Kept B M t → Ztso t (order t) }
-{
-}
+{}

@@ -73,7 +73,10 @@ pub(crate) fn is_plain_store(entry: Entry) -> bool
 pub(crate) fn is_memory_operation(entry: Entry) -> bool
     ensures { result ≡ is_operation entry }
 {
-    matches!(entry, Entry::Load { .. } | Entry::Store { .. } | Entry::Amo { .. })
+    matches!(
+        entry,
+        Entry::Load { .. } | Entry::Store { .. } | Entry::Amo { .. }
+    )
 }
 
 /// Whether the entry is an AMO or a full fence of this hart.

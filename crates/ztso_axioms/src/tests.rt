@@ -40,12 +40,26 @@ fn full_fence(hart: u32) -> Entry {
 
 /// Store buffering: both stores pend while both loads read 0.
 fn store_buffering() -> [Entry; 6] {
-    [store(0, 0, 1), store(1, 4, 1), load(0, 4, 0), load(1, 0, 0), land(0), land(1)]
+    [
+        store(0, 0, 1),
+        store(1, 4, 1),
+        load(0, 4, 0),
+        load(1, 0, 0),
+        land(0),
+        land(1),
+    ]
 }
 
 /// Hart 0 reads its own newest store, before hart 1 sees any.
 fn own_stores_early() -> [Entry; 6] {
-    [store(0, 0, 1), store(0, 0, 2), load(0, 0, 2), load(1, 0, 0), land(0), load(1, 0, 1)]
+    [
+        store(0, 0, 1),
+        store(0, 0, 2),
+        load(0, 0, 2),
+        load(1, 0, 0),
+        land(0),
+        load(1, 0, 1),
+    ]
 }
 
 /// Store buffering with a full fence between each hart's store and load.
@@ -62,7 +76,12 @@ fn fenced() -> [Entry; 8] {
     ]
 }
 
-fn expect_order(rt: &impl Abort, alloc: Global, trace: &Trace, places: &[usize]) -> Result<(), AllocError> {
+fn expect_order(
+    rt: &impl Abort,
+    alloc: Global,
+    trace: &Trace,
+    places: &[usize],
+) -> Result<(), AllocError> {
     let order = order_of(alloc, trace)?;
     assert_eq!(rt; order.len(), places.len());
     for (op, place) in order.iter().zip(places) {

@@ -1,4 +1,4 @@
-use Rattle.std.proofs.Common.{◌≡◌, ℕ, ◌≤◌, ◌<◌, length, arith, refl}
+use Rattle.std.proofs.Common.{arith, refl}
 use Rattle.ztso_axioms.proofs.Checked.{values_from_indices}
 use Rattle.ztso_axioms.proofs.checking.has_load_values.Goals as goal
 

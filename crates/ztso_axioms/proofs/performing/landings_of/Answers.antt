@@ -1,5 +1,5 @@
 use Rattle.std.proofs.Common.{◌≡◌, ℕ, ◌+◌, drop, ◌≤◌, ◌<◌, ◌++◌, List, Option, length, sym, ◌∙◌, ap, subst, arith}
-use Rattle.std.proofs.lemmas.List.{with_items_is, drop_min}
+use Rattle.std.proofs.lemmas.List.{with_items_is}
 use Rattle.std.specs.Vec.{with_items}
 use Rattle.step_machine.specs.Entries.{lands}
 use Rattle.ztso_axioms.specs.Performed.{store_places, left_places, left_below, hart_bound}
@@ -23,15 +23,15 @@ loop-hart-preserved c =
     let whole : (with_items c.loop-hart.landed c.name_landings-count.new.landed).items ≡ c.name_landings-count.new.landed = with_items_is c.loop-hart.landed c.name_landings-count.new.landed len in
     let adds : AddsLandings c.args.entries.now c.in-Some.hart c.deref_mut.result.now c.name_landings-count.new.landed = c.name_landings-count.ensures.landed in
     let named : NamesLandings c.args.entries.now (c.in-Some.hart + 1) c.name_landings-count.new.landed
-        = names_more c.args.entries.now c.loop-hart.from c.in-Some.hart c.loop-hart.landed.items c.name_landings-count.new.landed c.in-Some.ensures c.loop-hart.invariant.named
-          (subst (λ (zs : List (Option ℕ)). AddsLandings c.args.entries.now c.in-Some.hart zs c.name_landings-count.new.landed) lent adds) in
+    = names_more c.args.entries.now c.loop-hart.from c.in-Some.hart c.loop-hart.landed.items c.name_landings-count.new.landed c.in-Some.ensures c.loop-hart.invariant.named
+    (subst (λ (zs : List (Option ℕ)). AddsLandings c.args.entries.now c.in-Some.hart zs c.name_landings-count.new.landed) lent adds) in
     let count : c.name_landings-count.result ≡ lands c.in-Some.hart c.args.entries.now = c.name_landings-count.ensures.count in
     let places : c.in_ok-places.places.items ≡ store_places c.in-Some.hart c.args.entries.now = c.in_ok-places.ensures in
     record {
       named = subst (NamesLandings c.args.entries.now (c.in-Some.hart + 1)) (sym whole) named;
       len = ap length whole ∙ kept ∙ ap length lent ∙ c.loop-hart.invariant.len;
       left = let ext : c.add_rest.new.left.items ≡ c.loop-hart.left.items ++ left_places c.in-Some.hart c.args.entries.now = c.in_ok-add_rest.ensures ∙ ap (λ zs. c.loop-hart.left.items ++ zs) (ap (drop c.name_landings-count.result) (c.deref-in-Some.ensures.value ∙ places) ∙ ap (λ n. drop n (store_places c.in-Some.hart c.args.entries.now)) count) in
-        ext ∙ ap (λ zs. zs ++ left_places c.in-Some.hart c.args.entries.now) c.loop-hart.invariant.left ∙ sym (left_more c.args.entries.now c.loop-hart.from c.in-Some.hart c.in-Some.ensures);
+          ext ∙ ap (λ zs. zs ++ left_places c.in-Some.hart c.args.entries.now) c.loop-hart.invariant.left ∙ sym (left_more c.args.entries.now c.loop-hart.from c.in-Some.hart c.in-Some.ensures);
       bound = omega arith;
     }
 

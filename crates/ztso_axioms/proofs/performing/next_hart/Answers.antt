@@ -1,4 +1,4 @@
-use Rattle.std.proofs.Common.{◌≡◌, ℕ, ◌+◌, ◌<◌, List, Option, length, take, sym, ◌∙◌, ap, subst, arith}
+use Rattle.std.proofs.Common.{◌+◌, List, take, sym, ◌∙◌, ap, subst}
 use Rattle.std.proofs.lemmas.List.{take_all}
 use Rattle.step_machine.specs.declared.events.Entry.{Entry}
 use Rattle.ztso_axioms.specs.Landings.{nearer_of}

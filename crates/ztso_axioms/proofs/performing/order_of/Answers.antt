@@ -1,4 +1,4 @@
-use Rattle.std.proofs.Common.{◌≡◌, ℕ, List, rules, sym, subst}
+use Rattle.std.proofs.Common.{◌≡◌, rules, sym, subst}
 use Rattle.ztso_axioms.specs.Axioms.{Ztso}
 use Rattle.ztso_axioms.specs.Performed.{order}
 use Rattle.ztso_axioms.proofs.Values.{kept-ztso}
