@@ -1,0 +1,171 @@
+-- What the checks of a list establish.
+use Rattle.std.proofs.Common.{◌≡◌, ℕ, ◌+◌, ◌-◌, ◌≤◌, ◌<◌, Bool, true, false, not, ◌&&◌, ◌||◌, if◌then◌else◌, nat_lt, List, [], ◌∷◌, ◌++◌, length, take, drop, get_or, Option, Some, None, refl, sym, ◌∙◌, ap, subst, arith, append-nil, length-drop, get_or-drop}
+use Rattle.std.specs.Prelude.{All, filter, unwrap_or, option_and_then}
+use Rattle.std.specs.List.{slice_get}
+use Rattle.std.proofs.lemmas.Bool.{and_parts, ltb-true, ltb-false, lt-ltb, le-ltb}
+use Rattle.std.proofs.lemmas.List.{take_rest, get_or_default, get_or_read}
+use Rattle.std.proofs.lemmas.List.Elements.{filter_more}
+use Rattle.std.proofs.lemmas.Option.{slice_get_past}
+use Rattle.step_machine.specs.History.{Start}
+use Rattle.step_machine.specs.Entries.{opening_word}
+use Rattle.step_machine.specs.declared.events.Entry.{Entry}
+use Rattle.step_machine.specs.declared.events.Entry.TheVariants as entry
+use Rattle.ztso_axioms.specs.Operations.{is_operation, passes, is_at, read_of, read_at, written_at}
+use Rattle.ztso_axioms.specs.Axioms.{times_named, is_named, is_before, in_program_order, may_pass, is_preserved, is_seen, last_written, NamesEachOnce, KeepsProgramOrder, HasLoadValue}
+use Rattle.ztso_axioms.proofs.Listing.{Once, times-none, times-some, named-some, named_at, index_of, is_before-index}
+
+pub once_of : (es : List Entry) (gs : List ℕ) → NamesEachOnce es gs → Once gs
+once_of es gs n = record { once = λ p. at p (is_at is_operation es p) (n p) }
+  where
+    at : (p : ℕ) (b : Bool) → times_named p gs ≡ (if b then 1 else 0) → times_named p gs ≤ 1
+    at p true e = omega arith
+    at p false e = omega arith
+
+-- an operation is named
+pub named_op : (es : List Entry) (gs : List ℕ) (p : ℕ) → NamesEachOnce es gs → is_at is_operation es p ≡ true → is_named p gs ≡ true
+named_op es gs p n op =
+    let one : times_named p gs ≡ 1 = n p ∙ ap (λ b. if b then 1 else 0) op in
+    named-some p gs (omega arith)
+
+-- each place of the trace is named as often as it should be, and no other is
+pub names_from : (es : List Entry) (gs : List ℕ) → ((p : ℕ) → p < length es → times_named p gs ≡ (if is_at is_operation es p then 1 else 0)) → All (λ (g : ℕ). g < length es) gs → NamesEachOnce es gs
+names_from es gs each within p = at (nat_lt p (length es)) refl
+  where
+    none : length es ≤ p → (b : Bool) → is_named p gs ≡ b → times_named p gs ≡ 0
+    none past false is = times-none p gs is
+    none past true is =
+        let there : (i : ℕ) × (i < length gs) × (get_or gs i 0 ≡ p) = index_of p gs is in
+        let lt : get_or gs there.0 0 < length es = within there.0 0 there.1 in
+        let same : get_or gs there.0 0 ≡ p = there.2 in
+        absurd (omega arith)
+
+    at : (b : Bool) → nat_lt p (length es) ≡ b → times_named p gs ≡ (if is_at is_operation es p then 1 else 0)
+    at true is = each p (ltb-true p (length es) is)
+    at false is =
+        let past : length es ≤ p = ltb-false p (length es) is in
+        none past (is_named p gs) refl ∙ ap (λ so. if passes is_operation so then 1 else 0) (sym (slice_get_past es p past))
+
+pub within_from : (es : List Entry) (gs : List ℕ) → NamesEachOnce es gs → All (λ (g : ℕ). g < length es) gs
+within_from es gs n k d lt = at (nat_lt (get_or gs k d) (length es)) refl
+  where
+    at : (b : Bool) → nat_lt (get_or gs k d) (length es) ≡ b → get_or gs k d < length es
+    at true is = ltb-true (get_or gs k d) (length es) is
+    at false is =
+        let past : length es ≤ get_or gs k d = ltb-false (get_or gs k d) (length es) is in
+        let none : times_named (get_or gs k d) gs ≡ 0 = n (get_or gs k d) ∙ ap (λ so. if passes is_operation so then 1 else 0) (slice_get_past es (get_or gs k d) past) in
+        let some : 1 ≤ times_named (get_or gs k d) gs = times-some (get_or gs k d) gs (named_at gs k d lt) in
+        absurd (omega arith)
+
+preserved_parts : (es : List Entry) (p q : ℕ) → is_preserved es p q ≡ true → (is_at is_operation es p ≡ true) × (is_at is_operation es q ≡ true)
+preserved_parts es p q is =
+    let a : ((is_at is_operation es p && is_at is_operation es q && in_program_order es p q) ≡ true) × (not (may_pass es p q) ≡ true) = and_parts _ _ is in
+    let b : ((is_at is_operation es p && is_at is_operation es q) ≡ true) × (in_program_order es p q ≡ true) = and_parts _ _ a.0 in
+    and_parts _ _ b.0
+
+-- nothing that stands from the operation at i on has to stand before it
+abbrev pub NoneBelongsBefore : List Entry → List ℕ → ℕ → Type 0
+NoneBelongsBefore es gs i = All (λ (p : ℕ). is_preserved es p (get_or gs i 0) ≡ false) (drop i gs)
+
+pub keeps_from_indices : (es : List Entry) (gs : List ℕ) → NamesEachOnce es gs → ((i : ℕ) → i < length gs → NoneBelongsBefore es gs i) → KeepsProgramOrder es gs
+keeps_from_indices es gs n none p q is =
+    let ops : (is_at is_operation es p ≡ true) × (is_at is_operation es q ≡ true) = preserved_parts es p q is in
+    let at_p : (i : ℕ) × (i < length gs) × (get_or gs i 0 ≡ p) = index_of p gs (named_op es gs p n ops.0) in
+    let at_q : (i : ℕ) × (i < length gs) × (get_or gs i 0 ≡ q) = index_of q gs (named_op es gs q n ops.1) in
+    subst (λ (x : ℕ). is_before gs x q ≡ true) at_p.2 (subst (λ (y : ℕ). is_before gs (get_or gs at_p.0 0) y ≡ true) at_q.2
+    (is_before-index gs at_p.0 at_q.0 (once_of es gs n) at_p.1 at_q.1 ∙ at at_p.0 at_q.0 at_p.1 at_q.1 at_p.2 at_q.2 (nat_lt at_p.0 at_q.0) refl))
+  where
+    at : (j i : ℕ) → j < length gs → i < length gs → get_or gs j 0 ≡ p → get_or gs i 0 ≡ q → (b : Bool) → nat_lt j i ≡ b → b ≡ true
+    at j i lt_j lt_i is_p is_q true lt = refl
+    at j i lt_j lt_i is_p is_q false lt =
+        let le : i ≤ j = ltb-false j i lt in
+        let within : j - i < length (drop i gs) = omega (arith, length-drop i gs) in
+        let there : i + (j - i) ≡ j = omega arith in
+        let same : get_or (drop i gs) (j - i) 0 ≡ p = get_or-drop i gs (j - i) 0 ∙ ap (λ k. get_or gs k 0) there ∙ is_p in
+        let no : is_preserved es (get_or (drop i gs) (j - i) 0) (get_or gs i 0) ≡ false = none i lt_i (j - i) 0 within in
+        let no_p : is_preserved es p (get_or gs i 0) ≡ false = subst (λ (x : ℕ). is_preserved es x (get_or gs i 0) ≡ false) same no in
+        let no_pq : is_preserved es p q ≡ false = subst (λ (x : ℕ). is_preserved es p x ≡ false) is_q no_p in
+        cc
+
+pub indices_from_keeps : (es : List Entry) (gs : List ℕ) (i : ℕ) → NamesEachOnce es gs → KeepsProgramOrder es gs → i < length gs → NoneBelongsBefore es gs i
+indices_from_keeps es gs i n keeps lt k d within = at (is_preserved es (get_or (drop i gs) k d) (get_or gs i 0)) refl
+  where
+    at : (b : Bool) → is_preserved es (get_or (drop i gs) k d) (get_or gs i 0) ≡ b → b ≡ false
+    at false is = refl
+    at true is =
+        let inside : i + k < length gs = omega (arith, length-drop i gs) in
+        let same : get_or (drop i gs) k d ≡ get_or gs (i + k) 0 = get_or-drop i gs k d ∙ get_or_default gs (i + k) d 0 inside in
+        let before_it : is_before gs (get_or (drop i gs) k d) (get_or gs i 0) ≡ true = keeps (get_or (drop i gs) k d) (get_or gs i 0) is in
+        let index : is_before gs (get_or gs (i + k) 0) (get_or gs i 0) ≡ nat_lt (i + k) i = is_before-index gs (i + k) i (once_of es gs n) inside lt in
+        let not_lt : nat_lt (i + k) i ≡ false = le-ltb (i + k) i (omega arith) in
+        let b : is_before gs (get_or gs (i + k) 0) (get_or gs i 0) ≡ true = subst (λ (x : ℕ). is_before gs x (get_or gs i 0) ≡ true) same before_it in
+        cc
+
+pub last_written-append : (es : List Entry) (a w : ℕ) (xs ys : List ℕ) → last_written es a w (xs ++ ys) ≡ last_written es a (last_written es a w xs) ys
+last_written-append es a w [] ys = refl
+last_written-append es a w (x ∷ xs) ys = last_written-append es a (unwrap_or (written_at es a x) w) xs ys
+
+-- a place that is read is an operation's
+pub read_op : (es : List Entry) (q : ℕ) (r : ℕ × ℕ) → read_at es q ≡ Some r → is_at is_operation es q ≡ true
+read_op es q r is = at (slice_get es q) is
+  where
+    at : (so : Option Entry) → option_and_then read_of so ≡ Some r → passes is_operation so ≡ true
+    at None e = cc
+    at (Some (entry.Inner h)) e = cc
+    at (Some (entry.Load h a v)) e = refl
+    at (Some (entry.Store h a v)) e = refl
+    at (Some (entry.Amo h a old new)) e = refl
+    at (Some (entry.Fence h full)) e = cc
+    at (Some (entry.Next h w)) e = cc
+    at (Some (entry.Took h i w)) e = cc
+    at (Some (entry.Closed h i)) e = cc
+    at (Some (entry.Ended h)) e = cc
+    at (Some (entry.Stopped h why)) e = cc
+    at (Some (entry.Land h)) e = cc
+
+pub values_from_indices : (o : Start) (es : List Entry) (gs : List ℕ) → NamesEachOnce es gs → ((i : ℕ) → i < length gs → HasLoadValue o es gs (get_or gs i 0)) → (q : ℕ) → HasLoadValue o es gs q
+values_from_indices o es gs n values q a v is =
+    let at_q : (i : ℕ) × (i < length gs) × (get_or gs i 0 ≡ q) = index_of q gs (named_op es gs q n (read_op es q (a, v) is)) in
+    subst (λ (x : ℕ). HasLoadValue o es gs x) at_q.2 (values at_q.0 at_q.1) a v is
+
+-- one more operation read, and the value that the read sees by then
+pub seen_more : (o : Start) (es : List Entry) (gs : List ℕ) (q a j w new : ℕ) (seen : Bool) → j < length gs → is_seen es gs q (get_or gs j 0) ≡ seen → w ≡ last_written es a (opening_word o a) (filter (is_seen es gs q) (take j gs)) → new ≡ (if seen then unwrap_or (written_at es a (get_or gs j 0)) w else w) → new ≡ last_written es a (opening_word o a) (filter (is_seen es gs q) (take (j + 1) gs))
+seen_more o es gs q a j w new seen lt is before_it after =
+    after ∙ at seen is
+    ∙ ap (last_written es a (opening_word o a)) (sym (filter_more (is_seen es gs q) gs j 0 lt))
+  where
+    pushed : (b : Bool) → (if b then unwrap_or (written_at es a (get_or gs j 0)) (last_written es a (opening_word o a) (filter (is_seen es gs q) (take j gs))) else last_written es a (opening_word o a) (filter (is_seen es gs q) (take j gs))) ≡ last_written es a (opening_word o a) (filter (is_seen es gs q) (take j gs) ++ (if b then get_or gs j 0 ∷ [] else []))
+    pushed true = sym (last_written-append es a (opening_word o a) (filter (is_seen es gs q) (take j gs)) (get_or gs j 0 ∷ []))
+    pushed false = ap (last_written es a (opening_word o a)) (sym (append-nil (filter (is_seen es gs q) (take j gs))))
+
+    at : (b : Bool) → is_seen es gs q (get_or gs j 0) ≡ b → (if b then unwrap_or (written_at es a (get_or gs j 0)) w else w) ≡ last_written es a (opening_word o a) (filter (is_seen es gs q) (take j gs) ++ (if is_seen es gs q (get_or gs j 0) then get_or gs j 0 ∷ [] else []))
+    at b is_b =
+        ap (λ x. if b then unwrap_or (written_at es a (get_or gs j 0)) x else x) before_it
+        ∙ pushed b
+        ∙ ap (λ c. last_written es a (opening_word o a) (filter (is_seen es gs q) (take j gs) ++ (if c then get_or gs j 0 ∷ [] else []))) (sym is_b)
+
+-- the same of the slice from i on, and the operation as it was read
+pub slice_from_none : (es : List Entry) (gs : List ℕ) (i x : ℕ) → i < length gs → x ≡ get_or gs i x → NoneBelongsBefore es gs i → All (λ (p : ℕ). is_preserved es p x ≡ false) (take (length gs - i) (drop i gs))
+slice_from_none es gs i x lt read none =
+    subst (λ (zs : List ℕ). All (λ (p : ℕ). is_preserved es p x ≡ false) zs) (sym (take_rest gs i))
+    (subst (λ (y : ℕ). All (λ (p : ℕ). is_preserved es p y ≡ false) (drop i gs)) (sym (get_or_read gs i x lt read 0)) none)
+
+pub none_from_slice : (es : List Entry) (gs : List ℕ) (i x : ℕ) → i < length gs → x ≡ get_or gs i x → All (λ (p : ℕ). is_preserved es p x ≡ false) (take (length gs - i) (drop i gs)) → NoneBelongsBefore es gs i
+none_from_slice es gs i x lt read none =
+    subst (λ (y : ℕ). All (λ (p : ℕ). is_preserved es p y ≡ false) (drop i gs)) (get_or_read gs i x lt read 0)
+    (subst (λ (zs : List ℕ). All (λ (p : ℕ). is_preserved es p x ≡ false) zs) (take_rest gs i) none)
+
+-- what the operation at i sees of the one at j, by their indices
+pub is_seen-index : (es : List Entry) (gs : List ℕ) (i j x y : ℕ) → Once gs → i < length gs → j < length gs → x ≡ get_or gs i x → y ≡ get_or gs j y → is_seen es gs (get_or gs i 0) (get_or gs j 0) ≡ (nat_lt j i || in_program_order es y x)
+is_seen-index es gs i j x y o lt_i lt_j read_x read_y =
+    ap (λ b. b || in_program_order es (get_or gs j 0) (get_or gs i 0)) (is_before-index gs j i o lt_j lt_i)
+    ∙ ap (λ k. nat_lt j i || in_program_order es (get_or gs j 0) k) (sym (get_or_read gs i x lt_i read_x 0))
+    ∙ ap (λ k. nat_lt j i || in_program_order es k x) (sym (get_or_read gs j y lt_j read_y 0))
+
+pub seen_in_front : (es : List Entry) (gs : List ℕ) (i j : ℕ) → Once gs → i < length gs → j < length gs → j < i → nat_lt j i ≡ is_seen es gs (get_or gs i 0) (get_or gs j 0)
+seen_in_front es gs i j o lt_i lt_j front =
+    let here : nat_lt j i ≡ true = lt-ltb j i front in
+    here ∙ ap (λ b. b || in_program_order es (get_or gs j 0) (get_or gs i 0)) (sym here ∙ sym (is_before-index gs j i o lt_j lt_i))
+
+pub seen_behind : (es : List Entry) (gs : List ℕ) (i j x y : ℕ) (r : Bool) → Once gs → i < length gs → j < length gs → x ≡ get_or gs i x → y ≡ get_or gs j y → i ≤ j → r ≡ in_program_order es y x → r ≡ is_seen es gs (get_or gs i 0) (get_or gs j 0)
+seen_behind es gs i j x y r o lt_i lt_j read_x read_y behind is =
+    is ∙ ap (λ b. b || in_program_order es y x) (sym (le-ltb j i behind)) ∙ sym (is_seen-index es gs i j x y o lt_i lt_j read_x read_y)

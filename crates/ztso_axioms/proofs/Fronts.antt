@@ -1,0 +1,187 @@
+-- The front of a trace, and what it has performed.
+use Rattle.std.proofs.Common.{◌≡◌, ℕ, zero, suc, ◌≤◌, ◌<◌, ◌==◌, Bool, true, false, ◌||◌, if◌then◌else◌, List, [], ◌∷◌, ◌++◌, length, take, drop, Option, Some, None, refl, sym, ◌∙◌, ap, subst, arith, append_assoc, length-append, length-drop}
+use Rattle.std.specs.Prelude.{option_and_then}
+use Rattle.std.specs.List.{slice_get}
+use Rattle.std.proofs.lemmas.Bool.{eqb-true, and_parts}
+use Rattle.std.proofs.lemmas.List.{take-append-drop, take-append-le, take_all}
+use Rattle.std.proofs.lemmas.Option.{slice_get_past}
+use Rattle.step_machine.specs.History.{Start}
+use Rattle.step_machine.specs.Entries.{store_of, stores, lands, pending}
+use Rattle.step_machine.specs.Legal.{Allowed, LegalAfter}
+use Rattle.step_machine.specs.declared.events.Entry.{Entry}
+use Rattle.step_machine.specs.declared.events.Entry.TheVariants as entry
+use Rattle.step_machine.proofs.Appended.{LegalAfter-front, LegalAfter-back}
+use Rattle.step_machine.proofs.Balanced.{balanced-after}
+use Rattle.ztso_axioms.specs.Operations.{passes, is_at, written_to, written_at}
+use Rattle.ztso_axioms.specs.Axioms.{is_named, is_barrier}
+use Rattle.ztso_axioms.specs.Performed.{places_of, is_store_of, store_places, performed_after, left_below, hart_bound}
+use Rattle.ztso_axioms.proofs.Listing.{named-append}
+use Rattle.ztso_axioms.proofs.Places.{places_of-cons, places_of-split, place_of, performed_after-append}
+use Rattle.ztso_axioms.proofs.Members.{named-filter, named-places}
+use Rattle.ztso_axioms.proofs.Performs.{is_reader, stores_at, reads_at, entry_here, stores_performed, reads_performed}
+
+-- entries by place
+
+pub some_at : (test : Entry → Bool) (es : List Entry) (p : ℕ) → is_at test es p ≡ true → (e : Entry) × (slice_get es p ≡ Some e) × (test e ≡ true)
+some_at test es p is = at (slice_get es p) refl is
+  where
+    at : (so : Option Entry) → slice_get es p ≡ so → passes test so ≡ true → (e : Entry) × (slice_get es p ≡ Some e) × (test e ≡ true)
+    at None here pass = cc
+    at (Some e) here pass = (e, here, pass)
+
+pub split_entry : (es : List Entry) (p : ℕ) (e : Entry) → slice_get es p ≡ Some e → es ≡ take p es ++ e ∷ drop (suc p) es
+split_entry [] p e is = cc
+split_entry (d ∷ es) zero e is = let same : d ≡ e = cc in ap (λ x. x ∷ es) same
+split_entry (d ∷ es) (suc p) e is = ap (λ zs. d ∷ zs) (split_entry es p e is)
+
+get_front : (us ws : List Entry) (p : ℕ) → p < length us → slice_get (us ++ ws) p ≡ slice_get us p
+get_front [] ws p lt = absurd (omega arith)
+get_front (u ∷ us) ws zero lt = refl
+get_front (u ∷ us) ws (suc p) lt = get_front us ws p (omega arith)
+
+pub at_front : (test : Entry → Bool) (es us ws : List Entry) (p : ℕ) → es ≡ us ++ ws → p < length us → is_at test us p ≡ is_at test es p
+at_front test es us ws p split lt = sym (ap (λ zs. passes test (slice_get zs p)) split ∙ ap (passes test) (get_front us ws p lt))
+
+pub at_past : (test : Entry → Bool) (us : List Entry) (p : ℕ) → length us ≤ p → is_at test us p ≡ false
+at_past test us p le = ap (passes test) (slice_get_past us p le)
+
+-- what the front performed stands before all else
+
+pub order-front : (es us ws : List Entry) → es ≡ us ++ ws → performed_after es [] es ++ left_below (hart_bound es) es ≡ performed_after es [] us ++ (performed_after es us ws ++ left_below (hart_bound es) es)
+order-front es us ws split =
+    ap (λ zs. performed_after es [] zs ++ left_below (hart_bound es) es) split
+    ∙ ap (λ zs. zs ++ left_below (hart_bound es) es) (performed_after-append es [] us ws)
+    ∙ append_assoc (performed_after es [] us) (performed_after es us ws) (left_below (hart_bound es) es)
+
+-- a load or an AMO is performed by the front that holds it
+pub read_in_front : (es us ws : List Entry) (p : ℕ) → es ≡ us ++ ws → reads_at es p ≡ true → is_named p (performed_after es [] us) ≡ is_at is_reader us p
+read_in_front es us ws p split reads =
+    sym (named-filter (reads_at es) p (performed_after es [] us) reads)
+    ∙ ap (is_named p) (reads_performed es [] us ws split)
+    ∙ named-places is_reader p us
+
+store_in_front : (es us ws : List Entry) (h p : ℕ) → es ≡ us ++ ws → stores_at es h p ≡ true → is_named p (performed_after es [] us) ≡ is_named p (take (lands h us) (store_places h es))
+store_in_front es us ws h p split own =
+    sym (named-filter (stores_at es h) p (performed_after es [] us) own)
+    ∙ ap (is_named p) (stores_performed es [] us ws h split)
+
+-- a hart's stores, as places and as pairs
+
+-- each place holds a store of the pair beside it
+abbrev pub Told : List Entry → List ℕ → List (ℕ × ℕ) → Type 0
+Told all [] [] = Unit {0}
+Told all [] (p ∷ ps) = ⊥
+Told all (g ∷ gs) [] = ⊥
+Told all (g ∷ gs) (p ∷ ps) = ((a : ℕ) → written_at all a g ≡ (if p.0 == a then Some p.1 else None)) × Told all gs ps
+
+pub Told-length : (all : List Entry) (gs : List ℕ) (ps : List (ℕ × ℕ)) → Told all gs ps → length gs ≡ length ps
+Told-length all [] [] told = refl
+Told-length all [] (p ∷ ps) told = absurd told
+Told-length all (g ∷ gs) [] told = absurd told
+Told-length all (g ∷ gs) (p ∷ ps) told = ap suc (Told-length all gs ps told.1)
+
+pub Told-drop : (all : List Entry) (n : ℕ) (gs : List ℕ) (ps : List (ℕ × ℕ)) → Told all gs ps → Told all (drop n gs) (drop n ps)
+Told-drop all zero gs ps told = told
+Told-drop all (suc n) [] [] told = told
+Told-drop all (suc n) [] (p ∷ ps) told = absurd told
+Told-drop all (suc n) (g ∷ gs) [] told = absurd told
+Told-drop all (suc n) (g ∷ gs) (p ∷ ps) told = Told-drop all n gs ps told.1
+
+told_by : (all us : List Entry) (e : Entry) (ws : List Entry) (h : ℕ) (rest : List Entry) → all ≡ us ++ e ∷ ws → (gs : List ℕ) → Told all gs (stores h rest) → Told all (place_of (is_store_of h) (length us) e ++ gs) (store_of h e ++ stores h rest)
+told_by all us e ws h rest split gs told = at e split
+  where
+    at : (d : Entry) → all ≡ us ++ d ∷ ws → Told all (place_of (is_store_of h) (length us) d ++ gs) (store_of h d ++ stores h rest)
+    at (entry.Inner g) here = told
+    at (entry.Load g a v) here = told
+    at (entry.Store g a v) here = mine (g == h)
+      where
+        writes : (b : ℕ) → written_at all b (length us) ≡ (if a == b then Some v else None)
+        writes b = ap (λ zs. written_at zs b (length us)) here ∙ ap (option_and_then (written_to b)) (entry_here us (entry.Store g a v) ws)
+
+        mine : (b : Bool) → Told all ((if b then length us ∷ [] else []) ++ gs) ((if b then (a, v) ∷ [] else []) ++ stores h rest)
+        mine true = (writes, told)
+        mine false = told
+    at (entry.Amo g a old new) here = told
+    at (entry.Fence g full) here = told
+    at (entry.Next g w) here = told
+    at (entry.Took g i w) here = told
+    at (entry.Closed g i) here = told
+    at (entry.Ended g) here = told
+    at (entry.Stopped g why) here = told
+    at (entry.Land g) here = told
+
+pub told_stores : (all us es ws : List Entry) (h : ℕ) → all ≡ us ++ (es ++ ws) → Told all (places_of (is_store_of h) (length us) es) (stores h es)
+told_stores all us [] ws h split = tt
+told_stores all us (e ∷ es) ws h split =
+    let len : length (us ++ e ∷ []) ≡ suc (length us) = omega (arith, length-append us (e ∷ [])) in
+    let rest : Told all (places_of (is_store_of h) (suc (length us)) es) (stores h es)
+    = subst (λ (n : ℕ). Told all (places_of (is_store_of h) n es) (stores h es)) len (told_stores all (us ++ e ∷ []) es ws h (split ∙ sym (append_assoc us (e ∷ []) (es ++ ws)))) in
+    subst (λ (zs : List ℕ). Told all zs (store_of h e ++ stores h es)) (sym (places_of-cons (is_store_of h) (length us) e es))
+    (told_by all us e (es ++ ws) h es split (places_of (is_store_of h) (suc (length us)) es) rest)
+
+-- the front of a legal trace
+
+pub front_told : (es us ws : List Entry) (h : ℕ) → es ≡ us ++ ws → Told es (store_places h us) (stores h us)
+front_told es us ws h split = told_stores es [] us ws h split
+
+pub front_balanced : (B : ℕ) (o : Start) (es us ws : List Entry) (h : ℕ) → LegalAfter B o [] es → es ≡ us ++ ws → lands h us ≤ length (store_places h us)
+front_balanced B o es us ws h legal split =
+    let front : LegalAfter B o [] us = LegalAfter-front B o [] us ws (subst (λ (zs : List Entry). LegalAfter B o [] zs) split legal) in
+    let le : lands h us ≤ length (stores h us) = balanced-after B o [] us h front (omega arith) in
+    let same : length (store_places h us) ≡ length (stores h us) = Told-length es (store_places h us) (stores h us) (front_told es us ws h split) in
+    omega arith
+
+pub front_stores : (es us ws : List Entry) (h : ℕ) → es ≡ us ++ ws → store_places h es ≡ store_places h us ++ places_of (is_store_of h) (length us) ws
+front_stores es us ws h split = ap (store_places h) split ∙ places_of-split (is_store_of h) us ws
+
+pub front_landed : (B : ℕ) (o : Start) (es us ws : List Entry) (h : ℕ) → LegalAfter B o [] es → es ≡ us ++ ws → take (lands h us) (store_places h es) ≡ take (lands h us) (store_places h us)
+front_landed B o es us ws h legal split =
+    ap (take (lands h us)) (front_stores es us ws h split)
+    ∙ take-append-le (lands h us) (store_places h us) (places_of (is_store_of h) (length us) ws) (front_balanced B o es us ws h legal split)
+
+pub front_allows : (B : ℕ) (o : Start) (es us : List Entry) (e : Entry) (ws : List Entry) → LegalAfter B o [] es → es ≡ us ++ e ∷ ws → Allowed B o us e
+front_allows B o es us e ws legal split = (LegalAfter-back B o [] us (e ∷ ws) (subst (λ (zs : List Entry). LegalAfter B o [] zs) split legal)).0
+
+-- where nothing is pending of a hart, its stores have been performed
+pub store_performed : (B : ℕ) (o : Start) (es us ws : List Entry) (h p : ℕ) → LegalAfter B o [] es → es ≡ us ++ ws → pending h us ≡ [] → stores_at es h p ≡ true → p < length us → is_named p (performed_after es [] us) ≡ true
+store_performed B o es us ws h p legal split none own lt =
+    let same : length (store_places h us) ≡ length (stores h us) = Told-length es (store_places h us) (stores h us) (front_told es us ws h split) in
+    let left : length (drop (lands h us) (stores h us)) ≡ 0 = ap length none in
+    let all_landed : length (store_places h us) ≤ lands h us = omega (arith, length-drop (lands h us) (stores h us)) in
+    store_in_front es us ws h p split own
+    ∙ ap (is_named p) (front_landed B o es us ws h legal split ∙ take_all (lands h us) (store_places h us) all_landed)
+    ∙ named-places (is_store_of h) p us
+    ∙ at_front (is_store_of h) es us ws p split lt
+    ∙ own
+
+-- a store that the front does not hold has not been performed by it
+pub store_not_yet : (B : ℕ) (o : Start) (es us ws : List Entry) (h q : ℕ) → LegalAfter B o [] es → es ≡ us ++ ws → stores_at es h q ≡ true → length us ≤ q → is_named q (performed_after es [] us) ≡ false
+store_not_yet B o es us ws h q legal split own le =
+    store_in_front es us ws h q split own
+    ∙ ap (is_named q) (front_landed B o es us ws h legal split)
+    ∙ at (is_named q (take (lands h us) (store_places h us))) refl
+  where
+    at : (b : Bool) → is_named q (take (lands h us) (store_places h us)) ≡ b → is_named q (take (lands h us) (store_places h us)) ≡ false
+    at false is = is
+    at true is =
+        let whole : is_named q (store_places h us) ≡ true
+        = ap (is_named q) (sym (take-append-drop (lands h us) (store_places h us))) ∙ named-append q (take (lands h us) (store_places h us)) (drop (lands h us) (store_places h us)) ∙ ap (λ b. b || is_named q (drop (lands h us) (store_places h us))) is in
+        let here : is_at (is_store_of h) us q ≡ true = sym (named-places (is_store_of h) q us) ∙ whole in
+        let past : is_at (is_store_of h) us q ≡ false = at_past (is_store_of h) us q le in
+        cc
+
+-- an AMO or a full fence finds nothing pending of its hart
+pub barrier_waits : (B : ℕ) (o : Start) (us : List Entry) (h : ℕ) (e : Entry) → is_barrier h e ≡ true → Allowed B o us e → pending h us ≡ []
+barrier_waits B o us h (entry.Inner g) is may = cc
+barrier_waits B o us h (entry.Load g a v) is may = cc
+barrier_waits B o us h (entry.Store g a v) is may = cc
+barrier_waits B o us h (entry.Amo g a old new) is may = subst (λ (k : ℕ). pending k us ≡ []) (eqb-true g h is) may.0
+barrier_waits B o us h (entry.Fence g full) is may =
+    let parts : (full ≡ true) × ((g == h) ≡ true) = and_parts full (g == h) is in
+    subst (λ (k : ℕ). pending k us ≡ []) (eqb-true g h parts.1) (may parts.0)
+barrier_waits B o us h (entry.Next g w) is may = cc
+barrier_waits B o us h (entry.Took g i w) is may = cc
+barrier_waits B o us h (entry.Closed g i) is may = cc
+barrier_waits B o us h (entry.Ended g) is may = cc
+barrier_waits B o us h (entry.Stopped g why) is may = cc
+barrier_waits B o us h (entry.Land g) is may = cc

@@ -1,0 +1,134 @@
+-- Lists of places: how often they name one, and what stands before it.
+use Rattle.std.proofs.Common.{◌≡◌, ℕ, zero, suc, ◌+◌, ◌-◌, ◌≤◌, ◌<◌, ◌==◌, Bool, true, false, ◌||◌, if◌then◌else◌, nat_lt, List, [], ◌∷◌, ◌++◌, length, take, drop, get_or, refl, sym, ◌∙◌, ap, subst, arith, zero-add, length-take, length-drop, get_or-take, get_or-drop}
+use Rattle.std.proofs.lemmas.Bool.{eqb-true, eq-eqb, ne_eqb, ltb-true, ltb-false}
+use Rattle.std.proofs.lemmas.List.{take-append-drop, drop_more, take_more, get_or_read}
+use Rattle.ztso_axioms.specs.Axioms.{times_named, before, is_named, is_before}
+
+-- no place is named twice
+pub record Once (gs : List ℕ) : Type 0 where
+  pub once : (p : ℕ) → times_named p gs ≤ 1
+
+pub times-append : (p : ℕ) (xs ys : List ℕ) → times_named p (xs ++ ys) ≡ times_named p xs + times_named p ys
+times-append p [] ys = sym (zero-add (times_named p ys))
+times-append p (x ∷ xs) ys =
+    let more : times_named p (xs ++ ys) ≡ times_named p xs + times_named p ys = times-append p xs ys in
+    elim (x == p) as (λ b. (if b then suc (times_named p (xs ++ ys)) else times_named p (xs ++ ys)) ≡ (if b then suc (times_named p xs) else times_named p xs) + times_named p ys)
+    [ true ↦ omega arith | false ↦ more ]
+
+pub named-append : (p : ℕ) (xs ys : List ℕ) → is_named p (xs ++ ys) ≡ (is_named p xs || is_named p ys)
+named-append p [] ys = refl
+named-append p (x ∷ xs) ys =
+    let more : is_named p (xs ++ ys) ≡ (is_named p xs || is_named p ys) = named-append p xs ys in
+    elim (x == p) as (λ b. (b || is_named p (xs ++ ys)) ≡ ((b || is_named p xs) || is_named p ys)) [ true ↦ refl | false ↦ more ]
+
+pub times-none : (p : ℕ) (xs : List ℕ) → is_named p xs ≡ false → times_named p xs ≡ 0
+times-none p [] none = refl
+times-none p (x ∷ xs) none =
+    let at : (b : Bool) → (b || is_named p xs) ≡ false → (if b then suc (times_named p xs) else times_named p xs) ≡ 0
+    = λ (b : Bool). elim b as (λ c. (c || is_named p xs) ≡ false → (if c then suc (times_named p xs) else times_named p xs) ≡ 0) [ true ↦ λ no. cc | false ↦ times-none p xs ] in
+    at (x == p) none
+
+pub named-none : (p : ℕ) (xs : List ℕ) → times_named p xs ≡ 0 → is_named p xs ≡ false
+named-none p [] none = refl
+named-none p (x ∷ xs) none =
+    let at : (b : Bool) → (if b then suc (times_named p xs) else times_named p xs) ≡ 0 → (b || is_named p xs) ≡ false
+    = λ (b : Bool). elim b as (λ c. (if c then suc (times_named p xs) else times_named p xs) ≡ 0 → (c || is_named p xs) ≡ false) [ true ↦ λ no. absurd (omega arith) | false ↦ named-none p xs ] in
+    at (x == p) none
+
+pub times-some : (p : ℕ) (xs : List ℕ) → is_named p xs ≡ true → 1 ≤ times_named p xs
+times-some p [] some = cc
+times-some p (x ∷ xs) some =
+    let at : (b : Bool) → (b || is_named p xs) ≡ true → 1 ≤ (if b then suc (times_named p xs) else times_named p xs)
+    = λ (b : Bool). elim b as (λ c. (c || is_named p xs) ≡ true → 1 ≤ (if c then suc (times_named p xs) else times_named p xs)) [ true ↦ λ so. omega arith | false ↦ times-some p xs ] in
+    at (x == p) some
+
+pub named-some : (p : ℕ) (xs : List ℕ) → 1 ≤ times_named p xs → is_named p xs ≡ true
+named-some p xs some = at (is_named p xs) refl
+  where
+    at : (b : Bool) → is_named p xs ≡ b → is_named p xs ≡ true
+    at true is = is
+    at false is = let none : times_named p xs ≡ 0 = times-none p xs is in absurd (omega arith)
+
+-- a place at an index is named
+pub named_at : (xs : List ℕ) (i d : ℕ) → i < length xs → is_named (get_or xs i d) xs ≡ true
+named_at [] i d lt = absurd (omega arith)
+named_at (x ∷ xs) zero d lt = ap (λ b. b || is_named x xs) (eq-eqb x x refl)
+named_at (x ∷ xs) (suc i) d lt =
+    let more : is_named (get_or xs i d) xs ≡ true = named_at xs i d (omega arith) in
+    elim (x == get_or xs i d) as (λ b. (b || is_named (get_or xs i d) xs) ≡ true) [ true ↦ refl | false ↦ more ]
+
+-- a place that is named stands at an index
+pub index_of : (p : ℕ) (xs : List ℕ) → is_named p xs ≡ true → (i : ℕ) × (i < length xs) × (get_or xs i 0 ≡ p)
+index_of p [] some = cc
+index_of p (x ∷ xs) some = at (x == p) refl some (index_of p xs)
+  where
+    at : (b : Bool) → (x == p) ≡ b → (b || is_named p xs) ≡ true → (is_named p xs ≡ true → (i : ℕ) × (i < length xs) × (get_or xs i 0 ≡ p)) → (i : ℕ) × (i < length (x ∷ xs)) × (get_or (x ∷ xs) i 0 ≡ p)
+    at true is so more = (0, omega arith, eqb-true x p is)
+    at false is so more = let rest : (i : ℕ) × (i < length xs) × (get_or xs i 0 ≡ p) = more so in let lt : rest.0 < length xs = rest.1 in (suc rest.0, omega arith, rest.2)
+
+-- what stands before a place that the front does not name
+pub before-at : (q : ℕ) (xs ys : List ℕ) → times_named q xs ≡ 0 → before q (xs ++ q ∷ ys) ≡ xs
+before-at q [] ys none = ap (λ b. if b then [] else q ∷ before q ys) (eq-eqb q q refl)
+before-at q (x ∷ xs) ys none =
+    let at : (b : Bool) → (if b then suc (times_named q xs) else times_named q xs) ≡ 0 → (if b then [] else x ∷ before q (xs ++ q ∷ ys)) ≡ x ∷ xs
+    = λ (b : Bool). elim b as (λ c. (if c then suc (times_named q xs) else times_named q xs) ≡ 0 → (if c then [] else x ∷ before q (xs ++ q ∷ ys)) ≡ x ∷ xs) [ true ↦ λ no. absurd (omega arith) | false ↦ λ no. ap (λ zs. x ∷ zs) (before-at q xs ys no) ] in
+    at (x == q) none
+
+pub times-self : (q : ℕ) (ys : List ℕ) → times_named q (q ∷ ys) ≡ suc (times_named q ys)
+times-self q ys = ap (λ b. if b then suc (times_named q ys) else times_named q ys) (eq-eqb q q refl)
+
+pub split_at : (gs : List ℕ) (i : ℕ) → i < length gs → gs ≡ take i gs ++ get_or gs i 0 ∷ drop (i + 1) gs
+split_at gs i lt = sym (take-append-drop i gs) ∙ ap (λ zs. take i gs ++ zs) (drop_more gs i 0 lt)
+
+pub before-index : (gs : List ℕ) (i : ℕ) → Once gs → i < length gs → before (get_or gs i 0) gs ≡ take i gs
+before-index gs i o lt =
+    let q : ℕ = get_or gs i 0 in
+    let few : times_named q gs ≤ 1 = o.once q in
+    let whole : times_named q gs ≡ times_named q (take i gs) + times_named q (q ∷ drop (i + 1) gs) = ap (times_named q) (split_at gs i lt) ∙ times-append q (take i gs) (q ∷ drop (i + 1) gs) in
+    let here : times_named q (q ∷ drop (i + 1) gs) ≡ suc (times_named q (drop (i + 1) gs)) = times-self q (drop (i + 1) gs) in
+    ap (before q) (split_at gs i lt) ∙ before-at q (take i gs) (drop (i + 1) gs) (omega arith)
+
+-- in a list that names no place twice, what stands before is what has the lesser index
+pub is_before-index : (gs : List ℕ) (j i : ℕ) → Once gs → j < length gs → i < length gs → is_before gs (get_or gs j 0) (get_or gs i 0) ≡ nat_lt j i
+is_before-index gs j i o lt_j lt_i = ap (is_named (get_or gs j 0)) (before-index gs i o lt_i) ∙ at (nat_lt j i) refl
+  where
+    p : ℕ
+    p = get_or gs j 0
+
+    at : (b : Bool) → nat_lt j i ≡ b → is_named (get_or gs j 0) (take i gs) ≡ b
+    at true is =
+        let lt : j < i = ltb-true j i is in
+        let within : j < length (take i gs) = omega (arith, length-take i gs) in
+        subst (λ (x : ℕ). is_named x (take i gs) ≡ true) (get_or-take i gs j 0 lt) (named_at (take i gs) j 0 within)
+    at false is =
+        let le : i ≤ j = ltb-false j i is in
+        let within : j - i < length (drop i gs) = omega (arith, length-drop i gs) in
+        let there : i + (j - i) ≡ j = omega arith in
+        let same : get_or (drop i gs) (j - i) 0 ≡ get_or gs j 0 = get_or-drop i gs (j - i) 0 ∙ ap (λ k. get_or gs k 0) there in
+        let back : is_named (get_or gs j 0) (drop i gs) ≡ true = subst (λ (x : ℕ). is_named x (drop i gs) ≡ true) same (named_at (drop i gs) (j - i) 0 within) in
+        let some : 1 ≤ times_named (get_or gs j 0) (drop i gs) = times-some (get_or gs j 0) (drop i gs) back in
+        let whole : times_named (get_or gs j 0) gs ≡ times_named (get_or gs j 0) (take i gs) + times_named (get_or gs j 0) (drop i gs) = ap (times_named (get_or gs j 0)) (sym (take-append-drop i gs)) ∙ times-append (get_or gs j 0) (take i gs) (drop i gs) in
+        let few : times_named (get_or gs j 0) gs ≤ 1 = o.once (get_or gs j 0) in
+        named-none (get_or gs j 0) (take i gs) (omega arith)
+
+pub times-le : (p : ℕ) (xs : List ℕ) → times_named p xs ≤ length xs
+times-le p [] = omega arith
+times-le p (x ∷ xs) =
+    let more : times_named p xs ≤ length xs = times-le p xs in
+    elim (x == p) as (λ b. (if b then suc (times_named p xs) else times_named p xs) ≤ length (x ∷ xs)) [ true ↦ omega arith | false ↦ omega arith ]
+
+-- one more place looked at
+pub times_more : (p : ℕ) (xs : List ℕ) (i : ℕ) (b : Bool) → i < length xs → (get_or xs i 0 == p) ≡ b → times_named p (take (i + 1) xs) ≡ times_named p (take i xs) + (if b then 1 else 0)
+times_more p xs i b lt is = ap (times_named p) (take_more xs i 0 lt) ∙ times-append p (take i xs) (get_or xs i 0 ∷ []) ∙ ap (λ c. times_named p (take i xs) + (if c then 1 else 0)) is
+
+pub times_hit : (p : ℕ) (xs : List ℕ) (i t n x : ℕ) → i < length xs → x ≡ get_or xs i x → x ≡ p → t ≡ times_named p (take i xs) → n ≡ t + 1 → n ≡ times_named p (take (i + 1) xs)
+times_hit p xs i t n x lt read is before_it after =
+    let same : get_or xs i 0 ≡ p = sym (get_or_read xs i x lt read 0) ∙ is in
+    after ∙ ap (λ m. m + 1) before_it ∙ sym (times_more p xs i true lt (eq-eqb (get_or xs i 0) p same))
+
+pub times_missed : (p : ℕ) (xs : List ℕ) (i t n x : ℕ) → i < length xs → x ≡ get_or xs i x → (x ≡ p → ⊥) → t ≡ times_named p (take i xs) → n ≡ t → n ≡ times_named p (take (i + 1) xs)
+times_missed p xs i t n x lt read not before_it after =
+    let same : get_or xs i 0 ≡ x = sym (get_or_read xs i x lt read 0) in
+    let more : times_named p (take (i + 1) xs) ≡ times_named p (take i xs) + 0 = times_more p xs i false lt (ne_eqb (get_or xs i 0) p (λ e. not (sym same ∙ e))) in
+    let same_count : times_named p (take i xs) + 0 ≡ times_named p (take i xs) = omega arith in
+    after ∙ before_it ∙ sym same_count ∙ sym more

@@ -1,0 +1,280 @@
+-- In the order of performing, a read has the value of the Load Value Axiom.
+use Rattle.std.proofs.Common.{◌≡◌, ℕ, zero, suc, ◌+◌, ◌≤◌, ◌<◌, ◌==◌, Bool, true, false, not, ◌&&◌, ◌||◌, if◌then◌else◌, nat_lt, ◌⊎◌, inl, inr, List, [], ◌∷◌, ◌++◌, length, take, drop, Option, Some, None, unwrap_or, refl, sym, ◌∙◌, ap, subst, arith, append-nil, append_assoc, length-drop}
+use Rattle.std.specs.Prelude.{filter, option_to_list, option_and_then}
+use Rattle.std.specs.List.{slice_get}
+use Rattle.std.specs.Option.{option_map_or}
+use Rattle.std.proofs.lemmas.Bool.{ltb-true, ltb-false}
+use Rattle.std.proofs.lemmas.List.{take-append-drop, length-take-le, drop-append-le, append_cancel_left}
+use Rattle.std.proofs.lemmas.List.Elements.{filter-append}
+use Rattle.std.proofs.lemmas.Option.{slice_get_within, some_pair_parts}
+use Rattle.memory.specs.Words.{newest_of}
+use Rattle.step_machine.specs.History.{Start, History}
+use Rattle.step_machine.specs.Entries.{hart_of, stores, lands, write_of, landed_after, opening_word, memory_word, read}
+use Rattle.step_machine.specs.Legal.{Allowed, LegalAfter, Kept}
+use Rattle.step_machine.specs.declared.events.Entry.{Entry}
+use Rattle.step_machine.specs.declared.events.Entry.TheVariants as entry
+use Rattle.step_machine.proofs.Appended.{LegalAfter-front, newest_of-append}
+use Rattle.ztso_axioms.specs.Operations.{is_operation, passes, is_at, hart_at, read_of, written_to, written_at}
+use Rattle.ztso_axioms.specs.Axioms.{times_named, before, is_named, in_program_order, is_seen, last_written, value_for, HasLoadValue, Ztso}
+use Rattle.ztso_axioms.specs.Performed.{places_of, is_store_of, store_places, performed_by, performed_after, left_below, hart_bound, order}
+use Rattle.ztso_axioms.proofs.Listing.{times-append, times-none, times-some, named-append, before-at}
+use Rattle.ztso_axioms.proofs.Checked.{once_of, last_written-append}
+use Rattle.ztso_axioms.proofs.Members.{Each, Each-drop, Each-places, filter-every, filter-none, filter-same, filter-both, times-low, or_true}
+use Rattle.ztso_axioms.proofs.Performs.{is_reader, stores_at, reads_at, entry_here, stores_performed, order-stores, order-operations}
+use Rattle.ztso_axioms.proofs.Fronts.{split_entry, at_past, order-front, Told, Told-length, Told-drop, front_told, front_balanced, front_stores, front_allows}
+use Rattle.ztso_axioms.proofs.Ordered.{performed_order, kind_at, order-once, order-program, read_performed, read_not_yet}
+
+-- the last written value, and the newest of the pairs
+
+joined : (b : Bool) (v w : ℕ) (found : Option ℕ) → unwrap_or (if b then Some v else None) (unwrap_or found w) ≡ unwrap_or (if b then Some v else found) w
+joined true v w found = refl
+joined false v w found = refl
+
+told_values : (all : List Entry) (a w : ℕ) (found : Option ℕ) (gs : List ℕ) (ps : List (ℕ × ℕ)) → Told all gs ps → last_written all a (unwrap_or found w) gs ≡ unwrap_or (newest_of a found ps) w
+told_values all a w found [] [] told = refl
+told_values all a w found [] (p ∷ ps) told = absurd told
+told_values all a w found (g ∷ gs) [] told = absurd told
+told_values all a w found (g ∷ gs) (p ∷ ps) told =
+    ap (λ so. last_written all a (unwrap_or so (unwrap_or found w)) gs) (told.0 a)
+    ∙ ap (λ x. last_written all a x gs) (joined (p.0 == a) p.1 w found)
+    ∙ told_values all a w (if p.0 == a then Some p.1 else found) gs ps told.1
+
+first_of : (xs ys : List ℕ) (k : ℕ) → k < length xs → option_to_list (slice_get (xs ++ ys) k) ≡ take 1 (drop k xs)
+first_of [] ys k lt = absurd (omega arith)
+first_of (x ∷ xs) ys zero lt = refl
+first_of (x ∷ xs) ys (suc k) lt = first_of xs ys k (omega arith)
+
+told_first : (all : List Entry) (gs : List ℕ) (ps : List (ℕ × ℕ)) → Told all gs ps → Told all (take 1 gs) (take 1 ps)
+told_first all [] [] told = tt
+told_first all [] (p ∷ ps) told = absurd told
+told_first all (g ∷ gs) [] told = absurd told
+told_first all (g ∷ gs) (p ∷ ps) told = (told.0, tt)
+
+-- what one entry performs writes what it writes to memory
+writes_by : (B : ℕ) (o : Start) (all us : List Entry) (e : Entry) (ws : List Entry) (a w : ℕ) (found : Option ℕ) → all ≡ us ++ e ∷ ws → Allowed B o us e → last_written all a (unwrap_or found w) (performed_by all us e) ≡ unwrap_or (newest_of a found (write_of us e)) w
+writes_by B o all us e ws a w found split = at e split
+  where
+    written : (d : Entry) → all ≡ us ++ d ∷ ws → written_at all a (length us) ≡ written_to a d
+    written d here = ap (λ zs. written_at zs a (length us)) here ∙ ap (option_and_then (written_to a)) (entry_here us d ws)
+
+    at : (d : Entry) → all ≡ us ++ d ∷ ws → Allowed B o us d → last_written all a (unwrap_or found w) (performed_by all us d) ≡ unwrap_or (newest_of a found (write_of us d)) w
+    at (entry.Inner g) here may = refl
+    at (entry.Load g b v) here may = ap (λ so. unwrap_or so (unwrap_or found w)) (written (entry.Load g b v) here)
+    at (entry.Store g b v) here may = refl
+    at (entry.Amo g b old new) here may = ap (λ so. unwrap_or so (unwrap_or found w)) (written (entry.Amo g b old new) here) ∙ joined (b == a) new w found
+    at (entry.Fence g full) here may = refl
+    at (entry.Next g x) here may = refl
+    at (entry.Took g i x) here may = refl
+    at (entry.Closed g i) here may = refl
+    at (entry.Ended g) here may = refl
+    at (entry.Stopped g why) here may = refl
+    at (entry.Land g) here may =
+        let told : Told all (store_places g us) (stores g us) = front_told all us (entry.Land g ∷ ws) g here in
+        let same : length (store_places g us) ≡ length (stores g us) = Told-length all (store_places g us) (stores g us) told in
+        let some : lands g us < length (store_places g us) = omega (arith, length-drop (lands g us) (stores g us)) in
+        ap (λ zs. last_written all a (unwrap_or found w) (option_to_list (slice_get zs (lands g us)))) (front_stores all us (entry.Land g ∷ ws) g here)
+        ∙ ap (last_written all a (unwrap_or found w)) (first_of (store_places g us) (places_of (is_store_of g) (length us) (entry.Land g ∷ ws)) (lands g us) some)
+        ∙ told_values all a w found (take 1 (drop (lands g us) (store_places g us))) (take 1 (drop (lands g us) (stores g us)))
+        (told_first all (drop (lands g us) (store_places g us)) (drop (lands g us) (stores g us)) (Told-drop all (lands g us) (store_places g us) (stores g us) told))
+
+-- what entries perform writes what reaches memory
+writes_after : (B : ℕ) (o : Start) (all us es ws : List Entry) (a w : ℕ) (found : Option ℕ) → all ≡ us ++ (es ++ ws) → LegalAfter B o us es → last_written all a (unwrap_or found w) (performed_after all us es) ≡ unwrap_or (newest_of a found (landed_after us es)) w
+writes_after B o all us [] ws a w found split legal = refl
+writes_after B o all us (e ∷ es) ws a w found split legal =
+    last_written-append all a (unwrap_or found w) (performed_by all us e) (performed_after all (us ++ e ∷ []) es)
+    ∙ ap (λ x. last_written all a x (performed_after all (us ++ e ∷ []) es)) (writes_by B o all us e (es ++ ws) a w found split legal.0)
+    ∙ writes_after B o all (us ++ e ∷ []) es ws a w (newest_of a found (write_of us e)) (split ∙ sym (append_assoc us (e ∷ []) (es ++ ws))) legal.1
+    ∙ ap (λ so. unwrap_or so w) (sym (newest_of-append a found (write_of us e) (landed_after (us ++ e ∷ []) es)))
+
+front_memory : (B : ℕ) (o : Start) (es us ws : List Entry) (a : ℕ) → LegalAfter B o [] es → es ≡ us ++ ws → last_written es a (opening_word o a) (performed_after es [] us) ≡ memory_word o us a
+front_memory B o es us ws a legal split =
+    writes_after B o es [] us ws a (opening_word o a) None split (LegalAfter-front B o [] us ws (subst (λ (zs : List Entry). LegalAfter B o [] zs) split legal))
+
+-- what a read sees
+
+-- of what a hart's read does not find performed, it sees its own stores before it
+sees_own : (es : List Entry) (q x : ℕ) (us ws : List Entry) → es ≡ us ++ ws → length us ≡ q → is_named x (performed_after es [] us) ≡ false → is_at is_operation es x ≡ true → in_program_order es x q ≡ (stores_at es (hart_at es q) x && nat_lt x q)
+sees_own es q x us ws split len out op = at (kind_at es x op)
+  where
+    off : (b c : Bool) → (b && false) ≡ (c && false)
+    off true true = refl
+    off true false = refl
+    off false true = refl
+    off false false = refl
+
+    reader : reads_at es x ≡ true → (b : Bool) → nat_lt x q ≡ b → in_program_order es x q ≡ (stores_at es (hart_at es q) x && nat_lt x q)
+    reader reads true is =
+        let lt : x < q = ltb-true x q is in
+        let in_front : is_named x (performed_after es [] us) ≡ true = read_performed es us ws x split reads (omega arith) in
+        cc
+    reader reads false is =
+        ap (λ b. (hart_at es x == hart_at es q) && b) is ∙ off (hart_at es x == hart_at es q) (stores_at es (hart_at es q) x) ∙ ap (λ b. stores_at es (hart_at es q) x && b) (sym is)
+
+    writer : (so : Option Entry) → passes (is_store_of (option_map_or hart_of so 0)) so ≡ true → (option_map_or hart_of so 0 == hart_at es q) ≡ passes (is_store_of (hart_at es q)) so
+    writer None own = cc
+    writer (Some (entry.Inner h)) own = cc
+    writer (Some (entry.Load h a v)) own = cc
+    writer (Some (entry.Store h a v)) own = refl
+    writer (Some (entry.Amo h a old new)) own = cc
+    writer (Some (entry.Fence h full)) own = cc
+    writer (Some (entry.Next h w)) own = cc
+    writer (Some (entry.Took h i w)) own = cc
+    writer (Some (entry.Closed h i)) own = cc
+    writer (Some (entry.Ended h)) own = cc
+    writer (Some (entry.Stopped h why)) own = cc
+    writer (Some (entry.Land h)) own = cc
+
+    at : (reads_at es x ≡ true) ⊎ (stores_at es (hart_at es x) x ≡ true) → in_program_order es x q ≡ (stores_at es (hart_at es q) x && nat_lt x q)
+    at (inl reads) = reader reads (nat_lt x q) refl
+    at (inr own) = ap (λ b. b && nat_lt x q) (writer (slice_get es x) own)
+
+-- the stores of a hart that the front has not performed
+back_stores : (es us ws : List Entry) (h : ℕ) → es ≡ us ++ ws → filter (stores_at es h) (performed_after es us ws ++ left_below (hart_bound es) es) ≡ drop (lands h us) (store_places h es)
+back_stores es us ws h split =
+    append_cancel_left (take (lands h us) (store_places h es)) (filter (stores_at es h) (performed_after es us ws ++ left_below (hart_bound es) es)) (drop (lands h us) (store_places h es))
+    (ap (λ zs. zs ++ filter (stores_at es h) (performed_after es us ws ++ left_below (hart_bound es) es)) (sym (stores_performed es [] us ws h split))
+    ∙ sym (filter-append (stores_at es h) (performed_after es [] us) (performed_after es us ws ++ left_below (hart_bound es) es))
+    ∙ ap (filter (stores_at es h)) (sym (order-front es us ws split))
+    ∙ order-stores es h
+    ∙ sym (take-append-drop (lands h us) (store_places h es)))
+
+-- those of them before place q are the pending ones
+pending_places : (B : ℕ) (o : Start) (es us ws : List Entry) (h q : ℕ) → LegalAfter B o [] es → es ≡ us ++ ws → length us ≡ q → filter (λ x. nat_lt x q) (drop (lands h us) (store_places h es)) ≡ drop (lands h us) (store_places h us)
+pending_places B o es us ws h q legal split len =
+    ap (λ zs. filter (λ x. nat_lt x q) (drop (lands h us) zs)) (front_stores es us ws h split)
+    ∙ ap (filter (λ x. nat_lt x q)) (drop-append-le (lands h us) (store_places h us) (places_of (is_store_of h) (length us) ws) (front_balanced B o es us ws h legal split))
+    ∙ filter-append (λ x. nat_lt x q) (drop (lands h us) (store_places h us)) (places_of (is_store_of h) (length us) ws)
+    ∙ ap (λ zs. zs ++ filter (λ x. nat_lt x q) (places_of (is_store_of h) (length us) ws)) (filter-every (λ x. nat_lt x q) (drop (lands h us) (store_places h us)) (Each-drop (λ x. nat_lt x q) (lands h us) (store_places h us) early))
+    ∙ ap (λ zs. drop (lands h us) (store_places h us) ++ zs) (filter-none (λ x. nat_lt x q) (places_of (is_store_of h) (length us) ws) late)
+    ∙ append-nil (drop (lands h us) (store_places h us))
+  where
+    early_at : (x : ℕ) → is_at (is_store_of h) us x ≡ true → (b : Bool) → nat_lt x q ≡ b → b ≡ true
+    early_at x is true lt = refl
+    early_at x is false lt =
+        let le : q ≤ x = ltb-false x q lt in
+        let past : is_at (is_store_of h) us x ≡ false = at_past (is_store_of h) us x (omega arith) in
+        cc
+
+    early : Each (λ x. nat_lt x q) (store_places h us)
+    early x named = early_at x (Each-places (is_store_of h) us x named) (nat_lt x q) refl
+
+    late_at : (x : ℕ) → is_named x (places_of (is_store_of h) (length us) ws) ≡ true → (b : Bool) → nat_lt x q ≡ b → not b ≡ true
+    late_at x named false lt = refl
+    late_at x named true lt =
+        let below : x < q = ltb-true x q lt in
+        let none : times_named x (places_of (is_store_of h) (length us) ws) ≡ 0 = times-low (is_store_of h) x (length us) ws (omega arith) in
+        let some : 1 ≤ times_named x (places_of (is_store_of h) (length us) ws) = times-some x (places_of (is_store_of h) (length us) ws) named in
+        absurd (omega arith)
+
+    late : Each (λ x. not (nat_lt x q)) (places_of (is_store_of h) (length us) ws)
+    late x named = late_at x named (nat_lt x q) refl
+
+-- a read performs itself
+reader_performs : (es us : List Entry) (e : Entry) → is_reader e ≡ true → performed_by es us e ≡ length us ∷ []
+reader_performs es us (entry.Inner g) is = cc
+reader_performs es us (entry.Load g a v) is = refl
+reader_performs es us (entry.Store g a v) is = cc
+reader_performs es us (entry.Amo g a old new) is = refl
+reader_performs es us (entry.Fence g full) is = cc
+reader_performs es us (entry.Next g w) is = cc
+reader_performs es us (entry.Took g i w) is = cc
+reader_performs es us (entry.Closed g i) is = cc
+reader_performs es us (entry.Ended g) is = cc
+reader_performs es us (entry.Stopped g why) is = cc
+reader_performs es us (entry.Land g) is = cc
+
+-- what stands before a read is what the front performed
+before_read : (es us : List Entry) (e : Entry) (ws : List Entry) (q : ℕ) → es ≡ us ++ e ∷ ws → length us ≡ q → is_reader e ≡ true → reads_at es q ≡ true → before q (performed_order es) ≡ performed_after es [] us
+before_read es us e ws q split len reader reads =
+    let absent : times_named q (performed_after es [] us) ≡ 0 = times-none q (performed_after es [] us) (read_not_yet es us (e ∷ ws) q split reads (omega arith)) in
+    let itself : performed_by es us e ≡ q ∷ [] = reader_performs es us e reader ∙ ap (λ n. n ∷ []) len in
+    ap (before q) (order-front es us (e ∷ ws) split)
+    ∙ ap (λ zs. before q (performed_after es [] us ++ ((zs ++ performed_after es (us ++ e ∷ []) ws) ++ left_below (hart_bound es) es))) itself
+    ∙ before-at q (performed_after es [] us) (performed_after es (us ++ e ∷ []) ws ++ left_below (hart_bound es) es) absent
+
+-- a read sees what the front performed, and then its hart's pending stores
+seen_by_read : (B : ℕ) (o : Start) (es us : List Entry) (e : Entry) (ws : List Entry) (q : ℕ) → LegalAfter B o [] es → es ≡ us ++ e ∷ ws → length us ≡ q → is_reader e ≡ true → reads_at es q ≡ true → filter (is_seen es (performed_order es) q) (performed_order es) ≡ performed_after es [] us ++ drop (lands (hart_at es q) us) (store_places (hart_at es q) us)
+seen_by_read B o es us e ws q legal split len reader reads =
+    ap (filter (is_seen es (performed_order es) q)) (order-front es us (e ∷ ws) split)
+    ∙ filter-append (is_seen es (performed_order es) q) (performed_after es [] us) (performed_after es us (e ∷ ws) ++ left_below (hart_bound es) es)
+    ∙ ap (λ zs. zs ++ filter (is_seen es (performed_order es) q) (performed_after es us (e ∷ ws) ++ left_below (hart_bound es) es)) (filter-every (is_seen es (performed_order es) q) (performed_after es [] us) front)
+    ∙ ap (λ zs. performed_after es [] us ++ zs)
+    (filter-same (is_seen es (performed_order es) q) (λ x. stores_at es (hart_at es q) x && nat_lt x q) (performed_after es us (e ∷ ws) ++ left_below (hart_bound es) es) back
+    ∙ filter-both (stores_at es (hart_at es q)) (λ x. nat_lt x q) (performed_after es us (e ∷ ws) ++ left_below (hart_bound es) es)
+    ∙ ap (filter (λ x. nat_lt x q)) (back_stores es us (e ∷ ws) (hart_at es q) split)
+    ∙ pending_places B o es us (e ∷ ws) (hart_at es q) q legal split len)
+  where
+    seen_is : (x : ℕ) → is_seen es (performed_order es) q x ≡ (is_named x (performed_after es [] us) || in_program_order es x q)
+    seen_is x = ap (λ gs. is_named x gs || in_program_order es x q) (before_read es us e ws q split len reader reads)
+
+    front : Each (is_seen es (performed_order es) q) (performed_after es [] us)
+    front x named = seen_is x ∙ ap (λ b. b || in_program_order es x q) named
+
+    not_in_front : (x : ℕ) → is_named x (performed_after es us (e ∷ ws) ++ left_below (hart_bound es) es) ≡ true → (b : Bool) → is_named x (performed_after es [] us) ≡ b → is_named x (performed_after es [] us) ≡ false
+    not_in_front x named false is = is
+    not_in_front x named true is =
+        let whole : times_named x (performed_order es) ≡ times_named x (performed_after es [] us) + times_named x (performed_after es us (e ∷ ws) ++ left_below (hart_bound es) es)
+        = ap (times_named x) (order-front es us (e ∷ ws) split) ∙ times-append x (performed_after es [] us) (performed_after es us (e ∷ ws) ++ left_below (hart_bound es) es) in
+        let some : 1 ≤ times_named x (performed_after es [] us) = times-some x (performed_after es [] us) is in
+        let more : 1 ≤ times_named x (performed_after es us (e ∷ ws) ++ left_below (hart_bound es) es) = times-some x (performed_after es us (e ∷ ws) ++ left_below (hart_bound es) es) named in
+        let few : times_named x (performed_order es) ≤ 1 = (once_of es (performed_order es) (order-once es)).once x in
+        absurd (omega arith)
+
+    operation : (x : ℕ) → is_named x (performed_after es us (e ∷ ws) ++ left_below (hart_bound es) es) ≡ true → is_at is_operation es x ≡ true
+    operation x named =
+        order-operations es x (ap (is_named x) (order-front es us (e ∷ ws) split) ∙ named-append x (performed_after es [] us) (performed_after es us (e ∷ ws) ++ left_below (hart_bound es) es) ∙ or_true (is_named x (performed_after es [] us)) (is_named x (performed_after es us (e ∷ ws) ++ left_below (hart_bound es) es)) named)
+
+    back : (x : ℕ) → is_named x (performed_after es us (e ∷ ws) ++ left_below (hart_bound es) es) ≡ true → is_seen es (performed_order es) q x ≡ (stores_at es (hart_at es q) x && nat_lt x q)
+    back x named =
+        let out : is_named x (performed_after es [] us) ≡ false = not_in_front x named (is_named x (performed_after es [] us)) refl in
+        seen_is x ∙ ap (λ b. b || in_program_order es x q) out ∙ sees_own es q x us (e ∷ ws) split len out (operation x named)
+
+-- so its value is what the store buffers and memory give it
+value_of_read : (B : ℕ) (o : Start) (es us : List Entry) (e : Entry) (ws : List Entry) (q a : ℕ) → LegalAfter B o [] es → es ≡ us ++ e ∷ ws → length us ≡ q → is_reader e ≡ true → reads_at es q ≡ true → value_for o es (performed_order es) q a ≡ read o us (hart_at es q) a
+value_of_read B o es us e ws q a legal split len reader reads =
+    ap (last_written es a (opening_word o a)) (seen_by_read B o es us e ws q legal split len reader reads)
+    ∙ last_written-append es a (opening_word o a) (performed_after es [] us) (drop (lands (hart_at es q) us) (store_places (hart_at es q) us))
+    ∙ ap (λ w. last_written es a w (drop (lands (hart_at es q) us) (store_places (hart_at es q) us))) (front_memory B o es us (e ∷ ws) a legal split)
+    ∙ told_values es a (memory_word o us a) None (drop (lands (hart_at es q) us) (store_places (hart_at es q) us)) (drop (lands (hart_at es q) us) (stores (hart_at es q) us))
+    (Told-drop es (lands (hart_at es q) us) (store_places (hart_at es q) us) (stores (hart_at es q) us) (front_told es us (e ∷ ws) (hart_at es q) split))
+
+reads_what : (B : ℕ) (o : Start) (us : List Entry) (e : Entry) (a v : ℕ) → read_of e ≡ Some (a, v) → Allowed B o us e → (is_reader e ≡ true) × (v ≡ read o us (hart_of e) a)
+reads_what B o us (entry.Inner g) a v is may = cc
+reads_what B o us (entry.Load g b w) a v is may =
+    let parts : (b ≡ a) × (w ≡ v) = some_pair_parts b a w v is in
+    (refl, sym parts.1 ∙ may ∙ ap (read o us g) parts.0)
+reads_what B o us (entry.Store g b w) a v is may = cc
+reads_what B o us (entry.Amo g b old new) a v is may =
+    let parts : (b ≡ a) × (old ≡ v) = some_pair_parts b a old v is in
+    (refl, sym parts.1 ∙ may.1 ∙ ap (read o us g) parts.0)
+reads_what B o us (entry.Fence g full) a v is may = cc
+reads_what B o us (entry.Next g w) a v is may = cc
+reads_what B o us (entry.Took g i w) a v is may = cc
+reads_what B o us (entry.Closed g i) a v is may = cc
+reads_what B o us (entry.Ended g) a v is may = cc
+reads_what B o us (entry.Stopped g why) a v is may = cc
+reads_what B o us (entry.Land g) a v is may = cc
+
+pub order-values : (B : ℕ) (o : Start) (es : List Entry) → LegalAfter B o [] es → (q : ℕ) → HasLoadValue o es (performed_order es) q
+order-values B o es legal q a v is = at (slice_get es q) refl is
+  where
+    at : (so : Option Entry) → slice_get es q ≡ so → option_and_then read_of so ≡ Some (a, v) → v ≡ value_for o es (performed_order es) q a
+    at None here none = cc
+    at (Some e) here some =
+        let us : List Entry = take q es in
+        let ws : List Entry = drop (suc q) es in
+        let split : es ≡ us ++ e ∷ ws = split_entry es q e here in
+        let within : q < length es = slice_get_within es q e here in
+        let len : length us ≡ q = length-take-le q es (omega arith) in
+        let what : (is_reader e ≡ true) × (v ≡ read o us (hart_of e) a) = reads_what B o us e a v some (front_allows B o es us e ws legal split) in
+        let reads : reads_at es q ≡ true = ap (passes is_reader) here ∙ what.0 in
+        let mine : hart_at es q ≡ hart_of e = ap (λ so. option_map_or hart_of so 0) here in
+        what.1 ∙ ap (λ h. read o us h a) (sym mine) ∙ sym (value_of_read B o es us e ws q a legal split len what.0 reads)
+
+-- a legal trace with paths satisfies the axioms in the order in which it performed
+pub kept-ztso : (B M : ℕ) (t : History) → Kept B M t → Ztso t (order t)
+kept-ztso B M t kept = record {
+  operations = order-once t.entries;
+  program_order = order-program B t.opening t.entries kept.legal;
+  load_values = order-values B t.opening t.entries kept.legal;
+}

@@ -1,0 +1,5 @@
+use Rattle.ztso_axioms.proofs.Values.{kept-ztso}
+use Rattle.ztso_axioms.proofs.laws.traces_satisfy_ztso.Goals as goal
+
+pub returns : goal.returns
+returns c = kept-ztso

@@ -1,0 +1,180 @@
+//! Whether a list is a global memory order that the axioms allow.
+
+ghost use Rattle.std.specs.Prelude.{◌≡◌, ℕ, ◌<◌, ◌↔◌, IsTrue, true, false, nat_lt, if◌then◌else◌, All, suc, drop, length, slice_index};
+ghost use Rattle.std.specs.List.{list_any};
+ghost use Rattle.step_machine.specs.Entries.{opening_word};
+ghost use Rattle.ztso_axioms.specs.Operations.{written_at, hart_at};
+ghost use Rattle.ztso_axioms.specs.Axioms.{times_named, is_barrier, is_fenced, is_preserved, in_program_order, is_seen, value_for, NamesEachOnce, KeepsProgramOrder, HasLoadValue, Ztso};
+
+use crate::operation::{
+    Op, entry_at, hart_named, hart_of_entry, is_memory_operation, is_plain_load, is_plain_store,
+    orders, value_named, value_read,
+};
+use step_machine::{Entry, Opening, Trace};
+
+/// Whether the list is a global memory order that Ztso allows for the trace. A list that names a place
+/// past the trace, or an entry that is no load, store or AMO, is none.
+pub fn check(trace: &Trace, order: &[Op]) -> bool
+    ensures { IsTrue result ↔ Ztso trace.now order.now }
+{
+    names_each_once(&trace.entries, order)
+        && keeps_program_order(&trace.entries, order)
+        && has_load_values(trace, order)
+}
+
+/// Whether each operation is named once and nothing else is.
+fn names_each_once(entries: &[Entry], order: &[Op]) -> bool
+    ensures { IsTrue result ↔ NamesEachOnce entries.now order.now }
+{
+    for (place, entry) in entries.iter().enumerate() {
+        let wanted = if is_memory_operation(*entry) { 1 } else { 0 };
+        if times(order, place) != wanted {
+            return false;
+        }
+    }
+    are_below(order, entries.len())
+}
+
+fn are_below(order: &[Op], len: usize) -> bool
+    ensures { IsTrue result ↔ All (λ p. p < len) order.now }
+{
+    order.iter().all(|op| op.place < len)
+}
+
+/// How often the list names the place.
+fn times(order: &[Op], place: usize) -> usize
+    ensures { result ≡ times_named place order.now }
+{
+    let mut times = 0;
+    for op in order {
+        if op.place == place {
+            times += 1;
+        }
+    }
+    times
+}
+
+/// Whether the list keeps the preserved program order.
+fn keeps_program_order(entries: &[Entry], order: &[Op]) -> bool
+    requires { NamesEachOnce entries.now order.now }
+    ensures { IsTrue result ↔ KeepsProgramOrder entries.now order.now }
+{
+    for (index, op) in order.iter().enumerate() {
+        if !may_precede(entries, *op, &order[index..]) {
+            return false;
+        }
+    }
+    true
+}
+
+/// Whether the operation may stand before each of these others.
+fn may_precede(entries: &[Entry], op: Op, others: &[Op]) -> bool
+    ensures { IsTrue result ↔ All (λ p. is_preserved entries.now p op ≡ false) others.now }
+{
+    let place = op.place;
+    let Some(entry) = entry_at(entries, op) else {
+        return true;
+    };
+    let barrier = last_barrier(&entries[..place], hart_of_entry(entry));
+    for other in others {
+        if is_kept(entries, *other, op, barrier) {
+            return false;
+        }
+    }
+    true
+}
+
+/// The place of the last AMO or full fence of the hart, and 0 where there is none.
+fn last_barrier(entries: &[Entry], hart: u32) -> usize
+    ensures { (p : ℕ) → list_any (is_barrier hart) (drop (suc p) entries.now) ≡ nat_lt p result }
+{
+    let mut last = 0;
+    for (place, entry) in entries.iter().enumerate() {
+        if orders(*entry, hart) {
+            last = place;
+        }
+    }
+    last
+}
+
+/// Whether the preserved program order has `first` before `second`, whose hart's last AMO or full fence
+/// before it stands at `barrier`.
+fn is_kept(entries: &[Entry], first: Op, second: Op, barrier: usize) -> bool
+    requires { is_fenced entries.now (hart_at entries.now second) first second ≡ nat_lt first barrier }
+    ensures { result ≡ is_preserved entries.now first second }
+{
+    let (Some(earlier), Some(later)) = (entry_at(entries, first), entry_at(entries, second)) else {
+        return false;
+    };
+    let passes = is_plain_store(earlier) && is_plain_load(later) && barrier <= first.place;
+    is_memory_operation(earlier)
+        && is_memory_operation(later)
+        && is_earlier(entries, first, second)
+        && !passes
+}
+
+/// Whether both are of one hart, the first before the second in program order.
+fn is_earlier(entries: &[Entry], first: Op, second: Op) -> bool
+    ensures { result ≡ in_program_order entries.now first second }
+{
+    hart_named(entries, first) == hart_named(entries, second) && first.place < second.place
+}
+
+/// Whether each load and AMO has the value that the order gives it.
+fn has_load_values(trace: &Trace, order: &[Op]) -> bool
+    requires { NamesEachOnce trace.now.entries order.now }
+    ensures { IsTrue result ↔ ((q : ℕ) → HasLoadValue trace.now.opening trace.now.entries order.now q) }
+{
+    for index in 0..order.len() {
+        if !has_load_value(trace, order, index) {
+            return false;
+        }
+    }
+    true
+}
+
+fn has_load_value(trace: &Trace, order: &[Op], index: usize) -> bool
+    requires once { NamesEachOnce trace.now.entries order.now }
+    requires within { index < length order.now }
+    ensures { IsTrue result ↔ HasLoadValue trace.now.opening trace.now.entries order.now (slice_index order.now index) }
+{
+    let Some(entry) = entry_at(&trace.entries, order[index]) else {
+        return true;
+    };
+    match value_read(entry) {
+        Some((addr, value)) => latest_value(trace, order, index, addr) == value,
+        None => true,
+    }
+}
+
+/// The value that the order gives a read of the address by the operation at `index`.
+fn latest_value(trace: &Trace, order: &[Op], index: usize, addr: u32) -> u32
+    requires once { NamesEachOnce trace.now.entries order.now }
+    requires within { index < length order.now }
+    ensures { result ≡ value_for trace.now.opening trace.now.entries order.now (slice_index order.now index) addr }
+{
+    let entries = &trace.entries;
+    let mut latest = first_value(&trace.opening, addr);
+    for (place, op) in order.iter().enumerate() {
+        if sees(entries, order, index, place) {
+            latest = value_named(entries, *op, addr).unwrap_or(latest);
+        }
+    }
+    latest
+}
+
+/// Whether the operation at `index` can take its value from the store at `place` of the order.
+fn sees(entries: &[Entry], order: &[Op], index: usize, place: usize) -> bool
+    requires once { NamesEachOnce entries.now order.now }
+    requires index { index < length order.now }
+    requires place { place < length order.now }
+    ensures { result ≡ is_seen entries.now order.now (slice_index order.now index) (slice_index order.now place) }
+{
+    place < index || is_earlier(entries, order[place], order[index])
+}
+
+fn first_value(opening: &Opening, addr: u32) -> u32
+    ensures { result ≡ opening_word opening.now addr }
+{
+    opening.words.get(addr as usize / 4).copied().unwrap_or(0)
+}

@@ -1,0 +1,123 @@
+//! Operations of a trace, and what an entry is to the memory model.
+
+ghost use Rattle.std.specs.Prelude.{◌≡◌, ℕ, slice_get};
+ghost use Rattle.step_machine.specs.Entries.{hart_of};
+ghost use Rattle.ztso_axioms.specs.Operations.{is_load, is_store, is_operation, read_of, written_to, hart_at, written_at};
+ghost use Rattle.ztso_axioms.specs.Axioms.{is_barrier};
+
+use std::marker::Model;
+use step_machine::Entry;
+
+/// A memory operation of a trace: the place of a load, a store or an AMO among the entries, from 0.
+#[derive(Clone, Copy, Debug, PartialEq, Eq)]
+pub struct Op {
+    pub place: usize,
+}
+
+impl Model for Op {
+    ghost Value = { ℕ };
+
+    ghost view = { λ op. op.place };
+
+    ghost inverse = { λ p. record { place = p } };
+}
+
+/// The entry that an operation names, if there is one.
+pub(crate) fn entry_at(entries: &[Entry], op: Op) -> Option<Entry>
+    ensures { result ≡ slice_get entries.now op }
+{
+    entries.get(op.place).copied()
+}
+
+/// The hart that made an entry.
+pub(crate) fn hart_of_entry(entry: Entry) -> u32
+    ensures { result ≡ hart_of entry }
+{
+    match entry {
+        Entry::Inner { hart } => hart,
+        Entry::Load { hart, .. } => hart,
+        Entry::Store { hart, .. } => hart,
+        Entry::Amo { hart, .. } => hart,
+        Entry::Fence { hart, .. } => hart,
+        Entry::Next { hart, .. } => hart,
+        Entry::Took { hart, .. } => hart,
+        Entry::Closed { hart, .. } => hart,
+        Entry::Ended { hart } => hart,
+        Entry::Stopped { hart, .. } => hart,
+        Entry::Land { hart } => hart,
+    }
+}
+
+/// The hart of the entry that an operation names.
+pub(crate) fn hart_named(entries: &[Entry], op: Op) -> u32
+    ensures { result ≡ hart_at entries.now op }
+{
+    match entry_at(entries, op) {
+        Some(entry) => hart_of_entry(entry),
+        None => 0,
+    }
+}
+
+pub(crate) fn is_plain_load(entry: Entry) -> bool
+    ensures { result ≡ is_load entry }
+{
+    matches!(entry, Entry::Load { .. })
+}
+
+pub(crate) fn is_plain_store(entry: Entry) -> bool
+    ensures { result ≡ is_store entry }
+{
+    matches!(entry, Entry::Store { .. })
+}
+
+pub(crate) fn is_memory_operation(entry: Entry) -> bool
+    ensures { result ≡ is_operation entry }
+{
+    matches!(
+        entry,
+        Entry::Load { .. } | Entry::Store { .. } | Entry::Amo { .. }
+    )
+}
+
+/// Whether the entry is an AMO or a full fence of this hart.
+pub(crate) fn orders(entry: Entry, by: u32) -> bool
+    ensures { result ≡ is_barrier by entry }
+{
+    match entry {
+        Entry::Amo { hart, .. } => hart == by,
+        Entry::Fence { hart, full } => full && hart == by,
+        _ => false,
+    }
+}
+
+/// The address and the value that a load reads, or an AMO for its old word.
+pub(crate) fn value_read(entry: Entry) -> Option<(u32, u32)>
+    ensures { result ≡ read_of entry }
+{
+    match entry {
+        Entry::Load { addr, value, .. } => Some((addr, value)),
+        Entry::Amo { addr, old, .. } => Some((addr, old)),
+        _ => None,
+    }
+}
+
+/// The value that a store, or an AMO by its new word, writes to this address.
+fn value_written(entry: Entry, to: u32) -> Option<u32>
+    ensures { result ≡ written_to to entry }
+{
+    match entry {
+        Entry::Store { addr, value, .. } if addr == to => Some(value),
+        Entry::Amo { addr, new, .. } if addr == to => Some(new),
+        _ => None,
+    }
+}
+
+/// The value that the entry that an operation names writes to this address.
+pub(crate) fn value_named(entries: &[Entry], op: Op, to: u32) -> Option<u32>
+    ensures { result ≡ written_at entries.now to op }
+{
+    match entry_at(entries, op) {
+        Some(entry) => value_written(entry, to),
+        None => None,
+    }
+}
