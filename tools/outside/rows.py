@@ -33,7 +33,8 @@ IMMEDIATE_SHIFTS = ("slli", "srli", "srai")
 # each branch with two words for which it isn't taken
 BRANCHES = {"beq": (0, 1), "bne": (0, 0), "blt": (0, 0), "bge": (TOP, 0), "bltu": (0, 0),
             "bgeu": (0, 1)}
-AMOS = ("amoswap.w", "amoadd.w", "amoxor.w", "amoand.w", "amoor.w")
+AMO_SUMS = ("amoswap.w", "amoadd.w")
+AMO_BITWISE = ("amoxor.w", "amoand.w", "amoor.w")
 AMO_BOUNDS = ("amomin.w", "amomax.w", "amominu.w", "amomaxu.w")
 ORDERS = (".aq", ".rl", ".aqrl")
 
@@ -191,13 +192,13 @@ def amo_rows(names):
         for order in ORDERS:
             yield amo_row(name + order, *take(3), value, word)
         d, s, b = take(3)
-        for places in ((0, s, b), (d, 0, b), (b, s, b), (d, b, b)):
+        for places in ((0, s, b), (d, 0, b), (s, s, b), (b, s, b), (d, b, b), (b, b, b)):
             yield amo_row(name, *places, value, word)
 
 
 def random_row(draw):
-    name = draw.choice([*OPERANDS, *IMMEDIATES, *IMMEDIATE_SHIFTS, *BRANCHES, *AMOS, *AMO_BOUNDS,
-                        "lui", "auipc", "jal", "jalr", "lw", "sw"])
+    name = draw.choice([*OPERANDS, *IMMEDIATES, *IMMEDIATE_SHIFTS, *BRANCHES, *AMO_SUMS, *AMO_BITWISE,
+                        *AMO_BOUNDS, "lui", "auipc", "jal", "jalr", "lw", "sw"])
     d, s = draw.randrange(32), draw.randrange(32)
     a, other = draw.sample(range(1, 32), 2)
     value, second, bystander = (draw.getrandbits(32) for _ in range(3))
@@ -243,7 +244,8 @@ def cases():
         "branches": [*branch_rows()],
         "loads-and-stores": [*load_and_store_rows()],
         "fences": [*fence_rows()],
-        "amos": [*amo_rows(AMOS)],
+        "amo-swap-and-sum": [*amo_rows(AMO_SUMS)],
+        "amo-bitwise": [*amo_rows(AMO_BITWISE)],
         "amo-minimum-and-maximum": [*amo_rows(AMO_BOUNDS)],
         "drawn": [random_row(draw) for _ in range(ROWS_OF_A_CASE)],
     }
