@@ -94,12 +94,14 @@ fn value_for(entries: &[Entry], order: &[Op], place: usize, read: Access) -> u32
     let mut latest = 0;
     let mut value = 0;
     for (other, entry) in entries.iter().enumerate() {
-        let Some(Access {
-            hart,
-            addr,
-            written: Some(written),
-            ..
-        }) = effect_of(*entry)
+        let Some(
+            Access {
+                hart,
+                addr,
+                written: Some(written),
+                ..
+            },
+        ) = effect_of(*entry)
         else {
             continue;
         };
@@ -147,7 +149,13 @@ fn numbered_list(alloc: Global, places: &[usize], number: usize) -> Result<Vec<O
 }
 
 /// How many lists over the operations `check` accepts; each as the plain program does.
-fn expect_accepted(rt: &impl Abort, alloc: Global, entries: &[Entry], places: &[usize], wanted: usize) -> Result<(), AllocError> {
+fn expect_accepted(
+    rt: &impl Abort,
+    alloc: Global,
+    entries: &[Entry],
+    places: &[usize],
+    wanted: usize,
+) -> Result<(), AllocError> {
     let trace = trace_of(alloc, 4, entries)?;
     let mut lists = 1usize;
     for _ in 0..places.len() {
@@ -199,13 +207,33 @@ fn lists_of_increments(rt: HostRuntime) -> Result<(), Fail> {
 /// What Ztso forbids: a message before its flag, loads of later stores, two readers that disagree.
 #[test]
 fn forbidden_shapes(rt: HostRuntime) -> Result<(), Fail> {
-    let passing = [store(0, 0, 1), store(0, 4, 1), land(0), load(1, 4, 1), load(1, 0, 0)];
+    let passing = [
+        store(0, 0, 1),
+        store(0, 4, 1),
+        land(0),
+        load(1, 4, 1),
+        load(1, 0, 0),
+    ];
     expect_accepted(&rt, rt.alloc(), &passing, &[0, 1, 3, 4], 0)?;
     let buffering = [load(0, 0, 1), store(0, 4, 1), load(1, 4, 1), store(1, 0, 1)];
     expect_accepted(&rt, rt.alloc(), &buffering, &[0, 1, 2, 3], 0)?;
-    let fenced = [store(0, 0, 1), full_fence(0), load(0, 4, 0), store(1, 4, 1), full_fence(1), load(1, 0, 0)];
+    let fenced = [
+        store(0, 0, 1),
+        full_fence(0),
+        load(0, 4, 0),
+        store(1, 4, 1),
+        full_fence(1),
+        load(1, 0, 0),
+    ];
     expect_accepted(&rt, rt.alloc(), &fenced, &[0, 2, 3, 5], 0)?;
-    let readers = [store(0, 0, 1), store(1, 4, 1), load(2, 0, 1), load(2, 4, 0), load(3, 4, 1), load(3, 0, 0)];
+    let readers = [
+        store(0, 0, 1),
+        store(1, 4, 1),
+        load(2, 0, 1),
+        load(2, 4, 0),
+        load(3, 4, 1),
+        load(3, 0, 0),
+    ];
     expect_accepted(&rt, rt.alloc(), &readers, &[0, 1, 2, 3, 4, 5], 0)?;
     Ok(())
 }
