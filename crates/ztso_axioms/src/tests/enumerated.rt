@@ -16,6 +16,15 @@ struct Access {
     written: Option<u32>,
 }
 
+fn amo(hart: u32, addr: u32, old: u32, new: u32) -> Entry {
+    Entry::Amo {
+        hart,
+        addr,
+        old,
+        new,
+    }
+}
+
 fn effect_of(entry: Entry) -> Option<Access> {
     let (hart, addr, read, written) = match entry {
         Entry::Load { hart, addr, value } => (hart, addr, Some(value), None),
@@ -191,20 +200,42 @@ fn lists_of_own_stores(rt: HostRuntime) -> Result<(), Fail> {
 /// An AMO's halves are one operation: of two increments one sees the other.
 #[test]
 fn lists_of_increments(rt: HostRuntime) -> Result<(), Fail> {
-    let increment = |hart, old, new| Entry::Amo {
-        hart,
-        addr: 0,
-        old,
-        new,
-    };
-    let both = [increment(0, 0, 1), increment(1, 1, 2), load(0, 0, 1)];
+    let both = [amo(0, 0, 0, 1), amo(1, 0, 1, 2), load(0, 0, 1)];
     expect_accepted(&rt, rt.alloc(), &both, &[0, 1, 2], 1)?;
-    let lost = [increment(0, 0, 1), increment(1, 0, 1)];
+    let lost = [amo(0, 0, 0, 1), amo(1, 0, 0, 1)];
     expect_accepted(&rt, rt.alloc(), &lost, &[0, 1], 0)?;
     Ok(())
 }
 
-/// What Ztso forbids: a message before its flag, loads of later stores, two readers that disagree.
+/// `fence.tso` leaves store buffering allowed; an AMO on one hart and a full fence on the other do not.
+#[test]
+fn lists_of_store_buffering_with_barriers(rt: HostRuntime) -> Result<(), Fail> {
+    let tso = Entry::Fence {
+        hart: 0,
+        full: false,
+    };
+    let open = [
+        store(0, 0, 1),
+        tso,
+        load(0, 4, 0),
+        store(1, 4, 1),
+        load(1, 0, 0),
+    ];
+    expect_accepted(&rt, rt.alloc(), &open, &[0, 2, 3, 4], 6)?;
+    let closed = [
+        store(0, 0, 1),
+        amo(0, 8, 0, 1),
+        load(0, 4, 0),
+        store(1, 4, 1),
+        full_fence(1),
+        load(1, 0, 0),
+    ];
+    expect_accepted(&rt, rt.alloc(), &closed, &[0, 1, 2, 3, 5], 0)?;
+    Ok(())
+}
+
+/// What Ztso forbids: a flag before its message, loads of later stores, two harts whose stores each come
+/// last to the word that the other wrote first, two readers that disagree.
 #[test]
 fn forbidden_shapes(rt: HostRuntime) -> Result<(), Fail> {
     let passing = [
@@ -217,6 +248,13 @@ fn forbidden_shapes(rt: HostRuntime) -> Result<(), Fail> {
     expect_accepted(&rt, rt.alloc(), &passing, &[0, 1, 3, 4], 0)?;
     let buffering = [load(0, 0, 1), store(0, 4, 1), load(1, 4, 1), store(1, 0, 1)];
     expect_accepted(&rt, rt.alloc(), &buffering, &[0, 1, 2, 3], 0)?;
+    let crossed = [
+        amo(0, 0, 2, 1),
+        store(0, 4, 2),
+        amo(1, 4, 2, 1),
+        store(1, 0, 2),
+    ];
+    expect_accepted(&rt, rt.alloc(), &crossed, &[0, 1, 2, 3], 0)?;
     let fenced = [
         store(0, 0, 1),
         full_fence(0),
