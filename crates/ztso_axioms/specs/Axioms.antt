@@ -71,8 +71,9 @@ KeepsProgramOrder es gs = (p q : ℕ) → IsTrue (is_preserved es p q) → IsTru
 abbrev pub HasLoadValue : Start → List Entry → List ℕ → ℕ → Type 0
 HasLoadValue o es gs q = (a v : ℕ) → read_at es q ≡ Some (a, v) → v ≡ value_for o es gs q a
 
--- The list is a global memory order that Ztso allows for the trace. An AMO is one operation, so the
--- Atomicity Axiom has nothing more to ask.
+-- The list is a global memory order that Ztso allows for the trace. An AMO is one operation and there is
+-- no LR or SC, so the Atomicity Axiom has nothing more to ask; the Progress Axiom speaks of endless runs
+-- and is left out.
 pub record Ztso (t : History) (gs : List ℕ) : Type 0 where
   pub operations : NamesEachOnce t.entries gs
   pub program_order : KeepsProgramOrder t.entries gs

@@ -13,7 +13,8 @@ use crate::operation::{
 use step_machine::{Entry, Opening, Trace};
 
 /// Whether the list is a global memory order that Ztso allows for the trace. A list that names a place
-/// past the trace, or an entry that is no load, store or AMO, is none.
+/// past the trace, or an entry that is no load, store or AMO, is none. It takes no memory, and time by the
+/// square of the trace.
 pub fn check(trace: &Trace, order: &[Op]) -> bool
     ensures { IsTrue result ↔ Ztso trace.now order.now }
 {

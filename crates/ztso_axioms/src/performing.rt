@@ -2,8 +2,8 @@
 
 ghost use Rattle.std.specs.Prelude.{◌≡◌, ℕ, ◌<◌, ◌↔◌, ◌==◌, ◌&&◌, ◌++◌, IsTrue, [], All, IfOk, OnOk, MatchOption, length, drop, slice_get};
 ghost use Rattle.step_machine.specs.Entries.{hart_of, lands};
-ghost use Rattle.ztso_axioms.specs.Operations.{is_store};
 ghost use Rattle.step_machine.specs.Legal.{Kept};
+ghost use Rattle.ztso_axioms.specs.Operations.{is_store};
 ghost use Rattle.ztso_axioms.specs.Axioms.{Ztso};
 ghost use Rattle.ztso_axioms.specs.Performed.{store_places, performed_after, left_places, left_below, hart_bound, order};
 ghost use Rattle.ztso_axioms.specs.Landings.{NamesLandings, AddsLandings, IsNextHart, nearer_of, performed_there};
@@ -22,7 +22,8 @@ struct Landings {
 }
 
 /// The operations by the place where each is performed: a load and an AMO at its own, a hart's k-th
-/// store at that of its k-th landing. Stores without such a landing come last, hart by hart.
+/// store at that of its k-th landing. Stores without such a landing come last, hart by hart. It goes over
+/// the trace a few times for each hart that has an entry.
 pub fn order_of(alloc: Global, trace: &Trace) -> Result<Vec<Op>, AllocError>
     ensures order { IfOk result (λ ops. ops.items ≡ order trace.now) }
     ensures allowed { (B M : ℕ) → Kept B M trace.now → IfOk result (λ ops. Ztso trace.now ops.items) }

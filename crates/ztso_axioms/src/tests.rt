@@ -1,3 +1,5 @@
+mod enumerated;
+
 use crate::{Op, check, order_of, traces_satisfy_ztso};
 use std::alloc::{AllocError, Global};
 use std::process::Abort;
