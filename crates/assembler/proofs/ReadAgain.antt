@@ -1,13 +1,11 @@
 -- The operands that an instruction's text is made of, read again.
-use Rattle.std.proofs.Common.{◌≡◌, ℕ, zero, suc, ◌+◌, ◌^◌, ◌<◌, ◌≤◌, ◌==◌, Bool, true, false, not, ◌&&◌, List, [], ◌∷◌, ◌++◌, length, min, Option, Some, None, Ok, refl, sym, ap, ◌∙◌, subst, arith, inl, inr, ℤ, pos, negsuc, ◌≤ℤ◌, ◌<ℤ◌}
+use Rattle.std.proofs.Common.{◌≡◌, ℕ, zero, suc, ◌+◌, ◌^◌, ◌<◌, ◌≤◌, ◌==◌, Bool, true, false, ◌&&◌, List, [], ◌∷◌, ◌++◌, length, min, Option, Some, None, Ok, refl, ap, ◌∙◌, subst, arith, inl, inr, ℤ, pos, negsuc}
 use Rattle.std.specs.Prelude.{slice_index, option_map, nat_eq}
-use Rattle.std.specs.List.{list_all}
 use Rattle.std.specs.Fmt.{digits, decimal, signed_decimal}
-use Rattle.std.proofs.lemmas.Bool.{cases_Bool, le-ltb, lt-ltb, ne_eqb, eqb-true, cases_lt}
+use Rattle.std.proofs.lemmas.Bool.{le-ltb, lt-ltb, ne_eqb, eqb-true, cases_lt}
 use Rattle.std.proofs.lemmas.Fmt.{decimal_nonempty}
-use Rattle.std.specs.Prelude.{neg_ℤ, unsigned_abs, int_lt}
+use Rattle.std.specs.Prelude.{neg_ℤ}
 use Rattle.texts.specs.Pieces.{is_blank}
-use Rattle.texts.specs.Numbers.{number_of, capped}
 use Rattle.texts.proofs.NumberLaws.{number_of-decimal}
 use Rattle.rv_decode.specs.Meaning.{reg_of}
 use Rattle.rv_decode.specs.Fits.{IsSigned, IsEven}
@@ -15,11 +13,11 @@ use Rattle.rv_decode.proofs.Meanings.{reg_of_number}
 use Rattle.rv_decode.specs.declared.instruction.Reg.{Reg}
 use Rattle.assembler.specs.Tables.{row_of}
 use Rattle.assembler.specs.Registers.{register_names, register_named}
-use Rattle.assembler.specs.Cutting.{is_byte, trimmed, before, after, is_name, begins_name}
+use Rattle.assembler.specs.Cutting.{is_byte, trimmed, is_name, begins_name}
 use Rattle.assembler.specs.Operands.{register_at, magnitude_of, integer_of, in_range, number_at, natural_at, base_at, offset_at, target_at, bytes, set_at, is_reached}
 use Rattle.assembler.specs.Sets.{set_named}
 use Rattle.assembler.specs.Writing.{register_text, address_text, set_text}
-use Rattle.assembler.proofs.Plain.{NonePass, none-append, before_stop, after_stop, before_none, after_none, trimmed_solid, decimal_none, not_byte, not_low_byte, digit_no_blank}
+use Rattle.assembler.proofs.Plain.{NonePass, before_stop, after_stop, trimmed_solid, decimal_none, not_byte, not_low_byte, digit_no_blank}
 use Rattle.std.proofs.lemmas.Int.{ints}
 
 -- ---- registers

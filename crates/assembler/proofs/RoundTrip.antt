@@ -1,5 +1,5 @@
 -- The text of an instruction is assembled to it again.
-use Rattle.std.proofs.Common.{◌≡◌, ℕ, suc, ◌+◌, ◌^◌, ◌<◌, ◌==◌, Bool, true, false, not, ◌&&◌, List, [], ◌∷◌, ◌++◌, length, Option, Some, None, Ok, refl, sym, ap, ◌∙◌, arith, ℤ, pos, negsuc}
+use Rattle.std.proofs.Common.{◌≡◌, ℕ, ◌^◌, ◌<◌, Bool, true, false, not, ◌&&◌, List, [], ◌∷◌, ◌++◌, length, Some, None, Ok, refl, ap, ◌∙◌, arith, ℤ}
 use Rattle.std.specs.Prelude.{nat_lt, codes}
 use Rattle.std.proofs.lemmas.Int.{ints}
 use Rattle.rv_decode.specs.Fits.{Fits, IsSigned}
@@ -9,19 +9,17 @@ use Rattle.std.proofs.lemmas.Bool.{ne_eqb, ltb-true}
 use Rattle.std.proofs.lemmas.Fmt.{decimal_nonempty}
 use Rattle.texts.specs.Pieces.{is_blank}
 use Rattle.rv_decode.specs.declared.instruction.Reg.{Reg}
-use Rattle.rv_decode.specs.declared.instruction.RegisterOp.{RegisterOp}
-use Rattle.rv_decode.specs.declared.instruction.RegisterOp.TheVariants as register
 use Rattle.rv_decode.specs.declared.instruction.Instr.{Instr}
 use Rattle.rv_decode.specs.declared.instruction.Instr.TheVariants as instr
 use Rattle.assembler.specs.declared.form.Form.{Form}
 use Rattle.assembler.specs.declared.form.Form.TheVariants as form
-use Rattle.assembler.specs.Cutting.{is_byte, trimmed, before, after}
+use Rattle.assembler.specs.Cutting.{is_byte, trimmed}
 use Rattle.assembler.specs.Mnemonics.{form_named}
-use Rattle.assembler.specs.Statements.{Made, one, statement_of}
+use Rattle.assembler.specs.Statements.{one, statement_of}
 use Rattle.assembler.specs.Lines.{label_of, statement_text, made_in, made_for, between_commas, some_text}
 use Rattle.assembler.specs.Drafts.{assembled, told, line_below, finished}
 use Rattle.assembler.specs.Writing.{register_text, address_text, set_text, branch_name, load_name, store_name, immediate_name, shift_name, register_name, amo_name, order_name, with_two, with_three, text_of}
-use Rattle.assembler.proofs.Plain.{NonePass, none-append, before_none, after_none, before_stop, after_stop, trimmed_solid, trimmed_ends, one_line, IsOperand, one_between, two_between, three_between, decimal_none, not_byte, not_low_byte, digit_no_blank}
+use Rattle.assembler.proofs.Plain.{NonePass, none-append, before_none, after_none, before_stop, after_stop, trimmed_solid, trimmed_ends, one_line, IsOperand, two_between, three_between, decimal_none, not_byte, not_low_byte, digit_no_blank}
 use Rattle.assembler.proofs.Named.{is_plain, is_word, IsNameOf, branch_named, load_named, store_named, immediate_named, shift_named, register_named, amo_named}
 use Rattle.assembler.proofs.ReadAgain.{all_below, below_all, register_read, short_read, natural_read, signed_none, signed_some, base_read, offset_read, bare_base_read, bare_offset_read, set_read, target_read_12, target_read_20}
 
@@ -39,7 +37,7 @@ word-append xs ys h k = record {
   feeds = none-append (is_byte 10) xs ys h.feeds k.feeds;
   hashes = none-append (is_byte 35) xs ys h.hashes k.hashes;
   colons = none-append (is_byte 58) xs ys h.colons k.colons;
-  some = long xs h.some
+  some = long xs h.some;
 }
   where
     long : (zs : List ℕ) → 0 < length zs → 0 < length (zs ++ ys)
@@ -52,7 +50,7 @@ decimal_word n fits = record {
   feeds = decimal_none (is_byte 10) (λ d lt. not_low_byte 10 d (omega arith)) n fits;
   hashes = decimal_none (is_byte 35) (λ d lt. not_low_byte 35 d (omega arith)) n fits;
   colons = decimal_none (is_byte 58) (λ d lt. not_byte 58 d (omega arith) lt) n fits;
-  some = decimal_nonempty n fits
+  some = decimal_nonempty n fits;
 }
 
 x_word : IsWord (120 ∷ [])
@@ -68,7 +66,7 @@ register_operand : (r : Reg) → IsOperand (register_text r)
 register_operand r = record {
   commas = (refl, decimal_none (is_byte 44) (λ d lt. not_low_byte 44 d (omega arith)) r.number (omega arith));
   blanks = (register_word r).blanks;
-  some = omega arith
+  some = omega arith;
 }
 
 -- ---- a line of a mnemonic and operands
@@ -160,7 +158,7 @@ signed_word z fits = record {
   feeds = signed_none (is_byte 10) refl (λ d lt. not_low_byte 10 d (omega arith)) z fits;
   hashes = signed_none (is_byte 35) refl (λ d lt. not_low_byte 35 d (omega arith)) z fits;
   colons = signed_none (is_byte 58) refl (λ d lt. not_byte 58 d (omega arith) lt) z fits;
-  some = signed_some z fits
+  some = signed_some z fits;
 }
 
 signed_commas : (z : ℤ) → IsSigned 31 z → NonePass (is_byte 44) (signed_decimal z)

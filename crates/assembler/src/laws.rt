@@ -9,5 +9,4 @@ ghost use Rattle.assembler.specs.Writing.{text_of};
 /// The text of an instruction that has a word is assembled to this instruction again, and to no other.
 pub fn read_again()
     ensures { (i : Instr) → Fits i → assembled (text_of i) ≡ Ok (Some i ∷ []) }
-{
-}
+{}
