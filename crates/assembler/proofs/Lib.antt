@@ -5,3 +5,7 @@ pub mod LineLaws
 pub mod PlaceLaws
 pub mod DraftLaws
 pub mod WordLaws
+pub mod Plain
+pub mod ReadAgain
+pub mod RoundTrip
+pub mod Named

@@ -5,8 +5,8 @@
 //! for each row of the manual's assembly syntax in `Statements`, labels in `Drafts`), or the first
 //! fault with its line, in the order that [`Draft::line`] and [`Draft::finish`] tell. A [`Draft`] is
 //! the same, told line by line. [`write_instr`] appends the text of `Writing`.
-//! That the text of an instruction is assembled to its one word again is tested, and proved nowhere;
-//! nor is there a relation beside the definitions, which are functions.
+//! [`laws::read_again`]: that text is assembled to the instruction again.
+//! The definitions are functions: no relation stands beside them, and none is proved of them.
 //! This crate reads no file, relaxes no jump, and knows no section, directive or macro.
 
 #![tactic(auto)]
@@ -17,6 +17,7 @@ mod draft;
 pub mod faults;
 pub mod form;
 mod kept;
+pub mod laws;
 mod line;
 mod loading;
 mod naming;

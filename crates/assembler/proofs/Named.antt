@@ -1,0 +1,124 @@
+-- The mnemonics of instructions are found again.
+use Rattle.std.proofs.Common.{◌≡◌, ℕ, Bool, true, false, not, ◌&&◌, List, ◌++◌, length, Some, refl}
+use Rattle.std.specs.Prelude.{nat_lt}
+use Rattle.std.specs.List.{list_all}
+use Rattle.texts.specs.Pieces.{is_blank}
+use Rattle.rv_decode.specs.declared.instruction.BranchOp.{BranchOp}
+use Rattle.rv_decode.specs.declared.instruction.BranchOp.TheVariants as branch
+use Rattle.rv_decode.specs.declared.instruction.LoadOp.{LoadOp}
+use Rattle.rv_decode.specs.declared.instruction.LoadOp.TheVariants as load
+use Rattle.rv_decode.specs.declared.instruction.StoreOp.{StoreOp}
+use Rattle.rv_decode.specs.declared.instruction.StoreOp.TheVariants as store
+use Rattle.rv_decode.specs.declared.instruction.ImmediateOp.{ImmediateOp}
+use Rattle.rv_decode.specs.declared.instruction.ImmediateOp.TheVariants as immediate
+use Rattle.rv_decode.specs.declared.instruction.ShiftOp.{ShiftOp}
+use Rattle.rv_decode.specs.declared.instruction.ShiftOp.TheVariants as shift
+use Rattle.rv_decode.specs.declared.instruction.RegisterOp.{RegisterOp}
+use Rattle.rv_decode.specs.declared.instruction.RegisterOp.TheVariants as register
+use Rattle.rv_decode.specs.declared.instruction.AmoOp.{AmoOp}
+use Rattle.rv_decode.specs.declared.instruction.AmoOp.TheVariants as amo
+use Rattle.assembler.specs.declared.form.Form.{Form}
+use Rattle.assembler.specs.declared.form.Form.TheVariants as form
+use Rattle.assembler.specs.Cutting.{is_byte}
+use Rattle.assembler.specs.Mnemonics.{form_named}
+use Rattle.assembler.specs.Writing.{branch_name, load_name, store_name, immediate_name, shift_name, register_name, amo_name, order_name}
+
+-- a byte that parts no line
+abbrev pub is_plain : ℕ → Bool
+is_plain c = not (is_blank c) && (not (is_byte 10 c) && (not (is_byte 35 c) && not (is_byte 58 c)))
+
+abbrev pub is_word : List ℕ → Bool
+is_word xs = nat_lt 0 (length xs) && list_all is_plain xs
+
+abbrev pub IsNameOf : List ℕ → Form → Type 0
+IsNameOf name f = (is_word name ≡ true) × (form_named name ≡ Some f)
+
+pub branch_named : (op : BranchOp) → IsNameOf (branch_name op) (form.Branch op)
+unfolding form_named
+branch_named branch.Equal = (refl, refl)
+branch_named branch.NotEqual = (refl, refl)
+branch_named branch.Less = (refl, refl)
+branch_named branch.GreaterEqual = (refl, refl)
+branch_named branch.LessUnsigned = (refl, refl)
+branch_named branch.GreaterEqualUnsigned = (refl, refl)
+
+pub load_named : (op : LoadOp) → IsNameOf (load_name op) (form.Load op)
+unfolding form_named
+load_named load.Byte = (refl, refl)
+load_named load.Half = (refl, refl)
+load_named load.Word = (refl, refl)
+load_named load.ByteUnsigned = (refl, refl)
+load_named load.HalfUnsigned = (refl, refl)
+
+pub store_named : (op : StoreOp) → IsNameOf (store_name op) (form.Store op)
+unfolding form_named
+store_named store.Byte = (refl, refl)
+store_named store.Half = (refl, refl)
+store_named store.Word = (refl, refl)
+
+pub immediate_named : (op : ImmediateOp) → IsNameOf (immediate_name op) (form.Immediate op)
+unfolding form_named
+immediate_named immediate.Add = (refl, refl)
+immediate_named immediate.SetLess = (refl, refl)
+immediate_named immediate.SetLessUnsigned = (refl, refl)
+immediate_named immediate.Xor = (refl, refl)
+immediate_named immediate.Or = (refl, refl)
+immediate_named immediate.And = (refl, refl)
+
+pub shift_named : (op : ShiftOp) → IsNameOf (shift_name op) (form.Shift op)
+unfolding form_named
+shift_named shift.Left = (refl, refl)
+shift_named shift.Right = (refl, refl)
+shift_named shift.RightArithmetic = (refl, refl)
+
+pub register_named : (op : RegisterOp) → IsNameOf (register_name op) (form.Register op)
+unfolding form_named
+register_named register.Add = (refl, refl)
+register_named register.Sub = (refl, refl)
+register_named register.ShiftLeft = (refl, refl)
+register_named register.SetLess = (refl, refl)
+register_named register.SetLessUnsigned = (refl, refl)
+register_named register.Xor = (refl, refl)
+register_named register.ShiftRight = (refl, refl)
+register_named register.ShiftRightArithmetic = (refl, refl)
+register_named register.Or = (refl, refl)
+register_named register.And = (refl, refl)
+
+pub amo_named : (op : AmoOp) (aq rl : Bool) → IsNameOf (amo_name op ++ order_name aq rl) (form.Amo op aq rl)
+unfolding form_named
+amo_named amo.Swap false false = (refl, refl)
+amo_named amo.Swap false true = (refl, refl)
+amo_named amo.Swap true false = (refl, refl)
+amo_named amo.Swap true true = (refl, refl)
+amo_named amo.Add false false = (refl, refl)
+amo_named amo.Add false true = (refl, refl)
+amo_named amo.Add true false = (refl, refl)
+amo_named amo.Add true true = (refl, refl)
+amo_named amo.Xor false false = (refl, refl)
+amo_named amo.Xor false true = (refl, refl)
+amo_named amo.Xor true false = (refl, refl)
+amo_named amo.Xor true true = (refl, refl)
+amo_named amo.And false false = (refl, refl)
+amo_named amo.And false true = (refl, refl)
+amo_named amo.And true false = (refl, refl)
+amo_named amo.And true true = (refl, refl)
+amo_named amo.Or false false = (refl, refl)
+amo_named amo.Or false true = (refl, refl)
+amo_named amo.Or true false = (refl, refl)
+amo_named amo.Or true true = (refl, refl)
+amo_named amo.Min false false = (refl, refl)
+amo_named amo.Min false true = (refl, refl)
+amo_named amo.Min true false = (refl, refl)
+amo_named amo.Min true true = (refl, refl)
+amo_named amo.Max false false = (refl, refl)
+amo_named amo.Max false true = (refl, refl)
+amo_named amo.Max true false = (refl, refl)
+amo_named amo.Max true true = (refl, refl)
+amo_named amo.MinUnsigned false false = (refl, refl)
+amo_named amo.MinUnsigned false true = (refl, refl)
+amo_named amo.MinUnsigned true false = (refl, refl)
+amo_named amo.MinUnsigned true true = (refl, refl)
+amo_named amo.MaxUnsigned false false = (refl, refl)
+amo_named amo.MaxUnsigned false true = (refl, refl)
+amo_named amo.MaxUnsigned true false = (refl, refl)
+amo_named amo.MaxUnsigned true true = (refl, refl)

@@ -1,0 +1,279 @@
+-- The text of an instruction is assembled to it again.
+use Rattle.std.proofs.Common.{◌≡◌, ℕ, ◌^◌, ◌<◌, Bool, true, false, not, ◌&&◌, List, [], ◌∷◌, ◌++◌, length, Some, None, Ok, refl, ap, ◌∙◌, arith, ℤ}
+use Rattle.std.specs.Prelude.{nat_lt, codes}
+use Rattle.std.proofs.lemmas.Int.{ints}
+use Rattle.rv_decode.specs.Fits.{Fits, IsSigned}
+use Rattle.std.specs.List.{list_all}
+use Rattle.std.specs.Fmt.{decimal, signed_decimal}
+use Rattle.std.proofs.lemmas.Bool.{ne_eqb, ltb-true}
+use Rattle.std.proofs.lemmas.Fmt.{decimal_nonempty}
+use Rattle.texts.specs.Pieces.{is_blank}
+use Rattle.rv_decode.specs.declared.instruction.Reg.{Reg}
+use Rattle.rv_decode.specs.declared.instruction.Instr.{Instr}
+use Rattle.rv_decode.specs.declared.instruction.Instr.TheVariants as instr
+use Rattle.assembler.specs.declared.form.Form.{Form}
+use Rattle.assembler.specs.declared.form.Form.TheVariants as form
+use Rattle.assembler.specs.Cutting.{is_byte, trimmed}
+use Rattle.assembler.specs.Mnemonics.{form_named}
+use Rattle.assembler.specs.Statements.{one, statement_of}
+use Rattle.assembler.specs.Lines.{label_of, statement_text, made_in, made_for, between_commas, some_text}
+use Rattle.assembler.specs.Drafts.{assembled, told, line_below, finished}
+use Rattle.assembler.specs.Writing.{register_text, address_text, set_text, branch_name, load_name, store_name, immediate_name, shift_name, register_name, amo_name, order_name, with_two, with_three, text_of}
+use Rattle.assembler.proofs.Plain.{NonePass, none-append, before_none, after_none, before_stop, after_stop, trimmed_solid, trimmed_ends, one_line, IsOperand, two_between, three_between, decimal_none, not_byte, not_low_byte, digit_no_blank}
+use Rattle.assembler.proofs.Named.{is_plain, is_word, IsNameOf, branch_named, load_named, store_named, immediate_named, shift_named, register_named, amo_named}
+use Rattle.assembler.proofs.ReadAgain.{all_below, below_all, register_read, short_read, natural_read, signed_none, signed_some, base_read, offset_read, bare_base_read, bare_offset_read, set_read, target_read_12, target_read_20}
+
+-- a text that parts no line
+pub record IsWord (xs : List ℕ) : Type 0 where
+  pub blanks : NonePass is_blank xs
+  pub feeds : NonePass (is_byte 10) xs
+  pub hashes : NonePass (is_byte 35) xs
+  pub colons : NonePass (is_byte 58) xs
+  pub some : 0 < length xs
+
+word-append : (xs ys : List ℕ) → IsWord xs → IsWord ys → IsWord (xs ++ ys)
+word-append xs ys h k = record {
+  blanks = none-append is_blank xs ys h.blanks k.blanks;
+  feeds = none-append (is_byte 10) xs ys h.feeds k.feeds;
+  hashes = none-append (is_byte 35) xs ys h.hashes k.hashes;
+  colons = none-append (is_byte 58) xs ys h.colons k.colons;
+  some = long xs h.some;
+}
+  where
+    long : (zs : List ℕ) → 0 < length zs → 0 < length (zs ++ ys)
+    long [] some = absurd (omega arith)
+    long (z ∷ zs) some = omega arith
+
+decimal_word : (n : ℕ) → n < 2 ^ 64 → IsWord (decimal n)
+decimal_word n fits = record {
+  blanks = decimal_none is_blank (λ d lt. digit_no_blank d) n fits;
+  feeds = decimal_none (is_byte 10) (λ d lt. not_low_byte 10 d (omega arith)) n fits;
+  hashes = decimal_none (is_byte 35) (λ d lt. not_low_byte 35 d (omega arith)) n fits;
+  colons = decimal_none (is_byte 58) (λ d lt. not_byte 58 d (omega arith) lt) n fits;
+  some = decimal_nonempty n fits;
+}
+
+x_word : IsWord (120 ∷ [])
+x_word = record { blanks = (refl, tt); feeds = (refl, tt); hashes = (refl, tt); colons = (refl, tt); some = omega arith }
+
+comma_word : IsWord (44 ∷ [])
+comma_word = record { blanks = (refl, tt); feeds = (refl, tt); hashes = (refl, tt); colons = (refl, tt); some = omega arith }
+
+register_word : (r : Reg) → IsWord (register_text r)
+register_word r = word-append (120 ∷ []) (decimal r.number) x_word (decimal_word r.number (omega arith))
+
+register_operand : (r : Reg) → IsOperand (register_text r)
+register_operand r = record {
+  commas = (refl, decimal_none (is_byte 44) (λ d lt. not_low_byte 44 d (omega arith)) r.number (omega arith));
+  blanks = (register_word r).blanks;
+  some = omega arith;
+}
+
+-- ---- a line of a mnemonic and operands
+
+some_ops : (ops : List ℕ) → 0 < length ops → some_text ops ≡ Some ops
+some_ops ops some = rw (ne_eqb (length ops) 0 (omega arith)) refl
+
+-- what the statement makes is what the mnemonic's form makes of the operands
+made_text : (name ops : List ℕ) → IsWord name → IsWord ops → made_in (name ++ 32 ∷ ops) ≡ made_for (form_named name) (between_commas (Some ops))
+unfolding made_in
+made_text name ops h k =
+    rw (ne_eqb (length (name ++ 32 ∷ ops)) 0 (long name), before_stop is_blank name 32 ops h.blanks refl, after_stop is_blank name 32 ops h.blanks refl, trimmed_solid ops k.blanks, some_ops ops k.some) refl
+  where
+    long : (xs : List ℕ) → length (xs ++ 32 ∷ ops) ≡ 0 → ⊥
+    long [] e = absurd (omega arith)
+    long (x ∷ xs) e = absurd (omega arith)
+
+-- a text of one statement, which makes one instruction
+assembled_one : (text : List ℕ) (i : Instr) → 0 < length text → NonePass (is_byte 10) text → NonePass (is_byte 35) text → NonePass (is_byte 58) text → trimmed text ≡ text → made_in text ≡ Ok (Some (one i)) → assembled text ≡ Ok (Some i ∷ [])
+unfolding assembled told line_below label_of statement_text finished
+assembled_one text i some feeds hashes colons same made =
+    rw (one_line text some feeds, before_none (is_byte 35) text hashes, after_none (is_byte 58) text colons, same, made) refl
+
+assembled_text : (name ops : List ℕ) (i : Instr) → IsWord name → IsWord ops → made_for (form_named name) (between_commas (Some ops)) ≡ Ok (Some (one i)) → assembled (name ++ 32 ∷ ops) ≡ Ok (Some i ∷ [])
+assembled_text name ops i h k made = assembled_one (name ++ 32 ∷ ops) i (long name)
+    (none-append (is_byte 10) name (32 ∷ ops) h.feeds (refl, k.feeds))
+    (none-append (is_byte 35) name (32 ∷ ops) h.hashes (refl, k.hashes))
+    (none-append (is_byte 58) name (32 ∷ ops) h.colons (refl, k.colons))
+    (trimmed_ends name (32 ∷ []) ops h.some h.blanks k.some k.blanks)
+    (made_text name ops h k ∙ made)
+  where
+    long : (xs : List ℕ) → 0 < length (xs ++ 32 ∷ ops)
+    long [] = omega arith
+    long (x ∷ xs) = omega arith
+
+and_split : (a b : Bool) → (a && b) ≡ true → (a ≡ true) × (b ≡ true)
+and_split true true e = (refl, refl)
+and_split true false e = absurd cc
+and_split false b e = absurd cc
+
+not_split : (a b : Bool) → (not a && b) ≡ true → (a ≡ false) × (b ≡ true)
+not_split true b e = absurd cc
+not_split false b e = (refl, e)
+
+not_last : (a : Bool) → not a ≡ true → a ≡ false
+not_last true e = absurd cc
+not_last false e = refl
+
+plain_split : (c : ℕ) → is_plain c ≡ true → (is_blank c ≡ false) × (is_byte 10 c ≡ false) × (is_byte 35 c ≡ false) × (is_byte 58 c ≡ false)
+plain_split c e =
+    let first = not_split (is_blank c) (not (is_byte 10 c) && (not (is_byte 35 c) && not (is_byte 58 c))) e in
+    let second = not_split (is_byte 10 c) (not (is_byte 35 c) && not (is_byte 58 c)) first.1 in
+    let third = not_split (is_byte 35 c) (not (is_byte 58 c)) second.1 in
+    (first.0, second.0, third.0, not_last (is_byte 58 c) third.1)
+
+plain_none : (xs : List ℕ) → list_all is_plain xs ≡ true → NonePass is_blank xs × NonePass (is_byte 10) xs × NonePass (is_byte 35) xs × NonePass (is_byte 58) xs
+plain_none [] e = (tt, tt, tt, tt)
+plain_none (x ∷ xs) e =
+    let both = and_split (is_plain x) (list_all is_plain xs) e in
+    let here = plain_split x both.0 in
+    let rest = plain_none xs both.1 in
+    ((here.0, rest.0), (here.1, rest.1), (here.2, rest.2), (here.3, rest.3))
+
+word_of_test : (xs : List ℕ) → is_word xs ≡ true → IsWord xs
+word_of_test xs e =
+    let both = and_split (nat_lt 0 (length xs)) (list_all is_plain xs) e in
+    let plain = plain_none xs both.1 in
+    record { blanks = plain.0; feeds = plain.1; hashes = plain.2; colons = plain.3; some = ltb-true 0 (length xs) both.0 }
+
+comma_between : (xs ys : List ℕ) → IsWord xs → IsWord ys → IsWord (xs ++ 44 ∷ ys)
+comma_between xs ys h k = word-append xs (44 ∷ ys) h (word-append (44 ∷ []) ys comma_word k)
+
+made_three : (name : List ℕ) (f : Form) (a b c : List ℕ) (i : Instr) → IsNameOf name f → IsWord a → IsWord b → IsWord c → IsOperand a → IsOperand b → IsOperand c → statement_of f (Some a) (Some b) (Some c) None ≡ Ok (one i) → assembled (with_three name a b c) ≡ Ok (Some i ∷ [])
+made_three name f a b c i named wa wb wc h k m e =
+    assembled_text name (a ++ 44 ∷ (b ++ 44 ∷ c)) i (word_of_test name named.0) (comma_between a (b ++ 44 ∷ c) wa (comma_between b c wb wc))
+    (rw (named.1, three_between a b c h k m, e) refl)
+
+made_two : (name : List ℕ) (f : Form) (a b : List ℕ) (i : Instr) → IsNameOf name f → IsWord a → IsWord b → IsOperand a → IsOperand b → statement_of f (Some a) (Some b) None None ≡ Ok (one i) → assembled (with_two name a b) ≡ Ok (Some i ∷ [])
+made_two name f a b i named wa wb h k e =
+    assembled_text name (a ++ 44 ∷ b) i (word_of_test name named.0) (comma_between a b wa wb)
+    (rw (named.1, two_between a b h k, e) refl)
+
+operand_of : (xs : List ℕ) → IsWord xs → NonePass (is_byte 44) xs → IsOperand xs
+operand_of xs h commas = record { commas = commas; blanks = h.blanks; some = h.some }
+
+signed_word : (z : ℤ) → IsSigned 31 z → IsWord (signed_decimal z)
+signed_word z fits = record {
+  blanks = signed_none is_blank refl (λ d lt. digit_no_blank d) z fits;
+  feeds = signed_none (is_byte 10) refl (λ d lt. not_low_byte 10 d (omega arith)) z fits;
+  hashes = signed_none (is_byte 35) refl (λ d lt. not_low_byte 35 d (omega arith)) z fits;
+  colons = signed_none (is_byte 58) refl (λ d lt. not_byte 58 d (omega arith) lt) z fits;
+  some = signed_some z fits;
+}
+
+signed_commas : (z : ℤ) → IsSigned 31 z → NonePass (is_byte 44) (signed_decimal z)
+signed_commas z fits = signed_none (is_byte 44) refl (λ d lt. not_low_byte 44 d (omega arith)) z fits
+
+signed_operand : (z : ℤ) → IsSigned 31 z → IsOperand (signed_decimal z)
+signed_operand z fits = operand_of (signed_decimal z) (signed_word z fits) (signed_commas z fits)
+
+decimal_operand : (n : ℕ) → n < 2 ^ 64 → IsOperand (decimal n)
+decimal_operand n fits = operand_of (decimal n) (decimal_word n fits) (decimal_none (is_byte 44) (λ d lt. not_low_byte 44 d (omega arith)) n fits)
+
+open_word : IsWord (40 ∷ [])
+open_word = record { blanks = (refl, tt); feeds = (refl, tt); hashes = (refl, tt); colons = (refl, tt); some = omega arith }
+
+close_word : IsWord (41 ∷ [])
+close_word = record { blanks = (refl, tt); feeds = (refl, tt); hashes = (refl, tt); colons = (refl, tt); some = omega arith }
+
+base_word : (r : Reg) → IsWord (40 ∷ (register_text r ++ 41 ∷ []))
+base_word r = word-append (40 ∷ []) (register_text r ++ 41 ∷ []) open_word (word-append (register_text r) (41 ∷ []) (register_word r) close_word)
+
+base_commas : (r : Reg) → NonePass (is_byte 44) (40 ∷ (register_text r ++ 41 ∷ []))
+base_commas r = (refl, none-append (is_byte 44) (register_text r) (41 ∷ []) (register_operand r).commas (refl, tt))
+
+base_operand : (r : Reg) → IsOperand (40 ∷ (register_text r ++ 41 ∷ []))
+base_operand r = operand_of (40 ∷ (register_text r ++ 41 ∷ [])) (base_word r) (base_commas r)
+
+address_word : (z : ℤ) (r : Reg) → IsSigned 31 z → IsWord (address_text z r)
+address_word z r fits = word-append (signed_decimal z) (40 ∷ (register_text r ++ 41 ∷ [])) (signed_word z fits) (base_word r)
+
+address_operand : (z : ℤ) (r : Reg) → IsSigned 31 z → IsOperand (address_text z r)
+address_operand z r fits = operand_of (address_text z r) (address_word z r fits) (none-append (is_byte 44) (signed_decimal z) (40 ∷ (register_text r ++ 41 ∷ [])) (signed_commas z fits) (base_commas r))
+
+no_comma_none : (xs : List ℕ) → list_all (λ c. not (is_byte 44 c)) xs ≡ true → NonePass (is_byte 44) xs
+no_comma_none [] e = tt
+no_comma_none (x ∷ xs) e = let both = not_split (is_byte 44 x) (list_all (λ c. not (is_byte 44 c)) xs) e in (both.0, no_comma_none xs both.1)
+
+set_words : all_below 16 (λ n. is_word (set_text n)) ≡ true
+set_words = refl
+
+set_commas : all_below 16 (λ n. list_all (λ c. not (is_byte 44 c)) (set_text n)) ≡ true
+set_commas = refl
+
+set_word : (n : ℕ) → n < 16 → IsWord (set_text n)
+set_word n lt = word_of_test (set_text n) (below_all 16 (λ m. is_word (set_text m)) set_words n lt)
+
+set_operand : (n : ℕ) → n < 16 → IsOperand (set_text n)
+set_operand n lt = operand_of (set_text n) (set_word n lt) (no_comma_none (set_text n) (below_all 16 (λ m. list_all (λ c. not (is_byte 44 c)) (set_text m)) set_commas n lt))
+
+short_wide : (z : ℤ) → IsSigned 11 z → IsSigned 31 z
+short_wide z h = (omega (arith, ints), omega (arith, ints))
+
+branch_wide : (z : ℤ) → IsSigned 12 z → IsSigned 31 z
+branch_wide z h = (omega (arith, ints), omega (arith, ints))
+
+jump_wide : (z : ℤ) → IsSigned 20 z → IsSigned 31 z
+jump_wide z h = (omega (arith, ints), omega (arith, ints))
+
+alone_read : (name : List ℕ) (f : Form) (i : Instr) → IsNameOf name f → statement_of f None None None None ≡ Ok (one i) → assembled name ≡ Ok (Some i ∷ [])
+unfolding made_in
+alone_read name f i named e =
+    let h = word_of_test name named.0 in
+    let some : 0 < length name = h.some in
+    assembled_one name i h.some h.feeds h.hashes h.colons (trimmed_solid name h.blanks)
+    (rw (ne_eqb (length name) 0 (omega arith), before_none is_blank name h.blanks, after_none is_blank name h.blanks, named.1, e) refl)
+
+-- the text of an instruction that has a word is assembled to it
+pub read_again : (i : Instr) → Fits i → assembled (text_of i) ≡ Ok (Some i ∷ [])
+unfolding text_of statement_of form_named
+read_again (instr.Lui rd n) fits =
+    made_two (codes "lui") form.Lui (register_text rd) (decimal n) (instr.Lui rd n) (refl, refl) (register_word rd) (decimal_word n (omega arith)) (register_operand rd) (decimal_operand n (omega arith))
+    (rw (register_read rd, natural_read 1048575 n (omega arith) (omega arith)) refl)
+read_again (instr.Auipc rd n) fits =
+    made_two (codes "auipc") form.Auipc (register_text rd) (decimal n) (instr.Auipc rd n) (refl, refl) (register_word rd) (decimal_word n (omega arith)) (register_operand rd) (decimal_operand n (omega arith))
+    (rw (register_read rd, natural_read 1048575 n (omega arith) (omega arith)) refl)
+read_again (instr.Jal rd z) fits =
+    let wide = jump_wide z fits.0 in
+    made_two (codes "jal") form.Jal (register_text rd) (signed_decimal z) (instr.Jal rd z) (refl, refl) (register_word rd) (signed_word z wide) (register_operand rd) (signed_operand z wide)
+    (rw (register_read rd, target_read_20 z fits.0 fits.1 wide) refl)
+read_again (instr.Jalr rd rs1 z) fits =
+    let wide = short_wide z fits in
+    made_two (codes "jalr") form.Jalr (register_text rd) (address_text z rs1) (instr.Jalr rd rs1 z) (refl, refl) (register_word rd) (address_word z rs1 wide) (register_operand rd) (address_operand z rs1 wide)
+    (rw (register_read rd, base_read z rs1 wide, offset_read z rs1 fits wide) refl)
+read_again (instr.Branch op rs1 rs2 z) fits =
+    let wide = branch_wide z fits.0 in
+    made_three (branch_name op) (form.Branch op) (register_text rs1) (register_text rs2) (signed_decimal z) (instr.Branch op rs1 rs2 z) (branch_named op) (register_word rs1) (register_word rs2) (signed_word z wide) (register_operand rs1) (register_operand rs2) (signed_operand z wide)
+    (rw (register_read rs1, register_read rs2, target_read_12 z fits.0 fits.1 wide) refl)
+read_again (instr.Load op rd rs1 z) fits =
+    let wide = short_wide z fits in
+    made_two (load_name op) (form.Load op) (register_text rd) (address_text z rs1) (instr.Load op rd rs1 z) (load_named op) (register_word rd) (address_word z rs1 wide) (register_operand rd) (address_operand z rs1 wide)
+    (rw (register_read rd, base_read z rs1 wide, offset_read z rs1 fits wide) refl)
+read_again (instr.Store op rs1 rs2 z) fits =
+    let wide = short_wide z fits in
+    made_two (store_name op) (form.Store op) (register_text rs2) (address_text z rs1) (instr.Store op rs1 rs2 z) (store_named op) (register_word rs2) (address_word z rs1 wide) (register_operand rs2) (address_operand z rs1 wide)
+    (rw (register_read rs2, base_read z rs1 wide, offset_read z rs1 fits wide) refl)
+read_again (instr.Immediate op rd rs1 z) fits =
+    let wide = short_wide z fits in
+    made_three (immediate_name op) (form.Immediate op) (register_text rd) (register_text rs1) (signed_decimal z) (instr.Immediate op rd rs1 z) (immediate_named op) (register_word rd) (register_word rs1) (signed_word z wide) (register_operand rd) (register_operand rs1) (signed_operand z wide)
+    (rw (register_read rd, register_read rs1, short_read z fits) refl)
+read_again (instr.Shift op rd rs1 n) fits =
+    made_three (shift_name op) (form.Shift op) (register_text rd) (register_text rs1) (decimal n) (instr.Shift op rd rs1 n) (shift_named op) (register_word rd) (register_word rs1) (decimal_word n (omega arith)) (register_operand rd) (register_operand rs1) (decimal_operand n (omega arith))
+    (rw (register_read rd, register_read rs1, natural_read 31 n (omega arith) (omega arith)) refl)
+read_again (instr.Register op rd rs1 rs2) fits =
+    made_three (register_name op) (form.Register op) (register_text rd) (register_text rs1) (register_text rs2) (instr.Register op rd rs1 rs2) (register_named op) (register_word rd) (register_word rs1) (register_word rs2) (register_operand rd) (register_operand rs1) (register_operand rs2)
+    (rw (register_read rd, register_read rs1, register_read rs2) refl)
+read_again (instr.Fence pred succ) fits =
+    made_two (codes "fence") form.Fence (set_text pred) (set_text succ) (instr.Fence pred succ) (refl, refl) (set_word pred fits.0) (set_word succ fits.1) (set_operand pred fits.0) (set_operand succ fits.1)
+    (rw (set_read pred fits.0, set_read succ fits.1) refl)
+read_again instr.FenceTso fits = alone_read (codes "fence.tso") form.FenceTso instr.FenceTso (refl, refl) refl
+read_again instr.Ecall fits = alone_read (codes "ecall") form.Ecall instr.Ecall (refl, refl) refl
+read_again instr.Ebreak fits = alone_read (codes "ebreak") form.Ebreak instr.Ebreak (refl, refl) refl
+read_again (instr.Amo op rd rs1 rs2 aq rl) fits =
+    made_three (amo_name op ++ order_name aq rl) (form.Amo op aq rl) (register_text rd) (register_text rs2) (40 ∷ (register_text rs1 ++ 41 ∷ [])) (instr.Amo op rd rs1 rs2 aq rl) (amo_named op aq rl) (register_word rd) (register_word rs2) (base_word rs1) (register_operand rd) (register_operand rs2) (base_operand rs1)
+    (rw (register_read rd, register_read rs2, bare_base_read rs1, bare_offset_read rs1) refl)
+
+-- the same of a text that was empty before
+pub again_after : (old new : List ℕ) (i : Instr) → new ≡ old ++ text_of i → Fits i → old ≡ [] → assembled new ≡ Ok (Some i ∷ [])
+again_after [] new i written fits empty = ap assembled written ∙ read_again i fits
+again_after (x ∷ old) new i written fits empty = absurd cc
