@@ -83,6 +83,7 @@ impl<const B: usize, const M: usize> Machine<B, M> {
         ensures err { IfErr result (λ e. RunFrom B M self.old.history (take e.0 events.now) self.new.history) }
         ensures opening { self.new.history.opening ≡ self.old.history.opening }
         ensures reserved { length events.now ≤ self.old.room → IsOk result }
+        ensures room { self.old.room ≤ self.new.room + length events.now }
     {
         for (done, event) in events.iter().enumerate() {
             match self.step(*event) {
