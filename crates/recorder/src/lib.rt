@@ -19,7 +19,7 @@ pub mod writing;
 
 pub use drawing::seeded;
 pub use faults::{ScheduleError, ScheduleFault};
-pub use laws::{longest_runs, one_value};
+pub use laws::{longest_runs, one_value, tokens_are_read_again};
 pub use reading::{MAX_EVENTS, push_tokens_of, read_schedule, read_tokens};
 pub use replaying::replay;
 pub use writing::{push_tokens, write_schedule};
