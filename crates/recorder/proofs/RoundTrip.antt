@@ -9,7 +9,7 @@ use Rattle.std.proofs.lemmas.Fmt.{decimal_is_IsNumeral}
 use Rattle.std.proofs.lemmas.Str.Parse.{digit_from_value}
 use Rattle.std.proofs.lemmas.List.{append-nil, length-replicate}
 use Rattle.std.proofs.lemmas.List.Elements.{All-nil, All-cons, recursion_from_All}
-use Rattle.std.proofs.lemmas.List.Splits.{slice_split_at}
+use Rattle.std.proofs.lemmas.List.Splits.{slice_split_at, slice_split_none}
 use Rattle.step_machine.specs.declared.events.Event.{Event}
 use Rattle.step_machine.specs.declared.events.Event.TheVariants.{Act, Land}
 use Rattle.texts.specs.declared.pieces.Separators.TheVariants.{BlanksAndLineEnds}
@@ -127,6 +127,28 @@ tokens_again events harts few =
     let same = expanded-runs_of events in
     let stand = text_stands (runs_of events) (AreFit-runs_of events harts) (rw same few) in
     (subst (Stand (pieces BlanksAndLineEnds (text_of (runs_of events) ++ 10 ∷ []))) same stand, few)
+
+-- ---- the tokens alone
+
+alone_stands : (runs : List Run) → AreFit runs → length (expanded runs) ≤ 1048576 → Stand (pieces BlanksAndLineEnds (text_of runs)) (expanded runs)
+alone_stands [] fit few = refl
+alone_stands (run ∷ []) fit few =
+    let small : run.1 < 2 ^ 64 = omega (arith, length-append (replicate run.1 run.0) [], length-replicate run.1 run.0) in
+    let token = token_fits run fit.0 small in
+    subst (λ (all : List (List ℕ)). Stand all (replicate run.1 run.0 ++ [])) (sym (slice_split_none parts (token_of run) token.1))
+    (run.0, run.1, [], token.0, fit.0.0, fit.0.1, refl, refl)
+alone_stands (run ∷ next ∷ runs) fit few =
+    let total : length (expanded (run ∷ next ∷ runs)) ≡ run.1 + length (expanded (next ∷ runs)) = omega (arith, length-append (replicate run.1 run.0) (expanded (next ∷ runs)), length-replicate run.1 run.0) in
+    run_stands run 32 (text_of (next ∷ runs)) (expanded (next ∷ runs)) fit.0 (omega arith) refl (alone_stands (next ∷ runs) fit.1 (omega arith))
+
+pub tokens_alone : (events : List Event) → OfHarts events → length events ≤ 1048576 → IsTokensOf (tokens_of events) events
+unfolding tokens_of
+tokens_alone events harts few =
+    let same = expanded-runs_of events in
+    let stand = alone_stands (runs_of events) (AreFit-runs_of events harts) (rw same few) in
+    (subst (Stand (pieces BlanksAndLineEnds (text_of (runs_of events)))) same stand, few)
+
+-- ---- with the head line
 
 ends_by_lf : (rest : List ℕ) → EndsLine (10 ∷ rest)
 ends_by_lf [] = refl

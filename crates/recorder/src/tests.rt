@@ -3,7 +3,7 @@ ghost use Rattle.rand_core.specs.Steps.{stream_of, steps_u32};
 
 use crate::{
     MAX_EVENTS, ScheduleError, ScheduleFault, longest_runs, one_value, push_tokens, push_tokens_of,
-    read_schedule, read_tokens, replay, seeded, write_schedule,
+    read_schedule, read_tokens, replay, seeded, tokens_are_read_again, write_schedule,
 };
 use rand_core::utils::NextWord;
 use rand_core::{Rng, utils};
@@ -30,6 +30,7 @@ fn tokens_stand_for_events(rt: HostRuntime) -> Result<(), Fail> {
     assert_eq!(rt; read_tokens(alloc, "a0*1048576")?.len(), MAX_EVENTS);
     one_value();
     longest_runs();
+    tokens_are_read_again();
     Ok(())
 }
 
