@@ -7,3 +7,5 @@ pub mod StepsReading
 pub mod StateText
 pub mod Engines
 pub mod Steps
+pub mod Asm
+pub mod Dis

@@ -6,6 +6,8 @@
 
 #![tactic(auto)]
 
+pub mod asm;
+pub mod dis;
 pub mod fault;
 pub mod input;
 pub mod laws;

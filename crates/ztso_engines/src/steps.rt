@@ -18,7 +18,7 @@ use std::alloc::Global;
 use std::io::{Read, Write};
 use step_machine::{Machine, Opening};
 
-mod line;
+pub(crate) mod line;
 mod script;
 #[cfg(test)]
 mod tests;

@@ -80,7 +80,7 @@ pub fn keyword_of(word: &[u8]) -> Option<Keyword>
 
 /// The instruction words that all words of the text say.
 #[tactic(auto, unfolding(crate::specs::StepsReading::code_at))]
-fn code_of(alloc: Global, text: &[u8]) -> Result<Vec<u32>, LineFault>
+pub fn code_of(alloc: Global, text: &[u8]) -> Result<Vec<u32>, LineFault>
     ensures { Gives number_in (λ code. code.items) result (code_at (words text.now)) }
 {
     let mut code = Vec::new(alloc);
