@@ -8,7 +8,7 @@ use Rattle.ztso.specs.declared.failure.Failure.{Failure}
 use Rattle.ztso.specs.declared.command_line.Capacity.{Capacity}
 use Rattle.ztso.specs.declared.command_line.Capacity.TheVariants.{One, Two, Four, Sixteen}
 use Rattle.ztso.specs.declared.command_line.Job.{Job}
-use Rattle.ztso.specs.declared.command_line.Job.TheVariants.{Steps}
+use Rattle.ztso.specs.declared.command_line.Job.TheVariants.{Asm, Dis, Steps}
 
 alone : (name : Text) → job_said (name ∷ codes "steps" ∷ []) ≡ Some (Steps Four)
 unfolding clap_on_literals job_said
@@ -30,6 +30,14 @@ with_an_equals name Two = refl
 with_an_equals name Four = refl
 with_an_equals name Sixteen = refl
 
+of_asm : (name : Text) → job_said (name ∷ codes "asm" ∷ []) ≡ Some Asm
+unfolding clap_on_literals job_said
+of_asm name = refl
+
+of_dis : (name : Text) → job_said (name ∷ codes "dis" ∷ []) ≡ Some Dis
+unfolding clap_on_literals job_said
+of_dis name = refl
+
 pub job_said-spelling : (name : Text) (rest : List Text) (job : Job) → IsSpelling job rest
     → job_said (name ∷ rest) ≡ Some job
 job_said-spelling name rest (Steps capacity) (inl default) =
@@ -39,6 +47,10 @@ job_said-spelling name rest (Steps capacity) (inr (inl blank)) =
     ap (λ (words : List Text). job_said (name ∷ words)) blank ∙ with_a_blank name capacity
 job_said-spelling name rest (Steps capacity) (inr (inr equals)) =
     ap (λ (words : List Text). job_said (name ∷ words)) equals ∙ with_an_equals name capacity
+job_said-spelling name rest Asm alone_is =
+    ap (λ (words : List Text). job_said (name ∷ words)) alone_is ∙ of_asm name
+job_said-spelling name rest Dis alone_is =
+    ap (λ (words : List Text). job_said (name ∷ words)) alone_is ∙ of_dis name
 
 -- so it is answered by that job
 pub answers_spelled : (words : List Text) (r : Result Job Failure) → Answers (job_said words) r

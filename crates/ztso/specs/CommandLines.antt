@@ -9,7 +9,7 @@ use Rattle.ztso.specs.declared.failure.Failure.TheVariants.{BadCommandLine, Engi
 use Rattle.ztso.specs.declared.command_line.Capacity.{Capacity}
 use Rattle.ztso.specs.declared.command_line.Capacity.TheVariants.{One, Two, Four, Sixteen}
 use Rattle.ztso.specs.declared.command_line.Job.{Job}
-use Rattle.ztso.specs.declared.command_line.Job.TheVariants.{Steps}
+use Rattle.ztso.specs.declared.command_line.Job.TheVariants.{Asm, Dis, Steps}
 
 -- the text by which a capacity is asked for
 abbrev pub text_of : Capacity → Text
@@ -36,17 +36,25 @@ buffer_option = record (new_rule (codes "buffer")) {
 abbrev pub steps_command : App
 steps_command = with_rule (new_app (codes "steps")) buffer_option
 
+-- `asm` and `dis` have no options
+abbrev pub asm_command : App
+asm_command = new_app (codes "asm")
+
+abbrev pub dis_command : App
+dis_command = new_app (codes "dis")
+
 abbrev pub ztso_command : App
-ztso_command = with_subcommand (new_app (codes "ztso")) steps_command.top
+ztso_command = with_subcommand (with_subcommand (with_subcommand (new_app (codes "ztso")) steps_command.top) asm_command.top) dis_command.top
 
 abbrev pub steps_with : Option Capacity → Option Job
 steps_with = option_map (λ capacity. Steps capacity)
 
 -- the job of a command with its options
 abbrev pub job_in : Text × List Row → Option Job
-job_in p = if bytes_eq p.0 (codes "steps")
-    then steps_with (option_and_then capacity_said (first_of (codes "buffer") p.1))
-    else None
+job_in p =
+    if bytes_eq p.0 (codes "steps") then steps_with (option_and_then capacity_said (first_of (codes "buffer") p.1))
+    else (if bytes_eq p.0 (codes "asm") then Some Asm
+    else (if bytes_eq p.0 (codes "dis") then Some Dis else None))
 
 abbrev pub job_without : Kinds → Option (Text × List Row) → Option Job
 job_without [] found = option_and_then job_in found
@@ -67,3 +75,5 @@ IsSpelling (Steps capacity) words =
     ((words ≡ codes "steps" ∷ []) × (capacity ≡ Four))
     ⊎ ((words ≡ codes "steps" ∷ codes "--buffer" ∷ text_of capacity ∷ [])
     ⊎ (words ≡ codes "steps" ∷ (codes "--buffer=" ++ text_of capacity) ∷ []))
+IsSpelling Asm words = words ≡ codes "asm" ∷ []
+IsSpelling Dis words = words ≡ codes "dis" ∷ []

@@ -24,6 +24,10 @@ pub enum Capacity {
 pub enum Job {
     /// To run the machine that standard input describes.
     Steps { capacity: Capacity },
+    /// To make words of the assembly on standard input.
+    Asm,
+    /// To name the instructions of the words on standard input.
+    Dis,
 }
 
 /// The job that the words ask for, the first of which is the program's name.
@@ -51,7 +55,11 @@ fn matches_of<'a, S: AsStr>(alloc: Global, words: &'a [S]) -> Result<ArgMatches<
         .action(ArgAction::Set)
         .default_value("4");
     let steps = Command::new(alloc, "steps").arg(buffer)?;
-    let ztso = Command::new(alloc, "ztso").subcommand(steps)?;
+    let asm = Command::new(alloc, "asm");
+    let dis = Command::new(alloc, "dis");
+    let with_steps = Command::new(alloc, "ztso").subcommand(steps)?;
+    let with_asm = with_steps.subcommand(asm)?;
+    let ztso = with_asm.subcommand(dis)?;
     ztso.try_get_matches_from(words)
 }
 
@@ -63,6 +71,8 @@ fn job_in_matches(matches: &ArgMatches<'_>) -> Option<Job>
             let capacity = capacity_of(options.get_str("buffer")?)?;
             Some(Job::Steps { capacity })
         }
+        ("asm", _) => Some(Job::Asm),
+        ("dis", _) => Some(Job::Dis),
         _ => None,
     }
 }
@@ -85,7 +95,7 @@ mod tests {
     use std::test::Fail;
 
     #[test]
-    fn jobs_are_read(rt: HostRuntime) -> Result<(), Fail> {
+    fn capacities_are_read(rt: HostRuntime) -> Result<(), Fail> {
         let table: [(&[&str], Capacity); 6] = [
             (&["ztso", "steps"], Capacity::Four),
             (&["ztso", "steps", "--buffer", "1"], Capacity::One),
@@ -105,8 +115,21 @@ mod tests {
     }
 
     #[test]
+    fn commands_without_options_are_read(rt: HostRuntime) -> Result<(), Fail> {
+        let table: [(&[&str], Job); 3] = [
+            (&["ztso", "asm"], Job::Asm),
+            (&["ztso", "dis"], Job::Dis),
+            (&["another name", "dis"], Job::Dis),
+        ];
+        for (words, job) in table {
+            assert_eq!(rt; job_of(rt.alloc(), words), Ok(job), "{words:?}");
+        }
+        Ok(())
+    }
+
+    #[test]
     fn other_words_ask_for_no_job(rt: HostRuntime) -> Result<(), Fail> {
-        let table: [&[&str]; 24] = [
+        let table: [&[&str]; 29] = [
             &[],
             &["ztso"],
             &["ztso", ""],
@@ -130,6 +153,11 @@ mod tests {
             &["ztso", "steps", "--buffer", "04"],
             &["ztso", "steps", "--buffer", "-1"],
             &["ztso", "steps", "--buffer", "4", "--buffer", "4"],
+            &["ztso", "ASM"],
+            &["ztso", "asm", "dis"],
+            &["ztso", "asm", "--buffer", "4"],
+            &["ztso", "dis", ""],
+            &["ztso", "dis", "-h"],
             &["ztso", "run", "a.litmus", "a.schedule"],
         ];
         for words in table {

@@ -6,6 +6,8 @@ ghost use Rattle.ztso_engines.specs.Engines.{EndsBy};
 use crate::command_line::{Capacity, Job};
 use std::alloc::Global;
 use std::io::{Read, Write};
+use ztso_engines::asm::asm_engine;
+use ztso_engines::dis::dis_engine;
 use ztso_engines::fault::Fault;
 use ztso_engines::steps::steps_engine;
 
@@ -29,6 +31,8 @@ pub fn do_job<R: Read, W: Write>(
             Capacity::Four => steps_engine::<4, WORDS, _, _>(alloc, reader, writer),
             Capacity::Sixteen => steps_engine::<16, WORDS, _, _>(alloc, reader, writer),
         },
+        Job::Asm => asm_engine(alloc, reader, writer),
+        Job::Dis => dis_engine(alloc, reader, writer),
     }
 }
 
@@ -57,6 +61,22 @@ mod tests {
                 &mut written,
             )?;
             assert_eq!(rt; written.as_slice(), state.as_bytes());
+        }
+        Ok(())
+    }
+
+    /// A word and its instruction, as the public tables of RV32I have it.
+    const WORD: &str = "00100893\n";
+
+    const INSTRUCTION: &str = "addi x17,x0,1\n";
+
+    #[test]
+    fn words_and_instructions_answer_each_other(rt: HostRuntime) -> Result<(), Fail> {
+        for (job, input, output) in [(Job::Asm, INSTRUCTION, WORD), (Job::Dis, WORD, INSTRUCTION)] {
+            let mut written = Vec::new(rt.alloc());
+            let mut reader = input.as_bytes();
+            do_job(rt.alloc(), job, &mut reader, &mut written)?;
+            assert_eq!(rt; written.as_slice(), output.as_bytes());
         }
         Ok(())
     }
