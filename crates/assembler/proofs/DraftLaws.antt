@@ -11,7 +11,9 @@ use Rattle.assembler.specs.declared.faults.AsmFault.TheVariants.{LabelTwice, Too
 use Rattle.assembler.specs.Faults.{Refusal}
 use Rattle.assembler.specs.Statements.{Made, one, two, jump, branch}
 use Rattle.assembler.specs.Lines.{label_of, statement_text, made_in}
-use Rattle.assembler.specs.Drafts.{Line, size_of, words_of, is_label, place_from, place_of, is_twice, line_below, told, placed, all_placed, Fitting, AllFit, IsKept, over, finished}
+use Rattle.assembler.specs.Drafts.{Line, size_of, words_of, is_label, place_from, place_of, is_twice, line_below, told, placed, all_placed, Fitting, AllFit, over, finished}
+use Rattle.assembler.specs.Kept.{IsKept}
+use Rattle.assembler.proofs.LabelLaws.{fresh_apart, once-push}
 
 abbrev line_fault : AsmFault → ℕ → Result (List Line) Refusal
 line_fault fault line = Err (record { fault = fault; line = line })
@@ -103,10 +105,11 @@ kept_more found after words all line kept defined fresh fits = record {
   places = λ name. defined name ∙ rw (kept.size, kept.places name) (place_of-push all line name fresh);
   size = rw kept.size (sym (words_of-push all line));
   fits = AllFit-push all line kept.fits fits;
+  once = once-push all line kept.once (fresh_apart all line.label fresh);
 }
 
 pub kept_same : (found after : List ℕ → Option ℕ) (words : ℕ) (all : List Line) → IsKept found words all → ((name : List ℕ) → after name ≡ found name) → IsKept after words all
-kept_same found after words all kept same = record { places = λ name. same name ∙ kept.places name; size = kept.size; fits = kept.fits }
+kept_same found after words all kept same = record { places = λ name. same name ∙ kept.places name; size = kept.size; fits = kept.fits; once = kept.once }
 
 size_le : (made : Option Made) → size_of made ≤ 2
 size_le None = omega arith

@@ -1,6 +1,4 @@
 pub mod TableLaws
-pub mod CuttingLaws
-pub mod Magnitudes
 pub mod LineLaws
 pub mod PlaceLaws
 pub mod DraftLaws
@@ -9,3 +7,13 @@ pub mod Plain
 pub mod ReadAgain
 pub mod RoundTrip
 pub mod Named
+pub mod Rows
+pub mod Trimming
+pub mod Leaves
+pub mod Addresses
+pub mod OperandTable
+pub mod StatementGrammar
+pub mod LineGrammar
+pub mod LabelLaws
+pub mod ProgramGrammar
+pub mod LoadingLaws

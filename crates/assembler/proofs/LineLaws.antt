@@ -2,7 +2,7 @@
 use Rattle.std.proofs.Common.{◌≡◌, ℕ, Bool, List, [], ◌∷◌, map, Option, Some, None, refl, sym, ap, ◌∙◌, inl, inr}
 use Rattle.std.specs.List.{slice_split}
 use Rattle.std.proofs.lemmas.Bool.{cases_Bool}
-use Rattle.assembler.specs.Cutting.{before, after, is_byte, trimmed}
+use Rattle.texts.specs.Cutting.{before, after, is_byte, trimmed}
 use Rattle.assembler.specs.Lines.{between_commas, first_of, rest_of}
 
 abbrev split_behind : (ℕ → Bool) → Option (List ℕ) → List (List ℕ)

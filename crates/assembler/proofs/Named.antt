@@ -19,7 +19,7 @@ use Rattle.rv_decode.specs.declared.instruction.AmoOp.{AmoOp}
 use Rattle.rv_decode.specs.declared.instruction.AmoOp.TheVariants as amo
 use Rattle.assembler.specs.declared.form.Form.{Form}
 use Rattle.assembler.specs.declared.form.Form.TheVariants as form
-use Rattle.assembler.specs.Cutting.{is_byte}
+use Rattle.texts.specs.Cutting.{is_byte}
 use Rattle.assembler.specs.Mnemonics.{form_named}
 use Rattle.assembler.specs.Writing.{branch_name, load_name, store_name, immediate_name, shift_name, register_name, amo_name, order_name}
 

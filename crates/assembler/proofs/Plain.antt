@@ -8,7 +8,7 @@ use Rattle.std.proofs.lemmas.Bool.{le-ltb, ne_eqb}
 use Rattle.std.proofs.lemmas.Fmt.{decimal_by_steps}
 use Rattle.texts.specs.Pieces.{is_blank}
 use Rattle.texts.proofs.LineLaws.{lines_whole}
-use Rattle.assembler.specs.Cutting.{before, after, is_byte, without_front, without_end, onto_kept, trimmed}
+use Rattle.texts.specs.Cutting.{before, after, is_byte, without_front, without_end, onto_kept, trimmed}
 use Rattle.assembler.specs.Lines.{between_commas}
 use Rattle.assembler.proofs.LineLaws.{split_cut}
 
@@ -37,7 +37,7 @@ pub after_stop : (p : ℕ → Bool) (xs : List ℕ) (c : ℕ) (ys : List ℕ) �
 after_stop p [] c ys h stop = rw stop refl
 after_stop p (x ∷ xs) c ys h stop = rw h.0 (after_stop p xs c ys h.1 stop)
 
-front_solid : (xs : List ℕ) → NonePass is_blank xs → without_front xs ≡ xs
+pub front_solid : (xs : List ℕ) → NonePass is_blank xs → without_front xs ≡ xs
 front_solid [] h = refl
 front_solid (x ∷ xs) h = rw h.0 refl
 
@@ -46,11 +46,11 @@ end_solid [] h = refl
 end_solid (x ∷ []) h = rw h.0 refl
 end_solid (x ∷ y ∷ ys) h = rw (end_solid (y ∷ ys) h.1) refl
 
-onto_some : (x : ℕ) (ys : List ℕ) → 0 < length ys → onto_kept x ys ≡ x ∷ ys
+pub onto_some : (x : ℕ) (ys : List ℕ) → 0 < length ys → onto_kept x ys ≡ x ∷ ys
 onto_some x [] some = absurd (omega arith)
 onto_some x (y ∷ ys) some = refl
 
-end_append : (xs ys : List ℕ) → 0 < length ys → NonePass is_blank ys → without_end (xs ++ ys) ≡ xs ++ ys
+pub end_append : (xs ys : List ℕ) → 0 < length ys → NonePass is_blank ys → without_end (xs ++ ys) ≡ xs ++ ys
 end_append [] ys some h = end_solid ys h
 end_append (x ∷ xs) ys some h = ap (onto_kept x) (end_append xs ys some h) ∙ onto_some x (xs ++ ys) (long xs)
   where
@@ -82,10 +82,10 @@ one_line xs some h = lines_whole xs (position_none (is_byte 10) xs h) some
 
 -- ---- operands between commas
 
-split_none : (xs : List ℕ) → NonePass (is_byte 44) xs → slice_split (is_byte 44) xs ≡ xs ∷ []
+pub split_none : (xs : List ℕ) → NonePass (is_byte 44) xs → slice_split (is_byte 44) xs ≡ xs ∷ []
 split_none xs h = split_cut (is_byte 44) xs ∙ rw (before_none (is_byte 44) xs h, after_none (is_byte 44) xs h) refl
 
-split_stop : (xs ys : List ℕ) → NonePass (is_byte 44) xs → slice_split (is_byte 44) (xs ++ 44 ∷ ys) ≡ xs ∷ slice_split (is_byte 44) ys
+pub split_stop : (xs ys : List ℕ) → NonePass (is_byte 44) xs → slice_split (is_byte 44) (xs ++ 44 ∷ ys) ≡ xs ∷ slice_split (is_byte 44) ys
 split_stop xs ys h = split_cut (is_byte 44) (xs ++ 44 ∷ ys) ∙ rw (before_stop (is_byte 44) xs 44 ys h refl, after_stop (is_byte 44) xs 44 ys h refl) refl
 
 -- an operand stands for itself

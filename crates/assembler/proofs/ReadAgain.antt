@@ -2,7 +2,7 @@
 use Rattle.std.proofs.Common.{◌≡◌, ℕ, zero, suc, ◌+◌, ◌^◌, ◌<◌, ◌≤◌, ◌==◌, Bool, true, false, ◌&&◌, List, [], ◌∷◌, ◌++◌, length, min, Option, Some, None, Ok, refl, ap, ◌∙◌, subst, arith, inl, inr, ℤ, pos, negsuc}
 use Rattle.std.specs.Prelude.{slice_index, option_map, nat_eq}
 use Rattle.std.specs.Fmt.{digits, decimal, signed_decimal}
-use Rattle.std.proofs.lemmas.Bool.{le-ltb, lt-ltb, ne_eqb, eqb-true, cases_lt}
+use Rattle.std.proofs.lemmas.Bool.{and_parts, and_right, le-ltb, lt-ltb, ne_eqb, eqb-true, cases_lt}
 use Rattle.std.proofs.lemmas.Fmt.{decimal_nonempty}
 use Rattle.std.specs.Prelude.{neg_ℤ}
 use Rattle.texts.specs.Pieces.{is_blank}
@@ -13,8 +13,10 @@ use Rattle.rv_decode.proofs.Meanings.{reg_of_number}
 use Rattle.rv_decode.specs.declared.instruction.Reg.{Reg}
 use Rattle.assembler.specs.Tables.{row_of}
 use Rattle.assembler.specs.Registers.{register_names, register_named}
-use Rattle.assembler.specs.Cutting.{is_byte, trimmed, is_name, begins_name}
-use Rattle.assembler.specs.Operands.{register_at, magnitude_of, integer_of, in_range, number_at, natural_at, base_at, offset_at, target_at, bytes, set_at, is_reached}
+use Rattle.texts.specs.Cutting.{is_byte, trimmed}
+use Rattle.assembler.specs.Names.{is_name, begins_name}
+use Rattle.texts.specs.Integers.{magnitude_of, integer_of}
+use Rattle.assembler.specs.Operands.{register_at, in_range, number_at, natural_at, base_at, offset_at, target_at, bytes, set_at, is_reached}
 use Rattle.assembler.specs.Sets.{set_named}
 use Rattle.assembler.specs.Writing.{register_text, address_text, set_text}
 use Rattle.assembler.proofs.Plain.{NonePass, before_stop, after_stop, trimmed_solid, decimal_none, not_byte, not_low_byte, digit_no_blank}
@@ -30,15 +32,10 @@ abbrev pub all_below : ℕ → (ℕ → Bool) → Bool
 all_below zero test = true
 all_below (suc k) test = test k && all_below k test
 
-both_true : (a b : Bool) → (a && b) ≡ true → (a ≡ true) × (b ≡ true)
-both_true true true e = (refl, refl)
-both_true true false e = absurd cc
-both_true false b e = absurd cc
-
 pub below_all : (k : ℕ) (test : ℕ → Bool) → all_below k test ≡ true → (n : ℕ) → n < k → test n ≡ true
 below_all zero test all n lt = absurd (omega arith)
 below_all (suc k) test all n lt =
-    let both = both_true (test k) (all_below k test) all in
+    let both = and_parts (test k) (all_below k test) all in
     elim (cases_lt n k) [
       | inl less ↦ below_all k test both.1 n less
       | inr le ↦ (let same : k ≡ n = omega arith in subst (λ (m : ℕ). test m ≡ true) same both.0)
@@ -73,22 +70,18 @@ second_not byte [] zero_not h = zero_not
 second_not byte (x ∷ []) zero_not h = zero_not
 second_not byte (x ∷ y ∷ ys) zero_not h = h.1.0
 
-and_no : (a b : Bool) → b ≡ false → (a && b) ≡ false
-and_no true b e = e
-and_no false b e = refl
-
 magnitude_read : (n : ℕ) → n < 2 ^ 32 → magnitude_of (decimal n) ≡ Some n
 unfolding magnitude_of
 magnitude_read n small =
     let no_x : NonePass (is_byte 120) (decimal n) = decimal_none (is_byte 120) (λ d lt. not_byte 120 d (omega arith) lt) n (omega arith) in
     let kept : min n (2 ^ 32) ≡ n = omega arith in
-    rw (second_not 120 (decimal n) refl no_x) (rw (and_no _ false refl) (number_of-decimal n (omega arith) ∙ ap Some kept))
+    rw (second_not 120 (decimal n) refl no_x) (rw (and_right _ false refl) (number_of-decimal n (omega arith) ∙ ap Some kept))
 
 pub integer_read : (n : ℕ) → n < 2 ^ 32 → integer_of (decimal n) ≡ Some (pos n)
 unfolding integer_of
 integer_read n small =
     let no_sign : NonePass (is_byte 45) (decimal n) = decimal_none (is_byte 45) (λ d lt. not_low_byte 45 d (omega arith)) n (omega arith) in
-    rw (first_not 45 (decimal n) refl no_sign) (rw (and_no _ false refl) (ap (option_map pos) (magnitude_read n small)))
+    rw (first_not 45 (decimal n) refl no_sign) (rw (and_right _ false refl) (ap (option_map pos) (magnitude_read n small)))
 
 negative_read : (n : ℕ) → n < 2 ^ 31 → integer_of (45 ∷ decimal (suc n)) ≡ Some (negsuc n)
 unfolding integer_of

@@ -1,9 +1,9 @@
 -- Names looked up in a table.
-use Rattle.std.proofs.Common.{◌≡◌, ℕ, Bool, true, false, List, [], ◌∷◌, Option, Some, None, refl, sym, ◌∙◌, ap, subst, inl, inr, ◌<◌, ◌&&◌}
+use Rattle.std.proofs.Common.{◌≡◌, ℕ, true, List, [], ◌∷◌, Option, Some, None, refl, sym, ◌∙◌, ap, subst, inl, inr, ◌<◌}
 use Rattle.std.specs.Prelude.{find, option_map}
 use Rattle.std.specs.Prelude.{IfSome, nat_lt}
 use Rattle.std.specs.List.{list_all}
-use Rattle.std.proofs.lemmas.Bool.{cases_Bool, ltb-true}
+use Rattle.std.proofs.lemmas.Bool.{cases_Bool, ltb-true, and_parts}
 use Rattle.assembler.specs.Tables.{row_of, told}
 
 pub find_row : {R V : Type 0} (name : R → List ℕ) (value : R → V) (rows : List R) (text : List ℕ) → option_map value (find (λ row. told (name row) text) rows) ≡ row_of name value rows text
@@ -19,17 +19,12 @@ row_found name value rows text row e = sym (find_row name value rows text) ∙ a
 pub row_missing : {R V : Type 0} (name : R → List ℕ) (value : R → V) (rows : List R) (text : List ℕ) → None ≡ find (λ r. told (name r) text) rows → row_of name value rows text ≡ None
 row_missing name value rows text e = sym (find_row name value rows text) ∙ ap (option_map value) (sym e)
 
-both_true : (a b : Bool) → (a && b) ≡ true → (a ≡ true) × (b ≡ true)
-both_true true true e = (refl, refl)
-both_true true false e = absurd cc
-both_true false b e = absurd cc
-
 -- a bound on every row's number is one on the number that is found
 pub row_below : {R : Type 0} (name : R → List ℕ) (value : R → ℕ) (rows : List R) (text : List ℕ) (most : ℕ) → list_all (λ row. nat_lt (value row) most) rows ≡ true → (r : Option ℕ) → r ≡ row_of name value rows text → IfSome r (λ n. n < most)
 row_below name value [] text most all None e = tt
 row_below name value [] text most all (Some n) e = absurd cc
 row_below name value (row ∷ rows) text most all r e =
-    let both = both_true (nat_lt (value row) most) (list_all (λ other. nat_lt (value other) most) rows) all in
+    let both = and_parts (nat_lt (value row) most) (list_all (λ other. nat_lt (value other) most) rows) all in
     elim (cases_Bool (told (name row) text)) [
       | inl passes ↦ subst (λ (o : Option ℕ). IfSome o (λ n. n < most)) (sym (rw passes at e)) (ltb-true (value row) most both.0)
       | inr other ↦ row_below name value rows text most both.1 r (rw other at e)

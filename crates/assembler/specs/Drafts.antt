@@ -1,6 +1,6 @@
 -- A text, told line by line, and the first fault of it: those of the lines from the top, then a text
 -- that is too long, and then the places of labels, from the top again.
-use Rattle.std.specs.Prelude.{ℕ, ℤ, pos, ◌-ℤ◌, ◌+◌, ◌*◌, ◌≡◌, Bool, false, nat_lt, List, [], ◌∷◌, ◌++◌, length, Option, Some, None, Result, Ok, Err, if◌then◌else◌, IfSome}
+use Rattle.std.specs.Prelude.{ℕ, ℤ, pos, ◌-ℤ◌, ◌+◌, ◌*◌, Bool, false, nat_lt, List, [], ◌∷◌, ◌++◌, length, Option, Some, None, Result, Ok, Err, if◌then◌else◌, IfSome}
 use Rattle.std.specs.Str.{bytes_eq}
 use Rattle.std.specs.Option.{is_some}
 use Rattle.std.specs.Str.Lines.{lines}
@@ -133,11 +133,6 @@ Fitting (Some made) = MadeFits made
 abbrev pub AllFit : List Line → Type 0
 AllFit [] = Unit {0}
 AllFit (line ∷ rest) = Fitting line.made × AllFit rest
-
-pub record IsKept (found : List ℕ → Option ℕ) (words : ℕ) (all : List Line) : Type 0 where
-  pub places : (name : List ℕ) → found name ≡ place_of all name
-  pub size : words ≡ words_of all
-  pub fits : AllFit all
 
 -- ---- words
 

@@ -1,5 +1,5 @@
 -- What the parts of a draft stand for.
-use Rattle.std.specs.Prelude.{ℕ, List, Option, Some, None}
+use Rattle.std.specs.Prelude.{◌≡◌, ℕ, List, Option, Some, None}
 use Rattle.std.specs.Str.{bytes_eq}
 use Rattle.std.specs.HashMap.{HashMap, get_by}
 use Rattle.std.specs.declared.vec.Vec.{Vec}
@@ -8,7 +8,8 @@ use Rattle.assembler.specs.declared.kept.Kept.{Kept}
 use Rattle.assembler.specs.declared.kept.Kept.TheVariants as kept
 use Rattle.assembler.specs.declared.kept.KeptLine.{KeptLine}
 use Rattle.assembler.specs.Statements.{Made, one, two, jump, branch}
-use Rattle.assembler.specs.Drafts.{Line}
+use Rattle.assembler.specs.Drafts.{Line, words_of, place_of, AllFit}
+use Rattle.assembler.specs.Program.{EachOnce}
 
 abbrev pub kept_made : Kept → Made
 kept_made (kept.One i) = one i
@@ -30,3 +31,10 @@ line_of line = record { label = name_of line.label; made = statement_of_kept lin
 -- the place that the map has for the name
 abbrev pub place_in : {S : Type 0} → HashMap (Vec ℕ Global) ℕ S → List ℕ → Option ℕ
 place_in places name = get_by (λ key. bytes_eq name key.items) places
+
+-- the map and the number of words are those of the lines
+pub record IsKept (found : List ℕ → Option ℕ) (words : ℕ) (all : List Line) : Type 0 where
+  pub places : (name : List ℕ) → found name ≡ place_of all name
+  pub size : words ≡ words_of all
+  pub fits : AllFit all
+  pub once : EachOnce all

@@ -2,7 +2,7 @@ pub mod Faults
 pub mod Tables
 pub mod Registers
 pub mod Mnemonics
-pub mod Cutting
+pub mod Names
 pub mod Sets
 pub mod Operands
 pub mod Statements
@@ -10,3 +10,7 @@ pub mod Lines
 pub mod Drafts
 pub mod Kept
 pub mod Writing
+pub mod Spelled
+pub mod Grammar
+pub mod Program
+pub mod Loading

@@ -7,7 +7,8 @@ use Rattle.assembler.specs.declared.faults.AsmFault.{AsmFault}
 use Rattle.assembler.specs.declared.faults.AsmFault.TheVariants.{UnknownName}
 use Rattle.assembler.specs.declared.form.Form.{Form}
 use Rattle.assembler.specs.declared.statement.Statement.{Statement}
-use Rattle.assembler.specs.Cutting.{before, after, is_byte, without_front, trimmed, is_name}
+use Rattle.texts.specs.Cutting.{before, after, is_byte, without_front, trimmed}
+use Rattle.assembler.specs.Names.{is_name}
 use Rattle.assembler.specs.Mnemonics.{form_named}
 use Rattle.assembler.specs.Statements.{Made, statement_of, made_of}
 

@@ -1,6 +1,7 @@
 -- What an operand says, and what is wrong with it where it says nothing that its place asks for.
-use Rattle.std.specs.Prelude.{◌≡◌, ◌≤ℤ◌, ◌<ℤ◌, ℕ, ℤ, pos, neg_ℤ, int_lt, unsigned_abs, ◌==◌, ◌%◌, Bool, ◌&&◌, ◌||◌, not, nat_lt, List, length, drop, slice_index, Option, Some, None, option_map, Result, Ok, Err, if◌then◌else◌}
-use Rattle.texts.specs.Numbers.{number_of, hex_number_of}
+use Rattle.std.specs.Prelude.{◌≡◌, ◌≤ℤ◌, ◌<ℤ◌, ℕ, ℤ, pos, neg_ℤ, int_lt, unsigned_abs, ◌==◌, ◌%◌, Bool, ◌&&◌, ◌||◌, not, List, length, Option, Some, None, Result, Ok, Err, if◌then◌else◌}
+use Rattle.texts.specs.Cutting.{before, after, is_byte, trimmed}
+use Rattle.texts.specs.Integers.{integer_of}
 use Rattle.rv_decode.specs.Fits.{IsEven}
 use Rattle.rv_decode.specs.declared.instruction.Reg.{Reg}
 use Rattle.assembler.specs.declared.faults.AsmFault.{AsmFault}
@@ -9,7 +10,7 @@ use Rattle.assembler.specs.declared.operands.Place.{Place}
 use Rattle.assembler.specs.declared.operands.Place.TheVariants.{Bytes, Label}
 use Rattle.assembler.specs.Registers.{register_named}
 use Rattle.assembler.specs.Sets.{set_named}
-use Rattle.assembler.specs.Cutting.{before, after, is_byte, trimmed, is_name}
+use Rattle.assembler.specs.Names.{is_name}
 
 -- ---- registers
 
@@ -22,20 +23,6 @@ register_at None = Err BadOperand
 register_at (Some text) = known_register (register_named text)
 
 -- ---- numbers
-
-abbrev pub is_hex : List ℕ → Bool
-is_hex text = nat_lt 1 (length text) && (slice_index text 0 == 48) && (slice_index text 1 == 120)
-
--- decimal digits, or `0x` and hex digits
-unfoldable pub magnitude_of : List ℕ → Option ℕ
-magnitude_of text = if is_hex text then hex_number_of (drop 2 text) else number_of text
-
-abbrev pub is_negative : List ℕ → Bool
-is_negative text = nat_lt 0 (length text) && (slice_index text 0 == 45)
-
--- a magnitude, and a `-` in front or none
-unfoldable pub integer_of : List ℕ → Option ℤ
-integer_of text = if is_negative text then option_map (λ n. neg_ℤ (pos n)) (magnitude_of (drop 1 text)) else option_map pos (magnitude_of text)
 
 abbrev pub in_range : ℤ → ℤ → Option ℤ → Result ℤ AsmFault
 in_range low high None = Err BadOperand

@@ -1,23 +1,20 @@
 //! Whole texts.
 
-ghost use Rattle.std.specs.Prelude.{map, IfOk};
+ghost use Rattle.std.specs.Prelude.{◌≡◌, List, map, Ok, Some, IfOk};
 ghost use Rattle.rv_decode.specs.Meaning.{meaning};
 ghost use Rattle.texts.specs.Results.{Gives};
 ghost use Rattle.assembler.specs.Faults.{refusal_of};
 ghost use Rattle.assembler.specs.Drafts.{assembled, AllPlain};
+ghost use Rattle.assembler.specs.Program.{IsProgram, AreWordsOf};
+ghost use Rattle.rv_decode.specs.declared.instruction.Instr.{Instr};
 
 use crate::draft::Draft;
 use crate::faults::AsmError;
 use std::alloc::Global;
 use texts::first_line;
 
-/// The words of an assembly text: a [`Draft`] of its lines. A line ends with LF, CR LF or the end of
-/// the text, and a last LF begins no further line.
-///
-/// The fault is the first one, in the order of [`Draft::line`] for all lines from the top and then
-/// that of [`Draft::finish`].
 #[tactic(auto, unfolding(crate::specs::Drafts::assembled))]
-pub fn assemble(alloc: Global, text: &str) -> Result<Vec<u32>, AsmError>
+fn words_of(alloc: Global, text: &str) -> Result<Vec<u32>, AsmError>
     ensures exact { Gives refusal_of (λ words. map meaning words.items) result (assembled text.now) }
     ensures plain { IfOk result (λ words. AllPlain words.items) }
 {
@@ -28,4 +25,18 @@ pub fn assemble(alloc: Global, text: &str) -> Result<Vec<u32>, AsmError>
         rest = after;
     }
     draft.finish()
+}
+
+/// The words of an assembly text: a [`Draft`] of its lines. A line ends with LF, CR LF or the end of
+/// the text, and a last LF begins no further line.
+///
+/// The fault is the first one, in the order of [`Draft::line`] for all lines from the top and then
+/// that of [`Draft::finish`].
+pub fn assemble(alloc: Global, text: &str) -> Result<Vec<u32>, AsmError>
+    ensures found { IfOk result (λ words. (instrs : List Instr) × IsProgram text.now instrs × AreWordsOf words.items instrs) }
+    ensures only { (instrs : List Instr) → IsProgram text.now instrs → Gives refusal_of (λ words. map meaning words.items) result (Ok (map (λ i. Some i) instrs)) }
+    ensures exact { Gives refusal_of (λ words. map meaning words.items) result (assembled text.now) }
+    ensures plain { IfOk result (λ words. AllPlain words.items) }
+{
+    words_of(alloc, text)
 }

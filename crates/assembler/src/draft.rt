@@ -1,13 +1,16 @@
 //! A text, told line by line.
 
-ghost use Rattle.std.specs.Prelude.{◌≡◌, List, [], ◌∷◌, ◌++◌, ◌<◌, ◌^◌, false, length, map, vec_len, vec_capacity, IfOk, OnOk, OnErr};
+ghost use Rattle.std.specs.Prelude.{◌≡◌, List, [], ◌∷◌, ◌++◌, ◌<◌, ◌^◌, false, length, map, vec_len, vec_capacity, Ok, Some, IfOk, OnOk, OnErr};
 ghost use Rattle.rv_decode.specs.Meaning.{meaning};
 ghost use Rattle.texts.specs.Results.{Gives};
 ghost use Rattle.assembler.specs.Faults.{refusal_of};
-ghost use Rattle.assembler.specs.Drafts.{Line, IsKept, Fitting, is_twice, words_of, told, finished, AllPlain};
+ghost use Rattle.rv_decode.specs.declared.instruction.Instr.{Instr};
+ghost use Rattle.assembler.specs.Grammar.{IsLine};
+ghost use Rattle.assembler.specs.Program.{IsFresh, AreInstrs, AreWordsOf};
+ghost use Rattle.assembler.specs.Drafts.{Line as TextLine, Fitting, is_twice, words_of, told, finished, AllPlain};
 ghost use Rattle.assembler.specs.Lines.{made_by};
 ghost use Rattle.std.specs.Option.{option_copied};
-ghost use Rattle.assembler.specs.Kept.{place_in as found, line_of};
+ghost use Rattle.assembler.specs.Kept.{place_in as found, line_of, IsKept};
 
 use crate::faults::{AsmError, AsmFault};
 use crate::kept::{KeptLine, keep_name, keep_statement, size};
@@ -34,7 +37,7 @@ pub struct Draft {
 }
 
 impl Model for Draft {
-    ghost Value = { List Line };
+    ghost Value = { List TextLine };
 
     ghost view = { λ draft. map line_of draft.lines.items };
 
@@ -65,14 +68,26 @@ impl Draft {
     /// An `Err` changes nothing: it is the line's first fault, in the order `LabelTwice`, then
     /// `UnknownName` of the mnemonic, then the operands from the left, or it is `NoMemory`.
     pub fn line(&mut self, line: &str) -> Result<(), AsmError>
+        ensures found { OnOk result ((more : TextLine) × IsLine line.now more × IsFresh self.old more × (self.new ≡ self.old ++ more ∷ [])) }
+        ensures only { (more : TextLine) → IsLine line.now more → IsFresh self.old more → Gives refusal_of (λ _. self.new) result (Ok (self.old ++ more ∷ [])) }
         ensures exact { Gives refusal_of (λ _. self.new) result (told self.old line.now) }
         ensures kept { OnErr result (self.new ≡ self.old) }
     {
         self.read(line.as_bytes())
     }
 
+    /// [`Draft::line`] of a line's bytes.
+    pub fn read(&mut self, line: &[u8]) -> Result<(), AsmError>
+        ensures found { OnOk result ((more : TextLine) × IsLine line.now more × IsFresh self.old more × (self.new ≡ self.old ++ more ∷ [])) }
+        ensures only { (more : TextLine) → IsLine line.now more → IsFresh self.old more → Gives refusal_of (λ _. self.new) result (Ok (self.old ++ more ∷ [])) }
+        ensures exact { Gives refusal_of (λ _. self.new) result (told self.old line.now) }
+        ensures kept { OnErr result (self.new ≡ self.old) }
+    {
+        self.tell(line)
+    }
+
     #[tactic(auto, using(crate::proofs::DraftLaws::told_twice, crate::proofs::DraftLaws::told_added, crate::proofs::DraftLaws::told_faulty))]
-    pub(crate) fn read(&mut self, line: &[u8]) -> Result<(), AsmError>
+    fn tell(&mut self, line: &[u8]) -> Result<(), AsmError>
         ensures exact { Gives refusal_of (λ _. self.new) result (told self.old line.now) }
         ensures kept { OnErr result (self.new ≡ self.old) }
     {
@@ -138,6 +153,16 @@ impl Draft {
     /// The faults that are left are `TooLong`, at the first line whose words go past 4,096, and then
     /// line by line from the top `NoSuchLabel`, and `OutOfRange` where a label is too far away.
     pub fn finish(self) -> Result<Vec<u32>, AsmError>
+        ensures found { IfOk result (λ words. (instrs : List Instr) × AreInstrs self instrs × AreWordsOf words.items instrs) }
+        ensures only { (instrs : List Instr) → AreInstrs self instrs → Gives refusal_of (λ words. map meaning words.items) result (Ok (map (λ i. Some i) instrs)) }
+        ensures exact { Gives refusal_of (λ words. map meaning words.items) result (finished self) }
+        ensures plain { IfOk result (λ words. AllPlain words.items) }
+    {
+        let _lines = &self.lines;
+        self.all_words()
+    }
+
+    fn all_words(self) -> Result<Vec<u32>, AsmError>
         ensures exact { Gives refusal_of (λ words. map meaning words.items) result (finished self) }
         ensures plain { IfOk result (λ words. AllPlain words.items) }
     {

@@ -1,18 +1,24 @@
 //! Assembly texts of RV32I and the word AMOs, to words, and instructions to texts.
 //!
-//! The contract: [`assemble`] answers the words of exactly the instructions that the text stands for
-//! by the definitions of `specs/` (a line's parts in `Lines`, the mnemonics in `Mnemonics`, a case
-//! for each row of the manual's assembly syntax in `Statements`, labels in `Drafts`), or the first
-//! fault with its line, in the order that [`Draft::line`] and [`Draft::finish`] tell. A [`Draft`] is
-//! the same, told line by line. [`write_instr`] appends the text of `Writing`.
-//! [`laws::read_again`]: that text is assembled to the instruction again.
-//! The definitions are functions: no relation stands beside them, and none is proved of them.
+//! The contract is a grammar. `specs/Spelled` says how registers, numbers, addresses and targets are
+//! spelled; `Grammar` has a table with a row for the operands of each mnemonic, in the order of the
+//! manual, and says what a statement and a line are; `Program` says where statements stand and how far
+//! labels are. [`assemble`] answers the words of the instructions of which the text is a program
+//! (`found`), and answers them for each text that is one (`only`); [`laws::one_value`]: no text is two.
+//! [`Draft`] is the same, line by line.
+//!
+//! Beside the grammar stand definitions that are functions and name the first fault with its line
+//! (`exact`): a line's parts in `Lines`, the operands of each mnemonic in `Statements`, labels in
+//! `Drafts`, in the order that [`Draft::line`] and [`Draft::finish`] tell.
+//!
+//! [`laws::number_put`]: the one or two instructions of `li` put its number in the register.
+//! [`write_instr`] appends the text of `Writing`; [`laws::read_again`]: that text is assembled to the
+//! instruction again.
 //! This crate reads no file, relaxes no jump, and knows no section, directive or macro.
 
 #![tactic(auto)]
 
 mod assembling;
-mod cutting;
 mod draft;
 pub mod faults;
 pub mod form;
@@ -20,6 +26,7 @@ mod kept;
 pub mod laws;
 mod line;
 mod loading;
+mod names;
 mod naming;
 mod operands;
 mod places;
@@ -32,6 +39,7 @@ mod writer;
 pub use assembling::assemble;
 pub use draft::Draft;
 pub use faults::{AsmError, AsmFault};
+pub use tables::register_named;
 pub use writer::write_instr;
 
 #[cfg(test)]

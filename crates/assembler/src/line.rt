@@ -3,17 +3,18 @@
 ghost use Rattle.std.specs.Prelude.{◌≡◌, map, IfOk, IfSome};
 ghost use Rattle.std.specs.Option.{option_copied};
 ghost use Rattle.std.specs.List.{slice_split};
-ghost use Rattle.assembler.specs.Cutting.{is_byte};
+ghost use Rattle.texts.specs.Cutting.{is_byte};
 ghost use Rattle.assembler.specs.Operands.{Tells};
 ghost use Rattle.assembler.specs.Statements.{made_of, MadeFits, asked};
 ghost use Rattle.assembler.specs.Lines.{code_of, front_of, label_of, statement_text, between_commas, trimmed_text, operands_of, first_of, rest_of, made_of_list, made_in, made_by};
 
-use crate::cutting::{cut_at, cut_at_blank, is_name, trimmed, without_front};
 use crate::faults::AsmFault;
 use crate::form::Form;
+use crate::names::is_name;
 use crate::shapes;
 use crate::statement::{Operands, Statement};
 use crate::tables::form_named;
+use texts::cutting::{cut_at, cut_at_blank, trimmed, without_front};
 
 /// A line without its comment: its label, and the text of its statement without blanks round it.
 #[derive(Clone, Copy)]

@@ -1,16 +1,16 @@
 //! What an operand says.
 
 ghost use Rattle.std.specs.Prelude.{◌≡◌, ◌<◌, ◌^◌, ◌<ℤ◌, ◌≤ℤ◌, pos, negsuc, neg_ℤ, IfOk, IsTrue, ◌≤◌, option_map, IfSome};
-ghost use Rattle.assembler.specs.Operands.{is_hex, is_negative};
 ghost use Rattle.std.specs.Option.{option_copied};
 ghost use Rattle.rv_decode.specs.Fits.{IsSigned};
-ghost use Rattle.assembler.specs.Operands.{register_at, magnitude_of, integer_of, in_range, number_at, up_to, natural_at, base_at, offset_at, target_of, in_reach, target_at, or_zero, IsReached, is_reached, bytes, Tells, set_at, nothing_at};
+ghost use Rattle.assembler.specs.Operands.{register_at, in_range, number_at, up_to, natural_at, base_at, offset_at, target_of, in_reach, target_at, or_zero, IsReached, is_reached, bytes, Tells, set_at, nothing_at};
 
-use crate::cutting::{cut_at, is_name, trimmed};
 use crate::faults::AsmFault;
+use crate::names::is_name;
 use crate::tables::{register_named, set_named};
 use rv_decode::Reg;
-use texts::{hex_number, number};
+use texts::cutting::{cut_at, trimmed};
+use texts::integer;
 
 /// Where a jump or a branch goes.
 #[derive(Clone, Copy)]
@@ -31,56 +31,6 @@ pub fn register(operand: Option<&[u8]>) -> Result<Reg, AsmFault>
     match register_named(text) {
         Some(register) => Ok(register),
         None => Err(AsmFault::UnknownName),
-    }
-}
-
-fn is_hex(text: &[u8]) -> bool
-    ensures { result ≡ is_hex text.now }
-{
-    text.len() > 1 && text[0] == b'0' && text[1] == b'x'
-}
-
-fn is_negative(text: &[u8]) -> bool
-    ensures { result ≡ is_negative text.now }
-{
-    !text.is_empty() && text[0] == b'-'
-}
-
-/// The number without its sign, capped at 2^32.
-#[tactic(auto, using(std::proofs::lemmas::List::take_rest, crate::proofs::Magnitudes::small_decimal, crate::proofs::Magnitudes::small_hex), unfolding(crate::specs::Operands::magnitude_of))]
-fn magnitude(text: &[u8]) -> Option<u64>
-    ensures value { result ≡ magnitude_of text.now }
-    ensures small { IfSome result (λ n. n ≤ 2 ^ 32) }
-{
-    if is_hex(text) {
-        hex_number(&text[2..])
-    } else {
-        number(text)
-    }
-}
-
-fn signed_magnitude(text: &[u8]) -> Option<i64>
-    ensures { result ≡ option_map pos (magnitude_of text.now) }
-{
-    match magnitude(text) {
-        Some(number) => Some(number as i64),
-        None => None,
-    }
-}
-
-/// The number that the text says: decimal digits, or `0x` and hex digits, with a `-` in front or
-/// none. One from 2^32 on is told as 2^32, which no place of a number takes.
-#[tactic(auto, using(std::proofs::lemmas::List::take_rest), unfolding(crate::specs::Operands::integer_of))]
-fn integer(text: &[u8]) -> Option<i64>
-    ensures { result ≡ integer_of text.now }
-{
-    if is_negative(text) {
-        match magnitude(&text[1..]) {
-            Some(number) => Some(-(number as i64)),
-            None => None,
-        }
-    } else {
-        signed_magnitude(text)
     }
 }
 

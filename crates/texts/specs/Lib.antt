@@ -1,3 +1,5 @@
 pub mod Results
 pub mod Pieces
 pub mod Numbers
+pub mod Cutting
+pub mod Integers

@@ -8,12 +8,15 @@
 
 #![tactic(auto)]
 
+pub mod cutting;
 pub mod decimal;
+pub mod integers;
 pub mod lines;
 pub mod numbers;
 pub mod pieces;
 
 pub use decimal::push_decimal;
+pub use integers::integer;
 pub use lines::first_line;
 pub use numbers::{hex_number, hex_word, number, word};
 pub use pieces::{Separators, first_piece};

@@ -1,5 +1,6 @@
+use crate::cutting::{cut_at, cut_at_blank, trimmed, without_front};
 use crate::{
-    Separators, first_line, first_piece, hex_number, hex_word, number, push_decimal, word,
+    Separators, first_line, first_piece, hex_number, hex_word, integer, number, push_decimal, word,
 };
 use std::test::Fail;
 
@@ -41,6 +42,33 @@ fn numbers_in_digits(rt: HostRuntime) {
     assert_eq!(rt; hex_word(b"00A00fEf"), Some(0x00a00fef));
     assert_eq!(rt; hex_word(b"0a00fef"), None);
     assert_eq!(rt; hex_word(b"0x000001"), None);
+}
+
+#[test]
+fn texts_are_cut_and_trimmed(rt: HostRuntime) {
+    let (front, back) = cut_at(b"a: b: c", b':');
+    assert_eq!(rt; front, b"a".as_slice());
+    assert_eq!(rt; back, Some(b" b: c".as_slice()));
+    assert_eq!(rt; cut_at(b"a", b':').1, None);
+    let (front, back) = cut_at_blank(b"lw\t x5");
+    assert_eq!(rt; front, b"lw".as_slice());
+    assert_eq!(rt; back, Some(b" x5".as_slice()));
+    assert_eq!(rt; cut_at_blank(b"ret").1, None);
+    assert_eq!(rt; without_front(b" \t a b "), b"a b ".as_slice());
+    assert_eq!(rt; trimmed(b" \t a b\t "), b"a b".as_slice());
+    assert_eq!(rt; trimmed(b" \t "), b"".as_slice());
+}
+
+#[test]
+fn numbers_with_a_sign(rt: HostRuntime) {
+    assert_eq!(rt; integer(b"-17"), Some(-17));
+    assert_eq!(rt; integer(b"0x1F"), Some(31));
+    assert_eq!(rt; integer(b"-0x1f"), Some(-31));
+    assert_eq!(rt; integer(b"4294967295"), Some(4294967295));
+    assert_eq!(rt; integer(b"99999999999"), Some(4294967296));
+    assert_eq!(rt; integer(b"--1"), None);
+    assert_eq!(rt; integer(b"0x"), None);
+    assert_eq!(rt; integer(b"+1"), None);
 }
 
 #[test]

@@ -1,2 +1,4 @@
+pub mod Endings
 pub mod Matches
+pub mod NumberLaws
 pub mod Spellings

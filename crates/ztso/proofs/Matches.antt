@@ -1,19 +1,20 @@
 -- From what a parse found to the job.
-use Rattle.std.proofs.Common.{◌≡◌, List, [], ◌∷◌, inl, inr, Option, Some, None, refl, codes, true, ap₂, sym, ◌∙◌}
+use Rattle.std.proofs.Common.{◌≡◌, List, [], ◌∷◌, inl, inr, Option, Some, None, refl, true, ap₂, sym, ◌∙◌}
 use Rattle.std.specs.Prelude.{option_and_then, option_map, Result, Ok, Err, IsErrAnd}
 use Rattle.std.specs.Option.{ok_or}
-use Rattle.clap.specs.Words.{HasKind, Kinds, Row, Text, fault_of, first_value, is_simple, is_simple_and_free, kind_of, rows_of, subcommand_name_of, subcommand_of, subcommand_rows_of}
+use Rattle.clap.specs.Words.{HasKind, Kinds, Row, Text, fault_of, is_simple, is_simple_and_free, kind_of, rows_of, subcommand_name_of, subcommand_of, subcommand_rows_of}
 use Rattle.clap.specs.declared.parser.matches.ArgMatches.{ArgMatches}
 use Rattle.clap.specs.declared.error.Error.{Error}
 use Rattle.clap.specs.declared.error.kind.ErrorKind.TheVariants.{OutOfMemory}
 use Rattle.clap.specs.declared.parser.matches.Found.{Found}
 use Rattle.clap.proofs.OnLiterals.{clap_on_literals}
-use Rattle.clap.proofs.WalkLemmas.{first_value-rows}
-use Rattle.ztso.specs.CommandLines.{Answers, capacity_said, job_in, job_said, job_without, steps_with, ztso_command}
+use Rattle.ztso.specs.CommandLines.{Answers, job_in, job_said, job_without}
+use Rattle.ztso.specs.Descriptions.{ztso_command}
+use Rattle.ztso.specs.Jobs.{wanted_by}
 use Rattle.ztso.specs.Failures.{IsToldAs}
 use Rattle.ztso.specs.declared.failure.Failure.{Failure}
 use Rattle.ztso.specs.declared.failure.Failure.TheVariants.{BadCommandLine}
-use Rattle.ztso.specs.declared.command_line.Job.{Job}
+use Rattle.ztso.specs.declared.job.Job.{Job}
 
 -- clap's clauses speak of the whole description
 pub is_simple_ztso : is_simple ztso_command ≡ true
@@ -39,20 +40,14 @@ pair_of (Some p) name rows named given =
     let same_rows : p.1 ≡ rows = cc in
     ap₂ (λ (n : Text) (r : List Row). Some (n, r)) same_name same_rows
 
-job_of_pair : (options : Found) (name : Text) → name ≡ codes "steps"
-    → job_in (name, rows_of options) ≡ steps_with (option_and_then capacity_said (first_value options (codes "buffer")))
-job_of_pair options name is_steps = rw (is_steps, first_value-rows options (codes "buffer")) refl
-
--- the job of the options that stand behind `steps`
-pub job_of_options : (m : ArgMatches) (options : Found) (name : Text) (text : Option Text)
-    → name ≡ codes "steps" → Some name ≡ subcommand_name_of m
+-- the job of the options that stand behind the name of a command
+pub job_of_options : (m : ArgMatches) (options : Found) (name written : Text)
+    → name ≡ written → Some name ≡ subcommand_name_of m
     → Some (rows_of options) ≡ option_map (λ (p : Text × List Row). p.1) (subcommand_rows_of m)
-    → text ≡ first_value options (codes "buffer")
-    → option_and_then job_in (subcommand_rows_of m)
-    ≡ steps_with (option_and_then capacity_said text)
-job_of_options m options name text is_steps named found given =
+    → option_and_then job_in (subcommand_rows_of m) ≡ job_in (written, rows_of options)
+job_of_options m options name written is_written named found =
     let pair : subcommand_rows_of m ≡ Some (name, rows_of options) = pair_of (subcommand_rows_of m) name (rows_of options) (named ∙ sym (names_of_pairs _ _ _)) found in
-    rw (pair, given) (job_of_pair options name is_steps)
+    rw (pair, is_written) refl
 
 failed : (kinds : Kinds) (found : Option (Text × List Row)) (error : Error) → HasKind kinds error
     → (r : Result Job Failure) → IsErrAnd r (IsToldAs (kind_of error ≡ OutOfMemory)) → Answers (job_without kinds found) r
@@ -70,11 +65,11 @@ answers_failed words = failed (fault_of ztso_command words) (subcommand_of ztso_
 
 -- a parse that succeeds is answered by what it found
 pub answers_found : (words : List Text) → fault_of ztso_command words ≡ []
-    → (said : Option Job) → said ≡ option_and_then job_in (subcommand_of ztso_command words)
-    → (r : Result Job Failure) → r ≡ ok_or said BadCommandLine → Answers (job_said words) r
+    → (found : Option Job) → option_map wanted_by found ≡ option_and_then job_in (subcommand_of ztso_command words)
+    → (r : Result Job Failure) → r ≡ ok_or found BadCommandLine → Answers (job_said words) r
 unfolding job_said
-answers_found words none said is_said r is_r = rw (none, ← is_said, is_r) (by_said said)
+answers_found words none found is_found r is_r = rw (none, ← is_found, is_r) (by_found found)
   where
-    by_said : (o : Option Job) → Answers o (ok_or o BadCommandLine)
-    by_said None = inr (refl, refl)
-    by_said (Some job) = refl
+    by_found : (o : Option Job) → Answers (option_map wanted_by o) (ok_or o BadCommandLine)
+    by_found None = inr (refl, refl)
+    by_found (Some job) = refl

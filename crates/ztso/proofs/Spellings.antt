@@ -1,14 +1,21 @@
 -- Each way of writing a job says that job.
-use Rattle.std.proofs.Common.{◌≡◌, List, [], ◌∷◌, ◌++◌, Some, refl, codes, ap, sym, inl, inr, ◌∙◌}
+use Rattle.std.proofs.Common.{◌≡◌, Bool, true, false, None, ◌==◌, List, [], ◌∷◌, ◌++◌, Some, refl, codes, ap, sym, inl, inr, ◌∙◌}
 use Rattle.std.specs.Prelude.{Result}
+use Rattle.std.specs.Str.{bytes_eq}
+use Rattle.std.proofs.lemmas.Bool.{eqb-true}
+use Rattle.clap.specs.Lexer.{long_of, short_of}
 use Rattle.clap.specs.Words.{Text}
 use Rattle.clap.proofs.OnLiterals.{clap_on_literals}
-use Rattle.ztso.specs.CommandLines.{Answers, IsSpelling, job_said, text_of}
+use Rattle.ztso.specs.CommandLines.{Answers, job_said}
+use Rattle.ztso.specs.Spellings.{AsksFor, IsSpelling, IsWord, text_of}
 use Rattle.ztso.specs.declared.failure.Failure.{Failure}
-use Rattle.ztso.specs.declared.command_line.Capacity.{Capacity}
-use Rattle.ztso.specs.declared.command_line.Capacity.TheVariants.{One, Two, Four, Sixteen}
-use Rattle.ztso.specs.declared.command_line.Job.{Job}
-use Rattle.ztso.specs.declared.command_line.Job.TheVariants.{Steps}
+use Rattle.ztso.specs.declared.job.Capacity.{Capacity}
+use Rattle.ztso.specs.declared.job.Capacity.TheVariants.{One, Two, Four, Sixteen}
+use Rattle.ztso.specs.declared.job.Job.{Job}
+use Rattle.ztso.specs.Jobs.{Wanted}
+use Rattle.ztso.specs.Jobs.Wanted.{Steps, Asm, Dis, Run, Replay, Try}
+
+-- ---- `steps`, `asm` and `dis`
 
 alone : (name : Text) → job_said (name ∷ codes "steps" ∷ []) ≡ Some (Steps Four)
 unfolding clap_on_literals job_said
@@ -30,18 +37,100 @@ with_an_equals name Two = refl
 with_an_equals name Four = refl
 with_an_equals name Sixteen = refl
 
-pub job_said-spelling : (name : Text) (rest : List Text) (job : Job) → IsSpelling job rest
-    → job_said (name ∷ rest) ≡ Some job
-job_said-spelling name rest (Steps capacity) (inl default) =
-    ap (λ (words : List Text). job_said (name ∷ words)) default.0 ∙ alone name
+of_asm : (name : Text) → job_said (name ∷ codes "asm" ∷ []) ≡ Some Asm
+unfolding clap_on_literals job_said
+of_asm name = refl
+
+of_dis : (name : Text) → job_said (name ∷ codes "dis" ∷ []) ≡ Some Dis
+unfolding clap_on_literals job_said
+of_dis name = refl
+
+of_steps : (name : Text) (capacity : Capacity) (rest : List Text) → AsksFor capacity rest
+    → job_said (name ∷ codes "steps" ∷ rest) ≡ Some (Steps capacity)
+of_steps name capacity rest (inl default) =
+    ap (λ (words : List Text). job_said (name ∷ codes "steps" ∷ words)) default.0 ∙ alone name
     ∙ ap (λ (c : Capacity). Some (Steps c)) (sym default.1)
-job_said-spelling name rest (Steps capacity) (inr (inl blank)) =
-    ap (λ (words : List Text). job_said (name ∷ words)) blank ∙ with_a_blank name capacity
-job_said-spelling name rest (Steps capacity) (inr (inr equals)) =
-    ap (λ (words : List Text). job_said (name ∷ words)) equals ∙ with_an_equals name capacity
+of_steps name capacity rest (inr (inl blank)) =
+    ap (λ (words : List Text). job_said (name ∷ codes "steps" ∷ words)) blank ∙ with_a_blank name capacity
+of_steps name capacity rest (inr (inr equals)) =
+    ap (λ (words : List Text). job_said (name ∷ codes "steps" ∷ words)) equals ∙ with_an_equals name capacity
+
+-- ---- words that are no options
+
+no_flag : (word : Text) → IsWord word → (bytes_eq word (45 ∷ 45 ∷ []) ≡ false) × (long_of word ≡ None) × (short_of word ≡ None)
+no_flag [] h = (refl, refl, refl)
+no_flag (c ∷ word) h = go (c == 45) refl
+  where
+    go : (b : Bool) → (c == 45) ≡ b → (bytes_eq (c ∷ word) (45 ∷ 45 ∷ []) ≡ false) × (long_of (c ∷ word) ≡ None) × (short_of (c ∷ word) ≡ None)
+    go true e = absurd (h (eqb-true c 45 e))
+    go false e = (rw e refl, rw e refl, rw e refl)
+
+-- ---- `run` and `replay`
+
+abbrev command_of : (is_run : Bool) → Text
+command_of true = codes "run"
+command_of false = codes "replay"
+
+abbrev wanted_of : (is_run : Bool) → (file schedule : Text) → Capacity → Wanted
+wanted_of true file schedule capacity = Run file schedule capacity
+wanted_of false file schedule capacity = Replay file schedule capacity
+
+module _ (name file schedule : Text) (f : IsWord file) (s : IsWord schedule) where
+  on_files : (is_run : Bool) → job_said (name ∷ command_of is_run ∷ file ∷ schedule ∷ []) ≡ Some (wanted_of is_run file schedule Four)
+  unfolding clap_on_literals job_said
+  on_files true = let a = no_flag file f in let b = no_flag schedule s in rw (a.0, a.1, a.2, b.0, b.1, b.2) refl
+  on_files false = let a = no_flag file f in let b = no_flag schedule s in rw (a.0, a.1, a.2, b.0, b.1, b.2) refl
+
+  on_files_and_blank : (is_run : Bool) (capacity : Capacity)
+      → job_said (name ∷ command_of is_run ∷ file ∷ schedule ∷ codes "--buffer" ∷ text_of capacity ∷ []) ≡ Some (wanted_of is_run file schedule capacity)
+  unfolding clap_on_literals job_said
+  on_files_and_blank true One = let a = no_flag file f in let b = no_flag schedule s in rw (a.0, a.1, a.2, b.0, b.1, b.2) refl
+  on_files_and_blank true Two = let a = no_flag file f in let b = no_flag schedule s in rw (a.0, a.1, a.2, b.0, b.1, b.2) refl
+  on_files_and_blank true Four = let a = no_flag file f in let b = no_flag schedule s in rw (a.0, a.1, a.2, b.0, b.1, b.2) refl
+  on_files_and_blank true Sixteen = let a = no_flag file f in let b = no_flag schedule s in rw (a.0, a.1, a.2, b.0, b.1, b.2) refl
+  on_files_and_blank false One = let a = no_flag file f in let b = no_flag schedule s in rw (a.0, a.1, a.2, b.0, b.1, b.2) refl
+  on_files_and_blank false Two = let a = no_flag file f in let b = no_flag schedule s in rw (a.0, a.1, a.2, b.0, b.1, b.2) refl
+  on_files_and_blank false Four = let a = no_flag file f in let b = no_flag schedule s in rw (a.0, a.1, a.2, b.0, b.1, b.2) refl
+  on_files_and_blank false Sixteen = let a = no_flag file f in let b = no_flag schedule s in rw (a.0, a.1, a.2, b.0, b.1, b.2) refl
+
+  on_files_and_equals : (is_run : Bool) (capacity : Capacity)
+      → job_said (name ∷ command_of is_run ∷ file ∷ schedule ∷ (codes "--buffer=" ++ text_of capacity) ∷ []) ≡ Some (wanted_of is_run file schedule capacity)
+  unfolding clap_on_literals job_said
+  on_files_and_equals true One = let a = no_flag file f in let b = no_flag schedule s in rw (a.0, a.1, a.2, b.0, b.1, b.2) refl
+  on_files_and_equals true Two = let a = no_flag file f in let b = no_flag schedule s in rw (a.0, a.1, a.2, b.0, b.1, b.2) refl
+  on_files_and_equals true Four = let a = no_flag file f in let b = no_flag schedule s in rw (a.0, a.1, a.2, b.0, b.1, b.2) refl
+  on_files_and_equals true Sixteen = let a = no_flag file f in let b = no_flag schedule s in rw (a.0, a.1, a.2, b.0, b.1, b.2) refl
+  on_files_and_equals false One = let a = no_flag file f in let b = no_flag schedule s in rw (a.0, a.1, a.2, b.0, b.1, b.2) refl
+  on_files_and_equals false Two = let a = no_flag file f in let b = no_flag schedule s in rw (a.0, a.1, a.2, b.0, b.1, b.2) refl
+  on_files_and_equals false Four = let a = no_flag file f in let b = no_flag schedule s in rw (a.0, a.1, a.2, b.0, b.1, b.2) refl
+  on_files_and_equals false Sixteen = let a = no_flag file f in let b = no_flag schedule s in rw (a.0, a.1, a.2, b.0, b.1, b.2) refl
+
+  said_on_files : (is_run : Bool) (capacity : Capacity) (options : List Text) → AsksFor capacity options
+      → job_said (name ∷ command_of is_run ∷ file ∷ schedule ∷ options) ≡ Some (wanted_of is_run file schedule capacity)
+  said_on_files is_run capacity options (inl default) =
+      ap (λ (words : List Text). job_said (name ∷ command_of is_run ∷ file ∷ schedule ∷ words)) default.0 ∙ on_files is_run
+      ∙ ap (λ (c : Capacity). Some (wanted_of is_run file schedule c)) (sym default.1)
+  said_on_files is_run capacity options (inr (inl blank)) =
+      ap (λ (words : List Text). job_said (name ∷ command_of is_run ∷ file ∷ schedule ∷ words)) blank ∙ on_files_and_blank is_run capacity
+  said_on_files is_run capacity options (inr (inr equals)) =
+      ap (λ (words : List Text). job_said (name ∷ command_of is_run ∷ file ∷ schedule ∷ words)) equals ∙ on_files_and_equals is_run capacity
+
+pub job_said-spelling : (name : Text) (rest : List Text) (wanted : Wanted) → IsSpelling wanted rest
+    → job_said (name ∷ rest) ≡ Some wanted
+job_said-spelling name rest (Steps capacity) (options, is, asks) =
+    ap (λ (words : List Text). job_said (name ∷ words)) is ∙ of_steps name capacity options asks
+job_said-spelling name rest Asm alone_is =
+    ap (λ (words : List Text). job_said (name ∷ words)) alone_is ∙ of_asm name
+job_said-spelling name rest Dis alone_is =
+    ap (λ (words : List Text). job_said (name ∷ words)) alone_is ∙ of_dis name
+job_said-spelling name rest (Run file schedule capacity) (options, is, f, s, asks) =
+    ap (λ (words : List Text). job_said (name ∷ words)) is ∙ said_on_files name file schedule f s true capacity options asks
+job_said-spelling name rest (Replay file schedule capacity) (options, is, f, s, asks) =
+    ap (λ (words : List Text). job_said (name ∷ words)) is ∙ said_on_files name file schedule f s false capacity options asks
+job_said-spelling name rest (Try file seed runs events capacity) spelling = absurd spelling
 
 -- so it is answered by that job
 pub answers_spelled : (words : List Text) (r : Result Job Failure) → Answers (job_said words) r
-    → (name : Text) (rest : List Text) (job : Job) → words ≡ name ∷ rest → IsSpelling job rest → Answers (Some job) r
-answers_spelled words r answers name rest job split spelling =
-    rw (← job_said-spelling name rest job spelling, ← split) answers
+    → (name : Text) (rest : List Text) (wanted : Wanted) → words ≡ name ∷ rest → IsSpelling wanted rest → Answers (Some wanted) r
+answers_spelled words r answers name rest wanted split spelling =
+    rw (← job_said-spelling name rest wanted spelling, ← split) answers

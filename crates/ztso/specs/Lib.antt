@@ -1,3 +1,7 @@
 pub mod CommandLines
+pub mod Descriptions
 pub mod Failures
+pub mod Jobs
+pub mod Numbers
+pub mod Spellings
 pub mod Work

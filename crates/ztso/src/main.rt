@@ -1,25 +1,29 @@
-//! The program `ztso`: its command line, and the standard streams for the engine that a job wants.
+//! The program `ztso`: its command line, and the streams and files for the engine that a job wants.
 //!
 //! The contract: [`command_line::job_of`] says which words ask for which job, [`work::do_job`] which engine
-//! does it with what capacity, and [`failure::Failure`] the exit status of each failure. This crate
-//! knows no text, no instruction and no machine, waits for nothing and starts no thread.
+//! does it with what capacity and with which exit status, and [`failure::Failure`] the exit status of each
+//! failure. This crate knows no text, no instruction and no machine, waits for nothing and starts no
+//! thread.
 
 #![tactic(auto)]
 
 mod command_line;
 mod failure;
+mod job;
+mod late_file;
 mod work;
 
 use command_line::job_of;
 use failure::Failure;
+use late_file::LateFile;
 use std::process::ExitCode;
-use std::rt::Env;
+use std::rt::{Env, Files};
 use std::{env, io};
 use work::do_job;
 
 fn main(rt: HostRuntime) -> ExitCode {
     match run(&rt) {
-        Ok(()) => ExitCode::SUCCESS,
+        Ok(status) => ExitCode::from(status),
         Err(failure) => {
             let _ = eprintln!(rt; "ztso: {failure}");
             ExitCode::from(failure.status())
@@ -27,11 +31,18 @@ fn main(rt: HostRuntime) -> ExitCode {
     }
 }
 
-/// Does the job that the command line asks for, over the standard streams.
-fn run<R: Env + Input + Print + AllocGlobal>(rt: &R) -> Result<(), Failure> {
+/// Does the job that the command line asks for, and answers the exit status.
+fn run<R: Env + Files + Input + Print + AllocGlobal>(rt: &R) -> Result<u8, Failure> {
     let arguments = env::args(rt).map_err(Failure::of_arguments)?;
     let words: Vec<String> = arguments.collect(rt.alloc())?;
     let job = job_of(rt.alloc(), &words)?;
-    do_job(rt.alloc(), job, &mut rt.reader(), &mut io::writer(rt))?;
-    Ok(())
+    let status = do_job(
+        rt.alloc(),
+        job,
+        &mut rt.reader(),
+        &mut LateFile::new(rt, job.file()),
+        &mut LateFile::new(rt, job.schedule()),
+        &mut io::writer(rt),
+    )?;
+    Ok(status)
 }

@@ -6,10 +6,6 @@ use Rattle.std.proofs.lemmas.Str.{IsUtf8-from_is_utf8, is_utf8-from_IsUtf8}
 use Rattle.ztso_engines.specs.declared.fault.Refusal.{Refusal}
 use Rattle.ztso_engines.specs.Faults.{too_large, not_text}
 use Rattle.ztso_engines.specs.Engines.{Accepted, judged}
-use Rattle.ztso_engines.specs.Told.{Told}
-use Rattle.ztso_engines.specs.StepsText.{Tells}
-use Rattle.ztso_engines.specs.StepsReading.{script_at}
-use Rattle.ztso_engines.proofs.Telling.{text_told, text_read}
 use Rattle.texts.proofs.ResultLaws.{guard_err}
 
 -- a text within the limit is judged by its own rules
@@ -33,10 +29,12 @@ judged_well value_at input v e =
       | inr no_text ↦ absurd (let f = rw no_text at within.1 in cc)
     ]
 
-pub accepted_script : (M : ℕ) (input : List ℕ) (told : Told) → judged (script_at M) input ≡ Ok told → Accepted (Tells M) input told
-accepted_script M input told e =
-    let well = judged_well (script_at M) input told e in
-    record { few = well.0; text = well.1; value_is = text_told M input told well.2 }
+-- what is judged well has the value, where a text that is well by its own rules has it
+pub accepted_well : {V : Type 0} (value_at : List ℕ → Result V Refusal) (IsValue : List ℕ → V → Type 0) (input : List ℕ) (v : V) → (value_at input ≡ Ok v → IsValue input v) → judged value_at input ≡ Ok v → Accepted IsValue input v
+accepted_well value_at IsValue input v found e =
+    let well = judged_well value_at input v e in
+    record { few = well.0; text = well.1; value_is = found well.2 }
 
-pub accepted_judged : (M : ℕ) (input : List ℕ) (told : Told) → Accepted (Tells M) input told → judged (script_at M) input ≡ Ok told
-accepted_judged M input told accepted = judged_text (script_at M) input accepted.few accepted.text ∙ text_read M input told accepted.value_is
+-- and the other way round
+pub accepted_judged : {V : Type 0} (value_at : List ℕ → Result V Refusal) (IsValue : List ℕ → V → Type 0) (input : List ℕ) (v : V) → (IsValue input v → value_at input ≡ Ok v) → Accepted IsValue input v → judged value_at input ≡ Ok v
+accepted_judged value_at IsValue input v only accepted = judged_text value_at input accepted.few accepted.text ∙ only accepted.value_is

@@ -8,3 +8,16 @@ pub mod Answered
 pub mod Counted
 pub mod StateLines
 pub mod Judging
+pub mod LineFaulted
+pub mod HexLines
+pub mod HexWords
+pub mod HexTexts
+pub mod CodeTexts
+pub mod TestTexts
+pub mod Openings
+pub mod Rows
+pub mod TallyLaws
+pub mod TrialLaws
+pub mod OutcomeLines
+pub mod OutcomeLaws
+pub mod OneText

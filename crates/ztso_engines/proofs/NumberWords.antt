@@ -6,7 +6,9 @@ use Rattle.texts.specs.Results.{◌>>=◌}
 use Rattle.texts.proofs.NumberLaws.{word_said, says_word, hex_word_said, is_hex_word}
 use Rattle.texts.proofs.ResultLaws.{bind_ok, ok_is}
 use Rattle.ztso_engines.specs.StepsText.{SaysWord}
-use Rattle.ztso_engines.specs.StepsReading.{or_bad, code_at, number_at, with_no_more, two_numbers, three_numbers}
+use Rattle.ztso_engines.specs.LineFaults.{or_bad}
+use Rattle.ztso_engines.specs.Code.{code_at}
+use Rattle.ztso_engines.specs.StepsReading.{number_at, with_no_more, two_numbers, three_numbers}
 
 -- a value that is there
 pub or_bad_ok : {A : Type 0} (o : Option A) (x : A) → or_bad o ≡ Ok x → o ≡ Some x

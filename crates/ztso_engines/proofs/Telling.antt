@@ -1,5 +1,5 @@
 -- A steps text as a whole: what is read is what it tells, and what it tells is read.
-use Rattle.std.proofs.Common.{◌≡◌, ℕ, ◌+◌, ◌≤◌, false, eqb, length-append, List, [], ◌∷◌, length, Result, Ok, Err, refl, sym, ap, subst, ◌∙◌, inl, inr, arith}
+use Rattle.std.proofs.Common.{◌≡◌, ℕ, ◌+◌, ◌≤◌, false, eqb, length-append, List, [], ◌∷◌, length, Ok, refl, sym, ap, subst, ◌∙◌, inl, inr, arith}
 use Rattle.std.specs.Str.Lines.{lines}
 use Rattle.std.proofs.lemmas.Bool.{eqb-false, ne_eqb}
 use Rattle.texts.proofs.ResultLaws.{bind_ok, guard_ok, ok_is}
@@ -7,8 +7,10 @@ use Rattle.ztso_engines.specs.declared.fault.Refusal.{Refusal}
 use Rattle.ztso_engines.specs.declared.fault.Place.TheVariants.{Nowhere}
 use Rattle.ztso_engines.specs.Told.{Told, untold, Statement, hart, reg, word, steps, with_statement, MayCome}
 use Rattle.ztso_engines.specs.StepsText.{LinesTell, Tells}
-use Rattle.ztso_engines.specs.StepsReading.{bad_line, after_line, at_line, after_lines, with_some_hart, script_at}
+use Rattle.ztso_engines.specs.LineFaults.{bad_line, at_line}
+use Rattle.ztso_engines.specs.StepsReading.{after_line, after_lines, with_some_hart, script_at}
 use Rattle.ztso_engines.proofs.Lines.{line_made, statement_read, blank_read}
+use Rattle.ztso_engines.proofs.LineFaulted.{at_line_ok}
 
 -- the events stay within their limit
 few_stay : (t : Told) (s : Statement) → length t.events ≤ 1048576 → MayCome t s → length (with_statement t s).events ≤ 1048576
@@ -16,10 +18,6 @@ few_stay t (hart code) few fits = few
 few_stay t (reg h n v) few fits = few
 few_stay t (word a v) few fits = few
 few_stay t (steps events) few fits = simp length-append fits
-
-at_line_ok : (number : ℕ) (r : Result Told ℕ) (t : Told) → at_line number r ≡ Ok t → r ≡ Ok t
-at_line_ok number (Ok x) t e = ap (λ (y : Told). Ok y) (ok_is Refusal x t e)
-at_line_ok number (Err fault) t e = absurd cc
 
 pub lines_told : (t : Told) (number : ℕ) (left : List (List ℕ)) (told : Told) → length t.events ≤ 1048576 → after_lines t number left ≡ Ok told → LinesTell t left told
 unfolding after_lines

@@ -56,7 +56,7 @@ cut_whole (byte ∷ text) some e =
 abbrev is_word : List ℕ → Bool
 is_word piece = ltb 0 (length piece)
 
-filter_kept : (piece : List ℕ) (pieces : List (List ℕ)) → 0 < length piece → filter is_word (piece ∷ pieces) ≡ piece ∷ filter is_word pieces
+pub filter_kept : (piece : List ℕ) (pieces : List (List ℕ)) → 0 < length piece → filter is_word (piece ∷ pieces) ≡ piece ∷ filter is_word pieces
 filter_kept piece pieces some = rw (lt-ltb 0 (length piece) some) refl
 
 -- what stands before the first blank has the byte that is none

@@ -17,12 +17,25 @@ pub record Accepted {V : Type 0} (IsValue : List ℕ → V → Type 0) (input : 
 abbrev pub judged : {V : Type 0} → (List ℕ → Result V Refusal) → List ℕ → Result V Refusal
 judged value_at input = if nat_lt 1048576 (length input) then Err too_large else (if is_utf8 input then value_at input else Err not_text)
 
--- How an engine with one input ends, where the bytes of its reader and of its writer are known: it
--- wrote what answers the input, or refuses the input as the answer says and wrote nothing. Where a read
--- failed or memory ran out it wrote nothing; where a write failed nothing is said.
+-- How an engine ends whose answer is an output, and a value beside it where it returns one: it wrote an
+-- output that is an answer together with what it returned, or a refusal is the answer and nothing was
+-- written. Where a read failed or memory ran out nothing was written; where a write failed nothing is
+-- said.
+abbrev pub Ends : {V A : Type 0} → (V → List ℕ → A) → (Result A Refusal → Type 0) → Result V Fault → (old new : Option (List ℕ)) → Type 0
+Ends beside IsAnswer (Ok v) old new = (out : List ℕ) × IsAnswer (Ok (beside v out)) × Appends old new out
+Ends beside IsAnswer (Err (Refused refusal)) old new = IsAnswer (Err refusal) × Keeps old new
+Ends beside IsAnswer (Err ReadFailed) old new = Keeps old new
+Ends beside IsAnswer (Err NoMemory) old new = Keeps old new
+Ends beside IsAnswer (Err WriteFailed) old new = Unit {0}
+
+-- how an engine with one input ends, where the bytes of its reader and of its writer are known
 abbrev pub EndsBy : (List ℕ → Result (List ℕ) Refusal → Type 0) → Result (Unit {0}) Fault → (input old new : Option (List ℕ)) → Type 0
-EndsBy IsAnswer (Ok x) input old new = IfSome input (λ bytes. (out : List ℕ) × IsAnswer bytes (Ok out) × Appends old new out)
-EndsBy IsAnswer (Err (Refused refusal)) input old new = IfSome input (λ bytes. IsAnswer bytes (Err refusal)) × Keeps old new
-EndsBy IsAnswer (Err ReadFailed) input old new = Keeps old new
-EndsBy IsAnswer (Err NoMemory) input old new = Keeps old new
-EndsBy IsAnswer (Err WriteFailed) input old new = Unit {0}
+EndsBy IsAnswer result input old new = Ends (λ x out. out) (λ answer. IfSome input (λ bytes. IsAnswer bytes answer)) result old new
+
+-- the same of an engine that returns a value
+abbrev pub EndsWith : {V : Type 0} → (List ℕ → Result (List ℕ × V) Refusal → Type 0) → Result V Fault → (input old new : Option (List ℕ)) → Type 0
+EndsWith IsAnswer result input old new = Ends (λ v out. (out, v)) (λ answer. IfSome input (λ bytes. IsAnswer bytes answer)) result old new
+
+-- how an engine with two inputs ends, which returns a value
+abbrev pub EndsByBoth : {V : Type 0} → (List ℕ → List ℕ → Result (List ℕ × V) Refusal → Type 0) → Result V Fault → (first second old new : Option (List ℕ)) → Type 0
+EndsByBoth IsAnswer result first second old new = Ends (λ v out. (out, v)) (λ answer. IfSome first (λ a. IfSome second (λ b. IsAnswer a b answer))) result old new

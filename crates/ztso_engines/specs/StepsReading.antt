@@ -3,7 +3,7 @@
 use Rattle.std.specs.Prelude.{ℕ, ◌+◌, ◌/◌, ◌%◌, ◌==◌, nat_lt, nat_le, ◌||◌, not, if◌then◌else◌, List, [], ◌∷◌, ◌++◌, length, slice_set, Option, None, Some, Result, Ok, Err, codes}
 use Rattle.std.specs.Str.{bytes_eq}
 use Rattle.std.specs.Str.Lines.{lines}
-use Rattle.texts.specs.Numbers.{word_of, hex_word_of}
+use Rattle.texts.specs.Numbers.{word_of}
 use Rattle.texts.specs.Results.{◌>>=◌}
 use Rattle.step_machine.specs.History.{HartStart}
 use Rattle.step_machine.specs.declared.events.Event.{Event}
@@ -13,40 +13,22 @@ use Rattle.recorder.specs.declared.faults.ScheduleError.TheVariants as error
 use Rattle.recorder.specs.Faults.{number_of}
 use Rattle.recorder.specs.Reading.{tokens_after}
 use Rattle.ztso_engines.specs.declared.fault.Refusal.{Refusal}
-use Rattle.ztso_engines.specs.declared.fault.Place.TheVariants.{Nowhere, Line}
+use Rattle.ztso_engines.specs.declared.fault.Place.TheVariants.{Nowhere}
 use Rattle.ztso_engines.specs.declared.steps.line.Keyword.{Keyword}
 use Rattle.ztso_engines.specs.declared.steps.line.Keyword.TheVariants as keyword
-use Rattle.ztso_engines.specs.declared.steps.line.LineFault.{LineFault}
-use Rattle.ztso_engines.specs.declared.steps.line.LineFault.TheVariants.{NoMemory, Refused}
+use Rattle.ztso_engines.specs.declared.line_fault.LineFault.{LineFault}
+use Rattle.ztso_engines.specs.declared.line_fault.LineFault.TheVariants.{NoMemory, Refused}
 use Rattle.ztso_engines.specs.Words.{words, first_cut}
+use Rattle.ztso_engines.specs.LineFaults.{bad_line, or_bad, at_line}
+use Rattle.ztso_engines.specs.Code.{code_at}
 use Rattle.ztso_engines.specs.Told.{Told, untold, fresh, register_set}
-
--- the number in a line's fault; memory that ran out has none
-abbrev pub number_in : LineFault → Option ℕ
-number_in NoMemory = None
-number_in (Refused number) = Some number
 
 -- a fault of tokens as a line's fault
 abbrev pub tokens_fault : ScheduleError → LineFault
 tokens_fault error.NoMemory = NoMemory
 tokens_fault (error.Refused refused place) = Refused (number_of refused)
 
-abbrev pub bad_line : ℕ
-bad_line = 34
-
-abbrev pub or_bad : {A : Type 0} → Option A → Result A ℕ
-or_bad None = Err bad_line
-or_bad (Some x) = Ok x
-
 -- ---- the words behind a keyword
-
--- the instruction words that all of the words say
-unfoldable pub code_at : List (List ℕ) → Result (List ℕ) ℕ
-code_at [] = Ok []
-code_at (digits ∷ others) = do
-  instruction ← or_bad (hex_word_of digits)
-  code ← code_at others
-  Ok (instruction ∷ code)
 
 -- the number that the first word says, and the words behind it
 unfoldable pub number_at : List (List ℕ) → Result (ℕ × List (List ℕ)) ℕ
@@ -132,11 +114,6 @@ unfoldable pub after_line : Told → List ℕ → Result Told ℕ
 after_line t line = by_cut t (first_cut line)
 
 -- ---- a text
-
--- a line's fault is refused at the line
-abbrev pub at_line : {A : Type 0} → ℕ → Result A ℕ → Result A Refusal
-at_line number (Ok x) = Ok x
-at_line number (Err refused) = Err (record { number = refused; place = Line number })
 
 -- what is told behind these lines, the first of which has this number
 unfoldable pub after_lines : Told → (number : ℕ) → List (List ℕ) → Result Told Refusal

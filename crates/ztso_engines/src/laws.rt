@@ -1,10 +1,16 @@
 //! Laws of the texts.
 
-ghost use Rattle.std.specs.Prelude.{◌≡◌, ◌↔◌, ℕ, List, Ok};
+ghost use Rattle.std.specs.Prelude.{◌≡◌, ◌<◌, ◌^◌, ◌↔◌, ℕ, Bool, List, Ok};
+ghost use Rattle.std.specs.List.{All, flat_map};
+ghost use Rattle.rand_core.specs.Stream.{Stream};
+ghost use Rattle.litmus.specs.Questions.{Question};
 ghost use Rattle.ztso_engines.specs.Engines.{Accepted, judged};
 ghost use Rattle.ztso_engines.specs.Told.{Told};
 ghost use Rattle.ztso_engines.specs.StepsText.{Tells};
 ghost use Rattle.ztso_engines.specs.StepsReading.{script_at};
+ghost use Rattle.ztso_engines.specs.Asm.{hex_line};
+ghost use Rattle.ztso_engines.specs.Dis.{SaysCode, dis_at};
+ghost use Rattle.ztso_engines.specs.Outcomes.{IsTried};
 
 /// A steps text tells one thing at most, and reading it from the top finds that; an input is not
 /// refused exactly where it is a text within the limit that tells something. It does nothing.
@@ -12,4 +18,21 @@ pub fn laws_of_steps_texts()
     ensures read { (M : ℕ) (text : List ℕ) (told : Told) → (script_at M text ≡ Ok told) ↔ Tells M text told }
     ensures judged { (M : ℕ) (input : List ℕ) (told : Told) → (judged (script_at M) input ≡ Ok told) ↔ Accepted (Tells M) input told }
     ensures one { (M : ℕ) (text : List ℕ) (a b : Told) → Tells M text a → Tells M text b → a ≡ b }
+{}
+
+/// A text of words in hex says one code at most, and reading it from the top finds that; an input is
+/// not refused exactly where it is a text within the limit that says a code. The lines of words, as an
+/// assembled text's, say those words again. It does nothing.
+pub fn laws_of_code_texts()
+    ensures read { (text code : List ℕ) → (dis_at text ≡ Ok code) ↔ SaysCode text code }
+    ensures judged { (input code : List ℕ) → (judged dis_at input ≡ Ok code) ↔ Accepted SaysCode input code }
+    ensures one { (text a b : List ℕ) → SaysCode text a → SaysCode text b → a ≡ b }
+    ensures again { (code : List ℕ) → All (λ word. word < 2 ^ 32) code → SaysCode (flat_map hex_line code) code }
+{}
+
+/// What the runs of a test show is one text, and whether it is what the test asks has one answer: both
+/// follow from the test, the generator's stream, and how many runs of how many events there are. It
+/// does nothing.
+pub fn law_of_tries()
+    ensures { (B M : ℕ) (stream : Stream) (runs size : ℕ) (question : Question) (a b : List ℕ × Bool) → IsTried B M stream runs size question a → IsTried B M stream runs size question b → a ≡ b }
 {}

@@ -1,14 +1,28 @@
 //! The program's commands, each as one engine over any readers and a writer.
 //!
 //! The contract: each engine's clause says what it writes for what its readers tell, byte for byte, and
-//! what each fault means (`EndsBy` of `specs/Engines.antt`). This crate knows no command line, opens no
+//! what each fault means (`Ends` of `specs/Engines.antt`). This crate knows no command line, opens no
 //! file and names no standard stream.
 
 #![tactic(auto)]
 
+pub mod asm;
+mod code;
+pub mod dis;
+mod entry_text;
 pub mod fault;
 pub mod input;
 pub mod laws;
+mod line_fault;
+mod litmus_text;
+#[cfg(test)]
+mod litmus_texts;
+mod output;
+pub mod replay;
+pub mod run;
+mod running;
+mod schedule;
 mod state_text;
 pub mod steps;
+pub mod trials;
 mod words;

@@ -12,6 +12,7 @@ ghost use Rattle.ztso_engines.specs.Steps.{IsStepsAnswer};
 
 use crate::fault::Fault;
 use crate::input::{read_input, text_of};
+use crate::output::write_output;
 use crate::state_text::state_text;
 use crate::steps::script::{Script, read_script};
 use std::alloc::Global;
@@ -91,8 +92,5 @@ pub fn steps_engine<const B: usize, const M: usize, R: Read, W: Write>(
 {
     let input = read_input(alloc, reader)?;
     let out = answer::<B, M>(alloc, input)?;
-    writer
-        .write_all(out.as_bytes())
-        .map_err(|_| Fault::WriteFailed)?;
-    writer.flush().map_err(|_| Fault::WriteFailed)
+    write_output(writer, &out)
 }

@@ -2,16 +2,17 @@
 
 ghost use Rattle.std.specs.Prelude.{◌≡◌};
 ghost use Rattle.texts.specs.Results.{Gives};
-ghost use Rattle.ztso_engines.specs.declared.steps.line.LineFault.TheVariants.{NoMemory};
+ghost use Rattle.ztso_engines.specs.LineFaults.{number_in};
 ghost use Rattle.ztso_engines.specs.Words.{words, words as words_of};
-ghost use Rattle.ztso_engines.specs.StepsReading.{number_in, tokens_fault, keyword_named, code_at, number_at, two_numbers, three_numbers, with_hart, with_register, with_word, with_steps};
+ghost use Rattle.ztso_engines.specs.StepsReading.{tokens_fault, keyword_named, number_at, two_numbers, three_numbers, with_hart, with_register, with_word, with_steps};
 
-use crate::fault::BAD_LINE;
+use crate::code::code_of;
+use crate::line_fault::{BAD, LineFault};
 use crate::words::first_word;
 use recorder::{ScheduleError, push_tokens_of};
-use std::alloc::{AllocError, AllocFailed, Global};
+use std::alloc::Global;
 use step_machine::{Event, HartOpening};
-use texts::{hex_word, word};
+use texts::word;
 
 /// What a line begins with.
 #[derive(Clone, Copy)]
@@ -20,30 +21,6 @@ pub enum Keyword {
     Register,
     Word,
     Steps,
-}
-
-/// Why a line changes nothing.
-#[derive(Clone, Copy)]
-pub enum LineFault {
-    NoMemory,
-    /// The refusal's number.
-    Refused(u8),
-}
-
-impl From<AllocError> for LineFault {
-    ghost from_gives = { λ _ e. e ≡ NoMemory };
-
-    fn from(_error: AllocError) -> LineFault {
-        LineFault::NoMemory
-    }
-}
-
-impl<T: Drop> From<AllocFailed<T>> for LineFault {
-    ghost from_gives = { λ _ e. e ≡ NoMemory };
-
-    fn from(_error: AllocFailed<T>) -> LineFault {
-        LineFault::NoMemory
-    }
 }
 
 impl From<ScheduleError> for LineFault {
@@ -56,9 +33,6 @@ impl From<ScheduleError> for LineFault {
         }
     }
 }
-
-/// A line that has another form than its keyword asks for, or passes a limit.
-pub const BAD: LineFault = LineFault::Refused(BAD_LINE);
 
 /// A text has at most so many harts.
 const HARTS: usize = 64;
@@ -76,20 +50,6 @@ pub fn keyword_of(word: &[u8]) -> Option<Keyword>
         b"steps" => Some(Keyword::Steps),
         _ => None,
     }
-}
-
-/// The instruction words that all words of the text say.
-#[tactic(auto, unfolding(crate::specs::StepsReading::code_at))]
-fn code_of(alloc: Global, text: &[u8]) -> Result<Vec<u32>, LineFault>
-    ensures { Gives number_in (λ code. code.items) result (code_at (words text.now)) }
-{
-    let mut code = Vec::new(alloc);
-    let mut rest = text;
-    while let Some((digits, after)) = first_word(rest) {
-        code.push(hex_word(digits).ok_or(BAD)?)?;
-        rest = after;
-    }
-    Ok(code)
 }
 
 /// The number that the text's first word says, and what follows.

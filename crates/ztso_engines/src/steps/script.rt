@@ -5,14 +5,14 @@ ghost use Rattle.std.specs.Str.Lines.{lines};
 ghost use Rattle.texts.specs.Results.{Gives};
 ghost use Rattle.step_machine.specs.History.{FitsIn};
 ghost use Rattle.ztso_engines.specs.Faults.{Answers};
+ghost use Rattle.ztso_engines.specs.LineFaults.{number_in, at_line};
 ghost use Rattle.ztso_engines.specs.Told.{Told, told_by, untold, opening_of};
 ghost use Rattle.ztso_engines.specs.StepsText.{Tells};
-ghost use Rattle.ztso_engines.specs.StepsReading.{number_in, after_line, at_line, after_lines, script_at};
+ghost use Rattle.ztso_engines.specs.StepsReading.{after_line, after_lines, script_at};
 
 use crate::fault::{BAD_LINE, Fault, Place};
-use crate::steps::line::{
-    BAD, Keyword, LineFault, add_hart, add_steps, keyword_of, set_register, set_word,
-};
+use crate::line_fault::{BAD, LineFault};
+use crate::steps::line::{Keyword, add_hart, add_steps, keyword_of, set_register, set_word};
 use crate::words::first_word;
 use std::alloc::{AllocError, Global};
 use step_machine::{Event, HartOpening};
@@ -56,13 +56,13 @@ impl Script {
     }
 
     /// Follows the line of this number.
+    #[tactic(auto, using(crate::proofs::LineFaulted::refused_at_line))]
     fn add_line_at(&mut self, alloc: Global, line: &[u8], number: usize) -> Result<(), Fault>
         ensures { Answers (λ x. told_by self.new) result (at_line number (after_line (told_by self.old) line.now)) }
     {
         match self.add_line(alloc, line) {
             Ok(()) => Ok(()),
-            Err(LineFault::NoMemory) => Err(Fault::NoMemory),
-            Err(LineFault::Refused(refusal)) => Err(Fault::refused(refusal, Place::Line(number))),
+            Err(fault) => Err(fault.at_line(number)),
         }
     }
 

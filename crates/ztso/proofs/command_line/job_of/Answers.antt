@@ -15,7 +15,7 @@ returns-in_err-matches g c =
 pub returns : goal.returns
 returns g c =
     let words = map g.S.AsStr.text c.args.words.now in
-    let said = answers_found words c.in_ok-matches.ensures.kinds c.job_in_matches.result
-    (c.job_in_matches.ensures ∙ ap (option_and_then job_in) c.in_ok-matches.ensures.subcommand) c.ok_or.result
+    let said = answers_found words c.in_ok-matches.ensures.kinds c.job_in.result
+    (c.job_in.ensures ∙ ap (option_and_then job_in) c.in_ok-matches.ensures.subcommand) c.ok_or.result
     c.ok_or.ensures.value in
     record { said = said; spelled = answers_spelled words c.ok_or.result said }

@@ -1,23 +1,19 @@
-use Rattle.std.proofs.Common.{rules, ap, ap₂, ◌≡◌, ◌∙◌, map}
+use Rattle.std.proofs.Common.{ap, ◌≡◌, ◌∙◌, map}
 use Rattle.std.proofs.lemmas.Result.{IfOk-weaker}
 use Rattle.clap.proofs.FaultLemmas.{fails_as}
-use Rattle.clap.specs.Words.{App, app_of, fault_of, is_simple, is_simple_and_free, rule_of, subcommand_of, with_rule, with_subcommand}
-use Rattle.ztso.specs.CommandLines.{buffer_option, steps_command, ztso_command}
+use Rattle.clap.specs.Words.{App, app_of, fault_of, is_simple, is_simple_and_free, subcommand_of}
+use Rattle.ztso.specs.Descriptions.{ztso_command}
 use Rattle.ztso.proofs.Matches.{is_free_ztso, is_simple_ztso}
 use Rattle.ztso.proofs.command_line.matches_of.Goals as goal
 
 pub returns : goal.returns
 returns g c =
-    let buffer_is : rule_of c.default_value-buffer.result ≡ buffer_option = search rules in
-    let steps_is : app_of c.in_ok-steps.steps ≡ steps_command =
-    c.in_ok-steps.ensures.shape (search rules) ∙ ap₂ with_rule c.new-2.ensures.app buffer_is in
-    let ztso_is : app_of c.in_ok-ztso.ztso ≡ ztso_command =
-    c.in_ok-ztso.ensures.shape (search rules) ∙ ap₂ with_subcommand c.new-3.ensures.app (ap (λ (a : App). a.top) steps_is) in
+    let is : app_of c.in_ok-command.command ≡ ztso_command = c.in_ok-command.ensures in
     let parse = c.try_get_matches_from in
     record {
-      kinds = fails_as parse.result _ _ (ap (λ (a : App). fault_of a (map g.S.AsStr.text c.args.words.now)) ztso_is)
-          (parse.ensures.kinds (ap is_simple_and_free ztso_is ∙ is_free_ztso));
+      kinds = fails_as parse.result _ _ (ap (λ (a : App). fault_of a (map g.S.AsStr.text c.args.words.now)) is)
+          (parse.ensures.kinds (ap is_simple_and_free is ∙ is_free_ztso));
       subcommand = IfOk-weaker parse.result _ _
-          (λ m h. (h (ap is_simple ztso_is ∙ is_simple_ztso)).1 ∙ ap (λ (a : App). subcommand_of a (map g.S.AsStr.text c.args.words.now)) ztso_is)
+          (λ m h. (h (ap is_simple is ∙ is_simple_ztso)).1 ∙ ap (λ (a : App). subcommand_of a (map g.S.AsStr.text c.args.words.now)) is)
           parse.ensures.matches;
     }

@@ -1,17 +1,10 @@
-use Rattle.std.proofs.Common.{map, arith}
-use Rattle.assembler.specs.Kept.{line_of, place_in}
-use Rattle.assembler.proofs.DraftLaws.{place_within, finished_long, finished_short}
+use Rattle.assembler.proofs.ProgramGrammar.{found_instrs, only_instrs}
+use Rattle.std.proofs.Common.{subst}
+use Rattle.assembler.specs.Program.{EachOnce}
 use Rattle.assembler.proofs.draft.Draft.finish.Goals as goal
 
-pub returns-then-self-gt-MAX_WORDS-clause-exact : goal.returns-then-self-gt-MAX_WORDS-clause-exact
-returns-then-self-gt-MAX_WORDS-clause-exact c =
-    rw (c.first_over.ensures, c.deref.ensures.value, ← c.self.view_is)
-    (finished_long (map line_of c.self.inside.lines.items) (omega (arith, c.self.invariant.size)))
+pub returns-clause-found : goal.returns-clause-found
+returns-clause-found c = found_instrs _ _ (subst EachOnce c.self.view_is c.self.invariant.once) c.all_words.ensures.exact
 
-pub place_all-requires-clause-near : goal.place_all-requires-clause-near
-place_all-requires-clause-near c = λ name. place_within (map line_of c.self.inside.lines.items) name 4096 (omega (arith, c.self.invariant.size)) _ (c.self.invariant.places name)
-
-pub returns-clause-exact : goal.returns-clause-exact
-returns-clause-exact c =
-    rw (← c.self.view_is, ← finished_short (place_in c.self.inside.places) (map line_of c.self.inside.lines.items) (omega (arith, c.self.invariant.size)) c.self.invariant.places, ← c.deref-2.ensures.value)
-    c.place_all.ensures.exact
+pub returns-clause-only : goal.returns-clause-only
+returns-clause-only c instrs are = only_instrs _ instrs _ c.all_words.ensures.exact are

@@ -1,0 +1,295 @@
+-- Addresses and targets: what is read of them is what the grammar says.
+use Rattle.std.proofs.Common.{◌≡◌, ℕ, ◌<◌, ◌^◌, ◌%◌, Bool, true, false, not, ◌&&◌, ◌||◌, eqb, ltb, List, [], ◌∷◌, ◌++◌, length, Option, Some, None, Result, Ok, refl, sym, ap, subst, ◌∙◌, inl, inr, arith, ℤ, pos, negsuc, append_assoc}
+use Rattle.std.specs.Prelude.{neg_ℤ, int_lt, unsigned_abs, ◌≤ℤ◌, ◌<ℤ◌}
+use Rattle.std.specs.List.{list_all}
+use Rattle.std.specs.Char.{digit_value}
+use Rattle.std.specs.Str.Parse.{AllDigits}
+use Rattle.std.proofs.lemmas.Bool.{and_parts, not-true, or_right, cases_Bool, eqb-true, ne_eqb, lt-ltb}
+use Rattle.std.proofs.lemmas.Int.{ints}
+use Rattle.std.proofs.lemmas.List.Folds.{list_all-append}
+use Rattle.texts.specs.Pieces.{is_blank}
+use Rattle.texts.specs.Results.{◌>>=◌}
+use Rattle.texts.specs.Cutting.{before, after, is_byte, without_front, without_end, trimmed}
+use Rattle.texts.specs.Integers.{integer_of}
+use Rattle.texts.proofs.ResultLaws.{ok_is, bind_ok}
+use Rattle.rv_decode.specs.Fits.{IsEven}
+use Rattle.rv_decode.specs.declared.instruction.Reg.{Reg}
+use Rattle.assembler.specs.declared.faults.AsmFault.{AsmFault}
+use Rattle.assembler.specs.Names.{is_name, begins_name, goes_on_name}
+use Rattle.assembler.specs.Operands.{register_at, Target, bytes, label, is_even, is_reached, in_reach, IsReached, target_at, closed, opened, base_at, or_zero, offset_at}
+use Rattle.assembler.specs.Spelled.{AreBlanks, IsPadded, IsMagnitude, IsNumber, IsRegister, IsOffset, IsAddress, IsTarget}
+use Rattle.assembler.specs.Spelled.IsMagnitude.{decimal, hex}
+use Rattle.assembler.specs.Spelled.IsNumber.{plain, negative}
+use Rattle.assembler.proofs.ReadAgain.{all_below, below_all}
+use Rattle.assembler.proofs.Plain.{NonePass, before_stop, after_stop, end_append}
+use Rattle.assembler.proofs.Trimming.{trimmed_padded, trimmed_blanks, padded_trimmed, blanks-append, cut_byte}
+use Rattle.assembler.proofs.Leaves.{is_word_byte, is_operand_byte, Reads, all_weaker, none_of_all, not_this, word_operand, word_trimmed, register_word, register_found, register_only, digit_low, number_found, number_only, number_word, not_less, IsWithin, from_found, from_only}
+
+-- ---- names
+
+pub name_word : (t : List ℕ) → is_name t ≡ true → list_all is_word_byte t ≡ true
+name_word [] e = absurd cc
+name_word (c ∷ rest) e = all_weaker goes_on_name is_word_byte (λ d h. rw h refl) (c ∷ rest) (and_parts (begins_name c) (list_all goes_on_name (c ∷ rest)) e).1
+
+begins_test : ℕ → Bool
+begins_test c = not (ltb (digit_value c) 10) || not (begins_name c)
+
+all_begins_test : all_below 123 begins_test ≡ true
+unfolding begins_test
+all_begins_test = refl
+
+digit_begins_none : (c : ℕ) → digit_value c < 10 → begins_name c ≡ false
+unfolding begins_test
+digit_begins_none c small =
+    let f : (not (ltb (digit_value c) 10) || not (begins_name c)) ≡ true = below_all 123 begins_test all_begins_test c (digit_low c (omega arith)) in
+    not-true (begins_name c) (rw (lt-ltb (digit_value c) 10 small) at f)
+
+digits_no_name : (ds : List ℕ) → AllDigits 10 ds → is_name ds ≡ false
+digits_no_name [] h = refl
+digits_no_name (c ∷ ds) h = rw (digit_begins_none c h.0) refl
+
+magnitude_no_name : (t : List ℕ) (n : ℕ) → IsMagnitude t n → is_name t ≡ false
+magnitude_no_name t n (decimal digits m says) = digits_no_name digits says.0.1
+magnitude_no_name t n (hex digits m says) = refl
+
+number_no_name : (t : List ℕ) (z : ℤ) → IsNumber t z → is_name t ≡ false
+number_no_name t z (plain text n is) = magnitude_no_name text n is
+number_no_name t z (negative text n is) = refl
+
+-- ---- targets
+
+label_is : (t : List ℕ) (to : Target) (bound : ℤ) → is_name t ≡ true → label t ≡ to → IsTarget bound t to
+label_is t to bound name is = subst (λ (x : Target). IsTarget bound t x) is (refl, name)
+
+-- a reach within words of 32 bits
+pub record IsReach (bound : ℤ) : Type 0 where
+  pub low : pos 0 ≤ℤ bound
+  pub high : bound <ℤ pos (2 ^ 31)
+
+small_reached : (bound z : ℤ) → IsReach bound → neg_ℤ bound ≤ℤ z → z <ℤ bound → unsigned_abs z < 2 ^ 32
+small_reached bound (pos n) reach low high = let a = reach.low in let b = reach.high in omega (arith, ints)
+small_reached bound (negsuc n) reach low high = let a = reach.low in let b = reach.high in omega (arith, ints)
+
+pub reached_true : (bound z : ℤ) → is_reached bound z ≡ true → IsReached bound (bytes z)
+reached_true bound z passes =
+    let outer = and_parts (is_even z && not (int_lt z (neg_ℤ bound))) (int_lt z bound) passes in
+    let inner = and_parts (is_even z) (not (int_lt z (neg_ℤ bound))) outer.0 in
+    let above = not-true (int_lt z (neg_ℤ bound)) inner.1 in
+    (omega (arith, ints), omega (arith, ints, outer.1), eqb-true (unsigned_abs z % 2) 0 inner.0)
+
+record Reached (bound : ℤ) (o : Option ℤ) (to : Target) : Type 0 where
+  number : ℤ
+  said : o ≡ Some number
+  near : IsReached bound (bytes number)
+  is : bytes number ≡ to
+
+reached : (bound : ℤ) (o : Option ℤ) (to : Target) → in_reach bound o ≡ Ok to → Reached bound o to
+reached bound None to e = absurd cc
+reached bound (Some z) to e = elim (cases_Bool (is_reached bound z)) [
+  | inl passes ↦ record { number = z; said = refl; near = reached_true bound z passes; is = ok_is AsmFault (bytes z) to (rw passes at e) }
+  | inr fails ↦ absurd (let f = rw fails at e in cc)
+]
+
+target_found : (bound : ℤ) → IsReach bound → (t : List ℕ) (to : Target) → target_at bound (Some t) ≡ Ok to → IsTarget bound t to
+target_found bound reach t to e = elim (cases_Bool (is_name t)) [
+  | inl name ↦ label_is t to bound name (ok_is AsmFault (label t) to (rw name at e))
+  | inr other ↦ (
+      let r = reached bound (integer_of t) to (rw other at e) in
+      subst (λ (x : Target). IsTarget bound t x) r.is (number_found t r.number r.said (small_reached bound r.number reach r.near.0 r.near.1), r.near.0, r.near.1, r.near.2))
+]
+
+less : (a b : ℤ) → a <ℤ b → int_lt a b ≡ true
+less a b lt = go (int_lt a b) refl
+  where
+    go : (c : Bool) → int_lt a b ≡ c → int_lt a b ≡ true
+    go true e = e
+    go false e = absurd (omega (arith, ints))
+
+pub is_reached_only : (bound z : ℤ) → neg_ℤ bound ≤ℤ z → z <ℤ bound → IsEven z → is_reached bound z ≡ true
+is_reached_only bound z low high even = rw (even, not_less z (neg_ℤ bound) low, less z bound high) refl
+
+target_only : (bound : ℤ) → IsReach bound → (t : List ℕ) (to : Target) → IsTarget bound t to → target_at bound (Some (trimmed t)) ≡ Ok to
+target_only bound reach t (label name) is = subst (λ (s : List ℕ). target_at bound (Some (trimmed s)) ≡ Ok (label name)) (sym is.0) (rw (word_trimmed name (name_word name is.1), is.1) refl)
+target_only bound reach t (bytes z) is =
+    rw (word_trimmed t (number_word t z is.0), number_no_name t z is.0, number_only t z is.0 (small_reached bound z reach is.1 is.2), is_reached_only bound z is.1 is.2 is.3) refl
+
+target_bytes : (bound : ℤ) (t : List ℕ) (to : Target) → IsTarget bound t to → list_all is_operand_byte t ≡ true
+target_bytes bound t (label name) is = subst (λ (s : List ℕ). list_all is_operand_byte s ≡ true) (sym is.0) (word_operand name (name_word name is.1))
+target_bytes bound t (bytes z) is = word_operand t (number_word t z is.0)
+
+pub reads_target : (bound : ℤ) → IsReach bound → Reads (target_at bound) (IsTarget bound)
+reads_target bound reach = record {
+  missing = λ to e. none to e;
+  found = target_found bound reach;
+  only = target_only bound reach;
+  bytes = target_bytes bound;
+}
+  where
+    none : (to : Target) → target_at bound None ≡ Ok to → ⊥
+    none to e = cc
+
+-- ---- addresses
+
+-- the register and the number of an address
+abbrev pub address_at : (low high : ℤ) → Option (List ℕ) → Result (Reg × ℤ) AsmFault
+address_at low high operand = do
+  rs1 ← base_at operand
+  n ← offset_at low high operand
+  Ok (rs1, n)
+
+record Opened (t : List ℕ) (r : Reg) : Type 0 where
+  inner : List ℕ
+  opens : after (is_byte 40) t ≡ Some inner
+  closes : after (is_byte 41) inner ≡ Some []
+  named : register_at (Some (trimmed (before (is_byte 41) inner))) ≡ Ok r
+
+opened_found : (t : List ℕ) (r : Reg) → base_at (Some t) ≡ Ok r → Opened t r
+opened_found t r e = go (after (is_byte 40) t) refl e
+  where
+    close : (inner : List ℕ) → after (is_byte 40) t ≡ Some inner → (o : Option (List ℕ)) → after (is_byte 41) inner ≡ o → closed (before (is_byte 41) inner) o ≡ Ok r → Opened t r
+    close inner is None none f = absurd cc
+    close inner is (Some []) last f = record { inner = inner; opens = is; closes = last; named = f }
+    close inner is (Some (x ∷ xs)) more f = absurd (let g = rw (ne_eqb (length (x ∷ xs)) 0 (λ z. omega arith)) at f in cc)
+
+    go : (o : Option (List ℕ)) → after (is_byte 40) t ≡ o → opened o ≡ Ok r → Opened t r
+    go None none f = absurd cc
+    go (Some inner) is f = close inner is (after (is_byte 41) inner) refl f
+
+pub empty_text : (t : List ℕ) → eqb (length t) 0 ≡ true → t ≡ []
+empty_text [] e = refl
+empty_text (x ∷ xs) e = absurd (let f : length (x ∷ xs) ≡ 0 = eqb-true (length (x ∷ xs)) 0 e in omega arith)
+
+pub blanks_of_trimmed : (t : List ℕ) → trimmed t ≡ [] → AreBlanks t
+blanks_of_trimmed t e =
+    let pad : IsPadded [] t = subst (λ (s : List ℕ). IsPadded s t) e (padded_trimmed t) in
+    subst (λ (s : List ℕ). AreBlanks s) (sym pad.4) (blanks-append pad.0 pad.1 pad.2 pad.3)
+
+offset_found : (low high : ℤ) → IsWithin low high → (t : List ℕ) (z : ℤ) → or_zero low high (trimmed t) ≡ Ok z → IsOffset low high t z
+offset_found low high within t z e = elim (cases_Bool (eqb (length (trimmed t)) 0)) [
+  | inl empty ↦ inl (blanks_of_trimmed t (empty_text (trimmed t) empty), sym (ok_is AsmFault (pos 0) z (rw empty at e)))
+  | inr some ↦ inr (trimmed t, padded_trimmed t, from_found low high within (trimmed t) z (rw some at e))
+]
+
+address_found : (low high : ℤ) → IsWithin low high → (t : List ℕ) (at : Reg × ℤ) → address_at low high (Some t) ≡ Ok at → IsAddress low high t at
+address_found low high within t at e =
+    let base = bind_ok (base_at (Some t)) (λ r. offset_at low high (Some t) >>= λ n. Ok (r, n)) at e in
+    let offset = bind_ok (offset_at low high (Some t)) (λ n. Ok (base.0, n)) at base.2 in
+    let open_ = opened_found t base.0 base.1 in
+    let inside = before (is_byte 41) open_.inner in
+    subst (λ (a : Reg × ℤ). IsAddress low high t a) (ok_is AsmFault (base.0, offset.0) at offset.2) (record {
+      before = before (is_byte 40) t;
+      inside = inside;
+      name = trimmed inside;
+      whole = cut_byte 40 t open_.inner open_.opens ∙ ap (λ i. before (is_byte 40) t ++ 40 ∷ i) (cut_byte 41 open_.inner [] open_.closes);
+      offset = offset_found low high within (before (is_byte 40) t) offset.0 offset.1;
+      padded = padded_trimmed inside;
+      register = register_found (trimmed inside) base.0 open_.named;
+    })
+
+-- a word with blanks round it
+abbrev is_spaced_byte : ℕ → Bool
+is_spaced_byte c = is_word_byte c || is_blank c
+
+blanks_spaced : (t : List ℕ) → AreBlanks t → list_all is_spaced_byte t ≡ true
+blanks_spaced [] h = refl
+blanks_spaced (c ∷ t) h = rw (or_right (is_word_byte c) (is_blank c) h.0, blanks_spaced t h.1) refl
+
+pub both_all : (p : ℕ → Bool) (xs ys : List ℕ) → list_all p xs ≡ true → list_all p ys ≡ true → list_all p (xs ++ ys) ≡ true
+both_all p xs ys h k = list_all-append p xs ys ∙ rw (h, k) refl
+
+padded_spaced : (core text : List ℕ) → IsPadded core text → list_all is_word_byte core ≡ true → list_all is_spaced_byte text ≡ true
+padded_spaced core text pad word =
+    let middle = all_weaker is_word_byte is_spaced_byte (λ c h. rw h refl) core word in
+    subst (λ (s : List ℕ). list_all is_spaced_byte s ≡ true) (sym pad.4) (both_all is_spaced_byte pad.0 (core ++ pad.1) (blanks_spaced pad.0 pad.2) (both_all is_spaced_byte core pad.1 middle (blanks_spaced pad.1 pad.3)))
+
+offset_spaced : (low high : ℤ) (t : List ℕ) (z : ℤ) → IsOffset low high t z → list_all is_spaced_byte t ≡ true
+offset_spaced low high t z (inl none) = blanks_spaced t none.0
+offset_spaced low high t z (inr some) = padded_spaced some.0 t some.1 (number_word some.0 z some.2.0)
+
+spaced_operand : (c : ℕ) → is_spaced_byte c ≡ true → is_operand_byte c ≡ true
+spaced_operand c e = go (is_word_byte c) (is_blank c) e
+  where
+    go : (a b : Bool) → (a || b) ≡ true → (a || (b || (eqb c 40 || eqb c 41))) ≡ true
+    go true b h = refl
+    go false true h = refl
+    go false false h = absurd cc
+
+front_all : (p : ℕ → Bool) (xs : List ℕ) → list_all p xs ≡ true → list_all p (without_front xs) ≡ true
+front_all p [] h = refl
+front_all p (x ∷ xs) h = elim (cases_Bool (is_blank x)) [
+  | inl blank ↦ rw blank (front_all p xs (and_parts (p x) (list_all p xs) h).1)
+  | inr solid ↦ rw solid h
+]
+
+front_twice : (xs : List ℕ) → without_front (without_front xs) ≡ without_front xs
+front_twice [] = refl
+front_twice (x ∷ xs) = elim (cases_Bool (is_blank x)) [
+  | inl blank ↦ rw blank (front_twice xs)
+  | inr solid ↦ rw (solid, solid) refl
+]
+
+trimmed_after_front : (xs : List ℕ) → trimmed (without_front xs) ≡ trimmed xs
+unfolding trimmed
+trimmed_after_front xs = ap without_end (front_twice xs)
+
+pub front_stop : (xs : List ℕ) (c : ℕ) (ys : List ℕ) → is_blank c ≡ false → without_front (xs ++ c ∷ ys) ≡ without_front xs ++ c ∷ ys
+front_stop [] c ys solid = rw solid refl
+front_stop (x ∷ xs) c ys solid = elim (cases_Bool (is_blank x)) [
+  | inl blank ↦ rw blank (front_stop xs c ys solid)
+  | inr other ↦ rw other refl
+]
+
+trimmed_address : (a b : List ℕ) → trimmed (a ++ 40 ∷ (b ++ 41 ∷ [])) ≡ without_front a ++ 40 ∷ (b ++ 41 ∷ [])
+unfolding trimmed
+trimmed_address a b =
+    let whole : without_front a ++ 40 ∷ (b ++ 41 ∷ []) ≡ (without_front a ++ 40 ∷ b) ++ 41 ∷ [] = sym (append_assoc (without_front a) (40 ∷ b) (41 ∷ [])) in
+    ap without_end (front_stop a 40 (b ++ 41 ∷ []) refl ∙ whole) ∙ (end_append (without_front a ++ 40 ∷ b) (41 ∷ []) (omega arith) (refl, tt) ∙ sym whole)
+
+offset_only : (low high : ℤ) → IsWithin low high → (t : List ℕ) (z : ℤ) → IsOffset low high t z → or_zero low high (trimmed t) ≡ Ok z
+offset_only low high within t z (inl none) = rw (trimmed_blanks t none.0) (ap Ok (sym none.1))
+offset_only low high within t z (inr some) =
+    let core : trimmed t ≡ some.0 = trimmed_padded some.0 t some.1 ∙ word_trimmed some.0 (number_word some.0 z some.2.0) in
+    rw (core, some_length some.0 z some.2.0) (from_only low high within some.0 z some.2)
+  where
+    magnitude_some : (s : List ℕ) (n : ℕ) → IsMagnitude s n → eqb (length s) 0 ≡ false
+    magnitude_some s n (decimal digits m says) = ne_eqb (length digits) 0 (λ e. omega (arith, says.0.0))
+    magnitude_some s n (hex digits m says) = ne_eqb (length (48 ∷ 120 ∷ digits)) 0 (λ e. omega arith)
+
+    some_length : (s : List ℕ) (y : ℤ) → IsNumber s y → eqb (length s) 0 ≡ false
+    some_length s y (plain text n is) = magnitude_some text n is
+    some_length s y (negative text n is) = ne_eqb (length (45 ∷ text)) 0 (λ e. omega arith)
+
+spaced_not : (byte : ℕ) → is_spaced_byte byte ≡ false → (t : List ℕ) → list_all is_spaced_byte t ≡ true → NonePass (is_byte byte) t
+spaced_not byte fails t h = none_of_all is_spaced_byte (is_byte byte) (not_this is_spaced_byte byte fails) t h
+
+address_only_at : (low high : ℤ) → IsWithin low high → (a b name : List ℕ) (r : Reg) (z : ℤ) → IsOffset low high a z → IsPadded name b → IsRegister name r → address_at low high (Some (without_front a ++ 40 ∷ (b ++ 41 ∷ []))) ≡ Ok (r, z)
+address_only_at low high within a b name r z offset pad is =
+    let front = without_front a in
+    let no_open : NonePass (is_byte 40) front = spaced_not 40 refl front (front_all is_spaced_byte a (offset_spaced low high a z offset)) in
+    let no_close : NonePass (is_byte 41) b = spaced_not 41 refl b (padded_spaced name b pad (register_word name r is)) in
+    let core : trimmed b ≡ name = trimmed_padded name b pad ∙ word_trimmed name (register_word name r is) in
+    let base : base_at (Some (front ++ 40 ∷ (b ++ 41 ∷ []))) ≡ Ok r = rw (after_stop (is_byte 40) front 40 (b ++ 41 ∷ []) no_open refl, before_stop (is_byte 41) b 41 [] no_close refl, after_stop (is_byte 41) b 41 [] no_close refl, core) (register_only name r is) in
+    let number : offset_at low high (Some (front ++ 40 ∷ (b ++ 41 ∷ []))) ≡ Ok z = rw (before_stop (is_byte 40) front 40 (b ++ 41 ∷ []) no_open refl, trimmed_after_front a) (offset_only low high within a z offset) in
+    rw (base, number) refl
+
+address_only : (low high : ℤ) → IsWithin low high → (t : List ℕ) (at : Reg × ℤ) → IsAddress low high t at → address_at low high (Some (trimmed t)) ≡ Ok at
+address_only low high within t at is =
+    subst (λ (s : List ℕ). address_at low high (Some s) ≡ Ok at) (sym (ap trimmed is.whole ∙ trimmed_address is.before is.inside))
+    (address_only_at low high within is.before is.inside is.name at.0 at.1 is.offset is.padded is.register)
+
+address_bytes : (low high : ℤ) (t : List ℕ) (at : Reg × ℤ) → IsAddress low high t at → list_all is_operand_byte t ≡ true
+address_bytes low high t at is =
+    let front = all_weaker is_spaced_byte is_operand_byte spaced_operand is.before (offset_spaced low high is.before at.1 is.offset) in
+    let inner = all_weaker is_spaced_byte is_operand_byte spaced_operand is.inside (padded_spaced is.name is.inside is.padded (register_word is.name at.0 is.register)) in
+    subst (λ (s : List ℕ). list_all is_operand_byte s ≡ true) (sym is.whole) (both_all is_operand_byte is.before (40 ∷ (is.inside ++ 41 ∷ [])) front (both_all is_operand_byte is.inside (41 ∷ []) inner refl))
+
+pub reads_address : (low high : ℤ) → IsWithin low high → Reads (address_at low high) (IsAddress low high)
+reads_address low high within = record {
+  missing = λ at e. none at e;
+  found = address_found low high within;
+  only = address_only low high within;
+  bytes = address_bytes low high;
+}
+  where
+    none : (at : Reg × ℤ) → address_at low high None ≡ Ok at → ⊥
+    none at e = cc

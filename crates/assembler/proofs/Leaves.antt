@@ -1,0 +1,335 @@
+-- What a function reads of an operand, and the relation of the grammar that says the same.
+use Rattle.std.proofs.Common.{◌≡◌, ℕ, ◌<◌, ◌≤◌, ◌^◌, Bool, true, false, not, ◌&&◌, ◌||◌, eqb, ltb, List, [], ◌∷◌, length, Option, Some, None, Result, Ok, refl, sym, ap, subst, ◌∙◌, inl, inr, arith, ℤ, pos, negsuc}
+use Rattle.std.specs.Prelude.{◌==◌, neg_ℤ, int_lt, unsigned_abs, option_map, ◌≤ℤ◌, ◌<ℤ◌, slice_index, drop}
+use Rattle.std.specs.List.{Contains, list_all}
+use Rattle.std.specs.Char.{digit_value}
+use Rattle.std.specs.Str.Parse.{AllDigits}
+use Rattle.std.proofs.lemmas.Bool.{and_parts, and_right, or_parts, cases_Bool, eqb-true, ne_eqb, le-ltb, lt-ltb, cases_lt}
+use Rattle.std.proofs.lemmas.Int.{ints}
+use Rattle.texts.specs.Pieces.{is_blank}
+use Rattle.texts.specs.Cutting.{trimmed}
+use Rattle.texts.specs.Numbers.{capped}
+use Rattle.texts.specs.Integers.{is_hex, magnitude_of, is_negative, integer_of}
+use Rattle.texts.proofs.NumberLaws.{number_said, says_number, hex_number_said, says_hex_number}
+use Rattle.texts.proofs.ResultLaws.{guard_ok, ok_is}
+use Rattle.rv_decode.specs.Meaning.{reg_of}
+use Rattle.rv_decode.proofs.Meanings.{reg_of_number}
+use Rattle.rv_decode.specs.declared.instruction.Reg.{Reg}
+use Rattle.assembler.specs.declared.faults.AsmFault.{AsmFault}
+use Rattle.assembler.specs.declared.faults.AsmFault.TheVariants.{OutOfRange}
+use Rattle.assembler.specs.Registers.{register_names, register_named}
+use Rattle.assembler.specs.Sets.{set_names, set_named}
+use Rattle.assembler.specs.Names.{goes_on_name}
+use Rattle.assembler.specs.Operands.{register_at, known_register, in_range, number_at, up_to, natural_at, set_at}
+use Rattle.assembler.specs.Spelled.{IsMagnitude, IsNumber, IsNumberFrom, IsNumberUpTo, IsRegister, IsSet}
+use Rattle.assembler.specs.Spelled.IsMagnitude.{decimal, hex}
+use Rattle.assembler.specs.Spelled.IsNumber.{plain, negative}
+use Rattle.assembler.proofs.TableLaws.{row_below}
+use Rattle.assembler.proofs.ReadAgain.{all_below, below_all}
+use Rattle.assembler.proofs.Plain.{NonePass, trimmed_solid}
+use Rattle.assembler.proofs.Rows.{found_in, are_apart, row_of_member, member_of_row, all_rows}
+
+-- a byte of a register, a number, a name or a set
+abbrev pub is_word_byte : ℕ → Bool
+is_word_byte c = goes_on_name c || (c == 45)
+
+-- a byte of an operand
+abbrev pub is_operand_byte : ℕ → Bool
+is_operand_byte c = is_word_byte c || (is_blank c || ((c == 40) || (c == 41)))
+
+-- The function answers what the relation says, and nothing else.
+pub record Reads {X : Type 0} (f : Option (List ℕ) → Result X AsmFault) (P : List ℕ → X → Type 0) : Type 0 where
+  pub missing : (x : X) → f None ≡ Ok x → ⊥
+  pub found : (t : List ℕ) (x : X) → f (Some t) ≡ Ok x → P t x
+  pub only : (t : List ℕ) (x : X) → P t x → f (Some (trimmed t)) ≡ Ok x
+  pub bytes : (t : List ℕ) (x : X) → P t x → list_all is_operand_byte t ≡ true
+
+-- ---- bytes
+
+pub all_weaker : (p q : ℕ → Bool) → ((c : ℕ) → p c ≡ true → q c ≡ true) → (xs : List ℕ) → list_all p xs ≡ true → list_all q xs ≡ true
+all_weaker p q weaker [] h = refl
+all_weaker p q weaker (x ∷ xs) h = let both = and_parts (p x) (list_all p xs) h in rw (weaker x both.0, all_weaker p q weaker xs both.1) refl
+
+pub none_of_all : (p q : ℕ → Bool) → ((c : ℕ) → p c ≡ true → q c ≡ false) → (xs : List ℕ) → list_all p xs ≡ true → NonePass q xs
+none_of_all p q other [] h = tt
+none_of_all p q other (x ∷ xs) h = let both = and_parts (p x) (list_all p xs) h in (other x both.0, none_of_all p q other xs both.1)
+
+-- no byte that passes is this one
+pub not_this : (p : ℕ → Bool) (byte : ℕ) → p byte ≡ false → (c : ℕ) → p c ≡ true → eqb c byte ≡ false
+not_this p byte fails c passes = elim (cases_Bool (eqb c byte)) [
+  | inl same ↦ absurd (let f : p byte ≡ true = subst (λ (d : ℕ). p d ≡ true) (eqb-true c byte same) passes in let g : false ≡ true = sym fails ∙ f in cc)
+  | inr other ↦ other
+]
+
+word_is_operand : (c : ℕ) → is_word_byte c ≡ true → is_operand_byte c ≡ true
+word_is_operand c e = rw e refl
+
+word_no_blank : (c : ℕ) → is_word_byte c ≡ true → is_blank c ≡ false
+word_no_blank c e = rw (not_this is_word_byte 32 refl c e, not_this is_word_byte 9 refl c e) refl
+
+pub word_operand : (t : List ℕ) → list_all is_word_byte t ≡ true → list_all is_operand_byte t ≡ true
+word_operand t h = all_weaker is_word_byte is_operand_byte word_is_operand t h
+
+pub word_solid : (t : List ℕ) → list_all is_word_byte t ≡ true → NonePass is_blank t
+word_solid t h = none_of_all is_word_byte is_blank word_no_blank t h
+
+pub word_trimmed : (t : List ℕ) → list_all is_word_byte t ≡ true → trimmed t ≡ t
+word_trimmed t h = trimmed_solid t (word_solid t h)
+
+-- ---- registers
+
+register_words : list_all (λ row. list_all is_word_byte row.0) register_names ≡ true
+register_words = refl
+
+registers_apart : are_apart register_names ≡ true
+registers_apart = refl
+
+pub register_word : (t : List ℕ) (r : Reg) → IsRegister t r → list_all is_word_byte t ≡ true
+register_word t r is = all_rows (λ name. list_all is_word_byte name) register_names t r.number register_words is
+
+pub register_found : (t : List ℕ) (r : Reg) → register_at (Some t) ≡ Ok r → IsRegister t r
+unfolding register_named
+register_found t r e = go (found_in register_names t) refl
+  where
+    known : (o : Option ℕ) → known_register (option_map reg_of o) ≡ Ok r → (n : ℕ) × (o ≡ Some n) × (reg_of n ≡ r)
+    known None f = absurd cc
+    known (Some n) f = (n, refl, ok_is AsmFault (reg_of n) r f)
+
+    go : (o : Option ℕ) → found_in register_names t ≡ o → IsRegister t r
+    go o is = (
+        let said = known (found_in register_names t) e in
+        let small : said.0 < 32 = row_below (λ row. row.0) (λ row. row.1) register_names t 32 refl (Some said.0) (sym said.1) in
+        let same : (reg_of said.0).number ≡ r.number = ap (λ q. q.number) said.2 in
+        let number : said.0 ≡ r.number = omega arith in
+        subst (λ (k : ℕ). Contains register_names (t, k)) number (member_of_row register_names t said.0 said.1))
+
+pub register_only : (t : List ℕ) (r : Reg) → IsRegister t r → register_at (Some t) ≡ Ok r
+unfolding register_named
+register_only t r is = rw (row_of_member register_names t r.number registers_apart is) (ap Ok (reg_of_number r))
+
+no_register : (x : Reg) → register_at None ≡ Ok x → ⊥
+no_register x e = cc
+
+pub reads_register : Reads register_at IsRegister
+reads_register = record {
+  missing = no_register;
+  found = register_found;
+  only = λ t r is. rw (word_trimmed t (register_word t r is)) (register_only t r is);
+  bytes = λ t r is. word_operand t (register_word t r is);
+}
+
+-- ---- sets
+
+set_words : list_all (λ row. list_all is_word_byte row.0) set_names ≡ true
+set_words = refl
+
+sets_apart : are_apart set_names ≡ true
+sets_apart = refl
+
+set_word : (t : List ℕ) (n : ℕ) → IsSet t n → list_all is_word_byte t ≡ true
+set_word t n is = all_rows (λ name. list_all is_word_byte name) set_names t n set_words is
+
+set_found : (t : List ℕ) (n : ℕ) → set_at (Some t) ≡ Ok n → IsSet t n
+unfolding set_named
+set_found t n e = go (found_in set_names t) refl
+  where
+    go : (o : Option ℕ) → found_in set_names t ≡ o → IsSet t n
+    go None none = absurd (let f = rw none at e in cc)
+    go (Some m) is = (let same : m ≡ n = ok_is AsmFault m n (rw is at e) in subst (λ (k : ℕ). Contains set_names (t, k)) same (member_of_row set_names t m is))
+
+set_only : (t : List ℕ) (n : ℕ) → IsSet t n → set_at (Some t) ≡ Ok n
+unfolding set_named
+set_only t n is = rw (row_of_member set_names t n sets_apart is) refl
+
+no_set : (x : ℕ) → set_at None ≡ Ok x → ⊥
+no_set x e = cc
+
+pub reads_set : Reads set_at IsSet
+reads_set = record {
+  missing = no_set;
+  found = set_found;
+  only = λ t n is. rw (word_trimmed t (set_word t n is)) (set_only t n is);
+  bytes = λ t n is. word_operand t (set_word t n is);
+}
+
+-- ---- digits
+
+pub digit_low : (c : ℕ) → digit_value c < 16 → c < 123
+digit_low c small = elim (cases_lt c 123) [
+  | inl lt ↦ lt
+  | inr le ↦ absurd (
+      let high : digit_value c ≡ 36 = rw (le-ltb c 48 (omega arith), le-ltb c 58 (omega arith), le-ltb c 65 (omega arith), le-ltb c 91 (omega arith), le-ltb c 97 (omega arith), le-ltb c 123 le) refl in
+      omega arith)
+]
+
+digit_test : ℕ → Bool
+digit_test c = not (ltb (digit_value c) 16) || is_word_byte c
+
+all_digit_test : all_below 123 digit_test ≡ true
+unfolding digit_test
+all_digit_test = refl
+
+digit_word : (c : ℕ) → digit_value c < 16 → is_word_byte c ≡ true
+unfolding digit_test
+digit_word c small = (let f : (not (ltb (digit_value c) 16) || is_word_byte c) ≡ true = below_all 123 digit_test all_digit_test c (digit_low c small) in let g : ltb (digit_value c) 16 ≡ true = lt-ltb (digit_value c) 16 small in rw g at f)
+
+digits_word : (radix : ℕ) → radix ≤ 16 → (digits : List ℕ) → AllDigits radix digits → list_all is_word_byte digits ≡ true
+digits_word radix most [] h = refl
+digits_word radix most (c ∷ digits) h = rw (digit_word c (omega (arith, h.0)), digits_word radix most digits h.1) refl
+
+-- ---- magnitudes
+
+hex_text : (t : List ℕ) → is_hex t ≡ true → t ≡ 48 ∷ 120 ∷ drop 2 t
+hex_text [] e = absurd cc
+hex_text (a ∷ []) e = absurd cc
+hex_text (a ∷ b ∷ rest) e =
+    let outer = and_parts (ltb 1 (length (a ∷ b ∷ rest)) && eqb a 48) (eqb b 120) e in
+    let inner = and_parts (ltb 1 (length (a ∷ b ∷ rest))) (eqb a 48) outer.0 in
+    ap (λ x. x ∷ b ∷ rest) (eqb-true a 48 inner.1) ∙ ap (λ x. 48 ∷ x ∷ rest) (eqb-true b 120 outer.1)
+
+pub magnitude_found : (t : List ℕ) (n : ℕ) → magnitude_of t ≡ Some n → n < 2 ^ 32 → IsMagnitude t n
+unfolding magnitude_of
+magnitude_found t n e small = elim (cases_Bool (is_hex t)) [
+  | inl is ↦ subst (λ (s : List ℕ). IsMagnitude s n) (sym (hex_text t is)) (hex (drop 2 t) n (hex_number_said (drop 2 t) n (rw is at e) small))
+  | inr other ↦ decimal t n (number_said t n (rw other at e) small)
+]
+
+no_hex : (digits : List ℕ) → AllDigits 10 digits → is_hex digits ≡ false
+no_hex [] h = refl
+no_hex (a ∷ []) h = refl
+no_hex (a ∷ b ∷ rest) h = rw (ne_eqb b 120 (λ is. (let f : digit_value 120 < 10 = subst (λ (c : ℕ). digit_value c < 10) is h.1.0 in omega arith))) (and_right (ltb 1 (length (a ∷ b ∷ rest)) && eqb a 48) false refl)
+
+magnitude_only : (t : List ℕ) (n : ℕ) → IsMagnitude t n → n < 2 ^ 32 → magnitude_of t ≡ Some n
+unfolding magnitude_of
+magnitude_only t n (decimal digits m says) small = (let same : capped m ≡ m = omega arith in rw (no_hex digits says.0.1) (says_number digits m says ∙ ap Some same))
+magnitude_only t n (hex digits m says) small = (let same : capped m ≡ m = omega arith in rw (lt-ltb 1 (length (48 ∷ 120 ∷ digits)) (omega arith)) (says_hex_number digits m says ∙ ap Some same))
+
+magnitude_word : (t : List ℕ) (n : ℕ) → IsMagnitude t n → list_all is_word_byte t ≡ true
+magnitude_word t n (decimal digits m says) = digits_word 10 (omega arith) digits says.0.1
+magnitude_word t n (hex digits m says) = digits_word 16 (omega arith) digits says.0.1
+
+-- no magnitude begins with the byte, as none begins with a `-` or a letter
+pub magnitude_first : (byte : ℕ) → 10 ≤ digit_value byte → (t : List ℕ) (n : ℕ) → IsMagnitude t n → eqb (slice_index t 0) byte ≡ false
+magnitude_first byte other t n (decimal digits m says) = first digits says.0.0 says.0.1
+  where
+    first : (ds : List ℕ) → 0 < length ds → AllDigits 10 ds → eqb (slice_index ds 0) byte ≡ false
+    first [] some h = absurd (omega arith)
+    first (c ∷ ds) some h = ne_eqb c byte (λ is. (let f : digit_value byte < 10 = subst (λ (d : ℕ). digit_value d < 10) is h.0 in omega arith))
+magnitude_first byte other t n (hex digits m says) = ne_eqb 48 byte (λ is. (let f : 10 ≤ digit_value 48 = subst (λ (d : ℕ). 10 ≤ digit_value d) (sym is) other in omega arith))
+
+-- ---- numbers
+
+not_negative : (t : List ℕ) → eqb (slice_index t 0) 45 ≡ false → is_negative t ≡ false
+not_negative t other = rw other (and_right (ltb 0 (length t)) false refl)
+
+negative_text : (t : List ℕ) → is_negative t ≡ true → t ≡ 45 ∷ drop 1 t
+negative_text [] e = absurd cc
+negative_text (a ∷ rest) e = let both = and_parts (ltb 0 (length (a ∷ rest))) (eqb a 45) e in ap (λ x. x ∷ rest) (eqb-true a 45 both.1)
+
+mapped : (view : ℕ → ℤ) (o : Option ℕ) (z : ℤ) → option_map view o ≡ Some z → (n : ℕ) × (o ≡ Some n) × (view n ≡ z)
+mapped view None z e = absurd cc
+mapped view (Some n) z e = (n, refl, cc)
+
+pub number_found : (t : List ℕ) (z : ℤ) → integer_of t ≡ Some z → unsigned_abs z < 2 ^ 32 → IsNumber t z
+unfolding integer_of
+number_found t z e small = elim (cases_Bool (is_negative t)) [
+  | inl is ↦ (
+      let said = mapped (λ n. neg_ℤ (pos n)) (magnitude_of (drop 1 t)) z (rw is at e) in
+      let few : said.0 < 2 ^ 32 = below_negative said.0 z said.2 small in
+      subst (λ (s : List ℕ). IsNumber s z) (sym (negative_text t is)) (subst (λ (y : ℤ). IsNumber (45 ∷ drop 1 t) y) said.2 (negative (drop 1 t) said.0 (magnitude_found (drop 1 t) said.0 said.1 few))))
+  | inr other ↦ (
+      let said = mapped pos (magnitude_of t) z (rw other at e) in
+      let few : said.0 < 2 ^ 32 = below_positive said.0 z said.2 small in
+      subst (λ (y : ℤ). IsNumber t y) said.2 (plain t said.0 (magnitude_found t said.0 said.1 few)))
+]
+  where
+    below_negative : (n : ℕ) (y : ℤ) → neg_ℤ (pos n) ≡ y → unsigned_abs y < 2 ^ 32 → n < 2 ^ 32
+    below_negative n y is lt = (let f : unsigned_abs (neg_ℤ (pos n)) < 2 ^ 32 = subst (λ (x : ℤ). unsigned_abs x < 2 ^ 32) (sym is) lt in omega (arith, ints))
+
+    below_positive : (n : ℕ) (y : ℤ) → pos n ≡ y → unsigned_abs y < 2 ^ 32 → n < 2 ^ 32
+    below_positive n y is lt = (let f : unsigned_abs (pos n) < 2 ^ 32 = subst (λ (x : ℤ). unsigned_abs x < 2 ^ 32) (sym is) lt in f)
+
+pub number_only : (t : List ℕ) (z : ℤ) → IsNumber t z → unsigned_abs z < 2 ^ 32 → integer_of t ≡ Some z
+unfolding integer_of
+number_only t z (plain text n is) small = rw (not_negative text (magnitude_first 45 (omega arith) text n is)) (ap (option_map pos) (magnitude_only text n is small))
+number_only t z (negative text n is) small = (let few : n < 2 ^ 32 = omega (arith, ints) in rw (lt-ltb 0 (length (45 ∷ text)) (omega arith)) (ap (option_map (λ m. neg_ℤ (pos m))) (magnitude_only text n is few)))
+
+pub number_word : (t : List ℕ) (z : ℤ) → IsNumber t z → list_all is_word_byte t ≡ true
+number_word t z (plain text n is) = magnitude_word text n is
+number_word t z (negative text n is) = magnitude_word text n is
+
+-- ---- numbers in a range
+
+pub not_less : (a b : ℤ) → b ≤ℤ a → int_lt a b ≡ false
+not_less a b le = go (int_lt a b) refl
+  where
+    go : (c : Bool) → int_lt a b ≡ c → int_lt a b ≡ false
+    go true e = absurd (omega (arith, ints))
+    go false e = e
+
+-- a range within words of 32 bits and a sign
+pub record IsWithin (low high : ℤ) : Type 0 where
+  pub above : neg_ℤ (pos (2 ^ 32)) <ℤ low
+  pub below : high <ℤ pos (2 ^ 32)
+
+pub small_within : (low high z : ℤ) → IsWithin low high → low ≤ℤ z → z ≤ℤ high → unsigned_abs z < 2 ^ 32
+small_within low high (pos n) within above below = let h = within.below in omega (arith, ints)
+small_within low high (negsuc n) within above below = let l = within.above in omega (arith, ints)
+
+ranged_found : (low high : ℤ) (o : Option ℤ) (z : ℤ) → in_range low high o ≡ Ok z → (o ≡ Some z) × (low ≤ℤ z) × (z ≤ℤ high)
+ranged_found low high None z e = absurd cc
+ranged_found low high (Some y) z e =
+    let passed = guard_ok (int_lt y low || int_lt high y) OutOfRange y z e in
+    let tests = or_parts (int_lt y low) (int_lt high y) passed.0 in
+    let above : low ≤ℤ y = omega (arith, ints, tests.0) in
+    let below : y ≤ℤ high = omega (arith, ints, tests.1) in
+    (ap Some passed.1, subst (λ (x : ℤ). low ≤ℤ x) passed.1 above, subst (λ (x : ℤ). x ≤ℤ high) passed.1 below)
+
+pub ranged_only : (low high z : ℤ) → low ≤ℤ z → z ≤ℤ high → in_range low high (Some z) ≡ Ok z
+ranged_only low high z above below = rw (not_less z low above, not_less high z below) refl
+
+pub from_found : (low high : ℤ) → IsWithin low high → (t : List ℕ) (z : ℤ) → in_range low high (integer_of t) ≡ Ok z → IsNumberFrom low high t z
+from_found low high within t z e =
+    let said = ranged_found low high (integer_of t) z e in
+    (number_found t z said.0 (small_within low high z within said.1 said.2), said.1, said.2)
+
+pub from_only : (low high : ℤ) → IsWithin low high → (t : List ℕ) (z : ℤ) → IsNumberFrom low high t z → in_range low high (integer_of t) ≡ Ok z
+from_only low high within t z is = rw (number_only t z is.0 (small_within low high z within is.1 is.2)) (ranged_only low high z is.1 is.2)
+
+pub reads_number : (low high : ℤ) → IsWithin low high → Reads (number_at low high) (IsNumberFrom low high)
+reads_number low high within = record {
+  missing = λ z e. none z e;
+  found = from_found low high within;
+  only = λ t z is. rw (word_trimmed t (number_word t z is.0)) (from_only low high within t z is);
+  bytes = λ t z is. word_operand t (number_word t z is.0);
+}
+  where
+    none : (z : ℤ) → number_at low high None ≡ Ok z → ⊥
+    none z e = cc
+
+natural_found : (most : ℕ) → most < 2 ^ 32 → (t : List ℕ) (n : ℕ) → natural_at most (Some t) ≡ Ok n → IsNumberUpTo most t n
+natural_found most small t n e = go (integer_of t) refl e
+  where
+    go : (o : Option ℤ) → integer_of t ≡ o → up_to most o ≡ Ok n → IsNumberUpTo most t n
+    go None none f = absurd cc
+    go (Some (pos m)) is f = (
+        let passed = guard_ok (int_lt (pos m) (pos 0) || int_lt (pos most) (pos m)) OutOfRange m n f in
+        let tests = or_parts (int_lt (pos m) (pos 0)) (int_lt (pos most) (pos m)) passed.0 in
+        let below : m ≤ most = omega (arith, ints, tests.1) in
+        let number : IsNumber t (pos m) = number_found t (pos m) is (omega arith) in
+        (subst (λ (k : ℕ). IsNumber t (pos k)) passed.1 number, subst (λ (k : ℕ). k ≤ most) passed.1 below))
+    go (Some (negsuc m)) is f = absurd cc
+
+natural_only : (most : ℕ) → most < 2 ^ 32 → (t : List ℕ) (n : ℕ) → IsNumberUpTo most t n → natural_at most (Some t) ≡ Ok n
+natural_only most small t n is = rw (number_only t (pos n) is.0 (omega (arith, is.1)), not_less (pos n) (pos 0) (omega (arith, ints)), not_less (pos most) (pos n) (omega (arith, ints, is.1))) refl
+
+pub reads_natural : (most : ℕ) → most < 2 ^ 32 → Reads (natural_at most) (IsNumberUpTo most)
+reads_natural most small = record {
+  missing = λ n e. none n e;
+  found = natural_found most small;
+  only = λ t n is. rw (word_trimmed t (number_word t (pos n) is.0)) (natural_only most small t n is);
+  bytes = λ t n is. word_operand t (number_word t (pos n) is.0);
+}
+  where
+    none : (n : ℕ) → natural_at most None ≡ Ok n → ⊥
+    none n e = cc

@@ -1,0 +1,350 @@
+-- The instructions of a text are those of the program that the grammar says it is.
+use Rattle.std.proofs.Common.{◌≡◌, ℕ, ◌+◌, ◌≤◌, Bool, true, false, ltb, List, [], ◌∷◌, ◌++◌, map, Option, Some, None, Result, Ok, Err, refl, sym, ap, subst, ◌∙◌, inl, inr, arith, ℤ, pos, append_assoc, append-nil}
+use Rattle.std.specs.Prelude.{◌≢◌}
+use Rattle.std.specs.Str.Lines.{lines}
+use Rattle.std.specs.List.{AllByRecursion}
+use Rattle.std.proofs.lemmas.Bool.{cases_Bool, le-ltb, ltb-false}
+use Rattle.std.proofs.lemmas.List.{map-append}
+use Rattle.std.specs.Prelude.{IfOk, OnOk}
+use Rattle.std.specs.declared.vec.Vec.{Vec}
+use Rattle.std.specs.declared.alloc.Global.{Global}
+use Rattle.texts.specs.Results.{Gives}
+use Rattle.texts.proofs.ResultLaws.{ok_is, bind_ok}
+use Rattle.rv_decode.specs.declared.instruction.Instr.{Instr}
+use Rattle.rv_decode.specs.declared.instruction.Instr.TheVariants as instr
+use Rattle.assembler.specs.declared.faults.AsmFault.{AsmFault}
+use Rattle.assembler.specs.declared.faults.AsmError.{AsmError}
+use Rattle.assembler.specs.Faults.{Refusal, refusal_of}
+use Rattle.rv_decode.specs.Meaning.{meaning}
+use Rattle.rv_decode.proofs.Meanings.{meaning_iff}
+use Rattle.assembler.specs.Operands.{bytes, is_reached, IsReached}
+use Rattle.assembler.specs.Statements.{Made, one, two, jump, branch}
+use Rattle.assembler.specs.Lines.{label_of, statement_text, made_in}
+use Rattle.assembler.specs.Drafts.{Line, size_of, words_of, is_label, place_from, place_of, is_twice, at_line, told, all_told, in_bytes, distance, placed, onto, all_placed, finished, assembled}
+use Rattle.assembler.specs.Grammar.{IsLine}
+use Rattle.assembler.specs.Program.{AreLines, AreApart, EachOnce, IsFresh, Defines, IsPlaced, ArePlaced, AreInstrs, IsProgram, AreWordsOf}
+use Rattle.assembler.specs.Program.IsPlaced.{nothing, single, double, jumping, branching}
+use Rattle.assembler.proofs.Addresses.{is_reached_only, reached_true}
+use Rattle.assembler.proofs.LabelLaws.{label_is, is_the_label, Apart, fresh_apart, apart_fresh, apart-append}
+use Rattle.assembler.proofs.DraftLaws.{told_twice, told_added, told_faulty}
+use Rattle.assembler.proofs.LineGrammar.{line_found, line_only}
+
+-- ---- lines
+
+record Told (above : List Line) (text : List ℕ) (more : List Line) : Type 0 where
+  line : Line
+  is : IsLine text line
+  apart : Apart above line.label
+  whole : more ≡ above ++ line ∷ []
+
+told_found : (above : List Line) (text : List ℕ) (more : List Line) → told above text ≡ Ok more → Told above text more
+told_found above text more e = go (is_twice above (label_of text)) refl (made_in (statement_text text)) refl
+  where
+    go : (b : Bool) → is_twice above (label_of text) ≡ b → (r : Result (Option Made) AsmFault) → made_in (statement_text text) ≡ r → Told above text more
+    go true twice r is = absurd (let f = sym (told_twice above text twice) ∙ e in cc)
+    go false fresh (Err fault) is = absurd (let f = sym (told_faulty above text fault fresh is) ∙ e in cc)
+    go false fresh (Ok made) is = record {
+      line = record { label = label_of text; made = made };
+      is = line_found text made is;
+      apart = fresh_apart above (label_of text) fresh;
+      whole = sym (ok_is Refusal (above ++ (record { label = label_of text; made = made }) ∷ []) more (sym (told_added above text made fresh is) ∙ e));
+    }
+
+told_only : (above : List Line) (text : List ℕ) (line : Line) → IsLine text line → Apart above line.label → told above text ≡ Ok (above ++ line ∷ [])
+told_only above text line is apart =
+    let read = line_only text line is in
+    told_added above text line.made (ap (is_twice above) read.label ∙ apart_fresh above line.label apart) read.made ∙ ap (λ label. Ok (above ++ (record { label = label; made = line.made }) ∷ [])) read.label
+
+-- each of the lines below is apart from each line above
+abbrev AllApart : List Line → List Line → Type 0
+AllApart above below = AllByRecursion (λ line. Apart above line.label) below
+
+apart-front : (above : List Line) (line : Line) (label : Option (List ℕ)) → Apart (above ++ line ∷ []) label → Apart above label
+apart-front [] line label h = tt
+apart-front (first ∷ above) line label h = (h.0, apart-front above line label h.1)
+
+apart-end : (above : List Line) (line : Line) (label : Option (List ℕ)) → Apart (above ++ line ∷ []) label → (name : List ℕ) → line.label ≡ Some name → label ≢ Some name
+apart-end [] line label h = h.0
+apart-end (first ∷ above) line label h = apart-end above line label h.1
+
+all_fronts : (above : List Line) (line : Line) (below : List Line) → AllApart (above ++ line ∷ []) below → AllApart above below
+all_fronts above line [] h = tt
+all_fronts above line (next ∷ below) h = (apart-front above line next.label h.0, all_fronts above line below h.1)
+
+all_ends : (above : List Line) (line : Line) (below : List Line) → AllApart (above ++ line ∷ []) below → AllByRecursion (λ other. AreApart line other) below
+all_ends above line [] h = tt
+all_ends above line (next ∷ below) h = (apart-end above line next.label h.0, all_ends above line below h.1)
+
+all_more : (above : List Line) (line : Line) (below : List Line) → AllApart above below → AllByRecursion (λ other. AreApart line other) below → AllApart (above ++ line ∷ []) below
+all_more above line [] h k = tt
+all_more above line (next ∷ below) h k = (apart-append above line next.label h.0 k.0, all_more above line below h.1 k.1)
+
+record AllTold (above : List Line) (texts : List (List ℕ)) (all : List Line) : Type 0 where
+  below : List Line
+  whole : all ≡ above ++ below
+  written : AreLines texts below
+  once : EachOnce below
+  apart : AllApart above below
+
+all_found : (above : List Line) (texts : List (List ℕ)) (all : List Line) → all_told above texts ≡ Ok all → AllTold above texts all
+all_found above [] all e = record { below = []; whole = sym (ok_is Refusal above all e) ∙ sym (append-nil above); written = refl; once = tt; apart = tt }
+all_found above (text ∷ texts) all e =
+    let step = bind_ok (told above text) (λ more. all_told more texts) all e in
+    let first = told_found above text step.0 step.1 in
+    let rest = all_found (above ++ first.line ∷ []) texts all (ap (λ more. all_told more texts) (sym first.whole) ∙ step.2) in
+    record {
+      below = first.line ∷ rest.below;
+      whole = rest.whole ∙ append_assoc above (first.line ∷ []) rest.below;
+      written = (first.line, rest.below, refl, first.is, rest.written);
+      once = (all_ends above first.line rest.below rest.apart, rest.once);
+      apart = (first.apart, all_fronts above first.line rest.below rest.apart);
+    }
+
+all_only : (above : List Line) (texts : List (List ℕ)) (below : List Line) → AreLines texts below → EachOnce below → AllApart above below → all_told above texts ≡ Ok (above ++ below)
+all_only above [] below written once apart = ap Ok (sym (append-nil above) ∙ ap (λ more. above ++ more) (sym written))
+all_only above (text ∷ texts) [] written once apart = absurd (let f = written.2 in cc)
+all_only above (text ∷ texts) (first ∷ below) written once apart =
+    let head : first ≡ written.0 = (let f = written.2 in cc) in
+    let tail : below ≡ written.1 = (let f = written.2 in cc) in
+    let is : IsLine text first = subst (λ (l : Line). IsLine text l) (sym head) written.3 in
+    let rest : AreLines texts below = subst (λ (ls : List Line). AreLines texts ls) (sym tail) written.4 in
+    rw (told_only above text first is apart.0)
+    (all_only (above ++ first ∷ []) texts below rest once.1 (all_more above first below apart.1 once.0) ∙ ap Ok (append_assoc above (first ∷ []) below))
+
+-- ---- places
+
+record DefinesFrom (at : ℕ) (all : List Line) (name : List ℕ) (place : ℕ) : Type 0 where
+  above : List Line
+  line : Line
+  below : List Line
+  whole : all ≡ above ++ line ∷ below
+  defined : line.label ≡ Some name
+  counted : place ≡ at + words_of above
+
+abbrev place_some : ℕ → Option ℕ
+place_some place = Some place
+
+some_place : (a b : ℕ) → place_some a ≡ place_some b → a ≡ b
+some_place a b e = cc
+
+defines_from : (name : List ℕ) (at : ℕ) (all : List Line) (place : ℕ) → place_from name at all ≡ Some place → DefinesFrom at all name place
+defines_from name at [] place e = absurd cc
+defines_from name at (line ∷ all) place e = elim (cases_Bool (is_label name line.label)) [
+  | inl here ↦ (let same : at ≡ place = some_place at place (rw here at e) in record { above = []; line = line; below = all; whole = refl; defined = label_is name line.label here; counted = omega arith })
+  | inr other ↦ (
+      let rest = defines_from name (at + size_of line.made) all place (rw other at e) in
+      record { above = line ∷ rest.above; line = rest.line; below = rest.below; whole = ap (λ ls. line ∷ ls) rest.whole; defined = rest.defined; counted = omega (arith, rest.counted) })
+]
+
+place_found : (all : List Line) (name : List ℕ) (place : ℕ) → place_of all name ≡ Some place → Defines all name place
+unfolding place_of
+place_found all name place e =
+    let from = defines_from name 0 all place e in
+    record { above = from.above; line = from.line; below = from.below; whole = from.whole; defined = from.defined; counted = omega (arith, from.counted) }
+
+apart_in : (first : Line) (above : List Line) (line : Line) (below : List Line) → AllByRecursion (λ other. AreApart first other) (above ++ line ∷ below) → AreApart first line
+apart_in first [] line below h = h.0
+apart_in first (next ∷ above) line below h = apart_in first above line below h.1
+
+place_at : (name : List ℕ) (at : ℕ) (above : List Line) (line : Line) (below : List Line) → line.label ≡ Some name → EachOnce (above ++ line ∷ below) → place_from name at (above ++ line ∷ below) ≡ Some (at + words_of above)
+place_at name at [] line below defined once = let same : at ≡ at + 0 = omega arith in rw (is_the_label name line.label defined) (ap Some same)
+place_at name at (first ∷ above) line below defined once = elim (cases_Bool (is_label name first.label)) [
+  | inl here ↦ absurd (apart_in first above line below once.0 name (label_is name first.label here) defined)
+  | inr other ↦ (
+      let sum : at + size_of first.made + words_of above ≡ at + (size_of first.made + words_of above) = omega arith in
+      rw (other, ← sum) (place_at name (at + size_of first.made) above line below defined once.1))
+]
+
+place_only : (all : List Line) (name : List ℕ) (place : ℕ) → EachOnce all → Defines all name place → place_of all name ≡ Some place
+unfolding place_of
+place_only all name place once is =
+    let there = place_at name 0 is.above is.line is.below is.defined (subst EachOnce is.whole once) in
+    let counted : 0 + words_of is.above ≡ place = omega (arith, is.counted) in
+    ap (place_from name 0) is.whole ∙ (there ∙ ap Some counted)
+
+-- ---- instructions
+
+abbrev some_instr : Instr → Option Instr
+some_instr i = Some i
+
+record Reaches (all : List Line) (bound : ℤ) (at : ℕ) (name : List ℕ) (n : ℤ) : Type 0 where
+  place : ℕ
+  defined : Defines all name place
+  near : IsReached bound (bytes (in_bytes at place))
+  is : in_bytes at place ≡ n
+
+distance_found : (all : List Line) (bound : ℤ) (at : ℕ) (name : List ℕ) (n : ℤ) → distance bound at (place_of all name) ≡ Ok n → Reaches all bound at name n
+distance_found all bound at name n e = go (place_of all name) refl e
+  where
+    go : (o : Option ℕ) → place_of all name ≡ o → distance bound at o ≡ Ok n → Reaches all bound at name n
+    go None none f = absurd cc
+    go (Some place) is f = elim (cases_Bool (is_reached bound (in_bytes at place))) [
+      | inl near ↦ record { place = place; defined = place_found all name place is; near = reached_true bound (in_bytes at place) near; is = ok_is AsmFault (in_bytes at place) n (rw near at f) }
+      | inr far ↦ absurd (let g = rw far at f in cc)
+    ]
+
+distance_only : (all : List Line) (bound : ℤ) (at : ℕ) (name : List ℕ) (place : ℕ) → EachOnce all → Defines all name place → IsReached bound (bytes (in_bytes at place)) → distance bound at (place_of all name) ≡ Ok (in_bytes at place)
+distance_only all bound at name place once defined near = rw (place_only all name place once defined, is_reached_only bound (in_bytes at place) near.0 near.1 near.2) refl
+
+record Placing (all : List Line) (at : ℕ) (made : Option Made) (front : List (Option Instr)) : Type 0 where
+  instrs : List Instr
+  is : IsPlaced all at made instrs
+  same : map some_instr instrs ≡ front
+
+placed_found : (all : List Line) (at : ℕ) (made : Option Made) (front : List (Option Instr)) → placed (place_of all) at made ≡ Ok front → Placing all at made front
+placed_found all at None front e = record { instrs = []; is = nothing; same = ok_is AsmFault [] front e }
+placed_found all at (Some (one i)) front e = record { instrs = i ∷ []; is = single i; same = ok_is AsmFault (Some i ∷ []) front e }
+placed_found all at (Some (two i j)) front e = record { instrs = i ∷ j ∷ []; is = double i j; same = ok_is AsmFault (Some i ∷ Some j ∷ []) front e }
+placed_found all at (Some (jump rd name)) front e =
+    let n = bind_ok (distance (pos 1048576) at (place_of all name)) (λ n. Ok (Some (instr.Jal rd n) ∷ [])) front e in
+    let r = distance_found all (pos 1048576) at name n.0 n.1 in
+    record { instrs = instr.Jal rd (in_bytes at r.place) ∷ []; is = jumping rd name r.place r.defined r.near; same = ap (λ m. Some (instr.Jal rd m) ∷ []) r.is ∙ ok_is AsmFault (Some (instr.Jal rd n.0) ∷ []) front n.2 }
+placed_found all at (Some (branch op rs1 rs2 name)) front e =
+    let n = bind_ok (distance (pos 4096) at (place_of all name)) (λ n. Ok (Some (instr.Branch op rs1 rs2 n) ∷ [])) front e in
+    let r = distance_found all (pos 4096) at name n.0 n.1 in
+    record { instrs = instr.Branch op rs1 rs2 (in_bytes at r.place) ∷ []; is = branching op rs1 rs2 name r.place r.defined r.near; same = ap (λ m. Some (instr.Branch op rs1 rs2 m) ∷ []) r.is ∙ ok_is AsmFault (Some (instr.Branch op rs1 rs2 n.0) ∷ []) front n.2 }
+
+placed_only : (all : List Line) (at : ℕ) (made : Option Made) (instrs : List Instr) → EachOnce all → IsPlaced all at made instrs → placed (place_of all) at made ≡ Ok (map some_instr instrs)
+placed_only all at made instrs once nothing = refl
+placed_only all at made instrs once (single i) = refl
+placed_only all at made instrs once (double i j) = refl
+placed_only all at made instrs once (jumping rd name place defined near) = rw (distance_only all (pos 1048576) at name place once defined near) refl
+placed_only all at made instrs once (branching op rs1 rs2 name place defined near) = rw (distance_only all (pos 4096) at name place once defined near) refl
+
+record AllPlacing (all : List Line) (at : ℕ) (below : List Line) (answers : List (Option Instr)) : Type 0 where
+  instrs : List Instr
+  are : ArePlaced all at below instrs
+  same : map some_instr instrs ≡ answers
+
+at_line_ok : {A : Type 0} (line : ℕ) (r : Result A AsmFault) (x : A) → at_line line r ≡ Ok x → r ≡ Ok x
+at_line_ok line (Ok y) x e = ap Ok (ok_is Refusal y x e)
+at_line_ok line (Err fault) x e = absurd cc
+
+all_placed_found : (all : List Line) (at line : ℕ) (below : List Line) (answers : List (Option Instr)) → all_placed (place_of all) at line below ≡ Ok answers → AllPlacing all at below answers
+all_placed_found all at line [] answers e = record { instrs = []; are = refl; same = ok_is Refusal [] answers e }
+all_placed_found all at line (first ∷ below) answers e =
+    let step = bind_ok (at_line line (placed (place_of all) at first.made)) (λ front. onto front (all_placed (place_of all) (at + size_of first.made) (line + 1) below)) answers e in
+    let front = placed_found all at first.made step.0 (at_line_ok line (placed (place_of all) at first.made) step.0 step.1) in
+    let more = bind_ok (all_placed (place_of all) (at + size_of first.made) (line + 1) below) (λ more. Ok (step.0 ++ more)) answers step.2 in
+    let rest = all_placed_found all (at + size_of first.made) (line + 1) below more.0 more.1 in
+    record {
+      instrs = front.instrs ++ rest.instrs;
+      are = (front.instrs, rest.instrs, refl, front.is, rest.are);
+      same = map-append some_instr front.instrs rest.instrs ∙ (rw (front.same, rest.same) (ok_is Refusal (step.0 ++ more.0) answers more.2));
+    }
+
+all_placed_only : (all : List Line) (at line : ℕ) (below : List Line) (instrs : List Instr) → EachOnce all → ArePlaced all at below instrs → all_placed (place_of all) at line below ≡ Ok (map some_instr instrs)
+all_placed_only all at line [] instrs once are = ap (λ is. Ok (map some_instr is)) (sym are)
+all_placed_only all at line (first ∷ below) instrs once are =
+    rw (placed_only all at first.made are.0 once are.3, all_placed_only all (at + size_of first.made) (line + 1) below are.1 once are.4)
+    (ap Ok (sym (map-append some_instr are.0 are.1) ∙ ap (map some_instr) (sym are.2)))
+
+-- ---- programs
+
+record Finishing (all : List Line) (answers : List (Option Instr)) : Type 0 where
+  instrs : List Instr
+  few : words_of all ≤ 4096
+  placed : ArePlaced all 0 all instrs
+  same : answers ≡ map some_instr instrs
+
+finished_found : (all : List Line) (answers : List (Option Instr)) → finished all ≡ Ok answers → Finishing all answers
+unfolding finished
+finished_found all answers e = elim (cases_Bool (ltb 4096 (words_of all))) [
+  | inl long ↦ absurd (let f = rw long at e in cc)
+  | inr few ↦ (
+      let answer = all_placed_found all 0 1 all answers (rw few at e) in
+      record { instrs = answer.instrs; few = ltb-false 4096 (words_of all) few; placed = answer.are; same = sym answer.same })
+]
+
+finished_only : (all : List Line) (instrs : List Instr) → AreInstrs all instrs → finished all ≡ Ok (map some_instr instrs)
+unfolding finished
+finished_only all instrs are = rw (le-ltb 4096 (words_of all) are.few) (all_placed_only all 0 1 all instrs are.once are.placed)
+
+pub record Assembling (text : List ℕ) (answers : List (Option Instr)) : Type 0 where
+  pub instrs : List Instr
+  pub is : IsProgram text instrs
+  pub same : answers ≡ map some_instr instrs
+
+pub program_found : (text : List ℕ) (answers : List (Option Instr)) → assembled text ≡ Ok answers → Assembling text answers
+unfolding assembled
+program_found text answers e =
+    let step = bind_ok (all_told [] (lines text)) finished answers e in
+    let written = all_found [] (lines text) step.0 step.1 in
+    let same : written.below ≡ step.0 = sym written.whole in
+    let answer = finished_found step.0 answers step.2 in
+    record {
+      instrs = answer.instrs;
+      is = record {
+        all = step.0;
+        written = subst (λ (ls : List Line). AreLines (lines text) ls) same written.written;
+        made = record { once = subst EachOnce same written.once; few = answer.few; placed = answer.placed };
+      };
+      same = answer.same;
+    }
+
+none_above : (below : List Line) → AllApart [] below
+none_above [] = tt
+none_above (line ∷ below) = (tt, none_above below)
+
+pub program_only : (text : List ℕ) (instrs : List Instr) → IsProgram text instrs → assembled text ≡ Ok (map some_instr instrs)
+unfolding assembled
+program_only text instrs is = rw (all_only [] (lines text) is.all is.written is.made.once (none_above is.all)) (finished_only is.all instrs is.made)
+
+some_is : (i j : Instr) → some_instr i ≡ some_instr j → i ≡ j
+some_is i j e = cc
+
+same_instrs : (a b : List Instr) → map some_instr a ≡ map some_instr b → a ≡ b
+same_instrs [] [] e = refl
+same_instrs [] (j ∷ b) e = absurd cc
+same_instrs (i ∷ a) [] e = absurd cc
+same_instrs (i ∷ a) (j ∷ b) e =
+    let head : some_instr i ≡ some_instr j = cc in
+    let tail : map some_instr a ≡ map some_instr b = cc in
+    rw (some_is i j head, same_instrs a b tail) refl
+
+pub one_program : (text : List ℕ) (a b : List Instr) → IsProgram text a → IsProgram text b → a ≡ b
+one_program text a b h k = same_instrs a b (ok_is Refusal (map some_instr a) (map some_instr b) (sym (program_only text a h) ∙ program_only text b k))
+
+-- ---- words
+
+pub words_of_instrs : (words : List ℕ) (instrs : List Instr) → map meaning words ≡ map some_instr instrs → AreWordsOf words instrs
+words_of_instrs [] [] e = refl
+words_of_instrs [] (i ∷ instrs) e = absurd cc
+words_of_instrs (word ∷ words) [] e = absurd cc
+words_of_instrs (word ∷ words) (i ∷ instrs) e =
+    let head : meaning word ≡ Some i = cc in
+    let tail : map meaning words ≡ map some_instr instrs = cc in
+    (i, instrs, refl, (meaning_iff word i).0 head, words_of_instrs words instrs tail)
+
+-- ---- what a function answered
+
+abbrev Words : Type 0
+Words = Vec ℕ Global
+
+abbrev meanings : Words → List (Option Instr)
+meanings words = map meaning words.items
+
+pub found_program : (text : List ℕ) (result : Result Words AsmError) → Gives refusal_of meanings result (assembled text) → IfOk result (λ words. (instrs : List Instr) × IsProgram text instrs × AreWordsOf words.items instrs)
+found_program text (Ok words) e = let made = program_found text (meanings words) e in (made.instrs, made.is, words_of_instrs words.items made.instrs made.same)
+found_program text (Err error) e = tt
+
+pub only_program : (text : List ℕ) (instrs : List Instr) (result : Result Words AsmError) → Gives refusal_of meanings result (assembled text) → IsProgram text instrs → Gives refusal_of meanings result (Ok (map some_instr instrs))
+only_program text instrs result e is = subst (λ (answer : Result (List (Option Instr)) Refusal). Gives refusal_of meanings result answer) (program_only text instrs is) e
+
+-- ---- a draft's line and its end
+
+pub found_line : {X : Type 0} (above new : List Line) (text : List ℕ) (result : Result X AsmError) → Gives refusal_of (λ x. new) result (told above text) → OnOk result ((more : Line) × IsLine text more × IsFresh above more × (new ≡ above ++ more ∷ []))
+found_line above new text (Ok x) e = let first = told_found above text new e in (first.line, first.is, first.apart, first.whole)
+found_line above new text (Err error) e = tt
+
+pub only_line : {X : Type 0} (above new : List Line) (text : List ℕ) (result : Result X AsmError) → Gives refusal_of (λ x. new) result (told above text) → (more : Line) → IsLine text more → IsFresh above more → Gives refusal_of (λ x. new) result (Ok (above ++ more ∷ []))
+only_line above new text result e more is fresh = subst (λ (answer : Result (List Line) Refusal). Gives refusal_of (λ x. new) result answer) (told_only above text more is fresh) e
+
+pub found_instrs : (all : List Line) (result : Result Words AsmError) → EachOnce all → Gives refusal_of meanings result (finished all) → IfOk result (λ words. (instrs : List Instr) × AreInstrs all instrs × AreWordsOf words.items instrs)
+found_instrs all (Ok words) once e =
+    let answer = finished_found all (meanings words) e in
+    (answer.instrs, record { once = once; few = answer.few; placed = answer.placed }, words_of_instrs words.items answer.instrs answer.same)
+found_instrs all (Err error) once e = tt
+
+pub only_instrs : (all : List Line) (instrs : List Instr) (result : Result Words AsmError) → Gives refusal_of meanings result (finished all) → AreInstrs all instrs → Gives refusal_of meanings result (Ok (map some_instr instrs))
+only_instrs all instrs result e are = subst (λ (answer : Result (List (Option Instr)) Refusal). Gives refusal_of meanings result answer) (finished_only all instrs are) e

@@ -1,0 +1,72 @@
+-- How the parts of a statement are spelled, each a relation between a text and what it says.
+use Rattle.std.specs.Prelude.{◌≡◌, ℕ, ℤ, pos, neg_ℤ, ◌≤◌, ◌≤ℤ◌, ◌<ℤ◌, true, ◌⊎◌, List, [], ◌∷◌, ◌++◌}
+use Rattle.std.specs.List.{AllByRecursion, Contains}
+use Rattle.texts.specs.Pieces.{is_blank}
+use Rattle.texts.specs.Numbers.{Says, SaysInHex}
+use Rattle.rv_decode.specs.Fits.{IsEven}
+use Rattle.rv_decode.specs.declared.instruction.Reg.{Reg}
+use Rattle.assembler.specs.Registers.{register_names}
+use Rattle.assembler.specs.Sets.{set_names}
+use Rattle.assembler.specs.Names.{is_name}
+use Rattle.assembler.specs.Operands.{Target, bytes, label}
+
+-- spaces and tabs, or none
+abbrev pub AreBlanks : List ℕ → Type 0
+AreBlanks text = AllByRecursion (λ byte. is_blank byte ≡ true) text
+
+-- the core with blanks round it, or none
+abbrev pub IsPadded : (core text : List ℕ) → Type 0
+IsPadded core text = (front : List ℕ) × (back : List ℕ) × AreBlanks front × AreBlanks back × (text ≡ front ++ (core ++ back))
+
+-- Operands, parted by commas (44), with blanks round each.
+pub data AreListed : List ℕ → List (List ℕ) → Type 0 where
+  last : (text operand : List ℕ) → IsPadded operand text → AreListed text (operand ∷ [])
+  more : (text operand rest : List ℕ) (operands : List (List ℕ)) → IsPadded operand text → AreListed rest operands → AreListed (text ++ 44 ∷ rest) (operand ∷ operands)
+
+-- ---- numbers
+
+-- decimal digits, or `0x` (48 and 120) and hex digits
+pub data IsMagnitude : List ℕ → ℕ → Type 0 where
+  decimal : (digits : List ℕ) (n : ℕ) → Says digits n → IsMagnitude digits n
+  hex : (digits : List ℕ) (n : ℕ) → SaysInHex digits n → IsMagnitude (48 ∷ 120 ∷ digits) n
+
+-- with a `-` (45) in front, or none
+pub data IsNumber : List ℕ → ℤ → Type 0 where
+  plain : (text : List ℕ) (n : ℕ) → IsMagnitude text n → IsNumber text (pos n)
+  negative : (text : List ℕ) (n : ℕ) → IsMagnitude text n → IsNumber (45 ∷ text) (neg_ℤ (pos n))
+
+abbrev pub IsNumberFrom : (low high : ℤ) → List ℕ → ℤ → Type 0
+IsNumberFrom low high text n = IsNumber text n × (low ≤ℤ n) × (n ≤ℤ high)
+
+abbrev pub IsNumberUpTo : (most : ℕ) → List ℕ → ℕ → Type 0
+IsNumberUpTo most text n = IsNumber text (pos n) × (n ≤ most)
+
+-- ---- registers and the sets of a fence, each a row of its table
+
+abbrev pub IsRegister : List ℕ → Reg → Type 0
+IsRegister text register = Contains register_names (text, register.number)
+
+abbrev pub IsSet : List ℕ → ℕ → Type 0
+IsSet text set = Contains set_names (text, set)
+
+-- ---- addresses, `n(rs1)`, with blanks round the parentheses
+
+-- where the number is left out it is 0
+abbrev pub IsOffset : (low high : ℤ) → List ℕ → ℤ → Type 0
+IsOffset low high text n = (AreBlanks text × (n ≡ pos 0)) ⊎ ((number : List ℕ) × IsPadded number text × IsNumberFrom low high number n)
+
+-- the parentheses are 40 and 41
+pub record IsAddress (low high : ℤ) (text : List ℕ) (address : Reg × ℤ) : Type 0 where
+  pub before : List ℕ
+  pub inside : List ℕ
+  pub name : List ℕ
+  pub whole : text ≡ before ++ 40 ∷ (inside ++ 41 ∷ [])
+  pub offset : IsOffset low high before address.1
+  pub padded : IsPadded name inside
+  pub register : IsRegister name address.0
+
+-- ---- where a jump or a branch goes: a label, or an even number of bytes within its reach
+
+abbrev pub IsTarget : (bound : ℤ) → List ℕ → Target → Type 0
+IsTarget bound text (label name) = (text ≡ name) × (is_name name ≡ true)
+IsTarget bound text (bytes n) = IsNumber text n × (neg_ℤ bound ≤ℤ n) × (n <ℤ bound) × IsEven n

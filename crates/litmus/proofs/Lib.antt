@@ -1,0 +1,9 @@
+pub mod RunLaws
+pub mod BuildLaws
+pub mod StageLaws
+pub mod GrammarLaws
+pub mod FrontLaws
+pub mod BeginLaws
+pub mod SeenLaws
+pub mod TestLaws
+pub mod PlaceLaws

@@ -1,0 +1,99 @@
+-- The steps of a formula do what it says, and ask for its places.
+use Rattle.std.proofs.Common.{◌≡◌, ◌∙◌, sym, ap, subst, ℕ, Bool, true, false, not, ◌&&◌, ◌||◌, suc, zero, ◌≤◌, List, [], ◌∷◌, ◌++◌, length, refl, arith, append_assoc, All, get_or, drop, ◌<◌, ◌-◌, ◌+◌, drop-cons, add-one}
+use Rattle.std.proofs.lemmas.List.Elements.{All-nil, All-cons, All-head, All-tail}
+use Rattle.std.proofs.lemmas.List.{append-nil}
+use Rattle.litmus.specs.declared.words.Place.{Place}
+use Rattle.litmus.specs.declared.words.Place.TheVariants as place
+use Rattle.litmus.specs.declared.words.Step.{Step}
+use Rattle.litmus.specs.declared.words.Step.TheVariants as step
+use Rattle.litmus.specs.Formulas.{Formula, is, negation, both, either, truth, places}
+use Rattle.litmus.specs.Steps.{steps_of}
+use Rattle.litmus.specs.Questions.{IsThere}
+use Rattle.litmus.specs.Running.{done, all_done, asked_by, AsksThere}
+
+-- the steps that are skipped change nothing
+pub all_done-skipped : (value_of : Place → ℕ) (so_far : Bool) (skipped rest : List Step) → all_done value_of so_far (length skipped) (skipped ++ rest) ≡ all_done value_of so_far 0 rest
+all_done-skipped value_of so_far [] rest = refl
+all_done-skipped value_of so_far (s ∷ skipped) rest = all_done-skipped value_of so_far skipped rest
+
+-- the right side of an operator: gone through, or skipped where the left side decides
+right_of_and : (value_of : Place → ℕ) (g : Formula) (rest : List Step) (b : Bool) → ((c : Bool) → all_done value_of c 0 (steps_of g ++ rest) ≡ all_done value_of (truth value_of g) 0 rest) → all_done value_of b 0 (step.And (length (steps_of g)) ∷ (steps_of g ++ rest)) ≡ all_done value_of (b && truth value_of g) 0 rest
+right_of_and value_of g rest true right = right true
+right_of_and value_of g rest false right = all_done-skipped value_of false (steps_of g) rest
+
+right_of_or : (value_of : Place → ℕ) (g : Formula) (rest : List Step) (b : Bool) → ((c : Bool) → all_done value_of c 0 (steps_of g ++ rest) ≡ all_done value_of (truth value_of g) 0 rest) → all_done value_of b 0 (step.Or (length (steps_of g)) ∷ (steps_of g ++ rest)) ≡ all_done value_of (b || truth value_of g) 0 rest
+right_of_or value_of g rest true right = all_done-skipped value_of true (steps_of g) rest
+right_of_or value_of g rest false right = right false
+
+pub all_done-steps_of : (value_of : Place → ℕ) (f : Formula) (rest : List Step) (so_far : Bool) → all_done value_of so_far 0 (steps_of f ++ rest) ≡ all_done value_of (truth value_of f) 0 rest
+all_done-steps_of value_of (is p v) rest so_far = refl
+all_done-steps_of value_of (negation f) rest so_far =
+    ap (λ (s : List Step). all_done value_of so_far 0 s) (append_assoc (steps_of f) (step.Not ∷ []) rest) ∙ all_done-steps_of value_of f (step.Not ∷ rest) so_far
+all_done-steps_of value_of (both f g) rest so_far =
+    ap (λ (s : List Step). all_done value_of so_far 0 s) (append_assoc (steps_of f) (step.And (length (steps_of g)) ∷ steps_of g) rest)
+    ∙ all_done-steps_of value_of f (step.And (length (steps_of g)) ∷ (steps_of g ++ rest)) so_far
+    ∙ right_of_and value_of g rest (truth value_of f) (λ c. all_done-steps_of value_of g rest c)
+all_done-steps_of value_of (either f g) rest so_far =
+    ap (λ (s : List Step). all_done value_of so_far 0 s) (append_assoc (steps_of f) (step.Or (length (steps_of g)) ∷ steps_of g) rest)
+    ∙ all_done-steps_of value_of f (step.Or (length (steps_of g)) ∷ (steps_of g ++ rest)) so_far
+    ∙ right_of_or value_of g rest (truth value_of f) (λ c. all_done-steps_of value_of g rest c)
+
+pub asked_by-append : (left right : List Step) → asked_by (left ++ right) ≡ asked_by left ++ asked_by right
+asked_by-append [] right = refl
+asked_by-append (step.Is p v ∷ left) right = ap (λ (ps : List Place). p ∷ ps) (asked_by-append left right)
+asked_by-append (step.Not ∷ left) right = asked_by-append left right
+asked_by-append (step.And skip ∷ left) right = asked_by-append left right
+asked_by-append (step.Or skip ∷ left) right = asked_by-append left right
+
+pub asked_by-steps_of : (f : Formula) → asked_by (steps_of f) ≡ places f
+asked_by-steps_of (is p v) = refl
+asked_by-steps_of (negation f) = asked_by-append (steps_of f) (step.Not ∷ []) ∙ append-nil (asked_by (steps_of f)) ∙ asked_by-steps_of f
+asked_by-steps_of (both f g) = asked_by-append (steps_of f) (step.And (length (steps_of g)) ∷ steps_of g) ∙ ap (λ (ps : List Place). ps ++ asked_by (steps_of g)) (asked_by-steps_of f) ∙ ap (λ (ps : List Place). places f ++ ps) (asked_by-steps_of g)
+asked_by-steps_of (either f g) = asked_by-append (steps_of f) (step.Or (length (steps_of g)) ∷ steps_of g) ∙ ap (λ (ps : List Place). ps ++ asked_by (steps_of g)) (asked_by-steps_of f) ∙ ap (λ (ps : List Place). places f ++ ps) (asked_by-steps_of g)
+
+-- steps whose places are there ask for what is there
+pub AsksThere-asked_by : (harts locations : ℕ) (steps : List Step) → All (IsThere harts locations) (asked_by steps) → All (AsksThere harts locations) steps
+AsksThere-asked_by harts locations [] there = All-nil (AsksThere harts locations)
+AsksThere-asked_by harts locations (step.Is p v ∷ rest) there = All-cons (AsksThere harts locations) (step.Is p v) rest (there 0 p (omega arith)) (AsksThere-asked_by harts locations rest (λ k d small. there (suc k) d (omega (arith, small))))
+AsksThere-asked_by harts locations (step.Not ∷ rest) there = All-cons (AsksThere harts locations) step.Not rest tt (AsksThere-asked_by harts locations rest there)
+AsksThere-asked_by harts locations (step.And skip ∷ rest) there = All-cons (AsksThere harts locations) (step.And skip) rest tt (AsksThere-asked_by harts locations rest there)
+AsksThere-asked_by harts locations (step.Or skip ∷ rest) there = All-cons (AsksThere harts locations) (step.Or skip) rest tt (AsksThere-asked_by harts locations rest there)
+
+pub AsksThere-steps_of : (harts locations : ℕ) (f : Formula) → All (IsThere harts locations) (places f) → All (AsksThere harts locations) (steps_of f)
+AsksThere-steps_of harts locations f there = AsksThere-asked_by harts locations (steps_of f) (subst (λ (ps : List Place). All (IsThere harts locations) ps) (sym (asked_by-steps_of f)) there)
+
+-- a place is there among more harts and locations too
+pub IsThere-more : (harts more_harts locations more : ℕ) (p : Place) → harts ≤ more_harts → locations ≤ more → IsThere harts locations p → IsThere more_harts more p
+IsThere-more harts more_harts locations more (place.Register h n) many enough there = (omega (arith, there.0, many), there.1)
+IsThere-more harts more_harts locations more (place.Word a) many enough there = (there.0, omega (arith, there.1, enough))
+
+pub AreThere-more : (harts more_harts locations more : ℕ) (ps : List Place) → harts ≤ more_harts → locations ≤ more → All (IsThere harts locations) ps → All (IsThere more_harts more) ps
+AreThere-more harts more_harts locations more ps many enough there = λ k d small. IsThere-more harts more_harts locations more (get_or ps k d) many enough (there k d small)
+
+pub all_done-condition : (value_of : Place → ℕ) (f : Formula) → all_done value_of true 0 (steps_of f) ≡ truth value_of f
+all_done-condition value_of f = ap (λ (s : List Step). all_done value_of true 0 s) (sym (append-nil (steps_of f))) ∙ all_done-steps_of value_of f [] true
+
+-- one step of the loop over the steps
+pub all_done-skips : (value_of : Place → ℕ) (so_far : Bool) (skip i : ℕ) (steps : List Step) → 0 < skip → i < length steps → all_done value_of so_far (skip - 1) (drop (i + 1) steps) ≡ all_done value_of so_far skip (drop i steps)
+all_done-skips value_of so_far zero i steps some small = absurd (omega (arith, some))
+all_done-skips value_of so_far (suc skip) i steps some small =
+    let less : suc skip - 1 ≡ skip = omega arith in
+    rw (less, drop-cons steps i step.Not small, add-one i) refl
+
+pub all_done-does : (value_of : Place → ℕ) (so_far : Bool) (i : ℕ) (steps : List Step) (d : Step) → i < length steps → all_done value_of (done value_of (get_or steps i d) so_far).0 (done value_of (get_or steps i d) so_far).1 (drop (i + 1) steps) ≡ all_done value_of so_far 0 (drop i steps)
+all_done-does value_of so_far i steps d small = rw (drop-cons steps i d small, add-one i) refl
+
+pub all_done-next : (value_of : Place → ℕ) (so_far new_so_far : Bool) (skip new_skip i : ℕ) (steps : List Step) (d : Step) (after : Bool × ℕ) → i < length steps → skip ≤ 0 → after ≡ done value_of (get_or steps i d) so_far → new_so_far ≡ after.0 → new_skip ≡ after.1 → all_done value_of new_so_far new_skip (drop (i + 1) steps) ≡ all_done value_of so_far skip (drop i steps)
+all_done-next value_of so_far new_so_far skip new_skip i steps d after small none after_is truth_is skip_is =
+    let zero_skip : skip ≡ 0 = omega (arith, none) in
+    rw (truth_is, skip_is, after_is, zero_skip) (all_done-does value_of so_far i steps d small)
+
+pub asked_by-AsksThere : (harts locations : ℕ) (steps : List Step) → All (AsksThere harts locations) steps → All (IsThere harts locations) (asked_by steps)
+asked_by-AsksThere harts locations [] all = All-nil (IsThere harts locations)
+asked_by-AsksThere harts locations (step.Is p value ∷ rest) all = All-cons (IsThere harts locations) p (asked_by rest) (All-head (AsksThere harts locations) (step.Is p value) rest all) (asked_by-AsksThere harts locations rest (All-tail (AsksThere harts locations) (step.Is p value) rest all))
+asked_by-AsksThere harts locations (step.Not ∷ rest) all = asked_by-AsksThere harts locations rest (All-tail (AsksThere harts locations) step.Not rest all)
+asked_by-AsksThere harts locations (step.And skip ∷ rest) all = asked_by-AsksThere harts locations rest (All-tail (AsksThere harts locations) (step.And skip) rest all)
+asked_by-AsksThere harts locations (step.Or skip ∷ rest) all = asked_by-AsksThere harts locations rest (All-tail (AsksThere harts locations) (step.Or skip) rest all)
+
+pub steps_of-AsksThere : (harts locations : ℕ) (f : Formula) → All (AsksThere harts locations) (steps_of f) → All (IsThere harts locations) (places f)
+steps_of-AsksThere harts locations f all = subst (λ (ps : List Place). All (IsThere harts locations) ps) (asked_by-steps_of f) (asked_by-AsksThere harts locations (steps_of f) all)

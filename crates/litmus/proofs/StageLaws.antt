@@ -1,0 +1,204 @@
+-- One more word, and the end of the words: stages against what is built.
+use Rattle.std.proofs.Common.{◌≡◌, ◌∙◌, ◌≤◌, ◌<◌, ◌+◌, ◌&&◌, sym, ap, subst, ℕ, Bool, true, false, suc, zero, List, [], ◌∷◌, ◌++◌, length, Option, Some, None, Result, Ok, Err, IfSome, refl, arith, length-append}
+use Rattle.litmus.specs.declared.words.Token.{Token}
+use Rattle.litmus.specs.declared.words.Token.TheVariants as token
+use Rattle.litmus.specs.declared.words.Step.{Step}
+use Rattle.litmus.specs.declared.words.Step.TheVariants as step
+use Rattle.litmus.specs.declared.words.Mark.{Mark}
+use Rattle.litmus.specs.declared.draft.ConditionError.{ConditionError}
+use Rattle.litmus.specs.declared.draft.ConditionError.TheVariants.{NoMemory, Misplaced}
+use Rattle.litmus.specs.Formulas.{Formula, is}
+use Rattle.litmus.specs.Steps.{steps_of, formula_of}
+use Rattle.litmus.specs.StepLaws.{formula_of-steps_of}
+use Rattle.litmus.specs.Faults.{fault_of}
+use Rattle.litmus.specs.Drafting.{Group, Stage, awaits, has, empty_group, disjunction_of, completed, enclosed, taken, taken_from, all_taken, stage_after, formula_at, or_misplaced, with_word, told, finished}
+use Rattle.litmus.specs.Building.{Build, all_closed, built, is_empty, is_finished, IsWithin, or_steps, and_steps, steps_around, end_of, mark_of, marks_around, build_of, build_at}
+use Rattle.litmus.proofs.BuildLaws.{built-law, all_closed-law}
+
+pub all_taken-append : (stage : Option Stage) (left right : List Token) → all_taken stage (left ++ right) ≡ all_taken (all_taken stage left) right
+all_taken-append stage [] right = refl
+all_taken-append stage (w ∷ left) right = all_taken-append (taken_from stage w) left right
+
+pub stage_after-push : (words : List Token) (word : Token) → stage_after (words ++ word ∷ []) ≡ taken_from (stage_after words) word
+unfolding stage_after
+stage_after-push words word = all_taken-append (Some (awaits [] empty_group)) words (word ∷ [])
+
+some_same : {A : Type 0} (a b : A) → Some a ≡ Some b → a ≡ b
+some_same a b same = cc
+
+ok_some : (o : Option Build) (b : Build) → or_misplaced o ≡ Ok b → o ≡ Some b
+ok_some None b same = cc
+ok_some (Some a) b same = let inner : a ≡ b = cc in ap (λ (x : Build). Some x) inner
+
+err_none : (o : Option Build) → or_misplaced o ≡ Err tt → o ≡ None
+err_none None same = refl
+err_none (Some a) same = cc
+
+built-at : (o : Option Stage) (word : Token) (b : Build) → build_at o ≡ Some b → build_at (taken_from o word) ≡ built b word
+built-at None word b same = cc
+built-at (Some stage) word b same = sym (built-law stage word) ∙ ap (λ (x : Build). built x word) (some_same (build_of stage) b same)
+
+pub built-push : (words : List Token) (word : Token) (b : Build) → build_at (stage_after words) ≡ Some b → build_at (stage_after (words ++ word ∷ [])) ≡ built b word
+built-push words word b same = ap (λ (o : Option Stage). build_at o) (stage_after-push words word) ∙ built-at (stage_after words) word b same
+
+told-at : (words : List Token) (word : Token) (o : Option Stage) (b : Build) → build_at o ≡ Some b → or_misplaced (with_word words word o) ≡ Ok (words ++ word ∷ [])
+told-at words word None b same = cc
+told-at words word (Some stage) b same = refl
+
+refused-at : (words : List Token) (word : Token) (o : Option Stage) → build_at o ≡ None → or_misplaced (with_word words word o) ≡ Err tt
+refused-at words word None same = refl
+refused-at words word (Some stage) same = cc
+
+-- a word that is built on is told
+pub push_laid : (words : List Token) (word : Token) (b new : Build) → build_at (stage_after words) ≡ Some b → or_misplaced (built b word) ≡ Ok new → build_at (stage_after (words ++ word ∷ [])) ≡ Some new
+push_laid words word b new same done = built-push words word b same ∙ ok_some (built b word) new done
+
+pub push_told : (words : List Token) (word : Token) (b new : Build) → build_at (stage_after words) ≡ Some b → or_misplaced (built b word) ≡ Ok new → told words word ≡ Ok (words ++ word ∷ [])
+unfolding told
+push_told words word b new same done = told-at words word (stage_after (words ++ word ∷ [])) new (push_laid words word b new same done)
+
+-- and one that isn't is refused
+pub push_refused : (words : List Token) (word : Token) (b : Build) (e : ConditionError) → build_at (stage_after words) ≡ Some b → IfSome (fault_of e) (λ fault. or_misplaced (built b word) ≡ Err fault) → IfSome (fault_of e) (λ fault. told words word ≡ Err fault)
+unfolding told
+push_refused words word b NoMemory same refused = tt
+push_refused words word b Misplaced same refused = refused-at words word (stage_after (words ++ word ∷ [])) (built-push words word b same ∙ err_none (built b word) refused)
+
+-- ---- limits
+
+abbrev Few : ℕ → List Group → Type 0
+Few n [] = Unit {0}
+Few n (g ∷ around) = (g.negations ≤ n) × Few n around
+
+abbrev FewAt : ℕ → Stage → Type 0
+FewAt n (awaits around here) = (here.negations ≤ n) × Few n around
+FewAt n (has around here f) = (here.negations ≤ n) × Few n around
+
+abbrev FewAfter : ℕ → Option Stage → Type 0
+FewAfter n None = Unit {0}
+FewAfter n (Some stage) = FewAt n stage
+
+few-more : (n : ℕ) (around : List Group) → Few n around → Few (n + 1) around
+few-more n [] few = tt
+few-more n (g ∷ around) few = (omega (arith, few.0), few-more n around few.1)
+
+few-enclosed : (n : ℕ) (around : List Group) (f : Formula) → Few n around → FewAfter (n + 1) (enclosed around f)
+few-enclosed n [] f few = tt
+few-enclosed n (g ∷ around) f few = (omega arith, few-more n around few.1)
+
+few-taken : (n : ℕ) (stage : Stage) (word : Token) → FewAt n stage → FewAfter (n + 1) (taken stage word)
+few-taken n (awaits around here) (token.Is place value) few = (omega arith, few-more n around few.1)
+few-taken n (awaits around here) token.Not few = (omega (arith, few.0), few-more n around few.1)
+few-taken n (awaits around here) token.And few = tt
+few-taken n (awaits around here) token.Or few = tt
+few-taken n (awaits around here) token.Open few = (omega arith, (omega (arith, few.0), few-more n around few.1))
+few-taken n (awaits around here) token.Close few = tt
+few-taken n (has around here f) (token.Is place value) few = tt
+few-taken n (has around here f) token.Not few = tt
+few-taken n (has around here f) token.And few = (omega (arith, few.0), few-more n around few.1)
+few-taken n (has around here f) token.Or few = (omega arith, few-more n around few.1)
+few-taken n (has around here f) token.Open few = tt
+few-taken n (has around here f) token.Close few = few-enclosed n around (disjunction_of here f) few.1
+
+few-taken_from : (n : ℕ) (stage : Option Stage) (word : Token) → FewAfter n stage → FewAfter (n + 1) (taken_from stage word)
+few-taken_from n None word few = tt
+few-taken_from n (Some stage) word few = few-taken n stage word few
+
+few-all_taken : (n : ℕ) (stage : Option Stage) (words : List Token) → FewAfter n stage → FewAfter (n + length words) (all_taken stage words)
+few-all_taken n stage [] few = let same : n ≡ n + 0 = omega arith in subst (λ (m : ℕ). FewAfter m stage) same few
+few-all_taken n stage (w ∷ words) few =
+    let same : n + 1 + length words ≡ n + suc (length words) = omega arith in
+    subst (λ (m : ℕ). FewAfter m (all_taken (taken_from stage w) words)) same (few-all_taken (n + 1) (taken_from stage w) words (few-taken_from n stage w few))
+
+few-at : (n : ℕ) (o : Option Stage) (b : Build) → build_at o ≡ Some b → FewAfter n o → b.here.negations ≤ n
+few-at n None b same few = absurd (cc)
+few-at n (Some (awaits around here)) b same few = subst (λ (x : Build). x.here.negations ≤ n) (some_same (build_of (awaits around here)) b same) few.0
+few-at n (Some (has around here f)) b same few = subst (λ (x : Build). x.here.negations ≤ n) (some_same (build_of (has around here f)) b same) few.0
+
+pub few_negations : (words : List Token) (b : Build) → build_at (stage_after words) ≡ Some b → b.here.negations ≤ length words
+unfolding stage_after
+few_negations words b same =
+    let few : FewAfter (0 + length words) (all_taken (Some (awaits [] empty_group)) words) = few-all_taken 0 (Some (awaits [] empty_group)) words (omega arith, tt) in
+    omega (arith, few-at (0 + length words) (stage_after words) b same few)
+
+-- ---- places of the operators
+
+or-within : (front : List Step) (o : Option Formula) (n : ℕ) → length (front ++ or_steps o) ≤ n → IfSome (end_of (length front) o) (λ at. at < n)
+or-within front None n within = tt
+or-within front (Some f) n within = omega (arith, within, length-append front (steps_of f ++ step.Or 0 ∷ []), length-append (steps_of f) (step.Or 0 ∷ []))
+
+and-within : (front : List Step) (o : Option Formula) (n : ℕ) → length (front ++ and_steps o) ≤ n → IfSome (end_of (length front) o) (λ at. at < n)
+and-within front None n within = tt
+and-within front (Some f) n within = omega (arith, within, length-append front (steps_of f ++ step.And 0 ∷ []), length-append (steps_of f) (step.And 0 ∷ []))
+
+within-group : (front : List Step) (g : Group) (n : ℕ) → length ((front ++ or_steps g.disjuncts) ++ and_steps g.conjuncts) ≤ n → IsWithin n (mark_of front g)
+within-group front g n within =
+    record {
+      or_at = or-within front g.disjuncts n (omega (arith, within, length-append (front ++ or_steps g.disjuncts) (and_steps g.conjuncts)));
+      and_at = and-within (front ++ or_steps g.disjuncts) g.conjuncts n within;
+    }
+
+within-stage : (stage : Stage) → IsWithin (length (build_of stage).steps) (build_of stage).here
+within-stage (awaits around here) = within-group (steps_around around) here (length (steps_around (here ∷ around))) (omega arith)
+within-stage (has around here f) = within-group (steps_around around) here (length (steps_around (here ∷ around) ++ steps_of f)) (omega (arith, length-append (steps_around (here ∷ around)) (steps_of f)))
+
+within-at : (o : Option Stage) (b : Build) → build_at o ≡ Some b → IsWithin (length b.steps) b.here
+within-at None b same = absurd (cc)
+within-at (Some stage) b same = subst (λ (x : Build). IsWithin (length x.steps) x.here) (some_same (build_of stage) b same) (within-stage stage)
+
+pub is_within : (words : List Token) (b : Build) → build_at (stage_after words) ≡ Some b → IsWithin (length b.steps) b.here
+is_within words b same = within-at (stage_after words) b same
+
+-- ---- the end
+
+last_not_empty : (marks : List Mark) (mark : Mark) → is_empty (marks ++ mark ∷ []) ≡ false
+last_not_empty [] mark = refl
+last_not_empty (m ∷ marks) mark = refl
+
+-- a condition stands complete: these are its formula and its steps
+pub record Ends (o : Option Stage) (b : Build) : Type 0 where
+  pub formula : Formula
+  pub found : or_misplaced (formula_at o) ≡ Ok formula
+  pub steps : all_closed b.here b.steps ≡ steps_of formula
+
+ends-at : (stage : Stage) → is_finished (build_of stage) ≡ true → Ends (Some stage) (build_of stage)
+ends-at (awaits around here) complete = absurd (cc)
+ends-at (has [] here f) complete = record { formula = disjunction_of here f; found = refl; steps = all_closed-law [] here f }
+ends-at (has (g ∷ around) here f) complete = let open_still : is_empty (marks_around (g ∷ around)) ≡ false = last_not_empty (marks_around around) (mark_of (steps_around around) g) in absurd (cc)
+
+open-at : (stage : Stage) → is_finished (build_of stage) ≡ false → or_misplaced (formula_at (Some stage)) ≡ Err tt
+open-at (awaits around here) incomplete = refl
+open-at (has [] here f) incomplete = absurd (cc)
+open-at (has (g ∷ around) here f) incomplete = refl
+
+pub finished_complete : (words : List Token) (b : Build) → build_at (stage_after words) ≡ Some b → is_finished b ≡ true → Ends (stage_after words) b
+finished_complete words b same complete = go (stage_after words) same
+  where
+    go : (o : Option Stage) → build_at o ≡ Some b → Ends o b
+    go None same = absurd (cc)
+    go (Some stage) same = let here : build_of stage ≡ b = some_same (build_of stage) b same in subst (λ (x : Build). Ends (Some stage) x) here (ends-at stage (subst (λ (x : Build). is_finished x ≡ true) (sym here) complete))
+
+pub finished_open : (words : List Token) (b : Build) → build_at (stage_after words) ≡ Some b → is_finished b ≡ false → finished words ≡ Err tt
+unfolding finished
+finished_open words b same incomplete = go (stage_after words) same
+  where
+    go : (o : Option Stage) → build_at o ≡ Some b → or_misplaced (formula_at o) ≡ Err tt
+    go None same = refl
+    go (Some stage) same = open-at stage (subst (λ (x : Build). is_finished x ≡ false) (sym (some_same (build_of stage) b same)) incomplete)
+
+-- the steps of a formula are a condition's
+pub steps_again : (steps : List Step) (f : Formula) → steps ≡ steps_of f → steps_of (formula_of steps) ≡ steps
+steps_again steps f same = subst (λ (s : List Step). steps_of (formula_of s) ≡ s) (sym same) (ap steps_of (formula_of-steps_of f))
+
+pub formula_again : (steps : List Step) (f : Formula) → steps ≡ steps_of f → formula_of steps ≡ f
+formula_again steps f same = ap formula_of same ∙ formula_of-steps_of f
+
+pub condition_steps : (words : List Token) (b : Build) (steps : List Step) → build_at (stage_after words) ≡ Some b → is_finished b ≡ true → steps ≡ all_closed b.here b.steps → steps_of (formula_of steps) ≡ steps
+condition_steps words b steps same complete closed =
+    let ends : Ends (stage_after words) b = finished_complete words b same complete in
+    steps_again steps ends.formula (closed ∙ ends.steps)
+
+pub finished_steps : (words : List Token) (b : Build) (steps : List Step) (f : Formula) → build_at (stage_after words) ≡ Some b → is_finished b ≡ true → steps ≡ all_closed b.here b.steps → f ≡ formula_of steps → finished words ≡ Ok f
+unfolding finished
+finished_steps words b steps f same complete closed answer =
+    let ends : Ends (stage_after words) b = finished_complete words b same complete in
+    ends.found ∙ ap (λ (g : Formula). or_misplaced (Some g)) (sym (formula_again steps ends.formula (closed ∙ ends.steps)) ∙ sym answer)

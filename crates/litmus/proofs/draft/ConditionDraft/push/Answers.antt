@@ -1,0 +1,36 @@
+use Rattle.std.proofs.Common.{◌≡◌, ◌≤◌, List, [], ◌∷◌, ◌++◌, Err, IfSome, length, arith}
+use Rattle.litmus.proofs.StageLaws.{few_negations, is_within, push_laid, push_told, push_refused}
+use Rattle.litmus.specs.declared.words.Token.{Token}
+use Rattle.litmus.specs.declared.draft.ConditionError.{ConditionError}
+use Rattle.litmus.specs.declared.draft.ConditionError.TheVariants.{NoMemory, Misplaced}
+use Rattle.litmus.specs.Faults.{fault_of}
+use Rattle.litmus.specs.Drafting.{told}
+use Rattle.litmus.specs.Grammar.{Begins}
+use Rattle.litmus.proofs.BeginLaws.{begins_built, refused_begins}
+use Rattle.litmus.proofs.draft.ConditionDraft.push.Goals as goal
+
+pub take-requires : goal.take-requires
+take-requires c =
+    record {
+      room = let few : c.self.inside.builder.here.negations ≤ length c.self.inside.tokens.items = few_negations c.self.inside.tokens.items c.self.inside.builder c.self.invariant in omega (arith, few, c.self.inside.tokens.small, c.self.inside.tokens.ok.0, c.self.inside.tokens.ok.1);
+      within = is_within c.self.inside.tokens.items c.self.inside.builder c.self.invariant;
+    }
+
+pub invariant_of-self-in-Ok : goal.invariant_of-self-in-Ok
+invariant_of-self-in-Ok c = rw (c.push_reserved.ensures.items, c.reserve.ensures.items) (push_laid c.self.inside.tokens.items c.args.token c.self.inside.builder c.take.new.self c.self.invariant c.in-Ok.ensures.exact)
+
+pub returns-in-Ok-clause-exact : goal.returns-in-Ok-clause-exact
+returns-in-Ok-clause-exact c = rw (c.push_reserved.ensures.items, c.reserve.ensures.items, ← c.self.view_is) (push_told c.self.inside.tokens.items c.args.token c.self.inside.builder c.take.new.self c.self.invariant c.in-Ok.ensures.exact)
+
+pub returns-in-Err-clause-exact : goal.returns-in-Err-clause-exact
+returns-in-Err-clause-exact c = rw (← c.self.view_is) (push_refused c.self.inside.tokens.items c.args.token c.self.inside.builder c.in-Err.error c.self.invariant c.in-Err.ensures.exact)
+
+pub returns-in-Ok-clause-begins : goal.returns-in-Ok-clause-begins
+returns-in-Ok-clause-begins c = begins_built c.push_reserved.new.self.items c.take.new.self (invariant_of-self-in-Ok c)
+
+misplaced-refused : (words : List Token) (word : Token) (e : ConditionError) → IfSome (fault_of e) (λ fault. told words word ≡ Err fault) → e ≡ Misplaced → ¬ Begins (words ++ word ∷ [])
+misplaced-refused words word NoMemory told_so same = absurd (cc)
+misplaced-refused words word Misplaced told_so same = refused_begins words word told_so
+
+pub returns-in-Err-clause-misplaced : goal.returns-in-Err-clause-misplaced
+returns-in-Err-clause-misplaced c = λ same. let is : c.in-Err.error ≡ Misplaced = cc in misplaced-refused c.args.self.now c.args.token c.in-Err.error (returns-in-Err-clause-exact c) is

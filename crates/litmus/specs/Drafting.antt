@@ -1,0 +1,99 @@
+-- A condition read word by word from the left: what is open so far, and which words may come next.
+use Rattle.std.specs.Prelude.{ℕ, suc, zero, ◌+◌, List, [], ◌∷◌, ◌++◌, Option, Some, None, Result, Ok, Err}
+use Rattle.litmus.specs.declared.words.Token.{Token}
+use Rattle.litmus.specs.declared.words.Token.TheVariants as token
+use Rattle.litmus.specs.Formulas.{Formula, is, negation, both, either}
+
+-- what stands open between two parentheses (or in the whole condition) in front of the operand that
+-- comes next: the disjuncts that are complete, the conjuncts of the last one, and the negations
+pub record Group : Type 0 where
+  pub disjuncts : Option Formula
+  pub conjuncts : Option Formula
+  pub negations : ℕ
+
+-- An operand is awaited here, or stands complete; the groups around are innermost first.
+pub data Stage : Type 0 where
+  awaits : (around : List Group) (here : Group) → Stage
+  has : (around : List Group) (here : Group) (operand : Formula) → Stage
+
+abbrev pub empty_group : Group
+empty_group = record { disjuncts = None; conjuncts = None; negations = 0 }
+
+abbrev pub negated_by : ℕ → Formula → Formula
+negated_by zero f = f
+negated_by (suc n) f = negation (negated_by n f)
+
+abbrev pub conjoined : Option Formula → Formula → Formula
+conjoined None f = f
+conjoined (Some left) f = both left f
+
+abbrev pub disjoined : Option Formula → Formula → Formula
+disjoined None f = f
+disjoined (Some left) f = either left f
+
+-- the conjunction that ends with this operand, and the disjunction that does
+abbrev pub conjunction_of : Group → Formula → Formula
+conjunction_of here f = conjoined here.conjuncts f
+
+abbrev pub disjunction_of : Group → Formula → Formula
+disjunction_of here f = disjoined here.disjuncts (conjunction_of here f)
+
+-- an operand is complete with the negations in front of it
+abbrev pub completed : List Group → Group → Formula → Stage
+completed around here f = has around (record here { negations = 0 }) (negated_by here.negations f)
+
+-- a group is closed: its disjunction is an operand of the group around
+abbrev pub enclosed : List Group → Formula → Option Stage
+enclosed [] f = None
+enclosed (here ∷ around) f = Some (completed around here f)
+
+-- the stage after one more word; None where the word may not stand there
+abbrev pub taken : Stage → Token → Option Stage
+taken (awaits around here) (token.Is place value) = Some (completed around here (is place value))
+taken (awaits around here) token.Not = Some (awaits around (record here { negations = here.negations + 1 }))
+taken (awaits around here) token.And = None
+taken (awaits around here) token.Or = None
+taken (awaits around here) token.Open = Some (awaits (here ∷ around) empty_group)
+taken (awaits around here) token.Close = None
+taken (has around here f) (token.Is place value) = None
+taken (has around here f) token.Not = None
+taken (has around here f) token.And = Some (awaits around (record here { conjuncts = Some (conjunction_of here f) }))
+taken (has around here f) token.Or = Some (awaits around (record { disjuncts = Some (disjunction_of here f); conjuncts = None; negations = 0 }))
+taken (has around here f) token.Open = None
+taken (has around here f) token.Close = enclosed around (disjunction_of here f)
+
+abbrev pub taken_from : Option Stage → Token → Option Stage
+taken_from None word = None
+taken_from (Some stage) word = taken stage word
+
+abbrev pub all_taken : Option Stage → List Token → Option Stage
+all_taken stage [] = stage
+all_taken stage (word ∷ words) = all_taken (taken_from stage word) words
+
+-- the stage after these words from the beginning
+unfoldable pub stage_after : List Token → Option Stage
+stage_after words = all_taken (Some (awaits [] empty_group)) words
+
+-- the formula of a condition that ends at this stage
+abbrev pub formula_at : Option Stage → Option Formula
+formula_at None = None
+formula_at (Some (awaits around here)) = None
+formula_at (Some (has [] here f)) = Some (disjunction_of here f)
+formula_at (Some (has (group ∷ around) here f)) = None
+
+-- None is the one fault that there is
+abbrev pub or_misplaced : {A : Type 0} → Option A → Result A (Unit {0})
+or_misplaced None = Err tt
+or_misplaced (Some a) = Ok a
+
+abbrev pub with_word : List Token → Token → Option Stage → Option (List Token)
+with_word words word None = None
+with_word words word (Some stage) = Some (words ++ word ∷ [])
+
+-- the words with one more, where it may stand there
+unfoldable pub told : List Token → Token → Result (List Token) (Unit {0})
+told words word = or_misplaced (with_word words word (stage_after (words ++ word ∷ [])))
+
+-- what all the words are, where they are a condition
+unfoldable pub finished : List Token → Result Formula (Unit {0})
+finished words = or_misplaced (formula_at (stage_after words))

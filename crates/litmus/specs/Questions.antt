@@ -1,0 +1,44 @@
+-- A litmus test: where its machine begins, and what it asks at the end.
+use Rattle.std.specs.Prelude.{ℕ, ◌≡◌, ◌+◌, ◌*◌, ◌/◌, ◌%◌, ◌<◌, ◌≤◌, ◌==◌, ◌&&◌, Bool, true, false, not, List, [], ◌∷◌, length, filter, All}
+use Rattle.step_machine.specs.History.{HartStart, Start, FitsIn}
+use Rattle.litmus.specs.declared.words.Place.{Place}
+use Rattle.litmus.specs.declared.words.Place.TheVariants as place
+use Rattle.litmus.specs.declared.verdict.Quantifier.{Quantifier}
+use Rattle.litmus.specs.Formulas.{Formula, places}
+
+-- the names are those of the locations, whose words stand at 0, 4, 8 and on
+pub record Question : Type 0 where
+  pub opening : Start
+  pub names : List (List ℕ)
+  pub quantifier : Quantifier
+  pub condition : Formula
+
+-- a register of a hart that is there, or the word of a location that is
+abbrev pub IsThere : (harts locations : ℕ) → Place → Type 0
+IsThere harts locations (place.Register h n) = (h < harts) × (n < 32)
+IsThere harts locations (place.Word a) = (a % 4 ≡ 0) × (a < 4 * locations)
+
+-- the limits of a test: those of its opening, at most 1,024 locations, and a condition that asks for
+-- places which are there
+pub record IsTest (q : Question) : Type 0 where
+  pub opening : FitsIn 1024 q.opening
+  pub names : length q.names ≤ 1024
+  pub places : All (IsThere (length q.opening.harts) (length q.names)) (places q.condition)
+
+abbrev pub is_same : Place → Place → Bool
+is_same (place.Register h n) (place.Register i m) = (h == i) && (n == m)
+is_same (place.Register h n) (place.Word b) = false
+is_same (place.Word a) (place.Register i m) = false
+is_same (place.Word a) (place.Word b) = a == b
+
+-- each place of the list once, in order of first appearance
+abbrev pub firsts : List Place → List Place
+firsts [] = []
+firsts (p ∷ others) = p ∷ filter (λ q. not (is_same p q)) (firsts others)
+
+-- what a condition's left sides are
+abbrev pub left_sides : Formula → List Place
+left_sides f = firsts (places f)
+
+abbrev pub question_of : List HartStart → List ℕ → List (List ℕ) → Quantifier → Formula → Question
+question_of harts words names quantifier condition = record { opening = record { harts = harts; words = words }; names = names; quantifier = quantifier; condition = condition }

@@ -1,0 +1,33 @@
+-- How the steps of a condition are gone through: with one truth value, and how many steps to skip.
+use Rattle.std.specs.Prelude.{ℕ, ◌==◌, ◌<◌, Bool, true, false, not, zero, suc, List, [], ◌∷◌, if◌then◌else◌}
+use Rattle.litmus.specs.declared.words.Place.{Place}
+use Rattle.litmus.specs.declared.words.Step.{Step}
+use Rattle.litmus.specs.declared.words.Step.TheVariants as step
+use Rattle.litmus.specs.Questions.{IsThere}
+
+-- the truth value after a step, and how many steps it skips
+abbrev pub done : (Place → ℕ) → Step → Bool → Bool × ℕ
+done value_of (step.Is place value) so_far = (value_of place == value, 0)
+done value_of step.Not so_far = (not so_far, 0)
+done value_of (step.And skip) so_far = (so_far, if so_far then 0 else skip)
+done value_of (step.Or skip) so_far = (so_far, if so_far then skip else 0)
+
+abbrev pub all_done : (Place → ℕ) → Bool → ℕ → List Step → Bool
+all_done value_of so_far skip [] = so_far
+all_done value_of so_far zero (s ∷ rest) = all_done value_of (done value_of s so_far).0 (done value_of s so_far).1 rest
+all_done value_of so_far (suc skip) (s ∷ rest) = all_done value_of so_far skip rest
+
+-- the place that a step asks for, if it asks for one, is there
+abbrev pub AsksThere : (harts locations : ℕ) → Step → Type 0
+AsksThere harts locations (step.Is place value) = IsThere harts locations place
+AsksThere harts locations step.Not = Unit {0}
+AsksThere harts locations (step.And skip) = Unit {0}
+AsksThere harts locations (step.Or skip) = Unit {0}
+
+-- the places that some steps ask for, from the left
+abbrev pub asked_by : List Step → List Place
+asked_by [] = []
+asked_by (step.Is place value ∷ rest) = place ∷ asked_by rest
+asked_by (step.Not ∷ rest) = asked_by rest
+asked_by (step.And skip ∷ rest) = asked_by rest
+asked_by (step.Or skip ∷ rest) = asked_by rest

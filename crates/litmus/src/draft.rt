@@ -1,0 +1,106 @@
+//! A condition, told word by word.
+
+ghost use Rattle.std.specs.Prelude.{◌≡◌, [], ◌∷◌, ◌++◌, Ok, Err, IfOk, OnOk, OnErr};
+ghost use Rattle.texts.specs.Results.{Gives};
+ghost use Rattle.litmus.specs.declared.draft.ConditionError.TheVariants.{NoMemory, Misplaced};
+ghost use Rattle.litmus.specs.Drafting.{told, finished};
+ghost use Rattle.litmus.specs.Faults.{fault_of};
+
+use crate::builder::Builder;
+use crate::condition::Condition;
+use crate::words::Token;
+use std::alloc::{AllocError, AllocFailed, Global};
+use std::marker::Model;
+use thiserror::Error;
+
+/// Why there is no condition.
+#[derive(Clone, Copy, Debug, PartialEq, Eq, Error)]
+pub enum ConditionError {
+    #[error("no memory")]
+    NoMemory,
+    /// The words are no condition: one may not stand where it does, or one is missing at the end.
+    #[error("bad condition")]
+    Misplaced,
+}
+
+impl From<AllocError> for ConditionError {
+    ghost from_gives = { λ _ e. e ≡ NoMemory };
+
+    fn from(_error: AllocError) -> ConditionError {
+        ConditionError::NoMemory
+    }
+}
+
+impl<T: Drop> From<AllocFailed<T>> for ConditionError {
+    ghost from_gives = { λ _ e. e ≡ NoMemory };
+
+    fn from(_error: AllocFailed<T>) -> ConditionError {
+        ConditionError::NoMemory
+    }
+}
+
+/// The words of a condition so far. A contract sees the list of them.
+#[derive(Drop)]
+pub struct ConditionDraft {
+    tokens: Vec<Token>,
+    builder: Builder,
+}
+
+impl Model for ConditionDraft {
+    ghost use Rattle.std.specs.Prelude.{◌≡◌, List, Some};
+    ghost use Rattle.litmus.specs.declared.words.Token.{Token};
+    ghost use Rattle.litmus.specs.Drafting.{stage_after};
+    ghost use Rattle.litmus.specs.Building.{build_at};
+
+    ghost Value = { List Token };
+
+    ghost view = { λ draft. draft.tokens.items };
+
+    ghost invariant = { λ draft. build_at (stage_after draft.tokens.items) ≡ Some draft.builder };
+}
+
+impl ConditionDraft {
+    ghost use Rattle.litmus.specs.Grammar.{IsConditionOf, Begins};
+    ghost use Rattle.litmus.specs.Formulas.{Formula};
+
+    /// A draft of no word, which takes its memory from the allocator.
+    #[tactic(auto, unfolding(crate::specs::Drafting::stage_after))]
+    pub fn new(alloc: Global) -> ConditionDraft
+        ensures { result ≡ [] }
+    {
+        ConditionDraft {
+            tokens: Vec::new(alloc),
+            builder: Builder::new(alloc),
+        }
+    }
+
+    /// Takes one more word. `Misplaced` comes exactly where no condition begins with the words so far
+    /// and this one. An `Err` changes nothing.
+    pub fn push(&mut self, token: Token) -> Result<(), ConditionError>
+        ensures exact { Gives fault_of (λ _. self.new) result (told self.old token) }
+        ensures begins { OnOk result (Begins self.new) }
+        ensures misplaced { result ≡ Err Misplaced → ¬ Begins (self.old ++ token ∷ []) }
+        ensures kept { OnErr result (self.new ≡ self.old) }
+    {
+        self.tokens.reserve(1)?;
+        match self.builder.take(token) {
+            Ok(()) => {
+                self.tokens.push_reserved(token);
+                Ok(())
+            }
+            Err(error) => Err(error),
+        }
+    }
+
+    /// The condition of the words. It is `Misplaced` exactly where they are none. It takes no memory.
+    pub fn finish(self) -> Result<Condition, ConditionError>
+        ensures exact { Gives fault_of (λ (f : Formula). f) result (finished self) }
+        ensures found { IfOk result (IsConditionOf self) }
+        ensures only { (f : Formula) → IsConditionOf self f → result ≡ Ok f }
+    {
+        if !self.builder.is_complete() {
+            return Err(ConditionError::Misplaced);
+        }
+        Ok(Condition::of_steps(self.builder.into_steps()))
+    }
+}

@@ -1,0 +1,113 @@
+//! What a machine's last registers and words say of a condition.
+
+ghost use Rattle.std.specs.Prelude.{◌≡◌, ◌↔◌, ◌<◌, IsTrue, IfOk, All, true, length, map};
+ghost use Rattle.litmus.specs.Formulas.{truth, places};
+ghost use Rattle.litmus.specs.Questions.{IsThere};
+ghost use Rattle.litmus.specs.Running.{done, all_done, AsksThere};
+ghost use Rattle.litmus.specs.Verdicts.{HasFinished, IsFinished, final_value, is_asked_for as asked_for};
+
+use crate::condition::Condition;
+use crate::verdict::Quantifier;
+use crate::words::{Place, Step};
+use hart::status::Status;
+use std::alloc::{AllocError, Global};
+use step_machine::Machine;
+
+/// Whether the outcome is one that the test asks for, where the condition is so in it.
+pub(crate) fn is_asked_for(quantifier: Quantifier, is_true: bool) -> bool
+    ensures { result ≡ asked_for quantifier is_true }
+{
+    match quantifier {
+        Quantifier::Exists | Quantifier::ForAll => is_true,
+        Quantifier::NotExists => !is_true,
+    }
+}
+
+fn has_finished<const B: usize, const M: usize>(machine: &Machine<B, M>, hart: u32) -> bool
+    requires { hart < length machine.now.history.opening.harts }
+    ensures { IsTrue result ↔ HasFinished M machine.now.history hart }
+{
+    machine.status(hart) == Status::Ended && machine.pending(hart).is_empty()
+}
+
+/// Whether each hart has ended, and all its stores have landed.
+pub(crate) fn is_finished<const B: usize, const M: usize>(machine: &Machine<B, M>) -> bool
+    ensures { IsTrue result ↔ IsFinished M machine.now.history }
+{
+    for hart in 0..machine.harts() {
+        if !has_finished(machine, hart) {
+            return false;
+        }
+    }
+    true
+}
+
+fn value_at<const B: usize, const M: usize>(place: Place, machine: &Machine<B, M>) -> u32
+    requires { IsThere (length machine.now.history.opening.harts) M place }
+    ensures { result ≡ final_value M machine.now.history place }
+{
+    match place {
+        Place::Register { hart, number } => machine.register(hart, number),
+        Place::Word { address } => machine.word(address),
+    }
+}
+
+/// The last values of some places, in their order.
+pub(crate) fn values_of<const B: usize, const M: usize>(
+    alloc: Global,
+    places: &[Place],
+    machine: &Machine<B, M>,
+) -> Result<Vec<u32>, AllocError>
+    requires { All (IsThere (length machine.now.history.opening.harts) M) places.now }
+    ensures { IfOk result (λ values. values.items ≡ map (final_value M machine.now.history) places.now) }
+{
+    let mut values = Vec::new(alloc);
+    for place in places {
+        values.push(value_at(*place, machine))?;
+    }
+    Ok(values)
+}
+
+/// The truth value after a step, and how many steps to skip.
+fn after_step<const B: usize, const M: usize>(
+    step: Step,
+    so_far: bool,
+    machine: &Machine<B, M>,
+) -> (bool, usize)
+    requires { AsksThere (length machine.now.history.opening.harts) M step }
+    ensures { result ≡ done (final_value M machine.now.history) step so_far }
+{
+    match step {
+        Step::Is { place, value } => (value_at(place, machine) == value, 0),
+        Step::Not => (!so_far, 0),
+        Step::And { skip } => (so_far, if so_far { 0 } else { skip }),
+        Step::Or { skip } => (so_far, if so_far { skip } else { 0 }),
+    }
+}
+
+fn run_steps<const B: usize, const M: usize>(steps: &[Step], machine: &Machine<B, M>) -> bool
+    requires { All (AsksThere (length machine.now.history.opening.harts) M) steps.now }
+    ensures { result ≡ all_done (final_value M machine.now.history) true 0 steps.now }
+{
+    let mut so_far = true;
+    let mut skip = 0;
+    for step in steps {
+        if skip > 0 {
+            skip -= 1;
+        } else {
+            (so_far, skip) = after_step(*step, so_far, machine);
+        }
+    }
+    so_far
+}
+
+/// Whether the condition is true of the last registers and words.
+pub(crate) fn is_true<const B: usize, const M: usize>(
+    condition: &Condition,
+    machine: &Machine<B, M>,
+) -> bool
+    requires { All (IsThere (length machine.now.history.opening.harts) M) (places condition.now) }
+    ensures { result ≡ truth (final_value M machine.now.history) condition.now }
+{
+    run_steps(condition.steps(), machine)
+}

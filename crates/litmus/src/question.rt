@@ -1,0 +1,129 @@
+//! A litmus test: an opening, and a question about where it leads.
+
+ghost use Rattle.std.specs.Prelude.{◌≡◌, ◌<◌, ◌≤◌, ◌*◌, ◌/◌, ◌↔◌, [], All, IfOk, IsTrue, length, map, slice_index_or};
+ghost use Rattle.std.specs.String.{string_bytes};
+
+use crate::condition::Condition;
+use crate::judging::{is_asked_for, is_finished, is_true, values_of};
+use crate::lefts::first_places;
+use crate::verdict::{Quantifier, Verdict};
+use crate::words::Place;
+use std::alloc::{AllocError, Global};
+use std::marker::Model;
+use step_machine::{HartOpening, Machine, Opening};
+
+/// A litmus test. The word of location i stands at address 4 i.
+#[derive(Drop)]
+pub struct Test {
+    opening: Opening,
+    names: Vec<String>,
+    quantifier: Quantifier,
+    condition: Condition,
+    lefts: Vec<Place>,
+}
+
+impl Model for Test {
+    ghost use Rattle.std.specs.Prelude.{◌≡◌, map};
+    ghost use Rattle.std.specs.String.{string_bytes};
+    ghost use Rattle.litmus.specs.Questions.{Question, IsTest, left_sides};
+    ghost use Rattle.std.specs.Coded.{codes};
+    ghost use Rattle.litmus.specs.Codes.{formula_code};
+
+    ghost Value = { Question };
+
+    ghost coded = { Prim.hlevel (codes, formula_code) };
+
+    ghost view = { λ t. record { opening = t.opening; names = map string_bytes t.names.items; quantifier = t.quantifier; condition = t.condition } };
+
+    ghost invariant = { λ t. IsTest (record { opening = t.opening; names = map string_bytes t.names.items; quantifier = t.quantifier; condition = t.condition }) × (t.lefts.items ≡ left_sides t.condition) };
+}
+
+impl Test {
+    ghost use Rattle.hart.specs.State.{HartState};
+    ghost use Rattle.step_machine.specs.History.{Start};
+    ghost use Rattle.litmus.specs.Questions.{IsTest, IsThere, question_of, left_sides, Question};
+    ghost use Rattle.litmus.specs.Verdicts.{IsVerdict, final_value};
+    ghost use Rattle.litmus.specs.declared.verdict.Quantifier.TheVariants.{Exists};
+
+    /// A test. The words are the memory's first ones, the names those of the locations.
+    pub fn new(
+        alloc: Global,
+        harts: Vec<HartOpening>,
+        words: Vec<u32>,
+        names: Vec<String>,
+        quantifier: Quantifier,
+        condition: Condition,
+    ) -> Result<Test, AllocError>
+        requires { IsTest (question_of harts.items words.items (map string_bytes names.items) quantifier condition) }
+        ensures { IfOk result (λ test. test ≡ question_of harts.items words.items (map string_bytes names.items) quantifier condition) }
+    {
+        let lefts = first_places(alloc, condition.steps())?;
+        Ok(Test {
+            opening: Opening { harts, words },
+            names,
+            quantifier,
+            condition,
+            lefts,
+        })
+    }
+
+    /// A copy of where the test's machine begins. Each test is within the limits of its type.
+    pub fn opening(&self, alloc: Global) -> Result<Opening, AllocError>
+        ensures copy { IfOk result (λ opening. opening ≡ self.now.opening) }
+        ensures fits { IsTest self.now }
+    {
+        self.opening.copy(alloc)
+    }
+
+    /// Whether the test asks by `exists`.
+    pub fn by_exists(&self) -> bool
+        ensures { IsTrue result ↔ (self.now.quantifier ≡ Exists) }
+    {
+        matches!(self.quantifier, Quantifier::Exists)
+    }
+
+    /// The condition's left sides, each once, in order of first appearance.
+    pub fn lefts(&self) -> &[Place]
+        ensures value { result.now ≡ left_sides self.now.condition }
+        ensures there { All (IsThere (length self.now.opening.harts) (length self.now.names)) result.now }
+    {
+        &self.lefts
+    }
+
+    /// The name of the location at an address.
+    pub fn name(&self, address: u32) -> &str
+        requires { address < 4 * length self.now.names }
+        ensures { result.now ≡ slice_index_or self.now.names (address / 4) [] }
+    {
+        self.names[address as usize / 4].as_str()
+    }
+
+    /// The last values of the left sides, in their order.
+    pub fn values<const B: usize, const M: usize>(
+        &self,
+        alloc: Global,
+        machine: &Machine<B, M>,
+    ) -> Result<Vec<u32>, AllocError>
+        requires harts { length machine.now.history.opening.harts ≡ length self.now.opening.harts }
+        requires words { length self.now.names ≤ M }
+        ensures { IfOk result (λ values. values.items ≡ map (final_value M machine.now.history) (left_sides self.now.condition)) }
+    {
+        values_of(alloc, &self.lefts, machine)
+    }
+
+    /// What the test says of a machine. It takes no memory.
+    pub fn verdict<const B: usize, const M: usize>(&self, machine: &Machine<B, M>) -> Verdict
+        requires harts { length machine.now.history.opening.harts ≡ length self.now.opening.harts }
+        requires words { length self.now.names ≤ M }
+        ensures { IsVerdict M self.now machine.now.history result }
+    {
+        if !is_finished(machine) {
+            return Verdict::Unfinished;
+        }
+        if is_asked_for(self.quantifier, is_true(&self.condition, machine)) {
+            Verdict::Holds
+        } else {
+            Verdict::Fails
+        }
+    }
+}

@@ -1,0 +1,70 @@
+-- The parts of a test, put together.
+use Rattle.std.proofs.Common.{◌≡◌, ◌∙◌, ℕ, suc, ◌≤◌, List, [], ◌∷◌, length, map, All, Result, Ok, Err, refl, sym, ap, subst, arith}
+use Rattle.std.specs.Prelude.{IfOk}
+use Rattle.std.specs.declared.alloc.AllocError.{AllocError}
+use Rattle.std.proofs.lemmas.List.{length-map}
+use Rattle.std.proofs.lemmas.List.Elements.{All-cons, All-nil}
+use Rattle.std.specs.declared.vec.Vec.{Vec}
+use Rattle.std.specs.declared.alloc.Global.{Global}
+use Rattle.rv_decode.specs.Meaning.{meaning}
+use Rattle.assembler.specs.Drafts.{AllPlain}
+use Rattle.step_machine.specs.History.{HartStart}
+use Rattle.litmus.specs.declared.verdict.Quantifier.{Quantifier}
+use Rattle.litmus.specs.Formulas.{Formula, places}
+use Rattle.litmus.specs.Questions.{Question, IsThere, IsTest, question_of}
+use Rattle.litmus_reader.specs.Locations.{Names}
+use Rattle.litmus_reader.specs.Table.{instructions_of, ArePlain, AreShort}
+use Rattle.litmus_reader.specs.Values.{starts_of}
+use Rattle.litmus_reader.specs.Reading.{HartContent, Content, hart_content, with_registers, content_of}
+use Rattle.litmus_reader.specs.Grammar.{HasPlainCode}
+
+pub starts_content : (codes : List (Vec ℕ Global)) (registers : List (List ℕ)) → map hart_content (starts_of codes registers) ≡ with_registers (instructions_of codes) registers
+starts_content [] registers = refl
+starts_content (code ∷ codes) [] = refl
+starts_content (code ∷ codes) (first ∷ registers) = ap (λ rest. (record { code = map meaning code.items; registers = first; inbox = [] }) ∷ rest) (starts_content codes registers)
+
+pub starts_count : (codes : List (Vec ℕ Global)) (registers : List (List ℕ)) → length registers ≡ length codes → length (starts_of codes registers) ≡ length codes
+starts_count [] registers same = refl
+starts_count (code ∷ codes) [] same = absurd (omega arith)
+starts_count (code ∷ codes) (first ∷ registers) same = let rest = starts_count codes registers (omega arith) in omega arith
+
+starts_short : (codes : List (Vec ℕ Global)) (registers : List (List ℕ)) → AreShort (instructions_of codes) → All (λ (h : HartStart). length h.code ≤ 4096) (starts_of codes registers)
+starts_short [] registers short = All-nil (λ (h : HartStart). length h.code ≤ 4096)
+starts_short (code ∷ codes) [] short = All-nil (λ (h : HartStart). length h.code ≤ 4096)
+starts_short (code ∷ codes) (first ∷ registers) short = All-cons (λ (h : HartStart). length h.code ≤ 4096) (record { code = code.items; registers = first; inbox = [] }) (starts_of codes registers) (simp length-map at short.0) (starts_short codes registers short.1)
+
+all_head : (P : Vec ℕ Global → Type 0) (x : Vec ℕ Global) (xs : List (Vec ℕ Global)) → All P (x ∷ xs) → P x
+all_head P x xs each = each 0 x (omega arith)
+
+all_tail : (P : Vec ℕ Global → Type 0) (x : Vec ℕ Global) (xs : List (Vec ℕ Global)) → All P (x ∷ xs) → All P xs
+all_tail P x xs each = λ k d within. each (suc k) d (omega (arith, within))
+
+pub starts_plain : (codes : List (Vec ℕ Global)) (registers : List (List ℕ)) → ArePlain codes → All HasPlainCode (starts_of codes registers)
+starts_plain [] registers plain = All-nil HasPlainCode
+starts_plain (code ∷ codes) [] plain = All-nil HasPlainCode
+starts_plain (code ∷ codes) (first ∷ registers) plain = All-cons HasPlainCode (record { code = code.items; registers = first; inbox = [] }) (starts_of codes registers) (all_head (λ (v : Vec ℕ Global). AllPlain v.items) code codes plain) (starts_plain codes registers (all_tail (λ (v : Vec ℕ Global). AllPlain v.items) code codes plain))
+
+pub is_test : (codes : List (Vec ℕ Global)) (registers : List (List ℕ)) (words : List ℕ) (names : Names) (quantifier : Quantifier) (f : Formula) → length registers ≡ length codes → 1 ≤ length codes → length codes ≤ 64 → AreShort (instructions_of codes) → length words ≤ 1024 → length names ≤ 1024 → All (IsThere (length codes) (length names)) (places f) → IsTest (question_of (starts_of codes registers) words names quantifier f)
+is_test codes registers words names quantifier f same some few short words_few names_few there =
+    let count = starts_count codes registers same in
+    record {
+      opening = record { some_hart = omega (arith, count); harts = omega (arith, count); code = starts_short codes registers short; words = words_few };
+      names = names_few;
+      places = subst (λ (n : ℕ). All (IsThere n (length names)) (places f)) (sym count) there;
+    }
+
+-- ---- what is answered where a test is made
+
+abbrev pub content_record : List HartContent → List ℕ → Names → Quantifier → Formula → Content
+content_record harts words names quantifier f = record { harts = harts; words = words; names = names; quantifier = quantifier; condition = f }
+
+pub same_content : (first second : List HartContent) (words others : List ℕ) (names same : Names) (quantifier : Quantifier) (f : Formula) → first ≡ second → words ≡ others → names ≡ same → content_record first words names quantifier f ≡ content_record second others same quantifier f
+same_content first second words others names same quantifier f a b e = rw (a, b, e) refl
+
+pub made_content : (result : Result Question AllocError) (q : Question) (told : Content) → IfOk result (λ test. test ≡ q) → content_of q ≡ told → IfOk result (λ test. content_of test ≡ told)
+made_content (Ok test) q told is same = ap content_of is ∙ same
+made_content (Err e) q told is same = tt
+
+pub made_plain : (result : Result Question AllocError) (q : Question) → IfOk result (λ test. test ≡ q) → All HasPlainCode q.opening.harts → IfOk result (λ test. All HasPlainCode test.opening.harts)
+made_plain (Ok test) q is plain = subst (λ (t : Question). All HasPlainCode t.opening.harts) (sym is) plain
+made_plain (Err e) q is plain = tt

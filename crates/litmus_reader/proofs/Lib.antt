@@ -1,0 +1,6 @@
+pub mod PartLaws
+pub mod MarkLaws
+pub mod TableLaws
+pub mod NameLaws
+pub mod ThereLaws
+pub mod ContentLaws

@@ -1,0 +1,82 @@
+-- The locations in settings have the shapes of names.
+use Rattle.std.proofs.Common.{◌≡◌, ℕ, Bool, true, false, List, [], ◌∷◌, Option, Some, None, refl, sym, subst, inl, inr}
+use Rattle.std.specs.Prelude.{◌==◌, if◌then◌else◌}
+use Rattle.litmus_words.specs.Settings.{Place, Value, Put, IsPlace, IsValue, IsSetting, IsDeclared, IsItem}
+use Rattle.litmus_words.specs.Settings.Place.{in_register, at_location}
+use Rattle.litmus_words.specs.Settings.Value.{number, address_of}
+use Rattle.litmus_words.specs.Reading.{setting_at}
+use Rattle.litmus_words.specs.Words.{Token, Beginning, nothing, begins, no_word, conjunction, disjunction, is_mark, behind_not, paired, told_atom, told_not, unmarked, begun, beginning_of}
+use Rattle.texts.specs.Cutting.{before}
+use Rattle.litmus_words.specs.Cores.{from_first, without_front}
+use Rattle.litmus_words.proofs.SettingLaws.{setting_found}
+use Rattle.litmus_reader.specs.Locations.{HasLocation, HasName, HasNames}
+use Rattle.litmus_reader.specs.Condition.{WordHasNames}
+
+place_names : (text : List ℕ) (place : Place) → IsPlace text place → HasLocation place
+place_names text (in_register hart register) is = tt
+place_names text (at_location name) is = is.0
+
+value_names : (text : List ℕ) (value : Value) → IsValue text value → HasName value
+value_names text (number n) is = tt
+value_names text (address_of name) is = is.0
+
+declared_names : (text : List ℕ) (place : Place) → IsDeclared text place → HasLocation place
+declared_names text (in_register hart register) is = tt
+declared_names text (at_location name) is = is.4
+
+setting_names : (text : List ℕ) (put : Put) → IsSetting text put → HasNames put
+setting_names text put is = (place_names is.0 put.0 is.3, value_names is.1 put.1 is.4)
+
+item_names : (text : List ℕ) (put : Put) → IsItem text put → HasNames put
+item_names text put is = elim is [
+  | inl setting ↦ setting_names text put setting
+  | inr other ↦ elim other [
+    | inl valued ↦ (declared_names valued.0 put.0 valued.3, value_names valued.1 put.1 valued.4)
+    | inr declared ↦ (declared_names text put.0 declared.0, subst (λ (value : Value). HasName value) (sym declared.1) tt)
+  ]
+]
+
+pub item_location : (text : List ℕ) (put : Put) → IsItem text put → HasLocation put.0
+item_location text put is = (item_names text put is).0
+
+pub item_value : (text : List ℕ) (put : Put) → IsItem text put → HasName put.1
+item_value text put is = (item_names text put is).1
+
+-- ---- words
+
+abbrev pub Named : Beginning → Type 0
+Named nothing = Unit {0}
+Named (begins token rest) = WordHasNames token
+Named no_word = Unit {0}
+
+either_named : (b : Bool) (x y : Beginning) → Named x → Named y → Named (if b then x else y)
+either_named true x y first second = first
+either_named false x y first second = second
+
+paired_named : (token : Token) (second : ℕ) (text : List ℕ) → WordHasNames token → Named (paired token second text)
+paired_named token second [] names = tt
+paired_named token second (c ∷ rest) names = either_named (c == second) (begins token rest) no_word names tt
+
+atom_named : (o : Option Put) (rest : List ℕ) → ((put : Put) → o ≡ Some put → HasNames put) → Named (told_atom o rest)
+atom_named None rest names = tt
+atom_named (Some put) rest names = names put refl
+
+not_named : (o : Option (List ℕ)) (other : Beginning) → Named other → Named (told_not o other)
+not_named None other names = names
+not_named (Some rest) other names = tt
+
+unmarked_named : (text : List ℕ) → Named (unmarked text)
+unfolding unmarked
+unmarked_named text = not_named (behind_not text) _ (atom_named (setting_at (before is_mark text)) (from_first is_mark text) (λ put is. setting_names (before is_mark text) put (setting_found (before is_mark text) put is)))
+
+begun_named : (text : List ℕ) → Named (begun text)
+unfolding begun
+begun_named [] = tt
+begun_named (c ∷ rest) = either_named (c == 40) _ _ tt (either_named (c == 41) _ _ tt (either_named (c == 126) _ _ tt (either_named (c == 47) _ _ (paired_named conjunction 92 rest tt) (either_named (c == 92) _ _ (paired_named disjunction 47 rest tt) (unmarked_named (c ∷ rest))))))
+
+pub first_named : (text : List ℕ) → Named (beginning_of text)
+unfolding beginning_of
+first_named text = begun_named (without_front text)
+
+pub word_named : (text rest : List ℕ) (token : Token) → begins token rest ≡ beginning_of text → WordHasNames token
+word_named text rest token is = let P : Beginning → Type 0 = λ b. Named b in subst P (sym is) (first_named text)

@@ -1,0 +1,118 @@
+-- The columns' instructions, one column after the other.
+use Rattle.std.proofs.Common.{◌≡◌, ℕ, suc, ltb-false, pos, ◌+◌, ◌≤◌, Bool, true, false, List, [], ◌∷◌, ◌++◌, length, Option, Some, None, Result, Ok, Err, refl, ap, sym, subst, ◌∙◌, append_assoc, length-append, map, arith}
+use Rattle.std.specs.Prelude.{nat_lt, if◌then◌else◌, IfOk}
+use Rattle.std.proofs.lemmas.List.{map-append, length-map}
+use Rattle.std.proofs.lemmas.List.Elements.{All-append, All-cons, All-nil}
+use Rattle.std.specs.declared.vec.Vec.{Vec}
+use Rattle.std.specs.declared.alloc.Global.{Global}
+use Rattle.texts.specs.Results.{◌>>=◌, Gives}
+use Rattle.rv_decode.specs.Meaning.{meaning}
+use Rattle.assembler.specs.declared.faults.AsmFault.{AsmFault}
+use Rattle.assembler.specs.Faults.{Refusal}
+use Rattle.assembler.specs.Statements.{Made, one, two, jump, branch}
+use Rattle.assembler.specs.Drafts.{Line, onto, finished, size_of, words_of, distance, placed, at_line, all_placed, place_of, AllPlain}
+use Rattle.litmus_reader.specs.declared.faults.LitmusFault.{LitmusFault}
+use Rattle.litmus_reader.specs.declared.faults.LitmusFault.TheVariants.{BadInstr}
+use Rattle.litmus_reader.specs.declared.refusals.Refusal.{Refusal as Refused}
+use Rattle.litmus_reader.specs.Faults.{fault_in}
+use Rattle.litmus_reader.specs.Table.{Code, Column, codes_of, as_instr, instructions, instructions_of, ArePlain, AreShort}
+
+-- what is answered where these columns are done, of which the first faulty row may be one, and this is
+-- the answer of the others
+abbrev pub going : Option ℕ → List Code → Result (List Code) LitmusFault → Result (List Code) LitmusFault
+going None codes others = onto codes others
+going (Some row) codes others = Err BadInstr
+
+-- a column's instructions join those before it
+onto_more : (front : List Code) (code : Code) (others : Result (List Code) LitmusFault) → onto front (onto (code ∷ []) others) ≡ onto (front ++ code ∷ []) others
+onto_more front code (Ok codes) = ap (λ (all : List Code). Ok all) (sym (append_assoc front (code ∷ []) codes))
+onto_more front code (Err fault) = refl
+
+codes_more : (code : Code) (column : Column) (columns : List Column) → finished column ≡ Ok code → codes_of (column ∷ columns) ≡ onto (code ∷ []) (codes_of columns)
+codes_more code column columns done = rw done refl
+
+pub turn_going : (faulty : Option ℕ) (words : List (Vec ℕ Global)) (more : Vec ℕ Global) (column : Column) (columns : List Column) (whole : Result (List Code) LitmusFault) → finished column ≡ Ok (map meaning more.items) → going faulty (instructions_of words) (codes_of (column ∷ columns)) ≡ whole → going faulty (instructions_of (words ++ more ∷ [])) (codes_of columns) ≡ whole
+turn_going None words more column columns whole done so_far =
+    rw (map-append (λ (v : Vec ℕ Global). map meaning v.items) words (more ∷ [])) (sym (onto_more (instructions_of words) (map meaning more.items) (codes_of columns)) ∙ ap (λ (others : Result (List Code) LitmusFault). onto (instructions_of words) others) (sym (codes_more (map meaning more.items) column columns done)) ∙ so_far)
+turn_going (Some row) words more column columns whole done so_far = so_far
+
+pub plain_more : (words : List (Vec ℕ Global)) (more : Vec ℕ Global) → ArePlain words → AllPlain more.items → ArePlain (words ++ more ∷ [])
+plain_more words more plain last = All-append (λ (v : Vec ℕ Global). AllPlain v.items) words (more ∷ []) plain (All-cons (λ (v : Vec ℕ Global). AllPlain v.items) more [] last (All-nil (λ (v : Vec ℕ Global). AllPlain v.items)))
+
+-- ---- how long the answers are
+
+abbrev pub Sized : {X E : Type 0} → ℕ → Result (List X) E → Type 0
+Sized n (Ok list) = length list ≡ n
+Sized n (Err e) = Unit {0}
+
+after_sized : {A X E : Type 0} (n : ℕ) (r : Result A E) (f : A → Result (List X) E) → ((a : A) → Sized n (f a)) → Sized n (r >>= f)
+after_sized n (Ok a) f each = each a
+after_sized n (Err e) f each = tt
+
+at_line_sized : {X : Type 0} (n line : ℕ) (r : Result (List X) AsmFault) → Sized n r → Sized n (at_line line r)
+at_line_sized n line (Ok list) sized = sized
+at_line_sized n line (Err fault) sized = tt
+
+placed_sized : (found : List ℕ → Option ℕ) (at : ℕ) (made : Option Made) → Sized (size_of made) (placed found at made)
+placed_sized found at None = refl
+placed_sized found at (Some (one i)) = refl
+placed_sized found at (Some (two i j)) = refl
+placed_sized found at (Some (jump rd name)) = after_sized 1 (distance (pos 1048576) at (found name)) _ (λ n. refl)
+placed_sized found at (Some (branch op rs1 rs2 name)) = after_sized 1 (distance (pos 4096) at (found name)) _ (λ n. refl)
+
+onto_sized : {X E : Type 0} (m n : ℕ) (front : List X) (r : Result (List X) E) → length front ≡ m → Sized n r → Sized (m + n) (onto front r)
+onto_sized m n front (Ok list) here sized = omega (arith, length-append front list)
+onto_sized m n front (Err e) here sized = tt
+
+joined_sized : {X E : Type 0} (m n : ℕ) (r : Result (List X) E) (others : Result (List X) E) → Sized m r → Sized n others → Sized (m + n) (r >>= λ front. onto front others)
+joined_sized m n (Ok front) others here rest = onto_sized m n front others here rest
+joined_sized m n (Err e) others here rest = tt
+
+all_placed_sized : (found : List ℕ → Option ℕ) (at line : ℕ) (lines : List Line) → Sized (words_of lines) (all_placed found at line lines)
+all_placed_sized found at line [] = refl
+all_placed_sized found at line (first ∷ rest) = joined_sized (size_of first.made) (words_of rest) (at_line line (placed found at first.made)) _ (at_line_sized (size_of first.made) line (placed found at first.made) (placed_sized found at first.made)) (all_placed_sized found (at + size_of first.made) (line + 1) rest)
+
+abbrev Short : {X E : Type 0} → Result (List X) E → Type 0
+Short (Ok list) = length list ≤ 4096
+Short (Err e) = Unit {0}
+
+short_of : {X E : Type 0} (n : ℕ) (r : Result (List X) E) → n ≤ 4096 → Sized n r → Short r
+short_of n (Ok list) few sized = omega arith
+short_of n (Err e) few sized = tt
+
+checked_short : {X : Type 0} {E : Type 0} (n : ℕ) (b : Bool) (e : E) (r : Result (List X) E) → nat_lt 4096 n ≡ b → Sized n r → Short (if b then Err e else r)
+checked_short n true e r over sized = tt
+checked_short n false e r over sized = short_of n r (let fits : n ≤ 4096 = omega (arith, ltb-false) in fits) sized
+
+finished_short : (column : Column) → Short (finished column)
+unfolding finished
+finished_short column = checked_short (words_of column) (nat_lt 4096 (words_of column)) _ _ refl (all_placed_sized (place_of column) 0 1 column)
+
+instr_short : {X : Type 0} (r : Result (List X) Refusal) → Short r → Short (as_instr r)
+instr_short (Ok list) short = short
+instr_short (Err refusal) short = tt
+
+abbrev AllShort : ℕ → Result (List Code) LitmusFault → Type 0
+AllShort n (Ok codes) = (length codes ≡ n) × AreShort codes
+AllShort n (Err fault) = Unit {0}
+
+joined_short : (n : ℕ) (r : Result Code LitmusFault) (others : Result (List Code) LitmusFault) → Short r → AllShort n others → AllShort (suc n) (r >>= λ code. others >>= λ codes. Ok (code ∷ codes))
+joined_short n (Ok code) (Ok codes) here rest = (omega (arith, rest.0), (here, rest.1))
+joined_short n (Ok code) (Err fault) here rest = tt
+joined_short n (Err fault) others here rest = tt
+
+codes_short : (columns : List Column) → AllShort (length columns) (codes_of columns)
+codes_short [] = (refl, tt)
+codes_short (column ∷ columns) = joined_short (length columns) (as_instr (finished column)) (codes_of columns) (instr_short (finished column) (finished_short column)) (codes_short columns)
+
+told_short : (columns : List Column) (codes : List Code) → codes_of columns ≡ Ok codes → (length codes ≡ length columns) × AreShort codes
+told_short columns codes told = let P : Result (List Code) LitmusFault → Type 0 = λ r. AllShort (length columns) r in subst P told (codes_short columns)
+
+-- what is answered of the harts' words
+pub answered_count : (columns : List Column) (result : Result (Vec (Vec ℕ Global) Global) Refused) → Gives fault_in instructions result (codes_of columns) → IfOk result (λ words. length words.items ≡ length columns)
+answered_count columns (Ok words) told = let counted = (told_short columns (instructions words) told).0 in simp length-map at counted
+answered_count columns (Err e) told = tt
+
+pub answered_short : (columns : List Column) (result : Result (Vec (Vec ℕ Global) Global) Refused) → Gives fault_in instructions result (codes_of columns) → IfOk result (λ words. AreShort (instructions words))
+answered_short columns (Ok words) told = (told_short columns (instructions words) told).1
+answered_short columns (Err e) told = tt

@@ -1,0 +1,15 @@
+use Rattle.std.proofs.Common.{◌≡◌, length}
+use Rattle.std.specs.Option.{option_copied}
+use Rattle.texts.specs.Pieces.{bytes_left}
+use Rattle.litmus_reader.specs.Parts.{parts_after}
+use Rattle.litmus_reader.specs.Table.{lines_told}
+use Rattle.litmus_reader.proofs.table.Table.read_rows.Given as goal
+
+abbrev pub invariant-loop-rest : goal.invariant-loop-rest
+invariant-loop-rest l = record {
+  same : length l.self ≡ length l.fn.self;
+  so_far : lines_told l.self (parts_after 10 (option_copied l.rest)) ≡ lines_told l.fn.self (parts_after 10 (option_copied l.rows));
+}
+
+abbrev pub decreases-loop-rest : goal.decreases-loop-rest
+decreases-loop-rest l = bytes_left (option_copied l.rest)

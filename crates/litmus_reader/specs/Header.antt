@@ -1,0 +1,33 @@
+-- The header line, and where the init part begins.
+use Rattle.std.specs.Prelude.{ℕ, ◌==◌, Bool, false, not, ◌&&◌, List, [], ◌∷◌, length, drop, Option, None, Some, Result, Ok, Err, if◌then◌else◌, codes, unwrap_or}
+use Rattle.texts.specs.Pieces.{is_blank}
+use Rattle.texts.specs.Cutting.{before, after, is_byte, without_front}
+use Rattle.litmus_reader.specs.declared.faults.LitmusFault.{LitmusFault}
+use Rattle.litmus_reader.specs.declared.faults.LitmusFault.TheVariants.{NoHeader, BadInit}
+use Rattle.litmus_reader.specs.declared.marks.Mark.TheVariants.{Visible, Brace}
+use Rattle.litmus_reader.specs.Marks.{from_line, has_word}
+
+-- blanks, and then a byte that isn't blank
+abbrev pub has_name : List ℕ → Bool
+has_name [] = false
+has_name (c ∷ rest) = is_blank c && not (length (without_front rest) == 0)
+
+-- `RISCV`, blanks and a name of one or more bytes that aren't blank; whatever follows isn't read
+unfoldable pub is_header : List ℕ → Bool
+is_header line = has_word (codes "RISCV") (without_front line) && has_name (drop 5 (without_front line))
+
+abbrev pub behind_line : Option (List ℕ) → Result (List ℕ) LitmusFault
+behind_line None = Err NoHeader
+behind_line (Some text) = if is_header (before (is_byte 10) text) then Ok (unwrap_or (after (is_byte 10) text) []) else Err NoHeader
+
+-- what follows the header, which is the first line that isn't blank
+unfoldable pub behind_header : List ℕ → Result (List ℕ) LitmusFault
+behind_header text = behind_line (from_line Visible text)
+
+abbrev pub behind_front : Option (List ℕ) → Result (List ℕ) LitmusFault
+behind_front None = Err BadInit
+behind_front (Some text) = Ok (drop 1 (without_front text))
+
+-- what follows the `{` with which a line begins
+unfoldable pub behind_brace : List ℕ → Result (List ℕ) LitmusFault
+behind_brace text = behind_front (from_line Brace text)

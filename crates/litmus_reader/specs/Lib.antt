@@ -1,0 +1,12 @@
+pub mod Faults
+pub mod Marks
+pub mod Header
+pub mod Parts
+pub mod Locations
+pub mod Init
+pub mod Rows
+pub mod Table
+pub mod Condition
+pub mod Values
+pub mod Reading
+pub mod Grammar

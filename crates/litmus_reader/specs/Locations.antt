@@ -1,0 +1,45 @@
+-- The locations of a test: their names, in order of first appearance.
+use Rattle.std.specs.Prelude.{ℕ, IsTrue, ◌+◌, ◌*◌, nat_lt, List, [], ◌∷◌, ◌++◌, length, Option, None, Some, Result, Ok, Err, if◌then◌else◌}
+use Rattle.std.specs.Str.{bytes_eq}
+use Rattle.texts.specs.Results.{◌>>=◌}
+use Rattle.litmus_words.specs.Names.{is_name}
+use Rattle.litmus_words.specs.Settings.{Place, Value, Put}
+use Rattle.litmus_words.specs.Settings.Place.{in_register, at_location}
+use Rattle.litmus_words.specs.Settings.Value.{number, address_of}
+use Rattle.litmus_reader.specs.declared.faults.LitmusFault.{LitmusFault}
+use Rattle.litmus_reader.specs.declared.faults.LitmusFault.TheVariants.{TooMany}
+
+abbrev pub Names : Type 0
+Names = List (List ℕ)
+
+-- the place of the name among the others, counted from at
+abbrev pub index_from : ℕ → Names → List ℕ → Option ℕ
+index_from at [] name = None
+index_from at (other ∷ others) name = if bytes_eq other name then Some at else index_from (at + 1) others name
+
+abbrev pub joined : Names → List ℕ → Option ℕ → Result (ℕ × Names) LitmusFault
+joined names name (Some index) = Ok (index, names)
+joined names name None = if nat_lt (length names) 1024 then Ok (length names, names ++ name ∷ []) else Err TooMany
+
+-- the index of the location of this name, which joins the others where it is new
+unfoldable pub met : Names → List ℕ → Result (ℕ × Names) LitmusFault
+met names name = joined names name (index_from 0 names name)
+
+-- a location in it has the shape of a name
+abbrev pub HasLocation : Place → Type 0
+HasLocation (in_register hart register) = Unit {0}
+HasLocation (at_location name) = IsTrue (is_name name)
+
+abbrev pub HasName : Value → Type 0
+HasName (number n) = Unit {0}
+HasName (address_of name) = IsTrue (is_name name)
+
+abbrev pub HasNames : Put → Type 0
+HasNames put = HasLocation put.0 × HasName put.1
+
+-- the value that is put; the word of a location has the address of 4 times its index
+unfoldable pub value_met : Names → Value → Result (ℕ × Names) LitmusFault
+value_met names (number n) = Ok (n, names)
+value_met names (address_of name) = do
+  found ← met names name
+  Ok (4 * found.0, found.1)

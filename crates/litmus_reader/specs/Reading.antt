@@ -1,0 +1,76 @@
+-- A litmus text, read from its first line on, with the first fault that is met. Its place is no part
+-- of the answer.
+use Rattle.std.specs.Prelude.{ℕ, List, [], ◌∷◌, length, map, Option, Result, Ok}
+use Rattle.texts.specs.Results.{◌>>=◌}
+use Rattle.texts.specs.Cutting.{before, after, is_byte}
+use Rattle.rv_decode.specs.Meaning.{meaning}
+use Rattle.step_machine.specs.History.{HartStart}
+use Rattle.litmus.specs.declared.verdict.Quantifier.{Quantifier}
+use Rattle.litmus.specs.Formulas.{Formula}
+use Rattle.litmus.specs.Questions.{Question}
+use Rattle.litmus_words.specs.Cleaning.{cleaned_text}
+use Rattle.litmus_reader.specs.declared.faults.LitmusFault.{LitmusFault}
+use Rattle.litmus_reader.specs.declared.marks.Mark.TheVariants as mark
+use Rattle.litmus_reader.specs.Marks.{before_line, from_line}
+use Rattle.litmus_reader.specs.Header.{behind_header, behind_brace}
+use Rattle.litmus_reader.specs.Locations.{Names}
+use Rattle.litmus_reader.specs.Init.{Settings, items_at, behind_init}
+use Rattle.litmus_reader.specs.Table.{Code, table_at, codes_of}
+use Rattle.litmus_reader.specs.Values.{Values, values_at, padded}
+use Rattle.litmus_reader.specs.Condition.{Condition, condition_at}
+
+-- A hart's beginning, with its code as the instructions that the words mean.
+pub record HartContent : Type 0 where
+  pub code : Code
+  pub registers : List ℕ
+  pub inbox : List ℕ
+
+-- A test, with its code as instructions.
+pub record Content : Type 0 where
+  pub harts : List HartContent
+  pub words : List ℕ
+  pub names : Names
+  pub quantifier : Quantifier
+  pub condition : Formula
+
+abbrev pub hart_content : HartStart → HartContent
+hart_content hart = record { code = map meaning hart.code; registers = hart.registers; inbox = hart.inbox }
+
+abbrev pub content_of : Question → Content
+content_of question = record { harts = map hart_content question.opening.harts; words = question.opening.words; names = question.names; quantifier = question.quantifier; condition = question.condition }
+
+-- each hart's code with its registers; nothing is in an inbox
+abbrev pub with_registers : List Code → List (List ℕ) → List HartContent
+with_registers [] registers = []
+with_registers (code ∷ codes) [] = []
+with_registers (code ∷ codes) (first ∷ registers) = (record { code = code; registers = first; inbox = [] }) ∷ with_registers codes registers
+
+abbrev pub content : List Code → Values → Condition → Content
+content codes values asked = record { harts = with_registers codes values.registers; words = padded (length asked.names) values.words; names = asked.names; quantifier = asked.quantifier; condition = asked.formula }
+
+-- the test whose table has this code, with the condition from its first line on
+unfoldable pub content_below : Settings → List Code → Option (List ℕ) → Result Content LitmusFault
+content_below settings codes condition = do
+  values ← values_at (length codes) settings
+  asked ← condition_at (length codes) settings.names condition
+  Ok (content codes values asked)
+
+-- the test with this init part, with what stands behind it: the table and the condition
+unfoldable pub content_behind : Settings → List ℕ → Result Content LitmusFault
+content_behind settings text = do
+  columns ← table_at (before_line mark.Condition text)
+  codes ← codes_of columns
+  content_below settings codes (from_line mark.Condition text)
+
+-- the test in a text without comments
+unfoldable pub content_at : List ℕ → Result Content LitmusFault
+content_at text = do
+  below ← behind_header text
+  inner ← behind_brace below
+  settings ← items_at (before (is_byte 125) inner)
+  rest ← behind_init (after (is_byte 125) inner)
+  content_behind settings rest
+
+-- the test in a text
+unfoldable pub test_at : List ℕ → Result Content LitmusFault
+test_at text = content_at (cleaned_text text)

@@ -1,0 +1,96 @@
+-- The table: each hart's column of cells is an assembly text, a line for each row.
+use Rattle.std.specs.Prelude.{ℕ, ◌≤◌, ◌==◌, nat_lt, List, [], ◌∷◌, length, map, replicate, All, Option, None, Some, Result, Ok, Err, if◌then◌else◌}
+use Rattle.std.specs.declared.vec.Vec.{Vec}
+use Rattle.std.specs.declared.alloc.Global.{Global}
+use Rattle.texts.specs.Results.{◌>>=◌}
+use Rattle.texts.specs.Cutting.{before, after, is_byte}
+use Rattle.rv_decode.specs.declared.instruction.Instr.{Instr}
+use Rattle.rv_decode.specs.Meaning.{meaning}
+use Rattle.assembler.specs.Faults.{Refusal}
+use Rattle.assembler.specs.Drafts.{Line, words_of, told, finished, AllPlain}
+use Rattle.litmus_reader.specs.declared.faults.LitmusFault.{LitmusFault}
+use Rattle.litmus_reader.specs.declared.faults.LitmusFault.TheVariants.{BadTable, BadInstr, TooMany}
+use Rattle.litmus_reader.specs.declared.marks.Mark.TheVariants.{Visible}
+use Rattle.litmus_reader.specs.Marks.{from_line}
+use Rattle.litmus_reader.specs.Parts.{parts_after}
+use Rattle.litmus_reader.specs.Rows.{is_blank_line, row_in, cells_of, harts_in}
+
+-- a hart's statements so far
+abbrev pub Column : Type 0
+Column = List Line
+
+-- whatever the assembler refuses
+abbrev pub as_instr : {A : Type 0} → Result A Refusal → Result A LitmusFault
+as_instr (Ok x) = Ok x
+as_instr (Err refusal) = Err BadInstr
+
+abbrev pub in_limit : Column → Result Column LitmusFault
+in_limit column = if nat_lt 4096 (words_of column) then Err TooMany else Ok column
+
+-- a column with one more cell
+unfoldable pub cell_told : Column → List ℕ → Result Column LitmusFault
+cell_told column cell = do
+  more ← as_instr (told column cell)
+  in_limit more
+
+-- the columns with a cell more each, from the left
+abbrev pub cells_told : List Column → List (List ℕ) → Result (List Column) LitmusFault
+cells_told [] cells = Ok []
+cells_told (column ∷ columns) [] = Ok (column ∷ columns)
+cells_told (column ∷ columns) (cell ∷ cells) = do
+  more ← cell_told column cell
+  others ← cells_told columns cells
+  Ok (more ∷ others)
+
+abbrev pub row_told : List Column → Option (List ℕ) → Result (List Column) LitmusFault
+row_told columns None = Err BadTable
+row_told columns (Some row) = if length (cells_of row) == length columns then cells_told columns (cells_of row) else Err BadTable
+
+-- the columns with a row more, or with none in a blank line
+unfoldable pub line_told : List Column → List ℕ → Result (List Column) LitmusFault
+line_told columns line = if is_blank_line line then Ok columns else row_told columns (row_in line)
+
+abbrev pub lines_told : List Column → List (List ℕ) → Result (List Column) LitmusFault
+lines_told columns [] = Ok columns
+lines_told columns (line ∷ lines) = do
+  more ← line_told columns line
+  lines_told more lines
+
+abbrev pub table_from : Option (List ℕ) → Result (List Column) LitmusFault
+table_from None = Err BadTable
+table_from (Some text) = do
+  harts ← harts_in (before (is_byte 10) text)
+  lines_told (replicate harts []) (parts_after 10 (after (is_byte 10) text))
+
+-- the columns of a table, whose first row is the first line that isn't blank
+unfoldable pub table_at : List ℕ → Result (List Column) LitmusFault
+table_at text = table_from (from_line Visible text)
+
+-- ---- instructions
+
+abbrev pub Code : Type 0
+Code = List (Option Instr)
+
+-- the instructions of all columns, with the places of their labels
+abbrev pub codes_of : List Column → Result (List Code) LitmusFault
+codes_of [] = Ok []
+codes_of (column ∷ columns) = do
+  code ← as_instr (finished column)
+  codes ← codes_of columns
+  Ok (code ∷ codes)
+
+-- the instructions of the harts' words
+abbrev pub instructions_of : List (Vec ℕ Global) → List Code
+instructions_of codes = map (λ (words : Vec ℕ Global). map meaning words.items) codes
+
+abbrev pub instructions : Vec (Vec ℕ Global) Global → List Code
+instructions codes = instructions_of codes.items
+
+-- the free fields of all words are zero
+abbrev pub ArePlain : List (Vec ℕ Global) → Type 0
+ArePlain codes = All (λ (words : Vec ℕ Global). AllPlain words.items) codes
+
+-- no hart has more words than it may have
+abbrev pub AreShort : List Code → Type 0
+AreShort [] = Unit {0}
+AreShort (code ∷ codes) = (length code ≤ 4096) × AreShort codes

@@ -1,0 +1,90 @@
+//! Why a text isn't a litmus test.
+
+ghost use Rattle.std.specs.Prelude.{◌≡◌};
+ghost use Rattle.litmus_reader.specs.declared.faults.LitmusError.TheVariants.{NoMemory};
+
+use std::alloc::{AllocError, AllocFailed};
+use thiserror::Error;
+
+/// What is wrong with a text: the first fault in reading order. Each has the number by which texts
+/// name it.
+#[derive(Clone, Copy, Debug, PartialEq, Eq, Error)]
+pub enum LitmusFault {
+    /// The first line that isn't blank is no header of a test.
+    #[error("no header")]
+    NoHeader,
+    /// An item of the init part has no meaning or names no hart of the test, or a brace is missing.
+    #[error("bad init")]
+    BadInit,
+    /// A row of the table isn't ended by its only `;` or has another number of cells than the first
+    /// one, the first row doesn't name the harts, or there is no table.
+    #[error("bad table")]
+    BadTable,
+    /// A cell of the table is no statement, or its label has no place.
+    #[error("bad instruction")]
+    BadInstr,
+    /// The condition is missing, has a fault or names no hart of the test.
+    #[error("bad condition")]
+    BadCondition,
+    /// There are more harts, instructions of a hart or locations than a test may have.
+    #[error("too many")]
+    TooMany,
+}
+
+impl LitmusFault {
+    ghost use Rattle.litmus_reader.specs.Faults.{number_of};
+
+    /// The number by which texts name the fault.
+    pub fn number(self) -> u8
+        ensures { result ≡ number_of self }
+    {
+        match self {
+            LitmusFault::NoHeader => 21,
+            LitmusFault::BadInit => 22,
+            LitmusFault::BadTable => 23,
+            LitmusFault::BadInstr => 24,
+            LitmusFault::BadCondition => 25,
+            LitmusFault::TooMany => 26,
+        }
+    }
+}
+
+/// Why a text has no test.
+#[derive(Clone, Copy, Debug, PartialEq, Eq, Error)]
+pub enum LitmusError {
+    #[error("no memory")]
+    NoMemory,
+    /// The text is refused for a fault of one of its lines, which count from 1.
+    #[error("{fault} at line {line}")]
+    Refused { fault: LitmusFault, line: usize },
+}
+
+impl LitmusError {
+    ghost use Rattle.litmus_reader.specs.Faults.{number_of_error};
+
+    /// The number by which texts name what went wrong: that of the fault, and 0 where memory ran out.
+    pub fn number(self) -> u8
+        ensures { result ≡ number_of_error self }
+    {
+        match self {
+            LitmusError::NoMemory => 0,
+            LitmusError::Refused { fault, .. } => fault.number(),
+        }
+    }
+}
+
+impl From<AllocError> for LitmusError {
+    ghost from_gives = { λ _ e. e ≡ NoMemory };
+
+    fn from(_error: AllocError) -> LitmusError {
+        LitmusError::NoMemory
+    }
+}
+
+impl<T: Drop> From<AllocFailed<T>> for LitmusError {
+    ghost from_gives = { λ _ e. e ≡ NoMemory };
+
+    fn from(_error: AllocFailed<T>) -> LitmusError {
+        LitmusError::NoMemory
+    }
+}

@@ -1,0 +1,69 @@
+//! The header line, and where the init part begins.
+
+ghost use Rattle.std.specs.Prelude.{◌≡◌, drop};
+ghost use Rattle.texts.specs.Results.{Gives};
+ghost use Rattle.litmus_reader.specs.Faults.{fault_in};
+ghost use Rattle.litmus_reader.specs.Header.{has_name, is_header, behind_header as header_at, behind_brace as brace_at};
+
+use crate::faults::LitmusFault;
+use crate::marks::{Mark, cut_at_line};
+use crate::refusals::Refusal;
+use texts::Separators;
+use texts::cutting::{cut_at, without_front};
+
+/// Whether blanks and then a byte that isn't blank follow.
+fn has_name(rest: &[u8]) -> bool
+    ensures { result ≡ has_name rest.now }
+{
+    match rest {
+        [first, others @ ..] => {
+            Separators::Blanks.contain(*first) && !without_front(others).is_empty()
+        }
+        [] => false,
+    }
+}
+
+/// Whether the line is `RISCV`, blanks and a name; what follows the name isn't read.
+#[tactic(auto, using(std::proofs::lemmas::List::take_rest), unfolding(crate::specs::Header::is_header))]
+fn is_header(line: &[u8]) -> bool
+    ensures { result ≡ is_header line.now }
+{
+    let line = without_front(line);
+    line.starts_with(b"RISCV") && has_name(&line[5..])
+}
+
+/// What follows the header line.
+#[tactic(auto, unfolding(crate::specs::Header::behind_header))]
+pub fn behind_header(text: &[u8]) -> Result<&[u8], Refusal>
+    ensures { Gives fault_in (λ rest. rest.now) result (header_at text.now) }
+{
+    let Some(text) = cut_at_line(Mark::Visible, text).1 else {
+        return Err(LitmusFault::NoHeader.at_end());
+    };
+    let (line, rest) = cut_at(text, b'\n');
+    if !is_header(line) {
+        return Err(LitmusFault::NoHeader.at(text.len()));
+    }
+    Ok(rest.unwrap_or(b""))
+}
+
+/// What follows the `{` with which a line begins; the lines before it aren't read.
+/// The bytes behind the first one.
+fn behind_first(text: &[u8]) -> &[u8]
+    ensures { result.now ≡ drop 1 text.now }
+{
+    match text {
+        [_, rest @ ..] => rest,
+        [] => text,
+    }
+}
+
+#[tactic(auto, unfolding(crate::specs::Header::behind_brace))]
+pub fn behind_brace(text: &[u8]) -> Result<&[u8], Refusal>
+    ensures { Gives fault_in (λ rest. rest.now) result (brace_at text.now) }
+{
+    match cut_at_line(Mark::Brace, text).1 {
+        Some(text) => Ok(behind_first(without_front(text))),
+        None => Err(LitmusFault::BadInit.at_end()),
+    }
+}

@@ -1,0 +1,106 @@
+//! The init part.
+
+ghost use Rattle.std.specs.Prelude.{◌≡◌};
+ghost use Rattle.texts.specs.Results.{Gives};
+ghost use Rattle.litmus_words.specs.Settings.{place_of};
+ghost use Rattle.litmus_reader.specs.Faults.{fault_in};
+ghost use Rattle.litmus_reader.specs.Locations.{HasLocation};
+ghost use Rattle.litmus_reader.specs.Init.{no_settings, target_met, piece_told, items_at, settings_of};
+
+use crate::faults::LitmusFault;
+use crate::gaps::{is_all_gaps, left_of};
+use crate::locations::Locations;
+use crate::parts::first_part;
+use crate::refusals::Refusal;
+use crate::settings::value_of;
+use litmus_words::{Spot, item_in};
+use rv_decode::Reg;
+use std::alloc::Global;
+
+/// Where an item puts its value.
+#[derive(Clone, Copy)]
+pub enum Target {
+    /// A register of a hart, which may be no hart of the test.
+    Register { hart: u64, register: Reg },
+    /// The word of the location with this index.
+    Word { index: usize },
+}
+
+/// An item of the init part. Whether its hart is there is judged when the table is read.
+#[derive(Clone, Copy)]
+pub struct Item {
+    pub target: Target,
+    pub value: u32,
+    /// How many bytes of the text are left where it stands.
+    pub left: usize,
+}
+
+/// What the items so far say.
+#[derive(Drop)]
+pub struct Init {
+    pub items: Vec<Item>,
+    pub locations: Locations,
+}
+
+#[tactic(auto, unfolding(crate::specs::Init::target_met))]
+/// Where the item puts its value. A new location joins the others.
+fn target_of(locations: &mut Locations, spot: Spot<'_>, left: usize) -> Result<Target, Refusal>
+    requires { HasLocation (place_of spot) }
+    ensures { Gives fault_in (λ target. (target, locations.new)) result (target_met locations.old (place_of spot.entry)) }
+{
+    match spot {
+        Spot::Register { hart, register } => Ok(Target::Register { hart, register }),
+        Spot::Location(name) => {
+            let index = locations.index_of(name, left)?;
+            Ok(Target::Word { index })
+        }
+    }
+}
+
+impl Init {
+    /// No item yet.
+    fn new(alloc: Global) -> Init
+        ensures { settings_of result ≡ no_settings }
+    {
+        Init {
+            items: Vec::new(alloc),
+            locations: Locations::new(alloc),
+        }
+    }
+
+    #[tactic(auto, using(crate::proofs::NameLaws::item_location, crate::proofs::NameLaws::item_value), unfolding(crate::specs::Init::piece_told, crate::specs::Init::item_told))]
+    /// Reads what stands between two semicolons, which is an item or nothing.
+    fn read(&mut self, piece: &[u8], left: usize) -> Result<(), Refusal>
+        ensures { Gives fault_in (λ _. settings_of self.new) result (piece_told (settings_of self.old) piece.now) }
+    {
+        if is_all_gaps(piece) {
+            return Ok(());
+        }
+        let Some(setting) = item_in(piece) else {
+            return Err(LitmusFault::BadInit.at(left));
+        };
+        let target = target_of(&mut self.locations, setting.spot, left)?;
+        let value = value_of(&mut self.locations, setting.worth, left)?;
+        self.items.push(Item {
+            target,
+            value,
+            left,
+        })?;
+        Ok(())
+    }
+}
+
+#[tactic(auto, unfolding(crate::specs::Init::items_at))]
+/// The items that stand in this text, behind which so many bytes follow.
+pub fn read_items(alloc: Global, text: &[u8], behind: usize) -> Result<Init, Refusal>
+    ensures { Gives fault_in settings_of result (items_at text.now) }
+{
+    let mut init = Init::new(alloc);
+    let mut rest = Some(text);
+    while let Some(bytes) = rest {
+        let (piece, after) = first_part(bytes, b';');
+        init.read(piece, left_of(bytes).saturating_add(behind))?;
+        rest = after;
+    }
+    Ok(init)
+}

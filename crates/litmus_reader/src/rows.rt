@@ -1,0 +1,96 @@
+//! The shape of a table's rows.
+
+ghost use Rattle.std.specs.Prelude.{◌≡◌, ◌≤◌, length, IfOk};
+ghost use Rattle.std.specs.Option.{option_copied};
+ghost use Rattle.std.specs.List.{count_by};
+ghost use Rattle.texts.specs.Cutting.{is_byte};
+ghost use Rattle.texts.specs.Results.{Gives};
+ghost use Rattle.litmus_reader.specs.Faults.{fault_in};
+ghost use Rattle.litmus_reader.specs.Rows.{is_blank_line, row_in, cells_of, names_hart, all_named, harts_in};
+
+use crate::faults::LitmusFault;
+use crate::parts::first_part;
+use crate::refusals::Refusal;
+use std::alloc::{AllocError, Global};
+use texts::cutting::{cut_at, trimmed, without_front};
+
+/// How many harts a test may have.
+pub const MAX_HARTS: usize = 64;
+
+/// Whether the line is nothing but blanks.
+pub fn is_blank_line(line: &[u8]) -> bool
+    ensures { result ≡ is_blank_line line.now }
+{
+    without_front(line).is_empty()
+}
+
+#[tactic(auto, unfolding(crate::specs::Rows::row_in))]
+/// The row's cells, which `|` parts, without the `;` that ends the row; `None` where the line has no
+/// `;`, or something behind it.
+pub fn row_in(line: &[u8]) -> Option<&[u8]>
+    ensures { option_copied result ≡ row_in line.now }
+{
+    let (row, rest) = cut_at(line, b';');
+    match rest {
+        Some(rest) => { if is_blank_line(rest) { Some(row) } else { None } }
+        None => None,
+    }
+}
+
+/// How many bars the row has.
+fn count_bars(row: &[u8]) -> usize
+    ensures count { result ≡ count_by (is_byte 124) row.now }
+    ensures few { result ≤ length row.now }
+{
+    row.iter().filter(|byte| **byte == b'|').count()
+}
+
+/// How many cells the row has.
+pub fn count_cells(row: &[u8]) -> usize
+    ensures { result ≡ length (cells_of row.now) }
+{
+    count_bars(row) + 1
+}
+
+/// Whether the cell names this hart.
+fn names_hart(alloc: Global, cell: &[u8], hart: usize) -> Result<bool, AllocError>
+    ensures { IfOk result (λ named. named ≡ names_hart hart cell.now) }
+{
+    let name = format!(in alloc; "P{hart}")?;
+    Ok(trimmed(cell) == name.as_bytes())
+}
+
+/// How many harts the cells of the first row name, in order.
+fn count_harts(alloc: Global, row: &[u8], left: usize) -> Result<usize, Refusal>
+    ensures exact { Gives fault_in (λ harts. harts) result (all_named (cells_of row.now)) }
+    ensures some { IfOk result (λ harts. 1 ≤ harts) }
+{
+    let mut harts = 0;
+    let mut rest = Some(row);
+    while let Some(bytes) = rest {
+        let (cell, after) = first_part(bytes, b'|');
+        if !names_hart(alloc, cell, harts)? {
+            return Err(LitmusFault::BadTable.at(left));
+        }
+        harts += 1;
+        rest = after;
+    }
+    Ok(harts)
+}
+
+#[tactic(auto, unfolding(crate::specs::Rows::harts_in))]
+/// How many harts the first row names: 1 to 64. Its faults are met where so many bytes are left.
+pub fn harts_in(alloc: Global, line: &[u8], left: usize) -> Result<usize, Refusal>
+    ensures exact { Gives fault_in (λ harts. harts) result (harts_in line.now) }
+    ensures some { IfOk result (λ harts. 1 ≤ harts) }
+    ensures few { IfOk result (λ harts. harts ≤ 64) }
+{
+    let Some(row) = row_in(line) else {
+        return Err(LitmusFault::BadTable.at(left));
+    };
+    let harts = count_harts(alloc, row, left)?;
+    if harts > MAX_HARTS {
+        return Err(LitmusFault::TooMany.at(left));
+    }
+    Ok(harts)
+}

@@ -1,0 +1,35 @@
+//! What a setting puts, with the addresses of its locations.
+
+ghost use Rattle.std.specs.Prelude.{◌≡◌, ◌*◌, ◌<◌};
+ghost use Rattle.texts.specs.Results.{Gives};
+ghost use Rattle.litmus_words.specs.Settings.{value_of as value_put};
+ghost use Rattle.litmus_reader.specs.Faults.{fault_in};
+ghost use Rattle.litmus_reader.specs.Locations.{HasName, value_met};
+
+use crate::locations::Locations;
+use crate::refusals::Refusal;
+use litmus_words::Worth;
+
+/// The address of the location with this index.
+pub fn address_of(index: usize) -> u32
+    requires { index < 1024 }
+    ensures { result ≡ 4 * index }
+{
+    4 * index as u32
+}
+
+#[tactic(auto, unfolding(crate::specs::Locations::value_met))]
+/// The value that is put. A new location joins the others; one too many is met where so many bytes of
+/// the text are left.
+pub fn value_of(locations: &mut Locations, worth: Worth<'_>, left: usize) -> Result<u32, Refusal>
+    requires { HasName (value_put worth) }
+    ensures { Gives fault_in (λ value. (value, locations.new)) result (value_met locations.old (value_put worth.entry)) }
+{
+    match worth {
+        Worth::Number(number) => Ok(number),
+        Worth::Address(name) => {
+            let index = locations.index_of(name, left)?;
+            Ok(address_of(index))
+        }
+    }
+}

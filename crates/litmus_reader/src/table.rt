@@ -1,0 +1,187 @@
+//! The table: a column of assembly for each hart.
+
+ghost use Rattle.std.specs.Prelude.{◌≡◌, ◌≤◌, List, [], length, map, replicate, IfOk, IsSome};
+ghost use Rattle.std.specs.Option.{option_copied};
+ghost use Rattle.texts.specs.Results.{Gives};
+ghost use Rattle.litmus_reader.specs.Faults.{fault_in};
+ghost use Rattle.litmus_reader.specs.Parts.{parts_after};
+ghost use Rattle.litmus_reader.specs.Rows.{cells_of};
+ghost use Rattle.litmus_reader.specs.Table.{Column, cell_told, cells_told, line_told, lines_told, table_at, codes_of, instructions, ArePlain, AreShort};
+
+use crate::faults::LitmusFault;
+use crate::marks::{Mark, cut_at_line};
+use crate::parts::first_part;
+use crate::refusals::Refusal;
+use crate::rows::{count_cells, harts_in, is_blank_line, row_in};
+use assembler::{AsmError, Draft};
+use std::alloc::{AllocError, Global};
+use std::marker::Model;
+use texts::cutting::cut_at;
+
+/// How many words a hart's code may have.
+pub const MAX_WORDS: usize = 4096;
+
+/// The harts' columns so far, each a text of one line for a row.
+#[derive(Drop)]
+pub struct Table {
+    columns: Vec<Draft>,
+}
+
+impl Model for Table {
+    ghost Value = { List Column };
+
+    ghost view = { λ table. table.columns.items };
+}
+
+#[tactic(auto, unfolding(crate::specs::Table::cell_told))]
+/// Tells a hart the statement in its cell, which may be none.
+fn tell(column: &mut Draft, cell: &[u8], left: usize) -> Result<(), Refusal>
+    ensures { Gives fault_in (λ _. column.new) result (cell_told column.old cell.now) }
+{
+    match column.read(cell) {
+        Ok(()) => {}
+        Err(AsmError::NoMemory) => return Err(Refusal::NoMemory),
+        Err(AsmError::Refused { .. }) => return Err(LitmusFault::BadInstr.at(left)),
+    }
+    if column.words() > MAX_WORDS {
+        return Err(LitmusFault::TooMany.at(left));
+    }
+    Ok(())
+}
+
+impl Table {
+    /// A table of so many harts and no row yet.
+    fn new(alloc: Global, harts: usize) -> Result<Table, AllocError>
+        ensures { IfOk result (λ table. table ≡ replicate harts []) }
+    {
+        let mut columns = Vec::new(alloc);
+        for _ in 0..harts {
+            columns.push(Draft::new(alloc))?;
+        }
+        Ok(Table { columns })
+    }
+
+    /// Tells the harts the statements in the row's cells, from the left.
+    fn tell_cells(&mut self, row: &[u8], left: usize) -> Result<(), Refusal>
+        requires { length (cells_of row.now) ≡ length self.old }
+        ensures exact { Gives fault_in (λ _. self.new) result (cells_told self.old (cells_of row.now)) }
+        ensures same { length self.new ≡ length self.old }
+    {
+        let mut hart = 0;
+        let mut rest = Some(row);
+        while let Some(bytes) = rest {
+            let (cell, after) = first_part(bytes, b'|');
+            tell(&mut self.columns[hart], cell, left)?;
+            hart += 1;
+            rest = after;
+        }
+        Ok(())
+    }
+
+    #[tactic(auto, unfolding(crate::specs::Table::line_told))]
+    /// Reads a row, or nothing in a blank line. Its shape is judged before its cells.
+    fn read(&mut self, line: &[u8], left: usize) -> Result<(), Refusal>
+        ensures exact { Gives fault_in (λ _. self.new) result (line_told self.old line.now) }
+        ensures same { length self.new ≡ length self.old }
+    {
+        if is_blank_line(line) {
+            return Ok(());
+        }
+        match row_in(line) {
+            Some(row) if count_cells(row) == self.columns.len() => self.tell_cells(row, left),
+            _ => Err(LitmusFault::BadTable.at(left)),
+        }
+    }
+
+    /// Reads the rows that follow the first one, behind which so many bytes stand.
+    fn read_rows(&mut self, rows: Option<&[u8]>, behind: usize) -> Result<(), Refusal>
+        ensures exact { Gives fault_in (λ _. self.new) result (lines_told self.old (parts_after 10 (option_copied rows.entry))) }
+        ensures same { length self.new ≡ length self.old }
+    {
+        let mut rest = rows;
+        while let Some(bytes) = rest {
+            let (line, after) = first_part(bytes, b'\n');
+            self.read(line, bytes.len().saturating_add(behind))?;
+            rest = after;
+        }
+        Ok(())
+    }
+
+    /// Each hart's words, as [`Table::finish`] says.
+    fn codes(self, alloc: Global, text: &[u8], behind: usize) -> Result<Vec<Vec<u32>>, Refusal>
+        ensures exact { Gives fault_in instructions result (codes_of self) }
+        ensures plain { IfOk result (λ codes. ArePlain codes.items) }
+    {
+        let mut codes = Vec::new(alloc);
+        let mut faulty = None;
+        for column in self.columns {
+            match column.finish() {
+                Ok(words) => codes.push(words)?,
+                Err(AsmError::NoMemory) => return Err(Refusal::NoMemory),
+                Err(AsmError::Refused { line, .. }) => faulty = earlier(faulty, line),
+            }
+        }
+        match faulty {
+            None => Ok(codes),
+            Some(row) => {
+                Err(LitmusFault::BadInstr.at(left_at_row(text, row).saturating_add(behind)))
+            }
+        }
+    }
+
+    /// Each hart's words. `BadInstr` comes where a label has no place, at the first row of them, in the
+    /// table's text, behind which so many bytes stand.
+    pub fn finish(self, alloc: Global, text: &[u8], behind: usize) -> Result<Vec<Vec<u32>>, Refusal>
+        ensures exact { Gives fault_in instructions result (codes_of self) }
+        ensures plain { IfOk result (λ codes. ArePlain codes.items) }
+        ensures count { IfOk result (λ codes. length codes.items ≡ length self) }
+        ensures short { IfOk result (λ codes. AreShort (instructions codes)) }
+    {
+        self.codes(alloc, text, behind)
+    }
+}
+
+/// The earlier one of two rows, where there may be one already.
+fn earlier(row: Option<usize>, other: usize) -> Option<usize>
+    ensures { IsSome result }
+{
+    match row {
+        Some(row) if row < other => Some(row),
+        _ => Some(other),
+    }
+}
+
+/// How many bytes of the table's text are left at the row, which counts from 0 for the first one.
+/// Only a fault's line is told by it.
+fn left_at_row(text: &[u8], row: usize) -> usize {
+    let mut rows = row;
+    let mut rest = Some(text);
+    while let Some(bytes) = rest {
+        let (line, after) = first_part(bytes, b'\n');
+        if !is_blank_line(line) {
+            if rows == 0 {
+                return bytes.len();
+            }
+            rows -= 1;
+        }
+        rest = after;
+    }
+    0
+}
+
+#[tactic(auto, unfolding(crate::specs::Table::table_at))]
+/// The table in this text, behind which so many bytes stand.
+pub fn read_table(alloc: Global, text: &[u8], behind: usize) -> Result<Table, Refusal>
+    ensures exact { Gives fault_in (λ (table : List Column). table) result (table_at text.now) }
+    ensures some { IfOk result (λ table. 1 ≤ length table) }
+    ensures few { IfOk result (λ table. length table ≤ 64) }
+{
+    let Some(rows) = cut_at_line(Mark::Visible, text).1 else {
+        return Err(LitmusFault::BadTable.at_end());
+    };
+    let (first, rest) = cut_at(rows, b'\n');
+    let harts = harts_in(alloc, first, rows.len().saturating_add(behind))?;
+    let mut table = Table::new(alloc, harts)?;
+    table.read_rows(rest, behind)?;
+    Ok(table)
+}

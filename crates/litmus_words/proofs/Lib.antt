@@ -1,0 +1,9 @@
+pub mod CoreLaws
+pub mod CleaningLaws
+pub mod CommentLaws
+pub mod WordLaws
+pub mod Bytes
+pub mod NumberTexts
+pub mod SettingLaws
+pub mod ItemLaws
+pub mod Spelling

@@ -1,0 +1,83 @@
+-- The words of a text are its first one and those of the rest.
+use Rattle.std.proofs.Common.{◌≡◌, ℕ, suc, zero, ◌<◌, ◌≤◌, ◌==◌, Bool, true, false, ◌&&◌, List, [], ◌∷◌, length, drop, Option, Some, None, refl, ap, arith, length-drop}
+use Rattle.std.specs.Prelude.{nat_eq, codes}
+use Rattle.std.specs.List.{starts_with}
+use Rattle.texts.specs.Cutting.{before}
+use Rattle.litmus_words.specs.Cores.{from_first, is_solid, without_front}
+use Rattle.litmus_words.specs.Settings.{Put}
+use Rattle.litmus_words.specs.Reading.{setting_at}
+use Rattle.litmus_words.specs.Words.{Token, Beginning, Words, is_mark, ends_name, behind_not, paired, told_atom, told_not, unmarked, begun, beginning_of, words_from, words_within, words_of, LeavesLess}
+use Rattle.litmus_words.specs.Words.Beginning.{nothing, begins, no_word}
+use Rattle.litmus_words.specs.Words.Words.{word}
+use Rattle.litmus_words.specs.Words.Token.{conjunction, disjunction}
+use Rattle.litmus_words.proofs.CoreLaws.{length-from_first}
+
+-- ---- what follows a word is shorter than the text
+
+not_or_less : (c : ℕ) (rest : List ℕ) (other : Beginning) → LeavesLess (c ∷ rest) other → LeavesLess (c ∷ rest) (told_not (behind_not (c ∷ rest)) other)
+unfolding behind_not
+not_or_less c rest other less = go (starts_with nat_eq (c ∷ rest) (codes "not") && ends_name (drop 3 (c ∷ rest))) refl
+  where
+    go : (b : Bool) → (starts_with nat_eq (c ∷ rest) (codes "not") && ends_name (drop 3 (c ∷ rest))) ≡ b → LeavesLess (c ∷ rest) (told_not (behind_not (c ∷ rest)) other)
+    go true is = rw is (omega (arith, length-drop 3 (c ∷ rest)))
+    go false isnt = rw isnt less
+
+atom_less : (c : ℕ) (rest : List ℕ) (put : Option Put) → is_mark c ≡ false → LeavesLess (c ∷ rest) (told_atom put (from_first is_mark (c ∷ rest)))
+atom_less c rest None other = tt
+atom_less c rest (Some put) other = rw other (omega (arith, length-from_first is_mark rest))
+
+unmarked_less : (c : ℕ) (rest : List ℕ) → is_mark c ≡ false → LeavesLess (c ∷ rest) (unmarked (c ∷ rest))
+unfolding unmarked
+unmarked_less c rest other = not_or_less c rest (told_atom (setting_at (before is_mark (c ∷ rest))) (from_first is_mark (c ∷ rest))) (atom_less c rest (setting_at (before is_mark (c ∷ rest))) other)
+
+paired_less : (c : ℕ) (rest : List ℕ) (token : Token) (second : ℕ) → LeavesLess (c ∷ rest) (paired token second rest)
+paired_less c [] token second = tt
+paired_less c (d ∷ rest) token second = go (d == second) refl
+  where
+    go : (b : Bool) → (d == second) ≡ b → LeavesLess (c ∷ d ∷ rest) (paired token second (d ∷ rest))
+    go true is = rw is (omega arith)
+    go false isnt = rw isnt tt
+
+begun_less : (text : List ℕ) → LeavesLess text (begun text)
+unfolding begun
+begun_less [] = tt
+begun_less (c ∷ rest) = go (c == 40) refl (c == 41) refl (c == 126) refl (c == 47) refl (c == 92) refl
+  where
+    go : (a1 : Bool) → (c == 40) ≡ a1 → (a2 : Bool) → (c == 41) ≡ a2 → (a3 : Bool) → (c == 126) ≡ a3 → (a4 : Bool) → (c == 47) ≡ a4 → (a5 : Bool) → (c == 92) ≡ a5 → LeavesLess (c ∷ rest) (begun (c ∷ rest))
+    go true e1 a2 e2 a3 e3 a4 e4 a5 e5 = rw e1 (omega arith)
+    go false e1 true e2 a3 e3 a4 e4 a5 e5 = rw (e1, e2) (omega arith)
+    go false e1 false e2 true e3 a4 e4 a5 e5 = rw (e1, e2, e3) (omega arith)
+    go false e1 false e2 false e3 true e4 a5 e5 = rw (e1, e2, e3, e4) (paired_less c rest conjunction 92)
+    go false e1 false e2 false e3 false e4 true e5 = rw (e1, e2, e3, e4, e5) (paired_less c rest disjunction 47)
+    go false e1 false e2 false e3 false e4 false e5 = (let other : is_mark c ≡ false = rw (e1, e2, e3, e4, e5) refl in rw (e1, e2, e3, e4, e5) (unmarked_less c rest other))
+
+less_more : (short long : List ℕ) (b : Beginning) → length short ≤ length long → LeavesLess short b → LeavesLess long b
+less_more short long nothing le less = tt
+less_more short long (begins token rest) le less = omega arith
+less_more short long no_word le less = tt
+
+pub leaves_less : (text : List ℕ) → LeavesLess text (beginning_of text)
+unfolding beginning_of
+leaves_less text = less_more (without_front text) text (begun (without_front text)) (length-from_first is_solid text) (begun_less (without_front text))
+
+-- ---- so many words are enough
+
+same_words : (n : ℕ) (text : List ℕ) (m : ℕ) → length text < n → length text < m → words_within n text ≡ words_within m text
+unfolding words_within
+same_words zero text m lt lt' = absurd (omega arith)
+same_words (suc n) text zero lt lt' = absurd (omega arith)
+same_words (suc n) text (suc m) lt lt' = go (same_words n) (beginning_of text) (leaves_less text)
+  where
+    go : ((rest : List ℕ) (m : ℕ) → length rest < n → length rest < m → words_within n rest ≡ words_within m rest) → (b : Beginning) → LeavesLess text b → words_from (words_within n) b ≡ words_from (words_within m) b
+    go same nothing less = refl
+    go same (begins token rest) less = ap (λ (others : Words). word token others) (same rest m (omega arith) (omega arith))
+    go same no_word less = refl
+
+pub words_cut : (text : List ℕ) → words_of text ≡ words_from words_of (beginning_of text)
+unfolding words_of words_within
+words_cut text = go (beginning_of text) (leaves_less text)
+  where
+    go : (b : Beginning) → LeavesLess text b → words_from (words_within (length text)) b ≡ words_from words_of b
+    go nothing less = refl
+    go (begins token rest) less = ap (λ (others : Words). word token others) (same_words (length text) rest (suc (length rest)) less (omega arith))
+    go no_word less = refl

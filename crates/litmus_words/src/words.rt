@@ -1,0 +1,138 @@
+//! The words of a condition.
+
+ghost use Rattle.std.specs.Prelude.{◌≡◌, position};
+ghost use Rattle.std.specs.Option.{option_copied};
+ghost use Rattle.texts.specs.Cutting.{before};
+ghost use Rattle.litmus_words.specs.Cores.{from_first};
+ghost use Rattle.litmus_words.specs.Words.{is_mark, ends_name, behind_not, paired, unmarked, begun, token_of, seen, beginning_of, words_of, words_from, LeavesLess};
+
+use crate::cores::without_front;
+use crate::names::goes_on_name;
+use crate::settings::{Setting, setting_in};
+
+/// A word of a condition.
+#[derive(Clone, Copy, Debug, PartialEq, Eq)]
+pub enum Word<'a> {
+    /// An atom: this holds in the final state.
+    Is(Setting<'a>),
+    /// `~` or `not`.
+    Not,
+    /// `/\`.
+    And,
+    /// `\/`.
+    Or,
+    /// `(`.
+    Open,
+    /// `)`.
+    Close,
+}
+
+/// What a text begins with, behind blanks and LFs.
+#[derive(Clone, Copy, Debug, PartialEq, Eq)]
+pub enum Front<'a> {
+    /// Nothing: the text is at its end.
+    End,
+    /// A word, and what follows it.
+    Word(Word<'a>, &'a [u8]),
+    /// No word.
+    NoWord,
+}
+
+fn is_mark(byte: u8) -> bool
+    ensures { result ≡ is_mark byte }
+{
+    byte == b'(' || byte == b')' || byte == b'~' || byte == b'/' || byte == b'\\'
+}
+
+fn mark_in(text: &[u8]) -> Option<usize>
+    ensures { result ≡ position is_mark text.now }
+{
+    text.iter().position(|byte| is_mark(*byte))
+}
+
+/// What stands before the first mark, and the text from there on.
+fn cut_at_mark(text: &[u8]) -> (&[u8], &[u8])
+    ensures front { result.0.now ≡ before is_mark text.now }
+    ensures back { result.1.now ≡ from_first is_mark text.now }
+{
+    match mark_in(text) {
+        Some(at) => (&text[..at], &text[at..]),
+        None => (text, &text[text.len()..]),
+    }
+}
+
+fn ends_name(behind: &[u8]) -> bool
+    ensures { result ≡ ends_name behind.now }
+{
+    match behind.first() {
+        Some(byte) => !goes_on_name(*byte),
+        None => true,
+    }
+}
+
+/// What follows the name at the front, where that is `not`.
+#[tactic(auto, unfolding(crate::specs::Words::behind_not))]
+fn behind_not(text: &[u8]) -> Option<&[u8]>
+    ensures { option_copied result ≡ behind_not text.now }
+{
+    if text.starts_with(b"not") && ends_name(&text[3..]) {
+        Some(&text[3..])
+    } else {
+        None
+    }
+}
+
+/// A word of two bytes, where this one follows the first.
+fn paired<'a>(word: Word<'a>, second: u8, behind: &'a [u8]) -> Front<'a>
+    ensures { seen result ≡ paired (token_of word.entry) second behind.now }
+{
+    match behind {
+        [byte, rest @ ..] if *byte == second => Front::Word(word, rest),
+        _ => Front::NoWord,
+    }
+}
+
+/// The word `not`, or an atom.
+#[tactic(auto, unfolding(crate::specs::Words::unmarked))]
+fn unmarked(text: &[u8]) -> Front<'_>
+    ensures { seen result ≡ unmarked text.now }
+{
+    if let Some(rest) = behind_not(text) {
+        return Front::Word(Word::Not, rest);
+    }
+    let (atom, rest) = cut_at_mark(text);
+    match setting_in(atom) {
+        Some(setting) => Front::Word(Word::Is(setting), rest),
+        None => Front::NoWord,
+    }
+}
+
+#[tactic(auto, unfolding(crate::specs::Words::begun))]
+fn begun(text: &[u8]) -> Front<'_>
+    ensures { seen result ≡ begun text.now }
+{
+    match text {
+        [] => Front::End,
+        [b'(', rest @ ..] => Front::Word(Word::Open, rest),
+        [b')', rest @ ..] => Front::Word(Word::Close, rest),
+        [b'~', rest @ ..] => Front::Word(Word::Not, rest),
+        [b'/', rest @ ..] => paired(Word::And, b'\\', rest),
+        [b'\\', rest @ ..] => paired(Word::Or, b'/', rest),
+        _ => unmarked(text),
+    }
+}
+
+/// What the text begins with.
+///
+/// An atom goes on to the next `(`, `)`, `~`, `/` or `\`. A name at the front that is exactly `not` is
+/// the word [`Word::Not`], whatever follows it, and no location.
+///
+/// A text is walked word by word in time linear in its length:
+/// `while let Front::Word(word, after) = first_word(rest) { ..; rest = after; }`.
+pub fn first_word(text: &[u8]) -> Front<'_>
+    ensures exact { seen result ≡ beginning_of text.now }
+    ensures words { words_of text.now ≡ words_from words_of (seen result) }
+    ensures rest { LeavesLess text.now (seen result) }
+{
+    begun(without_front(text))
+}

@@ -1,0 +1,16 @@
+use Rattle.std.proofs.Common.{◌∙◌, ap, ap₂}
+use Rattle.std.proofs.lemmas.Result.{IfOk-weaker}
+use Rattle.clap.specs.Words.{App, Shape, with_subcommand}
+use Rattle.ztso.proofs.command_line.description.ztso_command.Goals as goal
+
+pub returns : goal.returns
+returns c =
+    let top : App → Shape = λ app. app.top in
+    let with_steps = c.in_ok-with_steps.ensures.shape c.in_ok-steps.ensures.local ∙ ap₂ with_subcommand c.new.ensures.app (ap top c.in_ok-steps.ensures.shape) in
+    let with_asm = c.in_ok-with_asm.ensures.shape c.new-asm.ensures.local ∙ ap₂ with_subcommand with_steps (ap top c.new-asm.ensures.app) in
+    let with_dis = c.in_ok-with_dis.ensures.shape c.new-dis.ensures.local ∙ ap₂ with_subcommand with_asm (ap top c.new-dis.ensures.app) in
+    let with_run = c.in_ok-with_run.ensures.shape c.in_ok-run.ensures.local ∙ ap₂ with_subcommand with_dis (ap top c.in_ok-run.ensures.shape) in
+    let with_replay = c.in_ok-with_replay.ensures.shape c.in_ok-replay.ensures.local ∙ ap₂ with_subcommand with_run (ap top c.in_ok-replay.ensures.shape) in
+    IfOk-weaker c.subcommand-6.result _ _
+    (λ command added. added.shape c.in_ok-trying.ensures.local ∙ ap₂ with_subcommand with_replay (ap top c.in_ok-trying.ensures.shape))
+    c.subcommand-6.ensures

@@ -1,0 +1,54 @@
+-- The command line, as it is described to clap.
+use Rattle.std.specs.Prelude.{true, List, [], ◌∷◌, Some, codes}
+use Rattle.clap.specs.Words.{App, Rule, Text, new_app, new_rule, with_rule, with_subcommand}
+use Rattle.clap.specs.declared.builder.ArgAction.TheVariants.{Set}
+
+-- `--buffer B`, and 4 where it isn't said
+abbrev pub buffer_option : Rule
+buffer_option = record (new_rule (codes "buffer")) {
+  long = Some (codes "buffer");
+  action = Some Set;
+  defaults = codes "4" ∷ [];
+}
+
+-- a word that has to stand in its place
+abbrev pub word_wanted : Text → Rule
+word_wanted id = record (new_rule id) { required = true }
+
+-- `--name VALUE`, which has to be given
+abbrev pub option_wanted : Text → Rule
+option_wanted name = record (new_rule name) {
+  long = Some name;
+  action = Some Set;
+  required = true;
+}
+
+-- `steps [--buffer B]`
+abbrev pub steps_command : App
+steps_command = with_rule (new_app (codes "steps")) buffer_option
+
+-- `asm` and `dis` have no options
+abbrev pub asm_command : App
+asm_command = new_app (codes "asm")
+
+abbrev pub dis_command : App
+dis_command = new_app (codes "dis")
+
+-- `run FILE SCHEDULE [--buffer B]`, and so `replay`
+abbrev pub schedule_command : Text → App
+schedule_command name =
+    with_rule (with_rule (with_rule (new_app name) (word_wanted (codes "file"))) (word_wanted (codes "schedule"))) buffer_option
+
+-- `try FILE --seed S --runs N --length L [--buffer B]`
+abbrev pub try_command : App
+try_command =
+    with_rule (with_rule (with_rule (with_rule (with_rule (new_app (codes "try")) (word_wanted (codes "file")))
+    (option_wanted (codes "seed"))) (option_wanted (codes "runs"))) (option_wanted (codes "length"))) buffer_option
+
+abbrev pub with_commands : App → List App → App
+with_commands app [] = app
+with_commands app (command ∷ commands) = with_commands (with_subcommand app command.top) commands
+
+abbrev pub ztso_command : App
+ztso_command = with_commands (new_app (codes "ztso"))
+    (steps_command ∷ asm_command ∷ dis_command ∷ schedule_command (codes "run") ∷ schedule_command (codes "replay") ∷ try_command ∷ [])

@@ -1,0 +1,84 @@
+//! The command line, as it is described to clap.
+
+ghost use Rattle.std.specs.Prelude.{◌≡◌, false, IfOk};
+ghost use Rattle.clap.specs.Words.{app_of, rule_of};
+ghost use Rattle.clap.specs.declared.builder.command.Command.TheViews.{out-Command as fields_of};
+ghost use Rattle.ztso.specs.Descriptions.{buffer_option, option_wanted, schedule_command, steps_command, try_command, word_wanted, ztso_command};
+
+use clap::{Arg, ArgAction, Command};
+use std::alloc::{AllocError, Global};
+
+fn buffer_option<'a>(alloc: Global) -> Arg<'a>
+    ensures rule { rule_of result ≡ buffer_option }
+    ensures local { result.global ≡ false }
+{
+    Arg::new(alloc, "buffer")
+        .long("buffer")
+        .action(ArgAction::Set)
+        .default_value("4")
+}
+
+/// A word that has to stand in its place.
+fn word_wanted<'a>(alloc: Global, id: &'a str) -> Arg<'a>
+    ensures rule { rule_of result ≡ word_wanted id.entry.now }
+    ensures local { result.global ≡ false }
+{
+    Arg::new(alloc, id).required(true)
+}
+
+/// `--name` with a value, which has to be given.
+fn option_wanted<'a>(alloc: Global, name: &'a str) -> Arg<'a>
+    ensures rule { rule_of result ≡ option_wanted name.entry.now }
+    ensures local { result.global ≡ false }
+{
+    Arg::new(alloc, name)
+        .long(name)
+        .action(ArgAction::Set)
+        .required(true)
+}
+
+fn steps_command<'a>(alloc: Global) -> Result<Command<'a>, AllocError>
+    ensures shape { IfOk result (λ command. app_of command ≡ steps_command) }
+    ensures local { IfOk result (λ command. (fields_of command).has_globals ≡ false) }
+{
+    Command::new(alloc, "steps").arg(buffer_option(alloc))
+}
+
+/// A command on a litmus text and a schedule.
+fn schedule_command<'a>(alloc: Global, name: &'a str) -> Result<Command<'a>, AllocError>
+    ensures shape { IfOk result (λ command. app_of command ≡ schedule_command name.entry.now) }
+    ensures local { IfOk result (λ command. (fields_of command).has_globals ≡ false) }
+{
+    let with_file = Command::new(alloc, name).arg(word_wanted(alloc, "file"))?;
+    let with_schedule = with_file.arg(word_wanted(alloc, "schedule"))?;
+    with_schedule.arg(buffer_option(alloc))
+}
+
+fn try_command<'a>(alloc: Global) -> Result<Command<'a>, AllocError>
+    ensures shape { IfOk result (λ command. app_of command ≡ try_command) }
+    ensures local { IfOk result (λ command. (fields_of command).has_globals ≡ false) }
+{
+    let with_file = Command::new(alloc, "try").arg(word_wanted(alloc, "file"))?;
+    let with_seed = with_file.arg(option_wanted(alloc, "seed"))?;
+    let with_runs = with_seed.arg(option_wanted(alloc, "runs"))?;
+    let with_length = with_runs.arg(option_wanted(alloc, "length"))?;
+    with_length.arg(buffer_option(alloc))
+}
+
+/// The whole command line.
+pub fn ztso_command<'a>(alloc: Global) -> Result<Command<'a>, AllocError>
+    ensures { IfOk result (λ command. app_of command ≡ ztso_command) }
+{
+    let steps = steps_command(alloc)?;
+    let asm = Command::new(alloc, "asm");
+    let dis = Command::new(alloc, "dis");
+    let run = schedule_command(alloc, "run")?;
+    let replay = schedule_command(alloc, "replay")?;
+    let trying = try_command(alloc)?;
+    let with_steps = Command::new(alloc, "ztso").subcommand(steps)?;
+    let with_asm = with_steps.subcommand(asm)?;
+    let with_dis = with_asm.subcommand(dis)?;
+    let with_run = with_dis.subcommand(run)?;
+    let with_replay = with_run.subcommand(replay)?;
+    with_replay.subcommand(trying)
+}

@@ -1,0 +1,12 @@
+use Rattle.ztso_engines.specs.Dis.{SaysCode, dis_at}
+use Rattle.ztso_engines.proofs.Judging.{accepted_well}
+use Rattle.ztso_engines.proofs.CodeTexts.{code_found}
+use Rattle.ztso_engines.proofs.dis.answer.Goals as goal
+
+pub returns : goal.returns
+returns c =
+    let code = c.in_ok-code.code.items in (
+      code,
+      accepted_well dis_at SaysCode c.args.input.now code (code_found c.args.input.now code) c.in_ok-code.ensures,
+      rw (← c.deref.ensures.value) c.in_ok-text.ensures,
+    )

@@ -1,0 +1,49 @@
+-- The command `asm`: the words of an assembly text, a line each.
+use Rattle.std.specs.Prelude.{ℕ, ◌≡◌, ◌-◌, ◌^◌, ◌<◌, false, List, ◌∷◌, [], ◌++◌, length, map, replicate, Option, Result, Ok, Err}
+use Rattle.std.specs.List.{All, flat_map}
+use Rattle.std.specs.Fmt.{digits}
+use Rattle.rv_decode.specs.Meaning.{meaning}
+use Rattle.rv_decode.specs.declared.instruction.Instr.{Instr}
+use Rattle.assembler.specs.Drafts.{assembled, AllPlain}
+use Rattle.assembler.specs.Faults.{number_of, Refusal as AsmRefusal}
+use Rattle.assembler.specs.declared.faults.AsmError.{AsmError}
+use Rattle.assembler.specs.declared.faults.AsmError.TheVariants as error
+use Rattle.ztso_engines.specs.declared.fault.Fault.{Fault}
+use Rattle.ztso_engines.specs.declared.fault.Fault.TheVariants.{NoMemory, Refused}
+use Rattle.ztso_engines.specs.declared.fault.Refusal.{Refusal}
+use Rattle.ztso_engines.specs.declared.fault.Place.TheVariants.{Line}
+use Rattle.ztso_engines.specs.Engines.{Accepted, judged}
+
+-- a fault of an assembly text, refused by its number at its line
+abbrev pub refused_at : {V : Type 0} → Result V AsmRefusal → Result V Refusal
+refused_at (Ok x) = Ok x
+refused_at (Err r) = Err (record { number = number_of r.fault; place = Line r.line })
+
+-- an error of the assembler as a fault
+abbrev pub fault_of_error : AsmError → Fault
+fault_of_error error.NoMemory = NoMemory
+fault_of_error (error.Refused fault line) = Refused (record { number = number_of fault; place = Line line })
+
+-- the instructions of an assembly text, or its refusal
+unfoldable pub asm_at : List ℕ → Result (List (Option Instr)) Refusal
+asm_at text = refused_at (assembled text)
+
+-- the text is assembled to these words of 32 bits: each means its instruction, and leaves its free fields 0
+pub record IsCode (text words : List ℕ) : Type 0 where
+  pub instructions : asm_at text ≡ Ok (map meaning words)
+  pub plain : AllPlain words
+  pub small : All (λ word. word < 2 ^ 32) words
+
+-- a word as 8 lower case hex digits
+abbrev pub hex_text : ℕ → List ℕ
+hex_text word = replicate (8 - length (digits 16 false word)) 48 ++ digits 16 false word
+
+-- a word on a line of its own
+abbrev pub hex_line : ℕ → List ℕ
+hex_line word = hex_text word ++ 10 ∷ []
+
+-- What answers an input: the lines of the words that it is assembled to, where it is a text within the
+-- limit that is, else the refusal for its first fault.
+abbrev pub IsAsmAnswer : List ℕ → Result (List ℕ) Refusal → Type 0
+IsAsmAnswer input (Ok out) = (words : List ℕ) × Accepted IsCode input words × (out ≡ flat_map hex_line words)
+IsAsmAnswer input (Err refusal) = judged asm_at input ≡ Err refusal

@@ -1,0 +1,97 @@
+//! The command `asm`: an assembly text in, its words out.
+
+ghost use Rattle.std.specs.Prelude.{◌≡◌, ◌<◌, ◌≤◌, ◌^◌, ◌++◌, map, length, IfOk, OnOk};
+ghost use Rattle.std.specs.List.{All, flat_map};
+ghost use Rattle.std.specs.String.{string_bytes};
+ghost use Rattle.rv_decode.specs.Meaning.{meaning};
+ghost use Rattle.assembler.specs.Drafts.{AllPlain};
+ghost use Rattle.ztso_engines.specs.Faults.{Answers, AnswersAs};
+ghost use Rattle.ztso_engines.specs.Engines.{EndsBy, judged};
+ghost use Rattle.ztso_engines.specs.Asm.{asm_at, hex_line, fault_of_error, IsAsmAnswer};
+
+use crate::fault::{Fault, Place};
+use crate::input::{read_input, text_of};
+use crate::output::write_output;
+use assembler::{AsmError, assemble};
+use std::alloc::{AllocError, Global};
+use std::io::{Read, Write};
+
+#[cfg(test)]
+mod tests;
+
+impl From<AsmError> for Fault {
+    ghost from_gives = { λ error fault. fault ≡ fault_of_error error };
+
+    fn from(error: AsmError) -> Fault {
+        match error {
+            AsmError::NoMemory => Fault::NoMemory,
+            AsmError::Refused { fault, line } => Fault::refused(fault.number(), Place::Line(line)),
+        }
+    }
+}
+
+/// The words of a text.
+#[tactic(auto, unfolding(crate::specs::Asm::asm_at))]
+fn code_of(alloc: Global, text: &str) -> Result<Vec<u32>, Fault>
+    ensures exact { Answers (λ code. map meaning code.items) result (asm_at text.now) }
+    ensures plain { IfOk result (λ code. AllPlain code.items) }
+{
+    match assemble(alloc, text) {
+        Ok(code) => Ok(code),
+        Err(error) => Err(Fault::from(error)),
+    }
+}
+
+/// What an input is assembled to.
+#[tactic(auto, using(crate::proofs::Judging::judged_text, crate::proofs::Judging::judged_no_text))]
+fn code_of_input(alloc: Global, input: &[u8]) -> Result<Vec<u32>, Fault>
+    requires { length input.now ≤ 1048576 }
+    ensures exact { Answers (λ code. map meaning code.items) result (judged asm_at input.now) }
+    ensures plain { IfOk result (λ code. AllPlain code.items) }
+{
+    code_of(alloc, text_of(input)?)
+}
+
+#[tactic(auto, using(crate::proofs::HexLines::eight_digits))]
+fn push_hex_line(out: &mut String, word: u32) -> Result<(), AllocError>
+    ensures { OnOk result (string_bytes out.new ≡ string_bytes out.old ++ hex_line word) }
+{
+    writeln!(out, "{word:08x}")
+}
+
+fn code_text(alloc: Global, code: &[u32]) -> Result<String, AllocError>
+    ensures lines { IfOk result (λ text. string_bytes text ≡ flat_map hex_line code.now) }
+    // as their type has it
+    ensures small { All (λ word. word < 2 ^ 32) code.now }
+{
+    let mut out = String::new(alloc);
+    for word in code {
+        push_hex_line(&mut out, *word)?;
+    }
+    Ok(out)
+}
+
+fn answer(alloc: Global, input: &[u8]) -> Result<String, Fault>
+    requires { length input.now ≤ 1048576 }
+    ensures { AnswersAs (IsAsmAnswer input.now) string_bytes result }
+{
+    let code = code_of_input(alloc, input)?;
+    let text = code_text(alloc, &code)?;
+    Ok(text)
+}
+
+/// Reads an assembly text to its end, and writes its words, each as 8 hex digits on a line.
+///
+/// An input is refused as too large ([`crate::fault::TOO_LARGE`]), else as no text
+/// ([`crate::fault::NOT_TEXT`]), else as [`assemble`] says, at the line, and then nothing was written.
+pub fn asm_engine<R: Read, W: Write>(
+    alloc: Global,
+    reader: &mut R,
+    writer: &mut W,
+) -> Result<(), Fault>
+    ensures { EndsBy IsAsmAnswer result (R.remaining reader.old) (W.contents writer.old) (W.contents writer.new) }
+{
+    let input = read_input(alloc, reader)?;
+    let out = answer(alloc, &input)?;
+    write_output(writer, &out)
+}

@@ -1,0 +1,25 @@
+//! Instruction words in hex.
+
+ghost use Rattle.texts.specs.Results.{Gives};
+ghost use Rattle.ztso_engines.specs.Words.{words};
+ghost use Rattle.ztso_engines.specs.LineFaults.{number_in};
+ghost use Rattle.ztso_engines.specs.Code.{code_at};
+
+use crate::line_fault::{BAD, LineFault};
+use crate::words::first_word;
+use std::alloc::Global;
+use texts::hex_word;
+
+/// The instruction words that the words of a line say, however many.
+#[tactic(auto, unfolding(crate::specs::Code::code_at))]
+pub fn code_of(alloc: Global, text: &[u8]) -> Result<Vec<u32>, LineFault>
+    ensures { Gives number_in (λ code. code.items) result (code_at (words text.now)) }
+{
+    let mut code = Vec::new(alloc);
+    let mut rest = text;
+    while let Some((digits, after)) = first_word(rest) {
+        code.push(hex_word(digits).ok_or(BAD)?)?;
+        rest = after;
+    }
+    Ok(code)
+}

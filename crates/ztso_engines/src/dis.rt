@@ -1,0 +1,116 @@
+//! The command `dis`: words in hex in, what they mean out.
+
+ghost use Rattle.std.specs.Prelude.{◌≡◌, ◌≤◌, ◌++◌, length, IfOk, OnOk};
+ghost use Rattle.std.specs.List.{flat_map};
+ghost use Rattle.std.specs.String.{string_bytes};
+ghost use Rattle.rv_decode.specs.Meaning.{meaning};
+ghost use Rattle.ztso_engines.specs.Faults.{Answers, AnswersAs};
+ghost use Rattle.ztso_engines.specs.Engines.{EndsBy, judged};
+ghost use Rattle.ztso_engines.specs.Words.{words};
+ghost use Rattle.ztso_engines.specs.LineFaults.{at_line};
+ghost use Rattle.ztso_engines.specs.Code.{code_at};
+ghost use Rattle.ztso_engines.specs.Dis.{dis_at, meant_text, instr_line, IsDisAnswer};
+
+use crate::code::code_of;
+use crate::fault::Fault;
+use crate::input::{read_input, text_of};
+use crate::output::write_output;
+use assembler::write_instr;
+use rv_decode::decode;
+use std::alloc::{AllocError, Global};
+use std::io::{Read, Write};
+use texts::first_line;
+
+#[cfg(test)]
+mod tests;
+
+/// The instruction words of the line of this number.
+#[tactic(auto, using(crate::proofs::LineFaulted::refused_at_line))]
+fn code_of_line(alloc: Global, line: &[u8], number: usize) -> Result<Vec<u32>, Fault>
+    ensures { Answers (λ code. code.items) result (at_line number (code_at (words line.now))) }
+{
+    match code_of(alloc, line) {
+        Ok(code) => Ok(code),
+        Err(fault) => Err(fault.at_line(number)),
+    }
+}
+
+/// The instruction words of a text.
+#[tactic(auto, unfolding(crate::specs::Dis::dis_at, crate::specs::Dis::code_of_lines))]
+fn code_of_text(alloc: Global, text: &[u8]) -> Result<Vec<u32>, Fault>
+    ensures { Answers (λ code. code.items) result (dis_at text.now) }
+{
+    let mut all = Vec::new(alloc);
+    let mut rest = text;
+    let mut number = 0;
+    while let Some((line, after)) = first_line(rest) {
+        number += 1;
+        let code = code_of_line(alloc, line, number)?;
+        all.extend_from_slice(&code)?;
+        rest = after;
+    }
+    Ok(all)
+}
+
+/// The instruction words of an input.
+#[tactic(auto, using(crate::proofs::Judging::judged_text, crate::proofs::Judging::judged_no_text))]
+fn code_of_input(alloc: Global, input: &[u8]) -> Result<Vec<u32>, Fault>
+    requires { length input.now ≤ 1048576 }
+    ensures { Answers (λ code. code.items) result (judged dis_at input.now) }
+{
+    code_of_text(alloc, text_of(input)?.as_bytes())
+}
+
+/// Appends what a word means.
+fn push_meant(out: &mut String, word: u32) -> Result<(), AllocError>
+    ensures { OnOk result (string_bytes out.new ≡ string_bytes out.old ++ meant_text (meaning word)) }
+{
+    match decode(word) {
+        None => out.push_str("illegal"),
+        Some(instr) => write_instr(&instr, out),
+    }
+}
+
+fn push_instr_line(out: &mut String, word: u32) -> Result<(), AllocError>
+    ensures { OnOk result (string_bytes out.new ≡ string_bytes out.old ++ instr_line word) }
+{
+    push_meant(out, word)?;
+    out.push_str("\n")
+}
+
+fn code_text(alloc: Global, code: &[u32]) -> Result<String, AllocError>
+    ensures { IfOk result (λ text. string_bytes text ≡ flat_map instr_line code.now) }
+{
+    let mut out = String::new(alloc);
+    for word in code {
+        push_instr_line(&mut out, *word)?;
+    }
+    Ok(out)
+}
+
+fn answer(alloc: Global, input: &[u8]) -> Result<String, Fault>
+    requires { length input.now ≤ 1048576 }
+    ensures { AnswersAs (IsDisAnswer input.now) string_bytes result }
+{
+    let code = code_of_input(alloc, input)?;
+    let text = code_text(alloc, &code)?;
+    Ok(text)
+}
+
+/// Reads words of 8 hex digits to the end, parted by blanks and line ends, and writes what each means
+/// on a line, or `illegal`.
+///
+/// An input is refused as too large ([`crate::fault::TOO_LARGE`]), else as no text
+/// ([`crate::fault::NOT_TEXT`]), else at the line of its first word that isn't 8 hex digits
+/// ([`crate::fault::BAD_LINE`]), and then nothing was written.
+pub fn dis_engine<R: Read, W: Write>(
+    alloc: Global,
+    reader: &mut R,
+    writer: &mut W,
+) -> Result<(), Fault>
+    ensures { EndsBy IsDisAnswer result (R.remaining reader.old) (W.contents writer.old) (W.contents writer.new) }
+{
+    let input = read_input(alloc, reader)?;
+    let out = answer(alloc, &input)?;
+    write_output(writer, &out)
+}

@@ -1,0 +1,48 @@
+//! Inputs that are schedules.
+
+ghost use Rattle.std.specs.Prelude.{◌≡◌, ◌≤◌, IfOk, vec_len};
+ghost use Rattle.recorder.specs.Schedule.{IsScheduleOf};
+ghost use Rattle.ztso_engines.specs.Faults.{Answers};
+ghost use Rattle.ztso_engines.specs.Engines.{Accepted, judged};
+ghost use Rattle.ztso_engines.specs.Schedules.{fault_of_error, events_of as events_said};
+
+use crate::fault::{Fault, Place};
+use crate::input::text_of;
+use recorder::{ScheduleError, read_schedule};
+use std::alloc::Global;
+use step_machine::Event;
+
+impl From<ScheduleError> for Fault {
+    ghost from_gives = { λ error fault. fault ≡ fault_of_error error };
+
+    fn from(error: ScheduleError) -> Fault {
+        match error {
+            ScheduleError::NoMemory => Fault::NoMemory,
+            ScheduleError::Refused { fault, place } => {
+                Fault::refused(fault.number(), Place::Byte(place))
+            }
+        }
+    }
+}
+
+/// The events of a text.
+#[tactic(auto, unfolding(crate::specs::Schedules::events_of))]
+fn events_of_text(alloc: Global, text: &str) -> Result<Vec<Event>, Fault>
+    ensures found { IfOk result (λ events. IsScheduleOf text.now events.items) }
+    ensures exact { Answers (λ events. events.items) result (events_said text.now) }
+{
+    match read_schedule(alloc, text) {
+        Ok(events) => Ok(events),
+        Err(error) => Err(Fault::from(error)),
+    }
+}
+
+/// The events of an input, which is let go.
+#[tactic(auto, using(crate::proofs::Judging::judged_text, crate::proofs::Judging::judged_no_text))]
+pub fn events_of_input(alloc: Global, input: Vec<u8>) -> Result<Vec<Event>, Fault>
+    requires { vec_len input ≤ 1048576 }
+    ensures found { IfOk result (λ events. Accepted IsScheduleOf input.items events.items) }
+    ensures exact { Answers (λ events. events.items) result (judged events_said input.items) }
+{
+    events_of_text(alloc, text_of(&input)?)
+}

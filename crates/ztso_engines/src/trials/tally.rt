@@ -1,0 +1,142 @@
+//! What is kept of a test's runs.
+
+ghost use Rattle.std.specs.Prelude.{◌≡◌, ◌+◌, ◌<◌, ◌≤◌, ℕ, List, [], ◌∷◌, length, option_map, IfOk, IfSome, OnOk};
+ghost use Rattle.std.specs.String.{string_bytes};
+ghost use Rattle.step_machine.specs.Runs.{Run};
+ghost use Rattle.ztso_engines.specs.Trials.{Trial, IsTrial};
+ghost use Rattle.ztso_engines.specs.Outcomes.{schedule_text as text_of_schedule};
+ghost use Rattle.ztso_engines.specs.Tallies.{told_by, told_of, told_more, Counts, IsTallyOf, Tallies};
+
+use crate::running::machine_after;
+use litmus::{Test, Verdict};
+use recorder::push_tokens;
+use std::alloc::{AllocError, Global};
+use std::collections::BTreeMap;
+use step_machine::Event;
+
+/// What the runs with one outcome showed.
+#[derive(Drop)]
+pub struct Row {
+    /// How many they are.
+    pub count: u32,
+    /// The tokens of the first one's schedule behind a space, or nothing where there are none.
+    pub schedule: String,
+}
+
+/// The rows by their outcomes, and what else is told of the runs.
+#[derive(Drop)]
+pub struct Tally {
+    pub rows: BTreeMap<Vec<u32>, Row>,
+    /// How many runs did not finish.
+    pub unfinished: u32,
+    pub some_hold: bool,
+    pub some_fail: bool,
+}
+
+fn schedule_text(alloc: Global, events: &[Event]) -> Result<String, AllocError>
+    ensures { IfOk result (λ text. string_bytes text ≡ text_of_schedule events.now) }
+{
+    let mut text = String::new(alloc);
+    if events.is_empty() {
+        return Ok(text);
+    }
+    text.push_str(" ")?;
+    push_tokens(&mut text, events)?;
+    Ok(text)
+}
+
+/// The row of an outcome that one more run gave, by these events.
+fn row_after(alloc: Global, row: Option<Row>, events: &[Event]) -> Result<Row, AllocError>
+    requires { IfSome row (λ row. row.count < 4294967295) }
+    ensures { IfOk result (λ new. told_by new ≡ told_more events.now (option_map told_by row)) }
+{
+    match row {
+        Some(Row { count, schedule }) => Ok(Row {
+            count: count + 1,
+            schedule,
+        }),
+        None => {
+            let schedule = schedule_text(alloc, events)?;
+            Ok(Row { count: 1, schedule })
+        }
+    }
+}
+
+/// Counts one more run with this outcome.
+fn count_outcome(
+    alloc: Global,
+    rows: &mut BTreeMap<Vec<u32>, Row>,
+    outcome: Vec<u32>,
+    events: &[Event],
+) -> Result<(), AllocError>
+    requires { IfSome (told_of rows.old.entries outcome.items) (λ told. told.0 < 4294967295) }
+    ensures { OnOk result (Counts outcome.items events.now rows.old.entries rows.new.entries) }
+{
+    let row = rows.remove(outcome.as_slice());
+    let row = row_after(alloc, row, events)?;
+    rows.insert(outcome, row)?;
+    Ok(())
+}
+
+impl Tally {
+    /// Of no run.
+    pub fn new(alloc: Global) -> Tally
+        ensures { IsTallyOf [] result }
+    {
+        Tally {
+            rows: BTreeMap::new(alloc),
+            unfinished: 0,
+            some_hold: false,
+            some_fail: false,
+        }
+    }
+
+    /// Takes in one more run, by these events, with this verdict and these last values.
+    fn add(
+        &mut self,
+        alloc: Global,
+        events: &[Event],
+        verdict: Verdict,
+        values: Vec<u32>,
+    ) -> Result<(), AllocError>
+        requires counts { (outcome : List ℕ) → IfSome (told_of self.old.rows.entries outcome) (λ told. told.0 < 4294967295) }
+        requires unfinished { self.old.unfinished < 4294967295 }
+        ensures { OnOk result (Tallies (record { events = events.now; verdict = verdict; values = values.items }) self.old self.new) }
+    {
+        match verdict {
+            Verdict::Holds => {
+                self.some_hold = true;
+                count_outcome(alloc, &mut self.rows, values, events)
+            }
+            Verdict::Fails => {
+                self.some_fail = true;
+                count_outcome(alloc, &mut self.rows, values, events)
+            }
+            Verdict::Unfinished => {
+                self.unfinished += 1;
+                Ok(())
+            }
+        }
+    }
+
+    /// Takes in the run of these events.
+    pub fn add_run<const B: usize, const M: usize>(
+        &mut self,
+        alloc: Global,
+        test: &Test,
+        events: &[Event],
+    ) -> Result<(), AllocError>
+        requires some_capacity { 1 ≤ B }
+        requires capacity { B ≤ 64 }
+        requires words { 1024 ≤ M }
+        requires size { M ≤ 65536 }
+        requires counts { (outcome : List ℕ) → IfSome (told_of self.old.rows.entries outcome) (λ told. told.0 < 4294967295) }
+        requires unfinished { self.old.unfinished < 4294967295 }
+        ensures { OnOk result ((trial : Trial) × (trial.events ≡ events.now) × IsTrial B M test.now trial × Tallies trial self.old self.new) }
+    {
+        let machine = machine_after::<B, M>(alloc, test, events)?;
+        let verdict = test.verdict(&machine);
+        let values = test.values(alloc, &machine)?;
+        self.add(alloc, events, verdict, values)
+    }
+}

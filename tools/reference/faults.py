@@ -1,0 +1,32 @@
+"""What ends a command without an answer: the line for standard error, and the exit status."""
+
+HEADER, INIT, TABLE, INSTRUCTION, CONDITION, MANY = 21, 22, 23, 24, 25, 26
+HEAD, TOKEN, HART, COUNT, TRUNCATED = 27, 28, 29, 30, 31
+NO_TEXT, TOO_LARGE = 36, 37
+
+
+class Fault(Exception):
+    def __init__(self, line, status):
+        super().__init__(line)
+        self.line = line
+        self.status = status
+
+
+def refused(number, place=""):
+    return Fault(f"ztso: refused {number}{place}", 2)
+
+
+def at_line(number, line):
+    return refused(number, f" at line {line}")
+
+
+def at_byte(number, byte):
+    return refused(number, f" at byte {byte}")
+
+
+def bad_command_line():
+    return Fault("ztso: bad command line", 2)
+
+
+def read_failed():
+    return Fault("ztso: read failed", 3)
