@@ -47,7 +47,6 @@ pub fn behind_header(text: &[u8]) -> Result<&[u8], Refusal>
     Ok(rest.unwrap_or(b""))
 }
 
-/// What follows the `{` with which a line begins; the lines before it aren't read.
 /// The bytes behind the first one.
 fn behind_first(text: &[u8]) -> &[u8]
     ensures { result.now ≡ drop 1 text.now }
@@ -58,6 +57,7 @@ fn behind_first(text: &[u8]) -> &[u8]
     }
 }
 
+/// What follows the `{` with which a line begins; the lines before it aren't read.
 #[tactic(auto, unfolding(crate::specs::Header::behind_brace))]
 pub fn behind_brace(text: &[u8]) -> Result<&[u8], Refusal>
     ensures { Gives fault_in (λ rest. rest.now) result (brace_at text.now) }
