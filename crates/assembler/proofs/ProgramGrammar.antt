@@ -31,13 +31,13 @@ use Rattle.assembler.proofs.LineGrammar.{line_found, line_only}
 
 -- ---- lines
 
-record Told (above : List Line) (text : List ℕ) (more : List Line) : Type 0 where
-  line : Line
-  is : IsLine text line
-  apart : Apart above line.label
-  whole : more ≡ above ++ line ∷ []
+pub record Told (above : List Line) (text : List ℕ) (more : List Line) : Type 0 where
+  pub line : Line
+  pub is : IsLine text line
+  pub apart : Apart above line.label
+  pub whole : more ≡ above ++ line ∷ []
 
-told_found : (above : List Line) (text : List ℕ) (more : List Line) → told above text ≡ Ok more → Told above text more
+pub told_found : (above : List Line) (text : List ℕ) (more : List Line) → told above text ≡ Ok more → Told above text more
 told_found above text more e = go (is_twice above (label_of text)) refl (made_in (statement_text text)) refl
   where
     go : (b : Bool) → is_twice above (label_of text) ≡ b → (r : Result (Option Made) AsmFault) → made_in (statement_text text) ≡ r → Told above text more
@@ -50,13 +50,13 @@ told_found above text more e = go (is_twice above (label_of text)) refl (made_in
       whole = sym (ok_is Refusal (above ++ (record { label = label_of text; made = made }) ∷ []) more (sym (told_added above text made fresh is) ∙ e));
     }
 
-told_only : (above : List Line) (text : List ℕ) (line : Line) → IsLine text line → Apart above line.label → told above text ≡ Ok (above ++ line ∷ [])
+pub told_only : (above : List Line) (text : List ℕ) (line : Line) → IsLine text line → Apart above line.label → told above text ≡ Ok (above ++ line ∷ [])
 told_only above text line is apart =
     let read = line_only text line is in
     told_added above text line.made (ap (is_twice above) read.label ∙ apart_fresh above line.label apart) read.made ∙ ap (λ label. Ok (above ++ (record { label = label; made = line.made }) ∷ [])) read.label
 
 -- each of the lines below is apart from each line above
-abbrev AllApart : List Line → List Line → Type 0
+abbrev pub AllApart : List Line → List Line → Type 0
 AllApart above below = AllByRecursion (λ line. Apart above line.label) below
 
 apart-front : (above : List Line) (line : Line) (label : Option (List ℕ)) → Apart (above ++ line ∷ []) label → Apart above label
@@ -79,14 +79,14 @@ all_more : (above : List Line) (line : Line) (below : List Line) → AllApart ab
 all_more above line [] h k = tt
 all_more above line (next ∷ below) h k = (apart-append above line next.label h.0 k.0, all_more above line below h.1 k.1)
 
-record AllTold (above : List Line) (texts : List (List ℕ)) (all : List Line) : Type 0 where
-  below : List Line
-  whole : all ≡ above ++ below
-  written : AreLines texts below
-  once : EachOnce below
-  apart : AllApart above below
+pub record AllTold (above : List Line) (texts : List (List ℕ)) (all : List Line) : Type 0 where
+  pub below : List Line
+  pub whole : all ≡ above ++ below
+  pub written : AreLines texts below
+  pub once : EachOnce below
+  pub apart : AllApart above below
 
-all_found : (above : List Line) (texts : List (List ℕ)) (all : List Line) → all_told above texts ≡ Ok all → AllTold above texts all
+pub all_found : (above : List Line) (texts : List (List ℕ)) (all : List Line) → all_told above texts ≡ Ok all → AllTold above texts all
 all_found above [] all e = record { below = []; whole = sym (ok_is Refusal above all e) ∙ sym (append-nil above); written = refl; once = tt; apart = tt }
 all_found above (text ∷ texts) all e =
     let step = bind_ok (told above text) (λ more. all_told more texts) all e in
@@ -100,7 +100,7 @@ all_found above (text ∷ texts) all e =
       apart = (first.apart, all_fronts above first.line rest.below rest.apart);
     }
 
-all_only : (above : List Line) (texts : List (List ℕ)) (below : List Line) → AreLines texts below → EachOnce below → AllApart above below → all_told above texts ≡ Ok (above ++ below)
+pub all_only : (above : List Line) (texts : List (List ℕ)) (below : List Line) → AreLines texts below → EachOnce below → AllApart above below → all_told above texts ≡ Ok (above ++ below)
 all_only above [] below written once apart = ap Ok (sym (append-nil above) ∙ ap (λ more. above ++ more) (sym written))
 all_only above (text ∷ texts) [] written once apart = absurd (let f = written.2 in cc)
 all_only above (text ∷ texts) (first ∷ below) written once apart =
@@ -164,7 +164,7 @@ place_only all name place once is =
 
 -- ---- instructions
 
-abbrev some_instr : Instr → Option Instr
+abbrev pub some_instr : Instr → Option Instr
 some_instr i = Some i
 
 record Reaches (all : List Line) (bound : ℤ) (at : ℕ) (name : List ℕ) (n : ℤ) : Type 0 where
@@ -241,13 +241,13 @@ all_placed_only all at line (first ∷ below) instrs once are =
 
 -- ---- programs
 
-record Finishing (all : List Line) (answers : List (Option Instr)) : Type 0 where
-  instrs : List Instr
-  few : words_of all ≤ 4096
-  placed : ArePlaced all 0 all instrs
-  same : answers ≡ map some_instr instrs
+pub record Finishing (all : List Line) (answers : List (Option Instr)) : Type 0 where
+  pub instrs : List Instr
+  pub few : words_of all ≤ 4096
+  pub placed : ArePlaced all 0 all instrs
+  pub same : answers ≡ map some_instr instrs
 
-finished_found : (all : List Line) (answers : List (Option Instr)) → finished all ≡ Ok answers → Finishing all answers
+pub finished_found : (all : List Line) (answers : List (Option Instr)) → finished all ≡ Ok answers → Finishing all answers
 unfolding finished
 finished_found all answers e = elim (cases_Bool (ltb 4096 (words_of all))) [
   | inl long ↦ absurd (let f = rw long at e in cc)
@@ -256,7 +256,7 @@ finished_found all answers e = elim (cases_Bool (ltb 4096 (words_of all))) [
       record { instrs = answer.instrs; few = ltb-false 4096 (words_of all) few; placed = answer.are; same = sym answer.same })
 ]
 
-finished_only : (all : List Line) (instrs : List Instr) → AreInstrs all instrs → finished all ≡ Ok (map some_instr instrs)
+pub finished_only : (all : List Line) (instrs : List Instr) → AreInstrs all instrs → finished all ≡ Ok (map some_instr instrs)
 unfolding finished
 finished_only all instrs are = rw (le-ltb 4096 (words_of all) are.few) (all_placed_only all 0 1 all instrs are.once are.placed)
 
@@ -282,7 +282,7 @@ program_found text answers e =
       same = answer.same;
     }
 
-none_above : (below : List Line) → AllApart [] below
+pub none_above : (below : List Line) → AllApart [] below
 none_above [] = tt
 none_above (line ∷ below) = (tt, none_above below)
 
@@ -293,7 +293,7 @@ program_only text instrs is = rw (all_only [] (lines text) is.all is.written is.
 some_is : (i j : Instr) → some_instr i ≡ some_instr j → i ≡ j
 some_is i j e = cc
 
-same_instrs : (a b : List Instr) → map some_instr a ≡ map some_instr b → a ≡ b
+pub same_instrs : (a b : List Instr) → map some_instr a ≡ map some_instr b → a ≡ b
 same_instrs [] [] e = refl
 same_instrs [] (j ∷ b) e = absurd cc
 same_instrs (i ∷ a) [] e = absurd cc

@@ -9,4 +9,9 @@ pub mod Table
 pub mod Condition
 pub mod Values
 pub mod Reading
+pub mod Shapes
+pub mod Layout
+pub mod Openings
+pub mod Columns
+pub mod Asked
 pub mod Grammar

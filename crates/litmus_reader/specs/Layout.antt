@@ -1,0 +1,49 @@
+-- The layout of a litmus text without comments: a header line, lines that aren't read, the init part
+-- between braces, the table, and the condition from its first line on.
+use Rattle.std.specs.Prelude.{◌≡◌, ℕ, ◌==◌, false, true, ◌⊎◌, List, [], ◌∷◌, ◌++◌, codes}
+use Rattle.texts.specs.Pieces.{is_blank}
+use Rattle.assembler.specs.Spelled.{AreBlanks}
+use Rattle.litmus_reader.specs.Shapes.{HasNo, IsCut, IsFirst}
+
+-- ---- how a line begins, told of the text from that line on
+
+-- the line isn't blank
+abbrev pub IsVisible : List ℕ → Type 0
+IsVisible text = (blanks rest : List ℕ) × (c : ℕ) × AreBlanks blanks × (is_blank c ≡ false) × ((c == 10) ≡ false) × (text ≡ blanks ++ c ∷ rest)
+
+-- it begins with these letters, whatever follows them
+abbrev pub BeginsWith : (word text : List ℕ) → Type 0
+BeginsWith word text = (blanks rest : List ℕ) × AreBlanks blanks × (text ≡ blanks ++ (word ++ rest))
+
+-- parts of other litmus texts that this profile refuses
+abbrev pub BeginsUnread : List ℕ → Type 0
+BeginsUnread text = BeginsWith (codes "locations") text ⊎ BeginsWith (codes "filter") text
+
+-- a condition, or one of those
+abbrev pub BeginsCondition : List ℕ → Type 0
+BeginsCondition text = BeginsWith (codes "exists") text ⊎ (BeginsWith (codes "~exists") text ⊎ (BeginsWith (codes "forall") text ⊎ BeginsUnread text))
+
+-- ---- the layout
+
+-- `RISCV`, blanks, and a name of one or more bytes, whatever follows
+abbrev pub IsHeader : List ℕ → Type 0
+IsHeader line = (blanks gap rest : List ℕ) × (b c : ℕ) × AreBlanks blanks × AreBlanks (b ∷ gap) × (is_blank c ≡ false) × (line ≡ blanks ++ (codes "RISCV" ++ b ∷ (gap ++ c ∷ rest)))
+
+-- `{` is 123 and `}` is 125; what stands behind the `}` belongs to the table.
+pub record IsLaidOut (text init table asked : List ℕ) : Type 0 where
+  pub blank_lines : List ℕ
+  pub headed : List ℕ
+  pub header : List ℕ
+  pub below : List ℕ
+  pub unread_lines : List ℕ
+  pub braced : List ℕ
+  pub blanks : List ℕ
+  pub behind : List ℕ
+  pub begins : IsFirst IsVisible text blank_lines headed
+  pub first : IsCut headed header below
+  pub named : IsHeader header
+  pub opens : IsFirst (BeginsWith (codes "{")) below unread_lines braced
+  pub indented : AreBlanks blanks
+  pub closed : HasNo 125 init
+  pub between : braced ≡ blanks ++ 123 ∷ (init ++ 125 ∷ behind)
+  pub asks : IsFirst BeginsCondition behind table asked

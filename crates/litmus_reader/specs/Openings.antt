@@ -1,0 +1,84 @@
+-- The init part: which values registers and words begin with.
+use Rattle.std.specs.Prelude.{◌≡◌, ℕ, ◌+◌, ◌*◌, ◌<◌, ◌≤◌, ◌==◌, ◌&&◌, Bool, false, not, List, [], ◌∷◌, ◌++◌, length, filter, All, Option, Some, None, if◌then◌else◌}
+use Rattle.std.specs.List.{slice_index_or}
+use Rattle.std.specs.Str.{bytes_eq}
+use Rattle.litmus_words.specs.Settings.{Place, Value, Put, IsItem}
+use Rattle.litmus_words.specs.Settings.Place.{in_register, at_location}
+use Rattle.litmus_words.specs.Settings.Value.{number, address_of}
+use Rattle.litmus_words.specs.Words.{AllGaps}
+use Rattle.litmus_reader.specs.Locations.{Names}
+
+-- The items that stand between `;`; blanks and line ends alone are none.
+pub data AreItems : List (List ℕ) → List Put → Type 0 where
+  none : AreItems [] []
+  empty : (part : List ℕ) (parts : List (List ℕ)) (puts : List Put) → AllGaps part → AreItems parts puts → AreItems (part ∷ parts) puts
+  item : (part : List ℕ) (parts : List (List ℕ)) (put : Put) (puts : List Put) → IsItem part put → AreItems parts puts → AreItems (part ∷ parts) (put ∷ puts)
+
+-- ---- locations
+
+abbrev pub name_of_place : Place → Names
+name_of_place (in_register hart register) = []
+name_of_place (at_location name) = name ∷ []
+
+abbrev pub name_of_value : Value → Names
+name_of_value (number n) = []
+name_of_value (address_of name) = name ∷ []
+
+-- the names that stand in these, from the left
+abbrev pub names_in : List Put → Names
+names_in [] = []
+names_in (put ∷ puts) = name_of_place put.0 ++ (name_of_value put.1 ++ names_in puts)
+
+-- each name once, in order of first appearance
+abbrev pub each_once : Names → Names
+each_once [] = []
+each_once (name ∷ others) = name ∷ filter (λ other. not (bytes_eq name other)) (each_once others)
+
+-- the location has this index
+abbrev pub IsAt : Names → List ℕ → ℕ → Type 0
+IsAt names name index = (above below : Names) × (names ≡ above ++ name ∷ below) × (index ≡ length above)
+
+-- the word that is put; a location's address is 4 times its index
+abbrev pub IsWorth : Names → Value → ℕ → Type 0
+IsWorth names (number n) word = word ≡ n
+IsWorth names (address_of name) word = (index : ℕ) × IsAt names name index × (word ≡ 4 * index)
+
+-- ---- first values
+
+abbrev pub or_else : Option Value → Option Value → Option Value
+or_else None other = other
+or_else (Some value) other = Some value
+
+-- what the last of the items that put something there puts there
+abbrev pub last_put : (Place → Bool) → List Put → Option Value
+last_put is_there [] = None
+last_put is_there (put ∷ puts) = or_else (last_put is_there puts) (if is_there put.0 then Some put.1 else None)
+
+abbrev pub is_register : (hart number : ℕ) → Place → Bool
+is_register hart number (in_register other register) = (other == hart) && (register.number == number)
+is_register hart number (at_location name) = false
+
+abbrev pub is_location : List ℕ → Place → Bool
+is_location name (in_register hart register) = false
+is_location name (at_location other) = bytes_eq other name
+
+-- 0 where no item puts anything
+abbrev pub IsFirstValue : Names → Option Value → ℕ → Type 0
+IsFirstValue names None word = word ≡ 0
+IsFirstValue names (Some value) word = IsWorth names value word
+
+-- the hart's registers x0 to x31; x0 stays 0
+pub record AreRegisters (names : Names) (puts : List Put) (hart : ℕ) (registers : List ℕ) : Type 0 where
+  pub count : length registers ≡ 32
+  pub zero : slice_index_or registers 0 0 ≡ 0
+  pub others : (n : ℕ) → 1 ≤ n → n < 32 → IsFirstValue names (last_put (is_register hart n) puts) (slice_index_or registers n 0)
+
+-- a word for each location
+pub record AreFirstWords (names : Names) (puts : List Put) (words : List ℕ) : Type 0 where
+  pub count : length words ≡ length names
+  pub values : (index : ℕ) (name : List ℕ) → IsAt names name index → IsFirstValue names (last_put (is_location name) puts) (slice_index_or words index 0)
+
+-- an item for a register names a hart of the table
+abbrev pub IsHartThere : (harts : ℕ) → Put → Type 0
+IsHartThere harts (in_register hart register, value) = hart < harts
+IsHartThere harts (at_location name, value) = Unit {0}
