@@ -1,5 +1,5 @@
 -- Names in order of first appearance, as they are met one after the other.
-use Rattle.std.proofs.Common.{◌≡◌, ◌≢◌, ℕ, ◌+◌, ◌*◌, ◌<◌, ◌≤◌, Bool, true, false, not, cond, List, [], ◌∷◌, ◌++◌, length, filter, Option, Some, None, Result, Ok, Err, refl, sym, ap, subst, ◌∙◌, inl, inr, append_assoc, arith}
+use Rattle.std.proofs.Common.{◌≡◌, ◌≢◌, ℕ, zero, suc, ◌+◌, ◌*◌, ◌<◌, ◌≤◌, Bool, true, false, not, cond, List, [], ◌∷◌, ◌++◌, length, filter, Option, Some, None, Result, Ok, Err, refl, sym, ap, subst, ◌∙◌, inl, inr, append_assoc, length-append, ltb-true, lt-ltb, arith}
 use Rattle.std.specs.Prelude.{nat_lt, if◌then◌else◌, ◌||◌}
 use Rattle.std.specs.Str.{bytes_eq}
 use Rattle.std.proofs.lemmas.Bool.{cases_Bool}
@@ -146,7 +146,7 @@ some_index i j e = cc
 
 index_of : (names : Names) (name : List ℕ) (index : ℕ) → Distinct names → IsAt names name index → index_from 0 names name ≡ Some index
 index_of names name index distinct at =
-    ap (λ (xs : Names). index_from 0 xs name) at.2 ∙ index_at 0 at.0 at.1 name (subst Distinct at.2 distinct) ∙ ap Some (sym at.3)
+    ap (λ (xs : Names). index_from 0 xs name) at.2 ∙ index_at 0 at.0 at.1 name (subst Distinct at.2 distinct) ∙ ap Some (omega (arith, at.3))
 
 pub one_index : (ms : Names) (name : List ℕ) (i j : ℕ) → IsAt (each_once ms) name i → IsAt (each_once ms) name j → i ≡ j
 one_index ms name i j first second = some_index i j (sym (index_of (each_once ms) name i (once_distinct ms) first) ∙ index_of (each_once ms) name j (once_distinct ms) second)
@@ -155,7 +155,7 @@ same_middle : (above other below rest : Names) (a b : List ℕ) → above ++ a �
 same_middle [] [] below rest a b same lengths = cc
 same_middle [] (y ∷ other) below rest a b same lengths = absurd (omega arith)
 same_middle (x ∷ above) [] below rest a b same lengths = absurd (omega arith)
-same_middle (x ∷ above) (y ∷ other) below rest a b same lengths = same_middle above other below rest a b cc (omega arith)
+same_middle (x ∷ above) (y ∷ other) below rest a b same lengths = (let shorter : length above ≡ length other = omega arith in let tails : above ++ a ∷ below ≡ other ++ b ∷ rest = cc in same_middle above other below rest a b tails shorter)
 
 pub one_name : (ms : Names) (a b : List ℕ) (i : ℕ) → IsAt (each_once ms) a i → IsAt (each_once ms) b i → a ≡ b
 one_name ms a b i first second = same_middle first.0 second.0 first.1 second.1 a b (sym first.2 ∙ second.2) (sym first.3 ∙ second.3)
@@ -225,7 +225,7 @@ old_met : (ms : Names) (name : List ℕ) (index : ℕ) → index_from 0 (each_on
 old_met ms name index is =
     let at = indexed 0 (each_once ms) name index is in
     let old : has (each_once ms) name ≡ true = ap (λ (xs : Names). has xs name) at.whole ∙ has_at at.above at.below name in
-    (sym (once_old ms name old), (at.above, at.below, at.whole, at.counted), λ few. few)
+    (sym (once_old ms name old), (at.above, at.below, at.whole, omega (arith, at.counted)), λ few. few)
 
 new_met : (ms : Names) (name : List ℕ) → index_from 0 (each_once ms) name ≡ None → length (each_once ms) < 1024 → IsMet ms name (length (each_once ms), each_once ms ++ name ∷ [])
 new_met ms name is room =
@@ -257,7 +257,8 @@ met_only ms name few = go (index_from 0 (each_once ms) name) refl
     go None is =
         let same : each_once (ms ++ name ∷ []) ≡ each_once ms ++ name ∷ [] = once_new ms name (unindexed 0 (each_once ms) name is) in
         let short : length (each_once ms ++ name ∷ []) ≤ 1024 = subst (λ (names : Names). length names ≤ 1024) same few in
-        let room : length (each_once ms) < 1024 = simp length-append at short in
+        let grown = simp length-append at short in
+        let room : length (each_once ms) < 1024 = omega (arith, grown) in
         rw same (length (each_once ms), (rw (lt-ltb (length (each_once ms)) 1024 room) refl), (each_once ms, [], refl, refl))
 
 -- ---- values
