@@ -5,3 +5,8 @@ pub mod NameLaws
 pub mod ThereLaws
 pub mod ContentLaws
 pub mod MeetLaws
+pub mod ItemLaws
+pub mod FirstValueLaws
+pub mod ColumnLaws
+pub mod AskedLaws
+pub mod ContentGrammar

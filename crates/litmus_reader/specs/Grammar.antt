@@ -1,5 +1,5 @@
 -- Which text stands for which test.
-use Rattle.std.specs.Prelude.{◌≡◌, ℕ, ◌+◌, ◌≤◌, List, [], ◌∷◌, ◌++◌, length, All, Ok}
+use Rattle.std.specs.Prelude.{◌≡◌, ℕ, ◌+◌, ◌≤◌, List, [], ◌∷◌, ◌++◌, length, All}
 use Rattle.assembler.specs.Drafts.{AllPlain}
 use Rattle.step_machine.specs.History.{HartStart}
 use Rattle.litmus.specs.declared.words.Token as known
@@ -14,7 +14,7 @@ use Rattle.litmus_reader.specs.Layout.{IsLaidOut}
 use Rattle.litmus_reader.specs.Openings.{AreItems, names_in, each_once, AreRegisters, AreFirstWords, IsHartThere}
 use Rattle.litmus_reader.specs.Columns.{Cells, IsTable, column_of, IsCode}
 use Rattle.litmus_reader.specs.Asked.{IsQuestion, atoms_in, AreKnown}
-use Rattle.litmus_reader.specs.Reading.{HartContent, Content, content_of, test_at}
+use Rattle.litmus_reader.specs.Reading.{HartContent, Content, content_of}
 
 -- each hart has its column's code and the registers that the items put; the first one is this hart
 abbrev pub AreHarts : Names → List Put → List Cells → (hart : ℕ) → List HartContent → Type 0
@@ -52,4 +52,4 @@ HasPlainCode hart = AllPlain hart.code
 
 -- the text's test, whichever words of the same instructions it has
 abbrev pub IsTestOf : List ℕ → Question → Type 0
-IsTestOf text question = (test_at text ≡ Ok (content_of question)) × All HasPlainCode question.opening.harts
+IsTestOf text question = IsContent text (content_of question) × All HasPlainCode question.opening.harts

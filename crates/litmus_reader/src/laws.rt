@@ -1,10 +1,10 @@
 //! What the definitions say of one another.
 
 ghost use Rattle.std.specs.Prelude.{◌≡◌, ℕ, List};
-ghost use Rattle.litmus_reader.specs.Locations.{Names};
-ghost use Rattle.litmus_reader.specs.Openings.{each_once, IsAt};
+ghost use Rattle.litmus_reader.specs.Reading.{Content};
+ghost use Rattle.litmus_reader.specs.Grammar.{IsContent};
 
-/// Scaffolding.
-pub fn laws_m()
-    ensures { (ms : Names) (name : List ℕ) (i j : ℕ) → IsAt (each_once ms) name i → IsAt (each_once ms) name j → i ≡ j }
+/// A text stands for one test, at most.
+pub fn one_test()
+    ensures { (text : List ℕ) (a b : Content) → IsContent text a → IsContent text b → a ≡ b }
 {}
