@@ -6,3 +6,4 @@ pub mod ThereLaws
 pub mod ContentLaws
 pub mod MeetLaws
 pub mod ShapeLaws
+pub mod LayoutLaws

@@ -1,8 +1,8 @@
 -- How a text is put together: its parts, its first line, and the first line that begins so, by relation and by function.
-use Rattle.std.proofs.Common.{◌≡◌, ℕ, Bool, true, false, not, List, [], ◌∷◌, ◌++◌, length, drop, Option, Some, None, refl, sym, ap, subst, ◌∙◌, inl, inr, ◌⊎◌}
-use Rattle.std.specs.Prelude.{◌==◌, ◌&&◌, ◌||◌, codes, nat_eq, unwrap_or}
-use Rattle.std.specs.List.{slice_split, onto_first, starts_with}
-use Rattle.std.proofs.lemmas.Bool.{cases_Bool, eq-eqb, eqb-true, or_cases, or_left, or_right, not-true, not_from_false, false_from_ne_true}
+use Rattle.std.proofs.Common.{◌≡◌, ℕ, Bool, true, false, List, [], ◌∷◌, ◌++◌, length, drop, Option, Some, None, refl, sym, ap, subst, ◌∙◌, inl, inr, ◌⊎◌}
+use Rattle.std.specs.Prelude.{◌==◌, ◌||◌, codes, unwrap_or}
+use Rattle.std.specs.List.{onto_first}
+use Rattle.std.proofs.lemmas.Bool.{cases_Bool, eq-eqb, eqb-true, or_cases, or_left, or_right, not-true, false_from_ne_true}
 use Rattle.std.proofs.lemmas.Slice.Eq.{starts_is}
 use Rattle.std.proofs.lemmas.Bool.Decides.{Decides-eqb}
 use Rattle.texts.specs.Pieces.{is_blank}
@@ -97,11 +97,13 @@ visible_matches = record {
   only = λ text is. rw (is.6, front_of is.0 is.2 is.1 is.3 is.4, is.5) refl;
 }
 
+pub word_cut : (word line : List ℕ) → has_word word line ≡ true → line ≡ word ++ drop (length word) line
+word_cut word line h = (starts_is Decides-eqb line word (has_word word line) refl).0 h
+
 pub word_found : (word text : List ℕ) → has_word word (without_front text) ≡ true → BeginsWith word text
 word_found word text h =
     let front = front_split text in
-    let cut = (starts_is Decides-eqb (without_front text) word (has_word word (without_front text)) refl).0 h in
-    (front.0, drop (length word) (without_front text), front.1, front.2 ∙ ap (λ (ys : List ℕ). front.0 ++ ys) cut)
+    (front.0, drop (length word) (without_front text), front.1, front.2 ∙ ap (λ (ys : List ℕ). front.0 ++ ys) (word_cut word (without_front text) h))
 
 pub word_only : (c : ℕ) (letters text : List ℕ) → is_blank c ≡ false → BeginsWith (c ∷ letters) text → has_word (c ∷ letters) (without_front text) ≡ true
 word_only c letters text solid is =
@@ -241,30 +243,30 @@ first_found m B matches text from e = elim (cases_Bool (begins m text)) [
 ]
 
 -- a line that ends stands before what follows it
-next_front : (m : Mark) (line rest : List ℕ) → HasNo 10 line → before_next m (line ++ 10 ∷ rest) ≡ line ++ 10 ∷ before_line m rest
+front_past_line : (m : Mark) (line rest : List ℕ) → HasNo 10 line → before_next m (line ++ 10 ∷ rest) ≡ line ++ 10 ∷ before_line m rest
 unfolding before_line
-next_front m [] rest none = refl
-next_front m (c ∷ line) rest none = rw none.0 (ap (λ (ys : List ℕ). c ∷ ys) (next_front m line rest none.1))
+front_past_line m [] rest none = refl
+front_past_line m (c ∷ line) rest none = rw none.0 (ap (λ (ys : List ℕ). c ∷ ys) (front_past_line m line rest none.1))
 
-next_back : (m : Mark) (line rest : List ℕ) → HasNo 10 line → from_next m (line ++ 10 ∷ rest) ≡ from_line m rest
+back_past_line : (m : Mark) (line rest : List ℕ) → HasNo 10 line → from_next m (line ++ 10 ∷ rest) ≡ from_line m rest
 unfolding from_line
-next_back m [] rest none = refl
-next_back m (c ∷ line) rest none = rw none.0 (next_back m line rest none.1)
+back_past_line m [] rest none = refl
+back_past_line m (c ∷ line) rest none = rw none.0 (back_past_line m line rest none.1)
 
-last_front : (m : Mark) (line : List ℕ) → HasNo 10 line → before_next m line ≡ line
-last_front m [] none = refl
-last_front m (c ∷ line) none = rw none.0 (ap (λ (ys : List ℕ). c ∷ ys) (last_front m line none.1))
+front_of_last : (m : Mark) (line : List ℕ) → HasNo 10 line → before_next m line ≡ line
+front_of_last m [] none = refl
+front_of_last m (c ∷ line) none = rw none.0 (ap (λ (ys : List ℕ). c ∷ ys) (front_of_last m line none.1))
 
-last_back : (m : Mark) (line : List ℕ) → HasNo 10 line → from_next m line ≡ None
-last_back m [] none = refl
-last_back m (c ∷ line) none = rw none.0 (last_back m line none.1)
+back_of_last : (m : Mark) (line : List ℕ) → HasNo 10 line → from_next m line ≡ None
+back_of_last m [] none = refl
+back_of_last m (c ∷ line) none = rw none.0 (back_of_last m line none.1)
 
 pub first_only : (m : Mark) (B : List ℕ → Type 0) → Matches m B → (text above from : List ℕ) → IsFirst B text above from → (before_line m text ≡ above) × (from_line m text ≡ Some from)
 unfolding before_line from_line
 first_only m B matches text above from (here whole begun) = let starts = matches.only whole begun in rw starts (refl, refl)
 first_only m B matches text above from (further line rest higher last none other first) =
     let deeper = first_only m B matches rest higher last first in
-    rw (starts_other m B matches (line ++ 10 ∷ rest) other, next_front m line rest none, next_back m line rest none, deeper.0, deeper.1) (refl, refl)
+    rw (starts_other m B matches (line ++ 10 ∷ rest) other, front_past_line m line rest none, back_past_line m line rest none, deeper.0, deeper.1) (refl, refl)
 
 -- ---- no line that begins so
 
@@ -300,7 +302,7 @@ nowhere_found m B matches text e = elim (cases_Bool (begins m text)) [
 pub nowhere_only : (m : Mark) (B : List ℕ → Type 0) → Matches m B → (text : List ℕ) → NoneBegins B text → (before_line m text ≡ text) × (from_line m text ≡ None)
 unfolding before_line from_line
 nowhere_only m B matches text (shape.NoneBegins.last line none other) =
-    rw (starts_other m B matches line other) (last_front m line none, last_back m line none)
+    rw (starts_other m B matches line other) (front_of_last m line none, back_of_last m line none)
 nowhere_only m B matches text (shape.NoneBegins.more line rest none other below) =
     let deeper = nowhere_only m B matches rest below in
-    rw (starts_other m B matches (line ++ 10 ∷ rest) other, next_front m line rest none, next_back m line rest none, deeper.0, deeper.1) (refl, refl)
+    rw (starts_other m B matches (line ++ 10 ∷ rest) other, front_past_line m line rest none, back_past_line m line rest none, deeper.0, deeper.1) (refl, refl)
