@@ -5,8 +5,11 @@ pub mod NameLaws
 pub mod ThereLaws
 pub mod ContentLaws
 pub mod MeetLaws
+pub mod ShapeLaws
+pub mod LayoutLaws
 pub mod ItemLaws
 pub mod FirstValueLaws
+pub mod RowGrammar
 pub mod ColumnLaws
 pub mod AskedLaws
 pub mod ContentGrammar
