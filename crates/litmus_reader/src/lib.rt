@@ -1,11 +1,12 @@
 //! Litmus texts, to tests.
 //!
 //! The contract: [`read`] answers the test that the text stands for, or the kind of the first fault in
-//! reading order, exactly as `specs/Reading.antt` says: the header (`Header`), the items of the init
-//! part (`Init`), the table (`Rows`, `Table`), the first values (`Values`) and the condition
-//! (`Condition`). These definitions are functions of the text. They stand on the grammars of comments,
-//! items and conditions in the crates below; no grammar of whole texts stands beside them yet, and
-//! `specs/Grammar.antt` is the reading's own answer. The code is known by the instructions that its
+//! reading order. Which text stands for which test is told by cases in `specs/Grammar.antt`, on the
+//! shapes of texts (`Shapes`), the layout (`Layout`), the init part (`Openings`), the table (`Columns`)
+//! and the condition (`Asked`); a text has one test at most ([`laws::one_test`]). Which fault is the
+//! first one is told by the reading from the top, a function of the text (`Reading`), part by part:
+//! `Header`, `Init`, `Rows`, `Table`, `Values`, `Condition`. Both stand on the grammars of comments,
+//! items, conditions and programs in the crates below. The code is known by the instructions that its
 //! words mean, with their free fields zero. A fault's line is shown by tests alone.
 //! This crate opens no file, runs no test, and knows no other form of litmus texts than its own:
 //! a header line, an init part, a table of assembly statements and a condition.
