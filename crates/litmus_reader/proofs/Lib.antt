@@ -4,4 +4,5 @@ pub mod TableLaws
 pub mod NameLaws
 pub mod ThereLaws
 pub mod ContentLaws
+pub mod MeetLaws
 pub mod AskedLaws
