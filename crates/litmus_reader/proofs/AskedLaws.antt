@@ -37,35 +37,9 @@ use Rattle.litmus_reader.specs.Shapes.{NoneBegins}
 use Rattle.litmus_reader.specs.Layout.{BeginsUnread}
 use Rattle.litmus_reader.specs.Openings.{names_in, name_of_place, name_of_value, each_once, IsAt, IsWorth}
 use Rattle.litmus_reader.specs.Asked.{word_for, IsQuestion, atoms_in, IsPlaceOf, IsKnown, AreKnown}
+use Rattle.litmus_reader.proofs.MeetLaws.{fewer, at_later, one_index, met_found, met_only, value_found, value_only, worth_later, one_worth}
 
 -- ==== HOLES of others
-met_found : (ms : Names) (name : List ℕ) (found : ℕ × Names) → met (each_once ms) name ≡ Ok found → (found.1 ≡ each_once (ms ++ name ∷ [])) × IsAt found.1 name found.0 × (length (each_once ms) ≤ 1024 → length found.1 ≤ 1024)
-met_found = ?
-
-met_only : (ms : Names) (name : List ℕ) → length (each_once (ms ++ name ∷ [])) ≤ 1024 → (index : ℕ) × (met (each_once ms) name ≡ Ok (index, each_once (ms ++ name ∷ []))) × IsAt (each_once (ms ++ name ∷ [])) name index
-met_only = ?
-
-at_later : (ms more : Names) (name : List ℕ) (index : ℕ) → IsAt (each_once ms) name index → IsAt (each_once (ms ++ more)) name index
-at_later = ?
-
-one_index : (ms : Names) (name : List ℕ) (i j : ℕ) → IsAt (each_once ms) name i → IsAt (each_once ms) name j → i ≡ j
-one_index = ?
-
-fewer : (ms more : Names) → length (each_once ms) ≤ length (each_once (ms ++ more))
-fewer = ?
-
-value_found : (ms : Names) (value : setting.Value) (found : ℕ × Names) → value_met (each_once ms) value ≡ Ok found → (found.1 ≡ each_once (ms ++ name_of_value value)) × IsWorth found.1 value found.0 × (length (each_once ms) ≤ 1024 → length found.1 ≤ 1024)
-value_found = ?
-
-value_only : (ms : Names) (value : setting.Value) → length (each_once (ms ++ name_of_value value)) ≤ 1024 → (word : ℕ) × (value_met (each_once ms) value ≡ Ok (word, each_once (ms ++ name_of_value value))) × IsWorth (each_once (ms ++ name_of_value value)) value word
-value_only = ?
-
-worth_later : (ms more : Names) (value : setting.Value) (word : ℕ) → IsWorth (each_once ms) value word → IsWorth (each_once (ms ++ more)) value word
-worth_later = ?
-
-one_worth : (ms : Names) (value : setting.Value) (v w : ℕ) → IsWorth (each_once ms) value v → IsWorth (each_once ms) value w → v ≡ w
-one_worth = ?
-
 none_found : (text : List ℕ) → from_line Unread text ≡ None → NoneBegins BeginsUnread text
 none_found = ?
 
@@ -244,3 +218,102 @@ token_only harts ms more word.Token.conjunction known few is = plain_only ms tok
 token_only harts ms more word.Token.disjunction known few is = plain_only ms token.Or known is
 token_only harts ms more word.Token.opening known few is = plain_only ms token.Open known is
 token_only harts ms more word.Token.closing known few is = plain_only ms token.Close known is
+
+-- ---- all words
+
+names-more : (first : word.Token) (words : List word.Token) → names_in (atoms_in (first ∷ words)) ≡ names_of first ++ names_in (atoms_in words)
+names-more (word.Token.atom put) words = sym (append_assoc (name_of_place put.0) (name_of_value put.1 ++ []) (names_in (atoms_in words)) ∙ ap (λ (ns : Names). name_of_place put.0 ++ ns) (append_assoc (name_of_value put.1) [] (names_in (atoms_in words))))
+names-more word.Token.negation words = refl
+names-more word.Token.conjunction words = refl
+names-more word.Token.disjunction words = refl
+names-more word.Token.opening words = refl
+names-more word.Token.closing words = refl
+
+names-behind : (ms : Names) (first : word.Token) (words : List word.Token) → (ms ++ names_of first) ++ names_in (atoms_in words) ≡ ms ++ names_in (atoms_in (first ∷ words))
+names-behind ms first words = append_assoc ms (names_of first) (names_in (atoms_in words)) ∙ ap (λ (ns : Names). ms ++ ns) (sym (names-more first words))
+
+record WordsFound (harts : ℕ) (ms : Names) (so_far : List Token) (text : Words) (asked : Asked) : Type 0 where
+  words : List word.Token
+  known : List Token
+  whole : text ≡ listed words
+  behind : asked.0 ≡ so_far ++ known
+  names : asked.1 ≡ each_once (ms ++ names_in (atoms_in words))
+  few : length asked.1 ≤ 1024
+  all : AreKnown harts asked.1 words known
+
+words_found : (harts : ℕ) (ms : Names) (so_far : List Token) (text : Words) (asked : Asked) → length (each_once ms) ≤ 1024 → words_told harts (so_far, each_once ms) text ≡ Ok asked → WordsFound harts ms so_far text asked
+words_found harts ms so_far word.Words.ended asked few e =
+    subst (WordsFound harts ms so_far word.Words.ended) (ok_is LitmusFault (so_far, each_once ms) asked e)
+    (record { words = []; known = []; whole = refl; behind = sym (append-nil so_far); names = ap each_once (sym (append-nil ms)); few = few; all = refl })
+words_found harts ms so_far word.Words.broken asked few e = absurd cc
+words_found harts ms so_far (word.Words.word first others) asked few e =
+    let known = bind_ok (token_met harts (each_once ms) first) (λ known. as_condition (told so_far known.0) >>= λ more. words_told harts (more, known.1) others) asked e in
+    let more = bind_ok (as_condition (told so_far known.0.0)) (λ more. words_told harts (more, known.0.1) others) asked known.2 in
+    let token = token_found harts ms first known.0 few known.1 in
+    let here = ms ++ names_of first in
+    let few_here : length (each_once here) ≤ 1024 = subst (λ (names : Names). length names ≤ 1024) token.names token.few in
+    let told_here : words_told harts (more.0, each_once here) others ≡ Ok asked = subst (λ (names : Names). words_told harts (more.0, names) others ≡ Ok asked) token.names more.2 in
+    let rest : WordsFound harts here more.0 others asked = words_found harts here more.0 others asked few_here told_here in
+    let first_here : IsKnown harts (each_once here) first known.0.0 = subst (λ (names : Names). IsKnown harts names first known.0.0) token.names token.known in
+    let first_known : IsKnown harts asked.1 first known.0.0 = subst (λ (names : Names). IsKnown harts names first known.0.0) (sym rest.names) (known_later harts here (names_in (atoms_in rest.words)) first known.0.0 first_here) in
+    record {
+      words = first ∷ rest.words;
+      known = known.0.0 ∷ rest.known;
+      whole = ap (λ (ws : Words). word.Words.word first ws) rest.whole;
+      behind = rest.behind ∙ ap (λ (ws : List Token). ws ++ rest.known) (sym (told_found so_far known.0.0 more.0 more.1)) ∙ append_assoc so_far (known.0.0 ∷ []) rest.known;
+      names = rest.names ∙ ap each_once (names-behind ms first rest.words);
+      few = rest.few;
+      all = (known.0.0, rest.known, refl, first_known, rest.all);
+    }
+
+words_only : (harts : ℕ) (ms : Names) (so_far : List Token) (words : List word.Token) (known : List Token) (formula : Formula) → length (each_once (ms ++ names_in (atoms_in words))) ≤ 1024 → AreKnown harts (each_once (ms ++ names_in (atoms_in words))) words known → IsConditionOf (so_far ++ known) formula → words_told harts (so_far, each_once ms) (listed words) ≡ Ok (so_far ++ known, each_once (ms ++ names_in (atoms_in words)))
+words_only harts ms so_far [] known formula few all stands = rw (append-nil ms) (ap (λ (ws : List Token). Ok (ws, each_once ms)) (sym (append-nil so_far) ∙ ap (λ (ws : List Token). so_far ++ ws) (sym all)))
+words_only harts ms so_far (first ∷ words) known formula few all stands =
+    let here = ms ++ names_of first in
+    let more = names_in (atoms_in words) in
+    let split = names-behind ms first words in
+    let few_more : length (each_once (here ++ more)) ≤ 1024 = rw split few in
+    let few_here : length (each_once here) ≤ 1024 = omega (arith, fewer here more, few_more) in
+    let first_known : IsKnown harts (each_once (here ++ more)) first all.0 = rw split all.3 in
+    let rest_known : AreKnown harts (each_once (here ++ more)) words all.1 = rw split all.4 in
+    let whole : so_far ++ known ≡ (so_far ++ all.0 ∷ []) ++ all.1 = ap (λ (ws : List Token). so_far ++ ws) all.2 ∙ sym (append_assoc so_far (all.0 ∷ []) all.1) in
+    let stands_here : IsConditionOf ((so_far ++ all.0 ∷ []) ++ all.1) formula = subst (λ (ws : List Token). IsConditionOf ws formula) whole stands in
+    rw (token_only harts ms more first all.0 few_here first_known, told_begins so_far all.0 (all.1, formula, stands_here))
+    (words_only harts here (so_far ++ all.0 ∷ []) words all.1 formula few_more rest_known stands_here
+    ∙ ap (λ (ws : List Token). Ok (ws, each_once (here ++ more))) (sym whole)
+    ∙ ap (λ (ns : Names). Ok (so_far ++ known, each_once ns)) split)
+
+-- ---- the whole condition
+
+none_unread_found : (o : Option (List ℕ)) (end : Unit {0}) → none_unread o ≡ Ok end → o ≡ None
+none_unread_found None end e = refl
+none_unread_found (Some rest) end e = absurd cc
+
+-- what is read of a condition, where the names of the init part are these
+abbrev pub IsAsked : (harts : ℕ) → Names → List ℕ → Condition → Type 0
+IsAsked harts ms text condition = (words : List word.Token) × (known : List Token) × IsQuestion text condition.quantifier words × (condition.names ≡ each_once (ms ++ names_in (atoms_in words))) × (length condition.names ≤ 1024) × AreKnown harts condition.names words known × IsConditionOf known condition.formula
+
+pub asked_found : (harts : ℕ) (ms : Names) (text : List ℕ) (condition : Condition) → length (each_once ms) ≤ 1024 → condition_in harts (each_once ms) text ≡ Ok condition → IsAsked harts ms text condition
+unfolding condition_in
+asked_found harts ms text condition few e = go (quantifier_in (before_line Unread text)) refl e
+  where
+    go : (o : Option Quantified) → quantifier_in (before_line Unread text) ≡ o → behind_quantifier harts (each_once ms) text o ≡ Ok condition → IsAsked harts ms text condition
+    go None first told = absurd cc
+    go (Some quantified) first told =
+        let asked = bind_ok (words_told harts ([], each_once ms) (words_of quantified.1)) (λ asked. none_unread (from_line Unread text) >>= λ end. as_condition (finished asked.0) >>= λ formula. Ok (record { quantifier = quantified.0; formula = formula; names = asked.1 })) condition told in
+        let end = bind_ok (none_unread (from_line Unread text)) (λ end. as_condition (finished asked.0.0) >>= λ formula. Ok (record { quantifier = quantified.0; formula = formula; names = asked.0.1 })) condition asked.2 in
+        let formula = bind_ok (as_condition (finished asked.0.0)) (λ formula. Ok (record { quantifier = quantified.0; formula = formula; names = asked.0.1 })) condition end.2 in
+        let none = none_found text (none_unread_found (from_line Unread text) end.0 end.1) in
+        let front = quantifier_found (before_line Unread text) quantified first in
+        let walk : WordsFound harts ms [] (words_of quantified.1) asked.0 = words_found harts ms [] (words_of quantified.1) asked.0 few asked.1 in
+        let spelled : AreWords quantified.1 walk.words = are_words walk.words quantified.1 walk.whole in
+        let stands : IsConditionOf walk.known formula.0 = finished_found walk.known formula.0 (subst (λ (ws : List Token). finished ws ≡ Ok formula.0) walk.behind (finished_ok asked.0.0 formula.0 formula.1)) in
+        subst (IsAsked harts ms text) (ok_is LitmusFault (record { quantifier = quantified.0; formula = formula.0; names = asked.0.1 }) condition formula.2)
+        (walk.words, walk.known, (front.0, quantified.1, front.1, sym (none_only text none).0 ∙ front.2, spelled, none), walk.names, walk.few, walk.all, stands)
+
+pub asked_only : (harts : ℕ) (ms : Names) (text : List ℕ) (quantifier : Quantifier) (words : List word.Token) (known : List Token) (formula : Formula) → IsQuestion text quantifier words → length (each_once (ms ++ names_in (atoms_in words))) ≤ 1024 → AreKnown harts (each_once (ms ++ names_in (atoms_in words))) words known → IsConditionOf known formula → condition_in harts (each_once ms) text ≡ Ok (record { quantifier = quantifier; formula = formula; names = each_once (ms ++ names_in (atoms_in words)) })
+unfolding condition_in
+asked_only harts ms text quantifier words known formula (blanks, rest, all, whole, spelled, none) few are stands =
+    let lines = none_only text none in
+    let first : quantifier_in (before_line Unread text) ≡ Some (quantifier, rest) = ap quantifier_in (lines.0 ∙ whole) ∙ quantifier_only blanks rest quantifier all in
+    rw (first, words_are rest words spelled, words_only harts ms [] words known formula few are stands, lines.1, finished_only known formula stands) refl
