@@ -33,19 +33,11 @@ use Rattle.litmus_reader.specs.declared.marks.Mark.TheVariants.{Unread}
 use Rattle.litmus_reader.specs.Marks.{has_word, before_line, from_line}
 use Rattle.litmus_reader.specs.Locations.{Names, met, value_met}
 use Rattle.litmus_reader.specs.Condition.{Quantified, Asked, Condition, quantifier_of, quantifier_in, place_met, atom_met, token_met, as_condition, words_told, none_unread, behind_quantifier, condition_in}
-use Rattle.litmus_reader.specs.Shapes.{NoneBegins}
 use Rattle.litmus_reader.specs.Layout.{BeginsUnread}
 use Rattle.litmus_reader.specs.Openings.{names_in, name_of_place, name_of_value, each_once, IsAt, IsWorth}
 use Rattle.litmus_reader.specs.Asked.{word_for, IsQuestion, atoms_in, IsPlaceOf, IsKnown, AreKnown}
+use Rattle.litmus_reader.proofs.ShapeLaws.{unread_matches, nowhere_found, nowhere_only}
 use Rattle.litmus_reader.proofs.MeetLaws.{fewer, at_later, one_index, met_found, met_only, value_found, value_only, worth_later, one_worth}
-
--- ==== HOLES of others
-none_found : (text : List ℕ) → from_line Unread text ≡ None → NoneBegins BeginsUnread text
-none_found = ?
-
-none_only : (text : List ℕ) → NoneBegins BeginsUnread text → (before_line Unread text ≡ text) × (from_line Unread text ≡ None)
-none_only = ?
--- ==== end of HOLES
 
 -- ---- the quantifier
 
@@ -303,17 +295,17 @@ asked_found harts ms text condition few e = go (quantifier_in (before_line Unrea
         let asked = bind_ok (words_told harts ([], each_once ms) (words_of quantified.1)) (λ asked. none_unread (from_line Unread text) >>= λ end. as_condition (finished asked.0) >>= λ formula. Ok (record { quantifier = quantified.0; formula = formula; names = asked.1 })) condition told in
         let end = bind_ok (none_unread (from_line Unread text)) (λ end. as_condition (finished asked.0.0) >>= λ formula. Ok (record { quantifier = quantified.0; formula = formula; names = asked.0.1 })) condition asked.2 in
         let formula = bind_ok (as_condition (finished asked.0.0)) (λ formula. Ok (record { quantifier = quantified.0; formula = formula; names = asked.0.1 })) condition end.2 in
-        let none = none_found text (none_unread_found (from_line Unread text) end.0 end.1) in
+        let none = nowhere_found Unread BeginsUnread unread_matches text (none_unread_found (from_line Unread text) end.0 end.1) in
         let front = quantifier_found (before_line Unread text) quantified first in
         let walk : WordsFound harts ms [] (words_of quantified.1) asked.0 = words_found harts ms [] (words_of quantified.1) asked.0 few asked.1 in
         let spelled : AreWords quantified.1 walk.words = are_words walk.words quantified.1 walk.whole in
         let stands : IsConditionOf walk.known formula.0 = finished_found walk.known formula.0 (subst (λ (ws : List Token). finished ws ≡ Ok formula.0) walk.behind (finished_ok asked.0.0 formula.0 formula.1)) in
         subst (IsAsked harts ms text) (ok_is LitmusFault (record { quantifier = quantified.0; formula = formula.0; names = asked.0.1 }) condition formula.2)
-        (walk.words, walk.known, (front.0, quantified.1, front.1, sym (none_only text none).0 ∙ front.2, spelled, none), walk.names, walk.few, walk.all, stands)
+        (walk.words, walk.known, (front.0, quantified.1, front.1, sym (nowhere_only Unread BeginsUnread unread_matches text none).0 ∙ front.2, spelled, none), walk.names, walk.few, walk.all, stands)
 
 pub asked_only : (harts : ℕ) (ms : Names) (text : List ℕ) (quantifier : Quantifier) (words : List word.Token) (known : List Token) (formula : Formula) → IsQuestion text quantifier words → length (each_once (ms ++ names_in (atoms_in words))) ≤ 1024 → AreKnown harts (each_once (ms ++ names_in (atoms_in words))) words known → IsConditionOf known formula → condition_in harts (each_once ms) text ≡ Ok (record { quantifier = quantifier; formula = formula; names = each_once (ms ++ names_in (atoms_in words)) })
 unfolding condition_in
 asked_only harts ms text quantifier words known formula (blanks, rest, all, whole, spelled, none) few are stands =
-    let lines = none_only text none in
+    let lines = nowhere_only Unread BeginsUnread unread_matches text none in
     let first : quantifier_in (before_line Unread text) ≡ Some (quantifier, rest) = ap quantifier_in (lines.0 ∙ whole) ∙ quantifier_only blanks rest quantifier all in
     rw (first, words_are rest words spelled, words_only harts ms [] words known formula few are stands, lines.1, finished_only known formula stands) refl
