@@ -33,6 +33,7 @@ use Rattle.litmus_reader.specs.declared.marks.Mark.TheVariants.{Unread}
 use Rattle.litmus_reader.specs.Marks.{has_word, before_line, from_line}
 use Rattle.litmus_reader.specs.Locations.{Names, met, value_met}
 use Rattle.litmus_reader.specs.Condition.{Quantified, Asked, Condition, quantifier_of, quantifier_in, place_met, atom_met, token_met, as_condition, words_told, none_unread, behind_quantifier, condition_in}
+use Rattle.litmus_reader.specs.Shapes.{NoneBegins}
 use Rattle.litmus_reader.specs.Layout.{BeginsUnread}
 use Rattle.litmus_reader.specs.Openings.{names_in, name_of_place, name_of_value, each_once, IsAt, IsWorth}
 use Rattle.litmus_reader.specs.Asked.{word_for, IsQuestion, atoms_in, IsPlaceOf, IsKnown, AreKnown}
@@ -233,6 +234,18 @@ record WordsFound (harts : ℕ) (ms : Names) (so_far : List Token) (text : Words
   few : length asked.1 ≤ 1024
   all : AreKnown harts asked.1 words known
 
+word_found : (harts : ℕ) (ms : Names) (so_far more : List Token) (first : word.Token) (others : Words) (asked : Asked) (known : Token) → so_far ++ known ∷ [] ≡ more → IsKnown harts (each_once (ms ++ names_of first)) first known → WordsFound harts (ms ++ names_of first) more others asked → WordsFound harts ms so_far (word.Words.word first others) asked
+word_found harts ms so_far more first others asked known taken is rest =
+    record {
+      words = first ∷ rest.words;
+      known = known ∷ rest.known;
+      whole = ap (λ (ws : Words). word.Words.word first ws) rest.whole;
+      behind = rest.behind ∙ ap (λ (ws : List Token). ws ++ rest.known) (sym taken) ∙ append_assoc so_far (known ∷ []) rest.known;
+      names = rest.names ∙ ap each_once (names-behind ms first rest.words);
+      few = rest.few;
+      all = (known, rest.known, refl, subst (λ (names : Names). IsKnown harts names first known) (sym rest.names) (known_later harts (ms ++ names_of first) (names_in (atoms_in rest.words)) first known is), rest.all);
+    }
+
 words_found : (harts : ℕ) (ms : Names) (so_far : List Token) (text : Words) (asked : Asked) → length (each_once ms) ≤ 1024 → words_told harts (so_far, each_once ms) text ≡ Ok asked → WordsFound harts ms so_far text asked
 words_found harts ms so_far word.Words.ended asked few e =
     subst (WordsFound harts ms so_far word.Words.ended) (ok_is LitmusFault (so_far, each_once ms) asked e)
@@ -241,22 +254,10 @@ words_found harts ms so_far word.Words.broken asked few e = absurd cc
 words_found harts ms so_far (word.Words.word first others) asked few e =
     let known = bind_ok (token_met harts (each_once ms) first) (λ known. as_condition (told so_far known.0) >>= λ more. words_told harts (more, known.1) others) asked e in
     let more = bind_ok (as_condition (told so_far known.0.0)) (λ more. words_told harts (more, known.0.1) others) asked known.2 in
-    let token = token_found harts ms first known.0 few known.1 in
-    let here = ms ++ names_of first in
-    let few_here : length (each_once here) ≤ 1024 = subst (λ (names : Names). length names ≤ 1024) token.names token.few in
-    let told_here : words_told harts (more.0, each_once here) others ≡ Ok asked = subst (λ (names : Names). words_told harts (more.0, names) others ≡ Ok asked) token.names more.2 in
-    let rest : WordsFound harts here more.0 others asked = words_found harts here more.0 others asked few_here told_here in
-    let first_here : IsKnown harts (each_once here) first known.0.0 = subst (λ (names : Names). IsKnown harts names first known.0.0) token.names token.known in
-    let first_known : IsKnown harts asked.1 first known.0.0 = subst (λ (names : Names). IsKnown harts names first known.0.0) (sym rest.names) (known_later harts here (names_in (atoms_in rest.words)) first known.0.0 first_here) in
-    record {
-      words = first ∷ rest.words;
-      known = known.0.0 ∷ rest.known;
-      whole = ap (λ (ws : Words). word.Words.word first ws) rest.whole;
-      behind = rest.behind ∙ ap (λ (ws : List Token). ws ++ rest.known) (sym (told_found so_far known.0.0 more.0 more.1)) ∙ append_assoc so_far (known.0.0 ∷ []) rest.known;
-      names = rest.names ∙ ap each_once (names-behind ms first rest.words);
-      few = rest.few;
-      all = (known.0.0, rest.known, refl, first_known, rest.all);
-    }
+    let one = token_found harts ms first known.0 few known.1 in
+    word_found harts ms so_far more.0 first others asked known.0.0 (told_found so_far known.0.0 more.0 more.1)
+    (subst (λ (names : Names). IsKnown harts names first known.0.0) one.names one.known)
+    (words_found harts (ms ++ names_of first) more.0 others asked (subst (λ (names : Names). length names ≤ 1024) one.names one.few) (subst (λ (names : Names). words_told harts (more.0, names) others ≡ Ok asked) one.names more.2))
 
 words_only : (harts : ℕ) (ms : Names) (so_far : List Token) (words : List word.Token) (known : List Token) (formula : Formula) → length (each_once (ms ++ names_in (atoms_in words))) ≤ 1024 → AreKnown harts (each_once (ms ++ names_in (atoms_in words))) words known → IsConditionOf (so_far ++ known) formula → words_told harts (so_far, each_once ms) (listed words) ≡ Ok (so_far ++ known, each_once (ms ++ names_in (atoms_in words)))
 words_only harts ms so_far [] known formula few all stands = rw (append-nil ms) (ap (λ (ws : List Token). Ok (ws, each_once ms)) (sym (append-nil so_far) ∙ ap (λ (ws : List Token). so_far ++ ws) (sym all)))
@@ -281,9 +282,20 @@ none_unread_found : (o : Option (List ℕ)) (end : Unit {0}) → none_unread o �
 none_unread_found None end e = refl
 none_unread_found (Some rest) end e = absurd cc
 
+abbrev asked_so : Quantifier → Formula → Names → Result Condition LitmusFault
+asked_so quantifier formula names = Ok (record { quantifier = quantifier; formula = formula; names = names })
+
 -- what is read of a condition, where the names of the init part are these
 abbrev pub IsAsked : (harts : ℕ) → Names → List ℕ → Condition → Type 0
 IsAsked harts ms text condition = (words : List word.Token) × (known : List Token) × IsQuestion text condition.quantifier words × (condition.names ≡ each_once (ms ++ names_in (atoms_in words))) × (length condition.names ≤ 1024) × AreKnown harts condition.names words known × IsConditionOf known condition.formula
+
+finished_asked : (harts : ℕ) (ms : Names) (text : List ℕ) (quantified : Quantified) (asked : Asked) (condition : Condition) → IsQuantified text quantified → NoneBegins BeginsUnread text → WordsFound harts ms [] (words_of quantified.1) asked → (as_condition (finished asked.0) >>= λ formula. asked_so quantified.0 formula asked.1) ≡ Ok condition → IsAsked harts ms text condition
+finished_asked harts ms text quantified asked condition front none walk e =
+    let formula = bind_ok (as_condition (finished asked.0)) (λ formula. asked_so quantified.0 formula asked.1) condition e in
+    let spelled : AreWords quantified.1 walk.words = are_words walk.words quantified.1 walk.whole in
+    let stands : IsConditionOf walk.known formula.0 = finished_found walk.known formula.0 (subst (λ (ws : List Token). finished ws ≡ Ok formula.0) walk.behind (finished_ok asked.0 formula.0 formula.1)) in
+    subst (IsAsked harts ms text) (ok_is LitmusFault (record { quantifier = quantified.0; formula = formula.0; names = asked.1 }) condition formula.2)
+    (walk.words, walk.known, (front.0, quantified.1, front.1, front.2, spelled, none), walk.names, walk.few, walk.all, stands)
 
 pub asked_found : (harts : ℕ) (ms : Names) (text : List ℕ) (condition : Condition) → length (each_once ms) ≤ 1024 → condition_in harts (each_once ms) text ≡ Ok condition → IsAsked harts ms text condition
 unfolding condition_in
@@ -292,16 +304,11 @@ asked_found harts ms text condition few e = go (quantifier_in (before_line Unrea
     go : (o : Option Quantified) → quantifier_in (before_line Unread text) ≡ o → behind_quantifier harts (each_once ms) text o ≡ Ok condition → IsAsked harts ms text condition
     go None first told = absurd cc
     go (Some quantified) first told =
-        let asked = bind_ok (words_told harts ([], each_once ms) (words_of quantified.1)) (λ asked. none_unread (from_line Unread text) >>= λ end. as_condition (finished asked.0) >>= λ formula. Ok (record { quantifier = quantified.0; formula = formula; names = asked.1 })) condition told in
-        let end = bind_ok (none_unread (from_line Unread text)) (λ end. as_condition (finished asked.0.0) >>= λ formula. Ok (record { quantifier = quantified.0; formula = formula; names = asked.0.1 })) condition asked.2 in
-        let formula = bind_ok (as_condition (finished asked.0.0)) (λ formula. Ok (record { quantifier = quantified.0; formula = formula; names = asked.0.1 })) condition end.2 in
+        let asked = bind_ok (words_told harts ([], each_once ms) (words_of quantified.1)) (λ asked. none_unread (from_line Unread text) >>= λ end. as_condition (finished asked.0) >>= λ formula. asked_so quantified.0 formula asked.1) condition told in
+        let end = bind_ok (none_unread (from_line Unread text)) (λ end. as_condition (finished asked.0.0) >>= λ formula. asked_so quantified.0 formula asked.0.1) condition asked.2 in
         let none = nowhere_found Unread BeginsUnread unread_matches text (none_unread_found (from_line Unread text) end.0 end.1) in
-        let front = quantifier_found (before_line Unread text) quantified first in
-        let walk : WordsFound harts ms [] (words_of quantified.1) asked.0 = words_found harts ms [] (words_of quantified.1) asked.0 few asked.1 in
-        let spelled : AreWords quantified.1 walk.words = are_words walk.words quantified.1 walk.whole in
-        let stands : IsConditionOf walk.known formula.0 = finished_found walk.known formula.0 (subst (λ (ws : List Token). finished ws ≡ Ok formula.0) walk.behind (finished_ok asked.0.0 formula.0 formula.1)) in
-        subst (IsAsked harts ms text) (ok_is LitmusFault (record { quantifier = quantified.0; formula = formula.0; names = asked.0.1 }) condition formula.2)
-        (walk.words, walk.known, (front.0, quantified.1, front.1, sym (nowhere_only Unread BeginsUnread unread_matches text none).0 ∙ front.2, spelled, none), walk.names, walk.few, walk.all, stands)
+        let whole : before_line Unread text ≡ text = (nowhere_only Unread BeginsUnread unread_matches text none).0 in
+        finished_asked harts ms text quantified asked.0 condition (quantifier_found text quantified (ap quantifier_in (sym whole) ∙ first)) none (words_found harts ms [] (words_of quantified.1) asked.0 few asked.1) end.2
 
 pub asked_only : (harts : ℕ) (ms : Names) (text : List ℕ) (quantifier : Quantifier) (words : List word.Token) (known : List Token) (formula : Formula) → IsQuestion text quantifier words → length (each_once (ms ++ names_in (atoms_in words))) ≤ 1024 → AreKnown harts (each_once (ms ++ names_in (atoms_in words))) words known → IsConditionOf known formula → condition_in harts (each_once ms) text ≡ Ok (record { quantifier = quantifier; formula = formula; names = each_once (ms ++ names_in (atoms_in words)) })
 unfolding condition_in
