@@ -1,7 +1,6 @@
 -- The condition: what is read of it is what its text asks, and what the text asks is read.
-use Rattle.std.proofs.Common.{◌≡◌, ◌∙◌, ℕ, ◌+◌, ◌*◌, ◌<◌, ◌≤◌, Bool, true, false, ◌||◌, List, [], ◌∷◌, ◌++◌, length, drop, Option, Some, None, Result, Ok, Err, refl, sym, ap, subst, append_assoc, ltb-true, lt-ltb, arith}
-use Rattle.std.specs.Prelude.{nat_eq, nat_lt, if◌then◌else◌, codes}
-use Rattle.std.specs.List.{starts_with}
+use Rattle.std.proofs.Common.{◌≡◌, ◌∙◌, ℕ, ◌*◌, ◌≤◌, Bool, true, false, List, [], ◌∷◌, ◌++◌, length, drop, Option, Some, None, Result, Ok, Err, refl, sym, ap, subst, append_assoc, ltb-true, lt-ltb, arith}
+use Rattle.std.specs.Prelude.{nat_lt, if◌then◌else◌, codes}
 use Rattle.std.proofs.lemmas.Bool.Decides.{Decides-eqb}
 use Rattle.std.proofs.lemmas.List.{append-nil}
 use Rattle.std.proofs.lemmas.Slice.Eq.{starts_is}
@@ -35,7 +34,7 @@ use Rattle.litmus_reader.specs.Locations.{Names, met, value_met}
 use Rattle.litmus_reader.specs.Condition.{Quantified, Asked, Condition, quantifier_of, quantifier_in, place_met, atom_met, token_met, as_condition, words_told, none_unread, behind_quantifier, condition_in}
 use Rattle.litmus_reader.specs.Shapes.{NoneBegins}
 use Rattle.litmus_reader.specs.Layout.{BeginsUnread}
-use Rattle.litmus_reader.specs.Openings.{names_in, name_of_place, name_of_value, each_once, IsAt, IsWorth}
+use Rattle.litmus_reader.specs.Openings.{names_in, name_of_place, name_of_value, each_once, IsWorth}
 use Rattle.litmus_reader.specs.Asked.{word_for, IsQuestion, atoms_in, IsPlaceOf, IsKnown, AreKnown}
 use Rattle.litmus_reader.proofs.ShapeLaws.{unread_matches, nowhere_found, nowhere_only}
 use Rattle.litmus_reader.proofs.MeetLaws.{fewer, at_later, one_index, met_found, met_only, value_found, value_only, worth_later, one_worth}
@@ -71,11 +70,11 @@ quantifier_first Exists rest = refl
 quantifier_first NotExists rest = refl
 quantifier_first ForAll rest = refl
 
-pub quantifier_only : (blanks rest : List ℕ) (quantifier : Quantifier) → AreBlanks blanks → quantifier_in (blanks ++ (word_for quantifier ++ rest)) ≡ Some (quantifier, rest)
+quantifier_only : (blanks rest : List ℕ) (quantifier : Quantifier) → AreBlanks blanks → quantifier_in (blanks ++ (word_for quantifier ++ rest)) ≡ Some (quantifier, rest)
 unfolding quantifier_in
 quantifier_only blanks rest quantifier all = ap quantifier_of (front_past blanks (word_for quantifier ++ rest) all) ∙ quantifier_first quantifier rest
 
--- ---- words that are taken
+-- ---- words that may stand behind others
 
 with_word_found : (words : List Token) (next : Token) (o : Option Stage) (more : List Token) → as_condition (or_misplaced (with_word words next o)) ≡ Ok more → words ++ next ∷ [] ≡ more
 with_word_found words next None more e = absurd cc
@@ -297,6 +296,7 @@ finished_asked harts ms text quantified asked condition front none walk e =
     subst (IsAsked harts ms text) (ok_is LitmusFault (record { quantifier = quantified.0; formula = formula.0; names = asked.1 }) condition formula.2)
     (walk.words, walk.known, (front.0, quantified.1, front.1, front.2, spelled, none), walk.names, walk.few, walk.all, stands)
 
+-- what is read is what the text asks
 pub asked_found : (harts : ℕ) (ms : Names) (text : List ℕ) (condition : Condition) → length (each_once ms) ≤ 1024 → condition_in harts (each_once ms) text ≡ Ok condition → IsAsked harts ms text condition
 unfolding condition_in
 asked_found harts ms text condition few e = go (quantifier_in (before_line Unread text)) refl e
@@ -310,6 +310,7 @@ asked_found harts ms text condition few e = go (quantifier_in (before_line Unrea
         let whole : before_line Unread text ≡ text = (nowhere_only Unread BeginsUnread unread_matches text none).0 in
         finished_asked harts ms text quantified asked.0 condition (quantifier_found text quantified (ap quantifier_in (sym whole) ∙ first)) none (words_found harts ms [] (words_of quantified.1) asked.0 few asked.1) end.2
 
+-- what the text asks is read
 pub asked_only : (harts : ℕ) (ms : Names) (text : List ℕ) (quantifier : Quantifier) (words : List word.Token) (known : List Token) (formula : Formula) → IsQuestion text quantifier words → length (each_once (ms ++ names_in (atoms_in words))) ≤ 1024 → AreKnown harts (each_once (ms ++ names_in (atoms_in words))) words known → IsConditionOf known formula → condition_in harts (each_once ms) text ≡ Ok (record { quantifier = quantifier; formula = formula; names = each_once (ms ++ names_in (atoms_in words)) })
 unfolding condition_in
 asked_only harts ms text quantifier words known formula (blanks, rest, all, whole, spelled, none) few are stands =
