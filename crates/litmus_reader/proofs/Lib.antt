@@ -5,3 +5,5 @@ pub mod NameLaws
 pub mod ThereLaws
 pub mod ContentLaws
 pub mod MeetLaws
+pub mod ItemLaws
+pub mod FirstValueLaws
