@@ -1,5 +1,5 @@
 -- First values: registers and words begin with what the items put there last.
-use Rattle.std.proofs.Common.{◌≡◌, ℕ, suc, zero, ◌+◌, ◌-◌, ◌<◌, ◌≤◌, ◌==◌, ◌&&◌, Bool, true, false, if◌then◌else◌, nat_lt, eqb, List, [], ◌∷◌, ◌++◌, length, get_or, replicate, filter, not, slice_index_or, slice_set, Option, Some, None, Result, Ok, Err, All, refl, sym, ap, subst, ◌∙◌, ◌⊎◌, inl, inr, arith, ext_get_or}
+use Rattle.std.proofs.Common.{◌≡◌, ℕ, suc, zero, ◌-◌, ◌<◌, ◌≤◌, ◌==◌, ◌&&◌, Bool, true, false, if◌then◌else◌, nat_lt, List, [], ◌∷◌, ◌++◌, length, get_or, replicate, filter, not, slice_index_or, slice_set, Option, Some, None, Ok, All, refl, sym, ap, subst, ◌∙◌, inl, inr, arith, ext_get_or}
 use Rattle.std.specs.Str.{bytes_eq}
 use Rattle.std.proofs.lemmas.Bool.{ltb-true, lt-ltb, eqb-false, eq-eqb, ne_eqb, cases_Bool, cases_eq, cases_lt, both_ways, false≢true, or_left, or_right}
 use Rattle.std.proofs.lemmas.Slice.Eq.{bytes_eq-Decides}
@@ -7,7 +7,7 @@ use Rattle.std.proofs.lemmas.List.{length-append, get_or_append_left, get_or-app
 use Rattle.std.proofs.lemmas.List.Elements.{All-cons, All-nil, All-head, All-tail, filter-append}
 use Rattle.texts.proofs.ResultLaws.{bind_ok, ok_is}
 use Rattle.rv_decode.specs.declared.instruction.Reg.{Reg}
-use Rattle.litmus_words.specs.Settings.{Place, Value, Put}
+use Rattle.litmus_words.specs.Settings.{Value, Put}
 use Rattle.litmus_words.specs.Settings.Place.{in_register, at_location}
 use Rattle.litmus_reader.specs.declared.faults.LitmusFault.{LitmusFault}
 use Rattle.litmus_reader.specs.declared.init.Target.{Target}
@@ -17,7 +17,7 @@ use Rattle.litmus_reader.specs.Init.{Setting, Settings}
 use Rattle.litmus_reader.specs.Values.{Values, zeros, with_register, put_at, item_put, items_put, values_at, padded}
 use Rattle.litmus_reader.specs.Openings.{IsAt, IsWorth, each_once, name_of_place, name_of_value, names_in, or_else, last_put, is_register, is_location, IsFirstValue, AreRegisters, AreFirstWords, IsHartThere}
 use Rattle.litmus_reader.proofs.MeetLaws.{has, at_later, one_index, one_name, fewer, at_some, at_below, worth_later, one_worth}
-use Rattle.litmus_reader.proofs.ItemLaws.{IsTarget, IsSettingOf, AreSettings}
+use Rattle.litmus_reader.proofs.ItemLaws.{IsSettingOf, AreSettings}
 
 -- ---- registers and words of as many harts and locations
 
@@ -213,9 +213,9 @@ all_put ms (put ∷ puts) (item ∷ items) harts values out shaped settings e =
       shaped = next.shaped;
       there = All-cons (IsHartThere harts) put puts (hart_there (each_once ms) put item values more harts shaped.all settings.0 left) next.there;
       registers = λ hart n here some few.
-        later_wins (each_once ms) (last_put (is_register hart n) puts) _ (at_register values hart n) (at_register more hart n) (at_register out hart n) (next.registers hart n here some few) (register_told (each_once ms) put item values more harts (length (each_once ms)) hart n shaped settings.0 left here some few);
+          later_wins (each_once ms) (last_put (is_register hart n) puts) _ (at_register values hart n) (at_register more hart n) (at_register out hart n) (next.registers hart n here some few) (register_told (each_once ms) put item values more harts (length (each_once ms)) hart n shaped settings.0 left here some few);
       words = λ index name at.
-        later_wins (each_once ms) (last_put (is_location name) puts) _ (at_word values index) (at_word more index) (at_word out index) (next.words index name at) (word_told ms put item values more index name shaped.words settings.0 left at);
+          later_wins (each_once ms) (last_put (is_location name) puts) _ (at_word values index) (at_word more index) (at_word out index) (next.words index name at) (word_told ms put item values more index name shaped.words settings.0 left at);
     }
 
 pub values_found : (harts : ℕ) (puts : List Put) (settings : Settings) (values : Values) → settings.names ≡ each_once (names_in puts) → AreSettings settings.names puts settings.items → values_at harts settings ≡ Ok values → All (IsHartThere harts) puts × (length values.registers ≡ harts) × ((hart : ℕ) → hart < harts → AreRegisters settings.names puts hart (slice_index_or values.registers hart [])) × AreFirstWords settings.names puts values.words
@@ -224,15 +224,20 @@ values_found harts puts settings values same items e =
     let ms = names_in puts in
     let here = subst (λ (names : Names). AreSettings names puts settings.items) same items in
     let begun = subst (λ (names : Names). items_put (zeros harts (length names)) settings.items ≡ Ok values) same e in
-    let put = all_put ms puts settings.items harts (zeros harts (length (each_once ms))) values (zeros_shaped harts (length (each_once ms))) here begun in
-    (put.there, put.shaped.all, λ hart within. subst (λ (names : Names). AreRegisters names puts hart (slice_index_or values.registers hart [])) (sym same) (record {
-      count = put.shaped.counts hart within;
-      zero = put.shaped.zeros hart within;
-      others = λ n some few. first_value (each_once ms) (last_put (is_register hart n) puts) (at_register (zeros harts (length (each_once ms))) hart n) (at_register values hart n) (zeros_at harts (length (each_once ms)) hart n within few) (put.registers hart n within some few);
-    }), subst (λ (names : Names). AreFirstWords names puts values.words) (sym same) (record {
-      count = put.shaped.words;
-      values = λ index name at. first_value (each_once ms) (last_put (is_location name) puts) (at_word (zeros harts (length (each_once ms))) index) (at_word values index) (get_or-replicate (length (each_once ms)) index 0 0 (at_below (each_once ms) name index at)) (put.words index name at);
-    }))
+    let start = zeros harts (length (each_once ms)) in
+    let put = all_put ms puts settings.items harts start values (zeros_shaped harts (length (each_once ms))) here begun in (
+      put.there,
+      put.shaped.all,
+      λ hart within. subst (λ (names : Names). AreRegisters names puts hart (slice_index_or values.registers hart [])) (sym same) (record {
+        count = put.shaped.counts hart within;
+        zero = put.shaped.zeros hart within;
+        others = λ n some few. first_value (each_once ms) (last_put (is_register hart n) puts) (at_register start hart n) (at_register values hart n) (zeros_at harts (length (each_once ms)) hart n within few) (put.registers hart n within some few);
+      }),
+      subst (λ (names : Names). AreFirstWords names puts values.words) (sym same) (record {
+        count = put.shaped.words;
+        values = λ index name at. first_value (each_once ms) (last_put (is_location name) puts) (at_word start index) (at_word values index) (get_or-replicate (length (each_once ms)) index 0 0 (at_below (each_once ms) name index at)) (put.words index name at);
+      }),
+    )
 
 -- ---- items whose harts are there can be put
 
@@ -313,23 +318,23 @@ at_met (m ∷ ms) name is = elim (cases_Bool (bytes_eq m name)) [
 
 pub words_later : (puts : List Put) (more : Names) (words : List ℕ) → AreFirstWords (each_once (names_in puts)) puts words → AreFirstWords (each_once (names_in puts ++ more)) puts (padded (length (each_once (names_in puts ++ more))) words)
 words_later puts more words are = record {
-  count = length-append words (replicate (length all - length words) 0) ∙ (rw (length-replicate {A = ℕ} (length all - length words) 0) (omega (arith, are.count, fewer ms more)));
+  count = length-append words (replicate (length all - length words) 0) ∙ (rw (length-replicate {A = ℕ} (length all - length words) 0) (omega (arith, are.count, fewer (names_in puts) more)));
   values = λ index name at. elim (cases_lt index (length words)) [
     | inl within ↦ old index name at within
     | inr behind ↦ new index name at behind
   ];
 }
   where
-    ms : Names
-    ms = names_in puts
     all : Names
     all = each_once (names_in puts ++ more)
+
     old : (index : ℕ) (name : List ℕ) → IsAt all name index → index < length words → IsFirstValue all (last_put (is_location name) puts) (slice_index_or (padded (length all) words) index 0)
     old index name at within =
         let small = at_some (names_in puts) index (omega (arith, are.count)) in
         let same = one_name (names_in puts ++ more) small.0 name index (at_later (names_in puts) more small.0 index small.1) at in
         let first = are.values index name (subst (λ (n : List ℕ). IsAt (each_once (names_in puts)) n index) same small.1) in
         subst (IsFirstValue all (last_put (is_location name) puts)) (sym (get_or_append_left words (replicate (length all - length words) 0) 0 index within)) (first_later (names_in puts) more (last_put (is_location name) puts) (slice_index_or words index 0) first)
+
     new : (index : ℕ) (name : List ℕ) → IsAt all name index → length words ≤ index → IsFirstValue all (last_put (is_location name) puts) (slice_index_or (padded (length all) words) index 0)
     new index name at behind = go (last_put (is_location name) puts) refl
       where

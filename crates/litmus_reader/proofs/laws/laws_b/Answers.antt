@@ -1,6 +1,4 @@
-use Rattle.litmus_reader.proofs.FirstValueLaws as first_values
 use Rattle.litmus_reader.proofs.FirstValueLaws.{registers_one}
-use Rattle.litmus_reader.proofs.ItemLaws as items
 use Rattle.litmus_reader.proofs.laws.laws_b.Goals as goal
 
 pub returns : goal.returns
