@@ -4,3 +4,4 @@ pub mod TableLaws
 pub mod NameLaws
 pub mod ThereLaws
 pub mod ContentLaws
+pub mod ColumnLaws

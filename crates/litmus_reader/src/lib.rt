@@ -17,6 +17,7 @@ pub mod faults;
 mod gaps;
 mod header;
 mod init;
+pub mod laws_c;
 mod locations;
 mod marks;
 mod opening;
