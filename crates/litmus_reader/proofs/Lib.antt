@@ -5,3 +5,4 @@ pub mod NameLaws
 pub mod ThereLaws
 pub mod ContentLaws
 pub mod ColumnLaws
+pub mod MeetLaws

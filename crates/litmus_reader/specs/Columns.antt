@@ -43,7 +43,7 @@ pub record IsTable (table : List ℕ) (harts : ℕ) (rows : List Cells) : Type 0
   pub counted : length names ≡ harts
   pub few : harts ≤ 64
   pub parted : AreParts 10 below lines
-  pub rows : AreRows harts lines rows
+  pub written : AreRows harts lines rows
 
 -- the cells of a hart, from the top
 abbrev pub column_of : ℕ → List Cells → List (List ℕ)

@@ -54,9 +54,9 @@ abbrev pub last_put : (Place → Bool) → List Put → Option Value
 last_put is_there [] = None
 last_put is_there (put ∷ puts) = or_else (last_put is_there puts) (if is_there put.0 then Some put.1 else None)
 
-abbrev pub is_register : (hart number : ℕ) → Place → Bool
-is_register hart number (in_register other register) = (other == hart) && (register.number == number)
-is_register hart number (at_location name) = false
+abbrev pub is_register : (hart n : ℕ) → Place → Bool
+is_register hart n (in_register other register) = (other == hart) && (register.number == n)
+is_register hart n (at_location name) = false
 
 abbrev pub is_location : List ℕ → Place → Bool
 is_location name (in_register hart register) = false

@@ -17,7 +17,7 @@ pub mod faults;
 mod gaps;
 mod header;
 mod init;
-pub mod laws_c;
+pub mod laws;
 mod locations;
 mod marks;
 mod opening;
