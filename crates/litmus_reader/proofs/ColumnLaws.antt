@@ -8,7 +8,7 @@ use Rattle.texts.proofs.ResultLaws.{ok_is, bind_ok}
 use Rattle.rv_decode.specs.declared.instruction.Instr.{Instr}
 use Rattle.assembler.specs.Faults.{Refusal}
 use Rattle.assembler.specs.Drafts.{Line, size_of, words_of, told, all_told, finished}
-use Rattle.assembler.specs.Program.{AreLines, AreInstrs}
+use Rattle.assembler.specs.Program.{AreLines, EachOnce, AreInstrs}
 use Rattle.assembler.proofs.ProgramGrammar.{AllTold, all_found, all_only, Finishing, finished_found, finished_only, none_above}
 use Rattle.litmus_reader.specs.declared.faults.LitmusFault.{LitmusFault}
 use Rattle.litmus_reader.specs.declared.faults.LitmusFault.TheVariants.{TooMany}
@@ -22,7 +22,7 @@ as_instr_ok (Ok y) x e = ap Ok (ok_is LitmusFault y x e)
 as_instr_ok (Err refusal) x e = absurd cc
 
 words_of-append : (above below : List Line) → words_of (above ++ below) ≡ words_of above + words_of below
-words_of-append [] below = refl
+words_of-append [] below = omega arith
 words_of-append (line ∷ above) below = let rest = words_of-append above below in omega (arith, rest)
 
 -- a column's words are no fewer with more cells
@@ -46,7 +46,7 @@ cell_found column cell more e =
 
 cell_only : (column : Column) (cell : List ℕ) (more : Column) → told column cell ≡ Ok more → words_of more ≤ 4096 → cell_told column cell ≡ Ok more
 unfolding cell_told
-cell_only column cell more e few = rw (e, le-ltb (words_of more) 4096 few) refl
+cell_only column cell more e few = rw (e, le-ltb 4096 (words_of more) few) refl
 
 -- ---- all columns
 
@@ -140,7 +140,7 @@ code_found cells end code e done =
     let written = all_found [] cells end e in
     let same : written.below ≡ end = sym written.whole in
     let answer = finished_found end code done in
-    (end, answer.instrs, subst (λ (ls : List Line). AreLines cells ls) same written.written, record { once = subst _ same written.once; few = answer.few; placed = answer.placed }, answer.same)
+    (end, answer.instrs, subst (λ (ls : List Line). AreLines cells ls) same written.written, record { once = subst EachOnce same written.once; few = answer.few; placed = answer.placed }, answer.same)
 
 pub codes_found : (rows : List Cells) (hart harts : ℕ) (ends : List Column) (codes : List Code) → AreEnds rows hart (replicate harts []) ends → codes_of ends ≡ Ok codes → AreCodes rows hart codes × (length codes ≡ harts)
 codes_found rows hart zero ends codes are e =
