@@ -7,3 +7,4 @@ pub mod ContentLaws
 pub mod RowGrammar
 pub mod ColumnLaws
 pub mod MeetLaws
+pub mod ShapeLaws

@@ -1,0 +1,306 @@
+-- How a text is put together: its parts, its first line, and the first line that begins so, by relation and by function.
+use Rattle.std.proofs.Common.{◌≡◌, ℕ, Bool, true, false, not, List, [], ◌∷◌, ◌++◌, length, drop, Option, Some, None, refl, sym, ap, subst, ◌∙◌, inl, inr, ◌⊎◌}
+use Rattle.std.specs.Prelude.{◌==◌, ◌&&◌, ◌||◌, codes, nat_eq, unwrap_or}
+use Rattle.std.specs.List.{slice_split, onto_first, starts_with}
+use Rattle.std.proofs.lemmas.Bool.{cases_Bool, eq-eqb, eqb-true, or_cases, or_left, or_right, not-true, not_from_false, false_from_ne_true}
+use Rattle.std.proofs.lemmas.Slice.Eq.{starts_is}
+use Rattle.std.proofs.lemmas.Bool.Decides.{Decides-eqb}
+use Rattle.texts.specs.Pieces.{is_blank}
+use Rattle.texts.specs.Cutting.{before, after, is_byte, without_front}
+use Rattle.assembler.specs.Spelled.{AreBlanks}
+use Rattle.assembler.proofs.Plain.{NonePass, before_none, after_none, before_stop, after_stop}
+use Rattle.assembler.proofs.Trimming.{front_past, front_split, cut_byte, uncut, before_passes_not}
+use Rattle.litmus_reader.specs.declared.marks.Mark.{Mark}
+use Rattle.litmus_reader.specs.declared.marks.Mark.TheVariants as mark
+use Rattle.litmus_reader.specs.Parts.{parts}
+use Rattle.litmus_reader.specs.Marks.{has_word, is_visible, is_brace, is_unread, is_condition, begins, before_next, from_next, before_line, from_line}
+use Rattle.litmus_reader.specs.Shapes.{HasNo, AreParts, IsCut, IsFirst, NoneBegins}
+use Rattle.litmus_reader.specs.Shapes as shape
+use Rattle.litmus_reader.specs.Shapes.IsFirst.{here, below as further}
+use Rattle.litmus_reader.specs.Layout.{IsVisible, BeginsWith, BeginsUnread, BeginsCondition}
+use Rattle.litmus_reader.proofs.PartLaws.{parts_cut}
+
+-- ---- parts
+
+pub none_passes : (byte : ℕ) (text : List ℕ) → HasNo byte text → NonePass (is_byte byte) text
+none_passes byte [] h = tt
+none_passes byte (c ∷ text) h = (h.0, none_passes byte text h.1)
+
+pub has_none : (byte : ℕ) (text : List ℕ) → NonePass (is_byte byte) text → HasNo byte text
+has_none byte [] h = tt
+has_none byte (c ∷ text) h = (h.0, has_none byte text h.1)
+
+longer_first : (byte c : ℕ) (text : List ℕ) (ps : List (List ℕ)) → (c == byte) ≡ false → AreParts byte text ps → AreParts byte (c ∷ text) (onto_first c ps)
+longer_first byte c text ps other (shape.AreParts.last part none) = shape.AreParts.last (c ∷ part) (other, none)
+longer_first byte c text ps other (shape.AreParts.more part rest others none below) = shape.AreParts.more (c ∷ part) rest others (other, none) below
+
+pub parts_found : (byte : ℕ) (text : List ℕ) → AreParts byte text (parts byte text)
+parts_found byte [] = shape.AreParts.last [] tt
+parts_found byte (c ∷ text) = elim (cases_Bool (c == byte)) [
+  | inl same ↦ rw same (subst (λ (b : ℕ). AreParts byte (b ∷ text) ([] ∷ parts byte text)) (sym (eqb-true c byte same)) (shape.AreParts.more [] text (parts byte text) tt (parts_found byte text)))
+  | inr other ↦ rw other (longer_first byte c text (parts byte text) other (parts_found byte text))
+]
+
+pub parts_only : (byte : ℕ) (text : List ℕ) (ps : List (List ℕ)) → AreParts byte text ps → parts byte text ≡ ps
+parts_only byte text ps (shape.AreParts.last part none) =
+    let passes = none_passes byte part none in
+    parts_cut byte part ∙ rw (before_none (is_byte byte) part passes, after_none (is_byte byte) part passes) refl
+parts_only byte text ps (shape.AreParts.more part rest others none below) =
+    let passes = none_passes byte part none in
+    let stops : is_byte byte byte ≡ true = eq-eqb byte byte refl in
+    parts_cut byte (part ++ byte ∷ rest) ∙ rw (before_stop (is_byte byte) part byte rest passes stops, after_stop (is_byte byte) part byte rest passes stops) (ap (λ (qs : List (List ℕ)). part ∷ qs) (parts_only byte rest others below))
+
+-- ---- the first line
+
+pub cut_found : (text : List ℕ) → IsCut text (before (is_byte 10) text) (unwrap_or (after (is_byte 10) text) [])
+cut_found text = (has_none 10 (before (is_byte 10) text) (before_passes_not (is_byte 10) text), ends (after (is_byte 10) text) refl)
+  where
+    ends : (o : Option (List ℕ)) → after (is_byte 10) text ≡ o → (text ≡ before (is_byte 10) text ++ 10 ∷ unwrap_or o []) ⊎ ((text ≡ before (is_byte 10) text) × (unwrap_or o [] ≡ []))
+    ends None e = inr (sym (uncut (is_byte 10) text e), refl)
+    ends (Some rest) e = inl (cut_byte 10 text rest e)
+
+pub cut_only : (text line below : List ℕ) → IsCut text line below → (before (is_byte 10) text ≡ line) × (unwrap_or (after (is_byte 10) text) [] ≡ below)
+cut_only text line below cut =
+    let passes = none_passes 10 line cut.0 in
+    elim cut.1 [
+      | inl whole ↦ rw whole (before_stop (is_byte 10) line 10 below passes refl, rw (after_stop (is_byte 10) line 10 below passes refl) refl)
+      | inr last ↦ rw (last.0, last.1) (before_none (is_byte 10) line passes, rw (after_none (is_byte 10) line passes) refl)
+    ]
+
+-- ---- how a line begins
+
+pub record Matches (m : Mark) (B : List ℕ → Type 0) : Type 0 where
+  pub found : (text : List ℕ) → begins m text ≡ true → B text
+  pub only : (text : List ℕ) → B text → begins m text ≡ true
+
+-- what follows the blanks begins with a byte that isn't one
+pub first_solid : (text : List ℕ) (c : ℕ) (rest : List ℕ) → without_front text ≡ c ∷ rest → is_blank c ≡ false
+first_solid [] c rest e = absurd cc
+first_solid (d ∷ text) c rest e = elim (cases_Bool (is_blank d)) [
+  | inl blank ↦ first_solid text c rest (rw blank at e)
+  | inr solid ↦ (let f : d ∷ text ≡ c ∷ rest = rw solid at e in let same : d ≡ c = cc in subst (λ (b : ℕ). is_blank b ≡ false) same solid)
+]
+
+pub front_of : (blanks : List ℕ) (c : ℕ) (rest : List ℕ) → AreBlanks blanks → is_blank c ≡ false → without_front (blanks ++ c ∷ rest) ≡ c ∷ rest
+front_of blanks c rest are solid = front_past blanks (c ∷ rest) are ∙ rw solid refl
+
+split_visible : (text kept : List ℕ) → without_front text ≡ kept → is_visible kept ≡ true → IsVisible text
+split_visible text [] e h = absurd cc
+split_visible text (c ∷ rest) e h =
+    let front = front_split text in
+    (front.0, rest, c, front.1, first_solid text c rest e, not-true (c == 10) h, front.2 ∙ ap (λ (ys : List ℕ). front.0 ++ ys) e)
+
+pub visible_matches : Matches mark.Visible IsVisible
+unfolding begins
+visible_matches = record {
+  found = λ text h. split_visible text (without_front text) refl h;
+  only = λ text is. rw (is.6, front_of is.0 is.2 is.1 is.3 is.4, is.5) refl;
+}
+
+pub word_found : (word text : List ℕ) → has_word word (without_front text) ≡ true → BeginsWith word text
+word_found word text h =
+    let front = front_split text in
+    let cut = (starts_is Decides-eqb (without_front text) word (has_word word (without_front text)) refl).0 h in
+    (front.0, drop (length word) (without_front text), front.1, front.2 ∙ ap (λ (ys : List ℕ). front.0 ++ ys) cut)
+
+pub word_only : (c : ℕ) (letters text : List ℕ) → is_blank c ≡ false → BeginsWith (c ∷ letters) text → has_word (c ∷ letters) (without_front text) ≡ true
+word_only c letters text solid is =
+    let front : without_front text ≡ (c ∷ letters) ++ is.1 = ap without_front is.3 ∙ front_of is.0 c (letters ++ is.1) is.2 solid in
+    (starts_is Decides-eqb (without_front text) (c ∷ letters) (has_word (c ∷ letters) (without_front text)) refl).1 is.1 front
+
+split_brace : (text kept : List ℕ) → without_front text ≡ kept → is_brace kept ≡ true → BeginsWith (codes "{") text
+split_brace text [] e h = absurd cc
+split_brace text (c ∷ rest) e h =
+    let front = front_split text in
+    (front.0, rest, front.1, front.2 ∙ ap (λ (ys : List ℕ). front.0 ++ ys) (e ∙ ap (λ (b : ℕ). b ∷ rest) (eqb-true c 123 h)))
+
+pub brace_matches : Matches mark.Brace (BeginsWith (codes "{"))
+unfolding begins
+brace_matches = record {
+  found = λ text h. split_brace text (without_front text) refl h;
+  only = λ text is. rw (is.3, front_of is.0 123 is.1 is.2 refl) refl;
+}
+
+unread_found : (text : List ℕ) → is_unread (without_front text) ≡ true → BeginsUnread text
+unread_found text h = elim (or_cases (has_word (codes "locations") (without_front text)) (has_word (codes "filter") (without_front text)) h) [
+  | inl locations ↦ inl (word_found (codes "locations") text locations)
+  | inr filter ↦ inr (word_found (codes "filter") text filter)
+]
+
+unread_only : (text : List ℕ) → BeginsUnread text → is_unread (without_front text) ≡ true
+unread_only text is = elim is [
+  | inl locations ↦ or_left (has_word (codes "locations") (without_front text)) (has_word (codes "filter") (without_front text)) (word_only 108 (codes "ocations") text refl locations)
+  | inr filter ↦ or_right (has_word (codes "locations") (without_front text)) (has_word (codes "filter") (without_front text)) (word_only 102 (codes "ilter") text refl filter)
+]
+
+pub unread_matches : Matches mark.Unread BeginsUnread
+unfolding begins
+unread_matches = record { found = unread_found; only = unread_only }
+
+-- the line begins with these letters
+abbrev begun_by : List ℕ → List ℕ → Bool
+begun_by word text = has_word word (without_front text)
+
+-- it begins as a condition that isn't of all final states
+abbrev exists_or_not : List ℕ → Bool
+exists_or_not text = begun_by (codes "exists") text || begun_by (codes "~exists") text
+
+asked_found : (text : List ℕ) → is_condition (without_front text) ≡ true → BeginsCondition text
+asked_found text h = elim (or_cases (exists_or_not text) (begun_by (codes "forall") text) h) [
+  | inl other ↦ elim (or_cases (begun_by (codes "exists") text) (begun_by (codes "~exists") text) other) [
+    | inl exists ↦ inl (word_found (codes "exists") text exists)
+    | inr never ↦ inr (inl (word_found (codes "~exists") text never))
+  ]
+  | inr forall ↦ inr (inr (inl (word_found (codes "forall") text forall)))
+]
+
+begun : (text : List ℕ) → is_condition (without_front text) ≡ true → (is_condition (without_front text) || is_unread (without_front text)) ≡ true
+begun text h = or_left (is_condition (without_front text)) (is_unread (without_front text)) h
+
+or_not_begins : (text : List ℕ) → exists_or_not text ≡ true → is_condition (without_front text) ≡ true
+or_not_begins text h = or_left (exists_or_not text) (begun_by (codes "forall") text) h
+
+pub condition_matches : Matches mark.Condition BeginsCondition
+unfolding begins
+condition_matches = record {
+  found = λ text h. elim (or_cases (is_condition (without_front text)) (is_unread (without_front text)) h) [
+    | inl asks ↦ asked_found text asks
+    | inr unread ↦ inr (inr (inr (unread_found text unread)))
+  ];
+  only = λ text is. elim is [
+    | inl exists ↦ begun text (or_not_begins text (or_left (begun_by (codes "exists") text) (begun_by (codes "~exists") text) (word_only 101 (codes "xists") text refl exists)))
+    | inr other ↦ elim other [
+      | inl never ↦ begun text (or_not_begins text (or_right (begun_by (codes "exists") text) (begun_by (codes "~exists") text) (word_only 126 (codes "exists") text refl never)))
+      | inr behind ↦ elim behind [
+        | inl forall ↦ begun text (or_right (exists_or_not text) (begun_by (codes "forall") text) (word_only 102 (codes "orall") text refl forall))
+        | inr unread ↦ or_right (is_condition (without_front text)) (is_unread (without_front text)) (unread_only text unread)
+      ]
+    ]
+  ];
+}
+
+-- ---- the first line that begins so
+
+starts_not : (m : Mark) (B : List ℕ → Type 0) → Matches m B → (text : List ℕ) → begins m text ≡ false → B text → ⊥
+starts_not m B matches text other begun = (let never = matches.only text begun in cc)
+
+starts_other : (m : Mark) (B : List ℕ → Type 0) → Matches m B → (text : List ℕ) → (B text → ⊥) → begins m text ≡ false
+starts_other m B matches text other = false_from_ne_true (begins m text) (λ begun. other (matches.found text begun))
+
+-- where a line behind the first one begins so
+record Behind (m : Mark) (B : List ℕ → Type 0) (text from : List ℕ) : Type 0 where
+  line : List ℕ
+  rest : List ℕ
+  above : List ℕ
+  none : HasNo 10 line
+  whole : text ≡ line ++ 10 ∷ rest
+  front : before_next m text ≡ line ++ 10 ∷ above
+  first : IsFirst B rest above from
+
+first_behind : (m : Mark) (B : List ℕ → Type 0) → Matches m B → (text from : List ℕ) → begins m text ≡ false → Behind m B text from → IsFirst B text (before_next m text) from
+first_behind m B matches text from other b =
+    let is : IsFirst B (b.line ++ 10 ∷ b.rest) (b.line ++ 10 ∷ b.above) from = further b.line b.rest b.above from b.none (starts_not m B matches (b.line ++ 10 ∷ b.rest) (rw b.whole at other)) b.first in
+    rw b.front (subst (λ (t : List ℕ). IsFirst B t (b.line ++ 10 ∷ b.above) from) (sym b.whole) is)
+
+behind_more : (m : Mark) (B : List ℕ → Type 0) (c : ℕ) (text from : List ℕ) → (c == 10) ≡ false → Behind m B text from → Behind m B (c ∷ text) from
+behind_more m B c text from other b = record {
+  line = c ∷ b.line;
+  rest = b.rest;
+  above = b.above;
+  none = (other, b.none);
+  whole = ap (λ (ys : List ℕ). c ∷ ys) b.whole;
+  front = rw other (ap (λ (ys : List ℕ). c ∷ ys) b.front);
+  first = b.first;
+}
+
+next_found : (m : Mark) (B : List ℕ → Type 0) → Matches m B → (text from : List ℕ) → from_next m text ≡ Some from → Behind m B text from
+next_found m B matches [] from e = absurd cc
+next_found m B matches (c ∷ text) from e = elim (cases_Bool (c == 10)) [
+  | inl ends ↦ (
+      let same = eqb-true c 10 ends in
+      elim (cases_Bool (begins m text)) [
+        | inl begun ↦ (
+            let e' : Some text ≡ Some from = rw (ends, begun) at e in
+            let is : text ≡ from = cc in
+            record { line = []; rest = text; above = []; none = tt; whole = ap (λ (b : ℕ). b ∷ text) same; front = rw (ends, begun, same) refl; first = subst (λ (t : List ℕ). IsFirst B text [] t) is (here text (matches.found text begun)) })
+        | inr other ↦ (
+            let behind = next_found m B matches text from (rw (ends, other) at e) in
+            record { line = []; rest = text; above = before_next m text; none = tt; whole = ap (λ (b : ℕ). b ∷ text) same; front = rw (ends, other, same) refl; first = first_behind m B matches text from other behind })
+      ])
+  | inr goes_on ↦ behind_more m B c text from goes_on (next_found m B matches text from (rw goes_on at e))
+]
+
+pub first_found : (m : Mark) (B : List ℕ → Type 0) → Matches m B → (text from : List ℕ) → from_line m text ≡ Some from → IsFirst B text (before_line m text) from
+unfolding before_line from_line
+first_found m B matches text from e = elim (cases_Bool (begins m text)) [
+  | inl begun ↦ (
+      let e' : Some text ≡ Some from = rw begun at e in
+      let is : text ≡ from = cc in
+      rw begun (subst (λ (t : List ℕ). IsFirst B text [] t) is (here text (matches.found text begun))))
+  | inr other ↦ rw other (first_behind m B matches text from other (next_found m B matches text from (rw other at e)))
+]
+
+-- a line that ends stands before what follows it
+next_front : (m : Mark) (line rest : List ℕ) → HasNo 10 line → before_next m (line ++ 10 ∷ rest) ≡ line ++ 10 ∷ before_line m rest
+unfolding before_line
+next_front m [] rest none = refl
+next_front m (c ∷ line) rest none = rw none.0 (ap (λ (ys : List ℕ). c ∷ ys) (next_front m line rest none.1))
+
+next_back : (m : Mark) (line rest : List ℕ) → HasNo 10 line → from_next m (line ++ 10 ∷ rest) ≡ from_line m rest
+unfolding from_line
+next_back m [] rest none = refl
+next_back m (c ∷ line) rest none = rw none.0 (next_back m line rest none.1)
+
+last_front : (m : Mark) (line : List ℕ) → HasNo 10 line → before_next m line ≡ line
+last_front m [] none = refl
+last_front m (c ∷ line) none = rw none.0 (ap (λ (ys : List ℕ). c ∷ ys) (last_front m line none.1))
+
+last_back : (m : Mark) (line : List ℕ) → HasNo 10 line → from_next m line ≡ None
+last_back m [] none = refl
+last_back m (c ∷ line) none = rw none.0 (last_back m line none.1)
+
+pub first_only : (m : Mark) (B : List ℕ → Type 0) → Matches m B → (text above from : List ℕ) → IsFirst B text above from → (before_line m text ≡ above) × (from_line m text ≡ Some from)
+unfolding before_line from_line
+first_only m B matches text above from (here whole begun) = let starts = matches.only whole begun in rw starts (refl, refl)
+first_only m B matches text above from (further line rest higher last none other first) =
+    let deeper = first_only m B matches rest higher last first in
+    rw (starts_other m B matches (line ++ 10 ∷ rest) other, next_front m line rest none, next_back m line rest none, deeper.0, deeper.1) (refl, refl)
+
+-- ---- no line that begins so
+
+abbrev NoneBehind : (List ℕ → Type 0) → List ℕ → Type 0
+NoneBehind B text = HasNo 10 text ⊎ ((line rest : List ℕ) × HasNo 10 line × NoneBegins B rest × (text ≡ line ++ 10 ∷ rest))
+
+none_behind : (m : Mark) (B : List ℕ → Type 0) → Matches m B → (text : List ℕ) → begins m text ≡ false → NoneBehind B text → NoneBegins B text
+none_behind m B matches text other behind = elim behind [
+  | inl last ↦ shape.NoneBegins.last text last (starts_not m B matches text other)
+  | inr b ↦ subst (λ (t : List ℕ). NoneBegins B t) (sym b.4) (shape.NoneBegins.more b.0 b.1 b.2 (starts_not m B matches (b.0 ++ 10 ∷ b.1) (rw b.4 at other)) b.3)
+]
+
+next_nowhere : (m : Mark) (B : List ℕ → Type 0) → Matches m B → (text : List ℕ) → from_next m text ≡ None → NoneBehind B text
+next_nowhere m B matches [] e = inl tt
+next_nowhere m B matches (c ∷ text) e = elim (cases_Bool (c == 10)) [
+  | inl ends ↦ elim (cases_Bool (begins m text)) [
+    | inl begun ↦ (let never = rw (ends, begun) at e in absurd cc)
+    | inr other ↦ inr ([], text, tt, none_behind m B matches text other (next_nowhere m B matches text (rw (ends, other) at e)), ap (λ (b : ℕ). b ∷ text) (eqb-true c 10 ends))
+  ]
+  | inr goes_on ↦ elim (next_nowhere m B matches text (rw goes_on at e)) [
+    | inl last ↦ inl (goes_on, last)
+    | inr b ↦ inr (c ∷ b.0, b.1, (goes_on, b.2), b.3, ap (λ (ys : List ℕ). c ∷ ys) b.4)
+  ]
+]
+
+pub nowhere_found : (m : Mark) (B : List ℕ → Type 0) → Matches m B → (text : List ℕ) → from_line m text ≡ None → NoneBegins B text
+unfolding from_line
+nowhere_found m B matches text e = elim (cases_Bool (begins m text)) [
+  | inl begun ↦ (let never = rw begun at e in absurd cc)
+  | inr other ↦ none_behind m B matches text other (next_nowhere m B matches text (rw other at e))
+]
+
+pub nowhere_only : (m : Mark) (B : List ℕ → Type 0) → Matches m B → (text : List ℕ) → NoneBegins B text → (before_line m text ≡ text) × (from_line m text ≡ None)
+unfolding before_line from_line
+nowhere_only m B matches text (shape.NoneBegins.last line none other) =
+    rw (starts_other m B matches line other) (last_front m line none, last_back m line none)
+nowhere_only m B matches text (shape.NoneBegins.more line rest none other below) =
+    let deeper = nowhere_only m B matches rest below in
+    rw (starts_other m B matches (line ++ 10 ∷ rest) other, next_front m line rest none, next_back m line rest none, deeper.0, deeper.1) (refl, refl)
