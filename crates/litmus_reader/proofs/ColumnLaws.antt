@@ -95,9 +95,13 @@ ends_more rows cells hart (column ∷ columns) [] more ends at count e are = abs
 ends_more rows cells hart (column ∷ columns) (cell ∷ here) more ends at count e are =
     let step = bind_ok (cell_told column cell) (λ (m : Column). cells_told columns here >>= λ (others : List Column). Ok (m ∷ others)) more e in
     let rest = bind_ok (cells_told columns here) (λ (others : List Column). Ok (step.0 ∷ others)) more step.2 in
-    let below = subst (λ (m : List Column). AreEnds rows hart m ends) (sym (ok_is LitmusFault (step.0 ∷ rest.0) more rest.2)) are in
-    (below.0, below.1, below.2, rw (from_first hart cells cell here at, cell_found column cell step.0 step.1) below.3,
-     ends_more rows cells (hart + 1) columns here rest.0 below.1 (from_next hart cells cell here at) (omega (arith, count)) rest.1 below.4)
+    let below = subst (λ (m : List Column). AreEnds rows hart m ends) (sym (ok_is LitmusFault (step.0 ∷ rest.0) more rest.2)) are in (
+      below.0,
+      below.1,
+      below.2,
+      rw (from_first hart cells cell here at, cell_found column cell step.0 step.1) below.3,
+      ends_more rows cells (hart + 1) columns here rest.0 below.1 (from_next hart cells cell here at) (omega (arith, count)) rest.1 below.4,
+    )
 
 cells_found : (rows : List Cells) (cells : Cells) (columns more ends : List Column) → length cells ≡ length columns → cells_told columns cells ≡ Ok more → AreEnds rows 0 more ends → AreEnds (cells ∷ rows) 0 columns ends
 cells_found rows cells columns more ends count e are = ends_more rows cells 0 columns cells more ends (from_start cells) count e are
@@ -221,15 +225,15 @@ lines_found columns (line ∷ lines) ends e =
     let rest = lines_found step.0 lines ends step.2 in
     elim (line_found columns line step.0 step.1) [
       | inl empty ↦ record {
-          rows = rest.rows;
-          are = blank line lines rest.rows empty.0 (subst (λ (cs : List Column). AreRows (length cs) lines rest.rows) (sym empty.1) rest.are);
-          ended = subst (λ (cs : List Column). AreEnds rest.rows 0 cs ends) (sym empty.1) rest.ended;
-        }
+        rows = rest.rows;
+        are = blank line lines rest.rows empty.0 (subst (λ (cs : List Column). AreRows (length cs) lines rest.rows) (sym empty.1) rest.are);
+        ended = subst (λ (cs : List Column). AreEnds rest.rows 0 cs ends) (sym empty.1) rest.ended;
+      }
       | inr first ↦ record {
-          rows = first.cells ∷ rest.rows;
-          are = row line lines first.cells rest.rows first.is first.count (subst (λ (n : ℕ). AreRows n lines rest.rows) (cells_count columns first.cells step.0 first.count first.told) rest.are);
-          ended = cells_found rest.rows first.cells columns step.0 ends first.count first.told rest.ended;
-        }
+        rows = first.cells ∷ rest.rows;
+        are = row line lines first.cells rest.rows first.is first.count (subst (λ (n : ℕ). AreRows n lines rest.rows) (cells_count columns first.cells step.0 first.count first.told) rest.are);
+        ended = cells_found rest.rows first.cells columns step.0 ends first.count first.told rest.ended;
+      }
     ]
 
 ends_of_none : (hart : ℕ) (columns ends : List Column) → AreEnds [] hart columns ends → columns ≡ ends
@@ -268,23 +272,26 @@ table_found table columns codes e done = go (from_line mark.Visible table) refl 
         let step = bind_ok (harts_in (before (is_byte 10) from)) (λ (harts : ℕ). lines_told (replicate harts []) (parts_after 10 (after (is_byte 10) from))) columns f in
         let first = first_row_found (before (is_byte 10) from) step.0 step.1 in
         let lines = lines_found (replicate step.0 []) (parts 10 below) columns (below_same (replicate step.0 []) (after (is_byte 10) from) ∙ step.2) in
-        let coded = codes_found lines.rows 0 step.0 columns codes lines.ended done in
-        (lines.rows, record {
-          blank_lines = before_line mark.Visible table;
-          from = from;
-          first = before (is_byte 10) from;
-          below = below;
-          names = first.names;
-          lines = parts 10 below;
-          begins = first_found mark.Visible IsVisible visible_matches table from at;
-          cut = cut_found from;
-          row = first.row;
-          named = first.named;
-          counted = first.counted ∙ sym coded.1;
-          few = subst (λ (n : ℕ). n ≤ 64) (sym coded.1) first.few;
-          parted = parts_found 10 below;
-          written = subst (λ (n : ℕ). AreRows n (parts 10 below) lines.rows) (length-replicate step.0 [] ∙ sym coded.1) lines.are;
-        }, coded.0)
+        let coded = codes_found lines.rows 0 step.0 columns codes lines.ended done in (
+          lines.rows,
+          record {
+            blank_lines = before_line mark.Visible table;
+            from = from;
+            first = before (is_byte 10) from;
+            below = below;
+            names = first.names;
+            lines = parts 10 below;
+            begins = first_found mark.Visible IsVisible visible_matches table from at;
+            cut = cut_found from;
+            row = first.row;
+            named = first.named;
+            counted = first.counted ∙ sym coded.1;
+            few = subst (λ (n : ℕ). n ≤ 64) (sym coded.1) first.few;
+            parted = parts_found 10 below;
+            written = subst (λ (n : ℕ). AreRows n (parts 10 below) lines.rows) (length-replicate step.0 [] ∙ sym coded.1) lines.are;
+          },
+          coded.0,
+        )
 
 pub table_only : (table : List ℕ) (rows : List Cells) (codes : List Code) → IsTable table (length codes) rows → AreCodes rows 0 codes → (columns : List Column) × (table_at table ≡ Ok columns) × (codes_of columns ≡ Ok codes)
 unfolding table_at
