@@ -1,0 +1,127 @@
+-- A table's rows are those of the grammar.
+use Rattle.std.proofs.Common.{◌≡◌, ℕ, ◌+◌, ◌^◌, ◌<◌, ◌≤◌, true, false, ltb, List, [], ◌∷◌, ◌++◌, length, Option, Some, None, Ok, refl, ap, subst, ◌∙◌, inl, inr, arith}
+use Rattle.std.specs.Fmt.{decimal}
+use Rattle.std.proofs.lemmas.Bool.{cases_Bool, eqb-true, le-ltb, ltb-false, false_from_ne_true}
+use Rattle.std.proofs.lemmas.Slice.Eq.{bytes_eq-Decides}
+use Rattle.texts.specs.Pieces.{is_blank}
+use Rattle.texts.specs.Cutting.{before, after, is_byte, trimmed}
+use Rattle.texts.proofs.ResultLaws.{ok_is, bind_ok, guard_ok}
+use Rattle.assembler.specs.Spelled.{AreBlanks, IsPadded}
+use Rattle.assembler.proofs.Plain.{NonePass, before_stop, after_stop, trimmed_solid, decimal_none, digit_no_blank}
+use Rattle.assembler.proofs.Trimming.{cut_byte, before_passes_not, padded_trimmed, trimmed_padded}
+use Rattle.litmus_reader.specs.declared.faults.LitmusFault.{LitmusFault}
+use Rattle.litmus_reader.specs.declared.faults.LitmusFault.TheVariants.{TooMany}
+use Rattle.litmus_reader.specs.Rows.{is_blank_line, ended_by, row_in, cells_of, names_hart, name_harts, at_most_64, all_named, harts_of, harts_in}
+use Rattle.litmus_reader.specs.Columns.{Cells, IsRow, AreNames}
+use Rattle.litmus_reader.proofs.ShapeLaws.{none_passes, has_none, parts_found, parts_only}
+
+-- ---- lines
+
+pub blank_found : (line : List ℕ) → is_blank_line line ≡ true → AreBlanks line
+blank_found [] e = tt
+blank_found (c ∷ line) e = elim (cases_Bool (is_blank c)) [
+  | inl blank ↦ (blank, blank_found line (rw blank at e))
+  | inr solid ↦ absurd (let none : length (c ∷ line) ≡ 0 = eqb-true (length (c ∷ line)) 0 (rw solid at e) in omega arith)
+]
+
+pub blank_only : (line : List ℕ) → AreBlanks line → is_blank_line line ≡ true
+blank_only [] are = refl
+blank_only (c ∷ line) are = rw are.0 (blank_only line are.1)
+
+-- a byte among blanks is one
+among_blanks : (front : List ℕ) (c : ℕ) (rest : List ℕ) → AreBlanks (front ++ c ∷ rest) → is_blank c ≡ true
+among_blanks [] c rest are = are.0
+among_blanks (b ∷ front) c rest are = among_blanks front c rest are.1
+
+abbrev some_row : List ℕ → Option (List ℕ)
+some_row row = Some row
+
+row_is : (a b : List ℕ) → some_row a ≡ some_row b → a ≡ b
+row_is a b e = cc
+
+pub row_found : (line row : List ℕ) → row_in line ≡ Some row → IsRow line (cells_of row)
+unfolding row_in
+row_found line row e = go (after (is_byte 59) line) refl e
+  where
+    go : (o : Option (List ℕ)) → after (is_byte 59) line ≡ o → ended_by (before (is_byte 59) line) o ≡ Some row → IsRow line (cells_of row)
+    go None none f = absurd cc
+    go (Some rest) cut f = elim (cases_Bool (is_blank_line rest)) [
+      | inl blank ↦ (
+          let same : before (is_byte 59) line ≡ row = row_is (before (is_byte 59) line) row (rw blank at f) in
+          (row, rest, has_none 59 row (subst (λ (r : List ℕ). NonePass (is_byte 59) r) same (before_passes_not (is_byte 59) line)), blank_found rest blank, cut_byte 59 line rest cut ∙ ap (λ (r : List ℕ). r ++ 59 ∷ rest) same, parts_found 124 row))
+      | inr other ↦ absurd (let g = rw other at f in cc)
+    ]
+
+pub record RowRead (line : List ℕ) (cells : Cells) : Type 0 where
+  pub row : List ℕ
+  pub solid : is_blank_line line ≡ false
+  pub read : row_in line ≡ Some row
+  pub parted : cells_of row ≡ cells
+
+pub row_only : (line : List ℕ) (cells : Cells) → IsRow line cells → RowRead line cells
+unfolding row_in
+row_only line cells is =
+    let none = none_passes 59 is.0 is.2 in
+    let solid : is_blank_line line ≡ false = false_from_ne_true (is_blank_line line) (λ blank. let no = among_blanks is.0 59 is.1 (subst AreBlanks is.4 (blank_found line blank)) in cc) in
+    record {
+      row = is.0;
+      solid = solid;
+      read = rw (is.4, before_stop (is_byte 59) is.0 59 is.1 none refl, after_stop (is_byte 59) is.0 59 is.1 none refl, blank_only is.1 is.3) refl;
+      parted = parts_only 124 is.0 cells is.5;
+    }
+
+-- ---- the first row
+
+names_found : (hart : ℕ) (cells : Cells) → name_harts hart cells ≡ true → AreNames hart cells
+names_found hart [] e = tt
+names_found hart (cell ∷ cells) e = elim (cases_Bool (names_hart hart cell)) [
+  | inl named ↦ (subst (λ (core : List ℕ). IsPadded core cell) ((bytes_eq-Decides (trimmed cell) (80 ∷ decimal hart)).0 named) (padded_trimmed cell), names_found (hart + 1) cells (rw named at e))
+  | inr other ↦ absurd (let f = rw other at e in cc)
+]
+
+name_solid : (hart : ℕ) → hart < 2 ^ 64 → NonePass is_blank (80 ∷ decimal hart)
+name_solid hart fits = (refl, decimal_none is_blank (λ d lt. digit_no_blank d) hart fits)
+
+names_only : (hart : ℕ) (cells : Cells) → hart + length cells ≤ 64 → AreNames hart cells → name_harts hart cells ≡ true
+names_only hart [] few are = refl
+names_only hart (cell ∷ cells) few are =
+    let same = trimmed_padded (80 ∷ decimal hart) cell are.0 ∙ trimmed_solid (80 ∷ decimal hart) (name_solid hart (omega arith)) in
+    let named : names_hart hart cell ≡ true = (bytes_eq-Decides (trimmed cell) (80 ∷ decimal hart)).1 same in
+    rw named (names_only (hart + 1) cells (omega arith) are.1)
+
+pub record FirstRow (line : List ℕ) (harts : ℕ) : Type 0 where
+  pub names : Cells
+  pub row : IsRow line names
+  pub named : AreNames 0 names
+  pub counted : length names ≡ harts
+  pub few : harts ≤ 64
+
+named_found : (cells : Cells) (harts : ℕ) → all_named cells ≡ Ok harts → AreNames 0 cells × (length cells ≡ harts)
+named_found cells harts e = elim (cases_Bool (name_harts 0 cells)) [
+  | inl named ↦ (names_found 0 cells named, ok_is LitmusFault (length cells) harts (rw named at e))
+  | inr other ↦ absurd (let f = rw other at e in cc)
+]
+
+few_found : (all harts : ℕ) → at_most_64 all ≡ Ok harts → (all ≡ harts) × (harts ≤ 64)
+few_found all harts e =
+    let passed = guard_ok (ltb 64 all) TooMany all harts e in
+    (passed.1, subst (λ (n : ℕ). n ≤ 64) passed.1 (ltb-false 64 all passed.0))
+
+pub first_row_found : (line : List ℕ) (harts : ℕ) → harts_in line ≡ Ok harts → FirstRow line harts
+unfolding harts_in
+first_row_found line harts e = go (row_in line) refl e
+  where
+    go : (o : Option (List ℕ)) → row_in line ≡ o → harts_of o ≡ Ok harts → FirstRow line harts
+    go None none f = absurd cc
+    go (Some row) read f =
+        let step = bind_ok (all_named (cells_of row)) at_most_64 harts f in
+        let named = named_found (cells_of row) step.0 step.1 in
+        let few = few_found step.0 harts step.2 in
+        record { names = cells_of row; row = row_found line row read; named = named.0; counted = named.1 ∙ few.0; few = few.1 }
+
+pub first_row_only : (line : List ℕ) (harts : ℕ) → FirstRow line harts → harts_in line ≡ Ok harts
+unfolding harts_in
+first_row_only line harts first =
+    let read = row_only line first.names first.row in
+    let named : name_harts 0 first.names ≡ true = names_only 0 first.names (omega (arith, first.counted, first.few)) first.named in
+    rw (read.read, read.parted, named, first.counted, le-ltb 64 harts first.few) refl
