@@ -4,8 +4,6 @@ pub mod TableLaws
 pub mod NameLaws
 pub mod ThereLaws
 pub mod ContentLaws
-pub mod RowGrammar
-pub mod ColumnLaws
 pub mod MeetLaws
 pub mod ShapeLaws
 pub mod LayoutLaws
