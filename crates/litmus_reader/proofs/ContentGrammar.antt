@@ -1,19 +1,16 @@
 -- The reading of a text answers the test that its grammar says, and no other text has one.
-use Rattle.std.proofs.Common.{◌≡◌, ℕ, zero, suc, ◌+◌, ◌<◌, ◌≤◌, List, [], ◌∷◌, ◌++◌, length, map, All, Option, Some, None, Result, Ok, Err, refl, sym, ap, subst, ◌∙◌, arith}
+use Rattle.std.proofs.Common.{◌≡◌, ℕ, suc, ◌+◌, ◌<◌, ◌≤◌, List, [], ◌∷◌, ◌++◌, length, map, All, Option, Some, None, Result, Ok, Err, refl, sym, ap, subst, ◌∙◌, arith}
 use Rattle.std.specs.Prelude.{IfOk}
 use Rattle.std.specs.List.{slice_index_or}
 use Rattle.std.proofs.lemmas.List.{length-map}
-use Rattle.texts.specs.Results.{◌>>=◌, Gives}
+use Rattle.texts.specs.Results.{Gives}
 use Rattle.texts.specs.Cutting.{before, after, is_byte}
 use Rattle.texts.proofs.ResultLaws.{bind_ok, ok_is}
-use Rattle.litmus.specs.declared.words.Token.{Token}
 use Rattle.litmus.specs.Questions.{Question}
 use Rattle.litmus_words.specs.Cleaning.{cleaned_text}
 use Rattle.litmus_words.specs.Settings.{Put}
-use Rattle.litmus_words.specs.Words as word
 use Rattle.litmus_words.proofs.CommentLaws.{is_cleaned, only_cleaned}
 use Rattle.litmus_reader.specs.declared.faults.LitmusFault.{LitmusFault}
-use Rattle.litmus_reader.specs.declared.faults.LitmusFault.TheVariants.{BadInit, BadCondition}
 use Rattle.litmus_reader.specs.declared.faults.LitmusError.{LitmusError}
 use Rattle.litmus_reader.specs.declared.marks.Mark.TheVariants as mark
 use Rattle.litmus_reader.specs.Faults.{fault_of}
@@ -27,13 +24,13 @@ use Rattle.litmus_reader.specs.Values.{Values, values_at, padded}
 use Rattle.litmus_reader.specs.Condition.{Condition, condition_in, condition_at}
 use Rattle.litmus_reader.specs.Reading.{HartContent, Content, content_of, with_registers, content, content_below, content_behind, content_at, test_at}
 use Rattle.litmus_reader.specs.Openings.{names_in, each_once, AreRegisters, AreFirstWords, IsHartThere}
-use Rattle.litmus_reader.specs.Columns.{Cells, IsTable, column_of, IsCode}
-use Rattle.litmus_reader.specs.Asked.{IsQuestion, atoms_in, AreKnown}
+use Rattle.litmus_reader.specs.Columns.{Cells, IsTable}
+use Rattle.litmus_reader.specs.Asked.{atoms_in, AreKnown}
 use Rattle.litmus_reader.specs.Grammar.{AreHarts, IsContent, HasPlainCode, IsTestOf}
 use Rattle.litmus_reader.proofs.MeetLaws.{fewer}
 use Rattle.litmus_reader.proofs.ShapeLaws.{parts_found, parts_only}
-use Rattle.litmus_reader.proofs.LayoutLaws.{layout_found, Laying, layout_only}
-use Rattle.litmus_reader.proofs.ItemLaws.{AreSettings, items_found, items_only}
+use Rattle.litmus_reader.proofs.LayoutLaws.{layout_found, layout_only}
+use Rattle.litmus_reader.proofs.ItemLaws.{items_found, items_only}
 use Rattle.litmus_reader.proofs.FirstValueLaws.{values_found, values_only, registers_later, words_later, registers_one, words_one}
 use Rattle.litmus_reader.proofs.ColumnLaws.{AreCodes, table_found, table_only}
 use Rattle.litmus_reader.proofs.AskedLaws.{asked_found, asked_only}
@@ -49,9 +46,10 @@ all_registers : (names : Names) (puts : List Put) (hart : ℕ) (registers : List
 all_registers names puts hart [] each = tt
 all_registers names puts hart (first ∷ others) each =
     let here : hart + 0 ≡ hart = omega arith in
-    let P : ℕ → ℕ → Type 0 = λ h i. AreRegisters names puts h (slice_index_or (first ∷ others) i []) in
-    (subst (λ (h : ℕ). AreRegisters names puts h first) here (each 0 (omega arith)),
-    all_registers names puts (hart + 1) others (λ i less. let there : hart + suc i ≡ hart + 1 + i = omega arith in subst (λ (h : ℕ). AreRegisters names puts h (slice_index_or others i [])) there (each (suc i) (omega (arith, less)))))
+    let P : ℕ → ℕ → Type 0 = λ h i. AreRegisters names puts h (slice_index_or (first ∷ others) i []) in (
+      subst (λ (h : ℕ). AreRegisters names puts h first) here (each 0 (omega arith)),
+      all_registers names puts (hart + 1) others (λ i less. let there : hart + suc i ≡ hart + 1 + i = omega arith in subst (λ (h : ℕ). AreRegisters names puts h (slice_index_or others i [])) there (each (suc i) (omega (arith, less)))),
+    )
 
 from_first : (names : Names) (puts : List Put) (registers : List (List ℕ)) → ((i : ℕ) → i < length registers → AreRegisters names puts i (slice_index_or registers i [])) → AreAllRegisters names puts 0 registers
 from_first names puts registers each = all_registers names puts 0 registers (λ i less. let same : i ≡ 0 + i = omega arith in subst (λ (h : ℕ). AreRegisters names puts h (slice_index_or registers i [])) same (each i less))

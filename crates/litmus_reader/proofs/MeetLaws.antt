@@ -1,6 +1,6 @@
 -- Names in order of first appearance, as they are met one after the other.
-use Rattle.std.proofs.Common.{◌≡◌, ◌≢◌, ℕ, zero, suc, ◌+◌, ◌*◌, ◌<◌, ◌≤◌, Bool, true, false, not, cond, List, [], ◌∷◌, ◌++◌, length, filter, Option, Some, None, Result, Ok, Err, refl, sym, ap, subst, ◌∙◌, inl, inr, append_assoc, length-append, ltb-true, lt-ltb, arith}
-use Rattle.std.specs.Prelude.{nat_lt, if◌then◌else◌, ◌||◌}
+use Rattle.std.proofs.Common.{◌≡◌, ℕ, zero, suc, ◌+◌, ◌*◌, ◌<◌, ◌≤◌, Bool, true, false, not, cond, List, [], ◌∷◌, ◌++◌, length, filter, Option, Some, None, Result, Ok, refl, sym, ap, subst, ◌∙◌, inl, inr, append_assoc, length-append, ltb-true, lt-ltb, arith}
+use Rattle.std.specs.Prelude.{nat_lt, ◌||◌}
 use Rattle.std.specs.Str.{bytes_eq}
 use Rattle.std.proofs.lemmas.Bool.{cases_Bool}
 use Rattle.std.proofs.lemmas.List.{append-nil}
@@ -10,7 +10,6 @@ use Rattle.texts.proofs.ResultLaws.{ok_is, bind_ok}
 use Rattle.litmus_words.specs.Settings.{Value}
 use Rattle.litmus_words.specs.Settings.Value.{number, address_of}
 use Rattle.litmus_reader.specs.declared.faults.LitmusFault.{LitmusFault}
-use Rattle.litmus_reader.specs.declared.faults.LitmusFault.TheVariants.{TooMany}
 use Rattle.litmus_reader.specs.Locations.{Names, index_from, joined, met, value_met}
 use Rattle.litmus_reader.specs.Openings.{each_once, name_of_value, IsAt, IsWorth}
 
@@ -252,6 +251,7 @@ met_only ms name few = go (index_from 0 (each_once ms) name) refl
   where
     Answer : Option ℕ → Type 0
     Answer o = (index : ℕ) × (joined (each_once ms) name o ≡ Ok (index, each_once (ms ++ name ∷ []))) × IsAt (each_once (ms ++ name ∷ [])) name index
+
     go : (o : Option ℕ) → index_from 0 (each_once ms) name ≡ o → Answer o
     go (Some index) is = let met = old_met ms name index is in (index, ap (λ (names : Names). met_as (index, names)) met.0, subst (λ (names : Names). IsAt names name index) met.0 met.1)
     go None is =

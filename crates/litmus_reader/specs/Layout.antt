@@ -1,6 +1,6 @@
 -- The layout of a litmus text without comments: a header line, lines that aren't read, the init part
 -- between braces, the table, and the condition from its first line on.
-use Rattle.std.specs.Prelude.{◌≡◌, ℕ, ◌==◌, false, true, ◌⊎◌, List, [], ◌∷◌, ◌++◌, codes}
+use Rattle.std.specs.Prelude.{◌≡◌, ℕ, ◌==◌, false, ◌⊎◌, List, ◌∷◌, ◌++◌, codes}
 use Rattle.texts.specs.Pieces.{is_blank}
 use Rattle.assembler.specs.Spelled.{AreBlanks}
 use Rattle.litmus_reader.specs.Shapes.{HasNo, IsCut, IsFirst}
