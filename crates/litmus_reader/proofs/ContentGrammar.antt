@@ -220,10 +220,12 @@ content_only text whole is =
 -- ---- what `read` answers
 
 pub found_test : (text : List ℕ) (result : Result Question LitmusError) → Gives fault_of content_of result (test_at text) → IfOk result (λ test. All HasPlainCode test.opening.harts) → IfOk result (IsTestOf text)
+unfolding IsTestOf
 found_test text (Ok test) e plain = (content_found text (content_of test) e, plain)
 found_test text (Err error) e plain = tt
 
 pub only_test : (text : List ℕ) (question : Question) (result : Result Question LitmusError) → Gives fault_of content_of result (test_at text) → IsTestOf text question → Gives fault_of content_of result (Ok (content_of question))
+unfolding IsTestOf
 only_test text question result e is = subst (λ (answer : Result Content LitmusFault). Gives fault_of content_of result answer) (content_only text (content_of question) is.0) e
 
 pub one_test : (text : List ℕ) (a b : Content) → IsContent text a → IsContent text b → a ≡ b

@@ -51,5 +51,5 @@ abbrev pub HasPlainCode : HartStart → Type 0
 HasPlainCode hart = AllPlain hart.code
 
 -- the text's test, whichever words of the same instructions it has
-abbrev pub IsTestOf : List ℕ → Question → Type 0
+unfoldable pub IsTestOf : List ℕ → Question → Type 0
 IsTestOf text question = IsContent text (content_of question) × All HasPlainCode question.opening.harts
