@@ -36,8 +36,8 @@ fn quantified_by(quantifier: Quantifier, words: &[u8]) -> Option<Quantified<'_>>
     Some(Quantified { quantifier, words })
 }
 
-#[tactic(auto, using(std::proofs::lemmas::List::take_rest), unfolding(crate::specs::Condition::quantifier_in))]
 /// The quantifier that the text's first letters are, and what follows them.
+#[tactic(auto, using(std::proofs::lemmas::List::take_rest), unfolding(crate::specs::Condition::quantifier_in))]
 fn quantifier_in(text: &[u8]) -> Option<Quantified<'_>>
     ensures { quantified_of result ≡ quantifier_in text.now }
 {
@@ -53,8 +53,8 @@ fn quantifier_in(text: &[u8]) -> Option<Quantified<'_>>
     }
 }
 
-#[tactic(auto, unfolding(crate::specs::Condition::place_met))]
 /// The place that an atom asks for, which has to be there. A new location joins the others.
+#[tactic(auto, unfolding(crate::specs::Condition::place_met))]
 fn place_of(
     locations: &mut Locations,
     spot: Spot<'_>,
@@ -80,8 +80,8 @@ fn place_of(
     }
 }
 
-#[tactic(auto, unfolding(crate::specs::Condition::atom_met))]
 /// The atom with its place known.
+#[tactic(auto, unfolding(crate::specs::Condition::atom_met))]
 fn atom_of(
     locations: &mut Locations,
     setting: Setting<'_>,
@@ -97,8 +97,8 @@ fn atom_of(
     Ok(Token::Is { place, value })
 }
 
-#[tactic(auto, unfolding(crate::specs::Condition::token_met))]
 /// The word with its place known.
+#[tactic(auto, unfolding(crate::specs::Condition::token_met))]
 fn token_of(
     locations: &mut Locations,
     word: Word<'_>,
@@ -175,8 +175,8 @@ pub struct Question {
     pub condition: Condition,
 }
 
-#[tactic(auto, unfolding(crate::specs::Condition::condition_in))]
 /// The condition in this text, as [`read_condition`] says.
+#[tactic(auto, unfolding(crate::specs::Condition::condition_in))]
 fn question_in(
     alloc: Global,
     text: &[u8],

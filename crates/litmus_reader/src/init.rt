@@ -42,8 +42,8 @@ pub struct Init {
     pub locations: Locations,
 }
 
-#[tactic(auto, unfolding(crate::specs::Init::target_met))]
 /// Where the item puts its value. A new location joins the others.
+#[tactic(auto, unfolding(crate::specs::Init::target_met))]
 fn target_of(locations: &mut Locations, spot: Spot<'_>, left: usize) -> Result<Target, Refusal>
     requires { HasLocation (place_of spot) }
     ensures { Gives fault_in (λ target. (target, locations.new)) result (target_met locations.old (place_of spot.entry)) }
@@ -68,8 +68,8 @@ impl Init {
         }
     }
 
-    #[tactic(auto, using(crate::proofs::NameLaws::item_location, crate::proofs::NameLaws::item_value), unfolding(crate::specs::Init::piece_told, crate::specs::Init::item_told))]
     /// Reads what stands between two semicolons, which is an item or nothing.
+    #[tactic(auto, using(crate::proofs::NameLaws::item_location, crate::proofs::NameLaws::item_value), unfolding(crate::specs::Init::piece_told, crate::specs::Init::item_told))]
     fn read(&mut self, piece: &[u8], left: usize) -> Result<(), Refusal>
         ensures { Gives fault_in (λ _. settings_of self.new) result (piece_told (settings_of self.old) piece.now) }
     {
@@ -90,8 +90,8 @@ impl Init {
     }
 }
 
-#[tactic(auto, unfolding(crate::specs::Init::items_at))]
 /// The items that stand in this text, behind which so many bytes follow.
+#[tactic(auto, unfolding(crate::specs::Init::items_at))]
 pub fn read_items(alloc: Global, text: &[u8], behind: usize) -> Result<Init, Refusal>
     ensures { Gives fault_in settings_of result (items_at text.now) }
 {

@@ -74,9 +74,9 @@ impl Locations {
         None
     }
 
-    #[tactic(auto, unfolding(crate::specs::Locations::met))]
     /// The index of this location, which joins the others where it is new. `TooMany` is met where so
     /// many bytes of the text are left.
+    #[tactic(auto, unfolding(crate::specs::Locations::met))]
     pub fn index_of(&mut self, name: &[u8], left: usize) -> Result<usize, Refusal>
         requires { IsTrue (is_name name.now) }
         ensures exact { Gives fault_in (λ index. (index, self.new)) result (met self.old name.now) }

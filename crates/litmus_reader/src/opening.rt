@@ -31,8 +31,8 @@ impl Values {
         Ok(Values { registers, words })
     }
 
-    #[tactic(auto, unfolding(crate::specs::Values::item_put))]
     /// Puts the item's value, but none in x0. A hart that isn't there is `BadInit`.
+    #[tactic(auto, unfolding(crate::specs::Values::item_put))]
     fn put(&mut self, item: Item) -> Result<(), Refusal>
         requires { vec_len self.old.registers ≤ 64 }
         ensures same_harts { vec_len self.new.registers ≡ vec_len self.old.registers }

@@ -60,8 +60,8 @@ fn assemble(
     Test::new(alloc, harts, words, names, quantifier, condition)
 }
 
-#[tactic(auto, unfolding(crate::specs::Reading::content_below, crate::specs::Values::values_at))]
 /// The test whose table has this code, with the condition from its first line on.
+#[tactic(auto, unfolding(crate::specs::Reading::content_below, crate::specs::Values::values_at))]
 fn test_below(
     alloc: Global,
     init: Init,
@@ -88,8 +88,8 @@ fn test_below(
     Ok(assemble(alloc, codes, values, locations, asked)?)
 }
 
-#[tactic(auto, unfolding(crate::specs::Reading::content_behind))]
 /// The test with this init part, with what stands behind it.
+#[tactic(auto, unfolding(crate::specs::Reading::content_behind))]
 fn test_behind(alloc: Global, init: Init, text: &[u8]) -> Result<Test, Refusal>
     ensures exact { Gives fault_in content_of result (content_behind (settings_of init) text.now) }
     ensures plain { IfOk result (λ test. All HasPlainCode test.opening.harts) }
@@ -100,8 +100,8 @@ fn test_behind(alloc: Global, init: Init, text: &[u8]) -> Result<Test, Refusal>
     test_below(alloc, init, codes, condition)
 }
 
-#[tactic(auto, unfolding(crate::specs::Reading::content_at))]
 /// The test in a text without comments.
+#[tactic(auto, unfolding(crate::specs::Reading::content_at))]
 fn test_in(alloc: Global, text: &[u8]) -> Result<Test, Refusal>
     ensures exact { Gives fault_in content_of result (content_at text.now) }
     ensures plain { IfOk result (λ test. All HasPlainCode test.opening.harts) }
@@ -116,8 +116,8 @@ fn test_in(alloc: Global, text: &[u8]) -> Result<Test, Refusal>
     }
 }
 
-#[tactic(auto, unfolding(crate::specs::Reading::test_at))]
 /// The test in a text, as [`read`] says.
+#[tactic(auto, unfolding(crate::specs::Reading::test_at))]
 fn cleaned_test(alloc: Global, text: &[u8]) -> Result<Test, LitmusError>
     ensures exact { Gives fault_of content_of result (test_at text.now) }
     ensures plain { IfOk result (λ test. All HasPlainCode test.opening.harts) }

@@ -24,9 +24,9 @@ pub fn is_blank_line(line: &[u8]) -> bool
     without_front(line).is_empty()
 }
 
-#[tactic(auto, unfolding(crate::specs::Rows::row_in))]
 /// The row's cells, which `|` parts, without the `;` that ends the row; `None` where the line has no
 /// `;`, or something behind it.
+#[tactic(auto, unfolding(crate::specs::Rows::row_in))]
 pub fn row_in(line: &[u8]) -> Option<&[u8]>
     ensures { option_copied result ≡ row_in line.now }
 {
@@ -78,8 +78,8 @@ fn count_harts(alloc: Global, row: &[u8], left: usize) -> Result<usize, Refusal>
     Ok(harts)
 }
 
-#[tactic(auto, unfolding(crate::specs::Rows::harts_in))]
 /// How many harts the first row names: 1 to 64. Its faults are met where so many bytes are left.
+#[tactic(auto, unfolding(crate::specs::Rows::harts_in))]
 pub fn harts_in(alloc: Global, line: &[u8], left: usize) -> Result<usize, Refusal>
     ensures exact { Gives fault_in (λ harts. harts) result (harts_in line.now) }
     ensures some { IfOk result (λ harts. 1 ≤ harts) }

@@ -18,9 +18,9 @@ pub fn address_of(index: usize) -> u32
     4 * index as u32
 }
 
-#[tactic(auto, unfolding(crate::specs::Locations::value_met))]
 /// The value that is put. A new location joins the others; one too many is met where so many bytes of
 /// the text are left.
+#[tactic(auto, unfolding(crate::specs::Locations::value_met))]
 pub fn value_of(locations: &mut Locations, worth: Worth<'_>, left: usize) -> Result<u32, Refusal>
     requires { HasName (value_put worth) }
     ensures { Gives fault_in (λ value. (value, locations.new)) result (value_met locations.old (value_put worth.entry)) }

@@ -33,8 +33,8 @@ impl Model for Table {
     ghost view = { λ table. table.columns.items };
 }
 
-#[tactic(auto, unfolding(crate::specs::Table::cell_told))]
 /// Tells a hart the statement in its cell, which may be none.
+#[tactic(auto, unfolding(crate::specs::Table::cell_told))]
 fn tell(column: &mut Draft, cell: &[u8], left: usize) -> Result<(), Refusal>
     ensures { Gives fault_in (λ _. column.new) result (cell_told column.old cell.now) }
 {
@@ -78,8 +78,8 @@ impl Table {
         Ok(())
     }
 
-    #[tactic(auto, unfolding(crate::specs::Table::line_told))]
     /// Reads a row, or nothing in a blank line. Its shape is judged before its cells.
+    #[tactic(auto, unfolding(crate::specs::Table::line_told))]
     fn read(&mut self, line: &[u8], left: usize) -> Result<(), Refusal>
         ensures exact { Gives fault_in (λ _. self.new) result (line_told self.old line.now) }
         ensures same { length self.new ≡ length self.old }
@@ -169,8 +169,8 @@ fn left_at_row(text: &[u8], row: usize) -> usize {
     0
 }
 
-#[tactic(auto, unfolding(crate::specs::Table::table_at))]
 /// The table in this text, behind which so many bytes stand.
+#[tactic(auto, unfolding(crate::specs::Table::table_at))]
 pub fn read_table(alloc: Global, text: &[u8], behind: usize) -> Result<Table, Refusal>
     ensures exact { Gives fault_in (λ (table : List Column). table) result (table_at text.now) }
     ensures some { IfOk result (λ table. 1 ≤ length table) }
