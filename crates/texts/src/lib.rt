@@ -1,8 +1,9 @@
 //! What every text of the program is made of: pieces between blanks, lines, and numbers in digits.
 //!
 //! The contract: each reader answers what the definitions of `specs/` say of its bytes, so
-//! [`first_piece`] and [`first_line`] walk a text by `pieces` and `lines`, and [`number`], [`word`]
-//! and [`hex_word`] answer exactly where the bytes spell a number. `proofs/` has the laws that the
+//! [`first_piece`] and [`first_line`] walk a text by `pieces` and `lines`, [`cutting`] cuts it at a byte
+//! and trims it, and [`number`], [`word`], [`hex_word`] and [`integer`] answer exactly where the bytes
+//! spell a number. `proofs/` has the laws that the
 //! grammars above share.
 //! This crate knows no grammar, names no fault and keeps nothing; only [`push_decimal`] takes memory.
 
