@@ -3,8 +3,7 @@
 //! The contract: each reader answers what the definitions of `specs/` say of its bytes, so
 //! [`first_piece`] and [`first_line`] walk a text by `pieces` and `lines`, [`cutting`] cuts it at a byte
 //! and trims it, and [`number`], [`word`], [`hex_word`] and [`integer`] answer exactly where the bytes
-//! spell a number. `proofs/` has the laws that the
-//! grammars above share.
+//! spell a number. `proofs/` has the laws that the grammars above share.
 //! This crate knows no grammar, names no fault and keeps nothing; only [`push_decimal`] takes memory.
 
 #![tactic(auto)]
