@@ -1,13 +1,13 @@
 -- A machine that is put back holds what its opening gives. A word that differs from the opening's was
 -- written by a landing or an AMO, so an entry names its place, and there the opening's word is put back.
-use Rattle.std.proofs.Common.{◌≡◌, ◌≢◌, ℕ, zero, suc, ◌+◌, ◌*◌, ◌/◌, ◌<◌, ◌≤◌, ◌==◌, Bool, true, false, ◌||◌, if◌then◌else◌, List, [], ◌∷◌, ◌++◌, length, drop, set, get_or, Option, Some, None, refl, sym, ◌∙◌, ap, subst, arith, get_or-set_same, get_or-set_other}
+use Rattle.std.proofs.Common.{◌≡◌, ◌≢◌, ℕ, zero, suc, ◌/◌, ◌<◌, ◌≤◌, ◌==◌, Bool, true, false, ◌||◌, if◌then◌else◌, List, [], ◌∷◌, ◌++◌, length, set, get_or, Option, Some, None, refl, sym, ◌∙◌, ap, subst, arith, get_or-set_same, get_or-set_other}
 use Rattle.std.specs.Prelude.{map, option_map, unwrap_or, All}
 use Rattle.std.specs.List.{slice_get}
-use Rattle.std.proofs.lemmas.Bool.{eqb-true, eqb-false, eq-eqb, ne_eqb}
+use Rattle.std.proofs.lemmas.Bool.{eqb-true, eqb-false, ne_eqb}
 use Rattle.std.proofs.lemmas.List.{length-map, length-set}
 use Rattle.std.proofs.lemmas.List.Elements.{All-nil, All-cons, All-head, All-tail, All-append, All-take, All-drop, All-map}
 use Rattle.std.proofs.lemmas.Option.{slice_get-map, slice_get-get_or}
-use Rattle.memory.specs.Words.{IsAddress, newest_of}
+use Rattle.memory.specs.Words.{newest_of}
 use Rattle.hart.specs.State.{HartState, HartView}
 use Rattle.hart.specs.Steps.{restarted}
 use Rattle.step_machine.specs.declared.events.Entry.{Entry}
@@ -15,7 +15,7 @@ use Rattle.step_machine.specs.declared.events.Entry.TheVariants as entry
 use Rattle.step_machine.specs.History.{HartStart, Start, History, unrun}
 use Rattle.step_machine.specs.Entries.{store_of, stores, lands, pending, write_of, landed_after, landed, opening_word, memory_word}
 use Rattle.step_machine.specs.Paths.{opens_as}
-use Rattle.step_machine.specs.Config.{Config, HasAddress, Fit, AllHaveRoom, first_of, put_back, all_put_back, no_stores, restarted_config}
+use Rattle.step_machine.specs.Config.{Config, HasAddress, Fit, first_of, put_back, all_put_back, no_stores, restarted_config}
 use Rattle.step_machine.specs.Ties.{view_state, Tied, Sound}
 use Rattle.step_machine.proofs.Running.{kept-unrun}
 

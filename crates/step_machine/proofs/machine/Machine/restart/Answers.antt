@@ -1,5 +1,5 @@
 -- A sound machine that is put back is sound.
-use Rattle.std.proofs.Common.{◌≡◌, ◌∙◌, ap, List, arith, lit<}
+use Rattle.std.proofs.Common.{◌∙◌, ap, List, arith, lit<}
 use Rattle.step_machine.specs.declared.events.Entry.{Entry}
 use Rattle.step_machine.specs.Config.{restarted_config}
 use Rattle.step_machine.proofs.Restarts.{firsts_fit, sound_put_back}
