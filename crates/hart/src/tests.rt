@@ -187,3 +187,25 @@ fn reports_are_kept_in_order(rt: HostRuntime) -> Result<(), Fail> {
     assert_eq!(rt; hart.status(), Status::Ended);
     Ok(())
 }
+
+#[test]
+fn a_restarted_hart_does_the_same_again(rt: HostRuntime) -> Result<(), Fail> {
+    // next, then x17 = 2 by addi, then took
+    let mut hart = make_hart(rt.alloc(), &[ECALL, 0x0020_0893, ECALL], 1, &[70])?;
+    let took = Report::Took {
+        sender: 70,
+        word: 1,
+    };
+    for _ in 0..2 {
+        assert_eq!(rt; (hart.pc(), hart.register(10)), (0, 1));
+        assert_eq!(rt; step(&rt, &mut hart, 0)?, Need::Next { word: Some(70) });
+        assert_eq!(rt; step(&rt, &mut hart, 0)?, Need::Inner);
+        assert_eq!(rt; step(&rt, &mut hart, 0)?, Need::Report(took));
+        assert_eq!(rt; hart.status(), Status::Ended);
+        assert_eq!(rt; hart.reports(), [took].as_slice());
+        hart.restart();
+        assert_eq!(rt; hart.reports(), [].as_slice());
+        assert_eq!(rt; hart.status(), Status::Running);
+    }
+    Ok(())
+}

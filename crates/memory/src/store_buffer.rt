@@ -80,6 +80,13 @@ impl<const B: usize> StoreBuffer<B> {
     {
         self.stores.pop_at(0)
     }
+
+    /// Takes all stores out, and none of them reaches the memory.
+    pub fn clear(&mut self)
+        ensures { self.new ≡ [] }
+    {
+        self.stores.clear();
+    }
 }
 
 fn last_at(stores: &[(u32, u32)], addr: u32) -> Option<(u32, u32)>
@@ -104,5 +111,8 @@ mod tests {
         assert_eq!(rt; buffer.land(), Some((0, 1)));
         assert_eq!(rt; buffer.as_slice(), [(8, 2), (0, 3)].as_slice());
         assert!(rt; !buffer.is_empty());
+        buffer.clear();
+        assert!(rt; buffer.is_empty());
+        assert_eq!(rt; buffer.land(), None);
     }
 }

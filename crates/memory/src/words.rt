@@ -58,6 +58,18 @@ impl<const M: usize> Memory<M> {
         self.words[index] = value;
     }
 
+    /// Makes the word at byte address `addr` the one that `words` has there, and 0 where it has none,
+    /// as it is after they were put into a memory of zeros. An `addr` past the memory changes nothing.
+    pub fn restore(&mut self, addr: u32, words: &[u32])
+        ensures { self.new ≡ slice_set self.old (addr / 4) (slice_index words.now (addr / 4)) }
+    {
+        let index = (addr / 4) as usize;
+        let value = words.get(index).copied().unwrap_or(0);
+        if let Some(word) = self.words.get_mut(index) {
+            *word = value;
+        }
+    }
+
     /// Puts `words` in the place of the first ones, as an opening does.
     pub fn fill(&mut self, words: &[u32])
         requires { length words.now ≤ M }
@@ -81,6 +93,10 @@ mod tests {
         memory.store(12, 5);
         assert_eq!(rt; memory.words(), [7, 9, 0, 5].as_slice());
         assert_eq!(rt; memory.load(4), 9);
+        for addr in [4, 12, 16] {
+            memory.restore(addr, &[7, 8]);
+        }
+        assert_eq!(rt; memory.words(), [7, 8, 0, 0].as_slice());
         Ok(())
     }
 }

@@ -23,7 +23,7 @@ use Rattle.step_machine.proofs.Decides.{need_of-in_range}
 use Rattle.step_machine.proofs.Appended.{reported-last}
 use Rattle.step_machine.proofs.Follows.{act_only}
 use Rattle.step_machine.proofs.Happening.{none-no_hart}
-use Rattle.step_machine.proofs.Stays.{states_stay, states_land, reports_stay, pending-other, pending-store, pending-land, store_of-other, land_of-other, buffers_stay, memory_word-other, words_stay}
+use Rattle.step_machine.proofs.Stays.{states_stay, states_land, firsts_stay, reports_stay, pending-other, pending-store, pending-land, store_of-other, land_of-other, buffers_stay, memory_word-other, words_stay}
 
 -- an entry that follows, of hart h in state s
 pub record Acts (M : ℕ) (t : History) (c : Config) (h : ℕ) (s : HartState) (e : Entry) : Type 0 where
@@ -38,6 +38,7 @@ carried_plain : (B M : ℕ) (t : History) (c : Config) (h : ℕ) (s : HartState)
 carried_plain B M t c h s e legal tied acts same none =
     record {
       states = states_stay M t c h e tied acts.mine acts.act;
+      firsts = firsts_stay M t c h (value_of e) tied;
       reports = reports_stay M t c h e s tied acts.mine acts.state acts.made;
       buffers = λ k. tied.buffers k ∙ sym (same k);
       words = λ a is. tied.words a is ∙ sym (memory_word-other t.opening t.entries e a none);
@@ -47,6 +48,7 @@ carried_store : (B M : ℕ) (t : History) (c : Config) (h a v : ℕ) (s : HartSt
 carried_store B M t c h a v s legal tied within acts =
     record {
       states = states_stay M t c h (entry.Store h a v) tied acts.mine acts.act;
+      firsts = firsts_stay M t c h 0 tied;
       reports = reports_stay M t c h (entry.Store h a v) s tied acts.mine acts.state acts.made;
       buffers = buffers_stay M t c h (buffer_of c h ++ (a, v) ∷ []) (entry.Store h a v) tied within
           (ap (λ ps. ps ++ (a, v) ∷ []) (tied.buffers h) ∙ sym (pending-store B t h a v legal))
@@ -58,6 +60,7 @@ carried_amo : (B M : ℕ) (t : History) (c : Config) (h a old new : ℕ) (s : Ha
 carried_amo B M t c h a old new s legal tied count is acts =
     record {
       states = states_stay M t c h (entry.Amo h a old new) tied acts.mine acts.act;
+      firsts = firsts_stay M t c h old tied;
       reports = reports_stay M t c h (entry.Amo h a old new) s tied acts.mine acts.state acts.made;
       buffers = λ k. tied.buffers k ∙ sym (pending-other B t k (entry.Amo h a old new) legal refl refl);
       words = words_stay M t c (entry.Amo h a old new) a new tied count is refl;
@@ -73,6 +76,7 @@ carried_land : (B M : ℕ) (t : History) (c : Config) (h : ℕ) → Legal B t �
 carried_land B M t c h legal tied count within all =
     record {
       states = λ k. tied.states k ∙ sym (states_land M t h k);
+      firsts = tied.firsts;
       reports = λ k v is. tied.reports k v is ∙ sym (append-nil (reported k t.entries)) ∙ sym (reported-last k t.entries (entry.Land h));
       buffers = buffers_stay M t c h (drop 1 (buffer_of c h)) (entry.Land h) tied within
           (ap (drop 1) (tied.buffers h) ∙ sym (pending-land B t h legal))

@@ -9,5 +9,6 @@ pub mod Running
 pub mod Fitting
 pub mod Rooms
 pub mod Opens
+pub mod Restarts
 pub mod Sounds
 pub mod Landings

@@ -9,7 +9,7 @@ use Rattle.hart.specs.State.{HartView}
 use Rattle.step_machine.specs.History.{HartStart, Start, unrun, FitsIn}
 use Rattle.step_machine.specs.Paths.{opens_as}
 use Rattle.step_machine.specs.Opened.{opened_hart}
-use Rattle.step_machine.specs.Config.{Config, HasAddress, Fit, opened_config}
+use Rattle.step_machine.specs.Config.{Config, HasAddress, Fit, first_of, opened_config}
 use Rattle.step_machine.specs.Ties.{view_state, Tied}
 
 pub fit_opened : (M : ℕ) (o : Start) → FitsIn M o → Fit M (opened_config M o)
@@ -34,6 +34,10 @@ view_opened : (M : ℕ) (so : Option HartStart) → option_map view_state (optio
 view_opened M None = refl
 view_opened M (Some o) = refl
 
+first_opened : (M : ℕ) (so : Option HartStart) → option_map first_of (option_map (opened_hart M) so) ≡ option_map (opens_as M) so
+first_opened M None = refl
+first_opened M (Some o) = refl
+
 reports_opened : (M : ℕ) (so : Option HartStart) (v : HartView) → option_map (opened_hart M) so ≡ Some v → v.reports ≡ []
 reports_opened M None v is = cc
 reports_opened M (Some o) v is = let v_is : opened_hart M o ≡ v = cc in sym (ap (λ (w : HartView). w.reports) v_is)
@@ -56,6 +60,7 @@ zeros_after (x ∷ xs) m (suc i) = zeros_after xs m i
 pub tied_opened : (M : ℕ) (o : Start) → Tied M (unrun o) (opened_config M o)
 tied_opened M o = record {
   states = λ h. ap (option_map view_state) (slice_get-map (opened_hart M) o.harts h) ∙ view_opened M (slice_get o.harts h);
+  firsts = λ h. ap (option_map first_of) (slice_get-map (opened_hart M) o.harts h) ∙ first_opened M (slice_get o.harts h);
   reports = λ h v is. reports_opened M (slice_get o.harts h) v (sym (slice_get-map (opened_hart M) o.harts h) ∙ is);
   buffers = λ h. none_everywhere (length o.harts) h;
   words = λ a is. ap (λ (ws : List ℕ). get_or (o.words ++ ws) (a / 4) 0) (drop-replicate (length o.words) M 0) ∙ zeros_after o.words (M - length o.words) (a / 4);

@@ -7,21 +7,21 @@ use Rattle.std.proofs.lemmas.List.{length-map}
 use Rattle.std.proofs.lemmas.Option.{slice_get_within, get_or_from_slice_get}
 use Rattle.std.proofs.Math.Seq.{map-set_same}
 use Rattle.hart.specs.State.{HartView}
-use Rattle.step_machine.specs.Config.{Config, told, SameButRoom, AllHaveRoom, roomy, roomy_in, roomy_at}
+use Rattle.step_machine.specs.Config.{Config, told, first_of, SameButRoom, AllHaveRoom, roomy, roomy_in, roomy_at}
 use Rattle.step_machine.proofs.Stays.{slice_get-set_same, slice_get-set_other}
 
 pub same_self : (c : Config) → SameButRoom c c
-same_self c = record { harts = refl; buffers = refl; words = refl }
+same_self c = record { harts = refl; firsts = refl; buffers = refl; words = refl }
 
 pub same_after : (c d e : Config) → SameButRoom c d → SameButRoom d e → SameButRoom c e
-same_after c d e s t = record { harts = t.harts ∙ s.harts; buffers = t.buffers ∙ s.buffers; words = t.words ∙ s.words }
+same_after c d e s t = record { harts = t.harts ∙ s.harts; firsts = t.firsts ∙ s.firsts; buffers = t.buffers ∙ s.buffers; words = t.words ∙ s.words }
 
-same_in : (hs : List HartView) (h n : ℕ) (so : Option HartView) → slice_get hs h ≡ so → map told (roomy_in hs h n so) ≡ map told hs
-same_in hs h n None is = refl
-same_in hs h n (Some v) is = map-set_same told hs h (roomy n v) v (ap told (sym (get_or_from_slice_get hs h v v is)))
+same_in : {X : Type 0} (f : HartView → X) → ((n : ℕ) (v : HartView) → f (roomy n v) ≡ f v) → (hs : List HartView) (h n : ℕ) (so : Option HartView) → slice_get hs h ≡ so → map f (roomy_in hs h n so) ≡ map f hs
+same_in f same hs h n None is = refl
+same_in f same hs h n (Some v) is = map-set_same f hs h (roomy n v) v (same n v ∙ ap f (sym (get_or_from_slice_get hs h v v is)))
 
 pub same_roomy : (c : Config) (h n : ℕ) → SameButRoom c (record c { harts = roomy_at c.harts h n })
-same_roomy c h n = record { harts = same_in c.harts h n (slice_get c.harts h) refl; buffers = refl; words = refl }
+same_roomy c h n = record { harts = same_in told (λ m v. refl) c.harts h n (slice_get c.harts h) refl; firsts = same_in first_of (λ m v. refl) c.harts h n (slice_get c.harts h) refl; buffers = refl; words = refl }
 
 -- a hart written at h: what a test says of it and of the others
 pub written_at_place : (P : HartView → Type 0) (hs : List HartView) (h k : ℕ) (x v : HartView) → h < length hs → P x → ((w : HartView) → slice_get hs k ≡ Some w → P w) → slice_get (set hs h x) k ≡ Some v → P v

@@ -23,6 +23,7 @@ use Rattle.step_machine.proofs.Happening.{history_after, outcome_of-happens}
 use Rattle.step_machine.proofs.Opens.{fit_opened, tied_opened}
 use Rattle.step_machine.proofs.Rooms.{written_at_place, same-length}
 use Rattle.step_machine.proofs.Running.{kept-unrun, kept_after}
+use Rattle.step_machine.proofs.Stays.{first_same}
 
 -- room is no part of what a history says
 
@@ -45,6 +46,7 @@ reports_told (Some x) v rs is all = let both : told x ≡ told v = cc in sym (ap
 pub tied_same : (M : ℕ) (t : History) (c d : Config) → Tied M t c → SameButRoom c d → Tied M t d
 tied_same M t c d tied same = record {
   states = λ h. states_told (slice_get d.harts h) (slice_get c.harts h) (told_same c d h same) ∙ tied.states h;
+  firsts = λ h. first_same c.harts d.harts h same.firsts ∙ tied.firsts h;
   reports = λ h v is. reports_told (slice_get c.harts h) v _ (sym (told_same c d h same) ∙ ap (option_map told) is) (tied.reports h);
   buffers = λ h. ap (λ (bs : List (List (ℕ × ℕ))). get_or bs h []) same.buffers ∙ tied.buffers h;
   words = λ a is. ap (λ (ws : List ℕ). get_or ws (a / 4) 0) same.words ∙ tied.words a is;

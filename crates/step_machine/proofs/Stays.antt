@@ -1,9 +1,10 @@
 -- What the machine holds stays what its history says, over one more entry.
 use Rattle.std.proofs.Common.{◌≡◌, ◌≢◌, ℕ, zero, suc, ◌/◌, ◌<◌, ◌==◌, Bool, true, false, not, ◌&&◌, if◌then◌else◌, List, [], ◌∷◌, ◌++◌, length, drop, set, get_or, Option, Some, None, refl, sym, ◌∙◌, ap, subst, arith, append-nil, get_or-set_same, get_or-set_other}
-use Rattle.std.specs.Prelude.{option_map, unwrap_or}
+use Rattle.std.specs.Prelude.{map, option_map, unwrap_or}
 use Rattle.std.specs.List.{slice_get}
 use Rattle.std.proofs.lemmas.Bool.{eqb-true, eqb-false, eq-eqb, ne_eqb}
-use Rattle.std.proofs.lemmas.Option.{slice_get_within}
+use Rattle.std.proofs.lemmas.Option.{slice_get_within, slice_get-map, get_or_from_slice_get}
+use Rattle.std.proofs.Math.Seq.{map-set_same}
 use Rattle.memory.specs.Words.{IsAddress, newest_of}
 use Rattle.hart.specs.State.{HartState, HartView}
 use Rattle.hart.specs.Steps.{need_of, advanced, stepped, reports_after}
@@ -15,9 +16,9 @@ use Rattle.step_machine.specs.declared.events.Entry.{Entry}
 use Rattle.step_machine.specs.declared.events.Entry.TheVariants as entry
 use Rattle.step_machine.specs.History.{Start, History, with_entry}
 use Rattle.step_machine.specs.Entries.{hart_of, is_land, is_own, store_of, land_of, report_of, reported, pending, write_of, landed, opening_word, memory_word}
-use Rattle.step_machine.specs.Paths.{entry_of, value_of, state_of}
+use Rattle.step_machine.specs.Paths.{entry_of, value_of, opens_as, state_of}
 use Rattle.step_machine.specs.Legal.{Legal}
-use Rattle.step_machine.specs.Config.{Config, step_at, step_hart}
+use Rattle.step_machine.specs.Config.{Config, first_of, step_at, step_hart}
 use Rattle.step_machine.specs.Ties.{view_state, Tied}
 use Rattle.step_machine.proofs.Appended.{pending-last, landed-last, newest_of-append, reported-last}
 use Rattle.step_machine.proofs.Balanced.{balanced}
@@ -78,6 +79,23 @@ states_land M t h k = state_of-other M t k (entry.Land h) (own_is h k (entry.Lan
     and_no : (b : Bool) → b && false ≡ false
     and_no true = refl
     and_no false = refl
+
+-- where the harts opened
+
+first_at : (hs : List HartView) (h : ℕ) → option_map first_of (slice_get hs h) ≡ slice_get (map first_of hs) h
+first_at hs h = sym (slice_get-map first_of hs h)
+
+-- harts with the same openings, one by one
+pub first_same : (hs gs : List HartView) (h : ℕ) → map first_of gs ≡ map first_of hs → option_map first_of (slice_get gs h) ≡ option_map first_of (slice_get hs h)
+first_same hs gs h same = first_at gs h ∙ ap (λ (ss : List HartState). slice_get ss h) same ∙ sym (first_at hs h)
+
+firsts_step_at : (hs : List HartView) (h v : ℕ) (so : Option HartView) → slice_get hs h ≡ so → map first_of (step_at hs h v so) ≡ map first_of hs
+firsts_step_at hs h v None is = refl
+firsts_step_at hs h v (Some x) is = map-set_same first_of hs h (stepped x v) x (ap first_of (sym (get_or_from_slice_get hs h x x is)))
+
+-- a step leaves where each hart opened
+pub firsts_stay : (M : ℕ) (t : History) (c : Config) (h v : ℕ) → Tied M t c → (k : ℕ) → option_map first_of (slice_get (step_hart c h v) k) ≡ option_map (opens_as M) (slice_get t.opening.harts k)
+firsts_stay M t c h v tied k = first_same c.harts (step_hart c h v) k (firsts_step_at c.harts h v (slice_get c.harts h) refl) ∙ tied.firsts k
 
 -- reports
 

@@ -4,7 +4,7 @@ use Rattle.std.specs.Prelude.{ℕ, ◌≡◌, ◌≤◌, ◌/◌, ◌<◌, ◌==
 use Rattle.std.specs.List.{slice_get, slice_index_or}
 use Rattle.memory.specs.Words.{IsAddress, newest_of}
 use Rattle.hart.specs.State.{HartState, HartView}
-use Rattle.hart.specs.Steps.{need_of, stepped, reads}
+use Rattle.hart.specs.Steps.{need_of, stepped, restarted, reads}
 use Rattle.hart.specs.Effects.{updated}
 use Rattle.hart.specs.declared.status.Status.{Status}
 use Rattle.hart.specs.declared.status.Status.TheVariants as status
@@ -155,9 +155,14 @@ IsNext c h n = IsSomeAnd (slice_get c.harts h) (IsReady n)
 abbrev pub told : HartView → HartState × List Report
 told v = (v.state, v.reports)
 
+-- where a hart opened
+abbrev pub first_of : HartView → HartState
+first_of v = v.first
+
 -- the same but for room
 pub record SameButRoom (c d : Config) : Type 0 where
   pub harts : map told d.harts ≡ map told c.harts
+  pub firsts : map first_of d.harts ≡ map first_of c.harts
   pub buffers : d.buffers ≡ c.buffers
   pub words : d.words ≡ c.words
 
@@ -183,6 +188,31 @@ opened_config M o = record {
   buffers = replicate (length o.harts) [];
   words = o.words ++ drop (length o.words) (replicate M 0);
 }
+
+-- the opening's word put back where an entry wrote, or stored what it was to write
+abbrev pub put_back : (first words : List ℕ) → Entry → List ℕ
+put_back first words (entry.Inner h) = words
+put_back first words (entry.Load h a v) = words
+put_back first words (entry.Store h a v) = slice_set words (a / 4) (slice_index first (a / 4))
+put_back first words (entry.Amo h a old new) = slice_set words (a / 4) (slice_index first (a / 4))
+put_back first words (entry.Fence h full) = words
+put_back first words (entry.Next h w) = words
+put_back first words (entry.Took h i w) = words
+put_back first words (entry.Closed h i) = words
+put_back first words (entry.Ended h) = words
+put_back first words (entry.Stopped h why) = words
+put_back first words (entry.Land h) = words
+
+abbrev pub all_put_back : (first words : List ℕ) → List Entry → List ℕ
+all_put_back first words [] = words
+all_put_back first words (e ∷ es) = all_put_back first (put_back first words e) es
+
+abbrev pub no_stores : List (ℕ × ℕ) → List (ℕ × ℕ)
+no_stores ps = []
+
+-- harts at their openings, empty buffers, and the opening's words at each place that the entries name
+abbrev pub restarted_config : Start → List Entry → Config → Config
+restarted_config o es c = record { harts = map restarted c.harts; buffers = map no_stores c.buffers; words = all_put_back o.words c.words es }
 
 -- the entries after an outcome
 abbrev pub entries_after : List Entry → Outcome → List Entry

@@ -3,6 +3,8 @@
 
 ghost use Rattle.std.specs.Prelude.{◌≡◌, ◌≤◌, ◌<◌, ℕ, true, false, [], length, slice_get, map, replicate, All, IfOk, IfSome, IsSomeAnd, OnOk, OnErr, unwrap_or, is_some};
 ghost use Rattle.memory.specs.Words.{IsAddress};
+ghost use Rattle.hart.specs.Steps.{restarted};
+ghost use Rattle.step_machine.specs.Config.{all_put_back, no_stores};
 ghost use Rattle.step_machine.specs.Opened.{opened_hart};
 
 use crate::events::{Entry, Event, Outcome};
@@ -37,7 +39,7 @@ impl<const B: usize, const M: usize> Model for Cores<B, M> {
 
 impl<const B: usize, const M: usize> Cores<B, M> {
     ghost use Rattle.step_machine.specs.History.{FitsIn};
-    ghost use Rattle.step_machine.specs.Config.{Fit, opened_config, HasRoom, outcome_of, outcome_for, act_outcome, land_outcome, after_outcome, step_hart, found, buffer_of, word_at, roomy_at, SameButRoom, AllHaveRoom, IsNext, CanAdvance, IsInRange};
+    ghost use Rattle.step_machine.specs.Config.{Fit, opened_config, HasRoom, outcome_of, outcome_for, act_outcome, land_outcome, after_outcome, step_hart, found, buffer_of, word_at, roomy_at, restarted_config, SameButRoom, AllHaveRoom, IsNext, CanAdvance, IsInRange};
 
     /// What an opening gives: harts at their beginnings, empty buffers, and the opening's words.
     pub fn open(alloc: Global, opening: &Opening) -> Result<Self, AllocError>
@@ -221,6 +223,17 @@ impl<const B: usize, const M: usize> Cores<B, M> {
         }
     }
 
+    /// Puts all back that the entries since the opening changed. It goes over the harts and the
+    /// entries, and over no word of memory that they don't name.
+    pub fn restart(&mut self, opening: &Opening, entries: &[Entry])
+        requires { All (λ v. v.first.words ≡ M) self.old.harts }
+        ensures { self.new ≡ restarted_config opening.now entries.now self.old }
+    {
+        restart_harts(&mut self.harts);
+        clear_buffers(&mut self.buffers);
+        put_words_back(&mut self.memory, &opening.words, entries);
+    }
+
     /// Makes room for a step of the hart that the event lets act. An error leaves all as it was.
     pub fn reserve_for(&mut self, event: Event) -> Result<(), AllocError>
         ensures room { OnOk result (HasRoom self.new.harts event) }
@@ -313,4 +326,32 @@ fn empty_buffers<const B: usize>(
         buffers.push(StoreBuffer::new())?;
     }
     Ok(buffers)
+}
+
+fn restart_harts(harts: &mut [Hart])
+    ensures { harts.new ≡ map restarted harts.old }
+{
+    for hart in harts.iter_mut() {
+        hart.restart();
+    }
+}
+
+fn clear_buffers<const B: usize>(buffers: &mut [StoreBuffer<B>])
+    ensures { buffers.new ≡ map no_stores buffers.old }
+{
+    for buffer in buffers.iter_mut() {
+        buffer.clear();
+    }
+}
+
+/// Puts the opening's word back at each address to which one of the entries wrote or stored.
+fn put_words_back<const M: usize>(memory: &mut Memory<M>, words: &[u32], entries: &[Entry])
+    ensures { memory.new ≡ all_put_back words.now memory.old entries.now }
+{
+    for entry in entries {
+        match entry {
+            Entry::Store { addr, .. } | Entry::Amo { addr, .. } => memory.restore(*addr, words),
+            _ => {}
+        }
+    }
 }

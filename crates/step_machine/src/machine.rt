@@ -94,6 +94,15 @@ impl<const B: usize, const M: usize> Machine<B, M> {
         Ok(())
     }
 
+    /// Puts the machine back at its opening, in the room that it has. It takes no memory, and its time
+    /// goes by the harts and the entries since the opening, however large the memory is.
+    pub fn restart(&mut self)
+        ensures { self.new ≡ record self.old { history = unrun self.old.history.opening } }
+    {
+        self.cores.restart(&self.opening, &self.entries);
+        self.entries.clear();
+    }
+
     /// Makes room for `n` steps. Neither outcome changes the history.
     pub fn reserve(&mut self, n: usize) -> Result<(), AllocError>
         ensures history { self.new.history ≡ self.old.history }

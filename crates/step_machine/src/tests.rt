@@ -405,6 +405,37 @@ fn steps_within_reserved_room_succeed(rt: HostRuntime) -> Result<(), Fail> {
 }
 
 #[test]
+fn a_restarted_machine_runs_anew(rt: HostRuntime) -> Result<(), Fail> {
+    let mut harts = Vec::new(rt.alloc());
+    // sw x5,4(x6); amoadd.w x10,x11,(x6)
+    let code = [0x0053_2223, 0x00b3_252f];
+    harts.push(hart(rt.alloc(), &code, &[(5, 1), (11, 1)], &[])?)?;
+    let mut machine = machine::<4>(&rt, harts, &[6, 9])?;
+    let amo = Outcome::Did(Entry::Amo {
+        hart: 0,
+        addr: 0,
+        old: 6,
+        new: 7,
+    });
+    for _ in 0..2 {
+        expect_outcomes(
+            &rt,
+            &mut machine,
+            &[(A0, store(0, 4, 1)), (L0, land(0)), (A0, amo)],
+        )?;
+        assert_eq!(rt; (machine.word(0), machine.word(4)), (7, 1));
+        machine.restart();
+        assert_eq!(rt; (machine.word(0), machine.word(4)), (6, 9));
+        assert_eq!(rt; machine.entries().len(), 0);
+    }
+    expect_outcomes(&rt, &mut machine, &[(A0, store(0, 4, 1))])?;
+    machine.restart();
+    assert_eq!(rt; machine.harts(), 1);
+    assert_eq!(rt; machine.pending(0).len(), 0);
+    Ok(())
+}
+
+#[test]
 fn an_opening_past_the_limits_does_not_fit(rt: HostRuntime) -> Result<(), Fail> {
     let none = Opening {
         harts: Vec::new(rt.alloc()),

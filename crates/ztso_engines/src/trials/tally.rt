@@ -7,12 +7,12 @@ ghost use Rattle.ztso_engines.specs.Trials.{Trial, IsTrial};
 ghost use Rattle.ztso_engines.specs.Outcomes.{schedule_text as text_of_schedule};
 ghost use Rattle.ztso_engines.specs.Tallies.{told_by, told_of, told_more, Counts, IsTallyOf, Tallies};
 
-use crate::running::machine_after;
+use crate::running::run_anew;
 use litmus::{Test, Verdict};
 use recorder::push_tokens;
 use std::alloc::{AllocError, Global};
 use std::collections::BTreeMap;
-use step_machine::Event;
+use step_machine::{Event, Machine};
 
 /// What the runs with one outcome showed.
 #[derive(Drop)]
@@ -119,24 +119,24 @@ impl Tally {
         }
     }
 
-    /// Takes in the run of these events.
+    /// Takes in the run of these events on a machine of the test's opening, whatever it did before.
     pub fn add_run<const B: usize, const M: usize>(
         &mut self,
         alloc: Global,
         test: &Test,
+        machine: &mut Machine<B, M>,
         events: &[Event],
     ) -> Result<(), AllocError>
-        requires some_capacity { 1 ≤ B }
-        requires capacity { B ≤ 64 }
-        requires words { 1024 ≤ M }
-        requires size { M ≤ 65536 }
+        requires opening { machine.old.history.opening ≡ test.now.opening }
+        requires names { length test.now.names ≤ M }
         requires counts { (outcome : List ℕ) → IfSome (told_of self.old.rows.entries outcome) (λ told. told.0 < 4294967295) }
         requires unfinished { self.old.unfinished < 4294967295 }
-        ensures { OnOk result ((trial : Trial) × (trial.events ≡ events.now) × IsTrial B M test.now trial × Tallies trial self.old self.new) }
+        ensures trial { OnOk result ((trial : Trial) × (trial.events ≡ events.now) × IsTrial B M test.now trial × Tallies trial self.old self.new) }
+        ensures opening { machine.new.history.opening ≡ machine.old.history.opening }
     {
-        let machine = machine_after::<B, M>(alloc, test, events)?;
-        let verdict = test.verdict(&machine);
-        let values = test.values(alloc, &machine)?;
+        run_anew(machine, events)?;
+        let verdict = test.verdict(machine);
+        let values = test.values(alloc, machine)?;
         self.add(alloc, events, verdict, values)
     }
 }

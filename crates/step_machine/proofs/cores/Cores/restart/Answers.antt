@@ -1,0 +1,20 @@
+-- The harts, the buffers and the words are those put back, which fit each other.
+use Rattle.std.proofs.Common.{◌≡◌, ◌++◌, length, take, drop, arith, subst, sym}
+use Rattle.std.specs.Prelude.{All}
+use Rattle.std.proofs.lemmas.Grind.{common_steps}
+use Rattle.hart.specs.State.{HartView}
+use Rattle.step_machine.specs.Config.{Config, Fit, restarted_config}
+use Rattle.step_machine.proofs.Restarts.{fit_restarted}
+use Rattle.step_machine.proofs.cores.Cores.restart.Goals as goal
+
+pub invariant_of-self : goal.invariant_of-self
+invariant_of-self g c =
+    let held : Config = record { harts = c.self.inside.harts.items; buffers = c.self.inside.buffers.items; words = c.self.inside.memory } in
+    let left : Config = record {
+      harts = take c.self.inside.harts.len (c.restart_harts.new.harts ++ drop (length c.restart_harts.new.harts) c.self.inside.harts.items);
+      buffers = take c.self.inside.buffers.len (c.clear_buffers.new.buffers ++ drop (length c.clear_buffers.new.buffers) c.self.inside.buffers.items);
+      words = c.put_words_back.new.memory;
+    } in
+    let is : left ≡ restarted_config c.args.opening.now c.args.entries.now held = grind (arith, common_steps) in
+    let firsts : All (λ (v : HartView). v.first.words ≡ g.row.M) held.harts = subst (λ (k : Config). All (λ (v : HartView). v.first.words ≡ g.row.M) k.harts) (sym c.self.view_is) c.requires in
+    (c.self.invariant.0, subst (Fit g.row.M) (sym is) (fit_restarted g.row.M c.args.opening.now c.args.entries.now held firsts c.self.invariant.1))
