@@ -1,7 +1,6 @@
 use crate::asm::asm_engine;
 use crate::fault::{Fault, Place};
 use std::alloc::Global;
-use std::test::Fail;
 
 /// How the engine ended, and what it wrote.
 fn asm_of(alloc: Global, input: &[u8]) -> (Result<(), Fault>, Vec<u8>) {
@@ -50,20 +49,4 @@ fn the_first_fault_is_refused(rt: HostRuntime) {
     let (end, out) = asm_of(rt.alloc(), b"nop # \xff");
     assert_eq!(rt; end, Err(Fault::refused(36, Place::Nowhere)));
     assert_eq!(rt; out.len(), 0);
-}
-
-#[test]
-fn limits_are_kept(rt: HostRuntime) -> Result<(), Fail> {
-    let mut text = Vec::new(rt.alloc());
-    for _ in 0..4096 {
-        text.extend_from_slice(b"nop\n")?;
-    }
-    let (end, out) = asm_of(rt.alloc(), &text);
-    assert_eq!(rt; end, Ok(()));
-    assert_eq!(rt; out.len(), 9 * 4096);
-    text.extend_from_slice(b"nop\n")?;
-    let (end, out) = asm_of(rt.alloc(), &text);
-    assert_eq!(rt; end, Err(Fault::refused(7, Place::Line(4097))));
-    assert_eq!(rt; out.len(), 0);
-    Ok(())
 }

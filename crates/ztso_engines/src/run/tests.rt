@@ -68,52 +68,9 @@ Unfinished
 }
 
 #[test]
-fn message_passing_keeps_its_order(rt: HostRuntime) {
-    let file = "RISCV MP
-{
-0:x5=1; 0:x6=x; 0:x8=y;
-1:x6=y; 1:x8=x;
-}
- P0          | P1          ;
- sw x5,0(x6) | lw x5,0(x6) ;
- sw x5,0(x8) | lw x7,0(x8) ;
-exists (1:x5=1 /\\ 1:x7=0)
-";
-    let (end, out) = run_of(
-        rt.alloc(),
-        file.as_bytes(),
-        b"ztso-schedule 1\na0*2 l0*2 a1*2",
-    );
-    assert_eq!(rt; end, Ok(Verdict::Fails));
-    assert_eq!(rt;
-        out.as_slice(),
-        b"hart 0 ended pc 8 pending 0
-x5 = 1
-x8 = 4
-hart 1 ended pc 8 pending 0
-x5 = 1
-x6 = 4
-x7 = 1
-word 0 = 1
-word 4 = 1
-Fails
-"
-            .as_slice()
-    );
-}
-
-#[test]
 fn the_test_is_judged_before_the_schedule(rt: HostRuntime) {
-    let good = b"ztso-schedule 1".as_slice();
     for (file, schedule, number, place) in [
         (b"".as_slice(), b"".as_slice(), 21, Place::Line(1)),
-        (b"X86 SB\n".as_slice(), good, 21, Place::Line(1)),
-        (
-            b"RISCV SB \xff".as_slice(),
-            b"\xff".as_slice(),
-            36,
-            Place::Nowhere,
-        ),
         (
             STORE_BUFFERING.as_bytes(),
             b"".as_slice(),
