@@ -1,10 +1,10 @@
 -- The command `asm`: the words of an assembly text, a line each.
-use Rattle.std.specs.Prelude.{ℕ, ◌≡◌, ◌-◌, ◌^◌, ◌<◌, false, List, ◌∷◌, [], ◌++◌, length, map, replicate, Option, Result, Ok, Err}
+use Rattle.std.specs.Prelude.{ℕ, ◌≡◌, ◌-◌, ◌^◌, ◌<◌, false, List, ◌∷◌, [], ◌++◌, length, replicate, Option, Result, Ok, Err}
 use Rattle.std.specs.List.{All, flat_map}
 use Rattle.std.specs.Fmt.{digits}
-use Rattle.rv_decode.specs.Meaning.{meaning}
 use Rattle.rv_decode.specs.declared.instruction.Instr.{Instr}
 use Rattle.assembler.specs.Drafts.{assembled, AllPlain}
+use Rattle.assembler.specs.Program.{IsProgram, AreWordsOf}
 use Rattle.assembler.specs.Faults.{number_of, Refusal as AsmRefusal}
 use Rattle.assembler.specs.declared.faults.AsmError.{AsmError}
 use Rattle.assembler.specs.declared.faults.AsmError.TheVariants as error
@@ -28,9 +28,11 @@ fault_of_error (error.Refused fault line) = Refused (record { number = number_of
 unfoldable pub asm_at : List ℕ → Result (List (Option Instr)) Refusal
 asm_at text = refused_at (assembled text)
 
--- the text is assembled to these words of 32 bits: each means its instruction, and leaves its free fields 0
+-- the text is a program whose instructions these words of 32 bits mean, with their free fields 0
 pub record IsCode (text words : List ℕ) : Type 0 where
-  pub instructions : asm_at text ≡ Ok (map meaning words)
+  pub instrs : List Instr
+  pub program : IsProgram text instrs
+  pub meant : AreWordsOf words instrs
   pub plain : AllPlain words
   pub small : All (λ word. word < 2 ^ 32) words
 

@@ -1,10 +1,12 @@
 //! The command `asm`: an assembly text in, its words out.
 
-ghost use Rattle.std.specs.Prelude.{◌≡◌, ◌<◌, ◌≤◌, ◌^◌, ◌++◌, map, length, IfOk, OnOk};
+ghost use Rattle.std.specs.Prelude.{◌≡◌, ◌<◌, ◌≤◌, ◌^◌, ◌++◌, List, map, length, IfOk, OnOk};
 ghost use Rattle.std.specs.List.{All, flat_map};
 ghost use Rattle.std.specs.String.{string_bytes};
 ghost use Rattle.rv_decode.specs.Meaning.{meaning};
+ghost use Rattle.rv_decode.specs.declared.instruction.Instr.{Instr};
 ghost use Rattle.assembler.specs.Drafts.{AllPlain};
+ghost use Rattle.assembler.specs.Program.{IsProgram, AreWordsOf};
 ghost use Rattle.ztso_engines.specs.Faults.{Answers, AnswersAs};
 ghost use Rattle.ztso_engines.specs.Engines.{EndsBy, judged};
 ghost use Rattle.ztso_engines.specs.Asm.{asm_at, hex_line, fault_of_error, IsAsmAnswer};
@@ -33,6 +35,7 @@ impl From<AsmError> for Fault {
 /// The words of a text.
 #[tactic(auto, unfolding(crate::specs::Asm::asm_at))]
 fn code_of(alloc: Global, text: &str) -> Result<Vec<u32>, Fault>
+    ensures found { IfOk result (λ code. (instrs : List Instr) × IsProgram text.now instrs × AreWordsOf code.items instrs) }
     ensures exact { Answers (λ code. map meaning code.items) result (asm_at text.now) }
     ensures plain { IfOk result (λ code. AllPlain code.items) }
 {
@@ -46,6 +49,7 @@ fn code_of(alloc: Global, text: &str) -> Result<Vec<u32>, Fault>
 #[tactic(auto, using(crate::proofs::Judging::judged_text, crate::proofs::Judging::judged_no_text))]
 fn code_of_input(alloc: Global, input: &[u8]) -> Result<Vec<u32>, Fault>
     requires { length input.now ≤ 1048576 }
+    ensures found { IfOk result (λ code. (instrs : List Instr) × IsProgram input.now instrs × AreWordsOf code.items instrs) }
     ensures exact { Answers (λ code. map meaning code.items) result (judged asm_at input.now) }
     ensures plain { IfOk result (λ code. AllPlain code.items) }
 {
