@@ -142,12 +142,6 @@ pub record IsReady (n : Need) (v : HartView) : Type 0 where
   pub next : need_of v.state ≡ n
   pub room : 0 < v.room
 
--- the hart runs, and a word is given exactly where it needs one
-pub record CanAdvance (given : Bool) (v : HartView) : Type 0 where
-  pub running : v.state.status ≡ status.Running
-  pub read : given ≡ reads (need_of v.state)
-  pub room : 0 < v.room
-
 abbrev pub IsNext : Config → ℕ → Need → Type 0
 IsNext c h n = IsSomeAnd (slice_get c.harts h) (IsReady n)
 
