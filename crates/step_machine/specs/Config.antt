@@ -4,7 +4,7 @@ use Rattle.std.specs.Prelude.{ℕ, ◌≡◌, ◌≤◌, ◌/◌, ◌<◌, ◌==
 use Rattle.std.specs.List.{slice_get, slice_index_or}
 use Rattle.memory.specs.Words.{IsAddress, newest_of}
 use Rattle.hart.specs.State.{HartState, HartView}
-use Rattle.hart.specs.Steps.{need_of, stepped, restarted, reads}
+use Rattle.hart.specs.Steps.{need_of, stepped, restarted}
 use Rattle.hart.specs.Effects.{updated}
 use Rattle.hart.specs.declared.status.Status.{Status}
 use Rattle.hart.specs.declared.status.Status.TheVariants as status

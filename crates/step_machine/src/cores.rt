@@ -39,7 +39,7 @@ impl<const B: usize, const M: usize> Model for Cores<B, M> {
 
 impl<const B: usize, const M: usize> Cores<B, M> {
     ghost use Rattle.step_machine.specs.History.{FitsIn};
-    ghost use Rattle.step_machine.specs.Config.{Fit, opened_config, HasRoom, outcome_of, outcome_for, act_outcome, land_outcome, after_outcome, step_hart, found, buffer_of, word_at, roomy_at, restarted_config, SameButRoom, AllHaveRoom, IsReady, IsNext, IsInRange};
+    ghost use Rattle.step_machine.specs.Config.{Fit, opened_config, HasRoom, outcome_of, outcome_for, act_outcome, land_outcome, after_outcome, step_hart, found, buffer_of, word_at, roomy_at, restarted_config, SameButRoom, AllHaveRoom, IsNext, IsInRange};
 
     /// What an opening gives: harts at their beginnings, empty buffers, and the opening's words.
     pub fn open(alloc: Global, opening: &Opening) -> Result<Self, AllocError>
