@@ -38,7 +38,7 @@ fn step(rt: &impl Abort, hart: &mut Hart, word: u32) -> Result<Need, AllocError>
     assert!(rt; matches!(hart.status(), Status::Running));
     let need = hart.next_need();
     match need {
-        Need::Load { .. } | Need::Amo { .. } => hart.advance(Some(word)),
+        Need::Load { .. } | Need::Amo { .. } => hart.meet(need, Some(word)),
         _ => hart.advance(None),
     }
     Ok(need)

@@ -4,7 +4,7 @@ use Rattle.std.specs.Prelude.{ℕ, ◌≡◌, ◌≤◌, ◌/◌, ◌<◌, ◌==
 use Rattle.std.specs.List.{slice_get, slice_index_or}
 use Rattle.memory.specs.Words.{IsAddress, newest_of}
 use Rattle.hart.specs.State.{HartState, HartView}
-use Rattle.hart.specs.Steps.{need_of, stepped, restarted, reads}
+use Rattle.hart.specs.Steps.{need_of, stepped, restarted}
 use Rattle.hart.specs.Effects.{updated}
 use Rattle.hart.specs.declared.status.Status.{Status}
 use Rattle.hart.specs.declared.status.Status.TheVariants as status
@@ -140,12 +140,6 @@ IsInRange M (need.Stop why) = Unit {0}
 pub record IsReady (n : Need) (v : HartView) : Type 0 where
   pub running : v.state.status ≡ status.Running
   pub next : need_of v.state ≡ n
-  pub room : 0 < v.room
-
--- the hart runs, and a word is given exactly where it needs one
-pub record CanAdvance (given : Bool) (v : HartView) : Type 0 where
-  pub running : v.state.status ≡ status.Running
-  pub read : given ≡ reads (need_of v.state)
   pub room : 0 < v.room
 
 abbrev pub IsNext : Config → ℕ → Need → Type 0

@@ -3,7 +3,7 @@
 
 ghost use Rattle.std.specs.Prelude.{◌≡◌, ◌≤◌, ◌<◌, ℕ, true, false, [], length, slice_get, map, replicate, All, IfOk, IfSome, IsSomeAnd, OnOk, OnErr, unwrap_or, is_some};
 ghost use Rattle.memory.specs.Words.{IsAddress};
-ghost use Rattle.hart.specs.Steps.{restarted};
+ghost use Rattle.hart.specs.Steps.{reads, restarted};
 ghost use Rattle.step_machine.specs.Config.{all_put_back, no_stores};
 ghost use Rattle.step_machine.specs.Opened.{opened_hart};
 
@@ -39,7 +39,7 @@ impl<const B: usize, const M: usize> Model for Cores<B, M> {
 
 impl<const B: usize, const M: usize> Cores<B, M> {
     ghost use Rattle.step_machine.specs.History.{FitsIn};
-    ghost use Rattle.step_machine.specs.Config.{Fit, opened_config, HasRoom, outcome_of, outcome_for, act_outcome, land_outcome, after_outcome, step_hart, found, buffer_of, word_at, roomy_at, restarted_config, SameButRoom, AllHaveRoom, IsNext, CanAdvance, IsInRange};
+    ghost use Rattle.step_machine.specs.Config.{Fit, opened_config, HasRoom, outcome_of, outcome_for, act_outcome, land_outcome, after_outcome, step_hart, found, buffer_of, word_at, roomy_at, restarted_config, SameButRoom, AllHaveRoom, IsNext, IsInRange};
 
     /// What an opening gives: harts at their beginnings, empty buffers, and the opening's words.
     pub fn open(alloc: Global, opening: &Opening) -> Result<Self, AllocError>
@@ -102,40 +102,41 @@ impl<const B: usize, const M: usize> Cores<B, M> {
         ensures after { self.new ≡ after_outcome self.old result }
     {
         match need {
-            Need::Inner => self.do_alone(hart, Entry::Inner { hart }),
+            Need::Inner => self.do_alone(hart, need, Entry::Inner { hart }),
             Need::Load { addr } => {
                 let value = self.find(hart, addr);
-                self.advance(hart, Some(value));
+                self.advance(hart, need, Some(value));
                 Outcome::Did(Entry::Load { hart, addr, value })
             }
             Need::Store { addr, value } => self.store(hart, addr, value),
             Need::Amo { addr, op, rs2 } => self.exchange(hart, addr, op, rs2),
             Need::Fence { full } => self.fence(hart, full),
-            Need::Next { word } => self.do_alone(hart, Entry::Next { hart, word }),
+            Need::Next { word } => self.do_alone(hart, need, Entry::Next { hart, word }),
             Need::Report(Report::Took { sender, word }) => {
-                self.do_alone(hart, Entry::Took { hart, sender, word })
+                self.do_alone(hart, need, Entry::Took { hart, sender, word })
             }
             Need::Report(Report::Closed { sender }) => {
-                self.do_alone(hart, Entry::Closed { hart, sender })
+                self.do_alone(hart, need, Entry::Closed { hart, sender })
             }
-            Need::Exit => self.do_alone(hart, Entry::Ended { hart }),
-            Need::Stop(why) => self.do_alone(hart, Entry::Stopped { hart, why }),
+            Need::Exit => self.do_alone(hart, need, Entry::Ended { hart }),
+            Need::Stop(why) => self.do_alone(hart, need, Entry::Stopped { hart, why }),
         }
     }
 
     /// What a hart does without memory and its buffer, which this entry tells.
-    fn do_alone(&mut self, hart: u32, entry: Entry) -> Outcome
+    fn do_alone(&mut self, hart: u32, need: Need, entry: Entry) -> Outcome
         requires within { hart < length self.old.harts }
-        requires next { IsSomeAnd (slice_get self.old.harts hart) (CanAdvance false) }
+        requires next { IsNext self.old hart need }
+        requires alone { reads need ≡ false }
         ensures outcome { result ≡ Outcome.Did entry }
         ensures after { self.new ≡ record self.old { harts = step_hart self.old hart 0 } }
     {
-        self.advance(hart, None);
+        self.advance(hart, need, None);
         Outcome::Did(entry)
     }
 
     fn store(&mut self, hart: u32, addr: u32, value: u32) -> Outcome
-        requires next { IsSomeAnd (slice_get self.old.harts hart) (CanAdvance false) }
+        requires next { IsNext self.old hart (Need.Store addr value) }
         requires within { hart < length self.old.harts }
         requires address { IsAddress M addr }
         ensures outcome { result ≡ outcome_for B self.old hart (Need.Store addr value) }
@@ -146,11 +147,12 @@ impl<const B: usize, const M: usize> Cores<B, M> {
             return Outcome::Waited;
         }
         buffer.push(addr, value);
-        self.do_alone(hart, Entry::Store { hart, addr, value })
+        let need = Need::Store { addr, value };
+        self.do_alone(hart, need, Entry::Store { hart, addr, value })
     }
 
     fn exchange(&mut self, hart: u32, addr: u32, op: AmoOp, rs2: u32) -> Outcome
-        requires next { IsSomeAnd (slice_get self.old.harts hart) (CanAdvance true) }
+        requires next { IsNext self.old hart (Need.Amo addr op rs2) }
         requires within { hart < length self.old.harts }
         requires address { IsAddress M addr }
         ensures outcome { result ≡ outcome_for B self.old hart (Need.Amo addr op rs2) }
@@ -162,7 +164,7 @@ impl<const B: usize, const M: usize> Cores<B, M> {
         let old = self.memory.load(addr);
         let new = amo(op, old, rs2);
         self.memory.store(addr, new);
-        self.advance(hart, Some(old));
+        self.advance(hart, Need::Amo { addr, op, rs2 }, Some(old));
         Outcome::Did(Entry::Amo {
             hart,
             addr,
@@ -172,7 +174,7 @@ impl<const B: usize, const M: usize> Cores<B, M> {
     }
 
     fn fence(&mut self, hart: u32, full: bool) -> Outcome
-        requires next { IsSomeAnd (slice_get self.old.harts hart) (CanAdvance false) }
+        requires next { IsNext self.old hart (Need.Fence full) }
         requires within { hart < length self.old.harts }
         ensures outcome { result ≡ outcome_for B self.old hart (Need.Fence full) }
         ensures after { self.new ≡ after_outcome self.old result }
@@ -180,17 +182,18 @@ impl<const B: usize, const M: usize> Cores<B, M> {
         if full && !self.buffers[hart as usize].is_empty() {
             return Outcome::Waited;
         }
-        self.do_alone(hart, Entry::Fence { hart, full })
+        self.do_alone(hart, Need::Fence { full }, Entry::Fence { hart, full })
     }
 
     /// Lets a running hart do what it needs, given the word that it read.
     #[tactic(auto, using(crate::proofs::Fitting::stepped_in_place, crate::proofs::Fitting::fit_step))]
-    fn advance(&mut self, hart: u32, value: Option<u32>)
+    fn advance(&mut self, hart: u32, need: Need, value: Option<u32>)
         requires within { hart < length self.old.harts }
-        requires next { IsSomeAnd (slice_get self.old.harts hart) (CanAdvance (is_some value)) }
+        requires next { IsNext self.old hart need }
+        requires read { is_some value ≡ reads need }
         ensures { self.new ≡ record self.old { harts = step_hart self.old hart (unwrap_or value 0) } }
     {
-        self.harts[hart as usize].advance(value);
+        self.harts[hart as usize].meet(need, value);
     }
 
     /// What a hart reads at an address: its newest pending store to it, else the word of memory.
