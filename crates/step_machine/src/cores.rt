@@ -271,12 +271,6 @@ impl<const B: usize, const M: usize> Cores<B, M> {
         }
     }
 
-    pub fn len(&self) -> usize
-        ensures { result ≡ length self.now.harts }
-    {
-        self.harts.len()
-    }
-
     pub fn hart(&self, hart: u32) -> &Hart
         requires { hart < length self.now.harts }
         ensures { slice_get self.now.harts hart ≡ Some result.now }
