@@ -1,11 +1,11 @@
 -- The words that are taken are those with which a condition begins.
-use Rattle.std.proofs.Common.{◌≡◌, ◌∙◌, sym, ap, subst, List, [], ◌∷◌, ◌++◌, Option, Some, None, Result, Ok, Err, refl}
+use Rattle.std.proofs.Common.{◌≡◌, ◌∙◌, ap, List, [], ◌∷◌, ◌++◌, Option, Some, None, Ok, Err, refl}
 use Rattle.litmus.specs.declared.words.Place.TheVariants as place
 use Rattle.litmus.specs.declared.words.Token.{Token}
 use Rattle.litmus.specs.declared.words.Token.TheVariants as token
 use Rattle.litmus.specs.Formulas.{Formula, is}
-use Rattle.litmus.specs.Grammar.{IsConditionOf, Begins}
-use Rattle.litmus.specs.Drafting.{Group, Stage, awaits, has, empty_group, disjunction_of, negated_by, completed, taken_from, all_taken, stage_after, formula_at, or_misplaced, with_word, told, finished}
+use Rattle.litmus.specs.Grammar.{Begins}
+use Rattle.litmus.specs.Drafting.{Group, Stage, awaits, has, empty_group, disjunction_of, negated_by, all_taken, stage_after, formula_at, or_misplaced, with_word, told, finished}
 use Rattle.litmus.specs.Building.{Build, build_at}
 use Rattle.litmus.proofs.StageLaws.{all_taken-append}
 use Rattle.litmus.proofs.GrammarLaws.{finished_only}

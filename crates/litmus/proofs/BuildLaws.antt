@@ -1,5 +1,5 @@
 -- What is built word by word is what stands built at the stage of the words.
-use Rattle.std.proofs.Common.{◌≡◌, ◌∙◌, ◌≤◌, ◌<◌, ◌+◌, ◌-◌, sym, ap, subst, ℕ, Bool, true, false, suc, zero, List, [], ◌∷◌, ◌++◌, length, take, replicate, slice_set, Option, Some, None, refl, arith, append_assoc, length-append, add-one}
+use Rattle.std.proofs.Common.{◌≡◌, ◌∙◌, ◌+◌, ◌-◌, sym, ap, ℕ, true, false, suc, zero, List, [], ◌∷◌, ◌++◌, length, replicate, slice_set, Option, Some, None, refl, arith, append_assoc, length-append}
 use Rattle.std.specs.List.{slice_get}
 use Rattle.std.proofs.Math.Seq.{take-append_seam, set-append_seam}
 use Rattle.std.proofs.lemmas.List.{append-nil}
@@ -8,7 +8,7 @@ use Rattle.litmus.specs.declared.words.Token.TheVariants as token
 use Rattle.litmus.specs.declared.words.Step.{Step}
 use Rattle.litmus.specs.declared.words.Step.TheVariants as step
 use Rattle.litmus.specs.declared.words.Mark.{Mark}
-use Rattle.litmus.specs.Formulas.{Formula, is, negation, both, either}
+use Rattle.litmus.specs.Formulas.{Formula, is}
 use Rattle.litmus.specs.Steps.{steps_of}
 use Rattle.litmus.specs.Drafting.{Group, Stage, awaits, has, negated_by, conjoined, disjoined, conjunction_of, disjunction_of, completed, taken}
 use Rattle.litmus.specs.Building.{Build, and_closed, or_closed, all_closed, with_operand, with_and, with_or, with_close, built, empty_mark, or_steps, and_steps, steps_around, end_of, mark_of, marks_around, build_of, build_at}

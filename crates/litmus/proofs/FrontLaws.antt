@@ -1,12 +1,11 @@
 -- Words that are read as a formula are a condition: what each stage says of the words before it.
-use Rattle.std.proofs.Common.{◌≡◌, ◌∙◌, ◌+◌, sym, ap, subst, ℕ, suc, zero, List, [], ◌∷◌, ◌++◌, replicate, Option, Some, None, Result, Ok, Err, refl, arith, append_assoc, add-one}
+use Rattle.std.proofs.Common.{◌≡◌, ◌∙◌, ◌+◌, sym, ap, subst, ℕ, suc, zero, List, [], ◌∷◌, ◌++◌, replicate, Option, Some, None, Ok, refl, arith, append_assoc}
 use Rattle.std.proofs.lemmas.List.{append-nil}
 use Rattle.litmus.specs.declared.words.Token.{Token}
 use Rattle.litmus.specs.declared.words.Token.TheVariants as token
-use Rattle.litmus.specs.Formulas.{Formula, is, negation, both, either}
-use Rattle.litmus.specs.Grammar.{Level, operand, conjunction, disjunction, Stands, atom, negated, enclosed, one_operand, joined, one_conjunction, parted, IsConditionOf}
-use Rattle.litmus.specs.Drafting.{Group, Stage, awaits, has, empty_group, negated_by, conjoined, disjoined, conjunction_of, disjunction_of, completed, enclosed as closed_into, taken, taken_from, all_taken, stage_after, formula_at, or_misplaced, finished}
-use Rattle.litmus.proofs.GrammarLaws.{finished_only}
+use Rattle.litmus.specs.Formulas.{Formula, is, both, either}
+use Rattle.litmus.specs.Grammar.{operand, conjunction, disjunction, Stands, atom, negated, enclosed, one_operand, joined, one_conjunction, parted, IsConditionOf}
+use Rattle.litmus.specs.Drafting.{Group, Stage, awaits, has, empty_group, negated_by, conjoined, disjoined, conjunction_of, disjunction_of, enclosed as closed_into, taken, taken_from, all_taken, stage_after, formula_at, or_misplaced, finished}
 
 -- the words in front of the last conjunct's disjunct, and in front of the last operand's conjunct
 abbrev OrFront : Option Formula → List Token → Type 0

@@ -1,9 +1,9 @@
 -- The words of a condition are read as its formula, and as no other.
-use Rattle.std.proofs.Common.{◌≡◌, ◌∙◌, ◌+◌, sym, ap, subst, ℕ, suc, zero, List, [], ◌∷◌, ◌++◌, Option, Some, None, Result, Ok, Err, refl, arith, append_assoc}
+use Rattle.std.proofs.Common.{◌≡◌, ◌∙◌, ◌+◌, sym, ap, ℕ, suc, zero, List, [], ◌∷◌, ◌++◌, Option, Some, None, Ok, refl, arith, append_assoc}
 use Rattle.std.proofs.lemmas.List.{append-nil}
 use Rattle.litmus.specs.declared.words.Token.{Token}
 use Rattle.litmus.specs.declared.words.Token.TheVariants as token
-use Rattle.litmus.specs.Formulas.{Formula, is, negation, both, either}
+use Rattle.litmus.specs.Formulas.{Formula, negation, both, either}
 use Rattle.litmus.specs.Grammar.{Level, operand, conjunction, disjunction, Stands, atom, negated, enclosed, one_operand, joined, one_conjunction, parted, IsConditionOf}
 use Rattle.litmus.specs.Drafting.{Group, Stage, awaits, has, empty_group, negated_by, conjoined, disjoined, completed, all_taken, stage_after, formula_at, or_misplaced, finished}
 

@@ -1,5 +1,5 @@
 -- The steps of a formula do what it says, and ask for its places.
-use Rattle.std.proofs.Common.{◌≡◌, ◌∙◌, sym, ap, subst, ℕ, Bool, true, false, not, ◌&&◌, ◌||◌, suc, zero, ◌≤◌, List, [], ◌∷◌, ◌++◌, length, refl, arith, append_assoc, All, get_or, drop, ◌<◌, ◌-◌, ◌+◌, drop-cons, add-one}
+use Rattle.std.proofs.Common.{◌≡◌, ◌∙◌, sym, ap, subst, ℕ, Bool, true, false, ◌&&◌, ◌||◌, suc, zero, ◌≤◌, List, [], ◌∷◌, ◌++◌, length, refl, arith, append_assoc, All, get_or, drop, ◌<◌, ◌-◌, ◌+◌, drop-cons, add-one}
 use Rattle.std.proofs.lemmas.List.Elements.{All-nil, All-cons, All-head, All-tail}
 use Rattle.std.proofs.lemmas.List.{append-nil}
 use Rattle.litmus.specs.declared.words.Place.{Place}

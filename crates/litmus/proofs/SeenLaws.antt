@@ -1,8 +1,8 @@
 -- Places are told apart by their entries of the table, and each is seen first once.
-use Rattle.std.proofs.Common.{◌≡◌, ◌≢◌, ◌∙◌, ◌≤◌, ◌<◌, ◌+◌, ◌*◌, ◌/◌, ◌%◌, ◌==◌, ◌&&◌, sym, ap, subst, ℕ, Bool, true, false, not, cond, suc, zero, List, [], ◌∷◌, ◌++◌, length, replicate, drop, get_or, slice_set, filter, refl, arith, append_assoc, All, drop-cons, add-one}
+use Rattle.std.proofs.Common.{◌≡◌, ◌≢◌, ◌∙◌, ◌<◌, ◌+◌, ◌*◌, ◌/◌, ◌%◌, ◌==◌, ◌&&◌, sym, ap, ℕ, Bool, true, false, not, cond, suc, zero, List, [], ◌∷◌, ◌++◌, length, replicate, drop, get_or, slice_set, filter, refl, arith, append_assoc, All, drop-cons, add-one}
 use Rattle.std.proofs.lemmas.Bool.{eqb-true, eqb-false, eq-eqb, ne_eqb}
-use Rattle.std.proofs.lemmas.List.{get_or-set_same, get_or-set_other, set-get_or, length-set, length-replicate}
-use Rattle.std.proofs.lemmas.List.Elements.{All-nil, All-cons, All-head, All-tail, All-filter}
+use Rattle.std.proofs.lemmas.List.{get_or-set_same, get_or-set_other, length-set, length-replicate}
+use Rattle.std.proofs.lemmas.List.Elements.{All-cons, All-head, All-tail, All-filter}
 use Rattle.litmus.specs.declared.words.Place.{Place}
 use Rattle.litmus.specs.declared.words.Place.TheVariants as place
 use Rattle.litmus.specs.declared.words.Step.{Step}
@@ -10,7 +10,7 @@ use Rattle.litmus.specs.declared.words.Step.TheVariants as step
 use Rattle.litmus.specs.Questions.{IsThere, is_same, firsts}
 use Rattle.litmus.specs.Running.{asked_by, AsksThere}
 use Rattle.litmus.proofs.RunLaws.{asked_by-AsksThere}
-use Rattle.litmus.specs.Seen.{index_of, is_seen, unless_seen, after_place, after_seen, left_to_see}
+use Rattle.litmus.specs.Seen.{index_of, is_seen, after_place, after_seen, left_to_see}
 
 -- two places that are there have one entry exactly where they are the same
 index-register : (h n i m : ℕ) (a b : Bool) → n < 32 → m < 32 → h == i ≡ a → n == m ≡ b → (h * 32 + n == i * 32 + m) ≡ (a && b)

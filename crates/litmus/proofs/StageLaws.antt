@@ -1,5 +1,5 @@
 -- One more word, and the end of the words: stages against what is built.
-use Rattle.std.proofs.Common.{◌≡◌, ◌∙◌, ◌≤◌, ◌<◌, ◌+◌, ◌&&◌, sym, ap, subst, ℕ, Bool, true, false, suc, zero, List, [], ◌∷◌, ◌++◌, length, Option, Some, None, Result, Ok, Err, IfSome, refl, arith, length-append}
+use Rattle.std.proofs.Common.{◌≡◌, ◌∙◌, ◌≤◌, ◌<◌, ◌+◌, sym, ap, subst, ℕ, true, false, suc, List, [], ◌∷◌, ◌++◌, length, Option, Some, None, Ok, Err, IfSome, refl, arith, length-append}
 use Rattle.litmus.specs.declared.words.Token.{Token}
 use Rattle.litmus.specs.declared.words.Token.TheVariants as token
 use Rattle.litmus.specs.declared.words.Step.{Step}
@@ -7,11 +7,11 @@ use Rattle.litmus.specs.declared.words.Step.TheVariants as step
 use Rattle.litmus.specs.declared.words.Mark.{Mark}
 use Rattle.litmus.specs.declared.draft.ConditionError.{ConditionError}
 use Rattle.litmus.specs.declared.draft.ConditionError.TheVariants.{NoMemory, Misplaced}
-use Rattle.litmus.specs.Formulas.{Formula, is}
+use Rattle.litmus.specs.Formulas.{Formula}
 use Rattle.litmus.specs.Steps.{steps_of, formula_of}
 use Rattle.litmus.specs.StepLaws.{formula_of-steps_of}
 use Rattle.litmus.specs.Faults.{fault_of}
-use Rattle.litmus.specs.Drafting.{Group, Stage, awaits, has, empty_group, disjunction_of, completed, enclosed, taken, taken_from, all_taken, stage_after, formula_at, or_misplaced, with_word, told, finished}
+use Rattle.litmus.specs.Drafting.{Group, Stage, awaits, has, empty_group, disjunction_of, enclosed, taken, taken_from, all_taken, stage_after, formula_at, or_misplaced, with_word, told, finished}
 use Rattle.litmus.specs.Building.{Build, all_closed, built, is_empty, is_finished, IsWithin, or_steps, and_steps, steps_around, end_of, mark_of, marks_around, build_of, build_at}
 use Rattle.litmus.proofs.BuildLaws.{built-law, all_closed-law}
 

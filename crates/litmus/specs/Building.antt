@@ -1,6 +1,6 @@
 -- The steps of a condition as its words come, for the proof alone: what is built so far, one more
 -- word's change to it, and what stands built at a stage.
-use Rattle.std.specs.Prelude.{ℕ, ◌+◌, ◌-◌, ◌<◌, Bool, true, false, ◌&&◌, if◌then◌else◌, List, [], ◌∷◌, ◌++◌, length, take, replicate, slice_set, Option, Some, None}
+use Rattle.std.specs.Prelude.{ℕ, ◌+◌, ◌-◌, ◌<◌, Bool, true, false, ◌&&◌, List, [], ◌∷◌, ◌++◌, length, take, replicate, slice_set, Option, Some, None}
 use Rattle.std.specs.List.{slice_get}
 use Rattle.std.specs.Option.{IfSome}
 use Rattle.litmus.specs.declared.words.Token.{Token}
@@ -8,7 +8,7 @@ use Rattle.litmus.specs.declared.words.Token.TheVariants as token
 use Rattle.litmus.specs.declared.words.Step.{Step}
 use Rattle.litmus.specs.declared.words.Step.TheVariants as step
 use Rattle.litmus.specs.declared.words.Mark.{Mark}
-use Rattle.litmus.specs.Formulas.{Formula, is, negation, both, either}
+use Rattle.litmus.specs.Formulas.{Formula}
 use Rattle.litmus.specs.Steps.{steps_of}
 use Rattle.litmus.specs.Drafting.{Group, Stage, awaits, has}
 

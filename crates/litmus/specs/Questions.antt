@@ -1,5 +1,5 @@
 -- A litmus test: where its machine begins, and what it asks at the end.
-use Rattle.std.specs.Prelude.{ℕ, ◌≡◌, ◌+◌, ◌*◌, ◌/◌, ◌%◌, ◌<◌, ◌≤◌, ◌==◌, ◌&&◌, Bool, true, false, not, List, [], ◌∷◌, length, filter, All}
+use Rattle.std.specs.Prelude.{ℕ, ◌≡◌, ◌*◌, ◌%◌, ◌<◌, ◌≤◌, ◌==◌, ◌&&◌, Bool, false, not, List, [], ◌∷◌, length, filter, All}
 use Rattle.step_machine.specs.History.{HartStart, Start, FitsIn}
 use Rattle.litmus.specs.declared.words.Place.{Place}
 use Rattle.litmus.specs.declared.words.Place.TheVariants as place

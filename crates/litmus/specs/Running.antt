@@ -1,5 +1,5 @@
 -- How the steps of a condition are gone through: with one truth value, and how many steps to skip.
-use Rattle.std.specs.Prelude.{ℕ, ◌==◌, ◌<◌, Bool, true, false, not, zero, suc, List, [], ◌∷◌, if◌then◌else◌}
+use Rattle.std.specs.Prelude.{ℕ, ◌==◌, Bool, not, zero, suc, List, [], ◌∷◌, if◌then◌else◌}
 use Rattle.litmus.specs.declared.words.Place.{Place}
 use Rattle.litmus.specs.declared.words.Step.{Step}
 use Rattle.litmus.specs.declared.words.Step.TheVariants as step

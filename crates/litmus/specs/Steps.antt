@@ -1,7 +1,6 @@
 -- The steps of a formula, and the formula of some steps.
-use Rattle.std.specs.Prelude.{ℕ, ◌≡◌, suc, zero, List, [], ◌∷◌, ◌++◌, length, take, drop}
+use Rattle.std.specs.Prelude.{ℕ, suc, zero, List, [], ◌∷◌, ◌++◌, length, take, drop}
 use Rattle.litmus.specs.declared.words.Place.TheVariants as place
-use Rattle.litmus.specs.declared.words.Place.{Place}
 use Rattle.litmus.specs.declared.words.Step.{Step}
 use Rattle.litmus.specs.declared.words.Step.TheVariants as step
 use Rattle.litmus.specs.Formulas.{Formula, is, negation, both, either}

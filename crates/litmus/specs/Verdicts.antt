@@ -1,5 +1,5 @@
 -- What a test says of a machine: by the last registers of its harts and the last words of memory.
-use Rattle.std.specs.Prelude.{ℕ, ◌≡◌, ◌<◌, Bool, true, false, not, List, [], length, slice_index, Option, Some, option_map, unwrap_or}
+use Rattle.std.specs.Prelude.{ℕ, ◌≡◌, ◌<◌, Bool, true, false, not, [], length, slice_index, Some, option_map, unwrap_or}
 use Rattle.hart.specs.declared.status.Status.TheVariants as status
 use Rattle.step_machine.specs.History.{History}
 use Rattle.step_machine.specs.Entries.{pending, memory_word}

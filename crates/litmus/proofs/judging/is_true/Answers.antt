@@ -1,4 +1,4 @@
-use Rattle.std.proofs.Common.{◌≡◌, ◌∙◌, subst, sym, List, All, lit<, true, ap, length}
+use Rattle.std.proofs.Common.{◌∙◌, subst, sym, List, All, lit<, true, ap, length}
 use Rattle.litmus.specs.declared.words.Step.{Step}
 use Rattle.litmus.specs.Running.{AsksThere, all_done}
 use Rattle.litmus.specs.Verdicts.{final_value}

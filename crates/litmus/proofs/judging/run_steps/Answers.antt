@@ -1,4 +1,4 @@
-use Rattle.std.proofs.Common.{◌≡◌, ◌∙◌}
+use Rattle.std.proofs.Common.{◌∙◌}
 use Rattle.litmus.specs.Verdicts.{final_value}
 use Rattle.litmus.proofs.RunLaws.{all_done-skips, all_done-next}
 use Rattle.litmus.proofs.judging.run_steps.Goals as goal

@@ -1,4 +1,4 @@
-use Rattle.std.proofs.Common.{◌≡◌, subst, sym, List, All}
+use Rattle.std.proofs.Common.{subst, sym, List, All}
 use Rattle.litmus.specs.declared.words.Step.{Step}
 use Rattle.litmus.specs.Running.{AsksThere}
 use Rattle.litmus.proofs.RunLaws.{AsksThere-steps_of, steps_of-AsksThere}

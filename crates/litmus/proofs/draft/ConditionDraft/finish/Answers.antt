@@ -1,7 +1,5 @@
-use Rattle.std.proofs.Common.{◌≡◌, ◌∙◌, sym, subst, List, true, Ok}
-use Rattle.litmus.specs.declared.words.Token.{Token}
+use Rattle.std.proofs.Common.{◌≡◌, ◌∙◌, sym, Ok}
 use Rattle.litmus.specs.Drafting.{finished}
-use Rattle.litmus.specs.Formulas.{Formula}
 use Rattle.litmus.proofs.StageLaws.{is_within, finished_open, condition_steps, finished_steps}
 use Rattle.litmus.proofs.GrammarLaws.{finished_only}
 use Rattle.litmus.proofs.FrontLaws.{finished_found}

@@ -1,6 +1,3 @@
-use Rattle.std.proofs.Common.{map}
-use Rattle.std.specs.String.{string_bytes}
-use Rattle.litmus.specs.Questions.{question_of}
 use Rattle.litmus.proofs.TestLaws.{steps_there, left_sides-steps}
 use Rattle.litmus.proofs.question.Test.new.Goals as goal
 
