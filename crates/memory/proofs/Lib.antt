@@ -1,1 +1,4 @@
-pub mod Newest
+pub mod Bytes
+pub mod WholeWords
+pub mod MemoryBytes
+pub mod Joined

@@ -21,6 +21,7 @@ use Rattle.step_machine.specs.Config.{Config, IsInRange, buffer_of, entries_afte
 use Rattle.step_machine.specs.Ties.{view_state, Tied}
 use Rattle.step_machine.proofs.Follows.{state_after, follows, act_only, land_follows, Path-hart, Legal-last}
 use Rattle.step_machine.proofs.Decides.{need_of-in_range, Decided, Tied-sees, outcome_for-decided}
+use Rattle.memory.specs.declared.writes.Write.{Write}
 
 -- the history after an outcome
 abbrev pub history_after : History → Outcome → History
@@ -110,7 +111,7 @@ idle_land B M t h s status.Ended is run empty =
 idle_land B M t h s (status.Stopped why) is run empty =
     record { none = land_none B M t h empty; why = sym (ap (λ o. idle_of o outcome.NothingToLand) is ∙ ap (λ x. idle_in x outcome.NothingToLand) run); after = refl }
 
-some_land : (B M : ℕ) (t : History) (h : ℕ) (s : HartState) (ps : List (ℕ × ℕ)) → Kept B M t → state_of M t h ≡ Some s → ps ≡ pending h t.entries → Happens B M t (event.Land h) (land_in ps h s.status) (history_after t (land_in ps h s.status))
+some_land : (B M : ℕ) (t : History) (h : ℕ) (s : HartState) (ps : List Write) → Kept B M t → state_of M t h ≡ Some s → ps ≡ pending h t.entries → Happens B M t (event.Land h) (land_in ps h s.status) (history_after t (land_in ps h s.status))
 some_land B M t h s [] kept is ps = idle_land B M t h s s.status is refl (sym ps)
 some_land B M t h s (p ∷ ps) kept is e =
     let count : length (p ∷ ps) ≡ length (pending h t.entries) = ap length e in

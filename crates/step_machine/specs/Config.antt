@@ -1,8 +1,8 @@
 -- What the machine holds at one moment, and what an event makes of it: plain functions, which the code
 -- of `cores.rt` meets and `proofs/` ties to histories. No public clause names them.
-use Rattle.std.specs.Prelude.{ℕ, ◌≡◌, ◌≤◌, ◌/◌, ◌<◌, ◌==◌, Bool, true, false, not, ◌&&◌, nat_lt, List, [], ◌∷◌, ◌++◌, All, length, drop, map, max, replicate, slice_index, slice_set, Option, Some, None, IfSome, IsSomeAnd, unwrap_or}
+use Rattle.std.specs.Prelude.{ℕ, ◌≡◌, ◌≤◌, ◌+◌, ◌*◌, ◌/◌, ◌<◌, ◌==◌, Bool, true, false, not, ◌&&◌, nat_lt, List, [], ◌∷◌, ◌++◌, All, length, drop, map, max, replicate, slice_index, slice_set, Option, Some, None, IfSome, IsSomeAnd, IsTrue, unwrap_or}
 use Rattle.std.specs.List.{slice_get, slice_index_or}
-use Rattle.memory.specs.Words.{IsAddress, newest_of}
+use Rattle.memory.specs.Writes.{write, newest_of, joined, over, byte_of, is_width, IsInWord}
 use Rattle.hart.specs.State.{HartState, HartView}
 use Rattle.hart.specs.Steps.{need_of, stepped, restarted}
 use Rattle.hart.specs.Effects.{updated}
@@ -14,29 +14,34 @@ use Rattle.hart.specs.declared.need.Report.{Report}
 use Rattle.hart.specs.declared.need.Report.TheVariants as report
 use Rattle.step_machine.specs.History.{Start}
 use Rattle.step_machine.specs.Opened.{opened_hart}
+use Rattle.step_machine.specs.Access.{Access, nothing, load, store, exchange, fence, land, access_of}
 use Rattle.step_machine.specs.declared.events.Event.{Event}
 use Rattle.step_machine.specs.declared.events.Event.TheVariants as event
 use Rattle.step_machine.specs.declared.events.Entry.{Entry}
 use Rattle.step_machine.specs.declared.events.Entry.TheVariants as entry
 use Rattle.step_machine.specs.declared.events.Outcome.{Outcome}
 use Rattle.step_machine.specs.declared.events.Outcome.TheVariants as outcome
+use Rattle.memory.specs.declared.writes.Write.{Write}
 
 pub record Config : Type 0 where
   pub harts : List HartView
-  pub buffers : List (List (ℕ × ℕ))
+  pub buffers : List (List Write)
   pub words : List ℕ
 
-abbrev pub buffer_of : Config → ℕ → List (ℕ × ℕ)
+abbrev pub buffer_of : Config → ℕ → List Write
 buffer_of c h = slice_index_or c.buffers h []
 
 abbrev pub word_at : Config → ℕ → ℕ
-word_at c a = slice_index c.words (a / 4)
+word_at c a = joined (λ i. byte_of c.words (a + i)) 4
 
--- what hart h finds at an address
-abbrev pub found : Config → ℕ → ℕ → ℕ
-found c h a = unwrap_or (newest_of a None (buffer_of c h)) (word_at c a)
+-- the byte that hart h finds at an address, and the number in so many bytes from there on
+abbrev pub found_byte : Config → ℕ → ℕ → ℕ
+found_byte c h a = unwrap_or (newest_of a None (buffer_of c h)) (byte_of c.words a)
 
-abbrev pub is_empty : List (ℕ × ℕ) → Bool
+abbrev pub found : Config → ℕ → ℕ → ℕ → ℕ
+found c h a width = joined (λ i. found_byte c h (a + i)) width
+
+abbrev pub is_empty : List Write → Bool
 is_empty ps = length ps == 0
 
 abbrev pub if_waits : Bool → Entry → Outcome
@@ -45,8 +50,8 @@ if_waits false e = outcome.Did e
 
 abbrev pub outcome_for : ℕ → Config → ℕ → Need → Outcome
 outcome_for B c h need.Inner = outcome.Did (entry.Inner h)
-outcome_for B c h (need.Load a) = outcome.Did (entry.Load h a (found c h a))
-outcome_for B c h (need.Store a w) = if_waits (not (nat_lt (length (buffer_of c h)) B)) (entry.Store h a w)
+outcome_for B c h (need.Load a width) = outcome.Did (entry.Load h a width (found c h a width))
+outcome_for B c h (need.Store a width w) = if_waits (not (nat_lt (length (buffer_of c h)) B)) (entry.Store h a width w)
 outcome_for B c h (need.Amo a op rs2) = if_waits (not (is_empty (buffer_of c h))) (entry.Amo h a (word_at c a) (updated op (word_at c a) rs2))
 outcome_for B c h (need.Fence full) = if_waits (full && not (is_empty (buffer_of c h))) (entry.Fence h full)
 outcome_for B c h (need.Next w) = outcome.Did (entry.Next h w)
@@ -64,7 +69,7 @@ abbrev pub act_outcome : ℕ → Config → ℕ → Option HartView → Outcome
 act_outcome B c h None = outcome.NoHart
 act_outcome B c h (Some v) = act_in v.state.status (outcome_for B c h (need_of v.state))
 
-abbrev pub land_in : List (ℕ × ℕ) → ℕ → Status → Outcome
+abbrev pub land_in : List Write → ℕ → Status → Outcome
 land_in [] h s = act_in s outcome.NothingToLand
 land_in (p ∷ ps) h s = outcome.Did (entry.Land h)
 
@@ -84,16 +89,20 @@ step_at hs h v (Some x) = slice_set hs h (stepped x v)
 abbrev pub step_hart : Config → ℕ → ℕ → List HartView
 step_hart c h v = step_at c.harts h v (slice_get c.harts h)
 
-abbrev pub write_first : List (ℕ × ℕ) → List ℕ → List ℕ
+-- the words after a write
+abbrev pub written : Write → List ℕ → List ℕ
+written w words = slice_set words (w.addr / 4) (over w (slice_index words (w.addr / 4)))
+
+abbrev pub write_first : List Write → List ℕ → List ℕ
 write_first [] words = words
-write_first (p ∷ ps) words = slice_set words (p.0 / 4) p.1
+write_first (w ∷ ws) words = written w words
 
 -- what an entry makes of what the machine holds
 abbrev pub after_entry : Config → Entry → Config
 after_entry c (entry.Inner h) = record c { harts = step_hart c h 0 }
-after_entry c (entry.Load h a v) = record c { harts = step_hart c h v }
-after_entry c (entry.Store h a v) = record c { harts = step_hart c h 0; buffers = slice_set c.buffers h (buffer_of c h ++ (a, v) ∷ []) }
-after_entry c (entry.Amo h a old new) = record c { harts = step_hart c h old; words = slice_set c.words (a / 4) new }
+after_entry c (entry.Load h a width v) = record c { harts = step_hart c h v }
+after_entry c (entry.Store h a width v) = record c { harts = step_hart c h 0; buffers = slice_set c.buffers h (buffer_of c h ++ write a width v ∷ []) }
+after_entry c (entry.Amo h a old new) = record c { harts = step_hart c h old; words = written (write a 4 new) c.words }
 after_entry c (entry.Fence h full) = record c { harts = step_hart c h 0 }
 after_entry c (entry.Next h w) = record c { harts = step_hart c h 0 }
 after_entry c (entry.Took h i w) = record c { harts = step_hart c h 0 }
@@ -109,15 +118,19 @@ after_outcome c outcome.NothingToLand = c
 after_outcome c outcome.Over = c
 after_outcome c outcome.NoHart = c
 
-abbrev pub HasAddress : ℕ → ℕ × ℕ → Type 0
-HasAddress M p = IsAddress M p.0
+-- 1, 2 or 4 bytes of one word of a memory of M words
+abbrev pub IsPlace : ℕ → ℕ → ℕ → Type 0
+IsPlace M width a = IsTrue (is_width width) × IsInWord width a × (a < 4 * M)
+
+abbrev pub HasAddress : ℕ → Write → Type 0
+HasAddress M w = IsInWord w.width w.addr × (w.addr < 4 * M)
 
 -- as many buffers as harts, memory and harts of M words, and pending stores to addresses of words
 pub record Fit (M : ℕ) (c : Config) : Type 0 where
   pub buffers : length c.buffers ≡ length c.harts
   pub words : length c.words ≡ M
   pub harts : All (λ (v : HartView). v.state.words ≡ M) c.harts
-  pub pending : All (λ (ps : List (ℕ × ℕ)). All (HasAddress M) ps) c.buffers
+  pub pending : All (λ (ps : List Write). All (HasAddress M) ps) c.buffers
 
 -- the hart that the event lets act has room for a step
 abbrev pub HasRoom : List HartView → Event → Type 0
@@ -127,9 +140,9 @@ HasRoom hs (event.Land h) = Unit {0}
 -- the address that a need names is one of a memory of M words
 abbrev pub IsInRange : ℕ → Need → Type 0
 IsInRange M need.Inner = Unit {0}
-IsInRange M (need.Load a) = IsAddress M a
-IsInRange M (need.Store a w) = IsAddress M a
-IsInRange M (need.Amo a op rs2) = IsAddress M a
+IsInRange M (need.Load a width) = IsPlace M width a
+IsInRange M (need.Store a width w) = IsPlace M width a
+IsInRange M (need.Amo a op rs2) = IsPlace M 4 a
 IsInRange M (need.Fence full) = Unit {0}
 IsInRange M (need.Next w) = Unit {0}
 IsInRange M (need.Report r) = Unit {0}
@@ -184,24 +197,22 @@ opened_config M o = record {
 }
 
 -- the opening's word put back where an entry wrote, or stored what it was to write
+abbrev pub put_back_by : (first words : List ℕ) → Access → List ℕ
+put_back_by first words nothing = words
+put_back_by first words (load a width v) = words
+put_back_by first words (store w) = slice_set words (w.addr / 4) (slice_index first (w.addr / 4))
+put_back_by first words (exchange a old new) = slice_set words (a / 4) (slice_index first (a / 4))
+put_back_by first words (fence full) = words
+put_back_by first words land = words
+
 abbrev pub put_back : (first words : List ℕ) → Entry → List ℕ
-put_back first words (entry.Inner h) = words
-put_back first words (entry.Load h a v) = words
-put_back first words (entry.Store h a v) = slice_set words (a / 4) (slice_index first (a / 4))
-put_back first words (entry.Amo h a old new) = slice_set words (a / 4) (slice_index first (a / 4))
-put_back first words (entry.Fence h full) = words
-put_back first words (entry.Next h w) = words
-put_back first words (entry.Took h i w) = words
-put_back first words (entry.Closed h i) = words
-put_back first words (entry.Ended h) = words
-put_back first words (entry.Stopped h why) = words
-put_back first words (entry.Land h) = words
+put_back first words e = put_back_by first words (access_of e)
 
 abbrev pub all_put_back : (first words : List ℕ) → List Entry → List ℕ
 all_put_back first words [] = words
 all_put_back first words (e ∷ es) = all_put_back first (put_back first words e) es
 
-abbrev pub no_stores : List (ℕ × ℕ) → List (ℕ × ℕ)
+abbrev pub no_stores : List Write → List Write
 no_stores ps = []
 
 -- harts at their openings, empty buffers, and the opening's words at each place that the entries name

@@ -4,22 +4,23 @@ use Rattle.std.specs.Prelude.{ℕ, ◌≡◌, ◌<◌, IsTrue, List, [], ◌∷�
 use Rattle.step_machine.specs.declared.events.Entry.{Entry}
 use Rattle.step_machine.specs.declared.events.Entry.TheVariants as entry
 use Rattle.step_machine.specs.History.{Start, History}
-use Rattle.step_machine.specs.Entries.{pending, read}
+use Rattle.memory.specs.declared.writes.Write.{Write}
+use Rattle.step_machine.specs.Access.{Access, nothing, load, store, exchange, fence, land, access_of}
+use Rattle.step_machine.specs.Entries.{hart_of, pending, read}
 use Rattle.step_machine.specs.Paths.{Path}
+
+-- this access may come where its hart has this pending and would read this
+abbrev pub AllowedBy : ℕ → List Write → (ℕ → ℕ → ℕ) → Access → Type 0
+AllowedBy B pending reads nothing = Unit {0}
+AllowedBy B pending reads (load a width v) = v ≡ reads a width
+AllowedBy B pending reads (store w) = length pending < B
+AllowedBy B pending reads (exchange a old new) = (pending ≡ []) × (old ≡ reads a 4)
+AllowedBy B pending reads (fence full) = IsTrue full → pending ≡ []
+AllowedBy B pending reads land = 0 < length pending
 
 -- this entry may come after these
 abbrev pub Allowed : ℕ → Start → List Entry → Entry → Type 0
-Allowed B o before (entry.Inner h) = Unit {0}
-Allowed B o before (entry.Load h a v) = v ≡ read o before h a
-Allowed B o before (entry.Store h a v) = length (pending h before) < B
-Allowed B o before (entry.Amo h a old new) = (pending h before ≡ []) × (old ≡ read o before h a)
-Allowed B o before (entry.Fence h full) = IsTrue full → pending h before ≡ []
-Allowed B o before (entry.Next h w) = Unit {0}
-Allowed B o before (entry.Took h i w) = Unit {0}
-Allowed B o before (entry.Closed h i) = Unit {0}
-Allowed B o before (entry.Ended h) = Unit {0}
-Allowed B o before (entry.Stopped h why) = Unit {0}
-Allowed B o before (entry.Land h) = 0 < length (pending h before)
+Allowed B o before e = AllowedBy B (pending (hart_of e) before) (read o before (hart_of e)) (access_of e)
 
 abbrev pub LegalAfter : ℕ → Start → List Entry → List Entry → Type 0
 LegalAfter B o before [] = Unit {0}

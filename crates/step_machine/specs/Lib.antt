@@ -1,3 +1,4 @@
+pub mod Access
 pub mod History
 pub mod Entries
 pub mod Paths
@@ -6,3 +7,4 @@ pub mod Runs
 pub mod Config
 pub mod Ties
 pub mod Opened
+pub mod WordReads

@@ -11,7 +11,8 @@ pub enum Event {
     Land(u32),
 }
 
-/// What an event did. Addresses are in bytes, values are words.
+/// What an event did. Addresses are in bytes, widths are 1, 2 or 4 bytes, and a value is the unsigned
+/// number of those bytes, the lowest first.
 #[derive(Clone, Copy, Debug, PartialEq, Eq)]
 pub enum Entry {
     /// An instruction that does nothing of the others.
@@ -21,12 +22,14 @@ pub enum Entry {
     Load {
         hart: u32,
         addr: u32,
+        width: u32,
         value: u32,
     },
     /// A store joined the hart's store buffer.
     Store {
         hart: u32,
         addr: u32,
+        width: u32,
         value: u32,
     },
     /// An AMO replaced the word `old` by `new` in one step.

@@ -10,6 +10,7 @@ use crate::events::{Entry, Event, Outcome};
 use crate::opening::{Opening, Trace};
 use hart::need::Report;
 use hart::status::Status;
+use memory::writes::Write;
 use std::alloc::{AllocError, Global};
 use std::marker::Model;
 
@@ -183,8 +184,8 @@ impl<const B: usize, const M: usize> Machine<B, M> {
         self.cores.hart(hart).reports()
     }
 
-    /// The hart's pending stores, pairs of address and value, oldest first.
-    pub fn pending(&self, hart: u32) -> &[(u32, u32)]
+    /// The hart's pending stores, oldest first.
+    pub fn pending(&self, hart: u32) -> &[Write]
         requires { hart < length self.now.history.opening.harts }
         ensures { result.now ≡ pending hart self.now.history.entries }
     {

@@ -33,8 +33,8 @@ nearer_of n (Some best) h = if nat_le n h && nat_lt h best then Some h else Some
 -- what an entry at place p performs, where it performs this store if it is a landing
 abbrev pub performed_there : Entry → ℕ → Option ℕ → Option ℕ
 performed_there (entry.Inner h) p store = None
-performed_there (entry.Load h a v) p store = Some p
-performed_there (entry.Store h a v) p store = None
+performed_there (entry.Load h a width v) p store = Some p
+performed_there (entry.Store h a width v) p store = None
 performed_there (entry.Amo h a old new) p store = Some p
 performed_there (entry.Fence h full) p store = None
 performed_there (entry.Next h w) p store = None
