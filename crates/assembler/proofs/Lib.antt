@@ -17,3 +17,4 @@ pub mod LineGrammar
 pub mod LabelLaws
 pub mod ProgramGrammar
 pub mod LoadingLaws
+pub mod OneCode

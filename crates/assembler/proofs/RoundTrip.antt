@@ -272,8 +272,3 @@ read_again instr.Ebreak fits = alone_read (codes "ebreak") form.Ebreak instr.Ebr
 read_again (instr.Amo op rd rs1 rs2 aq rl) fits =
     made_three (amo_name op ++ order_name aq rl) (form.Amo op aq rl) (register_text rd) (register_text rs2) (40 ∷ (register_text rs1 ++ 41 ∷ [])) (instr.Amo op rd rs1 rs2 aq rl) (amo_named op aq rl) (register_word rd) (register_word rs2) (base_word rs1) (register_operand rd) (register_operand rs2) (base_operand rs1)
     (rw (register_read rd, register_read rs2, bare_base_read rs1, bare_offset_read rs1) refl)
-
--- the same of a text that was empty before
-pub again_after : (old new : List ℕ) (i : Instr) → new ≡ old ++ text_of i → Fits i → old ≡ [] → assembled new ≡ Ok (Some i ∷ [])
-again_after [] new i written fits empty = ap assembled written ∙ read_again i fits
-again_after (x ∷ old) new i written fits empty = absurd cc

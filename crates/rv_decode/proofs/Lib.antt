@@ -2,3 +2,4 @@ pub mod Bits
 pub mod Unique
 pub mod Meanings
 pub mod Words
+pub mod PlainWords

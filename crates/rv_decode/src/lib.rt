@@ -2,7 +2,8 @@
 //!
 //! The contract: [`decode`] answers an instruction exactly where the word means it by the table of
 //! the RISC-V Unprivileged ISA (`specs/Means.antt`), and `None` exactly where no row of it applies.
-//! [`encode`] gives a word that means the instruction, wherever [`fits`] says that there is one.
+//! [`encode`] gives the one plain word that means the instruction, wherever [`fits`] says that there is
+//! one ([`laws::one_plain_word`]).
 //! This crate executes nothing, keeps no state and takes no memory.
 
 #![tactic(auto)]
@@ -10,6 +11,7 @@
 mod decoder;
 mod encoder;
 pub mod instruction;
+pub mod laws;
 mod opcode;
 mod operations;
 #[cfg(test)]
