@@ -12,4 +12,6 @@ pub mod FirstValueLaws
 pub mod RowGrammar
 pub mod ColumnLaws
 pub mod AskedLaws
+pub mod PlainWords
 pub mod ContentGrammar
+pub mod TestGrammar
