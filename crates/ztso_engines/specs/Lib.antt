@@ -3,6 +3,7 @@ pub mod Input
 pub mod Output
 pub mod Words
 pub mod LineFaults
+pub mod Lists
 pub mod Code
 pub mod Told
 pub mod StepsText
