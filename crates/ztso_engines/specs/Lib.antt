@@ -3,10 +3,10 @@ pub mod Input
 pub mod Output
 pub mod Words
 pub mod LineFaults
-pub mod Lists
 pub mod Code
 pub mod Told
 pub mod StepsText
+pub mod Lists
 pub mod StepsReading
 pub mod StateText
 pub mod Engines
