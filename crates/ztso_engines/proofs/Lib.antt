@@ -21,3 +21,4 @@ pub mod TrialLaws
 pub mod OutcomeLines
 pub mod OutcomeLaws
 pub mod OneText
+mod ListTexts

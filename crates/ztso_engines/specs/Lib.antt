@@ -6,6 +6,7 @@ pub mod LineFaults
 pub mod Code
 pub mod Told
 pub mod StepsText
+pub mod Lists
 pub mod StepsReading
 pub mod StateText
 pub mod Engines

@@ -10,6 +10,7 @@ ghost use Rattle.ztso_engines.specs.StepsText.{Tells};
 ghost use Rattle.ztso_engines.specs.StepsReading.{script_at};
 ghost use Rattle.ztso_engines.specs.Asm.{hex_line};
 ghost use Rattle.ztso_engines.specs.Dis.{SaysCode, dis_at};
+ghost use Rattle.ztso_engines.specs.Lists.{SaysLists, lists_at};
 ghost use Rattle.ztso_engines.specs.Outcomes.{IsTried};
 
 /// A steps text tells one thing at most, and reading it from the top finds that; an input is not
@@ -28,6 +29,14 @@ pub fn laws_of_code_texts()
     ensures judged { (input code : List ℕ) → (judged dis_at input ≡ Ok code) ↔ Accepted SaysCode input code }
     ensures one { (text a b : List ℕ) → SaysCode text a → SaysCode text b → a ≡ b }
     ensures again { (code : List ℕ) → All (λ word. word < 2 ^ 32) code → SaysCode (flat_map hex_line code) code }
+{}
+
+/// A text of lists says one list of lists at most, and reading it from the top finds that; an input is
+/// not refused exactly where it is a text within the limit that says lists. It does nothing.
+pub fn laws_of_list_texts()
+    ensures read { (text : List ℕ) (lists : List (List ℕ)) → (lists_at text ≡ Ok lists) ↔ SaysLists text lists }
+    ensures judged { (input : List ℕ) (lists : List (List ℕ)) → (judged lists_at input ≡ Ok lists) ↔ Accepted SaysLists input lists }
+    ensures one { (text : List ℕ) (a b : List (List ℕ)) → SaysLists text a → SaysLists text b → a ≡ b }
 {}
 
 /// What the runs of a test show is one text, and whether it is what the test asks has one answer: both

@@ -14,6 +14,7 @@ pub mod fault;
 pub mod input;
 pub mod laws;
 mod line_fault;
+mod lists;
 mod litmus_text;
 #[cfg(test)]
 mod litmus_texts;
