@@ -1,9 +1,7 @@
 -- What one more entry at the end does to a hart's own entries, its stores and landings, its pending
 -- stores, what landed, and its path.
-use Rattle.std.proofs.Common.{◌≡◌, ℕ, ◌+◌, ◌-◌, ◌≤◌, ◌==◌, true, false, if◌then◌else◌, List, [], ◌∷◌, ◌++◌, length, drop, Option, Some, refl, sym, ◌∙◌, ap, append_assoc, add_assoc, zero-add, arith, append-nil}
+use Rattle.std.proofs.Common.{◌≡◌, ℕ, ◌+◌, ◌≤◌, true, false, if◌then◌else◌, List, [], ◌∷◌, ◌++◌, length, drop, refl, sym, ◌∙◌, ap, append_assoc, add_assoc, zero-add, arith, append-nil}
 use Rattle.std.proofs.lemmas.List.{drop-append-le, drop-drop}
-use Rattle.std.specs.Int.{byte_at}
-use Rattle.memory.specs.Writes.{covers, newest_of}
 use Rattle.hart.specs.State.{HartState}
 use Rattle.hart.specs.Steps.{advanced}
 use Rattle.step_machine.specs.declared.events.Entry.{Entry}
@@ -11,7 +9,6 @@ use Rattle.step_machine.specs.History.{Start}
 use Rattle.step_machine.specs.Entries.{is_own, own, store_of, stores, land_of, lands, pending, write_of, landed_after, landed, report_of, reported}
 use Rattle.step_machine.specs.Paths.{value_of, after_entries, Makes}
 use Rattle.step_machine.specs.Legal.{LegalAfter}
-use Rattle.memory.specs.declared.writes.Write.{Write}
 
 pub own-append : (h : ℕ) (es fs : List Entry) → own h (es ++ fs) ≡ own h es ++ own h fs
 own-append h [] fs = refl
@@ -43,10 +40,6 @@ landed_after-append before (e ∷ es) fs =
 
 pub landed-last : (es : List Entry) (e : Entry) → landed (es ++ e ∷ []) ≡ landed es ++ write_of es e
 landed-last es e = landed_after-append [] es (e ∷ []) ∙ ap (λ t. landed es ++ t) (append-nil (write_of es e))
-
-pub newest_of-append : (a : ℕ) (found : Option ℕ) (ps qs : List Write) → newest_of a found (ps ++ qs) ≡ newest_of a (newest_of a found ps) qs
-newest_of-append a found [] qs = refl
-newest_of-append a found (w ∷ ws) qs = newest_of-append a (if covers w a then Some (byte_at (a - w.addr) w.value) else found) ws qs
 
 pub after_entries-append : (s : HartState) (es fs : List Entry) → after_entries s (es ++ fs) ≡ after_entries (after_entries s es) fs
 after_entries-append s [] fs = refl

@@ -4,9 +4,9 @@ use Rattle.std.proofs.lemmas.Bool.{eqb-true}
 use Rattle.step_machine.specs.declared.events.Entry.{Entry}
 use Rattle.step_machine.specs.Access.{Access, nothing, load, store, exchange, fence, land, access_of}
 use Rattle.step_machine.specs.History.{Start, History}
-use Rattle.step_machine.specs.Entries.{hart_of, stores, landed_by, land_of, lands, pending, read}
+use Rattle.step_machine.specs.Entries.{hart_of, stored_by, store_of, stores, landed_by, land_of, lands, pending, read}
 use Rattle.step_machine.specs.Legal.{AllowedBy, Allowed, LegalAfter, Legal}
-use Rattle.step_machine.proofs.Appended.{stores-append, lands-append}
+use Rattle.step_machine.proofs.Appended.{stores-append, lands-append, pending-last}
 
 land_of_allowed : (B : ℕ) (o : Start) (before : List Entry) (h g : ℕ) (b : Bool) → (g == h) ≡ b → 0 < length (pending g before) → (if b then 1 else 0) ≤ length (pending h before)
 land_of_allowed B o before h g true is some =
@@ -42,3 +42,34 @@ balanced-after B o before (e ∷ es) h l le =
 
 pub balanced : (B : ℕ) (t : History) (h : ℕ) → Legal B t → lands h t.entries ≤ length (stores h t.entries)
 balanced B t h l = balanced-after B t.opening [] t.entries h l (omega arith)
+
+-- and at most B of its stores are pending
+
+stored_fits : (B : ℕ) (o : Start) (before : List Entry) (h : ℕ) (e : Entry) → Allowed B o before e → length (pending h before) ≤ B → length (pending h before) + length (store_of h e) ≤ B
+stored_fits B o before h e may few = at (access_of e) (hart_of e == h) refl may
+  where
+    at : (x : Access) (b : Bool) → (hart_of e == h) ≡ b → AllowedBy B (pending (hart_of e) before) (read o before (hart_of e)) x → length (pending h before) + length (stored_by b x) ≤ B
+    at (store w) true is room =
+        let here : length (pending h before) < B = subst (λ (k : ℕ). length (pending k before) < B) (eqb-true (hart_of e) h is) room in
+        omega arith
+    at (store w) false is room = omega arith
+    at nothing b is any = omega arith
+    at (load a width v) b is any = omega arith
+    at (exchange a old new) b is any = omega arith
+    at (fence full) b is any = omega arith
+    at land b is any = omega arith
+
+few-last : (B : ℕ) (o : Start) (before : List Entry) (h : ℕ) (e : Entry) → Allowed B o before e → lands h before ≤ length (stores h before) → length (pending h before) ≤ B → length (pending h (before ++ e ∷ [])) ≤ B
+few-last B o before h e may le few =
+    let fits : length (pending h before) + length (store_of h e) ≤ B = stored_fits B o before h e may few in
+    let count : length (pending h (before ++ e ∷ [])) ≡ length (pending h before ++ store_of h e) - land_of h e = ap length (pending-last h before e le) ∙ length-drop (land_of h e) (pending h before ++ store_of h e) in
+    let sum : length (pending h before ++ store_of h e) ≡ length (pending h before) + length (store_of h e) = length-append (pending h before) (store_of h e) in
+    omega arith
+
+few-after : (B : ℕ) (o : Start) (before es : List Entry) (h : ℕ) → LegalAfter B o before es → lands h before ≤ length (stores h before) → length (pending h before) ≤ B → length (pending h (before ++ es)) ≤ B
+few-after B o before [] h l le few = rw append-nil few
+few-after B o before (e ∷ es) h l le few =
+    rw (← append_assoc before (e ∷ []) es) (few-after B o (before ++ e ∷ []) es h l.1 (balanced-last B o before h e l.0 le) (few-last B o before h e l.0 le few))
+
+pub pending_few : (B : ℕ) (t : History) (h : ℕ) → Legal B t → length (pending h t.entries) ≤ B
+pending_few B t h l = few-after B t.opening [] t.entries h l (omega arith) (omega arith)

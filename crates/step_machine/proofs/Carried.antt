@@ -17,8 +17,8 @@ use Rattle.step_machine.specs.Entries.{hart_of, is_land, pending, write_of, land
 use Rattle.step_machine.specs.Paths.{entry_of, value_of, CanMake, state_of}
 use Rattle.step_machine.specs.Legal.{Legal, Kept}
 use Rattle.step_machine.specs.Runs.{CanFollow}
-use Rattle.step_machine.specs.Config.{Config, IsPlace, IsInRange, buffer_of, step_hart, write_first, after_entry, HasAddress, Fit}
-use Rattle.step_machine.specs.Ties.{view_state, Tied}
+use Rattle.step_machine.specs.inner.Config.{Config, IsPlace, IsInRange, buffer_of, step_hart, write_first, after_entry, HasAddress, Fit}
+use Rattle.step_machine.specs.inner.Ties.{view_state, Tied}
 use Rattle.step_machine.proofs.Decides.{need_of-in_range}
 use Rattle.step_machine.proofs.Appended.{reported-last}
 use Rattle.step_machine.proofs.Follows.{act_only}

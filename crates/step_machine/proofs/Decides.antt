@@ -21,8 +21,8 @@ use Rattle.step_machine.specs.History.{Start, History}
 use Rattle.step_machine.specs.Entries.{hart_of, is_land, pending, memory_byte, memory_word, read_byte, read}
 use Rattle.step_machine.specs.Paths.{entry_of, value_of}
 use Rattle.step_machine.specs.Legal.{Allowed}
-use Rattle.step_machine.specs.Config.{Config, IsPlace, IsInRange, buffer_of, word_at, found_byte, found, is_empty, if_waits, outcome_for}
-use Rattle.step_machine.specs.Ties.{Tied}
+use Rattle.step_machine.specs.inner.Config.{Config, IsPlace, IsInRange, buffer_of, word_at, found_byte, found, is_empty, if_waits, outcome_for}
+use Rattle.step_machine.specs.inner.Ties.{Tied}
 use Rattle.memory.specs.declared.writes.Write.{Write}
 
 in_range_true : (s : HartState) (n : Need) → IsTrueOf s n → IsInRange s.words n

@@ -12,7 +12,7 @@ use Rattle.hart.specs.declared.need.Need.{Need}
 use Rattle.hart.specs.declared.status.Status.{Status}
 use Rattle.hart.specs.declared.status.Status.TheVariants as status
 use Rattle.hart.proofs.Advances.{advanced-words}
-use Rattle.step_machine.specs.Config.{Config, IsInRange, buffer_of, step_at, step_hart, HasAddress, Fit, IsNext, IsReady, act_in, act_outcome, outcome_for}
+use Rattle.step_machine.specs.inner.Config.{Config, IsInRange, buffer_of, step_at, step_hart, HasAddress, Fit, IsNext, IsReady, act_in, act_outcome, outcome_for}
 use Rattle.step_machine.proofs.Decides.{need_of-in_range}
 use Rattle.memory.specs.declared.writes.Write.{Write}
 

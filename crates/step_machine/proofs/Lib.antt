@@ -14,3 +14,7 @@ pub mod Restarts
 pub mod Sounds
 pub mod Landings
 pub mod WordReads
+pub mod OwnRuns
+pub mod Acts
+pub mod States
+pub mod Openings

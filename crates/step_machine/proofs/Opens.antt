@@ -10,9 +10,9 @@ use Rattle.memory.specs.Writes.{WritesInWord, byte_of}
 use Rattle.hart.specs.State.{HartView}
 use Rattle.step_machine.specs.History.{HartStart, Start, unrun, FitsIn}
 use Rattle.step_machine.specs.Paths.{opens_as}
-use Rattle.step_machine.specs.Opened.{opened_hart}
-use Rattle.step_machine.specs.Config.{Config, HasAddress, Fit, first_of, opened_config}
-use Rattle.step_machine.specs.Ties.{view_state, Tied}
+use Rattle.step_machine.specs.inner.Opened.{opened_hart}
+use Rattle.step_machine.specs.inner.Config.{Config, HasAddress, Fit, first_of, opened_config}
+use Rattle.step_machine.specs.inner.Ties.{view_state, Tied}
 use Rattle.memory.specs.declared.writes.Write.{Write}
 
 pub fit_opened : (M : ℕ) (o : Start) → FitsIn M o → Fit M (opened_config M o)

@@ -1,5 +1,5 @@
 -- A sound machine stays sound, whatever the event.
-use Rattle.std.proofs.Common.{◌≡◌, ℕ, ◌-◌, ◌/◌, ◌≤◌, ◌<◌, List, [], length, get_or, Option, Some, None, refl, sym, ◌∙◌, ap, subst, arith}
+use Rattle.std.proofs.Common.{◌≡◌, ℕ, ◌-◌, ◌≤◌, ◌<◌, List, [], length, get_or, Option, Some, None, refl, sym, ◌∙◌, ap, subst, arith}
 use Rattle.std.specs.Prelude.{map, option_map, IfSome, All}
 use Rattle.std.specs.List.{slice_get}
 use Rattle.std.proofs.lemmas.List.{length-map}
@@ -16,8 +16,8 @@ use Rattle.step_machine.specs.declared.events.Outcome.{Outcome}
 use Rattle.step_machine.specs.declared.events.Outcome.TheVariants as outcome
 use Rattle.step_machine.specs.History.{Start, History, unrun, FitsIn}
 use Rattle.step_machine.specs.Runs.{Happens}
-use Rattle.step_machine.specs.Config.{Config, HasAddress, Fit, AllHaveRoom, HasRoom, SameButRoom, told, step_at, after_entry, after_outcome, entries_after, outcome_of, opened_config}
-use Rattle.step_machine.specs.Ties.{view_state, Tied, Sound}
+use Rattle.step_machine.specs.inner.Config.{Config, HasAddress, Fit, AllHaveRoom, HasRoom, SameButRoom, told, step_at, after_entry, after_outcome, entries_after, outcome_of, opened_config}
+use Rattle.step_machine.specs.inner.Ties.{view_state, Tied, Sound}
 use Rattle.step_machine.proofs.Carried.{carried}
 use Rattle.step_machine.proofs.Fitting.{length-step_at}
 use Rattle.step_machine.proofs.Happening.{history_after, outcome_of-happens}

@@ -1,5 +1,5 @@
 -- What the machine holds stays what its history says, over one more entry.
-use Rattle.std.proofs.Common.{◌≡◌, ◌≢◌, ℕ, zero, suc, ◌-◌, ◌*◌, ◌/◌, ◌<◌, ◌==◌, Bool, true, false, not, ◌&&◌, if◌then◌else◌, List, [], ◌∷◌, ◌++◌, length, drop, set, get_or, Option, Some, None, refl, sym, ◌∙◌, ap, subst, arith, append-nil, get_or-set_same, get_or-set_other}
+use Rattle.std.proofs.Common.{◌≡◌, ℕ, zero, suc, ◌+◌, ◌-◌, ◌*◌, ◌<◌, ◌==◌, Bool, true, false, not, ◌&&◌, if◌then◌else◌, List, [], ◌∷◌, ◌++◌, length, drop, set, get_or, Option, Some, None, refl, sym, ◌∙◌, ap, subst, arith, append-nil, get_or-set_same, get_or-set_other}
 use Rattle.std.specs.Prelude.{map, option_map, unwrap_or, All}
 use Rattle.std.proofs.lemmas.List.Elements.{All-nil, All-cons, All-append}
 use Rattle.std.specs.List.{slice_get}
@@ -8,6 +8,7 @@ use Rattle.std.proofs.lemmas.Option.{slice_get_within, slice_get-map, get_or_fro
 use Rattle.std.proofs.Math.Seq.{map-set_same}
 use Rattle.std.specs.Int.{byte_at}
 use Rattle.memory.specs.Writes.{WritesInWord, write, covers, byte_after, newest_of, byte_of}
+use Rattle.memory.proofs.Bytes.{joined-same}
 use Rattle.memory.proofs.MemoryBytes.{byte_of-write}
 use Rattle.hart.specs.State.{HartState, HartView}
 use Rattle.hart.specs.Steps.{need_of, advanced, stepped, reports_after}
@@ -18,12 +19,13 @@ use Rattle.hart.specs.declared.need.Report.TheVariants as report
 use Rattle.step_machine.specs.declared.events.Entry.{Entry}
 use Rattle.step_machine.specs.declared.events.Entry.TheVariants as entry
 use Rattle.step_machine.specs.History.{Start, History, with_entry}
-use Rattle.step_machine.specs.Entries.{hart_of, is_land, is_own, store_of, land_of, report_of, reported, pending, write_of, landed, opening_byte, memory_byte}
+use Rattle.step_machine.specs.Entries.{hart_of, is_land, is_own, store_of, land_of, report_of, reported, pending, write_of, landed, opening_byte, memory_byte, memory_word}
 use Rattle.step_machine.specs.Paths.{entry_of, value_of, opens_as, state_of}
 use Rattle.step_machine.specs.Legal.{Legal}
-use Rattle.step_machine.specs.Config.{Config, HasAddress, first_of, written, step_at, step_hart}
-use Rattle.step_machine.specs.Ties.{view_state, Tied}
-use Rattle.step_machine.proofs.Appended.{pending-last, landed-last, newest_of-append, reported-last}
+use Rattle.step_machine.specs.inner.Config.{Config, HasAddress, first_of, written, step_at, step_hart}
+use Rattle.step_machine.specs.inner.Ties.{view_state, Tied}
+use Rattle.memory.proofs.Newest.{newest_of-append}
+use Rattle.step_machine.proofs.Appended.{pending-last, landed-last, reported-last}
 use Rattle.step_machine.proofs.Balanced.{balanced}
 use Rattle.step_machine.proofs.Follows.{advance_by, state_of-mine, state_of-other}
 use Rattle.memory.specs.declared.writes.Write.{Write}
@@ -214,6 +216,9 @@ in_words_write es e w is here small =
 -- an entry that writes nothing leaves every byte
 pub memory_byte-other : (o : Start) (es : List Entry) (e : Entry) (a : ℕ) → write_of es e ≡ [] → memory_byte o (es ++ e ∷ []) a ≡ memory_byte o es a
 memory_byte-other o es e a none = ap (λ ws. unwrap_or (newest_of a None ws) (opening_byte o a)) (landed-last es e ∙ ap (λ ws. landed es ++ ws) none ∙ append-nil (landed es))
+
+pub memory_word-other : (o : Start) (es : List Entry) (e : Entry) (a : ℕ) → write_of es e ≡ [] → memory_word o (es ++ e ∷ []) a ≡ memory_word o es a
+memory_word-other o es e a none = joined-same (λ i. memory_byte o (es ++ e ∷ []) (a + i)) (λ i. memory_byte o es (a + i)) 4 (λ i lt. memory_byte-other o es e (a + i) none)
 
 -- an entry that writes changes the bytes that its write covers
 pub memory_byte-write : (o : Start) (es : List Entry) (e : Entry) (w : Write) (a : ℕ) → write_of es e ≡ w ∷ [] → memory_byte o (es ++ e ∷ []) a ≡ byte_after w a (memory_byte o es a)

@@ -1,17 +1,19 @@
 -- The law of word reads: where all stores and AMOs are of whole words, a word access by bytes reads the
 -- word that is told without bytes.
-use Rattle.std.proofs.Common.{◌≡◌, ℕ, ◌+◌, ◌/◌, ◌%◌, ◌^◌, ◌<◌, ◌==◌, Bool, true, false, List, [], ◌∷◌, ◌++◌, None, refl, sym, ◌∙◌, ap, arith}
+use Rattle.std.proofs.Common.{◌≡◌, ℕ, ◌+◌, ◌/◌, ◌%◌, ◌<◌, ◌==◌, Bool, true, false, List, [], ◌∷◌, ◌++◌, if◌then◌else◌, Some, None, refl, ◌∙◌, ap, arith, append-nil}
 use Rattle.std.specs.Prelude.{All, take, slice_index, unwrap_or}
 use Rattle.std.specs.Int.{byte_at}
 use Rattle.std.proofs.lemmas.List.Elements.{All-nil, All-cons, All-append, All-take, All-drop}
 use Rattle.memory.specs.declared.writes.Write.{Write}
-use Rattle.memory.specs.Writes.{write, newest_of, newest_word, joined, byte_of, IsWholeWord}
+use Rattle.memory.specs.Writes.{write, newest_of, newest_word, IsWholeWord}
 use Rattle.memory.proofs.Bytes.{joined-same}
+use Rattle.memory.proofs.Newest.{newest_word-last}
 use Rattle.memory.proofs.WholeWords.{word_reads}
 use Rattle.step_machine.specs.declared.events.Entry.{Entry}
 use Rattle.step_machine.specs.Access.{Access, nothing, load, store, exchange, fence, land, access_of}
 use Rattle.step_machine.specs.History.{Start}
 use Rattle.step_machine.specs.Entries.{hart_of, stored_by, written_by, store_of, stores, lands, pending, write_of, landed_after, landed, opening_byte, memory_byte, memory_word, read_byte, read}
+use Rattle.step_machine.proofs.Appended.{landed-last}
 use Rattle.step_machine.specs.WordReads.{WritesWord, AllWriteWords, OpensWithWords, word_in_memory, word_read}
 
 store_whole : (b : Bool) (x : Access) → WritesWord x → All IsWholeWord (stored_by b x)
@@ -71,3 +73,18 @@ memory-word o es a opens all aligned =
     joined-same (λ i. memory_byte o es (a + i)) (λ i. unwrap_or (newest_of (a + i) None (landed es)) (byte_at i (slice_index o.words (a / 4)))) 4
     (λ i lt. ap (unwrap_or (newest_of (a + i) None (landed es))) (opening_at o a i aligned lt))
     ∙ word_reads a (slice_index o.words (a / 4)) (landed es) [] aligned (opens (a / 4)) (landed_whole es all) (All-nil IsWholeWord)
+
+-- a word of memory after one more entry, told without bytes
+
+pub word_in_memory-other : (o : Start) (es : List Entry) (e : Entry) (a : ℕ) → write_of es e ≡ [] → word_in_memory o (es ++ e ∷ []) a ≡ word_in_memory o es a
+word_in_memory-other o es e a none = ap (λ ws. unwrap_or (newest_word a None ws) (slice_index o.words (a / 4))) (landed-last es e ∙ ap (λ ws. landed es ++ ws) none ∙ append-nil (landed es))
+
+pub word_in_memory-write : (o : Start) (es : List Entry) (e : Entry) (w : Write) (a : ℕ) → write_of es e ≡ w ∷ [] → word_in_memory o (es ++ e ∷ []) a ≡ (if w.addr == a then w.value else word_in_memory o es a)
+word_in_memory-write o es e w a is =
+    ap (λ ws. unwrap_or (newest_word a None ws) (slice_index o.words (a / 4))) (landed-last es e ∙ ap (λ ws. landed es ++ ws) is)
+    ∙ ap (λ v. unwrap_or v (slice_index o.words (a / 4))) (newest_word-last a None (landed es) w)
+    ∙ chosen (w.addr == a)
+  where
+    chosen : (b : Bool) → unwrap_or (if b then Some w.value else newest_word a None (landed es)) (slice_index o.words (a / 4)) ≡ (if b then w.value else word_in_memory o es a)
+    chosen true = refl
+    chosen false = refl

@@ -1,6 +1,6 @@
 -- What a list of entries says of a hart, of its pending stores and of memory. Each is read off the
 -- whole list; there is no buffer and no memory here.
-use Rattle.std.specs.Prelude.{ℕ, ◌+◌, ◌/◌, ◌==◌, Bool, true, false, not, ◌&&◌, if◌then◌else◌, List, [], ◌∷◌, ◌++◌, take, drop, slice_index, None, option_to_list, unwrap_or}
+use Rattle.std.specs.Prelude.{ℕ, ◌+◌, ◌==◌, Bool, true, false, not, ◌&&◌, if◌then◌else◌, List, [], ◌∷◌, ◌++◌, take, drop, None, option_to_list, unwrap_or}
 use Rattle.std.specs.List.{slice_get}
 use Rattle.memory.specs.Writes.{write, newest_of, joined, byte_of}
 use Rattle.hart.specs.declared.need.Report.{Report}

@@ -1,8 +1,7 @@
--- Which lists of entries memory and store buffers of B pairs allow: what each entry needs of those
+-- Which lists of entries memory and store buffers of B stores allow: what each entry needs of those
 -- before it. An AMO's new word stands with its hart's path, where its operation is known.
-use Rattle.std.specs.Prelude.{ℕ, ◌≡◌, ◌<◌, IsTrue, List, [], ◌∷◌, ◌++◌, length}
+use Rattle.std.specs.Prelude.{ℕ, ◌≡◌, ◌<◌, IsTrue, List, [], ◌∷◌, ◌++◌, length, All}
 use Rattle.step_machine.specs.declared.events.Entry.{Entry}
-use Rattle.step_machine.specs.declared.events.Entry.TheVariants as entry
 use Rattle.step_machine.specs.History.{Start, History}
 use Rattle.memory.specs.declared.writes.Write.{Write}
 use Rattle.step_machine.specs.Access.{Access, nothing, load, store, exchange, fence, land, access_of}
@@ -30,7 +29,12 @@ LegalAfter B o before (e ∷ es) = Allowed B o before e × LegalAfter B o (befor
 abbrev pub Legal : ℕ → History → Type 0
 Legal B t = LegalAfter B t.opening [] t.entries
 
--- a history that is legal and in which every hart keeps a path
+-- the entry is of one of the opening's harts
+abbrev pub IsOfHarts : Start → Entry → Type 0
+IsOfHarts o e = hart_of e < length o.harts
+
+-- a history that is legal, in which every hart keeps a path and every entry is of a hart
 pub record Kept (B M : ℕ) (t : History) : Type 0 where
   pub legal : Legal B t
   pub paths : (h : ℕ) → h < length t.opening.harts → Path M t h
+  pub of_harts : All (IsOfHarts t.opening) t.entries

@@ -4,7 +4,5 @@ pub mod Entries
 pub mod Paths
 pub mod Legal
 pub mod Runs
-pub mod Config
-pub mod Ties
-pub mod Opened
 pub mod WordReads
+pub mod inner

@@ -1,7 +1,7 @@
 -- Lists whose stores and AMOs are all of whole words. What is read there at a multiple of 4 is told
 -- without bytes: the newest pending store to that address, else the last write to it, else the opening's
 -- word.
-use Rattle.std.specs.Prelude.{ℕ, ◌≡◌, ◌/◌, ◌%◌, ◌^◌, ◌<◌, List, [], ◌∷◌, None, All, slice_index, unwrap_or}
+use Rattle.std.specs.Prelude.{ℕ, ◌/◌, ◌^◌, ◌<◌, List, [], ◌∷◌, None, slice_index, unwrap_or}
 use Rattle.memory.specs.Writes.{write, newest_word, IsWholeWord}
 use Rattle.step_machine.specs.declared.events.Entry.{Entry}
 use Rattle.step_machine.specs.Access.{Access, nothing, load, store, exchange, fence, land, access_of}

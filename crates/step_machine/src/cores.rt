@@ -3,10 +3,10 @@
 
 ghost use Rattle.std.specs.Prelude.{◌≡◌, ◌≤◌, ◌<◌, ℕ, true, false, [], length, slice_get, map, replicate, All, IfOk, IfSome, IsSomeAnd, OnOk, OnErr, unwrap_or, is_some};
 ghost use Rattle.memory.specs.Words.{IsAddress};
-ghost use Rattle.step_machine.specs.Config.{IsPlace};
+ghost use Rattle.step_machine.specs.inner.Config.{IsPlace};
 ghost use Rattle.hart.specs.Steps.{reads, restarted};
-ghost use Rattle.step_machine.specs.Config.{all_put_back, no_stores};
-ghost use Rattle.step_machine.specs.Opened.{opened_hart};
+ghost use Rattle.step_machine.specs.inner.Config.{all_put_back, no_stores};
+ghost use Rattle.step_machine.specs.inner.Opened.{opened_hart};
 
 use crate::events::{Entry, Event, Outcome};
 use crate::opening::{HartOpening, Opening};
@@ -20,7 +20,7 @@ use rv_decode::instruction::AmoOp;
 use std::alloc::{AllocError, Global};
 use std::marker::Model;
 
-/// Harts, a store buffer of `B` pairs for each, and a memory of `M` words.
+/// Harts, a store buffer of `B` stores for each, and a memory of `M` words.
 #[derive(Drop)]
 pub struct Cores<const B: usize, const M: usize> {
     harts: Vec<Hart>,
@@ -30,7 +30,7 @@ pub struct Cores<const B: usize, const M: usize> {
 
 impl<const B: usize, const M: usize> Model for Cores<B, M> {
     ghost use Rattle.std.specs.Prelude.{◌≤◌};
-    ghost use Rattle.step_machine.specs.Config.{Config, Fit};
+    ghost use Rattle.step_machine.specs.inner.Config.{Config, Fit};
 
     ghost Value = { Config };
 
@@ -41,7 +41,7 @@ impl<const B: usize, const M: usize> Model for Cores<B, M> {
 
 impl<const B: usize, const M: usize> Cores<B, M> {
     ghost use Rattle.step_machine.specs.History.{FitsIn};
-    ghost use Rattle.step_machine.specs.Config.{Fit, opened_config, HasRoom, outcome_of, outcome_for, act_outcome, land_outcome, after_outcome, step_hart, found, buffer_of, word_at, roomy_at, restarted_config, SameButRoom, AllHaveRoom, IsNext, IsInRange};
+    ghost use Rattle.step_machine.specs.inner.Config.{Fit, opened_config, HasRoom, outcome_of, outcome_for, act_outcome, land_outcome, after_outcome, step_hart, found, buffer_of, word_at, roomy_at, restarted_config, SameButRoom, AllHaveRoom, IsNext, IsInRange};
 
     /// What an opening gives: harts at their beginnings, empty buffers, and the opening's words.
     pub fn open(alloc: Global, opening: &Opening) -> Result<Self, AllocError>

@@ -1,5 +1,7 @@
 //! What may happen to a machine, what did, and what a step answers.
 
+ghost use Rattle.std.specs.Prelude.{◌≡◌};
+
 use hart::status::Stop;
 
 /// One atomic step. Harts are numbered from 0.
@@ -71,6 +73,48 @@ pub enum Entry {
     Land {
         hart: u32,
     },
+}
+
+impl Entry {
+    ghost use Rattle.step_machine.specs.Entries.{hart_of, is_land};
+    ghost use Rattle.step_machine.specs.Runs.{event_of};
+
+    /// The event by which the entry comes about.
+    pub fn event(self) -> Event
+        ensures { result ≡ event_of self }
+    {
+        if self.is_land() {
+            Event::Land(self.hart())
+        } else {
+            Event::Act(self.hart())
+        }
+    }
+
+    /// The hart that acted, or whose store landed.
+    pub fn hart(self) -> u32
+        ensures { result ≡ hart_of self }
+    {
+        match self {
+            Entry::Inner { hart } => hart,
+            Entry::Load { hart, .. } => hart,
+            Entry::Store { hart, .. } => hart,
+            Entry::Amo { hart, .. } => hart,
+            Entry::Fence { hart, .. } => hart,
+            Entry::Next { hart, .. } => hart,
+            Entry::Took { hart, .. } => hart,
+            Entry::Closed { hart, .. } => hart,
+            Entry::Ended { hart } => hart,
+            Entry::Stopped { hart, .. } => hart,
+            Entry::Land { hart } => hart,
+        }
+    }
+
+    /// Whether a store landed.
+    pub fn is_land(self) -> bool
+        ensures { result ≡ is_land self }
+    {
+        matches!(self, Entry::Land { .. })
+    }
 }
 
 /// What a step answers.

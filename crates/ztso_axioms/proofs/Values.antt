@@ -12,10 +12,11 @@ use Rattle.memory.specs.Writes.{write, covers, newest_of}
 use Rattle.memory.proofs.Bytes.{joined-same}
 use Rattle.step_machine.specs.History.{Start, History}
 use Rattle.step_machine.specs.Entries.{hart_of, stores, lands, write_of, landed_after, opening_byte, memory_byte, read_byte, read}
-use Rattle.step_machine.specs.Legal.{Allowed, LegalAfter, Kept}
+use Rattle.step_machine.specs.Legal.{Allowed, LegalAfter, Legal}
 use Rattle.step_machine.specs.declared.events.Entry.{Entry}
 use Rattle.step_machine.specs.declared.events.Entry.TheVariants as entry
-use Rattle.step_machine.proofs.Appended.{LegalAfter-front, newest_of-append}
+use Rattle.memory.proofs.Newest.{newest_of-append}
+use Rattle.step_machine.proofs.Appended.{LegalAfter-front}
 use Rattle.ztso_axioms.specs.Operations.{is_operation, passes, is_at, hart_at, read_of, written_to, written_at}
 use Rattle.ztso_axioms.specs.Axioms.{times_named, before, is_named, in_program_order, is_seen, last_written, byte_for, value_for, HasLoadValue, Ztso}
 use Rattle.ztso_axioms.specs.Performed.{places_of, is_store_of, store_places, performed_by, performed_after, left_below, hart_bound, order}
@@ -275,10 +276,10 @@ order-values B o es legal q a width v is = at (slice_get es q) refl is
         what.1 ∙ ap (λ h. read o us h a width) (sym mine)
         ∙ joined-same (λ i. read_byte o us (hart_at es q) (a + i)) (λ i. byte_for o es (performed_order es) q (a + i)) width (λ i lt. sym (byte_of_read B o es us e ws q (a + i) legal split len what.0 reads))
 
--- a legal trace with paths satisfies the axioms in the order in which it performed
-pub kept-ztso : (B M : ℕ) (t : History) → Kept B M t → Ztso t (order t)
-kept-ztso B M t kept = record {
+-- a legal trace satisfies the axioms in the order in which it performed
+pub legal-ztso : (B : ℕ) (t : History) → Legal B t → Ztso t (order t)
+legal-ztso B t legal = record {
   operations = order-once t.entries;
-  program_order = order-program B t.opening t.entries kept.legal;
-  load_values = order-values B t.opening t.entries kept.legal;
+  program_order = order-program B t.opening t.entries legal;
+  load_values = order-values B t.opening t.entries legal;
 }

@@ -7,7 +7,7 @@ ghost use Rattle.ztso_axioms.specs.Operations.{written_at, hart_at};
 ghost use Rattle.ztso_axioms.specs.Axioms.{times_named, is_barrier, is_fenced, is_preserved, in_program_order, is_seen, byte_for, value_for, NamesEachOnce, KeepsProgramOrder, HasLoadValue, Ztso};
 
 use crate::operation::{
-    Op, entry_at, hart_named, hart_of_entry, is_memory_operation, is_plain_load, is_plain_store,
+    Op, entry_at, hart_named, is_memory_operation, is_plain_load, is_plain_store,
     byte_at, byte_named, orders, value_read,
 };
 use step_machine::{Entry, Opening, Trace};
@@ -76,7 +76,7 @@ fn may_precede(entries: &[Entry], op: Op, others: &[Op]) -> bool
     let Some(entry) = entry_at(entries, op) else {
         return true;
     };
-    let barrier = last_barrier(&entries[..place], hart_of_entry(entry));
+    let barrier = last_barrier(&entries[..place], entry.hart());
     for other in others {
         if is_kept(entries, *other, op, barrier) {
             return false;

@@ -2,7 +2,6 @@
 
 ghost use Rattle.std.specs.Prelude.{◌≡◌, ℕ, slice_get};
 ghost use Rattle.std.specs.Int.{byte_at};
-ghost use Rattle.step_machine.specs.Entries.{hart_of};
 ghost use Rattle.ztso_axioms.specs.Operations.{is_load, is_store, is_operation, read_of, byte_in, written_to, hart_at, written_at};
 ghost use Rattle.ztso_axioms.specs.Axioms.{is_barrier};
 
@@ -31,31 +30,12 @@ pub(crate) fn entry_at(entries: &[Entry], op: Op) -> Option<Entry>
     entries.get(op.place).copied()
 }
 
-/// The hart that made an entry.
-pub(crate) fn hart_of_entry(entry: Entry) -> u32
-    ensures { result ≡ hart_of entry }
-{
-    match entry {
-        Entry::Inner { hart } => hart,
-        Entry::Load { hart, .. } => hart,
-        Entry::Store { hart, .. } => hart,
-        Entry::Amo { hart, .. } => hart,
-        Entry::Fence { hart, .. } => hart,
-        Entry::Next { hart, .. } => hart,
-        Entry::Took { hart, .. } => hart,
-        Entry::Closed { hart, .. } => hart,
-        Entry::Ended { hart } => hart,
-        Entry::Stopped { hart, .. } => hart,
-        Entry::Land { hart } => hart,
-    }
-}
-
 /// The hart of the entry that an operation names.
 pub(crate) fn hart_named(entries: &[Entry], op: Op) -> u32
     ensures { result ≡ hart_at entries.now op }
 {
     match entry_at(entries, op) {
-        Some(entry) => hart_of_entry(entry),
+        Some(entry) => entry.hart(),
         None => 0,
     }
 }

@@ -7,7 +7,7 @@ use Rattle.step_machine.specs.History.{History, FitsIn}
 use Rattle.step_machine.specs.Legal.{Kept}
 use Rattle.step_machine.specs.Entries.{pending, landed, memory_byte, reported}
 use Rattle.step_machine.specs.Paths.{opens_as, state_of}
-use Rattle.step_machine.specs.Config.{Config, Fit, AllHaveRoom, first_of, buffer_of}
+use Rattle.step_machine.specs.inner.Config.{Config, Fit, AllHaveRoom, first_of, buffer_of}
 
 abbrev pub view_state : HartView → HartState
 view_state v = v.state
