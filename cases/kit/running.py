@@ -84,9 +84,9 @@ def command(program, case):
     return ["/bin/sh", "-c", f'{front}exec "$0" "$@"{behind}', *words] if front or behind else words
 
 
-def device(stream, mode):
-    """The open device that a stream is, or None."""
-    return open(stream.device, mode) if stream.device not in (None, "closed") else None
+def device(stream, flags):
+    """The open device that a stream is, or None. It may be a folder too."""
+    return os.open(stream.device, flags) if stream.device not in (None, "closed") else None
 
 
 def run(program, case, folder, variables=None):
@@ -104,13 +104,13 @@ def run(program, case, folder, variables=None):
 def run_in(program, case, inside, variables):
     for name, content in case.folder_files().items():
         Path(inside, name).write_bytes(content)
-    given, taken = device(case.stdin, "rb"), device(case.stdout, "wb")
+    given, taken = device(case.stdin, os.O_RDONLY), device(case.stdout, os.O_WRONLY)
     try:
         done = subprocess.run(
             command(program, case),
-            **({"stdin": given or subprocess.DEVNULL} if case.stdin.device
+            **({"stdin": subprocess.DEVNULL if given is None else given} if case.stdin.device
                else {"input": case.stdin.content()}),
-            stdout=taken or subprocess.PIPE,
+            stdout=subprocess.PIPE if taken is None else taken,
             stderr=subprocess.PIPE,
             cwd=inside,
             timeout=SECONDS,
@@ -118,8 +118,8 @@ def run_in(program, case, inside, variables):
         )
     finally:
         for opened in (given, taken):
-            if opened:
-                opened.close()
+            if opened is not None:
+                os.close(opened)
     return done.returncode, done.stderr, done.stdout or b""
 
 
