@@ -1,11 +1,10 @@
 -- A text is one list of plain words, and the text of an instruction is its plain word.
-use Rattle.std.proofs.Common.{◌≡◌, ◌↔◌, ℕ, ◌^◌, ◌<◌, List, [], ◌∷◌, ◌++◌, map, Option, Some, None, Ok, refl, sym, ap, subst, ◌∙◌}
+use Rattle.std.proofs.Common.{◌≡◌, ◌↔◌, ℕ, ◌^◌, ◌<◌, List, [], ◌∷◌, ◌++◌, map, Option, Some, refl, sym, subst}
 use Rattle.std.specs.Prelude.{IfSome}
 use Rattle.std.specs.List.{All}
 use Rattle.std.specs.Result.{IsErr}
 use Rattle.std.proofs.lemmas.List.Elements.{All-head, All-tail, All-cons, All-nil}
 use Rattle.texts.proofs.ResultLaws.{refused_without}
-use Rattle.rv_decode.specs.Meaning.{meaning}
 use Rattle.rv_decode.specs.Means.{Means}
 use Rattle.rv_decode.specs.Fits.{Fits, HasPlainFence, IsPlainWord}
 use Rattle.rv_decode.proofs.Meanings.{meaning_of}

@@ -2,7 +2,6 @@
 use Rattle.std.proofs.Common.{◌≡◌, ◌↔◌, ℕ, ◌+◌, ◌-◌, ◌≤◌, List, length, Ok, arith}
 use Rattle.std.specs.Result.{IsErr}
 use Rattle.step_machine.specs.declared.events.Event.{Event}
-use Rattle.texts.specs.Results.{◌>>=◌}
 use Rattle.texts.proofs.ResultLaws.{bind_ok, refused_without}
 use Rattle.recorder.specs.Schedule.{IsTokensOf, IsScheduleOf}
 use Rattle.recorder.specs.Reading.{tokens_at, tokens_after, schedule_at}
