@@ -40,7 +40,7 @@ mod writer;
 pub use assembling::assemble;
 pub use draft::Draft;
 pub use faults::{AsmError, AsmFault};
-pub use tables::register_named;
+pub use rv_decode::register_named;
 pub use writer::write_instr;
 
 #[cfg(test)]
