@@ -1,4 +1,3 @@
-pub mod TableLaws
 pub mod LineLaws
 pub mod PlaceLaws
 pub mod DraftLaws

@@ -1,10 +1,9 @@
 -- Operands that stand for themselves between commas.
-use Rattle.std.proofs.Common.{◌≡◌, ℕ, ◌<◌, List, [], ◌∷◌, ◌++◌, length, Some, refl, ap}
+use Rattle.std.proofs.Common.{◌≡◌, ℕ, ◌<◌, List, [], ◌∷◌, ◌++◌, length, Some, refl}
 use Rattle.texts.specs.Pieces.{is_blank}
 use Rattle.texts.specs.Cutting.{is_byte}
 use Rattle.texts.proofs.SplitLaws.{split_none, split_stop}
 use Rattle.assembler.specs.Lines.{between_commas}
-
 -- laws of texts, by the names under which the crates above know them
 pub use Rattle.texts.proofs.SolidLaws.{NonePass, none-append, before_none, after_none, before_stop, after_stop, front_solid, onto_some, end_append, trimmed_solid, trimmed_ends, one_line, decimal_none, not_byte, not_low_byte, digit_no_blank}
 
@@ -13,9 +12,6 @@ pub record IsOperand (xs : List ℕ) : Type 0 where
   pub commas : NonePass (is_byte 44) xs
   pub blanks : NonePass is_blank xs
   pub some : 0 < length xs
-
-pub one_between : (a : List ℕ) → IsOperand a → between_commas (Some a) ≡ a ∷ []
-one_between a h = rw (split_none (is_byte 44) a h.commas) (ap (λ x. x ∷ []) (trimmed_solid a h.blanks))
 
 pub two_between : (a b : List ℕ) → IsOperand a → IsOperand b → between_commas (Some (a ++ 44 ∷ b)) ≡ a ∷ b ∷ []
 two_between a b h k = rw (split_stop (is_byte 44) a 44 b h.commas refl, split_none (is_byte 44) b k.commas, trimmed_solid a h.blanks, trimmed_solid b k.blanks) refl

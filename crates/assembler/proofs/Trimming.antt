@@ -7,9 +7,9 @@ use Rattle.texts.specs.Pieces.{is_blank}
 use Rattle.texts.specs.Cutting.{is_byte, without_front, without_end, onto_kept, trimmed}
 use Rattle.texts.proofs.SolidLaws.{NonePass, none-append}
 use Rattle.texts.proofs.SplitLaws.{split_cut, split_none, split_stop}
-use Rattle.assembler.specs.Spelled.{AreBlanks, IsPadded, AreListed}
+use Rattle.texts.specs.Padding.{AreBlanks, IsPadded}
+use Rattle.assembler.specs.Spelled.{AreListed}
 use Rattle.assembler.specs.Spelled.AreListed.{last, more}
-
 -- laws of texts, by the names under which the crates above know them
 pub use Rattle.texts.proofs.TrimLaws.{blanks-append, front_past, trimmed_padded, trimmed_blanks, front_split, end_split, padded_trimmed, padded_twice, cut_whole, cut_byte, uncut, before_passes_not, trimmed_end, trimmed_back}
 

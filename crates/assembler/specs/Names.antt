@@ -1,7 +1,6 @@
 -- The names of labels.
 use Rattle.std.specs.Prelude.{ℕ, ◌==◌, Bool, false, ◌&&◌, ◌||◌, List, [], ◌∷◌}
 use Rattle.std.specs.List.{list_all}
-
 pub use Rattle.texts.specs.Letters.{is_letter, is_digit}
 
 -- a letter, `_` or `.`

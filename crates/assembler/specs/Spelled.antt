@@ -4,11 +4,10 @@ use Rattle.std.specs.List.{Contains}
 use Rattle.texts.specs.Numbers.{Says, SaysInHex}
 use Rattle.rv_decode.specs.Fits.{IsEven}
 use Rattle.rv_decode.specs.declared.instruction.Reg.{Reg}
-use Rattle.assembler.specs.Registers.{register_names}
+use Rattle.rv_decode.specs.Registers.{register_names}
 use Rattle.assembler.specs.Sets.{set_names}
 use Rattle.assembler.specs.Names.{is_name}
 use Rattle.assembler.specs.Operands.{Target, bytes, label}
-
 -- blanks, and a core with blanks round it, are words of texts
 pub use Rattle.texts.specs.Padding.{AreBlanks, IsPadded}
 

@@ -1,7 +1,7 @@
 //! Names and what they stand for: mnemonics and the sets of a fence.
 
 ghost use Rattle.std.specs.Prelude.{◌≡◌, ◌<◌, ◌^◌, IfSome};
-ghost use Rattle.assembler.specs.Tables.{row_of};
+ghost use Rattle.rv_decode.specs.Tables.{row_of};
 ghost use Rattle.assembler.specs.Sets.{set_named};
 ghost use Rattle.assembler.specs.Mnemonics.{form_named};
 
@@ -27,7 +27,7 @@ pub fn form_named(text: &[u8]) -> Option<Form>
 }
 
 /// The number of the set of accesses, in the letters of a fence; `None` for other texts.
-#[tactic(auto, using(crate::proofs::TableLaws::row_below), unfolding(crate::specs::Sets::set_named))]
+#[tactic(auto, using(rv_decode::proofs::TableLaws::row_below), unfolding(crate::specs::Sets::set_named))]
 pub fn set_named(text: &[u8]) -> Option<u8>
     ensures value { result ≡ set_named text.now }
     ensures small { IfSome result (λ set. set < 2 ^ 4) }
