@@ -1,6 +1,5 @@
 pub mod Faults
 pub mod Input
-pub mod Output
 pub mod Words
 pub mod LineFaults
 pub mod Code
@@ -15,9 +14,10 @@ pub mod Asm
 pub mod Dis
 pub mod Tests
 pub mod Schedules
+pub mod Histories
 pub mod Run
 pub mod EntryText
 pub mod Replay
 pub mod Trials
 pub mod Outcomes
-pub mod Tallies
+pub mod inner
