@@ -25,3 +25,4 @@ pub mod OutcomeLaws
 pub mod OneText
 mod ListTexts
 pub mod OneAnswer
+pub mod ScheduleTexts

@@ -5,7 +5,6 @@ pub mod LineFaults
 pub mod Code
 pub mod Told
 pub mod StepsText
-pub mod Lists
 pub mod StepsReading
 pub mod StateText
 pub mod Engines
@@ -21,3 +20,4 @@ pub mod Replay
 pub mod Trials
 pub mod Outcomes
 pub mod inner
+pub mod Lists

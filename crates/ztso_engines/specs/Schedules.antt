@@ -1,5 +1,5 @@
 -- Inputs that are schedules.
-use Rattle.std.specs.Prelude.{ℕ, ◌≡◌, List, Result, Ok, Err}
+use Rattle.std.specs.Prelude.{ℕ, ◌≡◌, List, Option, IsSomeAnd, Result, Ok, Err}
 use Rattle.step_machine.specs.declared.events.Event.{Event}
 use Rattle.recorder.specs.declared.faults.ScheduleError.{ScheduleError}
 use Rattle.recorder.specs.declared.faults.ScheduleError.TheVariants as error
@@ -26,8 +26,16 @@ fault_of_error (error.Refused fault place) = Refused (record { number = number_o
 unfoldable pub events_of : List ℕ → Result (List Event) Refusal
 events_of text = refused_at_byte (schedule_at text)
 
+-- The input is no schedule, for this reason.
+abbrev pub IsNoSchedule : List ℕ → Refusal → Type 0
+IsNoSchedule input refusal = judged events_of input ≡ Err refusal
+
+-- a reader's bytes are known, and refused as a schedule
+abbrev pub HasNoSchedule : (input : Option (List ℕ)) → Type 0
+HasNoSchedule input = IsSomeAnd input (λ bytes. (refusal : Refusal) × IsNoSchedule bytes refusal)
+
 -- What answers an input that is to be a schedule: what answers its events, else the refusal for its
 -- first fault.
 abbrev pub BySchedule : {A : Type 0} → (List Event → A → Type 0) → List ℕ → Result A Refusal → Type 0
 BySchedule IsAnswer input (Ok answer) = (events : List Event) × Accepted IsScheduleOf input events × IsAnswer events answer
-BySchedule IsAnswer input (Err refusal) = judged events_of input ≡ Err refusal
+BySchedule IsAnswer input (Err refusal) = IsNoSchedule input refusal

@@ -24,6 +24,8 @@ pub enum Place {
     Line(usize),
     /// A byte, counted from 0.
     Byte(usize),
+    /// A word of a sender's list, both counted from 0.
+    Word { sender: usize, place: usize },
 }
 
 impl fmt::Display for Place {
@@ -32,6 +34,7 @@ impl fmt::Display for Place {
             Place::Nowhere => Ok(()),
             Place::Line(line) => write!(f, " at line {line}"),
             Place::Byte(byte) => write!(f, " at byte {byte}"),
+            Place::Word { sender, place } => write!(f, " at sender {sender} place {place}"),
         }
     }
 }

@@ -6,11 +6,14 @@ ghost use Rattle.ztso_engines.specs.Faults.{Answers};
 ghost use Rattle.ztso_engines.specs.Engines.{judged};
 ghost use Rattle.ztso_engines.specs.LineFaults.{number_in, at_line};
 ghost use Rattle.ztso_engines.specs.Lists.{list_of as list_said, lists_at};
+ghost use Rattle.ztso_engines.specs.inner.Making.{FindsBy};
+ghost use Rattle.ztso_engines.specs.inner.Inputs.{IsReadAsLists};
 
 use crate::fault::Fault;
-use crate::input::text_of;
+use crate::input::{read_input, text_of};
 use crate::line_fault::{BAD, LineFault};
 use std::alloc::Global;
+use std::io::Read;
 use texts::{Separators, first_line, first_piece, word};
 
 /// The words of a line.
@@ -60,9 +63,17 @@ fn lists_of_text(alloc: Global, text: &[u8]) -> Result<Vec<Vec<u32>>, Fault>
 
 /// The lists of an input.
 #[tactic(auto, using(crate::proofs::Judging::judged_text, crate::proofs::Judging::judged_no_text))]
-pub fn lists_of_input(alloc: Global, input: &[u8]) -> Result<Vec<Vec<u32>>, Fault>
+fn lists_of_input(alloc: Global, input: &[u8]) -> Result<Vec<Vec<u32>>, Fault>
     requires { length input.now ≤ 1048576 }
     ensures { Answers (λ lists. map (λ list. list.items) lists.items) result (judged lists_at input.now) }
 {
     lists_of_text(alloc, text_of(input)?.as_bytes())
+}
+
+/// The lists of the input that a reader gives.
+pub fn read_lists<R: Read>(alloc: Global, reader: &mut R) -> Result<Vec<Vec<u32>>, Fault>
+    ensures { FindsBy IsReadAsLists (λ lists. map (λ list. list.items) lists.items) (R.remaining reader.old) result }
+{
+    let input = read_input(alloc, reader)?;
+    lists_of_input(alloc, &input)
 }

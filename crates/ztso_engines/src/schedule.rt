@@ -1,10 +1,10 @@
 //! Inputs that are schedules.
 
-ghost use Rattle.std.specs.Prelude.{◌≡◌, ◌≤◌, IfOk, vec_len};
+ghost use Rattle.std.specs.Prelude.{◌≡◌, ◌≤◌, IfOk, IsErr, vec_len};
 ghost use Rattle.recorder.specs.Schedule.{IsScheduleOf};
 ghost use Rattle.ztso_engines.specs.Faults.{Answers};
 ghost use Rattle.ztso_engines.specs.Engines.{Accepted, judged};
-ghost use Rattle.ztso_engines.specs.Schedules.{fault_of_error, events_of as events_said};
+ghost use Rattle.ztso_engines.specs.Schedules.{fault_of_error, events_of as events_said, HasNoSchedule};
 ghost use Rattle.ztso_engines.specs.inner.Making.{FindsBy};
 ghost use Rattle.ztso_engines.specs.inner.Inputs.{IsReadAsSchedule};
 
@@ -52,7 +52,8 @@ fn events_of_input(alloc: Global, input: Vec<u8>) -> Result<Vec<Event>, Fault>
 
 /// The events of the schedule that a reader gives.
 pub fn read_events<R: Read>(alloc: Global, reader: &mut R) -> Result<Vec<Event>, Fault>
-    ensures { FindsBy IsReadAsSchedule (λ events. events.items) (R.remaining reader.old) result }
+    ensures events { FindsBy IsReadAsSchedule (λ events. events.items) (R.remaining reader.old) result }
+    ensures refused { HasNoSchedule (R.remaining reader.old) → IsErr result }
 {
     let input = read_input(alloc, reader)?;
     events_of_input(alloc, input)

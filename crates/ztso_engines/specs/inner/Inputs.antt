@@ -1,4 +1,4 @@
--- What a litmus text and a schedule are read as.
+-- What inputs are read as: litmus texts, schedules and lists.
 use Rattle.std.specs.Prelude.{ℕ, ◌≡◌, List, Result, Ok, Err}
 use Rattle.step_machine.specs.History.{History}
 use Rattle.step_machine.specs.declared.events.Event.{Event}
@@ -9,6 +9,7 @@ use Rattle.ztso_engines.specs.declared.fault.Refusal.{Refusal}
 use Rattle.ztso_engines.specs.Engines.{Accepted, judged}
 use Rattle.ztso_engines.specs.Tests.{IsNoTest}
 use Rattle.ztso_engines.specs.Schedules.{events_of}
+use Rattle.ztso_engines.specs.Lists.{SaysLists, lists_at}
 
 -- the input's test, or why it has none
 abbrev pub IsReadAsTest : List ℕ → Result Question Refusal → Type 0
@@ -23,3 +24,8 @@ IsReadAsSchedule input (Err refusal) = judged events_of input ≡ Err refusal
 -- a test with its history, told as they are
 abbrev pub IsItself : Question → History → Question × History → Type 0
 IsItself question history told = told ≡ (question, history)
+
+-- the input's lists, or why it says none
+abbrev pub IsReadAsLists : List ℕ → Result (List (List ℕ)) Refusal → Type 0
+IsReadAsLists input (Ok lists) = Accepted SaysLists input lists
+IsReadAsLists input (Err refusal) = judged lists_at input ≡ Err refusal
