@@ -63,6 +63,11 @@ class Case:
         """The status, standard error and standard output that must come back."""
         return self.status, self.stderr, self.stdout.content()
 
+    def needs_shell(self):
+        """Whether a shell sets the case up: it limits memory, or closes a stream."""
+        closed = "closed" in (self.stdin.device, self.stdout.device)
+        return closed or self.memory is not None
+
     def group(self):
         return "litmus" if self.path.suffix == ".expected" else self.path.stem
 
@@ -124,9 +129,11 @@ class Reader:
                 while not self.lines[case.end - 1]:
                     case.end -= 1
         for case in found:
+            self.at = case.line
             if case.words is None:
-                self.at = case.line
                 raise self.refused(f"{case.name} has no line `$ ztso ..`")
+            if case.each_allocation is not None and case.needs_shell():
+                raise self.refused(f"{case.name} is run by a shell, whose allocations aren't to be refused")
         return found
 
     def opened(self, name, before):

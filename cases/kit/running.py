@@ -80,8 +80,9 @@ def redirections(case):
 def command(program, case):
     """The words of the command, behind a shell where the case limits memory or closes a stream."""
     words = [os.fsencode(program), *case.words]
-    front, behind = shell_front(case), redirections(case)
-    return ["/bin/sh", "-c", f'{front}exec "$0" "$@"{behind}', *words] if front or behind else words
+    if not case.needs_shell():
+        return words
+    return ["/bin/sh", "-c", f'{shell_front(case)}exec "$0" "$@"{redirections(case)}', *words]
 
 
 def device(stream, flags):

@@ -218,11 +218,11 @@ class Reader:
         return row
 
     def first_row(self, begin, row):
+        if len(row) > HARTS:
+            raise self.fault(MANY, begin)
         for hart, cell in enumerate(row):
             if cell.strip(BLANKS) != f"P{hart}":
                 raise self.fault(TABLE, begin)
-            if hart == HARTS:
-                raise self.fault(MANY, begin)
         self.test.codes = [[] for _ in row]
         self.labels = [{} for _ in row]
 

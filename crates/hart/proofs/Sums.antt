@@ -1,4 +1,5 @@
--- Sums of a register's word and a small number that are words without a remainder.
+-- A sum of a register's word and a small number that is a word without a remainder: for proofs about
+-- listings, in the crates above.
 use Rattle.std.proofs.Common.{ℕ, negsuc, pos, ◌+◌, ◌-◌, ◌^◌, ◌+ℤ◌, ◌<◌, ◌≤◌, ◌≡◌, refl, ◌∙◌, ap, arith}
 use Rattle.std.specs.Prelude.{unsigned_abs}
 use Rattle.std.proofs.lemmas.Int.{ints, int_rem_euclid_is}

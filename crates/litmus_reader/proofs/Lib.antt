@@ -1,4 +1,5 @@
 pub mod PartLaws
+pub mod LineLaws
 pub mod MarkLaws
 pub mod TableLaws
 pub mod NameLaws

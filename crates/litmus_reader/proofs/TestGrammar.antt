@@ -1,6 +1,7 @@
 -- What is answered of a text, and that it is one test, or refused.
 use Rattle.std.proofs.Common.{◌≡◌, ◌↔◌, ℕ, ◌+◌, List, [], ◌∷◌, map, All, Some, Result, Ok, Err, refl, sym, ap, subst, ◌∙◌}
 use Rattle.std.specs.Prelude.{IfOk, IfSome}
+use Rattle.std.specs.Result.{IsErr}
 use Rattle.std.proofs.lemmas.List.Elements.{All-head, All-tail}
 use Rattle.texts.specs.Results.{Gives}
 use Rattle.texts.proofs.ResultLaws.{ok_is}
@@ -32,20 +33,20 @@ same_start a b code same =
     rw (code, registers, inbox) refl
 
 -- harts of the same instructions have the same words
-same_harts : (names : Names) (puts : List Put) (rows : List Cells) (hart : ℕ) (as bs : List HartStart) → AreHarts names puts rows hart (map hart_content as) → All HasPlainCode as → All HasPlainCode bs → map hart_content as ≡ map hart_content bs → as ≡ bs
+same_harts : (names : Names) (puts : List Put) (rows : List Cells) (hart : ℕ) (xs ys : List HartStart) → AreHarts names puts rows hart (map hart_content xs) → All HasPlainCode xs → All HasPlainCode ys → map hart_content xs ≡ map hart_content ys → xs ≡ ys
 same_harts names puts rows hart [] [] are p q same = refl
-same_harts names puts rows hart [] (b ∷ bs) are p q same = absurd cc
-same_harts names puts rows hart (a ∷ as) [] are p q same = absurd cc
-same_harts names puts rows hart (a ∷ as) (b ∷ bs) are p q same =
-    let first : hart_content a ≡ hart_content b = cc in
-    let rest : map hart_content as ≡ map hart_content bs = cc in
+same_harts names puts rows hart [] (y ∷ ys) are p q same = absurd cc
+same_harts names puts rows hart (x ∷ xs) [] are p q same = absurd cc
+same_harts names puts rows hart (x ∷ xs) (y ∷ ys) are p q same =
+    let first : hart_content x ≡ hart_content y = cc in
+    let rest : map hart_content xs ≡ map hart_content ys = cc in
     let instrs = are.0.1 in
     let meant = are.0.4 in
-    let code = one_code a.code b.code instrs (All-head HasPlainCode a as p) (All-head HasPlainCode b bs q) meant (sym (ap (λ (h : HartContent). h.code) first) ∙ meant) in
-    rw (same_start a b code first, same_harts names puts rows (hart + 1) as bs are.3 (All-tail HasPlainCode a as p) (All-tail HasPlainCode b bs q) rest) refl
+    let code = one_code x.code y.code instrs (All-head HasPlainCode x xs p) (All-head HasPlainCode y ys q) meant (sym (ap (λ (h : HartContent). h.code) first) ∙ meant) in
+    rw (same_start x y code first, same_harts names puts rows (hart + 1) xs ys are.3 (All-tail HasPlainCode x xs p) (All-tail HasPlainCode y ys q) rest) refl
 
-same_question : (as bs : List HartStart) (words others : List ℕ) (names more : Names) (q r : Quantifier) (f g : Formula) → as ≡ bs → words ≡ others → names ≡ more → q ≡ r → f ≡ g → question_of as words names q f ≡ question_of bs others more r g
-same_question as bs words others names more q r f g a b c d e = rw (a, b, c, d, e) refl
+same_question : (xs ys : List HartStart) (words others : List ℕ) (names more : Names) (q r : Quantifier) (f g : Formula) → xs ≡ ys → words ≡ others → names ≡ more → q ≡ r → f ≡ g → question_of xs words names q f ≡ question_of ys others more r g
+same_question xs ys words others names more q r f g a b c d e = rw (a, b, c, d, e) refl
 
 pub one_test : (text : List ℕ) (a b : Question) → IsTestOf text a → IsTestOf text b → a ≡ b
 unfolding IsTestOf
@@ -74,9 +75,9 @@ only_test text question (Err (Refused fault line)) e plain is = absurd (let read
 pub read_exactly : (text : List ℕ) (whole : Content) → (test_at text ≡ Ok whole) ↔ IsContent text whole
 read_exactly text whole = (content_found text whole, content_only text whole)
 
-refused_of : (text : List ℕ) (r : Result Content LitmusFault) → test_at text ≡ r → ((whole : Content) → ¬ IsContent text whole) → (fault : LitmusFault) × (test_at text ≡ Err fault)
-refused_of text (Ok whole) e none = absurd (none whole (content_found text whole e))
-refused_of text (Err fault) e none = (fault, e)
+refused_of : (text : List ℕ) (r : Result Content LitmusFault) → test_at text ≡ r → IsErr r ↔ ((whole : Content) → ¬ IsContent text whole)
+refused_of text (Ok whole) e = (λ refused. absurd cc, λ none. absurd (none whole (content_found text whole e)))
+refused_of text (Err fault) e = (λ refused. λ whole is. let read = content_only text whole is in cc, λ none. refl)
 
-pub refused_exactly : (text : List ℕ) → ((fault : LitmusFault) × (test_at text ≡ Err fault)) ↔ ((whole : Content) → ¬ IsContent text whole)
-refused_exactly text = (λ refused. λ whole is. let read = content_only text whole is in let no = refused.1 in absurd cc, refused_of text (test_at text) refl)
+pub refused_exactly : (text : List ℕ) → IsErr (test_at text) ↔ ((whole : Content) → ¬ IsContent text whole)
+refused_exactly text = refused_of text (test_at text) refl

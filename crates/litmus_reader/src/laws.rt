@@ -1,8 +1,8 @@
 //! What the definitions say of one another.
 
-ghost use Rattle.std.specs.Prelude.{◌≡◌, ◌↔◌, ℕ, List, Ok, Err};
+ghost use Rattle.std.specs.Prelude.{◌≡◌, ◌↔◌, ℕ, List, Ok};
+ghost use Rattle.std.specs.Result.{IsErr};
 ghost use Rattle.litmus.specs.Questions.{Question};
-ghost use Rattle.litmus_reader.specs.declared.faults.LitmusFault.{LitmusFault};
 ghost use Rattle.litmus_reader.specs.Reading.{Content, test_at};
 ghost use Rattle.litmus_reader.specs.Grammar.{IsContent, IsTestOf};
 
@@ -12,9 +12,9 @@ pub fn one_test()
     ensures tests { (text : List ℕ) (a b : Question) → IsTestOf text a → IsTestOf text b → a ≡ b }
 {}
 
-/// The reading from the top answers what a text stands for, and names a fault exactly where it stands
+/// Reading a text from the top answers what it stands for, and names a fault exactly where it stands
 /// for nothing. It does nothing.
-pub fn read_or_refused()
-    ensures read { (text : List ℕ) (whole : Content) → (test_at text ≡ Ok whole) ↔ IsContent text whole }
-    ensures refused { (text : List ℕ) → ((fault : LitmusFault) × (test_at text ≡ Err fault)) ↔ ((whole : Content) → ¬ IsContent text whole) }
+pub fn refused_without_value()
+    ensures read { (text : List ℕ) (content : Content) → (test_at text ≡ Ok content) ↔ IsContent text content }
+    ensures refused { (text : List ℕ) → IsErr (test_at text) ↔ ((content : Content) → ¬ IsContent text content) }
 {}

@@ -118,13 +118,23 @@ mod tests {
     #[test]
     fn stores_land_in_their_order(rt: HostRuntime) {
         let mut buffer = StoreBuffer::<4>::new();
-        buffer.push(0, 4, 1);
+        buffer.push(0, 4, 258);
         buffer.push(8, 4, 2);
-        buffer.push(0, 4, 3);
+        buffer.push(1, 1, 3);
         assert_eq!(rt; buffer.len(), 3);
-        assert_eq!(rt; buffer.newest(0), Some(3));
+        assert_eq!(rt; buffer.as_slice().len(), 3);
+        assert_eq!(rt; buffer.newest(0), Some(2));
+        assert_eq!(rt; buffer.newest(1), Some(3));
         assert_eq!(rt; buffer.newest(4), None);
-        assert_eq!(rt; buffer.land(), Some(Write { addr: 0, width: 4, value: 1 }));
+        assert_eq!(rt; buffer.over(2, 5), 770);
+        let oldest = Write {
+            addr: 0,
+            width: 4,
+            value: 258,
+        };
+        assert_eq!(rt; buffer.land(), Some(oldest));
+        assert!(rt; oldest.covers(3) && !oldest.covers(4));
+        assert_eq!(rt; (oldest.byte(1), oldest.over(7)), (1, 258));
         assert!(rt; !buffer.is_empty());
         buffer.clear();
         assert!(rt; buffer.is_empty());

@@ -104,6 +104,7 @@ impl<const M: usize> Memory<M> {
 #[cfg(test)]
 mod tests {
     use super::Memory;
+    use crate::writes::part;
     use std::test::Fail;
 
     #[test]
@@ -114,6 +115,9 @@ mod tests {
         memory.store(12, 5);
         assert_eq!(rt; memory.words(), [7, 9, 0, 5].as_slice());
         assert_eq!(rt; memory.load(4), 9);
+        memory.store_bytes(6, 2, 258);
+        assert_eq!(rt; (memory.load(4), memory.load_byte(6)), (16908297, 2));
+        assert_eq!(rt; part(memory.load(4), 6, 2), 258);
         for addr in [4, 12, 16] {
             memory.restore(addr, &[7, 8]);
         }

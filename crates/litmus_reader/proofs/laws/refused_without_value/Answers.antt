@@ -1,5 +1,5 @@
 use Rattle.litmus_reader.proofs.TestGrammar as grammar
-use Rattle.litmus_reader.proofs.laws.read_or_refused.Goals as goal
+use Rattle.litmus_reader.proofs.laws.refused_without_value.Goals as goal
 
 pub returns-clause-read : goal.returns-clause-read
 returns-clause-read c = grammar.read_exactly
