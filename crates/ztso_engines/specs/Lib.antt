@@ -20,3 +20,5 @@ pub mod Replay
 pub mod Trials
 pub mod Outcomes
 pub mod Tallies
+pub mod Sessions
+pub mod Walks
