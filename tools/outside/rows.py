@@ -37,6 +37,11 @@ AMO_SUMS = ("amoswap.w", "amoadd.w")
 AMO_BITWISE = ("amoxor.w", "amoand.w", "amoor.w")
 AMO_BOUNDS = ("amomin.w", "amomax.w", "amominu.w", "amomaxu.w")
 ORDERS = (".aq", ".rl", ".aqrl")
+# bytes of an access
+LOADS = {"lb": 1, "lh": 2, "lw": 4, "lbu": 1, "lhu": 2}
+STORES = {"sb": 1, "sh": 2, "sw": 4}
+# its bytes, and its halfwords, have the sign bit and not
+SIGNS = (0x80ff_7f01, 0x7f80_ff00)
 
 
 @dataclass
@@ -62,7 +67,7 @@ class Row:
 
     @property
     def is_store(self):
-        return self.text.startswith("sw ")
+        return self.text.split()[0] in STORES
 
 
 # Taken three at a time, each register but x0 comes at each place.
@@ -167,6 +172,32 @@ def load_and_store_rows():
     yield Row("sw x0, -12(x8)", {}, base=8, offset=-12, word=ONES)
 
 
+def byte_and_halfword_rows():
+    """Each place of a word, with and without the sign bit; x0 as the destination, the source and the
+    base; and a base that is the destination or the source."""
+    for name, width in LOADS.items():
+        if width < 4:
+            for word, place in itertools.product(SIGNS, range(0, 4, width)):
+                yield access_row(name, *take(2), 0, place, word)
+            d, a = take(2)
+            for places, offset in (((0, a), 4), ((a, a), -8), ((d, a), 2044), ((d, a), -2048)):
+                yield access_row(name, *places, offset, 4 - width, SIGNS[0])
+    for name, width in STORES.items():
+        if width < 4:
+            for place in range(0, 4, width):
+                yield access_row(name, *take(2), 0, place, UNWRITTEN, 0xdead_beef)
+            s, a = take(2)
+            for places, offset in (((0, a), 4), ((a, a), -8), ((s, a), 2044), ((s, a), -2048)):
+                yield access_row(name, *places, offset, 4 - width, ONES, 0x1234_5678)
+
+
+def access_row(name, register, base, offset, place, word, value=None):
+    """A load or store of that byte or halfword of the row's word."""
+    registers = opening(register) if value is None else opening(0, (register, value))
+    return Row(f"{name} x{register}, {offset + place}(x{base})", registers, base=base, offset=offset,
+               word=word)
+
+
 def fence_rows():
     for sets in ("iorw, iorw", "rw, rw", "w, r", "r, w", "w, w", "r, r", "rw, w", "r, rw", "io, rw",
                  "i, o"):
@@ -198,7 +229,7 @@ def amo_rows(names):
 
 def random_row(draw):
     name = draw.choice([*OPERANDS, *IMMEDIATES, *IMMEDIATE_SHIFTS, *BRANCHES, *AMO_SUMS, *AMO_BITWISE,
-                        *AMO_BOUNDS, "lui", "auipc", "jal", "jalr", "lw", "sw"])
+                        *AMO_BOUNDS, "lui", "auipc", "jal", "jalr", *LOADS, *STORES])
     d, s = draw.randrange(32), draw.randrange(32)
     a, other = draw.sample(range(1, 32), 2)
     value, second, bystander = (draw.getrandbits(32) for _ in range(3))
@@ -220,10 +251,12 @@ def random_row(draw):
     elif name == "jalr":
         target = value // 4 * 4 + draw.randrange(2)
         row = Row(f"jalr x{d}, {immediate}(x{a})", opening(d, (a, (target - immediate) % 2**32)))
-    elif name == "lw":
-        row = Row(f"lw x{d}, {immediate}(x{a})", opening(d), base=a, offset=immediate, word=value)
-    elif name == "sw":
-        row = Row(f"sw x{s}, {immediate}(x{a})", opening(0, (s, value)), base=a, offset=immediate)
+    elif name in LOADS:
+        place = draw.randrange(0, 4, LOADS[name])
+        row = access_row(name, d, a, immediate // 4 * 4, place, value)
+    elif name in STORES:
+        place = draw.randrange(0, 4, STORES[name])
+        row = access_row(name, s, a, immediate // 4 * 4, place, second, value)
     else:
         row = amo_row(name + draw.choice(("", *ORDERS)), d, s, a, value, second)
     row.registers.setdefault(other, bystander)
@@ -243,6 +276,7 @@ def cases():
         "upper-immediates-and-jumps": [*upper_rows(), *jump_rows()],
         "branches": [*branch_rows()],
         "loads-and-stores": [*load_and_store_rows()],
+        "bytes-and-halfwords": [*byte_and_halfword_rows()],
         "fences": [*fence_rows()],
         "amo-swap-and-sum": [*amo_rows(AMO_SUMS)],
         "amo-bitwise": [*amo_rows(AMO_BITWISE)],

@@ -1,4 +1,5 @@
-"""The words at which a hart stops: those that no row of the machine's table has, and its sub-words.
+"""The words at which a hart stops: those that no row of the machine's table has, and accesses at
+addresses that aren't multiples of their size.
 
 Each is a text for the assembler with the extensions it needs, and why the machine stops there.
 """
@@ -6,7 +7,7 @@ Each is a text for the assembler with the extensions it needs, and why the machi
 from dataclasses import dataclass
 
 ILLEGAL = 8
-SUB_WORD = 10
+MISALIGNED = 9
 
 # extensions for the assembler, why the word isn't in the table, the instructions
 OTHER_EXTENSIONS = [
@@ -79,10 +80,10 @@ NO_INSTRUCTION = [
      (".word 0x00000000", ".word 0x00000001", ".word 0x00000002", ".word 0xfffffffc")),
 ]
 
-SUB_WORDS = [
-    ("rv32i", "a byte or a halfword: in the table, and not executed",
-     ("lb x5, 0(x6)", "lh x5, 2(x6)", "lbu x5, 1(x6)", "lhu x0, 0(x6)", "sb x5, 3(x6)",
-      "sh x5, 2(x6)", "lb x31, -2048(x30)", "sh x31, 2047(x1)")),
+MISALIGNED_ACCESSES = [
+    ("rv32i", "x6 is 8, so the address is no multiple of the access's size",
+     ("lh x5, 1(x6)", "lhu x0, 3(x6)", "lh x31, -1(x6)", "sh x5, 2047(x6)", "lw x5, 1(x6)",
+      "lw x5, 2(x6)", "sw x5, 3(x6)", "sw x5, -2(x6)")),
 ]
 
 
@@ -99,7 +100,7 @@ def cases():
     """The words of each case, by its name."""
     groups = {"illegal-in-other-extensions": (OTHER_EXTENSIONS, ILLEGAL),
               "illegal-by-their-fields": (NO_INSTRUCTION, ILLEGAL),
-              "sub-words": (SUB_WORDS, SUB_WORD)}
+              "misaligned": (MISALIGNED_ACCESSES, MISALIGNED)}
     return {name: [Stop(text, extensions, why, number)
                    for extensions, why, texts in families for text in texts]
             for name, (families, number) in groups.items()}

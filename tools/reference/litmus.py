@@ -75,8 +75,10 @@ def without_comments(text):
 
 def last_line(text):
     """The last line that holds more than its line end."""
-    text = re.sub(r"(\r?\n)+\Z", "", text)
-    return 1 + text.count("\n")
+    end = len(text)
+    while end and text[end - 1] == "\n":
+        end -= 2 if text[max(end - 2, 0):end] == "\r\n" else 1
+    return 1 + text.count("\n", 0, end)
 
 
 class Reader:
@@ -216,11 +218,11 @@ class Reader:
         return row
 
     def first_row(self, begin, row):
+        if len(row) > HARTS:
+            raise self.fault(MANY, begin)
         for hart, cell in enumerate(row):
             if cell.strip(BLANKS) != f"P{hart}":
                 raise self.fault(TABLE, begin)
-            if hart == HARTS:
-                raise self.fault(MANY, begin)
         self.test.codes = [[] for _ in row]
         self.labels = [{} for _ in row]
 

@@ -17,12 +17,13 @@ use Rattle.rv_decode.specs.declared.instruction.Reg.{Reg}
 use Rattle.assembler.specs.declared.faults.AsmFault.{AsmFault}
 use Rattle.assembler.specs.Names.{is_name, begins_name, goes_on_name}
 use Rattle.assembler.specs.Operands.{register_at, Target, bytes, label, is_even, is_reached, in_reach, IsReached, target_at, closed, opened, base_at, or_zero, offset_at}
-use Rattle.assembler.specs.Spelled.{AreBlanks, IsPadded, IsMagnitude, IsNumber, IsRegister, IsOffset, IsAddress, IsTarget}
+use Rattle.texts.specs.Padding.{AreBlanks, IsPadded}
+use Rattle.assembler.specs.Spelled.{IsMagnitude, IsNumber, IsRegister, IsOffset, IsAddress, IsTarget}
 use Rattle.assembler.specs.Spelled.IsMagnitude.{decimal, hex}
 use Rattle.assembler.specs.Spelled.IsNumber.{plain, negative}
 use Rattle.assembler.proofs.ReadAgain.{all_below, below_all}
-use Rattle.assembler.proofs.Plain.{NonePass, before_stop, after_stop, end_append}
-use Rattle.assembler.proofs.Trimming.{trimmed_padded, trimmed_blanks, padded_trimmed, blanks-append, cut_byte}
+use Rattle.texts.proofs.SolidLaws.{NonePass, before_stop, after_stop, end_append}
+use Rattle.texts.proofs.TrimLaws.{trimmed_padded, trimmed_blanks, padded_trimmed, blanks-append, cut_byte}
 use Rattle.assembler.proofs.Leaves.{is_word_byte, is_operand_byte, Reads, all_weaker, none_of_all, not_this, word_operand, word_trimmed, register_word, register_found, register_only, digit_low, number_found, number_only, number_word, not_less, IsWithin, from_found, from_only}
 
 -- ---- names

@@ -108,9 +108,6 @@ kept_more found after words all line kept defined fresh fits = record {
   once = once-push all line kept.once (fresh_apart all line.label fresh);
 }
 
-pub kept_same : (found after : List ℕ → Option ℕ) (words : ℕ) (all : List Line) → IsKept found words all → ((name : List ℕ) → after name ≡ found name) → IsKept after words all
-kept_same found after words all kept same = record { places = λ name. same name ∙ kept.places name; size = kept.size; fits = kept.fits; once = kept.once }
-
 size_le : (made : Option Made) → size_of made ≤ 2
 size_le None = omega arith
 size_le (Some (one i)) = omega arith

@@ -17,16 +17,16 @@ use Rattle.rv_decode.proofs.Meanings.{reg_of_number}
 use Rattle.rv_decode.specs.declared.instruction.Reg.{Reg}
 use Rattle.assembler.specs.declared.faults.AsmFault.{AsmFault}
 use Rattle.assembler.specs.declared.faults.AsmFault.TheVariants.{OutOfRange}
-use Rattle.assembler.specs.Registers.{register_names, register_named}
+use Rattle.rv_decode.specs.Registers.{register_names, register_named}
 use Rattle.assembler.specs.Sets.{set_names, set_named}
 use Rattle.assembler.specs.Names.{goes_on_name}
 use Rattle.assembler.specs.Operands.{register_at, known_register, in_range, number_at, up_to, natural_at, set_at}
 use Rattle.assembler.specs.Spelled.{IsMagnitude, IsNumber, IsNumberFrom, IsNumberUpTo, IsRegister, IsSet}
 use Rattle.assembler.specs.Spelled.IsMagnitude.{decimal, hex}
 use Rattle.assembler.specs.Spelled.IsNumber.{plain, negative}
-use Rattle.assembler.proofs.TableLaws.{row_below}
+use Rattle.rv_decode.proofs.TableLaws.{row_below}
 use Rattle.assembler.proofs.ReadAgain.{all_below, below_all}
-use Rattle.assembler.proofs.Plain.{NonePass, trimmed_solid}
+use Rattle.texts.proofs.SolidLaws.{NonePass, trimmed_solid}
 use Rattle.assembler.proofs.Rows.{found_in, are_apart, row_of_member, member_of_row, all_rows}
 
 -- a byte of a register, a number, a name or a set

@@ -1,4 +1,3 @@
-pub mod TableLaws
 pub mod LineLaws
 pub mod PlaceLaws
 pub mod DraftLaws
@@ -17,3 +16,4 @@ pub mod LineGrammar
 pub mod LabelLaws
 pub mod ProgramGrammar
 pub mod LoadingLaws
+pub mod OneCode

@@ -9,12 +9,12 @@ use Rattle.assembler.specs.Names.{is_name}
 use Rattle.assembler.specs.Statements.{Made}
 use Rattle.assembler.specs.Lines.{code_of, name_before, label_of, behind_label, statement_text, made_in}
 use Rattle.assembler.specs.Drafts.{Line}
-use Rattle.assembler.specs.Spelled.{AreBlanks}
+use Rattle.texts.specs.Padding.{AreBlanks}
 use Rattle.assembler.specs.Grammar.{IsBody, IsCode, IsLine}
 use Rattle.assembler.specs.Grammar.IsCode.{bare, labelled}
 use Rattle.assembler.specs.Grammar.IsLine.{code, commented}
-use Rattle.assembler.proofs.Plain.{NonePass, none-append, before_none, after_none, before_stop, after_stop, front_solid}
-use Rattle.assembler.proofs.Trimming.{front_past, front_split, cut_byte, uncut}
+use Rattle.texts.proofs.SolidLaws.{NonePass, none-append, before_none, after_none, before_stop, after_stop, front_solid}
+use Rattle.texts.proofs.TrimLaws.{front_past, front_split, cut_byte, uncut}
 use Rattle.assembler.proofs.Leaves.{is_word_byte, none_of_all, not_this, word_solid}
 use Rattle.assembler.proofs.Addresses.{name_word}
 use Rattle.assembler.proofs.StatementGrammar.{body_found, body_only, is_code_byte, blanks_code, body_code}

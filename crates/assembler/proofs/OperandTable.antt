@@ -14,7 +14,7 @@ use Rattle.rv_decode.specs.declared.instruction.Instr.TheVariants as instr
 use Rattle.assembler.specs.declared.faults.AsmFault.{AsmFault}
 use Rattle.assembler.specs.declared.form.Form.{Form}
 use Rattle.assembler.specs.declared.form.Form.TheVariants.{Lui, Auipc, Jal, Jalr, Branch, Load, Store, Immediate, Shift, Register, Fence, FenceTso, Ecall, Ebreak, Amo, Nop, Move, Invert, Negate, IsZero, IsNotZero, BranchZero, Jump, Return, LoadImmediate}
-use Rattle.assembler.specs.Registers.{register_named}
+use Rattle.rv_decode.specs.Registers.{register_named}
 use Rattle.assembler.specs.Sets.{set_named}
 use Rattle.assembler.specs.Operands.{register_at, number_at, natural_at, base_at, offset_at, target_at, set_at, nothing_at}
 use Rattle.assembler.specs.Statements.{Made, one, jump_to, branch_to, wrapped, loaded, statement_of}

@@ -1,25 +1,24 @@
 -- The operands that an instruction's text is made of, read again.
 use Rattle.std.proofs.Common.{◌≡◌, ℕ, zero, suc, ◌+◌, ◌^◌, ◌<◌, ◌≤◌, ◌==◌, Bool, true, false, ◌&&◌, List, [], ◌∷◌, ◌++◌, length, min, Option, Some, None, Ok, refl, ap, ◌∙◌, subst, arith, inl, inr, ℤ, pos, negsuc}
-use Rattle.std.specs.Prelude.{slice_index, option_map, nat_eq}
+use Rattle.std.specs.Prelude.{slice_index, option_map, nat_eq, neg_ℤ}
 use Rattle.std.specs.Fmt.{digits, decimal, signed_decimal}
 use Rattle.std.proofs.lemmas.Bool.{and_parts, and_right, le-ltb, lt-ltb, ne_eqb, eqb-true, cases_lt}
 use Rattle.std.proofs.lemmas.Fmt.{decimal_nonempty}
-use Rattle.std.specs.Prelude.{neg_ℤ}
 use Rattle.texts.specs.Pieces.{is_blank}
 use Rattle.texts.proofs.NumberLaws.{number_of-decimal}
 use Rattle.rv_decode.specs.Meaning.{reg_of}
 use Rattle.rv_decode.specs.Fits.{IsSigned, IsEven}
 use Rattle.rv_decode.proofs.Meanings.{reg_of_number}
 use Rattle.rv_decode.specs.declared.instruction.Reg.{Reg}
-use Rattle.assembler.specs.Tables.{row_of}
-use Rattle.assembler.specs.Registers.{register_names, register_named}
+use Rattle.rv_decode.specs.Tables.{row_of}
+use Rattle.rv_decode.specs.Registers.{register_names, register_named}
 use Rattle.texts.specs.Cutting.{is_byte, trimmed}
 use Rattle.assembler.specs.Names.{is_name, begins_name}
 use Rattle.texts.specs.Integers.{magnitude_of, integer_of}
 use Rattle.assembler.specs.Operands.{register_at, in_range, number_at, natural_at, base_at, offset_at, target_at, bytes, set_at, is_reached}
 use Rattle.assembler.specs.Sets.{set_named}
 use Rattle.assembler.specs.Writing.{register_text, address_text, set_text}
-use Rattle.assembler.proofs.Plain.{NonePass, before_stop, after_stop, trimmed_solid, decimal_none, not_byte, not_low_byte, digit_no_blank}
+use Rattle.texts.proofs.SolidLaws.{NonePass, before_stop, after_stop, trimmed_solid, decimal_none, not_byte, not_low_byte, digit_no_blank}
 use Rattle.std.proofs.lemmas.Int.{ints}
 
 -- ---- registers
@@ -117,8 +116,9 @@ signed_some (negsuc n) fits = omega arith
 pub register_none : (p : ℕ → Bool) → p 120 ≡ false → ((d : ℕ) → d < 10 → p (48 + d) ≡ false) → (r : Reg) → NonePass p (register_text r)
 register_none p x digit r = (x, decimal_none p digit r.number (omega arith))
 
-closed_register : (r : Reg) → base_at (Some (40 ∷ (register_text r ++ 41 ∷ []))) ≡ Ok r
-closed_register r =
+-- the register of `(rs1)`
+pub bare_base_read : (r : Reg) → base_at (Some (40 ∷ (register_text r ++ 41 ∷ []))) ≡ Ok r
+bare_base_read r =
     let no_close = register_none (is_byte 41) refl (λ d lt. not_low_byte 41 d (omega arith)) r in
     let no_blank = register_none is_blank refl (λ d lt. digit_no_blank d) r in
     rw (before_stop (is_byte 41) (register_text r) 41 [] no_close refl, after_stop (is_byte 41) (register_text r) 41 [] no_close refl, trimmed_solid (register_text r) no_blank, register_again r) refl
@@ -138,9 +138,6 @@ offset_read z r short fits =
     let no_blank = signed_none is_blank refl (λ d lt. digit_no_blank d) z fits in
     let some = signed_some z fits in
     rw (before_stop (is_byte 40) (signed_decimal z) 40 (register_text r ++ 41 ∷ []) open_none refl, trimmed_solid (signed_decimal z) no_blank, ne_eqb (length (signed_decimal z)) 0 (omega arith), integer_read_signed z fits) (in_short z short)
-
-pub bare_base_read : (r : Reg) → base_at (Some (40 ∷ (register_text r ++ 41 ∷ []))) ≡ Ok r
-bare_base_read r = closed_register r
 
 pub bare_offset_read : (r : Reg) → offset_at (pos 0) (pos 0) (Some (40 ∷ (register_text r ++ 41 ∷ []))) ≡ Ok (pos 0)
 unfolding trimmed

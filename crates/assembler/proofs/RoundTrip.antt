@@ -1,11 +1,11 @@
 -- The text of an instruction is assembled to it again.
-use Rattle.std.proofs.Common.{◌≡◌, ℕ, ◌^◌, ◌<◌, Bool, true, false, not, ◌&&◌, List, [], ◌∷◌, ◌++◌, length, Some, None, Ok, refl, ap, ◌∙◌, arith, ℤ}
+use Rattle.std.proofs.Common.{◌≡◌, ℕ, ◌^◌, ◌<◌, Bool, true, false, not, ◌&&◌, List, [], ◌∷◌, ◌++◌, length, Some, None, Ok, refl, ◌∙◌, arith, ℤ}
 use Rattle.std.specs.Prelude.{nat_lt, codes}
 use Rattle.std.proofs.lemmas.Int.{ints}
 use Rattle.rv_decode.specs.Fits.{Fits, IsSigned}
 use Rattle.std.specs.List.{list_all}
 use Rattle.std.specs.Fmt.{decimal, signed_decimal}
-use Rattle.std.proofs.lemmas.Bool.{ne_eqb, ltb-true}
+use Rattle.std.proofs.lemmas.Bool.{ne_eqb, ltb-true, and_parts}
 use Rattle.std.proofs.lemmas.Fmt.{decimal_nonempty}
 use Rattle.texts.specs.Pieces.{is_blank}
 use Rattle.rv_decode.specs.declared.instruction.Reg.{Reg}
@@ -19,7 +19,8 @@ use Rattle.assembler.specs.Statements.{one, statement_of}
 use Rattle.assembler.specs.Lines.{label_of, statement_text, made_in, made_for, between_commas, some_text}
 use Rattle.assembler.specs.Drafts.{assembled, told, line_below, finished}
 use Rattle.assembler.specs.Writing.{register_text, address_text, set_text, branch_name, load_name, store_name, immediate_name, shift_name, register_name, amo_name, order_name, with_two, with_three, text_of}
-use Rattle.assembler.proofs.Plain.{NonePass, none-append, before_none, after_none, before_stop, after_stop, trimmed_solid, trimmed_ends, one_line, IsOperand, two_between, three_between, decimal_none, not_byte, not_low_byte, digit_no_blank}
+use Rattle.texts.proofs.SolidLaws.{NonePass, none-append, before_none, after_none, before_stop, after_stop, trimmed_solid, trimmed_ends, one_line, decimal_none, not_byte, not_low_byte, digit_no_blank}
+use Rattle.assembler.proofs.Plain.{IsOperand, two_between, three_between}
 use Rattle.assembler.proofs.Named.{is_plain, is_word, IsNameOf, branch_named, load_named, store_named, immediate_named, shift_named, register_named, amo_named}
 use Rattle.assembler.proofs.ReadAgain.{all_below, below_all, register_read, short_read, natural_read, signed_none, signed_some, base_read, offset_read, bare_base_read, bare_offset_read, set_read, target_read_12, target_read_20}
 
@@ -102,11 +103,6 @@ assembled_text name ops i h k made = assembled_one (name ++ 32 ∷ ops) i (long 
     long [] = omega arith
     long (x ∷ xs) = omega arith
 
-and_split : (a b : Bool) → (a && b) ≡ true → (a ≡ true) × (b ≡ true)
-and_split true true e = (refl, refl)
-and_split true false e = absurd cc
-and_split false b e = absurd cc
-
 not_split : (a b : Bool) → (not a && b) ≡ true → (a ≡ false) × (b ≡ true)
 not_split true b e = absurd cc
 not_split false b e = (refl, e)
@@ -125,14 +121,14 @@ plain_split c e =
 plain_none : (xs : List ℕ) → list_all is_plain xs ≡ true → NonePass is_blank xs × NonePass (is_byte 10) xs × NonePass (is_byte 35) xs × NonePass (is_byte 58) xs
 plain_none [] e = (tt, tt, tt, tt)
 plain_none (x ∷ xs) e =
-    let both = and_split (is_plain x) (list_all is_plain xs) e in
+    let both = and_parts (is_plain x) (list_all is_plain xs) e in
     let here = plain_split x both.0 in
     let rest = plain_none xs both.1 in
     ((here.0, rest.0), (here.1, rest.1), (here.2, rest.2), (here.3, rest.3))
 
 word_of_test : (xs : List ℕ) → is_word xs ≡ true → IsWord xs
 word_of_test xs e =
-    let both = and_split (nat_lt 0 (length xs)) (list_all is_plain xs) e in
+    let both = and_parts (nat_lt 0 (length xs)) (list_all is_plain xs) e in
     let plain = plain_none xs both.1 in
     record { blanks = plain.0; feeds = plain.1; hashes = plain.2; colons = plain.3; some = ltb-true 0 (length xs) both.0 }
 
@@ -272,8 +268,3 @@ read_again instr.Ebreak fits = alone_read (codes "ebreak") form.Ebreak instr.Ebr
 read_again (instr.Amo op rd rs1 rs2 aq rl) fits =
     made_three (amo_name op ++ order_name aq rl) (form.Amo op aq rl) (register_text rd) (register_text rs2) (40 ∷ (register_text rs1 ++ 41 ∷ [])) (instr.Amo op rd rs1 rs2 aq rl) (amo_named op aq rl) (register_word rd) (register_word rs2) (base_word rs1) (register_operand rd) (register_operand rs2) (base_operand rs1)
     (rw (register_read rd, register_read rs2, bare_base_read rs1, bare_offset_read rs1) refl)
-
--- the same of a text that was empty before
-pub again_after : (old new : List ℕ) (i : Instr) → new ≡ old ++ text_of i → Fits i → old ≡ [] → assembled new ≡ Ok (Some i ∷ [])
-again_after [] new i written fits empty = ap assembled written ∙ read_again i fits
-again_after (x ∷ old) new i written fits empty = absurd cc

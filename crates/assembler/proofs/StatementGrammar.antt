@@ -11,14 +11,16 @@ use Rattle.assembler.specs.declared.form.Form.{Form}
 use Rattle.assembler.specs.Mnemonics.{mnemonics, form_named}
 use Rattle.assembler.specs.Statements.{Made}
 use Rattle.assembler.specs.Lines.{operands_of, made_of_list, made_for, made_in}
-use Rattle.assembler.specs.Spelled.{AreBlanks, IsPadded, AreListed}
+use Rattle.texts.specs.Padding.{AreBlanks, IsPadded}
+use Rattle.assembler.specs.Spelled.{AreListed}
 use Rattle.assembler.specs.Spelled.AreListed.{last, more}
 use Rattle.assembler.specs.Grammar.{Makes, IsStatement, IsBody}
 use Rattle.assembler.specs.Grammar.IsStatement.{alone, applied}
 use Rattle.assembler.specs.Grammar.IsBody.{nothing, statement}
-use Rattle.assembler.proofs.Plain.{NonePass, before_none, after_none, before_stop, after_stop, onto_some}
+use Rattle.texts.proofs.SolidLaws.{NonePass, before_none, after_none, before_stop, after_stop, onto_some}
 use Rattle.assembler.proofs.Rows.{found_in, are_apart, row_of_member, member_of_row, all_rows}
-use Rattle.assembler.proofs.Trimming.{comma, NoCommas, trimmed_padded, trimmed_blanks, trimmed_end, padded_trimmed, padded_twice, end_split, cut_whole, uncut, listed_split, split_trimmed, split_listed}
+use Rattle.texts.proofs.TrimLaws.{trimmed_padded, trimmed_blanks, trimmed_end, padded_trimmed, padded_twice, end_split, cut_whole, uncut}
+use Rattle.assembler.proofs.Trimming.{comma, NoCommas, listed_split, split_trimmed, split_listed}
 use Rattle.assembler.proofs.Leaves.{is_word_byte, is_operand_byte, all_weaker, none_of_all, not_this, word_solid, word_trimmed}
 use Rattle.assembler.proofs.Addresses.{both_all, empty_text, blanks_of_trimmed}
 use Rattle.assembler.proofs.OperandTable.{OperandBytes, found_makes, only_makes, makes_bytes, makes_of_empty}

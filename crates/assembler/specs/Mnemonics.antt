@@ -9,7 +9,7 @@ use Rattle.rv_decode.specs.declared.instruction.RegisterOp.TheVariants as regist
 use Rattle.rv_decode.specs.declared.instruction.AmoOp.TheVariants as amo
 use Rattle.assembler.specs.declared.form.Form.{Form}
 use Rattle.assembler.specs.declared.form.Form.TheVariants.{Lui, Auipc, Jal, Jalr, Branch, Load, Store, Immediate, Shift, Register, Fence, FenceTso, Ecall, Ebreak, Amo, Nop, Move, Invert, Negate, IsZero, IsNotZero, BranchZero, Jump, Return, LoadImmediate}
-use Rattle.assembler.specs.Tables.{row_of}
+use Rattle.rv_decode.specs.Tables.{row_of}
 
 abbrev pub mnemonics : List (List ℕ × Form)
 mnemonics =

@@ -1,12 +1,7 @@
 -- The names of labels.
-use Rattle.std.specs.Prelude.{ℕ, ◌==◌, Bool, false, ◌&&◌, ◌||◌, nat_lt, List, [], ◌∷◌}
+use Rattle.std.specs.Prelude.{ℕ, ◌==◌, Bool, false, ◌&&◌, ◌||◌, List, [], ◌∷◌}
 use Rattle.std.specs.List.{list_all}
-
-abbrev pub is_letter : ℕ → Bool
-is_letter c = ((nat_lt 64 c) && (nat_lt c 91)) || ((nat_lt 96 c) && (nat_lt c 123))
-
-abbrev pub is_digit : ℕ → Bool
-is_digit c = (nat_lt 47 c) && (nat_lt c 58)
+pub use Rattle.texts.specs.Letters.{is_letter, is_digit}
 
 -- a letter, `_` or `.`
 abbrev pub begins_name : ℕ → Bool

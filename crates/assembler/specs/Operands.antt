@@ -8,7 +8,7 @@ use Rattle.assembler.specs.declared.faults.AsmFault.{AsmFault}
 use Rattle.assembler.specs.declared.faults.AsmFault.TheVariants.{UnknownName, BadOperand, OutOfRange}
 use Rattle.assembler.specs.declared.operands.Place.{Place}
 use Rattle.assembler.specs.declared.operands.Place.TheVariants.{Bytes, Label}
-use Rattle.assembler.specs.Registers.{register_named}
+use Rattle.rv_decode.specs.Registers.{register_named}
 use Rattle.assembler.specs.Sets.{set_named}
 use Rattle.assembler.specs.Names.{is_name}
 

@@ -1,6 +1,6 @@
 -- Which text is which program.
-use Rattle.std.specs.Prelude.{◌≡◌, ◌≢◌, ℕ, ◌+◌, ◌≤◌, pos, List, [], ◌∷◌, ◌++◌, Option, Some, None}
-use Rattle.std.specs.List.{AllByRecursion}
+use Rattle.std.specs.Prelude.{◌≡◌, ◌≢◌, ℕ, ◌+◌, ◌^◌, ◌<◌, ◌≤◌, pos, List, [], ◌∷◌, ◌++◌, Option, Some, None}
+use Rattle.std.specs.List.{All, AllByRecursion}
 use Rattle.std.specs.Str.Lines.{lines}
 use Rattle.rv_decode.specs.declared.instruction.Reg.{Reg}
 use Rattle.rv_decode.specs.declared.instruction.BranchOp.{BranchOp}
@@ -10,7 +10,7 @@ use Rattle.rv_decode.specs.Means.{Means}
 use Rattle.assembler.specs.Operands.{IsReached, bytes}
 use Rattle.assembler.specs.Statements.{Made, one, two, jump, branch}
 use Rattle.assembler.specs.Grammar.{IsLine}
-use Rattle.assembler.specs.Drafts.{Line, size_of, words_of, in_bytes}
+use Rattle.assembler.specs.Drafts.{Line, size_of, words_of, in_bytes, AllPlain}
 
 -- each text is its line
 abbrev pub AreLines : List (List ℕ) → List Line → Type 0
@@ -69,3 +69,11 @@ pub record IsProgram (text : List ℕ) (instrs : List Instr) : Type 0 where
 abbrev pub AreWordsOf : List ℕ → List Instr → Type 0
 AreWordsOf [] instrs = instrs ≡ []
 AreWordsOf (word ∷ words) instrs = (i : Instr) × (rest : List Instr) × (instrs ≡ i ∷ rest) × Means word i × AreWordsOf words rest
+
+-- The text is a program whose instructions these words of 32 bits mean, with their free fields 0.
+pub record IsCode (text words : List ℕ) : Type 0 where
+  pub instrs : List Instr
+  pub program : IsProgram text instrs
+  pub meant : AreWordsOf words instrs
+  pub plain : AllPlain words
+  pub small : All (λ word. word < 2 ^ 32) words

@@ -1,22 +1,15 @@
 -- How the parts of a statement are spelled, each a relation between a text and what it says.
 use Rattle.std.specs.Prelude.{◌≡◌, ℕ, ℤ, pos, neg_ℤ, ◌≤◌, ◌≤ℤ◌, ◌<ℤ◌, true, ◌⊎◌, List, [], ◌∷◌, ◌++◌}
-use Rattle.std.specs.List.{AllByRecursion, Contains}
-use Rattle.texts.specs.Pieces.{is_blank}
+use Rattle.std.specs.List.{Contains}
 use Rattle.texts.specs.Numbers.{Says, SaysInHex}
 use Rattle.rv_decode.specs.Fits.{IsEven}
 use Rattle.rv_decode.specs.declared.instruction.Reg.{Reg}
-use Rattle.assembler.specs.Registers.{register_names}
+use Rattle.rv_decode.specs.Registers.{register_names}
 use Rattle.assembler.specs.Sets.{set_names}
 use Rattle.assembler.specs.Names.{is_name}
 use Rattle.assembler.specs.Operands.{Target, bytes, label}
-
--- spaces and tabs, or none
-abbrev pub AreBlanks : List ℕ → Type 0
-AreBlanks text = AllByRecursion (λ byte. is_blank byte ≡ true) text
-
--- the core with blanks round it, or none
-abbrev pub IsPadded : (core text : List ℕ) → Type 0
-IsPadded core text = (front : List ℕ) × (back : List ℕ) × AreBlanks front × AreBlanks back × (text ≡ front ++ (core ++ back))
+-- blanks, and a core with blanks round it, are words of texts
+pub use Rattle.texts.specs.Padding.{AreBlanks, IsPadded}
 
 -- Operands, parted by commas (44), with blanks round each.
 pub data AreListed : List ℕ → List (List ℕ) → Type 0 where

@@ -98,9 +98,6 @@ letter bit name set = if set / bit % 2 == 1 then name ∷ [] else []
 abbrev pub set_text : ℕ → List ℕ
 set_text set = if set == 0 then codes "0" else letter 8 105 set ++ letter 4 111 set ++ letter 2 114 set ++ letter 1 119 set
 
-abbrev pub with_one : (name first : List ℕ) → List ℕ
-with_one name first = name ++ (codes " " ++ first)
-
 abbrev pub with_two : (name first second : List ℕ) → List ℕ
 with_two name first second = name ++ (codes " " ++ (first ++ (codes "," ++ second)))
 

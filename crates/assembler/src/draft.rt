@@ -1,13 +1,15 @@
 //! A text, told line by line.
 
-ghost use Rattle.std.specs.Prelude.{◌≡◌, List, [], ◌∷◌, ◌++◌, ◌<◌, ◌^◌, false, length, map, vec_len, vec_capacity, Ok, Some, IfOk, OnOk, OnErr};
+ghost use Rattle.std.specs.Prelude.{◌≡◌, List, [], ◌∷◌, ◌++◌, ◌<◌, ◌^◌, false, length, map, vec_len, vec_capacity, Ok, Err, Some, IfOk, IfErr, OnOk, OnErr};
 ghost use Rattle.rv_decode.specs.Meaning.{meaning};
 ghost use Rattle.texts.specs.Results.{Gives};
 ghost use Rattle.assembler.specs.Faults.{refusal_of};
+ghost use Rattle.assembler.specs.declared.faults.AsmFault.TheVariants.{TooLong};
+ghost use Rattle.assembler.specs.declared.faults.AsmError.TheVariants.{Refused};
 ghost use Rattle.rv_decode.specs.declared.instruction.Instr.{Instr};
 ghost use Rattle.assembler.specs.Grammar.{IsLine};
 ghost use Rattle.assembler.specs.Program.{IsFresh, AreInstrs, AreWordsOf};
-ghost use Rattle.assembler.specs.Drafts.{Line as TextLine, Fitting, is_twice, words_of, told, finished, AllPlain};
+ghost use Rattle.assembler.specs.Drafts.{Line as TextLine, Fitting, is_twice, words_of, told, over, finished, AllPlain};
 ghost use Rattle.assembler.specs.Lines.{made_by};
 ghost use Rattle.std.specs.Option.{option_copied};
 ghost use Rattle.assembler.specs.Kept.{place_in as found, line_of, IsKept};
@@ -66,11 +68,13 @@ impl Draft {
     /// Reads one more line, given without its line end.
     ///
     /// An `Err` changes nothing: it is the line's first fault, in the order `LabelTwice`, then
-    /// `UnknownName` of the mnemonic, then the operands from the left, or it is `NoMemory`.
+    /// `UnknownName` of the mnemonic, then the operands from the left; for a line without a fault it is
+    /// `NoMemory`.
     pub fn line(&mut self, line: &str) -> Result<(), AsmError>
         ensures found { OnOk result ((more : TextLine) × IsLine line.now more × IsFresh self.old more × (self.new ≡ self.old ++ more ∷ [])) }
         ensures only { (more : TextLine) → IsLine line.now more → IsFresh self.old more → Gives refusal_of (λ _. self.new) result (Ok (self.old ++ more ∷ [])) }
         ensures exact { Gives refusal_of (λ _. self.new) result (told self.old line.now) }
+        ensures refused { IfErr (told self.old line.now) (λ refusal. result ≡ Err (Refused refusal.fault refusal.line)) }
         ensures kept { OnErr result (self.new ≡ self.old) }
     {
         self.read(line.as_bytes())
@@ -81,6 +85,7 @@ impl Draft {
         ensures found { OnOk result ((more : TextLine) × IsLine line.now more × IsFresh self.old more × (self.new ≡ self.old ++ more ∷ [])) }
         ensures only { (more : TextLine) → IsLine line.now more → IsFresh self.old more → Gives refusal_of (λ _. self.new) result (Ok (self.old ++ more ∷ [])) }
         ensures exact { Gives refusal_of (λ _. self.new) result (told self.old line.now) }
+        ensures refused { IfErr (told self.old line.now) (λ refusal. result ≡ Err (Refused refusal.fault refusal.line)) }
         ensures kept { OnErr result (self.new ≡ self.old) }
     {
         self.tell(line)
@@ -89,6 +94,7 @@ impl Draft {
     #[tactic(auto, using(crate::proofs::DraftLaws::told_twice, crate::proofs::DraftLaws::told_added, crate::proofs::DraftLaws::told_faulty))]
     fn tell(&mut self, line: &[u8]) -> Result<(), AsmError>
         ensures exact { Gives refusal_of (λ _. self.new) result (told self.old line.now) }
+        ensures refused { IfErr (told self.old line.now) (λ refusal. result ≡ Err (Refused refusal.fault refusal.line)) }
         ensures kept { OnErr result (self.new ≡ self.old) }
     {
         let line_number = self.count() + 1;
@@ -156,6 +162,7 @@ impl Draft {
         ensures found { IfOk result (λ words. (instrs : List Instr) × AreInstrs self instrs × AreWordsOf words.items instrs) }
         ensures only { (instrs : List Instr) → AreInstrs self instrs → Gives refusal_of (λ words. map meaning words.items) result (Ok (map (λ i. Some i) instrs)) }
         ensures exact { Gives refusal_of (λ words. map meaning words.items) result (finished self) }
+        ensures too_long { 4096 < words_of self → result ≡ Err (Refused TooLong (over 0 1 self)) }
         ensures plain { IfOk result (λ words. AllPlain words.items) }
     {
         let _lines = &self.lines;
@@ -164,6 +171,7 @@ impl Draft {
 
     fn all_words(self) -> Result<Vec<u32>, AsmError>
         ensures exact { Gives refusal_of (λ words. map meaning words.items) result (finished self) }
+        ensures too_long { 4096 < words_of self → result ≡ Err (Refused TooLong (over 0 1 self)) }
         ensures plain { IfOk result (λ words. AllPlain words.items) }
     {
         if self.words > MAX_WORDS {

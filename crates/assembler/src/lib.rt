@@ -4,16 +4,17 @@
 //! spelled; `Grammar` has a table with a row for the operands of each mnemonic, in the order of the
 //! manual, and says what a statement and a line are; `Program` says where statements stand and how far
 //! labels are. [`assemble`] answers the words of the instructions of which the text is a program
-//! (`found`), and answers them for each text that is one (`only`); [`laws::one_value`]: no text is two.
-//! [`Draft`] is the same, line by line.
+//! (`found`), and answers them for each text that is one (`only`). No text is two programs, or the code
+//! of two lists of words ([`laws::one_value`]), and a fault is named exactly where a text is none
+//! ([`laws::refused_without_value`]). [`Draft`] is the same, line by line.
 //!
 //! Beside the grammar stand definitions that are functions and name the first fault with its line
 //! (`exact`): a line's parts in `Lines`, the operands of each mnemonic in `Statements`, labels in
 //! `Drafts`, in the order that [`Draft::line`] and [`Draft::finish`] tell.
 //!
 //! [`laws::number_put`]: the one or two instructions of `li` put its number in the register.
-//! [`write_instr`] appends the text of `Writing`; [`laws::read_again`]: that text is assembled to the
-//! instruction again.
+//! [`write_instr`] appends the text of `Writing`; [`laws::read_again`]: that text is a program of the
+//! instruction again, and the code of the word that [`rv_decode::encode`] gives it.
 //! This crate reads no file, relaxes no jump, and knows no section, directive or macro.
 
 #![tactic(auto)]
@@ -39,7 +40,7 @@ mod writer;
 pub use assembling::assemble;
 pub use draft::Draft;
 pub use faults::{AsmError, AsmFault};
-pub use tables::register_named;
+pub use rv_decode::register_named;
 pub use writer::write_instr;
 
 #[cfg(test)]

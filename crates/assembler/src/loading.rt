@@ -6,7 +6,7 @@ ghost use Rattle.rv_decode.specs.Fits.{IsSigned};
 ghost use Rattle.assembler.specs.Statements.{made_of, MadeFits, loaded, is_short, low_of, high_of};
 
 use crate::statement::Statement;
-use crate::tables::reg;
+use rv_decode::registers::reg;
 use rv_decode::{ImmediateOp, Instr, Reg};
 
 fn is_short(number: i64) -> bool

@@ -7,8 +7,8 @@ ghost use Rattle.assembler.specs.Operands.{register_at, in_range, number_at, up_
 
 use crate::faults::AsmFault;
 use crate::names::is_name;
-use crate::tables::{register_named, set_named};
-use rv_decode::Reg;
+use crate::tables::set_named;
+use rv_decode::{Reg, register_named};
 use texts::cutting::{cut_at, trimmed};
 use texts::integer;
 

@@ -19,7 +19,7 @@ use crate::operands::{
     short_offset, target,
 };
 use crate::statement::{Operands, Statement};
-use crate::tables::reg;
+use rv_decode::registers::reg;
 use rv_decode::{AmoOp, BranchOp, ImmediateOp, Instr, LoadOp, Reg, RegisterOp, ShiftOp, StoreOp};
 
 fn jump_to(rd: Reg, place: Place<'_>) -> Statement<'_>

@@ -1,4 +1,4 @@
-use crate::{AsmError, AsmFault, Draft, assemble, register_named, write_instr};
+use crate::{AsmError, AsmFault, Draft, assemble, write_instr};
 use rv_decode::{decode, fits};
 use std::test::Fail;
 
@@ -35,63 +35,6 @@ fn the_listing_s_words(rt: HostRuntime) -> Result<(), Fail> {
     ];
     assert_eq!(rt; words.as_slice(), expected.as_slice());
     Ok(())
-}
-
-#[test]
-fn a_label_counts_from_its_line(rt: HostRuntime) -> Result<(), Fail> {
-    let words = assemble(rt.alloc(), "loop: addi x5,x5,-1\n bnez x5,loop")?;
-    assert_eq!(rt; words.as_slice(), [0xFFF28293, 0xFE029EE3].as_slice());
-    Ok(())
-}
-
-#[test]
-fn registers_have_two_names(rt: HostRuntime) {
-    let numbers = [
-        ("x0", 0),
-        ("zero", 0),
-        ("x16", 16),
-        ("a6", 16),
-        ("s0", 8),
-        ("fp", 8),
-        ("x31", 31),
-        ("t6", 31),
-    ];
-    for (name, number) in numbers {
-        let register = register_named(name.as_bytes());
-        assert_eq!(rt; register.map(|register| register.number), Some(number));
-    }
-    for name in ["x32", "x00", "X1", "pc", ""] {
-        assert_eq!(rt; register_named(name.as_bytes()), None);
-    }
-}
-
-#[test]
-fn faults_have_their_lines(rt: HostRuntime) {
-    let alloc = rt.alloc();
-    assert_eq!(rt;
-        assemble(alloc, "addi x5,x5,2048").err(),
-        Some(refused(AsmFault::OutOfRange, 1))
-    );
-    assert_eq!(rt;
-        assemble(alloc, "addi x32,x0,1").err(),
-        Some(refused(AsmFault::UnknownName, 1))
-    );
-    assert_eq!(rt;
-        assemble(alloc, "a: j b\na: nop").err(),
-        Some(refused(AsmFault::LabelTwice, 2))
-    );
-    assert_eq!(rt;
-        assemble(alloc, "a: j b\nc: nop").err(),
-        Some(refused(AsmFault::NoSuchLabel, 1))
-    );
-    assert_eq!(rt;
-        assemble(alloc, "nop\njal x0,3").err(),
-        Some(refused(AsmFault::OutOfRange, 2))
-    );
-    assert_eq!(rt;
-        assemble(alloc, "nop x1").err(),
-        Some(refused(AsmFault::BadOperand, 1))
-    );
 }
 
 #[test]

@@ -1,7 +1,7 @@
 //! Instructions as texts.
 
-ghost use Rattle.std.specs.Prelude.{◌≡◌, ◌<◌, ◌^◌, ◌++◌, Ok, IfOk, OnOk, OnErr, codes, Some, [], ◌∷◌};
-ghost use Rattle.assembler.specs.Drafts.{assembled};
+ghost use Rattle.std.specs.Prelude.{◌≡◌, ◌<◌, ◌^◌, ◌++◌, IfOk, OnOk, OnErr, codes, [], ◌∷◌};
+ghost use Rattle.assembler.specs.Program.{IsProgram};
 ghost use Rattle.std.specs.String.{string_bytes};
 ghost use Rattle.std.specs.Fmt.{decimal, signed_decimal};
 ghost use Rattle.rv_decode.specs.Fits.{Fits};
@@ -160,11 +160,11 @@ fn text_of(alloc: Global, instr: &Instr) -> Result<String, AllocError>
 /// It is the mnemonic and, where there are operands, a space and the operands with commas and no
 /// blanks: registers `x0` to `x31`, numbers in decimal, a place as bytes from the instruction. No
 /// pseudoinstruction is written. Where memory runs out, the text stays as it was.
-#[tactic(auto, using(crate::proofs::RoundTrip::again_after))]
+#[tactic(auto, using(crate::proofs::OneCode::program_after))]
 pub fn write_instr(instr: &Instr, out: &mut String) -> Result<(), AllocError>
     requires { Fits instr.now }
     ensures written { OnOk result (string_bytes out.new ≡ string_bytes out.old ++ text_of instr.now) }
-    ensures again { OnOk result (string_bytes out.old ≡ [] → assembled (string_bytes out.new) ≡ Ok (Some instr.now ∷ [])) }
+    ensures again { OnOk result (string_bytes out.old ≡ [] → IsProgram (string_bytes out.new) (instr.now ∷ [])) }
     ensures kept { OnErr result (string_bytes out.new ≡ string_bytes out.old) }
 {
     // made apart, so that the text grows in one step or not at all

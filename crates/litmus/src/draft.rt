@@ -1,6 +1,6 @@
 //! A condition, told word by word.
 
-ghost use Rattle.std.specs.Prelude.{◌≡◌, [], ◌∷◌, ◌++◌, Ok, Err, IfOk, OnOk, OnErr};
+ghost use Rattle.std.specs.Prelude.{◌≡◌, ◌≢◌, ◌↔◌, [], ◌∷◌, ◌++◌, Ok, Err, IfOk, OnOk, OnErr};
 ghost use Rattle.texts.specs.Results.{Gives};
 ghost use Rattle.litmus.specs.declared.draft.ConditionError.TheVariants.{NoMemory, Misplaced};
 ghost use Rattle.litmus.specs.Drafting.{told, finished};
@@ -92,11 +92,14 @@ impl ConditionDraft {
         }
     }
 
-    /// The condition of the words. It is `Misplaced` exactly where they are none. It takes no memory.
+    /// The condition of the words. It is `Misplaced` exactly where they are none. It takes no memory,
+    /// so there is no other `Err`.
     pub fn finish(self) -> Result<Condition, ConditionError>
         ensures exact { Gives fault_of (λ (f : Formula). f) result (finished self) }
         ensures found { IfOk result (IsConditionOf self) }
         ensures only { (f : Formula) → IsConditionOf self f → result ≡ Ok f }
+        ensures misplaced { (result ≡ Err Misplaced) ↔ ((f : Formula) → ¬ IsConditionOf self f) }
+        ensures free { result ≢ Err NoMemory }
     {
         if !self.builder.is_complete() {
             return Err(ConditionError::Misplaced);

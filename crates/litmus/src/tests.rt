@@ -160,23 +160,6 @@ fn expect_verdict(
     Ok(())
 }
 
-#[test]
-fn conditions_group_by_the_grammar(rt: HostRuntime) {
-    for text in ["1", "~~1", "((1))", "1&1|1&~1", "~(1|1)&1", "(~(1))"] {
-        assert!(&rt; condition(rt.alloc(), text).is_ok(), "{text}");
-    }
-    for text in ["", ")", "11", "1~", "(1", "1)", "1&", "()", "1|&1"] {
-        assert!(&rt; is_misplaced(condition(rt.alloc(), text)), "{text}");
-    }
-}
-
-fn is_misplaced(outcome: Result<Condition, ConditionError>) -> bool {
-    match outcome {
-        Ok(_) => false,
-        Err(error) => error == ConditionError::Misplaced,
-    }
-}
-
 const BOTH_READ_0: [Event; 6] = [A0, A1, A0, A1, L0, L1];
 
 const ONE_AFTER_THE_OTHER: [Event; 6] = [A0, L0, A0, A1, L1, A1];
@@ -190,31 +173,6 @@ fn store_buffering_is_judged(rt: HostRuntime) -> Result<(), Fail> {
     expect_verdict(&rt, &exists, &ONE_AFTER_THE_OTHER, Verdict::Fails)?;
     expect_verdict(&rt, &exists, &[A0, A1, A0, A1], Verdict::Unfinished)?;
     expect_verdict(&rt, &exists, &[A0, A0, L0], Verdict::Unfinished)?;
-    Ok(())
-}
-
-#[test]
-fn quantifiers_ask_for_outcomes(rt: HostRuntime) -> Result<(), Fail> {
-    let not_exists = test_of(&rt, Quantifier::NotExists, "~0&x")?;
-    assert!(&rt; !not_exists.by_exists());
-    expect_verdict(&rt, &not_exists, &BOTH_READ_0, Verdict::Fails)?;
-    expect_verdict(&rt, &not_exists, &ONE_AFTER_THE_OTHER, Verdict::Holds)?;
-    let for_all = test_of(&rt, Quantifier::ForAll, "~0&x")?;
-    expect_verdict(&rt, &for_all, &BOTH_READ_0, Verdict::Holds)?;
-    expect_verdict(&rt, &for_all, &ONE_AFTER_THE_OTHER, Verdict::Fails)?;
-    Ok(())
-}
-
-#[test]
-fn conditions_are_true_by_their_words(rt: HostRuntime) -> Result<(), Fail> {
-    for text in ["1|0&0", "0&0|1", "~(0&0)", "~~1", "0|~(1&(0))", "1|(0&0)|0"] {
-        let test = test_of(&rt, Quantifier::Exists, text)?;
-        expect_verdict(&rt, &test, &BOTH_READ_0, Verdict::Holds)?;
-    }
-    for text in ["(1|0)&0", "~0&0", "0&(0|1)&1", "~(1|0)", "0|1&0"] {
-        let test = test_of(&rt, Quantifier::Exists, text)?;
-        expect_verdict(&rt, &test, &BOTH_READ_0, Verdict::Fails)?;
-    }
     Ok(())
 }
 
@@ -247,17 +205,12 @@ fn left_sides_come_once(rt: HostRuntime) -> Result<(), Fail> {
 }
 
 #[test]
-fn deep_conditions_are_read(rt: HostRuntime) -> Result<(), Fail> {
+fn faults_have_their_texts(rt: HostRuntime) -> Result<(), Fail> {
     let mut draft = ConditionDraft::new(rt.alloc());
-    for _ in 0..200_000 {
-        draft.push(Token::Not)?;
-        draft.push(Token::Open)?;
-    }
-    draft.push(token(b'x'))?;
-    for _ in 0..200_000 {
-        draft.push(Token::Close)?;
-    }
-    let condition = draft.finish()?;
-    assert!(&rt; condition.asks_within(1, 1));
+    assert_eq!(&rt; draft.push(Token::And), Err(ConditionError::Misplaced));
+    let told = format!(in rt.alloc(); "{}", ConditionError::Misplaced)?;
+    assert_eq!(&rt; told.as_str(), "bad condition");
+    let told = format!(in rt.alloc(); "{}", ConditionError::NoMemory)?;
+    assert_eq!(&rt; told.as_str(), "no memory");
     Ok(())
 }

@@ -216,17 +216,3 @@ content_only text whole is =
     let same_words : padded (length (each_once all)) values.words ≡ whole.words = words_one all is.puts _ whole.words (words_later is.puts more values.words (subst (λ (ns : Names). AreFirstWords ns is.puts values.words) items.2 first.3)) (subst (λ (ns : Names). AreFirstWords ns is.puts whole.words) is.named is.first_words) in
     let asks : condition_in harts settings.names is.asked ≡ Ok (record { quantifier = whole.quantifier; formula = whole.condition; names = each_once all }) = subst (λ (ns : Names). condition_in harts ns is.asked ≡ Ok (record { quantifier = whole.quantifier; formula = whole.condition; names = each_once all })) (sym items.2) (asked_only harts (names_in is.puts) is.asked whole.quantifier is.words is.known whole.condition is.question total (subst (λ (ns : Names). AreKnown harts ns is.words is.known) is.named is.all_known) is.condition) in
     rw (clean, laying.headed, laying.braced, laying.opened, parts_only 59 is.init is.parts is.parted, items.1, laying.closed, laying.above, table.1, table.2, count, put.1, laying.asks, asks, same_harts, same_words, ← is.named) refl
-
--- ---- what `read` answers
-
-pub found_test : (text : List ℕ) (result : Result Question LitmusError) → Gives fault_of content_of result (test_at text) → IfOk result (λ test. All HasPlainCode test.opening.harts) → IfOk result (IsTestOf text)
-unfolding IsTestOf
-found_test text (Ok test) e plain = (content_found text (content_of test) e, plain)
-found_test text (Err error) e plain = tt
-
-pub only_test : (text : List ℕ) (question : Question) (result : Result Question LitmusError) → Gives fault_of content_of result (test_at text) → IsTestOf text question → Gives fault_of content_of result (Ok (content_of question))
-unfolding IsTestOf
-only_test text question result e is = subst (λ (answer : Result Content LitmusFault). Gives fault_of content_of result answer) (content_only text (content_of question) is.0) e
-
-pub one_test : (text : List ℕ) (a b : Content) → IsContent text a → IsContent text b → a ≡ b
-one_test text a b first second = ok_is LitmusFault a b (sym (content_only text a first) ∙ content_only text b second)

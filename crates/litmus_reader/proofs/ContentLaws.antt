@@ -3,17 +3,16 @@ use Rattle.std.proofs.Common.{◌≡◌, ◌∙◌, ℕ, suc, ◌≤◌, List, [
 use Rattle.std.specs.Prelude.{IfOk}
 use Rattle.std.specs.declared.alloc.AllocError.{AllocError}
 use Rattle.std.proofs.lemmas.List.{length-map}
-use Rattle.std.proofs.lemmas.List.Elements.{All-cons, All-nil}
+use Rattle.std.proofs.lemmas.List.Elements.{All-head, All-tail, All-cons, All-nil}
 use Rattle.std.specs.declared.vec.Vec.{Vec}
 use Rattle.std.specs.declared.alloc.Global.{Global}
 use Rattle.rv_decode.specs.Meaning.{meaning}
-use Rattle.assembler.specs.Drafts.{AllPlain}
 use Rattle.step_machine.specs.History.{HartStart}
 use Rattle.litmus.specs.declared.verdict.Quantifier.{Quantifier}
 use Rattle.litmus.specs.Formulas.{Formula, places}
 use Rattle.litmus.specs.Questions.{Question, IsThere, IsTest, question_of}
 use Rattle.litmus_reader.specs.Locations.{Names}
-use Rattle.litmus_reader.specs.Table.{instructions_of, ArePlain, AreShort}
+use Rattle.litmus_reader.specs.Table.{instructions_of, IsPlainCode, ArePlain, AreShort}
 use Rattle.litmus_reader.specs.Values.{starts_of}
 use Rattle.litmus_reader.specs.Reading.{HartContent, Content, hart_content, with_registers, content_of}
 use Rattle.litmus_reader.specs.Grammar.{HasPlainCode}
@@ -33,16 +32,10 @@ starts_short [] registers short = All-nil (λ (h : HartStart). length h.code ≤
 starts_short (code ∷ codes) [] short = All-nil (λ (h : HartStart). length h.code ≤ 4096)
 starts_short (code ∷ codes) (first ∷ registers) short = All-cons (λ (h : HartStart). length h.code ≤ 4096) (record { code = code.items; registers = first; inbox = [] }) (starts_of codes registers) (simp length-map at short.0) (starts_short codes registers short.1)
 
-all_head : (P : Vec ℕ Global → Type 0) (x : Vec ℕ Global) (xs : List (Vec ℕ Global)) → All P (x ∷ xs) → P x
-all_head P x xs each = each 0 x (omega arith)
-
-all_tail : (P : Vec ℕ Global → Type 0) (x : Vec ℕ Global) (xs : List (Vec ℕ Global)) → All P (x ∷ xs) → All P xs
-all_tail P x xs each = λ k d within. each (suc k) d (omega (arith, within))
-
 pub starts_plain : (codes : List (Vec ℕ Global)) (registers : List (List ℕ)) → ArePlain codes → All HasPlainCode (starts_of codes registers)
 starts_plain [] registers plain = All-nil HasPlainCode
 starts_plain (code ∷ codes) [] plain = All-nil HasPlainCode
-starts_plain (code ∷ codes) (first ∷ registers) plain = All-cons HasPlainCode (record { code = code.items; registers = first; inbox = [] }) (starts_of codes registers) (all_head (λ (v : Vec ℕ Global). AllPlain v.items) code codes plain) (starts_plain codes registers (all_tail (λ (v : Vec ℕ Global). AllPlain v.items) code codes plain))
+starts_plain (code ∷ codes) (first ∷ registers) plain = All-cons HasPlainCode (record { code = code.items; registers = first; inbox = [] }) (starts_of codes registers) (All-head (λ (v : Vec ℕ Global). IsPlainCode v.items) code codes plain) (starts_plain codes registers (All-tail (λ (v : Vec ℕ Global). IsPlainCode v.items) code codes plain))
 
 pub is_test : (codes : List (Vec ℕ Global)) (registers : List (List ℕ)) (words : List ℕ) (names : Names) (quantifier : Quantifier) (f : Formula) → length registers ≡ length codes → 1 ≤ length codes → length codes ≤ 64 → AreShort (instructions_of codes) → length words ≤ 1024 → length names ≤ 1024 → All (IsThere (length codes) (length names)) (places f) → IsTest (question_of (starts_of codes registers) words names quantifier f)
 is_test codes registers words names quantifier f same some few short words_few names_few there =

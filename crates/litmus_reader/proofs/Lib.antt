@@ -1,4 +1,5 @@
 pub mod PartLaws
+pub mod LineLaws
 pub mod MarkLaws
 pub mod TableLaws
 pub mod NameLaws
@@ -12,4 +13,6 @@ pub mod FirstValueLaws
 pub mod RowGrammar
 pub mod ColumnLaws
 pub mod AskedLaws
+pub mod PlainWords
 pub mod ContentGrammar
+pub mod TestGrammar

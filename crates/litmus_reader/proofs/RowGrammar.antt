@@ -1,5 +1,5 @@
 -- A table's rows are those of the grammar.
-use Rattle.std.proofs.Common.{◌≡◌, ℕ, ◌+◌, ◌^◌, ◌<◌, ◌≤◌, true, false, ltb, List, [], ◌∷◌, ◌++◌, length, Option, Some, None, Ok, refl, ap, subst, ◌∙◌, inl, inr, arith}
+use Rattle.std.proofs.Common.{◌≡◌, ℕ, ◌+◌, ◌^◌, ◌<◌, ◌≤◌, true, false, ltb, List, [], ◌∷◌, ◌++◌, length, Option, Some, None, Ok, refl, ap, subst, sym, ◌∙◌, inl, inr, arith}
 use Rattle.std.specs.Fmt.{decimal}
 use Rattle.std.proofs.lemmas.Bool.{cases_Bool, eqb-true, le-ltb, ltb-false, false_from_ne_true}
 use Rattle.std.proofs.lemmas.Slice.Eq.{bytes_eq-Decides}
@@ -114,10 +114,10 @@ first_row_found line harts e = go (row_in line) refl e
     go : (o : Option (List ℕ)) → row_in line ≡ o → harts_of o ≡ Ok harts → FirstRow line harts
     go None none f = absurd cc
     go (Some row) read f =
-        let step = bind_ok (all_named (cells_of row)) at_most_64 harts f in
-        let named = named_found (cells_of row) step.0 step.1 in
-        let few = few_found step.0 harts step.2 in
-        record { names = cells_of row; row = row_found line row read; named = named.0; counted = named.1 ∙ few.0; few = few.1 }
+        let step = bind_ok (at_most_64 (length (cells_of row))) (λ (all : ℕ). all_named (cells_of row)) harts f in
+        let few = few_found (length (cells_of row)) step.0 step.1 in
+        let named = named_found (cells_of row) harts step.2 in
+        record { names = cells_of row; row = row_found line row read; named = named.0; counted = named.1; few = subst (λ (n : ℕ). n ≤ 64) (sym few.0 ∙ named.1) few.1 }
 
 pub first_row_only : (line : List ℕ) (harts : ℕ) → FirstRow line harts → harts_in line ≡ Ok harts
 unfolding harts_in

@@ -10,12 +10,12 @@ use Rattle.rv_decode.specs.Meaning.{meaning}
 use Rattle.assembler.specs.declared.faults.AsmFault.{AsmFault}
 use Rattle.assembler.specs.Faults.{Refusal}
 use Rattle.assembler.specs.Statements.{Made, one, two, jump, branch}
-use Rattle.assembler.specs.Drafts.{Line, onto, finished, size_of, words_of, distance, placed, at_line, all_placed, place_of, AllPlain}
+use Rattle.assembler.specs.Drafts.{Line, onto, finished, size_of, words_of, distance, placed, at_line, all_placed, place_of}
 use Rattle.litmus_reader.specs.declared.faults.LitmusFault.{LitmusFault}
 use Rattle.litmus_reader.specs.declared.faults.LitmusFault.TheVariants.{BadInstr}
 use Rattle.litmus_reader.specs.declared.refusals.Refusal.{Refusal as Refused}
 use Rattle.litmus_reader.specs.Faults.{fault_in}
-use Rattle.litmus_reader.specs.Table.{Code, Column, codes_of, as_instr, instructions, instructions_of, ArePlain, AreShort}
+use Rattle.litmus_reader.specs.Table.{Code, Column, codes_of, as_instr, instructions, instructions_of, IsPlainCode, ArePlain, AreShort}
 
 -- what is answered where these columns are done, of which the first faulty row may be one, and this is
 -- the answer of the others
@@ -36,8 +36,10 @@ turn_going None words more column columns whole done so_far =
     rw (map-append (λ (v : Vec ℕ Global). map meaning v.items) words (more ∷ [])) (sym (onto_more (instructions_of words) (map meaning more.items) (codes_of columns)) ∙ ap (λ (others : Result (List Code) LitmusFault). onto (instructions_of words) others) (sym (codes_more (map meaning more.items) column columns done)) ∙ so_far)
 turn_going (Some row) words more column columns whole done so_far = so_far
 
-pub plain_more : (words : List (Vec ℕ Global)) (more : Vec ℕ Global) → ArePlain words → AllPlain more.items → ArePlain (words ++ more ∷ [])
-plain_more words more plain last = All-append (λ (v : Vec ℕ Global). AllPlain v.items) words (more ∷ []) plain (All-cons (λ (v : Vec ℕ Global). AllPlain v.items) more [] last (All-nil (λ (v : Vec ℕ Global). AllPlain v.items)))
+pub plain_more : (words : List (Vec ℕ Global)) (more : Vec ℕ Global) → ArePlain words → IsPlainCode more.items → ArePlain (words ++ more ∷ [])
+plain_more words more plain last =
+    let P : Vec ℕ Global → Type 0 = λ v. IsPlainCode v.items in
+    All-append P words (more ∷ []) plain (All-cons P more [] last (All-nil P))
 
 -- ---- how long the answers are
 

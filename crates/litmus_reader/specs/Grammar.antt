@@ -1,6 +1,5 @@
 -- Which text stands for which test.
 use Rattle.std.specs.Prelude.{◌≡◌, ℕ, ◌+◌, ◌≤◌, List, [], ◌∷◌, ◌++◌, length, All}
-use Rattle.assembler.specs.Drafts.{AllPlain}
 use Rattle.step_machine.specs.History.{HartStart}
 use Rattle.litmus.specs.declared.words.Token as known
 use Rattle.litmus.specs.Grammar.{IsConditionOf}
@@ -9,6 +8,7 @@ use Rattle.litmus_words.specs.Cleaning.{IsCleaned}
 use Rattle.litmus_words.specs.Settings.{Put}
 use Rattle.litmus_words.specs.Words.{Token}
 use Rattle.litmus_reader.specs.Locations.{Names}
+use Rattle.litmus_reader.specs.Table.{IsPlainCode}
 use Rattle.litmus_reader.specs.Shapes.{AreParts}
 use Rattle.litmus_reader.specs.Layout.{IsLaidOut}
 use Rattle.litmus_reader.specs.Openings.{AreItems, names_in, each_once, AreRegisters, AreFirstWords, IsHartThere}
@@ -46,10 +46,10 @@ pub record IsContent (text : List ℕ) (content : Content) : Type 0 where
   pub all_known : AreKnown (length content.harts) content.names words known
   pub condition : IsConditionOf known content.condition
 
--- the free fields of all instruction words are zero
+-- each instruction has the one plain word that means it
 abbrev pub HasPlainCode : HartStart → Type 0
-HasPlainCode hart = AllPlain hart.code
+HasPlainCode hart = IsPlainCode hart.code
 
--- the text's test, whichever words of the same instructions it has
+-- the text's test
 unfoldable pub IsTestOf : List ℕ → Question → Type 0
 IsTestOf text question = IsContent text (content_of question) × All HasPlainCode question.opening.harts

@@ -1,4 +1,5 @@
 pub mod Faults
+pub mod Lines
 pub mod Marks
 pub mod Header
 pub mod Parts

@@ -41,9 +41,9 @@ all_named cells = if name_harts 0 cells then Ok (length cells) else Err BadTable
 abbrev pub harts_of : Option (List ℕ) → Result ℕ LitmusFault
 harts_of None = Err BadTable
 harts_of (Some row) = do
-  harts ← all_named (cells_of row)
-  at_most_64 harts
+  harts ← at_most_64 (length (cells_of row))
+  all_named (cells_of row)
 
--- how many harts the first row names
+-- how many harts the first row names; its cells are counted before they are judged
 unfoldable pub harts_in : List ℕ → Result ℕ LitmusFault
 harts_in line = harts_of (row_in line)

@@ -1,5 +1,5 @@
 -- The table: each hart's column of cells is an assembly text, a line for each row.
-use Rattle.std.specs.Prelude.{ℕ, ◌≤◌, ◌==◌, nat_lt, List, [], ◌∷◌, length, map, replicate, All, Option, None, Some, Result, Ok, Err, if◌then◌else◌}
+use Rattle.std.specs.Prelude.{ℕ, ◌^◌, ◌<◌, ◌≤◌, ◌==◌, nat_lt, List, [], ◌∷◌, length, map, replicate, All, Option, None, Some, Result, Ok, Err, if◌then◌else◌}
 use Rattle.std.specs.declared.vec.Vec.{Vec}
 use Rattle.std.specs.declared.alloc.Global.{Global}
 use Rattle.texts.specs.Results.{◌>>=◌}
@@ -86,9 +86,12 @@ instructions_of codes = map (λ (words : Vec ℕ Global). map meaning words.item
 abbrev pub instructions : Vec (Vec ℕ Global) Global → List Code
 instructions codes = instructions_of codes.items
 
--- the free fields of all words are zero
+-- words of 32 bits, and the fields of each that decide nothing are zero
+abbrev pub IsPlainCode : List ℕ → Type 0
+IsPlainCode words = AllPlain words × All (λ word. word < 2 ^ 32) words
+
 abbrev pub ArePlain : List (Vec ℕ Global) → Type 0
-ArePlain codes = All (λ (words : Vec ℕ Global). AllPlain words.items) codes
+ArePlain codes = All (λ (words : Vec ℕ Global). IsPlainCode words.items) codes
 
 -- no hart has more words than it may have
 abbrev pub AreShort : List Code → Type 0

@@ -1,6 +1,7 @@
 //! The condition.
 
 ghost use Rattle.std.specs.Prelude.{◌≡◌, ◌≤◌, List, [], length, All, IfOk};
+ghost use Rattle.std.specs.Result.{IfErr};
 ghost use Rattle.texts.specs.Results.{Gives};
 ghost use Rattle.litmus.specs.Formulas.{Formula, places};
 ghost use Rattle.litmus.specs.Questions.{IsThere};
@@ -8,6 +9,8 @@ ghost use Rattle.litmus.specs.Drafting.{told, finished};
 ghost use Rattle.litmus.specs.declared.words.Token.{Token};
 ghost use Rattle.litmus_words.specs.Settings.{place_of as place_put, put_of};
 ghost use Rattle.litmus_words.specs.Words.{token_of as token_put, words_of};
+ghost use Rattle.litmus_reader.specs.declared.faults.LitmusFault.TheVariants.{BadCondition};
+ghost use Rattle.litmus_reader.specs.declared.refusals.Refusal.TheVariants.{At};
 ghost use Rattle.litmus_reader.specs.Faults.{fault_in};
 ghost use Rattle.litmus_reader.specs.Locations.{HasLocation, HasNames};
 ghost use Rattle.litmus_reader.specs.Condition.{Quantified, quantified_of, quantifier_in, place_met, atom_met, token_met, WordHasNames, as_condition, words_told, condition_in, condition_of};
@@ -159,7 +162,8 @@ fn read_words(
 
 /// The condition of the words.
 fn finish(draft: ConditionDraft) -> Result<Condition, Refusal>
-    ensures { Gives fault_in (λ (f : Formula). f) result (as_condition (finished draft)) }
+    ensures place { IfErr result (λ refusal. refusal ≡ At BadCondition 0) }
+    ensures exact { Gives fault_in (λ (f : Formula). f) result (as_condition (finished draft)) }
 {
     match draft.finish() {
         Ok(condition) => Ok(condition),

@@ -1,7 +1,10 @@
 //! The header line, and where the init part begins.
 
-ghost use Rattle.std.specs.Prelude.{◌≡◌, drop};
+ghost use Rattle.std.specs.Prelude.{◌≡◌, ◌≢◌, drop};
+ghost use Rattle.std.specs.Result.{IfErr};
 ghost use Rattle.texts.specs.Results.{Gives};
+ghost use Rattle.litmus_reader.specs.declared.faults.LitmusFault.TheVariants.{BadInit};
+ghost use Rattle.litmus_reader.specs.declared.refusals.Refusal.TheVariants.{NoMemory, At};
 ghost use Rattle.litmus_reader.specs.Faults.{fault_in};
 ghost use Rattle.litmus_reader.specs.Header.{has_name, is_header, behind_header as header_at, behind_brace as brace_at};
 
@@ -35,7 +38,8 @@ fn is_header(line: &[u8]) -> bool
 /// What follows the header line.
 #[tactic(auto, unfolding(crate::specs::Header::behind_header))]
 pub fn behind_header(text: &[u8]) -> Result<&[u8], Refusal>
-    ensures { Gives fault_in (λ rest. rest.now) result (header_at text.now) }
+    ensures exact { Gives fault_in (λ rest. rest.now) result (header_at text.now) }
+    ensures free { IfErr result (λ refusal. refusal ≢ NoMemory) }
 {
     let Some(text) = cut_at_line(Mark::Visible, text).1 else {
         return Err(LitmusFault::NoHeader.at_end());
@@ -60,7 +64,8 @@ fn behind_first(text: &[u8]) -> &[u8]
 /// What follows the `{` with which a line begins; the lines before it aren't read.
 #[tactic(auto, unfolding(crate::specs::Header::behind_brace))]
 pub fn behind_brace(text: &[u8]) -> Result<&[u8], Refusal>
-    ensures { Gives fault_in (λ rest. rest.now) result (brace_at text.now) }
+    ensures exact { Gives fault_in (λ rest. rest.now) result (brace_at text.now) }
+    ensures place { IfErr result (λ refusal. refusal ≡ At BadInit 0) }
 {
     match cut_at_line(Mark::Brace, text).1 {
         Some(text) => Ok(behind_first(without_front(text))),

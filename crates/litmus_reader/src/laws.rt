@@ -1,10 +1,20 @@
 //! What the definitions say of one another.
 
-ghost use Rattle.std.specs.Prelude.{◌≡◌, ℕ, List};
-ghost use Rattle.litmus_reader.specs.Reading.{Content};
-ghost use Rattle.litmus_reader.specs.Grammar.{IsContent};
+ghost use Rattle.std.specs.Prelude.{◌≡◌, ◌↔◌, ℕ, List, Ok};
+ghost use Rattle.std.specs.Result.{IsErr};
+ghost use Rattle.litmus.specs.Questions.{Question};
+ghost use Rattle.litmus_reader.specs.Reading.{Content, test_at};
+ghost use Rattle.litmus_reader.specs.Grammar.{IsContent, IsTestOf};
 
-/// A text stands for one test, at most.
+/// A text stands for one test at most, the words of its code among it. It does nothing.
 pub fn one_test()
-    ensures { (text : List ℕ) (a b : Content) → IsContent text a → IsContent text b → a ≡ b }
+    ensures contents { (text : List ℕ) (a b : Content) → IsContent text a → IsContent text b → a ≡ b }
+    ensures tests { (text : List ℕ) (a b : Question) → IsTestOf text a → IsTestOf text b → a ≡ b }
+{}
+
+/// Reading a text from the top answers what it stands for, and names a fault exactly where it stands
+/// for nothing. It does nothing.
+pub fn refused_without_value()
+    ensures read { (text : List ℕ) (content : Content) → (test_at text ≡ Ok content) ↔ IsContent text content }
+    ensures refused { (text : List ℕ) → IsErr (test_at text) ↔ ((content : Content) → ¬ IsContent text content) }
 {}

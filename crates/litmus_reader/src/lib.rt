@@ -3,11 +3,12 @@
 //! The contract: [`read`] answers the test that the text stands for, or the kind of the first fault in
 //! reading order. Which text stands for which test is told by cases in `specs/Grammar.antt`, on the
 //! shapes of texts (`Shapes`), the layout (`Layout`), the init part (`Openings`), the table (`Columns`)
-//! and the condition (`Asked`); a text has one test at most ([`laws::one_test`]). Which fault is the
-//! first one is told by the reading from the top, a function of the text (`Reading`), part by part:
-//! `Header`, `Init`, `Rows`, `Table`, `Values`, `Condition`. Both stand on the grammars of comments,
-//! items, conditions and programs in the crates below. The code is known by the instructions that its
-//! words mean, with their free fields zero. A fault's line is shown by tests alone.
+//! and the condition (`Asked`); a text has one test at most ([`laws::one_test`]), its code the one plain
+//! word of each instruction. Which fault is the first one is told by the reading from the top, a function
+//! of the text (`Reading`), part by part: `Header`, `Init`, `Rows`, `Table`, `Values`, `Condition`; it
+//! names a fault exactly where the text has no test ([`laws::refused_without_value`]). Both stand on the
+//! grammars of comments, items, conditions and programs in the crates below. The line of a place is that
+//! of `Lines`; which place a fault is met at is shown by tests and cases alone.
 //! This crate opens no file, runs no test, and knows no other form of litmus texts than its own:
 //! a header line, an init part, a table of assembly statements and a condition.
 

@@ -138,7 +138,7 @@ fn cleaned_test(alloc: Global, text: &[u8]) -> Result<Test, LitmusError>
 /// `TooMany` comes at what passes 64 harts, 4,096 words of a hart or 1,024 locations.
 pub fn read(alloc: Global, text: &str) -> Result<Test, LitmusError>
     ensures found { IfOk result (IsTestOf text.now) }
-    ensures only { (question : Asked) → IsTestOf text.now question → Gives fault_of content_of result (Ok (content_of question)) }
+    ensures only { (question : Asked) → IsTestOf text.now question → Gives fault_of (λ (test : Asked). test) result (Ok question) }
     ensures exact { Gives fault_of content_of result (test_at text.now) }
     ensures fits { IfOk result IsTest }
 {

@@ -1,11 +1,15 @@
 //! Where a text is refused.
 
-ghost use Rattle.std.specs.Prelude.{◌≡◌, Some};
-ghost use Rattle.litmus_reader.specs.declared.refusals.Refusal.TheVariants.{NoMemory};
+ghost use Rattle.std.specs.Prelude.{◌≡◌, ◌≤◌, length, Some};
+ghost use Rattle.std.specs.List.{count_by};
+ghost use Rattle.texts.specs.Cutting.{is_byte};
+ghost use Rattle.litmus_reader.specs.declared.refusals.Refusal.TheVariants.{NoMemory, At};
 ghost use Rattle.litmus_reader.specs.Faults.{fault_of, fault_in};
+ghost use Rattle.litmus_reader.specs.Lines.{last_line, line_at, error_at};
 
 use crate::faults::{LitmusError, LitmusFault};
 use std::alloc::{AllocError, AllocFailed};
+use texts::first_line;
 
 /// Why a part of a text wasn't read.
 #[derive(Clone, Copy)]
@@ -18,14 +22,16 @@ pub enum Refusal {
 impl LitmusFault {
     /// The refusal for this fault where so many bytes of the text are left.
     pub(crate) fn at(self, left: usize) -> Refusal
-        ensures { fault_in result ≡ Some self }
+        ensures fault { fault_in result ≡ Some self }
+        ensures place { result ≡ At self left }
     {
         Refusal::At { fault: self, left }
     }
 
     /// The refusal for this fault where a part of the text is missing.
     pub(crate) fn at_end(self) -> Refusal
-        ensures { fault_in result ≡ Some self }
+        ensures fault { fault_in result ≡ Some self }
+        ensures place { result ≡ At self 0 }
     {
         self.at(0)
     }
@@ -34,7 +40,8 @@ impl LitmusFault {
 impl Refusal {
     /// The refusal of the whole text, with the fault's line.
     pub fn of(self, text: &[u8]) -> LitmusError
-        ensures { fault_of result ≡ fault_in self }
+        ensures fault { fault_of result ≡ fault_in self }
+        ensures line { result ≡ error_at text.now self }
     {
         match self {
             Refusal::NoMemory => LitmusError::NoMemory,
@@ -46,32 +53,41 @@ impl Refusal {
     }
 }
 
-/// The text without the line ends at its end.
-fn without_line_ends(text: &[u8]) -> &[u8] {
-    let mut end = text.len();
-    while end > 0 && text[end - 1] == b'\n' {
-        end -= 1;
-        if end > 0 && text[end - 1] == b'\r' {
-            end -= 1;
+/// The last line that isn't empty, counted from 1, or the first one where all are empty.
+fn last_line(text: &[u8]) -> usize
+    ensures { result ≡ last_line text.now }
+{
+    let mut last = 1;
+    let mut seen = 0;
+    let mut rest = text;
+    while let Some((line, after)) = first_line(rest) {
+        seen += 1;
+        if !line.is_empty() {
+            last = seen;
         }
+        rest = after;
     }
-    &text[..end]
+    last
 }
 
 /// How many lines end in these bytes.
-fn lines_in(bytes: &[u8]) -> usize {
+fn lines_in(bytes: &[u8]) -> usize
+    ensures count { result ≡ count_by (is_byte 10) bytes.now }
+    ensures few { result ≤ length bytes.now }
+{
     bytes.iter().filter(|byte| **byte == b'\n').count()
 }
 
 /// The line, counted from 1, in which the last `left` bytes of the text begin. Where none are left, it
-/// is the last line that holds a byte other than its line end.
-fn line_at(text: &[u8], left: usize) -> usize {
-    let above = if left == 0 {
-        without_line_ends(text)
-    } else {
-        &text[..text.len().saturating_sub(left)]
-    };
-    lines_in(above).saturating_add(1)
+/// is the last line that isn't empty.
+#[tactic(auto, unfolding(crate::specs::Lines::line_at))]
+fn line_at(text: &[u8], left: usize) -> usize
+    ensures { result ≡ line_at text.now left }
+{
+    if left == 0 {
+        return last_line(text);
+    }
+    lines_in(&text[..text.len().saturating_sub(left)]) + 1
 }
 
 impl From<AllocError> for Refusal {

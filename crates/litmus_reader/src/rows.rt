@@ -6,7 +6,7 @@ ghost use Rattle.std.specs.List.{count_by};
 ghost use Rattle.texts.specs.Cutting.{is_byte};
 ghost use Rattle.texts.specs.Results.{Gives};
 ghost use Rattle.litmus_reader.specs.Faults.{fault_in};
-ghost use Rattle.litmus_reader.specs.Rows.{is_blank_line, row_in, cells_of, names_hart, all_named, harts_in};
+ghost use Rattle.litmus_reader.specs.Rows.{is_blank_line, row_in, cells_of, names_hart, name_harts, harts_in};
 
 use crate::faults::LitmusFault;
 use crate::parts::first_part;
@@ -47,7 +47,8 @@ fn count_bars(row: &[u8]) -> usize
 
 /// How many cells the row has.
 pub fn count_cells(row: &[u8]) -> usize
-    ensures { result ≡ length (cells_of row.now) }
+    ensures count { result ≡ length (cells_of row.now) }
+    ensures some { 1 ≤ result }
 {
     count_bars(row) + 1
 }
@@ -60,25 +61,26 @@ fn names_hart(alloc: Global, cell: &[u8], hart: usize) -> Result<bool, AllocErro
     Ok(trimmed(cell) == name.as_bytes())
 }
 
-/// How many harts the cells of the first row name, in order.
-fn count_harts(alloc: Global, row: &[u8], left: usize) -> Result<usize, Refusal>
-    ensures exact { Gives fault_in (λ harts. harts) result (all_named (cells_of row.now)) }
-    ensures some { IfOk result (λ harts. 1 ≤ harts) }
+/// Whether the cells of the first row name the harts in order.
+fn name_harts(alloc: Global, row: &[u8]) -> Result<bool, AllocError>
+    requires { length (cells_of row.now) ≤ 64 }
+    ensures { IfOk result (λ named. named ≡ name_harts 0 (cells_of row.now)) }
 {
-    let mut harts = 0;
+    let mut hart = 0;
     let mut rest = Some(row);
     while let Some(bytes) = rest {
         let (cell, after) = first_part(bytes, b'|');
-        if !names_hart(alloc, cell, harts)? {
-            return Err(LitmusFault::BadTable.at(left));
+        if !names_hart(alloc, cell, hart)? {
+            return Ok(false);
         }
-        harts += 1;
+        hart += 1;
         rest = after;
     }
-    Ok(harts)
+    Ok(true)
 }
 
-/// How many harts the first row names: 1 to 64. Its faults are met where so many bytes are left.
+/// How many harts the first row names: 1 to 64. It is too long before its cells are judged. Its faults
+/// are met where so many bytes are left.
 #[tactic(auto, unfolding(crate::specs::Rows::harts_in))]
 pub fn harts_in(alloc: Global, line: &[u8], left: usize) -> Result<usize, Refusal>
     ensures exact { Gives fault_in (λ harts. harts) result (harts_in line.now) }
@@ -88,9 +90,12 @@ pub fn harts_in(alloc: Global, line: &[u8], left: usize) -> Result<usize, Refusa
     let Some(row) = row_in(line) else {
         return Err(LitmusFault::BadTable.at(left));
     };
-    let harts = count_harts(alloc, row, left)?;
+    let harts = count_cells(row);
     if harts > MAX_HARTS {
         return Err(LitmusFault::TooMany.at(left));
+    }
+    if !name_harts(alloc, row)? {
+        return Err(LitmusFault::BadTable.at(left));
     }
     Ok(harts)
 }

@@ -1,11 +1,12 @@
 //! The table: a column of assembly for each hart.
 
-ghost use Rattle.std.specs.Prelude.{◌≡◌, ◌≤◌, List, [], length, map, replicate, IfOk, IsSome};
+ghost use Rattle.std.specs.Prelude.{◌≡◌, ◌^◌, ◌<◌, ◌≤◌, List, [], length, map, replicate, All, IfOk};
 ghost use Rattle.std.specs.Option.{option_copied};
 ghost use Rattle.texts.specs.Results.{Gives};
 ghost use Rattle.litmus_reader.specs.Faults.{fault_in};
 ghost use Rattle.litmus_reader.specs.Parts.{parts_after};
 ghost use Rattle.litmus_reader.specs.Rows.{cells_of};
+ghost use Rattle.litmus_reader.specs.Lines.{earlier, left_at_row};
 ghost use Rattle.litmus_reader.specs.Table.{Column, cell_told, cells_told, line_told, lines_told, table_at, codes_of, instructions, ArePlain, AreShort};
 
 use crate::faults::LitmusFault;
@@ -48,6 +49,11 @@ fn tell(column: &mut Draft, cell: &[u8], left: usize) -> Result<(), Refusal>
     }
     Ok(())
 }
+
+/// Words have 32 bits, as their type says. It does nothing.
+fn have_32_bits(words: &[u32])
+    ensures { All (λ word. word < 2 ^ 32) words.now }
+{}
 
 impl Table {
     /// A table of so many harts and no row yet.
@@ -116,9 +122,12 @@ impl Table {
         let mut faulty = None;
         for column in self.columns {
             match column.finish() {
-                Ok(words) => codes.push(words)?,
+                Ok(words) => {
+                    have_32_bits(&words);
+                    codes.push(words)?;
+                }
                 Err(AsmError::NoMemory) => return Err(Refusal::NoMemory),
-                Err(AsmError::Refused { line, .. }) => faulty = earlier(faulty, line),
+                Err(AsmError::Refused { line, .. }) => faulty = Some(earlier(faulty, line)),
             }
         }
         match faulty {
@@ -141,19 +150,22 @@ impl Table {
     }
 }
 
-/// The earlier one of two rows, where there may be one already.
-fn earlier(row: Option<usize>, other: usize) -> Option<usize>
-    ensures { IsSome result }
+/// The first row of those so far, if there are any, and this one.
+fn earlier(so_far: Option<usize>, row: usize) -> usize
+    ensures { result ≡ earlier so_far row }
 {
-    match row {
-        Some(row) if row < other => Some(row),
-        _ => Some(other),
+    match so_far {
+        Some(first) => first.min(row),
+        None => row,
     }
 }
 
 /// How many bytes of the table's text are left at the row, which counts from 0 for the first one.
 /// Only a fault's line is told by it.
-fn left_at_row(text: &[u8], row: usize) -> usize {
+#[tactic(auto, using(crate::proofs::LineLaws::row_here), unfolding(crate::specs::Lines::left_at_row))]
+fn left_at_row(text: &[u8], row: usize) -> usize
+    ensures { result ≡ left_at_row text.now row }
+{
     let mut rows = row;
     let mut rest = Some(text);
     while let Some(bytes) = rest {

@@ -2,7 +2,7 @@
 use Rattle.std.proofs.Common.{◌≡◌, ℕ, ◌-◌, ◌≤◌, ◌==◌, Bool, true, false, ◌&&◌, ◌||◌, ◌⊎◌, inl, inr, List, [], ◌∷◌, ◌++◌, length, take, drop, nat_eq, Result, Ok, Err, refl, sym, ap, subst, ◌∙◌, length-append, arith}
 use Rattle.std.specs.Prelude.{IfOk}
 use Rattle.std.specs.List.{starts_with}
-use Rattle.std.proofs.lemmas.Bool.{eqb-true}
+use Rattle.std.proofs.lemmas.Bool.{eqb-true, and_parts}
 use Rattle.std.proofs.lemmas.Bool.Decides.{Decides-eqb}
 use Rattle.std.proofs.lemmas.Slice.Eq.{starts_is}
 use Rattle.std.proofs.lemmas.List.{take_all, length-drop}
@@ -19,11 +19,6 @@ use Rattle.recorder.proofs.TextLaws.{tokens_from-IsTokensOf, IsTokensOf-tokens_f
 pub rest_from : (start : ℕ) (text : List ℕ) → take (length text - start) (drop start text) ≡ drop start text
 rest_from start text = take_all (length text - start) (drop start text) (omega (arith, length-drop start text))
 
-and_true : (a b : Bool) → (a && b) ≡ true → (a ≡ true) × (b ≡ true)
-and_true true true e = (refl, refl)
-and_true true false e = absurd cc
-and_true false b e = absurd cc
-
 or_true : (a b : Bool) → (a || b) ≡ true → (a ≡ true) ⊎ (b ≡ true)
 or_true true b e = inl refl
 or_true false b e = inr e
@@ -34,11 +29,11 @@ EndsLine-of : (behind : List ℕ) → ends_line behind ≡ true → EndsLine beh
 EndsLine-of [] e = tt
 EndsLine-of (c ∷ []) e = elim (or_true (c == 10) ((c == 13) && false) e) [
   | inl lf ↦ eqb-true c 10 lf
-  | inr cr ↦ (let never : false ≡ true = (and_true (c == 13) false cr).1 in absurd cc)
+  | inr cr ↦ (let never : false ≡ true = (and_parts (c == 13) false cr).1 in absurd cc)
 ]
 EndsLine-of (c ∷ d ∷ rest) e = elim (or_true (c == 10) ((c == 13) && (d == 10)) e) [
   | inl lf ↦ inl (eqb-true c 10 lf)
-  | inr cr ↦ (let both = and_true (c == 13) (d == 10) cr in inr (eqb-true c 13 both.0, eqb-true d 10 both.1))
+  | inr cr ↦ (let both = and_parts (c == 13) (d == 10) cr in inr (eqb-true c 13 both.0, eqb-true d 10 both.1))
 ]
 
 ends_line-of : (behind : List ℕ) → EndsLine behind → ends_line behind ≡ true
@@ -54,16 +49,13 @@ ends_line-of (c ∷ d ∷ rest) ends = elim ends [
 head_cut : (text : List ℕ) → has_head text ≡ true → (text ≡ head ++ drop 15 text) × EndsLine (drop 15 text)
 unfolding has_head
 head_cut text e =
-    let both = and_true (starts_with nat_eq text head) (ends_line (drop 15 text)) e in
+    let both = and_parts (starts_with nat_eq text head) (ends_line (drop 15 text)) e in
     let cut = starts_is Decides-eqb text head (starts_with nat_eq text head) refl in
     (cut.0 both.0, EndsLine-of (drop 15 text) both.1)
 
 head_stands : (body : List ℕ) → EndsLine body → has_head (head ++ body) ≡ true
 unfolding has_head
 head_stands body ends = ends_line-of body ends
-
-pub head_has_length : (text : List ℕ) → has_head text ≡ true → 15 ≤ length text
-head_has_length text e = omega (arith, ap length (head_cut text e).0, length-append head (drop 15 text))
 
 -- ---- a schedule
 

@@ -6,3 +6,4 @@ pub mod Runs
 pub mod Longest
 pub mod RoundTrip
 pub mod Drawn
+pub mod Refused

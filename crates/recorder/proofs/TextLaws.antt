@@ -134,10 +134,6 @@ tokens_after-IsTokensOf before text events e =
 pub IsTokensOf-tokens_after : (before : ℕ) (text : List ℕ) (events : List Event) → IsTokensOf text events → before + length events ≤ 1048576 → tokens_after before text ≡ Ok events
 IsTokensOf-tokens_after before text events is few = tokens_after-less before text events (IsTokensOf-tokens_at 1048576 text events (omega arith) is is.1) (omega arith)
 
-pub found_pushed : (before : ℕ) (text : List ℕ) (old new : List Event) (result : Result (Unit {0}) ScheduleError) → Pushes old new result (tokens_after before text) → OnOk result ((read : List Event) × IsTokensOf text read × (new ≡ old ++ read))
-found_pushed before text old new (Ok x) pushes = (pushes.0, tokens_after-IsTokensOf before text pushes.0 pushes.1, pushes.2)
-found_pushed before text old new (Err e) pushes = tt
-
 pub only_pushed : (before : ℕ) (text : List ℕ) (old new read : List Event) (result : Result (Unit {0}) ScheduleError) → Pushes old new result (tokens_after before text) → IsTokensOf text read → before + length read ≤ 1048576 → Pushes old new result (Ok read)
 only_pushed before text old new read result pushes is few = subst (λ (answer : Result (List Event) Refusal). Pushes old new result answer) (IsTokensOf-tokens_after before text read is few) pushes
 

@@ -1,14 +1,25 @@
 //! Laws of the grammar and of what is written.
 
-ghost use Rattle.std.specs.Prelude.{◌≡◌, ◌≤◌, ℕ, List, length};
+ghost use Rattle.std.specs.Prelude.{◌≡◌, ◌≤◌, ◌↔◌, ◌+◌, ℕ, List, length};
+ghost use Rattle.std.specs.Result.{IsErr};
 ghost use Rattle.step_machine.specs.declared.events.Event.{Event};
 ghost use Rattle.recorder.specs.Schedule.{OfHarts, IsTokensOf, IsScheduleOf};
+ghost use Rattle.recorder.specs.Reading.{tokens_at, tokens_after, schedule_at};
 ghost use Rattle.recorder.specs.Writing.{Run, runs_of, expanded, AreLongest, tokens_of};
 
 /// A text's tokens stand for one list of events at most, and so does a schedule. It does nothing.
 pub fn one_value()
     ensures tokens { (text : List ℕ) → (a b : List Event) → IsTokensOf text a → IsTokensOf text b → a ≡ b }
     ensures schedules { (text : List ℕ) → (a b : List Event) → IsScheduleOf text a → IsScheduleOf text b → a ≡ b }
+{}
+
+/// Reading a text from the left names a fault exactly where its tokens stand for no events, or where it
+/// is no schedule; behind other events, where there is no room for those that it stands for. It does
+/// nothing.
+pub fn refused_without_value()
+    ensures tokens { (text : List ℕ) → IsErr (tokens_at 1048576 text) ↔ ((events : List Event) → ¬ IsTokensOf text events) }
+    ensures further { (before : ℕ) (text : List ℕ) → before ≤ 1048576 → IsErr (tokens_after before text) ↔ ((events : List Event) → IsTokensOf text events → ¬ (before + length events ≤ 1048576)) }
+    ensures schedules { (text : List ℕ) → IsErr (schedule_at text) ↔ ((events : List Event) → ¬ IsScheduleOf text events) }
 {}
 
 /// The runs that are written for some events are those events, and no two of them could be one; there

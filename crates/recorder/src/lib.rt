@@ -2,7 +2,8 @@
 //!
 //! The contract: [`read_schedule`] and [`read_tokens`] answer the one list of events that a text
 //! stands for by the grammar of `specs/Schedule.antt`, or name the first fault from the left and its
-//! byte (`specs/Reading.antt`); [`write_schedule`] writes the one canonical text of its events
+//! byte (`specs/Reading.antt`), which they do exactly where the text stands for none
+//! ([`refused_without_value`]); [`write_schedule`] writes the one canonical text of its events
 //! (`specs/Writing.antt`), which is read as these events again. [`seeded`] draws events by a
 //! generator's words (`specs/Drawing.antt`), and [`replay`] runs them from a machine's opening.
 //! This crate opens no file and judges no outcome: events of any harts below 64 are read and written,
@@ -21,7 +22,7 @@ pub mod writing;
 
 pub use drawing::seeded;
 pub use faults::{ScheduleError, ScheduleFault};
-pub use laws::{longest_runs, one_value, tokens_are_read_again};
+pub use laws::{longest_runs, one_value, refused_without_value, tokens_are_read_again};
 pub use reading::{MAX_EVENTS, push_tokens_of, read_schedule, read_tokens};
 pub use replaying::replay;
 pub use writing::{push_tokens, write_schedule};

@@ -35,35 +35,6 @@ fn tokens_stand_for_events(rt: HostRuntime) -> Result<(), Fail> {
 }
 
 #[test]
-fn the_first_fault_is_named(rt: HostRuntime) {
-    let rows = [
-        ("a0*0", 30, 0),
-        ("a", 31, 1),
-        ("a64", 29, 0),
-        ("b0", 28, 0),
-        ("a0*1048577", 30, 0),
-        ("a0*", 31, 3),
-        ("a ", 28, 0),
-        ("a*", 28, 0),
-        ("l1 a0*1048576", 30, 3),
-        ("a0 a4294967297 b", 29, 3),
-        ("a0 A0", 28, 3),
-        ("a0*1*2", 28, 0),
-        ("a64*0", 29, 0),
-        ("a0 l5*", 31, 6),
-    ];
-    for (text, number, place) in rows {
-        match read_tokens(rt.alloc(), text) {
-            Err(ScheduleError::Refused { fault, place: byte }) => {
-                assert_eq!(rt; fault.number(), number, "at {text}");
-                assert_eq!(rt; byte, place, "at {text}");
-            }
-            _ => assert!(rt; false, "{text} is refused"),
-        }
-    }
-}
-
-#[test]
 fn schedules_are_a_head_and_tokens(rt: HostRuntime) -> Result<(), Fail> {
     let alloc = rt.alloc();
     assert_eq!(rt; read_schedule(alloc, "ztso-schedule 1")?.len(), 0);
@@ -72,28 +43,6 @@ fn schedules_are_a_head_and_tokens(rt: HostRuntime) -> Result<(), Fail> {
         events.as_slice(),
         [Event::Act(1), Event::Land(1), Event::Land(1)].as_slice()
     );
-    let rows = [
-        ("ztso-schedule 1\na0*0", 30, 16),
-        ("ztso-schedule 1\na", 31, 17),
-        ("ztso-schedule 1\na64", 29, 16),
-        ("ztso-schedule 1\nb0", 28, 16),
-        ("ztso-schedule 1\na0*1048577", 30, 16),
-        ("ztso-schedule 1\r\nl1 a0*1048576", 30, 20),
-        ("ztso-schedule 3", 27, 0),
-        ("", 27, 0),
-        ("ztso-schedule 1\r", 27, 0),
-        ("ztso-schedule 1 \na0", 27, 0),
-        ("ztso-schedule 1\r\r\na0", 27, 0),
-    ];
-    for (text, number, place) in rows {
-        match read_schedule(alloc, text) {
-            Err(ScheduleError::Refused { fault, place: byte }) => {
-                assert_eq!(rt; fault.number(), number, "at {text}");
-                assert_eq!(rt; byte, place, "at {text}");
-            }
-            _ => assert!(rt; false, "{text} is refused"),
-        }
-    }
     Ok(())
 }
 

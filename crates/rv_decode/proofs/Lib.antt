@@ -2,3 +2,5 @@ pub mod Bits
 pub mod Unique
 pub mod Meanings
 pub mod Words
+pub mod PlainWords
+pub mod TableLaws

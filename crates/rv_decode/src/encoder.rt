@@ -1,10 +1,10 @@
 //! From an instruction to a word that means it.
 
-ghost use Rattle.std.specs.Prelude.{◌≡◌, ◌<◌, ◌^◌, ◌↔◌, Some, IsTrue};
+ghost use Rattle.std.specs.Prelude.{◌≡◌, ◌<◌, ◌^◌, ◌↔◌, ℕ, Some, IsTrue};
 ghost use Rattle.rv_decode.specs.Word.{field, opcode_of, rd_of, funct3_of, rs1_of, rs2_of, funct7_of, imm_i, imm_s, imm_b, imm_u, imm_j};
 ghost use Rattle.rv_decode.specs.Means.{Means, Rd, Rs1, Rs2};
 ghost use Rattle.rv_decode.specs.Meaning.{meaning};
-ghost use Rattle.rv_decode.specs.Fits.{Fits, HasPlainFence, HasWord, IsEven, IsSigned};
+ghost use Rattle.rv_decode.specs.Fits.{Fits, HasPlainFence, HasWord, IsEven, IsPlainWord, IsSigned};
 
 use crate::instruction::{Instr, Reg, ShiftOp};
 use crate::opcode;
@@ -65,15 +65,16 @@ fn is_jump_offset(offset: i32) -> bool
     (-0x10_0000..0x10_0000).contains(&offset) && offset % 2 == 0
 }
 
-/// A word that means `instr`, which fits (see [`fits`]).
+/// The plain word of `instr`, which fits (see [`fits`]).
 ///
 /// Where several words mean it, as they do for a FENCE, the fields that decide nothing are zero.
-#[tactic(auto, using(crate::proofs::Meanings::meaning_of))]
+#[tactic(auto, using(crate::proofs::Meanings::meaning_of, crate::proofs::PlainWords::one_plain_word))]
 pub fn encode(instr: &Instr) -> u32
     requires { Fits instr.now }
     ensures means { Means result instr.now }
     ensures fence { HasPlainFence result instr.now }
     ensures again { meaning result ≡ Some instr.now }
+    ensures only { (word : ℕ) → IsPlainWord word instr.now → word ≡ result }
 {
     row_word(instr)
 }

@@ -2,7 +2,9 @@
 //!
 //! The contract: [`decode`] answers an instruction exactly where the word means it by the table of
 //! the RISC-V Unprivileged ISA (`specs/Means.antt`), and `None` exactly where no row of it applies.
-//! [`encode`] gives a word that means the instruction, wherever [`fits`] says that there is one.
+//! [`encode`] gives the one plain word that means the instruction, wherever [`fits`] says that there is
+//! one ([`laws::one_plain_word`]).
+//! [`register_named`] answers the register of a name, by the table of `specs/Registers.antt`.
 //! This crate executes nothing, keeps no state and takes no memory.
 
 #![tactic(auto)]
@@ -10,8 +12,11 @@
 mod decoder;
 mod encoder;
 pub mod instruction;
+pub mod laws;
 mod opcode;
 mod operations;
+pub mod registers;
+pub mod tables;
 #[cfg(test)]
 mod tests;
 mod word;
@@ -21,3 +26,4 @@ pub use encoder::{encode, fits};
 pub use instruction::{
     AmoOp, BranchOp, ImmediateOp, Instr, LoadOp, Reg, RegisterOp, ShiftOp, StoreOp,
 };
+pub use registers::register_named;

@@ -1,10 +1,10 @@
-//! Words as LLVM's assembler makes them, both ways.
+//! Words as LLVM's assembler makes them, both ways, and names of registers.
 
 ghost use Rattle.std.specs.Prelude.{◌<◌};
 
 use crate::{
     AmoOp, BranchOp, ImmediateOp, Instr, LoadOp, Reg, RegisterOp, ShiftOp, StoreOp, decode, encode,
-    fits,
+    fits, register_named,
 };
 
 fn x(number: u8) -> Reg
@@ -183,21 +183,22 @@ fn free_fields_of_a_fence(rt: HostRuntime) {
 }
 
 #[test]
-fn numbers_past_their_range(rt: HostRuntime) {
-    let past = [
-        Instr::Lui {
-            rd: x(1),
-            upper: 0x10_0000,
-        },
-        jal(x(1), 3),
-        jal(x(1), 0x10_0000),
-        beq(x(2), x(3), 0x1000),
-        load(LoadOp::Word, x(1), -0x801, x(2)),
-        addi(x(1), x(2), 0x800),
-        shift(ShiftOp::Left, x(1), x(2), 32),
-        Instr::Fence { pred: 16, succ: 0 },
+fn registers_have_two_names(rt: HostRuntime) {
+    let numbers = [
+        ("x0", 0),
+        ("zero", 0),
+        ("x16", 16),
+        ("a6", 16),
+        ("s0", 8),
+        ("fp", 8),
+        ("x31", 31),
+        ("t6", 31),
     ];
-    for instr in past {
-        assert!(rt; !fits(&instr), "{instr:?}");
+    for (name, number) in numbers {
+        let register = register_named(name.as_bytes());
+        assert_eq!(rt; register.map(|register| register.number), Some(number));
+    }
+    for name in ["x32", "x00", "X1", "pc", ""] {
+        assert_eq!(rt; register_named(name.as_bytes()), None);
     }
 }

@@ -4,3 +4,6 @@ pub mod NumberLaws
 pub mod ResultLaws
 pub mod CuttingLaws
 pub mod Magnitudes
+pub mod SolidLaws
+pub mod SplitLaws
+pub mod TrimLaws

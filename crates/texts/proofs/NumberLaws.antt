@@ -4,7 +4,7 @@ use Rattle.std.specs.Prelude.{IfSome}
 use Rattle.std.specs.List.{list_all}
 use Rattle.std.specs.Char.{digit_value, is_digit}
 use Rattle.std.specs.Str.Parse.{IsNumeral, AllDigits, digits_value}
-use Rattle.std.proofs.lemmas.Bool.{ltb-true, lt-ltb, le-ltb, cases_lt, eqb-true, ne_eqb}
+use Rattle.std.proofs.lemmas.Bool.{ltb-true, lt-ltb, le-ltb, cases_lt, eqb-true, ne_eqb, and_parts}
 use Rattle.std.proofs.lemmas.List.Folds.{list_all_more, list_all_at}
 use Rattle.std.proofs.lemmas.Int.Digits.{digits_value_more, digits_value-lt}
 use Rattle.std.proofs.lemmas.Fmt.{decimal_is_IsNumeral}
@@ -12,16 +12,10 @@ use Rattle.std.specs.Fmt.{decimal}
 use Rattle.std.proofs.Math.Nat.{mul-le-mul_left, mul-le-mul_right, le_trans}
 use Rattle.texts.specs.Numbers.{Says, SaysInHex, IsHexWord, capped, is_numeral, capped_value, number_of, hex_number_of, below_cap_of, word_of, hex_word_of}
 
--- two tests that both passed
-and_true : (a b : Bool) → (a && b) ≡ true → (a ≡ true) × (b ≡ true)
-and_true true true e = (refl, refl)
-and_true true false e = absurd cc
-and_true false b e = absurd cc
-
 AllDigits-from_list_all : (radix : ℕ) (digits : List ℕ) → list_all (λ c. is_digit c radix) digits ≡ true → AllDigits radix digits
 AllDigits-from_list_all radix [] e = tt
 AllDigits-from_list_all radix (c ∷ digits) e =
-    let both = and_true (is_digit c radix) (list_all (λ d. is_digit d radix) digits) e in
+    let both = and_parts (is_digit c radix) (list_all (λ d. is_digit d radix) digits) e in
     (ltb-true (digit_value c) radix both.0, AllDigits-from_list_all radix digits both.1)
 
 list_all-from_AllDigits : (radix : ℕ) (digits : List ℕ) → AllDigits radix digits → list_all (λ c. is_digit c radix) digits ≡ true

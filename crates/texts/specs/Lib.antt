@@ -3,3 +3,5 @@ pub mod Pieces
 pub mod Numbers
 pub mod Cutting
 pub mod Integers
+pub mod Padding
+pub mod Letters

@@ -2,7 +2,7 @@
 use Rattle.std.specs.Prelude.{ℕ, ◌+◌, ◌==◌, Bool, ◌||◌, List, [], ◌∷◌, length, Option, None, Some}
 use Rattle.std.specs.List.{slice_split}
 use Rattle.texts.specs.declared.pieces.Separators.{Separators}
-use Rattle.texts.specs.declared.pieces.Separators.TheVariants.{Blanks, BlanksAndLineEnds}
+use Rattle.texts.specs.declared.pieces.Separators.TheVariants.{Spaces, Blanks, BlanksAndLineEnds}
 
 -- a space or a tab
 abbrev pub is_blank : ℕ → Bool
@@ -13,6 +13,7 @@ abbrev pub is_blank_or_line_end : ℕ → Bool
 is_blank_or_line_end byte = (byte == 32) || (byte == 9) || (byte == 13) || (byte == 10)
 
 abbrev pub separates : Separators → ℕ → Bool
+separates Spaces byte = byte == 32
 separates Blanks byte = is_blank byte
 separates BlanksAndLineEnds byte = is_blank_or_line_end byte
 

@@ -7,6 +7,8 @@ ghost use Rattle.texts.specs.Pieces.{separates, pieces, pieces_after, bytes_left
 /// Which bytes part the pieces of a text.
 #[derive(Clone, Copy, Debug, PartialEq, Eq)]
 pub enum Separators {
+    /// Spaces alone.
+    Spaces,
     /// Spaces and tabs: the blanks of a line.
     Blanks,
     /// Spaces, tabs, CR and LF: the blanks of a text in which line ends mean nothing more.
@@ -19,6 +21,7 @@ impl Separators {
         ensures { result ≡ separates self byte }
     {
         match self {
+            Separators::Spaces => byte == b' ',
             Separators::Blanks => byte == b' ' || byte == b'\t',
             Separators::BlanksAndLineEnds => {
                 byte == b' ' || byte == b'\t' || byte == b'\r' || byte == b'\n'

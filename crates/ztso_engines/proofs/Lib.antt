@@ -8,6 +8,8 @@ pub mod Answered
 pub mod Counted
 pub mod StateLines
 pub mod Judging
+pub mod Endings
+pub mod HistoryLaws
 pub mod LineFaulted
 pub mod HexLines
 pub mod HexWords
@@ -23,3 +25,5 @@ pub mod TrialLaws
 pub mod OutcomeLines
 pub mod OutcomeLaws
 pub mod OneText
+mod ListTexts
+pub mod OneAnswer

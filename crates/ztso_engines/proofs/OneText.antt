@@ -22,7 +22,7 @@ use Rattle.ztso_engines.proofs.Rows.{same_itself}
 
 -- ---- one verdict
 
-one_verdict : (M : ℕ) (q : Question) (t : History) (v w : Verdict) → IsVerdict M q t v → IsVerdict M q t w → v ≡ w
+pub one_verdict : (M : ℕ) (q : Question) (t : History) (v w : Verdict) → IsVerdict M q t v → IsVerdict M q t w → v ≡ w
 one_verdict M q t Holds Holds h k = refl
 one_verdict M q t Holds Fails h k = absurd (let a = h.1 in let b = k.1 in cc)
 one_verdict M q t Holds Unfinished h k = absurd (k h.0)

@@ -18,7 +18,7 @@ use Rattle.ztso_engines.specs.declared.trials.tally.Row.{Row}
 use Rattle.ztso_engines.specs.declared.trials.tally.Tally.{Tally}
 use Rattle.ztso_engines.specs.Trials.{Trial, AreTrials, is_holds, is_fails, gave, are_good}
 use Rattle.ztso_engines.specs.Outcomes.{schedule_text, first_schedule_text, line_of, outcome_line, unfinished_line, AreOutcomes, IsTried}
-use Rattle.ztso_engines.specs.Tallies.{Told, told_by, is_key, told_of, seen_of, IsTallyOf, order, AreFound, row_line, good_by}
+use Rattle.ztso_engines.specs.inner.Tallies.{Told, told_by, is_key, told_of, seen_of, IsTallyOf, order, AreFound, row_line, good_by}
 use Rattle.ztso_engines.proofs.Rows.{same_is, same_itself}
 
 abbrev Rows : Type 0

@@ -12,7 +12,7 @@ use Rattle.std.proofs.lemmas.Slice.Eq.{bytes_eq-Decides}
 use Rattle.std.proofs.lemmas.Map.Text.{is_eq-slice_cmp}
 use Rattle.step_machine.specs.declared.events.Event.{Event}
 use Rattle.ztso_engines.specs.declared.trials.tally.Row.{Row}
-use Rattle.ztso_engines.specs.Tallies.{told_by, is_key, told_of, told_more, Counts, order}
+use Rattle.ztso_engines.specs.inner.Tallies.{told_by, is_key, told_of, told_more, Counts, order}
 
 pub same_is : (xs ys : List ℕ) → is_eq (slice_cmp nat_cmp xs ys) ≡ true → xs ≡ ys
 same_is xs ys e = (bytes_eq-Decides xs ys).0 (sym (is_eq-slice_cmp xs ys) ∙ e)

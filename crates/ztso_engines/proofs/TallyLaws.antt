@@ -14,7 +14,7 @@ use Rattle.litmus.specs.declared.verdict.Verdict.{Verdict}
 use Rattle.ztso_engines.specs.declared.trials.tally.Tally.{Tally}
 use Rattle.ztso_engines.specs.Trials.{Trial, is_finished, is_holds, is_fails, gave}
 use Rattle.ztso_engines.specs.Outcomes.{schedule_text, unfinished}
-use Rattle.ztso_engines.specs.Tallies.{Told, told_of, told_more, seen_of, Counts, IsTallyOf, Tallies}
+use Rattle.ztso_engines.specs.inner.Tallies.{Told, told_of, told_more, seen_of, Counts, IsTallyOf, Tallies}
 
 -- ---- counts of a list and one element more
 

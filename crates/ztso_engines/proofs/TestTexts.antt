@@ -1,6 +1,6 @@
 -- Inputs that are litmus texts.
 use Rattle.std.proofs.Common.{◌≡◌, ℕ, ◌<◌, ◌≤◌, List, length, Result, Ok, Err, refl, sym, ◌∙◌}
-use Rattle.std.specs.Prelude.{Option, Some, None, IfSome}
+use Rattle.std.specs.Prelude.{Option, Some, None, IfSome, IsErr}
 use Rattle.std.specs.Global.{Vec}
 use Rattle.std.proofs.lemmas.Bool.{lt-ltb}
 use Rattle.std.specs.Str.{IsUtf8}
@@ -8,11 +8,13 @@ use Rattle.litmus_reader.specs.declared.faults.LitmusFault.{LitmusFault}
 use Rattle.litmus_reader.specs.declared.faults.LitmusError.{LitmusError}
 use Rattle.litmus_reader.specs.declared.faults.LitmusError.TheVariants as error
 use Rattle.litmus_reader.specs.Faults.{fault_of}
-use Rattle.litmus_reader.specs.Reading.{Content, test_at}
+use Rattle.litmus.specs.Questions.{Question}
+use Rattle.litmus_reader.specs.Reading.{Content, content_of, test_at}
+use Rattle.ztso_engines.specs.declared.fault.Fault.{Fault}
 use Rattle.ztso_engines.specs.declared.fault.Refusal.{Refusal}
 use Rattle.ztso_engines.specs.Faults.{Answers, too_large, not_text}
-use Rattle.ztso_engines.specs.Engines.{judged}
-use Rattle.ztso_engines.specs.Tests.{refused_at, fault_of_error, test_of, IsNoTest}
+use Rattle.ztso_engines.specs.Engines.{judged, OfInput}
+use Rattle.ztso_engines.specs.Tests.{refused_at, fault_of_error, test_of, IsNoTest, HasNoTest}
 use Rattle.ztso_engines.proofs.Judging.{judged_text, judged_no_text, judged_well}
 
 -- an error tells the fault at some line
@@ -39,8 +41,8 @@ test_or_none input line other test refusal e f =
     let well = judged_well (test_of line) input test e in
     well_or_refused (test_at input) line other test refusal well.2 (sym (judged_text (test_of other) input well.0 well.1) ∙ f)
 
--- so nothing need be shown of what happens where the input, if it is known, is refused
-pub not_refused : (given : Option (List ℕ)) (input : Vec ℕ) (test : Content) (Then : Type 0) → IfSome given (λ bytes. input.items ≡ bytes) → (line : ℕ) × (judged (test_of line) input.items ≡ Ok test)
-    → IfSome given (λ bytes. (refusal : Refusal) → IsNoTest bytes refusal → Then)
-not_refused None input test Then is well = tt
-not_refused (Some bytes) input test Then is well = λ refusal none. absurd (test_or_none bytes well.0 none.0 test refusal (rw is at well.1) none.1)
+-- so what reads such an input answers no test
+pub no_test_no_answer : (known : Option (List ℕ)) (input : Vec ℕ) (result : Result Question Fault) → OfInput known (λ bytes. input.items ≡ bytes) → (line : ℕ) × Answers content_of result (judged (test_of line) input.items) → HasNoTest known → IsErr result
+no_test_no_answer known input (Err fault) is answers none = refl
+no_test_no_answer (Some bytes) input (Ok q) is answers none = absurd (test_or_none bytes answers.0 none.1.0 (content_of q) none.0 (rw is at answers.1) none.1.1)
+no_test_no_answer None input (Ok q) is answers none = absurd none

@@ -46,6 +46,6 @@ hex_line word = hex_text word ++ 10 ∷ []
 
 -- What answers an input: the lines of the words that it is assembled to, where it is a text within the
 -- limit that is, else the refusal for its first fault.
-abbrev pub IsAsmAnswer : List ℕ → Result (List ℕ) Refusal → Type 0
-IsAsmAnswer input (Ok out) = (words : List ℕ) × Accepted IsCode input words × (out ≡ flat_map hex_line words)
+abbrev pub IsAsmAnswer : List ℕ → Result (List ℕ × Unit {0}) Refusal → Type 0
+IsAsmAnswer input (Ok answer) = (words : List ℕ) × Accepted IsCode input words × (answer.0 ≡ flat_map hex_line words)
 IsAsmAnswer input (Err refusal) = judged asm_at input ≡ Err refusal

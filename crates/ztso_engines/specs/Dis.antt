@@ -40,6 +40,6 @@ instr_line word = meant_text (meaning word) ++ 10 ∷ []
 
 -- What answers an input: the lines of what its words mean, where it is a text of words within the
 -- limit, else the refusal for its first fault.
-abbrev pub IsDisAnswer : List ℕ → Result (List ℕ) Refusal → Type 0
-IsDisAnswer input (Ok out) = (code : List ℕ) × Accepted SaysCode input code × (out ≡ flat_map instr_line code)
+abbrev pub IsDisAnswer : List ℕ → Result (List ℕ × Unit {0}) Refusal → Type 0
+IsDisAnswer input (Ok answer) = (code : List ℕ) × Accepted SaysCode input code × (answer.0 ≡ flat_map instr_line code)
 IsDisAnswer input (Err refusal) = judged dis_at input ≡ Err refusal

@@ -1,11 +1,11 @@
 pub mod Faults
 pub mod Input
-pub mod Output
 pub mod Words
 pub mod LineFaults
 pub mod Code
 pub mod Told
 pub mod StepsText
+pub mod Lists
 pub mod StepsReading
 pub mod StateText
 pub mod Engines
@@ -14,11 +14,12 @@ pub mod Asm
 pub mod Dis
 pub mod Tests
 pub mod Schedules
+pub mod Histories
 pub mod Run
 pub mod EntryText
 pub mod Replay
 pub mod Trials
 pub mod Outcomes
-pub mod Tallies
 pub mod Sessions
 pub mod Walks
+pub mod inner

@@ -18,6 +18,6 @@ pub record IsStateText (B M : ℕ) (told : Told) (out : List ℕ) : Type 0 where
 
 -- What answers an input: the state text of what it tells, where it is a text within the limit that
 -- tells something, else the refusal for its first fault.
-abbrev pub IsStepsAnswer : (B M : ℕ) → List ℕ → Result (List ℕ) Refusal → Type 0
-IsStepsAnswer B M input (Ok out) = (told : Told) × Accepted (Tells M) input told × IsStateText B M told out
+abbrev pub IsStepsAnswer : (B M : ℕ) → List ℕ → Result (List ℕ × Unit {0}) Refusal → Type 0
+IsStepsAnswer B M input (Ok answer) = (told : Told) × Accepted (Tells M) input told × IsStateText B M told answer.0
 IsStepsAnswer B M input (Err refusal) = judged (script_at M) input ≡ Err refusal

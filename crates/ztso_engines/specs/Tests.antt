@@ -1,5 +1,5 @@
 -- Inputs that are litmus texts.
-use Rattle.std.specs.Prelude.{ℕ, ◌≡◌, ◌⊎◌, List, Result, Ok, Err}
+use Rattle.std.specs.Prelude.{ℕ, ◌≡◌, ◌⊎◌, List, Option, IsSomeAnd, Result, Ok, Err}
 use Rattle.litmus.specs.Questions.{Question}
 use Rattle.litmus_reader.specs.declared.faults.LitmusFault.{LitmusFault}
 use Rattle.litmus_reader.specs.declared.faults.LitmusError.{LitmusError}
@@ -30,6 +30,10 @@ test_of line text = refused_at line (test_at text)
 -- This is why the input is no test. Which fault of its text comes first is said, and not on which line.
 abbrev pub IsNoTest : List ℕ → Refusal → Type 0
 IsNoTest input refusal = (line : ℕ) × (judged (test_of line) input ≡ Err refusal)
+
+-- a reader's bytes are known, and refused as a test
+abbrev pub HasNoTest : (input : Option (List ℕ)) → Type 0
+HasNoTest input = IsSomeAnd input (λ bytes. (refusal : Refusal) × IsNoTest bytes refusal)
 
 -- What answers an input that is to be a test: what answers its test, else why it is none.
 abbrev pub ByTest : {A : Type 0} → (Question → Result A Refusal → Type 0) → List ℕ → Result A Refusal → Type 0

@@ -10,16 +10,14 @@ ghost use Rattle.assembler.specs.Program.{IsProgram, AreWordsOf};
 ghost use Rattle.ztso_engines.specs.Faults.{Answers, AnswersAs};
 ghost use Rattle.ztso_engines.specs.Engines.{EndsBy, judged};
 ghost use Rattle.ztso_engines.specs.Asm.{asm_at, hex_line, fault_of_error, IsAsmAnswer};
+ghost use Rattle.ztso_engines.specs.inner.Making.{FindsBy, text_and_value};
 
 use crate::fault::{Fault, Place};
 use crate::input::{read_input, text_of};
-use crate::output::write_output;
+use crate::output::end_with;
 use assembler::{AsmError, assemble};
 use std::alloc::{AllocError, Global};
 use std::io::{Read, Write};
-
-#[cfg(test)]
-mod tests;
 
 impl From<AsmError> for Fault {
     ghost from_gives = { λ error fault. fault ≡ fault_of_error error };
@@ -75,13 +73,21 @@ fn code_text(alloc: Global, code: &[u32]) -> Result<String, AllocError>
     Ok(out)
 }
 
-fn answer(alloc: Global, input: &[u8]) -> Result<String, Fault>
+fn answer(alloc: Global, input: &[u8]) -> Result<(String, ()), Fault>
     requires { length input.now ≤ 1048576 }
-    ensures { AnswersAs (IsAsmAnswer input.now) string_bytes result }
+    ensures { AnswersAs (IsAsmAnswer input.now) text_and_value result }
 {
     let code = code_of_input(alloc, input)?;
     let text = code_text(alloc, &code)?;
-    Ok(text)
+    Ok((text, ()))
+}
+
+/// What is to be written for the input that a reader gives.
+fn made<R: Read>(alloc: Global, reader: &mut R) -> Result<(String, ()), Fault>
+    ensures { FindsBy IsAsmAnswer text_and_value (R.remaining reader.old) result }
+{
+    let input = read_input(alloc, reader)?;
+    answer(alloc, &input)
 }
 
 /// Reads an assembly text to its end, and writes its words, each as 8 hex digits on a line.
@@ -93,9 +99,7 @@ pub fn asm_engine<R: Read, W: Write>(
     reader: &mut R,
     writer: &mut W,
 ) -> Result<(), Fault>
-    ensures { EndsBy IsAsmAnswer result (R.remaining reader.old) (W.contents writer.old) (W.contents writer.new) }
+    ensures { EndsBy IsAsmAnswer result (R.remaining reader.old) W.contents writer.old writer.new }
 {
-    let input = read_input(alloc, reader)?;
-    let out = answer(alloc, &input)?;
-    write_output(writer, &out)
+    end_with(made(alloc, reader), writer)
 }

@@ -10,19 +10,17 @@ ghost use Rattle.ztso_engines.specs.Words.{words};
 ghost use Rattle.ztso_engines.specs.LineFaults.{at_line};
 ghost use Rattle.ztso_engines.specs.Code.{code_at};
 ghost use Rattle.ztso_engines.specs.Dis.{dis_at, meant_text, instr_line, IsDisAnswer};
+ghost use Rattle.ztso_engines.specs.inner.Making.{FindsBy, text_and_value};
 
 use crate::code::code_of;
 use crate::fault::Fault;
 use crate::input::{read_input, text_of};
-use crate::output::write_output;
+use crate::output::end_with;
 use assembler::write_instr;
 use rv_decode::decode;
 use std::alloc::{AllocError, Global};
 use std::io::{Read, Write};
 use texts::first_line;
-
-#[cfg(test)]
-mod tests;
 
 /// The instruction words of the line of this number.
 #[tactic(auto, using(crate::proofs::LineFaulted::refused_at_line))]
@@ -88,13 +86,21 @@ fn code_text(alloc: Global, code: &[u32]) -> Result<String, AllocError>
     Ok(out)
 }
 
-fn answer(alloc: Global, input: &[u8]) -> Result<String, Fault>
+fn answer(alloc: Global, input: &[u8]) -> Result<(String, ()), Fault>
     requires { length input.now ≤ 1048576 }
-    ensures { AnswersAs (IsDisAnswer input.now) string_bytes result }
+    ensures { AnswersAs (IsDisAnswer input.now) text_and_value result }
 {
     let code = code_of_input(alloc, input)?;
     let text = code_text(alloc, &code)?;
-    Ok(text)
+    Ok((text, ()))
+}
+
+/// What is to be written for the input that a reader gives.
+fn made<R: Read>(alloc: Global, reader: &mut R) -> Result<(String, ()), Fault>
+    ensures { FindsBy IsDisAnswer text_and_value (R.remaining reader.old) result }
+{
+    let input = read_input(alloc, reader)?;
+    answer(alloc, &input)
 }
 
 /// Reads words of 8 hex digits to the end, parted by blanks and line ends, and writes what each means
@@ -108,9 +114,7 @@ pub fn dis_engine<R: Read, W: Write>(
     reader: &mut R,
     writer: &mut W,
 ) -> Result<(), Fault>
-    ensures { EndsBy IsDisAnswer result (R.remaining reader.old) (W.contents writer.old) (W.contents writer.new) }
+    ensures { EndsBy IsDisAnswer result (R.remaining reader.old) W.contents writer.old writer.new }
 {
-    let input = read_input(alloc, reader)?;
-    let out = answer(alloc, &input)?;
-    write_output(writer, &out)
+    end_with(made(alloc, reader), writer)
 }

@@ -96,33 +96,3 @@ impl<T: Drop> From<AllocFailed<T>> for Fault {
         Fault::NoMemory
     }
 }
-
-#[cfg(test)]
-mod tests {
-    use super::*;
-    use std::test::Fail;
-
-    #[test]
-    fn faults_are_told(rt: HostRuntime) -> Result<(), Fail> {
-        for (fault, text, status) in [
-            (Fault::ReadFailed, "read failed", 3),
-            (Fault::WriteFailed, "write failed", 3),
-            (Fault::NoMemory, "no memory", 4),
-            (Fault::refused(37, Place::Nowhere), "refused 37", 2),
-            (
-                Fault::refused(34, Place::Line(3)),
-                "refused 34 at line 3",
-                2,
-            ),
-            (
-                Fault::refused(28, Place::Byte(16)),
-                "refused 28 at byte 16",
-                2,
-            ),
-        ] {
-            assert_eq!(rt; fault.to_string(rt.alloc())?.as_str(), text);
-            assert_eq!(rt; fault.status(), status);
-        }
-        Ok(())
-    }
-}

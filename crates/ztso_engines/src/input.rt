@@ -1,8 +1,9 @@
 //! An input as a whole, with its limit.
 
-ghost use Rattle.std.specs.Prelude.{◌≡◌, ◌≤◌, IfOk, IfErr, IfSome, vec_len};
+ghost use Rattle.std.specs.Prelude.{◌≡◌, ◌≤◌, IfOk, IfErr, vec_len};
 ghost use Rattle.std.specs.Str.{IsUtf8};
 ghost use Rattle.ztso_engines.specs.declared.fault.Fault.TheVariants.{Refused};
+ghost use Rattle.ztso_engines.specs.Engines.{OfInput};
 ghost use Rattle.ztso_engines.specs.Faults.{not_text};
 ghost use Rattle.ztso_engines.specs.Input.{IsInput};
 
@@ -18,7 +19,7 @@ const CHUNK_BYTES: usize = 4096;
 /// All that the reader gives, where that is within the limit. A reader without end is refused soon
 /// after the limit.
 pub fn read_input<R: Read>(alloc: Global, reader: &mut R) -> Result<Vec<u8>, Fault>
-    ensures input { IfSome (R.remaining reader.old) (λ bytes. IsInput bytes result) }
+    ensures input { OfInput (R.remaining reader.old) (λ bytes. IsInput bytes result) }
     ensures few { IfOk result (λ input. vec_len input ≤ 1048576) }
 {
     let mut input = Vec::new(alloc);

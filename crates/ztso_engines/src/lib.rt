@@ -2,7 +2,7 @@
 //!
 //! The contract: each engine's clause says what it writes for what its readers tell, byte for byte, and
 //! what each fault means (`Ends` of `specs/Engines.antt`). This crate knows no command line, opens no
-//! file and names no standard stream.
+//! file and names no standard stream. It has no tests: the cases of the program run each engine.
 
 #![tactic(auto)]
 
@@ -14,9 +14,8 @@ pub mod fault;
 pub mod input;
 pub mod laws;
 mod line_fault;
+mod lists;
 mod litmus_text;
-#[cfg(test)]
-mod litmus_texts;
 mod output;
 pub mod replay;
 pub mod run;

@@ -1,17 +1,20 @@
 //! Inputs that are litmus texts.
 
-ghost use Rattle.std.specs.Prelude.{◌≡◌, ◌≤◌, ℕ, IfOk, vec_len};
+ghost use Rattle.std.specs.Prelude.{◌≡◌, ◌≤◌, ℕ, IfOk, IsErr, vec_len};
 ghost use Rattle.litmus_reader.specs.Reading.{content_of};
 ghost use Rattle.litmus_reader.specs.Grammar.{IsTestOf};
 ghost use Rattle.ztso_engines.specs.Faults.{Answers};
 ghost use Rattle.ztso_engines.specs.Engines.{Accepted, judged};
-ghost use Rattle.ztso_engines.specs.Tests.{fault_of_error, test_of};
+ghost use Rattle.ztso_engines.specs.Tests.{fault_of_error, test_of, HasNoTest};
+ghost use Rattle.ztso_engines.specs.inner.Making.{FindsBy};
+ghost use Rattle.ztso_engines.specs.inner.Inputs.{IsReadAsTest};
 
 use crate::fault::{Fault, Place};
-use crate::input::text_of;
+use crate::input::{read_input, text_of};
 use litmus::Test;
 use litmus_reader::LitmusError;
 use std::alloc::Global;
+use std::io::Read;
 
 impl From<LitmusError> for Fault {
     ghost from_gives = { λ error fault. fault ≡ fault_of_error error };
@@ -40,10 +43,19 @@ fn test_of_text(alloc: Global, text: &str) -> Result<Test, Fault>
 
 /// The test of an input, which is let go.
 #[tactic(auto, using(crate::proofs::Judging::judged_text, crate::proofs::Judging::judged_no_text))]
-pub fn test_of_input(alloc: Global, input: Vec<u8>) -> Result<Test, Fault>
+fn test_of_input(alloc: Global, input: Vec<u8>) -> Result<Test, Fault>
     requires { vec_len input ≤ 1048576 }
     ensures found { IfOk result (λ test. Accepted IsTestOf input.items test) }
     ensures exact { (line : ℕ) × Answers content_of result (judged (test_of line) input.items) }
 {
     test_of_text(alloc, text_of(&input)?)
+}
+
+/// The test of the input that a reader gives.
+pub fn read_test<R: Read>(alloc: Global, reader: &mut R) -> Result<Test, Fault>
+    ensures test { FindsBy IsReadAsTest (λ test. test) (R.remaining reader.old) result }
+    ensures refused { HasNoTest (R.remaining reader.old) → IsErr result }
+{
+    let input = read_input(alloc, reader)?;
+    test_of_input(alloc, input)
 }

@@ -1,30 +1,21 @@
 //! The command `replay`: a litmus text and a schedule in, what was done in the run out.
 
-ghost use Rattle.std.specs.Prelude.{◌≡◌, ◌≤◌, IfOk, IfSome, vec_len};
+ghost use Rattle.std.specs.Prelude.{◌≡◌, ◌≤◌, IfOk};
 ghost use Rattle.std.specs.List.{flat_map};
 ghost use Rattle.std.specs.String.{string_bytes};
-ghost use Rattle.ztso_engines.specs.declared.fault.Refusal.{Refusal};
-ghost use Rattle.ztso_engines.specs.Faults.{AnswersAs};
-ghost use Rattle.ztso_engines.specs.Engines.{EndsByBoth};
-ghost use Rattle.ztso_engines.specs.Tests.{IsNoTest};
-ghost use Rattle.ztso_engines.specs.Schedules.{BySchedule};
+ghost use Rattle.ztso_engines.specs.Engines.{AnswersBoth, EndsByBoth};
+ghost use Rattle.ztso_engines.specs.Tests.{HasNoTest};
 ghost use Rattle.ztso_engines.specs.EntryText.{entry_line};
-ghost use Rattle.ztso_engines.specs.Replay.{IsReplay, IsReplayAnswer};
+ghost use Rattle.ztso_engines.specs.Replay.{IsReplayAnswer};
+ghost use Rattle.ztso_engines.specs.inner.Making.{Finds, text_and_value};
 
 use crate::entry_text::push_entry_line;
 use crate::fault::Fault;
-use crate::input::read_input;
-use crate::litmus_text::test_of_input;
-use crate::output::write_output;
-use crate::running::machine_after;
-use crate::schedule::events_of_input;
-use litmus::Test;
+use crate::output::end_with;
+use crate::running::read_run;
 use std::alloc::{AllocError, Global};
 use std::io::{Read, Write};
 use step_machine::Entry;
-
-#[cfg(test)]
-mod tests;
 
 /// The lines of all entries.
 fn entries_text(alloc: Global, entries: &[Entry]) -> Result<String, AllocError>
@@ -37,23 +28,22 @@ fn entries_text(alloc: Global, entries: &[Entry]) -> Result<String, AllocError>
     Ok(text)
 }
 
-/// The entries' text of a test's run by the schedule that an input tells.
-fn answer<const B: usize, const M: usize>(
+/// What is to be written for the inputs that the readers give.
+fn made<const B: usize, const M: usize, F: Read, S: Read>(
     alloc: Global,
-    test: &Test,
-    input: Vec<u8>,
-) -> Result<String, Fault>
+    file: &mut F,
+    schedule: &mut S,
+) -> Result<(String, ()), Fault>
     requires some_capacity { 1 ≤ B }
     requires capacity { B ≤ 64 }
     requires words { 1024 ≤ M }
     requires size { M ≤ 65536 }
-    requires few { vec_len input ≤ 1048576 }
-    ensures { AnswersAs (BySchedule (IsReplay B M test.now) input.items) (λ text. (string_bytes text, tt)) result }
+    ensures made { Finds (AnswersBoth (IsReplayAnswer B M) (F.remaining file.old) (S.remaining schedule.old)) text_and_value result }
+    ensures unread { HasNoTest (F.remaining file.old) → schedule.new ≡ schedule.old }
 {
-    let events = events_of_input(alloc, input)?;
-    let machine = machine_after::<B, M>(alloc, test, &events)?;
+    let (_, machine) = read_run::<B, M, F, S>(alloc, file, schedule)?;
     let text = entries_text(alloc, machine.entries())?;
-    Ok(text)
+    Ok((text, ()))
 }
 
 /// Reads a litmus text and then a schedule, each to its end, runs the schedule from the test's opening
@@ -62,9 +52,9 @@ fn answer<const B: usize, const M: usize>(
 ///
 /// Inputs are refused as [`crate::run::run_engine`] refuses them, and then nothing was written. A
 /// schedule behind a refused litmus text is not read.
-pub fn replay_engine<const B: usize, const M: usize, R: Read, S: Read, W: Write>(
+pub fn replay_engine<const B: usize, const M: usize, F: Read, S: Read, W: Write>(
     alloc: Global,
-    file: &mut R,
+    file: &mut F,
     schedule: &mut S,
     writer: &mut W,
 ) -> Result<(), Fault>
@@ -72,13 +62,8 @@ pub fn replay_engine<const B: usize, const M: usize, R: Read, S: Read, W: Write>
     requires capacity { B ≤ 64 }
     requires words { 1024 ≤ M }
     requires size { M ≤ 65536 }
-    ensures ends { EndsByBoth (IsReplayAnswer B M) result (R.remaining file.old) (S.remaining schedule.old) (W.contents writer.old) (W.contents writer.new) }
-    ensures unread { IfSome (R.remaining file.old) (λ bytes. (refusal : Refusal) → IsNoTest bytes refusal → schedule.new ≡ schedule.old) }
+    ensures ends { EndsByBoth (IsReplayAnswer B M) result (F.remaining file.old) (S.remaining schedule.old) W.contents writer.old writer.new }
+    ensures unread { HasNoTest (F.remaining file.old) → schedule.new ≡ schedule.old }
 {
-    let input = read_input(alloc, file)?;
-    let test = test_of_input(alloc, input)?;
-    let input = read_input(alloc, schedule)?;
-    let text = answer::<B, M>(alloc, &test, input)?;
-    write_output(writer, &text)?;
-    Ok(())
+    end_with(made::<B, M, F, S>(alloc, file, schedule), writer)
 }

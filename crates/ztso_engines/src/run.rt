@@ -1,27 +1,20 @@
 //! The command `run`: a litmus text and a schedule in, the state text of the run and the verdict out.
 
-ghost use Rattle.std.specs.Prelude.{◌≡◌, ◌≤◌, ◌++◌, OnOk, IfSome, vec_len};
+ghost use Rattle.std.specs.Prelude.{◌≡◌, ◌≤◌, ◌++◌, length, IfOk, OnOk};
 ghost use Rattle.std.specs.String.{string_bytes};
-ghost use Rattle.ztso_engines.specs.declared.fault.Refusal.{Refusal};
-ghost use Rattle.ztso_engines.specs.Faults.{AnswersAs};
-ghost use Rattle.ztso_engines.specs.Engines.{EndsByBoth};
-ghost use Rattle.ztso_engines.specs.Tests.{IsNoTest};
-ghost use Rattle.ztso_engines.specs.Schedules.{BySchedule};
-ghost use Rattle.ztso_engines.specs.Run.{verdict_line, IsJudgedRun, IsRunAnswer};
+ghost use Rattle.ztso_engines.specs.Engines.{AnswersBoth, EndsByBoth};
+ghost use Rattle.ztso_engines.specs.Tests.{HasNoTest};
+ghost use Rattle.ztso_engines.specs.Run.{verdict_line, IsJudged, IsRunAnswer};
+ghost use Rattle.ztso_engines.specs.inner.Making.{Finds, text_and_value};
 
 use crate::fault::Fault;
-use crate::input::read_input;
-use crate::litmus_text::test_of_input;
-use crate::output::write_output;
-use crate::running::machine_after;
-use crate::schedule::events_of_input;
+use crate::output::end_with;
+use crate::running::read_run;
 use crate::state_text::state_text;
 use litmus::{Test, Verdict};
 use std::alloc::{AllocError, Global};
 use std::io::{Read, Write};
-
-#[cfg(test)]
-mod tests;
+use step_machine::Machine;
 
 fn push_verdict(out: &mut String, verdict: Verdict) -> Result<(), AllocError>
     ensures { OnOk result (string_bytes out.new ≡ string_bytes out.old ++ verdict_line verdict) }
@@ -33,25 +26,39 @@ fn push_verdict(out: &mut String, verdict: Verdict) -> Result<(), AllocError>
     }
 }
 
-/// The text and the verdict of a test's run by the schedule that an input tells.
-fn answer<const B: usize, const M: usize>(
+/// The state text of a test's machine, with the verdict on a line, and the verdict.
+fn judged_text<const B: usize, const M: usize>(
     alloc: Global,
     test: &Test,
-    input: Vec<u8>,
+    machine: &Machine<B, M>,
+) -> Result<(String, Verdict), AllocError>
+    requires harts { length machine.now.history.opening.harts ≡ length test.now.opening.harts }
+    requires names { length test.now.names ≤ M }
+    requires size { M ≤ 65536 }
+    ensures { IfOk result (λ told. IsJudged M test.now machine.now.history (text_and_value told)) }
+{
+    let verdict = test.verdict(machine);
+    let mut text = state_text(alloc, machine)?;
+    push_verdict(&mut text, verdict)?;
+    Ok((text, verdict))
+}
+
+/// What is to be written for the inputs that the readers give, and the verdict.
+fn made<const B: usize, const M: usize, F: Read, S: Read>(
+    alloc: Global,
+    file: &mut F,
+    schedule: &mut S,
 ) -> Result<(String, Verdict), Fault>
     requires some_capacity { 1 ≤ B }
     requires capacity { B ≤ 64 }
     requires words { 1024 ≤ M }
     requires size { M ≤ 65536 }
-    requires few { vec_len input ≤ 1048576 }
-    ensures { AnswersAs (BySchedule (IsJudgedRun B M test.now) input.items) (λ told. (string_bytes told.0, told.1)) result }
+    ensures made { Finds (AnswersBoth (IsRunAnswer B M) (F.remaining file.old) (S.remaining schedule.old)) text_and_value result }
+    ensures unread { HasNoTest (F.remaining file.old) → schedule.new ≡ schedule.old }
 {
-    let events = events_of_input(alloc, input)?;
-    let machine = machine_after::<B, M>(alloc, test, &events)?;
-    let verdict = test.verdict(&machine);
-    let mut text = state_text(alloc, &machine)?;
-    push_verdict(&mut text, verdict)?;
-    Ok((text, verdict))
+    let (test, machine) = read_run::<B, M, F, S>(alloc, file, schedule)?;
+    let told = judged_text(alloc, &test, &machine)?;
+    Ok(told)
 }
 
 /// Reads a litmus text and then a schedule, each to its end, runs the schedule from the test's opening
@@ -61,10 +68,10 @@ fn answer<const B: usize, const M: usize>(
 /// Each input is refused as too large ([`crate::fault::TOO_LARGE`]), else as no text
 /// ([`crate::fault::NOT_TEXT`]), else as [`litmus_reader::read`] says, at the line, or as
 /// [`recorder::read_schedule`] says, at the byte; then nothing was written. A schedule behind a refused
-/// litmus text is not read.
-pub fn run_engine<const B: usize, const M: usize, R: Read, S: Read, W: Write>(
+/// litmus text is not read. A memory of 1,024 words has room for each test's locations.
+pub fn run_engine<const B: usize, const M: usize, F: Read, S: Read, W: Write>(
     alloc: Global,
-    file: &mut R,
+    file: &mut F,
     schedule: &mut S,
     writer: &mut W,
 ) -> Result<Verdict, Fault>
@@ -72,13 +79,8 @@ pub fn run_engine<const B: usize, const M: usize, R: Read, S: Read, W: Write>(
     requires capacity { B ≤ 64 }
     requires words { 1024 ≤ M }
     requires size { M ≤ 65536 }
-    ensures ends { EndsByBoth (IsRunAnswer B M) result (R.remaining file.old) (S.remaining schedule.old) (W.contents writer.old) (W.contents writer.new) }
-    ensures unread { IfSome (R.remaining file.old) (λ bytes. (refusal : Refusal) → IsNoTest bytes refusal → schedule.new ≡ schedule.old) }
+    ensures ends { EndsByBoth (IsRunAnswer B M) result (F.remaining file.old) (S.remaining schedule.old) W.contents writer.old writer.new }
+    ensures unread { HasNoTest (F.remaining file.old) → schedule.new ≡ schedule.old }
 {
-    let input = read_input(alloc, file)?;
-    let test = test_of_input(alloc, input)?;
-    let input = read_input(alloc, schedule)?;
-    let (text, verdict) = answer::<B, M>(alloc, &test, input)?;
-    write_output(writer, &text)?;
-    Ok(verdict)
+    end_with(made::<B, M, F, S>(alloc, file, schedule), writer)
 }

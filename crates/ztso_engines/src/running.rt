@@ -2,14 +2,23 @@
 
 ghost use Rattle.std.specs.Prelude.{◌≡◌, ◌≤◌, length, IfOk, OnOk};
 ghost use Rattle.step_machine.specs.Runs.{Run};
+ghost use Rattle.ztso_engines.specs.Engines.{AnswersBoth};
+ghost use Rattle.ztso_engines.specs.Tests.{HasNoTest};
+ghost use Rattle.ztso_engines.specs.Histories.{ByRun};
+ghost use Rattle.ztso_engines.specs.inner.Making.{Finds};
+ghost use Rattle.ztso_engines.specs.inner.Inputs.{IsItself};
 
+use crate::fault::Fault;
+use crate::litmus_text::read_test;
+use crate::schedule::read_events;
 use litmus::Test;
 use recorder::replay;
 use std::alloc::{AllocError, Global};
+use std::io::Read;
 use step_machine::{Event, Machine};
 
 /// The machine that these events make of the test's opening: one that the test can judge.
-pub fn machine_after<const B: usize, const M: usize>(
+fn machine_after<const B: usize, const M: usize>(
     alloc: Global,
     test: &Test,
     events: &[Event],
@@ -25,6 +34,28 @@ pub fn machine_after<const B: usize, const M: usize>(
     let opening = test.opening(alloc)?;
     let machine = replay(alloc, opening, events)?;
     Ok(machine)
+}
+
+/// The test that a litmus text stands for, and the machine that a schedule makes of its opening. The
+/// schedule is read behind an accepted test only.
+pub fn read_run<const B: usize, const M: usize, F: Read, S: Read>(
+    alloc: Global,
+    file: &mut F,
+    schedule: &mut S,
+) -> Result<(Test, Machine<B, M>), Fault>
+    requires some_capacity { 1 ≤ B }
+    requires capacity { B ≤ 64 }
+    requires words { 1024 ≤ M }
+    requires size { M ≤ 65536 }
+    ensures run { Finds (AnswersBoth (ByRun B M IsItself) (F.remaining file.old) (S.remaining schedule.old)) (λ run. (run.0, run.1.history)) result }
+    ensures harts { IfOk result (λ run. length run.1.history.opening.harts ≡ length run.0.opening.harts) }
+    ensures names { IfOk result (λ run. length run.0.names ≤ M) }
+    ensures unread { HasNoTest (F.remaining file.old) → schedule.new ≡ schedule.old }
+{
+    let test = read_test(alloc, file)?;
+    let events = read_events(alloc, schedule)?;
+    let machine = machine_after::<B, M>(alloc, &test, &events)?;
+    Ok((test, machine))
 }
 
 /// The machine at the test's opening, for runs that begin anew.

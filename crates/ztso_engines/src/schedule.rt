@@ -5,11 +5,14 @@ ghost use Rattle.recorder.specs.Schedule.{IsScheduleOf};
 ghost use Rattle.ztso_engines.specs.Faults.{Answers};
 ghost use Rattle.ztso_engines.specs.Engines.{Accepted, judged};
 ghost use Rattle.ztso_engines.specs.Schedules.{fault_of_error, events_of as events_said};
+ghost use Rattle.ztso_engines.specs.inner.Making.{FindsBy};
+ghost use Rattle.ztso_engines.specs.inner.Inputs.{IsReadAsSchedule};
 
 use crate::fault::{Fault, Place};
-use crate::input::text_of;
+use crate::input::{read_input, text_of};
 use recorder::{ScheduleError, read_schedule};
 use std::alloc::Global;
+use std::io::Read;
 use step_machine::Event;
 
 impl From<ScheduleError> for Fault {
@@ -39,10 +42,18 @@ fn events_of_text(alloc: Global, text: &str) -> Result<Vec<Event>, Fault>
 
 /// The events of an input, which is let go.
 #[tactic(auto, using(crate::proofs::Judging::judged_text, crate::proofs::Judging::judged_no_text))]
-pub fn events_of_input(alloc: Global, input: Vec<u8>) -> Result<Vec<Event>, Fault>
+fn events_of_input(alloc: Global, input: Vec<u8>) -> Result<Vec<Event>, Fault>
     requires { vec_len input ≤ 1048576 }
     ensures found { IfOk result (λ events. Accepted IsScheduleOf input.items events.items) }
     ensures exact { Answers (λ events. events.items) result (judged events_said input.items) }
 {
     events_of_text(alloc, text_of(&input)?)
+}
+
+/// The events of the schedule that a reader gives.
+pub fn read_events<R: Read>(alloc: Global, reader: &mut R) -> Result<Vec<Event>, Fault>
+    ensures { FindsBy IsReadAsSchedule (λ events. events.items) (R.remaining reader.old) result }
+{
+    let input = read_input(alloc, reader)?;
+    events_of_input(alloc, input)
 }

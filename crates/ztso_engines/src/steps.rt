@@ -1,7 +1,6 @@
 //! The command `steps`: a steps text in, the state text of its run out.
 
 ghost use Rattle.std.specs.Prelude.{◌≡◌, ◌≤◌, length, IfOk, MatchResult, vec_len};
-ghost use Rattle.std.specs.String.{string_bytes};
 ghost use Rattle.step_machine.specs.History.{FitsIn};
 ghost use Rattle.step_machine.specs.Runs.{Run};
 ghost use Rattle.ztso_engines.specs.Faults.{Answers, AnswersAs};
@@ -9,10 +8,11 @@ ghost use Rattle.ztso_engines.specs.Engines.{EndsBy, judged};
 ghost use Rattle.ztso_engines.specs.Told.{told_by, opening_of};
 ghost use Rattle.ztso_engines.specs.StepsReading.{script_at};
 ghost use Rattle.ztso_engines.specs.Steps.{IsStepsAnswer};
+ghost use Rattle.ztso_engines.specs.inner.Making.{FindsBy, text_and_value};
 
 use crate::fault::Fault;
 use crate::input::{read_input, text_of};
-use crate::output::write_output;
+use crate::output::end_with;
 use crate::state_text::state_text;
 use crate::steps::script::{Script, read_script};
 use std::alloc::Global;
@@ -21,9 +21,6 @@ use step_machine::{Machine, Opening};
 
 mod line;
 mod script;
-#[cfg(test)]
-mod tests;
-
 /// What an input tells.
 #[tactic(auto, using(crate::proofs::Judging::judged_text, crate::proofs::Judging::judged_no_text))]
 fn script_of_input<const M: usize>(alloc: Global, input: &[u8]) -> Result<Script, Fault>
@@ -59,19 +56,37 @@ fn machine_after<const B: usize, const M: usize>(
 }
 
 /// The state text behind the run of an input. The input is let go before the run.
-fn answer<const B: usize, const M: usize>(alloc: Global, input: Vec<u8>) -> Result<String, Fault>
+fn answer<const B: usize, const M: usize>(
+    alloc: Global,
+    input: Vec<u8>,
+) -> Result<(String, ()), Fault>
     requires some_capacity { 1 ≤ B }
     requires capacity { B ≤ 64 }
     requires some_word { 1 ≤ M }
     requires size { M ≤ 65536 }
     requires few { vec_len input ≤ 1048576 }
-    ensures { AnswersAs (IsStepsAnswer B M input.items) string_bytes result }
+    ensures { AnswersAs (IsStepsAnswer B M input.items) text_and_value result }
 {
     let script = script_of_input::<M>(alloc, &input)?;
     drop(input);
     let machine = machine_after::<B, M>(alloc, script)?;
     let text = state_text(alloc, &machine)?;
-    Ok(text)
+    Ok((text, ()))
+}
+
+/// What is to be written for the input that a reader gives.
+fn made<const B: usize, const M: usize, R: Read>(
+    alloc: Global,
+    reader: &mut R,
+) -> Result<(String, ()), Fault>
+    requires some_capacity { 1 ≤ B }
+    requires capacity { B ≤ 64 }
+    requires some_word { 1 ≤ M }
+    requires size { M ≤ 65536 }
+    ensures { FindsBy (IsStepsAnswer B M) text_and_value (R.remaining reader.old) result }
+{
+    let input = read_input(alloc, reader)?;
+    answer::<B, M>(alloc, input)
 }
 
 /// Reads a steps text to its end, runs what it tells with store buffers of `B` pairs and `M` words of
@@ -88,9 +103,7 @@ pub fn steps_engine<const B: usize, const M: usize, R: Read, W: Write>(
     requires capacity { B ≤ 64 }
     requires some_word { 1 ≤ M }
     requires size { M ≤ 65536 }
-    ensures { EndsBy (IsStepsAnswer B M) result (R.remaining reader.old) (W.contents writer.old) (W.contents writer.new) }
+    ensures { EndsBy (IsStepsAnswer B M) result (R.remaining reader.old) W.contents writer.old writer.new }
 {
-    let input = read_input(alloc, reader)?;
-    let out = answer::<B, M>(alloc, input)?;
-    write_output(writer, &out)
+    end_with(made::<B, M, R>(alloc, reader), writer)
 }

@@ -1,15 +1,14 @@
 //! The command `try`: runs of a litmus test from schedules that a generator draws, and their outcomes.
 
 ghost use Rattle.std.specs.Prelude.{◌≡◌, ◌≤◌, IfOk};
-ghost use Rattle.std.specs.String.{string_bytes};
-ghost use Rattle.ztso_engines.specs.Engines.{EndsWith};
+ghost use Rattle.ztso_engines.specs.Engines.{EndsBy};
 ghost use Rattle.ztso_engines.specs.Outcomes.{IsTried, IsTryAnswer};
-ghost use Rattle.ztso_engines.specs.Tallies.{good_by};
+ghost use Rattle.ztso_engines.specs.inner.Making.{FindsBy, text_and_value};
+ghost use Rattle.ztso_engines.specs.inner.Tallies.{good_by};
 
 use crate::fault::Fault;
-use crate::input::read_input;
-use crate::litmus_text::test_of_input;
-use crate::output::write_output;
+use crate::litmus_text::read_test;
+use crate::output::end_with;
 use crate::trials::drawing::tally_of;
 use crate::trials::outcomes::tally_text;
 use crate::trials::tally::Tally;
@@ -21,9 +20,6 @@ use std::io::{Read, Write};
 mod drawing;
 mod outcomes;
 mod tally;
-#[cfg(test)]
-mod tests;
-
 /// Whether the runs of a tally show what the test asks.
 fn is_good(test: &Test, tally: &Tally) -> bool
     ensures { result ≡ good_by test.now.quantifier tally.now.some_hold tally.now.some_fail }
@@ -47,11 +43,31 @@ fn answer<const B: usize, const M: usize, G: Rng>(
     requires capacity { B ≤ 64 }
     requires words { 1024 ≤ M }
     requires size { M ≤ 65536 }
-    ensures { IfOk result (λ told. IsTried B M (G.stream generator.old) runs length test.now (string_bytes told.0, told.1)) }
+    ensures { IfOk result (λ told. IsTried B M (G.stream generator.old) runs length test.now (text_and_value told)) }
 {
     let tally = tally_of::<B, M, G>(alloc, test, generator, runs, length)?;
     let text = tally_text(alloc, test, &tally)?;
     Ok((text, is_good(test, &tally)))
+}
+
+/// What is to be written for the input that the reader gives, and whether the runs show what its test
+/// asks.
+fn made<const B: usize, const M: usize, R: Read, G: Rng>(
+    alloc: Global,
+    file: &mut R,
+    generator: &mut G,
+    runs: u32,
+    length: u32,
+) -> Result<(String, bool), Fault>
+    requires some_capacity { 1 ≤ B }
+    requires capacity { B ≤ 64 }
+    requires words { 1024 ≤ M }
+    requires size { M ≤ 65536 }
+    ensures { FindsBy (IsTryAnswer B M (G.stream generator.old) runs length) text_and_value (R.remaining file.old) result }
+{
+    let test = read_test(alloc, file)?;
+    let told = answer::<B, M, G>(alloc, &test, generator, runs, length)?;
+    Ok(told)
 }
 
 /// Reads a litmus text to its end, and runs the test `runs` times from its opening with store buffers
@@ -75,11 +91,10 @@ pub fn try_engine<const B: usize, const M: usize, R: Read, G: Rng, W: Write>(
     requires capacity { B ≤ 64 }
     requires words { 1024 ≤ M }
     requires size { M ≤ 65536 }
-    ensures { EndsWith (IsTryAnswer B M (G.stream generator.old) runs length) result (R.remaining file.old) (W.contents writer.old) (W.contents writer.new) }
+    ensures { EndsBy (IsTryAnswer B M (G.stream generator.old) runs length) result (R.remaining file.old) W.contents writer.old writer.new }
 {
-    let input = read_input(alloc, file)?;
-    let test = test_of_input(alloc, input)?;
-    let (text, good) = answer::<B, M, G>(alloc, &test, generator, runs, length)?;
-    write_output(writer, &text)?;
-    Ok(good)
+    end_with(
+        made::<B, M, R, G>(alloc, file, generator, runs, length),
+        writer,
+    )
 }

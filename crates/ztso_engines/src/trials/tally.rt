@@ -5,7 +5,7 @@ ghost use Rattle.std.specs.String.{string_bytes};
 ghost use Rattle.step_machine.specs.Runs.{Run};
 ghost use Rattle.ztso_engines.specs.Trials.{Trial, IsTrial};
 ghost use Rattle.ztso_engines.specs.Outcomes.{schedule_text as text_of_schedule};
-ghost use Rattle.ztso_engines.specs.Tallies.{told_by, told_of, told_more, Counts, IsTallyOf, Tallies};
+ghost use Rattle.ztso_engines.specs.inner.Tallies.{told_by, told_of, told_more, Counts, IsTallyOf, Tallies};
 
 use crate::running::run_anew;
 use litmus::{Test, Verdict};

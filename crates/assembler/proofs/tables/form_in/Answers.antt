@@ -1,5 +1,5 @@
 use Rattle.std.proofs.Common.{sym}
-use Rattle.assembler.proofs.TableLaws.{row_found, row_missing}
+use Rattle.rv_decode.proofs.TableLaws.{row_found, row_missing}
 use Rattle.assembler.proofs.tables.form_in.Goals as goal
 
 pub returns-in-Some : goal.returns-in-Some

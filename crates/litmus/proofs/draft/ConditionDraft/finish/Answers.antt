@@ -1,4 +1,4 @@
-use Rattle.std.proofs.Common.{◌≡◌, ◌∙◌, sym, Ok}
+use Rattle.std.proofs.Common.{◌≡◌, ◌∙◌, sym, refl, Ok}
 use Rattle.litmus.specs.Drafting.{finished}
 use Rattle.litmus.proofs.StageLaws.{is_within, finished_open, condition_steps, finished_steps}
 use Rattle.litmus.proofs.GrammarLaws.{finished_only}
@@ -17,6 +17,9 @@ returns-then-not-is_complete-clause-only c = λ f stands.
     let refused = returns-then-not-is_complete-clause-exact c in
     absurd (cc)
 
+pub returns-then-not-is_complete-clause-misplaced : goal.returns-then-not-is_complete-clause-misplaced
+returns-then-not-is_complete-clause-misplaced c = (λ refused. λ f stands. let same = returns-then-not-is_complete-clause-only c f stands in cc, λ none. refl)
+
 pub of_steps-requires : goal.of_steps-requires
 of_steps-requires c = condition_steps c.self.inside.tokens.items c.self.inside.builder c.into_steps.result.items c.self.invariant (sym c.is_complete.ensures ∙ c.if-not-is_complete.false) c.into_steps.ensures
 
@@ -32,3 +35,6 @@ returns-clause-only c = λ f stands.
     let answered = returns-clause-exact c in
     let same : c.of_steps.result ≡ f = cc in
     cc
+
+pub returns-clause-misplaced : goal.returns-clause-misplaced
+returns-clause-misplaced c = (λ refused. absurd (cc), λ none. absurd (none c.of_steps.result (returns-clause-found c)))

@@ -1,7 +1,7 @@
 use Rattle.std.proofs.Common.{◌≡◌, ◌++◌}
 use Rattle.std.specs.List.{flat_map}
 use Rattle.std.specs.String.{string_bytes}
-use Rattle.ztso_engines.specs.Tallies.{row_line}
+use Rattle.ztso_engines.specs.inner.Tallies.{row_line}
 use Rattle.ztso_engines.proofs.trials.outcomes.push_rows.Given as goal
 
 -- what is written, and what is left to write, is all

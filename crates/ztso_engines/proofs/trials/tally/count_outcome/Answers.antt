@@ -1,5 +1,5 @@
 use Rattle.std.proofs.Common.{ℕ, ◌<◌, option_map, ap, ◌∙◌}
-use Rattle.ztso_engines.specs.Tallies.{told_by, told_of, told_more}
+use Rattle.ztso_engines.specs.inner.Tallies.{told_by, told_of, told_more}
 use Rattle.ztso_engines.proofs.Rows.{counted, found_row}
 use Rattle.ztso_engines.proofs.trials.tally.count_outcome.Goals as goal
 

@@ -1,0 +1,1 @@
+"""What reads, writes and runs case files."""

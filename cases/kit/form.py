@@ -1,0 +1,266 @@
+"""Case files: README.md tells their form. What is written here is read as the same cases."""
+
+import re
+from dataclasses import dataclass, field
+from pathlib import Path
+from typing import Dict, List, Optional, Tuple
+
+from . import escapes
+
+CASES = Path(__file__).resolve().parent.parent
+ROOT = CASES.parent
+SUFFIXES = (".cases", ".expected")
+STREAMS = ("stdin", "stdout")
+NAME = re.compile(r"[^\s/]+")
+
+Pieces = List[Tuple[int, bytes]]
+
+
+class FormError(Exception):
+    """A line of a case file that isn't of its form."""
+
+
+@dataclass
+class Stream:
+    """Standard input, or what must come on standard output: a text, the bytes of a file of the
+    repository, or what the stream is instead of a pipe (a device, or closed)."""
+
+    text: Pieces = field(default_factory=list)
+    source: Optional[str] = None
+    device: Optional[str] = None
+
+    def content(self):
+        return (ROOT / self.source).read_bytes() if self.source else escapes.content(self.text)
+
+
+@dataclass
+class Case:
+    """One run of the program."""
+
+    name: str
+    words: List[bytes]
+    status: int = 0
+    comments: List[str] = field(default_factory=list)
+    memory: Optional[int] = None
+    each_allocation: Optional[str] = None
+    copied: List[str] = field(default_factory=list)
+    files: Dict[str, Pieces] = field(default_factory=dict)
+    stdin: Stream = field(default_factory=Stream)
+    stdout: Stream = field(default_factory=Stream)
+    stderr: bytes = b""
+    # where it stands: its file, its first line, and the line behind its last one
+    path: Optional[Path] = None
+    line: int = 0
+    end: int = 0
+
+    def folder_files(self):
+        """The names and bytes of the files that lie where the program runs."""
+        found = {Path(name).name: (ROOT / name).read_bytes() for name in self.copied}
+        found.update((name, escapes.content(pieces)) for name, pieces in self.files.items())
+        return found
+
+    def answer(self):
+        """The status, standard error and standard output that must come back."""
+        return self.status, self.stderr, self.stdout.content()
+
+    def needs_shell(self):
+        """Whether a shell sets the case up: it limits memory, or closes a stream."""
+        closed = "closed" in (self.stdin.device, self.stdout.device)
+        return closed or self.memory is not None
+
+    def group(self):
+        return "litmus" if self.path.suffix == ".expected" else self.path.stem
+
+    def full_name(self):
+        return f"{self.group()}/{self.name}"
+
+
+def files_below(folder):
+    """The case files of a folder, by name."""
+    return sorted(path for path in Path(folder).iterdir() if path.suffix in SUFFIXES)
+
+
+def all_files():
+    return files_below(CASES) + files_below(ROOT / "litmus")
+
+
+def read(path):
+    """The cases of a file."""
+    try:
+        lines = Path(path).read_bytes().decode().split("\n")
+    except UnicodeDecodeError as error:
+        raise FormError(f"{path}: {error}") from error
+    return Reader(Path(path), lines).cases()
+
+
+class Reader:
+    """The lines of a case file from its top to its end."""
+
+    def __init__(self, path, lines):
+        self.path, self.lines, self.at = path, lines, 0
+
+    def refused(self, why):
+        return FormError(f"{self.path}:{self.at}: {why}")
+
+    def next_line(self):
+        """The next line, or None at the end."""
+        if self.at == len(self.lines):
+            return None
+        line = self.lines[self.at]
+        self.at += 1
+        if line.endswith(" ") or not (line.isprintable() or not line):
+            raise self.refused("a blank at the line's end, or a character that one can't see")
+        return line
+
+    def cases(self):
+        found, case = [], None
+        while (line := self.next_line()) is not None:
+            if line.startswith("== "):
+                case = self.opened(line[3:], found)
+            elif case and line and not line.startswith("#"):
+                self.take(case, line)
+            elif line.startswith("#"):
+                if case:
+                    case.comments.append(line[1:].strip())
+            elif line:
+                raise self.refused("no case begins above this line")
+            if case and line:
+                case.end = self.at
+                while not self.lines[case.end - 1]:
+                    case.end -= 1
+        for case in found:
+            self.at = case.line
+            if case.words is None:
+                raise self.refused(f"{case.name} has no line `$ ztso ..`")
+            if case.each_allocation is not None and case.needs_shell():
+                raise self.refused(f"{case.name} is run by a shell, whose allocations aren't to be refused")
+        return found
+
+    def opened(self, name, before):
+        if not NAME.fullmatch(name):
+            raise self.refused("a case's name has no blank and no slash")
+        if any(case.name == name for case in before):
+            raise self.refused(f"a second case {name}")
+        before.append(Case(name, None, path=self.path, line=self.at))
+        return before[-1]
+
+    def take(self, case, line):
+        """Takes a line that isn't a case's first, and the text behind it where it opens one."""
+        head, _, rest = line.partition(" ")
+        if head == "$":
+            words = escapes.read_words(rest)
+            if case.words is not None or not words or words[0] != b"ztso":
+                raise self.refused("not one command line `ztso ..` of plain and quoted words")
+            case.words = words[1:]
+        elif head == "!":
+            case.stderr += escapes.read_line(rest)
+        elif head == "status" and rest.isdigit():
+            case.status = int(rest)
+        elif head == "memory" and rest.isdigit():
+            case.memory = int(rest)
+        elif head == "each-allocation":
+            case.each_allocation = rest
+        elif head == "copy" and rest:
+            case.copied += rest.split(" ")
+        elif head == "file" and rest.endswith(":"):
+            self.take_file(case, rest[:-1])
+        elif head.rstrip(":") in STREAMS:
+            self.take_stream(case, head, rest)
+        else:
+            raise self.refused("no such line in a case")
+
+    def take_file(self, case, name):
+        if name in case.files or "/" in name or not name:
+            raise self.refused("a file's name comes once, and has no folder")
+        case.files[name] = self.text()
+
+    def take_stream(self, case, head, rest):
+        stream = getattr(case, head.rstrip(":"))
+        if stream != Stream():
+            raise self.refused("the stream is told above")
+        way, _, name = rest.partition(" ")
+        if head.endswith(":") and not rest:
+            stream.text = self.text()
+        elif way == "from" and name:
+            stream.source = name
+        elif way == "is" and name:
+            stream.device = name
+        else:
+            raise self.refused("a stream is told by a text below it, by `from FILE` or by `is DEVICE`")
+
+    def text(self):
+        """The pieces that the next lines tell. Empty lines behind them are none of theirs."""
+        pieces, empty = [], 0
+        while self.at < len(self.lines):
+            line = self.lines[self.at]
+            repeated = escapes.REPEATED.fullmatch(line)
+            if not (repeated or line.startswith("  ") or not line):
+                break
+            self.next_line()
+            if not line:
+                empty += 1
+                continue
+            pieces += [(1, b"\n")] * empty
+            empty = 0
+            pieces.append((int(repeated[1]), escapes.read_line(repeated[2] or "")) if repeated
+                          else (1, escapes.read_line(line[2:])))
+        return escapes.joined(pieces)
+
+
+def block(case):
+    """The lines of a case file that tell a case."""
+    yield f"== {case.name}"
+    yield from (f"# {comment}".rstrip() for comment in case.comments)
+    yield " ".join(["$ ztso", *map(escapes.quoted, case.words)])
+    if case.status:
+        yield f"status {case.status}"
+    if case.memory is not None:
+        yield f"memory {case.memory}"
+    if case.each_allocation is not None:
+        yield f"each-allocation {case.each_allocation}".rstrip()
+    if case.copied:
+        yield " ".join(["copy", *case.copied])
+    for name, pieces in case.files.items():
+        yield f"file {name}:"
+        yield from escapes.lines_of(pieces)
+    for name in STREAMS:
+        stream = getattr(case, name)
+        if stream.device or stream.source:
+            yield f"{name} is {stream.device}" if stream.device else f"{name} from {stream.source}"
+        elif stream.text:
+            yield f"{name}:"
+            yield from escapes.lines_of(stream.text)
+    if case.stderr:
+        *lines, last = case.stderr.split(b"\n")
+        told = [escapes.shown(line) for line in lines] + ([escapes.shown(last) + "\\"] if last else [])
+        yield from (f"! {line}".rstrip(" ") for line in told)
+
+
+def written(cases, head=()):
+    """A case file's text: comment lines, and then its cases."""
+    blocks = [[f"# {line}".rstrip() for line in head]] if head else []
+    blocks += [list(block(case)) for case in cases]
+    return "\n\n".join("\n".join(lines) for lines in blocks) + "\n"
+
+
+def write(path, cases, head=()):
+    Path(path).write_bytes(written(cases, head).encode())
+
+
+def head_of(path):
+    """The comment lines above a file's first case."""
+    found = []
+    for line in Path(path).read_bytes().decode().split("\n"):
+        if not line.startswith("#"):
+            break
+        found.append(line[1:].strip())
+    return found
+
+
+def replace(path, case):
+    """Writes a case in the place of the one of its name, or behind all, and leaves the others."""
+    lines = Path(path).read_bytes().decode().rstrip("\n").split("\n")
+    old = next((old for old in read(path) if old.name == case.name), None)
+    told = list(block(case))
+    lines = lines[:old.line - 1] + told + lines[old.end:] if old else lines + ["", *told]
+    Path(path).write_bytes(("\n".join(lines) + "\n").encode())

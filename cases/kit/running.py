@@ -1,0 +1,144 @@
+"""Runs the program on a case, whole or with its allocations refused in turn."""
+
+import os
+import subprocess
+import tempfile
+from pathlib import Path
+
+SECONDS = 60
+# status, standard error and standard output where memory ran out
+NO_MEMORY = (4, b"ztso: no memory\n", b"")
+# the most allocations that a case may make
+ALLOCATIONS = 10_000
+
+# Put before the C library, it refuses one call that allocates, counted from 1, and leaves a file where
+# it came to that call.
+REFUSER = r"""
+#define _GNU_SOURCE
+#include <dlfcn.h>
+#include <errno.h>
+#include <fcntl.h>
+#include <stdlib.h>
+#include <unistd.h>
+
+static long left = -1;
+
+static int is_refused(void) {
+    if (left < 0) left = atol(getenv("REFUSED_ALLOCATION"));
+    if (left == 0 || --left > 0) return 0;
+    close(open(getenv("REFUSAL_SEEN"), O_WRONLY | O_CREAT, 0600));
+    errno = ENOMEM;
+    return 1;
+}
+
+void *malloc(size_t size) {
+    static void *(*next)(size_t);
+    if (!next) next = (void *(*)(size_t))dlsym(RTLD_NEXT, "malloc");
+    return is_refused() ? NULL : next(size);
+}
+
+void *realloc(void *block, size_t size) {
+    static void *(*next)(void *, size_t);
+    if (!next) next = (void *(*)(void *, size_t))dlsym(RTLD_NEXT, "realloc");
+    return is_refused() ? NULL : next(block, size);
+}
+"""
+
+
+class Wrong(Exception):
+    """A case that can't be run, or that doesn't end."""
+
+
+def refuser_in(folder):
+    """Compiles the refuser of allocations, and answers its path, or None where there is no compiler."""
+    source, refuser = Path(folder, "refuser.c"), Path(folder, "refuser.so")
+    source.write_text(REFUSER)
+    try:
+        subprocess.run(["cc", "-shared", "-fPIC", "-o", refuser, source, "-ldl"], check=True,
+                       stdout=subprocess.DEVNULL, stderr=subprocess.DEVNULL)
+    except (OSError, subprocess.CalledProcessError):
+        return None
+    return refuser
+
+
+def shell_front(case):
+    """What the shell does before it becomes the program, or nothing where it needn't."""
+    front = ""
+    if case.memory is not None:
+        if case.memory % 1024:
+            raise Wrong("a limit of memory is a multiple of 1024 bytes")
+        front += f"ulimit -v {case.memory // 1024} && "
+    return front
+
+
+def redirections(case):
+    """The standard streams that are closed, as the shell tells it."""
+    return "".join(f" {sign}&-" for stream, sign in ((case.stdin, "<"), (case.stdout, ">"))
+                   if stream.device == "closed")
+
+
+def command(program, case):
+    """The words of the command, behind a shell where the case limits memory or closes a stream."""
+    words = [os.fsencode(program), *case.words]
+    if not case.needs_shell():
+        return words
+    return ["/bin/sh", "-c", f'{shell_front(case)}exec "$0" "$@"{redirections(case)}', *words]
+
+
+def device(stream, flags):
+    """The open device that a stream is, or None. It may be a folder too."""
+    return os.open(stream.device, flags) if stream.device not in (None, "closed") else None
+
+
+def run(program, case, folder, variables=None):
+    """The status, standard error and standard output of the program on a case, run in a new folder
+    below `folder`."""
+    try:
+        with tempfile.TemporaryDirectory(dir=folder) as inside:
+            return run_in(program, case, inside, variables)
+    except subprocess.TimeoutExpired as error:
+        raise Wrong(f"no end within {SECONDS} seconds") from error
+    except (OSError, ValueError, subprocess.SubprocessError) as error:
+        raise Wrong(str(error)) from error
+
+
+def run_in(program, case, inside, variables):
+    for name, content in case.folder_files().items():
+        Path(inside, name).write_bytes(content)
+    given, taken = device(case.stdin, os.O_RDONLY), device(case.stdout, os.O_WRONLY)
+    try:
+        done = subprocess.run(
+            command(program, case),
+            **({"stdin": subprocess.DEVNULL if given is None else given} if case.stdin.device
+               else {"input": case.stdin.content()}),
+            stdout=subprocess.PIPE if taken is None else taken,
+            stderr=subprocess.PIPE,
+            cwd=inside,
+            timeout=SECONDS,
+            env={**os.environ, **variables} if variables else None,
+        )
+    finally:
+        for opened in (given, taken):
+            if opened is not None:
+                os.close(opened)
+    return done.returncode, done.stderr, done.stdout or b""
+
+
+def without_memory(program, case, folder, refuser, first, step):
+    """What is wrong with the program's answers where one allocation of the case is refused: each is
+    that there is no memory, or the case's own answer where the program can do without. The refused
+    ones are the first-th and every step-th behind it; None tells that all is as it should be."""
+    if refuser is None:
+        return "cc can't compile what refuses an allocation"
+    own = case.answer()
+    seen = Path(folder, f"seen-{os.getpid()}")
+    for number in range(first, ALLOCATIONS + 1, step):
+        variables = {"LD_PRELOAD": str(refuser), "REFUSED_ALLOCATION": str(number),
+                     "REFUSAL_SEEN": str(seen)}
+        answer = run(program, case, folder, variables)
+        if not seen.exists():
+            return None if number > 1 else "no allocation was refused"
+        seen.unlink()
+        if answer not in (NO_MEMORY, own):
+            return f"with allocation {number} refused: status {answer[0]}, {answer[1]}"
+    return f"more than {ALLOCATIONS} allocations"

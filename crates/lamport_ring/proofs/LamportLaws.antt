@@ -1,0 +1,163 @@
+-- The laws of one block, all together, and so the laws of the ring.
+use Rattle.std.proofs.Common.{ℕ, suc, ◌+◌, ◌*◌, ◌%◌, ◌<◌, ◌≤◌, ◌≡◌, List, [], ◌∷◌, ◌++◌, length, Some, refl, sym, ◌∙◌, ap, arith, append-nil, lit≤}
+use Rattle.std.specs.List.{slice_get}
+use Rattle.std.proofs.Math.Nat.{zero-mod}
+use Rattle.hart.specs.State.{HartState}
+use Rattle.poll_close.specs.Laws.{IsShort, Opens, Keeps, Cleans, Goes}
+use Rattle.poll_close.specs.Invariant.Blocks.{Block, offset, slot, window}
+use Rattle.poll_close.proofs.Windows.{window_made}
+use Rattle.poll_close.proofs.Writes.{IsWrite}
+use Rattle.poll_close.proofs.Blocks.{IsBlock, Within, IsWordOf, first_of, word_of, slot_of}
+use Rattle.poll_close.proofs.BlockLaws.{BlockLaws, Begins, Changes, Lands, Tailed, Done, Reported, opens_with}
+use Rattle.poll_close.proofs.ChannelLaws.{opens, keeps, cleans, goes}
+use Rattle.lamport_ring.specs.Listing.{sender_code}
+use Rattle.lamport_ring.specs.Lamport.{lamport, lamport_blocks, lamport_means}
+use Rattle.lamport_ring.specs.Invariant.Stores.{receiver_stores}
+use Rattle.lamport_ring.specs.Invariant.Numbers.{Numbers, sent, gone, Ordered, Words, pending_of, unread_of}
+use Rattle.lamport_ring.specs.Invariant.SenderState.{Written}
+use Rattle.lamport_ring.specs.Invariant.SenderPlaces.{SenderPlace, P00, P04, P08, P0C, P10, P14, P18, P1C, P20, P24, P28, P2C, P30, P34, P38, P3C, P40, Over, SenderIs, Standing}
+use Rattle.lamport_ring.proofs.Orders.{order_c, order_d, order_told}
+use Rattle.lamport_ring.proofs.Stores.{store_tail, store_done, sender_stores_are, receiver_stores_are}
+use Rattle.lamport_ring.proofs.Landings.{Landing, sender_lands, receiver_lands}
+use Rattle.lamport_ring.proofs.ReceiverReads.{seen_mark, seen_done}
+use Rattle.lamport_ring.proofs.SenderActs.{sends}
+use Rattle.lamport_ring.proofs.MiddleMoves.{middle_14, middle_18, middle_1C, middle_20, middle_24}
+
+abbrev nothing : Numbers
+nothing = record { made = record { g = 0; p = 0; q = 0; m = 0 }; ls = 0; kh = 0; km = 0; c = 0; d = 0; kc = 0; kd = 0; took = 0; shut = 0 }
+
+begins : (k : Block) → IsBlock k → Begins lamport_blocks k (opens_with sender_code k)
+begins k is = record {
+    none = nothing;
+    order = record { kc_c = omega arith; c_kh = omega arith; kh_ls = omega arith; ls_kh = omega arith; ls_p = omega arith; kh_q = omega arith; q_p = omega arith; p_q = omega arith; p_kc = omega (arith, is.some_slot); p_all = omega arith; m_one = omega arith; km_m = omega arith; m_all = λ some. omega arith; km_all = λ some. omega arith; d_one = omega arith; kd_d = omega arith; d_all = λ some. omega arith; kd_all = λ some. omega arith };
+    words = record { head = omega (arith, zero-mod k.size); mark = refl; tail = omega (arith, zero-mod k.size); done = refl; slots = λ j from below. omega arith };
+    stands = record { place = P00; written = record { x5 = 0; x6 = 0; x7 = 0; x10 = 0; x11 = 0; x17 = 0; x28 = 0 }; is = refl; holds = (record { taken = refl; heads = refl; unmarked = refl }, omega (arith, zero-mod k.size)) };
+    unsent = refl; unread = refl; level = tt; tails = refl; dones = refl; took = refl; shut = refl;
+  }
+
+words_same : (k : Block) (n : Numbers) (word new : ℕ → ℕ) → IsBlock k → ((a : ℕ) → Within k a → new a ≡ word a) → Words k n word → Words k n new
+words_same k n word new is same w = record {
+    head = same k.base (first_of k is).within ∙ w.head;
+    mark = same (k.base + 4) (word_of k is 4 (omega arith) refl).within ∙ w.mark;
+    tail = same (k.base + 8) (word_of k is 8 (omega arith) refl).within ∙ w.tail;
+    done = same (k.base + 12) (word_of k is 12 (omega arith) refl).within ∙ w.done;
+    slots = λ j from below. same (slot k.size k.base j) (slot_of k is j).within ∙ w.slots j from below;
+  }
+
+-- a later tail keeps the sender's assertion
+holds_later : (k : Block) (here : SenderPlace) (n : _) (kc later : ℕ) (r : Written) → kc ≤ later → SenderIs k here n kc r → SenderIs k here n later r
+holds_later k P00 n kc later r more h = h
+holds_later k P04 n kc later r more h = h
+holds_later k P08 n kc later r more h = h
+holds_later k P0C n kc later r more h = h
+holds_later k P10 n kc later r more h = h
+holds_later k P14 n kc later r more h = h
+holds_later k P18 n kc later r more h = h
+holds_later k P1C n kc later r more h = (h.0, h.1, record { tail = h.2.tail; landed = omega (arith, h.2.landed); near = h.2.near; old = h.2.old; is = h.2.is })
+holds_later k P20 n kc later r more h = (h.0, h.1, omega arith)
+holds_later k P24 n kc later r more h = (h.0, h.1, omega arith, h.3)
+holds_later k P28 n kc later r more h = h
+holds_later k P2C n kc later r more h = h
+holds_later k P30 n kc later r more h = h
+holds_later k P34 n kc later r more h = h
+holds_later k P38 n kc later r more h = h
+holds_later k P3C n kc later r more h = h
+holds_later k P40 n kc later r more h = h
+holds_later k Over n kc later r more h = h
+
+-- the receiver's own numbers grow: the sender and the words of memory stay
+module _ (k : Block) (n : Numbers) (order : Ordered k n) where
+  words_taken : (c d took shut : ℕ) (word : ℕ → ℕ) → n.c ≤ c → Words k n word → Words k (record n { c = c; d = d; took = took; shut = shut }) word
+  words_taken c d took shut word later w = record { head = w.head; mark = w.mark; tail = w.tail; done = w.done; slots = λ j from below. w.slots j (omega arith) below }
+
+  standing_taken : (c d took shut : ℕ) (s : HartState) → Standing k n s → Standing k (record n { c = c; d = d; took = took; shut = shut }) s
+  standing_taken c d took shut s st = record { place = st.place; written = st.written; is = st.is; holds = st.holds }
+
+  behind : n.kc + n.kd ≤ n.c + n.d
+  behind = omega (arith, order.kc_c, order.kd_d)
+
+  stores_tail : n.c < n.kh → n.d ≡ 0 → Tailed lamport_blocks k n
+  stores_tail more on =
+      let next : slice_get (receiver_stores k.size k.base k.list) (n.c + n.d) ≡ Some (k.base + 8, offset k (n.c + 1)) = store_tail k.size k.base k.list n.c (n.c + n.d) (omega (arith, more, order.kh_ls, order.ls_p, order.p_all)) (omega (arith, on)) in
+      let one : suc (n.c + n.d) ≡ n.c + 1 + n.d = omega arith in
+      record {
+        after = record n { c = n.c + 1 };
+        changes = record {
+          order = order_c k n order more on; words = λ word w. words_taken (n.c + 1) n.d n.took n.shut word (omega arith) w; sender = λ s st. standing_taken (n.c + 1) n.d n.took n.shut s st; unsent = refl;
+          unread = rw (← one) (window_made (receiver_stores k.size k.base k.list) (n.kc + n.kd) (n.c + n.d) (k.base + 8, offset k (n.c + 1)) behind next);
+        };
+        level = tt; tails = refl; dones = refl; took = refl; shut = refl;
+      }
+
+  stores_done : n.c ≡ length k.list → n.d ≡ 0 → Done lamport_blocks k n
+  stores_done all on =
+      let next : slice_get (receiver_stores k.size k.base k.list) (n.c + n.d) ≡ Some (k.base + 12, 1) = store_done k.size k.base k.list (n.c + n.d) (omega (arith, all, on)) in
+      let one : suc (n.c + n.d) ≡ n.c + 1 = omega (arith, on) in
+      record {
+        after = record n { d = 1 };
+        changes = record {
+          order = order_d k n order all; words = λ word w. words_taken n.c 1 n.took n.shut word (omega arith) w; sender = λ s st. standing_taken n.c 1 n.took n.shut s st; unsent = refl;
+          unread = rw (← one) (window_made (receiver_stores k.size k.base k.list) (n.kc + n.kd) (n.c + n.d) (k.base + 12, 1) behind next);
+        };
+        level = tt; tails = refl; dones = refl; took = refl; shut = refl;
+      }
+
+  reported : (words closed : ℕ) → Reported lamport_blocks k n words closed
+  reported words closed = record {
+      after = record n { took = words; shut = closed };
+      changes = record { order = order_told k n order words closed; words = λ word w. words_taken n.c n.d words closed word (omega arith) w; sender = λ s st. standing_taken n.c n.d words closed s st; unsent = refl; unread = append-nil (unread_of k n) };
+      level = tt; tails = refl; dones = refl; took = refl; shut = refl;
+    }
+
+-- a landing, as the laws ask for it
+landing : (k : Block) (n : Numbers) (new : ℕ → ℕ) (mine theirs : List (ℕ × ℕ)) → Landing k n new mine theirs → Lands lamport_blocks k n new mine theirs
+landing k n new mine theirs l = record {
+    after = record n { ls = l.ls; kh = l.kh; km = l.km; kc = l.kc; kd = l.kd };
+    order = l.order; words = l.words;
+    sender = λ s st. record { place = st.place; written = st.written; is = st.is; holds = holds_later k st.place n.made n.kc l.kc st.written l.later st.holds };
+    unsent = l.mine_is; unread = l.theirs_is;
+    grows = record { tails = refl; dones = refl; took = refl; shut = refl; marks = l.marks; later = l.heads };
+  }
+
+pub lamport-laws : BlockLaws lamport_blocks sender_code
+lamport-laws = record {
+    begins = begins;
+    tails_all = λ k n order. omega (arith, order.c_kh, order.kh_ls, order.ls_p, order.p_all);
+    dones_one = λ k n order. order.d_one;
+    marks_one = λ k n order. omega (arith, order.km_m, order.m_one);
+    filled_more = λ k n order more. omega (arith, more, order.kh_ls, order.ls_p, order.p_all);
+    unsent_are = λ k n is order. sender_stores_are k is (gone n) (sent n);
+    unread_are = λ k n is order. receiver_stores_are k is (n.kc + n.kd) (n.c + n.d);
+    words_same = words_same;
+    later_same = λ n. omega arith;
+    level_stays = λ n new g h. tt;
+    filled_stays = λ k n new g more. omega (arith, g.tails, g.later, more);
+    stays_18 = λ k n new r g order h. record { head = h.head; from = omega (arith, g.tails, h.from); to = omega (arith, g.later, h.to); is = h.is; last = h.last };
+    stays_1C = λ k n new r g order h. (record { head = h.0.head; from = omega (arith, g.tails, h.0.from); to = omega (arith, g.later, h.0.to); is = h.0.is; last = h.0.last }, h.1 ∙ ap (offset k) (sym g.tails));
+    stays_20 = λ k n new r g order h. (omega (arith, g.tails, g.later, h.0), h.1 ∙ ap (offset k) (sym g.tails));
+    stays_24 = λ k n new r g order h. (omega (arith, g.tails, g.later, h.0), h.1 ∙ ap (offset k) (sym g.tails), h.2);
+    sends = sends;
+    sender_lands = λ k n word new x rest is order words oldest write. landing k n new rest (unread_of k n) (sender_lands k is n order word new words x rest (unread_of k n) oldest write refl);
+    receiver_lands = λ k n word new x rest is order words oldest write. landing k n new (pending_of k n) rest (receiver_lands k is n order word new words x rest (pending_of k n) oldest write refl);
+    sees_done = λ k n word order words. seen_done k n word order words;
+    sees_mark = λ k n word order words. seen_mark k n word order words;
+    stores_tail = λ k n order more on. stores_tail k n order more on;
+    stores_done = λ k n order level all on. stores_done k n order all on;
+    reports = λ k n words closed order level. reported k n order words closed;
+    moves_14 = middle_14; moves_18 = middle_18; moves_1C = middle_1C; moves_20 = middle_20; moves_24 = middle_24;
+  }
+
+pub lamport-short : IsShort lamport
+lamport-short = (lit≤ tt, lit≤ tt)
+
+pub lamport-opens : Opens lamport lamport_means
+lamport-opens = opens lamport_blocks sender_code lamport-laws 2 (lit≤ tt)
+
+pub lamport-keeps : Keeps lamport lamport_means
+lamport-keeps = keeps lamport_blocks sender_code lamport-laws 2 (lit≤ tt)
+
+pub lamport-cleans : Cleans lamport lamport_means
+lamport-cleans = cleans lamport_blocks sender_code lamport-laws 2 (lit≤ tt)
+
+pub lamport-goes : Goes lamport lamport_means
+lamport-goes = goes lamport_blocks sender_code lamport-laws 2 (lit≤ tt)

@@ -1,0 +1,11 @@
+pub mod Means
+pub mod Orders
+pub mod Stores
+pub mod Landings
+pub mod ReceiverReads
+pub mod SenderLines
+pub mod SenderMoves
+pub mod SenderActs
+pub mod MiddleLines
+pub mod MiddleMoves
+pub mod LamportLaws

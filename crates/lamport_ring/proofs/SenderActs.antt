@@ -1,0 +1,54 @@
+-- What the sender finds, and its acts as the laws of a block ask for them.
+use Rattle.std.proofs.Common.{ℕ, zero, suc, ◌+◌, ◌*◌, ◌%◌, ◌≡◌, ◌≢◌, ◌≤◌, List, [], ◌∷◌, ◌++◌, None, refl, sym, ◌∙◌, ap, subst, arith}
+use Rattle.std.specs.Prelude.{unwrap_or}
+use Rattle.hart.specs.State.{HartState}
+use Rattle.hart.specs.Steps.{need_of, advanced}
+use Rattle.hart.specs.declared.status.Status.TheVariants as status
+use Rattle.poll_close.specs.Invariant.Blocks.{Block, offset, slot}
+use Rattle.poll_close.proofs.Acts.{stored_by, IsNoAmo}
+use Rattle.poll_close.proofs.Lines.{loads}
+use Rattle.poll_close.proofs.Windows.{Each, Each-window, newest_none}
+use Rattle.poll_close.proofs.Blocks.{IsBlock, IsWordOf, word_of}
+use Rattle.poll_close.proofs.BlockLaws.{found_in, Sends}
+use Rattle.lamport_ring.specs.Lamport.{lamport_blocks}
+use Rattle.lamport_ring.specs.Invariant.Stores.{stores_from, sender_stores}
+use Rattle.lamport_ring.specs.Invariant.Numbers.{Made, Numbers, sent, gone, Ordered, Words, pending_of}
+use Rattle.lamport_ring.specs.Invariant.SenderState.{Written}
+use Rattle.lamport_ring.specs.Invariant.SenderPlaces.{SenderPlace, stands, SenderIs, Standing}
+use Rattle.lamport_ring.proofs.SenderMoves.{Moves, moves}
+
+-- the sender never stores to the tail
+no_tail_from : (S b j : ℕ) (ws : List ℕ) → Each (λ y. y.0 ≢ b + 8) (stores_from S b j ws)
+no_tail_from S b j [] zero x is = let same : b + 4 ≡ x.0 = ap (λ (y : ℕ × ℕ). y.0) (let pair : (b + 4, 1) ≡ x = cc in pair) in omega arith
+no_tail_from S b j [] (suc i) x is = cc
+no_tail_from S b j (w ∷ ws) zero x is = let same : slot S b j ≡ x.0 = ap (λ (y : ℕ × ℕ). y.0) (let pair : (slot S b j, w) ≡ x = cc in pair) in omega arith
+no_tail_from S b j (w ∷ ws) (suc zero) x is = let same : b ≡ x.0 = ap (λ (y : ℕ × ℕ). y.0) (let pair : (b, 4 * ((j + 1) % S)) ≡ x = cc in pair) in omega arith
+no_tail_from S b j (w ∷ ws) (suc (suc i)) x is = no_tail_from S b (j + 1) ws i x is
+
+-- what the sender finds at the tail is the word of memory
+tail_found : (k : Block) (n : Numbers) (word : ℕ → ℕ) → Words k n word → found_in (pending_of k n) word (k.base + 8) ≡ offset k n.kc
+tail_found k n word words =
+    ap (λ o. unwrap_or o (word (k.base + 8))) (newest_none (k.base + 8) None (pending_of k n) (Each-window (λ y. y.0 ≢ k.base + 8) (sender_stores k.size k.base k.list) (gone n) (sent n) (no_tail_from k.size k.base 0 k.list)))
+    ∙ words.tail
+
+-- its own numbers grow, and the words of memory stay
+words_made : (k : Block) (n : Numbers) (made : Made) (word : ℕ → ℕ) → Words k n word → Words k (record n { made = made }) word
+words_made k n made word w = record { head = w.head; mark = w.mark; tail = w.tail; done = w.done; slots = w.slots }
+
+pub sends : (k : Block) (n : Numbers) (s : HartState) (word : ℕ → ℕ) (v : ℕ) → IsBlock k → Ordered k n → Words k n word → Standing k n s → s.status ≡ status.Running → ((a : ℕ) → IsWordOf k a → need_of s ≡ loads a → v ≡ found_in (pending_of k n) word a) → Sends lamport_blocks k n s v
+sends k n s word v is order words st runs find = moved s st.place st.written st.is runs (λ wants. find (k.base + 8) (word_of k is 8 (omega arith) refl) wants ∙ tail_found k n word words) st.holds
+  where
+    moved : (s : HartState) (here : SenderPlace) (r : Written) → s ≡ stands k here n.made r → s.status ≡ status.Running → (need_of s ≡ loads (k.base + 8) → v ≡ offset k n.kc) → SenderIs k here n.made n.kc r → Sends lamport_blocks k n s v
+    moved s here r at runs read holds =
+        let m : Moves k here n r v = moves k is n r v order here (subst (λ (z : HartState). z.status ≡ status.Running) at runs) (λ wants. read (ap need_of at ∙ wants)) holds in
+        let wants : need_of s ≡ m.wanted = ap need_of at ∙ m.wants in
+        record {
+          after = record n { made = m.made };
+          plain = subst IsNoAmo (sym wants) m.plain;
+          stands = record { place = m.there; written = m.written; is = ap (λ z. advanced z v) at ∙ m.leaves; holds = m.holds };
+          order = m.order;
+          words = λ w h. words_made k n m.made w h;
+          unsent = ap (λ w. pending_of k n ++ stored_by w) wants ∙ m.stores;
+          unread = refl;
+          grows = record { tails = refl; dones = refl; took = refl; shut = refl; marks = omega arith; later = omega arith };
+        }

@@ -1,0 +1,218 @@
+-- One act of the sender: from each place's assertion to the next place's.
+use Rattle.std.proofs.Common.{ℕ, suc, ◌+◌, ◌*◌, ◌%◌, ◌<◌, ◌≤◌, ◌≡◌, ◌≢◌, ◌⊎◌, inl, inr, [], ◌∷◌, ◌++◌, length, drop, Some, None, refl, sym, ◌∙◌, ap, arith, add-zero, append-nil, drop-cons}
+use Rattle.std.proofs.Math.ListN.{drop_of_length-le}
+use Rattle.std.proofs.Math.Nat.{add-mod_right}
+use Rattle.std.specs.Prelude.{slice_index}
+use Rattle.std.specs.List.{slice_get}
+use Rattle.std.proofs.lemmas.Bool.{cases_lt, cases_eq}
+use Rattle.std.proofs.lemmas.Nat.{mod_below}
+use Rattle.hart.specs.declared.status.Status.TheVariants as status
+use Rattle.hart.specs.declared.need.Need.{Need}
+use Rattle.hart.specs.declared.need.Need.TheVariants as need
+use Rattle.hart.specs.Steps.{need_of, advanced}
+use Rattle.lamport_ring.specs.Invariant.SenderState.{Written, running}
+use Rattle.lamport_ring.proofs.SenderLines.{line_00, line_04-word, line_04-none, line_08-done, line_08-word, line_0C, line_10-inside, line_10-end, line_14, line_18, line_1C-full, line_1C-free, line_20, line_24, line_28, line_2C, line_30, line_34, line_38, line_3C, line_40}
+use Rattle.poll_close.proofs.Acts.{stored_by, IsNoAmo}
+use Rattle.poll_close.proofs.Lines.{Line, loads, stores}
+use Rattle.poll_close.proofs.Modulo.{offset_step, offset_wrap}
+use Rattle.poll_close.proofs.Windows.{window_made}
+use Rattle.poll_close.specs.Invariant.Blocks.{slot}
+use Rattle.lamport_ring.specs.Invariant.Stores.{sender_stores}
+use Rattle.lamport_ring.proofs.Stores.{store_slot, store_head, store_mark}
+use Rattle.poll_close.specs.Invariant.Blocks.{Block, offset}
+use Rattle.lamport_ring.specs.Invariant.Numbers.{Made, Numbers, sent, gone, Ordered, pending_of}
+use Rattle.poll_close.proofs.Blocks.{IsBlock}
+use Rattle.lamport_ring.proofs.Orders.{order_g, order_p, order_q, order_m}
+use Rattle.lamport_ring.specs.Invariant.SenderPlaces.{SenderPlace, P00, P04, P08, P0C, P10, P14, P18, P1C, P20, P24, P28, P2C, P30, P34, P38, P3C, P40, Over, fixed, stands, Holds, SenderIs}
+
+-- what it wants at this place, and, where it reads v, the place after
+pub record Moves (k : Block) (here : SenderPlace) (n : Numbers) (r : Written) (v : ℕ) : Type 0 where
+  pub wanted : Need
+  pub there : SenderPlace
+  pub made : Made
+  pub written : Written
+  pub plain : IsNoAmo wanted
+  pub wants : need_of (stands k here n.made r) ≡ wanted
+  pub leaves : advanced (stands k here n.made r) v ≡ stands k there made written
+  pub order : Ordered k (record n { made = made })
+  pub holds : SenderIs k there made n.kc written
+  pub stores : pending_of k n ++ stored_by wanted ≡ pending_of k (record n { made = made })
+
+module _ (k : Block) (is : IsBlock k) (n : Numbers) (r : Written) (v : ℕ) (order : Ordered k n) where
+  -- an act that changes no number
+  still : (here there : SenderPlace) (written : Written) → Line (stands k here n.made r) need.Inner (λ w. stands k there n.made written) → SenderIs k there n.made n.kc written → Moves k here n r v
+  still here there written line holds = record {
+    wanted = need.Inner; there = there; made = n.made; written = written;
+    plain = tt; wants = line.wants; leaves = line.leaves v; order = order; holds = holds; stores = append-nil (pending_of k n);
+  }
+
+  moves_00 : SenderIs k P00 n.made n.kc r → Moves k P00 n r v
+  moves_00 h = still P00 P04 (record r { x17 = 1 }) (line_00 (fixed k) r (drop n.made.g k.list)) (h.0, h.1, refl)
+
+  moves_04 : SenderIs k P04 n.made n.kc r → Moves k P04 n r v
+  moves_04 h =
+      elim (cases_lt n.made.p (length k.list)) [
+        | inl more ↦
+            let w : ℕ = slice_index k.list n.made.g in
+            let split : drop n.made.g k.list ≡ w ∷ drop (suc n.made.g) k.list = drop-cons k.list n.made.g 0 (omega (arith, h.0.taken)) in
+            let line : Line (running (fixed k) 0x04 r (drop n.made.g k.list)) (need.Next (Some w)) (λ u. running (fixed k) 0x08 (record r { x10 = w; x11 = 1 }) (drop (suc n.made.g) k.list)) = rw split (line_04-word (fixed k) r w (drop (suc n.made.g) k.list) h.2) in
+            record {
+              wanted = need.Next (Some w); there = P08; made = record n.made { g = suc n.made.g }; written = record r { x10 = w; x11 = 1 };
+              plain = tt; wants = line.wants; leaves = line.leaves v; order = order_g k n order (suc n.made.g);
+              holds = record { heads = h.0.heads; unmarked = h.0.unmarked; index = h.1; answer = inl (refl, omega (arith, h.0.taken), more, ap (slice_index k.list) h.0.taken) };
+              stores = append-nil (pending_of k n);
+            }
+        | inr all ↦
+            let none : drop n.made.g k.list ≡ [] = drop_of_length-le k.list (omega (arith, h.0.taken)) in
+            let line : Line (running (fixed k) 0x04 r (drop n.made.g k.list)) (need.Next None) (λ u. running (fixed k) 0x08 (record r { x11 = 0 }) (drop n.made.g k.list)) = rw none (line_04-none (fixed k) r h.2) in
+            record {
+              wanted = need.Next None; there = P08; made = n.made; written = record r { x11 = 0 };
+              plain = tt; wants = line.wants; leaves = line.leaves v; order = order;
+              holds = record { heads = h.0.heads; unmarked = h.0.unmarked; index = h.1; answer = inr (refl, h.0.taken, omega arith) };
+              stores = append-nil (pending_of k n);
+            }
+      ]
+
+  moves_08 : SenderIs k P08 n.made n.kc r → Moves k P08 n r v
+  moves_08 h =
+      elim h.answer [
+        | inl some ↦ still P08 P0C r (line_08-word (fixed k) r (drop n.made.g k.list) (omega arith)) (record { taken = some.1; heads = h.heads; unmarked = h.unmarked; within = some.2; word = some.3; index = h.index })
+        | inr none ↦ still P08 P34 r (line_08-done (fixed k) r (drop n.made.g k.list) none.0) (record { taken = none.1; heads = h.heads; unmarked = h.unmarked }, none.2)
+      ]
+
+  -- an offset is below the block's end, and so below 2 ^ 32
+  low : (j : ℕ) → offset k j + 4 ≤ 4 * k.size
+  low j = let below : j % k.size < k.size = mod_below j k.size (omega (arith, is.some_slot)) in omega arith
+
+  moves_0C : SenderIs k P0C n.made n.kc r → Moves k P0C n r v
+  moves_0C h = still P0C P10 (record r { x6 = r.x5 + 4 }) (line_0C (fixed k) r (drop n.made.g k.list) (omega (arith, is.inside, is.small, h.index, low n.made.p))) (record { taken = h.taken; heads = h.heads; unmarked = h.unmarked; within = h.within; word = h.word; index = h.index }, refl)
+
+  moves_10 : SenderIs k P10 n.made n.kc r → Moves k P10 n r v
+  moves_10 h =
+      elim (cases_eq r.x6 (4 * k.size)) [
+        | inl same ↦ still P10 P14 r (line_10-end (fixed k) r (drop n.made.g k.list) same) (h.0, omega arith)
+        | inr other ↦ still P10 P18 r (line_10-inside (fixed k) r (drop n.made.g k.list) other) (h.0, (let step : offset k n.made.p + 4 ≡ offset k (n.made.p + 1) = offset_step k.size n.made.p (omega (arith, is.some_slot)) (omega (arith, h.0.index, h.1)) in omega (arith, h.0.index, h.1)))
+      ]
+
+  holds_again : Holds k n.made r → (a b c : ℕ) → Holds k n.made (record r { x6 = a; x7 = b; x28 = c })
+  holds_again h a b c = record { taken = h.taken; heads = h.heads; unmarked = h.unmarked; within = h.within; word = h.word; index = h.index }
+
+  moves_14 : SenderIs k P14 n.made n.kc r → Moves k P14 n r v
+  moves_14 h = still P14 P18 (record r { x6 = 0 }) (line_14 (fixed k) r (drop n.made.g k.list)) (holds_again h.0 0 r.x7 r.x28, sym (offset_wrap k.size n.made.p (omega (arith, is.some_slot)) (omega (arith, h.0.index, h.1))))
+
+  -- it reads the tail that landed last
+  moves_18 : SenderIs k P18 n.made n.kc r → v ≡ offset k n.kc → Moves k P18 n r v
+  moves_18 h read =
+      let line = line_18 (fixed k) r (drop n.made.g k.list) is.even (omega (arith, is.inside, is.some_slot)) is.small in
+      record {
+        wanted = loads (k.base + 8); there = P1C; made = n.made; written = record r { x7 = v };
+        plain = tt; wants = line.wants; leaves = line.leaves v; order = order;
+        holds = (holds_again h.0 r.x6 v r.x28, h.1, record { tail = n.kc; landed = omega arith; near = order.p_kc; old = omega (arith, order.kc_c, order.c_kh, order.kh_ls, order.ls_p); is = read });
+        stores = append-nil (pending_of k n);
+      }
+
+  -- a full ring keeps it here; else the next slot is free
+  moves_1C : SenderIs k P1C n.made n.kc r → Moves k P1C n r v
+  moves_1C h =
+      elim (cases_eq r.x7 r.x6) [
+        | inl same ↦ still P1C P18 r (line_1C-full (fixed k) r (drop n.made.g k.list) same) (h.0, h.1)
+        | inr other ↦ still P1C P20 r (line_1C-free (fixed k) r (drop n.made.g k.list) other) (h.0, h.1, room other (cases_eq (n.made.p + 1) (h.2.tail + k.size)))
+      ]
+    where
+      room : r.x7 ≢ r.x6 → (n.made.p + 1 ≡ h.2.tail + k.size) ⊎ (n.made.p + 1 ≢ h.2.tail + k.size) → n.made.p + 2 ≤ n.kc + k.size
+      room other (inl full) =
+          let wrapped : (n.made.p + 1) % k.size ≡ h.2.tail % k.size = ap (λ j. j % k.size) full ∙ add-mod_right h.2.tail k.size in
+          absurd (other (h.2.is ∙ ap (λ o. 4 * o) (sym wrapped) ∙ sym h.1))
+      room other (inr free) = omega (arith, h.2.near, h.2.landed)
+
+  moves_20 : SenderIs k P20 n.made n.kc r → Moves k P20 n r v
+  moves_20 h = still P20 P24 (record r { x28 = k.base + r.x5 }) (line_20 (fixed k) r (drop n.made.g k.list) (omega (arith, is.inside, is.small, h.0.index, low n.made.p))) (holds_again h.0 r.x6 r.x7 (k.base + r.x5), h.1, h.2, refl)
+
+  moves_24 : SenderIs k P24 n.made n.kc r → Moves k P24 n r v
+  moves_24 h =
+      let line = line_24 (fixed k) r (drop n.made.g k.list) (omega (arith, is.even, h.0.index, h.3)) (omega (arith, is.inside, h.0.index, h.3, low n.made.p)) is.small in
+      let place : r.x28 + 16 ≡ slot k.size k.base n.made.p = omega (arith, h.0.index, h.3) in
+      let next : slice_get (sender_stores k.size k.base k.list) (sent n) ≡ Some (slot k.size k.base n.made.p, slice_index k.list n.made.p) = store_slot k.size k.base k.list n.made.p (sent n) h.0.within (omega (arith, h.0.heads, h.0.unmarked)) in
+      let more : suc (sent n) ≡ n.made.p + 1 + n.made.q + n.made.m = omega arith in
+      record {
+        wanted = stores (r.x28 + 16) r.x10; there = P28; made = record n.made { p = n.made.p + 1 }; written = r;
+        plain = tt; wants = line.wants; leaves = line.leaves v; order = order_p k n order h.0.heads h.0.unmarked h.0.within h.2;
+        holds = record { taken = h.0.taken; heads = omega (arith, h.0.heads); unmarked = h.0.unmarked; next = h.1 };
+        stores = rw (place, h.0.word, ← more) (window_made (sender_stores k.size k.base k.list) (gone n) (sent n) (slot k.size k.base n.made.p, slice_index k.list n.made.p) behind next);
+      }
+    where
+      behind : gone n ≤ sent n
+      behind = omega (arith, order.ls_p, order.kh_q, order.km_m)
+
+  moves_28 : SenderIs k P28 n.made n.kc r → Moves k P28 n r v
+  moves_28 h =
+      let line = line_28 (fixed k) r (drop n.made.g k.list) is.even (omega (arith, is.inside, is.some_slot)) is.small in
+      let next : slice_get (sender_stores k.size k.base k.list) (sent n) ≡ Some (k.base, offset k (n.made.q + 1)) = store_head k.size k.base k.list n.made.q (sent n) (omega (arith, h.heads, order.p_all)) (omega (arith, h.heads, h.unmarked)) in
+      let word : r.x6 ≡ offset k (n.made.q + 1) = h.next ∙ ap (offset k) (sym h.heads) in
+      let place : k.base + 0 ≡ k.base = add-zero k.base in
+      let more : suc (sent n) ≡ n.made.p + (n.made.q + 1) + n.made.m = omega arith in
+      record {
+        wanted = stores (k.base + 0) r.x6; there = P2C; made = record n.made { q = n.made.q + 1 }; written = r;
+        plain = tt; wants = line.wants; leaves = line.leaves v; order = order_q k n order h.heads;
+        holds = (record { taken = h.taken; heads = h.heads; unmarked = h.unmarked }, h.next);
+        stores = rw (place, word, ← more) (window_made (sender_stores k.size k.base k.list) (gone n) (sent n) (k.base, offset k (n.made.q + 1)) behind next);
+      }
+    where
+      behind : gone n ≤ sent n
+      behind = omega (arith, order.ls_p, order.kh_q, order.km_m)
+
+  moves_2C : SenderIs k P2C n.made n.kc r → Moves k P2C n r v
+  moves_2C h = still P2C P30 (record r { x5 = r.x6 }) (line_2C (fixed k) r (drop n.made.g k.list) (omega (arith, is.inside, is.small, h.1, low n.made.p))) (h.0, h.1)
+
+  moves_30 : SenderIs k P30 n.made n.kc r → Moves k P30 n r v
+  moves_30 h = still P30 P00 r (line_30 (fixed k) r (drop n.made.g k.list)) h
+
+  moves_34 : SenderIs k P34 n.made n.kc r → Moves k P34 n r v
+  moves_34 h = still P34 P38 (record r { x6 = 1 }) (line_34 (fixed k) r (drop n.made.g k.list)) (h.0, h.1, refl)
+
+  moves_38 : SenderIs k P38 n.made n.kc r → Moves k P38 n r v
+  moves_38 h =
+      let line = line_38 (fixed k) r (drop n.made.g k.list) is.even (omega (arith, is.inside, is.some_slot)) is.small in
+      let next : slice_get (sender_stores k.size k.base k.list) (sent n) ≡ Some (k.base + 4, 1) = store_mark k.size k.base k.list (sent n) (omega (arith, h.0.heads, h.0.unmarked)) in
+      let more : suc (sent n) ≡ n.made.p + n.made.q + 1 = omega (arith, h.0.unmarked) in
+      record {
+        wanted = stores (k.base + 4) r.x6; there = P3C; made = record n.made { m = 1 }; written = r;
+        plain = tt; wants = line.wants; leaves = line.leaves v; order = order_m k n order (h.0.heads ∙ h.1);
+        holds = record { taken = h.0.taken ∙ h.1; heads = h.0.heads ∙ h.1; mark = refl };
+        stores = rw (h.2, ← more) (window_made (sender_stores k.size k.base k.list) (gone n) (sent n) (k.base + 4, 1) behind next);
+      }
+    where
+      behind : gone n ≤ sent n
+      behind = omega (arith, order.ls_p, order.kh_q, order.km_m)
+
+  moves_3C : SenderIs k P3C n.made n.kc r → Moves k P3C n r v
+  moves_3C h = still P3C P40 (record r { x17 = 93 }) (line_3C (fixed k) r (drop n.made.g k.list)) (h, refl)
+
+  moves_40 : SenderIs k P40 n.made n.kc r → Moves k P40 n r v
+  moves_40 h =
+      let line = line_40 (fixed k) r (drop n.made.g k.list) h.1 in
+      record {
+        wanted = need.Exit; there = Over; made = n.made; written = r;
+        plain = tt; wants = line.wants; leaves = line.leaves v; order = order; holds = h.0; stores = append-nil (pending_of k n);
+      }
+
+  -- wherever it runs, it moves; what it reads is the tail that landed last
+  pub moves : (here : SenderPlace) → (stands k here n.made r).status ≡ status.Running → (need_of (stands k here n.made r) ≡ loads (k.base + 8) → v ≡ offset k n.kc) → SenderIs k here n.made n.kc r → Moves k here n r v
+  moves P00 runs read h = moves_00 h
+  moves P04 runs read h = moves_04 h
+  moves P08 runs read h = moves_08 h
+  moves P0C runs read h = moves_0C h
+  moves P10 runs read h = moves_10 h
+  moves P14 runs read h = moves_14 h
+  moves P18 runs read h = moves_18 h (read (line_18 (fixed k) r (drop n.made.g k.list) is.even (omega (arith, is.inside, is.some_slot)) is.small).wants)
+  moves P1C runs read h = moves_1C h
+  moves P20 runs read h = moves_20 h
+  moves P24 runs read h = moves_24 h
+  moves P28 runs read h = moves_28 h
+  moves P2C runs read h = moves_2C h
+  moves P30 runs read h = moves_30 h
+  moves P34 runs read h = moves_34 h
+  moves P38 runs read h = moves_38 h
+  moves P3C runs read h = moves_3C h
+  moves P40 runs read h = moves_40 h
+  moves Over runs read h = cc

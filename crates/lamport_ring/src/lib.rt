@@ -1,0 +1,55 @@
+//! Lamport's ring: the sender stores a word into its slot and then the head, the receiver takes it and
+//! stores the tail; equal head and tail mean empty, and one slot stays free. The crate's contract is
+//! its instance of `RingKind`: the laws by which a channel over this ring delivers.
+
+#![tactic(auto)]
+
+ghost use Rattle.lamport_ring.specs.Listing.{sender_code, sender_lines, receiver_code, receiver_lines};
+ghost use Rattle.lamport_ring.specs.Means.{AllMean};
+
+use poll_close::RingKind;
+
+/// The words of the sender's listing.
+const SENDER: [u32; 17] = [
+    0x00100893, 0x00000073, 0x02058663, 0x00428313, 0x00931463, 0x00000313, 0x00842383, 0xFE638EE3, 0x00540E33,
+    0x00AE2823, 0x00642023, 0x00030293, 0xFD1FF06F, 0x00100313, 0x00642223, 0x05D00893, 0x00000073,
+];
+
+/// The words of the receiver's listing.
+const RECEIVER: [u32; 32] = [
+    0x000A8413, 0x00000B13, 0x00C42283, 0x04029E63, 0x00442F03, 0x00042303, 0x00842383, 0x02730663, 0x00740E33,
+    0x010E2583, 0x00438393, 0x00939463, 0x00000393, 0x00742423, 0x000B0513, 0x00200893, 0x00000073, 0x0240006F,
+    0x020F0063, 0x00100293, 0x00542623, 0x000B0513, 0x00300893, 0x00000073, 0xFFFA0A13, 0x000A0A63, 0x01240433,
+    0x001B0B13, 0xF9341CE3, 0xF8DFF06F, 0x05D00893, 0x00000073,
+];
+
+/// Lamport's ring.
+pub struct Lamport;
+
+impl RingKind for Lamport {
+    ghost use Rattle.lamport_ring.specs.Lamport.{lamport, lamport_means};
+
+    ghost ring = { lamport };
+
+    ghost meaning = { lamport_means };
+
+    fn sender() -> &'static [u32] {
+        &SENDER
+    }
+
+    fn receiver() -> &'static [u32] {
+        &RECEIVER
+    }
+
+    fn least_size() -> u32 {
+        2
+    }
+
+    fn laws() {}
+}
+
+/// Each word of the tables means its line's instruction. It does nothing.
+pub fn tables_mean()
+    ensures sender { AllMean sender_code sender_lines }
+    ensures receiver { AllMean receiver_code receiver_lines }
+{}

@@ -1,0 +1,83 @@
+-- What is answered of a text, and that it is one test, or refused.
+use Rattle.std.proofs.Common.{◌≡◌, ◌↔◌, ℕ, ◌+◌, List, [], ◌∷◌, map, All, Some, Result, Ok, Err, refl, sym, ap, subst, ◌∙◌}
+use Rattle.std.specs.Prelude.{IfOk, IfSome}
+use Rattle.std.specs.Result.{IsErr}
+use Rattle.std.proofs.lemmas.List.Elements.{All-head, All-tail}
+use Rattle.texts.specs.Results.{Gives}
+use Rattle.texts.proofs.ResultLaws.{ok_is}
+use Rattle.step_machine.specs.History.{HartStart}
+use Rattle.litmus.specs.declared.verdict.Quantifier.{Quantifier}
+use Rattle.litmus.specs.Formulas.{Formula}
+use Rattle.litmus.specs.Questions.{Question, question_of}
+use Rattle.litmus_words.specs.Settings.{Put}
+use Rattle.litmus_reader.specs.declared.faults.LitmusFault.{LitmusFault}
+use Rattle.litmus_reader.specs.declared.faults.LitmusError.{LitmusError}
+use Rattle.litmus_reader.specs.declared.faults.LitmusError.TheVariants.{NoMemory, Refused}
+use Rattle.litmus_reader.specs.Faults.{fault_of}
+use Rattle.litmus_reader.specs.Locations.{Names}
+use Rattle.litmus_reader.specs.Reading.{HartContent, Content, hart_content, content_of, test_at}
+use Rattle.litmus_reader.specs.Columns.{Cells}
+use Rattle.litmus_reader.specs.Grammar.{AreHarts, IsContent, HasPlainCode, IsTestOf}
+use Rattle.litmus_reader.proofs.PlainWords.{one_code}
+use Rattle.litmus_reader.proofs.ContentGrammar.{content_found, content_only}
+
+-- ---- one test
+
+pub one_content : (text : List ℕ) (a b : Content) → IsContent text a → IsContent text b → a ≡ b
+one_content text a b first second = ok_is LitmusFault a b (sym (content_only text a first) ∙ content_only text b second)
+
+same_start : (a b : HartStart) → a.code ≡ b.code → hart_content a ≡ hart_content b → a ≡ b
+same_start a b code same =
+    let registers : a.registers ≡ b.registers = ap (λ (h : HartContent). h.registers) same in
+    let inbox : a.inbox ≡ b.inbox = ap (λ (h : HartContent). h.inbox) same in
+    rw (code, registers, inbox) refl
+
+-- harts of the same instructions have the same words
+same_harts : (names : Names) (puts : List Put) (rows : List Cells) (hart : ℕ) (xs ys : List HartStart) → AreHarts names puts rows hart (map hart_content xs) → All HasPlainCode xs → All HasPlainCode ys → map hart_content xs ≡ map hart_content ys → xs ≡ ys
+same_harts names puts rows hart [] [] are p q same = refl
+same_harts names puts rows hart [] (y ∷ ys) are p q same = absurd cc
+same_harts names puts rows hart (x ∷ xs) [] are p q same = absurd cc
+same_harts names puts rows hart (x ∷ xs) (y ∷ ys) are p q same =
+    let first : hart_content x ≡ hart_content y = cc in
+    let rest : map hart_content xs ≡ map hart_content ys = cc in
+    let instrs = are.0.1 in
+    let meant = are.0.4 in
+    let code = one_code x.code y.code instrs (All-head HasPlainCode x xs p) (All-head HasPlainCode y ys q) meant (sym (ap (λ (h : HartContent). h.code) first) ∙ meant) in
+    rw (same_start x y code first, same_harts names puts rows (hart + 1) xs ys are.3 (All-tail HasPlainCode x xs p) (All-tail HasPlainCode y ys q) rest) refl
+
+same_question : (xs ys : List HartStart) (words others : List ℕ) (names more : Names) (q r : Quantifier) (f g : Formula) → xs ≡ ys → words ≡ others → names ≡ more → q ≡ r → f ≡ g → question_of xs words names q f ≡ question_of ys others more r g
+same_question xs ys words others names more q r f g a b c d e = rw (a, b, c, d, e) refl
+
+pub one_test : (text : List ℕ) (a b : Question) → IsTestOf text a → IsTestOf text b → a ≡ b
+unfolding IsTestOf
+one_test text a b first second =
+    let same = one_content text (content_of a) (content_of b) first.0 second.0 in
+    let is = first.0 in
+    let harts = same_harts a.names is.puts is.rows 0 a.opening.harts b.opening.harts is.harts first.1 second.1 (ap (λ (c : Content). c.harts) same) in
+    same_question a.opening.harts b.opening.harts a.opening.words b.opening.words a.names b.names a.quantifier b.quantifier a.condition b.condition harts
+    (ap (λ (c : Content). c.words) same) (ap (λ (c : Content). c.names) same) (ap (λ (c : Content). c.quantifier) same) (ap (λ (c : Content). c.condition) same)
+
+-- ---- what `read` answers
+
+pub found_test : (text : List ℕ) (result : Result Question LitmusError) → Gives fault_of content_of result (test_at text) → IfOk result (λ test. All HasPlainCode test.opening.harts) → IfOk result (IsTestOf text)
+unfolding IsTestOf
+found_test text (Ok test) e plain = (content_found text (content_of test) e, plain)
+found_test text (Err error) e plain = tt
+
+pub only_test : (text : List ℕ) (question : Question) (result : Result Question LitmusError) → Gives fault_of content_of result (test_at text) → IfOk result (λ test. All HasPlainCode test.opening.harts) → IsTestOf text question → Gives fault_of (λ (test : Question). test) result (Ok question)
+unfolding IsTestOf
+only_test text question (Ok test) e plain is = ap (λ (t : Question). Ok t) (one_test text question test is (found_test text (Ok test) e plain))
+only_test text question (Err NoMemory) e plain is = tt
+only_test text question (Err (Refused fault line)) e plain is = absurd (let read = content_only text (content_of question) is.0 in cc)
+
+-- ---- read, or refused
+
+pub read_exactly : (text : List ℕ) (whole : Content) → (test_at text ≡ Ok whole) ↔ IsContent text whole
+read_exactly text whole = (content_found text whole, content_only text whole)
+
+refused_of : (text : List ℕ) (r : Result Content LitmusFault) → test_at text ≡ r → IsErr r ↔ ((whole : Content) → ¬ IsContent text whole)
+refused_of text (Ok whole) e = (λ refused. absurd cc, λ none. absurd (none whole (content_found text whole e)))
+refused_of text (Err fault) e = (λ refused. λ whole is. let read = content_only text whole is in cc, λ none. refl)
+
+pub refused_exactly : (text : List ℕ) → IsErr (test_at text) ↔ ((whole : Content) → ¬ IsContent text whole)
+refused_exactly text = refused_of text (test_at text) refl

@@ -1,0 +1,15 @@
+use Rattle.std.proofs.Common.{◌≡◌, ◌+◌, length}
+use Rattle.std.specs.Option.{option_copied}
+use Rattle.texts.specs.Pieces.{bytes_left}
+use Rattle.litmus_reader.specs.Parts.{parts_after}
+use Rattle.litmus_reader.specs.Rows.{cells_of, name_harts}
+use Rattle.litmus_reader.proofs.rows.name_harts.Given as goal
+
+abbrev pub invariant-loop-rest : goal.invariant-loop-rest
+invariant-loop-rest l = record {
+  count : l.hart + length (parts_after 124 (option_copied l.rest)) ≡ length (cells_of l.row);
+  so_far : name_harts l.hart (parts_after 124 (option_copied l.rest)) ≡ name_harts 0 (cells_of l.row);
+}
+
+abbrev pub decreases-loop-rest : goal.decreases-loop-rest
+decreases-loop-rest l = bytes_left (option_copied l.rest)

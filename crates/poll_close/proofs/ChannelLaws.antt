@@ -1,0 +1,203 @@
+-- From the laws of one block to the laws of a ring: the opening has the meaning, every entry keeps it,
+-- it gives clean reports, and no hart is stopped.
+use Rattle.std.proofs.Common.{ℕ, zero, suc, ◌+◌, ◌*◌, ◌%◌, ◌^◌, ◌<◌, ◌≤◌, ◌≡◌, ◌≢◌, ◌==◌, ◌⊎◌, inl, inr, false, List, [], ◌∷◌, ◌++◌, length, take, All, Some, refl, sym, ◌∙◌, ap, subst, arith, append-nil, add-one}
+use Rattle.std.specs.Prelude.{option_map, slice_index}
+use Rattle.std.specs.List.{slice_get, slice_index_or}
+use Rattle.std.proofs.lemmas.Bool.{cases_lt}
+use Rattle.std.proofs.lemmas.Bool.Decides.{nat_tests}
+use Rattle.std.proofs.lemmas.Nat.{row_fits}
+use Rattle.std.proofs.lemmas.Option.{slice_get_past}
+use Rattle.std.proofs.Math.Nat.{mul-mod_left}
+use Rattle.hart.specs.State.{HartState}
+use Rattle.step_machine.specs.declared.events.Entry.{Entry}
+use Rattle.step_machine.specs.declared.events.Entry.TheVariants as entry
+use Rattle.step_machine.specs.History.{HartStart, Start, History, unrun, with_entry}
+use Rattle.step_machine.specs.Entries.{hart_of, is_land, reported, memory_word}
+use Rattle.step_machine.specs.Paths.{state_of, opens_as}
+use Rattle.step_machine.specs.Legal.{Kept}
+use Rattle.step_machine.specs.Runs.{CanFollow}
+use Rattle.step_machine.proofs.Appended.{reported-last}
+use Rattle.step_machine.proofs.Follows.{Path-hart, state_of-other}
+use Rattle.step_machine.proofs.Stays.{report_of-other, states_land}
+use Rattle.poll_close.specs.Layout.{block_size, sender_registers, senders_from, opening_of}
+use Rattle.poll_close.specs.Laws.{Ring, AreWords, Accepted, Opens, Keeps, Cleans, Goes}
+use Rattle.poll_close.specs.Reports.{Clean}
+use Rattle.poll_close.specs.Going.{GoesOn, AllGoOn}
+use Rattle.poll_close.specs.Invariant.Blocks.{Block, block_of}
+use Rattle.poll_close.specs.Invariant.ReceiverState.{receiver_of}
+use Rattle.poll_close.specs.Invariant.ReceiverPlaces.{R00}
+use Rattle.poll_close.specs.Invariant.BlockMeaning.{BlockMeaning, Quiet}
+use Rattle.poll_close.specs.Invariant.Channels.{BlockPart, ReceiverPart, Told, shuts, Channel, means_by}
+use Rattle.poll_close.proofs.Blocks.{IsBlock}
+use Rattle.poll_close.proofs.BlockLaws.{BlockLaws, Begins, opens_with}
+use Rattle.poll_close.proofs.AllBlocks.{BlocksAfter, sender_goes_on, sender_acts, sender_store_lands, receiver_store_lands}
+use Rattle.poll_close.proofs.ReceiverStays.{part_stays, reports_stay}
+use Rattle.poll_close.proofs.ReceiverActs.{Received, receiver_goes_on, receiver_acts}
+use Rattle.poll_close.proofs.Delivering.{senders-length}
+
+-- the blocks of an accepted opening
+pub blocks : (ring : Ring) (M S : ℕ) (lists : List (List ℕ)) → 1 ≤ ring.least → Accepted ring M lists S → (i : ℕ) → i < length lists → IsBlock (block_of M S lists i)
+blocks ring M S lists some accepted i within =
+    let bytes : i * block_size S ≡ i * (4 + S) * 4 = omega arith in
+    let last : i * block_size S + block_size S ≤ length lists * block_size S = row_fits i (block_size S) (length lists) (block_size S) within (omega arith) in
+    let words : AreWords (slice_index_or lists i []) = accepted.words i [] within in
+    record {
+      some_slot = omega (arith, some, accepted.size);
+      even = ap (λ n. n % 4) bytes ∙ mul-mod_left (i * (4 + S)) 4;
+      inside = omega (arith, accepted.fits);
+      small = omega (arith, accepted.memory);
+      wide = omega (arith, accepted.memory);
+      words = λ j less. (words j 0 less).0;
+      full = λ j less. (words j 0 less).1;
+    }
+
+sender_start : (code : List ℕ) (S j i : ℕ) (lists : List (List ℕ)) → i < length lists → slice_get (senders_from code S j lists) i ≡ Some (record { code = code; registers = sender_registers S (j + i); inbox = slice_index_or lists i [] })
+sender_start code S j i [] within = absurd (omega arith)
+sender_start code S j zero (ws ∷ lists) within = let same : j + 0 ≡ j = omega arith in rw same refl
+sender_start code S j (suc i) (ws ∷ lists) within = let same : j + suc i ≡ j + 1 + i = omega arith in rw same (sender_start code S (j + 1) i lists (omega arith))
+
+start_state : (code receiver : List ℕ) (M S : ℕ) (lists : List (List ℕ)) (i : ℕ) → i < length lists → state_of M (unrun (opening_of code receiver lists S)) (i + 1) ≡ Some (opens_with code (block_of M S lists i))
+start_state code receiver M S lists i within =
+    let start : HartStart = record { code = code; registers = sender_registers S i; inbox = slice_index_or lists i [] } in
+    let same : 0 + i ≡ i = omega arith in
+    let later : slice_get (senders_from code S 0 lists) i ≡ Some start = rw same at (sender_start code S 0 i lists within) in
+    let at_hart : slice_get (opening_of code receiver lists S).harts (i + 1) ≡ Some start = rw (add-one i) later in
+    ap (option_map (opens_as M)) at_hart
+
+clean-none : (lists : List (List ℕ)) → Clean [] lists
+clean-none lists = record { in_order = λ i. (slice_index_or lists i [], refl); whole = λ i k h. cc; no_more = λ i j k r l h g. cc; known = λ k r h. cc }
+
+act_or_land : (e : Entry) → (is_land e ≡ false) ⊎ ((h : ℕ) × (e ≡ entry.Land h))
+act_or_land (entry.Inner h) = inl refl
+act_or_land (entry.Load h a v) = inl refl
+act_or_land (entry.Store h a v) = inl refl
+act_or_land (entry.Amo h a old new) = inl refl
+act_or_land (entry.Fence h full) = inl refl
+act_or_land (entry.Next h w) = inl refl
+act_or_land (entry.Took h i w) = inl refl
+act_or_land (entry.Closed h i) = inl refl
+act_or_land (entry.Ended h) = inl refl
+act_or_land (entry.Stopped h why) = inl refl
+act_or_land (entry.Land h) = inr (h, refl)
+
+is_hart : (code receiver : List ℕ) (B M S : ℕ) (lists : List (List ℕ)) (t : History) (e : Entry) → t.opening ≡ opening_of code receiver lists S → CanFollow B M t e → hart_of e < suc (length lists)
+is_hart code receiver B M S lists t e is can =
+    elim (cases_lt (hart_of e) (suc (length lists))) [
+      | inl less ↦ less
+      | inr past ↦
+          let harts : length t.opening.harts ≡ suc (length lists) = ap (λ (o : Start). length o.harts) is ∙ ap (λ n. suc n) (senders-length code S 0 lists) in
+          absurd (Path-hart M (with_entry t e) (hart_of e) can.path (slice_get_past t.opening.harts (hart_of e) (omega arith)))
+    ]
+
+all_go_on : (es : List Entry) (e : Entry) → AllGoOn es → GoesOn e → AllGoOn (es ++ e ∷ [])
+all_go_on [] e all one zero d is = subst GoesOn (let same : e ≡ d = cc in same) one
+all_go_on [] e all one (suc j) d is = cc
+all_go_on (x ∷ es) e all one zero d is = all 0 d is
+all_go_on (x ∷ es) e all one (suc j) d is = all_go_on es e (λ i c at. all (suc i) c at) one j d is
+
+module _ (m : BlockMeaning) (code : List ℕ) (laws : BlockLaws m code) (least : ℕ) (some : 1 ≤ least) where
+  abbrev pub ring_by : Ring
+  ring_by = record { sender = code; receiver = receiver_of m.middle; least = least }
+
+  module _ (M S : ℕ) (lists : List (List ℕ)) (accepted : Accepted ring_by M lists S) where
+    begun : (i : ℕ) → i < length lists → Begins m (block_of M S lists i) (opens_with code (block_of M S lists i))
+    begun i within = laws.begins (block_of M S lists i) (blocks ring_by M S lists some accepted i within)
+
+    pick : (i : ℕ) → (i < length lists) ⊎ (length lists ≤ i) → m.Count
+    pick i (inl within) = (begun i within).none
+    pick i (inr past) = (begun 0 (omega (arith, accepted.some_sender))).none
+
+    none : ℕ → m.Count
+    none i = pick i (cases_lt i (length lists))
+
+    each : (P : ℕ → m.Count → Type 0) → ((i : ℕ) (within : i < length lists) → P i (begun i within).none) → (i : ℕ) → i < length lists → P i (none i)
+    unfolding pick begun none
+    each P all i within = at (cases_lt i (length lists))
+      where
+        at : (c : (i < length lists) ⊎ (length lists ≤ i)) → P i (pick i c)
+        at (inl less) = all i less
+        at (inr more) = absurd (omega arith)
+
+    quiet : (i : ℕ) → i < length lists → Quiet m (none i)
+    quiet = each (λ i n. Quiet m n) (λ i within. (let b = begun i within in record { words = b.took ∙ sym b.tails; closed = b.shut ∙ sym b.dones; level = b.level }))
+
+    none_shut : (count : ℕ) → count ≤ length lists → count + shuts m none count ≡ count + 0
+    none_shut zero less = refl
+    none_shut (suc i) less =
+        let last : m.shut (none i) ≡ 0 = each (λ j n. m.shut n ≡ 0) (λ j within. (begun j within).shut) i (omega arith) in
+        omega (arith, last, none_shut i (omega arith))
+
+    part : (i : ℕ) → i < length lists → BlockPart m (block_of M S lists i) M i (unrun (opening_of code (receiver_of m.middle) lists S)) (none i)
+    part = each (λ i n. BlockPart m (block_of M S lists i) M i (unrun (opening_of code (receiver_of m.middle) lists S)) n) (λ i within. (let b = begun i within in record {
+        order = b.order;
+        sender = record { stands = opens_with code (block_of M S lists i); state = start_state code (receiver_of m.middle) M S lists i within; holds = b.stands; buffer = sym b.unsent };
+        theirs = sym b.unread;
+        words = b.words;
+      }))
+
+    opened : Channel m M S lists (unrun (opening_of code (receiver_of m.middle) lists S))
+    opened = record {
+        numbers = none;
+        parts = part;
+        receiver = record {
+          place = R00; noted = record { x5 = 0; x6 = 0; x7 = 0; x8 = 0; x10 = 0; x11 = 0; x17 = 0; x20 = length lists; x22 = 0; x28 = 0; x30 = 0 };
+          block = 0; known = omega (arith, accepted.some_sender); state = refl;
+          holds = quiet 0 (omega (arith, accepted.some_sender)); others = λ j within other. quiet j within;
+          count = none_shut (length lists) (omega arith);
+        };
+        reports = record {
+          told = each (λ j n. Told [] j (slice_index_or lists j []) (m.took n) (m.shut n)) (λ j within. (let b = begun j within in record {
+            words = ap (λ c. take c (slice_index_or lists j [])) (sym b.took); closed = λ k is. cc; said = λ is. absurd (omega (arith, b.shut, is)) }));
+          clean = clean-none lists;
+        };
+        unstopped = λ j e is. cc;
+      }
+
+  pub opens : Opens ring_by (means_by m)
+  opens B M lists S accepted = opened M S lists accepted
+
+  pub keeps : Keeps ring_by (means_by m)
+  keeps B M lists S t e accepted is kept can ch =
+      elim (act_or_land e) [
+        | inl act ↦ acts (hart_of e) refl act
+        | inr land ↦ lands land.0 land.1 land.0 refl
+      ]
+    where
+      are : (i : ℕ) → i < length lists → IsBlock (block_of M S lists i)
+      are = blocks ring_by M S lists some accepted
+      go_on : (new : History) → state_of M new 0 ≡ state_of M t 0 → reported 0 new.entries ≡ reported 0 t.entries → BlocksAfter m M S lists new ch.numbers → AllGoOn new.entries → Channel m M S lists new
+      go_on new state said b all = record {
+        unstopped = all;
+        numbers = b.0;
+        parts = λ i within. (b.1 i within).0;
+        receiver = part_stays m code laws M S lists t new ch.numbers b.0 b.1 state ch.receiver;
+        reports = reports_stay m code laws M S lists t new ch.numbers b.0 b.1 (reported 0 t.entries) (reported 0 new.entries) said ch.reports;
+      }
+      acts : (h : ℕ) → hart_of e ≡ h → is_land e ≡ false → Channel m M S lists (with_entry t e)
+      acts zero mine act =
+          let r : Received m M S lists (with_entry t e) = receiver_acts m code laws B M S lists (blocks ring_by M S lists some accepted) accepted.senders t ch.numbers kept.legal ch.parts ch.receiver ch.reports e can mine act in
+          record { numbers = r.numbers; parts = r.parts; receiver = r.receiver; reports = r.reports; unstopped = all_go_on t.entries e ch.unstopped (receiver_goes_on m code laws B M S lists (blocks ring_by M S lists some accepted) accepted.senders t ch.numbers kept.legal ch.parts ch.receiver ch.reports e can mine act) }
+      acts (suc j) mine act =
+          let within : j < length lists = omega (arith, is_hart code (receiver_of m.middle) B M S lists t e is can, mine) in
+          let other : (hart_of e == 0) ≡ false = grind (arith, nat_tests) in
+          go_on (with_entry t e) (state_of-other M t 0 e (rw other refl)) (reported-last 0 t.entries e ∙ ap (λ rs. reported 0 t.entries ++ rs) (report_of-other 0 e other) ∙ append-nil (reported 0 t.entries))
+            (sender_acts m code laws B M S lists (blocks ring_by M S lists some accepted) t ch.numbers kept.legal ch.parts j within e can (mine ∙ sym (add-one j)) act)
+            (all_go_on t.entries e ch.unstopped (sender_goes_on m code laws B M S lists (blocks ring_by M S lists some accepted) t ch.numbers kept.legal ch.parts j within e can (mine ∙ sym (add-one j)) act))
+      lands : (h : ℕ) → e ≡ entry.Land h → (g : ℕ) → h ≡ g → Channel m M S lists (with_entry t e)
+      lands h land zero same =
+          let is_0 : e ≡ entry.Land 0 = land ∙ ap entry.Land same in
+          subst (λ (d : Entry). Channel m M S lists (with_entry t d)) (sym is_0)
+            (go_on (with_entry t (entry.Land 0)) (states_land M t 0 0) (reported-last 0 t.entries (entry.Land 0) ∙ append-nil (reported 0 t.entries))
+              (receiver_store_lands m code laws B M S lists (blocks ring_by M S lists some accepted) t ch.numbers kept.legal ch.parts (subst (CanFollow B M t) is_0 can)) (all_go_on t.entries (entry.Land 0) ch.unstopped tt))
+      lands h land (suc j) same =
+          let is_j : e ≡ entry.Land (j + 1) = land ∙ ap entry.Land (same ∙ sym (add-one j)) in
+          let within : j < length lists = omega (arith, is_hart code (receiver_of m.middle) B M S lists t e is can, ap hart_of is_j) in
+          subst (λ (d : Entry). Channel m M S lists (with_entry t d)) (sym is_j)
+            (go_on (with_entry t (entry.Land (j + 1))) (states_land M t (j + 1) 0) (reported-last 0 t.entries (entry.Land (j + 1)) ∙ append-nil (reported 0 t.entries))
+              (sender_store_lands m code laws B M S lists (blocks ring_by M S lists some accepted) t ch.numbers kept.legal ch.parts j within (subst (CanFollow B M t) is_j can)) (all_go_on t.entries (entry.Land (j + 1)) ch.unstopped tt))
+
+  pub cleans : Cleans ring_by (means_by m)
+  cleans B M lists S t accepted is kept ch = ch.reports.clean
+
+  pub goes : Goes ring_by (means_by m)
+  goes B M lists S t accepted ch = ch.unstopped

@@ -1,0 +1,65 @@
+-- A meaning that every entry keeps holds at the end of every run, and gives clean reports there.
+use Rattle.std.proofs.Common.{◌≡◌, ℕ, suc, ◌+◌, ◌≤◌, inl, inr, List, [], ◌∷◌, length, All, Result, Ok, Err, refl, sym, ap, subst, arith}
+use Rattle.std.specs.Prelude.{IfOk}
+use Rattle.std.proofs.lemmas.List.Elements.{All-nil, All-cons}
+use Rattle.hart.specs.declared.need.Report.{Report}
+use Rattle.step_machine.specs.declared.events.Event.{Event}
+use Rattle.step_machine.specs.declared.events.Outcome.{Outcome}
+use Rattle.step_machine.specs.History.{HartStart, Start, History, FitsIn, unrun}
+use Rattle.step_machine.specs.Entries.{reported}
+use Rattle.step_machine.specs.Legal.{Kept}
+use Rattle.step_machine.specs.Runs.{Happens, Run, RunFrom}
+use Rattle.step_machine.proofs.Running.{shape_of, kept-happens, kept-unrun}
+use Rattle.poll_close.specs.Layout.{opening_of, senders_from}
+use Rattle.poll_close.specs.Laws.{Ring, Meaning, Accepted, IsShort, Opens, Keeps, Cleans}
+use Rattle.poll_close.specs.Delivery.{Delivers}
+
+-- what has been known of a history since its opening
+pub record Known (ring : Ring) (means : Meaning) (B M : ℕ) (lists : List (List ℕ)) (S : ℕ) (t : History) : Type 0 where
+  pub opening : t.opening ≡ opening_of ring.sender ring.receiver lists S
+  pub kept : Kept B M t
+  pub meant : means B M lists S t
+
+module _ (ring : Ring) (means : Meaning) (keeps : Keeps ring means) (B M : ℕ) (lists : List (List ℕ)) (S : ℕ) (accepted : Accepted ring M lists S) where
+  known-happens : (t : History) (ev : Event) (o : Outcome) (new : History) → Known ring means B M lists S t → Happens B M t ev o new → Known ring means B M lists S new
+  known-happens t ev o new known h =
+      let kept : Kept B M new = kept-happens B M t ev o new known.kept h in
+      elim (shape_of B M t ev o new h) [
+        | inl a ↦ subst (Known ring means B M lists S) (sym a.2.after) (record { opening = known.opening; kept = subst (Kept B M) a.2.after kept; meant = keeps B M lists S t a.0 accepted known.opening known.kept a.2.follows known.meant })
+        | inr i ↦ subst (Known ring means B M lists S) (sym i.after) known
+      ]
+
+  known-run : (t : History) (evs : List Event) (new : History) → Known ring means B M lists S t → RunFrom B M t evs new → Known ring means B M lists S new
+  known-run t [] new known run = subst (Known ring means B M lists S) (sym run) known
+  known-run t (ev ∷ evs) new known run = known-run run.1 evs new (known-happens t ev run.0 run.1 known run.2) run.3
+
+pub delivers : (ring : Ring) (means : Meaning) (B M : ℕ) (lists : List (List ℕ)) (S : ℕ) (evs : List Event) (t : History) (o : Start) (reports : List Report) → Opens ring means → Keeps ring means → Cleans ring means → Accepted ring M lists S → o ≡ opening_of ring.sender ring.receiver lists S → Run B M o evs t → reports ≡ reported 0 t.entries → Delivers B M o lists evs reports
+delivers ring means B M lists S evs t o reports opens keeps cleans accepted is run answer =
+    let first : Known ring means B M lists S (unrun o) = record { opening = is; kept = kept-unrun B M o; meant = subst (λ (p : Start). means B M lists S (unrun p)) (sym is) (opens B M lists S accepted) } in
+    let last : Known ring means B M lists S t = known-run ring means keeps B M lists S accepted (unrun o) evs t first run in
+    record { history = t; run = run; answer = answer; clean = rw answer (cleans B M lists S t accepted last.opening last.kept last.meant) }
+
+abbrev short_start : HartStart → Type 0
+short_start h = length h.code ≤ 4096
+
+senders-short : (code : List ℕ) (S i : ℕ) (lists : List (List ℕ)) → length code ≤ 4096 → All (λ (h : HartStart). length h.code ≤ 4096) (senders_from code S i lists)
+senders-short code S i [] short = All-nil short_start
+senders-short code S i (ws ∷ lists) short = All-cons short_start _ _ short (senders-short code S (i + 1) lists short)
+
+pub senders-length : (code : List ℕ) (S i : ℕ) (lists : List (List ℕ)) → length (senders_from code S i lists) ≡ length lists
+senders-length code S i [] = refl
+senders-length code S i (ws ∷ lists) = ap (λ n. suc n) (senders-length code S (i + 1) lists)
+
+pub channel-fits : (ring : Ring) (M : ℕ) (lists : List (List ℕ)) (S : ℕ) (o : Start) → IsShort ring → Accepted ring M lists S → o ≡ opening_of ring.sender ring.receiver lists S → FitsIn M o
+channel-fits ring M lists S o short accepted is =
+    subst (FitsIn M) (sym is) (record {
+      some_hart = omega arith;
+      harts = omega (arith, senders-length ring.sender S 0 lists, accepted.senders);
+      code = All-cons short_start _ _ short.1 (senders-short ring.sender S 0 lists short.0);
+      words = omega arith;
+    })
+
+-- what holds of the value of an Ok holds of it by implication
+pub if_ok : {A E : Type 0} (P Q : A → Type 0) → ((a : A) → P a → Q a) → (r : Result A E) → IfOk r P → IfOk r Q
+if_ok P Q more (Ok a) h = more a h
+if_ok P Q more (Err e) h = tt

@@ -1,0 +1,17 @@
+pub mod Acts
+pub mod Lines
+pub mod ReceiverLines
+pub mod Modulo
+pub mod Windows
+pub mod Writes
+pub mod Blocks
+pub mod BlockLaws
+pub mod ReceiverSteps
+pub mod ReceiverMoves
+pub mod ReceiverStays
+pub mod CleanReports
+pub mod Delivering
+pub mod SenderHarts
+pub mod AllBlocks
+pub mod ReceiverActs
+pub mod ChannelLaws

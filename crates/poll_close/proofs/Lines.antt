@@ -1,0 +1,28 @@
+-- One line of a program: what a hart wants there, and the state that it leaves.
+use Rattle.std.proofs.Common.{ℕ, pos, negsuc, ◌+◌, ◌^◌, ◌<◌, ◌≡◌, ◌+ℤ◌, add-zero, ◌∙◌, ap, arith}
+use Rattle.std.proofs.lemmas.Int.{ints}
+use Rattle.hart.specs.State.{HartState}
+use Rattle.hart.specs.declared.need.Need.{Need}
+use Rattle.hart.specs.declared.need.Need.TheVariants as need
+use Rattle.hart.specs.Effects.{word}
+use Rattle.hart.specs.Steps.{need_of, advanced}
+
+-- a state, what it wants, and the state that it leaves when it reads v
+pub record Line (s : HartState) (n : Need) (next : ℕ → HartState) : Type 0 where
+  pub wants : need_of s ≡ n
+  pub leaves : (v : ℕ) → advanced s v ≡ next v
+
+-- a load and a store of a word
+abbrev pub loads : ℕ → Need
+loads a = need.Load a
+
+abbrev pub stores : ℕ → ℕ → Need
+stores a w = need.Store a w
+
+pub word_plus : (a k : ℕ) → a + k < 2 ^ 32 → word (pos a +ℤ pos k) ≡ a + k
+word_plus a k h = omega (arith, ints)
+
+pub word_minus : (a y : ℕ) → a ≡ y + 1 → y + 1 < 2 ^ 32 → word (pos a +ℤ negsuc 0) ≡ y
+word_minus a y is small =
+    let less : pos a +ℤ negsuc 0 ≡ pos y +ℤ pos 0 = omega (arith, ints) in
+    ap word less ∙ word_plus y 0 (omega arith) ∙ add-zero y

@@ -1,0 +1,216 @@
+-- An act of the receiver, over the whole channel.
+use Rattle.std.proofs.Common.{ℕ, zero, suc, ◌+◌, ◌*◌, ◌<◌, ◌≤◌, ◌≡◌, ◌≢◌, ◌==◌, ◌⊎◌, inl, inr, Bool, true, false, List, [], ◌∷◌, ◌++◌, length, take, Some, None, refl, sym, ◌∙◌, ap, subst, arith, append-nil}
+use Rattle.std.specs.Prelude.{slice_index, unwrap_or}
+use Rattle.std.specs.List.{slice_get, slice_index_or}
+use Rattle.std.proofs.lemmas.Bool.{cases_eq}
+use Rattle.std.proofs.Math.Seq.{take-length}
+use Rattle.hart.specs.State.{HartState}
+use Rattle.hart.specs.Steps.{need_of}
+use Rattle.hart.specs.declared.status.Status.TheVariants as status
+use Rattle.hart.specs.declared.need.Need.{Need}
+use Rattle.hart.specs.declared.need.Need.TheVariants as need
+use Rattle.hart.specs.declared.need.Report.{Report}
+use Rattle.hart.specs.declared.need.Report.TheVariants as report
+use Rattle.step_machine.specs.declared.events.Entry.{Entry}
+use Rattle.step_machine.specs.History.{History, with_entry}
+use Rattle.step_machine.specs.Entries.{hart_of, is_land, pending, memory_word, read, reported}
+use Rattle.step_machine.specs.Paths.{value_of}
+use Rattle.step_machine.specs.Legal.{Legal}
+use Rattle.step_machine.specs.Runs.{CanFollow}
+use Rattle.poll_close.specs.Reports.{taken, sender_of, IsPrefixOf}
+use Rattle.poll_close.specs.Going.{GoesOn}
+use Rattle.poll_close.specs.Invariant.Blocks.{Block, block_of, to_block}
+use Rattle.poll_close.specs.Invariant.ReceiverState.{Noted, whole_of}
+use Rattle.poll_close.specs.Invariant.ReceiverPlaces.{ReceiverPlace, R60, receives, due}
+use Rattle.poll_close.specs.Invariant.BlockMeaning.{BlockMeaning, Quiet, ReceiverIs}
+use Rattle.poll_close.specs.Invariant.Channels.{BlockPart, ReceiverPart, Told, ReportPart, shuts}
+use Rattle.poll_close.proofs.Acts.{Acted, acted, going, stored_by, said_by, IsNoAmo}
+use Rattle.poll_close.proofs.Lines.{loads}
+use Rattle.poll_close.proofs.Windows.{get_end, newest_to}
+use Rattle.poll_close.proofs.Blocks.{IsBlock, Within, IsWordOf, apart, to_block-stored, to_block-elsewhere, newest-to_block, put, put_same, put_other}
+use Rattle.poll_close.proofs.BlockLaws.{BlockLaws, found_in, seen_at, Says, Comes, Receives, Finds}
+use Rattle.poll_close.proofs.ReceiverMoves.{receives_on}
+use Rattle.poll_close.proofs.ReceiverStays.{shuts_same}
+use Rattle.poll_close.proofs.CleanReports.{taken_other, clean_more, told_other, told_took, told_closed, prefix_take}
+use Rattle.poll_close.proofs.AllBlocks.{would_read, read_is, untouched}
+
+-- a need stores nothing or one pair
+stored_cases : (w : Need) → (stored_by w ≡ []) ⊎ ((x : ℕ × ℕ) × (stored_by w ≡ x ∷ []))
+stored_cases need.Inner = inl refl
+stored_cases (need.Load a) = inl refl
+stored_cases (need.Store a w) = inr ((a, w), refl)
+stored_cases (need.Amo a op rs2) = inl refl
+stored_cases (need.Fence full) = inl refl
+stored_cases (need.Next w) = inl refl
+stored_cases (need.Report r) = inl refl
+stored_cases need.Exit = inl refl
+stored_cases (need.Stop why) = inl refl
+
+pub shuts_put : (m : BlockMeaning) (f : ℕ → m.Count) (j : ℕ) (n : m.Count) (count : ℕ) → j < count → shuts m (put f j n) count + m.shut (f j) ≡ shuts m f count + m.shut n
+shuts_put m f j n zero less = absurd (omega arith)
+shuts_put m f j n (suc i) less =
+    elim (cases_eq i j) [
+      | inl same ↦
+          let last : m.shut (put f j n i) ≡ m.shut n = ap (λ z. m.shut (put f j n z)) same ∙ ap m.shut (put_same f j n) in
+          let was : m.shut (f i) ≡ m.shut (f j) = ap (λ z. m.shut (f z)) same in
+          let rest : shuts m (put f j n) i ≡ shuts m f i = shuts_same m f (put f j n) i (λ h below. ap m.shut (put_other f j n h (λ is. absurd (omega (arith, is, same, below))))) in
+          omega (arith, last, was, rest)
+      | inr other ↦
+          let last : m.shut (put f j n i) ≡ m.shut (f i) = ap m.shut (put_other f j n i other) in
+          omega (arith, last, shuts_put m f j n i (omega (arith, other, less)))
+    ]
+
+pub shuts_most : (m : BlockMeaning) (f : ℕ → m.Count) (count : ℕ) → ((j : ℕ) → j < count → m.shut (f j) ≤ 1) → shuts m f count ≤ count
+shuts_most m f zero each = omega arith
+shuts_most m f (suc i) each = omega (arith, each i (omega arith), shuts_most m f i (λ j less. each j (omega arith)))
+
+-- the channel after the receiver's act
+pub record Received (m : BlockMeaning) (M S : ℕ) (lists : List (List ℕ)) (new : History) : Type 0 where
+  pub numbers : ℕ → m.Count
+  pub parts : (i : ℕ) → i < length lists → BlockPart m (block_of M S lists i) M i new (numbers i)
+  pub receiver : ReceiverPart m M S lists new numbers
+  pub reports : ReportPart m lists (reported 0 new.entries) numbers
+
+-- what is reported, where the receiver visits a block
+module _ (m : BlockMeaning) (M S : ℕ) (lists : List (List ℕ)) (f : ℕ → m.Count) (b : ℕ) (known : b < length lists) (rs : List Report) (told : ReportPart m lists rs f) where
+  told_put : (now : List Report) (n : m.Count) → Told now b (slice_index_or lists b []) (m.took n) (m.shut n) → ((j : ℕ) → j < length lists → j ≢ b → Told now j (slice_index_or lists j []) (m.took (f j)) (m.shut (f j))) → (j : ℕ) → j < length lists → Told now j (slice_index_or lists j []) (m.took (put f b n j)) (m.shut (put f b n j))
+  told_put now n one others j within =
+      elim (cases_eq j b) [
+        | inl same ↦
+            let P : ℕ → m.Count → Type 0 = λ i c. Told now i (slice_index_or lists i []) (m.took c) (m.shut c) in
+            subst (λ (c : m.Count). P j c) (sym (ap (put f b n) same ∙ put_same f b n)) (subst (λ (i : ℕ). P i n) (sym same) one)
+        | inr other ↦ subst (λ (c : m.Count). Told now j (slice_index_or lists j []) (m.took c) (m.shut c)) (sym (put_other f b n j other)) (others j within other)
+      ]
+
+  -- one report of the visited sender
+  one_said : (x : Report) (n : m.Count) → sender_of x ≡ b → m.shut (f b) ≡ 0 → Told (rs ++ x ∷ []) b (slice_index_or lists b []) (m.took n) (m.shut n) → ((i : ℕ) → x ≡ report.Closed i → taken rs i ≡ slice_index_or lists i []) → ReportPart m lists (rs ++ x ∷ []) (put f b n)
+  one_said x n from open_yet new all = record {
+      told = told_put (rs ++ x ∷ []) n new (λ j within other. told_other rs j (slice_index_or lists j []) (m.took (f j)) (m.shut (f j)) x (λ same. other (sym same ∙ from)) (told.told j within));
+      clean = clean_more rs lists x told.clean (subst (λ (j : ℕ). j < length lists) (sym from) known) unclosed prefix all;
+    }
+    where
+      unclosed : (j : ℕ) → slice_get rs j ≡ Some (report.Closed (sender_of x)) → ⊥
+      unclosed j is = let shut : m.shut (f b) ≡ 1 = (told.told b known).closed j (is ∙ ap (λ z. Some (report.Closed z)) from) in omega (arith, open_yet)
+      prefix : (i : ℕ) → IsPrefixOf (taken (rs ++ x ∷ []) i) (slice_index_or lists i [])
+      prefix i =
+          elim (cases_eq i b) [
+            | inl same ↦ subst (λ (j : ℕ). IsPrefixOf (taken (rs ++ x ∷ []) j) (slice_index_or lists j [])) (sym same) (prefix_take (slice_index_or lists b []) (taken (rs ++ x ∷ []) b) (m.took n) new.words)
+            | inr other ↦ subst (λ (ys : List ℕ). IsPrefixOf ys (slice_index_or lists i [])) (sym (taken_other rs i x (λ same. other (sym same ∙ from)))) (told.clean.in_order i)
+          ]
+
+  pub said_reports : (said : List Report) (n : m.Count) → Says m (block_of M S lists b) b (f b) n said → ReportPart m lists (rs ++ said) (put f b n)
+  said_reports said n (inl none) = subst (λ (ys : List Report). ReportPart m lists ys (put f b n)) (sym (ap (λ ys. rs ++ ys) none.0 ∙ append-nil rs)) (record {
+      clean = told.clean;
+      told = told_put rs n (rw (none.1, none.2) (told.told b known)) (λ j within other. told.told j within);
+    })
+  said_reports said n (inr (inl word)) = subst (λ (ys : List Report). ReportPart m lists (rs ++ ys) (put f b n)) (sym word.0)
+      (one_said (report.Took b (slice_index (slice_index_or lists b []) (m.took (f b)))) n refl word.4
+        (rw (word.1, word.2) (told_took rs b (slice_index_or lists b []) (m.took (f b)) (m.shut (f b)) word.3 (told.told b known)))
+        (λ i is. cc))
+  said_reports said n (inr (inr closing)) = subst (λ (ys : List Report). ReportPart m lists (rs ++ ys) (put f b n)) (sym closing.0)
+      (one_said (report.Closed b) n refl closing.4
+        (rw (closing.1, closing.2) (told_closed rs b (slice_index_or lists b []) (m.took (f b)) (m.shut (f b)) (told.told b known)))
+        (λ i is. subst (λ (j : ℕ). taken rs j ≡ slice_index_or lists j []) (ap sender_of is) ((told.told b known).words ∙ ap (λ c. take c (slice_index_or lists b [])) closing.3 ∙ take-length (slice_index_or lists b []))))
+
+module _ (m : BlockMeaning) (code : List ℕ) (laws : BlockLaws m code) (B M S : ℕ) (lists : List (List ℕ)) (are : (i : ℕ) → i < length lists → IsBlock (block_of M S lists i)) (few : length lists ≤ 63) (t : History) (f : ℕ → m.Count) (legal : Legal B t) (parts : (i : ℕ) → i < length lists → BlockPart m (block_of M S lists i) M i t (f i)) (part : ReceiverPart m M S lists t f) (told : ReportPart m lists (reported 0 t.entries) f) where
+  quiet_one : (j : ℕ) → j < length lists → Quiet m (f j) → m.shut (f j) ≤ 1
+  quiet_one j within q = omega (arith, q.closed, laws.dones_one (block_of M S lists j) (f j) (parts j within).order)
+
+  owed_at : (place : ReceiverPlace) → ReceiverIs m (block_of M S lists part.block) part.block place (f part.block) part.noted → part.noted.x20 + shuts m f (length lists) ≡ length lists + due place → due place ≤ part.noted.x20
+  owed_at R60 h is = let most : shuts m f (length lists) ≤ length lists = shuts_most m f (length lists) (λ j within. elim (cases_eq j part.block) [
+      | inl same ↦ subst (λ (z : ℕ). m.shut (f z) ≤ 1) (sym same) (quiet_one part.block part.known h.0)
+      | inr other ↦ quiet_one j within (part.others j within other)
+    ]) in omega (arith, is)
+  owed_at here h is = omega arith
+
+  due_one : (place : ReceiverPlace) → due place ≤ 1
+  due_one R60 = omega arith
+  due_one here = omega arith
+
+  small : part.noted.x20 ≤ 64
+  small = omega (arith, few, due_one part.place, part.count)
+
+  count_after : (n : m.Count) (noted : Noted) (there : ReceiverPlace) → noted.x20 + m.shut n + due part.place ≡ part.noted.x20 + m.shut (f part.block) + due there → noted.x20 + shuts m (put f part.block n) (length lists) ≡ length lists + due there
+  count_after n noted there counts = omega (arith, part.count, shuts_put m f part.block n (length lists) part.known)
+
+  moves_by : (v : ℕ) → (receives m.middle (whole_of (block_of M S lists part.block) (length lists)) part.place part.noted).status ≡ status.Running → Finds m (block_of M S lists part.block) (length lists) part.place (f part.block) (memory_word t.opening t.entries) part.noted v → Receives m (block_of M S lists part.block) part.block (length lists) part.place (f part.block) part.noted v
+  moves_by v runs find = receives_on m code laws (block_of M S lists part.block) (are part.block part.known) part.block (length lists) refl part.known few (f part.block) (parts part.block part.known).order (memory_word t.opening t.entries) (parts part.block part.known).words part.noted v part.place runs find (owed_at part.place part.holds part.count) small part.holds
+
+  plain_by : (receives m.middle (whole_of (block_of M S lists part.block) (length lists)) part.place part.noted).status ≡ status.Running → IsNoAmo (need_of (receives m.middle (whole_of (block_of M S lists part.block) (length lists)) part.place part.noted))
+  plain_by runs =
+      let seen : ℕ → ℕ = seen_at m (block_of M S lists part.block) (f part.block) (memory_word t.opening t.entries) in
+      let r = moves_by (would_read seen (need_of (receives m.middle (whole_of (block_of M S lists part.block) (length lists)) part.place part.noted))) runs (λ a inside wants. ap (would_read seen) wants) in
+      subst IsNoAmo (sym r.wants) r.plain
+
+  pub receiver_goes_on : (e : Entry) → CanFollow B M t e → hart_of e ≡ 0 → is_land e ≡ false → GoesOn e
+  receiver_goes_on e can mine alone = going B M t 0 (receives m.middle (whole_of (block_of M S lists part.block) (length lists)) part.place part.noted) e part.state can mine alone plain_by
+
+  -- all are quiet once the visited block is
+  all_quiet : (n : m.Count) → Quiet m n → (j : ℕ) → j < length lists → Quiet m (put f part.block n j)
+  all_quiet n quiet j within =
+      elim (cases_eq j part.block) [
+        | inl same ↦ subst (Quiet m) (sym (ap (put f part.block n) same ∙ put_same f part.block n)) quiet
+        | inr other ↦ subst (Quiet m) (sym (put_other f part.block n j other)) (part.others j within other)
+      ]
+
+  -- what the act found in the visited block
+  found : (b : ℕ) → Within (block_of M S lists part.block) b → read t.opening t.entries 0 b ≡ seen_at m (block_of M S lists part.block) (f part.block) (memory_word t.opening t.entries) b
+  found b inside =
+      read_is t 0 b
+      ∙ ap (λ o. unwrap_or o (memory_word t.opening t.entries b)) (sym (newest-to_block (block_of M S lists part.block) b None (pending 0 t.entries) inside))
+      ∙ ap (λ ps. found_in ps (memory_word t.opening t.entries) b) (parts part.block part.known).theirs
+
+  module _ (new : History) (v : ℕ) (a : Acted M t new 0 (receives m.middle (whole_of (block_of M S lists part.block) (length lists)) part.place part.noted) v) (r : Receives m (block_of M S lists part.block) part.block (length lists) part.place (f part.block) part.noted v) where
+    inside : (x : ℕ × ℕ) → stored_by r.wanted ≡ x ∷ [] → Within (block_of M S lists part.block) x.0
+    inside x one = (laws.unread_are (block_of M S lists part.block) r.after (are part.block part.known) r.changes.order (length (m.unread (block_of M S lists part.block) (f part.block))) x (ap (λ ps. slice_get ps (length (m.unread (block_of M S lists part.block) (f part.block)))) (sym r.changes.unread ∙ ap (λ ps. m.unread (block_of M S lists part.block) (f part.block) ++ ps) one) ∙ get_end (m.unread (block_of M S lists part.block) (f part.block)) x)).place.within
+
+    visited : BlockPart m (block_of M S lists part.block) M part.block new r.after
+    visited =
+        let old : BlockPart m (block_of M S lists part.block) M part.block t (f part.block) = parts part.block part.known in
+        record {
+          order = r.changes.order;
+          sender = record { stands = old.sender.stands; state = a.states (part.block + 1) (λ zero_is. omega arith) ∙ old.sender.state; holds = r.changes.sender old.sender.stands old.sender.holds; buffer = a.buffers (part.block + 1) (λ zero_is. omega arith) ∙ old.sender.buffer ∙ sym r.changes.unsent };
+          theirs = ap (to_block (block_of M S lists part.block)) (a.buffer ∙ ap (λ w. pending 0 t.entries ++ stored_by w) r.wants) ∙ to_block-stored (block_of M S lists part.block) (pending 0 t.entries) (stored_by r.wanted) (stored_cases r.wanted) inside ∙ ap (λ ps. ps ++ stored_by r.wanted) old.theirs ∙ r.changes.unread;
+          words = laws.words_same (block_of M S lists part.block) r.after (memory_word t.opening t.entries) (memory_word new.opening new.entries) (are part.block part.known) (λ x here. a.memory x) (r.changes.words (memory_word t.opening t.entries) old.words);
+        }
+
+    each : (i : ℕ) → i < length lists → (i ≡ part.block) ⊎ (i ≢ part.block) → BlockPart m (block_of M S lists i) M i new (put f part.block r.after i)
+    each i within (inl same) =
+        subst (λ (z : m.Count). BlockPart m (block_of M S lists i) M i new z) (sym (ap (put f part.block r.after) same ∙ put_same f part.block r.after)) (subst (λ (z : ℕ). BlockPart m (block_of M S lists z) M z new r.after) (sym same) visited)
+    each i within (inr other) =
+        subst (λ (z : m.Count). BlockPart m (block_of M S lists i) M i new z) (sym (put_other f part.block r.after i other)) (untouched m code laws M (block_of M S lists i) i t new (f i) (are i within) (parts i within) (record {
+          state = a.states (i + 1) (λ zero_is. omega arith);
+          buffer = a.buffers (i + 1) (λ zero_is. omega arith);
+          theirs = ap (to_block (block_of M S lists i)) (a.buffer ∙ ap (λ w. pending 0 t.entries ++ stored_by w) r.wants) ∙ to_block-elsewhere (block_of M S lists i) (pending 0 t.entries) (stored_by r.wanted) (stored_cases r.wanted) (λ x one here. apart M S lists i part.block x.0 other here (inside x one));
+          memory = λ x here. a.memory x;
+        }))
+
+    came : ReceiverIs m (block_of M S lists part.block) part.block r.there r.after r.noted ⊎ Comes m (block_of M S lists part.block) (length lists) r.there r.after r.noted → ReceiverPart m M S lists new (put f part.block r.after)
+    came (inl stays) = record {
+        place = r.there; noted = r.noted; block = part.block; known = part.known;
+        state = a.state ∙ ap Some r.leaves;
+        holds = subst (λ (z : m.Count). ReceiverIs m (block_of M S lists part.block) part.block r.there z r.noted) (sym (put_same f part.block r.after)) stays;
+        others = λ j within other. subst (Quiet m) (sym (put_other f part.block r.after j other)) (part.others j within other);
+        count = count_after r.after r.noted r.there r.counts;
+      }
+    came (inr comes) = record {
+        place = r.there; noted = r.noted; block = comes.block; known = comes.known;
+        state = a.state ∙ ap Some r.leaves;
+        holds = subst (λ (p : ReceiverPlace). ReceiverIs m (block_of M S lists comes.block) comes.block p (put f part.block r.after comes.block) r.noted) (sym comes.here) (all_quiet r.after comes.quiet comes.block comes.known, record { base = comes.base; index = comes.index });
+        others = λ j within other. all_quiet r.after comes.quiet j within;
+        count = count_after r.after r.noted r.there r.counts;
+      }
+
+    received : Received m M S lists new
+    received = record {
+        numbers = put f part.block r.after;
+        parts = λ i within. each i within (cases_eq i part.block);
+        receiver = came r.holds;
+        reports = subst (λ (rs : List Report). ReportPart m lists rs (put f part.block r.after)) (sym (a.reports ∙ ap (λ w. reported 0 t.entries ++ said_by w) r.wants)) (said_reports m M S lists f part.block part.known (reported 0 t.entries) told (said_by r.wanted) r.after r.says);
+      }
+
+  pub receiver_acts : (e : Entry) → CanFollow B M t e → hart_of e ≡ 0 → is_land e ≡ false → Received m M S lists (with_entry t e)
+  receiver_acts e can mine alone =
+      let s : HartState = receives m.middle (whole_of (block_of M S lists part.block) (length lists)) part.place part.noted in
+      let a : Acted M t (with_entry t e) 0 s (value_of e) = acted B M t 0 s e legal part.state can mine alone plain_by in
+      received (with_entry t e) (value_of e) a (moves_by (value_of e) a.running (λ b inside wants. a.loaded b wants ∙ found b inside.within))

@@ -1,0 +1,83 @@
+-- Parts of one fixed list of stores: the ones that are made and have not landed.
+use Rattle.std.proofs.Common.{ℕ, zero, suc, ◌+◌, ◌-◌, ◌<◌, ◌≤◌, ◌≡◌, ◌≢◌, ◌==◌, true, false, if◌then◌else◌, List, [], ◌∷◌, ◌++◌, length, take, drop, length-drop, length-take, min, Option, Some, None, refl, sym, ◌∙◌, ap, arith, eq-eqb}
+use Rattle.std.specs.List.{slice_get}
+use Rattle.std.proofs.Math.ListN.{drop_of_length-le}
+use Rattle.std.proofs.lemmas.Bool.Decides.{nat_tests}
+use Rattle.poll_close.specs.Invariant.Blocks.{window}
+
+-- the next store is made
+pub window_made : (xs : List (ℕ × ℕ)) (k n : ℕ) (x : ℕ × ℕ) → k ≤ n → slice_get xs n ≡ Some x → window xs k n ++ x ∷ [] ≡ window xs k (suc n)
+window_made [] k n x less is = cc
+window_made (y ∷ ys) zero zero x less is = let same : y ≡ x = cc in ap (λ z. z ∷ []) (sym same)
+window_made (y ∷ ys) zero (suc n) x less is = ap (λ zs. y ∷ zs) (window_made ys zero n x (omega arith) is)
+window_made (y ∷ ys) (suc k) zero x less is = absurd (omega arith)
+window_made (y ∷ ys) (suc k) (suc n) x less is = window_made ys k n x (omega arith) is
+
+-- the oldest pending store, and the window after it lands
+pub window_first : (xs : List (ℕ × ℕ)) (k n : ℕ) (x : ℕ × ℕ) → k < n → slice_get xs k ≡ Some x → window xs k n ≡ x ∷ window xs (suc k) n
+window_first [] k n x less is = cc
+window_first (y ∷ ys) zero zero x less is = absurd (omega arith)
+window_first (y ∷ ys) zero (suc n) x less is = let same : y ≡ x = cc in ap (λ z. z ∷ take n ys) same
+window_first (y ∷ ys) (suc k) zero x less is = absurd (omega arith)
+window_first (y ∷ ys) (suc k) (suc n) x less is = window_first ys k n x (omega arith) is
+
+-- the head of a window is the store of its number
+pub first_is : (xs : List (ℕ × ℕ)) (i j : ℕ) (x y : ℕ × ℕ) (rest : List (ℕ × ℕ)) → i < j → slice_get xs i ≡ Some y → window xs i j ≡ x ∷ rest → (x ≡ y) × (rest ≡ window xs (suc i) j)
+first_is xs i j x y rest less at is =
+    let split : window xs i j ≡ y ∷ window xs (suc i) j = window_first xs i j y less at in
+    let same : x ∷ rest ≡ y ∷ window xs (suc i) j = sym is ∙ split in
+    (let one : x ≡ y = cc in one, let more : rest ≡ window xs (suc i) j = cc in more)
+
+-- a window with a first element has one
+pub some_in : (xs : List (ℕ × ℕ)) (i j : ℕ) (x : ℕ × ℕ) (rest : List (ℕ × ℕ)) → window xs i j ≡ x ∷ rest → i < j
+some_in xs i j x rest is =
+    let long : length (window xs i j) ≡ length (x ∷ rest) = ap length is in
+    let counted : length (window xs i j) ≡ length (take j xs) - i = length-drop i (take j xs) in
+    let front : length (take j xs) ≡ min j (length xs) = length-take j xs in
+    omega arith
+
+pub window_empty : (xs : List (ℕ × ℕ)) (i j : ℕ) → j ≤ i → window xs i j ≡ []
+window_empty xs i j less = drop_of_length-le (take j xs) (let front : length (take j xs) ≡ min j (length xs) = length-take j xs in omega arith)
+
+-- what holds of all stores of the list holds of those of the window
+
+abbrev pub Each : (ℕ × ℕ → Type 0) → List (ℕ × ℕ) → Type 0
+Each P xs = (j : ℕ) (x : ℕ × ℕ) → slice_get xs j ≡ Some x → P x
+
+pub Each-window : (P : ℕ × ℕ → Type 0) (xs : List (ℕ × ℕ)) (k n : ℕ) → Each P xs → Each P (window xs k n)
+Each-window P [] zero zero each j x is = cc
+Each-window P [] zero (suc n) each j x is = cc
+Each-window P [] (suc k) zero each j x is = cc
+Each-window P [] (suc k) (suc n) each j x is = cc
+Each-window P (y ∷ ys) zero zero each j x is = cc
+Each-window P (y ∷ ys) zero (suc n) each zero x is = each 0 x is
+Each-window P (y ∷ ys) zero (suc n) each (suc j) x is = Each-window P ys zero n (λ i z at. each (suc i) z at) j x is
+Each-window P (y ∷ ys) (suc k) zero each j x is = cc
+Each-window P (y ∷ ys) (suc k) (suc n) each j x is = Each-window P ys k n (λ i z at. each (suc i) z at) j x is
+
+pub get_end : {X : Type 0} (xs : List X) (x : X) → slice_get (xs ++ x ∷ []) (length xs) ≡ Some x
+get_end [] x = refl
+get_end (z ∷ xs) x = get_end xs x
+
+-- the newest store of a list to address a
+abbrev pub newest_to : ℕ → Option ℕ → List (ℕ × ℕ) → Option ℕ
+newest_to a found [] = found
+newest_to a found (x ∷ xs) = newest_to a (if x.0 == a then Some x.1 else found) xs
+
+pub newest_to-append : (a : ℕ) (found : Option ℕ) (xs ys : List (ℕ × ℕ)) → newest_to a found (xs ++ ys) ≡ newest_to a (newest_to a found xs) ys
+newest_to-append a found [] ys = refl
+newest_to-append a found (x ∷ xs) ys = newest_to-append a (if x.0 == a then Some x.1 else found) xs ys
+
+-- where no store goes to it, there is none
+pub newest_none : (a : ℕ) (found : Option ℕ) (xs : List (ℕ × ℕ)) → Each (λ x. x.0 ≢ a) xs → newest_to a found xs ≡ found
+newest_none a found [] none = refl
+newest_none a found (x ∷ xs) none =
+    let off : (x.0 == a) ≡ false = let other : x.0 ≢ a = none 0 x refl in grind (arith, nat_tests) in
+    rw off (newest_none a found xs (λ j y is. none (suc j) y is))
+
+-- the newest is the last that was made
+pub newest_made : (xs : List (ℕ × ℕ)) (i j : ℕ) (a v : ℕ) → i ≤ j → slice_get xs j ≡ Some (a, v) → newest_to a None (window xs i (suc j)) ≡ Some v
+newest_made xs i j a v less at =
+    ap (newest_to a None) (sym (window_made xs i j (a, v) less at))
+    ∙ newest_to-append a None (window xs i j) ((a, v) ∷ [])
+    ∙ (let same : (a == a) ≡ true = eq-eqb a a refl in rw same refl)

@@ -1,0 +1,121 @@
+-- What a ring says of one block, and what holds at each place of the receiver of the block that it
+-- visits: one line a place.
+use Rattle.std.proofs.Common.{ℕ, ◌+◌, ◌*◌, ◌≡◌, ◌⊎◌, List, length}
+use Rattle.std.specs.Prelude.{slice_index}
+use Rattle.hart.specs.State.{HartState}
+use Rattle.poll_close.specs.Layout.{block_size}
+use Rattle.poll_close.specs.Invariant.Blocks.{Block, offset}
+use Rattle.poll_close.specs.Invariant.ReceiverState.{Middle, Noted}
+use Rattle.poll_close.specs.Invariant.ReceiverPlaces.{ReceiverPlace, R00, R04, R08, R0C, R10, R14, R18, R1C, R20, R24, R28, R2C, R30, R34, R38, R3C, R40, R44, R48, R4C, R50, R54, R58, R5C, R60, R64, R68, R6C, R70, R74, R78, R7C, ROver}
+
+pub record BlockMeaning : Type 1 where
+  -- the numbers of a block, which say everything of its memory and of both harts' stores to it
+  pub Count : Type 0
+  -- of these: the tails and the done words that the receiver stored, the words that it reported,
+  -- whether it reported the sender closed, and the closed marks that landed
+  pub tails : Count → ℕ
+  pub dones : Count → ℕ
+  pub took : Count → ℕ
+  pub shut : Count → ℕ
+  pub marks : Count → ℕ
+  -- the order of the numbers, and the words of memory by them
+  pub Ordered : Block → Count → Type 0
+  pub Words : Block → Count → (ℕ → ℕ) → Type 0
+  -- the pending stores of the sender, and those of the receiver to this block
+  pub unsent : Block → Count → List (ℕ × ℕ)
+  pub unread : Block → Count → List (ℕ × ℕ)
+  -- the sender may be in this state
+  pub Stands : Block → Count → HartState → Type 0
+  -- the receiver has no step of its own half done; it has taken a word out of its slot
+  pub Level : Count → Type 0
+  pub Filled : Block → Count → Type 0
+  -- whatever else of these numbers only grows as others act and stores land
+  pub Later : Count → Count → Type 0
+  -- the receiver's five lines between, and what holds of the block at the last four of them
+  pub middle : Middle
+  pub At18 : Block → Count → Noted → Type 0
+  pub At1C : Block → Count → Noted → Type 0
+  pub At20 : Block → Count → Noted → Type 0
+  pub At24 : Block → Count → Noted → Type 0
+
+-- outside of a report, all that was taken and closed is reported
+pub record Quiet (m : BlockMeaning) (n : m.Count) : Type 0 where
+  pub words : m.took n ≡ m.tails n
+  pub closed : m.shut n ≡ m.dones n
+  pub level : m.Level n
+
+pub record Visits (k : Block) (i : ℕ) (r : Noted) : Type 0 where
+  pub base : r.x8 ≡ k.base
+  pub index : r.x22 ≡ i
+
+-- it visits a block that is not done
+pub record Opened (m : BlockMeaning) (k : Block) (i : ℕ) (n : m.Count) (r : Noted) : Type 0 where
+  pub visits : Visits k i r
+  pub quiet : Quiet m n
+  pub open_yet : m.dones n ≡ 0
+
+-- the mark that was read
+abbrev pub Flag : (m : BlockMeaning) → m.Count → Noted → Type 0
+Flag m n r = (r.x30 ≡ 0) ⊎ ((r.x30 ≡ 1) × (m.marks n ≡ 1))
+
+-- the word is in x11, and its tail is not stored
+pub record Has (m : BlockMeaning) (k : Block) (i : ℕ) (n : m.Count) (r : Noted) : Type 0 where
+  pub visits : Visits k i r
+  pub ahead : m.took n ≡ m.tails n
+  pub closed : m.shut n ≡ m.dones n
+  pub open_yet : m.dones n ≡ 0
+  pub filled : m.Filled k n
+  pub word : r.x11 ≡ slice_index k.list (m.tails n)
+
+-- the tail is stored and the word not reported
+pub record Taking (m : BlockMeaning) (k : Block) (i : ℕ) (n : m.Count) (r : Noted) : Type 0 where
+  pub visits : Visits k i r
+  pub level : m.Level n
+  pub ahead : m.tails n ≡ m.took n + 1
+  pub closed : m.shut n ≡ m.dones n
+  pub open_yet : m.dones n ≡ 0
+  pub word : r.x11 ≡ slice_index k.list (m.took n)
+
+-- the done word is stored and the closing not reported
+pub record Closing (m : BlockMeaning) (k : Block) (i : ℕ) (n : m.Count) (r : Noted) : Type 0 where
+  pub visits : Visits k i r
+  pub level : m.Level n
+  pub words : m.took n ≡ m.tails n
+  pub all : m.tails n ≡ length k.list
+  pub done : m.dones n ≡ 1
+  pub unsaid : m.shut n ≡ 0
+
+abbrev pub ReceiverIs : (m : BlockMeaning) → Block → ℕ → ReceiverPlace → m.Count → Noted → Type 0
+ReceiverIs m k i R00 n r = Quiet m n
+ReceiverIs m k i R04 n r = Quiet m n × (r.x8 ≡ 0)
+ReceiverIs m k i R08 n r = Quiet m n × Visits k i r
+ReceiverIs m k i R0C n r = Quiet m n × Visits k i r × (r.x5 ≡ m.dones n)
+ReceiverIs m k i R10 n r = Opened m k i n r
+ReceiverIs m k i R14 n r = Opened m k i n r × Flag m n r
+ReceiverIs m k i R18 n r = Opened m k i n r × m.At18 k n r
+ReceiverIs m k i R1C n r = Opened m k i n r × m.At1C k n r
+ReceiverIs m k i R20 n r = Opened m k i n r × m.At20 k n r
+ReceiverIs m k i R24 n r = Opened m k i n r × m.At24 k n r
+ReceiverIs m k i R28 n r = Has m k i n r × (r.x7 ≡ offset k (m.tails n))
+ReceiverIs m k i R2C n r = Has m k i n r × (r.x7 ≡ offset k (m.tails n) + 4)
+ReceiverIs m k i R30 n r = Has m k i n r × (offset k (m.tails n) + 4 ≡ 4 * k.size)
+ReceiverIs m k i R34 n r = Has m k i n r × (r.x7 ≡ offset k (m.tails n + 1))
+ReceiverIs m k i R38 n r = Taking m k i n r
+ReceiverIs m k i R3C n r = Taking m k i n r × (r.x10 ≡ i)
+ReceiverIs m k i R40 n r = Taking m k i n r × (r.x10 ≡ i) × (r.x17 ≡ 2)
+ReceiverIs m k i R44 n r = Quiet m n × Visits k i r
+ReceiverIs m k i R48 n r = Opened m k i n r × ((r.x30 ≡ 0) ⊎ (m.tails n ≡ length k.list))
+ReceiverIs m k i R4C n r = Opened m k i n r × (m.tails n ≡ length k.list)
+ReceiverIs m k i R50 n r = Opened m k i n r × (m.tails n ≡ length k.list) × (r.x5 ≡ 1)
+ReceiverIs m k i R54 n r = Closing m k i n r
+ReceiverIs m k i R58 n r = Closing m k i n r × (r.x10 ≡ i)
+ReceiverIs m k i R5C n r = Closing m k i n r × (r.x10 ≡ i) × (r.x17 ≡ 3)
+ReceiverIs m k i R60 n r = Quiet m n × Visits k i r
+ReceiverIs m k i R64 n r = Quiet m n × Visits k i r
+ReceiverIs m k i R68 n r = Quiet m n × Visits k i r
+ReceiverIs m k i R6C n r = Quiet m n × (r.x22 ≡ i) × (r.x8 ≡ k.base + block_size k.size)
+ReceiverIs m k i R70 n r = Quiet m n × (r.x22 ≡ i + 1) × (r.x8 ≡ k.base + block_size k.size)
+ReceiverIs m k i R74 n r = Quiet m n
+ReceiverIs m k i R78 n r = Quiet m n × (r.x20 ≡ 0)
+ReceiverIs m k i R7C n r = Quiet m n × (r.x17 ≡ 93) × (r.x20 ≡ 0)
+ReceiverIs m k i ROver n r = Quiet m n × (r.x20 ≡ 0)

@@ -1,0 +1,36 @@
+-- One sender's block: what never changes of it, its addresses, and the pending stores that go to it.
+use Rattle.std.proofs.Common.{ℕ, ◌+◌, ◌*◌, ◌%◌, Bool, not, ◌&&◌, List, [], take, drop}
+use Rattle.std.specs.Prelude.{nat_lt}
+use Rattle.std.specs.List.{slice_index_or, filter}
+use Rattle.poll_close.specs.Layout.{block_size, base_of}
+
+-- the ring size, where the block begins, the memory's words, the sender's list
+pub record Block : Type 0 where
+  pub size : ℕ
+  pub base : ℕ
+  pub words : ℕ
+  pub list : List ℕ
+
+abbrev pub block_of : ℕ → ℕ → List (List ℕ) → ℕ → Block
+block_of M S lists i = record { size = S; base = base_of S i; words = M; list = slice_index_or lists i [] }
+
+-- the offset of word j among the slots, and the address of its slot
+abbrev pub offset : Block → ℕ → ℕ
+offset k j = 4 * (j % k.size)
+
+abbrev pub slot : ℕ → ℕ → ℕ → ℕ
+slot S b j = b + 16 + 4 * (j % S)
+
+abbrev pub is_within : Block → ℕ → Bool
+is_within k a = not (nat_lt a k.base) && nat_lt a (k.base + block_size k.size)
+
+-- the pending stores of a list that go to the block
+abbrev pub is_to : Block → ℕ × ℕ → Bool
+is_to k x = is_within k x.0
+
+abbrev pub to_block : Block → List (ℕ × ℕ) → List (ℕ × ℕ)
+to_block k ps = filter (is_to k) ps
+
+-- the stores of one fixed list that are made and have not landed: made n, landed k
+abbrev pub window : List (ℕ × ℕ) → ℕ → ℕ → List (ℕ × ℕ)
+window xs k n = drop k (take n xs)

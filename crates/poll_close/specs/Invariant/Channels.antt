@@ -1,0 +1,67 @@
+-- What holds of every history of a channel: of each block, of the receiver, and of what is reported.
+use Rattle.std.proofs.Common.{ℕ, zero, suc, ◌+◌, ◌<◌, ◌≡◌, ◌≢◌, List, [], length, take, Some}
+use Rattle.std.specs.List.{slice_get, slice_index_or}
+use Rattle.hart.specs.State.{HartState}
+use Rattle.hart.specs.declared.need.Report.{Report}
+use Rattle.hart.specs.declared.need.Report.TheVariants as report
+use Rattle.step_machine.specs.History.{History}
+use Rattle.step_machine.specs.Entries.{pending, memory_word, reported}
+use Rattle.step_machine.specs.Paths.{state_of}
+use Rattle.poll_close.specs.Laws.{Meaning}
+use Rattle.poll_close.specs.Reports.{taken, Clean}
+use Rattle.poll_close.specs.Going.{AllGoOn}
+use Rattle.poll_close.specs.Invariant.Blocks.{Block, block_of, to_block}
+use Rattle.poll_close.specs.Invariant.ReceiverState.{Noted, whole_of}
+use Rattle.poll_close.specs.Invariant.ReceiverPlaces.{ReceiverPlace, receives, due}
+use Rattle.poll_close.specs.Invariant.BlockMeaning.{BlockMeaning, Quiet, ReceiverIs}
+
+-- the sender of a block, which is hart h
+pub record SenderPart (m : BlockMeaning) (k : Block) (M h : ℕ) (t : History) (n : m.Count) : Type 0 where
+  pub stands : HartState
+  pub state : state_of M t h ≡ Some stands
+  pub holds : m.Stands k n stands
+  pub buffer : pending h t.entries ≡ m.unsent k n
+
+pub record BlockPart (m : BlockMeaning) (k : Block) (M i : ℕ) (t : History) (n : m.Count) : Type 0 where
+  pub order : m.Ordered k n
+  pub sender : SenderPart m k M (i + 1) t n
+  pub theirs : to_block k (pending 0 t.entries) ≡ m.unread k n
+  pub words : m.Words k n (memory_word t.opening t.entries)
+
+-- how many senders are reported closed
+abbrev pub shuts : (m : BlockMeaning) → (ℕ → m.Count) → ℕ → ℕ
+shuts m f zero = 0
+shuts m f (suc i) = m.shut (f i) + shuts m f i
+
+-- where the receiver stands, and what holds of the block that it visits or visited last
+pub record ReceiverPart (m : BlockMeaning) (M S : ℕ) (lists : List (List ℕ)) (t : History) (f : ℕ → m.Count) : Type 0 where
+  pub place : ReceiverPlace
+  pub noted : Noted
+  pub block : ℕ
+  pub known : block < length lists
+  pub state : state_of M t 0 ≡ Some (receives m.middle (whole_of (block_of M S lists block) (length lists)) place noted)
+  pub holds : ReceiverIs m (block_of M S lists block) block place (f block) noted
+  pub others : (j : ℕ) → j < length lists → j ≢ block → Quiet m (f j)
+  -- the receiver's count and the closed senders make all
+  pub count : noted.x20 + shuts m f (length lists) ≡ length lists + due place
+
+-- what is reported of sender i
+pub record Told (rs : List Report) (i : ℕ) (list : List ℕ) (took shut : ℕ) : Type 0 where
+  pub words : taken rs i ≡ take took list
+  pub closed : (k : ℕ) → slice_get rs k ≡ Some (report.Closed i) → shut ≡ 1
+  pub said : shut ≡ 1 → (k : ℕ) × (slice_get rs k ≡ Some (report.Closed i))
+
+pub record ReportPart (m : BlockMeaning) (lists : List (List ℕ)) (rs : List Report) (f : ℕ → m.Count) : Type 0 where
+  pub told : (j : ℕ) → j < length lists → Told rs j (slice_index_or lists j []) (m.took (f j)) (m.shut (f j))
+  pub clean : Clean rs lists
+
+pub record Channel (m : BlockMeaning) (M S : ℕ) (lists : List (List ℕ)) (t : History) : Type 0 where
+  pub numbers : ℕ → m.Count
+  pub parts : (i : ℕ) → i < length lists → BlockPart m (block_of M S lists i) M i t (numbers i)
+  pub receiver : ReceiverPart m M S lists t numbers
+  pub reports : ReportPart m lists (reported 0 t.entries) numbers
+  pub unstopped : AllGoOn t.entries
+
+-- the meaning of a ring, by what it says of one block
+abbrev pub means_by : BlockMeaning → Meaning
+means_by m B M lists S t = Channel m M S lists t

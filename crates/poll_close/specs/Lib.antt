@@ -1,0 +1,6 @@
+pub mod Layout
+pub mod Reports
+pub mod Going
+pub mod Laws
+pub mod Delivery
+pub mod Invariant

@@ -1,0 +1,8 @@
+use Rattle.ztso_engines.proofs.OneAnswer.{one_steps, one_dis}
+use Rattle.ztso_engines.proofs.laws.one_answer.Goals as goal
+
+pub returns-clause-steps : goal.returns-clause-steps
+returns-clause-steps c = one_steps
+
+pub returns-clause-dis : goal.returns-clause-dis
+returns-clause-dis c = one_dis

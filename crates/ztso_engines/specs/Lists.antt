@@ -1,0 +1,47 @@
+-- Lists of words, a line each: the input of `channel`.
+use Rattle.std.specs.Prelude.{ℕ, ◌+◌, nat_lt, List, [], ◌∷◌, length, Result, Ok}
+use Rattle.std.specs.List.{AllZip, filter}
+use Rattle.std.specs.Str.Lines.{lines}
+use Rattle.texts.specs.Numbers.{word_of}
+use Rattle.texts.specs.Pieces.{pieces}
+use Rattle.texts.specs.declared.pieces.Separators.TheVariants.{Spaces}
+use Rattle.texts.specs.Results.{◌>>=◌}
+use Rattle.ztso_engines.specs.declared.fault.Refusal.{Refusal}
+use Rattle.ztso_engines.specs.LineFaults.{or_bad, at_line}
+use Rattle.ztso_engines.specs.StepsText.{SaysWord}
+
+-- the pieces that have a byte
+abbrev pub with_bytes : List (List ℕ) → List (List ℕ)
+with_bytes parts = filter (λ piece. nat_lt 0 (length piece)) parts
+
+-- The line says this list: what stands between its spaces, in decimal digits.
+abbrev pub SaysList : List ℕ → List ℕ → Type 0
+SaysList line list = AllZip SaysWord (with_bytes (pieces Spaces line)) list
+
+-- The text says these lists, a line each.
+abbrev pub SaysLists : List ℕ → List (List ℕ) → Type 0
+SaysLists text lists = AllZip SaysList (lines text) lists
+
+-- the words that all of these say
+unfoldable pub list_at : List (List ℕ) → Result (List ℕ) ℕ
+list_at [] = Ok []
+list_at (digits ∷ others) = do
+  word ← or_bad (word_of digits)
+  list ← list_at others
+  Ok (word ∷ list)
+
+abbrev pub list_of : List ℕ → Result (List ℕ) ℕ
+list_of line = list_at (with_bytes (pieces Spaces line))
+
+-- the lists that these lines say, the first of which has this number; a line that holds anything else is
+-- refused
+unfoldable pub lists_of_lines : (number : ℕ) → List (List ℕ) → Result (List (List ℕ)) Refusal
+lists_of_lines number [] = Ok []
+lists_of_lines number (line ∷ others) = do
+  list ← at_line number (list_of line)
+  lists ← lists_of_lines (number + 1) others
+  Ok (list ∷ lists)
+
+-- the lists that a text says, or its first fault
+unfoldable pub lists_at : List ℕ → Result (List (List ℕ)) Refusal
+lists_at text = lists_of_lines 1 (lines text)

@@ -1,0 +1,68 @@
+//! Lists of words, a line each: the input of `channel`.
+
+ghost use Rattle.std.specs.Prelude.{◌≡◌, ◌≤◌, length, map};
+ghost use Rattle.texts.specs.Results.{Gives};
+ghost use Rattle.ztso_engines.specs.Faults.{Answers};
+ghost use Rattle.ztso_engines.specs.Engines.{judged};
+ghost use Rattle.ztso_engines.specs.LineFaults.{number_in, at_line};
+ghost use Rattle.ztso_engines.specs.Lists.{list_of as list_said, lists_at};
+
+use crate::fault::Fault;
+use crate::input::text_of;
+use crate::line_fault::{BAD, LineFault};
+use std::alloc::Global;
+use texts::{Separators, first_line, first_piece, word};
+
+/// The words of a line.
+#[tactic(auto, unfolding(crate::specs::Lists::list_at))]
+fn list_of(alloc: Global, line: &[u8]) -> Result<Vec<u32>, LineFault>
+    ensures { Gives number_in (λ list. list.items) result (list_said line.now) }
+{
+    let mut list = Vec::new(alloc);
+    let mut rest = Some(line);
+    while let Some(bytes) = rest {
+        let (digits, after) = first_piece(Separators::Spaces, bytes);
+        if !digits.is_empty() {
+            list.push(word(digits).ok_or(BAD)?)?;
+        }
+        rest = after;
+    }
+    Ok(list)
+}
+
+/// The words of the line of this number.
+#[tactic(auto, using(crate::proofs::LineFaulted::refused_at_line))]
+fn list_of_line(alloc: Global, line: &[u8], number: usize) -> Result<Vec<u32>, Fault>
+    ensures { Answers (λ list. list.items) result (at_line number (list_said line.now)) }
+{
+    match list_of(alloc, line) {
+        Ok(list) => Ok(list),
+        Err(fault) => Err(fault.at_line(number)),
+    }
+}
+
+/// The lists of a text.
+#[tactic(auto, unfolding(crate::specs::Lists::lists_at, crate::specs::Lists::lists_of_lines))]
+fn lists_of_text(alloc: Global, text: &[u8]) -> Result<Vec<Vec<u32>>, Fault>
+    ensures { Answers (λ lists. map (λ list. list.items) lists.items) result (lists_at text.now) }
+{
+    let mut lists = Vec::new(alloc);
+    let mut rest = text;
+    let mut number = 0;
+    while let Some((line, after)) = first_line(rest) {
+        number += 1;
+        let list = list_of_line(alloc, line, number)?;
+        lists.push(list)?;
+        rest = after;
+    }
+    Ok(lists)
+}
+
+/// The lists of an input.
+#[tactic(auto, using(crate::proofs::Judging::judged_text, crate::proofs::Judging::judged_no_text))]
+pub fn lists_of_input(alloc: Global, input: &[u8]) -> Result<Vec<Vec<u32>>, Fault>
+    requires { length input.now ≤ 1048576 }
+    ensures { Answers (λ lists. map (λ list. list.items) lists.items) result (judged lists_at input.now) }
+{
+    lists_of_text(alloc, text_of(input)?.as_bytes())
+}
