@@ -20,4 +20,6 @@ pub mod EntryText
 pub mod Replay
 pub mod Trials
 pub mod Outcomes
+pub mod Sessions
+pub mod Walks
 pub mod inner
