@@ -462,6 +462,7 @@ fn a_pending_byte_is_seen_by_its_own_hart(rt: HostRuntime) -> Result<(), Fail> {
     ];
     for (outcome, register) in narrow {
         expect_outcomes(&rt, &mut machine, &[(A0, outcome)])?;
+        assert_eq!(rt; machine.harts(), 2);
         assert_eq!(rt; machine.register(0, 7), register);
     }
     let why = Stop::Misaligned;
