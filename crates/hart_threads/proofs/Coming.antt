@@ -1,8 +1,8 @@
 -- Seats that come back with perhaps more in their diaries, and what is known of them by those given.
-use Rattle.std.proofs.Common.{◌≡◌, ℕ, ◌+◌, ◌<◌, Bool, true, false, not, ◌&&◌, ltb, eqb, cond, List, [], ◌∷◌, ◌++◌, length, refl, sym, ◌∙◌, ap, subst, arith, append-nil, append_assoc}
+use Rattle.std.proofs.Common.{◌≡◌, ℕ, ◌+◌, Bool, true, false, not, ◌&&◌, eqb, cond, List, [], ◌∷◌, ◌++◌, length, refl, sym, ◌∙◌, ap, subst, append-nil, append_assoc}
 use Rattle.std.proofs.lemmas.List.{map-append}
-use Rattle.std.specs.Prelude.{map, fold, count_by, ◌==◌, Result, Ok, Err, IfErr}
-use Rattle.std.specs.List.{list_any, AllZip}
+use Rattle.std.specs.Prelude.{map, fold, count_by, Result, Ok, Err}
+use Rattle.std.specs.List.{list_any}
 use Rattle.step_machine.specs.History.{Start}
 use Rattle.step_machine.specs.declared.events.Entry.{Entry}
 use Rattle.step_machine.specs.declared.events.Outcome.{Outcome}
@@ -19,10 +19,11 @@ pub continues_self : (s : SeatView) → Continues s s
 continues_self s = ([], ap (λ (d : List Entry). record s { diary = d }) (sym (append-nil s.diary)))
 
 pub continues_on : (s t u : SeatView) → Continues s t → Continues t u → Continues s u
-continues_on s t u (first, is) (more, then_is) =
-    (first ++ more,
-      then_is ∙ ap (λ (v : SeatView). record v { diary = v.diary ++ more }) is
-      ∙ ap (λ (d : List Entry). record s { diary = d }) (append_assoc s.diary first more))
+continues_on s t u (first, is) (more, then_is) = (
+  first ++ more,
+  then_is ∙ ap (λ (v : SeatView). record v { diary = v.diary ++ more }) is
+      ∙ ap (λ (d : List Entry). record s { diary = d }) (append_assoc s.diary first more),
+)
 
 -- a call continues its seat
 notes_continue : {E : Type 0} (s t : SeatView) (r : Result Outcome E) → Notes s r t → Continues s t

@@ -1,5 +1,5 @@
 -- A diary against its part of the entries, entry by entry.
-use Rattle.std.proofs.Common.{◌≡◌, ℕ, ◌+◌, ◌<◌, ◌≤◌, Bool, true, false, cond, eqb, List, [], ◌∷◌, ◌++◌, length, get_or, take, drop, refl, sym, ◌∙◌, ap, subst, arith, append-nil, append_assoc}
+use Rattle.std.proofs.Common.{◌≡◌, ℕ, ◌+◌, ◌<◌, Bool, true, false, cond, eqb, List, [], ◌∷◌, ◌++◌, length, get_or, take, drop, refl, sym, ◌∙◌, ap, arith, append-nil, append_assoc}
 use Rattle.std.specs.Prelude.{MatchBool}
 use Rattle.std.specs.List.{filter}
 use Rattle.std.proofs.Math.Seq.{get_or-append_seam, take-length}
@@ -43,9 +43,9 @@ pub another : (s : SeatView) (es : List Entry) (i : ℕ) (d first : Entry) (late
 another s es i d first later within passes differs so_far fits =
     let whole : s.diary ≡ filter (keeps s) (take i es) ++ get_or es i d ∷ filter (keeps s) (drop (i + 1) es) = fits ∙ part-filter s es ∙ filter_at (keeps s) es i d within passes in
     differs (
-      sym (get_or-append_seam (filter (keeps s) (take i es)) first later d)
-      ∙ ap (λ (xs : List Entry). get_or xs (length (filter (keeps s) (take i es))) d) (sym so_far ∙ whole)
-      ∙ get_or-append_seam (filter (keeps s) (take i es)) (get_or es i d) (filter (keeps s) (drop (i + 1) es)) d)
+    sym (get_or-append_seam (filter (keeps s) (take i es)) first later d)
+    ∙ ap (λ (xs : List Entry). get_or xs (length (filter (keeps s) (take i es))) d) (sym so_far ∙ whole)
+    ∙ get_or-append_seam (filter (keeps s) (take i es)) (get_or es i d) (filter (keeps s) (drop (i + 1) es)) d)
 
 nothing : (xs : List Entry) → length xs ≡ 0 → xs ≡ []
 nothing [] is = refl
@@ -56,6 +56,7 @@ at_the_end s es i rest b end empty so_far = at b empty
   where
     all : s.diary ≡ part_of s es ++ rest
     all = so_far ∙ ap (λ (xs : List Entry). filter (keeps s) xs ++ rest) (ap (λ (n : ℕ). take n es) end ∙ take-length es) ∙ ap (λ (xs : List Entry). xs ++ rest) (sym (part-filter s es))
+
     at : (c : Bool) → c ≡ eqb (length rest) 0 → MatchBool c (Fits es s) (Fits es s → ⊥)
     at true is = (let none : length rest ≡ 0 = grind (arith, nat_tests) in all ∙ ap (λ (xs : List Entry). part_of s es ++ xs) (nothing rest none) ∙ append-nil (part_of s es))
     at false is = λ fits. (let more : 0 < length rest = grind (arith, nat_tests) in

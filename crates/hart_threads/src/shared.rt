@@ -33,10 +33,7 @@ impl<const B: usize, const M: usize> Model for Shared<B, M> {
 
 impl<const B: usize, const M: usize> Shared<B, M> {
     /// A machine at its opening, and for each hart its acting seat and then its landing one.
-    pub fn open(
-        alloc: Global,
-        opening: Opening,
-    ) -> Result<(Shared<B, M>, Vec<Seat<M>>), AllocError>
+    pub fn open(alloc: Global, opening: Opening) -> Result<(Shared<B, M>, Vec<Seat<M>>), AllocError>
         requires some_capacity { 1 ≤ B }
         requires capacity { B ≤ 64 }
         requires some_word { 1 ≤ M }

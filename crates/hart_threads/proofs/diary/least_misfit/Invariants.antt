@@ -1,4 +1,4 @@
-use Rattle.std.proofs.Common.{◌≡◌, take}
+use Rattle.std.proofs.Common.{take}
 use Rattle.hart_threads.specs.Parts.{Fits}
 use Rattle.hart_threads.specs.inner.Searches.{Found}
 use Rattle.hart_threads.proofs.diary.least_misfit.Given as goal

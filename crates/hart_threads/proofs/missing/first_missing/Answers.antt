@@ -1,4 +1,4 @@
-use Rattle.std.proofs.Common.{rules, arith}
+use Rattle.std.proofs.Common.{rules}
 use Rattle.hart_threads.proofs.FirstMissing.{first_within, none_more, first_past}
 use Rattle.hart_threads.proofs.missing.first_missing.Goals as goal
 

@@ -1,4 +1,4 @@
-use Rattle.std.proofs.Common.{◌≡◌, ◌<◌, ◌≤◌, take}
+use Rattle.std.proofs.Common.{◌<◌, ◌≤◌, take}
 use Rattle.hart_threads.specs.inner.Searches.{Found}
 use Rattle.hart_threads.proofs.missing.least_past.Given as goal
 

@@ -1,5 +1,4 @@
 use Rattle.std.proofs.Common.{◌∙◌}
-use Rattle.hart_threads.specs.Returns.{Continues}
 use Rattle.hart_threads.proofs.Coming.{continues_self, notes_on, same_role}
 use Rattle.hart_threads.proofs.turns.acting_turns.Goals as goal
 
