@@ -1,5 +1,6 @@
 -- A hart's act and a landing, told by what the hart needs and what is pending: it does what it needs, or
--- waits at a store, an AMO or a full fence. So every event of a kept history has an outcome.
+-- waits at a store, an AMO or a full fence. So every event of a kept history has an outcome. The law of
+-- each need is for the crates above.
 use Rattle.std.proofs.Common.{inl, inr, ◌⊎◌, ◌≡◌, ◌≢◌, ℕ, ◌<◌, ◌≤◌, Bool, true, false, List, [], ◌∷◌, length, take, Option, Some, None, refl, sym, ◌∙◌, ap, subst, arith}
 use Rattle.std.specs.Prelude.{nat_lt, IsTrue}
 use Rattle.std.proofs.lemmas.Bool.Decides.{nat_tests}

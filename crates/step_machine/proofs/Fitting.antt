@@ -38,32 +38,6 @@ fit_step M c h v fit = record {
   pending = fit.pending;
 }
 
-pub fit_store : (M : ℕ) (c : Config) (h a width v : ℕ) → h < length c.buffers → IsInWord width a → a < 4 * M → Fit M c → Fit M (record c { buffers = set c.buffers h (buffer_of c h ++ write a width v ∷ []) })
-fit_store M c h a width v within small below fit = record {
-  buffers = length-set c.buffers h (buffer_of c h ++ write a width v ∷ []) ∙ fit.buffers;
-  words = fit.words;
-  harts = fit.harts;
-  pending = All-set (λ (ps : List Write). All (HasAddress M) ps) c.buffers h (buffer_of c h ++ write a width v ∷ [])
-      (All-push (HasAddress M) (buffer_of c h) (write a width v) (fit.pending h [] within) (small, below)) fit.pending;
-}
-
-pub fit_word : (M : ℕ) (c : Config) (i v : ℕ) → Fit M c → Fit M (record c { words = set c.words i v })
-fit_word M c i v fit = record {
-  buffers = fit.buffers;
-  words = length-set c.words i v ∙ fit.words;
-  harts = fit.harts;
-  pending = fit.pending;
-}
-
-pub fit_land : (M : ℕ) (c : Config) (h : ℕ) → h < length c.buffers → Fit M c → Fit M (record c { buffers = set c.buffers h (drop 1 (buffer_of c h)) })
-fit_land M c h within fit = record {
-  buffers = length-set c.buffers h (drop 1 (buffer_of c h)) ∙ fit.buffers;
-  words = fit.words;
-  harts = fit.harts;
-  pending = All-set (λ (ps : List Write). All (HasAddress M) ps) c.buffers h (drop 1 (buffer_of c h))
-      (All-drop (HasAddress M) 1 (buffer_of c h) (fit.pending h [] within)) fit.pending;
-}
-
 pub fit_stepped : (M : ℕ) (c : Config) (h v : ℕ) (x y : HartView) → h < length c.harts → x ≡ get_or c.harts h x → y ≡ stepped x v → Fit M c → Fit M (record c { harts = set c.harts h y })
 fit_stepped M c h v x y within is step fit =
     subst (λ (hs : List HartView). Fit M (record c { harts = hs })) (sym (ap (set c.harts h) step ∙ stepped_in_place c.harts h v x within is)) (fit_step M c h v fit)

@@ -156,15 +156,6 @@ sound_outcome B M n t c ev outcome.NothingToLand sound idles fit = still B M n t
 sound_outcome B M n t c ev outcome.Over sound idles fit = still B M n t c sound
 sound_outcome B M n t c ev outcome.NoHart sound idles fit = still B M n t c sound
 
--- where every hart has room, so has the one that acts
-pub has_room : (n : ℕ) (hs : List HartView) (ev : Event) → 0 < n → AllHaveRoom n hs → HasRoom hs ev
-has_room n hs (event.Act h) some all = at (slice_get hs h) refl
-  where
-    at : (so : Option HartView) → slice_get hs h ≡ so → IfSome so (λ (v : HartView). 0 < v.room)
-    at None is = tt
-    at (Some v) is = let room : n ≤ v.room = all h v is in omega arith
-has_room n hs (event.Land h) some all = tt
-
 pub sound_held : (B M : ℕ) (o : Start) (es : List Entry) (c : Config) → FitsIn M o → es ≡ [] → c ≡ opened_config M o → Sound B M (record { opening = o; entries = es }) c 0
 sound_held B M o es c fits none is =
     subst (λ (k : Config). Sound B M (record { opening = o; entries = es }) k 0) (sym is)

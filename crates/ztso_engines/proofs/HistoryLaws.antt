@@ -1,5 +1,5 @@
 -- What is told of the history of a litmus text and a schedule.
-use Rattle.std.proofs.Common.{◌≡◌, ℕ, ◌<◌, List, [], length, Result, Ok, Err, refl, sym, subst, inl, inr}
+use Rattle.std.proofs.Common.{◌≡◌, ℕ, List, [], Result, Ok, Err, refl, subst, inl, inr}
 use Rattle.std.specs.Prelude.{Option, Some, None}
 use Rattle.step_machine.specs.History.{History}
 use Rattle.step_machine.specs.Runs.{Run}
@@ -10,7 +10,7 @@ use Rattle.ztso_engines.specs.declared.fault.Fault.TheVariants.{ReadFailed, Writ
 use Rattle.ztso_engines.specs.declared.fault.Refusal.{Refusal}
 use Rattle.ztso_engines.specs.Engines.{OfInput, AnswersBoth}
 use Rattle.ztso_engines.specs.Tests.{IsNoTest}
-use Rattle.ztso_engines.specs.Histories.{ByRun, IsOfRun}
+use Rattle.ztso_engines.specs.Histories.{ByRun}
 use Rattle.ztso_engines.specs.inner.Making.{Finds, FindsBy}
 use Rattle.ztso_engines.specs.inner.Inputs.{IsReadAsTest, IsReadAsSchedule, IsItself}
 use Rattle.ztso_engines.proofs.Endings.{weaker}

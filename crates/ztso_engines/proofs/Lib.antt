@@ -17,6 +17,8 @@ pub mod HexTexts
 pub mod CodeTexts
 pub mod TestTexts
 pub mod Openings
+pub mod SessionLaws
+pub mod WalkLaws
 pub mod Rows
 pub mod TallyLaws
 pub mod TrialLaws

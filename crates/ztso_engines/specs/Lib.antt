@@ -19,5 +19,7 @@ pub mod EntryText
 pub mod Replay
 pub mod Trials
 pub mod Outcomes
+pub mod Sessions
+pub mod Walks
 pub mod inner
 pub mod Lists

@@ -1,0 +1,32 @@
+-- Sessions: which events were done since an opening, and what they made of it.
+use Rattle.std.specs.Prelude.{ℕ, ◌≡◌, ◌-◌, List, [], ◌∷◌, ◌++◌, length, take}
+use Rattle.step_machine.specs.History.{Start, History, unrun}
+use Rattle.step_machine.specs.Runs.{Happens, Run}
+use Rattle.step_machine.specs.declared.events.Event.{Event}
+use Rattle.step_machine.specs.declared.events.Outcome.{Outcome}
+
+-- What a contract sees of a session. Every event since the opening is in the list, whatever its outcome.
+pub record Past : Type 0 where
+  pub opening : Start
+  pub events : List Event
+  pub history : History
+
+-- nothing was done yet
+abbrev pub begun : Start → Past
+begun o = record { opening = o; events = []; history = unrun o }
+
+-- a list without its last k elements, or without all of them where there are fewer
+abbrev pub without_last : {A : Type 0} → ℕ → List A → List A
+without_last k xs = take (length xs - k) xs
+
+-- one more event was done, with this outcome
+pub record GoesOn (B M : ℕ) (old : Past) (event : Event) (outcome : Outcome) (new : Past) : Type 0 where
+  pub opening : new.opening ≡ old.opening
+  pub events : new.events ≡ old.events ++ event ∷ []
+  pub happens : Happens B M old.history event outcome new.history
+
+-- the last k events are undone, or all of them
+pub record GoesBack (B M : ℕ) (old : Past) (k : ℕ) (new : Past) : Type 0 where
+  pub opening : new.opening ≡ old.opening
+  pub events : new.events ≡ without_last k old.events
+  pub ran : Run B M old.opening (without_last k old.events) new.history
