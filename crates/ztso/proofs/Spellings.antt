@@ -15,7 +15,7 @@ use Rattle.ztso.specs.declared.job.Capacity.TheVariants.{One, Two, Four, Sixteen
 use Rattle.ztso.specs.declared.job.Job.{Job}
 use Rattle.ztso.specs.declared.job.Task.TheVariants.{Asm, Dis, Machine}
 use Rattle.ztso.specs.declared.job.Work.{Work}
-use Rattle.ztso.specs.declared.job.Work.TheVariants.{Steps, Run, Replay, Try}
+use Rattle.ztso.specs.declared.job.Work.TheVariants.{Steps, Run, Replay, Try, Channel}
 use Rattle.ztso.specs.Jobs.{Wanted, one_input, two_inputs}
 use Rattle.ztso.specs.Jobs.Input.{Standard, File}
 
@@ -131,6 +131,7 @@ spelled_of name rest (Machine Run capacity) wanted (file, schedule, options, is,
 spelled_of name rest (Machine Replay capacity) wanted (file, schedule, options, is, f, s, asks, wants) =
     ap (λ (words : List Text). job_said (name ∷ words)) is ∙ said_on_files name file schedule f s false capacity options asks ∙ ap (λ (w : Wanted). Some w) (sym wants)
 spelled_of name rest (Machine (Try seed runs events) capacity) wanted t = absurd t
+spelled_of name rest (Machine (Channel ring slots) capacity) wanted t = absurd t
 
 pub job_said-spelling : (name : Text) (rest : List Text) (wanted : Wanted) → IsSpelling wanted rest
     → job_said (name ∷ rest) ≡ Some wanted

@@ -9,10 +9,12 @@ use Rattle.ztso.specs.declared.job.Capacity.{Capacity}
 use Rattle.ztso.specs.declared.job.Capacity.TheVariants.{One, Two, Four, Sixteen}
 use Rattle.ztso.specs.declared.job.Job.{Job}
 use Rattle.ztso.specs.Descriptions.{ztso_command}
+use Rattle.ztso.specs.declared.job.Ring.{Ring}
+use Rattle.ztso.specs.declared.job.Ring.TheVariants.{Lamport}
 use Rattle.ztso.specs.declared.job.Task.{Task}
 use Rattle.ztso.specs.declared.job.Task.TheVariants.{Asm, Dis, Machine}
 use Rattle.ztso.specs.declared.job.Work.{Work}
-use Rattle.ztso.specs.declared.job.Work.TheVariants.{Steps, Run, Replay, Try}
+use Rattle.ztso.specs.declared.job.Work.TheVariants.{Steps, Run, Replay, Try, Channel}
 use Rattle.ztso.specs.Jobs.{Input, Wanted, one_input, two_inputs, wanted_by}
 use Rattle.ztso.specs.Jobs.Input.{Standard, File}
 use Rattle.ztso.specs.Numbers.{number_within}
@@ -38,6 +40,18 @@ try_in options = do
   length_text ← first_of (codes "length") options
   events ← number_within 0 1048576 length_text
   Some (Try seed runs events)
+
+abbrev pub ring_said : Text → Option Ring
+ring_said text = if bytes_eq text (codes "lamport") then Some Lamport else None
+
+-- the ring of `channel`, from its words
+abbrev pub channel_in : List Row → Option Work
+channel_in options = do
+  kind ← first_of (codes "kind") options
+  ring ← ring_said kind
+  slots_text ← first_of (codes "ring") options
+  slots ← number_within 0 4294967295 slots_text
+  Some (Channel ring slots)
 
 -- the capacity that the options ask for
 abbrev pub capacity_in : List Row → Option Capacity
@@ -71,6 +85,13 @@ on_file_and_schedule options found = do
   schedule ← file_in (codes "schedule") options
   Some (two_inputs task file schedule)
 
+-- a task on the file `schedule`, and then on standard input
+abbrev pub on_schedule_and_standard : List Row → Option Task → Option Wanted
+on_schedule_and_standard options found = do
+  task ← found
+  schedule ← file_in (codes "schedule") options
+  Some (two_inputs task schedule Standard)
+
 -- a task on standard input
 abbrev pub on_standard : Option Task → Option Wanted
 on_standard found = do
@@ -85,7 +106,8 @@ job_in p =
     else (if bytes_eq p.0 (codes "dis") then on_standard (Some Dis)
     else (if bytes_eq p.0 (codes "run") then on_file_and_schedule p.1 (machine_in p.1 (Some Run))
     else (if bytes_eq p.0 (codes "replay") then on_file_and_schedule p.1 (machine_in p.1 (Some Replay))
-    else (if bytes_eq p.0 (codes "try") then on_file p.1 (machine_in p.1 (try_in p.1)) else None)))))
+    else (if bytes_eq p.0 (codes "try") then on_file p.1 (machine_in p.1 (try_in p.1))
+    else (if bytes_eq p.0 (codes "channel") then on_schedule_and_standard p.1 (machine_in p.1 (channel_in p.1)) else None))))))
 
 abbrev pub job_without : Kinds → Option (Text × List Row) → Option Wanted
 job_without [] found = option_and_then job_in found

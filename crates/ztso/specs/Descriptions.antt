@@ -45,10 +45,16 @@ try_command =
     with_rule (with_rule (with_rule (with_rule (with_rule (new_app (codes "try")) (word_wanted (codes "file")))
     (option_wanted (codes "seed"))) (option_wanted (codes "runs"))) (option_wanted (codes "length"))) buffer_option
 
+-- `channel KIND RING SCHEDULE [--buffer B]`
+abbrev pub channel_command : App
+channel_command =
+    with_rule (with_rule (with_rule (with_rule (new_app (codes "channel")) (word_wanted (codes "kind")))
+    (word_wanted (codes "ring"))) (word_wanted (codes "schedule"))) buffer_option
+
 abbrev pub with_commands : App → List App → App
 with_commands app [] = app
 with_commands app (command ∷ commands) = with_commands (with_subcommand app command.top) commands
 
 abbrev pub ztso_command : App
 ztso_command = with_commands (new_app (codes "ztso"))
-    (steps_command ∷ asm_command ∷ dis_command ∷ schedule_command (codes "run") ∷ schedule_command (codes "replay") ∷ try_command ∷ [])
+    (steps_command ∷ asm_command ∷ dis_command ∷ schedule_command (codes "run") ∷ schedule_command (codes "replay") ∷ try_command ∷ channel_command ∷ [])

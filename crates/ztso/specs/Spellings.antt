@@ -6,7 +6,7 @@ use Rattle.ztso.specs.declared.job.Capacity.TheVariants.{One, Two, Four, Sixteen
 use Rattle.ztso.specs.declared.job.Task.{Task}
 use Rattle.ztso.specs.declared.job.Task.TheVariants.{Asm, Dis, Machine}
 use Rattle.ztso.specs.declared.job.Work.{Work}
-use Rattle.ztso.specs.declared.job.Work.TheVariants.{Steps, Run, Replay, Try}
+use Rattle.ztso.specs.declared.job.Work.TheVariants.{Steps, Run, Replay, Try, Channel}
 use Rattle.ztso.specs.Jobs.{Wanted, one_input, two_inputs}
 use Rattle.ztso.specs.Jobs.Input.{Standard, File}
 
@@ -37,7 +37,7 @@ IsOnFiles command work capacity wanted words =
     × (wanted ≡ two_inputs (Machine work capacity) (File file) (File schedule))
 
 -- The words after the program's name that ask for this task, by the task: the table's rows. Options may
--- also stand in other places, which isn't said here, and nothing is said of how `try` is written.
+-- also stand in other places, which isn't said here, and nothing is said of how `try` and `channel` are written.
 abbrev pub IsSpellingOf : Task → Wanted → List Text → Type 0
 IsSpellingOf Asm wanted words = (words ≡ codes "asm" ∷ []) × (wanted ≡ one_input Asm Standard)
 IsSpellingOf Dis wanted words = (words ≡ codes "dis" ∷ []) × (wanted ≡ one_input Dis Standard)
@@ -47,6 +47,7 @@ IsSpellingOf (Machine Steps capacity) wanted words =
 IsSpellingOf (Machine Run capacity) wanted words = IsOnFiles (codes "run") Run capacity wanted words
 IsSpellingOf (Machine Replay capacity) wanted words = IsOnFiles (codes "replay") Replay capacity wanted words
 IsSpellingOf (Machine (Try seed runs events) capacity) wanted words = ⊥
+IsSpellingOf (Machine (Channel ring slots) capacity) wanted words = ⊥
 
 abbrev pub IsSpelling : Wanted → List Text → Type 0
 IsSpelling wanted words = IsSpellingOf wanted.task wanted words

@@ -16,12 +16,18 @@ use Rattle.ztso_engines.specs.Tests.{HasNoTest}
 use Rattle.ztso_engines.specs.Run.{IsRunAnswer}
 use Rattle.ztso_engines.specs.Replay.{IsReplayAnswer}
 use Rattle.ztso_engines.specs.Outcomes.{IsTryAnswer}
+use Rattle.ztso_engines.specs.Schedules.{HasNoSchedule}
+use Rattle.ztso_engines.specs.Channels.{IsChannelAnswer}
+use Rattle.poll_close.specs.Laws.{Ring as RingTables}
+use Rattle.lamport_ring.specs.Lamport.{lamport}
 use Rattle.ztso.specs.declared.job.Capacity.{Capacity}
 use Rattle.ztso.specs.declared.job.Capacity.TheVariants.{One, Two, Four, Sixteen}
+use Rattle.ztso.specs.declared.job.Ring.{Ring}
+use Rattle.ztso.specs.declared.job.Ring.TheVariants.{Lamport}
 use Rattle.ztso.specs.declared.job.Task.{Task}
 use Rattle.ztso.specs.declared.job.Task.TheVariants.{Asm, Dis, Machine}
 use Rattle.ztso.specs.declared.job.Work.{Work}
-use Rattle.ztso.specs.declared.job.Work.TheVariants.{Steps, Run, Replay, Try}
+use Rattle.ztso.specs.declared.job.Work.TheVariants.{Steps, Run, Replay, Try, Channel}
 
 -- how many stores a buffer of this capacity holds
 abbrev pub stores_of : Capacity → ℕ
@@ -33,6 +39,10 @@ stores_of Sixteen = 16
 -- what the generator of this seed draws
 abbrev pub drawn_from : (seed : ℕ) → Stream
 drawn_from seed = stream_of (steps_u32 pcg32) (pcg32_of_seed (pcg32_seed 16 seed))
+
+-- the tables and the least size of the rings of a kind
+abbrev pub tables_of : Ring → RingTables
+tables_of Lamport = lamport
 
 -- ---- exit statuses of a job that was done
 
@@ -81,6 +91,7 @@ IsAnswerOf B Steps = ToldBy done_status (IsStepsAnswer B 4096)
 IsAnswerOf B Run = ToldByBoth verdict_status (IsRunAnswer B 4096)
 IsAnswerOf B Replay = ToldByBoth done_status (IsReplayAnswer B 4096)
 IsAnswerOf B (Try seed runs size) = ToldBy tried_status (IsTryAnswer B 4096 (drawn_from seed) runs size)
+IsAnswerOf B (Channel ring slots) = ToldByBoth done_status (IsChannelAnswer (tables_of ring) B 4096 slots)
 
 -- and of all tasks
 abbrev pub IsAnswerTo : Task → Given → Answer → Type 0
@@ -102,6 +113,7 @@ LeavesSecondOf Steps first = Unit {0}
 LeavesSecondOf Run first = HasNoTest first
 LeavesSecondOf Replay first = HasNoTest first
 LeavesSecondOf (Try seed runs size) first = Unit {0}
+LeavesSecondOf (Channel ring slots) first = HasNoSchedule first
 
 abbrev pub LeavesSecond : Task → (first : Option (List ℕ)) → Type 0
 LeavesSecond Asm first = Unit {0}

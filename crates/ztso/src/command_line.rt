@@ -2,13 +2,13 @@
 
 ghost use Rattle.std.specs.Prelude.{◌≡◌, ◌∷◌, ℕ, List, IfOk, map, option_and_then, option_map};
 ghost use Rattle.clap.specs.Words.{FailsBy, fault_of, first_of, found_of, rows_of, subcommand_of, subcommand_rows_of};
-ghost use Rattle.ztso.specs.CommandLines.{Answers, capacity_said, job_in, job_said, machine_in, on_file, on_file_and_schedule, on_standard, try_in};
+ghost use Rattle.ztso.specs.CommandLines.{Answers, capacity_said, job_in, channel_in, job_said, machine_in, on_file, on_file_and_schedule, on_schedule_and_standard, on_standard, ring_said, try_in};
 ghost use Rattle.ztso.specs.Descriptions.{ztso_command};
 ghost use Rattle.ztso.specs.Spellings.{IsSpelling};
 ghost use Rattle.ztso.specs.Jobs.{Wanted, wanted_by};
 
 use crate::failure::Failure;
-use crate::job::{Capacity, Input, Job, Task, Work};
+use crate::job::{Capacity, Input, Job, Ring, Task, Work};
 use clap::ArgMatches;
 use description::ztso_command;
 use numbers::{count_of, seed_of};
@@ -61,6 +61,9 @@ fn job_in<'a>(matches: &ArgMatches<'a>) -> Option<Job<'a>>
             on_file_and_schedule(options, machine_in(options, Some(Work::Replay)))
         }
         ("try", options) => on_file(options, machine_in(options, try_in(options))),
+        ("channel", options) => {
+            on_schedule_and_standard(options, machine_in(options, channel_in(options)))
+        }
         _ => None,
     }
 }
@@ -104,6 +107,19 @@ fn on_file_and_schedule<'a>(options: &ArgMatches<'a>, task: Option<Task>) -> Opt
     })
 }
 
+/// The task, if there is one, on the file `schedule`, and then on standard input.
+fn on_schedule_and_standard<'a>(options: &ArgMatches<'a>, task: Option<Task>) -> Option<Job<'a>>
+    ensures { option_map wanted_by result ≡ on_schedule_and_standard (rows_of (found_of options.now)) task }
+{
+    let task = task?;
+    let schedule = word_in(options, "schedule")?;
+    Some(Job {
+        task,
+        first: Input::File(schedule),
+        second: Some(Input::Standard),
+    })
+}
+
 /// The work, if there is some, with a machine of the capacity that the options ask for.
 fn machine_in(options: &ArgMatches<'_>, work: Option<Work>) -> Option<Task>
     ensures { result ≡ machine_in (rows_of (found_of options.now)) work }
@@ -121,6 +137,24 @@ fn try_in(options: &ArgMatches<'_>) -> Option<Work>
     let runs = count_of(word_in(options, "runs")?, 1, MOST_RUNS)?;
     let length = count_of(word_in(options, "length")?, 0, MOST_EVENTS)?;
     Some(Work::Try { seed, runs, length })
+}
+
+/// The channel that is to run.
+fn channel_in(options: &ArgMatches<'_>) -> Option<Work>
+    ensures { result ≡ channel_in (rows_of (found_of options.now)) }
+{
+    let ring = ring_of(word_in(options, "kind")?)?;
+    let slots = count_of(word_in(options, "ring")?, 0, u32::MAX)?;
+    Some(Work::Channel { ring, slots })
+}
+
+fn ring_of(text: &str) -> Option<Ring>
+    ensures { result ≡ ring_said text.now }
+{
+    match text {
+        "lamport" => Some(Ring::Lamport),
+        _ => None,
+    }
 }
 
 /// The word in this place, or behind this option.

@@ -17,6 +17,12 @@ pub enum Input<'a> {
     File(&'a str),
 }
 
+/// A kind of ring.
+#[derive(Clone, Copy, Debug, PartialEq, Eq)]
+pub enum Ring {
+    Lamport,
+}
+
 /// What is done with a machine.
 #[derive(Clone, Copy, Debug, PartialEq, Eq)]
 pub enum Work {
@@ -28,6 +34,8 @@ pub enum Work {
     Replay,
     /// To run a litmus test by `runs` schedules of `length` events, drawn from a generator of this seed.
     Try { seed: u64, runs: u32, length: u32 },
+    /// To run a channel over lists of words by a schedule, through rings of this kind with so many slots.
+    Channel { ring: Ring, slots: u32 },
 }
 
 /// What is to be done.

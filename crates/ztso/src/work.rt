@@ -5,13 +5,15 @@ ghost use Rattle.ztso.specs.Work.{DoesJob, Given, IsAnswerOf, LeavesSecond, Leav
 ghost use Rattle.ztso_engines.specs.Engines.{Ends, EndsBy};
 ghost use Rattle.ztso_engines.specs.Outcomes.{IsTryAnswer};
 
-use crate::job::{Capacity, Task, Work};
+use crate::job::{Capacity, Ring, Task, Work};
+use lamport_ring::Lamport;
 use litmus::Verdict;
 use rand_core::SeedableRng;
 use rand_pcg::Lcg64Xsh32;
 use std::alloc::Global;
 use std::io::{Read, Write};
 use ztso_engines::asm::asm_engine;
+use ztso_engines::channel::channel_engine;
 use ztso_engines::dis::dis_engine;
 use ztso_engines::fault::Fault;
 use ztso_engines::replay::replay_engine;
@@ -86,6 +88,10 @@ fn do_work<const B: usize, F: Read, S: Read, W: Write>(
         Work::Try { seed, runs, length } => {
             after_try(try_drawn::<B, F, W>(alloc, seed, runs, length, first, writer))
         }
+        Work::Channel {
+            ring: Ring::Lamport,
+            slots,
+        } => after(channel_engine::<Lamport, B, WORDS, _, _, _>(alloc, slots, first, second, writer)),
     }
 }
 

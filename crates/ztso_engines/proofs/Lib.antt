@@ -28,3 +28,4 @@ pub mod OneText
 mod ListTexts
 pub mod OneAnswer
 pub mod ScheduleTexts
+pub mod ChannelLaws

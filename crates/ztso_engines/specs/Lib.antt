@@ -23,3 +23,4 @@ pub mod Sessions
 pub mod Walks
 pub mod inner
 pub mod Lists
+pub mod Channels

@@ -7,6 +7,7 @@
 #![tactic(auto)]
 
 pub mod asm;
+pub mod channel;
 mod code;
 pub mod dis;
 mod entry_text;

@@ -3,7 +3,7 @@
 ghost use Rattle.std.specs.Prelude.{◌≡◌, false, IfOk};
 ghost use Rattle.clap.specs.Words.{app_of, rule_of};
 ghost use Rattle.clap.specs.declared.builder.command.Command.TheViews.{out-Command as fields_of};
-ghost use Rattle.ztso.specs.Descriptions.{buffer_option, option_wanted, schedule_command, steps_command, try_command, word_wanted, ztso_command};
+ghost use Rattle.ztso.specs.Descriptions.{buffer_option, option_wanted, channel_command, schedule_command, steps_command, try_command, word_wanted, ztso_command};
 
 use clap::{Arg, ArgAction, Command};
 use std::alloc::{AllocError, Global};
@@ -65,6 +65,16 @@ fn try_command<'a>(alloc: Global) -> Result<Command<'a>, AllocError>
     with_length.arg(buffer_option(alloc))
 }
 
+fn channel_command<'a>(alloc: Global) -> Result<Command<'a>, AllocError>
+    ensures shape { IfOk result (λ command. app_of command ≡ channel_command) }
+    ensures local { IfOk result (λ command. (fields_of command).has_globals ≡ false) }
+{
+    let with_kind = Command::new(alloc, "channel").arg(word_wanted(alloc, "kind"))?;
+    let with_ring = with_kind.arg(word_wanted(alloc, "ring"))?;
+    let with_schedule = with_ring.arg(word_wanted(alloc, "schedule"))?;
+    with_schedule.arg(buffer_option(alloc))
+}
+
 /// The whole command line.
 pub fn ztso_command<'a>(alloc: Global) -> Result<Command<'a>, AllocError>
     ensures { IfOk result (λ command. app_of command ≡ ztso_command) }
@@ -75,10 +85,12 @@ pub fn ztso_command<'a>(alloc: Global) -> Result<Command<'a>, AllocError>
     let run = schedule_command(alloc, "run")?;
     let replay = schedule_command(alloc, "replay")?;
     let trying = try_command(alloc)?;
+    let channel = channel_command(alloc)?;
     let with_steps = Command::new(alloc, "ztso").subcommand(steps)?;
     let with_asm = with_steps.subcommand(asm)?;
     let with_dis = with_asm.subcommand(dis)?;
     let with_run = with_dis.subcommand(run)?;
     let with_replay = with_run.subcommand(replay)?;
-    with_replay.subcommand(trying)
+    let with_try = with_replay.subcommand(trying)?;
+    with_try.subcommand(channel)
 }

@@ -1,0 +1,58 @@
+-- The command `channel`: a schedule and the senders' lists in, what the receiver reports out.
+use Rattle.std.specs.Prelude.{ℕ, ◌≡◌, ◌⊎◌, List, [], ◌∷◌, ◌++◌, Result, Ok, Err, codes}
+use Rattle.std.specs.Fmt.{decimal}
+use Rattle.std.specs.List.{flat_map}
+use Rattle.hart.specs.declared.need.Report.{Report}
+use Rattle.hart.specs.declared.need.Report.TheVariants as report
+use Rattle.step_machine.specs.declared.events.Event.{Event}
+use Rattle.recorder.specs.Schedule.{IsScheduleOf}
+use Rattle.poll_close.specs.Layout.{opening_of}
+use Rattle.poll_close.specs.Laws.{Ring, Accepted as IsWithin}
+use Rattle.poll_close.specs.Delivery.{Delivers}
+use Rattle.poll_close.specs.Refusals.{Refuses}
+use Rattle.poll_close.specs.declared.faults.Refused.{Refused}
+use Rattle.poll_close.specs.declared.faults.Refused.TheVariants as refused
+use Rattle.ztso_engines.specs.declared.fault.Fault.{Fault}
+use Rattle.ztso_engines.specs.declared.fault.Fault.TheVariants as fault
+use Rattle.ztso_engines.specs.declared.fault.Place.TheVariants as place
+use Rattle.ztso_engines.specs.declared.fault.Refusal.{Refusal}
+use Rattle.ztso_engines.specs.Engines.{Accepted, judged}
+use Rattle.ztso_engines.specs.Schedules.{IsNoSchedule}
+use Rattle.ztso_engines.specs.Lists.{SaysLists, lists_at}
+
+-- the line of a report
+abbrev pub report_line : Report → List ℕ
+report_line (report.Took sender word) = codes "took " ++ decimal sender ++ 32 ∷ decimal word ++ 10 ∷ []
+report_line (report.Closed sender) = codes "closed " ++ decimal sender ++ 10 ∷ []
+
+-- The receiver reports this in the run of the events over these lists: lists within the limits, whose
+-- reports are clean, a line each.
+pub record IsDelivery (ring : Ring) (B M size : ℕ) (events : List Event) (lists : List (List ℕ)) (answer : List ℕ × Unit {0}) : Type 0 where
+  pub within : IsWithin ring M lists size
+  pub reports : List Report
+  pub delivers : Delivers B M (opening_of ring.sender ring.receiver lists size) lists events reports
+  pub told : answer.0 ≡ flat_map report_line reports
+
+-- why there is no channel, as a fault; a word that is 0 has its place
+abbrev pub told_as : Refused → Fault
+told_as refused.NoMemory = fault.NoMemory
+told_as (refused.ZeroWord sender word) = fault.Refused (record { number = 16; place = place.Word sender word })
+told_as refused.NoSenders = fault.Refused (record { number = 17; place = place.Nowhere })
+told_as refused.TooManySenders = fault.Refused (record { number = 18; place = place.Nowhere })
+told_as refused.RingTooSmall = fault.Refused (record { number = 19; place = place.Nowhere })
+told_as refused.DoesNotFit = fault.Refused (record { number = 20; place = place.Nowhere })
+
+-- There is no channel over these lists, for this reason.
+abbrev pub HasNoChannel : Ring → (M size : ℕ) → List (List ℕ) → Refusal → Type 0
+HasNoChannel ring M size lists refusal = (why : Refused) × Refuses ring M lists size why × (told_as why ≡ fault.Refused refusal)
+
+-- The input says no lists, for this reason.
+abbrev pub IsNoLists : List ℕ → Refusal → Type 0
+IsNoLists input refusal = judged lists_at input ≡ Err refusal
+
+-- What answers a schedule and lists. The schedule is judged first, then the text of lists, then the lists.
+abbrev pub IsChannelAnswer : Ring → (B M size : ℕ) → (schedule input : List ℕ) → Result (List ℕ × Unit {0}) Refusal → Type 0
+IsChannelAnswer ring B M size schedule input (Ok answer) =
+    (events : List Event) × Accepted IsScheduleOf schedule events × ((lists : List (List ℕ)) × Accepted SaysLists input lists × IsDelivery ring B M size events lists answer)
+IsChannelAnswer ring B M size schedule input (Err refusal) =
+    IsNoSchedule schedule refusal ⊎ ((events : List Event) × Accepted IsScheduleOf schedule events × (IsNoLists input refusal ⊎ ((lists : List (List ℕ)) × Accepted SaysLists input lists × HasNoChannel ring M size lists refusal)))

@@ -1,0 +1,102 @@
+//! The command `channel`: a schedule and the senders' lists in, what the receiver reports out.
+
+ghost use Rattle.std.specs.Prelude.{◌≡◌, ◌≤◌, ◌++◌, IfOk, OnOk};
+ghost use Rattle.std.specs.List.{flat_map};
+ghost use Rattle.std.specs.String.{string_bytes};
+ghost use Rattle.ztso_engines.specs.Engines.{AnswersBoth, EndsByBoth};
+ghost use Rattle.ztso_engines.specs.Channels.{report_line, told_as, IsChannelAnswer};
+ghost use Rattle.ztso_engines.specs.Schedules.{HasNoSchedule};
+ghost use Rattle.ztso_engines.specs.inner.Making.{Finds, text_and_value};
+
+use crate::fault::{Fault, Place};
+use crate::lists::read_lists;
+use crate::output::end_with;
+use crate::schedule::read_events;
+use hart::need::Report;
+use poll_close::{Refused, RingKind, deliver};
+use std::alloc::{AllocError, Global};
+use std::io::{Read, Write};
+
+impl From<Refused> for Fault {
+    ghost from_gives = { λ why fault. fault ≡ told_as why };
+
+    fn from(why: Refused) -> Fault {
+        match why {
+            Refused::NoMemory => Fault::NoMemory,
+            Refused::ZeroWord { sender, place } => {
+                Fault::refused(why.number(), Place::Word { sender, place })
+            }
+            _ => Fault::refused(why.number(), Place::Nowhere),
+        }
+    }
+}
+
+/// Appends a report's text, and a line end.
+fn push_report_line(out: &mut String, report: Report) -> Result<(), AllocError>
+    ensures { OnOk result (string_bytes out.new ≡ string_bytes out.old ++ report_line report) }
+{
+    match report {
+        Report::Took { sender, word } => writeln!(out, "took {sender} {word}"),
+        Report::Closed { sender } => writeln!(out, "closed {sender}"),
+    }
+}
+
+/// The lines of all reports.
+fn reports_text(alloc: Global, reports: &[Report]) -> Result<String, AllocError>
+    ensures { IfOk result (λ text. string_bytes text ≡ flat_map report_line reports.now) }
+{
+    let mut text = String::new(alloc);
+    for report in reports {
+        push_report_line(&mut text, *report)?;
+    }
+    Ok(text)
+}
+
+/// What is to be written for the inputs that the readers give.
+fn made<K: RingKind, const B: usize, const M: usize, S: Read, L: Read>(
+    alloc: Global,
+    ring: u32,
+    schedule: &mut S,
+    input: &mut L,
+) -> Result<(String, ()), Fault>
+    requires some_capacity { 1 ≤ B }
+    requires capacity { B ≤ 64 }
+    requires some_word { 1 ≤ M }
+    requires size { M ≤ 65536 }
+    ensures made { Finds (AnswersBoth (IsChannelAnswer K.ring B M ring) (S.remaining schedule.old) (L.remaining input.old)) text_and_value result }
+    ensures unread { HasNoSchedule (S.remaining schedule.old) → input.new ≡ input.old }
+{
+    let events = read_events(alloc, schedule)?;
+    let lists = read_lists(alloc, input)?;
+    let reports = deliver::<K, B, M>(alloc, &lists, ring, &events)?;
+    let text = reports_text(alloc, &reports)?;
+    Ok((text, ()))
+}
+
+/// Reads a schedule and then the senders' lists, each to its end: a line of words in decimal, parted by
+/// spaces, for each sender. Runs the schedule's events from the opening of a channel of kind `K` with
+/// `ring` slots over these lists, with store buffers of `B` pairs and `M` words of memory, and writes
+/// what the receiver reports, `took I W` or `closed I` on a line each. Whatever the schedule is, these
+/// reports are clean.
+///
+/// The schedule is refused as [`crate::run::run_engine`] refuses it, and the lists are not read then.
+/// An input of lists is refused as too large ([`crate::fault::TOO_LARGE`]), as no text
+/// ([`crate::fault::NOT_TEXT`]), else at its first line that holds anything but such words
+/// ([`crate::fault::BAD_LINE`]). Lists are refused by the numbers of [`poll_close::Refused`]. Then nothing
+/// was written.
+pub fn channel_engine<K: RingKind, const B: usize, const M: usize, S: Read, L: Read, W: Write>(
+    alloc: Global,
+    ring: u32,
+    schedule: &mut S,
+    input: &mut L,
+    writer: &mut W,
+) -> Result<(), Fault>
+    requires some_capacity { 1 ≤ B }
+    requires capacity { B ≤ 64 }
+    requires some_word { 1 ≤ M }
+    requires size { M ≤ 65536 }
+    ensures ends { EndsByBoth (IsChannelAnswer K.ring B M ring) result (S.remaining schedule.old) (L.remaining input.old) W.contents writer.old writer.new }
+    ensures unread { HasNoSchedule (S.remaining schedule.old) → input.new ≡ input.old }
+{
+    end_with(made::<K, B, M, S, L>(alloc, ring, schedule, input), writer)
+}
