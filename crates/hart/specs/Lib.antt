@@ -1,4 +1,4 @@
 pub mod State
 pub mod Effects
 pub mod Steps
-pub mod Fields
+pub mod inner

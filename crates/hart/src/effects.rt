@@ -2,9 +2,11 @@
 
 ghost use Rattle.std.specs.Prelude.{◌≡◌, ◌<◌};
 ghost use Rattle.rv_decode.specs.Fits.{Fits};
-ghost use Rattle.hart.specs.Effects.{updated, computed, with_immediate, shifted, is_taken, read, written, next_pc, address, registers_after, pc_after};
+ghost use Rattle.hart.specs.Effects.{load_width, store_width, sign_extended, extended, stored, updated, computed, with_immediate, shifted, is_taken, read, written, next_pc, address, registers_after, pc_after};
 
-use rv_decode::instruction::{AmoOp, BranchOp, ImmediateOp, Instr, Reg, RegisterOp, ShiftOp};
+use rv_decode::instruction::{
+    AmoOp, BranchOp, ImmediateOp, Instr, LoadOp, Reg, RegisterOp, ShiftOp, StoreOp,
+};
 
 /// The word that an atomic memory operation leaves in memory, of the word `old` that was there and
 /// its source register `rs2`.
@@ -63,6 +65,52 @@ fn shifted(op: ShiftOp, word: u32, amount: u32) -> u32
         ShiftOp::Left => word << amount,
         ShiftOp::Right => word >> amount,
         ShiftOp::RightArithmetic => (word.cast_signed() >> amount).cast_unsigned(),
+    }
+}
+
+/// How many bytes a load reads.
+pub(crate) fn load_width(op: LoadOp) -> u32
+    ensures value { result ≡ load_width op }
+    ensures some { 0 < result }
+{
+    match op {
+        LoadOp::Byte | LoadOp::ByteUnsigned => 1,
+        LoadOp::Half | LoadOp::HalfUnsigned => 2,
+        LoadOp::Word => 4,
+    }
+}
+
+/// How many bytes a store writes.
+pub(crate) fn store_width(op: StoreOp) -> u32
+    ensures value { result ≡ store_width op }
+    ensures some { 0 < result }
+{
+    match op {
+        StoreOp::Byte => 1,
+        StoreOp::Half => 2,
+        StoreOp::Word => 4,
+    }
+}
+
+/// The number that a store writes, of its register's word.
+pub(crate) fn stored(op: StoreOp, word: u32) -> u32
+    ensures { result ≡ stored op word }
+{
+    match op {
+        StoreOp::Byte => word % 256,
+        StoreOp::Half => word % 65536,
+        StoreOp::Word => word,
+    }
+}
+
+/// The word that a load leaves, of the number that it read.
+fn extended(op: LoadOp, read: u32) -> u32
+    ensures { result ≡ extended op read }
+{
+    match op {
+        LoadOp::Byte if read >= 128 => read.wrapping_sub(256),
+        LoadOp::Half if read >= 32768 => read.wrapping_sub(65536),
+        _ => read,
     }
 }
 
@@ -132,7 +180,7 @@ pub(crate) fn pc_after(instr: &Instr, registers: &[u32; 32], pc: u32) -> u32
     }
 }
 
-/// Leaves the registers as the instruction at `pc` does; `loaded` is the word that a load or an
+/// Leaves the registers as the instruction at `pc` does; `loaded` is the number that a load or an
 /// AMO read, and is not looked at elsewhere.
 pub(crate) fn apply(instr: &Instr, registers: &mut [u32; 32], pc: u32, loaded: u32)
     requires { Fits instr.now }
@@ -143,7 +191,7 @@ pub(crate) fn apply(instr: &Instr, registers: &mut [u32; 32], pc: u32, loaded: u
         Instr::Auipc { rd, upper } => (rd, pc.wrapping_add(upper << 12)),
         Instr::Jal { rd, .. } => (rd, next_pc(pc)),
         Instr::Jalr { rd, .. } => (rd, next_pc(pc)),
-        Instr::Load { rd, .. } => (rd, loaded),
+        Instr::Load { op, rd, .. } => (rd, extended(op, loaded)),
         Instr::Immediate {
             op,
             rd,

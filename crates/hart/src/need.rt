@@ -12,15 +12,16 @@ pub enum Report {
     Closed { sender: u32 },
 }
 
-/// What the next instruction of a hart wants. Addresses are in bytes, aligned and in range.
+/// What the next instruction of a hart wants. A width is 1, 2 or 4 bytes; an address is in bytes, in
+/// range, and a multiple of the width (4 for an AMO).
 #[derive(Clone, Copy, Debug, PartialEq, Eq)]
 pub enum Need {
     /// Nothing: registers and pc alone change.
     Inner,
-    /// The word at this address.
-    Load { addr: u32 },
-    /// This value stored at this address.
-    Store { addr: u32, value: u32 },
+    /// The number in `width` bytes from this address on, the lowest byte first.
+    Load { addr: u32, width: u32 },
+    /// This number, below 2 to the power of 8 `width`, stored to `width` bytes from this address on.
+    Store { addr: u32, width: u32, value: u32 },
     /// The word at this address, replaced by `amo(op, word, rs2)` in one step.
     Amo { addr: u32, op: AmoOp, rs2: u32 },
     /// A fence; a full one orders earlier stores before later loads.

@@ -7,9 +7,9 @@ ghost use Rattle.std.specs.Prelude.{◌≡◌};
 pub enum Stop {
     /// The word at the pc means no instruction.
     Illegal,
-    /// The address of a load, store or AMO isn't a multiple of 4.
+    /// The address of a load, store or AMO isn't a multiple of how many bytes it has.
     Misaligned,
-    /// A load or store of a byte or a halfword.
+    /// Kept for its number: no instruction stops a hart so.
     SubWord,
     /// The address of a load, store or AMO is past the memory.
     OutOfRange,

@@ -119,12 +119,12 @@ fn jumps_end_run_out_or_stop(rt: HostRuntime) -> Result<(), Fail> {
 #[test]
 fn needs_are_named(rt: HostRuntime) -> Result<(), Fail> {
     let cases = [
-        (LW_X5_X6, 16380, Need::Load { addr: 16380 }),
+        (LW_X5_X6, 16380, Need::Load { addr: 16380, width: 4 }),
         (LW_X5_X6, 2, Need::Stop(Stop::Misaligned)),
         (LW_X5_X6, 16386, Need::Stop(Stop::Misaligned)),
         (LW_X5_X6, 16384, Need::Stop(Stop::OutOfRange)),
-        (LB_X5_X6, 2, Need::Stop(Stop::SubWord)),
-        (SW_X5_X6, 8, Need::Store { addr: 8, value: 8 }),
+        (LB_X5_X6, 2, Need::Load { addr: 2, width: 1 }),
+        (SW_X5_X6, 8, Need::Store { addr: 8, width: 4, value: 8 }),
         (
             AMOADD_X5_X7_X6,
             8,

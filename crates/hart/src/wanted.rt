@@ -1,7 +1,7 @@
 //! The needs of single instructions.
 
-ghost use Rattle.std.specs.Prelude.{◌≡◌, ◌≤◌};
-ghost use Rattle.hart.specs.Steps.{jump_need, word_need, call_need, is_full};
+ghost use Rattle.std.specs.Prelude.{◌≡◌, ◌≤◌, ◌<◌};
+ghost use Rattle.hart.specs.Steps.{jump_need, access_need, call_need, is_full};
 
 use crate::need::{Need, Report};
 use crate::status::Stop;
@@ -25,12 +25,13 @@ pub(crate) fn jump_need(target: u32) -> Need
     }
 }
 
-/// What an access to the word at `addr` wants, in a memory of so many words.
-pub(crate) fn word_need(words: usize, addr: u32, wanted: Need) -> Need
-    requires { words ≤ 65536 }
-    ensures { result ≡ word_need words addr wanted }
+/// What an access to `width` bytes from `addr` on wants, in a memory of so many words.
+pub(crate) fn access_need(words: usize, width: u32, addr: u32, wanted: Need) -> Need
+    requires words { words ≤ 65536 }
+    requires some { 0 < width }
+    ensures { result ≡ access_need words width addr wanted }
 {
-    if addr % 4 != 0 {
+    if addr % width != 0 {
         Need::Stop(Stop::Misaligned)
     } else if (addr as usize) < 4 * words {
         wanted

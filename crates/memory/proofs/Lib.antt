@@ -1,1 +1,5 @@
+pub mod Bytes
 pub mod Newest
+pub mod WholeWords
+pub mod MemoryBytes
+pub mod Joined

@@ -1,40 +1,38 @@
--- The newest store at an address is the last of the list there.
-use Rattle.std.proofs.Common.{◌≡◌, ℕ, ◌==◌, if◌then◌else◌, List, [], ◌∷◌, Bool, true, false, Option, Some, None, refl, ◌∙◌, sym}
-use Rattle.std.specs.Prelude.{find, reverse}
-use Rattle.std.specs.Option.{option_map, option_or}
-use Rattle.std.proofs.lemmas.Grind.{reverse_onto}
-use Rattle.std.proofs.lemmas.List.Folds.{find-append}
-use Rattle.memory.specs.Words.{newest_of}
+-- The last write of a list to an address: over a list with more at its end, and where none is there.
+use Rattle.std.proofs.Common.{◌≡◌, ◌≢◌, ℕ, ◌-◌, ◌==◌, List, [], ◌∷◌, ◌++◌, Option, Some, None, refl, ◌∙◌, ap}
+use Rattle.std.specs.Prelude.{if◌then◌else◌, All, false}
+use Rattle.std.specs.Int.{byte_at}
+use Rattle.std.proofs.lemmas.Bool.{ne_eqb}
+use Rattle.std.proofs.lemmas.List.Elements.{All-head, All-tail}
+use Rattle.memory.specs.declared.writes.Write.{Write}
+use Rattle.memory.specs.Writes.{covers, newest_of, newest_word}
 
-abbrev pub is_at : ℕ → ℕ × ℕ → Bool
-is_at a p = p.0 == a
+pub newest_of-append : (a : ℕ) (found : Option ℕ) (ws vs : List Write) → newest_of a found (ws ++ vs) ≡ newest_of a (newest_of a found ws) vs
+newest_of-append a found [] vs = refl
+newest_of-append a found (w ∷ ws) vs = newest_of-append a (if covers w a then Some (byte_at (a - w.addr) w.value) else found) ws vs
 
-abbrev pub value_of : Option (ℕ × ℕ) → Option ℕ
-value_of found = option_map (λ (p : ℕ × ℕ). p.1) found
+-- a list with one more write
+pub newest_of-last : (a : ℕ) (found : Option ℕ) (ws : List Write) (w : Write) → newest_of a found (ws ++ w ∷ []) ≡ (if covers w a then Some (byte_at (a - w.addr) w.value) else newest_of a found ws)
+newest_of-last a found ws w = newest_of-append a found ws (w ∷ [])
 
-abbrev last_at : ℕ → List (ℕ × ℕ) → Option (ℕ × ℕ)
-last_at a ps = find (is_at a) (reverse ps)
+-- a list of which no write covers the address
+pub newest_of-none : (a : ℕ) (found : Option ℕ) (ws : List Write) → All (λ w. covers w a ≡ false) ws → newest_of a found ws ≡ found
+newest_of-none a found [] none = refl
+newest_of-none a found (w ∷ ws) none =
+    ap (λ b. newest_of a (if b then Some (byte_at (a - w.addr) w.value) else found) ws) (All-head (λ (v : Write). covers v a ≡ false) w ws none)
+    ∙ newest_of-none a found ws (All-tail (λ (v : Write). covers v a ≡ false) w ws none)
 
-value_of-or : (b : Bool) (p : ℕ × ℕ) (late : Option (ℕ × ℕ)) (found : Option ℕ)
-    → option_or (value_of (option_or late (if b then Some p else None))) found
-    ≡ option_or (value_of late) (if b then Some p.1 else found)
-value_of-or true p None found = refl
-value_of-or true p (Some q) found = refl
-value_of-or false p None found = refl
-value_of-or false p (Some q) found = refl
+-- the same of whole words
 
-option_or-none : (found : Option ℕ) → option_or found None ≡ found
-option_or-none None = refl
-option_or-none (Some v) = refl
+pub newest_word-append : (a : ℕ) (found : Option ℕ) (ws vs : List Write) → newest_word a found (ws ++ vs) ≡ newest_word a (newest_word a found ws) vs
+newest_word-append a found [] vs = refl
+newest_word-append a found (w ∷ ws) vs = newest_word-append a (if w.addr == a then Some w.value else found) ws vs
 
-newest_of-found : (a : ℕ) (found : Option ℕ) (ps : List (ℕ × ℕ))
-    → newest_of a found ps ≡ option_or (value_of (last_at a ps)) found
-newest_of-found a found [] = refl
-newest_of-found a found (p ∷ ps) =
-    rw (reverse_onto ps p [], find-append (is_at a) (reverse ps) (p ∷ []))
-    (newest_of-found a (if is_at a p then Some p.1 else found) ps ∙ sym (value_of-or (is_at a p) p (last_at a ps) found))
+pub newest_word-last : (a : ℕ) (found : Option ℕ) (ws : List Write) (w : Write) → newest_word a found (ws ++ w ∷ []) ≡ (if w.addr == a then Some w.value else newest_word a found ws)
+newest_word-last a found ws w = newest_word-append a found ws (w ∷ [])
 
--- newest_of is the value of the last pair at the address
-pub newest_of_last : (a : ℕ) (ps : List (ℕ × ℕ)) (last : Option (ℕ × ℕ))
-    → last ≡ find (is_at a) (reverse ps) → newest_of a None ps ≡ value_of last
-newest_of_last a ps last h = rw h (newest_of-found a None ps ∙ option_or-none (value_of (last_at a ps)))
+pub newest_word-none : (a : ℕ) (found : Option ℕ) (ws : List Write) → All (λ w. w.addr ≢ a) ws → newest_word a found ws ≡ found
+newest_word-none a found [] none = refl
+newest_word-none a found (w ∷ ws) none =
+    ap (λ b. newest_word a (if b then Some w.value else found) ws) (ne_eqb w.addr a (All-head (λ (v : Write). v.addr ≢ a) w ws none))
+    ∙ newest_word-none a found ws (All-tail (λ (v : Write). v.addr ≢ a) w ws none)

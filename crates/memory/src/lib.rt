@@ -1,11 +1,12 @@
 //! One word memory, and a hart's FIFO of stores that have not reached it.
 //!
 //! The contract: a [`words::Memory`] is seen as the list of its words and a
-//! [`store_buffer::StoreBuffer`] as the list of its pending pairs of address and value, oldest first;
-//! each call is one step on that list. This crate knows no hart, no instruction and no order between
-//! buffers, and takes memory in `Memory::new` alone.
+//! [`store_buffer::StoreBuffer`] as the list of its pending writes, oldest first; each call is one step on
+//! that list. A write covers 1, 2 or 4 bytes of one word, the lowest first. This crate knows no hart, no
+//! instruction and no order between buffers, and takes memory in `Memory::new` alone.
 
 #![tactic(auto)]
 
 pub mod store_buffer;
 pub mod words;
+pub mod writes;

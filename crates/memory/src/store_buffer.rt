@@ -1,22 +1,25 @@
 //! The stores of one hart that other harts don't see yet.
 
-ghost use Rattle.std.specs.Prelude.{◌≡◌, ℕ, ◌<◌, ◌≤◌, ◌==◌, [], ◌∷◌, ◌++◌, Option, None, find, length, drop, reverse, slice_get};
-ghost use Rattle.memory.specs.Words.{newest_of};
+ghost use Rattle.std.specs.Prelude.{◌≡◌, ℕ, ◌<◌, ◌≤◌, ◌==◌, [], ◌∷◌, ◌++◌, Option, None, length, drop, slice_get, unwrap_or};
+ghost use Rattle.std.specs.Int.{byte_at};
+ghost use Rattle.memory.specs.Writes.{write, newest_of, overlaid, IsInWord};
 
+use crate::writes::Write;
 use arrayvec::ArrayVec;
 use std::marker::Model;
 
-/// Up to `B` pending stores, each its byte address and its value; seen as their list, oldest first.
+/// Up to `B` pending stores, each of some bytes of one word; seen as their list, oldest first.
 #[derive(Drop)]
 pub struct StoreBuffer<const B: usize> {
-    stores: ArrayVec<(u32, u32), B>,
+    stores: ArrayVec<Write, B>,
 }
 
 impl<const B: usize> Model for StoreBuffer<B> {
     ghost use Rattle.std.specs.Prelude.{ℕ, List};
     ghost use Rattle.memory.specs.Words.{IsBuffer};
+    ghost use Rattle.memory.specs.declared.writes.Write.{Write};
 
-    ghost Value = { List (ℕ × ℕ) };
+    ghost Value = { List Write };
 
     ghost view = { λ b. b.stores.items };
 
@@ -50,31 +53,49 @@ impl<const B: usize> StoreBuffer<B> {
     }
 
     /// The pending stores, oldest first.
-    pub fn as_slice(&self) -> &[(u32, u32)]
+    pub fn as_slice(&self) -> &[Write]
         ensures { result.now ≡ self.now }
     {
         self.stores.as_slice()
     }
 
-    /// Appends a store, the newest from now on.
-    pub fn push(&mut self, addr: u32, value: u32)
-        requires { length self.old < B }
-        ensures { self.new ≡ self.old ++ (addr, value) ∷ [] }
+    /// Appends a store of `width` bytes, the newest from now on.
+    pub fn push(&mut self, addr: u32, width: u32, value: u32)
+        requires room { length self.old < B }
+        requires in_word { IsInWord width addr }
+        ensures { self.new ≡ self.old ++ write addr width value ∷ [] }
     {
-        self.stores.push((addr, value));
+        self.stores.push(Write { addr, width, value });
     }
 
-    /// The value of the newest store at byte address `addr`, which a load of the same hart reads.
-    #[tactic(auto, using(crate::proofs::Newest::newest_of_last))]
-    pub fn newest(&self, addr: u32) -> Option<u32>
+    /// The byte that the newest store to cover byte address `addr` puts there.
+    pub fn newest(&self, addr: u32) -> Option<u8>
         ensures { result ≡ newest_of addr None self.now }
     {
-        let store = last_at(&self.stores, addr)?;
-        Some(store.1)
+        let mut found = None;
+        for store in self.stores.as_slice() {
+            if store.covers(addr) {
+                found = Some(store.byte(addr));
+            }
+        }
+        found
+    }
+
+    /// The word around byte address `addr` as a load of the same hart finds it, where memory has `word`.
+    pub fn over(&self, addr: u32, word: u32) -> u32
+        ensures { result ≡ overlaid addr word self.now }
+    {
+        let mut found = word;
+        for store in self.stores.as_slice() {
+            if store.addr / 4 == addr / 4 {
+                found = store.over(found);
+            }
+        }
+        found
     }
 
     /// Takes the oldest store out, which is the one that reaches the memory.
-    pub fn land(&mut self) -> Option<(u32, u32)>
+    pub fn land(&mut self) -> Option<Write>
         ensures value { result ≡ slice_get self.old 0 }
         ensures rest { self.new ≡ drop 1 self.old }
     {
@@ -89,27 +110,21 @@ impl<const B: usize> StoreBuffer<B> {
     }
 }
 
-fn last_at(stores: &[(u32, u32)], addr: u32) -> Option<(u32, u32)>
-    ensures { result ≡ find (λ p. p.0 == addr) (reverse stores.now) }
-{
-    stores.iter().rev().copied().find(|store| store.0 == addr)
-}
-
 #[cfg(test)]
 mod tests {
     use super::StoreBuffer;
+    use crate::writes::Write;
 
     #[test]
     fn stores_land_in_their_order(rt: HostRuntime) {
         let mut buffer = StoreBuffer::<4>::new();
-        buffer.push(0, 1);
-        buffer.push(8, 2);
-        buffer.push(0, 3);
+        buffer.push(0, 4, 1);
+        buffer.push(8, 4, 2);
+        buffer.push(0, 4, 3);
         assert_eq!(rt; buffer.len(), 3);
         assert_eq!(rt; buffer.newest(0), Some(3));
         assert_eq!(rt; buffer.newest(4), None);
-        assert_eq!(rt; buffer.land(), Some((0, 1)));
-        assert_eq!(rt; buffer.as_slice(), [(8, 2), (0, 3)].as_slice());
+        assert_eq!(rt; buffer.land(), Some(Write { addr: 0, width: 4, value: 1 }));
         assert!(rt; !buffer.is_empty());
         buffer.clear();
         assert!(rt; buffer.is_empty());

@@ -2,7 +2,9 @@
 
 ghost use Rattle.std.specs.Prelude.{◌≡◌, ◌+◌, ◌*◌, ◌/◌, ◌<◌, ◌≤◌, ◌++◌, length, drop, replicate, slice_index, slice_set, IfOk};
 ghost use Rattle.memory.specs.Words.{IsAddress};
+ghost use Rattle.memory.specs.Writes.{write, over, byte_of, IsInWord};
 
+use crate::writes::{Write, byte_at};
 use std::alloc::{AllocError, Global};
 use std::marker::Model;
 
@@ -56,6 +58,25 @@ impl<const M: usize> Memory<M> {
     {
         let index = (addr / 4) as usize;
         self.words[index] = value;
+    }
+
+    /// The byte at address `addr`.
+    pub fn load_byte(&self, addr: u32) -> u8
+        requires { addr < 4 * M }
+        ensures { result ≡ byte_of self.now addr }
+    {
+        byte_at(self.words[(addr / 4) as usize], addr % 4)
+    }
+
+    /// Makes the `width` bytes from `addr` on, all of one word, those of `value`, the lowest first.
+    pub fn store_bytes(&mut self, addr: u32, width: u32, value: u32)
+        requires within { addr < 4 * M }
+        requires in_word { IsInWord width addr }
+        ensures { self.new ≡ slice_set self.old (addr / 4) (over (write addr width value) (slice_index self.old (addr / 4))) }
+    {
+        let index = (addr / 4) as usize;
+        let write = Write { addr, width, value };
+        self.words[index] = write.over(self.words[index]);
     }
 
     /// Makes the word at byte address `addr` the one that `words` has there, and 0 where it has none,

@@ -1,8 +1,7 @@
 -- What one more entry at the end does to a hart's own entries, its stores and landings, its pending
 -- stores, what landed, and its path.
-use Rattle.std.proofs.Common.{◌≡◌, ℕ, ◌+◌, ◌≤◌, ◌==◌, true, false, if◌then◌else◌, List, [], ◌∷◌, ◌++◌, length, drop, Option, Some, refl, sym, ◌∙◌, ap, append_assoc, add_assoc, zero-add, arith, append-nil}
+use Rattle.std.proofs.Common.{◌≡◌, ℕ, ◌+◌, ◌≤◌, true, false, if◌then◌else◌, List, [], ◌∷◌, ◌++◌, length, drop, refl, sym, ◌∙◌, ap, append_assoc, add_assoc, zero-add, arith, append-nil}
 use Rattle.std.proofs.lemmas.List.{drop-append-le, drop-drop}
-use Rattle.memory.specs.Words.{newest_of}
 use Rattle.hart.specs.State.{HartState}
 use Rattle.hart.specs.Steps.{advanced}
 use Rattle.step_machine.specs.declared.events.Entry.{Entry}
@@ -41,10 +40,6 @@ landed_after-append before (e ∷ es) fs =
 
 pub landed-last : (es : List Entry) (e : Entry) → landed (es ++ e ∷ []) ≡ landed es ++ write_of es e
 landed-last es e = landed_after-append [] es (e ∷ []) ∙ ap (λ t. landed es ++ t) (append-nil (write_of es e))
-
-pub newest_of-append : (a : ℕ) (found : Option ℕ) (ps qs : List (ℕ × ℕ)) → newest_of a found (ps ++ qs) ≡ newest_of a (newest_of a found ps) qs
-newest_of-append a found [] qs = refl
-newest_of-append a found (p ∷ ps) qs = newest_of-append a (if p.0 == a then Some p.1 else found) ps qs
 
 pub after_entries-append : (s : HartState) (es fs : List Entry) → after_entries s (es ++ fs) ≡ after_entries (after_entries s es) fs
 after_entries-append s [] fs = refl

@@ -2,11 +2,11 @@
 use Rattle.std.proofs.Common.{◌≡◌, ℕ, ◌+◌, ◌-◌, ◌≤◌, ◌<◌, ◌==◌, Bool, true, false, if◌then◌else◌, List, [], ◌∷◌, ◌++◌, length, refl, ◌∙◌, ap, subst, arith, length-append, length-drop, append-nil, append_assoc}
 use Rattle.std.proofs.lemmas.Bool.{eqb-true}
 use Rattle.step_machine.specs.declared.events.Entry.{Entry}
-use Rattle.step_machine.specs.declared.events.Entry.TheVariants as entry
+use Rattle.step_machine.specs.Access.{Access, nothing, load, store, exchange, fence, land, access_of}
 use Rattle.step_machine.specs.History.{Start, History}
-use Rattle.step_machine.specs.Entries.{stores, land_of, lands, pending}
-use Rattle.step_machine.specs.Legal.{Allowed, LegalAfter, Legal}
-use Rattle.step_machine.proofs.Appended.{stores-append, lands-append}
+use Rattle.step_machine.specs.Entries.{hart_of, stored_by, store_of, stores, landed_by, land_of, lands, pending, read}
+use Rattle.step_machine.specs.Legal.{AllowedBy, Allowed, LegalAfter, Legal}
+use Rattle.step_machine.proofs.Appended.{stores-append, lands-append, pending-last}
 
 land_of_allowed : (B : ℕ) (o : Start) (before : List Entry) (h g : ℕ) (b : Bool) → (g == h) ≡ b → 0 < length (pending g before) → (if b then 1 else 0) ≤ length (pending h before)
 land_of_allowed B o before h g true is some =
@@ -17,17 +17,15 @@ land_of_allowed B o before h g false is some = omega arith
 
 -- an entry lands no more of a hart than is pending
 pub land_of-allowed : (B : ℕ) (o : Start) (before : List Entry) (h : ℕ) (e : Entry) → Allowed B o before e → land_of h e ≤ length (pending h before)
-land_of-allowed B o before h (entry.Inner g) a = omega arith
-land_of-allowed B o before h (entry.Load g x v) a = omega arith
-land_of-allowed B o before h (entry.Store g x v) a = omega arith
-land_of-allowed B o before h (entry.Amo g x old new) a = omega arith
-land_of-allowed B o before h (entry.Fence g full) a = omega arith
-land_of-allowed B o before h (entry.Next g w) a = omega arith
-land_of-allowed B o before h (entry.Took g i w) a = omega arith
-land_of-allowed B o before h (entry.Closed g i) a = omega arith
-land_of-allowed B o before h (entry.Ended g) a = omega arith
-land_of-allowed B o before h (entry.Stopped g why) a = omega arith
-land_of-allowed B o before h (entry.Land g) a = land_of_allowed B o before h g (g == h) refl a
+land_of-allowed B o before h e a = at (access_of e) a
+  where
+    at : (x : Access) → AllowedBy B (pending (hart_of e) before) (read o before (hart_of e)) x → landed_by (hart_of e == h) x ≤ length (pending h before)
+    at nothing may = omega arith
+    at (load a width v) may = omega arith
+    at (store w) may = omega arith
+    at (exchange a old new) may = omega arith
+    at (fence full) may = omega arith
+    at land may = land_of_allowed B o before h (hart_of e) (hart_of e == h) refl may
 
 pub balanced-last : (B : ℕ) (o : Start) (before : List Entry) (h : ℕ) (e : Entry) → Allowed B o before e → lands h before ≤ length (stores h before) → lands h (before ++ e ∷ []) ≤ length (stores h (before ++ e ∷ []))
 balanced-last B o before h e a le =
@@ -44,3 +42,34 @@ balanced-after B o before (e ∷ es) h l le =
 
 pub balanced : (B : ℕ) (t : History) (h : ℕ) → Legal B t → lands h t.entries ≤ length (stores h t.entries)
 balanced B t h l = balanced-after B t.opening [] t.entries h l (omega arith)
+
+-- and at most B of its stores are pending
+
+stored_fits : (B : ℕ) (o : Start) (before : List Entry) (h : ℕ) (e : Entry) → Allowed B o before e → length (pending h before) ≤ B → length (pending h before) + length (store_of h e) ≤ B
+stored_fits B o before h e may few = at (access_of e) (hart_of e == h) refl may
+  where
+    at : (x : Access) (b : Bool) → (hart_of e == h) ≡ b → AllowedBy B (pending (hart_of e) before) (read o before (hart_of e)) x → length (pending h before) + length (stored_by b x) ≤ B
+    at (store w) true is room =
+        let here : length (pending h before) < B = subst (λ (k : ℕ). length (pending k before) < B) (eqb-true (hart_of e) h is) room in
+        omega arith
+    at (store w) false is room = omega arith
+    at nothing b is any = omega arith
+    at (load a width v) b is any = omega arith
+    at (exchange a old new) b is any = omega arith
+    at (fence full) b is any = omega arith
+    at land b is any = omega arith
+
+few-last : (B : ℕ) (o : Start) (before : List Entry) (h : ℕ) (e : Entry) → Allowed B o before e → lands h before ≤ length (stores h before) → length (pending h before) ≤ B → length (pending h (before ++ e ∷ [])) ≤ B
+few-last B o before h e may le few =
+    let fits : length (pending h before) + length (store_of h e) ≤ B = stored_fits B o before h e may few in
+    let count : length (pending h (before ++ e ∷ [])) ≡ length (pending h before ++ store_of h e) - land_of h e = ap length (pending-last h before e le) ∙ length-drop (land_of h e) (pending h before ++ store_of h e) in
+    let sum : length (pending h before ++ store_of h e) ≡ length (pending h before) + length (store_of h e) = length-append (pending h before) (store_of h e) in
+    omega arith
+
+few-after : (B : ℕ) (o : Start) (before es : List Entry) (h : ℕ) → LegalAfter B o before es → lands h before ≤ length (stores h before) → length (pending h before) ≤ B → length (pending h (before ++ es)) ≤ B
+few-after B o before [] h l le few = rw append-nil few
+few-after B o before (e ∷ es) h l le few =
+    rw (← append_assoc before (e ∷ []) es) (few-after B o (before ++ e ∷ []) es h l.1 (balanced-last B o before h e l.0 le) (few-last B o before h e l.0 le few))
+
+pub pending_few : (B : ℕ) (t : History) (h : ℕ) → Legal B t → length (pending h t.entries) ≤ B
+pending_few B t h l = few-after B t.opening [] t.entries h l (omega arith) (omega arith)

@@ -1,10 +1,10 @@
 -- One more entry: what the machine holds after it is what the longer history says.
-use Rattle.std.proofs.Common.{◌≡◌, ℕ, ◌<◌, false, List, [], ◌∷◌, ◌++◌, length, take, drop, get_or, Option, Some, None, refl, sym, ◌∙◌, ap, subst, arith, append-nil}
+use Rattle.std.proofs.Common.{◌≡◌, ℕ, ◌*◌, ◌<◌, false, List, [], ◌∷◌, ◌++◌, length, take, drop, get_or, Option, Some, None, refl, sym, ◌∙◌, ap, subst, arith, append-nil}
 use Rattle.std.specs.Prelude.{option_map, All}
 use Rattle.std.specs.List.{slice_get}
 use Rattle.std.proofs.lemmas.Option.{slice_get_within, get_or_from_slice_get}
 use Rattle.std.proofs.lemmas.List.Elements.{All-head}
-use Rattle.memory.specs.Words.{IsAddress}
+use Rattle.memory.specs.Writes.{WritesInWord, write, byte_of}
 use Rattle.hart.specs.State.{HartState, HartView}
 use Rattle.hart.specs.Steps.{need_of}
 use Rattle.hart.specs.declared.need.Need.{Need}
@@ -13,17 +13,18 @@ use Rattle.hart.specs.declared.need.Report.TheVariants as report
 use Rattle.step_machine.specs.declared.events.Entry.{Entry}
 use Rattle.step_machine.specs.declared.events.Entry.TheVariants as entry
 use Rattle.step_machine.specs.History.{History, with_entry}
-use Rattle.step_machine.specs.Entries.{hart_of, is_land, pending, write_of, reported, memory_word}
+use Rattle.step_machine.specs.Entries.{hart_of, is_land, pending, write_of, landed, reported, memory_byte}
 use Rattle.step_machine.specs.Paths.{entry_of, value_of, CanMake, state_of}
 use Rattle.step_machine.specs.Legal.{Legal, Kept}
 use Rattle.step_machine.specs.Runs.{CanFollow}
-use Rattle.step_machine.specs.Config.{Config, IsInRange, buffer_of, word_at, step_hart, write_first, after_entry, HasAddress, Fit}
-use Rattle.step_machine.specs.Ties.{view_state, Tied}
+use Rattle.step_machine.specs.inner.Config.{Config, IsPlace, IsInRange, buffer_of, step_hart, write_first, after_entry, HasAddress, Fit}
+use Rattle.step_machine.specs.inner.Ties.{view_state, Tied}
 use Rattle.step_machine.proofs.Decides.{need_of-in_range}
 use Rattle.step_machine.proofs.Appended.{reported-last}
 use Rattle.step_machine.proofs.Follows.{act_only}
 use Rattle.step_machine.proofs.Happening.{none-no_hart}
-use Rattle.step_machine.proofs.Stays.{states_stay, states_land, firsts_stay, reports_stay, pending-other, pending-store, pending-land, store_of-other, land_of-other, buffers_stay, memory_word-other, words_stay}
+use Rattle.step_machine.proofs.Stays.{states_stay, states_land, firsts_stay, reports_stay, pending-other, pending-store, pending-land, store_of-other, land_of-other, buffers_stay, in_words_other, in_words_write, memory_byte-other, bytes_stay}
+use Rattle.memory.specs.declared.writes.Write.{Write}
 
 -- an entry that follows, of hart h in state s
 pub record Acts (M : ℕ) (t : History) (c : Config) (h : ℕ) (s : HartState) (e : Entry) : Type 0 where
@@ -41,36 +42,43 @@ carried_plain B M t c h s e legal tied acts same none =
       firsts = firsts_stay M t c h (value_of e) tied;
       reports = reports_stay M t c h e s tied acts.mine acts.state acts.made;
       buffers = λ k. tied.buffers k ∙ sym (same k);
-      words = λ a is. tied.words a is ∙ sym (memory_word-other t.opening t.entries e a none);
+      in_words = in_words_other t.entries e none tied.in_words;
+      bytes = λ a is. tied.bytes a is ∙ sym (memory_byte-other t.opening t.entries e a none);
     }
 
-carried_store : (B M : ℕ) (t : History) (c : Config) (h a v : ℕ) (s : HartState) → Legal B t → Tied M t c → h < length c.buffers → Acts M t c h s (entry.Store h a v) → Tied M (with_entry t (entry.Store h a v)) (after_entry c (entry.Store h a v))
-carried_store B M t c h a v s legal tied within acts =
+carried_store : (B M : ℕ) (t : History) (c : Config) (h a width v : ℕ) (s : HartState) → Legal B t → Tied M t c → h < length c.buffers → Acts M t c h s (entry.Store h a width v) → Tied M (with_entry t (entry.Store h a width v)) (after_entry c (entry.Store h a width v))
+carried_store B M t c h a width v s legal tied within acts =
     record {
-      states = states_stay M t c h (entry.Store h a v) tied acts.mine acts.act;
+      states = states_stay M t c h (entry.Store h a width v) tied acts.mine acts.act;
       firsts = firsts_stay M t c h 0 tied;
-      reports = reports_stay M t c h (entry.Store h a v) s tied acts.mine acts.state acts.made;
-      buffers = buffers_stay M t c h (buffer_of c h ++ (a, v) ∷ []) (entry.Store h a v) tied within
-          (ap (λ ps. ps ++ (a, v) ∷ []) (tied.buffers h) ∙ sym (pending-store B t h a v legal))
-          (λ k ne. pending-other B t k (entry.Store h a v) legal (store_of-other h k a v ne) refl);
-      words = λ x is. tied.words x is ∙ sym (memory_word-other t.opening t.entries (entry.Store h a v) x refl);
+      reports = reports_stay M t c h (entry.Store h a width v) s tied acts.mine acts.state acts.made;
+      buffers = buffers_stay M t c h (buffer_of c h ++ write a width v ∷ []) (entry.Store h a width v) tied within
+          (ap (λ ps. ps ++ write a width v ∷ []) (tied.buffers h) ∙ sym (pending-store B t h a width v legal))
+          (λ k ne. pending-other B t k (entry.Store h a width v) legal (store_of-other h k a width v ne) refl);
+      in_words = in_words_other t.entries (entry.Store h a width v) refl tied.in_words;
+      bytes = λ x is. tied.bytes x is ∙ sym (memory_byte-other t.opening t.entries (entry.Store h a width v) x refl);
     }
 
-carried_amo : (B M : ℕ) (t : History) (c : Config) (h a old new : ℕ) (s : HartState) → Legal B t → Tied M t c → length c.words ≡ M → IsAddress M a → Acts M t c h s (entry.Amo h a old new) → Tied M (with_entry t (entry.Amo h a old new)) (after_entry c (entry.Amo h a old new))
+carried_amo : (B M : ℕ) (t : History) (c : Config) (h a old new : ℕ) (s : HartState) → Legal B t → Tied M t c → length c.words ≡ M → IsPlace M 4 a → Acts M t c h s (entry.Amo h a old new) → Tied M (with_entry t (entry.Amo h a old new)) (after_entry c (entry.Amo h a old new))
 carried_amo B M t c h a old new s legal tied count is acts =
     record {
       states = states_stay M t c h (entry.Amo h a old new) tied acts.mine acts.act;
       firsts = firsts_stay M t c h old tied;
       reports = reports_stay M t c h (entry.Amo h a old new) s tied acts.mine acts.state acts.made;
       buffers = λ k. tied.buffers k ∙ sym (pending-other B t k (entry.Amo h a old new) legal refl refl);
-      words = words_stay M t c (entry.Amo h a old new) a new tied count is refl;
+      in_words = in_words_write t.entries (entry.Amo h a old new) (write a 4 new) refl is.1 tied.in_words;
+      bytes = bytes_stay M t c (entry.Amo h a old new) (write a 4 new) tied count (is.1, is.2) refl;
     }
 
 -- what a landing writes, by what was pending
-landed_words : (M : ℕ) (t : History) (c : Config) (h : ℕ) (ps : List (ℕ × ℕ)) → Tied M t c → length c.words ≡ M → All (HasAddress M) ps → pending h t.entries ≡ ps → (a : ℕ) → IsAddress M a → word_at (record c { words = write_first ps c.words }) a ≡ memory_word t.opening (t.entries ++ entry.Land h ∷ []) a
-landed_words M t c h [] tied count all is a at_a = tied.words a at_a ∙ sym (memory_word-other t.opening t.entries (entry.Land h) a (ap (take 1) is))
-landed_words M t c h (p ∷ ps) tied count all is a at_a =
-    words_stay M t c (entry.Land h) p.0 p.1 tied count (All-head (HasAddress M) p ps all) (ap (take 1) is) a at_a
+landed_bytes : (M : ℕ) (t : History) (c : Config) (h : ℕ) (ps : List Write) → Tied M t c → length c.words ≡ M → All (HasAddress M) ps → pending h t.entries ≡ ps → (a : ℕ) → a < 4 * M → byte_of (write_first ps c.words) a ≡ memory_byte t.opening (t.entries ++ entry.Land h ∷ []) a
+landed_bytes M t c h [] tied count all is a at_a = tied.bytes a at_a ∙ sym (memory_byte-other t.opening t.entries (entry.Land h) a (ap (take 1) is))
+landed_bytes M t c h (p ∷ ps) tied count all is a at_a =
+    bytes_stay M t c (entry.Land h) p tied count (All-head (HasAddress M) p ps all) (ap (take 1) is) a at_a
+
+landed_in_words : (M : ℕ) (t : History) (c : Config) (h : ℕ) (ps : List Write) → Tied M t c → All (HasAddress M) ps → pending h t.entries ≡ ps → All WritesInWord (landed (t.entries ++ entry.Land h ∷ []))
+landed_in_words M t c h [] tied all is = in_words_other t.entries (entry.Land h) (ap (take 1) is) tied.in_words
+landed_in_words M t c h (p ∷ ps) tied all is = in_words_write t.entries (entry.Land h) p (ap (take 1) is) (All-head (HasAddress M) p ps all).0 tied.in_words
 
 carried_land : (B M : ℕ) (t : History) (c : Config) (h : ℕ) → Legal B t → Tied M t c → length c.words ≡ M → h < length c.buffers → All (HasAddress M) (buffer_of c h) → Tied M (with_entry t (entry.Land h)) (after_entry c (entry.Land h))
 carried_land B M t c h legal tied count within all =
@@ -81,14 +89,15 @@ carried_land B M t c h legal tied count within all =
       buffers = buffers_stay M t c h (drop 1 (buffer_of c h)) (entry.Land h) tied within
           (ap (drop 1) (tied.buffers h) ∙ sym (pending-land B t h legal))
           (λ k ne. pending-other B t k (entry.Land h) legal refl (land_of-other h k ne));
-      words = landed_words M t c h (buffer_of c h) tied count all (sym (tied.buffers h));
+      in_words = landed_in_words M t c h (buffer_of c h) tied all (sym (tied.buffers h));
+      bytes = landed_bytes M t c h (buffer_of c h) tied count all (sym (tied.buffers h));
     }
 
 -- the entry of an act, by what its hart needed
 carried_act : (B M : ℕ) (t : History) (c : Config) (h : ℕ) (s : HartState) (n : Need) (v : ℕ) → Legal B t → Tied M t c → Fit M c → h < length c.buffers → IsInRange M n → Acts M t c h s (entry_of h n v) → Tied M (with_entry t (entry_of h n v)) (after_entry c (entry_of h n v))
 carried_act B M t c h s need.Inner v legal tied fit within range acts = carried_plain B M t c h s (entry.Inner h) legal tied acts (λ k. pending-other B t k (entry.Inner h) legal refl refl) refl
-carried_act B M t c h s (need.Load a) v legal tied fit within range acts = carried_plain B M t c h s (entry.Load h a v) legal tied acts (λ k. pending-other B t k (entry.Load h a v) legal refl refl) refl
-carried_act B M t c h s (need.Store a w) v legal tied fit within range acts = carried_store B M t c h a w s legal tied within acts
+carried_act B M t c h s (need.Load a width) v legal tied fit within range acts = carried_plain B M t c h s (entry.Load h a width v) legal tied acts (λ k. pending-other B t k (entry.Load h a width v) legal refl refl) refl
+carried_act B M t c h s (need.Store a width w) v legal tied fit within range acts = carried_store B M t c h a width w s legal tied within acts
 carried_act B M t c h s (need.Amo a op rs2) v legal tied fit within range acts = carried_amo B M t c h a v _ s legal tied fit.words range acts
 carried_act B M t c h s (need.Fence full) v legal tied fit within range acts = carried_plain B M t c h s (entry.Fence h full) legal tied acts (λ k. pending-other B t k (entry.Fence h full) legal refl refl) refl
 carried_act B M t c h s (need.Next w) v legal tied fit within range acts = carried_plain B M t c h s (entry.Next h w) legal tied acts (λ k. pending-other B t k (entry.Next h w) legal refl refl) refl

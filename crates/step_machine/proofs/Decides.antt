@@ -1,9 +1,10 @@
 -- What a machine that holds what its history says answers is the outcome that the history allows.
-use Rattle.std.proofs.Common.{◌≡◌, ℕ, ◌≤◌, ◌<◌, Bool, true, false, not, ◌&&◌, List, [], ◌∷◌, length, None, refl, sym, ◌∙◌, ap, subst, arith}
+use Rattle.std.proofs.Common.{◌≡◌, ℕ, ◌+◌, ◌*◌, ◌%◌, ◌≤◌, ◌<◌, Bool, true, false, not, ◌&&◌, List, [], ◌∷◌, length, None, refl, sym, ◌∙◌, ap, subst, arith}
 use Rattle.std.specs.Prelude.{nat_lt, unwrap_or}
 use Rattle.std.proofs.lemmas.Bool.{eqb-true, eq-eqb}
 use Rattle.std.proofs.lemmas.Bool.Decides.{nat_tests}
-use Rattle.memory.specs.Words.{IsAddress, newest_of}
+use Rattle.memory.specs.Writes.{newest_of, joined, byte_of}
+use Rattle.memory.proofs.Bytes.{joined-same}
 use Rattle.hart.specs.State.{HartState}
 use Rattle.hart.specs.Steps.{need_of}
 use Rattle.rv_decode.specs.declared.instruction.AmoOp.{AmoOp}
@@ -17,16 +18,17 @@ use Rattle.step_machine.specs.declared.events.Entry.TheVariants as entry
 use Rattle.step_machine.specs.declared.events.Outcome.{Outcome}
 use Rattle.step_machine.specs.declared.events.Outcome.TheVariants as outcome
 use Rattle.step_machine.specs.History.{Start, History}
-use Rattle.step_machine.specs.Entries.{hart_of, is_land, pending, memory_word, read}
+use Rattle.step_machine.specs.Entries.{hart_of, is_land, pending, memory_byte, memory_word, read_byte, read}
 use Rattle.step_machine.specs.Paths.{entry_of, value_of}
 use Rattle.step_machine.specs.Legal.{Allowed}
-use Rattle.step_machine.specs.Config.{Config, IsInRange, buffer_of, word_at, found, is_empty, if_waits, outcome_for}
-use Rattle.step_machine.specs.Ties.{Tied}
+use Rattle.step_machine.specs.inner.Config.{Config, IsPlace, IsInRange, buffer_of, word_at, found_byte, found, is_empty, if_waits, outcome_for}
+use Rattle.step_machine.specs.inner.Ties.{Tied}
+use Rattle.memory.specs.declared.writes.Write.{Write}
 
 in_range_true : (s : HartState) (n : Need) → IsTrueOf s n → IsInRange s.words n
-in_range_true s (need.Load a) is = is
-in_range_true s (need.Store a w) is = is
-in_range_true s (need.Amo a op rs2) is = is
+in_range_true s (need.Load a width) is = (is.width_is, is.in_word, is.below)
+in_range_true s (need.Store a width w) is = (is.width_is, is.in_word, is.below)
+in_range_true s (need.Amo a op rs2) is = (is.width_is, is.in_word, is.below)
 in_range_true s n is = tt
 
 pub need_of-in_range : (M : ℕ) (s : HartState) → s.words ≡ M → IsInRange M (need_of s)
@@ -49,53 +51,63 @@ Decided B t h n outcome.NoHart = ⊥
 -- what an act sees of memory and of its own buffer
 pub record Sees (M : ℕ) (t : History) (c : Config) (h : ℕ) : Type 0 where
   pub buffer : buffer_of c h ≡ pending h t.entries
-  pub finds : (a : ℕ) → IsAddress M a → found c h a ≡ read t.opening t.entries h a
-  pub words : (a : ℕ) → IsAddress M a → word_at c a ≡ memory_word t.opening t.entries a
+  pub finds : (a width : ℕ) → IsPlace M width a → found c h a width ≡ read t.opening t.entries h a width
+  pub words : (a : ℕ) → IsPlace M 4 a → word_at c a ≡ memory_word t.opening t.entries a
+
+found_byte-read : (M : ℕ) (t : History) (c : Config) (h x : ℕ) → Tied M t c → x < 4 * M → found_byte c h x ≡ read_byte t.opening t.entries h x
+found_byte-read M t c h x tied below =
+    ap (λ ws. unwrap_or (newest_of x None ws) (byte_of c.words x)) (tied.buffers h) ∙ ap (unwrap_or (newest_of x None (pending h t.entries))) (tied.bytes x below)
 
 pub Tied-sees : (M : ℕ) (t : History) (c : Config) (h : ℕ) → Tied M t c → Sees M t c h
 Tied-sees M t c h tied = record {
   buffer = tied.buffers h;
-  finds = λ a is. ap (λ ps. unwrap_or (newest_of a None ps) (word_at c a)) (tied.buffers h) ∙ ap (λ w. unwrap_or (newest_of a None (pending h t.entries)) w) (tied.words a is);
-  words = tied.words;
+  finds = λ a width is. joined-same (λ i. found_byte c h (a + i)) (λ i. read_byte t.opening t.entries h (a + i)) width (λ i lt. (
+      let within : a % 4 + width ≤ 4 = is.1 in
+      let below : a < 4 * M = is.2 in
+      found_byte-read M t c h (a + i) tied (omega arith)));
+  words = λ a is. joined-same (λ i. byte_of c.words (a + i)) (λ i. memory_byte t.opening t.entries (a + i)) 4 (λ i lt. (
+      let within : a % 4 + 4 ≤ 4 = is.1 in
+      let below : a < 4 * M = is.2 in
+      tied.bytes (a + i) (omega arith)));
 }
 
-is_empty-nil : (ps : List (ℕ × ℕ)) → is_empty ps ≡ true → ps ≡ []
+is_empty-nil : (ps : List Write) → is_empty ps ≡ true → ps ≡ []
 is_empty-nil [] e = refl
 is_empty-nil (p ∷ ps) e = let none : length (p ∷ ps) ≡ 0 = eqb-true (length (p ∷ ps)) 0 e in absurd (omega arith)
 
-nil-is_empty : (ps : List (ℕ × ℕ)) → ps ≡ [] → is_empty ps ≡ true
+nil-is_empty : (ps : List Write) → ps ≡ [] → is_empty ps ≡ true
 nil-is_empty ps e = eq-eqb (length ps) 0 (ap length e)
 
 -- where nothing is pending, a hart reads memory itself
-pub read-empty : (o : Start) (es : List Entry) (h a : ℕ) → pending h es ≡ [] → read o es h a ≡ memory_word o es a
-read-empty o es h a e = ap (λ ps. unwrap_or (newest_of a None ps) (memory_word o es a)) e
+pub read-empty : (o : Start) (es : List Entry) (h a : ℕ) → pending h es ≡ [] → read o es h a 4 ≡ memory_word o es a
+read-empty o es h a e = ap (λ ws. joined (λ i. unwrap_or (newest_of (a + i) None ws) (memory_byte o es (a + i))) 4) e
 
 -- an entry that is the only one, whatever it read
 alone : (B : ℕ) (t : History) (h : ℕ) (n : Need) (e : Entry) → hart_of e ≡ h → is_land e ≡ false → e ≡ entry_of h n (value_of e) → Allowed B t.opening t.entries e → ((d : Entry) → d ≡ entry_of h n (value_of d) → d ≡ e) → Decided B t h n (outcome.Did e)
 alone B t h n e mine act made allowed only = (mine, act, record { made = made; allowed = allowed }, λ d does. only d does.made)
 
-decided_load : (B M : ℕ) (t : History) (c : Config) (h a : ℕ) → Sees M t c h → IsAddress M a → Decided B t h (need.Load a) (outcome.Did (entry.Load h a (found c h a)))
-decided_load B M t c h a sees is = (
+decided_load : (B M : ℕ) (t : History) (c : Config) (h a width : ℕ) → Sees M t c h → IsPlace M width a → Decided B t h (need.Load a width) (outcome.Did (entry.Load h a width (found c h a width)))
+decided_load B M t c h a width sees is = (
   refl,
   refl,
-  record { made = refl; allowed = sees.finds a is },
-  λ d does. does.made ∙ ap (λ v. entry.Load h a v) (subst (Allowed B t.opening t.entries) does.made does.allowed ∙ sym (sees.finds a is)),
+  record { made = refl; allowed = sees.finds a width is },
+  λ d does. does.made ∙ ap (λ v. entry.Load h a width v) (subst (Allowed B t.opening t.entries) does.made does.allowed ∙ sym (sees.finds a width is)),
 )
 
-decided_store : (B M : ℕ) (t : History) (c : Config) (h a w : ℕ) (b : Bool) → Sees M t c h → nat_lt (length (buffer_of c h)) B ≡ b → Decided B t h (need.Store a w) (if_waits (not b) (entry.Store h a w))
-decided_store B M t c h a w true sees is =
+decided_store : (B M : ℕ) (t : History) (c : Config) (h a width w : ℕ) (b : Bool) → Sees M t c h → nat_lt (length (buffer_of c h)) B ≡ b → Decided B t h (need.Store a width w) (if_waits (not b) (entry.Store h a width w))
+decided_store B M t c h a width w true sees is =
     let few : length (buffer_of c h) < B = grind (arith, nat_tests) in
-    alone B t h (need.Store a w) (entry.Store h a w) refl refl refl (subst (λ (ps : List (ℕ × ℕ)). length ps < B) sees.buffer few) (λ d made. made)
-decided_store B M t c h a w false sees is = λ d does.
+    alone B t h (need.Store a width w) (entry.Store h a width w) refl refl refl (subst (λ (ps : List Write). length ps < B) sees.buffer few) (λ d made. made)
+decided_store B M t c h a width w false sees is = λ d does.
     let few : length (pending h t.entries) < B = subst (Allowed B t.opening t.entries) does.made does.allowed in
     let same : length (buffer_of c h) ≡ length (pending h t.entries) = ap length sees.buffer in
     let full : B ≤ length (buffer_of c h) = grind (arith, nat_tests) in
     absurd (omega arith)
 
-decided_amo : (B M : ℕ) (t : History) (c : Config) (h a : ℕ) (op : AmoOp) (rs2 : ℕ) (b : Bool) → Sees M t c h → IsAddress M a → is_empty (buffer_of c h) ≡ b → Decided B t h (need.Amo a op rs2) (if_waits (not b) (entry.Amo h a (word_at c a) (updated op (word_at c a) rs2)))
+decided_amo : (B M : ℕ) (t : History) (c : Config) (h a : ℕ) (op : AmoOp) (rs2 : ℕ) (b : Bool) → Sees M t c h → IsPlace M 4 a → is_empty (buffer_of c h) ≡ b → Decided B t h (need.Amo a op rs2) (if_waits (not b) (entry.Amo h a (word_at c a) (updated op (word_at c a) rs2)))
 decided_amo B M t c h a op rs2 true sees is b =
     let empty : pending h t.entries ≡ [] = sym sees.buffer ∙ is_empty-nil (buffer_of c h) b in
-    let word : word_at c a ≡ read t.opening t.entries h a = sees.words a is ∙ sym (read-empty t.opening t.entries h a empty) in (
+    let word : word_at c a ≡ read t.opening t.entries h a 4 = sees.words a is ∙ sym (read-empty t.opening t.entries h a empty) in (
       refl,
       refl,
       record { made = refl; allowed = (empty, word) },
@@ -118,8 +130,8 @@ decided_fence B M t c h true false sees is = λ d does.
 -- what a running hart's act answers is decided
 pub outcome_for-decided : (B M : ℕ) (t : History) (c : Config) (h : ℕ) (n : Need) → Sees M t c h → IsInRange M n → Decided B t h n (outcome_for B c h n)
 outcome_for-decided B M t c h need.Inner sees is = alone B t h need.Inner (entry.Inner h) refl refl refl tt (λ d made. made)
-outcome_for-decided B M t c h (need.Load a) sees is = decided_load B M t c h a sees is
-outcome_for-decided B M t c h (need.Store a w) sees is = decided_store B M t c h a w (nat_lt (length (buffer_of c h)) B) sees refl
+outcome_for-decided B M t c h (need.Load a width) sees is = decided_load B M t c h a width sees is
+outcome_for-decided B M t c h (need.Store a width w) sees is = decided_store B M t c h a width w (nat_lt (length (buffer_of c h)) B) sees refl
 outcome_for-decided B M t c h (need.Amo a op rs2) sees is = decided_amo B M t c h a op rs2 (is_empty (buffer_of c h)) sees is refl
 outcome_for-decided B M t c h (need.Fence full) sees is = decided_fence B M t c h full (is_empty (buffer_of c h)) sees refl
 outcome_for-decided B M t c h (need.Next w) sees is = alone B t h (need.Next w) (entry.Next h w) refl refl refl tt (λ d made. made)

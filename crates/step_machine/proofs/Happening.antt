@@ -17,10 +17,11 @@ use Rattle.step_machine.specs.Entries.{hart_of, own, pending}
 use Rattle.step_machine.specs.Paths.{entry_of, value_of, CanMake, state_of, Path}
 use Rattle.step_machine.specs.Legal.{Allowed, Kept}
 use Rattle.step_machine.specs.Runs.{CanFollow, NoEntry, idle_of, idle_in, Happens}
-use Rattle.step_machine.specs.Config.{Config, IsInRange, buffer_of, entries_after, outcome_for, act_in, act_outcome, land_in, land_outcome, outcome_of}
-use Rattle.step_machine.specs.Ties.{view_state, Tied}
+use Rattle.step_machine.specs.inner.Config.{Config, IsInRange, buffer_of, entries_after, outcome_for, act_in, act_outcome, land_in, land_outcome, outcome_of}
+use Rattle.step_machine.specs.inner.Ties.{view_state, Tied}
 use Rattle.step_machine.proofs.Follows.{state_after, follows, act_only, land_follows, Path-hart, Legal-last}
 use Rattle.step_machine.proofs.Decides.{need_of-in_range, Decided, Tied-sees, outcome_for-decided}
+use Rattle.memory.specs.declared.writes.Write.{Write}
 
 -- the history after an outcome
 abbrev pub history_after : History → Outcome → History
@@ -71,7 +72,7 @@ running_happens B M t h s outcome.Over kept is run d = absurd d
 running_happens B M t h s outcome.NoHart kept is run d = absurd d
 
 -- a hart that doesn't run does nothing more
-over_happens : (B M : ℕ) (t : History) (h : ℕ) (s : HartState) → state_of M t h ≡ Some s → (s.status ≡ status.Running → ⊥) → idle_in s.status outcome.Waited ≡ outcome.Over → Happens B M t (event.Act h) outcome.Over t
+pub over_happens : (B M : ℕ) (t : History) (h : ℕ) (s : HartState) → state_of M t h ≡ Some s → (s.status ≡ status.Running → ⊥) → idle_in s.status outcome.Waited ≡ outcome.Over → Happens B M t (event.Act h) outcome.Over t
 over_happens B M t h s is over idles =
     record {
       none = λ x for_x f. over (act_only B M t h s x for_x.0 for_x.1 is f).0.running;
@@ -110,7 +111,8 @@ idle_land B M t h s status.Ended is run empty =
 idle_land B M t h s (status.Stopped why) is run empty =
     record { none = land_none B M t h empty; why = sym (ap (λ o. idle_of o outcome.NothingToLand) is ∙ ap (λ x. idle_in x outcome.NothingToLand) run); after = refl }
 
-some_land : (B M : ℕ) (t : History) (h : ℕ) (s : HartState) (ps : List (ℕ × ℕ)) → Kept B M t → state_of M t h ≡ Some s → ps ≡ pending h t.entries → Happens B M t (event.Land h) (land_in ps h s.status) (history_after t (land_in ps h s.status))
+-- a landing where so much is pending
+pub some_land : (B M : ℕ) (t : History) (h : ℕ) (s : HartState) (ps : List Write) → Kept B M t → state_of M t h ≡ Some s → ps ≡ pending h t.entries → Happens B M t (event.Land h) (land_in ps h s.status) (history_after t (land_in ps h s.status))
 some_land B M t h s [] kept is ps = idle_land B M t h s s.status is refl (sym ps)
 some_land B M t h s (p ∷ ps) kept is e =
     let count : length (p ∷ ps) ≡ length (pending h t.entries) = ap length e in

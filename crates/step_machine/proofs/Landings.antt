@@ -3,39 +3,38 @@ use Rattle.std.proofs.Common.{◌≡◌, ℕ, zero, suc, ◌-◌, ◌<◌, List,
 use Rattle.std.specs.Prelude.{option_to_list}
 use Rattle.std.specs.List.{slice_get}
 use Rattle.step_machine.specs.declared.events.Entry.{Entry}
-use Rattle.step_machine.specs.declared.events.Entry.TheVariants as entry
+use Rattle.step_machine.specs.Access.{Access, nothing, load, store, exchange, fence, land, access_of}
 use Rattle.step_machine.specs.History.{Start, History}
-use Rattle.step_machine.specs.Entries.{stores, lands, pending, write_of, landed_after, landed, write_by_count, landed_by_count_after, landed_by_count}
-use Rattle.step_machine.specs.Legal.{Allowed, LegalAfter, Legal}
+use Rattle.step_machine.specs.Entries.{hart_of, written_by, read, stores, lands, pending, write_of, landed_after, landed, write_by_count, landed_by_count_after, landed_by_count}
+use Rattle.step_machine.specs.Legal.{AllowedBy, Allowed, LegalAfter, Legal}
 use Rattle.step_machine.proofs.Appended.{stores-append}
+use Rattle.memory.specs.declared.writes.Write.{Write}
 
 -- the element at a place within the first part of a list, as a list
-element : (xs ys : List (ℕ × ℕ)) (k : ℕ) → k < length xs → take 1 (drop k xs) ≡ option_to_list (slice_get (xs ++ ys) k)
+element : (xs ys : List Write) (k : ℕ) → k < length xs → take 1 (drop k xs) ≡ option_to_list (slice_get (xs ++ ys) k)
 element [] ys k lt = absurd (omega arith)
 element (x ∷ xs) ys zero lt = refl
 element (x ∷ xs) ys (suc k) lt = element xs ys k (omega arith)
 
 write_counted : (B : ℕ) (o : Start) (before : List Entry) (e : Entry) (es : List Entry) → Allowed B o before e → write_of before e ≡ write_by_count (before ++ e ∷ es) before e
-write_counted B o before (entry.Inner h) es a = refl
-write_counted B o before (entry.Load h x v) es a = refl
-write_counted B o before (entry.Store h x v) es a = refl
-write_counted B o before (entry.Amo h x old new) es a = refl
-write_counted B o before (entry.Fence h full) es a = refl
-write_counted B o before (entry.Next h w) es a = refl
-write_counted B o before (entry.Took h i w) es a = refl
-write_counted B o before (entry.Closed h i) es a = refl
-write_counted B o before (entry.Ended h) es a = refl
-write_counted B o before (entry.Stopped h why) es a = refl
-write_counted B o before (entry.Land h) es a =
-    let left : length (pending h before) ≡ length (stores h before) - lands h before = length-drop (lands h before) (stores h before) in
-    element (stores h before) (stores h (entry.Land h ∷ es)) (lands h before) (omega arith)
-    ∙ ap (λ (ps : List (ℕ × ℕ)). option_to_list (slice_get ps (lands h before))) (sym (stores-append h before (entry.Land h ∷ es)))
+write_counted B o before e es a = at (access_of e) a
+  where
+    at : (x : Access) → AllowedBy B (pending (hart_of e) before) (read o before (hart_of e)) x → written_by (take 1 (pending (hart_of e) before)) x ≡ written_by (option_to_list (slice_get (stores (hart_of e) (before ++ e ∷ es)) (lands (hart_of e) before))) x
+    at nothing may = refl
+    at (load a width v) may = refl
+    at (store w) may = refl
+    at (exchange a old new) may = refl
+    at (fence full) may = refl
+    at land may =
+        let left : length (pending (hart_of e) before) ≡ length (stores (hart_of e) before) - lands (hart_of e) before = length-drop (lands (hart_of e) before) (stores (hart_of e) before) in
+        element (stores (hart_of e) before) (stores (hart_of e) (e ∷ es)) (lands (hart_of e) before) (omega arith)
+        ∙ ap (λ (ps : List Write). option_to_list (slice_get ps (lands (hart_of e) before))) (sym (stores-append (hart_of e) before (e ∷ es)))
 
 counted_after : (B : ℕ) (o : Start) (before es : List Entry) → LegalAfter B o before es → landed_after before es ≡ landed_by_count_after (before ++ es) before es
 counted_after B o before [] l = refl
 counted_after B o before (e ∷ es) l =
-    ap (λ (ps : List (ℕ × ℕ)). ps ++ landed_after (before ++ e ∷ []) es) (write_counted B o before e es l.0)
-    ∙ ap (λ (ps : List (ℕ × ℕ)). write_by_count (before ++ e ∷ es) before e ++ ps)
+    ap (λ (ps : List Write). ps ++ landed_after (before ++ e ∷ []) es) (write_counted B o before e es l.0)
+    ∙ ap (λ (ps : List Write). write_by_count (before ++ e ∷ es) before e ++ ps)
     (counted_after B o (before ++ e ∷ []) es l.1
     ∙ ap (λ (whole : List Entry). landed_by_count_after whole (before ++ e ∷ []) es) (append_assoc before (e ∷ []) es))
 

@@ -2,6 +2,7 @@ pub mod Appended
 pub mod Follows
 pub mod Balanced
 pub mod Decides
+pub mod Finding
 pub mod Happening
 pub mod Stays
 pub mod Carried
@@ -12,3 +13,8 @@ pub mod Opens
 pub mod Restarts
 pub mod Sounds
 pub mod Landings
+pub mod WordReads
+pub mod OwnRuns
+pub mod Acts
+pub mod States
+pub mod Openings

@@ -1,23 +1,26 @@
 -- What an opening gives is fit, and is what the history of no entry says.
-use Rattle.std.proofs.Common.{◌≡◌, ℕ, zero, suc, ◌+◌, ◌-◌, ◌/◌, ◌≤◌, List, [], ◌∷◌, ◌++◌, length, drop, get_or, replicate, Option, Some, None, refl, sym, ◌∙◌, ap, subst, arith, length-append, length-drop}
+use Rattle.std.proofs.Common.{◌≡◌, ℕ, zero, suc, ◌+◌, ◌-◌, ◌/◌, ◌%◌, ◌≤◌, List, [], ◌∷◌, ◌++◌, length, drop, get_or, replicate, Option, Some, None, refl, sym, ◌∙◌, ap, subst, arith, length-append, length-drop}
 use Rattle.std.specs.Prelude.{option_map, All}
 use Rattle.std.specs.List.{slice_get}
 use Rattle.std.proofs.lemmas.List.{length-map, length-replicate, drop-replicate}
 use Rattle.std.proofs.lemmas.List.Elements.{All-map, All-nil, All-replicate}
 use Rattle.std.proofs.lemmas.Option.{slice_get-map}
+use Rattle.std.specs.Int.{byte_at}
+use Rattle.memory.specs.Writes.{WritesInWord, byte_of}
 use Rattle.hart.specs.State.{HartView}
 use Rattle.step_machine.specs.History.{HartStart, Start, unrun, FitsIn}
 use Rattle.step_machine.specs.Paths.{opens_as}
-use Rattle.step_machine.specs.Opened.{opened_hart}
-use Rattle.step_machine.specs.Config.{Config, HasAddress, Fit, first_of, opened_config}
-use Rattle.step_machine.specs.Ties.{view_state, Tied}
+use Rattle.step_machine.specs.inner.Opened.{opened_hart}
+use Rattle.step_machine.specs.inner.Config.{Config, HasAddress, Fit, first_of, opened_config}
+use Rattle.step_machine.specs.inner.Ties.{view_state, Tied}
+use Rattle.memory.specs.declared.writes.Write.{Write}
 
 pub fit_opened : (M : ℕ) (o : Start) → FitsIn M o → Fit M (opened_config M o)
 fit_opened M o fits = record {
   buffers = length-replicate (length o.harts) [] ∙ sym (length-map o.harts (opened_hart M));
   words = length-append o.words (drop (length o.words) (replicate M 0)) ∙ rest (length o.words) fits.words;
   harts = All-map (λ (v : HartView). v.state.words ≡ M) (opened_hart M) o.harts (λ k d lt. refl);
-  pending = All-replicate (λ (ps : List (ℕ × ℕ)). All (HasAddress M) ps) (length o.harts) [] (All-nil (HasAddress M));
+  pending = All-replicate (λ (ps : List Write). All (HasAddress M) ps) (length o.harts) [] (All-nil (HasAddress M));
 }
   where
     rest : (n : ℕ) → n ≤ M → n + length {A = ℕ} (drop n (replicate M 0)) ≡ M
@@ -42,7 +45,7 @@ reports_opened : (M : ℕ) (so : Option HartStart) (v : HartView) → option_map
 reports_opened M None v is = cc
 reports_opened M (Some o) v is = let v_is : opened_hart M o ≡ v = cc in sym (ap (λ (w : HartView). w.reports) v_is)
 
-none_everywhere : (n h : ℕ) → get_or {A = List (ℕ × ℕ)} (replicate n []) h [] ≡ []
+none_everywhere : (n h : ℕ) → get_or {A = List Write} (replicate n []) h [] ≡ []
 none_everywhere zero h = refl
 none_everywhere (suc n) zero = refl
 none_everywhere (suc n) (suc h) = none_everywhere n h
@@ -63,5 +66,6 @@ tied_opened M o = record {
   firsts = λ h. ap (option_map first_of) (slice_get-map (opened_hart M) o.harts h) ∙ first_opened M (slice_get o.harts h);
   reports = λ h v is. reports_opened M (slice_get o.harts h) v (sym (slice_get-map (opened_hart M) o.harts h) ∙ is);
   buffers = λ h. none_everywhere (length o.harts) h;
-  words = λ a is. ap (λ (ws : List ℕ). get_or (o.words ++ ws) (a / 4) 0) (drop-replicate (length o.words) M 0) ∙ zeros_after o.words (M - length o.words) (a / 4);
+  in_words = All-nil WritesInWord;
+  bytes = λ a is. ap (λ (ws : List ℕ). byte_of (o.words ++ ws) a) (drop-replicate (length o.words) M 0) ∙ ap (byte_at (a % 4)) (zeros_after o.words (M - length o.words) (a / 4));
 }

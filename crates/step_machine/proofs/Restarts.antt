@@ -1,39 +1,40 @@
 -- A machine that is put back holds what its opening gives. A word that differs from the opening's was
 -- written by a landing or an AMO, so an entry names its place, and there the opening's word is put back.
-use Rattle.std.proofs.Common.{◌≡◌, ◌≢◌, ℕ, zero, suc, ◌/◌, ◌<◌, ◌≤◌, ◌==◌, Bool, true, false, ◌||◌, if◌then◌else◌, List, [], ◌∷◌, ◌++◌, length, set, get_or, Option, Some, None, refl, sym, ◌∙◌, ap, subst, arith, get_or-set_same, get_or-set_other}
-use Rattle.std.specs.Prelude.{map, option_map, unwrap_or, All}
+use Rattle.std.proofs.Common.{◌≡◌, ◌≢◌, ℕ, zero, suc, ◌-◌, ◌%◌, ◌/◌, ◌<◌, ◌≤◌, ◌==◌, Bool, true, false, ◌||◌, if◌then◌else◌, List, [], ◌∷◌, ◌++◌, length, set, get_or, Option, Some, None, refl, sym, ◌∙◌, ap, subst, arith, get_or-set_same, get_or-set_other}
+use Rattle.std.specs.Prelude.{map, take, option_map, unwrap_or, All}
 use Rattle.std.specs.List.{slice_get}
-use Rattle.std.proofs.lemmas.Bool.{eqb-true, eqb-false, ne_eqb}
+use Rattle.std.proofs.lemmas.Bool.{eqb-true, eqb-false}
 use Rattle.std.proofs.lemmas.List.{length-map, length-set}
 use Rattle.std.proofs.lemmas.List.Elements.{All-nil, All-cons, All-head, All-tail, All-append, All-take, All-drop, All-map}
 use Rattle.std.proofs.lemmas.Option.{slice_get-map, slice_get-get_or}
-use Rattle.memory.specs.Words.{newest_of}
+use Rattle.std.specs.Int.{byte_at}
+use Rattle.memory.specs.Writes.{WritesInWord, write, covers, newest_of}
+use Rattle.memory.proofs.Bytes.{covers_other}
 use Rattle.hart.specs.State.{HartState, HartView}
 use Rattle.hart.specs.Steps.{restarted}
 use Rattle.step_machine.specs.declared.events.Entry.{Entry}
-use Rattle.step_machine.specs.declared.events.Entry.TheVariants as entry
+use Rattle.step_machine.specs.Access.{Access, nothing, load, store, exchange, fence, land, access_of}
 use Rattle.step_machine.specs.History.{HartStart, Start, History, unrun}
-use Rattle.step_machine.specs.Entries.{store_of, stores, lands, pending, write_of, landed_after, landed, opening_word, memory_word}
+use Rattle.step_machine.specs.Entries.{hart_of, stored_by, written_by, store_of, stores, lands, pending, write_of, landed_after, landed, opening_byte, memory_byte}
 use Rattle.step_machine.specs.Paths.{opens_as}
-use Rattle.step_machine.specs.Config.{Config, HasAddress, Fit, first_of, put_back, all_put_back, no_stores, restarted_config}
-use Rattle.step_machine.specs.Ties.{view_state, Tied, Sound}
+use Rattle.step_machine.specs.inner.Config.{Config, HasAddress, Fit, first_of, put_back_by, put_back, all_put_back, no_stores, restarted_config}
+use Rattle.step_machine.specs.inner.Ties.{view_state, Tied, Sound}
 use Rattle.step_machine.proofs.Running.{kept-unrun}
+use Rattle.memory.specs.declared.writes.Write.{Write}
 
 -- ---- the places that entries name
 
--- the entry stores or wrote at the i-th word
+-- the access stores or wrote at the i-th word
+abbrev pub named_by : ℕ → Access → Bool
+named_by i nothing = false
+named_by i (load a width v) = false
+named_by i (store w) = w.addr / 4 == i
+named_by i (exchange a old new) = a / 4 == i
+named_by i (fence full) = false
+named_by i land = false
+
 abbrev pub names : ℕ → Entry → Bool
-names i (entry.Inner h) = false
-names i (entry.Load h a v) = false
-names i (entry.Store h a v) = a / 4 == i
-names i (entry.Amo h a old new) = a / 4 == i
-names i (entry.Fence h full) = false
-names i (entry.Next h w) = false
-names i (entry.Took h i' w) = false
-names i (entry.Closed h i') = false
-names i (entry.Ended h) = false
-names i (entry.Stopped h why) = false
-names i (entry.Land h) = false
+names i e = named_by i (access_of e)
 
 abbrev pub are_named : ℕ → List Entry → Bool
 are_named i [] = false
@@ -52,121 +53,105 @@ not_named-more i (d ∷ es) e none not = let parts = neither (names i d) (are_na
 
 -- ---- what landed was named
 
-abbrev pub IsElsewhere : ℕ → ℕ × ℕ → Type 0
-IsElsewhere i p = p.0 / 4 ≢ i
+abbrev pub IsElsewhere : ℕ → Write → Type 0
+IsElsewhere i w = w.addr / 4 ≢ i
 
-stored_elsewhere : (i g h a v : ℕ) → (a / 4 == i) ≡ false → (b : Bool) → All (IsElsewhere i) (if b then (a, v) ∷ [] else [])
-stored_elsewhere i g h a v not true = All-cons (IsElsewhere i) (a, v) [] (eqb-false (a / 4) i not) (All-nil (IsElsewhere i))
-stored_elsewhere i g h a v not false = All-nil (IsElsewhere i)
-
-store_elsewhere : (i h : ℕ) (e : Entry) → names i e ≡ false → All (IsElsewhere i) (store_of h e)
-store_elsewhere i h (entry.Store g a v) not = stored_elsewhere i g h a v not (g == h)
-store_elsewhere i h (entry.Inner g) not = All-nil (IsElsewhere i)
-store_elsewhere i h (entry.Load g a v) not = All-nil (IsElsewhere i)
-store_elsewhere i h (entry.Amo g a old new) not = All-nil (IsElsewhere i)
-store_elsewhere i h (entry.Fence g full) not = All-nil (IsElsewhere i)
-store_elsewhere i h (entry.Next g w) not = All-nil (IsElsewhere i)
-store_elsewhere i h (entry.Took g j w) not = All-nil (IsElsewhere i)
-store_elsewhere i h (entry.Closed g j) not = All-nil (IsElsewhere i)
-store_elsewhere i h (entry.Ended g) not = All-nil (IsElsewhere i)
-store_elsewhere i h (entry.Stopped g why) not = All-nil (IsElsewhere i)
-store_elsewhere i h (entry.Land g) not = All-nil (IsElsewhere i)
+store_elsewhere : (i : ℕ) (b : Bool) (x : Access) → named_by i x ≡ false → All (IsElsewhere i) (stored_by b x)
+store_elsewhere i true (store w) not = All-cons (IsElsewhere i) w [] (eqb-false (w.addr / 4) i not) (All-nil (IsElsewhere i))
+store_elsewhere i false (store w) not = All-nil (IsElsewhere i)
+store_elsewhere i b nothing not = All-nil (IsElsewhere i)
+store_elsewhere i b (load a width v) not = All-nil (IsElsewhere i)
+store_elsewhere i b (exchange a old new) not = All-nil (IsElsewhere i)
+store_elsewhere i b (fence full) not = All-nil (IsElsewhere i)
+store_elsewhere i b land not = All-nil (IsElsewhere i)
 
 stores_elsewhere : (i h : ℕ) (es : List Entry) → are_named i es ≡ false → All (IsElsewhere i) (stores h es)
 stores_elsewhere i h [] none = All-nil (IsElsewhere i)
 stores_elsewhere i h (e ∷ es) none =
     let parts = neither (names i e) (are_named i es) none in
-    All-append (IsElsewhere i) (store_of h e) (stores h es) (store_elsewhere i h e parts.0) (stores_elsewhere i h es parts.1)
+    All-append (IsElsewhere i) (store_of h e) (stores h es) (store_elsewhere i (hart_of e == h) (access_of e) parts.0) (stores_elsewhere i h es parts.1)
 
-write_elsewhere : (i : ℕ) (before : List Entry) (e : Entry) → are_named i before ≡ false → names i e ≡ false → All (IsElsewhere i) (write_of before e)
-write_elsewhere i before (entry.Amo g a old new) none not = All-cons (IsElsewhere i) (a, new) [] (eqb-false (a / 4) i not) (All-nil (IsElsewhere i))
-write_elsewhere i before (entry.Land g) none not =
-    All-take (IsElsewhere i) 1 (pending g before) (All-drop (IsElsewhere i) (lands g before) (stores g before) (stores_elsewhere i g before none))
-write_elsewhere i before (entry.Inner g) none not = All-nil (IsElsewhere i)
-write_elsewhere i before (entry.Load g a v) none not = All-nil (IsElsewhere i)
-write_elsewhere i before (entry.Store g a v) none not = All-nil (IsElsewhere i)
-write_elsewhere i before (entry.Fence g full) none not = All-nil (IsElsewhere i)
-write_elsewhere i before (entry.Next g w) none not = All-nil (IsElsewhere i)
-write_elsewhere i before (entry.Took g j w) none not = All-nil (IsElsewhere i)
-write_elsewhere i before (entry.Closed g j) none not = All-nil (IsElsewhere i)
-write_elsewhere i before (entry.Ended g) none not = All-nil (IsElsewhere i)
-write_elsewhere i before (entry.Stopped g why) none not = All-nil (IsElsewhere i)
+write_elsewhere : (i : ℕ) (oldest : List Write) (x : Access) → All (IsElsewhere i) oldest → named_by i x ≡ false → All (IsElsewhere i) (written_by oldest x)
+write_elsewhere i oldest (exchange a old new) all not = All-cons (IsElsewhere i) (write a 4 new) [] (eqb-false (a / 4) i not) (All-nil (IsElsewhere i))
+write_elsewhere i oldest land all not = all
+write_elsewhere i oldest nothing all not = All-nil (IsElsewhere i)
+write_elsewhere i oldest (load a width v) all not = All-nil (IsElsewhere i)
+write_elsewhere i oldest (store w) all not = All-nil (IsElsewhere i)
+write_elsewhere i oldest (fence full) all not = All-nil (IsElsewhere i)
+
+oldest_elsewhere : (i h : ℕ) (before : List Entry) → are_named i before ≡ false → All (IsElsewhere i) (take 1 (pending h before))
+oldest_elsewhere i h before none = All-take (IsElsewhere i) 1 (pending h before) (All-drop (IsElsewhere i) (lands h before) (stores h before) (stores_elsewhere i h before none))
 
 landed_elsewhere : (i : ℕ) (before es : List Entry) → are_named i before ≡ false → are_named i es ≡ false → All (IsElsewhere i) (landed_after before es)
 landed_elsewhere i before [] none rest = All-nil (IsElsewhere i)
 landed_elsewhere i before (e ∷ es) none rest =
     let parts = neither (names i e) (are_named i es) rest in
-    All-append (IsElsewhere i) (write_of before e) (landed_after (before ++ e ∷ []) es) (write_elsewhere i before e none parts.0)
+    All-append (IsElsewhere i) (write_of before e) (landed_after (before ++ e ∷ []) es) (write_elsewhere i (take 1 (pending (hart_of e) before)) (access_of e) (oldest_elsewhere i (hart_of e) before none) parts.0)
     (landed_elsewhere i (before ++ e ∷ []) es (not_named-more i before e none parts.0) parts.1)
 
-newest_elsewhere : (a : ℕ) (found : Option ℕ) (ps : List (ℕ × ℕ)) → All (IsElsewhere (a / 4)) ps → newest_of a found ps ≡ found
-newest_elsewhere a found [] all = refl
-newest_elsewhere a found (p ∷ ps) all =
-    let other : p.0 / 4 ≢ a / 4 = All-head (IsElsewhere (a / 4)) p ps all in
-    let not : (p.0 == a) ≡ false = ne_eqb p.0 a (λ same. other (ap (λ (x : ℕ). x / 4) same)) in
-    newest_elsewhere a (if p.0 == a then Some p.1 else found) ps (All-tail (IsElsewhere (a / 4)) p ps all) ∙ ap (λ (b : Bool). if b then Some p.1 else found) not
+newest_elsewhere : (a : ℕ) (found : Option ℕ) (ws : List Write) → All WritesInWord ws → All (IsElsewhere (a / 4)) ws → newest_of a found ws ≡ found
+newest_elsewhere a found [] small all = refl
+newest_elsewhere a found (w ∷ ws) small all =
+    let other : w.addr / 4 ≢ a / 4 = All-head (IsElsewhere (a / 4)) w ws all in
+    let not : covers w a ≡ false = covers_other w a (All-head WritesInWord w ws small) (λ same. other (sym same)) in
+    newest_elsewhere a (if covers w a then Some (byte_at (a - w.addr) w.value) else found) ws (All-tail WritesInWord w ws small) (All-tail (IsElsewhere (a / 4)) w ws all)
+    ∙ ap (λ (b : Bool). if b then Some (byte_at (a - w.addr) w.value) else found) not
 
--- a word at a place that no entry names is the opening's
-word_not_named : (o : Start) (es : List Entry) (a : ℕ) → are_named (a / 4) es ≡ false → memory_word o es a ≡ opening_word o a
-word_not_named o es a none = ap (λ (w : Option ℕ). unwrap_or w (opening_word o a)) (newest_elsewhere a None (landed es) (landed_elsewhere (a / 4) [] es refl none))
+-- a byte of a word that no entry names is the opening's
+byte_not_named : (o : Start) (es : List Entry) (a : ℕ) → All WritesInWord (landed es) → are_named (a / 4) es ≡ false → memory_byte o es a ≡ opening_byte o a
+byte_not_named o es a small none = ap (λ (b : Option ℕ). unwrap_or b (opening_byte o a)) (newest_elsewhere a None (landed es) small (landed_elsewhere (a / 4) [] es refl none))
 
 -- ---- words put back
 
-length-put_back : (first words : List ℕ) (e : Entry) → length (put_back first words e) ≡ length words
-length-put_back first words (entry.Store h a v) = length-set words (a / 4) (get_or first (a / 4) 0)
-length-put_back first words (entry.Amo h a old new) = length-set words (a / 4) (get_or first (a / 4) 0)
-length-put_back first words (entry.Inner h) = refl
-length-put_back first words (entry.Load h a v) = refl
-length-put_back first words (entry.Fence h full) = refl
-length-put_back first words (entry.Next h w) = refl
-length-put_back first words (entry.Took h i w) = refl
-length-put_back first words (entry.Closed h i) = refl
-length-put_back first words (entry.Ended h) = refl
-length-put_back first words (entry.Stopped h why) = refl
-length-put_back first words (entry.Land h) = refl
+length-put_back : (first words : List ℕ) (x : Access) → length (put_back_by first words x) ≡ length words
+length-put_back first words (store w) = length-set words (w.addr / 4) (get_or first (w.addr / 4) 0)
+length-put_back first words (exchange a old new) = length-set words (a / 4) (get_or first (a / 4) 0)
+length-put_back first words nothing = refl
+length-put_back first words (load a width v) = refl
+length-put_back first words (fence full) = refl
+length-put_back first words land = refl
 
 length-all_put_back : (first words : List ℕ) (es : List Entry) → length (all_put_back first words es) ≡ length words
 length-all_put_back first words [] = refl
-length-all_put_back first words (e ∷ es) = length-all_put_back first (put_back first words e) es ∙ length-put_back first words e
+length-all_put_back first words (e ∷ es) = length-all_put_back first (put_back first words e) es ∙ length-put_back first words (access_of e)
 
--- the word at i is the opening's, unless something is still to be put back there
-abbrev pub IsBack : (first words : List ℕ) (i : ℕ) → Bool → Type 0
-IsBack first words i named = named ≡ false → get_or words i 0 ≡ get_or first i 0
+-- byte k of the word at i is the opening's
+abbrev pub IsSame : (first words : List ℕ) (i k : ℕ) → Type 0
+IsSame first words i k = byte_at k (get_or words i 0) ≡ byte_at k (get_or first i 0)
 
-back_at : (first words : List ℕ) (j i : ℕ) → i < length words → IsBack first words i (j == i) → get_or (set words j (get_or first j 0)) i 0 ≡ get_or first i 0
-back_at first words j i within back = at (j == i) refl
+-- it is, unless something is still to be put back there
+abbrev pub IsBack : (first words : List ℕ) (i k : ℕ) → Bool → Type 0
+IsBack first words i k named = named ≡ false → IsSame first words i k
+
+back_at : (first words : List ℕ) (j i k : ℕ) → i < length words → IsBack first words i k (j == i) → IsSame first (set words j (get_or first j 0)) i k
+back_at first words j i k within back = at (j == i) refl
   where
-    at : (b : Bool) → (j == i) ≡ b → get_or (set words j (get_or first j 0)) i 0 ≡ get_or first i 0
+    at : (b : Bool) → (j == i) ≡ b → IsSame first (set words j (get_or first j 0)) i k
     at true same =
         let j_is : i ≡ j = sym (eqb-true j i same) in
-        subst (λ (k : ℕ). get_or (set words k (get_or first k 0)) i 0 ≡ get_or first i 0) j_is (get_or-set_same words i (get_or first i 0) 0 within)
+        subst (λ (m : ℕ). IsSame first (set words m (get_or first m 0)) i k) j_is (ap (byte_at k) (get_or-set_same words i (get_or first i 0) 0 within))
     at false other =
         let ne : j ≢ i = eqb-false j i other in
-        get_or-set_other words j i (get_or first j 0) 0 (λ same. ne (sym same)) ∙ back other
+        ap (byte_at k) (get_or-set_other words j i (get_or first j 0) 0 (λ same. ne (sym same))) ∙ back other
 
-back_by : (first words : List ℕ) (i : ℕ) (e : Entry) → i < length words → IsBack first words i (names i e) → get_or (put_back first words e) i 0 ≡ get_or first i 0
-back_by first words i (entry.Store h a v) within back = back_at first words (a / 4) i within back
-back_by first words i (entry.Amo h a old new) within back = back_at first words (a / 4) i within back
-back_by first words i (entry.Inner h) within back = back refl
-back_by first words i (entry.Load h a v) within back = back refl
-back_by first words i (entry.Fence h full) within back = back refl
-back_by first words i (entry.Next h w) within back = back refl
-back_by first words i (entry.Took h j w) within back = back refl
-back_by first words i (entry.Closed h j) within back = back refl
-back_by first words i (entry.Ended h) within back = back refl
-back_by first words i (entry.Stopped h why) within back = back refl
-back_by first words i (entry.Land h) within back = back refl
+back_by : (first words : List ℕ) (i k : ℕ) (x : Access) → i < length words → IsBack first words i k (named_by i x) → IsSame first (put_back_by first words x) i k
+back_by first words i k (store w) within back = back_at first words (w.addr / 4) i k within back
+back_by first words i k (exchange a old new) within back = back_at first words (a / 4) i k within back
+back_by first words i k nothing within back = back refl
+back_by first words i k (load a width v) within back = back refl
+back_by first words i k (fence full) within back = back refl
+back_by first words i k land within back = back refl
 
-all_back : (first words : List ℕ) (i : ℕ) (es : List Entry) → i < length words → IsBack first words i (are_named i es) → get_or (all_put_back first words es) i 0 ≡ get_or first i 0
-all_back first words i [] within back = back refl
-all_back first words i (e ∷ es) within back =
-    let count : length (put_back first words e) ≡ length words = length-put_back first words e in
-    all_back first (put_back first words e) i es (omega arith)
-    (λ rest. back_by first words i e within (λ not. back (both_not (names i e) (are_named i es) not rest)))
+all_back : (first words : List ℕ) (i k : ℕ) (es : List Entry) → i < length words → IsBack first words i k (are_named i es) → IsSame first (all_put_back first words es) i k
+all_back first words i k [] within back = back refl
+all_back first words i k (e ∷ es) within back =
+    let count : length (put_back first words e) ≡ length words = length-put_back first words (access_of e) in
+    all_back first (put_back first words e) i k es (omega arith)
+    (λ rest. back_by first words i k (access_of e) within (λ not. back (both_not (names i e) (are_named i es) not rest)))
 
 -- ---- the machine put back
 
-no_stores_anywhere : (bs : List (List (ℕ × ℕ))) (h : ℕ) → get_or (map no_stores bs) h [] ≡ []
+no_stores_anywhere : (bs : List (List Write)) (h : ℕ) → get_or (map no_stores bs) h [] ≡ []
 no_stores_anywhere [] h = refl
 no_stores_anywhere (ps ∷ bs) zero = refl
 no_stores_anywhere (ps ∷ bs) (suc h) = no_stores_anywhere bs h
@@ -201,7 +186,7 @@ fit_restarted M o es c firsts fit = record {
   buffers = length-map c.buffers no_stores ∙ fit.buffers ∙ sym (length-map c.harts restarted);
   words = length-all_put_back o.words c.words es ∙ fit.words;
   harts = All-map (λ (v : HartView). v.state.words ≡ M) restarted c.harts firsts;
-  pending = All-map (λ (ps : List (ℕ × ℕ)). All (HasAddress M) ps) no_stores c.buffers (λ h d within. All-nil (HasAddress M));
+  pending = All-map (λ (ps : List Write). All (HasAddress M) ps) no_stores c.buffers (λ h d within. All-nil (HasAddress M));
 }
 
 pub tied_restarted : (M : ℕ) (t : History) (c : Config) → length c.words ≡ M → Tied M t c → Tied M (unrun t.opening) (restarted_config t.opening t.entries c)
@@ -210,8 +195,9 @@ tied_restarted M t c count tied = record {
   firsts = λ h. ap (option_map first_of) (slice_get-map restarted c.harts h) ∙ first_again (slice_get c.harts h) ∙ tied.firsts h;
   reports = λ h v is. none_reported (slice_get c.harts h) v (sym (slice_get-map restarted c.harts h) ∙ is);
   buffers = λ h. no_stores_anywhere c.buffers h;
-  words = λ a is. (let within : a / 4 < length c.words = omega arith in
-      all_back t.opening.words c.words (a / 4) t.entries within (λ none. tied.words a is ∙ word_not_named t.opening t.entries a none));
+  in_words = All-nil WritesInWord;
+  bytes = λ a is. (let within : a / 4 < length c.words = omega arith in
+      all_back t.opening.words c.words (a / 4) (a % 4) t.entries within (λ none. tied.bytes a is ∙ byte_not_named t.opening t.entries a tied.in_words none));
 }
 
 pub sound_restarted : (B M n : ℕ) (t : History) (c : Config) → Sound B M t c n → Sound B M (unrun t.opening) (restarted_config t.opening t.entries c) n

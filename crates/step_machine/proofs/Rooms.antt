@@ -7,7 +7,7 @@ use Rattle.std.proofs.lemmas.List.{length-map}
 use Rattle.std.proofs.lemmas.Option.{slice_get_within, get_or_from_slice_get}
 use Rattle.std.proofs.Math.Seq.{map-set_same}
 use Rattle.hart.specs.State.{HartView}
-use Rattle.step_machine.specs.Config.{Config, told, first_of, SameButRoom, AllHaveRoom, roomy, roomy_in, roomy_at}
+use Rattle.step_machine.specs.inner.Config.{Config, told, first_of, SameButRoom, AllHaveRoom, roomy, roomy_in, roomy_at}
 use Rattle.step_machine.proofs.Stays.{slice_get-set_same, slice_get-set_other}
 
 pub same_self : (c : Config) → SameButRoom c c

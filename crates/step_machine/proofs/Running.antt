@@ -4,16 +4,18 @@ use Rattle.std.proofs.Common.{◌≡◌, ℕ, ◌+◌, ◌<◌, ◌==◌, Bool, 
 use Rattle.std.specs.List.{slice_get}
 use Rattle.std.proofs.lemmas.Bool.{eqb-true}
 use Rattle.std.proofs.lemmas.List.{take_more}
-use Rattle.std.proofs.lemmas.Option.{slice_get-get_or}
+use Rattle.std.specs.Prelude.{All}
+use Rattle.std.proofs.lemmas.List.Elements.{All-nil, All-push}
+use Rattle.std.proofs.lemmas.Option.{slice_get-get_or, slice_get_within}
 use Rattle.step_machine.specs.declared.events.Event.{Event}
 use Rattle.step_machine.specs.declared.events.Entry.{Entry}
 use Rattle.step_machine.specs.declared.events.Outcome.{Outcome}
 use Rattle.step_machine.specs.declared.events.Outcome.TheVariants as outcome
 use Rattle.step_machine.specs.History.{HartStart, Start, History, unrun, with_entry}
-use Rattle.step_machine.specs.Entries.{hart_of, is_land, is_own}
+use Rattle.step_machine.specs.Entries.{hart_of, is_land, is_own, own}
 use Rattle.step_machine.specs.Paths.{PathOf, Path}
-use Rattle.step_machine.specs.Legal.{Kept}
-use Rattle.step_machine.specs.Runs.{CanFollow, Adds, Idles, Happens, RunFrom}
+use Rattle.step_machine.specs.Legal.{IsOfHarts, Kept}
+use Rattle.step_machine.specs.Runs.{CanFollow, Adds, Idles, Happens, RunFrom, Run}
 use Rattle.step_machine.proofs.Follows.{Path-other}
 
 -- an outcome is an entry added, or nothing
@@ -31,8 +33,20 @@ own_hart k e is = eqb-true (hart_of e) k (left (hart_of e == k) (not (is_land e)
     left true b e = refl
     left false b e = e
 
+-- what can follow is of one of the opening's harts
+pub hart_follows : (B M : ℕ) (t : History) (e : Entry) → CanFollow B M t e → hart_of e < length t.opening.harts
+hart_follows B M t e f = at (slice_get t.opening.harts (hart_of e)) refl f.path
+  where
+    at : (so : Option HartStart) → slice_get t.opening.harts (hart_of e) ≡ so → PathOf M so (own (hart_of e) (t.entries ++ e ∷ [])) → hart_of e < length t.opening.harts
+    at None none p = absurd p
+    at (Some x) is p = slice_get_within t.opening.harts (hart_of e) x is
+
 pub kept_after : (B M : ℕ) (t : History) (e : Entry) → Kept B M t → CanFollow B M t e → Kept B M (with_entry t e)
-kept_after B M t e kept f = record { legal = f.legal; paths = λ k within. at k within (is_own k e) refl }
+kept_after B M t e kept f = record {
+  legal = f.legal;
+  paths = λ k within. at k within (is_own k e) refl;
+  of_harts = All-push (IsOfHarts t.opening) t.entries e kept.of_harts (hart_follows B M t e f);
+}
   where
     at : (k : ℕ) → k < length t.opening.harts → (b : Bool) → is_own k e ≡ b → Path M (with_entry t e) k
     at k within true mine = subst (λ (j : ℕ). Path M (with_entry t e) j) (own_hart k e mine) f.path
@@ -46,7 +60,7 @@ kept-happens B M t ev o new kept h =
     ]
 
 pub kept-unrun : (B M : ℕ) (o : Start) → Kept B M (unrun o)
-kept-unrun B M o = record { legal = tt; paths = λ h within. at h within (slice_get o.harts h) refl }
+kept-unrun B M o = record { legal = tt; paths = λ h within. at h within (slice_get o.harts h) refl; of_harts = All-nil (IsOfHarts o) }
   where
     at : (h : ℕ) → h < length o.harts → (so : Option HartStart) → slice_get o.harts h ≡ so → PathOf M so []
     at h within None none =
@@ -57,6 +71,32 @@ kept-unrun B M o = record { legal = tt; paths = λ h within. at h within (slice_
 pub kept-run : (B M : ℕ) (t : History) (evs : List Event) (new : History) → Kept B M t → RunFrom B M t evs new → Kept B M new
 kept-run B M t [] new kept run = subst (Kept B M) (sym run) kept
 kept-run B M t (ev ∷ evs) new kept run = kept-run B M run.1 evs new (kept-happens B M t ev run.0 run.1 kept run.2) run.3
+
+-- what each event keeps, each run keeps; the histories between are kept too
+pub run_induction : (B M : ℕ) (P : History → Type 0) → ((t : History) (ev : Event) (o : Outcome) (new : History) → Kept B M t → P t → Happens B M t ev o new → P new) → (t : History) (evs : List Event) (new : History) → Kept B M t → P t → RunFrom B M t evs new → P new
+run_induction B M P step t [] new kept holds run = subst P (sym run) holds
+run_induction B M P step t (ev ∷ evs) new kept holds run =
+    run_induction B M P step run.1 evs new (kept-happens B M t ev run.0 run.1 kept run.2) (step t ev run.0 run.1 kept holds run.2) run.3
+
+-- an event leaves the opening, and so does a run
+pub opening-happens : (B M : ℕ) (t : History) (ev : Event) (o : Outcome) (new : History) → Happens B M t ev o new → new.opening ≡ t.opening
+opening-happens B M t ev o new h =
+    elim (shape_of B M t ev o new h) [
+      | inl a ↦ ap (λ (u : History). u.opening) a.2.after
+      | inr i ↦ ap (λ (u : History). u.opening) i.after
+    ]
+
+pub opening-run : (B M : ℕ) (t : History) (evs : List Event) (new : History) → RunFrom B M t evs new → new.opening ≡ t.opening
+opening-run B M t [] new run = ap (λ (u : History). u.opening) run
+opening-run B M t (ev ∷ evs) new run = opening-run B M run.1 evs new run.3 ∙ opening-happens B M t ev run.0 run.1 run.2
+
+pub opening_kept : (B M : ℕ) (o : Start) (evs : List Event) (t : History) → Run B M o evs t → t.opening ≡ o
+opening_kept B M o evs t run = opening-run B M (unrun o) evs t run
+
+-- a run's entries are of its opening's harts
+pub of_harts-run : (B M : ℕ) (o : Start) (evs : List Event) (t : History) → Run B M o evs t → All (IsOfHarts o) t.entries
+of_harts-run B M o evs t run =
+    subst (λ (p : Start). All (IsOfHarts p) t.entries) (opening_kept B M o evs t run) (kept-run B M (unrun o) evs t (kept-unrun B M o) run).of_harts
 
 -- a run goes on by one event from its end
 pub RunFrom-more : (B M : ℕ) (t : History) (evs : List Event) (mid : History) (ev : Event) (o : Outcome) (new : History) → RunFrom B M t evs mid → Happens B M mid ev o new → RunFrom B M t (evs ++ ev ∷ []) new

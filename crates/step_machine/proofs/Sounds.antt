@@ -1,9 +1,10 @@
 -- A sound machine stays sound, whatever the event.
-use Rattle.std.proofs.Common.{◌≡◌, ℕ, ◌-◌, ◌/◌, ◌≤◌, ◌<◌, List, [], length, get_or, Option, Some, None, refl, sym, ◌∙◌, ap, subst, arith}
+use Rattle.std.proofs.Common.{◌≡◌, ℕ, ◌-◌, ◌≤◌, ◌<◌, List, [], length, get_or, Option, Some, None, refl, sym, ◌∙◌, ap, subst, arith}
 use Rattle.std.specs.Prelude.{map, option_map, IfSome, All}
 use Rattle.std.specs.List.{slice_get}
 use Rattle.std.proofs.lemmas.List.{length-map}
 use Rattle.std.proofs.lemmas.Option.{slice_get_within, slice_get-get_or, get_or_from_slice_get, slice_get-map}
+use Rattle.memory.specs.Writes.{byte_of}
 use Rattle.hart.specs.State.{HartState, HartView}
 use Rattle.hart.specs.Steps.{stepped}
 use Rattle.hart.specs.declared.need.Report.{Report}
@@ -15,8 +16,8 @@ use Rattle.step_machine.specs.declared.events.Outcome.{Outcome}
 use Rattle.step_machine.specs.declared.events.Outcome.TheVariants as outcome
 use Rattle.step_machine.specs.History.{Start, History, unrun, FitsIn}
 use Rattle.step_machine.specs.Runs.{Happens}
-use Rattle.step_machine.specs.Config.{Config, HasAddress, Fit, AllHaveRoom, HasRoom, SameButRoom, told, step_at, after_entry, after_outcome, entries_after, outcome_of, opened_config}
-use Rattle.step_machine.specs.Ties.{view_state, Tied, Sound}
+use Rattle.step_machine.specs.inner.Config.{Config, HasAddress, Fit, AllHaveRoom, HasRoom, SameButRoom, told, step_at, after_entry, after_outcome, entries_after, outcome_of, opened_config}
+use Rattle.step_machine.specs.inner.Ties.{view_state, Tied, Sound}
 use Rattle.step_machine.proofs.Carried.{carried}
 use Rattle.step_machine.proofs.Fitting.{length-step_at}
 use Rattle.step_machine.proofs.Happening.{history_after, outcome_of-happens}
@@ -24,6 +25,7 @@ use Rattle.step_machine.proofs.Opens.{fit_opened, tied_opened}
 use Rattle.step_machine.proofs.Rooms.{written_at_place, same-length}
 use Rattle.step_machine.proofs.Running.{kept-unrun, kept_after}
 use Rattle.step_machine.proofs.Stays.{first_same}
+use Rattle.memory.specs.declared.writes.Write.{Write}
 
 -- room is no part of what a history says
 
@@ -48,8 +50,9 @@ tied_same M t c d tied same = record {
   states = λ h. states_told (slice_get d.harts h) (slice_get c.harts h) (told_same c d h same) ∙ tied.states h;
   firsts = λ h. first_same c.harts d.harts h same.firsts ∙ tied.firsts h;
   reports = λ h v is. reports_told (slice_get c.harts h) v _ (sym (told_same c d h same) ∙ ap (option_map told) is) (tied.reports h);
-  buffers = λ h. ap (λ (bs : List (List (ℕ × ℕ))). get_or bs h []) same.buffers ∙ tied.buffers h;
-  words = λ a is. ap (λ (ws : List ℕ). get_or ws (a / 4) 0) same.words ∙ tied.words a is;
+  buffers = λ h. ap (λ (bs : List (List Write)). get_or bs h []) same.buffers ∙ tied.buffers h;
+  in_words = tied.in_words;
+  bytes = λ a is. ap (λ (ws : List ℕ). byte_of ws a) same.words ∙ tied.bytes a is;
 }
 
 -- room after a step
@@ -67,8 +70,8 @@ less_room hs n all h v is = let some : n ≤ v.room = all h v is in omega arith
 
 entry_room : (c : Config) (e : Entry) (n : ℕ) → AllHaveRoom n c.harts → AllHaveRoom (n - 1) (after_entry c e).harts
 entry_room c (entry.Inner h) n all = step_room c.harts h 0 n (slice_get c.harts h) refl all
-entry_room c (entry.Load h a v) n all = step_room c.harts h v n (slice_get c.harts h) refl all
-entry_room c (entry.Store h a v) n all = step_room c.harts h 0 n (slice_get c.harts h) refl all
+entry_room c (entry.Load h a width v) n all = step_room c.harts h v n (slice_get c.harts h) refl all
+entry_room c (entry.Store h a width v) n all = step_room c.harts h 0 n (slice_get c.harts h) refl all
 entry_room c (entry.Amo h a old new) n all = step_room c.harts h old n (slice_get c.harts h) refl all
 entry_room c (entry.Fence h full) n all = step_room c.harts h 0 n (slice_get c.harts h) refl all
 entry_room c (entry.Next h w) n all = step_room c.harts h 0 n (slice_get c.harts h) refl all
@@ -80,8 +83,8 @@ entry_room c (entry.Land h) n all = less_room c.harts n all
 
 entry_count : (c : Config) (e : Entry) → length (after_entry c e).harts ≡ length c.harts
 entry_count c (entry.Inner h) = length-step_at c.harts h 0 (slice_get c.harts h)
-entry_count c (entry.Load h a v) = length-step_at c.harts h v (slice_get c.harts h)
-entry_count c (entry.Store h a v) = length-step_at c.harts h 0 (slice_get c.harts h)
+entry_count c (entry.Load h a width v) = length-step_at c.harts h v (slice_get c.harts h)
+entry_count c (entry.Store h a width v) = length-step_at c.harts h 0 (slice_get c.harts h)
 entry_count c (entry.Amo h a old new) = length-step_at c.harts h old (slice_get c.harts h)
 entry_count c (entry.Fence h full) = length-step_at c.harts h 0 (slice_get c.harts h)
 entry_count c (entry.Next h w) = length-step_at c.harts h 0 (slice_get c.harts h)
@@ -118,7 +121,7 @@ fit_same M c d fit same = record {
   words = ap length same.words ∙ fit.words;
   harts = λ h x lt. (let here : slice_get d.harts h ≡ Some (get_or d.harts h x) = slice_get-get_or d.harts h x lt in
       words_told M (slice_get c.harts h) (get_or d.harts h x) (sym (told_same c d h same) ∙ ap (option_map told) here) (words_of M c fit h));
-  pending = subst (λ (bs : List (List (ℕ × ℕ))). All (λ (ps : List (ℕ × ℕ)). All (HasAddress M) ps) bs) (sym same.buffers) fit.pending;
+  pending = subst (λ (bs : List (List Write)). All (λ (ps : List Write). All (HasAddress M) ps) bs) (sym same.buffers) fit.pending;
 }
 
 pub sound_same : (B M n m : ℕ) (t : History) (c d : Config) → Sound B M t c n → SameButRoom c d → AllHaveRoom m d.harts → Sound B M t d m

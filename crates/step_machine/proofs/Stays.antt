@@ -1,11 +1,15 @@
 -- What the machine holds stays what its history says, over one more entry.
-use Rattle.std.proofs.Common.{◌≡◌, ◌≢◌, ℕ, zero, suc, ◌/◌, ◌<◌, ◌==◌, Bool, true, false, not, ◌&&◌, if◌then◌else◌, List, [], ◌∷◌, ◌++◌, length, drop, set, get_or, Option, Some, None, refl, sym, ◌∙◌, ap, subst, arith, append-nil, get_or-set_same, get_or-set_other}
-use Rattle.std.specs.Prelude.{map, option_map, unwrap_or}
+use Rattle.std.proofs.Common.{◌≡◌, ℕ, zero, suc, ◌+◌, ◌-◌, ◌*◌, ◌<◌, ◌==◌, Bool, true, false, not, ◌&&◌, if◌then◌else◌, List, [], ◌∷◌, ◌++◌, length, drop, set, get_or, Option, Some, None, refl, sym, ◌∙◌, ap, subst, arith, append-nil, get_or-set_same, get_or-set_other}
+use Rattle.std.specs.Prelude.{map, option_map, unwrap_or, All}
+use Rattle.std.proofs.lemmas.List.Elements.{All-nil, All-cons, All-append}
 use Rattle.std.specs.List.{slice_get}
 use Rattle.std.proofs.lemmas.Bool.{eqb-true, eqb-false, eq-eqb, ne_eqb}
 use Rattle.std.proofs.lemmas.Option.{slice_get_within, slice_get-map, get_or_from_slice_get}
 use Rattle.std.proofs.Math.Seq.{map-set_same}
-use Rattle.memory.specs.Words.{IsAddress, newest_of}
+use Rattle.std.specs.Int.{byte_at}
+use Rattle.memory.specs.Writes.{WritesInWord, write, covers, byte_after, newest_of, byte_of}
+use Rattle.memory.proofs.Bytes.{joined-same}
+use Rattle.memory.proofs.MemoryBytes.{byte_of-write}
 use Rattle.hart.specs.State.{HartState, HartView}
 use Rattle.hart.specs.Steps.{need_of, advanced, stepped, reports_after}
 use Rattle.hart.specs.declared.need.Need.{Need}
@@ -15,14 +19,16 @@ use Rattle.hart.specs.declared.need.Report.TheVariants as report
 use Rattle.step_machine.specs.declared.events.Entry.{Entry}
 use Rattle.step_machine.specs.declared.events.Entry.TheVariants as entry
 use Rattle.step_machine.specs.History.{Start, History, with_entry}
-use Rattle.step_machine.specs.Entries.{hart_of, is_land, is_own, store_of, land_of, report_of, reported, pending, write_of, landed, opening_word, memory_word}
+use Rattle.step_machine.specs.Entries.{hart_of, is_land, is_own, store_of, land_of, report_of, reported, pending, write_of, landed, opening_byte, memory_byte, memory_word}
 use Rattle.step_machine.specs.Paths.{entry_of, value_of, opens_as, state_of}
 use Rattle.step_machine.specs.Legal.{Legal}
-use Rattle.step_machine.specs.Config.{Config, first_of, step_at, step_hart}
-use Rattle.step_machine.specs.Ties.{view_state, Tied}
-use Rattle.step_machine.proofs.Appended.{pending-last, landed-last, newest_of-append, reported-last}
+use Rattle.step_machine.specs.inner.Config.{Config, HasAddress, first_of, written, step_at, step_hart}
+use Rattle.step_machine.specs.inner.Ties.{view_state, Tied}
+use Rattle.memory.proofs.Newest.{newest_of-append}
+use Rattle.step_machine.proofs.Appended.{pending-last, landed-last, reported-last}
 use Rattle.step_machine.proofs.Balanced.{balanced}
 use Rattle.step_machine.proofs.Follows.{advance_by, state_of-mine, state_of-other}
+use Rattle.memory.specs.declared.writes.Write.{Write}
 
 -- one element written, and the elements beside it
 
@@ -104,8 +110,8 @@ if_self h x y = ap (λ b. if b then x else y) (eq-eqb h h refl)
 
 pub reports_after-entry : (rs : List Report) (n : Need) (h v : ℕ) → reports_after rs n ≡ rs ++ report_of h (entry_of h n v)
 reports_after-entry rs need.Inner h v = sym (append-nil rs)
-reports_after-entry rs (need.Load a) h v = sym (append-nil rs)
-reports_after-entry rs (need.Store a w) h v = sym (append-nil rs)
+reports_after-entry rs (need.Load a width) h v = sym (append-nil rs)
+reports_after-entry rs (need.Store a width w) h v = sym (append-nil rs)
 reports_after-entry rs (need.Amo a op rs2) h v = sym (append-nil rs)
 reports_after-entry rs (need.Fence full) h v = sym (append-nil rs)
 reports_after-entry rs (need.Next w) h v = sym (append-nil rs)
@@ -116,8 +122,8 @@ reports_after-entry rs (need.Stop why) h v = sym (append-nil rs)
 
 pub report_of-other : (k : ℕ) (e : Entry) → (hart_of e == k) ≡ false → report_of k e ≡ []
 report_of-other k (entry.Inner g) ne = refl
-report_of-other k (entry.Load g a v) ne = refl
-report_of-other k (entry.Store g a v) ne = refl
+report_of-other k (entry.Load g a width v) ne = refl
+report_of-other k (entry.Store g a width v) ne = refl
 report_of-other k (entry.Amo g a old new) ne = refl
 report_of-other k (entry.Fence g full) ne = refl
 report_of-other k (entry.Next g w) ne = refl
@@ -168,8 +174,8 @@ pending-other B t k e legal no_store no_land =
     ∙ append-nil (pending k t.entries)
 
 -- a store joins what is pending of its hart at the end
-pub pending-store : (B : ℕ) (t : History) (h a v : ℕ) → Legal B t → pending h (t.entries ++ entry.Store h a v ∷ []) ≡ pending h t.entries ++ (a, v) ∷ []
-pending-store B t h a v legal = pending-last h t.entries (entry.Store h a v) (balanced B t h legal) ∙ ap (λ ps. pending h t.entries ++ ps) (if_self h ((a, v) ∷ []) [])
+pub pending-store : (B : ℕ) (t : History) (h a width v : ℕ) → Legal B t → pending h (t.entries ++ entry.Store h a width v ∷ []) ≡ pending h t.entries ++ write a width v ∷ []
+pending-store B t h a width v legal = pending-last h t.entries (entry.Store h a width v) (balanced B t h legal) ∙ ap (λ ps. pending h t.entries ++ ps) (if_self h (write a width v ∷ []) [])
 
 -- a landing takes the first of what is pending of its hart
 pub pending-land : (B : ℕ) (t : History) (h : ℕ) → Legal B t → pending h (t.entries ++ entry.Land h ∷ []) ≡ drop 1 (pending h t.entries)
@@ -178,14 +184,14 @@ pending-land B t h legal =
     ∙ ap (λ n. drop n (pending h t.entries ++ [])) (if_self h 1 0)
     ∙ ap (drop 1) (append-nil (pending h t.entries))
 
-pub store_of-other : (h k a v : ℕ) → (k ≡ h → ⊥) → store_of k (entry.Store h a v) ≡ []
-store_of-other h k a v ne = ap (λ b. if b then (a, v) ∷ [] else []) (ne_eqb h k (λ q. ne (sym q)))
+pub store_of-other : (h k a width v : ℕ) → (k ≡ h → ⊥) → store_of k (entry.Store h a width v) ≡ []
+store_of-other h k a width v ne = ap (λ b. if b then write a width v ∷ [] else []) (ne_eqb h k (λ q. ne (sym q)))
 
 pub land_of-other : (h k : ℕ) → (k ≡ h → ⊥) → land_of k (entry.Land h) ≡ 0
 land_of-other h k ne = ap (λ b. if b then 1 else 0) (ne_eqb h k (λ q. ne (sym q)))
 
 -- a buffer written at h is what is pending, where it is so at h, and the others stay
-pub buffers_stay : (M : ℕ) (t : History) (c : Config) (h : ℕ) (ps : List (ℕ × ℕ)) (e : Entry) → Tied M t c → h < length c.buffers → ps ≡ pending h (t.entries ++ e ∷ []) → ((k : ℕ) → (k ≡ h → ⊥) → pending k (t.entries ++ e ∷ []) ≡ pending k t.entries) → (k : ℕ) → get_or (set c.buffers h ps) k [] ≡ pending k (t.entries ++ e ∷ [])
+pub buffers_stay : (M : ℕ) (t : History) (c : Config) (h : ℕ) (ps : List Write) (e : Entry) → Tied M t c → h < length c.buffers → ps ≡ pending h (t.entries ++ e ∷ []) → ((k : ℕ) → (k ≡ h → ⊥) → pending k (t.entries ++ e ∷ []) ≡ pending k t.entries) → (k : ℕ) → get_or (set c.buffers h ps) k [] ≡ pending k (t.entries ++ e ∷ [])
 buffers_stay M t c h ps e tied within here others k = at (k == h) refl
   where
     at : (b : Bool) → (k == h) ≡ b → get_or (set c.buffers h ps) k [] ≡ pending k (t.entries ++ e ∷ [])
@@ -196,33 +202,39 @@ buffers_stay M t c h ps e tied within here others k = at (k == h) refl
         let ne : k ≡ h → ⊥ = eqb-false k h other in
         get_or-set_other c.buffers h k ps [] ne ∙ tied.buffers k ∙ sym (others k ne)
 
--- words
+-- what landed
 
--- an entry that writes nothing leaves every word
+pub in_words_other : (es : List Entry) (e : Entry) → write_of es e ≡ [] → All WritesInWord (landed es) → All WritesInWord (landed (es ++ e ∷ []))
+in_words_other es e none small = subst (All WritesInWord) (sym (landed-last es e ∙ ap (λ ws. landed es ++ ws) none ∙ append-nil (landed es))) small
+
+pub in_words_write : (es : List Entry) (e : Entry) (w : Write) → write_of es e ≡ w ∷ [] → WritesInWord w → All WritesInWord (landed es) → All WritesInWord (landed (es ++ e ∷ []))
+in_words_write es e w is here small =
+    subst (All WritesInWord) (sym (landed-last es e ∙ ap (λ ws. landed es ++ ws) is)) (All-append WritesInWord (landed es) (w ∷ []) small (All-cons WritesInWord w [] here (All-nil WritesInWord)))
+
+-- bytes
+
+-- an entry that writes nothing leaves every byte
+pub memory_byte-other : (o : Start) (es : List Entry) (e : Entry) (a : ℕ) → write_of es e ≡ [] → memory_byte o (es ++ e ∷ []) a ≡ memory_byte o es a
+memory_byte-other o es e a none = ap (λ ws. unwrap_or (newest_of a None ws) (opening_byte o a)) (landed-last es e ∙ ap (λ ws. landed es ++ ws) none ∙ append-nil (landed es))
+
 pub memory_word-other : (o : Start) (es : List Entry) (e : Entry) (a : ℕ) → write_of es e ≡ [] → memory_word o (es ++ e ∷ []) a ≡ memory_word o es a
-memory_word-other o es e a none = ap (λ ps. unwrap_or (newest_of a None ps) (opening_word o a)) (landed-last es e ∙ ap (λ ps. landed es ++ ps) none ∙ append-nil (landed es))
+memory_word-other o es e a none = joined-same (λ i. memory_byte o (es ++ e ∷ []) (a + i)) (λ i. memory_byte o es (a + i)) 4 (λ i lt. memory_byte-other o es e (a + i) none)
 
--- an entry that writes a pair changes the word at its address
-pub memory_word-write : (o : Start) (es : List Entry) (e : Entry) (x v a : ℕ) → write_of es e ≡ (x, v) ∷ [] → memory_word o (es ++ e ∷ []) a ≡ (if x == a then v else memory_word o es a)
-memory_word-write o es e x v a is =
-    ap (λ ps. unwrap_or (newest_of a None ps) (opening_word o a)) (landed-last es e ∙ ap (λ ps. landed es ++ ps) is)
-    ∙ ap (λ w. unwrap_or w (opening_word o a)) (newest_of-append a None (landed es) ((x, v) ∷ []))
-    ∙ chosen (x == a)
+-- an entry that writes changes the bytes that its write covers
+pub memory_byte-write : (o : Start) (es : List Entry) (e : Entry) (w : Write) (a : ℕ) → write_of es e ≡ w ∷ [] → memory_byte o (es ++ e ∷ []) a ≡ byte_after w a (memory_byte o es a)
+memory_byte-write o es e w a is =
+    ap (λ ws. unwrap_or (newest_of a None ws) (opening_byte o a)) (landed-last es e ∙ ap (λ ws. landed es ++ ws) is)
+    ∙ ap (λ b. unwrap_or b (opening_byte o a)) (newest_of-append a None (landed es) (w ∷ []))
+    ∙ chosen (covers w a)
   where
-    chosen : (b : Bool) → unwrap_or (if b then Some v else newest_of a None (landed es)) (opening_word o a) ≡ (if b then v else memory_word o es a)
+    chosen : (b : Bool) → unwrap_or (if b then Some (byte_at (a - w.addr) w.value) else newest_of a None (landed es)) (opening_byte o a) ≡ (if b then byte_at (a - w.addr) w.value else memory_byte o es a)
     chosen true = refl
     chosen false = refl
 
--- words written at the place of an address say what memory says after that write
-pub words_stay : (M : ℕ) (t : History) (c : Config) (e : Entry) (x v : ℕ) → Tied M t c → length c.words ≡ M → IsAddress M x → write_of t.entries e ≡ (x, v) ∷ [] → (a : ℕ) → IsAddress M a → get_or (set c.words (x / 4) v) (a / 4) 0 ≡ memory_word t.opening (t.entries ++ e ∷ []) a
-words_stay M t c e x v tied count aligned is a at_a = at (x == a) refl ∙ sym (memory_word-write t.opening t.entries e x v a is)
-  where
-    at : (b : Bool) → (x == a) ≡ b → get_or (set c.words (x / 4) v) (a / 4) 0 ≡ (if x == a then v else memory_word t.opening t.entries a)
-    at true same =
-        let x_is : x ≡ a = eqb-true x a same in
-        let within : x / 4 < length c.words = omega arith in
-        subst (λ (j : ℕ). get_or (set c.words (x / 4) v) (j / 4) 0 ≡ v) x_is (get_or-set_same c.words (x / 4) v 0 within) ∙ ap (λ b. if b then v else memory_word t.opening t.entries a) (sym same)
-    at false other =
-        let x_not : x ≡ a → ⊥ = eqb-false x a other in
-        let ne : a / 4 ≢ x / 4 = λ q. x_not (omega arith) in
-        get_or-set_other c.words (x / 4) (a / 4) v 0 ne ∙ tied.words a at_a ∙ ap (λ b. if b then v else memory_word t.opening t.entries a) (sym other)
+-- words after a write say what memory says after it
+pub bytes_stay : (M : ℕ) (t : History) (c : Config) (e : Entry) (w : Write) → Tied M t c → length c.words ≡ M → HasAddress M w → write_of t.entries e ≡ w ∷ [] → (a : ℕ) → a < 4 * M → byte_of (written w c.words) a ≡ memory_byte t.opening (t.entries ++ e ∷ []) a
+bytes_stay M t c e w tied count place is a below =
+    let within : w.addr < 4 * M = place.1 in
+    byte_of-write c.words w a place.0 (omega arith)
+    ∙ ap (byte_after w a) (tied.bytes a below)
+    ∙ sym (memory_byte-write t.opening t.entries e w a is)

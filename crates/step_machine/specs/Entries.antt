@@ -1,18 +1,20 @@
 -- What a list of entries says of a hart, of its pending stores and of memory. Each is read off the
 -- whole list; there is no buffer and no memory here.
-use Rattle.std.specs.Prelude.{ℕ, ◌+◌, ◌/◌, ◌==◌, Bool, true, false, not, ◌&&◌, if◌then◌else◌, List, [], ◌∷◌, ◌++◌, take, drop, slice_index, None, option_to_list, unwrap_or}
+use Rattle.std.specs.Prelude.{ℕ, ◌+◌, ◌==◌, Bool, true, false, not, ◌&&◌, if◌then◌else◌, List, [], ◌∷◌, ◌++◌, take, drop, None, option_to_list, unwrap_or}
 use Rattle.std.specs.List.{slice_get}
-use Rattle.memory.specs.Words.{newest_of}
+use Rattle.memory.specs.Writes.{write, newest_of, joined, byte_of}
 use Rattle.hart.specs.declared.need.Report.{Report}
 use Rattle.hart.specs.declared.need.Report.TheVariants as report
 use Rattle.step_machine.specs.declared.events.Entry.{Entry}
 use Rattle.step_machine.specs.declared.events.Entry.TheVariants as entry
 use Rattle.step_machine.specs.History.{Start}
+use Rattle.step_machine.specs.Access.{Access, nothing, load, store, exchange, fence, land, access_of}
+use Rattle.memory.specs.declared.writes.Write.{Write}
 
 abbrev pub hart_of : Entry → ℕ
 hart_of (entry.Inner h) = h
-hart_of (entry.Load h a v) = h
-hart_of (entry.Store h a v) = h
+hart_of (entry.Load h a width v) = h
+hart_of (entry.Store h a width v) = h
 hart_of (entry.Amo h a old new) = h
 hart_of (entry.Fence h full) = h
 hart_of (entry.Next h w) = h
@@ -22,18 +24,16 @@ hart_of (entry.Ended h) = h
 hart_of (entry.Stopped h why) = h
 hart_of (entry.Land h) = h
 
+abbrev pub is_landing : Access → Bool
+is_landing nothing = false
+is_landing (load a width v) = false
+is_landing (store w) = false
+is_landing (exchange a old new) = false
+is_landing (fence full) = false
+is_landing land = true
+
 abbrev pub is_land : Entry → Bool
-is_land (entry.Inner h) = false
-is_land (entry.Load h a v) = false
-is_land (entry.Store h a v) = false
-is_land (entry.Amo h a old new) = false
-is_land (entry.Fence h full) = false
-is_land (entry.Next h w) = false
-is_land (entry.Took h i w) = false
-is_land (entry.Closed h i) = false
-is_land (entry.Ended h) = false
-is_land (entry.Stopped h why) = false
-is_land (entry.Land h) = true
+is_land e = is_landing (access_of e)
 
 -- an entry that the hart itself made by an instruction
 abbrev pub is_own : ℕ → Entry → Bool
@@ -44,38 +44,35 @@ abbrev pub own : ℕ → List Entry → List Entry
 own h [] = []
 own h (e ∷ es) = if is_own h e then e ∷ own h es else own h es
 
--- the pair that the hart stores by this entry, if it is its store
-abbrev pub store_of : ℕ → Entry → List (ℕ × ℕ)
-store_of h (entry.Inner g) = []
-store_of h (entry.Load g a v) = []
-store_of h (entry.Store g a v) = if g == h then (a, v) ∷ [] else []
-store_of h (entry.Amo g a old new) = []
-store_of h (entry.Fence g full) = []
-store_of h (entry.Next g w) = []
-store_of h (entry.Took g i w) = []
-store_of h (entry.Closed g i) = []
-store_of h (entry.Ended g) = []
-store_of h (entry.Stopped g why) = []
-store_of h (entry.Land g) = []
+-- what is stored by an access, where it counts
+abbrev pub stored_by : Bool → Access → List Write
+stored_by counts nothing = []
+stored_by counts (load a width v) = []
+stored_by counts (store w) = if counts then w ∷ [] else []
+stored_by counts (exchange a old new) = []
+stored_by counts (fence full) = []
+stored_by counts land = []
 
--- the pairs that the hart stored, in program order
-abbrev pub stores : ℕ → List Entry → List (ℕ × ℕ)
+-- what the hart stores by this entry, if it is its store
+abbrev pub store_of : ℕ → Entry → List Write
+store_of h e = stored_by (hart_of e == h) (access_of e)
+
+-- what the hart stored, in program order
+abbrev pub stores : ℕ → List Entry → List Write
 stores h [] = []
 stores h (e ∷ es) = store_of h e ++ stores h es
 
+abbrev pub landed_by : Bool → Access → ℕ
+landed_by counts nothing = 0
+landed_by counts (load a width v) = 0
+landed_by counts (store w) = 0
+landed_by counts (exchange a old new) = 0
+landed_by counts (fence full) = 0
+landed_by counts land = if counts then 1 else 0
+
 -- 1 for a landing of this hart
 abbrev pub land_of : ℕ → Entry → ℕ
-land_of h (entry.Inner g) = 0
-land_of h (entry.Load g a v) = 0
-land_of h (entry.Store g a v) = 0
-land_of h (entry.Amo g a old new) = 0
-land_of h (entry.Fence g full) = 0
-land_of h (entry.Next g w) = 0
-land_of h (entry.Took g i w) = 0
-land_of h (entry.Closed g i) = 0
-land_of h (entry.Ended g) = 0
-land_of h (entry.Stopped g why) = 0
-land_of h (entry.Land g) = if g == h then 1 else 0
+land_of h e = landed_by (hart_of e == h) (access_of e)
 
 -- how many of the hart's stores landed
 abbrev pub lands : ℕ → List Entry → ℕ
@@ -83,59 +80,47 @@ lands h [] = 0
 lands h (e ∷ es) = land_of h e + lands h es
 
 -- the hart's stores that have not landed, oldest first
-abbrev pub pending : ℕ → List Entry → List (ℕ × ℕ)
+abbrev pub pending : ℕ → List Entry → List Write
 pending h es = drop (lands h es) (stores h es)
 
--- what an entry writes to memory, after the entries before it: a landing writes its hart's oldest
--- pending store, an AMO its new word, and nothing else writes
-abbrev pub write_of : List Entry → Entry → List (ℕ × ℕ)
-write_of before (entry.Inner h) = []
-write_of before (entry.Load h a v) = []
-write_of before (entry.Store h a v) = []
-write_of before (entry.Amo h a old new) = (a, new) ∷ []
-write_of before (entry.Fence h full) = []
-write_of before (entry.Next h w) = []
-write_of before (entry.Took h i w) = []
-write_of before (entry.Closed h i) = []
-write_of before (entry.Ended h) = []
-write_of before (entry.Stopped h why) = []
-write_of before (entry.Land h) = take 1 (pending h before)
+-- what an access writes to memory: a landing this, an AMO its new word, and nothing else writes
+abbrev pub written_by : List Write → Access → List Write
+written_by oldest nothing = []
+written_by oldest (load a width v) = []
+written_by oldest (store w) = []
+written_by oldest (exchange a old new) = write a 4 new ∷ []
+written_by oldest (fence full) = []
+written_by oldest land = oldest
 
-abbrev pub landed_after : List Entry → List Entry → List (ℕ × ℕ)
+-- what an entry writes, after the entries before it: a landing writes its hart's oldest pending store
+abbrev pub write_of : List Entry → Entry → List Write
+write_of before e = written_by (take 1 (pending (hart_of e) before)) (access_of e)
+
+abbrev pub landed_after : List Entry → List Entry → List Write
 landed_after before [] = []
 landed_after before (e ∷ es) = write_of before e ++ landed_after (before ++ e ∷ []) es
 
 -- the writes in the order in which they reached memory
-abbrev pub landed : List Entry → List (ℕ × ℕ)
+abbrev pub landed : List Entry → List Write
 landed es = landed_after [] es
 
 -- The same by counting over the whole list: the k-th landing of a hart writes its k-th store. A law
 -- says that the two agree on every legal list.
-abbrev pub write_by_count : List Entry → List Entry → Entry → List (ℕ × ℕ)
-write_by_count whole before (entry.Inner h) = []
-write_by_count whole before (entry.Load h a v) = []
-write_by_count whole before (entry.Store h a v) = []
-write_by_count whole before (entry.Amo h a old new) = (a, new) ∷ []
-write_by_count whole before (entry.Fence h full) = []
-write_by_count whole before (entry.Next h w) = []
-write_by_count whole before (entry.Took h i w) = []
-write_by_count whole before (entry.Closed h i) = []
-write_by_count whole before (entry.Ended h) = []
-write_by_count whole before (entry.Stopped h why) = []
-write_by_count whole before (entry.Land h) = option_to_list (slice_get (stores h whole) (lands h before))
+abbrev pub write_by_count : List Entry → List Entry → Entry → List Write
+write_by_count whole before e = written_by (option_to_list (slice_get (stores (hart_of e) whole) (lands (hart_of e) before))) (access_of e)
 
-abbrev pub landed_by_count_after : List Entry → List Entry → List Entry → List (ℕ × ℕ)
+abbrev pub landed_by_count_after : List Entry → List Entry → List Entry → List Write
 landed_by_count_after whole before [] = []
 landed_by_count_after whole before (e ∷ es) = write_by_count whole before e ++ landed_by_count_after whole (before ++ e ∷ []) es
 
-abbrev pub landed_by_count : List Entry → List (ℕ × ℕ)
+abbrev pub landed_by_count : List Entry → List Write
 landed_by_count es = landed_by_count_after es [] es
 
 -- what the hart reports by this entry
 abbrev pub report_of : ℕ → Entry → List Report
 report_of h (entry.Inner g) = []
-report_of h (entry.Load g a v) = []
-report_of h (entry.Store g a v) = []
+report_of h (entry.Load g a width v) = []
+report_of h (entry.Store g a width v) = []
 report_of h (entry.Amo g a old new) = []
 report_of h (entry.Fence g full) = []
 report_of h (entry.Next g w) = []
@@ -150,15 +135,25 @@ abbrev pub reported : ℕ → List Entry → List Report
 reported h [] = []
 reported h (e ∷ es) = report_of h e ++ reported h es
 
--- the word with which an address opens
-abbrev pub opening_word : Start → ℕ → ℕ
-opening_word o a = slice_index o.words (a / 4)
+-- the byte with which an address opens; the words of an opening are little-endian
+abbrev pub opening_byte : Start → ℕ → ℕ
+opening_byte o a = byte_of o.words a
 
--- the word of memory at an address: the last write to it that reached memory, else the opening word
+-- the byte of memory at an address: that of the last write to cover it that reached memory, else the
+-- opening's
+abbrev pub memory_byte : Start → List Entry → ℕ → ℕ
+memory_byte o es a = unwrap_or (newest_of a None (landed es)) (opening_byte o a)
+
+-- the word of memory at an address
 abbrev pub memory_word : Start → List Entry → ℕ → ℕ
-memory_word o es a = unwrap_or (newest_of a None (landed es)) (opening_word o a)
+memory_word o es a = joined (λ i. memory_byte o es (a + i)) 4
 
--- what a hart reads at an address: its newest pending store to it, else the word of memory. This is
--- the Load Value Axiom (RVWMO, with the store buffer's early reads) told by the order of landings.
-abbrev pub read : Start → List Entry → ℕ → ℕ → ℕ
-read o es h a = unwrap_or (newest_of a None (pending h es)) (memory_word o es a)
+-- the byte that a hart reads at an address: that of its newest pending store to cover it, else that of
+-- memory. This is the Load Value Axiom (RVWMO, with the store buffer's early reads) told by the order
+-- of landings.
+abbrev pub read_byte : Start → List Entry → ℕ → ℕ → ℕ
+read_byte o es h a = unwrap_or (newest_of a None (pending h es)) (memory_byte o es a)
+
+-- the number that a hart reads in so many bytes from an address on
+abbrev pub read : Start → List Entry → ℕ → ℕ → ℕ → ℕ
+read o es h a width = joined (λ i. read_byte o es h (a + i)) width

@@ -1,8 +1,8 @@
+pub mod Access
 pub mod History
 pub mod Entries
 pub mod Paths
 pub mod Legal
 pub mod Runs
-pub mod Config
-pub mod Ties
-pub mod Opened
+pub mod WordReads
+pub mod inner

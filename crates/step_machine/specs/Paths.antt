@@ -15,11 +15,11 @@ use Rattle.step_machine.specs.declared.events.Entry.TheVariants as entry
 use Rattle.step_machine.specs.History.{HartStart, History}
 use Rattle.step_machine.specs.Entries.{hart_of, own}
 
--- the entry by which hart h does what its next instruction wants, when v is the word read
+-- the entry by which hart h does what its next instruction wants, when v is the number read
 abbrev pub entry_of : ℕ → Need → ℕ → Entry
 entry_of h need.Inner v = entry.Inner h
-entry_of h (need.Load a) v = entry.Load h a v
-entry_of h (need.Store a w) v = entry.Store h a w
+entry_of h (need.Load a width) v = entry.Load h a width v
+entry_of h (need.Store a width w) v = entry.Store h a width w
 entry_of h (need.Amo a op rs2) v = entry.Amo h a v (updated op v rs2)
 entry_of h (need.Fence full) v = entry.Fence h full
 entry_of h (need.Next w) v = entry.Next h w
@@ -28,11 +28,11 @@ entry_of h (need.Report (report.Closed i)) v = entry.Closed h i
 entry_of h need.Exit v = entry.Ended h
 entry_of h (need.Stop why) v = entry.Stopped h why
 
--- the word that an entry read, and 0 where it read none
+-- the number that an entry read, and 0 where it read none
 abbrev pub value_of : Entry → ℕ
 value_of (entry.Inner h) = 0
-value_of (entry.Load h a v) = v
-value_of (entry.Store h a v) = 0
+value_of (entry.Load h a width v) = v
+value_of (entry.Store h a width v) = 0
 value_of (entry.Amo h a old new) = old
 value_of (entry.Fence h full) = 0
 value_of (entry.Next h w) = 0

@@ -1,7 +1,7 @@
 -- What a list of events makes of an opening. An event adds the one entry of its kind with which the
 -- whole list stays legal and its hart keeps a path; where there is none it adds nothing, and the
 -- outcome says why.
-use Rattle.std.specs.Prelude.{ℕ, ◌≡◌, false, List, [], ◌∷◌, Option, Some, None}
+use Rattle.std.specs.Prelude.{ℕ, ◌≡◌, false, if◌then◌else◌, List, [], ◌∷◌, map, Option, Some, None}
 use Rattle.hart.specs.State.{HartState}
 use Rattle.hart.specs.declared.status.Status.{Status}
 use Rattle.hart.specs.declared.status.Status.TheVariants as status
@@ -72,3 +72,11 @@ RunFrom B M t (ev ∷ evs) new = (o : Outcome) × (mid : History) × Happens B M
 -- these events make this history of the opening
 abbrev pub Run : ℕ → ℕ → Start → List Event → History → Type 0
 Run B M o evs t = RunFrom B M (unrun o) evs t
+
+-- the event by which an entry comes about
+abbrev pub event_of : Entry → Event
+event_of e = if is_land e then event.Land (hart_of e) else event.Act (hart_of e)
+
+-- the history is the run of its own entries' events
+abbrev pub IsOwnRun : ℕ → ℕ → History → Type 0
+IsOwnRun B M t = Run B M t.opening (map event_of t.entries) t

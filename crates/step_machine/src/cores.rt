@@ -3,9 +3,10 @@
 
 ghost use Rattle.std.specs.Prelude.{◌≡◌, ◌≤◌, ◌<◌, ℕ, true, false, [], length, slice_get, map, replicate, All, IfOk, IfSome, IsSomeAnd, OnOk, OnErr, unwrap_or, is_some};
 ghost use Rattle.memory.specs.Words.{IsAddress};
+ghost use Rattle.step_machine.specs.inner.Config.{IsPlace};
 ghost use Rattle.hart.specs.Steps.{reads, restarted};
-ghost use Rattle.step_machine.specs.Config.{all_put_back, no_stores};
-ghost use Rattle.step_machine.specs.Opened.{opened_hart};
+ghost use Rattle.step_machine.specs.inner.Config.{all_put_back, no_stores};
+ghost use Rattle.step_machine.specs.inner.Opened.{opened_hart};
 
 use crate::events::{Entry, Event, Outcome};
 use crate::opening::{HartOpening, Opening};
@@ -14,11 +15,12 @@ use hart::status::Status;
 use hart::{Hart, amo};
 use memory::store_buffer::StoreBuffer;
 use memory::words::Memory;
+use memory::writes::{Write, part};
 use rv_decode::instruction::AmoOp;
 use std::alloc::{AllocError, Global};
 use std::marker::Model;
 
-/// Harts, a store buffer of `B` pairs for each, and a memory of `M` words.
+/// Harts, a store buffer of `B` stores for each, and a memory of `M` words.
 #[derive(Drop)]
 pub struct Cores<const B: usize, const M: usize> {
     harts: Vec<Hart>,
@@ -28,7 +30,7 @@ pub struct Cores<const B: usize, const M: usize> {
 
 impl<const B: usize, const M: usize> Model for Cores<B, M> {
     ghost use Rattle.std.specs.Prelude.{◌≤◌};
-    ghost use Rattle.step_machine.specs.Config.{Config, Fit};
+    ghost use Rattle.step_machine.specs.inner.Config.{Config, Fit};
 
     ghost Value = { Config };
 
@@ -39,7 +41,7 @@ impl<const B: usize, const M: usize> Model for Cores<B, M> {
 
 impl<const B: usize, const M: usize> Cores<B, M> {
     ghost use Rattle.step_machine.specs.History.{FitsIn};
-    ghost use Rattle.step_machine.specs.Config.{Fit, opened_config, HasRoom, outcome_of, outcome_for, act_outcome, land_outcome, after_outcome, step_hart, found, buffer_of, word_at, roomy_at, restarted_config, SameButRoom, AllHaveRoom, IsNext, IsInRange};
+    ghost use Rattle.step_machine.specs.inner.Config.{Fit, opened_config, HasRoom, outcome_of, outcome_for, act_outcome, land_outcome, after_outcome, step_hart, found, buffer_of, word_at, roomy_at, restarted_config, SameButRoom, AllHaveRoom, IsNext, IsInRange};
 
     /// What an opening gives: harts at their beginnings, empty buffers, and the opening's words.
     pub fn open(alloc: Global, opening: &Opening) -> Result<Self, AllocError>
@@ -103,12 +105,17 @@ impl<const B: usize, const M: usize> Cores<B, M> {
     {
         match need {
             Need::Inner => self.do_alone(hart, need, Entry::Inner { hart }),
-            Need::Load { addr } => {
-                let value = self.find(hart, addr);
+            Need::Load { addr, width } => {
+                let value = self.find(hart, addr, width);
                 self.advance(hart, need, Some(value));
-                Outcome::Did(Entry::Load { hart, addr, value })
+                Outcome::Did(Entry::Load {
+                    hart,
+                    addr,
+                    width,
+                    value,
+                })
             }
-            Need::Store { addr, value } => self.store(hart, addr, value),
+            Need::Store { addr, width, value } => self.store(hart, addr, width, value),
             Need::Amo { addr, op, rs2 } => self.exchange(hart, addr, op, rs2),
             Need::Fence { full } => self.fence(hart, full),
             Need::Next { word } => self.do_alone(hart, need, Entry::Next { hart, word }),
@@ -135,35 +142,41 @@ impl<const B: usize, const M: usize> Cores<B, M> {
         Outcome::Did(entry)
     }
 
-    fn store(&mut self, hart: u32, addr: u32, value: u32) -> Outcome
-        requires next { IsNext self.old hart (Need.Store addr value) }
+    fn store(&mut self, hart: u32, addr: u32, width: u32, value: u32) -> Outcome
+        requires next { IsNext self.old hart (Need.Store addr width value) }
         requires within { hart < length self.old.harts }
-        requires address { IsAddress M addr }
-        ensures outcome { result ≡ outcome_for B self.old hart (Need.Store addr value) }
+        requires address { IsPlace M width addr }
+        ensures outcome { result ≡ outcome_for B self.old hart (Need.Store addr width value) }
         ensures after { self.new ≡ after_outcome self.old result }
     {
         let buffer = &mut self.buffers[hart as usize];
         if buffer.len() >= B {
             return Outcome::Waited;
         }
-        buffer.push(addr, value);
-        let need = Need::Store { addr, value };
-        self.do_alone(hart, need, Entry::Store { hart, addr, value })
+        buffer.push(addr, width, value);
+        let need = Need::Store { addr, width, value };
+        let entry = Entry::Store {
+            hart,
+            addr,
+            width,
+            value,
+        };
+        self.do_alone(hart, need, entry)
     }
 
     fn exchange(&mut self, hart: u32, addr: u32, op: AmoOp, rs2: u32) -> Outcome
         requires next { IsNext self.old hart (Need.Amo addr op rs2) }
         requires within { hart < length self.old.harts }
-        requires address { IsAddress M addr }
+        requires address { IsPlace M 4 addr }
         ensures outcome { result ≡ outcome_for B self.old hart (Need.Amo addr op rs2) }
         ensures after { self.new ≡ after_outcome self.old result }
     {
         if !self.buffers[hart as usize].is_empty() {
             return Outcome::Waited;
         }
-        let old = self.memory.load(addr);
+        let old = self.word(addr);
         let new = amo(op, old, rs2);
-        self.memory.store(addr, new);
+        self.memory.store_bytes(addr, 4, new);
         self.advance(hart, Need::Amo { addr, op, rs2 }, Some(old));
         Outcome::Did(Entry::Amo {
             hart,
@@ -196,16 +209,16 @@ impl<const B: usize, const M: usize> Cores<B, M> {
         self.harts[hart as usize].meet(need, value);
     }
 
-    /// What a hart reads at an address: its newest pending store to it, else the word of memory.
-    fn find(&self, hart: u32, addr: u32) -> u32
+    /// What a hart reads in `width` bytes from an address on: each byte of its newest pending store to
+    /// cover it, else of memory.
+    fn find(&self, hart: u32, addr: u32, width: u32) -> u32
         requires hart { hart < length self.now.harts }
-        requires address { IsAddress M addr }
-        ensures { result ≡ found self.now hart addr }
+        requires address { IsPlace M width addr }
+        ensures { result ≡ found self.now hart addr width }
     {
-        match self.buffers[hart as usize].newest(addr) {
-            Some(value) => value,
-            None => self.memory.load(addr),
-        }
+        let word = self.memory.load(addr - addr % 4);
+        let seen = self.buffers[hart as usize].over(addr, word);
+        part(seen, addr, width)
     }
 
     fn land(&mut self, hart: u32) -> Outcome
@@ -217,8 +230,8 @@ impl<const B: usize, const M: usize> Cores<B, M> {
             return Outcome::NoHart;
         }
         match self.buffers[index].land() {
-            Some((addr, value)) => {
-                self.memory.store(addr, value);
+            Some(store) => {
+                self.memory.store_bytes(store.addr, store.width, store.value);
                 Outcome::Did(Entry::Land { hart })
             }
             None if self.harts[index].status() == Status::Running => Outcome::NothingToLand,
@@ -278,13 +291,14 @@ impl<const B: usize, const M: usize> Cores<B, M> {
         &self.harts[hart as usize]
     }
 
-    pub fn pending(&self, hart: u32) -> &[(u32, u32)]
+    pub fn pending(&self, hart: u32) -> &[Write]
         requires { hart < length self.now.harts }
         ensures { result.now ≡ buffer_of self.now hart }
     {
         self.buffers[hart as usize].as_slice()
     }
 
+    #[tactic(auto, using(memory::proofs::MemoryBytes::word_in))]
     pub fn word(&self, addr: u32) -> u32
         requires { IsAddress M addr }
         ensures { result ≡ word_at self.now addr }

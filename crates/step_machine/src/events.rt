@@ -1,5 +1,7 @@
 //! What may happen to a machine, what did, and what a step answers.
 
+ghost use Rattle.std.specs.Prelude.{◌≡◌};
+
 use hart::status::Stop;
 
 /// One atomic step. Harts are numbered from 0.
@@ -11,7 +13,8 @@ pub enum Event {
     Land(u32),
 }
 
-/// What an event did. Addresses are in bytes, values are words.
+/// What an event did. Addresses are in bytes, widths are 1, 2 or 4 bytes, and a value is the unsigned
+/// number of those bytes, the lowest first.
 #[derive(Clone, Copy, Debug, PartialEq, Eq)]
 pub enum Entry {
     /// An instruction that does nothing of the others.
@@ -21,12 +24,14 @@ pub enum Entry {
     Load {
         hart: u32,
         addr: u32,
+        width: u32,
         value: u32,
     },
     /// A store joined the hart's store buffer.
     Store {
         hart: u32,
         addr: u32,
+        width: u32,
         value: u32,
     },
     /// An AMO replaced the word `old` by `new` in one step.
@@ -68,6 +73,48 @@ pub enum Entry {
     Land {
         hart: u32,
     },
+}
+
+impl Entry {
+    ghost use Rattle.step_machine.specs.Entries.{hart_of, is_land};
+    ghost use Rattle.step_machine.specs.Runs.{event_of};
+
+    /// The event by which the entry comes about.
+    pub fn event(self) -> Event
+        ensures { result ≡ event_of self }
+    {
+        if self.is_land() {
+            Event::Land(self.hart())
+        } else {
+            Event::Act(self.hart())
+        }
+    }
+
+    /// The hart that acted, or whose store landed.
+    pub fn hart(self) -> u32
+        ensures { result ≡ hart_of self }
+    {
+        match self {
+            Entry::Inner { hart } => hart,
+            Entry::Load { hart, .. } => hart,
+            Entry::Store { hart, .. } => hart,
+            Entry::Amo { hart, .. } => hart,
+            Entry::Fence { hart, .. } => hart,
+            Entry::Next { hart, .. } => hart,
+            Entry::Took { hart, .. } => hart,
+            Entry::Closed { hart, .. } => hart,
+            Entry::Ended { hart } => hart,
+            Entry::Stopped { hart, .. } => hart,
+            Entry::Land { hart } => hart,
+        }
+    }
+
+    /// Whether a store landed.
+    pub fn is_land(self) -> bool
+        ensures { result ≡ is_land self }
+    {
+        matches!(self, Entry::Land { .. })
+    }
 }
 
 /// What a step answers.

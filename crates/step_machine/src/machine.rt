@@ -1,19 +1,20 @@
 //! The machine: an opening, the entries since, and what the harts, buffers and memory hold by now.
 
-ghost use Rattle.std.specs.Prelude.{◌≡◌, ◌+◌, ◌≤◌, ◌<◌, ℕ, List, length, take, option_map, slice_index, IfOk, IfErr, IsOk, OnOk, OnErr, vec_len, vec_capacity};
+ghost use Rattle.std.specs.Prelude.{◌≡◌, ◌+◌, ◌≤◌, ◌<◌, ℕ, List, All, length, take, option_map, slice_index, IfOk, IfErr, IsOk, OnOk, OnErr, vec_len, vec_capacity};
 ghost use Rattle.hart.specs.State.{HartState};
 ghost use Rattle.memory.specs.Words.{IsAddress};
-ghost use Rattle.step_machine.specs.Config.{AllHaveRoom, HasRoom, SameButRoom, entries_after};
+ghost use Rattle.step_machine.specs.inner.Config.{AllHaveRoom, HasRoom, SameButRoom, entries_after};
 
 use crate::cores::Cores;
 use crate::events::{Entry, Event, Outcome};
 use crate::opening::{Opening, Trace};
 use hart::need::Report;
 use hart::status::Status;
+use memory::writes::Write;
 use std::alloc::{AllocError, Global};
 use std::marker::Model;
 
-/// Harts with store buffers of `B` pairs over one memory of `M` words. A contract sees its history
+/// Harts with store buffers of `B` stores over one memory of `M` words. A contract sees its history
 /// and for how many more steps it has room.
 #[derive(Drop)]
 pub struct Machine<const B: usize, const M: usize> {
@@ -26,7 +27,7 @@ pub struct Machine<const B: usize, const M: usize> {
 impl<const B: usize, const M: usize> Model for Machine<B, M> {
     ghost use Rattle.std.specs.Prelude.{◌+◌, ◌≤◌, vec_len, vec_capacity};
     ghost use Rattle.step_machine.specs.History.{Progress};
-    ghost use Rattle.step_machine.specs.Ties.{Sound};
+    ghost use Rattle.step_machine.specs.inner.Ties.{Sound};
 
     ghost Value = { Progress };
 
@@ -39,8 +40,8 @@ impl<const B: usize, const M: usize> Machine<B, M> {
     ghost use Rattle.step_machine.specs.History.{FitsIn, unrun};
     ghost use Rattle.step_machine.specs.Entries.{pending, reported, memory_word};
     ghost use Rattle.step_machine.specs.Paths.{state_of};
-    ghost use Rattle.step_machine.specs.Legal.{Kept};
-    ghost use Rattle.step_machine.specs.Runs.{Happens, RunFrom};
+    ghost use Rattle.step_machine.specs.Legal.{IsOfHarts, Kept};
+    ghost use Rattle.step_machine.specs.Runs.{Happens, RunFrom, IsOwnRun};
 
     /// A machine at its opening.
     pub fn open(alloc: Global, opening: Opening) -> Result<Self, AllocError>
@@ -76,11 +77,12 @@ impl<const B: usize, const M: usize> Machine<B, M> {
         Ok(outcome)
     }
 
-    /// The events one after the other. An error names how many of them came before it: the machine
-    /// stands after those.
+    /// The events one after the other. An error names how many of them came before it, which is fewer
+    /// than there are: the machine stands after those.
     pub fn run(&mut self, events: &[Event]) -> Result<(), (usize, AllocError)>
         ensures ok { OnOk result (RunFrom B M self.old.history events.now self.new.history) }
         ensures err { IfErr result (λ e. RunFrom B M self.old.history (take e.0 events.now) self.new.history) }
+        ensures below { IfErr result (λ e. e.0 < length events.now) }
         ensures opening { self.new.history.opening ≡ self.old.history.opening }
         ensures reserved { length events.now ≤ self.old.room → IsOk result }
         ensures room { self.old.room ≤ self.new.room + length events.now }
@@ -120,15 +122,18 @@ impl<const B: usize, const M: usize> Machine<B, M> {
 
     /// Where the machine began.
     pub fn opening(&self) -> &Opening
-        ensures { result.now ≡ self.now.history.opening }
+        ensures value { result.now ≡ self.now.history.opening }
+        ensures fits { FitsIn M self.now.history.opening }
     {
         &self.opening
     }
 
-    /// What was done since the opening, oldest first.
+    /// What was done since the opening, oldest first. It is the run of its own entries' events.
     pub fn entries(&self) -> &[Entry]
         ensures value { result.now ≡ self.now.history.entries }
         ensures kept { Kept B M self.now.history }
+        ensures own { IsOwnRun B M self.now.history }
+        ensures harts { All (IsOfHarts self.now.history.opening) self.now.history.entries }
     {
         &self.entries
     }
@@ -137,6 +142,8 @@ impl<const B: usize, const M: usize> Machine<B, M> {
     pub fn trace(&self, alloc: Global) -> Result<Trace, AllocError>
         ensures value { IfOk result (λ t. t ≡ self.now.history) }
         ensures kept { Kept B M self.now.history }
+        ensures own { IsOwnRun B M self.now.history }
+        ensures harts { All (IsOfHarts self.now.history.opening) self.now.history.entries }
     {
         let opening = self.opening.copy(alloc)?;
         let entries = Vec::from_slice(alloc, &self.entries)?;
@@ -145,7 +152,9 @@ impl<const B: usize, const M: usize> Machine<B, M> {
 
     /// How many harts there are, 1 to 64.
     pub fn harts(&self) -> u32
-        ensures { result ≡ length self.now.history.opening.harts }
+        ensures value { result ≡ length self.now.history.opening.harts }
+        ensures some { 1 ≤ result }
+        ensures most { result ≤ 64 }
     {
         self.opening.harts.len() as u32
     }
@@ -183,8 +192,8 @@ impl<const B: usize, const M: usize> Machine<B, M> {
         self.cores.hart(hart).reports()
     }
 
-    /// The hart's pending stores, pairs of address and value, oldest first.
-    pub fn pending(&self, hart: u32) -> &[(u32, u32)]
+    /// The hart's pending stores, oldest first.
+    pub fn pending(&self, hart: u32) -> &[Write]
         requires { hart < length self.now.history.opening.harts }
         ensures { result.now ≡ pending hart self.now.history.entries }
     {

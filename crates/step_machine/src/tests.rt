@@ -7,6 +7,7 @@ use crate::machine::Machine;
 use crate::opening::{HartOpening, Opening};
 use hart::need::Report;
 use hart::status::{Status, Stop};
+use memory::writes::Write;
 use std::alloc::{AllocError, Global};
 use std::process::Abort;
 use std::test::Fail;
@@ -62,11 +63,11 @@ fn store_buffering(alloc: Global, between: &[u32]) -> Result<Vec<HartOpening>, A
 }
 
 fn store(hart: u32, addr: u32, value: u32) -> Outcome {
-    Outcome::Did(Entry::Store { hart, addr, value })
+    Outcome::Did(Entry::Store { hart, addr, width: 4, value })
 }
 
 fn load(hart: u32, addr: u32, value: u32) -> Outcome {
-    Outcome::Did(Entry::Load { hart, addr, value })
+    Outcome::Did(Entry::Load { hart, addr, width: 4, value })
 }
 
 fn land(hart: u32) -> Outcome {
@@ -104,21 +105,25 @@ fn both_loads_of_store_buffering_may_read_0(rt: HostRuntime) -> Result<(), Fail>
         Entry::Store {
             hart: 0,
             addr: 0,
+            width: 4,
             value: 1,
         },
         Entry::Store {
             hart: 1,
             addr: 4,
+            width: 4,
             value: 1,
         },
         Entry::Load {
             hart: 0,
             addr: 4,
+            width: 4,
             value: 0,
         },
         Entry::Load {
             hart: 1,
             addr: 0,
+            width: 4,
             value: 0,
         },
         Entry::Land { hart: 0 },
@@ -267,7 +272,7 @@ fn a_store_waits_at_a_full_buffer(rt: HostRuntime) -> Result<(), Fail> {
         ],
     )?;
     assert_eq!(rt; machine.harts(), 1);
-    assert_eq!(rt; machine.pending(0), [(0, 7)].as_slice());
+    assert_eq!(rt; machine.pending(0), [Write { addr: 0, width: 4, value: 7 }].as_slice());
     expect_outcomes(&rt, &mut machine, &[(L0, land(0)), (L0, Outcome::Over)])?;
     Ok(())
 }
@@ -461,5 +466,50 @@ fn an_opening_past_the_limits_does_not_fit(rt: HostRuntime) -> Result<(), Fail> 
         words: Vec::new(rt.alloc()),
     };
     assert!(rt; !long.fits(4096));
+    Ok(())
+}
+
+fn data(load: bool, addr: u32, width: u32, value: u32) -> Outcome {
+    let hart = 0;
+    if load {
+        Outcome::Did(Entry::Load { hart, addr, width, value })
+    } else {
+        Outcome::Did(Entry::Store { hart, addr, width, value })
+    }
+}
+
+#[test]
+fn a_pending_byte_is_seen_by_its_own_hart(rt: HostRuntime) -> Result<(), Fail> {
+    // sb x5,1(x6), then lw, lbu 1, lb 1, lhu 0, lh 0, lh 1 into x7
+    let code = [0x005300A3, 0x00032383, 0x00134383, 0x00130383, 0x00035383, 0x00031383, 0x00131383];
+    let mut harts = Vec::new(rt.alloc());
+    harts.push(hart(rt.alloc(), &code, &[(5, 171)], &[])?)?;
+    harts.push(hart(rt.alloc(), &[0x00032383], &[], &[])?)?;
+    let mut machine = machine::<4>(&rt, harts, &[287454020])?;
+    let mut seen = Vec::new(rt.alloc());
+    expect_outcomes(&rt, &mut machine, &[(A0, data(false, 1, 1, 171)), (A0, data(true, 0, 4, 287484740))])?;
+    expect_outcomes(&rt, &mut machine, &[(A1, load(1, 0, 287454020))])?;
+    for wanted in [data(true, 1, 1, 171), data(true, 1, 1, 171), data(true, 0, 2, 43844), data(true, 0, 2, 43844)] {
+        expect_outcomes(&rt, &mut machine, &[(A0, wanted)])?;
+        seen.push(machine.register(0, 7))?;
+    }
+    assert_eq!(rt; seen.as_slice(), [171, 4294967211, 43844, 4294945604].as_slice());
+    let why = Stop::Misaligned;
+    expect_outcomes(&rt, &mut machine, &[(A0, Outcome::Did(Entry::Stopped { hart: 0, why }))])?;
+    Ok(())
+}
+
+#[test]
+fn a_byte_over_a_pending_halfword(rt: HostRuntime) -> Result<(), Fail> {
+    // sh x5,0(x6), sb x8,0(x6), lw x7,0(x6) twice
+    let code = [0x00531023, 0x00830023, 0x00032383, 0x00032383];
+    let mut harts = Vec::new(rt.alloc());
+    harts.push(hart(rt.alloc(), &code, &[(5, 258), (8, 255)], &[])?)?;
+    let mut machine = machine::<4>(&rt, harts, &[])?;
+    expect_outcomes(&rt, &mut machine, &[(A0, data(false, 0, 2, 258)), (A0, data(false, 0, 1, 255)), (A0, data(true, 0, 4, 511))])?;
+    expect_outcomes(&rt, &mut machine, &[(L0, land(0))])?;
+    assert_eq!(rt; machine.word(0), 258);
+    expect_outcomes(&rt, &mut machine, &[(A0, data(true, 0, 4, 511)), (L0, land(0))])?;
+    assert_eq!(rt; machine.word(0), 511);
     Ok(())
 }

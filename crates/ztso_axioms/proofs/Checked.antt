@@ -7,7 +7,7 @@ use Rattle.std.proofs.lemmas.List.{take_rest, get_or_default, get_or_read}
 use Rattle.std.proofs.lemmas.List.Elements.{filter_more}
 use Rattle.std.proofs.lemmas.Option.{slice_get_past}
 use Rattle.step_machine.specs.History.{Start}
-use Rattle.step_machine.specs.Entries.{opening_word}
+use Rattle.step_machine.specs.Entries.{opening_byte}
 use Rattle.step_machine.specs.declared.events.Entry.{Entry}
 use Rattle.step_machine.specs.declared.events.Entry.TheVariants as entry
 use Rattle.ztso_axioms.specs.Operations.{is_operation, passes, is_at, read_of, read_at, written_at}
@@ -105,14 +105,14 @@ last_written-append es a w [] ys = refl
 last_written-append es a w (x ∷ xs) ys = last_written-append es a (unwrap_or (written_at es a x) w) xs ys
 
 -- a place that is read is an operation's
-pub read_op : (es : List Entry) (q : ℕ) (r : ℕ × ℕ) → read_at es q ≡ Some r → is_at is_operation es q ≡ true
+pub read_op : (es : List Entry) (q : ℕ) (r : ℕ × ℕ × ℕ) → read_at es q ≡ Some r → is_at is_operation es q ≡ true
 read_op es q r is = at (slice_get es q) is
   where
     at : (so : Option Entry) → option_and_then read_of so ≡ Some r → passes is_operation so ≡ true
     at None e = cc
     at (Some (entry.Inner h)) e = cc
-    at (Some (entry.Load h a v)) e = refl
-    at (Some (entry.Store h a v)) e = refl
+    at (Some (entry.Load h a width v)) e = refl
+    at (Some (entry.Store h a width v)) e = refl
     at (Some (entry.Amo h a old new)) e = refl
     at (Some (entry.Fence h full)) e = cc
     at (Some (entry.Next h w)) e = cc
@@ -123,25 +123,25 @@ read_op es q r is = at (slice_get es q) is
     at (Some (entry.Land h)) e = cc
 
 pub values_from_indices : (o : Start) (es : List Entry) (gs : List ℕ) → NamesEachOnce es gs → ((i : ℕ) → i < length gs → HasLoadValue o es gs (get_or gs i 0)) → (q : ℕ) → HasLoadValue o es gs q
-values_from_indices o es gs n values q a v is =
-    let at_q : (i : ℕ) × (i < length gs) × (get_or gs i 0 ≡ q) = index_of q gs (named_op es gs q n (read_op es q (a, v) is)) in
-    subst (λ (x : ℕ). HasLoadValue o es gs x) at_q.2 (values at_q.0 at_q.1) a v is
+values_from_indices o es gs n values q a width v is =
+    let at_q : (i : ℕ) × (i < length gs) × (get_or gs i 0 ≡ q) = index_of q gs (named_op es gs q n (read_op es q (a, width, v) is)) in
+    subst (λ (x : ℕ). HasLoadValue o es gs x) at_q.2 (values at_q.0 at_q.1) a width v is
 
 -- one more operation read, and the value that the read sees by then
-pub seen_more : (o : Start) (es : List Entry) (gs : List ℕ) (q a j w new : ℕ) (seen : Bool) → j < length gs → is_seen es gs q (get_or gs j 0) ≡ seen → w ≡ last_written es a (opening_word o a) (filter (is_seen es gs q) (take j gs)) → new ≡ (if seen then unwrap_or (written_at es a (get_or gs j 0)) w else w) → new ≡ last_written es a (opening_word o a) (filter (is_seen es gs q) (take (j + 1) gs))
+pub seen_more : (o : Start) (es : List Entry) (gs : List ℕ) (q a j w new : ℕ) (seen : Bool) → j < length gs → is_seen es gs q (get_or gs j 0) ≡ seen → w ≡ last_written es a (opening_byte o a) (filter (is_seen es gs q) (take j gs)) → new ≡ (if seen then unwrap_or (written_at es a (get_or gs j 0)) w else w) → new ≡ last_written es a (opening_byte o a) (filter (is_seen es gs q) (take (j + 1) gs))
 seen_more o es gs q a j w new seen lt is before_it after =
     after ∙ at seen is
-    ∙ ap (last_written es a (opening_word o a)) (sym (filter_more (is_seen es gs q) gs j 0 lt))
+    ∙ ap (last_written es a (opening_byte o a)) (sym (filter_more (is_seen es gs q) gs j 0 lt))
   where
-    pushed : (b : Bool) → (if b then unwrap_or (written_at es a (get_or gs j 0)) (last_written es a (opening_word o a) (filter (is_seen es gs q) (take j gs))) else last_written es a (opening_word o a) (filter (is_seen es gs q) (take j gs))) ≡ last_written es a (opening_word o a) (filter (is_seen es gs q) (take j gs) ++ (if b then get_or gs j 0 ∷ [] else []))
-    pushed true = sym (last_written-append es a (opening_word o a) (filter (is_seen es gs q) (take j gs)) (get_or gs j 0 ∷ []))
-    pushed false = ap (last_written es a (opening_word o a)) (sym (append-nil (filter (is_seen es gs q) (take j gs))))
+    pushed : (b : Bool) → (if b then unwrap_or (written_at es a (get_or gs j 0)) (last_written es a (opening_byte o a) (filter (is_seen es gs q) (take j gs))) else last_written es a (opening_byte o a) (filter (is_seen es gs q) (take j gs))) ≡ last_written es a (opening_byte o a) (filter (is_seen es gs q) (take j gs) ++ (if b then get_or gs j 0 ∷ [] else []))
+    pushed true = sym (last_written-append es a (opening_byte o a) (filter (is_seen es gs q) (take j gs)) (get_or gs j 0 ∷ []))
+    pushed false = ap (last_written es a (opening_byte o a)) (sym (append-nil (filter (is_seen es gs q) (take j gs))))
 
-    at : (b : Bool) → is_seen es gs q (get_or gs j 0) ≡ b → (if b then unwrap_or (written_at es a (get_or gs j 0)) w else w) ≡ last_written es a (opening_word o a) (filter (is_seen es gs q) (take j gs) ++ (if is_seen es gs q (get_or gs j 0) then get_or gs j 0 ∷ [] else []))
+    at : (b : Bool) → is_seen es gs q (get_or gs j 0) ≡ b → (if b then unwrap_or (written_at es a (get_or gs j 0)) w else w) ≡ last_written es a (opening_byte o a) (filter (is_seen es gs q) (take j gs) ++ (if is_seen es gs q (get_or gs j 0) then get_or gs j 0 ∷ [] else []))
     at b is_b =
         ap (λ x. if b then unwrap_or (written_at es a (get_or gs j 0)) x else x) before_it
         ∙ pushed b
-        ∙ ap (λ c. last_written es a (opening_word o a) (filter (is_seen es gs q) (take j gs) ++ (if c then get_or gs j 0 ∷ [] else []))) (sym is_b)
+        ∙ ap (λ c. last_written es a (opening_byte o a) (filter (is_seen es gs q) (take j gs) ++ (if c then get_or gs j 0 ∷ [] else []))) (sym is_b)
 
 -- the same of the slice from i on, and the operation as it was read
 pub slice_from_none : (es : List Entry) (gs : List ℕ) (i x : ℕ) → i < length gs → x ≡ get_or gs i x → NoneBelongsBefore es gs i → All (λ (p : ℕ). is_preserved es p x ≡ false) (take (length gs - i) (drop i gs))

@@ -12,13 +12,15 @@ use Rattle.step_machine.specs.declared.events.Entry.{Entry}
 use Rattle.step_machine.specs.declared.events.Entry.TheVariants as entry
 use Rattle.step_machine.proofs.Appended.{LegalAfter-front, LegalAfter-back}
 use Rattle.step_machine.proofs.Balanced.{balanced-after}
-use Rattle.ztso_axioms.specs.Operations.{passes, is_at, written_to, written_at}
+use Rattle.ztso_axioms.specs.Operations.{passes, is_at, byte_in, written_to, written_at}
 use Rattle.ztso_axioms.specs.Axioms.{is_named, is_barrier}
 use Rattle.ztso_axioms.specs.Performed.{places_of, is_store_of, store_places, performed_after, left_below, hart_bound}
 use Rattle.ztso_axioms.proofs.Listing.{named-append}
 use Rattle.ztso_axioms.proofs.Places.{places_of-cons, places_of-split, place_of, performed_after-append}
 use Rattle.ztso_axioms.proofs.Members.{named-filter, named-places}
 use Rattle.ztso_axioms.proofs.Performs.{is_reader, stores_at, reads_at, entry_here, stores_performed, reads_performed}
+use Rattle.memory.specs.declared.writes.Write.{Write}
+use Rattle.memory.specs.Writes.{write}
 
 -- entries by place
 
@@ -68,19 +70,19 @@ store_in_front es us ws h p split own =
 -- a hart's stores, as places and as pairs
 
 -- each place holds a store of the pair beside it
-abbrev pub Told : List Entry → List ℕ → List (ℕ × ℕ) → Type 0
+abbrev pub Told : List Entry → List ℕ → List Write → Type 0
 Told all [] [] = Unit {0}
 Told all [] (p ∷ ps) = ⊥
 Told all (g ∷ gs) [] = ⊥
-Told all (g ∷ gs) (p ∷ ps) = ((a : ℕ) → written_at all a g ≡ (if p.0 == a then Some p.1 else None)) × Told all gs ps
+Told all (g ∷ gs) (p ∷ ps) = ((a : ℕ) → written_at all a g ≡ byte_in p a) × Told all gs ps
 
-pub Told-length : (all : List Entry) (gs : List ℕ) (ps : List (ℕ × ℕ)) → Told all gs ps → length gs ≡ length ps
+pub Told-length : (all : List Entry) (gs : List ℕ) (ps : List Write) → Told all gs ps → length gs ≡ length ps
 Told-length all [] [] told = refl
 Told-length all [] (p ∷ ps) told = absurd told
 Told-length all (g ∷ gs) [] told = absurd told
 Told-length all (g ∷ gs) (p ∷ ps) told = ap suc (Told-length all gs ps told.1)
 
-pub Told-drop : (all : List Entry) (n : ℕ) (gs : List ℕ) (ps : List (ℕ × ℕ)) → Told all gs ps → Told all (drop n gs) (drop n ps)
+pub Told-drop : (all : List Entry) (n : ℕ) (gs : List ℕ) (ps : List Write) → Told all gs ps → Told all (drop n gs) (drop n ps)
 Told-drop all zero gs ps told = told
 Told-drop all (suc n) [] [] told = told
 Told-drop all (suc n) [] (p ∷ ps) told = absurd told
@@ -92,13 +94,13 @@ told_by all us e ws h rest split gs told = at e split
   where
     at : (d : Entry) → all ≡ us ++ d ∷ ws → Told all (place_of (is_store_of h) (length us) d ++ gs) (store_of h d ++ stores h rest)
     at (entry.Inner g) here = told
-    at (entry.Load g a v) here = told
-    at (entry.Store g a v) here = mine (g == h)
+    at (entry.Load g a width v) here = told
+    at (entry.Store g a width v) here = mine (g == h)
       where
-        writes : (b : ℕ) → written_at all b (length us) ≡ (if a == b then Some v else None)
-        writes b = ap (λ zs. written_at zs b (length us)) here ∙ ap (option_and_then (written_to b)) (entry_here us (entry.Store g a v) ws)
+        writes : (b : ℕ) → written_at all b (length us) ≡ byte_in (write a width v) b
+        writes b = ap (λ zs. written_at zs b (length us)) here ∙ ap (option_and_then (written_to b)) (entry_here us (entry.Store g a width v) ws)
 
-        mine : (b : Bool) → Told all ((if b then length us ∷ [] else []) ++ gs) ((if b then (a, v) ∷ [] else []) ++ stores h rest)
+        mine : (b : Bool) → Told all ((if b then length us ∷ [] else []) ++ gs) ((if b then write a width v ∷ [] else []) ++ stores h rest)
         mine true = (writes, told)
         mine false = told
     at (entry.Amo g a old new) here = told
@@ -173,8 +175,8 @@ store_not_yet B o es us ws h q legal split own le =
 -- an AMO or a full fence finds nothing pending of its hart
 pub barrier_waits : (B : ℕ) (o : Start) (us : List Entry) (h : ℕ) (e : Entry) → is_barrier h e ≡ true → Allowed B o us e → pending h us ≡ []
 barrier_waits B o us h (entry.Inner g) is may = cc
-barrier_waits B o us h (entry.Load g a v) is may = cc
-barrier_waits B o us h (entry.Store g a v) is may = cc
+barrier_waits B o us h (entry.Load g a width v) is may = cc
+barrier_waits B o us h (entry.Store g a width v) is may = cc
 barrier_waits B o us h (entry.Amo g a old new) is may = subst (λ (k : ℕ). pending k us ≡ []) (eqb-true g h is) may.0
 barrier_waits B o us h (entry.Fence g full) is may =
     let parts : (full ≡ true) × ((g == h) ≡ true) = and_parts full (g == h) is in

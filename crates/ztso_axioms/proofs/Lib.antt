@@ -7,3 +7,4 @@ pub mod Performs
 pub mod Fronts
 pub mod Ordered
 pub mod Values
+pub mod Bytes

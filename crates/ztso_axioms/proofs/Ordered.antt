@@ -29,8 +29,8 @@ kind_at es p op = at (slice_get es p) op
     at : (so : Option Entry) → passes is_operation so ≡ true → (passes is_reader so ≡ true) ⊎ (passes (is_store_of (option_map_or hart_of so 0)) so ≡ true)
     at None e = cc
     at (Some (entry.Inner h)) e = cc
-    at (Some (entry.Load h a v)) e = inl refl
-    at (Some (entry.Store h a v)) e = inr (eq-eqb h h refl)
+    at (Some (entry.Load h a width v)) e = inl refl
+    at (Some (entry.Store h a width v)) e = inr (eq-eqb h h refl)
     at (Some (entry.Amo h a old new)) e = inl refl
     at (Some (entry.Fence h full)) e = cc
     at (Some (entry.Next h w)) e = cc

@@ -101,8 +101,8 @@ stores_by all us e ws h split n = at e (at_here (is_store_of h) all us e ws spli
 
     at : (d : Entry) → stores_at all h (length us) ≡ is_store_of h d → filter (stores_at all h) (performed_by all us d) ++ take n (drop (lands h us + land_of h d) (store_places h all)) ≡ take (land_of h d + n) (drop (lands h us) (store_places h all))
     at (entry.Inner g) here = still
-    at (entry.Load g a v) here = alone here
-    at (entry.Store g a v) here = still
+    at (entry.Load g a width v) here = alone here
+    at (entry.Store g a width v) here = still
     at (entry.Amo g a old new) here = alone here
     at (entry.Fence g full) here = still
     at (entry.Next g w) here = still
@@ -156,8 +156,8 @@ stores_left all h (suc n) lt =
 -- a store is no reader, and is an operation
 store_kinds : (h : ℕ) (e : Entry) → is_store_of h e ≡ true → (not (is_reader e) ≡ true) × (is_operation e ≡ true)
 store_kinds h (entry.Inner g) is = cc
-store_kinds h (entry.Load g a v) is = cc
-store_kinds h (entry.Store g a v) is = (refl, refl)
+store_kinds h (entry.Load g a width v) is = cc
+store_kinds h (entry.Store g a width v) is = (refl, refl)
 store_kinds h (entry.Amo g a old new) is = cc
 store_kinds h (entry.Fence g full) is = cc
 store_kinds h (entry.Next g w) is = cc
@@ -189,8 +189,8 @@ reads_by all us e ws split = at e (at_here is_reader all us e ws split)
   where
     at : (d : Entry) → reads_at all (length us) ≡ is_reader d → filter (reads_at all) (performed_by all us d) ≡ place_of is_reader (length us) d
     at (entry.Inner g) here = refl
-    at (entry.Load g a v) here = ap (λ b. if b then length us ∷ [] else []) here
-    at (entry.Store g a v) here = refl
+    at (entry.Load g a width v) here = ap (λ b. if b then length us ∷ [] else []) here
+    at (entry.Store g a width v) here = refl
     at (entry.Amo g a old new) here = ap (λ b. if b then length us ∷ [] else []) here
     at (entry.Fence g full) here = refl
     at (entry.Next g w) here = refl
@@ -227,8 +227,8 @@ operations_by all us e ws split = at e (at_here is_operation all us e ws split)
 
     at : (d : Entry) → is_at is_operation all (length us) ≡ is_operation d → Each (is_at is_operation all) (performed_by all us d)
     at (entry.Inner g) here = none
-    at (entry.Load g a v) here = Each-one (is_at is_operation all) (length us) here
-    at (entry.Store g a v) here = none
+    at (entry.Load g a width v) here = Each-one (is_at is_operation all) (length us) here
+    at (entry.Store g a width v) here = none
     at (entry.Amo g a old new) here = Each-one (is_at is_operation all) (length us) here
     at (entry.Fence g full) here = none
     at (entry.Next g w) here = none

@@ -1,21 +1,24 @@
 -- In the order of performing, a read has the value of the Load Value Axiom.
-use Rattle.std.proofs.Common.{◌≡◌, ℕ, zero, suc, ◌+◌, ◌≤◌, ◌<◌, ◌==◌, Bool, true, false, not, ◌&&◌, ◌||◌, if◌then◌else◌, nat_lt, ◌⊎◌, inl, inr, List, [], ◌∷◌, ◌++◌, length, take, drop, Option, Some, None, unwrap_or, refl, sym, ◌∙◌, ap, subst, arith, append-nil, append_assoc, length-drop}
+use Rattle.std.proofs.Common.{◌≡◌, ℕ, zero, suc, ◌+◌, ◌-◌, ◌≤◌, ◌<◌, ◌==◌, Bool, true, false, not, ◌&&◌, ◌||◌, if◌then◌else◌, nat_lt, ◌⊎◌, inl, inr, List, [], ◌∷◌, ◌++◌, length, take, drop, Option, Some, None, unwrap_or, refl, sym, ◌∙◌, ap, subst, arith, append-nil, append_assoc, length-drop}
 use Rattle.std.specs.Prelude.{filter, option_to_list, option_and_then}
 use Rattle.std.specs.List.{slice_get}
 use Rattle.std.specs.Option.{option_map_or}
 use Rattle.std.proofs.lemmas.Bool.{ltb-true, ltb-false}
 use Rattle.std.proofs.lemmas.List.{take-append-drop, length-take-le, drop-append-le, append_cancel_left}
 use Rattle.std.proofs.lemmas.List.Elements.{filter-append}
-use Rattle.std.proofs.lemmas.Option.{slice_get_within, some_pair_parts}
-use Rattle.memory.specs.Words.{newest_of}
+use Rattle.std.proofs.lemmas.Option.{slice_get_within}
+use Rattle.std.specs.Int.{byte_at}
+use Rattle.memory.specs.Writes.{write, covers, newest_of}
+use Rattle.memory.proofs.Bytes.{joined-same}
 use Rattle.step_machine.specs.History.{Start, History}
-use Rattle.step_machine.specs.Entries.{hart_of, stores, lands, write_of, landed_after, opening_word, memory_word, read}
-use Rattle.step_machine.specs.Legal.{Allowed, LegalAfter, Kept}
+use Rattle.step_machine.specs.Entries.{hart_of, stores, lands, write_of, landed_after, opening_byte, memory_byte, read_byte, read}
+use Rattle.step_machine.specs.Legal.{Allowed, LegalAfter, Legal}
 use Rattle.step_machine.specs.declared.events.Entry.{Entry}
 use Rattle.step_machine.specs.declared.events.Entry.TheVariants as entry
-use Rattle.step_machine.proofs.Appended.{LegalAfter-front, newest_of-append}
+use Rattle.memory.proofs.Newest.{newest_of-append}
+use Rattle.step_machine.proofs.Appended.{LegalAfter-front}
 use Rattle.ztso_axioms.specs.Operations.{is_operation, passes, is_at, hart_at, read_of, written_to, written_at}
-use Rattle.ztso_axioms.specs.Axioms.{times_named, before, is_named, in_program_order, is_seen, last_written, value_for, HasLoadValue, Ztso}
+use Rattle.ztso_axioms.specs.Axioms.{times_named, before, is_named, in_program_order, is_seen, last_written, byte_for, value_for, HasLoadValue, Ztso}
 use Rattle.ztso_axioms.specs.Performed.{places_of, is_store_of, store_places, performed_by, performed_after, left_below, hart_bound, order}
 use Rattle.ztso_axioms.proofs.Listing.{times-append, times-none, times-some, named-append, before-at}
 use Rattle.ztso_axioms.proofs.Checked.{once_of, last_written-append}
@@ -23,28 +26,29 @@ use Rattle.ztso_axioms.proofs.Members.{Each, Each-drop, Each-places, filter-ever
 use Rattle.ztso_axioms.proofs.Performs.{is_reader, stores_at, reads_at, entry_here, stores_performed, order-stores, order-operations}
 use Rattle.ztso_axioms.proofs.Fronts.{split_entry, at_past, order-front, Told, Told-length, Told-drop, front_told, front_balanced, front_stores, front_allows}
 use Rattle.ztso_axioms.proofs.Ordered.{performed_order, kind_at, order-once, order-program, read_performed, read_not_yet}
+use Rattle.memory.specs.declared.writes.Write.{Write}
 
 -- the last written value, and the newest of the pairs
 
-joined : (b : Bool) (v w : ℕ) (found : Option ℕ) → unwrap_or (if b then Some v else None) (unwrap_or found w) ≡ unwrap_or (if b then Some v else found) w
-joined true v w found = refl
-joined false v w found = refl
+chosen : (b : Bool) (v w : ℕ) (found : Option ℕ) → unwrap_or (if b then Some v else None) (unwrap_or found w) ≡ unwrap_or (if b then Some v else found) w
+chosen true v w found = refl
+chosen false v w found = refl
 
-told_values : (all : List Entry) (a w : ℕ) (found : Option ℕ) (gs : List ℕ) (ps : List (ℕ × ℕ)) → Told all gs ps → last_written all a (unwrap_or found w) gs ≡ unwrap_or (newest_of a found ps) w
+told_values : (all : List Entry) (a w : ℕ) (found : Option ℕ) (gs : List ℕ) (ps : List Write) → Told all gs ps → last_written all a (unwrap_or found w) gs ≡ unwrap_or (newest_of a found ps) w
 told_values all a w found [] [] told = refl
 told_values all a w found [] (p ∷ ps) told = absurd told
 told_values all a w found (g ∷ gs) [] told = absurd told
 told_values all a w found (g ∷ gs) (p ∷ ps) told =
     ap (λ so. last_written all a (unwrap_or so (unwrap_or found w)) gs) (told.0 a)
-    ∙ ap (λ x. last_written all a x gs) (joined (p.0 == a) p.1 w found)
-    ∙ told_values all a w (if p.0 == a then Some p.1 else found) gs ps told.1
+    ∙ ap (λ x. last_written all a x gs) (chosen (covers p a) (byte_at (a - p.addr) p.value) w found)
+    ∙ told_values all a w (if covers p a then Some (byte_at (a - p.addr) p.value) else found) gs ps told.1
 
 first_of : (xs ys : List ℕ) (k : ℕ) → k < length xs → option_to_list (slice_get (xs ++ ys) k) ≡ take 1 (drop k xs)
 first_of [] ys k lt = absurd (omega arith)
 first_of (x ∷ xs) ys zero lt = refl
 first_of (x ∷ xs) ys (suc k) lt = first_of xs ys k (omega arith)
 
-told_first : (all : List Entry) (gs : List ℕ) (ps : List (ℕ × ℕ)) → Told all gs ps → Told all (take 1 gs) (take 1 ps)
+told_first : (all : List Entry) (gs : List ℕ) (ps : List Write) → Told all gs ps → Told all (take 1 gs) (take 1 ps)
 told_first all [] [] told = tt
 told_first all [] (p ∷ ps) told = absurd told
 told_first all (g ∷ gs) [] told = absurd told
@@ -59,9 +63,9 @@ writes_by B o all us e ws a w found split = at e split
 
     at : (d : Entry) → all ≡ us ++ d ∷ ws → Allowed B o us d → last_written all a (unwrap_or found w) (performed_by all us d) ≡ unwrap_or (newest_of a found (write_of us d)) w
     at (entry.Inner g) here may = refl
-    at (entry.Load g b v) here may = ap (λ so. unwrap_or so (unwrap_or found w)) (written (entry.Load g b v) here)
-    at (entry.Store g b v) here may = refl
-    at (entry.Amo g b old new) here may = ap (λ so. unwrap_or so (unwrap_or found w)) (written (entry.Amo g b old new) here) ∙ joined (b == a) new w found
+    at (entry.Load g b width v) here may = ap (λ so. unwrap_or so (unwrap_or found w)) (written (entry.Load g b width v) here)
+    at (entry.Store g b width v) here may = refl
+    at (entry.Amo g b old new) here may = ap (λ so. unwrap_or so (unwrap_or found w)) (written (entry.Amo g b old new) here) ∙ chosen (covers (write b 4 new) a) (byte_at (a - b) new) w found
     at (entry.Fence g full) here may = refl
     at (entry.Next g x) here may = refl
     at (entry.Took g i x) here may = refl
@@ -86,9 +90,9 @@ writes_after B o all us (e ∷ es) ws a w found split legal =
     ∙ writes_after B o all (us ++ e ∷ []) es ws a w (newest_of a found (write_of us e)) (split ∙ sym (append_assoc us (e ∷ []) (es ++ ws))) legal.1
     ∙ ap (λ so. unwrap_or so w) (sym (newest_of-append a found (write_of us e) (landed_after (us ++ e ∷ []) es)))
 
-front_memory : (B : ℕ) (o : Start) (es us ws : List Entry) (a : ℕ) → LegalAfter B o [] es → es ≡ us ++ ws → last_written es a (opening_word o a) (performed_after es [] us) ≡ memory_word o us a
+front_memory : (B : ℕ) (o : Start) (es us ws : List Entry) (a : ℕ) → LegalAfter B o [] es → es ≡ us ++ ws → last_written es a (opening_byte o a) (performed_after es [] us) ≡ memory_byte o us a
 front_memory B o es us ws a legal split =
-    writes_after B o es [] us ws a (opening_word o a) None split (LegalAfter-front B o [] us ws (subst (λ (zs : List Entry). LegalAfter B o [] zs) split legal))
+    writes_after B o es [] us ws a (opening_byte o a) None split (LegalAfter-front B o [] us ws (subst (λ (zs : List Entry). LegalAfter B o [] zs) split legal))
 
 -- what a read sees
 
@@ -113,8 +117,8 @@ sees_own es q x us ws split len out op = at (kind_at es x op)
     writer : (so : Option Entry) → passes (is_store_of (option_map_or hart_of so 0)) so ≡ true → (option_map_or hart_of so 0 == hart_at es q) ≡ passes (is_store_of (hart_at es q)) so
     writer None own = cc
     writer (Some (entry.Inner h)) own = cc
-    writer (Some (entry.Load h a v)) own = cc
-    writer (Some (entry.Store h a v)) own = refl
+    writer (Some (entry.Load h a width v)) own = cc
+    writer (Some (entry.Store h a width v)) own = refl
     writer (Some (entry.Amo h a old new)) own = cc
     writer (Some (entry.Fence h full)) own = cc
     writer (Some (entry.Next h w)) own = cc
@@ -172,8 +176,8 @@ pending_places B o es us ws h q legal split len =
 -- a read performs itself
 reader_performs : (es us : List Entry) (e : Entry) → is_reader e ≡ true → performed_by es us e ≡ length us ∷ []
 reader_performs es us (entry.Inner g) is = cc
-reader_performs es us (entry.Load g a v) is = refl
-reader_performs es us (entry.Store g a v) is = cc
+reader_performs es us (entry.Load g a width v) is = refl
+reader_performs es us (entry.Store g a width v) is = cc
 reader_performs es us (entry.Amo g a old new) is = refl
 reader_performs es us (entry.Fence g full) is = cc
 reader_performs es us (entry.Next g w) is = cc
@@ -229,36 +233,36 @@ seen_by_read B o es us e ws q legal split len reader reads =
         let out : is_named x (performed_after es [] us) ≡ false = not_in_front x named (is_named x (performed_after es [] us)) refl in
         seen_is x ∙ ap (λ b. b || in_program_order es x q) out ∙ sees_own es q x us (e ∷ ws) split len out (operation x named)
 
--- so its value is what the store buffers and memory give it
-value_of_read : (B : ℕ) (o : Start) (es us : List Entry) (e : Entry) (ws : List Entry) (q a : ℕ) → LegalAfter B o [] es → es ≡ us ++ e ∷ ws → length us ≡ q → is_reader e ≡ true → reads_at es q ≡ true → value_for o es (performed_order es) q a ≡ read o us (hart_at es q) a
-value_of_read B o es us e ws q a legal split len reader reads =
-    ap (last_written es a (opening_word o a)) (seen_by_read B o es us e ws q legal split len reader reads)
-    ∙ last_written-append es a (opening_word o a) (performed_after es [] us) (drop (lands (hart_at es q) us) (store_places (hart_at es q) us))
+-- so each byte is what the store buffers and memory give it
+byte_of_read : (B : ℕ) (o : Start) (es us : List Entry) (e : Entry) (ws : List Entry) (q a : ℕ) → LegalAfter B o [] es → es ≡ us ++ e ∷ ws → length us ≡ q → is_reader e ≡ true → reads_at es q ≡ true → byte_for o es (performed_order es) q a ≡ read_byte o us (hart_at es q) a
+byte_of_read B o es us e ws q a legal split len reader reads =
+    ap (last_written es a (opening_byte o a)) (seen_by_read B o es us e ws q legal split len reader reads)
+    ∙ last_written-append es a (opening_byte o a) (performed_after es [] us) (drop (lands (hart_at es q) us) (store_places (hart_at es q) us))
     ∙ ap (λ w. last_written es a w (drop (lands (hart_at es q) us) (store_places (hart_at es q) us))) (front_memory B o es us (e ∷ ws) a legal split)
-    ∙ told_values es a (memory_word o us a) None (drop (lands (hart_at es q) us) (store_places (hart_at es q) us)) (drop (lands (hart_at es q) us) (stores (hart_at es q) us))
+    ∙ told_values es a (memory_byte o us a) None (drop (lands (hart_at es q) us) (store_places (hart_at es q) us)) (drop (lands (hart_at es q) us) (stores (hart_at es q) us))
     (Told-drop es (lands (hart_at es q) us) (store_places (hart_at es q) us) (stores (hart_at es q) us) (front_told es us (e ∷ ws) (hart_at es q) split))
 
-reads_what : (B : ℕ) (o : Start) (us : List Entry) (e : Entry) (a v : ℕ) → read_of e ≡ Some (a, v) → Allowed B o us e → (is_reader e ≡ true) × (v ≡ read o us (hart_of e) a)
-reads_what B o us (entry.Inner g) a v is may = cc
-reads_what B o us (entry.Load g b w) a v is may =
-    let parts : (b ≡ a) × (w ≡ v) = some_pair_parts b a w v is in
-    (refl, sym parts.1 ∙ may ∙ ap (read o us g) parts.0)
-reads_what B o us (entry.Store g b w) a v is may = cc
-reads_what B o us (entry.Amo g b old new) a v is may =
-    let parts : (b ≡ a) × (old ≡ v) = some_pair_parts b a old v is in
-    (refl, sym parts.1 ∙ may.1 ∙ ap (read o us g) parts.0)
-reads_what B o us (entry.Fence g full) a v is may = cc
-reads_what B o us (entry.Next g w) a v is may = cc
-reads_what B o us (entry.Took g i w) a v is may = cc
-reads_what B o us (entry.Closed g i) a v is may = cc
-reads_what B o us (entry.Ended g) a v is may = cc
-reads_what B o us (entry.Stopped g why) a v is may = cc
-reads_what B o us (entry.Land g) a v is may = cc
+reads_what : (B : ℕ) (o : Start) (us : List Entry) (e : Entry) (a n v : ℕ) → read_of e ≡ Some (a, n, v) → Allowed B o us e → (is_reader e ≡ true) × (v ≡ read o us (hart_of e) a n)
+reads_what B o us (entry.Inner g) a n v is may = cc
+reads_what B o us (entry.Load g b width w) a n v is may =
+    let same : (b, width, w) ≡ (a, n, v) = cc in
+    (refl, ap (λ (r : ℕ × ℕ × ℕ). r.2) (sym same) ∙ may ∙ ap (λ (r : ℕ × ℕ × ℕ). read o us g r.0 r.1) same)
+reads_what B o us (entry.Store g b width w) a n v is may = cc
+reads_what B o us (entry.Amo g b old new) a n v is may =
+    let same : (b, 4, old) ≡ (a, n, v) = cc in
+    (refl, ap (λ (r : ℕ × ℕ × ℕ). r.2) (sym same) ∙ may.1 ∙ ap (λ (r : ℕ × ℕ × ℕ). read o us g r.0 r.1) same)
+reads_what B o us (entry.Fence g full) a n v is may = cc
+reads_what B o us (entry.Next g w) a n v is may = cc
+reads_what B o us (entry.Took g i w) a n v is may = cc
+reads_what B o us (entry.Closed g i) a n v is may = cc
+reads_what B o us (entry.Ended g) a n v is may = cc
+reads_what B o us (entry.Stopped g why) a n v is may = cc
+reads_what B o us (entry.Land g) a n v is may = cc
 
 pub order-values : (B : ℕ) (o : Start) (es : List Entry) → LegalAfter B o [] es → (q : ℕ) → HasLoadValue o es (performed_order es) q
-order-values B o es legal q a v is = at (slice_get es q) refl is
+order-values B o es legal q a width v is = at (slice_get es q) refl is
   where
-    at : (so : Option Entry) → slice_get es q ≡ so → option_and_then read_of so ≡ Some (a, v) → v ≡ value_for o es (performed_order es) q a
+    at : (so : Option Entry) → slice_get es q ≡ so → option_and_then read_of so ≡ Some (a, width, v) → v ≡ value_for o es (performed_order es) q a width
     at None here none = cc
     at (Some e) here some =
         let us : List Entry = take q es in
@@ -266,15 +270,16 @@ order-values B o es legal q a v is = at (slice_get es q) refl is
         let split : es ≡ us ++ e ∷ ws = split_entry es q e here in
         let within : q < length es = slice_get_within es q e here in
         let len : length us ≡ q = length-take-le q es (omega arith) in
-        let what : (is_reader e ≡ true) × (v ≡ read o us (hart_of e) a) = reads_what B o us e a v some (front_allows B o es us e ws legal split) in
+        let what : (is_reader e ≡ true) × (v ≡ read o us (hart_of e) a width) = reads_what B o us e a width v some (front_allows B o es us e ws legal split) in
         let reads : reads_at es q ≡ true = ap (passes is_reader) here ∙ what.0 in
         let mine : hart_at es q ≡ hart_of e = ap (λ so. option_map_or hart_of so 0) here in
-        what.1 ∙ ap (λ h. read o us h a) (sym mine) ∙ sym (value_of_read B o es us e ws q a legal split len what.0 reads)
+        what.1 ∙ ap (λ h. read o us h a width) (sym mine)
+        ∙ joined-same (λ i. read_byte o us (hart_at es q) (a + i)) (λ i. byte_for o es (performed_order es) q (a + i)) width (λ i lt. sym (byte_of_read B o es us e ws q (a + i) legal split len what.0 reads))
 
--- a legal trace with paths satisfies the axioms in the order in which it performed
-pub kept-ztso : (B M : ℕ) (t : History) → Kept B M t → Ztso t (order t)
-kept-ztso B M t kept = record {
+-- a legal trace satisfies the axioms in the order in which it performed
+pub legal-ztso : (B : ℕ) (t : History) → Legal B t → Ztso t (order t)
+legal-ztso B t legal = record {
   operations = order-once t.entries;
-  program_order = order-program B t.opening t.entries kept.legal;
-  load_values = order-values B t.opening t.entries kept.legal;
+  program_order = order-program B t.opening t.entries legal;
+  load_values = order-values B t.opening t.entries legal;
 }

@@ -11,7 +11,7 @@ use Rattle.step_machine.specs.declared.events.Entry.{Entry}
 use Rattle.step_machine.specs.declared.events.Entry.TheVariants as entry
 use Rattle.ztso_axioms.specs.Operations.{is_store}
 use Rattle.ztso_axioms.specs.Performed.{places_of, is_store_of, store_places, performed_by, performed_after, left_places, left_below, hart_bound}
-use Rattle.ztso_axioms.specs.Landings.{landed_at, NamesLandings, AddsLandings, IsNextHart, nearer_of, performed_there}
+use Rattle.ztso_axioms.specs.inner.Landings.{landed_at, NamesLandings, AddsLandings, IsNextHart, nearer_of, performed_there}
 use Rattle.ztso_axioms.proofs.Places.{place_of, places_of-split, performed-last, lands-last}
 
 -- hart bounds
@@ -123,8 +123,8 @@ lands_more h es i d lt = ap (lands h) (take_more es i d lt) ∙ lands-last h (ta
 -- what an entry performs, by the list of landings
 pub performed_by-there : (es : List Entry) (i : ℕ) (e : Entry) (landed : List (Option ℕ)) (stands : Option ℕ) → NamesLandings es (hart_bound es) landed → slice_get es i ≡ Some e → i ≡ length (take i es) → stands ≡ get_or landed i None → performed_by es (take i es) e ≡ option_to_list (performed_there e i stands)
 performed_by-there es i (entry.Inner h) landed stands named is len read = refl
-performed_by-there es i (entry.Load h a v) landed stands named is len read = ap (λ n. n ∷ []) (sym len)
-performed_by-there es i (entry.Store h a v) landed stands named is len read = refl
+performed_by-there es i (entry.Load h a width v) landed stands named is len read = ap (λ n. n ∷ []) (sym len)
+performed_by-there es i (entry.Store h a width v) landed stands named is len read = refl
 performed_by-there es i (entry.Amo h a old new) landed stands named is len read = ap (λ n. n ∷ []) (sym len)
 performed_by-there es i (entry.Fence h full) landed stands named is len read = refl
 performed_by-there es i (entry.Next h w) landed stands named is len read = refl
@@ -192,8 +192,8 @@ land_of-land h = ap (λ b. if b then 1 else 0) (eq-eqb h h refl)
 
 land_of-else : (h : ℕ) (e : Entry) → (e ≡ entry.Land h → ⊥) → land_of h e ≡ 0
 land_of-else h (entry.Inner g) ne = refl
-land_of-else h (entry.Load g a v) ne = refl
-land_of-else h (entry.Store g a v) ne = refl
+land_of-else h (entry.Load g a width v) ne = refl
+land_of-else h (entry.Store g a width v) ne = refl
 land_of-else h (entry.Amo g a old new) ne = refl
 land_of-else h (entry.Fence g full) ne = refl
 land_of-else h (entry.Next g w) ne = refl

@@ -1,8 +1,9 @@
 -- What RVWMO with Ztso asks of a global memory order over a trace's operations (RISC-V Unprivileged
 -- ISA, chapters RVWMO and Ztso). The order is a list of places; there is no buffer in it and no memory.
-use Rattle.std.specs.Prelude.{ℕ, suc, ◌≡◌, ◌==◌, Bool, not, ◌&&◌, ◌||◌, if◌then◌else◌, nat_lt, IsTrue, List, [], ◌∷◌, drop, take, filter, Some, unwrap_or}
+use Rattle.std.specs.Prelude.{ℕ, suc, ◌+◌, ◌≡◌, ◌==◌, Bool, not, ◌&&◌, ◌||◌, if◌then◌else◌, nat_lt, IsTrue, List, [], ◌∷◌, drop, take, filter, Some, unwrap_or}
 use Rattle.std.specs.List.{list_any}
-use Rattle.step_machine.specs.Entries.{hart_of, opening_word}
+use Rattle.step_machine.specs.Entries.{hart_of, opening_byte}
+use Rattle.memory.specs.Writes.{joined}
 use Rattle.step_machine.specs.History.{Start, History}
 use Rattle.step_machine.specs.declared.events.Entry.{Entry}
 use Rattle.ztso_axioms.specs.Operations.{is_load, is_store, is_amo, is_full_fence, is_operation, is_at, hart_at, read_at, written_at}
@@ -50,14 +51,17 @@ is_preserved es p q = is_at is_operation es p && is_at is_operation es q && in_p
 abbrev pub is_seen : List Entry → List ℕ → ℕ → ℕ → Bool
 is_seen es gs q p = is_before gs p q || in_program_order es p q
 
--- the value of the last of these operations that writes to address a, and w where none does
+-- the byte of the last of these operations that writes to address a, and w where none does
 abbrev pub last_written : List Entry → ℕ → ℕ → List ℕ → ℕ
 last_written es a w [] = w
 last_written es a w (g ∷ gs) = last_written es a (unwrap_or (written_at es a g) w) gs
 
--- the value that the Load Value Axiom gives the read at q of address a
-abbrev pub value_for : Start → List Entry → List ℕ → ℕ → ℕ → ℕ
-value_for o es gs q a = last_written es a (opening_word o a) (filter (is_seen es gs q) gs)
+-- the byte that the Load Value Axiom gives the read at q of address a, and the number of so many
+abbrev pub byte_for : Start → List Entry → List ℕ → ℕ → ℕ → ℕ
+byte_for o es gs q a = last_written es a (opening_byte o a) (filter (is_seen es gs q) gs)
+
+abbrev pub value_for : Start → List Entry → List ℕ → ℕ → ℕ → ℕ → ℕ
+value_for o es gs q a width = joined (λ i. byte_for o es gs q (a + i)) width
 
 -- each operation is named once, and nothing else is
 abbrev pub NamesEachOnce : List Entry → List ℕ → Type 0
@@ -69,7 +73,7 @@ KeepsProgramOrder es gs = (p q : ℕ) → IsTrue (is_preserved es p q) → IsTru
 
 -- a load at q, or an AMO's for its old word, has the value of the Load Value Axiom
 abbrev pub HasLoadValue : Start → List Entry → List ℕ → ℕ → Type 0
-HasLoadValue o es gs q = (a v : ℕ) → read_at es q ≡ Some (a, v) → v ≡ value_for o es gs q a
+HasLoadValue o es gs q = (a width v : ℕ) → read_at es q ≡ Some (a, width, v) → v ≡ value_for o es gs q a width
 
 -- The list is a global memory order that Ztso allows for the trace. An AMO is one operation and there is
 -- no LR or SC, so the Atomicity Axiom has nothing more to ask; the Progress Axiom speaks of endless runs

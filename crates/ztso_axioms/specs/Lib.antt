@@ -1,4 +1,4 @@
 pub mod Operations
 pub mod Axioms
 pub mod Performed
-pub mod Landings
+pub mod inner

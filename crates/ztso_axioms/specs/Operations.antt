@@ -1,97 +1,92 @@
 -- The memory operations of a trace: its loads, stores and AMOs, each named by its place among the
 -- entries (RISC-V Unprivileged ISA, chapter RVWMO). A landing is no operation.
-use Rattle.std.specs.Prelude.{ℕ, ◌==◌, Bool, true, false, ◌||◌, if◌then◌else◌, List, Option, Some, None, option_and_then}
+use Rattle.std.specs.Prelude.{ℕ, ◌-◌, ◌==◌, Bool, true, false, ◌||◌, if◌then◌else◌, List, Option, Some, None, option_and_then}
 use Rattle.std.specs.List.{slice_get}
 use Rattle.std.specs.Option.{option_map_or}
+use Rattle.std.specs.Int.{byte_at}
+use Rattle.memory.specs.declared.writes.Write.{Write}
+use Rattle.memory.specs.Writes.{write, covers}
 use Rattle.step_machine.specs.Entries.{hart_of}
 use Rattle.step_machine.specs.declared.events.Entry.{Entry}
-use Rattle.step_machine.specs.declared.events.Entry.TheVariants as entry
+use Rattle.step_machine.specs.Access.{Access, nothing, load, store, exchange, fence, land, access_of}
 
 -- a plain load; an AMO is none
+abbrev pub loads : Access → Bool
+loads nothing = false
+loads (load a width v) = true
+loads (store w) = false
+loads (exchange a old new) = false
+loads (fence full) = false
+loads land = false
+
 abbrev pub is_load : Entry → Bool
-is_load (entry.Inner h) = false
-is_load (entry.Load h a v) = true
-is_load (entry.Store h a v) = false
-is_load (entry.Amo h a old new) = false
-is_load (entry.Fence h full) = false
-is_load (entry.Next h w) = false
-is_load (entry.Took h i w) = false
-is_load (entry.Closed h i) = false
-is_load (entry.Ended h) = false
-is_load (entry.Stopped h why) = false
-is_load (entry.Land h) = false
+is_load e = loads (access_of e)
 
 -- a plain store; an AMO is none
+abbrev pub stores_plainly : Access → Bool
+stores_plainly nothing = false
+stores_plainly (load a width v) = false
+stores_plainly (store w) = true
+stores_plainly (exchange a old new) = false
+stores_plainly (fence full) = false
+stores_plainly land = false
+
 abbrev pub is_store : Entry → Bool
-is_store (entry.Inner h) = false
-is_store (entry.Load h a v) = false
-is_store (entry.Store h a v) = true
-is_store (entry.Amo h a old new) = false
-is_store (entry.Fence h full) = false
-is_store (entry.Next h w) = false
-is_store (entry.Took h i w) = false
-is_store (entry.Closed h i) = false
-is_store (entry.Ended h) = false
-is_store (entry.Stopped h why) = false
-is_store (entry.Land h) = false
+is_store e = stores_plainly (access_of e)
+
+abbrev pub exchanges : Access → Bool
+exchanges nothing = false
+exchanges (load a width v) = false
+exchanges (store w) = false
+exchanges (exchange a old new) = true
+exchanges (fence full) = false
+exchanges land = false
 
 abbrev pub is_amo : Entry → Bool
-is_amo (entry.Inner h) = false
-is_amo (entry.Load h a v) = false
-is_amo (entry.Store h a v) = false
-is_amo (entry.Amo h a old new) = true
-is_amo (entry.Fence h full) = false
-is_amo (entry.Next h w) = false
-is_amo (entry.Took h i w) = false
-is_amo (entry.Closed h i) = false
-is_amo (entry.Ended h) = false
-is_amo (entry.Stopped h why) = false
-is_amo (entry.Land h) = false
+is_amo e = exchanges (access_of e)
 
 -- a fence that orders every earlier access before every later one; `fence.tso` is none
+abbrev pub fences : Access → Bool
+fences nothing = false
+fences (load a width v) = false
+fences (store w) = false
+fences (exchange a old new) = false
+fences (fence full) = full
+fences land = false
+
 abbrev pub is_full_fence : Entry → Bool
-is_full_fence (entry.Inner h) = false
-is_full_fence (entry.Load h a v) = false
-is_full_fence (entry.Store h a v) = false
-is_full_fence (entry.Amo h a old new) = false
-is_full_fence (entry.Fence h full) = full
-is_full_fence (entry.Next h w) = false
-is_full_fence (entry.Took h i w) = false
-is_full_fence (entry.Closed h i) = false
-is_full_fence (entry.Ended h) = false
-is_full_fence (entry.Stopped h why) = false
-is_full_fence (entry.Land h) = false
+is_full_fence e = fences (access_of e)
 
 abbrev pub is_operation : Entry → Bool
 is_operation e = is_load e || is_store e || is_amo e
 
--- the address and the value that a load reads, or an AMO for its old word
-abbrev pub read_of : Entry → Option (ℕ × ℕ)
-read_of (entry.Inner h) = None
-read_of (entry.Load h a v) = Some (a, v)
-read_of (entry.Store h a v) = None
-read_of (entry.Amo h a old new) = Some (a, old)
-read_of (entry.Fence h full) = None
-read_of (entry.Next h w) = None
-read_of (entry.Took h i w) = None
-read_of (entry.Closed h i) = None
-read_of (entry.Ended h) = None
-read_of (entry.Stopped h why) = None
-read_of (entry.Land h) = None
+-- the address, the width and the value that a load reads, or an AMO for its old word
+abbrev pub read_by : Access → Option (ℕ × ℕ × ℕ)
+read_by nothing = None
+read_by (load a width v) = Some (a, width, v)
+read_by (store w) = None
+read_by (exchange a old new) = Some (a, 4, old)
+read_by (fence full) = None
+read_by land = None
 
--- the value that a store, or an AMO by its new word, writes to address a
+abbrev pub read_of : Entry → Option (ℕ × ℕ × ℕ)
+read_of e = read_by (access_of e)
+
+-- the byte that a write puts at address a, where it covers it
+abbrev pub byte_in : Write → ℕ → Option ℕ
+byte_in w a = if covers w a then Some (byte_at (a - w.addr) w.value) else None
+
+-- the byte that a store, or an AMO by its new word, writes to address a
+abbrev pub byte_by : ℕ → Access → Option ℕ
+byte_by a nothing = None
+byte_by a (load b width v) = None
+byte_by a (store w) = byte_in w a
+byte_by a (exchange b old new) = byte_in (write b 4 new) a
+byte_by a (fence full) = None
+byte_by a land = None
+
 abbrev pub written_to : ℕ → Entry → Option ℕ
-written_to a (entry.Inner h) = None
-written_to a (entry.Load h b v) = None
-written_to a (entry.Store h b v) = if b == a then Some v else None
-written_to a (entry.Amo h b old new) = if b == a then Some new else None
-written_to a (entry.Fence h full) = None
-written_to a (entry.Next h w) = None
-written_to a (entry.Took h i w) = None
-written_to a (entry.Closed h i) = None
-written_to a (entry.Ended h) = None
-written_to a (entry.Stopped h why) = None
-written_to a (entry.Land h) = None
+written_to a e = byte_by a (access_of e)
 
 -- the same of a place
 
@@ -107,7 +102,7 @@ is_at test es p = passes test (slice_get es p)
 abbrev pub hart_at : List Entry → ℕ → ℕ
 hart_at es p = option_map_or hart_of (slice_get es p) 0
 
-abbrev pub read_at : List Entry → ℕ → Option (ℕ × ℕ)
+abbrev pub read_at : List Entry → ℕ → Option (ℕ × ℕ × ℕ)
 read_at es p = option_and_then read_of (slice_get es p)
 
 abbrev pub written_at : List Entry → ℕ → ℕ → Option ℕ

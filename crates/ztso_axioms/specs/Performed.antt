@@ -5,7 +5,7 @@ use Rattle.std.specs.List.{slice_get}
 use Rattle.step_machine.specs.Entries.{hart_of, lands}
 use Rattle.step_machine.specs.History.{History}
 use Rattle.step_machine.specs.declared.events.Entry.{Entry}
-use Rattle.step_machine.specs.declared.events.Entry.TheVariants as entry
+use Rattle.step_machine.specs.Access.{Access, nothing, load, store, exchange, fence, land, access_of}
 use Rattle.ztso_axioms.specs.Operations.{is_store}
 
 -- the places of the entries that pass a test, where the entries begin at place n
@@ -20,20 +20,19 @@ is_store_of h e = is_store e && (hart_of e == h)
 abbrev pub store_places : ℕ → List Entry → List ℕ
 store_places h es = places_of (is_store_of h) 0 es
 
--- what an entry performs, after the entries before it: a load and an AMO themselves, the hart's k-th
--- landing the hart's k-th store among all entries
+-- what an access at this place performs: a load and an AMO themselves, a landing this store
+abbrev pub performed_at : ℕ → List ℕ → Access → List ℕ
+performed_at place landing nothing = []
+performed_at place landing (load a width v) = place ∷ []
+performed_at place landing (store w) = []
+performed_at place landing (exchange a old new) = place ∷ []
+performed_at place landing (fence full) = []
+performed_at place landing land = landing
+
+-- what an entry performs, after the entries before it: the hart's k-th landing the hart's k-th store
+-- among all entries
 abbrev pub performed_by : List Entry → List Entry → Entry → List ℕ
-performed_by all earlier (entry.Inner h) = []
-performed_by all earlier (entry.Load h a v) = length earlier ∷ []
-performed_by all earlier (entry.Store h a v) = []
-performed_by all earlier (entry.Amo h a old new) = length earlier ∷ []
-performed_by all earlier (entry.Fence h full) = []
-performed_by all earlier (entry.Next h w) = []
-performed_by all earlier (entry.Took h i w) = []
-performed_by all earlier (entry.Closed h i) = []
-performed_by all earlier (entry.Ended h) = []
-performed_by all earlier (entry.Stopped h why) = []
-performed_by all earlier (entry.Land h) = option_to_list (slice_get (store_places h all) (lands h earlier))
+performed_by all earlier e = performed_at (length earlier) (option_to_list (slice_get (store_places (hart_of e) all) (lands (hart_of e) earlier))) (access_of e)
 
 abbrev pub performed_after : List Entry → List Entry → List Entry → List ℕ
 performed_after all earlier [] = []

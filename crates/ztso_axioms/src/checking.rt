@@ -1,14 +1,14 @@
 //! Whether a list is a global memory order that the axioms allow.
 
-ghost use Rattle.std.specs.Prelude.{◌≡◌, ℕ, ◌<◌, ◌↔◌, IsTrue, true, false, nat_lt, if◌then◌else◌, All, suc, drop, length, slice_index};
+ghost use Rattle.std.specs.Prelude.{◌≡◌, ℕ, ◌^◌, ◌<◌, ◌↔◌, IsTrue, true, false, nat_lt, if◌then◌else◌, All, suc, drop, length, slice_index};
 ghost use Rattle.std.specs.List.{list_any};
-ghost use Rattle.step_machine.specs.Entries.{opening_word};
+ghost use Rattle.step_machine.specs.Entries.{opening_byte};
 ghost use Rattle.ztso_axioms.specs.Operations.{written_at, hart_at};
-ghost use Rattle.ztso_axioms.specs.Axioms.{times_named, is_barrier, is_fenced, is_preserved, in_program_order, is_seen, value_for, NamesEachOnce, KeepsProgramOrder, HasLoadValue, Ztso};
+ghost use Rattle.ztso_axioms.specs.Axioms.{times_named, is_barrier, is_fenced, is_preserved, in_program_order, is_seen, byte_for, value_for, NamesEachOnce, KeepsProgramOrder, HasLoadValue, Ztso};
 
 use crate::operation::{
-    Op, entry_at, hart_named, hart_of_entry, is_memory_operation, is_plain_load, is_plain_store,
-    orders, value_named, value_read,
+    Op, entry_at, hart_named, is_memory_operation, is_plain_load, is_plain_store,
+    byte_at, byte_named, orders, value_read,
 };
 use step_machine::{Entry, Opening, Trace};
 
@@ -76,7 +76,7 @@ fn may_precede(entries: &[Entry], op: Op, others: &[Op]) -> bool
     let Some(entry) = entry_at(entries, op) else {
         return true;
     };
-    let barrier = last_barrier(&entries[..place], hart_of_entry(entry));
+    let barrier = last_barrier(&entries[..place], entry.hart());
     for other in others {
         if is_kept(entries, *other, op, barrier) {
             return false;
@@ -143,22 +143,57 @@ fn has_load_value(trace: &Trace, order: &[Op], index: usize) -> bool
         return true;
     };
     match value_read(entry) {
-        Some((addr, value)) => latest_value(trace, order, index, addr) == value,
+        Some((addr, width, value)) => has_bytes(trace, order, index, addr, width, value),
         None => true,
     }
 }
 
-/// The value that the order gives a read of the address by the operation at `index`.
-fn latest_value(trace: &Trace, order: &[Op], index: usize, addr: u32) -> u32
+/// Whether the order gives the operation at `index` this value from its read of `width` bytes.
+fn has_bytes(
+    trace: &Trace,
+    order: &[Op],
+    index: usize,
+    addr: u32,
+    width: u32,
+    value: u32,
+) -> bool
     requires once { NamesEachOnce trace.now.entries order.now }
     requires within { index < length order.now }
-    ensures { result ≡ value_for trace.now.opening trace.now.entries order.now (slice_index order.now index) addr }
+    ensures { IsTrue result ↔ (value ≡ value_for trace.now.opening trace.now.entries order.now (slice_index order.now index) addr width) }
+{
+    for place in 0..width as usize {
+        if latest_byte(trace, order, index, addr as usize + place) != byte_at(value, place) {
+            return false;
+        }
+    }
+    is_below(value, width)
+}
+
+/// Whether the number has so many bytes.
+#[tactic(auto, using(crate::proofs::Bytes::below_all))]
+fn is_below(value: u32, width: u32) -> bool
+    ensures { IsTrue result ↔ (value < 256 ^ width) }
+{
+    match width {
+        0 => value == 0,
+        1 => value < 256,
+        2 => value < 65536,
+        3 => value < 16777216,
+        _ => true,
+    }
+}
+
+/// The byte that the order gives a read of the address by the operation at `index`.
+fn latest_byte(trace: &Trace, order: &[Op], index: usize, addr: usize) -> u8
+    requires once { NamesEachOnce trace.now.entries order.now }
+    requires within { index < length order.now }
+    ensures { result ≡ byte_for trace.now.opening trace.now.entries order.now (slice_index order.now index) addr }
 {
     let entries = &trace.entries;
-    let mut latest = first_value(&trace.opening, addr);
+    let mut latest = first_byte(&trace.opening, addr);
     for (place, op) in order.iter().enumerate() {
         if sees(entries, order, index, place) {
-            latest = value_named(entries, *op, addr).unwrap_or(latest);
+            latest = byte_named(entries, *op, addr).unwrap_or(latest);
         }
     }
     latest
@@ -174,8 +209,9 @@ fn sees(entries: &[Entry], order: &[Op], index: usize, place: usize) -> bool
     place < index || is_earlier(entries, order[place], order[index])
 }
 
-fn first_value(opening: &Opening, addr: u32) -> u32
-    ensures { result ≡ opening_word opening.now addr }
+fn first_byte(opening: &Opening, addr: usize) -> u8
+    ensures { result ≡ opening_byte opening.now addr }
 {
-    opening.words.get(addr as usize / 4).copied().unwrap_or(0)
+    let word = opening.words.get(addr / 4).copied().unwrap_or(0);
+    word.to_le_bytes()[addr % 4]
 }

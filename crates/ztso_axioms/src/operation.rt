@@ -1,11 +1,12 @@
 //! Operations of a trace, and what an entry is to the memory model.
 
 ghost use Rattle.std.specs.Prelude.{◌≡◌, ℕ, slice_get};
-ghost use Rattle.step_machine.specs.Entries.{hart_of};
-ghost use Rattle.ztso_axioms.specs.Operations.{is_load, is_store, is_operation, read_of, written_to, hart_at, written_at};
+ghost use Rattle.std.specs.Int.{byte_at};
+ghost use Rattle.ztso_axioms.specs.Operations.{is_load, is_store, is_operation, read_of, byte_in, written_to, hart_at, written_at};
 ghost use Rattle.ztso_axioms.specs.Axioms.{is_barrier};
 
 use std::marker::Model;
+use memory::writes::Write;
 use step_machine::Entry;
 
 /// A memory operation of a trace: the place of a load, a store or an AMO among the entries, from 0.
@@ -29,31 +30,12 @@ pub(crate) fn entry_at(entries: &[Entry], op: Op) -> Option<Entry>
     entries.get(op.place).copied()
 }
 
-/// The hart that made an entry.
-pub(crate) fn hart_of_entry(entry: Entry) -> u32
-    ensures { result ≡ hart_of entry }
-{
-    match entry {
-        Entry::Inner { hart } => hart,
-        Entry::Load { hart, .. } => hart,
-        Entry::Store { hart, .. } => hart,
-        Entry::Amo { hart, .. } => hart,
-        Entry::Fence { hart, .. } => hart,
-        Entry::Next { hart, .. } => hart,
-        Entry::Took { hart, .. } => hart,
-        Entry::Closed { hart, .. } => hart,
-        Entry::Ended { hart } => hart,
-        Entry::Stopped { hart, .. } => hart,
-        Entry::Land { hart } => hart,
-    }
-}
-
 /// The hart of the entry that an operation names.
 pub(crate) fn hart_named(entries: &[Entry], op: Op) -> u32
     ensures { result ≡ hart_at entries.now op }
 {
     match entry_at(entries, op) {
-        Some(entry) => hart_of_entry(entry),
+        Some(entry) => entry.hart(),
         None => 0,
     }
 }
@@ -90,34 +72,72 @@ pub(crate) fn orders(entry: Entry, by: u32) -> bool
     }
 }
 
-/// The address and the value that a load reads, or an AMO for its old word.
-pub(crate) fn value_read(entry: Entry) -> Option<(u32, u32)>
+/// The address, the width and the value that a load reads, or an AMO for its old word.
+pub(crate) fn value_read(entry: Entry) -> Option<(u32, u32, u32)>
     ensures { result ≡ read_of entry }
 {
     match entry {
-        Entry::Load { addr, value, .. } => Some((addr, value)),
-        Entry::Amo { addr, old, .. } => Some((addr, old)),
+        Entry::Load {
+            addr,
+            width,
+            value,
+            ..
+        } => Some((addr, width, value)),
+        Entry::Amo { addr, old, .. } => Some((addr, 4, old)),
         _ => None,
     }
 }
 
-/// The value that a store, or an AMO by its new word, writes to this address.
-fn value_written(entry: Entry, to: u32) -> Option<u32>
+/// The byte that a store, or an AMO by its new word, writes to this address.
+fn byte_written(entry: Entry, to: usize) -> Option<u8>
     ensures { result ≡ written_to to entry }
 {
     match entry {
-        Entry::Store { addr, value, .. } if addr == to => Some(value),
-        Entry::Amo { addr, new, .. } if addr == to => Some(new),
+        Entry::Store {
+            addr,
+            width,
+            value,
+            ..
+        } => byte_of_write(Write { addr, width, value }, to),
+        Entry::Amo { addr, new, .. } => {
+            let width = 4;
+            let value = new;
+            byte_of_write(Write { addr, width, value }, to)
+        }
         _ => None,
     }
 }
 
-/// The value that the entry that an operation names writes to this address.
-pub(crate) fn value_named(entries: &[Entry], op: Op, to: u32) -> Option<u32>
+/// The byte that a write puts at this address, where it covers it.
+fn byte_of_write(write: Write, to: usize) -> Option<u8>
+    ensures { result ≡ byte_in write to }
+{
+    let start = write.addr as usize;
+    if start <= to && to - start < write.width as usize {
+        Some(byte_at(write.value, to - start))
+    } else {
+        None
+    }
+}
+
+/// A byte of a number, the lowest first; past its four they are 0.
+#[tactic(auto, using(memory::proofs::Joined::byte_past))]
+pub(crate) fn byte_at(number: u32, place: usize) -> u8
+    ensures { result ≡ byte_at place number }
+{
+    if place < 4 {
+        number.to_le_bytes()[place]
+    } else {
+        0
+    }
+}
+
+/// The byte that the entry that an operation names writes to this address.
+pub(crate) fn byte_named(entries: &[Entry], op: Op, to: usize) -> Option<u8>
     ensures { result ≡ written_at entries.now to op }
 {
     match entry_at(entries, op) {
-        Some(entry) => value_written(entry, to),
+        Some(entry) => byte_written(entry, to),
         None => None,
     }
 }

@@ -2,13 +2,13 @@
 
 ghost use Rattle.std.specs.Prelude.{◌≡◌, ℕ, ◌<◌, ◌↔◌, ◌==◌, ◌&&◌, ◌++◌, IsTrue, [], All, IfOk, OnOk, MatchOption, length, drop, slice_get};
 ghost use Rattle.step_machine.specs.Entries.{hart_of, lands};
-ghost use Rattle.step_machine.specs.Legal.{Kept};
+ghost use Rattle.step_machine.specs.Legal.{Legal};
 ghost use Rattle.ztso_axioms.specs.Operations.{is_store};
 ghost use Rattle.ztso_axioms.specs.Axioms.{Ztso};
 ghost use Rattle.ztso_axioms.specs.Performed.{store_places, performed_after, left_places, left_below, hart_bound, order};
-ghost use Rattle.ztso_axioms.specs.Landings.{NamesLandings, AddsLandings, IsNextHart, nearer_of, performed_there};
+ghost use Rattle.ztso_axioms.specs.inner.Landings.{NamesLandings, AddsLandings, IsNextHart, nearer_of, performed_there};
 
-use crate::operation::{Op, hart_of_entry, is_plain_store};
+use crate::operation::{Op, is_plain_store};
 use std::alloc::{AllocError, Global};
 use step_machine::{Entry, Trace};
 
@@ -26,7 +26,7 @@ struct Landings {
 /// the trace a few times for each hart that has an entry.
 pub fn order_of(alloc: Global, trace: &Trace) -> Result<Vec<Op>, AllocError>
     ensures order { IfOk result (λ ops. ops.items ≡ order trace.now) }
-    ensures allowed { (B M : ℕ) → Kept B M trace.now → IfOk result (λ ops. Ztso trace.now ops.items) }
+    ensures allowed { (B : ℕ) → Legal B trace.now → IfOk result (λ ops. Ztso trace.now ops.items) }
 {
     let landings = landings_of(alloc, &trace.entries)?;
     let mut order = performed(alloc, &trace.entries, &landings.landed)?;
@@ -65,7 +65,7 @@ fn next_hart(entries: &[Entry], from: usize) -> Option<u32>
 {
     let mut next: Option<u32> = None;
     for entry in entries {
-        next = nearer(next, hart_of_entry(*entry), from);
+        next = nearer(next, entry.hart(), from);
     }
     next
 }
@@ -96,7 +96,7 @@ fn stores_of(alloc: Global, entries: &[Entry], hart: u32) -> Result<Vec<Op>, All
 fn is_store_of(entry: Entry, hart: u32) -> bool
     ensures { result ≡ (is_store entry && (hart_of entry == hart)) }
 {
-    is_plain_store(entry) && hart_of_entry(entry) == hart
+    is_plain_store(entry) && entry.hart() == hart
 }
 
 /// Names what each landing of the hart performs, given its stores, and answers how many it has.

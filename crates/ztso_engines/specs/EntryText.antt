@@ -1,14 +1,18 @@
 -- The entry text: what was done by one step.
-use Rattle.std.specs.Prelude.{ℕ, true, false, List, [], ◌∷◌, ◌++◌, Some, None, codes}
+use Rattle.std.specs.Prelude.{ℕ, ◌==◌, if◌then◌else◌, true, false, List, [], ◌∷◌, ◌++◌, Some, None, codes}
 use Rattle.std.specs.Fmt.{decimal}
 use Rattle.hart.specs.Steps.{stop_number}
 use Rattle.step_machine.specs.declared.events.Entry.{Entry}
 use Rattle.step_machine.specs.declared.events.Entry.TheVariants as entry
 
+-- nothing for a word, else how many bytes
+abbrev pub width_text : ℕ → List ℕ
+width_text width = if width == 4 then [] else decimal width
+
 abbrev pub entry_text : Entry → List ℕ
 entry_text (entry.Inner h) = codes "inner " ++ decimal h
-entry_text (entry.Load h a v) = codes "load " ++ decimal h ++ codes " " ++ decimal a ++ codes " " ++ decimal v
-entry_text (entry.Store h a v) = codes "store " ++ decimal h ++ codes " " ++ decimal a ++ codes " " ++ decimal v
+entry_text (entry.Load h a width v) = codes "load" ++ width_text width ++ codes " " ++ decimal h ++ codes " " ++ decimal a ++ codes " " ++ decimal v
+entry_text (entry.Store h a width v) = codes "store" ++ width_text width ++ codes " " ++ decimal h ++ codes " " ++ decimal a ++ codes " " ++ decimal v
 entry_text (entry.Amo h a old new) = codes "amo " ++ decimal h ++ codes " " ++ decimal a ++ codes " " ++ decimal old ++ codes " " ++ decimal new
 entry_text (entry.Fence h true) = codes "fence " ++ decimal h ++ codes " full"
 entry_text (entry.Fence h false) = codes "fence " ++ decimal h ++ codes " part"

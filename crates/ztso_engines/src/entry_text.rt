@@ -13,8 +13,30 @@ pub fn push_entry_line(out: &mut String, entry: Entry) -> Result<(), AllocError>
 {
     match entry {
         Entry::Inner { hart } => writeln!(out, "inner {hart}"),
-        Entry::Load { hart, addr, value } => writeln!(out, "load {hart} {addr} {value}"),
-        Entry::Store { hart, addr, value } => writeln!(out, "store {hart} {addr} {value}"),
+        Entry::Load {
+            hart,
+            addr,
+            width: 4,
+            value,
+        } => writeln!(out, "load {hart} {addr} {value}"),
+        Entry::Load {
+            hart,
+            addr,
+            width,
+            value,
+        } => writeln!(out, "load{width} {hart} {addr} {value}"),
+        Entry::Store {
+            hart,
+            addr,
+            width: 4,
+            value,
+        } => writeln!(out, "store {hart} {addr} {value}"),
+        Entry::Store {
+            hart,
+            addr,
+            width,
+            value,
+        } => writeln!(out, "store{width} {hart} {addr} {value}"),
         Entry::Amo {
             hart,
             addr,

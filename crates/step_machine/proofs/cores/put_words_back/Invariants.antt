@@ -1,5 +1,5 @@
 use Rattle.std.proofs.Common.{◌≡◌, drop}
-use Rattle.step_machine.specs.Config.{all_put_back}
+use Rattle.step_machine.specs.inner.Config.{all_put_back}
 use Rattle.step_machine.proofs.cores.put_words_back.Given as goal
 
 abbrev pub invariant-loop-entry : goal.invariant-loop-entry

@@ -3,7 +3,7 @@ use Rattle.std.proofs.lemmas.List.{with_items_is}
 use Rattle.std.specs.Vec.{with_items}
 use Rattle.step_machine.specs.Entries.{lands}
 use Rattle.ztso_axioms.specs.Performed.{store_places, left_places, left_below, hart_bound}
-use Rattle.ztso_axioms.specs.Landings.{NamesLandings, AddsLandings}
+use Rattle.ztso_axioms.specs.inner.Landings.{NamesLandings, AddsLandings}
 use Rattle.ztso_axioms.proofs.Walks.{left_more, names_more, bound_reached}
 use Rattle.ztso_axioms.proofs.performing.landings_of.Goals as goal
 

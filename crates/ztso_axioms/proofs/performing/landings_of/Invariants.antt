@@ -1,6 +1,6 @@
 use Rattle.std.proofs.Common.{◌≡◌, ◌≤◌, ◌-◌, length}
 use Rattle.ztso_axioms.specs.Performed.{left_below, hart_bound}
-use Rattle.ztso_axioms.specs.Landings.{NamesLandings}
+use Rattle.ztso_axioms.specs.inner.Landings.{NamesLandings}
 use Rattle.ztso_axioms.proofs.performing.landings_of.Given as goal
 
 abbrev pub invariant-loop-hart : goal.invariant-loop-hart

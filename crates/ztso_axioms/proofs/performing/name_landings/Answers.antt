@@ -4,7 +4,7 @@ use Rattle.std.proofs.lemmas.List.{take_all}
 use Rattle.std.proofs.lemmas.Option.{slice_get_within}
 use Rattle.step_machine.specs.Entries.{lands}
 use Rattle.ztso_axioms.specs.Performed.{store_places}
-use Rattle.ztso_axioms.specs.Landings.{landed_at}
+use Rattle.ztso_axioms.specs.inner.Landings.{landed_at}
 use Rattle.ztso_axioms.proofs.Walks.{Naming, naming_none, naming_hit, naming_missed}
 use Rattle.ztso_axioms.proofs.performing.name_landings.Goals as goal
 use Rattle.ztso_axioms.proofs.performing.name_landings.Goals.{then-is_landing, else-is_landing}

@@ -2,7 +2,7 @@ use Rattle.std.proofs.Common.{◌<◌, take, ℕ}
 use Rattle.std.specs.Prelude.{All, MatchOption}
 use Rattle.step_machine.specs.Entries.{hart_of}
 use Rattle.step_machine.specs.declared.events.Entry.{Entry}
-use Rattle.ztso_axioms.specs.Landings.{IsNextHart}
+use Rattle.ztso_axioms.specs.inner.Landings.{IsNextHart}
 use Rattle.ztso_axioms.proofs.performing.next_hart.Given as goal
 
 abbrev pub invariant-loop-entry : goal.invariant-loop-entry

@@ -1,7 +1,7 @@
 -- The hart in its place has stepped, and all else stays.
 use Rattle.std.proofs.Common.{◌<◌, length, sym, subst}
 use Rattle.std.specs.Prelude.{unwrap_or}
-use Rattle.step_machine.specs.Config.{Config}
+use Rattle.step_machine.specs.inner.Config.{Config}
 use Rattle.step_machine.proofs.Fitting.{fit_stepped}
 use Rattle.step_machine.proofs.cores.Cores.advance.Goals as goal
 

@@ -1,6 +1,6 @@
 use Rattle.std.proofs.Common.{◌≡◌, arith}
 use Rattle.std.proofs.lemmas.Grind.{common_steps}
-use Rattle.step_machine.specs.Config.{Config, opened_config}
+use Rattle.step_machine.specs.inner.Config.{Config, opened_config}
 use Rattle.step_machine.proofs.Opens.{fit_held}
 use Rattle.step_machine.proofs.cores.Cores.open.Goals as goal
 

@@ -1,6 +1,6 @@
 -- Each turn gives one more hart its room, and leaves all else.
 use Rattle.std.proofs.Common.{◌∙◌, arith}
-use Rattle.step_machine.specs.Config.{SameButRoom}
+use Rattle.step_machine.specs.inner.Config.{SameButRoom}
 use Rattle.step_machine.proofs.Rooms.{same_after, same_whichever, more_whichever, room_below_next, all_have_room, same-length}
 use Rattle.step_machine.proofs.cores.Cores.reserve.Goals as goal
 

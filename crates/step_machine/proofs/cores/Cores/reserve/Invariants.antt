@@ -1,5 +1,5 @@
 use Rattle.std.proofs.Common.{◌≡◌, ℕ, length}
-use Rattle.step_machine.specs.Config.{SameButRoom, AllHaveRoom}
+use Rattle.step_machine.specs.inner.Config.{SameButRoom, AllHaveRoom}
 use Rattle.step_machine.proofs.Rooms.{RoomBelow}
 use Rattle.step_machine.proofs.cores.Cores.reserve.Given as goal
 

@@ -3,7 +3,7 @@ use Rattle.std.proofs.Common.{◌≡◌, ◌++◌, length, take, drop, arith, su
 use Rattle.std.specs.Prelude.{All}
 use Rattle.std.proofs.lemmas.Grind.{common_steps}
 use Rattle.hart.specs.State.{HartView}
-use Rattle.step_machine.specs.Config.{Config, Fit, restarted_config}
+use Rattle.step_machine.specs.inner.Config.{Config, Fit, restarted_config}
 use Rattle.step_machine.proofs.Restarts.{fit_restarted}
 use Rattle.step_machine.proofs.cores.Cores.restart.Goals as goal
 

@@ -1,7 +1,7 @@
 -- A sound machine that is put back is sound.
 use Rattle.std.proofs.Common.{◌∙◌, ap, List, arith, lit<}
 use Rattle.step_machine.specs.declared.events.Entry.{Entry}
-use Rattle.step_machine.specs.Config.{restarted_config}
+use Rattle.step_machine.specs.inner.Config.{restarted_config}
 use Rattle.step_machine.proofs.Restarts.{firsts_fit, sound_put_back}
 use Rattle.step_machine.proofs.machine.Machine.restart.Goals as goal
 

@@ -3,7 +3,7 @@ use Rattle.std.proofs.Common.{◌≡◌, List, ◌∙◌, ap, subst, arith}
 use Rattle.step_machine.specs.declared.events.Entry.{Entry}
 use Rattle.step_machine.specs.History.{History, Progress}
 use Rattle.step_machine.specs.Runs.{Happens}
-use Rattle.step_machine.specs.Ties.{Sound}
+use Rattle.step_machine.specs.inner.Ties.{Sound}
 use Rattle.step_machine.proofs.Sounds.{sound_moved, sound_stepped, happens_stepped}
 use Rattle.step_machine.proofs.machine.Machine.step.Goals as goal
 

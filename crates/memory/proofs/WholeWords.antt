@@ -1,0 +1,62 @@
+-- Where all writes are of whole words, the bytes that a word access finds are those of the last write at
+-- its address.
+use Rattle.std.proofs.Common.{◌≡◌, ℕ, ◌+◌, ◌-◌, ◌%◌, ◌/◌, ◌^◌, ◌<◌, ◌==◌, Bool, true, false, List, [], ◌∷◌, Option, Some, None, refl, sym, ◌∙◌, ap, arith}
+use Rattle.std.specs.Prelude.{if◌then◌else◌, unwrap_or, All}
+use Rattle.std.specs.Option.{option_map}
+use Rattle.std.specs.Int.{byte_at}
+use Rattle.std.proofs.lemmas.Bool.{eqb-true, eqb-false}
+use Rattle.std.proofs.lemmas.List.Elements.{All-head, All-tail}
+use Rattle.memory.specs.declared.writes.Write.{Write}
+use Rattle.memory.specs.Writes.{covers, newest_of, newest_word, joined, IsWholeWord}
+use Rattle.memory.proofs.Bytes.{covers_yes, covers_other, joined-same, word_of_bytes}
+
+-- byte i of the word found is the byte found
+newest_byte-found : (a i : ℕ) (found : Option ℕ) (ws : List Write) → a % 4 ≡ 0 → i < 4 → All IsWholeWord ws → newest_of (a + i) (option_map (byte_at i) found) ws ≡ option_map (byte_at i) (newest_word a found ws)
+newest_byte-found a i found [] aligned lt all = refl
+newest_byte-found a i found (w ∷ ws) aligned lt all =
+    ap (λ f. newest_of (a + i) f ws) (at (w.addr == a) refl)
+    ∙ newest_byte-found a i (if w.addr == a then Some w.value else found) ws aligned lt (All-tail IsWholeWord w ws all)
+  where
+    is : IsWholeWord w
+    is = All-head IsWholeWord w ws all
+
+    at : (c : Bool) → (w.addr == a) ≡ c → (if covers w (a + i) then Some (byte_at (a + i - w.addr) w.value) else option_map (byte_at i) found) ≡ option_map (byte_at i) (if c then Some w.value else found)
+    at true same =
+        let here : w.addr ≡ a = eqb-true w.addr a same in
+        let width : w.width ≡ 4 = is.whole in
+        let held : covers w (a + i) ≡ true = covers_yes w (a + i) (omega arith) (omega arith) in
+        let offset : a + i - w.addr ≡ i = omega arith in
+        ap (λ c. if c then Some (byte_at (a + i - w.addr) w.value) else option_map (byte_at i) found) held ∙ ap (λ j. Some (byte_at j w.value)) offset
+    at false apart =
+        let elsewhere : w.addr ≡ a → ⊥ = eqb-false w.addr a apart in
+        let width : w.width ≡ 4 = is.whole in
+        let base : w.addr % 4 ≡ 0 = is.aligned in
+        let none : covers w (a + i) ≡ false = covers_other w (a + i) (omega arith) (λ q. elsewhere (omega arith)) in
+        ap (λ c. if c then Some (byte_at (a + i - w.addr) w.value) else option_map (byte_at i) found) none
+
+-- so does a read: of bytes over the bytes of a word, and of words
+pub read_byte_of_word : (a i word : ℕ) (ws : List Write) → a % 4 ≡ 0 → i < 4 → All IsWholeWord ws → unwrap_or (newest_of (a + i) None ws) (byte_at i word) ≡ byte_at i (unwrap_or (newest_word a None ws) word)
+read_byte_of_word a i word ws aligned lt all = ap (λ f. unwrap_or f (byte_at i word)) (newest_byte-found a i None ws aligned lt all) ∙ out (newest_word a None ws)
+  where
+    out : (o : Option ℕ) → unwrap_or (option_map (byte_at i) o) (byte_at i word) ≡ byte_at i (unwrap_or o word)
+    out None = refl
+    out (Some v) = refl
+
+-- what is found among words below 2 ^ 32 is one
+pub newest_word-small : (a word : ℕ) (found : Option ℕ) (ws : List Write) → unwrap_or found word < 2 ^ 32 → All IsWholeWord ws → unwrap_or (newest_word a found ws) word < 2 ^ 32
+newest_word-small a word found [] small all = small
+newest_word-small a word found (w ∷ ws) small all = newest_word-small a word (if w.addr == a then Some w.value else found) ws (at (w.addr == a)) (All-tail IsWholeWord w ws all)
+  where
+    at : (c : Bool) → unwrap_or (if c then Some w.value else found) word < 2 ^ 32
+    at true = (All-head IsWholeWord w ws all).small
+    at false = small
+
+-- The law of word reads: of writes of whole words, those of `late` after those of `early`, over a word
+-- below 2 ^ 32, a word access at a multiple of 4 reads the last one at its address
+pub word_reads : (a word : ℕ) (early late : List Write) → a % 4 ≡ 0 → word < 2 ^ 32 → All IsWholeWord early → All IsWholeWord late
+    → joined (λ i. unwrap_or (newest_of (a + i) None late) (unwrap_or (newest_of (a + i) None early) (byte_at i word))) 4
+    ≡ unwrap_or (newest_word a None late) (unwrap_or (newest_word a None early) word)
+word_reads a word early late aligned small all_early all_late =
+    joined-same (λ i. unwrap_or (newest_of (a + i) None late) (unwrap_or (newest_of (a + i) None early) (byte_at i word))) (λ i. byte_at i (unwrap_or (newest_word a None late) (unwrap_or (newest_word a None early) word))) 4
+    (λ i lt. ap (unwrap_or (newest_of (a + i) None late)) (read_byte_of_word a i word early aligned lt all_early) ∙ read_byte_of_word a i (unwrap_or (newest_word a None early) word) late aligned lt all_late)
+    ∙ word_of_bytes (unwrap_or (newest_word a None late) (unwrap_or (newest_word a None early) word)) (newest_word-small a (unwrap_or (newest_word a None early) word) None late (newest_word-small a word None early small all_early) all_late)

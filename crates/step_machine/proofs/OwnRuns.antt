@@ -1,0 +1,116 @@
+-- A kept history is the run of its own entries' events, and each front of it is kept.
+use Rattle.std.proofs.Common.{◌≡◌, ℕ, ◌<◌, Bool, true, false, List, [], ◌∷◌, ◌++◌, length, Option, Some, None, refl, sym, ◌∙◌, ap, subst, append-nil, append_assoc}
+use Rattle.std.specs.Prelude.{map, option_map, if◌then◌else◌, All}
+use Rattle.std.specs.List.{slice_get}
+use Rattle.std.proofs.lemmas.List.Elements.{All-nil, All-cons, All-head, All-tail}
+use Rattle.std.proofs.lemmas.Option.{slice_get-get_or}
+use Rattle.hart.specs.State.{HartState}
+use Rattle.hart.specs.Steps.{need_of}
+use Rattle.hart.specs.Effects.{updated}
+use Rattle.hart.specs.declared.need.Need.{Need}
+use Rattle.hart.specs.declared.need.Need.TheVariants as need
+use Rattle.hart.specs.declared.need.Report.TheVariants as report
+use Rattle.step_machine.specs.declared.events.Event.TheVariants as event
+use Rattle.step_machine.specs.declared.events.Entry.{Entry}
+use Rattle.step_machine.specs.declared.events.Entry.TheVariants as entry
+use Rattle.step_machine.specs.declared.events.Outcome.TheVariants as outcome
+use Rattle.step_machine.specs.History.{HartStart, Start, History, Progress, with_entry}
+use Rattle.step_machine.specs.Entries.{hart_of, is_land, own}
+use Rattle.step_machine.specs.Paths.{entry_of, value_of, CanMake, after_entries, opens_as, state_of, PathOf}
+use Rattle.step_machine.specs.Legal.{Allowed, IsOfHarts, Kept}
+use Rattle.step_machine.specs.Runs.{CanFollow, Adds, RunFrom, event_of, IsOwnRun}
+use Rattle.step_machine.specs.inner.Config.{Config}
+use Rattle.step_machine.specs.inner.Ties.{Sound}
+use Rattle.step_machine.proofs.Appended.{own-append, Makes-front, LegalAfter-front}
+use Rattle.step_machine.proofs.Follows.{act_only}
+use Rattle.step_machine.proofs.Running.{hart_follows}
+
+abbrev hist : Start → List Entry → History
+hist o es = record { opening = o; entries = es }
+
+path_front : (M : ℕ) (so : Option HartStart) (es fs : List Entry) → PathOf M so (es ++ fs) → PathOf M so es
+path_front M None es fs p = p
+path_front M (Some o) es fs p = Makes-front (opens_as M o) es fs p
+
+of_harts_front : (o : Start) (es fs : List Entry) → All (IsOfHarts o) (es ++ fs) → All (IsOfHarts o) es
+of_harts_front o [] fs all = All-nil (IsOfHarts o)
+of_harts_front o (e ∷ es) fs all = All-cons (IsOfHarts o) e es (All-head (IsOfHarts o) e (es ++ fs) all) (of_harts_front o es fs (All-tail (IsOfHarts o) e (es ++ fs) all))
+
+-- the front of a kept history is kept
+pub kept-front : (B M : ℕ) (o : Start) (es fs : List Entry) → Kept B M (hist o (es ++ fs)) → Kept B M (hist o es)
+kept-front B M o es fs kept = record {
+  legal = LegalAfter-front B o [] es fs kept.legal;
+  paths = λ h within. path_front M (slice_get o.harts h) (own h es) (own h fs) (subst (PathOf M (slice_get o.harts h)) (own-append h es fs) (kept.paths h within));
+  of_harts = of_harts_front o es fs kept.of_harts;
+}
+
+-- two entries by which one state does what it needs, after the same entries, are one entry
+same_done : (B : ℕ) (o : Start) (before : List Entry) (h : ℕ) (n : Need) (v w : ℕ) → Allowed B o before (entry_of h n v) → Allowed B o before (entry_of h n w) → entry_of h n v ≡ entry_of h n w
+same_done B o before h (need.Load a width) v w one two = ap (λ u. entry.Load h a width u) (one ∙ sym two)
+same_done B o before h (need.Amo a op rs2) v w one two = ap (λ u. entry.Amo h a u (updated op u rs2)) (one.1 ∙ sym two.1)
+same_done B o before h need.Inner v w one two = refl
+same_done B o before h (need.Store a width x) v w one two = refl
+same_done B o before h (need.Fence full) v w one two = refl
+same_done B o before h (need.Next x) v w one two = refl
+same_done B o before h (need.Report (report.Took i x)) v w one two = refl
+same_done B o before h (need.Report (report.Closed i)) v w one two = refl
+same_done B o before h need.Exit v w one two = refl
+same_done B o before h (need.Stop why) v w one two = refl
+
+-- each of the opening's harts has a state
+pub state_there : (M : ℕ) (t : History) (h : ℕ) → h < length t.opening.harts → (s : HartState) × (state_of M t h ≡ Some s)
+state_there M t h within = at (slice_get t.opening.harts h) refl
+  where
+    at : (so : Option HartStart) → slice_get t.opening.harts h ≡ so → (s : HartState) × (state_of M t h ≡ Some s)
+    at None none =
+        let some : slice_get t.opening.harts h ≡ Some _ = slice_get-get_or t.opening.harts h (record { code = []; registers = []; inbox = [] }) within in
+        cc
+    at (Some x) is = (after_entries (opens_as M x) (own h t.entries), ap (λ so. option_map (λ (y : HartStart). after_entries (opens_as M y) (own h t.entries)) so) is)
+
+-- of a hart's own entries only one can follow
+pub only_act : (B M : ℕ) (t : History) (h : ℕ) (e d : Entry) → h < length t.opening.harts → hart_of e ≡ h → is_land e ≡ false → CanFollow B M t e → hart_of d ≡ h → is_land d ≡ false → CanFollow B M t d → d ≡ e
+only_act B M t h e d within mine act f his does g =
+    let there : (s : HartState) × (state_of M t h ≡ Some s) = state_there M t h within in
+    at there.0 (act_only B M t h there.0 e mine act there.1 f) (act_only B M t h there.0 d his does there.1 g)
+  where
+    at : (s : HartState) → CanMake s e × Allowed B t.opening t.entries e → CanMake s d × Allowed B t.opening t.entries d → d ≡ e
+    at s one two =
+        let is : e ≡ entry_of h (need_of s) (value_of e) = one.0.made ∙ ap (λ k. entry_of k (need_of s) (value_of e)) mine in
+        let be : d ≡ entry_of h (need_of s) (value_of d) = two.0.made ∙ ap (λ k. entry_of k (need_of s) (value_of d)) his in
+        be ∙ same_done B t.opening t.entries h (need_of s) (value_of d) (value_of e) (subst (Allowed B t.opening t.entries) be two.1) (subst (Allowed B t.opening t.entries) is one.1) ∙ sym is
+
+landing : (e : Entry) → is_land e ≡ true → e ≡ entry.Land (hart_of e)
+landing (entry.Land h) is = refl
+landing e is = cc
+
+-- an entry that can follow is added by its own event
+pub added : (B M : ℕ) (t : History) (e : Entry) → CanFollow B M t e → Adds B M t (event_of e) e (with_entry t e)
+added B M t e f = at (is_land e) refl
+  where
+    at : (b : Bool) → is_land e ≡ b → Adds B M t (if b then event.Land (hart_of e) else event.Act (hart_of e)) e (with_entry t e)
+    at true is = record { for_event = landing e is; follows = f; only = λ d for_d g. for_d ∙ sym (landing e is); after = refl }
+    at false is = record { for_event = (refl, is); follows = f; only = λ d for_d g. only_act B M t (hart_of e) e d (hart_follows B M t e f) refl is f for_d.0 for_d.1 g; after = refl }
+
+run_on : (B M : ℕ) (o : Start) (before es : List Entry) → Kept B M (hist o (before ++ es)) → RunFrom B M (hist o before) (map event_of es) (hist o (before ++ es))
+run_on B M o before [] kept = ap (hist o) (append-nil before)
+run_on B M o before (e ∷ es) kept =
+    let longer : Kept B M (hist o ((before ++ e ∷ []) ++ es)) = subst (λ (xs : List Entry). Kept B M (hist o xs)) (sym (append_assoc before (e ∷ []) es)) kept in
+    let here : Kept B M (hist o (before ++ e ∷ [])) = kept-front B M o (before ++ e ∷ []) es longer in
+    let rest : RunFrom B M (hist o (before ++ e ∷ [])) (map event_of es) (hist o ((before ++ e ∷ []) ++ es)) = run_on B M o (before ++ e ∷ []) es longer in
+    (
+      outcome.Did e,
+      hist o (before ++ e ∷ []),
+      added B M (hist o before) e (record { legal = here.legal; path = here.paths (hart_of e) (last_of_harts o before e here.of_harts) }),
+      subst (λ (xs : List Entry). RunFrom B M (hist o (before ++ e ∷ [])) (map event_of es) (hist o xs)) (append_assoc before (e ∷ []) es) rest,
+    )
+  where
+    last_of_harts : (o : Start) (before : List Entry) (e : Entry) → All (IsOfHarts o) (before ++ e ∷ []) → hart_of e < length o.harts
+    last_of_harts o [] e all = All-head (IsOfHarts o) e [] all
+    last_of_harts o (d ∷ before) e all = last_of_harts o before e (All-tail (IsOfHarts o) d (before ++ e ∷ []) all)
+
+pub own_run : (B M : ℕ) (t : History) → Kept B M t → IsOwnRun B M t
+own_run B M t kept = run_on B M t.opening [] t.entries kept
+
+-- what a sound machine did, as it is seen, is the run of its own entries' events
+pub own_run_seen : (B M n : ℕ) (o : Start) (es : List Entry) (c : Config) (p : Progress) → Sound B M (hist o es) c n → record { history = hist o es; room = n } ≡ p → IsOwnRun B M p.history
+own_run_seen B M n o es c p sound is = subst (λ (q : Progress). IsOwnRun B M q.history) is (own_run B M (hist o es) sound.kept)

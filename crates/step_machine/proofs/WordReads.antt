@@ -1,0 +1,90 @@
+-- The law of word reads: where all stores and AMOs are of whole words, a word access by bytes reads the
+-- word that is told without bytes.
+use Rattle.std.proofs.Common.{◌≡◌, ℕ, ◌+◌, ◌/◌, ◌%◌, ◌<◌, ◌==◌, Bool, true, false, List, [], ◌∷◌, ◌++◌, if◌then◌else◌, Some, None, refl, ◌∙◌, ap, arith, append-nil}
+use Rattle.std.specs.Prelude.{All, take, slice_index, unwrap_or}
+use Rattle.std.specs.Int.{byte_at}
+use Rattle.std.proofs.lemmas.List.Elements.{All-nil, All-cons, All-append, All-take, All-drop}
+use Rattle.memory.specs.declared.writes.Write.{Write}
+use Rattle.memory.specs.Writes.{write, newest_of, newest_word, IsWholeWord}
+use Rattle.memory.proofs.Bytes.{joined-same}
+use Rattle.memory.proofs.Newest.{newest_word-last}
+use Rattle.memory.proofs.WholeWords.{word_reads}
+use Rattle.step_machine.specs.declared.events.Entry.{Entry}
+use Rattle.step_machine.specs.Access.{Access, nothing, load, store, exchange, fence, land, access_of}
+use Rattle.step_machine.specs.History.{Start}
+use Rattle.step_machine.specs.Entries.{hart_of, stored_by, written_by, store_of, stores, lands, pending, write_of, landed_after, landed, opening_byte, memory_byte, memory_word, read_byte, read}
+use Rattle.step_machine.proofs.Appended.{landed-last}
+use Rattle.step_machine.specs.WordReads.{WritesWord, AllWriteWords, OpensWithWords, word_in_memory, word_read}
+
+store_whole : (b : Bool) (x : Access) → WritesWord x → All IsWholeWord (stored_by b x)
+store_whole true (store w) is = All-cons IsWholeWord w [] is (All-nil IsWholeWord)
+store_whole false (store w) is = All-nil IsWholeWord
+store_whole b nothing is = All-nil IsWholeWord
+store_whole b (load a width v) is = All-nil IsWholeWord
+store_whole b (exchange a old new) is = All-nil IsWholeWord
+store_whole b (fence full) is = All-nil IsWholeWord
+store_whole b land is = All-nil IsWholeWord
+
+pub stores_whole : (h : ℕ) (es : List Entry) → AllWriteWords es → All IsWholeWord (stores h es)
+stores_whole h [] all = All-nil IsWholeWord
+stores_whole h (e ∷ es) all = All-append IsWholeWord (store_of h e) (stores h es) (store_whole (hart_of e == h) (access_of e) all.0) (stores_whole h es all.1)
+
+pub pending_whole : (h : ℕ) (es : List Entry) → AllWriteWords es → All IsWholeWord (pending h es)
+pending_whole h es all = All-drop IsWholeWord (lands h es) (stores h es) (stores_whole h es all)
+
+write_whole : (oldest : List Write) (x : Access) → All IsWholeWord oldest → WritesWord x → All IsWholeWord (written_by oldest x)
+write_whole oldest (exchange a old new) all is = All-cons IsWholeWord (write a 4 new) [] is (All-nil IsWholeWord)
+write_whole oldest land all is = all
+write_whole oldest nothing all is = All-nil IsWholeWord
+write_whole oldest (load a width v) all is = All-nil IsWholeWord
+write_whole oldest (store w) all is = All-nil IsWholeWord
+write_whole oldest (fence full) all is = All-nil IsWholeWord
+
+pub AllWriteWords-append : (es fs : List Entry) → AllWriteWords es → AllWriteWords fs → AllWriteWords (es ++ fs)
+AllWriteWords-append [] fs all more = more
+AllWriteWords-append (e ∷ es) fs all more = (all.0, AllWriteWords-append es fs all.1 more)
+
+landed_after_whole : (before es : List Entry) → AllWriteWords before → AllWriteWords es → All IsWholeWord (landed_after before es)
+landed_after_whole before [] all more = All-nil IsWholeWord
+landed_after_whole before (e ∷ es) all more =
+    All-append IsWholeWord (write_of before e) (landed_after (before ++ e ∷ []) es) (write_whole (take 1 (pending (hart_of e) before)) (access_of e) (All-take IsWholeWord 1 (pending (hart_of e) before) (pending_whole (hart_of e) before all)) more.0)
+    (landed_after_whole (before ++ e ∷ []) es (AllWriteWords-append before (e ∷ []) all (more.0, tt)) more.1)
+
+pub landed_whole : (es : List Entry) → AllWriteWords es → All IsWholeWord (landed es)
+landed_whole es all = landed_after_whole [] es tt all
+
+-- a byte of the opening, of the word around it
+opening_at : (o : Start) (a i : ℕ) → a % 4 ≡ 0 → i < 4 → opening_byte o (a + i) ≡ byte_at i (slice_index o.words (a / 4))
+opening_at o a i aligned lt =
+    let word : (a + i) / 4 ≡ a / 4 = omega arith in
+    let byte : (a + i) % 4 ≡ i = omega arith in
+    ap (λ q. byte_at ((a + i) % 4) (slice_index o.words q)) word ∙ ap (λ j. byte_at j (slice_index o.words (a / 4))) byte
+
+-- what a hart reads by bytes is the word
+pub read-word : (o : Start) (es : List Entry) (h a : ℕ) → OpensWithWords o → AllWriteWords es → a % 4 ≡ 0 → read o es h a 4 ≡ word_read o es h a
+read-word o es h a opens all aligned =
+    joined-same (λ i. read_byte o es h (a + i)) (λ i. unwrap_or (newest_of (a + i) None (pending h es)) (unwrap_or (newest_of (a + i) None (landed es)) (byte_at i (slice_index o.words (a / 4))))) 4
+    (λ i lt. ap (λ b. unwrap_or (newest_of (a + i) None (pending h es)) (unwrap_or (newest_of (a + i) None (landed es)) b)) (opening_at o a i aligned lt))
+    ∙ word_reads a (slice_index o.words (a / 4)) (landed es) (pending h es) aligned (opens (a / 4)) (landed_whole es all) (pending_whole h es all)
+
+-- and so is the word of memory
+pub memory-word : (o : Start) (es : List Entry) (a : ℕ) → OpensWithWords o → AllWriteWords es → a % 4 ≡ 0 → memory_word o es a ≡ word_in_memory o es a
+memory-word o es a opens all aligned =
+    joined-same (λ i. memory_byte o es (a + i)) (λ i. unwrap_or (newest_of (a + i) None (landed es)) (byte_at i (slice_index o.words (a / 4)))) 4
+    (λ i lt. ap (unwrap_or (newest_of (a + i) None (landed es))) (opening_at o a i aligned lt))
+    ∙ word_reads a (slice_index o.words (a / 4)) (landed es) [] aligned (opens (a / 4)) (landed_whole es all) (All-nil IsWholeWord)
+
+-- a word of memory after one more entry, told without bytes
+
+pub word_in_memory-other : (o : Start) (es : List Entry) (e : Entry) (a : ℕ) → write_of es e ≡ [] → word_in_memory o (es ++ e ∷ []) a ≡ word_in_memory o es a
+word_in_memory-other o es e a none = ap (λ ws. unwrap_or (newest_word a None ws) (slice_index o.words (a / 4))) (landed-last es e ∙ ap (λ ws. landed es ++ ws) none ∙ append-nil (landed es))
+
+pub word_in_memory-write : (o : Start) (es : List Entry) (e : Entry) (w : Write) (a : ℕ) → write_of es e ≡ w ∷ [] → word_in_memory o (es ++ e ∷ []) a ≡ (if w.addr == a then w.value else word_in_memory o es a)
+word_in_memory-write o es e w a is =
+    ap (λ ws. unwrap_or (newest_word a None ws) (slice_index o.words (a / 4))) (landed-last es e ∙ ap (λ ws. landed es ++ ws) is)
+    ∙ ap (λ v. unwrap_or v (slice_index o.words (a / 4))) (newest_word-last a None (landed es) w)
+    ∙ chosen (w.addr == a)
+  where
+    chosen : (b : Bool) → unwrap_or (if b then Some w.value else newest_word a None (landed es)) (slice_index o.words (a / 4)) ≡ (if b then w.value else word_in_memory o es a)
+    chosen true = refl
+    chosen false = refl

@@ -1,0 +1,4 @@
+-- What serves the proof alone: no public clause names it.
+pub mod Config
+pub mod Opened
+pub mod Ties
