@@ -1,20 +1,18 @@
 -- A step of one hart, a store, an AMO and a landing keep harts, buffers and memory fit for each other.
-use Rattle.std.proofs.Common.{◌≡◌, ℕ, ◌*◌, ◌<◌, List, [], ◌∷◌, ◌++◌, length, drop, set, get_or, Option, Some, None, refl, sym, ◌∙◌, ap, subst}
+use Rattle.std.proofs.Common.{◌≡◌, ℕ, ◌<◌, List, length, set, get_or, Option, Some, None, refl, sym, ◌∙◌, ap, subst}
 use Rattle.std.specs.Prelude.{All, IfSome, IsSomeAnd}
 use Rattle.std.specs.List.{slice_get}
 use Rattle.std.proofs.lemmas.Option.{slice_get_within, slice_get_read, get_or_from_slice_get}
 use Rattle.std.proofs.lemmas.List.{length-set}
-use Rattle.std.proofs.lemmas.List.Elements.{All-set, All-push, All-drop}
-use Rattle.memory.specs.Writes.{write, IsInWord}
+use Rattle.std.proofs.lemmas.List.Elements.{All-set}
 use Rattle.hart.specs.State.{HartView}
 use Rattle.hart.specs.Steps.{need_of, stepped}
 use Rattle.hart.specs.declared.need.Need.{Need}
 use Rattle.hart.specs.declared.status.Status.{Status}
 use Rattle.hart.specs.declared.status.Status.TheVariants as status
 use Rattle.hart.proofs.Advances.{advanced-words}
-use Rattle.step_machine.specs.inner.Config.{Config, IsInRange, buffer_of, step_at, step_hart, HasAddress, Fit, IsNext, IsReady, act_in, act_outcome, outcome_for}
+use Rattle.step_machine.specs.inner.Config.{Config, IsInRange, step_at, step_hart, Fit, IsNext, IsReady, act_in, act_outcome, outcome_for}
 use Rattle.step_machine.proofs.Decides.{need_of-in_range}
-use Rattle.memory.specs.declared.writes.Write.{Write}
 
 -- the element x of the list, stepped in its place
 pub stepped_in_place : (hs : List HartView) (h v : ℕ) (x : HartView) → h < length hs → x ≡ get_or hs h x → set hs h (stepped x v) ≡ step_at hs h v (slice_get hs h)

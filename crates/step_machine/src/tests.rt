@@ -63,11 +63,21 @@ fn store_buffering(alloc: Global, between: &[u32]) -> Result<Vec<HartOpening>, A
 }
 
 fn store(hart: u32, addr: u32, value: u32) -> Outcome {
-    Outcome::Did(Entry::Store { hart, addr, width: 4, value })
+    Outcome::Did(Entry::Store {
+        hart,
+        addr,
+        width: 4,
+        value,
+    })
 }
 
 fn load(hart: u32, addr: u32, value: u32) -> Outcome {
-    Outcome::Did(Entry::Load { hart, addr, width: 4, value })
+    Outcome::Did(Entry::Load {
+        hart,
+        addr,
+        width: 4,
+        value,
+    })
 }
 
 fn land(hart: u32) -> Outcome {
@@ -251,7 +261,15 @@ fn a_store_waits_at_a_full_buffer(rt: HostRuntime) -> Result<(), Fail> {
         ],
     )?;
     assert_eq!(rt; machine.harts(), 1);
-    assert_eq!(rt; machine.pending(0), [Write { addr: 0, width: 4, value: 7 }].as_slice());
+    assert_eq!(rt;
+        machine.pending(0),
+        [Write {
+            addr: 0,
+            width: 4,
+            value: 7
+        }]
+        .as_slice()
+    );
     expect_outcomes(&rt, &mut machine, &[(L0, land(0)), (L0, Outcome::Over)])?;
     Ok(())
 }
@@ -466,7 +484,11 @@ fn a_pending_byte_is_seen_by_its_own_hart(rt: HostRuntime) -> Result<(), Fail> {
         assert_eq!(rt; machine.register(0, 7), register);
     }
     let why = Stop::Misaligned;
-    expect_outcomes(&rt, &mut machine, &[(A0, Outcome::Did(Entry::Stopped { hart: 0, why }))])?;
+    expect_outcomes(
+        &rt,
+        &mut machine,
+        &[(A0, Outcome::Did(Entry::Stopped { hart: 0, why }))],
+    )?;
     Ok(())
 }
 
