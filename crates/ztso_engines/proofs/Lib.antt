@@ -29,3 +29,4 @@ mod ListTexts
 pub mod OneAnswer
 pub mod ScheduleTexts
 pub mod ChannelLaws
+pub mod ThreadRuns

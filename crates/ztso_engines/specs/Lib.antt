@@ -24,3 +24,4 @@ pub mod Walks
 pub mod inner
 pub mod Lists
 pub mod Channels
+pub mod Threads

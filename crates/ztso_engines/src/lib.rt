@@ -25,6 +25,7 @@ mod schedule;
 pub mod session;
 mod state_text;
 pub mod steps;
+pub mod threads;
 pub mod trials;
 pub mod walk;
 mod words;

@@ -27,7 +27,7 @@ fn push_verdict(out: &mut String, verdict: Verdict) -> Result<(), AllocError>
 }
 
 /// The state text of a test's machine, with the verdict on a line, and the verdict.
-fn judged_text<const B: usize, const M: usize>(
+pub(crate) fn judged_text<const B: usize, const M: usize>(
     alloc: Global,
     test: &Test,
     machine: &Machine<B, M>,

@@ -1,0 +1,48 @@
+-- The command `threads`: the schedule of a run that threads made, in canonical form, its state text and
+-- its verdict.
+use Rattle.std.specs.Prelude.{ℕ, ◌≡◌, ◌≤◌, ◌==◌, ◌||◌, Bool, IsTrue, List, ◌++◌, length, map, Result, Ok, Err}
+use Rattle.step_machine.specs.History.{History}
+use Rattle.step_machine.specs.Runs.{Run, event_of}
+use Rattle.step_machine.specs.declared.events.Event.{Event}
+use Rattle.litmus.specs.Questions.{Question}
+use Rattle.litmus.specs.declared.verdict.Verdict.{Verdict}
+use Rattle.recorder.specs.Writing.{canon}
+use Rattle.hart_threads.specs.declared.fault.Fault.{Fault as ThreadFault}
+use Rattle.hart_threads.specs.declared.fault.Fault.TheVariants as thread
+use Rattle.ztso_engines.specs.declared.fault.Fault.{Fault}
+use Rattle.ztso_engines.specs.declared.fault.Fault.TheVariants.{NoMemory, Refused}
+use Rattle.ztso_engines.specs.declared.fault.Refusal.{Refusal}
+use Rattle.ztso_engines.specs.declared.fault.Place.TheVariants.{Nowhere}
+use Rattle.ztso_engines.specs.Tests.{ByTest}
+use Rattle.ztso_engines.specs.Run.{IsJudged}
+
+-- a fault of the threads as a fault of the command
+abbrev pub fault_of_threads : ThreadFault → Fault
+fault_of_threads thread.NoMemory = NoMemory
+fault_of_threads thread.NoThread = Refused (record { number = 35; place = Nowhere })
+fault_of_threads (thread.Missing h) = Refused (record { number = 33; place = Nowhere })
+fault_of_threads (thread.Mismatch h es) = Refused (record { number = 32; place = Nowhere })
+
+-- a run of the test's opening, one event an entry, over store buffers of B pairs and a memory of M
+-- words: its schedule, then its state text and its verdict
+pub record IsThreadsRun (B M : ℕ) (question : Question) (answer : List ℕ × Verdict) : Type 0 where
+  pub events : List Event
+  pub few : length events ≤ 1048576
+  pub history : History
+  pub ran : Run B M question.opening events history
+  pub each : events ≡ map event_of history.entries
+  pub state : List ℕ
+  pub judged : IsJudged M question history (state, answer.1)
+  pub written : answer.0 ≡ canon events ++ state
+
+-- the refusals of threads, and that of a run which is too long to be written
+abbrev pub refuses_threads : ℕ → Bool
+refuses_threads n = (n == 32) || (n == 33) || (n == 35) || (n == 37)
+
+abbrev pub IsThreadsGiven : ℕ → ℕ → Question → Result (List ℕ × Verdict) Refusal → Type 0
+IsThreadsGiven B M question (Ok answer) = IsThreadsRun B M question answer
+IsThreadsGiven B M question (Err refusal) = (refusal.place ≡ Nowhere) × IsTrue (refuses_threads refusal.number)
+
+-- what answers a test
+abbrev pub IsThreadsAnswer : ℕ → ℕ → List ℕ → Result (List ℕ × Verdict) Refusal → Type 0
+IsThreadsAnswer B M file answer = ByTest (IsThreadsGiven B M) file answer

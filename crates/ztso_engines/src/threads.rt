@@ -1,0 +1,123 @@
+//! The command `threads`: a litmus text in; out the schedule of a run that threads made, its state text
+//! and its verdict.
+
+ghost use Rattle.std.specs.Prelude.{◌≡◌, ◌≤◌, length};
+ghost use Rattle.hart_threads.specs.Records.{IsRecord};
+ghost use Rattle.ztso_engines.specs.Engines.{EndsBy};
+ghost use Rattle.ztso_engines.specs.Faults.{AnswersAs};
+ghost use Rattle.ztso_engines.specs.Threads.{fault_of_threads, IsThreadsGiven, IsThreadsAnswer};
+ghost use Rattle.ztso_engines.specs.inner.Making.{FindsBy, text_and_value};
+
+use crate::fault::{Fault, Place, TOO_LARGE};
+use crate::litmus_text::read_test;
+use crate::output::end_with;
+use crate::run::judged_text;
+use hart_threads::{Open, Record, Shared, run_harts};
+use litmus::{Test, Verdict};
+use recorder::{MAX_EVENTS, write_schedule};
+use std::alloc::Global;
+use std::io::{Read, Write};
+use std::sync::Wait;
+use std::thread::Threads;
+use step_machine::laws::laws_of_runs;
+
+impl From<hart_threads::Fault> for Fault {
+    ghost from_gives = { λ error fault. fault ≡ fault_of_threads error };
+
+    fn from(error: hart_threads::Fault) -> Fault {
+        match error {
+            hart_threads::Fault::NoMemory => Fault::NoMemory,
+            hart_threads::Fault::NoThread => Fault::refused(35, Place::Nowhere),
+            hart_threads::Fault::Missing { .. } => Fault::refused(33, Place::Nowhere),
+            hart_threads::Fault::Mismatch { .. } => Fault::refused(32, Place::Nowhere),
+        }
+    }
+}
+
+/// The schedule of a record, and the state text and the verdict of a test after it.
+fn told<const B: usize, const M: usize>(
+    alloc: Global,
+    test: &Test,
+    made: &Record<B, M>,
+) -> Result<(String, Verdict), Fault>
+    requires size { M ≤ 65536 }
+    requires harts { length test.now.opening.harts ≤ 64 }
+    requires names { length test.now.names ≤ M }
+    requires runs { IsRecord B M test.now.opening made.now }
+    ensures { AnswersAs (IsThreadsGiven B M test.now) text_and_value result }
+{
+    if made.events.len() > MAX_EVENTS {
+        return Err(Fault::refused(TOO_LARGE, Place::Nowhere));
+    }
+    laws_of_runs();
+    let mut text = write_schedule(alloc, &made.events)?;
+    let judged = judged_text(alloc, test, &made.machine)?;
+    text.push_str(&judged.0)?;
+    Ok((text, judged.1))
+}
+
+/// The texts of a run of a test that threads made.
+fn answer<const B: usize, const M: usize, T: Threads + Wait + Sync>(
+    rt: &T,
+    alloc: Global,
+    test: &Test,
+    turns: u32,
+) -> Result<(String, Verdict), Fault>
+    requires some_capacity { 1 ≤ B }
+    requires capacity { B ≤ 64 }
+    requires words { 1024 ≤ M }
+    requires size { M ≤ 65536 }
+    ensures { AnswersAs (IsThreadsGiven B M test.now) text_and_value result }
+{
+    let opening = test.opening(alloc)?;
+    let (shared, seats) = Shared::<B, M>::open(alloc, opening)?;
+    let record = run_harts(rt, alloc, shared, seats, &Open, turns)?;
+    told(alloc, test, &record)
+}
+
+/// What is to be written for the input that the reader gives, and the verdict.
+fn made<const B: usize, const M: usize, R: Read, T: Threads + Wait + Sync>(
+    rt: &T,
+    alloc: Global,
+    file: &mut R,
+    turns: u32,
+) -> Result<(String, Verdict), Fault>
+    requires some_capacity { 1 ≤ B }
+    requires capacity { B ≤ 64 }
+    requires words { 1024 ≤ M }
+    requires size { M ≤ 65536 }
+    ensures { FindsBy (IsThreadsAnswer B M) text_and_value (R.remaining file.old) result }
+{
+    let test = read_test(alloc, file)?;
+    answer::<B, M, T>(rt, alloc, &test, turns)
+}
+
+/// Reads a litmus text to its end, runs its harts and their landers on a thread each, with store
+/// buffers of `B` pairs and `M` words of memory and for at most so many calls each, writes the schedule
+/// of what they did, the state text and the verdict on a line, and answers the verdict.
+///
+/// The input is refused as [`crate::run::run_engine`] refuses it. A run of more than
+/// [`recorder::MAX_EVENTS`] events is refused as too large ([`TOO_LARGE`]), and a fault of the threads
+/// by its number. Where there is a refusal nothing was written. It may wait, for the lock and for the
+/// threads.
+pub fn threads_engine<
+    const B: usize,
+    const M: usize,
+    R: Read,
+    W: Write,
+    T: Threads + Wait + Sync,
+>(
+    rt: &T,
+    alloc: Global,
+    file: &mut R,
+    turns: u32,
+    writer: &mut W,
+) -> Result<Verdict, Fault>
+    requires some_capacity { 1 ≤ B }
+    requires capacity { B ≤ 64 }
+    requires words { 1024 ≤ M }
+    requires size { M ≤ 65536 }
+    ensures { EndsBy (IsThreadsAnswer B M) result (R.remaining file.old) W.contents writer.old writer.new }
+{
+    end_with(made::<B, M, R, T>(rt, alloc, file, turns), writer)
+}
