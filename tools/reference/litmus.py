@@ -40,6 +40,8 @@ class Test:
     locations: dict = field(default_factory=dict)
     registers: dict = field(default_factory=dict)
     words: dict = field(default_factory=dict)
+    # of harts; a litmus text tells none
+    inboxes: dict = field(default_factory=dict)
     kind: str = ""
     # the condition in postfix: `("is", place, value)`, "not", "and", "or"
     condition: list = field(default_factory=list)

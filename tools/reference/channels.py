@@ -1,0 +1,82 @@
+"""Channels: the lists of a text, the opening over them, and what the receiver reports. The programs are
+the listings of docs/channels.md."""
+
+import re
+from pathlib import Path
+
+import assembly
+import litmus
+from faults import at_line, refused
+from machine import MEMORY, Machine
+
+PAGE = Path(__file__).resolve().parent.parent.parent / "docs/channels.md"
+LINE, ZERO_WORD, NO_SENDERS, TOO_MANY, TOO_SMALL, NO_ROOM = 34, 16, 17, 18, 19, 20
+HEADING = {"lamport": "## Lamport's ring"}
+LEAST = {"lamport": 2}
+SENDERS = 63
+
+
+def lists(text):
+    """A list for each line of decimal words, parted by spaces."""
+    lines = text.split("\n")
+    if not lines[-1]:
+        lines.pop()
+    told = []
+    for number, line in enumerate(lines, 1):
+        words = line.removesuffix("\r").split(" ")
+        if not all(re.fullmatch("[0-9]*", word) and int(word or 0) < 1 << 32 for word in words):
+            raise at_line(LINE, number)
+        told.append(tuple(int(word) for word in words if word))
+    return told
+
+
+def listings(kind):
+    """The sender's instructions and the receiver's."""
+    section = PAGE.read_text().split(f"{HEADING[kind]}\n")[1].split("\n## ")[0]
+    programs = []
+    for place, text in re.findall(r"^\| ([0-9A-F]{2}) \| `([^`]*)`", section, re.MULTILINE):
+        if place == "00":
+            programs.append([])
+        programs[-1].append(text)
+    return [assembled(program) for program in programs]
+
+
+def assembled(program):
+    told = [assembly.statement(text) for text in program]
+    labels = {label: at for at, (label, _) in enumerate(told) if label}
+    return [assembly.placed(instruction, at, labels) for at, (_, (instruction,)) in enumerate(told)]
+
+
+def opened(kind, slots, words):
+    """The channel's opening, as a test that asks nothing."""
+    size = 16 + 4 * slots
+    if not words:
+        raise refused(NO_SENDERS)
+    if len(words) > SENDERS:
+        raise refused(TOO_MANY)
+    if slots < LEAST[kind]:
+        raise refused(TOO_SMALL)
+    if len(words) * size > MEMORY:
+        raise refused(NO_ROOM)
+    for sender, told in enumerate(words):
+        if 0 in told:
+            raise refused(ZERO_WORD, f" at sender {sender} place {told.index(0)}")
+    sender, receiver = listings(kind)
+    channel = litmus.Test(codes=[receiver] + [sender] * len(words))
+    channel.registers = {(0, 9): 4 * slots, (0, 18): size, (0, 19): len(words) * size, (0, 20): len(words)}
+    for i, told in enumerate(words):
+        channel.registers |= {(i + 1, 8): i * size, (i + 1, 9): 4 * slots}
+        channel.inboxes[i + 1] = told
+    return channel
+
+
+def reports(kind, slots, words, events, capacity):
+    """The receiver's reports in the run of these events, as lines."""
+    machine = Machine(opened(kind, slots, words), capacity)
+    state, told = machine.opening, []
+    for event in events:
+        outcome, entry, state = machine.step(state, event)
+        name, *parts = outcome.split()
+        if entry and name in ("took", "closed"):
+            told.append(" ".join([name, *parts[1:]]))
+    return told
