@@ -1,5 +1,5 @@
 -- A text of lists: what is read is what it says, and what it says is read.
-use Rattle.std.proofs.Common.{◌≡◌, ℕ, ◌+◌, List, [], ◌∷◌, Ok, refl, sym, ap, subst, ◌∙◌}
+use Rattle.std.proofs.Common.{◌≡◌, ℕ, ◌+◌, List, [], ◌∷◌, Result, Ok, Err, refl, sym, ap, subst, ◌∙◌}
 use Rattle.std.specs.List.{AllZip}
 use Rattle.std.specs.Str.Lines.{lines}
 use Rattle.texts.specs.Numbers.{word_of}
@@ -12,6 +12,12 @@ use Rattle.ztso_engines.specs.declared.fault.Refusal.{Refusal}
 use Rattle.ztso_engines.specs.LineFaults.{or_bad, at_line}
 use Rattle.ztso_engines.specs.StepsText.{SaysWord}
 use Rattle.ztso_engines.specs.Lists.{with_bytes, SaysList, SaysLists, list_at, list_of, lists_of_lines, lists_at}
+use Rattle.ztso_engines.specs.declared.fault.Fault.{Fault}
+use Rattle.ztso_engines.specs.declared.fault.Fault.TheVariants.{ReadFailed, WriteFailed, NoMemory, Refused}
+use Rattle.ztso_engines.specs.Faults.{Answers, AnswersAs}
+use Rattle.ztso_engines.specs.Engines.{judged}
+use Rattle.ztso_engines.specs.inner.Inputs.{IsReadAsLists}
+use Rattle.ztso_engines.proofs.Judging.{accepted_well}
 use Rattle.ztso_engines.proofs.NumberWords.{or_bad_ok}
 use Rattle.ztso_engines.proofs.LineFaulted.{at_line_ok}
 
@@ -57,3 +63,11 @@ lists_read text lists said = lines_read 1 (lines text) lists said
 
 pub one_lists : (text : List ℕ) (a b : List (List ℕ)) → SaysLists text a → SaysLists text b → a ≡ b
 one_lists text a b p q = ok_is Refusal a b (sym (lists_read text a p) ∙ lists_read text b q)
+
+-- what the reading from the top answers of an input is what it is read as
+pub read_as_lists : {X : Type 0} (view : X → List (List ℕ)) (input : List ℕ) (result : Result X Fault) → Answers view result (judged lists_at input) → AnswersAs (IsReadAsLists input) view result
+read_as_lists view input (Ok x) is = accepted_well lists_at SaysLists input (view x) (lists_found input (view x)) is
+read_as_lists view input (Err (Refused refusal)) is = is
+read_as_lists view input (Err NoMemory) is = is
+read_as_lists view input (Err ReadFailed) is = is
+read_as_lists view input (Err WriteFailed) is = is

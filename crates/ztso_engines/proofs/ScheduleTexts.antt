@@ -1,5 +1,5 @@
 -- An input that is refused as a schedule has none.
-use Rattle.std.proofs.Common.{◌≡◌, List, Result, Ok, Err, refl}
+use Rattle.std.proofs.Common.{◌≡◌, ℕ, List, Result, Ok, Err, refl}
 use Rattle.std.specs.Prelude.{Option, Some, None}
 use Rattle.std.specs.Global.{Vec}
 use Rattle.std.specs.Result.{IsErr}
