@@ -1,14 +1,13 @@
 -- The laws of one block, all together, and so the laws of the ring.
-use Rattle.std.proofs.Common.{ℕ, suc, ◌+◌, ◌*◌, ◌%◌, ◌<◌, ◌≤◌, ◌≡◌, List, [], ◌∷◌, ◌++◌, length, Some, refl, sym, ◌∙◌, ap, arith, append-nil, lit≤}
+use Rattle.std.proofs.Common.{ℕ, suc, ◌+◌, ◌<◌, ◌≤◌, ◌≡◌, List, length, Some, refl, sym, ◌∙◌, ap, arith, append-nil, lit≤}
 use Rattle.std.specs.List.{slice_get}
 use Rattle.std.proofs.Math.Nat.{zero-mod}
 use Rattle.hart.specs.State.{HartState}
 use Rattle.poll_close.specs.Laws.{IsShort, Opens, Keeps, Cleans, Goes}
-use Rattle.poll_close.specs.Invariant.Blocks.{Block, offset, slot, window}
+use Rattle.poll_close.specs.Invariant.Blocks.{Block, offset, slot}
 use Rattle.poll_close.proofs.Windows.{window_made}
-use Rattle.poll_close.proofs.Writes.{IsWrite}
-use Rattle.poll_close.proofs.Blocks.{IsBlock, Within, IsWordOf, first_of, word_of, slot_of}
-use Rattle.poll_close.proofs.BlockLaws.{BlockLaws, Begins, Changes, Lands, Tailed, Done, Reported, opens_with}
+use Rattle.poll_close.proofs.Blocks.{IsBlock, Within, first_of, word_of, slot_of}
+use Rattle.poll_close.proofs.BlockLaws.{BlockLaws, Begins, Lands, Tailed, Done, Reported, opens_with}
 use Rattle.poll_close.proofs.ChannelLaws.{opens, keeps, cleans, goes}
 use Rattle.lamport_ring.specs.Listing.{sender_code}
 use Rattle.lamport_ring.specs.Lamport.{lamport, lamport_blocks, lamport_means}
@@ -28,21 +27,27 @@ nothing = record { made = record { g = 0; p = 0; q = 0; m = 0 }; ls = 0; kh = 0;
 
 begins : (k : Block) → IsBlock k → Begins lamport_blocks k (opens_with sender_code k)
 begins k is = record {
-    none = nothing;
-    order = record { kc_c = omega arith; c_kh = omega arith; kh_ls = omega arith; ls_kh = omega arith; ls_p = omega arith; kh_q = omega arith; q_p = omega arith; p_q = omega arith; p_kc = omega (arith, is.some_slot); p_all = omega arith; m_one = omega arith; km_m = omega arith; m_all = λ some. omega arith; km_all = λ some. omega arith; d_one = omega arith; kd_d = omega arith; d_all = λ some. omega arith; kd_all = λ some. omega arith };
-    words = record { head = omega (arith, zero-mod k.size); mark = refl; tail = omega (arith, zero-mod k.size); done = refl; slots = λ j from below. omega arith };
-    stands = record { place = P00; written = record { x5 = 0; x6 = 0; x7 = 0; x10 = 0; x11 = 0; x17 = 0; x28 = 0 }; is = refl; holds = (record { taken = refl; heads = refl; unmarked = refl }, omega (arith, zero-mod k.size)) };
-    unsent = refl; unread = refl; level = tt; tails = refl; dones = refl; took = refl; shut = refl;
-  }
+  none = nothing;
+  order = record { kc_c = omega arith; c_kh = omega arith; kh_ls = omega arith; ls_kh = omega arith; ls_p = omega arith; kh_q = omega arith; q_p = omega arith; p_q = omega arith; p_kc = omega (arith, is.some_slot); p_all = omega arith; m_one = omega arith; km_m = omega arith; m_all = λ some. omega arith; km_all = λ some. omega arith; d_one = omega arith; kd_d = omega arith; d_all = λ some. omega arith; kd_all = λ some. omega arith };
+  words = record { head = omega (arith, zero-mod k.size); mark = refl; tail = omega (arith, zero-mod k.size); done = refl; slots = λ j from below. omega arith };
+  stands = record { place = P00; written = record { x5 = 0; x6 = 0; x7 = 0; x10 = 0; x11 = 0; x17 = 0; x28 = 0 }; is = refl; holds = (record { taken = refl; heads = refl; unmarked = refl }, omega (arith, zero-mod k.size)) };
+  unsent = refl;
+  unread = refl;
+  level = tt;
+  tails = refl;
+  dones = refl;
+  took = refl;
+  shut = refl;
+}
 
 words_same : (k : Block) (n : Numbers) (word new : ℕ → ℕ) → IsBlock k → ((a : ℕ) → Within k a → new a ≡ word a) → Words k n word → Words k n new
 words_same k n word new is same w = record {
-    head = same k.base (first_of k is).within ∙ w.head;
-    mark = same (k.base + 4) (word_of k is 4 (omega arith) refl).within ∙ w.mark;
-    tail = same (k.base + 8) (word_of k is 8 (omega arith) refl).within ∙ w.tail;
-    done = same (k.base + 12) (word_of k is 12 (omega arith) refl).within ∙ w.done;
-    slots = λ j from below. same (slot k.size k.base j) (slot_of k is j).within ∙ w.slots j from below;
-  }
+  head = same k.base (first_of k is).within ∙ w.head;
+  mark = same (k.base + 4) (word_of k is 4 (omega arith) refl).within ∙ w.mark;
+  tail = same (k.base + 8) (word_of k is 8 (omega arith) refl).within ∙ w.tail;
+  done = same (k.base + 12) (word_of k is 12 (omega arith) refl).within ∙ w.done;
+  slots = λ j from below. same (slot k.size k.base j) (slot_of k is j).within ∙ w.slots j from below;
+}
 
 -- a later tail keeps the sender's assertion
 holds_later : (k : Block) (here : SenderPlace) (n : _) (kc later : ℕ) (r : Written) → kc ≤ later → SenderIs k here n kc r → SenderIs k here n later r
@@ -83,10 +88,17 @@ module _ (k : Block) (n : Numbers) (order : Ordered k n) where
       record {
         after = record n { c = n.c + 1 };
         changes = record {
-          order = order_c k n order more on; words = λ word w. words_taken (n.c + 1) n.d n.took n.shut word (omega arith) w; sender = λ s st. standing_taken (n.c + 1) n.d n.took n.shut s st; unsent = refl;
+          order = order_c k n order more on;
+          words = λ word w. words_taken (n.c + 1) n.d n.took n.shut word (omega arith) w;
+          sender = λ s st. standing_taken (n.c + 1) n.d n.took n.shut s st;
+          unsent = refl;
           unread = rw (← one) (window_made (receiver_stores k.size k.base k.list) (n.kc + n.kd) (n.c + n.d) (k.base + 8, offset k (n.c + 1)) behind next);
         };
-        level = tt; tails = refl; dones = refl; took = refl; shut = refl;
+        level = tt;
+        tails = refl;
+        dones = refl;
+        took = refl;
+        shut = refl;
       }
 
   stores_done : n.c ≡ length k.list → n.d ≡ 0 → Done lamport_blocks k n
@@ -96,56 +108,73 @@ module _ (k : Block) (n : Numbers) (order : Ordered k n) where
       record {
         after = record n { d = 1 };
         changes = record {
-          order = order_d k n order all; words = λ word w. words_taken n.c 1 n.took n.shut word (omega arith) w; sender = λ s st. standing_taken n.c 1 n.took n.shut s st; unsent = refl;
+          order = order_d k n order all;
+          words = λ word w. words_taken n.c 1 n.took n.shut word (omega arith) w;
+          sender = λ s st. standing_taken n.c 1 n.took n.shut s st;
+          unsent = refl;
           unread = rw (← one) (window_made (receiver_stores k.size k.base k.list) (n.kc + n.kd) (n.c + n.d) (k.base + 12, 1) behind next);
         };
-        level = tt; tails = refl; dones = refl; took = refl; shut = refl;
+        level = tt;
+        tails = refl;
+        dones = refl;
+        took = refl;
+        shut = refl;
       }
 
   reported : (words closed : ℕ) → Reported lamport_blocks k n words closed
   reported words closed = record {
-      after = record n { took = words; shut = closed };
-      changes = record { order = order_told k n order words closed; words = λ word w. words_taken n.c n.d words closed word (omega arith) w; sender = λ s st. standing_taken n.c n.d words closed s st; unsent = refl; unread = append-nil (unread_of k n) };
-      level = tt; tails = refl; dones = refl; took = refl; shut = refl;
-    }
+    after = record n { took = words; shut = closed };
+    changes = record { order = order_told k n order words closed; words = λ word w. words_taken n.c n.d words closed word (omega arith) w; sender = λ s st. standing_taken n.c n.d words closed s st; unsent = refl; unread = append-nil (unread_of k n) };
+    level = tt;
+    tails = refl;
+    dones = refl;
+    took = refl;
+    shut = refl;
+  }
 
 -- a landing, as the laws ask for it
 landing : (k : Block) (n : Numbers) (new : ℕ → ℕ) (mine theirs : List (ℕ × ℕ)) → Landing k n new mine theirs → Lands lamport_blocks k n new mine theirs
 landing k n new mine theirs l = record {
-    after = record n { ls = l.ls; kh = l.kh; km = l.km; kc = l.kc; kd = l.kd };
-    order = l.order; words = l.words;
-    sender = λ s st. record { place = st.place; written = st.written; is = st.is; holds = holds_later k st.place n.made n.kc l.kc st.written l.later st.holds };
-    unsent = l.mine_is; unread = l.theirs_is;
-    grows = record { tails = refl; dones = refl; took = refl; shut = refl; marks = l.marks; later = l.heads };
-  }
+  after = record n { ls = l.ls; kh = l.kh; km = l.km; kc = l.kc; kd = l.kd };
+  order = l.order;
+  words = l.words;
+  sender = λ s st. record { place = st.place; written = st.written; is = st.is; holds = holds_later k st.place n.made n.kc l.kc st.written l.later st.holds };
+  unsent = l.mine_is;
+  unread = l.theirs_is;
+  grows = record { tails = refl; dones = refl; took = refl; shut = refl; marks = l.marks; later = l.heads };
+}
 
 pub lamport-laws : BlockLaws lamport_blocks sender_code
 lamport-laws = record {
-    begins = begins;
-    tails_all = λ k n order. omega (arith, order.c_kh, order.kh_ls, order.ls_p, order.p_all);
-    dones_one = λ k n order. order.d_one;
-    marks_one = λ k n order. omega (arith, order.km_m, order.m_one);
-    filled_more = λ k n order more. omega (arith, more, order.kh_ls, order.ls_p, order.p_all);
-    unsent_are = λ k n is order. sender_stores_are k is (gone n) (sent n);
-    unread_are = λ k n is order. receiver_stores_are k is (n.kc + n.kd) (n.c + n.d);
-    words_same = words_same;
-    later_same = λ n. omega arith;
-    level_stays = λ n new g h. tt;
-    filled_stays = λ k n new g more. omega (arith, g.tails, g.later, more);
-    stays_18 = λ k n new r g order h. record { head = h.head; from = omega (arith, g.tails, h.from); to = omega (arith, g.later, h.to); is = h.is; last = h.last };
-    stays_1C = λ k n new r g order h. (record { head = h.0.head; from = omega (arith, g.tails, h.0.from); to = omega (arith, g.later, h.0.to); is = h.0.is; last = h.0.last }, h.1 ∙ ap (offset k) (sym g.tails));
-    stays_20 = λ k n new r g order h. (omega (arith, g.tails, g.later, h.0), h.1 ∙ ap (offset k) (sym g.tails));
-    stays_24 = λ k n new r g order h. (omega (arith, g.tails, g.later, h.0), h.1 ∙ ap (offset k) (sym g.tails), h.2);
-    sends = sends;
-    sender_lands = λ k n word new x rest is order words oldest write. landing k n new rest (unread_of k n) (sender_lands k is n order word new words x rest (unread_of k n) oldest write refl);
-    receiver_lands = λ k n word new x rest is order words oldest write. landing k n new (pending_of k n) rest (receiver_lands k is n order word new words x rest (pending_of k n) oldest write refl);
-    sees_done = λ k n word order words. seen_done k n word order words;
-    sees_mark = λ k n word order words. seen_mark k n word order words;
-    stores_tail = λ k n order more on. stores_tail k n order more on;
-    stores_done = λ k n order level all on. stores_done k n order all on;
-    reports = λ k n words closed order level. reported k n order words closed;
-    moves_14 = middle_14; moves_18 = middle_18; moves_1C = middle_1C; moves_20 = middle_20; moves_24 = middle_24;
-  }
+  begins = begins;
+  tails_all = λ k n order. omega (arith, order.c_kh, order.kh_ls, order.ls_p, order.p_all);
+  dones_one = λ k n order. order.d_one;
+  marks_one = λ k n order. omega (arith, order.km_m, order.m_one);
+  filled_more = λ k n order more. omega (arith, more, order.kh_ls, order.ls_p, order.p_all);
+  unsent_are = λ k n is order. sender_stores_are k is (gone n) (sent n);
+  unread_are = λ k n is order. receiver_stores_are k is (n.kc + n.kd) (n.c + n.d);
+  words_same = words_same;
+  later_same = λ n. omega arith;
+  level_stays = λ n new g h. tt;
+  filled_stays = λ k n new g more. omega (arith, g.tails, g.later, more);
+  stays_18 = λ k n new r g order h. record { head = h.head; from = omega (arith, g.tails, h.from); to = omega (arith, g.later, h.to); is = h.is; last = h.last };
+  stays_1C = λ k n new r g order h. (record { head = h.0.head; from = omega (arith, g.tails, h.0.from); to = omega (arith, g.later, h.0.to); is = h.0.is; last = h.0.last }, h.1 ∙ ap (offset k) (sym g.tails));
+  stays_20 = λ k n new r g order h. (omega (arith, g.tails, g.later, h.0), h.1 ∙ ap (offset k) (sym g.tails));
+  stays_24 = λ k n new r g order h. (omega (arith, g.tails, g.later, h.0), h.1 ∙ ap (offset k) (sym g.tails), h.2);
+  sends = sends;
+  sender_lands = λ k n word new x rest is order words oldest write. landing k n new rest (unread_of k n) (sender_lands k is n order word new words x rest (unread_of k n) oldest write refl);
+  receiver_lands = λ k n word new x rest is order words oldest write. landing k n new (pending_of k n) rest (receiver_lands k is n order word new words x rest (pending_of k n) oldest write refl);
+  sees_done = λ k n word order words. seen_done k n word order words;
+  sees_mark = λ k n word order words. seen_mark k n word order words;
+  stores_tail = λ k n order more on. stores_tail k n order more on;
+  stores_done = λ k n order level all on. stores_done k n order all on;
+  reports = λ k n words closed order level. reported k n order words closed;
+  moves_14 = middle_14;
+  moves_18 = middle_18;
+  moves_1C = middle_1C;
+  moves_20 = middle_20;
+  moves_24 = middle_24;
+}
 
 pub lamport-short : IsShort lamport
 lamport-short = (lit≤ tt, lit≤ tt)

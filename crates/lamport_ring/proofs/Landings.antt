@@ -1,9 +1,8 @@
 -- The words of a block, by its numbers, and what each landing makes of them.
-use Rattle.std.proofs.Common.{ℕ, suc, ◌+◌, ◌*◌, ◌%◌, ◌<◌, ◌≤◌, ◌≡◌, ◌≢◌, ◌==◌, ◌⊎◌, inl, inr, true, false, ◌-◌, List, ◌∷◌, length, take, length-drop, length-take, min, Some, if◌then◌else◌, refl, sym, ◌∙◌, ap, subst, arith}
+use Rattle.std.proofs.Common.{ℕ, suc, ◌+◌, ◌*◌, ◌%◌, ◌<◌, ◌≤◌, ◌≡◌, ◌≢◌, ◌⊎◌, inl, inr, List, ◌∷◌, length, Some, refl, sym, ◌∙◌, ap, subst, arith}
 use Rattle.std.specs.Prelude.{slice_index}
 use Rattle.std.specs.List.{slice_get}
 use Rattle.std.proofs.lemmas.Bool.{cases_lt, cases_eq}
-use Rattle.std.proofs.lemmas.Bool.Decides.{nat_tests}
 use Rattle.poll_close.proofs.Modulo.{mod_apart}
 use Rattle.poll_close.specs.Invariant.Blocks.{window}
 use Rattle.poll_close.proofs.Windows.{first_is, some_in}
@@ -38,7 +37,14 @@ module _ (k : Block) (is : IsBlock k) (n : Numbers) (order : Ordered k n) (word 
   slot_lands : (theirs : List (ℕ × ℕ)) → n.ls ≡ n.kh → n.kh < length k.list → gone n < sent n → IsWrite word new (slot k.size k.base n.ls, slice_index k.list n.ls) → theirs ≡ unread_of k n → Landing k n new (window (sender_stores k.size k.base k.list) (suc (gone n)) (sent n)) theirs
   slot_lands theirs even more some write their =
       record {
-        ls = n.ls + 1; kh = n.kh; km = n.km; kc = n.kc; kd = n.kd; later = omega arith; heads = omega arith; marks = omega arith;
+        ls = n.ls + 1;
+        kh = n.kh;
+        km = n.km;
+        kc = n.kc;
+        kd = n.kd;
+        later = omega arith;
+        heads = omega arith;
+        marks = omega arith;
         order = order_ls k n order even room;
         words = record {
           head = miss word new at w write k.base (omega arith) ∙ words.head;
@@ -53,12 +59,16 @@ module _ (k : Block) (is : IsBlock k) (n : Numbers) (order : Ordered k n) (word 
     where
       at : ℕ
       at = slot k.size k.base n.ls
+
       w : ℕ
       w = slice_index k.list n.ls
+
       next : suc (gone n) ≡ n.ls + 1 + n.kh + n.km
       next = omega arith
+
       room : n.ls < n.made.p
       room = grind (arith, order.m_all, order.ls_p, order.kh_q, order.q_p, order.km_m, order.m_one)
+
       slots : (j : ℕ) → n.c ≤ j → j < n.ls + 1 → new (slot k.size k.base j) ≡ slice_index k.list j
       slots j from below =
           elim (cases_eq j n.ls) [
@@ -71,7 +81,14 @@ module _ (k : Block) (is : IsBlock k) (n : Numbers) (order : Ordered k n) (word 
   head_lands : (theirs : List (ℕ × ℕ)) → n.ls ≡ n.kh + 1 → gone n < sent n → IsWrite word new (k.base, offset k (n.kh + 1)) → theirs ≡ unread_of k n → Landing k n new (window (sender_stores k.size k.base k.list) (suc (gone n)) (sent n)) theirs
   head_lands theirs odd more write their =
       record {
-        ls = n.ls; kh = n.kh + 1; km = n.km; kc = n.kc; kd = n.kd; later = omega arith; heads = omega arith; marks = omega arith;
+        ls = n.ls;
+        kh = n.kh + 1;
+        km = n.km;
+        kc = n.kc;
+        kd = n.kd;
+        later = omega arith;
+        heads = omega arith;
+        marks = omega arith;
         order = order_kh k n order odd room;
         words = record {
           head = hit word new k.base w write k.base refl;
@@ -86,15 +103,24 @@ module _ (k : Block) (is : IsBlock k) (n : Numbers) (order : Ordered k n) (word 
     where
       w : ℕ
       w = offset k (n.kh + 1)
+
       next : suc (gone n) ≡ n.ls + (n.kh + 1) + n.km
       next = omega arith
+
       room : n.kh < n.made.q
       room = grind (arith, order.m_all, order.ls_p, order.kh_q, order.q_p, order.p_q, order.p_all, order.km_m, order.m_one)
 
   mark_lands : (theirs : List (ℕ × ℕ)) → n.kh ≡ length k.list → gone n < sent n → IsWrite word new (k.base + 4, 1) → theirs ≡ unread_of k n → Landing k n new (window (sender_stores k.size k.base k.list) (suc (gone n)) (sent n)) theirs
   mark_lands theirs all more write their =
       record {
-        ls = n.ls; kh = n.kh; km = n.km + 1; kc = n.kc; kd = n.kd; later = omega arith; heads = omega arith; marks = omega arith;
+        ls = n.ls;
+        kh = n.kh;
+        km = n.km + 1;
+        kc = n.kc;
+        kd = n.kd;
+        later = omega arith;
+        heads = omega arith;
+        marks = omega arith;
         order = order_km k n order all room;
         words = record {
           head = miss word new (k.base + 4) 1 write k.base (omega arith) ∙ words.head;
@@ -109,15 +135,24 @@ module _ (k : Block) (is : IsBlock k) (n : Numbers) (order : Ordered k n) (word 
     where
       next : suc (gone n) ≡ n.ls + n.kh + (n.km + 1)
       next = omega arith
+
       room : n.km < n.made.m
       room = grind (arith, order.kh_ls, order.ls_p, order.kh_q, order.q_p, order.p_all, order.km_m, order.m_one)
+
       one : 1 ≡ n.km + 1
       one = omega (arith, room, order.m_one)
 
   tail_lands : (mine : List (ℕ × ℕ)) → n.kc < n.c → IsWrite word new (k.base + 8, offset k (n.kc + 1)) → mine ≡ pending_of k n → Landing k n new mine (window (receiver_stores k.size k.base k.list) (suc (n.kc + n.kd)) (n.c + n.d))
   tail_lands mine more write my =
       record {
-        ls = n.ls; kh = n.kh; km = n.km; kc = n.kc + 1; kd = n.kd; later = omega arith; heads = omega arith; marks = omega arith;
+        ls = n.ls;
+        kh = n.kh;
+        km = n.km;
+        kc = n.kc + 1;
+        kd = n.kd;
+        later = omega arith;
+        heads = omega arith;
+        marks = omega arith;
         order = order_kc k n order more;
         words = record {
           head = miss word new (k.base + 8) w write k.base (omega arith) ∙ words.head;
@@ -132,13 +167,21 @@ module _ (k : Block) (is : IsBlock k) (n : Numbers) (order : Ordered k n) (word 
     where
       w : ℕ
       w = offset k (n.kc + 1)
+
       next : suc (n.kc + n.kd) ≡ n.kc + 1 + n.kd
       next = omega arith
 
   done_lands : (mine : List (ℕ × ℕ)) → n.kc ≡ length k.list → n.kd < n.d → IsWrite word new (k.base + 12, 1) → mine ≡ pending_of k n → Landing k n new mine (window (receiver_stores k.size k.base k.list) (suc (n.kc + n.kd)) (n.c + n.d))
   done_lands mine all more write my =
       record {
-        ls = n.ls; kh = n.kh; km = n.km; kc = n.kc; kd = n.kd + 1; later = omega arith; heads = omega arith; marks = omega arith;
+        ls = n.ls;
+        kh = n.kh;
+        km = n.km;
+        kc = n.kc;
+        kd = n.kd + 1;
+        later = omega arith;
+        heads = omega arith;
+        marks = omega arith;
         order = order_kd k n order all more;
         words = record {
           head = miss word new (k.base + 12) 1 write k.base (omega arith) ∙ words.head;
@@ -153,6 +196,7 @@ module _ (k : Block) (is : IsBlock k) (n : Numbers) (order : Ordered k n) (word 
     where
       next : suc (n.kc + n.kd) ≡ n.kc + (n.kd + 1)
       next = omega arith
+
       one : 1 ≡ n.kd + 1
       one = omega (arith, more, order.d_one)
 
@@ -162,12 +206,15 @@ module _ (k : Block) (is : IsBlock k) (n : Numbers) (order : Ordered k n) (word 
     where
       more : gone n < sent n
       more = some_in (sender_stores k.size k.base k.list) (gone n) (sent n) x rest first
+
       with : (y : ℕ × ℕ) → slice_get (sender_stores k.size k.base k.list) (gone n) ≡ Some y → (IsWrite word new y → Landing k n new (window (sender_stores k.size k.base k.list) (suc (gone n)) (sent n)) theirs) → Landing k n new rest theirs
       with y at lands =
           let both = first_is (sender_stores k.size k.base k.list) (gone n) (sent n) x y rest more at first in
           subst (λ (ps : List (ℕ × ℕ)). Landing k n new ps theirs) (sym both.1) (lands (subst (IsWrite word new) both.0 write))
+
       unmarked : n.kh < length k.list → n.km ≡ 0
       unmarked some = grind (arith, order.km_all)
+
       at : (n.kh < length k.list) ⊎ (length k.list ≤ n.kh) → (n.ls ≡ n.kh) ⊎ (n.ls ≢ n.kh) → Landing k n new rest theirs
       at (inl some) (inl even) = with (slot k.size k.base n.ls, slice_index k.list n.ls) (store_slot k.size k.base k.list n.ls (gone n) (omega arith) (omega (arith, unmarked some))) (λ w. slot_lands theirs even some more w their)
       at (inl some) (inr odd) = with (k.base, offset k (n.kh + 1)) (store_head k.size k.base k.list n.kh (gone n) some (omega (arith, unmarked some, order.kh_ls, order.ls_kh))) (λ w. head_lands theirs (omega (arith, order.kh_ls, order.ls_kh)) more w their)
@@ -181,14 +228,18 @@ module _ (k : Block) (is : IsBlock k) (n : Numbers) (order : Ordered k n) (word 
     where
       more : n.kc + n.kd < n.c + n.d
       more = some_in (receiver_stores k.size k.base k.list) (n.kc + n.kd) (n.c + n.d) x rest first
+
       with : (y : ℕ × ℕ) → slice_get (receiver_stores k.size k.base k.list) (n.kc + n.kd) ≡ Some y → (IsWrite word new y → Landing k n new mine (window (receiver_stores k.size k.base k.list) (suc (n.kc + n.kd)) (n.c + n.d))) → Landing k n new mine rest
       with y at lands =
           let both = first_is (receiver_stores k.size k.base k.list) (n.kc + n.kd) (n.c + n.d) x y rest more at first in
           subst (Landing k n new mine) (sym both.1) (lands (subst (IsWrite word new) both.0 write))
+
       within : n.c ≤ length k.list
       within = omega (arith, order.c_kh, order.kh_ls, order.ls_p, order.p_all)
+
       not_done : n.kc < n.c → n.kd ≡ 0
       not_done some = grind (arith, order.kd_all, within)
+
       at : (n.kc < n.c) ⊎ (n.c ≤ n.kc) → Landing k n new mine rest
       at (inl some) = with (k.base + 8, offset k (n.kc + 1)) (store_tail k.size k.base k.list n.kc (n.kc + n.kd) (omega (arith, within)) (omega (arith, not_done some))) (λ w. tail_lands mine some w my)
       at (inr none) =

@@ -1,7 +1,6 @@
 -- One lemma a line: what the sender wants there, and the state that it leaves.
 use Rattle.std.proofs.Common.{ℕ, pos, negsuc, ◌+◌, ◌*◌, ◌%◌, ◌^◌, ◌<◌, ◌≤◌, ◌≡◌, ◌≢◌, ◌==◌, ◌+ℤ◌, true, false, not, List, [], ◌∷◌, Some, None, refl, add-zero, ◌∙◌, ap, arith, lit<}
 use Rattle.std.proofs.lemmas.Bool.Decides.{nat_tests}
-use Rattle.std.proofs.lemmas.Int.{ints}
 use Rattle.rv_decode.specs.Meaning.{meaning, reg_of}
 use Rattle.rv_decode.specs.declared.instruction.BranchOp.TheVariants as branch
 use Rattle.rv_decode.specs.declared.instruction.ImmediateOp.TheVariants as immediate
@@ -9,11 +8,8 @@ use Rattle.rv_decode.specs.declared.instruction.RegisterOp.TheVariants as regist
 use Rattle.rv_decode.specs.declared.instruction.LoadOp.TheVariants as load
 use Rattle.rv_decode.specs.declared.instruction.StoreOp.TheVariants as store
 use Rattle.rv_decode.specs.declared.instruction.Instr.TheVariants.{Jal, Branch, Load, Store, Immediate, Register, Ecall}
-use Rattle.hart.specs.State.{HartState}
-use Rattle.hart.specs.declared.need.Need.{Need}
 use Rattle.hart.specs.declared.need.Need.TheVariants as need
 use Rattle.hart.specs.Effects.{word}
-use Rattle.hart.specs.Steps.{need_of, advanced}
 use Rattle.hart.proofs.Instructions.{IsAt, load_need, load_after, store_need, store_after, immediate_need, immediate_after, branch_on_need, branch_on_after, branch_taken_need, branch_taken_after, register_need, register_after, jal_need, jal_after, next_need, next_after, exit_need, exit_after}
 use Rattle.poll_close.proofs.Lines.{Line, loads, stores, word_plus}
 use Rattle.lamport_ring.specs.Invariant.SenderState.{Written, Fixed, running, ended}

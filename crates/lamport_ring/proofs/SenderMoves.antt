@@ -42,8 +42,16 @@ module _ (k : Block) (is : IsBlock k) (n : Numbers) (r : Written) (v : ℕ) (ord
   -- an act that changes no number
   still : (here there : SenderPlace) (written : Written) → Line (stands k here n.made r) need.Inner (λ w. stands k there n.made written) → SenderIs k there n.made n.kc written → Moves k here n r v
   still here there written line holds = record {
-    wanted = need.Inner; there = there; made = n.made; written = written;
-    plain = tt; wants = line.wants; leaves = line.leaves v; order = order; holds = holds; stores = append-nil (pending_of k n);
+    wanted = need.Inner;
+    there = there;
+    made = n.made;
+    written = written;
+    plain = tt;
+    wants = line.wants;
+    leaves = line.leaves v;
+    order = order;
+    holds = holds;
+    stores = append-nil (pending_of k n);
   }
 
   moves_00 : SenderIs k P00 n.made n.kc r → Moves k P00 n r v
@@ -57,8 +65,14 @@ module _ (k : Block) (is : IsBlock k) (n : Numbers) (r : Written) (v : ℕ) (ord
             let split : drop n.made.g k.list ≡ w ∷ drop (suc n.made.g) k.list = drop-cons k.list n.made.g 0 (omega (arith, h.0.taken)) in
             let line : Line (running (fixed k) 0x04 r (drop n.made.g k.list)) (need.Next (Some w)) (λ u. running (fixed k) 0x08 (record r { x10 = w; x11 = 1 }) (drop (suc n.made.g) k.list)) = rw split (line_04-word (fixed k) r w (drop (suc n.made.g) k.list) h.2) in
             record {
-              wanted = need.Next (Some w); there = P08; made = record n.made { g = suc n.made.g }; written = record r { x10 = w; x11 = 1 };
-              plain = tt; wants = line.wants; leaves = line.leaves v; order = order_g k n order (suc n.made.g);
+              wanted = need.Next (Some w);
+              there = P08;
+              made = record n.made { g = suc n.made.g };
+              written = record r { x10 = w; x11 = 1 };
+              plain = tt;
+              wants = line.wants;
+              leaves = line.leaves v;
+              order = order_g k n order (suc n.made.g);
               holds = record { heads = h.0.heads; unmarked = h.0.unmarked; index = h.1; answer = inl (refl, omega (arith, h.0.taken), more, ap (slice_index k.list) h.0.taken) };
               stores = append-nil (pending_of k n);
             }
@@ -66,8 +80,14 @@ module _ (k : Block) (is : IsBlock k) (n : Numbers) (r : Written) (v : ℕ) (ord
             let none : drop n.made.g k.list ≡ [] = drop_of_length-le k.list (omega (arith, h.0.taken)) in
             let line : Line (running (fixed k) 0x04 r (drop n.made.g k.list)) (need.Next None) (λ u. running (fixed k) 0x08 (record r { x11 = 0 }) (drop n.made.g k.list)) = rw none (line_04-none (fixed k) r h.2) in
             record {
-              wanted = need.Next None; there = P08; made = n.made; written = record r { x11 = 0 };
-              plain = tt; wants = line.wants; leaves = line.leaves v; order = order;
+              wanted = need.Next None;
+              there = P08;
+              made = n.made;
+              written = record r { x11 = 0 };
+              plain = tt;
+              wants = line.wants;
+              leaves = line.leaves v;
+              order = order;
               holds = record { heads = h.0.heads; unmarked = h.0.unmarked; index = h.1; answer = inr (refl, h.0.taken, omega arith) };
               stores = append-nil (pending_of k n);
             }
@@ -105,8 +125,14 @@ module _ (k : Block) (is : IsBlock k) (n : Numbers) (r : Written) (v : ℕ) (ord
   moves_18 h read =
       let line = line_18 (fixed k) r (drop n.made.g k.list) is.even (omega (arith, is.inside, is.some_slot)) is.small in
       record {
-        wanted = loads (k.base + 8); there = P1C; made = n.made; written = record r { x7 = v };
-        plain = tt; wants = line.wants; leaves = line.leaves v; order = order;
+        wanted = loads (k.base + 8);
+        there = P1C;
+        made = n.made;
+        written = record r { x7 = v };
+        plain = tt;
+        wants = line.wants;
+        leaves = line.leaves v;
+        order = order;
         holds = (holds_again h.0 r.x6 v r.x28, h.1, record { tail = n.kc; landed = omega arith; near = order.p_kc; old = omega (arith, order.kc_c, order.c_kh, order.kh_ls, order.ls_p); is = read });
         stores = append-nil (pending_of k n);
       }
@@ -135,8 +161,14 @@ module _ (k : Block) (is : IsBlock k) (n : Numbers) (r : Written) (v : ℕ) (ord
       let next : slice_get (sender_stores k.size k.base k.list) (sent n) ≡ Some (slot k.size k.base n.made.p, slice_index k.list n.made.p) = store_slot k.size k.base k.list n.made.p (sent n) h.0.within (omega (arith, h.0.heads, h.0.unmarked)) in
       let more : suc (sent n) ≡ n.made.p + 1 + n.made.q + n.made.m = omega arith in
       record {
-        wanted = stores (r.x28 + 16) r.x10; there = P28; made = record n.made { p = n.made.p + 1 }; written = r;
-        plain = tt; wants = line.wants; leaves = line.leaves v; order = order_p k n order h.0.heads h.0.unmarked h.0.within h.2;
+        wanted = stores (r.x28 + 16) r.x10;
+        there = P28;
+        made = record n.made { p = n.made.p + 1 };
+        written = r;
+        plain = tt;
+        wants = line.wants;
+        leaves = line.leaves v;
+        order = order_p k n order h.0.heads h.0.unmarked h.0.within h.2;
         holds = record { taken = h.0.taken; heads = omega (arith, h.0.heads); unmarked = h.0.unmarked; next = h.1 };
         stores = rw (place, h.0.word, ← more) (window_made (sender_stores k.size k.base k.list) (gone n) (sent n) (slot k.size k.base n.made.p, slice_index k.list n.made.p) behind next);
       }
@@ -152,8 +184,14 @@ module _ (k : Block) (is : IsBlock k) (n : Numbers) (r : Written) (v : ℕ) (ord
       let place : k.base + 0 ≡ k.base = add-zero k.base in
       let more : suc (sent n) ≡ n.made.p + (n.made.q + 1) + n.made.m = omega arith in
       record {
-        wanted = stores (k.base + 0) r.x6; there = P2C; made = record n.made { q = n.made.q + 1 }; written = r;
-        plain = tt; wants = line.wants; leaves = line.leaves v; order = order_q k n order h.heads;
+        wanted = stores (k.base + 0) r.x6;
+        there = P2C;
+        made = record n.made { q = n.made.q + 1 };
+        written = r;
+        plain = tt;
+        wants = line.wants;
+        leaves = line.leaves v;
+        order = order_q k n order h.heads;
         holds = (record { taken = h.taken; heads = h.heads; unmarked = h.unmarked }, h.next);
         stores = rw (place, word, ← more) (window_made (sender_stores k.size k.base k.list) (gone n) (sent n) (k.base, offset k (n.made.q + 1)) behind next);
       }
@@ -176,8 +214,14 @@ module _ (k : Block) (is : IsBlock k) (n : Numbers) (r : Written) (v : ℕ) (ord
       let next : slice_get (sender_stores k.size k.base k.list) (sent n) ≡ Some (k.base + 4, 1) = store_mark k.size k.base k.list (sent n) (omega (arith, h.0.heads, h.0.unmarked)) in
       let more : suc (sent n) ≡ n.made.p + n.made.q + 1 = omega (arith, h.0.unmarked) in
       record {
-        wanted = stores (k.base + 4) r.x6; there = P3C; made = record n.made { m = 1 }; written = r;
-        plain = tt; wants = line.wants; leaves = line.leaves v; order = order_m k n order (h.0.heads ∙ h.1);
+        wanted = stores (k.base + 4) r.x6;
+        there = P3C;
+        made = record n.made { m = 1 };
+        written = r;
+        plain = tt;
+        wants = line.wants;
+        leaves = line.leaves v;
+        order = order_m k n order (h.0.heads ∙ h.1);
         holds = record { taken = h.0.taken ∙ h.1; heads = h.0.heads ∙ h.1; mark = refl };
         stores = rw (h.2, ← more) (window_made (sender_stores k.size k.base k.list) (gone n) (sent n) (k.base + 4, 1) behind next);
       }
@@ -192,8 +236,16 @@ module _ (k : Block) (is : IsBlock k) (n : Numbers) (r : Written) (v : ℕ) (ord
   moves_40 h =
       let line = line_40 (fixed k) r (drop n.made.g k.list) h.1 in
       record {
-        wanted = need.Exit; there = Over; made = n.made; written = r;
-        plain = tt; wants = line.wants; leaves = line.leaves v; order = order; holds = h.0; stores = append-nil (pending_of k n);
+        wanted = need.Exit;
+        there = Over;
+        made = n.made;
+        written = r;
+        plain = tt;
+        wants = line.wants;
+        leaves = line.leaves v;
+        order = order;
+        holds = h.0;
+        stores = append-nil (pending_of k n);
       }
 
   -- wherever it runs, it moves; what it reads is the tail that landed last

@@ -1,5 +1,5 @@
 -- Lamport's ring, and what its histories mean.
-use Rattle.std.specs.Prelude.{ℕ, ◌≤◌}
+use Rattle.std.specs.Prelude.{◌≤◌}
 use Rattle.poll_close.specs.Laws.{Ring, Meaning}
 use Rattle.poll_close.specs.Invariant.BlockMeaning.{BlockMeaning}
 use Rattle.poll_close.specs.Invariant.Channels.{means_by}
@@ -15,12 +15,26 @@ lamport = record { sender = sender_code; receiver = receiver_code; least = 2 }
 -- the receiver takes a word out of its slot by its tail alone: it has no step of its own half done
 abbrev pub lamport_blocks : BlockMeaning
 lamport_blocks = record {
-    Count = Numbers;
-    tails = λ n. n.c; dones = λ n. n.d; took = λ n. n.took; shut = λ n. n.shut; marks = λ n. n.km;
-    Ordered = Ordered; Words = Words; unsent = pending_of; unread = unread_of; Stands = Standing;
-    Level = λ n. Unit {0}; Filled = More; Later = λ n new. n.kh ≤ new.kh;
-    middle = middle; At18 = Headed; At1C = At1C; At20 = At20; At24 = At24;
-  }
+  Count = Numbers;
+  tails = λ n. n.c;
+  dones = λ n. n.d;
+  took = λ n. n.took;
+  shut = λ n. n.shut;
+  marks = λ n. n.km;
+  Ordered = Ordered;
+  Words = Words;
+  unsent = pending_of;
+  unread = unread_of;
+  Stands = Standing;
+  Level = λ n. Unit {0};
+  Filled = More;
+  Later = λ n new. n.kh ≤ new.kh;
+  middle = middle;
+  At18 = Headed;
+  At1C = At1C;
+  At20 = At20;
+  At24 = At24;
+}
 
 abbrev pub lamport_means : Meaning
 lamport_means = means_by lamport_blocks

@@ -14,23 +14,23 @@ sender_code = 0x00100893 ∷ 0x00000073 ∷ 0x02058663 ∷ 0x00428313 ∷ 0x0093
 
 abbrev pub sender_lines : List Instr
 sender_lines =
-    Immediate immediate.Add (reg_of 17) (reg_of 0) (pos 1) ∷ -- 00 addi x17,x0,1
-    Ecall ∷ -- 04 ecall
-    Branch branch.Equal (reg_of 11) (reg_of 0) (pos 44) ∷ -- 08 beq x11,x0,done
-    Immediate immediate.Add (reg_of 6) (reg_of 5) (pos 4) ∷ -- 0C addi x6,x5,4
-    Branch branch.NotEqual (reg_of 6) (reg_of 9) (pos 8) ∷ -- 10 bne x6,x9,test
-    Immediate immediate.Add (reg_of 6) (reg_of 0) (pos 0) ∷ -- 14 addi x6,x0,0
-    Load load.Word (reg_of 7) (reg_of 8) (pos 8) ∷ -- 18 lw x7,8(x8)
-    Branch branch.Equal (reg_of 7) (reg_of 6) (negsuc 3) ∷ -- 1C beq x7,x6,test
-    Register register.Add (reg_of 28) (reg_of 8) (reg_of 5) ∷ -- 20 add x28,x8,x5
-    Store store.Word (reg_of 28) (reg_of 10) (pos 16) ∷ -- 24 sw x10,16(x28)
-    Store store.Word (reg_of 8) (reg_of 6) (pos 0) ∷ -- 28 sw x6,0(x8)
-    Immediate immediate.Add (reg_of 5) (reg_of 6) (pos 0) ∷ -- 2C addi x5,x6,0
-    Jal (reg_of 0) (negsuc 47) ∷ -- 30 jal x0,next
-    Immediate immediate.Add (reg_of 6) (reg_of 0) (pos 1) ∷ -- 34 addi x6,x0,1
-    Store store.Word (reg_of 8) (reg_of 6) (pos 4) ∷ -- 38 sw x6,4(x8)
-    Immediate immediate.Add (reg_of 17) (reg_of 0) (pos 93) ∷ -- 3C addi x17,x0,93
-    Ecall ∷ -- 40 ecall
+    Immediate immediate.Add (reg_of 17) (reg_of 0) (pos 1) ∷  -- 00 addi x17,x0,1
+    Ecall ∷  -- 04 ecall
+    Branch branch.Equal (reg_of 11) (reg_of 0) (pos 44) ∷  -- 08 beq x11,x0,done
+    Immediate immediate.Add (reg_of 6) (reg_of 5) (pos 4) ∷  -- 0C addi x6,x5,4
+    Branch branch.NotEqual (reg_of 6) (reg_of 9) (pos 8) ∷  -- 10 bne x6,x9,test
+    Immediate immediate.Add (reg_of 6) (reg_of 0) (pos 0) ∷  -- 14 addi x6,x0,0
+    Load load.Word (reg_of 7) (reg_of 8) (pos 8) ∷  -- 18 lw x7,8(x8)
+    Branch branch.Equal (reg_of 7) (reg_of 6) (negsuc 3) ∷  -- 1C beq x7,x6,test
+    Register register.Add (reg_of 28) (reg_of 8) (reg_of 5) ∷  -- 20 add x28,x8,x5
+    Store store.Word (reg_of 28) (reg_of 10) (pos 16) ∷  -- 24 sw x10,16(x28)
+    Store store.Word (reg_of 8) (reg_of 6) (pos 0) ∷  -- 28 sw x6,0(x8)
+    Immediate immediate.Add (reg_of 5) (reg_of 6) (pos 0) ∷  -- 2C addi x5,x6,0
+    Jal (reg_of 0) (negsuc 47) ∷  -- 30 jal x0,next
+    Immediate immediate.Add (reg_of 6) (reg_of 0) (pos 1) ∷  -- 34 addi x6,x0,1
+    Store store.Word (reg_of 8) (reg_of 6) (pos 4) ∷  -- 38 sw x6,4(x8)
+    Immediate immediate.Add (reg_of 17) (reg_of 0) (pos 93) ∷  -- 3C addi x17,x0,93
+    Ecall ∷  -- 40 ecall
     []
 
 abbrev pub receiver_code : List ℕ
@@ -38,36 +38,36 @@ receiver_code = 0x000A8413 ∷ 0x00000B13 ∷ 0x00C42283 ∷ 0x04029E63 ∷ 0x00
 
 abbrev pub receiver_lines : List Instr
 receiver_lines =
-    Immediate immediate.Add (reg_of 8) (reg_of 21) (pos 0) ∷ -- 00 addi x8,x21,0
-    Immediate immediate.Add (reg_of 22) (reg_of 0) (pos 0) ∷ -- 04 addi x22,x0,0
-    Load load.Word (reg_of 5) (reg_of 8) (pos 12) ∷ -- 08 lw x5,12(x8)
-    Branch branch.NotEqual (reg_of 5) (reg_of 0) (pos 92) ∷ -- 0C bne x5,x0,step
-    Load load.Word (reg_of 30) (reg_of 8) (pos 4) ∷ -- 10 lw x30,4(x8)
-    Load load.Word (reg_of 6) (reg_of 8) (pos 0) ∷ -- 14 lw x6,0(x8)
-    Load load.Word (reg_of 7) (reg_of 8) (pos 8) ∷ -- 18 lw x7,8(x8)
-    Branch branch.Equal (reg_of 6) (reg_of 7) (pos 44) ∷ -- 1C beq x6,x7,empty
-    Register register.Add (reg_of 28) (reg_of 8) (reg_of 7) ∷ -- 20 add x28,x8,x7
-    Load load.Word (reg_of 11) (reg_of 28) (pos 16) ∷ -- 24 lw x11,16(x28)
-    Immediate immediate.Add (reg_of 7) (reg_of 7) (pos 4) ∷ -- 28 addi x7,x7,4
-    Branch branch.NotEqual (reg_of 7) (reg_of 9) (pos 8) ∷ -- 2C bne x7,x9,keep
-    Immediate immediate.Add (reg_of 7) (reg_of 0) (pos 0) ∷ -- 30 addi x7,x0,0
-    Store store.Word (reg_of 8) (reg_of 7) (pos 8) ∷ -- 34 sw x7,8(x8)
-    Immediate immediate.Add (reg_of 10) (reg_of 22) (pos 0) ∷ -- 38 addi x10,x22,0
-    Immediate immediate.Add (reg_of 17) (reg_of 0) (pos 2) ∷ -- 3C addi x17,x0,2
-    Ecall ∷ -- 40 ecall
-    Jal (reg_of 0) (pos 36) ∷ -- 44 jal x0,step
-    Branch branch.Equal (reg_of 30) (reg_of 0) (pos 32) ∷ -- 48 beq x30,x0,step
-    Immediate immediate.Add (reg_of 5) (reg_of 0) (pos 1) ∷ -- 4C addi x5,x0,1
-    Store store.Word (reg_of 8) (reg_of 5) (pos 12) ∷ -- 50 sw x5,12(x8)
-    Immediate immediate.Add (reg_of 10) (reg_of 22) (pos 0) ∷ -- 54 addi x10,x22,0
-    Immediate immediate.Add (reg_of 17) (reg_of 0) (pos 3) ∷ -- 58 addi x17,x0,3
-    Ecall ∷ -- 5C ecall
-    Immediate immediate.Add (reg_of 20) (reg_of 20) (negsuc 0) ∷ -- 60 addi x20,x20,-1
-    Branch branch.Equal (reg_of 20) (reg_of 0) (pos 20) ∷ -- 64 beq x20,x0,quit
-    Register register.Add (reg_of 8) (reg_of 8) (reg_of 18) ∷ -- 68 add x8,x8,x18
-    Immediate immediate.Add (reg_of 22) (reg_of 22) (pos 1) ∷ -- 6C addi x22,x22,1
-    Branch branch.NotEqual (reg_of 8) (reg_of 19) (negsuc 103) ∷ -- 70 bne x8,x19,visit
-    Jal (reg_of 0) (negsuc 115) ∷ -- 74 jal x0,round
-    Immediate immediate.Add (reg_of 17) (reg_of 0) (pos 93) ∷ -- 78 addi x17,x0,93
-    Ecall ∷ -- 7C ecall
+    Immediate immediate.Add (reg_of 8) (reg_of 21) (pos 0) ∷  -- 00 addi x8,x21,0
+    Immediate immediate.Add (reg_of 22) (reg_of 0) (pos 0) ∷  -- 04 addi x22,x0,0
+    Load load.Word (reg_of 5) (reg_of 8) (pos 12) ∷  -- 08 lw x5,12(x8)
+    Branch branch.NotEqual (reg_of 5) (reg_of 0) (pos 92) ∷  -- 0C bne x5,x0,step
+    Load load.Word (reg_of 30) (reg_of 8) (pos 4) ∷  -- 10 lw x30,4(x8)
+    Load load.Word (reg_of 6) (reg_of 8) (pos 0) ∷  -- 14 lw x6,0(x8)
+    Load load.Word (reg_of 7) (reg_of 8) (pos 8) ∷  -- 18 lw x7,8(x8)
+    Branch branch.Equal (reg_of 6) (reg_of 7) (pos 44) ∷  -- 1C beq x6,x7,empty
+    Register register.Add (reg_of 28) (reg_of 8) (reg_of 7) ∷  -- 20 add x28,x8,x7
+    Load load.Word (reg_of 11) (reg_of 28) (pos 16) ∷  -- 24 lw x11,16(x28)
+    Immediate immediate.Add (reg_of 7) (reg_of 7) (pos 4) ∷  -- 28 addi x7,x7,4
+    Branch branch.NotEqual (reg_of 7) (reg_of 9) (pos 8) ∷  -- 2C bne x7,x9,keep
+    Immediate immediate.Add (reg_of 7) (reg_of 0) (pos 0) ∷  -- 30 addi x7,x0,0
+    Store store.Word (reg_of 8) (reg_of 7) (pos 8) ∷  -- 34 sw x7,8(x8)
+    Immediate immediate.Add (reg_of 10) (reg_of 22) (pos 0) ∷  -- 38 addi x10,x22,0
+    Immediate immediate.Add (reg_of 17) (reg_of 0) (pos 2) ∷  -- 3C addi x17,x0,2
+    Ecall ∷  -- 40 ecall
+    Jal (reg_of 0) (pos 36) ∷  -- 44 jal x0,step
+    Branch branch.Equal (reg_of 30) (reg_of 0) (pos 32) ∷  -- 48 beq x30,x0,step
+    Immediate immediate.Add (reg_of 5) (reg_of 0) (pos 1) ∷  -- 4C addi x5,x0,1
+    Store store.Word (reg_of 8) (reg_of 5) (pos 12) ∷  -- 50 sw x5,12(x8)
+    Immediate immediate.Add (reg_of 10) (reg_of 22) (pos 0) ∷  -- 54 addi x10,x22,0
+    Immediate immediate.Add (reg_of 17) (reg_of 0) (pos 3) ∷  -- 58 addi x17,x0,3
+    Ecall ∷  -- 5C ecall
+    Immediate immediate.Add (reg_of 20) (reg_of 20) (negsuc 0) ∷  -- 60 addi x20,x20,-1
+    Branch branch.Equal (reg_of 20) (reg_of 0) (pos 20) ∷  -- 64 beq x20,x0,quit
+    Register register.Add (reg_of 8) (reg_of 8) (reg_of 18) ∷  -- 68 add x8,x8,x18
+    Immediate immediate.Add (reg_of 22) (reg_of 22) (pos 1) ∷  -- 6C addi x22,x22,1
+    Branch branch.NotEqual (reg_of 8) (reg_of 19) (negsuc 103) ∷  -- 70 bne x8,x19,visit
+    Jal (reg_of 0) (negsuc 115) ∷  -- 74 jal x0,round
+    Immediate immediate.Add (reg_of 17) (reg_of 0) (pos 93) ∷  -- 78 addi x17,x0,93
+    Ecall ∷  -- 7C ecall
     []

@@ -134,9 +134,10 @@ pub record Plain (n : Need) : Type 0 where
 pub going : (B M : ℕ) (t : History) (h : ℕ) (s : HartState) (e : Entry) → state_of M t h ≡ Some s → CanFollow B M t e → hart_of e ≡ h → is_land e ≡ false → (s.status ≡ status.Running → Plain (need_of s)) → GoesOn e × WritesWord (access_of e)
 going B M t h s e is can mine act plain =
     let both : CanMake s e × Allowed B t.opening t.entries e = act_only B M t h s e mine act is can in
-    let p : Plain (need_of s) = plain both.0.running in
-    (subst GoesOn (sym both.0.made) (goes_on (hart_of e) (need_of s) (value_of e) p.no_amo),
-     subst (λ (d : Entry). WritesWord (access_of d)) (sym both.0.made) (writes_word (hart_of e) (need_of s) (value_of e) p.no_amo p.whole))
+    let p : Plain (need_of s) = plain both.0.running in (
+      subst GoesOn (sym both.0.made) (goes_on (hart_of e) (need_of s) (value_of e) p.no_amo),
+      subst (λ (d : Entry). WritesWord (access_of d)) (sym both.0.made) (writes_word (hart_of e) (need_of s) (value_of e) p.no_amo p.whole),
+    )
 
 -- an entry that writes nothing leaves every word; one that writes changes the word at its address
 newest_word-append : (a : ℕ) (found : Option ℕ) (ws vs : List Write) → newest_word a found (ws ++ vs) ≡ newest_word a (newest_word a found ws) vs
@@ -192,6 +193,7 @@ acted B M t h s e legal is can mine act no_amo =
   where
     not_mine : (k : ℕ) → k ≢ hart_of e → is_own k e ≡ false
     not_mine k other = let off : (hart_of e == k) ≡ false = grind (arith, nat_tests) in rw off refl
+
     them : IsNoAmo (need_of s) → e ≡ entry_of h (need_of s) (value_of e) → (k : ℕ) → k ≢ h → Seen h k false t.entries (need_of s) e
     them plain made k other = let off : (h == k) ≡ false = grind (arith, nat_tests) in subst (λ (d : Entry). Seen h k false t.entries (need_of s) d) (sym made) (seen h k false t.entries (need_of s) (value_of e) off plain)
 
@@ -210,12 +212,15 @@ some_first (w ∷ ws) some = (w, ws, refl)
 
 pub landed : (B M : ℕ) (t : History) (h : ℕ) → Legal B t → CanFollow B M t (entry.Land h) → (w : Write) × (rest : List Write) × Landed M t (with_entry t (entry.Land h)) h w rest
 landed B M t h legal can =
-    let some = some_first (pending h t.entries) (Legal-last B t (entry.Land h) can.legal) in
-    (some.0, some.1, record {
-      first = some.2;
-      states = λ k. states_land M t h k;
-      buffer = pending-land B t h legal ∙ ap (drop 1) some.2;
-      buffers = λ k other. pending-other B t k (entry.Land h) legal refl (land_of-other h k other);
-      memory = λ a. word-write t.opening t.entries (entry.Land h) some.0 a (ap (take 1) some.2);
-      reports = λ k. reported-last k t.entries (entry.Land h) ∙ append-nil (reported k t.entries);
-    })
+    let some = some_first (pending h t.entries) (Legal-last B t (entry.Land h) can.legal) in (
+      some.0,
+      some.1,
+      record {
+        first = some.2;
+        states = λ k. states_land M t h k;
+        buffer = pending-land B t h legal ∙ ap (drop 1) some.2;
+        buffers = λ k other. pending-other B t k (entry.Land h) legal refl (land_of-other h k other);
+        memory = λ a. word-write t.opening t.entries (entry.Land h) some.0 a (ap (take 1) some.2);
+        reports = λ k. reported-last k t.entries (entry.Land h) ∙ append-nil (reported k t.entries);
+      },
+    )

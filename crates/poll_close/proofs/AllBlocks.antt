@@ -1,5 +1,5 @@
 -- What a sender's act, and the landing of any store, make of all blocks.
-use Rattle.std.proofs.Common.{ℕ, ◌+◌, ◌%◌, ◌<◌, ◌≡◌, ◌≢◌, ◌==◌, ◌⊎◌, inl, inr, Bool, true, false, List, [], ◌∷◌, ◌++◌, length, Option, Some, None, if◌then◌else◌, refl, sym, ◌∙◌, ap, subst, arith}
+use Rattle.std.proofs.Common.{ℕ, ◌+◌, ◌%◌, ◌<◌, ◌≡◌, ◌≢◌, ◌==◌, ◌⊎◌, inl, inr, Bool, true, false, List, ◌∷◌, ◌++◌, length, None, if◌then◌else◌, refl, sym, ◌∙◌, ap, subst, arith}
 use Rattle.std.specs.Prelude.{unwrap_or}
 use Rattle.std.specs.List.{slice_get}
 use Rattle.std.proofs.lemmas.Bool.{cases_eq}
@@ -27,7 +27,6 @@ use Rattle.poll_close.specs.Invariant.Blocks.{Block, block_of, is_within, as_wri
 use Rattle.poll_close.specs.Invariant.BlockMeaning.{BlockMeaning}
 use Rattle.poll_close.specs.Invariant.Channels.{BlockPart}
 use Rattle.poll_close.proofs.Acts.{Acted, Landed, acted, landed, Plain, going, stored_by}
-use Rattle.poll_close.proofs.Lines.{loads}
 use Rattle.poll_close.proofs.Windows.{get_end}
 use Rattle.poll_close.proofs.Writes.{IsWrite}
 use Rattle.poll_close.proofs.Blocks.{IsBlock, Within, IsStore-whole, apart, outside_differs, newest-as_writes, first-as_writes, choose}
@@ -59,20 +58,26 @@ pub record Untouched (M : ℕ) (k : Block) (i : ℕ) (t new : History) : Type 0 
 module _ (m : BlockMeaning) (code : List ℕ) (laws : BlockLaws m code) (M : ℕ) (k : Block) (i : ℕ) (t new : History) (n : m.Count) (is : IsBlock k) (part : BlockPart m k M i t n) where
   pub untouched : Untouched M k i t new → BlockPart m k M i new n
   untouched u = record {
-      order = part.order;
-      sender = record { stands = part.sender.stands; state = u.state ∙ part.sender.state; holds = part.sender.holds; buffer = u.buffer ∙ part.sender.buffer };
-      theirs = u.theirs ∙ part.theirs;
-      words = laws.words_same k n (word_in_memory t.opening t.entries) (word_in_memory new.opening new.entries) is u.memory part.words;
-    }
+    order = part.order;
+    sender = record { stands = part.sender.stands; state = u.state ∙ part.sender.state; holds = part.sender.holds; buffer = u.buffer ∙ part.sender.buffer };
+    theirs = u.theirs ∙ part.theirs;
+    words = laws.words_same k n (word_in_memory t.opening t.entries) (word_in_memory new.opening new.entries) is u.memory part.words;
+  }
 
   -- a store landed
   pub lands_part : (mine theirs : List (ℕ × ℕ)) → Lands m k n (word_in_memory new.opening new.entries) mine theirs → pending (i + 1) new.entries ≡ as_writes mine → to_block k (pending 0 new.entries) ≡ as_writes theirs → state_of M new (i + 1) ≡ state_of M t (i + 1) → (after : m.Count) × (BlockPart m k M i new after × Grows m n after)
-  lands_part mine theirs l my their state = (l.after, (record {
-      order = l.order;
-      sender = record { stands = part.sender.stands; state = state ∙ part.sender.state; holds = l.sender part.sender.stands part.sender.holds; buffer = my ∙ ap as_writes l.unsent };
-      theirs = their ∙ ap as_writes l.unread;
-      words = l.words;
-    }, l.grows))
+  lands_part mine theirs l my their state = (
+    l.after,
+    (
+      record {
+        order = l.order;
+        sender = record { stands = part.sender.stands; state = state ∙ part.sender.state; holds = l.sender part.sender.stands part.sender.holds; buffer = my ∙ ap as_writes l.unsent };
+        theirs = their ∙ ap as_writes l.unread;
+        words = l.words;
+      },
+      l.grows,
+    ),
+  )
 
   -- the sender needs no AMO and no stop, and stores whole words
   pub sender_plain : part.sender.stands.status ≡ status.Running → Plain (need_of part.sender.stands)
@@ -88,13 +93,18 @@ module _ (m : BlockMeaning) (code : List ℕ) (laws : BlockLaws m code) (M : ℕ
   pub acts_part : (v : ℕ) → OpensWithWords t.opening → AllWriteWords t.entries → Acted M t new (i + 1) part.sender.stands v → (after : m.Count) × (BlockPart m k M i new after × Grows m n after)
   acts_part v opens written a =
       let s : HartState = part.sender.stands in
-      let sent : Sends m k n s v = laws.sends k n s (word_in_memory t.opening t.entries) v is part.order part.words part.sender.holds a.running (λ b word wants. a.loaded b wants ∙ found b word.aligned) in
-      (sent.after, (record {
-        order = sent.order;
-        sender = record { stands = advanced s v; state = a.state; holds = sent.stands; buffer = a.buffer ∙ ap (λ ws. ws ++ as_writes (stored_by (need_of s))) part.sender.buffer ∙ sym (map-append as_write (m.unsent k n) (stored_by (need_of s))) ∙ ap as_writes sent.unsent };
-        theirs = ap (to_block k) (a.buffers 0 (omega arith)) ∙ part.theirs ∙ ap as_writes (sym sent.unread);
-        words = laws.words_same k sent.after (word_in_memory t.opening t.entries) (word_in_memory new.opening new.entries) is (λ b within. a.memory b) (sent.words (word_in_memory t.opening t.entries) part.words);
-      }, sent.grows))
+      let sent : Sends m k n s v = laws.sends k n s (word_in_memory t.opening t.entries) v is part.order part.words part.sender.holds a.running (λ b word wants. a.loaded b wants ∙ found b word.aligned) in (
+        sent.after,
+        (
+          record {
+            order = sent.order;
+            sender = record { stands = advanced s v; state = a.state; holds = sent.stands; buffer = a.buffer ∙ ap (λ ws. ws ++ as_writes (stored_by (need_of s))) part.sender.buffer ∙ sym (map-append as_write (m.unsent k n) (stored_by (need_of s))) ∙ ap as_writes sent.unsent };
+            theirs = ap (to_block k) (a.buffers 0 (omega arith)) ∙ part.theirs ∙ ap as_writes (sym sent.unread);
+            words = laws.words_same k sent.after (word_in_memory t.opening t.entries) (word_in_memory new.opening new.entries) is (λ b within. a.memory b) (sent.words (word_in_memory t.opening t.entries) part.words);
+          },
+          sent.grows,
+        ),
+      )
     where
       found : (b : ℕ) → b % 4 ≡ 0 → read t.opening t.entries (i + 1) b 4 ≡ found_in (m.unsent k n) (word_in_memory t.opening t.entries) b
       found b aligned =
@@ -151,20 +161,21 @@ module _ (m : BlockMeaning) (code : List ℕ) (laws : BlockLaws m code) (B M S :
             | inl same ↦ absurd (apart M S lists i j a other here (subst (Within (block_of M S lists j)) same inside))
             | inr differ ↦ grind (arith, nat_tests)
           ]
+
       at : (w : Write) (rest : List Write) → Landed M t (with_entry t (entry.Land (j + 1))) (j + 1) w rest → (x : ℕ × ℕ) × (more : List (ℕ × ℕ)) × (m.unsent (block_of M S lists j) (f j) ≡ x ∷ more) × (w ≡ as_write x) × (rest ≡ as_writes more) → BlocksAfter m M S lists (with_entry t (entry.Land (j + 1))) f
       at w rest l oldest =
           let x : ℕ × ℕ = oldest.0 in
           let inside : Within (block_of M S lists j) x.0 = (laws.unsent_are (block_of M S lists j) (f j) (are j within) (parts j within).order 0 x (ap (λ ps. slice_get ps 0) oldest.2)).place.within in
           one_changed (with_entry t (entry.Land (j + 1))) j
-            (lands_part m code laws M (block_of M S lists j) j t (with_entry t (entry.Land (j + 1))) (f j) (are j within) (parts j within) oldest.1 (m.unread (block_of M S lists j) (f j))
-              (laws.sender_lands (block_of M S lists j) (f j) (word_in_memory t.opening t.entries) (word_in_memory (with_entry t (entry.Land (j + 1))).opening (with_entry t (entry.Land (j + 1))).entries) x oldest.1 (are j within) (parts j within).order (parts j within).words oldest.2 (writes (word_in_memory t.opening t.entries) (word_in_memory (with_entry t (entry.Land (j + 1))).opening (with_entry t (entry.Land (j + 1))).entries) w x oldest.3 l.memory))
-              (l.buffer ∙ oldest.4) (ap (to_block (block_of M S lists j)) (l.buffers 0 (omega arith)) ∙ (parts j within).theirs) (l.states (j + 1)))
-            (λ i less other. record {
-              state = l.states (i + 1);
-              buffer = l.buffers (i + 1) (λ same. other (omega arith));
-              theirs = ap (to_block (block_of M S lists i)) (l.buffers 0 (omega arith));
-              memory = λ a here. writes (word_in_memory t.opening t.entries) (word_in_memory (with_entry t (entry.Land (j + 1))).opening (with_entry t (entry.Land (j + 1))).entries) w x oldest.3 l.memory a ∙ (let off : (x.0 == a) ≡ false = missed x i a other here inside in rw off refl);
-            })
+          (lands_part m code laws M (block_of M S lists j) j t (with_entry t (entry.Land (j + 1))) (f j) (are j within) (parts j within) oldest.1 (m.unread (block_of M S lists j) (f j))
+          (laws.sender_lands (block_of M S lists j) (f j) (word_in_memory t.opening t.entries) (word_in_memory (with_entry t (entry.Land (j + 1))).opening (with_entry t (entry.Land (j + 1))).entries) x oldest.1 (are j within) (parts j within).order (parts j within).words oldest.2 (writes (word_in_memory t.opening t.entries) (word_in_memory (with_entry t (entry.Land (j + 1))).opening (with_entry t (entry.Land (j + 1))).entries) w x oldest.3 l.memory))
+          (l.buffer ∙ oldest.4) (ap (to_block (block_of M S lists j)) (l.buffers 0 (omega arith)) ∙ (parts j within).theirs) (l.states (j + 1)))
+          (λ i less other. record {
+            state = l.states (i + 1);
+            buffer = l.buffers (i + 1) (λ same. other (omega arith));
+            theirs = ap (to_block (block_of M S lists i)) (l.buffers 0 (omega arith));
+            memory = λ a here. writes (word_in_memory t.opening t.entries) (word_in_memory (with_entry t (entry.Land (j + 1))).opening (with_entry t (entry.Land (j + 1))).entries) w x oldest.3 l.memory a ∙ (let off : (x.0 == a) ≡ false = missed x i a other here inside in rw off refl);
+          })
 
   -- one of the receiver's stores lands, in whichever block it is
   pub receiver_store_lands : CanFollow B M t (entry.Land 0) → BlocksAfter m M S lists (with_entry t (entry.Land 0)) f
@@ -175,16 +186,22 @@ module _ (m : BlockMeaning) (code : List ℕ) (laws : BlockLaws m code) (B M S :
       visited : (i : ℕ) (less : i < length lists) (w : Write) (rest : List Write) → Landed M t (with_entry t (entry.Land 0)) 0 w rest → (x : ℕ × ℕ) × (more : List (ℕ × ℕ)) × (m.unread (block_of M S lists i) (f i) ≡ x ∷ more) × (w ≡ as_write x) × (to_block (block_of M S lists i) rest ≡ as_writes more) → (n : m.Count) × Now (with_entry t (entry.Land 0)) i n
       visited i less w rest l oldest =
           lands_part m code laws M (block_of M S lists i) i t (with_entry t (entry.Land 0)) (f i) (are i less) (parts i less) (m.unsent (block_of M S lists i) (f i)) oldest.1
-            (laws.receiver_lands (block_of M S lists i) (f i) (word_in_memory t.opening t.entries) (word_in_memory (with_entry t (entry.Land 0)).opening (with_entry t (entry.Land 0)).entries) oldest.0 oldest.1 (are i less) (parts i less).order (parts i less).words oldest.2 (writes (word_in_memory t.opening t.entries) (word_in_memory (with_entry t (entry.Land 0)).opening (with_entry t (entry.Land 0)).entries) w oldest.0 oldest.3 l.memory))
-            (l.buffers (i + 1) (omega arith) ∙ (parts i less).sender.buffer) (ap (to_block (block_of M S lists i)) l.buffer ∙ oldest.4) (l.states (i + 1))
+          (laws.receiver_lands (block_of M S lists i) (f i) (word_in_memory t.opening t.entries) (word_in_memory (with_entry t (entry.Land 0)).opening (with_entry t (entry.Land 0)).entries) oldest.0 oldest.1 (are i less) (parts i less).order (parts i less).words oldest.2 (writes (word_in_memory t.opening t.entries) (word_in_memory (with_entry t (entry.Land 0)).opening (with_entry t (entry.Land 0)).entries) w oldest.0 oldest.3 l.memory))
+          (l.buffers (i + 1) (omega arith) ∙ (parts i less).sender.buffer) (ap (to_block (block_of M S lists i)) l.buffer ∙ oldest.4) (l.states (i + 1))
+
       at : (i : ℕ) → i < length lists → (w : Write) (rest : List Write) → Landed M t (with_entry t (entry.Land 0)) 0 w rest → (b : Bool) → is_within (block_of M S lists i) w.addr ≡ b → (n : m.Count) × Now (with_entry t (entry.Land 0)) i n
       at i less w rest l true on =
           let first : to_block (block_of M S lists i) (pending 0 t.entries) ≡ w ∷ to_block (block_of M S lists i) rest = ap (to_block (block_of M S lists i)) l.first ∙ rw on refl in
           visited i less w rest l (first-as_writes (m.unread (block_of M S lists i) (f i)) w (to_block (block_of M S lists i) rest) (sym (parts i less).theirs ∙ first))
-      at i less w rest l false off =
-          (f i, (untouched m code laws M (block_of M S lists i) i t (with_entry t (entry.Land 0)) (f i) (are i less) (parts i less) (record {
+      at i less w rest l false off = (
+        f i,
+        (
+          untouched m code laws M (block_of M S lists i) i t (with_entry t (entry.Land 0)) (f i) (are i less) (parts i less) (record {
             state = l.states (i + 1);
             buffer = l.buffers (i + 1) (omega arith);
             theirs = ap (to_block (block_of M S lists i)) l.buffer ∙ sym (ap (to_block (block_of M S lists i)) l.first ∙ rw off refl);
             memory = λ a here. l.memory a ∙ (let miss : (w.addr == a) ≡ false = outside_differs (block_of M S lists i) a w.addr here off in rw miss refl);
-          }), grows_same m code laws (f i)))
+          }),
+          grows_same m code laws (f i),
+        ),
+      )

@@ -1,5 +1,5 @@
 -- Blocks don't meet: an address in one is in no other, so what concerns one leaves the others.
-use Rattle.std.proofs.Common.{ℕ, ◌+◌, ◌*◌, ◌%◌, ◌^◌, ◌<◌, ◌≤◌, ◌≡◌, ◌≢◌, ◌==◌, ◌⊎◌, inl, inr, Bool, true, false, if◌then◌else◌, List, [], ◌∷◌, ◌++◌, length, Option, Some, refl, sym, ◌∙◌, ap, subst, arith, append-nil, eq-eqb}
+use Rattle.std.proofs.Common.{ℕ, ◌+◌, ◌*◌, ◌%◌, ◌^◌, ◌<◌, ◌≤◌, ◌≡◌, ◌≢◌, ◌==◌, ◌⊎◌, inl, inr, Bool, true, false, if◌then◌else◌, List, [], ◌∷◌, ◌++◌, length, Option, Some, refl, sym, ◌∙◌, ap, arith, append-nil, eq-eqb}
 use Rattle.std.specs.Prelude.{slice_index}
 use Rattle.std.proofs.lemmas.List.Elements.{filter-append}
 use Rattle.std.proofs.lemmas.Bool.{cases_lt, cases_eq}
@@ -124,8 +124,10 @@ choose N P none count each = (f, holds)
     pick : (i : ℕ) → (i < count) ⊎ (count ≤ i) → N
     pick i (inl less) = (each i less).0
     pick i (inr more) = none
+
     f : ℕ → N
     f i = pick i (cases_lt i count)
+
     holds : (i : ℕ) → i < count → P i (f i)
     holds i within = at (cases_lt i count)
       where

@@ -1,14 +1,13 @@
 -- From the laws of one block to the laws of a ring: the opening has the meaning, every entry keeps it,
 -- it gives clean reports, and no hart is stopped.
-use Rattle.std.proofs.Common.{ℕ, zero, suc, ◌+◌, ◌*◌, ◌%◌, ◌^◌, ◌<◌, ◌≤◌, ◌≡◌, ◌≢◌, ◌==◌, ◌⊎◌, inl, inr, false, List, [], ◌∷◌, ◌++◌, length, take, All, Some, refl, sym, ◌∙◌, ap, subst, arith, append-nil, add-one}
-use Rattle.std.specs.Prelude.{option_map, slice_index}
+use Rattle.std.proofs.Common.{ℕ, zero, suc, ◌+◌, ◌*◌, ◌%◌, ◌<◌, ◌≤◌, ◌≡◌, ◌==◌, ◌⊎◌, inl, inr, false, List, [], ◌∷◌, ◌++◌, length, take, Some, refl, sym, ◌∙◌, ap, subst, arith, append-nil, add-one}
+use Rattle.std.specs.Prelude.{option_map}
 use Rattle.std.specs.List.{slice_get, slice_index_or}
 use Rattle.std.proofs.lemmas.Bool.{cases_lt}
 use Rattle.std.proofs.lemmas.Bool.Decides.{nat_tests}
 use Rattle.std.proofs.lemmas.Nat.{row_fits}
 use Rattle.std.proofs.lemmas.Option.{slice_get_past}
 use Rattle.std.proofs.Math.Nat.{mul-mod_left}
-use Rattle.hart.specs.State.{HartState}
 use Rattle.step_machine.specs.declared.events.Entry.{Entry}
 use Rattle.step_machine.specs.declared.events.Entry.TheVariants as entry
 use Rattle.step_machine.specs.History.{HartStart, Start, History, unrun, with_entry}
@@ -17,7 +16,6 @@ use Rattle.step_machine.specs.Access.{access_of}
 use Rattle.step_machine.specs.WordReads.{WritesWord, AllWriteWords, OpensWithWords}
 use Rattle.step_machine.proofs.WordReads.{AllWriteWords-append}
 use Rattle.step_machine.specs.Paths.{state_of, opens_as}
-use Rattle.step_machine.specs.Legal.{Kept}
 use Rattle.step_machine.specs.Runs.{CanFollow}
 use Rattle.step_machine.proofs.Appended.{reported-last}
 use Rattle.step_machine.proofs.Follows.{Path-hart, state_of-other}
@@ -26,11 +24,11 @@ use Rattle.poll_close.specs.Layout.{block_size, sender_registers, senders_from, 
 use Rattle.poll_close.specs.Laws.{Ring, AreWords, Accepted, Opens, Keeps, Cleans, Goes}
 use Rattle.poll_close.specs.Reports.{Clean}
 use Rattle.poll_close.specs.Going.{GoesOn, AllGoOn}
-use Rattle.poll_close.specs.Invariant.Blocks.{Block, block_of, as_writes}
+use Rattle.poll_close.specs.Invariant.Blocks.{block_of, as_writes}
 use Rattle.poll_close.specs.Invariant.ReceiverState.{receiver_of}
 use Rattle.poll_close.specs.Invariant.ReceiverPlaces.{R00}
 use Rattle.poll_close.specs.Invariant.BlockMeaning.{BlockMeaning, Quiet}
-use Rattle.poll_close.specs.Invariant.Channels.{BlockPart, ReceiverPart, Told, shuts, Channel, means_by}
+use Rattle.poll_close.specs.Invariant.Channels.{BlockPart, Told, shuts, Channel, means_by}
 use Rattle.poll_close.proofs.Blocks.{IsBlock}
 use Rattle.poll_close.proofs.BlockLaws.{BlockLaws, Begins, opens_with}
 use Rattle.poll_close.proofs.AllBlocks.{BlocksAfter, sender_goes_on, sender_acts, sender_store_lands, receiver_store_lands}
@@ -135,30 +133,37 @@ module _ (m : BlockMeaning) (code : List ℕ) (laws : BlockLaws m code) (least :
 
     part : (i : ℕ) → i < length lists → BlockPart m (block_of M S lists i) M i (unrun (opening_of code (receiver_of m.middle) lists S)) (none i)
     part = each (λ i n. BlockPart m (block_of M S lists i) M i (unrun (opening_of code (receiver_of m.middle) lists S)) n) (λ i within. (let b = begun i within in record {
-        order = b.order;
-        sender = record { stands = opens_with code (block_of M S lists i); state = start_state code (receiver_of m.middle) M S lists i within; holds = b.stands; buffer = ap as_writes (sym b.unsent) };
-        theirs = ap as_writes (sym b.unread);
-        words = b.words;
-      }))
+      order = b.order;
+      sender = record { stands = opens_with code (block_of M S lists i); state = start_state code (receiver_of m.middle) M S lists i within; holds = b.stands; buffer = ap as_writes (sym b.unsent) };
+      theirs = ap as_writes (sym b.unread);
+      words = b.words;
+    }))
 
     opened : Channel m M S lists (unrun (opening_of code (receiver_of m.middle) lists S))
     opened = record {
-        numbers = none;
-        parts = part;
-        receiver = record {
-          place = R00; noted = record { x5 = 0; x6 = 0; x7 = 0; x8 = 0; x10 = 0; x11 = 0; x17 = 0; x20 = length lists; x22 = 0; x28 = 0; x30 = 0 };
-          block = 0; known = omega (arith, accepted.some_sender); state = refl;
-          holds = quiet 0 (omega (arith, accepted.some_sender)); others = λ j within other. quiet j within;
-          count = none_shut (length lists) (omega arith);
-        };
-        reports = record {
-          told = each (λ j n. Told [] j (slice_index_or lists j []) (m.took n) (m.shut n)) (λ j within. (let b = begun j within in record {
-            words = ap (λ c. take c (slice_index_or lists j [])) (sym b.took); closed = λ k is. cc; said = λ is. absurd (omega (arith, b.shut, is)) }));
-          clean = clean-none lists;
-        };
-        unstopped = λ j e is. cc;
-        written = tt;
-      }
+      numbers = none;
+      parts = part;
+      receiver = record {
+        place = R00;
+        noted = record { x5 = 0; x6 = 0; x7 = 0; x8 = 0; x10 = 0; x11 = 0; x17 = 0; x20 = length lists; x22 = 0; x28 = 0; x30 = 0 };
+        block = 0;
+        known = omega (arith, accepted.some_sender);
+        state = refl;
+        holds = quiet 0 (omega (arith, accepted.some_sender));
+        others = λ j within other. quiet j within;
+        count = none_shut (length lists) (omega arith);
+      };
+      reports = record {
+        told = each (λ j n. Told [] j (slice_index_or lists j []) (m.took n) (m.shut n)) (λ j within. (let b = begun j within in record {
+          words = ap (λ c. take c (slice_index_or lists j [])) (sym b.took);
+          closed = λ k is. cc;
+          said = λ is. absurd (omega (arith, b.shut, is));
+        }));
+        clean = clean-none lists;
+      };
+      unstopped = λ j e is. cc;
+      written = tt;
+    }
 
   pub opens : Opens ring_by (means_by m)
   opens B M lists S accepted = opened M S lists accepted
@@ -172,16 +177,20 @@ module _ (m : BlockMeaning) (code : List ℕ) (laws : BlockLaws m code) (least :
     where
       are : (i : ℕ) → i < length lists → IsBlock (block_of M S lists i)
       are = blocks ring_by M S lists some accepted
+
       opens_zero : (u : History) → u.opening ≡ opening_of code (receiver_of m.middle) lists S → OpensWithWords u.opening
       opens_zero u same = subst OpensWithWords (sym same) (λ i. omega arith)
+
       go_on : (new : History) → state_of M new 0 ≡ state_of M t 0 → reported 0 new.entries ≡ reported 0 t.entries → BlocksAfter m M S lists new ch.numbers → AllGoOn new.entries → AllWriteWords new.entries → Channel m M S lists new
       go_on new state said b all words = record {
-        unstopped = all; written = words;
+        unstopped = all;
+        written = words;
         numbers = b.0;
         parts = λ i within. (b.1 i within).0;
         receiver = part_stays m code laws M S lists t new ch.numbers b.0 b.1 state ch.receiver;
         reports = reports_stay m code laws M S lists t new ch.numbers b.0 b.1 (reported 0 t.entries) (reported 0 new.entries) said ch.reports;
       }
+
       acts : (h : ℕ) → hart_of e ≡ h → is_land e ≡ false → Channel m M S lists (with_entry t e)
       acts zero mine act =
           let plain : GoesOn e × WritesWord (access_of e) = receiver_goes_on m code laws B M S lists (blocks ring_by M S lists some accepted) accepted.senders t ch.numbers kept.legal (opens_zero t is) ch.written ch.parts ch.receiver ch.reports e can mine act in
@@ -192,20 +201,21 @@ module _ (m : BlockMeaning) (code : List ℕ) (laws : BlockLaws m code) (least :
           let other : (hart_of e == 0) ≡ false = grind (arith, nat_tests) in
           let plain : GoesOn e × WritesWord (access_of e) = sender_goes_on m code laws B M S lists (blocks ring_by M S lists some accepted) t ch.numbers kept.legal (opens_zero t is) ch.written ch.parts j within e can (mine ∙ sym (add-one j)) act in
           go_on (with_entry t e) (state_of-other M t 0 e (rw other refl)) (reported-last 0 t.entries e ∙ ap (λ rs. reported 0 t.entries ++ rs) (report_of-other 0 e other) ∙ append-nil (reported 0 t.entries))
-            (sender_acts m code laws B M S lists (blocks ring_by M S lists some accepted) t ch.numbers kept.legal (opens_zero t is) ch.written ch.parts j within e can (mine ∙ sym (add-one j)) act)
-            (all_go_on t.entries e ch.unstopped plain.0) (one_more t.entries e ch.written plain.1)
+          (sender_acts m code laws B M S lists (blocks ring_by M S lists some accepted) t ch.numbers kept.legal (opens_zero t is) ch.written ch.parts j within e can (mine ∙ sym (add-one j)) act)
+          (all_go_on t.entries e ch.unstopped plain.0) (one_more t.entries e ch.written plain.1)
+
       lands : (h : ℕ) → e ≡ entry.Land h → (g : ℕ) → h ≡ g → Channel m M S lists (with_entry t e)
       lands h land zero same =
           let is_0 : e ≡ entry.Land 0 = land ∙ ap entry.Land same in
           subst (λ (d : Entry). Channel m M S lists (with_entry t d)) (sym is_0)
-            (go_on (with_entry t (entry.Land 0)) (states_land M t 0 0) (reported-last 0 t.entries (entry.Land 0) ∙ append-nil (reported 0 t.entries))
-              (receiver_store_lands m code laws B M S lists (blocks ring_by M S lists some accepted) t ch.numbers kept.legal (opens_zero t is) ch.written ch.parts (subst (CanFollow B M t) is_0 can)) (all_go_on t.entries (entry.Land 0) ch.unstopped tt) (one_more t.entries (entry.Land 0) ch.written tt))
+          (go_on (with_entry t (entry.Land 0)) (states_land M t 0 0) (reported-last 0 t.entries (entry.Land 0) ∙ append-nil (reported 0 t.entries))
+          (receiver_store_lands m code laws B M S lists (blocks ring_by M S lists some accepted) t ch.numbers kept.legal (opens_zero t is) ch.written ch.parts (subst (CanFollow B M t) is_0 can)) (all_go_on t.entries (entry.Land 0) ch.unstopped tt) (one_more t.entries (entry.Land 0) ch.written tt))
       lands h land (suc j) same =
           let is_j : e ≡ entry.Land (j + 1) = land ∙ ap entry.Land (same ∙ sym (add-one j)) in
           let within : j < length lists = omega (arith, is_hart code (receiver_of m.middle) B M S lists t e is can, ap hart_of is_j) in
           subst (λ (d : Entry). Channel m M S lists (with_entry t d)) (sym is_j)
-            (go_on (with_entry t (entry.Land (j + 1))) (states_land M t (j + 1) 0) (reported-last 0 t.entries (entry.Land (j + 1)) ∙ append-nil (reported 0 t.entries))
-              (sender_store_lands m code laws B M S lists (blocks ring_by M S lists some accepted) t ch.numbers kept.legal (opens_zero t is) ch.written ch.parts j within (subst (CanFollow B M t) is_j can)) (all_go_on t.entries (entry.Land (j + 1)) ch.unstopped tt) (one_more t.entries (entry.Land (j + 1)) ch.written tt))
+          (go_on (with_entry t (entry.Land (j + 1))) (states_land M t (j + 1) 0) (reported-last 0 t.entries (entry.Land (j + 1)) ∙ append-nil (reported 0 t.entries))
+          (sender_store_lands m code laws B M S lists (blocks ring_by M S lists some accepted) t ch.numbers kept.legal (opens_zero t is) ch.written ch.parts j within (subst (CanFollow B M t) is_j can)) (all_go_on t.entries (entry.Land (j + 1)) ch.unstopped tt) (one_more t.entries (entry.Land (j + 1)) ch.written tt))
 
   pub cleans : Cleans ring_by (means_by m)
   cleans B M lists S t accepted is kept ch = ch.reports.clean

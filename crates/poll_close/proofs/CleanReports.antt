@@ -50,6 +50,7 @@ clean_more rs lists x clean known unclosed prefix all = record { in_order = pref
           | inl a ↦ ap (λ ys. taken ys i) (take-append-le k rs (x ∷ []) (omega (arith, a.0))) ∙ clean.whole i k a.1
           | inr b ↦ ap (λ ys. taken ys i) (ap (λ m. take m (rs ++ x ∷ [])) b.0 ∙ take-append_seam rs (x ∷ [])) ∙ all i b.1
         ]
+
     no_more : (i j k : ℕ) (r : Report) → j < k → slice_get (rs ++ x ∷ []) j ≡ Some (report.Closed i) → slice_get (rs ++ x ∷ []) k ≡ Some r → sender_of r ≢ i
     no_more i j k r less first second =
         elim (get_last rs x (report.Closed i) j first) [
@@ -62,6 +63,7 @@ clean_more rs lists x clean known unclosed prefix all = record { in_order = pref
             | inr b ↦ absurd (omega (arith, a.0, b.0))
           ]
         ]
+
     knows : (k : ℕ) (r : Report) → slice_get (rs ++ x ∷ []) k ≡ Some r → sender_of r < length lists
     knows k r is =
         elim (get_last rs x r k is) [
@@ -87,10 +89,10 @@ told_other rs i list took shut x other told = record { words = taken_other rs i 
 -- a word of the sender's own
 pub told_took : (rs : List Report) (i : ℕ) (list : List ℕ) (took shut : ℕ) → took < length list → Told rs i list took shut → Told (rs ++ report.Took i (slice_index list took) ∷ []) i list (took + 1) shut
 told_took rs i list took shut less told = record {
-    words = taken-took rs i (slice_index list took) i ∙ (let on : (i == i) ≡ true = eq-eqb i i refl in rw on (ap (λ ys. ys ++ slice_index list took ∷ []) told.words ∙ sym (take_more list took 0 less)));
-    closed = closed;
-    said = λ is. (let old = told.said is in (old.0, get_front rs (report.Took i (slice_index list took) ∷ []) old.0 (report.Closed i) old.1));
-  }
+  words = taken-took rs i (slice_index list took) i ∙ (let on : (i == i) ≡ true = eq-eqb i i refl in rw on (ap (λ ys. ys ++ slice_index list took ∷ []) told.words ∙ sym (take_more list took 0 less)));
+  closed = closed;
+  said = λ is. (let old = told.said is in (old.0, get_front rs (report.Took i (slice_index list took) ∷ []) old.0 (report.Closed i) old.1));
+}
   where
     closed : (k : ℕ) → slice_get (rs ++ report.Took i (slice_index list took) ∷ []) k ≡ Some (report.Closed i) → shut ≡ 1
     closed k is =

@@ -1,5 +1,5 @@
 -- An act of the receiver, over the whole channel.
-use Rattle.std.proofs.Common.{ℕ, zero, suc, ◌+◌, ◌*◌, ◌<◌, ◌≤◌, ◌≡◌, ◌≢◌, ◌==◌, ◌⊎◌, inl, inr, Bool, true, false, List, [], ◌∷◌, ◌++◌, length, take, Some, None, refl, sym, ◌∙◌, ap, subst, arith, append-nil}
+use Rattle.std.proofs.Common.{ℕ, zero, suc, ◌+◌, ◌<◌, ◌≤◌, ◌≡◌, ◌≢◌, ◌⊎◌, inl, inr, false, List, [], ◌∷◌, ◌++◌, length, take, Some, None, refl, sym, ◌∙◌, ap, subst, arith, append-nil}
 use Rattle.std.specs.Prelude.{slice_index, unwrap_or}
 use Rattle.std.specs.List.{slice_get, slice_index_or}
 use Rattle.std.proofs.lemmas.Bool.{cases_eq}
@@ -23,16 +23,15 @@ use Rattle.step_machine.specs.Legal.{Legal}
 use Rattle.step_machine.specs.Runs.{CanFollow}
 use Rattle.poll_close.specs.Reports.{taken, sender_of, IsPrefixOf}
 use Rattle.poll_close.specs.Going.{GoesOn}
-use Rattle.poll_close.specs.Invariant.Blocks.{Block, block_of, as_write, as_writes, to_block}
+use Rattle.poll_close.specs.Invariant.Blocks.{block_of, as_write, as_writes, to_block}
 use Rattle.poll_close.specs.Invariant.ReceiverState.{Noted, whole_of}
 use Rattle.poll_close.specs.Invariant.ReceiverPlaces.{ReceiverPlace, R60, receives, due}
 use Rattle.poll_close.specs.Invariant.BlockMeaning.{BlockMeaning, Quiet, ReceiverIs}
 use Rattle.poll_close.specs.Invariant.Channels.{BlockPart, ReceiverPart, Told, ReportPart, shuts}
 use Rattle.poll_close.proofs.Acts.{Acted, Plain, acted, going, stored_by, said_by}
-use Rattle.poll_close.proofs.Lines.{loads}
 use Rattle.poll_close.proofs.Windows.{get_end}
 use Rattle.poll_close.proofs.Blocks.{IsBlock, Within, IsWordOf, IsStore, IsStore-whole, newest-as_writes, apart, to_block-stored, to_block-elsewhere, newest-to_block, put, put_same, put_other}
-use Rattle.poll_close.proofs.BlockLaws.{BlockLaws, found_in, seen_at, Says, Comes, Receives, Finds}
+use Rattle.poll_close.proofs.BlockLaws.{BlockLaws, seen_at, Says, Comes, Receives, Finds}
 use Rattle.poll_close.proofs.ReceiverMoves.{receives_on}
 use Rattle.poll_close.proofs.ReceiverStays.{shuts_same}
 use Rattle.poll_close.proofs.CleanReports.{taken_other, clean_more, told_other, told_took, told_closed, prefix_take}
@@ -89,12 +88,13 @@ module _ (m : BlockMeaning) (M S : ℕ) (lists : List (List ℕ)) (f : ℕ → m
   -- one report of the visited sender
   one_said : (x : Report) (n : m.Count) → sender_of x ≡ b → m.shut (f b) ≡ 0 → Told (rs ++ x ∷ []) b (slice_index_or lists b []) (m.took n) (m.shut n) → ((i : ℕ) → x ≡ report.Closed i → taken rs i ≡ slice_index_or lists i []) → ReportPart m lists (rs ++ x ∷ []) (put f b n)
   one_said x n from open_yet new all = record {
-      told = told_put (rs ++ x ∷ []) n new (λ j within other. told_other rs j (slice_index_or lists j []) (m.took (f j)) (m.shut (f j)) x (λ same. other (sym same ∙ from)) (told.told j within));
-      clean = clean_more rs lists x told.clean (subst (λ (j : ℕ). j < length lists) (sym from) known) unclosed prefix all;
-    }
+    told = told_put (rs ++ x ∷ []) n new (λ j within other. told_other rs j (slice_index_or lists j []) (m.took (f j)) (m.shut (f j)) x (λ same. other (sym same ∙ from)) (told.told j within));
+    clean = clean_more rs lists x told.clean (subst (λ (j : ℕ). j < length lists) (sym from) known) unclosed prefix all;
+  }
     where
       unclosed : (j : ℕ) → slice_get rs j ≡ Some (report.Closed (sender_of x)) → ⊥
       unclosed j is = let shut : m.shut (f b) ≡ 1 = (told.told b known).closed j (is ∙ ap (λ z. Some (report.Closed z)) from) in omega (arith, open_yet)
+
       prefix : (i : ℕ) → IsPrefixOf (taken (rs ++ x ∷ []) i) (slice_index_or lists i [])
       prefix i =
           elim (cases_eq i b) [
@@ -104,17 +104,17 @@ module _ (m : BlockMeaning) (M S : ℕ) (lists : List (List ℕ)) (f : ℕ → m
 
   pub said_reports : (said : List Report) (n : m.Count) → Says m (block_of M S lists b) b (f b) n said → ReportPart m lists (rs ++ said) (put f b n)
   said_reports said n (inl none) = subst (λ (ys : List Report). ReportPart m lists ys (put f b n)) (sym (ap (λ ys. rs ++ ys) none.0 ∙ append-nil rs)) (record {
-      clean = told.clean;
-      told = told_put rs n (rw (none.1, none.2) (told.told b known)) (λ j within other. told.told j within);
-    })
+    clean = told.clean;
+    told = told_put rs n (rw (none.1, none.2) (told.told b known)) (λ j within other. told.told j within);
+  })
   said_reports said n (inr (inl word)) = subst (λ (ys : List Report). ReportPart m lists (rs ++ ys) (put f b n)) (sym word.0)
       (one_said (report.Took b (slice_index (slice_index_or lists b []) (m.took (f b)))) n refl word.4
-        (rw (word.1, word.2) (told_took rs b (slice_index_or lists b []) (m.took (f b)) (m.shut (f b)) word.3 (told.told b known)))
-        (λ i is. cc))
+      (rw (word.1, word.2) (told_took rs b (slice_index_or lists b []) (m.took (f b)) (m.shut (f b)) word.3 (told.told b known)))
+      (λ i is. cc))
   said_reports said n (inr (inr closing)) = subst (λ (ys : List Report). ReportPart m lists (rs ++ ys) (put f b n)) (sym closing.0)
       (one_said (report.Closed b) n refl closing.4
-        (rw (closing.1, closing.2) (told_closed rs b (slice_index_or lists b []) (m.took (f b)) (m.shut (f b)) (told.told b known)))
-        (λ i is. subst (λ (j : ℕ). taken rs j ≡ slice_index_or lists j []) (ap sender_of is) ((told.told b known).words ∙ ap (λ c. take c (slice_index_or lists b [])) closing.3 ∙ take-length (slice_index_or lists b []))))
+      (rw (closing.1, closing.2) (told_closed rs b (slice_index_or lists b []) (m.took (f b)) (m.shut (f b)) (told.told b known)))
+      (λ i is. subst (λ (j : ℕ). taken rs j ≡ slice_index_or lists j []) (ap sender_of is) ((told.told b known).words ∙ ap (λ c. take c (slice_index_or lists b [])) closing.3 ∙ take-length (slice_index_or lists b []))))
 
 module _ (m : BlockMeaning) (code : List ℕ) (laws : BlockLaws m code) (B M S : ℕ) (lists : List (List ℕ)) (are : (i : ℕ) → i < length lists → IsBlock (block_of M S lists i)) (few : length lists ≤ 63) (t : History) (f : ℕ → m.Count) (legal : Legal B t) (opens : OpensWithWords t.opening) (written : AllWriteWords t.entries) (parts : (i : ℕ) → i < length lists → BlockPart m (block_of M S lists i) M i t (f i)) (part : ReceiverPart m M S lists t f) (told : ReportPart m lists (reported 0 t.entries) f) where
   quiet_one : (j : ℕ) → j < length lists → Quiet m (f j) → m.shut (f j) ≤ 1
@@ -122,9 +122,9 @@ module _ (m : BlockMeaning) (code : List ℕ) (laws : BlockLaws m code) (B M S :
 
   owed_at : (place : ReceiverPlace) → ReceiverIs m (block_of M S lists part.block) part.block place (f part.block) part.noted → part.noted.x20 + shuts m f (length lists) ≡ length lists + due place → due place ≤ part.noted.x20
   owed_at R60 h is = let most : shuts m f (length lists) ≤ length lists = shuts_most m f (length lists) (λ j within. elim (cases_eq j part.block) [
-      | inl same ↦ subst (λ (z : ℕ). m.shut (f z) ≤ 1) (sym same) (quiet_one part.block part.known h.0)
-      | inr other ↦ quiet_one j within (part.others j within other)
-    ]) in omega (arith, is)
+    | inl same ↦ subst (λ (z : ℕ). m.shut (f z) ≤ 1) (sym same) (quiet_one part.block part.known h.0)
+    | inr other ↦ quiet_one j within (part.others j within other)
+  ]) in omega (arith, is)
   owed_at here h is = omega arith
 
   due_one : (place : ReceiverPlace) → due place ≤ 1
@@ -197,27 +197,33 @@ module _ (m : BlockMeaning) (code : List ℕ) (laws : BlockLaws m code) (B M S :
 
     came : ReceiverIs m (block_of M S lists part.block) part.block r.there r.after r.noted ⊎ Comes m (block_of M S lists part.block) (length lists) r.there r.after r.noted → ReceiverPart m M S lists new (put f part.block r.after)
     came (inl stays) = record {
-        place = r.there; noted = r.noted; block = part.block; known = part.known;
-        state = a.state ∙ ap Some r.leaves;
-        holds = subst (λ (z : m.Count). ReceiverIs m (block_of M S lists part.block) part.block r.there z r.noted) (sym (put_same f part.block r.after)) stays;
-        others = λ j within other. subst (Quiet m) (sym (put_other f part.block r.after j other)) (part.others j within other);
-        count = count_after r.after r.noted r.there r.counts;
-      }
+      place = r.there;
+      noted = r.noted;
+      block = part.block;
+      known = part.known;
+      state = a.state ∙ ap Some r.leaves;
+      holds = subst (λ (z : m.Count). ReceiverIs m (block_of M S lists part.block) part.block r.there z r.noted) (sym (put_same f part.block r.after)) stays;
+      others = λ j within other. subst (Quiet m) (sym (put_other f part.block r.after j other)) (part.others j within other);
+      count = count_after r.after r.noted r.there r.counts;
+    }
     came (inr comes) = record {
-        place = r.there; noted = r.noted; block = comes.block; known = comes.known;
-        state = a.state ∙ ap Some r.leaves;
-        holds = subst (λ (p : ReceiverPlace). ReceiverIs m (block_of M S lists comes.block) comes.block p (put f part.block r.after comes.block) r.noted) (sym comes.here) (all_quiet r.after comes.quiet comes.block comes.known, record { base = comes.base; index = comes.index });
-        others = λ j within other. all_quiet r.after comes.quiet j within;
-        count = count_after r.after r.noted r.there r.counts;
-      }
+      place = r.there;
+      noted = r.noted;
+      block = comes.block;
+      known = comes.known;
+      state = a.state ∙ ap Some r.leaves;
+      holds = subst (λ (p : ReceiverPlace). ReceiverIs m (block_of M S lists comes.block) comes.block p (put f part.block r.after comes.block) r.noted) (sym comes.here) (all_quiet r.after comes.quiet comes.block comes.known, record { base = comes.base; index = comes.index });
+      others = λ j within other. all_quiet r.after comes.quiet j within;
+      count = count_after r.after r.noted r.there r.counts;
+    }
 
     received : Received m M S lists new
     received = record {
-        numbers = put f part.block r.after;
-        parts = λ i within. each i within (cases_eq i part.block);
-        receiver = came r.holds;
-        reports = subst (λ (rs : List Report). ReportPart m lists rs (put f part.block r.after)) (sym (a.reports ∙ ap (λ w. reported 0 t.entries ++ said_by w) r.wants)) (said_reports m M S lists f part.block part.known (reported 0 t.entries) told (said_by r.wanted) r.after r.says);
-      }
+      numbers = put f part.block r.after;
+      parts = λ i within. each i within (cases_eq i part.block);
+      receiver = came r.holds;
+      reports = subst (λ (rs : List Report). ReportPart m lists rs (put f part.block r.after)) (sym (a.reports ∙ ap (λ w. reported 0 t.entries ++ said_by w) r.wants)) (said_reports m M S lists f part.block part.known (reported 0 t.entries) told (said_by r.wanted) r.after r.says);
+    }
 
   pub receiver_acts : (e : Entry) → CanFollow B M t e → hart_of e ≡ 0 → is_land e ≡ false → Received m M S lists (with_entry t e)
   receiver_acts e can mine alone =

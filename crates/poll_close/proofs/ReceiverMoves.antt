@@ -9,12 +9,12 @@ use Rattle.poll_close.specs.Layout.{block_size}
 use Rattle.poll_close.specs.Invariant.Blocks.{Block, offset}
 use Rattle.poll_close.specs.Invariant.ReceiverState.{Noted, whole_of}
 use Rattle.poll_close.specs.Invariant.ReceiverPlaces.{ReceiverPlace, R00, R04, R08, R0C, R10, R14, R18, R1C, R20, R24, R28, R2C, R30, R34, R38, R3C, R40, R44, R48, R4C, R50, R54, R58, R5C, R60, R64, R68, R6C, R70, R74, R78, R7C, ROver, receives, due}
-use Rattle.poll_close.specs.Invariant.BlockMeaning.{BlockMeaning, Visits, Quiet, Opened, Flag, Has, Taking, Closing, ReceiverIs}
+use Rattle.poll_close.specs.Invariant.BlockMeaning.{BlockMeaning, Flag, Has, Taking, Closing, ReceiverIs}
 use Rattle.poll_close.proofs.Lines.{loads, stores}
 use Rattle.poll_close.proofs.ReceiverLines.{line_00, line_04, line_08, line_0C-same, line_0C-other, line_10, line_28, line_2C-same, line_2C-other, line_30, line_34, line_38, line_3C, line_40, line_44, line_48-same, line_48-other, line_4C, line_50, line_54, line_58, line_5C, line_60, line_64-same, line_64-other, line_68, line_6C, line_70-same, line_70-other, line_74, line_78, line_7C}
 use Rattle.poll_close.proofs.Modulo.{offset_step, offset_wrap}
-use Rattle.poll_close.proofs.Blocks.{IsBlock, IsWordOf, offset_low, word_of}
-use Rattle.poll_close.proofs.BlockLaws.{BlockLaws, seen_at, Changes, Finds, Tailed, Done, Reported, Comes, Receives}
+use Rattle.poll_close.proofs.Blocks.{IsBlock, offset_low, word_of}
+use Rattle.poll_close.proofs.BlockLaws.{BlockLaws, seen_at, Changes, Finds, Tailed, Done, Reported, Receives}
 use Rattle.poll_close.proofs.ReceiverSteps.{unchanged, still, reads, opened_noted}
 
 module _ (m : BlockMeaning) (code : List ℕ) (laws : BlockLaws m code) (k : Block) (is : IsBlock k) (i count : ℕ) (base : k.base ≡ i * block_size k.size) (known : i < count) (few : count ≤ 63) (n : m.Count) (order : m.Ordered k n) (word_at : ℕ → ℕ) (words : m.Words k n word_at) (r : Noted) (v : ℕ) where
@@ -25,16 +25,23 @@ module _ (m : BlockMeaning) (code : List ℕ) (laws : BlockLaws m code) (k : Blo
   receives_04 h =
       let line = line_04 m.middle (whole_of k count) r in
       record {
-        wanted = need.Inner; there = R08; noted = record r { x22 = 0 }; after = n; plain = tt;
-        wants = line.wants; leaves = line.leaves v; changes = unchanged m k n order;
+        wanted = need.Inner;
+        there = R08;
+        noted = record r { x22 = 0 };
+        after = n;
+        plain = tt;
+        wants = line.wants;
+        leaves = line.leaves v;
+        changes = unchanged m k n order;
         holds = inr (record { block = 0; known = omega arith; quiet = h.0; here = refl; index = refl; base = omega (arith, h.1) });
-        says = inl (refl, refl, refl); counts = refl;
+        says = inl (refl, refl, refl);
+        counts = refl;
       }
 
   receives_08 : ReceiverIs m k i R08 n r → v ≡ seen_at m k n word_at (k.base + 12) → Receives m k i count R08 n r v
   receives_08 h seen =
       reads m k i count n order r v R08 R0C (r.x8 + 12) (λ w. record r { x5 = w }) refl (line_08 m.middle (whole_of k count) r (omega (arith, is.even, h.1.base)) (omega (arith, is.inside, is.some_slot, h.1.base)) is.small)
-        (h.0, record { base = h.1.base; index = h.1.index }, seen ∙ laws.sees_done k n word_at order words)
+      (h.0, record { base = h.1.base; index = h.1.index }, seen ∙ laws.sees_done k n word_at order words)
 
   receives_0C : ReceiverIs m k i R0C n r → Receives m k i count R0C n r v
   receives_0C h =
@@ -46,10 +53,11 @@ module _ (m : BlockMeaning) (code : List ℕ) (laws : BlockLaws m code) (k : Blo
   receives_10 : ReceiverIs m k i R10 n r → v ≡ seen_at m k n word_at (k.base + 4) → Receives m k i count R10 n r v
   receives_10 h seen =
       reads m k i count n order r v R10 R14 (r.x8 + 4) (λ w. record r { x30 = w }) refl (line_10 m.middle (whole_of k count) r (omega (arith, is.even, h.visits.base)) (omega (arith, is.inside, is.some_slot, h.visits.base)) is.small)
-        (opened_noted m k i count n order r v h r.x5 r.x6 r.x7 r.x10 r.x11 r.x17 r.x20 r.x28 v, flag (cases_eq (m.marks n) 0))
+      (opened_noted m k i count n order r v h r.x5 r.x6 r.x7 r.x10 r.x11 r.x17 r.x20 r.x28 v, flag (cases_eq (m.marks n) 0))
     where
       read : v ≡ m.marks n
       read = seen ∙ laws.sees_mark k n word_at order words
+
       flag : (m.marks n ≡ 0) ⊎ (m.marks n ≢ 0) → Flag m n (record r { x30 = v })
       flag (inl none) = inl (read ∙ none)
       flag (inr some) = let one : m.marks n ≡ 1 = omega (arith, laws.marks_one k n order) in inr (read ∙ one, one)
@@ -75,13 +83,20 @@ module _ (m : BlockMeaning) (code : List ℕ) (laws : BlockLaws m code) (k : Blo
       let line = line_34 m.middle (whole_of k count) r (omega (arith, is.even, h.0.visits.base)) (omega (arith, is.inside, is.some_slot, h.0.visits.base)) is.small in
       let made : Tailed m k n = laws.stores_tail k n order h.0.filled h.0.open_yet in
       record {
-        wanted = stores (r.x8 + 8) r.x7; there = R38; noted = r; after = made.after; plain = tt;
-        wants = line.wants; leaves = line.leaves v;
+        wanted = stores (r.x8 + 8) r.x7;
+        there = R38;
+        noted = r;
+        after = made.after;
+        plain = tt;
+        wants = line.wants;
+        leaves = line.leaves v;
         changes = subst (λ (x : ℕ × ℕ). Changes m k n made.after (x ∷ [])) (ap (λ b. (b + 8, offset k (m.tails n + 1))) (sym h.0.visits.base) ∙ ap (λ o. (r.x8 + 8, o)) (sym h.1)) made.changes;
         holds = inl (record {
-          visits = h.0.visits; level = made.level;
+          visits = h.0.visits;
+          level = made.level;
           ahead = made.tails ∙ ap (λ j. j + 1) (sym h.0.ahead) ∙ ap (λ j. j + 1) (sym made.took);
-          closed = made.shut ∙ h.0.closed ∙ sym made.dones; open_yet = made.dones ∙ h.0.open_yet;
+          closed = made.shut ∙ h.0.closed ∙ sym made.dones;
+          open_yet = made.dones ∙ h.0.open_yet;
           word = h.0.word ∙ ap (slice_index k.list) (sym h.0.ahead ∙ sym made.took);
         });
         says = inl (refl, made.took, made.shut);
@@ -102,8 +117,14 @@ module _ (m : BlockMeaning) (code : List ℕ) (laws : BlockLaws m code) (k : Blo
       let line = line_40 m.middle (whole_of k count) r h.2 in
       let made : Reported m k n (m.took n + 1) (m.shut n) = laws.reports k n (m.took n + 1) (m.shut n) order h.0.level in
       record {
-        wanted = need.Report (report.Took r.x10 r.x11); there = R44; noted = r; after = made.after; plain = tt;
-        wants = line.wants; leaves = line.leaves v; changes = made.changes;
+        wanted = need.Report (report.Took r.x10 r.x11);
+        there = R44;
+        noted = r;
+        after = made.after;
+        plain = tt;
+        wants = line.wants;
+        leaves = line.leaves v;
+        changes = made.changes;
         holds = inl (record { words = made.took ∙ sym h.0.ahead ∙ sym made.tails; closed = made.shut ∙ h.0.closed ∙ sym made.dones; level = made.level }, h.0.visits);
         says = inr (inl (rw (h.1, h.0.word) refl, made.took, made.shut, omega (arith, h.0.ahead, laws.tails_all k n order), h.0.closed ∙ h.0.open_yet));
         counts = ap (λ j. r.x20 + j + 0) made.shut;
@@ -131,8 +152,13 @@ module _ (m : BlockMeaning) (code : List ℕ) (laws : BlockLaws m code) (k : Blo
       let line = line_50 m.middle (whole_of k count) r (omega (arith, is.even, h.0.visits.base)) (omega (arith, is.inside, is.some_slot, h.0.visits.base)) is.small in
       let made : Done m k n = laws.stores_done k n order h.0.quiet.level h.1 h.0.open_yet in
       record {
-        wanted = stores (r.x8 + 12) r.x5; there = R54; noted = r; after = made.after; plain = tt;
-        wants = line.wants; leaves = line.leaves v;
+        wanted = stores (r.x8 + 12) r.x5;
+        there = R54;
+        noted = r;
+        after = made.after;
+        plain = tt;
+        wants = line.wants;
+        leaves = line.leaves v;
         changes = subst (λ (x : ℕ × ℕ). Changes m k n made.after (x ∷ [])) (ap (λ b. (b + 12, 1)) (sym h.0.visits.base) ∙ ap (λ o. (r.x8 + 12, o)) (sym h.2)) made.changes;
         holds = inl (record { visits = h.0.visits; level = made.level; words = made.took ∙ h.0.quiet.words ∙ sym made.tails; all = made.tails ∙ h.1; done = made.dones; unsaid = made.shut ∙ h.0.quiet.closed ∙ h.0.open_yet });
         says = inl (refl, made.took, made.shut);
@@ -153,8 +179,14 @@ module _ (m : BlockMeaning) (code : List ℕ) (laws : BlockLaws m code) (k : Blo
       let line = line_5C m.middle (whole_of k count) r h.2 in
       let made : Reported m k n (m.took n) 1 = laws.reports k n (m.took n) 1 order h.0.level in
       record {
-        wanted = need.Report (report.Closed r.x10); there = R60; noted = r; after = made.after; plain = tt;
-        wants = line.wants; leaves = line.leaves v; changes = made.changes;
+        wanted = need.Report (report.Closed r.x10);
+        there = R60;
+        noted = r;
+        after = made.after;
+        plain = tt;
+        wants = line.wants;
+        leaves = line.leaves v;
+        changes = made.changes;
         holds = inl (record { words = made.took ∙ h.0.words ∙ sym made.tails; closed = made.shut ∙ sym h.0.done ∙ sym made.dones; level = made.level }, h.0.visits);
         says = inr (inr (rw h.1 refl, made.took, made.shut, h.0.words ∙ h.0.all, h.0.unsaid));
         counts = omega (arith, h.0.unsaid, made.shut);
@@ -183,15 +215,23 @@ module _ (m : BlockMeaning) (code : List ℕ) (laws : BlockLaws m code) (k : Blo
         | inr other ↦
             let line = line_70-other m.middle (whole_of k count) r other in
             record {
-              wanted = need.Inner; there = R08; noted = r; after = n; plain = tt;
-              wants = line.wants; leaves = line.leaves v; changes = unchanged m k n order;
+              wanted = need.Inner;
+              there = R08;
+              noted = r;
+              after = n;
+              plain = tt;
+              wants = line.wants;
+              leaves = line.leaves v;
+              changes = unchanged m k n order;
               holds = inr (record { block = i + 1; known = more other (cases_eq (i + 1) count); quiet = h.0; here = refl; index = h.1; base = h.2 ∙ next });
-              says = inl (refl, refl, refl); counts = refl;
+              says = inl (refl, refl, refl);
+              counts = refl;
             }
       ]
     where
       next : k.base + block_size k.size ≡ (i + 1) * block_size k.size
       next = omega (arith, base)
+
       more : r.x8 ≢ count * block_size k.size → (i + 1 ≡ count) ⊎ (i + 1 ≢ count) → i + 1 < count
       more other (inl last) = absurd (other (h.2 ∙ next ∙ ap (λ j. j * block_size k.size) last))
       more other (inr less) = omega (arith, known)
@@ -206,9 +246,17 @@ module _ (m : BlockMeaning) (code : List ℕ) (laws : BlockLaws m code) (k : Blo
   receives_7C h =
       let line = line_7C m.middle (whole_of k count) r h.1 in
       record {
-        wanted = need.Exit; there = ROver; noted = r; after = n; plain = tt;
-        wants = line.wants; leaves = line.leaves v; changes = unchanged m k n order; holds = inl (h.0, h.2);
-        says = inl (refl, refl, refl); counts = refl;
+        wanted = need.Exit;
+        there = ROver;
+        noted = r;
+        after = n;
+        plain = tt;
+        wants = line.wants;
+        leaves = line.leaves v;
+        changes = unchanged m k n order;
+        holds = inl (h.0, h.2);
+        says = inl (refl, refl, refl);
+        counts = refl;
       }
 
   -- wherever it runs, it moves, by what it finds in the block that it visits

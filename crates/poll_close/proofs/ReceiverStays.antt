@@ -1,8 +1,7 @@
 -- What holds of the receiver goes on holding as others act and stores land.
-use Rattle.std.proofs.Common.{ℕ, zero, suc, ◌+◌, ◌*◌, ◌<◌, ◌≤◌, ◌≡◌, ◌⊎◌, inl, inr, refl, List, [], length, Some, take, sym, ◌∙◌, ap, subst, arith}
+use Rattle.std.proofs.Common.{ℕ, zero, suc, ◌+◌, ◌<◌, ◌≤◌, ◌≡◌, ◌⊎◌, inl, inr, refl, List, [], length, take, sym, ◌∙◌, ap, subst, arith}
 use Rattle.std.specs.Prelude.{slice_index}
 use Rattle.std.specs.List.{slice_get, slice_index_or}
-use Rattle.hart.specs.State.{HartState}
 use Rattle.hart.specs.declared.need.Report.{Report}
 use Rattle.step_machine.specs.History.{History}
 use Rattle.step_machine.specs.Paths.{state_of}
@@ -85,19 +84,22 @@ module _ (m : BlockMeaning) (code : List ℕ) (laws : BlockLaws m code) (M S : �
   -- an event that is not the receiver's act keeps its part, and what is reported
   pub part_stays : state_of M new 0 ≡ state_of M t 0 → ReceiverPart m M S lists t f → ReceiverPart m M S lists new g
   part_stays same part = record {
-      place = part.place; noted = part.noted; block = part.block; known = part.known;
-      state = same ∙ part.state;
-      holds = receiver_stays m code laws (block_of M S lists part.block) part.block (f part.block) (g part.block) part.noted (after part.block part.known).1 part.place (after part.block part.known).0.order part.holds;
-      others = λ j within other. quiet_stays m code laws (block_of M S lists j) j (f j) (g j) part.noted (after j within).1 (part.others j within other);
-      count = (let same : shuts m g (length lists) ≡ shuts m f (length lists) = shuts_same m f g (length lists) (λ j within. (after j within).1.shut) in omega (arith, same, part.count));
-    }
+    place = part.place;
+    noted = part.noted;
+    block = part.block;
+    known = part.known;
+    state = same ∙ part.state;
+    holds = receiver_stays m code laws (block_of M S lists part.block) part.block (f part.block) (g part.block) part.noted (after part.block part.known).1 part.place (after part.block part.known).0.order part.holds;
+    others = λ j within other. quiet_stays m code laws (block_of M S lists j) j (f j) (g j) part.noted (after j within).1 (part.others j within other);
+    count = (let same : shuts m g (length lists) ≡ shuts m f (length lists) = shuts_same m f g (length lists) (λ j within. (after j within).1.shut) in omega (arith, same, part.count));
+  }
 
   pub reports_stay : (rs now : List Report) → now ≡ rs → ReportPart m lists rs f → ReportPart m lists now g
   reports_stay rs now same part = record {
-      told = λ j within. (let told = part.told j within in record {
-        words = ap (λ ys. taken ys j) same ∙ told.words ∙ ap (λ c. take c (slice_index_or lists j [])) (sym (after j within).1.took);
-        closed = λ k is. (after j within).1.shut ∙ told.closed k (ap (λ ys. slice_get ys k) (sym same) ∙ is);
-        said = λ is. (let old = told.said (sym (after j within).1.shut ∙ is) in (old.0, ap (λ ys. slice_get ys old.0) same ∙ old.1));
-      });
-      clean = subst (λ (ys : List Report). Clean ys lists) (sym same) part.clean;
-    }
+    told = λ j within. (let told = part.told j within in record {
+      words = ap (λ ys. taken ys j) same ∙ told.words ∙ ap (λ c. take c (slice_index_or lists j [])) (sym (after j within).1.took);
+      closed = λ k is. (after j within).1.shut ∙ told.closed k (ap (λ ys. slice_get ys k) (sym same) ∙ is);
+      said = λ is. (let old = told.said (sym (after j within).1.shut ∙ is) in (old.0, ap (λ ys. slice_get ys old.0) same ∙ old.1));
+    });
+    clean = subst (λ (ys : List Report). Clean ys lists) (sym same) part.clean;
+  }

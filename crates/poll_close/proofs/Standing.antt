@@ -1,5 +1,5 @@
 -- A channel stands at its opening, and goes on standing over every event.
-use Rattle.std.proofs.Common.{◌≡◌, ℕ, ◌+◌, ◌<◌, ◌≤◌, inl, inr, Result, Ok, Err, List, [], ◌∷◌, length, take, drop, map, refl, sym, ◌∙◌, ap, subst, arith}
+use Rattle.std.proofs.Common.{◌≡◌, ℕ, ◌+◌, ◌<◌, Result, Ok, Err, List, [], ◌∷◌, length, take, map, refl, sym, ◌∙◌, ap, subst, arith}
 use Rattle.std.specs.Prelude.{IfOk, IfErr, OnOk, OnErr}
 use Rattle.hart.specs.declared.need.Report.{Report}
 use Rattle.step_machine.specs.declared.events.Event.{Event}
@@ -12,7 +12,7 @@ use Rattle.poll_close.specs.Layout.{opening_of, senders_from}
 use Rattle.poll_close.specs.Laws.{Ring, Meaning, Accepted, Opens, Keeps, Cleans, Goes}
 use Rattle.poll_close.specs.Going.{AllGoOn}
 use Rattle.poll_close.specs.Reports.{Clean}
-use Rattle.poll_close.specs.Standing.{IsOpeningOf, Stands, lists_of}
+use Rattle.poll_close.specs.Standing.{Stands, lists_of}
 use Rattle.poll_close.proofs.Delivering.{Known, known-happens, known-run}
 
 inboxes : (code : List ℕ) (S i : ℕ) (lists : List (List ℕ)) → map (λ (h : HartStart). h.inbox) (senders_from code S i lists) ≡ lists
@@ -22,10 +22,10 @@ inboxes code S i (ws ∷ lists) = ap (λ rest. ws ∷ rest) (inboxes code S (i +
 module _ (ring : Ring) (means : Meaning) (B M : ℕ) where
   pub stands-opens : (lists : List (List ℕ)) (S : ℕ) (t : History) → Opens ring means → Accepted ring M lists S → t ≡ unrun (opening_of ring.sender ring.receiver lists S) → Stands ring means B M t
   stands-opens lists S t opens accepted is = subst (Stands ring means B M) (sym is) (record {
-      opens = record { lists = lists; size = S; accepted = accepted; opening = refl };
-      kept = kept-unrun B M (opening_of ring.sender ring.receiver lists S);
-      meant = opens B M lists S accepted;
-    })
+    opens = record { lists = lists; size = S; accepted = accepted; opening = refl };
+    kept = kept-unrun B M (opening_of ring.sender ring.receiver lists S);
+    meant = opens B M lists S accepted;
+  })
 
   known : (t : History) (s : Stands ring means B M t) → Known ring means B M s.opens.lists s.opens.size t
   known t s = record { opening = s.opens.opening; kept = s.kept; meant = s.meant }

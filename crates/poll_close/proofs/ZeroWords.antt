@@ -1,7 +1,6 @@
 -- What is known while a list of words, and a list of lists, is looked through for a zero.
-use Rattle.std.proofs.Common.{◌≡◌, ◌≢◌, ℕ, ◌+◌, ◌^◌, ◌<◌, ◌≤◌, List, [], ◌∷◌, ◌++◌, length, take, get_or, map, All, Vec, Global, refl, sym, ◌∙◌, ap, subst, arith}
+use Rattle.std.proofs.Common.{◌≡◌, ◌≢◌, ℕ, ◌+◌, ◌^◌, ◌<◌, ◌≤◌, List, [], ◌∷◌, ◌++◌, length, take, get_or, map, All, Vec, Global, sym, ◌∙◌, ap, subst, arith}
 use Rattle.std.specs.Prelude.{slice_index}
-use Rattle.std.specs.List.{slice_index_or}
 use Rattle.std.proofs.lemmas.List.{take_more, take_all, get_or_read, map-append, length-map, get_or-map, take-map}
 use Rattle.std.proofs.lemmas.List.Elements.{All-push}
 use Rattle.poll_close.specs.Laws.{AreWords}
@@ -30,7 +29,7 @@ lists-all lists n past all = subst (λ (vs : List (Vec ℕ Global)). All AreWord
 
 pub list-found : (lists : List (Vec ℕ Global)) (i j : ℕ) (list : Vec ℕ Global) → i < length lists → list ≡ get_or lists i list → ZeroAt list.items j → All AreWords (map items_of (take i lists)) → ZeroWordAt (map items_of lists) i j
 list-found lists i j list less is zero so_far = record {
-    within = omega (arith, length-map lists items_of, less);
-    zero = subst (λ (ws : List ℕ). ZeroAt ws j) (ap items_of is ∙ sym (get_or-map items_of lists i list [] less)) zero;
-    first = subst (All AreWords) (sym (take-map items_of i lists)) so_far;
-  }
+  within = omega (arith, length-map lists items_of, less);
+  zero = subst (λ (ws : List ℕ). ZeroAt ws j) (ap items_of is ∙ sym (get_or-map items_of lists i list [] less)) zero;
+  first = subst (All AreWords) (sym (take-map items_of i lists)) so_far;
+}

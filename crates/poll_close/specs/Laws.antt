@@ -1,7 +1,7 @@
 -- What a ring's meaning has to be: the opening has it, every event keeps it, it gives clean reports.
 use Rattle.std.specs.Prelude.{ℕ, ◌≡◌, ◌≢◌, ◌*◌, ◌^◌, ◌≤◌, ◌<◌, List, All, length}
 use Rattle.step_machine.specs.declared.events.Entry.{Entry}
-use Rattle.step_machine.specs.History.{Start, History, unrun, with_entry}
+use Rattle.step_machine.specs.History.{History, unrun, with_entry}
 use Rattle.step_machine.specs.Entries.{reported}
 use Rattle.step_machine.specs.Legal.{Kept}
 use Rattle.step_machine.specs.Runs.{CanFollow}

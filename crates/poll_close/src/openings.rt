@@ -75,7 +75,12 @@ fn sender_registers(ring: u32, index: u32) -> [u32; 32]
 }
 
 /// Each sender's beginning.
-fn sender_harts(alloc: Global, code: &[u32], lists: &[Vec<u32>], size: u32) -> Result<Vec<HartOpening>, AllocError>
+fn sender_harts(
+    alloc: Global,
+    code: &[u32],
+    lists: &[Vec<u32>],
+    size: u32,
+) -> Result<Vec<HartOpening>, AllocError>
     requires { length lists.now * block_size size + block_size size < 2 ^ 32 }
     ensures { IfOk result (λ v. v.items ≡ senders_from code.now size 0 (map (λ v. v.items) lists.now)) }
 {
@@ -117,7 +122,12 @@ fn lay_out<K: RingKind>(alloc: Global, lists: &[Vec<u32>], size: u32) -> Result<
 /// The opening of a channel of this kind over a memory of `m` words: hart 0 receives, hart i + 1 sends
 /// list i through a ring of `ring` slots. Err with the first refusal that applies, or that memory ran
 /// out where none does.
-pub fn opening<K: RingKind>(alloc: Global, lists: &[Vec<u32>], ring: u32, m: usize) -> Result<Opening, Refused>
+pub fn opening<K: RingKind>(
+    alloc: Global,
+    lists: &[Vec<u32>],
+    ring: u32,
+    m: usize,
+) -> Result<Opening, Refused>
     requires memory { m ≤ 65536 }
     ensures accepted { OnOk result (Accepted K.ring m (map (λ v. v.items) lists.now) ring) }
     ensures value { IfOk result (λ o. o ≡ opening_of K.ring.sender K.ring.receiver (map (λ v. v.items) lists.now) ring) }

@@ -1,5 +1,5 @@
 -- The numbers of one block, which say everything of its memory and of both harts' stores to it.
-use Rattle.std.proofs.Common.{ℕ, ◌+◌, ◌*◌, ◌%◌, ◌<◌, ◌≤◌, ◌≡◌, List, length}
+use Rattle.std.proofs.Common.{ℕ, ◌+◌, ◌<◌, ◌≤◌, ◌≡◌, List, length}
 use Rattle.std.specs.Prelude.{slice_index}
 use Rattle.poll_close.specs.Invariant.Blocks.{Block, offset, slot, window}
 use Rattle.lamport_ring.specs.Invariant.Stores.{sender_stores, receiver_stores}
