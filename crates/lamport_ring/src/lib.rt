@@ -9,6 +9,9 @@ ghost use Rattle.lamport_ring.specs.Means.{AllMean};
 
 use poll_close::RingKind;
 
+#[cfg(test)]
+mod tests;
+
 /// The words of the sender's listing.
 const SENDER: [u32; 17] = [
     0x00100893, 0x00000073, 0x02058663, 0x00428313, 0x00931463, 0x00000313, 0x00842383, 0xFE638EE3,

@@ -91,7 +91,9 @@ fn do_work<const B: usize, F: Read, S: Read, W: Write>(
         Work::Channel {
             ring: Ring::Lamport,
             slots,
-        } => after(channel_engine::<Lamport, B, WORDS, _, _, _>(alloc, slots, first, second, writer)),
+        } => after(channel_engine::<Lamport, B, WORDS, _, _, _>(
+            alloc, slots, first, second, writer,
+        )),
     }
 }
 

@@ -34,7 +34,7 @@ pub of_64 : (o : Start) (evs : List Event) (es : List Entry) → evs ≡ map eve
 of_64 o evs es each of few =
     subst OfHarts (sym each)
     (All-map (λ (ev : Event). hart_of ev < 64) event_of es
-      (All-weaker (IsOfHarts o) (λ (e : Entry). hart_of (event_of e) < 64) (λ e lt. (let same : hart_of (event_of e) ≡ entries.hart_of e = event_hart e in omega arith)) es of))
+    (All-weaker (IsOfHarts o) (λ (e : Entry). hart_of (event_of e) < 64) (λ e lt. (let same : hart_of (event_of e) ≡ entries.hart_of e = event_hart e in omega arith)) es of))
 
 module _ {X A : Type 0} (IsAnswer : Question → Result A Refusal → Type 0) (view : X → A) (known : Option (List ℕ)) where
   -- what answers the test that was read

@@ -54,7 +54,7 @@ kept_followed w past ev kept events next =
       place = ap (λ (n : ℕ). n + 1) kept.place ∙ sym (scheduled-append w.sources (Schedule ∷ []));
       within = omega arith;
       done = ap (of_schedule (w.sources ++ Schedule ∷ [])) events ∙ of_schedule-append w.sources (Schedule ∷ []) w.past.events (ev ∷ []) kept.each
-      ∙ ap (λ (xs : List Event). xs ++ ev ∷ []) kept.done ∙ ap (λ (e : Event). take w.place w.schedule ++ e ∷ []) (sym is) ∙ sym (take_more w.schedule w.place ev within);
+          ∙ ap (λ (xs : List Event). xs ++ ev ∷ []) kept.done ∙ ap (λ (e : Event). take w.place w.schedule ++ e ∷ []) (sym is) ∙ sym (take_more w.schedule w.place ev within);
     }
 
 -- an event of the user's was done
@@ -64,7 +64,7 @@ kept_strayed w past ev kept events = record {
   place = kept.place ∙ (let none : scheduled w.sources ≡ scheduled w.sources + 0 = omega arith in none) ∙ sym (scheduled-append w.sources (User ∷ []));
   within = kept.within;
   done = ap (of_schedule (w.sources ++ User ∷ [])) events ∙ of_schedule-append w.sources (User ∷ []) w.past.events (ev ∷ []) kept.each
-  ∙ ap (λ (xs : List Event). xs ++ []) kept.done ∙ append-nil (take w.place w.schedule);
+      ∙ ap (λ (xs : List Event). xs ++ []) kept.done ∙ append-nil (take w.place w.schedule);
 }
 
 -- the last k events were undone, and so many are left
@@ -79,7 +79,7 @@ kept_back B M w past k left kept back is =
       place = refl;
       within = omega (arith, below, kept.within);
       done = ap (of_schedule (take left w.sources)) events ∙ of_schedule-take left w.sources w.past.events kept.each
-      ∙ ap (take (scheduled (take left w.sources))) kept.done ∙ take-take (scheduled (take left w.sources)) w.place w.schedule below;
+          ∙ ap (take (scheduled (take left w.sources))) kept.done ∙ take-take (scheduled (take left w.sources)) w.place w.schedule below;
     }
 
 pub walked_back : (B M : ℕ) (w : Way) (past : Past) (k left : ℕ) → IsKept w → GoesBack B M w.past k past → left ≡ length w.sources - k → WalksBack B M w k (record { past = past; schedule = w.schedule; sources = take left w.sources; place = scheduled (take left w.sources) })

@@ -100,13 +100,7 @@ fn made<const B: usize, const M: usize, R: Read, T: Threads + Wait + Sync>(
 /// [`recorder::MAX_EVENTS`] events is refused as too large ([`TOO_LARGE`]), and a fault of the threads
 /// by its number. Where there is a refusal nothing was written. It may wait, for the lock and for the
 /// threads.
-pub fn threads_engine<
-    const B: usize,
-    const M: usize,
-    R: Read,
-    W: Write,
-    T: Threads + Wait + Sync,
->(
+pub fn threads_engine<const B: usize, const M: usize, R: Read, W: Write, T: Threads + Wait + Sync>(
     rt: &T,
     alloc: Global,
     file: &mut R,

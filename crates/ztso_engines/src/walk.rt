@@ -43,11 +43,7 @@ impl<const B: usize, const M: usize> Walk<B, M> {
     ghost use Rattle.ztso_engines.specs.Walks.{IsKept, Walks, WalksBack, set_out};
 
     /// A walk at the opening, before the schedule's first event.
-    pub fn open(
-        alloc: Global,
-        opening: Opening,
-        schedule: Vec<Event>,
-    ) -> Result<Self, AllocError>
+    pub fn open(alloc: Global, opening: Opening, schedule: Vec<Event>) -> Result<Self, AllocError>
         requires some_capacity { 1 ≤ B }
         requires capacity { B ≤ 64 }
         requires some_word { 1 ≤ M }
