@@ -13,7 +13,7 @@ returns-in_err-test-clause-run g c =
 pub returns-in_err-events-clause-run : goal.returns-in_err-events-clause-run
 returns-in_err-events-clause-run g c =
     let p = err_from_is_err_and c.from_residual-in_err-events.result c.from_residual-in_err-events.ensures.1 in
-    schedule_fault g.row.B g.row.M _ _ _ (λ (events : List Event). events) c.in_ok-test.test c.from_residual-in_err-events.result c.in_err-events.field-0.0 (rw p.2 at p.1) c.in_ok-test.ensures.test c.in_err-events.ensures
+    schedule_fault g.row.B g.row.M _ _ _ (λ (events : List Event). events) c.in_ok-test.test c.from_residual-in_err-events.result c.in_err-events.field-0.0 (rw p.2 at p.1) c.in_ok-test.ensures.test c.in_err-events.ensures.events
 
 pub returns-clause-run : goal.returns-clause-run
-returns-clause-run g c = run_found g.row.B g.row.M _ _ c.in_ok-test.test c.in_ok-events.events.items c.in_ok-machine.machine.history c.in_ok-test.ensures.test c.in_ok-events.ensures (rw c.deref.ensures.value at c.in_ok-machine.ensures.ran)
+returns-clause-run g c = run_found g.row.B g.row.M _ _ c.in_ok-test.test c.in_ok-events.events.items c.in_ok-machine.machine.history c.in_ok-test.ensures.test c.in_ok-events.ensures.events (rw c.deref.ensures.value at c.in_ok-machine.ensures.ran)
