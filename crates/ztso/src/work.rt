@@ -1,8 +1,10 @@
 //! Which engine does a job.
 
 ghost use Rattle.std.specs.Prelude.{◌≡◌, ◌≤◌};
-ghost use Rattle.ztso.specs.Work.{DoesJob, Given, IsAnswerOf, LeavesSecond, LeavesSecondOf, done_status, drawn_from, ended_with, tried_status, verdict_status};
-ghost use Rattle.ztso_engines.specs.Engines.{Ends, EndsBy};
+ghost use Rattle.ztso.specs.Work.{DoesJob, Given, IsAnswerOf, LeavesSecond, LeavesSecondOf, done_status, drawn_from, ended_with, tables_of, tried_status, verdict_status};
+ghost use Rattle.ztso_engines.specs.Channels.{IsChannelAnswer};
+ghost use Rattle.ztso_engines.specs.Engines.{Ends, EndsBy, EndsByBoth};
+ghost use Rattle.ztso_engines.specs.Schedules.{HasNoSchedule};
 ghost use Rattle.ztso_engines.specs.Outcomes.{IsTryAnswer};
 
 use crate::job::{Capacity, Ring, Task, Work};
@@ -67,6 +69,27 @@ fn try_drawn<const B: usize, F: Read, W: Write>(
     try_engine::<B, WORDS, _, _, _>(alloc, file, &mut generator, runs, length, writer)
 }
 
+/// Runs a channel over lists of words by a schedule, through rings of this kind.
+fn run_channel<const B: usize, S: Read, L: Read, W: Write>(
+    alloc: Global,
+    ring: Ring,
+    slots: u32,
+    schedule: &mut S,
+    lists: &mut L,
+    writer: &mut W,
+) -> Result<(), Fault>
+    requires some_capacity { 1 ≤ B }
+    requires capacity { B ≤ 64 }
+    ensures ends { EndsByBoth (IsChannelAnswer (tables_of ring) B 4096 slots) result (S.remaining schedule.old) (L.remaining lists.old) W.contents writer.old writer.new }
+    ensures unread { HasNoSchedule (S.remaining schedule.old) → lists.new ≡ lists.old }
+{
+    match ring {
+        Ring::Lamport => {
+            channel_engine::<Lamport, B, WORDS, _, _, _>(alloc, slots, schedule, lists, writer)
+        }
+    }
+}
+
 /// Does the work with a machine whose harts' buffers hold `B` stores.
 #[tactic(auto, using(crate::proofs::Endings::ends_told))]
 fn do_work<const B: usize, F: Read, S: Read, W: Write>(
@@ -88,12 +111,9 @@ fn do_work<const B: usize, F: Read, S: Read, W: Write>(
         Work::Try { seed, runs, length } => {
             after_try(try_drawn::<B, F, W>(alloc, seed, runs, length, first, writer))
         }
-        Work::Channel {
-            ring: Ring::Lamport,
-            slots,
-        } => after(channel_engine::<Lamport, B, WORDS, _, _, _>(
-            alloc, slots, first, second, writer,
-        )),
+        Work::Channel { ring, slots } => {
+            after(run_channel::<B, F, S, W>(alloc, ring, slots, first, second, writer))
+        }
     }
 }
 
