@@ -16,9 +16,10 @@ pub mod HexWords
 pub mod HexTexts
 pub mod CodeTexts
 pub mod TestTexts
-pub mod Openings
 pub mod SessionLaws
 pub mod WalkLaws
+pub mod DebugLaws
+pub mod TalkLaws
 pub mod Rows
 pub mod TallyLaws
 pub mod TrialLaws

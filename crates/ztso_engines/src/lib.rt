@@ -8,6 +8,7 @@
 
 pub mod asm;
 mod code;
+pub mod debug;
 pub mod dis;
 mod entry_text;
 pub mod fault;
