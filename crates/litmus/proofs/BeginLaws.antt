@@ -6,7 +6,7 @@ use Rattle.litmus.specs.declared.words.Token.TheVariants as token
 use Rattle.litmus.specs.Formulas.{Formula, is}
 use Rattle.litmus.specs.Grammar.{Begins}
 use Rattle.litmus.specs.Drafting.{Group, Stage, awaits, has, empty_group, disjunction_of, negated_by, all_taken, stage_after, formula_at, or_misplaced, with_word, told, finished}
-use Rattle.litmus.specs.Building.{Build, build_at}
+use Rattle.litmus.specs.inner.Building.{Build, build_at}
 use Rattle.litmus.proofs.StageLaws.{all_taken-append}
 use Rattle.litmus.proofs.GrammarLaws.{finished_only}
 use Rattle.litmus.proofs.FrontLaws.{finished_found}

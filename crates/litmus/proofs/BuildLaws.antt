@@ -11,7 +11,7 @@ use Rattle.litmus.specs.declared.words.Mark.{Mark}
 use Rattle.litmus.specs.Formulas.{Formula, is}
 use Rattle.litmus.specs.Steps.{steps_of}
 use Rattle.litmus.specs.Drafting.{Group, Stage, awaits, has, negated_by, conjoined, disjoined, conjunction_of, disjunction_of, completed, taken}
-use Rattle.litmus.specs.Building.{Build, and_closed, or_closed, all_closed, with_operand, with_and, with_or, with_close, built, empty_mark, or_steps, and_steps, steps_around, end_of, mark_of, marks_around, build_of, build_at}
+use Rattle.litmus.specs.inner.Building.{Build, and_closed, or_closed, all_closed, with_operand, with_and, with_or, with_close, built, empty_mark, or_steps, and_steps, steps_around, end_of, mark_of, marks_around, build_of, build_at}
 
 pub replicate_last : (n : ℕ) (s : Step) → replicate n s ++ s ∷ [] ≡ s ∷ replicate n s
 replicate_last zero s = refl

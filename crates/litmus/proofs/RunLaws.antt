@@ -9,7 +9,7 @@ use Rattle.litmus.specs.declared.words.Step.TheVariants as step
 use Rattle.litmus.specs.Formulas.{Formula, is, negation, both, either, truth, places}
 use Rattle.litmus.specs.Steps.{steps_of}
 use Rattle.litmus.specs.Questions.{IsThere}
-use Rattle.litmus.specs.Running.{done, all_done, asked_by, AsksThere}
+use Rattle.litmus.specs.inner.Running.{done, all_done, asked_by, AsksThere}
 
 -- the steps that are skipped change nothing
 pub all_done-skipped : (value_of : Place → ℕ) (so_far : Bool) (skipped rest : List Step) → all_done value_of so_far (length skipped) (skipped ++ rest) ≡ all_done value_of so_far 0 rest

@@ -8,9 +8,9 @@ use Rattle.litmus.specs.declared.words.Place.TheVariants as place
 use Rattle.litmus.specs.declared.words.Step.{Step}
 use Rattle.litmus.specs.declared.words.Step.TheVariants as step
 use Rattle.litmus.specs.Questions.{IsThere, is_same, firsts}
-use Rattle.litmus.specs.Running.{asked_by, AsksThere}
+use Rattle.litmus.specs.inner.Running.{asked_by, AsksThere}
 use Rattle.litmus.proofs.RunLaws.{asked_by-AsksThere}
-use Rattle.litmus.specs.Seen.{index_of, is_seen, after_place, after_seen, left_to_see}
+use Rattle.litmus.specs.inner.Seen.{index_of, is_seen, after_place, after_seen, left_to_see}
 
 -- two places that are there have one entry exactly where they are the same
 index-register : (h n i m : ℕ) (a b : Bool) → n < 32 → m < 32 → h == i ≡ a → n == m ≡ b → (h * 32 + n == i * 32 + m) ≡ (a && b)

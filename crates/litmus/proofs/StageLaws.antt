@@ -9,10 +9,10 @@ use Rattle.litmus.specs.declared.draft.ConditionError.{ConditionError}
 use Rattle.litmus.specs.declared.draft.ConditionError.TheVariants.{NoMemory, Misplaced}
 use Rattle.litmus.specs.Formulas.{Formula}
 use Rattle.litmus.specs.Steps.{steps_of, formula_of}
-use Rattle.litmus.specs.StepLaws.{formula_of-steps_of}
+use Rattle.litmus.specs.inner.StepLaws.{formula_of-steps_of}
 use Rattle.litmus.specs.Faults.{fault_of}
 use Rattle.litmus.specs.Drafting.{Group, Stage, awaits, has, empty_group, disjunction_of, enclosed, taken, taken_from, all_taken, stage_after, formula_at, or_misplaced, with_word, told, finished}
-use Rattle.litmus.specs.Building.{Build, all_closed, built, is_empty, is_finished, IsWithin, or_steps, and_steps, steps_around, end_of, mark_of, marks_around, build_of, build_at}
+use Rattle.litmus.specs.inner.Building.{Build, all_closed, built, is_empty, is_finished, IsWithin, or_steps, and_steps, steps_around, end_of, mark_of, marks_around, build_of, build_at}
 use Rattle.litmus.proofs.BuildLaws.{built-law, all_closed-law}
 
 pub all_taken-append : (stage : Option Stage) (left right : List Token) → all_taken stage (left ++ right) ≡ all_taken (all_taken stage left) right

@@ -5,7 +5,7 @@ use Rattle.litmus.specs.declared.words.Step.{Step}
 use Rattle.litmus.specs.Formulas.{Formula, places}
 use Rattle.litmus.specs.Steps.{steps_of}
 use Rattle.litmus.specs.Questions.{Question, IsThere, IsTest, firsts, left_sides}
-use Rattle.litmus.specs.Running.{AsksThere, asked_by}
+use Rattle.litmus.specs.inner.Running.{AsksThere, asked_by}
 use Rattle.litmus.proofs.RunLaws.{AsksThere-steps_of, AreThere-more, asked_by-steps_of}
 use Rattle.litmus.proofs.SeenLaws.{firsts-all}
 

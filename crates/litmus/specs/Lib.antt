@@ -1,12 +1,8 @@
 pub mod Formulas
 pub mod Grammar
 pub mod Steps
-pub mod StepLaws
-pub mod Codes
 pub mod Drafting
-pub mod Building
 pub mod Faults
 pub mod Questions
 pub mod Verdicts
-pub mod Running
-pub mod Seen
+pub mod inner

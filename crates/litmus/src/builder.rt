@@ -4,7 +4,7 @@ ghost use Rattle.std.specs.Prelude.{◌≡◌, ◌+◌, ◌<◌, ◌≤◌, ◌^
 ghost use Rattle.std.specs.List.{slice_get};
 ghost use Rattle.texts.specs.Results.{Gives};
 ghost use Rattle.litmus.specs.declared.words.Step.TheVariants.{Not};
-ghost use Rattle.litmus.specs.Building.{and_closed, or_closed, all_closed};
+ghost use Rattle.litmus.specs.inner.Building.{and_closed, or_closed, all_closed};
 
 use crate::draft::ConditionError;
 use crate::words::{Mark, Place, Step, Token};
@@ -28,7 +28,7 @@ pub(crate) struct Builder {
 }
 
 impl Model for Builder {
-    ghost use Rattle.litmus.specs.Building.{Build};
+    ghost use Rattle.litmus.specs.inner.Building.{Build};
 
     ghost Value = { Build };
 
@@ -84,7 +84,7 @@ fn innermost(around: &[Mark]) -> Option<Mark>
 }
 
 impl Builder {
-    ghost use Rattle.litmus.specs.Building.{empty_build, built, with_group, with_and, with_or, with_close, with_operand, is_finished, IsWithin};
+    ghost use Rattle.litmus.specs.inner.Building.{empty_build, built, with_group, with_and, with_or, with_close, with_operand, is_finished, IsWithin};
     ghost use Rattle.litmus.specs.Drafting.{or_misplaced};
     ghost use Rattle.litmus.specs.Faults.{fault_of};
     ghost use Rattle.std.specs.Prelude.{◌∷◌, [], take};
@@ -102,7 +102,7 @@ impl Builder {
     }
 
     /// Builds on by one word. An `Err` changes nothing.
-    #[tactic(auto, unfolding(crate::specs::Building::built))]
+    #[tactic(auto, unfolding(crate::specs::inner::Building::built))]
     pub(crate) fn take(&mut self, token: Token) -> Result<(), ConditionError>
         requires room { self.old.here.negations + 1 < 2 ^ 64 }
         requires within { IsWithin (length self.old.steps) self.old.here }
@@ -116,7 +116,7 @@ impl Builder {
         }
     }
 
-    #[tactic(auto, unfolding(crate::specs::Building::built))]
+    #[tactic(auto, unfolding(crate::specs::inner::Building::built))]
     fn take_before_operand(&mut self, token: Token) -> Result<(), ConditionError>
         requires room { self.old.here.negations + 1 < 2 ^ 64 }
         requires before { self.old.has_operand ≡ false }
@@ -136,7 +136,7 @@ impl Builder {
         }
     }
 
-    #[tactic(auto, unfolding(crate::specs::Building::built))]
+    #[tactic(auto, unfolding(crate::specs::inner::Building::built))]
     fn take_after_operand(&mut self, token: Token) -> Result<(), ConditionError>
         requires within { IsWithin (length self.old.steps) self.old.here }
         requires after { self.old.has_operand ≡ true }

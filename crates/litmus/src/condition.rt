@@ -3,7 +3,7 @@
 ghost use Rattle.std.specs.Prelude.{◌≡◌, ◌↔◌, IsTrue, All};
 ghost use Rattle.litmus.specs.Formulas.{places};
 ghost use Rattle.litmus.specs.Questions.{IsThere};
-ghost use Rattle.litmus.specs.Running.{AsksThere};
+ghost use Rattle.litmus.specs.inner.Running.{AsksThere};
 ghost use Rattle.litmus.specs.Steps.{steps_of, formula_of};
 
 use crate::words::{Place, Step};
@@ -19,7 +19,7 @@ impl Model for Condition {
     ghost use Rattle.std.specs.Prelude.{◌≡◌};
     ghost use Rattle.litmus.specs.Formulas.{Formula};
     ghost use Rattle.litmus.specs.Steps.{steps_of, formula_of};
-    ghost use Rattle.litmus.specs.Codes.{formula_code};
+    ghost use Rattle.litmus.specs.inner.Codes.{formula_code};
 
     ghost Value = { Formula };
 

@@ -50,7 +50,7 @@ impl Model for ConditionDraft {
     ghost use Rattle.std.specs.Prelude.{◌≡◌, List, Some};
     ghost use Rattle.litmus.specs.declared.words.Token.{Token};
     ghost use Rattle.litmus.specs.Drafting.{stage_after};
-    ghost use Rattle.litmus.specs.Building.{build_at};
+    ghost use Rattle.litmus.specs.inner.Building.{build_at};
 
     ghost Value = { List Token };
 

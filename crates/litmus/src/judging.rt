@@ -3,7 +3,7 @@
 ghost use Rattle.std.specs.Prelude.{◌≡◌, ◌↔◌, ◌<◌, IsTrue, IfOk, All, true, length, map};
 ghost use Rattle.litmus.specs.Formulas.{truth, places};
 ghost use Rattle.litmus.specs.Questions.{IsThere};
-ghost use Rattle.litmus.specs.Running.{done, all_done, AsksThere};
+ghost use Rattle.litmus.specs.inner.Running.{done, all_done, AsksThere};
 ghost use Rattle.litmus.specs.Verdicts.{HasFinished, IsFinished, final_value, is_asked_for as asked_for};
 
 use crate::condition::Condition;

@@ -2,8 +2,8 @@
 
 ghost use Rattle.std.specs.Prelude.{◌≡◌, ◌+◌, ◌<◌, ◌++◌, IfOk, OnOk, All, true, false, length, replicate, slice_set};
 ghost use Rattle.litmus.specs.Questions.{IsThere, firsts};
-ghost use Rattle.litmus.specs.Running.{AsksThere, asked_by};
-ghost use Rattle.litmus.specs.Seen.{index_of as place_index, unless_seen, after_place, after_seen};
+ghost use Rattle.litmus.specs.inner.Running.{AsksThere, asked_by};
+ghost use Rattle.litmus.specs.inner.Seen.{index_of as place_index, unless_seen, after_place, after_seen};
 
 use crate::words::{Place, Step};
 use std::alloc::{AllocError, Global};

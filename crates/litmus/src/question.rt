@@ -27,7 +27,7 @@ impl Model for Test {
     ghost use Rattle.std.specs.String.{string_bytes};
     ghost use Rattle.litmus.specs.Questions.{Question, IsTest, left_sides};
     ghost use Rattle.std.specs.Coded.{codes};
-    ghost use Rattle.litmus.specs.Codes.{formula_code};
+    ghost use Rattle.litmus.specs.inner.Codes.{formula_code};
 
     ghost Value = { Question };
 

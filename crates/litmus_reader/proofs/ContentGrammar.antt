@@ -1,19 +1,14 @@
 -- The reading of a text answers the test that its grammar says, and no other text has one.
-use Rattle.std.proofs.Common.{◌≡◌, ℕ, suc, ◌+◌, ◌<◌, ◌≤◌, List, [], ◌∷◌, ◌++◌, length, map, All, Option, Some, None, Result, Ok, Err, refl, sym, ap, subst, ◌∙◌, arith}
-use Rattle.std.specs.Prelude.{IfOk}
+use Rattle.std.proofs.Common.{◌≡◌, ℕ, suc, ◌+◌, ◌<◌, ◌≤◌, List, [], ◌∷◌, ◌++◌, length, map, All, Option, Some, None, Ok, refl, sym, ap, subst, arith}
 use Rattle.std.specs.List.{slice_index_or}
 use Rattle.std.proofs.lemmas.List.{length-map}
-use Rattle.texts.specs.Results.{Gives}
 use Rattle.texts.specs.Cutting.{before, after, is_byte}
 use Rattle.texts.proofs.ResultLaws.{bind_ok, ok_is}
-use Rattle.litmus.specs.Questions.{Question}
 use Rattle.litmus_words.specs.Cleaning.{cleaned_text}
 use Rattle.litmus_words.specs.Settings.{Put}
 use Rattle.litmus_words.proofs.CommentLaws.{is_cleaned, only_cleaned}
 use Rattle.litmus_reader.specs.declared.faults.LitmusFault.{LitmusFault}
-use Rattle.litmus_reader.specs.declared.faults.LitmusError.{LitmusError}
 use Rattle.litmus_reader.specs.declared.marks.Mark.TheVariants as mark
-use Rattle.litmus_reader.specs.Faults.{fault_of}
 use Rattle.litmus_reader.specs.Marks.{before_line, from_line}
 use Rattle.litmus_reader.specs.Header.{behind_header, behind_brace}
 use Rattle.litmus_reader.specs.Parts.{parts}
@@ -22,11 +17,11 @@ use Rattle.litmus_reader.specs.Init.{Settings, items_at, behind_init, no_setting
 use Rattle.litmus_reader.specs.Table.{Code, Column, table_at, codes_of}
 use Rattle.litmus_reader.specs.Values.{Values, values_at, padded}
 use Rattle.litmus_reader.specs.Condition.{Condition, condition_in, condition_at}
-use Rattle.litmus_reader.specs.Reading.{HartContent, Content, content_of, with_registers, content, content_below, content_behind, content_at, test_at}
+use Rattle.litmus_reader.specs.Reading.{HartContent, Content, with_registers, content, content_below, content_behind, content_at, test_at}
 use Rattle.litmus_reader.specs.Openings.{names_in, each_once, AreRegisters, AreFirstWords, IsHartThere}
 use Rattle.litmus_reader.specs.Columns.{Cells, IsTable}
 use Rattle.litmus_reader.specs.Asked.{atoms_in, AreKnown}
-use Rattle.litmus_reader.specs.Grammar.{AreHarts, IsContent, HasPlainCode, IsTestOf}
+use Rattle.litmus_reader.specs.Grammar.{AreHarts, IsContent}
 use Rattle.litmus_reader.proofs.MeetLaws.{fewer}
 use Rattle.litmus_reader.proofs.ShapeLaws.{parts_found, parts_only}
 use Rattle.litmus_reader.proofs.LayoutLaws.{layout_found, layout_only}

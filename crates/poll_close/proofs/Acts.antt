@@ -1,7 +1,7 @@
 -- What one entry changes of all that is read off a history: an act by its hart's need, a landing by
 -- the store that lands. All rings go by these two records and by nothing else of the machine.
-use Rattle.std.proofs.Common.{ℕ, ◌<◌, ◌≡◌, ◌≢◌, ◌==◌, Bool, true, false, List, [], ◌∷◌, ◌++◌, length, take, drop, Some, if◌then◌else◌, refl, sym, ◌∙◌, ap, subst, arith, eq-eqb, append-nil}
-use Rattle.std.specs.Prelude.{option_map}
+use Rattle.std.proofs.Common.{ℕ, ◌/◌, ◌<◌, ◌≡◌, ◌≢◌, ◌==◌, Bool, true, false, List, [], ◌∷◌, ◌++◌, length, take, drop, Option, Some, None, if◌then◌else◌, refl, sym, ◌∙◌, ap, subst, arith, eq-eqb, append-nil}
+use Rattle.std.specs.Prelude.{option_map, unwrap_or, slice_index}
 use Rattle.std.proofs.lemmas.Bool.Decides.{nat_tests}
 use Rattle.hart.specs.State.{HartState}
 use Rattle.hart.specs.Steps.{need_of, advanced}
@@ -13,21 +13,28 @@ use Rattle.hart.specs.declared.need.Report.TheVariants as report
 use Rattle.step_machine.specs.declared.events.Entry.{Entry}
 use Rattle.step_machine.specs.declared.events.Entry.TheVariants as entry
 use Rattle.poll_close.specs.Going.{GoesOn}
-use Rattle.step_machine.specs.History.{History, with_entry}
-use Rattle.step_machine.specs.Entries.{hart_of, is_land, is_own, store_of, land_of, write_of, report_of, pending, memory_word, read, reported}
+use Rattle.poll_close.specs.Invariant.Blocks.{as_write, as_writes}
+use Rattle.poll_close.proofs.Lines.{loads}
+use Rattle.step_machine.specs.History.{Start, History, with_entry}
+use Rattle.step_machine.specs.Entries.{hart_of, is_land, is_own, store_of, land_of, write_of, report_of, pending, read, reported}
+use Rattle.step_machine.specs.Entries as step
+use Rattle.step_machine.specs.Access.{access_of}
+use Rattle.step_machine.specs.WordReads.{WritesWord, word_in_memory}
+use Rattle.memory.specs.declared.writes.Write.{Write}
+use Rattle.memory.specs.Writes.{write, newest_word, IsWholeWord}
 use Rattle.step_machine.specs.Paths.{entry_of, value_of, CanMake, state_of}
 use Rattle.step_machine.specs.Legal.{Allowed, Legal}
 use Rattle.step_machine.specs.Runs.{CanFollow}
-use Rattle.step_machine.proofs.Appended.{pending-last, reported-last}
+use Rattle.step_machine.proofs.Appended.{pending-last, reported-last, landed-last}
 use Rattle.step_machine.proofs.Balanced.{balanced}
 use Rattle.step_machine.proofs.Follows.{act_only, state_of-mine, state_of-other, Legal-last}
-use Rattle.step_machine.proofs.Stays.{states_land, pending-land, pending-other, land_of-other, memory_word-other, memory_word-write}
+use Rattle.step_machine.proofs.Stays.{states_land, pending-land, pending-other, land_of-other}
 
--- what a need stores, and what it reports
+-- the word that a need stores, with its address, and what it reports
 abbrev pub stored_by : Need → List (ℕ × ℕ)
 stored_by need.Inner = []
-stored_by (need.Load a) = []
-stored_by (need.Store a w) = (a, w) ∷ []
+stored_by (need.Load a width) = []
+stored_by (need.Store a width w) = (a, w) ∷ []
 stored_by (need.Amo a op rs2) = []
 stored_by (need.Fence full) = []
 stored_by (need.Next w) = []
@@ -37,8 +44,8 @@ stored_by (need.Stop why) = []
 
 abbrev pub said_by : Need → List Report
 said_by need.Inner = []
-said_by (need.Load a) = []
-said_by (need.Store a w) = []
+said_by (need.Load a width) = []
+said_by (need.Store a width w) = []
 said_by (need.Amo a op rs2) = []
 said_by (need.Fence full) = []
 said_by (need.Next w) = []
@@ -46,11 +53,15 @@ said_by (need.Report r) = r ∷ []
 said_by need.Exit = []
 said_by (need.Stop why) = []
 
--- an act that leaves memory as it is
+abbrev pub Holds : Bool → Type 0
+Holds true = Unit {0}
+Holds false = ⊥
+
+-- an act that leaves memory as it is, and loads or stores a whole word if any
 abbrev pub IsNoAmo : Need → Type 0
 IsNoAmo need.Inner = Unit {0}
-IsNoAmo (need.Load a) = Unit {0}
-IsNoAmo (need.Store a w) = Unit {0}
+IsNoAmo (need.Load a width) = Holds (width == 4)
+IsNoAmo (need.Store a width w) = Holds (width == 4)
 IsNoAmo (need.Amo a op rs2) = ⊥
 IsNoAmo (need.Fence full) = Unit {0}
 IsNoAmo (need.Next w) = Unit {0}
@@ -58,9 +69,13 @@ IsNoAmo (need.Report r) = Unit {0}
 IsNoAmo need.Exit = Unit {0}
 IsNoAmo (need.Stop why) = ⊥
 
+whole_width : (width : ℕ) (b : Bool) → (width == 4) ≡ b → Holds b → width ≡ 4
+whole_width width true is plain = grind (arith, nat_tests)
+whole_width width false is plain = absurd plain
+
 -- the entry that hart h makes of a need, as each definition sees it
 record Seen (h k : ℕ) (same : Bool) (es : List Entry) (n : Need) (e : Entry) : Type 0 where
-  stores : store_of k e ≡ (if same then stored_by n else [])
+  stores : store_of k e ≡ (if same then as_writes (stored_by n) else [])
   says : report_of k e ≡ (if same then said_by n else [])
   lands : land_of k e ≡ 0
   writes : write_of es e ≡ []
@@ -68,10 +83,10 @@ record Seen (h k : ℕ) (same : Bool) (es : List Entry) (n : Need) (e : Entry) :
 seen : (h k : ℕ) (same : Bool) (es : List Entry) (n : Need) (v : ℕ) → (h == k) ≡ same → IsNoAmo n → Seen h k same es n (entry_of h n v)
 seen h k true es need.Inner v is plain = record { stores = refl; says = refl; lands = refl; writes = refl }
 seen h k false es need.Inner v is plain = record { stores = refl; says = refl; lands = refl; writes = refl }
-seen h k true es (need.Load a) v is plain = record { stores = refl; says = refl; lands = refl; writes = refl }
-seen h k false es (need.Load a) v is plain = record { stores = refl; says = refl; lands = refl; writes = refl }
-seen h k true es (need.Store a w) v is plain = record { stores = rw is refl; says = refl; lands = refl; writes = refl }
-seen h k false es (need.Store a w) v is plain = record { stores = rw is refl; says = refl; lands = refl; writes = refl }
+seen h k true es (need.Load a width) v is plain = record { stores = refl; says = refl; lands = refl; writes = refl }
+seen h k false es (need.Load a width) v is plain = record { stores = refl; says = refl; lands = refl; writes = refl }
+seen h k true es (need.Store a width w) v is plain = record { stores = rw is (ap (λ z. write a z w ∷ []) (whole_width width (width == 4) refl plain)); says = refl; lands = refl; writes = refl }
+seen h k false es (need.Store a width w) v is plain = record { stores = rw is refl; says = refl; lands = refl; writes = refl }
 seen h k same es (need.Amo a op rs2) v is plain = absurd plain
 seen h k true es (need.Fence full) v is plain = record { stores = refl; says = refl; lands = refl; writes = refl }
 seen h k false es (need.Fence full) v is plain = record { stores = refl; says = refl; lands = refl; writes = refl }
@@ -88,8 +103,8 @@ seen h k same es (need.Stop why) v is plain = absurd plain
 -- such a need's entry is no stop
 goes_on : (h : ℕ) (n : Need) (v : ℕ) → IsNoAmo n → GoesOn (entry_of h n v)
 goes_on h need.Inner v plain = tt
-goes_on h (need.Load a) v plain = tt
-goes_on h (need.Store a w) v plain = tt
+goes_on h (need.Load a width) v plain = tt
+goes_on h (need.Store a width w) v plain = tt
 goes_on h (need.Amo a op rs2) v plain = absurd plain
 goes_on h (need.Fence full) v plain = tt
 goes_on h (need.Next w) v plain = tt
@@ -98,13 +113,51 @@ goes_on h (need.Report (report.Closed i)) v plain = tt
 goes_on h need.Exit v plain = tt
 goes_on h (need.Stop why) v plain = absurd plain
 
-pub going : (B M : ℕ) (t : History) (h : ℕ) (s : HartState) (e : Entry) → state_of M t h ≡ Some s → CanFollow B M t e → hart_of e ≡ h → is_land e ≡ false → (s.status ≡ status.Running → IsNoAmo (need_of s)) → GoesOn e
-going B M t h s e is can mine act no_amo =
+-- and what it writes, if it writes, is a whole word
+writes_word : (h : ℕ) (n : Need) (v : ℕ) → IsNoAmo n → ((x : ℕ × ℕ) → stored_by n ≡ x ∷ [] → IsWholeWord (as_write x)) → WritesWord (access_of (entry_of h n v))
+writes_word h need.Inner v plain whole = tt
+writes_word h (need.Load a width) v plain whole = tt
+writes_word h (need.Store a width w) v plain whole = subst (λ (z : ℕ). IsWholeWord (write a z w)) (sym (whole_width width (width == 4) refl plain)) (whole (a, w) refl)
+writes_word h (need.Amo a op rs2) v plain whole = absurd plain
+writes_word h (need.Fence full) v plain whole = tt
+writes_word h (need.Next w) v plain whole = tt
+writes_word h (need.Report (report.Took i w)) v plain whole = tt
+writes_word h (need.Report (report.Closed i)) v plain whole = tt
+writes_word h need.Exit v plain whole = tt
+writes_word h (need.Stop why) v plain whole = absurd plain
+
+-- an act by such a need, which stores a word if any
+pub record Plain (n : Need) : Type 0 where
+  pub no_amo : IsNoAmo n
+  pub whole : (x : ℕ × ℕ) → stored_by n ≡ x ∷ [] → IsWholeWord (as_write x)
+
+pub going : (B M : ℕ) (t : History) (h : ℕ) (s : HartState) (e : Entry) → state_of M t h ≡ Some s → CanFollow B M t e → hart_of e ≡ h → is_land e ≡ false → (s.status ≡ status.Running → Plain (need_of s)) → GoesOn e × WritesWord (access_of e)
+going B M t h s e is can mine act plain =
     let both : CanMake s e × Allowed B t.opening t.entries e = act_only B M t h s e mine act is can in
-    subst GoesOn (sym both.0.made) (goes_on (hart_of e) (need_of s) (value_of e) (no_amo both.0.running))
+    let p : Plain (need_of s) = plain both.0.running in
+    (subst GoesOn (sym both.0.made) (goes_on (hart_of e) (need_of s) (value_of e) p.no_amo),
+     subst (λ (d : Entry). WritesWord (access_of d)) (sym both.0.made) (writes_word (hart_of e) (need_of s) (value_of e) p.no_amo p.whole))
+
+-- an entry that writes nothing leaves every word; one that writes changes the word at its address
+newest_word-append : (a : ℕ) (found : Option ℕ) (ws vs : List Write) → newest_word a found (ws ++ vs) ≡ newest_word a (newest_word a found ws) vs
+newest_word-append a found [] vs = refl
+newest_word-append a found (w ∷ ws) vs = newest_word-append a (if w.addr == a then Some w.value else found) ws vs
+
+word-other : (o : Start) (es : List Entry) (e : Entry) (a : ℕ) → write_of es e ≡ [] → word_in_memory o (es ++ e ∷ []) a ≡ word_in_memory o es a
+word-other o es e a none = ap (λ ws. unwrap_or (newest_word a None ws) (slice_index o.words (a / 4))) (landed-last es e ∙ ap (λ ws. step.landed es ++ ws) none ∙ append-nil (step.landed es))
+
+word-write : (o : Start) (es : List Entry) (e : Entry) (w : Write) (a : ℕ) → write_of es e ≡ w ∷ [] → word_in_memory o (es ++ e ∷ []) a ≡ (if w.addr == a then w.value else word_in_memory o es a)
+word-write o es e w a is =
+    ap (λ ws. unwrap_or (newest_word a None ws) (slice_index o.words (a / 4))) (landed-last es e ∙ ap (λ ws. step.landed es ++ ws) is)
+    ∙ ap (λ f. unwrap_or f (slice_index o.words (a / 4))) (newest_word-append a None (step.landed es) (w ∷ []))
+    ∙ chosen (w.addr == a)
+  where
+    chosen : (b : Bool) → unwrap_or (if b then Some w.value else newest_word a None (step.landed es)) (slice_index o.words (a / 4)) ≡ (if b then w.value else word_in_memory o es a)
+    chosen true = refl
+    chosen false = refl
 
 -- what a load read
-reads_by : (B : ℕ) (t : History) (h a v : ℕ) → Allowed B t.opening t.entries (entry_of h (need.Load a) v) → v ≡ read t.opening t.entries h a
+reads_by : (B : ℕ) (t : History) (h a v : ℕ) → Allowed B t.opening t.entries (entry_of h (loads a) v) → v ≡ read t.opening t.entries h a 4
 reads_by B t h a v allowed = allowed
 
 -- hart h acted in state s, and read v
@@ -112,17 +165,17 @@ pub record Acted (M : ℕ) (t new : History) (h : ℕ) (s : HartState) (v : ℕ)
   pub running : s.status ≡ status.Running
   pub state : state_of M new h ≡ Some (advanced s v)
   pub states : (k : ℕ) → k ≢ h → state_of M new k ≡ state_of M t k
-  pub buffer : pending h new.entries ≡ pending h t.entries ++ stored_by (need_of s)
+  pub buffer : pending h new.entries ≡ pending h t.entries ++ as_writes (stored_by (need_of s))
   pub buffers : (k : ℕ) → k ≢ h → pending k new.entries ≡ pending k t.entries
-  pub memory : (a : ℕ) → memory_word new.opening new.entries a ≡ memory_word t.opening t.entries a
+  pub memory : (a : ℕ) → word_in_memory new.opening new.entries a ≡ word_in_memory t.opening t.entries a
   pub reports : reported h new.entries ≡ reported h t.entries ++ said_by (need_of s)
   pub others : (k : ℕ) → k ≢ h → reported k new.entries ≡ reported k t.entries
-  pub loaded : (a : ℕ) → need_of s ≡ need.Load a → v ≡ read t.opening t.entries h a
+  pub loaded : (a : ℕ) → need_of s ≡ loads a → v ≡ read t.opening t.entries h a 4
 
-pub acted : (B M : ℕ) (t : History) (h : ℕ) (s : HartState) (e : Entry) → Legal B t → state_of M t h ≡ Some s → CanFollow B M t e → hart_of e ≡ h → is_land e ≡ false → (s.status ≡ status.Running → IsNoAmo (need_of s)) → Acted M t (with_entry t e) h s (value_of e)
+pub acted : (B M : ℕ) (t : History) (h : ℕ) (s : HartState) (e : Entry) → Legal B t → state_of M t h ≡ Some s → CanFollow B M t e → hart_of e ≡ h → is_land e ≡ false → (s.status ≡ status.Running → Plain (need_of s)) → Acted M t (with_entry t e) h s (value_of e)
 acted B M t h s e legal is can mine act no_amo =
     let both : CanMake s e × Allowed B t.opening t.entries e = act_only B M t h s e mine act is can in
-    let plain : IsNoAmo (need_of s) = no_amo both.0.running in
+    let plain : IsNoAmo (need_of s) = (no_amo both.0.running).no_amo in
     let made : e ≡ entry_of h (need_of s) (value_of e) = subst (λ (j : ℕ). e ≡ entry_of j (need_of s) (value_of e)) mine both.0.made in
     let me : Seen h h true t.entries (need_of s) e = subst (λ (d : Entry). Seen h h true t.entries (need_of s) d) (sym made) (seen h h true t.entries (need_of s) (value_of e) (eq-eqb h h refl) plain) in
     record {
@@ -131,7 +184,7 @@ acted B M t h s e legal is can mine act no_amo =
       states = λ k other. state_of-other M t k e (not_mine k (λ same. other (same ∙ mine)));
       buffer = pending-last h t.entries e (balanced B t h legal) ∙ ap (λ j. drop j (pending h t.entries ++ store_of h e)) me.lands ∙ ap (λ ps. pending h t.entries ++ ps) me.stores;
       buffers = λ k other. pending-last k t.entries e (balanced B t k legal) ∙ ap (λ j. drop j (pending k t.entries ++ store_of k e)) (them plain made k other).lands ∙ ap (λ ps. pending k t.entries ++ ps) (them plain made k other).stores ∙ append-nil (pending k t.entries);
-      memory = λ a. memory_word-other t.opening t.entries e a me.writes;
+      memory = λ a. word-other t.opening t.entries e a me.writes;
       reports = reported-last h t.entries e ∙ ap (λ rs. reported h t.entries ++ rs) me.says;
       others = λ k other. reported-last k t.entries e ∙ ap (λ rs. reported k t.entries ++ rs) (them plain made k other).says ∙ append-nil (reported k t.entries);
       loaded = λ a wants. reads_by B t h a (value_of e) (subst (Allowed B t.opening t.entries) (made ∙ ap (λ n. entry_of h n (value_of e)) wants) both.1);
@@ -143,19 +196,19 @@ acted B M t h s e legal is can mine act no_amo =
     them plain made k other = let off : (h == k) ≡ false = grind (arith, nat_tests) in subst (λ (d : Entry). Seen h k false t.entries (need_of s) d) (sym made) (seen h k false t.entries (need_of s) (value_of e) off plain)
 
 -- hart h's oldest pending store x reached memory
-pub record Landed (M : ℕ) (t new : History) (h : ℕ) (x : ℕ × ℕ) (rest : List (ℕ × ℕ)) : Type 0 where
-  pub first : pending h t.entries ≡ x ∷ rest
+pub record Landed (M : ℕ) (t new : History) (h : ℕ) (w : Write) (rest : List Write) : Type 0 where
+  pub first : pending h t.entries ≡ w ∷ rest
   pub states : (k : ℕ) → state_of M new k ≡ state_of M t k
   pub buffer : pending h new.entries ≡ rest
   pub buffers : (k : ℕ) → k ≢ h → pending k new.entries ≡ pending k t.entries
-  pub memory : (a : ℕ) → memory_word new.opening new.entries a ≡ (if x.0 == a then x.1 else memory_word t.opening t.entries a)
+  pub memory : (a : ℕ) → word_in_memory new.opening new.entries a ≡ (if w.addr == a then w.value else word_in_memory t.opening t.entries a)
   pub reports : (k : ℕ) → reported k new.entries ≡ reported k t.entries
 
-some_first : (ps : List (ℕ × ℕ)) → 0 < length ps → (x : ℕ × ℕ) × (rest : List (ℕ × ℕ)) × (ps ≡ x ∷ rest)
+some_first : (ws : List Write) → 0 < length ws → (w : Write) × (rest : List Write) × (ws ≡ w ∷ rest)
 some_first [] some = absurd (omega arith)
-some_first (x ∷ ps) some = (x, ps, refl)
+some_first (w ∷ ws) some = (w, ws, refl)
 
-pub landed : (B M : ℕ) (t : History) (h : ℕ) → Legal B t → CanFollow B M t (entry.Land h) → (x : ℕ × ℕ) × (rest : List (ℕ × ℕ)) × Landed M t (with_entry t (entry.Land h)) h x rest
+pub landed : (B M : ℕ) (t : History) (h : ℕ) → Legal B t → CanFollow B M t (entry.Land h) → (w : Write) × (rest : List Write) × Landed M t (with_entry t (entry.Land h)) h w rest
 landed B M t h legal can =
     let some = some_first (pending h t.entries) (Legal-last B t (entry.Land h) can.legal) in
     (some.0, some.1, record {
@@ -163,6 +216,6 @@ landed B M t h legal can =
       states = λ k. states_land M t h k;
       buffer = pending-land B t h legal ∙ ap (drop 1) some.2;
       buffers = λ k other. pending-other B t k (entry.Land h) legal refl (land_of-other h k other);
-      memory = λ a. memory_word-write t.opening t.entries (entry.Land h) some.0.0 some.0.1 a (ap (take 1) some.2);
+      memory = λ a. word-write t.opening t.entries (entry.Land h) some.0 a (ap (take 1) some.2);
       reports = λ k. reported-last k t.entries (entry.Land h) ∙ append-nil (reported k t.entries);
     })

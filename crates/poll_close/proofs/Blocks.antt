@@ -5,8 +5,10 @@ use Rattle.std.proofs.lemmas.List.Elements.{filter-append}
 use Rattle.std.proofs.lemmas.Bool.{cases_lt, cases_eq}
 use Rattle.std.proofs.lemmas.Bool.Decides.{nat_tests}
 use Rattle.std.proofs.lemmas.Nat.{mod_below, row_fits}
+use Rattle.memory.specs.declared.writes.Write.{Write}
+use Rattle.memory.specs.Writes.{newest_word, IsWholeWord}
 use Rattle.poll_close.specs.Layout.{block_size}
-use Rattle.poll_close.specs.Invariant.Blocks.{Block, block_of, offset, slot, is_within, is_to, to_block}
+use Rattle.poll_close.specs.Invariant.Blocks.{Block, block_of, offset, slot, is_within, as_write, as_writes, is_to, to_block}
 use Rattle.poll_close.proofs.Windows.{newest_to}
 
 -- a block that an opening lays out, and its words
@@ -67,20 +69,20 @@ apart M S lists i j a other h g =
       | inr more ↦ apart_below M S lists j i a (omega arith) g h
     ]
 
-to_block-none : (k : Block) (ps : List (ℕ × ℕ)) (x : ℕ × ℕ) → is_within k x.0 ≡ false → to_block k (ps ++ x ∷ []) ≡ to_block k ps
-to_block-none k ps x off = filter-append (is_to k) ps (x ∷ []) ∙ ap (λ b. to_block k ps ++ (if b then x ∷ [] else [])) off ∙ append-nil (to_block k ps)
+to_block-none : (k : Block) (ws : List Write) (w : Write) → is_within k w.addr ≡ false → to_block k (ws ++ w ∷ []) ≡ to_block k ws
+to_block-none k ws w off = filter-append (is_to k) ws (w ∷ []) ∙ ap (λ b. to_block k ws ++ (if b then w ∷ [] else [])) off ∙ append-nil (to_block k ws)
 
-to_block-one : (k : Block) (ps : List (ℕ × ℕ)) (x : ℕ × ℕ) → is_within k x.0 ≡ true → to_block k (ps ++ x ∷ []) ≡ to_block k ps ++ x ∷ []
-to_block-one k ps x on = filter-append (is_to k) ps (x ∷ []) ∙ ap (λ b. to_block k ps ++ (if b then x ∷ [] else [])) on
+to_block-one : (k : Block) (ws : List Write) (w : Write) → is_within k w.addr ≡ true → to_block k (ws ++ w ∷ []) ≡ to_block k ws ++ w ∷ []
+to_block-one k ws w on = filter-append (is_to k) ws (w ∷ []) ∙ ap (λ b. to_block k ws ++ (if b then w ∷ [] else [])) on
 
 -- at most one store is made: within the block it joins the block's part, and no other's
-pub to_block-stored : (k : Block) (ps qs : List (ℕ × ℕ)) → (qs ≡ []) ⊎ ((x : ℕ × ℕ) × (qs ≡ x ∷ [])) → ((x : ℕ × ℕ) → qs ≡ x ∷ [] → Within k x.0) → to_block k (ps ++ qs) ≡ to_block k ps ++ qs
-to_block-stored k ps qs (inl none) inside = rw none (ap (to_block k) (append-nil ps) ∙ sym (append-nil (to_block k ps)))
-to_block-stored k ps qs (inr one) inside = rw one.1 (to_block-one k ps one.0 (within_true k one.0.0 (inside one.0 one.1)))
+pub to_block-stored : (k : Block) (ws : List Write) (qs : List (ℕ × ℕ)) → (qs ≡ []) ⊎ ((x : ℕ × ℕ) × (qs ≡ x ∷ [])) → ((x : ℕ × ℕ) → qs ≡ x ∷ [] → Within k x.0) → to_block k (ws ++ as_writes qs) ≡ to_block k ws ++ as_writes qs
+to_block-stored k ws qs (inl none) inside = rw none (ap (to_block k) (append-nil ws) ∙ sym (append-nil (to_block k ws)))
+to_block-stored k ws qs (inr one) inside = rw one.1 (to_block-one k ws (as_write one.0) (within_true k one.0.0 (inside one.0 one.1)))
 
-pub to_block-elsewhere : (k : Block) (ps qs : List (ℕ × ℕ)) → (qs ≡ []) ⊎ ((x : ℕ × ℕ) × (qs ≡ x ∷ [])) → ((x : ℕ × ℕ) → qs ≡ x ∷ [] → Within k x.0 → ⊥) → to_block k (ps ++ qs) ≡ to_block k ps
-to_block-elsewhere k ps qs (inl none) outside = rw none (ap (to_block k) (append-nil ps))
-to_block-elsewhere k ps qs (inr one) outside = rw one.1 (to_block-none k ps one.0 (off (is_within k one.0.0) refl))
+pub to_block-elsewhere : (k : Block) (ws : List Write) (qs : List (ℕ × ℕ)) → (qs ≡ []) ⊎ ((x : ℕ × ℕ) × (qs ≡ x ∷ [])) → ((x : ℕ × ℕ) → qs ≡ x ∷ [] → Within k x.0 → ⊥) → to_block k (ws ++ as_writes qs) ≡ to_block k ws
+to_block-elsewhere k ws qs (inl none) outside = rw none (ap (to_block k) (append-nil ws))
+to_block-elsewhere k ws qs (inr one) outside = rw one.1 (to_block-none k ws (as_write one.0) (off (is_within k one.0.0) refl))
   where
     off : (b : Bool) → is_within k one.0.0 ≡ b → is_within k one.0.0 ≡ false
     off true is = absurd (outside one.0 one.1 (within_from k one.0.0 is))
@@ -93,14 +95,27 @@ outside_differs k a b h off =
       | inr other ↦ grind (arith, nat_tests)
     ]
 
-newest_first : (k : Block) (a : ℕ) (found : Option ℕ) (x : ℕ × ℕ) (ps : List (ℕ × ℕ)) → Within k a → (b : Bool) → is_within k x.0 ≡ b → ((f : Option ℕ) → newest_to a f (to_block k ps) ≡ newest_to a f ps) → newest_to a found (to_block k (x ∷ ps)) ≡ newest_to a found (x ∷ ps)
-newest_first k a found x ps h true on more = rw on (more (if x.0 == a then Some x.1 else found))
-newest_first k a found x ps h false off more = let other : (x.0 == a) ≡ false = outside_differs k a x.0 h off in rw (off, other) (more found)
+newest_first : (k : Block) (a : ℕ) (found : Option ℕ) (w : Write) (ws : List Write) → Within k a → (b : Bool) → is_within k w.addr ≡ b → ((f : Option ℕ) → newest_word a f (to_block k ws) ≡ newest_word a f ws) → newest_word a found (to_block k (w ∷ ws)) ≡ newest_word a found (w ∷ ws)
+newest_first k a found w ws h true on more = rw on (more (if w.addr == a then Some w.value else found))
+newest_first k a found w ws h false off more = let other : (w.addr == a) ≡ false = outside_differs k a w.addr h off in rw (off, other) (more found)
 
 -- what is pending for an address of the block is pending in the block's part
-pub newest-to_block : (k : Block) (a : ℕ) (found : Option ℕ) (ps : List (ℕ × ℕ)) → Within k a → newest_to a found (to_block k ps) ≡ newest_to a found ps
+pub newest-to_block : (k : Block) (a : ℕ) (found : Option ℕ) (ws : List Write) → Within k a → newest_word a found (to_block k ws) ≡ newest_word a found ws
 newest-to_block k a found [] h = refl
-newest-to_block k a found (x ∷ ps) h = newest_first k a found x ps h (is_within k x.0) refl (λ f. newest-to_block k a f ps h)
+newest-to_block k a found (w ∷ ws) h = newest_first k a found w ws h (is_within k w.addr) refl (λ f. newest-to_block k a f ws h)
+
+-- and it is the newest store of the list that the writes say
+pub newest-as_writes : (a : ℕ) (found : Option ℕ) (xs : List (ℕ × ℕ)) → newest_word a found (as_writes xs) ≡ newest_to a found xs
+newest-as_writes a found [] = refl
+newest-as_writes a found (x ∷ xs) = newest-as_writes a (if x.0 == a then Some x.1 else found) xs
+
+-- the oldest write is that of the oldest store
+pub first-as_writes : (xs : List (ℕ × ℕ)) (w : Write) (ws : List Write) → as_writes xs ≡ w ∷ ws → (x : ℕ × ℕ) × (rest : List (ℕ × ℕ)) × (xs ≡ x ∷ rest) × (w ≡ as_write x) × (ws ≡ as_writes rest)
+first-as_writes [] w ws is = cc
+first-as_writes (x ∷ xs) w ws is = (x, xs, refl, (let same : w ≡ as_write x = cc in same), (let more : ws ≡ as_writes xs = cc in more))
+
+pub IsStore-whole : (k : Block) (x : ℕ × ℕ) → IsStore k x → IsWholeWord (as_write x)
+IsStore-whole k x is = record { whole = refl; aligned = is.place.aligned; small = is.word }
 
 -- numbers may be chosen block by block
 pub choose : (N : Type 0) (P : ℕ → N → Type 0) (none : N) (count : ℕ) → ((i : ℕ) → i < count → (n : N) × P i n) → (f : ℕ → N) × ((i : ℕ) → i < count → P i (f i))

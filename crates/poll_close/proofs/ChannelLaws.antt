@@ -12,7 +12,10 @@ use Rattle.hart.specs.State.{HartState}
 use Rattle.step_machine.specs.declared.events.Entry.{Entry}
 use Rattle.step_machine.specs.declared.events.Entry.TheVariants as entry
 use Rattle.step_machine.specs.History.{HartStart, Start, History, unrun, with_entry}
-use Rattle.step_machine.specs.Entries.{hart_of, is_land, reported, memory_word}
+use Rattle.step_machine.specs.Entries.{hart_of, is_land, reported}
+use Rattle.step_machine.specs.Access.{access_of}
+use Rattle.step_machine.specs.WordReads.{WritesWord, AllWriteWords, OpensWithWords}
+use Rattle.step_machine.proofs.WordReads.{AllWriteWords-append}
 use Rattle.step_machine.specs.Paths.{state_of, opens_as}
 use Rattle.step_machine.specs.Legal.{Kept}
 use Rattle.step_machine.specs.Runs.{CanFollow}
@@ -23,7 +26,7 @@ use Rattle.poll_close.specs.Layout.{block_size, sender_registers, senders_from, 
 use Rattle.poll_close.specs.Laws.{Ring, AreWords, Accepted, Opens, Keeps, Cleans, Goes}
 use Rattle.poll_close.specs.Reports.{Clean}
 use Rattle.poll_close.specs.Going.{GoesOn, AllGoOn}
-use Rattle.poll_close.specs.Invariant.Blocks.{Block, block_of}
+use Rattle.poll_close.specs.Invariant.Blocks.{Block, block_of, as_writes}
 use Rattle.poll_close.specs.Invariant.ReceiverState.{receiver_of}
 use Rattle.poll_close.specs.Invariant.ReceiverPlaces.{R00}
 use Rattle.poll_close.specs.Invariant.BlockMeaning.{BlockMeaning, Quiet}
@@ -69,8 +72,8 @@ clean-none lists = record { in_order = λ i. (slice_index_or lists i [], refl); 
 
 act_or_land : (e : Entry) → (is_land e ≡ false) ⊎ ((h : ℕ) × (e ≡ entry.Land h))
 act_or_land (entry.Inner h) = inl refl
-act_or_land (entry.Load h a v) = inl refl
-act_or_land (entry.Store h a v) = inl refl
+act_or_land (entry.Load h a width v) = inl refl
+act_or_land (entry.Store h a width v) = inl refl
 act_or_land (entry.Amo h a old new) = inl refl
 act_or_land (entry.Fence h full) = inl refl
 act_or_land (entry.Next h w) = inl refl
@@ -94,6 +97,9 @@ all_go_on [] e all one zero d is = subst GoesOn (let same : e ≡ d = cc in same
 all_go_on [] e all one (suc j) d is = cc
 all_go_on (x ∷ es) e all one zero d is = all 0 d is
 all_go_on (x ∷ es) e all one (suc j) d is = all_go_on es e (λ i c at. all (suc i) c at) one j d is
+
+one_more : (es : List Entry) (e : Entry) → AllWriteWords es → WritesWord (access_of e) → AllWriteWords (es ++ e ∷ [])
+one_more es e all one = AllWriteWords-append es (e ∷ []) all (one, tt)
 
 module _ (m : BlockMeaning) (code : List ℕ) (laws : BlockLaws m code) (least : ℕ) (some : 1 ≤ least) where
   abbrev pub ring_by : Ring
@@ -130,8 +136,8 @@ module _ (m : BlockMeaning) (code : List ℕ) (laws : BlockLaws m code) (least :
     part : (i : ℕ) → i < length lists → BlockPart m (block_of M S lists i) M i (unrun (opening_of code (receiver_of m.middle) lists S)) (none i)
     part = each (λ i n. BlockPart m (block_of M S lists i) M i (unrun (opening_of code (receiver_of m.middle) lists S)) n) (λ i within. (let b = begun i within in record {
         order = b.order;
-        sender = record { stands = opens_with code (block_of M S lists i); state = start_state code (receiver_of m.middle) M S lists i within; holds = b.stands; buffer = sym b.unsent };
-        theirs = sym b.unread;
+        sender = record { stands = opens_with code (block_of M S lists i); state = start_state code (receiver_of m.middle) M S lists i within; holds = b.stands; buffer = ap as_writes (sym b.unsent) };
+        theirs = ap as_writes (sym b.unread);
         words = b.words;
       }))
 
@@ -151,6 +157,7 @@ module _ (m : BlockMeaning) (code : List ℕ) (laws : BlockLaws m code) (least :
           clean = clean-none lists;
         };
         unstopped = λ j e is. cc;
+        written = tt;
       }
 
   pub opens : Opens ring_by (means_by m)
@@ -165,9 +172,11 @@ module _ (m : BlockMeaning) (code : List ℕ) (laws : BlockLaws m code) (least :
     where
       are : (i : ℕ) → i < length lists → IsBlock (block_of M S lists i)
       are = blocks ring_by M S lists some accepted
-      go_on : (new : History) → state_of M new 0 ≡ state_of M t 0 → reported 0 new.entries ≡ reported 0 t.entries → BlocksAfter m M S lists new ch.numbers → AllGoOn new.entries → Channel m M S lists new
-      go_on new state said b all = record {
-        unstopped = all;
+      opens_zero : (u : History) → u.opening ≡ opening_of code (receiver_of m.middle) lists S → OpensWithWords u.opening
+      opens_zero u same = subst OpensWithWords (sym same) (λ i. omega arith)
+      go_on : (new : History) → state_of M new 0 ≡ state_of M t 0 → reported 0 new.entries ≡ reported 0 t.entries → BlocksAfter m M S lists new ch.numbers → AllGoOn new.entries → AllWriteWords new.entries → Channel m M S lists new
+      go_on new state said b all words = record {
+        unstopped = all; written = words;
         numbers = b.0;
         parts = λ i within. (b.1 i within).0;
         receiver = part_stays m code laws M S lists t new ch.numbers b.0 b.1 state ch.receiver;
@@ -175,26 +184,28 @@ module _ (m : BlockMeaning) (code : List ℕ) (laws : BlockLaws m code) (least :
       }
       acts : (h : ℕ) → hart_of e ≡ h → is_land e ≡ false → Channel m M S lists (with_entry t e)
       acts zero mine act =
-          let r : Received m M S lists (with_entry t e) = receiver_acts m code laws B M S lists (blocks ring_by M S lists some accepted) accepted.senders t ch.numbers kept.legal ch.parts ch.receiver ch.reports e can mine act in
-          record { numbers = r.numbers; parts = r.parts; receiver = r.receiver; reports = r.reports; unstopped = all_go_on t.entries e ch.unstopped (receiver_goes_on m code laws B M S lists (blocks ring_by M S lists some accepted) accepted.senders t ch.numbers kept.legal ch.parts ch.receiver ch.reports e can mine act) }
+          let plain : GoesOn e × WritesWord (access_of e) = receiver_goes_on m code laws B M S lists (blocks ring_by M S lists some accepted) accepted.senders t ch.numbers kept.legal (opens_zero t is) ch.written ch.parts ch.receiver ch.reports e can mine act in
+          let r : Received m M S lists (with_entry t e) = receiver_acts m code laws B M S lists (blocks ring_by M S lists some accepted) accepted.senders t ch.numbers kept.legal (opens_zero t is) ch.written ch.parts ch.receiver ch.reports e can mine act in
+          record { numbers = r.numbers; parts = r.parts; receiver = r.receiver; reports = r.reports; unstopped = all_go_on t.entries e ch.unstopped plain.0; written = one_more t.entries e ch.written plain.1 }
       acts (suc j) mine act =
           let within : j < length lists = omega (arith, is_hart code (receiver_of m.middle) B M S lists t e is can, mine) in
           let other : (hart_of e == 0) ≡ false = grind (arith, nat_tests) in
+          let plain : GoesOn e × WritesWord (access_of e) = sender_goes_on m code laws B M S lists (blocks ring_by M S lists some accepted) t ch.numbers kept.legal (opens_zero t is) ch.written ch.parts j within e can (mine ∙ sym (add-one j)) act in
           go_on (with_entry t e) (state_of-other M t 0 e (rw other refl)) (reported-last 0 t.entries e ∙ ap (λ rs. reported 0 t.entries ++ rs) (report_of-other 0 e other) ∙ append-nil (reported 0 t.entries))
-            (sender_acts m code laws B M S lists (blocks ring_by M S lists some accepted) t ch.numbers kept.legal ch.parts j within e can (mine ∙ sym (add-one j)) act)
-            (all_go_on t.entries e ch.unstopped (sender_goes_on m code laws B M S lists (blocks ring_by M S lists some accepted) t ch.numbers kept.legal ch.parts j within e can (mine ∙ sym (add-one j)) act))
+            (sender_acts m code laws B M S lists (blocks ring_by M S lists some accepted) t ch.numbers kept.legal (opens_zero t is) ch.written ch.parts j within e can (mine ∙ sym (add-one j)) act)
+            (all_go_on t.entries e ch.unstopped plain.0) (one_more t.entries e ch.written plain.1)
       lands : (h : ℕ) → e ≡ entry.Land h → (g : ℕ) → h ≡ g → Channel m M S lists (with_entry t e)
       lands h land zero same =
           let is_0 : e ≡ entry.Land 0 = land ∙ ap entry.Land same in
           subst (λ (d : Entry). Channel m M S lists (with_entry t d)) (sym is_0)
             (go_on (with_entry t (entry.Land 0)) (states_land M t 0 0) (reported-last 0 t.entries (entry.Land 0) ∙ append-nil (reported 0 t.entries))
-              (receiver_store_lands m code laws B M S lists (blocks ring_by M S lists some accepted) t ch.numbers kept.legal ch.parts (subst (CanFollow B M t) is_0 can)) (all_go_on t.entries (entry.Land 0) ch.unstopped tt))
+              (receiver_store_lands m code laws B M S lists (blocks ring_by M S lists some accepted) t ch.numbers kept.legal (opens_zero t is) ch.written ch.parts (subst (CanFollow B M t) is_0 can)) (all_go_on t.entries (entry.Land 0) ch.unstopped tt) (one_more t.entries (entry.Land 0) ch.written tt))
       lands h land (suc j) same =
           let is_j : e ≡ entry.Land (j + 1) = land ∙ ap entry.Land (same ∙ sym (add-one j)) in
           let within : j < length lists = omega (arith, is_hart code (receiver_of m.middle) B M S lists t e is can, ap hart_of is_j) in
           subst (λ (d : Entry). Channel m M S lists (with_entry t d)) (sym is_j)
             (go_on (with_entry t (entry.Land (j + 1))) (states_land M t (j + 1) 0) (reported-last 0 t.entries (entry.Land (j + 1)) ∙ append-nil (reported 0 t.entries))
-              (sender_store_lands m code laws B M S lists (blocks ring_by M S lists some accepted) t ch.numbers kept.legal ch.parts j within (subst (CanFollow B M t) is_j can)) (all_go_on t.entries (entry.Land (j + 1)) ch.unstopped tt))
+              (sender_store_lands m code laws B M S lists (blocks ring_by M S lists some accepted) t ch.numbers kept.legal (opens_zero t is) ch.written ch.parts j within (subst (CanFollow B M t) is_j can)) (all_go_on t.entries (entry.Land (j + 1)) ch.unstopped tt) (one_more t.entries (entry.Land (j + 1)) ch.written tt))
 
   pub cleans : Cleans ring_by (means_by m)
   cleans B M lists S t accepted is kept ch = ch.reports.clean

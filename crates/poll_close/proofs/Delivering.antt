@@ -21,7 +21,7 @@ pub record Known (ring : Ring) (means : Meaning) (B M : ℕ) (lists : List (List
   pub meant : means B M lists S t
 
 module _ (ring : Ring) (means : Meaning) (keeps : Keeps ring means) (B M : ℕ) (lists : List (List ℕ)) (S : ℕ) (accepted : Accepted ring M lists S) where
-  known-happens : (t : History) (ev : Event) (o : Outcome) (new : History) → Known ring means B M lists S t → Happens B M t ev o new → Known ring means B M lists S new
+  pub known-happens : (t : History) (ev : Event) (o : Outcome) (new : History) → Known ring means B M lists S t → Happens B M t ev o new → Known ring means B M lists S new
   known-happens t ev o new known h =
       let kept : Kept B M new = kept-happens B M t ev o new known.kept h in
       elim (shape_of B M t ev o new h) [
@@ -29,7 +29,7 @@ module _ (ring : Ring) (means : Meaning) (keeps : Keeps ring means) (B M : ℕ) 
         | inr i ↦ subst (Known ring means B M lists S) (sym i.after) known
       ]
 
-  known-run : (t : History) (evs : List Event) (new : History) → Known ring means B M lists S t → RunFrom B M t evs new → Known ring means B M lists S new
+  pub known-run : (t : History) (evs : List Event) (new : History) → Known ring means B M lists S t → RunFrom B M t evs new → Known ring means B M lists S new
   known-run t [] new known run = subst (Known ring means B M lists S) (sym run) known
   known-run t (ev ∷ evs) new known run = known-run run.1 evs new (known-happens t ev run.0 run.1 known run.2) run.3
 
@@ -63,3 +63,6 @@ channel-fits ring M lists S o short accepted is =
 pub if_ok : {A E : Type 0} (P Q : A → Type 0) → ((a : A) → P a → Q a) → (r : Result A E) → IfOk r P → IfOk r Q
 if_ok P Q more (Ok a) h = more a h
 if_ok P Q more (Err e) h = tt
+
+pub delivers-as : (B M : ℕ) (o p : Start) (lists : List (List ℕ)) (evs : List Event) (reports : List Report) → o ≡ p → Delivers B M o lists evs reports → Delivers B M p lists evs reports
+delivers-as B M o p lists evs reports is d = subst (λ (q : Start). Delivers B M q lists evs reports) is d

@@ -15,3 +15,5 @@ pub mod SenderHarts
 pub mod AllBlocks
 pub mod ReceiverActs
 pub mod ChannelLaws
+pub mod Standing
+pub mod ZeroWords

@@ -14,10 +14,10 @@ pub record Line (s : HartState) (n : Need) (next : ℕ → HartState) : Type 0 w
 
 -- a load and a store of a word
 abbrev pub loads : ℕ → Need
-loads a = need.Load a
+loads a = need.Load a 4
 
 abbrev pub stores : ℕ → ℕ → Need
-stores a w = need.Store a w
+stores a w = need.Store a 4 w
 
 pub word_plus : (a k : ℕ) → a + k < 2 ^ 32 → word (pos a +ℤ pos k) ≡ a + k
 word_plus a k h = omega (arith, ints)

@@ -4,6 +4,7 @@ use Rattle.std.specs.Prelude.{slice_index, unwrap_or}
 use Rattle.std.specs.List.{slice_get, slice_index_or}
 use Rattle.std.proofs.lemmas.Bool.{cases_eq}
 use Rattle.std.proofs.Math.Seq.{take-length}
+use Rattle.std.proofs.lemmas.List.{map-append}
 use Rattle.hart.specs.State.{HartState}
 use Rattle.hart.specs.Steps.{need_of}
 use Rattle.hart.specs.declared.status.Status.TheVariants as status
@@ -13,21 +14,24 @@ use Rattle.hart.specs.declared.need.Report.{Report}
 use Rattle.hart.specs.declared.need.Report.TheVariants as report
 use Rattle.step_machine.specs.declared.events.Entry.{Entry}
 use Rattle.step_machine.specs.History.{History, with_entry}
-use Rattle.step_machine.specs.Entries.{hart_of, is_land, pending, memory_word, read, reported}
+use Rattle.step_machine.specs.Entries.{hart_of, is_land, pending, read, reported}
+use Rattle.step_machine.specs.Access.{access_of}
+use Rattle.step_machine.specs.WordReads.{WritesWord, AllWriteWords, OpensWithWords, word_in_memory}
+use Rattle.memory.specs.Writes.{newest_word}
 use Rattle.step_machine.specs.Paths.{value_of}
 use Rattle.step_machine.specs.Legal.{Legal}
 use Rattle.step_machine.specs.Runs.{CanFollow}
 use Rattle.poll_close.specs.Reports.{taken, sender_of, IsPrefixOf}
 use Rattle.poll_close.specs.Going.{GoesOn}
-use Rattle.poll_close.specs.Invariant.Blocks.{Block, block_of, to_block}
+use Rattle.poll_close.specs.Invariant.Blocks.{Block, block_of, as_write, as_writes, to_block}
 use Rattle.poll_close.specs.Invariant.ReceiverState.{Noted, whole_of}
 use Rattle.poll_close.specs.Invariant.ReceiverPlaces.{ReceiverPlace, R60, receives, due}
 use Rattle.poll_close.specs.Invariant.BlockMeaning.{BlockMeaning, Quiet, ReceiverIs}
 use Rattle.poll_close.specs.Invariant.Channels.{BlockPart, ReceiverPart, Told, ReportPart, shuts}
-use Rattle.poll_close.proofs.Acts.{Acted, acted, going, stored_by, said_by, IsNoAmo}
+use Rattle.poll_close.proofs.Acts.{Acted, Plain, acted, going, stored_by, said_by}
 use Rattle.poll_close.proofs.Lines.{loads}
-use Rattle.poll_close.proofs.Windows.{get_end, newest_to}
-use Rattle.poll_close.proofs.Blocks.{IsBlock, Within, IsWordOf, apart, to_block-stored, to_block-elsewhere, newest-to_block, put, put_same, put_other}
+use Rattle.poll_close.proofs.Windows.{get_end}
+use Rattle.poll_close.proofs.Blocks.{IsBlock, Within, IsWordOf, IsStore, IsStore-whole, newest-as_writes, apart, to_block-stored, to_block-elsewhere, newest-to_block, put, put_same, put_other}
 use Rattle.poll_close.proofs.BlockLaws.{BlockLaws, found_in, seen_at, Says, Comes, Receives, Finds}
 use Rattle.poll_close.proofs.ReceiverMoves.{receives_on}
 use Rattle.poll_close.proofs.ReceiverStays.{shuts_same}
@@ -37,8 +41,8 @@ use Rattle.poll_close.proofs.AllBlocks.{would_read, read_is, untouched}
 -- a need stores nothing or one pair
 stored_cases : (w : Need) → (stored_by w ≡ []) ⊎ ((x : ℕ × ℕ) × (stored_by w ≡ x ∷ []))
 stored_cases need.Inner = inl refl
-stored_cases (need.Load a) = inl refl
-stored_cases (need.Store a w) = inr ((a, w), refl)
+stored_cases (need.Load a width) = inl refl
+stored_cases (need.Store a width w) = inr ((a, w), refl)
 stored_cases (need.Amo a op rs2) = inl refl
 stored_cases (need.Fence full) = inl refl
 stored_cases (need.Next w) = inl refl
@@ -112,7 +116,7 @@ module _ (m : BlockMeaning) (M S : ℕ) (lists : List (List ℕ)) (f : ℕ → m
         (rw (closing.1, closing.2) (told_closed rs b (slice_index_or lists b []) (m.took (f b)) (m.shut (f b)) (told.told b known)))
         (λ i is. subst (λ (j : ℕ). taken rs j ≡ slice_index_or lists j []) (ap sender_of is) ((told.told b known).words ∙ ap (λ c. take c (slice_index_or lists b [])) closing.3 ∙ take-length (slice_index_or lists b []))))
 
-module _ (m : BlockMeaning) (code : List ℕ) (laws : BlockLaws m code) (B M S : ℕ) (lists : List (List ℕ)) (are : (i : ℕ) → i < length lists → IsBlock (block_of M S lists i)) (few : length lists ≤ 63) (t : History) (f : ℕ → m.Count) (legal : Legal B t) (parts : (i : ℕ) → i < length lists → BlockPart m (block_of M S lists i) M i t (f i)) (part : ReceiverPart m M S lists t f) (told : ReportPart m lists (reported 0 t.entries) f) where
+module _ (m : BlockMeaning) (code : List ℕ) (laws : BlockLaws m code) (B M S : ℕ) (lists : List (List ℕ)) (are : (i : ℕ) → i < length lists → IsBlock (block_of M S lists i)) (few : length lists ≤ 63) (t : History) (f : ℕ → m.Count) (legal : Legal B t) (opens : OpensWithWords t.opening) (written : AllWriteWords t.entries) (parts : (i : ℕ) → i < length lists → BlockPart m (block_of M S lists i) M i t (f i)) (part : ReceiverPart m M S lists t f) (told : ReportPart m lists (reported 0 t.entries) f) where
   quiet_one : (j : ℕ) → j < length lists → Quiet m (f j) → m.shut (f j) ≤ 1
   quiet_one j within q = omega (arith, q.closed, laws.dones_one (block_of M S lists j) (f j) (parts j within).order)
 
@@ -133,16 +137,21 @@ module _ (m : BlockMeaning) (code : List ℕ) (laws : BlockLaws m code) (B M S :
   count_after : (n : m.Count) (noted : Noted) (there : ReceiverPlace) → noted.x20 + m.shut n + due part.place ≡ part.noted.x20 + m.shut (f part.block) + due there → noted.x20 + shuts m (put f part.block n) (length lists) ≡ length lists + due there
   count_after n noted there counts = omega (arith, part.count, shuts_put m f part.block n (length lists) part.known)
 
-  moves_by : (v : ℕ) → (receives m.middle (whole_of (block_of M S lists part.block) (length lists)) part.place part.noted).status ≡ status.Running → Finds m (block_of M S lists part.block) (length lists) part.place (f part.block) (memory_word t.opening t.entries) part.noted v → Receives m (block_of M S lists part.block) part.block (length lists) part.place (f part.block) part.noted v
-  moves_by v runs find = receives_on m code laws (block_of M S lists part.block) (are part.block part.known) part.block (length lists) refl part.known few (f part.block) (parts part.block part.known).order (memory_word t.opening t.entries) (parts part.block part.known).words part.noted v part.place runs find (owed_at part.place part.holds part.count) small part.holds
+  moves_by : (v : ℕ) → (receives m.middle (whole_of (block_of M S lists part.block) (length lists)) part.place part.noted).status ≡ status.Running → Finds m (block_of M S lists part.block) (length lists) part.place (f part.block) (word_in_memory t.opening t.entries) part.noted v → Receives m (block_of M S lists part.block) part.block (length lists) part.place (f part.block) part.noted v
+  moves_by v runs find = receives_on m code laws (block_of M S lists part.block) (are part.block part.known) part.block (length lists) refl part.known few (f part.block) (parts part.block part.known).order (word_in_memory t.opening t.entries) (parts part.block part.known).words part.noted v part.place runs find (owed_at part.place part.holds part.count) small part.holds
 
-  plain_by : (receives m.middle (whole_of (block_of M S lists part.block) (length lists)) part.place part.noted).status ≡ status.Running → IsNoAmo (need_of (receives m.middle (whole_of (block_of M S lists part.block) (length lists)) part.place part.noted))
+  -- what it stores goes to the visited block
+  stored_is : (v : ℕ) (r : Receives m (block_of M S lists part.block) part.block (length lists) part.place (f part.block) part.noted v) (x : ℕ × ℕ) → stored_by r.wanted ≡ x ∷ [] → IsStore (block_of M S lists part.block) x
+  stored_is v r x one = laws.unread_are (block_of M S lists part.block) r.after (are part.block part.known) r.changes.order (length (m.unread (block_of M S lists part.block) (f part.block))) x (ap (λ ps. slice_get ps (length (m.unread (block_of M S lists part.block) (f part.block)))) (sym r.changes.unread ∙ ap (λ ps. m.unread (block_of M S lists part.block) (f part.block) ++ ps) one) ∙ get_end (m.unread (block_of M S lists part.block) (f part.block)) x)
+
+  plain_by : (receives m.middle (whole_of (block_of M S lists part.block) (length lists)) part.place part.noted).status ≡ status.Running → Plain (need_of (receives m.middle (whole_of (block_of M S lists part.block) (length lists)) part.place part.noted))
   plain_by runs =
-      let seen : ℕ → ℕ = seen_at m (block_of M S lists part.block) (f part.block) (memory_word t.opening t.entries) in
-      let r = moves_by (would_read seen (need_of (receives m.middle (whole_of (block_of M S lists part.block) (length lists)) part.place part.noted))) runs (λ a inside wants. ap (would_read seen) wants) in
-      subst IsNoAmo (sym r.wants) r.plain
+      let seen : ℕ → ℕ = seen_at m (block_of M S lists part.block) (f part.block) (word_in_memory t.opening t.entries) in
+      let v : ℕ = would_read seen (need_of (receives m.middle (whole_of (block_of M S lists part.block) (length lists)) part.place part.noted)) in
+      let r : Receives m (block_of M S lists part.block) part.block (length lists) part.place (f part.block) part.noted v = moves_by v runs (λ a inside wants. ap (would_read seen) wants) in
+      subst Plain (sym r.wants) (record { no_amo = r.plain; whole = λ x one. IsStore-whole (block_of M S lists part.block) x (stored_is v r x one) })
 
-  pub receiver_goes_on : (e : Entry) → CanFollow B M t e → hart_of e ≡ 0 → is_land e ≡ false → GoesOn e
+  pub receiver_goes_on : (e : Entry) → CanFollow B M t e → hart_of e ≡ 0 → is_land e ≡ false → GoesOn e × WritesWord (access_of e)
   receiver_goes_on e can mine alone = going B M t 0 (receives m.middle (whole_of (block_of M S lists part.block) (length lists)) part.place part.noted) e part.state can mine alone plain_by
 
   -- all are quiet once the visited block is
@@ -154,24 +163,25 @@ module _ (m : BlockMeaning) (code : List ℕ) (laws : BlockLaws m code) (B M S :
       ]
 
   -- what the act found in the visited block
-  found : (b : ℕ) → Within (block_of M S lists part.block) b → read t.opening t.entries 0 b ≡ seen_at m (block_of M S lists part.block) (f part.block) (memory_word t.opening t.entries) b
-  found b inside =
-      read_is t 0 b
-      ∙ ap (λ o. unwrap_or o (memory_word t.opening t.entries b)) (sym (newest-to_block (block_of M S lists part.block) b None (pending 0 t.entries) inside))
-      ∙ ap (λ ps. found_in ps (memory_word t.opening t.entries) b) (parts part.block part.known).theirs
+  found : (b : ℕ) → IsWordOf (block_of M S lists part.block) b → read t.opening t.entries 0 b 4 ≡ seen_at m (block_of M S lists part.block) (f part.block) (word_in_memory t.opening t.entries) b
+  found b word =
+      read_is t 0 b opens written word.aligned
+      ∙ ap (λ o. unwrap_or o (word_in_memory t.opening t.entries b)) (sym (newest-to_block (block_of M S lists part.block) b None (pending 0 t.entries) word.within))
+      ∙ ap (λ ws. unwrap_or (newest_word b None ws) (word_in_memory t.opening t.entries b)) (parts part.block part.known).theirs
+      ∙ ap (λ o. unwrap_or o (word_in_memory t.opening t.entries b)) (newest-as_writes b None (m.unread (block_of M S lists part.block) (f part.block)))
 
   module _ (new : History) (v : ℕ) (a : Acted M t new 0 (receives m.middle (whole_of (block_of M S lists part.block) (length lists)) part.place part.noted) v) (r : Receives m (block_of M S lists part.block) part.block (length lists) part.place (f part.block) part.noted v) where
     inside : (x : ℕ × ℕ) → stored_by r.wanted ≡ x ∷ [] → Within (block_of M S lists part.block) x.0
-    inside x one = (laws.unread_are (block_of M S lists part.block) r.after (are part.block part.known) r.changes.order (length (m.unread (block_of M S lists part.block) (f part.block))) x (ap (λ ps. slice_get ps (length (m.unread (block_of M S lists part.block) (f part.block)))) (sym r.changes.unread ∙ ap (λ ps. m.unread (block_of M S lists part.block) (f part.block) ++ ps) one) ∙ get_end (m.unread (block_of M S lists part.block) (f part.block)) x)).place.within
+    inside x one = (stored_is v r x one).place.within
 
     visited : BlockPart m (block_of M S lists part.block) M part.block new r.after
     visited =
         let old : BlockPart m (block_of M S lists part.block) M part.block t (f part.block) = parts part.block part.known in
         record {
           order = r.changes.order;
-          sender = record { stands = old.sender.stands; state = a.states (part.block + 1) (λ zero_is. omega arith) ∙ old.sender.state; holds = r.changes.sender old.sender.stands old.sender.holds; buffer = a.buffers (part.block + 1) (λ zero_is. omega arith) ∙ old.sender.buffer ∙ sym r.changes.unsent };
-          theirs = ap (to_block (block_of M S lists part.block)) (a.buffer ∙ ap (λ w. pending 0 t.entries ++ stored_by w) r.wants) ∙ to_block-stored (block_of M S lists part.block) (pending 0 t.entries) (stored_by r.wanted) (stored_cases r.wanted) inside ∙ ap (λ ps. ps ++ stored_by r.wanted) old.theirs ∙ r.changes.unread;
-          words = laws.words_same (block_of M S lists part.block) r.after (memory_word t.opening t.entries) (memory_word new.opening new.entries) (are part.block part.known) (λ x here. a.memory x) (r.changes.words (memory_word t.opening t.entries) old.words);
+          sender = record { stands = old.sender.stands; state = a.states (part.block + 1) (λ zero_is. omega arith) ∙ old.sender.state; holds = r.changes.sender old.sender.stands old.sender.holds; buffer = a.buffers (part.block + 1) (λ zero_is. omega arith) ∙ old.sender.buffer ∙ ap as_writes (sym r.changes.unsent) };
+          theirs = ap (to_block (block_of M S lists part.block)) (a.buffer ∙ ap (λ w. pending 0 t.entries ++ as_writes (stored_by w)) r.wants) ∙ to_block-stored (block_of M S lists part.block) (pending 0 t.entries) (stored_by r.wanted) (stored_cases r.wanted) inside ∙ ap (λ ws. ws ++ as_writes (stored_by r.wanted)) old.theirs ∙ sym (map-append as_write (m.unread (block_of M S lists part.block) (f part.block)) (stored_by r.wanted)) ∙ ap as_writes r.changes.unread;
+          words = laws.words_same (block_of M S lists part.block) r.after (word_in_memory t.opening t.entries) (word_in_memory new.opening new.entries) (are part.block part.known) (λ x here. a.memory x) (r.changes.words (word_in_memory t.opening t.entries) old.words);
         }
 
     each : (i : ℕ) → i < length lists → (i ≡ part.block) ⊎ (i ≢ part.block) → BlockPart m (block_of M S lists i) M i new (put f part.block r.after i)
@@ -181,7 +191,7 @@ module _ (m : BlockMeaning) (code : List ℕ) (laws : BlockLaws m code) (B M S :
         subst (λ (z : m.Count). BlockPart m (block_of M S lists i) M i new z) (sym (put_other f part.block r.after i other)) (untouched m code laws M (block_of M S lists i) i t new (f i) (are i within) (parts i within) (record {
           state = a.states (i + 1) (λ zero_is. omega arith);
           buffer = a.buffers (i + 1) (λ zero_is. omega arith);
-          theirs = ap (to_block (block_of M S lists i)) (a.buffer ∙ ap (λ w. pending 0 t.entries ++ stored_by w) r.wants) ∙ to_block-elsewhere (block_of M S lists i) (pending 0 t.entries) (stored_by r.wanted) (stored_cases r.wanted) (λ x one here. apart M S lists i part.block x.0 other here (inside x one));
+          theirs = ap (to_block (block_of M S lists i)) (a.buffer ∙ ap (λ w. pending 0 t.entries ++ as_writes (stored_by w)) r.wants) ∙ to_block-elsewhere (block_of M S lists i) (pending 0 t.entries) (stored_by r.wanted) (stored_cases r.wanted) (λ x one here. apart M S lists i part.block x.0 other here (inside x one));
           memory = λ x here. a.memory x;
         }))
 
@@ -213,4 +223,4 @@ module _ (m : BlockMeaning) (code : List ℕ) (laws : BlockLaws m code) (B M S :
   receiver_acts e can mine alone =
       let s : HartState = receives m.middle (whole_of (block_of M S lists part.block) (length lists)) part.place part.noted in
       let a : Acted M t (with_entry t e) 0 s (value_of e) = acted B M t 0 s e legal part.state can mine alone plain_by in
-      received (with_entry t e) (value_of e) a (moves_by (value_of e) a.running (λ b inside wants. a.loaded b wants ∙ found b inside.within))
+      received (with_entry t e) (value_of e) a (moves_by (value_of e) a.running (λ b inside wants. a.loaded b wants ∙ found b inside))

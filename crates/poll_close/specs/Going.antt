@@ -6,8 +6,8 @@ use Rattle.step_machine.specs.declared.events.Entry.TheVariants as entry
 
 abbrev pub GoesOn : Entry → Type 0
 GoesOn (entry.Inner h) = Unit {0}
-GoesOn (entry.Load h a v) = Unit {0}
-GoesOn (entry.Store h a v) = Unit {0}
+GoesOn (entry.Load h a width v) = Unit {0}
+GoesOn (entry.Store h a width v) = Unit {0}
 GoesOn (entry.Amo h a old new) = Unit {0}
 GoesOn (entry.Fence h full) = Unit {0}
 GoesOn (entry.Next h w) = Unit {0}

@@ -1,7 +1,17 @@
-//! Channels over rings in memory: what a ring is, and what it delivers.
+//! Channels over rings in memory: what a ring is ([`RingKind`]), how a channel opens ([`opening`]), and
+//! what it delivers ([`deliver`]): the reports of the run of its events, which are clean. This crate
+//! never looks into a machine: it stands on its histories alone.
 
 #![tactic(auto)]
 
+pub mod channel;
+pub mod delivery;
+pub mod faults;
 pub mod kind;
+pub mod openings;
 
+pub use channel::Channel;
+pub use delivery::deliver;
+pub use faults::Refused;
 pub use kind::RingKind;
+pub use openings::{MAX_SENDERS, opening};

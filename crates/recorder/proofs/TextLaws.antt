@@ -3,7 +3,7 @@ use Rattle.std.proofs.Common.{◌≡◌, ℕ, ◌+◌, ◌-◌, ◌^◌, ◌<◌
 use Rattle.step_machine.specs.declared.events.Event.{Event}
 use Rattle.std.proofs.lemmas.List.{length-replicate}
 use Rattle.std.proofs.lemmas.List.Elements.{All-nil, All-cons}
-use Rattle.std.specs.Prelude.{IfSome, IfOk, OnOk}
+use Rattle.std.specs.Prelude.{IfSome, IfOk}
 use Rattle.texts.specs.Results.{◌>>=◌, Gives}
 use Rattle.recorder.specs.declared.faults.ScheduleError.{ScheduleError}
 use Rattle.recorder.specs.declared.faults.ScheduleError.TheVariants.{NoMemory, Refused}

@@ -1,5 +1,6 @@
 -- A hart's act and a landing, told by what the hart needs and what is pending: it does what it needs, or
--- waits at a store, an AMO or a full fence. So every event of a kept history has an outcome.
+-- waits at a store, an AMO or a full fence. So every event of a kept history has an outcome. The law of
+-- each need is for the crates above.
 use Rattle.std.proofs.Common.{inl, inr, ◌⊎◌, ◌≡◌, ◌≢◌, ℕ, ◌<◌, ◌≤◌, Bool, true, false, List, [], ◌∷◌, length, take, Option, Some, None, refl, sym, ◌∙◌, ap, subst, arith}
 use Rattle.std.specs.Prelude.{nat_lt, IsTrue}
 use Rattle.std.proofs.lemmas.Bool.Decides.{nat_tests}
@@ -106,7 +107,7 @@ module _ (B M : ℕ) (t : History) (h : ℕ) (s : HartState) (kept : Kept B M t)
       let within : h < length t.opening.harts = state_of-hart M t h s is in
       let its : (hart_of (entry_of h n v) ≡ h) × (is_land (entry_of h n v) ≡ false) × (entry_of h n v ≡ entry_of h n (value_of (entry_of h n v))) = own_entry h n v in
       let made : entry_of h n v ≡ entry_of (hart_of (entry_of h n v)) (need_of s) (value_of (entry_of h n v)) =
-            its.2 ∙ ap (λ k. entry_of k n (value_of (entry_of h n v))) (sym its.0) ∙ ap (λ m. entry_of (hart_of (entry_of h n v)) m (value_of (entry_of h n v))) (sym needs) in
+      its.2 ∙ ap (λ k. entry_of k n (value_of (entry_of h n v))) (sym its.0) ∙ ap (λ m. entry_of (hart_of (entry_of h n v)) m (value_of (entry_of h n v))) (sym needs) in
       let can : CanMake s (entry_of h n v) = record { running = running; made = made } in
       let f : CanFollow B M t (entry_of h n v) = follows B M t h s (entry_of h n v) its.0 its.1 kept.legal (kept.paths h within) is can allowed in
       record { for_event = (its.0, its.1); follows = f; only = λ d for_d g. only_act B M t h (entry_of h n v) d within its.0 its.1 f for_d.0 for_d.1 g; after = refl }

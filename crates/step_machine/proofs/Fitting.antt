@@ -1,20 +1,18 @@
 -- A step of one hart, a store, an AMO and a landing keep harts, buffers and memory fit for each other.
-use Rattle.std.proofs.Common.{◌≡◌, ℕ, ◌*◌, ◌<◌, List, [], ◌∷◌, ◌++◌, length, drop, set, get_or, Option, Some, None, refl, sym, ◌∙◌, ap, subst}
+use Rattle.std.proofs.Common.{◌≡◌, ℕ, ◌<◌, List, length, set, get_or, Option, Some, None, refl, sym, ◌∙◌, ap, subst}
 use Rattle.std.specs.Prelude.{All, IfSome, IsSomeAnd}
 use Rattle.std.specs.List.{slice_get}
 use Rattle.std.proofs.lemmas.Option.{slice_get_within, slice_get_read, get_or_from_slice_get}
 use Rattle.std.proofs.lemmas.List.{length-set}
-use Rattle.std.proofs.lemmas.List.Elements.{All-set, All-push, All-drop}
-use Rattle.memory.specs.Writes.{write, IsInWord}
+use Rattle.std.proofs.lemmas.List.Elements.{All-set}
 use Rattle.hart.specs.State.{HartView}
 use Rattle.hart.specs.Steps.{need_of, stepped}
 use Rattle.hart.specs.declared.need.Need.{Need}
 use Rattle.hart.specs.declared.status.Status.{Status}
 use Rattle.hart.specs.declared.status.Status.TheVariants as status
 use Rattle.hart.proofs.Advances.{advanced-words}
-use Rattle.step_machine.specs.inner.Config.{Config, IsInRange, buffer_of, step_at, step_hart, HasAddress, Fit, IsNext, IsReady, act_in, act_outcome, outcome_for}
+use Rattle.step_machine.specs.inner.Config.{Config, IsInRange, step_at, step_hart, Fit, IsNext, IsReady, act_in, act_outcome, outcome_for}
 use Rattle.step_machine.proofs.Decides.{need_of-in_range}
-use Rattle.memory.specs.declared.writes.Write.{Write}
 
 -- the element x of the list, stepped in its place
 pub stepped_in_place : (hs : List HartView) (h v : ℕ) (x : HartView) → h < length hs → x ≡ get_or hs h x → set hs h (stepped x v) ≡ step_at hs h v (slice_get hs h)
@@ -36,32 +34,6 @@ fit_step M c h v fit = record {
   words = fit.words;
   harts = words_step_at M c.harts h v (slice_get c.harts h) refl fit.harts;
   pending = fit.pending;
-}
-
-pub fit_store : (M : ℕ) (c : Config) (h a width v : ℕ) → h < length c.buffers → IsInWord width a → a < 4 * M → Fit M c → Fit M (record c { buffers = set c.buffers h (buffer_of c h ++ write a width v ∷ []) })
-fit_store M c h a width v within small below fit = record {
-  buffers = length-set c.buffers h (buffer_of c h ++ write a width v ∷ []) ∙ fit.buffers;
-  words = fit.words;
-  harts = fit.harts;
-  pending = All-set (λ (ps : List Write). All (HasAddress M) ps) c.buffers h (buffer_of c h ++ write a width v ∷ [])
-      (All-push (HasAddress M) (buffer_of c h) (write a width v) (fit.pending h [] within) (small, below)) fit.pending;
-}
-
-pub fit_word : (M : ℕ) (c : Config) (i v : ℕ) → Fit M c → Fit M (record c { words = set c.words i v })
-fit_word M c i v fit = record {
-  buffers = fit.buffers;
-  words = length-set c.words i v ∙ fit.words;
-  harts = fit.harts;
-  pending = fit.pending;
-}
-
-pub fit_land : (M : ℕ) (c : Config) (h : ℕ) → h < length c.buffers → Fit M c → Fit M (record c { buffers = set c.buffers h (drop 1 (buffer_of c h)) })
-fit_land M c h within fit = record {
-  buffers = length-set c.buffers h (drop 1 (buffer_of c h)) ∙ fit.buffers;
-  words = fit.words;
-  harts = fit.harts;
-  pending = All-set (λ (ps : List Write). All (HasAddress M) ps) c.buffers h (drop 1 (buffer_of c h))
-      (All-drop (HasAddress M) 1 (buffer_of c h) (fit.pending h [] within)) fit.pending;
 }
 
 pub fit_stepped : (M : ℕ) (c : Config) (h v : ℕ) (x y : HartView) → h < length c.harts → x ≡ get_or c.harts h x → y ≡ stepped x v → Fit M c → Fit M (record c { harts = set c.harts h y })

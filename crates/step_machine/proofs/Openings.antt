@@ -1,4 +1,4 @@
--- Openings within the limits.
+-- Openings within the limits: for the crates above.
 use Rattle.std.proofs.Common.{ℕ, ◌≤◌, arith}
 use Rattle.step_machine.specs.History.{Start, FitsIn}
 

@@ -96,8 +96,7 @@ run_on B M o before [] kept = ap (hist o) (append-nil before)
 run_on B M o before (e ∷ es) kept =
     let longer : Kept B M (hist o ((before ++ e ∷ []) ++ es)) = subst (λ (xs : List Entry). Kept B M (hist o xs)) (sym (append_assoc before (e ∷ []) es)) kept in
     let here : Kept B M (hist o (before ++ e ∷ [])) = kept-front B M o (before ++ e ∷ []) es longer in
-    let rest : RunFrom B M (hist o (before ++ e ∷ [])) (map event_of es) (hist o ((before ++ e ∷ []) ++ es)) = run_on B M o (before ++ e ∷ []) es longer in
-    (
+    let rest : RunFrom B M (hist o (before ++ e ∷ [])) (map event_of es) (hist o ((before ++ e ∷ []) ++ es)) = run_on B M o (before ++ e ∷ []) es longer in (
       outcome.Did e,
       hist o (before ++ e ∷ []),
       added B M (hist o before) e (record { legal = here.legal; path = here.paths (hart_of e) (last_of_harts o before e here.of_harts) }),

@@ -72,7 +72,7 @@ pub kept-run : (B M : ℕ) (t : History) (evs : List Event) (new : History) → 
 kept-run B M t [] new kept run = subst (Kept B M) (sym run) kept
 kept-run B M t (ev ∷ evs) new kept run = kept-run B M run.1 evs new (kept-happens B M t ev run.0 run.1 kept run.2) run.3
 
--- what each event keeps, each run keeps; the histories between are kept too
+-- what each event keeps, each run keeps, the histories between being kept too: for the crates above
 pub run_induction : (B M : ℕ) (P : History → Type 0) → ((t : History) (ev : Event) (o : Outcome) (new : History) → Kept B M t → P t → Happens B M t ev o new → P new) → (t : History) (evs : List Event) (new : History) → Kept B M t → P t → RunFrom B M t evs new → P new
 run_induction B M P step t [] new kept holds run = subst P (sym run) holds
 run_induction B M P step t (ev ∷ evs) new kept holds run =

@@ -1,6 +1,6 @@
 -- A sound machine stays sound, whatever the event.
-use Rattle.std.proofs.Common.{◌≡◌, ℕ, ◌-◌, ◌≤◌, ◌<◌, List, [], length, get_or, Option, Some, None, refl, sym, ◌∙◌, ap, subst, arith}
-use Rattle.std.specs.Prelude.{map, option_map, IfSome, All}
+use Rattle.std.proofs.Common.{◌≡◌, ℕ, ◌-◌, ◌≤◌, List, [], length, get_or, Option, Some, None, refl, sym, ◌∙◌, ap, subst, arith}
+use Rattle.std.specs.Prelude.{map, option_map, All}
 use Rattle.std.specs.List.{slice_get}
 use Rattle.std.proofs.lemmas.List.{length-map}
 use Rattle.std.proofs.lemmas.Option.{slice_get_within, slice_get-get_or, get_or_from_slice_get, slice_get-map}
@@ -9,14 +9,13 @@ use Rattle.hart.specs.State.{HartState, HartView}
 use Rattle.hart.specs.Steps.{stepped}
 use Rattle.hart.specs.declared.need.Report.{Report}
 use Rattle.step_machine.specs.declared.events.Event.{Event}
-use Rattle.step_machine.specs.declared.events.Event.TheVariants as event
 use Rattle.step_machine.specs.declared.events.Entry.{Entry}
 use Rattle.step_machine.specs.declared.events.Entry.TheVariants as entry
 use Rattle.step_machine.specs.declared.events.Outcome.{Outcome}
 use Rattle.step_machine.specs.declared.events.Outcome.TheVariants as outcome
 use Rattle.step_machine.specs.History.{Start, History, unrun, FitsIn}
 use Rattle.step_machine.specs.Runs.{Happens}
-use Rattle.step_machine.specs.inner.Config.{Config, HasAddress, Fit, AllHaveRoom, HasRoom, SameButRoom, told, step_at, after_entry, after_outcome, entries_after, outcome_of, opened_config}
+use Rattle.step_machine.specs.inner.Config.{Config, HasAddress, Fit, AllHaveRoom, SameButRoom, told, step_at, after_entry, after_outcome, entries_after, outcome_of, opened_config}
 use Rattle.step_machine.specs.inner.Ties.{view_state, Tied, Sound}
 use Rattle.step_machine.proofs.Carried.{carried}
 use Rattle.step_machine.proofs.Fitting.{length-step_at}
@@ -155,15 +154,6 @@ sound_outcome B M n t c ev outcome.Waited sound idles fit = still B M n t c soun
 sound_outcome B M n t c ev outcome.NothingToLand sound idles fit = still B M n t c sound
 sound_outcome B M n t c ev outcome.Over sound idles fit = still B M n t c sound
 sound_outcome B M n t c ev outcome.NoHart sound idles fit = still B M n t c sound
-
--- where every hart has room, so has the one that acts
-pub has_room : (n : ℕ) (hs : List HartView) (ev : Event) → 0 < n → AllHaveRoom n hs → HasRoom hs ev
-has_room n hs (event.Act h) some all = at (slice_get hs h) refl
-  where
-    at : (so : Option HartView) → slice_get hs h ≡ so → IfSome so (λ (v : HartView). 0 < v.room)
-    at None is = tt
-    at (Some v) is = let room : n ≤ v.room = all h v is in omega arith
-has_room n hs (event.Land h) some all = tt
 
 pub sound_held : (B M : ℕ) (o : Start) (es : List Entry) (c : Config) → FitsIn M o → es ≡ [] → c ≡ opened_config M o → Sound B M (record { opening = o; entries = es }) c 0
 sound_held B M o es c fits none is =

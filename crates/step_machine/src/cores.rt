@@ -231,7 +231,8 @@ impl<const B: usize, const M: usize> Cores<B, M> {
         }
         match self.buffers[index].land() {
             Some(store) => {
-                self.memory.store_bytes(store.addr, store.width, store.value);
+                self.memory
+                    .store_bytes(store.addr, store.width, store.value);
                 Outcome::Did(Entry::Land { hart })
             }
             None if self.harts[index].status() == Status::Running => Outcome::NothingToLand,

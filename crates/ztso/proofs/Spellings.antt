@@ -7,22 +7,26 @@ use Rattle.clap.specs.Lexer.{long_of, short_of}
 use Rattle.clap.specs.Words.{Text}
 use Rattle.clap.proofs.OnLiterals.{clap_on_literals}
 use Rattle.ztso.specs.CommandLines.{Answers, job_said}
-use Rattle.ztso.specs.Spellings.{AsksFor, IsSpelling, IsWord, text_of}
+use Rattle.ztso.specs.Spellings.{AsksFor, IsSpelling, IsSpellingOf, IsWord, text_of}
+use Rattle.ztso.specs.declared.job.Task.{Task}
 use Rattle.ztso.specs.declared.failure.Failure.{Failure}
 use Rattle.ztso.specs.declared.job.Capacity.{Capacity}
 use Rattle.ztso.specs.declared.job.Capacity.TheVariants.{One, Two, Four, Sixteen}
 use Rattle.ztso.specs.declared.job.Job.{Job}
-use Rattle.ztso.specs.Jobs.{Wanted}
-use Rattle.ztso.specs.Jobs.Wanted.{Steps, Asm, Dis, Run, Replay, Try}
+use Rattle.ztso.specs.declared.job.Task.TheVariants.{Asm, Dis, Machine}
+use Rattle.ztso.specs.declared.job.Work.{Work}
+use Rattle.ztso.specs.declared.job.Work.TheVariants.{Steps, Run, Replay, Try}
+use Rattle.ztso.specs.Jobs.{Wanted, one_input, two_inputs}
+use Rattle.ztso.specs.Jobs.Input.{Standard, File}
 
 -- ---- `steps`, `asm` and `dis`
 
-alone : (name : Text) → job_said (name ∷ codes "steps" ∷ []) ≡ Some (Steps Four)
+alone : (name : Text) → job_said (name ∷ codes "steps" ∷ []) ≡ Some (one_input (Machine Steps Four) Standard)
 unfolding clap_on_literals job_said
 alone name = refl
 
 with_a_blank : (name : Text) (capacity : Capacity)
-    → job_said (name ∷ codes "steps" ∷ codes "--buffer" ∷ text_of capacity ∷ []) ≡ Some (Steps capacity)
+    → job_said (name ∷ codes "steps" ∷ codes "--buffer" ∷ text_of capacity ∷ []) ≡ Some (one_input (Machine Steps capacity) Standard)
 unfolding clap_on_literals job_said
 with_a_blank name One = refl
 with_a_blank name Two = refl
@@ -30,26 +34,26 @@ with_a_blank name Four = refl
 with_a_blank name Sixteen = refl
 
 with_an_equals : (name : Text) (capacity : Capacity)
-    → job_said (name ∷ codes "steps" ∷ (codes "--buffer=" ++ text_of capacity) ∷ []) ≡ Some (Steps capacity)
+    → job_said (name ∷ codes "steps" ∷ (codes "--buffer=" ++ text_of capacity) ∷ []) ≡ Some (one_input (Machine Steps capacity) Standard)
 unfolding clap_on_literals job_said
 with_an_equals name One = refl
 with_an_equals name Two = refl
 with_an_equals name Four = refl
 with_an_equals name Sixteen = refl
 
-of_asm : (name : Text) → job_said (name ∷ codes "asm" ∷ []) ≡ Some Asm
+of_asm : (name : Text) → job_said (name ∷ codes "asm" ∷ []) ≡ Some (one_input Asm Standard)
 unfolding clap_on_literals job_said
 of_asm name = refl
 
-of_dis : (name : Text) → job_said (name ∷ codes "dis" ∷ []) ≡ Some Dis
+of_dis : (name : Text) → job_said (name ∷ codes "dis" ∷ []) ≡ Some (one_input Dis Standard)
 unfolding clap_on_literals job_said
 of_dis name = refl
 
 of_steps : (name : Text) (capacity : Capacity) (rest : List Text) → AsksFor capacity rest
-    → job_said (name ∷ codes "steps" ∷ rest) ≡ Some (Steps capacity)
+    → job_said (name ∷ codes "steps" ∷ rest) ≡ Some (one_input (Machine Steps capacity) Standard)
 of_steps name capacity rest (inl default) =
     ap (λ (words : List Text). job_said (name ∷ codes "steps" ∷ words)) default.0 ∙ alone name
-    ∙ ap (λ (c : Capacity). Some (Steps c)) (sym default.1)
+    ∙ ap (λ (c : Capacity). Some (one_input (Machine Steps c) Standard)) (sym default.1)
 of_steps name capacity rest (inr (inl blank)) =
     ap (λ (words : List Text). job_said (name ∷ codes "steps" ∷ words)) blank ∙ with_a_blank name capacity
 of_steps name capacity rest (inr (inr equals)) =
@@ -72,8 +76,8 @@ command_of true = codes "run"
 command_of false = codes "replay"
 
 abbrev wanted_of : (is_run : Bool) → (file schedule : Text) → Capacity → Wanted
-wanted_of true file schedule capacity = Run file schedule capacity
-wanted_of false file schedule capacity = Replay file schedule capacity
+wanted_of true file schedule capacity = two_inputs (Machine Run capacity) (File file) (File schedule)
+wanted_of false file schedule capacity = two_inputs (Machine Replay capacity) (File file) (File schedule)
 
 module _ (name file schedule : Text) (f : IsWord file) (s : IsWord schedule) where
   on_files : (is_run : Bool) → job_said (name ∷ command_of is_run ∷ file ∷ schedule ∷ []) ≡ Some (wanted_of is_run file schedule Four)
@@ -115,19 +119,22 @@ module _ (name file schedule : Text) (f : IsWord file) (s : IsWord schedule) whe
   said_on_files is_run capacity options (inr (inr equals)) =
       ap (λ (words : List Text). job_said (name ∷ command_of is_run ∷ file ∷ schedule ∷ words)) equals ∙ on_files_and_equals is_run capacity
 
+-- ---- each task
+
+spelled_of : (name : Text) (rest : List Text) (task : Task) (wanted : Wanted) → IsSpellingOf task wanted rest → job_said (name ∷ rest) ≡ Some wanted
+spelled_of name rest Asm wanted (is, wants) = ap (λ (words : List Text). job_said (name ∷ words)) is ∙ of_asm name ∙ ap (λ (w : Wanted). Some w) (sym wants)
+spelled_of name rest Dis wanted (is, wants) = ap (λ (words : List Text). job_said (name ∷ words)) is ∙ of_dis name ∙ ap (λ (w : Wanted). Some w) (sym wants)
+spelled_of name rest (Machine Steps capacity) wanted (options, is, asks, wants) =
+    ap (λ (words : List Text). job_said (name ∷ words)) is ∙ of_steps name capacity options asks ∙ ap (λ (w : Wanted). Some w) (sym wants)
+spelled_of name rest (Machine Run capacity) wanted (file, schedule, options, is, f, s, asks, wants) =
+    ap (λ (words : List Text). job_said (name ∷ words)) is ∙ said_on_files name file schedule f s true capacity options asks ∙ ap (λ (w : Wanted). Some w) (sym wants)
+spelled_of name rest (Machine Replay capacity) wanted (file, schedule, options, is, f, s, asks, wants) =
+    ap (λ (words : List Text). job_said (name ∷ words)) is ∙ said_on_files name file schedule f s false capacity options asks ∙ ap (λ (w : Wanted). Some w) (sym wants)
+spelled_of name rest (Machine (Try seed runs events) capacity) wanted t = absurd t
+
 pub job_said-spelling : (name : Text) (rest : List Text) (wanted : Wanted) → IsSpelling wanted rest
     → job_said (name ∷ rest) ≡ Some wanted
-job_said-spelling name rest (Steps capacity) (options, is, asks) =
-    ap (λ (words : List Text). job_said (name ∷ words)) is ∙ of_steps name capacity options asks
-job_said-spelling name rest Asm alone_is =
-    ap (λ (words : List Text). job_said (name ∷ words)) alone_is ∙ of_asm name
-job_said-spelling name rest Dis alone_is =
-    ap (λ (words : List Text). job_said (name ∷ words)) alone_is ∙ of_dis name
-job_said-spelling name rest (Run file schedule capacity) (options, is, f, s, asks) =
-    ap (λ (words : List Text). job_said (name ∷ words)) is ∙ said_on_files name file schedule f s true capacity options asks
-job_said-spelling name rest (Replay file schedule capacity) (options, is, f, s, asks) =
-    ap (λ (words : List Text). job_said (name ∷ words)) is ∙ said_on_files name file schedule f s false capacity options asks
-job_said-spelling name rest (Try file seed runs events capacity) spelling = absurd spelling
+job_said-spelling name rest wanted spelling = spelled_of name rest wanted.task wanted spelling
 
 -- so it is answered by that job
 pub answers_spelled : (words : List Text) (r : Result Job Failure) → Answers (job_said words) r

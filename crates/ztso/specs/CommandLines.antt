@@ -9,8 +9,12 @@ use Rattle.ztso.specs.declared.job.Capacity.{Capacity}
 use Rattle.ztso.specs.declared.job.Capacity.TheVariants.{One, Two, Four, Sixteen}
 use Rattle.ztso.specs.declared.job.Job.{Job}
 use Rattle.ztso.specs.Descriptions.{ztso_command}
-use Rattle.ztso.specs.Jobs.{Wanted, wanted_by}
-use Rattle.ztso.specs.Jobs.Wanted.{Steps, Asm, Dis, Run, Replay, Try}
+use Rattle.ztso.specs.declared.job.Task.{Task}
+use Rattle.ztso.specs.declared.job.Task.TheVariants.{Asm, Dis, Machine}
+use Rattle.ztso.specs.declared.job.Work.{Work}
+use Rattle.ztso.specs.declared.job.Work.TheVariants.{Steps, Run, Replay, Try}
+use Rattle.ztso.specs.Jobs.{Input, Wanted, one_input, two_inputs, wanted_by}
+use Rattle.ztso.specs.Jobs.Input.{Standard, File}
 use Rattle.ztso.specs.Numbers.{number_within}
 
 infixl 10 ◌>>=◌
@@ -24,50 +28,64 @@ capacity_said text =
     else (if bytes_eq text (codes "4") then Some Four
     else (if bytes_eq text (codes "16") then Some Sixteen else None)))
 
--- what the options and words of a command ask for
-abbrev pub capacity_in : List Row → Option Capacity
-capacity_in options = first_of (codes "buffer") options >>= capacity_said
-
-abbrev pub steps_in : List Row → Option Wanted
-steps_in options = do
-  capacity ← capacity_in options
-  Some (Steps capacity)
-
-abbrev pub run_in : List Row → Option Wanted
-run_in options = do
-  file ← first_of (codes "file") options
-  schedule ← first_of (codes "schedule") options
-  capacity ← capacity_in options
-  Some (Run file schedule capacity)
-
-abbrev pub replay_in : List Row → Option Wanted
-replay_in options = do
-  file ← first_of (codes "file") options
-  schedule ← first_of (codes "schedule") options
-  capacity ← capacity_in options
-  Some (Replay file schedule capacity)
-
-abbrev pub try_in : List Row → Option Wanted
+-- the numbers of `try`, from its options
+abbrev pub try_in : List Row → Option Work
 try_in options = do
-  file ← first_of (codes "file") options
   seed_text ← first_of (codes "seed") options
   seed ← number_within 0 18446744073709551615 seed_text
   runs_text ← first_of (codes "runs") options
   runs ← number_within 1 100000 runs_text
   length_text ← first_of (codes "length") options
   events ← number_within 0 1048576 length_text
-  capacity ← capacity_in options
-  Some (Try file seed runs events capacity)
+  Some (Try seed runs events)
 
--- what a command with its options and words asks for
+-- the capacity that the options ask for
+abbrev pub capacity_in : List Row → Option Capacity
+capacity_in options = first_of (codes "buffer") options >>= capacity_said
+
+-- the work with a machine of this capacity
+abbrev pub machine_in : List Row → Option Work → Option Task
+machine_in options found = do
+  work ← found
+  capacity ← capacity_in options
+  Some (Machine work capacity)
+
+-- the file that a word names
+abbrev pub file_in : (id : Text) → List Row → Option Input
+file_in id options = do
+  path ← first_of id options
+  Some (File path)
+
+-- a task on the file `file`
+abbrev pub on_file : List Row → Option Task → Option Wanted
+on_file options found = do
+  task ← found
+  file ← file_in (codes "file") options
+  Some (one_input task file)
+
+-- a task on the files `file` and `schedule`
+abbrev pub on_file_and_schedule : List Row → Option Task → Option Wanted
+on_file_and_schedule options found = do
+  task ← found
+  file ← file_in (codes "file") options
+  schedule ← file_in (codes "schedule") options
+  Some (two_inputs task file schedule)
+
+-- a task on standard input
+abbrev pub on_standard : Option Task → Option Wanted
+on_standard found = do
+  task ← found
+  Some (one_input task Standard)
+
+-- The table of commands: what each asks for, by its options and words.
 abbrev pub job_in : Text × List Row → Option Wanted
 job_in p =
-    if bytes_eq p.0 (codes "steps") then steps_in p.1
-    else (if bytes_eq p.0 (codes "asm") then Some Asm
-    else (if bytes_eq p.0 (codes "dis") then Some Dis
-    else (if bytes_eq p.0 (codes "run") then run_in p.1
-    else (if bytes_eq p.0 (codes "replay") then replay_in p.1
-    else (if bytes_eq p.0 (codes "try") then try_in p.1 else None)))))
+    if bytes_eq p.0 (codes "steps") then on_standard (machine_in p.1 (Some Steps))
+    else (if bytes_eq p.0 (codes "asm") then on_standard (Some Asm)
+    else (if bytes_eq p.0 (codes "dis") then on_standard (Some Dis)
+    else (if bytes_eq p.0 (codes "run") then on_file_and_schedule p.1 (machine_in p.1 (Some Run))
+    else (if bytes_eq p.0 (codes "replay") then on_file_and_schedule p.1 (machine_in p.1 (Some Replay))
+    else (if bytes_eq p.0 (codes "try") then on_file p.1 (machine_in p.1 (try_in p.1)) else None)))))
 
 abbrev pub job_without : Kinds → Option (Text × List Row) → Option Wanted
 job_without [] found = option_and_then job_in found

@@ -3,8 +3,12 @@ use Rattle.std.specs.Prelude.{◌≡◌, ◌≢◌, ◌⊎◌, ◌++◌, List, [
 use Rattle.clap.specs.Words.{Text}
 use Rattle.ztso.specs.declared.job.Capacity.{Capacity}
 use Rattle.ztso.specs.declared.job.Capacity.TheVariants.{One, Two, Four, Sixteen}
-use Rattle.ztso.specs.Jobs.{Wanted}
-use Rattle.ztso.specs.Jobs.Wanted.{Steps, Asm, Dis, Run, Replay, Try}
+use Rattle.ztso.specs.declared.job.Task.{Task}
+use Rattle.ztso.specs.declared.job.Task.TheVariants.{Asm, Dis, Machine}
+use Rattle.ztso.specs.declared.job.Work.{Work}
+use Rattle.ztso.specs.declared.job.Work.TheVariants.{Steps, Run, Replay, Try}
+use Rattle.ztso.specs.Jobs.{Wanted, one_input, two_inputs}
+use Rattle.ztso.specs.Jobs.Input.{Standard, File}
 
 -- the text by which a capacity is asked for
 abbrev pub text_of : Capacity → Text
@@ -25,16 +29,24 @@ AsksFor capacity words =
     ⊎ ((words ≡ codes "--buffer" ∷ text_of capacity ∷ [])
     ⊎ (words ≡ (codes "--buffer=" ++ text_of capacity) ∷ []))
 
--- The words after the program's name that ask for a job. Options may also stand in other places, which
--- isn't said here, and nothing is said of how `try` is written.
+-- a command on two files
+abbrev pub IsOnFiles : (command : Text) → Work → Capacity → Wanted → List Text → Type 0
+IsOnFiles command work capacity wanted words =
+    (file schedule : Text) × (options : List Text) × (words ≡ command ∷ file ∷ schedule ∷ options)
+    × IsWord file × IsWord schedule × AsksFor capacity options
+    × (wanted ≡ two_inputs (Machine work capacity) (File file) (File schedule))
+
+-- The words after the program's name that ask for this task, by the task: the table's rows. Options may
+-- also stand in other places, which isn't said here, and nothing is said of how `try` is written.
+abbrev pub IsSpellingOf : Task → Wanted → List Text → Type 0
+IsSpellingOf Asm wanted words = (words ≡ codes "asm" ∷ []) × (wanted ≡ one_input Asm Standard)
+IsSpellingOf Dis wanted words = (words ≡ codes "dis" ∷ []) × (wanted ≡ one_input Dis Standard)
+IsSpellingOf (Machine Steps capacity) wanted words =
+    (options : List Text) × (words ≡ codes "steps" ∷ options) × AsksFor capacity options
+    × (wanted ≡ one_input (Machine Steps capacity) Standard)
+IsSpellingOf (Machine Run capacity) wanted words = IsOnFiles (codes "run") Run capacity wanted words
+IsSpellingOf (Machine Replay capacity) wanted words = IsOnFiles (codes "replay") Replay capacity wanted words
+IsSpellingOf (Machine (Try seed runs events) capacity) wanted words = ⊥
+
 abbrev pub IsSpelling : Wanted → List Text → Type 0
-IsSpelling (Steps capacity) words = (options : List Text) × (words ≡ codes "steps" ∷ options) × AsksFor capacity options
-IsSpelling Asm words = words ≡ codes "asm" ∷ []
-IsSpelling Dis words = words ≡ codes "dis" ∷ []
-IsSpelling (Run file schedule capacity) words =
-    (options : List Text) × (words ≡ codes "run" ∷ file ∷ schedule ∷ options)
-    × IsWord file × IsWord schedule × AsksFor capacity options
-IsSpelling (Replay file schedule capacity) words =
-    (options : List Text) × (words ≡ codes "replay" ∷ file ∷ schedule ∷ options)
-    × IsWord file × IsWord schedule × AsksFor capacity options
-IsSpelling (Try file seed runs events capacity) words = ⊥
+IsSpelling wanted words = IsSpellingOf wanted.task wanted words

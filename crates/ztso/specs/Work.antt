@@ -1,5 +1,5 @@
 -- How a job ends.
-use Rattle.std.specs.Prelude.{ℕ, ◌≡◌, Bool, true, false, List, Option, IfSome, Result, Ok, Err}
+use Rattle.std.specs.Prelude.{ℕ, ◌≡◌, Bool, true, false, List, Option, Result, Ok, Err}
 use Rattle.rand_core.specs.Stream.{Stream}
 use Rattle.rand_core.specs.Steps.{stream_of, steps_u32}
 use Rattle.rand_core.specs.Pcg32Seed.{pcg32_seed}
@@ -8,17 +8,20 @@ use Rattle.litmus.specs.declared.verdict.Verdict.{Verdict}
 use Rattle.litmus.specs.declared.verdict.Verdict.TheVariants.{Holds, Fails, Unfinished}
 use Rattle.ztso_engines.specs.declared.fault.Fault.{Fault}
 use Rattle.ztso_engines.specs.declared.fault.Refusal.{Refusal}
-use Rattle.ztso_engines.specs.Engines.{Ends}
+use Rattle.ztso_engines.specs.Engines.{AnswersBoth, Ends, OfInput}
 use Rattle.ztso_engines.specs.Asm.{IsAsmAnswer}
 use Rattle.ztso_engines.specs.Dis.{IsDisAnswer}
 use Rattle.ztso_engines.specs.Steps.{IsStepsAnswer}
+use Rattle.ztso_engines.specs.Tests.{HasNoTest}
 use Rattle.ztso_engines.specs.Run.{IsRunAnswer}
 use Rattle.ztso_engines.specs.Replay.{IsReplayAnswer}
 use Rattle.ztso_engines.specs.Outcomes.{IsTryAnswer}
 use Rattle.ztso.specs.declared.job.Capacity.{Capacity}
 use Rattle.ztso.specs.declared.job.Capacity.TheVariants.{One, Two, Four, Sixteen}
-use Rattle.ztso.specs.declared.job.Job.{Job}
-use Rattle.ztso.specs.declared.job.Job.TheVariants.{Steps, Asm, Dis, Run, Replay, Try}
+use Rattle.ztso.specs.declared.job.Task.{Task}
+use Rattle.ztso.specs.declared.job.Task.TheVariants.{Asm, Dis, Machine}
+use Rattle.ztso.specs.declared.job.Work.{Work}
+use Rattle.ztso.specs.declared.job.Work.TheVariants.{Steps, Run, Replay, Try}
 
 -- how many stores a buffer of this capacity holds
 abbrev pub stores_of : Capacity → ℕ
@@ -50,36 +53,57 @@ abbrev pub ended_with : {V : Type 0} → (V → ℕ) → Result V Fault → Resu
 ended_with status (Ok value) = Ok (status value)
 ended_with status (Err fault) = Err fault
 
--- ---- what answers a job's inputs: an output and the exit status, or a refusal
+-- ---- what answers a task's inputs: an output and the exit status, or a refusal
+
+-- what the readers of the inputs tell, in the order in which they are read
+pub record Given : Type 0 where
+  pub first : Option (List ℕ)
+  pub second : Option (List ℕ)
 
 abbrev pub Answer : Type 0
 Answer = Result (List ℕ × ℕ) Refusal
 
 -- an engine's output, and the status of the value that it returns beside it
 abbrev pub Told : {V : Type 0} → (V → ℕ) → (Result (List ℕ × V) Refusal → Type 0) → Answer → Type 0
-Told {V} status IsAnswer (Ok answer) = (value : V) × (answer.1 ≡ status value) × IsAnswer (Ok (answer.0, value))
+Told {V = V} status IsAnswer (Ok answer) = (value : V) × (answer.1 ≡ status value) × IsAnswer (Ok (answer.0, value))
 Told status IsAnswer (Err refusal) = IsAnswer (Err refusal)
 
--- an engine's output, with the status 0
-abbrev pub Done : (Result (List ℕ) Refusal → Type 0) → Answer → Type 0
-Done IsAnswer (Ok answer) = (answer.1 ≡ 0) × IsAnswer (Ok answer.0)
-Done IsAnswer (Err refusal) = IsAnswer (Err refusal)
+-- what answers the first input alone, and what answers both
+abbrev pub ToldBy : {V : Type 0} → (V → ℕ) → (List ℕ → Result (List ℕ × V) Refusal → Type 0) → Given → Answer → Type 0
+ToldBy status IsAnswer given = Told status (λ answer. OfInput given.first (λ bytes. IsAnswer bytes answer))
 
--- The inputs are standard input, the litmus text and the schedule, where their bytes are known. The
--- program's memory has 4,096 words.
-abbrev pub IsAnswerTo : Job → (standard file schedule : Option (List ℕ)) → Answer → Type 0
-IsAnswerTo (Steps capacity) standard file schedule =
-    Done (λ answer. IfSome standard (λ input. IsStepsAnswer (stores_of capacity) 4096 input answer))
-IsAnswerTo Asm standard file schedule = Done (λ answer. IfSome standard (λ input. IsAsmAnswer input answer))
-IsAnswerTo Dis standard file schedule = Done (λ answer. IfSome standard (λ input. IsDisAnswer input answer))
-IsAnswerTo (Run f s capacity) standard file schedule =
-    Told verdict_status (λ answer. IfSome file (λ test. IfSome schedule (λ events. IsRunAnswer (stores_of capacity) 4096 test events answer)))
-IsAnswerTo (Replay f s capacity) standard file schedule =
-    Told done_status (λ answer. IfSome file (λ test. IfSome schedule (λ events. IsReplayAnswer (stores_of capacity) 4096 test events answer)))
-IsAnswerTo (Try f seed runs size capacity) standard file schedule =
-    Told tried_status (λ answer. IfSome file (λ test. IsTryAnswer (stores_of capacity) 4096 (drawn_from seed) runs size test answer))
+abbrev pub ToldByBoth : {V : Type 0} → (V → ℕ) → (List ℕ → List ℕ → Result (List ℕ × V) Refusal → Type 0) → Given → Answer → Type 0
+ToldByBoth status IsAnswer given = Told status (AnswersBoth IsAnswer given.first given.second)
+
+-- The table of work with a machine, over buffers of B stores and a memory of 4,096 words.
+abbrev pub IsAnswerOf : (B : ℕ) → Work → Given → Answer → Type 0
+IsAnswerOf B Steps = ToldBy done_status (IsStepsAnswer B 4096)
+IsAnswerOf B Run = ToldByBoth verdict_status (IsRunAnswer B 4096)
+IsAnswerOf B Replay = ToldByBoth done_status (IsReplayAnswer B 4096)
+IsAnswerOf B (Try seed runs size) = ToldBy tried_status (IsTryAnswer B 4096 (drawn_from seed) runs size)
+
+-- and of all tasks
+abbrev pub IsAnswerTo : Task → Given → Answer → Type 0
+IsAnswerTo Asm = ToldBy done_status IsAsmAnswer
+IsAnswerTo Dis = ToldBy done_status IsDisAnswer
+IsAnswerTo (Machine work capacity) = IsAnswerOf (stores_of capacity) work
 
 -- What was written and the exit status answer the inputs, or the refusal does and nothing was written.
--- Where a read failed or memory ran out nothing was written; where a write failed nothing is said.
-abbrev pub DoesJob : Job → Result ℕ Fault → (standard file schedule old new : Option (List ℕ)) → Type 0
-DoesJob job result standard file schedule old new = Ends (λ status out. (out, status)) (IsAnswerTo job standard file schedule) result old new
+-- Where a read failed or memory ran out nothing was written; where a write failed nothing is said of it.
+abbrev pub DoesJob : {W : Type 0} → Task → Result ℕ Fault → Given → (contents : W → Option (List ℕ)) → (old new : W) → Type 0
+DoesJob task result given contents old new = Ends (IsAnswerTo task given) result contents old new
+
+-- ---- what is left unread
+
+-- A first input with which the second is left unread: any, where there is only one; else one that is
+-- known, and refused.
+abbrev pub LeavesSecondOf : Work → (first : Option (List ℕ)) → Type 0
+LeavesSecondOf Steps first = Unit {0}
+LeavesSecondOf Run first = HasNoTest first
+LeavesSecondOf Replay first = HasNoTest first
+LeavesSecondOf (Try seed runs size) first = Unit {0}
+
+abbrev pub LeavesSecond : Task → (first : Option (List ℕ)) → Type 0
+LeavesSecond Asm first = Unit {0}
+LeavesSecond Dis first = Unit {0}
+LeavesSecond (Machine work capacity) first = LeavesSecondOf work first

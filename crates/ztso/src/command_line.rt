@@ -2,13 +2,13 @@
 
 ghost use Rattle.std.specs.Prelude.{◌≡◌, ◌∷◌, ℕ, List, IfOk, map, option_and_then, option_map};
 ghost use Rattle.clap.specs.Words.{FailsBy, fault_of, first_of, found_of, rows_of, subcommand_of, subcommand_rows_of};
-ghost use Rattle.ztso.specs.CommandLines.{Answers, capacity_in, capacity_said, job_in, job_said, replay_in, run_in, steps_in, try_in};
+ghost use Rattle.ztso.specs.CommandLines.{Answers, capacity_said, job_in, job_said, machine_in, on_file, on_file_and_schedule, on_standard, try_in};
 ghost use Rattle.ztso.specs.Descriptions.{ztso_command};
 ghost use Rattle.ztso.specs.Spellings.{IsSpelling};
 ghost use Rattle.ztso.specs.Jobs.{Wanted, wanted_by};
 
 use crate::failure::Failure;
-use crate::job::{Capacity, Job};
+use crate::job::{Capacity, Input, Job, Task, Work};
 use clap::ArgMatches;
 use description::ztso_command;
 use numbers::{count_of, seed_of};
@@ -17,8 +17,6 @@ use std::convert::AsStr;
 
 mod description;
 mod numbers;
-#[cfg(test)]
-mod tests;
 
 /// The most schedules that `try` draws.
 const MOST_RUNS: u32 = 100_000;
@@ -50,68 +48,79 @@ fn matches_of<'a, S: AsStr>(alloc: Global, words: &'a [S]) -> Result<ArgMatches<
     command.try_get_matches_from(words)
 }
 
+/// The table of commands: what each asks for.
 fn job_in<'a>(matches: &ArgMatches<'a>) -> Option<Job<'a>>
     ensures { option_map wanted_by result ≡ option_and_then job_in (subcommand_rows_of matches.now) }
 {
     match matches.subcommand()? {
-        ("steps", options) => steps_in(options),
-        ("asm", _) => Some(Job::Asm),
-        ("dis", _) => Some(Job::Dis),
-        ("run", options) => run_in(options),
-        ("replay", options) => replay_in(options),
-        ("try", options) => try_in(options),
+        ("steps", options) => on_standard(machine_in(options, Some(Work::Steps))),
+        ("asm", _) => on_standard(Some(Task::Asm)),
+        ("dis", _) => on_standard(Some(Task::Dis)),
+        ("run", options) => on_file_and_schedule(options, machine_in(options, Some(Work::Run))),
+        ("replay", options) => {
+            on_file_and_schedule(options, machine_in(options, Some(Work::Replay)))
+        }
+        ("try", options) => on_file(options, machine_in(options, try_in(options))),
         _ => None,
     }
 }
 
-fn steps_in<'a>(options: &ArgMatches<'a>) -> Option<Job<'a>>
-    ensures { option_map wanted_by result ≡ steps_in (rows_of (found_of options.now)) }
+/// The task, if there is one, on standard input.
+fn on_standard<'a>(task: Option<Task>) -> Option<Job<'a>>
+    ensures { option_map wanted_by result ≡ on_standard task }
 {
-    let capacity = capacity_in(options)?;
-    Some(Job::Steps { capacity })
-}
-
-fn run_in<'a>(options: &ArgMatches<'a>) -> Option<Job<'a>>
-    ensures { option_map wanted_by result ≡ run_in (rows_of (found_of options.now)) }
-{
-    let file = word_in(options, "file")?;
-    let schedule = word_in(options, "schedule")?;
-    let capacity = capacity_in(options)?;
-    Some(Job::Run {
-        file,
-        schedule,
-        capacity,
+    let task = task?;
+    Some(Job {
+        task,
+        first: Input::Standard,
+        second: None,
     })
 }
 
-fn replay_in<'a>(options: &ArgMatches<'a>) -> Option<Job<'a>>
-    ensures { option_map wanted_by result ≡ replay_in (rows_of (found_of options.now)) }
+/// The task, if there is one, on the file `file`.
+fn on_file<'a>(options: &ArgMatches<'a>, task: Option<Task>) -> Option<Job<'a>>
+    ensures { option_map wanted_by result ≡ on_file (rows_of (found_of options.now)) task }
 {
+    let task = task?;
     let file = word_in(options, "file")?;
-    let schedule = word_in(options, "schedule")?;
-    let capacity = capacity_in(options)?;
-    Some(Job::Replay {
-        file,
-        schedule,
-        capacity,
+    Some(Job {
+        task,
+        first: Input::File(file),
+        second: None,
     })
 }
 
-fn try_in<'a>(options: &ArgMatches<'a>) -> Option<Job<'a>>
-    ensures { option_map wanted_by result ≡ try_in (rows_of (found_of options.now)) }
+/// The task, if there is one, on the files `file` and `schedule`.
+fn on_file_and_schedule<'a>(options: &ArgMatches<'a>, task: Option<Task>) -> Option<Job<'a>>
+    ensures { option_map wanted_by result ≡ on_file_and_schedule (rows_of (found_of options.now)) task }
 {
+    let task = task?;
     let file = word_in(options, "file")?;
+    let schedule = word_in(options, "schedule")?;
+    Some(Job {
+        task,
+        first: Input::File(file),
+        second: Some(Input::File(schedule)),
+    })
+}
+
+/// The work, if there is some, with a machine of the capacity that the options ask for.
+fn machine_in(options: &ArgMatches<'_>, work: Option<Work>) -> Option<Task>
+    ensures { result ≡ machine_in (rows_of (found_of options.now)) work }
+{
+    let work = work?;
+    let capacity = capacity_of(word_in(options, "buffer")?)?;
+    Some(Task::Machine { work, capacity })
+}
+
+/// The runs that `try` is to make.
+fn try_in(options: &ArgMatches<'_>) -> Option<Work>
+    ensures { result ≡ try_in (rows_of (found_of options.now)) }
+{
     let seed = seed_of(word_in(options, "seed")?)?;
     let runs = count_of(word_in(options, "runs")?, 1, MOST_RUNS)?;
     let length = count_of(word_in(options, "length")?, 0, MOST_EVENTS)?;
-    let capacity = capacity_in(options)?;
-    Some(Job::Try {
-        file,
-        seed,
-        runs,
-        length,
-        capacity,
-    })
+    Some(Work::Try { seed, runs, length })
 }
 
 /// The word in this place, or behind this option.
@@ -119,12 +128,6 @@ fn word_in<'a>(options: &ArgMatches<'a>, id: &str) -> Option<&'a str>
     ensures { option_map (λ word. word.now) result ≡ first_of id.now (rows_of (found_of options.now)) }
 {
     options.get_str(id)
-}
-
-fn capacity_in(options: &ArgMatches<'_>) -> Option<Capacity>
-    ensures { result ≡ capacity_in (rows_of (found_of options.now)) }
-{
-    capacity_of(word_in(options, "buffer")?)
 }
 
 fn capacity_of(text: &str) -> Option<Capacity>

@@ -1,8 +1,5 @@
 //! What a command line can ask for.
 
-ghost use Rattle.std.specs.Prelude.{◌≡◌, option_map};
-ghost use Rattle.ztso.specs.Jobs.{file_of, schedule_of};
-
 /// How many stores a hart's buffer holds.
 #[derive(Clone, Copy, Debug, PartialEq, Eq)]
 pub enum Capacity {
@@ -12,60 +9,43 @@ pub enum Capacity {
     Sixteen,
 }
 
-/// What a command line asks for. A `file` names a litmus text, and a `schedule` a schedule text.
+/// Where an input comes from.
 #[derive(Clone, Copy, Debug, PartialEq, Eq)]
-pub enum Job<'a> {
-    /// To run the machine that standard input describes.
-    Steps {
-        capacity: Capacity,
-    },
-    /// To make words of the assembly on standard input.
-    Asm,
-    /// To name the instructions of the words on standard input.
-    Dis,
-    /// To run a litmus test by a schedule, and to judge it.
-    Run {
-        file: &'a str,
-        schedule: &'a str,
-        capacity: Capacity,
-    },
-    /// To tell each event's outcome in a run of a litmus test by a schedule.
-    Replay {
-        file: &'a str,
-        schedule: &'a str,
-        capacity: Capacity,
-    },
-    /// To run a litmus test by `runs` schedules of `length` events, drawn from a generator of this seed.
-    Try {
-        file: &'a str,
-        seed: u64,
-        runs: u32,
-        length: u32,
-        capacity: Capacity,
-    },
+pub enum Input<'a> {
+    Standard,
+    /// The file of this path.
+    File(&'a str),
 }
 
-impl<'a> Job<'a> {
-    /// The litmus text that the job reads, if it does.
-    pub fn file(&self) -> Option<&'a str>
-        ensures { option_map (λ path. path.now) result ≡ file_of self.now }
-    {
-        match self {
-            Job::Steps { .. } | Job::Asm | Job::Dis => None,
-            Job::Run { file, .. } => Some(file),
-            Job::Replay { file, .. } => Some(file),
-            Job::Try { file, .. } => Some(file),
-        }
-    }
+/// What is done with a machine.
+#[derive(Clone, Copy, Debug, PartialEq, Eq)]
+pub enum Work {
+    /// To run the machine that a steps text describes.
+    Steps,
+    /// To run a litmus test by a schedule, and to judge it.
+    Run,
+    /// To tell each event's outcome in a run of a litmus test by a schedule.
+    Replay,
+    /// To run a litmus test by `runs` schedules of `length` events, drawn from a generator of this seed.
+    Try { seed: u64, runs: u32, length: u32 },
+}
 
-    /// The schedule text that the job reads, if it does.
-    pub fn schedule(&self) -> Option<&'a str>
-        ensures { option_map (λ path. path.now) result ≡ schedule_of self.now }
-    {
-        match self {
-            Job::Steps { .. } | Job::Asm | Job::Dis | Job::Try { .. } => None,
-            Job::Run { schedule, .. } => Some(schedule),
-            Job::Replay { schedule, .. } => Some(schedule),
-        }
-    }
+/// What is to be done.
+#[derive(Clone, Copy, Debug, PartialEq, Eq)]
+pub enum Task {
+    /// To make words of assembly.
+    Asm,
+    /// To name the instructions of words.
+    Dis,
+    /// To work with a machine whose harts have buffers of this capacity.
+    Machine { work: Work, capacity: Capacity },
+}
+
+/// What a command line asks for: a task, and its inputs in the order in which they are read.
+#[derive(Clone, Copy, Debug, PartialEq, Eq)]
+pub struct Job<'a> {
+    pub task: Task,
+    pub first: Input<'a>,
+    /// `None` for a task with one input.
+    pub second: Option<Input<'a>>,
 }

@@ -10,12 +10,12 @@
 mod command_line;
 mod failure;
 mod job;
-mod late_file;
+mod late_input;
 mod work;
 
 use command_line::job_of;
 use failure::Failure;
-use late_file::LateFile;
+use late_input::LateInput;
 use std::process::ExitCode;
 use std::rt::{Env, Files};
 use std::{env, io};
@@ -38,10 +38,9 @@ fn run<R: Env + Files + Input + Print + AllocGlobal>(rt: &R) -> Result<u8, Failu
     let job = job_of(rt.alloc(), &words)?;
     let status = do_job(
         rt.alloc(),
-        job,
-        &mut rt.reader(),
-        &mut LateFile::new(rt, job.file()),
-        &mut LateFile::new(rt, job.schedule()),
+        job.task,
+        &mut LateInput::new(rt, Some(job.first)),
+        &mut LateInput::new(rt, job.second),
         &mut io::writer(rt),
     )?;
     Ok(status)

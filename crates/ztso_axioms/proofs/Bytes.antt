@@ -1,11 +1,11 @@
 -- A read's value against the bytes that the order gives it.
-use Rattle.std.proofs.Common.{◌≡◌, ℕ, zero, suc, ◌+◌, ◌-◌, ◌^◌, ◌<◌, ◌≤◌, ◌==◌, Bool, true, false, if◌then◌else◌, List, [], ◌∷◌, Option, Some, None, unwrap_or, refl, sym, ◌∙◌, ap, subst, arith}
+use Rattle.std.proofs.Common.{◌≡◌, ℕ, ◌+◌, ◌-◌, ◌^◌, ◌<◌, ◌≤◌, Bool, true, false, if◌then◌else◌, List, [], ◌∷◌, Option, Some, None, unwrap_or, sym, ◌∙◌, ap, subst, arith}
 use Rattle.std.specs.Prelude.{option_and_then, filter, slice_index, ◌%◌, ◌/◌}
 use Rattle.std.specs.List.{slice_get}
 use Rattle.std.specs.Int.{byte_at}
 use Rattle.std.proofs.Math.Nat.{pow-le-pow_right}
 use Rattle.memory.specs.declared.writes.Write.{Write}
-use Rattle.memory.specs.Writes.{write, covers, joined}
+use Rattle.memory.specs.Writes.{write, covers}
 use Rattle.memory.proofs.Bytes.{byte_below}
 use Rattle.memory.proofs.Joined.{byte_of_joined-any, joined-below, number_of_bytes}
 use Rattle.step_machine.specs.History.{Start}

@@ -111,12 +111,6 @@ is_before-index gs j i o lt_j lt_i = ap (is_named (get_or gs j 0)) (before-index
         let few : times_named (get_or gs j 0) gs ≤ 1 = o.once (get_or gs j 0) in
         named-none (get_or gs j 0) (take i gs) (omega arith)
 
-pub times-le : (p : ℕ) (xs : List ℕ) → times_named p xs ≤ length xs
-times-le p [] = omega arith
-times-le p (x ∷ xs) =
-    let more : times_named p xs ≤ length xs = times-le p xs in
-    elim (x == p) as (λ b. (if b then suc (times_named p xs) else times_named p xs) ≤ length (x ∷ xs)) [ true ↦ omega arith | false ↦ omega arith ]
-
 -- one more place looked at
 pub times_more : (p : ℕ) (xs : List ℕ) (i : ℕ) (b : Bool) → i < length xs → (get_or xs i 0 == p) ≡ b → times_named p (take (i + 1) xs) ≡ times_named p (take i xs) + (if b then 1 else 0)
 times_more p xs i b lt is = ap (times_named p) (take_more xs i 0 lt) ∙ times-append p (take i xs) (get_or xs i 0 ∷ []) ∙ ap (λ c. times_named p (take i xs) + (if c then 1 else 0)) is

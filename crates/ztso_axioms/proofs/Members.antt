@@ -27,12 +27,6 @@ Each-head test x xs each = each x (or_left (x == x) (is_named x xs) (eq-eqb x x 
 pub Each-tail : (test : ℕ → Bool) (x : ℕ) (xs : List ℕ) → Each test (x ∷ xs) → Each test xs
 Each-tail test x xs each y is = each y (or_true (x == y) (is_named y xs) is)
 
-pub Each-back : (test : ℕ → Bool) (xs ys : List ℕ) → Each test (xs ++ ys) → Each test ys
-Each-back test xs ys each y is = each y (named-append y xs ys ∙ or_true (is_named y xs) (is_named y ys) is)
-
-pub Each-front : (test : ℕ → Bool) (xs ys : List ℕ) → Each test (xs ++ ys) → Each test xs
-Each-front test xs ys each y is = each y (named-append y xs ys ∙ or_left (is_named y xs) (is_named y ys) is)
-
 pub Each-append : (test : ℕ → Bool) (xs ys : List ℕ) → Each test xs → Each test ys → Each test (xs ++ ys)
 Each-append test xs ys front back y is = at (is_named y xs) refl (sym (named-append y xs ys) ∙ is)
   where

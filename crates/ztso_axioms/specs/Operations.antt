@@ -1,6 +1,6 @@
 -- The memory operations of a trace: its loads, stores and AMOs, each named by its place among the
 -- entries (RISC-V Unprivileged ISA, chapter RVWMO). A landing is no operation.
-use Rattle.std.specs.Prelude.{ℕ, ◌-◌, ◌==◌, Bool, true, false, ◌||◌, if◌then◌else◌, List, Option, Some, None, option_and_then}
+use Rattle.std.specs.Prelude.{ℕ, ◌-◌, Bool, true, false, ◌||◌, if◌then◌else◌, List, Option, Some, None, option_and_then}
 use Rattle.std.specs.List.{slice_get}
 use Rattle.std.specs.Option.{option_map_or}
 use Rattle.std.specs.Int.{byte_at}

@@ -7,8 +7,8 @@ ghost use Rattle.ztso_axioms.specs.Operations.{written_at, hart_at};
 ghost use Rattle.ztso_axioms.specs.Axioms.{times_named, is_barrier, is_fenced, is_preserved, in_program_order, is_seen, byte_for, value_for, NamesEachOnce, KeepsProgramOrder, HasLoadValue, Ztso};
 
 use crate::operation::{
-    Op, entry_at, hart_named, is_memory_operation, is_plain_load, is_plain_store,
-    byte_at, byte_named, orders, value_read,
+    Op, byte_at, byte_named, entry_at, hart_named, is_memory_operation, is_plain_load,
+    is_plain_store, orders, value_read,
 };
 use step_machine::{Entry, Opening, Trace};
 
@@ -149,14 +149,7 @@ fn has_load_value(trace: &Trace, order: &[Op], index: usize) -> bool
 }
 
 /// Whether the order gives the operation at `index` this value from its read of `width` bytes.
-fn has_bytes(
-    trace: &Trace,
-    order: &[Op],
-    index: usize,
-    addr: u32,
-    width: u32,
-    value: u32,
-) -> bool
+fn has_bytes(trace: &Trace, order: &[Op], index: usize, addr: u32, width: u32, value: u32) -> bool
     requires once { NamesEachOnce trace.now.entries order.now }
     requires within { index < length order.now }
     ensures { IsTrue result ↔ (value ≡ value_for trace.now.opening trace.now.entries order.now (slice_index order.now index) addr width) }

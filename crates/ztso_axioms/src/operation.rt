@@ -5,8 +5,8 @@ ghost use Rattle.std.specs.Int.{byte_at};
 ghost use Rattle.ztso_axioms.specs.Operations.{is_load, is_store, is_operation, read_of, byte_in, written_to, hart_at, written_at};
 ghost use Rattle.ztso_axioms.specs.Axioms.{is_barrier};
 
-use std::marker::Model;
 use memory::writes::Write;
+use std::marker::Model;
 use step_machine::Entry;
 
 /// A memory operation of a trace: the place of a load, a store or an AMO among the entries, from 0.

@@ -25,11 +25,21 @@ fn trace_of(alloc: Global, harts: usize, entries: &[Entry]) -> Result<Trace, All
 }
 
 fn load(hart: u32, addr: u32, value: u32) -> Entry {
-    Entry::Load { hart, addr, width: 4, value }
+    Entry::Load {
+        hart,
+        addr,
+        width: 4,
+        value,
+    }
 }
 
 fn store(hart: u32, addr: u32, value: u32) -> Entry {
-    Entry::Store { hart, addr, width: 4, value }
+    Entry::Store {
+        hart,
+        addr,
+        width: 4,
+        value,
+    }
 }
 
 fn land(hart: u32) -> Entry {

@@ -1,5 +1,5 @@
 -- What is told of the history of a litmus text and a schedule.
-use Rattle.std.proofs.Common.{◌≡◌, ℕ, ◌<◌, List, [], length, Result, Ok, Err, refl, sym, subst, inl, inr}
+use Rattle.std.proofs.Common.{◌≡◌, ℕ, List, [], Result, Ok, Err, refl, subst, inl, inr}
 use Rattle.std.specs.Prelude.{Option, Some, None}
 use Rattle.step_machine.specs.History.{History}
 use Rattle.step_machine.specs.Runs.{Run}

@@ -1,15 +1,14 @@
 -- What answers an input is one answer.
-use Rattle.std.proofs.Common.{◌≡◌, ℕ, List, ◌++◌, Result, Ok, Err, refl, sym, ap, ◌∙◌, subst}
+use Rattle.std.proofs.Common.{◌≡◌, ℕ, List, ◌++◌, Result, Ok, Err, sym, ap, ◌∙◌, subst}
 use Rattle.std.specs.List.{flat_map}
-use Rattle.step_machine.specs.History.{History, Start, unrun}
-use Rattle.step_machine.specs.Runs.{Run}
+use Rattle.step_machine.specs.History.{History, unrun}
 use Rattle.step_machine.specs.declared.events.Event.{Event}
 use Rattle.step_machine.proofs.Running.{run-one}
 use Rattle.litmus.specs.Questions.{Question}
 use Rattle.litmus.specs.Verdicts.{IsVerdict}
 use Rattle.litmus.specs.declared.verdict.Verdict.{Verdict}
 use Rattle.ztso_engines.specs.declared.fault.Refusal.{Refusal}
-use Rattle.ztso_engines.specs.Engines.{Accepted, judged}
+use Rattle.ztso_engines.specs.Engines.{judged}
 use Rattle.ztso_engines.specs.Told.{Told, opening_of}
 use Rattle.ztso_engines.specs.StepsText.{Tells}
 use Rattle.ztso_engines.specs.StepsReading.{script_at}

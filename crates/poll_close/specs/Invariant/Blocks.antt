@@ -1,7 +1,9 @@
 -- One sender's block: what never changes of it, its addresses, and the pending stores that go to it.
 use Rattle.std.proofs.Common.{ℕ, ◌+◌, ◌*◌, ◌%◌, Bool, not, ◌&&◌, List, [], take, drop}
-use Rattle.std.specs.Prelude.{nat_lt}
+use Rattle.std.specs.Prelude.{nat_lt, map}
 use Rattle.std.specs.List.{slice_index_or, filter}
+use Rattle.memory.specs.declared.writes.Write.{Write}
+use Rattle.memory.specs.Writes.{write}
 use Rattle.poll_close.specs.Layout.{block_size, base_of}
 
 -- the ring size, where the block begins, the memory's words, the sender's list
@@ -24,12 +26,19 @@ slot S b j = b + 16 + 4 * (j % S)
 abbrev pub is_within : Block → ℕ → Bool
 is_within k a = not (nat_lt a k.base) && nat_lt a (k.base + block_size k.size)
 
--- the pending stores of a list that go to the block
-abbrev pub is_to : Block → ℕ × ℕ → Bool
-is_to k x = is_within k x.0
+-- a word stored to an address, as the write of its bytes
+abbrev pub as_write : ℕ × ℕ → Write
+as_write x = write x.0 4 x.1
 
-abbrev pub to_block : Block → List (ℕ × ℕ) → List (ℕ × ℕ)
-to_block k ps = filter (is_to k) ps
+abbrev pub as_writes : List (ℕ × ℕ) → List Write
+as_writes xs = map as_write xs
+
+-- the pending stores of a list that go to the block
+abbrev pub is_to : Block → Write → Bool
+is_to k w = is_within k w.addr
+
+abbrev pub to_block : Block → List Write → List Write
+to_block k ws = filter (is_to k) ws
 
 -- the stores of one fixed list that are made and have not landed: made n, landed k
 abbrev pub window : List (ℕ × ℕ) → ℕ → ℕ → List (ℕ × ℕ)

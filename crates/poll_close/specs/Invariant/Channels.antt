@@ -5,12 +5,13 @@ use Rattle.hart.specs.State.{HartState}
 use Rattle.hart.specs.declared.need.Report.{Report}
 use Rattle.hart.specs.declared.need.Report.TheVariants as report
 use Rattle.step_machine.specs.History.{History}
-use Rattle.step_machine.specs.Entries.{pending, memory_word, reported}
+use Rattle.step_machine.specs.Entries.{pending, reported}
+use Rattle.step_machine.specs.WordReads.{AllWriteWords, word_in_memory}
 use Rattle.step_machine.specs.Paths.{state_of}
 use Rattle.poll_close.specs.Laws.{Meaning}
 use Rattle.poll_close.specs.Reports.{taken, Clean}
 use Rattle.poll_close.specs.Going.{AllGoOn}
-use Rattle.poll_close.specs.Invariant.Blocks.{Block, block_of, to_block}
+use Rattle.poll_close.specs.Invariant.Blocks.{Block, block_of, as_writes, to_block}
 use Rattle.poll_close.specs.Invariant.ReceiverState.{Noted, whole_of}
 use Rattle.poll_close.specs.Invariant.ReceiverPlaces.{ReceiverPlace, receives, due}
 use Rattle.poll_close.specs.Invariant.BlockMeaning.{BlockMeaning, Quiet, ReceiverIs}
@@ -20,13 +21,13 @@ pub record SenderPart (m : BlockMeaning) (k : Block) (M h : ℕ) (t : History) (
   pub stands : HartState
   pub state : state_of M t h ≡ Some stands
   pub holds : m.Stands k n stands
-  pub buffer : pending h t.entries ≡ m.unsent k n
+  pub buffer : pending h t.entries ≡ as_writes (m.unsent k n)
 
 pub record BlockPart (m : BlockMeaning) (k : Block) (M i : ℕ) (t : History) (n : m.Count) : Type 0 where
   pub order : m.Ordered k n
   pub sender : SenderPart m k M (i + 1) t n
-  pub theirs : to_block k (pending 0 t.entries) ≡ m.unread k n
-  pub words : m.Words k n (memory_word t.opening t.entries)
+  pub theirs : to_block k (pending 0 t.entries) ≡ as_writes (m.unread k n)
+  pub words : m.Words k n (word_in_memory t.opening t.entries)
 
 -- how many senders are reported closed
 abbrev pub shuts : (m : BlockMeaning) → (ℕ → m.Count) → ℕ → ℕ
@@ -61,6 +62,8 @@ pub record Channel (m : BlockMeaning) (M S : ℕ) (lists : List (List ℕ)) (t :
   pub receiver : ReceiverPart m M S lists t numbers
   pub reports : ReportPart m lists (reported 0 t.entries) numbers
   pub unstopped : AllGoOn t.entries
+  -- all stores are of whole words, so that reads are told by words
+  pub written : AllWriteWords t.entries
 
 -- the meaning of a ring, by what it says of one block
 abbrev pub means_by : BlockMeaning → Meaning

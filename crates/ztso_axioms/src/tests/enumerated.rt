@@ -27,8 +27,18 @@ fn amo(hart: u32, addr: u32, old: u32, new: u32) -> Entry {
 
 fn effect_of(entry: Entry) -> Option<Access> {
     let (hart, addr, read, written) = match entry {
-        Entry::Load { hart, addr, value, .. } => (hart, addr, Some(value), None),
-        Entry::Store { hart, addr, value, .. } => (hart, addr, None, Some(value)),
+        Entry::Load {
+            hart,
+            addr,
+            value,
+            ..
+        } => (hart, addr, Some(value), None),
+        Entry::Store {
+            hart,
+            addr,
+            value,
+            ..
+        } => (hart, addr, None, Some(value)),
         Entry::Amo {
             hart,
             addr,

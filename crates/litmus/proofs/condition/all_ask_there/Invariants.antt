@@ -1,6 +1,6 @@
 use Rattle.std.proofs.Common.{ℕ, ◌<◌, get_or}
 use Rattle.litmus.specs.declared.words.Step.{Step}
-use Rattle.litmus.specs.Running.{AsksThere}
+use Rattle.litmus.specs.inner.Running.{AsksThere}
 use Rattle.litmus.proofs.condition.all_ask_there.Given as goal
 
 abbrev pub invariant-loop-step : goal.invariant-loop-step

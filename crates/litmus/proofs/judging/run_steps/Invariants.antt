@@ -1,5 +1,5 @@
 use Rattle.std.proofs.Common.{◌≡◌, true, drop}
-use Rattle.litmus.specs.Running.{all_done}
+use Rattle.litmus.specs.inner.Running.{all_done}
 use Rattle.litmus.specs.Verdicts.{final_value}
 use Rattle.litmus.proofs.judging.run_steps.Given as goal
 

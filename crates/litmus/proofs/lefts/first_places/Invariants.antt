@@ -1,7 +1,7 @@
 use Rattle.std.proofs.Common.{◌≡◌, ◌++◌, drop, length}
 use Rattle.litmus.specs.Questions.{firsts}
-use Rattle.litmus.specs.Running.{asked_by}
-use Rattle.litmus.specs.Seen.{left_to_see}
+use Rattle.litmus.specs.inner.Running.{asked_by}
+use Rattle.litmus.specs.inner.Seen.{left_to_see}
 use Rattle.litmus.proofs.lefts.first_places.Given as goal
 
 abbrev pub invariant-loop-step : goal.invariant-loop-step

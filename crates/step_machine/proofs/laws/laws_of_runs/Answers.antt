@@ -1,5 +1,6 @@
-use Rattle.step_machine.specs.History.{unrun}
-use Rattle.step_machine.proofs.Running.{kept-unrun, kept-run, run-one, opening_kept, of_harts-run}
+use Rattle.std.specs.Prelude.{IsTrue}
+use Rattle.step_machine.specs.History.{History, unrun}
+use Rattle.step_machine.proofs.Running.{kept-unrun, kept-run, run-one, run_induction, opening_kept, of_harts-run}
 use Rattle.step_machine.proofs.OwnRuns.{own_run}
 use Rattle.step_machine.proofs.Acts.{run_some}
 use Rattle.step_machine.proofs.Landings.{landed-counted}
@@ -23,6 +24,10 @@ returns-clause-harts c = λ B M o evs t run. of_harts-run B M o evs t run
 
 pub returns-clause-own : goal.returns-clause-own
 returns-clause-own c = λ B M t kept. own_run B M t kept
+
+pub returns-clause-induction : goal.returns-clause-induction
+returns-clause-induction c = λ B M holds o opens keeps evs t run.
+    run_induction B M (λ (u : History). IsTrue (holds u)) (λ u ev out new kept is happens. keeps u ev out new is happens) (unrun o) evs t (kept-unrun B M o) opens run
 
 pub returns-clause-landings : goal.returns-clause-landings
 returns-clause-landings c = λ B t l. landed-counted B t l

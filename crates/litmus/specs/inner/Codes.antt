@@ -8,7 +8,7 @@ use Rattle.litmus.specs.declared.words.Step.{Step}
 use Rattle.litmus.specs.declared.words.Step.TheVariants as step
 use Rattle.litmus.specs.Formulas.{Formula}
 use Rattle.litmus.specs.Steps.{steps_of, formula_of}
-use Rattle.litmus.specs.StepLaws.{formula_of-steps_of}
+use Rattle.litmus.specs.inner.StepLaws.{formula_of-steps_of}
 
 abbrev pub place_parts : Place → (ℕ × ℕ) ⊎ ℕ
 place_parts (place.Register h n) = inl (h, n)

@@ -5,7 +5,7 @@ use Rattle.litmus.specs.declared.words.Place.TheVariants as place
 use Rattle.litmus.specs.declared.words.Step.{Step}
 use Rattle.litmus.specs.declared.words.Step.TheVariants as step
 use Rattle.litmus.specs.Questions.{firsts}
-use Rattle.litmus.specs.Running.{asked_by}
+use Rattle.litmus.specs.inner.Running.{asked_by}
 
 abbrev pub index_of : Place → ℕ
 index_of (place.Register h n) = h * 32 + n

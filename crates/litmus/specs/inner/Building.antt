@@ -1,4 +1,4 @@
--- The steps of a condition as its words come, for the proof alone: what is built so far, one more
+-- The steps of a condition as its words come: what is built so far, one more
 -- word's change to it, and what stands built at a stage.
 use Rattle.std.specs.Prelude.{ℕ, ◌+◌, ◌-◌, ◌<◌, Bool, true, false, ◌&&◌, List, [], ◌∷◌, ◌++◌, length, take, replicate, slice_set, Option, Some, None}
 use Rattle.std.specs.List.{slice_get}

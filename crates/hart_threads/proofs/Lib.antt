@@ -1,0 +1,4 @@
+pub mod Least
+pub mod FirstMissing
+pub mod Diaries
+pub mod Coming

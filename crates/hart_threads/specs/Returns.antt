@@ -1,0 +1,39 @@
+-- What running harts on threads answers, by the seats that were given and come back.
+use Rattle.std.specs.Prelude.{ℕ, ◌≡◌, List, ◌++◌, length}
+use Rattle.std.specs.List.{AllZip}
+use Rattle.step_machine.specs.declared.events.Entry.{Entry}
+use Rattle.step_machine.specs.History.{Start}
+use Rattle.hart_threads.specs.Seats.{SeatView}
+use Rattle.hart_threads.specs.Missing.{is_missing, IsFirst, IsComplete}
+use Rattle.hart_threads.specs.Parts.{Merge}
+use Rattle.hart_threads.specs.Records.{IsMismatch}
+use Rattle.hart_threads.specs.declared.record.Record.{Record}
+use Rattle.hart_threads.specs.declared.fault.Fault.{Fault}
+use Rattle.hart_threads.specs.declared.fault.Fault.TheVariants as fault
+
+-- t is the seat s with perhaps more in its diary
+abbrev pub Continues : SeatView → SeatView → Type 0
+Continues s t = (more : List Entry) × (t ≡ record s { diary = s.diary ++ more })
+
+-- these are the given seats as they come back, in the same order
+abbrev pub ComeBack : List SeatView → List SeatView → Type 0
+ComeBack given back = AllZip Continues given back
+
+-- the record's entries are merged of the diaries that come back
+pub record IsMerged (B M : ℕ) (o : Start) (given : List SeatView) (r : Record B M) : Type 0 where
+  pub back : List SeatView
+  pub come : ComeBack given back
+  pub merge : Merge (length o.harts) r.trace.entries back
+
+-- the diaries that come back are no parts of one history
+pub record IsMismatched (B M : ℕ) (o : Start) (given : List SeatView) (h : ℕ) (es : List Entry) : Type 0 where
+  pub back : List SeatView
+  pub come : ComeBack given back
+  pub mismatch : IsMismatch B M o back h es
+
+-- why there is no record; where a seat is missing, that is what is told
+abbrev pub Fails : ℕ → ℕ → Start → List SeatView → Fault → Type 0
+Fails B M o given fault.NoMemory = IsComplete (length o.harts) given
+Fails B M o given fault.NoThread = IsComplete (length o.harts) given
+Fails B M o given (fault.Missing h) = IsFirst (is_missing (length o.harts) given) h
+Fails B M o given (fault.Mismatch h es) = IsMismatched B M o given h es.items

@@ -1,0 +1,3 @@
+-- What private functions say of themselves. No public clause names it.
+pub mod Searches
+pub mod Endings

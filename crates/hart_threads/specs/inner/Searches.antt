@@ -1,0 +1,19 @@
+-- What a search through seats has found so far, and the test by which a diary is read.
+use Rattle.std.specs.Prelude.{ℕ, Bool, if◌then◌else◌, nat_lt, List, All, Option, Some, None, MatchOption}
+use Rattle.step_machine.specs.declared.events.Entry.{Entry}
+use Rattle.step_machine.specs.Entries.{is_own}
+use Rattle.hart_threads.specs.Seats.{SeatView}
+use Rattle.hart_threads.specs.Parts.{is_landing_of, IsLeast}
+
+-- the lesser of a number that was found and another
+abbrev pub lesser : Option ℕ → ℕ → ℕ
+lesser None h = h
+lesser (Some k) h = if nat_lt h k then h else k
+
+-- all seats are good, or this is the least hart of a bad one
+abbrev pub Found : (SeatView → Type 0) → (SeatView → Type 0) → List SeatView → Option ℕ → Type 0
+Found Good Bad seats o = MatchOption o (All Good seats) (IsLeast Good Bad seats)
+
+-- the entry is of the seat's part
+abbrev pub keeps : SeatView → Entry → Bool
+keeps s e = if s.acts then is_own s.hart e else is_landing_of s.hart e

@@ -1,0 +1,62 @@
+//! Why threads give no record.
+
+ghost use Rattle.std.specs.Prelude.{◌≡◌};
+ghost use Rattle.hart_threads.specs.Faults.{fault_of};
+ghost use Rattle.hart_threads.specs.declared.fault.Fault.TheVariants.{NoMemory};
+
+use crate::record::Gather;
+use std::alloc::AllocError;
+use step_machine::Entry;
+use thiserror::Error;
+
+/// Why threads give no record. Each has the number by which texts name it.
+#[derive(Debug, Drop, Error)]
+pub enum Fault {
+    #[error("no memory")]
+    NoMemory,
+    /// The system refused a thread. Those that ran were joined.
+    #[error("no thread")]
+    NoThread,
+    /// As [`Gather::Missing`].
+    #[error("the seats of hart {hart} are missing, or there are too many")]
+    Missing { hart: u32 },
+    /// As [`Gather::Mismatch`].
+    #[error("a diary of hart {hart} is not its part of the history")]
+    Mismatch { hart: u32, history: Vec<Entry> },
+}
+
+impl Fault {
+    ghost use Rattle.hart_threads.specs.Faults.{number_of};
+
+    /// The number by which texts name the fault, 0 where memory ran out.
+    pub fn number(&self) -> u8
+        ensures { result ≡ number_of self.now }
+    {
+        match self {
+            Fault::NoMemory => 0,
+            Fault::Mismatch { .. } => 32,
+            Fault::Missing { .. } => 33,
+            Fault::NoThread => 35,
+        }
+    }
+}
+
+impl From<AllocError> for Fault {
+    ghost from_gives = { λ _ e. e ≡ NoMemory };
+
+    fn from(_error: AllocError) -> Fault {
+        Fault::NoMemory
+    }
+}
+
+impl From<Gather> for Fault {
+    ghost from_gives = { λ g e. e ≡ fault_of g };
+
+    fn from(error: Gather) -> Fault {
+        match error {
+            Gather::NoMemory => Fault::NoMemory,
+            Gather::Missing { hart } => Fault::Missing { hart },
+            Gather::Mismatch { hart, history } => Fault::Mismatch { hart, history },
+        }
+    }
+}

@@ -1,0 +1,34 @@
+//! Harts and landers on threads of their own, above one machine behind a lock.
+//!
+//! The contract: [`Shared::open`] gives each hart two [`Seat`]s, the right to let it act and the right
+//! to land its stores. A seat keeps a diary of what its own calls did. [`Shared::gather`] takes all of
+//! them back and answers a [`Record`]: a run of the opening, one event an entry, of which each diary is
+//! its seat's part (`IsRecord` and `Merge` of `specs/`). [`run_harts`] does so with a thread for each
+//! seat. Whatever the threads do, a record is a run of the model.
+//!
+//! A call that may wait for a lock or a thread asks for `Wait`; of those nothing says that they return.
+//! Nothing is claimed of fairness, of the order in which threads get the lock, or of time. This crate
+//! reads and prints no text, and no crate below it asks for `Wait` or `Threads`.
+
+#![tactic(auto)]
+
+mod diary;
+pub mod fault;
+pub mod gate;
+pub mod gather;
+pub mod harts;
+mod held;
+mod missing;
+pub mod record;
+pub mod seat;
+pub mod shared;
+#[cfg(test)]
+mod tests;
+mod turns;
+
+pub use fault::Fault;
+pub use gate::{Gate, Open};
+pub use harts::run_harts;
+pub use record::{Gather, Record};
+pub use seat::Seat;
+pub use shared::Shared;

@@ -1,0 +1,64 @@
+-- A channel stands at its opening, and goes on standing over every event.
+use Rattle.std.proofs.Common.{◌≡◌, ℕ, ◌+◌, ◌<◌, ◌≤◌, inl, inr, Result, Ok, Err, List, [], ◌∷◌, length, take, drop, map, refl, sym, ◌∙◌, ap, subst, arith}
+use Rattle.std.specs.Prelude.{IfOk, IfErr, OnOk, OnErr}
+use Rattle.hart.specs.declared.need.Report.{Report}
+use Rattle.step_machine.specs.declared.events.Event.{Event}
+use Rattle.step_machine.specs.declared.events.Outcome.{Outcome}
+use Rattle.step_machine.specs.History.{HartStart, Start, History, Progress, unrun}
+use Rattle.step_machine.specs.Entries.{reported}
+use Rattle.step_machine.specs.Runs.{Happens, RunFrom}
+use Rattle.step_machine.proofs.Running.{kept-unrun}
+use Rattle.poll_close.specs.Layout.{opening_of, senders_from}
+use Rattle.poll_close.specs.Laws.{Ring, Meaning, Accepted, Opens, Keeps, Cleans, Goes}
+use Rattle.poll_close.specs.Going.{AllGoOn}
+use Rattle.poll_close.specs.Reports.{Clean}
+use Rattle.poll_close.specs.Standing.{IsOpeningOf, Stands, lists_of}
+use Rattle.poll_close.proofs.Delivering.{Known, known-happens, known-run}
+
+inboxes : (code : List ℕ) (S i : ℕ) (lists : List (List ℕ)) → map (λ (h : HartStart). h.inbox) (senders_from code S i lists) ≡ lists
+inboxes code S i [] = refl
+inboxes code S i (ws ∷ lists) = ap (λ rest. ws ∷ rest) (inboxes code S (i + 1) lists)
+
+module _ (ring : Ring) (means : Meaning) (B M : ℕ) where
+  pub stands-opens : (lists : List (List ℕ)) (S : ℕ) (t : History) → Opens ring means → Accepted ring M lists S → t ≡ unrun (opening_of ring.sender ring.receiver lists S) → Stands ring means B M t
+  stands-opens lists S t opens accepted is = subst (Stands ring means B M) (sym is) (record {
+      opens = record { lists = lists; size = S; accepted = accepted; opening = refl };
+      kept = kept-unrun B M (opening_of ring.sender ring.receiver lists S);
+      meant = opens B M lists S accepted;
+    })
+
+  known : (t : History) (s : Stands ring means B M t) → Known ring means B M s.opens.lists s.opens.size t
+  known t s = record { opening = s.opens.opening; kept = s.kept; meant = s.meant }
+
+  again : (lists : List (List ℕ)) (S : ℕ) (t : History) → Accepted ring M lists S → Known ring means B M lists S t → Stands ring means B M t
+  again lists S t accepted k = record { opens = record { lists = lists; size = S; accepted = accepted; opening = k.opening }; kept = k.kept; meant = k.meant }
+
+  pub stands-happens : (t : History) (ev : Event) (o : Outcome) (new : History) → Keeps ring means → Stands ring means B M t → Happens B M t ev o new → Stands ring means B M new
+  stands-happens t ev o new keeps s happens = again s.opens.lists s.opens.size new s.opens.accepted (known-happens ring means keeps B M s.opens.lists s.opens.size s.opens.accepted t ev o new (known t s) happens)
+
+  pub stands-run : (t : History) (evs : List Event) (new : History) → Keeps ring means → Stands ring means B M t → RunFrom B M t evs new → Stands ring means B M new
+  stands-run t evs new keeps s run = again s.opens.lists s.opens.size new s.opens.accepted (known-run ring means keeps B M s.opens.lists s.opens.size s.opens.accepted t evs new (known t s) run)
+
+  pub stands-clean : (t : History) → Cleans ring means → Stands ring means B M t → Clean (reported 0 t.entries) (lists_of t.opening)
+  stands-clean t cleans s =
+      let lists : lists_of t.opening ≡ s.opens.lists = ap lists_of s.opens.opening ∙ inboxes ring.sender s.opens.size 0 s.opens.lists in
+      rw lists (cleans B M s.opens.lists s.opens.size t s.opens.accepted s.opens.opening s.kept s.meant)
+
+  pub stands-goes : (t : History) → Goes ring means → Stands ring means B M t → AllGoOn t.entries
+  stands-goes t goes s = goes B M s.opens.lists s.opens.size t s.opens.accepted s.meant
+
+  pub stands-receiver : (t : History) → Stands ring means B M t → 0 < length t.opening.harts
+  stands-receiver t s = let count : length t.opening.harts ≡ length (opening_of ring.sender ring.receiver s.opens.lists s.opens.size).harts = ap (λ (o : Start). length o.harts) s.opens.opening in omega (arith, count)
+
+  -- one event, and a list of events, as a machine answers them
+  pub stands-step : {E : Type 0} (old new : Progress) (ev : Event) (r : Result Outcome E) → Keeps ring means → Stands ring means B M old.history → IfOk r (λ o. Happens B M old.history ev o new.history) → OnErr r (new ≡ old) → Stands ring means B M new.history
+  stands-step old new ev (Ok o) keeps s happens same = stands-happens old.history ev o new.history keeps s happens
+  stands-step old new ev (Err e) keeps s happens same = subst (λ (p : Progress). Stands ring means B M p.history) (sym same) s
+
+  pub stands-ran : {A E : Type 0} (old new : Progress) (evs : List Event) (r : Result A (ℕ × E)) → Keeps ring means → Stands ring means B M old.history → OnOk r (RunFrom B M old.history evs new.history) → IfErr r (λ e. RunFrom B M old.history (take e.0 evs) new.history) → Stands ring means B M new.history
+  stands-ran old new evs (Ok o) keeps s ran failed = stands-run old.history evs new.history keeps s ran
+  stands-ran old new evs (Err e) keeps s ran failed = stands-run old.history (take e.0 evs) new.history keeps s failed
+
+  -- what its holder sees is clean
+  pub clean-seen : (p q : Progress) (rs : List Report) → p ≡ q → rs ≡ reported 0 p.history.entries → Cleans ring means → Stands ring means B M p.history → Clean rs (lists_of q.history.opening)
+  clean-seen p q rs view is cleans s = subst (λ (z : Progress). Clean rs (lists_of z.history.opening)) view (rw is (stands-clean p.history cleans s))

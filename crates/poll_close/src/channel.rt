@@ -1,0 +1,107 @@
+//! A channel that runs event by event.
+
+ghost use Rattle.std.specs.Prelude.{◌≡◌, ◌≤◌, ℕ, List, IfOk, IfErr, OnOk, OnErr, map, take};
+ghost use Rattle.poll_close.specs.Layout.{opening_of};
+ghost use Rattle.poll_close.specs.Laws.{Accepted};
+ghost use Rattle.poll_close.specs.Refusals.{Refuses};
+
+use crate::faults::Refused;
+use crate::kind::RingKind;
+use crate::openings::opening;
+use hart::need::Report;
+use std::alloc::{AllocError, Global};
+use std::marker::{Model, PhantomData};
+use step_machine::laws::laws_of_runs;
+use step_machine::{Event, Machine, Outcome, Trace};
+
+/// A channel of a kind of ring, over harts with store buffers of `B` pairs and a memory of `M` words. A
+/// contract sees its machine: the history, which stands as the ring's laws say, and for how many more
+/// steps it has room.
+#[derive(Drop)]
+pub struct Channel<K: RingKind, const B: usize, const M: usize> {
+    machine: Machine<B, M>,
+    kind: PhantomData<K>,
+}
+
+impl<K: RingKind, const B: usize, const M: usize> Model for Channel<K, B, M> {
+    ghost use Rattle.std.specs.Prelude.{◌≤◌};
+    ghost use Rattle.step_machine.specs.History.{Progress};
+    ghost use Rattle.poll_close.specs.Standing.{Stands};
+
+    ghost Value = { Progress };
+
+    ghost view = { λ c. c.machine };
+
+    ghost invariant = { λ c. (1 ≤ B) × Stands K.ring K.meaning B M c.machine.history };
+}
+
+impl<K: RingKind, const B: usize, const M: usize> Channel<K, B, M> {
+    ghost use Rattle.step_machine.specs.History.{unrun};
+    ghost use Rattle.step_machine.specs.Entries.{reported};
+    ghost use Rattle.step_machine.specs.Runs.{Happens, RunFrom, IsOwnRun};
+    ghost use Rattle.poll_close.specs.Going.{AllGoOn};
+    ghost use Rattle.poll_close.specs.Reports.{Clean};
+    ghost use Rattle.poll_close.specs.Standing.{IsOpeningOf, lists_of};
+
+    /// A channel over these lists at its opening. Err as [`opening`].
+    pub fn open(alloc: Global, lists: &[Vec<u32>], ring: u32) -> Result<Self, Refused>
+        requires some_capacity { 1 ≤ B }
+        requires capacity { B ≤ 64 }
+        requires some_word { 1 ≤ M }
+        requires memory { M ≤ 65536 }
+        ensures value { IfOk result (λ c. c.history ≡ unrun (opening_of K.ring.sender K.ring.receiver (map (λ v. v.items) lists.now) ring)) }
+        ensures accepted { OnOk result (Accepted K.ring M (map (λ v. v.items) lists.now) ring) }
+        ensures refused { IfErr result (λ e. Refuses K.ring M (map (λ v. v.items) lists.now) ring e) }
+    {
+        K::laws();
+        let opening = opening::<K>(alloc, lists, ring, M)?;
+        let machine = Machine::open(alloc, opening)?;
+        Ok(Channel {
+            machine,
+            kind: PhantomData,
+        })
+    }
+
+    /// One event, as the machine's `step`: an error changes nothing.
+    pub fn step(&mut self, event: Event) -> Result<Outcome, AllocError>
+        ensures happens { IfOk result (λ o. Happens B M self.old.history event o self.new.history) }
+        ensures opening { self.new.history.opening ≡ self.old.history.opening }
+        ensures err { OnErr result (self.new ≡ self.old) }
+    {
+        K::laws();
+        self.machine.step(event)
+    }
+
+    /// The events one after the other. An error names how many of them came before it: the channel
+    /// stands after those.
+    pub fn run(&mut self, events: &[Event]) -> Result<(), (usize, AllocError)>
+        ensures ok { OnOk result (RunFrom B M self.old.history events.now self.new.history) }
+        ensures err { IfErr result (λ e. RunFrom B M self.old.history (take e.0 events.now) self.new.history) }
+        ensures opening { self.new.history.opening ≡ self.old.history.opening }
+    {
+        K::laws();
+        self.machine.run(events)
+    }
+
+    /// What the receiver reported, oldest first.
+    pub fn reports(&self) -> &[Report]
+        ensures value { result.now ≡ reported 0 self.now.history.entries }
+        ensures clean { Clean result.now (lists_of self.now.history.opening) }
+    {
+        K::laws();
+        self.machine.reports(0)
+    }
+
+    /// A copy of the history: the run of its own entries' events from an opening of this kind. No hart
+    /// in it is stopped.
+    pub fn trace(&self, alloc: Global) -> Result<Trace, AllocError>
+        ensures value { IfOk result (λ t. t ≡ self.now.history) }
+        ensures opening { IsOpeningOf K.ring M self.now.history.opening }
+        ensures own { IsOwnRun B M self.now.history }
+        ensures goes { AllGoOn self.now.history.entries }
+    {
+        K::laws();
+        laws_of_runs();
+        self.machine.trace(alloc)
+    }
+}

@@ -1,0 +1,58 @@
+//! Delivery.
+
+ghost use Rattle.std.specs.Prelude.{◌≡◌, ◌≤◌, ℕ, List, IfOk, IfErr, OnOk, map};
+ghost use Rattle.poll_close.specs.Layout.{opening_of};
+ghost use Rattle.poll_close.specs.Laws.{Accepted};
+ghost use Rattle.poll_close.specs.Refusals.{Refuses};
+ghost use Rattle.poll_close.specs.Delivery.{Delivers};
+
+use crate::faults::Refused;
+use crate::kind::RingKind;
+use crate::openings::opening;
+use hart::need::Report;
+use std::alloc::{AllocError, Global};
+use step_machine::{Event, Machine, Opening};
+
+/// What the receiver reports when these events run from this opening.
+fn reports_of<K: RingKind, const B: usize, const M: usize>(
+    alloc: Global,
+    opening: Opening,
+    lists: &[Vec<u32>],
+    size: u32,
+    events: &[Event],
+) -> Result<Vec<Report>, AllocError>
+    requires some_capacity { 1 ≤ B }
+    requires capacity { B ≤ 64 }
+    requires some_word { 1 ≤ M }
+    requires accepted { Accepted K.ring M (map (λ v. v.items) lists.now) size }
+    requires opens { opening ≡ opening_of K.ring.sender K.ring.receiver (map (λ v. v.items) lists.now) size }
+    ensures { IfOk result (λ r. Delivers B M opening (map (λ v. v.items) lists.now) events.now r.items) }
+{
+    K::laws();
+    let mut machine = Machine::<B, M>::open(alloc, opening)?;
+    match machine.run(events) {
+        Ok(()) => {}
+        Err((_, error)) => return Err(error),
+    }
+    Vec::from_slice(alloc, machine.reports(0))
+}
+
+/// What the receiver of a channel of this kind reports when these events run from its opening over
+/// these lists: exactly the run's reports, and they are clean. Err as [`opening`].
+pub fn deliver<K: RingKind, const B: usize, const M: usize>(
+    alloc: Global,
+    lists: &[Vec<u32>],
+    ring: u32,
+    events: &[Event],
+) -> Result<Vec<Report>, Refused>
+    requires some_capacity { 1 ≤ B }
+    requires capacity { B ≤ 64 }
+    requires some_word { 1 ≤ M }
+    requires memory { M ≤ 65536 }
+    ensures delivers { IfOk result (λ r. Delivers B M (opening_of K.ring.sender K.ring.receiver (map (λ v. v.items) lists.now) ring) (map (λ v. v.items) lists.now) events.now r.items) }
+    ensures accepted { OnOk result (Accepted K.ring M (map (λ v. v.items) lists.now) ring) }
+    ensures refused { IfErr result (λ e. Refuses K.ring M (map (λ v. v.items) lists.now) ring e) }
+{
+    let opening = opening::<K>(alloc, lists, ring, M)?;
+    Ok(reports_of::<K, B, M>(alloc, opening, lists, ring, events)?)
+}

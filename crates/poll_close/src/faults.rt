@@ -1,0 +1,64 @@
+//! Why there is no channel over some lists.
+
+ghost use Rattle.std.specs.Prelude.{◌≡◌};
+ghost use Rattle.poll_close.specs.declared.faults.Refused.TheVariants.{NoMemory};
+
+use std::alloc::{AllocError, AllocFailed};
+use thiserror::Error;
+
+/// Why lists are refused, or that memory ran out. Each has the number by which texts name it. The
+/// cases are tried in this order: no sender, too many, ring too small, does not fit, zero word.
+#[derive(Clone, Copy, Debug, PartialEq, Eq, Error)]
+pub enum Refused {
+    #[error("no memory")]
+    NoMemory,
+    /// A word to be sent is 0: the least such sender, and its least such place.
+    #[error("zero word at sender {sender} place {place}")]
+    ZeroWord { sender: usize, place: usize },
+    /// There is no list.
+    #[error("no senders")]
+    NoSenders,
+    /// There are more than 63 lists.
+    #[error("too many senders")]
+    TooManySenders,
+    /// The ring has fewer slots than its kind needs.
+    #[error("ring too small")]
+    RingTooSmall,
+    /// The blocks of all senders are more words than the memory has.
+    #[error("does not fit")]
+    DoesNotFit,
+}
+
+impl Refused {
+    ghost use Rattle.poll_close.specs.Refusals.{number_of};
+
+    /// The number by which texts name it.
+    pub fn number(self) -> u8
+        ensures { result ≡ number_of self }
+    {
+        match self {
+            Refused::NoMemory => 0,
+            Refused::ZeroWord { .. } => 16,
+            Refused::NoSenders => 17,
+            Refused::TooManySenders => 18,
+            Refused::RingTooSmall => 19,
+            Refused::DoesNotFit => 20,
+        }
+    }
+}
+
+impl From<AllocError> for Refused {
+    ghost from_gives = { λ _ e. e ≡ NoMemory };
+
+    fn from(_error: AllocError) -> Refused {
+        Refused::NoMemory
+    }
+}
+
+impl<T: Drop> From<AllocFailed<T>> for Refused {
+    ghost from_gives = { λ _ e. e ≡ NoMemory };
+
+    fn from(_error: AllocFailed<T>) -> Refused {
+        Refused::NoMemory
+    }
+}
