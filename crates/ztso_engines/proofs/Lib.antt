@@ -20,6 +20,7 @@ pub mod SessionLaws
 pub mod WalkLaws
 pub mod DebugLaws
 pub mod TalkLaws
+pub mod OneTalk
 pub mod Rows
 pub mod TallyLaws
 pub mod TrialLaws
