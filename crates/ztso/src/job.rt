@@ -26,6 +26,8 @@ pub enum Work {
     Run,
     /// To tell each event's outcome in a run of a litmus test by a schedule.
     Replay,
+    /// To walk along a schedule's run of a litmus test, at the commands on standard input.
+    Debug,
     /// To run a litmus test by `runs` schedules of `length` events, drawn from a generator of this seed.
     Try { seed: u64, runs: u32, length: u32 },
 }

@@ -74,11 +74,13 @@ pub fn ztso_command<'a>(alloc: Global) -> Result<Command<'a>, AllocError>
     let dis = Command::new(alloc, "dis");
     let run = schedule_command(alloc, "run")?;
     let replay = schedule_command(alloc, "replay")?;
+    let debug = schedule_command(alloc, "debug")?;
     let trying = try_command(alloc)?;
     let with_steps = Command::new(alloc, "ztso").subcommand(steps)?;
     let with_asm = with_steps.subcommand(asm)?;
     let with_dis = with_asm.subcommand(dis)?;
     let with_run = with_dis.subcommand(run)?;
     let with_replay = with_run.subcommand(replay)?;
-    with_replay.subcommand(trying)
+    let with_debug = with_replay.subcommand(debug)?;
+    with_debug.subcommand(trying)
 }
