@@ -14,7 +14,7 @@ returns-in_err-test-clause-walk g c =
 pub returns-in_err-events-clause-walk : goal.returns-in_err-events-clause-walk
 returns-in_err-events-clause-walk g c =
     let p = err_from_is_err_and c.from_residual-in_err-events.result c.from_residual-in_err-events.ensures.1 in
-    schedule_fault _ _ IsSetOut _ (λ (events : List Event). events) c.in_ok-test.test c.from_residual-in_err-events.result c.in_err-events.field-0.0 (rw p.2 at p.1) c.in_ok-test.ensures.test c.in_err-events.ensures
+    schedule_fault _ _ IsSetOut _ (λ (events : List Event). events) c.in_ok-test.test c.from_residual-in_err-events.result c.in_err-events.field-0.0 (rw p.2 at p.1) c.in_ok-test.ensures.test c.in_err-events.ensures.events
 
 pub returns-clause-walk : goal.returns-clause-walk
-returns-clause-walk g c = both_read _ _ IsSetOut c.in_ok-test.test c.in_ok-events.events.items c.in_ok-walk.walk c.in_ok-test.ensures.test c.in_ok-events.ensures (rw c.in_ok-opening.ensures.copy at c.in_ok-walk.ensures)
+returns-clause-walk g c = both_read _ _ IsSetOut c.in_ok-test.test c.in_ok-events.events.items c.in_ok-walk.walk c.in_ok-test.ensures.test c.in_ok-events.ensures.events (rw c.in_ok-opening.ensures.copy at c.in_ok-walk.ensures)
