@@ -188,21 +188,25 @@ fn store_buffering_is_replayed(rt: HostRuntime) -> Result<(), Fail> {
         Entry::Store {
             hart: 0,
             addr: 0,
+            width: 4,
             value: 1,
         },
         Entry::Store {
             hart: 1,
             addr: 4,
+            width: 4,
             value: 1,
         },
         Entry::Load {
             hart: 0,
             addr: 4,
+            width: 4,
             value: 0,
         },
         Entry::Load {
             hart: 1,
             addr: 0,
+            width: 4,
             value: 0,
         },
         Entry::Land { hart: 0 },
