@@ -1,3 +1,4 @@
+pub mod Buffered
 pub mod Endings
 pub mod Matches
 pub mod NumberLaws

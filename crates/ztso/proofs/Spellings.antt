@@ -15,7 +15,7 @@ use Rattle.ztso.specs.declared.job.Capacity.TheVariants.{One, Two, Four, Sixteen
 use Rattle.ztso.specs.declared.job.Job.{Job}
 use Rattle.ztso.specs.declared.job.Task.TheVariants.{Asm, Dis, Machine}
 use Rattle.ztso.specs.declared.job.Work.{Work}
-use Rattle.ztso.specs.declared.job.Work.TheVariants.{Steps, Run, Replay, Try, Channel}
+use Rattle.ztso.specs.declared.job.Work.TheVariants.{Steps, Run, Replay, Debug, Try, Channel}
 use Rattle.ztso.specs.Jobs.{Wanted, one_input, two_inputs}
 use Rattle.ztso.specs.Jobs.Input.{Standard, File}
 
@@ -69,55 +69,74 @@ no_flag (c ∷ word) h = go (c == 45) refl
     go true e = absurd (h (eqb-true c 45 e))
     go false e = (rw e refl, rw e refl, rw e refl)
 
--- ---- `run` and `replay`
+-- ---- `run`, `replay` and `debug`
 
-abbrev command_of : (is_run : Bool) → Text
-command_of true = codes "run"
-command_of false = codes "replay"
+data OnFiles : Type 0 where
+  running : OnFiles
+  replaying : OnFiles
+  debugging : OnFiles
 
-abbrev wanted_of : (is_run : Bool) → (file schedule : Text) → Capacity → Wanted
-wanted_of true file schedule capacity = two_inputs (Machine Run capacity) (File file) (File schedule)
-wanted_of false file schedule capacity = two_inputs (Machine Replay capacity) (File file) (File schedule)
+abbrev command_of : OnFiles → Text
+command_of running = codes "run"
+command_of replaying = codes "replay"
+command_of debugging = codes "debug"
+
+abbrev work_of : OnFiles → Work
+work_of running = Run
+work_of replaying = Replay
+work_of debugging = Debug
+
+abbrev wanted_of : OnFiles → (file schedule : Text) → Capacity → Wanted
+wanted_of command file schedule capacity = two_inputs (Machine (work_of command) capacity) (File file) (File schedule)
 
 module _ (name file schedule : Text) (f : IsWord file) (s : IsWord schedule) where
-  on_files : (is_run : Bool) → job_said (name ∷ command_of is_run ∷ file ∷ schedule ∷ []) ≡ Some (wanted_of is_run file schedule Four)
+  on_files : (command : OnFiles) → job_said (name ∷ command_of command ∷ file ∷ schedule ∷ []) ≡ Some (wanted_of command file schedule Four)
   unfolding clap_on_literals job_said
-  on_files true = let a = no_flag file f in let b = no_flag schedule s in rw (a.0, a.1, a.2, b.0, b.1, b.2) refl
-  on_files false = let a = no_flag file f in let b = no_flag schedule s in rw (a.0, a.1, a.2, b.0, b.1, b.2) refl
+  on_files running = let a = no_flag file f in let b = no_flag schedule s in rw (a.0, a.1, a.2, b.0, b.1, b.2) refl
+  on_files replaying = let a = no_flag file f in let b = no_flag schedule s in rw (a.0, a.1, a.2, b.0, b.1, b.2) refl
+  on_files debugging = let a = no_flag file f in let b = no_flag schedule s in rw (a.0, a.1, a.2, b.0, b.1, b.2) refl
 
-  on_files_and_blank : (is_run : Bool) (capacity : Capacity)
-      → job_said (name ∷ command_of is_run ∷ file ∷ schedule ∷ codes "--buffer" ∷ text_of capacity ∷ []) ≡ Some (wanted_of is_run file schedule capacity)
+  on_files_and_blank : (command : OnFiles) (capacity : Capacity)
+      → job_said (name ∷ command_of command ∷ file ∷ schedule ∷ codes "--buffer" ∷ text_of capacity ∷ []) ≡ Some (wanted_of command file schedule capacity)
   unfolding clap_on_literals job_said
-  on_files_and_blank true One = let a = no_flag file f in let b = no_flag schedule s in rw (a.0, a.1, a.2, b.0, b.1, b.2) refl
-  on_files_and_blank true Two = let a = no_flag file f in let b = no_flag schedule s in rw (a.0, a.1, a.2, b.0, b.1, b.2) refl
-  on_files_and_blank true Four = let a = no_flag file f in let b = no_flag schedule s in rw (a.0, a.1, a.2, b.0, b.1, b.2) refl
-  on_files_and_blank true Sixteen = let a = no_flag file f in let b = no_flag schedule s in rw (a.0, a.1, a.2, b.0, b.1, b.2) refl
-  on_files_and_blank false One = let a = no_flag file f in let b = no_flag schedule s in rw (a.0, a.1, a.2, b.0, b.1, b.2) refl
-  on_files_and_blank false Two = let a = no_flag file f in let b = no_flag schedule s in rw (a.0, a.1, a.2, b.0, b.1, b.2) refl
-  on_files_and_blank false Four = let a = no_flag file f in let b = no_flag schedule s in rw (a.0, a.1, a.2, b.0, b.1, b.2) refl
-  on_files_and_blank false Sixteen = let a = no_flag file f in let b = no_flag schedule s in rw (a.0, a.1, a.2, b.0, b.1, b.2) refl
+  on_files_and_blank running One = let a = no_flag file f in let b = no_flag schedule s in rw (a.0, a.1, a.2, b.0, b.1, b.2) refl
+  on_files_and_blank running Two = let a = no_flag file f in let b = no_flag schedule s in rw (a.0, a.1, a.2, b.0, b.1, b.2) refl
+  on_files_and_blank running Four = let a = no_flag file f in let b = no_flag schedule s in rw (a.0, a.1, a.2, b.0, b.1, b.2) refl
+  on_files_and_blank running Sixteen = let a = no_flag file f in let b = no_flag schedule s in rw (a.0, a.1, a.2, b.0, b.1, b.2) refl
+  on_files_and_blank replaying One = let a = no_flag file f in let b = no_flag schedule s in rw (a.0, a.1, a.2, b.0, b.1, b.2) refl
+  on_files_and_blank replaying Two = let a = no_flag file f in let b = no_flag schedule s in rw (a.0, a.1, a.2, b.0, b.1, b.2) refl
+  on_files_and_blank replaying Four = let a = no_flag file f in let b = no_flag schedule s in rw (a.0, a.1, a.2, b.0, b.1, b.2) refl
+  on_files_and_blank replaying Sixteen = let a = no_flag file f in let b = no_flag schedule s in rw (a.0, a.1, a.2, b.0, b.1, b.2) refl
+  on_files_and_blank debugging One = let a = no_flag file f in let b = no_flag schedule s in rw (a.0, a.1, a.2, b.0, b.1, b.2) refl
+  on_files_and_blank debugging Two = let a = no_flag file f in let b = no_flag schedule s in rw (a.0, a.1, a.2, b.0, b.1, b.2) refl
+  on_files_and_blank debugging Four = let a = no_flag file f in let b = no_flag schedule s in rw (a.0, a.1, a.2, b.0, b.1, b.2) refl
+  on_files_and_blank debugging Sixteen = let a = no_flag file f in let b = no_flag schedule s in rw (a.0, a.1, a.2, b.0, b.1, b.2) refl
 
-  on_files_and_equals : (is_run : Bool) (capacity : Capacity)
-      → job_said (name ∷ command_of is_run ∷ file ∷ schedule ∷ (codes "--buffer=" ++ text_of capacity) ∷ []) ≡ Some (wanted_of is_run file schedule capacity)
+  on_files_and_equals : (command : OnFiles) (capacity : Capacity)
+      → job_said (name ∷ command_of command ∷ file ∷ schedule ∷ (codes "--buffer=" ++ text_of capacity) ∷ []) ≡ Some (wanted_of command file schedule capacity)
   unfolding clap_on_literals job_said
-  on_files_and_equals true One = let a = no_flag file f in let b = no_flag schedule s in rw (a.0, a.1, a.2, b.0, b.1, b.2) refl
-  on_files_and_equals true Two = let a = no_flag file f in let b = no_flag schedule s in rw (a.0, a.1, a.2, b.0, b.1, b.2) refl
-  on_files_and_equals true Four = let a = no_flag file f in let b = no_flag schedule s in rw (a.0, a.1, a.2, b.0, b.1, b.2) refl
-  on_files_and_equals true Sixteen = let a = no_flag file f in let b = no_flag schedule s in rw (a.0, a.1, a.2, b.0, b.1, b.2) refl
-  on_files_and_equals false One = let a = no_flag file f in let b = no_flag schedule s in rw (a.0, a.1, a.2, b.0, b.1, b.2) refl
-  on_files_and_equals false Two = let a = no_flag file f in let b = no_flag schedule s in rw (a.0, a.1, a.2, b.0, b.1, b.2) refl
-  on_files_and_equals false Four = let a = no_flag file f in let b = no_flag schedule s in rw (a.0, a.1, a.2, b.0, b.1, b.2) refl
-  on_files_and_equals false Sixteen = let a = no_flag file f in let b = no_flag schedule s in rw (a.0, a.1, a.2, b.0, b.1, b.2) refl
+  on_files_and_equals running One = let a = no_flag file f in let b = no_flag schedule s in rw (a.0, a.1, a.2, b.0, b.1, b.2) refl
+  on_files_and_equals running Two = let a = no_flag file f in let b = no_flag schedule s in rw (a.0, a.1, a.2, b.0, b.1, b.2) refl
+  on_files_and_equals running Four = let a = no_flag file f in let b = no_flag schedule s in rw (a.0, a.1, a.2, b.0, b.1, b.2) refl
+  on_files_and_equals running Sixteen = let a = no_flag file f in let b = no_flag schedule s in rw (a.0, a.1, a.2, b.0, b.1, b.2) refl
+  on_files_and_equals replaying One = let a = no_flag file f in let b = no_flag schedule s in rw (a.0, a.1, a.2, b.0, b.1, b.2) refl
+  on_files_and_equals replaying Two = let a = no_flag file f in let b = no_flag schedule s in rw (a.0, a.1, a.2, b.0, b.1, b.2) refl
+  on_files_and_equals replaying Four = let a = no_flag file f in let b = no_flag schedule s in rw (a.0, a.1, a.2, b.0, b.1, b.2) refl
+  on_files_and_equals replaying Sixteen = let a = no_flag file f in let b = no_flag schedule s in rw (a.0, a.1, a.2, b.0, b.1, b.2) refl
+  on_files_and_equals debugging One = let a = no_flag file f in let b = no_flag schedule s in rw (a.0, a.1, a.2, b.0, b.1, b.2) refl
+  on_files_and_equals debugging Two = let a = no_flag file f in let b = no_flag schedule s in rw (a.0, a.1, a.2, b.0, b.1, b.2) refl
+  on_files_and_equals debugging Four = let a = no_flag file f in let b = no_flag schedule s in rw (a.0, a.1, a.2, b.0, b.1, b.2) refl
+  on_files_and_equals debugging Sixteen = let a = no_flag file f in let b = no_flag schedule s in rw (a.0, a.1, a.2, b.0, b.1, b.2) refl
 
-  said_on_files : (is_run : Bool) (capacity : Capacity) (options : List Text) → AsksFor capacity options
-      → job_said (name ∷ command_of is_run ∷ file ∷ schedule ∷ options) ≡ Some (wanted_of is_run file schedule capacity)
-  said_on_files is_run capacity options (inl default) =
-      ap (λ (words : List Text). job_said (name ∷ command_of is_run ∷ file ∷ schedule ∷ words)) default.0 ∙ on_files is_run
-      ∙ ap (λ (c : Capacity). Some (wanted_of is_run file schedule c)) (sym default.1)
-  said_on_files is_run capacity options (inr (inl blank)) =
-      ap (λ (words : List Text). job_said (name ∷ command_of is_run ∷ file ∷ schedule ∷ words)) blank ∙ on_files_and_blank is_run capacity
-  said_on_files is_run capacity options (inr (inr equals)) =
-      ap (λ (words : List Text). job_said (name ∷ command_of is_run ∷ file ∷ schedule ∷ words)) equals ∙ on_files_and_equals is_run capacity
+  said_on_files : (command : OnFiles) (capacity : Capacity) (options : List Text) → AsksFor capacity options
+      → job_said (name ∷ command_of command ∷ file ∷ schedule ∷ options) ≡ Some (wanted_of command file schedule capacity)
+  said_on_files command capacity options (inl default) =
+      ap (λ (words : List Text). job_said (name ∷ command_of command ∷ file ∷ schedule ∷ words)) default.0 ∙ on_files command
+      ∙ ap (λ (c : Capacity). Some (wanted_of command file schedule c)) (sym default.1)
+  said_on_files command capacity options (inr (inl blank)) =
+      ap (λ (words : List Text). job_said (name ∷ command_of command ∷ file ∷ schedule ∷ words)) blank ∙ on_files_and_blank command capacity
+  said_on_files command capacity options (inr (inr equals)) =
+      ap (λ (words : List Text). job_said (name ∷ command_of command ∷ file ∷ schedule ∷ words)) equals ∙ on_files_and_equals command capacity
 
 -- ---- each task
 
@@ -127,9 +146,11 @@ spelled_of name rest Dis wanted (is, wants) = ap (λ (words : List Text). job_sa
 spelled_of name rest (Machine Steps capacity) wanted (options, is, asks, wants) =
     ap (λ (words : List Text). job_said (name ∷ words)) is ∙ of_steps name capacity options asks ∙ ap (λ (w : Wanted). Some w) (sym wants)
 spelled_of name rest (Machine Run capacity) wanted (file, schedule, options, is, f, s, asks, wants) =
-    ap (λ (words : List Text). job_said (name ∷ words)) is ∙ said_on_files name file schedule f s true capacity options asks ∙ ap (λ (w : Wanted). Some w) (sym wants)
+    ap (λ (words : List Text). job_said (name ∷ words)) is ∙ said_on_files name file schedule f s running capacity options asks ∙ ap (λ (w : Wanted). Some w) (sym wants)
 spelled_of name rest (Machine Replay capacity) wanted (file, schedule, options, is, f, s, asks, wants) =
-    ap (λ (words : List Text). job_said (name ∷ words)) is ∙ said_on_files name file schedule f s false capacity options asks ∙ ap (λ (w : Wanted). Some w) (sym wants)
+    ap (λ (words : List Text). job_said (name ∷ words)) is ∙ said_on_files name file schedule f s replaying capacity options asks ∙ ap (λ (w : Wanted). Some w) (sym wants)
+spelled_of name rest (Machine Debug capacity) wanted (file, schedule, options, is, f, s, asks, wants) =
+    ap (λ (words : List Text). job_said (name ∷ words)) is ∙ said_on_files name file schedule f s debugging capacity options asks ∙ ap (λ (w : Wanted). Some w) (sym wants)
 spelled_of name rest (Machine (Try seed runs events) capacity) wanted t = absurd t
 spelled_of name rest (Machine (Channel ring slots) capacity) wanted t = absurd t
 

@@ -6,7 +6,7 @@ use Rattle.ztso.specs.declared.job.Capacity.TheVariants.{One, Two, Four, Sixteen
 use Rattle.ztso.specs.declared.job.Task.{Task}
 use Rattle.ztso.specs.declared.job.Task.TheVariants.{Asm, Dis, Machine}
 use Rattle.ztso.specs.declared.job.Work.{Work}
-use Rattle.ztso.specs.declared.job.Work.TheVariants.{Steps, Run, Replay, Try, Channel}
+use Rattle.ztso.specs.declared.job.Work.TheVariants.{Steps, Run, Replay, Debug, Try, Channel}
 use Rattle.ztso.specs.Jobs.{Wanted, one_input, two_inputs}
 use Rattle.ztso.specs.Jobs.Input.{Standard, File}
 
@@ -46,6 +46,7 @@ IsSpellingOf (Machine Steps capacity) wanted words =
     × (wanted ≡ one_input (Machine Steps capacity) Standard)
 IsSpellingOf (Machine Run capacity) wanted words = IsOnFiles (codes "run") Run capacity wanted words
 IsSpellingOf (Machine Replay capacity) wanted words = IsOnFiles (codes "replay") Replay capacity wanted words
+IsSpellingOf (Machine Debug capacity) wanted words = IsOnFiles (codes "debug") Debug capacity wanted words
 IsSpellingOf (Machine (Try seed runs events) capacity) wanted words = ⊥
 IsSpellingOf (Machine (Channel ring slots) capacity) wanted words = ⊥
 

@@ -15,6 +15,7 @@ use Rattle.ztso_engines.specs.Steps.{IsStepsAnswer}
 use Rattle.ztso_engines.specs.Tests.{HasNoTest}
 use Rattle.ztso_engines.specs.Run.{IsRunAnswer}
 use Rattle.ztso_engines.specs.Replay.{IsReplayAnswer}
+use Rattle.ztso_engines.specs.Talks.{EndsAloud, IsDebugAnswer}
 use Rattle.ztso_engines.specs.Outcomes.{IsTryAnswer}
 use Rattle.ztso_engines.specs.Schedules.{HasNoSchedule}
 use Rattle.ztso_engines.specs.Channels.{IsChannelAnswer}
@@ -27,7 +28,7 @@ use Rattle.ztso.specs.declared.job.Ring.TheVariants.{Lamport}
 use Rattle.ztso.specs.declared.job.Task.{Task}
 use Rattle.ztso.specs.declared.job.Task.TheVariants.{Asm, Dis, Machine}
 use Rattle.ztso.specs.declared.job.Work.{Work}
-use Rattle.ztso.specs.declared.job.Work.TheVariants.{Steps, Run, Replay, Try, Channel}
+use Rattle.ztso.specs.declared.job.Work.TheVariants.{Steps, Run, Replay, Debug, Try, Channel}
 
 -- how many stores a buffer of this capacity holds
 abbrev pub stores_of : Capacity → ℕ
@@ -65,10 +66,12 @@ ended_with status (Err fault) = Err fault
 
 -- ---- what answers a task's inputs: an output and the exit status, or a refusal
 
--- what the readers of the inputs tell, in the order in which they are read
+-- what the readers of the inputs tell, in the order in which they are read, and what a user's commands
+-- tell
 pub record Given : Type 0 where
   pub first : Option (List ℕ)
   pub second : Option (List ℕ)
+  pub commands : Option (List ℕ)
 
 abbrev pub Answer : Type 0
 Answer = Result (List ℕ × ℕ) Refusal
@@ -87,22 +90,28 @@ ToldByBoth status IsAnswer given = Told status (AnswersBoth IsAnswer given.first
 
 -- The table of work with a machine, over buffers of B stores and a memory of 4,096 words.
 abbrev pub IsAnswerOf : (B : ℕ) → Work → Given → Answer → Type 0
-IsAnswerOf B Steps = ToldBy done_status (IsStepsAnswer B 4096)
-IsAnswerOf B Run = ToldByBoth verdict_status (IsRunAnswer B 4096)
-IsAnswerOf B Replay = ToldByBoth done_status (IsReplayAnswer B 4096)
-IsAnswerOf B (Try seed runs size) = ToldBy tried_status (IsTryAnswer B 4096 (drawn_from seed) runs size)
-IsAnswerOf B (Channel ring slots) = ToldByBoth done_status (IsChannelAnswer (tables_of ring) B 4096 slots)
-
--- and of all tasks
-abbrev pub IsAnswerTo : Task → Given → Answer → Type 0
-IsAnswerTo Asm = ToldBy done_status IsAsmAnswer
-IsAnswerTo Dis = ToldBy done_status IsDisAnswer
-IsAnswerTo (Machine work capacity) = IsAnswerOf (stores_of capacity) work
+IsAnswerOf B Steps given = ToldBy done_status (IsStepsAnswer B 4096) given
+IsAnswerOf B Run given = ToldByBoth verdict_status (IsRunAnswer B 4096) given
+IsAnswerOf B Replay given = ToldByBoth done_status (IsReplayAnswer B 4096) given
+IsAnswerOf B Debug given = ToldByBoth done_status (IsDebugAnswer B 4096 given.commands) given
+IsAnswerOf B (Try seed runs size) given = ToldBy tried_status (IsTryAnswer B 4096 (drawn_from seed) runs size) given
+IsAnswerOf B (Channel ring slots) given = ToldByBoth done_status (IsChannelAnswer (tables_of ring) B 4096 slots) given
 
 -- What was written and the exit status answer the inputs, or the refusal does and nothing was written.
 -- Where a read failed or memory ran out nothing was written; where a write failed nothing is said of it.
+-- The debugger writes as it reads, so there nothing is said of what was written in these three cases.
+abbrev pub DoesWork : {W : Type 0} → (B : ℕ) → Work → Result ℕ Fault → Given → (contents : W → Option (List ℕ)) → (old new : W) → Type 0
+DoesWork B Steps result given contents old new = Ends (IsAnswerOf B Steps given) result contents old new
+DoesWork B Run result given contents old new = Ends (IsAnswerOf B Run given) result contents old new
+DoesWork B Replay result given contents old new = Ends (IsAnswerOf B Replay given) result contents old new
+DoesWork B Debug result given contents old new = EndsAloud (IsAnswerOf B Debug given) result contents old new
+DoesWork B (Try seed runs size) result given contents old new = Ends (IsAnswerOf B (Try seed runs size) given) result contents old new
+DoesWork B (Channel ring slots) result given contents old new = Ends (IsAnswerOf B (Channel ring slots) given) result contents old new
+
 abbrev pub DoesJob : {W : Type 0} → Task → Result ℕ Fault → Given → (contents : W → Option (List ℕ)) → (old new : W) → Type 0
-DoesJob task result given contents old new = Ends (IsAnswerTo task given) result contents old new
+DoesJob Asm result given contents old new = Ends (ToldBy done_status IsAsmAnswer given) result contents old new
+DoesJob Dis result given contents old new = Ends (ToldBy done_status IsDisAnswer given) result contents old new
+DoesJob (Machine work capacity) result given contents old new = DoesWork (stores_of capacity) work result given contents old new
 
 -- ---- what is left unread
 
@@ -112,6 +121,7 @@ abbrev pub LeavesSecondOf : Work → (first : Option (List ℕ)) → Type 0
 LeavesSecondOf Steps first = Unit {0}
 LeavesSecondOf Run first = HasNoTest first
 LeavesSecondOf Replay first = HasNoTest first
+LeavesSecondOf Debug first = HasNoTest first
 LeavesSecondOf (Try seed runs size) first = Unit {0}
 LeavesSecondOf (Channel ring slots) first = HasNoSchedule first
 

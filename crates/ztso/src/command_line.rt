@@ -60,6 +60,7 @@ fn job_in<'a>(matches: &ArgMatches<'a>) -> Option<Job<'a>>
         ("replay", options) => {
             on_file_and_schedule(options, machine_in(options, Some(Work::Replay)))
         }
+        ("debug", options) => on_file_and_schedule(options, machine_in(options, Some(Work::Debug))),
         ("try", options) => on_file(options, machine_in(options, try_in(options))),
         ("channel", options) => {
             on_schedule_and_standard(options, machine_in(options, channel_in(options)))

@@ -11,11 +11,14 @@ mod command_line;
 mod failure;
 mod job;
 mod late_input;
+mod prompting;
 mod work;
 
 use command_line::job_of;
 use failure::Failure;
 use late_input::LateInput;
+use prompting::Prompting;
+use std::io::IsTerminal;
 use std::process::ExitCode;
 use std::rt::{Env, Files};
 use std::{env, io};
@@ -32,7 +35,10 @@ fn main(rt: HostRuntime) -> ExitCode {
 }
 
 /// Does the job that the command line asks for, and answers the exit status.
-fn run<R: Env + Files + Input + Print + AllocGlobal>(rt: &R) -> Result<u8, Failure> {
+fn run<R: Env + Files + Input + Print + Eprint + AllocGlobal>(rt: &R) -> Result<u8, Failure>
+where
+    R::Reader: IsTerminal,
+{
     let arguments = env::args(rt).map_err(Failure::of_arguments)?;
     let words: Vec<String> = arguments.collect(rt.alloc())?;
     let job = job_of(rt.alloc(), &words)?;
@@ -41,6 +47,7 @@ fn run<R: Env + Files + Input + Print + AllocGlobal>(rt: &R) -> Result<u8, Failu
         job.task,
         &mut LateInput::new(rt, Some(job.first)),
         &mut LateInput::new(rt, job.second),
+        &mut Prompting::new(rt),
         &mut io::writer(rt),
     )?;
     Ok(status)

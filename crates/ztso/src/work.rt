@@ -1,10 +1,12 @@
 //! Which engine does a job.
 
 ghost use Rattle.std.specs.Prelude.{◌≡◌, ◌≤◌};
-ghost use Rattle.ztso.specs.Work.{DoesJob, Given, IsAnswerOf, LeavesSecond, LeavesSecondOf, done_status, drawn_from, ended_with, tables_of, tried_status, verdict_status};
+ghost use Rattle.ztso.specs.Work.{DoesJob, DoesWork, Given, LeavesSecond, LeavesSecondOf, done_status, drawn_from, ended_with, tables_of, tried_status, verdict_status};
 ghost use Rattle.ztso_engines.specs.Channels.{IsChannelAnswer};
-ghost use Rattle.ztso_engines.specs.Engines.{Ends, EndsBy, EndsByBoth};
+ghost use Rattle.ztso_engines.specs.Engines.{AnswersBoth, EndsBy, EndsByBoth};
 ghost use Rattle.ztso_engines.specs.Schedules.{HasNoSchedule};
+ghost use Rattle.ztso_engines.specs.Talks.{EndsAloud, IsDebugAnswer};
+ghost use Rattle.ztso_engines.specs.Tests.{HasNoTest};
 ghost use Rattle.ztso_engines.specs.Outcomes.{IsTryAnswer};
 
 use crate::job::{Capacity, Ring, Task, Work};
@@ -13,9 +15,10 @@ use litmus::Verdict;
 use rand_core::SeedableRng;
 use rand_pcg::Lcg64Xsh32;
 use std::alloc::Global;
-use std::io::{Read, Write};
+use std::io::{BufReader, Read, Write};
 use ztso_engines::asm::asm_engine;
 use ztso_engines::channel::channel_engine;
+use ztso_engines::debug::debug_engine;
 use ztso_engines::dis::dis_engine;
 use ztso_engines::fault::Fault;
 use ztso_engines::replay::replay_engine;
@@ -69,6 +72,25 @@ fn try_drawn<const B: usize, F: Read, W: Write>(
     try_engine::<B, WORDS, _, _, _>(alloc, file, &mut generator, runs, length, writer)
 }
 
+/// Walks along a schedule's run at a user's commands.
+fn debug<const B: usize, F: Read, S: Read, C: Read, W: Write>(
+    alloc: Global,
+    file: &mut F,
+    schedule: &mut S,
+    commands: &mut C,
+    writer: &mut W,
+) -> Result<(), Fault>
+    requires some_capacity { 1 ≤ B }
+    requires capacity { B ≤ 64 }
+    ensures ends { EndsAloud (AnswersBoth (IsDebugAnswer B 4096 (C.remaining commands.old)) (F.remaining file.old) (S.remaining schedule.old)) result W.contents writer.old writer.new }
+    ensures unread { HasNoTest (F.remaining file.old) → schedule.new ≡ schedule.old }
+{
+    let Ok(mut commands) = BufReader::new(alloc, commands) else {
+        return Err(Fault::NoMemory);
+    };
+    debug_engine::<B, WORDS, _, _, _, _>(alloc, file, schedule, &mut commands, writer)
+}
+
 /// Runs a channel over lists of words by a schedule, through rings of this kind.
 fn run_channel<const B: usize, S: Read, L: Read, W: Write>(
     alloc: Global,
@@ -91,23 +113,25 @@ fn run_channel<const B: usize, S: Read, L: Read, W: Write>(
 }
 
 /// Does the work with a machine whose harts' buffers hold `B` stores.
-#[tactic(auto, using(crate::proofs::Endings::ends_told))]
-fn do_work<const B: usize, F: Read, S: Read, W: Write>(
+#[tactic(auto, using(crate::proofs::Endings::ends_told, crate::proofs::Endings::ends_aloud))]
+fn do_work<const B: usize, F: Read, S: Read, C: Read, W: Write>(
     alloc: Global,
     work: Work,
     first: &mut F,
     second: &mut S,
+    commands: &mut C,
     writer: &mut W,
 ) -> Result<u8, Fault>
     requires some_capacity { 1 ≤ B }
     requires capacity { B ≤ 64 }
-    ensures does { Ends (IsAnswerOf B work (record { first = F.remaining first.old; second = S.remaining second.old })) result W.contents writer.old writer.new }
+    ensures does { DoesWork B work result (record { first = F.remaining first.old; second = S.remaining second.old; commands = C.remaining commands.old }) W.contents writer.old writer.new }
     ensures unread { LeavesSecondOf work (F.remaining first.old) → second.new ≡ second.old }
 {
     match work {
         Work::Steps => after(steps_engine::<B, WORDS, _, _>(alloc, first, writer)),
         Work::Run => after_run(run_engine::<B, WORDS, _, _, _>(alloc, first, second, writer)),
         Work::Replay => after(replay_engine::<B, WORDS, _, _, _>(alloc, first, second, writer)),
+        Work::Debug => after(debug::<B, F, S, C, W>(alloc, first, second, commands, writer)),
         Work::Try { seed, runs, length } => {
             after_try(try_drawn::<B, F, W>(alloc, seed, runs, length, first, writer))
         }
@@ -122,26 +146,31 @@ fn do_work<const B: usize, F: Read, S: Read, W: Write>(
 /// the test asks.
 ///
 /// `first` is what the job reads first, and `second` what it reads behind that, if it has two inputs and
-/// the first one was accepted.
+/// the first one was accepted. `commands` is what a user types to the debugger, which writes as it reads.
 #[tactic(auto, using(crate::proofs::Endings::ends_told))]
-pub fn do_job<F: Read, S: Read, W: Write>(
+pub fn do_job<F: Read, S: Read, C: Read, W: Write>(
     alloc: Global,
     task: Task,
     first: &mut F,
     second: &mut S,
+    commands: &mut C,
     writer: &mut W,
 ) -> Result<u8, Fault>
-    ensures does { DoesJob task result (record { first = F.remaining first.old; second = S.remaining second.old }) W.contents writer.old writer.new }
+    ensures does { DoesJob task result (record { first = F.remaining first.old; second = S.remaining second.old; commands = C.remaining commands.old }) W.contents writer.old writer.new }
     ensures unread { LeavesSecond task (F.remaining first.old) → second.new ≡ second.old }
 {
     match task {
         Task::Asm => after(asm_engine(alloc, first, writer)),
         Task::Dis => after(dis_engine(alloc, first, writer)),
         Task::Machine { work, capacity } => match capacity {
-            Capacity::One => do_work::<1, _, _, _>(alloc, work, first, second, writer),
-            Capacity::Two => do_work::<2, _, _, _>(alloc, work, first, second, writer),
-            Capacity::Four => do_work::<4, _, _, _>(alloc, work, first, second, writer),
-            Capacity::Sixteen => do_work::<16, _, _, _>(alloc, work, first, second, writer),
+            Capacity::One => do_work::<1, _, _, _, _>(alloc, work, first, second, commands, writer),
+            Capacity::Two => do_work::<2, _, _, _, _>(alloc, work, first, second, commands, writer),
+            Capacity::Four => do_work::<4, _, _, _, _>(
+                alloc, work, first, second, commands, writer,
+            ),
+            Capacity::Sixteen => do_work::<16, _, _, _, _>(
+                alloc, work, first, second, commands, writer,
+            ),
         },
     }
 }

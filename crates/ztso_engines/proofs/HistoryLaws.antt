@@ -10,52 +10,57 @@ use Rattle.ztso_engines.specs.declared.fault.Fault.TheVariants.{ReadFailed, Writ
 use Rattle.ztso_engines.specs.declared.fault.Refusal.{Refusal}
 use Rattle.ztso_engines.specs.Engines.{OfInput, AnswersBoth}
 use Rattle.ztso_engines.specs.Tests.{IsNoTest}
-use Rattle.ztso_engines.specs.Histories.{ByRun}
+use Rattle.ztso_engines.specs.Histories.{ByBoth, ByRun, IsOfRun}
 use Rattle.ztso_engines.specs.inner.Making.{Finds, FindsBy}
 use Rattle.ztso_engines.specs.inner.Inputs.{IsReadAsTest, IsReadAsSchedule, IsItself}
 use Rattle.ztso_engines.proofs.Endings.{weaker}
 
-module _ (B M : ℕ) (first second : Option (List ℕ)) where
+module _ (first second : Option (List ℕ)) where
   -- what is told of both by their bytes
-  weaker_both : {A C : Type 0} (P : List ℕ → List ℕ → A → Type 0) (Q : List ℕ → List ℕ → C → Type 0) (a : A) (c : C) → ((file schedule : List ℕ) → P file schedule a → Q file schedule c) → AnswersBoth P first second a → AnswersBoth Q first second c
+  pub weaker_both : {A C : Type 0} (P : List ℕ → List ℕ → A → Type 0) (Q : List ℕ → List ℕ → C → Type 0) (a : A) (c : C) → ((file schedule : List ℕ) → P file schedule a → Q file schedule c) → AnswersBoth P first second a → AnswersBoth Q first second c
   weaker_both P Q a c more = weaker first _ _ (λ file. weaker second _ _ (more file))
 
   -- both were read
-  pub run_found : (question : Question) (events : List Event) (history : History) → OfInput first (λ bytes. IsReadAsTest bytes (Ok question)) → OfInput second (λ bytes. IsReadAsSchedule bytes (Ok events)) → Run B M question.opening events history
-      → AnswersBoth (ByRun B M IsItself) first second (Ok (question, history))
-  run_found question events history test schedule ran =
-      weaker first _ _ (λ file is. weaker second _ _ (λ text said. (question, is, (events, said, record { history = history; ran = ran; told = refl }))) schedule) test
+  pub both_read : {A : Type 0} (IsTold : Question → List Event → A → Type 0) (question : Question) (events : List Event) (answer : A) → OfInput first (λ bytes. IsReadAsTest bytes (Ok question)) → OfInput second (λ bytes. IsReadAsSchedule bytes (Ok events)) → IsTold question events answer
+      → AnswersBoth (ByBoth IsTold) first second (Ok answer)
+  both_read IsTold question events answer test schedule told = weaker first _ _ (λ file is. weaker second _ _ (λ text said. (question, is, (events, said, told))) schedule) test
 
   -- the first was refused
-  pub first_refused : {A : Type 0} (IsTold : Question → History → A → Type 0) (refusal : Refusal) → OfInput first (λ bytes. IsNoTest bytes refusal) → AnswersBoth (ByRun B M IsTold) first second (Err refusal)
+  first_refused : {A : Type 0} (IsTold : Question → List Event → A → Type 0) (refusal : Refusal) → OfInput first (λ bytes. IsNoTest bytes refusal) → AnswersBoth (ByBoth IsTold) first second (Err refusal)
   first_refused IsTold refusal none = weaker first _ _ (λ file bad. any second file bad) none
     where
-      any : (known : Option (List ℕ)) (file : List ℕ) → IsNoTest file refusal → OfInput known (λ text. ByRun B M IsTold file text (Err refusal))
+      any : (known : Option (List ℕ)) (file : List ℕ) → IsNoTest file refusal → OfInput known (λ text. ByBoth IsTold file text (Err refusal))
       any None file bad = ([], inl bad)
       any (Some text) file bad = inl bad
 
   -- the second was
-  pub second_refused : {A : Type 0} (IsTold : Question → History → A → Type 0) (question : Question) (refusal : Refusal) → OfInput first (λ bytes. IsReadAsTest bytes (Ok question)) → OfInput second (λ bytes. IsReadAsSchedule bytes (Err refusal))
-      → AnswersBoth (ByRun B M IsTold) first second (Err refusal)
+  second_refused : {A : Type 0} (IsTold : Question → List Event → A → Type 0) (question : Question) (refusal : Refusal) → OfInput first (λ bytes. IsReadAsTest bytes (Ok question)) → OfInput second (λ bytes. IsReadAsSchedule bytes (Err refusal))
+      → AnswersBoth (ByBoth IsTold) first second (Err refusal)
   second_refused IsTold question refusal test none = weaker first _ _ (λ file is. weaker second _ _ (λ text bad. inr (question, is, bad)) none) test
 
   -- a fault in reading the first or the second
-  pub test_fault : {X Y : Type 0} (seen : X → Question × History) (view : Y → Question) (result : Result X Fault) (fault : Fault) → result ≡ Err fault → FindsBy IsReadAsTest view first (Err fault) → Finds (AnswersBoth (ByRun B M IsItself) first second) seen result
-  test_fault seen view result (Refused r) is finds = rw is (first_refused IsItself r finds)
-  test_fault seen view result NoMemory is finds = rw is tt
-  test_fault seen view result ReadFailed is finds = rw is tt
-  test_fault seen view result WriteFailed is finds = rw is finds
+  pub test_fault : {A X Y : Type 0} (IsTold : Question → List Event → A → Type 0) (seen : X → A) (view : Y → Question) (result : Result X Fault) (fault : Fault) → result ≡ Err fault → FindsBy IsReadAsTest view first (Err fault) → Finds (AnswersBoth (ByBoth IsTold) first second) seen result
+  test_fault IsTold seen view result (Refused r) is finds = rw is (first_refused IsTold r finds)
+  test_fault IsTold seen view result NoMemory is finds = rw is tt
+  test_fault IsTold seen view result ReadFailed is finds = rw is tt
+  test_fault IsTold seen view result WriteFailed is finds = rw is finds
 
-  pub schedule_fault : {X Y : Type 0} (seen : X → Question × History) (view : Y → List Event) (question : Question) (result : Result X Fault) (fault : Fault) → result ≡ Err fault → OfInput first (λ bytes. IsReadAsTest bytes (Ok question)) → FindsBy IsReadAsSchedule view second (Err fault)
-      → Finds (AnswersBoth (ByRun B M IsItself) first second) seen result
-  schedule_fault seen view question result (Refused r) is test finds = rw is (second_refused IsItself question r test finds)
-  schedule_fault seen view question result NoMemory is test finds = rw is tt
-  schedule_fault seen view question result ReadFailed is test finds = rw is tt
-  schedule_fault seen view question result WriteFailed is test finds = rw is finds
+  pub schedule_fault : {A X Y : Type 0} (IsTold : Question → List Event → A → Type 0) (seen : X → A) (view : Y → List Event) (question : Question) (result : Result X Fault) (fault : Fault) → result ≡ Err fault → OfInput first (λ bytes. IsReadAsTest bytes (Ok question)) → FindsBy IsReadAsSchedule view second (Err fault)
+      → Finds (AnswersBoth (ByBoth IsTold) first second) seen result
+  schedule_fault IsTold seen view question result (Refused r) is test finds = rw is (second_refused IsTold question r test finds)
+  schedule_fault IsTold seen view question result NoMemory is test finds = rw is tt
+  schedule_fault IsTold seen view question result ReadFailed is test finds = rw is tt
+  schedule_fault IsTold seen view question result WriteFailed is test finds = rw is finds
+
+module _ (B M : ℕ) (first second : Option (List ℕ)) where
+  -- both were read and run
+  pub run_found : (question : Question) (events : List Event) (history : History) → OfInput first (λ bytes. IsReadAsTest bytes (Ok question)) → OfInput second (λ bytes. IsReadAsSchedule bytes (Ok events)) → Run B M question.opening events history
+      → AnswersBoth (ByRun B M IsItself) first second (Ok (question, history))
+  run_found question events history test schedule ran = both_read first second (IsOfRun B M IsItself) question events (question, history) test schedule (record { history = history; ran = ran; told = refl })
 
   -- what is told of the history answers both
   pub told_of_run : {A : Type 0} (IsTold : Question → History → A → Type 0) (question : Question) (history : History) (answer : A) → AnswersBoth (ByRun B M IsItself) first second (Ok (question, history)) → IsTold question history answer → AnswersBoth (ByRun B M IsTold) first second (Ok answer)
-  told_of_run IsTold question history answer run told = weaker_both (ByRun B M IsItself) (ByRun B M IsTold) (Ok (question, history)) (Ok answer) more run
+  told_of_run IsTold question history answer run told = weaker_both first second (ByRun B M IsItself) (ByRun B M IsTold) (Ok (question, history)) (Ok answer) more run
     where
       more : (file schedule : List ℕ) → ByRun B M IsItself file schedule (Ok (question, history)) → ByRun B M IsTold file schedule (Ok answer)
       more file schedule by =

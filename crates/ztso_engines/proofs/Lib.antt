@@ -16,9 +16,11 @@ pub mod HexWords
 pub mod HexTexts
 pub mod CodeTexts
 pub mod TestTexts
-pub mod Openings
 pub mod SessionLaws
 pub mod WalkLaws
+pub mod DebugLaws
+pub mod TalkLaws
+pub mod OneTalk
 pub mod Rows
 pub mod TallyLaws
 pub mod TrialLaws

@@ -4,8 +4,7 @@ use Rattle.step_machine.specs.declared.events.Event.{Event}
 use Rattle.step_machine.specs.declared.events.Outcome.{Outcome}
 use Rattle.step_machine.specs.History.{Start, History, unrun}
 use Rattle.step_machine.specs.Runs.{Happens, RunFrom, Run}
-use Rattle.step_machine.proofs.Running.{RunFrom-more}
-use Rattle.ztso_engines.proofs.Openings.{opening_kept}
+use Rattle.step_machine.proofs.Running.{RunFrom-more, opening_kept}
 
 -- a run of events from this opening is one from its own
 pub runs_of_itself : (B M : ℕ) (o : Start) (evs : List Event) (t : History) → Run B M o evs t → Run B M t.opening evs t

@@ -15,7 +15,11 @@ pub record IsOfRun {A : Type 0} (B M : ℕ) (IsTold : Question → History → A
   pub ran : Run B M question.opening events history
   pub told : IsTold question history answer
 
--- What answers a litmus text and a schedule: what is told of their history, else the refusal of the
--- first fault. The test is judged first.
+-- What answers a litmus text and a schedule: what is told of their test and events, else the refusal of
+-- the first fault. The test is judged first.
+abbrev pub ByBoth : {A : Type 0} → (Question → List Event → A → Type 0) → (file schedule : List ℕ) → Result A Refusal → Type 0
+ByBoth IsTold file schedule answer = ByTest (λ question given. BySchedule (IsTold question) schedule given) file answer
+
+-- the same where it is told of their history
 abbrev pub ByRun : {A : Type 0} → (B M : ℕ) → (Question → History → A → Type 0) → (file schedule : List ℕ) → Result A Refusal → Type 0
-ByRun B M IsTold file schedule answer = ByTest (λ question given. BySchedule (IsOfRun B M IsTold question) schedule given) file answer
+ByRun B M IsTold = ByBoth (IsOfRun B M IsTold)

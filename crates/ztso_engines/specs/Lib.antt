@@ -21,6 +21,10 @@ pub mod Trials
 pub mod Outcomes
 pub mod Sessions
 pub mod Walks
+pub mod Commands
+pub mod DebugText
+pub mod Debugging
+pub mod Talks
 pub mod inner
 pub mod Lists
 pub mod Channels

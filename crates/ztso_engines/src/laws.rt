@@ -1,6 +1,6 @@
 //! Laws of the texts.
 
-ghost use Rattle.std.specs.Prelude.{◌≡◌, ◌<◌, ◌^◌, ◌↔◌, ℕ, Bool, List, Ok, Result};
+ghost use Rattle.std.specs.Prelude.{◌≡◌, ◌<◌, ◌^◌, ◌↔◌, ℕ, Bool, List, Ok, Result, Some};
 ghost use Rattle.std.specs.List.{All, flat_map};
 ghost use Rattle.rand_core.specs.Stream.{Stream};
 ghost use Rattle.step_machine.specs.declared.events.Event.{Event};
@@ -18,6 +18,7 @@ ghost use Rattle.ztso_engines.specs.Lists.{SaysLists, lists_at};
 ghost use Rattle.ztso_engines.specs.Histories.{IsOfRun};
 ghost use Rattle.ztso_engines.specs.Run.{IsJudged};
 ghost use Rattle.ztso_engines.specs.Replay.{IsReplay};
+ghost use Rattle.ztso_engines.specs.Talks.{IsTalk};
 ghost use Rattle.ztso_engines.specs.Outcomes.{IsTried};
 
 /// A steps text tells one thing at most, and reading it from the top finds that; an input is not
@@ -60,9 +61,10 @@ pub fn one_answer()
     ensures dis { (input : List ℕ) (a b : Result (List ℕ × Unit {0}) Refusal) → IsDisAnswer input a → IsDisAnswer input b → a ≡ b }
 {}
 
-/// What `run` tells of a test and a list of events, and what `replay` tells, is one output and one value.
-/// It does nothing.
+/// What `run` tells of a test and a list of events, and what `replay` tells, is one output and one value,
+/// and so is what `debug` tells of them and of a user's lines. It does nothing.
 pub fn one_telling()
     ensures run { (B M : ℕ) (question : Question) (events : List Event) (a b : List ℕ × Verdict) → IsOfRun B M (IsJudged M) question events a → IsOfRun B M (IsJudged M) question events b → a ≡ b }
     ensures replay { (B M : ℕ) (question : Question) (events : List Event) (a b : List ℕ × Unit {0}) → IsOfRun B M IsReplay question events a → IsOfRun B M IsReplay question events b → a ≡ b }
+    ensures debug { (B M : ℕ) (input : List ℕ) (question : Question) (events : List Event) (a b : List ℕ × Unit {0}) → IsTalk B M (Some input) question events a → IsTalk B M (Some input) question events b → a ≡ b }
 {}

@@ -9,6 +9,7 @@
 pub mod asm;
 pub mod channel;
 mod code;
+pub mod debug;
 pub mod dis;
 mod entry_text;
 pub mod fault;

@@ -72,7 +72,7 @@ fn push_registers<const B: usize, const M: usize>(
 }
 
 /// The lines of a hart.
-fn push_hart<const B: usize, const M: usize>(
+pub fn push_hart<const B: usize, const M: usize>(
     out: &mut String,
     machine: &Machine<B, M>,
     hart: u32,

@@ -84,6 +84,7 @@ pub fn ztso_command<'a>(alloc: Global) -> Result<Command<'a>, AllocError>
     let dis = Command::new(alloc, "dis");
     let run = schedule_command(alloc, "run")?;
     let replay = schedule_command(alloc, "replay")?;
+    let debug = schedule_command(alloc, "debug")?;
     let trying = try_command(alloc)?;
     let channel = channel_command(alloc)?;
     let with_steps = Command::new(alloc, "ztso").subcommand(steps)?;
@@ -91,6 +92,7 @@ pub fn ztso_command<'a>(alloc: Global) -> Result<Command<'a>, AllocError>
     let with_dis = with_asm.subcommand(dis)?;
     let with_run = with_dis.subcommand(run)?;
     let with_replay = with_run.subcommand(replay)?;
-    let with_try = with_replay.subcommand(trying)?;
+    let with_debug = with_replay.subcommand(debug)?;
+    let with_try = with_debug.subcommand(trying)?;
     with_try.subcommand(channel)
 }

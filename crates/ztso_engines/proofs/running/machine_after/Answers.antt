@@ -1,6 +1,6 @@
 use Rattle.std.proofs.Common.{length, ap}
 use Rattle.step_machine.specs.History.{Start}
-use Rattle.ztso_engines.proofs.Openings.{opening_kept}
+use Rattle.step_machine.proofs.Running.{opening_kept}
 use Rattle.ztso_engines.proofs.running.machine_after.Goals as goal
 
 pub returns-clause-harts : goal.returns-clause-harts

@@ -11,7 +11,8 @@ returns c =
     let with_dis = c.in_ok-with_dis.ensures.shape c.new-dis.ensures.local ∙ ap₂ with_subcommand with_asm (ap top c.new-dis.ensures.app) in
     let with_run = c.in_ok-with_run.ensures.shape c.in_ok-run.ensures.local ∙ ap₂ with_subcommand with_dis (ap top c.in_ok-run.ensures.shape) in
     let with_replay = c.in_ok-with_replay.ensures.shape c.in_ok-replay.ensures.local ∙ ap₂ with_subcommand with_run (ap top c.in_ok-replay.ensures.shape) in
-    let with_try = c.in_ok-with_try.ensures.shape c.in_ok-trying.ensures.local ∙ ap₂ with_subcommand with_replay (ap top c.in_ok-trying.ensures.shape) in
-    IfOk-weaker c.subcommand-7.result _ _
+    let with_debug = c.in_ok-with_debug.ensures.shape c.in_ok-debug.ensures.local ∙ ap₂ with_subcommand with_replay (ap top c.in_ok-debug.ensures.shape) in
+    let with_try = c.in_ok-with_try.ensures.shape c.in_ok-trying.ensures.local ∙ ap₂ with_subcommand with_debug (ap top c.in_ok-trying.ensures.shape) in
+    IfOk-weaker c.subcommand-8.result _ _
     (λ command added. added.shape c.in_ok-channel.ensures.local ∙ ap₂ with_subcommand with_try (ap top c.in_ok-channel.ensures.shape))
-    c.subcommand-7.ensures
+    c.subcommand-8.ensures

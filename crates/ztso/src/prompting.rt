@@ -1,0 +1,45 @@
+//! A user's commands.
+
+use std::io;
+use std::io::{Input, IsTerminal, Read};
+
+/// Standard input as a user's commands. It is opened at the first read. Where it is a terminal, a prompt
+/// on standard error asks for each line.
+#[derive(Drop)]
+pub struct Prompting<'a, R: Input + Eprint> {
+    rt: &'a R,
+    reader: Option<R::Reader>,
+    /// Whether the next byte begins a line.
+    begins: bool,
+}
+
+impl<'a, R: Input + Eprint> Prompting<'a, R> {
+    /// Nothing was read yet.
+    pub fn new(rt: &'a R) -> Prompting<'a, R> {
+        Prompting {
+            rt,
+            reader: None,
+            begins: true,
+        }
+    }
+}
+
+impl<'a, R: Input + Eprint> Read for Prompting<'a, R>
+where
+    R::Reader: IsTerminal,
+{
+    fn read(&mut self, buf: &mut [u8]) -> io::Result<usize> {
+        if self.reader.is_none() {
+            self.reader = Some(self.rt.reader());
+        }
+        let Some(reader) = &mut self.reader else {
+            return Ok(0);
+        };
+        if self.begins && reader.is_terminal() {
+            let _ = eprint!(self.rt; "> ");
+        }
+        let count = reader.read(buf)?;
+        self.begins = buf[..count].ends_with(b"\n");
+        Ok(count)
+    }
+}

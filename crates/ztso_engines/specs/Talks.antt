@@ -1,0 +1,71 @@
+-- The command `debug`: what a user's lines print in turn.
+use Rattle.std.specs.Prelude.{ℕ, ◌≡◌, Bool, true, false, List, [], ◌∷◌, ◌++◌, Option, None, Some, IfSome, MatchOption, MatchBool, Result, Ok, Err}
+use Rattle.std.specs.Str.Lines.{lines}
+use Rattle.std.specs.Io.KnownBytes.{Appends}
+use Rattle.step_machine.specs.declared.events.Event.{Event}
+use Rattle.litmus.specs.Questions.{Question}
+use Rattle.ztso_engines.specs.declared.debug.command.Command.{Command}
+use Rattle.ztso_engines.specs.declared.debug.command.Command.TheVariants as command
+use Rattle.ztso_engines.specs.declared.fault.Fault.{Fault}
+use Rattle.ztso_engines.specs.declared.fault.Fault.TheVariants.{ReadFailed, WriteFailed, NoMemory, Refused}
+use Rattle.ztso_engines.specs.declared.fault.Refusal.{Refusal}
+use Rattle.ztso_engines.specs.Words.{words}
+use Rattle.ztso_engines.specs.Histories.{ByBoth}
+use Rattle.ztso_engines.specs.Walks.{Way, set_out}
+use Rattle.ztso_engines.specs.Commands.{asked}
+use Rattle.ztso_engines.specs.DebugText.{unknown_line}
+use Rattle.ztso_engines.specs.Debugging.{Answers}
+
+-- whether a line ends the talk
+abbrev pub quits : Option Command → Bool
+quits None = false
+quits (Some command.Step) = false
+quits (Some command.Go) = false
+quits (Some (command.Give event)) = false
+quits (Some (command.Break hart pc)) = false
+quits (Some (command.Hart hart)) = false
+quits (Some (command.Pending hart)) = false
+quits (Some (command.Word addr)) = false
+quits (Some (command.Back k)) = false
+quits (Some command.Count) = false
+quits (Some command.Quit) = true
+
+-- the line prints this text, and leads from a walk and breakpoints to others
+abbrev pub AnswersLine : (B M : ℕ) → (line : List ℕ) → (old new : Way) (points others : List (ℕ × ℕ)) (text : List ℕ) → Type 0
+AnswersLine B M line old new points others text = MatchOption (asked (words line)) ((text ≡ unknown_line) × (new ≡ old) × (others ≡ points)) (λ said. Answers B M said old new points others text)
+
+-- these lines print this, up to the one that ends the talk
+abbrev pub Talks : (B M : ℕ) → List (List ℕ) → Way → (points : List (ℕ × ℕ)) → (out : List ℕ) → Type 0
+Talks B M [] old points out = out ≡ []
+Talks B M (line ∷ others) old points out = MatchBool (quits (asked (words line))) (out ≡ [])
+    ((text : List ℕ) × (new : Way) × (left : List (ℕ × ℕ)) × (later : List ℕ) × AnswersLine B M line old new points left text × (out ≡ text ++ later) × Talks B M others new left later)
+
+-- what the user's lines print from here on, where their bytes are known
+abbrev pub Prints : (B M : ℕ) → (input : Option (List ℕ)) → Way → (points : List (ℕ × ℕ)) → (out : List ℕ) → Type 0
+Prints B M input walk points out = IfSome input (λ bytes. Talks B M (lines bytes) walk points out)
+
+-- what the user's lines print at a test's opening; there is no other value
+abbrev pub IsTalk : (B M : ℕ) → (input : Option (List ℕ)) → Question → List Event → (answer : List ℕ × Unit {0}) → Type 0
+IsTalk B M input question events answer = Prints B M input (set_out question.opening events) [] answer.0
+
+-- What answers a test, a schedule and the user's lines. The test is judged first.
+abbrev pub IsDebugAnswer : (B M : ℕ) → (input : Option (List ℕ)) → (file schedule : List ℕ) → Result (List ℕ × Unit {0}) Refusal → Type 0
+IsDebugAnswer B M input = ByBoth (IsTalk B M input)
+
+-- How an engine ends that writes as it reads: it wrote an output that is an answer together with what it
+-- returned, or a refusal is the answer and nothing was written. Where a read or a write failed or memory
+-- ran out nothing is said.
+abbrev pub EndsAloud : {V W : Type 0} → (Result (List ℕ × V) Refusal → Type 0) → Result V Fault → (contents : W → Option (List ℕ)) → (old new : W) → Type 0
+EndsAloud IsAnswer (Ok v) contents old new = (out : List ℕ) × IsAnswer (Ok (out, v)) × Appends (contents old) (contents new) out
+EndsAloud IsAnswer (Err (Refused refusal)) contents old new = IsAnswer (Err refusal) × (new ≡ old)
+EndsAloud IsAnswer (Err ReadFailed) contents old new = Unit {0}
+EndsAloud IsAnswer (Err WriteFailed) contents old new = Unit {0}
+EndsAloud IsAnswer (Err NoMemory) contents old new = Unit {0}
+
+-- this holds where an input was refused
+abbrev pub OnRefused : Result (Unit {0}) Fault → Type 0 → Type 0
+OnRefused (Ok x) P = Unit {0}
+OnRefused (Err (Refused refusal)) P = P
+OnRefused (Err ReadFailed) P = Unit {0}
+OnRefused (Err WriteFailed) P = Unit {0}
+OnRefused (Err NoMemory) P = Unit {0}

@@ -1,0 +1,72 @@
+//! The command `debug`: a walk along a schedule's run of a litmus test, at a user's commands.
+
+ghost use Rattle.std.specs.Prelude.{◌≡◌, ◌≤◌};
+ghost use Rattle.ztso_engines.specs.Engines.{AnswersBoth};
+ghost use Rattle.ztso_engines.specs.Tests.{HasNoTest};
+ghost use Rattle.ztso_engines.specs.Histories.{ByBoth};
+ghost use Rattle.ztso_engines.specs.Talks.{EndsAloud, IsDebugAnswer, OnRefused};
+ghost use Rattle.ztso_engines.specs.inner.Making.{Finds};
+ghost use Rattle.ztso_engines.specs.inner.Talking.{IsSetOut};
+
+use crate::debug::talk::talk;
+use crate::fault::Fault;
+use crate::litmus_text::read_test;
+use crate::schedule::read_events;
+use crate::walk::Walk;
+use std::alloc::Global;
+use std::io::{BufRead, Read, Write};
+
+mod answers;
+mod breakpoints;
+mod command;
+mod lines;
+mod looking;
+mod talk;
+
+/// A walk at the opening of the test that a litmus text stands for, along a schedule. The schedule is
+/// read behind an accepted test only.
+fn read_walk<const B: usize, const M: usize, F: Read, S: Read>(
+    alloc: Global,
+    file: &mut F,
+    schedule: &mut S,
+) -> Result<Walk<B, M>, Fault>
+    requires some_capacity { 1 ≤ B }
+    requires capacity { B ≤ 64 }
+    requires words { 1024 ≤ M }
+    requires size { M ≤ 65536 }
+    ensures walk { Finds (AnswersBoth (ByBoth IsSetOut) (F.remaining file.old) (S.remaining schedule.old)) (λ walk. walk) result }
+    ensures unread { HasNoTest (F.remaining file.old) → schedule.new ≡ schedule.old }
+{
+    let test = read_test(alloc, file)?;
+    let events = read_events(alloc, schedule)?;
+    let opening = test.opening(alloc)?;
+    let walk = Walk::open(alloc, opening, events)?;
+    Ok(walk)
+}
+
+/// Reads a litmus text and then a schedule, each to its end, and then answers a user's commands, a line
+/// each, each as soon as it is read: docs/formats.md has them. The machine has store buffers of `B`
+/// pairs and `M` words of memory.
+///
+/// The first two inputs are refused as [`crate::run::run_engine`] refuses them, before the first command
+/// is read and with nothing written. A schedule behind a refused litmus text is not read. Commands are
+/// never refused, and their number and length have no limit. After a failed read or write, or where
+/// memory runs out, what was answered before stays written.
+pub fn debug_engine<const B: usize, const M: usize, F: Read, S: Read, C: BufRead, W: Write>(
+    alloc: Global,
+    file: &mut F,
+    schedule: &mut S,
+    commands: &mut C,
+    writer: &mut W,
+) -> Result<(), Fault>
+    requires some_capacity { 1 ≤ B }
+    requires capacity { B ≤ 64 }
+    requires words { 1024 ≤ M }
+    requires size { M ≤ 65536 }
+    ensures ends { EndsAloud (AnswersBoth (IsDebugAnswer B M (C.remaining commands.old)) (F.remaining file.old) (S.remaining schedule.old)) result W.contents writer.old writer.new }
+    ensures unread { HasNoTest (F.remaining file.old) → schedule.new ≡ schedule.old }
+    ensures unasked { OnRefused result (commands.new ≡ commands.old) }
+{
+    let walk = read_walk::<B, M, F, S>(alloc, file, schedule)?;
+    talk(alloc, walk, commands, writer)
+}
