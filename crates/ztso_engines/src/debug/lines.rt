@@ -19,11 +19,7 @@ fn hart_of(event: Event) -> u32
 }
 
 /// An event's outcome.
-pub fn push_outcome_line(
-    out: &mut String,
-    event: Event,
-    outcome: Outcome,
-) -> Result<(), AllocError>
+pub fn push_outcome_line(out: &mut String, event: Event, outcome: Outcome) -> Result<(), AllocError>
     ensures { OnOk result (string_bytes out.new ≡ string_bytes out.old ++ outcome_line event outcome) }
 {
     let hart = hart_of(event);

@@ -9,7 +9,7 @@ abbrev pub invariant-loop-event : goal.invariant-loop-event
 invariant-loop-event g l =
     (so_far : List ℕ) × (string_bytes l.out ≡ string_bytes l.fn.out ++ so_far)
     × ((text : List ℕ) (new : Way) → DoesAll g.row.B g.row.M l.points (drop l.walk.place l.walk.schedule) l.first l.walk text new
-        → DoesAll g.row.B g.row.M l.points (drop l.fn.walk.place l.fn.walk.schedule) true l.fn.walk (so_far ++ text) new)
+    → DoesAll g.row.B g.row.M l.points (drop l.fn.walk.place l.fn.walk.schedule) true l.fn.walk (so_far ++ text) new)
 
 abbrev pub decreases-loop-event : goal.decreases-loop-event
 decreases-loop-event g l = length l.walk.schedule - l.walk.place

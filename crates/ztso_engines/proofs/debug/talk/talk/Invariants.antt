@@ -8,4 +8,4 @@ abbrev pub invariant-loop : goal.invariant-loop
 invariant-loop g l =
     (so_far : List ℕ) × Appends (g.W.Write.contents l.fn.writer) (g.W.Write.contents l.writer) so_far
     × ((later : List ℕ) → Prints g.row.B g.row.M (g.C.Read.remaining l.commands) l.walk l.points.items later
-        → Prints g.row.B g.row.M (g.C.Read.remaining l.fn.commands) l.fn.walk [] (so_far ++ later))
+    → Prints g.row.B g.row.M (g.C.Read.remaining l.fn.commands) l.fn.walk [] (so_far ++ later))
