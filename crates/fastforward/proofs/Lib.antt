@@ -1,0 +1,11 @@
+pub mod Means
+pub mod Orders
+pub mod Windows
+pub mod Stores
+pub mod Landing
+pub mod ReceiverLandings
+pub mod ReceiverReads
+pub mod ReceiverActs
+pub mod MiddleLines
+pub mod MiddleMoves
+pub mod FastForwardLaws

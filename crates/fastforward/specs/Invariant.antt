@@ -1,0 +1,7 @@
+-- What holds of one block of a FastForward ring in every history. Nothing here has to be believed: the laws
+-- of the ring are proved by it.
+pub mod Stores
+pub mod Numbers
+pub mod SenderState
+pub mod SenderPlaces
+pub mod Middle

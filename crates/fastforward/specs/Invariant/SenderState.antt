@@ -1,0 +1,30 @@
+-- The sender's states: its registers as one list, of which the program writes seven.
+use Rattle.std.specs.Prelude.{ℕ, List, [], ◌∷◌}
+use Rattle.hart.specs.State.{HartState}
+use Rattle.hart.specs.declared.status.Status.TheVariants as status
+use Rattle.fastforward.specs.Listing.{sender_code}
+
+-- the registers that the program writes
+pub record Written : Type 0 where
+  pub x5 : ℕ
+  pub x6 : ℕ
+  pub x7 : ℕ
+  pub x10 : ℕ
+  pub x11 : ℕ
+  pub x17 : ℕ
+  pub x28 : ℕ
+
+-- what stays: the memory's words, the block's start, the ring's bytes
+pub record Fixed : Type 0 where
+  pub words : ℕ
+  pub base : ℕ
+  pub bytes : ℕ
+
+abbrev pub file : Fixed → Written → List ℕ
+file f r = 0 ∷ 0 ∷ 0 ∷ 0 ∷ 0 ∷ r.x5 ∷ r.x6 ∷ r.x7 ∷ f.base ∷ f.bytes ∷ r.x10 ∷ r.x11 ∷ 0 ∷ 0 ∷ 0 ∷ 0 ∷ 0 ∷ r.x17 ∷ 0 ∷ 0 ∷ 0 ∷ 0 ∷ 0 ∷ 0 ∷ 0 ∷ 0 ∷ 0 ∷ 0 ∷ r.x28 ∷ 0 ∷ 0 ∷ 0 ∷ []
+
+abbrev pub running : Fixed → ℕ → Written → List ℕ → HartState
+running f pc r inbox = record { code = sender_code; words = f.words; registers = file f r; pc = pc; inbox = inbox; status = status.Running }
+
+abbrev pub ended : Fixed → Written → List ℕ → HartState
+ended f r inbox = record { code = sender_code; words = f.words; registers = file f r; pc = 0x38; inbox = inbox; status = status.Ended }

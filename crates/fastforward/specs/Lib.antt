@@ -1,0 +1,4 @@
+pub mod Listing
+pub mod Means
+pub mod FastForward
+pub mod Invariant

@@ -1,0 +1,58 @@
+//! FastForward: the sender stores a word into a slot that holds 0, the receiver takes it and stores 0
+//! there again. Neither looks at the other's index. The crate's contract is its instance of
+//! `RingKind`: the laws by which a channel over this ring delivers.
+
+#![tactic(auto)]
+
+ghost use Rattle.fastforward.specs.Listing.{sender_code, sender_lines, receiver_code, receiver_lines};
+ghost use Rattle.fastforward.specs.Means.{AllMean};
+
+use poll_close::RingKind;
+
+#[cfg(test)]
+mod tests;
+
+/// The words of the sender's listing.
+const SENDER: [u32; 15] = [
+    0x00100893, 0x00000073, 0x02058263, 0x00540E33, 0x010E2383, 0xFE039EE3, 0x00AE2823, 0x00428293,
+    0xFE9290E3, 0x00000293, 0xFD9FF06F, 0x00100313, 0x00642223, 0x05D00893, 0x00000073,
+];
+
+/// The words of the receiver's listing.
+const RECEIVER: [u32; 32] = [
+    0x000A8413, 0x00000B13, 0x00C42283, 0x04029E63, 0x00442F03, 0x00842383, 0x00740E33, 0x010E2583,
+    0x02058463, 0x000E2823, 0x00438393, 0x00939463, 0x00000393, 0x00742423, 0x000B0513, 0x00200893,
+    0x00000073, 0x0240006F, 0x020F0063, 0x00100293, 0x00542623, 0x000B0513, 0x00300893, 0x00000073,
+    0xFFFA0A13, 0x000A0A63, 0x01240433, 0x001B0B13, 0xF9341CE3, 0xF8DFF06F, 0x05D00893, 0x00000073,
+];
+
+/// FastForward.
+pub struct FastForward;
+
+impl RingKind for FastForward {
+    ghost use Rattle.fastforward.specs.FastForward.{fastforward, fastforward_means};
+
+    ghost ring = { fastforward };
+
+    ghost meaning = { fastforward_means };
+
+    fn sender() -> &'static [u32] {
+        &SENDER
+    }
+
+    fn receiver() -> &'static [u32] {
+        &RECEIVER
+    }
+
+    fn least_size() -> u32 {
+        1
+    }
+
+    fn laws() {}
+}
+
+/// Each word of the tables means its line's instruction. It does nothing.
+pub fn tables_mean()
+    ensures sender { AllMean sender_code sender_lines }
+    ensures receiver { AllMean receiver_code receiver_lines }
+{}
