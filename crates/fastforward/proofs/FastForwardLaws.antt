@@ -5,9 +5,8 @@ use Rattle.poll_close.proofs.BlockLaws.{BlockLaws}
 use Rattle.poll_close.proofs.ChannelLaws.{opens, keeps, cleans, goes}
 use Rattle.fastforward.specs.Listing.{sender_code}
 use Rattle.fastforward.specs.FastForward.{fastforward, fastforward_blocks, fastforward_means}
-use Rattle.fastforward.proofs.Orders.{order_g}
-use Rattle.fastforward.proofs.Stores.{store_word}
-use Rattle.fastforward.proofs.Windows.{newest_at}
+use Rattle.fastforward.proofs.SenderLandings.{sender_lands}
+use Rattle.fastforward.proofs.SenderActs.{sends}
 use Rattle.fastforward.proofs.MiddleLines.{line_14}
 use Rattle.fastforward.proofs.ReceiverReads.{seen_mark}
 use Rattle.fastforward.proofs.MiddleMoves.{middle_14}

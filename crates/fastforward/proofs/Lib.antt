@@ -3,9 +3,13 @@ pub mod Orders
 pub mod Windows
 pub mod Stores
 pub mod Landing
+pub mod SenderLandings
 pub mod ReceiverLandings
 pub mod ReceiverReads
-pub mod ReceiverActs
+pub mod SenderLines
+pub mod SenderMoves
+pub mod SenderActs
 pub mod MiddleLines
 pub mod MiddleMoves
+pub mod ReceiverActs
 pub mod FastForwardLaws
