@@ -1,20 +1,122 @@
 -- The laws of one block, all together, and so the laws of the ring.
-use Rattle.std.proofs.Common.{lit≤}
+use Rattle.std.proofs.Common.{ℕ, ◌+◌, ◌≤◌, ◌≡◌, inl, inr, List, refl, ◌∙◌, arith, lit≤}
+use Rattle.std.proofs.Math.Nat.{zero-mod}
 use Rattle.poll_close.specs.Laws.{IsShort, Opens, Keeps, Cleans, Goes}
-use Rattle.poll_close.proofs.BlockLaws.{BlockLaws}
+use Rattle.poll_close.specs.Invariant.Blocks.{Block, slot}
+use Rattle.poll_close.proofs.Blocks.{IsBlock, Within, word_of, slot_of}
+use Rattle.poll_close.proofs.BlockLaws.{BlockLaws, Begins, Lands, opens_with}
 use Rattle.poll_close.proofs.ChannelLaws.{opens, keeps, cleans, goes}
 use Rattle.fastforward.specs.Listing.{sender_code}
 use Rattle.fastforward.specs.FastForward.{fastforward, fastforward_blocks, fastforward_means}
+use Rattle.fastforward.specs.Invariant.Numbers.{Made, Numbers, sent, gone, taken, freed, Ordered, Words, pending_of, unread_of}
+use Rattle.fastforward.specs.Invariant.SenderState.{Written}
+use Rattle.fastforward.specs.Invariant.SenderPlaces.{SenderPlace, P00, P04, P08, P0C, P10, P14, P18, P1C, P20, P24, P28, P2C, P30, P34, P38, Over, SenderIs}
+use Rattle.fastforward.proofs.Stores.{sender_stores_are, receiver_stores_are}
+use Rattle.fastforward.proofs.Landing.{Landing}
 use Rattle.fastforward.proofs.SenderLandings.{sender_lands}
 use Rattle.fastforward.proofs.SenderActs.{sends}
-use Rattle.fastforward.proofs.MiddleLines.{line_14}
-use Rattle.fastforward.proofs.ReceiverReads.{seen_mark}
-use Rattle.fastforward.proofs.MiddleMoves.{middle_14}
 use Rattle.fastforward.proofs.ReceiverLandings.{receiver_lands}
-use Rattle.fastforward.proofs.ReceiverActs.{stores_tail}
+use Rattle.fastforward.proofs.ReceiverReads.{seen_mark, seen_done}
+use Rattle.fastforward.proofs.ReceiverActs.{stores_tail, stores_done, reported, level_stays, filled_stays, stays_18, stays_1C, stays_20, stays_24}
+use Rattle.fastforward.proofs.MiddleMoves.{middle_14, middle_18, middle_1C, middle_20, middle_24}
+
+abbrev nothing : Numbers
+nothing = record { made = record { g = 0; p = 0; m = 0 }; ls = 0; km = 0; u = 0; c = 0; d = 0; ln = 0; kc = 0; kd = 0; took = 0; shut = 0 }
+
+begins : (k : Block) → IsBlock k → Begins fastforward_blocks k (opens_with sender_code k)
+begins k is = record {
+  none = nothing;
+  order = record { ln_u = omega arith; u_ls = omega arith; ls_p = omega arith; p_ln = omega arith; p_all = omega arith; c_u = omega arith; u_c = omega arith; kc_ln = omega arith; ln_kc = omega arith; kc_c = omega arith; m_one = omega arith; km_m = omega arith; m_all = λ some. omega arith; km_all = λ some. omega arith; d_one = omega arith; kd_d = omega arith; d_all = λ some. omega arith; kd_all = λ some. omega arith };
+  words = record { mark = refl; tail = omega (arith, zero-mod k.size); done = refl; full = λ j from below. omega arith; empty = λ j from below. refl };
+  stands = record { place = P00; written = record { x5 = 0; x6 = 0; x7 = 0; x10 = 0; x11 = 0; x17 = 0; x28 = 0 }; is = refl; holds = (record { taken = refl; unmarked = refl }, omega (arith, zero-mod k.size)) };
+  unsent = refl;
+  unread = refl;
+  level = refl;
+  tails = refl;
+  dones = refl;
+  took = refl;
+  shut = refl;
+}
+
+words_same : (k : Block) (n : Numbers) (word new : ℕ → ℕ) → IsBlock k → ((a : ℕ) → Within k a → new a ≡ word a) → Words k n word → Words k n new
+words_same k n word new is same w = record {
+  mark = same (k.base + 4) (word_of k is 4 (omega arith) refl).within ∙ w.mark;
+  tail = same (k.base + 8) (word_of k is 8 (omega arith) refl).within ∙ w.tail;
+  done = same (k.base + 12) (word_of k is 12 (omega arith) refl).within ∙ w.done;
+  full = λ j from below. same (slot k.size k.base j) (slot_of k is j).within ∙ w.full j from below;
+  empty = λ j from below. same (slot k.size k.base j) (slot_of k is j).within ∙ w.empty j from below;
+}
+
+-- a null that lands later keeps the sender's assertion
+holds_later : (k : Block) (here : SenderPlace) (n : Made) (ln later : ℕ) (r : Written) → ln ≤ later → SenderIs k here n ln r → SenderIs k here n later r
+holds_later k P00 n ln later r more h = h
+holds_later k P04 n ln later r more h = h
+holds_later k P08 n ln later r more h = h
+holds_later k P0C n ln later r more h = h
+holds_later k P10 n ln later r more h = h
+holds_later k P14 n ln later r more h =
+    (
+      h.0,
+      h.1,
+      elim h.2 [
+        | inl word ↦ inl word
+        | inr free ↦ inr (omega arith)
+      ]
+    )
+holds_later k P18 n ln later r more h = (h.0, h.1, omega arith)
+holds_later k P1C n ln later r more h = h
+holds_later k P20 n ln later r more h = h
+holds_later k P24 n ln later r more h = h
+holds_later k P28 n ln later r more h = h
+holds_later k P2C n ln later r more h = h
+holds_later k P30 n ln later r more h = h
+holds_later k P34 n ln later r more h = h
+holds_later k P38 n ln later r more h = h
+holds_later k Over n ln later r more h = h
+
+-- a landing, as the laws ask for it
+landing : (k : Block) (n : Numbers) (new : ℕ → ℕ) (mine theirs : List (ℕ × ℕ)) → Landing k n new mine theirs → Lands fastforward_blocks k n new mine theirs
+landing k n new mine theirs l = record {
+  after = record n { ls = l.ls; km = l.km; ln = l.ln; kc = l.kc; kd = l.kd };
+  order = l.order;
+  words = l.words;
+  sender = λ s st. record { place = st.place; written = st.written; is = st.is; holds = holds_later k st.place n.made n.ln l.ln st.written l.nulls_later st.holds };
+  unsent = l.mine_is;
+  unread = l.theirs_is;
+  grows = record { tails = refl; dones = refl; took = refl; shut = refl; marks = l.marks_later; later = (refl, l.words_later) };
+}
 
 pub fastforward-laws : BlockLaws fastforward_blocks sender_code
-fastforward-laws = ?
+fastforward-laws = record {
+  begins = begins;
+  tails_all = λ k n order. omega (arith, order.c_u, order.u_ls, order.ls_p, order.p_all);
+  dones_one = λ k n order. order.d_one;
+  marks_one = λ k n order. omega (arith, order.km_m, order.m_one);
+  filled_more = λ k n order filled. omega (arith, filled, order.u_ls, order.ls_p, order.p_all);
+  unsent_are = λ k n is order. sender_stores_are k is (gone n) (sent n);
+  unread_are = λ k n is order. receiver_stores_are k is (freed n) (taken n);
+  words_same = words_same;
+  later_same = λ n. (refl, omega arith);
+  level_stays = level_stays;
+  filled_stays = filled_stays;
+  stays_18 = stays_18;
+  stays_1C = stays_1C;
+  stays_20 = stays_20;
+  stays_24 = stays_24;
+  sends = sends;
+  sender_lands = λ k n word new x rest is order words oldest write. landing k n new rest (unread_of k n) (sender_lands k is n order word new words (unread_of k n) refl x rest oldest write);
+  receiver_lands = λ k n word new x rest is order words oldest write. landing k n new (pending_of k n) rest (receiver_lands k is n order word new words x rest (pending_of k n) oldest write refl);
+  sees_done = λ k n word order words. seen_done k n word order words;
+  sees_mark = λ k n word order words. seen_mark k n word order words;
+  stores_tail = λ k n order filled on. stores_tail k n order filled on;
+  stores_done = λ k n order level all on. stores_done k n order level all on;
+  reports = λ k n words closed order level. reported k n order words closed level;
+  moves_14 = middle_14;
+  moves_18 = middle_18;
+  moves_1C = middle_1C;
+  moves_20 = middle_20;
+  moves_24 = middle_24;
+}
 
 pub fastforward-short : IsShort fastforward
 fastforward-short = (lit≤ tt, lit≤ tt)
