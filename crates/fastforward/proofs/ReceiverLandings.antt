@@ -1,11 +1,146 @@
 -- A store of the receiver lands: the words of a block, and its numbers, after it.
-use Rattle.std.proofs.Common.{ℕ, ◌≡◌, List, ◌∷◌}
-use Rattle.poll_close.specs.Invariant.Blocks.{Block}
-use Rattle.poll_close.proofs.Writes.{IsWrite}
+use Rattle.std.proofs.Common.{ℕ, suc, ◌+◌, ◌*◌, ◌<◌, ◌≤◌, ◌≡◌, ◌≢◌, ◌⊎◌, inl, inr, List, ◌∷◌, length, Some, refl, sym, ◌∙◌, ap, subst, arith}
+use Rattle.std.specs.List.{slice_get}
+use Rattle.std.proofs.lemmas.Bool.{cases_lt, cases_eq}
+use Rattle.poll_close.specs.Invariant.Blocks.{Block, offset, slot, window}
+use Rattle.poll_close.proofs.Windows.{first_is, some_in}
+use Rattle.poll_close.proofs.Writes.{IsWrite, hit, miss}
 use Rattle.poll_close.proofs.Blocks.{IsBlock}
-use Rattle.fastforward.specs.Invariant.Numbers.{Numbers, Ordered, Words, pending_of, unread_of}
+use Rattle.fastforward.specs.Invariant.Stores.{receiver_stores}
+use Rattle.fastforward.specs.Invariant.Numbers.{Numbers, taken, freed, Ordered, Words, pending_of, unread_of}
+use Rattle.fastforward.proofs.Orders.{order_ln, order_kc, order_kd}
+use Rattle.fastforward.proofs.Stores.{slots_apart, slot_again, store_null, store_tail, store_done}
 use Rattle.fastforward.proofs.Landing.{Landing}
 
--- whichever of its stores to the block is the oldest pending one, it lands
-pub receiver_lands : (k : Block) (is : IsBlock k) (n : Numbers) (order : Ordered k n) (word new : ℕ → ℕ) (words : Words k n word) (x : ℕ × ℕ) (rest mine : List (ℕ × ℕ)) → unread_of k n ≡ x ∷ rest → IsWrite word new x → mine ≡ pending_of k n → Landing k n new mine rest
-receiver_lands k is n order word new words x rest mine first write my = ?
+module _ (k : Block) (is : IsBlock k) (n : Numbers) (order : Ordered k n) (word new : ℕ → ℕ) (words : Words k n word) (mine : List (ℕ × ℕ)) (my : mine ≡ pending_of k n) where
+  null_lands : n.ln ≡ n.kc → n.ln < n.u → IsWrite word new (slot k.size k.base n.ln, 0) → Landing k n new mine (window (receiver_stores k.size k.base k.list) (suc (freed n)) (taken n))
+  null_lands even some write =
+      record {
+        ls = n.ls;
+        km = n.km;
+        ln = n.ln + 1;
+        kc = n.kc;
+        kd = n.kd;
+        words_later = omega arith;
+        marks_later = omega arith;
+        nulls_later = omega arith;
+        order = order_ln k n order even some;
+        words = record {
+          mark = miss word new at 0 write (k.base + 4) (omega arith) ∙ words.mark;
+          tail = miss word new at 0 write (k.base + 8) (omega arith) ∙ words.tail;
+          done = miss word new at 0 write (k.base + 12) (omega arith) ∙ words.done;
+          full = λ j from below. miss word new at 0 write (slot k.size k.base j) (slots_apart k.size k.base n.ln j is.some_slot (omega (arith, from)) (omega (arith, below, order.ls_p, order.p_ln))) ∙ words.full j (omega (arith, from)) below;
+          empty = λ j from below. empty j from below (cases_eq j (n.ln + k.size));
+        };
+        mine_is = my;
+        theirs_is = ap (λ i. window (receiver_stores k.size k.base k.list) i (taken n)) next;
+      }
+    where
+      at : ℕ
+      at = slot k.size k.base n.ln
+
+      next : suc (freed n) ≡ n.ln + 1 + n.kc + n.kd
+      next = omega arith
+
+      empty : (j : ℕ) → n.ls ≤ j → j < n.ln + 1 + k.size → (j ≡ n.ln + k.size) ⊎ (j ≢ n.ln + k.size) → new (slot k.size k.base j) ≡ 0
+      empty j from below (inl round) = hit word new at 0 write (slot k.size k.base j) (sym (ap (slot k.size k.base) round ∙ slot_again k.size k.base n.ln))
+      empty j from below (inr other) = miss word new at 0 write (slot k.size k.base j) (slots_apart k.size k.base n.ln j is.some_slot (omega (arith, from, some, order.u_ls)) (omega (arith, below, other))) ∙ words.empty j from (omega (arith, below, other))
+
+  tail_lands : n.ln ≡ n.kc + 1 → n.kc < n.c → IsWrite word new (k.base + 8, offset k (n.kc + 1)) → Landing k n new mine (window (receiver_stores k.size k.base k.list) (suc (freed n)) (taken n))
+  tail_lands odd some write =
+      record {
+        ls = n.ls;
+        km = n.km;
+        ln = n.ln;
+        kc = n.kc + 1;
+        kd = n.kd;
+        words_later = omega arith;
+        marks_later = omega arith;
+        nulls_later = omega arith;
+        order = order_kc k n order odd some;
+        words = record {
+          mark = miss word new (k.base + 8) w write (k.base + 4) (omega arith) ∙ words.mark;
+          tail = hit word new (k.base + 8) w write (k.base + 8) refl;
+          done = miss word new (k.base + 8) w write (k.base + 12) (omega arith) ∙ words.done;
+          full = λ j from below. miss word new (k.base + 8) w write (slot k.size k.base j) (omega arith) ∙ words.full j from below;
+          empty = λ j from below. miss word new (k.base + 8) w write (slot k.size k.base j) (omega arith) ∙ words.empty j from below;
+        };
+        mine_is = my;
+        theirs_is = ap (λ i. window (receiver_stores k.size k.base k.list) i (taken n)) next;
+      }
+    where
+      w : ℕ
+      w = offset k (n.kc + 1)
+
+      next : suc (freed n) ≡ n.ln + (n.kc + 1) + n.kd
+      next = omega arith
+
+  done_lands : n.kc ≡ length k.list → n.kd < n.d → IsWrite word new (k.base + 12, 1) → Landing k n new mine (window (receiver_stores k.size k.base k.list) (suc (freed n)) (taken n))
+  done_lands all some write =
+      record {
+        ls = n.ls;
+        km = n.km;
+        ln = n.ln;
+        kc = n.kc;
+        kd = n.kd + 1;
+        words_later = omega arith;
+        marks_later = omega arith;
+        nulls_later = omega arith;
+        order = order_kd k n order all some;
+        words = record {
+          mark = miss word new (k.base + 12) 1 write (k.base + 4) (omega arith) ∙ words.mark;
+          tail = miss word new (k.base + 12) 1 write (k.base + 8) (omega arith) ∙ words.tail;
+          done = hit word new (k.base + 12) 1 write (k.base + 12) refl ∙ one;
+          full = λ j from below. miss word new (k.base + 12) 1 write (slot k.size k.base j) (omega arith) ∙ words.full j from below;
+          empty = λ j from below. miss word new (k.base + 12) 1 write (slot k.size k.base j) (omega arith) ∙ words.empty j from below;
+        };
+        mine_is = my;
+        theirs_is = ap (λ i. window (receiver_stores k.size k.base k.list) i (taken n)) next;
+      }
+    where
+      next : suc (freed n) ≡ n.ln + n.kc + (n.kd + 1)
+      next = omega arith
+
+      one : 1 ≡ n.kd + 1
+      one = omega (arith, some, order.d_one)
+
+  -- whichever of its stores to the block is the oldest pending one, it lands
+  pub receiver_lands : (x : ℕ × ℕ) (rest : List (ℕ × ℕ)) → unread_of k n ≡ x ∷ rest → IsWrite word new x → Landing k n new mine rest
+  receiver_lands x rest first write = at (cases_eq n.ln n.kc) (cases_lt n.ln (length k.list))
+    where
+      more : freed n < taken n
+      more = some_in (receiver_stores k.size k.base k.list) (freed n) (taken n) x rest first
+
+      with : (y : ℕ × ℕ) → slice_get (receiver_stores k.size k.base k.list) (freed n) ≡ Some y → (IsWrite word new y → Landing k n new mine (window (receiver_stores k.size k.base k.list) (suc (freed n)) (taken n))) → Landing k n new mine rest
+      with y at lands =
+          let both = first_is (receiver_stores k.size k.base k.list) (freed n) (taken n) x y rest more at first in
+          subst (λ (ps : List (ℕ × ℕ)). Landing k n new mine ps) (sym both.1) (lands (subst (IsWrite word new) both.0 write))
+
+      nulls_all : n.u ≤ length k.list
+      nulls_all = omega (arith, order.u_ls, order.ls_p, order.p_all)
+
+      -- before the last tail has landed there is no done word in memory, nor before the last null is made
+      not_done : n.kc < length k.list → n.kd ≡ 0
+      not_done some = grind (arith, order.kd_all)
+
+      not_last : n.c < length k.list → n.d ≡ 0
+      not_last some = grind (arith, order.d_all)
+
+      null_waits : n.ln ≡ n.kc → n.ln < length k.list → (n.ln < n.u) ⊎ (n.u ≤ n.ln) → n.ln < n.u
+      null_waits even some (inl less) = less
+      null_waits even some (inr none) = absurd (omega (arith, more, even, none, not_last (omega (arith, some, none, order.c_u)), order.c_u))
+
+      tail_waits : n.ln ≡ n.kc + 1 → (n.kc < n.c) ⊎ (n.c ≤ n.kc) → n.kc < n.c
+      tail_waits odd (inl less) = less
+      tail_waits odd (inr none) = absurd (omega (arith, more, odd, none, not_last (omega (arith, odd, none, order.ln_u, nulls_all)), order.u_c))
+
+      at : (n.ln ≡ n.kc) ⊎ (n.ln ≢ n.kc) → (n.ln < length k.list) ⊎ (length k.list ≤ n.ln) → Landing k n new mine rest
+      at (inl even) (inl some) = with (slot k.size k.base n.ln, 0) (store_null k.size k.base k.list n.ln (freed n) some (omega (arith, even, not_done (omega (arith, even, some))))) (λ w. null_lands even (null_waits even some (cases_lt n.ln n.u)) w)
+      at (inl even) (inr all) =
+          let tails : n.kc ≡ length k.list = omega (arith, even, all, order.ln_u, nulls_all) in
+          let waits : n.kd < n.d = omega (arith, more, even, tails, nulls_all, order.c_u) in
+          with (k.base + 12, 1) (store_done k.size k.base k.list (freed n) (omega (arith, even, tails, waits, order.d_one))) (λ w. done_lands tails waits w)
+      at (inr other) ln =
+          let odd : n.ln ≡ n.kc + 1 = omega (arith, other, order.kc_ln, order.ln_kc) in
+          let some : n.kc < length k.list = omega (arith, odd, order.ln_u, nulls_all) in
+          with (k.base + 8, offset k (n.kc + 1)) (store_tail k.size k.base k.list n.kc (freed n) some (omega (arith, odd, not_done some))) (λ w. tail_lands odd (tail_waits odd (cases_lt n.kc n.c)) w)
