@@ -8,7 +8,7 @@ use Rattle.poll_close.proofs.BlockLaws.{BlockLaws, Begins, Lands, opens_with}
 use Rattle.poll_close.proofs.ChannelLaws.{opens, keeps, cleans, goes}
 use Rattle.fastforward.specs.Listing.{sender_code}
 use Rattle.fastforward.specs.FastForward.{fastforward, fastforward_blocks, fastforward_means}
-use Rattle.fastforward.specs.Invariant.Numbers.{Made, Numbers, sent, gone, taken, freed, Ordered, Words, pending_of, unread_of}
+use Rattle.fastforward.specs.Invariant.Numbers.{Made, Numbers, sent, gone, taken, freed, Words, pending_of, unread_of}
 use Rattle.fastforward.specs.Invariant.SenderState.{Written}
 use Rattle.fastforward.specs.Invariant.SenderPlaces.{SenderPlace, P00, P04, P08, P0C, P10, P14, P18, P1C, P20, P24, P28, P2C, P30, P34, P38, Over, SenderIs}
 use Rattle.fastforward.proofs.Stores.{sender_stores_are, receiver_stores_are}
@@ -54,15 +54,14 @@ holds_later k P04 n ln later r more h = h
 holds_later k P08 n ln later r more h = h
 holds_later k P0C n ln later r more h = h
 holds_later k P10 n ln later r more h = h
-holds_later k P14 n ln later r more h =
-    (
-      h.0,
-      h.1,
-      elim h.2 [
-        | inl word ↦ inl word
-        | inr free ↦ inr (omega arith)
-      ]
-    )
+holds_later k P14 n ln later r more h = (
+  h.0,
+  h.1,
+  elim h.2 [
+    | inl word ↦ inl word
+    | inr free ↦ inr (omega arith)
+  ],
+)
 holds_later k P18 n ln later r more h = (h.0, h.1, omega arith)
 holds_later k P1C n ln later r more h = h
 holds_later k P20 n ln later r more h = h

@@ -1,6 +1,5 @@
 -- The receiver's acts at its five lines between, from each place's assertion to the next place's.
-use Rattle.std.proofs.Common.{ℕ, ◌+◌, ◌<◌, ◌≤◌, ◌≡◌, ◌≢◌, ◌⊎◌, inl, inr, [], ◌∷◌, length, refl, sym, ◌∙◌, ap, subst, arith}
-use Rattle.std.specs.Prelude.{slice_index}
+use Rattle.std.proofs.Common.{ℕ, ◌+◌, ◌≤◌, ◌≡◌, ◌≢◌, ◌⊎◌, inl, inr, [], ◌∷◌, length, refl, sym, ◌∙◌, ap, subst, arith}
 use Rattle.std.proofs.lemmas.Bool.{cases_lt, cases_eq}
 use Rattle.poll_close.specs.Invariant.Blocks.{offset, slot}
 use Rattle.poll_close.specs.Invariant.ReceiverState.{whole_of}
@@ -34,11 +33,17 @@ middle_1C k i count n word r v is order words find h =
     let line = line_1C (whole_of k count) r (omega (arith, is.even, h.1.1, h.1.2)) (omega (arith, is.inside, h.1.1, h.1.2, offset_low k is n.c)) is.small in
     let found = find (slot k.size k.base n.c) (slot_of k is n.c) (line.wants ∙ ap loads (let same : r.x28 + 16 ≡ slot k.size k.base n.c = omega (arith, h.1.1, h.1.2) in same)) in
     let opened = opened_noted fastforward_blocks k i count n order r v h.0 r.x5 r.x6 r.x7 r.x10 v r.x17 r.x20 r.x28 r.x30 in
-    reads fastforward_blocks k i count n order r v R1C R20 (r.x28 + 16) (λ w. record r { x11 = w }) refl line
-    (opened, (elim (cases_lt n.c n.ls) [
-      | inl more ↦ inr (more, found ∙ seen_word k n word order words is h.0.quiet.level h.0.open_yet more)
-      | inr none ↦ inl (found ∙ seen_none k n word order words is h.0.quiet.level h.0.open_yet none, last none h.1.0)
-    ], h.1.1, h.1.2))
+    reads fastforward_blocks k i count n order r v R1C R20 (r.x28 + 16) (λ w. record r { x11 = w }) refl line (
+      opened,
+      (
+        elim (cases_lt n.c n.ls) [
+          | inl more ↦ inr (more, found ∙ seen_word k n word order words is h.0.quiet.level h.0.open_yet more)
+          | inr none ↦ inl (found ∙ seen_none k n word order words is h.0.quiet.level h.0.open_yet none, last none h.1.0)
+        ],
+        h.1.1,
+        h.1.2,
+      ),
+    )
   where
     last : n.ls ≤ n.c → Flagged n r → (r.x30 ≡ 0) ⊎ (n.c ≡ length k.list)
     last none (inl unmarked) = inl unmarked

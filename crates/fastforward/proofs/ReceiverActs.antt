@@ -1,6 +1,6 @@
 -- The receiver's stores and reports, and what stays of its assertions, as the laws of a block ask for
 -- them.
-use Rattle.std.proofs.Common.{ℕ, suc, ◌+◌, ◌*◌, ◌<◌, ◌≤◌, ◌≡◌, ◌⊎◌, inl, inr, [], ◌∷◌, ◌++◌, length, Some, refl, sym, ◌∙◌, ap, arith, append-nil}
+use Rattle.std.proofs.Common.{ℕ, suc, ◌+◌, ◌<◌, ◌≤◌, ◌≡◌, ◌⊎◌, inl, inr, [], ◌∷◌, ◌++◌, length, Some, refl, sym, ◌∙◌, ap, arith, append-nil}
 use Rattle.std.specs.Prelude.{slice_index}
 use Rattle.std.specs.List.{slice_get}
 use Rattle.hart.specs.State.{HartState}

@@ -1,10 +1,10 @@
 -- What the receiver finds at a block's words: its own newest pending store, else the word of memory.
-use Rattle.std.proofs.Common.{ℕ, zero, suc, ◌+◌, ◌*◌, ◌<◌, ◌≤◌, ◌≡◌, ◌≢◌, ◌⊎◌, inl, inr, List, [], length, Some, None, refl, sym, ◌∙◌, ap, arith}
+use Rattle.std.proofs.Common.{ℕ, zero, suc, ◌+◌, ◌*◌, ◌<◌, ◌≤◌, ◌≡◌, ◌≢◌, ◌⊎◌, inl, inr, length, Some, None, refl, sym, ◌∙◌, ap, arith}
 use Rattle.std.specs.Prelude.{slice_index, unwrap_or}
 use Rattle.std.specs.List.{slice_get}
 use Rattle.std.proofs.lemmas.Bool.{cases_lt, cases_eq}
 use Rattle.poll_close.specs.Invariant.Blocks.{Block, offset, slot, window}
-use Rattle.poll_close.proofs.Windows.{Each-window, window_empty, newest_to, newest_none, newest_made}
+use Rattle.poll_close.proofs.Windows.{window_empty, newest_to, newest_none, newest_made}
 use Rattle.poll_close.proofs.Blocks.{IsBlock}
 use Rattle.poll_close.proofs.BlockLaws.{found_in}
 use Rattle.fastforward.specs.Invariant.Stores.{receiver_stores}
@@ -13,7 +13,6 @@ use Rattle.fastforward.proofs.Windows.{Each-range, newest_at}
 use Rattle.fastforward.proofs.Stores.{slots_apart, slot_again, store_null, store_tail, store_done, place_at}
 
 module _ (k : Block) (n : Numbers) (word : ℕ → ℕ) (order : Ordered k n) (words : Words k n word) where
-
   -- where no pending store goes to the address, the word of memory
   in_memory : (a : ℕ) → ((t : ℕ) (x : ℕ × ℕ) → freed n ≤ t → t < taken n → slice_get (receiver_stores k.size k.base k.list) t ≡ Some x → x.0 ≢ a) → found_in (unread_of k n) word a ≡ word a
   in_memory a none = ap (λ o. unwrap_or o (word a)) (newest_none a None (unread_of k n) (Each-range (λ x. x.0 ≢ a) (receiver_stores k.size k.base k.list) (freed n) (taken n) none))

@@ -1,5 +1,5 @@
 -- Parts of one fixed list of stores, by the numbers of the stores in them.
-use Rattle.std.proofs.Common.{ℕ, zero, suc, ◌+◌, ◌<◌, ◌≤◌, ◌≡◌, ◌≢◌, List, [], ◌∷◌, ◌++◌, Some, None, refl, ◌∙◌, ap, arith}
+use Rattle.std.proofs.Common.{ℕ, zero, suc, ◌<◌, ◌≤◌, ◌≡◌, ◌≢◌, List, [], ◌∷◌, ◌++◌, Some, None, refl, ◌∙◌, ap, arith}
 use Rattle.std.specs.List.{slice_get}
 use Rattle.poll_close.specs.Invariant.Blocks.{window}
 use Rattle.poll_close.proofs.Windows.{Each, newest_to, newest_to-append, newest_none, newest_made}

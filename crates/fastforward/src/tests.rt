@@ -262,7 +262,10 @@ fn lists_that_have_no_channel(rt: HostRuntime) -> Result<(), Fail> {
         opened::<1>(rt.alloc(), &[&[9]], 0).err(),
         Some(Refused::RingTooSmall)
     );
-    assert_eq!(rt; opened::<1>(rt.alloc(), &[], 1).err(), Some(Refused::NoSenders));
+    assert_eq!(rt;
+        opened::<1>(rt.alloc(), &[], 1).err(),
+        Some(Refused::NoSenders)
+    );
     assert_eq!(rt;
         opened::<1>(rt.alloc(), &[&[9], &[1, 0]], 1).err(),
         Some(Refused::ZeroWord {
