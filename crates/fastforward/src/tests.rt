@@ -133,17 +133,17 @@ fn landmarks<const B: usize>(
     Ok(found)
 }
 
-/// The entries of this sender's reports.
-fn reports_of(alloc: Global, found: &[(u32, Entry)], of: u32) -> Result<Vec<Entry>, AllocError> {
-    let mut told = Vec::new(alloc);
-    for (_, entry) in found {
-        match *entry {
-            Entry::Took { sender, .. } if sender == of => told.push(*entry)?,
-            Entry::Closed { sender, .. } if sender == of => told.push(*entry)?,
-            _ => {}
-        }
+/// The receiver's report of a word, and of a closed sender.
+fn took(sender: u32, word: u32) -> Entry {
+    Entry::Took {
+        hart: 0,
+        sender,
+        word,
     }
-    Ok(told)
+}
+
+fn closed(sender: u32) -> Entry {
+    Entry::Closed { hart: 0, sender }
 }
 
 #[test]
@@ -159,19 +159,14 @@ fn the_listing_is_the_table(rt: HostRuntime) -> Result<(), Fail> {
 fn one_slot_carries_three_words(rt: HostRuntime) -> Result<(), Fail> {
     let turn = [Event::Act(0), Event::Act(1), Event::Land(0), Event::Land(1)];
     let found = landmarks::<1>(rt.alloc(), &[&[5, 5, 5]], 1, &turn, 85)?;
-    let took = Entry::Took {
-        hart: 0,
-        sender: 0,
-        word: 5,
-    };
     assert_eq!(rt;
         found.as_slice(),
         [
-            (17, took),
-            (39, took),
+            (17, took(0, 5)),
+            (39, took(0, 5)),
             (46, Entry::Ended { hart: 1 }),
-            (61, took),
-            (81, Entry::Closed { hart: 0, sender: 0 }),
+            (61, took(0, 5)),
+            (81, closed(0)),
             (85, Entry::Ended { hart: 0 }),
         ]
         .as_slice()
@@ -229,30 +224,23 @@ fn three_senders_in_order(rt: HostRuntime) -> Result<(), Fail> {
     ];
     let lists: [&[u32]; 3] = [&[1], &[], &[2, 3, 4]];
     let found = landmarks::<4>(rt.alloc(), &lists, 3, &turn, 1000)?;
-    // three ends of senders, the receiver's, three closings, four words
-    assert_eq!(rt; found.len(), 11);
-    for (sender, list) in (0..3_u32).zip(lists) {
-        let mut wanted = Vec::new(rt.alloc());
-        for word in list {
-            wanted.push(Entry::Took {
-                hart: 0,
-                sender,
-                word: *word,
-            })?;
-        }
-        wanted.push(Entry::Closed { hart: 0, sender })?;
-        let told = reports_of(rt.alloc(), &found, sender)?;
-        assert_eq!(rt; told.as_slice(), wanted.as_slice(), "sender {sender}");
-    }
-    for hart in 0..4_u32 {
-        let mut ends = 0;
-        for (_, entry) in &found {
-            if *entry == (Entry::Ended { hart }) {
-                ends += 1_u8;
-            }
-        }
-        assert_eq!(rt; ends, 1, "hart {hart}");
-    }
+    assert_eq!(rt;
+        found.as_slice(),
+        [
+            (7, Entry::Ended { hart: 2 }),
+            (16, took(0, 1)),
+            (16, Entry::Ended { hart: 1 }),
+            (33, closed(1)),
+            (36, Entry::Ended { hart: 3 }),
+            (52, took(2, 2)),
+            (72, closed(0)),
+            (96, took(2, 3)),
+            (128, took(2, 4)),
+            (158, closed(2)),
+            (162, Entry::Ended { hart: 0 }),
+        ]
+        .as_slice()
+    );
     Ok(())
 }
 
