@@ -1,14 +1,46 @@
 -- What answers an input is one answer.
-use Rattle.std.proofs.Common.{◌≡◌, ℕ, List, ◌++◌, Result, Ok, Err, sym, ap, ◌∙◌, subst}
-use Rattle.std.specs.List.{flat_map}
+use Rattle.std.proofs.Common.{◌≡◌, ℕ, ◌*◌, ◌<◌, ◌≤◌, Bool, true, false, cond, ltb, List, [], ◌++◌, length, Option, Some, Result, Ok, Err, refl, sym, ap, ◌∙◌, subst, arith, inl, inr}
+use Rattle.std.specs.Prelude.{slice_index}
+use Rattle.std.specs.List.{flat_map, slice_index_or}
+use Rattle.std.specs.Result.{IsErr}
+use Rattle.std.specs.Str.{is_utf8}
+use Rattle.std.proofs.lemmas.Bool.{le-ltb, lt-ltb}
+use Rattle.rand_core.specs.Stream.{Stream}
+use Rattle.rv_decode.specs.declared.instruction.Instr.{Instr}
+use Rattle.hart.specs.declared.need.Report.{Report}
 use Rattle.step_machine.specs.History.{History, unrun}
+use Rattle.step_machine.specs.Entries.{reported}
 use Rattle.step_machine.specs.declared.events.Event.{Event}
 use Rattle.step_machine.proofs.Running.{run-one}
+use Rattle.poll_close.specs.Layout.{block_size, opening_of as opening_of_lists}
+use Rattle.poll_close.specs.Laws.{Ring, Accepted as IsWithin}
+use Rattle.poll_close.specs.Refusals.{Refuses}
+use Rattle.poll_close.specs.declared.faults.Refused.{Refused}
+use Rattle.poll_close.specs.declared.faults.Refused.TheVariants as refused
+use Rattle.assembler.specs.Drafts.{assembled}
+use Rattle.assembler.specs.Faults.{Refusal as AsmRefusal}
+use Rattle.assembler.specs.Program.{IsCode}
+use Rattle.assembler.proofs.OneCode.{refused_without_program}
+use Rattle.assembler.proofs.OneCode as assembler
+use Rattle.recorder.specs.Schedule.{IsScheduleOf}
+use Rattle.recorder.proofs.HeadLaws.{IsScheduleOf-schedule_at, one_schedule}
 use Rattle.litmus.specs.Questions.{Question}
 use Rattle.litmus.specs.Verdicts.{IsVerdict}
 use Rattle.litmus.specs.declared.verdict.Verdict.{Verdict}
+use Rattle.litmus_reader.specs.declared.faults.LitmusFault.{LitmusFault}
+use Rattle.litmus_reader.specs.Faults.{number_of}
+use Rattle.litmus_reader.specs.Grammar.{IsTestOf}
+use Rattle.litmus_reader.specs.Reading.{Content, content_of, test_at}
+use Rattle.litmus_reader.proofs.TestGrammar.{one_test, read_exactly}
+use Rattle.ztso_engines.specs.declared.fault.Fault.TheVariants as fault
+use Rattle.ztso_engines.specs.declared.fault.Place.{Place}
+use Rattle.ztso_engines.specs.declared.fault.Place.TheVariants.{Line, Nowhere, Word}
 use Rattle.ztso_engines.specs.declared.fault.Refusal.{Refusal}
-use Rattle.ztso_engines.specs.Engines.{judged}
+use Rattle.ztso_engines.specs.Engines.{Accepted, AreOneAnswer, judged}
+use Rattle.ztso_engines.specs.Faults.{too_large, not_text}
+use Rattle.ztso_engines.specs.Tests.{ByTest, IsNoTest, refused_at, test_of}
+use Rattle.ztso_engines.specs.Schedules.{BySchedule, IsNoSchedule, events_of}
+use Rattle.ztso_engines.specs.Asm.{IsAsmAnswer, asm_at, hex_line, refused_at as refused_program}
 use Rattle.ztso_engines.specs.Told.{Told, opening_of}
 use Rattle.ztso_engines.specs.StepsText.{Tells}
 use Rattle.ztso_engines.specs.StepsReading.{script_at}
@@ -16,13 +48,20 @@ use Rattle.ztso_engines.specs.StateText.{shown}
 use Rattle.ztso_engines.specs.Steps.{IsStateText, IsStepsAnswer}
 use Rattle.ztso_engines.specs.Dis.{SaysCode, dis_at, instr_line, IsDisAnswer}
 use Rattle.ztso_engines.specs.EntryText.{entry_line}
-use Rattle.ztso_engines.specs.Histories.{IsOfRun}
-use Rattle.ztso_engines.specs.Run.{IsJudged, verdict_line}
-use Rattle.ztso_engines.specs.Replay.{IsReplay}
-use Rattle.ztso_engines.proofs.Judging.{accepted_judged}
+use Rattle.ztso_engines.specs.Histories.{ByBoth, IsOfRun}
+use Rattle.ztso_engines.specs.Run.{IsJudged, IsRunAnswer, verdict_line}
+use Rattle.ztso_engines.specs.Replay.{IsReplay, IsReplayAnswer}
+use Rattle.ztso_engines.specs.Talks.{IsDebugAnswer, IsTalk}
+use Rattle.ztso_engines.specs.Outcomes.{IsTriedOf, IsTryAnswer}
+use Rattle.ztso_engines.specs.Lists.{SaysLists, lists_at}
+use Rattle.ztso_engines.specs.Channels.{HasNoChannel, IsChannelAnswer, IsDelivery, IsNoLists, report_line, told_as}
+use Rattle.ztso_engines.proofs.Judging.{accepted_judged, judged_text}
 use Rattle.ztso_engines.proofs.Telling.{text_read, one_told}
 use Rattle.ztso_engines.proofs.CodeTexts.{code_read, one_code}
-use Rattle.ztso_engines.proofs.OneText.{one_verdict}
+use Rattle.ztso_engines.proofs.ListTexts.{lists_read, one_lists}
+use Rattle.ztso_engines.proofs.OneText.{one_try, one_verdict}
+use Rattle.ztso_engines.proofs.OneTalk.{one_talk_of}
+use Rattle.ztso_engines.proofs.TestTexts.{test_or_none}
 
 abbrev Output : Type 0
 Output = List ℕ × Unit {0}
@@ -55,16 +94,186 @@ one_dis input (Ok a) (Err r) (code, is, written) refused = absurd (let read : ju
 one_dis input (Err r) (Ok a) refused (code, is, written) = absurd (let read : judged dis_at input ≡ Ok code = accepted_judged dis_at SaysCode input code (code_read input code) is in cc)
 one_dis input (Err r) (Err s) refused other = ap (λ (x : Refusal). Err x) (one_refusal (judged dis_at input) r s refused other)
 
--- ---- `run` and `replay`
+-- ---- `asm`
 
-pub one_judged : (B M : ℕ) (q : Question) (events : List Event) (a b : List ℕ × Verdict) → IsOfRun B M (IsJudged M) q events a → IsOfRun B M (IsJudged M) q events b → a ≡ b
+unread_program : (text : List ℕ) (r : Refusal) → asm_at text ≡ Err r → IsErr (assembled text)
+unfolding asm_at
+unread_program text r e = go (assembled text) e
+  where
+    go : (read : Result (List (Option Instr)) AsmRefusal) → refused_program read ≡ Err r → IsErr read
+    go (Ok found) f = absurd cc
+    go (Err why) f = refl
+
+code_or_refusal : (input words : List ℕ) (r : Refusal) → Accepted IsCode input words → judged asm_at input ≡ Err r → ⊥
+code_or_refusal input words r is refused =
+    let no_program : IsErr (assembled input) = unread_program input r (sym (judged_text asm_at input is.few is.text) ∙ refused) in
+    (refused_without_program input).0 no_program is.value_is.instrs is.value_is.program
+
+pub one_asm : (input : List ℕ) (a b : Result Output Refusal) → IsAsmAnswer input a → IsAsmAnswer input b → a ≡ b
+one_asm input (Ok a) (Ok b) (words, is, written) (others, also, lines) =
+    ap (λ (out : Output). Ok out) (same_output a b (written ∙ ap (flat_map hex_line) (assembler.one_code input words others is.value_is also.value_is) ∙ sym lines))
+one_asm input (Ok a) (Err r) (words, is, written) refused = absurd (code_or_refusal input words r is refused)
+one_asm input (Err r) (Ok a) refused (words, is, written) = absurd (code_or_refusal input words r is refused)
+one_asm input (Err r) (Err s) refused other = ap (λ (x : Refusal). Err x) (one_refusal (judged asm_at input) r s refused other)
+
+-- ---- what is answered by a test
+
+test_or_refusal : (input : List ℕ) (q : Question) (r : Refusal) → Accepted IsTestOf input q → IsNoTest input r → ⊥
+unfolding test_of IsTestOf
+test_or_refusal input q r is (line, refused) =
+    let read : test_at input ≡ Ok (content_of q) = (read_exactly input (content_of q)).1 is.value_is.0 in
+    test_or_none input line line (content_of q) r (judged_text (test_of line) input is.few is.text ∙ ap (refused_at line) read) refused
+
+-- two refusals of one input, each with some line
+numbers_of : (long text : Bool) (read : Result Content LitmusFault) (line other : ℕ) (r s : Refusal)
+    → cond long (Err too_large) (cond text (refused_at line read) (Err not_text)) ≡ Err r
+    → cond long (Err too_large) (cond text (refused_at other read) (Err not_text)) ≡ Err s → r.number ≡ s.number
+numbers_of true text read line other r s e f = ap (λ (x : Refusal). x.number) (let same : r ≡ s = cc in same)
+numbers_of false true (Ok test) line other r s e f = absurd cc
+numbers_of false true (Err why) line other r s e f =
+    let first : record { number = number_of why; place = Line line } ≡ r = cc in
+    let second : record { number = number_of why; place = Line other } ≡ s = cc in
+    ap (λ (x : Refusal). x.number) (sym first) ∙ ap (λ (x : Refusal). x.number) second
+numbers_of false false read line other r s e f = ap (λ (x : Refusal). x.number) (let same : r ≡ s = cc in same)
+
+one_number : (input : List ℕ) (r s : Refusal) → IsNoTest input r → IsNoTest input s → r.number ≡ s.number
+unfolding test_of
+one_number input r s (line, e) (other, f) = numbers_of (ltb 1048576 (length input)) (is_utf8 input) (test_at input) line other r s e f
+
+module _ {A : Type 0} (IsAnswer : Question → Result A Refusal → Type 0)
+    (one : (q : Question) (a b : Result A Refusal) → IsAnswer q a → IsAnswer q b → AreOneAnswer a b) (input : List ℕ) where
+  same_test : (q p : Question) (a b : Result A Refusal) → Accepted IsTestOf input q → Accepted IsTestOf input p → IsAnswer q a → IsAnswer p b → AreOneAnswer a b
+  same_test q p a b is also told other = one q a b told (subst (λ (x : Question). IsAnswer x b) (one_test input p q also.value_is is.value_is) other)
+
+  one_by_test : (a b : Result A Refusal) → ByTest IsAnswer input a → ByTest IsAnswer input b → AreOneAnswer a b
+  one_by_test (Ok a) (Ok b) (q, is, told) (p, also, other) = same_test q p (Ok a) (Ok b) is also told other
+  one_by_test (Ok a) (Err s) (q, is, told) (inl none) = absurd (test_or_refusal input q s is none)
+  one_by_test (Ok a) (Err s) (q, is, told) (inr (p, also, other)) = same_test q p (Ok a) (Err s) is also told other
+  one_by_test (Err r) (Ok b) (inl none) (q, is, told) = absurd (test_or_refusal input q r is none)
+  one_by_test (Err r) (Ok b) (inr (q, is, told)) (p, also, other) = same_test q p (Err r) (Ok b) is also told other
+  one_by_test (Err r) (Err s) (inl none) (inl other) = one_number input r s none other
+  one_by_test (Err r) (Err s) (inl none) (inr (q, is, told)) = absurd (test_or_refusal input q r is none)
+  one_by_test (Err r) (Err s) (inr (q, is, told)) (inl none) = absurd (test_or_refusal input q s is none)
+  one_by_test (Err r) (Err s) (inr (q, is, told)) (inr (p, also, other)) = same_test q p (Err r) (Err s) is also told other
+
+-- ---- and by a schedule
+
+schedule_or_refusal : (input : List ℕ) (events : List Event) (r : Refusal) → Accepted IsScheduleOf input events → IsNoSchedule input r → ⊥
+unfolding events_of
+schedule_or_refusal input events r is refused =
+    let read : judged events_of input ≡ Ok events = judged_text events_of input is.few is.text ∙ (let found = IsScheduleOf-schedule_at input events is.value_is in rw found refl) in
+    absurd cc
+
+module _ {A : Type 0} (IsAnswer : List Event → A → Type 0) (one : (events : List Event) (a b : A) → IsAnswer events a → IsAnswer events b → a ≡ b) (input : List ℕ) where
+  one_by_schedule : (a b : Result A Refusal) → BySchedule IsAnswer input a → BySchedule IsAnswer input b → AreOneAnswer a b
+  one_by_schedule (Ok a) (Ok b) (events, is, told) (others, also, other) =
+      one events a b told (subst (λ (evs : List Event). IsAnswer evs b) (one_schedule input others events also.value_is is.value_is) other)
+  one_by_schedule (Ok a) (Err s) (events, is, told) refused = absurd (schedule_or_refusal input events s is refused)
+  one_by_schedule (Err r) (Ok b) refused (events, is, told) = absurd (schedule_or_refusal input events r is refused)
+  one_by_schedule (Err r) (Err s) refused other = ap (λ (x : Refusal). x.number) (one_refusal (judged events_of input) r s refused other)
+
+one_by_both : {A : Type 0} (IsTold : Question → List Event → A → Type 0) → ((q : Question) (events : List Event) (a b : A) → IsTold q events a → IsTold q events b → a ≡ b)
+    → (file schedule : List ℕ) (a b : Result A Refusal) → ByBoth IsTold file schedule a → ByBoth IsTold file schedule b → AreOneAnswer a b
+one_by_both {A = A} IsTold one file schedule =
+    one_by_test (λ (q : Question) (given : Result A Refusal). BySchedule (IsTold q) schedule given) (λ q a b is other. one_by_schedule (IsTold q) (one q) schedule a b is other) file
+
+-- ---- `run`, `replay` and `debug`
+
+one_judged : (B M : ℕ) (q : Question) (events : List Event) (a b : List ℕ × Verdict) → IsOfRun B M (IsJudged M) q events a → IsOfRun B M (IsJudged M) q events b → a ≡ b
 one_judged B M q events a b is other =
     let histories : is.history ≡ other.history = run-one B M (unrun q.opening) events is.history other.history is.ran other.ran in
     let verdicts : a.1 ≡ b.1 = one_verdict M q is.history a.1 b.1 is.told.verdict (subst (λ (h : History). IsVerdict M q h b.1) (sym histories) other.told.verdict) in
     let texts : a.0 ≡ b.0 = is.told.is_shown ∙ ap (λ (h : History). shown M h ++ verdict_line a.1) histories ∙ ap (λ (v : Verdict). shown M other.history ++ verdict_line v) verdicts ∙ sym other.told.is_shown in
     λ i. (texts i, verdicts i)
 
-pub one_replay : (B M : ℕ) (q : Question) (events : List Event) (a b : Output) → IsOfRun B M IsReplay q events a → IsOfRun B M IsReplay q events b → a ≡ b
-one_replay B M q events a b is other =
+one_replayed : (B M : ℕ) (q : Question) (events : List Event) (a b : Output) → IsOfRun B M IsReplay q events a → IsOfRun B M IsReplay q events b → a ≡ b
+one_replayed B M q events a b is other =
     let histories : is.history ≡ other.history = run-one B M (unrun q.opening) events is.history other.history is.ran other.ran in
     same_output a b (is.told ∙ ap (λ (h : History). flat_map entry_line h.entries) histories ∙ sym other.told)
+
+pub one_run : (B M : ℕ) (file schedule : List ℕ) (a b : Result (List ℕ × Verdict) Refusal) → IsRunAnswer B M file schedule a → IsRunAnswer B M file schedule b → AreOneAnswer a b
+one_run B M = one_by_both (IsOfRun B M (IsJudged M)) (one_judged B M)
+
+pub one_replay : (B M : ℕ) (file schedule : List ℕ) (a b : Result Output Refusal) → IsReplayAnswer B M file schedule a → IsReplayAnswer B M file schedule b → AreOneAnswer a b
+one_replay B M = one_by_both (IsOfRun B M IsReplay) (one_replayed B M)
+
+pub one_debug : (B M : ℕ) (input file schedule : List ℕ) (a b : Result Output Refusal) → IsDebugAnswer B M (Some input) file schedule a → IsDebugAnswer B M (Some input) file schedule b → AreOneAnswer a b
+one_debug B M input = one_by_both (IsTalk B M (Some input)) (one_talk_of B M input)
+
+-- ---- `try`
+
+one_tried_of : (B M : ℕ) (stream : Stream) (runs size : ℕ) (q : Question) (a b : Result (List ℕ × Bool) Refusal) → IsTriedOf B M stream runs size q a → IsTriedOf B M stream runs size q b → AreOneAnswer a b
+one_tried_of B M stream runs size q (Ok a) (Ok b) is other = one_try B M stream runs size q a b is other
+one_tried_of B M stream runs size q (Ok a) (Err s) is none = absurd none
+one_tried_of B M stream runs size q (Err r) b none other = absurd none
+
+pub one_tried : (B M : ℕ) (stream : Stream) (runs size : ℕ) (file : List ℕ) (a b : Result (List ℕ × Bool) Refusal) → IsTryAnswer B M stream runs size file a → IsTryAnswer B M stream runs size file b → AreOneAnswer a b
+one_tried B M stream runs size = one_by_test (IsTriedOf B M stream runs size) (one_tried_of B M stream runs size)
+
+-- ---- `channel`
+
+lists_or_refusal : (input : List ℕ) (lists : List (List ℕ)) (r : Refusal) → Accepted SaysLists input lists → IsNoLists input r → ⊥
+lists_or_refusal input lists r is refused =
+    let read : judged lists_at input ≡ Ok lists = accepted_judged lists_at SaysLists input lists (lists_read input lists) is in
+    absurd cc
+
+-- the number of the refusal of some lists, by what they are
+abbrev first_of_lists : (none many small large : Bool) → ℕ
+first_of_lists none many small large = cond none 17 (cond many 18 (cond small 19 (cond large 20 16)))
+
+told_number : (number : ℕ) (place : Place) (r : Refusal) → fault.Refused (record { number = number; place = place }) ≡ fault.Refused r → r.number ≡ number
+told_number number place r told = let same : r ≡ record { number = number; place = place } = cc in ap (λ (x : Refusal). x.number) same
+
+module _ (ring : Ring) (M size : ℕ) (lists : List (List ℕ)) where
+  abbrev expected : ℕ
+  expected = first_of_lists (ltb (length lists) 1) (ltb 63 (length lists)) (ltb size ring.least) (ltb (4 * M) (length lists * block_size size))
+
+  is_expected : (why : Refused) (r : Refusal) → Refuses ring M lists size why → told_as why ≡ fault.Refused r → r.number ≡ expected
+  is_expected refused.NoMemory r refuses told = absurd cc
+  is_expected refused.NoSenders r none told = told_number 17 Nowhere r told ∙ rw (lt-ltb (length lists) 1 (omega (arith, none))) refl
+  is_expected refused.TooManySenders r many told = told_number 18 Nowhere r told ∙ rw (le-ltb (length lists) 1 (omega (arith, many)), lt-ltb 63 (length lists) many) refl
+  is_expected refused.RingTooSmall r is told = told_number 19 Nowhere r told ∙ rw (le-ltb (length lists) 1 is.0, le-ltb 63 (length lists) is.1, lt-ltb size ring.least is.2) refl
+  is_expected refused.DoesNotFit r (has, large) told = told_number 20 Nowhere r told ∙ rw (le-ltb (length lists) 1 has.some_sender, le-ltb 63 (length lists) has.senders, le-ltb size ring.least has.size, lt-ltb (4 * M) (length lists * block_size size) large) refl
+  is_expected (refused.ZeroWord sender place) r (has, fits, zero) told = told_number 16 (Word sender place) r told ∙ rw (le-ltb (length lists) 1 has.some_sender, le-ltb 63 (length lists) has.senders, le-ltb size ring.least has.size, le-ltb (4 * M) (length lists * block_size size) fits) refl
+
+  within_or_refused : (why : Refused) (r : Refusal) → IsWithin ring M lists size → Refuses ring M lists size why → told_as why ≡ fault.Refused r → ⊥
+  within_or_refused refused.NoMemory r is refuses told = absurd cc
+  within_or_refused refused.NoSenders r is refuses told = omega (arith, is.some_sender, refuses)
+  within_or_refused refused.TooManySenders r is refuses told = omega (arith, is.senders, refuses)
+  within_or_refused refused.RingTooSmall r is refuses told = omega (arith, is.size, refuses.2)
+  within_or_refused refused.DoesNotFit r is refuses told = omega (arith, is.fits, refuses.1)
+  within_or_refused (refused.ZeroWord sender place) r is refuses told =
+      let found = refuses.2 in
+      (is.words sender [] found.within place 0 found.zero.within).1 found.zero.zero
+
+one_delivery : (ring : Ring) (B M size : ℕ) (events : List Event) (lists : List (List ℕ)) (a b : Output) → IsDelivery ring B M size events lists a → IsDelivery ring B M size events lists b → a ≡ b
+one_delivery ring B M size events lists a b is other =
+    let histories : is.delivers.history ≡ other.delivers.history = run-one B M (unrun (opening_of_lists ring.sender ring.receiver lists size)) events is.delivers.history other.delivers.history is.delivers.run other.delivers.run in
+    same_output a b (is.told ∙ ap (flat_map report_line) (is.delivers.answer ∙ ap (λ (h : History). reported 0 h.entries) histories ∙ sym other.delivers.answer) ∙ sym other.told)
+
+module _ (ring : Ring) (B M size : ℕ) (schedule input : List ℕ) where
+  abbrev IsAnswer : Result Output Refusal → Type 0
+  IsAnswer = IsChannelAnswer ring B M size schedule input
+
+  delivered_or_refused : (a : Output) (s : Refusal) → IsAnswer (Ok a) → IsAnswer (Err s) → ⊥
+  delivered_or_refused a s (events, is, (lists, said, tells)) (inl none) = schedule_or_refusal schedule events s is none
+  delivered_or_refused a s (events, is, (lists, said, tells)) (inr (others, also, inl none)) = lists_or_refusal input lists s said none
+  delivered_or_refused a s (events, is, (lists, said, tells)) (inr (others, also, inr (words, says, (why, refuses, told)))) =
+      within_or_refused ring M size lists why s tells.within (subst (λ (ls : List (List ℕ)). Refuses ring M ls size why) (one_lists input words lists says.value_is said.value_is) refuses) told
+
+  pub one_channel : (a b : Result Output Refusal) → IsAnswer a → IsAnswer b → AreOneAnswer a b
+  one_channel (Ok a) (Ok b) (events, is, (lists, said, tells)) (others, also, (words, says, other)) =
+      one_delivery ring B M size events lists a b tells
+      (subst (λ (evs : List Event). IsDelivery ring B M size evs lists b) (one_schedule schedule others events also.value_is is.value_is)
+      (subst (λ (ls : List (List ℕ)). IsDelivery ring B M size others ls b) (one_lists input words lists says.value_is said.value_is) other))
+  one_channel (Ok a) (Err s) is other = delivered_or_refused a s is other
+  one_channel (Err r) (Ok b) is other = delivered_or_refused b r other is
+  one_channel (Err r) (Err s) (inl none) (inl other) = ap (λ (x : Refusal). x.number) (one_refusal (judged events_of schedule) r s none other)
+  one_channel (Err r) (Err s) (inl none) (inr (events, is, more)) = absurd (schedule_or_refusal schedule events r is none)
+  one_channel (Err r) (Err s) (inr (events, is, more)) (inl none) = absurd (schedule_or_refusal schedule events s is none)
+  one_channel (Err r) (Err s) (inr (events, is, inl none)) (inr (others, also, inl other)) = ap (λ (x : Refusal). x.number) (one_refusal (judged lists_at input) r s none other)
+  one_channel (Err r) (Err s) (inr (events, is, inl none)) (inr (others, also, inr (words, says, more))) = absurd (lists_or_refusal input words r says none)
+  one_channel (Err r) (Err s) (inr (events, is, inr (lists, said, more))) (inr (others, also, inl none)) = absurd (lists_or_refusal input lists s said none)
+  one_channel (Err r) (Err s) (inr (events, is, inr (lists, said, (why, refuses, told)))) (inr (others, also, inr (words, says, (reason, denies, tells)))) =
+      is_expected ring M size lists why r refuses told
+      ∙ sym (is_expected ring M size lists reason s (subst (λ (ls : List (List ℕ)). Refuses ring M ls size reason) (one_lists input words lists says.value_is said.value_is) denies) tells)

@@ -1,10 +1,10 @@
 -- The command `asm`: the words of an assembly text, a line each.
-use Rattle.std.specs.Prelude.{ℕ, ◌≡◌, ◌-◌, ◌^◌, ◌<◌, false, List, ◌∷◌, [], ◌++◌, length, replicate, Option, Result, Ok, Err}
-use Rattle.std.specs.List.{All, flat_map}
+use Rattle.std.specs.Prelude.{ℕ, ◌≡◌, ◌-◌, false, List, ◌∷◌, [], ◌++◌, length, replicate, Option, Result, Ok, Err}
+use Rattle.std.specs.List.{flat_map}
 use Rattle.std.specs.Fmt.{digits}
 use Rattle.rv_decode.specs.declared.instruction.Instr.{Instr}
-use Rattle.assembler.specs.Drafts.{assembled, AllPlain}
-use Rattle.assembler.specs.Program.{IsProgram, AreWordsOf}
+use Rattle.assembler.specs.Drafts.{assembled}
+use Rattle.assembler.specs.Program.{IsCode}
 use Rattle.assembler.specs.Faults.{number_of, Refusal as AsmRefusal}
 use Rattle.assembler.specs.declared.faults.AsmError.{AsmError}
 use Rattle.assembler.specs.declared.faults.AsmError.TheVariants as error
@@ -27,14 +27,6 @@ fault_of_error (error.Refused fault line) = Refused (record { number = number_of
 -- the instructions of an assembly text, or its refusal
 unfoldable pub asm_at : List ℕ → Result (List (Option Instr)) Refusal
 asm_at text = refused_at (assembled text)
-
--- the text is a program whose instructions these words of 32 bits mean, with their free fields 0
-pub record IsCode (text words : List ℕ) : Type 0 where
-  pub instrs : List Instr
-  pub program : IsProgram text instrs
-  pub meant : AreWordsOf words instrs
-  pub plain : AllPlain words
-  pub small : All (λ word. word < 2 ^ 32) words
 
 -- a word as 8 lower case hex digits
 abbrev pub hex_text : ℕ → List ℕ

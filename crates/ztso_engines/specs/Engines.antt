@@ -44,3 +44,10 @@ AnswersBoth IsAnswer first second answer = OfInput first (λ a. OfInput second (
 -- how an engine with two inputs ends
 abbrev pub EndsByBoth : {V W : Type 0} → (List ℕ → List ℕ → Result (List ℕ × V) Refusal → Type 0) → Result V Fault → (first second : Option (List ℕ)) → (contents : W → Option (List ℕ)) → (old new : W) → Type 0
 EndsByBoth IsAnswer result first second contents old new = Ends (AnswersBoth IsAnswer first second) result contents old new
+
+-- Two answers are one answer: one output with one value, or refusals of one number.
+abbrev pub AreOneAnswer : {A : Type 0} → Result A Refusal → Result A Refusal → Type 0
+AreOneAnswer (Ok a) (Ok b) = a ≡ b
+AreOneAnswer (Ok a) (Err s) = ⊥
+AreOneAnswer (Err r) (Ok b) = ⊥
+AreOneAnswer (Err r) (Err s) = r.number ≡ s.number

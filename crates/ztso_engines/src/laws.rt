@@ -3,23 +3,22 @@
 ghost use Rattle.std.specs.Prelude.{◌≡◌, ◌<◌, ◌^◌, ◌↔◌, ℕ, Bool, List, Ok, Result, Some};
 ghost use Rattle.std.specs.List.{All, flat_map};
 ghost use Rattle.rand_core.specs.Stream.{Stream};
-ghost use Rattle.step_machine.specs.declared.events.Event.{Event};
-ghost use Rattle.litmus.specs.Questions.{Question};
+ghost use Rattle.poll_close.specs.Laws.{Ring};
 ghost use Rattle.litmus.specs.declared.verdict.Verdict.{Verdict};
 ghost use Rattle.ztso_engines.specs.declared.fault.Refusal.{Refusal};
-ghost use Rattle.ztso_engines.specs.Engines.{Accepted, judged};
+ghost use Rattle.ztso_engines.specs.Engines.{Accepted, AreOneAnswer, judged};
 ghost use Rattle.ztso_engines.specs.Told.{Told};
 ghost use Rattle.ztso_engines.specs.StepsText.{Tells};
 ghost use Rattle.ztso_engines.specs.StepsReading.{script_at};
 ghost use Rattle.ztso_engines.specs.Steps.{IsStepsAnswer};
-ghost use Rattle.ztso_engines.specs.Asm.{hex_line};
+ghost use Rattle.ztso_engines.specs.Asm.{hex_line, IsAsmAnswer};
 ghost use Rattle.ztso_engines.specs.Dis.{SaysCode, dis_at, IsDisAnswer};
 ghost use Rattle.ztso_engines.specs.Lists.{SaysLists, lists_at};
-ghost use Rattle.ztso_engines.specs.Histories.{IsOfRun};
-ghost use Rattle.ztso_engines.specs.Run.{IsJudged};
-ghost use Rattle.ztso_engines.specs.Replay.{IsReplay};
-ghost use Rattle.ztso_engines.specs.Talks.{IsTalk};
-ghost use Rattle.ztso_engines.specs.Outcomes.{IsTried};
+ghost use Rattle.ztso_engines.specs.Run.{IsRunAnswer};
+ghost use Rattle.ztso_engines.specs.Replay.{IsReplayAnswer};
+ghost use Rattle.ztso_engines.specs.Talks.{IsDebugAnswer};
+ghost use Rattle.ztso_engines.specs.Outcomes.{IsTryAnswer};
+ghost use Rattle.ztso_engines.specs.Channels.{IsChannelAnswer};
 
 /// A steps text tells one thing at most, and reading it from the top finds that; an input is not
 /// refused exactly where it is a text within the limit that tells something. It does nothing.
@@ -47,24 +46,16 @@ pub fn laws_of_list_texts()
     ensures one { (text : List ℕ) (a b : List (List ℕ)) → SaysLists text a → SaysLists text b → a ≡ b }
 {}
 
-/// What the runs of a test show is one text, and whether it is what the test asks has one answer: both
-/// follow from the test, the generator's stream, and how many runs of how many events there are. It
-/// does nothing.
-pub fn law_of_tries()
-    ensures { (B M : ℕ) (stream : Stream) (runs size : ℕ) (question : Question) (a b : List ℕ × Bool) → IsTried B M stream runs size question a → IsTried B M stream runs size question b → a ≡ b }
-{}
-
-/// What `steps` answers, and what `dis` answers, is one function of what is read: the output, or the
-/// refusal with its place. It does nothing.
+/// What a command answers is one function of what it reads: the output with the exit status's value, or a
+/// refusal. Of a refused litmus text it isn't said on which line its first fault stands, so for the
+/// commands that read one, and for `channel`, the number of the refusal is one. It does nothing.
 pub fn one_answer()
     ensures steps { (B M : ℕ) (input : List ℕ) (a b : Result (List ℕ × Unit {0}) Refusal) → IsStepsAnswer B M input a → IsStepsAnswer B M input b → a ≡ b }
+    ensures asm { (input : List ℕ) (a b : Result (List ℕ × Unit {0}) Refusal) → IsAsmAnswer input a → IsAsmAnswer input b → a ≡ b }
     ensures dis { (input : List ℕ) (a b : Result (List ℕ × Unit {0}) Refusal) → IsDisAnswer input a → IsDisAnswer input b → a ≡ b }
-{}
-
-/// What `run` tells of a test and a list of events, and what `replay` tells, is one output and one value,
-/// and so is what `debug` tells of them and of a user's lines. It does nothing.
-pub fn one_telling()
-    ensures run { (B M : ℕ) (question : Question) (events : List Event) (a b : List ℕ × Verdict) → IsOfRun B M (IsJudged M) question events a → IsOfRun B M (IsJudged M) question events b → a ≡ b }
-    ensures replay { (B M : ℕ) (question : Question) (events : List Event) (a b : List ℕ × Unit {0}) → IsOfRun B M IsReplay question events a → IsOfRun B M IsReplay question events b → a ≡ b }
-    ensures debug { (B M : ℕ) (input : List ℕ) (question : Question) (events : List Event) (a b : List ℕ × Unit {0}) → IsTalk B M (Some input) question events a → IsTalk B M (Some input) question events b → a ≡ b }
+    ensures run { (B M : ℕ) (file schedule : List ℕ) (a b : Result (List ℕ × Verdict) Refusal) → IsRunAnswer B M file schedule a → IsRunAnswer B M file schedule b → AreOneAnswer a b }
+    ensures replay { (B M : ℕ) (file schedule : List ℕ) (a b : Result (List ℕ × Unit {0}) Refusal) → IsReplayAnswer B M file schedule a → IsReplayAnswer B M file schedule b → AreOneAnswer a b }
+    ensures debug { (B M : ℕ) (input file schedule : List ℕ) (a b : Result (List ℕ × Unit {0}) Refusal) → IsDebugAnswer B M (Some input) file schedule a → IsDebugAnswer B M (Some input) file schedule b → AreOneAnswer a b }
+    ensures trials { (B M : ℕ) (stream : Stream) (runs size : ℕ) (file : List ℕ) (a b : Result (List ℕ × Bool) Refusal) → IsTryAnswer B M stream runs size file a → IsTryAnswer B M stream runs size file b → AreOneAnswer a b }
+    ensures channel { (ring : Ring) (B M size : ℕ) (schedule input : List ℕ) (a b : Result (List ℕ × Unit {0}) Refusal) → IsChannelAnswer ring B M size schedule input a → IsChannelAnswer ring B M size schedule input b → AreOneAnswer a b }
 {}

@@ -1,8 +1,26 @@
-use Rattle.ztso_engines.proofs.OneAnswer.{one_steps, one_dis}
+use Rattle.ztso_engines.proofs.OneAnswer as one
 use Rattle.ztso_engines.proofs.laws.one_answer.Goals as goal
 
 pub returns-clause-steps : goal.returns-clause-steps
-returns-clause-steps c = one_steps
+returns-clause-steps c = one.one_steps
+
+pub returns-clause-asm : goal.returns-clause-asm
+returns-clause-asm c = one.one_asm
 
 pub returns-clause-dis : goal.returns-clause-dis
-returns-clause-dis c = one_dis
+returns-clause-dis c = one.one_dis
+
+pub returns-clause-run : goal.returns-clause-run
+returns-clause-run c = one.one_run
+
+pub returns-clause-replay : goal.returns-clause-replay
+returns-clause-replay c = one.one_replay
+
+pub returns-clause-debug : goal.returns-clause-debug
+returns-clause-debug c = one.one_debug
+
+pub returns-clause-trials : goal.returns-clause-trials
+returns-clause-trials c = one.one_tried
+
+pub returns-clause-channel : goal.returns-clause-channel
+returns-clause-channel c = one.one_channel
