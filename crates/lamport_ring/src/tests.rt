@@ -1,12 +1,17 @@
-//! The listing against the tables, and a channel over Lamport's ring with its report worked out by hand.
+//! The listing against the tables, and channels over Lamport's ring with what they report worked out by
+//! hand.
+
+ghost use Rattle.std.specs.Prelude.{◌≤◌};
 
 use crate::{Lamport, RECEIVER, SENDER};
 use assembler::assemble;
 use hart::need::Report;
-use poll_close::{Refused, deliver};
+use hart::status::Status;
+use poll_close::{Channel, Refused, deliver, opening};
 use std::alloc::{AllocError, Global};
+use std::process::Abort;
 use std::test::Fail;
-use step_machine::Event;
+use step_machine::{Entry, Event, Machine};
 
 /// The sender's listing, as docs/channels.md tells it.
 const SENDER_TEXT: &str = "next: addi x17,x0,1
@@ -63,6 +68,12 @@ quit: addi x17,x0,93
 ecall
 ";
 
+const A0: Event = Event::Act(0);
+
+const A1: Event = Event::Act(1);
+
+const L1: Event = Event::Land(1);
+
 /// The events of `steps`, each so often.
 fn events_of(alloc: Global, steps: &[(Event, u32)]) -> Result<Vec<Event>, AllocError> {
     let mut events = Vec::new(alloc);
@@ -74,16 +85,54 @@ fn events_of(alloc: Global, steps: &[(Event, u32)]) -> Result<Vec<Event>, AllocE
     Ok(events)
 }
 
-/// What a ring of `ring` slots delivers of one list.
-fn delivered(
-    alloc: Global,
-    list: &[u32],
+fn lists_of(alloc: Global, lists: &[&[u32]]) -> Result<Vec<Vec<u32>>, AllocError> {
+    let mut owned = Vec::new(alloc);
+    for list in lists {
+        owned.push(Vec::from_slice(alloc, list)?)?;
+    }
+    Ok(owned)
+}
+
+/// A channel that runs the events, one that takes them one by one, and `deliver` report this.
+fn expect_reports<const B: usize>(
+    rt: &(impl Abort + AllocGlobal),
+    lists: &[&[u32]],
     ring: u32,
     events: &[Event],
-) -> Result<Vec<Report>, Refused> {
-    let mut lists = Vec::new(alloc);
-    lists.push(Vec::from_slice(alloc, list)?)?;
-    deliver::<Lamport, 4, 4096>(alloc, &lists, ring, events)
+    wanted: &[Report],
+) -> Result<(), Refused>
+    requires some { 1 ≤ B }
+    requires capacity { B ≤ 64 }
+{
+    let lists = lists_of(rt.alloc(), lists)?;
+    let delivered = deliver::<Lamport, B, 4096>(rt.alloc(), &lists, ring, events)?;
+    assert_eq!(rt; delivered.as_slice(), wanted);
+    let mut channel = Channel::<Lamport, B, 4096>::open(rt.alloc(), &lists, ring)?;
+    channel.run(events).map_err(|error| error.1)?;
+    assert_eq!(rt; channel.reports(), wanted);
+    let mut stepped = Channel::<Lamport, B, 4096>::open(rt.alloc(), &lists, ring)?;
+    for event in events {
+        stepped.step(*event)?;
+    }
+    assert_eq!(rt; stepped.reports(), wanted);
+    Ok(())
+}
+
+/// Over a memory of 64 words a channel, its opening and `deliver` are refused so, or none of them is.
+fn expect_refusal(
+    rt: &(impl Abort + AllocGlobal),
+    lists: &[&[u32]],
+    ring: u32,
+    wanted: Option<Refused>,
+) -> Result<(), AllocError> {
+    let lists = lists_of(rt.alloc(), lists)?;
+    let channel = Channel::<Lamport, 4, 64>::open(rt.alloc(), &lists, ring);
+    assert_eq!(rt; channel.err(), wanted);
+    let opening = opening::<Lamport>(rt.alloc(), &lists, ring, 64);
+    assert_eq!(rt; opening.err(), wanted);
+    let delivered = deliver::<Lamport, 4, 64>(rt.alloc(), &lists, ring, &[]);
+    assert_eq!(rt; delivered.err(), wanted);
+    Ok(())
 }
 
 #[test]
@@ -96,28 +145,85 @@ fn the_listing_is_the_table(rt: HostRuntime) -> Result<(), Fail> {
 }
 
 #[test]
-fn a_word_comes_once_its_head_has_landed(rt: HostRuntime) -> Result<(), Fail> {
-    let steps = [
-        (Event::Act(1), 10),
-        (Event::Land(1), 1),
-        (Event::Act(0), 13),
-        (Event::Land(1), 1),
-        (Event::Act(0), 16),
-    ];
-    let events = events_of(rt.alloc(), &steps)?;
-    let reports = delivered(rt.alloc(), &[9, 9, 9], 2, &events)?;
-    assert_eq!(rt;
-        reports.as_slice(),
-        [Report::Took { sender: 0, word: 9 }].as_slice()
-    );
+fn run_step_and_deliver_report_the_same(rt: HostRuntime) -> Result<(), Fail> {
+    let unmarked = events_of(rt.alloc(), &[(A1, 7), (A0, 18)])?;
+    expect_reports::<4>(&rt, &[&[]], 2, &unmarked, &[])?;
+    let marked = events_of(rt.alloc(), &[(A1, 7), (L1, 1), (A0, 18)])?;
+    expect_reports::<4>(&rt, &[&[]], 2, &marked, &[Report::Closed { sender: 0 }])?;
+    let sent = events_of(
+        rt.alloc(),
+        &[(A1, 10), (L1, 1), (A0, 13), (L1, 1), (A0, 16)],
+    )?;
+    let took = [Report::Took { sender: 0, word: 9 }];
+    expect_reports::<2>(&rt, &[&[9, 9, 9]], 2, &sent, &took)?;
+    // the head waits for the slot's landing
+    expect_reports::<1>(&rt, &[&[9, 9, 9]], 2, &sent, &[])?;
+    // the mark was read before the word was there
+    let early = events_of(rt.alloc(), &[(A0, 6), (A1, 19), (L1, 3), (A0, 8)])?;
+    expect_reports::<4>(&rt, &[&[9]], 2, &early, &[])?;
     Ok(())
 }
 
 #[test]
-fn a_ring_of_one_slot_is_too_small(rt: HostRuntime) -> Result<(), Fail> {
-    assert_eq!(rt;
-        delivered(rt.alloc(), &[9], 1, &[]).err(),
-        Some(Refused::RingTooSmall)
-    );
+fn a_mark_that_is_pending_is_not_seen(rt: HostRuntime) -> Result<(), Fail> {
+    let lists = lists_of(rt.alloc(), &[&[]])?;
+    let opening = opening::<Lamport>(rt.alloc(), &lists, 2, 4096)?;
+    assert!(rt; opening.fits(4096));
+    let mut machine = Machine::<4, 4096>::open(rt.alloc(), opening)?;
+    let events = events_of(rt.alloc(), &[(A1, 7), (A0, 18)])?;
+    machine.run(&events).map_err(|error| error.1)?;
+    assert_eq!(rt; machine.harts(), 2);
+    assert_eq!(rt; machine.status(1), Status::Ended);
+    assert_eq!(rt; machine.pending(1).len(), 1);
+    assert_eq!(rt; machine.status(0), Status::Running);
+    assert_eq!(rt; machine.pc(0), 20);
+    Ok(())
+}
+
+#[test]
+fn harts_that_act_and_land_in_turns_end(rt: HostRuntime) -> Result<(), Fail> {
+    let lists = lists_of(rt.alloc(), &[&[1], &[], &[2, 3, 4]])?;
+    let mut channel = Channel::<Lamport, 4, 4096>::open(rt.alloc(), &lists, 3)?;
+    for _ in 0..1000 {
+        for hart in 0..4 {
+            channel.step(Event::Act(hart))?;
+        }
+        for hart in 0..4 {
+            channel.step(Event::Land(hart))?;
+        }
+    }
+    let trace = channel.trace(rt.alloc())?;
+    let ended = trace
+        .entries
+        .iter()
+        .filter(|entry| matches!(entry, Entry::Ended { .. }));
+    assert_eq!(rt; ended.count(), 4);
+    let wanted = [
+        Report::Closed { sender: 1 },
+        Report::Took { sender: 2, word: 2 },
+        Report::Took { sender: 0, word: 1 },
+        Report::Took { sender: 2, word: 3 },
+        Report::Closed { sender: 0 },
+        Report::Took { sender: 2, word: 4 },
+        Report::Closed { sender: 2 },
+    ];
+    assert_eq!(rt; channel.reports(), wanted.as_slice());
+    Ok(())
+}
+
+#[test]
+fn a_channel_is_refused(rt: HostRuntime) -> Result<(), Fail> {
+    let one: &[u32] = &[9];
+    let zero = Refused::ZeroWord {
+        sender: 0,
+        place: 1,
+    };
+    expect_refusal(&rt, &[], 1, Some(Refused::NoSenders))?;
+    expect_refusal(&rt, &[one; 64], 1, Some(Refused::TooManySenders))?;
+    expect_refusal(&rt, &[&[0]], 1, Some(Refused::RingTooSmall))?;
+    expect_refusal(&rt, &[one], 60, None)?;
+    expect_refusal(&rt, &[one], 61, Some(Refused::DoesNotFit))?;
+    expect_refusal(&rt, &[&[0]], 61, Some(Refused::DoesNotFit))?;
+    expect_refusal(&rt, &[&[3, 0]], 2, Some(zero))?;
     Ok(())
 }

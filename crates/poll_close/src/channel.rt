@@ -1,6 +1,6 @@
 //! A channel that runs event by event.
 
-ghost use Rattle.std.specs.Prelude.{◌≡◌, ◌≤◌, ℕ, List, IfOk, IfErr, OnOk, OnErr, map, take};
+ghost use Rattle.std.specs.Prelude.{◌≡◌, ◌≤◌, ◌<◌, ℕ, List, IfOk, IfErr, OnOk, OnErr, map, take, length};
 ghost use Rattle.poll_close.specs.Layout.{opening_of};
 ghost use Rattle.poll_close.specs.Laws.{Accepted};
 ghost use Rattle.poll_close.specs.Refusals.{Refuses};
@@ -72,11 +72,12 @@ impl<K: RingKind, const B: usize, const M: usize> Channel<K, B, M> {
         self.machine.step(event)
     }
 
-    /// The events one after the other. An error names how many of them came before it: the channel
-    /// stands after those.
+    /// The events one after the other. An error names how many of them came before it, which is fewer
+    /// than there are: the channel stands after those.
     pub fn run(&mut self, events: &[Event]) -> Result<(), (usize, AllocError)>
         ensures ok { OnOk result (RunFrom B M self.old.history events.now self.new.history) }
         ensures err { IfErr result (λ e. RunFrom B M self.old.history (take e.0 events.now) self.new.history) }
+        ensures below { IfErr result (λ e. e.0 < length events.now) }
         ensures opening { self.new.history.opening ≡ self.old.history.opening }
     {
         K::laws();
