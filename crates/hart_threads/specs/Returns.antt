@@ -3,13 +3,18 @@ use Rattle.std.specs.Prelude.{ℕ, ◌≡◌, List, ◌++◌, length}
 use Rattle.std.specs.List.{AllZip}
 use Rattle.step_machine.specs.declared.events.Entry.{Entry}
 use Rattle.step_machine.specs.History.{Start}
-use Rattle.hart_threads.specs.Seats.{SeatView}
+use Rattle.poll_close.specs.Layout.{opening_of}
+use Rattle.poll_close.specs.Laws.{Ring, Accepted}
+use Rattle.poll_close.specs.Refusals as refusals
+use Rattle.hart_threads.specs.Seats.{SeatView, seats_of}
 use Rattle.hart_threads.specs.Missing.{is_missing, IsFirst, IsComplete}
 use Rattle.hart_threads.specs.Parts.{Merge}
 use Rattle.hart_threads.specs.Records.{IsMismatch}
 use Rattle.hart_threads.specs.declared.record.Record.{Record}
 use Rattle.hart_threads.specs.declared.fault.Fault.{Fault}
 use Rattle.hart_threads.specs.declared.fault.Fault.TheVariants as fault
+use Rattle.hart_threads.specs.declared.fault.ChannelFault.{ChannelFault}
+use Rattle.hart_threads.specs.declared.fault.ChannelFault.TheVariants as channel
 
 -- t is the seat s with perhaps more in its diary
 abbrev pub Continues : SeatView → SeatView → Type 0
@@ -37,3 +42,18 @@ Fails B M o given fault.NoMemory = IsComplete (length o.harts) given
 Fails B M o given fault.NoThread = IsComplete (length o.harts) given
 Fails B M o given (fault.Missing h) = IsFirst (is_missing (length o.harts) given) h
 Fails B M o given (fault.Mismatch h es) = IsMismatched B M o given h es.items
+
+-- ---- a channel on threads
+
+-- the opening of a channel over these lists, with rings of S slots
+abbrev pub channel_over : Ring → List (List ℕ) → ℕ → Start
+channel_over ring lists S = opening_of ring.sender ring.receiver lists S
+
+-- each hart's two seats, which have done nothing
+abbrev pub fresh_seats : Start → List SeatView
+fresh_seats o = seats_of (length o.harts)
+
+-- why a channel on threads delivers nothing
+abbrev pub ChannelFails : Ring → ℕ → ℕ → List (List ℕ) → ℕ → ChannelFault → Type 0
+ChannelFails ring B M lists S (channel.Lists refused) = refusals.Refuses ring M lists S refused
+ChannelFails ring B M lists S (channel.Threads fault) = Accepted ring M lists S × Fails B M (channel_over ring lists S) (fresh_seats (channel_over ring lists S)) fault

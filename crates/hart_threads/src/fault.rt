@@ -3,8 +3,11 @@
 ghost use Rattle.std.specs.Prelude.{◌≡◌};
 ghost use Rattle.hart_threads.specs.Faults.{fault_of};
 ghost use Rattle.hart_threads.specs.declared.fault.Fault.TheVariants.{NoMemory};
+ghost use Rattle.hart_threads.specs.declared.fault.ChannelFault.TheVariants.{Lists, Threads};
+ghost use Rattle.poll_close.specs.declared.faults.Refused.TheVariants.{NoMemory as NoMemoryToOpen};
 
 use crate::record::Gather;
+use poll_close::Refused;
 use std::alloc::AllocError;
 use step_machine::Entry;
 use thiserror::Error;
@@ -58,5 +61,54 @@ impl From<Gather> for Fault {
             Gather::Missing { hart } => Fault::Missing { hart },
             Gather::Mismatch { hart, history } => Fault::Mismatch { hart, history },
         }
+    }
+}
+
+/// Why a channel on threads delivers nothing. Each has the number by which texts name it.
+#[derive(Debug, Drop, Error)]
+pub enum ChannelFault {
+    /// There is no such channel, or no memory for it and for what it reports.
+    #[error(transparent)]
+    Lists(Refused),
+    /// Its threads gave no record.
+    #[error(transparent)]
+    Threads(Fault),
+}
+
+impl ChannelFault {
+    ghost use Rattle.hart_threads.specs.Faults.{channel_number};
+
+    /// The number by which texts name the fault, 0 where memory ran out.
+    pub fn number(&self) -> u8
+        ensures { result ≡ channel_number self.now }
+    {
+        match self {
+            ChannelFault::Lists(refused) => refused.number(),
+            ChannelFault::Threads(fault) => fault.number(),
+        }
+    }
+}
+
+impl From<AllocError> for ChannelFault {
+    ghost from_gives = { λ _ e. e ≡ Lists NoMemoryToOpen };
+
+    fn from(_error: AllocError) -> ChannelFault {
+        ChannelFault::Lists(Refused::NoMemory)
+    }
+}
+
+impl From<Refused> for ChannelFault {
+    ghost from_gives = { λ refused e. e ≡ Lists refused };
+
+    fn from(error: Refused) -> ChannelFault {
+        ChannelFault::Lists(error)
+    }
+}
+
+impl From<Fault> for ChannelFault {
+    ghost from_gives = { λ fault e. e ≡ Threads fault };
+
+    fn from(error: Fault) -> ChannelFault {
+        ChannelFault::Threads(error)
     }
 }

@@ -4,7 +4,8 @@
 //! to land its stores. A seat keeps a diary of what its own calls did. [`Shared::gather`] takes all of
 //! them back and answers a [`Record`]: a run of the opening, one event an entry, of which each diary is
 //! its seat's part (`IsRecord` and `Merge` of `specs/`). [`run_harts`] does so with a thread for each
-//! seat. Whatever the threads do, a record is a run of the model.
+//! seat. Whatever the threads do, a record is a run of the model. [`deliver_threads`] runs a channel so,
+//! over any ring, and what its receiver reports is clean.
 //!
 //! A call that may wait for a lock or a thread asks for `Wait`; of those nothing says that they return.
 //! Nothing is claimed of fairness, of the order in which threads get the lock, or of time. This crate
@@ -12,6 +13,7 @@
 
 #![tactic(auto)]
 
+pub mod channels;
 mod diary;
 pub mod fault;
 pub mod gate;
@@ -26,7 +28,8 @@ pub mod shared;
 mod tests;
 mod turns;
 
-pub use fault::Fault;
+pub use channels::deliver_threads;
+pub use fault::{ChannelFault, Fault};
 pub use gate::{Gate, Open};
 pub use harts::run_harts;
 pub use record::{Gather, Record};

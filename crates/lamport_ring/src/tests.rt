@@ -7,6 +7,7 @@ use crate::{Lamport, RECEIVER, SENDER};
 use assembler::assemble;
 use hart::need::Report;
 use hart::status::Status;
+use hart_threads::{Open, deliver_threads};
 use poll_close::{Channel, Refused, deliver, opening};
 use std::alloc::{AllocError, Global};
 use std::process::Abort;
@@ -225,5 +226,47 @@ fn a_channel_is_refused(rt: HostRuntime) -> Result<(), Fail> {
     expect_refusal(&rt, &[one], 61, Some(Refused::DoesNotFit))?;
     expect_refusal(&rt, &[&[0]], 61, Some(Refused::DoesNotFit))?;
     expect_refusal(&rt, &[&[3, 0]], 2, Some(zero))?;
+    Ok(())
+}
+
+/// What a ring of two slots delivers of one list, with a thread for each hart and each lander.
+#[test]
+fn threads_deliver_what_their_events_deliver(rt: HostRuntime) -> Result<(), Fail> {
+    let mut lists = Vec::new(rt.alloc());
+    lists.push(Vec::from_slice(rt.alloc(), &[5])?)?;
+    let answer = deliver_threads::<Lamport, 4, 4096, Open, HostRuntime>(
+        &rt,
+        rt.alloc(),
+        &lists,
+        2,
+        &Open,
+        1000,
+    );
+    let (record, reports) = answer.expect(&rt, "a record");
+    assert_eq!(rt; record.machine.harts(), 2);
+    assert_eq!(rt; record.machine.status(1), Status::Ended);
+    let acts = record
+        .trace
+        .entries
+        .iter()
+        .filter(|entry| entry.hart() == 0 && !entry.is_land())
+        .count();
+    assert!(rt; record.machine.status(0) == Status::Ended || acts == 1000);
+    let again = deliver::<Lamport, 4, 4096>(rt.alloc(), &lists, 2, &record.events)?;
+    assert_eq!(rt; reports.as_slice(), again.as_slice());
+    Ok(())
+}
+
+#[test]
+fn threads_refuse_lists_by_number(rt: HostRuntime) -> Result<(), Fail> {
+    let answer = deliver_threads::<Lamport, 4, 4096, Open, HostRuntime>(
+        &rt,
+        rt.alloc(),
+        &[],
+        2,
+        &Open,
+        1,
+    );
+    assert_eq!(rt; answer.err().map(|fault| fault.number()), Some(17));
     Ok(())
 }

@@ -1,9 +1,14 @@
 //! Delivery.
 
 ghost use Rattle.std.specs.Prelude.{◌≡◌, ◌≤◌, ℕ, List, IfOk, IfErr, OnOk, map};
+ghost use Rattle.step_machine.specs.History.{History, FitsIn};
+ghost use Rattle.step_machine.specs.Entries.{reported};
+ghost use Rattle.step_machine.specs.Runs.{Run};
+ghost use Rattle.step_machine.specs.declared.events.Event.{Event};
 ghost use Rattle.poll_close.specs.Layout.{opening_of};
 ghost use Rattle.poll_close.specs.Laws.{Accepted};
 ghost use Rattle.poll_close.specs.Refusals.{Refuses};
+ghost use Rattle.poll_close.specs.Reports.{Clean};
 ghost use Rattle.poll_close.specs.Delivery.{Delivers};
 
 use crate::faults::Refused;
@@ -55,4 +60,13 @@ pub fn deliver<K: RingKind, const B: usize, const M: usize>(
 {
     let opening = opening::<K>(alloc, lists, ring, M)?;
     Ok(reports_of::<K, B, M>(alloc, opening, lists, ring, events)?)
+}
+
+/// The laws of channels of this kind: each opening fits its memory, and in each run from it what the
+/// receiver reports is clean, whatever made the events. It does nothing.
+pub fn laws_of_channels<K: RingKind>()
+    ensures fits { (M : ℕ) (lists : List (List ℕ)) (S : ℕ) → Accepted K.ring M lists S → FitsIn M (opening_of K.ring.sender K.ring.receiver lists S) }
+    ensures clean { (B M : ℕ) (lists : List (List ℕ)) (S : ℕ) (events : List Event) (t : History) → Accepted K.ring M lists S → Run B M (opening_of K.ring.sender K.ring.receiver lists S) events t → Clean (reported 0 t.entries) lists }
+{
+    K::laws();
 }

@@ -11,7 +11,7 @@ pub mod kind;
 pub mod openings;
 
 pub use channel::Channel;
-pub use delivery::deliver;
+pub use delivery::{deliver, laws_of_channels};
 pub use faults::Refused;
 pub use kind::RingKind;
 pub use openings::{MAX_SENDERS, opening};

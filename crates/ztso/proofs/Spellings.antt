@@ -13,7 +13,8 @@ use Rattle.ztso.specs.declared.failure.Failure.{Failure}
 use Rattle.ztso.specs.declared.job.Capacity.{Capacity}
 use Rattle.ztso.specs.declared.job.Capacity.TheVariants.{One, Two, Four, Sixteen}
 use Rattle.ztso.specs.declared.job.Job.{Job}
-use Rattle.ztso.specs.declared.job.Task.TheVariants.{Asm, Dis, Machine}
+use Rattle.ztso.specs.declared.job.Errand.TheVariants.{Asm, Dis, Machine}
+use Rattle.ztso.specs.declared.job.Task.TheVariants.{Alone, Threads}
 use Rattle.ztso.specs.declared.job.Work.{Work}
 use Rattle.ztso.specs.declared.job.Work.TheVariants.{Steps, Run, Replay, Debug, Try, Channel}
 use Rattle.ztso.specs.Jobs.{Wanted, one_input, two_inputs}
@@ -21,12 +22,12 @@ use Rattle.ztso.specs.Jobs.Input.{Standard, File}
 
 -- ---- `steps`, `asm` and `dis`
 
-alone : (name : Text) → job_said (name ∷ codes "steps" ∷ []) ≡ Some (one_input (Machine Steps Four) Standard)
+alone : (name : Text) → job_said (name ∷ codes "steps" ∷ []) ≡ Some (one_input (Alone (Machine Steps Four)) Standard)
 unfolding clap_on_literals job_said
 alone name = refl
 
 with_a_blank : (name : Text) (capacity : Capacity)
-    → job_said (name ∷ codes "steps" ∷ codes "--buffer" ∷ text_of capacity ∷ []) ≡ Some (one_input (Machine Steps capacity) Standard)
+    → job_said (name ∷ codes "steps" ∷ codes "--buffer" ∷ text_of capacity ∷ []) ≡ Some (one_input (Alone (Machine Steps capacity)) Standard)
 unfolding clap_on_literals job_said
 with_a_blank name One = refl
 with_a_blank name Two = refl
@@ -34,26 +35,26 @@ with_a_blank name Four = refl
 with_a_blank name Sixteen = refl
 
 with_an_equals : (name : Text) (capacity : Capacity)
-    → job_said (name ∷ codes "steps" ∷ (codes "--buffer=" ++ text_of capacity) ∷ []) ≡ Some (one_input (Machine Steps capacity) Standard)
+    → job_said (name ∷ codes "steps" ∷ (codes "--buffer=" ++ text_of capacity) ∷ []) ≡ Some (one_input (Alone (Machine Steps capacity)) Standard)
 unfolding clap_on_literals job_said
 with_an_equals name One = refl
 with_an_equals name Two = refl
 with_an_equals name Four = refl
 with_an_equals name Sixteen = refl
 
-of_asm : (name : Text) → job_said (name ∷ codes "asm" ∷ []) ≡ Some (one_input Asm Standard)
+of_asm : (name : Text) → job_said (name ∷ codes "asm" ∷ []) ≡ Some (one_input (Alone Asm) Standard)
 unfolding clap_on_literals job_said
 of_asm name = refl
 
-of_dis : (name : Text) → job_said (name ∷ codes "dis" ∷ []) ≡ Some (one_input Dis Standard)
+of_dis : (name : Text) → job_said (name ∷ codes "dis" ∷ []) ≡ Some (one_input (Alone Dis) Standard)
 unfolding clap_on_literals job_said
 of_dis name = refl
 
 of_steps : (name : Text) (capacity : Capacity) (rest : List Text) → AsksFor capacity rest
-    → job_said (name ∷ codes "steps" ∷ rest) ≡ Some (one_input (Machine Steps capacity) Standard)
+    → job_said (name ∷ codes "steps" ∷ rest) ≡ Some (one_input (Alone (Machine Steps capacity)) Standard)
 of_steps name capacity rest (inl default) =
     ap (λ (words : List Text). job_said (name ∷ codes "steps" ∷ words)) default.0 ∙ alone name
-    ∙ ap (λ (c : Capacity). Some (one_input (Machine Steps c) Standard)) (sym default.1)
+    ∙ ap (λ (c : Capacity). Some (one_input (Alone (Machine Steps c)) Standard)) (sym default.1)
 of_steps name capacity rest (inr (inl blank)) =
     ap (λ (words : List Text). job_said (name ∷ codes "steps" ∷ words)) blank ∙ with_a_blank name capacity
 of_steps name capacity rest (inr (inr equals)) =
@@ -87,7 +88,7 @@ work_of replaying = Replay
 work_of debugging = Debug
 
 abbrev wanted_of : OnFiles → (file schedule : Text) → Capacity → Wanted
-wanted_of command file schedule capacity = two_inputs (Machine (work_of command) capacity) (File file) (File schedule)
+wanted_of command file schedule capacity = two_inputs (Alone (Machine (work_of command) capacity)) (File file) (File schedule)
 
 module _ (name file schedule : Text) (f : IsWord file) (s : IsWord schedule) where
   on_files : (command : OnFiles) → job_said (name ∷ command_of command ∷ file ∷ schedule ∷ []) ≡ Some (wanted_of command file schedule Four)
@@ -141,18 +142,19 @@ module _ (name file schedule : Text) (f : IsWord file) (s : IsWord schedule) whe
 -- ---- each task
 
 spelled_of : (name : Text) (rest : List Text) (task : Task) (wanted : Wanted) → IsSpellingOf task wanted rest → job_said (name ∷ rest) ≡ Some wanted
-spelled_of name rest Asm wanted (is, wants) = ap (λ (words : List Text). job_said (name ∷ words)) is ∙ of_asm name ∙ ap (λ (w : Wanted). Some w) (sym wants)
-spelled_of name rest Dis wanted (is, wants) = ap (λ (words : List Text). job_said (name ∷ words)) is ∙ of_dis name ∙ ap (λ (w : Wanted). Some w) (sym wants)
-spelled_of name rest (Machine Steps capacity) wanted (options, is, asks, wants) =
+spelled_of name rest (Alone Asm) wanted (is, wants) = ap (λ (words : List Text). job_said (name ∷ words)) is ∙ of_asm name ∙ ap (λ (w : Wanted). Some w) (sym wants)
+spelled_of name rest (Alone Dis) wanted (is, wants) = ap (λ (words : List Text). job_said (name ∷ words)) is ∙ of_dis name ∙ ap (λ (w : Wanted). Some w) (sym wants)
+spelled_of name rest (Alone (Machine Steps capacity)) wanted (options, is, asks, wants) =
     ap (λ (words : List Text). job_said (name ∷ words)) is ∙ of_steps name capacity options asks ∙ ap (λ (w : Wanted). Some w) (sym wants)
-spelled_of name rest (Machine Run capacity) wanted (file, schedule, options, is, f, s, asks, wants) =
+spelled_of name rest (Alone (Machine Run capacity)) wanted (file, schedule, options, is, f, s, asks, wants) =
     ap (λ (words : List Text). job_said (name ∷ words)) is ∙ said_on_files name file schedule f s running capacity options asks ∙ ap (λ (w : Wanted). Some w) (sym wants)
-spelled_of name rest (Machine Replay capacity) wanted (file, schedule, options, is, f, s, asks, wants) =
+spelled_of name rest (Alone (Machine Replay capacity)) wanted (file, schedule, options, is, f, s, asks, wants) =
     ap (λ (words : List Text). job_said (name ∷ words)) is ∙ said_on_files name file schedule f s replaying capacity options asks ∙ ap (λ (w : Wanted). Some w) (sym wants)
-spelled_of name rest (Machine Debug capacity) wanted (file, schedule, options, is, f, s, asks, wants) =
+spelled_of name rest (Alone (Machine Debug capacity)) wanted (file, schedule, options, is, f, s, asks, wants) =
     ap (λ (words : List Text). job_said (name ∷ words)) is ∙ said_on_files name file schedule f s debugging capacity options asks ∙ ap (λ (w : Wanted). Some w) (sym wants)
-spelled_of name rest (Machine (Try seed runs events) capacity) wanted t = absurd t
-spelled_of name rest (Machine (Channel ring slots) capacity) wanted t = absurd t
+spelled_of name rest (Alone (Machine (Try seed runs events) capacity)) wanted t = absurd t
+spelled_of name rest (Alone (Machine (Channel ring slots) capacity)) wanted t = absurd t
+spelled_of name rest (Threads turns capacity) wanted t = absurd t
 
 pub job_said-spelling : (name : Text) (rest : List Text) (wanted : Wanted) → IsSpelling wanted rest
     → job_said (name ∷ rest) ≡ Some wanted

@@ -11,8 +11,9 @@ use Rattle.ztso.specs.declared.job.Job.{Job}
 use Rattle.ztso.specs.Descriptions.{ztso_command}
 use Rattle.ztso.specs.declared.job.Ring.{Ring}
 use Rattle.ztso.specs.declared.job.Ring.TheVariants.{Lamport}
+use Rattle.ztso.specs.declared.job.Errand.TheVariants.{Asm, Dis, Machine}
 use Rattle.ztso.specs.declared.job.Task.{Task}
-use Rattle.ztso.specs.declared.job.Task.TheVariants.{Asm, Dis, Machine}
+use Rattle.ztso.specs.declared.job.Task.TheVariants.{Alone, Threads}
 use Rattle.ztso.specs.declared.job.Work.{Work}
 use Rattle.ztso.specs.declared.job.Work.TheVariants.{Steps, Run, Replay, Debug, Try, Channel}
 use Rattle.ztso.specs.Jobs.{Input, Wanted, one_input, two_inputs, wanted_by}
@@ -62,7 +63,15 @@ abbrev pub machine_in : List Row → Option Work → Option Task
 machine_in options found = do
   work ← found
   capacity ← capacity_in options
-  Some (Machine work capacity)
+  Some (Alone (Machine work capacity))
+
+-- the run on threads, from its options
+abbrev pub threads_in : List Row → Option Task
+threads_in options = do
+  turns_text ← first_of (codes "turns") options
+  turns ← number_within 0 10000000 turns_text
+  capacity ← capacity_in options
+  Some (Threads turns capacity)
 
 -- the file that a word names
 abbrev pub file_in : (id : Text) → List Row → Option Input
@@ -102,13 +111,14 @@ on_standard found = do
 abbrev pub job_in : Text × List Row → Option Wanted
 job_in p =
     if bytes_eq p.0 (codes "steps") then on_standard (machine_in p.1 (Some Steps))
-    else (if bytes_eq p.0 (codes "asm") then on_standard (Some Asm)
-    else (if bytes_eq p.0 (codes "dis") then on_standard (Some Dis)
+    else (if bytes_eq p.0 (codes "asm") then on_standard (Some (Alone Asm))
+    else (if bytes_eq p.0 (codes "dis") then on_standard (Some (Alone Dis))
     else (if bytes_eq p.0 (codes "run") then on_file_and_schedule p.1 (machine_in p.1 (Some Run))
     else (if bytes_eq p.0 (codes "replay") then on_file_and_schedule p.1 (machine_in p.1 (Some Replay))
     else (if bytes_eq p.0 (codes "debug") then on_file_and_schedule p.1 (machine_in p.1 (Some Debug))
     else (if bytes_eq p.0 (codes "try") then on_file p.1 (machine_in p.1 (try_in p.1))
-    else (if bytes_eq p.0 (codes "channel") then on_schedule_and_standard p.1 (machine_in p.1 (channel_in p.1)) else None)))))))
+    else (if bytes_eq p.0 (codes "channel") then on_schedule_and_standard p.1 (machine_in p.1 (channel_in p.1))
+    else (if bytes_eq p.0 (codes "threads") then on_file p.1 (threads_in p.1) else None))))))))
 
 abbrev pub job_without : Kinds → Option (Text × List Row) → Option Wanted
 job_without [] found = option_and_then job_in found

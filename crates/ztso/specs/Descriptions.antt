@@ -3,13 +3,17 @@ use Rattle.std.specs.Prelude.{true, List, [], ◌∷◌, Some, codes}
 use Rattle.clap.specs.Words.{App, Rule, Text, new_app, new_rule, with_rule, with_subcommand}
 use Rattle.clap.specs.declared.builder.ArgAction.TheVariants.{Set}
 
+-- `--name VALUE`, and this value where it isn't given
+abbrev pub option_or : (name value : Text) → Rule
+option_or name value = record (new_rule name) {
+  long = Some name;
+  action = Some Set;
+  defaults = value ∷ [];
+}
+
 -- `--buffer B`, and 4 where it isn't said
 abbrev pub buffer_option : Rule
-buffer_option = record (new_rule (codes "buffer")) {
-  long = Some (codes "buffer");
-  action = Some Set;
-  defaults = codes "4" ∷ [];
-}
+buffer_option = option_or (codes "buffer") (codes "4")
 
 -- a word that has to stand in its place
 abbrev pub word_wanted : Text → Rule
@@ -51,10 +55,15 @@ channel_command =
     with_rule (with_rule (with_rule (with_rule (new_app (codes "channel")) (word_wanted (codes "kind")))
     (word_wanted (codes "ring"))) (word_wanted (codes "schedule"))) buffer_option
 
+-- `threads FILE [--turns T] [--buffer B]`
+abbrev pub threads_command : App
+threads_command =
+    with_rule (with_rule (with_rule (new_app (codes "threads")) (word_wanted (codes "file"))) (option_or (codes "turns") (codes "100000"))) buffer_option
+
 abbrev pub with_commands : App → List App → App
 with_commands app [] = app
 with_commands app (command ∷ commands) = with_commands (with_subcommand app command.top) commands
 
 abbrev pub ztso_command : App
 ztso_command = with_commands (new_app (codes "ztso"))
-    (steps_command ∷ asm_command ∷ dis_command ∷ schedule_command (codes "run") ∷ schedule_command (codes "replay") ∷ schedule_command (codes "debug") ∷ try_command ∷ channel_command ∷ [])
+    (steps_command ∷ asm_command ∷ dis_command ∷ schedule_command (codes "run") ∷ schedule_command (codes "replay") ∷ schedule_command (codes "debug") ∷ try_command ∷ channel_command ∷ threads_command ∷ [])

@@ -4,7 +4,8 @@ use Rattle.clap.specs.Words.{Text}
 use Rattle.ztso.specs.declared.job.Capacity.{Capacity}
 use Rattle.ztso.specs.declared.job.Capacity.TheVariants.{One, Two, Four, Sixteen}
 use Rattle.ztso.specs.declared.job.Task.{Task}
-use Rattle.ztso.specs.declared.job.Task.TheVariants.{Asm, Dis, Machine}
+use Rattle.ztso.specs.declared.job.Errand.TheVariants.{Asm, Dis, Machine}
+use Rattle.ztso.specs.declared.job.Task.TheVariants.{Alone, Threads}
 use Rattle.ztso.specs.declared.job.Work.{Work}
 use Rattle.ztso.specs.declared.job.Work.TheVariants.{Steps, Run, Replay, Debug, Try, Channel}
 use Rattle.ztso.specs.Jobs.{Wanted, one_input, two_inputs}
@@ -34,21 +35,22 @@ abbrev pub IsOnFiles : (command : Text) → Work → Capacity → Wanted → Lis
 IsOnFiles command work capacity wanted words =
     (file schedule : Text) × (options : List Text) × (words ≡ command ∷ file ∷ schedule ∷ options)
     × IsWord file × IsWord schedule × AsksFor capacity options
-    × (wanted ≡ two_inputs (Machine work capacity) (File file) (File schedule))
+    × (wanted ≡ two_inputs (Alone (Machine work capacity)) (File file) (File schedule))
 
 -- The words after the program's name that ask for this task, by the task: the table's rows. Options may
 -- also stand in other places, which isn't said here, and nothing is said of how `try` and `channel` are written.
 abbrev pub IsSpellingOf : Task → Wanted → List Text → Type 0
-IsSpellingOf Asm wanted words = (words ≡ codes "asm" ∷ []) × (wanted ≡ one_input Asm Standard)
-IsSpellingOf Dis wanted words = (words ≡ codes "dis" ∷ []) × (wanted ≡ one_input Dis Standard)
-IsSpellingOf (Machine Steps capacity) wanted words =
+IsSpellingOf (Alone Asm) wanted words = (words ≡ codes "asm" ∷ []) × (wanted ≡ one_input (Alone Asm) Standard)
+IsSpellingOf (Alone Dis) wanted words = (words ≡ codes "dis" ∷ []) × (wanted ≡ one_input (Alone Dis) Standard)
+IsSpellingOf (Alone (Machine Steps capacity)) wanted words =
     (options : List Text) × (words ≡ codes "steps" ∷ options) × AsksFor capacity options
-    × (wanted ≡ one_input (Machine Steps capacity) Standard)
-IsSpellingOf (Machine Run capacity) wanted words = IsOnFiles (codes "run") Run capacity wanted words
-IsSpellingOf (Machine Replay capacity) wanted words = IsOnFiles (codes "replay") Replay capacity wanted words
-IsSpellingOf (Machine Debug capacity) wanted words = IsOnFiles (codes "debug") Debug capacity wanted words
-IsSpellingOf (Machine (Try seed runs events) capacity) wanted words = ⊥
-IsSpellingOf (Machine (Channel ring slots) capacity) wanted words = ⊥
+    × (wanted ≡ one_input (Alone (Machine Steps capacity)) Standard)
+IsSpellingOf (Alone (Machine Run capacity)) wanted words = IsOnFiles (codes "run") Run capacity wanted words
+IsSpellingOf (Alone (Machine Replay capacity)) wanted words = IsOnFiles (codes "replay") Replay capacity wanted words
+IsSpellingOf (Alone (Machine Debug capacity)) wanted words = IsOnFiles (codes "debug") Debug capacity wanted words
+IsSpellingOf (Alone (Machine (Try seed runs events) capacity)) wanted words = ⊥
+IsSpellingOf (Alone (Machine (Channel ring slots) capacity)) wanted words = ⊥
+IsSpellingOf (Threads turns capacity) wanted words = ⊥
 
 abbrev pub IsSpelling : Wanted → List Text → Type 0
 IsSpelling wanted words = IsSpellingOf wanted.task wanted words

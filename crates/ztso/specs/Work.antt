@@ -19,14 +19,15 @@ use Rattle.ztso_engines.specs.Talks.{EndsAloud, IsDebugAnswer}
 use Rattle.ztso_engines.specs.Outcomes.{IsTryAnswer}
 use Rattle.ztso_engines.specs.Schedules.{HasNoSchedule}
 use Rattle.ztso_engines.specs.Channels.{IsChannelAnswer}
+use Rattle.ztso_engines.specs.Threads.{IsThreadsAnswer}
 use Rattle.poll_close.specs.Laws.{Ring as RingTables}
 use Rattle.lamport_ring.specs.Lamport.{lamport}
 use Rattle.ztso.specs.declared.job.Capacity.{Capacity}
 use Rattle.ztso.specs.declared.job.Capacity.TheVariants.{One, Two, Four, Sixteen}
 use Rattle.ztso.specs.declared.job.Ring.{Ring}
 use Rattle.ztso.specs.declared.job.Ring.TheVariants.{Lamport}
-use Rattle.ztso.specs.declared.job.Task.{Task}
-use Rattle.ztso.specs.declared.job.Task.TheVariants.{Asm, Dis, Machine}
+use Rattle.ztso.specs.declared.job.Errand.{Errand}
+use Rattle.ztso.specs.declared.job.Errand.TheVariants.{Asm, Dis, Machine}
 use Rattle.ztso.specs.declared.job.Work.{Work}
 use Rattle.ztso.specs.declared.job.Work.TheVariants.{Steps, Run, Replay, Debug, Try, Channel}
 
@@ -64,7 +65,7 @@ abbrev pub ended_with : {V : Type 0} → (V → ℕ) → Result V Fault → Resu
 ended_with status (Ok value) = Ok (status value)
 ended_with status (Err fault) = Err fault
 
--- ---- what answers a task's inputs: an output and the exit status, or a refusal
+-- ---- what answers the inputs: an output and the exit status, or a refusal
 
 -- what the readers of the inputs tell, in the order in which they are read, and what a user's commands
 -- tell
@@ -108,10 +109,14 @@ DoesWork B Debug result given contents old new = EndsAloud (IsAnswerOf B Debug g
 DoesWork B (Try seed runs size) result given contents old new = Ends (IsAnswerOf B (Try seed runs size) given) result contents old new
 DoesWork B (Channel ring slots) result given contents old new = Ends (IsAnswerOf B (Channel ring slots) given) result contents old new
 
-abbrev pub DoesJob : {W : Type 0} → Task → Result ℕ Fault → Given → (contents : W → Option (List ℕ)) → (old new : W) → Type 0
-DoesJob Asm result given contents old new = Ends (ToldBy done_status IsAsmAnswer given) result contents old new
-DoesJob Dis result given contents old new = Ends (ToldBy done_status IsDisAnswer given) result contents old new
-DoesJob (Machine work capacity) result given contents old new = DoesWork (stores_of capacity) work result given contents old new
+abbrev pub DoesErrand : {W : Type 0} → Errand → Result ℕ Fault → Given → (contents : W → Option (List ℕ)) → (old new : W) → Type 0
+DoesErrand Asm result given contents old new = Ends (ToldBy done_status IsAsmAnswer given) result contents old new
+DoesErrand Dis result given contents old new = Ends (ToldBy done_status IsDisAnswer given) result contents old new
+DoesErrand (Machine work capacity) result given contents old new = DoesWork (stores_of capacity) work result given contents old new
+
+-- the same of a run of a litmus test on threads, with buffers of this capacity, by the file that was read
+abbrev pub DoesThreads : {W : Type 0} → Capacity → Result ℕ Fault → (file : Option (List ℕ)) → (contents : W → Option (List ℕ)) → (old new : W) → Type 0
+DoesThreads capacity result file contents old new = Ends (Told verdict_status (λ answer. OfInput file (λ bytes. IsThreadsAnswer (stores_of capacity) 4096 bytes answer))) result contents old new
 
 -- ---- what is left unread
 
@@ -125,7 +130,7 @@ LeavesSecondOf Debug first = HasNoTest first
 LeavesSecondOf (Try seed runs size) first = Unit {0}
 LeavesSecondOf (Channel ring slots) first = HasNoSchedule first
 
-abbrev pub LeavesSecond : Task → (first : Option (List ℕ)) → Type 0
+abbrev pub LeavesSecond : Errand → (first : Option (List ℕ)) → Type 0
 LeavesSecond Asm first = Unit {0}
 LeavesSecond Dis first = Unit {0}
 LeavesSecond (Machine work capacity) first = LeavesSecondOf work first

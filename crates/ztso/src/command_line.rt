@@ -2,13 +2,13 @@
 
 ghost use Rattle.std.specs.Prelude.{◌≡◌, ◌∷◌, ℕ, List, IfOk, map, option_and_then, option_map};
 ghost use Rattle.clap.specs.Words.{FailsBy, fault_of, first_of, found_of, rows_of, subcommand_of, subcommand_rows_of};
-ghost use Rattle.ztso.specs.CommandLines.{Answers, capacity_said, job_in, channel_in, job_said, machine_in, on_file, on_file_and_schedule, on_schedule_and_standard, on_standard, ring_said, try_in};
+ghost use Rattle.ztso.specs.CommandLines.{Answers, capacity_said, job_in, channel_in, job_said, machine_in, on_file, on_file_and_schedule, on_schedule_and_standard, on_standard, ring_said, threads_in, try_in};
 ghost use Rattle.ztso.specs.Descriptions.{ztso_command};
 ghost use Rattle.ztso.specs.Spellings.{IsSpelling};
 ghost use Rattle.ztso.specs.Jobs.{Wanted, wanted_by};
 
 use crate::failure::Failure;
-use crate::job::{Capacity, Input, Job, Ring, Task, Work};
+use crate::job::{Capacity, Errand, Input, Job, Ring, Task, Work};
 use clap::ArgMatches;
 use description::ztso_command;
 use numbers::{count_of, seed_of};
@@ -23,6 +23,9 @@ const MOST_RUNS: u32 = 100_000;
 
 /// The most events of a schedule that `try` draws.
 const MOST_EVENTS: u32 = 1_048_576;
+
+/// The most calls that a thread of `threads` makes.
+const MOST_TURNS: u32 = 10_000_000;
 
 /// The job that the words ask for, the first of which is the program's name.
 ///
@@ -54,8 +57,8 @@ fn job_in<'a>(matches: &ArgMatches<'a>) -> Option<Job<'a>>
 {
     match matches.subcommand()? {
         ("steps", options) => on_standard(machine_in(options, Some(Work::Steps))),
-        ("asm", _) => on_standard(Some(Task::Asm)),
-        ("dis", _) => on_standard(Some(Task::Dis)),
+        ("asm", _) => on_standard(Some(Task::Alone(Errand::Asm))),
+        ("dis", _) => on_standard(Some(Task::Alone(Errand::Dis))),
         ("run", options) => on_file_and_schedule(options, machine_in(options, Some(Work::Run))),
         ("replay", options) => {
             on_file_and_schedule(options, machine_in(options, Some(Work::Replay)))
@@ -65,6 +68,7 @@ fn job_in<'a>(matches: &ArgMatches<'a>) -> Option<Job<'a>>
         ("channel", options) => {
             on_schedule_and_standard(options, machine_in(options, channel_in(options)))
         }
+        ("threads", options) => on_file(options, threads_in(options)),
         _ => None,
     }
 }
@@ -127,7 +131,16 @@ fn machine_in(options: &ArgMatches<'_>, work: Option<Work>) -> Option<Task>
 {
     let work = work?;
     let capacity = capacity_of(word_in(options, "buffer")?)?;
-    Some(Task::Machine { work, capacity })
+    Some(Task::Alone(Errand::Machine { work, capacity }))
+}
+
+/// The run on threads that `threads` is to make.
+fn threads_in(options: &ArgMatches<'_>) -> Option<Task>
+    ensures { result ≡ threads_in (rows_of (found_of options.now)) }
+{
+    let turns = count_of(word_in(options, "turns")?, 0, MOST_TURNS)?;
+    let capacity = capacity_of(word_in(options, "buffer")?)?;
+    Some(Task::Threads { turns, capacity })
 }
 
 /// The runs that `try` is to make.

@@ -40,15 +40,25 @@ pub enum Work {
     Channel { ring: Ring, slots: u32 },
 }
 
-/// What is to be done.
+/// What one thread does, which waits for no other.
 #[derive(Clone, Copy, Debug, PartialEq, Eq)]
-pub enum Task {
+pub enum Errand {
     /// To make words of assembly.
     Asm,
     /// To name the instructions of words.
     Dis,
     /// To work with a machine whose harts have buffers of this capacity.
     Machine { work: Work, capacity: Capacity },
+}
+
+/// What is to be done.
+#[derive(Clone, Copy, Debug, PartialEq, Eq)]
+pub enum Task {
+    /// An errand of the program's own thread.
+    Alone(Errand),
+    /// To run a litmus test with a thread for each hart and each lander, each of which makes at most
+    /// `turns` calls. The harts have buffers of this capacity.
+    Threads { turns: u32, capacity: Capacity },
 }
 
 /// What a command line asks for: a task, and its inputs in the order in which they are read.

@@ -1,9 +1,10 @@
 //! The program `ztso`: its command line, and the streams and files for the engine that a job wants.
 //!
-//! The contract: [`command_line::job_of`] says which words ask for which job, [`work::do_job`] which engine
-//! does it with what capacity and with which exit status, and [`failure::Failure`] the exit status of each
-//! failure. This crate knows no text, no instruction and no machine, waits for nothing and starts no
-//! thread.
+//! The contract: [`command_line::job_of`] says which words ask for which job, [`work::do_errand`] and
+//! [`work::do_threads`] which engine does it with what capacity and with which exit status, and
+//! [`failure::Failure`] the exit status of each failure. This crate knows no text, no instruction and no
+//! machine. Only the command `threads` starts threads and waits for them: [`work::do_threads`] does, and
+//! nothing that another job calls can.
 
 #![tactic(auto)]
 
@@ -16,13 +17,16 @@ mod work;
 
 use command_line::job_of;
 use failure::Failure;
+use job::Task;
 use late_input::LateInput;
 use prompting::Prompting;
 use std::io::IsTerminal;
 use std::process::ExitCode;
 use std::rt::{Env, Files};
+use std::sync::Wait;
+use std::thread::Threads;
 use std::{env, io};
-use work::do_job;
+use work::{do_errand, do_threads};
 
 fn main(rt: HostRuntime) -> ExitCode {
     match run(&rt) {
@@ -34,21 +38,30 @@ fn main(rt: HostRuntime) -> ExitCode {
     }
 }
 
-/// Does the job that the command line asks for, and answers the exit status.
-fn run<R: Env + Files + Input + Print + Eprint + AllocGlobal>(rt: &R) -> Result<u8, Failure>
+/// Does the job that the command line asks for, and answers the exit status. It may wait where that job
+/// runs on threads.
+fn run<R>(rt: &R) -> Result<u8, Failure>
 where
+    R: Env + Files + Input + Print + Eprint + AllocGlobal + Threads + Wait + Sync,
     R::Reader: IsTerminal,
 {
     let arguments = env::args(rt).map_err(Failure::of_arguments)?;
     let words: Vec<String> = arguments.collect(rt.alloc())?;
     let job = job_of(rt.alloc(), &words)?;
-    let status = do_job(
-        rt.alloc(),
-        job.task,
-        &mut LateInput::new(rt, Some(job.first)),
-        &mut LateInput::new(rt, job.second),
-        &mut Prompting::new(rt),
-        &mut io::writer(rt),
-    )?;
+    let mut first = LateInput::new(rt, Some(job.first));
+    let mut writer = io::writer(rt);
+    let status = match job.task {
+        Task::Alone(errand) => do_errand(
+            rt.alloc(),
+            errand,
+            &mut first,
+            &mut LateInput::new(rt, job.second),
+            &mut Prompting::new(rt),
+            &mut writer,
+        )?,
+        Task::Threads { turns, capacity } => {
+            do_threads(rt, rt.alloc(), turns, capacity, &mut first, &mut writer)?
+        }
+    };
     Ok(status)
 }

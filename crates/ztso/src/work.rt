@@ -1,21 +1,24 @@
 //! Which engine does a job.
 
 ghost use Rattle.std.specs.Prelude.{◌≡◌, ◌≤◌};
-ghost use Rattle.ztso.specs.Work.{DoesJob, DoesWork, Given, LeavesSecond, LeavesSecondOf, done_status, drawn_from, ended_with, tables_of, tried_status, verdict_status};
+ghost use Rattle.ztso.specs.Work.{DoesErrand, DoesThreads, DoesWork, Given, LeavesSecond, LeavesSecondOf, Told, done_status, drawn_from, ended_with, tables_of, tried_status, verdict_status};
 ghost use Rattle.ztso_engines.specs.Channels.{IsChannelAnswer};
-ghost use Rattle.ztso_engines.specs.Engines.{AnswersBoth, EndsBy, EndsByBoth};
+ghost use Rattle.ztso_engines.specs.Engines.{AnswersBoth, Ends, EndsBy, EndsByBoth, OfInput};
 ghost use Rattle.ztso_engines.specs.Schedules.{HasNoSchedule};
 ghost use Rattle.ztso_engines.specs.Talks.{EndsAloud, IsDebugAnswer};
 ghost use Rattle.ztso_engines.specs.Tests.{HasNoTest};
 ghost use Rattle.ztso_engines.specs.Outcomes.{IsTryAnswer};
+ghost use Rattle.ztso_engines.specs.Threads.{IsThreadsAnswer};
 
-use crate::job::{Capacity, Ring, Task, Work};
+use crate::job::{Capacity, Errand, Ring, Work};
 use lamport_ring::Lamport;
 use litmus::Verdict;
 use rand_core::SeedableRng;
 use rand_pcg::Lcg64Xsh32;
 use std::alloc::Global;
 use std::io::{BufReader, Read, Write};
+use std::sync::Wait;
+use std::thread::Threads;
 use ztso_engines::asm::asm_engine;
 use ztso_engines::channel::channel_engine;
 use ztso_engines::debug::debug_engine;
@@ -24,6 +27,7 @@ use ztso_engines::fault::Fault;
 use ztso_engines::replay::replay_engine;
 use ztso_engines::run::run_engine;
 use ztso_engines::steps::steps_engine;
+use ztso_engines::threads::threads_engine;
 use ztso_engines::trials::try_engine;
 
 /// The words of the program's memory.
@@ -141,28 +145,28 @@ fn do_work<const B: usize, F: Read, S: Read, C: Read, W: Write>(
     }
 }
 
-/// Does the task: reads its inputs, and then writes what it answers. It answers the exit status: 0, but 1
+/// Does the errand: reads its inputs, and then writes what it answers. It answers the exit status: 0, but 1
 /// where the verdict is that the test fails or is unfinished, or the runs that were tried don't show what
 /// the test asks.
 ///
-/// `first` is what the job reads first, and `second` what it reads behind that, if it has two inputs and
+/// `first` is what the errand reads first, and `second` what it reads behind that, if it has two inputs and
 /// the first one was accepted. `commands` is what a user types to the debugger, which writes as it reads.
 #[tactic(auto, using(crate::proofs::Endings::ends_told))]
-pub fn do_job<F: Read, S: Read, C: Read, W: Write>(
+pub fn do_errand<F: Read, S: Read, C: Read, W: Write>(
     alloc: Global,
-    task: Task,
+    errand: Errand,
     first: &mut F,
     second: &mut S,
     commands: &mut C,
     writer: &mut W,
 ) -> Result<u8, Fault>
-    ensures does { DoesJob task result (record { first = F.remaining first.old; second = S.remaining second.old; commands = C.remaining commands.old }) W.contents writer.old writer.new }
-    ensures unread { LeavesSecond task (F.remaining first.old) → second.new ≡ second.old }
+    ensures does { DoesErrand errand result (record { first = F.remaining first.old; second = S.remaining second.old; commands = C.remaining commands.old }) W.contents writer.old writer.new }
+    ensures unread { LeavesSecond errand (F.remaining first.old) → second.new ≡ second.old }
 {
-    match task {
-        Task::Asm => after(asm_engine(alloc, first, writer)),
-        Task::Dis => after(dis_engine(alloc, first, writer)),
-        Task::Machine { work, capacity } => match capacity {
+    match errand {
+        Errand::Asm => after(asm_engine(alloc, first, writer)),
+        Errand::Dis => after(dis_engine(alloc, first, writer)),
+        Errand::Machine { work, capacity } => match capacity {
             Capacity::One => do_work::<1, _, _, _, _>(alloc, work, first, second, commands, writer),
             Capacity::Two => do_work::<2, _, _, _, _>(alloc, work, first, second, commands, writer),
             Capacity::Four => do_work::<4, _, _, _, _>(
@@ -173,4 +177,41 @@ pub fn do_job<F: Read, S: Read, C: Read, W: Write>(
             ),
         },
     }
+}
+
+/// Runs a litmus test with a thread for each hart and each lander: reads it, writes the schedule, the
+/// state text and the verdict of one run, and answers the exit status, which is 0 where the verdict is
+/// that the test holds, else 1. It may wait, for the lock and for the threads.
+pub fn do_threads<F: Read, W: Write, T: Threads + Wait + Sync>(
+    rt: &T,
+    alloc: Global,
+    turns: u32,
+    capacity: Capacity,
+    file: &mut F,
+    writer: &mut W,
+) -> Result<u8, Fault>
+    ensures { DoesThreads capacity result (F.remaining file.old) W.contents writer.old writer.new }
+{
+    match capacity {
+        Capacity::One => run_threads::<1, _, _, _>(rt, alloc, turns, file, writer),
+        Capacity::Two => run_threads::<2, _, _, _>(rt, alloc, turns, file, writer),
+        Capacity::Four => run_threads::<4, _, _, _>(rt, alloc, turns, file, writer),
+        Capacity::Sixteen => run_threads::<16, _, _, _>(rt, alloc, turns, file, writer),
+    }
+}
+
+/// Runs a litmus test on threads, with buffers of `B` stores.
+#[tactic(auto, using(crate::proofs::Endings::ends_told))]
+fn run_threads<const B: usize, F: Read, W: Write, T: Threads + Wait + Sync>(
+    rt: &T,
+    alloc: Global,
+    turns: u32,
+    file: &mut F,
+    writer: &mut W,
+) -> Result<u8, Fault>
+    requires some_capacity { 1 ≤ B }
+    requires capacity { B ≤ 64 }
+    ensures { Ends (Told verdict_status (λ answer. OfInput (F.remaining file.old) (λ bytes. IsThreadsAnswer B 4096 bytes answer))) result W.contents writer.old writer.new }
+{
+    after_run(threads_engine::<B, WORDS, _, _, _>(rt, alloc, file, turns, writer))
 }

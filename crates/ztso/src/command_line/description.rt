@@ -3,19 +3,27 @@
 ghost use Rattle.std.specs.Prelude.{◌≡◌, false, IfOk};
 ghost use Rattle.clap.specs.Words.{app_of, rule_of};
 ghost use Rattle.clap.specs.declared.builder.command.Command.TheViews.{out-Command as fields_of};
-ghost use Rattle.ztso.specs.Descriptions.{buffer_option, option_wanted, channel_command, schedule_command, steps_command, try_command, word_wanted, ztso_command};
+ghost use Rattle.ztso.specs.Descriptions.{buffer_option, channel_command, option_or, option_wanted, schedule_command, steps_command, threads_command, try_command, word_wanted, ztso_command};
 
 use clap::{Arg, ArgAction, Command};
 use std::alloc::{AllocError, Global};
+
+/// `--name` with a value, and this one where it isn't given.
+fn option_or<'a>(alloc: Global, name: &'a str, value: &'a str) -> Arg<'a>
+    ensures rule { rule_of result ≡ option_or name.entry.now value.entry.now }
+    ensures local { result.global ≡ false }
+{
+    Arg::new(alloc, name)
+        .long(name)
+        .action(ArgAction::Set)
+        .default_value(value)
+}
 
 fn buffer_option<'a>(alloc: Global) -> Arg<'a>
     ensures rule { rule_of result ≡ buffer_option }
     ensures local { result.global ≡ false }
 {
-    Arg::new(alloc, "buffer")
-        .long("buffer")
-        .action(ArgAction::Set)
-        .default_value("4")
+    option_or(alloc, "buffer", "4")
 }
 
 /// A word that has to stand in its place.
@@ -75,6 +83,15 @@ fn channel_command<'a>(alloc: Global) -> Result<Command<'a>, AllocError>
     with_schedule.arg(buffer_option(alloc))
 }
 
+fn threads_command<'a>(alloc: Global) -> Result<Command<'a>, AllocError>
+    ensures shape { IfOk result (λ command. app_of command ≡ threads_command) }
+    ensures local { IfOk result (λ command. (fields_of command).has_globals ≡ false) }
+{
+    let with_file = Command::new(alloc, "threads").arg(word_wanted(alloc, "file"))?;
+    let with_turns = with_file.arg(option_or(alloc, "turns", "100000"))?;
+    with_turns.arg(buffer_option(alloc))
+}
+
 /// The whole command line.
 pub fn ztso_command<'a>(alloc: Global) -> Result<Command<'a>, AllocError>
     ensures { IfOk result (λ command. app_of command ≡ ztso_command) }
@@ -87,6 +104,7 @@ pub fn ztso_command<'a>(alloc: Global) -> Result<Command<'a>, AllocError>
     let debug = schedule_command(alloc, "debug")?;
     let trying = try_command(alloc)?;
     let channel = channel_command(alloc)?;
+    let threads = threads_command(alloc)?;
     let with_steps = Command::new(alloc, "ztso").subcommand(steps)?;
     let with_asm = with_steps.subcommand(asm)?;
     let with_dis = with_asm.subcommand(dis)?;
@@ -94,5 +112,6 @@ pub fn ztso_command<'a>(alloc: Global) -> Result<Command<'a>, AllocError>
     let with_replay = with_run.subcommand(replay)?;
     let with_debug = with_replay.subcommand(debug)?;
     let with_try = with_debug.subcommand(trying)?;
-    with_try.subcommand(channel)
+    let with_channel = with_try.subcommand(channel)?;
+    with_channel.subcommand(threads)
 }

@@ -13,6 +13,7 @@ returns c =
     let with_replay = c.in_ok-with_replay.ensures.shape c.in_ok-replay.ensures.local ∙ ap₂ with_subcommand with_run (ap top c.in_ok-replay.ensures.shape) in
     let with_debug = c.in_ok-with_debug.ensures.shape c.in_ok-debug.ensures.local ∙ ap₂ with_subcommand with_replay (ap top c.in_ok-debug.ensures.shape) in
     let with_try = c.in_ok-with_try.ensures.shape c.in_ok-trying.ensures.local ∙ ap₂ with_subcommand with_debug (ap top c.in_ok-trying.ensures.shape) in
-    IfOk-weaker c.subcommand-8.result _ _
-    (λ command added. added.shape c.in_ok-channel.ensures.local ∙ ap₂ with_subcommand with_try (ap top c.in_ok-channel.ensures.shape))
-    c.subcommand-8.ensures
+    let with_channel = c.in_ok-with_channel.ensures.shape c.in_ok-channel.ensures.local ∙ ap₂ with_subcommand with_try (ap top c.in_ok-channel.ensures.shape) in
+    IfOk-weaker c.subcommand-9.result _ _
+    (λ command added. added.shape c.in_ok-threads.ensures.local ∙ ap₂ with_subcommand with_channel (ap top c.in_ok-threads.ensures.shape))
+    c.subcommand-9.ensures

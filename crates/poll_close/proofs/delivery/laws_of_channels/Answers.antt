@@ -1,0 +1,11 @@
+-- The meaning holds at the opening, and each event keeps it.
+use Rattle.std.proofs.Common.{refl}
+use Rattle.poll_close.proofs.Delivering.{delivers, channel-fits}
+use Rattle.poll_close.proofs.delivery.laws_of_channels.Goals as goal
+
+pub returns-clause-fits : goal.returns-clause-fits
+returns-clause-fits g c = λ M lists S accepted. channel-fits g.K.RingKind.ring M lists S _ c.laws.ensures.short accepted refl
+
+pub returns-clause-clean : goal.returns-clause-clean
+returns-clause-clean g c = λ B M lists S evs t accepted run.
+    (delivers g.K.RingKind.ring g.K.RingKind.meaning B M lists S evs t _ _ c.laws.ensures.opens c.laws.ensures.keeps c.laws.ensures.cleans accepted refl run refl).clean
