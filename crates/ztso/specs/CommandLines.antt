@@ -10,7 +10,7 @@ use Rattle.ztso.specs.declared.job.Capacity.TheVariants.{One, Two, Four, Sixteen
 use Rattle.ztso.specs.declared.job.Job.{Job}
 use Rattle.ztso.specs.Descriptions.{ztso_command}
 use Rattle.ztso.specs.declared.job.Ring.{Ring}
-use Rattle.ztso.specs.declared.job.Ring.TheVariants.{Lamport}
+use Rattle.ztso.specs.declared.job.Ring.TheVariants.{Lamport, FastForward}
 use Rattle.ztso.specs.declared.job.Errand.TheVariants.{Asm, Dis, Machine}
 use Rattle.ztso.specs.declared.job.Task.{Task}
 use Rattle.ztso.specs.declared.job.Task.TheVariants.{Alone, Threads}
@@ -43,7 +43,9 @@ try_in options = do
   Some (Try seed runs events)
 
 abbrev pub ring_said : Text → Option Ring
-ring_said text = if bytes_eq text (codes "lamport") then Some Lamport else None
+ring_said text =
+    if bytes_eq text (codes "lamport") then Some Lamport
+    else (if bytes_eq text (codes "fastforward") then Some FastForward else None)
 
 -- the ring of `channel`, from its words
 abbrev pub channel_in : List Row → Option Work

@@ -22,10 +22,11 @@ use Rattle.ztso_engines.specs.Channels.{IsChannelAnswer}
 use Rattle.ztso_engines.specs.Threads.{IsThreadsAnswer}
 use Rattle.poll_close.specs.Laws.{Ring as RingTables}
 use Rattle.lamport_ring.specs.Lamport.{lamport}
+use Rattle.fastforward.specs.FastForward.{fastforward}
 use Rattle.ztso.specs.declared.job.Capacity.{Capacity}
 use Rattle.ztso.specs.declared.job.Capacity.TheVariants.{One, Two, Four, Sixteen}
 use Rattle.ztso.specs.declared.job.Ring.{Ring}
-use Rattle.ztso.specs.declared.job.Ring.TheVariants.{Lamport}
+use Rattle.ztso.specs.declared.job.Ring.TheVariants.{Lamport, FastForward}
 use Rattle.ztso.specs.declared.job.Errand.{Errand}
 use Rattle.ztso.specs.declared.job.Errand.TheVariants.{Asm, Dis, Machine}
 use Rattle.ztso.specs.declared.job.Work.{Work}
@@ -45,6 +46,7 @@ drawn_from seed = stream_of (steps_u32 pcg32) (pcg32_of_seed (pcg32_seed 16 seed
 -- the tables and the least size of the rings of a kind
 abbrev pub tables_of : Ring → RingTables
 tables_of Lamport = lamport
+tables_of FastForward = fastforward
 
 -- ---- exit statuses of a job that was done
 

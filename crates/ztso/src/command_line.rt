@@ -167,6 +167,7 @@ fn ring_of(text: &str) -> Option<Ring>
 {
     match text {
         "lamport" => Some(Ring::Lamport),
+        "fastforward" => Some(Ring::FastForward),
         _ => None,
     }
 }

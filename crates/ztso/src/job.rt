@@ -21,6 +21,7 @@ pub enum Input<'a> {
 #[derive(Clone, Copy, Debug, PartialEq, Eq)]
 pub enum Ring {
     Lamport,
+    FastForward,
 }
 
 /// What is done with a machine.

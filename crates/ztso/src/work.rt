@@ -11,6 +11,7 @@ ghost use Rattle.ztso_engines.specs.Outcomes.{IsTryAnswer};
 ghost use Rattle.ztso_engines.specs.Threads.{IsThreadsAnswer};
 
 use crate::job::{Capacity, Errand, Ring, Work};
+use fastforward::FastForward;
 use lamport_ring::Lamport;
 use litmus::Verdict;
 use rand_core::SeedableRng;
@@ -112,6 +113,9 @@ fn run_channel<const B: usize, S: Read, L: Read, W: Write>(
     match ring {
         Ring::Lamport => {
             channel_engine::<Lamport, B, WORDS, _, _, _>(alloc, slots, schedule, lists, writer)
+        }
+        Ring::FastForward => {
+            channel_engine::<FastForward, B, WORDS, _, _, _>(alloc, slots, schedule, lists, writer)
         }
     }
 }
