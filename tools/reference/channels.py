@@ -11,8 +11,8 @@ from machine import MEMORY, Machine
 
 PAGE = Path(__file__).resolve().parent.parent.parent / "docs/channels.md"
 LINE, ZERO_WORD, NO_SENDERS, TOO_MANY, TOO_SMALL, NO_ROOM = 34, 16, 17, 18, 19, 20
-HEADING = {"lamport": "## Lamport's ring"}
-LEAST = {"lamport": 2}
+HEADING = {"lamport": "## Lamport's ring", "fastforward": "## FastForward"}
+LEAST = {"lamport": 2, "fastforward": 1}
 SENDERS = 63
 
 
@@ -30,15 +30,19 @@ def lists(text):
     return told
 
 
-def listings(kind):
-    """The sender's instructions and the receiver's."""
+def tables(kind):
+    """The page's lines for the sender and for the receiver, by their places."""
     section = PAGE.read_text().split(f"{HEADING[kind]}\n")[1].split("\n## ")[0]
-    programs = []
-    for place, text in re.findall(r"^\| ([0-9A-F]{2}) \| `([^`]*)`", section, re.MULTILINE):
-        if place == "00":
-            programs.append([])
-        programs[-1].append(text)
-    return [assembled(program) for program in programs]
+    told = [re.findall(r"^\| ([0-9A-F]{2}) \| `([^`]*)`", part, re.MULTILINE) for part in section.split("\n\n")]
+    sender, receiver = (dict(lines) for lines in told if lines)
+    return sender, receiver
+
+
+def listings(kind):
+    """The sender's instructions and the receiver's. All receivers are Lamport's but for lines of their own."""
+    sender, own = tables(kind)
+    receiver = tables("lamport")[1] | own
+    return [assembled(program.values()) for program in (sender, receiver)]
 
 
 def assembled(program):
