@@ -16,10 +16,9 @@ ghost use Rattle.litmus_reader.specs.Locations.{HasLocation, HasNames};
 ghost use Rattle.litmus_reader.specs.Condition.{Quantified, quantified_of, quantifier_in, place_met, atom_met, token_met, WordHasNames, as_condition, words_told, condition_in, condition_of};
 
 use crate::faults::LitmusFault;
-use crate::gaps::left_of;
 use crate::locations::Locations;
 use crate::marks::{Mark, cut_at_line};
-use crate::refusals::Refusal;
+use crate::refusals::{Refusal, left_of};
 use crate::settings::{address_of, value_of};
 use litmus::{Condition, ConditionDraft, ConditionError, Place, Quantifier, Token};
 use litmus_words::{Front, Setting, Spot, Word, first_word};

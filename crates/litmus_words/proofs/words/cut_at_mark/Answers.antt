@@ -1,9 +1,8 @@
 use Rattle.std.proofs.Common.{length, sym, ◌∙◌}
 use Rattle.std.proofs.Math.Seq.{drop-length}
 use Rattle.std.proofs.lemmas.List.{take_rest}
-use Rattle.texts.proofs.CuttingLaws.{before_found, before_missing}
+use Rattle.texts.proofs.CuttingLaws.{before_found, before_missing, from_found, from_missing}
 use Rattle.litmus_words.specs.Words.{is_mark}
-use Rattle.litmus_words.proofs.CoreLaws.{from_found, from_missing}
 use Rattle.litmus_words.proofs.words.cut_at_mark.Goals as goal
 
 pub returns-in-Some-clause-front : goal.returns-in-Some-clause-front
