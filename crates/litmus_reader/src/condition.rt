@@ -133,6 +133,7 @@ fn push(draft: &mut ConditionDraft, token: Token, left: usize) -> Result<(), Ref
 }
 
 /// The words of a text, behind which so many bytes stand.
+#[tactic(auto, using(crate::proofs::NameLaws::word_named))]
 fn read_words(
     alloc: Global,
     text: &[u8],
@@ -207,6 +208,7 @@ fn question_in(
 
 /// The condition in this text, which goes to the end of the whole text. Its new locations join the
 /// others, and it asks for places that are there.
+#[tactic(auto, using(crate::proofs::ThereLaws::answered_there, crate::proofs::ThereLaws::answered_more))]
 pub fn read_condition(
     alloc: Global,
     text: &[u8],

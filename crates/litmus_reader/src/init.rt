@@ -12,10 +12,10 @@ use crate::locations::Locations;
 use crate::refusals::{Refusal, left_of};
 use crate::settings::value_of;
 use litmus_words::{Spot, item_in};
-use texts::cutting::is_all;
-use texts::{Separators, first_piece};
 use rv_decode::Reg;
 use std::alloc::Global;
+use texts::cutting::is_all;
+use texts::{Separators, first_piece};
 
 /// Where an item puts its value.
 #[derive(Clone, Copy)]

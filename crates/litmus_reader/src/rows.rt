@@ -11,8 +11,8 @@ ghost use Rattle.litmus_reader.specs.Rows.{is_blank_line, row_in, cells_of, name
 use crate::faults::LitmusFault;
 use crate::refusals::Refusal;
 use std::alloc::{AllocError, Global};
-use texts::{Separators, first_piece};
 use texts::cutting::{cut_at, trimmed, without_front};
+use texts::{Separators, first_piece};
 
 /// How many harts a test may have.
 pub const MAX_HARTS: usize = 64;

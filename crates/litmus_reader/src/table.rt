@@ -17,8 +17,8 @@ use crate::rows::{count_cells, harts_in, is_blank_line, row_in};
 use assembler::{AsmError, Draft};
 use std::alloc::{AllocError, Global};
 use std::marker::Model;
-use texts::{Separators, first_piece};
 use texts::cutting::cut_at;
+use texts::{Separators, first_piece};
 
 /// How many words a hart's code may have.
 pub const MAX_WORDS: usize = 4096;
@@ -141,6 +141,7 @@ impl Table {
 
     /// Each hart's words. `BadInstr` comes where a label has no place, at the first row of them, in the
     /// table's text, behind which so many bytes stand.
+    #[tactic(auto, using(crate::proofs::TableLaws::answered_count, crate::proofs::TableLaws::answered_short))]
     pub fn finish(self, alloc: Global, text: &[u8], behind: usize) -> Result<Vec<Vec<u32>>, Refusal>
         ensures exact { Gives fault_in instructions result (codes_of self) }
         ensures plain { IfOk result (λ codes. ArePlain codes.items) }

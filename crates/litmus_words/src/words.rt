@@ -51,6 +51,7 @@ fn mark_in(text: &[u8]) -> Option<usize>
 }
 
 /// What stands before the first mark, and the text from there on.
+#[tactic(auto, using(std::proofs::lemmas::List::take_rest, texts::proofs::CuttingLaws::before_found, texts::proofs::CuttingLaws::before_missing, texts::proofs::CuttingLaws::from_found, texts::proofs::CuttingLaws::from_missing))]
 fn cut_at_mark(text: &[u8]) -> (&[u8], &[u8])
     ensures front { result.0.now ≡ before is_mark text.now }
     ensures back { result.1.now ≡ from_first is_mark text.now }

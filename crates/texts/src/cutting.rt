@@ -23,6 +23,7 @@ fn other_in(separators: Separators, text: &[u8]) -> Option<usize>
 }
 
 /// What stands before the first separator, and what follows it, if there is one.
+#[tactic(auto, using(std::proofs::lemmas::List::take_rest, crate::proofs::CuttingLaws::before_found, crate::proofs::CuttingLaws::after_found, crate::proofs::CuttingLaws::before_missing, crate::proofs::CuttingLaws::after_missing))]
 pub fn cut_at_any(separators: Separators, text: &[u8]) -> (&[u8], Option<&[u8]>)
     ensures front { result.0.now ≡ before (separates separators) text.now }
     ensures back { option_copied result.1 ≡ after (separates separators) text.now }
@@ -50,6 +51,7 @@ pub fn is_all(separators: Separators, text: &[u8]) -> bool
 }
 
 /// The text without the separators at its front.
+#[tactic(auto, using(std::proofs::lemmas::List::take_rest, crate::proofs::CuttingLaws::from_found, crate::proofs::CuttingLaws::from_missing))]
 pub fn without_leading(separators: Separators, text: &[u8]) -> &[u8]
     ensures { result.now ≡ without_leading (separates separators) text.now }
 {
