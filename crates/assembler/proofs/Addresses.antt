@@ -9,21 +9,20 @@ use Rattle.std.proofs.lemmas.Int.{ints}
 use Rattle.std.proofs.lemmas.List.Folds.{list_all-append}
 use Rattle.texts.specs.Pieces.{is_blank}
 use Rattle.texts.specs.Results.{◌>>=◌}
-use Rattle.texts.specs.Cutting.{before, after, is_byte, without_front, without_end, trimmed}
-use Rattle.texts.specs.Integers.{integer_of}
+use Rattle.texts.specs.Cutting.{before, after, is_byte, without_front, without_end, trimmed, AreBlanks, IsPadded, NonePass, stripped}
+use Rattle.texts.specs.Numbers.{integer_of}
 use Rattle.texts.proofs.ResultLaws.{ok_is, bind_ok}
 use Rattle.rv_decode.specs.Fits.{IsEven}
 use Rattle.rv_decode.specs.declared.instruction.Reg.{Reg}
 use Rattle.assembler.specs.declared.faults.AsmFault.{AsmFault}
 use Rattle.assembler.specs.Names.{is_name, begins_name, goes_on_name}
 use Rattle.assembler.specs.Operands.{register_at, Target, bytes, label, is_even, is_reached, in_reach, IsReached, target_at, closed, opened, base_at, or_zero, offset_at}
-use Rattle.texts.specs.Padding.{AreBlanks, IsPadded}
 use Rattle.assembler.specs.Spelled.{IsMagnitude, IsNumber, IsRegister, IsOffset, IsAddress, IsTarget}
 use Rattle.assembler.specs.Spelled.IsMagnitude.{decimal, hex}
 use Rattle.assembler.specs.Spelled.IsNumber.{plain, negative}
 use Rattle.assembler.proofs.ReadAgain.{all_below, below_all}
-use Rattle.texts.proofs.SolidLaws.{NonePass, before_stop, after_stop, end_append}
-use Rattle.texts.proofs.TrimLaws.{trimmed_padded, trimmed_blanks, padded_trimmed, blanks-append, cut_byte}
+use Rattle.texts.proofs.CuttingLaws.{before_stop, after_stop, cut_byte}
+use Rattle.texts.proofs.TrimLaws.{trailing_append, stripped_padded, stripped_all, padded_stripped, all-append}
 use Rattle.assembler.proofs.Leaves.{is_word_byte, is_operand_byte, Reads, all_weaker, none_of_all, not_this, word_operand, word_trimmed, register_word, register_found, register_only, digit_low, number_found, number_only, number_word, not_less, IsWithin, from_found, from_only}
 
 -- ---- names
@@ -162,13 +161,13 @@ empty_text (x ∷ xs) e = absurd (let f : length (x ∷ xs) ≡ 0 = eqb-true (le
 
 pub blanks_of_trimmed : (t : List ℕ) → trimmed t ≡ [] → AreBlanks t
 blanks_of_trimmed t e =
-    let pad : IsPadded [] t = subst (λ (s : List ℕ). IsPadded s t) e (padded_trimmed t) in
-    subst (λ (s : List ℕ). AreBlanks s) (sym pad.4) (blanks-append pad.0 pad.1 pad.2 pad.3)
+    let pad : IsPadded [] t = subst (λ (s : List ℕ). IsPadded s t) e (padded_stripped is_blank t) in
+    subst (λ (s : List ℕ). AreBlanks s) (sym pad.4) (all-append is_blank pad.0 pad.1 pad.2 pad.3)
 
 offset_found : (low high : ℤ) → IsWithin low high → (t : List ℕ) (z : ℤ) → or_zero low high (trimmed t) ≡ Ok z → IsOffset low high t z
 offset_found low high within t z e = elim (cases_Bool (eqb (length (trimmed t)) 0)) [
   | inl empty ↦ inl (blanks_of_trimmed t (empty_text (trimmed t) empty), sym (ok_is AsmFault (pos 0) z (rw empty at e)))
-  | inr some ↦ inr (trimmed t, padded_trimmed t, from_found low high within (trimmed t) z (rw some at e))
+  | inr some ↦ inr (trimmed t, padded_stripped is_blank t, from_found low high within (trimmed t) z (rw some at e))
 ]
 
 address_found : (low high : ℤ) → IsWithin low high → (t : List ℕ) (at : Reg × ℤ) → address_at low high (Some t) ≡ Ok at → IsAddress low high t at
@@ -183,7 +182,7 @@ address_found low high within t at e =
       name = trimmed inside;
       whole = cut_byte 40 t open_.inner open_.opens ∙ ap (λ i. before (is_byte 40) t ++ 40 ∷ i) (cut_byte 41 open_.inner [] open_.closes);
       offset = offset_found low high within (before (is_byte 40) t) offset.0 offset.1;
-      padded = padded_trimmed inside;
+      padded = padded_stripped is_blank inside;
       register = register_found (trimmed inside) base.0 open_.named;
     })
 
@@ -230,7 +229,7 @@ front_twice (x ∷ xs) = elim (cases_Bool (is_blank x)) [
 ]
 
 trimmed_after_front : (xs : List ℕ) → trimmed (without_front xs) ≡ trimmed xs
-unfolding trimmed
+unfolding stripped
 trimmed_after_front xs = ap without_end (front_twice xs)
 
 pub front_stop : (xs : List ℕ) (c : ℕ) (ys : List ℕ) → is_blank c ≡ false → without_front (xs ++ c ∷ ys) ≡ without_front xs ++ c ∷ ys
@@ -241,15 +240,15 @@ front_stop (x ∷ xs) c ys solid = elim (cases_Bool (is_blank x)) [
 ]
 
 trimmed_address : (a b : List ℕ) → trimmed (a ++ 40 ∷ (b ++ 41 ∷ [])) ≡ without_front a ++ 40 ∷ (b ++ 41 ∷ [])
-unfolding trimmed
+unfolding stripped
 trimmed_address a b =
     let whole : without_front a ++ 40 ∷ (b ++ 41 ∷ []) ≡ (without_front a ++ 40 ∷ b) ++ 41 ∷ [] = sym (append_assoc (without_front a) (40 ∷ b) (41 ∷ [])) in
-    ap without_end (front_stop a 40 (b ++ 41 ∷ []) refl ∙ whole) ∙ (end_append (without_front a ++ 40 ∷ b) (41 ∷ []) (omega arith) (refl, tt) ∙ sym whole)
+    ap without_end (front_stop a 40 (b ++ 41 ∷ []) refl ∙ whole) ∙ (trailing_append is_blank (without_front a ++ 40 ∷ b) (41 ∷ []) (omega arith) (refl, tt) ∙ sym whole)
 
 offset_only : (low high : ℤ) → IsWithin low high → (t : List ℕ) (z : ℤ) → IsOffset low high t z → or_zero low high (trimmed t) ≡ Ok z
-offset_only low high within t z (inl none) = rw (trimmed_blanks t none.0) (ap Ok (sym none.1))
+offset_only low high within t z (inl none) = rw (stripped_all is_blank t none.0) (ap Ok (sym none.1))
 offset_only low high within t z (inr some) =
-    let core : trimmed t ≡ some.0 = trimmed_padded some.0 t some.1 ∙ word_trimmed some.0 (number_word some.0 z some.2.0) in
+    let core : trimmed t ≡ some.0 = stripped_padded is_blank some.0 t some.1 ∙ word_trimmed some.0 (number_word some.0 z some.2.0) in
     rw (core, some_length some.0 z some.2.0) (from_only low high within some.0 z some.2)
   where
     magnitude_some : (s : List ℕ) (n : ℕ) → IsMagnitude s n → eqb (length s) 0 ≡ false
@@ -268,7 +267,7 @@ address_only_at low high within a b name r z offset pad is =
     let front = without_front a in
     let no_open : NonePass (is_byte 40) front = spaced_not 40 refl front (front_all is_spaced_byte a (offset_spaced low high a z offset)) in
     let no_close : NonePass (is_byte 41) b = spaced_not 41 refl b (padded_spaced name b pad (register_word name r is)) in
-    let core : trimmed b ≡ name = trimmed_padded name b pad ∙ word_trimmed name (register_word name r is) in
+    let core : trimmed b ≡ name = stripped_padded is_blank name b pad ∙ word_trimmed name (register_word name r is) in
     let base : base_at (Some (front ++ 40 ∷ (b ++ 41 ∷ []))) ≡ Ok r = rw (after_stop (is_byte 40) front 40 (b ++ 41 ∷ []) no_open refl, before_stop (is_byte 41) b 41 [] no_close refl, after_stop (is_byte 41) b 41 [] no_close refl, core) (register_only name r is) in
     let number : offset_at low high (Some (front ++ 40 ∷ (b ++ 41 ∷ []))) ≡ Ok z = rw (before_stop (is_byte 40) front 40 (b ++ 41 ∷ []) no_open refl, trimmed_after_front a) (offset_only low high within a z offset) in
     rw (base, number) refl

@@ -1,10 +1,10 @@
 -- One more line of a draft, and what is known of all of them.
-use Rattle.std.proofs.Common.{◌≡◌, ℕ, ◌+◌, ◌*◌, ◌<◌, ◌≤◌, true, false, cond, List, [], ◌∷◌, ◌++◌, length, map, Option, Some, None, Result, Ok, Err, refl, sym, ap, subst, ◌∙◌, inl, inr, arith}
+use Rattle.std.proofs.Common.{◌≡◌, ℕ, ◌+◌, ◌*◌, ◌<◌, ◌≤◌, true, false, cond, List, [], ◌∷◌, ◌++◌, length, map, Option, Some, None, Result, Ok, Err, refl, sym, ap, subst, ◌∙◌, inl, inr, arith, Bool}
 use Rattle.std.specs.Prelude.{IfSome}
 use Rattle.std.specs.Option.{is_some}
-use Rattle.std.proofs.lemmas.Bool.{cases_Bool, lt-ltb, le-ltb}
+use Rattle.std.proofs.lemmas.Bool.{cases_Bool, lt-ltb, le-ltb, cond-true, cond-false}
 use Rattle.assembler.specs.declared.kept.KeptLine.{KeptLine}
-use Rattle.assembler.specs.Kept.{line_of}
+use Rattle.assembler.specs.Kept.{line_of, IsKept, place_in}
 use Rattle.std.proofs.lemmas.Slice.Eq.{bytes_eq-Decides}
 use Rattle.assembler.specs.declared.faults.AsmFault.{AsmFault}
 use Rattle.assembler.specs.declared.faults.AsmFault.TheVariants.{LabelTwice, TooLong}
@@ -12,8 +12,13 @@ use Rattle.assembler.specs.Faults.{Refusal}
 use Rattle.assembler.specs.Statements.{Made, one, two, jump, branch}
 use Rattle.assembler.specs.Lines.{label_of, statement_text, made_in}
 use Rattle.assembler.specs.Drafts.{Line, size_of, words_of, is_label, place_from, place_of, is_twice, line_below, told, placed, all_placed, Fitting, AllFit, over, finished}
-use Rattle.assembler.specs.Kept.{IsKept}
 use Rattle.assembler.proofs.LabelLaws.{fresh_apart, once-push}
+use Rattle.std.specs.Str.{bytes_eq}
+use Rattle.std.specs.HashMap.{HashMap, UpdatesBy}
+use Rattle.std.specs.declared.vec.Vec.{Vec}
+use Rattle.std.specs.declared.alloc.Global.{Global}
+use Rattle.std.specs.Map.{lookup, IsKeyTest, AreApart, KeepsOthers}
+use Rattle.std.proofs.lemmas.Cmp.{nat_list_eq_equiv}
 
 abbrev line_fault : AsmFault → ℕ → Result (List Line) Refusal
 line_fault fault line = Err (record { fault = fault; line = line })
@@ -146,3 +151,21 @@ finished_short found all few same = rw (le-ltb 4096 (words_of all) few) (all_pla
 pub lines-push : (items : List KeptLine) (line : KeptLine) → map line_of (items ++ line ∷ []) ≡ map line_of items ++ line_of line ∷ []
 lines-push [] line = refl
 lines-push (first ∷ rest) line = rw (lines-push rest line) refl
+
+-- ---- a map from names to places, after a name got one
+
+abbrev vec_eq : Vec ℕ Global → Vec ℕ Global → Bool
+vec_eq x y = bytes_eq x.items y.items
+
+apart : (bs cs ks : List ℕ) → bytes_eq bs cs ≡ false → bytes_eq bs ks ≡ true → bytes_eq cs ks ≡ false
+apart bs cs ks other same = nat_list_eq_equiv.symm cs ks ∙ sym (nat_list_eq_equiv.congr bs ks cs same) ∙ other
+
+others : (test : Vec ℕ Global → Bool) (old new : List (Vec ℕ Global × ℕ)) → KeepsOthers vec_eq test old new → (other : Vec ℕ Global → Bool) → IsKeyTest vec_eq other → AreApart test other → lookup other new ≡ lookup other old
+unfolding KeepsOthers
+others test old new h = h
+
+pub place_after : {S : Type 0} (name : Vec ℕ Global) (old new : HashMap (Vec ℕ Global) ℕ S) (place : ℕ) → UpdatesBy vec_eq (λ key. bytes_eq name.items key.items) old new (Some place) → (other : List ℕ) → place_in new other ≡ cond (bytes_eq name.items other) (Some place) (place_in old other)
+place_after name old new place h other = elim (cases_Bool (bytes_eq name.items other)) [
+  | inl same ↦ subst (λ (l : List ℕ). place_in new l ≡ Some place) ((bytes_eq-Decides name.items other).0 same) h.1 ∙ sym (cond-true (bytes_eq name.items other) (Some place) (place_in old other) same)
+  | inr differs ↦ others (λ key. bytes_eq name.items key.items) old.entries new.entries h.3 (λ key. bytes_eq other key.items) (λ x y. nat_list_eq_equiv.congr other x.items y.items) (λ key. apart name.items other key.items differs) ∙ sym (cond-false (bytes_eq name.items other) (Some place) (place_in old other) differs)
+]

@@ -1,5 +1,5 @@
 -- What a function reads of an operand, and the relation of the grammar that says the same.
-use Rattle.std.proofs.Common.{◌≡◌, ℕ, ◌<◌, ◌≤◌, ◌^◌, Bool, true, false, not, ◌&&◌, ◌||◌, eqb, ltb, List, [], ◌∷◌, length, Option, Some, None, Result, Ok, refl, sym, ap, subst, ◌∙◌, inl, inr, arith, ℤ, pos, negsuc}
+use Rattle.std.proofs.Common.{◌≡◌, ℕ, ◌<◌, ◌≤◌, ◌^◌, Bool, true, false, not, ◌||◌, eqb, ltb, List, [], ◌∷◌, length, Option, Some, None, Result, Ok, refl, sym, ap, subst, ◌∙◌, inl, inr, arith, ℤ, pos, negsuc}
 use Rattle.std.specs.Prelude.{◌==◌, neg_ℤ, int_lt, unsigned_abs, option_map, ◌≤ℤ◌, ◌<ℤ◌, slice_index, drop}
 use Rattle.std.specs.List.{Contains, list_all}
 use Rattle.std.specs.Char.{digit_value}
@@ -7,10 +7,9 @@ use Rattle.std.specs.Str.Parse.{AllDigits}
 use Rattle.std.proofs.lemmas.Bool.{and_parts, and_right, or_parts, cases_Bool, eqb-true, ne_eqb, le-ltb, lt-ltb, cases_lt}
 use Rattle.std.proofs.lemmas.Int.{ints}
 use Rattle.texts.specs.Pieces.{is_blank}
-use Rattle.texts.specs.Cutting.{trimmed}
-use Rattle.texts.specs.Numbers.{capped}
-use Rattle.texts.specs.Integers.{is_hex, magnitude_of, is_negative, integer_of}
-use Rattle.texts.proofs.NumberLaws.{number_said, says_number, hex_number_said, says_hex_number}
+use Rattle.texts.specs.Cutting.{trimmed, NonePass}
+use Rattle.texts.specs.Numbers.{capped, is_hex, magnitude_of, is_negative, integer_of}
+use Rattle.texts.proofs.NumberLaws.{hex_text, no_hex, negative_text, number_said, says_number, hex_number_said, says_hex_number}
 use Rattle.texts.proofs.ResultLaws.{guard_ok, ok_is}
 use Rattle.rv_decode.specs.Meaning.{reg_of}
 use Rattle.rv_decode.proofs.Meanings.{reg_of_number}
@@ -26,7 +25,7 @@ use Rattle.assembler.specs.Spelled.IsMagnitude.{decimal, hex}
 use Rattle.assembler.specs.Spelled.IsNumber.{plain, negative}
 use Rattle.rv_decode.proofs.TableLaws.{row_below}
 use Rattle.assembler.proofs.ReadAgain.{all_below, below_all}
-use Rattle.texts.proofs.SolidLaws.{NonePass, trimmed_solid}
+use Rattle.texts.proofs.TrimLaws.{stripped_none}
 use Rattle.assembler.proofs.Rows.{found_in, are_apart, row_of_member, member_of_row, all_rows}
 
 -- a byte of a register, a number, a name or a set
@@ -74,7 +73,7 @@ pub word_solid : (t : List ℕ) → list_all is_word_byte t ≡ true → NonePas
 word_solid t h = none_of_all is_word_byte is_blank word_no_blank t h
 
 pub word_trimmed : (t : List ℕ) → list_all is_word_byte t ≡ true → trimmed t ≡ t
-word_trimmed t h = trimmed_solid t (word_solid t h)
+word_trimmed t h = stripped_none is_blank t (word_solid t h)
 
 -- ---- registers
 
@@ -179,25 +178,12 @@ digits_word radix most (c ∷ digits) h = rw (digit_word c (omega (arith, h.0)),
 
 -- ---- magnitudes
 
-hex_text : (t : List ℕ) → is_hex t ≡ true → t ≡ 48 ∷ 120 ∷ drop 2 t
-hex_text [] e = absurd cc
-hex_text (a ∷ []) e = absurd cc
-hex_text (a ∷ b ∷ rest) e =
-    let outer = and_parts (ltb 1 (length (a ∷ b ∷ rest)) && eqb a 48) (eqb b 120) e in
-    let inner = and_parts (ltb 1 (length (a ∷ b ∷ rest))) (eqb a 48) outer.0 in
-    ap (λ x. x ∷ b ∷ rest) (eqb-true a 48 inner.1) ∙ ap (λ x. 48 ∷ x ∷ rest) (eqb-true b 120 outer.1)
-
 pub magnitude_found : (t : List ℕ) (n : ℕ) → magnitude_of t ≡ Some n → n < 2 ^ 32 → IsMagnitude t n
 unfolding magnitude_of
 magnitude_found t n e small = elim (cases_Bool (is_hex t)) [
   | inl is ↦ subst (λ (s : List ℕ). IsMagnitude s n) (sym (hex_text t is)) (hex (drop 2 t) n (hex_number_said (drop 2 t) n (rw is at e) small))
   | inr other ↦ decimal t n (number_said t n (rw other at e) small)
 ]
-
-no_hex : (digits : List ℕ) → AllDigits 10 digits → is_hex digits ≡ false
-no_hex [] h = refl
-no_hex (a ∷ []) h = refl
-no_hex (a ∷ b ∷ rest) h = rw (ne_eqb b 120 (λ is. (let f : digit_value 120 < 10 = subst (λ (c : ℕ). digit_value c < 10) is h.1.0 in omega arith))) (and_right (ltb 1 (length (a ∷ b ∷ rest)) && eqb a 48) false refl)
 
 magnitude_only : (t : List ℕ) (n : ℕ) → IsMagnitude t n → n < 2 ^ 32 → magnitude_of t ≡ Some n
 unfolding magnitude_of
@@ -221,10 +207,6 @@ magnitude_first byte other t n (hex digits m says) = ne_eqb 48 byte (λ is. (let
 
 not_negative : (t : List ℕ) → eqb (slice_index t 0) 45 ≡ false → is_negative t ≡ false
 not_negative t other = rw other (and_right (ltb 0 (length t)) false refl)
-
-negative_text : (t : List ℕ) → is_negative t ≡ true → t ≡ 45 ∷ drop 1 t
-negative_text [] e = absurd cc
-negative_text (a ∷ rest) e = let both = and_parts (ltb 0 (length (a ∷ rest))) (eqb a 45) e in ap (λ x. x ∷ rest) (eqb-true a 45 both.1)
 
 mapped : (view : ℕ → ℤ) (o : Option ℕ) (z : ℤ) → option_map view o ≡ Some z → (n : ℕ) × (o ≡ Some n) × (view n ≡ z)
 mapped view None z e = absurd cc

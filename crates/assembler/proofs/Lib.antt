@@ -1,13 +1,9 @@
-pub mod LineLaws
-pub mod PlaceLaws
 pub mod DraftLaws
-pub mod WordLaws
-pub mod Plain
+pub mod Commas
 pub mod ReadAgain
 pub mod RoundTrip
 pub mod Named
 pub mod Rows
-pub mod Trimming
 pub mod Leaves
 pub mod Addresses
 pub mod OperandTable

@@ -2,22 +2,22 @@
 use Rattle.std.proofs.Common.{◌≡◌, ℕ, true, false, List, ◌∷◌, ◌++◌, Option, Some, None, Ok, refl, sym, ap, subst, ◌∙◌, inl, inr, append_assoc}
 use Rattle.std.specs.List.{list_all}
 use Rattle.std.proofs.lemmas.Bool.{cases_Bool}
-use Rattle.texts.specs.Cutting.{before, after, is_byte, without_front, trimmed}
+use Rattle.texts.specs.Cutting.{before, after, is_byte, without_front, trimmed, AreBlanks, NonePass}
 use Rattle.texts.proofs.ResultLaws.{ok_is}
 use Rattle.assembler.specs.declared.faults.AsmFault.{AsmFault}
 use Rattle.assembler.specs.Names.{is_name}
 use Rattle.assembler.specs.Statements.{Made}
 use Rattle.assembler.specs.Lines.{code_of, name_before, label_of, behind_label, statement_text, made_in}
 use Rattle.assembler.specs.Drafts.{Line}
-use Rattle.texts.specs.Padding.{AreBlanks}
 use Rattle.assembler.specs.Grammar.{IsBody, IsCode, IsLine}
 use Rattle.assembler.specs.Grammar.IsCode.{bare, labelled}
 use Rattle.assembler.specs.Grammar.IsLine.{code, commented}
-use Rattle.texts.proofs.SolidLaws.{NonePass, none-append, before_none, after_none, before_stop, after_stop, front_solid}
-use Rattle.texts.proofs.TrimLaws.{front_past, front_split, cut_byte, uncut}
+use Rattle.texts.proofs.CuttingLaws.{none-append, before_none, after_none, before_stop, after_stop, cut_byte, uncut}
+use Rattle.texts.proofs.TrimLaws.{leading_none, leading_past, leading_split}
 use Rattle.assembler.proofs.Leaves.{is_word_byte, none_of_all, not_this, word_solid}
 use Rattle.assembler.proofs.Addresses.{name_word}
 use Rattle.assembler.proofs.StatementGrammar.{body_found, body_only, is_code_byte, blanks_code, body_code}
+use Rattle.texts.specs.Pieces.{is_blank}
 
 -- ---- the parts of what stands before a comment
 
@@ -37,7 +37,7 @@ code_found text made e = go (after (is_byte 58) text) refl e
     go None none f = bare text made (body_found text made f)
     go (Some rest) cut f = elim (cases_Bool (is_name (without_front (before (is_byte 58) text)))) [
       | inl name ↦ (
-          let split = front_split (before (is_byte 58) text) in
+          let split = leading_split is_blank (before (is_byte 58) text) in
           let front = without_front (before (is_byte 58) text) in
           let body : made_in (trimmed rest) ≡ Ok made = rw name at f in
           let whole : text ≡ split.0 ++ (front ++ 58 ∷ rest) = cut_byte 58 text rest cut ∙ (ap (λ b. b ++ 58 ∷ rest) split.2 ∙ append_assoc split.0 front (58 ∷ rest)) in
@@ -62,7 +62,7 @@ labelled_parts blanks name text made are is body =
     let none : NonePass (is_byte 58) (blanks ++ name) = none-append (is_byte 58) blanks name (no_byte 58 refl blanks (blanks_code blanks are)) (no_byte_name 58 refl name is) in
     let first = before_stop (is_byte 58) (blanks ++ name) 58 text none refl in
     let rest = after_stop (is_byte 58) (blanks ++ name) 58 text none refl in
-    let front : without_front (blanks ++ name) ≡ name = front_past blanks name are ∙ front_solid name (word_solid name (name_word name is)) in
+    let front : without_front (blanks ++ name) ≡ name = leading_past is_blank blanks name are ∙ leading_none is_blank name (word_solid name (name_word name is)) in
     record {
       label = rw (first, rest, front, is) refl;
       made = rw (first, rest, front, is) (body_only text made body);

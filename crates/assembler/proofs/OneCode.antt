@@ -14,9 +14,16 @@ use Rattle.rv_decode.specs.declared.instruction.Instr.{Instr}
 use Rattle.assembler.specs.Drafts.{IsPlain, AllPlain, assembled}
 use Rattle.assembler.specs.Writing.{text_of}
 use Rattle.assembler.specs.Program.{IsProgram, AreWordsOf, IsCode}
-use Rattle.assembler.proofs.WordLaws.{plain_of}
 use Rattle.assembler.proofs.ProgramGrammar.{some_instr, same_instrs, program_found, program_only, one_program}
 use Rattle.assembler.proofs.RoundTrip.{read_again}
+use Rattle.rv_decode.specs.Meaning.{meaning}
+
+pub plain_of : (word : ℕ) (i : Instr) → meaning word ≡ Some i → HasPlainFence word i → IsPlain word
+plain_of word i means plain = subst (λ (r : Option Instr). IfSome r (HasPlainFence word)) (sym means) plain
+
+pub all_plain_more : (words : List ℕ) (word : ℕ) → AllPlain words → IsPlain word → AllPlain (words ++ word ∷ [])
+all_plain_more [] word all plain = (plain, tt)
+all_plain_more (first ∷ rest) word all plain = (all.0, all_plain_more rest word all.1 plain)
 
 abbrev IsSmall : ℕ → Type 0
 IsSmall word = word < 2 ^ 32

@@ -2,8 +2,7 @@
 use Rattle.std.proofs.Common.{◌≡◌, ℕ, true, List, [], ◌∷◌, map, Option, Some, None, Result, Ok, Err, refl, sym, ap, subst, ◌∙◌, inl, inr, arith, pos, negsuc}
 use Rattle.std.specs.List.{AllByRecursion, list_all}
 use Rattle.std.proofs.lemmas.Int.{ints}
-use Rattle.texts.specs.Numbers.{capped_value}
-use Rattle.texts.specs.Integers.{magnitude_of, integer_of}
+use Rattle.texts.specs.Numbers.{capped_value, magnitude_of, integer_of}
 use Rattle.texts.specs.Results.{◌>>=◌}
 use Rattle.texts.specs.Cutting.{trimmed}
 use Rattle.texts.proofs.ResultLaws.{ok_is, bind_ok}

@@ -12,13 +12,14 @@ use Rattle.rv_decode.proofs.Meanings.{reg_of_number}
 use Rattle.rv_decode.specs.declared.instruction.Reg.{Reg}
 use Rattle.rv_decode.specs.Tables.{row_of}
 use Rattle.rv_decode.specs.Registers.{register_names, register_named}
-use Rattle.texts.specs.Cutting.{is_byte, trimmed}
+use Rattle.texts.specs.Cutting.{is_byte, NonePass, stripped}
 use Rattle.assembler.specs.Names.{is_name, begins_name}
-use Rattle.texts.specs.Integers.{magnitude_of, integer_of}
+use Rattle.texts.specs.Numbers.{magnitude_of, integer_of}
 use Rattle.assembler.specs.Operands.{register_at, in_range, number_at, natural_at, base_at, offset_at, target_at, bytes, set_at, is_reached}
 use Rattle.assembler.specs.Sets.{set_named}
 use Rattle.assembler.specs.Writing.{register_text, address_text, set_text}
-use Rattle.texts.proofs.SolidLaws.{NonePass, before_stop, after_stop, trimmed_solid, decimal_none, not_byte, not_low_byte, digit_no_blank}
+use Rattle.texts.proofs.CuttingLaws.{before_stop, after_stop, decimal_none, not_byte, not_low_byte, digit_no_blank}
+use Rattle.texts.proofs.TrimLaws.{stripped_none}
 use Rattle.std.proofs.lemmas.Int.{ints}
 
 -- ---- registers
@@ -121,7 +122,7 @@ pub bare_base_read : (r : Reg) → base_at (Some (40 ∷ (register_text r ++ 41 
 bare_base_read r =
     let no_close = register_none (is_byte 41) refl (λ d lt. not_low_byte 41 d (omega arith)) r in
     let no_blank = register_none is_blank refl (λ d lt. digit_no_blank d) r in
-    rw (before_stop (is_byte 41) (register_text r) 41 [] no_close refl, after_stop (is_byte 41) (register_text r) 41 [] no_close refl, trimmed_solid (register_text r) no_blank, register_again r) refl
+    rw (before_stop (is_byte 41) (register_text r) 41 [] no_close refl, after_stop (is_byte 41) (register_text r) 41 [] no_close refl, stripped_none is_blank (register_text r) no_blank, register_again r) refl
 
 -- the register of `n(rs1)`
 pub base_read : (z : ℤ) (r : Reg) → IsSigned 31 z → base_at (Some (address_text z r)) ≡ Ok r
@@ -129,7 +130,7 @@ base_read z r fits =
     let open_none = signed_none (is_byte 40) refl (λ d lt. not_low_byte 40 d (omega arith)) z fits in
     let no_close = register_none (is_byte 41) refl (λ d lt. not_low_byte 41 d (omega arith)) r in
     let no_blank = register_none is_blank refl (λ d lt. digit_no_blank d) r in
-    rw (after_stop (is_byte 40) (signed_decimal z) 40 (register_text r ++ 41 ∷ []) open_none refl, before_stop (is_byte 41) (register_text r) 41 [] no_close refl, after_stop (is_byte 41) (register_text r) 41 [] no_close refl, trimmed_solid (register_text r) no_blank, register_again r) refl
+    rw (after_stop (is_byte 40) (signed_decimal z) 40 (register_text r ++ 41 ∷ []) open_none refl, before_stop (is_byte 41) (register_text r) 41 [] no_close refl, after_stop (is_byte 41) (register_text r) 41 [] no_close refl, stripped_none is_blank (register_text r) no_blank, register_again r) refl
 
 -- and its number
 pub offset_read : (z : ℤ) (r : Reg) → IsSigned 11 z → IsSigned 31 z → offset_at (negsuc 2047) (pos 2047) (Some (address_text z r)) ≡ Ok z
@@ -137,10 +138,10 @@ offset_read z r short fits =
     let open_none = signed_none (is_byte 40) refl (λ d lt. not_low_byte 40 d (omega arith)) z fits in
     let no_blank = signed_none is_blank refl (λ d lt. digit_no_blank d) z fits in
     let some = signed_some z fits in
-    rw (before_stop (is_byte 40) (signed_decimal z) 40 (register_text r ++ 41 ∷ []) open_none refl, trimmed_solid (signed_decimal z) no_blank, ne_eqb (length (signed_decimal z)) 0 (omega arith), integer_read_signed z fits) (in_short z short)
+    rw (before_stop (is_byte 40) (signed_decimal z) 40 (register_text r ++ 41 ∷ []) open_none refl, stripped_none is_blank (signed_decimal z) no_blank, ne_eqb (length (signed_decimal z)) 0 (omega arith), integer_read_signed z fits) (in_short z short)
 
 pub bare_offset_read : (r : Reg) → offset_at (pos 0) (pos 0) (Some (40 ∷ (register_text r ++ 41 ∷ []))) ≡ Ok (pos 0)
-unfolding trimmed
+unfolding stripped
 bare_offset_read r = refl
 
 -- ---- sets

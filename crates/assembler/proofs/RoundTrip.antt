@@ -13,14 +13,15 @@ use Rattle.rv_decode.specs.declared.instruction.Instr.{Instr}
 use Rattle.rv_decode.specs.declared.instruction.Instr.TheVariants as instr
 use Rattle.assembler.specs.declared.form.Form.{Form}
 use Rattle.assembler.specs.declared.form.Form.TheVariants as form
-use Rattle.texts.specs.Cutting.{is_byte, trimmed}
+use Rattle.texts.specs.Cutting.{is_byte, trimmed, NonePass}
 use Rattle.assembler.specs.Mnemonics.{form_named}
 use Rattle.assembler.specs.Statements.{one, statement_of}
 use Rattle.assembler.specs.Lines.{label_of, statement_text, made_in, made_for, between_commas, some_text}
 use Rattle.assembler.specs.Drafts.{assembled, told, line_below, finished}
 use Rattle.assembler.specs.Writing.{register_text, address_text, set_text, branch_name, load_name, store_name, immediate_name, shift_name, register_name, amo_name, order_name, with_two, with_three, text_of}
-use Rattle.texts.proofs.SolidLaws.{NonePass, none-append, before_none, after_none, before_stop, after_stop, trimmed_solid, trimmed_ends, one_line, decimal_none, not_byte, not_low_byte, digit_no_blank}
-use Rattle.assembler.proofs.Plain.{IsOperand, two_between, three_between}
+use Rattle.texts.proofs.CuttingLaws.{none-append, before_none, after_none, before_stop, after_stop, one_line, decimal_none, not_byte, not_low_byte, digit_no_blank}
+use Rattle.texts.proofs.TrimLaws.{stripped_none, stripped_ends}
+use Rattle.assembler.proofs.Commas.{IsOperand, two_between, three_between}
 use Rattle.assembler.proofs.Named.{is_plain, is_word, IsNameOf, branch_named, load_named, store_named, immediate_named, shift_named, register_named, amo_named}
 use Rattle.assembler.proofs.ReadAgain.{all_below, below_all, register_read, short_read, natural_read, signed_none, signed_some, base_read, offset_read, bare_base_read, bare_offset_read, set_read, target_read_12, target_read_20}
 
@@ -79,7 +80,7 @@ some_ops ops some = rw (ne_eqb (length ops) 0 (omega arith)) refl
 made_text : (name ops : List ℕ) → IsWord name → IsWord ops → made_in (name ++ 32 ∷ ops) ≡ made_for (form_named name) (between_commas (Some ops))
 unfolding made_in
 made_text name ops h k =
-    rw (ne_eqb (length (name ++ 32 ∷ ops)) 0 (long name), before_stop is_blank name 32 ops h.blanks refl, after_stop is_blank name 32 ops h.blanks refl, trimmed_solid ops k.blanks, some_ops ops k.some) refl
+    rw (ne_eqb (length (name ++ 32 ∷ ops)) 0 (long name), before_stop is_blank name 32 ops h.blanks refl, after_stop is_blank name 32 ops h.blanks refl, stripped_none is_blank ops k.blanks, some_ops ops k.some) refl
   where
     long : (xs : List ℕ) → length (xs ++ 32 ∷ ops) ≡ 0 → ⊥
     long [] e = absurd (omega arith)
@@ -96,7 +97,7 @@ assembled_text name ops i h k made = assembled_one (name ++ 32 ∷ ops) i (long 
     (none-append (is_byte 10) name (32 ∷ ops) h.feeds (refl, k.feeds))
     (none-append (is_byte 35) name (32 ∷ ops) h.hashes (refl, k.hashes))
     (none-append (is_byte 58) name (32 ∷ ops) h.colons (refl, k.colons))
-    (trimmed_ends name (32 ∷ []) ops h.some h.blanks k.some k.blanks)
+    (stripped_ends is_blank name (32 ∷ []) ops h.some h.blanks k.some k.blanks)
     (made_text name ops h k ∙ made)
   where
     long : (xs : List ℕ) → 0 < length (xs ++ 32 ∷ ops)
@@ -217,7 +218,7 @@ unfolding made_in
 alone_read name f i named e =
     let h = word_of_test name named.0 in
     let some : 0 < length name = h.some in
-    assembled_one name i h.some h.feeds h.hashes h.colons (trimmed_solid name h.blanks)
+    assembled_one name i h.some h.feeds h.hashes h.colons (stripped_none is_blank name h.blanks)
     (rw (ne_eqb (length name) 0 (omega arith), before_none is_blank name h.blanks, after_none is_blank name h.blanks, named.1, e) refl)
 
 -- the text of an instruction that has a word is assembled to it

@@ -4,23 +4,22 @@ use Rattle.std.specs.Prelude.{◌==◌}
 use Rattle.std.specs.List.{Contains, list_all, slice_split}
 use Rattle.std.proofs.lemmas.Bool.{cases_Bool, ne_eqb, not-true}
 use Rattle.texts.specs.Pieces.{is_blank}
-use Rattle.texts.specs.Cutting.{before, after, without_front, without_end, onto_kept, trimmed}
+use Rattle.texts.specs.Cutting.{before, after, without_front, without_end, trimmed, onto_kept, AreBlanks, IsPadded, NonePass, stripped}
 use Rattle.texts.proofs.ResultLaws.{ok_is, bind_ok}
 use Rattle.assembler.specs.declared.faults.AsmFault.{AsmFault}
 use Rattle.assembler.specs.declared.form.Form.{Form}
 use Rattle.assembler.specs.Mnemonics.{mnemonics, form_named}
 use Rattle.assembler.specs.Statements.{Made}
 use Rattle.assembler.specs.Lines.{operands_of, made_of_list, made_for, made_in}
-use Rattle.texts.specs.Padding.{AreBlanks, IsPadded}
 use Rattle.assembler.specs.Spelled.{AreListed}
 use Rattle.assembler.specs.Spelled.AreListed.{last, more}
 use Rattle.assembler.specs.Grammar.{Makes, IsStatement, IsBody}
 use Rattle.assembler.specs.Grammar.IsStatement.{alone, applied}
 use Rattle.assembler.specs.Grammar.IsBody.{nothing, statement}
-use Rattle.texts.proofs.SolidLaws.{NonePass, before_none, after_none, before_stop, after_stop, onto_some}
+use Rattle.texts.proofs.CuttingLaws.{before_none, after_none, before_stop, after_stop, cut_whole, uncut}
+use Rattle.texts.proofs.TrimLaws.{onto_some, stripped_padded, stripped_all, stripped_trailing, padded_stripped, padded_twice, trailing_split}
 use Rattle.assembler.proofs.Rows.{found_in, are_apart, row_of_member, member_of_row, all_rows}
-use Rattle.texts.proofs.TrimLaws.{trimmed_padded, trimmed_blanks, trimmed_end, padded_trimmed, padded_twice, end_split, cut_whole, uncut}
-use Rattle.assembler.proofs.Trimming.{comma, NoCommas, listed_split, split_trimmed, split_listed}
+use Rattle.assembler.proofs.Commas.{comma, NoCommas, listed_split, split_trimmed, split_listed}
 use Rattle.assembler.proofs.Leaves.{is_word_byte, is_operand_byte, all_weaker, none_of_all, not_this, word_solid, word_trimmed}
 use Rattle.assembler.proofs.Addresses.{both_all, empty_text, blanks_of_trimmed}
 use Rattle.assembler.proofs.OperandTable.{OperandBytes, found_makes, only_makes, makes_bytes, makes_of_empty}
@@ -110,7 +109,7 @@ body_found text None e = elim (cases_Bool (eqb (length (trimmed text)) 0)) [
 ]
 body_found text (Some made) e =
     let said = made_found (trimmed text) made e in
-    statement text said.core made (padded_twice said.core (trimmed text) text said.padded (padded_trimmed text)) said.is
+    statement text said.core made (padded_twice is_blank said.core (trimmed text) text said.padded (padded_stripped is_blank text)) said.is
 
 -- ---- what the grammar has is made
 
@@ -120,7 +119,7 @@ no_commas (operand ∷ operands) h = (none_of_all is_operand_byte comma (not_thi
 
 -- the operands behind a mnemonic are not blank
 operands_some : (text : List ℕ) (form : Form) (operands : List (List ℕ)) (made : Made) → AreListed text operands → Makes form operands made → trimmed text ≡ [] → ⊥
-unfolding trimmed
+unfolding stripped
 operands_some text form operands made listed makes blank =
     let split : map trimmed (slice_split comma text) ≡ map trimmed operands = split_listed text operands listed (no_commas operands (makes_bytes form operands made makes)) in
     let none : map trimmed (slice_split comma (trimmed text)) ≡ [] ∷ [] = ap (λ t. map trimmed (slice_split comma t)) blank in
@@ -133,7 +132,7 @@ some_length (x ∷ xs) h = omega arith
 
 end_keep : (xs ys : List ℕ) → 0 < length (without_end ys) → without_end (xs ++ ys) ≡ xs ++ without_end ys
 end_keep [] ys some = refl
-end_keep (x ∷ xs) ys some = ap (onto_kept x) (end_keep xs ys some) ∙ onto_some x (xs ++ without_end ys) (long xs)
+end_keep (x ∷ xs) ys some = ap (onto_kept is_blank x) (end_keep xs ys some) ∙ onto_some is_blank x (xs ++ without_end ys) (long xs)
   where
     long : (zs : List ℕ) → 0 < length (zs ++ without_end ys)
     long [] = some
@@ -144,16 +143,16 @@ front_keep [] ys some h = absurd (omega arith)
 front_keep (x ∷ xs) ys some h = rw h.0 refl
 
 trimmed_applied : (name : List ℕ) (blank : ℕ) (text : List ℕ) → 0 < length name → NonePass is_blank name → 0 < length (without_end text) → trimmed (name ++ blank ∷ text) ≡ name ++ blank ∷ without_end text
-unfolding trimmed
+unfolding stripped
 trimmed_applied name blank text some solid kept =
-    let end : without_end (blank ∷ text) ≡ blank ∷ without_end text = onto_some blank (without_end text) kept in
+    let end : without_end (blank ∷ text) ≡ blank ∷ without_end text = onto_some is_blank blank (without_end text) kept in
     ap without_end (front_keep name (blank ∷ text) some solid) ∙ (end_keep name (blank ∷ text) (subst (λ (e : List ℕ). 0 < length e) (sym end) (omega arith)) ∙ ap (λ e. name ++ e) end)
 
 end_some : (text : List ℕ) → (trimmed text ≡ [] → ⊥) → without_end text ≡ [] → ⊥
 end_some text some none =
-    let split = end_split text in
+    let split = trailing_split is_blank text in
     let back : text ≡ split.0 = split.2 ∙ ap (λ front. front ++ split.0) none in
-    some (trimmed_blanks text (subst (λ (t : List ℕ). AreBlanks t) (sym back) split.1))
+    some (stripped_all is_blank text (subst (λ (t : List ℕ). AreBlanks t) (sym back) split.1))
 
 applied_only : (name : List ℕ) (blank : ℕ) (text : List ℕ) (form : Form) (operands : List (List ℕ)) (made : Made) → Contains mnemonics (name, form) → is_blank blank ≡ true → AreListed text operands → Makes form operands made → made_in (trimmed (name ++ blank ∷ text)) ≡ Ok (Some made)
 unfolding made_in form_named
@@ -164,9 +163,9 @@ applied_only name blank text form operands made has is listed makes =
     let some : trimmed text ≡ [] → ⊥ = operands_some text form operands made listed makes in
     let core : trimmed (name ++ blank ∷ text) ≡ name ++ blank ∷ kept = trimmed_applied name blank text long solid (some_length kept (end_some text some)) in
     let whole : eqb (length (name ++ blank ∷ kept)) 0 ≡ false = ne_eqb (length (name ++ blank ∷ kept)) 0 (λ e. absurd_length name (blank ∷ kept) long e) in
-    let still : eqb (length (trimmed kept)) 0 ≡ false = ne_eqb (length (trimmed kept)) 0 (λ e. some (sym (trimmed_end text) ∙ empty_length (trimmed kept) e)) in
+    let still : eqb (length (trimmed kept)) 0 ≡ false = ne_eqb (length (trimmed kept)) 0 (λ e. some (sym (stripped_trailing is_blank text) ∙ empty_length (trimmed kept) e)) in
     let split : map trimmed (slice_split comma (trimmed text)) ≡ map trimmed operands = split_trimmed text ∙ split_listed text operands listed (no_commas operands (makes_bytes form operands made makes)) in
-    let read : operands_of (Some kept) ≡ map trimmed operands = rw still (ap (λ t. map trimmed (slice_split comma t)) (trimmed_end text) ∙ split) in
+    let read : operands_of (Some kept) ≡ map trimmed operands = rw still (ap (λ t. map trimmed (slice_split comma t)) (stripped_trailing is_blank text) ∙ split) in
     let name_is = before_stop is_blank name blank kept solid is in
     let rest_is = after_stop is_blank name blank kept solid is in
     let found : found_in mnemonics name ≡ Some form = row_of_member mnemonics name form mnemonics_apart has in
@@ -194,8 +193,8 @@ statement_only core made (applied name blank text form operands result has is li
 
 pub body_only : (text : List ℕ) (made : Option Made) → IsBody text made → made_in (trimmed text) ≡ Ok made
 unfolding made_in
-body_only text made (nothing blanks are) = rw (trimmed_blanks blanks are) refl
-body_only text made (statement whole core result pad is) = ap made_in (trimmed_padded core whole pad) ∙ statement_only core result is
+body_only text made (nothing blanks are) = rw (stripped_all is_blank blanks are) refl
+body_only text made (statement whole core result pad is) = ap made_in (stripped_padded is_blank core whole pad) ∙ statement_only core result is
 
 -- ---- the bytes of a statement
 

@@ -13,7 +13,7 @@ use Rattle.assembler.specs.Mnemonics.{mnemonics}
 use Rattle.assembler.specs.Names.{is_name}
 use Rattle.assembler.specs.Statements.{Made, one, jump_to, branch_to, wrapped, loaded}
 use Rattle.assembler.specs.Drafts.{Line}
-use Rattle.texts.specs.Padding.{AreBlanks, IsPadded}
+use Rattle.texts.specs.Cutting.{AreBlanks, IsPadded}
 use Rattle.assembler.specs.Spelled.{AreListed, IsNumberFrom, IsNumberUpTo, IsRegister, IsSet, IsAddress, IsTarget}
 
 -- ---- so many operands, each spelled as its place asks, and what is made of them

@@ -1,6 +1,4 @@
 pub mod Faults
-pub mod Tables
-pub mod Registers
 pub mod Mnemonics
 pub mod Names
 pub mod Sets

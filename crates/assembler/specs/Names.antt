@@ -1,7 +1,7 @@
 -- The names of labels.
 use Rattle.std.specs.Prelude.{ℕ, ◌==◌, Bool, false, ◌&&◌, ◌||◌, List, [], ◌∷◌}
 use Rattle.std.specs.List.{list_all}
-pub use Rattle.texts.specs.Letters.{is_letter, is_digit}
+use Rattle.texts.specs.Letters.{is_letter, is_digit}
 
 -- a letter, `_` or `.`
 abbrev pub begins_name : ℕ → Bool

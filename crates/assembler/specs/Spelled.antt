@@ -9,7 +9,7 @@ use Rattle.assembler.specs.Sets.{set_names}
 use Rattle.assembler.specs.Names.{is_name}
 use Rattle.assembler.specs.Operands.{Target, bytes, label}
 -- blanks, and a core with blanks round it, are words of texts
-pub use Rattle.texts.specs.Padding.{AreBlanks, IsPadded}
+pub use Rattle.texts.specs.Cutting.{AreBlanks, IsPadded}
 
 -- Operands, parted by commas (44), with blanks round each.
 pub data AreListed : List ℕ → List (List ℕ) → Type 0 where

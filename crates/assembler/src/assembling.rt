@@ -32,6 +32,7 @@ fn words_of(alloc: Global, text: &str) -> Result<Vec<u32>, AsmError>
 ///
 /// The fault is the first one, in the order of [`Draft::line`] for all lines from the top and then
 /// that of [`Draft::finish`].
+#[tactic(auto, using(crate::proofs::ProgramGrammar::found_program, crate::proofs::ProgramGrammar::only_program))]
 pub fn assemble(alloc: Global, text: &str) -> Result<Vec<u32>, AsmError>
     ensures found { IfOk result (λ words. (instrs : List Instr) × IsProgram text.now instrs × AreWordsOf words.items instrs) }
     ensures only { (instrs : List Instr) → IsProgram text.now instrs → Gives refusal_of (λ words. map meaning words.items) result (Ok (map (λ i. Some i) instrs)) }

@@ -48,6 +48,7 @@ impl Model for Draft {
 
 impl Draft {
     /// A draft of no line, which takes its memory from the allocator.
+    #[tactic(auto, unfolding(crate::specs::Drafts::place_of))]
     pub fn new(alloc: Global) -> Draft
         ensures { result ≡ [] }
     {
@@ -122,6 +123,7 @@ impl Draft {
         self.lines.len()
     }
 
+    #[tactic(auto, unfolding(crate::specs::Drafts::place_of))]
     fn defines(&self, label: Option<&[u8]>) -> bool
         ensures { result ≡ is_twice self.now (option_copied label.entry) }
     {
@@ -158,6 +160,7 @@ impl Draft {
     ///
     /// The faults that are left are `TooLong`, at the first line whose words go past 4,096, and then
     /// line by line from the top `NoSuchLabel`, and `OutOfRange` where a label is too far away.
+    #[tactic(auto, using(crate::proofs::ProgramGrammar::found_instrs, crate::proofs::ProgramGrammar::only_instrs))]
     pub fn finish(self) -> Result<Vec<u32>, AsmError>
         ensures found { IfOk result (λ words. (instrs : List Instr) × AreInstrs self instrs × AreWordsOf words.items instrs) }
         ensures only { (instrs : List Instr) → AreInstrs self instrs → Gives refusal_of (λ words. map meaning words.items) result (Ok (map (λ i. Some i) instrs)) }

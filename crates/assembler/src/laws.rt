@@ -14,6 +14,7 @@ ghost use Rattle.assembler.specs.Writing.{text_of};
 
 /// The text of an instruction that has a word is a program of this instruction, and the code of its
 /// plain word.
+#[tactic(auto, using(crate::proofs::OneCode::program_again, crate::proofs::OneCode::code_again))]
 pub fn read_again()
     ensures program { (i : Instr) → Fits i → IsProgram (text_of i) (i ∷ []) }
     ensures code { (i : Instr) (word : ℕ) → IsPlainWord word i → IsCode (text_of i) (word ∷ []) }
@@ -33,6 +34,7 @@ pub fn refused_without_value()
 {}
 
 /// What `li` makes puts its number in the register, for each number that it takes.
+#[tactic(auto, using(crate::proofs::LoadingLaws::number_put))]
 pub fn number_put()
     ensures { (rd : Reg) (n : ℤ) → negsuc 2147483647 ≤ℤ n → n ≤ℤ pos 4294967295 → Puts rd n (loaded rd (wrapped n)) }
 {}

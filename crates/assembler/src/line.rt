@@ -14,7 +14,8 @@ use crate::names::is_name;
 use crate::shapes;
 use crate::statement::{Operands, Statement};
 use crate::tables::form_named;
-use texts::cutting::{cut_at, cut_at_blank, trimmed, without_front};
+use texts::Separators;
+use texts::cutting::{cut_at, cut_at_any, trimmed, without_front};
 
 /// A line without its comment: its label, and the text of its statement without blanks round it.
 #[derive(Clone, Copy)]
@@ -57,7 +58,7 @@ fn some_text(rest: Option<&[u8]>) -> Option<&[u8]>
 }
 
 /// The first of the operands between commas, and the text of the others.
-#[tactic(auto, using(crate::proofs::LineLaws::first_between, crate::proofs::LineLaws::rest_between))]
+#[tactic(auto, using(crate::proofs::Commas::first_between, crate::proofs::Commas::rest_between))]
 fn first_operand(texts: Option<&[u8]>) -> (Option<&[u8]>, Option<&[u8]>)
     ensures first { option_copied result.0 ≡ first_of (between_commas (option_copied texts.entry)) }
     ensures rest { between_commas (option_copied result.1) ≡ rest_of (between_commas (option_copied texts.entry)) }
@@ -99,7 +100,7 @@ pub fn statement_in(text: &[u8]) -> Result<Option<Statement<'_>>, AsmFault>
     if text.is_empty() {
         return Ok(None);
     }
-    let (mnemonic, rest) = cut_at_blank(text);
+    let (mnemonic, rest) = cut_at_any(Separators::Blanks, text);
     let Some(form) = form_named(mnemonic) else {
         return Err(AsmFault::UnknownName);
     };

@@ -26,6 +26,7 @@ pub fn place_in(places: &Places, name: &[u8]) -> Option<usize>
 }
 
 /// Gives the name a place. Where memory runs out, no name's place changes.
+#[tactic(auto, using(crate::proofs::DraftLaws::place_after))]
 fn define(places: &mut Places, name: Vec<u8>, place: usize) -> Result<(), AllocError>
     ensures defined { OnOk result ((other : List ℕ) → place_in places.new other ≡ cond (bytes_eq name.items other) (Some place) (place_in places.old other)) }
     ensures kept { OnErr result ((other : List ℕ) → place_in places.new other ≡ place_in places.old other) }

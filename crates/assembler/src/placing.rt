@@ -64,7 +64,7 @@ fn distance_to(places: &Places, label: &[u8], word: usize, bound: i64) -> Result
 }
 
 /// The word of the instruction, with zeros in the fields that decide nothing.
-#[tactic(auto, using(crate::proofs::WordLaws::plain_of))]
+#[tactic(auto, using(crate::proofs::OneCode::plain_of))]
 fn word_of(instr: &Instr) -> u32
     requires { Fits instr.now }
     ensures means { meaning result ≡ Some instr.now }
@@ -73,7 +73,7 @@ fn word_of(instr: &Instr) -> u32
     encode(instr)
 }
 
-#[tactic(auto, using(crate::proofs::WordLaws::all_plain_more))]
+#[tactic(auto, using(crate::proofs::OneCode::all_plain_more))]
 fn push_words(
     words: &mut Vec<u32>,
     places: &Places,

@@ -9,6 +9,7 @@ use crate::form::Form;
 use rv_decode::tables::{number_in, row_in};
 use rv_decode::{AmoOp, BranchOp, ImmediateOp, LoadOp, RegisterOp, ShiftOp, StoreOp};
 
+#[tactic(auto, using(rv_decode::proofs::TableLaws::row_found, rv_decode::proofs::TableLaws::row_missing))]
 fn form_in(table: &[(&'static str, Form)], text: &[u8]) -> Option<Form>
     ensures { result ≡ row_of (λ row. row.0.now) (λ row. row.1) table.now text.now }
 {

@@ -112,6 +112,7 @@ impl Test {
     }
 
     /// What the test says of a machine. It takes no memory.
+    #[tactic(auto, using(crate::proofs::TestLaws::condition_there))]
     pub fn verdict<const B: usize, const M: usize>(&self, machine: &Machine<B, M>) -> Verdict
         requires harts { length machine.now.history.opening.harts ≡ length self.now.opening.harts }
         requires words { length self.now.names ≤ M }

@@ -1,14 +1,11 @@
 -- The condition: what is read of it is what its text asks, and what the text asks is read.
 use Rattle.std.proofs.Common.{◌≡◌, ◌∙◌, ℕ, ◌*◌, ◌≤◌, Bool, true, false, List, [], ◌∷◌, ◌++◌, length, drop, Option, Some, None, Result, Ok, Err, refl, sym, ap, subst, append_assoc, ltb-true, lt-ltb, arith}
 use Rattle.std.specs.Prelude.{nat_lt, if◌then◌else◌, codes}
-use Rattle.std.proofs.lemmas.Bool.Decides.{Decides-eqb}
 use Rattle.std.proofs.lemmas.List.{append-nil}
-use Rattle.std.proofs.lemmas.Slice.Eq.{starts_is}
-use Rattle.texts.specs.Cutting.{without_front}
+use Rattle.texts.specs.Cutting.{without_front, AreBlanks}
 use Rattle.texts.specs.Results.{◌>>=◌}
 use Rattle.texts.proofs.ResultLaws.{bind_ok, ok_is}
-use Rattle.assembler.specs.Spelled.{AreBlanks}
-use Rattle.assembler.proofs.Trimming.{front_past, front_split}
+use Rattle.texts.proofs.TrimLaws.{leading_past, leading_split}
 use Rattle.rv_decode.specs.declared.instruction.Reg.{Reg}
 use Rattle.litmus.specs.declared.verdict.Quantifier.{Quantifier}
 use Rattle.litmus.specs.declared.verdict.Quantifier.TheVariants.{Exists, NotExists, ForAll}
@@ -36,16 +33,14 @@ use Rattle.litmus_reader.specs.Shapes.{NoneBegins}
 use Rattle.litmus_reader.specs.Layout.{BeginsUnread}
 use Rattle.litmus_reader.specs.Openings.{names_in, name_of_place, name_of_value, each_once, IsWorth}
 use Rattle.litmus_reader.specs.Asked.{word_for, IsQuestion, atoms_in, IsPlaceOf, IsKnown, AreKnown}
-use Rattle.litmus_reader.proofs.ShapeLaws.{unread_matches, nowhere_found, nowhere_only}
+use Rattle.litmus_reader.proofs.ShapeLaws.{unread_matches, nowhere_found, nowhere_only, word_cut}
 use Rattle.litmus_reader.proofs.MeetLaws.{fewer, at_later, one_index, met_found, met_only, value_found, value_only, worth_later, one_worth}
+use Rattle.texts.specs.Pieces.{is_blank}
 
 -- ---- the quantifier
 
 abbrev IsQuantified : List ℕ → Quantified → Type 0
 IsQuantified text quantified = (blanks : List ℕ) × AreBlanks blanks × (text ≡ blanks ++ (word_for quantified.0 ++ quantified.1))
-
-has_word_cut : (letters line : List ℕ) → has_word letters line ≡ true → line ≡ letters ++ drop (length letters) line
-has_word_cut letters line is = (starts_is Decides-eqb line letters (has_word letters line) refl).0 is
 
 quantifier_cut : (line : List ℕ) (quantified : Quantified) → quantifier_of line ≡ Some quantified → line ≡ word_for quantified.0 ++ quantified.1
 quantifier_cut line quantified e = go (has_word (codes "exists") line) refl (has_word (codes "~exists") line) refl (has_word (codes "forall") line) refl
@@ -54,15 +49,15 @@ quantifier_cut line quantified e = go (has_word (codes "exists") line) refl (has
     is q rest cut same = subst (λ (one : Quantified). line ≡ word_for one.0 ++ one.1) same cut
 
     go : (a : Bool) → has_word (codes "exists") line ≡ a → (b : Bool) → has_word (codes "~exists") line ≡ b → (c : Bool) → has_word (codes "forall") line ≡ c → line ≡ word_for quantified.0 ++ quantified.1
-    go true e1 b e2 c e3 = (let told = rw e1 at e in is Exists (drop 6 line) (has_word_cut (codes "exists") line e1) cc)
-    go false e1 true e2 c e3 = (let told = rw (e1, e2) at e in is NotExists (drop 7 line) (has_word_cut (codes "~exists") line e2) cc)
-    go false e1 false e2 true e3 = (let told = rw (e1, e2, e3) at e in is ForAll (drop 6 line) (has_word_cut (codes "forall") line e3) cc)
+    go true e1 b e2 c e3 = (let told = rw e1 at e in is Exists (drop 6 line) (word_cut (codes "exists") line e1) cc)
+    go false e1 true e2 c e3 = (let told = rw (e1, e2) at e in is NotExists (drop 7 line) (word_cut (codes "~exists") line e2) cc)
+    go false e1 false e2 true e3 = (let told = rw (e1, e2, e3) at e in is ForAll (drop 6 line) (word_cut (codes "forall") line e3) cc)
     go false e1 false e2 false e3 = (let never = rw (e1, e2, e3) at e in absurd cc)
 
 quantifier_found : (text : List ℕ) (quantified : Quantified) → quantifier_in text ≡ Some quantified → IsQuantified text quantified
 unfolding quantifier_in
 quantifier_found text quantified e =
-    let front = front_split text in
+    let front = leading_split is_blank text in
     (front.0, front.1, front.2 ∙ ap (λ (line : List ℕ). front.0 ++ line) (quantifier_cut (without_front text) quantified e))
 
 quantifier_first : (quantifier : Quantifier) (rest : List ℕ) → quantifier_of (without_front (word_for quantifier ++ rest)) ≡ Some (quantifier, rest)
@@ -72,7 +67,7 @@ quantifier_first ForAll rest = refl
 
 quantifier_only : (blanks rest : List ℕ) (quantifier : Quantifier) → AreBlanks blanks → quantifier_in (blanks ++ (word_for quantifier ++ rest)) ≡ Some (quantifier, rest)
 unfolding quantifier_in
-quantifier_only blanks rest quantifier all = ap quantifier_of (front_past blanks (word_for quantifier ++ rest) all) ∙ quantifier_first quantifier rest
+quantifier_only blanks rest quantifier all = ap quantifier_of (leading_past is_blank blanks (word_for quantifier ++ rest) all) ∙ quantifier_first quantifier rest
 
 -- ---- words that may stand behind others
 

@@ -5,10 +5,9 @@ use Rattle.std.specs.List.{slice_index_or, AllByRecursion}
 use Rattle.std.proofs.lemmas.Bool.{cases_Bool, le-ltb, eq-eqb, eqb-true}
 use Rattle.std.proofs.lemmas.List.{length-replicate}
 use Rattle.texts.specs.Results.{◌>>=◌}
-use Rattle.texts.specs.Cutting.{before, after, is_byte}
+use Rattle.texts.specs.Cutting.{before, after, is_byte, AreBlanks}
 use Rattle.texts.proofs.ResultLaws.{ok_is, bind_ok}
 use Rattle.assembler.specs.Faults.{Refusal}
-use Rattle.assembler.specs.Spelled.{AreBlanks}
 use Rattle.assembler.specs.Drafts.{Line, words_of, told, all_told, finished}
 use Rattle.assembler.specs.Program.{AreLines, EachOnce}
 use Rattle.assembler.proofs.ProgramGrammar.{all_found, all_only, finished_found, finished_only, none_above}
@@ -16,13 +15,14 @@ use Rattle.litmus_reader.specs.declared.faults.LitmusFault.{LitmusFault}
 use Rattle.litmus_reader.specs.Table.{Column, Code, as_instr, in_limit, cell_told, cells_told, row_told, line_told, lines_told, table_from, table_at, codes_of}
 use Rattle.litmus_reader.specs.declared.marks.Mark.TheVariants as mark
 use Rattle.litmus_reader.specs.Marks.{before_line, from_line}
-use Rattle.litmus_reader.specs.Parts.{parts, parts_after}
+use Rattle.texts.specs.Pieces.{pieces, pieces_after}
 use Rattle.litmus_reader.specs.Rows.{is_blank_line, row_in, cells_of, harts_in}
 use Rattle.litmus_reader.specs.Layout.{IsVisible}
 use Rattle.litmus_reader.specs.Columns.{Cells, IsRow, AreRows, IsTable, column_of, IsCode}
 use Rattle.litmus_reader.specs.Columns.AreRows.{none, blank, row}
 use Rattle.litmus_reader.proofs.ShapeLaws.{parts_found, parts_only, cut_found, cut_only, visible_matches, first_found, first_only}
 use Rattle.litmus_reader.proofs.RowGrammar.{blank_found, blank_only, row_found, row_only, first_row_found, first_row_only}
+use Rattle.texts.specs.declared.pieces.Separators.TheVariants.{Byte}
 
 -- ---- one column
 
@@ -256,7 +256,7 @@ lines_only harts columns lines rows ends count (row line below cells others is f
 -- ---- the table
 
 -- where nothing follows the first row, nothing is read
-below_same : (columns : List Column) (o : Option (List ℕ)) → lines_told columns (parts 10 (unwrap_or o [])) ≡ lines_told columns (parts_after 10 o)
+below_same : (columns : List Column) (o : Option (List ℕ)) → lines_told columns (pieces (Byte 10) (unwrap_or o [])) ≡ lines_told columns (pieces_after (Byte 10) o)
 unfolding line_told
 below_same columns None = refl
 below_same columns (Some rest) = refl
@@ -269,9 +269,9 @@ table_found table columns codes e done = go (from_line mark.Visible table) refl 
     go None nowhere f = absurd cc
     go (Some from) at f =
         let below = unwrap_or (after (is_byte 10) from) [] in
-        let step = bind_ok (harts_in (before (is_byte 10) from)) (λ (harts : ℕ). lines_told (replicate harts []) (parts_after 10 (after (is_byte 10) from))) columns f in
+        let step = bind_ok (harts_in (before (is_byte 10) from)) (λ (harts : ℕ). lines_told (replicate harts []) (pieces_after (Byte 10) (after (is_byte 10) from))) columns f in
         let first = first_row_found (before (is_byte 10) from) step.0 step.1 in
-        let lines = lines_found (replicate step.0 []) (parts 10 below) columns (below_same (replicate step.0 []) (after (is_byte 10) from) ∙ step.2) in
+        let lines = lines_found (replicate step.0 []) (pieces (Byte 10) below) columns (below_same (replicate step.0 []) (after (is_byte 10) from) ∙ step.2) in
         let coded = codes_found lines.rows 0 step.0 columns codes lines.ended done in (
           lines.rows,
           record {
@@ -280,7 +280,7 @@ table_found table columns codes e done = go (from_line mark.Visible table) refl 
             first = before (is_byte 10) from;
             below = below;
             names = first.names;
-            lines = parts 10 below;
+            lines = pieces (Byte 10) below;
             begins = first_found mark.Visible IsVisible visible_matches table from at;
             cut = cut_found from;
             row = first.row;
@@ -288,7 +288,7 @@ table_found table columns codes e done = go (from_line mark.Visible table) refl 
             counted = first.counted ∙ sym coded.1;
             few = subst (λ (n : ℕ). n ≤ 64) (sym coded.1) first.few;
             parted = parts_found 10 below;
-            written = subst (λ (n : ℕ). AreRows n (parts 10 below) lines.rows) (length-replicate step.0 [] ∙ sym coded.1) lines.are;
+            written = subst (λ (n : ℕ). AreRows n (pieces (Byte 10) below) lines.rows) (length-replicate step.0 [] ∙ sym coded.1) lines.are;
           },
           coded.0,
         )
@@ -301,6 +301,6 @@ table_only table rows codes is are =
     let cut = cut_only is.from is.first is.below is.cut in
     let first = first_row_only is.first (length codes) (record { names = is.names; row = is.row; named = is.named; counted = is.counted; few = is.few }) in
     let lines = lines_only (length codes) (replicate (length codes) []) is.lines rows coded.ends (length-replicate (length codes) []) is.written coded.are coded.few in
-    let told : lines_told (replicate (length codes) []) (parts 10 is.below) ≡ Ok coded.ends = rw (parts_only 10 is.below is.lines is.parted) lines in
+    let told : lines_told (replicate (length codes) []) (pieces (Byte 10) is.below) ≡ Ok coded.ends = rw (parts_only 10 is.below is.lines is.parted) lines in
     let below = sym (below_same (replicate (length codes) []) (after (is_byte 10) is.from)) ∙ rw cut.1 told in
     (coded.ends, rw (begun.1, cut.0, first) below, coded.told)

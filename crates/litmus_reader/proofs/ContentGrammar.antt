@@ -11,7 +11,7 @@ use Rattle.litmus_reader.specs.declared.faults.LitmusFault.{LitmusFault}
 use Rattle.litmus_reader.specs.declared.marks.Mark.TheVariants as mark
 use Rattle.litmus_reader.specs.Marks.{before_line, from_line}
 use Rattle.litmus_reader.specs.Header.{behind_header, behind_brace}
-use Rattle.litmus_reader.specs.Parts.{parts}
+use Rattle.texts.specs.Pieces.{pieces}
 use Rattle.litmus_reader.specs.Locations.{Names}
 use Rattle.litmus_reader.specs.Init.{Settings, items_at, behind_init, no_settings, pieces_told}
 use Rattle.litmus_reader.specs.Table.{Code, Column, table_at, codes_of}
@@ -29,6 +29,7 @@ use Rattle.litmus_reader.proofs.ItemLaws.{items_found, items_only}
 use Rattle.litmus_reader.proofs.FirstValueLaws.{values_found, values_only, registers_later, words_later, registers_one, words_one}
 use Rattle.litmus_reader.proofs.ColumnLaws.{AreCodes, table_found, table_only}
 use Rattle.litmus_reader.proofs.AskedLaws.{asked_found, asked_only}
+use Rattle.texts.specs.declared.pieces.Separators.TheVariants.{Byte}
 
 -- ---- harts: their code beside their registers
 
@@ -129,7 +130,7 @@ record Read (text : List ℕ) (whole : Content) : Type 0 where
   rest : List ℕ
   headed : behind_header text ≡ Ok below
   braced : behind_brace below ≡ Ok inner
-  items : pieces_told no_settings (parts 59 (before (is_byte 125) inner)) ≡ Ok settings
+  items : pieces_told no_settings (pieces (Byte 59) (before (is_byte 125) inner)) ≡ Ok settings
   closed : after (is_byte 125) inner ≡ Some rest
   behind : Behind settings rest whole
 
@@ -150,7 +151,7 @@ content_found text whole e =
     let below = behind.below in
     let harts = length behind.codes in
     let asking = asking harts read.settings.names (from_line mark.Condition read.rest) below.condition below.asks in
-    let items = items_found (parts 59 (before (is_byte 125) read.inner)) read.settings read.items in
+    let items = items_found (pieces (Byte 59) (before (is_byte 125) read.inner)) read.settings read.items in
     let puts = items.0 in
     let few : length (each_once (names_in puts)) ≤ 1024 = subst (λ (names : Names). length names ≤ 1024) items.2 items.3 in
     let table = table_found (before_line mark.Condition read.rest) behind.columns behind.codes behind.rows behind.placed in
@@ -166,7 +167,7 @@ content_found text whole e =
       init = before (is_byte 125) read.inner;
       table = before_line mark.Condition read.rest;
       asked = asking.text;
-      parts = parts 59 (before (is_byte 125) read.inner);
+      parts = pieces (Byte 59) (before (is_byte 125) read.inner);
       puts = puts;
       rows = table.0;
       words = asked.0;

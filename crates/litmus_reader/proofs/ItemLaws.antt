@@ -6,11 +6,13 @@ use Rattle.std.proofs.lemmas.List.{append-nil}
 use Rattle.std.proofs.lemmas.List.Folds.{list_all-append}
 use Rattle.texts.specs.Results.{◌>>=◌}
 use Rattle.texts.proofs.ResultLaws.{bind_ok, ok_is}
-use Rattle.litmus_words.specs.Cores.{is_gap, core, without_front}
+use Rattle.texts.specs.Pieces.{is_gap}
+use Rattle.litmus_words.specs.Names.{core}
+use Rattle.texts.specs.Cutting.{AllPass}
 use Rattle.litmus_words.specs.Settings.{Place, Put, IsDeclared, IsItem}
 use Rattle.litmus_words.specs.Settings.Place.{in_register, at_location}
 use Rattle.litmus_words.specs.Reading.{item_at}
-use Rattle.litmus_words.specs.Words.{AllGaps}
+use Rattle.texts.proofs.TrimLaws.{stripped_all}
 use Rattle.litmus_words.proofs.ItemLaws.{item_found, item_read}
 use Rattle.litmus_reader.specs.declared.faults.LitmusFault.{LitmusFault}
 use Rattle.litmus_reader.specs.declared.init.Target.{Target}
@@ -141,21 +143,16 @@ item_only_told puts so_far put told few =
 
 -- ---- gaps, and texts of items
 
-told_gaps : (text : List ℕ) → list_all is_gap text ≡ true → AllGaps text
+told_gaps : (text : List ℕ) → list_all is_gap text ≡ true → AllPass is_gap text
 told_gaps [] e = tt
 told_gaps (c ∷ rest) e = let both = and_parts (is_gap c) (list_all is_gap rest) e in (both.0, told_gaps rest both.1)
 
-gaps_told : (text : List ℕ) → AllGaps text → list_all is_gap text ≡ true
+gaps_told : (text : List ℕ) → AllPass is_gap text → list_all is_gap text ≡ true
 gaps_told [] all = refl
 gaps_told (c ∷ rest) all = and_from (is_gap c) (list_all is_gap rest) all.0 (gaps_told rest all.1)
 
 no_core : (text : List ℕ) → list_all is_gap text ≡ true → core text ≡ []
-unfolding core
-no_core text e = rw (no_front text (told_gaps text e)) refl
-  where
-    no_front : (gaps : List ℕ) → AllGaps gaps → without_front gaps ≡ []
-    no_front [] all = refl
-    no_front (c ∷ gaps) all = rw all.0 (no_front gaps all.1)
+no_core text e = stripped_all is_gap text (told_gaps text e)
 
 declared_solid : (text : List ℕ) (place : Place) → IsDeclared text place → list_all is_gap text ≡ true → ⊥
 declared_solid text (in_register hart register) is gaps = is
@@ -168,7 +165,7 @@ item_solid text put (inr (inr (declared, zero_is))) = false_from_ne_true (list_a
 
 -- ---- piece by piece
 
-piece_found : (puts : List Put) (so_far more : Settings) (piece : List ℕ) → AreTold puts so_far → piece_told so_far piece ≡ Ok more → (AllGaps piece × AreTold puts more) ⊎ ((put : Put) × IsItem piece put × AreTold (puts ++ put ∷ []) more)
+piece_found : (puts : List Put) (so_far more : Settings) (piece : List ℕ) → AreTold puts so_far → piece_told so_far piece ≡ Ok more → (AllPass is_gap piece × AreTold puts more) ⊎ ((put : Put) × IsItem piece put × AreTold (puts ++ put ∷ []) more)
 unfolding piece_told item_told
 piece_found puts so_far more piece told e = elim (cases_Bool (list_all is_gap piece)) [
   | inl gaps ↦ inl (told_gaps piece gaps, subst (AreTold puts) (ok_is LitmusFault so_far more (rw gaps at e)) told)
@@ -191,7 +188,7 @@ pieces_found (piece ∷ ps) puts so_far settings told e =
           (one.0 ∷ rest.0, item piece ps one.0 rest.0 one.1 rest.1, subst (λ (xs : List Put). AreTold xs settings) (append_assoc puts (one.0 ∷ []) rest.0) rest.2))
     ]
 
-piece_empty : (so_far : Settings) (piece : List ℕ) → AllGaps piece → piece_told so_far piece ≡ Ok so_far
+piece_empty : (so_far : Settings) (piece : List ℕ) → AllPass is_gap piece → piece_told so_far piece ≡ Ok so_far
 unfolding piece_told
 piece_empty so_far piece gaps = rw (gaps_told piece gaps) refl
 

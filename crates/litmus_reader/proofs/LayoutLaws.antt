@@ -3,17 +3,16 @@ use Rattle.std.proofs.Common.{◌≡◌, ℕ, true, false, not, List, [], ◌∷
 use Rattle.std.specs.Prelude.{◌==◌, codes, unwrap_or}
 use Rattle.std.proofs.lemmas.Bool.{cases_Bool, and_parts, and_from, ne_eqb}
 use Rattle.texts.specs.Pieces.{is_blank}
-use Rattle.texts.specs.Cutting.{before, after, is_byte, without_front}
-use Rattle.assembler.specs.Spelled.{AreBlanks}
-use Rattle.assembler.proofs.Plain.{before_stop, after_stop}
-use Rattle.assembler.proofs.Trimming.{front_split, cut_byte, before_passes_not}
+use Rattle.texts.specs.Cutting.{before, after, is_byte, without_front, AreBlanks}
+use Rattle.texts.proofs.CuttingLaws.{before_stop, after_stop, cut_byte, before_passes_not}
+use Rattle.texts.proofs.TrimLaws.{leading_first, leading_split}
 use Rattle.litmus_reader.specs.declared.marks.Mark.TheVariants as mark
 use Rattle.litmus_reader.specs.Marks.{has_word, before_line, from_line}
 use Rattle.litmus_reader.specs.Header.{has_name, is_header, behind_line, behind_header, behind_front, behind_brace}
 use Rattle.litmus_reader.specs.Shapes.{IsCut, IsFirst}
 use Rattle.litmus_reader.specs.Shapes.IsFirst.{here, below as further}
 use Rattle.litmus_reader.specs.Layout.{IsVisible, BeginsWith, BeginsCondition, IsHeader, IsLaidOut}
-use Rattle.litmus_reader.proofs.ShapeLaws.{none_passes, has_none, cut_found, cut_only, first_solid, front_of, word_cut, word_only, visible_matches, brace_matches, condition_matches, first_found, first_only}
+use Rattle.litmus_reader.proofs.ShapeLaws.{none_passes, has_none, cut_found, cut_only, front_of, word_cut, word_only, visible_matches, brace_matches, condition_matches, first_found, first_only}
 
 -- the text from that line on begins so
 pub first_begins : (B : List ℕ → Type 0) (text above from : List ℕ) → IsFirst B text above from → B from
@@ -42,14 +41,14 @@ name_found (b ∷ text) h = go (without_front text) refl both.1
     go : (kept : List ℕ) → without_front text ≡ kept → not (length kept == 0) ≡ true → Name (b ∷ text)
     go [] e some = absurd cc
     go (c ∷ rest) e some =
-        let front = front_split text in
-        record { b = b; gap = front.0; c = c; rest = rest; blanks = (both.0, front.1); solid = first_solid text c rest e; whole = ap (λ (ys : List ℕ). b ∷ ys) (front.2 ∙ ap (λ (ys : List ℕ). front.0 ++ ys) e) }
+        let front = leading_split is_blank text in
+        record { b = b; gap = front.0; c = c; rest = rest; blanks = (both.0, front.1); solid = leading_first is_blank text c rest e; whole = ap (λ (ys : List ℕ). b ∷ ys) (front.2 ∙ ap (λ (ys : List ℕ). front.0 ++ ys) e) }
 
 header_found : (line : List ℕ) → is_header line ≡ true → IsHeader line
 unfolding is_header
 header_found line h =
     let both = and_parts (has_word (codes "RISCV") (without_front line)) (has_name (drop 5 (without_front line))) h in
-    let front = front_split line in
+    let front = leading_split is_blank line in
     let name = name_found (drop 5 (without_front line)) both.1 in
     let whole : without_front line ≡ codes "RISCV" ++ name.b ∷ (name.gap ++ name.c ∷ name.rest) = word_cut (codes "RISCV") (without_front line) both.0 ∙ ap (λ (ys : List ℕ). codes "RISCV" ++ ys) name.whole in
     (front.0, name.gap, name.rest, name.b, name.c, front.1, name.blanks, name.solid, front.2 ∙ ap (λ (ys : List ℕ). front.0 ++ ys) whole)

@@ -1,4 +1,3 @@
-pub mod PartLaws
 pub mod LineLaws
 pub mod MarkLaws
 pub mod TableLaws

@@ -6,11 +6,11 @@ use Rattle.litmus_words.specs.Settings.Place.{in_register, at_location}
 use Rattle.litmus_words.specs.Settings.Value.{number, address_of}
 use Rattle.litmus_words.specs.Reading.{setting_at}
 use Rattle.litmus_words.specs.Words.{Token, Beginning, nothing, begins, no_word, conjunction, disjunction, is_mark, behind_not, paired, told_atom, told_not, unmarked, begun, beginning_of}
-use Rattle.texts.specs.Cutting.{before}
-use Rattle.litmus_words.specs.Cores.{from_first, without_front}
+use Rattle.texts.specs.Cutting.{before, from_first, without_leading}
 use Rattle.litmus_words.proofs.SettingLaws.{setting_found}
 use Rattle.litmus_reader.specs.Locations.{HasLocation, HasName, HasNames}
 use Rattle.litmus_reader.specs.Condition.{WordHasNames}
+use Rattle.texts.specs.Pieces.{is_gap}
 
 place_names : (text : List ℕ) (place : Place) → IsPlace text place → HasLocation place
 place_names text (in_register hart register) is = tt
@@ -76,7 +76,7 @@ begun_named (c ∷ rest) = either_named (c == 40) _ _ tt (either_named (c == 41)
 
 pub first_named : (text : List ℕ) → Named (beginning_of text)
 unfolding beginning_of
-first_named text = begun_named (without_front text)
+first_named text = begun_named (without_leading is_gap text)
 
 pub word_named : (text rest : List ℕ) (token : Token) → begins token rest ≡ beginning_of text → WordHasNames token
 word_named text rest token is = let P : Beginning → Type 0 = λ b. Named b in subst P (sym is) (first_named text)

@@ -4,11 +4,10 @@ use Rattle.std.specs.Fmt.{decimal}
 use Rattle.std.proofs.lemmas.Bool.{cases_Bool, eqb-true, le-ltb, ltb-false, false_from_ne_true}
 use Rattle.std.proofs.lemmas.Slice.Eq.{bytes_eq-Decides}
 use Rattle.texts.specs.Pieces.{is_blank}
-use Rattle.texts.specs.Cutting.{before, after, is_byte, trimmed}
+use Rattle.texts.specs.Cutting.{before, after, is_byte, trimmed, AreBlanks, IsPadded, NonePass}
 use Rattle.texts.proofs.ResultLaws.{ok_is, bind_ok, guard_ok}
-use Rattle.assembler.specs.Spelled.{AreBlanks, IsPadded}
-use Rattle.assembler.proofs.Plain.{NonePass, before_stop, after_stop, trimmed_solid, decimal_none, digit_no_blank}
-use Rattle.assembler.proofs.Trimming.{cut_byte, before_passes_not, padded_trimmed, trimmed_padded}
+use Rattle.texts.proofs.CuttingLaws.{before_stop, after_stop, decimal_none, digit_no_blank, cut_byte, before_passes_not}
+use Rattle.texts.proofs.TrimLaws.{stripped_none, padded_stripped, stripped_padded}
 use Rattle.litmus_reader.specs.declared.faults.LitmusFault.{LitmusFault}
 use Rattle.litmus_reader.specs.declared.faults.LitmusFault.TheVariants.{TooMany}
 use Rattle.litmus_reader.specs.Rows.{is_blank_line, ended_by, row_in, cells_of, names_hart, name_harts, at_most_64, all_named, harts_of, harts_in}
@@ -75,7 +74,7 @@ row_only line cells is =
 names_found : (hart : ℕ) (cells : Cells) → name_harts hart cells ≡ true → AreNames hart cells
 names_found hart [] e = tt
 names_found hart (cell ∷ cells) e = elim (cases_Bool (names_hart hart cell)) [
-  | inl named ↦ (subst (λ (core : List ℕ). IsPadded core cell) ((bytes_eq-Decides (trimmed cell) (80 ∷ decimal hart)).0 named) (padded_trimmed cell), names_found (hart + 1) cells (rw named at e))
+  | inl named ↦ (subst (λ (core : List ℕ). IsPadded core cell) ((bytes_eq-Decides (trimmed cell) (80 ∷ decimal hart)).0 named) (padded_stripped is_blank cell), names_found (hart + 1) cells (rw named at e))
   | inr other ↦ absurd (let f = rw other at e in cc)
 ]
 
@@ -85,7 +84,7 @@ name_solid hart fits = (refl, decimal_none is_blank (λ d lt. digit_no_blank d) 
 names_only : (hart : ℕ) (cells : Cells) → hart + length cells ≤ 64 → AreNames hart cells → name_harts hart cells ≡ true
 names_only hart [] few are = refl
 names_only hart (cell ∷ cells) few are =
-    let same = trimmed_padded (80 ∷ decimal hart) cell are.0 ∙ trimmed_solid (80 ∷ decimal hart) (name_solid hart (omega arith)) in
+    let same = stripped_padded is_blank (80 ∷ decimal hart) cell are.0 ∙ stripped_none is_blank (80 ∷ decimal hart) (name_solid hart (omega arith)) in
     let named : names_hart hart cell ≡ true = (bytes_eq-Decides (trimmed cell) (80 ∷ decimal hart)).1 same in
     rw named (names_only (hart + 1) cells (omega arith) are.1)
 

@@ -5,20 +5,18 @@ use Rattle.std.specs.List.{onto_first}
 use Rattle.std.proofs.lemmas.Bool.{cases_Bool, eq-eqb, eqb-true, or_cases, or_left, or_right, not-true, false_from_ne_true}
 use Rattle.std.proofs.lemmas.Slice.Eq.{starts_is}
 use Rattle.std.proofs.lemmas.Bool.Decides.{Decides-eqb}
-use Rattle.texts.specs.Pieces.{is_blank}
-use Rattle.texts.specs.Cutting.{before, after, is_byte, without_front}
-use Rattle.assembler.specs.Spelled.{AreBlanks}
-use Rattle.assembler.proofs.Plain.{NonePass, before_none, after_none, before_stop, after_stop}
-use Rattle.assembler.proofs.Trimming.{front_past, front_split, cut_byte, uncut, before_passes_not}
+use Rattle.texts.specs.Pieces.{is_blank, pieces}
+use Rattle.texts.specs.Cutting.{before, after, is_byte, without_front, AreBlanks, NonePass}
+use Rattle.texts.proofs.CuttingLaws.{before_none, after_none, before_stop, after_stop, cut_byte, uncut, before_passes_not, split_cut}
+use Rattle.texts.proofs.TrimLaws.{leading_first, leading_past, leading_split}
 use Rattle.litmus_reader.specs.declared.marks.Mark.{Mark}
 use Rattle.litmus_reader.specs.declared.marks.Mark.TheVariants as mark
-use Rattle.litmus_reader.specs.Parts.{parts}
 use Rattle.litmus_reader.specs.Marks.{has_word, is_visible, is_brace, is_unread, is_condition, begins, before_next, from_next, before_line, from_line}
 use Rattle.litmus_reader.specs.Shapes.{HasNo, AreParts, IsCut, IsFirst, NoneBegins}
 use Rattle.litmus_reader.specs.Shapes as shape
 use Rattle.litmus_reader.specs.Shapes.IsFirst.{here, below as further}
 use Rattle.litmus_reader.specs.Layout.{IsVisible, BeginsWith, BeginsUnread, BeginsCondition}
-use Rattle.litmus_reader.proofs.PartLaws.{parts_cut}
+use Rattle.texts.specs.declared.pieces.Separators.TheVariants.{Byte}
 
 -- ---- parts
 
@@ -34,21 +32,21 @@ longer_first : (byte c : ℕ) (text : List ℕ) (ps : List (List ℕ)) → (c ==
 longer_first byte c text ps other (shape.AreParts.last part none) = shape.AreParts.last (c ∷ part) (other, none)
 longer_first byte c text ps other (shape.AreParts.more part rest others none below) = shape.AreParts.more (c ∷ part) rest others (other, none) below
 
-pub parts_found : (byte : ℕ) (text : List ℕ) → AreParts byte text (parts byte text)
+pub parts_found : (byte : ℕ) (text : List ℕ) → AreParts byte text (pieces (Byte byte) text)
 parts_found byte [] = shape.AreParts.last [] tt
 parts_found byte (c ∷ text) = elim (cases_Bool (c == byte)) [
-  | inl same ↦ rw same (subst (λ (b : ℕ). AreParts byte (b ∷ text) ([] ∷ parts byte text)) (sym (eqb-true c byte same)) (shape.AreParts.more [] text (parts byte text) tt (parts_found byte text)))
-  | inr other ↦ rw other (longer_first byte c text (parts byte text) other (parts_found byte text))
+  | inl same ↦ rw same (subst (λ (b : ℕ). AreParts byte (b ∷ text) ([] ∷ pieces (Byte byte) text)) (sym (eqb-true c byte same)) (shape.AreParts.more [] text (pieces (Byte byte) text) tt (parts_found byte text)))
+  | inr other ↦ rw other (longer_first byte c text (pieces (Byte byte) text) other (parts_found byte text))
 ]
 
-pub parts_only : (byte : ℕ) (text : List ℕ) (ps : List (List ℕ)) → AreParts byte text ps → parts byte text ≡ ps
+pub parts_only : (byte : ℕ) (text : List ℕ) (ps : List (List ℕ)) → AreParts byte text ps → pieces (Byte byte) text ≡ ps
 parts_only byte text ps (shape.AreParts.last part none) =
     let passes = none_passes byte part none in
-    parts_cut byte part ∙ rw (before_none (is_byte byte) part passes, after_none (is_byte byte) part passes) refl
+    split_cut (is_byte byte) part ∙ rw (before_none (is_byte byte) part passes, after_none (is_byte byte) part passes) refl
 parts_only byte text ps (shape.AreParts.more part rest others none below) =
     let passes = none_passes byte part none in
     let stops : is_byte byte byte ≡ true = eq-eqb byte byte refl in
-    parts_cut byte (part ++ byte ∷ rest) ∙ rw (before_stop (is_byte byte) part byte rest passes stops, after_stop (is_byte byte) part byte rest passes stops) (ap (λ (qs : List (List ℕ)). part ∷ qs) (parts_only byte rest others below))
+    split_cut (is_byte byte) (part ++ byte ∷ rest) ∙ rw (before_stop (is_byte byte) part byte rest passes stops, after_stop (is_byte byte) part byte rest passes stops) (ap (λ (qs : List (List ℕ)). part ∷ qs) (parts_only byte rest others below))
 
 -- ---- the first line
 
@@ -73,22 +71,14 @@ pub record Matches (m : Mark) (B : List ℕ → Type 0) : Type 0 where
   pub found : (text : List ℕ) → begins m text ≡ true → B text
   pub only : (text : List ℕ) → B text → begins m text ≡ true
 
--- what follows the blanks begins with a byte that isn't one
-pub first_solid : (text : List ℕ) (c : ℕ) (rest : List ℕ) → without_front text ≡ c ∷ rest → is_blank c ≡ false
-first_solid [] c rest e = absurd cc
-first_solid (d ∷ text) c rest e = elim (cases_Bool (is_blank d)) [
-  | inl blank ↦ first_solid text c rest (rw blank at e)
-  | inr solid ↦ (let f : d ∷ text ≡ c ∷ rest = rw solid at e in let same : d ≡ c = cc in subst (λ (b : ℕ). is_blank b ≡ false) same solid)
-]
-
 pub front_of : (blanks : List ℕ) (c : ℕ) (rest : List ℕ) → AreBlanks blanks → is_blank c ≡ false → without_front (blanks ++ c ∷ rest) ≡ c ∷ rest
-front_of blanks c rest are solid = front_past blanks (c ∷ rest) are ∙ rw solid refl
+front_of blanks c rest are solid = leading_past is_blank blanks (c ∷ rest) are ∙ rw solid refl
 
 split_visible : (text kept : List ℕ) → without_front text ≡ kept → is_visible kept ≡ true → IsVisible text
 split_visible text [] e h = absurd cc
 split_visible text (c ∷ rest) e h =
-    let front = front_split text in
-    (front.0, rest, c, front.1, first_solid text c rest e, not-true (c == 10) h, front.2 ∙ ap (λ (ys : List ℕ). front.0 ++ ys) e)
+    let front = leading_split is_blank text in
+    (front.0, rest, c, front.1, leading_first is_blank text c rest e, not-true (c == 10) h, front.2 ∙ ap (λ (ys : List ℕ). front.0 ++ ys) e)
 
 pub visible_matches : Matches mark.Visible IsVisible
 unfolding begins
@@ -102,7 +92,7 @@ word_cut word line h = (starts_is Decides-eqb line word (has_word word line) ref
 
 pub word_found : (word text : List ℕ) → has_word word (without_front text) ≡ true → BeginsWith word text
 word_found word text h =
-    let front = front_split text in
+    let front = leading_split is_blank text in
     (front.0, drop (length word) (without_front text), front.1, front.2 ∙ ap (λ (ys : List ℕ). front.0 ++ ys) (word_cut word (without_front text) h))
 
 pub word_only : (c : ℕ) (letters text : List ℕ) → is_blank c ≡ false → BeginsWith (c ∷ letters) text → has_word (c ∷ letters) (without_front text) ≡ true
@@ -113,7 +103,7 @@ word_only c letters text solid is =
 split_brace : (text kept : List ℕ) → without_front text ≡ kept → is_brace kept ≡ true → BeginsWith (codes "{") text
 split_brace text [] e h = absurd cc
 split_brace text (c ∷ rest) e h =
-    let front = front_split text in
+    let front = leading_split is_blank text in
     (front.0, rest, front.1, front.2 ∙ ap (λ (ys : List ℕ). front.0 ++ ys) (e ∙ ap (λ (b : ℕ). b ∷ rest) (eqb-true c 123 h)))
 
 pub brace_matches : Matches mark.Brace (BeginsWith (codes "{"))

@@ -1,6 +1,6 @@
 -- The condition: its quantifier and its words.
 use Rattle.std.specs.Prelude.{◌≡◌, ℕ, ◌*◌, ◌<◌, List, [], ◌∷◌, ◌++◌, codes}
-use Rattle.assembler.specs.Spelled.{AreBlanks}
+use Rattle.texts.specs.Cutting.{AreBlanks}
 use Rattle.litmus.specs.declared.verdict.Quantifier.{Quantifier}
 use Rattle.litmus.specs.declared.verdict.Quantifier.TheVariants.{Exists, NotExists, ForAll}
 use Rattle.litmus.specs.declared.words.Place.{Place}

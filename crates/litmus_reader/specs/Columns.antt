@@ -3,7 +3,7 @@ use Rattle.std.specs.Prelude.{◌≡◌, ℕ, ◌+◌, ◌≤◌, List, [], ◌�
 use Rattle.std.specs.List.{slice_index_or}
 use Rattle.std.specs.Fmt.{decimal}
 use Rattle.rv_decode.specs.declared.instruction.Instr.{Instr}
-use Rattle.assembler.specs.Spelled.{AreBlanks, IsPadded}
+use Rattle.texts.specs.Cutting.{AreBlanks, IsPadded}
 use Rattle.assembler.specs.Drafts.{Line}
 use Rattle.assembler.specs.Program.{AreLines, AreInstrs}
 use Rattle.litmus_reader.specs.Table.{Code}

@@ -2,7 +2,7 @@
 use Rattle.std.specs.Prelude.{ℕ, List, [], ◌∷◌, ◌++◌, map, Option, None, Some, Result, Ok, Err, if◌then◌else◌}
 use Rattle.std.specs.List.{list_all}
 use Rattle.texts.specs.Results.{◌>>=◌}
-use Rattle.litmus_words.specs.Cores.{is_gap}
+use Rattle.texts.specs.Pieces.{is_gap, pieces}
 use Rattle.litmus_words.specs.Settings.{Place, Put}
 use Rattle.litmus_words.specs.Settings.Place.{in_register, at_location}
 use Rattle.litmus_words.specs.Reading.{item_at}
@@ -12,8 +12,8 @@ use Rattle.litmus_reader.specs.declared.init.Item.{Item}
 use Rattle.litmus_reader.specs.declared.init.Init.{Init}
 use Rattle.litmus_reader.specs.declared.init.Target.{Target}
 use Rattle.litmus_reader.specs.declared.init.Target.TheVariants.{Register, Word}
-use Rattle.litmus_reader.specs.Parts.{parts}
 use Rattle.litmus_reader.specs.Locations.{Names, met, value_met}
+use Rattle.texts.specs.declared.pieces.Separators.TheVariants.{Byte}
 
 -- an item: where it puts which value
 pub record Setting : Type 0 where
@@ -62,7 +62,7 @@ pieces_told so_far (piece ∷ pieces) = do
 
 -- the items of a text
 unfoldable pub items_at : List ℕ → Result Settings LitmusFault
-items_at text = pieces_told no_settings (parts 59 text)
+items_at text = pieces_told no_settings (pieces (Byte 59) text)
 
 -- what follows the init part; its `}` may be missing
 abbrev pub behind_init : Option (List ℕ) → Result (List ℕ) LitmusFault

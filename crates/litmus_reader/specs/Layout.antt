@@ -2,7 +2,7 @@
 -- between braces, the table, and the condition from its first line on.
 use Rattle.std.specs.Prelude.{◌≡◌, ℕ, ◌==◌, false, ◌⊎◌, List, ◌∷◌, ◌++◌, codes}
 use Rattle.texts.specs.Pieces.{is_blank}
-use Rattle.assembler.specs.Spelled.{AreBlanks}
+use Rattle.texts.specs.Cutting.{AreBlanks}
 use Rattle.litmus_reader.specs.Shapes.{HasNo, IsCut, IsFirst}
 
 -- ---- how a line begins, told of the text from that line on

@@ -2,7 +2,6 @@ pub mod Faults
 pub mod Lines
 pub mod Marks
 pub mod Header
-pub mod Parts
 pub mod Locations
 pub mod Init
 pub mod Rows

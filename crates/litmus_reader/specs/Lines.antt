@@ -3,15 +3,14 @@
 use Rattle.std.specs.Prelude.{ℕ, zero, suc, ◌+◌, ◌-◌, ◌==◌, Bool, not, List, [], ◌∷◌, length, take, min, position, Option, Some, None, if◌then◌else◌}
 use Rattle.std.specs.List.{count_by}
 use Rattle.std.specs.Str.Lines.{lines}
-use Rattle.texts.specs.Pieces.{span}
+use Rattle.texts.specs.Pieces.{span, is_gap, pieces}
 use Rattle.texts.specs.Cutting.{is_byte}
-use Rattle.litmus_words.specs.Cores.{is_gap}
 use Rattle.litmus_reader.specs.declared.faults.LitmusError.{LitmusError}
 use Rattle.litmus_reader.specs.declared.faults.LitmusError.TheVariants.{NoMemory, Refused}
 use Rattle.litmus_reader.specs.declared.refusals.Refusal.{Refusal}
 use Rattle.litmus_reader.specs.declared.refusals.Refusal.TheVariants as refusal
-use Rattle.litmus_reader.specs.Parts.{parts}
 use Rattle.litmus_reader.specs.Rows.{is_blank_line}
+use Rattle.texts.specs.declared.pieces.Separators.TheVariants.{Byte}
 
 abbrev pub with_line : List ℕ → ℕ → ℕ
 with_line [] zero = 0
@@ -57,7 +56,7 @@ left_from row [] = 0
 left_from row (line ∷ below) = if is_blank_line line then left_from row below else (if row == 0 then span (line ∷ below) - 1 else left_from (row - 1) below)
 
 unfoldable pub left_at_row : List ℕ → (row : ℕ) → ℕ
-left_at_row text row = left_from row (parts 10 text)
+left_at_row text row = left_from row (pieces (Byte 10) text)
 
 -- the first row of those so far and this one
 abbrev pub earlier : Option ℕ → ℕ → ℕ

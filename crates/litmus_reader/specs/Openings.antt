@@ -5,13 +5,14 @@ use Rattle.std.specs.Str.{bytes_eq}
 use Rattle.litmus_words.specs.Settings.{Place, Value, Put, IsItem}
 use Rattle.litmus_words.specs.Settings.Place.{in_register, at_location}
 use Rattle.litmus_words.specs.Settings.Value.{number, address_of}
-use Rattle.litmus_words.specs.Words.{AllGaps}
+use Rattle.texts.specs.Pieces.{is_gap}
+use Rattle.texts.specs.Cutting.{AllPass}
 use Rattle.litmus_reader.specs.Locations.{Names}
 
 -- The items that stand between `;`; blanks and line ends alone are none.
 pub data AreItems : List (List ℕ) → List Put → Type 0 where
   none : AreItems [] []
-  empty : (part : List ℕ) (parts : List (List ℕ)) (puts : List Put) → AllGaps part → AreItems parts puts → AreItems (part ∷ parts) puts
+  empty : (part : List ℕ) (parts : List (List ℕ)) (puts : List Put) → AllPass is_gap part → AreItems parts puts → AreItems (part ∷ parts) puts
   item : (part : List ℕ) (parts : List (List ℕ)) (put : Put) (puts : List Put) → IsItem part put → AreItems parts puts → AreItems (part ∷ parts) (put ∷ puts)
 
 -- ---- locations

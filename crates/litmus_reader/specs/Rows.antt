@@ -4,9 +4,10 @@ use Rattle.std.specs.Str.{bytes_eq}
 use Rattle.std.specs.Fmt.{decimal}
 use Rattle.texts.specs.Results.{◌>>=◌}
 use Rattle.texts.specs.Cutting.{before, after, is_byte, without_front, trimmed}
-use Rattle.litmus_reader.specs.Parts.{parts}
+use Rattle.texts.specs.Pieces.{pieces}
 use Rattle.litmus_reader.specs.declared.faults.LitmusFault.{LitmusFault}
 use Rattle.litmus_reader.specs.declared.faults.LitmusFault.TheVariants.{BadTable, TooMany}
+use Rattle.texts.specs.declared.pieces.Separators.TheVariants.{Byte}
 
 abbrev pub is_blank_line : List ℕ → Bool
 is_blank_line line = length (without_front line) == 0
@@ -21,7 +22,7 @@ row_in line = ended_by (before (is_byte 59) line) (after (is_byte 59) line)
 
 -- the cells, which `|` parts
 abbrev pub cells_of : List ℕ → List (List ℕ)
-cells_of row = parts 124 row
+cells_of row = pieces (Byte 124) row
 
 -- `P` and the hart's number
 abbrev pub names_hart : ℕ → List ℕ → Bool

@@ -12,8 +12,9 @@ use Rattle.litmus_reader.specs.declared.faults.LitmusFault.{LitmusFault}
 use Rattle.litmus_reader.specs.declared.faults.LitmusFault.TheVariants.{BadTable, BadInstr, TooMany}
 use Rattle.litmus_reader.specs.declared.marks.Mark.TheVariants.{Visible}
 use Rattle.litmus_reader.specs.Marks.{from_line}
-use Rattle.litmus_reader.specs.Parts.{parts_after}
+use Rattle.texts.specs.Pieces.{pieces_after}
 use Rattle.litmus_reader.specs.Rows.{is_blank_line, row_in, cells_of, harts_in}
+use Rattle.texts.specs.declared.pieces.Separators.TheVariants.{Byte}
 
 -- a hart's statements so far
 abbrev pub Column : Type 0
@@ -60,7 +61,7 @@ abbrev pub table_from : Option (List ℕ) → Result (List Column) LitmusFault
 table_from None = Err BadTable
 table_from (Some text) = do
   harts ← harts_in (before (is_byte 10) text)
-  lines_told (replicate harts []) (parts_after 10 (after (is_byte 10) text))
+  lines_told (replicate harts []) (pieces_after (Byte 10) (after (is_byte 10) text))
 
 -- the columns of a table, whose first row is the first line that isn't blank
 unfoldable pub table_at : List ℕ → Result (List Column) LitmusFault

@@ -16,10 +16,9 @@ ghost use Rattle.litmus_reader.specs.Locations.{HasLocation, HasNames};
 ghost use Rattle.litmus_reader.specs.Condition.{Quantified, quantified_of, quantifier_in, place_met, atom_met, token_met, WordHasNames, as_condition, words_told, condition_in, condition_of};
 
 use crate::faults::LitmusFault;
-use crate::gaps::left_of;
 use crate::locations::Locations;
 use crate::marks::{Mark, cut_at_line};
-use crate::refusals::Refusal;
+use crate::refusals::{Refusal, left_of};
 use crate::settings::{address_of, value_of};
 use litmus::{Condition, ConditionDraft, ConditionError, Place, Quantifier, Token};
 use litmus_words::{Front, Setting, Spot, Word, first_word};
@@ -134,6 +133,7 @@ fn push(draft: &mut ConditionDraft, token: Token, left: usize) -> Result<(), Ref
 }
 
 /// The words of a text, behind which so many bytes stand.
+#[tactic(auto, using(crate::proofs::NameLaws::word_named))]
 fn read_words(
     alloc: Global,
     text: &[u8],
@@ -208,6 +208,7 @@ fn question_in(
 
 /// The condition in this text, which goes to the end of the whole text. Its new locations join the
 /// others, and it asks for places that are there.
+#[tactic(auto, using(crate::proofs::ThereLaws::answered_there, crate::proofs::ThereLaws::answered_more))]
 pub fn read_condition(
     alloc: Global,
     text: &[u8],

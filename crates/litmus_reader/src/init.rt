@@ -8,14 +8,14 @@ ghost use Rattle.litmus_reader.specs.Locations.{HasLocation};
 ghost use Rattle.litmus_reader.specs.Init.{no_settings, target_met, piece_told, items_at, settings_of};
 
 use crate::faults::LitmusFault;
-use crate::gaps::{is_all_gaps, left_of};
 use crate::locations::Locations;
-use crate::parts::first_part;
-use crate::refusals::Refusal;
+use crate::refusals::{Refusal, left_of};
 use crate::settings::value_of;
 use litmus_words::{Spot, item_in};
 use rv_decode::Reg;
 use std::alloc::Global;
+use texts::cutting::is_all;
+use texts::{Separators, first_piece};
 
 /// Where an item puts its value.
 #[derive(Clone, Copy)]
@@ -73,7 +73,7 @@ impl Init {
     fn read(&mut self, piece: &[u8], left: usize) -> Result<(), Refusal>
         ensures { Gives fault_in (λ _. settings_of self.new) result (piece_told (settings_of self.old) piece.now) }
     {
-        if is_all_gaps(piece) {
+        if is_all(Separators::Gaps, piece) {
             return Ok(());
         }
         let Some(setting) = item_in(piece) else {
@@ -98,7 +98,7 @@ pub fn read_items(alloc: Global, text: &[u8], behind: usize) -> Result<Init, Ref
     let mut init = Init::new(alloc);
     let mut rest = Some(text);
     while let Some(bytes) = rest {
-        let (piece, after) = first_part(bytes, b';');
+        let (piece, after) = first_piece(Separators::Byte(b';'), bytes);
         init.read(piece, left_of(bytes).saturating_add(behind))?;
         rest = after;
     }

@@ -16,14 +16,12 @@
 
 mod condition;
 pub mod faults;
-mod gaps;
 mod header;
 mod init;
 pub mod laws;
 mod locations;
 mod marks;
 mod opening;
-mod parts;
 pub mod reading;
 mod refusals;
 mod rows;

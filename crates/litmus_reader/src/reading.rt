@@ -136,6 +136,7 @@ fn cleaned_test(alloc: Global, text: &[u8]) -> Result<Test, LitmusError>
 /// table, `BadTable`, and `BadInstr` where a cell is no statement; `BadInstr` where a label has no
 /// place; `BadInit` where an item names no hart of the table; and of the condition, `BadCondition`.
 /// `TooMany` comes at what passes 64 harts, 4,096 words of a hart or 1,024 locations.
+#[tactic(auto, using(crate::proofs::TestGrammar::found_test, crate::proofs::TestGrammar::only_test))]
 pub fn read(alloc: Global, text: &str) -> Result<Test, LitmusError>
     ensures found { IfOk result (IsTestOf text.now) }
     ensures only { (question : Asked) → IsTestOf text.now question → Gives fault_of (λ (test : Asked). test) result (Ok question) }

@@ -1,15 +1,15 @@
 //! Where a text is refused.
 
-ghost use Rattle.std.specs.Prelude.{◌≡◌, ◌≤◌, length, Some};
+ghost use Rattle.std.specs.Prelude.{◌≡◌, ◌≤◌, length, position, Some};
 ghost use Rattle.std.specs.List.{count_by};
 ghost use Rattle.texts.specs.Cutting.{is_byte};
 ghost use Rattle.litmus_reader.specs.declared.refusals.Refusal.TheVariants.{NoMemory, At};
 ghost use Rattle.litmus_reader.specs.Faults.{fault_of, fault_in};
-ghost use Rattle.litmus_reader.specs.Lines.{last_line, line_at, error_at};
+ghost use Rattle.litmus_reader.specs.Lines.{last_line, line_at, error_at, is_visible, left_of};
 
 use crate::faults::{LitmusError, LitmusFault};
 use std::alloc::{AllocError, AllocFailed};
-use texts::first_line;
+use texts::{Separators, first_line};
 
 /// Why a part of a text wasn't read.
 #[derive(Clone, Copy)]
@@ -103,5 +103,24 @@ impl<T: Drop> From<AllocFailed<T>> for Refusal {
 
     fn from(_error: AllocFailed<T>) -> Refusal {
         Refusal::NoMemory
+    }
+}
+
+/// The place of the first byte that is no blank and no line end.
+fn first_visible(text: &[u8]) -> Option<usize>
+    ensures { result ≡ position is_visible text.now }
+{
+    text.iter()
+        .position(|byte| !Separators::Gaps.contain(*byte))
+}
+
+/// How many bytes of the text are left where its first byte stands that is no blank and no line end.
+/// Only faults' lines are told by it.
+pub fn left_of(text: &[u8]) -> usize
+    ensures { result ≡ left_of text.now }
+{
+    match first_visible(text) {
+        Some(at) => text.len().saturating_sub(at),
+        None => text.len(),
     }
 }

@@ -9,10 +9,10 @@ ghost use Rattle.litmus_reader.specs.Faults.{fault_in};
 ghost use Rattle.litmus_reader.specs.Rows.{is_blank_line, row_in, cells_of, names_hart, name_harts, harts_in};
 
 use crate::faults::LitmusFault;
-use crate::parts::first_part;
 use crate::refusals::Refusal;
 use std::alloc::{AllocError, Global};
 use texts::cutting::{cut_at, trimmed, without_front};
+use texts::{Separators, first_piece};
 
 /// How many harts a test may have.
 pub const MAX_HARTS: usize = 64;
@@ -69,7 +69,7 @@ fn name_harts(alloc: Global, row: &[u8]) -> Result<bool, AllocError>
     let mut hart = 0;
     let mut rest = Some(row);
     while let Some(bytes) = rest {
-        let (cell, after) = first_part(bytes, b'|');
+        let (cell, after) = first_piece(Separators::Byte(b'|'), bytes);
         if !names_hart(alloc, cell, hart)? {
             return Ok(false);
         }

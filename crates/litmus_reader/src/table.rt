@@ -4,20 +4,21 @@ ghost use Rattle.std.specs.Prelude.{◌≡◌, ◌^◌, ◌<◌, ◌≤◌, List
 ghost use Rattle.std.specs.Option.{option_copied};
 ghost use Rattle.texts.specs.Results.{Gives};
 ghost use Rattle.litmus_reader.specs.Faults.{fault_in};
-ghost use Rattle.litmus_reader.specs.Parts.{parts_after};
+ghost use Rattle.texts.specs.Pieces.{pieces_after};
 ghost use Rattle.litmus_reader.specs.Rows.{cells_of};
 ghost use Rattle.litmus_reader.specs.Lines.{earlier, left_at_row};
 ghost use Rattle.litmus_reader.specs.Table.{Column, cell_told, cells_told, line_told, lines_told, table_at, codes_of, instructions, ArePlain, AreShort};
+ghost use Rattle.texts.specs.declared.pieces.Separators.TheVariants.{Byte};
 
 use crate::faults::LitmusFault;
 use crate::marks::{Mark, cut_at_line};
-use crate::parts::first_part;
 use crate::refusals::Refusal;
 use crate::rows::{count_cells, harts_in, is_blank_line, row_in};
 use assembler::{AsmError, Draft};
 use std::alloc::{AllocError, Global};
 use std::marker::Model;
 use texts::cutting::cut_at;
+use texts::{Separators, first_piece};
 
 /// How many words a hart's code may have.
 pub const MAX_WORDS: usize = 4096;
@@ -76,7 +77,7 @@ impl Table {
         let mut hart = 0;
         let mut rest = Some(row);
         while let Some(bytes) = rest {
-            let (cell, after) = first_part(bytes, b'|');
+            let (cell, after) = first_piece(Separators::Byte(b'|'), bytes);
             tell(&mut self.columns[hart], cell, left)?;
             hart += 1;
             rest = after;
@@ -101,12 +102,12 @@ impl Table {
 
     /// Reads the rows that follow the first one, behind which so many bytes stand.
     fn read_rows(&mut self, rows: Option<&[u8]>, behind: usize) -> Result<(), Refusal>
-        ensures exact { Gives fault_in (λ _. self.new) result (lines_told self.old (parts_after 10 (option_copied rows.entry))) }
+        ensures exact { Gives fault_in (λ _. self.new) result (lines_told self.old (pieces_after (Byte 10) (option_copied rows.entry))) }
         ensures same { length self.new ≡ length self.old }
     {
         let mut rest = rows;
         while let Some(bytes) = rest {
-            let (line, after) = first_part(bytes, b'\n');
+            let (line, after) = first_piece(Separators::Byte(b'\n'), bytes);
             self.read(line, bytes.len().saturating_add(behind))?;
             rest = after;
         }
@@ -140,6 +141,7 @@ impl Table {
 
     /// Each hart's words. `BadInstr` comes where a label has no place, at the first row of them, in the
     /// table's text, behind which so many bytes stand.
+    #[tactic(auto, using(crate::proofs::TableLaws::answered_count, crate::proofs::TableLaws::answered_short))]
     pub fn finish(self, alloc: Global, text: &[u8], behind: usize) -> Result<Vec<Vec<u32>>, Refusal>
         ensures exact { Gives fault_in instructions result (codes_of self) }
         ensures plain { IfOk result (λ codes. ArePlain codes.items) }
@@ -169,7 +171,7 @@ fn left_at_row(text: &[u8], row: usize) -> usize
     let mut rows = row;
     let mut rest = Some(text);
     while let Some(bytes) = rest {
-        let (line, after) = first_part(bytes, b'\n');
+        let (line, after) = first_piece(Separators::Byte(b'\n'), bytes);
         if !is_blank_line(line) {
             if rows == 0 {
                 return bytes.len();

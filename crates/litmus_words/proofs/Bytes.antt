@@ -1,19 +1,18 @@
 -- Bytes that stand in no name, and where texts are cut at them.
-use Rattle.std.proofs.Common.{◌≡◌, ℕ, ◌<◌, ◌≤◌, Bool, true, false, not, ◌==◌, List, [], ◌∷◌, ◌++◌, Option, Some, None, refl, ap, subst, inl, inr, arith}
+use Rattle.std.proofs.Common.{◌≡◌, ℕ, ◌<◌, ◌≤◌, Bool, true, false, not, ◌==◌, List, [], ◌∷◌, Option, Some, None, refl, subst, inl, inr, arith}
 use Rattle.std.specs.List.{list_all}
 use Rattle.std.specs.Char.{digit_value}
 use Rattle.std.specs.Str.Parse.{AllDigits}
 use Rattle.std.proofs.lemmas.Bool.{cases_Bool, and_parts, eqb-true, ne_eqb, lt-ltb, le-ltb}
-use Rattle.texts.specs.Cutting.{before, after, is_byte}
-use Rattle.assembler.specs.Registers.{register_named, register_names}
-use Rattle.assembler.specs.Tables.{row_of, told}
-use Rattle.assembler.proofs.Plain.{NonePass}
+use Rattle.texts.specs.Cutting.{is_byte, stripped, NonePass, without_leading, without_trailing, onto_kept}
+use Rattle.rv_decode.specs.Registers.{register_named, register_names}
+use Rattle.rv_decode.specs.Tables.{row_of, told}
 use Rattle.rv_decode.specs.Meaning.{reg_of}
 use Rattle.rv_decode.specs.declared.instruction.Reg.{Reg}
 use Rattle.std.specs.Prelude.{option_map}
 use Rattle.std.proofs.lemmas.Slice.Eq.{bytes_eq-Decides}
-use Rattle.litmus_words.specs.Cores.{is_gap, is_solid, from_first, without_end, onto_kept, core}
-use Rattle.litmus_words.specs.Names.{begins_name, goes_on_name, is_spelled, is_not, is_name}
+use Rattle.texts.specs.Pieces.{is_gap}
+use Rattle.litmus_words.specs.Names.{core, begins_name, goes_on_name, is_spelled, is_not, is_name}
 
 -- ---- a byte that is none of some others
 
@@ -32,30 +31,30 @@ none_name b none (x ∷ text) all =
 
 -- ---- what gaps round a text leave out
 
-none_behind : (p : ℕ → Bool) → ((x : ℕ) → is_gap x ≡ true → p x ≡ false) → (text : List ℕ) → NonePass p (from_first is_solid text) → NonePass p text
+none_behind : (p : ℕ → Bool) → ((x : ℕ) → is_gap x ≡ true → p x ≡ false) → (text : List ℕ) → NonePass p (without_leading is_gap text) → NonePass p text
 none_behind p gaps [] h = tt
 none_behind p gaps (x ∷ text) h = elim (cases_Bool (is_gap x)) [
   | inl gap ↦ (gaps x gap, none_behind p gaps text (rw gap at h))
   | inr solid ↦ (rw solid at h)
 ]
 
-none_before : (p : ℕ → Bool) → ((x : ℕ) → is_gap x ≡ true → p x ≡ false) → (text : List ℕ) → NonePass p (without_end text) → NonePass p text
+none_before : (p : ℕ → Bool) → ((x : ℕ) → is_gap x ≡ true → p x ≡ false) → (text : List ℕ) → NonePass p (without_trailing is_gap text) → NonePass p text
 none_before p gaps [] h = tt
-none_before p gaps (x ∷ text) h = go (none_before p gaps text) (without_end text) refl h
+none_before p gaps (x ∷ text) h = go (none_before p gaps text) (without_trailing is_gap text) refl h
   where
-    alone : (b : Bool) → is_gap x ≡ b → NonePass p (onto_kept x []) → p x ≡ false
+    alone : (b : Bool) → is_gap x ≡ b → NonePass p (onto_kept is_gap x []) → p x ≡ false
     alone true gap k = gaps x gap
     alone false solid k = (let one = rw solid at k in one.0)
 
-    go : (NonePass p (without_end text) → NonePass p text) → (ys : List ℕ) → without_end text ≡ ys → NonePass p (onto_kept x ys) → NonePass p (x ∷ text)
+    go : (NonePass p (without_trailing is_gap text) → NonePass p text) → (ys : List ℕ) → without_trailing is_gap text ≡ ys → NonePass p (onto_kept is_gap x ys) → NonePass p (x ∷ text)
     go rest [] is k = (alone (is_gap x) refl k, rest (rw is tt))
     go rest (y ∷ ys) is k = (k.0, rest (rw is k.1))
 
 pub none_round : (b : ℕ) → is_gap b ≡ false → (text : List ℕ) → NonePass (is_byte b) (core text) → NonePass (is_byte b) text
-unfolding core
+unfolding stripped
 none_round b none text h =
     let gaps = λ (x : ℕ) (gap : is_gap x ≡ true). other_byte is_gap b x none gap in
-    none_behind (is_byte b) gaps text (none_before (is_byte b) gaps (from_first is_solid text) h)
+    none_behind (is_byte b) gaps text (none_before (is_byte b) gaps (without_leading is_gap text) h)
 
 -- a text of a name's bytes, with gaps round it
 pub none_round_name : (b : ℕ) → goes_on_name b ≡ false → is_gap b ≡ false → (text name : List ℕ) → core text ≡ name → list_all goes_on_name name ≡ true → NonePass (is_byte b) text
@@ -103,21 +102,3 @@ register_bytes name register e = go (row_of (λ row. row.0) (λ row. row.1) regi
     go : (o : Option ℕ) → row_of (λ row. row.0) (λ row. row.1) register_names name ≡ o → list_all goes_on_name name ≡ true
     go None is = (let never : option_map reg_of None ≡ Some register = rw is at e in absurd cc)
     go (Some n) is = row_passes (list_all goes_on_name) (λ (row : List ℕ × ℕ). row.0) (λ (row : List ℕ × ℕ). row.1) register_names name n refl is
-
--- ---- texts cut at a byte
-
-pub cut_whole : (b : ℕ) (text right : List ℕ) → after (is_byte b) text ≡ Some right → text ≡ before (is_byte b) text ++ b ∷ right
-cut_whole b [] right e = absurd cc
-cut_whole b (x ∷ text) right e = go (cut_whole b text right) (x == b) refl
-  where
-    go : (after (is_byte b) text ≡ Some right → text ≡ before (is_byte b) text ++ b ∷ right) → (t : Bool) → (x == b) ≡ t → x ∷ text ≡ before (is_byte b) (x ∷ text) ++ b ∷ right
-    go others true is = (let same = eqb-true x b is in let rest = rw is at e in rw is cc)
-    go others false isnt = (let rest = rw isnt at e in rw isnt (ap (λ (ys : List ℕ). x ∷ ys) (others rest)))
-
-pub before_whole : (b : ℕ) (text : List ℕ) → after (is_byte b) text ≡ None → before (is_byte b) text ≡ text
-before_whole b [] e = refl
-before_whole b (x ∷ text) e = go (before_whole b text) (x == b) refl
-  where
-    go : (after (is_byte b) text ≡ None → before (is_byte b) text ≡ text) → (t : Bool) → (x == b) ≡ t → before (is_byte b) (x ∷ text) ≡ x ∷ text
-    go others true is = (let never = rw is at e in absurd cc)
-    go others false isnt = (let rest = rw isnt at e in rw isnt (ap (λ (ys : List ℕ). x ∷ ys) (others rest)))

@@ -5,15 +5,15 @@ use Rattle.std.specs.List.{starts_with}
 use Rattle.std.proofs.lemmas.Bool.{eqb-true, and_parts}
 use Rattle.std.proofs.lemmas.Bool.Decides.{Decides-eqb}
 use Rattle.std.proofs.lemmas.Slice.Eq.{starts_is}
-use Rattle.assembler.proofs.Plain.{NonePass, before_none, after_none, before_stop, after_stop}
-use Rattle.texts.specs.Cutting.{before, after, is_byte}
-use Rattle.litmus_words.specs.Cores.{is_gap, core}
-use Rattle.litmus_words.specs.Names.{goes_on_name}
+use Rattle.texts.specs.Cutting.{NonePass, before, after, is_byte, stripped}
+use Rattle.texts.proofs.CuttingLaws.{before_none, after_none, before_stop, after_stop, cut_byte, uncut}
+use Rattle.texts.specs.Pieces.{is_gap}
+use Rattle.litmus_words.specs.Names.{core, goes_on_name}
 use Rattle.litmus_words.specs.Settings.{Place, Value, Put, IsPlace, IsDeclared, IsItem}
 use Rattle.litmus_words.specs.Settings.Place.{in_register, at_location}
 use Rattle.litmus_words.specs.Settings.Value.{number}
 use Rattle.litmus_words.specs.Reading.{value_in, inside, place_in, begins_with_gap, behind_int, declared_in, place_or, item_place_in, item_round, item_at}
-use Rattle.litmus_words.proofs.Bytes.{other_byte, name_bytes, none_round, none_round_name, cut_whole, before_whole}
+use Rattle.litmus_words.proofs.Bytes.{other_byte, name_bytes, none_round, none_round_name}
 use Rattle.litmus_words.proofs.SettingLaws.{value_found, value_read, named_found, place_found, place_read, place_free, told_put_found}
 
 -- ---- declarations
@@ -28,7 +28,7 @@ gap_no_name x gap = go (x == 32) refl (x == 9) refl (x == 10) refl
     go false e false f false g = (let never : false ≡ true = rw (e, f, g) at gap in absurd cc)
 
 core_behind : (gap : ℕ) (rest : List ℕ) → is_gap gap ≡ true → core (gap ∷ rest) ≡ core rest
-unfolding core
+unfolding stripped
 core_behind gap rest is = rw is refl
 
 int_front : (text rest : List ℕ) → behind_int text ≡ Some rest → (text ≡ codes "int" ++ rest) × (begins_with_gap rest ≡ true)
@@ -97,12 +97,12 @@ item_found text put e = go (after (is_byte 61) text) refl e
     go : (behind : Option (List ℕ)) → after (is_byte 61) text ≡ behind → item_round (before (is_byte 61) text) behind ≡ Some put → IsItem text put
     go None none h =
         let told = told_put_found (declared_in (before (is_byte 61) text)) (Some (number 0)) put h in
-        let whole = before_whole 61 text none in
+        let whole = uncut (is_byte 61) text none in
         inr (inr (declared_found text put.0 (rw whole at told.0), cc))
     go (Some right) some h =
         let left = before (is_byte 61) text in
         let told = told_put_found (item_place_in left) (value_in right) put h in
-        let whole = cut_whole 61 text right some in
+        let whole = cut_byte 61 text right some in
         let value = value_found right put.1 told.1 in
         elim (item_place_found left put.0 (declared_in left) refl told.0) [
           | inl place ↦ inl (left, right, whole, place, value)

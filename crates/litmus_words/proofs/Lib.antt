@@ -1,4 +1,3 @@
-pub mod CoreLaws
 pub mod CleaningLaws
 pub mod CommentLaws
 pub mod WordLaws

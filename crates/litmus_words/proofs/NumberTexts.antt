@@ -1,47 +1,26 @@
 -- The numbers that are read are those that stand there, and no name is one.
-use Rattle.std.proofs.Common.{◌≡◌, ℕ, suc, zero, ◌-◌, ◌%◌, ◌^◌, ◌<◌, ◌≤◌, Bool, true, false, ◌==◌, ◌&&◌, List, [], ◌∷◌, length, drop, Option, Some, None, refl, sym, ap, subst, ◌∙◌, inl, inr, arith}
+use Rattle.std.proofs.Common.{◌≡◌, ℕ, suc, zero, ◌-◌, ◌%◌, ◌^◌, ◌<◌, ◌≤◌, Bool, true, false, ◌==◌, List, [], ◌∷◌, length, drop, Option, Some, None, refl, sym, ap, subst, ◌∙◌, inl, inr, arith}
 use Rattle.std.specs.Prelude.{pos, neg_ℤ, nat_lt, option_map}
-use Rattle.std.specs.Char.{digit_value}
-use Rattle.std.proofs.lemmas.Bool.{and_parts, and_right, eqb-true, ltb-true, lt-ltb, ne_eqb}
-use Rattle.texts.specs.Numbers.{Says, capped}
-use Rattle.texts.specs.Integers.{is_hex, is_negative, magnitude_of, integer_of}
-use Rattle.texts.proofs.NumberLaws.{number_said, says_number, hex_number_said, says_hex_number}
+use Rattle.std.proofs.lemmas.Bool.{and_right, ltb-true, lt-ltb, ne_eqb}
+use Rattle.texts.specs.Numbers.{capped, is_hex, is_negative, magnitude_of, integer_of}
+use Rattle.texts.proofs.NumberLaws.{hex_text, no_hex, negative_text, number_said, says_number, hex_number_said, says_hex_number}
 use Rattle.litmus_words.specs.Names.{is_name, Counts, IsNumber, word_told, word_read, word_in}
 use Rattle.litmus_words.specs.Names.IsNumber.{plain, negated}
 use Rattle.litmus_words.proofs.Bytes.{digit_begins_none}
 
 -- ---- without a sign
 
-hex_front : (text : List ℕ) → is_hex text ≡ true → text ≡ 48 ∷ 120 ∷ drop 2 text
-hex_front [] e = absurd cc
-hex_front (a ∷ []) e = absurd cc
-hex_front (a ∷ b ∷ rest) e =
-    let both = and_parts (nat_lt 1 (length (a ∷ b ∷ rest)) && (a == 48)) (b == 120) e in
-    let front = and_parts (nat_lt 1 (length (a ∷ b ∷ rest))) (a == 48) both.0 in
-    let one = eqb-true a 48 front.1 in
-    let two = eqb-true b 120 both.1 in
-    cc
-
-no_hex : (text : List ℕ) (n : ℕ) → Says text n → is_hex text ≡ false
-no_hex [] n says = refl
-no_hex (a ∷ []) n says = refl
-no_hex (a ∷ b ∷ rest) n says = go (b == 120) refl
-  where
-    go : (t : Bool) → (b == 120) ≡ t → is_hex (a ∷ b ∷ rest) ≡ false
-    go true x = (let large : digit_value 120 < 10 = subst (λ (d : ℕ). digit_value d < 10) (eqb-true b 120 x) says.0.1.1.0 in absurd (omega arith))
-    go false x = and_right (nat_lt 1 (length (a ∷ b ∷ rest)) && (a == 48)) (b == 120) x
-
 magnitude_counts : (text : List ℕ) (n : ℕ) → magnitude_of text ≡ Some n → n < 2 ^ 32 → Counts text n
 unfolding magnitude_of
 magnitude_counts text n e small = go (is_hex text) refl
   where
     go : (b : Bool) → is_hex text ≡ b → Counts text n
-    go true hex = inr (drop 2 text, hex_front text hex, hex_number_said (drop 2 text) n (rw hex at e) small)
+    go true hex = inr (drop 2 text, hex_text text hex, hex_number_said (drop 2 text) n (rw hex at e) small)
     go false other = inl (number_said text n (rw other at e) small)
 
 counts_magnitude : (text : List ℕ) (n : ℕ) → Counts text n → n < 2 ^ 32 → magnitude_of text ≡ Some n
 unfolding magnitude_of
-counts_magnitude text n (inl says) small = let same : capped n ≡ n = omega arith in rw (no_hex text n says, says_number text n says, same) refl
+counts_magnitude text n (inl says) small = let same : capped n ≡ n = omega arith in rw (no_hex text says.0.1, says_number text n says, same) refl
 counts_magnitude text n (inr (digits, is, says)) small =
     let same : capped n ≡ n = omega arith in
     let long = lt-ltb 1 (suc (suc (length digits))) (omega arith) in
@@ -55,10 +34,6 @@ counts_plain (a ∷ text) n (inl says) =
 counts_plain text n (inr (digits, is, says)) = rw is (and_right (nat_lt 0 (suc (suc (length digits)))) false refl, refl)
 
 -- ---- with a sign
-
-negative_front : (text : List ℕ) → is_negative text ≡ true → text ≡ 45 ∷ drop 1 text
-negative_front [] e = absurd cc
-negative_front (a ∷ rest) e = let same = eqb-true a 45 (and_parts (nat_lt 0 (length (a ∷ rest))) (a == 45) e).1 in cc
 
 -- the word of a number below 0
 below_zero : (n : ℕ) → n ≤ 2 ^ 31 → word_told (neg_ℤ (pos n)) ≡ Some ((2 ^ 32 - n) % 2 ^ 32)
@@ -102,7 +77,7 @@ unfolding word_in integer_of
 word_found text w e = go (is_negative text) refl
   where
     go : (t : Bool) → is_negative text ≡ t → IsNumber text w
-    go true x = subst (λ (s : List ℕ). IsNumber s w) (sym (negative_front text x)) (negated_found (drop 1 text) w (magnitude_of (drop 1 text)) refl (rw x at e))
+    go true x = subst (λ (s : List ℕ). IsNumber s w) (sym (negative_text text x)) (negated_found (drop 1 text) w (magnitude_of (drop 1 text)) refl (rw x at e))
     go false x = plain_found text w (magnitude_of text) refl (rw x at e)
 
 pub number_word : (text : List ℕ) (w : ℕ) → IsNumber text w → word_in text ≡ Some w

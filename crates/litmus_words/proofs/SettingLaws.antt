@@ -6,18 +6,18 @@ use Rattle.std.specs.Str.Parse.{digits_value}
 use Rattle.std.proofs.lemmas.Bool.{eqb-true, and_parts}
 use Rattle.std.proofs.lemmas.List.{nil_from_length}
 use Rattle.rv_decode.specs.declared.instruction.Reg.{Reg}
-use Rattle.assembler.specs.Registers.{register_named}
-use Rattle.assembler.proofs.Plain.{NonePass, none-append, before_none, after_none, before_stop, after_stop}
-use Rattle.texts.specs.Cutting.{before, after, is_byte}
+use Rattle.rv_decode.specs.Registers.{register_named}
+use Rattle.texts.specs.Cutting.{NonePass, before, after, is_byte}
+use Rattle.texts.proofs.CuttingLaws.{none-append, before_none, after_none, before_stop, after_stop, cut_byte, uncut}
 use Rattle.texts.specs.Numbers.{number_of}
 use Rattle.texts.proofs.NumberLaws.{capped_value-said, says_number}
-use Rattle.litmus_words.specs.Cores.{is_gap, core}
-use Rattle.litmus_words.specs.Names.{begins_name, goes_on_name, is_spelled, is_not, is_name, word_in}
+use Rattle.texts.specs.Pieces.{is_gap}
+use Rattle.litmus_words.specs.Names.{core, begins_name, goes_on_name, is_spelled, is_not, is_name, word_in}
 use Rattle.litmus_words.specs.Settings.{Place, Value, Put, IsValue, IsPlace, IsSetting}
 use Rattle.litmus_words.specs.Settings.Place.{in_register, at_location}
 use Rattle.litmus_words.specs.Settings.Value.{number, address_of}
 use Rattle.litmus_words.specs.Reading.{told_value, value_in, told_register, named, closed, location_in, place_round, place_in, told_put, setting_round, setting_at}
-use Rattle.litmus_words.proofs.Bytes.{other_byte, name_bytes, digit_bytes, register_bytes, none_round, none_round_name, cut_whole, before_whole}
+use Rattle.litmus_words.proofs.Bytes.{other_byte, name_bytes, digit_bytes, register_bytes, none_round, none_round_name}
 use Rattle.litmus_words.proofs.NumberTexts.{word_found, number_word, number_no_name}
 
 -- ---- values
@@ -65,7 +65,7 @@ location_found text (c ∷ rest) place is e = go (c == 91) refl
         one true ends =
             let none = nil_from_length more (eqb-true (length more) 0 ends) in
             let found = named_found (core inner) place (rw ends at h) in
-            let whole = cut_whole 93 rest more back in
+            let whole = cut_byte 93 rest more back in
             let same : core text ≡ 91 ∷ (inner ++ 93 ∷ []) = is ∙ cc in
             subst (IsPlace text) found.1 (found.0, inr (inner, same, refl))
         one false more_follows = (let never = rw more_follows at h in absurd cc)
@@ -89,8 +89,8 @@ unfolding place_in
 place_found text place e = go (after (is_byte 58) text) refl e
   where
     go : (behind : Option (List ℕ)) → after (is_byte 58) text ≡ behind → place_round (before (is_byte 58) text) behind ≡ Some place → IsPlace text place
-    go None none h = location_found text (core text) place refl (rw (before_whole 58 text none) at h)
-    go (Some name) some h = register_found text (before (is_byte 58) text) name place (number_of (core (before (is_byte 58) text))) (register_named (core name)) (cut_whole 58 text name some) refl refl h
+    go None none h = location_found text (core text) place refl (rw (uncut (is_byte 58) text none) at h)
+    go (Some name) some h = register_found text (before (is_byte 58) text) name place (number_of (core (before (is_byte 58) text))) (register_named (core name)) (cut_byte 58 text name some) refl refl h
 
 -- a byte that stands in no name, bracket or gap, nor between a hart and a register, stands in no place
 pub place_free : (b : ℕ) → goes_on_name b ≡ false → is_gap b ≡ false → is_byte b 58 ≡ false → is_byte b 91 ≡ false → is_byte b 93 ≡ false → (text : List ℕ) (place : Place) → IsPlace text place → NonePass (is_byte b) text
@@ -147,7 +147,7 @@ setting_found text put e = go (after (is_byte 61) text) refl e
     go None none h = absurd cc
     go (Some right) some h =
         let told = told_put_found (place_in (before (is_byte 61) text)) (value_in right) put h in
-        (before (is_byte 61) text, right, cut_whole 61 text right some, place_found (before (is_byte 61) text) put.0 told.0, value_found right put.1 told.1)
+        (before (is_byte 61) text, right, cut_byte 61 text right some, place_found (before (is_byte 61) text) put.0 told.0, value_found right put.1 told.1)
 
 pub setting_read : (text : List ℕ) (put : Put) → IsSetting text put → setting_at text ≡ Some put
 unfolding setting_at

@@ -5,11 +5,12 @@ use Rattle.std.specs.List.{starts_with}
 use Rattle.std.proofs.lemmas.Bool.{and_parts, eqb-true}
 use Rattle.std.proofs.lemmas.Bool.Decides.{Decides-eqb}
 use Rattle.std.proofs.lemmas.Slice.Eq.{starts_is}
-use Rattle.texts.specs.Cutting.{before}
-use Rattle.litmus_words.specs.Cores.{is_gap, from_first, without_front}
+use Rattle.texts.specs.Cutting.{before, AllPass, NonePass, from_first, without_leading}
+use Rattle.texts.proofs.TrimLaws.{leading_all, leading_past, leading_split, leading_first, leading_gone}
+use Rattle.texts.specs.Pieces.{is_gap}
 use Rattle.litmus_words.specs.Settings.{Put, IsSetting}
 use Rattle.litmus_words.specs.Reading.{setting_at}
-use Rattle.litmus_words.specs.Words.{Token, Beginning, Words, is_mark, ends_name, behind_not, paired, told_atom, told_not, unmarked, begun, beginning_of, words_from, words_of, AllGaps, NoMark, EndsAtom, Spells, AreWords, listed}
+use Rattle.litmus_words.specs.Words.{Token, Beginning, Words, is_mark, ends_name, behind_not, paired, told_atom, told_not, unmarked, begun, beginning_of, words_from, words_of, EndsAtom, Spells, AreWords, listed}
 use Rattle.litmus_words.specs.Words.Token.{atom, negation, conjunction, disjunction, opening, closing}
 use Rattle.litmus_words.specs.Words.Beginning.{nothing, begins, no_word}
 use Rattle.litmus_words.specs.Words.Words.{ended, word}
@@ -20,52 +21,23 @@ use Rattle.litmus_words.proofs.WordLaws.{words_cut}
 
 -- ---- gaps in front
 
-behind_gaps : (gaps text : List ℕ) → AllGaps gaps → without_front (gaps ++ text) ≡ without_front text
-behind_gaps [] text all = refl
-behind_gaps (c ∷ gaps) text all = rw all.0 (behind_gaps gaps text all.1)
-
-no_front : (gaps : List ℕ) → AllGaps gaps → without_front gaps ≡ []
-no_front [] all = refl
-no_front (c ∷ gaps) all = rw all.0 (no_front gaps all.1)
-
-at_solid : (c : ℕ) (rest : List ℕ) → is_gap c ≡ false → without_front (c ∷ rest) ≡ c ∷ rest
+at_solid : (c : ℕ) (rest : List ℕ) → is_gap c ≡ false → without_leading is_gap (c ∷ rest) ≡ c ∷ rest
 at_solid c rest solid = rw solid refl
-
-record Fronted (text : List ℕ) : Type 0 where
-  gaps : List ℕ
-  all : AllGaps gaps
-  whole : text ≡ gaps ++ without_front text
-
-fronted : (text : List ℕ) → Fronted text
-fronted [] = record { gaps = []; all = tt; whole = refl }
-fronted (c ∷ rest) = go (fronted rest) (is_gap c) refl
-  where
-    go : Fronted rest → (b : Bool) → is_gap c ≡ b → Fronted (c ∷ rest)
-    go others true gap = record { gaps = c ∷ others.gaps; all = (gap, others.all); whole = rw gap (ap (λ (ys : List ℕ). c ∷ ys) others.whole) }
-    go others false solid = record { gaps = []; all = tt; whole = rw solid refl }
-
-all_gaps : (text : List ℕ) → without_front text ≡ [] → AllGaps text
-all_gaps [] e = tt
-all_gaps (c ∷ rest) e = go (all_gaps rest) (is_gap c) refl
-  where
-    go : (without_front rest ≡ [] → AllGaps rest) → (b : Bool) → is_gap c ≡ b → AllGaps (c ∷ rest)
-    go others true gap = (gap, others (rw gap at e))
-    go others false solid = (let never = rw solid at e in absurd cc)
 
 -- ---- an atom's stretch
 
-before_mark : (bytes rest : List ℕ) → NoMark bytes → EndsAtom rest → before is_mark (bytes ++ rest) ≡ bytes
+before_mark : (bytes rest : List ℕ) → NonePass is_mark bytes → EndsAtom rest → before is_mark (bytes ++ rest) ≡ bytes
 before_mark [] [] none ends = refl
 before_mark [] (c ∷ rest) none ends = rw ends refl
 before_mark (c ∷ bytes) rest none ends = rw none.0 (ap (λ (ys : List ℕ). c ∷ ys) (before_mark bytes rest none.1 ends))
 
-from_mark : (bytes rest : List ℕ) → NoMark bytes → EndsAtom rest → from_first is_mark (bytes ++ rest) ≡ rest
+from_mark : (bytes rest : List ℕ) → NonePass is_mark bytes → EndsAtom rest → from_first is_mark (bytes ++ rest) ≡ rest
 from_mark [] [] none ends = refl
 from_mark [] (c ∷ rest) none ends = rw ends refl
 from_mark (c ∷ bytes) rest none ends = rw none.0 (from_mark bytes rest none.1 ends)
 
 record Stretch (text : List ℕ) : Type 0 where
-  none : NoMark (before is_mark text)
+  none : NonePass is_mark (before is_mark text)
   ends : EndsAtom (from_first is_mark text)
   whole : text ≡ before is_mark text ++ from_first is_mark text
 
@@ -103,7 +75,7 @@ begun_plain c rest plain = rw (plain.open_none, plain.close_none, plain.tilde_no
 -- ---- what is spelled is read
 
 -- an atom, where it is known to be one
-atom_read : (first : ℕ) (others rest : List ℕ) (put : Put) → NoMark (first ∷ others) → EndsAtom rest → behind_not (first ∷ (others ++ rest)) ≡ None → IsSetting (first ∷ others) put → unmarked (first ∷ (others ++ rest)) ≡ begins (atom put) rest
+atom_read : (first : ℕ) (others rest : List ℕ) (put : Put) → NonePass is_mark (first ∷ others) → EndsAtom rest → behind_not (first ∷ (others ++ rest)) ≡ None → IsSetting (first ∷ others) put → unmarked (first ∷ (others ++ rest)) ≡ begins (atom put) rest
 unfolding unmarked
 atom_read first others rest put none ends no_name is =
     rw (no_name, before_mark (first ∷ others) rest none ends, from_mark (first ∷ others) rest none ends, setting_read (first ∷ others) put is) refl
@@ -121,13 +93,13 @@ spelled_begun token bytes rest (says first others more put solid none ends no_na
     ∙ begun_plain first (others ++ more) (plain_is first none.0)
     ∙ atom_read first others more put none ends no_name is
 
-beginning_behind : (gaps text : List ℕ) → AllGaps gaps → beginning_of (gaps ++ text) ≡ beginning_of text
+beginning_behind : (gaps text : List ℕ) → AllPass is_gap gaps → beginning_of (gaps ++ text) ≡ beginning_of text
 unfolding beginning_of
-beginning_behind gaps text all = ap begun (behind_gaps gaps text all)
+beginning_behind gaps text all = ap begun (leading_past is_gap gaps text all)
 
-at_end : (gaps : List ℕ) → AllGaps gaps → beginning_of gaps ≡ nothing
+at_end : (gaps : List ℕ) → AllPass is_gap gaps → beginning_of gaps ≡ nothing
 unfolding beginning_of begun
-at_end gaps all = ap begun (no_front gaps all)
+at_end gaps all = ap begun (leading_all is_gap gaps all)
 
 pub words_are : (text : List ℕ) (tokens : List Token) → AreWords text tokens → words_of text ≡ listed tokens
 words_are text tokens (no_more gaps all) = words_cut gaps ∙ ap (words_from words_of) (at_end gaps all)
@@ -216,23 +188,14 @@ begun_found c behind token rest solid e = go (c == 40) refl (c == 41) refl (c ==
     go false e1 false e2 false e3 false e4 true e5 = subst (λ (d : ℕ). Spelled (d ∷ behind) token rest) (sym (eqb-true c 92 e5)) (paired_found 92 47 behind disjunction token rest either (rw (e1, e2, e3, e4, e5) at e))
     go false e1 false e2 false e3 false e4 false e5 = (let plain : is_mark c ≡ false = rw (e1, e2, e3, e4, e5) refl in unmarked_found c behind token rest solid plain (rw (e1, e2, e3, e4, e5) at e))
 
--- the first byte behind gaps is none
-solid_front : (text : List ℕ) (c : ℕ) (rest : List ℕ) → without_front text ≡ c ∷ rest → is_gap c ≡ false
-solid_front [] c rest e = absurd cc
-solid_front (d ∷ text) c rest e = go (solid_front text c rest) (is_gap d) refl
-  where
-    go : (without_front text ≡ c ∷ rest → is_gap c ≡ false) → (b : Bool) → is_gap d ≡ b → is_gap c ≡ false
-    go others true gap = others (rw gap at e)
-    go others false solid = (let told = rw solid at e in let same : d ≡ c = cc in subst (λ (x : ℕ). is_gap x ≡ false) same solid)
-
-token_found : (text solid : List ℕ) (token : Token) (rest : List ℕ) (tokens : List Token) → without_front text ≡ solid → begun solid ≡ begins token rest → AreWords rest tokens → AreWords text (token ∷ tokens)
+token_found : (text solid : List ℕ) (token : Token) (rest : List ℕ) (tokens : List Token) → without_leading is_gap text ≡ solid → begun solid ≡ begins token rest → AreWords rest tokens → AreWords text (token ∷ tokens)
 unfolding begun
 token_found text [] token rest tokens is e are = absurd cc
 token_found text (c ∷ behind) token rest tokens is e are =
-    let front = fronted text in
-    let found = begun_found c behind token rest (solid_front text c behind is) e in
-    let whole : text ≡ front.gaps ++ (found.bytes ++ rest) = front.whole ∙ ap (λ (ys : List ℕ). front.gaps ++ ys) (is ∙ found.whole) in
-    subst (λ (t : List ℕ). AreWords t (token ∷ tokens)) (sym whole) (one_more front.gaps found.bytes rest token tokens front.all found.spells are)
+    let front = leading_split is_gap text in
+    let found = begun_found c behind token rest (leading_first is_gap text c behind is) e in
+    let whole : text ≡ front.0 ++ (found.bytes ++ rest) = front.2 ∙ ap (λ (ys : List ℕ). front.0 ++ ys) (is ∙ found.whole) in
+    subst (λ (t : List ℕ). AreWords t (token ∷ tokens)) (sym whole) (one_more front.0 found.bytes rest token tokens front.1 found.spells are)
 
 paired_some : (one : Token) (second : ℕ) (behind : List ℕ) → paired one second behind ≡ nothing → ⊥
 paired_some one second [] e = absurd cc
@@ -269,7 +232,7 @@ unfolding beginning_of
 are_words [] text e = go (beginning_of text) refl (sym (words_cut text) ∙ e)
   where
     go : (b : Beginning) → beginning_of text ≡ b → words_from words_of b ≡ ended → AreWords text []
-    go nothing is told = no_more text (all_gaps text (begun_nothing (without_front text) is))
+    go nothing is told = no_more text (leading_gone is_gap text (begun_nothing (without_leading is_gap text) is))
     go (begins token rest) is told = absurd cc
     go no_word is told = absurd cc
 are_words (token ∷ tokens) text e = go (are_words tokens) (beginning_of text) refl (sym (words_cut text) ∙ e)
@@ -279,5 +242,5 @@ are_words (token ∷ tokens) text e = go (are_words tokens) (beginning_of text) 
     go others (begins first rest) is told =
         let same : first ≡ token = cc in
         let rest_is : words_of rest ≡ listed tokens = cc in
-        token_found text (without_front text) token rest tokens refl (is ∙ ap (λ (t : Token). begins t rest) same) (others rest rest_is)
+        token_found text (without_leading is_gap text) token rest tokens refl (is ∙ ap (λ (t : Token). begins t rest) same) (others rest rest_is)
     go others no_word is told = absurd cc

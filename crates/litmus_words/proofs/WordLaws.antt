@@ -2,15 +2,15 @@
 use Rattle.std.proofs.Common.{◌≡◌, ℕ, suc, zero, ◌<◌, ◌≤◌, ◌==◌, Bool, true, false, ◌&&◌, List, [], ◌∷◌, length, drop, Option, Some, None, refl, ap, arith, length-drop}
 use Rattle.std.specs.Prelude.{nat_eq, codes}
 use Rattle.std.specs.List.{starts_with}
-use Rattle.texts.specs.Cutting.{before}
-use Rattle.litmus_words.specs.Cores.{from_first, is_solid, without_front}
+use Rattle.texts.specs.Cutting.{before, fails, from_first, without_leading}
 use Rattle.litmus_words.specs.Settings.{Put}
 use Rattle.litmus_words.specs.Reading.{setting_at}
 use Rattle.litmus_words.specs.Words.{Token, Beginning, Words, is_mark, ends_name, behind_not, paired, told_atom, told_not, unmarked, begun, beginning_of, words_from, words_within, words_of, LeavesLess}
 use Rattle.litmus_words.specs.Words.Beginning.{nothing, begins, no_word}
 use Rattle.litmus_words.specs.Words.Words.{word}
 use Rattle.litmus_words.specs.Words.Token.{conjunction, disjunction}
-use Rattle.litmus_words.proofs.CoreLaws.{length-from_first}
+use Rattle.texts.proofs.CuttingLaws.{length-from_first}
+use Rattle.texts.specs.Pieces.{is_gap}
 
 -- ---- what follows a word is shorter than the text
 
@@ -58,7 +58,7 @@ less_more short long no_word le less = tt
 
 pub leaves_less : (text : List ℕ) → LeavesLess text (beginning_of text)
 unfolding beginning_of
-leaves_less text = less_more (without_front text) text (begun (without_front text)) (length-from_first is_solid text) (begun_less (without_front text))
+leaves_less text = less_more (without_leading is_gap text) text (begun (without_leading is_gap text)) (length-from_first (fails is_gap) text) (begun_less (without_leading is_gap text))
 
 -- ---- so many words are enough
 

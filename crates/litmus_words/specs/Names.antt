@@ -1,9 +1,15 @@
 -- Names and numbers.
 use Rattle.std.specs.Prelude.{◌≡◌, ℕ, ◌-◌, ◌<◌, ◌≤◌, ◌^◌, ◌%◌, ◌==◌, ℤ, pos, negsuc, Bool, false, not, ◌&&◌, ◌||◌, nat_lt, nat_eq, List, [], ◌∷◌, length, codes, Option, None, Some, if◌then◌else◌, ◌⊎◌}
 use Rattle.std.specs.List.{list_all, starts_with}
-use Rattle.assembler.specs.Names.{is_letter, is_digit}
-use Rattle.texts.specs.Numbers.{Says, SaysInHex}
-use Rattle.texts.specs.Integers.{integer_of}
+use Rattle.texts.specs.Letters.{is_letter, is_digit}
+use Rattle.texts.specs.Pieces.{is_gap}
+use Rattle.texts.specs.Cutting.{stripped}
+use Rattle.texts.specs.Numbers.{Says, SaysInHex, integer_of}
+
+-- What is left of a text without the blanks and LFs round it. A CR that ends a line is a space in a
+-- cleaned text, and another one is no blank.
+abbrev pub core : List ℕ → List ℕ
+core text = stripped is_gap text
 
 -- a letter or `_`
 abbrev pub begins_name : ℕ → Bool

@@ -2,11 +2,11 @@
 use Rattle.std.specs.Prelude.{ℕ, ◌==◌, Bool, false, ◌&&◌, nat_eq, List, [], ◌∷◌, length, drop, Option, None, Some, if◌then◌else◌, codes}
 use Rattle.std.specs.List.{starts_with}
 use Rattle.rv_decode.specs.declared.instruction.Reg.{Reg}
-use Rattle.assembler.specs.Registers.{register_named}
+use Rattle.rv_decode.specs.Registers.{register_named}
 use Rattle.texts.specs.Numbers.{number_of}
 use Rattle.texts.specs.Cutting.{before, after, is_byte}
-use Rattle.litmus_words.specs.Cores.{is_gap, core}
-use Rattle.litmus_words.specs.Names.{is_name, word_in}
+use Rattle.texts.specs.Pieces.{is_gap}
+use Rattle.litmus_words.specs.Names.{core, is_name, word_in}
 use Rattle.litmus_words.specs.Settings.{Place, Value, Put}
 use Rattle.litmus_words.specs.Settings.Place.{in_register, at_location}
 use Rattle.litmus_words.specs.Settings.Value.{number, address_of}

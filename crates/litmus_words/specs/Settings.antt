@@ -1,10 +1,10 @@
 -- What the texts of init's items and of a condition's atoms say: which value is put where.
 use Rattle.std.specs.Prelude.{◌≡◌, ℕ, ◌⊎◌, IsTrue, List, [], ◌∷◌, ◌++◌, Option, None, Some, codes}
 use Rattle.rv_decode.specs.declared.instruction.Reg.{Reg}
-use Rattle.assembler.specs.Registers.{register_named}
+use Rattle.rv_decode.specs.Registers.{register_named}
 use Rattle.texts.specs.Numbers.{Says, capped}
-use Rattle.litmus_words.specs.Cores.{is_gap, core}
-use Rattle.litmus_words.specs.Names.{is_name, IsNumber}
+use Rattle.texts.specs.Pieces.{is_gap}
+use Rattle.litmus_words.specs.Names.{core, is_name, IsNumber}
 use Rattle.litmus_words.specs.declared.settings.Spot.{Spot}
 use Rattle.litmus_words.specs.declared.settings.Spot.TheVariants.{Register, Location}
 use Rattle.litmus_words.specs.declared.settings.Worth.{Worth}

@@ -1,8 +1,8 @@
 -- The words of a condition.
 use Rattle.std.specs.Prelude.{◌≡◌, ℕ, suc, zero, ◌<◌, ◌==◌, Bool, true, false, not, ◌&&◌, ◌||◌, nat_eq, List, [], ◌∷◌, ◌++◌, length, drop, Option, None, Some, if◌then◌else◌, codes}
 use Rattle.std.specs.List.{starts_with}
-use Rattle.texts.specs.Cutting.{before}
-use Rattle.litmus_words.specs.Cores.{is_gap, from_first, without_front}
+use Rattle.texts.specs.Cutting.{before, AllPass, NonePass, from_first, without_leading}
+use Rattle.texts.specs.Pieces.{is_gap}
 use Rattle.litmus_words.specs.Names.{goes_on_name}
 use Rattle.litmus_words.specs.Settings.{Put, IsSetting, put_of}
 use Rattle.litmus_words.specs.Reading.{setting_at}
@@ -73,7 +73,7 @@ begun (c ∷ rest) =
 
 -- what the text begins with, behind gaps
 unfoldable pub beginning_of : List ℕ → Beginning
-beginning_of text = begun (without_front text)
+beginning_of text = begun (without_leading is_gap text)
 
 abbrev pub words_from : (List ℕ → Words) → Beginning → Words
 words_from others nothing = ended
@@ -112,14 +112,6 @@ seen front.NoWord = no_word
 
 -- ---- the words of a text, as they are spelled
 
-abbrev pub AllGaps : List ℕ → Type 0
-AllGaps [] = Unit {0}
-AllGaps (c ∷ rest) = (is_gap c ≡ true) × AllGaps rest
-
-abbrev pub NoMark : List ℕ → Type 0
-NoMark [] = Unit {0}
-NoMark (c ∷ rest) = (is_mark c ≡ false) × NoMark rest
-
 -- an atom ends here: at a mark, or at the text's end
 abbrev pub EndsAtom : List ℕ → Type 0
 EndsAtom [] = Unit {0}
@@ -133,12 +125,12 @@ pub data Spells : Token → (bytes rest : List ℕ) → Type 0 where
   named_not : (rest : List ℕ) → ends_name rest ≡ true → Spells negation (codes "not") rest
   both : (rest : List ℕ) → Spells conjunction (47 ∷ 92 ∷ []) rest
   either : (rest : List ℕ) → Spells disjunction (92 ∷ 47 ∷ []) rest
-  says : (first : ℕ) (others rest : List ℕ) (put : Put) → is_gap first ≡ false → NoMark (first ∷ others) → EndsAtom rest → behind_not (first ∷ (others ++ rest)) ≡ None → IsSetting (first ∷ others) put → Spells (atom put) (first ∷ others) rest
+  says : (first : ℕ) (others rest : List ℕ) (put : Put) → is_gap first ≡ false → NonePass is_mark (first ∷ others) → EndsAtom rest → behind_not (first ∷ (others ++ rest)) ≡ None → IsSetting (first ∷ others) put → Spells (atom put) (first ∷ others) rest
 
 -- The text is these words, with gaps before, between and behind them.
 pub data AreWords : List ℕ → List Token → Type 0 where
-  no_more : (gaps : List ℕ) → AllGaps gaps → AreWords gaps []
-  one_more : (gaps bytes rest : List ℕ) (token : Token) (tokens : List Token) → AllGaps gaps → Spells token bytes rest → AreWords rest tokens → AreWords (gaps ++ (bytes ++ rest)) (token ∷ tokens)
+  no_more : (gaps : List ℕ) → AllPass is_gap gaps → AreWords gaps []
+  one_more : (gaps bytes rest : List ℕ) (token : Token) (tokens : List Token) → AllPass is_gap gaps → Spells token bytes rest → AreWords rest tokens → AreWords (gaps ++ (bytes ++ rest)) (token ∷ tokens)
 
 -- the words, with the text's end behind them
 abbrev pub listed : List Token → Words

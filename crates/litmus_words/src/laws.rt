@@ -11,6 +11,7 @@ pub fn one_value()
 {}
 
 /// The words that a text has up to its end are the words that it spells. It does nothing.
+#[tactic(auto, using(crate::proofs::Spelling::are_words, crate::proofs::Spelling::words_are))]
 pub fn words_are_spelled()
     ensures found { (text : List ℕ) → (tokens : List Token) → words_of text ≡ listed tokens → AreWords text tokens }
     ensures only { (text : List ℕ) → (tokens : List Token) → AreWords text tokens → words_of text ≡ listed tokens }

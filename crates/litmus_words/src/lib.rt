@@ -11,7 +11,6 @@
 #![tactic(auto)]
 
 mod cleaning;
-mod cores;
 pub mod laws;
 mod names;
 pub mod settings;

@@ -2,15 +2,14 @@
 
 ghost use Rattle.std.specs.Prelude.{◌≡◌, Some, IfSome, option_map};
 ghost use Rattle.std.specs.Option.{option_copied};
+ghost use Rattle.litmus_words.specs.Names.{core};
 ghost use Rattle.litmus_words.specs.Settings.{Put, IsSetting, IsItem, place_of, value_of, puts};
 ghost use Rattle.litmus_words.specs.Reading.{value_in, named, location_in, told_register, place_in, told_put, setting_at, begins_with_gap, behind_int, declared_in, item_place_in, item_at};
 
-use crate::cores::{core, is_gap};
 use crate::names::{is_name, word_in};
-use assembler::register_named;
-use rv_decode::Reg;
-use texts::cutting::cut_at;
-use texts::number;
+use rv_decode::{Reg, register_named};
+use texts::cutting::{cut_at, stripped};
+use texts::{Separators, number};
 
 /// Where a value is put.
 #[derive(Clone, Copy, Debug, PartialEq, Eq)]
@@ -35,6 +34,13 @@ pub enum Worth<'a> {
 pub struct Setting<'a> {
     pub spot: Spot<'a>,
     pub worth: Worth<'a>,
+}
+
+/// The text without the blanks and LFs round it.
+fn core(text: &[u8]) -> &[u8]
+    ensures { result.now ≡ core text.now }
+{
+    stripped(Separators::Gaps, text)
 }
 
 /// A name, or a number.
@@ -133,7 +139,7 @@ fn begins_with_gap(text: &[u8]) -> bool
     ensures { result ≡ begins_with_gap text.now }
 {
     match text.first() {
-        Some(first) => is_gap(*first),
+        Some(first) => Separators::Gaps.contain(*first),
         None => false,
     }
 }

@@ -2,13 +2,13 @@
 
 ghost use Rattle.std.specs.Prelude.{◌≡◌, position};
 ghost use Rattle.std.specs.Option.{option_copied};
-ghost use Rattle.texts.specs.Cutting.{before};
-ghost use Rattle.litmus_words.specs.Cores.{from_first};
+ghost use Rattle.texts.specs.Cutting.{before, from_first};
 ghost use Rattle.litmus_words.specs.Words.{is_mark, ends_name, behind_not, paired, unmarked, begun, token_of, seen, beginning_of, words_of, words_from, LeavesLess};
 
-use crate::cores::without_front;
 use crate::names::goes_on_name;
 use crate::settings::{Setting, setting_in};
+use texts::Separators;
+use texts::cutting::without_leading;
 
 /// A word of a condition.
 #[derive(Clone, Copy, Debug, PartialEq, Eq)]
@@ -51,6 +51,7 @@ fn mark_in(text: &[u8]) -> Option<usize>
 }
 
 /// What stands before the first mark, and the text from there on.
+#[tactic(auto, using(std::proofs::lemmas::List::take_rest, texts::proofs::CuttingLaws::before_found, texts::proofs::CuttingLaws::before_missing, texts::proofs::CuttingLaws::from_found, texts::proofs::CuttingLaws::from_missing))]
 fn cut_at_mark(text: &[u8]) -> (&[u8], &[u8])
     ensures front { result.0.now ≡ before is_mark text.now }
     ensures back { result.1.now ≡ from_first is_mark text.now }
@@ -134,5 +135,5 @@ pub fn first_word(text: &[u8]) -> Front<'_>
     ensures words { words_of text.now ≡ words_from words_of (seen result) }
     ensures rest { LeavesLess text.now (seen result) }
 {
-    begun(without_front(text))
+    begun(without_leading(Separators::Gaps, text))
 }

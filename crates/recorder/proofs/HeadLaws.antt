@@ -1,5 +1,5 @@
 -- A schedule's head: what the reader takes for one is one, and each one is taken.
-use Rattle.std.proofs.Common.{◌≡◌, ℕ, ◌-◌, ◌≤◌, ◌==◌, Bool, true, false, ◌&&◌, ◌||◌, ◌⊎◌, inl, inr, List, [], ◌∷◌, ◌++◌, length, take, drop, nat_eq, Result, Ok, Err, refl, sym, subst, ◌∙◌, arith}
+use Rattle.std.proofs.Common.{◌≡◌, ℕ, ◌-◌, ◌≤◌, ◌==◌, Bool, true, false, ◌&&◌, ◌||◌, ◌⊎◌, inl, inr, List, [], ◌∷◌, ◌++◌, length, take, drop, nat_eq, Result, Ok, Err, refl, sym, subst, ◌∙◌, arith, ◌↔◌, ◌+◌}
 use Rattle.std.specs.Prelude.{IfOk}
 use Rattle.std.specs.List.{starts_with}
 use Rattle.std.proofs.lemmas.Bool.{eqb-true, and_parts}
@@ -8,12 +8,13 @@ use Rattle.std.proofs.lemmas.Slice.Eq.{starts_is}
 use Rattle.std.proofs.lemmas.List.{take_all, length-drop}
 use Rattle.step_machine.specs.declared.events.Event.{Event}
 use Rattle.texts.specs.Results.{Gives}
-use Rattle.texts.proofs.ResultLaws.{ok_is}
+use Rattle.texts.proofs.ResultLaws.{ok_is, bind_ok, refused_without}
 use Rattle.recorder.specs.declared.faults.ScheduleError.{ScheduleError}
 use Rattle.recorder.specs.declared.faults.ScheduleFault.TheVariants.{BadHead}
-use Rattle.recorder.specs.Schedule.{OfHarts, EndsLine, IsScheduleOf}
-use Rattle.recorder.specs.Reading.{Refusal, refusal_of, head, ends_line, has_head, tokens_from, schedule_at}
-use Rattle.recorder.proofs.TextLaws.{tokens_from-IsTokensOf, IsTokensOf-tokens_from, IsTokensOf-OfHarts}
+use Rattle.recorder.specs.Schedule.{OfHarts, EndsLine, IsScheduleOf, IsTokensOf}
+use Rattle.recorder.specs.Reading.{Refusal, refusal_of, head, ends_line, has_head, tokens_from, schedule_at, tokens_at, tokens_after}
+use Rattle.recorder.proofs.TextLaws.{tokens_from-IsTokensOf, IsTokensOf-tokens_from, IsTokensOf-OfHarts, tokens_at-IsTokensOf, IsTokensOf-tokens_at, IsTokensOf-tokens_after}
+use Rattle.std.specs.Result.{IsErr}
 
 -- what a slice from a place on holds
 pub rest_from : (start : ℕ) (text : List ℕ) → take (length text - start) (drop start text) ≡ drop start text
@@ -100,3 +101,36 @@ schedule_harts view text (Err e) gives = tt
 pub schedule_few : {X : Type 0} (view : X → List Event) (text : List ℕ) (result : Result X ScheduleError) → Gives refusal_of view result (schedule_at text) → IfOk result (λ x. length (view x) ≤ 1048576)
 schedule_few view text (Ok x) gives = let is = schedule_at-IsScheduleOf text (view x) gives in is.3.1
 schedule_few view text (Err e) gives = tt
+
+-- ---- A text is refused exactly where it stands for no events
+
+pub refused_tokens : (text : List ℕ) → IsErr (tokens_at 1048576 text) ↔ ((events : List Event) → ¬ IsTokensOf text events)
+refused_tokens text =
+    refused_without (tokens_at 1048576 text) (IsTokensOf text)
+    (λ events e. (events, (tokens_at-IsTokensOf 1048576 text events (omega arith) e).0))
+    (λ events is. (events, IsTokensOf-tokens_at 1048576 text events (omega arith) is is.1))
+
+-- the events of a further text have room
+abbrev Further : (before : ℕ) (text : List ℕ) → List Event → Type 0
+Further before text events = IsTokensOf text events × (before + length events ≤ 1048576)
+
+further_found : (before : ℕ) (text : List ℕ) (events : List Event) → before ≤ 1048576 → tokens_after before text ≡ Ok events → Further before text events
+unfolding tokens_after
+further_found before text events few e =
+    let own = bind_ok (tokens_at 1048576 text) (λ own. tokens_at (1048576 - before) text) events e in
+    let read = tokens_at-IsTokensOf (1048576 - before) text events (omega arith) own.2 in
+    let room : length events ≤ 1048576 - before = read.1 in
+    (read.0, omega arith)
+
+pub refused_further : (before : ℕ) (text : List ℕ) → before ≤ 1048576 → IsErr (tokens_after before text) ↔ ((events : List Event) → IsTokensOf text events → ¬ (before + length events ≤ 1048576))
+refused_further before text few =
+    let both = refused_without (tokens_after before text) (Further before text)
+    (λ events e. (events, further_found before text events few e))
+    (λ events is. (events, IsTokensOf-tokens_after before text events is.0 is.1)) in
+    (λ refused events is room. both.0 refused events (is, room), λ none. both.1 (λ events is. none events is.0 is.1))
+
+pub refused_schedule : (text : List ℕ) → IsErr (schedule_at text) ↔ ((events : List Event) → ¬ IsScheduleOf text events)
+refused_schedule text =
+    refused_without (schedule_at text) (IsScheduleOf text)
+    (λ events e. (events, schedule_at-IsScheduleOf text events e))
+    (λ events is. (events, IsScheduleOf-schedule_at text events is))

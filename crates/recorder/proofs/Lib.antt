@@ -1,4 +1,3 @@
-pub mod Turns
 pub mod TokenLaws
 pub mod TextLaws
 pub mod HeadLaws
@@ -6,4 +5,3 @@ pub mod Runs
 pub mod Longest
 pub mod RoundTrip
 pub mod Drawn
-pub mod Refused

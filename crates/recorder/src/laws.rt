@@ -8,6 +8,7 @@ ghost use Rattle.recorder.specs.Reading.{tokens_at, tokens_after, schedule_at};
 ghost use Rattle.recorder.specs.Writing.{Run, runs_of, expanded, AreLongest, tokens_of};
 
 /// A text's tokens stand for one list of events at most, and so does a schedule. It does nothing.
+#[tactic(auto, using(crate::proofs::TextLaws::one_list, crate::proofs::HeadLaws::one_schedule))]
 pub fn one_value()
     ensures tokens { (text : List ℕ) → (a b : List Event) → IsTokensOf text a → IsTokensOf text b → a ≡ b }
     ensures schedules { (text : List ℕ) → (a b : List Event) → IsScheduleOf text a → IsScheduleOf text b → a ≡ b }
@@ -31,6 +32,7 @@ pub fn longest_runs()
 {}
 
 /// The tokens that are written for some events stand for these events. It does nothing.
+#[tactic(auto, using(crate::proofs::RoundTrip::tokens_alone))]
 pub fn tokens_are_read_again()
     ensures { (events : List Event) → OfHarts events → length events ≤ 1048576 → IsTokensOf (tokens_of events) events }
 {}

@@ -82,6 +82,7 @@ fn tokens_within(
 /// right after a token's letter or its `*`; else, at the token's first byte, `BadToken` for another
 /// wrong shape, `BadHart` for a hart from 64 on, and `BadCount` for a count of 0, for one over
 /// [`MAX_EVENTS`] and where the events so far pass it.
+#[tactic(auto, using(crate::proofs::TextLaws::found_tokens, crate::proofs::TextLaws::only_tokens, crate::proofs::TextLaws::found_harts, crate::proofs::TextLaws::found_few))]
 pub fn read_tokens(alloc: Global, text: &str) -> Result<Vec<Event>, ScheduleError>
     ensures found { IfOk result (λ events. IsTokensOf text.now events.items) }
     ensures only { (events : List Event) → IsTokensOf text.now events → Gives refusal_of (λ read. read.items) result (Ok events) }
@@ -108,6 +109,7 @@ fn schedule_in(alloc: Global, text: &[u8]) -> Result<Vec<Event>, ScheduleError>
 ///
 /// Another first line is `BadHead` at byte 0; then the first faulty token is answered as
 /// [`read_tokens`] answers it, its place counted from the schedule's first byte.
+#[tactic(auto, using(crate::proofs::HeadLaws::found_schedule, crate::proofs::HeadLaws::only_schedule, crate::proofs::HeadLaws::schedule_harts, crate::proofs::HeadLaws::schedule_few))]
 pub fn read_schedule(alloc: Global, text: &str) -> Result<Vec<Event>, ScheduleError>
     ensures found { IfOk result (λ events. IsScheduleOf text.now events.items) }
     ensures only { (events : List Event) → IsScheduleOf text.now events → Gives refusal_of (λ read. read.items) result (Ok events) }

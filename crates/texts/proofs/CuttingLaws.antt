@@ -1,11 +1,17 @@
--- Places of bytes and what stands before and behind them.
-use Rattle.std.proofs.Common.{◌≡◌, ℕ, suc, zero, ◌+◌, ◌-◌, ◌<◌, ◌≤◌, Bool, true, false, not, List, [], ◌∷◌, length, take, drop, get_or, Some, None, refl, sym, ap, subst, ◌∙◌, inl, inr, arith}
+-- Texts cut at bytes: what stands before the first byte that passes, behind it, and from it on.
+use Rattle.std.proofs.Common.{◌≡◌, ℕ, suc, ◌+◌, ◌%◌, ◌^◌, ◌<◌, ◌≤◌, Bool, true, false, List, [], ◌∷◌, ◌++◌, length, take, drop, Option, Some, None, refl, ap, subst, ◌∙◌, inl, inr, arith}
 use Rattle.std.specs.Prelude.{position}
-use Rattle.std.specs.List.{position_or_len}
-use Rattle.std.proofs.lemmas.Bool.{cases_Bool}
-use Rattle.texts.specs.Pieces.{is_blank}
-use Rattle.texts.proofs.PieceLaws.{position_is, position_past}
-use Rattle.texts.specs.Cutting.{before, after, without_front, without_end, onto_kept}
+use Rattle.std.specs.List.{position_or_len, slice_split}
+use Rattle.std.specs.Fmt.{decimal}
+use Rattle.std.specs.Str.Lines.{lines}
+use Rattle.std.proofs.lemmas.Bool.{cases_Bool, le-ltb, ne_eqb, eqb-true}
+use Rattle.std.proofs.lemmas.Fmt.{decimal_by_steps}
+use Rattle.std.proofs.lemmas.List.{drop_all}
+use Rattle.texts.specs.Pieces.{is_blank, bytes_left}
+use Rattle.texts.specs.Cutting.{before, after, from_first, is_byte, NonePass}
+use Rattle.texts.proofs.PieceLaws.{position_is, position_past, lines_whole}
+
+-- ---- by the place of the first byte that passes
 
 before_is : (p : ℕ → Bool) (xs : List ℕ) → before p xs ≡ take (position_or_len p xs) xs
 before_is p [] = refl
@@ -31,11 +37,18 @@ before_whole p (x ∷ xs) le = elim (cases_Bool (p x)) [
   | inr fails ↦ (let more : length (x ∷ xs) ≤ 1 + position_or_len p xs = rw fails at le in rw fails (ap (λ ys. x ∷ ys) (before_whole p xs (omega arith))))
 ]
 
-after_none : (p : ℕ → Bool) (xs : List ℕ) → length xs ≤ position_or_len p xs → after p xs ≡ None
-after_none p [] le = refl
-after_none p (x ∷ xs) le = elim (cases_Bool (p x)) [
+after_past : (p : ℕ → Bool) (xs : List ℕ) → length xs ≤ position_or_len p xs → after p xs ≡ None
+after_past p [] le = refl
+after_past p (x ∷ xs) le = elim (cases_Bool (p x)) [
   | inl passes ↦ (let no_room : length (x ∷ xs) ≤ 0 = rw passes at le in absurd (omega arith))
-  | inr fails ↦ (let more : length (x ∷ xs) ≤ 1 + position_or_len p xs = rw fails at le in rw fails (after_none p xs (omega arith)))
+  | inr fails ↦ (let more : length (x ∷ xs) ≤ 1 + position_or_len p xs = rw fails at le in rw fails (after_past p xs (omega arith)))
+]
+
+from_is : (p : ℕ → Bool) (xs : List ℕ) → from_first p xs ≡ drop (position_or_len p xs) xs
+from_is p [] = refl
+from_is p (x ∷ xs) = elim (cases_Bool (p x)) [
+  | inl passes ↦ rw passes refl
+  | inr fails ↦ (let e : 1 + position_or_len p xs ≡ suc (position_or_len p xs) = omega arith in rw (fails, e) (from_is p xs))
 ]
 
 pub before_found : (p : ℕ → Bool) (xs : List ℕ) (i : ℕ) → position p xs ≡ Some i → before p xs ≡ take i xs
@@ -48,62 +61,120 @@ pub before_missing : (p : ℕ → Bool) (xs : List ℕ) → position p xs ≡ No
 before_missing p xs e = before_whole p xs (position_past p xs e)
 
 pub after_missing : (p : ℕ → Bool) (xs : List ℕ) → position p xs ≡ None → after p xs ≡ None
-after_missing p xs e = after_none p xs (position_past p xs e)
+after_missing p xs e = after_past p xs (position_past p xs e)
 
--- ---- blanks at the front
+pub from_found : (p : ℕ → Bool) (xs : List ℕ) (i : ℕ) → position p xs ≡ Some i → from_first p xs ≡ drop i xs
+from_found p xs i e = let at = position_is p xs i e in subst (λ (k : ℕ). from_first p xs ≡ drop k xs) at.1 (from_is p xs)
 
-abbrev other : ℕ → Bool
-other byte = not (is_blank byte)
+pub from_missing : (p : ℕ → Bool) (xs : List ℕ) → position p xs ≡ None → from_first p xs ≡ []
+from_missing p xs e = from_is p xs ∙ drop_all (position_or_len p xs) xs (position_past p xs e)
 
-front_is : (xs : List ℕ) → without_front xs ≡ drop (position_or_len other xs) xs
-front_is [] = refl
-front_is (x ∷ xs) = elim (cases_Bool (is_blank x)) [
-  | inl blank ↦ (let e : 1 + position_or_len other xs ≡ suc (position_or_len other xs) = omega arith in rw (blank, e) (front_is xs))
-  | inr solid ↦ rw solid refl
+pub length-from_first : (p : ℕ → Bool) (xs : List ℕ) → length (from_first p xs) ≤ length xs
+length-from_first p [] = omega arith
+length-from_first p (x ∷ xs) = elim (cases_Bool (p x)) [
+  | inl passes ↦ rw passes (omega arith)
+  | inr fails ↦ rw fails (omega (arith, length-from_first p xs))
 ]
 
-pub front_found : (xs : List ℕ) (i : ℕ) → position (λ byte. not (is_blank byte)) xs ≡ Some i → without_front xs ≡ drop i xs
-front_found xs i e = let at = position_is other xs i e in subst (λ (k : ℕ). without_front xs ≡ drop k xs) at.1 (front_is xs)
-
-front_none : (xs : List ℕ) → length xs ≤ position_or_len other xs → without_front xs ≡ []
-front_none [] le = refl
-front_none (x ∷ xs) le = elim (cases_Bool (is_blank x)) [
-  | inl blank ↦ (let more : length (x ∷ xs) ≤ 1 + position_or_len other xs = rw blank at le in rw blank (front_none xs (omega arith)))
-  | inr solid ↦ (let no_room : length (x ∷ xs) ≤ 0 = rw solid at le in absurd (omega arith))
+pub length-cut : (p : ℕ → Bool) (xs : List ℕ) → length (before p xs) + bytes_left (after p xs) ≡ length xs
+length-cut p [] = refl
+length-cut p (x ∷ xs) = elim (cases_Bool (p x)) [
+  | inl passes ↦ rw passes (omega arith)
+  | inr fails ↦ (let rest = length-cut p xs in rw fails (omega arith))
 ]
 
-pub front_missing : (xs : List ℕ) → position (λ byte. not (is_blank byte)) xs ≡ None → without_front xs ≡ []
-front_missing xs e = front_none xs (position_past other xs e)
+-- ---- where no byte passes, and at the first that does
 
--- ---- blanks at the end
+pub none-append : (p : ℕ → Bool) (xs ys : List ℕ) → NonePass p xs → NonePass p ys → NonePass p (xs ++ ys)
+none-append p [] ys h k = k
+none-append p (x ∷ xs) ys h k = (h.0, none-append p xs ys h.1 k)
 
--- a blank at the end of the part so far can go
-pub end_less : (xs : List ℕ) (i : ℕ) → i < length xs → is_blank (get_or xs i 0) ≡ true → without_end (take (i + 1) xs) ≡ without_end (take i xs)
-end_less [] i lt blank = absurd (omega arith)
-end_less (x ∷ xs) zero lt blank = rw blank refl
-end_less (x ∷ xs) (suc i) lt blank =
-    let e : suc i + 1 ≡ suc (i + 1) = omega arith in
-    rw e (ap (onto_kept x) (end_less xs i (omega arith) blank))
+pub before_none : (p : ℕ → Bool) (xs : List ℕ) → NonePass p xs → before p xs ≡ xs
+before_none p [] h = refl
+before_none p (x ∷ xs) h = rw (h.0, before_none p xs h.1) refl
 
--- and any other byte stays, with all before it
-pub end_kept : (xs : List ℕ) (i : ℕ) → i < length xs → is_blank (get_or xs i 0) ≡ false → without_end (take (i + 1) xs) ≡ take (i + 1) xs
-end_kept [] i lt solid = absurd (omega arith)
-end_kept (x ∷ xs) zero lt solid = rw solid refl
-end_kept (x ∷ xs) (suc i) lt solid =
-    let e : suc i + 1 ≡ suc (i + 1) = omega arith in
-    rw e (ap (onto_kept x) (end_kept xs i (omega arith) solid) ∙ onto_some x xs i (omega arith))
-  where
-    onto_some : (x : ℕ) (xs : List ℕ) (i : ℕ) → i < length xs → onto_kept x (take (i + 1) xs) ≡ x ∷ take (i + 1) xs
-    onto_some x [] i lt = absurd (omega arith)
-    onto_some x (y ∷ ys) i lt = let e : i + 1 ≡ suc i = omega arith in rw e refl
+pub after_none : (p : ℕ → Bool) (xs : List ℕ) → NonePass p xs → after p xs ≡ None
+after_none p [] h = refl
+after_none p (x ∷ xs) h = rw h.0 (after_none p xs h.1)
 
--- the same, seen from behind the byte
-pub end_step : (xs : List ℕ) (e : ℕ) → 0 < e → e ≤ length xs → is_blank (get_or xs (e - 1) 0) ≡ true → without_end (take (e - 1) xs) ≡ without_end (take e xs)
-end_step xs e some le blank =
-    let back : e - 1 + 1 ≡ e = omega arith in
-    subst (λ (k : ℕ). without_end (take (e - 1) xs) ≡ without_end (take k xs)) back (sym (end_less xs (e - 1) (omega arith) blank))
+pub before_stop : (p : ℕ → Bool) (xs : List ℕ) (c : ℕ) (ys : List ℕ) → NonePass p xs → p c ≡ true → before p (xs ++ c ∷ ys) ≡ xs
+before_stop p [] c ys h stop = rw stop refl
+before_stop p (x ∷ xs) c ys h stop = rw (h.0, before_stop p xs c ys h.1 stop) refl
 
-pub end_stop : (xs : List ℕ) (e : ℕ) → 0 < e → e ≤ length xs → is_blank (get_or xs (e - 1) 0) ≡ false → take e xs ≡ without_end (take e xs)
-end_stop xs e some le solid =
-    let back : e - 1 + 1 ≡ e = omega arith in
-    subst (λ (k : ℕ). take k xs ≡ without_end (take k xs)) back (sym (end_kept xs (e - 1) (omega arith) solid))
+pub after_stop : (p : ℕ → Bool) (xs : List ℕ) (c : ℕ) (ys : List ℕ) → NonePass p xs → p c ≡ true → after p (xs ++ c ∷ ys) ≡ Some ys
+after_stop p [] c ys h stop = rw stop refl
+after_stop p (x ∷ xs) c ys h stop = rw h.0 (after_stop p xs c ys h.1 stop)
+
+pub before_passes_not : (p : ℕ → Bool) (xs : List ℕ) → NonePass p (before p xs)
+before_passes_not p [] = tt
+before_passes_not p (x ∷ xs) = elim (cases_Bool (p x)) [
+  | inl stop ↦ rw stop tt
+  | inr on ↦ rw on (on, before_passes_not p xs)
+]
+
+-- a text that is cut at a byte
+pub cut_whole : (p : ℕ → Bool) (xs ys : List ℕ) → after p xs ≡ Some ys → (c : ℕ) × (p c ≡ true) × (xs ≡ before p xs ++ c ∷ ys)
+cut_whole p [] ys e = absurd cc
+cut_whole p (x ∷ xs) ys e = elim (cases_Bool (p x)) [
+  | inl stop ↦ (x, stop, (let f : Some xs ≡ Some ys = rw stop at e in let same : xs ≡ ys = cc in rw stop (ap (λ zs. x ∷ zs) same)))
+  | inr on ↦ (let rest = cut_whole p xs ys (rw on at e) in (rest.0, rest.1, rw on (ap (λ zs. x ∷ zs) rest.2)))
+]
+
+pub cut_byte : (byte : ℕ) (xs ys : List ℕ) → after (is_byte byte) xs ≡ Some ys → xs ≡ before (is_byte byte) xs ++ byte ∷ ys
+cut_byte byte xs ys e = let cut = cut_whole (is_byte byte) xs ys e in subst (λ (c : ℕ). xs ≡ before (is_byte byte) xs ++ c ∷ ys) (eqb-true cut.0 byte cut.1) cut.2
+
+abbrev nothing : Option (List ℕ)
+nothing = None
+
+pub uncut : (p : ℕ → Bool) (xs : List ℕ) → after p xs ≡ None → before p xs ≡ xs
+uncut p [] e = refl
+uncut p (x ∷ xs) e = elim (cases_Bool (p x)) [
+  | inl stop ↦ absurd (let f : Some xs ≡ nothing = rw stop at e in cc)
+  | inr on ↦ rw on (ap (λ zs. x ∷ zs) (uncut p xs (rw on at e)))
+]
+
+-- ---- a text that is split at bytes, from its first part on
+
+-- the parts of what stands behind a cut
+abbrev pub split_behind : (ℕ → Bool) → Option (List ℕ) → List (List ℕ)
+split_behind p None = []
+split_behind p (Some text) = slice_split p text
+
+pub split_cut : (p : ℕ → Bool) (text : List ℕ) → slice_split p text ≡ before p text ∷ split_behind p (after p text)
+split_cut p [] = refl
+split_cut p (x ∷ xs) = elim (cases_Bool (p x)) [
+  | inl passes ↦ rw passes refl
+  | inr fails ↦ rw (fails, split_cut p xs) refl
+]
+
+pub split_none : (p : ℕ → Bool) (xs : List ℕ) → NonePass p xs → slice_split p xs ≡ xs ∷ []
+split_none p xs h = split_cut p xs ∙ rw (before_none p xs h, after_none p xs h) refl
+
+pub split_stop : (p : ℕ → Bool) (xs : List ℕ) (c : ℕ) (ys : List ℕ) → NonePass p xs → p c ≡ true → slice_split p (xs ++ c ∷ ys) ≡ xs ∷ slice_split p ys
+split_stop p xs c ys h stop = split_cut p (xs ++ c ∷ ys) ∙ rw (before_stop p xs c ys h stop, after_stop p xs c ys h stop) refl
+
+-- ---- lines
+
+pol_none : (p : ℕ → Bool) (xs : List ℕ) → NonePass p xs → position_or_len p xs ≡ length xs
+pol_none p [] h = refl
+pol_none p (x ∷ xs) h = let rest = pol_none p xs h.1 in rw h.0 (omega arith)
+
+position_none : (p : ℕ → Bool) (xs : List ℕ) → NonePass p xs → position p xs ≡ None
+position_none p xs h = let all = pol_none p xs h in rw (le-ltb (position_or_len p xs) (length xs) (omega arith)) refl
+
+pub one_line : (xs : List ℕ) → 0 < length xs → NonePass (is_byte 10) xs → lines xs ≡ xs ∷ []
+one_line xs some h = lines_whole xs (position_none (is_byte 10) xs h) some
+
+-- ---- digits
+
+pub decimal_none : (p : ℕ → Bool) → ((d : ℕ) → d < 10 → p (48 + d) ≡ false) → (n : ℕ) → n < 2 ^ 64 → NonePass p (decimal n)
+decimal_none p digit n fits = decimal_by_steps (λ k ds. NonePass p ds) (λ k lt. (digit k lt, tt)) (λ k ds le rest. none-append p ds ((48 + k % 10) ∷ []) rest (digit (k % 10) (omega arith), tt)) n fits
+
+pub not_byte : (byte d : ℕ) → 58 ≤ byte → d < 10 → is_byte byte (48 + d) ≡ false
+not_byte byte d high lt = ne_eqb (48 + d) byte (omega arith)
+
+pub not_low_byte : (byte d : ℕ) → byte < 48 → is_byte byte (48 + d) ≡ false
+not_low_byte byte d low = ne_eqb (48 + d) byte (omega arith)
+
+pub digit_no_blank : (d : ℕ) → is_blank (48 + d) ≡ false
+digit_no_blank d = rw (ne_eqb (48 + d) 32 (omega arith), ne_eqb (48 + d) 9 (omega arith)) refl

@@ -1,9 +1,6 @@
 pub mod PieceLaws
-pub mod LineLaws
 pub mod NumberLaws
 pub mod ResultLaws
 pub mod CuttingLaws
-pub mod Magnitudes
-pub mod SolidLaws
-pub mod SplitLaws
 pub mod TrimLaws
+pub mod WordLaws

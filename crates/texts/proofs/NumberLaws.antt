@@ -1,16 +1,16 @@
 -- Digits and what they say.
-use Rattle.std.proofs.Common.{◌≡◌, ℕ, ◌+◌, ◌*◌, ◌^◌, ◌<◌, ◌≤◌, Bool, true, false, cond, ◌&&◌, List, [], ◌∷◌, length, take, get_or, Option, Some, None, refl, sym, ◌∙◌, subst, arith, inl, inr, ltb, eqb}
+use Rattle.std.proofs.Common.{◌≡◌, ℕ, ◌+◌, ◌*◌, ◌^◌, ◌<◌, ◌≤◌, Bool, true, false, cond, ◌&&◌, List, [], ◌∷◌, length, take, drop, get_or, ap, Option, Some, None, refl, sym, ◌∙◌, subst, arith, inl, inr, ltb, eqb}
 use Rattle.std.specs.Prelude.{IfSome}
 use Rattle.std.specs.List.{list_all}
 use Rattle.std.specs.Char.{digit_value, is_digit}
 use Rattle.std.specs.Str.Parse.{IsNumeral, AllDigits, digits_value}
-use Rattle.std.proofs.lemmas.Bool.{ltb-true, lt-ltb, le-ltb, cases_lt, eqb-true, ne_eqb, and_parts}
+use Rattle.std.proofs.lemmas.Bool.{ltb-true, lt-ltb, le-ltb, cases_lt, eqb-true, ne_eqb, and_parts, and_right}
 use Rattle.std.proofs.lemmas.List.Folds.{list_all_more, list_all_at}
 use Rattle.std.proofs.lemmas.Int.Digits.{digits_value_more, digits_value-lt}
 use Rattle.std.proofs.lemmas.Fmt.{decimal_is_IsNumeral}
 use Rattle.std.specs.Fmt.{decimal}
 use Rattle.std.proofs.Math.Nat.{mul-le-mul_left, mul-le-mul_right, le_trans}
-use Rattle.texts.specs.Numbers.{Says, SaysInHex, IsHexWord, capped, is_numeral, capped_value, number_of, hex_number_of, below_cap_of, word_of, hex_word_of}
+use Rattle.texts.specs.Numbers.{Says, SaysInHex, IsHexWord, capped, is_numeral, capped_value, number_of, hex_number_of, below_cap_of, word_of, hex_word_of, is_hex, is_negative}
 
 AllDigits-from_list_all : (radix : ℕ) (digits : List ℕ) → list_all (λ c. is_digit c radix) digits ≡ true → AllDigits radix digits
 AllDigits-from_list_all radix [] e = tt
@@ -190,3 +190,32 @@ found_word digits (Some n) e = (word_said digits n (sym e)).0
 pub found_hex_word : (digits : List ℕ) (o : Option ℕ) → o ≡ hex_word_of digits → IfSome o (IsHexWord digits)
 found_hex_word digits None e = tt
 found_hex_word digits (Some n) e = hex_word_said digits n (sym e)
+
+-- ---- how large a number that is read can be
+
+pub small_decimal : (digits : List ℕ) (r : Option ℕ) → r ≡ number_of digits → IfSome r (λ n. n ≤ 2 ^ 32)
+small_decimal digits None e = tt
+small_decimal digits (Some n) e = let said = capped_value-said 10 digits n (sym e) in omega (arith, said.1)
+
+pub small_hex : (digits : List ℕ) (r : Option ℕ) → r ≡ hex_number_of digits → IfSome r (λ n. n ≤ 2 ^ 32)
+small_hex digits None e = tt
+small_hex digits (Some n) e = let said = capped_value-said 16 digits n (sym e) in omega (arith, said.1)
+
+-- ---- what a sign or a `0x` in front says of the text
+
+pub hex_text : (text : List ℕ) → is_hex text ≡ true → text ≡ 48 ∷ 120 ∷ drop 2 text
+hex_text [] e = absurd cc
+hex_text (a ∷ []) e = absurd cc
+hex_text (a ∷ b ∷ rest) e =
+    let outer = and_parts (ltb 1 (length (a ∷ b ∷ rest)) && eqb a 48) (eqb b 120) e in
+    let inner = and_parts (ltb 1 (length (a ∷ b ∷ rest))) (eqb a 48) outer.0 in
+    ap (λ x. x ∷ b ∷ rest) (eqb-true a 48 inner.1) ∙ ap (λ x. 48 ∷ x ∷ rest) (eqb-true b 120 outer.1)
+
+pub no_hex : (digits : List ℕ) → AllDigits 10 digits → is_hex digits ≡ false
+no_hex [] h = refl
+no_hex (a ∷ []) h = refl
+no_hex (a ∷ b ∷ rest) h = rw (ne_eqb b 120 (λ is. (let f : digit_value 120 < 10 = subst (λ (c : ℕ). digit_value c < 10) is h.1.0 in omega arith))) (and_right (ltb 1 (length (a ∷ b ∷ rest)) && eqb a 48) false refl)
+
+pub negative_text : (text : List ℕ) → is_negative text ≡ true → text ≡ 45 ∷ drop 1 text
+negative_text [] e = absurd cc
+negative_text (a ∷ rest) e = let both = and_parts (ltb 0 (length (a ∷ rest))) (eqb a 45) e in ap (λ x. x ∷ rest) (eqb-true a 45 both.1)

@@ -1,9 +1,11 @@
--- A text cut at the first byte that parts it, and the room that its pieces take.
-use Rattle.std.proofs.Common.{◌≡◌, ℕ, ◌+◌, ◌<◌, ◌≤◌, Bool, cond, ltb, List, [], ◌∷◌, length, take, drop, Option, Some, None, refl, subst, inl, inr, arith}
+-- A text cut at the first byte that parts it, the room that its pieces take, and its lines.
+use Rattle.std.proofs.Common.{◌≡◌, ℕ, ◌+◌, ◌<◌, ◌≤◌, ◌==◌, Bool, cond, ltb, List, [], ◌∷◌, length, take, drop, Option, Some, None, refl, ap, subst, ◌∙◌, inl, inr, arith}
 use Rattle.std.specs.Prelude.{position}
 use Rattle.std.specs.List.{slice_split, onto_first, position_or_len}
+use Rattle.std.specs.Str.Lines.{lines, lines_of_parts, strip_carriage_return}
+use Rattle.std.proofs.Math.Dec.{eqb-suc-zero}
 use Rattle.std.proofs.lemmas.Bool.{cases_lt, le-ltb, lt-ltb, cases_Bool}
-use Rattle.std.proofs.lemmas.List.Splits.{slice_split_first}
+use Rattle.std.proofs.lemmas.List.Splits.{slice_split_first, length-slice_split}
 use Rattle.texts.specs.Pieces.{span}
 
 -- where a place is found, it is the length of the front that fails the test
@@ -57,3 +59,22 @@ span-slice_split p (x ∷ xs) = elim (cases_Bool (p x)) [
   | inl passes ↦ rw passes (omega (arith, span-slice_split p xs))
   | inr fails ↦ (let rest = span-slice_split p xs in rw fails (omega (arith, span-onto_first x (slice_split p xs) (omega arith))))
 ]
+
+-- ---- lines
+
+-- a part before another one is a line
+pub lines_of_parts-cons : (part : List ℕ) (parts : List (List ℕ)) → 0 < length parts → lines_of_parts (part ∷ parts) ≡ strip_carriage_return part ∷ lines_of_parts parts
+lines_of_parts-cons part [] some = absurd (omega arith)
+lines_of_parts-cons part (next ∷ parts) some = refl
+
+-- the first line ends before the first LF, and loses the CR before it
+pub lines_found : (text : List ℕ) (i : ℕ) → position (λ byte. byte == 10) text ≡ Some i → lines text ≡ strip_carriage_return (take i text) ∷ lines (drop (i + 1) text)
+lines_found text i e =
+    let after = slice_split (λ byte. byte == 10) (drop (i + 1) text) in
+    ap lines_of_parts (slice_split_found (λ byte. byte == 10) text i e)
+    ∙ lines_of_parts-cons (take i text) after (omega (arith, length-slice_split (λ byte. byte == 10) (drop (i + 1) text)))
+
+-- and is all that is left where there is none
+pub lines_whole : (text : List ℕ) → position (λ byte. byte == 10) text ≡ None → 0 < length text → lines text ≡ text ∷ []
+lines_whole [] e some = absurd (omega arith)
+lines_whole (byte ∷ text) e some = ap lines_of_parts (slice_split_whole (λ b. b == 10) (byte ∷ text) e) ∙ rw (eqb-suc-zero (length text)) refl

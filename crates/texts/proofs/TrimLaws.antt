@@ -1,108 +1,158 @@
--- Blanks round a text, and texts cut at bytes.
-use Rattle.std.proofs.Common.{◌≡◌, ℕ, Bool, true, false, List, [], ◌∷◌, ◌++◌, Option, Some, None, refl, sym, ap, subst, ◌∙◌, inl, inr, append_assoc}
-use Rattle.std.proofs.lemmas.Bool.{cases_Bool, eqb-true}
-use Rattle.texts.specs.Pieces.{is_blank}
-use Rattle.texts.specs.Cutting.{before, after, is_byte, without_front, without_end, onto_kept, trimmed}
-use Rattle.texts.specs.Padding.{AreBlanks, IsPadded}
-use Rattle.texts.proofs.SolidLaws.{NonePass}
+-- Bytes round a text, and the text without them.
+use Rattle.std.proofs.Common.{◌≡◌, ℕ, suc, zero, ◌+◌, ◌-◌, ◌<◌, ◌≤◌, Bool, true, false, List, [], ◌∷◌, ◌++◌, length, take, get_or, refl, sym, ap, subst, ◌∙◌, inl, inr, append_assoc, arith}
+use Rattle.std.proofs.lemmas.Bool.{cases_Bool}
+use Rattle.texts.specs.Cutting.{without_leading, without_trailing, onto_kept, stripped, AllPass, NonePass, IsPaddedBy}
 
-pub blanks-append : (xs ys : List ℕ) → AreBlanks xs → AreBlanks ys → AreBlanks (xs ++ ys)
-blanks-append [] ys h k = k
-blanks-append (x ∷ xs) ys h k = (h.0, blanks-append xs ys h.1 k)
+-- ---- the end, from behind
 
-pub front_past : (front xs : List ℕ) → AreBlanks front → without_front (front ++ xs) ≡ without_front xs
-front_past [] xs h = refl
-front_past (x ∷ front) xs h = rw h.0 (front_past front xs h.1)
+-- a byte that passes can go from the end of the part so far
+end_less : (p : ℕ → Bool) (xs : List ℕ) (i : ℕ) → i < length xs → p (get_or xs i 0) ≡ true → without_trailing p (take (i + 1) xs) ≡ without_trailing p (take i xs)
+end_less p [] i lt passes = absurd (omega arith)
+end_less p (x ∷ xs) zero lt passes = rw passes refl
+end_less p (x ∷ xs) (suc i) lt passes =
+    let e : suc i + 1 ≡ suc (i + 1) = omega arith in
+    rw e (ap (onto_kept p x) (end_less p xs i (omega arith) passes))
 
-front_blank : (back : List ℕ) → AreBlanks back → without_front back ≡ []
-front_blank [] h = refl
-front_blank (x ∷ back) h = rw h.0 (front_blank back h.1)
+pub onto_some : (p : ℕ → Bool) (x : ℕ) (ys : List ℕ) → 0 < length ys → onto_kept p x ys ≡ x ∷ ys
+onto_some p x [] some = absurd (omega arith)
+onto_some p x (y ∷ ys) some = refl
 
-end_blank : (back : List ℕ) → AreBlanks back → without_end back ≡ []
-end_blank [] h = refl
-end_blank (x ∷ back) h = rw (end_blank back h.1, h.0) refl
-
-end_past : (xs back : List ℕ) → AreBlanks back → without_end (xs ++ back) ≡ without_end xs
-end_past [] back h = end_blank back h
-end_past (x ∷ xs) back h = ap (onto_kept x) (end_past xs back h)
-
-pub trimmed_back : (xs back : List ℕ) → AreBlanks back → trimmed (xs ++ back) ≡ trimmed xs
-unfolding trimmed
-trimmed_back [] back h = rw (front_blank back h) refl
-trimmed_back (x ∷ xs) back h = elim (cases_Bool (is_blank x)) [
-  | inl blank ↦ rw blank (trimmed_back xs back h)
-  | inr solid ↦ rw solid (end_past (x ∷ xs) back h)
-]
-
-trimmed_front : (front xs : List ℕ) → AreBlanks front → trimmed (front ++ xs) ≡ trimmed xs
-unfolding trimmed
-trimmed_front front xs h = ap without_end (front_past front xs h)
-
-pub trimmed_padded : (core text : List ℕ) → IsPadded core text → trimmed text ≡ trimmed core
-trimmed_padded core text pad = ap trimmed pad.4 ∙ (trimmed_front pad.0 (core ++ pad.1) pad.2 ∙ trimmed_back core pad.1 pad.3)
-
-pub trimmed_blanks : (text : List ℕ) → AreBlanks text → trimmed text ≡ []
-unfolding trimmed
-trimmed_blanks text h = ap without_end (front_blank text h)
-
--- ---- what was trimmed off
-
-pub front_split : (xs : List ℕ) → (front : List ℕ) × AreBlanks front × (xs ≡ front ++ without_front xs)
-front_split [] = ([], tt, refl)
-front_split (x ∷ xs) = elim (cases_Bool (is_blank x)) [
-  | inl blank ↦ (let rest = front_split xs in (x ∷ rest.0, (blank, rest.1), rw blank (ap (λ ys. x ∷ ys) rest.2)))
-  | inr solid ↦ ([], tt, rw solid refl)
-]
-
-pub end_split : (xs : List ℕ) → (back : List ℕ) × AreBlanks back × (xs ≡ without_end xs ++ back)
-end_split [] = ([], tt, refl)
-end_split (x ∷ xs) = let rest = end_split xs in go (without_end xs) rest.0 rest.1 rest.2 (is_blank x) refl
+-- and any other byte stays, with all before it
+end_kept : (p : ℕ → Bool) (xs : List ℕ) (i : ℕ) → i < length xs → p (get_or xs i 0) ≡ false → without_trailing p (take (i + 1) xs) ≡ take (i + 1) xs
+end_kept p [] i lt fails = absurd (omega arith)
+end_kept p (x ∷ xs) zero lt fails = rw fails refl
+end_kept p (x ∷ xs) (suc i) lt fails =
+    let e : suc i + 1 ≡ suc (i + 1) = omega arith in
+    rw e (ap (onto_kept p x) (end_kept p xs i (omega arith) fails) ∙ onto_some p x (take (i + 1) xs) (some xs i (omega arith)))
   where
-    go : (kept back : List ℕ) → AreBlanks back → xs ≡ kept ++ back → (b : Bool) → is_blank x ≡ b → (end : List ℕ) × AreBlanks end × (x ∷ xs ≡ onto_kept x kept ++ end)
-    go [] back blanks whole true blank = (x ∷ back, (blank, blanks), rw blank (ap (λ ys. x ∷ ys) whole))
-    go [] back blanks whole false solid = (back, blanks, rw solid (ap (λ ys. x ∷ ys) whole))
-    go (y ∷ ys) back blanks whole b e = (back, blanks, ap (λ zs. x ∷ zs) whole)
+    some : (xs : List ℕ) (i : ℕ) → i < length xs → 0 < length (take (i + 1) xs)
+    some [] i lt = absurd (omega arith)
+    some (y ∷ ys) i lt = let e : i + 1 ≡ suc i = omega arith in rw e (omega arith)
 
-pub padded_trimmed : (text : List ℕ) → IsPadded (trimmed text) text
-unfolding trimmed
-padded_trimmed text =
-    let front = front_split text in
-    let back = end_split (without_front text) in
+-- the same, seen from behind the byte
+pub end_step : (p : ℕ → Bool) (xs : List ℕ) (e : ℕ) → 0 < e → e ≤ length xs → p (get_or xs (e - 1) 0) ≡ true → without_trailing p (take (e - 1) xs) ≡ without_trailing p (take e xs)
+end_step p xs e some le passes =
+    let back : e - 1 + 1 ≡ e = omega arith in
+    subst (λ (k : ℕ). without_trailing p (take (e - 1) xs) ≡ without_trailing p (take k xs)) back (sym (end_less p xs (e - 1) (omega arith) passes))
+
+pub end_stop : (p : ℕ → Bool) (xs : List ℕ) (e : ℕ) → 0 < e → e ≤ length xs → p (get_or xs (e - 1) 0) ≡ false → take e xs ≡ without_trailing p (take e xs)
+end_stop p xs e some le fails =
+    let back : e - 1 + 1 ≡ e = omega arith in
+    subst (λ (k : ℕ). take k xs ≡ without_trailing p (take k xs)) back (sym (end_kept p xs (e - 1) (omega arith) fails))
+
+-- ---- where no byte passes
+
+pub leading_none : (p : ℕ → Bool) (xs : List ℕ) → NonePass p xs → without_leading p xs ≡ xs
+leading_none p [] h = refl
+leading_none p (x ∷ xs) h = rw h.0 refl
+
+trailing_none : (p : ℕ → Bool) (xs : List ℕ) → NonePass p xs → without_trailing p xs ≡ xs
+trailing_none p [] h = refl
+trailing_none p (x ∷ []) h = rw h.0 refl
+trailing_none p (x ∷ y ∷ ys) h = rw (trailing_none p (y ∷ ys) h.1) refl
+
+pub trailing_append : (p : ℕ → Bool) (xs ys : List ℕ) → 0 < length ys → NonePass p ys → without_trailing p (xs ++ ys) ≡ xs ++ ys
+trailing_append p [] ys some h = trailing_none p ys h
+trailing_append p (x ∷ xs) ys some h = ap (onto_kept p x) (trailing_append p xs ys some h) ∙ onto_some p x (xs ++ ys) (long xs)
+  where
+    long : (zs : List ℕ) → 0 < length (zs ++ ys)
+    long [] = some
+    long (z ∷ zs) = omega arith
+
+pub stripped_none : (p : ℕ → Bool) (xs : List ℕ) → NonePass p xs → stripped p xs ≡ xs
+unfolding stripped
+stripped_none p xs h = rw (leading_none p xs h) (trailing_none p xs h)
+
+-- a text in whose first and last parts no byte passes
+pub stripped_ends : (p : ℕ → Bool) (xs ys zs : List ℕ) → 0 < length xs → NonePass p xs → 0 < length zs → NonePass p zs → stripped p (xs ++ (ys ++ zs)) ≡ xs ++ (ys ++ zs)
+unfolding stripped
+stripped_ends p [] ys zs begins h some k = absurd (omega arith)
+stripped_ends p (x ∷ xs) ys zs begins h some k = rw (h.0, ← append_assoc xs ys zs) (trailing_append p (x ∷ (xs ++ ys)) zs some k)
+
+-- ---- where all bytes pass, round a text
+
+pub all-append : (p : ℕ → Bool) (xs ys : List ℕ) → AllPass p xs → AllPass p ys → AllPass p (xs ++ ys)
+all-append p [] ys h k = k
+all-append p (x ∷ xs) ys h k = (h.0, all-append p xs ys h.1 k)
+
+pub leading_past : (p : ℕ → Bool) (front xs : List ℕ) → AllPass p front → without_leading p (front ++ xs) ≡ without_leading p xs
+leading_past p [] xs h = refl
+leading_past p (x ∷ front) xs h = rw h.0 (leading_past p front xs h.1)
+
+pub leading_all : (p : ℕ → Bool) (back : List ℕ) → AllPass p back → without_leading p back ≡ []
+leading_all p [] h = refl
+leading_all p (x ∷ back) h = rw h.0 (leading_all p back h.1)
+
+trailing_all : (p : ℕ → Bool) (back : List ℕ) → AllPass p back → without_trailing p back ≡ []
+trailing_all p [] h = refl
+trailing_all p (x ∷ back) h = rw (trailing_all p back h.1, h.0) refl
+
+trailing_past : (p : ℕ → Bool) (xs back : List ℕ) → AllPass p back → without_trailing p (xs ++ back) ≡ without_trailing p xs
+trailing_past p [] back h = trailing_all p back h
+trailing_past p (x ∷ xs) back h = ap (onto_kept p x) (trailing_past p xs back h)
+
+pub stripped_back : (p : ℕ → Bool) (xs back : List ℕ) → AllPass p back → stripped p (xs ++ back) ≡ stripped p xs
+unfolding stripped
+stripped_back p [] back h = rw (leading_all p back h) refl
+stripped_back p (x ∷ xs) back h = elim (cases_Bool (p x)) [
+  | inl passes ↦ rw passes (stripped_back p xs back h)
+  | inr fails ↦ rw fails (trailing_past p (x ∷ xs) back h)
+]
+
+stripped_front : (p : ℕ → Bool) (front xs : List ℕ) → AllPass p front → stripped p (front ++ xs) ≡ stripped p xs
+unfolding stripped
+stripped_front p front xs h = ap (without_trailing p) (leading_past p front xs h)
+
+pub stripped_padded : (p : ℕ → Bool) (core text : List ℕ) → IsPaddedBy p core text → stripped p text ≡ stripped p core
+stripped_padded p core text pad = ap (stripped p) pad.4 ∙ (stripped_front p pad.0 (core ++ pad.1) pad.2 ∙ stripped_back p core pad.1 pad.3)
+
+pub stripped_all : (p : ℕ → Bool) (text : List ℕ) → AllPass p text → stripped p text ≡ []
+unfolding stripped
+stripped_all p text h = ap (without_trailing p) (leading_all p text h)
+
+-- ---- what was taken off
+
+pub leading_split : (p : ℕ → Bool) (xs : List ℕ) → (front : List ℕ) × AllPass p front × (xs ≡ front ++ without_leading p xs)
+leading_split p [] = ([], tt, refl)
+leading_split p (x ∷ xs) = elim (cases_Bool (p x)) [
+  | inl passes ↦ (let rest = leading_split p xs in (x ∷ rest.0, (passes, rest.1), rw passes (ap (λ ys. x ∷ ys) rest.2)))
+  | inr fails ↦ ([], tt, rw fails refl)
+]
+
+-- the first byte that is left doesn't pass, and where none is left all pass
+pub leading_first : (p : ℕ → Bool) (text : List ℕ) (c : ℕ) (rest : List ℕ) → without_leading p text ≡ c ∷ rest → p c ≡ false
+leading_first p [] c rest e = absurd cc
+leading_first p (x ∷ xs) c rest e = elim (cases_Bool (p x)) [
+  | inl passes ↦ leading_first p xs c rest (rw passes at e)
+  | inr fails ↦ (let f : x ∷ xs ≡ c ∷ rest = rw fails at e in let same : x ≡ c = cc in subst (λ (y : ℕ). p y ≡ false) same fails)
+]
+
+pub leading_gone : (p : ℕ → Bool) (text : List ℕ) → without_leading p text ≡ [] → AllPass p text
+leading_gone p [] e = tt
+leading_gone p (x ∷ xs) e = elim (cases_Bool (p x)) [
+  | inl passes ↦ (passes, leading_gone p xs (rw passes at e))
+  | inr fails ↦ (let f : x ∷ xs ≡ [] = rw fails at e in absurd cc)
+]
+
+pub trailing_split : (p : ℕ → Bool) (xs : List ℕ) → (back : List ℕ) × AllPass p back × (xs ≡ without_trailing p xs ++ back)
+trailing_split p [] = ([], tt, refl)
+trailing_split p (x ∷ xs) = let rest = trailing_split p xs in go (without_trailing p xs) rest.0 rest.1 rest.2 (p x) refl
+  where
+    go : (kept back : List ℕ) → AllPass p back → xs ≡ kept ++ back → (b : Bool) → p x ≡ b → (end : List ℕ) × AllPass p end × (x ∷ xs ≡ onto_kept p x kept ++ end)
+    go [] back all whole true passes = (x ∷ back, (passes, all), rw passes (ap (λ ys. x ∷ ys) whole))
+    go [] back all whole false fails = (back, all, rw fails (ap (λ ys. x ∷ ys) whole))
+    go (y ∷ ys) back all whole b e = (back, all, ap (λ zs. x ∷ zs) whole)
+
+pub padded_stripped : (p : ℕ → Bool) (text : List ℕ) → IsPaddedBy p (stripped p text) text
+unfolding stripped
+padded_stripped p text =
+    let front = leading_split p text in
+    let back = trailing_split p (without_leading p text) in
     (front.0, back.0, front.1, back.1, front.2 ∙ ap (λ ys. front.0 ++ ys) back.2)
 
-pub padded_twice : (core mid text : List ℕ) → IsPadded core mid → IsPadded mid text → IsPadded core text
-padded_twice core mid text h k =
-    (k.0 ++ h.0, h.1 ++ k.1, blanks-append k.0 h.0 k.2 h.2, blanks-append h.1 k.1 h.3 k.3, k.4 ∙ rw h.4 (simp append_assoc refl))
+pub padded_twice : (p : ℕ → Bool) (core mid text : List ℕ) → IsPaddedBy p core mid → IsPaddedBy p mid text → IsPaddedBy p core text
+padded_twice p core mid text h k =
+    (k.0 ++ h.0, h.1 ++ k.1, all-append p k.0 h.0 k.2 h.2, all-append p h.1 k.1 h.3 k.3, k.4 ∙ rw h.4 (simp append_assoc refl))
 
--- ---- cuts
-
--- a text that is cut at a byte
-pub cut_whole : (p : ℕ → Bool) (xs ys : List ℕ) → after p xs ≡ Some ys → (c : ℕ) × (p c ≡ true) × (xs ≡ before p xs ++ c ∷ ys)
-cut_whole p [] ys e = absurd cc
-cut_whole p (x ∷ xs) ys e = elim (cases_Bool (p x)) [
-  | inl stop ↦ (x, stop, (let f : Some xs ≡ Some ys = rw stop at e in let same : xs ≡ ys = cc in rw stop (ap (λ zs. x ∷ zs) same)))
-  | inr on ↦ (let rest = cut_whole p xs ys (rw on at e) in (rest.0, rest.1, rw on (ap (λ zs. x ∷ zs) rest.2)))
-]
-
-pub cut_byte : (byte : ℕ) (xs ys : List ℕ) → after (is_byte byte) xs ≡ Some ys → xs ≡ before (is_byte byte) xs ++ byte ∷ ys
-cut_byte byte xs ys e = let cut = cut_whole (is_byte byte) xs ys e in subst (λ (c : ℕ). xs ≡ before (is_byte byte) xs ++ c ∷ ys) (eqb-true cut.0 byte cut.1) cut.2
-
-abbrev nothing : Option (List ℕ)
-nothing = None
-
-pub uncut : (p : ℕ → Bool) (xs : List ℕ) → after p xs ≡ None → before p xs ≡ xs
-uncut p [] e = refl
-uncut p (x ∷ xs) e = elim (cases_Bool (p x)) [
-  | inl stop ↦ absurd (let f : Some xs ≡ nothing = rw stop at e in cc)
-  | inr on ↦ rw on (ap (λ zs. x ∷ zs) (uncut p xs (rw on at e)))
-]
-
-pub before_passes_not : (p : ℕ → Bool) (xs : List ℕ) → NonePass p (before p xs)
-before_passes_not p [] = tt
-before_passes_not p (x ∷ xs) = elim (cases_Bool (p x)) [
-  | inl stop ↦ rw stop tt
-  | inr on ↦ rw on (on, before_passes_not p xs)
-]
-
-pub trimmed_end : (part : List ℕ) → trimmed (without_end part) ≡ trimmed part
-trimmed_end part = let split = end_split part in sym (trimmed_back (without_end part) split.0 split.1) ∙ ap trimmed (sym split.2)
+pub stripped_trailing : (p : ℕ → Bool) (part : List ℕ) → stripped p (without_trailing p part) ≡ stripped p part
+stripped_trailing p part = let split = trailing_split p part in sym (stripped_back p (without_trailing p part) split.0 split.1) ∙ ap (stripped p) (sym split.2)

@@ -1,5 +1,5 @@
--- Numbers in digits.
-use Rattle.std.specs.Prelude.{◌≡◌, ℕ, ◌^◌, ◌==◌, nat_lt, Bool, false, ◌&&◌, if◌then◌else◌, min, List, [], ◌∷◌, length, Option, Some, None}
+-- Numbers in digits, with a sign or without.
+use Rattle.std.specs.Prelude.{◌≡◌, ℕ, ℤ, pos, neg_ℤ, ◌^◌, ◌==◌, nat_lt, Bool, false, ◌&&◌, if◌then◌else◌, min, List, [], ◌∷◌, length, drop, slice_index, Option, Some, None, option_map}
 use Rattle.std.specs.List.{list_all}
 use Rattle.std.specs.Char.{is_digit}
 use Rattle.std.specs.Str.Parse.{IsNumeral, digits_value}
@@ -46,3 +46,19 @@ word_of digits = if is_numeral 10 digits && nat_lt (digits_value 10 digits) (2 ^
 -- the word that eight hex digits say
 unfoldable pub hex_word_of : List ℕ → Option ℕ
 hex_word_of digits = if (length digits == 8) && is_numeral 16 digits then Some (digits_value 16 digits) else None
+
+-- ---- with a sign
+
+abbrev pub is_hex : List ℕ → Bool
+is_hex text = nat_lt 1 (length text) && (slice_index text 0 == 48) && (slice_index text 1 == 120)
+
+-- decimal digits, or `0x` and hex digits
+unfoldable pub magnitude_of : List ℕ → Option ℕ
+magnitude_of text = if is_hex text then hex_number_of (drop 2 text) else number_of text
+
+abbrev pub is_negative : List ℕ → Bool
+is_negative text = nat_lt 0 (length text) && (slice_index text 0 == 45)
+
+-- a magnitude, and a `-` in front or none
+unfoldable pub integer_of : List ℕ → Option ℤ
+integer_of text = if is_negative text then option_map (λ n. neg_ℤ (pos n)) (magnitude_of (drop 1 text)) else option_map pos (magnitude_of text)

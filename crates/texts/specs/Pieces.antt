@@ -2,19 +2,25 @@
 use Rattle.std.specs.Prelude.{ℕ, ◌+◌, ◌==◌, Bool, ◌||◌, List, [], ◌∷◌, length, Option, None, Some}
 use Rattle.std.specs.List.{slice_split}
 use Rattle.texts.specs.declared.pieces.Separators.{Separators}
-use Rattle.texts.specs.declared.pieces.Separators.TheVariants.{Spaces, Blanks, BlanksAndLineEnds}
+use Rattle.texts.specs.declared.pieces.Separators.TheVariants.{Byte, Spaces, Blanks, Gaps, BlanksAndLineEnds}
 
 -- a space or a tab
 abbrev pub is_blank : ℕ → Bool
 is_blank byte = (byte == 32) || (byte == 9)
+
+-- a blank or LF
+abbrev pub is_gap : ℕ → Bool
+is_gap byte = is_blank byte || (byte == 10)
 
 -- a blank, CR or LF
 abbrev pub is_blank_or_line_end : ℕ → Bool
 is_blank_or_line_end byte = (byte == 32) || (byte == 9) || (byte == 13) || (byte == 10)
 
 abbrev pub separates : Separators → ℕ → Bool
+separates (Byte one) byte = byte == one
 separates Spaces byte = byte == 32
 separates Blanks byte = is_blank byte
+separates Gaps byte = is_gap byte
 separates BlanksAndLineEnds byte = is_blank_or_line_end byte
 
 -- What stands between the separators, before the first and behind the last; a piece may be empty.

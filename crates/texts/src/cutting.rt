@@ -1,34 +1,38 @@
-//! Texts cut at bytes, and the blanks round them.
+//! Texts cut at separators, the separators round them, and the words between.
 
-ghost use Rattle.std.specs.Prelude.{◌≡◌, not, position};
+ghost use Rattle.std.specs.Prelude.{◌≡◌, ◌<◌, ◌+◌, [], ◌∷◌, not, length, position, Some, None, MatchOption, IfSome};
+ghost use Rattle.std.specs.List.{list_all};
 ghost use Rattle.std.specs.Option.{option_copied};
-ghost use Rattle.texts.specs.Pieces.{is_blank as blank_byte};
-ghost use Rattle.texts.specs.Cutting.{before, after, is_byte, without_front, without_end, trimmed};
+ghost use Rattle.texts.specs.Pieces.{separates, bytes_left};
+ghost use Rattle.texts.specs.Cutting.{before, after, is_byte, without_leading, without_trailing, stripped, without_front, trimmed, words, first_cut};
 
 use crate::pieces::Separators;
 
-fn is_blank(byte: u8) -> bool
-    ensures { result ≡ blank_byte byte }
+/// The place of the first separator.
+fn separator_in(separators: Separators, text: &[u8]) -> Option<usize>
+    ensures { result ≡ position (separates separators) text.now }
 {
-    Separators::Blanks.contain(byte)
+    text.iter().position(|byte| separators.contain(*byte))
 }
 
-fn byte_in(text: &[u8], byte: u8) -> Option<usize>
-    ensures { result ≡ position (is_byte byte) text.now }
+/// The place of the first byte that is no separator.
+fn other_in(separators: Separators, text: &[u8]) -> Option<usize>
+    ensures { result ≡ position (λ byte. not (separates separators byte)) text.now }
 {
-    text.iter().position(|other| *other == byte)
+    text.iter().position(|byte| !separators.contain(*byte))
 }
 
-fn blank_in(text: &[u8]) -> Option<usize>
-    ensures { result ≡ position blank_byte text.now }
+/// What stands before the first separator, and what follows it, if there is one.
+#[tactic(auto, using(std::proofs::lemmas::List::take_rest, crate::proofs::CuttingLaws::before_found, crate::proofs::CuttingLaws::after_found, crate::proofs::CuttingLaws::before_missing, crate::proofs::CuttingLaws::after_missing))]
+pub fn cut_at_any(separators: Separators, text: &[u8]) -> (&[u8], Option<&[u8]>)
+    ensures front { result.0.now ≡ before (separates separators) text.now }
+    ensures back { option_copied result.1 ≡ after (separates separators) text.now }
+    ensures rest { length result.0.now + bytes_left (option_copied result.1) ≡ length text.now }
 {
-    text.iter().position(|byte| is_blank(*byte))
-}
-
-fn other_than_blank_in(text: &[u8]) -> Option<usize>
-    ensures { result ≡ position (λ byte. not (blank_byte byte)) text.now }
-{
-    text.iter().position(|byte| !is_blank(*byte))
+    match separator_in(separators, text) {
+        Some(at) => (&text[..at], Some(&text[at + 1..])),
+        None => (text, None),
+    }
 }
 
 /// What stands before the first such byte, and what follows it, if there is one.
@@ -36,47 +40,73 @@ pub fn cut_at(text: &[u8], byte: u8) -> (&[u8], Option<&[u8]>)
     ensures front { result.0.now ≡ before (is_byte byte) text.now }
     ensures back { option_copied result.1 ≡ after (is_byte byte) text.now }
 {
-    match byte_in(text, byte) {
-        Some(at) => (&text[..at], Some(&text[at + 1..])),
-        None => (text, None),
+    cut_at_any(Separators::Byte(byte), text)
+}
+
+/// Whether the text is nothing but separators.
+pub fn is_all(separators: Separators, text: &[u8]) -> bool
+    ensures { result ≡ list_all (separates separators) text.now }
+{
+    text.iter().all(|byte| separators.contain(*byte))
+}
+
+/// The text without the separators at its front.
+#[tactic(auto, using(std::proofs::lemmas::List::take_rest, crate::proofs::CuttingLaws::from_found, crate::proofs::CuttingLaws::from_missing))]
+pub fn without_leading(separators: Separators, text: &[u8]) -> &[u8]
+    ensures { result.now ≡ without_leading (separates separators) text.now }
+{
+    match other_in(separators, text) {
+        Some(at) => &text[at..],
+        None => &text[text.len()..],
     }
 }
 
-/// What stands before the first blank, and what follows it, if there is one.
-pub fn cut_at_blank(text: &[u8]) -> (&[u8], Option<&[u8]>)
-    ensures front { result.0.now ≡ before blank_byte text.now }
-    ensures back { option_copied result.1 ≡ after blank_byte text.now }
+fn without_trailing(separators: Separators, text: &[u8]) -> &[u8]
+    ensures { result.now ≡ without_trailing (separates separators) text.now }
 {
-    match blank_in(text) {
-        Some(at) => (&text[..at], Some(&text[at + 1..])),
-        None => (text, None),
+    let mut end = text.len();
+    while end > 0 && separators.contain(text[end - 1]) {
+        end -= 1;
     }
+    &text[..end]
+}
+
+/// The text without the separators at its front and its end.
+#[tactic(auto, unfolding(crate::specs::Cutting::stripped))]
+pub fn stripped(separators: Separators, text: &[u8]) -> &[u8]
+    ensures { result.now ≡ stripped (separates separators) text.now }
+{
+    without_trailing(separators, without_leading(separators, text))
 }
 
 /// The text without the blanks at its front.
 pub fn without_front(text: &[u8]) -> &[u8]
     ensures { result.now ≡ without_front text.now }
 {
-    match other_than_blank_in(text) {
-        Some(at) => &text[at..],
-        None => &text[text.len()..],
-    }
-}
-
-fn without_end(text: &[u8]) -> &[u8]
-    ensures { result.now ≡ without_end text.now }
-{
-    let mut end = text.len();
-    while end > 0 && is_blank(text[end - 1]) {
-        end -= 1;
-    }
-    &text[..end]
+    without_leading(Separators::Blanks, text)
 }
 
 /// The text without the blanks at its front and its end.
-#[tactic(auto, unfolding(crate::specs::Cutting::trimmed))]
 pub fn trimmed(text: &[u8]) -> &[u8]
     ensures { result.now ≡ trimmed text.now }
 {
-    without_end(without_front(text))
+    stripped(Separators::Blanks, text)
+}
+
+/// The first word of a line, and what follows the blank behind it; `None` where there is no word.
+pub fn first_word(line: &[u8]) -> Option<(&[u8], &[u8])>
+    ensures cut { MatchOption result (first_cut line.now ≡ None) (λ cut. first_cut line.now ≡ Some (cut.0.now, cut.1.now)) }
+    ensures words { MatchOption result (words line.now ≡ []) (λ cut. words line.now ≡ cut.0.now ∷ words cut.1.now) }
+    // a line is walked word by word, in time linear in its length
+    ensures shorter { IfSome result (λ cut. length cut.1.now < length line.now) }
+{
+    let line = without_front(line);
+    if line.is_empty() {
+        return None;
+    }
+    let (word, rest) = cut_at_any(Separators::Blanks, line);
+    match rest {
+        Some(rest) => Some((word, rest)),
+        None => Some((word, &[])),
+    }
 }

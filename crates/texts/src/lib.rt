@@ -1,24 +1,21 @@
 //! What every text of the program is made of: pieces between blanks, lines, and numbers in digits.
 //!
 //! The contract: each reader answers what the definitions of `specs/` say of its bytes, so
-//! [`first_piece`] and [`first_line`] walk a text by `pieces` and `lines`, [`cutting`] cuts it at a byte
-//! and trims it, and [`number`], [`word`], [`hex_word`] and [`integer`] answer exactly where the bytes
+//! [`first_piece`], [`first_word`] and [`first_line`] walk a text by `pieces`, `words` and `lines`,
+//! [`cutting`] cuts it at [`Separators`] and takes off those round it, and [`number`], [`word`], [`hex_word`] and [`integer`] answer exactly where the bytes
 //! spell a number. `proofs/` has the laws that the grammars above share.
 //! This crate knows no grammar, names no fault and keeps nothing; only [`push_decimal`] takes memory.
 
 #![tactic(auto)]
 
 pub mod cutting;
-pub mod decimal;
-pub mod integers;
 pub mod lines;
 pub mod numbers;
 pub mod pieces;
 
-pub use decimal::push_decimal;
-pub use integers::integer;
+pub use cutting::first_word;
 pub use lines::first_line;
-pub use numbers::{hex_number, hex_word, number, word};
+pub use numbers::{hex_number, hex_word, integer, number, push_decimal, word};
 pub use pieces::{Separators, first_piece};
 
 #[cfg(test)]

@@ -1,7 +1,11 @@
-//! Numbers in decimal and in hex.
+//! Numbers in decimal and in hex, with a sign or without, and as they are written.
 
-ghost use Rattle.std.specs.Prelude.{◌≡◌, ◌≤◌, ◌<◌, ◌^◌, ℕ, Some, IfSome};
-ghost use Rattle.texts.specs.Numbers.{capped_value, number_of, hex_number_of, below_cap_of, word_of, hex_word_of, Says, IsHexWord};
+ghost use Rattle.std.specs.Prelude.{◌≡◌, ◌++◌, ◌≤◌, ◌<◌, ◌^◌, ℕ, pos, option_map, Some, IfSome, OnOk, OnErr};
+ghost use Rattle.std.specs.String.{string_bytes};
+ghost use Rattle.std.specs.Fmt.{decimal};
+ghost use Rattle.texts.specs.Numbers.{capped_value, number_of, hex_number_of, below_cap_of, word_of, hex_word_of, Says, IsHexWord, is_hex, is_negative, magnitude_of, integer_of};
+
+use std::alloc::AllocError;
 
 /// A number from here on is told as this one: it passes every limit of the texts, and so a number
 /// of any length is read and none is refused for its size.
@@ -71,4 +75,64 @@ pub fn hex_word(bytes: &[u8]) -> Option<u32>
     } else {
         None
     }
+}
+
+fn is_hex(text: &[u8]) -> bool
+    ensures { result ≡ is_hex text.now }
+{
+    text.len() > 1 && text[0] == b'0' && text[1] == b'x'
+}
+
+fn is_negative(text: &[u8]) -> bool
+    ensures { result ≡ is_negative text.now }
+{
+    !text.is_empty() && text[0] == b'-'
+}
+
+/// The number without its sign, capped at 2^32.
+#[tactic(auto, using(std::proofs::lemmas::List::take_rest, crate::proofs::NumberLaws::small_decimal, crate::proofs::NumberLaws::small_hex), unfolding(crate::specs::Numbers::magnitude_of))]
+fn magnitude(text: &[u8]) -> Option<u64>
+    ensures value { result ≡ magnitude_of text.now }
+    ensures small { IfSome result (λ n. n ≤ 2 ^ 32) }
+{
+    if is_hex(text) {
+        hex_number(&text[2..])
+    } else {
+        number(text)
+    }
+}
+
+fn signed_magnitude(text: &[u8]) -> Option<i64>
+    ensures { result ≡ option_map pos (magnitude_of text.now) }
+{
+    match magnitude(text) {
+        Some(number) => Some(number as i64),
+        None => None,
+    }
+}
+
+/// The number that the text says: decimal digits, or `0x` and hex digits, with a `-` in front or
+/// none. One from 2^32 on is told as 2^32, which is past every limit of the program.
+#[tactic(auto, using(std::proofs::lemmas::List::take_rest), unfolding(crate::specs::Numbers::integer_of))]
+pub fn integer(text: &[u8]) -> Option<i64>
+    ensures { result ≡ integer_of text.now }
+{
+    if is_negative(text) {
+        match magnitude(&text[1..]) {
+            Some(number) => Some(-(number as i64)),
+            None => None,
+        }
+    } else {
+        signed_magnitude(text)
+    }
+}
+
+/// Appends the number in decimal, without leading zeros. Where memory runs out, the text stays as it was.
+pub fn push_decimal(out: &mut String, number: u64) -> Result<(), AllocError>
+    ensures pushed { OnOk result (string_bytes out.new ≡ string_bytes out.old ++ decimal number) }
+    ensures kept { OnErr result (string_bytes out.new ≡ string_bytes out.old) }
+{
+    // formatted apart, so that the text grows in one step or not at all
+    let digits = format!(in *out.allocator(); "{number}")?;
+    out.push_str(&digits)
 }

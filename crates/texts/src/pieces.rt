@@ -1,16 +1,22 @@
 //! The pieces of a text: what stands between the bytes that part it.
 
-ghost use Rattle.std.specs.Prelude.{◌≡◌, ◌+◌, ◌∷◌, length, position};
+ghost use Rattle.std.specs.Prelude.{◌≡◌, ◌+◌, ◌∷◌, length};
 ghost use Rattle.std.specs.Option.{option_copied};
 ghost use Rattle.texts.specs.Pieces.{separates, pieces, pieces_after, bytes_left};
 
-/// Which bytes part the pieces of a text.
+use crate::cutting::cut_at_any;
+
+/// Which bytes part the pieces of a text, and stand round what a text says.
 #[derive(Clone, Copy, Debug, PartialEq, Eq)]
 pub enum Separators {
+    /// This byte alone.
+    Byte(u8),
     /// Spaces alone.
     Spaces,
     /// Spaces and tabs: the blanks of a line.
     Blanks,
+    /// Spaces, tabs and LF: the blanks of a text in which an LF means nothing more.
+    Gaps,
     /// Spaces, tabs, CR and LF: the blanks of a text in which line ends mean nothing more.
     BlanksAndLineEnds,
 }
@@ -21,8 +27,10 @@ impl Separators {
         ensures { result ≡ separates self byte }
     {
         match self {
+            Separators::Byte(one) => byte == one,
             Separators::Spaces => byte == b' ',
             Separators::Blanks => byte == b' ' || byte == b'\t',
+            Separators::Gaps => byte == b' ' || byte == b'\t' || byte == b'\n',
             Separators::BlanksAndLineEnds => {
                 byte == b' ' || byte == b'\t' || byte == b'\r' || byte == b'\n'
             }
@@ -30,25 +38,16 @@ impl Separators {
     }
 }
 
-/// The place of the first byte that parts two pieces.
-fn separator_in(separators: Separators, bytes: &[u8]) -> Option<usize>
-    ensures { result ≡ position (separates separators) bytes.now }
-{
-    bytes.iter().position(|byte| separators.contain(*byte))
-}
-
 /// The first piece of the bytes, which may be empty, and what follows the separator behind it;
 /// nothing follows the last piece.
 ///
 /// A text is walked piece by piece in time linear in its length:
 /// `let mut rest = Some(text); while let Some(bytes) = rest { let (piece, after) = first_piece(separators, bytes); ..; rest = after; }`.
+#[tactic(auto, using(crate::proofs::CuttingLaws::split_cut))]
 pub fn first_piece(separators: Separators, bytes: &[u8]) -> (&[u8], Option<&[u8]>)
     ensures cut { pieces separators bytes.now ≡ result.0.now ∷ pieces_after separators (option_copied result.1) }
     // each piece and the separator behind it are one step through the text
     ensures rest { length result.0.now + bytes_left (option_copied result.1) ≡ length bytes.now }
 {
-    match separator_in(separators, bytes) {
-        Some(at) => (&bytes[..at], Some(&bytes[at + 1..])),
-        None => (bytes, None),
-    }
+    cut_at_any(separators, bytes)
 }

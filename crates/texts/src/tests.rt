@@ -1,6 +1,9 @@
-use crate::cutting::{cut_at, cut_at_blank, trimmed, without_front};
+use crate::cutting::{
+    cut_at, cut_at_any, is_all, stripped, trimmed, without_front, without_leading,
+};
 use crate::{
-    Separators, first_line, first_piece, hex_number, hex_word, integer, number, push_decimal, word,
+    Separators, first_line, first_piece, first_word, hex_number, hex_word, integer, number,
+    push_decimal, word,
 };
 use std::test::Fail;
 
@@ -50,13 +53,33 @@ fn texts_are_cut_and_trimmed(rt: HostRuntime) {
     assert_eq!(rt; front, b"a".as_slice());
     assert_eq!(rt; back, Some(b" b: c".as_slice()));
     assert_eq!(rt; cut_at(b"a", b':').1, None);
-    let (front, back) = cut_at_blank(b"lw\t x5");
+    let (front, back) = cut_at_any(Separators::Blanks, b"lw\t x5");
     assert_eq!(rt; front, b"lw".as_slice());
     assert_eq!(rt; back, Some(b" x5".as_slice()));
-    assert_eq!(rt; cut_at_blank(b"ret").1, None);
+    assert_eq!(rt; cut_at_any(Separators::Blanks, b"ret").1, None);
     assert_eq!(rt; without_front(b" \t a b "), b"a b ".as_slice());
     assert_eq!(rt; trimmed(b" \t a b\t "), b"a b".as_slice());
     assert_eq!(rt; trimmed(b" \t "), b"".as_slice());
+    assert_eq!(rt;
+        without_leading(Separators::Gaps, b"\n a\n"),
+        b"a\n".as_slice()
+    );
+    assert_eq!(rt;
+        stripped(Separators::Gaps, b"\n \r a\n\t"),
+        b"\r a".as_slice()
+    );
+    assert_eq!(rt; is_all(Separators::Gaps, b"\n \t"), true);
+    assert_eq!(rt; is_all(Separators::Gaps, b"\r\n"), false);
+}
+
+#[test]
+fn words_of_a_line(rt: HostRuntime) -> Result<(), Fail> {
+    let (word, rest) = first_word(b" \tlw\t x5").ok_or("a word")?;
+    assert_eq!(rt; word, b"lw".as_slice());
+    let (word, rest) = first_word(rest).ok_or("a second word")?;
+    assert_eq!(rt; word, b"x5".as_slice());
+    assert_eq!(rt; first_word(rest).is_none(), true);
+    Ok(())
 }
 
 #[test]

@@ -16,8 +16,7 @@ use Rattle.ztso_axioms.specs.Operations.{passes, is_at, byte_in, written_to, wri
 use Rattle.ztso_axioms.specs.Axioms.{is_named, is_barrier}
 use Rattle.ztso_axioms.specs.Performed.{places_of, is_store_of, store_places, performed_after, left_below, hart_bound}
 use Rattle.ztso_axioms.proofs.Listing.{named-append}
-use Rattle.ztso_axioms.proofs.Places.{places_of-cons, places_of-split, place_of, performed_after-append}
-use Rattle.ztso_axioms.proofs.Members.{named-filter, named-places}
+use Rattle.ztso_axioms.proofs.Members.{places_of-cons, places_of-split, place_of, performed_after-append, named-filter, named-places}
 use Rattle.ztso_axioms.proofs.Performs.{is_reader, stores_at, reads_at, entry_here, stores_performed, reads_performed}
 use Rattle.memory.specs.declared.writes.Write.{Write}
 use Rattle.memory.specs.Writes.{write}

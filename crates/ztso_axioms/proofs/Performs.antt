@@ -11,9 +11,8 @@ use Rattle.step_machine.specs.declared.events.Entry.{Entry}
 use Rattle.step_machine.specs.declared.events.Entry.TheVariants as entry
 use Rattle.ztso_axioms.specs.Operations.{is_load, is_store, is_amo, is_operation, passes, is_at}
 use Rattle.ztso_axioms.specs.Performed.{places_of, is_store_of, store_places, performed_by, performed_after, left_places, left_below, hart_bound}
-use Rattle.ztso_axioms.proofs.Places.{places_of-cons, place_of, lands-last}
+use Rattle.ztso_axioms.proofs.Members.{places_of-cons, place_of, lands-last, Each, Each-nil, Each-one, Each-append, Each-weaker, Each-get, Each-drop, Each-places, filter-every, filter-none}
 use Rattle.ztso_axioms.proofs.Walks.{no_stores, hart_below}
-use Rattle.ztso_axioms.proofs.Members.{Each, Each-nil, Each-one, Each-append, Each-weaker, Each-get, Each-drop, Each-places, filter-every, filter-none}
 
 -- an entry that reads memory
 abbrev pub is_reader : Entry → Bool

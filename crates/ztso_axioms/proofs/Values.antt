@@ -1,6 +1,6 @@
 -- In the order of performing, a read has the value of the Load Value Axiom.
-use Rattle.std.proofs.Common.{◌≡◌, ℕ, zero, suc, ◌+◌, ◌-◌, ◌≤◌, ◌<◌, ◌==◌, Bool, true, false, not, ◌&&◌, ◌||◌, if◌then◌else◌, nat_lt, ◌⊎◌, inl, inr, List, [], ◌∷◌, ◌++◌, length, take, drop, Option, Some, None, unwrap_or, refl, sym, ◌∙◌, ap, subst, arith, append-nil, append_assoc, length-drop}
-use Rattle.std.specs.Prelude.{filter, option_to_list, option_and_then}
+use Rattle.std.proofs.Common.{◌≡◌, ℕ, zero, suc, ◌+◌, ◌-◌, ◌≤◌, ◌<◌, ◌==◌, Bool, true, false, not, ◌&&◌, ◌||◌, if◌then◌else◌, nat_lt, ◌⊎◌, inl, inr, List, [], ◌∷◌, ◌++◌, length, take, drop, Option, Some, None, unwrap_or, refl, sym, ◌∙◌, ap, subst, arith, append-nil, append_assoc, length-drop, ◌^◌}
+use Rattle.std.specs.Prelude.{filter, option_to_list, option_and_then, slice_index, ◌%◌, ◌/◌}
 use Rattle.std.specs.List.{slice_get}
 use Rattle.std.specs.Option.{option_map_or}
 use Rattle.std.proofs.lemmas.Bool.{ltb-true, ltb-false}
@@ -9,7 +9,7 @@ use Rattle.std.proofs.lemmas.List.Elements.{filter-append}
 use Rattle.std.proofs.lemmas.Option.{slice_get_within}
 use Rattle.std.specs.Int.{byte_at}
 use Rattle.memory.specs.Writes.{write, covers, newest_of}
-use Rattle.memory.proofs.Bytes.{joined-same}
+use Rattle.memory.proofs.Bytes.{joined-same, byte_below}
 use Rattle.step_machine.specs.History.{Start, History}
 use Rattle.step_machine.specs.Entries.{hart_of, stores, lands, write_of, landed_after, opening_byte, memory_byte, read_byte, read}
 use Rattle.step_machine.specs.Legal.{Allowed, LegalAfter, Legal}
@@ -17,7 +17,7 @@ use Rattle.step_machine.specs.declared.events.Entry.{Entry}
 use Rattle.step_machine.specs.declared.events.Entry.TheVariants as entry
 use Rattle.memory.proofs.Newest.{newest_of-append}
 use Rattle.step_machine.proofs.Appended.{LegalAfter-front}
-use Rattle.ztso_axioms.specs.Operations.{is_operation, passes, is_at, hart_at, read_of, written_to, written_at}
+use Rattle.ztso_axioms.specs.Operations.{is_operation, passes, is_at, hart_at, read_of, written_to, written_at, byte_in}
 use Rattle.ztso_axioms.specs.Axioms.{times_named, before, is_named, in_program_order, is_seen, last_written, byte_for, value_for, HasLoadValue, Ztso}
 use Rattle.ztso_axioms.specs.Performed.{places_of, is_store_of, store_places, performed_by, performed_after, left_below, hart_bound, order}
 use Rattle.ztso_axioms.proofs.Listing.{times-append, times-none, times-some, named-append, before-at}
@@ -27,6 +27,8 @@ use Rattle.ztso_axioms.proofs.Performs.{is_reader, stores_at, reads_at, entry_he
 use Rattle.ztso_axioms.proofs.Fronts.{split_entry, at_past, order-front, Told, Told-length, Told-drop, front_told, front_balanced, front_stores, front_allows}
 use Rattle.ztso_axioms.proofs.Ordered.{performed_order, kind_at, order-once, order-program, read_performed, read_not_yet}
 use Rattle.memory.specs.declared.writes.Write.{Write}
+use Rattle.std.proofs.Math.Nat.{pow-le-pow_right}
+use Rattle.memory.proofs.Joined.{byte_of_joined-any, joined-below, number_of_bytes}
 
 -- the last written value, and the newest of the pairs
 
@@ -283,3 +285,47 @@ legal-ztso B t legal = record {
   program_order = order-program B t.opening t.entries legal;
   load_values = order-values B t.opening t.entries legal;
 }
+
+-- ---- A read's value against the bytes that the order gives it
+
+byte_in_below : (w : Write) (a b : ℕ) → b < 256 → unwrap_or (byte_in w a) b < 256
+byte_in_below w a b small = at (covers w a)
+  where
+    at : (c : Bool) → unwrap_or (if c then Some (byte_at (a - w.addr) w.value) else None) b < 256
+    at true = byte_below (a - w.addr) w.value
+    at false = small
+
+written_below : (a b : ℕ) (so : Option Entry) → b < 256 → unwrap_or (option_and_then (written_to a) so) b < 256
+written_below a b None small = small
+written_below a b (Some (entry.Store h x width v)) small = byte_in_below (write x width v) a b small
+written_below a b (Some (entry.Amo h x old new)) small = byte_in_below (write x 4 new) a b small
+written_below a b (Some (entry.Inner h)) small = small
+written_below a b (Some (entry.Load h x width v)) small = small
+written_below a b (Some (entry.Fence h full)) small = small
+written_below a b (Some (entry.Next h w)) small = small
+written_below a b (Some (entry.Took h i w)) small = small
+written_below a b (Some (entry.Closed h i)) small = small
+written_below a b (Some (entry.Ended h)) small = small
+written_below a b (Some (entry.Stopped h why)) small = small
+written_below a b (Some (entry.Land h)) small = small
+
+last_below : (es : List Entry) (a b : ℕ) (gs : List ℕ) → b < 256 → last_written es a b gs < 256
+last_below es a b [] small = small
+last_below es a b (g ∷ gs) small = last_below es a (unwrap_or (written_at es a g) b) gs (written_below a b (slice_get es g) small)
+
+pub byte_for-below : (o : Start) (es : List Entry) (gs : List ℕ) (q a : ℕ) → byte_for o es gs q a < 256
+byte_for-below o es gs q a = last_below es a (opening_byte o a) (filter (is_seen es gs q) gs) (byte_below (a % 4) (slice_index o.words (a / 4)))
+
+-- the value is the number of the bytes, where each is right and nothing is above them
+pub value_from_bytes : (o : Start) (es : List Entry) (gs : List ℕ) (q a width v : ℕ) → v < 256 ^ width → ((i : ℕ) → i < width → byte_at i v ≡ byte_for o es gs q (a + i)) → v ≡ value_for o es gs q a width
+value_from_bytes o es gs q a width v below same = number_of_bytes (λ i. byte_for o es gs q (a + i)) v width below same
+
+pub bytes_from_value : (o : Start) (es : List Entry) (gs : List ℕ) (q a width v i : ℕ) → v ≡ value_for o es gs q a width → i < width → byte_at i v ≡ byte_for o es gs q (a + i)
+bytes_from_value o es gs q a width v i is lt =
+    ap (byte_at i) is ∙ byte_of_joined-any (λ j. byte_for o es gs q (a + j)) (λ j. byte_for-below o es gs q (a + j)) width i lt
+
+pub below_from_value : (o : Start) (es : List Entry) (gs : List ℕ) (q a width v : ℕ) → v ≡ value_for o es gs q a width → v < 256 ^ width
+below_from_value o es gs q a width v is = subst (λ (n : ℕ). n < 256 ^ width) (sym is) (joined-below (λ j. byte_for o es gs q (a + j)) (λ j. byte_for-below o es gs q (a + j)) width)
+
+pub below_all : (n v : ℕ) → 4 ≤ n → v < 2 ^ 32 → v < 256 ^ n
+below_all n v four small = let large : 256 ^ 4 ≤ 256 ^ n = pow-le-pow_right (omega arith) four in omega arith

@@ -12,7 +12,7 @@ use Rattle.step_machine.specs.declared.events.Entry.TheVariants as entry
 use Rattle.ztso_axioms.specs.Operations.{is_store}
 use Rattle.ztso_axioms.specs.Performed.{places_of, is_store_of, store_places, performed_by, performed_after, left_places, left_below, hart_bound}
 use Rattle.ztso_axioms.specs.inner.Landings.{landed_at, NamesLandings, AddsLandings, IsNextHart, nearer_of, performed_there}
-use Rattle.ztso_axioms.proofs.Places.{place_of, places_of-split, performed-last, lands-last}
+use Rattle.ztso_axioms.proofs.Members.{place_of, places_of-split, performed-last, lands-last}
 
 -- hart bounds
 

@@ -163,7 +163,7 @@ fn has_bytes(trace: &Trace, order: &[Op], index: usize, addr: u32, width: u32, v
 }
 
 /// Whether the number has so many bytes.
-#[tactic(auto, using(crate::proofs::Bytes::below_all))]
+#[tactic(auto, using(crate::proofs::Values::below_all))]
 fn is_below(value: u32, width: u32) -> bool
     ensures { IsTrue result ↔ (value < 256 ^ width) }
 {

@@ -6,7 +6,7 @@ use Rattle.texts.specs.Numbers.{IsHexWord}
 use Rattle.texts.proofs.ResultLaws.{bind_ok, ok_is}
 use Rattle.assembler.specs.Drafts.{onto}
 use Rattle.ztso_engines.specs.declared.fault.Refusal.{Refusal}
-use Rattle.ztso_engines.specs.Words.{words}
+use Rattle.texts.specs.Cutting.{words}
 use Rattle.ztso_engines.specs.LineFaults.{at_line}
 use Rattle.ztso_engines.specs.Code.{code_at}
 use Rattle.ztso_engines.specs.Dis.{SaysCode, code_of_lines, dis_at}

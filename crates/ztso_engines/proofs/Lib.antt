@@ -1,4 +1,3 @@
-pub mod WordLaws
 pub mod Registers
 pub mod NumberWords
 pub mod Lines
@@ -11,8 +10,6 @@ pub mod Judging
 pub mod Endings
 pub mod HistoryLaws
 pub mod LineFaulted
-pub mod HexLines
-pub mod HexWords
 pub mod HexTexts
 pub mod CodeTexts
 pub mod TestTexts

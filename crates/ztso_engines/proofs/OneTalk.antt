@@ -12,7 +12,7 @@ use Rattle.ztso_engines.specs.declared.debug.command.Command.{Command}
 use Rattle.ztso_engines.specs.declared.debug.command.Command.TheVariants as command
 use Rattle.ztso_engines.specs.declared.walk.Source.{Source}
 use Rattle.ztso_engines.specs.declared.walk.Source.TheVariants.{Schedule, User}
-use Rattle.ztso_engines.specs.Words.{words}
+use Rattle.texts.specs.Cutting.{words}
 use Rattle.ztso_engines.specs.Sessions.{Past, GoesOn, GoesBack, without_last}
 use Rattle.ztso_engines.specs.Walks.{Way, Walks, WalksBack, scheduled, set_out}
 use Rattle.ztso_engines.specs.Commands.{asked}

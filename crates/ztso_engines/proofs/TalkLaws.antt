@@ -9,9 +9,8 @@ use Rattle.std.specs.Io.BufRead.{take_through, drop_through, DropsThrough}
 use Rattle.std.specs.Io.KnownBytes.{Appends}
 use Rattle.std.proofs.lemmas.Bool.{cases_Bool, lt-ltb}
 use Rattle.std.proofs.lemmas.List.{append-nil, append_assoc, take_all, drop_all, take-take, length-take-le}
-use Rattle.texts.proofs.PieceLaws.{position_is, position_past}
-use Rattle.texts.proofs.LineLaws.{lines_found, lines_whole}
-use Rattle.ztso_engines.specs.Words.{words}
+use Rattle.texts.proofs.PieceLaws.{position_is, position_past, lines_found, lines_whole}
+use Rattle.texts.specs.Cutting.{words}
 use Rattle.ztso_engines.specs.Walks.{Way}
 use Rattle.ztso_engines.specs.Commands.{asked}
 use Rattle.ztso_engines.specs.declared.fault.Fault.{Fault}

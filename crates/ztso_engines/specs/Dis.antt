@@ -9,7 +9,7 @@ use Rattle.rv_decode.specs.declared.instruction.Instr.{Instr}
 use Rattle.assembler.specs.Drafts.{onto}
 use Rattle.assembler.specs.Writing.{text_of}
 use Rattle.ztso_engines.specs.declared.fault.Refusal.{Refusal}
-use Rattle.ztso_engines.specs.Words.{words}
+use Rattle.texts.specs.Cutting.{words}
 use Rattle.ztso_engines.specs.LineFaults.{at_line}
 use Rattle.ztso_engines.specs.Code.{code_at}
 use Rattle.ztso_engines.specs.Engines.{Accepted, judged}

@@ -1,6 +1,5 @@
 pub mod Faults
 pub mod Input
-pub mod Words
 pub mod LineFaults
 pub mod Code
 pub mod Told

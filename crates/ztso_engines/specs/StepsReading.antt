@@ -18,7 +18,7 @@ use Rattle.ztso_engines.specs.declared.steps.line.Keyword.{Keyword}
 use Rattle.ztso_engines.specs.declared.steps.line.Keyword.TheVariants as keyword
 use Rattle.ztso_engines.specs.declared.line_fault.LineFault.{LineFault}
 use Rattle.ztso_engines.specs.declared.line_fault.LineFault.TheVariants.{NoMemory, Refused}
-use Rattle.ztso_engines.specs.Words.{words, first_cut}
+use Rattle.texts.specs.Cutting.{words, first_cut}
 use Rattle.ztso_engines.specs.LineFaults.{bad_line, or_bad, at_line}
 use Rattle.ztso_engines.specs.Code.{code_at}
 use Rattle.ztso_engines.specs.Told.{Told, untold, fresh, register_set}

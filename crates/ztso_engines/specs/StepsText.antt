@@ -4,7 +4,7 @@ use Rattle.std.specs.List.{AllZip}
 use Rattle.std.specs.Str.Lines.{lines}
 use Rattle.texts.specs.Numbers.{Says, IsHexWord}
 use Rattle.recorder.specs.Schedule.{IsTokensOf}
-use Rattle.ztso_engines.specs.Words.{words, first_cut}
+use Rattle.texts.specs.Cutting.{words, first_cut}
 use Rattle.ztso_engines.specs.Told.{Told, untold, Statement, hart, reg, word, steps, with_statement, MayCome}
 
 -- decimal digits that say a number below 2^32

@@ -9,7 +9,7 @@ use Rattle.ztso_engines.specs.declared.debug.command.Command.TheVariants as comm
 use Rattle.ztso_engines.specs.declared.fault.Fault.{Fault}
 use Rattle.ztso_engines.specs.declared.fault.Fault.TheVariants.{ReadFailed, WriteFailed, NoMemory, Refused}
 use Rattle.ztso_engines.specs.declared.fault.Refusal.{Refusal}
-use Rattle.ztso_engines.specs.Words.{words}
+use Rattle.texts.specs.Cutting.{words}
 use Rattle.ztso_engines.specs.Histories.{ByBoth}
 use Rattle.ztso_engines.specs.Walks.{Way, set_out}
 use Rattle.ztso_engines.specs.Commands.{asked}

@@ -54,7 +54,7 @@ fn code_of_input(alloc: Global, input: &[u8]) -> Result<Vec<u32>, Fault>
     code_of(alloc, text_of(input)?)
 }
 
-#[tactic(auto, using(crate::proofs::HexLines::eight_digits))]
+#[tactic(auto, using(crate::proofs::HexTexts::eight_digits))]
 fn push_hex_line(out: &mut String, word: u32) -> Result<(), AllocError>
     ensures { OnOk result (string_bytes out.new ≡ string_bytes out.old ++ hex_line word) }
 {

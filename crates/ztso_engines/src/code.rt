@@ -1,14 +1,13 @@
 //! Instruction words in hex.
 
 ghost use Rattle.texts.specs.Results.{Gives};
-ghost use Rattle.ztso_engines.specs.Words.{words};
+ghost use Rattle.texts.specs.Cutting.{words};
 ghost use Rattle.ztso_engines.specs.LineFaults.{number_in};
 ghost use Rattle.ztso_engines.specs.Code.{code_at};
 
 use crate::line_fault::{BAD, LineFault};
-use crate::words::first_word;
 use std::alloc::Global;
-use texts::hex_word;
+use texts::{first_word, hex_word};
 
 /// The instruction words that the words of a line say, however many.
 #[tactic(auto, unfolding(crate::specs::Code::code_at))]

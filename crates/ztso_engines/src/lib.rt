@@ -29,4 +29,3 @@ pub mod steps;
 pub mod threads;
 pub mod trials;
 pub mod walk;
-mod words;

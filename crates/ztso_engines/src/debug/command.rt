@@ -1,12 +1,11 @@
 //! What a line of the debugger's asks for.
 
 ghost use Rattle.std.specs.Prelude.{◌≡◌};
-ghost use Rattle.ztso_engines.specs.Words.{words};
+ghost use Rattle.texts.specs.Cutting.{words};
 ghost use Rattle.ztso_engines.specs.Commands.{asked, asked_alone, asked_with_one, asked_with_two};
 
-use crate::words::first_word;
 use step_machine::Event;
-use texts::{number, word};
+use texts::{first_word, number, word};
 
 /// A command. Its numbers are as they were given, and judged by no machine yet.
 #[derive(Clone, Copy, Debug, PartialEq, Eq)]

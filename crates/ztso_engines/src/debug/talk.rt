@@ -4,7 +4,7 @@ ghost use Rattle.std.specs.Prelude.{◌≡◌, ◌++◌, ℕ, List, [], IfOk, If
 ghost use Rattle.std.specs.String.{string_bytes};
 ghost use Rattle.std.specs.Io.BufRead.{take_through, DropsThrough};
 ghost use Rattle.std.specs.Io.KnownBytes.{Appends, IsAtEnd};
-ghost use Rattle.ztso_engines.specs.Words.{words};
+ghost use Rattle.texts.specs.Cutting.{words};
 ghost use Rattle.ztso_engines.specs.Commands.{asked};
 ghost use Rattle.ztso_engines.specs.Talks.{AnswersLine, Prints, quits};
 ghost use Rattle.ztso_engines.specs.inner.Talking.{IsFailure};

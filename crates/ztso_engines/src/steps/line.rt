@@ -3,16 +3,15 @@
 ghost use Rattle.std.specs.Prelude.{◌≡◌};
 ghost use Rattle.texts.specs.Results.{Gives};
 ghost use Rattle.ztso_engines.specs.LineFaults.{number_in};
-ghost use Rattle.ztso_engines.specs.Words.{words, words as words_of};
+ghost use Rattle.texts.specs.Cutting.{words, words as words_of};
 ghost use Rattle.ztso_engines.specs.StepsReading.{tokens_fault, keyword_named, number_at, two_numbers, three_numbers, with_hart, with_register, with_word, with_steps};
 
 use crate::code::code_of;
 use crate::line_fault::{BAD, LineFault};
-use crate::words::first_word;
 use recorder::{ScheduleError, push_tokens_of};
 use std::alloc::Global;
 use step_machine::{Event, HartOpening};
-use texts::word;
+use texts::{first_word, word};
 
 /// What a line begins with.
 #[derive(Clone, Copy)]

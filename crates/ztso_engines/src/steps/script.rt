@@ -13,10 +13,9 @@ ghost use Rattle.ztso_engines.specs.StepsReading.{after_line, after_lines, scrip
 use crate::fault::{BAD_LINE, Fault, Place};
 use crate::line_fault::{BAD, LineFault};
 use crate::steps::line::{Keyword, add_hart, add_steps, keyword_of, set_register, set_word};
-use crate::words::first_word;
 use std::alloc::{AllocError, Global};
 use step_machine::{Event, HartOpening};
-use texts::first_line;
+use texts::{first_line, first_word};
 
 /// What a steps text tells.
 #[derive(Drop)]

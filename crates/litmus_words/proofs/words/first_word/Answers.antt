@@ -7,7 +7,7 @@ pub returns : goal.returns
 unfolding beginning_of
 returns c =
     let text = c.args.text.now in
-    let exact : seen c.begun.result ≡ beginning_of text = c.begun.ensures ∙ ap begun c.without_front.ensures in
+    let exact : seen c.begun.result ≡ beginning_of text = c.begun.ensures ∙ ap begun c.without_leading.ensures in
     record {
       exact = exact;
       words = words_cut text ∙ ap (words_from words_of) (sym exact);

@@ -1,4 +1,4 @@
-use Rattle.recorder.proofs.Refused.{refused_tokens, refused_further, refused_schedule}
+use Rattle.recorder.proofs.HeadLaws.{refused_tokens, refused_further, refused_schedule}
 use Rattle.recorder.proofs.laws.refused_without_value.Goals as goal
 
 pub returns-clause-tokens : goal.returns-clause-tokens

@@ -6,7 +6,7 @@ use Rattle.recorder.specs.Reading.{tokens_from}
 use Rattle.std.proofs.lemmas.Result.{err_from_is_err_and}
 use Rattle.std.proofs.lemmas.List.{length-drop}
 use Rattle.recorder.proofs.HeadLaws.{rest_from}
-use Rattle.recorder.proofs.Turns.{with_front-nil, turn_ok, turn_gives, turns_end}
+use Rattle.recorder.proofs.TextLaws.{with_front-nil, turn_ok, turn_gives, turns_end}
 use Rattle.recorder.proofs.reading.tokens_within.Goals as goal
 
 pub loop-rest-init : goal.loop-rest-init

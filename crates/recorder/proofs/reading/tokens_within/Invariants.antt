@@ -3,7 +3,7 @@ use Rattle.std.specs.Option.{option_copied}
 use Rattle.texts.specs.declared.pieces.Separators.TheVariants.{BlanksAndLineEnds}
 use Rattle.texts.specs.Pieces.{pieces_after, bytes_left}
 use Rattle.recorder.specs.Reading.{events_at, tokens_from}
-use Rattle.recorder.proofs.Turns.{with_front}
+use Rattle.recorder.proofs.TextLaws.{with_front}
 use Rattle.recorder.proofs.reading.tokens_within.Given as goal
 
 abbrev pub invariant-loop-rest : goal.invariant-loop-rest

@@ -1,7 +1,7 @@
 use Rattle.std.proofs.Common.{◌+◌, ◌<◌, length, sym, ◌∙◌, rules}
 use Rattle.std.proofs.Math.Seq.{drop-length}
 use Rattle.std.proofs.lemmas.List.{take_rest}
-use Rattle.texts.proofs.LineLaws.{lines_found, lines_whole}
+use Rattle.texts.proofs.PieceLaws.{lines_found, lines_whole}
 use Rattle.texts.proofs.lines.first_line.Goals as goal
 
 pub returns-in-Some-clause-line : goal.returns-in-Some-clause-line

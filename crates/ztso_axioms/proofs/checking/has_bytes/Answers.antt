@@ -1,6 +1,6 @@
 -- The bytes are right up to a place where one is not, or all are and there is nothing above them.
 use Rattle.std.proofs.Common.{arith, get_or, sym, ◌∙◌}
-use Rattle.ztso_axioms.proofs.Bytes.{value_from_bytes, bytes_from_value, below_from_value}
+use Rattle.ztso_axioms.proofs.Values.{value_from_bytes, bytes_from_value, below_from_value}
 use Rattle.ztso_axioms.proofs.checking.has_bytes.Goals as goal
 
 pub returns-then-latest_byte-byte_at : goal.returns-then-latest_byte-byte_at

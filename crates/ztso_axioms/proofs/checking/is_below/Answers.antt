@@ -1,5 +1,5 @@
 use Rattle.std.proofs.Common.{refl, arith}
-use Rattle.ztso_axioms.proofs.Bytes.{below_all}
+use Rattle.ztso_axioms.proofs.Values.{below_all}
 use Rattle.ztso_axioms.proofs.checking.is_below.Goals as goal
 
 pub returns-in_default : goal.returns-in_default

@@ -1,6 +1,6 @@
 use Rattle.std.proofs.Common.{◌≡◌, length}
 use Rattle.assembler.specs.Drafts.{onto}
-use Rattle.ztso_engines.specs.Words.{words}
+use Rattle.texts.specs.Cutting.{words}
 use Rattle.ztso_engines.specs.Code.{code_at}
 use Rattle.ztso_engines.proofs.code.code_of.Given as goal
 

@@ -3,7 +3,7 @@ use Rattle.std.proofs.Common.{◌≡◌, ℕ, List, [], ◌∷◌, ◌++◌, tru
 use Rattle.std.specs.String.{string_bytes}
 use Rattle.std.specs.Str.Lines.{lines}
 use Rattle.std.specs.Io.KnownBytes.{Appends}
-use Rattle.ztso_engines.specs.Words.{words}
+use Rattle.texts.specs.Cutting.{words}
 use Rattle.ztso_engines.specs.Commands.{asked}
 use Rattle.ztso_engines.specs.Talks.{Prints, quits}
 use Rattle.ztso_engines.proofs.TalkLaws.{appends_more, appends_nothing, failed_end, fails, no_line, prints_more, prints_no_more, prints_none, told_so_far}

@@ -1,19 +1,29 @@
--- Blanks round the operands between commas.
-use Rattle.std.proofs.Common.{◌≡◌, ℕ, Bool, true, false, List, [], ◌∷◌, ◌++◌, map, refl, sym, ap, subst, ◌∙◌, inl, inr}
+-- Operands between commas, and the blanks round them.
+use Rattle.std.proofs.Common.{◌≡◌, ℕ, ◌<◌, Bool, true, false, List, [], ◌∷◌, ◌++◌, length, map, Some, refl, sym, ap, subst, ◌∙◌, inl, inr, Option, None}
 use Rattle.std.specs.List.{AllByRecursion, slice_split, onto_first, join_with_byte}
 use Rattle.std.proofs.lemmas.List.Splits.{join_with_byte-slice_split}
 use Rattle.std.proofs.lemmas.Bool.{cases_Bool, eqb-true}
 use Rattle.texts.specs.Pieces.{is_blank}
-use Rattle.texts.specs.Cutting.{is_byte, without_front, without_end, onto_kept, trimmed}
-use Rattle.texts.proofs.SolidLaws.{NonePass, none-append}
-use Rattle.texts.proofs.SplitLaws.{split_cut, split_none, split_stop}
-use Rattle.texts.specs.Padding.{AreBlanks, IsPadded}
+use Rattle.texts.specs.Cutting.{is_byte, without_front, without_end, trimmed, stripped, NonePass, AreBlanks, IsPadded, onto_kept, before, after}
+use Rattle.texts.proofs.CuttingLaws.{none-append, split_cut, split_none, split_stop, split_behind}
+use Rattle.texts.proofs.TrimLaws.{stripped_none, stripped_padded, stripped_trailing, padded_stripped}
+use Rattle.assembler.specs.Lines.{between_commas, first_of, rest_of}
 use Rattle.assembler.specs.Spelled.{AreListed}
 use Rattle.assembler.specs.Spelled.AreListed.{last, more}
--- laws of texts, by the names under which the crates above know them
-pub use Rattle.texts.proofs.TrimLaws.{blanks-append, front_past, trimmed_padded, trimmed_blanks, front_split, end_split, padded_trimmed, padded_twice, cut_whole, cut_byte, uncut, before_passes_not, trimmed_end, trimmed_back}
 
--- ---- operands between commas
+-- an operand stands for itself
+pub record IsOperand (xs : List ℕ) : Type 0 where
+  pub commas : NonePass (is_byte 44) xs
+  pub blanks : NonePass is_blank xs
+  pub some : 0 < length xs
+
+pub two_between : (a b : List ℕ) → IsOperand a → IsOperand b → between_commas (Some (a ++ 44 ∷ b)) ≡ a ∷ b ∷ []
+two_between a b h k = rw (split_stop (is_byte 44) a 44 b h.commas refl, split_none (is_byte 44) b k.commas, stripped_none is_blank a h.blanks, stripped_none is_blank b k.blanks) refl
+
+pub three_between : (a b c : List ℕ) → IsOperand a → IsOperand b → IsOperand c → between_commas (Some (a ++ 44 ∷ (b ++ 44 ∷ c))) ≡ a ∷ b ∷ c ∷ []
+three_between a b c h k m = rw (split_stop (is_byte 44) a 44 (b ++ 44 ∷ c) h.commas refl, split_stop (is_byte 44) b 44 c k.commas refl, split_none (is_byte 44) c m.commas, stripped_none is_blank a h.blanks, stripped_none is_blank b k.blanks, stripped_none is_blank c m.blanks) refl
+
+-- ---- blanks round the operands
 
 abbrev pub comma : ℕ → Bool
 comma = is_byte 44
@@ -22,8 +32,8 @@ blank_is_no_comma : (x : ℕ) → is_blank x ≡ true → comma x ≡ true → �
 blank_is_no_comma x blank cut = let f : is_blank 44 ≡ true = subst (λ (c : ℕ). is_blank c ≡ true) (eqb-true x 44 cut) blank in cc
 
 listed_join : (part : List ℕ) (parts : List (List ℕ)) → AreListed (join_with_byte 44 (part ∷ parts)) (map trimmed (part ∷ parts))
-listed_join part [] = last part (trimmed part) (padded_trimmed part)
-listed_join part (next ∷ parts) = more part (trimmed part) (join_with_byte 44 (next ∷ parts)) (map trimmed (next ∷ parts)) (padded_trimmed part) (listed_join next parts)
+listed_join part [] = last part (trimmed part) (padded_stripped is_blank part)
+listed_join part (next ∷ parts) = more part (trimmed part) (join_with_byte 44 (next ∷ parts)) (map trimmed (next ∷ parts)) (padded_stripped is_blank part) (listed_join next parts)
 
 pub listed_split : (text : List ℕ) → AreListed text (map trimmed (slice_split comma text))
 listed_split text =
@@ -33,8 +43,8 @@ listed_split text =
     (subst (λ (ps : List (List ℕ)). AreListed (join_with_byte 44 ps) (map trimmed ps)) (sym parts) (listed_join _ _))
 
 abbrev kept_first : ℕ → List (List ℕ) → List (List ℕ)
-kept_first x [] = onto_kept x [] ∷ []
-kept_first x (part ∷ parts) = onto_kept x part ∷ parts
+kept_first x [] = onto_kept is_blank x [] ∷ []
+kept_first x (part ∷ parts) = onto_kept is_blank x part ∷ parts
 
 ends_onto : (x : ℕ) (parts : List (List ℕ)) → map without_end (onto_first x parts) ≡ kept_first x (map without_end parts)
 ends_onto x [] = refl
@@ -44,7 +54,7 @@ split_end : (text : List ℕ) → map without_end (slice_split comma (without_en
 split_end [] = refl
 split_end (x ∷ xs) = go (without_end xs) (split_end xs) (is_blank x) refl (comma x) refl
   where
-    go : (w : List ℕ) → map without_end (slice_split comma w) ≡ map without_end (slice_split comma xs) → (b : Bool) → is_blank x ≡ b → (c : Bool) → comma x ≡ c → map without_end (slice_split comma (onto_kept x w)) ≡ map without_end (slice_split comma (x ∷ xs))
+    go : (w : List ℕ) → map without_end (slice_split comma w) ≡ map without_end (slice_split comma xs) → (b : Bool) → is_blank x ≡ b → (c : Bool) → comma x ≡ c → map without_end (slice_split comma (onto_kept is_blank x w)) ≡ map without_end (slice_split comma (x ∷ xs))
     go w same true blank true cut = absurd (blank_is_no_comma x blank cut)
     go [] same true blank false on = rw (blank, on, ends_onto x (slice_split comma xs), ← same, blank) refl
     go [] same false solid true cut = rw (solid, cut) (ap (λ ps. [] ∷ ps) same)
@@ -53,7 +63,7 @@ split_end (x ∷ xs) = go (without_end xs) (split_end xs) (is_blank x) refl (com
     go (y ∷ ys) same b is false on = rw (on, ends_onto x (slice_split comma (y ∷ ys)), ends_onto x (slice_split comma xs), same) refl
 
 blank_first : (x : ℕ) (part : List ℕ) (parts : List (List ℕ)) → is_blank x ≡ true → map trimmed (part ∷ parts) ≡ map trimmed (onto_first x (part ∷ parts))
-unfolding trimmed
+unfolding stripped
 blank_first x part parts blank = rw blank refl
 
 split_front : (text : List ℕ) → map trimmed (slice_split comma (without_front text)) ≡ map trimmed (slice_split comma text)
@@ -68,11 +78,11 @@ split_front (x ∷ xs) = elim (cases_Bool (is_blank x)) [
 
 trims_ends : (parts : List (List ℕ)) → map trimmed (map without_end parts) ≡ map trimmed parts
 trims_ends [] = refl
-trims_ends (part ∷ parts) = rw (trimmed_end part, trims_ends parts) refl
+trims_ends (part ∷ parts) = rw (stripped_trailing is_blank part, trims_ends parts) refl
 
 -- the blanks round a text are round its first and last operand
 pub split_trimmed : (text : List ℕ) → map trimmed (slice_split comma (trimmed text)) ≡ map trimmed (slice_split comma text)
-unfolding trimmed
+unfolding stripped
 split_trimmed text =
     let front = without_front text in
     sym (trims_ends (slice_split comma (without_end front))) ∙ (ap (map trimmed) (split_end front) ∙ (trims_ends (slice_split comma front) ∙ split_front text))
@@ -93,5 +103,17 @@ padded_no_comma : (core text : List ℕ) → IsPadded core text → NonePass com
 padded_no_comma core text pad none = subst (λ (t : List ℕ). NonePass comma t) (sym pad.4) (none-append comma pad.0 (core ++ pad.1) (blanks_no_comma pad.0 pad.2) (none-append comma core pad.1 none (blanks_no_comma pad.1 pad.3)))
 
 pub split_listed : (text : List ℕ) (operands : List (List ℕ)) → AreListed text operands → NoCommas operands → map trimmed (slice_split comma text) ≡ map trimmed operands
-split_listed text operands (last whole operand pad) none = rw (split_none comma whole (padded_no_comma operand whole pad none.0)) (ap (λ o. o ∷ []) (trimmed_padded operand whole pad))
-split_listed text operands (more first operand rest others pad listed) none = rw (split_stop comma first 44 rest (padded_no_comma operand first pad none.0) refl, trimmed_padded operand first pad) (ap (λ os. trimmed operand ∷ os) (split_listed rest others listed none.1))
+split_listed text operands (last whole operand pad) none = rw (split_none comma whole (padded_no_comma operand whole pad none.0)) (ap (λ o. o ∷ []) (stripped_padded is_blank operand whole pad))
+split_listed text operands (more first operand rest others pad listed) none = rw (split_stop comma first 44 rest (padded_no_comma operand first pad none.0) refl, stripped_padded is_blank operand first pad) (ap (λ os. trimmed operand ∷ os) (split_listed rest others listed none.1))
+
+-- ---- the operands of a line, one by one
+
+pub first_between : (text : List ℕ) → first_of (between_commas (Some text)) ≡ Some (trimmed (before (is_byte 44) text))
+first_between text = ap (λ list. first_of (map trimmed list)) (split_cut (is_byte 44) text)
+
+rest_between_behind : (rest : Option (List ℕ)) → between_commas rest ≡ map trimmed (split_behind (is_byte 44) rest)
+rest_between_behind None = refl
+rest_between_behind (Some text) = refl
+
+pub rest_between : (text : List ℕ) → rest_of (between_commas (Some text)) ≡ between_commas (after (is_byte 44) text)
+rest_between text = ap (λ list. rest_of (map trimmed list)) (split_cut (is_byte 44) text) ∙ sym (rest_between_behind (after (is_byte 44) text))
