@@ -12,10 +12,8 @@ use Rattle.fastforward.specs.Invariant.Numbers.{Made, Numbers, sent, gone, taken
 use Rattle.fastforward.specs.Invariant.SenderState.{Written}
 use Rattle.fastforward.specs.Invariant.SenderPlaces.{SenderPlace, P00, P04, P08, P0C, P10, P14, P18, P1C, P20, P24, P28, P2C, P30, P34, P38, Over, SenderIs}
 use Rattle.fastforward.proofs.Stores.{sender_stores_are, receiver_stores_are}
-use Rattle.fastforward.proofs.Landing.{Landing}
-use Rattle.fastforward.proofs.SenderLandings.{sender_lands}
+use Rattle.fastforward.proofs.Landings.{Landing, sender_lands, receiver_lands}
 use Rattle.fastforward.proofs.SenderActs.{sends}
-use Rattle.fastforward.proofs.ReceiverLandings.{receiver_lands}
 use Rattle.fastforward.proofs.ReceiverReads.{seen_mark, seen_done}
 use Rattle.fastforward.proofs.ReceiverActs.{stores_tail, stores_done, reported, level_stays, filled_stays, stays_18, stays_1C, stays_20, stays_24}
 use Rattle.fastforward.proofs.MiddleMoves.{middle_14, middle_18, middle_1C, middle_20, middle_24}

@@ -1,10 +1,7 @@
 pub mod Means
 pub mod Orders
-pub mod Windows
 pub mod Stores
-pub mod Landing
-pub mod SenderLandings
-pub mod ReceiverLandings
+pub mod Landings
 pub mod ReceiverReads
 pub mod SenderLines
 pub mod SenderMoves

@@ -4,12 +4,11 @@ use Rattle.std.specs.Prelude.{slice_index, unwrap_or}
 use Rattle.std.specs.List.{slice_get}
 use Rattle.std.proofs.lemmas.Bool.{cases_lt, cases_eq}
 use Rattle.poll_close.specs.Invariant.Blocks.{Block, offset, slot, window}
-use Rattle.poll_close.proofs.Windows.{window_empty, newest_to, newest_none, newest_made}
+use Rattle.poll_close.proofs.Windows.{window_empty, newest_to, newest_none, newest_made, Each-range, newest_at}
 use Rattle.poll_close.proofs.Blocks.{IsBlock}
 use Rattle.poll_close.proofs.BlockLaws.{found_in}
 use Rattle.fastforward.specs.Invariant.Stores.{receiver_stores}
 use Rattle.fastforward.specs.Invariant.Numbers.{Numbers, taken, freed, Ordered, Words, unread_of}
-use Rattle.fastforward.proofs.Windows.{Each-range, newest_at}
 use Rattle.fastforward.proofs.Stores.{slots_apart, slot_again, store_null, store_tail, store_done, place_at}
 
 module _ (k : Block) (n : Numbers) (word : ℕ → ℕ) (order : Ordered k n) (words : Words k n word) where

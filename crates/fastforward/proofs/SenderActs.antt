@@ -9,7 +9,7 @@ use Rattle.hart.specs.declared.status.Status.TheVariants as status
 use Rattle.poll_close.specs.Invariant.Blocks.{Block, slot, window}
 use Rattle.poll_close.proofs.Acts.{stored_by, IsNoAmo}
 use Rattle.poll_close.proofs.Lines.{loads}
-use Rattle.poll_close.proofs.Windows.{newest_to, newest_none}
+use Rattle.poll_close.proofs.Windows.{newest_to, newest_none, Each-range, newest_at}
 use Rattle.poll_close.proofs.Blocks.{IsBlock, IsWordOf, slot_of}
 use Rattle.poll_close.proofs.BlockLaws.{found_in, Sends}
 use Rattle.fastforward.specs.FastForward.{fastforward_blocks}
@@ -17,7 +17,6 @@ use Rattle.fastforward.specs.Invariant.Stores.{sender_stores}
 use Rattle.fastforward.specs.Invariant.Numbers.{Made, Numbers, sent, gone, Ordered, Words, pending_of}
 use Rattle.fastforward.specs.Invariant.SenderState.{Written}
 use Rattle.fastforward.specs.Invariant.SenderPlaces.{SenderPlace, stands, Free, SenderIs, Standing}
-use Rattle.fastforward.proofs.Windows.{Each-range, newest_at}
 use Rattle.fastforward.proofs.Stores.{slots_apart, slot_again, store_word, word_at}
 use Rattle.fastforward.proofs.SenderMoves.{Moves, moves}
 

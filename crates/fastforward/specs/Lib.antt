@@ -1,4 +1,3 @@
 pub mod Listing
-pub mod Means
 pub mod FastForward
 pub mod Invariant

@@ -5,7 +5,7 @@
 #![tactic(auto)]
 
 ghost use Rattle.fastforward.specs.Listing.{sender_code, sender_lines, receiver_code, receiver_lines};
-ghost use Rattle.fastforward.specs.Means.{AllMean};
+ghost use Rattle.poll_close.specs.Means.{AllMean};
 
 use poll_close::RingKind;
 

@@ -5,8 +5,9 @@ ghost use Rattle.std.specs.Prelude.{◌≤◌};
 use crate::{FastForward, RECEIVER, SENDER};
 use assembler::assemble;
 use hart::need::Report;
-use poll_close::{Channel, Refused, deliver};
+use poll_close::{Channel, Refused, deliver, opening};
 use std::alloc::{AllocError, Global};
+use std::process::Abort;
 use std::test::Fail;
 use step_machine::{Entry, Event, Outcome};
 
@@ -63,21 +64,13 @@ quit: addi x17,x0,93
 ecall
 ";
 
-/// A channel of harts with buffers of `B` stores over these lists.
-fn opened<const B: usize>(
-    alloc: Global,
-    lists: &[&[u32]],
-    ring: u32,
-) -> Result<Channel<FastForward, B, 4096>, Refused>
-    requires some_capacity { 1 ≤ B }
-    requires capacity { B ≤ 64 }
-{
-    let mut owned = Vec::new(alloc);
-    for list in lists {
-        owned.push(Vec::from_slice(alloc, *list)?)?;
-    }
-    Channel::open(alloc, &owned, ring)
-}
+const A0: Event = Event::Act(0);
+
+const A1: Event = Event::Act(1);
+
+const L0: Event = Event::Land(0);
+
+const L1: Event = Event::Land(1);
 
 /// The events of `steps`, each so often.
 fn events_of(alloc: Global, steps: &[(Event, u32)]) -> Result<Vec<Event>, AllocError> {
@@ -90,15 +83,58 @@ fn events_of(alloc: Global, steps: &[(Event, u32)]) -> Result<Vec<Event>, AllocE
     Ok(events)
 }
 
-/// Whether a report was made or a hart ended.
-fn is_landmark(entry: Entry) -> bool {
-    matches!(
-        entry,
-        Entry::Took { .. } | Entry::Closed { .. } | Entry::Ended { .. }
-    )
+fn lists_of(alloc: Global, lists: &[&[u32]]) -> Result<Vec<Vec<u32>>, AllocError> {
+    let mut owned = Vec::new(alloc);
+    for list in lists {
+        owned.push(Vec::from_slice(alloc, list)?)?;
+    }
+    Ok(owned)
 }
 
-/// The landmarks of one turn of events, with its number.
+/// A ring of one slot over the one word 7, and buffers of one store: a channel that runs the events and
+/// `deliver` report this, and in a channel that takes them one by one those at these places wait.
+fn expect_reports(
+    rt: &(impl Abort + AllocGlobal),
+    events: &[Event],
+    waiting: &[usize],
+    wanted: &[Report],
+) -> Result<(), Refused> {
+    let lists = lists_of(rt.alloc(), &[&[7]])?;
+    let delivered = deliver::<FastForward, 1, 4096>(rt.alloc(), &lists, 1, events)?;
+    assert_eq!(rt; delivered.as_slice(), wanted);
+    let mut channel = Channel::<FastForward, 1, 4096>::open(rt.alloc(), &lists, 1)?;
+    channel.run(events).map_err(|error| error.1)?;
+    assert_eq!(rt; channel.reports(), wanted);
+    let mut stepped = Channel::<FastForward, 1, 4096>::open(rt.alloc(), &lists, 1)?;
+    let mut waited = Vec::new(rt.alloc());
+    for (place, event) in events.iter().enumerate() {
+        if stepped.step(*event)? == Outcome::Waited {
+            waited.push(place)?;
+        }
+    }
+    assert_eq!(rt; waited.as_slice(), waiting);
+    assert_eq!(rt; stepped.reports(), wanted);
+    Ok(())
+}
+
+/// Over a memory of 64 words a channel, its opening and `deliver` are refused so, or none of them is.
+fn expect_refusal(
+    rt: &(impl Abort + AllocGlobal),
+    lists: &[&[u32]],
+    ring: u32,
+    wanted: Option<Refused>,
+) -> Result<(), AllocError> {
+    let lists = lists_of(rt.alloc(), lists)?;
+    let channel = Channel::<FastForward, 4, 64>::open(rt.alloc(), &lists, ring);
+    assert_eq!(rt; channel.err(), wanted);
+    let opening = opening::<FastForward>(rt.alloc(), &lists, ring, 64);
+    assert_eq!(rt; opening.err(), wanted);
+    let delivered = deliver::<FastForward, 4, 64>(rt.alloc(), &lists, ring, &[]);
+    assert_eq!(rt; delivered.err(), wanted);
+    Ok(())
+}
+
+/// Adds the reports and the ends of harts among the events of one turn, with its number.
 fn take_turn<const B: usize>(
     channel: &mut Channel<FastForward, B, 4096>,
     turn: &[Event],
@@ -106,26 +142,31 @@ fn take_turn<const B: usize>(
     found: &mut Vec<(u32, Entry)>,
 ) -> Result<(), AllocError> {
     for event in turn {
-        match channel.step(*event)? {
-            Outcome::Did(entry) if is_landmark(entry) => found.push((number, entry))?,
-            _ => {}
+        if let Outcome::Did(entry) = channel.step(*event)? {
+            match entry {
+                Entry::Took { .. } | Entry::Closed { .. } | Entry::Ended { .. } => {
+                    found.push((number, entry))?;
+                }
+                _ => {}
+            }
         }
     }
     Ok(())
 }
 
 /// In which of so many turns of these events what is reported, and which hart ends.
-fn landmarks<const B: usize>(
+fn turns_of<const B: usize>(
     alloc: Global,
     lists: &[&[u32]],
     ring: u32,
     turn: &[Event],
     turns: u32,
 ) -> Result<Vec<(u32, Entry)>, Refused>
-    requires some_capacity { 1 ≤ B }
+    requires some { 1 ≤ B }
     requires capacity { B ≤ 64 }
 {
-    let mut channel = opened::<B>(alloc, lists, ring)?;
+    let lists = lists_of(alloc, lists)?;
+    let mut channel = Channel::<FastForward, B, 4096>::open(alloc, &lists, ring)?;
     let mut found = Vec::new(alloc);
     for number in 1..=turns {
         take_turn(&mut channel, turn, number, &mut found)?;
@@ -133,7 +174,6 @@ fn landmarks<const B: usize>(
     Ok(found)
 }
 
-/// The receiver's report of a word, and of a closed sender.
 fn took(sender: u32, word: u32) -> Entry {
     Entry::Took {
         hart: 0,
@@ -146,6 +186,10 @@ fn closed(sender: u32) -> Entry {
     Entry::Closed { hart: 0, sender }
 }
 
+fn ended(hart: u32) -> Entry {
+    Entry::Ended { hart }
+}
+
 #[test]
 fn the_listing_is_the_table(rt: HostRuntime) -> Result<(), Fail> {
     let sender = assemble(rt.alloc(), SENDER_TEXT)?;
@@ -156,18 +200,42 @@ fn the_listing_is_the_table(rt: HostRuntime) -> Result<(), Fail> {
 }
 
 #[test]
+fn a_store_waits_for_the_one_before(rt: HostRuntime) -> Result<(), Fail> {
+    let steps = [
+        (A1, 16),
+        (L1, 1),
+        (A1, 3),
+        (L1, 1),
+        (A0, 14),
+        (L0, 1),
+        (A0, 20),
+        (L0, 1),
+        (A0, 4),
+    ];
+    // the mark's store, and the tail's
+    let waiting = [15, 34];
+    let took = Report::Took { sender: 0, word: 7 };
+    let all = [took, Report::Closed { sender: 0 }];
+    expect_reports(&rt, &events_of(rt.alloc(), &steps)?, &waiting, &all)?;
+    // the done word's store waits for the tail
+    let early = events_of(rt.alloc(), &steps[..7])?;
+    expect_reports(&rt, &early, &waiting, &[took])?;
+    Ok(())
+}
+
+#[test]
 fn one_slot_carries_three_words(rt: HostRuntime) -> Result<(), Fail> {
-    let turn = [Event::Act(0), Event::Act(1), Event::Land(0), Event::Land(1)];
-    let found = landmarks::<1>(rt.alloc(), &[&[5, 5, 5]], 1, &turn, 85)?;
+    let turn = [A0, A1, L0, L1];
+    let found = turns_of::<1>(rt.alloc(), &[&[5, 5, 5]], 1, &turn, 85)?;
     assert_eq!(rt;
         found.as_slice(),
         [
             (17, took(0, 5)),
             (39, took(0, 5)),
-            (46, Entry::Ended { hart: 1 }),
+            (46, ended(1)),
             (61, took(0, 5)),
             (81, closed(0)),
-            (85, Entry::Ended { hart: 0 }),
+            (85, ended(0)),
         ]
         .as_slice()
     );
@@ -175,69 +243,27 @@ fn one_slot_carries_three_words(rt: HostRuntime) -> Result<(), Fail> {
 }
 
 #[test]
-fn a_full_buffer_waits(rt: HostRuntime) -> Result<(), Fail> {
-    let steps = [
-        (Event::Act(1), 16),
-        (Event::Land(1), 1),
-        (Event::Act(1), 3),
-        (Event::Land(1), 1),
-        (Event::Act(0), 14),
-        (Event::Land(0), 1),
-        (Event::Act(0), 20),
-        (Event::Land(0), 1),
-        (Event::Act(0), 4),
-    ];
-    let events = events_of(rt.alloc(), &steps)?;
-    let mut channel = opened::<1>(rt.alloc(), &[&[7]], 1)?;
-    let mut waits = Vec::new(rt.alloc());
-    for (place, event) in events.iter().enumerate() {
-        match channel.step(*event)? {
-            Outcome::Waited => waits.push(place)?,
-            _ => {}
-        }
-    }
-    // the sixteenth act of hart 1, and the fourteenth of hart 0
-    assert_eq!(rt; waits.as_slice(), [15, 34].as_slice());
-    let took = Report::Took { sender: 0, word: 7 };
-    let all = [took, Report::Closed { sender: 0 }];
-    assert_eq!(rt; channel.reports(), all.as_slice());
-
-    let mut lists = Vec::new(rt.alloc());
-    lists.push(Vec::from_slice(rt.alloc(), &[7])?)?;
-    let early = events_of(rt.alloc(), &steps[..7])?;
-    let reports = deliver::<FastForward, 1, 4096>(rt.alloc(), &lists, 1, &early)?;
-    assert_eq!(rt; reports.as_slice(), [took].as_slice());
-    Ok(())
-}
-
-#[test]
-fn three_senders_in_order(rt: HostRuntime) -> Result<(), Fail> {
-    let turn = [
-        Event::Act(0),
-        Event::Act(1),
-        Event::Act(2),
-        Event::Act(3),
-        Event::Land(0),
-        Event::Land(1),
-        Event::Land(2),
-        Event::Land(3),
-    ];
+fn harts_that_act_and_land_in_turns_end(rt: HostRuntime) -> Result<(), Fail> {
+    let acts = [A0, A1, Event::Act(2), Event::Act(3)];
+    let lands = [L0, L1, Event::Land(2), Event::Land(3)];
+    let mut turn = Vec::from_slice(rt.alloc(), &acts)?;
+    turn.extend_from_slice(&lands)?;
     let lists: [&[u32]; 3] = [&[1], &[], &[2, 3, 4]];
-    let found = landmarks::<4>(rt.alloc(), &lists, 3, &turn, 1000)?;
+    let found = turns_of::<4>(rt.alloc(), &lists, 3, &turn, 1000)?;
     assert_eq!(rt;
         found.as_slice(),
         [
-            (7, Entry::Ended { hart: 2 }),
+            (7, ended(2)),
             (16, took(0, 1)),
-            (16, Entry::Ended { hart: 1 }),
+            (16, ended(1)),
             (33, closed(1)),
-            (36, Entry::Ended { hart: 3 }),
+            (36, ended(3)),
             (52, took(2, 2)),
             (72, closed(0)),
             (96, took(2, 3)),
             (128, took(2, 4)),
             (158, closed(2)),
-            (162, Entry::Ended { hart: 0 }),
+            (162, ended(0)),
         ]
         .as_slice()
     );
@@ -245,25 +271,19 @@ fn three_senders_in_order(rt: HostRuntime) -> Result<(), Fail> {
 }
 
 #[test]
-fn lists_that_have_no_channel(rt: HostRuntime) -> Result<(), Fail> {
-    assert_eq!(rt;
-        opened::<1>(rt.alloc(), &[&[9]], 0).err(),
-        Some(Refused::RingTooSmall)
-    );
-    assert_eq!(rt;
-        opened::<1>(rt.alloc(), &[], 1).err(),
-        Some(Refused::NoSenders)
-    );
-    assert_eq!(rt;
-        opened::<1>(rt.alloc(), &[&[9], &[1, 0]], 1).err(),
-        Some(Refused::ZeroWord {
-            sender: 1,
-            place: 1
-        })
-    );
-    assert_eq!(rt;
-        opened::<1>(rt.alloc(), &[&[9]], 4093).err(),
-        Some(Refused::DoesNotFit)
-    );
+fn a_channel_is_refused(rt: HostRuntime) -> Result<(), Fail> {
+    let one: &[u32] = &[9];
+    let zero = Refused::ZeroWord {
+        sender: 0,
+        place: 1,
+    };
+    expect_refusal(&rt, &[], 0, Some(Refused::NoSenders))?;
+    expect_refusal(&rt, &[one; 64], 0, Some(Refused::TooManySenders))?;
+    expect_refusal(&rt, &[&[0]], 0, Some(Refused::RingTooSmall))?;
+    expect_refusal(&rt, &[one], 1, None)?;
+    expect_refusal(&rt, &[one], 60, None)?;
+    expect_refusal(&rt, &[one], 61, Some(Refused::DoesNotFit))?;
+    expect_refusal(&rt, &[&[0]], 61, Some(Refused::DoesNotFit))?;
+    expect_refusal(&rt, &[&[3, 0]], 1, Some(zero))?;
     Ok(())
 }

@@ -1,11 +1,11 @@
 -- The words of a block, by its numbers, and what each landing makes of them.
-use Rattle.std.proofs.Common.{ℕ, suc, ◌+◌, ◌*◌, ◌%◌, ◌<◌, ◌≤◌, ◌≡◌, ◌≢◌, ◌⊎◌, inl, inr, List, ◌∷◌, length, Some, refl, sym, ◌∙◌, ap, subst, arith}
+use Rattle.std.proofs.Common.{ℕ, suc, ◌+◌, ◌*◌, ◌%◌, ◌<◌, ◌≤◌, ◌≡◌, ◌≢◌, ◌⊎◌, inl, inr, List, ◌∷◌, length, Some, refl, sym, ◌∙◌, ap, arith}
 use Rattle.std.specs.Prelude.{slice_index}
 use Rattle.std.specs.List.{slice_get}
 use Rattle.std.proofs.lemmas.Bool.{cases_lt, cases_eq}
 use Rattle.poll_close.proofs.Modulo.{mod_apart}
 use Rattle.poll_close.specs.Invariant.Blocks.{window}
-use Rattle.poll_close.proofs.Windows.{first_is, some_in}
+use Rattle.poll_close.proofs.Windows.{some_in, oldest_lands}
 use Rattle.poll_close.proofs.Writes.{IsWrite, hit, miss}
 use Rattle.poll_close.specs.Invariant.Blocks.{slot}
 use Rattle.lamport_ring.specs.Invariant.Stores.{sender_stores}
@@ -208,9 +208,7 @@ module _ (k : Block) (is : IsBlock k) (n : Numbers) (order : Ordered k n) (word 
       more = some_in (sender_stores k.size k.base k.list) (gone n) (sent n) x rest first
 
       with : (y : ℕ × ℕ) → slice_get (sender_stores k.size k.base k.list) (gone n) ≡ Some y → (IsWrite word new y → Landing k n new (window (sender_stores k.size k.base k.list) (suc (gone n)) (sent n)) theirs) → Landing k n new rest theirs
-      with y at lands =
-          let both = first_is (sender_stores k.size k.base k.list) (gone n) (sent n) x y rest more at first in
-          subst (λ (ps : List (ℕ × ℕ)). Landing k n new ps theirs) (sym both.1) (lands (subst (IsWrite word new) both.0 write))
+      with y at lands = oldest_lands (λ ps. Landing k n new ps theirs) (IsWrite word new) (sender_stores k.size k.base k.list) (gone n) (sent n) x y rest first write at lands
 
       unmarked : n.kh < length k.list → n.km ≡ 0
       unmarked some = grind (arith, order.km_all)
@@ -230,9 +228,7 @@ module _ (k : Block) (is : IsBlock k) (n : Numbers) (order : Ordered k n) (word 
       more = some_in (receiver_stores k.size k.base k.list) (n.kc + n.kd) (n.c + n.d) x rest first
 
       with : (y : ℕ × ℕ) → slice_get (receiver_stores k.size k.base k.list) (n.kc + n.kd) ≡ Some y → (IsWrite word new y → Landing k n new mine (window (receiver_stores k.size k.base k.list) (suc (n.kc + n.kd)) (n.c + n.d))) → Landing k n new mine rest
-      with y at lands =
-          let both = first_is (receiver_stores k.size k.base k.list) (n.kc + n.kd) (n.c + n.d) x y rest more at first in
-          subst (Landing k n new mine) (sym both.1) (lands (subst (IsWrite word new) both.0 write))
+      with y at lands = oldest_lands (λ ps. Landing k n new mine ps) (IsWrite word new) (receiver_stores k.size k.base k.list) (n.kc + n.kd) (n.c + n.d) x y rest first write at lands
 
       within : n.c ≤ length k.list
       within = omega (arith, order.c_kh, order.kh_ls, order.ls_p, order.p_all)

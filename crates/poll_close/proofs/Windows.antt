@@ -1,5 +1,5 @@
 -- Parts of one fixed list of stores: the ones that are made and have not landed.
-use Rattle.std.proofs.Common.{ℕ, zero, suc, ◌-◌, ◌<◌, ◌≤◌, ◌≡◌, ◌≢◌, ◌==◌, true, false, if◌then◌else◌, List, [], ◌∷◌, ◌++◌, length, take, length-drop, length-take, min, Option, Some, None, refl, sym, ◌∙◌, ap, arith, eq-eqb}
+use Rattle.std.proofs.Common.{ℕ, zero, suc, ◌-◌, ◌<◌, ◌≤◌, ◌≡◌, ◌≢◌, ◌==◌, true, false, if◌then◌else◌, List, [], ◌∷◌, ◌++◌, length, take, length-drop, length-take, min, Option, Some, None, refl, sym, ◌∙◌, ap, subst, arith, eq-eqb}
 use Rattle.std.specs.List.{slice_get}
 use Rattle.std.proofs.Math.ListN.{drop_of_length-le}
 use Rattle.std.proofs.lemmas.Bool.Decides.{nat_tests}
@@ -35,6 +35,12 @@ some_in xs i j x rest is =
     let counted : length (window xs i j) ≡ length (take j xs) - i = length-drop i (take j xs) in
     let front : length (take j xs) ≡ min j (length xs) = length-take j xs in
     omega arith
+
+-- whatever the landing of the oldest store of a window gives, the landing of its first element gives
+pub oldest_lands : (P : List (ℕ × ℕ) → Type 0) (Lands : ℕ × ℕ → Type 0) (xs : List (ℕ × ℕ)) (i j : ℕ) (x y : ℕ × ℕ) (rest : List (ℕ × ℕ)) → window xs i j ≡ x ∷ rest → Lands x → slice_get xs i ≡ Some y → (Lands y → P (window xs (suc i) j)) → P rest
+oldest_lands P Lands xs i j x y rest first lands at gives =
+    let both = first_is xs i j x y rest (some_in xs i j x rest first) at first in
+    subst P (sym both.1) (gives (subst Lands both.0 lands))
 
 pub window_empty : (xs : List (ℕ × ℕ)) (i j : ℕ) → j ≤ i → window xs i j ≡ []
 window_empty xs i j less = drop_of_length-le (take j xs) (let front : length (take j xs) ≡ min j (length xs) = length-take j xs in omega arith)
@@ -81,3 +87,38 @@ newest_made xs i j a v less at =
     ap (newest_to a None) (sym (window_made xs i j (a, v) less at))
     ∙ newest_to-append a None (window xs i j) ((a, v) ∷ [])
     ∙ (let same : (a == a) ≡ true = eq-eqb a a refl in rw same refl)
+
+-- what holds of the stores of these numbers holds of those of the window
+pub Each-range : (P : ℕ × ℕ → Type 0) (xs : List (ℕ × ℕ)) (i j : ℕ) → ((t : ℕ) (x : ℕ × ℕ) → i ≤ t → t < j → slice_get xs t ≡ Some x → P x) → Each P (window xs i j)
+Each-range P [] zero zero each t x is = cc
+Each-range P [] zero (suc j) each t x is = cc
+Each-range P [] (suc i) zero each t x is = cc
+Each-range P [] (suc i) (suc j) each t x is = cc
+Each-range P (y ∷ ys) zero zero each t x is = cc
+Each-range P (y ∷ ys) zero (suc j) each zero x is = each 0 x (omega arith) (omega arith) is
+Each-range P (y ∷ ys) zero (suc j) each (suc t) x is = Each-range P ys zero j (λ s z from below at. each (suc s) z (omega arith) (omega (arith, below)) at) t x is
+Each-range P (y ∷ ys) (suc i) zero each t x is = cc
+Each-range P (y ∷ ys) (suc i) (suc j) each t x is = Each-range P ys i j (λ s z from below at. each (suc s) z (omega (arith, from)) (omega (arith, below)) at) t x is
+
+window_split : (xs : List (ℕ × ℕ)) (i m j : ℕ) → i ≤ m → m ≤ j → window xs i j ≡ window xs i m ++ window xs m j
+window_split [] zero zero zero a b = refl
+window_split [] zero zero (suc j) a b = refl
+window_split [] zero (suc m) zero a b = absurd (omega arith)
+window_split [] zero (suc m) (suc j) a b = refl
+window_split [] (suc i) zero j a b = absurd (omega arith)
+window_split [] (suc i) (suc m) zero a b = absurd (omega arith)
+window_split [] (suc i) (suc m) (suc j) a b = refl
+window_split (y ∷ ys) zero zero j a b = refl
+window_split (y ∷ ys) zero (suc m) zero a b = absurd (omega arith)
+window_split (y ∷ ys) zero (suc m) (suc j) a b = ap (λ zs. y ∷ zs) (window_split ys zero m j (omega arith) (omega arith))
+window_split (y ∷ ys) (suc i) zero j a b = absurd (omega arith)
+window_split (y ∷ ys) (suc i) (suc m) zero a b = absurd (omega arith)
+window_split (y ∷ ys) (suc i) (suc m) (suc j) a b = window_split ys i m j (omega arith) (omega arith)
+
+-- the newest to an address is store s, where none after it goes there
+pub newest_at : (xs : List (ℕ × ℕ)) (i s j a v : ℕ) → i ≤ s → s < j → slice_get xs s ≡ Some (a, v) → ((t : ℕ) (x : ℕ × ℕ) → s < t → t < j → slice_get xs t ≡ Some x → x.0 ≢ a) → newest_to a None (window xs i j) ≡ Some v
+newest_at xs i s j a v from below is none =
+    ap (newest_to a None) (window_split xs i (suc s) j (omega arith) (omega arith))
+    ∙ newest_to-append a None (window xs i (suc s)) (window xs (suc s) j)
+    ∙ ap (λ o. newest_to a o (window xs (suc s) j)) (newest_made xs i s a v from is)
+    ∙ newest_none a (Some v) (window xs (suc s) j) (Each-range (λ x. x.0 ≢ a) xs (suc s) j (λ t x more less at. none t x (omega (arith, more)) less at))

@@ -2,6 +2,7 @@ pub mod Layout
 pub mod Reports
 pub mod Going
 pub mod Laws
+pub mod Means
 pub mod Delivery
 pub mod Refusals
 pub mod Standing
