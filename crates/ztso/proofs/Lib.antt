@@ -2,4 +2,5 @@ pub mod Buffered
 pub mod Endings
 pub mod Matches
 pub mod NumberLaws
+pub mod Pieces
 pub mod Spellings

@@ -1,13 +1,14 @@
 -- Each way of writing a job says that job.
-use Rattle.std.proofs.Common.{◌≡◌, Bool, true, false, None, ◌==◌, List, [], ◌∷◌, ◌++◌, Some, refl, codes, ap, sym, inl, inr, ◌∙◌}
+use Rattle.std.proofs.Common.{◌≡◌, ℕ, List, [], ◌∷◌, ◌++◌, map, Option, Some, refl, codes, ap, ap₂, sym, inl, inr, ◌∙◌, arith}
 use Rattle.std.specs.Prelude.{Result}
-use Rattle.std.specs.Str.{bytes_eq}
-use Rattle.std.proofs.lemmas.Bool.{eqb-true}
-use Rattle.clap.specs.Lexer.{long_of, short_of}
 use Rattle.clap.specs.Words.{Text}
 use Rattle.clap.proofs.OnLiterals.{clap_on_literals}
-use Rattle.ztso.specs.CommandLines.{Answers, job_said}
-use Rattle.ztso.specs.Spellings.{AsksFor, IsSpelling, IsSpellingOf, IsWord, text_of}
+use Rattle.ztso.proofs.Pieces.{Piece, plain, other, text_in, ArePlain, IsCommand, said, pieces_fault, by_pieces}
+use Rattle.ztso.specs.CommandLines.{Answers, capacity_said, job_said, ◌>>=◌}
+use Rattle.ztso.specs.Numbers.{number_within}
+use Rattle.ztso.specs.Spellings.{AsksFor, AsksForTurns, IsOnFiles, IsSpelling, IsSpellingOf, IsWord, name_of, text_of}
+use Rattle.ztso.specs.declared.job.Ring.{Ring}
+use Rattle.ztso.specs.declared.job.Ring.TheVariants.{Lamport}
 use Rattle.ztso.specs.declared.job.Task.{Task}
 use Rattle.ztso.specs.declared.failure.Failure.{Failure}
 use Rattle.ztso.specs.declared.job.Capacity.{Capacity}
@@ -20,27 +21,65 @@ use Rattle.ztso.specs.declared.job.Work.TheVariants.{Steps, Run, Replay, Debug, 
 use Rattle.ztso.specs.Jobs.{Wanted, one_input, two_inputs}
 use Rattle.ztso.specs.Jobs.Input.{Standard, File}
 
--- ---- `steps`, `asm` and `dis`
+-- ---- the capacity
 
-alone : (name : Text) → job_said (name ∷ codes "steps" ∷ []) ≡ Some (one_input (Alone (Machine Steps Four)) Standard)
-unfolding clap_on_literals job_said
-alone name = refl
+-- what stands for the capacity behind a command's other words, where its text is t
+data Tail : Type 0 where
+  none : Tail
+  blank : Tail
+  equals : Tail
 
-with_a_blank : (name : Text) (capacity : Capacity)
-    → job_said (name ∷ codes "steps" ∷ codes "--buffer" ∷ text_of capacity ∷ []) ≡ Some (one_input (Alone (Machine Steps capacity)) Standard)
-unfolding clap_on_literals job_said
-with_a_blank name One = refl
-with_a_blank name Two = refl
-with_a_blank name Four = refl
-with_a_blank name Sixteen = refl
+abbrev tail_of : Tail → Text → List Piece
+tail_of none t = []
+tail_of blank t = other (codes "--buffer") ∷ plain t ∷ []
+tail_of equals t = other (codes "--buffer=" ++ t) ∷ []
 
-with_an_equals : (name : Text) (capacity : Capacity)
-    → job_said (name ∷ codes "steps" ∷ (codes "--buffer=" ++ text_of capacity) ∷ []) ≡ Some (one_input (Alone (Machine Steps capacity)) Standard)
-unfolding clap_on_literals job_said
-with_an_equals name One = refl
-with_an_equals name Two = refl
-with_an_equals name Four = refl
-with_an_equals name Sixteen = refl
+-- what is said of the capacity
+abbrev capacity_at : Tail → Text → Option Capacity
+capacity_at none t = Some Four
+capacity_at blank t = capacity_said t
+capacity_at equals t = capacity_said t
+
+text_is_word : (capacity : Capacity) → IsWord (text_of capacity)
+text_is_word One = λ e. omega (arith, e)
+text_is_word Two = λ e. omega (arith, e)
+text_is_word Four = λ e. omega (arith, e)
+text_is_word Sixteen = λ e. omega (arith, e)
+
+text_says : (capacity : Capacity) → capacity_said (text_of capacity) ≡ Some capacity
+text_says One = refl
+text_says Two = refl
+text_says Four = refl
+text_says Sixteen = refl
+
+record Told (capacity : Capacity) (options : List Text) : Type 0 where
+  tail : Tail
+  text : Text
+  is : options ≡ map text_in (tail_of tail text)
+  says : capacity_at tail text ≡ Some capacity
+  are : ArePlain (tail_of tail text)
+
+told : (capacity : Capacity) (options : List Text) → AsksFor capacity options → Told capacity options
+told capacity options (inl default) = record { tail = none; text = []; is = default.0; says = ap (λ (c : Capacity). Some c) (sym default.1); are = tt }
+told capacity options (inr (inl is)) = record { tail = blank; text = text_of capacity; is = is; says = text_says capacity; are = (text_is_word capacity, tt) }
+told capacity options (inr (inr is)) = record { tail = equals; text = text_of capacity; is = is; says = text_says capacity; are = tt }
+
+abbrev machine_of : Option Capacity → Option Work → Option Task
+machine_of found work = work >>= (λ w. found >>= (λ capacity. Some (Alone (Machine w capacity))))
+
+abbrev on_file_of : Text → Option Task → Option Wanted
+on_file_of file task = task >>= (λ wanted. Some (one_input wanted (File file)))
+
+abbrev on_schedule_of : Text → Option Task → Option Wanted
+on_schedule_of schedule task = task >>= (λ wanted. Some (two_inputs wanted (File schedule) Standard))
+
+abbrev on_files_of : (file schedule : Text) → Option Task → Option Wanted
+on_files_of file schedule task = task >>= (λ wanted. Some (two_inputs wanted (File file) (File schedule)))
+
+abbrev on_standard_of : Option Task → Option Wanted
+on_standard_of task = task >>= (λ wanted. Some (one_input wanted Standard))
+
+-- ---- `asm`, `dis` and `steps`
 
 of_asm : (name : Text) → job_said (name ∷ codes "asm" ∷ []) ≡ Some (one_input (Alone Asm) Standard)
 unfolding clap_on_literals job_said
@@ -50,25 +89,19 @@ of_dis : (name : Text) → job_said (name ∷ codes "dis" ∷ []) ≡ Some (one_
 unfolding clap_on_literals job_said
 of_dis name = refl
 
-of_steps : (name : Text) (capacity : Capacity) (rest : List Text) → AsksFor capacity rest
-    → job_said (name ∷ codes "steps" ∷ rest) ≡ Some (one_input (Alone (Machine Steps capacity)) Standard)
-of_steps name capacity rest (inl default) =
-    ap (λ (words : List Text). job_said (name ∷ codes "steps" ∷ words)) default.0 ∙ alone name
-    ∙ ap (λ (c : Capacity). Some (one_input (Alone (Machine Steps c)) Standard)) (sym default.1)
-of_steps name capacity rest (inr (inl blank)) =
-    ap (λ (words : List Text). job_said (name ∷ codes "steps" ∷ words)) blank ∙ with_a_blank name capacity
-of_steps name capacity rest (inr (inr equals)) =
-    ap (λ (words : List Text). job_said (name ∷ codes "steps" ∷ words)) equals ∙ with_an_equals name capacity
+steps_is_command : IsCommand (codes "steps")
+unfolding clap_on_literals
+steps_is_command = (refl, refl)
 
--- ---- words that are no options
+steps_told : (tail : Tail) (t : Text) → said (codes "steps") (tail_of tail t) ≡ on_standard_of (machine_of (capacity_at tail t) (Some Steps))
+unfolding clap_on_literals pieces_fault
+steps_told none t = refl
+steps_told blank t = refl
+steps_told equals t = refl
 
-no_flag : (word : Text) → IsWord word → (bytes_eq word (45 ∷ 45 ∷ []) ≡ false) × (long_of word ≡ None) × (short_of word ≡ None)
-no_flag [] h = (refl, refl, refl)
-no_flag (c ∷ word) h = go (c == 45) refl
-  where
-    go : (b : Bool) → (c == 45) ≡ b → (bytes_eq (c ∷ word) (45 ∷ 45 ∷ []) ≡ false) × (long_of (c ∷ word) ≡ None) × (short_of (c ∷ word) ≡ None)
-    go true e = absurd (h (eqb-true c 45 e))
-    go false e = (rw e refl, rw e refl, rw e refl)
+steps_says : (capacity : Capacity) (found : Option Capacity) → found ≡ Some capacity
+    → on_standard_of (machine_of found (Some Steps)) ≡ Some (one_input (Alone (Machine Steps capacity)) Standard)
+steps_says capacity found a = rw a refl
 
 -- ---- `run`, `replay` and `debug`
 
@@ -87,57 +120,138 @@ work_of running = Run
 work_of replaying = Replay
 work_of debugging = Debug
 
-abbrev wanted_of : OnFiles → (file schedule : Text) → Capacity → Wanted
-wanted_of command file schedule capacity = two_inputs (Alone (Machine (work_of command) capacity)) (File file) (File schedule)
+on_files_is_command : (command : OnFiles) → IsCommand (command_of command)
+unfolding clap_on_literals
+on_files_is_command running = (refl, refl)
+on_files_is_command replaying = (refl, refl)
+on_files_is_command debugging = (refl, refl)
 
-module _ (name file schedule : Text) (f : IsWord file) (s : IsWord schedule) where
-  on_files : (command : OnFiles) → job_said (name ∷ command_of command ∷ file ∷ schedule ∷ []) ≡ Some (wanted_of command file schedule Four)
-  unfolding clap_on_literals job_said
-  on_files running = let a = no_flag file f in let b = no_flag schedule s in rw (a.0, a.1, a.2, b.0, b.1, b.2) refl
-  on_files replaying = let a = no_flag file f in let b = no_flag schedule s in rw (a.0, a.1, a.2, b.0, b.1, b.2) refl
-  on_files debugging = let a = no_flag file f in let b = no_flag schedule s in rw (a.0, a.1, a.2, b.0, b.1, b.2) refl
+on_files_told : (command : OnFiles) (file schedule : Text) (tail : Tail) (t : Text)
+    → said (command_of command) (plain file ∷ plain schedule ∷ tail_of tail t) ≡ on_files_of file schedule (machine_of (capacity_at tail t) (Some (work_of command)))
+unfolding clap_on_literals pieces_fault
+on_files_told running file schedule none t = refl
+on_files_told running file schedule blank t = refl
+on_files_told running file schedule equals t = refl
+on_files_told replaying file schedule none t = refl
+on_files_told replaying file schedule blank t = refl
+on_files_told replaying file schedule equals t = refl
+on_files_told debugging file schedule none t = refl
+on_files_told debugging file schedule blank t = refl
+on_files_told debugging file schedule equals t = refl
 
-  on_files_and_blank : (command : OnFiles) (capacity : Capacity)
-      → job_said (name ∷ command_of command ∷ file ∷ schedule ∷ codes "--buffer" ∷ text_of capacity ∷ []) ≡ Some (wanted_of command file schedule capacity)
-  unfolding clap_on_literals job_said
-  on_files_and_blank running One = let a = no_flag file f in let b = no_flag schedule s in rw (a.0, a.1, a.2, b.0, b.1, b.2) refl
-  on_files_and_blank running Two = let a = no_flag file f in let b = no_flag schedule s in rw (a.0, a.1, a.2, b.0, b.1, b.2) refl
-  on_files_and_blank running Four = let a = no_flag file f in let b = no_flag schedule s in rw (a.0, a.1, a.2, b.0, b.1, b.2) refl
-  on_files_and_blank running Sixteen = let a = no_flag file f in let b = no_flag schedule s in rw (a.0, a.1, a.2, b.0, b.1, b.2) refl
-  on_files_and_blank replaying One = let a = no_flag file f in let b = no_flag schedule s in rw (a.0, a.1, a.2, b.0, b.1, b.2) refl
-  on_files_and_blank replaying Two = let a = no_flag file f in let b = no_flag schedule s in rw (a.0, a.1, a.2, b.0, b.1, b.2) refl
-  on_files_and_blank replaying Four = let a = no_flag file f in let b = no_flag schedule s in rw (a.0, a.1, a.2, b.0, b.1, b.2) refl
-  on_files_and_blank replaying Sixteen = let a = no_flag file f in let b = no_flag schedule s in rw (a.0, a.1, a.2, b.0, b.1, b.2) refl
-  on_files_and_blank debugging One = let a = no_flag file f in let b = no_flag schedule s in rw (a.0, a.1, a.2, b.0, b.1, b.2) refl
-  on_files_and_blank debugging Two = let a = no_flag file f in let b = no_flag schedule s in rw (a.0, a.1, a.2, b.0, b.1, b.2) refl
-  on_files_and_blank debugging Four = let a = no_flag file f in let b = no_flag schedule s in rw (a.0, a.1, a.2, b.0, b.1, b.2) refl
-  on_files_and_blank debugging Sixteen = let a = no_flag file f in let b = no_flag schedule s in rw (a.0, a.1, a.2, b.0, b.1, b.2) refl
+on_files_says : (work : Work) (file schedule : Text) (capacity : Capacity) (found : Option Capacity) → found ≡ Some capacity
+    → on_files_of file schedule (machine_of found (Some work)) ≡ Some (two_inputs (Alone (Machine work capacity)) (File file) (File schedule))
+on_files_says work file schedule capacity found a = rw a refl
 
-  on_files_and_equals : (command : OnFiles) (capacity : Capacity)
-      → job_said (name ∷ command_of command ∷ file ∷ schedule ∷ (codes "--buffer=" ++ text_of capacity) ∷ []) ≡ Some (wanted_of command file schedule capacity)
-  unfolding clap_on_literals job_said
-  on_files_and_equals running One = let a = no_flag file f in let b = no_flag schedule s in rw (a.0, a.1, a.2, b.0, b.1, b.2) refl
-  on_files_and_equals running Two = let a = no_flag file f in let b = no_flag schedule s in rw (a.0, a.1, a.2, b.0, b.1, b.2) refl
-  on_files_and_equals running Four = let a = no_flag file f in let b = no_flag schedule s in rw (a.0, a.1, a.2, b.0, b.1, b.2) refl
-  on_files_and_equals running Sixteen = let a = no_flag file f in let b = no_flag schedule s in rw (a.0, a.1, a.2, b.0, b.1, b.2) refl
-  on_files_and_equals replaying One = let a = no_flag file f in let b = no_flag schedule s in rw (a.0, a.1, a.2, b.0, b.1, b.2) refl
-  on_files_and_equals replaying Two = let a = no_flag file f in let b = no_flag schedule s in rw (a.0, a.1, a.2, b.0, b.1, b.2) refl
-  on_files_and_equals replaying Four = let a = no_flag file f in let b = no_flag schedule s in rw (a.0, a.1, a.2, b.0, b.1, b.2) refl
-  on_files_and_equals replaying Sixteen = let a = no_flag file f in let b = no_flag schedule s in rw (a.0, a.1, a.2, b.0, b.1, b.2) refl
-  on_files_and_equals debugging One = let a = no_flag file f in let b = no_flag schedule s in rw (a.0, a.1, a.2, b.0, b.1, b.2) refl
-  on_files_and_equals debugging Two = let a = no_flag file f in let b = no_flag schedule s in rw (a.0, a.1, a.2, b.0, b.1, b.2) refl
-  on_files_and_equals debugging Four = let a = no_flag file f in let b = no_flag schedule s in rw (a.0, a.1, a.2, b.0, b.1, b.2) refl
-  on_files_and_equals debugging Sixteen = let a = no_flag file f in let b = no_flag schedule s in rw (a.0, a.1, a.2, b.0, b.1, b.2) refl
+of_files : (name : Text) (rest : List Text) (command : OnFiles) (capacity : Capacity) (wanted : Wanted)
+    → IsOnFiles (command_of command) (work_of command) capacity wanted rest → job_said (name ∷ rest) ≡ Some wanted
+of_files name rest command capacity wanted (file, schedule, options, is, f, s, asks, wants) =
+    let to = told capacity options asks in
+    by_pieces name (command_of command) (plain file ∷ plain schedule ∷ tail_of to.tail to.text) rest wanted (on_files_is_command command) (f, (s, to.are))
+    (is ∙ ap (λ (o : List Text). command_of command ∷ file ∷ schedule ∷ o) to.is)
+    (on_files_told command file schedule to.tail to.text ∙ on_files_says (work_of command) file schedule capacity _ to.says ∙ ap (λ (w : Wanted). Some w) (sym wants))
 
-  said_on_files : (command : OnFiles) (capacity : Capacity) (options : List Text) → AsksFor capacity options
-      → job_said (name ∷ command_of command ∷ file ∷ schedule ∷ options) ≡ Some (wanted_of command file schedule capacity)
-  said_on_files command capacity options (inl default) =
-      ap (λ (words : List Text). job_said (name ∷ command_of command ∷ file ∷ schedule ∷ words)) default.0 ∙ on_files command
-      ∙ ap (λ (c : Capacity). Some (wanted_of command file schedule c)) (sym default.1)
-  said_on_files command capacity options (inr (inl blank)) =
-      ap (λ (words : List Text). job_said (name ∷ command_of command ∷ file ∷ schedule ∷ words)) blank ∙ on_files_and_blank command capacity
-  said_on_files command capacity options (inr (inr equals)) =
-      ap (λ (words : List Text). job_said (name ∷ command_of command ∷ file ∷ schedule ∷ words)) equals ∙ on_files_and_equals command capacity
+-- ---- `try`
+
+abbrev try_pieces : (file s n l : Text) → List Piece → List Piece
+try_pieces file s n l tail =
+    plain file ∷ other (codes "--seed") ∷ plain s ∷ other (codes "--runs") ∷ plain n ∷ other (codes "--length") ∷ plain l ∷ tail
+
+try_is_command : IsCommand (codes "try")
+unfolding clap_on_literals
+try_is_command = (refl, refl)
+
+-- what the words of `try` say, by what is said of the capacity
+abbrev tried : (file s n l : Text) → Option Capacity → Option Wanted
+tried file s n l found = on_file_of file (machine_of found (do
+  seed ← number_within 0 18446744073709551615 s
+  runs ← number_within 1 100000 n
+  events ← number_within 0 1048576 l
+  Some (Try seed runs events)))
+
+tried_says : (file s n l : Text) (seed runs events : ℕ) (capacity : Capacity) (found : Option Capacity)
+    → number_within 0 18446744073709551615 s ≡ Some seed → number_within 1 100000 n ≡ Some runs → number_within 0 1048576 l ≡ Some events → found ≡ Some capacity
+    → tried file s n l found ≡ Some (one_input (Alone (Machine (Try seed runs events) capacity)) (File file))
+tried_says file s n l seed runs events capacity found a b c d = rw (a, b, c, d) refl
+
+try_told : (file s n l : Text) (tail : Tail) (t : Text) → said (codes "try") (try_pieces file s n l (tail_of tail t)) ≡ tried file s n l (capacity_at tail t)
+unfolding clap_on_literals pieces_fault
+try_told file s n l none t = refl
+try_told file s n l blank t = refl
+try_told file s n l equals t = refl
+
+-- ---- `channel`
+
+abbrev channel_pieces : (ring : Ring) (number schedule : Text) → List Piece → List Piece
+channel_pieces ring number schedule tail = other (name_of ring) ∷ plain number ∷ plain schedule ∷ tail
+
+channel_is_command : IsCommand (codes "channel")
+unfolding clap_on_literals
+channel_is_command = (refl, refl)
+
+abbrev carried : (ring : Ring) (number schedule : Text) → Option Capacity → Option Wanted
+carried ring number schedule found = on_schedule_of schedule (machine_of found (do
+  slots ← number_within 0 4294967295 number
+  Some (Channel ring slots)))
+
+carried_says : (ring : Ring) (number schedule : Text) (slots : ℕ) (capacity : Capacity) (found : Option Capacity)
+    → number_within 0 4294967295 number ≡ Some slots → found ≡ Some capacity
+    → carried ring number schedule found ≡ Some (two_inputs (Alone (Machine (Channel ring slots) capacity)) (File schedule) Standard)
+carried_says ring number schedule slots capacity found a b = rw (a, b) refl
+
+channel_told : (ring : Ring) (number schedule : Text) (tail : Tail) (t : Text)
+    → said (codes "channel") (channel_pieces ring number schedule (tail_of tail t)) ≡ carried ring number schedule (capacity_at tail t)
+unfolding clap_on_literals pieces_fault
+channel_told Lamport number schedule none t = refl
+channel_told Lamport number schedule blank t = refl
+channel_told Lamport number schedule equals t = refl
+
+-- ---- `threads`
+
+threads_is_command : IsCommand (codes "threads")
+unfolding clap_on_literals
+threads_is_command = (refl, refl)
+
+abbrev threaded : (file : Text) → Option ℕ → Option Capacity → Option Wanted
+threaded file count found = on_file_of file (do
+  turns ← count
+  capacity ← found
+  Some (Threads turns capacity))
+
+threaded_says : (file : Text) (turns : ℕ) (capacity : Capacity) (count : Option ℕ) (found : Option Capacity)
+    → count ≡ Some turns → found ≡ Some capacity → threaded file count found ≡ Some (one_input (Threads turns capacity) (File file))
+threaded_says file turns capacity count found a b = rw (a, b) refl
+
+threads_told : (file : Text) (tail : Tail) (t : Text)
+    → said (codes "threads") (plain file ∷ tail_of tail t) ≡ threaded file (number_within 0 10000000 (codes "100000")) (capacity_at tail t)
+unfolding clap_on_literals pieces_fault
+threads_told file none t = refl
+threads_told file blank t = refl
+threads_told file equals t = refl
+
+threads_counted : (file number : Text) (tail : Tail) (t : Text)
+    → said (codes "threads") (plain file ∷ other (codes "--turns") ∷ plain number ∷ tail_of tail t) ≡ threaded file (number_within 0 10000000 number) (capacity_at tail t)
+unfolding clap_on_literals pieces_fault
+threads_counted file number none t = refl
+threads_counted file number blank t = refl
+threads_counted file number equals t = refl
+
+most_turns : number_within 0 10000000 (codes "100000") ≡ Some 100000
+unfolding number_within
+most_turns = refl
+
+of_threads : (name file : Text) (turns : ℕ) (capacity : Capacity) (first options : List Text) → IsWord file → AsksForTurns turns first → AsksFor capacity options
+    → job_said (name ∷ codes "threads" ∷ file ∷ (first ++ options)) ≡ Some (one_input (Threads turns capacity) (File file))
+of_threads name file turns capacity first options f (inl silent) asks =
+    let to = told capacity options asks in
+    by_pieces name (codes "threads") (plain file ∷ tail_of to.tail to.text) _ _ threads_is_command (f, to.are)
+    (ap₂ (λ (a b : List Text). codes "threads" ∷ file ∷ (a ++ b)) silent.0 to.is)
+    (threads_told file to.tail to.text ∙ threaded_says file turns capacity _ _ (most_turns ∙ ap (λ (k : ℕ). Some k) (sym silent.1)) to.says)
+of_threads name file turns capacity first options f (inr (number, is, says)) asks =
+    let to = told capacity options asks in
+    by_pieces name (codes "threads") (plain file ∷ other (codes "--turns") ∷ plain number ∷ tail_of to.tail to.text) _ _ threads_is_command (f, (says.0, to.are))
+    (ap₂ (λ (a b : List Text). codes "threads" ∷ file ∷ (a ++ b)) is to.is)
+    (threads_counted file number to.tail to.text ∙ threaded_says file turns capacity _ _ says.1 to.says)
 
 -- ---- each task
 
@@ -145,16 +259,24 @@ spelled_of : (name : Text) (rest : List Text) (task : Task) (wanted : Wanted) �
 spelled_of name rest (Alone Asm) wanted (is, wants) = ap (λ (words : List Text). job_said (name ∷ words)) is ∙ of_asm name ∙ ap (λ (w : Wanted). Some w) (sym wants)
 spelled_of name rest (Alone Dis) wanted (is, wants) = ap (λ (words : List Text). job_said (name ∷ words)) is ∙ of_dis name ∙ ap (λ (w : Wanted). Some w) (sym wants)
 spelled_of name rest (Alone (Machine Steps capacity)) wanted (options, is, asks, wants) =
-    ap (λ (words : List Text). job_said (name ∷ words)) is ∙ of_steps name capacity options asks ∙ ap (λ (w : Wanted). Some w) (sym wants)
-spelled_of name rest (Alone (Machine Run capacity)) wanted (file, schedule, options, is, f, s, asks, wants) =
-    ap (λ (words : List Text). job_said (name ∷ words)) is ∙ said_on_files name file schedule f s running capacity options asks ∙ ap (λ (w : Wanted). Some w) (sym wants)
-spelled_of name rest (Alone (Machine Replay capacity)) wanted (file, schedule, options, is, f, s, asks, wants) =
-    ap (λ (words : List Text). job_said (name ∷ words)) is ∙ said_on_files name file schedule f s replaying capacity options asks ∙ ap (λ (w : Wanted). Some w) (sym wants)
-spelled_of name rest (Alone (Machine Debug capacity)) wanted (file, schedule, options, is, f, s, asks, wants) =
-    ap (λ (words : List Text). job_said (name ∷ words)) is ∙ said_on_files name file schedule f s debugging capacity options asks ∙ ap (λ (w : Wanted). Some w) (sym wants)
-spelled_of name rest (Alone (Machine (Try seed runs events) capacity)) wanted t = absurd t
-spelled_of name rest (Alone (Machine (Channel ring slots) capacity)) wanted t = absurd t
-spelled_of name rest (Threads turns capacity) wanted t = absurd t
+    let to = told capacity options asks in
+    by_pieces name (codes "steps") (tail_of to.tail to.text) rest wanted steps_is_command to.are (is ∙ ap (λ (o : List Text). codes "steps" ∷ o) to.is)
+    (steps_told to.tail to.text ∙ steps_says capacity _ to.says ∙ ap (λ (w : Wanted). Some w) (sym wants))
+spelled_of name rest (Alone (Machine Run capacity)) wanted spelling = of_files name rest running capacity wanted spelling
+spelled_of name rest (Alone (Machine Replay capacity)) wanted spelling = of_files name rest replaying capacity wanted spelling
+spelled_of name rest (Alone (Machine Debug capacity)) wanted spelling = of_files name rest debugging capacity wanted spelling
+spelled_of name rest (Alone (Machine (Try seed runs events) capacity)) wanted (file, s, n, l, options, is, f, seed_is, runs_is, events_is, asks, wants) =
+    let to = told capacity options asks in
+    by_pieces name (codes "try") (try_pieces file s n l (tail_of to.tail to.text)) rest wanted try_is_command (f, (seed_is.0, (runs_is.0, (events_is.0, to.are))))
+    (is ∙ ap (λ (o : List Text). codes "try" ∷ file ∷ codes "--seed" ∷ s ∷ codes "--runs" ∷ n ∷ codes "--length" ∷ l ∷ o) to.is)
+    (try_told file s n l to.tail to.text ∙ tried_says file s n l seed runs events capacity _ seed_is.1 runs_is.1 events_is.1 to.says ∙ ap (λ (w : Wanted). Some w) (sym wants))
+spelled_of name rest (Alone (Machine (Channel ring slots) capacity)) wanted (number, schedule, options, is, slots_are, s, asks, wants) =
+    let to = told capacity options asks in
+    by_pieces name (codes "channel") (channel_pieces ring number schedule (tail_of to.tail to.text)) rest wanted channel_is_command (slots_are.0, (s, to.are))
+    (is ∙ ap (λ (o : List Text). codes "channel" ∷ name_of ring ∷ number ∷ schedule ∷ o) to.is)
+    (channel_told ring number schedule to.tail to.text ∙ carried_says ring number schedule slots capacity _ slots_are.1 to.says ∙ ap (λ (w : Wanted). Some w) (sym wants))
+spelled_of name rest (Threads turns capacity) wanted (file, first, options, is, f, turns_are, asks, wants) =
+    ap (λ (words : List Text). job_said (name ∷ words)) is ∙ of_threads name file turns capacity first options f turns_are asks ∙ ap (λ (w : Wanted). Some w) (sym wants)
 
 pub job_said-spelling : (name : Text) (rest : List Text) (wanted : Wanted) → IsSpelling wanted rest
     → job_said (name ∷ rest) ≡ Some wanted

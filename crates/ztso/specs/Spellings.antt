@@ -1,8 +1,10 @@
 -- How a job is written.
-use Rattle.std.specs.Prelude.{◌≡◌, ◌≢◌, ◌⊎◌, ◌++◌, List, [], ◌∷◌, codes}
+use Rattle.std.specs.Prelude.{ℕ, ◌≡◌, ◌≢◌, ◌⊎◌, ◌++◌, List, [], ◌∷◌, Some, codes}
 use Rattle.clap.specs.Words.{Text}
 use Rattle.ztso.specs.declared.job.Capacity.{Capacity}
 use Rattle.ztso.specs.declared.job.Capacity.TheVariants.{One, Two, Four, Sixteen}
+use Rattle.ztso.specs.declared.job.Ring.{Ring}
+use Rattle.ztso.specs.declared.job.Ring.TheVariants.{Lamport}
 use Rattle.ztso.specs.declared.job.Task.{Task}
 use Rattle.ztso.specs.declared.job.Errand.TheVariants.{Asm, Dis, Machine}
 use Rattle.ztso.specs.declared.job.Task.TheVariants.{Alone, Threads}
@@ -10,6 +12,7 @@ use Rattle.ztso.specs.declared.job.Work.{Work}
 use Rattle.ztso.specs.declared.job.Work.TheVariants.{Steps, Run, Replay, Debug, Try, Channel}
 use Rattle.ztso.specs.Jobs.{Wanted, one_input, two_inputs}
 use Rattle.ztso.specs.Jobs.Input.{Standard, File}
+use Rattle.ztso.specs.Numbers.{number_within}
 
 -- the text by which a capacity is asked for
 abbrev pub text_of : Capacity → Text
@@ -30,6 +33,20 @@ AsksFor capacity words =
     ⊎ ((words ≡ codes "--buffer" ∷ text_of capacity ∷ [])
     ⊎ (words ≡ (codes "--buffer=" ++ text_of capacity) ∷ []))
 
+-- the text by which a kind of ring is asked for
+abbrev pub name_of : Ring → Text
+name_of Lamport = codes "lamport"
+
+-- a word that says this number, within these limits
+abbrev pub SaysNumber : (least most number : ℕ) → Text → Type 0
+SaysNumber least most number word = IsWord word × (number_within least most word ≡ Some number)
+
+-- nothing, which asks for 100,000 turns, or `--turns` and their number
+abbrev pub AsksForTurns : ℕ → List Text → Type 0
+AsksForTurns turns words =
+    ((words ≡ []) × (turns ≡ 100000))
+    ⊎ ((said : Text) × (words ≡ codes "--turns" ∷ said ∷ []) × SaysNumber 0 10000000 turns said)
+
 -- a command on two files
 abbrev pub IsOnFiles : (command : Text) → Work → Capacity → Wanted → List Text → Type 0
 IsOnFiles command work capacity wanted words =
@@ -38,7 +55,8 @@ IsOnFiles command work capacity wanted words =
     × (wanted ≡ two_inputs (Alone (Machine work capacity)) (File file) (File schedule))
 
 -- The words after the program's name that ask for this task, by the task: the table's rows. Options may
--- also stand in other places, which isn't said here, and nothing is said of how `try` and `channel` are written.
+-- also stand in other places, and those of `try` and `threads` be written with an equals sign, which isn't
+-- said here.
 abbrev pub IsSpellingOf : Task → Wanted → List Text → Type 0
 IsSpellingOf (Alone Asm) wanted words = (words ≡ codes "asm" ∷ []) × (wanted ≡ one_input (Alone Asm) Standard)
 IsSpellingOf (Alone Dis) wanted words = (words ≡ codes "dis" ∷ []) × (wanted ≡ one_input (Alone Dis) Standard)
@@ -48,9 +66,19 @@ IsSpellingOf (Alone (Machine Steps capacity)) wanted words =
 IsSpellingOf (Alone (Machine Run capacity)) wanted words = IsOnFiles (codes "run") Run capacity wanted words
 IsSpellingOf (Alone (Machine Replay capacity)) wanted words = IsOnFiles (codes "replay") Replay capacity wanted words
 IsSpellingOf (Alone (Machine Debug capacity)) wanted words = IsOnFiles (codes "debug") Debug capacity wanted words
-IsSpellingOf (Alone (Machine (Try seed runs events) capacity)) wanted words = ⊥
-IsSpellingOf (Alone (Machine (Channel ring slots) capacity)) wanted words = ⊥
-IsSpellingOf (Threads turns capacity) wanted words = ⊥
+IsSpellingOf (Alone (Machine (Try seed runs events) capacity)) wanted words =
+    (file s n l : Text) × (options : List Text)
+    × (words ≡ codes "try" ∷ file ∷ codes "--seed" ∷ s ∷ codes "--runs" ∷ n ∷ codes "--length" ∷ l ∷ options)
+    × IsWord file × SaysNumber 0 18446744073709551615 seed s × SaysNumber 1 100000 runs n × SaysNumber 0 1048576 events l
+    × AsksFor capacity options × (wanted ≡ one_input (Alone (Machine (Try seed runs events) capacity)) (File file))
+IsSpellingOf (Alone (Machine (Channel ring slots) capacity)) wanted words =
+    (said schedule : Text) × (options : List Text) × (words ≡ codes "channel" ∷ name_of ring ∷ said ∷ schedule ∷ options)
+    × SaysNumber 0 4294967295 slots said × IsWord schedule × AsksFor capacity options
+    × (wanted ≡ two_inputs (Alone (Machine (Channel ring slots) capacity)) (File schedule) Standard)
+IsSpellingOf (Threads turns capacity) wanted words =
+    (file : Text) × (first options : List Text) × (words ≡ codes "threads" ∷ file ∷ (first ++ options))
+    × IsWord file × AsksForTurns turns first × AsksFor capacity options
+    × (wanted ≡ one_input (Threads turns capacity) (File file))
 
 abbrev pub IsSpelling : Wanted → List Text → Type 0
 IsSpelling wanted words = IsSpellingOf wanted.task wanted words
