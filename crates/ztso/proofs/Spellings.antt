@@ -8,7 +8,7 @@ use Rattle.ztso.specs.CommandLines.{Answers, capacity_said, job_said, ◌>>=◌}
 use Rattle.ztso.specs.Numbers.{number_within}
 use Rattle.ztso.specs.Spellings.{AsksFor, AsksForTurns, IsOnFiles, IsSpelling, IsSpellingOf, IsWord, name_of, text_of}
 use Rattle.ztso.specs.declared.job.Ring.{Ring}
-use Rattle.ztso.specs.declared.job.Ring.TheVariants.{Lamport}
+use Rattle.ztso.specs.declared.job.Ring.TheVariants.{Lamport, FastForward}
 use Rattle.ztso.specs.declared.job.Task.{Task}
 use Rattle.ztso.specs.declared.failure.Failure.{Failure}
 use Rattle.ztso.specs.declared.job.Capacity.{Capacity}
@@ -205,6 +205,9 @@ unfolding clap_on_literals pieces_fault
 channel_told Lamport number schedule none t = refl
 channel_told Lamport number schedule blank t = refl
 channel_told Lamport number schedule equals t = refl
+channel_told FastForward number schedule none t = refl
+channel_told FastForward number schedule blank t = refl
+channel_told FastForward number schedule equals t = refl
 
 -- ---- `threads`
 

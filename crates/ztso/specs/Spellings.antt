@@ -4,7 +4,7 @@ use Rattle.clap.specs.Words.{Text}
 use Rattle.ztso.specs.declared.job.Capacity.{Capacity}
 use Rattle.ztso.specs.declared.job.Capacity.TheVariants.{One, Two, Four, Sixteen}
 use Rattle.ztso.specs.declared.job.Ring.{Ring}
-use Rattle.ztso.specs.declared.job.Ring.TheVariants.{Lamport}
+use Rattle.ztso.specs.declared.job.Ring.TheVariants.{Lamport, FastForward}
 use Rattle.ztso.specs.declared.job.Task.{Task}
 use Rattle.ztso.specs.declared.job.Errand.TheVariants.{Asm, Dis, Machine}
 use Rattle.ztso.specs.declared.job.Task.TheVariants.{Alone, Threads}
@@ -36,6 +36,7 @@ AsksFor capacity words =
 -- the text by which a kind of ring is asked for
 abbrev pub name_of : Ring → Text
 name_of Lamport = codes "lamport"
+name_of FastForward = codes "fastforward"
 
 -- a word that says this number, within these limits
 abbrev pub SaysNumber : (least most number : ℕ) → Text → Type 0
