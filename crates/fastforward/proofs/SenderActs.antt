@@ -6,10 +6,10 @@ use Rattle.std.proofs.lemmas.Bool.{cases_eq}
 use Rattle.hart.specs.State.{HartState}
 use Rattle.hart.specs.Steps.{need_of, advanced}
 use Rattle.hart.specs.declared.status.Status.TheVariants as status
-use Rattle.poll_close.specs.Invariant.Blocks.{Block, slot, window}
+use Rattle.poll_close.specs.Invariant.Blocks.{Block, slot}
 use Rattle.poll_close.proofs.Acts.{stored_by, IsNoAmo}
 use Rattle.poll_close.proofs.Lines.{loads}
-use Rattle.poll_close.proofs.Windows.{newest_to, newest_none, Each-range, newest_at}
+use Rattle.poll_close.proofs.Windows.{newest_none, Each-range, newest_at}
 use Rattle.poll_close.proofs.Blocks.{IsBlock, IsWordOf, slot_of}
 use Rattle.poll_close.proofs.BlockLaws.{found_in, Sends}
 use Rattle.fastforward.specs.FastForward.{fastforward_blocks}
@@ -31,26 +31,21 @@ module _ (k : Block) (is : IsBlock k) (n : Numbers) (order : Ordered k n) (word 
       here : place ≡ slot k.size k.base n.ln
       here = ap (slot k.size k.base) round ∙ slot_again k.size k.base n.ln
 
+      -- no mark is made, so all that is pending are words
       first : gone n ≡ n.ls
       first = omega (arith, order.km_m, unmarked)
 
-      last : sent n ≡ n.made.p
-      last = omega (arith, unmarked)
-
-      plain : pending_of k n ≡ window (sender_stores k.size k.base k.list) n.ls n.made.p
-      plain = ap (λ i. window (sender_stores k.size k.base k.list) i (sent n)) first ∙ ap (window (sender_stores k.size k.base k.list) n.ls) last
-
-      elsewhere : (t : ℕ) (x : ℕ × ℕ) → n.ln < t → t < n.made.p → slice_get (sender_stores k.size k.base k.list) t ≡ Some x → x.0 ≢ place
-      elsewhere t x above below got same = slots_apart k.size k.base t n.made.p is.some_slot below (omega (arith, above, round)) (sym (word_at k.size k.base k.list t x got (omega (arith, below, more))) ∙ same)
+      elsewhere : (t : ℕ) (x : ℕ × ℕ) → n.ln < t → t < sent n → slice_get (sender_stores k.size k.base k.list) t ≡ Some x → x.0 ≢ place
+      elsewhere t x above below got same =
+          let before : t < n.made.p = omega (arith, below, unmarked) in
+          slots_apart k.size k.base t n.made.p is.some_slot before (omega (arith, above, round)) (sym (word_at k.size k.base k.list t x got (omega (arith, before, more))) ∙ same)
 
       at : (n.ls ≡ n.ln) ⊎ (n.ls ≢ n.ln) → found_in (pending_of k n) word place ≡ slice_index k.list n.ln
       at (inl none) =
           let store : slice_get (sender_stores k.size k.base k.list) n.ln ≡ Some (place, slice_index k.list n.ln) = store_word k.size k.base k.list n.ln n.ln (omega (arith, more, round)) refl ∙ ap (λ a. Some (a, slice_index k.list n.ln)) (sym here) in
-          ap (λ ps. unwrap_or (newest_to place None ps) (word place)) plain
-          ∙ ap (λ o. unwrap_or o (word place)) (newest_at (sender_stores k.size k.base k.list) n.ls n.ln n.made.p place (slice_index k.list n.ln) (omega (arith, none)) (omega (arith, round, is.some_slot)) store elsewhere)
+          ap (λ o. unwrap_or o (word place)) (newest_at (sender_stores k.size k.base k.list) (gone n) n.ln (sent n) place (slice_index k.list n.ln) (omega (arith, none, first)) (omega (arith, round, is.some_slot)) store elsewhere)
       at (inr some) =
-          ap (λ ps. unwrap_or (newest_to place None ps) (word place)) plain
-          ∙ ap (λ o. unwrap_or o (word place)) (newest_none place None (window (sender_stores k.size k.base k.list) n.ls n.made.p) (Each-range (λ x. x.0 ≢ place) (sender_stores k.size k.base k.list) n.ls n.made.p (λ t x from below got. elsewhere t x (omega (arith, from, some, order.ln_u, order.u_ls)) below got)))
+          ap (λ o. unwrap_or o (word place)) (newest_none place None (pending_of k n) (Each-range (λ x. x.0 ≢ place) (sender_stores k.size k.base k.list) (gone n) (sent n) (λ t x from below got. elsewhere t x (omega (arith, from, first, some, order.ln_u, order.u_ls)) below got)))
           ∙ ap word here ∙ words.full n.ln (omega arith) (omega (arith, some, order.ln_u, order.u_ls))
 
   -- so what it finds is a word, which is not 0, or the slot is free

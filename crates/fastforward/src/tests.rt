@@ -1,4 +1,5 @@
-//! The listing against the tables, and channels over this ring with their reports worked out by hand.
+//! The listing against the tables, and channels over this ring with what they report, worked out apart
+//! from the program.
 
 ghost use Rattle.std.specs.Prelude.{◌≤◌};
 

@@ -8,14 +8,15 @@ use Rattle.fastforward.specs.Invariant.Numbers.{Numbers}
 abbrev pub middle : Middle
 middle = record { at_14 = 0x00842383; at_18 = 0x00740E33; at_1C = 0x010E2583; at_20 = 0x02058463; at_24 = 0x000E2823 }
 
--- the null of the word that it takes is stored, and its tail is not; else each null has its tail
+-- each null has its tail
 abbrev pub Level : Numbers → Type 0
 Level n = n.u ≡ n.c
 
+-- the null of a word is stored, and its tail is not
 abbrev pub Filled : Block → Numbers → Type 0
 Filled k n = n.u ≡ n.c + 1
 
--- the receiver's nulls are its own, and words only land
+-- only the receiver stores nulls, and more words land
 abbrev pub Later : Numbers → Numbers → Type 0
 Later n new = (new.u ≡ n.u) × (n.ls ≤ new.ls)
 
@@ -27,7 +28,7 @@ Flagged n r = (r.x30 ≡ 0) ⊎ ((r.x30 ≡ 1) × (n.km ≡ 1))
 abbrev pub Loaded : Block → Numbers → Noted → Type 0
 Loaded k n r = (n.c < n.ls) × (r.x11 ≡ slice_index k.list n.c)
 
--- its slot was empty; where the mark was there, all is taken
+-- its slot held 0; where the mark was there before, all is taken
 abbrev pub Empty : Block → Numbers → Noted → Type 0
 Empty k n r = (r.x11 ≡ 0) × ((r.x30 ≡ 0) ⊎ (n.c ≡ length k.list))
 
