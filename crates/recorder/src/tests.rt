@@ -130,17 +130,14 @@ impl NextWord<u32> for Counting {
 impl Rng for Counting {
     ghost stream = { stream_of (steps_u32 (λ number. (number, (number + 1) % 2 ^ 32))) };
 
-    #[tactic(auto, using(rand_core::proofs::StepsLemmas::meets_next_u32))]
     fn next_u32(&mut self) -> u32 {
         self.next_word()
     }
 
-    #[tactic(auto, using(rand_core::proofs::StepsLemmas::meets_next_u64))]
     fn next_u64(&mut self) -> u64 {
         utils::next_u64_via_u32(self)
     }
 
-    #[tactic(auto, using(rand_core::proofs::StepsLemmas::meets_fill_bytes))]
     fn fill_bytes(&mut self, dst: &mut [u8]) {
         utils::fill_bytes_via_u32(self, dst)
     }
