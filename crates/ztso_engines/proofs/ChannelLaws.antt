@@ -1,7 +1,6 @@
 -- What answers a schedule and lists of words.
-use Rattle.std.proofs.Common.{◌≡◌, ℕ, List, [], refl, map, Result, Ok, Err, inl, inr}
+use Rattle.std.proofs.Common.{◌≡◌, ℕ, List, [], refl, Result, Ok, Err, inl, inr}
 use Rattle.std.specs.Prelude.{Option, Some, None}
-use Rattle.std.specs.Global.{Vec}
 use Rattle.step_machine.specs.declared.events.Event.{Event}
 use Rattle.poll_close.specs.Laws.{Ring}
 use Rattle.poll_close.specs.Refusals.{Refuses}

@@ -1,5 +1,5 @@
 -- Words written in hex, a line each, and read again.
-use Rattle.std.proofs.Common.{◌≡◌, ℕ, zero, suc, ◌-◌, ◌^◌, ◌<◌, ◌≤◌, Bool, true, false, eqb, ltb, List, [], ◌∷◌, ◌++◌, length, get_or, refl, ap, ◌∙◌, arith, append_assoc, ◌+◌, ◌*◌, ◌/◌, ◌%◌, inl, inr, length-append}
+use Rattle.std.proofs.Common.{◌≡◌, ℕ, zero, suc, ◌-◌, ◌^◌, ◌<◌, ◌≤◌, Bool, false, eqb, ltb, List, [], ◌∷◌, ◌++◌, length, get_or, refl, ap, ◌∙◌, arith, append_assoc, ◌+◌, ◌*◌, ◌/◌, ◌%◌, inl, inr, length-append}
 use Rattle.std.specs.List.{All, AllByRecursion, flat_map, filter, slice_split}
 use Rattle.std.specs.Char.{digit_value}
 use Rattle.std.specs.Str.Lines.{lines, lines_of_parts}

@@ -1,13 +1,11 @@
 -- What answers an input is one answer.
-use Rattle.std.proofs.Common.{◌≡◌, ℕ, ◌*◌, ◌<◌, ◌≤◌, Bool, true, false, cond, ltb, List, [], ◌++◌, length, Option, Some, Result, Ok, Err, refl, sym, ap, ◌∙◌, subst, arith, inl, inr}
-use Rattle.std.specs.Prelude.{slice_index}
-use Rattle.std.specs.List.{flat_map, slice_index_or}
+use Rattle.std.proofs.Common.{◌≡◌, ℕ, ◌*◌, Bool, true, false, cond, ltb, List, [], ◌++◌, length, Option, Some, Result, Ok, Err, refl, sym, ap, ◌∙◌, subst, arith, inl, inr}
+use Rattle.std.specs.List.{flat_map}
 use Rattle.std.specs.Result.{IsErr}
 use Rattle.std.specs.Str.{is_utf8}
 use Rattle.std.proofs.lemmas.Bool.{le-ltb, lt-ltb}
 use Rattle.rand_core.specs.Stream.{Stream}
 use Rattle.rv_decode.specs.declared.instruction.Instr.{Instr}
-use Rattle.hart.specs.declared.need.Report.{Report}
 use Rattle.step_machine.specs.History.{History, unrun}
 use Rattle.step_machine.specs.Entries.{reported}
 use Rattle.step_machine.specs.declared.events.Event.{Event}
@@ -54,7 +52,7 @@ use Rattle.ztso_engines.specs.Replay.{IsReplay, IsReplayAnswer}
 use Rattle.ztso_engines.specs.Talks.{IsDebugAnswer, IsTalk}
 use Rattle.ztso_engines.specs.Outcomes.{IsTriedOf, IsTryAnswer}
 use Rattle.ztso_engines.specs.Lists.{SaysLists, lists_at}
-use Rattle.ztso_engines.specs.Channels.{HasNoChannel, IsChannelAnswer, IsDelivery, IsNoLists, report_line, told_as}
+use Rattle.ztso_engines.specs.Channels.{IsChannelAnswer, IsDelivery, IsNoLists, report_line, told_as}
 use Rattle.ztso_engines.proofs.Judging.{accepted_judged, judged_text}
 use Rattle.ztso_engines.proofs.Telling.{text_read, one_told}
 use Rattle.ztso_engines.proofs.CodeTexts.{code_read, one_code}

@@ -1,8 +1,8 @@
 -- What a user's lines print is one text.
-use Rattle.std.proofs.Common.{◌≡◌, ℕ, ◌+◌, ◌-◌, Bool, true, false, List, [], ◌∷◌, ◌++◌, length, drop, Option, None, Some, refl, sym, ap, subst, ◌∙◌, arith}
+use Rattle.std.proofs.Common.{◌≡◌, ℕ, ◌+◌, ◌-◌, Bool, true, false, List, [], ◌∷◌, ◌++◌, length, drop, Option, None, Some, sym, ap, subst, ◌∙◌, arith}
 use Rattle.std.specs.Prelude.{MatchOption, MatchBool, nat_lt, position, remove}
 use Rattle.std.specs.List.{slice_get}
-use Rattle.step_machine.specs.History.{Start, History, unrun}
+use Rattle.step_machine.specs.History.{History, unrun}
 use Rattle.step_machine.specs.declared.events.Event.{Event}
 use Rattle.step_machine.specs.declared.events.Outcome.{Outcome}
 use Rattle.step_machine.proofs.Running.{happens-one, run-one}
@@ -13,7 +13,7 @@ use Rattle.ztso_engines.specs.declared.debug.command.Command.TheVariants as comm
 use Rattle.ztso_engines.specs.declared.walk.Source.{Source}
 use Rattle.ztso_engines.specs.declared.walk.Source.TheVariants.{Schedule, User}
 use Rattle.texts.specs.Cutting.{words}
-use Rattle.ztso_engines.specs.Sessions.{Past, GoesOn, GoesBack, without_last}
+use Rattle.ztso_engines.specs.Sessions.{Past, without_last}
 use Rattle.ztso_engines.specs.Walks.{Way, Walks, WalksBack, scheduled, set_out}
 use Rattle.ztso_engines.specs.Commands.{asked}
 use Rattle.ztso_engines.specs.DebugText.{outcome_line, end_line, break_line, unknown_line}

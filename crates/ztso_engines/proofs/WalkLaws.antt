@@ -1,6 +1,6 @@
 -- Walks: what came from the schedule is the schedule's up to its place.
-use Rattle.std.proofs.Common.{◌≡◌, ℕ, zero, suc, ◌+◌, ◌-◌, ◌≤◌, ◌<◌, List, [], ◌∷◌, ◌++◌, length, take, drop, min, get_or, Option, Some, refl, sym, ap, subst, ◌∙◌, arith, length-append, length-drop}
-use Rattle.std.specs.List.{slice_get, count_by}
+use Rattle.std.proofs.Common.{◌≡◌, ℕ, zero, suc, ◌+◌, ◌-◌, ◌≤◌, ◌<◌, List, [], ◌∷◌, ◌++◌, length, take, drop, min, get_or, Some, refl, sym, ap, ◌∙◌, arith, length-append}
+use Rattle.std.specs.List.{slice_get}
 use Rattle.std.proofs.lemmas.List.{take_more, take-take, length-take, append-nil}
 use Rattle.std.proofs.lemmas.List.Sums.{sum_by-append, sum_by-take-drop}
 use Rattle.std.proofs.lemmas.Option.{slice_get_within, get_or_from_slice_get}

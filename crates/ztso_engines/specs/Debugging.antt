@@ -12,7 +12,6 @@ use Rattle.ztso_engines.specs.declared.debug.command.Command.{Command}
 use Rattle.ztso_engines.specs.declared.debug.command.Command.TheVariants as command
 use Rattle.ztso_engines.specs.declared.walk.Source.{Source}
 use Rattle.ztso_engines.specs.declared.walk.Source.TheVariants.{Schedule, User}
-use Rattle.ztso_engines.specs.Sessions.{Past}
 use Rattle.ztso_engines.specs.Walks.{Way, Walks, WalksBack}
 use Rattle.ztso_engines.specs.StateText.{hart_shown}
 use Rattle.ztso_engines.specs.DebugText.{outcome_line, end_line, break_line, number_line, store_lines, unknown_line}
