@@ -16,4 +16,5 @@ pub mod AllBlocks
 pub mod ReceiverActs
 pub mod ChannelLaws
 pub mod Standing
+pub mod Planning
 pub mod ZeroWords

@@ -5,4 +5,5 @@ pub mod Laws
 pub mod Delivery
 pub mod Refusals
 pub mod Standing
+pub mod Plans
 pub mod Invariant
