@@ -17,4 +17,5 @@ pub mod ReceiverActs
 pub mod ChannelLaws
 pub mod Standing
 pub mod Planning
+pub mod Distance
 pub mod ZeroWords
