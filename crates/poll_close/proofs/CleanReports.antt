@@ -21,7 +21,7 @@ get_last (z ∷ xs) x y (suc k) is =
       | inr b ↦ inr (omega (arith, b.0), b.1)
     ]
 
-get_front : (xs ys : List Report) (k : ℕ) (x : Report) → slice_get xs k ≡ Some x → slice_get (xs ++ ys) k ≡ Some x
+pub get_front : (xs ys : List Report) (k : ℕ) (x : Report) → slice_get xs k ≡ Some x → slice_get (xs ++ ys) k ≡ Some x
 get_front [] ys k x is = cc
 get_front (z ∷ xs) ys zero x is = is
 get_front (z ∷ xs) ys (suc k) x is = get_front xs ys k x is

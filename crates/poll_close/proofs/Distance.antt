@@ -92,7 +92,7 @@ module _ (rs : List Report) (n : ℕ) where
       omega (arith, first, last)
 
 -- one act at a place, with the block that it visits
-module _ (m : BlockMeaning) (code : List ℕ) (laws : BlockLaws m code) (p : Pace) (least : ℕ) (prog : BlockProgress m p least) (k : Block) (is : IsBlock k) (i count : ℕ) (base : k.base ≡ i * block_size k.size) (known : i < count) (few : count ≤ 63) (n : m.Count) (order : m.Ordered k n) (word_at : ℕ → ℕ) (words : m.Words k n word_at) (r : Noted) (v : ℕ) (sh E : Bool) (shut_is : m.shut n ≢ 0 → sh ≡ true) (marked : E ≡ true → m.marks n ≡ 1) (ready : E ≡ false → prog.Ready k n) (rest start : ℕ) (off : 40 ≤ rest) where
+module _ (m : BlockMeaning) (code : List ℕ) (laws : BlockLaws m code) (p : Pace) (least : ℕ) (prog : BlockProgress m p least) (k : Block) (is : IsBlock k) (i count : ℕ) (base : k.base ≡ i * block_size k.size) (known : i < count) (few : count ≤ 63) (n : m.Count) (order : m.Ordered k n) (word_at : ℕ → ℕ) (words : m.Words k n word_at) (r : Noted) (v : ℕ) (sh E : Bool) (shut_is : r.x22 ≡ i → m.shut n ≢ 0 → sh ≡ true) (marked : r.x22 ≡ i → E ≡ true → m.marks n ≡ 1) (ready : r.x22 ≡ i → E ≡ false → prog.Ready k n) (rest start : ℕ) (off : 40 ≤ rest) where
   abbrev Fell : ReceiverPlace → ℕ → Type 0
   Fell here T = Falls p (receives m.middle (whole_of k count) here r) (advanced (receives m.middle (whole_of k count) here r) v) T k.size sh E rest start
 
@@ -111,7 +111,7 @@ module _ (m : BlockMeaning) (code : List ℕ) (laws : BlockLaws m code) (p : Pac
   falls_0C T h =
       elim (cases_eq r.x5 0) [
         | inl none ↦ goes R0C R10 T r ((line_0C-same m.middle (whole_of k count) r none).leaves v) (record { block = refl; nearer = at sh })
-        | inr some ↦ goes R0C R68 T r ((line_0C-other m.middle (whole_of k count) r some).leaves v) (record { block = refl; nearer = (let on : sh ≡ true = shut_is (λ zero_is. some (h.2 ∙ sym h.0.closed ∙ zero_is)) in rw on (omega arith)) })
+        | inr some ↦ goes R0C R68 T r ((line_0C-other m.middle (whole_of k count) r some).leaves v) (record { block = refl; nearer = (let on : sh ≡ true = shut_is h.1.index (λ zero_is. some (h.2 ∙ sym h.0.closed ∙ zero_is)) in rw on (omega arith)) })
       ]
     where
       at : (b : Bool) → 20 + 0 * rest + 0 * start < (if b then 16 + rest else 21)
@@ -121,7 +121,7 @@ module _ (m : BlockMeaning) (code : List ℕ) (laws : BlockLaws m code) (p : Pac
   falls_10 : (T : ℕ) → ReceiverIs m k i R10 n r → v ≡ seen_at m k n word_at (k.base + 4) → Fell R10 T
   falls_10 T h seen =
       let read : v ≡ m.marks n = seen ∙ laws.sees_mark k n word_at order words in
-      let new : p.stale (receiving m.middle (whole_of k count) 0x14 (record r { x30 = v })) T k.size E ≡ false = prog.fresh (whole_of k count) (record r { x30 = v }) T k.size E (λ on. read ∙ marked on) in
+      let new : p.stale (receiving m.middle (whole_of k count) 0x14 (record r { x30 = v })) T k.size E ≡ false = prog.fresh (whole_of k count) (record r { x30 = v }) T k.size E (λ on. read ∙ marked h.visits.index on) in
       goes R10 R14 T (record r { x30 = v }) ((line_10 m.middle (whole_of k count) r (omega (arith, is.even, h.visits.base)) (omega (arith, is.inside, is.some_slot, h.visits.base)) is.small).leaves v) (record { block = refl; nearer = rw new (omega arith) })
 
   falls_28 : (T : ℕ) → ReceiverIs m k i R28 n r → Fell R28 T
@@ -191,40 +191,40 @@ module _ (m : BlockMeaning) (code : List ℕ) (laws : BlockLaws m code) (p : Pac
   Tells here = (x : Report) × (need_of (receives m.middle (whole_of k count) here r) ≡ need.Report x) × (sender_of x ≡ i)
 
   -- wherever it stands, but where it comes to another block
-  pub falls_on : (here : ReceiverPlace) → here ≢ R04 → here ≢ R70 → (T : ℕ) → (m.took n ≡ m.tails n → T ≡ m.took n) → Finds m k count here n word_at r v → due here < r.x20 → r.x20 ≤ 64 → ReceiverIs m k i here n r → Tells here ⊎ Fell here T
-  falls_on R00 a b T took find owing small h = inr (falls_00 T h)
-  falls_on R04 a b T took find owing small h = absurd (a refl)
-  falls_on R08 a b T took find owing small h = inr (falls_08 T h)
-  falls_on R0C a b T took find owing small h = inr (falls_0C T h)
-  falls_on R10 a b T took find owing small h = inr (falls_10 T h (find (k.base + 4) (word_of k is 4 (omega arith) refl) ((line_10 m.middle (whole_of k count) r (omega (arith, is.even, h.visits.base)) (omega (arith, is.inside, is.some_slot, h.visits.base)) is.small).wants ∙ ap (λ b. loads (b + 4)) h.visits.base)))
-  falls_on R14 a b T took find owing small h = inr (subst (λ (z : ℕ). Fell R14 z) (sym (took h.0.quiet.words)) (prog.near_14 k i count n word_at r v sh E rest start is order words find h ready off))
-  falls_on R18 a b T took find owing small h = inr (subst (λ (z : ℕ). Fell R18 z) (sym (took h.0.quiet.words)) (prog.near_18 k i count n word_at r v sh E rest start is order words find h ready off))
-  falls_on R1C a b T took find owing small h = inr (subst (λ (z : ℕ). Fell R1C z) (sym (took h.0.quiet.words)) (prog.near_1C k i count n word_at r v sh E rest start is order words find h ready off))
-  falls_on R20 a b T took find owing small h = inr (subst (λ (z : ℕ). Fell R20 z) (sym (took h.0.quiet.words)) (prog.near_20 k i count n word_at r v sh E rest start is order words find h ready off))
-  falls_on R24 a b T took find owing small h = inr (subst (λ (z : ℕ). Fell R24 z) (sym (took h.0.quiet.words)) (prog.near_24 k i count n word_at r v sh E rest start is order words find h ready off))
-  falls_on R28 a b T took find owing small h = inr (falls_28 T h)
-  falls_on R2C a b T took find owing small h = inr (falls_2C T h)
-  falls_on R30 a b T took find owing small h = inr (falls_30 T h)
-  falls_on R34 a b T took find owing small h = inr (falls_34 T h)
-  falls_on R38 a b T took find owing small h = inr (falls_38 T h)
-  falls_on R3C a b T took find owing small h = inr (falls_3C T h)
-  falls_on R40 a b T took find owing small h = inl (report.Took r.x10 r.x11, (line_40 m.middle (whole_of k count) r h.2).wants, h.1)
-  falls_on R44 a b T took find owing small h = inr (falls_44 T h)
-  falls_on R48 a b T took find owing small h = inr (falls_48 T h)
-  falls_on R4C a b T took find owing small h = inr (falls_4C T h)
-  falls_on R50 a b T took find owing small h = inr (falls_50 T h)
-  falls_on R54 a b T took find owing small h = inr (falls_54 T h)
-  falls_on R58 a b T took find owing small h = inr (falls_58 T h)
-  falls_on R5C a b T took find owing small h = inl (report.Closed r.x10, (line_5C m.middle (whole_of k count) r h.2).wants, h.1)
-  falls_on R60 a b T took find owing small h = inr (falls_60 T (r.x20 - 1) (omega (arith, owing)) small)
-  falls_on R64 a b T took find owing small h = inr (falls_64 T owing)
-  falls_on R68 a b T took find owing small h = inr (falls_68 T h)
-  falls_on R6C a b T took find owing small h = inr (falls_6C T h)
-  falls_on R70 a b T took find owing small h = absurd (b refl)
-  falls_on R74 a b T took find owing small h = inr (falls_74 T h)
-  falls_on R78 a b T took find owing small h = absurd (omega (arith, owing, h.1))
-  falls_on R7C a b T took find owing small h = absurd (omega (arith, owing, h.2))
-  falls_on ROver a b T took find owing small h = absurd (omega (arith, owing, h.1))
+  pub falls_on : (here : ReceiverPlace) → (T : ℕ) → (r.x22 ≡ i → m.took n ≡ m.tails n → T ≡ m.took n) → Finds m k count here n word_at r v → due here < r.x20 → r.x20 ≤ 64 → ReceiverIs m k i here n r → Tells here ⊎ (Fell here T ⊎ ((here ≡ R04) ⊎ (here ≡ R70)))
+  falls_on R00 T took find owing small h = inr (inl (falls_00 T h))
+  falls_on R04 T took find owing small h = inr (inr (inl refl))
+  falls_on R08 T took find owing small h = inr (inl (falls_08 T h))
+  falls_on R0C T took find owing small h = inr (inl (falls_0C T h))
+  falls_on R10 T took find owing small h = inr (inl (falls_10 T h (find (k.base + 4) (word_of k is 4 (omega arith) refl) ((line_10 m.middle (whole_of k count) r (omega (arith, is.even, h.visits.base)) (omega (arith, is.inside, is.some_slot, h.visits.base)) is.small).wants ∙ ap (λ b. loads (b + 4)) h.visits.base))))
+  falls_on R14 T took find owing small h = inr (inl (subst (λ (z : ℕ). Fell R14 z) (sym (took h.0.visits.index h.0.quiet.words)) (prog.near_14 k i count n word_at r v sh E rest start is order words find h (ready h.0.visits.index) off)))
+  falls_on R18 T took find owing small h = inr (inl (subst (λ (z : ℕ). Fell R18 z) (sym (took h.0.visits.index h.0.quiet.words)) (prog.near_18 k i count n word_at r v sh E rest start is order words find h (ready h.0.visits.index) off)))
+  falls_on R1C T took find owing small h = inr (inl (subst (λ (z : ℕ). Fell R1C z) (sym (took h.0.visits.index h.0.quiet.words)) (prog.near_1C k i count n word_at r v sh E rest start is order words find h (ready h.0.visits.index) off)))
+  falls_on R20 T took find owing small h = inr (inl (subst (λ (z : ℕ). Fell R20 z) (sym (took h.0.visits.index h.0.quiet.words)) (prog.near_20 k i count n word_at r v sh E rest start is order words find h (ready h.0.visits.index) off)))
+  falls_on R24 T took find owing small h = inr (inl (subst (λ (z : ℕ). Fell R24 z) (sym (took h.0.visits.index h.0.quiet.words)) (prog.near_24 k i count n word_at r v sh E rest start is order words find h (ready h.0.visits.index) off)))
+  falls_on R28 T took find owing small h = inr (inl (falls_28 T h))
+  falls_on R2C T took find owing small h = inr (inl (falls_2C T h))
+  falls_on R30 T took find owing small h = inr (inl (falls_30 T h))
+  falls_on R34 T took find owing small h = inr (inl (falls_34 T h))
+  falls_on R38 T took find owing small h = inr (inl (falls_38 T h))
+  falls_on R3C T took find owing small h = inr (inl (falls_3C T h))
+  falls_on R40 T took find owing small h = inl (report.Took r.x10 r.x11, (line_40 m.middle (whole_of k count) r h.2).wants, h.1)
+  falls_on R44 T took find owing small h = inr (inl (falls_44 T h))
+  falls_on R48 T took find owing small h = inr (inl (falls_48 T h))
+  falls_on R4C T took find owing small h = inr (inl (falls_4C T h))
+  falls_on R50 T took find owing small h = inr (inl (falls_50 T h))
+  falls_on R54 T took find owing small h = inr (inl (falls_54 T h))
+  falls_on R58 T took find owing small h = inr (inl (falls_58 T h))
+  falls_on R5C T took find owing small h = inl (report.Closed r.x10, (line_5C m.middle (whole_of k count) r h.2).wants, h.1)
+  falls_on R60 T took find owing small h = inr (inl (falls_60 T (r.x20 - 1) (omega (arith, owing)) small))
+  falls_on R64 T took find owing small h = inr (inl (falls_64 T owing))
+  falls_on R68 T took find owing small h = inr (inl (falls_68 T h))
+  falls_on R6C T took find owing small h = inr (inl (falls_6C T h))
+  falls_on R70 T took find owing small h = inr (inr (inr refl))
+  falls_on R74 T took find owing small h = inr (inl (falls_74 T h))
+  falls_on R78 T took find owing small h = absurd (omega (arith, owing, h.1))
+  falls_on R7C T took find owing small h = absurd (omega (arith, owing, h.2))
+  falls_on ROver T took find owing small h = absurd (omega (arith, owing, h.1))
 
 -- and where it comes to another block, or to the end of a round
 module _ (p : Pace) (mid : Middle) (k : Block) (i count : ℕ) (base : k.base ≡ i * block_size k.size) (known : i < count) (size : ℕ) (rs : List Report) (states : ℕ → Option HartState) (r : Noted) (v : ℕ) where
@@ -311,3 +311,111 @@ module _ (p : Pace) (mid : Middle) (f : Whole) (r : Noted) (T size : ℕ) (sh E 
   far_most R78 = omega arith
   far_most R7C = omega arith
   far_most ROver = omega arith
+
+-- at each place but 70 the block that it visits is in x22
+pub visited_at : (mid : Middle) (f : Whole) (r : Noted) (here : ReceiverPlace) → (here ≡ R70) ⊎ (visited_by (receives mid f here r) ≡ r.x22)
+visited_at mid f r R00 = inr refl
+visited_at mid f r R04 = inr refl
+visited_at mid f r R08 = inr refl
+visited_at mid f r R0C = inr refl
+visited_at mid f r R10 = inr refl
+visited_at mid f r R14 = inr refl
+visited_at mid f r R18 = inr refl
+visited_at mid f r R1C = inr refl
+visited_at mid f r R20 = inr refl
+visited_at mid f r R24 = inr refl
+visited_at mid f r R28 = inr refl
+visited_at mid f r R2C = inr refl
+visited_at mid f r R30 = inr refl
+visited_at mid f r R34 = inr refl
+visited_at mid f r R38 = inr refl
+visited_at mid f r R3C = inr refl
+visited_at mid f r R40 = inr refl
+visited_at mid f r R44 = inr refl
+visited_at mid f r R48 = inr refl
+visited_at mid f r R4C = inr refl
+visited_at mid f r R50 = inr refl
+visited_at mid f r R54 = inr refl
+visited_at mid f r R58 = inr refl
+visited_at mid f r R5C = inr refl
+visited_at mid f r R60 = inr refl
+visited_at mid f r R64 = inr refl
+visited_at mid f r R68 = inr refl
+visited_at mid f r R6C = inr refl
+visited_at mid f r R70 = inl refl
+visited_at mid f r R74 = inr refl
+visited_at mid f r R78 = inr refl
+visited_at mid f r R7C = inr refl
+visited_at mid f r ROver = inr refl
+
+-- it runs as long as some sender is not counted, and reports a sender closed once at most
+module _ (m : BlockMeaning) (code : List ℕ) (laws : BlockLaws m code) (k : Block) (i : ℕ) (f : Whole) (n : m.Count) (order : m.Ordered k n) (r : Noted) where
+  pub running_at : (here : ReceiverPlace) → due here < r.x20 → ReceiverIs m k i here n r → (receives m.middle f here r).status ≡ status.Running
+  running_at R00 owing h = refl
+  running_at R04 owing h = refl
+  running_at R08 owing h = refl
+  running_at R0C owing h = refl
+  running_at R10 owing h = refl
+  running_at R14 owing h = refl
+  running_at R18 owing h = refl
+  running_at R1C owing h = refl
+  running_at R20 owing h = refl
+  running_at R24 owing h = refl
+  running_at R28 owing h = refl
+  running_at R2C owing h = refl
+  running_at R30 owing h = refl
+  running_at R34 owing h = refl
+  running_at R38 owing h = refl
+  running_at R3C owing h = refl
+  running_at R40 owing h = refl
+  running_at R44 owing h = refl
+  running_at R48 owing h = refl
+  running_at R4C owing h = refl
+  running_at R50 owing h = refl
+  running_at R54 owing h = refl
+  running_at R58 owing h = refl
+  running_at R5C owing h = refl
+  running_at R60 owing h = refl
+  running_at R64 owing h = refl
+  running_at R68 owing h = refl
+  running_at R6C owing h = refl
+  running_at R70 owing h = refl
+  running_at R74 owing h = refl
+  running_at R78 owing h = refl
+  running_at R7C owing h = refl
+  running_at ROver owing h = absurd (omega (arith, owing, h.1))
+
+  pub shut_one : (here : ReceiverPlace) → ReceiverIs m k i here n r → m.shut n ≤ 1
+  shut_one R00 h = omega (arith, h.closed, laws.dones_one k n order)
+  shut_one R04 h = omega (arith, h.0.closed, laws.dones_one k n order)
+  shut_one R08 h = omega (arith, h.0.closed, laws.dones_one k n order)
+  shut_one R0C h = omega (arith, h.0.closed, laws.dones_one k n order)
+  shut_one R10 h = omega (arith, h.quiet.closed, laws.dones_one k n order)
+  shut_one R14 h = omega (arith, h.0.quiet.closed, laws.dones_one k n order)
+  shut_one R18 h = omega (arith, h.0.quiet.closed, laws.dones_one k n order)
+  shut_one R1C h = omega (arith, h.0.quiet.closed, laws.dones_one k n order)
+  shut_one R20 h = omega (arith, h.0.quiet.closed, laws.dones_one k n order)
+  shut_one R24 h = omega (arith, h.0.quiet.closed, laws.dones_one k n order)
+  shut_one R28 h = omega (arith, h.0.closed, laws.dones_one k n order)
+  shut_one R2C h = omega (arith, h.0.closed, laws.dones_one k n order)
+  shut_one R30 h = omega (arith, h.0.closed, laws.dones_one k n order)
+  shut_one R34 h = omega (arith, h.0.closed, laws.dones_one k n order)
+  shut_one R38 h = omega (arith, h.closed, laws.dones_one k n order)
+  shut_one R3C h = omega (arith, h.0.closed, laws.dones_one k n order)
+  shut_one R40 h = omega (arith, h.0.closed, laws.dones_one k n order)
+  shut_one R44 h = omega (arith, h.0.closed, laws.dones_one k n order)
+  shut_one R48 h = omega (arith, h.0.quiet.closed, laws.dones_one k n order)
+  shut_one R4C h = omega (arith, h.0.quiet.closed, laws.dones_one k n order)
+  shut_one R50 h = omega (arith, h.0.quiet.closed, laws.dones_one k n order)
+  shut_one R54 h = omega (arith, h.unsaid)
+  shut_one R58 h = omega (arith, h.0.unsaid)
+  shut_one R5C h = omega (arith, h.0.unsaid)
+  shut_one R60 h = omega (arith, h.0.closed, laws.dones_one k n order)
+  shut_one R64 h = omega (arith, h.0.closed, laws.dones_one k n order)
+  shut_one R68 h = omega (arith, h.0.closed, laws.dones_one k n order)
+  shut_one R6C h = omega (arith, h.0.closed, laws.dones_one k n order)
+  shut_one R70 h = omega (arith, h.0.closed, laws.dones_one k n order)
+  shut_one R74 h = omega (arith, h.closed, laws.dones_one k n order)
+  shut_one R78 h = omega (arith, h.0.closed, laws.dones_one k n order)
+  shut_one R7C h = omega (arith, h.0.closed, laws.dones_one k n order)
+  shut_one ROver h = omega (arith, h.0.closed, laws.dones_one k n order)

@@ -18,4 +18,5 @@ pub mod ChannelLaws
 pub mod Standing
 pub mod Planning
 pub mod Distance
+pub mod Progress
 pub mod ZeroWords

@@ -11,7 +11,8 @@ use Rattle.step_machine.specs.declared.events.Event.TheVariants as event
 use Rattle.step_machine.specs.declared.events.Entry.{Entry}
 use Rattle.step_machine.specs.declared.events.Entry.TheVariants as entry
 use Rattle.step_machine.specs.History.{HartStart, Start, History, with_entry}
-use Rattle.step_machine.specs.Entries.{pending, reported, memory_word}
+use Rattle.step_machine.specs.Entries.{pending, reported}
+use Rattle.step_machine.specs.WordReads.{word_in_memory}
 use Rattle.step_machine.specs.Paths.{state_of}
 use Rattle.step_machine.specs.Runs.{IsFor, CanFollow, NoEntry, RunFrom}
 use Rattle.poll_close.specs.Laws.{Ring, Meaning}
@@ -148,7 +149,7 @@ ready_if p word None = false
 ready_if p word (Some s) = is_running s.status && not (p.waits s word)
 
 abbrev pub is_ready : Pace → ℕ → History → ℕ → Bool
-is_ready p M t h = ready_if p (λ a. memory_word t.opening t.entries a) (state_of M t h)
+is_ready p M t h = ready_if p (word_in_memory t.opening t.entries) (state_of M t h)
 
 -- the last of the first so many senders that is ready, or the receiver
 abbrev pub next_of : (ℕ → Bool) → ℕ → ℕ
