@@ -1,4 +1,5 @@
 pub mod Listing
 pub mod Means
 pub mod FastForward
+pub mod Pace
 pub mod Invariant

@@ -1,18 +1,27 @@
 -- What a plan needs of one block of Lamport's ring.
-use Rattle.std.proofs.Common.{ℕ, zero, suc, ◌+◌, ◌-◌, ◌*◌, ◌%◌, ◌<◌, ◌≤◌, ◌≡◌, ◌≢◌, ◌==◌, ◌⊎◌, inl, inr, Bool, true, false, ◌&&◌, if◌then◌else◌, List, [], ◌∷◌, length, drop, take, min, length-drop, length-take, Some, None, refl, sym, ◌∙◌, ap, subst, arith, drop-cons, lit≤}
-use Rattle.std.specs.Prelude.{slice_index}
+use Rattle.std.proofs.Common.{ℕ, zero, suc, ◌+◌, ◌-◌, ◌*◌, ◌%◌, ◌<◌, ◌≤◌, ◌≡◌, ◌≢◌, ◌==◌, ◌⊎◌, inl, inr, Bool, true, false, ◌&&◌, if◌then◌else◌, List, [], ◌∷◌, length, drop, take, min, length-drop, length-take, Option, Some, None, not, ◌^◌, refl, sym, ◌∙◌, ap, subst, arith, drop-cons, lit≤}
+use Rattle.std.specs.Prelude.{slice_index, option_map}
 use Rattle.std.proofs.Math.ListN.{drop_of_length-le}
 use Rattle.std.proofs.lemmas.Bool.{cases_lt, cases_eq}
 use Rattle.std.proofs.lemmas.Bool.Decides.{nat_tests}
 use Rattle.std.proofs.lemmas.Nat.{mod_below}
 use Rattle.hart.specs.State.{HartState}
 use Rattle.hart.specs.Steps.{need_of, advanced}
+use Rattle.hart.specs.declared.status.Status.{Status}
 use Rattle.hart.specs.declared.status.Status.TheVariants as status
 use Rattle.hart.specs.declared.need.Need.TheVariants as need
-use Rattle.poll_close.specs.Plans.{Nears, is_running, runs, left_by, next_by}
-use Rattle.poll_close.specs.Invariant.Blocks.{Block, offset, slot, window}
+use Rattle.poll_close.specs.Plans.{Nears, is_running, runs, left_by, next_by, ready_if, is_ready}
+use Rattle.poll_close.specs.Invariant.Blocks.{Block, block_of, offset, slot, window}
 use Rattle.poll_close.specs.Invariant.ReceiverState.{Noted, Whole, whole_of, receiving}
 use Rattle.poll_close.specs.Invariant.ReceiverPlaces.{R14, R18, R1C, R20, R24}
+use Rattle.poll_close.specs.Standing.{Stands}
+use Rattle.step_machine.specs.History.{Start, History}
+use Rattle.step_machine.specs.Entries.{memory_word}
+use Rattle.step_machine.specs.Paths.{state_of}
+use Rattle.step_machine.specs.WordReads.{OpensWithWords, word_in_memory}
+use Rattle.step_machine.proofs.WordReads.{memory-word}
+use Rattle.poll_close.proofs.Delivering.{senders-length}
+use Rattle.poll_close.proofs.ChannelLaws.{blocks}
 use Rattle.poll_close.proofs.Lines.{Line, loads}
 use Rattle.poll_close.proofs.Modulo.{same_offset}
 use Rattle.poll_close.proofs.Blocks.{IsBlock, IsWordOf, offset_low, first_of, word_of, slot_of}
@@ -281,3 +290,71 @@ lamport-progress = record {
 
 pub lamport-nears : Nears lamport lamport_means (left_by lamport_pace) (next_by lamport_pace)
 lamport-nears = nears lamport_blocks sender_code lamport-laws 2 (lit≤ tt) lamport_pace lamport-progress
+
+-- what a call knows of a sender's hart
+pub record Sender (M : ℕ) (t : History) (h : ℕ) : Type 0 where
+  pub block : Block
+  pub is : IsBlock block
+  pub words : block.words ≡ M
+  pub state : HartState
+  pub at : state_of M t h ≡ Some state
+  pub base : slice_index state.registers 8 ≡ block.base
+  pub memory : (a : ℕ) → a % 4 ≡ 0 → memory_word t.opening t.entries a ≡ word_in_memory t.opening t.entries a
+
+base_at : (k : Block) (n : Numbers) (r : Written) (here : SenderPlace) → slice_index (stands k here n.made r).registers 8 ≡ k.base
+base_at k n r P00 = refl
+base_at k n r P04 = refl
+base_at k n r P08 = refl
+base_at k n r P0C = refl
+base_at k n r P10 = refl
+base_at k n r P14 = refl
+base_at k n r P18 = refl
+base_at k n r P1C = refl
+base_at k n r P20 = refl
+base_at k n r P24 = refl
+base_at k n r P28 = refl
+base_at k n r P2C = refl
+base_at k n r P30 = refl
+base_at k n r P34 = refl
+base_at k n r P38 = refl
+base_at k n r P3C = refl
+base_at k n r P40 = refl
+base_at k n r Over = refl
+
+pub sender_at : (B M : ℕ) (t : History) (h : ℕ) → Stands lamport lamport_means B M t → 1 ≤ h → h < length t.opening.harts → Sender M t h
+sender_at B M t h st some less =
+    let harts : length t.opening.harts ≡ suc (length st.opens.lists) = ap (λ (o : Start). length o.harts) st.opens.opening ∙ ap (λ n. suc n) (senders-length sender_code st.opens.size 0 st.opens.lists) in
+    let within : h - 1 < length st.opens.lists = omega (arith, harts, less, some) in
+    let same : h - 1 + 1 ≡ h = omega (arith, some) in
+    let k : Block = block_of M st.opens.size st.opens.lists (h - 1) in
+    let part = st.meant.parts (h - 1) within in
+    record {
+      block = block_of M st.opens.size st.opens.lists (h - 1);
+      is = blocks lamport M st.opens.size st.opens.lists (lit≤ tt) st.opens.accepted (h - 1) within;
+      words = refl;
+      state = part.sender.stands;
+      at = ap (state_of M t) (sym same) ∙ part.sender.state;
+      base = ap (λ (z : HartState). slice_index z.registers 8) part.sender.holds.is ∙ base_at (block_of M st.opens.size st.opens.lists (h - 1)) (st.meant.numbers (h - 1)) part.sender.holds.written part.sender.holds.place;
+      memory = λ a aligned. memory-word t.opening t.entries a (subst OpensWithWords (sym st.opens.opening) (λ i. omega arith)) st.meant.written aligned;
+    }
+
+pub value_is : {A : Type 0} (f : HartState → A) (o : Option HartState) (s : HartState) (v : A) → o ≡ Some s → option_map f o ≡ Some v → v ≡ f s
+value_is f o s v is at = let both : Some (f s) ≡ Some v = sym (ap (option_map f) is) ∙ at in let one : f s ≡ v = cc in sym one
+
+-- the tail's address
+pub address : (M : ℕ) (t : History) (h : ℕ) (d : Sender M t h) (v : ℕ) → option_map (λ (s : HartState). slice_index s.registers 8) (state_of M t h) ≡ Some v → (v + 8 < 2 ^ 32) × ((v + 8) % 4 ≡ 0) × (v + 8 < 4 * M)
+address M t h d v at =
+    let same : v ≡ d.block.base = value_is (λ (s : HartState). slice_index s.registers 8) (state_of M t h) d.state v d.at at ∙ d.base in
+    (omega (arith, same, d.is.inside, d.is.small, d.is.some_slot), omega (arith, same, d.is.even), omega (arith, same, d.is.inside, d.words, d.is.some_slot))
+
+ready_of : (word : ℕ → ℕ) (o : Option HartState) (s : HartState) (w x : ℕ) → o ≡ Some s → s.status ≡ status.Running → s.pc ≡ 0x18 → w ≡ word (slice_index s.registers 8 + 8) → x ≡ slice_index s.registers 6 → not (w == x) ≡ ready_if lamport_pace word o
+ready_of word o s w x is run at one two = rw (is, run, at, one, two) refl
+
+pub ready_is : (M : ℕ) (t : History) (h : ℕ) (d : Sender M t h) (stat : Status) (pc a w x : ℕ) → option_map (λ (s : HartState). s.status) (state_of M t h) ≡ Some stat → stat ≡ status.Running → option_map (λ (s : HartState). s.pc) (state_of M t h) ≡ Some pc → pc ≡ 0x18 → option_map (λ (s : HartState). slice_index s.registers 8) (state_of M t h) ≡ Some a → w ≡ memory_word t.opening t.entries (a + 8) → option_map (λ (s : HartState). slice_index s.registers 6) (state_of M t h) ≡ Some x → not (w == x) ≡ is_ready lamport_pace M t h
+ready_is M t h d stat pc a w x stat_at run pc_at at a_at w_is x_at =
+    let place : a ≡ slice_index d.state.registers 8 = value_is (λ (s : HartState). slice_index s.registers 8) (state_of M t h) d.state a d.at a_at in
+    ready_of (word_in_memory t.opening t.entries) (state_of M t h) d.state w x d.at
+    (sym (value_is (λ (s : HartState). s.status) (state_of M t h) d.state stat d.at stat_at) ∙ run)
+    (sym (value_is (λ (s : HartState). s.pc) (state_of M t h) d.state pc d.at pc_at) ∙ at)
+    (w_is ∙ d.memory (a + 8) (address M t h d a a_at).1 ∙ ap (λ z. word_in_memory t.opening t.entries (z + 8)) place)
+    (value_is (λ (s : HartState). slice_index s.registers 6) (state_of M t h) d.state x d.at x_at)
