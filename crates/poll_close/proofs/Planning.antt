@@ -7,10 +7,10 @@ use Rattle.step_machine.specs.declared.events.Event.TheVariants as event
 use Rattle.step_machine.specs.declared.events.Entry.{Entry}
 use Rattle.step_machine.specs.declared.events.Entry.TheVariants as entry
 use Rattle.step_machine.specs.declared.events.Outcome.{Outcome}
-use Rattle.step_machine.specs.History.{History, with_entry}
+use Rattle.step_machine.specs.History.{Start, History, unrun, with_entry}
 use Rattle.step_machine.specs.Entries.{hart_of, is_land, pending, reported, store_of, land_of}
 use Rattle.step_machine.specs.Legal.{Kept}
-use Rattle.step_machine.specs.Runs.{IsFor, CanFollow, Happens, RunFrom}
+use Rattle.step_machine.specs.Runs.{IsFor, CanFollow, Happens, RunFrom, IsOwnRun, event_of}
 use Rattle.step_machine.proofs.Running.{shape_of, kept-happens, RunFrom-more, run-one}
 use Rattle.step_machine.proofs.Follows.{land_follows, Legal-last}
 use Rattle.step_machine.proofs.Balanced.{balanced}
@@ -20,6 +20,7 @@ use Rattle.memory.specs.declared.writes.Write.{Write}
 use Rattle.memory.specs.Writes.{write}
 use Rattle.hart.specs.declared.need.Report.{Report}
 use Rattle.hart.specs.declared.need.Report.TheVariants as report
+use Rattle.std.specs.Prelude.{map}
 use Rattle.std.specs.List.{slice_get, slice_index_or}
 use Rattle.poll_close.specs.Laws.{Ring, Meaning, Keeps, Cleans}
 use Rattle.poll_close.specs.Reports.{taken, Clean}
@@ -228,3 +229,7 @@ turn_quiet ring means left B M start evs t mid h all turn none = record {
     planned = turn.planned;
     all = all_again t mid h turn.same all turn.stepped.others (no_length (pending h mid.entries) none);
   }
+
+-- what ran the events of a history's own entries is that history
+pub same_run : (B M : ℕ) (t new : History) (o : Start) (evs : List Event) → IsOwnRun B M t → o ≡ t.opening → evs ≡ map event_of t.entries → RunFrom B M (unrun o) evs new → new ≡ t
+same_run B M t new o evs own opening events run = run-one B M (unrun t.opening) (map event_of t.entries) new t (subst (λ (es : List Event). RunFrom B M (unrun t.opening) es new) events (subst (λ (p : Start). RunFrom B M (unrun p) evs new) opening run)) own
