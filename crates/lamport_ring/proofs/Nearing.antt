@@ -137,7 +137,6 @@ module _ (k : Block) (is : IsBlock k) (n : Numbers) (r : Written) (v : ℕ) (ord
   less word P40 run room find h = goes P40 (ended (fixed k) r inbox) ((line_40 (fixed k) r inbox h.1).leaves v) (omega arith)
   less word Over run room find h = cc
 
-
 nearer : (k : Block) (n : Numbers) (s : HartState) (word : ℕ → ℕ) (v : ℕ) → IsBlock k → Ordered k n → Words k n word → Standing k n s → s.status ≡ status.Running → pending_of k n ≡ [] → unread_of k n ≡ [] → ((a : ℕ) → IsWordOf k a → need_of s ≡ loads a → v ≡ word a) → waits s word ≡ false → sender_left (advanced s v) < sender_left s
 nearer k n s word v is order words st runs none empty find room = at s st.is runs room (λ wants. find (k.base + 8) (word_of k is 8 (omega arith) refl) wants)
   where

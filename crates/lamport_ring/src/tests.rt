@@ -158,7 +158,10 @@ fn finished<const B: usize>(
 fn an_empty_list_is_closed(rt: HostRuntime) -> Result<(), Fail> {
     let steps = [(Event::Act(1), 7), (Event::Act(0), 18)];
     let channel = finished::<4>(rt.alloc(), &[], &steps)?;
-    assert_eq!(rt; channel.reports(), [Report::Closed { sender: 0 }].as_slice());
+    assert_eq!(rt;
+        channel.reports(),
+        [Report::Closed { sender: 0 }].as_slice()
+    );
     Ok(())
 }
 

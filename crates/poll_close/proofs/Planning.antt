@@ -92,10 +92,10 @@ module _ (ring : Ring) (means : Meaning) (B M : ℕ) where
 
   pub planned-more : (start : History) (evs : List Event) (t : History) (ev : Event) (o : Outcome) (new : History) → Keeps ring means → Planned ring means B M start evs t → Happens B M t ev o new → Planned ring means B M start (evs ++ ev ∷ []) new
   planned-more start evs t ev o new keeps p h = record {
-      run = RunFrom-more B M start evs t ev o new p.run h;
-      stands = stands-happens ring means B M t ev o new keeps p.stands h;
-      harts = same_harts t ev o new h ∙ p.harts;
-    }
+    run = RunFrom-more B M start evs t ev o new p.run h;
+    stands = stands-happens ring means B M t ev o new keeps p.stands h;
+    harts = same_harts t ev o new h ∙ p.harts;
+  }
 
   pub planned-done : (start : History) (evs : List Event) (t : History) → Cleans ring means → Planned ring means B M start evs t → is_done t ≡ true → Finishes B M start evs
   planned-done start evs t cleans p done new run = subst Finished (run-one B M start evs t new p.run run) (finished ring means B M t cleans p.stands done)
@@ -225,10 +225,10 @@ turn_over ring means left B M start evs t mid h o new keeps all turn some hap =
 
 pub turn_quiet : (ring : Ring) (means : Meaning) (left : ℕ → History → ℕ) (B M : ℕ) (start : History) (evs : List Event) (t mid : History) (h : ℕ) → AllLanded t → Turned ring means B M (left M) start evs t mid h → length (pending h mid.entries) < 1 → Over ring means B M (left M) start evs t mid
 turn_quiet ring means left B M start evs t mid h all turn none = record {
-    less = turn.stepped.less;
-    planned = turn.planned;
-    all = all_again t mid h turn.same all turn.stepped.others (no_length (pending h mid.entries) none);
-  }
+  less = turn.stepped.less;
+  planned = turn.planned;
+  all = all_again t mid h turn.same all turn.stepped.others (no_length (pending h mid.entries) none);
+}
 
 -- what ran the events of a history's own entries is that history
 pub same_run : (B M : ℕ) (t new : History) (o : Start) (evs : List Event) → IsOwnRun B M t → o ≡ t.opening → evs ≡ map event_of t.entries → RunFrom B M (unrun o) evs new → new ≡ t

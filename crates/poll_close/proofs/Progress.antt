@@ -220,10 +220,13 @@ next_is ready (suc n) = at (ready (suc n)) refl (next_is ready n)
   where
     at : (b : Bool) → ready (suc n) ≡ b → ((next_of ready n ≡ 0) × ((i : ℕ) → i < n → ready (i + 1) ≡ false)) ⊎ ((j : ℕ) × (j < n) × (next_of ready n ≡ j + 1) × (ready (j + 1) ≡ true)) → (((if b then suc n else next_of ready n) ≡ 0) × ((i : ℕ) → i < suc n → ready (i + 1) ≡ false)) ⊎ ((j : ℕ) × (j < suc n) × ((if b then suc n else next_of ready n) ≡ j + 1) × (ready (j + 1) ≡ true))
     at true is below = inr (n, omega arith, sym (add-one n), ap ready (add-one n) ∙ is)
-    at false is (inl none) = inl (none.0, λ i less. elim (cases_eq i n) [
-      | inl same ↦ ap ready (ap (λ j. j + 1) same ∙ add-one n) ∙ is
-      | inr other ↦ none.1 i (omega (arith, other, less))
-    ])
+    at false is (inl none) = inl (
+      none.0,
+      λ i less. elim (cases_eq i n) [
+        | inl same ↦ ap ready (ap (λ j. j + 1) same ∙ add-one n) ∙ is
+        | inr other ↦ none.1 i (omega (arith, other, less))
+      ],
+    )
     at false is (inr some) = inr (some.0, (let less : some.0 < n = some.1 in omega arith), some.2, some.3)
 
 -- a running hart with nothing pending can act

@@ -16,9 +16,10 @@ loop-machine-smaller g c =
 pub loop-machine-preserved : goal.loop-machine-preserved
 loop-machine-preserved g c =
     let p = c.loop-machine.invariant.0 in
-    let less = lands_one g.row.B g.row.M c.loop-machine.machine.history c.loop-hart.hart c.in_ok-step.field-0 c.step.new.self.history p.stands.kept (omega (arith, p.harts, c.harts-hart-end.ensures, c.loop-hart-test.true)) (let some : 0 < length (pending c.loop-hart.hart c.loop-machine.machine.history.entries) = grind (arith, nat_tests, c.is_empty.ensures, c.pending.ensures, c.loop-machine-test.true) in some) c.in_ok-step.ensures.happens in
-    (subst (λ evs. Planned g.K.RingKind.ring g.K.RingKind.meaning g.row.B g.row.M c.args.machine.now.history evs c.step.new.self.history) (sym c.in_ok-push.ensures.items) (planned-more g.K.RingKind.ring g.K.RingKind.meaning g.row.B g.row.M c.args.machine.now.history c.loop-machine.plan.items c.loop-machine.machine.history _ c.in_ok-step.field-0 c.step.new.self.history c.laws.ensures.keeps p c.in_ok-step.ensures.happens),
-     λ k below. less.others k (omega arith) ∙ c.loop-machine.invariant.1 k below)
+    let less = lands_one g.row.B g.row.M c.loop-machine.machine.history c.loop-hart.hart c.in_ok-step.field-0 c.step.new.self.history p.stands.kept (omega (arith, p.harts, c.harts-hart-end.ensures, c.loop-hart-test.true)) (let some : 0 < length (pending c.loop-hart.hart c.loop-machine.machine.history.entries) = grind (arith, nat_tests, c.is_empty.ensures, c.pending.ensures, c.loop-machine-test.true) in some) c.in_ok-step.ensures.happens in (
+      subst (λ evs. Planned g.K.RingKind.ring g.K.RingKind.meaning g.row.B g.row.M c.args.machine.now.history evs c.step.new.self.history) (sym c.in_ok-push.ensures.items) (planned-more g.K.RingKind.ring g.K.RingKind.meaning g.row.B g.row.M c.args.machine.now.history c.loop-machine.plan.items c.loop-machine.machine.history _ c.in_ok-step.field-0 c.step.new.self.history c.laws.ensures.keeps p c.in_ok-step.ensures.happens),
+      λ k below. less.others k (omega arith) ∙ c.loop-machine.invariant.1 k below,
+    )
 
 pub pending-requires-in-loop-machine-2 : goal.pending-requires-in-loop-machine-2
 pending-requires-in-loop-machine-2 g c =
@@ -53,6 +54,6 @@ returns-then-is_finished-clause-finishes g c = planned-done g.K.RingKind.ring g.
 
 pub returns : goal.returns
 returns g c = record {
-    finishes = planned-done g.K.RingKind.ring g.K.RingKind.meaning g.row.B g.row.M c.args.machine.now.history c.loop-machine-2.plan.items c.loop-machine-2.machine.history c.laws.ensures.cleans c.loop-machine-2.invariant.0 (let done : is_done c.loop-machine-2.machine.history ≡ true = cc in done);
-    none = λ done. (let bad : true ≡ false = sym done ∙ sym c.is_finished.ensures ∙ c.if-is_finished.false in cc);
-  }
+  finishes = planned-done g.K.RingKind.ring g.K.RingKind.meaning g.row.B g.row.M c.args.machine.now.history c.loop-machine-2.plan.items c.loop-machine-2.machine.history c.laws.ensures.cleans c.loop-machine-2.invariant.0 (let done : is_done c.loop-machine-2.machine.history ≡ true = cc in done);
+  none = λ done. (let bad : true ≡ false = sym done ∙ sym c.is_finished.ensures ∙ c.if-is_finished.false in cc);
+}
