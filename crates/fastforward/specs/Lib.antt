@@ -1,3 +1,4 @@
 pub mod Listing
 pub mod FastForward
+pub mod Pace
 pub mod Invariant

@@ -1,3 +1,4 @@
 pub mod Listing
 pub mod Lamport
+pub mod Pace
 pub mod Invariant

@@ -16,4 +16,7 @@ pub mod AllBlocks
 pub mod ReceiverActs
 pub mod ChannelLaws
 pub mod Standing
+pub mod Planning
+pub mod Distance
+pub mod Progress
 pub mod ZeroWords

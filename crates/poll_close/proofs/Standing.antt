@@ -15,7 +15,7 @@ use Rattle.poll_close.specs.Reports.{Clean}
 use Rattle.poll_close.specs.Standing.{Stands, lists_of}
 use Rattle.poll_close.proofs.Delivering.{Known, known-happens, known-run}
 
-inboxes : (code : List ℕ) (S i : ℕ) (lists : List (List ℕ)) → map (λ (h : HartStart). h.inbox) (senders_from code S i lists) ≡ lists
+pub inboxes : (code : List ℕ) (S i : ℕ) (lists : List (List ℕ)) → map (λ (h : HartStart). h.inbox) (senders_from code S i lists) ≡ lists
 inboxes code S i [] = refl
 inboxes code S i (ws ∷ lists) = ap (λ rest. ws ∷ rest) (inboxes code S (i + 1) lists)
 
