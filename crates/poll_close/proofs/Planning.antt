@@ -11,7 +11,7 @@ use Rattle.std.proofs.lemmas.List.{length-map, length-drop}
 use Rattle.step_machine.specs.History.{HartStart, Start, History, unrun, with_entry}
 use Rattle.step_machine.specs.Entries.{hart_of, is_land, pending, reported, store_of, land_of}
 use Rattle.step_machine.specs.Legal.{Kept}
-use Rattle.step_machine.specs.Runs.{IsFor, CanFollow, Happens, RunFrom, IsOwnRun, event_of}
+use Rattle.step_machine.specs.Runs.{IsFor, CanFollow, Happens, Run, RunFrom, IsOwnRun, event_of}
 use Rattle.step_machine.proofs.Running.{shape_of, kept-happens, RunFrom-more, run-one}
 use Rattle.step_machine.proofs.Follows.{land_follows, Legal-last}
 use Rattle.step_machine.proofs.Balanced.{balanced}
@@ -26,7 +26,10 @@ use Rattle.std.specs.List.{slice_get, slice_index_or}
 use Rattle.poll_close.specs.Laws.{Ring, Meaning, Keeps, Cleans}
 use Rattle.poll_close.specs.Reports.{taken, Clean}
 use Rattle.poll_close.specs.Standing.{Stands, lists_of}
-use Rattle.poll_close.proofs.Standing.{stands-happens, stands-clean}
+use Rattle.poll_close.proofs.Standing.{inboxes, stands-happens, stands-clean}
+use Rattle.poll_close.specs.Layout.{opening_of}
+use Rattle.poll_close.specs.Delivery.{DeliversWhole}
+use Rattle.poll_close.proofs.Delivering.{senders-length}
 use Rattle.poll_close.proofs.CleanReports.{closed_whole}
 use Rattle.poll_close.specs.Plans.{AllLanded, Nearer, Nears, Finished, Finishes, is_closed, all_closed, ends_in_word, is_done, senders_of}
 
@@ -247,7 +250,7 @@ last_is (report.Took j w ∷ []) x is = let same : report.Took j w ≡ x = cc in
 last_is (report.Closed j ∷ []) x is = let same : report.Closed j ≡ x = cc in ap is_word same
 last_is (r ∷ s ∷ rs) x is = last_is (s ∷ rs) x is
 
-word_last : (rs : List Report) → ends_in_word rs ≡ true → (k i w : ℕ) × (k + 1 ≡ length rs) × (slice_get rs k ≡ Some (report.Took i w))
+word_last : (rs : List Report) → ends_in_word rs ≡ true → (k : ℕ) × (i : ℕ) × (w : ℕ) × (k + 1 ≡ length rs) × (slice_get rs k ≡ Some (report.Took i w))
 word_last [] is = cc
 word_last (report.Took j w ∷ []) is = (0, j, w, refl, refl)
 word_last (report.Closed j ∷ []) is = cc
@@ -278,3 +281,22 @@ open_where_word ring means B M t cleans s word = at (is_done t) refl
           | inl same ↦ let both : Some (report.Closed last.1) ≡ Some (report.Took last.1 last.2) = sym shut.1 ∙ ap (slice_get (reported 0 t.entries)) same ∙ last.4 in cc
           | inr other ↦ absurd (clean.no_more last.1 shut.0 last.0 (report.Took last.1 last.2) (omega (arith, below, last.3, other)) shut.1 last.4 refl)
         ]
+
+-- the reports after the events and the plan
+pub whole_delivered : (ring : Ring) (means : Meaning) (B M : ℕ) (lists : List (List ℕ)) (S : ℕ) (o : Start) (events plan : List Event) (mid new : History) (reports : List Report) → o ≡ opening_of ring.sender ring.receiver lists S → Run B M o events mid → RunFrom B M mid plan new → Finishes B M mid plan → (is_done mid ≡ true → plan ≡ []) → new.opening ≡ o → reports ≡ reported 0 new.entries → Clean reports (lists_of new.opening) → DeliversWhole B M o lists events reports
+whole_delivered ring means B M lists S o events plan mid new reports opens first second finishes none same answer clean =
+    let lists_is : lists_of new.opening ≡ lists = ap lists_of (same ∙ opens) ∙ inboxes ring.sender S 0 lists in
+    let count : senders_of new ≡ length lists = ap (λ (p : Start). length p.harts - 1) (same ∙ opens) ∙ senders-length ring.sender S 0 lists in
+    let end : Finished new = finishes new second in
+    record {
+      plan = plan;
+      middle = mid;
+      history = new;
+      run = first;
+      finish = second;
+      none = none;
+      answer = answer;
+      clean = subst (Clean reports) lists_is clean;
+      closed = λ i less. ap (λ rs. is_closed rs i) answer ∙ end.closed i (omega (arith, count, less));
+      whole = λ i less. ap (λ rs. taken rs i) answer ∙ end.whole i (omega (arith, count, less)) ∙ ap (λ ls. slice_index_or ls i []) lists_is;
+    }
