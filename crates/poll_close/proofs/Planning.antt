@@ -7,10 +7,11 @@ use Rattle.step_machine.specs.declared.events.Event.TheVariants as event
 use Rattle.step_machine.specs.declared.events.Entry.{Entry}
 use Rattle.step_machine.specs.declared.events.Entry.TheVariants as entry
 use Rattle.step_machine.specs.declared.events.Outcome.{Outcome}
-use Rattle.step_machine.specs.History.{Start, History, unrun, with_entry}
+use Rattle.std.proofs.lemmas.List.{length-map, length-drop}
+use Rattle.step_machine.specs.History.{HartStart, Start, History, unrun, with_entry}
 use Rattle.step_machine.specs.Entries.{hart_of, is_land, pending, reported, store_of, land_of}
 use Rattle.step_machine.specs.Legal.{Kept}
-use Rattle.step_machine.specs.Runs.{IsFor, CanFollow, Happens, RunFrom, IsOwnRun, event_of}
+use Rattle.step_machine.specs.Runs.{IsFor, CanFollow, Happens, Run, RunFrom, IsOwnRun, event_of}
 use Rattle.step_machine.proofs.Running.{shape_of, kept-happens, RunFrom-more, run-one}
 use Rattle.step_machine.proofs.Follows.{land_follows, Legal-last}
 use Rattle.step_machine.proofs.Balanced.{balanced}
@@ -25,9 +26,12 @@ use Rattle.std.specs.List.{slice_get, slice_index_or}
 use Rattle.poll_close.specs.Laws.{Ring, Meaning, Keeps, Cleans}
 use Rattle.poll_close.specs.Reports.{taken, Clean}
 use Rattle.poll_close.specs.Standing.{Stands, lists_of}
-use Rattle.poll_close.proofs.Standing.{stands-happens, stands-clean}
+use Rattle.poll_close.proofs.Standing.{inboxes, stands-happens, stands-clean}
+use Rattle.poll_close.specs.Layout.{opening_of}
+use Rattle.poll_close.specs.Delivery.{DeliversWhole}
+use Rattle.poll_close.proofs.Delivering.{senders-length}
 use Rattle.poll_close.proofs.CleanReports.{closed_whole}
-use Rattle.poll_close.specs.Plans.{AllLanded, Nearer, Nears, Finished, Finishes, is_closed, all_closed, is_done, senders_of}
+use Rattle.poll_close.specs.Plans.{AllLanded, Nearer, Nears, Finished, Finishes, is_closed, all_closed, ends_in_word, is_done, senders_of}
 
 pub record Planned (ring : Ring) (means : Meaning) (B M : ℕ) (start : History) (evs : List Event) (t : History) : Type 0 where
   pub run : RunFrom B M start evs t
@@ -233,3 +237,66 @@ turn_quiet ring means left B M start evs t mid h all turn none = record {
 -- what ran the events of a history's own entries is that history
 pub same_run : (B M : ℕ) (t new : History) (o : Start) (evs : List Event) → IsOwnRun B M t → o ≡ t.opening → evs ≡ map event_of t.entries → RunFrom B M (unrun o) evs new → new ≡ t
 same_run B M t new o evs own opening events run = run-one B M (unrun t.opening) (map event_of t.entries) new t (subst (λ (es : List Event). RunFrom B M (unrun t.opening) es new) events (subst (λ (p : Start). RunFrom B M (unrun p) evs new) opening run)) own
+
+-- where the last report is of a word, its sender is open
+is_word : Report → Bool
+is_word (report.Took j w) = true
+is_word (report.Closed j) = false
+
+pub last_is : (rs : List Report) (x : Report) → slice_get rs (length rs - 1) ≡ Some x → ends_in_word rs ≡ is_word x
+unfolding is_word
+last_is [] x is = cc
+last_is (report.Took j w ∷ []) x is = let same : report.Took j w ≡ x = cc in ap is_word same
+last_is (report.Closed j ∷ []) x is = let same : report.Closed j ≡ x = cc in ap is_word same
+last_is (r ∷ s ∷ rs) x is = last_is (s ∷ rs) x is
+
+word_last : (rs : List Report) → ends_in_word rs ≡ true → (k : ℕ) × (i : ℕ) × (w : ℕ) × (k + 1 ≡ length rs) × (slice_get rs k ≡ Some (report.Took i w))
+word_last [] is = cc
+word_last (report.Took j w ∷ []) is = (0, j, w, refl, refl)
+word_last (report.Closed j ∷ []) is = cc
+word_last (r ∷ s ∷ rs) is = let more = word_last (s ∷ rs) is in (suc more.0, more.1, more.2, (let longer : suc more.0 + 1 ≡ length (r ∷ s ∷ rs) = omega (arith, more.3) in longer), more.4)
+
+get_below : (rs : List Report) (k : ℕ) (x : Report) → slice_get rs k ≡ Some x → k < length rs
+get_below [] k x is = cc
+get_below (r ∷ rs) zero x is = omega arith
+get_below (r ∷ rs) (suc k) x is = let less : k < length rs = get_below rs k x is in omega arith
+
+pub open_where_word : (ring : Ring) (means : Meaning) (B M : ℕ) (t : History) → Cleans ring means → Stands ring means B M t → ends_in_word (reported 0 t.entries) ≡ true → is_done t ≡ false
+open_where_word ring means B M t cleans s word = at (is_done t) refl
+  where
+    clean : Clean (reported 0 t.entries) (lists_of t.opening)
+    clean = stands-clean ring means B M t cleans s
+
+    count : length (lists_of t.opening) ≡ senders_of t
+    count = length-map (drop 1 t.opening.harts) (λ (h : HartStart). h.inbox) ∙ length-drop 1 t.opening.harts
+
+    at : (b : Bool) → is_done t ≡ b → is_done t ≡ false
+    at false is = is
+    at true is =
+        let last = word_last (reported 0 t.entries) word in
+        let within : last.1 < senders_of t = omega (arith, count, clean.known last.0 (report.Took last.1 last.2) last.4) in
+        let shut = closed_at (reported 0 t.entries) last.1 (each_closed (reported 0 t.entries) (senders_of t) is last.1 within) in
+        let below : shut.0 < length (reported 0 t.entries) = get_below (reported 0 t.entries) shut.0 (report.Closed last.1) shut.1 in
+        elim (cases_eq shut.0 last.0) [
+          | inl same ↦ let both : Some (report.Closed last.1) ≡ Some (report.Took last.1 last.2) = sym shut.1 ∙ ap (slice_get (reported 0 t.entries)) same ∙ last.4 in cc
+          | inr other ↦ absurd (clean.no_more last.1 shut.0 last.0 (report.Took last.1 last.2) (omega (arith, below, last.3, other)) shut.1 last.4 refl)
+        ]
+
+-- the reports after the events and the plan
+pub whole_delivered : (ring : Ring) (means : Meaning) (B M : ℕ) (lists : List (List ℕ)) (S : ℕ) (o : Start) (events plan : List Event) (mid new : History) (reports : List Report) → o ≡ opening_of ring.sender ring.receiver lists S → Run B M o events mid → RunFrom B M mid plan new → Finishes B M mid plan → (is_done mid ≡ true → plan ≡ []) → new.opening ≡ o → reports ≡ reported 0 new.entries → Clean reports (lists_of new.opening) → DeliversWhole B M o lists events reports
+whole_delivered ring means B M lists S o events plan mid new reports opens first second finishes none same answer clean =
+    let lists_is : lists_of new.opening ≡ lists = ap lists_of (same ∙ opens) ∙ inboxes ring.sender S 0 lists in
+    let count : senders_of new ≡ length lists = ap (λ (p : Start). length p.harts - 1) (same ∙ opens) ∙ senders-length ring.sender S 0 lists in
+    let end : Finished new = finishes new second in
+    record {
+      plan = plan;
+      middle = mid;
+      history = new;
+      run = first;
+      finish = second;
+      none = none;
+      answer = answer;
+      clean = subst (Clean reports) lists_is clean;
+      closed = λ i less. ap (λ rs. is_closed rs i) answer ∙ end.closed i (omega (arith, count, less));
+      whole = λ i less. ap (λ rs. taken rs i) answer ∙ end.whole i (omega (arith, count, less)) ∙ ap (λ ls. slice_index_or ls i []) lists_is;
+    }

@@ -30,6 +30,13 @@ abbrev pub all_closed : List Report → ℕ → Bool
 all_closed rs zero = true
 all_closed rs (suc i) = is_closed rs i && all_closed rs i
 
+-- the last report is of a word
+abbrev pub ends_in_word : List Report → Bool
+ends_in_word [] = false
+ends_in_word (report.Took j w ∷ []) = true
+ends_in_word (report.Closed j ∷ []) = false
+ends_in_word (r ∷ s ∷ rs) = ends_in_word (s ∷ rs)
+
 abbrev pub senders_of : History → ℕ
 senders_of t = length t.opening.harts - 1
 

@@ -3,7 +3,7 @@
 ghost use Rattle.std.specs.Prelude.{◌≡◌, ◌≤◌, ◌<◌, ◌-◌, ℕ, Bool, List, [], true, length, IfOk};
 ghost use Rattle.hart.specs.declared.need.Report.{Report};
 ghost use Rattle.poll_close.specs.Standing.{Stands};
-ghost use Rattle.poll_close.specs.Plans.{Finishes, is_closed, all_closed, is_done, next_by, is_ready};
+ghost use Rattle.poll_close.specs.Plans.{Finishes, is_closed, all_closed, ends_in_word, is_done, next_by, is_ready};
 
 use crate::kind::RingKind;
 use hart::need::Report;
@@ -62,12 +62,33 @@ fn are_closed(reports: &[Report], senders: usize) -> bool
     true
 }
 
-/// Whether every sender is reported closed.
-fn is_finished<const B: usize, const M: usize>(machine: &Machine<B, M>) -> bool
+/// Whether the last report is of a word.
+fn ends_in_word(reports: &[Report]) -> bool
+    ensures { result ≡ ends_in_word reports.now }
+{
+    let count = reports.len();
+    if count == 0 {
+        return false;
+    }
+    match reports[count - 1] {
+        Report::Took { .. } => true,
+        Report::Closed { .. } => false,
+    }
+}
+
+/// Whether every sender is reported closed. After the last closing no word is reported; so most calls
+/// look at the last report alone, and a plan's time is linear in its words.
+fn is_finished<K: Finish<B, M>, const B: usize, const M: usize>(machine: &Machine<B, M>) -> bool
+    requires stands { Stands K.RingKind.ring K.RingKind.meaning B M machine.now.history }
     ensures { result ≡ is_done machine.now.history }
 {
+    K::laws();
     let senders = machine.harts() as usize - 1;
-    are_closed(machine.reports(0), senders)
+    let reports = machine.reports(0);
+    if ends_in_word(reports) {
+        return false;
+    }
+    are_closed(reports, senders)
 }
 
 /// Which hart acts next, where nothing is pending: a sender that does not wait, or the receiver.
@@ -98,7 +119,7 @@ pub fn plan_of<K: Finish<B, M>, const B: usize, const M: usize>(
     K::laws();
     K::nears();
     let mut plan = Vec::new(alloc);
-    if is_finished(machine) {
+    if is_finished::<K, B, M>(machine) {
         return Ok(plan);
     }
     for hart in 0..machine.harts() {
@@ -107,7 +128,7 @@ pub fn plan_of<K: Finish<B, M>, const B: usize, const M: usize>(
             plan.push(Event::Land(hart))?;
         }
     }
-    while !is_finished(machine) {
+    while !is_finished::<K, B, M>(machine) {
         let next = next_hart::<K, B, M>(machine);
         machine.step(Event::Act(next))?;
         plan.push(Event::Act(next))?;

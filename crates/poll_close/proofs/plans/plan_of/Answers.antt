@@ -8,6 +8,9 @@ use Rattle.poll_close.specs.Plans.{Finishes, AllLanded, Nearer, is_done, left_by
 use Rattle.poll_close.proofs.Planning.{Planned, planned-none, planned-more, planned-done, Less, lands_one, turned, turn_over, turn_quiet}
 use Rattle.poll_close.proofs.plans.plan_of.Goals as goal
 
+pub is_finished-requires-in-loop-machine-2 : goal.is_finished-requires-in-loop-machine-2
+is_finished-requires-in-loop-machine-2 g c = c.loop-machine-2.invariant.0.stands
+
 pub loop-machine-smaller : goal.loop-machine-smaller
 loop-machine-smaller g c =
     let p = c.loop-machine.invariant.0 in
