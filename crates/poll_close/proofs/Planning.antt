@@ -1,5 +1,5 @@
 -- What each step of the plan's loop keeps.
-use Rattle.std.proofs.Common.{◌≡◌, ◌≢◌, ℕ, zero, suc, ◌+◌, ◌-◌, ◌==◌, not, ◌≤◌, ◌<◌, inl, inr, ◌⊎◌, Bool, true, false, if◌then◌else◌, ◌||◌, ◌&&◌, Some, List, [], ◌∷◌, ◌++◌, length, take, drop, refl, sym, ◌∙◌, ap, subst, arith, append-nil, eq-eqb}
+use Rattle.std.proofs.Common.{◌≡◌, ◌≢◌, ℕ, zero, suc, ◌+◌, ◌-◌, ◌==◌, not, ◌≤◌, ◌<◌, inl, inr, ◌⊎◌, Bool, true, false, if◌then◌else◌, ◌||◌, ◌&&◌, Some, None, List, [], ◌∷◌, ◌++◌, length, take, drop, refl, sym, ◌∙◌, ap, subst, arith, append-nil, eq-eqb}
 use Rattle.std.proofs.lemmas.Bool.{cases_eq}
 use Rattle.std.proofs.lemmas.Bool.Decides.{nat_tests}
 use Rattle.step_machine.specs.declared.events.Event.{Event}
@@ -27,11 +27,11 @@ use Rattle.poll_close.specs.Laws.{Ring, Meaning, Keeps, Cleans}
 use Rattle.poll_close.specs.Reports.{taken, Clean}
 use Rattle.poll_close.specs.Standing.{Stands, lists_of}
 use Rattle.poll_close.proofs.Standing.{inboxes, stands-happens, stands-clean}
-use Rattle.poll_close.specs.Layout.{opening_of}
+use Rattle.poll_close.specs.Layout.{opening_of, senders_from}
 use Rattle.poll_close.specs.Delivery.{DeliversWhole}
 use Rattle.poll_close.proofs.Delivering.{senders-length}
 use Rattle.poll_close.proofs.CleanReports.{closed_whole}
-use Rattle.poll_close.specs.Plans.{AllLanded, Nearer, Nears, Finished, Finishes, is_closed, all_closed, ends_in_word, is_done, senders_of}
+use Rattle.poll_close.specs.Plans.{AllLanded, Nearer, Nears, Finished, Finishes, is_closed, all_closed, ends_in_word, is_word, is_done, senders_of}
 
 pub record Planned (ring : Ring) (means : Meaning) (B M : ℕ) (start : History) (evs : List Event) (t : History) : Type 0 where
   pub run : RunFrom B M start evs t
@@ -238,18 +238,29 @@ turn_quiet ring means left B M start evs t mid h all turn none = record {
 pub same_run : (B M : ℕ) (t new : History) (o : Start) (evs : List Event) → IsOwnRun B M t → o ≡ t.opening → evs ≡ map event_of t.entries → RunFrom B M (unrun o) evs new → new ≡ t
 same_run B M t new o evs own opening events run = run-one B M (unrun t.opening) (map event_of t.entries) new t (subst (λ (es : List Event). RunFrom B M (unrun t.opening) es new) events (subst (λ (p : Start). RunFrom B M (unrun p) evs new) opening run)) own
 
--- where the last report is of a word, its sender is open
-is_word : Report → Bool
-is_word (report.Took j w) = true
-is_word (report.Closed j) = false
+-- the last report, if there is one, tells whether the reports end in a word
+last_at : (rs : List Report) (k : ℕ) (x : Report) → suc k ≡ length rs → slice_get rs k ≡ Some x → ends_in_word rs ≡ is_word x
+last_at [] k x end is = cc
+last_at (report.Took j w ∷ []) zero x end is = let same : report.Took j w ≡ x = cc in ap is_word same
+last_at (report.Closed j ∷ []) zero x end is = let same : report.Closed j ≡ x = cc in ap is_word same
+last_at (r ∷ []) (suc k) x end is = cc
+last_at (r ∷ s ∷ rs) zero x end is = absurd (omega (arith, end))
+last_at (r ∷ s ∷ rs) (suc k) x end is = last_at (s ∷ rs) k x (let shorter : suc k ≡ length (s ∷ rs) = omega (arith, end) in shorter) is
 
-pub last_is : (rs : List Report) (x : Report) → slice_get rs (length rs - 1) ≡ Some x → ends_in_word rs ≡ is_word x
-unfolding is_word
+pub last_is : (rs : List Report) (x : Report) → slice_get rs (length rs - 1) ≡ Some x → is_word x ≡ ends_in_word rs
 last_is [] x is = cc
-last_is (report.Took j w ∷ []) x is = let same : report.Took j w ≡ x = cc in ap is_word same
-last_is (report.Closed j ∷ []) x is = let same : report.Closed j ≡ x = cc in ap is_word same
-last_is (r ∷ s ∷ rs) x is = last_is (s ∷ rs) x is
+last_is (r ∷ rs) x is = sym (last_at (r ∷ rs) (length (r ∷ rs) - 1) x (let end : suc (length (r ∷ rs) - 1) ≡ length (r ∷ rs) = omega arith in end) is)
 
+none_at : (rs : List Report) (k : ℕ) → slice_get rs k ≡ None → length rs ≤ k
+none_at [] k none = omega arith
+none_at (r ∷ rs) zero none = cc
+none_at (r ∷ rs) (suc k) none = let rest : length rs ≤ k = none_at rs k none in omega (arith, rest)
+
+pub last_none : (rs : List Report) → slice_get rs (length rs - 1) ≡ None → false ≡ ends_in_word rs
+last_none [] none = refl
+last_none (r ∷ rs) none = absurd (let past : length (r ∷ rs) ≤ length (r ∷ rs) - 1 = none_at (r ∷ rs) (length (r ∷ rs) - 1) none in omega (arith, past))
+
+-- where the last report is of a word, its sender is open
 word_last : (rs : List Report) → ends_in_word rs ≡ true → (k : ℕ) × (i : ℕ) × (w : ℕ) × (k + 1 ≡ length rs) × (slice_get rs k ≡ Some (report.Took i w))
 word_last [] is = cc
 word_last (report.Took j w ∷ []) is = (0, j, w, refl, refl)
@@ -286,7 +297,8 @@ open_where_word ring means B M t cleans s word = at (is_done t) refl
 pub whole_delivered : (ring : Ring) (means : Meaning) (B M : ℕ) (lists : List (List ℕ)) (S : ℕ) (o : Start) (events plan : List Event) (mid new : History) (reports : List Report) → o ≡ opening_of ring.sender ring.receiver lists S → Run B M o events mid → RunFrom B M mid plan new → Finishes B M mid plan → (is_done mid ≡ true → plan ≡ []) → new.opening ≡ o → reports ≡ reported 0 new.entries → Clean reports (lists_of new.opening) → DeliversWhole B M o lists events reports
 whole_delivered ring means B M lists S o events plan mid new reports opens first second finishes none same answer clean =
     let lists_is : lists_of new.opening ≡ lists = ap lists_of (same ∙ opens) ∙ inboxes ring.sender S 0 lists in
-    let count : senders_of new ≡ length lists = ap (λ (p : Start). length p.harts - 1) (same ∙ opens) ∙ senders-length ring.sender S 0 lists in
+    let harts : length new.opening.harts ≡ suc (length (senders_from ring.sender S 0 lists)) = ap (λ (p : Start). length p.harts) (same ∙ opens) in
+    let count : senders_of new ≡ length lists = omega (arith, harts, senders-length ring.sender S 0 lists) in
     let end : Finished new = finishes new second in
     record {
       plan = plan;

@@ -30,6 +30,10 @@ abbrev pub all_closed : List Report → ℕ → Bool
 all_closed rs zero = true
 all_closed rs (suc i) = is_closed rs i && all_closed rs i
 
+abbrev pub is_word : Report → Bool
+is_word (report.Took j w) = true
+is_word (report.Closed j) = false
+
 -- the last report is of a word
 abbrev pub ends_in_word : List Report → Bool
 ends_in_word [] = false

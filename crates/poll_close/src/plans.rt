@@ -3,7 +3,7 @@
 ghost use Rattle.std.specs.Prelude.{◌≡◌, ◌≤◌, ◌<◌, ◌-◌, ℕ, Bool, List, [], true, length, IfOk};
 ghost use Rattle.hart.specs.declared.need.Report.{Report};
 ghost use Rattle.poll_close.specs.Standing.{Stands};
-ghost use Rattle.poll_close.specs.Plans.{Finishes, is_closed, all_closed, ends_in_word, is_done, next_by, is_ready};
+ghost use Rattle.poll_close.specs.Plans.{Finishes, is_closed, all_closed, ends_in_word, is_word, is_done, next_by, is_ready};
 
 use crate::kind::RingKind;
 use hart::need::Report;
@@ -66,11 +66,16 @@ fn are_closed(reports: &[Report], senders: usize) -> bool
 fn ends_in_word(reports: &[Report]) -> bool
     ensures { result ≡ ends_in_word reports.now }
 {
-    let count = reports.len();
-    if count == 0 {
-        return false;
+    match reports.last().copied() {
+        Some(last) => is_word(last),
+        None => false,
     }
-    match reports[count - 1] {
+}
+
+fn is_word(report: Report) -> bool
+    ensures { result ≡ is_word report }
+{
+    match report {
         Report::Took { .. } => true,
         Report::Closed { .. } => false,
     }

@@ -9,7 +9,7 @@ use Rattle.poll_close.proofs.Planning.{Planned, planned-none, planned-more, plan
 use Rattle.poll_close.proofs.plans.plan_of.Goals as goal
 
 pub is_finished-requires-in-loop-machine-2 : goal.is_finished-requires-in-loop-machine-2
-is_finished-requires-in-loop-machine-2 g c = c.loop-machine-2.invariant.0.stands
+is_finished-requires-in-loop-machine-2 g c = (lit< tt, c.loop-machine-2.invariant.0.stands)
 
 pub loop-machine-smaller : goal.loop-machine-smaller
 loop-machine-smaller g c =
