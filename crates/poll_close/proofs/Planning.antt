@@ -1,5 +1,5 @@
 -- What each step of the plan's loop keeps.
-use Rattle.std.proofs.Common.{◌≡◌, ◌≢◌, ℕ, zero, suc, ◌+◌, ◌-◌, ◌==◌, not, ◌≤◌, ◌<◌, inl, inr, ◌⊎◌, Bool, true, false, if◌then◌else◌, ◌||◌, ◌&&◌, Some, None, List, [], ◌∷◌, ◌++◌, length, take, drop, refl, sym, ◌∙◌, ap, subst, arith, append-nil, eq-eqb}
+use Rattle.std.proofs.Common.{◌≡◌, ◌≢◌, ℕ, zero, suc, ◌+◌, ◌-◌, ◌==◌, not, ◌≤◌, ◌<◌, inl, inr, ◌⊎◌, Bool, true, false, if◌then◌else◌, ◌||◌, ◌&&◌, Some, None, List, [], ◌∷◌, ◌++◌, length, drop, refl, sym, ◌∙◌, ap, subst, arith, eq-eqb}
 use Rattle.std.proofs.lemmas.Bool.{cases_eq}
 use Rattle.std.proofs.lemmas.Bool.Decides.{nat_tests}
 use Rattle.step_machine.specs.declared.events.Event.{Event}
@@ -11,9 +11,9 @@ use Rattle.std.proofs.lemmas.List.{length-map, length-drop}
 use Rattle.step_machine.specs.History.{HartStart, Start, History, unrun, with_entry}
 use Rattle.step_machine.specs.Entries.{hart_of, is_land, pending, reported, store_of, land_of}
 use Rattle.step_machine.specs.Legal.{Kept}
-use Rattle.step_machine.specs.Runs.{IsFor, CanFollow, Happens, Run, RunFrom, IsOwnRun, event_of}
-use Rattle.step_machine.proofs.Running.{shape_of, kept-happens, RunFrom-more, run-one}
-use Rattle.step_machine.proofs.Follows.{land_follows, Legal-last}
+use Rattle.step_machine.specs.Runs.{Happens, Run, RunFrom, IsOwnRun, event_of}
+use Rattle.step_machine.proofs.Running.{shape_of, RunFrom-more, run-one}
+use Rattle.step_machine.proofs.Follows.{land_follows}
 use Rattle.step_machine.proofs.Balanced.{balanced}
 use Rattle.step_machine.proofs.Appended.{pending-last}
 use Rattle.step_machine.proofs.Stays.{pending-land, pending-other, land_of-other, store_of-other}

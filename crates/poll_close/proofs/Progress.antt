@@ -1,6 +1,6 @@
 -- From what a ring shows of one block to the law of the plan: where nothing is pending and some sender is
 -- not reported closed, the hart that comes next can act, and less is left after its act.
-use Rattle.std.proofs.Common.{ℕ, zero, suc, ◌+◌, ◌-◌, ◌*◌, ◌/◌, ◌%◌, ◌<◌, ◌≤◌, ◌≡◌, ◌≢◌, ◌==◌, ◌⊎◌, inl, inr, Bool, true, false, not, ◌&&◌, ◌||◌, if◌then◌else◌, List, [], ◌∷◌, ◌++◌, length, take, min, length-take, length-append, Option, Some, None, refl, sym, ◌∙◌, ap, subst, arith, add-one, append-nil, eq-eqb, lit<}
+use Rattle.std.proofs.Common.{ℕ, zero, suc, ◌+◌, ◌-◌, ◌*◌, ◌%◌, ◌<◌, ◌≤◌, ◌≡◌, ◌≢◌, ◌==◌, ◌⊎◌, inl, inr, Bool, true, false, not, ◌&&◌, ◌||◌, if◌then◌else◌, List, [], ◌∷◌, ◌++◌, length, take, min, length-take, length-append, Option, Some, None, refl, sym, ◌∙◌, ap, subst, arith, add-one, append-nil, eq-eqb, lit<}
 use Rattle.std.specs.Prelude.{slice_index, unwrap_or}
 use Rattle.std.specs.List.{slice_get, slice_index_or}
 use Rattle.std.proofs.lemmas.Bool.{cases_eq, cases_lt}
@@ -22,7 +22,7 @@ use Rattle.step_machine.specs.declared.events.Event.TheVariants as event
 use Rattle.step_machine.specs.declared.events.Entry.{Entry}
 use Rattle.step_machine.specs.declared.events.Entry.TheVariants as entry
 use Rattle.step_machine.specs.History.{Start, History, with_entry}
-use Rattle.step_machine.specs.Entries.{hart_of, is_land, pending, read, reported}
+use Rattle.step_machine.specs.Entries.{pending, read, reported}
 use Rattle.step_machine.specs.WordReads.{OpensWithWords, word_in_memory}
 use Rattle.step_machine.specs.Paths.{entry_of, value_of, state_of}
 use Rattle.step_machine.specs.Legal.{Kept}
@@ -30,24 +30,23 @@ use Rattle.step_machine.specs.Runs.{IsFor, CanFollow, NoEntry}
 use Rattle.step_machine.proofs.Appended.{reported-last}
 use Rattle.step_machine.proofs.Stays.{states_land}
 use Rattle.step_machine.proofs.Acts.{HasToWait, decide, does}
-use Rattle.poll_close.specs.Layout.{block_size, opening_of}
+use Rattle.poll_close.specs.Layout.{opening_of}
 use Rattle.poll_close.specs.Reports.{taken, sender_of, Clean}
-use Rattle.poll_close.specs.Laws.{Ring, Accepted}
-use Rattle.poll_close.specs.Standing.{Stands, lists_of}
-use Rattle.poll_close.specs.Plans.{Pace, AllLanded, Nearer, Nears, is_closed, all_closed, is_done, senders_of, some_open, rest_from, visited_by, is_running, runs, far_at, far_of, far_if, sender_if, one_if, share, total, round, left_in, left_by, ring_size, ready_if, is_ready, next_of, next_by}
-use Rattle.poll_close.specs.Invariant.Blocks.{Block, block_of, as_write, as_writes, to_block}
+use Rattle.poll_close.specs.Laws.{Accepted}
+use Rattle.poll_close.specs.Standing.{lists_of}
+use Rattle.poll_close.specs.Plans.{Pace, AllLanded, Nearer, Nears, is_closed, all_closed, is_done, senders_of, some_open, rest_from, visited_by, is_running, runs, far_of, far_if, sender_if, one_if, share, total, round, left_in, left_by, ring_size, ready_if, is_ready, next_of, next_by}
+use Rattle.poll_close.specs.Invariant.Blocks.{Block, block_of, as_writes, to_block}
 use Rattle.poll_close.specs.Invariant.ReceiverState.{Middle, Noted, Whole, whole_of, receiver_of}
 use Rattle.poll_close.specs.Invariant.ReceiverPlaces.{ReceiverPlace, R04, R70, receives, due}
 use Rattle.poll_close.specs.Invariant.BlockMeaning.{BlockMeaning, Quiet, ReceiverIs}
-use Rattle.poll_close.specs.Invariant.Channels.{BlockPart, ReceiverPart, Told, shuts, Channel, means_by}
-use Rattle.poll_close.proofs.Acts.{Acted, Plain, acted, stored_by, said_by}
-use Rattle.poll_close.proofs.Lines.{loads}
+use Rattle.poll_close.specs.Invariant.Channels.{shuts, Channel, means_by}
+use Rattle.poll_close.proofs.Acts.{Acted, acted, said_by}
 use Rattle.poll_close.proofs.Windows.{get_end}
-use Rattle.poll_close.proofs.Blocks.{IsBlock, IsWordOf}
+use Rattle.poll_close.proofs.Blocks.{IsBlock}
 use Rattle.poll_close.proofs.BlockLaws.{BlockLaws, Receives, Says, Finds}
 use Rattle.poll_close.proofs.CleanReports.{taken-took, taken-closed, taken_other, get_front}
 use Rattle.poll_close.proofs.AllBlocks.{read_is, sender_plain}
-use Rattle.poll_close.proofs.ReceiverActs.{shuts_most, quiet_one, small, moves_by, plain_by, found}
+use Rattle.poll_close.proofs.ReceiverActs.{shuts_most, small, moves_by, plain_by, found}
 use Rattle.poll_close.proofs.Delivering.{senders-length}
 use Rattle.poll_close.proofs.Standing.{inboxes}
 use Rattle.poll_close.proofs.ChannelLaws.{blocks, ring_by, keeps}

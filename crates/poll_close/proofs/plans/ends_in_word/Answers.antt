@@ -1,4 +1,4 @@
-use Rattle.std.proofs.Common.{◌≡◌, ◌∙◌, sym}
+use Rattle.std.proofs.Common.{◌∙◌, sym}
 use Rattle.poll_close.proofs.Planning.{last_is, last_none}
 use Rattle.poll_close.proofs.plans.ends_in_word.Goals as goal
 

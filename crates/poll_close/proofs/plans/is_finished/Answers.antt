@@ -1,4 +1,4 @@
-use Rattle.std.proofs.Common.{◌≡◌, ◌∙◌, sym, ap, true, false}
+use Rattle.std.proofs.Common.{◌∙◌, sym, ap}
 use Rattle.poll_close.specs.Plans.{ends_in_word}
 use Rattle.poll_close.proofs.Planning.{open_where_word}
 use Rattle.poll_close.proofs.plans.is_finished.Goals as goal

@@ -1,11 +1,9 @@
-use Rattle.std.proofs.Common.{◌≡◌, ◌≢◌, ◌≤◌, ◌<◌, ℕ, List, length, ◌+◌, Bool, true, false, not, nat_eq, nat_lt, [], ◌∷◌, ◌++◌, lit<, refl, sym, ◌∙◌, ap, subst, arith}
+use Rattle.std.proofs.Common.{◌≡◌, ◌<◌, length, true, false, [], ◌∷◌, ◌++◌, lit<, sym, ◌∙◌, ap, subst, arith}
 use Rattle.std.proofs.lemmas.Bool.Decides.{nat_tests}
-use Rattle.step_machine.specs.History.{History, with_entry}
 use Rattle.step_machine.specs.Entries.{pending}
-use Rattle.step_machine.specs.declared.events.Entry.TheVariants as entry
 use Rattle.step_machine.specs.declared.events.Event.TheVariants as event
-use Rattle.poll_close.specs.Plans.{Finishes, AllLanded, Nearer, is_done, left_by, next_by}
-use Rattle.poll_close.proofs.Planning.{Planned, planned-none, planned-more, planned-done, Less, lands_one, turned, turn_over, turn_quiet}
+use Rattle.poll_close.specs.Plans.{is_done, left_by, next_by}
+use Rattle.poll_close.proofs.Planning.{Planned, planned-none, planned-more, planned-done, lands_one, turned, turn_over, turn_quiet}
 use Rattle.poll_close.proofs.plans.plan_of.Goals as goal
 
 pub is_finished-requires-in-loop-machine-2 : goal.is_finished-requires-in-loop-machine-2
