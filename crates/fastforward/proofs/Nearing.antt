@@ -27,7 +27,7 @@ use Rattle.poll_close.proofs.Distance.{Falls, MiddleNears, BlockProgress}
 use Rattle.poll_close.proofs.Progress.{nears}
 use Rattle.fastforward.specs.Listing.{sender_code}
 use Rattle.fastforward.specs.FastForward.{fastforward, fastforward_blocks, fastforward_means}
-use Rattle.fastforward.specs.Pace.{sender_left, waits, stale, fastforward_pace}
+use Rattle.fastforward.specs.FastForward.{sender_left, waits, stale, fastforward_pace}
 use Rattle.fastforward.specs.Invariant.Stores.{words_from, sender_stores, nulls_from, receiver_stores}
 use Rattle.fastforward.specs.Invariant.Middle.{middle}
 use Rattle.fastforward.specs.Invariant.Numbers.{Numbers, sent, gone, taken, freed, Ordered, Words, pending_of, unread_of}
@@ -36,7 +36,7 @@ use Rattle.fastforward.specs.Invariant.SenderPlaces.{SenderPlace, P00, P04, P08,
 use Rattle.fastforward.proofs.SenderLines.{line_00, line_04-word, line_04-none, line_08-done, line_08-word, line_0C, line_10, line_14-free, line_14-full, line_18, line_1C, line_20-end, line_20-inside, line_24, line_28, line_2C, line_30, line_34, line_38}
 use Rattle.fastforward.proofs.MiddleLines as mid
 use Rattle.fastforward.proofs.ReceiverReads.{seen_word}
-use Rattle.fastforward.proofs.FastForwardLaws.{fastforward-laws}
+use Rattle.fastforward.proofs.FastForwardLaws.{fastforward_laws}
 
 -- where nothing is pending all that was stored has landed
 sender_count : (S b j : ℕ) (ws : List ℕ) → length (words_from S b j ws) ≡ length ws + 1
@@ -270,8 +270,8 @@ near_24 k i count n word r v sh E rest start is order words find h ready off =
     let line = mid.line_24 (whole_of k count) r (omega (arith, is.even, h.1.1, h.1.2)) (omega (arith, is.inside, h.1.1, h.1.2, offset_low k is n.c)) is.small in
     falls (receiving middle (whole_of k count) 0x24 r) (advanced (receiving middle (whole_of k count) 0x24 r) v) (receiving middle (whole_of k count) 0x28 r) n.took k.size sh E rest start (line.leaves v) (record { block = refl; nearer = omega arith })
 
-pub fastforward-progress : BlockProgress fastforward_blocks fastforward_pace 1
-fastforward-progress = record {
+pub fastforward_progress : BlockProgress fastforward_blocks fastforward_pace 1
+fastforward_progress = record {
   Ready = λ k n. n.c < n.ls;
   nearer = nearer;
   ready = ready;
@@ -284,8 +284,8 @@ fastforward-progress = record {
   near_24 = near_24;
 }
 
-pub fastforward-nears : Nears fastforward fastforward_means (left_by fastforward_pace) (next_by fastforward_pace)
-fastforward-nears = nears fastforward_blocks sender_code fastforward-laws 1 (lit≤ tt) fastforward_pace fastforward-progress
+pub fastforward_nears : Nears fastforward fastforward_means (left_by fastforward_pace) (next_by fastforward_pace)
+fastforward_nears = nears fastforward_blocks sender_code fastforward_laws 1 (lit≤ tt) fastforward_pace fastforward_progress
 
 -- what a call knows of a sender's hart
 pub record Sender (M : ℕ) (t : History) (h : ℕ) : Type 0 where

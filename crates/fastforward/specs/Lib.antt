@@ -1,4 +1,3 @@
 pub mod Listing
 pub mod FastForward
-pub mod Pace
 pub mod Invariant

@@ -50,11 +50,12 @@ impl RingKind for FastForward {
         1
     }
 
+    #[tactic(auto, using(crate::proofs::FastForwardLaws::fastforward_short, crate::proofs::FastForwardLaws::fastforward_opens, crate::proofs::FastForwardLaws::fastforward_keeps, crate::proofs::FastForwardLaws::fastforward_cleans, crate::proofs::FastForwardLaws::fastforward_goes))]
     fn laws() {}
 }
 
 impl<const B: usize, const M: usize> Finish<B, M> for FastForward {
-    ghost use Rattle.fastforward.specs.Pace.{fastforward_pace};
+    ghost use Rattle.fastforward.specs.FastForward.{fastforward_pace};
 
     ghost pace = { fastforward_pace };
 
@@ -68,10 +69,12 @@ impl<const B: usize, const M: usize> Finish<B, M> for FastForward {
         }
     }
 
+    #[tactic(auto, using(crate::proofs::Nearing::fastforward_nears))]
     fn nears() {}
 }
 
 /// Each word of the tables means its line's instruction. It does nothing.
+#[tactic(auto, using(crate::proofs::Means::sender_means, crate::proofs::Means::receiver_means))]
 pub fn tables_mean()
     ensures sender { AllMean sender_code sender_lines }
     ensures receiver { AllMean receiver_code receiver_lines }

@@ -29,7 +29,7 @@ use Rattle.poll_close.proofs.Distance.{Falls, MiddleNears, BlockProgress}
 use Rattle.poll_close.proofs.Progress.{nears}
 use Rattle.lamport_ring.specs.Listing.{sender_code}
 use Rattle.lamport_ring.specs.Lamport.{lamport, lamport_blocks, lamport_means}
-use Rattle.lamport_ring.specs.Pace.{sender_left, waits, stale, lamport_pace}
+use Rattle.lamport_ring.specs.Lamport.{sender_left, waits, stale, lamport_pace}
 use Rattle.lamport_ring.specs.Invariant.Stores.{stores_from, sender_stores, tails_from, receiver_stores}
 use Rattle.lamport_ring.specs.Invariant.Middle.{middle}
 use Rattle.lamport_ring.specs.Invariant.Numbers.{Numbers, sent, gone, Ordered, Words, pending_of, unread_of}
@@ -38,7 +38,7 @@ use Rattle.lamport_ring.specs.Invariant.SenderPlaces.{SenderPlace, P00, P04, P08
 use Rattle.lamport_ring.proofs.SenderLines.{line_00, line_04-word, line_04-none, line_08-done, line_08-word, line_0C, line_10-inside, line_10-end, line_14, line_18, line_1C-full, line_1C-free, line_20, line_24, line_28, line_2C, line_30, line_34, line_38, line_3C, line_40}
 use Rattle.lamport_ring.proofs.MiddleLines as mid
 use Rattle.lamport_ring.proofs.ReceiverReads.{seen_head, seen_tail}
-use Rattle.lamport_ring.proofs.LamportLaws.{lamport-laws}
+use Rattle.lamport_ring.proofs.LamportLaws.{lamport_laws}
 
 -- where nothing is pending all that was stored has landed
 sender_count : (S b j : ℕ) (ws : List ℕ) → length (stores_from S b j ws) ≡ 2 * length ws + 1
@@ -273,8 +273,8 @@ near_24 : MiddleNears lamport_blocks lamport_pace (λ k n. n.c < n.kh) R24
 near_24 k i count n word r v sh E rest start is order words find h ready off =
     falls (receiving middle (whole_of k count) 0x24 r) (advanced (receiving middle (whole_of k count) 0x24 r) v) (receiving middle (whole_of k count) 0x28 (record r { x11 = v })) n.took k.size sh E rest start ((mid.line_24 (whole_of k count) r (omega (arith, is.even, h.1.1, h.1.2)) (omega (arith, is.inside, h.1.1, h.1.2, offset_low k is n.c)) is.small).leaves v) (record { block = refl; nearer = omega arith })
 
-pub lamport-progress : BlockProgress lamport_blocks lamport_pace 2
-lamport-progress = record {
+pub lamport_progress : BlockProgress lamport_blocks lamport_pace 2
+lamport_progress = record {
   Ready = λ k n. n.c < n.kh;
   nearer = nearer;
   ready = ready;
@@ -287,8 +287,8 @@ lamport-progress = record {
   near_24 = near_24;
 }
 
-pub lamport-nears : Nears lamport lamport_means (left_by lamport_pace) (next_by lamport_pace)
-lamport-nears = nears lamport_blocks sender_code lamport-laws 2 (lit≤ tt) lamport_pace lamport-progress
+pub lamport_nears : Nears lamport lamport_means (left_by lamport_pace) (next_by lamport_pace)
+lamport_nears = nears lamport_blocks sender_code lamport_laws 2 (lit≤ tt) lamport_pace lamport_progress
 
 -- what a call knows of a sender's hart
 pub record Sender (M : ℕ) (t : History) (h : ℕ) : Type 0 where

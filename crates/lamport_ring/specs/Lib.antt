@@ -1,4 +1,3 @@
 pub mod Listing
 pub mod Lamport
-pub mod Pace
 pub mod Invariant

@@ -51,11 +51,12 @@ impl RingKind for Lamport {
         2
     }
 
+    #[tactic(auto, using(crate::proofs::LamportLaws::lamport_short, crate::proofs::LamportLaws::lamport_opens, crate::proofs::LamportLaws::lamport_keeps, crate::proofs::LamportLaws::lamport_cleans, crate::proofs::LamportLaws::lamport_goes))]
     fn laws() {}
 }
 
 impl<const B: usize, const M: usize> Finish<B, M> for Lamport {
-    ghost use Rattle.lamport_ring.specs.Pace.{lamport_pace};
+    ghost use Rattle.lamport_ring.specs.Lamport.{lamport_pace};
 
     ghost pace = { lamport_pace };
 
@@ -70,10 +71,12 @@ impl<const B: usize, const M: usize> Finish<B, M> for Lamport {
         }
     }
 
+    #[tactic(auto, using(crate::proofs::Nearing::lamport_nears))]
     fn nears() {}
 }
 
 /// Each word of the tables means its line's instruction. It does nothing.
+#[tactic(auto, using(crate::proofs::Means::sender_means, crate::proofs::Means::receiver_means))]
 pub fn tables_mean()
     ensures sender { AllMean sender_code sender_lines }
     ensures receiver { AllMean receiver_code receiver_lines }
