@@ -263,54 +263,6 @@ module _ (p : Pace) (mid : Middle) (k : Block) (i count : ℕ) (base : k.base �
       more other (inl last) = absurd (other (at ∙ next ∙ ap (λ j. j * block_size k.size) last))
       more other (inr less) = omega (arith, known)
 
--- it is never further away than a round
-module _ (p : Pace) (mid : Middle) (f : Whole) (r : Noted) (T size : ℕ) (sh E : Bool) (rest start : ℕ) where
-  abbrev Far : ReceiverPlace → Type 0
-  Far here = far_at p (receives mid f here r) T size sh E rest start ≤ 22 + rest + start
-
-  by_three : (a : ℕ) (b : Bool) → a ≤ 19 → a + (if b then rest else 3) ≤ 22 + rest + start
-  by_three a true less = omega arith
-  by_three a false less = omega arith
-
-  by_two : (a c : ℕ) (b : Bool) → a ≤ 22 → c ≤ 22 → (if b then a + rest else c) ≤ 22 + rest + start
-  by_two a c true one two = omega arith
-  by_two a c false one two = omega arith
-
-  pub far_most : (here : ReceiverPlace) → Far here
-  far_most R08 = by_two 17 22 sh (omega arith) (omega arith)
-  far_most R0C = by_two 16 21 sh (omega arith) (omega arith)
-  far_most R14 = by_three 16 (p.stale (receiving mid f 0x14 r) T size E) (omega arith)
-  far_most R18 = by_three 15 (p.stale (receiving mid f 0x18 r) T size E) (omega arith)
-  far_most R1C = by_three 14 (p.stale (receiving mid f 0x1C r) T size E) (omega arith)
-  far_most R20 = by_three 13 (p.stale (receiving mid f 0x20 r) T size E) (omega arith)
-  far_most R24 = by_three 12 (p.stale (receiving mid f 0x24 r) T size E) (omega arith)
-  far_most R48 = by_two 11 14 (r.x30 == 0) (omega arith) (omega arith)
-  far_most R00 = omega arith
-  far_most R04 = omega arith
-  far_most R10 = omega arith
-  far_most R28 = omega arith
-  far_most R2C = omega arith
-  far_most R30 = omega arith
-  far_most R34 = omega arith
-  far_most R38 = omega arith
-  far_most R3C = omega arith
-  far_most R40 = omega arith
-  far_most R44 = omega arith
-  far_most R4C = omega arith
-  far_most R50 = omega arith
-  far_most R54 = omega arith
-  far_most R58 = omega arith
-  far_most R5C = omega arith
-  far_most R60 = omega arith
-  far_most R64 = omega arith
-  far_most R68 = omega arith
-  far_most R6C = omega arith
-  far_most R70 = omega arith
-  far_most R74 = omega arith
-  far_most R78 = omega arith
-  far_most R7C = omega arith
-  far_most ROver = omega arith
-
 -- at each place but 70 the block that it visits is in x22
 pub visited_at : (mid : Middle) (f : Whole) (r : Noted) (here : ReceiverPlace) → (here ≡ R70) ⊎ (visited_by (receives mid f here r) ≡ r.x22)
 visited_at mid f r R00 = inr refl
