@@ -166,6 +166,7 @@ module _ (m : BlockMeaning) (code : List ℕ) (laws : BlockLaws m code) (least :
     }
 
   pub opens : Opens ring_by (means_by m)
+  unfolding Opens
   opens B M lists S accepted = opened M S lists accepted
 
   pub keeps : Keeps ring_by (means_by m)

@@ -200,6 +200,7 @@ pub record Turned (ring : Ring) (means : Meaning) (B M : ℕ) (left : History �
   pub same : length new.opening.harts ≡ length t.opening.harts
 
 pub turned : (ring : Ring) (means : Meaning) (left next : ℕ → History → ℕ) (B M : ℕ) (start : History) (evs : List Event) (t : History) (h : ℕ) (o : Outcome) (new : History) → Nears ring means left next → Keeps ring means → 1 ≤ B → Planned ring means B M start evs t → AllLanded t → is_done t ≡ false → h ≡ next M t → Happens B M t (event.Act h) o new → Turned ring means B M (left M) start (evs ++ event.Act h ∷ []) t new h
+unfolding Nears
 turned ring means left next B M start evs t h o new nears keeps some p all open_yet chosen hap =
     let near : Nearer B M (left M) t h = subst (Nearer B M (left M) t) (sym chosen) (nears B M t some p.stands all open_yet) in
     let after : Planned ring means B M start (evs ++ event.Act h ∷ []) new = planned-more ring means B M start evs t (event.Act h) o new keeps p hap in

@@ -357,4 +357,5 @@ module _ (m : BlockMeaning) (code : List ℕ) (laws : BlockLaws m code) (least :
       ]
 
 pub nears : (m : BlockMeaning) (code : List ℕ) (laws : BlockLaws m code) (least : ℕ) (some_least : 1 ≤ least) (p : Pace) → BlockProgress m p least → Nears (ring_by m code laws least some_least) (means_by m) (left_by p) (next_by p)
+unfolding Nears
 nears m code laws least some_least p prog B M t some stands landed open_yet = hart_nears m code laws least some_least p prog B M stands.opens.size stands.opens.lists t some stands.opens.accepted stands.opens.opening stands.kept stands.meant landed open_yet

@@ -21,6 +21,7 @@ inboxes code S i (ws ∷ lists) = ap (λ rest. ws ∷ rest) (inboxes code S (i +
 
 module _ (ring : Ring) (means : Meaning) (B M : ℕ) where
   pub stands-opens : (lists : List (List ℕ)) (S : ℕ) (t : History) → Opens ring means → Accepted ring M lists S → t ≡ unrun (opening_of ring.sender ring.receiver lists S) → Stands ring means B M t
+  unfolding Opens
   stands-opens lists S t opens accepted is = subst (Stands ring means B M) (sym is) (record {
     opens = record { lists = lists; size = S; accepted = accepted; opening = refl };
     kept = kept-unrun B M (opening_of ring.sender ring.receiver lists S);

@@ -31,7 +31,7 @@ pub record Accepted (ring : Ring) (M : ℕ) (lists : List (List ℕ)) (S : ℕ) 
 abbrev pub Meaning : Type 1
 Meaning = ℕ → ℕ → List (List ℕ) → ℕ → History → Type 0
 
-abbrev pub Opens : Ring → Meaning → Type 0
+unfoldable pub Opens : Ring → Meaning → Type 0
 Opens ring means = (B M : ℕ) (lists : List (List ℕ)) (S : ℕ) → Accepted ring M lists S → means B M lists S (unrun (opening_of ring.sender ring.receiver lists S))
 
 abbrev pub Keeps : Ring → Meaning → Type 0

@@ -177,5 +177,5 @@ pub record Nearer (B M : ℕ) (left : History → ℕ) (t : History) (h : ℕ) :
   pub alone : (e : Entry) → IsFor (event.Act h) e → CanFollow B M t e → left (with_entry t e) < left t
   pub landed : (u : History) → left (with_entry u (entry.Land h)) ≡ left u
 
-abbrev pub Nears : Ring → Meaning → (ℕ → History → ℕ) → (ℕ → History → ℕ) → Type 0
+unfoldable pub Nears : Ring → Meaning → (ℕ → History → ℕ) → (ℕ → History → ℕ) → Type 0
 Nears ring means left next = (B M : ℕ) (t : History) → 1 ≤ B → Stands ring means B M t → AllLanded t → is_done t ≡ false → Nearer B M (left M) t (next M t)
