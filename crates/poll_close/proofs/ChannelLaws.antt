@@ -170,6 +170,7 @@ module _ (m : BlockMeaning) (code : List ℕ) (laws : BlockLaws m code) (least :
   opens B M lists S accepted = opened M S lists accepted
 
   pub keeps : Keeps ring_by (means_by m)
+  unfolding Keeps
   keeps B M lists S t e accepted is kept can ch =
       elim (act_or_land e) [
         | inl act ↦ acts (hart_of e) refl act

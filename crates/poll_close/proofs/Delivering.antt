@@ -22,6 +22,7 @@ pub record Known (ring : Ring) (means : Meaning) (B M : ℕ) (lists : List (List
 
 module _ (ring : Ring) (means : Meaning) (keeps : Keeps ring means) (B M : ℕ) (lists : List (List ℕ)) (S : ℕ) (accepted : Accepted ring M lists S) where
   pub known-happens : (t : History) (ev : Event) (o : Outcome) (new : History) → Known ring means B M lists S t → Happens B M t ev o new → Known ring means B M lists S new
+  unfolding Keeps
   known-happens t ev o new known h =
       let kept : Kept B M new = kept-happens B M t ev o new known.kept h in
       elim (shape_of B M t ev o new h) [

@@ -29,7 +29,7 @@ use Rattle.step_machine.proofs.Stays.{states_land}
 use Rattle.step_machine.proofs.Acts.{HasToWait, decide, does}
 use Rattle.poll_close.specs.Layout.{opening_of}
 use Rattle.poll_close.specs.Reports.{taken, sender_of, Clean}
-use Rattle.poll_close.specs.Laws.{Accepted}
+use Rattle.poll_close.specs.Laws.{Accepted, Keeps}
 use Rattle.poll_close.specs.Standing.{lists_of}
 use Rattle.poll_close.specs.Plans.{Pace, AllLanded, Nearer, Nears, is_closed, is_done, senders_of, some_open, rest_from, visited_by, is_running, runs, far_of, far_if, left_in, left_by, ring_size, ready_if, is_ready, next_of, next_by}
 use Rattle.poll_close.specs.Invariant.Blocks.{Block, block_of, as_writes, to_block}
@@ -300,6 +300,7 @@ module _ (m : BlockMeaning) (code : List ℕ) (laws : BlockLaws m code) (least :
           ]
 
     receiver_falls : (e : Entry) → IsFor (event.Act 0) e → CanFollow B M t e → left_by p M (with_entry t e) < left_by p M t
+    unfolding Keeps
     receiver_falls e for_event can = by_says v_says
       where
         a : Acted M t (with_entry t e) 0 st (value_of e)
