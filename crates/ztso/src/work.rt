@@ -149,9 +149,7 @@ fn do_work<const B: usize, F: Read, S: Read, C: Read, W: Write>(
             ring,
             slots,
             finish,
-        } => after(run_channel::<B, F, S, W>(
-            alloc, ring, slots, finish, first, second, writer,
-        )),
+        } => after(run_channel::<B, F, S, W>(alloc, ring, slots, finish, first, second, writer)),
     }
 }
 

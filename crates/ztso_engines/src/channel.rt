@@ -116,14 +116,7 @@ fn made<K: Finish<B, M>, const B: usize, const M: usize, S: Read, L: Read>(
 /// ([`crate::fault::NOT_TEXT`]), else at its first line that holds anything but such words
 /// ([`crate::fault::BAD_LINE`]). Lists are refused by the numbers of [`poll_close::Refused`]. Then nothing
 /// was written.
-pub fn channel_engine<
-    K: Finish<B, M>,
-    const B: usize,
-    const M: usize,
-    S: Read,
-    L: Read,
-    W: Write,
->(
+pub fn channel_engine<K: Finish<B, M>, const B: usize, const M: usize, S: Read, L: Read, W: Write>(
     alloc: Global,
     ring: u32,
     finish: bool,
