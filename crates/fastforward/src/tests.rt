@@ -291,7 +291,8 @@ fn a_channel_is_refused(rt: HostRuntime) -> Result<(), Fail> {
 
 #[test]
 fn a_plan_finishes_three_words_in_one_slot(rt: HostRuntime) -> Result<(), Fail> {
-    let mut channel = opened::<1>(rt.alloc(), &[&[9, 9, 9]], 1)?;
+    let lists = lists_of(rt.alloc(), &[&[9, 9, 9]])?;
+    let mut channel = Channel::<FastForward, 1, 4096>::open(rt.alloc(), &lists, 1)?;
     let plan = channel.finish_plan(rt.alloc())?;
     for event in &plan {
         channel.step(*event)?;
