@@ -1,5 +1,5 @@
-"""Channels: the lists of a text, the opening over them, and what the receiver reports. The programs are
-the listings of docs/channels.md."""
+"""Channels: the lists of a text, the opening over them, what the receiver reports, and the plan that
+finishes a channel. The programs are the listings of docs/channels.md."""
 
 import re
 from pathlib import Path
@@ -7,7 +7,7 @@ from pathlib import Path
 import assembly
 import litmus
 from faults import at_line, refused
-from machine import MEMORY, Machine
+from machine import MEMORY, RUNNING, Machine, word_at
 
 PAGE = Path(__file__).resolve().parent.parent.parent / "docs/channels.md"
 LINE, ZERO_WORD, NO_SENDERS, TOO_MANY, TOO_SMALL, NO_ROOM = 34, 16, 17, 18, 19, 20
@@ -74,13 +74,55 @@ def opened(kind, slots, words):
     return channel
 
 
-def reports(kind, slots, words, events, capacity):
-    """The receiver's reports in the run of these events, as lines."""
-    machine = Machine(opened(kind, slots, words), capacity)
-    state, told = machine.opening, []
-    for event in events:
-        outcome, entry, state = machine.step(state, event)
+class Channel:
+    """A channel as it runs: its state, the events that ran and the receiver's reports, as lines."""
+
+    def __init__(self, kind, slots, words, capacity):
+        self.machine = Machine(opened(kind, slots, words), capacity)
+        self.state = self.machine.opening
+        self.kind, self.events, self.reports = kind, [], []
+
+    def run(self, event):
+        outcome, entry, self.state = self.machine.step(self.state, event)
+        self.events.append(event)
         name, *parts = outcome.split()
         if entry and name in ("took", "closed"):
-            told.append(" ".join([name, *parts[1:]]))
-    return told
+            self.reports.append(" ".join([name, *parts[1:]]))
+
+    def land(self, hart):
+        """All that is pending there."""
+        while self.state[0][hart][3]:
+            self.run(("l", hart))
+
+    def is_ready(self, hart):
+        """Whether a sender runs and doesn't wait for the receiver."""
+        pc, registers, status, _, _ = self.state[0][hart]
+        if self.kind == "lamport":
+            waits = pc == 0x18 and word_at(self.state[1], registers[8] + 8) == registers[6]
+        else:
+            waits = pc == 0x10 and word_at(self.state[1], registers[28] + 16) != 0
+        return status == RUNNING and not waits
+
+    def finish(self):
+        """The plan, where a sender isn't reported closed."""
+        harts = range(len(self.state[0]))
+        closings = {f"closed {sender}" for sender in harts[:-1]}
+        if closings <= set(self.reports):
+            return
+        for hart in harts:
+            self.land(hart)
+        while not closings <= set(self.reports):
+            hart = max((hart for hart in harts[1:] if self.is_ready(hart)), default=0)
+            self.run(("a", hart))
+            self.land(hart)
+
+
+def reports(kind, slots, words, events, capacity, finish=False):
+    """The receiver's reports in the run of these events, and of the plan behind them if the channel is to
+    be finished."""
+    channel = Channel(kind, slots, words, capacity)
+    for event in events:
+        channel.run(event)
+    if finish:
+        channel.finish()
+    return channel.reports

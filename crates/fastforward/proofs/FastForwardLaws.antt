@@ -83,8 +83,8 @@ landing k n new mine theirs l = record {
   grows = record { tails = refl; dones = refl; took = refl; shut = refl; marks = l.marks_later; later = (refl, l.words_later) };
 }
 
-pub fastforward-laws : BlockLaws fastforward_blocks sender_code
-fastforward-laws = record {
+pub fastforward_laws : BlockLaws fastforward_blocks sender_code
+fastforward_laws = record {
   begins = begins;
   tails_all = λ k n order. omega (arith, order.c_u, order.u_ls, order.ls_p, order.p_all);
   dones_one = λ k n order. order.d_one;
@@ -115,17 +115,17 @@ fastforward-laws = record {
   moves_24 = middle_24;
 }
 
-pub fastforward-short : IsShort fastforward
-fastforward-short = (lit≤ tt, lit≤ tt)
+pub fastforward_short : IsShort fastforward
+fastforward_short = (lit≤ tt, lit≤ tt)
 
-pub fastforward-opens : Opens fastforward fastforward_means
-fastforward-opens = opens fastforward_blocks sender_code fastforward-laws 1 (lit≤ tt)
+pub fastforward_opens : Opens fastforward fastforward_means
+fastforward_opens = opens fastforward_blocks sender_code fastforward_laws 1 (lit≤ tt)
 
-pub fastforward-keeps : Keeps fastforward fastforward_means
-fastforward-keeps = keeps fastforward_blocks sender_code fastforward-laws 1 (lit≤ tt)
+pub fastforward_keeps : Keeps fastforward fastforward_means
+fastforward_keeps = keeps fastforward_blocks sender_code fastforward_laws 1 (lit≤ tt)
 
-pub fastforward-cleans : Cleans fastforward fastforward_means
-fastforward-cleans = cleans fastforward_blocks sender_code fastforward-laws 1 (lit≤ tt)
+pub fastforward_cleans : Cleans fastforward fastforward_means
+fastforward_cleans = cleans fastforward_blocks sender_code fastforward_laws 1 (lit≤ tt)
 
-pub fastforward-goes : Goes fastforward fastforward_means
-fastforward-goes = goes fastforward_blocks sender_code fastforward-laws 1 (lit≤ tt)
+pub fastforward_goes : Goes fastforward fastforward_means
+fastforward_goes = goes fastforward_blocks sender_code fastforward_laws 1 (lit≤ tt)

@@ -10,3 +10,4 @@ pub mod MiddleLines
 pub mod MiddleMoves
 pub mod ReceiverActs
 pub mod FastForwardLaws
+pub mod Nearing

@@ -7,7 +7,9 @@
 ghost use Rattle.fastforward.specs.Listing.{sender_code, sender_lines, receiver_code, receiver_lines};
 ghost use Rattle.poll_close.specs.Means.{AllMean};
 
-use poll_close::RingKind;
+use hart::status::Status;
+use poll_close::{Finish, RingKind};
+use step_machine::Machine;
 
 #[cfg(test)]
 mod tests;
@@ -48,10 +50,31 @@ impl RingKind for FastForward {
         1
     }
 
+    #[tactic(auto, using(crate::proofs::FastForwardLaws::fastforward_short, crate::proofs::FastForwardLaws::fastforward_opens, crate::proofs::FastForwardLaws::fastforward_keeps, crate::proofs::FastForwardLaws::fastforward_cleans, crate::proofs::FastForwardLaws::fastforward_goes))]
     fn laws() {}
 }
 
+impl<const B: usize, const M: usize> Finish<B, M> for FastForward {
+    ghost use Rattle.fastforward.specs.FastForward.{fastforward_pace};
+
+    ghost pace = { fastforward_pace };
+
+    fn is_ready(machine: &Machine<B, M>, hart: u32) -> bool {
+        match machine.status(hart) {
+            Status::Running => {
+                machine.pc(hart) != 0x10 || machine.word(machine.register(hart, 28) + 16) == 0
+            }
+            Status::Ended => false,
+            Status::Stopped(_) => false,
+        }
+    }
+
+    #[tactic(auto, using(crate::proofs::Nearing::fastforward_nears))]
+    fn nears() {}
+}
+
 /// Each word of the tables means its line's instruction. It does nothing.
+#[tactic(auto, using(crate::proofs::Means::sender_means, crate::proofs::Means::receiver_means))]
 pub fn tables_mean()
     ensures sender { AllMean sender_code sender_lines }
     ensures receiver { AllMean receiver_code receiver_lines }

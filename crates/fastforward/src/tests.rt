@@ -288,3 +288,20 @@ fn a_channel_is_refused(rt: HostRuntime) -> Result<(), Fail> {
     expect_refusal(&rt, &[&[3, 0]], 1, Some(zero))?;
     Ok(())
 }
+
+#[test]
+fn a_plan_finishes_three_words_in_one_slot(rt: HostRuntime) -> Result<(), Fail> {
+    let lists = lists_of(rt.alloc(), &[&[9, 9, 9]])?;
+    let mut channel = Channel::<FastForward, 1, 4096>::open(rt.alloc(), &lists, 1)?;
+    let plan = channel.finish_plan(rt.alloc())?;
+    for event in &plan {
+        channel.step(*event)?;
+    }
+    let took = Report::Took { sender: 0, word: 9 };
+    let all = [took, took, took, Report::Closed { sender: 0 }];
+    assert_eq!(rt; channel.reports(), all.as_slice());
+    // nothing is left to do
+    let rest = channel.finish_plan(rt.alloc())?;
+    assert_eq!(rt; rest.len(), 0);
+    Ok(())
+}

@@ -144,8 +144,8 @@ landing k n new mine theirs l = record {
   grows = record { tails = refl; dones = refl; took = refl; shut = refl; marks = l.marks; later = l.heads };
 }
 
-pub lamport-laws : BlockLaws lamport_blocks sender_code
-lamport-laws = record {
+pub lamport_laws : BlockLaws lamport_blocks sender_code
+lamport_laws = record {
   begins = begins;
   tails_all = λ k n order. omega (arith, order.c_kh, order.kh_ls, order.ls_p, order.p_all);
   dones_one = λ k n order. order.d_one;
@@ -176,17 +176,17 @@ lamport-laws = record {
   moves_24 = middle_24;
 }
 
-pub lamport-short : IsShort lamport
-lamport-short = (lit≤ tt, lit≤ tt)
+pub lamport_short : IsShort lamport
+lamport_short = (lit≤ tt, lit≤ tt)
 
-pub lamport-opens : Opens lamport lamport_means
-lamport-opens = opens lamport_blocks sender_code lamport-laws 2 (lit≤ tt)
+pub lamport_opens : Opens lamport lamport_means
+lamport_opens = opens lamport_blocks sender_code lamport_laws 2 (lit≤ tt)
 
-pub lamport-keeps : Keeps lamport lamport_means
-lamport-keeps = keeps lamport_blocks sender_code lamport-laws 2 (lit≤ tt)
+pub lamport_keeps : Keeps lamport lamport_means
+lamport_keeps = keeps lamport_blocks sender_code lamport_laws 2 (lit≤ tt)
 
-pub lamport-cleans : Cleans lamport lamport_means
-lamport-cleans = cleans lamport_blocks sender_code lamport-laws 2 (lit≤ tt)
+pub lamport_cleans : Cleans lamport lamport_means
+lamport_cleans = cleans lamport_blocks sender_code lamport_laws 2 (lit≤ tt)
 
-pub lamport-goes : Goes lamport lamport_means
-lamport-goes = goes lamport_blocks sender_code lamport-laws 2 (lit≤ tt)
+pub lamport_goes : Goes lamport lamport_means
+lamport_goes = goes lamport_blocks sender_code lamport_laws 2 (lit≤ tt)

@@ -9,3 +9,4 @@ pub mod SenderActs
 pub mod MiddleLines
 pub mod MiddleMoves
 pub mod LamportLaws
+pub mod Nearing

@@ -14,8 +14,8 @@ receiver-decoded : map meaning receiver_code ≡ map Some receiver_lines
 unfolding meaning
 receiver-decoded = refl
 
-pub sender-means : AllMean sender_code sender_lines
-sender-means = all_mean sender_code sender_lines sender-decoded
+pub sender_means : AllMean sender_code sender_lines
+sender_means = all_mean sender_code sender_lines sender-decoded
 
-pub receiver-means : AllMean receiver_code receiver_lines
-receiver-means = all_mean receiver_code receiver_lines receiver-decoded
+pub receiver_means : AllMean receiver_code receiver_lines
+receiver_means = all_mean receiver_code receiver_lines receiver-decoded

@@ -1,6 +1,8 @@
--- Lamport's ring, and what its histories mean.
-use Rattle.std.specs.Prelude.{◌≤◌}
+-- Lamport's ring, what its histories mean, and how far its harts are from their ends.
+use Rattle.std.specs.Prelude.{ℕ, ◌≤◌, ◌+◌, ◌*◌, ◌/◌, ◌%◌, ◌==◌, Bool, false, ◌&&◌, if◌then◌else◌, List, [], ◌∷◌, length, slice_index}
+use Rattle.hart.specs.State.{HartState}
 use Rattle.poll_close.specs.Laws.{Ring, Meaning}
+use Rattle.poll_close.specs.Plans.{Pace, is_running}
 use Rattle.poll_close.specs.Invariant.BlockMeaning.{BlockMeaning}
 use Rattle.poll_close.specs.Invariant.Channels.{means_by}
 use Rattle.lamport_ring.specs.Listing.{sender_code, receiver_code}
@@ -38,3 +40,28 @@ lamport_blocks = record {
 
 abbrev pub lamport_means : Meaning
 lamport_means = means_by lamport_blocks
+
+-- ---- how far a sender is from its end, when it waits, and when a visit of the receiver may find nothing
+-- though a word is there by now
+
+-- by its place, and where it has read the tail by what it read
+abbrev pub place_left : ℕ → ℕ → ℕ → ℕ → ℕ
+place_left pc x6 x7 x11 = if pc == 0x08 then 5 + 15 * x11 else if pc == 0x1C then (if x7 == x6 then 16 else 14) else slice_index (8 ∷ 7 ∷ 0 ∷ 19 ∷ 18 ∷ 17 ∷ 15 ∷ 0 ∷ 13 ∷ 12 ∷ 11 ∷ 10 ∷ 9 ∷ 4 ∷ 3 ∷ 2 ∷ 1 ∷ []) (pc / 4)
+
+-- the words in its inbox, then its place
+abbrev pub sender_left : HartState → ℕ
+sender_left s = 32 * length s.inbox + (if is_running s.status then place_left s.pc (slice_index s.registers 6) (slice_index s.registers 7) (slice_index s.registers 11) else 0)
+
+-- it is about to read the tail, and will find its ring full
+abbrev pub waits : HartState → (ℕ → ℕ) → Bool
+waits s word = (s.pc == 0x18) && (word (slice_index s.registers 8 + 8) == slice_index s.registers 6)
+
+abbrev pub stale : HartState → ℕ → ℕ → Bool → Bool
+stale s took size ended =
+    if s.pc == 0x14 then (slice_index s.registers 30 == 0) && ended
+    else if s.pc == 0x18 then (slice_index s.registers 30 == 0) && (slice_index s.registers 6 == 4 * (took % size))
+    else if s.pc == 0x1C then (slice_index s.registers 30 == 0) && (slice_index s.registers 6 == slice_index s.registers 7)
+    else false
+
+abbrev pub lamport_pace : Pace
+lamport_pace = record { sender = sender_left; waits = waits; stale = stale }

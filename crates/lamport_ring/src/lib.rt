@@ -7,7 +7,9 @@
 ghost use Rattle.lamport_ring.specs.Listing.{sender_code, sender_lines, receiver_code, receiver_lines};
 ghost use Rattle.poll_close.specs.Means.{AllMean};
 
-use poll_close::RingKind;
+use hart::status::Status;
+use poll_close::{Finish, RingKind};
+use step_machine::Machine;
 
 #[cfg(test)]
 mod tests;
@@ -49,10 +51,32 @@ impl RingKind for Lamport {
         2
     }
 
+    #[tactic(auto, using(crate::proofs::LamportLaws::lamport_short, crate::proofs::LamportLaws::lamport_opens, crate::proofs::LamportLaws::lamport_keeps, crate::proofs::LamportLaws::lamport_cleans, crate::proofs::LamportLaws::lamport_goes))]
     fn laws() {}
 }
 
+impl<const B: usize, const M: usize> Finish<B, M> for Lamport {
+    ghost use Rattle.lamport_ring.specs.Lamport.{lamport_pace};
+
+    ghost pace = { lamport_pace };
+
+    fn is_ready(machine: &Machine<B, M>, hart: u32) -> bool {
+        match machine.status(hart) {
+            Status::Running => {
+                machine.pc(hart) != 0x18
+                    || machine.word(machine.register(hart, 8) + 8) != machine.register(hart, 6)
+            }
+            Status::Ended => false,
+            Status::Stopped(_) => false,
+        }
+    }
+
+    #[tactic(auto, using(crate::proofs::Nearing::lamport_nears))]
+    fn nears() {}
+}
+
 /// Each word of the tables means its line's instruction. It does nothing.
+#[tactic(auto, using(crate::proofs::Means::sender_means, crate::proofs::Means::receiver_means))]
 pub fn tables_mean()
     ensures sender { AllMean sender_code sender_lines }
     ensures receiver { AllMean receiver_code receiver_lines }

@@ -270,3 +270,65 @@ fn threads_refuse_lists_by_number(rt: HostRuntime) -> Result<(), Fail> {
     assert_eq!(rt; answer.err().map(|fault| fault.number()), Some(17));
     Ok(())
 }
+
+/// All of these events.
+fn run_all<const B: usize>(
+    channel: &mut Channel<Lamport, B, 4096>,
+    events: &[Event],
+) -> Result<(), AllocError> {
+    match channel.run(events) {
+        Ok(()) => Ok(()),
+        Err((_, error)) => Err(error),
+    }
+}
+
+/// A channel over one list and a ring of two slots, where these steps and then its plan have run.
+fn finished<const B: usize>(
+    alloc: Global,
+    list: &[u32],
+    steps: &[(Event, u32)],
+) -> Result<Channel<Lamport, B, 4096>, Refused>
+    requires some_capacity { 1 ≤ B }
+    requires capacity { B ≤ 64 }
+{
+    let mut lists = Vec::new(alloc);
+    lists.push(Vec::from_slice(alloc, list)?)?;
+    let mut channel = Channel::open(alloc, &lists, 2)?;
+    let events = events_of(alloc, steps)?;
+    run_all(&mut channel, &events)?;
+    let plan = channel.finish_plan(alloc)?;
+    run_all(&mut channel, &plan)?;
+    Ok(channel)
+}
+
+#[test]
+fn an_empty_list_is_closed(rt: HostRuntime) -> Result<(), Fail> {
+    let steps = [(Event::Act(1), 7), (Event::Act(0), 18)];
+    let channel = finished::<4>(rt.alloc(), &[], &steps)?;
+    assert_eq!(rt;
+        channel.reports(),
+        [Report::Closed { sender: 0 }].as_slice()
+    );
+    Ok(())
+}
+
+#[test]
+fn three_words_are_finished(rt: HostRuntime) -> Result<(), Fail> {
+    let steps = [
+        (Event::Act(1), 10),
+        (Event::Land(1), 1),
+        (Event::Act(0), 13),
+        (Event::Land(1), 1),
+        (Event::Act(0), 16),
+    ];
+    let took = Report::Took { sender: 0, word: 9 };
+    let all = [took, took, took, Report::Closed { sender: 0 }];
+    let two = finished::<2>(rt.alloc(), &[9, 9, 9], &steps)?;
+    assert_eq!(rt; two.reports(), all.as_slice());
+    let one = finished::<1>(rt.alloc(), &[9, 9, 9], &steps)?;
+    assert_eq!(rt; one.reports(), all.as_slice());
+    // nothing is left to do
+    let rest = one.finish_plan(rt.alloc())?;
+    assert_eq!(rt; rest.len(), 0);
+    Ok(())
+}

@@ -166,9 +166,11 @@ module _ (m : BlockMeaning) (code : List ℕ) (laws : BlockLaws m code) (least :
     }
 
   pub opens : Opens ring_by (means_by m)
+  unfolding Opens
   opens B M lists S accepted = opened M S lists accepted
 
   pub keeps : Keeps ring_by (means_by m)
+  unfolding Keeps
   keeps B M lists S t e accepted is kept can ch =
       elim (act_or_land e) [
         | inl act ↦ acts (hart_of e) refl act

@@ -1,5 +1,5 @@
 -- One report more keeps reports clean.
-use Rattle.std.proofs.Common.{ℕ, zero, suc, ◌+◌, ◌<◌, ◌≡◌, ◌≢◌, ◌==◌, ◌⊎◌, inl, inr, Bool, true, false, if◌then◌else◌, List, [], ◌∷◌, ◌++◌, length, take, drop, Some, refl, sym, ◌∙◌, ap, subst, arith, append-nil, eq-eqb}
+use Rattle.std.proofs.Common.{ℕ, zero, suc, ◌+◌, ◌<◌, ◌≡◌, ◌≢◌, ◌==◌, ◌⊎◌, inl, inr, Bool, true, false, if◌then◌else◌, List, [], ◌∷◌, ◌++◌, length, take, drop, Some, refl, sym, ◌∙◌, ap, subst, arith, append-nil, length-append, eq-eqb}
 use Rattle.std.specs.Prelude.{slice_index}
 use Rattle.std.specs.List.{slice_get, slice_index_or}
 use Rattle.std.proofs.lemmas.Bool.Decides.{nat_tests}
@@ -21,7 +21,7 @@ get_last (z ∷ xs) x y (suc k) is =
       | inr b ↦ inr (omega (arith, b.0), b.1)
     ]
 
-get_front : (xs ys : List Report) (k : ℕ) (x : Report) → slice_get xs k ≡ Some x → slice_get (xs ++ ys) k ≡ Some x
+pub get_front : (xs ys : List Report) (k : ℕ) (x : Report) → slice_get xs k ≡ Some x → slice_get (xs ++ ys) k ≡ Some x
 get_front [] ys k x is = cc
 get_front (z ∷ xs) ys zero x is = is
 get_front (z ∷ xs) ys (suc k) x is = get_front xs ys k x is
@@ -107,3 +107,18 @@ told_closed rs i list took shut told = record { words = taken-closed rs i i ∙ 
 
 pub prefix_take : (list : List ℕ) (xs : List ℕ) (n : ℕ) → xs ≡ take n list → IsPrefixOf xs list
 prefix_take list xs n is = (drop n list, ap (λ ys. ys ++ drop n list) is ∙ take-append-drop n list)
+
+nothing_left : (xs : List ℕ) → length xs ≡ 0 → xs ≡ []
+nothing_left [] none = refl
+nothing_left (x ∷ xs) none = absurd (omega arith)
+
+-- of a sender that is reported closed the whole list is taken
+pub closed_whole : (rs : List Report) (lists : List (List ℕ)) (i k : ℕ) → Clean rs lists → slice_get rs k ≡ Some (report.Closed i) → taken rs i ≡ slice_index_or lists i []
+closed_whole rs lists i k clean is =
+    let split : taken rs i ≡ taken (take k rs) i ++ taken (drop k rs) i = ap (λ ys. taken ys i) (sym (take-append-drop k rs)) ∙ taken-append (take k rs) (drop k rs) i in
+    let first : length (taken rs i) ≡ length (taken (take k rs) i) + length (taken (drop k rs) i) = ap length split ∙ length-append (taken (take k rs) i) (taken (drop k rs) i) in
+    let whole : length (taken (take k rs) i) ≡ length (slice_index_or lists i []) = ap length (clean.whole i k is) in
+    let rest : List ℕ = (clean.in_order i).0 in
+    let all : length (taken rs i) + length rest ≡ length (slice_index_or lists i []) = sym (length-append (taken rs i) rest) ∙ ap length (clean.in_order i).1 in
+    let none : rest ≡ [] = nothing_left rest (omega (arith, first, whole, all)) in
+    sym (append-nil (taken rs i)) ∙ ap (λ ys. taken rs i ++ ys) (sym none) ∙ (clean.in_order i).1

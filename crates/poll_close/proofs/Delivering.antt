@@ -22,6 +22,7 @@ pub record Known (ring : Ring) (means : Meaning) (B M : ℕ) (lists : List (List
 
 module _ (ring : Ring) (means : Meaning) (keeps : Keeps ring means) (B M : ℕ) (lists : List (List ℕ)) (S : ℕ) (accepted : Accepted ring M lists S) where
   pub known-happens : (t : History) (ev : Event) (o : Outcome) (new : History) → Known ring means B M lists S t → Happens B M t ev o new → Known ring means B M lists S new
+  unfolding Keeps
   known-happens t ev o new known h =
       let kept : Kept B M new = kept-happens B M t ev o new known.kept h in
       elim (shape_of B M t ev o new h) [
@@ -34,6 +35,7 @@ module _ (ring : Ring) (means : Meaning) (keeps : Keeps ring means) (B M : ℕ) 
   known-run t (ev ∷ evs) new known run = known-run run.1 evs new (known-happens t ev run.0 run.1 known run.2) run.3
 
 pub delivers : (ring : Ring) (means : Meaning) (B M : ℕ) (lists : List (List ℕ)) (S : ℕ) (evs : List Event) (t : History) (o : Start) (reports : List Report) → Opens ring means → Keeps ring means → Cleans ring means → Accepted ring M lists S → o ≡ opening_of ring.sender ring.receiver lists S → Run B M o evs t → reports ≡ reported 0 t.entries → Delivers B M o lists evs reports
+unfolding Opens
 delivers ring means B M lists S evs t o reports opens keeps cleans accepted is run answer =
     let first : Known ring means B M lists S (unrun o) = record { opening = is; kept = kept-unrun B M o; meant = subst (λ (p : Start). means B M lists S (unrun p)) (sym is) (opens B M lists S accepted) } in
     let last : Known ring means B M lists S t = known-run ring means keeps B M lists S accepted (unrun o) evs t first run in

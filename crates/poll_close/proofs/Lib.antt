@@ -11,9 +11,12 @@ pub mod ReceiverMoves
 pub mod ReceiverStays
 pub mod CleanReports
 pub mod Delivering
-pub mod SenderHarts
 pub mod AllBlocks
 pub mod ReceiverActs
 pub mod ChannelLaws
 pub mod Standing
-pub mod ZeroWords
+pub mod Planning
+pub mod Distance
+pub mod Shares
+pub mod Progress
+pub mod Opened

@@ -117,10 +117,10 @@ module _ (m : BlockMeaning) (M S : ℕ) (lists : List (List ℕ)) (f : ℕ → m
       (λ i is. subst (λ (j : ℕ). taken rs j ≡ slice_index_or lists j []) (ap sender_of is) ((told.told b known).words ∙ ap (λ c. take c (slice_index_or lists b [])) closing.3 ∙ take-length (slice_index_or lists b []))))
 
 module _ (m : BlockMeaning) (code : List ℕ) (laws : BlockLaws m code) (B M S : ℕ) (lists : List (List ℕ)) (are : (i : ℕ) → i < length lists → IsBlock (block_of M S lists i)) (few : length lists ≤ 63) (t : History) (f : ℕ → m.Count) (legal : Legal B t) (opens : OpensWithWords t.opening) (written : AllWriteWords t.entries) (parts : (i : ℕ) → i < length lists → BlockPart m (block_of M S lists i) M i t (f i)) (part : ReceiverPart m M S lists t f) (told : ReportPart m lists (reported 0 t.entries) f) where
-  quiet_one : (j : ℕ) → j < length lists → Quiet m (f j) → m.shut (f j) ≤ 1
+  pub quiet_one : (j : ℕ) → j < length lists → Quiet m (f j) → m.shut (f j) ≤ 1
   quiet_one j within q = omega (arith, q.closed, laws.dones_one (block_of M S lists j) (f j) (parts j within).order)
 
-  owed_at : (place : ReceiverPlace) → ReceiverIs m (block_of M S lists part.block) part.block place (f part.block) part.noted → part.noted.x20 + shuts m f (length lists) ≡ length lists + due place → due place ≤ part.noted.x20
+  pub owed_at : (place : ReceiverPlace) → ReceiverIs m (block_of M S lists part.block) part.block place (f part.block) part.noted → part.noted.x20 + shuts m f (length lists) ≡ length lists + due place → due place ≤ part.noted.x20
   owed_at R60 h is = let most : shuts m f (length lists) ≤ length lists = shuts_most m f (length lists) (λ j within. elim (cases_eq j part.block) [
     | inl same ↦ subst (λ (z : ℕ). m.shut (f z) ≤ 1) (sym same) (quiet_one part.block part.known h.0)
     | inr other ↦ quiet_one j within (part.others j within other)
@@ -131,20 +131,20 @@ module _ (m : BlockMeaning) (code : List ℕ) (laws : BlockLaws m code) (B M S :
   due_one R60 = omega arith
   due_one here = omega arith
 
-  small : part.noted.x20 ≤ 64
+  pub small : part.noted.x20 ≤ 64
   small = omega (arith, few, due_one part.place, part.count)
 
   count_after : (n : m.Count) (noted : Noted) (there : ReceiverPlace) → noted.x20 + m.shut n + due part.place ≡ part.noted.x20 + m.shut (f part.block) + due there → noted.x20 + shuts m (put f part.block n) (length lists) ≡ length lists + due there
   count_after n noted there counts = omega (arith, part.count, shuts_put m f part.block n (length lists) part.known)
 
-  moves_by : (v : ℕ) → (receives m.middle (whole_of (block_of M S lists part.block) (length lists)) part.place part.noted).status ≡ status.Running → Finds m (block_of M S lists part.block) (length lists) part.place (f part.block) (word_in_memory t.opening t.entries) part.noted v → Receives m (block_of M S lists part.block) part.block (length lists) part.place (f part.block) part.noted v
+  pub moves_by : (v : ℕ) → (receives m.middle (whole_of (block_of M S lists part.block) (length lists)) part.place part.noted).status ≡ status.Running → Finds m (block_of M S lists part.block) (length lists) part.place (f part.block) (word_in_memory t.opening t.entries) part.noted v → Receives m (block_of M S lists part.block) part.block (length lists) part.place (f part.block) part.noted v
   moves_by v runs find = receives_on m code laws (block_of M S lists part.block) (are part.block part.known) part.block (length lists) refl part.known few (f part.block) (parts part.block part.known).order (word_in_memory t.opening t.entries) (parts part.block part.known).words part.noted v part.place runs find (owed_at part.place part.holds part.count) small part.holds
 
   -- what it stores goes to the visited block
   stored_is : (v : ℕ) (r : Receives m (block_of M S lists part.block) part.block (length lists) part.place (f part.block) part.noted v) (x : ℕ × ℕ) → stored_by r.wanted ≡ x ∷ [] → IsStore (block_of M S lists part.block) x
   stored_is v r x one = laws.unread_are (block_of M S lists part.block) r.after (are part.block part.known) r.changes.order (length (m.unread (block_of M S lists part.block) (f part.block))) x (ap (λ ps. slice_get ps (length (m.unread (block_of M S lists part.block) (f part.block)))) (sym r.changes.unread ∙ ap (λ ps. m.unread (block_of M S lists part.block) (f part.block) ++ ps) one) ∙ get_end (m.unread (block_of M S lists part.block) (f part.block)) x)
 
-  plain_by : (receives m.middle (whole_of (block_of M S lists part.block) (length lists)) part.place part.noted).status ≡ status.Running → Plain (need_of (receives m.middle (whole_of (block_of M S lists part.block) (length lists)) part.place part.noted))
+  pub plain_by : (receives m.middle (whole_of (block_of M S lists part.block) (length lists)) part.place part.noted).status ≡ status.Running → Plain (need_of (receives m.middle (whole_of (block_of M S lists part.block) (length lists)) part.place part.noted))
   plain_by runs =
       let seen : ℕ → ℕ = seen_at m (block_of M S lists part.block) (f part.block) (word_in_memory t.opening t.entries) in
       let v : ℕ = would_read seen (need_of (receives m.middle (whole_of (block_of M S lists part.block) (length lists)) part.place part.noted)) in
@@ -163,7 +163,7 @@ module _ (m : BlockMeaning) (code : List ℕ) (laws : BlockLaws m code) (B M S :
       ]
 
   -- what the act found in the visited block
-  found : (b : ℕ) → IsWordOf (block_of M S lists part.block) b → read t.opening t.entries 0 b 4 ≡ seen_at m (block_of M S lists part.block) (f part.block) (word_in_memory t.opening t.entries) b
+  pub found : (b : ℕ) → IsWordOf (block_of M S lists part.block) b → read t.opening t.entries 0 b 4 ≡ seen_at m (block_of M S lists part.block) (f part.block) (word_in_memory t.opening t.entries) b
   found b word =
       read_is t 0 b opens written word.aligned
       ∙ ap (λ o. unwrap_or o (word_in_memory t.opening t.entries b)) (sym (newest-to_block (block_of M S lists part.block) b None (pending 0 t.entries) word.within))

@@ -15,12 +15,13 @@ use Rattle.poll_close.specs.Reports.{Clean}
 use Rattle.poll_close.specs.Standing.{Stands, lists_of}
 use Rattle.poll_close.proofs.Delivering.{Known, known-happens, known-run}
 
-inboxes : (code : List ℕ) (S i : ℕ) (lists : List (List ℕ)) → map (λ (h : HartStart). h.inbox) (senders_from code S i lists) ≡ lists
+pub inboxes : (code : List ℕ) (S i : ℕ) (lists : List (List ℕ)) → map (λ (h : HartStart). h.inbox) (senders_from code S i lists) ≡ lists
 inboxes code S i [] = refl
 inboxes code S i (ws ∷ lists) = ap (λ rest. ws ∷ rest) (inboxes code S (i + 1) lists)
 
 module _ (ring : Ring) (means : Meaning) (B M : ℕ) where
   pub stands-opens : (lists : List (List ℕ)) (S : ℕ) (t : History) → Opens ring means → Accepted ring M lists S → t ≡ unrun (opening_of ring.sender ring.receiver lists S) → Stands ring means B M t
+  unfolding Opens
   stands-opens lists S t opens accepted is = subst (Stands ring means B M) (sym is) (record {
     opens = record { lists = lists; size = S; accepted = accepted; opening = refl };
     kept = kept-unrun B M (opening_of ring.sender ring.receiver lists S);

@@ -1,11 +1,13 @@
 -- What a channel delivers: the reports of the run of its events, and they are clean.
-use Rattle.std.specs.Prelude.{ℕ, ◌≡◌, List}
+use Rattle.std.specs.Prelude.{ℕ, ◌≡◌, ◌<◌, true, List, [], length}
+use Rattle.std.specs.List.{slice_index_or}
 use Rattle.hart.specs.declared.need.Report.{Report}
 use Rattle.step_machine.specs.declared.events.Event.{Event}
 use Rattle.step_machine.specs.History.{Start, History}
 use Rattle.step_machine.specs.Entries.{reported}
-use Rattle.step_machine.specs.Runs.{Run}
-use Rattle.poll_close.specs.Reports.{Clean}
+use Rattle.step_machine.specs.Runs.{Run, RunFrom}
+use Rattle.poll_close.specs.Reports.{taken, Clean}
+use Rattle.poll_close.specs.Plans.{is_closed, is_done}
 
 -- these are hart 0's reports in the run of the events from this opening, and they are clean
 pub record Delivers (B M : ℕ) (o : Start) (lists : List (List ℕ)) (events : List Event) (reports : List Report) : Type 0 where
@@ -13,3 +15,17 @@ pub record Delivers (B M : ℕ) (o : Start) (lists : List (List ℕ)) (events : 
   pub run : Run B M o events history
   pub answer : reports ≡ reported 0 history.entries
   pub clean : Clean reports lists
+
+-- after the events a plan ran, which has none where it is not needed: these are hart 0's reports at its
+-- end, they are clean, each list is taken whole and each sender is reported closed
+pub record DeliversWhole (B M : ℕ) (o : Start) (lists : List (List ℕ)) (events : List Event) (reports : List Report) : Type 0 where
+  pub plan : List Event
+  pub middle : History
+  pub history : History
+  pub run : Run B M o events middle
+  pub finish : RunFrom B M middle plan history
+  pub none : is_done middle ≡ true → plan ≡ []
+  pub answer : reports ≡ reported 0 history.entries
+  pub clean : Clean reports lists
+  pub closed : (i : ℕ) → i < length lists → is_closed reports i ≡ true
+  pub whole : (i : ℕ) → i < length lists → taken reports i ≡ slice_index_or lists i []

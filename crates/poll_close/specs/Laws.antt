@@ -31,10 +31,10 @@ pub record Accepted (ring : Ring) (M : ℕ) (lists : List (List ℕ)) (S : ℕ) 
 abbrev pub Meaning : Type 1
 Meaning = ℕ → ℕ → List (List ℕ) → ℕ → History → Type 0
 
-abbrev pub Opens : Ring → Meaning → Type 0
+unfoldable pub Opens : Ring → Meaning → Type 0
 Opens ring means = (B M : ℕ) (lists : List (List ℕ)) (S : ℕ) → Accepted ring M lists S → means B M lists S (unrun (opening_of ring.sender ring.receiver lists S))
 
-abbrev pub Keeps : Ring → Meaning → Type 0
+unfoldable pub Keeps : Ring → Meaning → Type 0
 Keeps ring means = (B M : ℕ) (lists : List (List ℕ)) (S : ℕ) (t : History) (e : Entry) → Accepted ring M lists S → t.opening ≡ opening_of ring.sender ring.receiver lists S → Kept B M t → CanFollow B M t e → means B M lists S t → means B M lists S (with_entry t e)
 
 abbrev pub Cleans : Ring → Meaning → Type 0

@@ -6,4 +6,5 @@ pub mod Means
 pub mod Delivery
 pub mod Refusals
 pub mod Standing
+pub mod Plans
 pub mod Invariant

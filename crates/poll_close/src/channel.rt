@@ -1,6 +1,7 @@
 //! A channel that runs event by event.
 
 ghost use Rattle.std.specs.Prelude.{◌≡◌, ◌≤◌, ◌<◌, ℕ, List, IfOk, IfErr, OnOk, OnErr, map, take, length};
+ghost use Rattle.step_machine.specs.Runs.{event_of};
 ghost use Rattle.poll_close.specs.Layout.{opening_of};
 ghost use Rattle.poll_close.specs.Laws.{Accepted};
 ghost use Rattle.poll_close.specs.Refusals.{Refuses};
@@ -8,11 +9,12 @@ ghost use Rattle.poll_close.specs.Refusals.{Refuses};
 use crate::faults::Refused;
 use crate::kind::RingKind;
 use crate::openings::opening;
+use crate::plans::{Finish, plan_of};
 use hart::need::Report;
 use std::alloc::{AllocError, Global};
 use std::marker::{Model, PhantomData};
 use step_machine::laws::laws_of_runs;
-use step_machine::{Event, Machine, Outcome, Trace};
+use step_machine::{Entry, Event, Machine, Outcome, Trace};
 
 /// A channel of a kind of ring, over harts with store buffers of `B` pairs and a memory of `M` words. A
 /// contract sees its machine: the history, which stands as the ring's laws say, and for how many more
@@ -32,7 +34,7 @@ impl<K: RingKind, const B: usize, const M: usize> Model for Channel<K, B, M> {
 
     ghost view = { λ c. c.machine };
 
-    ghost invariant = { λ c. (1 ≤ B) × Stands K.ring K.meaning B M c.machine.history };
+    ghost invariant = { λ c. (1 ≤ B) × Stands K.ring K.meaning B M c.machine.history × (B ≤ 64) × (1 ≤ M) };
 }
 
 impl<K: RingKind, const B: usize, const M: usize> Channel<K, B, M> {
@@ -104,5 +106,47 @@ impl<K: RingKind, const B: usize, const M: usize> Channel<K, B, M> {
         K::laws();
         laws_of_runs();
         self.machine.trace(alloc)
+    }
+}
+
+impl<K: Finish<B, M>, const B: usize, const M: usize> Channel<K, B, M> {
+    ghost use Rattle.std.specs.Prelude.{[], true};
+    ghost use Rattle.poll_close.specs.Plans.{Finishes, is_done};
+
+    /// Events that finish the channel from where it stands: after them every sender is reported closed
+    /// and its whole list is taken. There are none where that is so already. The channel is left as it
+    /// is: the plan is found on a second machine, which runs the entries' events first.
+    pub fn finish_plan(&self, alloc: Global) -> Result<Vec<Event>, AllocError>
+        ensures finishes { IfOk result (λ plan. Finishes B M self.now.history plan.items) }
+        ensures none { IfOk result (λ plan. is_done self.now.history ≡ true → plan.items ≡ []) }
+    {
+        let mut machine = run_again(alloc, &self.machine)?;
+        plan_of::<K, B, M>(alloc, &mut machine)
+    }
+}
+
+/// The entries' events.
+fn events_of(alloc: Global, entries: &[Entry]) -> Result<Vec<Event>, AllocError>
+    ensures { IfOk result (λ v. v.items ≡ map event_of entries.now) }
+{
+    entries.iter().map(|entry| entry.event()).collect(alloc)
+}
+
+/// A second machine with the same history.
+fn run_again<const B: usize, const M: usize>(
+    alloc: Global,
+    machine: &Machine<B, M>,
+) -> Result<Machine<B, M>, AllocError>
+    requires some_capacity { 1 ≤ B }
+    requires capacity { B ≤ 64 }
+    requires some_word { 1 ≤ M }
+    requires memory { M ≤ 65536 }
+    ensures { IfOk result (λ m. m.history ≡ machine.now.history) }
+{
+    let events = events_of(alloc, machine.entries())?;
+    let mut second = Machine::open(alloc, machine.opening().copy(alloc)?)?;
+    match second.run(&events) {
+        Ok(()) => Ok(second),
+        Err((_, error)) => Err(error),
     }
 }

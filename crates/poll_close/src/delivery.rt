@@ -9,11 +9,13 @@ ghost use Rattle.poll_close.specs.Layout.{opening_of};
 ghost use Rattle.poll_close.specs.Laws.{Accepted};
 ghost use Rattle.poll_close.specs.Refusals.{Refuses};
 ghost use Rattle.poll_close.specs.Reports.{Clean};
-ghost use Rattle.poll_close.specs.Delivery.{Delivers};
+ghost use Rattle.poll_close.specs.Delivery.{Delivers, DeliversWhole};
 
+use crate::channel::Channel;
 use crate::faults::Refused;
 use crate::kind::RingKind;
 use crate::openings::opening;
+use crate::plans::Finish;
 use hart::need::Report;
 use std::alloc::{AllocError, Global};
 use step_machine::{Event, Machine, Opening};
@@ -60,6 +62,35 @@ pub fn deliver<K: RingKind, const B: usize, const M: usize>(
 {
     let opening = opening::<K>(alloc, lists, ring, M)?;
     Ok(reports_of::<K, B, M>(alloc, opening, lists, ring, events)?)
+}
+
+/// What the receiver of such a channel reports when these events run from its opening and then its plan:
+/// clean reports of each list's whole words, and of each sender that it is closed. Err as [`opening`].
+pub fn deliver_whole<K: Finish<B, M>, const B: usize, const M: usize>(
+    alloc: Global,
+    lists: &[Vec<u32>],
+    ring: u32,
+    events: &[Event],
+) -> Result<Vec<Report>, Refused>
+    requires some_capacity { 1 ≤ B }
+    requires capacity { B ≤ 64 }
+    requires some_word { 1 ≤ M }
+    requires memory { M ≤ 65536 }
+    ensures whole { IfOk result (λ r. DeliversWhole B M (opening_of K.RingKind.ring.sender K.RingKind.ring.receiver (map (λ v. v.items) lists.now) ring) (map (λ v. v.items) lists.now) events.now r.items) }
+    ensures accepted { OnOk result (Accepted K.RingKind.ring M (map (λ v. v.items) lists.now) ring) }
+    ensures refused { IfErr result (λ e. Refuses K.RingKind.ring M (map (λ v. v.items) lists.now) ring e) }
+{
+    let mut channel = Channel::<K, B, M>::open(alloc, lists, ring)?;
+    match channel.run(events) {
+        Ok(()) => {}
+        Err((_, error)) => return Err(Refused::from(error)),
+    }
+    let plan = channel.finish_plan(alloc)?;
+    match channel.run(&plan) {
+        Ok(()) => {}
+        Err((_, error)) => return Err(Refused::from(error)),
+    }
+    Ok(Vec::from_slice(alloc, channel.reports())?)
 }
 
 /// The laws of channels of this kind: each opening fits its memory, and in each run from it what the

@@ -9,9 +9,11 @@ pub mod delivery;
 pub mod faults;
 pub mod kind;
 pub mod openings;
+pub mod plans;
 
 pub use channel::Channel;
-pub use delivery::{deliver, laws_of_channels};
+pub use delivery::{deliver, deliver_whole, laws_of_channels};
 pub use faults::Refused;
 pub use kind::RingKind;
 pub use openings::{MAX_SENDERS, opening};
+pub use plans::{Finish, plan_of};

@@ -1,12 +1,12 @@
 -- Each way of writing a job says that job.
-use Rattle.std.proofs.Common.{◌≡◌, ℕ, List, [], ◌∷◌, ◌++◌, map, Option, Some, refl, codes, ap, ap₂, sym, inl, inr, ◌∙◌, arith}
+use Rattle.std.proofs.Common.{◌≡◌, ℕ, Bool, true, false, List, [], ◌∷◌, ◌++◌, map, Option, Some, refl, codes, ap, ap₂, sym, inl, inr, ◌∙◌, arith}
 use Rattle.std.specs.Prelude.{Result}
 use Rattle.clap.specs.Words.{Text}
 use Rattle.clap.proofs.OnLiterals.{clap_on_literals}
 use Rattle.ztso.proofs.Pieces.{Piece, plain, other, text_in, ArePlain, IsCommand, said, pieces_fault, by_pieces}
 use Rattle.ztso.specs.CommandLines.{Answers, capacity_said, job_said, ◌>>=◌}
 use Rattle.ztso.specs.Numbers.{number_within}
-use Rattle.ztso.specs.Spellings.{AsksFor, AsksForTurns, IsOnFiles, IsSpelling, IsSpellingOf, IsWord, name_of, text_of}
+use Rattle.ztso.specs.Spellings.{AsksFor, AsksForTurns, AsksToFinish, IsOnFiles, IsSpelling, IsSpellingOf, IsWord, name_of, text_of}
 use Rattle.ztso.specs.declared.job.Ring.{Ring}
 use Rattle.ztso.specs.declared.job.Ring.TheVariants.{Lamport, FastForward}
 use Rattle.ztso.specs.declared.job.Task.{Task}
@@ -182,6 +182,11 @@ try_told file s n l equals t = refl
 
 -- ---- `channel`
 
+-- what stands for the wish to finish, before the capacity
+abbrev finish_pieces : Bool → List Piece → List Piece
+finish_pieces false tail = tail
+finish_pieces true tail = other (codes "--finish") ∷ tail
+
 abbrev channel_pieces : (ring : Ring) (number schedule : Text) → List Piece → List Piece
 channel_pieces ring number schedule tail = other (name_of ring) ∷ plain number ∷ plain schedule ∷ tail
 
@@ -189,25 +194,39 @@ channel_is_command : IsCommand (codes "channel")
 unfolding clap_on_literals
 channel_is_command = (refl, refl)
 
-abbrev carried : (ring : Ring) (number schedule : Text) → Option Capacity → Option Wanted
-carried ring number schedule found = on_schedule_of schedule (machine_of found (do
+abbrev carried : (ring : Ring) (number schedule : Text) (finish : Bool) → Option Capacity → Option Wanted
+carried ring number schedule finish found = on_schedule_of schedule (machine_of found (do
   slots ← number_within 0 4294967295 number
-  Some (Channel ring slots)))
+  Some (Channel ring slots finish)))
 
-carried_says : (ring : Ring) (number schedule : Text) (slots : ℕ) (capacity : Capacity) (found : Option Capacity)
+carried_says : (ring : Ring) (number schedule : Text) (slots : ℕ) (finish : Bool) (capacity : Capacity) (found : Option Capacity)
     → number_within 0 4294967295 number ≡ Some slots → found ≡ Some capacity
-    → carried ring number schedule found ≡ Some (two_inputs (Alone (Machine (Channel ring slots) capacity)) (File schedule) Standard)
-carried_says ring number schedule slots capacity found a b = rw (a, b) refl
+    → carried ring number schedule finish found ≡ Some (two_inputs (Alone (Machine (Channel ring slots finish) capacity)) (File schedule) Standard)
+carried_says ring number schedule slots finish capacity found a b = rw (a, b) refl
 
-channel_told : (ring : Ring) (number schedule : Text) (tail : Tail) (t : Text)
-    → said (codes "channel") (channel_pieces ring number schedule (tail_of tail t)) ≡ carried ring number schedule (capacity_at tail t)
+channel_told : (ring : Ring) (number schedule : Text) (finish : Bool) (tail : Tail) (t : Text)
+    → said (codes "channel") (channel_pieces ring number schedule (finish_pieces finish (tail_of tail t))) ≡ carried ring number schedule finish (capacity_at tail t)
 unfolding clap_on_literals pieces_fault
-channel_told Lamport number schedule none t = refl
-channel_told Lamport number schedule blank t = refl
-channel_told Lamport number schedule equals t = refl
-channel_told FastForward number schedule none t = refl
-channel_told FastForward number schedule blank t = refl
-channel_told FastForward number schedule equals t = refl
+channel_told Lamport number schedule false none t = refl
+channel_told Lamport number schedule false blank t = refl
+channel_told Lamport number schedule false equals t = refl
+channel_told Lamport number schedule true none t = refl
+channel_told Lamport number schedule true blank t = refl
+channel_told Lamport number schedule true equals t = refl
+channel_told FastForward number schedule false none t = refl
+channel_told FastForward number schedule false blank t = refl
+channel_told FastForward number schedule false equals t = refl
+channel_told FastForward number schedule true none t = refl
+channel_told FastForward number schedule true blank t = refl
+channel_told FastForward number schedule true equals t = refl
+
+finish_plain : (finish : Bool) (tail : List Piece) → ArePlain tail → ArePlain (finish_pieces finish tail)
+finish_plain false tail are = are
+finish_plain true tail are = are
+
+finish_texts : (finish : Bool) (first options : List Text) (tail : List Piece) → AsksToFinish finish first → options ≡ map text_in tail → first ++ options ≡ map text_in (finish_pieces finish tail)
+finish_texts false first options tail asks is = ap₂ (λ (a b : List Text). a ++ b) asks is
+finish_texts true first options tail asks is = ap₂ (λ (a b : List Text). a ++ b) asks is
 
 -- ---- `threads`
 
@@ -273,11 +292,12 @@ spelled_of name rest (Alone (Machine (Try seed runs events) capacity)) wanted (f
     by_pieces name (codes "try") (try_pieces file s n l (tail_of to.tail to.text)) rest wanted try_is_command (f, (seed_is.0, (runs_is.0, (events_is.0, to.are))))
     (is ∙ ap (λ (o : List Text). codes "try" ∷ file ∷ codes "--seed" ∷ s ∷ codes "--runs" ∷ n ∷ codes "--length" ∷ l ∷ o) to.is)
     (try_told file s n l to.tail to.text ∙ tried_says file s n l seed runs events capacity _ seed_is.1 runs_is.1 events_is.1 to.says ∙ ap (λ (w : Wanted). Some w) (sym wants))
-spelled_of name rest (Alone (Machine (Channel ring slots) capacity)) wanted (number, schedule, options, is, slots_are, s, asks, wants) =
+spelled_of name rest (Alone (Machine (Channel ring slots finish) capacity)) wanted (number, schedule, first, options, is, slots_are, s, finishes, asks, wants) =
     let to = told capacity options asks in
-    by_pieces name (codes "channel") (channel_pieces ring number schedule (tail_of to.tail to.text)) rest wanted channel_is_command (slots_are.0, (s, to.are))
-    (is ∙ ap (λ (o : List Text). codes "channel" ∷ name_of ring ∷ number ∷ schedule ∷ o) to.is)
-    (channel_told ring number schedule to.tail to.text ∙ carried_says ring number schedule slots capacity _ slots_are.1 to.says ∙ ap (λ (w : Wanted). Some w) (sym wants))
+    let tail = tail_of to.tail to.text in
+    by_pieces name (codes "channel") (channel_pieces ring number schedule (finish_pieces finish tail)) rest wanted channel_is_command (slots_are.0, (s, finish_plain finish tail to.are))
+    (is ∙ ap (λ (o : List Text). codes "channel" ∷ name_of ring ∷ number ∷ schedule ∷ o) (finish_texts finish first options tail finishes to.is))
+    (channel_told ring number schedule finish to.tail to.text ∙ carried_says ring number schedule slots finish capacity _ slots_are.1 to.says ∙ ap (λ (w : Wanted). Some w) (sym wants))
 spelled_of name rest (Threads turns capacity) wanted (file, first, options, is, f, turns_are, asks, wants) =
     ap (λ (words : List Text). job_said (name ∷ words)) is ∙ of_threads name file turns capacity first options f turns_are asks ∙ ap (λ (w : Wanted). Some w) (sym wants)
 

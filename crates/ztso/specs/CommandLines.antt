@@ -1,5 +1,5 @@
 -- The job that words ask for.
-use Rattle.std.specs.Prelude.{◌≡◌, ◌⊎◌, List, [], ◌∷◌, Option, Some, None, Result, Ok, Err, codes, if◌then◌else◌, option_and_then}
+use Rattle.std.specs.Prelude.{◌≡◌, ◌⊎◌, Bool, List, [], ◌∷◌, Option, Some, None, Result, Ok, Err, codes, if◌then◌else◌, option_and_then}
 use Rattle.std.specs.Str.{bytes_eq}
 use Rattle.clap.specs.Words.{Kinds, Row, Text, fault_of, first_of, subcommand_of}
 use Rattle.ztso_engines.specs.declared.fault.Fault.TheVariants.{NoMemory}
@@ -47,14 +47,19 @@ ring_said text =
     if bytes_eq text (codes "lamport") then Some Lamport
     else (if bytes_eq text (codes "fastforward") then Some FastForward else None)
 
--- the ring of `channel`, from its words
+-- whether a flag with this value is given
+abbrev pub flag_said : Text → Bool
+flag_said text = bytes_eq text (codes "true")
+
+-- the ring of `channel`, from its words, and whether it is to be finished
 abbrev pub channel_in : List Row → Option Work
 channel_in options = do
   kind ← first_of (codes "kind") options
   ring ← ring_said kind
   slots_text ← first_of (codes "ring") options
   slots ← number_within 0 4294967295 slots_text
-  Some (Channel ring slots)
+  finish ← first_of (codes "finish") options
+  Some (Channel ring slots (flag_said finish))
 
 -- the capacity that the options ask for
 abbrev pub capacity_in : List Row → Option Capacity

@@ -1,7 +1,7 @@
 -- The command line, as it is described to clap.
 use Rattle.std.specs.Prelude.{true, List, [], ◌∷◌, Some, codes}
 use Rattle.clap.specs.Words.{App, Rule, Text, new_app, new_rule, with_rule, with_subcommand}
-use Rattle.clap.specs.declared.builder.ArgAction.TheVariants.{Set}
+use Rattle.clap.specs.declared.builder.ArgAction.TheVariants.{Set, SetTrue}
 
 -- `--name VALUE`, and this value where it isn't given
 abbrev pub option_or : (name value : Text) → Rule
@@ -49,11 +49,18 @@ try_command =
     with_rule (with_rule (with_rule (with_rule (with_rule (new_app (codes "try")) (word_wanted (codes "file")))
     (option_wanted (codes "seed"))) (option_wanted (codes "runs"))) (option_wanted (codes "length"))) buffer_option
 
--- `channel KIND RING SCHEDULE [--buffer B]`
+-- `--name`, a flag
+abbrev pub flag : Text → Rule
+flag name = record (new_rule name) {
+  long = Some name;
+  action = Some SetTrue;
+}
+
+-- `channel KIND RING SCHEDULE [--finish] [--buffer B]`
 abbrev pub channel_command : App
 channel_command =
-    with_rule (with_rule (with_rule (with_rule (new_app (codes "channel")) (word_wanted (codes "kind")))
-    (word_wanted (codes "ring"))) (word_wanted (codes "schedule"))) buffer_option
+    with_rule (with_rule (with_rule (with_rule (with_rule (new_app (codes "channel")) (word_wanted (codes "kind")))
+    (word_wanted (codes "ring"))) (word_wanted (codes "schedule"))) (flag (codes "finish"))) buffer_option
 
 -- `threads FILE [--turns T] [--buffer B]`
 abbrev pub threads_command : App

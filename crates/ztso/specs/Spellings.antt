@@ -1,5 +1,5 @@
 -- How a job is written.
-use Rattle.std.specs.Prelude.{ℕ, ◌≡◌, ◌≢◌, ◌⊎◌, ◌++◌, List, [], ◌∷◌, Some, codes}
+use Rattle.std.specs.Prelude.{ℕ, ◌≡◌, ◌≢◌, ◌⊎◌, ◌++◌, Bool, true, false, List, [], ◌∷◌, Some, codes}
 use Rattle.clap.specs.Words.{Text}
 use Rattle.ztso.specs.declared.job.Capacity.{Capacity}
 use Rattle.ztso.specs.declared.job.Capacity.TheVariants.{One, Two, Four, Sixteen}
@@ -48,6 +48,11 @@ AsksForTurns turns words =
     ((words ≡ []) × (turns ≡ 100000))
     ⊎ ((said : Text) × (words ≡ codes "--turns" ∷ said ∷ []) × SaysNumber 0 10000000 turns said)
 
+-- nothing, or `--finish`
+abbrev pub AsksToFinish : Bool → List Text → Type 0
+AsksToFinish false words = words ≡ []
+AsksToFinish true words = words ≡ codes "--finish" ∷ []
+
 -- a command on two files
 abbrev pub IsOnFiles : (command : Text) → Work → Capacity → Wanted → List Text → Type 0
 IsOnFiles command work capacity wanted words =
@@ -72,10 +77,10 @@ IsSpellingOf (Alone (Machine (Try seed runs events) capacity)) wanted words =
     × (words ≡ codes "try" ∷ file ∷ codes "--seed" ∷ s ∷ codes "--runs" ∷ n ∷ codes "--length" ∷ l ∷ options)
     × IsWord file × SaysNumber 0 18446744073709551615 seed s × SaysNumber 1 100000 runs n × SaysNumber 0 1048576 events l
     × AsksFor capacity options × (wanted ≡ one_input (Alone (Machine (Try seed runs events) capacity)) (File file))
-IsSpellingOf (Alone (Machine (Channel ring slots) capacity)) wanted words =
-    (said schedule : Text) × (options : List Text) × (words ≡ codes "channel" ∷ name_of ring ∷ said ∷ schedule ∷ options)
-    × SaysNumber 0 4294967295 slots said × IsWord schedule × AsksFor capacity options
-    × (wanted ≡ two_inputs (Alone (Machine (Channel ring slots) capacity)) (File schedule) Standard)
+IsSpellingOf (Alone (Machine (Channel ring slots finish) capacity)) wanted words =
+    (said schedule : Text) × (first options : List Text) × (words ≡ codes "channel" ∷ name_of ring ∷ said ∷ schedule ∷ (first ++ options))
+    × SaysNumber 0 4294967295 slots said × IsWord schedule × AsksToFinish finish first × AsksFor capacity options
+    × (wanted ≡ two_inputs (Alone (Machine (Channel ring slots finish) capacity)) (File schedule) Standard)
 IsSpellingOf (Threads turns capacity) wanted words =
     (file : Text) × (first options : List Text) × (words ≡ codes "threads" ∷ file ∷ (first ++ options))
     × IsWord file × AsksForTurns turns first × AsksFor capacity options

@@ -98,7 +98,7 @@ IsAnswerOf B Run given = ToldByBoth verdict_status (IsRunAnswer B 4096) given
 IsAnswerOf B Replay given = ToldByBoth done_status (IsReplayAnswer B 4096) given
 IsAnswerOf B Debug given = ToldByBoth done_status (IsDebugAnswer B 4096 given.commands) given
 IsAnswerOf B (Try seed runs size) given = ToldBy tried_status (IsTryAnswer B 4096 (drawn_from seed) runs size) given
-IsAnswerOf B (Channel ring slots) given = ToldByBoth done_status (IsChannelAnswer (tables_of ring) B 4096 slots) given
+IsAnswerOf B (Channel ring slots finish) given = ToldByBoth done_status (IsChannelAnswer (tables_of ring) B 4096 slots finish) given
 
 -- What was written and the exit status answer the inputs, or the refusal does and nothing was written.
 -- Where a read failed or memory ran out nothing was written; where a write failed nothing is said of it.
@@ -109,7 +109,7 @@ DoesWork B Run result given contents old new = Ends (IsAnswerOf B Run given) res
 DoesWork B Replay result given contents old new = Ends (IsAnswerOf B Replay given) result contents old new
 DoesWork B Debug result given contents old new = EndsAloud (IsAnswerOf B Debug given) result contents old new
 DoesWork B (Try seed runs size) result given contents old new = Ends (IsAnswerOf B (Try seed runs size) given) result contents old new
-DoesWork B (Channel ring slots) result given contents old new = Ends (IsAnswerOf B (Channel ring slots) given) result contents old new
+DoesWork B (Channel ring slots finish) result given contents old new = Ends (IsAnswerOf B (Channel ring slots finish) given) result contents old new
 
 abbrev pub DoesErrand : {W : Type 0} → Errand → Result ℕ Fault → Given → (contents : W → Option (List ℕ)) → (old new : W) → Type 0
 DoesErrand Asm result given contents old new = Ends (ToldBy done_status IsAsmAnswer given) result contents old new
@@ -130,7 +130,7 @@ LeavesSecondOf Run first = HasNoTest first
 LeavesSecondOf Replay first = HasNoTest first
 LeavesSecondOf Debug first = HasNoTest first
 LeavesSecondOf (Try seed runs size) first = Unit {0}
-LeavesSecondOf (Channel ring slots) first = HasNoSchedule first
+LeavesSecondOf (Channel ring slots finish) first = HasNoSchedule first
 
 abbrev pub LeavesSecond : Errand → (first : Option (List ℕ)) → Type 0
 LeavesSecond Asm first = Unit {0}

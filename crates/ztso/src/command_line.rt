@@ -2,7 +2,7 @@
 
 ghost use Rattle.std.specs.Prelude.{◌≡◌, ◌∷◌, ℕ, List, IfOk, map, option_and_then, option_map};
 ghost use Rattle.clap.specs.Words.{FailsBy, fault_of, first_of, found_of, rows_of, subcommand_of, subcommand_rows_of};
-ghost use Rattle.ztso.specs.CommandLines.{Answers, capacity_said, job_in, channel_in, job_said, machine_in, on_file, on_file_and_schedule, on_schedule_and_standard, on_standard, ring_said, threads_in, try_in};
+ghost use Rattle.ztso.specs.CommandLines.{Answers, capacity_said, job_in, channel_in, flag_said, job_said, machine_in, on_file, on_file_and_schedule, on_schedule_and_standard, on_standard, ring_said, threads_in, try_in};
 ghost use Rattle.ztso.specs.Descriptions.{ztso_command};
 ghost use Rattle.ztso.specs.Spellings.{IsSpelling};
 ghost use Rattle.ztso.specs.Jobs.{Wanted, wanted_by};
@@ -159,7 +159,19 @@ fn channel_in(options: &ArgMatches<'_>) -> Option<Work>
 {
     let ring = ring_of(word_in(options, "kind")?)?;
     let slots = count_of(word_in(options, "ring")?, 0, u32::MAX)?;
-    Some(Work::Channel { ring, slots })
+    let finish = flag_of(word_in(options, "finish")?);
+    Some(Work::Channel {
+        ring,
+        slots,
+        finish,
+    })
+}
+
+/// Whether a flag with this value is given.
+fn flag_of(text: &str) -> bool
+    ensures { result ≡ flag_said text.now }
+{
+    text == "true"
 }
 
 fn ring_of(text: &str) -> Option<Ring>

@@ -36,9 +36,18 @@ pub enum Work {
     /// To walk along a schedule's run of a litmus test, at the commands on standard input.
     Debug,
     /// To run a litmus test by `runs` schedules of `length` events, drawn from a generator of this seed.
-    Try { seed: u64, runs: u32, length: u32 },
-    /// To run a channel over lists of words by a schedule, through rings of this kind with so many slots.
-    Channel { ring: Ring, slots: u32 },
+    Try {
+        seed: u64,
+        runs: u32,
+        length: u32,
+    },
+    /// To run a channel over lists of words by a schedule, through rings of this kind with so many slots,
+    /// and to `finish` it by a plan.
+    Channel {
+        ring: Ring,
+        slots: u32,
+        finish: bool,
+    },
 }
 
 /// What one thread does, which waits for no other.

@@ -96,27 +96,29 @@ fn debug<const B: usize, F: Read, S: Read, C: Read, W: Write>(
     debug_engine::<B, WORDS, _, _, _, _>(alloc, file, schedule, &mut commands, writer)
 }
 
-/// Runs a channel over lists of words by a schedule, through rings of this kind.
+/// Runs a channel over lists of words by a schedule, through rings of this kind, and then by a plan if it
+/// is to be finished.
 fn run_channel<const B: usize, S: Read, L: Read, W: Write>(
     alloc: Global,
     ring: Ring,
     slots: u32,
+    finish: bool,
     schedule: &mut S,
     lists: &mut L,
     writer: &mut W,
 ) -> Result<(), Fault>
     requires some_capacity { 1 ≤ B }
     requires capacity { B ≤ 64 }
-    ensures ends { EndsByBoth (IsChannelAnswer (tables_of ring) B 4096 slots) result (S.remaining schedule.old) (L.remaining lists.old) W.contents writer.old writer.new }
+    ensures ends { EndsByBoth (IsChannelAnswer (tables_of ring) B 4096 slots finish) result (S.remaining schedule.old) (L.remaining lists.old) W.contents writer.old writer.new }
     ensures unread { HasNoSchedule (S.remaining schedule.old) → lists.new ≡ lists.old }
 {
     match ring {
-        Ring::Lamport => {
-            channel_engine::<Lamport, B, WORDS, _, _, _>(alloc, slots, schedule, lists, writer)
-        }
-        Ring::FastForward => {
-            channel_engine::<FastForward, B, WORDS, _, _, _>(alloc, slots, schedule, lists, writer)
-        }
+        Ring::Lamport => channel_engine::<Lamport, B, WORDS, _, _, _>(
+            alloc, slots, finish, schedule, lists, writer,
+        ),
+        Ring::FastForward => channel_engine::<FastForward, B, WORDS, _, _, _>(
+            alloc, slots, finish, schedule, lists, writer,
+        ),
     }
 }
 
@@ -143,9 +145,11 @@ fn do_work<const B: usize, F: Read, S: Read, C: Read, W: Write>(
         Work::Try { seed, runs, length } => {
             after_try(try_drawn::<B, F, W>(alloc, seed, runs, length, first, writer))
         }
-        Work::Channel { ring, slots } => {
-            after(run_channel::<B, F, S, W>(alloc, ring, slots, first, second, writer))
-        }
+        Work::Channel {
+            ring,
+            slots,
+            finish,
+        } => after(run_channel::<B, F, S, W>(alloc, ring, slots, finish, first, second, writer)),
     }
 }
 

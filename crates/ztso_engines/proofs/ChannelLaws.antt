@@ -1,5 +1,5 @@
 -- What answers a schedule and lists of words.
-use Rattle.std.proofs.Common.{◌≡◌, ℕ, List, [], refl, Result, Ok, Err, inl, inr}
+use Rattle.std.proofs.Common.{◌≡◌, ℕ, Bool, List, [], refl, Result, Ok, Err, inl, inr}
 use Rattle.std.specs.Prelude.{Option, Some, None}
 use Rattle.step_machine.specs.declared.events.Event.{Event}
 use Rattle.poll_close.specs.Laws.{Ring}
@@ -19,12 +19,12 @@ use Rattle.ztso_engines.proofs.Endings.{weaker}
 abbrev Answer : Type 0
 Answer = List ℕ × Unit {0}
 
-module _ (ring : Ring) (B M size : ℕ) (first second : Option (List ℕ)) where
+module _ (ring : Ring) (B M size : ℕ) (finish : Bool) (first second : Option (List ℕ)) where
   abbrev Answers : Result Answer Refusal → Type 0
-  Answers = AnswersBoth (IsChannelAnswer ring B M size) first second
+  Answers = AnswersBoth (IsChannelAnswer ring B M size finish) first second
 
   -- both were read, and the lists are a channel's
-  pub delivered : (events : List Event) (lists : List (List ℕ)) (answer : Answer) → OfInput first (λ bytes. IsReadAsSchedule bytes (Ok events)) → OfInput second (λ bytes. IsReadAsLists bytes (Ok lists)) → IsDelivery ring B M size events lists answer → Answers (Ok answer)
+  pub delivered : (events : List Event) (lists : List (List ℕ)) (answer : Answer) → OfInput first (λ bytes. IsReadAsSchedule bytes (Ok events)) → OfInput second (λ bytes. IsReadAsLists bytes (Ok lists)) → IsDelivery ring B M size finish events lists answer → Answers (Ok answer)
   delivered events lists answer schedule input is =
       weaker first _ _ (λ text said. weaker second _ _ (λ words told. (events, said, (lists, told, is))) input) schedule
 
@@ -32,7 +32,7 @@ module _ (ring : Ring) (B M size : ℕ) (first second : Option (List ℕ)) where
   no_schedule : (refusal : Refusal) → OfInput first (λ bytes. IsNoSchedule bytes refusal) → Answers (Err refusal)
   no_schedule refusal none = weaker first _ _ (λ text bad. any second text bad) none
     where
-      any : (known : Option (List ℕ)) (text : List ℕ) → IsNoSchedule text refusal → OfInput known (λ words. IsChannelAnswer ring B M size text words (Err refusal))
+      any : (known : Option (List ℕ)) (text : List ℕ) → IsNoSchedule text refusal → OfInput known (λ words. IsChannelAnswer ring B M size finish text words (Err refusal))
       any None text bad = ([], inl bad)
       any (Some words) text bad = inl bad
 

@@ -244,14 +244,14 @@ module _ (ring : Ring) (M size : ℕ) (lists : List (List ℕ)) where
       let found = refuses.2 in
       (is.words sender [] found.within place 0 found.zero.within).1 found.zero.zero
 
-one_delivery : (ring : Ring) (B M size : ℕ) (events : List Event) (lists : List (List ℕ)) (a b : Output) → IsDelivery ring B M size events lists a → IsDelivery ring B M size events lists b → a ≡ b
+one_delivery : (ring : Ring) (B M size : ℕ) (events : List Event) (lists : List (List ℕ)) (a b : Output) → IsDelivery ring B M size false events lists a → IsDelivery ring B M size false events lists b → a ≡ b
 one_delivery ring B M size events lists a b is other =
     let histories : is.delivers.history ≡ other.delivers.history = run-one B M (unrun (opening_of_lists ring.sender ring.receiver lists size)) events is.delivers.history other.delivers.history is.delivers.run other.delivers.run in
     same_output a b (is.told ∙ ap (flat_map report_line) (is.delivers.answer ∙ ap (λ (h : History). reported 0 h.entries) histories ∙ sym other.delivers.answer) ∙ sym other.told)
 
 module _ (ring : Ring) (B M size : ℕ) (schedule input : List ℕ) where
   abbrev IsAnswer : Result Output Refusal → Type 0
-  IsAnswer = IsChannelAnswer ring B M size schedule input
+  IsAnswer = IsChannelAnswer ring B M size false schedule input
 
   delivered_or_refused : (a : Output) (s : Refusal) → IsAnswer (Ok a) → IsAnswer (Err s) → ⊥
   delivered_or_refused a s (events, is, (lists, said, tells)) (inl none) = schedule_or_refusal schedule events s is none
@@ -262,8 +262,8 @@ module _ (ring : Ring) (B M size : ℕ) (schedule input : List ℕ) where
   pub one_channel : (a b : Result Output Refusal) → IsAnswer a → IsAnswer b → AreOneAnswer a b
   one_channel (Ok a) (Ok b) (events, is, (lists, said, tells)) (others, also, (words, says, other)) =
       one_delivery ring B M size events lists a b tells
-      (subst (λ (evs : List Event). IsDelivery ring B M size evs lists b) (one_schedule schedule others events also.value_is is.value_is)
-      (subst (λ (ls : List (List ℕ)). IsDelivery ring B M size others ls b) (one_lists input words lists says.value_is said.value_is) other))
+      (subst (λ (evs : List Event). IsDelivery ring B M size false evs lists b) (one_schedule schedule others events also.value_is is.value_is)
+      (subst (λ (ls : List (List ℕ)). IsDelivery ring B M size false others ls b) (one_lists input words lists says.value_is said.value_is) other))
   one_channel (Ok a) (Err s) is other = delivered_or_refused a s is other
   one_channel (Err r) (Ok b) is other = delivered_or_refused b r other is
   one_channel (Err r) (Err s) (inl none) (inl other) = ap (λ (x : Refusal). x.number) (one_refusal (judged events_of schedule) r s none other)

@@ -1,14 +1,15 @@
 -- The command `channel`: a schedule and the senders' lists in, what the receiver reports out.
-use Rattle.std.specs.Prelude.{ℕ, ◌≡◌, ◌⊎◌, List, [], ◌∷◌, ◌++◌, Result, Ok, Err, codes}
+use Rattle.std.specs.Prelude.{ℕ, ◌≡◌, ◌⊎◌, Bool, true, false, List, [], ◌∷◌, ◌++◌, Result, Ok, Err, codes}
 use Rattle.std.specs.Fmt.{decimal}
 use Rattle.std.specs.List.{flat_map}
 use Rattle.hart.specs.declared.need.Report.{Report}
 use Rattle.hart.specs.declared.need.Report.TheVariants as report
 use Rattle.step_machine.specs.declared.events.Event.{Event}
+use Rattle.step_machine.specs.History.{Start}
 use Rattle.recorder.specs.Schedule.{IsScheduleOf}
 use Rattle.poll_close.specs.Layout.{opening_of}
 use Rattle.poll_close.specs.Laws.{Ring, Accepted as IsWithin}
-use Rattle.poll_close.specs.Delivery.{Delivers}
+use Rattle.poll_close.specs.Delivery.{Delivers, DeliversWhole}
 use Rattle.poll_close.specs.Refusals.{Refuses}
 use Rattle.poll_close.specs.declared.faults.Refused.{Refused}
 use Rattle.poll_close.specs.declared.faults.Refused.TheVariants as refused
@@ -25,12 +26,18 @@ abbrev pub report_line : Report → List ℕ
 report_line (report.Took sender word) = codes "took " ++ decimal sender ++ 32 ∷ decimal word ++ 10 ∷ []
 report_line (report.Closed sender) = codes "closed " ++ decimal sender ++ 10 ∷ []
 
+-- what the receiver reports in the run of the events, and of a plan behind them if the channel is to be
+-- finished
+abbrev pub Reported : (finish : Bool) → (B M : ℕ) → Start → List (List ℕ) → List Event → List Report → Type 0
+Reported false B M opening lists events reports = Delivers B M opening lists events reports
+Reported true B M opening lists events reports = DeliversWhole B M opening lists events reports
+
 -- The receiver reports this in the run of the events over these lists: lists within the limits, whose
 -- reports are clean, a line each.
-pub record IsDelivery (ring : Ring) (B M size : ℕ) (events : List Event) (lists : List (List ℕ)) (answer : List ℕ × Unit {0}) : Type 0 where
+pub record IsDelivery (ring : Ring) (B M size : ℕ) (finish : Bool) (events : List Event) (lists : List (List ℕ)) (answer : List ℕ × Unit {0}) : Type 0 where
   pub within : IsWithin ring M lists size
   pub reports : List Report
-  pub delivers : Delivers B M (opening_of ring.sender ring.receiver lists size) lists events reports
+  pub delivers : Reported finish B M (opening_of ring.sender ring.receiver lists size) lists events reports
   pub told : answer.0 ≡ flat_map report_line reports
 
 -- why there is no channel, as a fault; a word that is 0 has its place
@@ -51,8 +58,8 @@ abbrev pub IsNoLists : List ℕ → Refusal → Type 0
 IsNoLists input refusal = judged lists_at input ≡ Err refusal
 
 -- What answers a schedule and lists. The schedule is judged first, then the text of lists, then the lists.
-abbrev pub IsChannelAnswer : Ring → (B M size : ℕ) → (schedule input : List ℕ) → Result (List ℕ × Unit {0}) Refusal → Type 0
-IsChannelAnswer ring B M size schedule input (Ok answer) =
-    (events : List Event) × Accepted IsScheduleOf schedule events × ((lists : List (List ℕ)) × Accepted SaysLists input lists × IsDelivery ring B M size events lists answer)
-IsChannelAnswer ring B M size schedule input (Err refusal) =
+abbrev pub IsChannelAnswer : Ring → (B M size : ℕ) → (finish : Bool) → (schedule input : List ℕ) → Result (List ℕ × Unit {0}) Refusal → Type 0
+IsChannelAnswer ring B M size finish schedule input (Ok answer) =
+    (events : List Event) × Accepted IsScheduleOf schedule events × ((lists : List (List ℕ)) × Accepted SaysLists input lists × IsDelivery ring B M size finish events lists answer)
+IsChannelAnswer ring B M size finish schedule input (Err refusal) =
     IsNoSchedule schedule refusal ⊎ ((events : List Event) × Accepted IsScheduleOf schedule events × (IsNoLists input refusal ⊎ ((lists : List (List ℕ)) × Accepted SaysLists input lists × HasNoChannel ring M size lists refusal)))

@@ -1,10 +1,13 @@
 //! The command `channel`: a schedule and the senders' lists in, what the receiver reports out.
 
-ghost use Rattle.std.specs.Prelude.{◌≡◌, ◌≤◌, ◌++◌, IfOk, OnOk};
+ghost use Rattle.std.specs.Prelude.{◌≡◌, ◌≤◌, ◌++◌, IfErr, IfOk, OnOk, map};
 ghost use Rattle.std.specs.List.{flat_map};
 ghost use Rattle.std.specs.String.{string_bytes};
 ghost use Rattle.ztso_engines.specs.Engines.{AnswersBoth, EndsByBoth};
-ghost use Rattle.ztso_engines.specs.Channels.{report_line, told_as, IsChannelAnswer};
+ghost use Rattle.poll_close.specs.Layout.{opening_of};
+ghost use Rattle.poll_close.specs.Laws.{Accepted};
+ghost use Rattle.poll_close.specs.Refusals.{Refuses};
+ghost use Rattle.ztso_engines.specs.Channels.{report_line, told_as, Reported, IsChannelAnswer};
 ghost use Rattle.ztso_engines.specs.Schedules.{HasNoSchedule};
 ghost use Rattle.ztso_engines.specs.inner.Making.{Finds, text_and_value};
 
@@ -13,9 +16,11 @@ use crate::lists::read_lists;
 use crate::output::end_with;
 use crate::schedule::read_events;
 use hart::need::Report;
-use poll_close::{Refused, RingKind, deliver};
+use poll_close::plans::Finish;
+use poll_close::{Refused, deliver, deliver_whole};
 use std::alloc::{AllocError, Global};
 use std::io::{Read, Write};
+use step_machine::Event;
 
 impl From<Refused> for Fault {
     ghost from_gives = { λ why fault. fault ≡ told_as why };
@@ -52,10 +57,34 @@ fn reports_text(alloc: Global, reports: &[Report]) -> Result<String, AllocError>
     Ok(text)
 }
 
-/// What is to be written for the inputs that the readers give.
-fn made<K: RingKind, const B: usize, const M: usize, S: Read, L: Read>(
+/// What the receiver reports when these events run, and then a plan if the channel is to be finished.
+fn reports_of<K: Finish<B, M>, const B: usize, const M: usize>(
     alloc: Global,
     ring: u32,
+    finish: bool,
+    lists: &[Vec<u32>],
+    events: &[Event],
+) -> Result<Vec<Report>, Refused>
+    requires some_capacity { 1 ≤ B }
+    requires capacity { B ≤ 64 }
+    requires some_word { 1 ≤ M }
+    requires size { M ≤ 65536 }
+    ensures reported { IfOk result (λ r. Reported finish B M (opening_of K.RingKind.ring.sender K.RingKind.ring.receiver (map (λ v. v.items) lists.now) ring) (map (λ v. v.items) lists.now) events.now r.items) }
+    ensures accepted { OnOk result (Accepted K.RingKind.ring M (map (λ v. v.items) lists.now) ring) }
+    ensures refused { IfErr result (λ e. Refuses K.RingKind.ring M (map (λ v. v.items) lists.now) ring e) }
+{
+    if finish {
+        deliver_whole::<K, B, M>(alloc, lists, ring, events)
+    } else {
+        deliver::<K, B, M>(alloc, lists, ring, events)
+    }
+}
+
+/// What is to be written for the inputs that the readers give.
+fn made<K: Finish<B, M>, const B: usize, const M: usize, S: Read, L: Read>(
+    alloc: Global,
+    ring: u32,
+    finish: bool,
     schedule: &mut S,
     input: &mut L,
 ) -> Result<(String, ()), Fault>
@@ -63,12 +92,12 @@ fn made<K: RingKind, const B: usize, const M: usize, S: Read, L: Read>(
     requires capacity { B ≤ 64 }
     requires some_word { 1 ≤ M }
     requires size { M ≤ 65536 }
-    ensures made { Finds (AnswersBoth (IsChannelAnswer K.ring B M ring) (S.remaining schedule.old) (L.remaining input.old)) text_and_value result }
+    ensures made { Finds (AnswersBoth (IsChannelAnswer K.RingKind.ring B M ring finish) (S.remaining schedule.old) (L.remaining input.old)) text_and_value result }
     ensures unread { HasNoSchedule (S.remaining schedule.old) → input.new ≡ input.old }
 {
     let events = read_events(alloc, schedule)?;
     let lists = read_lists(alloc, input)?;
-    let reports = deliver::<K, B, M>(alloc, &lists, ring, &events)?;
+    let reports = reports_of::<K, B, M>(alloc, ring, finish, &lists, &events)?;
     let text = reports_text(alloc, &reports)?;
     Ok((text, ()))
 }
@@ -79,14 +108,18 @@ fn made<K: RingKind, const B: usize, const M: usize, S: Read, L: Read>(
 /// what the receiver reports, `took I W` or `closed I` on a line each. Whatever the schedule is, these
 /// reports are clean.
 ///
+/// If it is to `finish` the channel, a plan runs behind the schedule. Then each sender's whole list is
+/// reported, and that it is closed.
+///
 /// The schedule is refused as [`crate::run::run_engine`] refuses it, and the lists are not read then.
 /// An input of lists is refused as too large ([`crate::fault::TOO_LARGE`]), as no text
 /// ([`crate::fault::NOT_TEXT`]), else at its first line that holds anything but such words
 /// ([`crate::fault::BAD_LINE`]). Lists are refused by the numbers of [`poll_close::Refused`]. Then nothing
 /// was written.
-pub fn channel_engine<K: RingKind, const B: usize, const M: usize, S: Read, L: Read, W: Write>(
+pub fn channel_engine<K: Finish<B, M>, const B: usize, const M: usize, S: Read, L: Read, W: Write>(
     alloc: Global,
     ring: u32,
+    finish: bool,
     schedule: &mut S,
     input: &mut L,
     writer: &mut W,
@@ -95,8 +128,11 @@ pub fn channel_engine<K: RingKind, const B: usize, const M: usize, S: Read, L: R
     requires capacity { B ≤ 64 }
     requires some_word { 1 ≤ M }
     requires size { M ≤ 65536 }
-    ensures ends { EndsByBoth (IsChannelAnswer K.ring B M ring) result (S.remaining schedule.old) (L.remaining input.old) W.contents writer.old writer.new }
+    ensures ends { EndsByBoth (IsChannelAnswer K.RingKind.ring B M ring finish) result (S.remaining schedule.old) (L.remaining input.old) W.contents writer.old writer.new }
     ensures unread { HasNoSchedule (S.remaining schedule.old) → input.new ≡ input.old }
 {
-    end_with(made::<K, B, M, S, L>(alloc, ring, schedule, input), writer)
+    end_with(
+        made::<K, B, M, S, L>(alloc, ring, finish, schedule, input),
+        writer,
+    )
 }

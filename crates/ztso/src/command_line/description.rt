@@ -3,7 +3,7 @@
 ghost use Rattle.std.specs.Prelude.{◌≡◌, false, IfOk};
 ghost use Rattle.clap.specs.Words.{app_of, rule_of};
 ghost use Rattle.clap.specs.declared.builder.command.Command.TheViews.{out-Command as fields_of};
-ghost use Rattle.ztso.specs.Descriptions.{buffer_option, channel_command, option_or, option_wanted, schedule_command, steps_command, threads_command, try_command, word_wanted, ztso_command};
+ghost use Rattle.ztso.specs.Descriptions.{buffer_option, channel_command, flag, option_or, option_wanted, schedule_command, steps_command, threads_command, try_command, word_wanted, ztso_command};
 
 use clap::{Arg, ArgAction, Command};
 use std::alloc::{AllocError, Global};
@@ -73,6 +73,14 @@ fn try_command<'a>(alloc: Global) -> Result<Command<'a>, AllocError>
     with_length.arg(buffer_option(alloc))
 }
 
+/// `--name`, which has no value.
+fn flag<'a>(alloc: Global, name: &'a str) -> Arg<'a>
+    ensures rule { rule_of result ≡ flag name.entry.now }
+    ensures local { result.global ≡ false }
+{
+    Arg::new(alloc, name).long(name).action(ArgAction::SetTrue)
+}
+
 fn channel_command<'a>(alloc: Global) -> Result<Command<'a>, AllocError>
     ensures shape { IfOk result (λ command. app_of command ≡ channel_command) }
     ensures local { IfOk result (λ command. (fields_of command).has_globals ≡ false) }
@@ -80,7 +88,8 @@ fn channel_command<'a>(alloc: Global) -> Result<Command<'a>, AllocError>
     let with_kind = Command::new(alloc, "channel").arg(word_wanted(alloc, "kind"))?;
     let with_ring = with_kind.arg(word_wanted(alloc, "ring"))?;
     let with_schedule = with_ring.arg(word_wanted(alloc, "schedule"))?;
-    with_schedule.arg(buffer_option(alloc))
+    let with_finish = with_schedule.arg(flag(alloc, "finish"))?;
+    with_finish.arg(buffer_option(alloc))
 }
 
 fn threads_command<'a>(alloc: Global) -> Result<Command<'a>, AllocError>

@@ -1,6 +1,6 @@
 -- Each word that was passed is none of the zeros.
 use Rattle.std.proofs.Common.{arith}
-use Rattle.poll_close.proofs.ZeroWords.{words_step, words-all}
+use Rattle.poll_close.proofs.Opened.{words_step, words-all}
 use Rattle.poll_close.proofs.openings.zero_place.Goals as goal
 
 pub loop-place-preserved : goal.loop-place-preserved

@@ -2,7 +2,7 @@
 use Rattle.std.proofs.Common.{subst, arith}
 use Rattle.poll_close.specs.Laws.{AreWords}
 use Rattle.poll_close.specs.Refusals.{ZeroAt}
-use Rattle.poll_close.proofs.ZeroWords.{lists-more, lists-all, list-found}
+use Rattle.poll_close.proofs.Opened.{lists-more, lists-all, list-found}
 use Rattle.poll_close.proofs.openings.zero_word.Goals as goal
 
 pub returns-in-Some : goal.returns-in-Some

@@ -11,25 +11,25 @@ use Rattle.ztso_engines.proofs.channel.made.Goals as goal
 pub returns-in_err-events-clause-made : goal.returns-in_err-events-clause-made
 returns-in_err-events-clause-made g c =
     let p = err_from_is_err_and c.from_residual.result c.from_residual.ensures.1 in
-    schedule_fault g.K.RingKind.ring g.row.B g.row.M c.args.ring _ _ _ (λ (events : List Event). events) c.from_residual.result c.in_err-events.field-0.0 (rw p.2 at p.1) c.in_err-events.ensures.events
+    schedule_fault g.K.RingKind.ring g.row.B g.row.M c.args.ring c.args.finish _ _ _ (λ (events : List Event). events) c.from_residual.result c.in_err-events.field-0.0 (rw p.2 at p.1) c.in_err-events.ensures.events
 
 pub returns-in_err-lists-clause-made : goal.returns-in_err-lists-clause-made
 returns-in_err-lists-clause-made g c =
     let p = err_from_is_err_and c.from_residual-in_err-lists.result c.from_residual-in_err-lists.ensures.1 in
-    lists_fault g.K.RingKind.ring g.row.B g.row.M c.args.ring _ _ _ (λ (lists : List (List ℕ)). lists) c.in_ok-events.events.items c.from_residual-in_err-lists.result c.in_err-lists.field-0.0 (rw p.2 at p.1) c.in_ok-events.ensures.events c.in_err-lists.ensures
+    lists_fault g.K.RingKind.ring g.row.B g.row.M c.args.ring c.args.finish _ _ _ (λ (lists : List (List ℕ)). lists) c.in_ok-events.events.items c.from_residual-in_err-lists.result c.in_err-lists.field-0.0 (rw p.2 at p.1) c.in_ok-events.ensures.events c.in_err-lists.ensures
 
 pub returns-in_err-reports-clause-made : goal.returns-in_err-reports-clause-made
 returns-in_err-reports-clause-made g c =
     let p = err_from_is_err_and c.from_residual-in_err-reports.result c.from_residual-in_err-reports.ensures.1 in
-    channel_fault g.K.RingKind.ring g.row.B g.row.M c.args.ring _ _ _ c.in_ok-events.events.items (map (λ (list : Vec ℕ). list.items) c.in_ok-lists.lists.items) c.from_residual-in_err-reports.result c.in_err-reports.field-0.0 p.0 p.1 p.2
+    channel_fault g.K.RingKind.ring g.row.B g.row.M c.args.ring c.args.finish _ _ _ c.in_ok-events.events.items (map (λ (list : Vec ℕ). list.items) c.in_ok-lists.lists.items) c.from_residual-in_err-reports.result c.in_err-reports.field-0.0 p.0 p.1 p.2
     c.in_ok-events.ensures.events c.in_ok-lists.ensures (rw c.deref.ensures.value at c.in_err-reports.ensures.refused)
 
 pub returns-clause-made : goal.returns-clause-made
 returns-clause-made g c =
-    delivered g.K.RingKind.ring g.row.B g.row.M c.args.ring _ _ c.in_ok-events.events.items (map (λ (list : Vec ℕ). list.items) c.in_ok-lists.lists.items) (string_bytes c.in_ok-text.text, tt) c.in_ok-events.ensures.events c.in_ok-lists.ensures
+    delivered g.K.RingKind.ring g.row.B g.row.M c.args.ring c.args.finish _ _ c.in_ok-events.events.items (map (λ (list : Vec ℕ). list.items) c.in_ok-lists.lists.items) (string_bytes c.in_ok-text.text, tt) c.in_ok-events.ensures.events c.in_ok-lists.ensures
     (record {
       within = rw c.deref.ensures.value at c.in_ok-reports.ensures.accepted;
       reports = c.in_ok-reports.reports.items;
-      delivers = rw (c.deref.ensures.value, c.deref-2.ensures.value) at c.in_ok-reports.ensures.delivers;
+      delivers = rw (c.deref.ensures.value, c.deref-2.ensures.value) at c.in_ok-reports.ensures.reported;
       told = c.in_ok-text.ensures ∙ ap (flat_map report_line) c.deref-3.ensures.value;
     })

@@ -1,0 +1,372 @@
+-- The receiver comes nearer to its next report with every act, where each sender waits or has ended.
+-- The front and the end are told here, for any ring; the five lines between are the ring's own.
+use Rattle.std.proofs.Common.{ℕ, suc, ◌+◌, ◌-◌, ◌*◌, ◌<◌, ◌≤◌, ◌≡◌, ◌≢◌, ◌==◌, ◌⊎◌, inl, inr, Bool, true, false, not, ◌||◌, if◌then◌else◌, List, [], Option, Some, refl, sym, ◌∙◌, ap, subst, arith, add-one}
+use Rattle.std.proofs.lemmas.Bool.{cases_eq, cases_lt}
+use Rattle.std.proofs.lemmas.Bool.Decides.{nat_tests}
+use Rattle.std.proofs.lemmas.Nat.{row_fits}
+use Rattle.hart.specs.State.{HartState}
+use Rattle.hart.specs.Steps.{need_of, advanced}
+use Rattle.hart.specs.declared.status.Status.TheVariants as status
+use Rattle.hart.specs.declared.need.Need.TheVariants as need
+use Rattle.hart.specs.declared.need.Report.{Report}
+use Rattle.hart.specs.declared.need.Report.TheVariants as report
+use Rattle.poll_close.specs.Layout.{block_size}
+use Rattle.poll_close.specs.Reports.{sender_of}
+use Rattle.poll_close.specs.Plans.{Pace, far_at, far_of, visited_by, is_closed, some_open, rest_from, runs}
+use Rattle.poll_close.specs.Invariant.Blocks.{Block}
+use Rattle.poll_close.specs.Invariant.ReceiverState.{Middle, Noted, Whole, whole_of, receiving}
+use Rattle.poll_close.specs.Invariant.ReceiverPlaces.{ReceiverPlace, R00, R04, R08, R0C, R10, R14, R18, R1C, R20, R24, R28, R2C, R30, R34, R38, R3C, R40, R44, R48, R4C, R50, R54, R58, R5C, R60, R64, R68, R6C, R70, R74, R78, R7C, ROver, receives, due}
+use Rattle.poll_close.specs.Invariant.BlockMeaning.{BlockMeaning, ReceiverIs}
+use Rattle.poll_close.proofs.Lines.{loads}
+use Rattle.poll_close.proofs.ReceiverLines.{line_00, line_04, line_08, line_0C-same, line_0C-other, line_10, line_28, line_2C-same, line_2C-other, line_30, line_34, line_38, line_3C, line_40, line_44, line_48-same, line_48-other, line_4C, line_50, line_54, line_58, line_5C, line_60, line_64-other, line_68, line_6C, line_70-same, line_70-other, line_74}
+use Rattle.poll_close.proofs.Blocks.{IsBlock, IsWordOf, offset_low, word_of}
+use Rattle.poll_close.proofs.BlockLaws.{BlockLaws, Finds, seen_at}
+
+-- an act that stays with the block that it visits
+pub record Falls (p : Pace) (s new : HartState) (T size : ℕ) (sh E : Bool) (rest start : ℕ) : Type 0 where
+  pub block : visited_by new ≡ visited_by s
+  pub nearer : far_at p new T size sh E rest start < far_at p s T size sh E rest start
+
+-- from a place of the middle the receiver comes nearer: where the sender has ended its mark is there,
+-- else a word is ready
+abbrev pub MiddleNears : (m : BlockMeaning) → Pace → (Block → m.Count → Type 0) → ReceiverPlace → Type 0
+MiddleNears m p Ready here = (k : Block) (i count : ℕ) (n : m.Count) (word : ℕ → ℕ) (r : Noted) (v : ℕ) (sh E : Bool) (rest start : ℕ) → IsBlock k → m.Ordered k n → m.Words k n word → Finds m k count here n word r v → ReceiverIs m k i here n r → (E ≡ false → Ready k n) → 40 ≤ rest → Falls p (receives m.middle (whole_of k count) here r) (advanced (receives m.middle (whole_of k count) here r) v) (m.took n) k.size sh E rest start
+
+-- what a ring shows of one block for the plan. The least size of a ring is known here.
+pub record BlockProgress (m : BlockMeaning) (p : Pace) (least : ℕ) : Type 1 where
+  -- a word is there for the receiver
+  pub Ready : Block → m.Count → Type 0
+  -- with nothing pending, an act of a sender that does not wait brings it nearer to its end; one that
+  -- waits has a word ready; one that has ended has its mark landed
+  pub nearer : (k : Block) (n : m.Count) (s : HartState) (word : ℕ → ℕ) (v : ℕ) → IsBlock k → m.Ordered k n → m.Words k n word → m.Stands k n s → s.status ≡ status.Running → m.unsent k n ≡ [] → m.unread k n ≡ [] → ((a : ℕ) → IsWordOf k a → need_of s ≡ loads a → v ≡ word a) → p.waits s word ≡ false → p.sender (advanced s v) < p.sender s
+  pub ready : (k : Block) (n : m.Count) (s : HartState) (word : ℕ → ℕ) → IsBlock k → least ≤ k.size → m.Ordered k n → m.Words k n word → m.Stands k n s → s.status ≡ status.Running → m.unsent k n ≡ [] → m.unread k n ≡ [] → p.waits s word ≡ true → Ready k n
+  pub marked : (k : Block) (n : m.Count) (s : HartState) → IsBlock k → m.Ordered k n → m.Stands k n s → runs (Some s) ≡ false → m.unsent k n ≡ [] → m.marks n ≡ 1
+  -- a visit is not stale once the mark is read, nor where the sender runs
+  pub fresh : (f : Whole) (r : Noted) (T size : ℕ) (E : Bool) → (E ≡ true → r.x30 ≡ 1) → p.stale (receiving m.middle f 0x14 r) T size E ≡ false
+  pub near_14 : MiddleNears m p Ready R14
+  pub near_18 : MiddleNears m p Ready R18
+  pub near_1C : MiddleNears m p Ready R1C
+  pub near_20 : MiddleNears m p Ready R20
+  pub near_24 : MiddleNears m p Ready R24
+
+-- an act by a line
+falls : (p : Pace) (s new at : HartState) (T size : ℕ) (sh E : Bool) (rest start : ℕ) → new ≡ at → Falls p s at T size sh E rest start → Falls p s new T size sh E rest start
+falls p s new at T size sh E rest start is f = subst (λ (z : HartState). Falls p s z T size sh E rest start) (sym is) f
+
+-- the round: some block is open, so it comes nearer on its way to one
+module _ (rs : List Report) (n : ℕ) where
+  abbrev wrap : Bool → ℕ
+  wrap b = if b then 0 else 40 * (n + 2)
+
+  pub far_off : (j : ℕ) → 40 ≤ rest_from rs n j
+  far_off j =
+      elim (cases_lt j n) [
+        | inl less ↦ omega arith
+        | inr past ↦ let none : n - j ≡ 0 = omega arith in rw none (omega arith)
+      ]
+
+  pub not_far : (j : ℕ) → rest_from rs n j ≤ 40 * n + 40 * (n + 2)
+  not_far j = let most : wrap (some_open rs j (n - j)) ≤ 40 * (n + 2) = at (some_open rs j (n - j)) in omega arith
+    where
+      at : (b : Bool) → wrap b ≤ 40 * (n + 2)
+      at true = omega arith
+      at false = omega arith
+
+  pub arrives : (j : ℕ) → j < n → (if is_closed rs j then 17 + rest_from rs n (j + 1) else 22) < 1 + rest_from rs n j
+  arrives j less = at (n - (j + 1)) refl (omega arith) (is_closed rs j) refl
+    where
+      at : (c : ℕ) → n - (j + 1) ≡ c → n - j ≡ suc c → (b : Bool) → is_closed rs j ≡ b → (if b then 17 + rest_from rs n (j + 1) else 22) < 1 + rest_from rs n j
+      at c one two true is =
+          let same : some_open rs j (n - j) ≡ some_open rs (j + 1) (n - (j + 1)) = ap (some_open rs j) two ∙ ap (λ b. not b || some_open rs (suc j) c) is ∙ ap (λ i. some_open rs i c) (sym (add-one j)) ∙ ap (some_open rs (j + 1)) (sym one) in
+          let wraps : wrap (some_open rs j (n - j)) ≡ wrap (some_open rs (j + 1) (n - (j + 1))) = ap wrap same in
+          omega (arith, wraps, one, two)
+      at c one two false is = omega (arith, far_off j)
+
+  pub wraps : some_open rs 0 n ≡ true → rest_from rs n 0 ≤ rest_from rs n n
+  wraps open_one =
+      let all : n - 0 ≡ n = omega arith in
+      let none : n - n ≡ 0 = omega arith in
+      let first : rest_from rs n 0 ≡ 40 * n = rw all (rw open_one (omega arith)) in
+      let last : rest_from rs n n ≡ 40 * 0 + 40 * (n + 2) = rw none refl in
+      omega (arith, first, last)
+
+-- one act at a place, with the block that it visits
+module _ (m : BlockMeaning) (code : List ℕ) (laws : BlockLaws m code) (p : Pace) (least : ℕ) (prog : BlockProgress m p least) (k : Block) (is : IsBlock k) (i count : ℕ) (base : k.base ≡ i * block_size k.size) (known : i < count) (few : count ≤ 63) (n : m.Count) (order : m.Ordered k n) (word_at : ℕ → ℕ) (words : m.Words k n word_at) (r : Noted) (v : ℕ) (sh E : Bool) (shut_is : r.x22 ≡ i → m.shut n ≢ 0 → sh ≡ true) (marked : r.x22 ≡ i → E ≡ true → m.marks n ≡ 1) (ready : r.x22 ≡ i → E ≡ false → prog.Ready k n) (rest start : ℕ) (off : 40 ≤ rest) where
+  abbrev Fell : ReceiverPlace → ℕ → Type 0
+  Fell here T = Falls p (receives m.middle (whole_of k count) here r) (advanced (receives m.middle (whole_of k count) here r) v) T k.size sh E rest start
+
+  -- where the act is such a line
+  goes : (here there : ReceiverPlace) (T : ℕ) (noted : Noted) → advanced (receives m.middle (whole_of k count) here r) v ≡ receives m.middle (whole_of k count) there noted → Falls p (receives m.middle (whole_of k count) here r) (receives m.middle (whole_of k count) there noted) T k.size sh E rest start → Fell here T
+  goes here there T noted leaves f = falls p (receives m.middle (whole_of k count) here r) (advanced (receives m.middle (whole_of k count) here r) v) (receives m.middle (whole_of k count) there noted) T k.size sh E rest start leaves f
+
+  falls_08 : (T : ℕ) → ReceiverIs m k i R08 n r → Fell R08 T
+  falls_08 T h = goes R08 R0C T (record r { x5 = v }) ((line_08 m.middle (whole_of k count) r (omega (arith, is.even, h.1.base)) (omega (arith, is.inside, is.some_slot, h.1.base)) is.small).leaves v) (record { block = refl; nearer = at sh })
+    where
+      at : (b : Bool) → (if b then 16 + rest else 21) < (if b then 17 + rest else 22)
+      at true = omega arith
+      at false = omega arith
+
+  falls_0C : (T : ℕ) → ReceiverIs m k i R0C n r → Fell R0C T
+  falls_0C T h =
+      elim (cases_eq r.x5 0) [
+        | inl none ↦ goes R0C R10 T r ((line_0C-same m.middle (whole_of k count) r none).leaves v) (record { block = refl; nearer = at sh })
+        | inr some ↦ goes R0C R68 T r ((line_0C-other m.middle (whole_of k count) r some).leaves v) (record { block = refl; nearer = (let on : sh ≡ true = shut_is h.1.index (λ zero_is. some (h.2 ∙ sym h.0.closed ∙ zero_is)) in rw on (omega arith)) })
+      ]
+    where
+      at : (b : Bool) → 20 + 0 * rest + 0 * start < (if b then 16 + rest else 21)
+      at true = omega arith
+      at false = omega arith
+
+  falls_10 : (T : ℕ) → ReceiverIs m k i R10 n r → v ≡ seen_at m k n word_at (k.base + 4) → Fell R10 T
+  falls_10 T h seen =
+      let read : v ≡ m.marks n = seen ∙ laws.sees_mark k n word_at order words in
+      let new : p.stale (receiving m.middle (whole_of k count) 0x14 (record r { x30 = v })) T k.size E ≡ false = prog.fresh (whole_of k count) (record r { x30 = v }) T k.size E (λ on. read ∙ marked h.visits.index on) in
+      goes R10 R14 T (record r { x30 = v }) ((line_10 m.middle (whole_of k count) r (omega (arith, is.even, h.visits.base)) (omega (arith, is.inside, is.some_slot, h.visits.base)) is.small).leaves v) (record { block = refl; nearer = rw new (omega arith) })
+
+  falls_28 : (T : ℕ) → ReceiverIs m k i R28 n r → Fell R28 T
+  falls_28 T h = goes R28 R2C T (record r { x7 = r.x7 + 4 }) ((line_28 m.middle (whole_of k count) r (omega (arith, is.inside, is.small, h.1, offset_low k is (m.tails n)))).leaves v) (record { block = refl; nearer = omega arith })
+
+  falls_2C : (T : ℕ) → ReceiverIs m k i R2C n r → Fell R2C T
+  falls_2C T h =
+      elim (cases_eq r.x7 (4 * k.size)) [
+        | inl same ↦ goes R2C R30 T r ((line_2C-same m.middle (whole_of k count) r same).leaves v) (record { block = refl; nearer = omega arith })
+        | inr other ↦ goes R2C R34 T r ((line_2C-other m.middle (whole_of k count) r other).leaves v) (record { block = refl; nearer = omega arith })
+      ]
+
+  falls_30 : (T : ℕ) → ReceiverIs m k i R30 n r → Fell R30 T
+  falls_30 T h = goes R30 R34 T (record r { x7 = 0 }) ((line_30 m.middle (whole_of k count) r).leaves v) (record { block = refl; nearer = omega arith })
+
+  falls_34 : (T : ℕ) → ReceiverIs m k i R34 n r → Fell R34 T
+  falls_34 T h = goes R34 R38 T r ((line_34 m.middle (whole_of k count) r (omega (arith, is.even, h.0.visits.base)) (omega (arith, is.inside, is.some_slot, h.0.visits.base)) is.small).leaves v) (record { block = refl; nearer = omega arith })
+
+  falls_38 : (T : ℕ) → ReceiverIs m k i R38 n r → Fell R38 T
+  falls_38 T h = goes R38 R3C T (record r { x10 = r.x22 }) ((line_38 m.middle (whole_of k count) r (omega (arith, h.visits.index, known, few))).leaves v) (record { block = refl; nearer = omega arith })
+
+  falls_3C : (T : ℕ) → ReceiverIs m k i R3C n r → Fell R3C T
+  falls_3C T h = goes R3C R40 T (record r { x17 = 2 }) ((line_3C m.middle (whole_of k count) r).leaves v) (record { block = refl; nearer = omega arith })
+
+  falls_44 : (T : ℕ) → ReceiverIs m k i R44 n r → Fell R44 T
+  falls_44 T h = goes R44 R68 T r ((line_44 m.middle (whole_of k count) r).leaves v) (record { block = refl; nearer = omega arith })
+
+  falls_48 : (T : ℕ) → ReceiverIs m k i R48 n r → Fell R48 T
+  falls_48 T h =
+      elim (cases_eq r.x30 0) [
+        | inl none ↦ goes R48 R68 T r ((line_48-same m.middle (whole_of k count) r none).leaves v) (record { block = refl; nearer = (let on : (r.x30 == 0) ≡ true = grind (arith, nat_tests) in rw on (omega arith)) })
+        | inr some ↦ goes R48 R4C T r ((line_48-other m.middle (whole_of k count) r some).leaves v) (record { block = refl; nearer = (let not_on : (r.x30 == 0) ≡ false = grind (arith, nat_tests) in rw not_on (omega arith)) })
+      ]
+
+  falls_4C : (T : ℕ) → ReceiverIs m k i R4C n r → Fell R4C T
+  falls_4C T h = goes R4C R50 T (record r { x5 = 1 }) ((line_4C m.middle (whole_of k count) r).leaves v) (record { block = refl; nearer = omega arith })
+
+  falls_50 : (T : ℕ) → ReceiverIs m k i R50 n r → Fell R50 T
+  falls_50 T h = goes R50 R54 T r ((line_50 m.middle (whole_of k count) r (omega (arith, is.even, h.0.visits.base)) (omega (arith, is.inside, is.some_slot, h.0.visits.base)) is.small).leaves v) (record { block = refl; nearer = omega arith })
+
+  falls_54 : (T : ℕ) → ReceiverIs m k i R54 n r → Fell R54 T
+  falls_54 T h = goes R54 R58 T (record r { x10 = r.x22 }) ((line_54 m.middle (whole_of k count) r (omega (arith, h.visits.index, known, few))).leaves v) (record { block = refl; nearer = omega arith })
+
+  falls_58 : (T : ℕ) → ReceiverIs m k i R58 n r → Fell R58 T
+  falls_58 T h = goes R58 R5C T (record r { x17 = 3 }) ((line_58 m.middle (whole_of k count) r).leaves v) (record { block = refl; nearer = omega arith })
+
+  falls_60 : (T : ℕ) → (y : ℕ) → r.x20 ≡ y + 1 → r.x20 ≤ 64 → Fell R60 T
+  falls_60 T y one small = goes R60 R64 T (record r { x20 = y }) ((line_60 m.middle (whole_of k count) r y one (omega (arith, one, small))).leaves v) (record { block = refl; nearer = omega arith })
+
+  falls_64 : (T : ℕ) → 0 < r.x20 → Fell R64 T
+  falls_64 T owing = goes R64 R68 T r ((line_64-other m.middle (whole_of k count) r (λ none. omega (arith, none, owing))).leaves v) (record { block = refl; nearer = omega arith })
+
+  falls_68 : (T : ℕ) → ReceiverIs m k i R68 n r → Fell R68 T
+  falls_68 T h = goes R68 R6C T (record r { x8 = r.x8 + block_size k.size }) ((line_68 m.middle (whole_of k count) r (omega (arith, h.1.base, is.inside, is.wide, is.some_slot))).leaves v) (record { block = refl; nearer = omega arith })
+
+  falls_6C : (T : ℕ) → ReceiverIs m k i R6C n r → Fell R6C T
+  falls_6C T h = goes R6C R70 T (record r { x22 = r.x22 + 1 }) ((line_6C m.middle (whole_of k count) r (omega (arith, h.1, known, few))).leaves v) (record { block = omega arith; nearer = omega arith })
+
+  falls_74 : (T : ℕ) → ReceiverIs m k i R74 n r → Fell R74 T
+  falls_74 T h = goes R74 R00 T r ((line_74 m.middle (whole_of k count) r).leaves v) (record { block = refl; nearer = omega arith })
+
+  falls_00 : (T : ℕ) → ReceiverIs m k i R00 n r → Fell R00 T
+  falls_00 T h = goes R00 R04 T (record r { x8 = 0 }) ((line_00 m.middle (whole_of k count) r).leaves v) (record { block = refl; nearer = omega arith })
+
+  -- it reports something of this sender
+  abbrev pub Tells : ReceiverPlace → Type 0
+  Tells here = (x : Report) × (need_of (receives m.middle (whole_of k count) here r) ≡ need.Report x) × (sender_of x ≡ i)
+
+  -- wherever it stands, but where it comes to another block
+  pub falls_on : (here : ReceiverPlace) → (T : ℕ) → (r.x22 ≡ i → m.took n ≡ m.tails n → T ≡ m.took n) → Finds m k count here n word_at r v → due here < r.x20 → r.x20 ≤ 64 → ReceiverIs m k i here n r → Tells here ⊎ (Fell here T ⊎ ((here ≡ R04) ⊎ (here ≡ R70)))
+  falls_on R00 T took find owing small h = inr (inl (falls_00 T h))
+  falls_on R04 T took find owing small h = inr (inr (inl refl))
+  falls_on R08 T took find owing small h = inr (inl (falls_08 T h))
+  falls_on R0C T took find owing small h = inr (inl (falls_0C T h))
+  falls_on R10 T took find owing small h = inr (inl (falls_10 T h (find (k.base + 4) (word_of k is 4 (omega arith) refl) ((line_10 m.middle (whole_of k count) r (omega (arith, is.even, h.visits.base)) (omega (arith, is.inside, is.some_slot, h.visits.base)) is.small).wants ∙ ap (λ b. loads (b + 4)) h.visits.base))))
+  falls_on R14 T took find owing small h = inr (inl (subst (λ (z : ℕ). Fell R14 z) (sym (took h.0.visits.index h.0.quiet.words)) (prog.near_14 k i count n word_at r v sh E rest start is order words find h (ready h.0.visits.index) off)))
+  falls_on R18 T took find owing small h = inr (inl (subst (λ (z : ℕ). Fell R18 z) (sym (took h.0.visits.index h.0.quiet.words)) (prog.near_18 k i count n word_at r v sh E rest start is order words find h (ready h.0.visits.index) off)))
+  falls_on R1C T took find owing small h = inr (inl (subst (λ (z : ℕ). Fell R1C z) (sym (took h.0.visits.index h.0.quiet.words)) (prog.near_1C k i count n word_at r v sh E rest start is order words find h (ready h.0.visits.index) off)))
+  falls_on R20 T took find owing small h = inr (inl (subst (λ (z : ℕ). Fell R20 z) (sym (took h.0.visits.index h.0.quiet.words)) (prog.near_20 k i count n word_at r v sh E rest start is order words find h (ready h.0.visits.index) off)))
+  falls_on R24 T took find owing small h = inr (inl (subst (λ (z : ℕ). Fell R24 z) (sym (took h.0.visits.index h.0.quiet.words)) (prog.near_24 k i count n word_at r v sh E rest start is order words find h (ready h.0.visits.index) off)))
+  falls_on R28 T took find owing small h = inr (inl (falls_28 T h))
+  falls_on R2C T took find owing small h = inr (inl (falls_2C T h))
+  falls_on R30 T took find owing small h = inr (inl (falls_30 T h))
+  falls_on R34 T took find owing small h = inr (inl (falls_34 T h))
+  falls_on R38 T took find owing small h = inr (inl (falls_38 T h))
+  falls_on R3C T took find owing small h = inr (inl (falls_3C T h))
+  falls_on R40 T took find owing small h = inl (report.Took r.x10 r.x11, (line_40 m.middle (whole_of k count) r h.2).wants, h.1)
+  falls_on R44 T took find owing small h = inr (inl (falls_44 T h))
+  falls_on R48 T took find owing small h = inr (inl (falls_48 T h))
+  falls_on R4C T took find owing small h = inr (inl (falls_4C T h))
+  falls_on R50 T took find owing small h = inr (inl (falls_50 T h))
+  falls_on R54 T took find owing small h = inr (inl (falls_54 T h))
+  falls_on R58 T took find owing small h = inr (inl (falls_58 T h))
+  falls_on R5C T took find owing small h = inl (report.Closed r.x10, (line_5C m.middle (whole_of k count) r h.2).wants, h.1)
+  falls_on R60 T took find owing small h = inr (inl (falls_60 T (r.x20 - 1) (omega (arith, owing)) small))
+  falls_on R64 T took find owing small h = inr (inl (falls_64 T owing))
+  falls_on R68 T took find owing small h = inr (inl (falls_68 T h))
+  falls_on R6C T took find owing small h = inr (inl (falls_6C T h))
+  falls_on R70 T took find owing small h = inr (inr (inr refl))
+  falls_on R74 T took find owing small h = inr (inl (falls_74 T h))
+  falls_on R78 T took find owing small h = absurd (omega (arith, owing, h.1))
+  falls_on R7C T took find owing small h = absurd (omega (arith, owing, h.2))
+  falls_on ROver T took find owing small h = absurd (omega (arith, owing, h.1))
+
+-- and where it comes to another block, or to the end of a round
+module _ (p : Pace) (mid : Middle) (k : Block) (i count : ℕ) (base : k.base ≡ i * block_size k.size) (known : i < count) (size : ℕ) (rs : List Report) (states : ℕ → Option HartState) (r : Noted) (v : ℕ) where
+  abbrev Near : ReceiverPlace → Type 0
+  Near here = far_of p count size rs states (advanced (receives mid (whole_of k count) here r) v) < far_of p count size rs states (receives mid (whole_of k count) here r)
+
+  far_by : (here : ReceiverPlace) (new : HartState) → advanced (receives mid (whole_of k count) here r) v ≡ new → far_of p count size rs states new < far_of p count size rs states (receives mid (whole_of k count) here r) → Near here
+  far_by here new leaves less = subst (λ (z : HartState). far_of p count size rs states z < far_of p count size rs states (receives mid (whole_of k count) here r)) (sym leaves) less
+
+  pub near_04 : Near R04
+  near_04 = far_by R04 (receiving mid (whole_of k count) 0x08 (record r { x22 = 0 })) ((line_04 mid (whole_of k count) r).leaves v) (omega (arith, arrives rs count 0 (omega arith)))
+
+  pub near_70 : some_open rs 0 count ≡ true → r.x22 ≡ i + 1 → r.x8 ≡ k.base + block_size k.size → Near R70
+  near_70 open_one index at =
+      elim (cases_eq r.x8 (count * block_size k.size)) [
+        | inl same ↦
+            let last : r.x22 - 1 + 1 ≡ count = omega (arith, at_end same, index) in
+            let over : rest_from rs count (r.x22 - 1 + 1) ≡ rest_from rs count count = ap (rest_from rs count) last in
+            far_by R70 (receiving mid (whole_of k count) 0x74 r) ((line_70-same mid (whole_of k count) r same).leaves v) (omega (arith, over, wraps rs count open_one))
+        | inr other ↦
+            let here : r.x22 - 1 + 1 ≡ r.x22 = omega (arith, index) in
+            let rest : rest_from rs count (r.x22 - 1 + 1) ≡ rest_from rs count r.x22 = ap (rest_from rs count) here in
+            far_by R70 (receiving mid (whole_of k count) 0x08 r) ((line_70-other mid (whole_of k count) r other).leaves v) (omega (arith, rest, arrives rs count r.x22 (omega (arith, index, more other (cases_eq (i + 1) count)))))
+      ]
+    where
+      next : k.base + block_size k.size ≡ (i + 1) * block_size k.size
+      next = omega (arith, base)
+
+      at_end : r.x8 ≡ count * block_size k.size → i + 1 ≡ count
+      at_end same =
+          elim (cases_lt (i + 1) count) [
+            | inl less ↦ let below : (i + 1) * block_size k.size + block_size k.size ≤ count * block_size k.size = row_fits (i + 1) (block_size k.size) count (block_size k.size) less (omega arith) in absurd (omega (arith, below, same, at, next))
+            | inr past ↦ omega (arith, known)
+          ]
+
+      more : r.x8 ≢ count * block_size k.size → (i + 1 ≡ count) ⊎ (i + 1 ≢ count) → i + 1 < count
+      more other (inl last) = absurd (other (at ∙ next ∙ ap (λ j. j * block_size k.size) last))
+      more other (inr less) = omega (arith, known)
+
+-- at each place but 70 the block that it visits is in x22
+pub visited_at : (mid : Middle) (f : Whole) (r : Noted) (here : ReceiverPlace) → (here ≡ R70) ⊎ (visited_by (receives mid f here r) ≡ r.x22)
+visited_at mid f r R00 = inr refl
+visited_at mid f r R04 = inr refl
+visited_at mid f r R08 = inr refl
+visited_at mid f r R0C = inr refl
+visited_at mid f r R10 = inr refl
+visited_at mid f r R14 = inr refl
+visited_at mid f r R18 = inr refl
+visited_at mid f r R1C = inr refl
+visited_at mid f r R20 = inr refl
+visited_at mid f r R24 = inr refl
+visited_at mid f r R28 = inr refl
+visited_at mid f r R2C = inr refl
+visited_at mid f r R30 = inr refl
+visited_at mid f r R34 = inr refl
+visited_at mid f r R38 = inr refl
+visited_at mid f r R3C = inr refl
+visited_at mid f r R40 = inr refl
+visited_at mid f r R44 = inr refl
+visited_at mid f r R48 = inr refl
+visited_at mid f r R4C = inr refl
+visited_at mid f r R50 = inr refl
+visited_at mid f r R54 = inr refl
+visited_at mid f r R58 = inr refl
+visited_at mid f r R5C = inr refl
+visited_at mid f r R60 = inr refl
+visited_at mid f r R64 = inr refl
+visited_at mid f r R68 = inr refl
+visited_at mid f r R6C = inr refl
+visited_at mid f r R70 = inl refl
+visited_at mid f r R74 = inr refl
+visited_at mid f r R78 = inr refl
+visited_at mid f r R7C = inr refl
+visited_at mid f r ROver = inr refl
+
+-- it runs as long as some sender is not counted, and reports a sender closed once at most
+module _ (m : BlockMeaning) (code : List ℕ) (laws : BlockLaws m code) (k : Block) (i : ℕ) (f : Whole) (n : m.Count) (order : m.Ordered k n) (r : Noted) where
+  pub running_at : (here : ReceiverPlace) → due here < r.x20 → ReceiverIs m k i here n r → (receives m.middle f here r).status ≡ status.Running
+  running_at R00 owing h = refl
+  running_at R04 owing h = refl
+  running_at R08 owing h = refl
+  running_at R0C owing h = refl
+  running_at R10 owing h = refl
+  running_at R14 owing h = refl
+  running_at R18 owing h = refl
+  running_at R1C owing h = refl
+  running_at R20 owing h = refl
+  running_at R24 owing h = refl
+  running_at R28 owing h = refl
+  running_at R2C owing h = refl
+  running_at R30 owing h = refl
+  running_at R34 owing h = refl
+  running_at R38 owing h = refl
+  running_at R3C owing h = refl
+  running_at R40 owing h = refl
+  running_at R44 owing h = refl
+  running_at R48 owing h = refl
+  running_at R4C owing h = refl
+  running_at R50 owing h = refl
+  running_at R54 owing h = refl
+  running_at R58 owing h = refl
+  running_at R5C owing h = refl
+  running_at R60 owing h = refl
+  running_at R64 owing h = refl
+  running_at R68 owing h = refl
+  running_at R6C owing h = refl
+  running_at R70 owing h = refl
+  running_at R74 owing h = refl
+  running_at R78 owing h = refl
+  running_at R7C owing h = refl
+  running_at ROver owing h = absurd (omega (arith, owing, h.1))
+
+  pub shut_one : (here : ReceiverPlace) → ReceiverIs m k i here n r → m.shut n ≤ 1
+  shut_one R00 h = omega (arith, h.closed, laws.dones_one k n order)
+  shut_one R04 h = omega (arith, h.0.closed, laws.dones_one k n order)
+  shut_one R08 h = omega (arith, h.0.closed, laws.dones_one k n order)
+  shut_one R0C h = omega (arith, h.0.closed, laws.dones_one k n order)
+  shut_one R10 h = omega (arith, h.quiet.closed, laws.dones_one k n order)
+  shut_one R14 h = omega (arith, h.0.quiet.closed, laws.dones_one k n order)
+  shut_one R18 h = omega (arith, h.0.quiet.closed, laws.dones_one k n order)
+  shut_one R1C h = omega (arith, h.0.quiet.closed, laws.dones_one k n order)
+  shut_one R20 h = omega (arith, h.0.quiet.closed, laws.dones_one k n order)
+  shut_one R24 h = omega (arith, h.0.quiet.closed, laws.dones_one k n order)
+  shut_one R28 h = omega (arith, h.0.closed, laws.dones_one k n order)
+  shut_one R2C h = omega (arith, h.0.closed, laws.dones_one k n order)
+  shut_one R30 h = omega (arith, h.0.closed, laws.dones_one k n order)
+  shut_one R34 h = omega (arith, h.0.closed, laws.dones_one k n order)
+  shut_one R38 h = omega (arith, h.closed, laws.dones_one k n order)
+  shut_one R3C h = omega (arith, h.0.closed, laws.dones_one k n order)
+  shut_one R40 h = omega (arith, h.0.closed, laws.dones_one k n order)
+  shut_one R44 h = omega (arith, h.0.closed, laws.dones_one k n order)
+  shut_one R48 h = omega (arith, h.0.quiet.closed, laws.dones_one k n order)
+  shut_one R4C h = omega (arith, h.0.quiet.closed, laws.dones_one k n order)
+  shut_one R50 h = omega (arith, h.0.quiet.closed, laws.dones_one k n order)
+  shut_one R54 h = omega (arith, h.unsaid)
+  shut_one R58 h = omega (arith, h.0.unsaid)
+  shut_one R5C h = omega (arith, h.0.unsaid)
+  shut_one R60 h = omega (arith, h.0.closed, laws.dones_one k n order)
+  shut_one R64 h = omega (arith, h.0.closed, laws.dones_one k n order)
+  shut_one R68 h = omega (arith, h.0.closed, laws.dones_one k n order)
+  shut_one R6C h = omega (arith, h.0.closed, laws.dones_one k n order)
+  shut_one R70 h = omega (arith, h.0.closed, laws.dones_one k n order)
+  shut_one R74 h = omega (arith, h.closed, laws.dones_one k n order)
+  shut_one R78 h = omega (arith, h.0.closed, laws.dones_one k n order)
+  shut_one R7C h = omega (arith, h.0.closed, laws.dones_one k n order)
+  shut_one ROver h = omega (arith, h.0.closed, laws.dones_one k n order)

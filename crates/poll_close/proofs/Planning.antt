@@ -1,0 +1,315 @@
+-- What each step of the plan's loop keeps.
+use Rattle.std.proofs.Common.{◌≡◌, ◌≢◌, ℕ, zero, suc, ◌+◌, ◌-◌, ◌==◌, not, ◌≤◌, ◌<◌, inl, inr, ◌⊎◌, Bool, true, false, if◌then◌else◌, ◌||◌, ◌&&◌, Some, None, List, [], ◌∷◌, ◌++◌, length, drop, refl, sym, ◌∙◌, ap, subst, arith, eq-eqb}
+use Rattle.std.proofs.lemmas.Bool.{cases_eq}
+use Rattle.std.proofs.lemmas.Bool.Decides.{nat_tests}
+use Rattle.step_machine.specs.declared.events.Event.{Event}
+use Rattle.step_machine.specs.declared.events.Event.TheVariants as event
+use Rattle.step_machine.specs.declared.events.Entry.{Entry}
+use Rattle.step_machine.specs.declared.events.Entry.TheVariants as entry
+use Rattle.step_machine.specs.declared.events.Outcome.{Outcome}
+use Rattle.std.proofs.lemmas.List.{length-map, length-drop}
+use Rattle.step_machine.specs.History.{HartStart, Start, History, unrun, with_entry}
+use Rattle.step_machine.specs.Entries.{hart_of, is_land, pending, reported, store_of, land_of}
+use Rattle.step_machine.specs.Legal.{Kept}
+use Rattle.step_machine.specs.Runs.{Happens, Run, RunFrom, IsOwnRun, event_of}
+use Rattle.step_machine.proofs.Running.{shape_of, RunFrom-more, run-one}
+use Rattle.step_machine.proofs.Follows.{land_follows}
+use Rattle.step_machine.proofs.Balanced.{balanced}
+use Rattle.step_machine.proofs.Appended.{pending-last}
+use Rattle.step_machine.proofs.Stays.{pending-land, pending-other, land_of-other, store_of-other}
+use Rattle.memory.specs.declared.writes.Write.{Write}
+use Rattle.memory.specs.Writes.{write}
+use Rattle.hart.specs.declared.need.Report.{Report}
+use Rattle.hart.specs.declared.need.Report.TheVariants as report
+use Rattle.std.specs.Prelude.{map}
+use Rattle.std.specs.List.{slice_get, slice_index_or}
+use Rattle.poll_close.specs.Laws.{Ring, Meaning, Keeps, Cleans}
+use Rattle.poll_close.specs.Reports.{taken, Clean}
+use Rattle.poll_close.specs.Standing.{Stands, lists_of}
+use Rattle.poll_close.proofs.Standing.{inboxes, stands-happens, stands-clean}
+use Rattle.poll_close.specs.Layout.{opening_of, senders_from}
+use Rattle.poll_close.specs.Delivery.{DeliversWhole}
+use Rattle.poll_close.proofs.Delivering.{senders-length}
+use Rattle.poll_close.proofs.CleanReports.{closed_whole}
+use Rattle.poll_close.specs.Plans.{AllLanded, Nearer, Nears, Finished, Finishes, is_closed, all_closed, ends_in_word, is_word, is_done, senders_of}
+
+pub record Planned (ring : Ring) (means : Meaning) (B M : ℕ) (start : History) (evs : List Event) (t : History) : Type 0 where
+  pub run : RunFrom B M start evs t
+  pub stands : Stands ring means B M t
+  pub harts : length t.opening.harts ≡ length start.opening.harts
+
+pub closed_at : (rs : List Report) (i : ℕ) → is_closed rs i ≡ true → (k : ℕ) × (slice_get rs k ≡ Some (report.Closed i))
+closed_at [] i is = cc
+closed_at (report.Took j w ∷ rs) i is = let more = closed_at rs i is in (suc more.0, more.1)
+closed_at (report.Closed j ∷ rs) i is = at (j == i) refl is (closed_at rs i)
+  where
+    at : (b : Bool) → (j == i) ≡ b → (b || is_closed rs i) ≡ true → (is_closed rs i ≡ true → (k : ℕ) × (slice_get rs k ≡ Some (report.Closed i))) → (k : ℕ) × (slice_get (report.Closed j ∷ rs) k ≡ Some (report.Closed i))
+    at true same on later = (0, ap (λ z. Some (report.Closed z)) (let one : j ≡ i = grind (arith, nat_tests) in one))
+    at false other on later = let more = later on in (suc more.0, more.1)
+
+pub each_closed : (rs : List Report) (n : ℕ) → all_closed rs n ≡ true → (i : ℕ) → i < n → is_closed rs i ≡ true
+each_closed rs zero all i less = absurd (omega arith)
+each_closed rs (suc n) all i less = at (is_closed rs n) refl all (cases_eq i n) (λ both below. each_closed rs n both i below)
+  where
+    at : (b : Bool) → is_closed rs n ≡ b → (b && all_closed rs n) ≡ true → (i ≡ n) ⊎ (i ≢ n) → (all_closed rs n ≡ true → i < n → is_closed rs i ≡ true) → is_closed rs i ≡ true
+    at true is both (inl same) more = ap (is_closed rs) same ∙ is
+    at true is both (inr other) more = more both (omega (arith, other, less))
+    at false is both any more = cc
+
+-- the reports from one on say what they say with it
+pub closed_next : (rs : List Report) (k i : ℕ) (x : Report) → k < length rs → slice_get rs k ≡ Some x → is_closed (drop k rs) i ≡ is_closed (x ∷ drop (suc k) rs) i
+closed_next [] k i x less is = absurd (omega arith)
+closed_next (y ∷ rs) zero i x less is = ap (λ z. is_closed (z ∷ rs) i) (let same : y ≡ x = cc in same)
+closed_next (y ∷ rs) (suc k) i x less is = closed_next rs k i x (omega arith) is
+
+pub open_one : (rs : List Report) (n i : ℕ) → i < n → is_closed rs i ≡ false → all_closed rs n ≡ false
+open_one rs n i less open_yet = at (all_closed rs n) refl
+  where
+    at : (b : Bool) → all_closed rs n ≡ b → all_closed rs n ≡ false
+    at false is = is
+    at true is = let shut : is_closed rs i ≡ true = each_closed rs n is i less in cc
+
+-- the first report that is left is its closing
+pub closed_here : (rs : List Report) (k i : ℕ) (x : Report) → k < length rs → slice_get rs k ≡ Some x → x ≡ report.Closed i → is_closed (drop k rs) i ≡ true
+closed_here rs k i x less at is = closed_next rs k i x less at ∙ ap (λ z. is_closed (z ∷ drop (suc k) rs) i) is ∙ (let on : (i == i) ≡ true = eq-eqb i i refl in rw on refl)
+
+pub open_here : (rs : List Report) (k i : ℕ) (x : Report) → k < length rs → slice_get rs k ≡ Some x → x ≢ report.Closed i → is_closed (drop k rs) i ≡ is_closed (drop (suc k) rs) i
+open_here rs k i (report.Took j w) less at other = closed_next rs k i (report.Took j w) less at
+open_here rs k i (report.Closed j) less at other = closed_next rs k i (report.Closed j) less at ∙ (let off : (j == i) ≡ false = let differ : j ≢ i = λ same. other (ap report.Closed same) in grind (arith, nat_tests) in rw off refl)
+
+pub finished : (ring : Ring) (means : Meaning) (B M : ℕ) (t : History) → Cleans ring means → Stands ring means B M t → is_done t ≡ true → Finished t
+finished ring means B M t cleans s done = record {
+  closed = each_closed (reported 0 t.entries) (senders_of t) done;
+  whole = λ i less. (let at = closed_at (reported 0 t.entries) i (each_closed (reported 0 t.entries) (senders_of t) done i less) in closed_whole (reported 0 t.entries) (lists_of t.opening) i at.0 (stands-clean ring means B M t cleans s) at.1);
+}
+
+module _ (ring : Ring) (means : Meaning) (B M : ℕ) where
+  pub planned-none : (t : History) → Stands ring means B M t → Planned ring means B M t [] t
+  planned-none t stands = record { run = refl; stands = stands; harts = refl }
+
+  same_harts : (t : History) (ev : Event) (o : Outcome) (new : History) → Happens B M t ev o new → length new.opening.harts ≡ length t.opening.harts
+  same_harts t ev o new h =
+      elim (shape_of B M t ev o new h) [
+        | inl a ↦ ap (λ (u : History). length u.opening.harts) a.2.after
+        | inr i ↦ ap (λ (u : History). length u.opening.harts) i.after
+      ]
+
+  pub planned-more : (start : History) (evs : List Event) (t : History) (ev : Event) (o : Outcome) (new : History) → Keeps ring means → Planned ring means B M start evs t → Happens B M t ev o new → Planned ring means B M start (evs ++ ev ∷ []) new
+  planned-more start evs t ev o new keeps p h = record {
+    run = RunFrom-more B M start evs t ev o new p.run h;
+    stands = stands-happens ring means B M t ev o new keeps p.stands h;
+    harts = same_harts t ev o new h ∙ p.harts;
+  }
+
+  pub planned-done : (start : History) (evs : List Event) (t : History) → Cleans ring means → Planned ring means B M start evs t → is_done t ≡ true → Finishes B M start evs
+  planned-done start evs t cleans p done new run = subst Finished (run-one B M start evs t new p.run run) (finished ring means B M t cleans p.stands done)
+
+drop_one : (ps : List Write) → 0 < length ps → length (drop 1 ps) < length ps
+drop_one [] some = absurd (omega arith)
+drop_one (p ∷ ps) some = omega arith
+
+pub record Less (t new : History) (h : ℕ) : Type 0 where
+  pub fewer : length (pending h new.entries) < length (pending h t.entries)
+  pub others : (k : ℕ) → k ≢ h → pending k new.entries ≡ pending k t.entries
+  pub after : new ≡ with_entry t (entry.Land h)
+
+-- a hart with a pending store lands it
+pub lands_one : (B M : ℕ) (t : History) (h : ℕ) (o : Outcome) (new : History) → Kept B M t → h < length t.opening.harts → 0 < length (pending h t.entries) → Happens B M t (event.Land h) o new → Less t new h
+lands_one B M t h o new kept hart some hap =
+    elim (shape_of B M t (event.Land h) o new hap) [
+      | inl a ↦
+          let is : new ≡ with_entry t (entry.Land h) = a.2.after ∙ ap (with_entry t) a.2.for_event in
+          subst (λ (u : History). Less t u h) (sym is) (record {
+            fewer = subst (λ (ps : List Write). length ps < length (pending h t.entries)) (sym (pending-land B t h kept.legal)) (drop_one (pending h t.entries) some);
+            others = λ k other. pending-other B t k (entry.Land h) kept.legal refl (land_of-other h k other);
+            after = refl;
+          })
+      | inr i ↦ absurd (i.none (entry.Land h) refl (land_follows B M t h kept.legal (kept.paths h hart) some))
+    ]
+
+pick : (g h : ℕ) (p : Write) (b : Bool) → length (if b then p ∷ [] else []) ≤ 1
+pick g h p true = omega arith
+pick g h p false = omega arith
+
+few : (h : ℕ) (e : Entry) → is_land e ≡ false → length (drop (land_of h e) (store_of h e)) ≤ 1
+few h (entry.Inner g) act = omega arith
+few h (entry.Load g a width v) act = omega arith
+few h (entry.Store g a width v) act = pick g h (write a width v) (g == h)
+few h (entry.Amo g a old new) act = omega arith
+few h (entry.Fence g full) act = omega arith
+few h (entry.Next g w) act = omega arith
+few h (entry.Took g i w) act = omega arith
+few h (entry.Closed g i) act = omega arith
+few h (entry.Ended g) act = omega arith
+few h (entry.Stopped g why) act = omega arith
+few h (entry.Land g) act = cc
+
+elsewhere : (k : ℕ) (e : Entry) → is_land e ≡ false → k ≢ hart_of e → (store_of k e ≡ []) × (land_of k e ≡ 0)
+elsewhere k (entry.Inner g) act other = (refl, refl)
+elsewhere k (entry.Load g a width v) act other = (refl, refl)
+elsewhere k (entry.Store g a width v) act other = (store_of-other g k a width v other, refl)
+elsewhere k (entry.Amo g a old new) act other = (refl, refl)
+elsewhere k (entry.Fence g full) act other = (refl, refl)
+elsewhere k (entry.Next g w) act other = (refl, refl)
+elsewhere k (entry.Took g i w) act other = (refl, refl)
+elsewhere k (entry.Closed g i) act other = (refl, refl)
+elsewhere k (entry.Ended g) act other = (refl, refl)
+elsewhere k (entry.Stopped g why) act other = (refl, refl)
+elsewhere k (entry.Land g) act other = cc
+
+pub record Stepped (left : History → ℕ) (t new : History) (h : ℕ) : Type 0 where
+  pub less : left new < left t
+  pub landing : left (with_entry new (entry.Land h)) ≡ left new
+  pub few : length (pending h new.entries) ≤ 1
+  pub others : (k : ℕ) → k ≢ h → pending k new.entries ≡ pending k t.entries
+
+-- the chosen hart acts
+pub acts_one : (B M : ℕ) (left : History → ℕ) (t : History) (h : ℕ) (o : Outcome) (new : History) → Kept B M t → AllLanded t → Nearer B M left t h → Happens B M t (event.Act h) o new → Stepped left t new h
+acts_one B M left t h o new kept none near hap =
+    elim (shape_of B M t (event.Act h) o new hap) [
+      | inl a ↦
+          subst (λ (u : History). Stepped left t u h) (sym a.2.after) (record {
+            less = near.alone a.0 a.2.for_event a.2.follows;
+            landing = near.landed (with_entry t a.0);
+            few = subst (λ (ps : List Write). length ps ≤ 1) (sym (pending-last h t.entries a.0 (balanced B t h kept.legal) ∙ ap (λ ps. drop (land_of h a.0) (ps ++ store_of h a.0)) (none h near.hart))) (few h a.0 a.2.for_event.1);
+            others = λ k other. (let out = elsewhere k a.0 a.2.for_event.1 (λ same. other (same ∙ a.2.for_event.0)) in pending-other B t k a.0 kept.legal out.0 out.1);
+          })
+      | inr i ↦ absurd (near.acts i.none)
+    ]
+
+pub no_length : (ps : List Write) → length ps < 1 → ps ≡ []
+no_length [] less = refl
+no_length (p ∷ ps) less = absurd (omega arith)
+
+pub all_again : (t new : History) (h : ℕ) → length new.opening.harts ≡ length t.opening.harts → AllLanded t → ((k : ℕ) → k ≢ h → pending k new.entries ≡ pending k t.entries) → pending h new.entries ≡ [] → AllLanded new
+all_again t new h harts all others none k within =
+    elim (cases_eq k h) [
+      | inl same ↦ ap (λ j. pending j new.entries) same ∙ none
+      | inr other ↦ others k other ∙ all k (omega (arith, harts, within))
+    ]
+
+pub not_done : (b d : Bool) → b ≡ d → not b ≡ true → d ≡ false
+not_done true d same on = cc
+not_done false d same on = sym same
+
+-- one turn: the chosen hart has acted
+pub record Turned (ring : Ring) (means : Meaning) (B M : ℕ) (left : History → ℕ) (start : History) (evs : List Event) (t new : History) (h : ℕ) : Type 0 where
+  pub hart : h < length new.opening.harts
+  pub planned : Planned ring means B M start evs new
+  pub stepped : Stepped left t new h
+  pub same : length new.opening.harts ≡ length t.opening.harts
+
+pub turned : (ring : Ring) (means : Meaning) (left next : ℕ → History → ℕ) (B M : ℕ) (start : History) (evs : List Event) (t : History) (h : ℕ) (o : Outcome) (new : History) → Nears ring means left next → Keeps ring means → 1 ≤ B → Planned ring means B M start evs t → AllLanded t → is_done t ≡ false → h ≡ next M t → Happens B M t (event.Act h) o new → Turned ring means B M (left M) start (evs ++ event.Act h ∷ []) t new h
+unfolding Nears
+turned ring means left next B M start evs t h o new nears keeps some p all open_yet chosen hap =
+    let near : Nearer B M (left M) t h = subst (Nearer B M (left M) t) (sym chosen) (nears B M t some p.stands all open_yet) in
+    let after : Planned ring means B M start (evs ++ event.Act h ∷ []) new = planned-more ring means B M start evs t (event.Act h) o new keeps p hap in
+    record {
+      hart = omega (arith, near.hart, after.harts, p.harts);
+      planned = after;
+      stepped = acts_one B M (left M) t h o new p.stands.kept all near hap;
+      same = after.harts ∙ sym p.harts;
+    }
+
+-- and its store has landed
+pub record Over (ring : Ring) (means : Meaning) (B M : ℕ) (left : History → ℕ) (start : History) (evs : List Event) (t new : History) : Type 0 where
+  pub less : left new < left t
+  pub planned : Planned ring means B M start evs new
+  pub all : AllLanded new
+
+pub turn_over : (ring : Ring) (means : Meaning) (left : ℕ → History → ℕ) (B M : ℕ) (start : History) (evs : List Event) (t mid : History) (h : ℕ) (o : Outcome) (new : History) → Keeps ring means → AllLanded t → Turned ring means B M (left M) start evs t mid h → 0 < length (pending h mid.entries) → Happens B M mid (event.Land h) o new → Over ring means B M (left M) start (evs ++ event.Land h ∷ []) t new
+turn_over ring means left B M start evs t mid h o new keeps all turn some hap =
+    let l : Less mid new h = lands_one B M mid h o new turn.planned.stands.kept turn.hart some hap in
+    let after : Planned ring means B M start (evs ++ event.Land h ∷ []) new = planned-more ring means B M start evs mid (event.Land h) o new keeps turn.planned hap in
+    let still : left M new ≡ left M mid = ap (left M) l.after ∙ turn.stepped.landing in
+    record {
+      less = omega (arith, still, turn.stepped.less);
+      planned = after;
+      all = all_again t new h (after.harts ∙ sym turn.planned.harts ∙ turn.same) all (λ k other. l.others k other ∙ turn.stepped.others k other) (no_length (pending h new.entries) (omega (arith, l.fewer, turn.stepped.few)));
+    }
+
+pub turn_quiet : (ring : Ring) (means : Meaning) (left : ℕ → History → ℕ) (B M : ℕ) (start : History) (evs : List Event) (t mid : History) (h : ℕ) → AllLanded t → Turned ring means B M (left M) start evs t mid h → length (pending h mid.entries) < 1 → Over ring means B M (left M) start evs t mid
+turn_quiet ring means left B M start evs t mid h all turn none = record {
+  less = turn.stepped.less;
+  planned = turn.planned;
+  all = all_again t mid h turn.same all turn.stepped.others (no_length (pending h mid.entries) none);
+}
+
+-- what ran the events of a history's own entries is that history
+pub same_run : (B M : ℕ) (t new : History) (o : Start) (evs : List Event) → IsOwnRun B M t → o ≡ t.opening → evs ≡ map event_of t.entries → RunFrom B M (unrun o) evs new → new ≡ t
+same_run B M t new o evs own opening events run = run-one B M (unrun t.opening) (map event_of t.entries) new t (subst (λ (es : List Event). RunFrom B M (unrun t.opening) es new) events (subst (λ (p : Start). RunFrom B M (unrun p) evs new) opening run)) own
+
+-- the last report, if there is one, tells whether the reports end in a word
+last_at : (rs : List Report) (k : ℕ) (x : Report) → suc k ≡ length rs → slice_get rs k ≡ Some x → ends_in_word rs ≡ is_word x
+last_at [] k x end is = cc
+last_at (report.Took j w ∷ []) zero x end is = let same : report.Took j w ≡ x = cc in ap is_word same
+last_at (report.Closed j ∷ []) zero x end is = let same : report.Closed j ≡ x = cc in ap is_word same
+last_at (r ∷ []) (suc k) x end is = cc
+last_at (r ∷ s ∷ rs) zero x end is = absurd (omega (arith, end))
+last_at (r ∷ s ∷ rs) (suc k) x end is = last_at (s ∷ rs) k x (let shorter : suc k ≡ length (s ∷ rs) = omega (arith, end) in shorter) is
+
+pub last_is : (rs : List Report) (x : Report) → slice_get rs (length rs - 1) ≡ Some x → is_word x ≡ ends_in_word rs
+last_is [] x is = cc
+last_is (r ∷ rs) x is = sym (last_at (r ∷ rs) (length (r ∷ rs) - 1) x (let end : suc (length (r ∷ rs) - 1) ≡ length (r ∷ rs) = omega arith in end) is)
+
+none_at : (rs : List Report) (k : ℕ) → slice_get rs k ≡ None → length rs ≤ k
+none_at [] k none = omega arith
+none_at (r ∷ rs) zero none = cc
+none_at (r ∷ rs) (suc k) none = let rest : length rs ≤ k = none_at rs k none in omega (arith, rest)
+
+pub last_none : (rs : List Report) → slice_get rs (length rs - 1) ≡ None → false ≡ ends_in_word rs
+last_none [] none = refl
+last_none (r ∷ rs) none = absurd (let past : length (r ∷ rs) ≤ length (r ∷ rs) - 1 = none_at (r ∷ rs) (length (r ∷ rs) - 1) none in omega (arith, past))
+
+-- where the last report is of a word, its sender is open
+word_last : (rs : List Report) → ends_in_word rs ≡ true → (k : ℕ) × (i : ℕ) × (w : ℕ) × (k + 1 ≡ length rs) × (slice_get rs k ≡ Some (report.Took i w))
+word_last [] is = cc
+word_last (report.Took j w ∷ []) is = (0, j, w, refl, refl)
+word_last (report.Closed j ∷ []) is = cc
+word_last (r ∷ s ∷ rs) is = let more = word_last (s ∷ rs) is in (suc more.0, more.1, more.2, (let longer : suc more.0 + 1 ≡ length (r ∷ s ∷ rs) = omega (arith, more.3) in longer), more.4)
+
+get_below : (rs : List Report) (k : ℕ) (x : Report) → slice_get rs k ≡ Some x → k < length rs
+get_below [] k x is = cc
+get_below (r ∷ rs) zero x is = omega arith
+get_below (r ∷ rs) (suc k) x is = let less : k < length rs = get_below rs k x is in omega arith
+
+pub open_where_word : (ring : Ring) (means : Meaning) (B M : ℕ) (t : History) → Cleans ring means → Stands ring means B M t → ends_in_word (reported 0 t.entries) ≡ true → is_done t ≡ false
+open_where_word ring means B M t cleans s word = at (is_done t) refl
+  where
+    clean : Clean (reported 0 t.entries) (lists_of t.opening)
+    clean = stands-clean ring means B M t cleans s
+
+    count : length (lists_of t.opening) ≡ senders_of t
+    count = length-map (drop 1 t.opening.harts) (λ (h : HartStart). h.inbox) ∙ length-drop 1 t.opening.harts
+
+    at : (b : Bool) → is_done t ≡ b → is_done t ≡ false
+    at false is = is
+    at true is =
+        let last = word_last (reported 0 t.entries) word in
+        let within : last.1 < senders_of t = omega (arith, count, clean.known last.0 (report.Took last.1 last.2) last.4) in
+        let shut = closed_at (reported 0 t.entries) last.1 (each_closed (reported 0 t.entries) (senders_of t) is last.1 within) in
+        let below : shut.0 < length (reported 0 t.entries) = get_below (reported 0 t.entries) shut.0 (report.Closed last.1) shut.1 in
+        elim (cases_eq shut.0 last.0) [
+          | inl same ↦ let both : Some (report.Closed last.1) ≡ Some (report.Took last.1 last.2) = sym shut.1 ∙ ap (slice_get (reported 0 t.entries)) same ∙ last.4 in cc
+          | inr other ↦ absurd (clean.no_more last.1 shut.0 last.0 (report.Took last.1 last.2) (omega (arith, below, last.3, other)) shut.1 last.4 refl)
+        ]
+
+-- the reports after the events and the plan
+pub whole_delivered : (ring : Ring) (means : Meaning) (B M : ℕ) (lists : List (List ℕ)) (S : ℕ) (o : Start) (events plan : List Event) (mid new : History) (reports : List Report) → o ≡ opening_of ring.sender ring.receiver lists S → Run B M o events mid → RunFrom B M mid plan new → Finishes B M mid plan → (is_done mid ≡ true → plan ≡ []) → new.opening ≡ o → reports ≡ reported 0 new.entries → Clean reports (lists_of new.opening) → DeliversWhole B M o lists events reports
+whole_delivered ring means B M lists S o events plan mid new reports opens first second finishes none same answer clean =
+    let lists_is : lists_of new.opening ≡ lists = ap lists_of (same ∙ opens) ∙ inboxes ring.sender S 0 lists in
+    let harts : length new.opening.harts ≡ suc (length (senders_from ring.sender S 0 lists)) = ap (λ (p : Start). length p.harts) (same ∙ opens) in
+    let count : senders_of new ≡ length lists = omega (arith, harts, senders-length ring.sender S 0 lists) in
+    let end : Finished new = finishes new second in
+    record {
+      plan = plan;
+      middle = mid;
+      history = new;
+      run = first;
+      finish = second;
+      none = none;
+      answer = answer;
+      clean = subst (Clean reports) lists_is clean;
+      closed = λ i less. ap (λ rs. is_closed rs i) answer ∙ end.closed i (omega (arith, count, less));
+      whole = λ i less. ap (λ rs. taken rs i) answer ∙ end.whole i (omega (arith, count, less)) ∙ ap (λ ls. slice_index_or ls i []) lists_is;
+    }

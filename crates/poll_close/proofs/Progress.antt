@@ -1,0 +1,362 @@
+-- From what a ring shows of one block to the law of the plan: where nothing is pending and some sender is
+-- not reported closed, the hart that comes next can act, and less is left after its act.
+use Rattle.std.proofs.Common.{ℕ, zero, suc, ◌+◌, ◌-◌, ◌%◌, ◌<◌, ◌≤◌, ◌≡◌, ◌≢◌, ◌⊎◌, inl, inr, Bool, true, false, not, ◌&&◌, if◌then◌else◌, List, [], ◌∷◌, ◌++◌, length, take, min, length-take, Some, None, refl, sym, ◌∙◌, ap, subst, arith, add-one, append-nil, lit<}
+use Rattle.std.specs.Prelude.{slice_index, unwrap_or}
+use Rattle.std.specs.List.{slice_index_or}
+use Rattle.std.proofs.lemmas.Bool.{cases_eq}
+use Rattle.std.proofs.Math.Nat.{mul-div_cancel_left}
+use Rattle.hart.specs.State.{HartState}
+use Rattle.hart.specs.Steps.{need_of, advanced}
+use Rattle.hart.specs.declared.status.Status.{Status}
+use Rattle.hart.specs.declared.status.Status.TheVariants as status
+use Rattle.hart.specs.declared.need.Need.{Need}
+use Rattle.hart.specs.declared.need.Need.TheVariants as need
+use Rattle.hart.specs.declared.need.Report.{Report}
+use Rattle.hart.specs.declared.need.Report.TheVariants as report
+use Rattle.memory.specs.declared.writes.Write.{Write}
+use Rattle.memory.specs.Writes.{newest_word}
+use Rattle.step_machine.specs.declared.events.Event.TheVariants as event
+use Rattle.step_machine.specs.declared.events.Entry.{Entry}
+use Rattle.step_machine.specs.declared.events.Entry.TheVariants as entry
+use Rattle.step_machine.specs.History.{Start, History, with_entry}
+use Rattle.step_machine.specs.Entries.{pending, read, reported}
+use Rattle.step_machine.specs.WordReads.{OpensWithWords, word_in_memory}
+use Rattle.step_machine.specs.Paths.{entry_of, value_of, state_of}
+use Rattle.step_machine.specs.Legal.{Kept}
+use Rattle.step_machine.specs.Runs.{IsFor, CanFollow, NoEntry}
+use Rattle.step_machine.proofs.Appended.{reported-last}
+use Rattle.step_machine.proofs.Stays.{states_land}
+use Rattle.step_machine.proofs.Acts.{HasToWait, decide, does}
+use Rattle.poll_close.specs.Layout.{opening_of}
+use Rattle.poll_close.specs.Reports.{taken, sender_of, Clean}
+use Rattle.poll_close.specs.Laws.{Accepted, Keeps}
+use Rattle.poll_close.specs.Standing.{lists_of}
+use Rattle.poll_close.specs.Plans.{Pace, AllLanded, Nearer, Nears, is_closed, is_done, senders_of, some_open, rest_from, visited_by, is_running, runs, far_of, far_if, left_in, left_by, ring_size, ready_if, is_ready, next_of, next_by}
+use Rattle.poll_close.specs.Invariant.Blocks.{Block, block_of, as_writes, to_block}
+use Rattle.poll_close.specs.Invariant.ReceiverState.{Noted, whole_of, receiver_of}
+use Rattle.poll_close.specs.Invariant.ReceiverPlaces.{ReceiverPlace, R04, R70, receives, due}
+use Rattle.poll_close.specs.Invariant.BlockMeaning.{BlockMeaning, Quiet, ReceiverIs}
+use Rattle.poll_close.specs.Invariant.Channels.{Channel, means_by}
+use Rattle.poll_close.proofs.Acts.{Acted, acted, said_by}
+use Rattle.poll_close.proofs.Blocks.{IsBlock}
+use Rattle.poll_close.proofs.BlockLaws.{BlockLaws, Receives, Says, Finds}
+use Rattle.poll_close.proofs.CleanReports.{taken_other}
+use Rattle.poll_close.proofs.AllBlocks.{read_is, sender_plain}
+use Rattle.poll_close.proofs.ReceiverActs.{small, moves_by, plain_by, found}
+use Rattle.poll_close.proofs.Delivering.{senders-length}
+use Rattle.poll_close.proofs.Standing.{inboxes}
+use Rattle.poll_close.proofs.ChannelLaws.{blocks, ring_by, keeps}
+use Rattle.poll_close.proofs.Distance.{Falls, BlockProgress, far_off, falls_on, near_04, near_70, visited_at, running_at, shut_one}
+use Rattle.poll_close.proofs.Shares.{share_same, share_acts, sum_falls, far_falls, left_same, far_small, closed_from, closed_other, report_falls, open_from, some_from, shuts_less}
+
+-- which hart comes next
+pub next_is : (ready : ℕ → Bool) (n : ℕ) → ((next_of ready n ≡ 0) × ((i : ℕ) → i < n → ready (i + 1) ≡ false)) ⊎ ((j : ℕ) × (j < n) × (next_of ready n ≡ j + 1) × (ready (j + 1) ≡ true))
+next_is ready zero = inl (refl, λ i less. absurd (omega arith))
+next_is ready (suc n) = at (ready (suc n)) refl (next_is ready n)
+  where
+    at : (b : Bool) → ready (suc n) ≡ b → ((next_of ready n ≡ 0) × ((i : ℕ) → i < n → ready (i + 1) ≡ false)) ⊎ ((j : ℕ) × (j < n) × (next_of ready n ≡ j + 1) × (ready (j + 1) ≡ true)) → (((if b then suc n else next_of ready n) ≡ 0) × ((i : ℕ) → i < suc n → ready (i + 1) ≡ false)) ⊎ ((j : ℕ) × (j < suc n) × ((if b then suc n else next_of ready n) ≡ j + 1) × (ready (j + 1) ≡ true))
+    at true is below = inr (n, omega arith, sym (add-one n), ap ready (add-one n) ∙ is)
+    at false is (inl none) = inl (
+      none.0,
+      λ i less. elim (cases_eq i n) [
+        | inl same ↦ ap ready (ap (λ j. j + 1) same ∙ add-one n) ∙ is
+        | inr other ↦ none.1 i (omega (arith, other, less))
+      ],
+    )
+    at false is (inr some) = inr (some.0, (let less : some.0 < n = some.1 in omega arith), some.2, some.3)
+
+-- a running hart with nothing pending can act
+no_wait : (B : ℕ) (ws : List Write) (n : Need) → 1 ≤ B → ws ≡ [] → HasToWait B ws n → ⊥
+no_wait B ws need.Inner some none wait = wait
+no_wait B ws (need.Load a width) some none wait = wait
+no_wait B ws (need.Store a width v) some none wait = let full : B ≤ length ws = wait in omega (arith, ap length none, full)
+no_wait B ws (need.Amo a op rs2) some none wait = wait none
+no_wait B ws (need.Fence full) some none wait = wait.1 none
+no_wait B ws (need.Next w) some none wait = wait
+no_wait B ws (need.Report r) some none wait = wait
+no_wait B ws need.Exit some none wait = wait
+no_wait B ws (need.Stop why) some none wait = wait
+
+pub can_act : (B M : ℕ) (t : History) (h : ℕ) (s : HartState) → Kept B M t → state_of M t h ≡ Some s → s.status ≡ status.Running → 1 ≤ B → pending h t.entries ≡ [] → NoEntry B M t (event.Act h) → ⊥
+can_act B M t h s kept is running some none never =
+    elim (decide B t.opening t.entries h (need_of s)) [
+      | inl can ↦ (let d = does B M t h s kept is running (need_of s) can.0 refl can.1 in never (entry_of h (need_of s) can.0) d.for_event d.follows)
+      | inr wait ↦ absurd (no_wait B (pending h t.entries) (need_of s) some none wait)
+    ]
+
+no_writes : (xs : List (ℕ × ℕ)) → as_writes xs ≡ [] → xs ≡ []
+no_writes [] none = refl
+no_writes (x ∷ xs) none = cc
+
+running_is : (st : Status) → is_running st ≡ true → st ≡ status.Running
+running_is status.Running is = refl
+running_is status.Ended is = cc
+running_is (status.Stopped why) is = cc
+
+both_true : (a b : Bool) → (a && b) ≡ true → (a ≡ true) × (b ≡ true)
+both_true true true is = (refl, refl)
+both_true true false is = cc
+both_true false b is = cc
+
+not_true : (b : Bool) → not b ≡ true → b ≡ false
+not_true true is = cc
+not_true false is = refl
+
+not_false : (b : Bool) → not b ≡ false → b ≡ true
+not_false true is = refl
+not_false false is = cc
+
+not_ready : (a b : Bool) → (a && not b) ≡ false → a ≡ true → b ≡ true
+not_ready true b off on = not_false b off
+not_ready false b off on = cc
+
+-- everything that is known of a channel's history, with nothing pending
+module _ (m : BlockMeaning) (code : List ℕ) (laws : BlockLaws m code) (least : ℕ) (some_least : 1 ≤ least) (p : Pace) (prog : BlockProgress m p least) (B M S : ℕ) (lists : List (List ℕ)) (t : History) (some : 1 ≤ B) (accepted : Accepted (ring_by m code laws least some_least) M lists S) (opening : t.opening ≡ opening_of code (receiver_of m.middle) lists S) (kept : Kept B M t) (ch : Channel m M S lists t) (landed : AllLanded t) (open_yet : is_done t ≡ false) where
+  are : (i : ℕ) → i < length lists → IsBlock (block_of M S lists i)
+  are = blocks (ring_by m code laws least some_least) M S lists some_least accepted
+
+  opens_words : OpensWithWords t.opening
+  opens_words = subst OpensWithWords (sym opening) (λ i. omega arith)
+
+  harts : length t.opening.harts ≡ suc (length lists)
+  harts = ap (λ (o : Start). length o.harts) opening ∙ ap (λ n. suc n) (senders-length code S 0 lists)
+
+  senders : senders_of t ≡ length lists
+  senders = omega (arith, harts)
+
+  lists_is : lists_of t.opening ≡ lists
+  lists_is = ap lists_of opening ∙ inboxes code S 0 lists
+
+  size_is : ring_size t.opening ≡ S
+  size_is = ap ring_size opening ∙ mul-div_cancel_left S (lit< tt)
+
+  abbrev rs : List Report
+  rs = reported 0 t.entries
+
+  quiet_buffer : (h : ℕ) → h ≤ length lists → pending h t.entries ≡ []
+  quiet_buffer h less = landed h (omega (arith, harts, less))
+
+  unsent : (j : ℕ) (within : j < length lists) → m.unsent (block_of M S lists j) (ch.numbers j) ≡ []
+  unsent j within = no_writes (m.unsent (block_of M S lists j) (ch.numbers j)) (sym (ch.parts j within).sender.buffer ∙ quiet_buffer (j + 1) (omega arith))
+
+  unread : (j : ℕ) (within : j < length lists) → m.unread (block_of M S lists j) (ch.numbers j) ≡ []
+  unread j within = no_writes (m.unread (block_of M S lists j) (ch.numbers j)) (sym (ch.parts j within).theirs ∙ ap (to_block (block_of M S lists j)) (quiet_buffer 0 (omega arith)))
+
+  -- what is left, over the lists and the ring size of the channel
+  left_is : (new : History) → new.opening ≡ t.opening → left_by p M new ≡ left_in p (length lists) S lists (reported 0 new.entries) (λ h. state_of M new h)
+  left_is new same =
+      let n : senders_of new ≡ length lists = ap (λ (o : Start). length o.harts - 1) same ∙ senders in
+      let s : ring_size new.opening ≡ S = ap ring_size same ∙ size_is in
+      let l : lists_of new.opening ≡ lists = ap lists_of same ∙ lists_is in
+      rw (n, s, l) refl
+
+  left_falls : (new : History) → new.opening ≡ t.opening → left_in p (length lists) S lists (reported 0 new.entries) (λ h. state_of M new h) < left_in p (length lists) S lists rs (λ h. state_of M t h) → left_by p M new < left_by p M t
+  left_falls new same less = rw (left_is new same, left_is t refl) less
+
+  pub landing : (u : History) (h : ℕ) → left_by p M (with_entry u (entry.Land h)) ≡ left_by p M u
+  landing u h = left_same p (senders_of u) (ring_size u.opening) (lists_of u.opening) (reported 0 u.entries) (reported 0 (with_entry u (entry.Land h)).entries) (λ k. state_of M u k) (λ k. state_of M (with_entry u (entry.Land h)) k) (reported-last 0 u.entries (entry.Land h) ∙ append-nil (reported 0 u.entries)) (λ k. states_land M u h k)
+
+  abbrev receiver_block : Block
+  receiver_block = block_of M S lists ch.receiver.block
+
+  -- a sender that does not wait
+  module _ (j : ℕ) (within : j < length lists) (on : is_ready p M t (j + 1) ≡ true) where
+    abbrev s : HartState
+    s = (ch.parts j within).sender.stands
+
+    is_on : (is_running s.status ≡ true) × (not (p.waits s (word_in_memory t.opening t.entries)) ≡ true)
+    is_on = both_true (is_running s.status) (not (p.waits s (word_in_memory t.opening t.entries))) (sym (ap (ready_if p (word_in_memory t.opening t.entries)) (ch.parts j within).sender.state) ∙ on)
+
+    running : s.status ≡ status.Running
+    running = running_is s.status is_on.0
+
+    act_found : (a : ℕ) → a % 4 ≡ 0 → read t.opening t.entries (j + 1) a 4 ≡ word_in_memory t.opening t.entries a
+    act_found a aligned = read_is t (j + 1) a opens_words ch.written aligned ∙ ap (λ ws. unwrap_or (newest_word a None ws) (word_in_memory t.opening t.entries a)) (quiet_buffer (j + 1) (omega arith))
+
+    sender_falls : (e : Entry) → IsFor (event.Act (j + 1)) e → CanFollow B M t e → left_by p M (with_entry t e) < left_by p M t
+    sender_falls e for_event can =
+        let a : Acted M t (with_entry t e) (j + 1) s (value_of e) = acted B M t (j + 1) s e kept.legal (ch.parts j within).sender.state can for_event.0 for_event.1 (sender_plain m code laws M (block_of M S lists j) j t t (ch.numbers j) (are j within) (ch.parts j within)) in
+        let less : p.sender (advanced s (value_of e)) < p.sender s = prog.nearer (block_of M S lists j) (ch.numbers j) s (word_in_memory t.opening t.entries) (value_of e) (are j within) (ch.parts j within).order (ch.parts j within).words (ch.parts j within).sender.holds running (unsent j within) (unread j within) (λ b inside wants. a.loaded b wants ∙ act_found b inside.aligned) (not_true (p.waits s (word_in_memory t.opening t.entries)) is_on.1) in
+        let said : reported 0 (with_entry t e).entries ≡ rs = a.others 0 (omega arith) in
+        left_falls (with_entry t e) refl
+        (sum_falls p (length lists) S lists rs (reported 0 (with_entry t e).entries) (λ h. state_of M t h) (λ h. state_of M (with_entry t e) h) j within
+        (λ i below other. share_same p (length lists) S lists rs (reported 0 (with_entry t e).entries) (λ h. state_of M t h) (λ h. state_of M (with_entry t e) h) i (ap (λ ys. taken ys i) said) (ap (λ ys. is_closed ys i) said) (a.states (i + 1) (λ same. other (omega arith))))
+        (share_acts p (length lists) S lists rs (reported 0 (with_entry t e).entries) (λ h. state_of M t h) (λ h. state_of M (with_entry t e) h) j s (advanced s (value_of e)) said (ch.parts j within).sender.state a.state less)
+        (far_small p (length lists) S lists (reported 0 (with_entry t e).entries) (λ h. state_of M (with_entry t e) h) m.middle (whole_of receiver_block (length lists)) ch.receiver.place ch.receiver.noted (a.states 0 (omega arith) ∙ ch.receiver.state)))
+
+    pub sender_nears : Nearer B M (left_by p M) t (j + 1)
+    sender_nears = record {
+      hart = omega (arith, harts, within);
+      acts = can_act B M t (j + 1) s kept (ch.parts j within).sender.state running some (quiet_buffer (j + 1) (omega arith));
+      alone = sender_falls;
+      landed = λ u. landing u (j + 1);
+    }
+
+  -- some sender is owed
+  some_one : (i : ℕ) × (i < length lists) × (is_closed rs i ≡ false)
+  some_one = subst (λ (n : ℕ). (i : ℕ) × (i < n) × (is_closed rs i ≡ false)) senders (open_from rs (senders_of t) open_yet)
+
+  some_is_open : some_open rs 0 (length lists) ≡ true
+  some_is_open = some_from rs 0 (length lists) some_one.0 some_one.1 (ap (is_closed rs) (let same : 0 + some_one.0 ≡ some_one.0 = omega arith in same) ∙ some_one.2)
+
+  each_shut : (j : ℕ) → j < length lists → m.shut (ch.numbers j) ≤ 1
+  each_shut j less =
+      elim (cases_eq j ch.receiver.block) [
+        | inl same ↦ subst (λ (z : ℕ). m.shut (ch.numbers z) ≤ 1) (sym same) (shut_one m code laws receiver_block ch.receiver.block (whole_of receiver_block (length lists)) (ch.numbers ch.receiver.block) (ch.parts ch.receiver.block ch.receiver.known).order ch.receiver.noted ch.receiver.place ch.receiver.holds)
+        | inr other ↦ (let q : Quiet m (ch.numbers j) = ch.receiver.others j less other in omega (arith, q.closed, laws.dones_one (block_of M S lists j) (ch.numbers j) (ch.parts j less).order))
+      ]
+
+  -- who is reported closed is noted so, and the other way round
+  shut_said : (j : ℕ) → j < length lists → m.shut (ch.numbers j) ≢ 0 → is_closed rs j ≡ true
+  shut_said j less shut =
+      let old = (ch.reports.told j less).said (omega (arith, shut, each_shut j less)) in
+      closed_from rs old.0 j old.1
+
+  owing : due ch.receiver.place < ch.receiver.noted.x20
+  owing =
+      let none : m.shut (ch.numbers some_one.0) ≡ 0 = at (cases_eq (m.shut (ch.numbers some_one.0)) 0) in
+      omega (arith, ch.receiver.count, shuts_less m ch.numbers (length lists) some_one.0 each_shut some_one.1 none)
+    where
+      at : (m.shut (ch.numbers some_one.0) ≡ 0) ⊎ (m.shut (ch.numbers some_one.0) ≢ 0) → m.shut (ch.numbers some_one.0) ≡ 0
+      at (inl none) = none
+      at (inr shut) = let bad : is_closed rs some_one.0 ≡ true = shut_said some_one.0 some_one.1 shut in let good : is_closed rs some_one.0 ≡ false = some_one.2 in cc
+
+  took_is : (j : ℕ) (less : j < length lists) → m.took (ch.numbers j) ≡ m.tails (ch.numbers j) → length (taken rs j) ≡ m.took (ch.numbers j)
+  took_is j less same =
+      let words : length (taken rs j) ≡ length (take (m.took (ch.numbers j)) (slice_index_or lists j [])) = ap length (ch.reports.told j less).words in
+      let long : length (take (m.took (ch.numbers j)) (slice_index_or lists j [])) ≡ min (m.took (ch.numbers j)) (length (slice_index_or lists j [])) = length-take (m.took (ch.numbers j)) (slice_index_or lists j []) in
+      let most : m.tails (ch.numbers j) ≤ length (slice_index_or lists j []) = laws.tails_all (block_of M S lists j) (ch.numbers j) (ch.parts j less).order in
+      omega (arith, words, long, same, most)
+
+  -- the receiver, where every sender waits or has ended
+  module _ (idle : (i : ℕ) → i < length lists → is_ready p M t (i + 1) ≡ false) where
+    abbrev b : ℕ
+    b = ch.receiver.block
+
+    abbrev r : Noted
+    r = ch.receiver.noted
+
+    abbrev st : HartState
+    st = receives m.middle (whole_of receiver_block (length lists)) ch.receiver.place r
+
+    abbrev sender : HartState
+    sender = (ch.parts b ch.receiver.known).sender.stands
+
+    runs_is : runs (state_of M t (b + 1)) ≡ is_running sender.status
+    runs_is = ap runs (ch.parts b ch.receiver.known).sender.state
+
+    marked : runs (state_of M t (b + 1)) ≡ false → m.marks (ch.numbers b) ≡ 1
+    marked off = prog.marked receiver_block (ch.numbers b) sender (are b ch.receiver.known) (ch.parts b ch.receiver.known).order (ch.parts b ch.receiver.known).sender.holds (sym runs_is ∙ off) (unsent b ch.receiver.known)
+
+    ready : runs (state_of M t (b + 1)) ≡ true → prog.Ready receiver_block (ch.numbers b)
+    ready on =
+        let run : is_running sender.status ≡ true = sym runs_is ∙ on in
+        let waiting : p.waits sender (word_in_memory t.opening t.entries) ≡ true = not_ready (is_running sender.status) (p.waits sender (word_in_memory t.opening t.entries)) (sym (ap (ready_if p (word_in_memory t.opening t.entries)) (ch.parts b ch.receiver.known).sender.state) ∙ idle b ch.receiver.known) run in
+        prog.ready receiver_block (ch.numbers b) sender (word_in_memory t.opening t.entries) (are b ch.receiver.known) accepted.size (ch.parts b ch.receiver.known).order (ch.parts b ch.receiver.known).words (ch.parts b ch.receiver.known).sender.holds (running_is sender.status run) (unsent b ch.receiver.known) (unread b ch.receiver.known) waiting
+
+    running_st : st.status ≡ status.Running
+    running_st = running_at m code laws receiver_block b (whole_of receiver_block (length lists)) (ch.numbers b) (ch.parts b ch.receiver.known).order r ch.receiver.place owing ch.receiver.holds
+
+    module _ (v : ℕ) (find : Finds m receiver_block (length lists) ch.receiver.place (ch.numbers b) (word_in_memory t.opening t.entries) r v) where
+      abbrev Nears_far : Type 0
+      Nears_far = far_of p (length lists) S rs (λ h. state_of M t h) (advanced st v) < far_of p (length lists) S rs (λ h. state_of M t h) st
+
+      at_04 : ch.receiver.place ≡ R04 → Nears_far
+      at_04 is = subst (λ (here : ReceiverPlace). far_of p (length lists) S rs (λ h. state_of M t h) (advanced (receives m.middle (whole_of receiver_block (length lists)) here r) v) < far_of p (length lists) S rs (λ h. state_of M t h) (receives m.middle (whole_of receiver_block (length lists)) here r)) (sym is) (near_04 p m.middle receiver_block b (length lists) refl ch.receiver.known S rs (λ h. state_of M t h) r v)
+
+      at_70 : ch.receiver.place ≡ R70 → Nears_far
+      at_70 is =
+          let h : ReceiverIs m receiver_block b R70 (ch.numbers b) r = subst (λ (here : ReceiverPlace). ReceiverIs m receiver_block b here (ch.numbers b) r) is ch.receiver.holds in
+          subst (λ (here : ReceiverPlace). far_of p (length lists) S rs (λ h. state_of M t h) (advanced (receives m.middle (whole_of receiver_block (length lists)) here r) v) < far_of p (length lists) S rs (λ h. state_of M t h) (receives m.middle (whole_of receiver_block (length lists)) here r)) (sym is) (near_70 p m.middle receiver_block b (length lists) refl ch.receiver.known S rs (λ h. state_of M t h) r v some_is_open h.1 h.2)
+
+      -- at the block that it visits
+      at_block : visited_by st ≡ r.x22 → said_by (need_of st) ≡ [] → Nears_far
+      at_block visits silent =
+          elim (falls_on m code laws p least prog receiver_block (are b ch.receiver.known) b (length lists) refl ch.receiver.known accepted.senders (ch.numbers b) (ch.parts b ch.receiver.known).order (word_in_memory t.opening t.entries) (ch.parts b ch.receiver.known).words r v (is_closed rs (visited_by st)) (not (runs (state_of M t (visited_by st + 1))))
+          (λ index shut. ap (is_closed rs) (visits ∙ index) ∙ shut_said b ch.receiver.known shut)
+          (λ index ended. marked (ap (λ j. runs (state_of M t (j + 1))) (sym (visits ∙ index)) ∙ not_true (runs (state_of M t (visited_by st + 1))) ended))
+          (λ index on. ready (ap (λ j. runs (state_of M t (j + 1))) (sym (visits ∙ index)) ∙ not_false (runs (state_of M t (visited_by st + 1))) on))
+          (rest_from rs (length lists) (visited_by st + 1)) (rest_from rs (length lists) 0) (far_off rs (length lists) (visited_by st + 1))
+          ch.receiver.place (length (taken rs (visited_by st))) (λ index same. ap (λ j. length (taken rs j)) (visits ∙ index) ∙ took_is b ch.receiver.known same) find owing
+          (small m code laws B M S lists are accepted.senders t ch.numbers kept.legal opens_words ch.written ch.parts ch.receiver ch.reports) ch.receiver.holds) [
+            | inl tells ↦ let some_said : tells.0 ∷ [] ≡ [] = sym (ap said_by tells.1) ∙ silent in cc
+            | inr more ↦ elim more [
+              | inl fell ↦ fell_far fell
+              | inr moved ↦ elim moved [
+                | inl first ↦ at_04 first
+                | inr last ↦ at_70 last
+              ]
+            ]
+          ]
+        where
+          fell_far : Falls p st (advanced st v) (length (taken rs (visited_by st))) S (is_closed rs (visited_by st)) (not (runs (state_of M t (visited_by st + 1)))) (rest_from rs (length lists) (visited_by st + 1)) (rest_from rs (length lists) 0) → Nears_far
+          fell_far f = rw f.block f.nearer
+
+      far_nears : said_by (need_of st) ≡ [] → Nears_far
+      far_nears silent =
+          elim (visited_at m.middle (whole_of receiver_block (length lists)) r ch.receiver.place) [
+            | inl last ↦ at_70 last
+            | inr here ↦ at_block here silent
+          ]
+
+    receiver_falls : (e : Entry) → IsFor (event.Act 0) e → CanFollow B M t e → left_by p M (with_entry t e) < left_by p M t
+    unfolding Keeps
+    receiver_falls e for_event can = by_says v_says
+      where
+        a : Acted M t (with_entry t e) 0 st (value_of e)
+        a = acted B M t 0 st e kept.legal ch.receiver.state can for_event.0 for_event.1 (plain_by m code laws B M S lists are accepted.senders t ch.numbers kept.legal opens_words ch.written ch.parts ch.receiver ch.reports)
+
+        find : Finds m receiver_block (length lists) ch.receiver.place (ch.numbers b) (word_in_memory t.opening t.entries) r (value_of e)
+        find x inside wants = a.loaded x wants ∙ found m code laws B M S lists are accepted.senders t ch.numbers kept.legal opens_words ch.written ch.parts ch.receiver ch.reports x inside
+
+        move : Receives m receiver_block b (length lists) ch.receiver.place (ch.numbers b) r (value_of e)
+        move = moves_by m code laws B M S lists are accepted.senders t ch.numbers kept.legal opens_words ch.written ch.parts ch.receiver ch.reports (value_of e) a.running find
+
+        after : Channel m M S lists (with_entry t e)
+        after = keeps m code laws least some_least B M lists S t e accepted opening kept can ch
+
+        silent : said_by (need_of st) ≡ [] → left_by p M (with_entry t e) < left_by p M t
+        silent none =
+            let said : reported 0 (with_entry t e).entries ≡ rs = a.reports ∙ ap (λ ys. rs ++ ys) none ∙ append-nil rs in
+            let less : far_of p (length lists) S rs (λ h. state_of M t h) (advanced st (value_of e)) < far_of p (length lists) S rs (λ h. state_of M t h) st = far_nears (value_of e) find none in
+            left_falls (with_entry t e) refl (far_falls p (length lists) S lists rs (reported 0 (with_entry t e).entries) (λ h. state_of M t h) (λ h. state_of M (with_entry t e) h) said (λ i below. a.states (i + 1) (omega arith)) (moved (advanced st (value_of e)) a.state less))
+          where
+            moved : (next : HartState) → state_of M (with_entry t e) 0 ≡ Some next → far_of p (length lists) S rs (λ h. state_of M t h) next < far_of p (length lists) S rs (λ h. state_of M t h) st → far_if p (length lists) S rs (λ h. state_of M (with_entry t e) h) (state_of M (with_entry t e) 0) < far_if p (length lists) S rs (λ h. state_of M t h) (state_of M t 0)
+            moved next is less = rw (is, ch.receiver.state, a.states (visited_by next + 1) (omega arith)) less
+
+        tells : (x : Report) → said_by (need_of st) ≡ x ∷ [] → sender_of x ≡ b → left_by p M (with_entry t e) < left_by p M t
+        tells x one from =
+            let said : reported 0 (with_entry t e).entries ≡ rs ++ x ∷ [] = a.reports ∙ ap (λ ys. rs ++ ys) one in
+            left_falls (with_entry t e) refl
+            (subst (λ (ys : List Report). left_in p (length lists) S lists ys (λ h. state_of M (with_entry t e) h) < left_in p (length lists) S lists rs (λ h. state_of M t h)) (sym said)
+            (sum_falls p (length lists) S lists rs (rs ++ x ∷ []) (λ h. state_of M t h) (λ h. state_of M (with_entry t e) h) b ch.receiver.known
+            (λ i below other. share_same p (length lists) S lists rs (rs ++ x ∷ []) (λ h. state_of M t h) (λ h. state_of M (with_entry t e) h) i (taken_other rs i x (λ same. other (sym same ∙ from))) (closed_other rs x i (λ same. other (sym same ∙ from))) (a.states (i + 1) (omega arith)))
+            (report_falls p lists rs (λ h. state_of M t h) (λ h. state_of M (with_entry t e) h) b (a.states (b + 1) (omega arith)) x from (subst (λ (ys : List Report). Clean ys lists) said after.reports.clean))
+            (far_small p (length lists) S lists (rs ++ x ∷ []) (λ h. state_of M (with_entry t e) h) m.middle (whole_of (block_of M S lists after.receiver.block) (length lists)) after.receiver.place after.receiver.noted after.receiver.state)))
+
+        v_says : Says m receiver_block b (ch.numbers b) move.after (said_by (need_of st))
+        v_says = subst (λ (w : Need). Says m receiver_block b (ch.numbers b) move.after (said_by w)) (sym move.wants) move.says
+
+        by_says : Says m receiver_block b (ch.numbers b) move.after (said_by (need_of st)) → left_by p M (with_entry t e) < left_by p M t
+        by_says (inl none) = silent none.0
+        by_says (inr (inl word)) = tells (report.Took b (slice_index receiver_block.list (m.took (ch.numbers b)))) word.0 refl
+        by_says (inr (inr closing)) = tells (report.Closed b) closing.0 refl
+
+    pub receiver_nears : Nearer B M (left_by p M) t 0
+    receiver_nears = record {
+      hart = omega (arith, harts);
+      acts = can_act B M t 0 st kept ch.receiver.state running_st some (quiet_buffer 0 (omega arith));
+      alone = receiver_falls;
+      landed = λ u. landing u 0;
+    }
+
+  pub hart_nears : Nearer B M (left_by p M) t (next_by p M t)
+  hart_nears =
+      elim (next_is (is_ready p M t) (senders_of t)) [
+        | inl none ↦ subst (Nearer B M (left_by p M) t) (sym none.0) (receiver_nears (λ i less. none.1 i (omega (arith, senders, less))))
+        | inr ready ↦ subst (Nearer B M (left_by p M) t) (sym ready.2) (sender_nears ready.0 (omega (arith, senders, ready.1)) ready.3)
+      ]
+
+pub nears : (m : BlockMeaning) (code : List ℕ) (laws : BlockLaws m code) (least : ℕ) (some_least : 1 ≤ least) (p : Pace) → BlockProgress m p least → Nears (ring_by m code laws least some_least) (means_by m) (left_by p) (next_by p)
+unfolding Nears
+nears m code laws least some_least p prog B M t some stands landed open_yet = hart_nears m code laws least some_least p prog B M stands.opens.size stands.opens.lists t some stands.opens.accepted stands.opens.opening stands.kept stands.meant landed open_yet

@@ -1,0 +1,146 @@
+//! A plan that finishes a channel, whatever ran.
+
+ghost use Rattle.std.specs.Prelude.{◌≡◌, ◌≤◌, ◌<◌, ◌-◌, ℕ, Bool, List, [], true, length, IfOk};
+ghost use Rattle.hart.specs.declared.need.Report.{Report};
+ghost use Rattle.poll_close.specs.Standing.{Stands};
+ghost use Rattle.poll_close.specs.Plans.{Finishes, is_closed, all_closed, ends_in_word, is_word, is_done, next_by, is_ready};
+
+use crate::kind::RingKind;
+use hart::need::Report;
+use std::alloc::{AllocError, Global};
+use step_machine::{Event, Machine};
+
+/// A ring of which every channel can be finished, from every state.
+pub trait Finish<const B: usize, const M: usize>: RingKind {
+    ghost use Rattle.std.specs.Prelude.{◌≡◌, ◌≤◌, ◌<◌, length};
+    ghost use Rattle.poll_close.specs.Standing.{Stands};
+    ghost use Rattle.poll_close.specs.Plans.{Pace, Nears, left_by, next_by, is_ready};
+
+    /// How far its harts are from their ends, and when they wait, as a definition.
+    ghost pace: { Pace };
+
+    /// Whether this hart is a sender that runs and does not wait for the receiver.
+    fn is_ready(machine: &Machine<B, M>, hart: u32) -> bool
+        requires stands { Stands Self.ring Self.meaning B M machine.now.history }
+        requires sender { 1 ≤ hart }
+        requires hart { hart < length machine.now.history.opening.harts }
+        ensures { result ≡ is_ready pace M machine.now.history hart };
+
+    /// The law: where nothing is pending and some sender is not reported closed, the hart that comes
+    /// next can act, and less is left after its act and its store's landing. It does nothing.
+    fn nears()
+        ensures { Nears Self.ring Self.meaning (left_by pace) (next_by pace) };
+}
+
+/// Whether this sender is reported closed.
+fn is_reported_closed(reports: &[Report], sender: usize) -> bool
+    ensures { result ≡ is_closed reports.now sender }
+{
+    for report in reports {
+        match report {
+            Report::Closed { sender: closed } => {
+                if *closed as usize == sender {
+                    return true;
+                }
+            }
+            Report::Took { .. } => {}
+        }
+    }
+    false
+}
+
+/// Whether the first so many senders are reported closed.
+#[tactic(auto, using(crate::proofs::Planning::open_one))]
+fn are_closed(reports: &[Report], senders: usize) -> bool
+    ensures { result ≡ all_closed reports.now senders }
+{
+    for sender in 0..senders {
+        if !is_reported_closed(reports, sender) {
+            return false;
+        }
+    }
+    true
+}
+
+/// Whether the last report is of a word.
+fn ends_in_word(reports: &[Report]) -> bool
+    ensures { result ≡ ends_in_word reports.now }
+{
+    match reports.last().copied() {
+        Some(last) => is_word(last),
+        None => false,
+    }
+}
+
+fn is_word(report: Report) -> bool
+    ensures { result ≡ is_word report }
+{
+    match report {
+        Report::Took { .. } => true,
+        Report::Closed { .. } => false,
+    }
+}
+
+/// Whether every sender is reported closed. After the last closing no word is reported; so most calls
+/// look at the last report alone, and a plan's time is linear in its words.
+fn is_finished<K: Finish<B, M>, const B: usize, const M: usize>(machine: &Machine<B, M>) -> bool
+    requires stands { Stands K.RingKind.ring K.RingKind.meaning B M machine.now.history }
+    ensures { result ≡ is_done machine.now.history }
+{
+    K::laws();
+    let senders = machine.harts() as usize - 1;
+    let reports = machine.reports(0);
+    if ends_in_word(reports) {
+        return false;
+    }
+    are_closed(reports, senders)
+}
+
+/// Which hart acts next, where nothing is pending: a sender that does not wait, or the receiver.
+fn next_hart<K: Finish<B, M>, const B: usize, const M: usize>(machine: &Machine<B, M>) -> u32
+    requires stands { Stands K.RingKind.ring K.RingKind.meaning B M machine.now.history }
+    ensures { result ≡ next_by K.pace M machine.now.history }
+{
+    let mut next = 0;
+    for hart in 1..machine.harts() {
+        if K::is_ready(machine, hart) {
+            next = hart;
+        }
+    }
+    next
+}
+
+/// Events that finish a channel from where the machine stands: after them every sender is reported
+/// closed and its whole list is taken. There are none where that is so already. The machine runs them.
+pub fn plan_of<K: Finish<B, M>, const B: usize, const M: usize>(
+    alloc: Global,
+    machine: &mut Machine<B, M>,
+) -> Result<Vec<Event>, AllocError>
+    requires some_capacity { 1 ≤ B }
+    requires stands { Stands K.RingKind.ring K.RingKind.meaning B M machine.old.history }
+    ensures finishes { IfOk result (λ plan. Finishes B M machine.old.history plan.items) }
+    ensures none { IfOk result (λ plan. is_done machine.old.history ≡ true → plan.items ≡ []) }
+{
+    K::laws();
+    K::nears();
+    let mut plan = Vec::new(alloc);
+    if is_finished::<K, B, M>(machine) {
+        return Ok(plan);
+    }
+    for hart in 0..machine.harts() {
+        while !machine.pending(hart).is_empty() {
+            machine.step(Event::Land(hart))?;
+            plan.push(Event::Land(hart))?;
+        }
+    }
+    while !is_finished::<K, B, M>(machine) {
+        let next = next_hart::<K, B, M>(machine);
+        machine.step(Event::Act(next))?;
+        plan.push(Event::Act(next))?;
+        if !machine.pending(next).is_empty() {
+            machine.step(Event::Land(next))?;
+            plan.push(Event::Land(next))?;
+        }
+    }
+    Ok(plan)
+}
