@@ -313,3 +313,17 @@ whole_delivered ring means B M lists S o events plan mid new reports opens first
       closed = λ i less. ap (λ rs. is_closed rs i) answer ∙ end.closed i (omega (arith, count, less));
       whole = λ i less. ap (λ rs. taken rs i) answer ∙ end.whole i (omega (arith, count, less)) ∙ ap (λ ls. slice_index_or ls i []) lists_is;
     }
+
+-- a list that isn't empty, or is, as its length's test says
+pub some_left : {A : Type 0} {seen xs : List A} {b : Bool} → seen ≡ xs → b ≡ (length seen == 0) → b ≡ false → 0 < length xs
+some_left same test is = rw (← same) (let apart : (length _ == 0) ≡ false = sym test ∙ is in grind (arith, nat_tests))
+
+pub none_left : {A : Type 0} {seen xs : List A} {b : Bool} → seen ≡ xs → b ≡ (length seen == 0) → b ≡ true → length xs < 1
+none_left same test is = rw (← same) (let at : (length _ == 0) ≡ true = sym test ∙ is in grind (arith, nat_tests))
+
+-- nothing is pending of the harts before the next one, and nothing of that
+pub landed_more : (es : List Entry) (h : ℕ) → ((k : ℕ) → k < h → pending k es ≡ []) → length (pending h es) < 1 → (k : ℕ) → k < h + 1 → pending k es ≡ []
+landed_more es h before none k below = elim (cases_eq k h) [
+  | inl same ↦ subst (λ (j : ℕ). pending j es ≡ []) (sym same) (no_length (pending h es) none)
+  | inr other ↦ before k (omega (arith, other))
+]
