@@ -43,7 +43,7 @@ fn tell(column: &mut Draft, cell: &[u8], left: usize) -> Result<(), Refusal>
     match column.read(cell) {
         Ok(()) => {}
         Err(AsmError::NoMemory) => return Err(Refusal::NoMemory),
-        Err(AsmError::Refused { .. }) => return Err(LitmusFault::BadInstr.at(left)),
+        Err(AsmError::Refused(_)) => return Err(LitmusFault::BadInstr.at(left)),
     }
     if column.words() > MAX_WORDS {
         return Err(LitmusFault::TooMany.at(left));
@@ -128,7 +128,7 @@ impl Table {
                     codes.push(words)?;
                 }
                 Err(AsmError::NoMemory) => return Err(Refusal::NoMemory),
-                Err(AsmError::Refused { line, .. }) => faulty = Some(earlier(faulty, line)),
+                Err(AsmError::Refused(refusal)) => faulty = Some(earlier(faulty, refusal.line)),
             }
         }
         match faulty {
