@@ -2,9 +2,9 @@
 
 ghost use Rattle.std.specs.Prelude.{◌≡◌, ◌+◌, ◌≤◌, ℕ, length, Err, IfOk, IfErr};
 ghost use Rattle.step_machine.specs.declared.events.Event.{Event};
-ghost use Rattle.texts.specs.Results.{Gives};
-ghost use Rattle.recorder.specs.declared.faults.ScheduleError.TheVariants.{Refused};
-ghost use Rattle.recorder.specs.Reading.{refusal_of, star_in, numbers_of, said_by, is_cut, event_of, run_at};
+ghost use Rattle.texts.specs.Results.{Gives, refusal_of};
+ghost use Rattle.texts.specs.declared.errors.TextError.TheVariants.{Refused};
+ghost use Rattle.recorder.specs.Reading.{star_in, numbers_of, said_by, is_cut, event_of, run_at};
 
 use crate::faults::{ScheduleError, ScheduleFault};
 use step_machine::events::Event;
@@ -98,7 +98,7 @@ pub fn run_of(
 ) -> Result<(Event, usize), ScheduleError>
     requires { place + length word.now ≤ end }
     ensures exact { Gives refusal_of (λ (run : Event × ℕ). run) result (run_at end place room word.now) }
-    ensures refused { IfErr (run_at end place room word.now) (λ refusal. result ≡ Err (Refused refusal.0 refusal.1)) }
+    ensures refused { IfErr (run_at end place room word.now) (λ refusal. result ≡ Err (Refused refusal)) }
     ensures few { IfOk result (λ run. run.1 ≤ room) }
 {
     let Some(token) = token_in(word) else {
