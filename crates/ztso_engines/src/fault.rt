@@ -6,6 +6,7 @@ ghost use Rattle.ztso_engines.specs.declared.fault.Fault.TheVariants.{NoMemory, 
 
 use std::alloc::{AllocError, AllocFailed};
 use std::fmt;
+use texts::{AtLine, Numbered, TextError};
 use thiserror::Error;
 
 /// A line that no rule of its text allows, or a text that lacks a line.
@@ -97,5 +98,21 @@ impl<T: Drop> From<AllocFailed<T>> for Fault {
 
     fn from(_error: AllocFailed<T>) -> Fault {
         Fault::NoMemory
+    }
+}
+
+/// A fault at a line is refused there, by its number.
+impl<F: Numbered> From<TextError<AtLine<F>>> for Fault {
+    ghost use Rattle.ztso_engines.specs.Faults.{fault_for, refused_at};
+
+    ghost from_gives = { λ error fault. fault ≡ fault_for (refused_at F.number) error };
+
+    fn from(error: TextError<AtLine<F>>) -> Fault {
+        match error {
+            TextError::NoMemory => Fault::NoMemory,
+            TextError::Refused(AtLine { fault, line }) => {
+                Fault::refused(fault.number(), Place::Line(line))
+            }
+        }
     }
 }
