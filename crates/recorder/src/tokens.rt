@@ -8,10 +8,8 @@ ghost use Rattle.recorder.specs.Reading.{star_in, numbers_of, said_by, is_cut, e
 
 use crate::faults::{ScheduleError, ScheduleFault};
 use step_machine::events::Event;
+use step_machine::opening::MAX_HARTS;
 use texts::number;
-
-/// Harts have numbers below this one.
-const HARTS: u64 = 64;
 
 /// What a token's letter tells.
 #[derive(Clone, Copy)]
@@ -108,7 +106,7 @@ pub fn run_of(
             ScheduleFault::BadToken.at(place)
         });
     };
-    if token.hart >= HARTS {
+    if token.hart >= MAX_HARTS as u64 {
         return Err(ScheduleFault::BadHart.at(place));
     }
     if token.times == 0 || token.times > room as u64 {
