@@ -4,7 +4,7 @@ ghost use Rattle.texts.specs.Results.{Gives, refusal_of};
 ghost use Rattle.texts.specs.Cutting.{words};
 ghost use Rattle.ztso_engines.specs.Code.{code_at};
 
-use crate::line_fault::{BAD, LineFault};
+use crate::fault::{BAD, LineFault};
 use std::alloc::Global;
 use texts::{first_word, hex_word};
 

@@ -13,9 +13,8 @@ ghost use Rattle.ztso_engines.specs.Dis.{dis_at, meant_text, instr_line, IsDisAn
 ghost use Rattle.ztso_engines.specs.inner.Making.{FindsBy, text_and_value};
 
 use crate::code::code_of;
-use crate::fault::Fault;
+use crate::fault::{Fault, at_line};
 use crate::input::{read_input, text_of};
-use crate::line_fault::at_line;
 use crate::output::end_with;
 use assembler::write_instr;
 use rv_decode::decode;

@@ -2,6 +2,7 @@
 
 ghost use Rattle.std.specs.Prelude.{◌≡◌};
 ghost use Rattle.ztso_engines.specs.Faults.{status_of};
+ghost use Rattle.ztso_engines.specs.LineFaults.{fault_at};
 ghost use Rattle.ztso_engines.specs.declared.fault.Fault.TheVariants.{NoMemory, Refused};
 
 use std::alloc::{AllocError, AllocFailed};
@@ -114,5 +115,21 @@ impl<F: Numbered> From<TextError<AtLine<F>>> for Fault {
                 Fault::refused(fault.number(), Place::Line(line))
             }
         }
+    }
+}
+
+/// Why a line of an input is not read: no memory, or it is refused, by the refusal's number.
+pub type LineFault = TextError<u8>;
+
+/// A line that no rule allows, or that passes a limit.
+pub const BAD: LineFault = LineFault::Refused(BAD_LINE);
+
+/// The fault of an input whose line of this number has this fault.
+pub fn at_line(fault: LineFault, number: usize) -> Fault
+    ensures { result ≡ fault_at number fault }
+{
+    match fault {
+        LineFault::NoMemory => Fault::NoMemory,
+        LineFault::Refused(refusal) => Fault::refused(refusal, Place::Line(number)),
     }
 }

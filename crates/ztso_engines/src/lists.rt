@@ -9,9 +9,8 @@ ghost use Rattle.ztso_engines.specs.Lists.{list_of as list_said, lists_at};
 ghost use Rattle.ztso_engines.specs.inner.Making.{FindsBy};
 ghost use Rattle.ztso_engines.specs.inner.Inputs.{IsReadAsLists};
 
-use crate::fault::Fault;
+use crate::fault::{BAD, Fault, LineFault, at_line};
 use crate::input::{read_input, text_of};
-use crate::line_fault::{BAD, LineFault, at_line};
 use std::alloc::Global;
 use std::io::Read;
 use texts::{Separators, first_line, first_piece, word};

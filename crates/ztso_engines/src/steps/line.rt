@@ -6,9 +6,10 @@ ghost use Rattle.texts.specs.Cutting.{words, words as words_of};
 ghost use Rattle.ztso_engines.specs.StepsReading.{keyword_named, number_at, two_numbers, three_numbers, with_hart, with_register, with_word, with_steps};
 
 use crate::code::code_of;
-use crate::line_fault::{BAD, LineFault};
+use crate::fault::{BAD, LineFault};
 use recorder::{ScheduleError, push_tokens_of};
 use std::alloc::Global;
+use step_machine::opening::{MAX_CODE, MAX_HARTS};
 use step_machine::{Event, HartOpening};
 use texts::{Numbered, first_word, word};
 
@@ -20,12 +21,6 @@ pub enum Keyword {
     Word,
     Steps,
 }
-
-/// A text has at most so many harts.
-const HARTS: usize = 64;
-
-/// A hart has at most so many instruction words.
-const HART_WORDS: usize = 4096;
 
 pub fn keyword_of(word: &[u8]) -> Option<Keyword>
     ensures { result ≡ keyword_named word.now }
@@ -78,7 +73,7 @@ pub fn add_hart(alloc: Global, harts: &mut Vec<HartOpening>, text: &[u8]) -> Res
     ensures { Gives refusal_of (λ x. harts.new.items) result (with_hart harts.old.items (words text.now)) }
 {
     let code = code_of(alloc, text)?;
-    if harts.len() >= HARTS || code.len() > HART_WORDS {
+    if harts.len() >= MAX_HARTS || code.len() > MAX_CODE {
         return Err(BAD);
     }
     harts.push(HartOpening {

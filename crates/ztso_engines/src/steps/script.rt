@@ -10,8 +10,7 @@ ghost use Rattle.ztso_engines.specs.Told.{Told, told_by, untold, opening_of};
 ghost use Rattle.ztso_engines.specs.StepsText.{Tells};
 ghost use Rattle.ztso_engines.specs.StepsReading.{after_line, after_lines, script_at};
 
-use crate::fault::{BAD_LINE, Fault, Place};
-use crate::line_fault::{BAD, LineFault, at_line};
+use crate::fault::{BAD, BAD_LINE, Fault, LineFault, Place, at_line};
 use crate::steps::line::{Keyword, add_hart, add_steps, keyword_of, set_register, set_word};
 use std::alloc::{AllocError, Global};
 use step_machine::{Event, HartOpening};
