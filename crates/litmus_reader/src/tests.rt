@@ -2,6 +2,7 @@ use crate::{LitmusError, LitmusFault, read};
 use litmus::Place;
 use std::alloc::{AllocError, Global};
 use std::test::Fail;
+use texts::Numbered;
 
 const STORE_BUFFERING: &str = "RISCV SB
 \"PodWR Fre PodWR Fre\"
@@ -16,7 +17,7 @@ exists (0:x7=0 /\\ 1:x7=0)
 ";
 
 fn refused(fault: LitmusFault, line: usize) -> Option<LitmusError> {
-    Some(LitmusError::Refused { fault, line })
+    Some(LitmusError::at_line(fault, line))
 }
 
 /// The fault of a text.
@@ -84,7 +85,7 @@ fn faults_have_their_numbers_and_texts(rt: HostRuntime) -> Result<(), Fail> {
     ];
     for (fault, number, text) in faults {
         assert_eq!(rt; fault.number(), number);
-        let error = LitmusError::Refused { fault, line: 9 };
+        let error = LitmusError::at_line(fault, 9);
         assert_eq!(rt; error.number(), number);
         let told = format!(in alloc; "{error}")?;
         assert_eq!(rt; told.as_str(), text);
