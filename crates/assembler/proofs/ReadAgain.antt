@@ -15,7 +15,7 @@ use Rattle.rv_decode.specs.Registers.{register_names, register_named}
 use Rattle.texts.specs.Cutting.{is_byte, NonePass, stripped}
 use Rattle.assembler.specs.Names.{is_name, begins_name}
 use Rattle.texts.specs.Numbers.{magnitude_of, integer_of}
-use Rattle.assembler.specs.Operands.{register_at, in_range, number_at, natural_at, base_at, offset_at, target_at, bytes, set_at, is_reached}
+use Rattle.assembler.specs.Operands.{register_in, in_range, number_in, natural_in, base_in, offset_in, target_in, bytes, set_in, is_reached}
 use Rattle.assembler.specs.Sets.{set_named}
 use Rattle.assembler.specs.Writing.{register_text, address_text, set_text}
 use Rattle.texts.proofs.CuttingLaws.{before_stop, after_stop, decimal_none, not_byte, not_low_byte, digit_no_blank}
@@ -56,7 +56,7 @@ register_again : (r : Reg) → register_named (register_text r) ≡ Some r
 unfolding register_named
 register_again r = ap (option_map reg_of) (is_number_of (numbered r.number) r.number (below_all 32 (λ n. is_number (numbered n) n) all_numbered r.number (omega arith))) ∙ ap Some (reg_of_number r)
 
-pub register_read : (r : Reg) → register_at (Some (register_text r)) ≡ Ok r
+pub register_read : (r : Reg) → register_in (register_text r) ≡ Ok r
 register_read r = rw (register_again r) refl
 
 -- ---- numbers
@@ -95,13 +95,13 @@ in_short : (z : ℤ) → IsSigned 11 z → in_range (negsuc 2047) (pos 2047) (So
 in_short (pos n) fits = rw (le-ltb 2047 n (omega (arith, ints))) refl
 in_short (negsuc n) fits = rw (le-ltb 2047 n (omega (arith, ints))) refl
 
-pub short_read : (z : ℤ) → IsSigned 11 z → number_at (negsuc 2047) (pos 2047) (Some (signed_decimal z)) ≡ Ok z
+pub short_read : (z : ℤ) → IsSigned 11 z → number_in (negsuc 2047) (pos 2047) (signed_decimal z) ≡ Ok z
 short_read z fits = rw (integer_read_signed z (wider z fits)) (in_short z fits)
   where
     wider : (y : ℤ) → IsSigned 11 y → IsSigned 31 y
     wider y h = (omega (arith, ints), omega (arith, ints))
 
-pub natural_read : (most n : ℕ) → n ≤ most → most < 2 ^ 32 → natural_at most (Some (decimal n)) ≡ Ok n
+pub natural_read : (most n : ℕ) → n ≤ most → most < 2 ^ 32 → natural_in most (decimal n) ≡ Ok n
 natural_read most n le small = rw (integer_read n (omega arith), le-ltb n 0 (omega arith), le-ltb most n le) refl
 
 -- ---- addresses
@@ -118,14 +118,14 @@ pub register_none : (p : ℕ → Bool) → p 120 ≡ false → ((d : ℕ) → d 
 register_none p x digit r = (x, decimal_none p digit r.number (omega arith))
 
 -- the register of `(rs1)`
-pub bare_base_read : (r : Reg) → base_at (Some (40 ∷ (register_text r ++ 41 ∷ []))) ≡ Ok r
+pub bare_base_read : (r : Reg) → base_in (40 ∷ (register_text r ++ 41 ∷ [])) ≡ Ok r
 bare_base_read r =
     let no_close = register_none (is_byte 41) refl (λ d lt. not_low_byte 41 d (omega arith)) r in
     let no_blank = register_none is_blank refl (λ d lt. digit_no_blank d) r in
     rw (before_stop (is_byte 41) (register_text r) 41 [] no_close refl, after_stop (is_byte 41) (register_text r) 41 [] no_close refl, stripped_none is_blank (register_text r) no_blank, register_again r) refl
 
 -- the register of `n(rs1)`
-pub base_read : (z : ℤ) (r : Reg) → IsSigned 31 z → base_at (Some (address_text z r)) ≡ Ok r
+pub base_read : (z : ℤ) (r : Reg) → IsSigned 31 z → base_in (address_text z r) ≡ Ok r
 base_read z r fits =
     let open_none = signed_none (is_byte 40) refl (λ d lt. not_low_byte 40 d (omega arith)) z fits in
     let no_close = register_none (is_byte 41) refl (λ d lt. not_low_byte 41 d (omega arith)) r in
@@ -133,14 +133,14 @@ base_read z r fits =
     rw (after_stop (is_byte 40) (signed_decimal z) 40 (register_text r ++ 41 ∷ []) open_none refl, before_stop (is_byte 41) (register_text r) 41 [] no_close refl, after_stop (is_byte 41) (register_text r) 41 [] no_close refl, stripped_none is_blank (register_text r) no_blank, register_again r) refl
 
 -- and its number
-pub offset_read : (z : ℤ) (r : Reg) → IsSigned 11 z → IsSigned 31 z → offset_at (negsuc 2047) (pos 2047) (Some (address_text z r)) ≡ Ok z
+pub offset_read : (z : ℤ) (r : Reg) → IsSigned 11 z → IsSigned 31 z → offset_in (negsuc 2047) (pos 2047) (address_text z r) ≡ Ok z
 offset_read z r short fits =
     let open_none = signed_none (is_byte 40) refl (λ d lt. not_low_byte 40 d (omega arith)) z fits in
     let no_blank = signed_none is_blank refl (λ d lt. digit_no_blank d) z fits in
     let some = signed_some z fits in
     rw (before_stop (is_byte 40) (signed_decimal z) 40 (register_text r ++ 41 ∷ []) open_none refl, stripped_none is_blank (signed_decimal z) no_blank, ne_eqb (length (signed_decimal z)) 0 (omega arith), integer_read_signed z fits) (in_short z short)
 
-pub bare_offset_read : (r : Reg) → offset_at (pos 0) (pos 0) (Some (40 ∷ (register_text r ++ 41 ∷ []))) ≡ Ok (pos 0)
+pub bare_offset_read : (r : Reg) → offset_in (pos 0) (pos 0) (40 ∷ (register_text r ++ 41 ∷ [])) ≡ Ok (pos 0)
 unfolding stripped
 bare_offset_read r = refl
 
@@ -153,7 +153,7 @@ all_sets : all_below 16 is_read_set ≡ true
 unfolding set_named is_read_set
 all_sets = refl
 
-pub set_read : (n : ℕ) → n < 16 → set_at (Some (set_text n)) ≡ Ok n
+pub set_read : (n : ℕ) → n < 16 → set_in (set_text n) ≡ Ok n
 unfolding is_read_set
 set_read n lt = rw (is_number_of (set_named (set_text n)) n (below_all 16 is_read_set all_sets n lt)) refl
 
@@ -177,8 +177,8 @@ reached_20 (negsuc n) h even = rw (even, le-ltb 1048575 n (omega (arith, ints)))
 no_name_signed : (z : ℤ) → IsSigned 31 z → is_name (signed_decimal z) ≡ false
 no_name_signed z fits = no_name (signed_decimal z) (signed_none begins_name refl digit_begins z fits)
 
-pub target_read_12 : (z : ℤ) → IsSigned 12 z → IsEven z → IsSigned 31 z → target_at (pos 4096) (Some (signed_decimal z)) ≡ Ok (bytes z)
+pub target_read_12 : (z : ℤ) → IsSigned 12 z → IsEven z → IsSigned 31 z → target_in (pos 4096) (signed_decimal z) ≡ Ok (bytes z)
 target_read_12 z h even fits = rw (no_name_signed z fits, integer_read_signed z fits, reached_12 z h even) refl
 
-pub target_read_20 : (z : ℤ) → IsSigned 20 z → IsEven z → IsSigned 31 z → target_at (pos 1048576) (Some (signed_decimal z)) ≡ Ok (bytes z)
+pub target_read_20 : (z : ℤ) → IsSigned 20 z → IsEven z → IsSigned 31 z → target_in (pos 1048576) (signed_decimal z) ≡ Ok (bytes z)
 target_read_20 z h even fits = rw (no_name_signed z fits, integer_read_signed z fits, reached_20 z h even) refl

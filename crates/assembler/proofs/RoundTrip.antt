@@ -1,5 +1,5 @@
 -- The text of an instruction is assembled to it again.
-use Rattle.std.proofs.Common.{◌≡◌, ℕ, ◌^◌, ◌<◌, Bool, true, false, not, ◌&&◌, List, [], ◌∷◌, ◌++◌, length, Some, None, Ok, refl, ◌∙◌, arith, ℤ}
+use Rattle.std.proofs.Common.{◌≡◌, ℕ, ◌^◌, ◌<◌, Bool, true, false, not, ◌&&◌, List, [], ◌∷◌, ◌++◌, length, Some, Ok, refl, ◌∙◌, arith, ℤ}
 use Rattle.std.specs.Prelude.{nat_lt, codes}
 use Rattle.std.proofs.lemmas.Int.{ints}
 use Rattle.rv_decode.specs.Fits.{Fits, IsSigned}
@@ -15,7 +15,7 @@ use Rattle.assembler.specs.declared.form.Form.{Form}
 use Rattle.assembler.specs.declared.form.Form.TheVariants as form
 use Rattle.texts.specs.Cutting.{is_byte, trimmed, NonePass}
 use Rattle.assembler.specs.Mnemonics.{form_named}
-use Rattle.assembler.specs.Statements.{one, statement_of}
+use Rattle.assembler.specs.Statements.{one, row, statement_of}
 use Rattle.assembler.specs.Lines.{label_of, statement_text, made_in, made_for, between_commas, some_text}
 use Rattle.assembler.specs.Drafts.{assembled, told, line_below, finished}
 use Rattle.assembler.specs.Writing.{register_text, address_text, set_text, branch_name, load_name, store_name, immediate_name, shift_name, register_name, amo_name, order_name, with_two, with_three, text_of}
@@ -136,12 +136,12 @@ word_of_test xs e =
 comma_between : (xs ys : List ℕ) → IsWord xs → IsWord ys → IsWord (xs ++ 44 ∷ ys)
 comma_between xs ys h k = word-append xs (44 ∷ ys) h (word-append (44 ∷ []) ys comma_word k)
 
-made_three : (name : List ℕ) (f : Form) (a b c : List ℕ) (i : Instr) → IsNameOf name f → IsWord a → IsWord b → IsWord c → IsOperand a → IsOperand b → IsOperand c → statement_of f (Some a) (Some b) (Some c) None ≡ Ok (one i) → assembled (with_three name a b c) ≡ Ok (Some i ∷ [])
+made_three : (name : List ℕ) (f : Form) (a b c : List ℕ) (i : Instr) → IsNameOf name f → IsWord a → IsWord b → IsWord c → IsOperand a → IsOperand b → IsOperand c → statement_of f (a ∷ b ∷ c ∷ []) ≡ Ok (one i) → assembled (with_three name a b c) ≡ Ok (Some i ∷ [])
 made_three name f a b c i named wa wb wc h k m e =
     assembled_text name (a ++ 44 ∷ (b ++ 44 ∷ c)) i (word_of_test name named.0) (comma_between a (b ++ 44 ∷ c) wa (comma_between b c wb wc))
     (rw (named.1, three_between a b c h k m, e) refl)
 
-made_two : (name : List ℕ) (f : Form) (a b : List ℕ) (i : Instr) → IsNameOf name f → IsWord a → IsWord b → IsOperand a → IsOperand b → statement_of f (Some a) (Some b) None None ≡ Ok (one i) → assembled (with_two name a b) ≡ Ok (Some i ∷ [])
+made_two : (name : List ℕ) (f : Form) (a b : List ℕ) (i : Instr) → IsNameOf name f → IsWord a → IsWord b → IsOperand a → IsOperand b → statement_of f (a ∷ b ∷ []) ≡ Ok (one i) → assembled (with_two name a b) ≡ Ok (Some i ∷ [])
 made_two name f a b i named wa wb h k e =
     assembled_text name (a ++ 44 ∷ b) i (word_of_test name named.0) (comma_between a b wa wb)
     (rw (named.1, two_between a b h k, e) refl)
@@ -213,7 +213,7 @@ branch_wide z h = (omega (arith, ints), omega (arith, ints))
 jump_wide : (z : ℤ) → IsSigned 20 z → IsSigned 31 z
 jump_wide z h = (omega (arith, ints), omega (arith, ints))
 
-alone_read : (name : List ℕ) (f : Form) (i : Instr) → IsNameOf name f → statement_of f None None None None ≡ Ok (one i) → assembled name ≡ Ok (Some i ∷ [])
+alone_read : (name : List ℕ) (f : Form) (i : Instr) → IsNameOf name f → statement_of f [] ≡ Ok (one i) → assembled name ≡ Ok (Some i ∷ [])
 unfolding made_in
 alone_read name f i named e =
     let h = word_of_test name named.0 in
@@ -223,7 +223,7 @@ alone_read name f i named e =
 
 -- the text of an instruction that has a word is assembled to it
 pub read_again : (i : Instr) → Fits i → assembled (text_of i) ≡ Ok (Some i ∷ [])
-unfolding text_of statement_of form_named
+unfolding text_of row form_named
 read_again (instr.Lui rd n) fits =
     made_two (codes "lui") form.Lui (register_text rd) (decimal n) (instr.Lui rd n) (refl, refl) (register_word rd) (decimal_word n (omega arith)) (register_operand rd) (decimal_operand n (omega arith))
     (rw (register_read rd, natural_read 1048575 n (omega arith) (omega arith)) refl)
