@@ -20,7 +20,7 @@ use Rattle.assembler.specs.Operands.{register_in, Target, bytes, label, is_even,
 use Rattle.assembler.specs.Spelled.{IsMagnitude, IsNumber, IsRegister, IsOffset, IsAddress, IsTarget}
 use Rattle.assembler.specs.Spelled.IsMagnitude.{decimal, hex}
 use Rattle.assembler.specs.Spelled.IsNumber.{plain, negative}
-use Rattle.assembler.proofs.ReadAgain.{all_below, below_all}
+use Rattle.assembler.proofs.Rows.{all_below, below_all}
 use Rattle.texts.proofs.CuttingLaws.{before_stop, after_stop, cut_byte}
 use Rattle.texts.proofs.TrimLaws.{trailing_append, stripped_padded, stripped_all, padded_stripped, all-append}
 use Rattle.assembler.proofs.Leaves.{is_word_byte, is_operand_byte, Reads, all_weaker, none_of_all, not_this, word_operand, word_trimmed, register_word, register_found, register_only, digit_low, number_found, number_only, number_word, not_less, IsWithin, from_found, from_only}

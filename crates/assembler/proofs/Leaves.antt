@@ -24,9 +24,8 @@ use Rattle.assembler.specs.Spelled.{IsMagnitude, IsNumber, IsNumberFrom, IsNumbe
 use Rattle.assembler.specs.Spelled.IsMagnitude.{decimal, hex}
 use Rattle.assembler.specs.Spelled.IsNumber.{plain, negative}
 use Rattle.rv_decode.proofs.TableLaws.{row_below}
-use Rattle.assembler.proofs.ReadAgain.{all_below, below_all}
 use Rattle.texts.proofs.TrimLaws.{stripped_none}
-use Rattle.assembler.proofs.Rows.{found_in, are_apart, row_of_member, member_of_row, all_rows}
+use Rattle.assembler.proofs.Rows.{all_below, below_all, found_in, are_apart, row_of_member, member_of_row, all_rows}
 
 -- a byte of a register, a number, a name or a set
 abbrev pub is_word_byte : ℕ → Bool

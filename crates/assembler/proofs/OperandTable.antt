@@ -37,7 +37,7 @@ near_reach = record { low = omega (arith, ints); high = omega (arith, ints) }
 far_reach : IsReach (pos 1048576)
 far_reach = record { low = omega (arith, ints); high = omega (arith, ints) }
 
-reads_kind : (kind : Kind) → Reads (value_in kind) (IsSpelled kind)
+pub reads_kind : (kind : Kind) → Reads (value_in kind) (IsSpelled kind)
 reads_kind register = reads_register
 reads_kind upper = reads_natural 1048575 (omega arith)
 reads_kind amount = reads_natural 31 (omega arith)

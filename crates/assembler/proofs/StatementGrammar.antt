@@ -43,7 +43,7 @@ mnemonic_some name form has = not-true (eqb (length name) 0) (all_rows (λ text.
 
 -- ---- what is made is a statement
 
-padded_self : (text : List ℕ) → IsPadded text text
+pub padded_self : (text : List ℕ) → IsPadded text text
 padded_self text = ([], [], tt, tt, sym (append-nil text))
 
 for_found : (o : Option Form) (list : List (List ℕ)) (made : Made) → made_for o list ≡ Ok (Some made) → (form : Form) × (o ≡ Some form) × (statement_of form list ≡ Ok made)

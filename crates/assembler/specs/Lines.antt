@@ -18,25 +18,20 @@ use Rattle.assembler.specs.Statements.{Made, statement_of, made_of}
 abbrev pub code_of : List ℕ → List ℕ
 code_of line = before (is_byte 35) line
 
--- what stands before the first `:`, without the blanks at its front
-abbrev pub front_of : List ℕ → List ℕ
-front_of line = without_front (before (is_byte 58) (code_of line))
+abbrev pub label_and_rest : (code front : List ℕ) → Option (List ℕ) → Option (List ℕ) × List ℕ
+label_and_rest code front None = (None, code)
+label_and_rest code front (Some rest) = if is_name front then (Some front, rest) else (None, code)
 
-abbrev pub name_before : List ℕ → Option (List ℕ) → Option (List ℕ)
-name_before front None = None
-name_before front (Some rest) = if is_name front then Some front else None
+-- A label and what is left, where a name stands before the first `:` with no more than blanks in front.
+-- Where none does, all is left.
+abbrev pub parts_of : List ℕ → Option (List ℕ) × List ℕ
+parts_of code = label_and_rest code (without_front (before (is_byte 58) code)) (after (is_byte 58) code)
 
--- the name that a `:` follows, where it is the line's first text
 unfoldable pub label_of : List ℕ → Option (List ℕ)
-label_of line = name_before (front_of line) (after (is_byte 58) (code_of line))
+label_of line = (parts_of (code_of line)).0
 
-abbrev pub behind_label : List ℕ → List ℕ → Option (List ℕ) → List ℕ
-behind_label code front None = code
-behind_label code front (Some rest) = if is_name front then rest else code
-
--- what is left behind the label
 unfoldable pub statement_text : List ℕ → List ℕ
-statement_text line = trimmed (behind_label (code_of line) (front_of line) (after (is_byte 58) (code_of line)))
+statement_text line = trimmed (parts_of (code_of line)).1
 
 -- the texts between commas, without the blanks round them
 abbrev pub between_commas : Option (List ℕ) → List (List ℕ)

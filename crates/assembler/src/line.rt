@@ -6,7 +6,7 @@ ghost use Rattle.std.specs.List.{slice_split};
 ghost use Rattle.texts.specs.Cutting.{is_byte};
 ghost use Rattle.assembler.specs.Operands.{Tells};
 ghost use Rattle.assembler.specs.Statements.{made_of, MadeFits, statement_of};
-ghost use Rattle.assembler.specs.Lines.{code_of, front_of, label_of, statement_text, trimmed_text, operands_of, left, made_in, made_by};
+ghost use Rattle.assembler.specs.Lines.{code_of, parts_of, label_of, statement_text, trimmed_text, operands_of, left, made_in, made_by};
 
 use crate::faults::AsmFault;
 use crate::form::Form;
