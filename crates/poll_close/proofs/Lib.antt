@@ -1,5 +1,6 @@
 pub mod Acts
 pub mod Lines
+pub mod SenderLines
 pub mod ReceiverLines
 pub mod Modulo
 pub mod Windows
@@ -20,3 +21,4 @@ pub mod Distance
 pub mod Shares
 pub mod Progress
 pub mod Opened
+pub mod Readiness

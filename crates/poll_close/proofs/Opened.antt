@@ -38,9 +38,6 @@ words_step ws j less small some so_far = subst AreWords (sym (take_more ws j 0 l
 pub words-all : (ws : List ℕ) (n : ℕ) → length ws ≤ n → AreWords (take n ws) → AreWords ws
 words-all ws n past all = subst AreWords (take_all n ws past) all
 
-pub zero-found : (ws : List ℕ) (j w : ℕ) → j < length ws → w ≡ get_or ws j w → w ≡ 0 → AreWords (take j ws) → ZeroAt ws j
-zero-found ws j w less is zero so_far = record { within = less; zero = sym (get_or_read ws j w less is 0) ∙ zero; first = so_far }
-
 pub lists-more : (lists : List (Vec ℕ Global)) (i : ℕ) (list : Vec ℕ Global) → i < length lists → list ≡ get_or lists i list → AreWords list.items → All AreWords (map items_of (take i lists)) → All AreWords (map items_of (take (i + 1) lists))
 lists-more lists i list less is words so_far =
     let more : map items_of (take (i + 1) lists) ≡ map items_of (take i lists) ++ list.items ∷ [] = ap (map items_of) (take_more lists i list less ∙ ap (λ v. take i lists ++ v ∷ []) (sym is)) ∙ map-append items_of (take i lists) (list ∷ []) in

@@ -69,14 +69,6 @@ open_one rs n i less open_yet = at (all_closed rs n) refl
     at false is = is
     at true is = let shut : is_closed rs i ≡ true = each_closed rs n is i less in cc
 
--- the first report that is left is its closing
-pub closed_here : (rs : List Report) (k i : ℕ) (x : Report) → k < length rs → slice_get rs k ≡ Some x → x ≡ report.Closed i → is_closed (drop k rs) i ≡ true
-closed_here rs k i x less at is = closed_next rs k i x less at ∙ ap (λ z. is_closed (z ∷ drop (suc k) rs) i) is ∙ (let on : (i == i) ≡ true = eq-eqb i i refl in rw on refl)
-
-pub open_here : (rs : List Report) (k i : ℕ) (x : Report) → k < length rs → slice_get rs k ≡ Some x → x ≢ report.Closed i → is_closed (drop k rs) i ≡ is_closed (drop (suc k) rs) i
-open_here rs k i (report.Took j w) less at other = closed_next rs k i (report.Took j w) less at
-open_here rs k i (report.Closed j) less at other = closed_next rs k i (report.Closed j) less at ∙ (let off : (j == i) ≡ false = let differ : j ≢ i = λ same. other (ap report.Closed same) in grind (arith, nat_tests) in rw off refl)
-
 pub finished : (ring : Ring) (means : Meaning) (B M : ℕ) (t : History) → Cleans ring means → Stands ring means B M t → is_done t ≡ true → Finished t
 finished ring means B M t cleans s done = record {
   closed = each_closed (reported 0 t.entries) (senders_of t) done;

@@ -45,6 +45,14 @@ oldest_lands P Lands xs i j x y rest first lands at gives =
 pub window_empty : (xs : List (ℕ × ℕ)) (i j : ℕ) → j ≤ i → window xs i j ≡ []
 window_empty xs i j less = drop_of_length-le (take j xs) (let front : length (take j xs) ≡ min j (length xs) = length-take j xs in omega arith)
 
+-- where the window is empty, all that is made has landed
+pub none_left : (xs : List (ℕ × ℕ)) (i j : ℕ) → window xs i j ≡ [] → j ≤ length xs → j ≤ i
+none_left xs i j none within =
+    let long : length (window xs i j) ≡ 0 = ap length none in
+    let counted : length (window xs i j) ≡ length (take j xs) - i = length-drop i (take j xs) in
+    let front : length (take j xs) ≡ min j (length xs) = length-take j xs in
+    omega arith
+
 -- what holds of all stores of the list holds of those of the window
 
 abbrev pub Each : (ℕ × ℕ → Type 0) → List (ℕ × ℕ) → Type 0
