@@ -9,7 +9,7 @@ use Rattle.poll_close.proofs.ChannelLaws.{opens, keeps, cleans, goes}
 use Rattle.fastforward.specs.Listing.{sender_code}
 use Rattle.fastforward.specs.FastForward.{fastforward, fastforward_blocks, fastforward_means}
 use Rattle.fastforward.specs.Invariant.Numbers.{Made, Numbers, sent, gone, taken, freed, Words, pending_of, unread_of}
-use Rattle.fastforward.specs.Invariant.SenderState.{Written}
+use Rattle.poll_close.specs.Invariant.SenderState.{Written}
 use Rattle.fastforward.specs.Invariant.SenderPlaces.{SenderPlace, P00, P04, P08, P0C, P10, P14, P18, P1C, P20, P24, P28, P2C, P30, P34, P38, Over, SenderIs}
 use Rattle.fastforward.proofs.Stores.{sender_stores_are, receiver_stores_are}
 use Rattle.fastforward.proofs.Landings.{Landing, sender_lands, receiver_lands}
@@ -24,7 +24,7 @@ nothing = record { made = record { g = 0; p = 0; m = 0 }; ls = 0; km = 0; u = 0;
 begins : (k : Block) → IsBlock k → Begins fastforward_blocks k (opens_with sender_code k)
 begins k is = record {
   none = nothing;
-  order = record { ln_u = omega arith; u_ls = omega arith; ls_p = omega arith; p_ln = omega arith; p_all = omega arith; c_u = omega arith; u_c = omega arith; kc_ln = omega arith; ln_kc = omega arith; kc_c = omega arith; m_one = omega arith; km_m = omega arith; m_all = λ some. omega arith; km_all = λ some. omega arith; d_one = omega arith; kd_d = omega arith; d_all = λ some. omega arith; kd_all = λ some. omega arith };
+  order = omega (arith, is.some_slot);
   words = record { mark = refl; tail = omega (arith, zero-mod k.size); done = refl; full = λ j from below. omega arith; empty = λ j from below. refl };
   stands = record { place = P00; written = record { x5 = 0; x6 = 0; x7 = 0; x10 = 0; x11 = 0; x17 = 0; x28 = 0 }; is = refl; holds = (record { taken = refl; unmarked = refl }, omega (arith, zero-mod k.size)) };
   unsent = refl;
@@ -47,11 +47,6 @@ words_same k n word new is same w = record {
 
 -- a null that lands later keeps the sender's assertion
 holds_later : (k : Block) (here : SenderPlace) (n : Made) (ln later : ℕ) (r : Written) → ln ≤ later → SenderIs k here n ln r → SenderIs k here n later r
-holds_later k P00 n ln later r more h = h
-holds_later k P04 n ln later r more h = h
-holds_later k P08 n ln later r more h = h
-holds_later k P0C n ln later r more h = h
-holds_later k P10 n ln later r more h = h
 holds_later k P14 n ln later r more h = (
   h.0,
   h.1,
@@ -61,15 +56,7 @@ holds_later k P14 n ln later r more h = (
   ],
 )
 holds_later k P18 n ln later r more h = (h.0, h.1, omega arith)
-holds_later k P1C n ln later r more h = h
-holds_later k P20 n ln later r more h = h
-holds_later k P24 n ln later r more h = h
-holds_later k P28 n ln later r more h = h
-holds_later k P2C n ln later r more h = h
-holds_later k P30 n ln later r more h = h
-holds_later k P34 n ln later r more h = h
-holds_later k P38 n ln later r more h = h
-holds_later k Over n ln later r more h = h
+holds_later k here n ln later r more h = h
 
 -- a landing, as the laws ask for it
 landing : (k : Block) (n : Numbers) (new : ℕ → ℕ) (mine theirs : List (ℕ × ℕ)) → Landing k n new mine theirs → Lands fastforward_blocks k n new mine theirs

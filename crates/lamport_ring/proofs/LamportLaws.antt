@@ -13,7 +13,7 @@ use Rattle.lamport_ring.specs.Listing.{sender_code}
 use Rattle.lamport_ring.specs.Lamport.{lamport, lamport_blocks, lamport_means}
 use Rattle.lamport_ring.specs.Invariant.Stores.{receiver_stores}
 use Rattle.lamport_ring.specs.Invariant.Numbers.{Numbers, sent, gone, Ordered, Words, pending_of, unread_of}
-use Rattle.lamport_ring.specs.Invariant.SenderState.{Written}
+use Rattle.poll_close.specs.Invariant.SenderState.{Written}
 use Rattle.lamport_ring.specs.Invariant.SenderPlaces.{SenderPlace, P00, P04, P08, P0C, P10, P14, P18, P1C, P20, P24, P28, P2C, P30, P34, P38, P3C, P40, Over, SenderIs, Standing}
 use Rattle.lamport_ring.proofs.Orders.{order_c, order_d, order_told}
 use Rattle.lamport_ring.proofs.Stores.{store_tail, store_done, sender_stores_are, receiver_stores_are}
@@ -28,7 +28,7 @@ nothing = record { made = record { g = 0; p = 0; q = 0; m = 0 }; ls = 0; kh = 0;
 begins : (k : Block) → IsBlock k → Begins lamport_blocks k (opens_with sender_code k)
 begins k is = record {
   none = nothing;
-  order = record { kc_c = omega arith; c_kh = omega arith; kh_ls = omega arith; ls_kh = omega arith; ls_p = omega arith; kh_q = omega arith; q_p = omega arith; p_q = omega arith; p_kc = omega (arith, is.some_slot); p_all = omega arith; m_one = omega arith; km_m = omega arith; m_all = λ some. omega arith; km_all = λ some. omega arith; d_one = omega arith; kd_d = omega arith; d_all = λ some. omega arith; kd_all = λ some. omega arith };
+  order = omega (arith, is.some_slot);
   words = record { head = omega (arith, zero-mod k.size); mark = refl; tail = omega (arith, zero-mod k.size); done = refl; slots = λ j from below. omega arith };
   stands = record { place = P00; written = record { x5 = 0; x6 = 0; x7 = 0; x10 = 0; x11 = 0; x17 = 0; x28 = 0 }; is = refl; holds = (record { taken = refl; heads = refl; unmarked = refl }, omega (arith, zero-mod k.size)) };
   unsent = refl;
@@ -51,24 +51,10 @@ words_same k n word new is same w = record {
 
 -- a later tail keeps the sender's assertion
 holds_later : (k : Block) (here : SenderPlace) (n : _) (kc later : ℕ) (r : Written) → kc ≤ later → SenderIs k here n kc r → SenderIs k here n later r
-holds_later k P00 n kc later r more h = h
-holds_later k P04 n kc later r more h = h
-holds_later k P08 n kc later r more h = h
-holds_later k P0C n kc later r more h = h
-holds_later k P10 n kc later r more h = h
-holds_later k P14 n kc later r more h = h
-holds_later k P18 n kc later r more h = h
 holds_later k P1C n kc later r more h = (h.0, h.1, record { tail = h.2.tail; landed = omega (arith, h.2.landed); near = h.2.near; old = h.2.old; is = h.2.is })
 holds_later k P20 n kc later r more h = (h.0, h.1, omega arith)
 holds_later k P24 n kc later r more h = (h.0, h.1, omega arith, h.3)
-holds_later k P28 n kc later r more h = h
-holds_later k P2C n kc later r more h = h
-holds_later k P30 n kc later r more h = h
-holds_later k P34 n kc later r more h = h
-holds_later k P38 n kc later r more h = h
-holds_later k P3C n kc later r more h = h
-holds_later k P40 n kc later r more h = h
-holds_later k Over n kc later r more h = h
+holds_later k here n kc later r more h = h
 
 -- the receiver's own numbers grow: the sender and the words of memory stay
 module _ (k : Block) (n : Numbers) (order : Ordered k n) where

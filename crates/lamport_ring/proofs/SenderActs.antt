@@ -13,7 +13,7 @@ use Rattle.poll_close.proofs.BlockLaws.{found_in, Sends}
 use Rattle.lamport_ring.specs.Lamport.{lamport_blocks}
 use Rattle.lamport_ring.specs.Invariant.Stores.{stores_from, sender_stores}
 use Rattle.lamport_ring.specs.Invariant.Numbers.{Made, Numbers, sent, gone, Ordered, Words, pending_of}
-use Rattle.lamport_ring.specs.Invariant.SenderState.{Written}
+use Rattle.poll_close.specs.Invariant.SenderState.{Written}
 use Rattle.lamport_ring.specs.Invariant.SenderPlaces.{SenderPlace, stands, SenderIs, Standing}
 use Rattle.lamport_ring.proofs.SenderMoves.{Moves, moves}
 

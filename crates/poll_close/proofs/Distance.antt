@@ -1,6 +1,6 @@
 -- The receiver comes nearer to its next report with every act, where each sender waits or has ended.
 -- The front and the end are told here, for any ring; the five lines between are the ring's own.
-use Rattle.std.proofs.Common.{ℕ, suc, ◌+◌, ◌-◌, ◌*◌, ◌<◌, ◌≤◌, ◌≡◌, ◌≢◌, ◌==◌, ◌⊎◌, inl, inr, Bool, true, false, not, ◌||◌, if◌then◌else◌, List, [], Option, Some, refl, sym, ◌∙◌, ap, subst, arith, add-one}
+use Rattle.std.proofs.Common.{ℕ, suc, ◌+◌, ◌-◌, ◌*◌, ◌<◌, ◌≤◌, ◌≡◌, ◌≢◌, ◌==◌, ◌⊎◌, inl, inr, Bool, true, false, not, ◌&&◌, ◌||◌, if◌then◌else◌, List, [], Option, Some, refl, sym, ◌∙◌, ap, subst, arith, add-one}
 use Rattle.std.proofs.lemmas.Bool.{cases_eq, cases_lt}
 use Rattle.std.proofs.lemmas.Bool.Decides.{nat_tests}
 use Rattle.std.proofs.lemmas.Nat.{row_fits}
@@ -50,8 +50,8 @@ pub record BlockProgress (m : BlockMeaning) (p : Pace) (least : ℕ) : Type 1 wh
   pub near_24 : MiddleNears m p Ready R24
 
 -- an act by a line
-pub falls : (p : Pace) (s new at : HartState) (T size : ℕ) (sh E : Bool) (rest start : ℕ) → new ≡ at → Falls p s at T size sh E rest start → Falls p s new T size sh E rest start
-falls p s new at T size sh E rest start is f = subst (λ (z : HartState). Falls p s z T size sh E rest start) (sym is) f
+pub falls : {p : Pace} {s new at : HartState} {T size : ℕ} {sh E : Bool} {rest start : ℕ} → new ≡ at → Falls p s at T size sh E rest start → Falls p s new T size sh E rest start
+falls {p} {s} {new} {at} {T} {size} {sh} {E} {rest} {start} is f = subst (λ (z : HartState). Falls p s z T size sh E rest start) (sym is) f
 
 -- a place's number, and what is left of the round where its visit is stale
 pub two_flags : (a b rest : ℕ) (new old : Bool) → a < b → b ≤ 22 → 40 ≤ rest → (new ≡ true → old ≡ true) → a + (if new then rest else 3) < b + (if old then rest else 3)
@@ -59,6 +59,15 @@ two_flags a b rest true true less small off same = omega arith
 two_flags a b rest true false less small off same = let bad : false ≡ true = same refl in cc
 two_flags a b rest false true less small off same = omega arith
 two_flags a b rest false false less small off same = omega arith
+
+-- nor is it stale once the mark is read, or where the sender runs
+pub not_stale : (mark : ℕ) (E : Bool) → (E ≡ true → mark ≡ 1) → ((mark == 0) && E) ≡ false
+not_stale mark true some = let off : (mark == 0) ≡ false = let one : mark ≡ 1 = some refl in grind (arith, nat_tests) in rw off refl
+not_stale mark false some = both (mark == 0)
+  where
+    both : (b : Bool) → (b && false) ≡ false
+    both true = refl
+    both false = refl
 
 -- the round: some block is open, so it comes nearer on its way to one
 module _ (rs : List Report) (n : ℕ) where
@@ -104,7 +113,7 @@ module _ (m : BlockMeaning) (code : List ℕ) (laws : BlockLaws m code) (p : Pac
 
   -- where the act is such a line
   goes : (here there : ReceiverPlace) (T : ℕ) (noted : Noted) → advanced (receives m.middle (whole_of k count) here r) v ≡ receives m.middle (whole_of k count) there noted → Falls p (receives m.middle (whole_of k count) here r) (receives m.middle (whole_of k count) there noted) T k.size sh E rest start → Fell here T
-  goes here there T noted leaves f = falls p (receives m.middle (whole_of k count) here r) (advanced (receives m.middle (whole_of k count) here r) v) (receives m.middle (whole_of k count) there noted) T k.size sh E rest start leaves f
+  goes here there T noted leaves f = falls leaves f
 
   falls_08 : (T : ℕ) → ReceiverIs m k i R08 n r → Fell R08 T
   falls_08 T h = goes R08 R0C T (record r { x5 = v }) ((line_08 m.middle (whole_of k count) r (omega (arith, is.even, h.1.base)) (omega (arith, is.inside, is.some_slot, h.1.base)) is.small).leaves v) (record { block = refl; nearer = at sh })

@@ -56,12 +56,6 @@ each_closed rs (suc n) all i less = at (is_closed rs n) refl all (cases_eq i n) 
     at true is both (inr other) more = more both (omega (arith, other, less))
     at false is both any more = cc
 
--- the reports from one on say what they say with it
-pub closed_next : (rs : List Report) (k i : ℕ) (x : Report) → k < length rs → slice_get rs k ≡ Some x → is_closed (drop k rs) i ≡ is_closed (x ∷ drop (suc k) rs) i
-closed_next [] k i x less is = absurd (omega arith)
-closed_next (y ∷ rs) zero i x less is = ap (λ z. is_closed (z ∷ rs) i) (let same : y ≡ x = cc in same)
-closed_next (y ∷ rs) (suc k) i x less is = closed_next rs k i x (omega arith) is
-
 pub open_one : (rs : List Report) (n i : ℕ) → i < n → is_closed rs i ≡ false → all_closed rs n ≡ false
 open_one rs n i less open_yet = at (all_closed rs n) refl
   where
