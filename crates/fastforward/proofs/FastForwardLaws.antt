@@ -4,7 +4,7 @@ use Rattle.std.proofs.Math.Nat.{zero-mod}
 use Rattle.poll_close.specs.Laws.{IsShort, Opens, Keeps, Cleans, Goes}
 use Rattle.poll_close.specs.Invariant.Blocks.{Block, slot}
 use Rattle.poll_close.proofs.Blocks.{IsBlock, Within, word_of, slot_of}
-use Rattle.poll_close.proofs.BlockLaws.{BlockLaws, Begins, Lands, opens_with}
+use Rattle.poll_close.proofs.BlockLaws.{BlockLaws, Begins, opens_with}
 use Rattle.poll_close.proofs.ChannelLaws.{opens, keeps, cleans, goes}
 use Rattle.fastforward.specs.Listing.{sender_code}
 use Rattle.fastforward.specs.FastForward.{fastforward, fastforward_blocks, fastforward_means}
@@ -12,7 +12,7 @@ use Rattle.fastforward.specs.Invariant.Numbers.{Made, Numbers, sent, gone, taken
 use Rattle.poll_close.specs.Invariant.SenderState.{Written}
 use Rattle.fastforward.specs.Invariant.SenderPlaces.{SenderPlace, P00, P04, P08, P0C, P10, P14, P18, P1C, P20, P24, P28, P2C, P30, P34, P38, Over, SenderIs}
 use Rattle.fastforward.proofs.Stores.{sender_stores_are, receiver_stores_are}
-use Rattle.fastforward.proofs.Landings.{Landing, sender_lands, receiver_lands}
+use Rattle.fastforward.proofs.Landings.{sender_lands, receiver_lands}
 use Rattle.fastforward.proofs.SenderActs.{sends}
 use Rattle.fastforward.proofs.ReceiverReads.{seen_mark, seen_done}
 use Rattle.fastforward.proofs.ReceiverActs.{stores_tail, stores_done, reported, level_stays, filled_stays, stays_18, stays_1C, stays_20, stays_24}
@@ -45,31 +45,6 @@ words_same k n word new is same w = record {
   empty = λ j from below. same (slot k.size k.base j) (slot_of k is j).within ∙ w.empty j from below;
 }
 
--- a null that lands later keeps the sender's assertion
-holds_later : (k : Block) (here : SenderPlace) (n : Made) (ln later : ℕ) (r : Written) → ln ≤ later → SenderIs k here n ln r → SenderIs k here n later r
-holds_later k P14 n ln later r more h = (
-  h.0,
-  h.1,
-  elim h.2 [
-    | inl word ↦ inl word
-    | inr free ↦ inr (omega arith)
-  ],
-)
-holds_later k P18 n ln later r more h = (h.0, h.1, omega arith)
-holds_later k here n ln later r more h = h
-
--- a landing, as the laws ask for it
-landing : (k : Block) (n : Numbers) (new : ℕ → ℕ) (mine theirs : List (ℕ × ℕ)) → Landing k n new mine theirs → Lands fastforward_blocks k n new mine theirs
-landing k n new mine theirs l = record {
-  after = record n { ls = l.ls; km = l.km; ln = l.ln; kc = l.kc; kd = l.kd };
-  order = l.order;
-  words = l.words;
-  sender = λ s st. record { place = st.place; written = st.written; is = st.is; holds = holds_later k st.place n.made n.ln l.ln st.written l.nulls_later st.holds };
-  unsent = l.mine_is;
-  unread = l.theirs_is;
-  grows = record { tails = refl; dones = refl; took = refl; shut = refl; marks = l.marks_later; later = (refl, l.words_later) };
-}
-
 pub fastforward_laws : BlockLaws fastforward_blocks sender_code
 fastforward_laws = record {
   begins = begins;
@@ -88,8 +63,8 @@ fastforward_laws = record {
   stays_20 = stays_20;
   stays_24 = stays_24;
   sends = sends;
-  sender_lands = λ k n word new x rest is order words oldest write. landing k n new rest (unread_of k n) (sender_lands k is n order word new words (unread_of k n) refl x rest oldest write);
-  receiver_lands = λ k n word new x rest is order words oldest write. landing k n new (pending_of k n) rest (receiver_lands k is n order word new words (pending_of k n) refl x rest oldest write);
+  sender_lands = λ k n word new x rest is order words oldest write. sender_lands k is n order word new words (unread_of k n) refl x rest oldest write;
+  receiver_lands = λ k n word new x rest is order words oldest write. receiver_lands k is n order word new words (pending_of k n) refl x rest oldest write;
   sees_done = λ k n word order words. seen_done k n word order words;
   sees_mark = λ k n word order words. seen_mark k n word order words;
   stores_tail = λ k n order filled on. stores_tail k n order filled on;
