@@ -12,12 +12,13 @@ use Rattle.step_machine.specs.Entries.{memory_word}
 use Rattle.step_machine.specs.Paths.{state_of}
 use Rattle.step_machine.specs.WordReads.{word_in_memory}
 use Rattle.poll_close.specs.Plans.{Nears, runs, left_by, next_by, ready_if, is_ready}
-use Rattle.poll_close.specs.Invariant.Blocks.{Block, offset, slot}
+use Rattle.poll_close.specs.Invariant.Blocks.{Block, offset, slot, slot_store, tail_store}
 use Rattle.poll_close.specs.Invariant.SenderState.{Written}
 use Rattle.poll_close.specs.Invariant.ReceiverState.{Noted, Whole, whole_of, receiving}
 use Rattle.poll_close.specs.Invariant.ReceiverPlaces.{R14, R18, R1C, R20, R24}
 use Rattle.poll_close.proofs.Lines.{loads}
 use Rattle.poll_close.proofs.Windows.{none_left}
+use Rattle.poll_close.proofs.StoreLists.{singles_length, pairs_length}
 use Rattle.poll_close.proofs.Blocks.{IsBlock, IsWordOf, offset_low, slot_of}
 use Rattle.poll_close.proofs.BlockLaws.{found_in}
 use Rattle.poll_close.proofs.Distance.{falls, two_flags, not_stale, MiddleNears, BlockProgress}
@@ -25,7 +26,7 @@ use Rattle.poll_close.proofs.Progress.{both_true, not_false, nears}
 use Rattle.poll_close.proofs.Readiness.{Sender, value_is}
 use Rattle.fastforward.specs.Listing.{sender_code}
 use Rattle.fastforward.specs.FastForward.{fastforward, fastforward_blocks, fastforward_means, sender_left, waits, stale, fastforward_pace}
-use Rattle.fastforward.specs.Invariant.Stores.{words_from, sender_stores, nulls_from, receiver_stores}
+use Rattle.fastforward.specs.Invariant.Stores.{null_store, sender_stores, receiver_stores}
 use Rattle.fastforward.specs.Invariant.Middle.{middle}
 use Rattle.fastforward.specs.Invariant.Numbers.{Numbers, sent, gone, taken, freed, Ordered, Words, pending_of, unread_of}
 use Rattle.fastforward.specs.Invariant.SenderPlaces.{SenderPlace, P10, Over, stands, SenderIs, Standing}
@@ -36,20 +37,12 @@ use Rattle.fastforward.proofs.ReceiverReads.{seen_word}
 use Rattle.fastforward.proofs.FastForwardLaws.{fastforward_laws}
 
 -- where nothing is pending all that was stored has landed
-sender_count : (S b j : ℕ) (ws : List ℕ) → length (words_from S b j ws) ≡ length ws + 1
-sender_count S b j [] = refl
-sender_count S b j (w ∷ ws) = omega (arith, sender_count S b (j + 1) ws)
-
-receiver_count : (S b j : ℕ) (ws : List ℕ) → length (nulls_from S b j ws) ≡ 2 * length ws + 1
-receiver_count S b j [] = refl
-receiver_count S b j (w ∷ ws) = omega (arith, receiver_count S b (j + 1) ws)
-
 module _ (k : Block) (n : Numbers) (order : Ordered k n) where
   pub all_sent : pending_of k n ≡ [] → sent n ≤ gone n
-  all_sent none = none_left (sender_stores k.size k.base k.list) (gone n) (sent n) none (omega (arith, sender_count k.size k.base 0 k.list, order.p_all, order.m_one))
+  all_sent none = none_left (sender_stores k.size k.base k.list) (gone n) (sent n) none (omega (arith, singles_length (slot_store k.size k.base) (k.base + 4, 1) k.list, order.p_all, order.m_one))
 
   pub all_read : unread_of k n ≡ [] → taken n ≤ freed n
-  all_read none = none_left (receiver_stores k.size k.base k.list) (freed n) (taken n) none (omega (arith, receiver_count k.size k.base 0 k.list, order.c_u, order.u_ls, order.ls_p, order.p_all, order.d_one))
+  all_read none = none_left (receiver_stores k.size k.base k.list) (freed n) (taken n) none (omega (arith, pairs_length (null_store k.size k.base) (tail_store k.size k.base) (k.base + 12, 1) k.list, order.c_u, order.u_ls, order.ls_p, order.p_all, order.d_one))
 
 -- each act of a sender that does not wait brings it nearer to its end
 nearer_at : (k : Block) (n : Numbers) (here : SenderPlace) (r : Written) (word : ℕ → ℕ) (v : ℕ) → IsBlock k → Ordered k n → Words k n word → SenderIs k here n.made n.ln r → pending_of k n ≡ [] → (stands k here n.made r).status ≡ status.Running → ((a : ℕ) → IsWordOf k a → need_of (stands k here n.made r) ≡ loads a → v ≡ word a) → waits (stands k here n.made r) word ≡ false → sender_left (advanced (stands k here n.made r) v) < sender_left (stands k here n.made r)

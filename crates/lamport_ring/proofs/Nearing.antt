@@ -12,20 +12,21 @@ use Rattle.step_machine.specs.Entries.{memory_word}
 use Rattle.step_machine.specs.Paths.{state_of}
 use Rattle.step_machine.specs.WordReads.{word_in_memory}
 use Rattle.poll_close.specs.Plans.{Nears, runs, left_by, next_by, ready_if, is_ready}
-use Rattle.poll_close.specs.Invariant.Blocks.{Block, offset}
+use Rattle.poll_close.specs.Invariant.Blocks.{Block, offset, slot_store, tail_store}
 use Rattle.poll_close.specs.Invariant.SenderState.{Written}
 use Rattle.poll_close.specs.Invariant.ReceiverState.{Noted, Whole, whole_of, receiving}
 use Rattle.poll_close.specs.Invariant.ReceiverPlaces.{R14, R18, R1C, R20, R24}
 use Rattle.poll_close.proofs.Lines.{loads}
 use Rattle.poll_close.proofs.Modulo.{same_offset}
 use Rattle.poll_close.proofs.Windows.{none_left}
+use Rattle.poll_close.proofs.StoreLists.{singles_length, pairs_length}
 use Rattle.poll_close.proofs.Blocks.{IsBlock, IsWordOf, offset_low, first_of, word_of}
 use Rattle.poll_close.proofs.Distance.{falls, two_flags, not_stale, MiddleNears, BlockProgress}
 use Rattle.poll_close.proofs.Progress.{both_true, nears}
 use Rattle.poll_close.proofs.Readiness.{Sender, value_is}
 use Rattle.lamport_ring.specs.Listing.{sender_code}
 use Rattle.lamport_ring.specs.Lamport.{lamport, lamport_blocks, lamport_means, sender_left, waits, stale, lamport_pace}
-use Rattle.lamport_ring.specs.Invariant.Stores.{stores_from, sender_stores, tails_from, receiver_stores}
+use Rattle.lamport_ring.specs.Invariant.Stores.{head_store, sender_stores, receiver_stores}
 use Rattle.lamport_ring.specs.Invariant.Middle.{middle}
 use Rattle.lamport_ring.specs.Invariant.Numbers.{Numbers, sent, gone, Ordered, Words, pending_of, unread_of}
 use Rattle.lamport_ring.specs.Invariant.SenderPlaces.{SenderPlace, P00, P18, Over, stands, SenderIs, Standing}
@@ -35,20 +36,12 @@ use Rattle.lamport_ring.proofs.ReceiverReads.{seen_head, seen_tail}
 use Rattle.lamport_ring.proofs.LamportLaws.{lamport_laws}
 
 -- where nothing is pending all that was stored has landed
-sender_count : (S b j : ℕ) (ws : List ℕ) → length (stores_from S b j ws) ≡ 2 * length ws + 1
-sender_count S b j [] = refl
-sender_count S b j (w ∷ ws) = omega (arith, sender_count S b (j + 1) ws)
-
-receiver_count : (S b j : ℕ) (ws : List ℕ) → length (tails_from S b j ws) ≡ length ws + 1
-receiver_count S b j [] = refl
-receiver_count S b j (w ∷ ws) = omega (arith, receiver_count S b (j + 1) ws)
-
 module _ (k : Block) (n : Numbers) (order : Ordered k n) where
   pub all_sent : pending_of k n ≡ [] → sent n ≤ gone n
-  all_sent none = none_left (sender_stores k.size k.base k.list) (gone n) (sent n) none (omega (arith, sender_count k.size k.base 0 k.list, order.p_all, order.q_p, order.m_one))
+  all_sent none = none_left (sender_stores k.size k.base k.list) (gone n) (sent n) none (omega (arith, pairs_length (slot_store k.size k.base) (head_store k.size k.base) (k.base + 4, 1) k.list, order.p_all, order.q_p, order.m_one))
 
   pub all_read : unread_of k n ≡ [] → n.c + n.d ≤ n.kc + n.kd
-  all_read none = none_left (receiver_stores k.size k.base k.list) (n.kc + n.kd) (n.c + n.d) none (omega (arith, receiver_count k.size k.base 0 k.list, order.c_kh, order.kh_ls, order.ls_p, order.p_all, order.d_one))
+  all_read none = none_left (receiver_stores k.size k.base k.list) (n.kc + n.kd) (n.c + n.d) none (omega (arith, singles_length (tail_store k.size k.base) (k.base + 12, 1) k.list, order.c_kh, order.kh_ls, order.ls_p, order.p_all, order.d_one))
 
 -- each act of a sender that does not wait brings it nearer to its end
 nearer_at : (k : Block) (n : Numbers) (here : SenderPlace) (r : Written) (word : ℕ → ℕ) (v : ℕ) → IsBlock k → Ordered k n → Words k n word → SenderIs k here n.made n.kc r → (stands k here n.made r).status ≡ status.Running → ((a : ℕ) → IsWordOf k a → need_of (stands k here n.made r) ≡ loads a → v ≡ word a) → waits (stands k here n.made r) word ≡ false → sender_left (advanced (stands k here n.made r) v) < sender_left (stands k here n.made r)

@@ -4,6 +4,7 @@ pub mod SenderLines
 pub mod ReceiverLines
 pub mod Modulo
 pub mod Windows
+pub mod StoreLists
 pub mod Writes
 pub mod Blocks
 pub mod BlockLaws
