@@ -1,5 +1,5 @@
 -- What a plan needs of one block of FastForward.
-use Rattle.std.proofs.Common.{ℕ, suc, ◌+◌, ◌*◌, ◌%◌, ◌^◌, ◌<◌, ◌≤◌, ◌≡◌, ◌≢◌, ◌==◌, inl, inr, Bool, true, false, not, ◌&&◌, if◌then◌else◌, List, [], ◌∷◌, length, Option, Some, refl, sym, ◌∙◌, ap, subst, arith, lit≤}
+use Rattle.std.proofs.Common.{ℕ, ◌+◌, ◌*◌, ◌%◌, ◌^◌, ◌<◌, ◌≤◌, ◌≡◌, ◌≢◌, ◌==◌, inl, inr, Bool, true, false, not, ◌&&◌, if◌then◌else◌, [], Option, Some, refl, sym, ◌∙◌, ap, subst, arith, lit≤}
 use Rattle.std.specs.Prelude.{slice_index, option_map}
 use Rattle.std.proofs.lemmas.Bool.{cases_eq}
 use Rattle.std.proofs.lemmas.Bool.Decides.{nat_tests}
@@ -12,18 +12,17 @@ use Rattle.step_machine.specs.Entries.{memory_word}
 use Rattle.step_machine.specs.Paths.{state_of}
 use Rattle.step_machine.specs.WordReads.{word_in_memory}
 use Rattle.poll_close.specs.Plans.{Nears, runs, left_by, next_by, ready_if, is_ready}
-use Rattle.poll_close.specs.Invariant.Blocks.{Block, offset, slot, slot_store, tail_store}
+use Rattle.poll_close.specs.Invariant.Blocks.{Block, slot, slot_store, tail_store}
 use Rattle.poll_close.specs.Invariant.SenderState.{Written}
 use Rattle.poll_close.specs.Invariant.ReceiverState.{Noted, Whole, whole_of, receiving}
 use Rattle.poll_close.specs.Invariant.ReceiverPlaces.{R14, R18, R1C, R20, R24}
 use Rattle.poll_close.proofs.Lines.{loads}
-use Rattle.poll_close.proofs.Windows.{none_left}
-use Rattle.poll_close.proofs.StoreLists.{singles_length, pairs_length}
+use Rattle.poll_close.proofs.Windows.{none_left, singles_length, pairs_length}
 use Rattle.poll_close.proofs.Blocks.{IsBlock, IsWordOf, offset_low, slot_of}
 use Rattle.poll_close.proofs.BlockLaws.{found_in}
 use Rattle.poll_close.proofs.Distance.{falls, two_flags, not_stale, MiddleNears, BlockProgress}
 use Rattle.poll_close.proofs.Progress.{both_true, not_false, nears}
-use Rattle.poll_close.proofs.Readiness.{Sender, value_is}
+use Rattle.poll_close.proofs.Standing.{Sender, value_is}
 use Rattle.fastforward.specs.Listing.{sender_code}
 use Rattle.fastforward.specs.FastForward.{fastforward, fastforward_blocks, fastforward_means, sender_left, waits, stale, fastforward_pace}
 use Rattle.fastforward.specs.Invariant.Stores.{null_store, sender_stores, receiver_stores}

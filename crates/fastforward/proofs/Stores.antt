@@ -1,12 +1,11 @@
 -- The stores of both lists, by their numbers: each is one of a whole word to the block.
-use Rattle.std.proofs.Common.{ℕ, suc, ◌+◌, ◌*◌, ◌%◌, ◌<◌, ◌≡◌, ◌≢◌, ◌⊎◌, inl, inr, List, length, Some, refl, ap, arith}
+use Rattle.std.proofs.Common.{ℕ, ◌+◌, ◌*◌, ◌%◌, ◌<◌, ◌≡◌, ◌≢◌, ◌⊎◌, inl, inr, List, length, Some, refl, ap, arith}
 use Rattle.std.specs.Prelude.{slice_index}
 use Rattle.std.specs.List.{slice_get}
 use Rattle.std.proofs.Math.Nat.{add-mod_right}
 use Rattle.poll_close.specs.Invariant.Blocks.{Block, slot, window, slot_store, tail_store}
 use Rattle.poll_close.proofs.Modulo.{mod_apart}
-use Rattle.poll_close.proofs.Windows.{Each, Each-window}
-use Rattle.poll_close.proofs.StoreLists.{single_at, single_last, first_at, second_at, pair_last, pair_is, singles_each, pairs_each}
+use Rattle.poll_close.proofs.Windows.{Each, Each-window, single_at, single_last, first_at, second_at, pair_last, pair_is, singles_each, pairs_each}
 use Rattle.poll_close.proofs.Blocks.{IsBlock, IsStore, offset_small, word_of, slot_of}
 use Rattle.fastforward.specs.Invariant.Stores.{null_store, sender_stores, receiver_stores}
 

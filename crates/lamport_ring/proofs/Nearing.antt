@@ -18,12 +18,11 @@ use Rattle.poll_close.specs.Invariant.ReceiverState.{Noted, Whole, whole_of, rec
 use Rattle.poll_close.specs.Invariant.ReceiverPlaces.{R14, R18, R1C, R20, R24}
 use Rattle.poll_close.proofs.Lines.{loads}
 use Rattle.poll_close.proofs.Modulo.{same_offset}
-use Rattle.poll_close.proofs.Windows.{none_left}
-use Rattle.poll_close.proofs.StoreLists.{singles_length, pairs_length}
+use Rattle.poll_close.proofs.Windows.{none_left, singles_length, pairs_length}
 use Rattle.poll_close.proofs.Blocks.{IsBlock, IsWordOf, offset_low, first_of, word_of}
 use Rattle.poll_close.proofs.Distance.{falls, two_flags, not_stale, MiddleNears, BlockProgress}
 use Rattle.poll_close.proofs.Progress.{both_true, nears}
-use Rattle.poll_close.proofs.Readiness.{Sender, value_is}
+use Rattle.poll_close.proofs.Standing.{Sender, value_is}
 use Rattle.lamport_ring.specs.Listing.{sender_code}
 use Rattle.lamport_ring.specs.Lamport.{lamport, lamport_blocks, lamport_means, sender_left, waits, stale, lamport_pace}
 use Rattle.lamport_ring.specs.Invariant.Stores.{head_store, sender_stores, receiver_stores}

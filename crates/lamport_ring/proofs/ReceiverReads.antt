@@ -4,8 +4,7 @@ use Rattle.std.specs.Prelude.{slice_index, unwrap_or}
 use Rattle.std.specs.List.{slice_get}
 use Rattle.std.proofs.lemmas.Bool.{cases_lt, cases_eq}
 use Rattle.poll_close.specs.Invariant.Blocks.{Block, offset, slot, window, tail_store}
-use Rattle.poll_close.proofs.StoreLists.{OfWord, single_is, singles_each}
-use Rattle.poll_close.proofs.Windows.{Each, Each-window, Each-range, window_empty, newest_to, newest_none, newest_made}
+use Rattle.poll_close.proofs.Windows.{Each, Each-window, Each-range, window_empty, newest_to, newest_none, newest_made, OfWord, single_is, singles_each}
 use Rattle.poll_close.proofs.BlockLaws.{found_in}
 use Rattle.lamport_ring.specs.Invariant.Stores.{receiver_stores}
 use Rattle.lamport_ring.proofs.Stores.{store_tail, store_done}

@@ -7,8 +7,7 @@ use Rattle.hart.specs.declared.status.Status.TheVariants as status
 use Rattle.poll_close.specs.Invariant.Blocks.{Block, offset, slot_store}
 use Rattle.poll_close.proofs.Acts.{stored_by, IsNoAmo}
 use Rattle.poll_close.proofs.Lines.{loads}
-use Rattle.poll_close.proofs.Windows.{Each, Each-window, newest_none}
-use Rattle.poll_close.proofs.StoreLists.{pairs_each}
+use Rattle.poll_close.proofs.Windows.{Each, Each-window, newest_none, pairs_each}
 use Rattle.poll_close.proofs.Blocks.{IsBlock, IsWordOf, word_of}
 use Rattle.poll_close.proofs.BlockLaws.{found_in, Sends}
 use Rattle.lamport_ring.specs.Lamport.{lamport_blocks}

@@ -3,8 +3,7 @@ use Rattle.std.proofs.Common.{ℕ, suc, ◌+◌, ◌*◌, ◌%◌, ◌<◌, ◌�
 use Rattle.std.specs.Prelude.{slice_index}
 use Rattle.std.specs.List.{slice_get}
 use Rattle.poll_close.specs.Invariant.Blocks.{Block, slot, window, slot_store, tail_store}
-use Rattle.poll_close.proofs.Windows.{Each, Each-window}
-use Rattle.poll_close.proofs.StoreLists.{single_at, single_last, first_at, second_at, pair_last, singles_each, pairs_each}
+use Rattle.poll_close.proofs.Windows.{Each, Each-window, single_at, single_last, first_at, second_at, pair_last, singles_each, pairs_each}
 use Rattle.poll_close.proofs.Blocks.{IsBlock, IsStore, offset_small, first_of, word_of, slot_of}
 use Rattle.lamport_ring.specs.Invariant.Stores.{head_store, sender_stores, receiver_stores}
 

@@ -1,7 +1,7 @@
 -- What one entry changes of all that is read off a history: an act by its hart's need, a landing by
 -- the store that lands. All rings go by these two records and by nothing else of the machine.
-use Rattle.std.proofs.Common.{ℕ, ◌/◌, ◌<◌, ◌≡◌, ◌≢◌, ◌==◌, Bool, true, false, List, [], ◌∷◌, ◌++◌, length, take, drop, Option, Some, None, if◌then◌else◌, refl, sym, ◌∙◌, ap, subst, arith, eq-eqb, append-nil}
-use Rattle.std.specs.Prelude.{option_map, unwrap_or, slice_index}
+use Rattle.std.proofs.Common.{ℕ, ◌<◌, ◌≡◌, ◌≢◌, ◌==◌, Bool, true, false, List, [], ◌∷◌, ◌++◌, length, take, drop, Some, if◌then◌else◌, refl, sym, ◌∙◌, ap, subst, arith, eq-eqb, append-nil}
+use Rattle.std.specs.Prelude.{option_map}
 use Rattle.std.proofs.lemmas.Bool.Decides.{nat_tests}
 use Rattle.hart.specs.State.{HartState}
 use Rattle.hart.specs.Steps.{need_of, advanced}
@@ -15,9 +15,8 @@ use Rattle.step_machine.specs.declared.events.Entry.TheVariants as entry
 use Rattle.poll_close.specs.Going.{GoesOn}
 use Rattle.poll_close.specs.Invariant.Blocks.{as_write, as_writes}
 use Rattle.poll_close.proofs.Lines.{loads}
-use Rattle.step_machine.specs.History.{Start, History, with_entry}
+use Rattle.step_machine.specs.History.{History, with_entry}
 use Rattle.step_machine.specs.Entries.{hart_of, is_land, is_own, store_of, land_of, write_of, report_of, pending, read, reported}
-use Rattle.step_machine.specs.Entries as step
 use Rattle.step_machine.specs.Access.{access_of}
 use Rattle.step_machine.specs.WordReads.{WritesWord, word_in_memory}
 use Rattle.step_machine.proofs.WordReads.{word_in_memory-other, word_in_memory-write}
@@ -26,7 +25,7 @@ use Rattle.memory.specs.Writes.{write, IsWholeWord}
 use Rattle.step_machine.specs.Paths.{entry_of, value_of, CanMake, state_of}
 use Rattle.step_machine.specs.Legal.{Allowed, Legal}
 use Rattle.step_machine.specs.Runs.{CanFollow}
-use Rattle.step_machine.proofs.Appended.{pending-last, reported-last, landed-last}
+use Rattle.step_machine.proofs.Appended.{pending-last, reported-last}
 use Rattle.step_machine.proofs.Balanced.{balanced}
 use Rattle.step_machine.proofs.Follows.{act_only, state_of-mine, state_of-other, Legal-last}
 use Rattle.step_machine.proofs.Stays.{states_land, pending-land, pending-other, land_of-other}

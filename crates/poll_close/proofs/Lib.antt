@@ -4,7 +4,6 @@ pub mod SenderLines
 pub mod ReceiverLines
 pub mod Modulo
 pub mod Windows
-pub mod StoreLists
 pub mod Writes
 pub mod Blocks
 pub mod BlockLaws
@@ -22,4 +21,3 @@ pub mod Distance
 pub mod Shares
 pub mod Progress
 pub mod Opened
-pub mod Readiness

@@ -1,6 +1,6 @@
 -- An opening is made: one sender more at the end, and the lists are looked through for a zero.
 use Rattle.std.proofs.Common.{◌≡◌, ℕ, ◌+◌, ◌<◌, List, [], ◌∷◌, ◌++◌, length, take, get_or, map, Vec, Global, refl, sym, ◌∙◌, ap, arith, ◌≢◌, ◌^◌, ◌≤◌, All, subst}
-use Rattle.std.proofs.lemmas.List.{take_more, map-append, length-map, length-take-le, take_all, get_or_read, get_or-map, take-map}
+use Rattle.std.proofs.lemmas.List.{take_more, map-append, length-map, length-take-le, take_all, get_or-map, take-map}
 use Rattle.step_machine.specs.History.{HartStart}
 use Rattle.poll_close.specs.Layout.{sender_registers, senders_from}
 use Rattle.std.specs.Prelude.{slice_index}
