@@ -1,5 +1,5 @@
 -- The laws of one block, all together, and so the laws of the ring.
-use Rattle.std.proofs.Common.{ℕ, suc, ◌+◌, ◌<◌, ◌≤◌, ◌≡◌, List, length, Some, refl, sym, ◌∙◌, ap, arith, append-nil, lit≤}
+use Rattle.std.proofs.Common.{ℕ, suc, ◌+◌, ◌<◌, ◌≤◌, ◌≡◌, length, Some, refl, sym, ◌∙◌, ap, arith, append-nil, lit≤}
 use Rattle.std.specs.List.{slice_get}
 use Rattle.std.proofs.Math.Nat.{zero-mod}
 use Rattle.hart.specs.State.{HartState}
@@ -13,8 +13,7 @@ use Rattle.lamport_ring.specs.Listing.{sender_code}
 use Rattle.lamport_ring.specs.Lamport.{lamport, lamport_blocks, lamport_means}
 use Rattle.lamport_ring.specs.Invariant.Stores.{receiver_stores}
 use Rattle.lamport_ring.specs.Invariant.Numbers.{Numbers, sent, gone, Ordered, Words, pending_of, unread_of}
-use Rattle.poll_close.specs.Invariant.SenderState.{Written}
-use Rattle.lamport_ring.specs.Invariant.SenderPlaces.{SenderPlace, P00, P04, P08, P0C, P10, P14, P18, P1C, P20, P24, P28, P2C, P30, P34, P38, P3C, P40, Over, SenderIs, Standing}
+use Rattle.lamport_ring.specs.Invariant.SenderPlaces.{P00, Standing}
 use Rattle.lamport_ring.proofs.Orders.{order_c, order_d, order_told}
 use Rattle.lamport_ring.proofs.Stores.{store_tail, store_done, sender_stores_are, receiver_stores_are}
 use Rattle.lamport_ring.proofs.Landings.{sender_lands, receiver_lands}

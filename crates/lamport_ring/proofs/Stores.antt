@@ -1,5 +1,5 @@
 -- The stores of both lists, by their numbers: each is one of a whole word to the block.
-use Rattle.std.proofs.Common.{ℕ, suc, ◌+◌, ◌*◌, ◌%◌, ◌<◌, ◌≡◌, List, length, Some, refl, arith}
+use Rattle.std.proofs.Common.{ℕ, ◌+◌, ◌*◌, ◌%◌, ◌<◌, ◌≡◌, List, length, Some, refl, arith}
 use Rattle.std.specs.Prelude.{slice_index}
 use Rattle.std.specs.List.{slice_get}
 use Rattle.poll_close.specs.Invariant.Blocks.{Block, slot, window, slot_store, tail_store}
