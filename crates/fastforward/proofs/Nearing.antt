@@ -11,7 +11,7 @@ use Rattle.step_machine.specs.History.{History}
 use Rattle.step_machine.specs.Entries.{memory_word}
 use Rattle.step_machine.specs.Paths.{state_of}
 use Rattle.step_machine.specs.WordReads.{word_in_memory}
-use Rattle.poll_close.specs.Plans.{Nears, runs, left_by, next_by, ready_if, is_ready}
+use Rattle.poll_close.specs.Paces.{Nears, runs, left_by, next_by, ready_if, is_ready}
 use Rattle.poll_close.specs.Invariant.Blocks.{Block, slot, slot_store, tail_store}
 use Rattle.poll_close.specs.Invariant.SenderState.{Written}
 use Rattle.poll_close.specs.Invariant.ReceiverState.{Noted, Whole, whole_of, receiving}

@@ -12,7 +12,8 @@ use Rattle.hart.specs.declared.need.Report.{Report}
 use Rattle.hart.specs.declared.need.Report.TheVariants as report
 use Rattle.poll_close.specs.Layout.{block_size}
 use Rattle.poll_close.specs.Reports.{sender_of}
-use Rattle.poll_close.specs.Plans.{Pace, far_at, far_of, visited_by, is_closed, some_open, rest_from, runs}
+use Rattle.poll_close.specs.Paces.{Pace, far_at, far_of, visited_by, some_open, rest_from, runs}
+use Rattle.poll_close.specs.Plans.{is_closed}
 use Rattle.poll_close.specs.Invariant.Blocks.{Block}
 use Rattle.poll_close.specs.Invariant.ReceiverState.{Middle, Noted, Whole, whole_of, receiving}
 use Rattle.poll_close.specs.Invariant.ReceiverPlaces.{ReceiverPlace, R00, R04, R08, R0C, R10, R14, R18, R1C, R20, R24, R28, R2C, R30, R34, R38, R3C, R40, R44, R48, R4C, R50, R54, R58, R5C, R60, R64, R68, R6C, R70, R74, R78, R7C, ROver, receives, due}

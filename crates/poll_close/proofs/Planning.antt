@@ -31,7 +31,8 @@ use Rattle.poll_close.specs.Layout.{opening_of, senders_from}
 use Rattle.poll_close.specs.Delivery.{DeliversWhole}
 use Rattle.poll_close.proofs.Delivering.{senders-length}
 use Rattle.poll_close.proofs.CleanReports.{closed_whole}
-use Rattle.poll_close.specs.Plans.{AllLanded, Nearer, Nears, Finished, Finishes, is_closed, all_closed, ends_in_word, is_word, is_done, senders_of}
+use Rattle.poll_close.specs.Paces.{Nearer, Nears}
+use Rattle.poll_close.specs.Plans.{AllLanded, Finished, Finishes, is_closed, all_closed, ends_in_word, is_word, is_done, senders_of}
 
 pub record Planned (ring : Ring) (means : Meaning) (B M : ℕ) (start : History) (evs : List Event) (t : History) : Type 0 where
   pub run : RunFrom B M start evs t

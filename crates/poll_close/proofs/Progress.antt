@@ -31,7 +31,8 @@ use Rattle.poll_close.specs.Layout.{opening_of}
 use Rattle.poll_close.specs.Reports.{taken, sender_of, Clean}
 use Rattle.poll_close.specs.Laws.{Accepted, Keeps}
 use Rattle.poll_close.specs.Standing.{lists_of}
-use Rattle.poll_close.specs.Plans.{Pace, AllLanded, Nearer, Nears, is_closed, is_done, senders_of, some_open, rest_from, visited_by, is_running, runs, far_of, far_if, left_in, left_by, ring_size, ready_if, is_ready, next_of, next_by}
+use Rattle.poll_close.specs.Paces.{Pace, Nearer, Nears, some_open, rest_from, visited_by, is_running, runs, far_of, far_if, left_in, left_by, ring_size, ready_if, is_ready, next_of, next_by}
+use Rattle.poll_close.specs.Plans.{AllLanded, is_closed, is_done, senders_of}
 use Rattle.poll_close.specs.Invariant.Blocks.{Block, block_of, as_writes, to_block}
 use Rattle.poll_close.specs.Invariant.ReceiverState.{Noted, whole_of, receiver_of}
 use Rattle.poll_close.specs.Invariant.ReceiverPlaces.{ReceiverPlace, R04, R70, receives, due}

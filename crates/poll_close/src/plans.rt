@@ -3,7 +3,8 @@
 ghost use Rattle.std.specs.Prelude.{◌≡◌, ◌≤◌, ◌<◌, ◌-◌, ℕ, Bool, List, [], true, length, IfOk};
 ghost use Rattle.hart.specs.declared.need.Report.{Report};
 ghost use Rattle.poll_close.specs.Standing.{Stands};
-ghost use Rattle.poll_close.specs.Plans.{Finishes, is_closed, all_closed, ends_in_word, is_word, is_done, next_by, is_ready};
+ghost use Rattle.poll_close.specs.Paces.{next_by, is_ready};
+ghost use Rattle.poll_close.specs.Plans.{Finishes, is_closed, all_closed, ends_in_word, is_word, is_done};
 
 use crate::kind::RingKind;
 use hart::need::Report;
@@ -14,7 +15,7 @@ use step_machine::{Event, Machine};
 pub trait Finish<const B: usize, const M: usize>: RingKind {
     ghost use Rattle.std.specs.Prelude.{◌≡◌, ◌≤◌, ◌<◌, length};
     ghost use Rattle.poll_close.specs.Standing.{Stands};
-    ghost use Rattle.poll_close.specs.Plans.{Pace, Nears, left_by, next_by, is_ready};
+    ghost use Rattle.poll_close.specs.Paces.{Pace, Nears, left_by, next_by, is_ready};
 
     /// How far its harts are from their ends, and when they wait, as a definition.
     ghost pace: { Pace };

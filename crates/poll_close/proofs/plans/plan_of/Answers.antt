@@ -1,7 +1,8 @@
 use Rattle.std.proofs.Common.{◌≡◌, ◌<◌, true, false, [], ◌∷◌, ◌++◌, lit<, sym, ◌∙◌, ap, subst, arith}
 use Rattle.step_machine.specs.Entries.{pending}
 use Rattle.step_machine.specs.declared.events.Event.TheVariants as event
-use Rattle.poll_close.specs.Plans.{is_done, left_by, next_by}
+use Rattle.poll_close.specs.Paces.{left_by, next_by}
+use Rattle.poll_close.specs.Plans.{is_done}
 use Rattle.poll_close.proofs.Planning.{Planned, planned-none, planned-more, planned-done, lands_one, turned, turn_over, turn_quiet, some_left, none_left, landed_more}
 use Rattle.poll_close.proofs.plans.plan_of.Goals as goal
 
