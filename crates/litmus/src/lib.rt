@@ -23,6 +23,3 @@ pub use draft::{ConditionDraft, ConditionError};
 pub use question::Test;
 pub use verdict::{Quantifier, Verdict};
 pub use words::{Place, Token};
-
-#[cfg(test)]
-mod tests;

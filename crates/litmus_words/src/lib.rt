@@ -20,6 +20,3 @@ pub use cleaning::cleaned;
 pub use laws::{one_value, words_are_spelled};
 pub use settings::{Setting, Spot, Worth, item_in, setting_in};
 pub use words::{Front, Word, first_word};
-
-#[cfg(test)]
-mod tests;

@@ -17,6 +17,3 @@ pub use cutting::first_word;
 pub use lines::first_line;
 pub use numbers::{hex_number, hex_word, integer, number, push_decimal, word};
 pub use pieces::{Separators, first_piece};
-
-#[cfg(test)]
-mod tests;
