@@ -1,5 +1,5 @@
 -- Addresses and targets: what is read of them is what the grammar says.
-use Rattle.std.proofs.Common.{◌≡◌, ℕ, ◌<◌, ◌^◌, ◌%◌, Bool, true, false, not, ◌&&◌, ◌||◌, eqb, ltb, List, [], ◌∷◌, ◌++◌, length, Option, Some, None, Result, Ok, refl, sym, ap, subst, ◌∙◌, inl, inr, arith, ℤ, pos, negsuc, append_assoc}
+use Rattle.std.proofs.Common.{◌≡◌, ℕ, ◌<◌, ◌^◌, ◌%◌, Bool, true, false, not, ◌&&◌, ◌||◌, eqb, ltb, List, [], ◌∷◌, ◌++◌, length, Option, Some, None, Ok, refl, sym, ap, subst, ◌∙◌, inl, inr, arith, ℤ, pos, negsuc, append_assoc}
 use Rattle.std.specs.Prelude.{neg_ℤ, int_lt, unsigned_abs, ◌≤ℤ◌, ◌<ℤ◌}
 use Rattle.std.specs.List.{list_all}
 use Rattle.std.specs.Char.{digit_value}
@@ -16,11 +16,11 @@ use Rattle.rv_decode.specs.Fits.{IsEven}
 use Rattle.rv_decode.specs.declared.instruction.Reg.{Reg}
 use Rattle.assembler.specs.declared.faults.AsmFault.{AsmFault}
 use Rattle.assembler.specs.Names.{is_name, begins_name, goes_on_name}
-use Rattle.assembler.specs.Operands.{register_at, Target, bytes, label, is_even, is_reached, in_reach, IsReached, target_at, closed, opened, base_at, or_zero, offset_at}
+use Rattle.assembler.specs.Operands.{register_in, Target, bytes, label, is_even, is_reached, in_reach, IsReached, target_in, closed, opened, base_in, or_zero, offset_in, address_in}
 use Rattle.assembler.specs.Spelled.{IsMagnitude, IsNumber, IsRegister, IsOffset, IsAddress, IsTarget}
 use Rattle.assembler.specs.Spelled.IsMagnitude.{decimal, hex}
 use Rattle.assembler.specs.Spelled.IsNumber.{plain, negative}
-use Rattle.assembler.proofs.ReadAgain.{all_below, below_all}
+use Rattle.assembler.proofs.Rows.{all_below, below_all}
 use Rattle.texts.proofs.CuttingLaws.{before_stop, after_stop, cut_byte}
 use Rattle.texts.proofs.TrimLaws.{trailing_append, stripped_padded, stripped_all, padded_stripped, all-append}
 use Rattle.assembler.proofs.Leaves.{is_word_byte, is_operand_byte, Reads, all_weaker, none_of_all, not_this, word_operand, word_trimmed, register_word, register_found, register_only, digit_low, number_found, number_only, number_word, not_less, IsWithin, from_found, from_only}
@@ -90,7 +90,7 @@ reached bound (Some z) to e = elim (cases_Bool (is_reached bound z)) [
   | inr fails ↦ absurd (let f = rw fails at e in cc)
 ]
 
-target_found : (bound : ℤ) → IsReach bound → (t : List ℕ) (to : Target) → target_at bound (Some t) ≡ Ok to → IsTarget bound t to
+target_found : (bound : ℤ) → IsReach bound → (t : List ℕ) (to : Target) → target_in bound t ≡ Ok to → IsTarget bound t to
 target_found bound reach t to e = elim (cases_Bool (is_name t)) [
   | inl name ↦ label_is t to bound name (ok_is AsmFault (label t) to (rw name at e))
   | inr other ↦ (
@@ -108,8 +108,8 @@ less a b lt = go (int_lt a b) refl
 pub is_reached_only : (bound z : ℤ) → neg_ℤ bound ≤ℤ z → z <ℤ bound → IsEven z → is_reached bound z ≡ true
 is_reached_only bound z low high even = rw (even, not_less z (neg_ℤ bound) low, less z bound high) refl
 
-target_only : (bound : ℤ) → IsReach bound → (t : List ℕ) (to : Target) → IsTarget bound t to → target_at bound (Some (trimmed t)) ≡ Ok to
-target_only bound reach t (label name) is = subst (λ (s : List ℕ). target_at bound (Some (trimmed s)) ≡ Ok (label name)) (sym is.0) (rw (word_trimmed name (name_word name is.1), is.1) refl)
+target_only : (bound : ℤ) → IsReach bound → (t : List ℕ) (to : Target) → IsTarget bound t to → target_in bound (trimmed t) ≡ Ok to
+target_only bound reach t (label name) is = subst (λ (s : List ℕ). target_in bound (trimmed s) ≡ Ok (label name)) (sym is.0) (rw (word_trimmed name (name_word name is.1), is.1) refl)
 target_only bound reach t (bytes z) is =
     rw (word_trimmed t (number_word t z is.0), number_no_name t z is.0, number_only t z is.0 (small_reached bound z reach is.1 is.2), is_reached_only bound z is.1 is.2 is.3) refl
 
@@ -117,33 +117,22 @@ target_bytes : (bound : ℤ) (t : List ℕ) (to : Target) → IsTarget bound t t
 target_bytes bound t (label name) is = subst (λ (s : List ℕ). list_all is_operand_byte s ≡ true) (sym is.0) (word_operand name (name_word name is.1))
 target_bytes bound t (bytes z) is = word_operand t (number_word t z is.0)
 
-pub reads_target : (bound : ℤ) → IsReach bound → Reads (target_at bound) (IsTarget bound)
+pub reads_target : (bound : ℤ) → IsReach bound → Reads (target_in bound) (IsTarget bound)
 reads_target bound reach = record {
-  missing = λ to e. none to e;
   found = target_found bound reach;
   only = target_only bound reach;
   bytes = target_bytes bound;
 }
-  where
-    none : (to : Target) → target_at bound None ≡ Ok to → ⊥
-    none to e = cc
 
 -- ---- addresses
-
--- the register and the number of an address
-abbrev pub address_at : (low high : ℤ) → Option (List ℕ) → Result (Reg × ℤ) AsmFault
-address_at low high operand = do
-  rs1 ← base_at operand
-  n ← offset_at low high operand
-  Ok (rs1, n)
 
 record Opened (t : List ℕ) (r : Reg) : Type 0 where
   inner : List ℕ
   opens : after (is_byte 40) t ≡ Some inner
   closes : after (is_byte 41) inner ≡ Some []
-  named : register_at (Some (trimmed (before (is_byte 41) inner))) ≡ Ok r
+  named : register_in (trimmed (before (is_byte 41) inner)) ≡ Ok r
 
-opened_found : (t : List ℕ) (r : Reg) → base_at (Some t) ≡ Ok r → Opened t r
+opened_found : (t : List ℕ) (r : Reg) → base_in t ≡ Ok r → Opened t r
 opened_found t r e = go (after (is_byte 40) t) refl e
   where
     close : (inner : List ℕ) → after (is_byte 40) t ≡ Some inner → (o : Option (List ℕ)) → after (is_byte 41) inner ≡ o → closed (before (is_byte 41) inner) o ≡ Ok r → Opened t r
@@ -170,10 +159,10 @@ offset_found low high within t z e = elim (cases_Bool (eqb (length (trimmed t)) 
   | inr some ↦ inr (trimmed t, padded_stripped is_blank t, from_found low high within (trimmed t) z (rw some at e))
 ]
 
-address_found : (low high : ℤ) → IsWithin low high → (t : List ℕ) (at : Reg × ℤ) → address_at low high (Some t) ≡ Ok at → IsAddress low high t at
+address_found : (low high : ℤ) → IsWithin low high → (t : List ℕ) (at : Reg × ℤ) → address_in low high t ≡ Ok at → IsAddress low high t at
 address_found low high within t at e =
-    let base = bind_ok (base_at (Some t)) (λ r. offset_at low high (Some t) >>= λ n. Ok (r, n)) at e in
-    let offset = bind_ok (offset_at low high (Some t)) (λ n. Ok (base.0, n)) at base.2 in
+    let base = bind_ok (base_in t) (λ r. offset_in low high t >>= λ n. Ok (r, n)) at e in
+    let offset = bind_ok (offset_in low high t) (λ n. Ok (base.0, n)) at base.2 in
     let open_ = opened_found t base.0 base.1 in
     let inside = before (is_byte 41) open_.inner in
     subst (λ (a : Reg × ℤ). IsAddress low high t a) (ok_is AsmFault (base.0, offset.0) at offset.2) (record {
@@ -183,7 +172,7 @@ address_found low high within t at e =
       whole = cut_byte 40 t open_.inner open_.opens ∙ ap (λ i. before (is_byte 40) t ++ 40 ∷ i) (cut_byte 41 open_.inner [] open_.closes);
       offset = offset_found low high within (before (is_byte 40) t) offset.0 offset.1;
       padded = padded_stripped is_blank inside;
-      register = register_found (trimmed inside) base.0 open_.named;
+      named = register_found (trimmed inside) base.0 open_.named;
     })
 
 -- a word with blanks round it
@@ -262,34 +251,30 @@ offset_only low high within t z (inr some) =
 spaced_not : (byte : ℕ) → is_spaced_byte byte ≡ false → (t : List ℕ) → list_all is_spaced_byte t ≡ true → NonePass (is_byte byte) t
 spaced_not byte fails t h = none_of_all is_spaced_byte (is_byte byte) (not_this is_spaced_byte byte fails) t h
 
-address_only_at : (low high : ℤ) → IsWithin low high → (a b name : List ℕ) (r : Reg) (z : ℤ) → IsOffset low high a z → IsPadded name b → IsRegister name r → address_at low high (Some (without_front a ++ 40 ∷ (b ++ 41 ∷ []))) ≡ Ok (r, z)
+address_only_at : (low high : ℤ) → IsWithin low high → (a b name : List ℕ) (r : Reg) (z : ℤ) → IsOffset low high a z → IsPadded name b → IsRegister name r → address_in low high (without_front a ++ 40 ∷ (b ++ 41 ∷ [])) ≡ Ok (r, z)
 address_only_at low high within a b name r z offset pad is =
     let front = without_front a in
     let no_open : NonePass (is_byte 40) front = spaced_not 40 refl front (front_all is_spaced_byte a (offset_spaced low high a z offset)) in
     let no_close : NonePass (is_byte 41) b = spaced_not 41 refl b (padded_spaced name b pad (register_word name r is)) in
     let core : trimmed b ≡ name = stripped_padded is_blank name b pad ∙ word_trimmed name (register_word name r is) in
-    let base : base_at (Some (front ++ 40 ∷ (b ++ 41 ∷ []))) ≡ Ok r = rw (after_stop (is_byte 40) front 40 (b ++ 41 ∷ []) no_open refl, before_stop (is_byte 41) b 41 [] no_close refl, after_stop (is_byte 41) b 41 [] no_close refl, core) (register_only name r is) in
-    let number : offset_at low high (Some (front ++ 40 ∷ (b ++ 41 ∷ []))) ≡ Ok z = rw (before_stop (is_byte 40) front 40 (b ++ 41 ∷ []) no_open refl, trimmed_after_front a) (offset_only low high within a z offset) in
+    let base : base_in (front ++ 40 ∷ (b ++ 41 ∷ [])) ≡ Ok r = rw (after_stop (is_byte 40) front 40 (b ++ 41 ∷ []) no_open refl, before_stop (is_byte 41) b 41 [] no_close refl, after_stop (is_byte 41) b 41 [] no_close refl, core) (register_only name r is) in
+    let number : offset_in low high (front ++ 40 ∷ (b ++ 41 ∷ [])) ≡ Ok z = rw (before_stop (is_byte 40) front 40 (b ++ 41 ∷ []) no_open refl, trimmed_after_front a) (offset_only low high within a z offset) in
     rw (base, number) refl
 
-address_only : (low high : ℤ) → IsWithin low high → (t : List ℕ) (at : Reg × ℤ) → IsAddress low high t at → address_at low high (Some (trimmed t)) ≡ Ok at
+address_only : (low high : ℤ) → IsWithin low high → (t : List ℕ) (at : Reg × ℤ) → IsAddress low high t at → address_in low high (trimmed t) ≡ Ok at
 address_only low high within t at is =
-    subst (λ (s : List ℕ). address_at low high (Some s) ≡ Ok at) (sym (ap trimmed is.whole ∙ trimmed_address is.before is.inside))
-    (address_only_at low high within is.before is.inside is.name at.0 at.1 is.offset is.padded is.register)
+    subst (λ (s : List ℕ). address_in low high s ≡ Ok at) (sym (ap trimmed is.whole ∙ trimmed_address is.before is.inside))
+    (address_only_at low high within is.before is.inside is.name at.0 at.1 is.offset is.padded is.named)
 
 address_bytes : (low high : ℤ) (t : List ℕ) (at : Reg × ℤ) → IsAddress low high t at → list_all is_operand_byte t ≡ true
 address_bytes low high t at is =
     let front = all_weaker is_spaced_byte is_operand_byte spaced_operand is.before (offset_spaced low high is.before at.1 is.offset) in
-    let inner = all_weaker is_spaced_byte is_operand_byte spaced_operand is.inside (padded_spaced is.name is.inside is.padded (register_word is.name at.0 is.register)) in
+    let inner = all_weaker is_spaced_byte is_operand_byte spaced_operand is.inside (padded_spaced is.name is.inside is.padded (register_word is.name at.0 is.named)) in
     subst (λ (s : List ℕ). list_all is_operand_byte s ≡ true) (sym is.whole) (both_all is_operand_byte is.before (40 ∷ (is.inside ++ 41 ∷ [])) front (both_all is_operand_byte is.inside (41 ∷ []) inner refl))
 
-pub reads_address : (low high : ℤ) → IsWithin low high → Reads (address_at low high) (IsAddress low high)
+pub reads_address : (low high : ℤ) → IsWithin low high → Reads (address_in low high) (IsAddress low high)
 reads_address low high within = record {
-  missing = λ at e. none at e;
   found = address_found low high within;
   only = address_only low high within;
   bytes = address_bytes low high;
 }
-  where
-    none : (at : Reg × ℤ) → address_at low high None ≡ Ok at → ⊥
-    none at e = cc

@@ -7,7 +7,7 @@ use Rattle.texts.specs.Pieces.{is_blank}
 use Rattle.texts.specs.Cutting.{is_byte, without_front, without_end, trimmed, stripped, NonePass, AreBlanks, IsPadded, onto_kept, before, after}
 use Rattle.texts.proofs.CuttingLaws.{none-append, split_cut, split_none, split_stop, split_behind}
 use Rattle.texts.proofs.TrimLaws.{stripped_none, stripped_padded, stripped_trailing, padded_stripped}
-use Rattle.assembler.specs.Lines.{between_commas, first_of, rest_of}
+use Rattle.assembler.specs.Lines.{between_commas}
 use Rattle.assembler.specs.Spelled.{AreListed}
 use Rattle.assembler.specs.Spelled.AreListed.{last, more}
 
@@ -108,12 +108,9 @@ split_listed text operands (more first operand rest others pad listed) none = rw
 
 -- ---- the operands of a line, one by one
 
-pub first_between : (text : List ℕ) → first_of (between_commas (Some text)) ≡ Some (trimmed (before (is_byte 44) text))
-first_between text = ap (λ list. first_of (map trimmed list)) (split_cut (is_byte 44) text)
+rest_between : (rest : Option (List ℕ)) → map trimmed (split_behind (is_byte 44) rest) ≡ between_commas rest
+rest_between None = refl
+rest_between (Some text) = refl
 
-rest_between_behind : (rest : Option (List ℕ)) → between_commas rest ≡ map trimmed (split_behind (is_byte 44) rest)
-rest_between_behind None = refl
-rest_between_behind (Some text) = refl
-
-pub rest_between : (text : List ℕ) → rest_of (between_commas (Some text)) ≡ between_commas (after (is_byte 44) text)
-rest_between text = ap (λ list. rest_of (map trimmed list)) (split_cut (is_byte 44) text) ∙ sym (rest_between_behind (after (is_byte 44) text))
+pub first_between : (text : List ℕ) → between_commas (Some text) ≡ trimmed (before (is_byte 44) text) ∷ between_commas (after (is_byte 44) text)
+first_between text = ap (map trimmed) (split_cut (is_byte 44) text) ∙ ap (λ others. trimmed (before (is_byte 44) text) ∷ others) (rest_between (after (is_byte 44) text))

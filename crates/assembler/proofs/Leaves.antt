@@ -10,7 +10,7 @@ use Rattle.texts.specs.Pieces.{is_blank}
 use Rattle.texts.specs.Cutting.{trimmed, NonePass}
 use Rattle.texts.specs.Numbers.{capped, is_hex, magnitude_of, is_negative, integer_of}
 use Rattle.texts.proofs.NumberLaws.{hex_text, no_hex, negative_text, number_said, says_number, hex_number_said, says_hex_number}
-use Rattle.texts.proofs.ResultLaws.{guard_ok, ok_is}
+use Rattle.texts.proofs.ResultLaws.{guard_ok, ok_is, bind_ok}
 use Rattle.rv_decode.specs.Meaning.{reg_of}
 use Rattle.rv_decode.proofs.Meanings.{reg_of_number}
 use Rattle.rv_decode.specs.declared.instruction.Reg.{Reg}
@@ -19,14 +19,13 @@ use Rattle.assembler.specs.declared.faults.AsmFault.TheVariants.{OutOfRange}
 use Rattle.rv_decode.specs.Registers.{register_names, register_named}
 use Rattle.assembler.specs.Sets.{set_names, set_named}
 use Rattle.assembler.specs.Names.{goes_on_name}
-use Rattle.assembler.specs.Operands.{register_at, known_register, in_range, number_at, up_to, natural_at, set_at}
+use Rattle.assembler.specs.Operands.{register_in, known_register, in_range, number_in, natural_in, set_in}
 use Rattle.assembler.specs.Spelled.{IsMagnitude, IsNumber, IsNumberFrom, IsNumberUpTo, IsRegister, IsSet}
 use Rattle.assembler.specs.Spelled.IsMagnitude.{decimal, hex}
 use Rattle.assembler.specs.Spelled.IsNumber.{plain, negative}
 use Rattle.rv_decode.proofs.TableLaws.{row_below}
-use Rattle.assembler.proofs.ReadAgain.{all_below, below_all}
 use Rattle.texts.proofs.TrimLaws.{stripped_none}
-use Rattle.assembler.proofs.Rows.{found_in, are_apart, row_of_member, member_of_row, all_rows}
+use Rattle.assembler.proofs.Rows.{all_below, below_all, found_in, are_apart, row_of_member, member_of_row, all_rows}
 
 -- a byte of a register, a number, a name or a set
 abbrev pub is_word_byte : ℕ → Bool
@@ -37,10 +36,9 @@ abbrev pub is_operand_byte : ℕ → Bool
 is_operand_byte c = is_word_byte c || (is_blank c || ((c == 40) || (c == 41)))
 
 -- The function answers what the relation says, and nothing else.
-pub record Reads {X : Type 0} (f : Option (List ℕ) → Result X AsmFault) (P : List ℕ → X → Type 0) : Type 0 where
-  pub missing : (x : X) → f None ≡ Ok x → ⊥
-  pub found : (t : List ℕ) (x : X) → f (Some t) ≡ Ok x → P t x
-  pub only : (t : List ℕ) (x : X) → P t x → f (Some (trimmed t)) ≡ Ok x
+pub record Reads {X : Type 0} (f : List ℕ → Result X AsmFault) (P : List ℕ → X → Type 0) : Type 0 where
+  pub found : (t : List ℕ) (x : X) → f t ≡ Ok x → P t x
+  pub only : (t : List ℕ) (x : X) → P t x → f (trimmed t) ≡ Ok x
   pub bytes : (t : List ℕ) (x : X) → P t x → list_all is_operand_byte t ≡ true
 
 -- ---- bytes
@@ -86,7 +84,7 @@ registers_apart = refl
 pub register_word : (t : List ℕ) (r : Reg) → IsRegister t r → list_all is_word_byte t ≡ true
 register_word t r is = all_rows (λ name. list_all is_word_byte name) register_names t r.number register_words is
 
-pub register_found : (t : List ℕ) (r : Reg) → register_at (Some t) ≡ Ok r → IsRegister t r
+pub register_found : (t : List ℕ) (r : Reg) → register_in t ≡ Ok r → IsRegister t r
 unfolding register_named
 register_found t r e = go (found_in register_names t) refl
   where
@@ -102,16 +100,12 @@ register_found t r e = go (found_in register_names t) refl
         let number : said.0 ≡ r.number = omega arith in
         subst (λ (k : ℕ). Contains register_names (t, k)) number (member_of_row register_names t said.0 said.1))
 
-pub register_only : (t : List ℕ) (r : Reg) → IsRegister t r → register_at (Some t) ≡ Ok r
+pub register_only : (t : List ℕ) (r : Reg) → IsRegister t r → register_in t ≡ Ok r
 unfolding register_named
 register_only t r is = rw (row_of_member register_names t r.number registers_apart is) (ap Ok (reg_of_number r))
 
-no_register : (x : Reg) → register_at None ≡ Ok x → ⊥
-no_register x e = cc
-
-pub reads_register : Reads register_at IsRegister
+pub reads_register : Reads register_in IsRegister
 reads_register = record {
-  missing = no_register;
   found = register_found;
   only = λ t r is. rw (word_trimmed t (register_word t r is)) (register_only t r is);
   bytes = λ t r is. word_operand t (register_word t r is);
@@ -128,7 +122,7 @@ sets_apart = refl
 set_word : (t : List ℕ) (n : ℕ) → IsSet t n → list_all is_word_byte t ≡ true
 set_word t n is = all_rows (λ name. list_all is_word_byte name) set_names t n set_words is
 
-set_found : (t : List ℕ) (n : ℕ) → set_at (Some t) ≡ Ok n → IsSet t n
+set_found : (t : List ℕ) (n : ℕ) → set_in t ≡ Ok n → IsSet t n
 unfolding set_named
 set_found t n e = go (found_in set_names t) refl
   where
@@ -136,16 +130,12 @@ set_found t n e = go (found_in set_names t) refl
     go None none = absurd (let f = rw none at e in cc)
     go (Some m) is = (let same : m ≡ n = ok_is AsmFault m n (rw is at e) in subst (λ (k : ℕ). Contains set_names (t, k)) same (member_of_row set_names t m is))
 
-set_only : (t : List ℕ) (n : ℕ) → IsSet t n → set_at (Some t) ≡ Ok n
+set_only : (t : List ℕ) (n : ℕ) → IsSet t n → set_in t ≡ Ok n
 unfolding set_named
 set_only t n is = rw (row_of_member set_names t n sets_apart is) refl
 
-no_set : (x : ℕ) → set_at None ≡ Ok x → ⊥
-no_set x e = cc
-
-pub reads_set : Reads set_at IsSet
+pub reads_set : Reads set_in IsSet
 reads_set = record {
-  missing = no_set;
   found = set_found;
   only = λ t n is. rw (word_trimmed t (set_word t n is)) (set_only t n is);
   bytes = λ t n is. word_operand t (set_word t n is);
@@ -270,48 +260,39 @@ ranged_found low high (Some y) z e =
 pub ranged_only : (low high z : ℤ) → low ≤ℤ z → z ≤ℤ high → in_range low high (Some z) ≡ Ok z
 ranged_only low high z above below = rw (not_less z low above, not_less high z below) refl
 
-pub from_found : (low high : ℤ) → IsWithin low high → (t : List ℕ) (z : ℤ) → in_range low high (integer_of t) ≡ Ok z → IsNumberFrom low high t z
+pub from_found : (low high : ℤ) → IsWithin low high → (t : List ℕ) (z : ℤ) → number_in low high t ≡ Ok z → IsNumberFrom low high t z
 from_found low high within t z e =
     let said = ranged_found low high (integer_of t) z e in
     (number_found t z said.0 (small_within low high z within said.1 said.2), said.1, said.2)
 
-pub from_only : (low high : ℤ) → IsWithin low high → (t : List ℕ) (z : ℤ) → IsNumberFrom low high t z → in_range low high (integer_of t) ≡ Ok z
+pub from_only : (low high : ℤ) → IsWithin low high → (t : List ℕ) (z : ℤ) → IsNumberFrom low high t z → number_in low high t ≡ Ok z
 from_only low high within t z is = rw (number_only t z is.0 (small_within low high z within is.1 is.2)) (ranged_only low high z is.1 is.2)
 
-pub reads_number : (low high : ℤ) → IsWithin low high → Reads (number_at low high) (IsNumberFrom low high)
+pub reads_number : (low high : ℤ) → IsWithin low high → Reads (number_in low high) (IsNumberFrom low high)
 reads_number low high within = record {
-  missing = λ z e. none z e;
   found = from_found low high within;
   only = λ t z is. rw (word_trimmed t (number_word t z is.0)) (from_only low high within t z is);
   bytes = λ t z is. word_operand t (number_word t z is.0);
 }
+
+natural_within : (most : ℕ) → most < 2 ^ 32 → IsWithin (pos 0) (pos most)
+natural_within most small = record { above = omega (arith, ints); below = omega (arith, ints) }
+
+natural_found : (most : ℕ) → most < 2 ^ 32 → (t : List ℕ) (n : ℕ) → natural_in most t ≡ Ok n → IsNumberUpTo most t n
+natural_found most small t n e =
+    let said = bind_ok (number_in (pos 0) (pos most) t) (λ z. Ok (unsigned_abs z)) n e in
+    natural said.0 (from_found (pos 0) (pos most) (natural_within most small) t said.0 said.1) (ok_is AsmFault (unsigned_abs said.0) n said.2)
   where
-    none : (z : ℤ) → number_at low high None ≡ Ok z → ⊥
-    none z e = cc
+    natural : (z : ℤ) → IsNumberFrom (pos 0) (pos most) t z → unsigned_abs z ≡ n → IsNumberUpTo most t n
+    natural (pos m) is same = (subst (λ (k : ℕ). IsNumber t (pos k)) same is.0, omega (arith, ints, is.2))
+    natural (negsuc m) is same = absurd (omega (arith, ints, is.1))
 
-natural_found : (most : ℕ) → most < 2 ^ 32 → (t : List ℕ) (n : ℕ) → natural_at most (Some t) ≡ Ok n → IsNumberUpTo most t n
-natural_found most small t n e = go (integer_of t) refl e
-  where
-    go : (o : Option ℤ) → integer_of t ≡ o → up_to most o ≡ Ok n → IsNumberUpTo most t n
-    go None none f = absurd cc
-    go (Some (pos m)) is f = (
-        let passed = guard_ok (int_lt (pos m) (pos 0) || int_lt (pos most) (pos m)) OutOfRange m n f in
-        let tests = or_parts (int_lt (pos m) (pos 0)) (int_lt (pos most) (pos m)) passed.0 in
-        let below : m ≤ most = omega (arith, ints, tests.1) in
-        let number : IsNumber t (pos m) = number_found t (pos m) is (omega arith) in
-        (subst (λ (k : ℕ). IsNumber t (pos k)) passed.1 number, subst (λ (k : ℕ). k ≤ most) passed.1 below))
-    go (Some (negsuc m)) is f = absurd cc
+natural_only : (most : ℕ) → most < 2 ^ 32 → (t : List ℕ) (n : ℕ) → IsNumberUpTo most t n → natural_in most t ≡ Ok n
+natural_only most small t n is = rw (from_only (pos 0) (pos most) (natural_within most small) t (pos n) (is.0, omega (arith, ints), omega (arith, ints, is.1))) refl
 
-natural_only : (most : ℕ) → most < 2 ^ 32 → (t : List ℕ) (n : ℕ) → IsNumberUpTo most t n → natural_at most (Some t) ≡ Ok n
-natural_only most small t n is = rw (number_only t (pos n) is.0 (omega (arith, is.1)), not_less (pos n) (pos 0) (omega (arith, ints)), not_less (pos most) (pos n) (omega (arith, ints, is.1))) refl
-
-pub reads_natural : (most : ℕ) → most < 2 ^ 32 → Reads (natural_at most) (IsNumberUpTo most)
+pub reads_natural : (most : ℕ) → most < 2 ^ 32 → Reads (natural_in most) (IsNumberUpTo most)
 reads_natural most small = record {
-  missing = λ n e. none n e;
   found = natural_found most small;
   only = λ t n is. rw (word_trimmed t (number_word t (pos n) is.0)) (natural_only most small t n is);
   bytes = λ t n is. word_operand t (number_word t (pos n) is.0);
 }
-  where
-    none : (n : ℕ) → natural_at most None ≡ Ok n → ⊥
-    none n e = cc

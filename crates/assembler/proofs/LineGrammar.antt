@@ -7,7 +7,7 @@ use Rattle.texts.proofs.ResultLaws.{ok_is}
 use Rattle.assembler.specs.declared.faults.AsmFault.{AsmFault}
 use Rattle.assembler.specs.Names.{is_name}
 use Rattle.assembler.specs.Statements.{Made}
-use Rattle.assembler.specs.Lines.{code_of, name_before, label_of, behind_label, statement_text, made_in}
+use Rattle.assembler.specs.Lines.{code_of, label_and_rest, parts_of, label_of, statement_text, made_in}
 use Rattle.assembler.specs.Drafts.{Line}
 use Rattle.assembler.specs.Grammar.{IsBody, IsCode, IsLine}
 use Rattle.assembler.specs.Grammar.IsCode.{bare, labelled}
@@ -21,19 +21,13 @@ use Rattle.texts.specs.Pieces.{is_blank}
 
 -- ---- the parts of what stands before a comment
 
-abbrev label_in : List ℕ → Option (List ℕ)
-label_in text = name_before (without_front (before (is_byte 58) text)) (after (is_byte 58) text)
-
-abbrev body_in : List ℕ → List ℕ
-body_in text = behind_label text (without_front (before (is_byte 58) text)) (after (is_byte 58) text)
-
 abbrev line_with : Option (List ℕ) → Option Made → Line
 line_with label made = record { label = label; made = made }
 
-code_found : (text : List ℕ) (made : Option Made) → made_in (trimmed (body_in text)) ≡ Ok made → IsCode text (line_with (label_in text) made)
+code_found : (text : List ℕ) (made : Option Made) → made_in (trimmed (parts_of text).1) ≡ Ok made → IsCode text (line_with (parts_of text).0 made)
 code_found text made e = go (after (is_byte 58) text) refl e
   where
-    go : (o : Option (List ℕ)) → after (is_byte 58) text ≡ o → made_in (trimmed (behind_label text (without_front (before (is_byte 58) text)) o)) ≡ Ok made → IsCode text (line_with (name_before (without_front (before (is_byte 58) text)) o) made)
+    go : (o : Option (List ℕ)) → after (is_byte 58) text ≡ o → made_in (trimmed (label_and_rest text (without_front (before (is_byte 58) text)) o).1) ≡ Ok made → IsCode text (line_with (label_and_rest text (without_front (before (is_byte 58) text)) o).0 made)
     go None none f = bare text made (body_found text made f)
     go (Some rest) cut f = elim (cases_Bool (is_name (without_front (before (is_byte 58) text)))) [
       | inl name ↦ (
@@ -48,8 +42,8 @@ code_found text made e = go (after (is_byte 58) text) refl e
     ]
 
 record Parts (text : List ℕ) (line : Line) : Type 0 where
-  label : label_in text ≡ line.label
-  made : made_in (trimmed (body_in text)) ≡ Ok line.made
+  label : (parts_of text).0 ≡ line.label
+  made : made_in (trimmed (parts_of text).1) ≡ Ok line.made
 
 no_byte : (byte : ℕ) → is_code_byte byte ≡ false → (text : List ℕ) → list_all is_code_byte text ≡ true → NonePass (is_byte byte) text
 no_byte byte fails text h = none_of_all is_code_byte (is_byte byte) (not_this is_code_byte byte fails) text h
@@ -89,9 +83,9 @@ pub line_found : (text : List ℕ) (made : Option Made) → made_in (statement_t
 unfolding label_of statement_text
 line_found text made e = go (after (is_byte 35) text) refl (code_found (code_of text) made e)
   where
-    go : (o : Option (List ℕ)) → after (is_byte 35) text ≡ o → IsCode (code_of text) (line_with (label_in (code_of text)) made) → IsLine text (line_with (label_in (code_of text)) made)
-    go None none is = subst (λ (t : List ℕ). IsLine t (line_with (label_in (code_of text)) made)) (uncut (is_byte 35) text none) (code (code_of text) (line_with (label_in (code_of text)) made) is)
-    go (Some comment) cut is = subst (λ (t : List ℕ). IsLine t (line_with (label_in (code_of text)) made)) (sym (cut_byte 35 text comment cut)) (commented (code_of text) comment (line_with (label_in (code_of text)) made) is)
+    go : (o : Option (List ℕ)) → after (is_byte 35) text ≡ o → IsCode (code_of text) (line_with (parts_of (code_of text)).0 made) → IsLine text (line_with (parts_of (code_of text)).0 made)
+    go None none is = subst (λ (t : List ℕ). IsLine t (line_with (parts_of (code_of text)).0 made)) (uncut (is_byte 35) text none) (code (code_of text) (line_with (parts_of (code_of text)).0 made) is)
+    go (Some comment) cut is = subst (λ (t : List ℕ). IsLine t (line_with (parts_of (code_of text)).0 made)) (sym (cut_byte 35 text comment cut)) (commented (code_of text) comment (line_with (parts_of (code_of text)).0 made) is)
 
 pub record Reading (text : List ℕ) (line : Line) : Type 0 where
   pub label : label_of text ≡ line.label
@@ -102,8 +96,8 @@ unfolding label_of statement_text
 reading text inner line same is =
     let p = parts inner line is in
     record {
-      label = ap label_in same ∙ p.label;
-      made = ap (λ t. made_in (trimmed (body_in t))) same ∙ p.made;
+      label = ap (λ t. (parts_of t).0) same ∙ p.label;
+      made = ap (λ t. made_in (trimmed (parts_of t).1)) same ∙ p.made;
     }
 
 pub line_only : (text : List ℕ) (line : Line) → IsLine text line → Reading text line

@@ -13,8 +13,7 @@ use Rattle.texts.proofs.ResultLaws.{ok_is, bind_ok}
 use Rattle.rv_decode.specs.declared.instruction.Instr.{Instr}
 use Rattle.rv_decode.specs.declared.instruction.Instr.TheVariants as instr
 use Rattle.assembler.specs.declared.faults.AsmFault.{AsmFault}
-use Rattle.assembler.specs.declared.faults.AsmError.{AsmError}
-use Rattle.assembler.specs.Faults.{Refusal, refusal_of}
+use Rattle.assembler.specs.Faults.{Refusal}
 use Rattle.rv_decode.specs.Meaning.{meaning}
 use Rattle.rv_decode.proofs.Meanings.{meaning_iff}
 use Rattle.assembler.specs.Operands.{bytes, is_reached, IsReached}
@@ -324,27 +323,27 @@ Words = Vec ℕ Global
 abbrev meanings : Words → List (Option Instr)
 meanings words = map meaning words.items
 
-pub found_program : (text : List ℕ) (result : Result Words AsmError) → Gives refusal_of meanings result (assembled text) → IfOk result (λ words. (instrs : List Instr) × IsProgram text instrs × AreWordsOf words.items instrs)
-found_program text (Ok words) e = let made = program_found text (meanings words) e in (made.instrs, made.is, words_of_instrs words.items made.instrs made.same)
-found_program text (Err error) e = tt
+pub found_program : {E : Type 0} (refusal_of : E → Option Refusal) (text : List ℕ) (result : Result Words E) → Gives refusal_of meanings result (assembled text) → IfOk result (λ words. (instrs : List Instr) × IsProgram text instrs × AreWordsOf words.items instrs)
+found_program refusal_of text (Ok words) e = let made = program_found text (meanings words) e in (made.instrs, made.is, words_of_instrs words.items made.instrs made.same)
+found_program refusal_of text (Err error) e = tt
 
-pub only_program : (text : List ℕ) (instrs : List Instr) (result : Result Words AsmError) → Gives refusal_of meanings result (assembled text) → IsProgram text instrs → Gives refusal_of meanings result (Ok (map some_instr instrs))
-only_program text instrs result e is = subst (λ (answer : Result (List (Option Instr)) Refusal). Gives refusal_of meanings result answer) (program_only text instrs is) e
+pub only_program : {E : Type 0} (refusal_of : E → Option Refusal) (text : List ℕ) (instrs : List Instr) (result : Result Words E) → Gives refusal_of meanings result (assembled text) → IsProgram text instrs → Gives refusal_of meanings result (Ok (map some_instr instrs))
+only_program refusal_of text instrs result e is = subst (λ (answer : Result (List (Option Instr)) Refusal). Gives refusal_of meanings result answer) (program_only text instrs is) e
 
 -- ---- a draft's line and its end
 
-pub found_line : {X : Type 0} (above new : List Line) (text : List ℕ) (result : Result X AsmError) → Gives refusal_of (λ x. new) result (told above text) → OnOk result ((more : Line) × IsLine text more × IsFresh above more × (new ≡ above ++ more ∷ []))
-found_line above new text (Ok x) e = let first = told_found above text new e in (first.line, first.is, first.apart, first.whole)
-found_line above new text (Err error) e = tt
+pub found_line : {X E : Type 0} (refusal_of : E → Option Refusal) (above new : List Line) (text : List ℕ) (result : Result X E) → Gives refusal_of (λ x. new) result (told above text) → OnOk result ((more : Line) × IsLine text more × IsFresh above more × (new ≡ above ++ more ∷ []))
+found_line refusal_of above new text (Ok x) e = let first = told_found above text new e in (first.line, first.is, first.apart, first.whole)
+found_line refusal_of above new text (Err error) e = tt
 
-pub only_line : {X : Type 0} (above new : List Line) (text : List ℕ) (result : Result X AsmError) → Gives refusal_of (λ x. new) result (told above text) → (more : Line) → IsLine text more → IsFresh above more → Gives refusal_of (λ x. new) result (Ok (above ++ more ∷ []))
-only_line above new text result e more is fresh = subst (λ (answer : Result (List Line) Refusal). Gives refusal_of (λ x. new) result answer) (told_only above text more is fresh) e
+pub only_line : {X E : Type 0} (refusal_of : E → Option Refusal) (above new : List Line) (text : List ℕ) (result : Result X E) → Gives refusal_of (λ x. new) result (told above text) → (more : Line) → IsLine text more → IsFresh above more → Gives refusal_of (λ x. new) result (Ok (above ++ more ∷ []))
+only_line refusal_of above new text result e more is fresh = subst (λ (answer : Result (List Line) Refusal). Gives refusal_of (λ x. new) result answer) (told_only above text more is fresh) e
 
-pub found_instrs : (all : List Line) (result : Result Words AsmError) → EachOnce all → Gives refusal_of meanings result (finished all) → IfOk result (λ words. (instrs : List Instr) × AreInstrs all instrs × AreWordsOf words.items instrs)
-found_instrs all (Ok words) once e =
+pub found_instrs : {E : Type 0} (refusal_of : E → Option Refusal) (all : List Line) (result : Result Words E) → EachOnce all → Gives refusal_of meanings result (finished all) → IfOk result (λ words. (instrs : List Instr) × AreInstrs all instrs × AreWordsOf words.items instrs)
+found_instrs refusal_of all (Ok words) once e =
     let answer = finished_found all (meanings words) e in
     (answer.instrs, record { once = once; few = answer.few; placed = answer.placed }, words_of_instrs words.items answer.instrs answer.same)
-found_instrs all (Err error) once e = tt
+found_instrs refusal_of all (Err error) once e = tt
 
-pub only_instrs : (all : List Line) (instrs : List Instr) (result : Result Words AsmError) → Gives refusal_of meanings result (finished all) → AreInstrs all instrs → Gives refusal_of meanings result (Ok (map some_instr instrs))
-only_instrs all instrs result e are = subst (λ (answer : Result (List (Option Instr)) Refusal). Gives refusal_of meanings result answer) (finished_only all instrs are) e
+pub only_instrs : {E : Type 0} (refusal_of : E → Option Refusal) (all : List Line) (instrs : List Instr) (result : Result Words E) → Gives refusal_of meanings result (finished all) → AreInstrs all instrs → Gives refusal_of meanings result (Ok (map some_instr instrs))
+only_instrs refusal_of all instrs result e are = subst (λ (answer : Result (List (Option Instr)) Refusal). Gives refusal_of meanings result answer) (finished_only all instrs are) e

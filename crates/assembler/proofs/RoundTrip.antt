@@ -1,11 +1,11 @@
 -- The text of an instruction is assembled to it again.
-use Rattle.std.proofs.Common.{◌≡◌, ℕ, ◌^◌, ◌<◌, Bool, true, false, not, ◌&&◌, List, [], ◌∷◌, ◌++◌, length, Some, None, Ok, refl, ◌∙◌, arith, ℤ}
+use Rattle.std.proofs.Common.{◌≡◌, ℕ, ◌^◌, ◌<◌, ◌≤◌, Bool, true, false, not, ◌&&◌, List, [], ◌∷◌, ◌++◌, length, Some, None, Ok, refl, ap, subst, ◌∙◌, arith, ℤ, pos}
 use Rattle.std.specs.Prelude.{nat_lt, codes}
 use Rattle.std.proofs.lemmas.Int.{ints}
 use Rattle.rv_decode.specs.Fits.{Fits, IsSigned}
 use Rattle.std.specs.List.{list_all}
 use Rattle.std.specs.Fmt.{decimal, signed_decimal}
-use Rattle.std.proofs.lemmas.Bool.{ne_eqb, ltb-true, and_parts}
+use Rattle.std.proofs.lemmas.Bool.{ne_eqb, ltb-true, and_parts, not-true}
 use Rattle.std.proofs.lemmas.Fmt.{decimal_nonempty}
 use Rattle.texts.specs.Pieces.{is_blank}
 use Rattle.rv_decode.specs.declared.instruction.Reg.{Reg}
@@ -13,17 +13,21 @@ use Rattle.rv_decode.specs.declared.instruction.Instr.{Instr}
 use Rattle.rv_decode.specs.declared.instruction.Instr.TheVariants as instr
 use Rattle.assembler.specs.declared.form.Form.{Form}
 use Rattle.assembler.specs.declared.form.Form.TheVariants as form
-use Rattle.texts.specs.Cutting.{is_byte, trimmed, NonePass}
+use Rattle.texts.specs.Cutting.{before, is_byte, without_front, trimmed, NonePass}
 use Rattle.assembler.specs.Mnemonics.{form_named}
-use Rattle.assembler.specs.Statements.{one, statement_of}
-use Rattle.assembler.specs.Lines.{label_of, statement_text, made_in, made_for, between_commas, some_text}
+use Rattle.assembler.specs.Operands.{bytes, Kind, register, upper, amount, short, address, pointer, near, far, set, Value, value_in}
+use Rattle.assembler.specs.Statements.{one, row, statement_of}
+use Rattle.assembler.specs.Spelled.{IsSpelled}
+use Rattle.assembler.specs.Lines.{label_and_rest, parts_of, label_of, statement_text, made_in, made_for, between_commas, some_text}
 use Rattle.assembler.specs.Drafts.{assembled, told, line_below, finished}
 use Rattle.assembler.specs.Writing.{register_text, address_text, set_text, branch_name, load_name, store_name, immediate_name, shift_name, register_name, amo_name, order_name, with_two, with_three, text_of}
 use Rattle.texts.proofs.CuttingLaws.{none-append, before_none, after_none, before_stop, after_stop, one_line, decimal_none, not_byte, not_low_byte, digit_no_blank}
 use Rattle.texts.proofs.TrimLaws.{stripped_none, stripped_ends}
 use Rattle.assembler.proofs.Commas.{IsOperand, two_between, three_between}
 use Rattle.assembler.proofs.Named.{is_plain, is_word, IsNameOf, branch_named, load_named, store_named, immediate_named, shift_named, register_named, amo_named}
-use Rattle.assembler.proofs.ReadAgain.{all_below, below_all, register_read, short_read, natural_read, signed_none, signed_some, base_read, offset_read, bare_base_read, bare_offset_read, set_read, target_read_12, target_read_20}
+use Rattle.assembler.proofs.Rows.{all_below, below_all}
+use Rattle.assembler.proofs.OperandTable.{reads_kind}
+use Rattle.assembler.proofs.ReadAgain.{register_spelled, set_spelled, signed_spelled, short_spelled, natural_spelled, address_spelled, pointer_spelled, signed_none, signed_some}
 
 -- a text that parts no line
 pub record IsWord (xs : List ℕ) : Type 0 where
@@ -90,7 +94,12 @@ made_text name ops h k =
 assembled_one : (text : List ℕ) (i : Instr) → 0 < length text → NonePass (is_byte 10) text → NonePass (is_byte 35) text → NonePass (is_byte 58) text → trimmed text ≡ text → made_in text ≡ Ok (Some (one i)) → assembled text ≡ Ok (Some i ∷ [])
 unfolding assembled told line_below label_of statement_text finished
 assembled_one text i some feeds hashes colons same made =
-    rw (one_line text some feeds, before_none (is_byte 35) text hashes, after_none (is_byte 58) text colons, same, made) refl
+    let code = before_none (is_byte 35) text hashes in
+    let uncut = after_none (is_byte 58) text colons in
+    let front = without_front (before (is_byte 58) text) in
+    let label : label_of text ≡ None = ap (λ t. (parts_of t).0) code ∙ ap (λ o. (label_and_rest text front o).0) uncut in
+    let rest : statement_text text ≡ text = ap (λ t. trimmed (parts_of t).1) code ∙ (ap (λ o. trimmed (label_and_rest text front o).1) uncut ∙ same) in
+    rw (one_line text some feeds, label, rest, made) refl
 
 assembled_text : (name ops : List ℕ) (i : Instr) → IsWord name → IsWord ops → made_for (form_named name) (between_commas (Some ops)) ≡ Ok (Some (one i)) → assembled (name ++ 32 ∷ ops) ≡ Ok (Some i ∷ [])
 assembled_text name ops i h k made = assembled_one (name ++ 32 ∷ ops) i (long name)
@@ -108,16 +117,12 @@ not_split : (a b : Bool) → (not a && b) ≡ true → (a ≡ false) × (b ≡ t
 not_split true b e = absurd cc
 not_split false b e = (refl, e)
 
-not_last : (a : Bool) → not a ≡ true → a ≡ false
-not_last true e = absurd cc
-not_last false e = refl
-
 plain_split : (c : ℕ) → is_plain c ≡ true → (is_blank c ≡ false) × (is_byte 10 c ≡ false) × (is_byte 35 c ≡ false) × (is_byte 58 c ≡ false)
 plain_split c e =
     let first = not_split (is_blank c) (not (is_byte 10 c) && (not (is_byte 35 c) && not (is_byte 58 c))) e in
     let second = not_split (is_byte 10 c) (not (is_byte 35 c) && not (is_byte 58 c)) first.1 in
     let third = not_split (is_byte 35 c) (not (is_byte 58 c)) second.1 in
-    (first.0, second.0, third.0, not_last (is_byte 58 c) third.1)
+    (first.0, second.0, third.0, not-true (is_byte 58 c) third.1)
 
 plain_none : (xs : List ℕ) → list_all is_plain xs ≡ true → NonePass is_blank xs × NonePass (is_byte 10) xs × NonePass (is_byte 35) xs × NonePass (is_byte 58) xs
 plain_none [] e = (tt, tt, tt, tt)
@@ -136,12 +141,12 @@ word_of_test xs e =
 comma_between : (xs ys : List ℕ) → IsWord xs → IsWord ys → IsWord (xs ++ 44 ∷ ys)
 comma_between xs ys h k = word-append xs (44 ∷ ys) h (word-append (44 ∷ []) ys comma_word k)
 
-made_three : (name : List ℕ) (f : Form) (a b c : List ℕ) (i : Instr) → IsNameOf name f → IsWord a → IsWord b → IsWord c → IsOperand a → IsOperand b → IsOperand c → statement_of f (Some a) (Some b) (Some c) None ≡ Ok (one i) → assembled (with_three name a b c) ≡ Ok (Some i ∷ [])
+made_three : (name : List ℕ) (f : Form) (a b c : List ℕ) (i : Instr) → IsNameOf name f → IsWord a → IsWord b → IsWord c → IsOperand a → IsOperand b → IsOperand c → statement_of f (a ∷ b ∷ c ∷ []) ≡ Ok (one i) → assembled (with_three name a b c) ≡ Ok (Some i ∷ [])
 made_three name f a b c i named wa wb wc h k m e =
     assembled_text name (a ++ 44 ∷ (b ++ 44 ∷ c)) i (word_of_test name named.0) (comma_between a (b ++ 44 ∷ c) wa (comma_between b c wb wc))
     (rw (named.1, three_between a b c h k m, e) refl)
 
-made_two : (name : List ℕ) (f : Form) (a b : List ℕ) (i : Instr) → IsNameOf name f → IsWord a → IsWord b → IsOperand a → IsOperand b → statement_of f (Some a) (Some b) None None ≡ Ok (one i) → assembled (with_two name a b) ≡ Ok (Some i ∷ [])
+made_two : (name : List ℕ) (f : Form) (a b : List ℕ) (i : Instr) → IsNameOf name f → IsWord a → IsWord b → IsOperand a → IsOperand b → statement_of f (a ∷ b ∷ []) ≡ Ok (one i) → assembled (with_two name a b) ≡ Ok (Some i ∷ [])
 made_two name f a b i named wa wb h k e =
     assembled_text name (a ++ 44 ∷ b) i (word_of_test name named.0) (comma_between a b wa wb)
     (rw (named.1, two_between a b h k, e) refl)
@@ -213,7 +218,7 @@ branch_wide z h = (omega (arith, ints), omega (arith, ints))
 jump_wide : (z : ℤ) → IsSigned 20 z → IsSigned 31 z
 jump_wide z h = (omega (arith, ints), omega (arith, ints))
 
-alone_read : (name : List ℕ) (f : Form) (i : Instr) → IsNameOf name f → statement_of f None None None None ≡ Ok (one i) → assembled name ≡ Ok (Some i ∷ [])
+alone_read : (name : List ℕ) (f : Form) (i : Instr) → IsNameOf name f → statement_of f [] ≡ Ok (one i) → assembled name ≡ Ok (Some i ∷ [])
 unfolding made_in
 alone_read name f i named e =
     let h = word_of_test name named.0 in
@@ -221,42 +226,59 @@ alone_read name f i named e =
     assembled_one name i h.some h.feeds h.hashes h.colons (stripped_none is_blank name h.blanks)
     (rw (ne_eqb (length name) 0 (omega arith), before_none is_blank name h.blanks, after_none is_blank name h.blanks, named.1, e) refl)
 
+-- ---- operands, read again
+
+read : (kind : Kind) (text : List ℕ) (x : Value kind) → IsWord text → IsSpelled kind text x → value_in kind text ≡ Ok x
+read kind text x h is = subst (λ (t : List ℕ). value_in kind t ≡ Ok x) (stripped_none is_blank text h.blanks) ((reads_kind kind).only text x is)
+
+register_read : (r : Reg) → value_in register (register_text r) ≡ Ok r
+register_read r = read register (register_text r) r (register_word r) (register_spelled r)
+
+set_read : (n : ℕ) → n < 16 → value_in set (set_text n) ≡ Ok n
+set_read n lt = read set (set_text n) n (set_word n lt) (set_spelled n lt)
+
+upper_read : (n : ℕ) → n ≤ 1048575 → value_in upper (decimal n) ≡ Ok n
+upper_read n le = read upper (decimal n) n (decimal_word n (omega arith)) (natural_spelled 1048575 n le (omega arith))
+
+address_read : (z : ℤ) (r : Reg) → IsSigned 11 z → value_in address (address_text z r) ≡ Ok (r, z)
+address_read z r fits = read address (address_text z r) (r, z) (address_word z r (short_wide z fits)) (address_spelled z r fits (short_wide z fits))
+
 -- the text of an instruction that has a word is assembled to it
 pub read_again : (i : Instr) → Fits i → assembled (text_of i) ≡ Ok (Some i ∷ [])
-unfolding text_of statement_of form_named
+unfolding text_of row form_named
 read_again (instr.Lui rd n) fits =
     made_two (codes "lui") form.Lui (register_text rd) (decimal n) (instr.Lui rd n) (refl, refl) (register_word rd) (decimal_word n (omega arith)) (register_operand rd) (decimal_operand n (omega arith))
-    (rw (register_read rd, natural_read 1048575 n (omega arith) (omega arith)) refl)
+    (rw (register_read rd, upper_read n (omega arith)) refl)
 read_again (instr.Auipc rd n) fits =
     made_two (codes "auipc") form.Auipc (register_text rd) (decimal n) (instr.Auipc rd n) (refl, refl) (register_word rd) (decimal_word n (omega arith)) (register_operand rd) (decimal_operand n (omega arith))
-    (rw (register_read rd, natural_read 1048575 n (omega arith) (omega arith)) refl)
+    (rw (register_read rd, upper_read n (omega arith)) refl)
 read_again (instr.Jal rd z) fits =
     let wide = jump_wide z fits.0 in
     made_two (codes "jal") form.Jal (register_text rd) (signed_decimal z) (instr.Jal rd z) (refl, refl) (register_word rd) (signed_word z wide) (register_operand rd) (signed_operand z wide)
-    (rw (register_read rd, target_read_20 z fits.0 fits.1 wide) refl)
+    (rw (register_read rd, read far (signed_decimal z) (bytes z) (signed_word z wide) (signed_spelled z wide, fits.0.0, fits.0.1, fits.1)) refl)
 read_again (instr.Jalr rd rs1 z) fits =
     let wide = short_wide z fits in
     made_two (codes "jalr") form.Jalr (register_text rd) (address_text z rs1) (instr.Jalr rd rs1 z) (refl, refl) (register_word rd) (address_word z rs1 wide) (register_operand rd) (address_operand z rs1 wide)
-    (rw (register_read rd, base_read z rs1 wide, offset_read z rs1 fits wide) refl)
+    (rw (register_read rd, address_read z rs1 fits) refl)
 read_again (instr.Branch op rs1 rs2 z) fits =
     let wide = branch_wide z fits.0 in
     made_three (branch_name op) (form.Branch op) (register_text rs1) (register_text rs2) (signed_decimal z) (instr.Branch op rs1 rs2 z) (branch_named op) (register_word rs1) (register_word rs2) (signed_word z wide) (register_operand rs1) (register_operand rs2) (signed_operand z wide)
-    (rw (register_read rs1, register_read rs2, target_read_12 z fits.0 fits.1 wide) refl)
+    (rw (register_read rs1, register_read rs2, read near (signed_decimal z) (bytes z) (signed_word z wide) (signed_spelled z wide, fits.0.0, fits.0.1, fits.1)) refl)
 read_again (instr.Load op rd rs1 z) fits =
     let wide = short_wide z fits in
     made_two (load_name op) (form.Load op) (register_text rd) (address_text z rs1) (instr.Load op rd rs1 z) (load_named op) (register_word rd) (address_word z rs1 wide) (register_operand rd) (address_operand z rs1 wide)
-    (rw (register_read rd, base_read z rs1 wide, offset_read z rs1 fits wide) refl)
+    (rw (register_read rd, address_read z rs1 fits) refl)
 read_again (instr.Store op rs1 rs2 z) fits =
     let wide = short_wide z fits in
     made_two (store_name op) (form.Store op) (register_text rs2) (address_text z rs1) (instr.Store op rs1 rs2 z) (store_named op) (register_word rs2) (address_word z rs1 wide) (register_operand rs2) (address_operand z rs1 wide)
-    (rw (register_read rs2, base_read z rs1 wide, offset_read z rs1 fits wide) refl)
+    (rw (register_read rs2, address_read z rs1 fits) refl)
 read_again (instr.Immediate op rd rs1 z) fits =
     let wide = short_wide z fits in
     made_three (immediate_name op) (form.Immediate op) (register_text rd) (register_text rs1) (signed_decimal z) (instr.Immediate op rd rs1 z) (immediate_named op) (register_word rd) (register_word rs1) (signed_word z wide) (register_operand rd) (register_operand rs1) (signed_operand z wide)
-    (rw (register_read rd, register_read rs1, short_read z fits) refl)
+    (rw (register_read rd, register_read rs1, read short (signed_decimal z) z (signed_word z wide) (short_spelled z fits wide)) refl)
 read_again (instr.Shift op rd rs1 n) fits =
     made_three (shift_name op) (form.Shift op) (register_text rd) (register_text rs1) (decimal n) (instr.Shift op rd rs1 n) (shift_named op) (register_word rd) (register_word rs1) (decimal_word n (omega arith)) (register_operand rd) (register_operand rs1) (decimal_operand n (omega arith))
-    (rw (register_read rd, register_read rs1, natural_read 31 n (omega arith) (omega arith)) refl)
+    (rw (register_read rd, register_read rs1, read amount (decimal n) n (decimal_word n (omega arith)) (natural_spelled 31 n (omega arith) (omega arith))) refl)
 read_again (instr.Register op rd rs1 rs2) fits =
     made_three (register_name op) (form.Register op) (register_text rd) (register_text rs1) (register_text rs2) (instr.Register op rd rs1 rs2) (register_named op) (register_word rd) (register_word rs1) (register_word rs2) (register_operand rd) (register_operand rs1) (register_operand rs2)
     (rw (register_read rd, register_read rs1, register_read rs2) refl)
@@ -268,4 +290,4 @@ read_again instr.Ecall fits = alone_read (codes "ecall") form.Ecall instr.Ecall 
 read_again instr.Ebreak fits = alone_read (codes "ebreak") form.Ebreak instr.Ebreak (refl, refl) refl
 read_again (instr.Amo op rd rs1 rs2 aq rl) fits =
     made_three (amo_name op ++ order_name aq rl) (form.Amo op aq rl) (register_text rd) (register_text rs2) (40 ∷ (register_text rs1 ++ 41 ∷ [])) (instr.Amo op rd rs1 rs2 aq rl) (amo_named op aq rl) (register_word rd) (register_word rs2) (base_word rs1) (register_operand rd) (register_operand rs2) (base_operand rs1)
-    (rw (register_read rd, register_read rs2, bare_base_read rs1, bare_offset_read rs1) refl)
+    (rw (register_read rd, register_read rs2, read pointer (40 ∷ (register_text rs1 ++ 41 ∷ [])) (rs1, pos 0) (base_word rs1) (pointer_spelled rs1)) refl)

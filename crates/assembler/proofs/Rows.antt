@@ -2,7 +2,7 @@
 use Rattle.std.proofs.Common.{◌≡◌, ℕ, zero, suc, ◌<◌, Bool, true, false, not, ◌&&◌, List, [], ◌∷◌, length, get_or, Option, Some, refl, sym, ap, subst, ◌∙◌, inl, inr, arith}
 use Rattle.std.specs.List.{Contains, list_all}
 use Rattle.std.specs.Str.{bytes_eq}
-use Rattle.std.proofs.lemmas.Bool.{cases_Bool, and_parts, not-true}
+use Rattle.std.proofs.lemmas.Bool.{cases_Bool, cases_lt, and_parts, not-true}
 use Rattle.std.proofs.lemmas.Slice.Eq.{bytes_eq-Decides}
 use Rattle.rv_decode.specs.Tables.{row_of}
 
@@ -61,3 +61,18 @@ all_from p (row ∷ rows) text value (suc k) every lt e = let split = and_parts 
 -- what the name of each row passes, the name that is found passes
 pub all_rows : {V : Type 0} (p : List ℕ → Bool) (rows : List (List ℕ × V)) (text : List ℕ) (value : V) → list_all (λ row. p row.0) rows ≡ true → Contains rows (text, value) → p text ≡ true
 all_rows p rows text value every has = all_from p rows text value has.0 every has.1 has.2
+
+-- ---- a test of each number below another
+
+abbrev pub all_below : ℕ → (ℕ → Bool) → Bool
+all_below zero test = true
+all_below (suc k) test = test k && all_below k test
+
+pub below_all : (k : ℕ) (test : ℕ → Bool) → all_below k test ≡ true → (n : ℕ) → n < k → test n ≡ true
+below_all zero test all n lt = absurd (omega arith)
+below_all (suc k) test all n lt =
+    let both = and_parts (test k) (all_below k test) all in
+    elim (cases_lt n k) [
+      | inl less ↦ below_all k test both.1 n less
+      | inr le ↦ (let same : k ≡ n = omega arith in subst (λ (m : ℕ). test m ≡ true) same both.0)
+    ]

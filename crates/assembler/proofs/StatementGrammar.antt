@@ -9,8 +9,8 @@ use Rattle.texts.proofs.ResultLaws.{ok_is, bind_ok}
 use Rattle.assembler.specs.declared.faults.AsmFault.{AsmFault}
 use Rattle.assembler.specs.declared.form.Form.{Form}
 use Rattle.assembler.specs.Mnemonics.{mnemonics, form_named}
-use Rattle.assembler.specs.Statements.{Made}
-use Rattle.assembler.specs.Lines.{operands_of, made_of_list, made_for, made_in}
+use Rattle.assembler.specs.Statements.{Made, statement_of}
+use Rattle.assembler.specs.Lines.{operands_of, made_for, made_in}
 use Rattle.assembler.specs.Spelled.{AreListed}
 use Rattle.assembler.specs.Spelled.AreListed.{last, more}
 use Rattle.assembler.specs.Grammar.{Makes, IsStatement, IsBody}
@@ -43,20 +43,20 @@ mnemonic_some name form has = not-true (eqb (length name) 0) (all_rows (λ text.
 
 -- ---- what is made is a statement
 
-padded_self : (text : List ℕ) → IsPadded text text
+pub padded_self : (text : List ℕ) → IsPadded text text
 padded_self text = ([], [], tt, tt, sym (append-nil text))
 
-for_found : (o : Option Form) (list : List (List ℕ)) (made : Made) → made_for o list ≡ Ok (Some made) → (form : Form) × (o ≡ Some form) × (made_of_list form list ≡ Ok made)
+for_found : (o : Option Form) (list : List (List ℕ)) (made : Made) → made_for o list ≡ Ok (Some made) → (form : Form) × (o ≡ Some form) × (statement_of form list ≡ Ok made)
 for_found None list made e = absurd cc
 for_found (Some form) list made e =
-    let m = bind_ok (made_of_list form list) _ (Some made) e in
+    let m = bind_ok (statement_of form list) _ (Some made) e in
     let f : Some m.0 ≡ Some made = ok_is AsmFault (Some m.0) (Some made) m.2 in
     let same : m.0 ≡ made = cc in
     (form, refl, m.1 ∙ ap Ok same)
 
 for_some : (o : Option Form) (list : List (List ℕ)) → made_for o list ≡ Ok None → ⊥
 for_some None list e = cc
-for_some (Some form) list e = let m = bind_ok (made_of_list form list) _ None e in let f = m.2 in cc
+for_some (Some form) list e = let m = bind_ok (statement_of form list) _ None e in let f = m.2 in cc
 
 -- a statement with blanks round it
 pub record Stated (text : List ℕ) (made : Made) : Type 0 where
@@ -70,7 +70,7 @@ some_operands rest some = rw some (split_trimmed rest)
 no_operands : (rest : List ℕ) → eqb (length (trimmed rest)) 0 ≡ true → operands_of (Some rest) ≡ []
 no_operands rest none = rw none refl
 
-stated : (text : List ℕ) (form : Form) (made : Made) → Contains mnemonics (before is_blank text, form) → (o : Option (List ℕ)) → after is_blank text ≡ o → made_of_list form (operands_of o) ≡ Ok made → Stated text made
+stated : (text : List ℕ) (form : Form) (made : Made) → Contains mnemonics (before is_blank text, form) → (o : Option (List ℕ)) → after is_blank text ≡ o → statement_of form (operands_of o) ≡ Ok made → Stated text made
 stated text form made has None whole e =
     let same : before is_blank text ≡ text = uncut is_blank text whole in
     record { core = text; padded = padded_self text; is = subst (λ (name : List ℕ). IsStatement name made) same (alone (before is_blank text) form made has (found_makes form [] made e)) }
@@ -124,7 +124,7 @@ operands_some text form operands made listed makes blank =
     let split : map trimmed (slice_split comma text) ≡ map trimmed operands = split_listed text operands listed (no_commas operands (makes_bytes form operands made makes)) in
     let none : map trimmed (slice_split comma (trimmed text)) ≡ [] ∷ [] = ap (λ t. map trimmed (slice_split comma t)) blank in
     let one : map trimmed operands ≡ [] ∷ [] = sym split ∙ (sym (split_trimmed text) ∙ none) in
-    makes_of_empty form made (subst (λ (list : List (List ℕ)). made_of_list form list ≡ Ok made) one (only_makes form operands made makes))
+    makes_of_empty form made (subst (λ (list : List (List ℕ)). statement_of form list ≡ Ok made) one (only_makes form operands made makes))
 
 some_length : (xs : List ℕ) → (xs ≡ [] → ⊥) → 0 < length xs
 some_length [] h = absurd (h refl)

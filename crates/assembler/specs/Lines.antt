@@ -1,11 +1,13 @@
 -- A line's parts: what stands before a comment is a label, or none, and a statement, or none.
-use Rattle.std.specs.Prelude.{ℕ, ◌==◌, List, [], ◌∷◌, length, map, Option, Some, None, Result, Ok, Err, if◌then◌else◌}
+use Rattle.std.specs.Prelude.{ℕ, ◌==◌, Bool, true, false, List, [], ◌∷◌, length, map, Option, Some, None, Result, Ok, Err, if◌then◌else◌}
 use Rattle.std.specs.List.{slice_split}
+use Rattle.std.specs.Option.{option_copied}
 use Rattle.texts.specs.Pieces.{is_blank}
 use Rattle.texts.specs.Results.{◌>>=◌}
 use Rattle.assembler.specs.declared.faults.AsmFault.{AsmFault}
 use Rattle.assembler.specs.declared.faults.AsmFault.TheVariants.{UnknownName}
 use Rattle.assembler.specs.declared.form.Form.{Form}
+use Rattle.assembler.specs.declared.statement.Operands.{Operands}
 use Rattle.assembler.specs.declared.statement.Statement.{Statement}
 use Rattle.texts.specs.Cutting.{before, after, is_byte, without_front, trimmed}
 use Rattle.assembler.specs.Names.{is_name}
@@ -16,25 +18,20 @@ use Rattle.assembler.specs.Statements.{Made, statement_of, made_of}
 abbrev pub code_of : List ℕ → List ℕ
 code_of line = before (is_byte 35) line
 
--- what stands before the first `:`, without the blanks at its front
-abbrev pub front_of : List ℕ → List ℕ
-front_of line = without_front (before (is_byte 58) (code_of line))
+abbrev pub label_and_rest : (code front : List ℕ) → Option (List ℕ) → Option (List ℕ) × List ℕ
+label_and_rest code front None = (None, code)
+label_and_rest code front (Some rest) = if is_name front then (Some front, rest) else (None, code)
 
-abbrev pub name_before : List ℕ → Option (List ℕ) → Option (List ℕ)
-name_before front None = None
-name_before front (Some rest) = if is_name front then Some front else None
+-- A label and what is left, where a name stands before the first `:` with no more than blanks in front.
+-- Where none does, all is left.
+abbrev pub parts_of : List ℕ → Option (List ℕ) × List ℕ
+parts_of code = label_and_rest code (without_front (before (is_byte 58) code)) (after (is_byte 58) code)
 
--- the name that a `:` follows, where it is the line's first text
 unfoldable pub label_of : List ℕ → Option (List ℕ)
-label_of line = name_before (front_of line) (after (is_byte 58) (code_of line))
+label_of line = (parts_of (code_of line)).0
 
-abbrev pub behind_label : List ℕ → List ℕ → Option (List ℕ) → List ℕ
-behind_label code front None = code
-behind_label code front (Some rest) = if is_name front then rest else code
-
--- what is left behind the label
 unfoldable pub statement_text : List ℕ → List ℕ
-statement_text line = trimmed (behind_label (code_of line) (front_of line) (after (is_byte 58) (code_of line)))
+statement_text line = trimmed (parts_of (code_of line)).1
 
 -- the texts between commas, without the blanks round them
 abbrev pub between_commas : Option (List ℕ) → List (List ℕ)
@@ -52,21 +49,10 @@ trimmed_text (Some text) = some_text (trimmed text)
 abbrev pub operands_of : Option (List ℕ) → List (List ℕ)
 operands_of rest = between_commas (trimmed_text rest)
 
-abbrev pub first_of : List (List ℕ) → Option (List ℕ)
-first_of [] = None
-first_of (operand ∷ others) = Some operand
-
-abbrev pub rest_of : List (List ℕ) → List (List ℕ)
-rest_of [] = []
-rest_of (operand ∷ others) = others
-
-abbrev pub made_of_list : Form → List (List ℕ) → Result Made AsmFault
-made_of_list form list = statement_of form (first_of list) (first_of (rest_of list)) (first_of (rest_of (rest_of list))) (first_of (rest_of (rest_of (rest_of list))))
-
 abbrev pub made_for : Option Form → List (List ℕ) → Result (Option Made) AsmFault
 made_for None list = Err UnknownName
 made_for (Some form) list = do
-  made ← made_of_list form list
+  made ← statement_of form list
   Ok (Some made)
 
 -- what a statement makes, which is nothing where there is none
@@ -76,3 +62,11 @@ made_in text = if length text == 0 then Ok None else made_for (form_named (befor
 abbrev pub made_by : Option Statement → Option Made
 made_by None = None
 made_by (Some statement) = Some (made_of statement)
+
+-- the operands that the code has not yet read
+abbrev pub left : Operands → List (List ℕ)
+left operands = between_commas (option_copied operands.rest)
+
+abbrev pub is_pair : List (List ℕ) → Bool
+is_pair (first ∷ second ∷ []) = true
+is_pair operands = false

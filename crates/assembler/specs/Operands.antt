@@ -1,11 +1,13 @@
 -- What an operand says, and what is wrong with it where it says nothing that its place asks for.
-use Rattle.std.specs.Prelude.{◌≡◌, ◌≤ℤ◌, ◌<ℤ◌, ℕ, ℤ, pos, neg_ℤ, int_lt, unsigned_abs, ◌==◌, ◌%◌, Bool, ◌&&◌, ◌||◌, not, List, length, Option, Some, None, Result, Ok, Err, if◌then◌else◌}
+use Rattle.std.specs.Prelude.{◌≡◌, ◌≤ℤ◌, ◌<ℤ◌, ℕ, ℤ, pos, negsuc, neg_ℤ, int_lt, unsigned_abs, ◌==◌, ◌%◌, Bool, ◌&&◌, ◌||◌, not, List, length, Option, Some, None, Result, Ok, Err, if◌then◌else◌}
 use Rattle.texts.specs.Cutting.{before, after, is_byte, trimmed}
 use Rattle.texts.specs.Numbers.{integer_of}
+use Rattle.texts.specs.Results.{◌>>=◌}
 use Rattle.rv_decode.specs.Fits.{IsEven}
 use Rattle.rv_decode.specs.declared.instruction.Reg.{Reg}
 use Rattle.assembler.specs.declared.faults.AsmFault.{AsmFault}
 use Rattle.assembler.specs.declared.faults.AsmFault.TheVariants.{UnknownName, BadOperand, OutOfRange}
+use Rattle.assembler.specs.declared.operands.Address.{Address}
 use Rattle.assembler.specs.declared.operands.Place.{Place}
 use Rattle.assembler.specs.declared.operands.Place.TheVariants.{Bytes, Label}
 use Rattle.rv_decode.specs.Registers.{register_named}
@@ -16,11 +18,10 @@ use Rattle.assembler.specs.Names.{is_name}
 
 abbrev pub known_register : Option Reg → Result Reg AsmFault
 known_register None = Err UnknownName
-known_register (Some register) = Ok register
+known_register (Some r) = Ok r
 
-abbrev pub register_at : Option (List ℕ) → Result Reg AsmFault
-register_at None = Err BadOperand
-register_at (Some text) = known_register (register_named text)
+abbrev pub register_in : List ℕ → Result Reg AsmFault
+register_in text = known_register (register_named text)
 
 -- ---- numbers
 
@@ -28,47 +29,42 @@ abbrev pub in_range : ℤ → ℤ → Option ℤ → Result ℤ AsmFault
 in_range low high None = Err BadOperand
 in_range low high (Some n) = if int_lt n low || int_lt high n then Err OutOfRange else Ok n
 
-abbrev pub number_at : ℤ → ℤ → Option (List ℕ) → Result ℤ AsmFault
-number_at low high None = Err BadOperand
-number_at low high (Some text) = in_range low high (integer_of text)
-
-abbrev pub up_to : ℕ → Option ℤ → Result ℕ AsmFault
-up_to most None = Err BadOperand
-up_to most (Some n) = if int_lt n (pos 0) || int_lt (pos most) n then Err OutOfRange else Ok (unsigned_abs n)
+abbrev pub number_in : ℤ → ℤ → List ℕ → Result ℤ AsmFault
+number_in low high text = in_range low high (integer_of text)
 
 -- a number from 0 to the most
-abbrev pub natural_at : ℕ → Option (List ℕ) → Result ℕ AsmFault
-natural_at most None = Err BadOperand
-natural_at most (Some text) = up_to most (integer_of text)
+abbrev pub natural_in : ℕ → List ℕ → Result ℕ AsmFault
+natural_in most text = do
+  n ← number_in (pos 0) (pos most) text
+  Ok (unsigned_abs n)
 
 -- ---- addresses, `n(rs1)`
-
-abbrev pub opens : ℕ → Bool
-opens byte = is_byte 40 byte
-
-abbrev pub closes : ℕ → Bool
-closes byte = is_byte 41 byte
 
 -- nothing may follow the parenthesis that closes
 abbrev pub closed : List ℕ → Option (List ℕ) → Result Reg AsmFault
 closed name None = Err BadOperand
-closed name (Some rest) = if length rest == 0 then known_register (register_named (trimmed name)) else Err BadOperand
+closed name (Some rest) = if length rest == 0 then register_in (trimmed name) else Err BadOperand
 
 abbrev pub opened : Option (List ℕ) → Result Reg AsmFault
 opened None = Err BadOperand
 opened (Some inner) = closed (before (is_byte 41) inner) (after (is_byte 41) inner)
 
-abbrev pub base_at : Option (List ℕ) → Result Reg AsmFault
-base_at None = Err BadOperand
-base_at (Some text) = opened (after (is_byte 40) text)
+abbrev pub base_in : List ℕ → Result Reg AsmFault
+base_in text = opened (after (is_byte 40) text)
 
 -- a number that is left out is 0
 abbrev pub or_zero : ℤ → ℤ → List ℕ → Result ℤ AsmFault
-or_zero low high text = if length text == 0 then Ok (pos 0) else in_range low high (integer_of text)
+or_zero low high text = if length text == 0 then Ok (pos 0) else number_in low high text
 
-abbrev pub offset_at : ℤ → ℤ → Option (List ℕ) → Result ℤ AsmFault
-offset_at low high None = Err BadOperand
-offset_at low high (Some text) = or_zero low high (trimmed (before (is_byte 40) text))
+abbrev pub offset_in : ℤ → ℤ → List ℕ → Result ℤ AsmFault
+offset_in low high text = or_zero low high (trimmed (before (is_byte 40) text))
+
+-- the register, and then the number
+abbrev pub address_in : ℤ → ℤ → List ℕ → Result (Reg × ℤ) AsmFault
+address_in low high text = do
+  rs1 ← base_in text
+  n ← offset_in low high text
+  Ok (rs1, n)
 
 -- ---- targets of jumps and branches
 
@@ -92,31 +88,68 @@ abbrev pub IsReached : ℤ → Target → Type 0
 IsReached bound (bytes n) = (neg_ℤ bound ≤ℤ n) × (n <ℤ bound) × IsEven n
 IsReached bound (label name) = Unit {0}
 
-abbrev pub target_at : ℤ → Option (List ℕ) → Result Target AsmFault
-target_at bound None = Err BadOperand
-target_at bound (Some text) = if is_name text then Ok (label text) else in_reach bound (integer_of text)
+abbrev pub target_in : ℤ → List ℕ → Result Target AsmFault
+target_in bound text = if is_name text then Ok (label text) else in_reach bound (integer_of text)
 
 -- ---- the sets of a fence
 
 abbrev pub known_set : Option ℕ → Result ℕ AsmFault
 known_set None = Err BadOperand
-known_set (Some set) = Ok set
+known_set (Some n) = Ok n
 
-abbrev pub set_at : Option (List ℕ) → Result ℕ AsmFault
-set_at None = Err BadOperand
-set_at (Some text) = known_set (set_named text)
+abbrev pub set_in : List ℕ → Result ℕ AsmFault
+set_in text = known_set (set_named text)
 
--- ---- no operand
+-- ---- the kinds of operands
 
-abbrev pub nothing_at : Option (List ℕ) → Result (Unit {0}) AsmFault
-nothing_at None = Ok tt
-nothing_at (Some text) = Err BadOperand
+-- An operand in the manual's assembly syntax: a register, the 20 bits of `lui`, what a word is shifted
+-- by, a number of 12 bits and its sign, a word in a register, `n(rs1)`, `(rs1)`, where a branch and
+-- where a jump goes, and a fence's set.
+pub data Kind : Type 0 where
+  register : Kind
+  upper : Kind
+  amount : Kind
+  short : Kind
+  word : Kind
+  address : Kind
+  pointer : Kind
+  near : Kind
+  far : Kind
+  set : Kind
+
+-- what it stands for
+abbrev pub Value : Kind → Type 0
+Value register = Reg
+Value upper = ℕ
+Value amount = ℕ
+Value short = ℤ
+Value word = ℤ
+Value address = Reg × ℤ
+Value pointer = Reg × ℤ
+Value near = Target
+Value far = Target
+Value set = ℕ
+
+abbrev pub value_in : (kind : Kind) → List ℕ → Result (Value kind) AsmFault
+value_in register text = register_in text
+value_in upper text = natural_in 1048575 text
+value_in amount text = natural_in 31 text
+value_in short text = number_in (negsuc 2047) (pos 2047) text
+value_in word text = number_in (negsuc 2147483647) (pos 4294967295) text
+value_in address text = address_in (negsuc 2047) (pos 2047) text
+value_in pointer text = address_in (pos 0) (pos 0) text
+value_in near text = target_in (pos 4096) text
+value_in far text = target_in (pos 1048576) text
+value_in set text = set_in text
 
 -- ---- what the code's values stand for
 
 abbrev pub target_of : Place → Target
 target_of (Bytes n) = bytes n
 target_of (Label name) = label name.now
+
+abbrev pub address_of : Address → Reg × ℤ
+address_of at = (at.base, at.offset)
 
 -- what a function returned, seen by view, is the answer
 abbrev pub Tells : {X Y E : Type 0} → (X → Y) → Result X E → Result Y E → Type 0

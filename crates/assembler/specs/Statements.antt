@@ -1,24 +1,23 @@
--- What a statement makes of its operands: a case for each row of the manual's assembly syntax, and for
--- each pseudoinstruction. Operands are judged from the left, and one too many where it is met.
-use Rattle.std.specs.Prelude.{ℕ, ℤ, pos, negsuc, ◌+ℤ◌, ◌-ℤ◌, int_lt, unsigned_abs, ◌==◌, ◌^◌, Bool, ◌&&◌, not, List, Option, Some, None, Result, Ok, if◌then◌else◌}
+-- What a statement makes of its operands: a row for each instruction of the manual's assembly syntax, and
+-- for each pseudoinstruction.
+use Rattle.std.specs.Prelude.{ℕ, zero, suc, ℤ, pos, negsuc, ◌+ℤ◌, ◌-ℤ◌, int_lt, unsigned_abs, ◌==◌, ◌^◌, Bool, ◌&&◌, not, List, [], ◌∷◌, length, Result, Ok, Err, if◌then◌else◌}
 use Rattle.std.specs.Int.{int_rem_euclid, int_div_euclid}
-use Rattle.std.specs.Option.{option_copied}
 use Rattle.texts.specs.Results.{◌>>=◌}
 use Rattle.rv_decode.specs.Fits.{Fits}
 use Rattle.rv_decode.specs.Meaning.{reg_of}
 use Rattle.rv_decode.specs.declared.instruction.Reg.{Reg}
 use Rattle.rv_decode.specs.declared.instruction.BranchOp.{BranchOp}
-use Rattle.rv_decode.specs.declared.instruction.ImmediateOp.TheVariants as immediate
-use Rattle.rv_decode.specs.declared.instruction.RegisterOp.TheVariants as register
+use Rattle.rv_decode.specs.declared.instruction.ImmediateOp.TheVariants as immediate_op
+use Rattle.rv_decode.specs.declared.instruction.RegisterOp.TheVariants as register_op
 use Rattle.rv_decode.specs.declared.instruction.Instr.{Instr}
 use Rattle.rv_decode.specs.declared.instruction.Instr.TheVariants as instr
 use Rattle.assembler.specs.declared.faults.AsmFault.{AsmFault}
+use Rattle.assembler.specs.declared.faults.AsmFault.TheVariants.{BadOperand}
 use Rattle.assembler.specs.declared.form.Form.{Form}
 use Rattle.assembler.specs.declared.form.Form.TheVariants.{Lui, Auipc, Jal, Jalr, Branch, Load, Store, Immediate, Shift, Register, Fence, FenceTso, Ecall, Ebreak, Amo, Nop, Move, Invert, Negate, IsZero, IsNotZero, BranchZero, Jump, Return, LoadImmediate}
-use Rattle.assembler.specs.declared.statement.Operands.{Operands}
 use Rattle.assembler.specs.declared.statement.Statement.{Statement}
 use Rattle.assembler.specs.declared.statement.Statement.TheVariants as statement
-use Rattle.assembler.specs.Operands.{register_at, number_at, natural_at, base_at, offset_at, Target, bytes, label, target_at, set_at, nothing_at}
+use Rattle.assembler.specs.Operands.{Target, bytes, label, Kind, register, upper, amount, short, word, address, pointer, near, far, set, Value, value_in}
 
 -- What a statement makes: an instruction or two, or a jump or a branch to a label.
 pub data Made : Type 0 where
@@ -54,144 +53,92 @@ is_short v = not (int_lt v (negsuc 2047)) && int_lt v (pos 2048)
 abbrev pub loaded : Reg → ℤ → Made
 loaded rd v =
     if is_short v
-    then one (instr.Immediate immediate.Add rd (reg_of 0) v)
+    then one (instr.Immediate immediate_op.Add rd (reg_of 0) v)
     else if unsigned_abs (low_of v) == 0
     then one (instr.Lui rd (high_of v))
-    else two (instr.Lui rd (high_of v)) (instr.Immediate immediate.Add rd rd (low_of v))
+    else two (instr.Lui rd (high_of v)) (instr.Immediate immediate_op.Add rd rd (low_of v))
 
--- `fence` alone orders everything
-abbrev pub fence_of : (a b c : Option (List ℕ)) → Result Made AsmFault
-fence_of None b c = Ok (one (instr.Fence 15 15))
-fence_of (Some first) b c = do
-  pred ← set_at (Some first)
-  succ ← set_at b
-  end ← nothing_at c
-  Ok (one (instr.Fence pred succ))
+-- ---- the table of operands
 
--- `jalr rd,n(rs1)`, and with three operands `jalr rd,rs1,n`
-abbrev pub jalr_of : Reg → (b c d : Option (List ℕ)) → Result Made AsmFault
-jalr_of rd b None d = do
-  rs1 ← base_at b
-  n ← offset_at (negsuc 2047) (pos 2047) b
-  Ok (one (instr.Jalr rd rs1 n))
-jalr_of rd b (Some third) d = do
-  rs1 ← register_at b
-  n ← number_at (negsuc 2047) (pos 2047) (Some third)
-  end ← nothing_at d
-  Ok (one (instr.Jalr rd rs1 n))
+abbrev pub Maker : List Kind → Type 0
+Maker [] = Made
+Maker (kind ∷ kinds) = Value kind → Maker kinds
 
--- an instruction without operands
-abbrev pub alone : Instr → Option (List ℕ) → Result Made AsmFault
-alone i a = do
-  end ← nothing_at a
-  Ok (one i)
+-- A row of the table: operands from the left, and what is made of them.
+pub record Row : Type 0 where
+  pub kinds : List Kind
+  pub make : Maker kinds
 
--- two registers and nothing more
-abbrev pub two_registers : (a b c : Option (List ℕ)) → Result (Reg × Reg) AsmFault
-two_registers a b c = do
-  rd ← register_at a
-  rs ← register_at b
-  end ← nothing_at c
-  Ok (rd, rs)
+abbrev takes : (kinds : List Kind) → Maker kinds → Row
+takes kinds make = record { kinds = kinds; make = make }
 
--- what the form makes of its first four operands; no form has more than three
-unfoldable pub statement_of : Form → (a b c d : Option (List ℕ)) → Result Made AsmFault
-statement_of Lui a b c d = do
-  rd ← register_at a
-  n ← natural_at 1048575 b
-  end ← nothing_at c
-  Ok (one (instr.Lui rd n))
-statement_of Auipc a b c d = do
-  rd ← register_at a
-  n ← natural_at 1048575 b
-  end ← nothing_at c
-  Ok (one (instr.Auipc rd n))
-statement_of Jal a b c d = do
-  rd ← register_at a
-  to ← target_at (pos 1048576) b
-  end ← nothing_at c
-  Ok (jump_to rd to)
-statement_of Jalr a b c d = do
-  rd ← register_at a
-  jalr_of rd b c d
-statement_of (Branch op) a b c d = do
-  rs1 ← register_at a
-  rs2 ← register_at b
-  to ← target_at (pos 4096) c
-  end ← nothing_at d
-  Ok (branch_to op rs1 rs2 to)
-statement_of (Load op) a b c d = do
-  rd ← register_at a
-  rs1 ← base_at b
-  n ← offset_at (negsuc 2047) (pos 2047) b
-  end ← nothing_at c
-  Ok (one (instr.Load op rd rs1 n))
-statement_of (Store op) a b c d = do
-  rs2 ← register_at a
-  rs1 ← base_at b
-  n ← offset_at (negsuc 2047) (pos 2047) b
-  end ← nothing_at c
-  Ok (one (instr.Store op rs1 rs2 n))
-statement_of (Immediate op) a b c d = do
-  rd ← register_at a
-  rs1 ← register_at b
-  n ← number_at (negsuc 2047) (pos 2047) c
-  end ← nothing_at d
-  Ok (one (instr.Immediate op rd rs1 n))
-statement_of (Shift op) a b c d = do
-  rd ← register_at a
-  rs1 ← register_at b
-  n ← natural_at 31 c
-  end ← nothing_at d
-  Ok (one (instr.Shift op rd rs1 n))
-statement_of (Register op) a b c d = do
-  rd ← register_at a
-  rs1 ← register_at b
-  rs2 ← register_at c
-  end ← nothing_at d
-  Ok (one (instr.Register op rd rs1 rs2))
-statement_of Fence a b c d = fence_of a b c
-statement_of FenceTso a b c d = alone instr.FenceTso a
-statement_of Ecall a b c d = alone instr.Ecall a
-statement_of Ebreak a b c d = alone instr.Ebreak a
-statement_of (Amo op aq rl) a b c d = do
-  rd ← register_at a
-  rs2 ← register_at b
-  rs1 ← base_at c
-  n ← offset_at (pos 0) (pos 0) c
-  end ← nothing_at d
-  Ok (one (instr.Amo op rd rs1 rs2 aq rl))
-statement_of Nop a b c d = alone (instr.Immediate immediate.Add (reg_of 0) (reg_of 0) (pos 0)) a
-statement_of Move a b c d = do
-  pair ← two_registers a b c
-  Ok (one (instr.Immediate immediate.Add pair.0 pair.1 (pos 0)))
-statement_of Invert a b c d = do
-  pair ← two_registers a b c
-  Ok (one (instr.Immediate immediate.Xor pair.0 pair.1 (negsuc 0)))
-statement_of Negate a b c d = do
-  pair ← two_registers a b c
-  Ok (one (instr.Register register.Sub pair.0 (reg_of 0) pair.1))
-statement_of IsZero a b c d = do
-  pair ← two_registers a b c
-  Ok (one (instr.Immediate immediate.SetLessUnsigned pair.0 pair.1 (pos 1)))
-statement_of IsNotZero a b c d = do
-  pair ← two_registers a b c
-  Ok (one (instr.Register register.SetLessUnsigned pair.0 (reg_of 0) pair.1))
-statement_of (BranchZero op) a b c d = do
-  rs ← register_at a
-  to ← target_at (pos 4096) b
-  end ← nothing_at c
-  Ok (branch_to op rs (reg_of 0) to)
-statement_of Jump a b c d = do
-  to ← target_at (pos 1048576) a
-  end ← nothing_at b
-  Ok (jump_to (reg_of 0) to)
-statement_of Return a b c d = alone (instr.Jalr (reg_of 0) (reg_of 1) (pos 0)) a
-statement_of LoadImmediate a b c d = do
-  rd ← register_at a
-  n ← number_at (negsuc 2147483647) (pos 4294967295) b
-  end ← nothing_at c
-  Ok (loaded rd (wrapped n))
+-- The operands that each mnemonic takes and what it makes of them, in the order of the manual's assembly
+-- syntax. Two mnemonics have two rows, which go by how many operands are given. T is a label or a number
+-- of bytes, and `negsuc n` is the negative number below -n.
+unfoldable pub row : Form → (given : ℕ) → Row
+-- lui rd,n
+row Lui given = takes (register ∷ upper ∷ []) (λ rd n. one (instr.Lui rd n))
+-- auipc rd,n
+row Auipc given = takes (register ∷ upper ∷ []) (λ rd n. one (instr.Auipc rd n))
+-- jal rd,T
+row Jal given = takes (register ∷ far ∷ []) (λ rd to. jump_to rd to)
+-- jalr rd,n(rs1), or jalr rd,rs1,n
+row Jalr (suc (suc zero)) = takes (register ∷ address ∷ []) (λ rd at. one (instr.Jalr rd at.0 at.1))
+row Jalr given = takes (register ∷ register ∷ short ∷ []) (λ rd rs1 n. one (instr.Jalr rd rs1 n))
+-- beq rs1,rs2,T and its like
+row (Branch op) given = takes (register ∷ register ∷ near ∷ []) (λ rs1 rs2 to. branch_to op rs1 rs2 to)
+-- lw rd,n(rs1)
+row (Load op) given = takes (register ∷ address ∷ []) (λ rd at. one (instr.Load op rd at.0 at.1))
+-- sw rs2,n(rs1)
+row (Store op) given = takes (register ∷ address ∷ []) (λ rs2 at. one (instr.Store op at.0 rs2 at.1))
+-- addi rd,rs1,n
+row (Immediate op) given = takes (register ∷ register ∷ short ∷ []) (λ rd rs1 n. one (instr.Immediate op rd rs1 n))
+-- slli rd,rs1,n
+row (Shift op) given = takes (register ∷ register ∷ amount ∷ []) (λ rd rs1 n. one (instr.Shift op rd rs1 n))
+-- add rd,rs1,rs2
+row (Register op) given = takes (register ∷ register ∷ register ∷ []) (λ rd rs1 rs2. one (instr.Register op rd rs1 rs2))
+-- fence, which is fence iorw,iorw, or fence p,s
+row Fence zero = takes [] (one (instr.Fence 15 15))
+row Fence given = takes (set ∷ set ∷ []) (λ pred succ. one (instr.Fence pred succ))
+-- fence.tso, ecall, ebreak
+row FenceTso given = takes [] (one instr.FenceTso)
+row Ecall given = takes [] (one instr.Ecall)
+row Ebreak given = takes [] (one instr.Ebreak)
+-- amoadd.w rd,rs2,(rs1)
+row (Amo op aq rl) given = takes (register ∷ register ∷ pointer ∷ []) (λ rd rs2 at. one (instr.Amo op rd at.0 rs2 aq rl))
+-- nop: addi x0,x0,0
+row Nop given = takes [] (one (instr.Immediate immediate_op.Add (reg_of 0) (reg_of 0) (pos 0)))
+-- mv rd,rs: addi rd,rs,0
+row Move given = takes (register ∷ register ∷ []) (λ rd rs. one (instr.Immediate immediate_op.Add rd rs (pos 0)))
+-- not rd,rs: xori rd,rs,-1
+row Invert given = takes (register ∷ register ∷ []) (λ rd rs. one (instr.Immediate immediate_op.Xor rd rs (negsuc 0)))
+-- neg rd,rs: sub rd,x0,rs
+row Negate given = takes (register ∷ register ∷ []) (λ rd rs. one (instr.Register register_op.Sub rd (reg_of 0) rs))
+-- seqz rd,rs: sltiu rd,rs,1
+row IsZero given = takes (register ∷ register ∷ []) (λ rd rs. one (instr.Immediate immediate_op.SetLessUnsigned rd rs (pos 1)))
+-- snez rd,rs: sltu rd,x0,rs
+row IsNotZero given = takes (register ∷ register ∷ []) (λ rd rs. one (instr.Register register_op.SetLessUnsigned rd (reg_of 0) rs))
+-- beqz rs,T and bnez rs,T: beq and bne with x0
+row (BranchZero op) given = takes (register ∷ near ∷ []) (λ rs to. branch_to op rs (reg_of 0) to)
+-- j T: jal x0,T
+row Jump given = takes (far ∷ []) (λ to. jump_to (reg_of 0) to)
+-- ret: jalr x0,0(x1)
+row Return given = takes [] (one (instr.Jalr (reg_of 0) (reg_of 1) (pos 0)))
+-- li rd,n: addi, lui or both, see `Loading`
+row LoadImmediate given = takes (register ∷ word ∷ []) (λ rd n. loaded rd (wrapped n))
+
+-- The first fault from the left, or what is made. A missing operand is a bad one, and so is one too many.
+abbrev pub reads : (kinds : List Kind) → Maker kinds → List (List ℕ) → Result Made AsmFault
+reads [] made [] = Ok made
+reads [] made (operand ∷ others) = Err BadOperand
+reads (kind ∷ kinds) make [] = Err BadOperand
+reads (kind ∷ kinds) make (operand ∷ others) = do
+  x ← value_in kind operand
+  reads kinds (make x) others
+
+-- what a mnemonic makes of its operands
+abbrev pub statement_of : Form → List (List ℕ) → Result Made AsmFault
+statement_of form operands = reads (row form (length operands)).kinds (row form (length operands)).make operands
 
 -- ---- what the code's values stand for
 
@@ -200,10 +147,6 @@ made_of (statement.One i) = one i
 made_of (statement.Two i j) = two i j
 made_of (statement.Jump rd name) = jump rd name.now
 made_of (statement.Branch op rs1 rs2 name) = branch op rs1 rs2 name.now
-
--- what the form makes of the operands that the code holds
-abbrev pub asked : Form → Operands → Result Made AsmFault
-asked form o = statement_of form (option_copied o.first) (option_copied o.second) (option_copied o.third) (option_copied o.fourth)
 
 -- each instruction has a word
 abbrev pub MadeFits : Made → Type 0

@@ -2,8 +2,7 @@
 
 ghost use Rattle.std.specs.Prelude.{◌≡◌, List, map, Ok, Some, IfOk};
 ghost use Rattle.rv_decode.specs.Meaning.{meaning};
-ghost use Rattle.texts.specs.Results.{Gives};
-ghost use Rattle.assembler.specs.Faults.{refusal_of};
+ghost use Rattle.texts.specs.Results.{Gives, refusal_of};
 ghost use Rattle.assembler.specs.Drafts.{assembled, AllPlain};
 ghost use Rattle.assembler.specs.Program.{IsProgram, AreWordsOf};
 ghost use Rattle.rv_decode.specs.declared.instruction.Instr.{Instr};

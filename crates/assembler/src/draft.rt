@@ -2,10 +2,9 @@
 
 ghost use Rattle.std.specs.Prelude.{◌≡◌, List, [], ◌∷◌, ◌++◌, ◌<◌, ◌^◌, false, length, map, vec_len, vec_capacity, Ok, Err, Some, IfOk, IfErr, OnOk, OnErr};
 ghost use Rattle.rv_decode.specs.Meaning.{meaning};
-ghost use Rattle.texts.specs.Results.{Gives};
-ghost use Rattle.assembler.specs.Faults.{refusal_of};
+ghost use Rattle.texts.specs.Results.{Gives, refusal_of};
 ghost use Rattle.assembler.specs.declared.faults.AsmFault.TheVariants.{TooLong};
-ghost use Rattle.assembler.specs.declared.faults.AsmError.TheVariants.{Refused};
+ghost use Rattle.texts.specs.declared.errors.TextError.TheVariants.{Refused};
 ghost use Rattle.rv_decode.specs.declared.instruction.Instr.{Instr};
 ghost use Rattle.assembler.specs.Grammar.{IsLine};
 ghost use Rattle.assembler.specs.Program.{IsFresh, AreInstrs, AreWordsOf};
@@ -75,7 +74,7 @@ impl Draft {
         ensures found { OnOk result ((more : TextLine) × IsLine line.now more × IsFresh self.old more × (self.new ≡ self.old ++ more ∷ [])) }
         ensures only { (more : TextLine) → IsLine line.now more → IsFresh self.old more → Gives refusal_of (λ _. self.new) result (Ok (self.old ++ more ∷ [])) }
         ensures exact { Gives refusal_of (λ _. self.new) result (told self.old line.now) }
-        ensures refused { IfErr (told self.old line.now) (λ refusal. result ≡ Err (Refused refusal.fault refusal.line)) }
+        ensures refused { IfErr (told self.old line.now) (λ refusal. result ≡ Err (Refused refusal)) }
         ensures kept { OnErr result (self.new ≡ self.old) }
     {
         self.read(line.as_bytes())
@@ -86,7 +85,7 @@ impl Draft {
         ensures found { OnOk result ((more : TextLine) × IsLine line.now more × IsFresh self.old more × (self.new ≡ self.old ++ more ∷ [])) }
         ensures only { (more : TextLine) → IsLine line.now more → IsFresh self.old more → Gives refusal_of (λ _. self.new) result (Ok (self.old ++ more ∷ [])) }
         ensures exact { Gives refusal_of (λ _. self.new) result (told self.old line.now) }
-        ensures refused { IfErr (told self.old line.now) (λ refusal. result ≡ Err (Refused refusal.fault refusal.line)) }
+        ensures refused { IfErr (told self.old line.now) (λ refusal. result ≡ Err (Refused refusal)) }
         ensures kept { OnErr result (self.new ≡ self.old) }
     {
         self.tell(line)
@@ -95,23 +94,17 @@ impl Draft {
     #[tactic(auto, using(crate::proofs::DraftLaws::told_twice, crate::proofs::DraftLaws::told_added, crate::proofs::DraftLaws::told_faulty))]
     fn tell(&mut self, line: &[u8]) -> Result<(), AsmError>
         ensures exact { Gives refusal_of (λ _. self.new) result (told self.old line.now) }
-        ensures refused { IfErr (told self.old line.now) (λ refusal. result ≡ Err (Refused refusal.fault refusal.line)) }
+        ensures refused { IfErr (told self.old line.now) (λ refusal. result ≡ Err (Refused refusal)) }
         ensures kept { OnErr result (self.new ≡ self.old) }
     {
         let line_number = self.count() + 1;
         let Line { label, statement } = parts(line);
         if self.defines(label) {
-            return Err(AsmError::Refused {
-                fault: AsmFault::LabelTwice,
-                line: line_number,
-            });
+            return Err(AsmError::at_line(AsmFault::LabelTwice, line_number));
         }
         match statement_in(statement) {
             Ok(statement) => Ok(self.add(label, statement)?),
-            Err(fault) => Err(AsmError::Refused {
-                fault,
-                line: line_number,
-            }),
+            Err(fault) => Err(AsmError::at_line(fault, line_number)),
         }
     }
 
@@ -165,7 +158,7 @@ impl Draft {
         ensures found { IfOk result (λ words. (instrs : List Instr) × AreInstrs self instrs × AreWordsOf words.items instrs) }
         ensures only { (instrs : List Instr) → AreInstrs self instrs → Gives refusal_of (λ words. map meaning words.items) result (Ok (map (λ i. Some i) instrs)) }
         ensures exact { Gives refusal_of (λ words. map meaning words.items) result (finished self) }
-        ensures too_long { 4096 < words_of self → result ≡ Err (Refused TooLong (over 0 1 self)) }
+        ensures too_long { 4096 < words_of self → result ≡ Err (Refused (record { fault = TooLong; line = over 0 1 self })) }
         ensures plain { IfOk result (λ words. AllPlain words.items) }
     {
         let _lines = &self.lines;
@@ -174,14 +167,11 @@ impl Draft {
 
     fn all_words(self) -> Result<Vec<u32>, AsmError>
         ensures exact { Gives refusal_of (λ words. map meaning words.items) result (finished self) }
-        ensures too_long { 4096 < words_of self → result ≡ Err (Refused TooLong (over 0 1 self)) }
+        ensures too_long { 4096 < words_of self → result ≡ Err (Refused (record { fault = TooLong; line = over 0 1 self })) }
         ensures plain { IfOk result (λ words. AllPlain words.items) }
     {
         if self.words > MAX_WORDS {
-            return Err(AsmError::Refused {
-                fault: AsmFault::TooLong,
-                line: first_over(&self.lines),
-            });
+            return Err(AsmError::at_line(AsmFault::TooLong, first_over(&self.lines)));
         }
         place_all(*self.lines.allocator(), &self.places, &self.lines)
     }

@@ -1,9 +1,6 @@
 //! Why a text isn't assembled.
 
-ghost use Rattle.std.specs.Prelude.{◌≡◌};
-ghost use Rattle.assembler.specs.declared.faults.AsmError.TheVariants.{NoMemory};
-
-use std::alloc::{AllocError, AllocFailed};
+use texts::{AtLine, Numbered, TextError};
 use thiserror::Error;
 
 /// What is wrong with a line. Each has the number by which texts name it.
@@ -29,13 +26,12 @@ pub enum AsmFault {
     TooLong,
 }
 
-impl AsmFault {
+impl Numbered for AsmFault {
     ghost use Rattle.assembler.specs.Faults.{number_of};
 
-    /// The number by which texts name the fault.
-    pub fn number(self) -> u8
-        ensures { result ≡ number_of self }
-    {
+    ghost number = { number_of };
+
+    fn number(self) -> u8 {
         match self {
             AsmFault::UnknownName => 2,
             AsmFault::BadOperand => 3,
@@ -47,42 +43,5 @@ impl AsmFault {
     }
 }
 
-/// Why a text has no words.
-#[derive(Clone, Copy, Debug, PartialEq, Eq, Error)]
-pub enum AsmError {
-    #[error("no memory")]
-    NoMemory,
-    /// The text is refused for a fault of one of its lines, which count from 1.
-    #[error("{fault} at line {line}")]
-    Refused { fault: AsmFault, line: usize },
-}
-
-impl AsmError {
-    ghost use Rattle.assembler.specs.Faults.{number_of_error};
-
-    /// The number by which texts name what went wrong: that of the fault, and 0 where memory ran out.
-    pub fn number(self) -> u8
-        ensures { result ≡ number_of_error self }
-    {
-        match self {
-            AsmError::NoMemory => 0,
-            AsmError::Refused { fault, .. } => fault.number(),
-        }
-    }
-}
-
-impl From<AllocError> for AsmError {
-    ghost from_gives = { λ _ e. e ≡ NoMemory };
-
-    fn from(_error: AllocError) -> AsmError {
-        AsmError::NoMemory
-    }
-}
-
-impl<T: Drop> From<AllocFailed<T>> for AsmError {
-    ghost from_gives = { λ _ e. e ≡ NoMemory };
-
-    fn from(_error: AllocFailed<T>) -> AsmError {
-        AsmError::NoMemory
-    }
-}
+/// Why a text has no words: no memory, or the text is refused for a fault of one of its lines.
+pub type AsmError = TextError<AtLine<AsmFault>>;

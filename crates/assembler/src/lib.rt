@@ -1,16 +1,17 @@
 //! Assembly texts of RV32I and the word AMOs, to words, and instructions to texts.
 //!
 //! The contract is a grammar. `specs/Spelled` says how registers, numbers, addresses and targets are
-//! spelled; `Grammar` has a table with a row for the operands of each mnemonic, in the order of the
-//! manual, and says what a statement and a line are; `Program` says where statements stand and how far
-//! labels are. [`assemble`] answers the words of the instructions of which the text is a program
+//! spelled; `Statements` has one table, with a row for the operands of each mnemonic, in the order of
+//! the manual; `Grammar` says what a statement and a line are; `Program` says where statements stand and
+//! how far labels are. [`assemble`] answers the words of the instructions of which the text is a program
 //! (`found`), and answers them for each text that is one (`only`). No text is two programs, or the code
 //! of two lists of words ([`laws::one_value`]), and a fault is named exactly where a text is none
 //! ([`laws::refused_without_value`]). [`Draft`] is the same, line by line.
 //!
 //! Beside the grammar stand definitions that are functions and name the first fault with its line
-//! (`exact`): a line's parts in `Lines`, the operands of each mnemonic in `Statements`, labels in
-//! `Drafts`, in the order that [`Draft::line`] and [`Draft::finish`] tell.
+//! (`exact`): a line's parts in `Lines`, what an operand says in `Operands`, the first fault of a
+//! statement in `Statements`, over the same table, and labels in `Drafts`, in the order that
+//! [`Draft::line`] and [`Draft::finish`] tell.
 //!
 //! [`laws::number_put`]: the one or two instructions of `li` put its number in the register.
 //! [`write_instr`] appends the text of `Writing`; [`laws::read_again`]: that text is a program of the

@@ -5,8 +5,8 @@ ghost use Rattle.std.specs.Option.{option_copied};
 ghost use Rattle.std.specs.List.{slice_split};
 ghost use Rattle.texts.specs.Cutting.{is_byte};
 ghost use Rattle.assembler.specs.Operands.{Tells};
-ghost use Rattle.assembler.specs.Statements.{made_of, MadeFits, asked};
-ghost use Rattle.assembler.specs.Lines.{code_of, front_of, label_of, statement_text, between_commas, trimmed_text, operands_of, first_of, rest_of, made_of_list, made_in, made_by};
+ghost use Rattle.assembler.specs.Statements.{made_of, MadeFits, statement_of};
+ghost use Rattle.assembler.specs.Lines.{code_of, parts_of, label_of, statement_text, trimmed_text, operands_of, left, made_in, made_by};
 
 use crate::faults::AsmFault;
 use crate::form::Form;
@@ -57,37 +57,12 @@ fn some_text(rest: Option<&[u8]>) -> Option<&[u8]>
     }
 }
 
-/// The first of the operands between commas, and the text of the others.
-#[tactic(auto, using(crate::proofs::Commas::first_between, crate::proofs::Commas::rest_between))]
-fn first_operand(texts: Option<&[u8]>) -> (Option<&[u8]>, Option<&[u8]>)
-    ensures first { option_copied result.0 ≡ first_of (between_commas (option_copied texts.entry)) }
-    ensures rest { between_commas (option_copied result.1) ≡ rest_of (between_commas (option_copied texts.entry)) }
-{
-    match texts {
-        Some(text) => {
-            let (operand, rest) = cut_at(text, b',');
-            (Some(trimmed(operand)), rest)
-        }
-        None => (None, None),
-    }
-}
-
 /// The operands in what follows a mnemonic.
 fn operands(rest: Option<&[u8]>) -> Operands<'_>
-    ensures first { option_copied result.first ≡ first_of (operands_of (option_copied rest.entry)) }
-    ensures second { option_copied result.second ≡ first_of (rest_of (operands_of (option_copied rest.entry))) }
-    ensures third { option_copied result.third ≡ first_of (rest_of (rest_of (operands_of (option_copied rest.entry)))) }
-    ensures fourth { option_copied result.fourth ≡ first_of (rest_of (rest_of (rest_of (operands_of (option_copied rest.entry))))) }
+    ensures { left result ≡ operands_of (option_copied rest.entry) }
 {
-    let (first, rest) = first_operand(some_text(rest));
-    let (second, rest) = first_operand(rest);
-    let (third, rest) = first_operand(rest);
-    let (fourth, _) = first_operand(rest);
     Operands {
-        first,
-        second,
-        third,
-        fourth,
+        rest: some_text(rest),
     }
 }
 
@@ -104,7 +79,6 @@ pub fn statement_in(text: &[u8]) -> Result<Option<Statement<'_>>, AsmFault>
     let Some(form) = form_named(mnemonic) else {
         return Err(AsmFault::UnknownName);
     };
-    let operands = operands(rest);
-    let statement = shapes::statement(form, &operands)?;
+    let statement = shapes::statement(form, operands(rest))?;
     Ok(Some(statement))
 }

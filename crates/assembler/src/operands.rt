@@ -3,7 +3,7 @@
 ghost use Rattle.std.specs.Prelude.{◌≡◌, ◌<◌, ◌^◌, ◌<ℤ◌, ◌≤ℤ◌, pos, negsuc, neg_ℤ, IfOk, IsTrue, ◌≤◌, option_map, IfSome};
 ghost use Rattle.std.specs.Option.{option_copied};
 ghost use Rattle.rv_decode.specs.Fits.{IsSigned};
-ghost use Rattle.assembler.specs.Operands.{register_at, in_range, number_at, up_to, natural_at, base_at, offset_at, target_of, in_reach, target_at, or_zero, IsReached, is_reached, bytes, Tells, set_at, nothing_at};
+ghost use Rattle.assembler.specs.Operands.{register_in, in_range, number_in, natural_in, base_in, offset_in, address_in, address_of, target_of, in_reach, target_in, or_zero, IsReached, is_reached, bytes, Tells, set_in};
 
 use crate::faults::AsmFault;
 use crate::names::is_name;
@@ -21,14 +21,18 @@ pub enum Place<'a> {
     Label(&'a [u8]),
 }
 
+/// The register and the number of an address.
+#[derive(Clone, Copy)]
+pub struct Address {
+    pub base: Reg,
+    pub offset: i32,
+}
+
 /// A register.
-pub fn register(operand: Option<&[u8]>) -> Result<Reg, AsmFault>
-    ensures { result ≡ register_at (option_copied operand.entry) }
+pub fn register(operand: &[u8]) -> Result<Reg, AsmFault>
+    ensures { result ≡ register_in operand.now }
 {
-    let Some(text) = operand else {
-        return Err(AsmFault::BadOperand);
-    };
-    match register_named(text) {
+    match register_named(operand) {
         Some(register) => Ok(register),
         None => Err(AsmFault::UnknownName),
     }
@@ -46,19 +50,16 @@ fn in_range(number: Option<i64>, low: i64, high: i64) -> Result<i64, AsmFault>
 }
 
 /// A number from `low` to `high`.
-pub fn number_from(operand: Option<&[u8]>, low: i64, high: i64) -> Result<i64, AsmFault>
-    ensures value { result ≡ number_at low high (option_copied operand.entry) }
+pub fn number_from(operand: &[u8], low: i64, high: i64) -> Result<i64, AsmFault>
+    ensures value { result ≡ number_in low high operand.now }
     ensures within { IfOk result (λ n. (low ≤ℤ n) × (n ≤ℤ high)) }
 {
-    match operand {
-        Some(text) => in_range(integer(text), low, high),
-        None => Err(AsmFault::BadOperand),
-    }
+    in_range(integer(operand), low, high)
 }
 
 /// A signed number of 12 bits.
-pub fn short_number(operand: Option<&[u8]>) -> Result<i32, AsmFault>
-    ensures value { result ≡ number_at (negsuc 2047) (pos 2047) (option_copied operand.entry) }
+pub fn short_number(operand: &[u8]) -> Result<i32, AsmFault>
+    ensures value { result ≡ number_in (negsuc 2047) (pos 2047) operand.now }
     ensures short { IfOk result (IsSigned 11) }
 {
     match number_from(operand, -2048, 2047) {
@@ -67,41 +68,27 @@ pub fn short_number(operand: Option<&[u8]>) -> Result<i32, AsmFault>
     }
 }
 
-fn up_to(number: Option<i64>, most: u32) -> Result<u32, AsmFault>
-    ensures value { result ≡ up_to most number }
-    ensures within { IfOk result (λ n. n ≤ most) }
-{
-    match number {
-        None => Err(AsmFault::BadOperand),
-        Some(number) if number < 0 || i64::from(most) < number => Err(AsmFault::OutOfRange),
-        Some(number) => Ok(number.unsigned_abs() as u32),
-    }
-}
-
 /// A number from 0 to `most`.
-pub fn natural(operand: Option<&[u8]>, most: u32) -> Result<u32, AsmFault>
-    ensures value { result ≡ natural_at most (option_copied operand.entry) }
+pub fn natural(operand: &[u8], most: u32) -> Result<u32, AsmFault>
+    ensures value { result ≡ natural_in most operand.now }
     ensures within { IfOk result (λ n. n ≤ most) }
 {
-    match operand {
-        Some(text) => up_to(integer(text), most),
-        None => Err(AsmFault::BadOperand),
+    match number_from(operand, 0, i64::from(most)) {
+        Ok(number) => Ok(number.unsigned_abs() as u32),
+        Err(fault) => Err(fault),
     }
 }
 
 /// The register between the parentheses of `n(rs1)`.
-pub fn base(operand: Option<&[u8]>) -> Result<Reg, AsmFault>
-    ensures { result ≡ base_at (option_copied operand.entry) }
+fn base(operand: &[u8]) -> Result<Reg, AsmFault>
+    ensures { result ≡ base_in operand.now }
 {
-    let Some(text) = operand else {
-        return Err(AsmFault::BadOperand);
-    };
-    let (_, inner) = cut_at(text, b'(');
+    let (_, inner) = cut_at(operand, b'(');
     let Some(inner) = inner else {
         return Err(AsmFault::BadOperand);
     };
     match cut_at(inner, b')') {
-        (name, Some([])) => register(Some(trimmed(name))),
+        (name, Some([])) => register(trimmed(name)),
         _ => Err(AsmFault::BadOperand),
     }
 }
@@ -115,38 +102,36 @@ fn number_or_zero(text: &[u8], low: i64, high: i64) -> Result<i64, AsmFault>
     if text.is_empty() {
         Ok(0)
     } else {
-        in_range(integer(text), low, high)
+        number_from(text, low, high)
     }
 }
 
-fn offset(operand: Option<&[u8]>, low: i64, high: i64) -> Result<i64, AsmFault>
+fn offset(operand: &[u8], low: i64, high: i64) -> Result<i64, AsmFault>
     requires low { low ≤ℤ pos 0 }
     requires high { pos 0 ≤ℤ high }
-    ensures value { result ≡ offset_at low high (option_copied operand.entry) }
+    ensures value { result ≡ offset_in low high operand.now }
     ensures within { IfOk result (λ n. (low ≤ℤ n) × (n ≤ℤ high)) }
 {
-    match operand {
-        Some(text) => number_or_zero(trimmed(cut_at(text, b'(').0), low, high),
-        None => Err(AsmFault::BadOperand),
-    }
+    number_or_zero(trimmed(cut_at(operand, b'(').0), low, high)
 }
 
-/// The number before the parenthesis of `n(rs1)`, of 12 bits; it is 0 where it is left out.
-pub fn short_offset(operand: Option<&[u8]>) -> Result<i32, AsmFault>
-    ensures value { result ≡ offset_at (negsuc 2047) (pos 2047) (option_copied operand.entry) }
-    ensures short { IfOk result (IsSigned 11) }
+/// The register and the number of `n(rs1)`, of 12 bits; the number is 0 where it is left out.
+pub fn short_address(operand: &[u8]) -> Result<Address, AsmFault>
+    ensures value { Tells address_of result (address_in (negsuc 2047) (pos 2047) operand.now) }
+    ensures short { IfOk result (λ at. IsSigned 11 at.offset) }
 {
-    match offset(operand, -2048, 2047) {
-        Ok(number) => Ok(number as i32),
-        Err(fault) => Err(fault),
-    }
+    let base = base(operand)?;
+    let offset = offset(operand, -2048, 2047)? as i32;
+    Ok(Address { base, offset })
 }
 
-/// No number before the parenthesis of `(rs1)`, or 0.
-pub fn no_offset(operand: Option<&[u8]>) -> Result<i64, AsmFault>
-    ensures { result ≡ offset_at (pos 0) (pos 0) (option_copied operand.entry) }
+/// The register of `(rs1)`, with no number in front, or 0.
+pub fn pointer(operand: &[u8]) -> Result<Address, AsmFault>
+    ensures { Tells address_of result (address_in (pos 0) (pos 0) operand.now) }
 {
-    offset(operand, 0, 0)
+    let base = base(operand)?;
+    let offset = offset(operand, 0, 0)? as i32;
+    Ok(Address { base, offset })
 }
 
 /// Whether the number of bytes is even, and from `-bound` on and below `bound`.
@@ -173,39 +158,25 @@ fn in_reach<'a>(number: Option<i64>, bound: i64) -> Result<Place<'a>, AsmFault>
 }
 
 /// Where to: a label, or an even number of bytes from `-bound` on and below `bound`.
-pub fn target(operand: Option<&[u8]>, bound: i64) -> Result<Place<'_>, AsmFault>
+pub fn target(operand: &[u8], bound: i64) -> Result<Place<'_>, AsmFault>
     requires low { pos 0 ≤ℤ bound }
     requires high { bound <ℤ pos (2 ^ 31) }
-    ensures place { Tells target_of result (target_at bound (option_copied operand.entry)) }
+    ensures place { Tells target_of result (target_in bound operand.now) }
     ensures reached { IfOk result (λ place. IsReached bound (target_of place)) }
 {
-    match operand {
-        Some(text) if is_name(text) => Ok(Place::Label(text)),
-        Some(text) => in_reach(integer(text), bound),
-        None => Err(AsmFault::BadOperand),
+    if is_name(operand) {
+        return Ok(Place::Label(operand));
     }
+    in_reach(integer(operand), bound)
 }
 
 /// A set of accesses, as a fence orders them.
-pub fn set(operand: Option<&[u8]>) -> Result<u32, AsmFault>
-    ensures value { result ≡ set_at (option_copied operand.entry) }
+pub fn set(operand: &[u8]) -> Result<u32, AsmFault>
+    ensures value { result ≡ set_in operand.now }
     ensures small { IfOk result (λ set. set < 2 ^ 4) }
 {
-    let Some(text) = operand else {
-        return Err(AsmFault::BadOperand);
-    };
-    match set_named(text) {
+    match set_named(operand) {
         Some(set) => Ok(u32::from(set)),
         None => Err(AsmFault::BadOperand),
-    }
-}
-
-/// No operand.
-pub fn nothing(operand: Option<&[u8]>) -> Result<(), AsmFault>
-    ensures { result ≡ nothing_at (option_copied operand.entry) }
-{
-    match operand {
-        None => Ok(()),
-        Some(_) => Err(AsmFault::BadOperand),
     }
 }

@@ -2,8 +2,7 @@
 
 ghost use Rattle.std.specs.Prelude.{◌≡◌, ◌≤◌, ◌<◌, ℕ, pos, ◌<ℤ◌, ◌≤ℤ◌, ◌^◌, List, map, IfSome, IfOk, OnOk, vec_len, ◌+◌, Some};
 ghost use Rattle.rv_decode.specs.Meaning.{meaning};
-ghost use Rattle.texts.specs.Results.{Gives};
-ghost use Rattle.assembler.specs.Faults.{refusal_of};
+ghost use Rattle.texts.specs.Results.{Gives, refusal_of};
 ghost use Rattle.assembler.specs.Drafts.{in_bytes, distance, placed, onto, at_line, all_placed, over, words_of, size_of, AllFit, IsPlain, AllPlain};
 ghost use Rattle.rv_decode.specs.Fits.{Fits};
 ghost use Rattle.assembler.specs.Statements.{MadeFits};
@@ -96,7 +95,7 @@ fn push_words(
         }
         Kept::Jump { rd, label } => match distance_to(places, label, word, 0x10_0000) {
             Ok(offset) => words.push(word_of(&Instr::Jal { rd: *rd, offset }))?,
-            Err(fault) => return Err(AsmError::Refused { fault, line }),
+            Err(fault) => return Err(AsmError::at_line(fault, line)),
         },
         Kept::Branch {
             op,
@@ -110,7 +109,7 @@ fn push_words(
                 rs2: *rs2,
                 offset,
             }))?,
-            Err(fault) => return Err(AsmError::Refused { fault, line }),
+            Err(fault) => return Err(AsmError::at_line(fault, line)),
         },
     }
     Ok(())

@@ -1,22 +1,20 @@
 //! The operands of each mnemonic: a function for each row of the manual's assembly syntax, and for
 //! each pseudoinstruction.
 
-ghost use Rattle.std.specs.Prelude.{◌≡◌, pos, IfOk};
-ghost use Rattle.std.specs.Option.{option_copied};
-ghost use Rattle.rv_decode.specs.Meaning.{reg_of};
+ghost use Rattle.std.specs.Prelude.{◌≡◌, pos, [], ◌∷◌, IfOk};
 ghost use Rattle.rv_decode.specs.declared.instruction.Instr.TheVariants as instr;
-ghost use Rattle.rv_decode.specs.declared.instruction.ImmediateOp.TheVariants as immediate_op;
-ghost use Rattle.assembler.specs.Operands.{Tells, target_of, IsReached};
+ghost use Rattle.assembler.specs.Operands.{register, short, address, Tells, target_of, IsReached};
 ghost use Rattle.rv_decode.specs.Fits.{Fits};
 ghost use Rattle.assembler.specs.declared.form.Form.TheVariants as form;
-ghost use Rattle.assembler.specs.Statements.{asked, made_of, MadeFits, jump_to, branch_to, alone, two_registers};
+ghost use Rattle.assembler.specs.Lines.{left};
+ghost use Rattle.assembler.specs.Statements.{one, statement_of, reads, made_of, MadeFits, jump_to, branch_to};
 
 use crate::faults::AsmFault;
 use crate::form::Form;
 use crate::loading::loaded;
 use crate::operands::{
-    Place, base, natural, no_offset, nothing, number_from, register, set, short_number,
-    short_offset, target,
+    Address, Place, natural, number_from, pointer, register, set, short_address, short_number,
+    target,
 };
 use crate::statement::{Operands, Statement};
 use rv_decode::registers::reg;
@@ -54,111 +52,129 @@ fn branch_to(op: BranchOp, rs1: Reg, rs2: Reg, place: Place<'_>) -> Statement<'_
     }
 }
 
-#[tactic(auto, unfolding(crate::specs::Statements::statement_of))]
-fn lui<'a>(operands: &Operands<'a>) -> Result<Statement<'a>, AsmFault>
-    ensures made { Tells made_of result (asked form.Lui operands.now) }
+#[tactic(auto, unfolding(crate::specs::Statements::row))]
+fn lui<'a>(mut operands: Operands<'a>) -> Result<Statement<'a>, AsmFault>
+    ensures made { Tells made_of result (statement_of form.Lui (left operands.entry)) }
     ensures fits { IfOk result (λ statement. MadeFits (made_of statement)) }
 {
-    let rd = register(operands.first)?;
-    let upper = natural(operands.second, 0xF_FFFF)?;
-    nothing(operands.third)?;
+    let rd = register(operands.next()?)?;
+    let upper = natural(operands.next()?, 0xF_FFFF)?;
+    operands.end()?;
     Ok(Statement::One(Instr::Lui { rd, upper }))
 }
 
-#[tactic(auto, unfolding(crate::specs::Statements::statement_of))]
-fn auipc<'a>(operands: &Operands<'a>) -> Result<Statement<'a>, AsmFault>
-    ensures made { Tells made_of result (asked form.Auipc operands.now) }
+#[tactic(auto, unfolding(crate::specs::Statements::row))]
+fn auipc<'a>(mut operands: Operands<'a>) -> Result<Statement<'a>, AsmFault>
+    ensures made { Tells made_of result (statement_of form.Auipc (left operands.entry)) }
     ensures fits { IfOk result (λ statement. MadeFits (made_of statement)) }
 {
-    let rd = register(operands.first)?;
-    let upper = natural(operands.second, 0xF_FFFF)?;
-    nothing(operands.third)?;
+    let rd = register(operands.next()?)?;
+    let upper = natural(operands.next()?, 0xF_FFFF)?;
+    operands.end()?;
     Ok(Statement::One(Instr::Auipc { rd, upper }))
 }
 
-#[tactic(auto, unfolding(crate::specs::Statements::statement_of))]
-fn jal<'a>(operands: &Operands<'a>) -> Result<Statement<'a>, AsmFault>
-    ensures made { Tells made_of result (asked form.Jal operands.now) }
+#[tactic(auto, unfolding(crate::specs::Statements::row))]
+fn jal<'a>(mut operands: Operands<'a>) -> Result<Statement<'a>, AsmFault>
+    ensures made { Tells made_of result (statement_of form.Jal (left operands.entry)) }
     ensures fits { IfOk result (λ statement. MadeFits (made_of statement)) }
 {
-    let rd = register(operands.first)?;
-    let to = target(operands.second, 0x10_0000)?;
-    nothing(operands.third)?;
+    let rd = register(operands.next()?)?;
+    let to = target(operands.next()?, 0x10_0000)?;
+    operands.end()?;
     Ok(jump_to(rd, to))
 }
 
-#[tactic(auto, unfolding(crate::specs::Statements::statement_of))]
-fn jalr<'a>(operands: &Operands<'a>) -> Result<Statement<'a>, AsmFault>
-    ensures made { Tells made_of result (asked form.Jalr operands.now) }
+fn jalr_to_address<'a>(mut operands: Operands<'a>) -> Result<Statement<'a>, AsmFault>
+    ensures made { Tells made_of result (reads (register ∷ address ∷ []) (λ rd at. one (instr.Jalr rd at.0 at.1)) (left operands.entry)) }
     ensures fits { IfOk result (λ statement. MadeFits (made_of statement)) }
 {
-    let rd = register(operands.first)?;
-    if operands.third.is_none() {
-        let rs1 = base(operands.second)?;
-        let offset = short_offset(operands.second)?;
-        return Ok(Statement::One(Instr::Jalr { rd, rs1, offset }));
-    }
-    let rs1 = register(operands.second)?;
-    let offset = short_number(operands.third)?;
-    nothing(operands.fourth)?;
-    Ok(Statement::One(Instr::Jalr { rd, rs1, offset }))
-}
-
-#[tactic(auto, unfolding(crate::specs::Statements::statement_of))]
-fn branch<'a>(op: BranchOp, operands: &Operands<'a>) -> Result<Statement<'a>, AsmFault>
-    ensures made { Tells made_of result (asked (form.Branch op) operands.now) }
-    ensures fits { IfOk result (λ statement. MadeFits (made_of statement)) }
-{
-    let rs1 = register(operands.first)?;
-    let rs2 = register(operands.second)?;
-    let to = target(operands.third, 0x1000)?;
-    nothing(operands.fourth)?;
-    Ok(branch_to(op, rs1, rs2, to))
-}
-
-#[tactic(auto, unfolding(crate::specs::Statements::statement_of))]
-fn load<'a>(op: LoadOp, operands: &Operands<'a>) -> Result<Statement<'a>, AsmFault>
-    ensures made { Tells made_of result (asked (form.Load op) operands.now) }
-    ensures fits { IfOk result (λ statement. MadeFits (made_of statement)) }
-{
-    let rd = register(operands.first)?;
-    let rs1 = base(operands.second)?;
-    let offset = short_offset(operands.second)?;
-    nothing(operands.third)?;
-    Ok(Statement::One(Instr::Load {
-        op,
+    let rd = register(operands.next()?)?;
+    let Address { base, offset } = short_address(operands.next()?)?;
+    operands.end()?;
+    Ok(Statement::One(Instr::Jalr {
         rd,
-        rs1,
+        rs1: base,
         offset,
     }))
 }
 
-#[tactic(auto, unfolding(crate::specs::Statements::statement_of))]
-fn store<'a>(op: StoreOp, operands: &Operands<'a>) -> Result<Statement<'a>, AsmFault>
-    ensures made { Tells made_of result (asked (form.Store op) operands.now) }
+fn jalr_to_register<'a>(mut operands: Operands<'a>) -> Result<Statement<'a>, AsmFault>
+    ensures made { Tells made_of result (reads (register ∷ register ∷ short ∷ []) (λ rd rs1 n. one (instr.Jalr rd rs1 n)) (left operands.entry)) }
     ensures fits { IfOk result (λ statement. MadeFits (made_of statement)) }
 {
-    let rs2 = register(operands.first)?;
-    let rs1 = base(operands.second)?;
-    let offset = short_offset(operands.second)?;
-    nothing(operands.third)?;
+    let rd = register(operands.next()?)?;
+    let rs1 = register(operands.next()?)?;
+    let offset = short_number(operands.next()?)?;
+    operands.end()?;
+    Ok(Statement::One(Instr::Jalr { rd, rs1, offset }))
+}
+
+#[tactic(auto, using(crate::proofs::OperandTable::jalr_pair, crate::proofs::OperandTable::jalr_other))]
+fn jalr<'a>(operands: Operands<'a>) -> Result<Statement<'a>, AsmFault>
+    ensures made { Tells made_of result (statement_of form.Jalr (left operands.entry)) }
+    ensures fits { IfOk result (λ statement. MadeFits (made_of statement)) }
+{
+    if operands.are_two() {
+        jalr_to_address(operands)
+    } else {
+        jalr_to_register(operands)
+    }
+}
+
+#[tactic(auto, unfolding(crate::specs::Statements::row))]
+fn branch<'a>(op: BranchOp, mut operands: Operands<'a>) -> Result<Statement<'a>, AsmFault>
+    ensures made { Tells made_of result (statement_of (form.Branch op) (left operands.entry)) }
+    ensures fits { IfOk result (λ statement. MadeFits (made_of statement)) }
+{
+    let rs1 = register(operands.next()?)?;
+    let rs2 = register(operands.next()?)?;
+    let to = target(operands.next()?, 0x1000)?;
+    operands.end()?;
+    Ok(branch_to(op, rs1, rs2, to))
+}
+
+#[tactic(auto, unfolding(crate::specs::Statements::row))]
+fn load<'a>(op: LoadOp, mut operands: Operands<'a>) -> Result<Statement<'a>, AsmFault>
+    ensures made { Tells made_of result (statement_of (form.Load op) (left operands.entry)) }
+    ensures fits { IfOk result (λ statement. MadeFits (made_of statement)) }
+{
+    let rd = register(operands.next()?)?;
+    let Address { base, offset } = short_address(operands.next()?)?;
+    operands.end()?;
+    Ok(Statement::One(Instr::Load {
+        op,
+        rd,
+        rs1: base,
+        offset,
+    }))
+}
+
+#[tactic(auto, unfolding(crate::specs::Statements::row))]
+fn store<'a>(op: StoreOp, mut operands: Operands<'a>) -> Result<Statement<'a>, AsmFault>
+    ensures made { Tells made_of result (statement_of (form.Store op) (left operands.entry)) }
+    ensures fits { IfOk result (λ statement. MadeFits (made_of statement)) }
+{
+    let rs2 = register(operands.next()?)?;
+    let Address { base, offset } = short_address(operands.next()?)?;
+    operands.end()?;
     Ok(Statement::One(Instr::Store {
         op,
-        rs1,
+        rs1: base,
         rs2,
         offset,
     }))
 }
 
-#[tactic(auto, unfolding(crate::specs::Statements::statement_of))]
-fn immediate<'a>(op: ImmediateOp, operands: &Operands<'a>) -> Result<Statement<'a>, AsmFault>
-    ensures made { Tells made_of result (asked (form.Immediate op) operands.now) }
+#[tactic(auto, unfolding(crate::specs::Statements::row))]
+fn immediate<'a>(op: ImmediateOp, mut operands: Operands<'a>) -> Result<Statement<'a>, AsmFault>
+    ensures made { Tells made_of result (statement_of (form.Immediate op) (left operands.entry)) }
     ensures fits { IfOk result (λ statement. MadeFits (made_of statement)) }
 {
-    let rd = register(operands.first)?;
-    let rs1 = register(operands.second)?;
-    let immediate = short_number(operands.third)?;
-    nothing(operands.fourth)?;
+    let rd = register(operands.next()?)?;
+    let rs1 = register(operands.next()?)?;
+    let immediate = short_number(operands.next()?)?;
+    operands.end()?;
     Ok(Statement::One(Instr::Immediate {
         op,
         rd,
@@ -167,15 +183,15 @@ fn immediate<'a>(op: ImmediateOp, operands: &Operands<'a>) -> Result<Statement<'
     }))
 }
 
-#[tactic(auto, unfolding(crate::specs::Statements::statement_of))]
-fn shift<'a>(op: ShiftOp, operands: &Operands<'a>) -> Result<Statement<'a>, AsmFault>
-    ensures made { Tells made_of result (asked (form.Shift op) operands.now) }
+#[tactic(auto, unfolding(crate::specs::Statements::row))]
+fn shift<'a>(op: ShiftOp, mut operands: Operands<'a>) -> Result<Statement<'a>, AsmFault>
+    ensures made { Tells made_of result (statement_of (form.Shift op) (left operands.entry)) }
     ensures fits { IfOk result (λ statement. MadeFits (made_of statement)) }
 {
-    let rd = register(operands.first)?;
-    let rs1 = register(operands.second)?;
-    let amount = natural(operands.third, 31)?;
-    nothing(operands.fourth)?;
+    let rd = register(operands.next()?)?;
+    let rs1 = register(operands.next()?)?;
+    let amount = natural(operands.next()?, 31)?;
+    operands.end()?;
     Ok(Statement::One(Instr::Shift {
         op,
         rd,
@@ -184,111 +200,95 @@ fn shift<'a>(op: ShiftOp, operands: &Operands<'a>) -> Result<Statement<'a>, AsmF
     }))
 }
 
-#[tactic(auto, unfolding(crate::specs::Statements::statement_of))]
-fn of_registers<'a>(op: RegisterOp, operands: &Operands<'a>) -> Result<Statement<'a>, AsmFault>
-    ensures made { Tells made_of result (asked (form.Register op) operands.now) }
+#[tactic(auto, unfolding(crate::specs::Statements::row))]
+fn of_registers<'a>(op: RegisterOp, mut operands: Operands<'a>) -> Result<Statement<'a>, AsmFault>
+    ensures made { Tells made_of result (statement_of (form.Register op) (left operands.entry)) }
     ensures fits { IfOk result (λ statement. MadeFits (made_of statement)) }
 {
-    let rd = register(operands.first)?;
-    let rs1 = register(operands.second)?;
-    let rs2 = register(operands.third)?;
-    nothing(operands.fourth)?;
+    let rd = register(operands.next()?)?;
+    let rs1 = register(operands.next()?)?;
+    let rs2 = register(operands.next()?)?;
+    operands.end()?;
     Ok(Statement::One(Instr::Register { op, rd, rs1, rs2 }))
 }
 
-#[tactic(auto, unfolding(crate::specs::Statements::statement_of))]
-fn fence<'a>(operands: &Operands<'a>) -> Result<Statement<'a>, AsmFault>
-    ensures made { Tells made_of result (asked form.Fence operands.now) }
+#[tactic(auto, using(crate::proofs::OperandTable::fence_alone, crate::proofs::OperandTable::fence_sets))]
+fn fence<'a>(mut operands: Operands<'a>) -> Result<Statement<'a>, AsmFault>
+    ensures made { Tells made_of result (statement_of form.Fence (left operands.entry)) }
     ensures fits { IfOk result (λ statement. MadeFits (made_of statement)) }
 {
-    if operands.first.is_none() {
+    let Ok(first) = operands.next() else {
         return Ok(Statement::One(Instr::Fence { pred: 15, succ: 15 }));
-    }
-    let pred = set(operands.first)?;
-    let succ = set(operands.second)?;
-    nothing(operands.third)?;
+    };
+    let pred = set(first)?;
+    let succ = set(operands.next()?)?;
+    operands.end()?;
     Ok(Statement::One(Instr::Fence { pred, succ }))
 }
 
-#[tactic(auto, unfolding(crate::specs::Statements::statement_of))]
+#[tactic(auto, unfolding(crate::specs::Statements::row))]
 fn amo<'a>(
     op: AmoOp,
     aq: bool,
     rl: bool,
-    operands: &Operands<'a>,
+    mut operands: Operands<'a>,
 ) -> Result<Statement<'a>, AsmFault>
-    ensures made { Tells made_of result (asked (form.Amo op aq rl) operands.now) }
+    ensures made { Tells made_of result (statement_of (form.Amo op aq rl) (left operands.entry)) }
     ensures fits { IfOk result (λ statement. MadeFits (made_of statement)) }
 {
-    let rd = register(operands.first)?;
-    let rs2 = register(operands.second)?;
-    let rs1 = base(operands.third)?;
-    no_offset(operands.third)?;
-    nothing(operands.fourth)?;
+    let rd = register(operands.next()?)?;
+    let rs2 = register(operands.next()?)?;
+    let Address { base, .. } = pointer(operands.next()?)?;
+    operands.end()?;
     Ok(Statement::One(Instr::Amo {
         op,
         rd,
-        rs1,
+        rs1: base,
         rs2,
         aq,
         rl,
     }))
 }
 
-#[tactic(auto, unfolding(crate::specs::Statements::statement_of))]
-fn branch_zero<'a>(op: BranchOp, operands: &Operands<'a>) -> Result<Statement<'a>, AsmFault>
-    ensures made { Tells made_of result (asked (form.BranchZero op) operands.now) }
+#[tactic(auto, unfolding(crate::specs::Statements::row))]
+fn branch_zero<'a>(op: BranchOp, mut operands: Operands<'a>) -> Result<Statement<'a>, AsmFault>
+    ensures made { Tells made_of result (statement_of (form.BranchZero op) (left operands.entry)) }
     ensures fits { IfOk result (λ statement. MadeFits (made_of statement)) }
 {
-    let rs1 = register(operands.first)?;
-    let to = target(operands.second, 0x1000)?;
-    nothing(operands.third)?;
+    let rs1 = register(operands.next()?)?;
+    let to = target(operands.next()?, 0x1000)?;
+    operands.end()?;
     Ok(branch_to(op, rs1, reg(0), to))
 }
 
-#[tactic(auto, unfolding(crate::specs::Statements::statement_of))]
-fn jump<'a>(operands: &Operands<'a>) -> Result<Statement<'a>, AsmFault>
-    ensures made { Tells made_of result (asked form.Jump operands.now) }
+#[tactic(auto, unfolding(crate::specs::Statements::row))]
+fn jump<'a>(mut operands: Operands<'a>) -> Result<Statement<'a>, AsmFault>
+    ensures made { Tells made_of result (statement_of form.Jump (left operands.entry)) }
     ensures fits { IfOk result (λ statement. MadeFits (made_of statement)) }
 {
-    let to = target(operands.first, 0x10_0000)?;
-    nothing(operands.second)?;
+    let to = target(operands.next()?, 0x10_0000)?;
+    operands.end()?;
     Ok(jump_to(reg(0), to))
 }
 
 /// An instruction without operands.
-fn alone<'a>(instr: Instr, operands: &Operands<'a>) -> Result<Statement<'a>, AsmFault>
+fn alone<'a>(instr: Instr, operands: Operands<'a>) -> Result<Statement<'a>, AsmFault>
     requires { Fits instr }
-    ensures made { Tells made_of result (alone instr (option_copied operands.now.first)) }
+    ensures made { Tells made_of result (reads [] (one instr) (left operands.entry)) }
     ensures fits { IfOk result (λ statement. MadeFits (made_of statement)) }
 {
-    nothing(operands.first)?;
+    operands.end()?;
     Ok(Statement::One(instr))
 }
 
-/// The two registers of a statement that has no other operand.
-struct TwoRegisters {
-    rd: Reg,
-    rs: Reg,
-}
-
-fn pair(operands: &Operands<'_>) -> Result<TwoRegisters, AsmFault>
-    ensures { Tells (λ pair. (pair.rd, pair.rs)) result (two_registers (option_copied operands.now.first) (option_copied operands.now.second) (option_copied operands.now.third)) }
-{
-    let rd = register(operands.first)?;
-    let rs = register(operands.second)?;
-    nothing(operands.third)?;
-    Ok(TwoRegisters { rd, rs })
-}
-
-#[tactic(auto, unfolding(crate::specs::Statements::statement_of))]
-fn load_immediate<'a>(operands: &Operands<'a>) -> Result<Statement<'a>, AsmFault>
-    ensures made { Tells made_of result (asked form.LoadImmediate operands.now) }
+#[tactic(auto, unfolding(crate::specs::Statements::row))]
+fn load_immediate<'a>(mut operands: Operands<'a>) -> Result<Statement<'a>, AsmFault>
+    ensures made { Tells made_of result (statement_of form.LoadImmediate (left operands.entry)) }
     ensures fits { IfOk result (λ statement. MadeFits (made_of statement)) }
 {
-    let rd = register(operands.first)?;
-    let number = number_from(operands.second, -0x8000_0000, 0xFFFF_FFFF)?;
-    nothing(operands.third)?;
+    let rd = register(operands.next()?)?;
+    let number = number_from(operands.next()?, -0x8000_0000, 0xFFFF_FFFF)?;
+    operands.end()?;
     let wrapped = if number < 0x8000_0000 {
         number
     } else {
@@ -297,12 +297,14 @@ fn load_immediate<'a>(operands: &Operands<'a>) -> Result<Statement<'a>, AsmFault
     Ok(loaded(rd, wrapped))
 }
 
-#[tactic(auto, unfolding(crate::specs::Statements::statement_of))]
-fn moved<'a>(operands: &Operands<'a>) -> Result<Statement<'a>, AsmFault>
-    ensures made { Tells made_of result (asked form.Move operands.now) }
+#[tactic(auto, unfolding(crate::specs::Statements::row))]
+fn moved<'a>(mut operands: Operands<'a>) -> Result<Statement<'a>, AsmFault>
+    ensures made { Tells made_of result (statement_of form.Move (left operands.entry)) }
     ensures fits { IfOk result (λ statement. MadeFits (made_of statement)) }
 {
-    let TwoRegisters { rd, rs } = pair(operands)?;
+    let rd = register(operands.next()?)?;
+    let rs = register(operands.next()?)?;
+    operands.end()?;
     Ok(Statement::One(Instr::Immediate {
         op: ImmediateOp::Add,
         rd,
@@ -311,12 +313,14 @@ fn moved<'a>(operands: &Operands<'a>) -> Result<Statement<'a>, AsmFault>
     }))
 }
 
-#[tactic(auto, unfolding(crate::specs::Statements::statement_of))]
-fn inverted<'a>(operands: &Operands<'a>) -> Result<Statement<'a>, AsmFault>
-    ensures made { Tells made_of result (asked form.Invert operands.now) }
+#[tactic(auto, unfolding(crate::specs::Statements::row))]
+fn inverted<'a>(mut operands: Operands<'a>) -> Result<Statement<'a>, AsmFault>
+    ensures made { Tells made_of result (statement_of form.Invert (left operands.entry)) }
     ensures fits { IfOk result (λ statement. MadeFits (made_of statement)) }
 {
-    let TwoRegisters { rd, rs } = pair(operands)?;
+    let rd = register(operands.next()?)?;
+    let rs = register(operands.next()?)?;
+    operands.end()?;
     Ok(Statement::One(Instr::Immediate {
         op: ImmediateOp::Xor,
         rd,
@@ -325,12 +329,14 @@ fn inverted<'a>(operands: &Operands<'a>) -> Result<Statement<'a>, AsmFault>
     }))
 }
 
-#[tactic(auto, unfolding(crate::specs::Statements::statement_of))]
-fn negated<'a>(operands: &Operands<'a>) -> Result<Statement<'a>, AsmFault>
-    ensures made { Tells made_of result (asked form.Negate operands.now) }
+#[tactic(auto, unfolding(crate::specs::Statements::row))]
+fn negated<'a>(mut operands: Operands<'a>) -> Result<Statement<'a>, AsmFault>
+    ensures made { Tells made_of result (statement_of form.Negate (left operands.entry)) }
     ensures fits { IfOk result (λ statement. MadeFits (made_of statement)) }
 {
-    let TwoRegisters { rd, rs } = pair(operands)?;
+    let rd = register(operands.next()?)?;
+    let rs = register(operands.next()?)?;
+    operands.end()?;
     Ok(Statement::One(Instr::Register {
         op: RegisterOp::Sub,
         rd,
@@ -339,12 +345,14 @@ fn negated<'a>(operands: &Operands<'a>) -> Result<Statement<'a>, AsmFault>
     }))
 }
 
-#[tactic(auto, unfolding(crate::specs::Statements::statement_of))]
-fn is_zero<'a>(operands: &Operands<'a>) -> Result<Statement<'a>, AsmFault>
-    ensures made { Tells made_of result (asked form.IsZero operands.now) }
+#[tactic(auto, unfolding(crate::specs::Statements::row))]
+fn is_zero<'a>(mut operands: Operands<'a>) -> Result<Statement<'a>, AsmFault>
+    ensures made { Tells made_of result (statement_of form.IsZero (left operands.entry)) }
     ensures fits { IfOk result (λ statement. MadeFits (made_of statement)) }
 {
-    let TwoRegisters { rd, rs } = pair(operands)?;
+    let rd = register(operands.next()?)?;
+    let rs = register(operands.next()?)?;
+    operands.end()?;
     Ok(Statement::One(Instr::Immediate {
         op: ImmediateOp::SetLessUnsigned,
         rd,
@@ -353,12 +361,14 @@ fn is_zero<'a>(operands: &Operands<'a>) -> Result<Statement<'a>, AsmFault>
     }))
 }
 
-#[tactic(auto, unfolding(crate::specs::Statements::statement_of))]
-fn is_not_zero<'a>(operands: &Operands<'a>) -> Result<Statement<'a>, AsmFault>
-    ensures made { Tells made_of result (asked form.IsNotZero operands.now) }
+#[tactic(auto, unfolding(crate::specs::Statements::row))]
+fn is_not_zero<'a>(mut operands: Operands<'a>) -> Result<Statement<'a>, AsmFault>
+    ensures made { Tells made_of result (statement_of form.IsNotZero (left operands.entry)) }
     ensures fits { IfOk result (λ statement. MadeFits (made_of statement)) }
 {
-    let TwoRegisters { rd, rs } = pair(operands)?;
+    let rd = register(operands.next()?)?;
+    let rs = register(operands.next()?)?;
+    operands.end()?;
     Ok(Statement::One(Instr::Register {
         op: RegisterOp::SetLessUnsigned,
         rd,
@@ -368,9 +378,9 @@ fn is_not_zero<'a>(operands: &Operands<'a>) -> Result<Statement<'a>, AsmFault>
 }
 
 /// What the form makes of its operands, or the first fault of them from the left.
-#[tactic(auto, unfolding(crate::specs::Statements::statement_of))]
-pub fn statement<'a>(kind: Form, operands: &Operands<'a>) -> Result<Statement<'a>, AsmFault>
-    ensures made { Tells made_of result (asked kind operands.now) }
+#[tactic(auto, using(crate::proofs::OperandTable::fence_tso_alone, crate::proofs::OperandTable::ecall_alone, crate::proofs::OperandTable::ebreak_alone))]
+pub fn statement<'a>(kind: Form, operands: Operands<'a>) -> Result<Statement<'a>, AsmFault>
+    ensures made { Tells made_of result (statement_of kind (left operands.entry)) }
     ensures fits { IfOk result (λ statement. MadeFits (made_of statement)) }
 {
     match kind {
@@ -402,8 +412,9 @@ pub fn statement<'a>(kind: Form, operands: &Operands<'a>) -> Result<Statement<'a
     }
 }
 
-fn nop<'a>(operands: &Operands<'a>) -> Result<Statement<'a>, AsmFault>
-    ensures made { Tells made_of result (alone (instr.Immediate immediate_op.Add (reg_of 0) (reg_of 0) (pos 0)) (option_copied operands.now.first)) }
+#[tactic(auto, unfolding(crate::specs::Statements::row))]
+fn nop<'a>(operands: Operands<'a>) -> Result<Statement<'a>, AsmFault>
+    ensures made { Tells made_of result (statement_of form.Nop (left operands.entry)) }
     ensures fits { IfOk result (λ statement. MadeFits (made_of statement)) }
 {
     alone(
@@ -417,8 +428,9 @@ fn nop<'a>(operands: &Operands<'a>) -> Result<Statement<'a>, AsmFault>
     )
 }
 
-fn returned<'a>(operands: &Operands<'a>) -> Result<Statement<'a>, AsmFault>
-    ensures made { Tells made_of result (alone (instr.Jalr (reg_of 0) (reg_of 1) (pos 0)) (option_copied operands.now.first)) }
+#[tactic(auto, unfolding(crate::specs::Statements::row))]
+fn returned<'a>(operands: Operands<'a>) -> Result<Statement<'a>, AsmFault>
+    ensures made { Tells made_of result (statement_of form.Return (left operands.entry)) }
     ensures fits { IfOk result (λ statement. MadeFits (made_of statement)) }
 {
     alone(

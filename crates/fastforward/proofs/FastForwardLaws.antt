@@ -1,18 +1,17 @@
 -- The laws of one block, all together, and so the laws of the ring.
-use Rattle.std.proofs.Common.{ℕ, ◌+◌, ◌≤◌, ◌≡◌, inl, inr, List, refl, ◌∙◌, arith, lit≤}
+use Rattle.std.proofs.Common.{ℕ, ◌+◌, ◌≤◌, ◌≡◌, refl, ◌∙◌, arith, lit≤}
 use Rattle.std.proofs.Math.Nat.{zero-mod}
 use Rattle.poll_close.specs.Laws.{IsShort, Opens, Keeps, Cleans, Goes}
 use Rattle.poll_close.specs.Invariant.Blocks.{Block, slot}
 use Rattle.poll_close.proofs.Blocks.{IsBlock, Within, word_of, slot_of}
-use Rattle.poll_close.proofs.BlockLaws.{BlockLaws, Begins, Lands, opens_with}
+use Rattle.poll_close.proofs.BlockLaws.{BlockLaws, Begins, opens_with}
 use Rattle.poll_close.proofs.ChannelLaws.{opens, keeps, cleans, goes}
 use Rattle.fastforward.specs.Listing.{sender_code}
 use Rattle.fastforward.specs.FastForward.{fastforward, fastforward_blocks, fastforward_means}
-use Rattle.fastforward.specs.Invariant.Numbers.{Made, Numbers, sent, gone, taken, freed, Words, pending_of, unread_of}
-use Rattle.fastforward.specs.Invariant.SenderState.{Written}
-use Rattle.fastforward.specs.Invariant.SenderPlaces.{SenderPlace, P00, P04, P08, P0C, P10, P14, P18, P1C, P20, P24, P28, P2C, P30, P34, P38, Over, SenderIs}
+use Rattle.fastforward.specs.Invariant.Numbers.{Numbers, sent, gone, taken, freed, Words, pending_of, unread_of}
+use Rattle.fastforward.specs.Invariant.SenderPlaces.{P00}
 use Rattle.fastforward.proofs.Stores.{sender_stores_are, receiver_stores_are}
-use Rattle.fastforward.proofs.Landings.{Landing, sender_lands, receiver_lands}
+use Rattle.fastforward.proofs.Landings.{sender_lands, receiver_lands}
 use Rattle.fastforward.proofs.SenderActs.{sends}
 use Rattle.fastforward.proofs.ReceiverReads.{seen_mark, seen_done}
 use Rattle.fastforward.proofs.ReceiverActs.{stores_tail, stores_done, reported, level_stays, filled_stays, stays_18, stays_1C, stays_20, stays_24}
@@ -24,7 +23,7 @@ nothing = record { made = record { g = 0; p = 0; m = 0 }; ls = 0; km = 0; u = 0;
 begins : (k : Block) → IsBlock k → Begins fastforward_blocks k (opens_with sender_code k)
 begins k is = record {
   none = nothing;
-  order = record { ln_u = omega arith; u_ls = omega arith; ls_p = omega arith; p_ln = omega arith; p_all = omega arith; c_u = omega arith; u_c = omega arith; kc_ln = omega arith; ln_kc = omega arith; kc_c = omega arith; m_one = omega arith; km_m = omega arith; m_all = λ some. omega arith; km_all = λ some. omega arith; d_one = omega arith; kd_d = omega arith; d_all = λ some. omega arith; kd_all = λ some. omega arith };
+  order = omega (arith, is.some_slot);
   words = record { mark = refl; tail = omega (arith, zero-mod k.size); done = refl; full = λ j from below. omega arith; empty = λ j from below. refl };
   stands = record { place = P00; written = record { x5 = 0; x6 = 0; x7 = 0; x10 = 0; x11 = 0; x17 = 0; x28 = 0 }; is = refl; holds = (record { taken = refl; unmarked = refl }, omega (arith, zero-mod k.size)) };
   unsent = refl;
@@ -45,44 +44,6 @@ words_same k n word new is same w = record {
   empty = λ j from below. same (slot k.size k.base j) (slot_of k is j).within ∙ w.empty j from below;
 }
 
--- a null that lands later keeps the sender's assertion
-holds_later : (k : Block) (here : SenderPlace) (n : Made) (ln later : ℕ) (r : Written) → ln ≤ later → SenderIs k here n ln r → SenderIs k here n later r
-holds_later k P00 n ln later r more h = h
-holds_later k P04 n ln later r more h = h
-holds_later k P08 n ln later r more h = h
-holds_later k P0C n ln later r more h = h
-holds_later k P10 n ln later r more h = h
-holds_later k P14 n ln later r more h = (
-  h.0,
-  h.1,
-  elim h.2 [
-    | inl word ↦ inl word
-    | inr free ↦ inr (omega arith)
-  ],
-)
-holds_later k P18 n ln later r more h = (h.0, h.1, omega arith)
-holds_later k P1C n ln later r more h = h
-holds_later k P20 n ln later r more h = h
-holds_later k P24 n ln later r more h = h
-holds_later k P28 n ln later r more h = h
-holds_later k P2C n ln later r more h = h
-holds_later k P30 n ln later r more h = h
-holds_later k P34 n ln later r more h = h
-holds_later k P38 n ln later r more h = h
-holds_later k Over n ln later r more h = h
-
--- a landing, as the laws ask for it
-landing : (k : Block) (n : Numbers) (new : ℕ → ℕ) (mine theirs : List (ℕ × ℕ)) → Landing k n new mine theirs → Lands fastforward_blocks k n new mine theirs
-landing k n new mine theirs l = record {
-  after = record n { ls = l.ls; km = l.km; ln = l.ln; kc = l.kc; kd = l.kd };
-  order = l.order;
-  words = l.words;
-  sender = λ s st. record { place = st.place; written = st.written; is = st.is; holds = holds_later k st.place n.made n.ln l.ln st.written l.nulls_later st.holds };
-  unsent = l.mine_is;
-  unread = l.theirs_is;
-  grows = record { tails = refl; dones = refl; took = refl; shut = refl; marks = l.marks_later; later = (refl, l.words_later) };
-}
-
 pub fastforward_laws : BlockLaws fastforward_blocks sender_code
 fastforward_laws = record {
   begins = begins;
@@ -101,8 +62,8 @@ fastforward_laws = record {
   stays_20 = stays_20;
   stays_24 = stays_24;
   sends = sends;
-  sender_lands = λ k n word new x rest is order words oldest write. landing k n new rest (unread_of k n) (sender_lands k is n order word new words (unread_of k n) refl x rest oldest write);
-  receiver_lands = λ k n word new x rest is order words oldest write. landing k n new (pending_of k n) rest (receiver_lands k is n order word new words (pending_of k n) refl x rest oldest write);
+  sender_lands = λ k n word new x rest is order words oldest write. sender_lands k is n order word new words (unread_of k n) refl x rest oldest write;
+  receiver_lands = λ k n word new x rest is order words oldest write. receiver_lands k is n order word new words (pending_of k n) refl x rest oldest write;
   sees_done = λ k n word order words. seen_done k n word order words;
   sees_mark = λ k n word order words. seen_mark k n word order words;
   stores_tail = λ k n order filled on. stores_tail k n order filled on;

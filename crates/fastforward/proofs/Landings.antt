@@ -7,49 +7,54 @@ use Rattle.poll_close.specs.Invariant.Blocks.{Block, offset, slot, window}
 use Rattle.poll_close.proofs.Windows.{some_in, oldest_lands}
 use Rattle.poll_close.proofs.Writes.{IsWrite, hit, miss}
 use Rattle.poll_close.proofs.Blocks.{IsBlock}
+use Rattle.poll_close.proofs.BlockLaws.{Lands}
+use Rattle.poll_close.specs.Invariant.SenderState.{Written}
+use Rattle.fastforward.specs.FastForward.{fastforward_blocks}
+use Rattle.fastforward.specs.Invariant.SenderPlaces.{SenderPlace, P14, P18, SenderIs}
 use Rattle.fastforward.specs.Invariant.Stores.{sender_stores, receiver_stores}
-use Rattle.fastforward.specs.Invariant.Numbers.{Numbers, sent, gone, taken, freed, Ordered, Words, pending_of, unread_of}
+use Rattle.fastforward.specs.Invariant.Numbers.{Made, Numbers, sent, gone, taken, freed, Ordered, Words, pending_of, unread_of}
 use Rattle.fastforward.proofs.Orders.{order_ls, order_km, order_ln, order_kc, order_kd}
 use Rattle.fastforward.proofs.Stores.{slots_apart, slot_again, store_word, store_mark, store_null, store_tail, store_done}
 
-pub record Landing (k : Block) (n : Numbers) (new : ℕ → ℕ) (mine theirs : List (ℕ × ℕ)) : Type 0 where
-  pub ls : ℕ
-  pub km : ℕ
-  pub ln : ℕ
-  pub kc : ℕ
-  pub kd : ℕ
-  pub words_later : n.ls ≤ ls
-  pub marks_later : n.km ≤ km
-  pub nulls_later : n.ln ≤ ln
-  pub order : Ordered k (record n { ls = ls; km = km; ln = ln; kc = kc; kd = kd })
-  pub words : Words k (record n { ls = ls; km = km; ln = ln; kc = kc; kd = kd }) new
-  pub mine_is : mine ≡ pending_of k (record n { ls = ls; km = km; ln = ln; kc = kc; kd = kd })
-  pub theirs_is : theirs ≡ unread_of k (record n { ls = ls; km = km; ln = ln; kc = kc; kd = kd })
+-- a null that lands later keeps the sender's assertion
+holds_later : (k : Block) (here : SenderPlace) (n : Made) (ln later : ℕ) (r : Written) → ln ≤ later → SenderIs k here n ln r → SenderIs k here n later r
+holds_later k P14 n ln later r more h = (
+  h.0,
+  h.1,
+  elim h.2 [
+    | inl word ↦ inl word
+    | inr free ↦ inr (omega arith)
+  ],
+)
+holds_later k P18 n ln later r more h = (h.0, h.1, omega arith)
+holds_later k here n ln later r more h = h
+
+module _ (k : Block) (n : Numbers) (new : ℕ → ℕ) where
+  -- a landing, by the numbers after it
+  lands : {mine theirs : List (ℕ × ℕ)} (ls km ln kc kd : ℕ) → (n.ls ≤ ls) × (n.km ≤ km) × (n.ln ≤ ln) → Ordered k (record n { ls = ls; km = km; ln = ln; kc = kc; kd = kd }) → Words k (record n { ls = ls; km = km; ln = ln; kc = kc; kd = kd }) new → mine ≡ pending_of k (record n { ls = ls; km = km; ln = ln; kc = kc; kd = kd }) → theirs ≡ unread_of k (record n { ls = ls; km = km; ln = ln; kc = kc; kd = kd }) → Lands fastforward_blocks k n new mine theirs
+  lands ls km ln kc kd later order words mine_is theirs_is = record {
+    after = record n { ls = ls; km = km; ln = ln; kc = kc; kd = kd };
+    order = order;
+    words = words;
+    sender = λ s st. record { place = st.place; written = st.written; is = st.is; holds = holds_later k st.place n.made n.ln ln st.written later.2 st.holds };
+    unsent = mine_is;
+    unread = theirs_is;
+    grows = record { tails = refl; dones = refl; took = refl; shut = refl; marks = later.1; later = (refl, later.0) };
+  }
 
 -- a store of the sender
 module _ (k : Block) (is : IsBlock k) (n : Numbers) (order : Ordered k n) (word new : ℕ → ℕ) (words : Words k n word) (theirs : List (ℕ × ℕ)) (their : theirs ≡ unread_of k n) where
-  word_lands : n.ls < n.made.p → IsWrite word new (slot k.size k.base n.ls, slice_index k.list n.ls) → Landing k n new (window (sender_stores k.size k.base k.list) (suc (gone n)) (sent n)) theirs
+  word_lands : n.ls < n.made.p → IsWrite word new (slot k.size k.base n.ls, slice_index k.list n.ls) → Lands fastforward_blocks k n new (window (sender_stores k.size k.base k.list) (suc (gone n)) (sent n)) theirs
   word_lands some write =
-      record {
-        ls = n.ls + 1;
-        km = n.km;
-        ln = n.ln;
-        kc = n.kc;
-        kd = n.kd;
-        words_later = omega arith;
-        marks_later = omega arith;
-        nulls_later = omega arith;
-        order = order_ls k n order some;
-        words = record {
-          mark = miss word new at w write (k.base + 4) (omega arith) ∙ words.mark;
-          tail = miss word new at w write (k.base + 8) (omega arith) ∙ words.tail;
-          done = miss word new at w write (k.base + 12) (omega arith) ∙ words.done;
-          full = λ j from below. full j from below (cases_eq j n.ls);
-          empty = λ j from below. miss word new at w write (slot k.size k.base j) (slots_apart k.size k.base n.ls j is.some_slot (omega (arith, from)) (omega (arith, below, order.ln_u, order.u_ls))) ∙ words.empty j (omega (arith, from)) below;
-        };
-        mine_is = ap (λ i. window (sender_stores k.size k.base k.list) i (sent n)) next;
-        theirs_is = their;
-      }
+      lands k n new (n.ls + 1) n.km n.ln n.kc n.kd (omega arith) (order_ls k n order some)
+      (record {
+        mark = miss word new at w write (k.base + 4) (omega arith) ∙ words.mark;
+        tail = miss word new at w write (k.base + 8) (omega arith) ∙ words.tail;
+        done = miss word new at w write (k.base + 12) (omega arith) ∙ words.done;
+        full = λ j from below. full j from below (cases_eq j n.ls);
+        empty = λ j from below. miss word new at w write (slot k.size k.base j) (slots_apart k.size k.base n.ls j is.some_slot (omega (arith, from)) (omega (arith, below, order.ln_u, order.u_ls))) ∙ words.empty j (omega (arith, from)) below;
+      })
+      (ap (λ i. window (sender_stores k.size k.base k.list) i (sent n)) {x = suc (gone n)} (omega arith)) their
     where
       at : ℕ
       at = slot k.size k.base n.ls
@@ -57,51 +62,34 @@ module _ (k : Block) (is : IsBlock k) (n : Numbers) (order : Ordered k n) (word 
       w : ℕ
       w = slice_index k.list n.ls
 
-      next : suc (gone n) ≡ n.ls + 1 + n.km
-      next = omega arith
-
       full : (j : ℕ) → n.ln ≤ j → j < n.ls + 1 → (j ≡ n.ls) ⊎ (j ≢ n.ls) → new (slot k.size k.base j) ≡ slice_index k.list j
       full j from below (inl same) = hit word new at w write (slot k.size k.base j) (ap (slot k.size k.base) (sym same)) ∙ ap (slice_index k.list) (sym same)
       full j from below (inr other) = miss word new at w write (slot k.size k.base j) (λ same. slots_apart k.size k.base j n.ls is.some_slot (omega (arith, below, other)) (omega (arith, from, some, order.p_ln)) (sym same)) ∙ words.full j from (omega (arith, below, other))
 
-  mark_lands : n.ls ≡ length k.list → n.km < n.made.m → IsWrite word new (k.base + 4, 1) → Landing k n new (window (sender_stores k.size k.base k.list) (suc (gone n)) (sent n)) theirs
+  mark_lands : n.ls ≡ length k.list → n.km < n.made.m → IsWrite word new (k.base + 4, 1) → Lands fastforward_blocks k n new (window (sender_stores k.size k.base k.list) (suc (gone n)) (sent n)) theirs
   mark_lands all some write =
-      record {
-        ls = n.ls;
-        km = n.km + 1;
-        ln = n.ln;
-        kc = n.kc;
-        kd = n.kd;
-        words_later = omega arith;
-        marks_later = omega arith;
-        nulls_later = omega arith;
-        order = order_km k n order all some;
-        words = record {
-          mark = hit word new (k.base + 4) 1 write (k.base + 4) refl ∙ one;
-          tail = miss word new (k.base + 4) 1 write (k.base + 8) (omega arith) ∙ words.tail;
-          done = miss word new (k.base + 4) 1 write (k.base + 12) (omega arith) ∙ words.done;
-          full = λ j from below. miss word new (k.base + 4) 1 write (slot k.size k.base j) (omega arith) ∙ words.full j from below;
-          empty = λ j from below. miss word new (k.base + 4) 1 write (slot k.size k.base j) (omega arith) ∙ words.empty j from below;
-        };
-        mine_is = ap (λ i. window (sender_stores k.size k.base k.list) i (sent n)) next;
-        theirs_is = their;
-      }
+      lands k n new n.ls (n.km + 1) n.ln n.kc n.kd (omega arith) (order_km k n order all some)
+      (record {
+        mark = hit word new (k.base + 4) 1 write (k.base + 4) refl ∙ one;
+        tail = miss word new (k.base + 4) 1 write (k.base + 8) (omega arith) ∙ words.tail;
+        done = miss word new (k.base + 4) 1 write (k.base + 12) (omega arith) ∙ words.done;
+        full = λ j from below. miss word new (k.base + 4) 1 write (slot k.size k.base j) (omega arith) ∙ words.full j from below;
+        empty = λ j from below. miss word new (k.base + 4) 1 write (slot k.size k.base j) (omega arith) ∙ words.empty j from below;
+      })
+      (ap (λ i. window (sender_stores k.size k.base k.list) i (sent n)) {x = suc (gone n)} (omega arith)) their
     where
-      next : suc (gone n) ≡ n.ls + (n.km + 1)
-      next = omega arith
-
       one : 1 ≡ n.km + 1
       one = omega (arith, some, order.m_one)
 
   -- whichever of its stores is the oldest pending one, it lands
-  pub sender_lands : (x : ℕ × ℕ) (rest : List (ℕ × ℕ)) → pending_of k n ≡ x ∷ rest → IsWrite word new x → Landing k n new rest theirs
+  pub sender_lands : (x : ℕ × ℕ) (rest : List (ℕ × ℕ)) → pending_of k n ≡ x ∷ rest → IsWrite word new x → Lands fastforward_blocks k n new rest theirs
   sender_lands x rest first write = at (cases_lt n.ls (length k.list))
     where
       more : gone n < sent n
       more = some_in (sender_stores k.size k.base k.list) (gone n) (sent n) x rest first
 
-      with : (y : ℕ × ℕ) → slice_get (sender_stores k.size k.base k.list) (gone n) ≡ Some y → (IsWrite word new y → Landing k n new (window (sender_stores k.size k.base k.list) (suc (gone n)) (sent n)) theirs) → Landing k n new rest theirs
-      with y at lands = oldest_lands (λ ps. Landing k n new ps theirs) (IsWrite word new) (sender_stores k.size k.base k.list) (gone n) (sent n) x y rest first write at lands
+      with : (y : ℕ × ℕ) → slice_get (sender_stores k.size k.base k.list) (gone n) ≡ Some y → (IsWrite word new y → Lands fastforward_blocks k n new (window (sender_stores k.size k.base k.list) (suc (gone n)) (sent n)) theirs) → Lands fastforward_blocks k n new rest theirs
+      with y at lands = oldest_lands (λ ps. Lands fastforward_blocks k n new ps theirs) (IsWrite word new) (sender_stores k.size k.base k.list) (gone n) (sent n) x y rest first write at lands
 
       unmarked : n.ls < length k.list → n.km ≡ 0
       unmarked some = grind (arith, order.km_all)
@@ -109,7 +97,7 @@ module _ (k : Block) (is : IsBlock k) (n : Numbers) (order : Ordered k n) (word 
       room : n.ls < length k.list → n.ls < n.made.p
       room some = grind (arith, more, order.m_all, order.km_all, order.ls_p, order.m_one)
 
-      at : (n.ls < length k.list) ⊎ (length k.list ≤ n.ls) → Landing k n new rest theirs
+      at : (n.ls < length k.list) ⊎ (length k.list ≤ n.ls) → Lands fastforward_blocks k n new rest theirs
       at (inl some) = with (slot k.size k.base n.ls, slice_index k.list n.ls) (store_word k.size k.base k.list n.ls (gone n) some (omega (arith, unmarked some))) (λ w. word_lands (room some) w)
       at (inr all) =
           let full : n.ls ≡ length k.list = omega (arith, all, order.ls_p, order.p_all) in
@@ -118,106 +106,64 @@ module _ (k : Block) (is : IsBlock k) (n : Numbers) (order : Ordered k n) (word 
 
 -- a store of the receiver to the block
 module _ (k : Block) (is : IsBlock k) (n : Numbers) (order : Ordered k n) (word new : ℕ → ℕ) (words : Words k n word) (mine : List (ℕ × ℕ)) (my : mine ≡ pending_of k n) where
-  null_lands : n.ln ≡ n.kc → n.ln < n.u → IsWrite word new (slot k.size k.base n.ln, 0) → Landing k n new mine (window (receiver_stores k.size k.base k.list) (suc (freed n)) (taken n))
+  null_lands : n.ln ≡ n.kc → n.ln < n.u → IsWrite word new (slot k.size k.base n.ln, 0) → Lands fastforward_blocks k n new mine (window (receiver_stores k.size k.base k.list) (suc (freed n)) (taken n))
   null_lands even some write =
-      record {
-        ls = n.ls;
-        km = n.km;
-        ln = n.ln + 1;
-        kc = n.kc;
-        kd = n.kd;
-        words_later = omega arith;
-        marks_later = omega arith;
-        nulls_later = omega arith;
-        order = order_ln k n order even some;
-        words = record {
-          mark = miss word new at 0 write (k.base + 4) (omega arith) ∙ words.mark;
-          tail = miss word new at 0 write (k.base + 8) (omega arith) ∙ words.tail;
-          done = miss word new at 0 write (k.base + 12) (omega arith) ∙ words.done;
-          full = λ j from below. miss word new at 0 write (slot k.size k.base j) (slots_apart k.size k.base n.ln j is.some_slot (omega (arith, from)) (omega (arith, below, order.ls_p, order.p_ln))) ∙ words.full j (omega (arith, from)) below;
-          empty = λ j from below. empty j from below (cases_eq j (n.ln + k.size));
-        };
-        mine_is = my;
-        theirs_is = ap (λ i. window (receiver_stores k.size k.base k.list) i (taken n)) next;
-      }
+      lands k n new n.ls n.km (n.ln + 1) n.kc n.kd (omega arith) (order_ln k n order even some)
+      (record {
+        mark = miss word new at 0 write (k.base + 4) (omega arith) ∙ words.mark;
+        tail = miss word new at 0 write (k.base + 8) (omega arith) ∙ words.tail;
+        done = miss word new at 0 write (k.base + 12) (omega arith) ∙ words.done;
+        full = λ j from below. miss word new at 0 write (slot k.size k.base j) (slots_apart k.size k.base n.ln j is.some_slot (omega (arith, from)) (omega (arith, below, order.ls_p, order.p_ln))) ∙ words.full j (omega (arith, from)) below;
+        empty = λ j from below. empty j from below (cases_eq j (n.ln + k.size));
+      })
+      my (ap (λ i. window (receiver_stores k.size k.base k.list) i (taken n)) {x = suc (freed n)} (omega arith))
     where
       at : ℕ
       at = slot k.size k.base n.ln
-
-      next : suc (freed n) ≡ n.ln + 1 + n.kc + n.kd
-      next = omega arith
 
       empty : (j : ℕ) → n.ls ≤ j → j < n.ln + 1 + k.size → (j ≡ n.ln + k.size) ⊎ (j ≢ n.ln + k.size) → new (slot k.size k.base j) ≡ 0
       empty j from below (inl round) = hit word new at 0 write (slot k.size k.base j) (sym (ap (slot k.size k.base) round ∙ slot_again k.size k.base n.ln))
       empty j from below (inr other) = miss word new at 0 write (slot k.size k.base j) (slots_apart k.size k.base n.ln j is.some_slot (omega (arith, from, some, order.u_ls)) (omega (arith, below, other))) ∙ words.empty j from (omega (arith, below, other))
 
-  tail_lands : n.ln ≡ n.kc + 1 → n.kc < n.c → IsWrite word new (k.base + 8, offset k (n.kc + 1)) → Landing k n new mine (window (receiver_stores k.size k.base k.list) (suc (freed n)) (taken n))
+  tail_lands : n.ln ≡ n.kc + 1 → n.kc < n.c → IsWrite word new (k.base + 8, offset k (n.kc + 1)) → Lands fastforward_blocks k n new mine (window (receiver_stores k.size k.base k.list) (suc (freed n)) (taken n))
   tail_lands odd some write =
-      record {
-        ls = n.ls;
-        km = n.km;
-        ln = n.ln;
-        kc = n.kc + 1;
-        kd = n.kd;
-        words_later = omega arith;
-        marks_later = omega arith;
-        nulls_later = omega arith;
-        order = order_kc k n order odd some;
-        words = record {
-          mark = miss word new (k.base + 8) w write (k.base + 4) (omega arith) ∙ words.mark;
-          tail = hit word new (k.base + 8) w write (k.base + 8) refl;
-          done = miss word new (k.base + 8) w write (k.base + 12) (omega arith) ∙ words.done;
-          full = λ j from below. miss word new (k.base + 8) w write (slot k.size k.base j) (omega arith) ∙ words.full j from below;
-          empty = λ j from below. miss word new (k.base + 8) w write (slot k.size k.base j) (omega arith) ∙ words.empty j from below;
-        };
-        mine_is = my;
-        theirs_is = ap (λ i. window (receiver_stores k.size k.base k.list) i (taken n)) next;
-      }
+      lands k n new n.ls n.km n.ln (n.kc + 1) n.kd (omega arith) (order_kc k n order odd some)
+      (record {
+        mark = miss word new (k.base + 8) w write (k.base + 4) (omega arith) ∙ words.mark;
+        tail = hit word new (k.base + 8) w write (k.base + 8) refl;
+        done = miss word new (k.base + 8) w write (k.base + 12) (omega arith) ∙ words.done;
+        full = λ j from below. miss word new (k.base + 8) w write (slot k.size k.base j) (omega arith) ∙ words.full j from below;
+        empty = λ j from below. miss word new (k.base + 8) w write (slot k.size k.base j) (omega arith) ∙ words.empty j from below;
+      })
+      my (ap (λ i. window (receiver_stores k.size k.base k.list) i (taken n)) {x = suc (freed n)} (omega arith))
     where
       w : ℕ
       w = offset k (n.kc + 1)
 
-      next : suc (freed n) ≡ n.ln + (n.kc + 1) + n.kd
-      next = omega arith
-
-  done_lands : n.kc ≡ length k.list → n.kd < n.d → IsWrite word new (k.base + 12, 1) → Landing k n new mine (window (receiver_stores k.size k.base k.list) (suc (freed n)) (taken n))
+  done_lands : n.kc ≡ length k.list → n.kd < n.d → IsWrite word new (k.base + 12, 1) → Lands fastforward_blocks k n new mine (window (receiver_stores k.size k.base k.list) (suc (freed n)) (taken n))
   done_lands all some write =
-      record {
-        ls = n.ls;
-        km = n.km;
-        ln = n.ln;
-        kc = n.kc;
-        kd = n.kd + 1;
-        words_later = omega arith;
-        marks_later = omega arith;
-        nulls_later = omega arith;
-        order = order_kd k n order all some;
-        words = record {
-          mark = miss word new (k.base + 12) 1 write (k.base + 4) (omega arith) ∙ words.mark;
-          tail = miss word new (k.base + 12) 1 write (k.base + 8) (omega arith) ∙ words.tail;
-          done = hit word new (k.base + 12) 1 write (k.base + 12) refl ∙ one;
-          full = λ j from below. miss word new (k.base + 12) 1 write (slot k.size k.base j) (omega arith) ∙ words.full j from below;
-          empty = λ j from below. miss word new (k.base + 12) 1 write (slot k.size k.base j) (omega arith) ∙ words.empty j from below;
-        };
-        mine_is = my;
-        theirs_is = ap (λ i. window (receiver_stores k.size k.base k.list) i (taken n)) next;
-      }
+      lands k n new n.ls n.km n.ln n.kc (n.kd + 1) (omega arith) (order_kd k n order all some)
+      (record {
+        mark = miss word new (k.base + 12) 1 write (k.base + 4) (omega arith) ∙ words.mark;
+        tail = miss word new (k.base + 12) 1 write (k.base + 8) (omega arith) ∙ words.tail;
+        done = hit word new (k.base + 12) 1 write (k.base + 12) refl ∙ one;
+        full = λ j from below. miss word new (k.base + 12) 1 write (slot k.size k.base j) (omega arith) ∙ words.full j from below;
+        empty = λ j from below. miss word new (k.base + 12) 1 write (slot k.size k.base j) (omega arith) ∙ words.empty j from below;
+      })
+      my (ap (λ i. window (receiver_stores k.size k.base k.list) i (taken n)) {x = suc (freed n)} (omega arith))
     where
-      next : suc (freed n) ≡ n.ln + n.kc + (n.kd + 1)
-      next = omega arith
-
       one : 1 ≡ n.kd + 1
       one = omega (arith, some, order.d_one)
 
   -- whichever of its stores to the block is the oldest pending one, it lands
-  pub receiver_lands : (x : ℕ × ℕ) (rest : List (ℕ × ℕ)) → unread_of k n ≡ x ∷ rest → IsWrite word new x → Landing k n new mine rest
+  pub receiver_lands : (x : ℕ × ℕ) (rest : List (ℕ × ℕ)) → unread_of k n ≡ x ∷ rest → IsWrite word new x → Lands fastforward_blocks k n new mine rest
   receiver_lands x rest first write = at (cases_eq n.ln n.kc) (cases_lt n.ln (length k.list))
     where
       more : freed n < taken n
       more = some_in (receiver_stores k.size k.base k.list) (freed n) (taken n) x rest first
 
-      with : (y : ℕ × ℕ) → slice_get (receiver_stores k.size k.base k.list) (freed n) ≡ Some y → (IsWrite word new y → Landing k n new mine (window (receiver_stores k.size k.base k.list) (suc (freed n)) (taken n))) → Landing k n new mine rest
-      with y at lands = oldest_lands (λ ps. Landing k n new mine ps) (IsWrite word new) (receiver_stores k.size k.base k.list) (freed n) (taken n) x y rest first write at lands
+      with : (y : ℕ × ℕ) → slice_get (receiver_stores k.size k.base k.list) (freed n) ≡ Some y → (IsWrite word new y → Lands fastforward_blocks k n new mine (window (receiver_stores k.size k.base k.list) (suc (freed n)) (taken n))) → Lands fastforward_blocks k n new mine rest
+      with y at lands = oldest_lands (λ ps. Lands fastforward_blocks k n new mine ps) (IsWrite word new) (receiver_stores k.size k.base k.list) (freed n) (taken n) x y rest first write at lands
 
       nulls_all : n.u ≤ length k.list
       nulls_all = omega (arith, order.u_ls, order.ls_p, order.p_all)
@@ -237,7 +183,7 @@ module _ (k : Block) (is : IsBlock k) (n : Numbers) (order : Ordered k n) (word 
       tail_waits odd (inl less) = less
       tail_waits odd (inr none) = absurd (omega (arith, more, odd, none, not_last (omega (arith, odd, none, order.ln_u, nulls_all)), order.u_c))
 
-      at : (n.ln ≡ n.kc) ⊎ (n.ln ≢ n.kc) → (n.ln < length k.list) ⊎ (length k.list ≤ n.ln) → Landing k n new mine rest
+      at : (n.ln ≡ n.kc) ⊎ (n.ln ≢ n.kc) → (n.ln < length k.list) ⊎ (length k.list ≤ n.ln) → Lands fastforward_blocks k n new mine rest
       at (inl even) (inl some) = with (slot k.size k.base n.ln, 0) (store_null k.size k.base k.list n.ln (freed n) some (omega (arith, even, not_done (omega (arith, even, some))))) (λ w. null_lands even (null_waits even some (cases_lt n.ln n.u)) w)
       at (inl even) (inr all) =
           let tails : n.kc ≡ length k.list = omega (arith, even, all, order.ln_u, nulls_all) in

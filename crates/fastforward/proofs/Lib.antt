@@ -3,7 +3,6 @@ pub mod Orders
 pub mod Stores
 pub mod Landings
 pub mod ReceiverReads
-pub mod SenderLines
 pub mod SenderMoves
 pub mod SenderActs
 pub mod MiddleLines

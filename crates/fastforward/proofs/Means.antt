@@ -6,11 +6,11 @@ use Rattle.poll_close.specs.Means.{AllMean}
 use Rattle.poll_close.proofs.Lines.{all_mean}
 
 -- by the decoder's own function, on numerals
-sender-decoded : map meaning sender_code ≡ map Some sender_lines
+pub sender-decoded : map meaning sender_code ≡ map Some sender_lines
 unfolding meaning
 sender-decoded = refl
 
-receiver-decoded : map meaning receiver_code ≡ map Some receiver_lines
+pub receiver-decoded : map meaning receiver_code ≡ map Some receiver_lines
 unfolding meaning
 receiver-decoded = refl
 

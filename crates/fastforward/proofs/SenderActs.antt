@@ -15,7 +15,7 @@ use Rattle.poll_close.proofs.BlockLaws.{found_in, Sends}
 use Rattle.fastforward.specs.FastForward.{fastforward_blocks}
 use Rattle.fastforward.specs.Invariant.Stores.{sender_stores}
 use Rattle.fastforward.specs.Invariant.Numbers.{Made, Numbers, sent, gone, Ordered, Words, pending_of}
-use Rattle.fastforward.specs.Invariant.SenderState.{Written}
+use Rattle.poll_close.specs.Invariant.SenderState.{Written}
 use Rattle.fastforward.specs.Invariant.SenderPlaces.{SenderPlace, stands, Free, SenderIs, Standing}
 use Rattle.fastforward.proofs.Stores.{slots_apart, slot_again, store_word, word_at}
 use Rattle.fastforward.proofs.SenderMoves.{Moves, moves}
@@ -49,7 +49,7 @@ module _ (k : Block) (is : IsBlock k) (n : Numbers) (order : Ordered k n) (word 
           ∙ ap word here ∙ words.full n.ln (omega arith) (omega (arith, some, order.ln_u, order.u_ls))
 
   -- so what it finds is a word, which is not 0, or the slot is free
-  finds : (v : ℕ) → n.made.m ≡ 0 → n.made.p < length k.list → v ≡ found_in (pending_of k n) word (slot k.size k.base n.made.p) → (v ≢ 0) ⊎ Free k n.made n.ln
+  pub finds : (v : ℕ) → n.made.m ≡ 0 → n.made.p < length k.list → v ≡ found_in (pending_of k n) word (slot k.size k.base n.made.p) → (v ≢ 0) ⊎ Free k n.made n.ln
   finds v unmarked more read =
       elim (cases_eq n.made.p (n.ln + k.size)) [
         | inl round ↦ inl (λ zero_is. is.full n.ln (omega (arith, more, round)) (sym (full_slot unmarked more round) ∙ sym read ∙ zero_is))

@@ -1,5 +1,5 @@
 -- A sum of a register's word and a small number that is a word without a remainder: for proofs about
--- listings, in the crates above.
+-- listings (those of this repository count upwards).
 use Rattle.std.proofs.Common.{ℕ, negsuc, pos, ◌+◌, ◌-◌, ◌^◌, ◌+ℤ◌, ◌<◌, ◌≤◌, ◌≡◌, refl, ◌∙◌, ap, arith}
 use Rattle.std.specs.Prelude.{unsigned_abs}
 use Rattle.std.proofs.lemmas.Int.{ints, int_rem_euclid_is}

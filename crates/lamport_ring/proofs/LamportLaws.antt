@@ -1,5 +1,5 @@
 -- The laws of one block, all together, and so the laws of the ring.
-use Rattle.std.proofs.Common.{ℕ, suc, ◌+◌, ◌<◌, ◌≤◌, ◌≡◌, List, length, Some, refl, sym, ◌∙◌, ap, arith, append-nil, lit≤}
+use Rattle.std.proofs.Common.{ℕ, suc, ◌+◌, ◌<◌, ◌≤◌, ◌≡◌, length, Some, refl, sym, ◌∙◌, ap, arith, append-nil, lit≤}
 use Rattle.std.specs.List.{slice_get}
 use Rattle.std.proofs.Math.Nat.{zero-mod}
 use Rattle.hart.specs.State.{HartState}
@@ -7,17 +7,16 @@ use Rattle.poll_close.specs.Laws.{IsShort, Opens, Keeps, Cleans, Goes}
 use Rattle.poll_close.specs.Invariant.Blocks.{Block, offset, slot}
 use Rattle.poll_close.proofs.Windows.{window_made}
 use Rattle.poll_close.proofs.Blocks.{IsBlock, Within, first_of, word_of, slot_of}
-use Rattle.poll_close.proofs.BlockLaws.{BlockLaws, Begins, Lands, Tailed, Done, Reported, opens_with}
+use Rattle.poll_close.proofs.BlockLaws.{BlockLaws, Begins, Tailed, Done, Reported, opens_with}
 use Rattle.poll_close.proofs.ChannelLaws.{opens, keeps, cleans, goes}
 use Rattle.lamport_ring.specs.Listing.{sender_code}
 use Rattle.lamport_ring.specs.Lamport.{lamport, lamport_blocks, lamport_means}
 use Rattle.lamport_ring.specs.Invariant.Stores.{receiver_stores}
 use Rattle.lamport_ring.specs.Invariant.Numbers.{Numbers, sent, gone, Ordered, Words, pending_of, unread_of}
-use Rattle.lamport_ring.specs.Invariant.SenderState.{Written}
-use Rattle.lamport_ring.specs.Invariant.SenderPlaces.{SenderPlace, P00, P04, P08, P0C, P10, P14, P18, P1C, P20, P24, P28, P2C, P30, P34, P38, P3C, P40, Over, SenderIs, Standing}
+use Rattle.lamport_ring.specs.Invariant.SenderPlaces.{P00, Standing}
 use Rattle.lamport_ring.proofs.Orders.{order_c, order_d, order_told}
 use Rattle.lamport_ring.proofs.Stores.{store_tail, store_done, sender_stores_are, receiver_stores_are}
-use Rattle.lamport_ring.proofs.Landings.{Landing, sender_lands, receiver_lands}
+use Rattle.lamport_ring.proofs.Landings.{sender_lands, receiver_lands}
 use Rattle.lamport_ring.proofs.ReceiverReads.{seen_mark, seen_done}
 use Rattle.lamport_ring.proofs.SenderActs.{sends}
 use Rattle.lamport_ring.proofs.MiddleMoves.{middle_14, middle_18, middle_1C, middle_20, middle_24}
@@ -28,7 +27,7 @@ nothing = record { made = record { g = 0; p = 0; q = 0; m = 0 }; ls = 0; kh = 0;
 begins : (k : Block) → IsBlock k → Begins lamport_blocks k (opens_with sender_code k)
 begins k is = record {
   none = nothing;
-  order = record { kc_c = omega arith; c_kh = omega arith; kh_ls = omega arith; ls_kh = omega arith; ls_p = omega arith; kh_q = omega arith; q_p = omega arith; p_q = omega arith; p_kc = omega (arith, is.some_slot); p_all = omega arith; m_one = omega arith; km_m = omega arith; m_all = λ some. omega arith; km_all = λ some. omega arith; d_one = omega arith; kd_d = omega arith; d_all = λ some. omega arith; kd_all = λ some. omega arith };
+  order = omega (arith, is.some_slot);
   words = record { head = omega (arith, zero-mod k.size); mark = refl; tail = omega (arith, zero-mod k.size); done = refl; slots = λ j from below. omega arith };
   stands = record { place = P00; written = record { x5 = 0; x6 = 0; x7 = 0; x10 = 0; x11 = 0; x17 = 0; x28 = 0 }; is = refl; holds = (record { taken = refl; heads = refl; unmarked = refl }, omega (arith, zero-mod k.size)) };
   unsent = refl;
@@ -48,27 +47,6 @@ words_same k n word new is same w = record {
   done = same (k.base + 12) (word_of k is 12 (omega arith) refl).within ∙ w.done;
   slots = λ j from below. same (slot k.size k.base j) (slot_of k is j).within ∙ w.slots j from below;
 }
-
--- a later tail keeps the sender's assertion
-holds_later : (k : Block) (here : SenderPlace) (n : _) (kc later : ℕ) (r : Written) → kc ≤ later → SenderIs k here n kc r → SenderIs k here n later r
-holds_later k P00 n kc later r more h = h
-holds_later k P04 n kc later r more h = h
-holds_later k P08 n kc later r more h = h
-holds_later k P0C n kc later r more h = h
-holds_later k P10 n kc later r more h = h
-holds_later k P14 n kc later r more h = h
-holds_later k P18 n kc later r more h = h
-holds_later k P1C n kc later r more h = (h.0, h.1, record { tail = h.2.tail; landed = omega (arith, h.2.landed); near = h.2.near; old = h.2.old; is = h.2.is })
-holds_later k P20 n kc later r more h = (h.0, h.1, omega arith)
-holds_later k P24 n kc later r more h = (h.0, h.1, omega arith, h.3)
-holds_later k P28 n kc later r more h = h
-holds_later k P2C n kc later r more h = h
-holds_later k P30 n kc later r more h = h
-holds_later k P34 n kc later r more h = h
-holds_later k P38 n kc later r more h = h
-holds_later k P3C n kc later r more h = h
-holds_later k P40 n kc later r more h = h
-holds_later k Over n kc later r more h = h
 
 -- the receiver's own numbers grow: the sender and the words of memory stay
 module _ (k : Block) (n : Numbers) (order : Ordered k n) where
@@ -132,18 +110,6 @@ module _ (k : Block) (n : Numbers) (order : Ordered k n) where
     shut = refl;
   }
 
--- a landing, as the laws ask for it
-landing : (k : Block) (n : Numbers) (new : ℕ → ℕ) (mine theirs : List (ℕ × ℕ)) → Landing k n new mine theirs → Lands lamport_blocks k n new mine theirs
-landing k n new mine theirs l = record {
-  after = record n { ls = l.ls; kh = l.kh; km = l.km; kc = l.kc; kd = l.kd };
-  order = l.order;
-  words = l.words;
-  sender = λ s st. record { place = st.place; written = st.written; is = st.is; holds = holds_later k st.place n.made n.kc l.kc st.written l.later st.holds };
-  unsent = l.mine_is;
-  unread = l.theirs_is;
-  grows = record { tails = refl; dones = refl; took = refl; shut = refl; marks = l.marks; later = l.heads };
-}
-
 pub lamport_laws : BlockLaws lamport_blocks sender_code
 lamport_laws = record {
   begins = begins;
@@ -162,8 +128,8 @@ lamport_laws = record {
   stays_20 = λ k n new r g order h. (omega (arith, g.tails, g.later, h.0), h.1 ∙ ap (offset k) (sym g.tails));
   stays_24 = λ k n new r g order h. (omega (arith, g.tails, g.later, h.0), h.1 ∙ ap (offset k) (sym g.tails), h.2);
   sends = sends;
-  sender_lands = λ k n word new x rest is order words oldest write. landing k n new rest (unread_of k n) (sender_lands k is n order word new words x rest (unread_of k n) oldest write refl);
-  receiver_lands = λ k n word new x rest is order words oldest write. landing k n new (pending_of k n) rest (receiver_lands k is n order word new words x rest (pending_of k n) oldest write refl);
+  sender_lands = λ k n word new x rest is order words oldest write. sender_lands k is n order word new words x rest (unread_of k n) oldest write refl;
+  receiver_lands = λ k n word new x rest is order words oldest write. receiver_lands k is n order word new words x rest (pending_of k n) oldest write refl;
   sees_done = λ k n word order words. seen_done k n word order words;
   sees_mark = λ k n word order words. seen_mark k n word order words;
   stores_tail = λ k n order more on. stores_tail k n order more on;

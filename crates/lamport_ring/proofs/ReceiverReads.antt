@@ -1,38 +1,29 @@
 -- What the receiver finds at a block's words: its own newest pending store, else the word of memory.
-use Rattle.std.proofs.Common.{ℕ, zero, suc, ◌+◌, ◌*◌, ◌%◌, ◌<◌, ◌≤◌, ◌≡◌, ◌≢◌, ◌⊎◌, inl, inr, List, [], ◌∷◌, length, Some, None, refl, ◌∙◌, ap, arith}
+use Rattle.std.proofs.Common.{ℕ, zero, suc, ◌+◌, ◌<◌, ◌≤◌, ◌≡◌, ◌≢◌, ◌⊎◌, inl, inr, List, [], length, Some, None, refl, sym, ◌∙◌, ap, arith}
 use Rattle.std.specs.Prelude.{slice_index, unwrap_or}
 use Rattle.std.specs.List.{slice_get}
 use Rattle.std.proofs.lemmas.Bool.{cases_lt, cases_eq}
-use Rattle.poll_close.specs.Invariant.Blocks.{window}
-use Rattle.poll_close.proofs.Windows.{Each, Each-window, window_empty, newest_to, newest_none, newest_made}
+use Rattle.poll_close.specs.Invariant.Blocks.{Block, offset, slot, window, tail_store}
+use Rattle.poll_close.proofs.Windows.{Each, Each-window, Each-range, window_empty, newest_to, newest_none, newest_made, OfWord, single_is, singles_each}
 use Rattle.poll_close.proofs.BlockLaws.{found_in}
-use Rattle.lamport_ring.specs.Invariant.Stores.{tails_from, receiver_stores}
+use Rattle.lamport_ring.specs.Invariant.Stores.{receiver_stores}
 use Rattle.lamport_ring.proofs.Stores.{store_tail, store_done}
-use Rattle.poll_close.specs.Invariant.Blocks.{slot}
-use Rattle.poll_close.specs.Invariant.Blocks.{Block, offset}
-use Rattle.lamport_ring.specs.Invariant.Numbers.{Numbers, Ordered}
-use Rattle.lamport_ring.specs.Invariant.Numbers.{Words, unread_of}
+use Rattle.lamport_ring.specs.Invariant.Numbers.{Numbers, Ordered, Words, unread_of}
 
-none_tails : (S b j : ℕ) (ws : List ℕ) (a : ℕ) → a ≢ b + 8 → a ≢ b + 12 → Each (λ y. y.0 ≢ a) (tails_from S b j ws)
-none_tails S b j [] a tail done zero x is = let same : b + 12 ≡ x.0 = ap (λ (y : ℕ × ℕ). y.0) (let pair : (b + 12, 1) ≡ x = cc in pair) in omega arith
-none_tails S b j [] a tail done (suc i) x is = cc
-none_tails S b j (w ∷ ws) a tail done zero x is = let same : b + 8 ≡ x.0 = ap (λ (y : ℕ × ℕ). y.0) (let pair : (b + 8, 4 * ((j + 1) % S)) ≡ x = cc in pair) in omega arith
-none_tails S b j (w ∷ ws) a tail done (suc i) x is = none_tails S b (j + 1) ws a tail done i x is
+none_tails : (S b : ℕ) (ws : List ℕ) (a : ℕ) → a ≢ b + 8 → a ≢ b + 12 → Each (λ y. y.0 ≢ a) (receiver_stores S b ws)
+none_tails S b ws a tail done = singles_each (λ y. y.0 ≢ a) (tail_store S b) (b + 12, 1) ws (λ j less same. tail (sym same)) (λ same. done (sym same))
 
 -- a tail store is none to the done word
-none_done : (S b j : ℕ) (ws : List ℕ) (i c : ℕ) → c ≤ length ws → Each (λ y. y.0 ≢ b + 12) (window (tails_from S b j ws) i c)
-none_done S b j [] zero zero less t x is = cc
-none_done S b j [] (suc i) zero less t x is = cc
-none_done S b j [] i (suc c) less t x is = absurd (omega arith)
-none_done S b j (w ∷ ws) zero zero less t x is = cc
-none_done S b j (w ∷ ws) zero (suc c) less zero x is = let same : b + 8 ≡ x.0 = ap (λ (y : ℕ × ℕ). y.0) (let pair : (b + 8, 4 * ((j + 1) % S)) ≡ x = cc in pair) in omega arith
-none_done S b j (w ∷ ws) zero (suc c) less (suc t) x is = none_done S b (j + 1) ws zero c (omega arith) t x is
-none_done S b j (w ∷ ws) (suc i) zero less t x is = cc
-none_done S b j (w ∷ ws) (suc i) (suc c) less t x is = none_done S b (j + 1) ws i c (omega arith) t x is
+none_done : (S b : ℕ) (ws : List ℕ) (i c : ℕ) → c ≤ length ws → Each (λ y. y.0 ≢ b + 12) (window (receiver_stores S b ws) i c)
+none_done S b ws i c less = Each-range (λ y. y.0 ≢ b + 12) (receiver_stores S b ws) i c (λ t x from below got. differs t x below (single_is (tail_store S b) (b + 12, 1) ws t x got))
+  where
+    differs : (t : ℕ) (x : ℕ × ℕ) → t < c → OfWord (tail_store S b) (λ k. k) ws t x ⊎ ((t ≡ length ws) × (x ≡ (b + 12, 1))) → x.0 ≢ b + 12
+    differs t x below (inl of) same = let tail : x.0 ≡ b + 8 = ap (λ (y : ℕ × ℕ). y.0) of.3 in omega (arith, tail, same)
+    differs t x below (inr over) same = omega (arith, over.0, below, less)
 
 module _ (k : Block) (n : Numbers) (word : ℕ → ℕ) (order : Ordered k n) (words : Words k n word) where
   seen_none : (a : ℕ) → a ≢ k.base + 8 → a ≢ k.base + 12 → found_in (unread_of k n) word a ≡ word a
-  seen_none a tail done = ap (λ o. unwrap_or o (word a)) (newest_none a None (unread_of k n) (Each-window (λ y. y.0 ≢ a) (receiver_stores k.size k.base k.list) (n.kc + n.kd) (n.c + n.d) (none_tails k.size k.base 0 k.list a tail done)))
+  seen_none a tail done = ap (λ o. unwrap_or o (word a)) (newest_none a None (unread_of k n) (Each-window (λ y. y.0 ≢ a) (receiver_stores k.size k.base k.list) (n.kc + n.kd) (n.c + n.d) (none_tails k.size k.base k.list a tail done)))
 
   pub seen_mark : found_in (unread_of k n) word (k.base + 4) ≡ n.km
   seen_mark = seen_none (k.base + 4) (λ h. omega arith) (λ h. omega arith) ∙ words.mark
@@ -70,7 +61,7 @@ module _ (k : Block) (n : Numbers) (word : ℕ → ℕ) (order : Ordered k n) (w
       at (inl none) kd =
           let last : n.c + n.d ≡ n.c = omega arith in
           ap (λ m. unwrap_or (newest_to (k.base + 12) None (window (receiver_stores k.size k.base k.list) (n.kc + n.kd) m)) (word (k.base + 12))) last
-          ∙ ap (λ o. unwrap_or o (word (k.base + 12))) (newest_none (k.base + 12) None (window (receiver_stores k.size k.base k.list) (n.kc + n.kd) n.c) (none_done k.size k.base 0 k.list (n.kc + n.kd) n.c within))
+          ∙ ap (λ o. unwrap_or o (word (k.base + 12))) (newest_none (k.base + 12) None (window (receiver_stores k.size k.base k.list) (n.kc + n.kd) n.c) (none_done k.size k.base k.list (n.kc + n.kd) n.c within))
           ∙ words.done ∙ (let same : n.kd ≡ n.d = omega (arith, order.kd_d) in same)
       at (inr one) (inr landed) =
           let some : 0 < n.kd = omega arith in

@@ -1,34 +1,30 @@
 -- What the sender finds, and its acts as the laws of a block ask for them.
-use Rattle.std.proofs.Common.{ℕ, zero, suc, ◌+◌, ◌*◌, ◌%◌, ◌≡◌, ◌≢◌, List, [], ◌∷◌, ◌++◌, None, refl, sym, ◌∙◌, ap, subst, arith}
+use Rattle.std.proofs.Common.{ℕ, ◌+◌, ◌≡◌, ◌≢◌, List, ◌++◌, None, refl, sym, ◌∙◌, ap, subst, arith}
 use Rattle.std.specs.Prelude.{unwrap_or}
 use Rattle.hart.specs.State.{HartState}
 use Rattle.hart.specs.Steps.{need_of, advanced}
 use Rattle.hart.specs.declared.status.Status.TheVariants as status
-use Rattle.poll_close.specs.Invariant.Blocks.{Block, offset, slot}
+use Rattle.poll_close.specs.Invariant.Blocks.{Block, offset, slot_store}
 use Rattle.poll_close.proofs.Acts.{stored_by, IsNoAmo}
 use Rattle.poll_close.proofs.Lines.{loads}
-use Rattle.poll_close.proofs.Windows.{Each, Each-window, newest_none}
+use Rattle.poll_close.proofs.Windows.{Each, Each-window, newest_none, pairs_each}
 use Rattle.poll_close.proofs.Blocks.{IsBlock, IsWordOf, word_of}
 use Rattle.poll_close.proofs.BlockLaws.{found_in, Sends}
 use Rattle.lamport_ring.specs.Lamport.{lamport_blocks}
-use Rattle.lamport_ring.specs.Invariant.Stores.{stores_from, sender_stores}
+use Rattle.lamport_ring.specs.Invariant.Stores.{head_store, sender_stores}
 use Rattle.lamport_ring.specs.Invariant.Numbers.{Made, Numbers, sent, gone, Ordered, Words, pending_of}
-use Rattle.lamport_ring.specs.Invariant.SenderState.{Written}
+use Rattle.poll_close.specs.Invariant.SenderState.{Written}
 use Rattle.lamport_ring.specs.Invariant.SenderPlaces.{SenderPlace, stands, SenderIs, Standing}
 use Rattle.lamport_ring.proofs.SenderMoves.{Moves, moves}
 
 -- the sender never stores to the tail
-no_tail_from : (S b j : ℕ) (ws : List ℕ) → Each (λ y. y.0 ≢ b + 8) (stores_from S b j ws)
-no_tail_from S b j [] zero x is = let same : b + 4 ≡ x.0 = ap (λ (y : ℕ × ℕ). y.0) (let pair : (b + 4, 1) ≡ x = cc in pair) in omega arith
-no_tail_from S b j [] (suc i) x is = cc
-no_tail_from S b j (w ∷ ws) zero x is = let same : slot S b j ≡ x.0 = ap (λ (y : ℕ × ℕ). y.0) (let pair : (slot S b j, w) ≡ x = cc in pair) in omega arith
-no_tail_from S b j (w ∷ ws) (suc zero) x is = let same : b ≡ x.0 = ap (λ (y : ℕ × ℕ). y.0) (let pair : (b, 4 * ((j + 1) % S)) ≡ x = cc in pair) in omega arith
-no_tail_from S b j (w ∷ ws) (suc (suc i)) x is = no_tail_from S b (j + 1) ws i x is
+no_tail : (S b : ℕ) (ws : List ℕ) → Each (λ y. y.0 ≢ b + 8) (sender_stores S b ws)
+no_tail S b ws = pairs_each (λ y. y.0 ≢ b + 8) (slot_store S b) (head_store S b) (b + 4, 1) ws (λ j less. (λ same. omega arith, λ same. omega arith)) (λ same. omega arith)
 
 -- what the sender finds at the tail is the word of memory
 tail_found : (k : Block) (n : Numbers) (word : ℕ → ℕ) → Words k n word → found_in (pending_of k n) word (k.base + 8) ≡ offset k n.kc
 tail_found k n word words =
-    ap (λ o. unwrap_or o (word (k.base + 8))) (newest_none (k.base + 8) None (pending_of k n) (Each-window (λ y. y.0 ≢ k.base + 8) (sender_stores k.size k.base k.list) (gone n) (sent n) (no_tail_from k.size k.base 0 k.list)))
+    ap (λ o. unwrap_or o (word (k.base + 8))) (newest_none (k.base + 8) None (pending_of k n) (Each-window (λ y. y.0 ≢ k.base + 8) (sender_stores k.size k.base k.list) (gone n) (sent n) (no_tail k.size k.base k.list)))
     ∙ words.tail
 
 -- its own numbers grow, and the words of memory stay

@@ -2,6 +2,5 @@
 -- of the ring are proved by it.
 pub mod Stores
 pub mod Numbers
-pub mod SenderState
 pub mod SenderPlaces
 pub mod Middle

@@ -181,16 +181,6 @@ has_at (first ∷ above) below name = elim (cases_Bool (bytes_eq first name)) [
   | inr apart ↦ rw apart (has_at above below name)
 ]
 
-once_has : (ms : Names) (name : List ℕ) → has (each_once ms) name ≡ has ms name
-once_has [] name = refl
-once_has (m ∷ ms) name = elim (cases_Bool (bytes_eq m name)) [
-  | inl same ↦ rw same refl
-  | inr apart ↦ rw apart (has-without m name (each_once ms) apart ∙ once_has ms name)
-]
-
-pub is_met : (ms : Names) (name : List ℕ) (index : ℕ) → IsAt (each_once ms) name index → has ms name ≡ true
-is_met ms name index at = sym (once_has ms name) ∙ ap (λ (xs : Names). has xs name) at.2 ∙ has_at at.0 at.1 name
-
 -- ---- meeting a name
 
 record Indexed (at : ℕ) (names : Names) (name : List ℕ) (index : ℕ) : Type 0 where

@@ -13,7 +13,8 @@ use Rattle.assembler.specs.Statements.{Made, one, two, jump, branch}
 use Rattle.assembler.specs.Drafts.{Line, onto, finished, size_of, words_of, distance, placed, at_line, all_placed, place_of}
 use Rattle.litmus_reader.specs.declared.faults.LitmusFault.{LitmusFault}
 use Rattle.litmus_reader.specs.declared.faults.LitmusFault.TheVariants.{BadInstr}
-use Rattle.litmus_reader.specs.declared.refusals.Refusal.{Refusal as Refused}
+use Rattle.texts.specs.declared.errors.TextError.{TextError}
+use Rattle.litmus_reader.specs.declared.refusals.AtLeft.{AtLeft}
 use Rattle.litmus_reader.specs.Faults.{fault_in}
 use Rattle.litmus_reader.specs.Table.{Code, Column, codes_of, as_instr, instructions, instructions_of, IsPlainCode, ArePlain, AreShort}
 
@@ -111,10 +112,10 @@ told_short : (columns : List Column) (codes : List Code) → codes_of columns �
 told_short columns codes told = let P : Result (List Code) LitmusFault → Type 0 = λ r. AllShort (length columns) r in subst P told (codes_short columns)
 
 -- what is answered of the harts' words
-pub answered_count : (columns : List Column) (result : Result (Vec (Vec ℕ Global) Global) Refused) → Gives fault_in instructions result (codes_of columns) → IfOk result (λ words. length words.items ≡ length columns)
+pub answered_count : (columns : List Column) (result : Result (Vec (Vec ℕ Global) Global) (TextError AtLeft)) → Gives fault_in instructions result (codes_of columns) → IfOk result (λ words. length words.items ≡ length columns)
 answered_count columns (Ok words) told = let counted = (told_short columns (instructions words) told).0 in simp length-map at counted
 answered_count columns (Err e) told = tt
 
-pub answered_short : (columns : List Column) (result : Result (Vec (Vec ℕ Global) Global) Refused) → Gives fault_in instructions result (codes_of columns) → IfOk result (λ words. AreShort (instructions words))
+pub answered_short : (columns : List Column) (result : Result (Vec (Vec ℕ Global) Global) (TextError AtLeft)) → Gives fault_in instructions result (codes_of columns) → IfOk result (λ words. AreShort (instructions words))
 answered_short columns (Ok words) told = (told_short columns (instructions words) told).1
 answered_short columns (Err e) told = tt

@@ -11,8 +11,9 @@ use Rattle.litmus.specs.Formulas.{Formula}
 use Rattle.litmus.specs.Questions.{Question, question_of}
 use Rattle.litmus_words.specs.Settings.{Put}
 use Rattle.litmus_reader.specs.declared.faults.LitmusFault.{LitmusFault}
-use Rattle.litmus_reader.specs.declared.faults.LitmusError.{LitmusError}
-use Rattle.litmus_reader.specs.declared.faults.LitmusError.TheVariants.{NoMemory, Refused}
+use Rattle.texts.specs.declared.errors.AtLine.{AtLine}
+use Rattle.texts.specs.declared.errors.TextError.{TextError}
+use Rattle.texts.specs.declared.errors.TextError.TheVariants.{NoMemory, Refused}
 use Rattle.litmus_reader.specs.Faults.{fault_of}
 use Rattle.litmus_reader.specs.Locations.{Names}
 use Rattle.litmus_reader.specs.Reading.{HartContent, Content, hart_content, content_of, test_at}
@@ -59,16 +60,16 @@ one_test text a b first second =
 
 -- ---- what `read` answers
 
-pub found_test : (text : List ℕ) (result : Result Question LitmusError) → Gives fault_of content_of result (test_at text) → IfOk result (λ test. All HasPlainCode test.opening.harts) → IfOk result (IsTestOf text)
+pub found_test : (text : List ℕ) (result : Result Question (TextError (AtLine LitmusFault))) → Gives fault_of content_of result (test_at text) → IfOk result (λ test. All HasPlainCode test.opening.harts) → IfOk result (IsTestOf text)
 unfolding IsTestOf
 found_test text (Ok test) e plain = (content_found text (content_of test) e, plain)
 found_test text (Err error) e plain = tt
 
-pub only_test : (text : List ℕ) (question : Question) (result : Result Question LitmusError) → Gives fault_of content_of result (test_at text) → IfOk result (λ test. All HasPlainCode test.opening.harts) → IsTestOf text question → Gives fault_of (λ (test : Question). test) result (Ok question)
+pub only_test : (text : List ℕ) (question : Question) (result : Result Question (TextError (AtLine LitmusFault))) → Gives fault_of content_of result (test_at text) → IfOk result (λ test. All HasPlainCode test.opening.harts) → IsTestOf text question → Gives fault_of (λ (test : Question). test) result (Ok question)
 unfolding IsTestOf
 only_test text question (Ok test) e plain is = ap (λ (t : Question). Ok t) (one_test text question test is (found_test text (Ok test) e plain))
 only_test text question (Err NoMemory) e plain is = tt
-only_test text question (Err (Refused fault line)) e plain is = absurd (let read = content_only text (content_of question) is.0 in cc)
+only_test text question (Err (Refused refusal)) e plain is = absurd (let read = content_only text (content_of question) is.0 in cc)
 
 -- ---- read, or refused
 

@@ -5,10 +5,11 @@ use Rattle.std.specs.List.{count_by}
 use Rattle.std.specs.Str.Lines.{lines}
 use Rattle.texts.specs.Pieces.{span, is_gap, pieces}
 use Rattle.texts.specs.Cutting.{is_byte}
-use Rattle.litmus_reader.specs.declared.faults.LitmusError.{LitmusError}
-use Rattle.litmus_reader.specs.declared.faults.LitmusError.TheVariants.{NoMemory, Refused}
-use Rattle.litmus_reader.specs.declared.refusals.Refusal.{Refusal}
-use Rattle.litmus_reader.specs.declared.refusals.Refusal.TheVariants as refusal
+use Rattle.texts.specs.declared.errors.AtLine.{AtLine}
+use Rattle.texts.specs.declared.errors.TextError.{TextError}
+use Rattle.texts.specs.declared.errors.TextError.TheVariants.{NoMemory, Refused}
+use Rattle.litmus_reader.specs.declared.faults.LitmusFault.{LitmusFault}
+use Rattle.litmus_reader.specs.declared.refusals.AtLeft.{AtLeft}
 use Rattle.litmus_reader.specs.Rows.{is_blank_line}
 use Rattle.texts.specs.declared.pieces.Separators.TheVariants.{Byte}
 
@@ -33,9 +34,9 @@ last_line text = or_first (last_filled (lines text))
 unfoldable pub line_at : List ℕ → (left : ℕ) → ℕ
 line_at text left = if left == 0 then last_line text else count_by (is_byte 10) (take (length text - left) text) + 1
 
-abbrev pub error_at : List ℕ → Refusal → LitmusError
-error_at text refusal.NoMemory = NoMemory
-error_at text (refusal.At fault left) = Refused fault (line_at text left)
+abbrev pub error_at : List ℕ → TextError AtLeft → TextError (AtLine LitmusFault)
+error_at text NoMemory = NoMemory
+error_at text (Refused refusal) = Refused (record { fault = refusal.fault; line = line_at text refusal.left })
 
 -- ---- where faults are met
 

@@ -10,7 +10,7 @@ ghost use Rattle.litmus.specs.declared.words.Token.{Token};
 ghost use Rattle.litmus_words.specs.Settings.{place_of as place_put, put_of};
 ghost use Rattle.litmus_words.specs.Words.{token_of as token_put, words_of};
 ghost use Rattle.litmus_reader.specs.declared.faults.LitmusFault.TheVariants.{BadCondition};
-ghost use Rattle.litmus_reader.specs.declared.refusals.Refusal.TheVariants.{At};
+ghost use Rattle.texts.specs.declared.errors.TextError.TheVariants.{Refused};
 ghost use Rattle.litmus_reader.specs.Faults.{fault_in};
 ghost use Rattle.litmus_reader.specs.Locations.{HasLocation, HasNames};
 ghost use Rattle.litmus_reader.specs.Condition.{Quantified, quantified_of, quantifier_in, place_met, atom_met, token_met, WordHasNames, as_condition, words_told, condition_in, condition_of};
@@ -162,7 +162,7 @@ fn read_words(
 
 /// The condition of the words.
 fn finish(draft: ConditionDraft) -> Result<Condition, Refusal>
-    ensures place { IfErr result (λ refusal. refusal ≡ At BadCondition 0) }
+    ensures place { IfErr result (λ refusal. refusal ≡ Refused (record { fault = BadCondition; left = 0 })) }
     ensures exact { Gives fault_in (λ (f : Formula). f) result (as_condition (finished draft)) }
 {
     match draft.finish() {

@@ -1,9 +1,6 @@
 //! Why a text isn't a litmus test.
 
-ghost use Rattle.std.specs.Prelude.{◌≡◌};
-ghost use Rattle.litmus_reader.specs.declared.faults.LitmusError.TheVariants.{NoMemory};
-
-use std::alloc::{AllocError, AllocFailed};
+use texts::{AtLine, Numbered, TextError};
 use thiserror::Error;
 
 /// What is wrong with a text: the first fault in reading order. Each has the number by which texts
@@ -31,13 +28,12 @@ pub enum LitmusFault {
     TooMany,
 }
 
-impl LitmusFault {
+impl Numbered for LitmusFault {
     ghost use Rattle.litmus_reader.specs.Faults.{number_of};
 
-    /// The number by which texts name the fault.
-    pub fn number(self) -> u8
-        ensures { result ≡ number_of self }
-    {
+    ghost number = { number_of };
+
+    fn number(self) -> u8 {
         match self {
             LitmusFault::NoHeader => 21,
             LitmusFault::BadInit => 22,
@@ -49,42 +45,5 @@ impl LitmusFault {
     }
 }
 
-/// Why a text has no test.
-#[derive(Clone, Copy, Debug, PartialEq, Eq, Error)]
-pub enum LitmusError {
-    #[error("no memory")]
-    NoMemory,
-    /// The text is refused for a fault of one of its lines, which count from 1.
-    #[error("{fault} at line {line}")]
-    Refused { fault: LitmusFault, line: usize },
-}
-
-impl LitmusError {
-    ghost use Rattle.litmus_reader.specs.Faults.{number_of_error};
-
-    /// The number by which texts name what went wrong: that of the fault, and 0 where memory ran out.
-    pub fn number(self) -> u8
-        ensures { result ≡ number_of_error self }
-    {
-        match self {
-            LitmusError::NoMemory => 0,
-            LitmusError::Refused { fault, .. } => fault.number(),
-        }
-    }
-}
-
-impl From<AllocError> for LitmusError {
-    ghost from_gives = { λ _ e. e ≡ NoMemory };
-
-    fn from(_error: AllocError) -> LitmusError {
-        LitmusError::NoMemory
-    }
-}
-
-impl<T: Drop> From<AllocFailed<T>> for LitmusError {
-    ghost from_gives = { λ _ e. e ≡ NoMemory };
-
-    fn from(_error: AllocFailed<T>) -> LitmusError {
-        LitmusError::NoMemory
-    }
-}
+/// Why a text has no test: no memory, or the text is refused for a fault of one of its lines.
+pub type LitmusError = TextError<AtLine<LitmusFault>>;

@@ -4,7 +4,7 @@ ghost use Rattle.std.specs.Prelude.{◌≡◌, ◌≢◌, drop};
 ghost use Rattle.std.specs.Result.{IfErr};
 ghost use Rattle.texts.specs.Results.{Gives};
 ghost use Rattle.litmus_reader.specs.declared.faults.LitmusFault.TheVariants.{BadInit};
-ghost use Rattle.litmus_reader.specs.declared.refusals.Refusal.TheVariants.{NoMemory, At};
+ghost use Rattle.texts.specs.declared.errors.TextError.TheVariants.{NoMemory, Refused};
 ghost use Rattle.litmus_reader.specs.Faults.{fault_in};
 ghost use Rattle.litmus_reader.specs.Header.{has_name, is_header, behind_header as header_at, behind_brace as brace_at};
 
@@ -65,7 +65,7 @@ fn behind_first(text: &[u8]) -> &[u8]
 #[tactic(auto, unfolding(crate::specs::Header::behind_brace))]
 pub fn behind_brace(text: &[u8]) -> Result<&[u8], Refusal>
     ensures exact { Gives fault_in (λ rest. rest.now) result (brace_at text.now) }
-    ensures place { IfErr result (λ refusal. refusal ≡ At BadInit 0) }
+    ensures place { IfErr result (λ refusal. refusal ≡ Refused (record { fault = BadInit; left = 0 })) }
 {
     match cut_at_line(Mark::Brace, text).1 {
         Some(text) => Ok(behind_first(without_front(text))),

@@ -20,7 +20,7 @@ use crate::init::{Init, read_items};
 use crate::locations::Locations;
 use crate::marks::{Mark, cut_at_line};
 use crate::opening::{Values, harts_of, pad, values_of};
-use crate::refusals::Refusal;
+use crate::refusals::{Refusal, error_of};
 use crate::table::read_table;
 use litmus::Test;
 use litmus_words::cleaned;
@@ -125,7 +125,7 @@ fn cleaned_test(alloc: Global, text: &[u8]) -> Result<Test, LitmusError>
     let clean = cleaned(alloc, text)?;
     match test_in(alloc, &clean) {
         Ok(test) => Ok(test),
-        Err(refusal) => Err(refusal.of(text)),
+        Err(refusal) => Err(error_of(refusal, text)),
     }
 }
 

@@ -3,53 +3,52 @@
 ghost use Rattle.std.specs.Prelude.{◌≡◌, ◌≤◌, length, position, Some};
 ghost use Rattle.std.specs.List.{count_by};
 ghost use Rattle.texts.specs.Cutting.{is_byte};
-ghost use Rattle.litmus_reader.specs.declared.refusals.Refusal.TheVariants.{NoMemory, At};
+ghost use Rattle.texts.specs.declared.errors.TextError.TheVariants.{Refused};
 ghost use Rattle.litmus_reader.specs.Faults.{fault_of, fault_in};
 ghost use Rattle.litmus_reader.specs.Lines.{last_line, line_at, error_at, is_visible, left_of};
 
 use crate::faults::{LitmusError, LitmusFault};
-use std::alloc::{AllocError, AllocFailed};
-use texts::{Separators, first_line};
+use texts::{Separators, TextError, first_line};
+
+/// A fault that is met where so many bytes of the text are left; none are left where a part is missing.
+#[derive(Clone, Copy)]
+pub struct AtLeft {
+    pub fault: LitmusFault,
+    pub left: usize,
+}
 
 /// Why a part of a text wasn't read.
-#[derive(Clone, Copy)]
-pub enum Refusal {
-    NoMemory,
-    /// The fault is met where so many bytes of the text are left; none are left where a part is missing.
-    At { fault: LitmusFault, left: usize },
-}
+pub type Refusal = TextError<AtLeft>;
 
 impl LitmusFault {
     /// The refusal for this fault where so many bytes of the text are left.
     pub(crate) fn at(self, left: usize) -> Refusal
         ensures fault { fault_in result ≡ Some self }
-        ensures place { result ≡ At self left }
+        ensures place { result ≡ Refused (record { fault = self; left = left }) }
     {
-        Refusal::At { fault: self, left }
+        Refusal::Refused(AtLeft { fault: self, left })
     }
 
     /// The refusal for this fault where a part of the text is missing.
     pub(crate) fn at_end(self) -> Refusal
         ensures fault { fault_in result ≡ Some self }
-        ensures place { result ≡ At self 0 }
+        ensures place { result ≡ Refused (record { fault = self; left = 0 }) }
     {
         self.at(0)
     }
 }
 
-impl Refusal {
-    /// The refusal of the whole text, with the fault's line.
-    pub fn of(self, text: &[u8]) -> LitmusError
-        ensures fault { fault_of result ≡ fault_in self }
-        ensures line { result ≡ error_at text.now self }
-    {
-        match self {
-            Refusal::NoMemory => LitmusError::NoMemory,
-            Refusal::At { fault, left } => LitmusError::Refused {
-                fault,
-                line: line_at(text, left),
-            },
-        }
+/// The refusal of the whole text, with the fault's line.
+pub fn error_of(refusal: Refusal, text: &[u8]) -> LitmusError
+    ensures fault { fault_of result ≡ fault_in refusal }
+    ensures line { result ≡ error_at text.now refusal }
+{
+    match refusal {
+        Refusal::NoMemory => LitmusError::NoMemory,
+        Refusal::Refused(AtLeft { fault, left }) => LitmusError::at_line(
+            fault,
+            line_at(text, left),
+        ),
     }
 }
 
@@ -88,22 +87,6 @@ fn line_at(text: &[u8], left: usize) -> usize
         return last_line(text);
     }
     lines_in(&text[..text.len().saturating_sub(left)]) + 1
-}
-
-impl From<AllocError> for Refusal {
-    ghost from_gives = { λ _ e. e ≡ NoMemory };
-
-    fn from(_error: AllocError) -> Refusal {
-        Refusal::NoMemory
-    }
-}
-
-impl<T: Drop> From<AllocFailed<T>> for Refusal {
-    ghost from_gives = { λ _ e. e ≡ NoMemory };
-
-    fn from(_error: AllocFailed<T>) -> Refusal {
-        Refusal::NoMemory
-    }
 }
 
 /// The place of the first byte that is no blank and no line end.

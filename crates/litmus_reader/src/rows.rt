@@ -11,11 +11,9 @@ ghost use Rattle.litmus_reader.specs.Rows.{is_blank_line, row_in, cells_of, name
 use crate::faults::LitmusFault;
 use crate::refusals::Refusal;
 use std::alloc::{AllocError, Global};
+use step_machine::opening::MAX_HARTS;
 use texts::cutting::{cut_at, trimmed, without_front};
 use texts::{Separators, first_piece};
-
-/// How many harts a test may have.
-pub const MAX_HARTS: usize = 64;
 
 /// Whether the line is nothing but blanks.
 pub fn is_blank_line(line: &[u8]) -> bool

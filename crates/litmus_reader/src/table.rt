@@ -17,11 +17,9 @@ use crate::rows::{count_cells, harts_in, is_blank_line, row_in};
 use assembler::{AsmError, Draft};
 use std::alloc::{AllocError, Global};
 use std::marker::Model;
+use step_machine::opening::MAX_CODE;
 use texts::cutting::cut_at;
 use texts::{Separators, first_piece};
-
-/// How many words a hart's code may have.
-pub const MAX_WORDS: usize = 4096;
 
 /// The harts' columns so far, each a text of one line for a row.
 #[derive(Drop)]
@@ -43,9 +41,9 @@ fn tell(column: &mut Draft, cell: &[u8], left: usize) -> Result<(), Refusal>
     match column.read(cell) {
         Ok(()) => {}
         Err(AsmError::NoMemory) => return Err(Refusal::NoMemory),
-        Err(AsmError::Refused { .. }) => return Err(LitmusFault::BadInstr.at(left)),
+        Err(AsmError::Refused(_)) => return Err(LitmusFault::BadInstr.at(left)),
     }
-    if column.words() > MAX_WORDS {
+    if column.words() > MAX_CODE {
         return Err(LitmusFault::TooMany.at(left));
     }
     Ok(())
@@ -128,7 +126,7 @@ impl Table {
                     codes.push(words)?;
                 }
                 Err(AsmError::NoMemory) => return Err(Refusal::NoMemory),
-                Err(AsmError::Refused { line, .. }) => faulty = Some(earlier(faulty, line)),
+                Err(AsmError::Refused(refusal)) => faulty = Some(earlier(faulty, refusal.line)),
             }
         }
         match faulty {

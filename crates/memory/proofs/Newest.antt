@@ -1,5 +1,5 @@
 -- The last write of a list to an address: over a list with more at its end, and where none is there.
--- Some of these are for the crates above alone.
+-- What nothing cites here is for proofs about further programs.
 use Rattle.std.proofs.Common.{◌≡◌, ◌≢◌, ℕ, ◌-◌, ◌==◌, List, [], ◌∷◌, ◌++◌, Option, Some, refl, ◌∙◌, ap}
 use Rattle.std.specs.Prelude.{if◌then◌else◌, All, false}
 use Rattle.std.specs.Int.{byte_at}

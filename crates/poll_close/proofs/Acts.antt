@@ -1,7 +1,7 @@
 -- What one entry changes of all that is read off a history: an act by its hart's need, a landing by
 -- the store that lands. All rings go by these two records and by nothing else of the machine.
-use Rattle.std.proofs.Common.{ℕ, ◌/◌, ◌<◌, ◌≡◌, ◌≢◌, ◌==◌, Bool, true, false, List, [], ◌∷◌, ◌++◌, length, take, drop, Option, Some, None, if◌then◌else◌, refl, sym, ◌∙◌, ap, subst, arith, eq-eqb, append-nil}
-use Rattle.std.specs.Prelude.{option_map, unwrap_or, slice_index}
+use Rattle.std.proofs.Common.{ℕ, ◌<◌, ◌≡◌, ◌≢◌, ◌==◌, Bool, true, false, List, [], ◌∷◌, ◌++◌, length, take, drop, Some, if◌then◌else◌, refl, sym, ◌∙◌, ap, subst, arith, eq-eqb, append-nil}
+use Rattle.std.specs.Prelude.{option_map}
 use Rattle.std.proofs.lemmas.Bool.Decides.{nat_tests}
 use Rattle.hart.specs.State.{HartState}
 use Rattle.hart.specs.Steps.{need_of, advanced}
@@ -15,17 +15,17 @@ use Rattle.step_machine.specs.declared.events.Entry.TheVariants as entry
 use Rattle.poll_close.specs.Going.{GoesOn}
 use Rattle.poll_close.specs.Invariant.Blocks.{as_write, as_writes}
 use Rattle.poll_close.proofs.Lines.{loads}
-use Rattle.step_machine.specs.History.{Start, History, with_entry}
+use Rattle.step_machine.specs.History.{History, with_entry}
 use Rattle.step_machine.specs.Entries.{hart_of, is_land, is_own, store_of, land_of, write_of, report_of, pending, read, reported}
-use Rattle.step_machine.specs.Entries as step
 use Rattle.step_machine.specs.Access.{access_of}
 use Rattle.step_machine.specs.WordReads.{WritesWord, word_in_memory}
+use Rattle.step_machine.proofs.WordReads.{word_in_memory-other, word_in_memory-write}
 use Rattle.memory.specs.declared.writes.Write.{Write}
-use Rattle.memory.specs.Writes.{write, newest_word, IsWholeWord}
+use Rattle.memory.specs.Writes.{write, IsWholeWord}
 use Rattle.step_machine.specs.Paths.{entry_of, value_of, CanMake, state_of}
 use Rattle.step_machine.specs.Legal.{Allowed, Legal}
 use Rattle.step_machine.specs.Runs.{CanFollow}
-use Rattle.step_machine.proofs.Appended.{pending-last, reported-last, landed-last}
+use Rattle.step_machine.proofs.Appended.{pending-last, reported-last}
 use Rattle.step_machine.proofs.Balanced.{balanced}
 use Rattle.step_machine.proofs.Follows.{act_only, state_of-mine, state_of-other, Legal-last}
 use Rattle.step_machine.proofs.Stays.{states_land, pending-land, pending-other, land_of-other}
@@ -139,24 +139,6 @@ going B M t h s e is can mine act plain =
       subst (λ (d : Entry). WritesWord (access_of d)) (sym both.0.made) (writes_word (hart_of e) (need_of s) (value_of e) p.no_amo p.whole),
     )
 
--- an entry that writes nothing leaves every word; one that writes changes the word at its address
-newest_word-append : (a : ℕ) (found : Option ℕ) (ws vs : List Write) → newest_word a found (ws ++ vs) ≡ newest_word a (newest_word a found ws) vs
-newest_word-append a found [] vs = refl
-newest_word-append a found (w ∷ ws) vs = newest_word-append a (if w.addr == a then Some w.value else found) ws vs
-
-word-other : (o : Start) (es : List Entry) (e : Entry) (a : ℕ) → write_of es e ≡ [] → word_in_memory o (es ++ e ∷ []) a ≡ word_in_memory o es a
-word-other o es e a none = ap (λ ws. unwrap_or (newest_word a None ws) (slice_index o.words (a / 4))) (landed-last es e ∙ ap (λ ws. step.landed es ++ ws) none ∙ append-nil (step.landed es))
-
-word-write : (o : Start) (es : List Entry) (e : Entry) (w : Write) (a : ℕ) → write_of es e ≡ w ∷ [] → word_in_memory o (es ++ e ∷ []) a ≡ (if w.addr == a then w.value else word_in_memory o es a)
-word-write o es e w a is =
-    ap (λ ws. unwrap_or (newest_word a None ws) (slice_index o.words (a / 4))) (landed-last es e ∙ ap (λ ws. step.landed es ++ ws) is)
-    ∙ ap (λ f. unwrap_or f (slice_index o.words (a / 4))) (newest_word-append a None (step.landed es) (w ∷ []))
-    ∙ chosen (w.addr == a)
-  where
-    chosen : (b : Bool) → unwrap_or (if b then Some w.value else newest_word a None (step.landed es)) (slice_index o.words (a / 4)) ≡ (if b then w.value else word_in_memory o es a)
-    chosen true = refl
-    chosen false = refl
-
 -- what a load read
 reads_by : (B : ℕ) (t : History) (h a v : ℕ) → Allowed B t.opening t.entries (entry_of h (loads a) v) → v ≡ read t.opening t.entries h a 4
 reads_by B t h a v allowed = allowed
@@ -185,7 +167,7 @@ acted B M t h s e legal is can mine act no_amo =
       states = λ k other. state_of-other M t k e (not_mine k (λ same. other (same ∙ mine)));
       buffer = pending-last h t.entries e (balanced B t h legal) ∙ ap (λ j. drop j (pending h t.entries ++ store_of h e)) me.lands ∙ ap (λ ps. pending h t.entries ++ ps) me.stores;
       buffers = λ k other. pending-last k t.entries e (balanced B t k legal) ∙ ap (λ j. drop j (pending k t.entries ++ store_of k e)) (them plain made k other).lands ∙ ap (λ ps. pending k t.entries ++ ps) (them plain made k other).stores ∙ append-nil (pending k t.entries);
-      memory = λ a. word-other t.opening t.entries e a me.writes;
+      memory = λ a. word_in_memory-other t.opening t.entries e a me.writes;
       reports = reported-last h t.entries e ∙ ap (λ rs. reported h t.entries ++ rs) me.says;
       others = λ k other. reported-last k t.entries e ∙ ap (λ rs. reported k t.entries ++ rs) (them plain made k other).says ∙ append-nil (reported k t.entries);
       loaded = λ a wants. reads_by B t h a (value_of e) (subst (Allowed B t.opening t.entries) (made ∙ ap (λ n. entry_of h n (value_of e)) wants) both.1);
@@ -220,7 +202,7 @@ landed B M t h legal can =
         states = λ k. states_land M t h k;
         buffer = pending-land B t h legal ∙ ap (drop 1) some.2;
         buffers = λ k other. pending-other B t k (entry.Land h) legal refl (land_of-other h k other);
-        memory = λ a. word-write t.opening t.entries (entry.Land h) some.0 a (ap (take 1) some.2);
+        memory = λ a. word_in_memory-write t.opening t.entries (entry.Land h) some.0 a (ap (take 1) some.2);
         reports = λ k. reported-last k t.entries (entry.Land h) ∙ append-nil (reported k t.entries);
       },
     )

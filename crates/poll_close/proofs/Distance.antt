@@ -1,6 +1,6 @@
 -- The receiver comes nearer to its next report with every act, where each sender waits or has ended.
 -- The front and the end are told here, for any ring; the five lines between are the ring's own.
-use Rattle.std.proofs.Common.{ℕ, suc, ◌+◌, ◌-◌, ◌*◌, ◌<◌, ◌≤◌, ◌≡◌, ◌≢◌, ◌==◌, ◌⊎◌, inl, inr, Bool, true, false, not, ◌||◌, if◌then◌else◌, List, [], Option, Some, refl, sym, ◌∙◌, ap, subst, arith, add-one}
+use Rattle.std.proofs.Common.{ℕ, suc, ◌+◌, ◌-◌, ◌*◌, ◌<◌, ◌≤◌, ◌≡◌, ◌≢◌, ◌==◌, ◌⊎◌, inl, inr, Bool, true, false, not, ◌&&◌, ◌||◌, if◌then◌else◌, List, [], Option, Some, refl, sym, ◌∙◌, ap, subst, arith, add-one}
 use Rattle.std.proofs.lemmas.Bool.{cases_eq, cases_lt}
 use Rattle.std.proofs.lemmas.Bool.Decides.{nat_tests}
 use Rattle.std.proofs.lemmas.Nat.{row_fits}
@@ -12,7 +12,8 @@ use Rattle.hart.specs.declared.need.Report.{Report}
 use Rattle.hart.specs.declared.need.Report.TheVariants as report
 use Rattle.poll_close.specs.Layout.{block_size}
 use Rattle.poll_close.specs.Reports.{sender_of}
-use Rattle.poll_close.specs.Plans.{Pace, far_at, far_of, visited_by, is_closed, some_open, rest_from, runs}
+use Rattle.poll_close.specs.Paces.{Pace, far_at, far_of, visited_by, some_open, rest_from, runs}
+use Rattle.poll_close.specs.Plans.{is_closed}
 use Rattle.poll_close.specs.Invariant.Blocks.{Block}
 use Rattle.poll_close.specs.Invariant.ReceiverState.{Middle, Noted, Whole, whole_of, receiving}
 use Rattle.poll_close.specs.Invariant.ReceiverPlaces.{ReceiverPlace, R00, R04, R08, R0C, R10, R14, R18, R1C, R20, R24, R28, R2C, R30, R34, R38, R3C, R40, R44, R48, R4C, R50, R54, R58, R5C, R60, R64, R68, R6C, R70, R74, R78, R7C, ROver, receives, due}
@@ -50,8 +51,24 @@ pub record BlockProgress (m : BlockMeaning) (p : Pace) (least : ℕ) : Type 1 wh
   pub near_24 : MiddleNears m p Ready R24
 
 -- an act by a line
-falls : (p : Pace) (s new at : HartState) (T size : ℕ) (sh E : Bool) (rest start : ℕ) → new ≡ at → Falls p s at T size sh E rest start → Falls p s new T size sh E rest start
-falls p s new at T size sh E rest start is f = subst (λ (z : HartState). Falls p s z T size sh E rest start) (sym is) f
+pub falls : {p : Pace} {s new at : HartState} {T size : ℕ} {sh E : Bool} {rest start : ℕ} → new ≡ at → Falls p s at T size sh E rest start → Falls p s new T size sh E rest start
+falls {p} {s} {new} {at} {T} {size} {sh} {E} {rest} {start} is f = subst (λ (z : HartState). Falls p s z T size sh E rest start) (sym is) f
+
+-- a place's number, and what is left of the round where its visit is stale
+pub two_flags : (a b rest : ℕ) (new old : Bool) → a < b → b ≤ 22 → 40 ≤ rest → (new ≡ true → old ≡ true) → a + (if new then rest else 3) < b + (if old then rest else 3)
+two_flags a b rest true true less small off same = omega arith
+two_flags a b rest true false less small off same = let bad : false ≡ true = same refl in cc
+two_flags a b rest false true less small off same = omega arith
+two_flags a b rest false false less small off same = omega arith
+
+-- nor is it stale once the mark is read, or where the sender runs
+pub not_stale : (mark : ℕ) (E : Bool) → (E ≡ true → mark ≡ 1) → ((mark == 0) && E) ≡ false
+not_stale mark true some = let off : (mark == 0) ≡ false = let one : mark ≡ 1 = some refl in grind (arith, nat_tests) in rw off refl
+not_stale mark false some = both (mark == 0)
+  where
+    both : (b : Bool) → (b && false) ≡ false
+    both true = refl
+    both false = refl
 
 -- the round: some block is open, so it comes nearer on its way to one
 module _ (rs : List Report) (n : ℕ) where
@@ -97,7 +114,7 @@ module _ (m : BlockMeaning) (code : List ℕ) (laws : BlockLaws m code) (p : Pac
 
   -- where the act is such a line
   goes : (here there : ReceiverPlace) (T : ℕ) (noted : Noted) → advanced (receives m.middle (whole_of k count) here r) v ≡ receives m.middle (whole_of k count) there noted → Falls p (receives m.middle (whole_of k count) here r) (receives m.middle (whole_of k count) there noted) T k.size sh E rest start → Fell here T
-  goes here there T noted leaves f = falls p (receives m.middle (whole_of k count) here r) (advanced (receives m.middle (whole_of k count) here r) v) (receives m.middle (whole_of k count) there noted) T k.size sh E rest start leaves f
+  goes here there T noted leaves f = falls leaves f
 
   falls_08 : (T : ℕ) → ReceiverIs m k i R08 n r → Fell R08 T
   falls_08 T h = goes R08 R0C T (record r { x5 = v }) ((line_08 m.middle (whole_of k count) r (omega (arith, is.even, h.1.base)) (omega (arith, is.inside, is.some_slot, h.1.base)) is.small).leaves v) (record { block = refl; nearer = at sh })
@@ -265,108 +282,29 @@ module _ (p : Pace) (mid : Middle) (k : Block) (i count : ℕ) (base : k.base �
 
 -- at each place but 70 the block that it visits is in x22
 pub visited_at : (mid : Middle) (f : Whole) (r : Noted) (here : ReceiverPlace) → (here ≡ R70) ⊎ (visited_by (receives mid f here r) ≡ r.x22)
-visited_at mid f r R00 = inr refl
-visited_at mid f r R04 = inr refl
-visited_at mid f r R08 = inr refl
-visited_at mid f r R0C = inr refl
-visited_at mid f r R10 = inr refl
-visited_at mid f r R14 = inr refl
-visited_at mid f r R18 = inr refl
-visited_at mid f r R1C = inr refl
-visited_at mid f r R20 = inr refl
-visited_at mid f r R24 = inr refl
-visited_at mid f r R28 = inr refl
-visited_at mid f r R2C = inr refl
-visited_at mid f r R30 = inr refl
-visited_at mid f r R34 = inr refl
-visited_at mid f r R38 = inr refl
-visited_at mid f r R3C = inr refl
-visited_at mid f r R40 = inr refl
-visited_at mid f r R44 = inr refl
-visited_at mid f r R48 = inr refl
-visited_at mid f r R4C = inr refl
-visited_at mid f r R50 = inr refl
-visited_at mid f r R54 = inr refl
-visited_at mid f r R58 = inr refl
-visited_at mid f r R5C = inr refl
-visited_at mid f r R60 = inr refl
-visited_at mid f r R64 = inr refl
-visited_at mid f r R68 = inr refl
-visited_at mid f r R6C = inr refl
 visited_at mid f r R70 = inl refl
-visited_at mid f r R74 = inr refl
-visited_at mid f r R78 = inr refl
-visited_at mid f r R7C = inr refl
-visited_at mid f r ROver = inr refl
+visited_at mid f r here = inr refl
 
 -- it runs as long as some sender is not counted, and reports a sender closed once at most
 module _ (m : BlockMeaning) (code : List ℕ) (laws : BlockLaws m code) (k : Block) (i : ℕ) (f : Whole) (n : m.Count) (order : m.Ordered k n) (r : Noted) where
   pub running_at : (here : ReceiverPlace) → due here < r.x20 → ReceiverIs m k i here n r → (receives m.middle f here r).status ≡ status.Running
-  running_at R00 owing h = refl
-  running_at R04 owing h = refl
-  running_at R08 owing h = refl
-  running_at R0C owing h = refl
-  running_at R10 owing h = refl
-  running_at R14 owing h = refl
-  running_at R18 owing h = refl
-  running_at R1C owing h = refl
-  running_at R20 owing h = refl
-  running_at R24 owing h = refl
-  running_at R28 owing h = refl
-  running_at R2C owing h = refl
-  running_at R30 owing h = refl
-  running_at R34 owing h = refl
-  running_at R38 owing h = refl
-  running_at R3C owing h = refl
-  running_at R40 owing h = refl
-  running_at R44 owing h = refl
-  running_at R48 owing h = refl
-  running_at R4C owing h = refl
-  running_at R50 owing h = refl
-  running_at R54 owing h = refl
-  running_at R58 owing h = refl
-  running_at R5C owing h = refl
-  running_at R60 owing h = refl
-  running_at R64 owing h = refl
-  running_at R68 owing h = refl
-  running_at R6C owing h = refl
-  running_at R70 owing h = refl
-  running_at R74 owing h = refl
-  running_at R78 owing h = refl
-  running_at R7C owing h = refl
   running_at ROver owing h = absurd (omega (arith, owing, h.1))
+  running_at here owing h = refl
 
   pub shut_one : (here : ReceiverPlace) → ReceiverIs m k i here n r → m.shut n ≤ 1
   shut_one R00 h = omega (arith, h.closed, laws.dones_one k n order)
-  shut_one R04 h = omega (arith, h.0.closed, laws.dones_one k n order)
-  shut_one R08 h = omega (arith, h.0.closed, laws.dones_one k n order)
-  shut_one R0C h = omega (arith, h.0.closed, laws.dones_one k n order)
   shut_one R10 h = omega (arith, h.quiet.closed, laws.dones_one k n order)
   shut_one R14 h = omega (arith, h.0.quiet.closed, laws.dones_one k n order)
   shut_one R18 h = omega (arith, h.0.quiet.closed, laws.dones_one k n order)
   shut_one R1C h = omega (arith, h.0.quiet.closed, laws.dones_one k n order)
   shut_one R20 h = omega (arith, h.0.quiet.closed, laws.dones_one k n order)
   shut_one R24 h = omega (arith, h.0.quiet.closed, laws.dones_one k n order)
-  shut_one R28 h = omega (arith, h.0.closed, laws.dones_one k n order)
-  shut_one R2C h = omega (arith, h.0.closed, laws.dones_one k n order)
-  shut_one R30 h = omega (arith, h.0.closed, laws.dones_one k n order)
-  shut_one R34 h = omega (arith, h.0.closed, laws.dones_one k n order)
   shut_one R38 h = omega (arith, h.closed, laws.dones_one k n order)
-  shut_one R3C h = omega (arith, h.0.closed, laws.dones_one k n order)
-  shut_one R40 h = omega (arith, h.0.closed, laws.dones_one k n order)
-  shut_one R44 h = omega (arith, h.0.closed, laws.dones_one k n order)
   shut_one R48 h = omega (arith, h.0.quiet.closed, laws.dones_one k n order)
   shut_one R4C h = omega (arith, h.0.quiet.closed, laws.dones_one k n order)
   shut_one R50 h = omega (arith, h.0.quiet.closed, laws.dones_one k n order)
   shut_one R54 h = omega (arith, h.unsaid)
   shut_one R58 h = omega (arith, h.0.unsaid)
   shut_one R5C h = omega (arith, h.0.unsaid)
-  shut_one R60 h = omega (arith, h.0.closed, laws.dones_one k n order)
-  shut_one R64 h = omega (arith, h.0.closed, laws.dones_one k n order)
-  shut_one R68 h = omega (arith, h.0.closed, laws.dones_one k n order)
-  shut_one R6C h = omega (arith, h.0.closed, laws.dones_one k n order)
-  shut_one R70 h = omega (arith, h.0.closed, laws.dones_one k n order)
   shut_one R74 h = omega (arith, h.closed, laws.dones_one k n order)
-  shut_one R78 h = omega (arith, h.0.closed, laws.dones_one k n order)
-  shut_one R7C h = omega (arith, h.0.closed, laws.dones_one k n order)
-  shut_one ROver h = omega (arith, h.0.closed, laws.dones_one k n order)
+  shut_one here h = omega (arith, h.0.closed, laws.dones_one k n order)

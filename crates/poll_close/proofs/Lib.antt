@@ -1,5 +1,6 @@
 pub mod Acts
 pub mod Lines
+pub mod SenderLines
 pub mod ReceiverLines
 pub mod Modulo
 pub mod Windows

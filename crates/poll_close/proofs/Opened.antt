@@ -1,6 +1,6 @@
 -- An opening is made: one sender more at the end, and the lists are looked through for a zero.
 use Rattle.std.proofs.Common.{◌≡◌, ℕ, ◌+◌, ◌<◌, List, [], ◌∷◌, ◌++◌, length, take, get_or, map, Vec, Global, refl, sym, ◌∙◌, ap, arith, ◌≢◌, ◌^◌, ◌≤◌, All, subst}
-use Rattle.std.proofs.lemmas.List.{take_more, map-append, length-map, length-take-le, take_all, get_or_read, get_or-map, take-map}
+use Rattle.std.proofs.lemmas.List.{take_more, map-append, length-map, length-take-le, take_all, get_or-map, take-map}
 use Rattle.step_machine.specs.History.{HartStart}
 use Rattle.poll_close.specs.Layout.{sender_registers, senders_from}
 use Rattle.std.specs.Prelude.{slice_index}
@@ -37,9 +37,6 @@ words_step ws j less small some so_far = subst AreWords (sym (take_more ws j 0 l
 
 pub words-all : (ws : List ℕ) (n : ℕ) → length ws ≤ n → AreWords (take n ws) → AreWords ws
 words-all ws n past all = subst AreWords (take_all n ws past) all
-
-pub zero-found : (ws : List ℕ) (j w : ℕ) → j < length ws → w ≡ get_or ws j w → w ≡ 0 → AreWords (take j ws) → ZeroAt ws j
-zero-found ws j w less is zero so_far = record { within = less; zero = sym (get_or_read ws j w less is 0) ∙ zero; first = so_far }
 
 pub lists-more : (lists : List (Vec ℕ Global)) (i : ℕ) (list : Vec ℕ Global) → i < length lists → list ≡ get_or lists i list → AreWords list.items → All AreWords (map items_of (take i lists)) → All AreWords (map items_of (take (i + 1) lists))
 lists-more lists i list less is words so_far =

@@ -1,5 +1,5 @@
 -- What each step of the plan's loop keeps.
-use Rattle.std.proofs.Common.{◌≡◌, ◌≢◌, ℕ, zero, suc, ◌+◌, ◌-◌, ◌==◌, not, ◌≤◌, ◌<◌, inl, inr, ◌⊎◌, Bool, true, false, if◌then◌else◌, ◌||◌, ◌&&◌, Some, None, List, [], ◌∷◌, ◌++◌, length, drop, refl, sym, ◌∙◌, ap, subst, arith, eq-eqb}
+use Rattle.std.proofs.Common.{◌≡◌, ◌≢◌, ℕ, zero, suc, ◌+◌, ◌-◌, ◌==◌, not, ◌≤◌, ◌<◌, inl, inr, ◌⊎◌, Bool, true, false, if◌then◌else◌, ◌||◌, ◌&&◌, Some, None, List, [], ◌∷◌, ◌++◌, length, drop, refl, sym, ◌∙◌, ap, subst, arith}
 use Rattle.std.proofs.lemmas.Bool.{cases_eq}
 use Rattle.std.proofs.lemmas.Bool.Decides.{nat_tests}
 use Rattle.step_machine.specs.declared.events.Event.{Event}
@@ -31,7 +31,8 @@ use Rattle.poll_close.specs.Layout.{opening_of, senders_from}
 use Rattle.poll_close.specs.Delivery.{DeliversWhole}
 use Rattle.poll_close.proofs.Delivering.{senders-length}
 use Rattle.poll_close.proofs.CleanReports.{closed_whole}
-use Rattle.poll_close.specs.Plans.{AllLanded, Nearer, Nears, Finished, Finishes, is_closed, all_closed, ends_in_word, is_word, is_done, senders_of}
+use Rattle.poll_close.specs.Paces.{Nearer, Nears}
+use Rattle.poll_close.specs.Plans.{AllLanded, Finished, Finishes, is_closed, all_closed, ends_in_word, is_word, is_done, senders_of}
 
 pub record Planned (ring : Ring) (means : Meaning) (B M : ℕ) (start : History) (evs : List Event) (t : History) : Type 0 where
   pub run : RunFrom B M start evs t
@@ -56,26 +57,12 @@ each_closed rs (suc n) all i less = at (is_closed rs n) refl all (cases_eq i n) 
     at true is both (inr other) more = more both (omega (arith, other, less))
     at false is both any more = cc
 
--- the reports from one on say what they say with it
-pub closed_next : (rs : List Report) (k i : ℕ) (x : Report) → k < length rs → slice_get rs k ≡ Some x → is_closed (drop k rs) i ≡ is_closed (x ∷ drop (suc k) rs) i
-closed_next [] k i x less is = absurd (omega arith)
-closed_next (y ∷ rs) zero i x less is = ap (λ z. is_closed (z ∷ rs) i) (let same : y ≡ x = cc in same)
-closed_next (y ∷ rs) (suc k) i x less is = closed_next rs k i x (omega arith) is
-
 pub open_one : (rs : List Report) (n i : ℕ) → i < n → is_closed rs i ≡ false → all_closed rs n ≡ false
 open_one rs n i less open_yet = at (all_closed rs n) refl
   where
     at : (b : Bool) → all_closed rs n ≡ b → all_closed rs n ≡ false
     at false is = is
     at true is = let shut : is_closed rs i ≡ true = each_closed rs n is i less in cc
-
--- the first report that is left is its closing
-pub closed_here : (rs : List Report) (k i : ℕ) (x : Report) → k < length rs → slice_get rs k ≡ Some x → x ≡ report.Closed i → is_closed (drop k rs) i ≡ true
-closed_here rs k i x less at is = closed_next rs k i x less at ∙ ap (λ z. is_closed (z ∷ drop (suc k) rs) i) is ∙ (let on : (i == i) ≡ true = eq-eqb i i refl in rw on refl)
-
-pub open_here : (rs : List Report) (k i : ℕ) (x : Report) → k < length rs → slice_get rs k ≡ Some x → x ≢ report.Closed i → is_closed (drop k rs) i ≡ is_closed (drop (suc k) rs) i
-open_here rs k i (report.Took j w) less at other = closed_next rs k i (report.Took j w) less at
-open_here rs k i (report.Closed j) less at other = closed_next rs k i (report.Closed j) less at ∙ (let off : (j == i) ≡ false = let differ : j ≢ i = λ same. other (ap report.Closed same) in grind (arith, nat_tests) in rw off refl)
 
 pub finished : (ring : Ring) (means : Meaning) (B M : ℕ) (t : History) → Cleans ring means → Stands ring means B M t → is_done t ≡ true → Finished t
 finished ring means B M t cleans s done = record {
@@ -313,3 +300,17 @@ whole_delivered ring means B M lists S o events plan mid new reports opens first
       closed = λ i less. ap (λ rs. is_closed rs i) answer ∙ end.closed i (omega (arith, count, less));
       whole = λ i less. ap (λ rs. taken rs i) answer ∙ end.whole i (omega (arith, count, less)) ∙ ap (λ ls. slice_index_or ls i []) lists_is;
     }
+
+-- a list that isn't empty, or is, as its length's test says
+pub some_left : {A : Type 0} {seen xs : List A} {b : Bool} → seen ≡ xs → b ≡ (length seen == 0) → b ≡ false → 0 < length xs
+some_left same test is = rw (← same) (let apart : (length _ == 0) ≡ false = sym test ∙ is in grind (arith, nat_tests))
+
+pub none_left : {A : Type 0} {seen xs : List A} {b : Bool} → seen ≡ xs → b ≡ (length seen == 0) → b ≡ true → length xs < 1
+none_left same test is = rw (← same) (let at : (length _ == 0) ≡ true = sym test ∙ is in grind (arith, nat_tests))
+
+-- nothing is pending of the harts before the next one, and nothing of that
+pub landed_more : (es : List Entry) (h : ℕ) → ((k : ℕ) → k < h → pending k es ≡ []) → length (pending h es) < 1 → (k : ℕ) → k < h + 1 → pending k es ≡ []
+landed_more es h before none k below = elim (cases_eq k h) [
+  | inl same ↦ subst (λ (j : ℕ). pending j es ≡ []) (sym same) (no_length (pending h es) none)
+  | inr other ↦ before k (omega (arith, other))
+]

@@ -31,7 +31,8 @@ use Rattle.poll_close.specs.Layout.{opening_of}
 use Rattle.poll_close.specs.Reports.{taken, sender_of, Clean}
 use Rattle.poll_close.specs.Laws.{Accepted, Keeps}
 use Rattle.poll_close.specs.Standing.{lists_of}
-use Rattle.poll_close.specs.Plans.{Pace, AllLanded, Nearer, Nears, is_closed, is_done, senders_of, some_open, rest_from, visited_by, is_running, runs, far_of, far_if, left_in, left_by, ring_size, ready_if, is_ready, next_of, next_by}
+use Rattle.poll_close.specs.Paces.{Pace, Nearer, Nears, some_open, rest_from, visited_by, is_running, runs, far_of, far_if, left_in, left_by, ring_size, ready_if, is_ready, next_of, next_by}
+use Rattle.poll_close.specs.Plans.{AllLanded, is_closed, is_done, senders_of}
 use Rattle.poll_close.specs.Invariant.Blocks.{Block, block_of, as_writes, to_block}
 use Rattle.poll_close.specs.Invariant.ReceiverState.{Noted, whole_of, receiver_of}
 use Rattle.poll_close.specs.Invariant.ReceiverPlaces.{ReceiverPlace, R04, R70, receives, due}
@@ -93,7 +94,7 @@ running_is status.Running is = refl
 running_is status.Ended is = cc
 running_is (status.Stopped why) is = cc
 
-both_true : (a b : Bool) → (a && b) ≡ true → (a ≡ true) × (b ≡ true)
+pub both_true : (a b : Bool) → (a && b) ≡ true → (a ≡ true) × (b ≡ true)
 both_true true true is = (refl, refl)
 both_true true false is = cc
 both_true false b is = cc
@@ -102,7 +103,7 @@ not_true : (b : Bool) → not b ≡ true → b ≡ false
 not_true true is = cc
 not_true false is = refl
 
-not_false : (b : Bool) → not b ≡ false → b ≡ true
+pub not_false : (b : Bool) → not b ≡ false → b ≡ true
 not_false true is = refl
 not_false false is = cc
 

@@ -10,7 +10,8 @@ use Rattle.hart.specs.State.{HartState}
 use Rattle.hart.specs.declared.need.Report.{Report}
 use Rattle.hart.specs.declared.need.Report.TheVariants as report
 use Rattle.poll_close.specs.Reports.{taken, sender_of, Clean}
-use Rattle.poll_close.specs.Plans.{Pace, is_closed, all_closed, some_open, rest_from, visited_by, runs, far_of, far_if, sender_if, one_if, share, total, round, left_in, far_at}
+use Rattle.poll_close.specs.Paces.{Pace, some_open, rest_from, visited_by, runs, far_of, far_if, sender_if, one_if, share, total, round, left_in, far_at}
+use Rattle.poll_close.specs.Plans.{is_closed, all_closed}
 use Rattle.poll_close.specs.Invariant.ReceiverState.{Middle, Noted, Whole, receiving}
 use Rattle.poll_close.specs.Invariant.ReceiverPlaces.{ReceiverPlace, R04, R70, receives, R00, R08, R0C, R10, R14, R18, R1C, R20, R24, R28, R2C, R30, R34, R38, R3C, R40, R44, R48, R4C, R50, R54, R58, R5C, R60, R64, R68, R6C, R74, R78, R7C, ROver}
 use Rattle.poll_close.specs.Invariant.BlockMeaning.{BlockMeaning}

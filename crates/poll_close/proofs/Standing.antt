@@ -1,11 +1,12 @@
--- A channel stands at its opening, and goes on standing over every event.
-use Rattle.std.proofs.Common.{◌≡◌, ℕ, ◌+◌, ◌<◌, Result, Ok, Err, List, [], ◌∷◌, length, take, map, refl, sym, ◌∙◌, ap, subst, arith}
-use Rattle.std.specs.Prelude.{IfOk, IfErr, OnOk, OnErr}
+-- A channel stands at its opening, and goes on standing over every event; and what is known then of a
+-- sender's hart.
+use Rattle.std.proofs.Common.{◌≡◌, ℕ, ◌+◌, ◌<◌, Result, Ok, Err, List, [], ◌∷◌, length, take, map, refl, sym, ◌∙◌, ap, subst, arith, suc, ◌-◌, ◌%◌, ◌≤◌, Option, Some}
+use Rattle.std.specs.Prelude.{IfOk, IfErr, OnOk, OnErr, option_map}
 use Rattle.hart.specs.declared.need.Report.{Report}
 use Rattle.step_machine.specs.declared.events.Event.{Event}
 use Rattle.step_machine.specs.declared.events.Outcome.{Outcome}
 use Rattle.step_machine.specs.History.{HartStart, Start, History, Progress, unrun}
-use Rattle.step_machine.specs.Entries.{reported}
+use Rattle.step_machine.specs.Entries.{reported, memory_word}
 use Rattle.step_machine.specs.Runs.{Happens, RunFrom}
 use Rattle.step_machine.proofs.Running.{kept-unrun}
 use Rattle.poll_close.specs.Layout.{opening_of, senders_from}
@@ -13,7 +14,16 @@ use Rattle.poll_close.specs.Laws.{Ring, Meaning, Accepted, Opens, Keeps, Cleans,
 use Rattle.poll_close.specs.Going.{AllGoOn}
 use Rattle.poll_close.specs.Reports.{Clean}
 use Rattle.poll_close.specs.Standing.{Stands, lists_of}
-use Rattle.poll_close.proofs.Delivering.{Known, known-happens, known-run}
+use Rattle.poll_close.proofs.Delivering.{Known, known-happens, known-run, senders-length}
+use Rattle.hart.specs.State.{HartState}
+use Rattle.step_machine.specs.Paths.{state_of}
+use Rattle.step_machine.specs.WordReads.{OpensWithWords, word_in_memory}
+use Rattle.step_machine.proofs.WordReads.{memory-word}
+use Rattle.poll_close.specs.Invariant.Blocks.{Block, block_of}
+use Rattle.poll_close.specs.Invariant.BlockMeaning.{BlockMeaning}
+use Rattle.poll_close.specs.Invariant.Channels.{means_by}
+use Rattle.poll_close.proofs.Blocks.{IsBlock}
+use Rattle.poll_close.proofs.ChannelLaws.{blocks}
 
 pub inboxes : (code : List ℕ) (S i : ℕ) (lists : List (List ℕ)) → map (λ (h : HartStart). h.inbox) (senders_from code S i lists) ≡ lists
 inboxes code S i [] = refl
@@ -63,3 +73,36 @@ module _ (ring : Ring) (means : Meaning) (B M : ℕ) where
   -- what its holder sees is clean
   pub clean-seen : (p q : Progress) (rs : List Report) → p ≡ q → rs ≡ reported 0 p.history.entries → Cleans ring means → Stands ring means B M p.history → Clean rs (lists_of q.history.opening)
   clean-seen p q rs view is cleans s = subst (λ (z : Progress). Clean rs (lists_of z.history.opening)) view (rw is (stands-clean p.history cleans s))
+
+-- ---- a sender's hart, where a plan asks whether it is ready
+
+pub record Sender (m : BlockMeaning) (M : ℕ) (t : History) (h : ℕ) : Type 0 where
+  pub block : Block
+  pub numbers : m.Count
+  pub is : IsBlock block
+  pub words : block.words ≡ M
+  pub state : HartState
+  pub at : state_of M t h ≡ Some state
+  pub stands : m.Stands block numbers state
+  pub memory : (a : ℕ) → a % 4 ≡ 0 → memory_word t.opening t.entries a ≡ word_in_memory t.opening t.entries a
+
+pub sender_at : (m : BlockMeaning) (ring : Ring) → 1 ≤ ring.least → (B M : ℕ) (t : History) (h : ℕ) → Stands ring (means_by m) B M t → 1 ≤ h → h < length t.opening.harts → Sender m M t h
+sender_at m ring some_slot B M t h st some less =
+    let harts : length t.opening.harts ≡ suc (length st.opens.lists) = ap (λ (o : Start). length o.harts) st.opens.opening ∙ ap (λ n. suc n) (senders-length ring.sender st.opens.size 0 st.opens.lists) in
+    let within : h - 1 < length st.opens.lists = omega (arith, harts, less, some) in
+    let same : h - 1 + 1 ≡ h = omega (arith, some) in
+    let part = st.meant.parts (h - 1) within in
+    record {
+      block = block_of M st.opens.size st.opens.lists (h - 1);
+      numbers = st.meant.numbers (h - 1);
+      is = blocks ring M st.opens.size st.opens.lists some_slot st.opens.accepted (h - 1) within;
+      words = refl;
+      state = part.sender.stands;
+      at = ap (state_of M t) (sym same) ∙ part.sender.state;
+      stands = part.sender.holds;
+      memory = λ a aligned. memory-word t.opening t.entries a (subst OpensWithWords (sym st.opens.opening) (λ i. omega arith)) st.meant.written aligned;
+    }
+
+-- what is read off its state
+pub value_is : {A : Type 0} (f : HartState → A) (o : Option HartState) (s : HartState) (v : A) → o ≡ Some s → option_map f o ≡ Some v → v ≡ f s
+value_is f o s v is at = let both : Some (f s) ≡ Some v = sym (ap (option_map f) is) ∙ at in let one : f s ≡ v = cc in sym one

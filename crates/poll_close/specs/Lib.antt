@@ -6,5 +6,6 @@ pub mod Means
 pub mod Delivery
 pub mod Refusals
 pub mod Standing
+pub mod Paces
 pub mod Plans
 pub mod Invariant

@@ -120,8 +120,8 @@ impl<K: Finish<B, M>, const B: usize, const M: usize> Channel<K, B, M> {
         ensures finishes { IfOk result (λ plan. Finishes B M self.now.history plan.items) }
         ensures none { IfOk result (λ plan. is_done self.now.history ≡ true → plan.items ≡ []) }
     {
-        let mut machine = run_again(alloc, &self.machine)?;
-        plan_of::<K, B, M>(alloc, &mut machine)
+        let machine = run_again(alloc, &self.machine)?;
+        plan_of::<K, B, M>(alloc, machine)
     }
 }
 

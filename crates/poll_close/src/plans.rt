@@ -3,7 +3,8 @@
 ghost use Rattle.std.specs.Prelude.{◌≡◌, ◌≤◌, ◌<◌, ◌-◌, ℕ, Bool, List, [], true, length, IfOk};
 ghost use Rattle.hart.specs.declared.need.Report.{Report};
 ghost use Rattle.poll_close.specs.Standing.{Stands};
-ghost use Rattle.poll_close.specs.Plans.{Finishes, is_closed, all_closed, ends_in_word, is_word, is_done, next_by, is_ready};
+ghost use Rattle.poll_close.specs.Paces.{next_by, is_ready};
+ghost use Rattle.poll_close.specs.Plans.{Finishes, is_closed, all_closed, ends_in_word, is_word, is_done};
 
 use crate::kind::RingKind;
 use hart::need::Report;
@@ -14,7 +15,7 @@ use step_machine::{Event, Machine};
 pub trait Finish<const B: usize, const M: usize>: RingKind {
     ghost use Rattle.std.specs.Prelude.{◌≡◌, ◌≤◌, ◌<◌, length};
     ghost use Rattle.poll_close.specs.Standing.{Stands};
-    ghost use Rattle.poll_close.specs.Plans.{Pace, Nears, left_by, next_by, is_ready};
+    ghost use Rattle.poll_close.specs.Paces.{Pace, Nears, left_by, next_by, is_ready};
 
     /// How far its harts are from their ends, and when they wait, as a definition.
     ghost pace: { Pace };
@@ -111,20 +112,20 @@ fn next_hart<K: Finish<B, M>, const B: usize, const M: usize>(machine: &Machine<
 }
 
 /// Events that finish a channel from where the machine stands: after them every sender is reported
-/// closed and its whole list is taken. There are none where that is so already. The machine runs them.
+/// closed and its whole list is taken. There are none where that is so already. The machine is used up.
 pub fn plan_of<K: Finish<B, M>, const B: usize, const M: usize>(
     alloc: Global,
-    machine: &mut Machine<B, M>,
+    mut machine: Machine<B, M>,
 ) -> Result<Vec<Event>, AllocError>
     requires some_capacity { 1 ≤ B }
-    requires stands { Stands K.RingKind.ring K.RingKind.meaning B M machine.old.history }
-    ensures finishes { IfOk result (λ plan. Finishes B M machine.old.history plan.items) }
-    ensures none { IfOk result (λ plan. is_done machine.old.history ≡ true → plan.items ≡ []) }
+    requires stands { Stands K.RingKind.ring K.RingKind.meaning B M machine.history }
+    ensures finishes { IfOk result (λ plan. Finishes B M machine.entry.history plan.items) }
+    ensures none { IfOk result (λ plan. is_done machine.entry.history ≡ true → plan.items ≡ []) }
 {
     K::laws();
     K::nears();
     let mut plan = Vec::new(alloc);
-    if is_finished::<K, B, M>(machine) {
+    if is_finished::<K, B, M>(&machine) {
         return Ok(plan);
     }
     for hart in 0..machine.harts() {
@@ -133,8 +134,8 @@ pub fn plan_of<K: Finish<B, M>, const B: usize, const M: usize>(
             plan.push(Event::Land(hart))?;
         }
     }
-    while !is_finished::<K, B, M>(machine) {
-        let next = next_hart::<K, B, M>(machine);
+    while !is_finished::<K, B, M>(&machine) {
+        let next = next_hart::<K, B, M>(&machine);
         machine.step(Event::Act(next))?;
         plan.push(Event::Act(next))?;
         if !machine.pending(next).is_empty() {

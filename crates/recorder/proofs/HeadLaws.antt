@@ -1,5 +1,5 @@
 -- A schedule's head: what the reader takes for one is one, and each one is taken.
-use Rattle.std.proofs.Common.{◌≡◌, ℕ, ◌-◌, ◌≤◌, ◌==◌, Bool, true, false, ◌&&◌, ◌||◌, ◌⊎◌, inl, inr, List, [], ◌∷◌, ◌++◌, length, take, drop, nat_eq, Result, Ok, Err, refl, sym, subst, ◌∙◌, arith, ◌↔◌, ◌+◌}
+use Rattle.std.proofs.Common.{◌≡◌, ℕ, ◌-◌, ◌≤◌, ◌==◌, Bool, true, false, ◌&&◌, ◌||◌, ◌⊎◌, inl, inr, List, [], ◌∷◌, ◌++◌, length, take, drop, nat_eq, Option, Result, Ok, Err, refl, sym, subst, ◌∙◌, arith, ◌↔◌, ◌+◌}
 use Rattle.std.specs.Prelude.{IfOk}
 use Rattle.std.specs.List.{starts_with}
 use Rattle.std.proofs.lemmas.Bool.{eqb-true, and_parts}
@@ -9,10 +9,10 @@ use Rattle.std.proofs.lemmas.List.{take_all, length-drop}
 use Rattle.step_machine.specs.declared.events.Event.{Event}
 use Rattle.texts.specs.Results.{Gives}
 use Rattle.texts.proofs.ResultLaws.{ok_is, bind_ok, refused_without}
-use Rattle.recorder.specs.declared.faults.ScheduleError.{ScheduleError}
+use Rattle.recorder.specs.declared.faults.AtByte.{AtByte}
 use Rattle.recorder.specs.declared.faults.ScheduleFault.TheVariants.{BadHead}
 use Rattle.recorder.specs.Schedule.{OfHarts, EndsLine, IsScheduleOf, IsTokensOf}
-use Rattle.recorder.specs.Reading.{Refusal, refusal_of, head, ends_line, has_head, tokens_from, schedule_at, tokens_at, tokens_after}
+use Rattle.recorder.specs.Reading.{head, ends_line, has_head, tokens_from, schedule_at, tokens_at, tokens_after}
 use Rattle.recorder.proofs.TextLaws.{tokens_from-IsTokensOf, IsTokensOf-tokens_from, IsTokensOf-OfHarts, tokens_at-IsTokensOf, IsTokensOf-tokens_at, IsTokensOf-tokens_after}
 use Rattle.std.specs.Result.{IsErr}
 
@@ -60,7 +60,7 @@ head_stands body ends = ends_line-of body ends
 
 -- ---- a schedule
 
-pub schedule_at-refused : (text : List ℕ) → has_head text ≡ false → schedule_at text ≡ Err (BadHead, 0)
+pub schedule_at-refused : (text : List ℕ) → has_head text ≡ false → schedule_at text ≡ Err (record { fault = BadHead; place = 0 })
 unfolding schedule_at
 schedule_at-refused text e = rw e refl
 
@@ -83,24 +83,24 @@ IsScheduleOf-schedule_at text events (body, is, ends, tokens) =
     (schedule_at-headed (head ++ body) (head_stands body ends) ∙ IsTokensOf-tokens_from 15 1048576 (head ++ body) events (omega arith) tokens tokens.1)
 
 pub one_schedule : (text : List ℕ) (a b : List Event) → IsScheduleOf text a → IsScheduleOf text b → a ≡ b
-one_schedule text a b is_a is_b = ok_is Refusal a b (sym (IsScheduleOf-schedule_at text a is_a) ∙ IsScheduleOf-schedule_at text b is_b)
+one_schedule text a b is_a is_b = ok_is AtByte a b (sym (IsScheduleOf-schedule_at text a is_a) ∙ IsScheduleOf-schedule_at text b is_b)
 
 -- ---- what the reader answers
 
-pub found_schedule : {X : Type 0} (view : X → List Event) (text : List ℕ) (result : Result X ScheduleError) → Gives refusal_of view result (schedule_at text) → IfOk result (λ x. IsScheduleOf text (view x))
-found_schedule view text (Ok x) gives = schedule_at-IsScheduleOf text (view x) gives
-found_schedule view text (Err e) gives = tt
+pub found_schedule : {X E : Type 0} (refusal_of : E → Option AtByte) (view : X → List Event) (text : List ℕ) (result : Result X E) → Gives refusal_of view result (schedule_at text) → IfOk result (λ x. IsScheduleOf text (view x))
+found_schedule refusal_of view text (Ok x) gives = schedule_at-IsScheduleOf text (view x) gives
+found_schedule refusal_of view text (Err e) gives = tt
 
-pub only_schedule : {X : Type 0} (view : X → List Event) (text : List ℕ) (events : List Event) (result : Result X ScheduleError) → Gives refusal_of view result (schedule_at text) → IsScheduleOf text events → Gives refusal_of view result (Ok events)
-only_schedule view text events result gives is = subst (λ (read : Result (List Event) Refusal). Gives refusal_of view result read) (IsScheduleOf-schedule_at text events is) gives
+pub only_schedule : {X E : Type 0} (refusal_of : E → Option AtByte) (view : X → List Event) (text : List ℕ) (events : List Event) (result : Result X E) → Gives refusal_of view result (schedule_at text) → IsScheduleOf text events → Gives refusal_of view result (Ok events)
+only_schedule refusal_of view text events result gives is = subst (λ (read : Result (List Event) AtByte). Gives refusal_of view result read) (IsScheduleOf-schedule_at text events is) gives
 
-pub schedule_harts : {X : Type 0} (view : X → List Event) (text : List ℕ) (result : Result X ScheduleError) → Gives refusal_of view result (schedule_at text) → IfOk result (λ x. OfHarts (view x))
-schedule_harts view text (Ok x) gives = let is = schedule_at-IsScheduleOf text (view x) gives in IsTokensOf-OfHarts is.0 (view x) is.3
-schedule_harts view text (Err e) gives = tt
+pub schedule_harts : {X E : Type 0} (refusal_of : E → Option AtByte) (view : X → List Event) (text : List ℕ) (result : Result X E) → Gives refusal_of view result (schedule_at text) → IfOk result (λ x. OfHarts (view x))
+schedule_harts refusal_of view text (Ok x) gives = let is = schedule_at-IsScheduleOf text (view x) gives in IsTokensOf-OfHarts is.0 (view x) is.3
+schedule_harts refusal_of view text (Err e) gives = tt
 
-pub schedule_few : {X : Type 0} (view : X → List Event) (text : List ℕ) (result : Result X ScheduleError) → Gives refusal_of view result (schedule_at text) → IfOk result (λ x. length (view x) ≤ 1048576)
-schedule_few view text (Ok x) gives = let is = schedule_at-IsScheduleOf text (view x) gives in is.3.1
-schedule_few view text (Err e) gives = tt
+pub schedule_few : {X E : Type 0} (refusal_of : E → Option AtByte) (view : X → List Event) (text : List ℕ) (result : Result X E) → Gives refusal_of view result (schedule_at text) → IfOk result (λ x. length (view x) ≤ 1048576)
+schedule_few refusal_of view text (Ok x) gives = let is = schedule_at-IsScheduleOf text (view x) gives in is.3.1
+schedule_few refusal_of view text (Err e) gives = tt
 
 -- ---- A text is refused exactly where it stands for no events
 

@@ -1,17 +1,18 @@
 -- A text's tokens: what the reader answers stands there, and what stands there is answered.
-use Rattle.std.proofs.Common.{◌≡◌, ℕ, ◌+◌, ◌-◌, ◌^◌, ◌<◌, ◌≤◌, List, [], ◌∷◌, ◌++◌, length, drop, zero, suc, replicate, Result, Ok, Err, refl, sym, ap, subst, ◌∙◌, length-append, arith, append_assoc}
+use Rattle.std.proofs.Common.{◌≡◌, ℕ, ◌+◌, ◌-◌, ◌^◌, ◌<◌, ◌≤◌, List, [], ◌∷◌, ◌++◌, length, drop, zero, suc, replicate, Option, Result, Ok, Err, refl, sym, ap, subst, ◌∙◌, length-append, arith, append_assoc}
 use Rattle.step_machine.specs.declared.events.Event.{Event}
 use Rattle.std.proofs.lemmas.List.{length-replicate, append-nil}
 use Rattle.std.proofs.lemmas.List.Elements.{All-nil, All-cons}
 use Rattle.std.specs.Prelude.{IfSome, IfOk}
-use Rattle.texts.specs.Results.{◌>>=◌, Gives}
-use Rattle.recorder.specs.declared.faults.ScheduleError.{ScheduleError}
-use Rattle.recorder.specs.declared.faults.ScheduleError.TheVariants.{NoMemory, Refused}
+use Rattle.texts.specs.Results.{◌>>=◌, Gives, refusal_of}
+use Rattle.texts.specs.declared.errors.TextError.{TextError}
+use Rattle.recorder.specs.declared.faults.AtByte.{AtByte}
+use Rattle.texts.specs.declared.errors.TextError.TheVariants.{NoMemory, Refused}
 use Rattle.texts.specs.Pieces.{pieces}
 use Rattle.texts.specs.declared.pieces.Separators.TheVariants.{BlanksAndLineEnds}
 use Rattle.texts.proofs.ResultLaws.{bind_ok, bind_assoc, ok_is}
 use Rattle.recorder.specs.Schedule.{hart_of, OfHarts, Stand, IsTokensOf}
-use Rattle.recorder.specs.Reading.{Refusal, refusal_of, run_at, piece_at, events_at, tokens_from, tokens_at, tokens_after, Pushes}
+use Rattle.recorder.specs.Reading.{run_at, piece_at, events_at, tokens_from, tokens_at, tokens_after, Pushes}
 use Rattle.recorder.proofs.TokenLaws.{IsRun, run_at-IsRun, run_at-from_IsRun}
 
 -- a token that was taken and what stands behind it
@@ -22,10 +23,10 @@ run_stands room c word others run rest events is stand few same =
 
 pub events_at-Stand : (end place room : ℕ) (all : List (List ℕ)) (events : List Event) → room < 2 ^ 32 → events_at end place room all ≡ Ok events → Stand all events × (length events ≤ room)
 unfolding events_at piece_at
-events_at-Stand end place room [] events small e = let none : [] ≡ events = ok_is Refusal [] events e in (sym none, omega (arith, ap length none))
+events_at-Stand end place room [] events small e = let none : [] ≡ events = ok_is AtByte [] events e in (sym none, omega (arith, ap length none))
 events_at-Stand end place room ([] ∷ others) events small e =
     let rest = bind_ok (events_at end (place + 0 + 1) (room - 0) others) (λ r. Ok ([] ++ r)) events e in
-    let same = ok_is Refusal rest.0 events rest.2 in
+    let same = ok_is AtByte rest.0 events rest.2 in
     let stand = events_at-Stand end (place + 0 + 1) (room - 0) others rest.0 (omega arith) rest.1 in
     subst (λ (es : List Event). Stand others es × (length es ≤ room)) same (stand.0, omega (arith, stand.1))
 events_at-Stand end place room ((c ∷ word) ∷ others) events small e =
@@ -33,9 +34,9 @@ events_at-Stand end place room ((c ∷ word) ∷ others) events small e =
     (sym (bind_assoc (run_at end place room (c ∷ word)) (λ run. Ok (replicate run.1 run.0)) (λ first. events_at end (place + length (c ∷ word) + 1) (room - length first) others >>= λ rest. Ok (first ++ rest))) ∙ e) in
     let rest = bind_ok (later read.0) (λ rest. Ok (replicate read.0.1 read.0.0 ++ rest)) events read.2 in
     let stand = events_at-Stand end (place + length (c ∷ word) + 1) (room - length (replicate read.0.1 read.0.0)) others rest.0 (omega arith) rest.1 in
-    run_stands room c word others read.0 rest.0 events (run_at-IsRun end place room (c ∷ word) read.0 small read.1) stand.0 stand.1 (ok_is Refusal (replicate read.0.1 read.0.0 ++ rest.0) events rest.2)
+    run_stands room c word others read.0 rest.0 events (run_at-IsRun end place room (c ∷ word) read.0 small read.1) stand.0 stand.1 (ok_is AtByte (replicate read.0.1 read.0.0 ++ rest.0) events rest.2)
   where
-    later : Event × ℕ → Result (List Event) Refusal
+    later : Event × ℕ → Result (List Event) AtByte
     later run = events_at end (place + length (c ∷ word) + 1) (room - length (replicate run.1 run.0)) others
 
 pub Stand-events_at : (end place room : ℕ) (all : List (List ℕ)) (events : List Event) → room < 2 ^ 32 → Stand all events → length events ≤ room → events_at end place room all ≡ Ok events
@@ -87,27 +88,27 @@ pub tokens_at-less : (room : ℕ) (text : List ℕ) (events : List Event) → ro
 tokens_at-less room text events small e few = IsTokensOf-tokens_at room text events small (tokens_at-IsTokensOf 1048576 text events (omega arith) e).0 few
 
 pub one_list : (text : List ℕ) (a b : List Event) → IsTokensOf text a → IsTokensOf text b → a ≡ b
-one_list text a b is_a is_b = ok_is Refusal a b (sym (IsTokensOf-tokens_at 1048576 text a (omega arith) is_a is_a.1) ∙ IsTokensOf-tokens_at 1048576 text b (omega arith) is_b is_b.1)
+one_list text a b is_a is_b = ok_is AtByte a b (sym (IsTokensOf-tokens_at 1048576 text a (omega arith) is_a is_a.1) ∙ IsTokensOf-tokens_at 1048576 text b (omega arith) is_b is_b.1)
 
 -- ---- what the readers answer
 
-pub found_tokens : {X : Type 0} (view : X → List Event) (text : List ℕ) (result : Result X ScheduleError) → Gives refusal_of view result (tokens_at 1048576 text) → IfOk result (λ x. IsTokensOf text (view x))
-found_tokens view text (Ok x) gives = (tokens_at-IsTokensOf 1048576 text (view x) (omega arith) gives).0
-found_tokens view text (Err e) gives = tt
+pub found_tokens : {X E : Type 0} (refusal_of : E → Option AtByte) (view : X → List Event) (text : List ℕ) (result : Result X E) → Gives refusal_of view result (tokens_at 1048576 text) → IfOk result (λ x. IsTokensOf text (view x))
+found_tokens refusal_of view text (Ok x) gives = (tokens_at-IsTokensOf 1048576 text (view x) (omega arith) gives).0
+found_tokens refusal_of view text (Err e) gives = tt
 
-pub only_tokens : {X : Type 0} (view : X → List Event) (text : List ℕ) (events : List Event) (result : Result X ScheduleError) → Gives refusal_of view result (tokens_at 1048576 text) → IsTokensOf text events → Gives refusal_of view result (Ok events)
-only_tokens view text events result gives is = subst (λ (read : Result (List Event) Refusal). Gives refusal_of view result read) (IsTokensOf-tokens_at 1048576 text events (omega arith) is is.1) gives
+pub only_tokens : {X E : Type 0} (refusal_of : E → Option AtByte) (view : X → List Event) (text : List ℕ) (events : List Event) (result : Result X E) → Gives refusal_of view result (tokens_at 1048576 text) → IsTokensOf text events → Gives refusal_of view result (Ok events)
+only_tokens refusal_of view text events result gives is = subst (λ (read : Result (List Event) AtByte). Gives refusal_of view result read) (IsTokensOf-tokens_at 1048576 text events (omega arith) is is.1) gives
 
-pub found_harts : {X : Type 0} (view : X → List Event) (text : List ℕ) (result : Result X ScheduleError) → Gives refusal_of view result (tokens_at 1048576 text) → IfOk result (λ x. OfHarts (view x))
-found_harts view text (Ok x) gives = IsTokensOf-OfHarts text (view x) (tokens_at-IsTokensOf 1048576 text (view x) (omega arith) gives).0
-found_harts view text (Err e) gives = tt
+pub found_harts : {X E : Type 0} (refusal_of : E → Option AtByte) (view : X → List Event) (text : List ℕ) (result : Result X E) → Gives refusal_of view result (tokens_at 1048576 text) → IfOk result (λ x. OfHarts (view x))
+found_harts refusal_of view text (Ok x) gives = IsTokensOf-OfHarts text (view x) (tokens_at-IsTokensOf 1048576 text (view x) (omega arith) gives).0
+found_harts refusal_of view text (Err e) gives = tt
 
-pub found_few : {X : Type 0} (view : X → List Event) (text : List ℕ) (result : Result X ScheduleError) → Gives refusal_of view result (tokens_at 1048576 text) → IfOk result (λ x. length (view x) ≤ 1048576)
-found_few view text (Ok x) gives = (tokens_at-IsTokensOf 1048576 text (view x) (omega arith) gives).1
-found_few view text (Err e) gives = tt
+pub found_few : {X E : Type 0} (refusal_of : E → Option AtByte) (view : X → List Event) (text : List ℕ) (result : Result X E) → Gives refusal_of view result (tokens_at 1048576 text) → IfOk result (λ x. length (view x) ≤ 1048576)
+found_few refusal_of view text (Ok x) gives = (tokens_at-IsTokensOf 1048576 text (view x) (omega arith) gives).1
+found_few refusal_of view text (Err e) gives = tt
 
 -- a text with a fault of its own
-pub tokens_after-refused : (before : ℕ) (text : List ℕ) (refusal : Refusal) → tokens_at 1048576 text ≡ Err refusal → tokens_after before text ≡ Err refusal
+pub tokens_after-refused : (before : ℕ) (text : List ℕ) (refusal : AtByte) → tokens_at 1048576 text ≡ Err refusal → tokens_after before text ≡ Err refusal
 unfolding tokens_after
 tokens_after-refused before text refusal e = rw e refl
 
@@ -119,9 +120,9 @@ tokens_after-read before text own e = rw e refl
 pub tokens_after-less : (before : ℕ) (text : List ℕ) (own : List Event) → tokens_at 1048576 text ≡ Ok own → length own ≤ 1048576 - before → tokens_after before text ≡ Ok own
 tokens_after-less before text own e few = tokens_after-read before text own e ∙ tokens_at-less (1048576 - before) text own (omega arith) e few
 
-pub gives_refused : {X : Type 0} (view : X → List Event) (before : ℕ) (text : List ℕ) (result : Result X ScheduleError) (answered e : ScheduleError) → IfSome (refusal_of e) (λ refusal. tokens_at 1048576 text ≡ Err refusal) → result ≡ Err answered → answered ≡ e → Gives refusal_of view result (tokens_after before text)
+pub gives_refused : {X : Type 0} (view : X → List Event) (before : ℕ) (text : List ℕ) (result : Result X (TextError AtByte)) (answered e : TextError AtByte) → IfSome (refusal_of e) (λ refusal. tokens_at 1048576 text ≡ Err refusal) → result ≡ Err answered → answered ≡ e → Gives refusal_of view result (tokens_after before text)
 gives_refused view before text result answered NoMemory refused is same = rw (is, same) tt
-gives_refused view before text result answered (Refused fault place) refused is same = rw (is, same) (tokens_after-refused before text (fault, place) refused)
+gives_refused view before text result answered (Refused refusal) refused is same = rw (is, same) (tokens_after-refused before text refusal refused)
 
 -- ---- what stands behind the events of other texts
 
@@ -134,26 +135,26 @@ tokens_after-IsTokensOf before text events e =
 pub IsTokensOf-tokens_after : (before : ℕ) (text : List ℕ) (events : List Event) → IsTokensOf text events → before + length events ≤ 1048576 → tokens_after before text ≡ Ok events
 IsTokensOf-tokens_after before text events is few = tokens_after-less before text events (IsTokensOf-tokens_at 1048576 text events (omega arith) is is.1) (omega arith)
 
-pub only_pushed : (before : ℕ) (text : List ℕ) (old new read : List Event) (result : Result (Unit {0}) ScheduleError) → Pushes old new result (tokens_after before text) → IsTokensOf text read → before + length read ≤ 1048576 → Pushes old new result (Ok read)
-only_pushed before text old new read result pushes is few = subst (λ (answer : Result (List Event) Refusal). Pushes old new result answer) (IsTokensOf-tokens_after before text read is few) pushes
+pub only_pushed : (before : ℕ) (text : List ℕ) (old new read : List Event) (result : Result (Unit {0}) (TextError AtByte)) → Pushes old new result (tokens_after before text) → IsTokensOf text read → before + length read ≤ 1048576 → Pushes old new result (Ok read)
+only_pushed before text old new read result pushes is few = subst (λ (answer : Result (List Event) AtByte). Pushes old new result answer) (IsTokensOf-tokens_after before text read is few) pushes
 
 -- an error of the reader is one of the call that appends
-pub pushes_refused : (old : List Event) (answer : Result (List Event) Refusal) (result : Result (Unit {0}) ScheduleError) (answered e : ScheduleError) → IfSome (refusal_of e) (λ refusal. answer ≡ Err refusal) → result ≡ Err answered → answered ≡ e → Pushes old old result answer
+pub pushes_refused : (old : List Event) (answer : Result (List Event) AtByte) (result : Result (Unit {0}) (TextError AtByte)) (answered e : TextError AtByte) → IfSome (refusal_of e) (λ refusal. answer ≡ Err refusal) → result ≡ Err answered → answered ≡ e → Pushes old old result answer
 pushes_refused old answer result answered NoMemory refused is same = rw (is, same) (refl, tt)
-pushes_refused old answer result answered (Refused fault place) refused is same = rw (is, same) (refl, refused)
+pushes_refused old answer result answered (Refused refusal) refused is same = rw (is, same) (refl, refused)
 
 -- ---- one turn of the reader's loop
 
 -- what is read, behind what stands already
-abbrev pub with_front : List Event → Result (List Event) Refusal → Result (List Event) Refusal
+abbrev pub with_front : List Event → Result (List Event) AtByte → Result (List Event) AtByte
 with_front front read = read >>= λ rest. Ok (front ++ rest)
 
-regroup : (front events : List Event) (read : Result (List Event) Refusal) → with_front front (read >>= λ rest. Ok (events ++ rest)) ≡ with_front (front ++ events) read
+regroup : (front events : List Event) (read : Result (List Event) AtByte) → with_front front (read >>= λ rest. Ok (events ++ rest)) ≡ with_front (front ++ events) read
 regroup front events (Ok rest) = ap (λ (list : List Event). Ok list) (sym (append_assoc front events rest))
 regroup front events (Err refusal) = refl
 
 -- before the first turn
-pub with_front-nil : (read : Result (List Event) Refusal) → with_front [] read ≡ read
+pub with_front-nil : (read : Result (List Event) AtByte) → with_front [] read ≡ read
 with_front-nil (Ok rest) = refl
 with_front-nil (Err refusal) = refl
 
@@ -165,7 +166,7 @@ turn_ok end place room n m next front events new piece others news ns ms nexts r
     rw (read, less, nexts, news) (regroup front events (events_at end (place + length piece + 1) (room - m) others))
 
 -- and one that was refused is the answer
-pub turn_err : (end place room : ℕ) (front : List Event) (refusal : Refusal) (piece : List ℕ) (others : List (List ℕ)) → piece_at end place room piece ≡ Err refusal → with_front front (events_at end place room (piece ∷ others)) ≡ Err refusal
+pub turn_err : (end place room : ℕ) (front : List Event) (refusal : AtByte) (piece : List ℕ) (others : List (List ℕ)) → piece_at end place room piece ≡ Err refusal → with_front front (events_at end place room (piece ∷ others)) ≡ Err refusal
 unfolding events_at
 turn_err end place room front refusal piece others read = rw read refl
 
@@ -175,6 +176,6 @@ unfolding events_at
 turns_end end place room front = ap (λ (list : List Event). Ok list) (append-nil front)
 
 -- what the reader answers where a turn was refused or found no memory
-pub turn_gives : {X : Type 0} (view : X → List Event) (end place room : ℕ) (front : List Event) (piece : List ℕ) (others : List (List ℕ)) (whole : Result (List Event) Refusal) (result : Result X ScheduleError) (answered e : ScheduleError) → with_front front (events_at end place room (piece ∷ others)) ≡ whole → IfSome (refusal_of e) (λ refusal. piece_at end place room piece ≡ Err refusal) → result ≡ Err answered → answered ≡ e → Gives refusal_of view result whole
+pub turn_gives : {X : Type 0} (view : X → List Event) (end place room : ℕ) (front : List Event) (piece : List ℕ) (others : List (List ℕ)) (whole : Result (List Event) AtByte) (result : Result X (TextError AtByte)) (answered e : TextError AtByte) → with_front front (events_at end place room (piece ∷ others)) ≡ whole → IfSome (refusal_of e) (λ refusal. piece_at end place room piece ≡ Err refusal) → result ≡ Err answered → answered ≡ e → Gives refusal_of view result whole
 turn_gives view end place room front piece others whole result answered NoMemory so_far refused is same = rw (is, same) tt
-turn_gives view end place room front piece others whole result answered (Refused fault byte) so_far refused is same = rw (is, same) (sym so_far ∙ turn_err end place room front (fault, byte) piece others refused)
+turn_gives view end place room front piece others whole result answered (Refused refusal) so_far refused is same = rw (is, same) (sym so_far ∙ turn_err end place room front refusal piece others refused)

@@ -19,7 +19,8 @@ use Rattle.recorder.specs.declared.tokens.Kind.TheVariants as kinds
 use Rattle.recorder.specs.declared.tokens.Token.{Token}
 use Rattle.recorder.specs.Schedule.{letter, hart_of, Spells}
 use Rattle.recorder.specs.Schedule.Spells.{once, repeated}
-use Rattle.recorder.specs.Reading.{Refusal, star_in, Numbers, once_of, counted, numbers_of, token_of, said_by, event_of, judged, run_at}
+use Rattle.recorder.specs.declared.faults.AtByte.{AtByte}
+use Rattle.recorder.specs.Reading.{at_byte, star_in, Numbers, once_of, counted, numbers_of, token_of, said_by, event_of, judged, run_at}
 
 -- ---- the star
 
@@ -128,8 +129,8 @@ record Passed (room : ℕ) (token : Option Token) (run : Event × ℕ) : Type 0 
 judged_ok : (end place room : ℕ) (word : List ℕ) (token : Option Token) (run : Event × ℕ) → judged end place room word token ≡ Ok run → Passed room token run
 judged_ok end place room word None run e = absurd cc
 judged_ok end place room word (Some token) run e =
-    let hart = guard_err (leb 64 token.hart) (BadHart, place) (cond (eqb token.times 0 || ltb room token.times) (Err (BadCount, place)) (Ok (event_in token, token.times))) run e in
-    let times = guard_err (eqb token.times 0 || ltb room token.times) (BadCount, place) (Ok (event_in token, token.times)) run hart.1 in
+    let hart = guard_err (leb 64 token.hart) (at_byte BadHart place) (cond (eqb token.times 0 || ltb room token.times) (Err (at_byte BadCount place)) (Ok (event_in token, token.times))) run e in
+    let times = guard_err (eqb token.times 0 || ltb room token.times) (at_byte BadCount place) (Ok (event_in token, token.times)) run hart.1 in
     let both = or_false (eqb token.times 0) (ltb room token.times) times.0 in
     let some_times : token.times ≡ 0 → ⊥ = eqb-false token.times 0 both.0 in
     record {
@@ -138,7 +139,7 @@ judged_ok end place room word (Some token) run e =
       hart = leb-false 64 token.hart hart.0;
       least = omega arith;
       most = ltb-false room token.times both.1;
-      run_is = ok_is Refusal (event_in token, token.times) run times.1;
+      run_is = ok_is AtByte (event_in token, token.times) run times.1;
     }
   where
     or_false : (a b : Bool) → (a || b) ≡ false → (a ≡ false) × (b ≡ false)

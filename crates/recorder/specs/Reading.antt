@@ -5,24 +5,18 @@ use Rattle.step_machine.specs.declared.events.Event.{Event}
 use Rattle.step_machine.specs.declared.events.Event.TheVariants.{Act, Land}
 use Rattle.recorder.specs.declared.faults.ScheduleFault.{ScheduleFault}
 use Rattle.recorder.specs.declared.faults.ScheduleFault.TheVariants.{BadHead, BadToken, BadHart, BadCount, Truncated}
-use Rattle.recorder.specs.declared.faults.ScheduleError.{ScheduleError}
-use Rattle.recorder.specs.declared.faults.ScheduleError.TheVariants.{NoMemory, Refused}
+use Rattle.recorder.specs.declared.faults.AtByte.{AtByte}
 use Rattle.recorder.specs.declared.tokens.Kind.{Kind}
 use Rattle.recorder.specs.declared.tokens.Kind.TheVariants as kinds
 use Rattle.recorder.specs.declared.tokens.Token.{Token}
 use Rattle.texts.specs.declared.pieces.Separators.TheVariants.{BlanksAndLineEnds}
 use Rattle.texts.specs.Pieces.{pieces}
 use Rattle.texts.specs.Numbers.{number_of}
-use Rattle.texts.specs.Results.{◌>>=◌}
+use Rattle.texts.specs.declared.errors.TextError.{TextError}
+use Rattle.texts.specs.Results.{◌>>=◌, refusal_of}
 
--- the fault, and the byte at which it is answered
-abbrev pub Refusal : Type 0
-Refusal = ScheduleFault × ℕ
-
--- the refusal in an error; memory that ran out is none
-abbrev pub refusal_of : ScheduleError → Option Refusal
-refusal_of NoMemory = None
-refusal_of (Refused fault place) = Some (fault, place)
+abbrev pub at_byte : ScheduleFault → (place : ℕ) → AtByte
+at_byte fault place = record { fault = fault; place = place }
 
 -- ---- a token: `a` is 97, `l` is 108, `*` is 42
 
@@ -72,22 +66,22 @@ event_of kinds.Land hart = Land hart
 
 -- The run of one event for which a token stands that begins at `place` in a text of `end` bytes, where
 -- `room` more events may come.
-abbrev pub judged : (end place room : ℕ) → List ℕ → Option Token → Result (Event × ℕ) Refusal
-judged end place room word None = Err (if is_cut word && ((place + length word) == end) then (Truncated, end) else (BadToken, place))
-judged end place room word (Some token) = if nat_le 64 token.hart then Err (BadHart, place) else (if (token.times == 0) || nat_lt room token.times then Err (BadCount, place) else Ok (event_of token.kind token.hart, token.times))
+abbrev pub judged : (end place room : ℕ) → List ℕ → Option Token → Result (Event × ℕ) AtByte
+judged end place room word None = Err (if is_cut word && ((place + length word) == end) then at_byte Truncated end else at_byte BadToken place)
+judged end place room word (Some token) = if nat_le 64 token.hart then Err (at_byte BadHart place) else (if (token.times == 0) || nat_lt room token.times then Err (at_byte BadCount place) else Ok (event_of token.kind token.hart, token.times))
 
-unfoldable pub run_at : (end place room : ℕ) → List ℕ → Result (Event × ℕ) Refusal
+unfoldable pub run_at : (end place room : ℕ) → List ℕ → Result (Event × ℕ) AtByte
 run_at end place room word = judged end place room word (said_by word)
 
 -- ---- a text
 
-unfoldable pub piece_at : (end place room : ℕ) → List ℕ → Result (List Event) Refusal
+unfoldable pub piece_at : (end place room : ℕ) → List ℕ → Result (List Event) AtByte
 piece_at end place room [] = Ok []
 piece_at end place room (c ∷ word) = do
   run ← run_at end place room (c ∷ word)
   Ok (replicate run.1 run.0)
 
-unfoldable pub events_at : (end place room : ℕ) → List (List ℕ) → Result (List Event) Refusal
+unfoldable pub events_at : (end place room : ℕ) → List (List ℕ) → Result (List Event) AtByte
 events_at end place room [] = Ok []
 events_at end place room (piece ∷ others) = do
   events ← piece_at end place room piece
@@ -95,16 +89,16 @@ events_at end place room (piece ∷ others) = do
   Ok (events ++ rest)
 
 -- the events of the tokens that a text has from the byte `start` on, where `room` events may come
-unfoldable pub tokens_from : (start room : ℕ) → List ℕ → Result (List Event) Refusal
+unfoldable pub tokens_from : (start room : ℕ) → List ℕ → Result (List Event) AtByte
 tokens_from start room text = events_at (length text) start room (pieces BlanksAndLineEnds (drop start text))
 
 -- the events of a text's tokens
-abbrev pub tokens_at : (room : ℕ) → List ℕ → Result (List Event) Refusal
+abbrev pub tokens_at : (room : ℕ) → List ℕ → Result (List Event) AtByte
 tokens_at room text = tokens_from 0 room text
 
 -- The events of a text's tokens behind `before` events of other texts: a fault of the text by itself
 -- comes first, and then the token with which the total passes the limit.
-unfoldable pub tokens_after : (before : ℕ) → List ℕ → Result (List Event) Refusal
+unfoldable pub tokens_after : (before : ℕ) → List ℕ → Result (List Event) AtByte
 tokens_after before text = do
   own ← tokens_at 1048576 text
   tokens_at (1048576 - before) text
@@ -126,11 +120,11 @@ unfoldable pub has_head : List ℕ → Bool
 has_head text = starts_with nat_eq text head && ends_line (drop 15 text)
 
 -- The events of a schedule: its first line has to be the head, and tokens follow.
-unfoldable pub schedule_at : List ℕ → Result (List Event) Refusal
-schedule_at text = if has_head text then tokens_from 15 1048576 text else Err (BadHead, 0)
+unfoldable pub schedule_at : List ℕ → Result (List Event) AtByte
+schedule_at text = if has_head text then tokens_from 15 1048576 text else Err (at_byte BadHead 0)
 
 -- What a function did that appends events: those that are answered, or none, where the answer is a
 -- refusal or memory ran out.
-abbrev pub Pushes : List Event → List Event → Result (Unit {0}) ScheduleError → Result (List Event) Refusal → Type 0
+abbrev pub Pushes : List Event → List Event → Result (Unit {0}) (TextError AtByte) → Result (List Event) AtByte → Type 0
 Pushes old new (Ok x) answer = (events : List Event) × (answer ≡ Ok events) × (new ≡ old ++ events)
 Pushes old new (Err e) answer = (new ≡ old) × IfSome (refusal_of e) (λ refusal. answer ≡ Err refusal)

@@ -1,9 +1,9 @@
 //! Why a text isn't a schedule.
 
 ghost use Rattle.std.specs.Prelude.{◌≡◌};
-ghost use Rattle.recorder.specs.declared.faults.ScheduleError.TheVariants.{NoMemory, Refused};
+ghost use Rattle.texts.specs.declared.errors.TextError.TheVariants.{Refused};
 
-use std::alloc::{AllocError, AllocFailed};
+use texts::{Numbered, TextError};
 use thiserror::Error;
 
 /// What is wrong with a text: the first fault from the left. Each has the number by which texts name it.
@@ -26,13 +26,12 @@ pub enum ScheduleFault {
     Truncated,
 }
 
-impl ScheduleFault {
+impl Numbered for ScheduleFault {
     ghost use Rattle.recorder.specs.Faults.{number_of};
 
-    /// The number by which texts name the fault.
-    pub fn number(self) -> u8
-        ensures { result ≡ number_of self }
-    {
+    ghost number = { number_of };
+
+    fn number(self) -> u8 {
         match self {
             ScheduleFault::BadHead => 27,
             ScheduleFault::BadToken => 28,
@@ -41,37 +40,24 @@ impl ScheduleFault {
             ScheduleFault::Truncated => 31,
         }
     }
+}
 
+/// A fault of a schedule at one of its bytes. The place counts bytes from the text's first one.
+#[derive(Clone, Copy, Debug, PartialEq, Eq, Error)]
+#[error("{fault} at byte {place}")]
+pub struct AtByte {
+    pub fault: ScheduleFault,
+    pub place: usize,
+}
+
+/// Why there is no list of events: no memory, or the text is refused for a fault of one of its bytes.
+pub type ScheduleError = TextError<AtByte>;
+
+impl ScheduleFault {
     /// The refusal of a text for this fault at this byte.
     pub(crate) fn at(self, place: usize) -> ScheduleError
-        ensures { result ≡ Refused self place }
+        ensures { result ≡ Refused (record { fault = self; place = place }) }
     {
-        ScheduleError::Refused { fault: self, place }
-    }
-}
-
-/// Why there is no list of events.
-#[derive(Clone, Copy, Debug, PartialEq, Eq, Error)]
-pub enum ScheduleError {
-    #[error("no memory")]
-    NoMemory,
-    /// The text is refused. The place counts bytes from the text's first one.
-    #[error("{fault} at byte {place}")]
-    Refused { fault: ScheduleFault, place: usize },
-}
-
-impl From<AllocError> for ScheduleError {
-    ghost from_gives = { λ _ e. e ≡ NoMemory };
-
-    fn from(_error: AllocError) -> ScheduleError {
-        ScheduleError::NoMemory
-    }
-}
-
-impl<T: Drop> From<AllocFailed<T>> for ScheduleError {
-    ghost from_gives = { λ _ e. e ≡ NoMemory };
-
-    fn from(_error: AllocFailed<T>) -> ScheduleError {
-        ScheduleError::NoMemory
+        ScheduleError::Refused(AtByte { fault: self, place })
     }
 }

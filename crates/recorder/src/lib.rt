@@ -21,7 +21,7 @@ mod tokens;
 pub mod writing;
 
 pub use drawing::seeded;
-pub use faults::{ScheduleError, ScheduleFault};
+pub use faults::{AtByte, ScheduleError, ScheduleFault};
 pub use laws::{longest_runs, one_value, refused_without_value, tokens_are_read_again};
 pub use reading::{MAX_EVENTS, push_tokens_of, read_schedule, read_tokens};
 pub use replaying::replay;

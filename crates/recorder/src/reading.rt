@@ -2,11 +2,11 @@
 
 ghost use Rattle.std.specs.Prelude.{◌≡◌, ◌+◌, ◌-◌, ◌≤◌, ◌<◌, ◌^◌, ◌++◌, List, length, replicate, false, Ok, Err, IfOk, IfErr, OnOk, OnErr, vec_len};
 ghost use Rattle.step_machine.specs.declared.events.Event.{Event};
-ghost use Rattle.texts.specs.Results.{Gives};
+ghost use Rattle.texts.specs.Results.{Gives, refusal_of};
 ghost use Rattle.recorder.specs.declared.faults.ScheduleFault.TheVariants.{BadHead};
-ghost use Rattle.recorder.specs.declared.faults.ScheduleError.TheVariants.{Refused};
+ghost use Rattle.texts.specs.declared.errors.TextError.TheVariants.{Refused};
 ghost use Rattle.recorder.specs.Schedule.{OfHarts, IsTokensOf, IsScheduleOf};
-ghost use Rattle.recorder.specs.Reading.{refusal_of, piece_at, tokens_from, tokens_at, tokens_after, has_head, schedule_at, Pushes};
+ghost use Rattle.recorder.specs.Reading.{piece_at, tokens_from, tokens_at, tokens_after, has_head, schedule_at, Pushes};
 
 use crate::faults::{ScheduleError, ScheduleFault};
 use crate::heads::{HEAD, has_head};
@@ -42,7 +42,7 @@ fn push_piece(
     requires few { vec_len events.old ≤ room }
     requires most { room ≤ MAX_EVENTS }
     ensures exact { Pushes events.old.items events.new.items result (piece_at end place (room - vec_len events.old) piece.now) }
-    ensures refused { IfErr (piece_at end place (room - vec_len events.old) piece.now) (λ refusal. result ≡ Err (Refused refusal.0 refusal.1)) }
+    ensures refused { IfErr (piece_at end place (room - vec_len events.old) piece.now) (λ refusal. result ≡ Err (Refused refusal)) }
     ensures few { OnOk result (vec_len events.new ≤ room) }
 {
     if piece.is_empty() {
@@ -96,7 +96,7 @@ pub fn read_tokens(alloc: Global, text: &str) -> Result<Vec<Event>, ScheduleErro
 /// The events of the schedule that stands in these bytes.
 fn schedule_in(alloc: Global, text: &[u8]) -> Result<Vec<Event>, ScheduleError>
     ensures exact { Gives refusal_of (λ events. events.items) result (schedule_at text.now) }
-    ensures headless { has_head text.now ≡ false → result ≡ Err (Refused BadHead 0) }
+    ensures headless { has_head text.now ≡ false → result ≡ Err (Refused (record { fault = BadHead; place = 0 })) }
 {
     if !has_head(text) {
         return Err(ScheduleFault::BadHead.at(0));
@@ -114,7 +114,7 @@ pub fn read_schedule(alloc: Global, text: &str) -> Result<Vec<Event>, ScheduleEr
     ensures found { IfOk result (λ events. IsScheduleOf text.now events.items) }
     ensures only { (events : List Event) → IsScheduleOf text.now events → Gives refusal_of (λ read. read.items) result (Ok events) }
     ensures exact { Gives refusal_of (λ events. events.items) result (schedule_at text.now) }
-    ensures headless { has_head text.now ≡ false → result ≡ Err (Refused BadHead 0) }
+    ensures headless { has_head text.now ≡ false → result ≡ Err (Refused (record { fault = BadHead; place = 0 })) }
     ensures harts { IfOk result (λ events. OfHarts events.items) }
     ensures few { IfOk result (λ events. length events.items ≤ MAX_EVENTS) }
 {

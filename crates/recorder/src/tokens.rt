@@ -2,16 +2,14 @@
 
 ghost use Rattle.std.specs.Prelude.{◌≡◌, ◌+◌, ◌≤◌, ℕ, length, Err, IfOk, IfErr};
 ghost use Rattle.step_machine.specs.declared.events.Event.{Event};
-ghost use Rattle.texts.specs.Results.{Gives};
-ghost use Rattle.recorder.specs.declared.faults.ScheduleError.TheVariants.{Refused};
-ghost use Rattle.recorder.specs.Reading.{refusal_of, star_in, numbers_of, said_by, is_cut, event_of, run_at};
+ghost use Rattle.texts.specs.Results.{Gives, refusal_of};
+ghost use Rattle.texts.specs.declared.errors.TextError.TheVariants.{Refused};
+ghost use Rattle.recorder.specs.Reading.{star_in, numbers_of, said_by, is_cut, event_of, run_at};
 
 use crate::faults::{ScheduleError, ScheduleFault};
 use step_machine::events::Event;
+use step_machine::opening::MAX_HARTS;
 use texts::number;
-
-/// Harts have numbers below this one.
-const HARTS: u64 = 64;
 
 /// What a token's letter tells.
 #[derive(Clone, Copy)]
@@ -98,7 +96,7 @@ pub fn run_of(
 ) -> Result<(Event, usize), ScheduleError>
     requires { place + length word.now ≤ end }
     ensures exact { Gives refusal_of (λ (run : Event × ℕ). run) result (run_at end place room word.now) }
-    ensures refused { IfErr (run_at end place room word.now) (λ refusal. result ≡ Err (Refused refusal.0 refusal.1)) }
+    ensures refused { IfErr (run_at end place room word.now) (λ refusal. result ≡ Err (Refused refusal)) }
     ensures few { IfOk result (λ run. run.1 ≤ room) }
 {
     let Some(token) = token_in(word) else {
@@ -108,7 +106,7 @@ pub fn run_of(
             ScheduleFault::BadToken.at(place)
         });
     };
-    if token.hart >= HARTS {
+    if token.hart >= MAX_HARTS as u64 {
         return Err(ScheduleFault::BadHart.at(place));
     }
     if token.times == 0 || token.times > room as u64 {

@@ -1,6 +1,6 @@
 -- A hart's act and a landing, told by what the hart needs and what is pending: it does what it needs, or
 -- waits at a store, an AMO or a full fence. So every event of a kept history has an outcome. The law of
--- each need is for the crates above.
+-- each need is for the crates above, and for proofs about further programs.
 use Rattle.std.proofs.Common.{inl, inr, ◌⊎◌, ◌≡◌, ◌≢◌, ℕ, ◌<◌, ◌≤◌, Bool, true, false, List, [], ◌∷◌, length, take, Option, Some, None, refl, sym, ◌∙◌, ap, subst, arith}
 use Rattle.std.specs.Prelude.{nat_lt, IsTrue}
 use Rattle.std.proofs.lemmas.Bool.Decides.{nat_tests}
@@ -167,15 +167,6 @@ module _ (B M : ℕ) (t : History) (h : ℕ) (s : HartState) (kept : Kept B M t)
       at : ((v : ℕ) × Allowed B t.opening t.entries (entry_of h (need_of s) v)) ⊎ HasToWait B (pending h t.entries) (need_of s) → HasToWait B (pending h t.entries) (need_of s)
       at (inl can) = absurd (idles.none (entry_of h (need_of s) can.0) (does (need_of s) can.0 refl can.1).for_event (does (need_of s) can.0 refl can.1).follows)
       at (inr wait) = wait
-
--- only a running hart waits
-pub who_waits_runs : (B M : ℕ) (t : History) (h : ℕ) (s : HartState) (new : History) → state_of M t h ≡ Some s → Happens B M t (event.Act h) outcome.Waited new → s.status ≡ status.Running
-who_waits_runs B M t h s new is idles = at s.status refl
-  where
-    at : (st : Status) → s.status ≡ st → st ≡ status.Running
-    at status.Running run = refl
-    at status.Ended run = let why : outcome.Waited ≡ outcome.Over = idles.why ∙ ap (λ so. idle_of so outcome.Waited) is ∙ ap (λ x. idle_in x outcome.Waited) run in cc
-    at (status.Stopped reason) run = let why : outcome.Waited ≡ outcome.Over = idles.why ∙ ap (λ so. idle_of so outcome.Waited) is ∙ ap (λ x. idle_in x outcome.Waited) run in cc
 
 -- a landing writes the hart's oldest pending store
 pub land_happens : (B M : ℕ) (t : History) (h : ℕ) (s : HartState) (w : Write) (ws : List Write) → Kept B M t → state_of M t h ≡ Some s → pending h t.entries ≡ w ∷ ws → Happens B M t (event.Land h) (outcome.Did (entry.Land h)) (with_entry t (entry.Land h))

@@ -1,4 +1,4 @@
--- On a legal list no hart has more landings than stores.
+-- On a legal list no hart has more landings than stores, and none more than B pending.
 use Rattle.std.proofs.Common.{◌≡◌, ℕ, ◌+◌, ◌-◌, ◌≤◌, ◌<◌, ◌==◌, Bool, true, false, if◌then◌else◌, List, [], ◌∷◌, ◌++◌, length, refl, ◌∙◌, ap, subst, arith, length-append, length-drop, append-nil, append_assoc}
 use Rattle.std.proofs.lemmas.Bool.{eqb-true}
 use Rattle.step_machine.specs.declared.events.Entry.{Entry}
@@ -71,5 +71,6 @@ few-after B o before [] h l le few = rw append-nil few
 few-after B o before (e ∷ es) h l le few =
     rw (← append_assoc before (e ∷ []) es) (few-after B o (before ++ e ∷ []) es h l.1 (balanced-last B o before h e l.0 le) (few-last B o before h e l.0 le few))
 
+-- so at most B stores of a hart are pending (for proofs about further programs)
 pub pending_few : (B : ℕ) (t : History) (h : ℕ) → Legal B t → length (pending h t.entries) ≤ B
 pending_few B t h l = few-after B t.opening [] t.entries h l (omega arith) (omega arith)

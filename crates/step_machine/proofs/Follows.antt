@@ -11,7 +11,7 @@ use Rattle.step_machine.specs.Entries.{hart_of, is_land, is_own, own}
 use Rattle.step_machine.specs.Paths.{value_of, CanMake, after_entries, opens_as, state_of, PathOf, Path}
 use Rattle.step_machine.specs.Legal.{Allowed, Legal}
 use Rattle.step_machine.specs.Runs.{CanFollow}
-use Rattle.step_machine.proofs.Appended.{own-append, after_entries-append, Makes-append, Makes-front, Makes-back, LegalAfter-append, LegalAfter-front, LegalAfter-back}
+use Rattle.step_machine.proofs.Appended.{own-append, after_entries-append, Makes-append, Makes-front, Makes-back, LegalAfter-append, LegalAfter-back}
 
 -- an entry of the hart's own at the end
 pub own-mine : (h : ℕ) (es : List Entry) (e : Entry) → hart_of e ≡ h → is_land e ≡ false → own h (es ++ e ∷ []) ≡ own h es ++ e ∷ []
@@ -76,9 +76,6 @@ Path-hart M t h p none = subst (λ (so : Option HartStart). PathOf M so (own h t
 
 pub Legal-last : (B : ℕ) (t : History) (e : Entry) → Legal B (with_entry t e) → Allowed B t.opening t.entries e
 Legal-last B t e l = (LegalAfter-back B t.opening [] t.entries (e ∷ []) l).0
-
-pub Legal-front : (B : ℕ) (t : History) (e : Entry) → Legal B (with_entry t e) → Legal B t
-Legal-front B t e l = LegalAfter-front B t.opening [] t.entries (e ∷ []) l
 
 pub Legal-on : (B : ℕ) (t : History) (e : Entry) → Legal B t → Allowed B t.opening t.entries e → Legal B (with_entry t e)
 Legal-on B t e l a = LegalAfter-append B t.opening [] t.entries (e ∷ []) l (a, tt)

@@ -103,7 +103,7 @@ pub RunFrom-more : (B M : ℕ) (t : History) (evs : List Event) (mid : History) 
 RunFrom-more B M t [] mid ev o new run h = (o, new, subst (λ (u : History). Happens B M u ev o new) run h, refl)
 RunFrom-more B M t (e ∷ evs) mid ev o new run h = (run.0, run.1, run.2, RunFrom-more B M run.1 evs mid ev o new run.3 h)
 
--- a run goes on by a run from its end
+-- a run goes on by a run from its end (for proofs about further programs)
 pub RunFrom-append : (B M : ℕ) (t : History) (evs : List Event) (mid : History) (more : List Event) (new : History) → RunFrom B M t evs mid → RunFrom B M mid more new → RunFrom B M t (evs ++ more) new
 RunFrom-append B M t [] mid more new run next = subst (λ (u : History). RunFrom B M u more new) run next
 RunFrom-append B M t (e ∷ evs) mid more new run next = (run.0, run.1, run.2, RunFrom-append B M run.1 evs mid more new run.3 next)

@@ -1,4 +1,5 @@
--- What a hart's state keeps of its opening, whatever its entries: for the crates above.
+-- What a hart's state keeps of its opening, whatever its entries (for proofs about
+-- further programs).
 use Rattle.std.proofs.Common.{◌≡◌, ℕ, List, [], ◌∷◌, length, Some, refl, sym, ◌∙◌, ap, subst}
 use Rattle.std.specs.Prelude.{option_map, slice_index, slice_set}
 use Rattle.std.specs.List.{slice_get}

@@ -3,7 +3,7 @@ use rv_decode::{decode, fits};
 use std::test::Fail;
 
 fn refused(fault: AsmFault, line: usize) -> AsmError {
-    AsmError::Refused { fault, line }
+    AsmError::at_line(fault, line)
 }
 
 #[test]

@@ -8,6 +8,7 @@ use std::alloc::{AllocError, Global};
 use std::process::Abort;
 use std::test::Fail;
 use step_machine::{Event, Machine, Opening};
+use texts::Numbered;
 
 /// The words of a condition: `1` is true at the end of store buffering, `0` is false there.
 fn tokens(alloc: Global, text: &str) -> Result<Vec<Token>, AllocError> {
@@ -269,7 +270,7 @@ exists (0:x7=0 /\\ 1:x7=0)
 ";
 
 fn refused(fault: LitmusFault, line: usize) -> Option<LitmusError> {
-    Some(LitmusError::Refused { fault, line })
+    Some(LitmusError::at_line(fault, line))
 }
 
 /// The fault of a text.
@@ -337,7 +338,7 @@ fn faults_have_their_numbers_and_texts(rt: HostRuntime) -> Result<(), Fail> {
     ];
     for (fault, number, text) in faults {
         assert_eq!(rt; fault.number(), number);
-        let error = LitmusError::Refused { fault, line: 9 };
+        let error = LitmusError::at_line(fault, 9);
         assert_eq!(rt; error.number(), number);
         let told = format!(in alloc; "{error}")?;
         assert_eq!(rt; told.as_str(), text);

@@ -5,12 +5,14 @@ use crate::given::{both_read_0, store_buffering};
 use rand_core::utils::NextWord;
 use rand_core::{Rng, utils};
 use recorder::{
-    MAX_EVENTS, ScheduleError, ScheduleFault, longest_runs, one_value, push_tokens, push_tokens_of,
-    read_schedule, read_tokens, replay, seeded, tokens_are_read_again, write_schedule,
+    AtByte, MAX_EVENTS, ScheduleError, ScheduleFault, longest_runs, one_value, push_tokens,
+    push_tokens_of, read_schedule, read_tokens, replay, seeded, tokens_are_read_again,
+    write_schedule,
 };
 use std::marker::Model;
 use std::test::Fail;
 use step_machine::Event;
+use texts::Numbered;
 
 #[test]
 fn tokens_stand_for_events(rt: HostRuntime) -> Result<(), Fail> {
@@ -50,15 +52,15 @@ fn texts_share_one_total(rt: HostRuntime) -> Result<(), Fail> {
     let mut events = Vec::new(rt.alloc());
     push_tokens_of(&mut events, b"a0*1048575")?;
     push_tokens_of(&mut events, b" ")?;
-    let passed = ScheduleError::Refused {
+    let passed = ScheduleError::Refused(AtByte {
         fault: ScheduleFault::BadCount,
         place: 3,
-    };
+    });
     assert_eq!(rt; push_tokens_of(&mut events, b"l1 l1"), Err(passed));
-    let own = ScheduleError::Refused {
+    let own = ScheduleError::Refused(AtByte {
         fault: ScheduleFault::BadToken,
         place: 6,
-    };
+    });
     assert_eq!(rt; push_tokens_of(&mut events, b"l1 l1 x"), Err(own));
     assert_eq!(rt; events.len(), 1048575);
     push_tokens_of(&mut events, b"l1")?;
@@ -68,10 +70,10 @@ fn texts_share_one_total(rt: HostRuntime) -> Result<(), Fail> {
 
 #[test]
 fn faults_are_printed(rt: HostRuntime) -> Result<(), Fail> {
-    let refused = ScheduleError::Refused {
+    let refused = ScheduleError::Refused(AtByte {
         fault: ScheduleFault::BadHart,
         place: 16,
-    };
+    });
     assert_eq!(rt;
         refused.to_string(rt.alloc())?.as_str(),
         "bad hart at byte 16"

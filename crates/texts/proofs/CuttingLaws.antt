@@ -7,7 +7,7 @@ use Rattle.std.specs.Str.Lines.{lines}
 use Rattle.std.proofs.lemmas.Bool.{cases_Bool, le-ltb, ne_eqb, eqb-true}
 use Rattle.std.proofs.lemmas.Fmt.{decimal_by_steps}
 use Rattle.std.proofs.lemmas.List.{drop_all}
-use Rattle.texts.specs.Pieces.{is_blank, bytes_left}
+use Rattle.texts.specs.Pieces.{is_blank}
 use Rattle.texts.specs.Cutting.{before, after, from_first, is_byte, NonePass}
 use Rattle.texts.proofs.PieceLaws.{position_is, position_past, lines_whole}
 
@@ -74,13 +74,6 @@ length-from_first p [] = omega arith
 length-from_first p (x ∷ xs) = elim (cases_Bool (p x)) [
   | inl passes ↦ rw passes (omega arith)
   | inr fails ↦ rw fails (omega (arith, length-from_first p xs))
-]
-
-pub length-cut : (p : ℕ → Bool) (xs : List ℕ) → length (before p xs) + bytes_left (after p xs) ≡ length xs
-length-cut p [] = refl
-length-cut p (x ∷ xs) = elim (cases_Bool (p x)) [
-  | inl passes ↦ rw passes (omega arith)
-  | inr fails ↦ (let rest = length-cut p xs in rw fails (omega arith))
 ]
 
 -- ---- where no byte passes, and at the first that does

@@ -9,7 +9,7 @@ use Rattle.std.proofs.lemmas.List.Folds.{list_all_more, list_all_at}
 use Rattle.std.proofs.lemmas.Int.Digits.{digits_value_more, digits_value-lt}
 use Rattle.std.proofs.lemmas.Fmt.{decimal_is_IsNumeral}
 use Rattle.std.specs.Fmt.{decimal}
-use Rattle.std.proofs.Math.Nat.{mul-le-mul_left, mul-le-mul_right, le_trans}
+use Rattle.std.proofs.Math.Nat.{mul-le-mul_left, mul-le-mul_right}
 use Rattle.texts.specs.Numbers.{Says, SaysInHex, IsHexWord, capped, is_numeral, capped_value, number_of, hex_number_of, below_cap_of, word_of, hex_word_of, is_hex, is_negative}
 
 AllDigits-from_list_all : (radix : ℕ) (digits : List ℕ) → list_all (λ c. is_digit c radix) digits ≡ true → AllDigits radix digits
@@ -42,10 +42,6 @@ capped-step n radix digit low = elim (cases_lt n (2 ^ 32)) [
       let over : 2 ^ 32 * radix ≤ n * radix = mul-le-mul_right radix le in
       rw most (omega arith)
 ]
-
--- so a value that is multiplied stays within a word of 64 bits
-pub capped-fits : (n radix : ℕ) → n ≤ 2 ^ 32 → radix ≤ 36 → n * radix ≤ 2 ^ 32 * 36
-capped-fits n radix small most = le_trans (mul-le-mul_right radix small) (mul-le-mul_left (2 ^ 32) most)
 
 -- ---- the reader's loop
 
@@ -178,9 +174,6 @@ hex_word_said digits n e = go (eqb (length digits) 8) refl (is_numeral 16 digits
 pub is_hex_word : (digits : List ℕ) (n : ℕ) → IsHexWord digits n → hex_word_of digits ≡ Some n
 unfolding hex_word_of
 is_hex_word digits n h = rw (h.0, is_numeral-from_IsNumeral 16 digits h.1.0, h.1.1) refl
-
-pub one_hex_word : (digits : List ℕ) (m n : ℕ) → IsHexWord digits m → IsHexWord digits n → m ≡ n
-one_hex_word digits m n h k = sym h.1.1 ∙ k.1.1
 
 -- what a reader answered, from the function that it computes
 pub found_word : (digits : List ℕ) (o : Option ℕ) → o ≡ word_of digits → IfSome o (Says digits)

@@ -1,5 +1,5 @@
 -- What an answer says of the steps that made it.
-use Rattle.std.proofs.Common.{◌≡◌, ◌↔◌, Bool, true, false, cond, Result, Ok, Err, refl, inl, inr, ◌⊎◌}
+use Rattle.std.proofs.Common.{◌≡◌, ◌↔◌, Bool, true, false, cond, Result, Ok, Err, refl}
 use Rattle.std.specs.Result.{IsErr}
 use Rattle.texts.specs.Results.{◌>>=◌}
 
@@ -7,11 +7,6 @@ use Rattle.texts.specs.Results.{◌>>=◌}
 pub bind_ok : {A B E : Type 0} (r : Result A E) (f : A → Result B E) (y : B) → (r >>= f) ≡ Ok y → (x : A) × (r ≡ Ok x) × (f x ≡ Ok y)
 bind_ok (Ok x) f y e = (x, refl, e)
 bind_ok (Err d) f y e = absurd cc
-
--- a fault is that of the first step, or that of the steps behind it
-pub bind_err : {A B E : Type 0} (r : Result A E) (f : A → Result B E) (d : E) → (r >>= f) ≡ Err d → (r ≡ Err d) ⊎ ((x : A) × (r ≡ Ok x) × (f x ≡ Err d))
-bind_err (Ok x) f d e = inr (x, refl, e)
-bind_err (Err c) f d e = inl cc
 
 pub bind_assoc : {A B C E : Type 0} (r : Result A E) (f : A → Result B E) (g : B → Result C E) → ((r >>= f) >>= g) ≡ (r >>= λ x. f x >>= g)
 bind_assoc (Ok x) f g = refl
@@ -30,14 +25,8 @@ guard_ok false d x y e = (refl, cc)
 abbrev done : {A : Type 0} (E : Type 0) → A → Result A E
 done E x = Ok x
 
-abbrev failed : (A : Type 0) {E : Type 0} → E → Result A E
-failed A d = Err d
-
 pub ok_is : {A : Type 0} (E : Type 0) (x y : A) → done E x ≡ done E y → x ≡ y
 ok_is E x y e = cc
-
-pub err_is : (A : Type 0) {E : Type 0} (c d : E) → failed A c ≡ failed A d → c ≡ d
-err_is A c d e = cc
 
 -- An answer that is a value exactly where there is one of which P holds, is a fault exactly where there is none.
 pub refused_without : {A B E : Type 0} (answer : Result A E) (P : B → Type 0) → ((x : A) → answer ≡ Ok x → (y : B) × P y) → ((y : B) → P y → (x : A) × (answer ≡ Ok x)) → IsErr answer ↔ ((y : B) → ¬ P y)

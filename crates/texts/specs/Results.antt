@@ -1,5 +1,7 @@
--- The first fault that a chain of steps meets.
-use Rattle.std.specs.Prelude.{◌≡◌, Option, Result, Ok, Err, IfSome}
+-- The first fault that a chain of steps meets, and the errors that tell it.
+use Rattle.std.specs.Prelude.{◌≡◌, ℕ, Option, Some, None, Result, Ok, Err, IfSome}
+use Rattle.texts.specs.declared.errors.TextError.{TextError}
+use Rattle.texts.specs.declared.errors.TextError.TheVariants.{NoMemory, Refused}
 
 -- A step, and then the next one on its value; the first `Err` is the answer. `do` blocks are read by it.
 infixl 10 ◌>>=◌
@@ -12,3 +14,13 @@ abbrev pub ◌>>=◌ : {A B E : Type 0} → Result A E → (A → Result B E) �
 abbrev pub Gives : {X Y E F : Type 0} → (E → Option F) → (X → Y) → Result X E → Result Y F → Type 0
 Gives fault_of view (Ok x) answer = answer ≡ Ok (view x)
 Gives fault_of view (Err e) answer = IfSome (fault_of e) (λ fault. answer ≡ Err fault)
+
+-- the refusal that an error tells; memory that ran out is none
+abbrev pub refusal_of : {R : Type 0} → TextError R → Option R
+refusal_of NoMemory = None
+refusal_of (Refused refusal) = Some refusal
+
+-- the number of what went wrong, where refusals have these
+abbrev pub number_in : {R : Type 0} → (R → ℕ) → TextError R → ℕ
+number_in number_of NoMemory = 0
+number_in number_of (Refused refusal) = number_of refusal

@@ -3,17 +3,20 @@
 //! The contract: each reader answers what the definitions of `specs/` say of its bytes, so
 //! [`first_piece`], [`first_word`] and [`first_line`] walk a text by `pieces`, `words` and `lines`,
 //! [`cutting`] cuts it at [`Separators`] and takes off those round it, and [`number`], [`word`], [`hex_word`] and [`integer`] answer exactly where the bytes
-//! spell a number. `proofs/` has the laws that the grammars above share.
+//! spell a number. [`TextError`] is why a text has no value, for the faults of any grammar.
+//! `proofs/` has the laws that the grammars above share.
 //! This crate knows no grammar, names no fault and keeps nothing; only [`push_decimal`] takes memory.
 
 #![tactic(auto)]
 
 pub mod cutting;
+pub mod errors;
 pub mod lines;
 pub mod numbers;
 pub mod pieces;
 
 pub use cutting::first_word;
+pub use errors::{AtLine, Numbered, TextError};
 pub use lines::first_line;
 pub use numbers::{hex_number, hex_word, integer, number, push_decimal, word};
 pub use pieces::{Separators, first_piece};

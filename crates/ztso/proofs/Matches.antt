@@ -1,12 +1,10 @@
 -- From what a parse found to the job.
-use Rattle.std.proofs.Common.{◌≡◌, List, [], ◌∷◌, inl, inr, Option, Some, None, refl, true, ap₂, sym, ◌∙◌}
+use Rattle.std.proofs.Common.{◌≡◌, List, [], ◌∷◌, inl, inr, Option, Some, None, refl, true}
 use Rattle.std.specs.Prelude.{option_and_then, option_map, Result, Ok, Err, IsErrAnd}
 use Rattle.std.specs.Option.{ok_or}
-use Rattle.clap.specs.Words.{HasKind, Kinds, Row, Text, fault_of, is_simple, is_simple_and_free, kind_of, rows_of, subcommand_name_of, subcommand_of, subcommand_rows_of}
-use Rattle.clap.specs.declared.parser.matches.ArgMatches.{ArgMatches}
+use Rattle.clap.specs.Words.{HasKind, Kinds, Row, Text, fault_of, is_simple, is_simple_and_free, kind_of, subcommand_of}
 use Rattle.clap.specs.declared.error.Error.{Error}
 use Rattle.clap.specs.declared.error.kind.ErrorKind.TheVariants.{OutOfMemory}
-use Rattle.clap.specs.declared.parser.matches.Found.{Found}
 use Rattle.clap.proofs.OnLiterals.{clap_on_literals}
 use Rattle.ztso.specs.CommandLines.{Answers, job_in, job_said, job_without}
 use Rattle.ztso.specs.Descriptions.{ztso_command}
@@ -24,30 +22,6 @@ is_simple_ztso = refl
 pub is_free_ztso : is_simple_and_free ztso_command ≡ true
 unfolding clap_on_literals
 is_free_ztso = refl
-
-module _ {A : Type 0} (name : A → Text) (rows : A → List Row) where
-  names_of_pairs : (found : Option A) → option_map (λ (p : Text × List Row). p.0) (option_map (λ a. (name a, rows a)) found) ≡ option_map name found
-  names_of_pairs None = refl
-  names_of_pairs (Some a) = refl
-
--- a name and rows, each read off one option, are that option's
-pair_of : (found : Option (Text × List Row)) (name : Text) (rows : List Row)
-    → Some name ≡ option_map (λ (p : Text × List Row). p.0) found
-    → Some rows ≡ option_map (λ (p : Text × List Row). p.1) found → found ≡ Some (name, rows)
-pair_of None name rows named given = cc
-pair_of (Some p) name rows named given =
-    let same_name : p.0 ≡ name = cc in
-    let same_rows : p.1 ≡ rows = cc in
-    ap₂ (λ (n : Text) (r : List Row). Some (n, r)) same_name same_rows
-
--- the job of the options that stand behind the name of a command
-pub job_of_options : (m : ArgMatches) (options : Found) (name written : Text)
-    → name ≡ written → Some name ≡ subcommand_name_of m
-    → Some (rows_of options) ≡ option_map (λ (p : Text × List Row). p.1) (subcommand_rows_of m)
-    → option_and_then job_in (subcommand_rows_of m) ≡ job_in (written, rows_of options)
-job_of_options m options name written is_written named found =
-    let pair : subcommand_rows_of m ≡ Some (name, rows_of options) = pair_of (subcommand_rows_of m) name (rows_of options) (named ∙ sym (names_of_pairs _ _ _)) found in
-    rw (pair, is_written) refl
 
 failed : (kinds : Kinds) (found : Option (Text × List Row)) (error : Error) → HasKind kinds error
     → (r : Result Job Failure) → IsErrAnd r (IsToldAs (kind_of error ≡ OutOfMemory)) → Answers (job_without kinds found) r

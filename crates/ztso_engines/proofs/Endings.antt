@@ -3,14 +3,13 @@ use Rattle.std.proofs.Common.{◌≡◌, ℕ, ◌+◌, ◌<◌, ◌≤◌, List,
 use Rattle.std.specs.Prelude.{Option, Some, None, IfSome, replicate}
 use Rattle.std.specs.Global.{Vec}
 use Rattle.std.specs.Io.KnownBytes.{Consumes}
-use Rattle.std.proofs.lemmas.Bool.{lt-ltb}
 use Rattle.std.proofs.lemmas.List.{length-replicate}
 use Rattle.ztso_engines.specs.declared.fault.Fault.{Fault}
 use Rattle.ztso_engines.specs.declared.fault.Fault.TheVariants.{ReadFailed, WriteFailed, NoMemory, Refused}
 use Rattle.ztso_engines.specs.declared.fault.Refusal.{Refusal}
 use Rattle.ztso_engines.specs.Faults.{too_large, AnswersAs}
 use Rattle.ztso_engines.specs.Input.{IsInput}
-use Rattle.ztso_engines.specs.Engines.{judged, OfInput, Ends}
+use Rattle.ztso_engines.specs.Engines.{OfInput, Ends}
 use Rattle.ztso_engines.specs.inner.Making.{Finds, FindsBy, IsEndOf}
 
 -- ---- what a reader tells
@@ -59,9 +58,6 @@ module _ {X Y : Type 0} (IsAnswer : List ℕ → Result Y Refusal → Type 0) (v
   found_unread NoMemory is large = tt
   found_unread ReadFailed is large = tt
   found_unread WriteFailed is large = no_write known is
-
-pub judged_too_large : {V : Type 0} (value_at : List ℕ → Result V Refusal) (input : List ℕ) → 1048576 < length input → judged value_at input ≡ Err too_large
-judged_too_large value_at input many = rw (lt-ltb 1048576 (length input) many) refl
 
 -- ---- the end
 

@@ -10,7 +10,7 @@ use Rattle.texts.proofs.ResultLaws.{bind_ok, guard_ok, ok_is}
 use Rattle.memory.specs.Words.{IsAddress}
 use Rattle.step_machine.specs.History.{HartStart}
 use Rattle.step_machine.specs.declared.events.Event.{Event}
-use Rattle.recorder.specs.declared.faults.ScheduleFault.{ScheduleFault}
+use Rattle.recorder.specs.declared.faults.AtByte.{AtByte}
 use Rattle.recorder.specs.Schedule.{IsTokensOf}
 use Rattle.recorder.specs.Reading.{tokens_at, tokens_after}
 use Rattle.recorder.proofs.TextLaws.{tokens_at-IsTokensOf, IsTokensOf-tokens_after}
@@ -117,10 +117,7 @@ makes_with_word memory A V a v p q address =
     let within : a / 4 < length memory = omega arith in
     rw (says_two A V a v p q, or_from _ _ aligned (lt-leb (length memory) (a / 4) within)) refl
 
-abbrev Refused : Type 0
-Refused = ScheduleFault × ℕ
-
-numbered_ok : (r : Result (List Event) Refused) (events : List Event) → numbered r ≡ Ok events → r ≡ Ok events
+numbered_ok : (r : Result (List Event) AtByte) (events : List Event) → numbered r ≡ Ok events → r ≡ Ok events
 numbered_ok (Ok read) events e = ap (λ (es : List Event). Ok es) (ok_is ℕ read events e)
 numbered_ok (Err refused) events e = absurd cc
 

@@ -36,9 +36,9 @@ use Rattle.ztso_engines.specs.declared.fault.Place.TheVariants.{Line, Nowhere, W
 use Rattle.ztso_engines.specs.declared.fault.Refusal.{Refusal}
 use Rattle.ztso_engines.specs.Engines.{Accepted, AreOneAnswer, judged}
 use Rattle.ztso_engines.specs.Faults.{too_large, not_text}
-use Rattle.ztso_engines.specs.Tests.{ByTest, IsNoTest, refused_at, test_of}
+use Rattle.ztso_engines.specs.Tests.{ByTest, IsNoTest, refused_test, test_of}
 use Rattle.ztso_engines.specs.Schedules.{BySchedule, IsNoSchedule, events_of}
-use Rattle.ztso_engines.specs.Asm.{IsAsmAnswer, asm_at, hex_line, refused_at as refused_program}
+use Rattle.ztso_engines.specs.Asm.{IsAsmAnswer, asm_at, hex_line, refused_program}
 use Rattle.ztso_engines.specs.Told.{Told, opening_of}
 use Rattle.ztso_engines.specs.StepsText.{Tells}
 use Rattle.ztso_engines.specs.StepsReading.{script_at}
@@ -120,12 +120,12 @@ test_or_refusal : (input : List ℕ) (q : Question) (r : Refusal) → Accepted I
 unfolding test_of IsTestOf
 test_or_refusal input q r is (line, refused) =
     let read : test_at input ≡ Ok (content_of q) = (read_exactly input (content_of q)).1 is.value_is.0 in
-    test_or_none input line line (content_of q) r (judged_text (test_of line) input is.few is.text ∙ ap (refused_at line) read) refused
+    test_or_none input line line (content_of q) r (judged_text (test_of line) input is.few is.text ∙ ap (refused_test line) read) refused
 
 -- two refusals of one input, each with some line
 numbers_of : (long text : Bool) (read : Result Content LitmusFault) (line other : ℕ) (r s : Refusal)
-    → cond long (Err too_large) (cond text (refused_at line read) (Err not_text)) ≡ Err r
-    → cond long (Err too_large) (cond text (refused_at other read) (Err not_text)) ≡ Err s → r.number ≡ s.number
+    → cond long (Err too_large) (cond text (refused_test line read) (Err not_text)) ≡ Err r
+    → cond long (Err too_large) (cond text (refused_test other read) (Err not_text)) ≡ Err s → r.number ≡ s.number
 numbers_of true text read line other r s e f = ap (λ (x : Refusal). x.number) (let same : r ≡ s = cc in same)
 numbers_of false true (Ok test) line other r s e f = absurd cc
 numbers_of false true (Err why) line other r s e f =

@@ -172,14 +172,6 @@ module _ (B M : ℕ) (first second input : Option (List ℕ)) {W : Type 0} (cont
   not_begun view result WriteFailed old is finds = rw is tt
   not_begun view result NoMemory old is finds = rw is tt
 
--- nothing was asked, whatever the fault
-pub not_asked : (result : Result (Unit {0}) Fault) (P : Type 0) → P → OnRefused result P
-not_asked (Ok x) P p = tt
-not_asked (Err (Refused refusal)) P p = p
-not_asked (Err ReadFailed) P p = tt
-not_asked (Err WriteFailed) P p = tt
-not_asked (Err NoMemory) P p = tt
-
 -- a talk refuses nothing
 pub not_refused : (result : Result (Unit {0}) Fault) (P : Type 0) → IfErr result IsFailure → OnRefused result P
 not_refused (Ok x) P failed = tt

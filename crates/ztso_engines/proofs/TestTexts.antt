@@ -1,37 +1,29 @@
 -- Inputs that are litmus texts.
-use Rattle.std.proofs.Common.{◌≡◌, ℕ, ◌<◌, ◌≤◌, List, length, Result, Ok, Err, refl, sym, ◌∙◌}
+use Rattle.std.proofs.Common.{◌≡◌, ℕ, List, Result, Ok, Err, refl, sym, ◌∙◌}
 use Rattle.std.specs.Prelude.{Option, Some, None, IfSome, IsErr}
 use Rattle.std.specs.Global.{Vec}
-use Rattle.std.proofs.lemmas.Bool.{lt-ltb}
-use Rattle.std.specs.Str.{IsUtf8}
 use Rattle.litmus_reader.specs.declared.faults.LitmusFault.{LitmusFault}
-use Rattle.litmus_reader.specs.declared.faults.LitmusError.{LitmusError}
-use Rattle.litmus_reader.specs.declared.faults.LitmusError.TheVariants as error
-use Rattle.litmus_reader.specs.Faults.{fault_of}
+use Rattle.texts.specs.declared.errors.AtLine.{AtLine}
+use Rattle.texts.specs.declared.errors.TextError.{TextError}
+use Rattle.texts.specs.declared.errors.TextError.TheVariants as error
+use Rattle.litmus_reader.specs.Faults.{fault_of, number_of}
 use Rattle.litmus.specs.Questions.{Question}
 use Rattle.litmus_reader.specs.Reading.{Content, content_of, test_at}
 use Rattle.ztso_engines.specs.declared.fault.Fault.{Fault}
 use Rattle.ztso_engines.specs.declared.fault.Refusal.{Refusal}
-use Rattle.ztso_engines.specs.Faults.{Answers, too_large, not_text}
+use Rattle.ztso_engines.specs.Faults.{Answers, fault_for, refused_at}
 use Rattle.ztso_engines.specs.Engines.{judged, OfInput}
-use Rattle.ztso_engines.specs.Tests.{refused_at, fault_of_error, test_of, IsNoTest, HasNoTest}
-use Rattle.ztso_engines.proofs.Judging.{judged_text, judged_no_text, judged_well}
+use Rattle.ztso_engines.specs.Tests.{refused_test, test_of, HasNoTest}
+use Rattle.ztso_engines.proofs.Judging.{judged_text, judged_well}
 
 -- an error tells the fault at some line
-pub refused_test : {X : Type 0} (view : X → Content) (text : List ℕ) (e : LitmusError) → IfSome (fault_of e) (λ f. test_at text ≡ Err f) → (line : ℕ) × Answers view (Err (fault_of_error e)) (test_of line text)
+pub answered_refusal : {X : Type 0} (view : X → Content) (text : List ℕ) (e : TextError (AtLine LitmusFault)) → IfSome (fault_of e) (λ f. test_at text ≡ Err f) → (line : ℕ) × Answers view (Err (fault_for (refused_at number_of) e)) (test_of line text)
 unfolding test_of
-refused_test view text error.NoMemory is = (0, tt)
-refused_test view text (error.Refused f line) is = (line, rw is refl)
-
--- the refusals of an input that has no text to judge
-pub not_text_is_no_test : (input : List ℕ) → length input ≤ 1048576 → (IsUtf8 input → ⊥) → IsNoTest input not_text
-not_text_is_no_test input few none = (0, judged_no_text (test_of 0) input few none)
-
-pub too_large_is_no_test : (input : List ℕ) → 1048576 < length input → IsNoTest input too_large
-too_large_is_no_test input many = (0, rw (lt-ltb 1048576 (length input) many) refl)
+answered_refusal view text error.NoMemory is = (0, tt)
+answered_refusal view text (error.Refused refusal) is = (refusal.line, rw is refl)
 
 -- an input that has a test isn't refused, at whichever line
-well_or_refused : (r : Result Content LitmusFault) (line other : ℕ) (test : Content) (refusal : Refusal) → refused_at line r ≡ Ok test → refused_at other r ≡ Err refusal → ⊥
+well_or_refused : (r : Result Content LitmusFault) (line other : ℕ) (test : Content) (refusal : Refusal) → refused_test line r ≡ Ok test → refused_test other r ≡ Err refusal → ⊥
 well_or_refused (Ok v) line other test refusal e f = cc
 well_or_refused (Err x) line other test refusal e f = cc
 

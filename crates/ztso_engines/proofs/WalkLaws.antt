@@ -40,10 +40,6 @@ of_schedule-take (suc k) (User ∷ ss) (e ∷ es) same =
     let count : scheduled (User ∷ take k ss) ≡ scheduled (take k ss) = counted_first User (take k ss) ∙ (let none : 0 + 0 + scheduled (take k ss) ≡ scheduled (take k ss) = omega arith in none) in
     of_schedule-take k ss es (omega arith) ∙ ap (λ (n : ℕ). take n (of_schedule ss es)) (sym count)
 
--- nothing was done
-pub kept_at_first : (past : Past) (schedule : List Event) → past.events ≡ [] → IsKept (record { past = past; schedule = schedule; sources = []; place = 0 })
-kept_at_first past schedule none = record { each = ap length (sym none); place = refl; within = omega arith; done = refl }
-
 -- the schedule's next event was done
 pub kept_followed : (w : Way) (past : Past) (ev : Event) → IsKept w → past.events ≡ w.past.events ++ ev ∷ [] → slice_get w.schedule w.place ≡ Some ev → IsKept (record { past = past; schedule = w.schedule; sources = w.sources ++ Schedule ∷ []; place = w.place + 1 })
 kept_followed w past ev kept events next =

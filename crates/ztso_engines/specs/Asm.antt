@@ -6,27 +6,18 @@ use Rattle.rv_decode.specs.declared.instruction.Instr.{Instr}
 use Rattle.assembler.specs.Drafts.{assembled}
 use Rattle.assembler.specs.Program.{IsCode}
 use Rattle.assembler.specs.Faults.{number_of, Refusal as AsmRefusal}
-use Rattle.assembler.specs.declared.faults.AsmError.{AsmError}
-use Rattle.assembler.specs.declared.faults.AsmError.TheVariants as error
-use Rattle.ztso_engines.specs.declared.fault.Fault.{Fault}
-use Rattle.ztso_engines.specs.declared.fault.Fault.TheVariants.{NoMemory, Refused}
 use Rattle.ztso_engines.specs.declared.fault.Refusal.{Refusal}
-use Rattle.ztso_engines.specs.declared.fault.Place.TheVariants.{Line}
+use Rattle.ztso_engines.specs.Faults.{refused_at}
 use Rattle.ztso_engines.specs.Engines.{Accepted, judged}
 
 -- a fault of an assembly text, refused by its number at its line
-abbrev pub refused_at : {V : Type 0} → Result V AsmRefusal → Result V Refusal
-refused_at (Ok x) = Ok x
-refused_at (Err r) = Err (record { number = number_of r.fault; place = Line r.line })
-
--- an error of the assembler as a fault
-abbrev pub fault_of_error : AsmError → Fault
-fault_of_error error.NoMemory = NoMemory
-fault_of_error (error.Refused fault line) = Refused (record { number = number_of fault; place = Line line })
+abbrev pub refused_program : {V : Type 0} → Result V AsmRefusal → Result V Refusal
+refused_program (Ok x) = Ok x
+refused_program (Err refusal) = Err (refused_at number_of refusal)
 
 -- the instructions of an assembly text, or its refusal
 unfoldable pub asm_at : List ℕ → Result (List (Option Instr)) Refusal
-asm_at text = refused_at (assembled text)
+asm_at text = refused_program (assembled text)
 
 -- a word as 8 lower case hex digits
 abbrev pub hex_text : ℕ → List ℕ

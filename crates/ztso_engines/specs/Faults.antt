@@ -1,9 +1,12 @@
 -- Faults, their exit statuses and the refusals that all inputs share.
 use Rattle.std.specs.Prelude.{ℕ, ◌≡◌, Result, Ok, Err}
+use Rattle.texts.specs.declared.errors.AtLine.{AtLine}
+use Rattle.texts.specs.declared.errors.TextError.{TextError}
+use Rattle.texts.specs.declared.errors.TextError.TheVariants as error
 use Rattle.ztso_engines.specs.declared.fault.Fault.{Fault}
 use Rattle.ztso_engines.specs.declared.fault.Fault.TheVariants.{ReadFailed, WriteFailed, NoMemory, Refused}
 use Rattle.ztso_engines.specs.declared.fault.Refusal.{Refusal}
-use Rattle.ztso_engines.specs.declared.fault.Place.TheVariants.{Nowhere}
+use Rattle.ztso_engines.specs.declared.fault.Place.TheVariants.{Nowhere, Line}
 
 -- the exit status of a program that ends with a fault
 abbrev pub status_of : Fault → ℕ
@@ -19,6 +22,15 @@ not_text = record { number = 36; place = Nowhere }
 -- an input past the limit
 abbrev pub too_large : Refusal
 too_large = record { number = 37; place = Nowhere }
+
+-- the fault for a reader's error, where its refusals are refused so
+abbrev pub fault_for : {R : Type 0} → (R → Refusal) → TextError R → Fault
+fault_for refused error.NoMemory = NoMemory
+fault_for refused (error.Refused refusal) = Refused (refused refusal)
+
+-- a fault at a line is refused there, by its number
+abbrev pub refused_at : {F : Type 0} → (F → ℕ) → AtLine F → Refusal
+refused_at number_of refusal = record { number = number_of refusal.fault; place = Line refusal.line }
 
 -- What a function that reads and writes nothing returned, seen by view, is an answer, unless memory ran
 -- out.

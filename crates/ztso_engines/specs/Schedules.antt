@@ -1,30 +1,25 @@
 -- Inputs that are schedules.
 use Rattle.std.specs.Prelude.{ℕ, ◌≡◌, List, Option, IsSomeAnd, Result, Ok, Err}
 use Rattle.step_machine.specs.declared.events.Event.{Event}
-use Rattle.recorder.specs.declared.faults.ScheduleError.{ScheduleError}
-use Rattle.recorder.specs.declared.faults.ScheduleError.TheVariants as error
+use Rattle.recorder.specs.declared.faults.AtByte.{AtByte}
 use Rattle.recorder.specs.Faults.{number_of}
-use Rattle.recorder.specs.Reading.{schedule_at, Refusal as ScheduleRefusal}
+use Rattle.recorder.specs.Reading.{schedule_at}
 use Rattle.recorder.specs.Schedule.{IsScheduleOf}
-use Rattle.ztso_engines.specs.declared.fault.Fault.{Fault}
-use Rattle.ztso_engines.specs.declared.fault.Fault.TheVariants.{NoMemory, Refused}
 use Rattle.ztso_engines.specs.declared.fault.Refusal.{Refusal}
 use Rattle.ztso_engines.specs.declared.fault.Place.TheVariants.{Byte}
 use Rattle.ztso_engines.specs.Engines.{Accepted, judged}
 
--- a fault of a schedule, refused by its number at its byte
-abbrev pub refused_at_byte : {V : Type 0} → Result V ScheduleRefusal → Result V Refusal
-refused_at_byte (Ok v) = Ok v
-refused_at_byte (Err r) = Err (record { number = number_of r.0; place = Byte r.1 })
+-- a fault of a schedule is refused at its byte, by its number
+abbrev pub refused_at_byte : AtByte → Refusal
+refused_at_byte refusal = record { number = number_of refusal.fault; place = Byte refusal.place }
 
--- an error of the reader of schedules as a fault
-abbrev pub fault_of_error : ScheduleError → Fault
-fault_of_error error.NoMemory = NoMemory
-fault_of_error (error.Refused fault place) = Refused (record { number = number_of fault; place = Byte place })
+abbrev pub refused_schedule : {V : Type 0} → Result V AtByte → Result V Refusal
+refused_schedule (Ok v) = Ok v
+refused_schedule (Err refusal) = Err (refused_at_byte refusal)
 
 -- the events of a schedule, or its refusal
 unfoldable pub events_of : List ℕ → Result (List Event) Refusal
-events_of text = refused_at_byte (schedule_at text)
+events_of text = refused_schedule (schedule_at text)
 
 -- The input is no schedule, for this reason.
 abbrev pub IsNoSchedule : List ℕ → Refusal → Type 0

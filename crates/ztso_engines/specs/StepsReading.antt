@@ -7,26 +7,17 @@ use Rattle.texts.specs.Numbers.{word_of}
 use Rattle.texts.specs.Results.{◌>>=◌}
 use Rattle.step_machine.specs.History.{HartStart}
 use Rattle.step_machine.specs.declared.events.Event.{Event}
-use Rattle.recorder.specs.declared.faults.ScheduleFault.{ScheduleFault}
-use Rattle.recorder.specs.declared.faults.ScheduleError.{ScheduleError}
-use Rattle.recorder.specs.declared.faults.ScheduleError.TheVariants as error
+use Rattle.recorder.specs.declared.faults.AtByte.{AtByte}
 use Rattle.recorder.specs.Faults.{number_of}
 use Rattle.recorder.specs.Reading.{tokens_after}
 use Rattle.ztso_engines.specs.declared.fault.Refusal.{Refusal}
 use Rattle.ztso_engines.specs.declared.fault.Place.TheVariants.{Nowhere}
 use Rattle.ztso_engines.specs.declared.steps.line.Keyword.{Keyword}
 use Rattle.ztso_engines.specs.declared.steps.line.Keyword.TheVariants as keyword
-use Rattle.ztso_engines.specs.declared.line_fault.LineFault.{LineFault}
-use Rattle.ztso_engines.specs.declared.line_fault.LineFault.TheVariants.{NoMemory, Refused}
 use Rattle.texts.specs.Cutting.{words, first_cut}
 use Rattle.ztso_engines.specs.LineFaults.{bad_line, or_bad, at_line}
 use Rattle.ztso_engines.specs.Code.{code_at}
 use Rattle.ztso_engines.specs.Told.{Told, untold, fresh, register_set}
-
--- a fault of tokens as a line's fault
-abbrev pub tokens_fault : ScheduleError → LineFault
-tokens_fault error.NoMemory = NoMemory
-tokens_fault (error.Refused refused place) = Refused (number_of refused)
 
 -- ---- the words behind a keyword
 
@@ -72,9 +63,9 @@ with_word memory text = do
   if not (said.0 % 4 == 0) || nat_le (length memory) (said.0 / 4) then Err bad_line else Ok (slice_set memory (said.0 / 4) said.1)
 
 -- a fault of tokens, by its number
-abbrev pub numbered : {A : Type 0} → Result A (ScheduleFault × ℕ) → Result A ℕ
+abbrev pub numbered : {A : Type 0} → Result A AtByte → Result A ℕ
 numbered (Ok x) = Ok x
-numbered (Err refused) = Err (number_of refused.0)
+numbered (Err refused) = Err (number_of refused.fault)
 
 unfoldable pub with_steps : List Event → List ℕ → Result (List Event) ℕ
 with_steps events text = do

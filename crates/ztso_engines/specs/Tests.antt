@@ -2,30 +2,21 @@
 use Rattle.std.specs.Prelude.{ℕ, ◌≡◌, ◌⊎◌, List, Option, IsSomeAnd, Result, Ok, Err}
 use Rattle.litmus.specs.Questions.{Question}
 use Rattle.litmus_reader.specs.declared.faults.LitmusFault.{LitmusFault}
-use Rattle.litmus_reader.specs.declared.faults.LitmusError.{LitmusError}
-use Rattle.litmus_reader.specs.declared.faults.LitmusError.TheVariants as error
 use Rattle.litmus_reader.specs.Faults.{number_of}
 use Rattle.litmus_reader.specs.Reading.{Content, test_at}
 use Rattle.litmus_reader.specs.Grammar.{IsTestOf}
-use Rattle.ztso_engines.specs.declared.fault.Fault.{Fault}
-use Rattle.ztso_engines.specs.declared.fault.Fault.TheVariants.{NoMemory, Refused}
 use Rattle.ztso_engines.specs.declared.fault.Refusal.{Refusal}
-use Rattle.ztso_engines.specs.declared.fault.Place.TheVariants.{Line}
+use Rattle.ztso_engines.specs.Faults.{refused_at}
 use Rattle.ztso_engines.specs.Engines.{Accepted, judged}
 
 -- a fault of a litmus text, refused by its number at this line
-abbrev pub refused_at : {V : Type 0} → (line : ℕ) → Result V LitmusFault → Result V Refusal
-refused_at line (Ok v) = Ok v
-refused_at line (Err fault) = Err (record { number = number_of fault; place = Line line })
-
--- an error of the reader of litmus texts as a fault
-abbrev pub fault_of_error : LitmusError → Fault
-fault_of_error error.NoMemory = NoMemory
-fault_of_error (error.Refused fault line) = Refused (record { number = number_of fault; place = Line line })
+abbrev pub refused_test : {V : Type 0} → (line : ℕ) → Result V LitmusFault → Result V Refusal
+refused_test line (Ok v) = Ok v
+refused_test line (Err fault) = Err (refused_at number_of (record { fault = fault; line = line }))
 
 -- what a litmus text has for its test, or its refusal, where its first fault is on this line
 unfoldable pub test_of : (line : ℕ) → List ℕ → Result Content Refusal
-test_of line text = refused_at line (test_at text)
+test_of line text = refused_test line (test_at text)
 
 -- This is why the input is no test. Which fault of its text comes first is said, and not on which line.
 abbrev pub IsNoTest : List ℕ → Refusal → Type 0

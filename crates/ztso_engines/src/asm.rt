@@ -9,26 +9,15 @@ ghost use Rattle.assembler.specs.Drafts.{AllPlain};
 ghost use Rattle.assembler.specs.Program.{IsProgram, AreWordsOf};
 ghost use Rattle.ztso_engines.specs.Faults.{Answers, AnswersAs};
 ghost use Rattle.ztso_engines.specs.Engines.{EndsBy, judged};
-ghost use Rattle.ztso_engines.specs.Asm.{asm_at, hex_line, fault_of_error, IsAsmAnswer};
+ghost use Rattle.ztso_engines.specs.Asm.{asm_at, hex_line, IsAsmAnswer};
 ghost use Rattle.ztso_engines.specs.inner.Making.{FindsBy, text_and_value};
 
-use crate::fault::{Fault, Place};
+use crate::fault::Fault;
 use crate::input::{read_input, text_of};
 use crate::output::end_with;
-use assembler::{AsmError, assemble};
+use assembler::assemble;
 use std::alloc::{AllocError, Global};
 use std::io::{Read, Write};
-
-impl From<AsmError> for Fault {
-    ghost from_gives = { λ error fault. fault ≡ fault_of_error error };
-
-    fn from(error: AsmError) -> Fault {
-        match error {
-            AsmError::NoMemory => Fault::NoMemory,
-            AsmError::Refused { fault, line } => Fault::refused(fault.number(), Place::Line(line)),
-        }
-    }
-}
 
 /// The words of a text.
 #[tactic(auto, unfolding(crate::specs::Asm::asm_at))]

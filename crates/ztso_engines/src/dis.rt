@@ -7,13 +7,13 @@ ghost use Rattle.rv_decode.specs.Meaning.{meaning};
 ghost use Rattle.ztso_engines.specs.Faults.{Answers, AnswersAs};
 ghost use Rattle.ztso_engines.specs.Engines.{EndsBy, judged};
 ghost use Rattle.texts.specs.Cutting.{words};
-ghost use Rattle.ztso_engines.specs.LineFaults.{at_line};
+ghost use Rattle.ztso_engines.specs.LineFaults.{at_line as told_at};
 ghost use Rattle.ztso_engines.specs.Code.{code_at};
 ghost use Rattle.ztso_engines.specs.Dis.{dis_at, meant_text, instr_line, IsDisAnswer};
 ghost use Rattle.ztso_engines.specs.inner.Making.{FindsBy, text_and_value};
 
 use crate::code::code_of;
-use crate::fault::Fault;
+use crate::fault::{Fault, at_line};
 use crate::input::{read_input, text_of};
 use crate::output::end_with;
 use assembler::write_instr;
@@ -25,11 +25,11 @@ use texts::first_line;
 /// The instruction words of the line of this number.
 #[tactic(auto, using(crate::proofs::LineFaulted::refused_at_line))]
 fn code_of_line(alloc: Global, line: &[u8], number: usize) -> Result<Vec<u32>, Fault>
-    ensures { Answers (λ code. code.items) result (at_line number (code_at (words line.now))) }
+    ensures { Answers (λ code. code.items) result (told_at number (code_at (words line.now))) }
 {
     match code_of(alloc, line) {
         Ok(code) => Ok(code),
-        Err(fault) => Err(fault.at_line(number)),
+        Err(fault) => Err(at_line(fault, number)),
     }
 }
 

@@ -2,10 +2,12 @@
 
 ghost use Rattle.std.specs.Prelude.{◌≡◌};
 ghost use Rattle.ztso_engines.specs.Faults.{status_of};
+ghost use Rattle.ztso_engines.specs.LineFaults.{fault_at};
 ghost use Rattle.ztso_engines.specs.declared.fault.Fault.TheVariants.{NoMemory, Refused};
 
 use std::alloc::{AllocError, AllocFailed};
 use std::fmt;
+use texts::{AtLine, Numbered, TextError};
 use thiserror::Error;
 
 /// A line that no rule of its text allows, or a text that lacks a line.
@@ -97,5 +99,37 @@ impl<T: Drop> From<AllocFailed<T>> for Fault {
 
     fn from(_error: AllocFailed<T>) -> Fault {
         Fault::NoMemory
+    }
+}
+
+/// A fault at a line is refused there, by its number.
+impl<F: Numbered> From<TextError<AtLine<F>>> for Fault {
+    ghost use Rattle.ztso_engines.specs.Faults.{fault_for, refused_at};
+
+    ghost from_gives = { λ error fault. fault ≡ fault_for (refused_at F.number) error };
+
+    fn from(error: TextError<AtLine<F>>) -> Fault {
+        match error {
+            TextError::NoMemory => Fault::NoMemory,
+            TextError::Refused(AtLine { fault, line }) => {
+                Fault::refused(fault.number(), Place::Line(line))
+            }
+        }
+    }
+}
+
+/// Why a line of an input is not read: no memory, or it is refused, by the refusal's number.
+pub type LineFault = TextError<u8>;
+
+/// A line that no rule allows, or that passes a limit.
+pub const BAD: LineFault = LineFault::Refused(BAD_LINE);
+
+/// The fault of an input whose line of this number has this fault.
+pub fn at_line(fault: LineFault, number: usize) -> Fault
+    ensures { result ≡ fault_at number fault }
+{
+    match fault {
+        LineFault::NoMemory => Fault::NoMemory,
+        LineFault::Refused(refusal) => Fault::refused(refusal, Place::Line(number)),
     }
 }

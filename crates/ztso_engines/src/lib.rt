@@ -15,7 +15,6 @@ mod entry_text;
 pub mod fault;
 pub mod input;
 pub mod laws;
-mod line_fault;
 mod lists;
 mod litmus_text;
 mod output;

@@ -1,17 +1,16 @@
 //! Lists of words, a line each: the input of `channel`.
 
 ghost use Rattle.std.specs.Prelude.{◌≡◌, ◌≤◌, length, map};
-ghost use Rattle.texts.specs.Results.{Gives};
+ghost use Rattle.texts.specs.Results.{Gives, refusal_of};
 ghost use Rattle.ztso_engines.specs.Faults.{Answers};
 ghost use Rattle.ztso_engines.specs.Engines.{judged};
-ghost use Rattle.ztso_engines.specs.LineFaults.{number_in, at_line};
+ghost use Rattle.ztso_engines.specs.LineFaults.{at_line as told_at};
 ghost use Rattle.ztso_engines.specs.Lists.{list_of as list_said, lists_at};
 ghost use Rattle.ztso_engines.specs.inner.Making.{FindsBy};
 ghost use Rattle.ztso_engines.specs.inner.Inputs.{IsReadAsLists};
 
-use crate::fault::Fault;
+use crate::fault::{BAD, Fault, LineFault, at_line};
 use crate::input::{read_input, text_of};
-use crate::line_fault::{BAD, LineFault};
 use std::alloc::Global;
 use std::io::Read;
 use texts::{Separators, first_line, first_piece, word};
@@ -19,7 +18,7 @@ use texts::{Separators, first_line, first_piece, word};
 /// The words of a line.
 #[tactic(auto, unfolding(crate::specs::Lists::list_at))]
 fn list_of(alloc: Global, line: &[u8]) -> Result<Vec<u32>, LineFault>
-    ensures { Gives number_in (λ list. list.items) result (list_said line.now) }
+    ensures { Gives refusal_of (λ list. list.items) result (list_said line.now) }
 {
     let mut list = Vec::new(alloc);
     let mut rest = Some(line);
@@ -36,11 +35,11 @@ fn list_of(alloc: Global, line: &[u8]) -> Result<Vec<u32>, LineFault>
 /// The words of the line of this number.
 #[tactic(auto, using(crate::proofs::LineFaulted::refused_at_line))]
 fn list_of_line(alloc: Global, line: &[u8], number: usize) -> Result<Vec<u32>, Fault>
-    ensures { Answers (λ list. list.items) result (at_line number (list_said line.now)) }
+    ensures { Answers (λ list. list.items) result (told_at number (list_said line.now)) }
 {
     match list_of(alloc, line) {
         Ok(list) => Ok(list),
-        Err(fault) => Err(fault.at_line(number)),
+        Err(fault) => Err(at_line(fault, number)),
     }
 }
 

@@ -5,29 +5,15 @@ ghost use Rattle.litmus_reader.specs.Reading.{content_of};
 ghost use Rattle.litmus_reader.specs.Grammar.{IsTestOf};
 ghost use Rattle.ztso_engines.specs.Faults.{Answers};
 ghost use Rattle.ztso_engines.specs.Engines.{Accepted, judged};
-ghost use Rattle.ztso_engines.specs.Tests.{fault_of_error, test_of, HasNoTest};
+ghost use Rattle.ztso_engines.specs.Tests.{test_of, HasNoTest};
 ghost use Rattle.ztso_engines.specs.inner.Making.{FindsBy};
 ghost use Rattle.ztso_engines.specs.inner.Inputs.{IsReadAsTest};
 
-use crate::fault::{Fault, Place};
+use crate::fault::Fault;
 use crate::input::{read_input, text_of};
 use litmus::Test;
-use litmus_reader::LitmusError;
 use std::alloc::Global;
 use std::io::Read;
-
-impl From<LitmusError> for Fault {
-    ghost from_gives = { λ error fault. fault ≡ fault_of_error error };
-
-    fn from(error: LitmusError) -> Fault {
-        match error {
-            LitmusError::NoMemory => Fault::NoMemory,
-            LitmusError::Refused { fault, line } => {
-                Fault::refused(fault.number(), Place::Line(line))
-            }
-        }
-    }
-}
 
 /// The test of a text.
 #[tactic(auto, unfolding(crate::specs::Tests::test_of))]

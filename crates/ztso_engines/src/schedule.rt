@@ -2,26 +2,27 @@
 
 ghost use Rattle.std.specs.Prelude.{◌≡◌, ◌≤◌, IfOk, IsErr, vec_len};
 ghost use Rattle.recorder.specs.Schedule.{IsScheduleOf};
-ghost use Rattle.ztso_engines.specs.Faults.{Answers};
+ghost use Rattle.ztso_engines.specs.Faults.{Answers, fault_for};
 ghost use Rattle.ztso_engines.specs.Engines.{Accepted, judged};
-ghost use Rattle.ztso_engines.specs.Schedules.{fault_of_error, events_of as events_said, HasNoSchedule};
+ghost use Rattle.ztso_engines.specs.Schedules.{refused_at_byte, events_of as events_said, HasNoSchedule};
 ghost use Rattle.ztso_engines.specs.inner.Making.{FindsBy};
 ghost use Rattle.ztso_engines.specs.inner.Inputs.{IsReadAsSchedule};
 
 use crate::fault::{Fault, Place};
 use crate::input::{read_input, text_of};
-use recorder::{ScheduleError, read_schedule};
+use recorder::{AtByte, ScheduleError, read_schedule};
 use std::alloc::Global;
 use std::io::Read;
 use step_machine::Event;
+use texts::Numbered;
 
 impl From<ScheduleError> for Fault {
-    ghost from_gives = { λ error fault. fault ≡ fault_of_error error };
+    ghost from_gives = { λ error fault. fault ≡ fault_for refused_at_byte error };
 
     fn from(error: ScheduleError) -> Fault {
         match error {
             ScheduleError::NoMemory => Fault::NoMemory,
-            ScheduleError::Refused { fault, place } => {
+            ScheduleError::Refused(AtByte { fault, place }) => {
                 Fault::refused(fault.number(), Place::Byte(place))
             }
         }

@@ -2,7 +2,8 @@
 use Rattle.std.proofs.Common.{ℕ, ◌+◌, ◌*◌, ◌<◌, ◌≤◌, ◌≡◌, ◌⊎◌, length, drop}
 use Rattle.std.specs.Prelude.{slice_index}
 use Rattle.hart.specs.State.{HartState}
-use Rattle.lamport_ring.specs.Invariant.SenderState.{Written, Fixed, running, ended}
+use Rattle.poll_close.specs.Invariant.SenderState.{Written, fixed, running, ended}
+use Rattle.lamport_ring.specs.Listing.{sender_code}
 use Rattle.poll_close.specs.Invariant.Blocks.{Block, offset}
 use Rattle.lamport_ring.specs.Invariant.Numbers.{Made, Numbers}
 
@@ -26,28 +27,25 @@ pub data SenderPlace : Type 0 where
   P40 : SenderPlace
   Over : SenderPlace
 
-abbrev pub fixed : Block → Fixed
-fixed k = record { words = k.words; base = k.base; bytes = 4 * k.size }
-
 abbrev pub stands : Block → SenderPlace → Made → Written → HartState
-stands k P00 n r = running (fixed k) 0x00 r (drop n.g k.list)
-stands k P04 n r = running (fixed k) 0x04 r (drop n.g k.list)
-stands k P08 n r = running (fixed k) 0x08 r (drop n.g k.list)
-stands k P0C n r = running (fixed k) 0x0C r (drop n.g k.list)
-stands k P10 n r = running (fixed k) 0x10 r (drop n.g k.list)
-stands k P14 n r = running (fixed k) 0x14 r (drop n.g k.list)
-stands k P18 n r = running (fixed k) 0x18 r (drop n.g k.list)
-stands k P1C n r = running (fixed k) 0x1C r (drop n.g k.list)
-stands k P20 n r = running (fixed k) 0x20 r (drop n.g k.list)
-stands k P24 n r = running (fixed k) 0x24 r (drop n.g k.list)
-stands k P28 n r = running (fixed k) 0x28 r (drop n.g k.list)
-stands k P2C n r = running (fixed k) 0x2C r (drop n.g k.list)
-stands k P30 n r = running (fixed k) 0x30 r (drop n.g k.list)
-stands k P34 n r = running (fixed k) 0x34 r (drop n.g k.list)
-stands k P38 n r = running (fixed k) 0x38 r (drop n.g k.list)
-stands k P3C n r = running (fixed k) 0x3C r (drop n.g k.list)
-stands k P40 n r = running (fixed k) 0x40 r (drop n.g k.list)
-stands k Over n r = ended (fixed k) r (drop n.g k.list)
+stands k P00 n r = running sender_code (fixed k) 0x00 r (drop n.g k.list)
+stands k P04 n r = running sender_code (fixed k) 0x04 r (drop n.g k.list)
+stands k P08 n r = running sender_code (fixed k) 0x08 r (drop n.g k.list)
+stands k P0C n r = running sender_code (fixed k) 0x0C r (drop n.g k.list)
+stands k P10 n r = running sender_code (fixed k) 0x10 r (drop n.g k.list)
+stands k P14 n r = running sender_code (fixed k) 0x14 r (drop n.g k.list)
+stands k P18 n r = running sender_code (fixed k) 0x18 r (drop n.g k.list)
+stands k P1C n r = running sender_code (fixed k) 0x1C r (drop n.g k.list)
+stands k P20 n r = running sender_code (fixed k) 0x20 r (drop n.g k.list)
+stands k P24 n r = running sender_code (fixed k) 0x24 r (drop n.g k.list)
+stands k P28 n r = running sender_code (fixed k) 0x28 r (drop n.g k.list)
+stands k P2C n r = running sender_code (fixed k) 0x2C r (drop n.g k.list)
+stands k P30 n r = running sender_code (fixed k) 0x30 r (drop n.g k.list)
+stands k P34 n r = running sender_code (fixed k) 0x34 r (drop n.g k.list)
+stands k P38 n r = running sender_code (fixed k) 0x38 r (drop n.g k.list)
+stands k P3C n r = running sender_code (fixed k) 0x3C r (drop n.g k.list)
+stands k P40 n r = running sender_code (fixed k) 0x40 r (drop n.g k.list)
+stands k Over n r = ended sender_code (fixed k) 0x40 r (drop n.g k.list)
 
 -- between two words: g taken, all of them stored, with their heads, and no mark
 pub record Between (k : Block) (n : Made) : Type 0 where

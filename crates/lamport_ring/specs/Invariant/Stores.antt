@@ -1,19 +1,14 @@
 -- All that a sender will ever store to its block, and all that the receiver will, in order.
-use Rattle.std.proofs.Common.{ℕ, ◌+◌, ◌*◌, ◌%◌, List, [], ◌∷◌}
-use Rattle.poll_close.specs.Invariant.Blocks.{slot}
+use Rattle.std.proofs.Common.{ℕ, ◌+◌, ◌*◌, ◌%◌, List}
+use Rattle.poll_close.specs.Invariant.Blocks.{singles, pairs, slot_store, tail_store}
 
--- from word j on: each word into its slot, then the head; at the end the closed mark
-abbrev pub stores_from : ℕ → ℕ → ℕ → List ℕ → List (ℕ × ℕ)
-stores_from S b j [] = (b + 4, 1) ∷ []
-stores_from S b j (w ∷ ws) = (slot S b j, w) ∷ (b, 4 * ((j + 1) % S)) ∷ stores_from S b (j + 1) ws
+abbrev pub head_store : ℕ → ℕ → ℕ → ℕ → ℕ × ℕ
+head_store S b j w = (b, 4 * ((j + 1) % S))
 
+-- each word into its slot, then the head; at the end the closed mark
 abbrev pub sender_stores : ℕ → ℕ → List ℕ → List (ℕ × ℕ)
-sender_stores S b ws = stores_from S b 0 ws
+sender_stores S b ws = pairs (slot_store S b) (head_store S b) (b + 4, 1) ws
 
--- from word j on: its tail; at the end the done word
-abbrev pub tails_from : ℕ → ℕ → ℕ → List ℕ → List (ℕ × ℕ)
-tails_from S b j [] = (b + 12, 1) ∷ []
-tails_from S b j (w ∷ ws) = (b + 8, 4 * ((j + 1) % S)) ∷ tails_from S b (j + 1) ws
-
+-- the tail of each word; at the end the done word
 abbrev pub receiver_stores : ℕ → ℕ → List ℕ → List (ℕ × ℕ)
-receiver_stores S b ws = tails_from S b 0 ws
+receiver_stores S b ws = singles (tail_store S b) (b + 12, 1) ws

@@ -1,5 +1,5 @@
 -- One sender's block: what never changes of it, its addresses, and the pending stores that go to it.
-use Rattle.std.proofs.Common.{ℕ, ◌+◌, ◌*◌, ◌%◌, Bool, not, ◌&&◌, List, [], take, drop}
+use Rattle.std.proofs.Common.{ℕ, suc, ◌+◌, ◌*◌, ◌%◌, Bool, not, ◌&&◌, List, [], ◌∷◌, take, drop}
 use Rattle.std.specs.Prelude.{nat_lt, map}
 use Rattle.std.specs.List.{slice_index_or, filter}
 use Rattle.memory.specs.declared.writes.Write.{Write}
@@ -43,3 +43,19 @@ to_block k ws = filter (is_to k) ws
 -- the stores of one fixed list that are made and have not landed: made n, landed k
 abbrev pub window : List (ℕ × ℕ) → ℕ → ℕ → List (ℕ × ℕ)
 window xs k n = drop k (take n xs)
+
+-- the stores by a list's words, one for each word, or two, by its number and the word; and one at the end
+abbrev pub singles : (ℕ → ℕ → ℕ × ℕ) → ℕ × ℕ → List ℕ → List (ℕ × ℕ)
+singles each last [] = last ∷ []
+singles each last (w ∷ ws) = each 0 w ∷ singles (λ j v. each (suc j) v) last ws
+
+abbrev pub pairs : (ℕ → ℕ → ℕ × ℕ) → (ℕ → ℕ → ℕ × ℕ) → ℕ × ℕ → List ℕ → List (ℕ × ℕ)
+pairs first second last [] = last ∷ []
+pairs first second last (w ∷ ws) = first 0 w ∷ second 0 w ∷ pairs (λ j v. first (suc j) v) (λ j v. second (suc j) v) last ws
+
+-- word j goes into its slot, and the tail after it says that it is taken
+abbrev pub slot_store : ℕ → ℕ → ℕ → ℕ → ℕ × ℕ
+slot_store S b j w = (slot S b j, w)
+
+abbrev pub tail_store : ℕ → ℕ → ℕ → ℕ → ℕ × ℕ
+tail_store S b j w = (b + 8, 4 * ((j + 1) % S))

@@ -1,17 +1,17 @@
 //! One line of a steps text.
 
 ghost use Rattle.std.specs.Prelude.{◌≡◌};
-ghost use Rattle.texts.specs.Results.{Gives};
-ghost use Rattle.ztso_engines.specs.LineFaults.{number_in};
+ghost use Rattle.texts.specs.Results.{Gives, refusal_of};
 ghost use Rattle.texts.specs.Cutting.{words, words as words_of};
-ghost use Rattle.ztso_engines.specs.StepsReading.{tokens_fault, keyword_named, number_at, two_numbers, three_numbers, with_hart, with_register, with_word, with_steps};
+ghost use Rattle.ztso_engines.specs.StepsReading.{keyword_named, number_at, two_numbers, three_numbers, with_hart, with_register, with_word, with_steps};
 
 use crate::code::code_of;
-use crate::line_fault::{BAD, LineFault};
+use crate::fault::{BAD, LineFault};
 use recorder::{ScheduleError, push_tokens_of};
 use std::alloc::Global;
+use step_machine::opening::{MAX_CODE, MAX_HARTS};
 use step_machine::{Event, HartOpening};
-use texts::{first_word, word};
+use texts::{Numbered, first_word, word};
 
 /// What a line begins with.
 #[derive(Clone, Copy)]
@@ -21,23 +21,6 @@ pub enum Keyword {
     Word,
     Steps,
 }
-
-impl From<ScheduleError> for LineFault {
-    ghost from_gives = { λ error fault. fault ≡ tokens_fault error };
-
-    fn from(error: ScheduleError) -> LineFault {
-        match error {
-            ScheduleError::NoMemory => LineFault::NoMemory,
-            ScheduleError::Refused { fault, .. } => LineFault::Refused(fault.number()),
-        }
-    }
-}
-
-/// A text has at most so many harts.
-const HARTS: usize = 64;
-
-/// A hart has at most so many instruction words.
-const HART_WORDS: usize = 4096;
 
 pub fn keyword_of(word: &[u8]) -> Option<Keyword>
     ensures { result ≡ keyword_named word.now }
@@ -54,7 +37,7 @@ pub fn keyword_of(word: &[u8]) -> Option<Keyword>
 /// The number that the text's first word says, and what follows.
 #[tactic(auto, unfolding(crate::specs::StepsReading::number_at))]
 fn first_number(text: &[u8]) -> Result<(u32, &[u8]), LineFault>
-    ensures { Gives number_in (λ cut. (cut.0, words cut.1.now)) result (number_at (words text.now)) }
+    ensures { Gives refusal_of (λ cut. (cut.0, words cut.1.now)) result (number_at (words text.now)) }
 {
     let (digits, rest) = first_word(text).ok_or(BAD)?;
     let number = word(digits).ok_or(BAD)?;
@@ -64,7 +47,7 @@ fn first_number(text: &[u8]) -> Result<(u32, &[u8]), LineFault>
 /// The two numbers that are the words of the text.
 #[tactic(auto, unfolding(crate::specs::StepsReading::two_numbers))]
 fn two_numbers_of(text: &[u8]) -> Result<(u32, u32), LineFault>
-    ensures { Gives number_in (λ said. said) result (two_numbers (words text.now)) }
+    ensures { Gives refusal_of (λ said. said) result (two_numbers (words text.now)) }
 {
     let (a, rest) = first_number(text)?;
     let (b, rest) = first_number(rest)?;
@@ -77,7 +60,7 @@ fn two_numbers_of(text: &[u8]) -> Result<(u32, u32), LineFault>
 /// The three numbers that are the words of the text.
 #[tactic(auto, unfolding(crate::specs::StepsReading::three_numbers))]
 fn three_numbers_of(text: &[u8]) -> Result<(u32, u32, u32), LineFault>
-    ensures { Gives number_in (λ said. said) result (three_numbers (words text.now)) }
+    ensures { Gives refusal_of (λ said. said) result (three_numbers (words text.now)) }
 {
     let (a, rest) = first_number(text)?;
     let (b, c) = two_numbers_of(rest)?;
@@ -87,10 +70,10 @@ fn three_numbers_of(text: &[u8]) -> Result<(u32, u32, u32), LineFault>
 /// Adds the hart of this code.
 #[tactic(auto, unfolding(crate::specs::StepsReading::with_hart))]
 pub fn add_hart(alloc: Global, harts: &mut Vec<HartOpening>, text: &[u8]) -> Result<(), LineFault>
-    ensures { Gives number_in (λ x. harts.new.items) result (with_hart harts.old.items (words text.now)) }
+    ensures { Gives refusal_of (λ x. harts.new.items) result (with_hart harts.old.items (words text.now)) }
 {
     let code = code_of(alloc, text)?;
-    if harts.len() >= HARTS || code.len() > HART_WORDS {
+    if harts.len() >= MAX_HARTS || code.len() > MAX_CODE {
         return Err(BAD);
     }
     harts.push(HartOpening {
@@ -104,7 +87,7 @@ pub fn add_hart(alloc: Global, harts: &mut Vec<HartOpening>, text: &[u8]) -> Res
 /// Sets a register of a hart above.
 #[tactic(auto, unfolding(crate::specs::StepsReading::with_register))]
 pub fn set_register(harts: &mut Vec<HartOpening>, text: &[u8]) -> Result<(), LineFault>
-    ensures { Gives number_in (λ x. harts.new.items) result (with_register harts.old.items (words text.now)) }
+    ensures { Gives refusal_of (λ x. harts.new.items) result (with_register harts.old.items (words text.now)) }
 {
     let (hart, number, value) = three_numbers_of(text)?;
     let hart = hart as usize;
@@ -119,7 +102,7 @@ pub fn set_register(harts: &mut Vec<HartOpening>, text: &[u8]) -> Result<(), Lin
 /// Sets a word of memory.
 #[tactic(auto, unfolding(crate::specs::StepsReading::with_word))]
 pub fn set_word(words: &mut Vec<u32>, text: &[u8]) -> Result<(), LineFault>
-    ensures { Gives number_in (λ x. words.new.items) result (with_word words.old.items (words_of text.now)) }
+    ensures { Gives refusal_of (λ x. words.new.items) result (with_word words.old.items (words_of text.now)) }
 {
     let (addr, value) = two_numbers_of(text)?;
     let place = (addr / 4) as usize;
@@ -133,8 +116,11 @@ pub fn set_word(words: &mut Vec<u32>, text: &[u8]) -> Result<(), LineFault>
 /// Appends the events of a text of tokens.
 #[tactic(auto, unfolding(crate::specs::StepsReading::with_steps))]
 pub fn add_steps(events: &mut Vec<Event>, text: &[u8]) -> Result<(), LineFault>
-    ensures { Gives number_in (λ x. events.new.items) result (with_steps events.old.items text.now) }
+    ensures { Gives refusal_of (λ x. events.new.items) result (with_steps events.old.items text.now) }
 {
-    push_tokens_of(events, text)?;
-    Ok(())
+    match push_tokens_of(events, text) {
+        Ok(()) => Ok(()),
+        Err(ScheduleError::NoMemory) => Err(LineFault::NoMemory),
+        Err(ScheduleError::Refused(refusal)) => Err(LineFault::Refused(refusal.fault.number())),
+    }
 }

@@ -2,16 +2,15 @@
 
 ghost use Rattle.std.specs.Prelude.{◌≡◌, Ok, IfOk};
 ghost use Rattle.std.specs.Str.Lines.{lines};
-ghost use Rattle.texts.specs.Results.{Gives};
+ghost use Rattle.texts.specs.Results.{Gives, refusal_of};
 ghost use Rattle.step_machine.specs.History.{FitsIn};
 ghost use Rattle.ztso_engines.specs.Faults.{Answers};
-ghost use Rattle.ztso_engines.specs.LineFaults.{number_in, at_line};
+ghost use Rattle.ztso_engines.specs.LineFaults.{at_line as told_at};
 ghost use Rattle.ztso_engines.specs.Told.{Told, told_by, untold, opening_of};
 ghost use Rattle.ztso_engines.specs.StepsText.{Tells};
 ghost use Rattle.ztso_engines.specs.StepsReading.{after_line, after_lines, script_at};
 
-use crate::fault::{BAD_LINE, Fault, Place};
-use crate::line_fault::{BAD, LineFault};
+use crate::fault::{BAD, BAD_LINE, Fault, LineFault, Place, at_line};
 use crate::steps::line::{Keyword, add_hart, add_steps, keyword_of, set_register, set_word};
 use std::alloc::{AllocError, Global};
 use step_machine::{Event, HartOpening};
@@ -41,7 +40,7 @@ impl Script {
     /// Follows one more line.
     #[tactic(auto, unfolding(crate::specs::StepsReading::after_line))]
     fn add_line(&mut self, alloc: Global, line: &[u8]) -> Result<(), LineFault>
-        ensures { Gives number_in (λ x. told_by self.new) result (after_line (told_by self.old) line.now) }
+        ensures { Gives refusal_of (λ x. told_by self.new) result (after_line (told_by self.old) line.now) }
     {
         let Some((name, rest)) = first_word(line) else {
             return Ok(());
@@ -57,11 +56,11 @@ impl Script {
     /// Follows the line of this number.
     #[tactic(auto, using(crate::proofs::LineFaulted::refused_at_line))]
     fn add_line_at(&mut self, alloc: Global, line: &[u8], number: usize) -> Result<(), Fault>
-        ensures { Answers (λ x. told_by self.new) result (at_line number (after_line (told_by self.old) line.now)) }
+        ensures { Answers (λ x. told_by self.new) result (told_at number (after_line (told_by self.old) line.now)) }
     {
         match self.add_line(alloc, line) {
             Ok(()) => Ok(()),
-            Err(fault) => Err(fault.at_line(number)),
+            Err(fault) => Err(at_line(fault, number)),
         }
     }
 

@@ -1,5 +1,5 @@
 use Rattle.std.proofs.Common.{◌≡◌, ◌≤◌, ◌-◌}
-use Rattle.poll_close.specs.Plans.{next_of, is_ready}
+use Rattle.poll_close.specs.Paces.{next_of, is_ready}
 use Rattle.poll_close.proofs.plans.next_hart.Given as goal
 
 -- the last of the harts that were looked at

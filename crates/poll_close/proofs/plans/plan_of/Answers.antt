@@ -1,9 +1,9 @@
-use Rattle.std.proofs.Common.{◌≡◌, ◌<◌, length, true, false, [], ◌∷◌, ◌++◌, lit<, sym, ◌∙◌, ap, subst, arith}
-use Rattle.std.proofs.lemmas.Bool.Decides.{nat_tests}
+use Rattle.std.proofs.Common.{◌≡◌, ◌<◌, true, false, [], ◌∷◌, ◌++◌, lit<, sym, ◌∙◌, ap, subst, arith}
 use Rattle.step_machine.specs.Entries.{pending}
 use Rattle.step_machine.specs.declared.events.Event.TheVariants as event
-use Rattle.poll_close.specs.Plans.{is_done, left_by, next_by}
-use Rattle.poll_close.proofs.Planning.{Planned, planned-none, planned-more, planned-done, lands_one, turned, turn_over, turn_quiet}
+use Rattle.poll_close.specs.Paces.{left_by, next_by}
+use Rattle.poll_close.specs.Plans.{is_done}
+use Rattle.poll_close.proofs.Planning.{Planned, planned-none, planned-more, planned-done, lands_one, turned, turn_over, turn_quiet, some_left, none_left, landed_more}
 use Rattle.poll_close.proofs.plans.plan_of.Goals as goal
 
 pub is_finished-requires-in-loop-machine-2 : goal.is_finished-requires-in-loop-machine-2
@@ -12,49 +12,52 @@ is_finished-requires-in-loop-machine-2 g c = (lit< tt, c.loop-machine-2.invarian
 pub loop-machine-smaller : goal.loop-machine-smaller
 loop-machine-smaller g c =
     let p = c.loop-machine.invariant.0 in
-    (lands_one g.row.B g.row.M c.loop-machine.machine.history c.loop-hart.hart c.in_ok-step.field-0 c.step.new.self.history p.stands.kept (omega (arith, p.harts, c.harts-hart-end.ensures, c.loop-hart-test.true)) (let some : 0 < length (pending c.loop-hart.hart c.loop-machine.machine.history.entries) = grind (arith, nat_tests, c.is_empty.ensures, c.pending.ensures, c.loop-machine-test.true) in some) c.in_ok-step.ensures.happens).fewer
+    (lands_one g.row.B g.row.M c.loop-machine.machine.history c.loop-hart.hart c.in_ok-step.field-0 c.step.new.self.history p.stands.kept (omega (arith, p.harts, c.harts-hart-end.ensures, c.loop-hart-test.true)) (some_left c.pending.ensures c.is_empty.ensures c.loop-machine-test.true) c.in_ok-step.ensures.happens).fewer
 
 pub loop-machine-preserved : goal.loop-machine-preserved
 loop-machine-preserved g c =
     let p = c.loop-machine.invariant.0 in
-    let less = lands_one g.row.B g.row.M c.loop-machine.machine.history c.loop-hart.hart c.in_ok-step.field-0 c.step.new.self.history p.stands.kept (omega (arith, p.harts, c.harts-hart-end.ensures, c.loop-hart-test.true)) (let some : 0 < length (pending c.loop-hart.hart c.loop-machine.machine.history.entries) = grind (arith, nat_tests, c.is_empty.ensures, c.pending.ensures, c.loop-machine-test.true) in some) c.in_ok-step.ensures.happens in (
-      subst (λ evs. Planned g.K.RingKind.ring g.K.RingKind.meaning g.row.B g.row.M c.args.machine.now.history evs c.step.new.self.history) (sym c.in_ok-push.ensures.items) (planned-more g.K.RingKind.ring g.K.RingKind.meaning g.row.B g.row.M c.args.machine.now.history c.loop-machine.plan.items c.loop-machine.machine.history _ c.in_ok-step.field-0 c.step.new.self.history c.laws.ensures.keeps p c.in_ok-step.ensures.happens),
+    let less = lands_one g.row.B g.row.M c.loop-machine.machine.history c.loop-hart.hart c.in_ok-step.field-0 c.step.new.self.history p.stands.kept (omega (arith, p.harts, c.harts-hart-end.ensures, c.loop-hart-test.true)) (some_left c.pending.ensures c.is_empty.ensures c.loop-machine-test.true) c.in_ok-step.ensures.happens in (
+      subst (λ evs. Planned g.K.RingKind.ring g.K.RingKind.meaning g.row.B g.row.M c.args.machine.history evs c.step.new.self.history) (sym c.in_ok-push.ensures.items) (planned-more g.K.RingKind.ring g.K.RingKind.meaning g.row.B g.row.M c.args.machine.history c.loop-machine.plan.items c.loop-machine.machine.history _ c.in_ok-step.field-0 c.step.new.self.history c.laws.ensures.keeps p c.in_ok-step.ensures.happens),
       λ k below. less.others k (omega arith) ∙ c.loop-machine.invariant.1 k below,
     )
 
+pub loop-hart-preserved : goal.loop-hart-preserved
+loop-hart-preserved g c = (c.loop-machine.invariant.0, landed_more c.loop-machine.machine.history.entries c.loop-hart.hart c.loop-machine.invariant.1 (none_left c.pending.ensures c.is_empty.ensures c.loop-machine-test.false))
+
 pub pending-requires-in-loop-machine-2 : goal.pending-requires-in-loop-machine-2
 pending-requires-in-loop-machine-2 g c =
-    let turn = turned g.K.RingKind.ring g.K.RingKind.meaning (left_by g.K.Finish.pace) (next_by g.K.Finish.pace) g.row.B g.row.M c.args.machine.now.history c.loop-machine-2.plan.items c.loop-machine-2.machine.history c.next_hart-next.result c.in_ok-step-2.field-0 c.step-in-loop-machine-2.new.self.history c.nears.ensures c.laws.ensures.keeps c.requires.some_capacity c.loop-machine-2.invariant.0 c.loop-machine-2.invariant.1 (sym c.is_finished-in-loop-machine-2.ensures ∙ c.loop-machine-2-test.true) c.next_hart-next.ensures c.in_ok-step-2.ensures.happens in
+    let turn = turned g.K.RingKind.ring g.K.RingKind.meaning (left_by g.K.Finish.pace) (next_by g.K.Finish.pace) g.row.B g.row.M c.args.machine.history c.loop-machine-2.plan.items c.loop-machine-2.machine.history c.next_hart-next.result c.in_ok-step-2.field-0 c.step-in-loop-machine-2.new.self.history c.nears.ensures c.laws.ensures.keeps c.requires.some_capacity c.loop-machine-2.invariant.0 c.loop-machine-2.invariant.1 (sym c.is_finished-in-loop-machine-2.ensures ∙ c.loop-machine-2-test.true) c.next_hart-next.ensures c.in_ok-step-2.ensures.happens in
     (lit< tt, turn.hart)
 
 pub loop-machine-2-smaller-in-Continue-branch-6 : goal.loop-machine-2-smaller-in-Continue-branch-6
 loop-machine-2-smaller-in-Continue-branch-6 g c =
-    let turn = turned g.K.RingKind.ring g.K.RingKind.meaning (left_by g.K.Finish.pace) (next_by g.K.Finish.pace) g.row.B g.row.M c.args.machine.now.history c.loop-machine-2.plan.items c.loop-machine-2.machine.history c.next_hart-next.result c.in_ok-step-2.field-0 c.step-in-loop-machine-2.new.self.history c.nears.ensures c.laws.ensures.keeps c.requires.some_capacity c.loop-machine-2.invariant.0 c.loop-machine-2.invariant.1 (sym c.is_finished-in-loop-machine-2.ensures ∙ c.loop-machine-2-test.true) c.next_hart-next.ensures c.in_ok-step-2.ensures.happens in
-    let over = turn_over g.K.RingKind.ring g.K.RingKind.meaning (left_by g.K.Finish.pace) g.row.B g.row.M c.args.machine.now.history _ c.loop-machine-2.machine.history c.step-in-loop-machine-2.new.self.history c.next_hart-next.result c.in_ok-step-3.field-0 c.step-then-not-is_empty.new.self.history c.laws.ensures.keeps c.loop-machine-2.invariant.1 turn (let some : 0 < length (pending c.next_hart-next.result c.step-in-loop-machine-2.new.self.history.entries) = grind (arith, nat_tests, c.is_empty-in-loop-machine-2.ensures, c.pending-in-loop-machine-2.ensures, c.if-not-is_empty.true) in some) c.in_ok-step-3.ensures.happens in
+    let turn = turned g.K.RingKind.ring g.K.RingKind.meaning (left_by g.K.Finish.pace) (next_by g.K.Finish.pace) g.row.B g.row.M c.args.machine.history c.loop-machine-2.plan.items c.loop-machine-2.machine.history c.next_hart-next.result c.in_ok-step-2.field-0 c.step-in-loop-machine-2.new.self.history c.nears.ensures c.laws.ensures.keeps c.requires.some_capacity c.loop-machine-2.invariant.0 c.loop-machine-2.invariant.1 (sym c.is_finished-in-loop-machine-2.ensures ∙ c.loop-machine-2-test.true) c.next_hart-next.ensures c.in_ok-step-2.ensures.happens in
+    let over = turn_over g.K.RingKind.ring g.K.RingKind.meaning (left_by g.K.Finish.pace) g.row.B g.row.M c.args.machine.history _ c.loop-machine-2.machine.history c.step-in-loop-machine-2.new.self.history c.next_hart-next.result c.in_ok-step-3.field-0 c.step-then-not-is_empty.new.self.history c.laws.ensures.keeps c.loop-machine-2.invariant.1 turn (some_left c.pending-in-loop-machine-2.ensures c.is_empty-in-loop-machine-2.ensures c.if-not-is_empty.true) c.in_ok-step-3.ensures.happens in
     over.less
 
 pub loop-machine-2-preserved-in-Continue-branch-6 : goal.loop-machine-2-preserved-in-Continue-branch-6
 loop-machine-2-preserved-in-Continue-branch-6 g c =
-    let turn = turned g.K.RingKind.ring g.K.RingKind.meaning (left_by g.K.Finish.pace) (next_by g.K.Finish.pace) g.row.B g.row.M c.args.machine.now.history c.loop-machine-2.plan.items c.loop-machine-2.machine.history c.next_hart-next.result c.in_ok-step-2.field-0 c.step-in-loop-machine-2.new.self.history c.nears.ensures c.laws.ensures.keeps c.requires.some_capacity c.loop-machine-2.invariant.0 c.loop-machine-2.invariant.1 (sym c.is_finished-in-loop-machine-2.ensures ∙ c.loop-machine-2-test.true) c.next_hart-next.ensures c.in_ok-step-2.ensures.happens in
-    let over = turn_over g.K.RingKind.ring g.K.RingKind.meaning (left_by g.K.Finish.pace) g.row.B g.row.M c.args.machine.now.history _ c.loop-machine-2.machine.history c.step-in-loop-machine-2.new.self.history c.next_hart-next.result c.in_ok-step-3.field-0 c.step-then-not-is_empty.new.self.history c.laws.ensures.keeps c.loop-machine-2.invariant.1 turn (let some : 0 < length (pending c.next_hart-next.result c.step-in-loop-machine-2.new.self.history.entries) = grind (arith, nat_tests, c.is_empty-in-loop-machine-2.ensures, c.pending-in-loop-machine-2.ensures, c.if-not-is_empty.true) in some) c.in_ok-step-3.ensures.happens in
-    (subst (λ evs. Planned g.K.RingKind.ring g.K.RingKind.meaning g.row.B g.row.M c.args.machine.now.history evs c.step-then-not-is_empty.new.self.history) (sym (c.in_ok-push-3.ensures.items ∙ ap (λ evs. evs ++ event.Land c.next_hart-next.result ∷ []) c.in_ok-push-2.ensures.items)) over.planned, over.all)
+    let turn = turned g.K.RingKind.ring g.K.RingKind.meaning (left_by g.K.Finish.pace) (next_by g.K.Finish.pace) g.row.B g.row.M c.args.machine.history c.loop-machine-2.plan.items c.loop-machine-2.machine.history c.next_hart-next.result c.in_ok-step-2.field-0 c.step-in-loop-machine-2.new.self.history c.nears.ensures c.laws.ensures.keeps c.requires.some_capacity c.loop-machine-2.invariant.0 c.loop-machine-2.invariant.1 (sym c.is_finished-in-loop-machine-2.ensures ∙ c.loop-machine-2-test.true) c.next_hart-next.ensures c.in_ok-step-2.ensures.happens in
+    let over = turn_over g.K.RingKind.ring g.K.RingKind.meaning (left_by g.K.Finish.pace) g.row.B g.row.M c.args.machine.history _ c.loop-machine-2.machine.history c.step-in-loop-machine-2.new.self.history c.next_hart-next.result c.in_ok-step-3.field-0 c.step-then-not-is_empty.new.self.history c.laws.ensures.keeps c.loop-machine-2.invariant.1 turn (some_left c.pending-in-loop-machine-2.ensures c.is_empty-in-loop-machine-2.ensures c.if-not-is_empty.true) c.in_ok-step-3.ensures.happens in
+    (subst (λ evs. Planned g.K.RingKind.ring g.K.RingKind.meaning g.row.B g.row.M c.args.machine.history evs c.step-then-not-is_empty.new.self.history) (sym (c.in_ok-push-3.ensures.items ∙ ap (λ evs. evs ++ event.Land c.next_hart-next.result ∷ []) c.in_ok-push-2.ensures.items)) over.planned, over.all)
 
 pub loop-machine-2-smaller : goal.loop-machine-2-smaller
 loop-machine-2-smaller g c =
-    let turn = turned g.K.RingKind.ring g.K.RingKind.meaning (left_by g.K.Finish.pace) (next_by g.K.Finish.pace) g.row.B g.row.M c.args.machine.now.history c.loop-machine-2.plan.items c.loop-machine-2.machine.history c.next_hart-next.result c.in_ok-step-2.field-0 c.step-in-loop-machine-2.new.self.history c.nears.ensures c.laws.ensures.keeps c.requires.some_capacity c.loop-machine-2.invariant.0 c.loop-machine-2.invariant.1 (sym c.is_finished-in-loop-machine-2.ensures ∙ c.loop-machine-2-test.true) c.next_hart-next.ensures c.in_ok-step-2.ensures.happens in
+    let turn = turned g.K.RingKind.ring g.K.RingKind.meaning (left_by g.K.Finish.pace) (next_by g.K.Finish.pace) g.row.B g.row.M c.args.machine.history c.loop-machine-2.plan.items c.loop-machine-2.machine.history c.next_hart-next.result c.in_ok-step-2.field-0 c.step-in-loop-machine-2.new.self.history c.nears.ensures c.laws.ensures.keeps c.requires.some_capacity c.loop-machine-2.invariant.0 c.loop-machine-2.invariant.1 (sym c.is_finished-in-loop-machine-2.ensures ∙ c.loop-machine-2-test.true) c.next_hart-next.ensures c.in_ok-step-2.ensures.happens in
     turn.stepped.less
 
 pub loop-machine-2-preserved : goal.loop-machine-2-preserved
 loop-machine-2-preserved g c =
-    let turn = turned g.K.RingKind.ring g.K.RingKind.meaning (left_by g.K.Finish.pace) (next_by g.K.Finish.pace) g.row.B g.row.M c.args.machine.now.history c.loop-machine-2.plan.items c.loop-machine-2.machine.history c.next_hart-next.result c.in_ok-step-2.field-0 c.step-in-loop-machine-2.new.self.history c.nears.ensures c.laws.ensures.keeps c.requires.some_capacity c.loop-machine-2.invariant.0 c.loop-machine-2.invariant.1 (sym c.is_finished-in-loop-machine-2.ensures ∙ c.loop-machine-2-test.true) c.next_hart-next.ensures c.in_ok-step-2.ensures.happens in
-    let over = turn_quiet g.K.RingKind.ring g.K.RingKind.meaning (left_by g.K.Finish.pace) g.row.B g.row.M c.args.machine.now.history _ c.loop-machine-2.machine.history c.step-in-loop-machine-2.new.self.history c.next_hart-next.result c.loop-machine-2.invariant.1 turn (let none : length (pending c.next_hart-next.result c.step-in-loop-machine-2.new.self.history.entries) < 1 = grind (arith, nat_tests, c.is_empty-in-loop-machine-2.ensures, c.pending-in-loop-machine-2.ensures, c.if-not-is_empty.false) in none) in
-    (subst (λ evs. Planned g.K.RingKind.ring g.K.RingKind.meaning g.row.B g.row.M c.args.machine.now.history evs c.step-in-loop-machine-2.new.self.history) (sym c.in_ok-push-2.ensures.items) over.planned, over.all)
+    let turn = turned g.K.RingKind.ring g.K.RingKind.meaning (left_by g.K.Finish.pace) (next_by g.K.Finish.pace) g.row.B g.row.M c.args.machine.history c.loop-machine-2.plan.items c.loop-machine-2.machine.history c.next_hart-next.result c.in_ok-step-2.field-0 c.step-in-loop-machine-2.new.self.history c.nears.ensures c.laws.ensures.keeps c.requires.some_capacity c.loop-machine-2.invariant.0 c.loop-machine-2.invariant.1 (sym c.is_finished-in-loop-machine-2.ensures ∙ c.loop-machine-2-test.true) c.next_hart-next.ensures c.in_ok-step-2.ensures.happens in
+    let over = turn_quiet g.K.RingKind.ring g.K.RingKind.meaning (left_by g.K.Finish.pace) g.row.B g.row.M c.args.machine.history _ c.loop-machine-2.machine.history c.step-in-loop-machine-2.new.self.history c.next_hart-next.result c.loop-machine-2.invariant.1 turn (none_left c.pending-in-loop-machine-2.ensures c.is_empty-in-loop-machine-2.ensures c.if-not-is_empty.false) in
+    (subst (λ evs. Planned g.K.RingKind.ring g.K.RingKind.meaning g.row.B g.row.M c.args.machine.history evs c.step-in-loop-machine-2.new.self.history) (sym c.in_ok-push-2.ensures.items) over.planned, over.all)
 
 pub returns-then-is_finished-clause-finishes : goal.returns-then-is_finished-clause-finishes
-returns-then-is_finished-clause-finishes g c = planned-done g.K.RingKind.ring g.K.RingKind.meaning g.row.B g.row.M c.args.machine.now.history c.new-plan.result.items c.args.machine.now.history c.laws.ensures.cleans (subst (λ evs. Planned g.K.RingKind.ring g.K.RingKind.meaning g.row.B g.row.M c.args.machine.now.history evs c.args.machine.now.history) (sym c.new-plan.ensures.items) (planned-none g.K.RingKind.ring g.K.RingKind.meaning g.row.B g.row.M c.args.machine.now.history c.requires.stands)) (sym c.is_finished.ensures ∙ c.if-is_finished.true)
+returns-then-is_finished-clause-finishes g c = planned-done g.K.RingKind.ring g.K.RingKind.meaning g.row.B g.row.M c.args.machine.history c.new-plan.result.items c.args.machine.history c.laws.ensures.cleans (subst (λ evs. Planned g.K.RingKind.ring g.K.RingKind.meaning g.row.B g.row.M c.args.machine.history evs c.args.machine.history) (sym c.new-plan.ensures.items) (planned-none g.K.RingKind.ring g.K.RingKind.meaning g.row.B g.row.M c.args.machine.history c.requires.stands)) (sym c.is_finished.ensures ∙ c.if-is_finished.true)
 
 pub returns : goal.returns
 returns g c = record {
-  finishes = planned-done g.K.RingKind.ring g.K.RingKind.meaning g.row.B g.row.M c.args.machine.now.history c.loop-machine-2.plan.items c.loop-machine-2.machine.history c.laws.ensures.cleans c.loop-machine-2.invariant.0 (let done : is_done c.loop-machine-2.machine.history ≡ true = cc in done);
+  finishes = planned-done g.K.RingKind.ring g.K.RingKind.meaning g.row.B g.row.M c.args.machine.history c.loop-machine-2.plan.items c.loop-machine-2.machine.history c.laws.ensures.cleans c.loop-machine-2.invariant.0 (let done : is_done c.loop-machine-2.machine.history ≡ true = cc in done);
   none = λ done. (let bad : true ≡ false = sym done ∙ sym c.is_finished.ensures ∙ c.if-is_finished.false in cc);
 }

@@ -1,6 +1,7 @@
 use Rattle.std.proofs.Common.{◌≡◌, ◌<◌, ℕ, [], length}
 use Rattle.step_machine.specs.Entries.{pending}
-use Rattle.poll_close.specs.Plans.{AllLanded, left_by}
+use Rattle.poll_close.specs.Paces.{left_by}
+use Rattle.poll_close.specs.Plans.{AllLanded}
 use Rattle.poll_close.proofs.Planning.{Planned}
 use Rattle.poll_close.proofs.plans.plan_of.Given as goal
 

@@ -5,7 +5,7 @@ use Rattle.assembler.proofs.draft.Draft.all_words.Goals as goal
 
 pub returns-then-self-gt-MAX_WORDS-clause-exact : goal.returns-then-self-gt-MAX_WORDS-clause-exact
 returns-then-self-gt-MAX_WORDS-clause-exact c =
-    rw (c.first_over.ensures, c.deref.ensures.value, ← c.self.view_is)
+    rw (c.at_line.ensures, c.first_over.ensures, c.deref.ensures.value, ← c.self.view_is)
     (finished_long (map line_of c.self.inside.lines.items) (omega (arith, c.self.invariant.size)))
 
 pub place_all-requires-clause-near : goal.place_all-requires-clause-near
