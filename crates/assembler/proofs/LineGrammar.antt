@@ -9,8 +9,8 @@ use Rattle.assembler.specs.Names.{is_name}
 use Rattle.assembler.specs.Statements.{Made}
 use Rattle.assembler.specs.Lines.{code_of, label_and_rest, parts_of, label_of, statement_text, made_in}
 use Rattle.assembler.specs.Drafts.{Line}
-use Rattle.assembler.specs.Grammar.{IsBody, IsCode, IsLine}
-use Rattle.assembler.specs.Grammar.IsCode.{bare, labelled}
+use Rattle.assembler.specs.Grammar.{IsBody, IsUncommented, IsLine}
+use Rattle.assembler.specs.Grammar.IsUncommented.{bare, labelled}
 use Rattle.assembler.specs.Grammar.IsLine.{code, commented}
 use Rattle.texts.proofs.CuttingLaws.{none-append, before_none, after_none, before_stop, after_stop, cut_byte, uncut}
 use Rattle.texts.proofs.TrimLaws.{leading_none, leading_past, leading_split}
@@ -24,10 +24,10 @@ use Rattle.texts.specs.Pieces.{is_blank}
 abbrev line_with : Option (List ℕ) → Option Made → Line
 line_with label made = record { label = label; made = made }
 
-code_found : (text : List ℕ) (made : Option Made) → made_in (trimmed (parts_of text).1) ≡ Ok made → IsCode text (line_with (parts_of text).0 made)
+code_found : (text : List ℕ) (made : Option Made) → made_in (trimmed (parts_of text).1) ≡ Ok made → IsUncommented text (line_with (parts_of text).0 made)
 code_found text made e = go (after (is_byte 58) text) refl e
   where
-    go : (o : Option (List ℕ)) → after (is_byte 58) text ≡ o → made_in (trimmed (label_and_rest text (without_front (before (is_byte 58) text)) o).1) ≡ Ok made → IsCode text (line_with (label_and_rest text (without_front (before (is_byte 58) text)) o).0 made)
+    go : (o : Option (List ℕ)) → after (is_byte 58) text ≡ o → made_in (trimmed (label_and_rest text (without_front (before (is_byte 58) text)) o).1) ≡ Ok made → IsUncommented text (line_with (label_and_rest text (without_front (before (is_byte 58) text)) o).0 made)
     go None none f = bare text made (body_found text made f)
     go (Some rest) cut f = elim (cases_Bool (is_name (without_front (before (is_byte 58) text)))) [
       | inl name ↦ (
@@ -35,7 +35,7 @@ code_found text made e = go (after (is_byte 58) text) refl e
           let front = without_front (before (is_byte 58) text) in
           let body : made_in (trimmed rest) ≡ Ok made = rw name at f in
           let whole : text ≡ split.0 ++ (front ++ 58 ∷ rest) = cut_byte 58 text rest cut ∙ (ap (λ b. b ++ 58 ∷ rest) split.2 ∙ append_assoc split.0 front (58 ∷ rest)) in
-          rw name (subst (λ (t : List ℕ). IsCode t (line_with (Some front) made)) (sym whole) (labelled split.0 front rest made split.1 name (body_found rest made body))))
+          rw name (subst (λ (t : List ℕ). IsUncommented t (line_with (Some front) made)) (sym whole) (labelled split.0 front rest made split.1 name (body_found rest made body))))
       | inr other ↦ (
           let body : made_in (trimmed text) ≡ Ok made = rw other at f in
           rw other (bare text made (body_found text made body)))
@@ -62,7 +62,7 @@ labelled_parts blanks name text made are is body =
       made = rw (first, rest, front, is) (body_only text made body);
     }
 
-parts : (text : List ℕ) (line : Line) → IsCode text line → Parts text line
+parts : (text : List ℕ) (line : Line) → IsUncommented text line → Parts text line
 parts text line (bare whole made body) =
     let none = no_byte 58 refl whole (body_code whole made body) in
     let rest = after_none (is_byte 58) whole none in
@@ -71,7 +71,7 @@ parts text line (labelled blanks name rest made are is body) =
     subst (λ (t : List ℕ). Parts t (line_with (Some name) made)) (append_assoc blanks name (58 ∷ rest)) (labelled_parts blanks name rest made are is body)
 
 -- no code has a `#`
-no_hash : (text : List ℕ) (line : Line) → IsCode text line → NonePass (is_byte 35) text
+no_hash : (text : List ℕ) (line : Line) → IsUncommented text line → NonePass (is_byte 35) text
 no_hash text line (bare whole made body) = no_byte 35 refl whole (body_code whole made body)
 no_hash text line (labelled blanks name rest made are is body) =
     none-append (is_byte 35) blanks (name ++ 58 ∷ rest) (no_byte 35 refl blanks (blanks_code blanks are))
@@ -83,7 +83,7 @@ pub line_found : (text : List ℕ) (made : Option Made) → made_in (statement_t
 unfolding label_of statement_text
 line_found text made e = go (after (is_byte 35) text) refl (code_found (code_of text) made e)
   where
-    go : (o : Option (List ℕ)) → after (is_byte 35) text ≡ o → IsCode (code_of text) (line_with (parts_of (code_of text)).0 made) → IsLine text (line_with (parts_of (code_of text)).0 made)
+    go : (o : Option (List ℕ)) → after (is_byte 35) text ≡ o → IsUncommented (code_of text) (line_with (parts_of (code_of text)).0 made) → IsLine text (line_with (parts_of (code_of text)).0 made)
     go None none is = subst (λ (t : List ℕ). IsLine t (line_with (parts_of (code_of text)).0 made)) (uncut (is_byte 35) text none) (code (code_of text) (line_with (parts_of (code_of text)).0 made) is)
     go (Some comment) cut is = subst (λ (t : List ℕ). IsLine t (line_with (parts_of (code_of text)).0 made)) (sym (cut_byte 35 text comment cut)) (commented (code_of text) comment (line_with (parts_of (code_of text)).0 made) is)
 
@@ -91,7 +91,7 @@ pub record Reading (text : List ℕ) (line : Line) : Type 0 where
   pub label : label_of text ≡ line.label
   pub made : made_in (statement_text text) ≡ Ok line.made
 
-reading : (text inner : List ℕ) (line : Line) → code_of text ≡ inner → IsCode inner line → Reading text line
+reading : (text inner : List ℕ) (line : Line) → code_of text ≡ inner → IsUncommented inner line → Reading text line
 unfolding label_of statement_text
 reading text inner line same is =
     let p = parts inner line is in

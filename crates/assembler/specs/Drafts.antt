@@ -9,6 +9,7 @@ use Rattle.rv_decode.specs.Meaning.{meaning}
 use Rattle.rv_decode.specs.Fits.{HasPlainFence}
 use Rattle.rv_decode.specs.declared.instruction.Instr.{Instr}
 use Rattle.rv_decode.specs.declared.instruction.Instr.TheVariants as instr
+use Rattle.rv_decode.specs.declared.instruction.TheConstants.{MAX_CODE}
 use Rattle.assembler.specs.declared.faults.AsmFault.{AsmFault}
 use Rattle.assembler.specs.declared.faults.AsmFault.TheVariants.{OutOfRange, NoSuchLabel, LabelTwice, TooLong}
 use Rattle.assembler.specs.Faults.{Refusal}
@@ -112,11 +113,11 @@ all_placed found at line (first ∷ rest) = do
 -- the first line whose words go past the limit
 abbrev pub over : (at line : ℕ) → List Line → ℕ
 over at line [] = line
-over at line (first ∷ rest) = if nat_lt 4096 (at + size_of first.made) then line else over (at + size_of first.made) (line + 1) rest
+over at line (first ∷ rest) = if nat_lt MAX_CODE (at + size_of first.made) then line else over (at + size_of first.made) (line + 1) rest
 
 -- the instructions of all lines
 unfoldable pub finished : List Line → Result (List (Option Instr)) Refusal
-finished all = if nat_lt 4096 (words_of all) then Err (record { fault = TooLong; line = over 0 1 all }) else all_placed (place_of all) 0 1 all
+finished all = if nat_lt MAX_CODE (words_of all) then Err (record { fault = TooLong; line = over 0 1 all }) else all_placed (place_of all) 0 1 all
 
 -- the instructions of a text, or its first fault
 unfoldable pub assembled : List ℕ → Result (List (Option Instr)) Refusal

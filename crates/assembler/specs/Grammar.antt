@@ -35,11 +35,11 @@ pub data IsBody : List ℕ → Option Made → Type 0 where
   statement : (text core : List ℕ) (made : Made) → IsPadded core text → IsStatement core made → IsBody text (Some made)
 
 -- a body, or a label with its colon (58) and then a body
-pub data IsCode : List ℕ → Line → Type 0 where
-  bare : (text : List ℕ) (made : Option Made) → IsBody text made → IsCode text (record { label = None; made = made })
-  labelled : (blanks name text : List ℕ) (made : Option Made) → AreBlanks blanks → is_name name ≡ true → IsBody text made → IsCode (blanks ++ (name ++ 58 ∷ text)) (record { label = Some name; made = made })
+pub data IsUncommented : List ℕ → Line → Type 0 where
+  bare : (text : List ℕ) (made : Option Made) → IsBody text made → IsUncommented text (record { label = None; made = made })
+  labelled : (blanks name text : List ℕ) (made : Option Made) → AreBlanks blanks → is_name name ≡ true → IsBody text made → IsUncommented (blanks ++ (name ++ 58 ∷ text)) (record { label = Some name; made = made })
 
 -- code, and no comment or one from `#` (35) to the line's end
 pub data IsLine : List ℕ → Line → Type 0 where
-  code : (text : List ℕ) (line : Line) → IsCode text line → IsLine text line
-  commented : (text comment : List ℕ) (line : Line) → IsCode text line → IsLine (text ++ 35 ∷ comment) line
+  code : (text : List ℕ) (line : Line) → IsUncommented text line → IsLine text line
+  commented : (text comment : List ℕ) (line : Line) → IsUncommented text line → IsLine (text ++ 35 ∷ comment) line

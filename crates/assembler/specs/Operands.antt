@@ -8,8 +8,8 @@ use Rattle.rv_decode.specs.declared.instruction.Reg.{Reg}
 use Rattle.assembler.specs.declared.faults.AsmFault.{AsmFault}
 use Rattle.assembler.specs.declared.faults.AsmFault.TheVariants.{UnknownName, BadOperand, OutOfRange}
 use Rattle.assembler.specs.declared.operands.Address.{Address}
-use Rattle.assembler.specs.declared.operands.Place.{Place}
-use Rattle.assembler.specs.declared.operands.Place.TheVariants.{Bytes, Label}
+use Rattle.assembler.specs.declared.operands.JumpTarget.{JumpTarget}
+use Rattle.assembler.specs.declared.operands.JumpTarget.TheVariants.{Bytes, Label}
 use Rattle.rv_decode.specs.Registers.{register_named}
 use Rattle.assembler.specs.Sets.{set_named}
 use Rattle.assembler.specs.Names.{is_name}
@@ -144,7 +144,7 @@ value_in set text = set_in text
 
 -- ---- what the code's values stand for
 
-abbrev pub target_of : Place → Target
+abbrev pub target_of : JumpTarget → Target
 target_of (Bytes n) = bytes n
 target_of (Label name) = label name.now
 

@@ -7,6 +7,7 @@ use Rattle.rv_decode.specs.declared.instruction.BranchOp.{BranchOp}
 use Rattle.rv_decode.specs.declared.instruction.Instr.{Instr}
 use Rattle.rv_decode.specs.declared.instruction.Instr.TheVariants as instr
 use Rattle.rv_decode.specs.Means.{Means}
+use Rattle.rv_decode.specs.declared.instruction.TheConstants.{MAX_CODE}
 use Rattle.assembler.specs.Operands.{IsReached, bytes}
 use Rattle.assembler.specs.Statements.{Made, one, two, jump, branch}
 use Rattle.assembler.specs.Grammar.{IsLine}
@@ -56,7 +57,7 @@ ArePlaced all at (line ∷ below) instrs = (front : List Instr) × (rest : List 
 -- The instructions of all lines, where no label is defined twice and no more than 4,096 words are made.
 pub record AreInstrs (all : List Line) (instrs : List Instr) : Type 0 where
   pub once : EachOnce all
-  pub few : words_of all ≤ 4096
+  pub few : words_of all ≤ MAX_CODE
   pub placed : ArePlaced all 0 all instrs
 
 -- The text is a program of these instructions.

@@ -6,6 +6,7 @@ ghost use Rattle.texts.specs.Results.{Gives, refusal_of};
 ghost use Rattle.assembler.specs.declared.faults.AsmFault.TheVariants.{TooLong};
 ghost use Rattle.texts.specs.declared.errors.TextError.TheVariants.{Refused};
 ghost use Rattle.rv_decode.specs.declared.instruction.Instr.{Instr};
+ghost use Rattle.rv_decode.specs.declared.instruction.TheConstants.{MAX_CODE};
 ghost use Rattle.assembler.specs.Grammar.{IsLine};
 ghost use Rattle.assembler.specs.Program.{IsFresh, AreInstrs, AreWordsOf};
 ghost use Rattle.assembler.specs.Drafts.{Line as TextLine, Fitting, is_twice, words_of, told, over, finished, AllPlain};
@@ -17,7 +18,7 @@ use crate::faults::{AsmError, AsmFault};
 use crate::kept::{KeptLine, keep_name, keep_statement, size};
 use crate::line::{Line, parts, statement_in};
 use crate::places::{Places, define_label, no_places, place_in};
-use crate::placing::{MAX_WORDS, first_over, place_all};
+use crate::placing::{first_over, place_all};
 use crate::statement::Statement;
 use std::alloc::{AllocError, Global};
 use std::marker::Model;
@@ -158,7 +159,7 @@ impl Draft {
         ensures found { IfOk result (λ words. (instrs : List Instr) × AreInstrs self instrs × AreWordsOf words.items instrs) }
         ensures only { (instrs : List Instr) → AreInstrs self instrs → Gives refusal_of (λ words. map meaning words.items) result (Ok (map (λ i. Some i) instrs)) }
         ensures exact { Gives refusal_of (λ words. map meaning words.items) result (finished self) }
-        ensures too_long { 4096 < words_of self → result ≡ Err (Refused (record { fault = TooLong; line = over 0 1 self })) }
+        ensures too_long { MAX_CODE < words_of self → result ≡ Err (Refused (record { fault = TooLong; line = over 0 1 self })) }
         ensures plain { IfOk result (λ words. AllPlain words.items) }
     {
         let _lines = &self.lines;
@@ -167,10 +168,10 @@ impl Draft {
 
     fn all_words(self) -> Result<Vec<u32>, AsmError>
         ensures exact { Gives refusal_of (λ words. map meaning words.items) result (finished self) }
-        ensures too_long { 4096 < words_of self → result ≡ Err (Refused (record { fault = TooLong; line = over 0 1 self })) }
+        ensures too_long { MAX_CODE < words_of self → result ≡ Err (Refused (record { fault = TooLong; line = over 0 1 self })) }
         ensures plain { IfOk result (λ words. AllPlain words.items) }
     {
-        if self.words > MAX_WORDS {
+        if self.words > MAX_CODE {
             return Err(AsmError::at_line(AsmFault::TooLong, first_over(&self.lines)));
         }
         place_all(*self.lines.allocator(), &self.places, &self.lines)

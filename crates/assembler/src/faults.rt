@@ -27,9 +27,9 @@ pub enum AsmFault {
 }
 
 impl Numbered for AsmFault {
-    ghost use Rattle.assembler.specs.Faults.{number_of};
+    ghost use Rattle.assembler.specs.Faults.{fault_number};
 
-    ghost number = { number_of };
+    ghost number = { fault_number };
 
     fn number(self) -> u8 {
         match self {

@@ -14,7 +14,7 @@ use texts::integer;
 
 /// Where a jump or a branch goes.
 #[derive(Clone, Copy)]
-pub enum Place<'a> {
+pub enum JumpTarget<'a> {
     /// So many bytes from the instruction itself.
     Bytes(i32),
     /// To the label of this name.
@@ -144,7 +144,7 @@ pub fn is_reached(number: i64, bound: i64) -> bool
     number.unsigned_abs() % 2 == 0 && number >= -bound && number < bound
 }
 
-fn in_reach<'a>(number: Option<i64>, bound: i64) -> Result<Place<'a>, AsmFault>
+fn in_reach<'a>(number: Option<i64>, bound: i64) -> Result<JumpTarget<'a>, AsmFault>
     requires low { pos 0 ≤ℤ bound }
     requires high { bound <ℤ pos (2 ^ 31) }
     ensures place { Tells target_of result (in_reach bound number) }
@@ -152,20 +152,20 @@ fn in_reach<'a>(number: Option<i64>, bound: i64) -> Result<Place<'a>, AsmFault>
 {
     match number {
         None => Err(AsmFault::BadOperand),
-        Some(number) if is_reached(number, bound) => Ok(Place::Bytes(number as i32)),
+        Some(number) if is_reached(number, bound) => Ok(JumpTarget::Bytes(number as i32)),
         Some(_) => Err(AsmFault::OutOfRange),
     }
 }
 
 /// Where to: a label, or an even number of bytes from `-bound` on and below `bound`.
-pub fn target(operand: &[u8], bound: i64) -> Result<Place<'_>, AsmFault>
+pub fn target(operand: &[u8], bound: i64) -> Result<JumpTarget<'_>, AsmFault>
     requires low { pos 0 ≤ℤ bound }
     requires high { bound <ℤ pos (2 ^ 31) }
     ensures place { Tells target_of result (target_in bound operand.now) }
     ensures reached { IfOk result (λ place. IsReached bound (target_of place)) }
 {
     if is_name(operand) {
-        return Ok(Place::Label(operand));
+        return Ok(JumpTarget::Label(operand));
     }
     in_reach(integer(operand), bound)
 }

@@ -5,6 +5,7 @@ ghost use Rattle.rv_decode.specs.Meaning.{meaning};
 ghost use Rattle.texts.specs.Results.{Gives, refusal_of};
 ghost use Rattle.assembler.specs.Drafts.{in_bytes, distance, placed, onto, at_line, all_placed, over, words_of, size_of, AllFit, IsPlain, AllPlain};
 ghost use Rattle.rv_decode.specs.Fits.{Fits};
+ghost use Rattle.rv_decode.specs.declared.instruction.TheConstants.{MAX_CODE};
 ghost use Rattle.assembler.specs.Statements.{MadeFits};
 ghost use Rattle.assembler.specs.Operands.{IsReached, bytes};
 ghost use Rattle.assembler.specs.Kept.{place_in as found, kept_made, line_of};
@@ -13,11 +14,9 @@ use crate::faults::{AsmError, AsmFault};
 use crate::kept::{Kept, KeptLine, size};
 use crate::operands::is_reached;
 use crate::places::{Places, place_in};
+use rv_decode::instruction::MAX_CODE;
 use rv_decode::{Instr, encode};
 use std::alloc::Global;
-
-/// How many words a program may have.
-pub const MAX_WORDS: usize = 4096;
 
 /// The first line whose words go past the limit.
 pub fn first_over(lines: &[KeptLine]) -> usize
@@ -26,7 +25,7 @@ pub fn first_over(lines: &[KeptLine]) -> usize
     let mut words = 0;
     for (index, line) in lines.iter().enumerate() {
         words += size(&line.statement);
-        if words > MAX_WORDS {
+        if words > MAX_CODE {
             return index + 1;
         }
     }
@@ -35,8 +34,8 @@ pub fn first_over(lines: &[KeptLine]) -> usize
 
 /// How many bytes the place is behind the word.
 fn bytes_between(word: usize, place: usize) -> i64
-    requires word { word ≤ 4096 }
-    requires place { place ≤ 4096 }
+    requires word { word ≤ MAX_CODE }
+    requires place { place ≤ MAX_CODE }
     ensures { result ≡ in_bytes word place }
 {
     4 * place as i64 - 4 * word as i64
@@ -44,8 +43,8 @@ fn bytes_between(word: usize, place: usize) -> i64
 
 /// How many bytes the label is behind the word, within the bound.
 fn distance_to(places: &Places, label: &[u8], word: usize, bound: i64) -> Result<i32, AsmFault>
-    requires near { IfSome (found places.now label.now) (λ place. place ≤ 4096) }
-    requires word { word ≤ 4096 }
+    requires near { IfSome (found places.now label.now) (λ place. place ≤ MAX_CODE) }
+    requires word { word ≤ MAX_CODE }
     requires low { pos 0 ≤ℤ bound }
     requires high { bound <ℤ pos (2 ^ 31) }
     ensures value { result ≡ distance bound word (found places.now label.now) }
@@ -79,8 +78,8 @@ fn push_words(
     statement: &Kept,
     line: usize,
 ) -> Result<(), AsmError>
-    requires near { (name : List ℕ) → IfSome (found places.now name) (λ place. place ≤ 4096) }
-    requires word { vec_len words.old ≤ 4096 }
+    requires near { (name : List ℕ) → IfSome (found places.now name) (λ place. place ≤ MAX_CODE) }
+    requires word { vec_len words.old ≤ MAX_CODE }
     requires fits { MadeFits (kept_made statement.now) }
     ensures exact { Gives refusal_of (λ _. map meaning words.new.items) result (onto (map meaning words.old.items) (at_line line (placed (found places.now) (vec_len words.old) (Some (kept_made statement.now))))) }
     ensures plain { OnOk result (AllPlain words.old.items → AllPlain words.new.items) }
@@ -117,8 +116,8 @@ fn push_words(
 
 /// The words of all lines.
 pub fn place_all(alloc: Global, places: &Places, lines: &[KeptLine]) -> Result<Vec<u32>, AsmError>
-    requires near { (name : List ℕ) → IfSome (found places.now name) (λ place. place ≤ 4096) }
-    requires few { words_of (map line_of lines.now) ≤ 4096 }
+    requires near { (name : List ℕ) → IfSome (found places.now name) (λ place. place ≤ MAX_CODE) }
+    requires few { words_of (map line_of lines.now) ≤ MAX_CODE }
     requires fits { AllFit (map line_of lines.now) }
     ensures exact { Gives refusal_of (λ words. map meaning words.items) result (all_placed (found places.now) 0 1 (map line_of lines.now)) }
     ensures plain { IfOk result (λ words. AllPlain words.items) }

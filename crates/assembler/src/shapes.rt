@@ -13,37 +13,37 @@ use crate::faults::AsmFault;
 use crate::form::Form;
 use crate::loading::loaded;
 use crate::operands::{
-    Address, Place, natural, number_from, pointer, register, set, short_address, short_number,
+    Address, JumpTarget, natural, number_from, pointer, register, set, short_address, short_number,
     target,
 };
 use crate::statement::{Operands, Statement};
 use rv_decode::registers::reg;
 use rv_decode::{AmoOp, BranchOp, ImmediateOp, Instr, LoadOp, Reg, RegisterOp, ShiftOp, StoreOp};
 
-fn jump_to(rd: Reg, place: Place<'_>) -> Statement<'_>
+fn jump_to(rd: Reg, place: JumpTarget<'_>) -> Statement<'_>
     requires { IsReached (pos 1048576) (target_of place) }
     ensures made { made_of result ≡ jump_to rd (target_of place.entry) }
     ensures fits { MadeFits (made_of result) }
 {
     match place {
-        Place::Bytes(offset) => Statement::One(Instr::Jal { rd, offset }),
-        Place::Label(label) => Statement::Jump { rd, label },
+        JumpTarget::Bytes(offset) => Statement::One(Instr::Jal { rd, offset }),
+        JumpTarget::Label(label) => Statement::Jump { rd, label },
     }
 }
 
-fn branch_to(op: BranchOp, rs1: Reg, rs2: Reg, place: Place<'_>) -> Statement<'_>
+fn branch_to(op: BranchOp, rs1: Reg, rs2: Reg, place: JumpTarget<'_>) -> Statement<'_>
     requires { IsReached (pos 4096) (target_of place) }
     ensures made { made_of result ≡ branch_to op rs1 rs2 (target_of place.entry) }
     ensures fits { MadeFits (made_of result) }
 {
     match place {
-        Place::Bytes(offset) => Statement::One(Instr::Branch {
+        JumpTarget::Bytes(offset) => Statement::One(Instr::Branch {
             op,
             rs1,
             rs2,
             offset,
         }),
-        Place::Label(label) => Statement::Branch {
+        JumpTarget::Label(label) => Statement::Branch {
             op,
             rs1,
             rs2,

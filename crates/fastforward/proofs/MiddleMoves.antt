@@ -3,7 +3,7 @@ use Rattle.std.proofs.Common.{ℕ, ◌+◌, ◌≤◌, ◌≡◌, ◌≢◌, ◌
 use Rattle.std.proofs.lemmas.Bool.{cases_lt, cases_eq}
 use Rattle.poll_close.specs.Invariant.Blocks.{offset, slot}
 use Rattle.poll_close.specs.Invariant.ReceiverState.{whole_of}
-use Rattle.poll_close.specs.Invariant.ReceiverPlaces.{R14, R18, R1C, R20, R24, R28, R48}
+use Rattle.poll_close.specs.Invariant.ReceiverPlaces.{Pc14, Pc18, Pc1C, Pc20, Pc24, Pc28, Pc48}
 use Rattle.poll_close.proofs.Lines.{loads, stores}
 use Rattle.poll_close.proofs.Blocks.{offset_low, word_of, slot_of}
 use Rattle.poll_close.proofs.BlockLaws.{Changes, MiddleMoves}
@@ -15,25 +15,25 @@ use Rattle.fastforward.proofs.ReceiverReads.{seen_tail, seen_word, seen_none}
 use Rattle.fastforward.proofs.ReceiverActs.{stores_null}
 
 -- its own tail
-pub middle_14 : MiddleMoves fastforward_blocks R14
+pub middle_14 : MiddleMoves fastforward_blocks Pc14
 middle_14 k i count n word r v is order words find h =
     let line = line_14 (whole_of k count) r (omega (arith, is.even, h.0.visits.base)) (omega (arith, is.inside, is.some_slot, h.0.visits.base)) is.small in
     let seen : v ≡ offset k n.c = find (k.base + 8) (word_of k is 8 (omega arith) refl) (line.wants ∙ ap (λ b. loads (b + 8)) h.0.visits.base) ∙ seen_tail k n word order words h.0.quiet.level h.0.open_yet in
-    reads fastforward_blocks k i count n order r v R14 R18 (r.x8 + 8) (λ w. record r { x7 = w }) refl line
+    reads fastforward_blocks k i count n order r v Pc14 Pc18 (r.x8 + 8) (λ w. record r { x7 = w }) refl line
     (opened_noted fastforward_blocks k i count n order r v h.0 r.x5 r.x6 v r.x10 r.x11 r.x17 r.x20 r.x28 r.x30, (h.1, seen))
 
-pub middle_18 : MiddleMoves fastforward_blocks R18
+pub middle_18 : MiddleMoves fastforward_blocks Pc18
 middle_18 k i count n word r v is order words find h =
-    still fastforward_blocks k i count n order r v R18 R1C (record r { x28 = r.x8 + r.x7 }) refl (line_18 (whole_of k count) r (omega (arith, is.inside, is.small, h.0.visits.base, h.1.1, offset_low k is n.c)))
+    still fastforward_blocks k i count n order r v Pc18 Pc1C (record r { x28 = r.x8 + r.x7 }) refl (line_18 (whole_of k count) r (omega (arith, is.inside, is.small, h.0.visits.base, h.1.1, offset_low k is n.c)))
     (opened_noted fastforward_blocks k i count n order r v h.0 r.x5 r.x6 r.x7 r.x10 r.x11 r.x17 r.x20 (r.x8 + r.x7) r.x30, (h.1.0, h.1.1, (let same : r.x8 + r.x7 ≡ k.base + r.x7 = omega (arith, h.0.visits.base) in same)))
 
 -- the slot of word c: it has landed, or it holds 0; the mark was read before, and so all had landed then
-pub middle_1C : MiddleMoves fastforward_blocks R1C
+pub middle_1C : MiddleMoves fastforward_blocks Pc1C
 middle_1C k i count n word r v is order words find h =
     let line = line_1C (whole_of k count) r (omega (arith, is.even, h.1.1, h.1.2)) (omega (arith, is.inside, h.1.1, h.1.2, offset_low k is n.c)) is.small in
     let found = find (slot k.size k.base n.c) (slot_of k is n.c) (line.wants ∙ ap loads (let same : r.x28 + 16 ≡ slot k.size k.base n.c = omega (arith, h.1.1, h.1.2) in same)) in
     let opened = opened_noted fastforward_blocks k i count n order r v h.0 r.x5 r.x6 r.x7 r.x10 v r.x17 r.x20 r.x28 r.x30 in
-    reads fastforward_blocks k i count n order r v R1C R20 (r.x28 + 16) (λ w. record r { x11 = w }) refl line (
+    reads fastforward_blocks k i count n order r v Pc1C Pc20 (r.x28 + 16) (λ w. record r { x11 = w }) refl line (
       opened,
       (
         elim (cases_lt n.c n.ls) [
@@ -52,11 +52,11 @@ middle_1C k i count n word r v is order words find h =
         inr (omega (arith, all, none, order.c_u, order.u_ls))
 
 -- 0 means that nothing is there, since no word is 0
-pub middle_20 : MiddleMoves fastforward_blocks R20
+pub middle_20 : MiddleMoves fastforward_blocks Pc20
 middle_20 k i count n word r v is order words find h =
     elim (cases_eq r.x11 0) [
-      | inl none ↦ still fastforward_blocks k i count n order r v R20 R48 r refl (line_20-none (whole_of k count) r none) (h.0, empty none h.1.0)
-      | inr some ↦ still fastforward_blocks k i count n order r v R20 R24 r refl (line_20-word (whole_of k count) r some) (h.0, (loaded some h.1.0, h.1.1, h.1.2))
+      | inl none ↦ still fastforward_blocks k i count n order r v Pc20 Pc48 r refl (line_20-none (whole_of k count) r none) (h.0, empty none h.1.0)
+      | inr some ↦ still fastforward_blocks k i count n order r v Pc20 Pc24 r refl (line_20-word (whole_of k count) r some) (h.0, (loaded some h.1.0, h.1.1, h.1.2))
     ]
   where
     empty : r.x11 ≡ 0 → Empty k n r ⊎ Loaded k n r → (r.x30 ≡ 0) ⊎ (n.c ≡ length k.list)
@@ -68,13 +68,13 @@ middle_20 k i count n word r v is order words find h =
     loaded some (inr h) = h
 
 -- it stores the null
-pub middle_24 : MiddleMoves fastforward_blocks R24
+pub middle_24 : MiddleMoves fastforward_blocks Pc24
 middle_24 k i count n word r v is order words find h =
     let line = line_24 (whole_of k count) r (omega (arith, is.even, h.1.1, h.1.2)) (omega (arith, is.inside, h.1.1, h.1.2, offset_low k is n.c)) is.small in
     let place : slot k.size k.base n.c ≡ r.x28 + 16 = omega (arith, h.1.1, h.1.2) in
     record {
       wanted = stores (r.x28 + 16) 0;
-      there = R28;
+      there = Pc28;
       noted = r;
       after = record n { u = n.u + 1 };
       plain = tt;

@@ -1,7 +1,7 @@
 -- What a plan needs of one block of FastForward.
 use Rattle.std.proofs.Common.{ℕ, ◌+◌, ◌*◌, ◌%◌, ◌^◌, ◌<◌, ◌≤◌, ◌≡◌, ◌≢◌, ◌==◌, inl, inr, Bool, true, false, not, ◌&&◌, if◌then◌else◌, [], Option, Some, refl, sym, ◌∙◌, ap, subst, arith, lit≤}
 use Rattle.std.specs.Prelude.{slice_index, option_map}
-use Rattle.std.proofs.lemmas.Bool.{cases_eq}
+use Rattle.std.proofs.lemmas.Bool.{cases_eq, and_parts}
 use Rattle.std.proofs.lemmas.Bool.Decides.{nat_tests}
 use Rattle.hart.specs.State.{HartState}
 use Rattle.hart.specs.Steps.{need_of, advanced}
@@ -15,13 +15,13 @@ use Rattle.poll_close.specs.Paces.{Nears, runs, left_by, next_by, ready_if, is_r
 use Rattle.poll_close.specs.Invariant.Blocks.{Block, slot, slot_store, tail_store}
 use Rattle.poll_close.specs.Invariant.SenderState.{Written}
 use Rattle.poll_close.specs.Invariant.ReceiverState.{Noted, Whole, whole_of, receiving}
-use Rattle.poll_close.specs.Invariant.ReceiverPlaces.{R14, R18, R1C, R20, R24}
+use Rattle.poll_close.specs.Invariant.ReceiverPlaces.{Pc14, Pc18, Pc1C, Pc20, Pc24}
 use Rattle.poll_close.proofs.Lines.{loads}
 use Rattle.poll_close.proofs.Windows.{none_left, singles_length, pairs_length}
 use Rattle.poll_close.proofs.Blocks.{IsBlock, IsWordOf, offset_low, slot_of}
 use Rattle.poll_close.proofs.BlockLaws.{found_in}
 use Rattle.poll_close.proofs.Distance.{falls, two_flags, not_stale, MiddleNears, BlockProgress}
-use Rattle.poll_close.proofs.Progress.{both_true, not_false, nears}
+use Rattle.poll_close.proofs.Progress.{not_false, nears}
 use Rattle.poll_close.proofs.Standing.{Sender, value_is}
 use Rattle.fastforward.specs.Listing.{sender_code}
 use Rattle.fastforward.specs.FastForward.{fastforward, fastforward_blocks, fastforward_means, sender_left, waits, stale, fastforward_pace}
@@ -95,32 +95,32 @@ fresh f r T size E some = not_stale r.x30 E some
 
 -- the receiver's five lines
 
-near_14 : MiddleNears fastforward_blocks fastforward_pace (λ k n. n.c < n.ls) R14
+near_14 : MiddleNears fastforward_blocks fastforward_pace (λ k n. n.c < n.ls) Pc14
 near_14 k i count n word r v sh E rest start is order words find h ready off =
     let line = mid.line_14 (whole_of k count) r (omega (arith, is.even, h.0.visits.base)) (omega (arith, is.inside, is.some_slot, h.0.visits.base)) is.small in
     falls (line.leaves v) (record { block = refl; nearer = two_flags 15 16 rest ((r.x30 == 0) && E) ((r.x30 == 0) && E) (omega arith) (omega arith) off (λ both. both) })
 
-near_18 : MiddleNears fastforward_blocks fastforward_pace (λ k n. n.c < n.ls) R18
+near_18 : MiddleNears fastforward_blocks fastforward_pace (λ k n. n.c < n.ls) Pc18
 near_18 k i count n word r v sh E rest start is order words find h ready off =
     let line = mid.line_18 (whole_of k count) r (omega (arith, is.inside, is.small, h.0.visits.base, h.1.1, offset_low k is n.c)) in
     falls (line.leaves v) (record { block = refl; nearer = two_flags 14 15 rest ((r.x30 == 0) && E) ((r.x30 == 0) && E) (omega arith) (omega arith) off (λ both. both) })
 
 -- where the sender runs, the word that is ready is found
-near_1C : MiddleNears fastforward_blocks fastforward_pace (λ k n. n.c < n.ls) R1C
+near_1C : MiddleNears fastforward_blocks fastforward_pace (λ k n. n.c < n.ls) Pc1C
 near_1C k i count n word r v sh E rest start is order words find h ready off =
     let line = mid.line_1C (whole_of k count) r (omega (arith, is.even, h.1.1, h.1.2)) (omega (arith, is.inside, h.1.1, h.1.2, offset_low k is n.c)) is.small in
     let found = find (slot k.size k.base n.c) (slot_of k is n.c) (line.wants ∙ ap loads (let same : r.x28 + 16 ≡ slot k.size k.base n.c = omega (arith, h.1.1, h.1.2) in same)) in
     falls (line.leaves v) (record { block = refl; nearer = two_flags 13 14 rest ((r.x30 == 0) && (v == 0)) ((r.x30 == 0) && E) (omega arith) (omega arith) off (older (λ more. found ∙ seen_word k n word order words is h.0.quiet.level h.0.open_yet more) E refl) })
   where
     older : (n.c < n.ls → v ≡ slice_index k.list n.c) → (b : Bool) → E ≡ b → ((r.x30 == 0) && (v == 0)) ≡ true → ((r.x30 == 0) && E) ≡ true
-    older seen true is_b both = let parts = both_true (r.x30 == 0) (v == 0) both in rw (parts.0, is_b) refl
+    older seen true is_b both = let parts = and_parts (r.x30 == 0) (v == 0) both in rw (parts.0, is_b) refl
     older seen false is_b both =
-        let parts = both_true (r.x30 == 0) (v == 0) both in
+        let parts = and_parts (r.x30 == 0) (v == 0) both in
         let none : v ≡ 0 = let test : (v == 0) ≡ true = parts.1 in grind (arith, nat_tests) in
         let more : n.c < n.ls = ready is_b in
         absurd (is.full n.c (omega (arith, more, order.ls_p, order.p_all)) (sym (seen more) ∙ none))
 
-near_20 : MiddleNears fastforward_blocks fastforward_pace (λ k n. n.c < n.ls) R20
+near_20 : MiddleNears fastforward_blocks fastforward_pace (λ k n. n.c < n.ls) Pc20
 near_20 k i count n word r v sh E rest start is order words find h ready off =
     elim (cases_eq r.x11 0) [
       | inl none ↦ falls ((mid.line_20-none (whole_of k count) r none).leaves v) (record { block = refl; nearer = (let on : (r.x11 == 0) ≡ true = grind (arith, nat_tests) in rw on (by_flag (r.x30 == 0))) })
@@ -131,7 +131,7 @@ near_20 k i count n word r v sh E rest start is order words find h ready off =
     by_flag true = omega arith
     by_flag false = omega arith
 
-near_24 : MiddleNears fastforward_blocks fastforward_pace (λ k n. n.c < n.ls) R24
+near_24 : MiddleNears fastforward_blocks fastforward_pace (λ k n. n.c < n.ls) Pc24
 near_24 k i count n word r v sh E rest start is order words find h ready off =
     let line = mid.line_24 (whole_of k count) r (omega (arith, is.even, h.1.1, h.1.2)) (omega (arith, is.inside, h.1.1, h.1.2, offset_low k is n.c)) is.small in
     falls (line.leaves v) (record { block = refl; nearer = omega arith })

@@ -8,15 +8,15 @@ use Rattle.hart_threads.specs.declared.fault.ChannelFault.{ChannelFault}
 use Rattle.hart_threads.specs.declared.fault.ChannelFault.TheVariants as channel
 use Rattle.poll_close.specs.Refusals as refusals
 
-abbrev pub number_of : Fault → ℕ
-number_of fault.NoMemory = 0
-number_of (fault.Mismatch h es) = 32
-number_of (fault.Missing h) = 33
-number_of fault.NoThread = 35
+abbrev pub fault_number : Fault → ℕ
+fault_number fault.NoMemory = 0
+fault_number (fault.Mismatch h es) = 32
+fault_number (fault.Missing h) = 33
+fault_number fault.NoThread = 35
 
 abbrev pub channel_number : ChannelFault → ℕ
-channel_number (channel.Lists refused) = refusals.number_of refused
-channel_number (channel.Threads fault) = number_of fault
+channel_number (channel.Lists refused) = refusals.fault_number refused
+channel_number (channel.Threads fault) = fault_number fault
 
 abbrev pub fault_of : Gather → Fault
 fault_of gather.NoMemory = fault.NoMemory

@@ -1,7 +1,7 @@
 -- What a gathered record is, and what it means that there is none.
 use Rattle.std.specs.Prelude.{ℕ, ◌≡◌, List, map, length}
 use Rattle.step_machine.specs.declared.events.Entry.{Entry}
-use Rattle.step_machine.specs.History.{Start, History}
+use Rattle.step_machine.specs.History.{Start, History, history_of}
 use Rattle.step_machine.specs.Legal.{Kept}
 use Rattle.step_machine.specs.Runs.{Run, IsOwnRun, event_of}
 use Rattle.hart_threads.specs.Seats.{SeatView}
@@ -18,15 +18,12 @@ pub record IsRecord (B M : ℕ) (o : Start) (r : Record B M) : Type 0 where
   pub each : r.events.items ≡ map event_of r.trace.entries
   pub stands : r.machine.history ≡ r.trace
 
-abbrev pub history : Start → List Entry → History
-history o es = record { opening = o; entries = es }
-
 -- the seats are all there, and a diary of hart h isn't its part of this history, which is a run of the
 -- opening by its own entries' events
 pub record IsMismatch (B M : ℕ) (o : Start) (seats : List SeatView) (h : ℕ) (es : List Entry) : Type 0 where
   pub complete : IsComplete (length o.harts) seats
-  pub kept : Kept B M (history o es)
-  pub own : IsOwnRun B M (history o es)
+  pub kept : Kept B M (history_of o es)
+  pub own : IsOwnRun B M (history_of o es)
   pub misfit : IsMisfit es seats h
 
 -- why nothing is gathered; where a seat is missing, that is what is told

@@ -29,11 +29,11 @@ pub enum Fault {
 }
 
 impl Fault {
-    ghost use Rattle.hart_threads.specs.Faults.{number_of};
+    ghost use Rattle.hart_threads.specs.Faults.{fault_number};
 
     /// The number by which texts name the fault, 0 where memory ran out.
     pub fn number(&self) -> u8
-        ensures { result ≡ number_of self.now }
+        ensures { result ≡ fault_number self.now }
     {
         match self {
             Fault::NoMemory => 0,

@@ -2,6 +2,7 @@
 
 ghost use Rattle.std.specs.Prelude.{◌≡◌, ◌≤◌, length, true, false, IfOk};
 ghost use Rattle.step_machine.specs.History.{FitsIn};
+ghost use Rattle.step_machine.specs.declared.opening.TheConstants.{MAX_HARTS};
 ghost use Rattle.hart_threads.specs.Seats.{Notes, seats_of};
 
 use crate::seat::Seat;
@@ -82,7 +83,7 @@ impl<const B: usize, const M: usize> Shared<B, M> {
 
 /// Each hart's acting and landing seat. All memory comes first, as seats can't be let go.
 fn make_seats<const M: usize>(alloc: Global, harts: u32) -> Result<Vec<Seat<M>>, AllocError>
-    requires { harts ≤ 64 }
+    requires { harts ≤ MAX_HARTS }
     ensures { IfOk result (λ r. r.items ≡ seats_of harts) }
 {
     let mut seats = Vec::with_capacity(alloc, 2 * harts as usize)?;

@@ -1,7 +1,7 @@
 -- What a plan needs of one block of Lamport's ring.
 use Rattle.std.proofs.Common.{ℕ, ◌+◌, ◌*◌, ◌%◌, ◌^◌, ◌<◌, ◌≤◌, ◌≡◌, ◌==◌, inl, inr, Bool, true, false, not, ◌&&◌, if◌then◌else◌, [], Option, Some, refl, sym, ◌∙◌, ap, subst, arith, lit≤}
 use Rattle.std.specs.Prelude.{slice_index, option_map}
-use Rattle.std.proofs.lemmas.Bool.{cases_eq}
+use Rattle.std.proofs.lemmas.Bool.{cases_eq, and_parts}
 use Rattle.std.proofs.lemmas.Bool.Decides.{nat_tests}
 use Rattle.hart.specs.State.{HartState}
 use Rattle.hart.specs.Steps.{need_of, advanced}
@@ -15,13 +15,13 @@ use Rattle.poll_close.specs.Paces.{Nears, runs, left_by, next_by, ready_if, is_r
 use Rattle.poll_close.specs.Invariant.Blocks.{Block, offset, slot_store, tail_store}
 use Rattle.poll_close.specs.Invariant.SenderState.{Written}
 use Rattle.poll_close.specs.Invariant.ReceiverState.{Noted, Whole, whole_of, receiving}
-use Rattle.poll_close.specs.Invariant.ReceiverPlaces.{R14, R18, R1C, R20, R24}
+use Rattle.poll_close.specs.Invariant.ReceiverPlaces.{Pc14, Pc18, Pc1C, Pc20, Pc24}
 use Rattle.poll_close.proofs.Lines.{loads}
 use Rattle.poll_close.proofs.Modulo.{same_offset}
 use Rattle.poll_close.proofs.Windows.{none_left, singles_length, pairs_length}
 use Rattle.poll_close.proofs.Blocks.{IsBlock, IsWordOf, offset_low, first_of, word_of}
 use Rattle.poll_close.proofs.Distance.{falls, two_flags, not_stale, MiddleNears, BlockProgress}
-use Rattle.poll_close.proofs.Progress.{both_true, nears}
+use Rattle.poll_close.proofs.Progress.{nears}
 use Rattle.poll_close.proofs.Standing.{Sender, value_is}
 use Rattle.lamport_ring.specs.Listing.{sender_code}
 use Rattle.lamport_ring.specs.Lamport.{lamport, lamport_blocks, lamport_means, sender_left, waits, stale, lamport_pace}
@@ -88,7 +88,7 @@ fresh f r T size E some = not_stale r.x30 E some
 
 -- the receiver's five lines
 
-near_14 : MiddleNears lamport_blocks lamport_pace (λ k n. n.c < n.kh) R14
+near_14 : MiddleNears lamport_blocks lamport_pace (λ k n. n.c < n.kh) Pc14
 near_14 k i count n word r v sh E rest start is order words find h ready off =
     let line = mid.line_14 (whole_of k count) r (omega (arith, is.even, h.0.visits.base)) (omega (arith, is.inside, is.some_slot, h.0.visits.base)) is.small in
     let seen : v ≡ offset k n.kh = find k.base (first_of k is) (line.wants ∙ ap loads (let same : r.x8 + 0 ≡ k.base = omega (arith, h.0.visits.base) in same)) ∙ seen_head k n word order words in
@@ -102,17 +102,17 @@ near_14 k i count n word r v sh E rest start is order words find h ready off =
         omega (arith, both, more)
 
     older : v ≡ offset k n.kh → (b : Bool) → E ≡ b → ((r.x30 == 0) && (v == 4 * (n.took % k.size))) ≡ true → ((r.x30 == 0) && E) ≡ true
-    older seen true is_b both = let parts = both_true (r.x30 == 0) (v == 4 * (n.took % k.size)) both in rw (parts.0, is_b) refl
-    older seen false is_b both = let parts = both_true (r.x30 == 0) (v == 4 * (n.took % k.size)) both in absurd (apart seen parts.1 (ready is_b))
+    older seen true is_b both = let parts = and_parts (r.x30 == 0) (v == 4 * (n.took % k.size)) both in rw (parts.0, is_b) refl
+    older seen false is_b both = let parts = and_parts (r.x30 == 0) (v == 4 * (n.took % k.size)) both in absurd (apart seen parts.1 (ready is_b))
 
-near_18 : MiddleNears lamport_blocks lamport_pace (λ k n. n.c < n.kh) R18
+near_18 : MiddleNears lamport_blocks lamport_pace (λ k n. n.c < n.kh) Pc18
 near_18 k i count n word r v sh E rest start is order words find h ready off =
     let line = mid.line_18 (whole_of k count) r (omega (arith, is.even, h.0.visits.base)) (omega (arith, is.inside, is.some_slot, h.0.visits.base)) is.small in
     let seen : v ≡ offset k n.c = find (k.base + 8) (word_of k is 8 (omega arith) refl) (line.wants ∙ ap (λ b. loads (b + 8)) h.0.visits.base) ∙ seen_tail k n word order words h.0.open_yet in
     let tail : v ≡ 4 * (n.took % k.size) = seen ∙ ap (offset k) (sym h.0.quiet.words) in
     falls (line.leaves v) (record { block = refl; nearer = two_flags 14 15 rest ((r.x30 == 0) && (r.x6 == v)) ((r.x30 == 0) && (r.x6 == 4 * (n.took % k.size))) (omega arith) (omega arith) off (λ both. sym (ap (λ z. (r.x30 == 0) && (r.x6 == z)) tail) ∙ both) })
 
-near_1C : MiddleNears lamport_blocks lamport_pace (λ k n. n.c < n.kh) R1C
+near_1C : MiddleNears lamport_blocks lamport_pace (λ k n. n.c < n.kh) Pc1C
 near_1C k i count n word r v sh E rest start is order words find h ready off =
     elim (cases_eq r.x6 r.x7) [
       | inl same ↦ falls ((mid.line_1C-same (whole_of k count) r same).leaves v) (record { block = refl; nearer = (let on : (r.x6 == r.x7) ≡ true = grind (arith, nat_tests) in rw on (by_flag (r.x30 == 0))) })
@@ -123,11 +123,11 @@ near_1C k i count n word r v sh E rest start is order words find h ready off =
     by_flag true = omega arith
     by_flag false = omega arith
 
-near_20 : MiddleNears lamport_blocks lamport_pace (λ k n. n.c < n.kh) R20
+near_20 : MiddleNears lamport_blocks lamport_pace (λ k n. n.c < n.kh) Pc20
 near_20 k i count n word r v sh E rest start is order words find h ready off =
     falls ((mid.line_20 (whole_of k count) r (omega (arith, is.inside, is.small, h.0.visits.base, h.1.1, offset_low k is n.c))).leaves v) (record { block = refl; nearer = omega arith })
 
-near_24 : MiddleNears lamport_blocks lamport_pace (λ k n. n.c < n.kh) R24
+near_24 : MiddleNears lamport_blocks lamport_pace (λ k n. n.c < n.kh) Pc24
 near_24 k i count n word r v sh E rest start is order words find h ready off =
     falls ((mid.line_24 (whole_of k count) r (omega (arith, is.even, h.1.1, h.1.2)) (omega (arith, is.inside, h.1.1, h.1.2, offset_low k is n.c)) is.small).leaves v) (record { block = refl; nearer = omega arith })
 

@@ -1,23 +1,23 @@
--- The words that are taken are those with which a condition begins.
+-- The symbols that are taken are those with which a condition begins.
 use Rattle.std.proofs.Common.{◌≡◌, ◌∙◌, ap, List, [], ◌∷◌, ◌++◌, Option, Some, None, Ok, Err, refl}
-use Rattle.litmus.specs.declared.words.Place.TheVariants as place
-use Rattle.litmus.specs.declared.words.Token.{Token}
-use Rattle.litmus.specs.declared.words.Token.TheVariants as token
+use Rattle.litmus.specs.declared.symbols.Place.TheVariants as place
+use Rattle.litmus.specs.declared.symbols.Symbol.{Symbol}
+use Rattle.litmus.specs.declared.symbols.Symbol.TheVariants as symbol
 use Rattle.litmus.specs.Formulas.{Formula, is}
 use Rattle.litmus.specs.Grammar.{Begins}
-use Rattle.litmus.specs.Drafting.{Group, Stage, awaits, has, empty_group, disjunction_of, negated_by, all_taken, stage_after, formula_at, or_misplaced, with_word, told, finished}
+use Rattle.litmus.specs.Drafting.{Group, Stage, awaits, has, empty_group, disjunction_of, negated_by, all_taken, stage_after, formula_at, or_misplaced, with_symbol, told, finished}
 use Rattle.litmus.specs.inner.Building.{Build, build_at}
 use Rattle.litmus.proofs.StageLaws.{all_taken-append}
 use Rattle.litmus.proofs.GrammarLaws.{finished_only}
 use Rattle.litmus.proofs.FrontLaws.{finished_found}
 
--- what makes a condition of the words before a stage: an operand, and the parentheses that are missing
-abbrev closes : List Group → List Token
+-- what makes a condition of the symbols before a stage: an operand, and the parentheses that are missing
+abbrev closes : List Group → List Symbol
 closes [] = []
-closes (g ∷ around) = token.Close ∷ closes around
+closes (g ∷ around) = symbol.Close ∷ closes around
 
-abbrev rest_at : Stage → List Token
-rest_at (awaits around here) = token.Is (place.Word 0) 0 ∷ closes around
+abbrev rest_at : Stage → List Symbol
+rest_at (awaits around here) = symbol.Is (place.Word 0) 0 ∷ closes around
 rest_at (has around here f) = closes around
 
 closes-finishes : (around : List Group) (here : Group) (f : Formula) → (g : Formula) × (or_misplaced (formula_at (all_taken (Some (has around here f)) (closes around))) ≡ Ok g)
@@ -28,44 +28,44 @@ rest-finishes : (stage : Stage) → (g : Formula) × (or_misplaced (formula_at (
 rest-finishes (awaits around here) = closes-finishes around (record here { negations = 0 }) (negated_by here.negations (is (place.Word 0) 0))
 rest-finishes (has around here f) = closes-finishes around here f
 
-pub begins_at : (words : List Token) (stage : Stage) → stage_after words ≡ Some stage → Begins words
+pub begins_at : (symbols : List Symbol) (stage : Stage) → stage_after symbols ≡ Some stage → Begins symbols
 unfolding finished stage_after
-begins_at words stage same =
+begins_at symbols stage same =
     let ends : (g : Formula) × (or_misplaced (formula_at (all_taken (Some stage) (rest_at stage))) ≡ Ok g) = rest-finishes stage in (
       rest_at stage,
       ends.0,
-      finished_found (words ++ rest_at stage) ends.0
-          (ap (λ (o : Option Stage). or_misplaced (formula_at o)) (all_taken-append (Some (awaits [] empty_group)) words (rest_at stage))
+      finished_found (symbols ++ rest_at stage) ends.0
+          (ap (λ (o : Option Stage). or_misplaced (formula_at o)) (all_taken-append (Some (awaits [] empty_group)) symbols (rest_at stage))
           ∙ ap (λ (o : Option Stage). or_misplaced (formula_at (all_taken o (rest_at stage)))) same
           ∙ ends.1),
     )
 
-begins-some : (words : List Token) (o : Option Stage) (b : Build) → stage_after words ≡ o → build_at o ≡ Some b → Begins words
-begins-some words None b same built = absurd (cc)
-begins-some words (Some stage) b same built = begins_at words stage same
+begins-some : (symbols : List Symbol) (o : Option Stage) (b : Build) → stage_after symbols ≡ o → build_at o ≡ Some b → Begins symbols
+begins-some symbols None b same built = absurd (cc)
+begins-some symbols (Some stage) b same built = begins_at symbols stage same
 
-pub begins_built : (words : List Token) (b : Build) → build_at (stage_after words) ≡ Some b → Begins words
-begins_built words b built = begins-some words (stage_after words) b refl built
+pub begins_built : (symbols : List Symbol) (b : Build) → build_at (stage_after symbols) ≡ Some b → Begins symbols
+begins_built symbols b built = begins-some symbols (stage_after symbols) b refl built
 
-all_taken-none : (words : List Token) → all_taken None words ≡ None
+all_taken-none : (symbols : List Symbol) → all_taken None symbols ≡ None
 all_taken-none [] = refl
-all_taken-none (w ∷ words) = all_taken-none words
+all_taken-none (w ∷ symbols) = all_taken-none symbols
 
-pub begins_taken : (words : List Token) → stage_after words ≡ None → ¬ Begins words
+pub begins_taken : (symbols : List Symbol) → stage_after symbols ≡ None → ¬ Begins symbols
 unfolding finished stage_after
-begins_taken words nowhere = λ begun.
-    let read : finished (words ++ begun.0) ≡ Ok begun.1 = finished_only (words ++ begun.0) begun.1 begun.2 in
-    let refused : finished (words ++ begun.0) ≡ Err tt =
+begins_taken symbols nowhere = λ begun.
+    let read : finished (symbols ++ begun.0) ≡ Ok begun.1 = finished_only (symbols ++ begun.0) begun.1 begun.2 in
+    let refused : finished (symbols ++ begun.0) ≡ Err tt =
     ap (λ (o : Option Stage). or_misplaced (formula_at o))
-    (all_taken-append (Some (awaits [] empty_group)) words begun.0
+    (all_taken-append (Some (awaits [] empty_group)) symbols begun.0
     ∙ ap (λ (o : Option Stage). all_taken o begun.0) nowhere
     ∙ all_taken-none begun.0) in
     absurd (cc)
 
-refused-none : (words : List Token) (word : Token) (o : Option Stage) → or_misplaced (with_word words word o) ≡ Err tt → o ≡ None
-refused-none words word None refused = refl
-refused-none words word (Some stage) refused = absurd (cc)
+refused-none : (symbols : List Symbol) (next : Symbol) (o : Option Stage) → or_misplaced (with_symbol symbols next o) ≡ Err tt → o ≡ None
+refused-none symbols next None refused = refl
+refused-none symbols next (Some stage) refused = absurd (cc)
 
-pub refused_begins : (words : List Token) (word : Token) → told words word ≡ Err tt → ¬ Begins (words ++ word ∷ [])
+pub refused_begins : (symbols : List Symbol) (next : Symbol) → told symbols next ≡ Err tt → ¬ Begins (symbols ++ next ∷ [])
 unfolding told
-refused_begins words word refused = begins_taken (words ++ word ∷ []) (refused-none words word (stage_after (words ++ word ∷ [])) refused)
+refused_begins symbols next refused = begins_taken (symbols ++ next ∷ []) (refused-none symbols next (stage_after (symbols ++ next ∷ [])) refused)

@@ -1,13 +1,13 @@
--- What is built word by word is what stands built at the stage of the words.
+-- What is built symbol by symbol is what stands built at the stage of the symbols.
 use Rattle.std.proofs.Common.{◌≡◌, ◌∙◌, ◌+◌, ◌-◌, sym, ap, ℕ, true, false, suc, zero, List, [], ◌∷◌, ◌++◌, length, replicate, slice_set, Option, Some, None, refl, arith, append_assoc, length-append}
 use Rattle.std.specs.List.{slice_get}
 use Rattle.std.proofs.Math.Seq.{take-append_seam, set-append_seam}
 use Rattle.std.proofs.lemmas.List.{append-nil}
-use Rattle.litmus.specs.declared.words.Token.{Token}
-use Rattle.litmus.specs.declared.words.Token.TheVariants as token
-use Rattle.litmus.specs.declared.words.Step.{Step}
-use Rattle.litmus.specs.declared.words.Step.TheVariants as step
-use Rattle.litmus.specs.declared.words.Mark.{Mark}
+use Rattle.litmus.specs.declared.symbols.Symbol.{Symbol}
+use Rattle.litmus.specs.declared.symbols.Symbol.TheVariants as symbol
+use Rattle.litmus.specs.declared.symbols.Step.{Step}
+use Rattle.litmus.specs.declared.symbols.Step.TheVariants as step
+use Rattle.litmus.specs.declared.symbols.Frame.{Frame}
 use Rattle.litmus.specs.Formulas.{Formula, is}
 use Rattle.litmus.specs.Steps.{steps_of}
 use Rattle.litmus.specs.Drafting.{Group, Stage, awaits, has, negated_by, conjoined, disjoined, conjunction_of, disjunction_of, completed, taken}
@@ -24,7 +24,7 @@ steps_of-negated_by (suc n) f =
     ∙ append_assoc (steps_of f) (replicate n step.Not) (step.Not ∷ [])
     ∙ ap (λ (s : List Step). steps_of f ++ s) (replicate_last n step.Not)
 
-abbrev building : List Mark → Mark → List Step → Build
+abbrev building : List Frame → Frame → List Step → Build
 building around here steps = record { steps = steps; around = around; here = here; has_operand = true }
 
 pub with_operand-completed : (around : List Group) (g : Group) (f : Formula) → with_operand (steps_around (g ∷ around) ++ steps_of f) (marks_around around) (mark_of (steps_around around) g) ≡ build_of (completed around g f)
@@ -54,16 +54,16 @@ all_closed-law front g f =
     ap (λ (s : List Step). or_closed (end_of (length front) g.disjuncts) s) (and_closed-law (front ++ or_steps g.disjuncts) g.conjuncts f)
     ∙ or_closed-law front g.disjuncts (conjunction_of g f)
 
-abbrev after_and : List Mark → Mark → List Step → Build
+abbrev after_and : List Frame → Frame → List Step → Build
 after_and around here steps = record { steps = steps ++ step.And 0 ∷ []; around = around; here = record { or_at = here.or_at; and_at = Some (length steps); negations = here.negations }; has_operand = false }
 
-abbrev after_or : List Mark → List Step → Build
+abbrev after_or : List Frame → List Step → Build
 after_or around steps = record { steps = steps ++ step.Or 0 ∷ []; around = around; here = record { or_at = Some (length steps); and_at = None; negations = 0 }; has_operand = false }
 
-abbrev awaiting : List Mark → Option ℕ → ℕ → List Step → ℕ → Build
+abbrev awaiting : List Frame → Option ℕ → ℕ → List Step → ℕ → Build
 awaiting around or_at negations steps and_at = record { steps = steps; around = around; here = record { or_at = or_at; and_at = Some and_at; negations = negations }; has_operand = false }
 
-abbrev awaiting_first : List Mark → List Step → ℕ → Build
+abbrev awaiting_first : List Frame → List Step → ℕ → Build
 awaiting_first around steps or_at = record { steps = steps; around = around; here = record { or_at = Some or_at; and_at = None; negations = 0 }; has_operand = false }
 
 pub with_and-law : (around : List Group) (here : Group) (f : Formula) → with_and (build_of (has around here f)) ≡ build_of (awaits around (record here { conjuncts = Some (conjunction_of here f) }))
@@ -82,34 +82,34 @@ with_or-law around here f =
     ∙ ap (λ (s : List Step). awaiting_first (marks_around around) s (length (front ++ left))) (append_assoc front left (step.Or 0 ∷ []) ∙ sym (append-nil (front ++ (left ++ step.Or 0 ∷ []))))
     ∙ ap (λ (n : ℕ). awaiting_first (marks_around around) ((front ++ (left ++ step.Or 0 ∷ [])) ++ []) n) (length-append front left)
 
-pub slice_get-last : (marks : List Mark) (mark : Mark) → slice_get (marks ++ mark ∷ []) (length marks) ≡ Some mark
+pub slice_get-last : (marks : List Frame) (mark : Frame) → slice_get (marks ++ mark ∷ []) (length marks) ≡ Some mark
 slice_get-last [] mark = refl
 slice_get-last (m ∷ marks) mark = slice_get-last marks mark
 
-pub length-last : (marks : List Mark) (mark : Mark) → length (marks ++ mark ∷ []) - 1 ≡ length marks
+pub length-last : (marks : List Frame) (mark : Frame) → length (marks ++ mark ∷ []) - 1 ≡ length marks
 length-last marks mark = omega (arith, length-append marks (mark ∷ []))
 
 pub with_close-law : (outer : List Group) (g here : Group) (f : Formula) → with_close (build_of (has (g ∷ outer) here f)) (slice_get (marks_around (g ∷ outer)) (length (marks_around (g ∷ outer)) - 1)) ≡ Some (build_of (completed outer g (disjunction_of here f)))
 with_close-law outer g here f =
-    let mark : Mark = mark_of (steps_around outer) g in
+    let mark : Frame = mark_of (steps_around outer) g in
     rw (length-last (marks_around outer) mark, slice_get-last (marks_around outer) mark, length-last (marks_around outer) mark, take-append_seam (marks_around outer) (mark ∷ []), all_closed-law (steps_around (g ∷ outer)) here f)
     (ap (λ (b : Build). Some b) (with_operand-completed outer g (disjunction_of here f)))
 
-abbrev opened : List Mark → List Step → Option Build
+abbrev opened : List Frame → List Step → Option Build
 opened around steps = Some (record { steps = steps; around = around; here = empty_mark; has_operand = false })
 
-pub built-law : (stage : Stage) (word : Token) → built (build_of stage) word ≡ build_at (taken stage word)
+pub built-law : (stage : Stage) (next : Symbol) → built (build_of stage) next ≡ build_at (taken stage next)
 unfolding built
-built-law (awaits around here) (token.Is place value) = ap (λ (b : Build). Some b) (with_operand-completed around here (is place value))
-built-law (awaits around here) token.Not = refl
-built-law (awaits around here) token.And = refl
-built-law (awaits around here) token.Or = refl
-built-law (awaits around here) token.Open = ap (opened (marks_around around ++ mark_of (steps_around around) here ∷ [])) (sym (append-nil (steps_around (here ∷ around))) ∙ sym (append-nil (steps_around (here ∷ around) ++ [])))
-built-law (awaits around here) token.Close = refl
-built-law (has around here f) (token.Is place value) = refl
-built-law (has around here f) token.Not = refl
-built-law (has around here f) token.And = ap (λ (b : Build). Some b) (with_and-law around here f)
-built-law (has around here f) token.Or = ap (λ (b : Build). Some b) (with_or-law around here f)
-built-law (has around here f) token.Open = refl
-built-law (has [] here f) token.Close = refl
-built-law (has (g ∷ outer) here f) token.Close = with_close-law outer g here f
+built-law (awaits around here) (symbol.Is place value) = ap (λ (b : Build). Some b) (with_operand-completed around here (is place value))
+built-law (awaits around here) symbol.Not = refl
+built-law (awaits around here) symbol.And = refl
+built-law (awaits around here) symbol.Or = refl
+built-law (awaits around here) symbol.Open = ap (opened (marks_around around ++ mark_of (steps_around around) here ∷ [])) (sym (append-nil (steps_around (here ∷ around))) ∙ sym (append-nil (steps_around (here ∷ around) ++ [])))
+built-law (awaits around here) symbol.Close = refl
+built-law (has around here f) (symbol.Is place value) = refl
+built-law (has around here f) symbol.Not = refl
+built-law (has around here f) symbol.And = ap (λ (b : Build). Some b) (with_and-law around here f)
+built-law (has around here f) symbol.Or = ap (λ (b : Build). Some b) (with_or-law around here f)
+built-law (has around here f) symbol.Open = refl
+built-law (has [] here f) symbol.Close = refl
+built-law (has (g ∷ outer) here f) symbol.Close = with_close-law outer g here f

@@ -3,10 +3,10 @@ use Rattle.std.proofs.Common.{◌≡◌, ◌≢◌, ◌∙◌, ◌<◌, ◌+◌,
 use Rattle.std.proofs.lemmas.Bool.{eqb-true, eqb-false, eq-eqb, ne_eqb}
 use Rattle.std.proofs.lemmas.List.{get_or-set_same, get_or-set_other, length-set, length-replicate}
 use Rattle.std.proofs.lemmas.List.Elements.{All-cons, All-head, All-tail, All-filter}
-use Rattle.litmus.specs.declared.words.Place.{Place}
-use Rattle.litmus.specs.declared.words.Place.TheVariants as place
-use Rattle.litmus.specs.declared.words.Step.{Step}
-use Rattle.litmus.specs.declared.words.Step.TheVariants as step
+use Rattle.litmus.specs.declared.symbols.Place.{Place}
+use Rattle.litmus.specs.declared.symbols.Place.TheVariants as place
+use Rattle.litmus.specs.declared.symbols.Step.{Step}
+use Rattle.litmus.specs.declared.symbols.Step.TheVariants as step
 use Rattle.litmus.specs.Questions.{IsThere, is_same, firsts}
 use Rattle.litmus.specs.inner.Running.{asked_by, AsksThere}
 use Rattle.litmus.proofs.RunLaws.{asked_by-AsksThere}

@@ -1,27 +1,27 @@
--- One more word, and the end of the words: stages against what is built.
+-- One more symbol, and the end of the symbols: stages against what is built.
 use Rattle.std.proofs.Common.{◌≡◌, ◌∙◌, ◌≤◌, ◌<◌, ◌+◌, sym, ap, subst, ℕ, true, false, suc, List, [], ◌∷◌, ◌++◌, length, Option, Some, None, Ok, Err, IfSome, refl, arith, length-append}
-use Rattle.litmus.specs.declared.words.Token.{Token}
-use Rattle.litmus.specs.declared.words.Token.TheVariants as token
-use Rattle.litmus.specs.declared.words.Step.{Step}
-use Rattle.litmus.specs.declared.words.Step.TheVariants as step
-use Rattle.litmus.specs.declared.words.Mark.{Mark}
+use Rattle.litmus.specs.declared.symbols.Symbol.{Symbol}
+use Rattle.litmus.specs.declared.symbols.Symbol.TheVariants as symbol
+use Rattle.litmus.specs.declared.symbols.Step.{Step}
+use Rattle.litmus.specs.declared.symbols.Step.TheVariants as step
+use Rattle.litmus.specs.declared.symbols.Frame.{Frame}
 use Rattle.litmus.specs.declared.draft.ConditionError.{ConditionError}
 use Rattle.litmus.specs.declared.draft.ConditionError.TheVariants.{NoMemory, Misplaced}
 use Rattle.litmus.specs.Formulas.{Formula}
 use Rattle.litmus.specs.Steps.{steps_of, formula_of}
 use Rattle.litmus.specs.inner.StepLaws.{formula_of-steps_of}
 use Rattle.litmus.specs.Faults.{fault_of}
-use Rattle.litmus.specs.Drafting.{Group, Stage, awaits, has, empty_group, disjunction_of, enclosed, taken, taken_from, all_taken, stage_after, formula_at, or_misplaced, with_word, told, finished}
+use Rattle.litmus.specs.Drafting.{Group, Stage, awaits, has, empty_group, disjunction_of, enclosed, taken, taken_from, all_taken, stage_after, formula_at, or_misplaced, with_symbol, told, finished}
 use Rattle.litmus.specs.inner.Building.{Build, all_closed, built, is_empty, is_finished, IsWithin, or_steps, and_steps, steps_around, end_of, mark_of, marks_around, build_of, build_at}
 use Rattle.litmus.proofs.BuildLaws.{built-law, all_closed-law}
 
-pub all_taken-append : (stage : Option Stage) (left right : List Token) → all_taken stage (left ++ right) ≡ all_taken (all_taken stage left) right
+pub all_taken-append : (stage : Option Stage) (left right : List Symbol) → all_taken stage (left ++ right) ≡ all_taken (all_taken stage left) right
 all_taken-append stage [] right = refl
 all_taken-append stage (w ∷ left) right = all_taken-append (taken_from stage w) left right
 
-pub stage_after-push : (words : List Token) (word : Token) → stage_after (words ++ word ∷ []) ≡ taken_from (stage_after words) word
+pub stage_after-push : (symbols : List Symbol) (next : Symbol) → stage_after (symbols ++ next ∷ []) ≡ taken_from (stage_after symbols) next
 unfolding stage_after
-stage_after-push words word = all_taken-append (Some (awaits [] empty_group)) words (word ∷ [])
+stage_after-push symbols next = all_taken-append (Some (awaits [] empty_group)) symbols (next ∷ [])
 
 some_same : {A : Type 0} (a b : A) → Some a ≡ Some b → a ≡ b
 some_same a b same = cc
@@ -34,34 +34,34 @@ err_none : (o : Option Build) → or_misplaced o ≡ Err tt → o ≡ None
 err_none None same = refl
 err_none (Some a) same = cc
 
-built-at : (o : Option Stage) (word : Token) (b : Build) → build_at o ≡ Some b → build_at (taken_from o word) ≡ built b word
-built-at None word b same = cc
-built-at (Some stage) word b same = sym (built-law stage word) ∙ ap (λ (x : Build). built x word) (some_same (build_of stage) b same)
+built-at : (o : Option Stage) (next : Symbol) (b : Build) → build_at o ≡ Some b → build_at (taken_from o next) ≡ built b next
+built-at None next b same = cc
+built-at (Some stage) next b same = sym (built-law stage next) ∙ ap (λ (x : Build). built x next) (some_same (build_of stage) b same)
 
-pub built-push : (words : List Token) (word : Token) (b : Build) → build_at (stage_after words) ≡ Some b → build_at (stage_after (words ++ word ∷ [])) ≡ built b word
-built-push words word b same = ap (λ (o : Option Stage). build_at o) (stage_after-push words word) ∙ built-at (stage_after words) word b same
+pub built-push : (symbols : List Symbol) (next : Symbol) (b : Build) → build_at (stage_after symbols) ≡ Some b → build_at (stage_after (symbols ++ next ∷ [])) ≡ built b next
+built-push symbols next b same = ap (λ (o : Option Stage). build_at o) (stage_after-push symbols next) ∙ built-at (stage_after symbols) next b same
 
-told-at : (words : List Token) (word : Token) (o : Option Stage) (b : Build) → build_at o ≡ Some b → or_misplaced (with_word words word o) ≡ Ok (words ++ word ∷ [])
-told-at words word None b same = cc
-told-at words word (Some stage) b same = refl
+told-at : (symbols : List Symbol) (next : Symbol) (o : Option Stage) (b : Build) → build_at o ≡ Some b → or_misplaced (with_symbol symbols next o) ≡ Ok (symbols ++ next ∷ [])
+told-at symbols next None b same = cc
+told-at symbols next (Some stage) b same = refl
 
-refused-at : (words : List Token) (word : Token) (o : Option Stage) → build_at o ≡ None → or_misplaced (with_word words word o) ≡ Err tt
-refused-at words word None same = refl
-refused-at words word (Some stage) same = cc
+refused-at : (symbols : List Symbol) (next : Symbol) (o : Option Stage) → build_at o ≡ None → or_misplaced (with_symbol symbols next o) ≡ Err tt
+refused-at symbols next None same = refl
+refused-at symbols next (Some stage) same = cc
 
--- a word that is built on is told
-pub push_laid : (words : List Token) (word : Token) (b new : Build) → build_at (stage_after words) ≡ Some b → or_misplaced (built b word) ≡ Ok new → build_at (stage_after (words ++ word ∷ [])) ≡ Some new
-push_laid words word b new same done = built-push words word b same ∙ ok_some (built b word) new done
+-- a symbol that is built on is told
+pub push_laid : (symbols : List Symbol) (next : Symbol) (b new : Build) → build_at (stage_after symbols) ≡ Some b → or_misplaced (built b next) ≡ Ok new → build_at (stage_after (symbols ++ next ∷ [])) ≡ Some new
+push_laid symbols next b new same done = built-push symbols next b same ∙ ok_some (built b next) new done
 
-pub push_told : (words : List Token) (word : Token) (b new : Build) → build_at (stage_after words) ≡ Some b → or_misplaced (built b word) ≡ Ok new → told words word ≡ Ok (words ++ word ∷ [])
+pub push_told : (symbols : List Symbol) (next : Symbol) (b new : Build) → build_at (stage_after symbols) ≡ Some b → or_misplaced (built b next) ≡ Ok new → told symbols next ≡ Ok (symbols ++ next ∷ [])
 unfolding told
-push_told words word b new same done = told-at words word (stage_after (words ++ word ∷ [])) new (push_laid words word b new same done)
+push_told symbols next b new same done = told-at symbols next (stage_after (symbols ++ next ∷ [])) new (push_laid symbols next b new same done)
 
 -- and one that isn't is refused
-pub push_refused : (words : List Token) (word : Token) (b : Build) (e : ConditionError) → build_at (stage_after words) ≡ Some b → IfSome (fault_of e) (λ fault. or_misplaced (built b word) ≡ Err fault) → IfSome (fault_of e) (λ fault. told words word ≡ Err fault)
+pub push_refused : (symbols : List Symbol) (next : Symbol) (b : Build) (e : ConditionError) → build_at (stage_after symbols) ≡ Some b → IfSome (fault_of e) (λ fault. or_misplaced (built b next) ≡ Err fault) → IfSome (fault_of e) (λ fault. told symbols next ≡ Err fault)
 unfolding told
-push_refused words word b NoMemory same refused = tt
-push_refused words word b Misplaced same refused = refused-at words word (stage_after (words ++ word ∷ [])) (built-push words word b same ∙ err_none (built b word) refused)
+push_refused symbols next b NoMemory same refused = tt
+push_refused symbols next b Misplaced same refused = refused-at symbols next (stage_after (symbols ++ next ∷ [])) (built-push symbols next b same ∙ err_none (built b next) refused)
 
 -- ---- limits
 
@@ -85,40 +85,40 @@ few-enclosed : (n : ℕ) (around : List Group) (f : Formula) → Few n around �
 few-enclosed n [] f few = tt
 few-enclosed n (g ∷ around) f few = (omega arith, few-more n around few.1)
 
-few-taken : (n : ℕ) (stage : Stage) (word : Token) → FewAt n stage → FewAfter (n + 1) (taken stage word)
-few-taken n (awaits around here) (token.Is place value) few = (omega arith, few-more n around few.1)
-few-taken n (awaits around here) token.Not few = (omega (arith, few.0), few-more n around few.1)
-few-taken n (awaits around here) token.And few = tt
-few-taken n (awaits around here) token.Or few = tt
-few-taken n (awaits around here) token.Open few = (omega arith, (omega (arith, few.0), few-more n around few.1))
-few-taken n (awaits around here) token.Close few = tt
-few-taken n (has around here f) (token.Is place value) few = tt
-few-taken n (has around here f) token.Not few = tt
-few-taken n (has around here f) token.And few = (omega (arith, few.0), few-more n around few.1)
-few-taken n (has around here f) token.Or few = (omega arith, few-more n around few.1)
-few-taken n (has around here f) token.Open few = tt
-few-taken n (has around here f) token.Close few = few-enclosed n around (disjunction_of here f) few.1
+few-taken : (n : ℕ) (stage : Stage) (next : Symbol) → FewAt n stage → FewAfter (n + 1) (taken stage next)
+few-taken n (awaits around here) (symbol.Is place value) few = (omega arith, few-more n around few.1)
+few-taken n (awaits around here) symbol.Not few = (omega (arith, few.0), few-more n around few.1)
+few-taken n (awaits around here) symbol.And few = tt
+few-taken n (awaits around here) symbol.Or few = tt
+few-taken n (awaits around here) symbol.Open few = (omega arith, (omega (arith, few.0), few-more n around few.1))
+few-taken n (awaits around here) symbol.Close few = tt
+few-taken n (has around here f) (symbol.Is place value) few = tt
+few-taken n (has around here f) symbol.Not few = tt
+few-taken n (has around here f) symbol.And few = (omega (arith, few.0), few-more n around few.1)
+few-taken n (has around here f) symbol.Or few = (omega arith, few-more n around few.1)
+few-taken n (has around here f) symbol.Open few = tt
+few-taken n (has around here f) symbol.Close few = few-enclosed n around (disjunction_of here f) few.1
 
-few-taken_from : (n : ℕ) (stage : Option Stage) (word : Token) → FewAfter n stage → FewAfter (n + 1) (taken_from stage word)
-few-taken_from n None word few = tt
-few-taken_from n (Some stage) word few = few-taken n stage word few
+few-taken_from : (n : ℕ) (stage : Option Stage) (next : Symbol) → FewAfter n stage → FewAfter (n + 1) (taken_from stage next)
+few-taken_from n None next few = tt
+few-taken_from n (Some stage) next few = few-taken n stage next few
 
-few-all_taken : (n : ℕ) (stage : Option Stage) (words : List Token) → FewAfter n stage → FewAfter (n + length words) (all_taken stage words)
+few-all_taken : (n : ℕ) (stage : Option Stage) (symbols : List Symbol) → FewAfter n stage → FewAfter (n + length symbols) (all_taken stage symbols)
 few-all_taken n stage [] few = let same : n ≡ n + 0 = omega arith in subst (λ (m : ℕ). FewAfter m stage) same few
-few-all_taken n stage (w ∷ words) few =
-    let same : n + 1 + length words ≡ n + suc (length words) = omega arith in
-    subst (λ (m : ℕ). FewAfter m (all_taken (taken_from stage w) words)) same (few-all_taken (n + 1) (taken_from stage w) words (few-taken_from n stage w few))
+few-all_taken n stage (w ∷ symbols) few =
+    let same : n + 1 + length symbols ≡ n + suc (length symbols) = omega arith in
+    subst (λ (m : ℕ). FewAfter m (all_taken (taken_from stage w) symbols)) same (few-all_taken (n + 1) (taken_from stage w) symbols (few-taken_from n stage w few))
 
 few-at : (n : ℕ) (o : Option Stage) (b : Build) → build_at o ≡ Some b → FewAfter n o → b.here.negations ≤ n
 few-at n None b same few = absurd (cc)
 few-at n (Some (awaits around here)) b same few = subst (λ (x : Build). x.here.negations ≤ n) (some_same (build_of (awaits around here)) b same) few.0
 few-at n (Some (has around here f)) b same few = subst (λ (x : Build). x.here.negations ≤ n) (some_same (build_of (has around here f)) b same) few.0
 
-pub few_negations : (words : List Token) (b : Build) → build_at (stage_after words) ≡ Some b → b.here.negations ≤ length words
+pub few_negations : (symbols : List Symbol) (b : Build) → build_at (stage_after symbols) ≡ Some b → b.here.negations ≤ length symbols
 unfolding stage_after
-few_negations words b same =
-    let few : FewAfter (0 + length words) (all_taken (Some (awaits [] empty_group)) words) = few-all_taken 0 (Some (awaits [] empty_group)) words (omega arith, tt) in
-    omega (arith, few-at (0 + length words) (stage_after words) b same few)
+few_negations symbols b same =
+    let few : FewAfter (0 + length symbols) (all_taken (Some (awaits [] empty_group)) symbols) = few-all_taken 0 (Some (awaits [] empty_group)) symbols (omega arith, tt) in
+    omega (arith, few-at (0 + length symbols) (stage_after symbols) b same few)
 
 -- ---- places of the operators
 
@@ -145,12 +145,12 @@ within-at : (o : Option Stage) (b : Build) → build_at o ≡ Some b → IsWithi
 within-at None b same = absurd (cc)
 within-at (Some stage) b same = subst (λ (x : Build). IsWithin (length x.steps) x.here) (some_same (build_of stage) b same) (within-stage stage)
 
-pub is_within : (words : List Token) (b : Build) → build_at (stage_after words) ≡ Some b → IsWithin (length b.steps) b.here
-is_within words b same = within-at (stage_after words) b same
+pub is_within : (symbols : List Symbol) (b : Build) → build_at (stage_after symbols) ≡ Some b → IsWithin (length b.steps) b.here
+is_within symbols b same = within-at (stage_after symbols) b same
 
 -- ---- the end
 
-last_not_empty : (marks : List Mark) (mark : Mark) → is_empty (marks ++ mark ∷ []) ≡ false
+last_not_empty : (marks : List Frame) (mark : Frame) → is_empty (marks ++ mark ∷ []) ≡ false
 last_not_empty [] mark = refl
 last_not_empty (m ∷ marks) mark = refl
 
@@ -170,16 +170,16 @@ open-at (awaits around here) incomplete = refl
 open-at (has [] here f) incomplete = absurd (cc)
 open-at (has (g ∷ around) here f) incomplete = refl
 
-pub finished_complete : (words : List Token) (b : Build) → build_at (stage_after words) ≡ Some b → is_finished b ≡ true → Ends (stage_after words) b
-finished_complete words b same complete = go (stage_after words) same
+pub finished_complete : (symbols : List Symbol) (b : Build) → build_at (stage_after symbols) ≡ Some b → is_finished b ≡ true → Ends (stage_after symbols) b
+finished_complete symbols b same complete = go (stage_after symbols) same
   where
     go : (o : Option Stage) → build_at o ≡ Some b → Ends o b
     go None same = absurd (cc)
     go (Some stage) same = let here : build_of stage ≡ b = some_same (build_of stage) b same in subst (λ (x : Build). Ends (Some stage) x) here (ends-at stage (subst (λ (x : Build). is_finished x ≡ true) (sym here) complete))
 
-pub finished_open : (words : List Token) (b : Build) → build_at (stage_after words) ≡ Some b → is_finished b ≡ false → finished words ≡ Err tt
+pub finished_open : (symbols : List Symbol) (b : Build) → build_at (stage_after symbols) ≡ Some b → is_finished b ≡ false → finished symbols ≡ Err tt
 unfolding finished
-finished_open words b same incomplete = go (stage_after words) same
+finished_open symbols b same incomplete = go (stage_after symbols) same
   where
     go : (o : Option Stage) → build_at o ≡ Some b → or_misplaced (formula_at o) ≡ Err tt
     go None same = refl
@@ -192,13 +192,13 @@ steps_again steps f same = subst (λ (s : List Step). steps_of (formula_of s) �
 pub formula_again : (steps : List Step) (f : Formula) → steps ≡ steps_of f → formula_of steps ≡ f
 formula_again steps f same = ap formula_of same ∙ formula_of-steps_of f
 
-pub condition_steps : (words : List Token) (b : Build) (steps : List Step) → build_at (stage_after words) ≡ Some b → is_finished b ≡ true → steps ≡ all_closed b.here b.steps → steps_of (formula_of steps) ≡ steps
-condition_steps words b steps same complete closed =
-    let ends : Ends (stage_after words) b = finished_complete words b same complete in
+pub condition_steps : (symbols : List Symbol) (b : Build) (steps : List Step) → build_at (stage_after symbols) ≡ Some b → is_finished b ≡ true → steps ≡ all_closed b.here b.steps → steps_of (formula_of steps) ≡ steps
+condition_steps symbols b steps same complete closed =
+    let ends : Ends (stage_after symbols) b = finished_complete symbols b same complete in
     steps_again steps ends.formula (closed ∙ ends.steps)
 
-pub finished_steps : (words : List Token) (b : Build) (steps : List Step) (f : Formula) → build_at (stage_after words) ≡ Some b → is_finished b ≡ true → steps ≡ all_closed b.here b.steps → f ≡ formula_of steps → finished words ≡ Ok f
+pub finished_steps : (symbols : List Symbol) (b : Build) (steps : List Step) (f : Formula) → build_at (stage_after symbols) ≡ Some b → is_finished b ≡ true → steps ≡ all_closed b.here b.steps → f ≡ formula_of steps → finished symbols ≡ Ok f
 unfolding finished
-finished_steps words b steps f same complete closed answer =
-    let ends : Ends (stage_after words) b = finished_complete words b same complete in
+finished_steps symbols b steps f same complete closed answer =
+    let ends : Ends (stage_after symbols) b = finished_complete symbols b same complete in
     ends.found ∙ ap (λ (g : Formula). or_misplaced (Some g)) (sym (formula_again steps ends.formula (closed ∙ ends.steps)) ∙ sym answer)

@@ -1,7 +1,7 @@
 -- What a test asks for is there: among all harts and locations, and in its machine.
 use Rattle.std.proofs.Common.{◌≡◌, ◌∙◌, ◌≤◌, sym, ap, subst, ℕ, List, length, All, arith}
-use Rattle.litmus.specs.declared.words.Place.{Place}
-use Rattle.litmus.specs.declared.words.Step.{Step}
+use Rattle.litmus.specs.declared.symbols.Place.{Place}
+use Rattle.litmus.specs.declared.symbols.Step.{Step}
 use Rattle.litmus.specs.Formulas.{Formula, places}
 use Rattle.litmus.specs.Steps.{steps_of}
 use Rattle.litmus.specs.Questions.{Question, IsThere, IsTest, firsts, left_sides}

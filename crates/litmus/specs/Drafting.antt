@@ -1,7 +1,7 @@
--- A condition read word by word from the left: what is open so far, and which words may come next.
+-- A condition read symbol by symbol from the left: what is open so far, and which symbols may come next.
 use Rattle.std.specs.Prelude.{ℕ, suc, zero, ◌+◌, List, [], ◌∷◌, ◌++◌, Option, Some, None, Result, Ok, Err}
-use Rattle.litmus.specs.declared.words.Token.{Token}
-use Rattle.litmus.specs.declared.words.Token.TheVariants as token
+use Rattle.litmus.specs.declared.symbols.Symbol.{Symbol}
+use Rattle.litmus.specs.declared.symbols.Symbol.TheVariants as symbol
 use Rattle.litmus.specs.Formulas.{Formula, is, negation, both, either}
 
 -- what stands open between two parentheses (or in the whole condition) in front of the operand that
@@ -47,32 +47,32 @@ abbrev pub enclosed : List Group → Formula → Option Stage
 enclosed [] f = None
 enclosed (here ∷ around) f = Some (completed around here f)
 
--- the stage after one more word; None where the word may not stand there
-abbrev pub taken : Stage → Token → Option Stage
-taken (awaits around here) (token.Is place value) = Some (completed around here (is place value))
-taken (awaits around here) token.Not = Some (awaits around (record here { negations = here.negations + 1 }))
-taken (awaits around here) token.And = None
-taken (awaits around here) token.Or = None
-taken (awaits around here) token.Open = Some (awaits (here ∷ around) empty_group)
-taken (awaits around here) token.Close = None
-taken (has around here f) (token.Is place value) = None
-taken (has around here f) token.Not = None
-taken (has around here f) token.And = Some (awaits around (record here { conjuncts = Some (conjunction_of here f) }))
-taken (has around here f) token.Or = Some (awaits around (record { disjuncts = Some (disjunction_of here f); conjuncts = None; negations = 0 }))
-taken (has around here f) token.Open = None
-taken (has around here f) token.Close = enclosed around (disjunction_of here f)
+-- the stage after one more symbol; None where the symbol may not stand there
+abbrev pub taken : Stage → Symbol → Option Stage
+taken (awaits around here) (symbol.Is place value) = Some (completed around here (is place value))
+taken (awaits around here) symbol.Not = Some (awaits around (record here { negations = here.negations + 1 }))
+taken (awaits around here) symbol.And = None
+taken (awaits around here) symbol.Or = None
+taken (awaits around here) symbol.Open = Some (awaits (here ∷ around) empty_group)
+taken (awaits around here) symbol.Close = None
+taken (has around here f) (symbol.Is place value) = None
+taken (has around here f) symbol.Not = None
+taken (has around here f) symbol.And = Some (awaits around (record here { conjuncts = Some (conjunction_of here f) }))
+taken (has around here f) symbol.Or = Some (awaits around (record { disjuncts = Some (disjunction_of here f); conjuncts = None; negations = 0 }))
+taken (has around here f) symbol.Open = None
+taken (has around here f) symbol.Close = enclosed around (disjunction_of here f)
 
-abbrev pub taken_from : Option Stage → Token → Option Stage
-taken_from None word = None
-taken_from (Some stage) word = taken stage word
+abbrev pub taken_from : Option Stage → Symbol → Option Stage
+taken_from None next = None
+taken_from (Some stage) next = taken stage next
 
-abbrev pub all_taken : Option Stage → List Token → Option Stage
+abbrev pub all_taken : Option Stage → List Symbol → Option Stage
 all_taken stage [] = stage
-all_taken stage (word ∷ words) = all_taken (taken_from stage word) words
+all_taken stage (next ∷ symbols) = all_taken (taken_from stage next) symbols
 
--- the stage after these words from the beginning
-unfoldable pub stage_after : List Token → Option Stage
-stage_after words = all_taken (Some (awaits [] empty_group)) words
+-- the stage after these symbols from the beginning
+unfoldable pub stage_after : List Symbol → Option Stage
+stage_after symbols = all_taken (Some (awaits [] empty_group)) symbols
 
 -- the formula of a condition that ends at this stage
 abbrev pub formula_at : Option Stage → Option Formula
@@ -86,14 +86,14 @@ abbrev pub or_misplaced : {A : Type 0} → Option A → Result A (Unit {0})
 or_misplaced None = Err tt
 or_misplaced (Some a) = Ok a
 
-abbrev pub with_word : List Token → Token → Option Stage → Option (List Token)
-with_word words word None = None
-with_word words word (Some stage) = Some (words ++ word ∷ [])
+abbrev pub with_symbol : List Symbol → Symbol → Option Stage → Option (List Symbol)
+with_symbol symbols next None = None
+with_symbol symbols next (Some stage) = Some (symbols ++ next ∷ [])
 
--- the words with one more, where it may stand there
-unfoldable pub told : List Token → Token → Result (List Token) (Unit {0})
-told words word = or_misplaced (with_word words word (stage_after (words ++ word ∷ [])))
+-- the symbols with one more, where it may stand there
+unfoldable pub told : List Symbol → Symbol → Result (List Symbol) (Unit {0})
+told symbols next = or_misplaced (with_symbol symbols next (stage_after (symbols ++ next ∷ [])))
 
--- what all the words are, where they are a condition
-unfoldable pub finished : List Token → Result Formula (Unit {0})
-finished words = or_misplaced (formula_at (stage_after words))
+-- what all the symbols are, where they are a condition
+unfoldable pub finished : List Symbol → Result Formula (Unit {0})
+finished symbols = or_misplaced (formula_at (stage_after symbols))

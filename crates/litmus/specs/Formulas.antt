@@ -1,6 +1,6 @@
 -- What a condition is, and when it is true.
 use Rattle.std.specs.Prelude.{ℕ, ◌==◌, Bool, not, ◌&&◌, ◌||◌, List, [], ◌∷◌, ◌++◌}
-use Rattle.litmus.specs.declared.words.Place.{Place}
+use Rattle.litmus.specs.declared.symbols.Place.{Place}
 
 pub data Formula : Type 0 where
   is : Place → ℕ → Formula

@@ -1,10 +1,11 @@
 -- A litmus test: where its machine begins, and what it asks at the end.
 use Rattle.std.specs.Prelude.{ℕ, ◌≡◌, ◌*◌, ◌%◌, ◌<◌, ◌≤◌, ◌==◌, ◌&&◌, Bool, false, not, List, [], ◌∷◌, length, filter, All}
 use Rattle.step_machine.specs.History.{HartStart, Start, FitsIn}
-use Rattle.litmus.specs.declared.words.Place.{Place}
-use Rattle.litmus.specs.declared.words.Place.TheVariants as place
+use Rattle.litmus.specs.declared.symbols.Place.{Place}
+use Rattle.litmus.specs.declared.symbols.Place.TheVariants as place
 use Rattle.litmus.specs.declared.verdict.Quantifier.{Quantifier}
 use Rattle.litmus.specs.Formulas.{Formula, places}
+use Rattle.litmus.specs.declared.question.TheConstants.{MAX_LOCATIONS}
 
 -- the names are those of the locations, whose words stand at 0, 4, 8 and on
 pub record Question : Type 0 where
@@ -21,8 +22,8 @@ IsThere harts locations (place.Word a) = (a % 4 ≡ 0) × (a < 4 * locations)
 -- the limits of a test: those of its opening, at most 1,024 locations, and a condition that asks for
 -- places which are there
 pub record IsTest (q : Question) : Type 0 where
-  pub opening : FitsIn 1024 q.opening
-  pub names : length q.names ≤ 1024
+  pub opening : FitsIn MAX_LOCATIONS q.opening
+  pub names : length q.names ≤ MAX_LOCATIONS
   pub places : All (IsThere (length q.opening.harts) (length q.names)) (places q.condition)
 
 abbrev pub is_same : Place → Place → Bool

@@ -4,8 +4,8 @@ use Rattle.hart.specs.declared.status.Status.TheVariants as status
 use Rattle.step_machine.specs.History.{History}
 use Rattle.step_machine.specs.Entries.{pending, memory_word}
 use Rattle.step_machine.specs.Paths.{state_of}
-use Rattle.litmus.specs.declared.words.Place.{Place}
-use Rattle.litmus.specs.declared.words.Place.TheVariants as place
+use Rattle.litmus.specs.declared.symbols.Place.{Place}
+use Rattle.litmus.specs.declared.symbols.Place.TheVariants as place
 use Rattle.litmus.specs.declared.verdict.Quantifier.{Quantifier}
 use Rattle.litmus.specs.declared.verdict.Quantifier.TheVariants.{Exists, NotExists, ForAll}
 use Rattle.litmus.specs.declared.verdict.Verdict.{Verdict}

@@ -1,17 +1,17 @@
-//! The steps of a condition, built as its words come.
+//! The steps of a condition, built as its symbols come.
 
 ghost use Rattle.std.specs.Prelude.{◌≡◌, ◌+◌, ◌<◌, ◌≤◌, ◌^◌, ◌++◌, ◌-◌, IfSome, IsSome, OnOk, OnErr, false, true, length, replicate, vec_len, vec_capacity};
 ghost use Rattle.std.specs.List.{slice_get};
 ghost use Rattle.texts.specs.Results.{Gives};
-ghost use Rattle.litmus.specs.declared.words.Step.TheVariants.{Not};
+ghost use Rattle.litmus.specs.declared.symbols.Step.TheVariants.{Not};
 ghost use Rattle.litmus.specs.inner.Building.{and_closed, or_closed, all_closed};
 
 use crate::draft::ConditionError;
-use crate::words::{Mark, Place, Step, Token};
+use crate::symbols::{Frame, Place, Step, Symbol};
 use std::alloc::{AllocError, Global};
 use std::marker::Model;
 
-const EMPTY: Mark = Mark {
+const EMPTY: Frame = Frame {
     or_at: None,
     and_at: None,
     negations: 0,
@@ -22,8 +22,8 @@ const EMPTY: Mark = Mark {
 #[derive(Drop)]
 pub(crate) struct Builder {
     steps: Vec<Step>,
-    around: Vec<Mark>,
-    here: Mark,
+    around: Vec<Frame>,
+    here: Frame,
     has_operand: bool,
 }
 
@@ -57,7 +57,7 @@ fn close_or(steps: &mut [Step], or_at: Option<usize>)
 }
 
 /// The disjunction that is open in a group is complete.
-fn close_all(steps: &mut [Step], mark: Mark)
+fn close_all(steps: &mut [Step], mark: Frame)
     requires or_at { IfSome mark.or_at (λ at. at < length steps.old) }
     requires and_at { IfSome mark.and_at (λ at. at < length steps.old) }
     ensures { steps.new ≡ all_closed mark steps.old }
@@ -76,7 +76,7 @@ fn add_negations(steps: &mut Vec<Step>, negations: usize)
 }
 
 /// The innermost of the groups around, if there is one.
-fn innermost(around: &[Mark]) -> Option<Mark>
+fn innermost(around: &[Frame]) -> Option<Frame>
     ensures value { result ≡ slice_get around.now (length around.now - 1) }
     ensures some { IsSome result → 0 < length around.now }
 {
@@ -88,7 +88,7 @@ impl Builder {
     ghost use Rattle.litmus.specs.Drafting.{or_misplaced};
     ghost use Rattle.litmus.specs.Faults.{fault_of};
     ghost use Rattle.std.specs.Prelude.{◌∷◌, [], take};
-    ghost use Rattle.litmus.specs.declared.words.Step.TheVariants as step;
+    ghost use Rattle.litmus.specs.declared.symbols.Step.TheVariants as step;
 
     pub(crate) fn new(alloc: Global) -> Builder
         ensures { result ≡ empty_build }
@@ -101,9 +101,9 @@ impl Builder {
         }
     }
 
-    /// Builds on by one word. An `Err` changes nothing.
+    /// Builds on by one symbol. An `Err` changes nothing.
     #[tactic(auto, unfolding(crate::specs::inner::Building::built))]
-    pub(crate) fn take(&mut self, token: Token) -> Result<(), ConditionError>
+    pub(crate) fn take(&mut self, token: Symbol) -> Result<(), ConditionError>
         requires room { self.old.here.negations + 1 < 2 ^ 64 }
         requires within { IsWithin (length self.old.steps) self.old.here }
         ensures exact { Gives fault_of (λ _. self.new) result (or_misplaced (built self.old token)) }
@@ -117,39 +117,39 @@ impl Builder {
     }
 
     #[tactic(auto, unfolding(crate::specs::inner::Building::built))]
-    fn take_before_operand(&mut self, token: Token) -> Result<(), ConditionError>
+    fn take_before_operand(&mut self, token: Symbol) -> Result<(), ConditionError>
         requires room { self.old.here.negations + 1 < 2 ^ 64 }
         requires before { self.old.has_operand ≡ false }
         ensures exact { Gives fault_of (λ _. self.new) result (or_misplaced (built self.old token)) }
         ensures kept { OnErr result (self.new ≡ self.old) }
     {
         match token {
-            Token::Is { place, value } => Ok(self.take_test(place, value)?),
-            Token::Not => {
+            Symbol::Is { place, value } => Ok(self.take_test(place, value)?),
+            Symbol::Not => {
                 self.here.negations += 1;
                 Ok(())
             }
-            Token::Open => Ok(self.open_group()?),
-            Token::And => Err(ConditionError::Misplaced),
-            Token::Or => Err(ConditionError::Misplaced),
-            Token::Close => Err(ConditionError::Misplaced),
+            Symbol::Open => Ok(self.open_group()?),
+            Symbol::And => Err(ConditionError::Misplaced),
+            Symbol::Or => Err(ConditionError::Misplaced),
+            Symbol::Close => Err(ConditionError::Misplaced),
         }
     }
 
     #[tactic(auto, unfolding(crate::specs::inner::Building::built))]
-    fn take_after_operand(&mut self, token: Token) -> Result<(), ConditionError>
+    fn take_after_operand(&mut self, token: Symbol) -> Result<(), ConditionError>
         requires within { IsWithin (length self.old.steps) self.old.here }
         requires after { self.old.has_operand ≡ true }
         ensures exact { Gives fault_of (λ _. self.new) result (or_misplaced (built self.old token)) }
         ensures kept { OnErr result (self.new ≡ self.old) }
     {
         match token {
-            Token::And => Ok(self.take_and()?),
-            Token::Or => Ok(self.take_or()?),
-            Token::Close => self.close_group(),
-            Token::Is { .. } => Err(ConditionError::Misplaced),
-            Token::Not => Err(ConditionError::Misplaced),
-            Token::Open => Err(ConditionError::Misplaced),
+            Symbol::And => Ok(self.take_and()?),
+            Symbol::Or => Ok(self.take_or()?),
+            Symbol::Close => self.close_group(),
+            Symbol::Is { .. } => Err(ConditionError::Misplaced),
+            Symbol::Not => Err(ConditionError::Misplaced),
+            Symbol::Open => Err(ConditionError::Misplaced),
         }
     }
 
@@ -195,7 +195,7 @@ impl Builder {
     {
         self.steps.reserve(1)?;
         close_all(&mut self.steps, self.here);
-        self.here = Mark {
+        self.here = Frame {
             or_at: Some(self.steps.len()),
             and_at: None,
             negations: 0,
@@ -218,7 +218,7 @@ impl Builder {
     }
 
     /// What stands between the parentheses becomes an operand of the group around it.
-    fn close_into(&mut self, outer: Mark) -> Result<(), AllocError>
+    fn close_into(&mut self, outer: Frame) -> Result<(), AllocError>
         requires within { IsWithin (length self.old.steps) self.old.here }
         requires after { self.old.has_operand ≡ true }
         requires some { 0 < length self.old.around }
@@ -229,14 +229,14 @@ impl Builder {
         close_all(&mut self.steps, self.here);
         add_negations(&mut self.steps, outer.negations);
         self.around.truncate(self.around.len() - 1);
-        self.here = Mark {
+        self.here = Frame {
             negations: 0,
             ..outer
         };
         Ok(())
     }
 
-    /// Whether an operand is complete in no parentheses, so that the words so far are a condition.
+    /// Whether an operand is complete in no parentheses, so that the symbols so far are a condition.
     pub(crate) fn is_complete(&self) -> bool
         ensures { result ≡ is_finished self.now }
     {

@@ -6,7 +6,7 @@ ghost use Rattle.litmus.specs.Questions.{IsThere};
 ghost use Rattle.litmus.specs.inner.Running.{AsksThere};
 ghost use Rattle.litmus.specs.Steps.{steps_of, formula_of};
 
-use crate::words::{Place, Step};
+use crate::symbols::{Place, Step};
 use std::marker::Model;
 
 /// What a litmus test asks at the end. A contract sees it as a formula.

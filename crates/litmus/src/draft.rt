@@ -1,4 +1,4 @@
-//! A condition, told word by word.
+//! A condition, told symbol by symbol.
 
 ghost use Rattle.std.specs.Prelude.{◌≡◌, ◌≢◌, ◌↔◌, [], ◌∷◌, ◌++◌, Ok, Err, IfOk, OnOk, OnErr};
 ghost use Rattle.texts.specs.Results.{Gives};
@@ -8,7 +8,7 @@ ghost use Rattle.litmus.specs.Faults.{fault_of};
 
 use crate::builder::Builder;
 use crate::condition::Condition;
-use crate::words::Token;
+use crate::symbols::Symbol;
 use std::alloc::{AllocError, AllocFailed, Global};
 use std::marker::Model;
 use thiserror::Error;
@@ -18,7 +18,7 @@ use thiserror::Error;
 pub enum ConditionError {
     #[error("no memory")]
     NoMemory,
-    /// The words are no condition: one may not stand where it does, or one is missing at the end.
+    /// The symbols are no condition: one may not stand where it does, or one is missing at the end.
     #[error("bad condition")]
     Misplaced,
 }
@@ -39,20 +39,20 @@ impl<T: Drop> From<AllocFailed<T>> for ConditionError {
     }
 }
 
-/// The words of a condition so far. A contract sees the list of them.
+/// The symbols of a condition so far. A contract sees the list of them.
 #[derive(Drop)]
 pub struct ConditionDraft {
-    tokens: Vec<Token>,
+    tokens: Vec<Symbol>,
     builder: Builder,
 }
 
 impl Model for ConditionDraft {
     ghost use Rattle.std.specs.Prelude.{◌≡◌, List, Some};
-    ghost use Rattle.litmus.specs.declared.words.Token.{Token};
+    ghost use Rattle.litmus.specs.declared.symbols.Symbol.{Symbol};
     ghost use Rattle.litmus.specs.Drafting.{stage_after};
     ghost use Rattle.litmus.specs.inner.Building.{build_at};
 
-    ghost Value = { List Token };
+    ghost Value = { List Symbol };
 
     ghost view = { λ draft. draft.tokens.items };
 
@@ -63,7 +63,7 @@ impl ConditionDraft {
     ghost use Rattle.litmus.specs.Grammar.{IsConditionOf, Begins};
     ghost use Rattle.litmus.specs.Formulas.{Formula};
 
-    /// A draft of no word, which takes its memory from the allocator.
+    /// A draft of no symbol, which takes its memory from the allocator.
     #[tactic(auto, unfolding(crate::specs::Drafting::stage_after))]
     pub fn new(alloc: Global) -> ConditionDraft
         ensures { result ≡ [] }
@@ -74,9 +74,9 @@ impl ConditionDraft {
         }
     }
 
-    /// Takes one more word. `Misplaced` comes exactly where no condition begins with the words so far
+    /// Takes one more symbol. `Misplaced` comes exactly where no condition begins with the symbols so far
     /// and this one. An `Err` changes nothing.
-    pub fn push(&mut self, token: Token) -> Result<(), ConditionError>
+    pub fn push(&mut self, token: Symbol) -> Result<(), ConditionError>
         ensures exact { Gives fault_of (λ _. self.new) result (told self.old token) }
         ensures begins { OnOk result (Begins self.new) }
         ensures misplaced { result ≡ Err Misplaced → ¬ Begins (self.old ++ token ∷ []) }
@@ -92,7 +92,7 @@ impl ConditionDraft {
         }
     }
 
-    /// The condition of the words. It is `Misplaced` exactly where they are none. It takes no memory,
+    /// The condition of the symbols. It is `Misplaced` exactly where they are none. It takes no memory,
     /// so there is no other `Err`.
     pub fn finish(self) -> Result<Condition, ConditionError>
         ensures exact { Gives fault_of (λ (f : Formula). f) result (finished self) }

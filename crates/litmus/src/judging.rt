@@ -8,7 +8,7 @@ ghost use Rattle.litmus.specs.Verdicts.{HasFinished, IsFinished, final_value, is
 
 use crate::condition::Condition;
 use crate::verdict::Quantifier;
-use crate::words::{Place, Step};
+use crate::symbols::{Place, Step};
 use hart::status::Status;
 use std::alloc::{AllocError, Global};
 use step_machine::Machine;

@@ -4,8 +4,10 @@ ghost use Rattle.std.specs.Prelude.{◌≡◌, ◌+◌, ◌<◌, ◌++◌, IfOk,
 ghost use Rattle.litmus.specs.Questions.{IsThere, firsts};
 ghost use Rattle.litmus.specs.inner.Running.{AsksThere, asked_by};
 ghost use Rattle.litmus.specs.inner.Seen.{index_of as place_index, unless_seen, after_place, after_seen};
+ghost use Rattle.litmus.specs.declared.question.TheConstants.{MAX_LOCATIONS};
+ghost use Rattle.step_machine.specs.declared.opening.TheConstants.{MAX_HARTS};
 
-use crate::words::{Place, Step};
+use crate::symbols::{Place, Step};
 use std::alloc::{AllocError, Global};
 
 /// How many registers all harts have.
@@ -15,7 +17,7 @@ const REGISTERS: usize = 2048;
 const PLACES: usize = 3072;
 
 fn index_of(place: Place) -> usize
-    requires { IsThere 64 1024 place }
+    requires { IsThere MAX_HARTS MAX_LOCATIONS place }
     ensures index { result ≡ place_index place }
     ensures below { result < 3072 }
 {
@@ -27,7 +29,7 @@ fn index_of(place: Place) -> usize
 
 /// Adds a place that wasn't seen before, and marks it as seen.
 fn add_place(places: &mut Vec<Place>, seen: &mut Vec<bool>, place: Place) -> Result<(), AllocError>
-    requires there { IsThere 64 1024 place }
+    requires there { IsThere MAX_HARTS MAX_LOCATIONS place }
     requires len { length seen.old.items ≡ 3072 }
     ensures places { OnOk result (places.new.items ≡ places.old.items ++ unless_seen seen.old.items place) }
     ensures seen { OnOk result (seen.new.items ≡ slice_set seen.old.items (place_index place) true) }
@@ -42,7 +44,7 @@ fn add_place(places: &mut Vec<Place>, seen: &mut Vec<bool>, place: Place) -> Res
 
 /// Adds the place that a step asks for, if it asks for one.
 fn add_step(places: &mut Vec<Place>, seen: &mut Vec<bool>, step: Step) -> Result<(), AllocError>
-    requires there { AsksThere 64 1024 step }
+    requires there { AsksThere MAX_HARTS MAX_LOCATIONS step }
     requires len { length seen.old.items ≡ 3072 }
     ensures places { OnOk result (places.new.items ≡ places.old.items ++ after_place seen.old.items step) }
     ensures seen { OnOk result (seen.new.items ≡ after_seen seen.old.items step) }
@@ -64,7 +66,7 @@ fn none_seen(alloc: Global) -> Result<Vec<bool>, AllocError>
 
 /// The places that these steps ask for, each once, in order of first appearance.
 pub(crate) fn first_places(alloc: Global, steps: &[Step]) -> Result<Vec<Place>, AllocError>
-    requires { All (AsksThere 64 1024) steps.now }
+    requires { All (AsksThere MAX_HARTS MAX_LOCATIONS) steps.now }
     ensures { IfOk result (λ places. places.items ≡ firsts (asked_by steps.now)) }
 {
     let mut seen = none_seen(alloc)?;

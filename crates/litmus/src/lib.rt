@@ -1,7 +1,7 @@
 //! Litmus tests: what one is, and what it says of a machine. No text is read or printed here.
 //!
-//! The contract: a [`ConditionDraft`] takes the words of a condition one at a time and makes the one
-//! formula that they stand for by the grammar of `specs/Grammar.antt`, or refuses the first word with
+//! The contract: a [`ConditionDraft`] takes the symbols of a condition one at a time and makes the one
+//! formula that they stand for by the grammar of `specs/Grammar.antt`, or refuses the first symbol with
 //! which no condition begins. [`Test::verdict`] and [`Test::values`] answer by the last registers and
 //! words of a machine's history (`specs/Verdicts.antt`).
 //! This crate runs no machine, and nothing in it recurses: a condition may be as deep as memory allows.
@@ -16,13 +16,13 @@ pub mod laws;
 mod lefts;
 mod question;
 mod verdict;
-mod words;
+mod symbols;
 
 pub use condition::Condition;
 pub use draft::{ConditionDraft, ConditionError};
-pub use question::Test;
+pub use question::{MAX_LOCATIONS, Test};
 pub use verdict::{Quantifier, Verdict};
-pub use words::{Place, Token};
+pub use symbols::{Place, Symbol};
 
 #[cfg(test)]
 mod tests;

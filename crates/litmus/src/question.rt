@@ -7,10 +7,13 @@ use crate::condition::Condition;
 use crate::judging::{is_asked_for, is_finished, is_true, values_of};
 use crate::lefts::first_places;
 use crate::verdict::{Quantifier, Verdict};
-use crate::words::Place;
+use crate::symbols::Place;
 use std::alloc::{AllocError, Global};
 use std::marker::Model;
 use step_machine::{HartOpening, Machine, Opening};
+
+/// How many locations a test may have.
+pub const MAX_LOCATIONS: usize = 1024;
 
 /// A litmus test. The word of location i stands at address 4 i.
 #[derive(Drop)]

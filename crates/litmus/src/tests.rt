@@ -6,7 +6,7 @@ use crate::condition::Condition;
 use crate::draft::{ConditionDraft, ConditionError};
 use crate::question::Test;
 use crate::verdict::{Quantifier, Verdict};
-use crate::words::{Place, Token};
+use crate::symbols::{Place, Symbol};
 use std::alloc::{AllocError, Global};
 use std::process::Abort;
 use std::test::Fail;
@@ -25,7 +25,7 @@ const L0: Event = Event::Land(0);
 const L1: Event = Event::Land(1);
 
 /// The words of a condition: `1` is true at the end of store buffering, `0` is false there.
-fn tokens(alloc: Global, text: &str) -> Result<Vec<Token>, AllocError> {
+fn tokens(alloc: Global, text: &str) -> Result<Vec<Symbol>, AllocError> {
     let mut tokens = Vec::new(alloc);
     for byte in text.as_bytes() {
         tokens.push(token(*byte))?;
@@ -33,25 +33,25 @@ fn tokens(alloc: Global, text: &str) -> Result<Vec<Token>, AllocError> {
     Ok(tokens)
 }
 
-fn token(byte: u8) -> Token {
+fn token(byte: u8) -> Symbol {
     match byte {
-        b'1' => Token::Is {
+        b'1' => Symbol::Is {
             place: Place::Word { address: 4 },
             value: 1,
         },
-        b'0' => Token::Is {
+        b'0' => Symbol::Is {
             place: Place::Register { hart: 1, number: 7 },
             value: 1,
         },
-        b'x' => Token::Is {
+        b'x' => Symbol::Is {
             place: Place::Word { address: 0 },
             value: 1,
         },
-        b'~' => Token::Not,
-        b'&' => Token::And,
-        b'|' => Token::Or,
-        b'(' => Token::Open,
-        _ => Token::Close,
+        b'~' => Symbol::Not,
+        b'&' => Symbol::And,
+        b'|' => Symbol::Or,
+        b'(' => Symbol::Open,
+        _ => Symbol::Close,
     }
 }
 
@@ -207,7 +207,7 @@ fn left_sides_come_once(rt: HostRuntime) -> Result<(), Fail> {
 #[test]
 fn faults_have_their_texts(rt: HostRuntime) -> Result<(), Fail> {
     let mut draft = ConditionDraft::new(rt.alloc());
-    assert_eq!(&rt; draft.push(Token::And), Err(ConditionError::Misplaced));
+    assert_eq!(&rt; draft.push(Symbol::And), Err(ConditionError::Misplaced));
     let told = format!(in rt.alloc(); "{}", ConditionError::Misplaced)?;
     assert_eq!(&rt; told.as_str(), "bad condition");
     let told = format!(in rt.alloc(); "{}", ConditionError::NoMemory)?;

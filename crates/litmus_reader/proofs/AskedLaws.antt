@@ -9,49 +9,49 @@ use Rattle.texts.proofs.TrimLaws.{leading_past, leading_split}
 use Rattle.rv_decode.specs.declared.instruction.Reg.{Reg}
 use Rattle.litmus.specs.declared.verdict.Quantifier.{Quantifier}
 use Rattle.litmus.specs.declared.verdict.Quantifier.TheVariants.{Exists, NotExists, ForAll}
-use Rattle.litmus.specs.declared.words.Place.{Place}
-use Rattle.litmus.specs.declared.words.Place.TheVariants as place
-use Rattle.litmus.specs.declared.words.Token.{Token}
-use Rattle.litmus.specs.declared.words.Token.TheVariants as token
+use Rattle.litmus.specs.declared.symbols.Place.{Place}
+use Rattle.litmus.specs.declared.symbols.Place.TheVariants as place
+use Rattle.litmus.specs.declared.symbols.Symbol.{Symbol}
+use Rattle.litmus.specs.declared.symbols.Symbol.TheVariants as symbol
 use Rattle.litmus.specs.Formulas.{Formula}
 use Rattle.litmus.specs.Grammar.{IsConditionOf, Begins}
-use Rattle.litmus.specs.Drafting.{Stage, stage_after, with_word, or_misplaced, told, finished}
+use Rattle.litmus.specs.Drafting.{Stage, stage_after, with_symbol, or_misplaced, told, finished}
 use Rattle.litmus.proofs.GrammarLaws.{finished_only}
 use Rattle.litmus.proofs.FrontLaws.{finished_found}
 use Rattle.litmus.proofs.BeginLaws.{refused_begins}
-use Rattle.litmus_words.specs.Settings as setting
-use Rattle.litmus_words.specs.Words as word
-use Rattle.litmus_words.specs.Words.{Words, words_of, AreWords, listed}
-use Rattle.litmus_words.proofs.Spelling.{words_are, are_words}
+use Rattle.litmus_tokens.specs.Settings as setting
+use Rattle.litmus_tokens.specs.Tokens as token
+use Rattle.litmus_tokens.specs.Tokens.{Tokens, tokens_of, AreTokens, listed}
+use Rattle.litmus_tokens.proofs.Spelling.{tokens_are, are_tokens}
 use Rattle.litmus_reader.specs.declared.faults.LitmusFault.{LitmusFault}
 use Rattle.litmus_reader.specs.declared.faults.LitmusFault.TheVariants.{BadCondition}
 use Rattle.litmus_reader.specs.declared.marks.Mark.TheVariants.{Unread}
-use Rattle.litmus_reader.specs.Marks.{has_word, before_line, from_line}
+use Rattle.litmus_reader.specs.Marks.{has_token, before_line, from_line}
 use Rattle.litmus_reader.specs.Locations.{Names, met, value_met}
-use Rattle.litmus_reader.specs.Condition.{Quantified, Asked, Condition, quantifier_of, quantifier_in, place_met, atom_met, token_met, as_condition, words_told, none_unread, behind_quantifier, condition_in}
+use Rattle.litmus_reader.specs.Condition.{Quantified, Asked, Condition, quantifier_of, quantifier_in, place_met, atom_met, token_met, as_condition, tokens_told, none_unread, behind_quantifier, condition_in}
 use Rattle.litmus_reader.specs.Shapes.{NoneBegins}
 use Rattle.litmus_reader.specs.Layout.{BeginsUnread}
 use Rattle.litmus_reader.specs.Openings.{names_in, name_of_place, name_of_value, each_once, IsWorth}
-use Rattle.litmus_reader.specs.Asked.{word_for, IsQuestion, atoms_in, IsPlaceOf, IsKnown, AreKnown}
-use Rattle.litmus_reader.proofs.ShapeLaws.{unread_matches, nowhere_found, nowhere_only, word_cut}
+use Rattle.litmus_reader.specs.Asked.{token_for, IsQuestion, atoms_in, IsPlaceOf, IsKnown, AreKnown}
+use Rattle.litmus_reader.proofs.ShapeLaws.{unread_matches, nowhere_found, nowhere_only, token_cut}
 use Rattle.litmus_reader.proofs.MeetLaws.{fewer, at_later, one_index, met_found, met_only, value_found, value_only, worth_later, one_worth}
 use Rattle.texts.specs.Pieces.{is_blank}
 
 -- ---- the quantifier
 
 abbrev IsQuantified : List ℕ → Quantified → Type 0
-IsQuantified text quantified = (blanks : List ℕ) × AreBlanks blanks × (text ≡ blanks ++ (word_for quantified.0 ++ quantified.1))
+IsQuantified text quantified = (blanks : List ℕ) × AreBlanks blanks × (text ≡ blanks ++ (token_for quantified.0 ++ quantified.1))
 
-quantifier_cut : (line : List ℕ) (quantified : Quantified) → quantifier_of line ≡ Some quantified → line ≡ word_for quantified.0 ++ quantified.1
-quantifier_cut line quantified e = go (has_word (codes "exists") line) refl (has_word (codes "~exists") line) refl (has_word (codes "forall") line) refl
+quantifier_cut : (line : List ℕ) (quantified : Quantified) → quantifier_of line ≡ Some quantified → line ≡ token_for quantified.0 ++ quantified.1
+quantifier_cut line quantified e = go (has_token (codes "exists") line) refl (has_token (codes "~exists") line) refl (has_token (codes "forall") line) refl
   where
-    is : (q : Quantifier) (rest : List ℕ) → line ≡ word_for q ++ rest → (q, rest) ≡ quantified → line ≡ word_for quantified.0 ++ quantified.1
-    is q rest cut same = subst (λ (one : Quantified). line ≡ word_for one.0 ++ one.1) same cut
+    is : (q : Quantifier) (rest : List ℕ) → line ≡ token_for q ++ rest → (q, rest) ≡ quantified → line ≡ token_for quantified.0 ++ quantified.1
+    is q rest cut same = subst (λ (one : Quantified). line ≡ token_for one.0 ++ one.1) same cut
 
-    go : (a : Bool) → has_word (codes "exists") line ≡ a → (b : Bool) → has_word (codes "~exists") line ≡ b → (c : Bool) → has_word (codes "forall") line ≡ c → line ≡ word_for quantified.0 ++ quantified.1
-    go true e1 b e2 c e3 = (let told = rw e1 at e in is Exists (drop 6 line) (word_cut (codes "exists") line e1) cc)
-    go false e1 true e2 c e3 = (let told = rw (e1, e2) at e in is NotExists (drop 7 line) (word_cut (codes "~exists") line e2) cc)
-    go false e1 false e2 true e3 = (let told = rw (e1, e2, e3) at e in is ForAll (drop 6 line) (word_cut (codes "forall") line e3) cc)
+    go : (a : Bool) → has_token (codes "exists") line ≡ a → (b : Bool) → has_token (codes "~exists") line ≡ b → (c : Bool) → has_token (codes "forall") line ≡ c → line ≡ token_for quantified.0 ++ quantified.1
+    go true e1 b e2 c e3 = (let told = rw e1 at e in is Exists (drop 6 line) (token_cut (codes "exists") line e1) cc)
+    go false e1 true e2 c e3 = (let told = rw (e1, e2) at e in is NotExists (drop 7 line) (token_cut (codes "~exists") line e2) cc)
+    go false e1 false e2 true e3 = (let told = rw (e1, e2, e3) at e in is ForAll (drop 6 line) (token_cut (codes "forall") line e3) cc)
     go false e1 false e2 false e3 = (let never = rw (e1, e2, e3) at e in absurd cc)
 
 quantifier_found : (text : List ℕ) (quantified : Quantified) → quantifier_in text ≡ Some quantified → IsQuantified text quantified
@@ -60,33 +60,33 @@ quantifier_found text quantified e =
     let front = leading_split is_blank text in
     (front.0, front.1, front.2 ∙ ap (λ (line : List ℕ). front.0 ++ line) (quantifier_cut (without_front text) quantified e))
 
-quantifier_first : (quantifier : Quantifier) (rest : List ℕ) → quantifier_of (without_front (word_for quantifier ++ rest)) ≡ Some (quantifier, rest)
+quantifier_first : (quantifier : Quantifier) (rest : List ℕ) → quantifier_of (without_front (token_for quantifier ++ rest)) ≡ Some (quantifier, rest)
 quantifier_first Exists rest = refl
 quantifier_first NotExists rest = refl
 quantifier_first ForAll rest = refl
 
-quantifier_only : (blanks rest : List ℕ) (quantifier : Quantifier) → AreBlanks blanks → quantifier_in (blanks ++ (word_for quantifier ++ rest)) ≡ Some (quantifier, rest)
+quantifier_only : (blanks rest : List ℕ) (quantifier : Quantifier) → AreBlanks blanks → quantifier_in (blanks ++ (token_for quantifier ++ rest)) ≡ Some (quantifier, rest)
 unfolding quantifier_in
-quantifier_only blanks rest quantifier all = ap quantifier_of (leading_past is_blank blanks (word_for quantifier ++ rest) all) ∙ quantifier_first quantifier rest
+quantifier_only blanks rest quantifier all = ap quantifier_of (leading_past is_blank blanks (token_for quantifier ++ rest) all) ∙ quantifier_first quantifier rest
 
--- ---- words that may stand behind others
+-- ---- symbols that may stand behind others
 
-with_word_found : (words : List Token) (next : Token) (o : Option Stage) (more : List Token) → as_condition (or_misplaced (with_word words next o)) ≡ Ok more → words ++ next ∷ [] ≡ more
-with_word_found words next None more e = absurd cc
-with_word_found words next (Some stage) more e = cc
+with_symbol_found : (words : List Symbol) (next : Symbol) (o : Option Stage) (more : List Symbol) → as_condition (or_misplaced (with_symbol words next o)) ≡ Ok more → words ++ next ∷ [] ≡ more
+with_symbol_found words next None more e = absurd cc
+with_symbol_found words next (Some stage) more e = cc
 
-told_found : (words : List Token) (next : Token) (more : List Token) → as_condition (told words next) ≡ Ok more → words ++ next ∷ [] ≡ more
+told_found : (words : List Symbol) (next : Symbol) (more : List Symbol) → as_condition (told words next) ≡ Ok more → words ++ next ∷ [] ≡ more
 unfolding told
-told_found words next more e = with_word_found words next (stage_after (words ++ next ∷ [])) more e
+told_found words next more e = with_symbol_found words next (stage_after (words ++ next ∷ [])) more e
 
-told_begins : (words : List Token) (next : Token) → Begins (words ++ next ∷ []) → as_condition (told words next) ≡ Ok (words ++ next ∷ [])
+told_begins : (words : List Symbol) (next : Symbol) → Begins (words ++ next ∷ []) → as_condition (told words next) ≡ Ok (words ++ next ∷ [])
 told_begins words next begun = go (told words next) refl
   where
-    go : (r : Result (List Token) (Unit {0})) → told words next ≡ r → as_condition (told words next) ≡ Ok (words ++ next ∷ [])
-    go (Ok more) is = (let found = told_found words next more (rw is refl) in rw is (ap (λ (ws : List Token). Ok ws) (sym found)))
+    go : (r : Result (List Symbol) (Unit {0})) → told words next ≡ r → as_condition (told words next) ≡ Ok (words ++ next ∷ [])
+    go (Ok more) is = (let found = told_found words next more (rw is refl) in rw is (ap (λ (ws : List Symbol). Ok ws) (sym found)))
     go (Err misplaced) is = absurd (refused_begins words next is begun)
 
-finished_ok : (words : List Token) (formula : Formula) → as_condition (finished words) ≡ Ok formula → finished words ≡ Ok formula
+finished_ok : (words : List Symbol) (formula : Formula) → as_condition (finished words) ≡ Ok formula → finished words ≡ Ok formula
 finished_ok words formula e = go (finished words) refl
   where
     go : (r : Result Formula (Unit {0})) → finished words ≡ r → finished words ≡ Ok formula
@@ -95,167 +95,167 @@ finished_ok words formula e = go (finished words) refl
 
 -- ---- the places that atoms look at
 
-abbrev names_of : word.Token → Names
+abbrev names_of : token.Token → Names
 names_of first = names_in (atoms_in (first ∷ []))
 
-record PlaceFound (harts : ℕ) (ms : Names) (asked : setting.Place) (found : Place × Names) : Type 0 where
+record PlaceFound (harts : ℕ) (ms : Names) (asked : setting.NamedPlace) (found : Place × Names) : Type 0 where
   names : found.1 ≡ each_once (ms ++ name_of_place asked)
   few : length found.1 ≤ 1024
   at : IsPlaceOf harts found.1 asked found.0
 
-register_found : (harts hart : ℕ) (ms : Names) (register : Reg) (b : Bool) (found : Place × Names) → nat_lt hart harts ≡ b → length (each_once ms) ≤ 1024 → (if b then Ok (place.Register hart register.number, each_once ms) else Err BadCondition) ≡ Ok found → PlaceFound harts ms (setting.Place.in_register hart register) found
+register_found : (harts hart : ℕ) (ms : Names) (register : Reg) (b : Bool) (found : Place × Names) → nat_lt hart harts ≡ b → length (each_once ms) ≤ 1024 → (if b then Ok (place.Register hart register.number, each_once ms) else Err BadCondition) ≡ Ok found → PlaceFound harts ms (setting.NamedPlace.in_register hart register) found
 register_found harts hart ms register true found within few e =
     let same : (place.Register hart register.number, each_once ms) ≡ found = ok_is LitmusFault (place.Register hart register.number, each_once ms) found e in
-    subst (PlaceFound harts ms (setting.Place.in_register hart register)) same (record { names = ap each_once (sym (append-nil ms)); few = few; at = (ltb-true hart harts within, refl) })
+    subst (PlaceFound harts ms (setting.NamedPlace.in_register hart register)) same (record { names = ap each_once (sym (append-nil ms)); few = few; at = (ltb-true hart harts within, refl) })
 register_found harts hart ms register false found within few e = absurd cc
 
-place_found : (harts : ℕ) (ms : Names) (asked : setting.Place) (found : Place × Names) → length (each_once ms) ≤ 1024 → place_met harts (each_once ms) asked ≡ Ok found → PlaceFound harts ms asked found
+place_found : (harts : ℕ) (ms : Names) (asked : setting.NamedPlace) (found : Place × Names) → length (each_once ms) ≤ 1024 → place_met harts (each_once ms) asked ≡ Ok found → PlaceFound harts ms asked found
 unfolding place_met
-place_found harts ms (setting.Place.in_register hart register) found few e = register_found harts hart ms register (nat_lt hart harts) found refl few e
-place_found harts ms (setting.Place.at_location name) found few e =
+place_found harts ms (setting.NamedPlace.in_register hart register) found few e = register_found harts hart ms register (nat_lt hart harts) found refl few e
+place_found harts ms (setting.NamedPlace.at_location name) found few e =
     let first = bind_ok (met (each_once ms) name) (λ one. Ok (place.Word (4 * one.0), one.1)) found e in
     let told = met_found ms name first.0 first.1 in
-    subst (PlaceFound harts ms (setting.Place.at_location name)) (ok_is LitmusFault (place.Word (4 * first.0.0), first.0.1) found first.2)
+    subst (PlaceFound harts ms (setting.NamedPlace.at_location name)) (ok_is LitmusFault (place.Word (4 * first.0.0), first.0.1) found first.2)
     (record { names = told.0; few = told.2 few; at = (first.0.0, told.1, refl) })
 
-place_later : (harts : ℕ) (ms more : Names) (asked : setting.Place) (at : Place) → IsPlaceOf harts (each_once ms) asked at → IsPlaceOf harts (each_once (ms ++ more)) asked at
-place_later harts ms more (setting.Place.in_register hart register) at is = is
-place_later harts ms more (setting.Place.at_location name) at is = (is.0, at_later ms more name is.0 is.1, is.2)
+place_later : (harts : ℕ) (ms more : Names) (asked : setting.NamedPlace) (at : Place) → IsPlaceOf harts (each_once ms) asked at → IsPlaceOf harts (each_once (ms ++ more)) asked at
+place_later harts ms more (setting.NamedPlace.in_register hart register) at is = is
+place_later harts ms more (setting.NamedPlace.at_location name) at is = (is.0, at_later ms more name is.0 is.1, is.2)
 
 -- the names may be followed by others, of what stands behind
-place_only : (harts : ℕ) (ms more : Names) (asked : setting.Place) (at : Place) → length (each_once (ms ++ name_of_place asked)) ≤ 1024 → IsPlaceOf harts (each_once ((ms ++ name_of_place asked) ++ more)) asked at → place_met harts (each_once ms) asked ≡ Ok (at, each_once (ms ++ name_of_place asked))
+place_only : (harts : ℕ) (ms more : Names) (asked : setting.NamedPlace) (at : Place) → length (each_once (ms ++ name_of_place asked)) ≤ 1024 → IsPlaceOf harts (each_once ((ms ++ name_of_place asked) ++ more)) asked at → place_met harts (each_once ms) asked ≡ Ok (at, each_once (ms ++ name_of_place asked))
 unfolding place_met
-place_only harts ms more (setting.Place.in_register hart register) at few is = rw (lt-ltb hart harts is.0, append-nil ms) (ap (λ (p : Place). Ok (p, each_once ms)) (sym is.1))
-place_only harts ms more (setting.Place.at_location name) at few is =
+place_only harts ms more (setting.NamedPlace.in_register hart register) at few is = rw (lt-ltb hart harts is.0, append-nil ms) (ap (λ (p : Place). Ok (p, each_once ms)) (sym is.1))
+place_only harts ms more (setting.NamedPlace.at_location name) at few is =
     let told = met_only ms name few in
     let same : told.0 ≡ is.0 = one_index ((ms ++ name ∷ []) ++ more) name told.0 is.0 (at_later (ms ++ name ∷ []) more name told.0 told.2) is.1 in
     rw told.1 (ap (λ (p : Place). Ok (p, each_once (ms ++ name ∷ []))) (ap (λ (index : ℕ). place.Word (4 * index)) same ∙ sym is.2))
 
--- ---- the words, each with its place known
+-- ---- the tokens, each with its place known
 
-record TokenFound (harts : ℕ) (ms : Names) (first : word.Token) (found : Token × Names) : Type 0 where
+record TokenFound (harts : ℕ) (ms : Names) (first : token.Token) (found : Symbol × Names) : Type 0 where
   names : found.1 ≡ each_once (ms ++ names_of first)
   few : length found.1 ≤ 1024
   known : IsKnown harts found.1 first found.0
 
-both_names : (ms : Names) (put : setting.Put) → (ms ++ name_of_place put.0) ++ name_of_value put.1 ≡ ms ++ names_of (word.Token.atom put)
+both_names : (ms : Names) (put : setting.Put) → (ms ++ name_of_place put.0) ++ name_of_value put.1 ≡ ms ++ names_of (token.Token.atom put)
 both_names ms put = append_assoc ms (name_of_place put.0) (name_of_value put.1) ∙ ap (λ (ns : Names). ms ++ (name_of_place put.0 ++ ns)) (sym (append-nil (name_of_value put.1)))
 
-atom_found : (harts : ℕ) (ms : Names) (put : setting.Put) (found : Token × Names) → length (each_once ms) ≤ 1024 → atom_met harts (each_once ms) put ≡ Ok found → TokenFound harts ms (word.Token.atom put) found
+atom_found : (harts : ℕ) (ms : Names) (put : setting.Put) (found : Symbol × Names) → length (each_once ms) ≤ 1024 → atom_met harts (each_once ms) put ≡ Ok found → TokenFound harts ms (token.Token.atom put) found
 unfolding atom_met
 atom_found harts ms put found few e =
     let here = ms ++ name_of_place put.0 in
-    let asked = bind_ok (place_met harts (each_once ms) put.0) (λ asked. value_met asked.1 put.1 >>= λ value. Ok (token.Is asked.0 value.0, value.1)) found e in
+    let asked = bind_ok (place_met harts (each_once ms) put.0) (λ asked. value_met asked.1 put.1 >>= λ value. Ok (symbol.Is asked.0 value.0, value.1)) found e in
     let at = place_found harts ms put.0 asked.0 few asked.1 in
-    let value = bind_ok (value_met asked.0.1 put.1) (λ value. Ok (token.Is asked.0.0 value.0, value.1)) found asked.2 in
+    let value = bind_ok (value_met asked.0.1 put.1) (λ value. Ok (symbol.Is asked.0.0 value.0, value.1)) found asked.2 in
     let worth = value_found here put.1 value.0 (subst (λ (names : Names). value_met names put.1 ≡ Ok value.0) at.names value.1) in
     let at_here : IsPlaceOf harts (each_once here) put.0 asked.0.0 = subst (λ (names : Names). IsPlaceOf harts names put.0 asked.0.0) at.names at.at in
     let at_end : IsPlaceOf harts value.0.1 put.0 asked.0.0 = subst (λ (names : Names). IsPlaceOf harts names put.0 asked.0.0) (sym worth.0) (place_later harts here (name_of_value put.1) put.0 asked.0.0 at_here) in
-    subst (TokenFound harts ms (word.Token.atom put)) (ok_is LitmusFault (token.Is asked.0.0 value.0.0, value.0.1) found value.2)
+    subst (TokenFound harts ms (token.Token.atom put)) (ok_is LitmusFault (symbol.Is asked.0.0 value.0.0, value.0.1) found value.2)
     (record {
       names = worth.0 ∙ ap each_once (both_names ms put);
       few = worth.2 (subst (λ (names : Names). length names ≤ 1024) at.names at.few);
       known = (asked.0.0, value.0.0, at_end, worth.1, refl);
     })
 
-abbrev answered : Token → Names → Result (Token × Names) LitmusFault
+abbrev answered : Symbol → Names → Result (Symbol × Names) LitmusFault
 answered known names = Ok (known, names)
 
-plain_found : (harts : ℕ) (ms : Names) (first : word.Token) (known : Token) (found : Token × Names) → ms ++ names_of first ≡ ms ++ [] → ((names : Names) → IsKnown harts names first known) → length (each_once ms) ≤ 1024 → answered known (each_once ms) ≡ Ok found → TokenFound harts ms first found
+plain_found : (harts : ℕ) (ms : Names) (first : token.Token) (known : Symbol) (found : Symbol × Names) → ms ++ names_of first ≡ ms ++ [] → ((names : Names) → IsKnown harts names first known) → length (each_once ms) ≤ 1024 → answered known (each_once ms) ≡ Ok found → TokenFound harts ms first found
 plain_found harts ms first known found none is few e =
     subst (TokenFound harts ms first) (ok_is LitmusFault (known, each_once ms) found e) (record { names = ap each_once (sym (none ∙ append-nil ms)); few = few; known = is (each_once ms) })
 
-token_found : (harts : ℕ) (ms : Names) (first : word.Token) (found : Token × Names) → length (each_once ms) ≤ 1024 → token_met harts (each_once ms) first ≡ Ok found → TokenFound harts ms first found
+token_found : (harts : ℕ) (ms : Names) (first : token.Token) (found : Symbol × Names) → length (each_once ms) ≤ 1024 → token_met harts (each_once ms) first ≡ Ok found → TokenFound harts ms first found
 unfolding token_met
-token_found harts ms (word.Token.atom put) found few e = atom_found harts ms put found few e
-token_found harts ms word.Token.negation found few e = plain_found harts ms word.Token.negation token.Not found refl (λ names. refl) few e
-token_found harts ms word.Token.conjunction found few e = plain_found harts ms word.Token.conjunction token.And found refl (λ names. refl) few e
-token_found harts ms word.Token.disjunction found few e = plain_found harts ms word.Token.disjunction token.Or found refl (λ names. refl) few e
-token_found harts ms word.Token.opening found few e = plain_found harts ms word.Token.opening token.Open found refl (λ names. refl) few e
-token_found harts ms word.Token.closing found few e = plain_found harts ms word.Token.closing token.Close found refl (λ names. refl) few e
+token_found harts ms (token.Token.atom put) found few e = atom_found harts ms put found few e
+token_found harts ms token.Token.negation found few e = plain_found harts ms token.Token.negation symbol.Not found refl (λ names. refl) few e
+token_found harts ms token.Token.conjunction found few e = plain_found harts ms token.Token.conjunction symbol.And found refl (λ names. refl) few e
+token_found harts ms token.Token.disjunction found few e = plain_found harts ms token.Token.disjunction symbol.Or found refl (λ names. refl) few e
+token_found harts ms token.Token.opening found few e = plain_found harts ms token.Token.opening symbol.Open found refl (λ names. refl) few e
+token_found harts ms token.Token.closing found few e = plain_found harts ms token.Token.closing symbol.Close found refl (λ names. refl) few e
 
-known_later : (harts : ℕ) (ms more : Names) (first : word.Token) (known : Token) → IsKnown harts (each_once ms) first known → IsKnown harts (each_once (ms ++ more)) first known
-known_later harts ms more (word.Token.atom put) known is = (is.0, is.1, place_later harts ms more put.0 is.0 is.2, worth_later ms more put.1 is.1 is.3, is.4)
-known_later harts ms more word.Token.negation known is = is
-known_later harts ms more word.Token.conjunction known is = is
-known_later harts ms more word.Token.disjunction known is = is
-known_later harts ms more word.Token.opening known is = is
-known_later harts ms more word.Token.closing known is = is
+known_later : (harts : ℕ) (ms more : Names) (first : token.Token) (known : Symbol) → IsKnown harts (each_once ms) first known → IsKnown harts (each_once (ms ++ more)) first known
+known_later harts ms more (token.Token.atom put) known is = (is.0, is.1, place_later harts ms more put.0 is.0 is.2, worth_later ms more put.1 is.1 is.3, is.4)
+known_later harts ms more token.Token.negation known is = is
+known_later harts ms more token.Token.conjunction known is = is
+known_later harts ms more token.Token.disjunction known is = is
+known_later harts ms more token.Token.opening known is = is
+known_later harts ms more token.Token.closing known is = is
 
-atom_only : (harts : ℕ) (ms more : Names) (put : setting.Put) (at : Place) (value : ℕ) → length (each_once (ms ++ names_of (word.Token.atom put))) ≤ 1024 → IsPlaceOf harts (each_once ((ms ++ names_of (word.Token.atom put)) ++ more)) put.0 at → IsWorth (each_once ((ms ++ names_of (word.Token.atom put)) ++ more)) put.1 value → atom_met harts (each_once ms) put ≡ Ok (token.Is at value, each_once (ms ++ names_of (word.Token.atom put)))
+atom_only : (harts : ℕ) (ms more : Names) (put : setting.Put) (at : Place) (value : ℕ) → length (each_once (ms ++ names_of (token.Token.atom put))) ≤ 1024 → IsPlaceOf harts (each_once ((ms ++ names_of (token.Token.atom put)) ++ more)) put.0 at → IsWorth (each_once ((ms ++ names_of (token.Token.atom put)) ++ more)) put.1 value → atom_met harts (each_once ms) put ≡ Ok (symbol.Is at value, each_once (ms ++ names_of (token.Token.atom put)))
 unfolding atom_met
 atom_only harts ms more put at value few is worth =
     let here = ms ++ name_of_place put.0 in
     let split = both_names ms put in
     let few_here : length (each_once (here ++ name_of_value put.1)) ≤ 1024 = rw split few in
-    let behind : (ms ++ names_of (word.Token.atom put)) ++ more ≡ here ++ (name_of_value put.1 ++ more) = ap (λ (ns : Names). ns ++ more) (sym split) ∙ append_assoc here (name_of_value put.1) more in
+    let behind : (ms ++ names_of (token.Token.atom put)) ++ more ≡ here ++ (name_of_value put.1 ++ more) = ap (λ (ns : Names). ns ++ more) (sym split) ∙ append_assoc here (name_of_value put.1) more in
     let placed = place_only harts ms (name_of_value put.1 ++ more) put.0 at (omega (arith, fewer here (name_of_value put.1), few_here)) (subst (λ (ns : Names). IsPlaceOf harts (each_once ns) put.0 at) behind is) in
     let told = value_only here put.1 few_here in
     let same : told.0 ≡ value = one_worth ((here ++ name_of_value put.1) ++ more) put.1 told.0 value (worth_later (here ++ name_of_value put.1) more put.1 told.0 told.2) (subst (λ (ns : Names). IsWorth (each_once (ns ++ more)) put.1 value) (sym split) worth) in
-    rw (placed, told.1) (ap (λ (ns : Names). Ok (token.Is at told.0, each_once ns)) split ∙ ap (λ (w : ℕ). Ok (token.Is at w, each_once (ms ++ names_of (word.Token.atom put)))) same)
+    rw (placed, told.1) (ap (λ (ns : Names). Ok (symbol.Is at told.0, each_once ns)) split ∙ ap (λ (w : ℕ). Ok (symbol.Is at w, each_once (ms ++ names_of (token.Token.atom put)))) same)
 
-plain_only : (ms : Names) (known : Token) (is : Token) → is ≡ known → answered known (each_once ms) ≡ answered is (each_once (ms ++ []))
-plain_only ms known is same = rw (append-nil ms) (ap (λ (t : Token). Ok (t, each_once ms)) (sym same))
+plain_only : (ms : Names) (known : Symbol) (is : Symbol) → is ≡ known → answered known (each_once ms) ≡ answered is (each_once (ms ++ []))
+plain_only ms known is same = rw (append-nil ms) (ap (λ (t : Symbol). Ok (t, each_once ms)) (sym same))
 
-token_only : (harts : ℕ) (ms more : Names) (first : word.Token) (known : Token) → length (each_once (ms ++ names_of first)) ≤ 1024 → IsKnown harts (each_once ((ms ++ names_of first) ++ more)) first known → token_met harts (each_once ms) first ≡ Ok (known, each_once (ms ++ names_of first))
+token_only : (harts : ℕ) (ms more : Names) (first : token.Token) (known : Symbol) → length (each_once (ms ++ names_of first)) ≤ 1024 → IsKnown harts (each_once ((ms ++ names_of first) ++ more)) first known → token_met harts (each_once ms) first ≡ Ok (known, each_once (ms ++ names_of first))
 unfolding token_met
-token_only harts ms more (word.Token.atom put) known few is = atom_only harts ms more put is.0 is.1 few is.2 is.3 ∙ ap (λ (t : Token). Ok (t, each_once (ms ++ names_of (word.Token.atom put)))) (sym is.4)
-token_only harts ms more word.Token.negation known few is = plain_only ms token.Not known is
-token_only harts ms more word.Token.conjunction known few is = plain_only ms token.And known is
-token_only harts ms more word.Token.disjunction known few is = plain_only ms token.Or known is
-token_only harts ms more word.Token.opening known few is = plain_only ms token.Open known is
-token_only harts ms more word.Token.closing known few is = plain_only ms token.Close known is
+token_only harts ms more (token.Token.atom put) known few is = atom_only harts ms more put is.0 is.1 few is.2 is.3 ∙ ap (λ (t : Symbol). Ok (t, each_once (ms ++ names_of (token.Token.atom put)))) (sym is.4)
+token_only harts ms more token.Token.negation known few is = plain_only ms symbol.Not known is
+token_only harts ms more token.Token.conjunction known few is = plain_only ms symbol.And known is
+token_only harts ms more token.Token.disjunction known few is = plain_only ms symbol.Or known is
+token_only harts ms more token.Token.opening known few is = plain_only ms symbol.Open known is
+token_only harts ms more token.Token.closing known few is = plain_only ms symbol.Close known is
 
 -- ---- all words
 
-names-more : (first : word.Token) (words : List word.Token) → names_in (atoms_in (first ∷ words)) ≡ names_of first ++ names_in (atoms_in words)
-names-more (word.Token.atom put) words = sym (append_assoc (name_of_place put.0) (name_of_value put.1 ++ []) (names_in (atoms_in words)) ∙ ap (λ (ns : Names). name_of_place put.0 ++ ns) (append_assoc (name_of_value put.1) [] (names_in (atoms_in words))))
-names-more word.Token.negation words = refl
-names-more word.Token.conjunction words = refl
-names-more word.Token.disjunction words = refl
-names-more word.Token.opening words = refl
-names-more word.Token.closing words = refl
+names-more : (first : token.Token) (words : List token.Token) → names_in (atoms_in (first ∷ words)) ≡ names_of first ++ names_in (atoms_in words)
+names-more (token.Token.atom put) words = sym (append_assoc (name_of_place put.0) (name_of_value put.1 ++ []) (names_in (atoms_in words)) ∙ ap (λ (ns : Names). name_of_place put.0 ++ ns) (append_assoc (name_of_value put.1) [] (names_in (atoms_in words))))
+names-more token.Token.negation words = refl
+names-more token.Token.conjunction words = refl
+names-more token.Token.disjunction words = refl
+names-more token.Token.opening words = refl
+names-more token.Token.closing words = refl
 
-names-behind : (ms : Names) (first : word.Token) (words : List word.Token) → (ms ++ names_of first) ++ names_in (atoms_in words) ≡ ms ++ names_in (atoms_in (first ∷ words))
+names-behind : (ms : Names) (first : token.Token) (words : List token.Token) → (ms ++ names_of first) ++ names_in (atoms_in words) ≡ ms ++ names_in (atoms_in (first ∷ words))
 names-behind ms first words = append_assoc ms (names_of first) (names_in (atoms_in words)) ∙ ap (λ (ns : Names). ms ++ ns) (sym (names-more first words))
 
-record WordsFound (harts : ℕ) (ms : Names) (so_far : List Token) (text : Words) (asked : Asked) : Type 0 where
-  words : List word.Token
-  known : List Token
+record TokensFound (harts : ℕ) (ms : Names) (so_far : List Symbol) (text : Tokens) (asked : Asked) : Type 0 where
+  words : List token.Token
+  known : List Symbol
   whole : text ≡ listed words
   behind : asked.0 ≡ so_far ++ known
   names : asked.1 ≡ each_once (ms ++ names_in (atoms_in words))
   few : length asked.1 ≤ 1024
   all : AreKnown harts asked.1 words known
 
-word_found : (harts : ℕ) (ms : Names) (so_far more : List Token) (first : word.Token) (others : Words) (asked : Asked) (known : Token) → so_far ++ known ∷ [] ≡ more → IsKnown harts (each_once (ms ++ names_of first)) first known → WordsFound harts (ms ++ names_of first) more others asked → WordsFound harts ms so_far (word.Words.word first others) asked
-word_found harts ms so_far more first others asked known taken is rest =
+token_found : (harts : ℕ) (ms : Names) (so_far more : List Symbol) (first : token.Token) (others : Tokens) (asked : Asked) (known : Symbol) → so_far ++ known ∷ [] ≡ more → IsKnown harts (each_once (ms ++ names_of first)) first known → TokensFound harts (ms ++ names_of first) more others asked → TokensFound harts ms so_far (token.Tokens.more first others) asked
+token_found harts ms so_far more first others asked known taken is rest =
     record {
       words = first ∷ rest.words;
       known = known ∷ rest.known;
-      whole = ap (λ (ws : Words). word.Words.word first ws) rest.whole;
-      behind = rest.behind ∙ ap (λ (ws : List Token). ws ++ rest.known) (sym taken) ∙ append_assoc so_far (known ∷ []) rest.known;
+      whole = ap (λ (ws : Tokens). token.Tokens.more first ws) rest.whole;
+      behind = rest.behind ∙ ap (λ (ws : List Symbol). ws ++ rest.known) (sym taken) ∙ append_assoc so_far (known ∷ []) rest.known;
       names = rest.names ∙ ap each_once (names-behind ms first rest.words);
       few = rest.few;
       all = (known, rest.known, refl, subst (λ (names : Names). IsKnown harts names first known) (sym rest.names) (known_later harts (ms ++ names_of first) (names_in (atoms_in rest.words)) first known is), rest.all);
     }
 
-words_found : (harts : ℕ) (ms : Names) (so_far : List Token) (text : Words) (asked : Asked) → length (each_once ms) ≤ 1024 → words_told harts (so_far, each_once ms) text ≡ Ok asked → WordsFound harts ms so_far text asked
-words_found harts ms so_far word.Words.ended asked few e =
-    subst (WordsFound harts ms so_far word.Words.ended) (ok_is LitmusFault (so_far, each_once ms) asked e)
+tokens_found : (harts : ℕ) (ms : Names) (so_far : List Symbol) (text : Tokens) (asked : Asked) → length (each_once ms) ≤ 1024 → tokens_told harts (so_far, each_once ms) text ≡ Ok asked → TokensFound harts ms so_far text asked
+tokens_found harts ms so_far token.Tokens.ended asked few e =
+    subst (TokensFound harts ms so_far token.Tokens.ended) (ok_is LitmusFault (so_far, each_once ms) asked e)
     (record { words = []; known = []; whole = refl; behind = sym (append-nil so_far); names = ap each_once (sym (append-nil ms)); few = few; all = refl })
-words_found harts ms so_far word.Words.broken asked few e = absurd cc
-words_found harts ms so_far (word.Words.word first others) asked few e =
-    let known = bind_ok (token_met harts (each_once ms) first) (λ known. as_condition (told so_far known.0) >>= λ more. words_told harts (more, known.1) others) asked e in
-    let more = bind_ok (as_condition (told so_far known.0.0)) (λ more. words_told harts (more, known.0.1) others) asked known.2 in
+tokens_found harts ms so_far token.Tokens.broken asked few e = absurd cc
+tokens_found harts ms so_far (token.Tokens.more first others) asked few e =
+    let known = bind_ok (token_met harts (each_once ms) first) (λ known. as_condition (told so_far known.0) >>= λ more. tokens_told harts (more, known.1) others) asked e in
+    let more = bind_ok (as_condition (told so_far known.0.0)) (λ more. tokens_told harts (more, known.0.1) others) asked known.2 in
     let one = token_found harts ms first known.0 few known.1 in
-    word_found harts ms so_far more.0 first others asked known.0.0 (told_found so_far known.0.0 more.0 more.1)
+    token_found harts ms so_far more.0 first others asked known.0.0 (told_found so_far known.0.0 more.0 more.1)
     (subst (λ (names : Names). IsKnown harts names first known.0.0) one.names one.known)
-    (words_found harts (ms ++ names_of first) more.0 others asked (subst (λ (names : Names). length names ≤ 1024) one.names one.few) (subst (λ (names : Names). words_told harts (more.0, names) others ≡ Ok asked) one.names more.2))
+    (tokens_found harts (ms ++ names_of first) more.0 others asked (subst (λ (names : Names). length names ≤ 1024) one.names one.few) (subst (λ (names : Names). tokens_told harts (more.0, names) others ≡ Ok asked) one.names more.2))
 
-words_only : (harts : ℕ) (ms : Names) (so_far : List Token) (words : List word.Token) (known : List Token) (formula : Formula) → length (each_once (ms ++ names_in (atoms_in words))) ≤ 1024 → AreKnown harts (each_once (ms ++ names_in (atoms_in words))) words known → IsConditionOf (so_far ++ known) formula → words_told harts (so_far, each_once ms) (listed words) ≡ Ok (so_far ++ known, each_once (ms ++ names_in (atoms_in words)))
-words_only harts ms so_far [] known formula few all stands = rw (append-nil ms) (ap (λ (ws : List Token). Ok (ws, each_once ms)) (sym (append-nil so_far) ∙ ap (λ (ws : List Token). so_far ++ ws) (sym all)))
-words_only harts ms so_far (first ∷ words) known formula few all stands =
+tokens_only : (harts : ℕ) (ms : Names) (so_far : List Symbol) (words : List token.Token) (known : List Symbol) (formula : Formula) → length (each_once (ms ++ names_in (atoms_in words))) ≤ 1024 → AreKnown harts (each_once (ms ++ names_in (atoms_in words))) words known → IsConditionOf (so_far ++ known) formula → tokens_told harts (so_far, each_once ms) (listed words) ≡ Ok (so_far ++ known, each_once (ms ++ names_in (atoms_in words)))
+tokens_only harts ms so_far [] known formula few all stands = rw (append-nil ms) (ap (λ (ws : List Symbol). Ok (ws, each_once ms)) (sym (append-nil so_far) ∙ ap (λ (ws : List Symbol). so_far ++ ws) (sym all)))
+tokens_only harts ms so_far (first ∷ words) known formula few all stands =
     let here = ms ++ names_of first in
     let more = names_in (atoms_in words) in
     let split = names-behind ms first words in
@@ -263,11 +263,11 @@ words_only harts ms so_far (first ∷ words) known formula few all stands =
     let few_here : length (each_once here) ≤ 1024 = omega (arith, fewer here more, few_more) in
     let first_known : IsKnown harts (each_once (here ++ more)) first all.0 = rw split all.3 in
     let rest_known : AreKnown harts (each_once (here ++ more)) words all.1 = rw split all.4 in
-    let whole : so_far ++ known ≡ (so_far ++ all.0 ∷ []) ++ all.1 = ap (λ (ws : List Token). so_far ++ ws) all.2 ∙ sym (append_assoc so_far (all.0 ∷ []) all.1) in
-    let stands_here : IsConditionOf ((so_far ++ all.0 ∷ []) ++ all.1) formula = subst (λ (ws : List Token). IsConditionOf ws formula) whole stands in
+    let whole : so_far ++ known ≡ (so_far ++ all.0 ∷ []) ++ all.1 = ap (λ (ws : List Symbol). so_far ++ ws) all.2 ∙ sym (append_assoc so_far (all.0 ∷ []) all.1) in
+    let stands_here : IsConditionOf ((so_far ++ all.0 ∷ []) ++ all.1) formula = subst (λ (ws : List Symbol). IsConditionOf ws formula) whole stands in
     rw (token_only harts ms more first all.0 few_here first_known, told_begins so_far all.0 (all.1, formula, stands_here))
-    (words_only harts here (so_far ++ all.0 ∷ []) words all.1 formula few_more rest_known stands_here
-    ∙ ap (λ (ws : List Token). Ok (ws, each_once (here ++ more))) (sym whole)
+    (tokens_only harts here (so_far ++ all.0 ∷ []) words all.1 formula few_more rest_known stands_here
+    ∙ ap (λ (ws : List Symbol). Ok (ws, each_once (here ++ more))) (sym whole)
     ∙ ap (λ (ns : Names). Ok (so_far ++ known, each_once ns)) split)
 
 -- ---- the whole condition
@@ -281,13 +281,13 @@ asked_so quantifier formula names = Ok (record { quantifier = quantifier; formul
 
 -- what is read of a condition, where the names of the init part are these
 abbrev pub IsAsked : (harts : ℕ) → Names → List ℕ → Condition → Type 0
-IsAsked harts ms text condition = (words : List word.Token) × (known : List Token) × IsQuestion text condition.quantifier words × (condition.names ≡ each_once (ms ++ names_in (atoms_in words))) × (length condition.names ≤ 1024) × AreKnown harts condition.names words known × IsConditionOf known condition.formula
+IsAsked harts ms text condition = (words : List token.Token) × (known : List Symbol) × IsQuestion text condition.quantifier words × (condition.names ≡ each_once (ms ++ names_in (atoms_in words))) × (length condition.names ≤ 1024) × AreKnown harts condition.names words known × IsConditionOf known condition.formula
 
-finished_asked : (harts : ℕ) (ms : Names) (text : List ℕ) (quantified : Quantified) (asked : Asked) (condition : Condition) → IsQuantified text quantified → NoneBegins BeginsUnread text → WordsFound harts ms [] (words_of quantified.1) asked → (as_condition (finished asked.0) >>= λ formula. asked_so quantified.0 formula asked.1) ≡ Ok condition → IsAsked harts ms text condition
+finished_asked : (harts : ℕ) (ms : Names) (text : List ℕ) (quantified : Quantified) (asked : Asked) (condition : Condition) → IsQuantified text quantified → NoneBegins BeginsUnread text → TokensFound harts ms [] (tokens_of quantified.1) asked → (as_condition (finished asked.0) >>= λ formula. asked_so quantified.0 formula asked.1) ≡ Ok condition → IsAsked harts ms text condition
 finished_asked harts ms text quantified asked condition front none walk e =
     let formula = bind_ok (as_condition (finished asked.0)) (λ formula. asked_so quantified.0 formula asked.1) condition e in
-    let spelled : AreWords quantified.1 walk.words = are_words walk.words quantified.1 walk.whole in
-    let stands : IsConditionOf walk.known formula.0 = finished_found walk.known formula.0 (subst (λ (ws : List Token). finished ws ≡ Ok formula.0) walk.behind (finished_ok asked.0 formula.0 formula.1)) in
+    let spelled : AreTokens quantified.1 walk.words = are_words walk.words quantified.1 walk.whole in
+    let stands : IsConditionOf walk.known formula.0 = finished_found walk.known formula.0 (subst (λ (ws : List Symbol). finished ws ≡ Ok formula.0) walk.behind (finished_ok asked.0 formula.0 formula.1)) in
     subst (IsAsked harts ms text) (ok_is LitmusFault (record { quantifier = quantified.0; formula = formula.0; names = asked.1 }) condition formula.2)
     (walk.words, walk.known, (front.0, quantified.1, front.1, front.2, spelled, none), walk.names, walk.few, walk.all, stands)
 
@@ -299,16 +299,16 @@ asked_found harts ms text condition few e = go (quantifier_in (before_line Unrea
     go : (o : Option Quantified) → quantifier_in (before_line Unread text) ≡ o → behind_quantifier harts (each_once ms) text o ≡ Ok condition → IsAsked harts ms text condition
     go None first told = absurd cc
     go (Some quantified) first told =
-        let asked = bind_ok (words_told harts ([], each_once ms) (words_of quantified.1)) (λ asked. none_unread (from_line Unread text) >>= λ end. as_condition (finished asked.0) >>= λ formula. asked_so quantified.0 formula asked.1) condition told in
+        let asked = bind_ok (tokens_told harts ([], each_once ms) (tokens_of quantified.1)) (λ asked. none_unread (from_line Unread text) >>= λ end. as_condition (finished asked.0) >>= λ formula. asked_so quantified.0 formula asked.1) condition told in
         let end = bind_ok (none_unread (from_line Unread text)) (λ end. as_condition (finished asked.0.0) >>= λ formula. asked_so quantified.0 formula asked.0.1) condition asked.2 in
         let none = nowhere_found Unread BeginsUnread unread_matches text (none_unread_found (from_line Unread text) end.0 end.1) in
         let whole : before_line Unread text ≡ text = (nowhere_only Unread BeginsUnread unread_matches text none).0 in
-        finished_asked harts ms text quantified asked.0 condition (quantifier_found text quantified (ap quantifier_in (sym whole) ∙ first)) none (words_found harts ms [] (words_of quantified.1) asked.0 few asked.1) end.2
+        finished_asked harts ms text quantified asked.0 condition (quantifier_found text quantified (ap quantifier_in (sym whole) ∙ first)) none (tokens_found harts ms [] (tokens_of quantified.1) asked.0 few asked.1) end.2
 
 -- what the text asks is read
-pub asked_only : (harts : ℕ) (ms : Names) (text : List ℕ) (quantifier : Quantifier) (words : List word.Token) (known : List Token) (formula : Formula) → IsQuestion text quantifier words → length (each_once (ms ++ names_in (atoms_in words))) ≤ 1024 → AreKnown harts (each_once (ms ++ names_in (atoms_in words))) words known → IsConditionOf known formula → condition_in harts (each_once ms) text ≡ Ok (record { quantifier = quantifier; formula = formula; names = each_once (ms ++ names_in (atoms_in words)) })
+pub asked_only : (harts : ℕ) (ms : Names) (text : List ℕ) (quantifier : Quantifier) (words : List token.Token) (known : List Symbol) (formula : Formula) → IsQuestion text quantifier words → length (each_once (ms ++ names_in (atoms_in words))) ≤ 1024 → AreKnown harts (each_once (ms ++ names_in (atoms_in words))) words known → IsConditionOf known formula → condition_in harts (each_once ms) text ≡ Ok (record { quantifier = quantifier; formula = formula; names = each_once (ms ++ names_in (atoms_in words)) })
 unfolding condition_in
 asked_only harts ms text quantifier words known formula (blanks, rest, all, whole, spelled, none) few are stands =
     let lines = nowhere_only Unread BeginsUnread unread_matches text none in
     let first : quantifier_in (before_line Unread text) ≡ Some (quantifier, rest) = ap quantifier_in (lines.0 ∙ whole) ∙ quantifier_only blanks rest quantifier all in
-    rw (first, words_are rest words spelled, words_only harts ms [] words known formula few are stands, lines.1, finished_only known formula stands) refl
+    rw (first, words_are rest words spelled, tokens_only harts ms [] words known formula few are stands, lines.1, finished_only known formula stands) refl

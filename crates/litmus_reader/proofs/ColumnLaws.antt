@@ -18,7 +18,7 @@ use Rattle.litmus_reader.specs.Marks.{before_line, from_line}
 use Rattle.texts.specs.Pieces.{pieces, pieces_after}
 use Rattle.litmus_reader.specs.Rows.{is_blank_line, row_in, cells_of, harts_in}
 use Rattle.litmus_reader.specs.Layout.{IsVisible}
-use Rattle.litmus_reader.specs.Columns.{Cells, IsRow, AreRows, IsTable, column_of, IsCode}
+use Rattle.litmus_reader.specs.Columns.{Cells, IsRow, AreRows, IsTable, column_of, IsColumnCode}
 use Rattle.litmus_reader.specs.Columns.AreRows.{none, blank, row}
 use Rattle.litmus_reader.proofs.ShapeLaws.{parts_found, parts_only, cut_found, cut_only, visible_matches, first_found, first_only}
 use Rattle.litmus_reader.proofs.RowGrammar.{blank_found, blank_only, row_found, row_only, first_row_found, first_row_only}
@@ -146,9 +146,9 @@ cells_only rows cells columns ends count are few =
 -- each column of the rows is this code, the first of them this hart's
 abbrev pub AreCodes : List Cells → ℕ → List Code → Type 0
 AreCodes rows hart [] = Unit {0}
-AreCodes rows hart (code ∷ codes) = IsCode (column_of hart rows) code × AreCodes rows (hart + 1) codes
+AreCodes rows hart (code ∷ codes) = IsColumnCode (column_of hart rows) code × AreCodes rows (hart + 1) codes
 
-code_found : (cells : List (List ℕ)) (end : Column) (code : Code) → all_told [] cells ≡ Ok end → finished end ≡ Ok code → IsCode cells code
+code_found : (cells : List (List ℕ)) (end : Column) (code : Code) → all_told [] cells ≡ Ok end → finished end ≡ Ok code → IsColumnCode cells code
 code_found cells end code e done =
     let written = all_found [] cells end e in
     let same : written.below ≡ end = sym written.whole in

@@ -4,16 +4,16 @@ use Rattle.std.specs.List.{slice_index_or}
 use Rattle.std.proofs.lemmas.List.{length-map}
 use Rattle.texts.specs.Cutting.{before, after, is_byte}
 use Rattle.texts.proofs.ResultLaws.{bind_ok, ok_is}
-use Rattle.litmus_words.specs.Cleaning.{cleaned_text}
-use Rattle.litmus_words.specs.Settings.{Put}
-use Rattle.litmus_words.proofs.CommentLaws.{is_cleaned, only_cleaned}
+use Rattle.litmus_tokens.specs.Cleaning.{cleaned_text}
+use Rattle.litmus_tokens.specs.Settings.{Put}
+use Rattle.litmus_tokens.proofs.CommentLaws.{is_cleaned, only_cleaned}
 use Rattle.litmus_reader.specs.declared.faults.LitmusFault.{LitmusFault}
 use Rattle.litmus_reader.specs.declared.marks.Mark.TheVariants as mark
 use Rattle.litmus_reader.specs.Marks.{before_line, from_line}
 use Rattle.litmus_reader.specs.Header.{behind_header, behind_brace}
 use Rattle.texts.specs.Pieces.{pieces}
 use Rattle.litmus_reader.specs.Locations.{Names}
-use Rattle.litmus_reader.specs.Init.{Settings, items_at, behind_init, no_settings, pieces_told}
+use Rattle.litmus_reader.specs.Init.{InitItems, items_at, behind_init, no_items, pieces_told}
 use Rattle.litmus_reader.specs.Table.{Code, Column, table_at, codes_of}
 use Rattle.litmus_reader.specs.Values.{Values, values_at, padded}
 use Rattle.litmus_reader.specs.Condition.{Condition, condition_in, condition_at}
@@ -95,28 +95,28 @@ asking : (harts : ℕ) (names : Names) (o : Option (List ℕ)) (condition : Cond
 asking harts names None condition e = absurd cc
 asking harts names (Some text) condition e = record { text = text; begins = refl; reads = e }
 
-record Below (settings : Settings) (codes : List Code) (o : Option (List ℕ)) (whole : Content) : Type 0 where
+record Below (settings : InitItems) (codes : List Code) (o : Option (List ℕ)) (whole : Content) : Type 0 where
   values : Values
   condition : Condition
   put : values_at (length codes) settings ≡ Ok values
   asks : condition_at (length codes) settings.names o ≡ Ok condition
   is : content codes values condition ≡ whole
 
-below_of : (settings : Settings) (codes : List Code) (o : Option (List ℕ)) (whole : Content) → content_below settings codes o ≡ Ok whole → Below settings codes o whole
+below_of : (settings : InitItems) (codes : List Code) (o : Option (List ℕ)) (whole : Content) → content_below settings codes o ≡ Ok whole → Below settings codes o whole
 unfolding content_below
 below_of settings codes o whole e =
     let first = bind_ok (values_at (length codes) settings) _ whole e in
     let second = bind_ok (condition_at (length codes) settings.names o) _ whole first.2 in
     record { values = first.0; condition = second.0; put = first.1; asks = second.1; is = ok_is LitmusFault (content codes first.0 second.0) whole second.2 }
 
-record Behind (settings : Settings) (text : List ℕ) (whole : Content) : Type 0 where
+record Behind (settings : InitItems) (text : List ℕ) (whole : Content) : Type 0 where
   columns : List Column
   codes : List Code
   rows : table_at (before_line mark.Condition text) ≡ Ok columns
   placed : codes_of columns ≡ Ok codes
   below : Below settings codes (from_line mark.Condition text) whole
 
-behind_of : (settings : Settings) (text : List ℕ) (whole : Content) → content_behind settings text ≡ Ok whole → Behind settings text whole
+behind_of : (settings : InitItems) (text : List ℕ) (whole : Content) → content_behind settings text ≡ Ok whole → Behind settings text whole
 unfolding content_behind
 behind_of settings text whole e =
     let first = bind_ok (table_at (before_line mark.Condition text)) _ whole e in
@@ -126,11 +126,11 @@ behind_of settings text whole e =
 record Read (text : List ℕ) (whole : Content) : Type 0 where
   below : List ℕ
   inner : List ℕ
-  settings : Settings
+  settings : InitItems
   rest : List ℕ
   headed : behind_header text ≡ Ok below
   braced : behind_brace below ≡ Ok inner
-  items : pieces_told no_settings (pieces (Byte 59) (before (is_byte 125) inner)) ≡ Ok settings
+  items : pieces_told no_items (pieces (Byte 59) (before (is_byte 125) inner)) ≡ Ok settings
   closed : after (is_byte 125) inner ≡ Some rest
   behind : Behind settings rest whole
 

@@ -7,7 +7,7 @@ use Rattle.std.proofs.lemmas.List.Elements.{All-head, All-tail, All-cons, All-ni
 use Rattle.std.specs.declared.vec.Vec.{Vec}
 use Rattle.std.specs.declared.alloc.Global.{Global}
 use Rattle.rv_decode.specs.Meaning.{meaning}
-use Rattle.step_machine.specs.History.{HartStart}
+use Rattle.step_machine.specs.History.{IsShort}
 use Rattle.litmus.specs.declared.verdict.Quantifier.{Quantifier}
 use Rattle.litmus.specs.Formulas.{Formula, places}
 use Rattle.litmus.specs.Questions.{Question, IsThere, IsTest, question_of}
@@ -27,10 +27,10 @@ starts_count [] registers same = refl
 starts_count (code ∷ codes) [] same = absurd (omega arith)
 starts_count (code ∷ codes) (first ∷ registers) same = let rest = starts_count codes registers (omega arith) in omega arith
 
-starts_short : (codes : List (Vec ℕ Global)) (registers : List (List ℕ)) → AreShort (instructions_of codes) → All (λ (h : HartStart). length h.code ≤ 4096) (starts_of codes registers)
-starts_short [] registers short = All-nil (λ (h : HartStart). length h.code ≤ 4096)
-starts_short (code ∷ codes) [] short = All-nil (λ (h : HartStart). length h.code ≤ 4096)
-starts_short (code ∷ codes) (first ∷ registers) short = All-cons (λ (h : HartStart). length h.code ≤ 4096) (record { code = code.items; registers = first; inbox = [] }) (starts_of codes registers) (simp length-map at short.0) (starts_short codes registers short.1)
+starts_short : (codes : List (Vec ℕ Global)) (registers : List (List ℕ)) → AreShort (instructions_of codes) → All IsShort (starts_of codes registers)
+starts_short [] registers short = All-nil IsShort
+starts_short (code ∷ codes) [] short = All-nil IsShort
+starts_short (code ∷ codes) (first ∷ registers) short = All-cons IsShort (record { code = code.items; registers = first; inbox = [] }) (starts_of codes registers) (simp length-map at short.0) (starts_short codes registers short.1)
 
 pub starts_plain : (codes : List (Vec ℕ Global)) (registers : List (List ℕ)) → ArePlain codes → All HasPlainCode (starts_of codes registers)
 starts_plain [] registers plain = All-nil HasPlainCode

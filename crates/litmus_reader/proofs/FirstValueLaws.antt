@@ -7,13 +7,13 @@ use Rattle.std.proofs.lemmas.List.{length-append, get_or_append_left, get_or-app
 use Rattle.std.proofs.lemmas.List.Elements.{All-cons, All-nil, All-head, All-tail, filter-append}
 use Rattle.texts.proofs.ResultLaws.{bind_ok, ok_is}
 use Rattle.rv_decode.specs.declared.instruction.Reg.{Reg}
-use Rattle.litmus_words.specs.Settings.{Value, Put}
-use Rattle.litmus_words.specs.Settings.Place.{in_register, at_location}
+use Rattle.litmus_tokens.specs.Settings.{Value, Put}
+use Rattle.litmus_tokens.specs.Settings.NamedPlace.{in_register, at_location}
 use Rattle.litmus_reader.specs.declared.faults.LitmusFault.{LitmusFault}
 use Rattle.litmus_reader.specs.declared.init.Target.{Target}
 use Rattle.litmus_reader.specs.declared.init.Target.TheVariants.{Register, Word}
 use Rattle.litmus_reader.specs.Locations.{Names}
-use Rattle.litmus_reader.specs.Init.{Setting, Settings}
+use Rattle.litmus_reader.specs.Init.{InitItem, InitItems}
 use Rattle.litmus_reader.specs.Values.{Values, zeros, with_register, put_at, item_put, items_put, values_at, padded}
 use Rattle.litmus_reader.specs.Openings.{IsAt, IsWorth, each_once, name_of_place, name_of_value, names_in, or_else, last_put, is_register, is_location, IsFirstValue, AreRegisters, AreFirstWords, IsHartThere}
 use Rattle.litmus_reader.proofs.MeetLaws.{has, at_later, one_index, one_name, fewer, at_some, at_below, worth_later, one_worth}
@@ -129,7 +129,7 @@ left_by (Word index) value values more e =
     let same : record values { words = slice_set values.words index value } ≡ more = cc in
     (ap (λ (v : Values). v.registers) (sym same), ap (λ (v : Values). v.words) (sym same))
 
-left_put : (item : Setting) (values more : Values) → item_put values item ≡ Ok more → Left item.target item.value values more
+left_put : (item : InitItem) (values more : Values) → item_put values item ≡ Ok more → Left item.target item.value values more
 unfolding item_put
 left_put item values more e = left_by item.target item.value values more e
 
@@ -150,7 +150,7 @@ shaped_left harts locations (Word index) value values more shaped left =
       words = ap length left.1 ∙ length-set values.words index value ∙ shaped.words;
     }
 
-register_told : (names : Names) (put : Put) (item : Setting) (values more : Values) (harts locations hart n : ℕ) → IsShaped harts locations values → IsSettingOf names put item → Left item.target item.value values more → hart < harts → 1 ≤ n → n < 32 → IsValueOr names (if is_register hart n put.0 then Some put.1 else None) (at_register values hart n) (at_register more hart n)
+register_told : (names : Names) (put : Put) (item : InitItem) (values more : Values) (harts locations hart n : ℕ) → IsShaped harts locations values → IsSettingOf names put item → Left item.target item.value values more → hart < harts → 1 ≤ n → n < 32 → IsValueOr names (if is_register hart n put.0 then Some put.1 else None) (at_register values hart n) (at_register more hart n)
 register_told names (in_register other register, value) item values more harts locations hart n shaped setting left here some few =
     let is : Left (Register other register) item.value values more = subst (λ (target : Target). Left target item.value values more) setting.0 left in
     subst (λ (rs : List (List ℕ)). IsValueOr names (if (other == hart) && (register.number == n) then Some value else None) (at_register values hart n) (slice_index_or (slice_index_or rs hart []) n 0)) (sym is.1)
@@ -159,7 +159,7 @@ register_told names (at_location name, value) item values more harts locations h
     let is : Left (Word setting.0.0) item.value values more = subst (λ (target : Target). Left target item.value values more) setting.0.2 left in
     ap (λ (rs : List (List ℕ)). slice_index_or (slice_index_or rs hart []) n 0) is.0
 
-word_told : (ms : Names) (put : Put) (item : Setting) (values more : Values) (index : ℕ) (name : List ℕ) → length values.words ≡ length (each_once ms) → IsSettingOf (each_once ms) put item → Left item.target item.value values more → IsAt (each_once ms) name index → IsValueOr (each_once ms) (if is_location name put.0 then Some put.1 else None) (at_word values index) (at_word more index)
+word_told : (ms : Names) (put : Put) (item : InitItem) (values more : Values) (index : ℕ) (name : List ℕ) → length values.words ≡ length (each_once ms) → IsSettingOf (each_once ms) put item → Left item.target item.value values more → IsAt (each_once ms) name index → IsValueOr (each_once ms) (if is_location name put.0 then Some put.1 else None) (at_word values index) (at_word more index)
 word_told ms (in_register other register, value) item values more index name count setting left at =
     let is : Left (Register other register) item.value values more = subst (λ (target : Target). Left target item.value values more) setting.0 left in
     ap (λ (words : List ℕ). slice_index_or words index 0) is.2
@@ -178,7 +178,7 @@ word_told ms (at_location other, value) item values more index name count settin
     is : Left (Word setting.0.0) item.value values more
     is = subst (λ (target : Target). Left target item.value values more) setting.0.2 left
 
-hart_there : (names : Names) (put : Put) (item : Setting) (values more : Values) (harts : ℕ) → length values.registers ≡ harts → IsSettingOf names put item → Left item.target item.value values more → IsHartThere harts put
+hart_there : (names : Names) (put : Put) (item : InitItem) (values more : Values) (harts : ℕ) → length values.registers ≡ harts → IsSettingOf names put item → Left item.target item.value values more → IsHartThere harts put
 hart_there names (in_register hart register, value) item values more harts count setting left =
     let is : Left (Register hart register) item.value values more = subst (λ (target : Target). Left target item.value values more) setting.0 left in
     subst (λ (n : ℕ). hart < n) count is.0
@@ -192,7 +192,7 @@ record ArePut (ms : Names) (puts : List Put) (harts : ℕ) (values out : Values)
   registers : (hart n : ℕ) → hart < harts → 1 ≤ n → n < 32 → IsValueOr (each_once ms) (last_put (is_register hart n) puts) (at_register values hart n) (at_register out hart n)
   words : (index : ℕ) (name : List ℕ) → IsAt (each_once ms) name index → IsValueOr (each_once ms) (last_put (is_location name) puts) (at_word values index) (at_word out index)
 
-all_put : (ms : Names) (puts : List Put) (items : List Setting) (harts : ℕ) (values out : Values) → IsShaped harts (length (each_once ms)) values → AreSettings (each_once ms) puts items → items_put values items ≡ Ok out → ArePut ms puts harts values out
+all_put : (ms : Names) (puts : List Put) (items : List InitItem) (harts : ℕ) (values out : Values) → IsShaped harts (length (each_once ms)) values → AreSettings (each_once ms) puts items → items_put values items ≡ Ok out → ArePut ms puts harts values out
 all_put ms [] [] harts values out shaped settings e =
     let same : values ≡ out = ok_is LitmusFault values out e in
     subst (ArePut ms [] harts values) same
@@ -218,7 +218,7 @@ all_put ms (put ∷ puts) (item ∷ items) harts values out shaped settings e =
           later_wins (each_once ms) (last_put (is_location name) puts) _ (at_word values index) (at_word more index) (at_word out index) (next.words index name at) (word_told ms put item values more index name shaped.words settings.0 left at);
     }
 
-pub values_found : (harts : ℕ) (puts : List Put) (settings : Settings) (values : Values) → settings.names ≡ each_once (names_in puts) → AreSettings settings.names puts settings.items → values_at harts settings ≡ Ok values → All (IsHartThere harts) puts × (length values.registers ≡ harts) × ((hart : ℕ) → hart < harts → AreRegisters settings.names puts hart (slice_index_or values.registers hart [])) × AreFirstWords settings.names puts values.words
+pub values_found : (harts : ℕ) (puts : List Put) (settings : InitItems) (values : Values) → settings.names ≡ each_once (names_in puts) → AreSettings settings.names puts settings.items → values_at harts settings ≡ Ok values → All (IsHartThere harts) puts × (length values.registers ≡ harts) × ((hart : ℕ) → hart < harts → AreRegisters settings.names puts hart (slice_index_or values.registers hart [])) × AreFirstWords settings.names puts values.words
 unfolding values_at
 values_found harts puts settings values same items e =
     let ms = names_in puts in
@@ -246,14 +246,14 @@ put_at_hart hart register value values harts count here =
     let changed = with_register register.number value (slice_index_or values.registers hart []) in
     (record values { registers = slice_set values.registers hart changed }, rw (lt-ltb hart (length values.registers) (omega (arith, count, here))) refl, length-set values.registers hart changed ∙ count)
 
-item_there : (names : Names) (put : Put) (item : Setting) (values : Values) (harts : ℕ) → length values.registers ≡ harts → IsSettingOf names put item → IsHartThere harts put → (more : Values) × (item_put values item ≡ Ok more) × (length more.registers ≡ harts)
+item_there : (names : Names) (put : Put) (item : InitItem) (values : Values) (harts : ℕ) → length values.registers ≡ harts → IsSettingOf names put item → IsHartThere harts put → (more : Values) × (item_put values item ≡ Ok more) × (length more.registers ≡ harts)
 unfolding item_put
 item_there names (in_register hart register, value) item values harts count setting there =
     subst (λ (target : Target). (more : Values) × (put_at target item.value values ≡ Ok more) × (length more.registers ≡ harts)) (sym setting.0) (put_at_hart hart register item.value values harts count there)
 item_there names (at_location name, value) item values harts count setting there =
     subst (λ (target : Target). (more : Values) × (put_at target item.value values ≡ Ok more) × (length more.registers ≡ harts)) (sym setting.0.2) (record values { words = slice_set values.words setting.0.0 item.value }, refl, count)
 
-all_there : (names : Names) (puts : List Put) (items : List Setting) (values : Values) (harts : ℕ) → length values.registers ≡ harts → AreSettings names puts items → All (IsHartThere harts) puts → (out : Values) × (items_put values items ≡ Ok out)
+all_there : (names : Names) (puts : List Put) (items : List InitItem) (values : Values) (harts : ℕ) → length values.registers ≡ harts → AreSettings names puts items → All (IsHartThere harts) puts → (out : Values) × (items_put values items ≡ Ok out)
 all_there names [] [] values harts count settings there = (values, refl)
 all_there names [] (item ∷ items) values harts count settings there = absurd settings
 all_there names (put ∷ puts) [] values harts count settings there = absurd settings
@@ -262,7 +262,7 @@ all_there names (put ∷ puts) (item ∷ items) values harts count settings ther
     let rest = all_there names puts items first.0 harts first.2 settings.1 (All-tail (IsHartThere harts) put puts there) in
     (rest.0, rw first.1 rest.1)
 
-pub values_only : (harts : ℕ) (puts : List Put) (settings : Settings) → settings.names ≡ each_once (names_in puts) → AreSettings settings.names puts settings.items → All (IsHartThere harts) puts → (values : Values) × (values_at harts settings ≡ Ok values)
+pub values_only : (harts : ℕ) (puts : List Put) (settings : InitItems) → settings.names ≡ each_once (names_in puts) → AreSettings settings.names puts settings.items → All (IsHartThere harts) puts → (values : Values) × (values_at harts settings ≡ Ok values)
 unfolding values_at
 values_only harts puts settings same items there = all_there settings.names puts settings.items (zeros harts (length settings.names)) harts (length-replicate harts (replicate {A = ℕ} 32 0)) items there
 

@@ -7,49 +7,49 @@ use Rattle.std.proofs.lemmas.List.Folds.{list_all-append}
 use Rattle.texts.specs.Results.{◌>>=◌}
 use Rattle.texts.proofs.ResultLaws.{bind_ok, ok_is}
 use Rattle.texts.specs.Pieces.{is_gap}
-use Rattle.litmus_words.specs.Names.{core}
+use Rattle.litmus_tokens.specs.Names.{core}
 use Rattle.texts.specs.Cutting.{AllPass}
-use Rattle.litmus_words.specs.Settings.{Place, Put, IsDeclared, IsItem}
-use Rattle.litmus_words.specs.Settings.Place.{in_register, at_location}
-use Rattle.litmus_words.specs.Reading.{item_at}
+use Rattle.litmus_tokens.specs.Settings.{NamedPlace, Put, IsDeclared, IsItem}
+use Rattle.litmus_tokens.specs.Settings.NamedPlace.{in_register, at_location}
+use Rattle.litmus_tokens.specs.Reading.{item_at}
 use Rattle.texts.proofs.TrimLaws.{stripped_all}
-use Rattle.litmus_words.proofs.ItemLaws.{item_found, item_read}
+use Rattle.litmus_tokens.proofs.ItemLaws.{item_found, item_read}
 use Rattle.litmus_reader.specs.declared.faults.LitmusFault.{LitmusFault}
 use Rattle.litmus_reader.specs.declared.init.Target.{Target}
 use Rattle.litmus_reader.specs.declared.init.Target.TheVariants.{Register, Word}
 use Rattle.litmus_reader.specs.Locations.{Names, met, value_met}
-use Rattle.litmus_reader.specs.Init.{Setting, Settings, no_settings, target_met, item_told, piece_told, pieces_told}
+use Rattle.litmus_reader.specs.Init.{InitItem, InitItems, no_items, target_met, item_told, piece_told, pieces_told}
 use Rattle.litmus_reader.specs.Openings.{AreItems, IsAt, IsWorth, each_once, name_of_place, name_of_value, names_in}
 use Rattle.litmus_reader.specs.Openings.AreItems.{none, empty, item}
 use Rattle.litmus_reader.proofs.MeetLaws.{met_found, met_only, value_found, value_only, at_later, worth_later, fewer}
 
 -- ---- items with indices for names
 
-abbrev pub IsTarget : Names → Place → Target → Type 0
+abbrev pub IsTarget : Names → NamedPlace → Target → Type 0
 IsTarget names (in_register hart register) target = target ≡ Register hart register
 IsTarget names (at_location name) target = (index : ℕ) × IsAt names name index × (target ≡ Word index)
 
-abbrev pub IsSettingOf : Names → Put → Setting → Type 0
+abbrev pub IsSettingOf : Names → Put → InitItem → Type 0
 IsSettingOf names put setting = IsTarget names put.0 setting.target × IsWorth names put.1 setting.value
 
-abbrev pub AreSettings : Names → List Put → List Setting → Type 0
+abbrev pub AreSettings : Names → List Put → List InitItem → Type 0
 AreSettings names [] [] = Unit {0}
 AreSettings names [] (setting ∷ settings) = ⊥
 AreSettings names (put ∷ puts) [] = ⊥
 AreSettings names (put ∷ puts) (setting ∷ settings) = IsSettingOf names put setting × AreSettings names puts settings
 
-target_later : (ms more : Names) (place : Place) (target : Target) → IsTarget (each_once ms) place target → IsTarget (each_once (ms ++ more)) place target
+target_later : (ms more : Names) (place : NamedPlace) (target : Target) → IsTarget (each_once ms) place target → IsTarget (each_once (ms ++ more)) place target
 target_later ms more (in_register hart register) target is = is
 target_later ms more (at_location name) target is = (is.0, at_later ms more name is.0 is.1, is.2)
 
-settings_later : (ms more : Names) (puts : List Put) (items : List Setting) → AreSettings (each_once ms) puts items → AreSettings (each_once (ms ++ more)) puts items
+settings_later : (ms more : Names) (puts : List Put) (items : List InitItem) → AreSettings (each_once ms) puts items → AreSettings (each_once (ms ++ more)) puts items
 settings_later ms more [] [] are = tt
 settings_later ms more [] (setting ∷ items) are = are
 settings_later ms more (put ∷ puts) [] are = are
 settings_later ms more (put ∷ puts) (setting ∷ items) are =
     ((target_later ms more put.0 setting.target are.0.0, worth_later ms more put.1 setting.value are.0.1), settings_later ms more puts items are.1)
 
-settings_push : (names : Names) (puts : List Put) (items : List Setting) (put : Put) (setting : Setting) → AreSettings names puts items → IsSettingOf names put setting → AreSettings names (puts ++ put ∷ []) (items ++ setting ∷ [])
+settings_push : (names : Names) (puts : List Put) (items : List InitItem) (put : Put) (setting : InitItem) → AreSettings names puts items → IsSettingOf names put setting → AreSettings names (puts ++ put ∷ []) (items ++ setting ∷ [])
 settings_push names [] [] put setting are last = (last, tt)
 settings_push names [] (first ∷ items) put setting are last = absurd are
 settings_push names (first ∷ puts) [] put setting are last = absurd are
@@ -71,10 +71,10 @@ names_push puts put =
 abbrev met_as : Target × Names → Result (Target × Names) LitmusFault
 met_as found = Ok found
 
-abbrev IsTargetMet : Names → Place → Target × Names → Type 0
+abbrev IsTargetMet : Names → NamedPlace → Target × Names → Type 0
 IsTargetMet ms place found = (found.1 ≡ each_once (ms ++ name_of_place place)) × IsTarget found.1 place found.0 × (length (each_once ms) ≤ 1024 → length found.1 ≤ 1024)
 
-target_found : (ms : Names) (place : Place) (found : Target × Names) → target_met (each_once ms) place ≡ Ok found → IsTargetMet ms place found
+target_found : (ms : Names) (place : NamedPlace) (found : Target × Names) → target_met (each_once ms) place ≡ Ok found → IsTargetMet ms place found
 unfolding target_met
 target_found ms (in_register hart register) found e =
     let is = ok_is LitmusFault (Register hart register, each_once ms) found e in
@@ -85,7 +85,7 @@ target_found ms (at_location name) found e =
     let met = met_found ms name step.0 step.1 in
     subst (IsTargetMet ms (at_location name)) is (met.0, (step.0.0, met.1, refl), met.2)
 
-target_only : (ms : Names) (place : Place) → length (each_once (ms ++ name_of_place place)) ≤ 1024 → (target : Target) × (target_met (each_once ms) place ≡ Ok (target, each_once (ms ++ name_of_place place))) × IsTarget (each_once (ms ++ name_of_place place)) place target
+target_only : (ms : Names) (place : NamedPlace) → length (each_once (ms ++ name_of_place place)) ≤ 1024 → (target : Target) × (target_met (each_once ms) place ≡ Ok (target, each_once (ms ++ name_of_place place))) × IsTarget (each_once (ms ++ name_of_place place)) place target
 unfolding target_met
 target_only ms (in_register hart register) few = (Register hart register, ap (λ (names : Names). met_as (Register hart register, names)) (ap each_once (sym (append-nil ms))), refl)
 target_only ms (at_location name) few =
@@ -94,19 +94,19 @@ target_only ms (at_location name) few =
 
 -- ---- the items so far
 
-record AreTold (puts : List Put) (so_far : Settings) : Type 0 where
+record AreTold (puts : List Put) (so_far : InitItems) : Type 0 where
   names : so_far.names ≡ each_once (names_in puts)
   few : length so_far.names ≤ 1024
   settings : AreSettings so_far.names puts so_far.items
 
-abbrev with_setting : Settings → Target → ℕ × Names → Settings
+abbrev with_setting : InitItems → Target → ℕ × Names → InitItems
 with_setting so_far target value = record { items = so_far.items ++ (record { target = target; value = value.0 }) ∷ []; names = value.1 }
 
-abbrev told_as : Settings → Result Settings LitmusFault
+abbrev told_as : InitItems → Result InitItems LitmusFault
 told_as settings = Ok settings
 
 -- one item more, where its target and its value are known
-with_put : (puts : List Put) (so_far : Settings) (put : Put) (target : Target) (word : ℕ) (names : Names) → AreTold puts so_far → names ≡ each_once ((names_in puts ++ name_of_place put.0) ++ name_of_value put.1) → length names ≤ 1024 → IsTarget (each_once (names_in puts ++ name_of_place put.0)) put.0 target → IsWorth names put.1 word → AreTold (puts ++ put ∷ []) (with_setting so_far target (word, names))
+with_put : (puts : List Put) (so_far : InitItems) (put : Put) (target : Target) (word : ℕ) (names : Names) → AreTold puts so_far → names ≡ each_once ((names_in puts ++ name_of_place put.0) ++ name_of_value put.1) → length names ≤ 1024 → IsTarget (each_once (names_in puts ++ name_of_place put.0)) put.0 target → IsWorth names put.1 word → AreTold (puts ++ put ∷ []) (with_setting so_far target (word, names))
 with_put puts so_far put target word names told same few is_target is_worth =
     let ms = names_in puts in
     let more = ms ++ name_of_place put.0 in
@@ -119,7 +119,7 @@ with_put puts so_far put target word names told same few is_target is_worth =
       settings = subst (λ (ns : Names). AreSettings ns (puts ++ put ∷ []) (so_far.items ++ (record { target = target; value = word }) ∷ [])) (sym same) (settings_push (each_once all) puts so_far.items put (record { target = target; value = word }) old new);
     }
 
-item_found_told : (puts : List Put) (so_far more : Settings) (put : Put) → AreTold puts so_far → item_told so_far (Some put) ≡ Ok more → AreTold (puts ++ put ∷ []) more
+item_found_told : (puts : List Put) (so_far more : InitItems) (put : Put) → AreTold puts so_far → item_told so_far (Some put) ≡ Ok more → AreTold (puts ++ put ∷ []) more
 unfolding item_told
 item_found_told puts so_far more put told e =
     let ms = names_in puts in
@@ -131,7 +131,7 @@ item_found_told puts so_far more put told e =
     subst (AreTold (puts ++ put ∷ [])) (ok_is LitmusFault (with_setting so_far first.0.0 second.0) more second.2)
     (with_put puts so_far put first.0.0 second.0.0 second.0.1 told value.0 (value.2 (subst (λ (ns : Names). length ns ≤ 1024) target.0 short)) (subst (λ (ns : Names). IsTarget ns put.0 first.0.0) target.0 target.1) value.1)
 
-item_only_told : (puts : List Put) (so_far : Settings) (put : Put) → AreTold puts so_far → length (each_once (names_in (puts ++ put ∷ []))) ≤ 1024 → (more : Settings) × (item_told so_far (Some put) ≡ Ok more) × AreTold (puts ++ put ∷ []) more
+item_only_told : (puts : List Put) (so_far : InitItems) (put : Put) → AreTold puts so_far → length (each_once (names_in (puts ++ put ∷ []))) ≤ 1024 → (more : InitItems) × (item_told so_far (Some put) ≡ Ok more) × AreTold (puts ++ put ∷ []) more
 unfolding item_told
 item_only_told puts so_far put told few =
     let ms = names_in puts in
@@ -154,7 +154,7 @@ gaps_told (c ∷ rest) all = and_from (is_gap c) (list_all is_gap rest) all.0 (g
 no_core : (text : List ℕ) → list_all is_gap text ≡ true → core text ≡ []
 no_core text e = stripped_all is_gap text (told_gaps text e)
 
-declared_solid : (text : List ℕ) (place : Place) → IsDeclared text place → list_all is_gap text ≡ true → ⊥
+declared_solid : (text : List ℕ) (place : NamedPlace) → IsDeclared text place → list_all is_gap text ≡ true → ⊥
 declared_solid text (in_register hart register) is gaps = is
 declared_solid text (at_location name) is gaps = let never = sym (no_core text gaps) ∙ is.2 in cc
 
@@ -165,7 +165,7 @@ item_solid text put (inr (inr (declared, zero_is))) = false_from_ne_true (list_a
 
 -- ---- piece by piece
 
-piece_found : (puts : List Put) (so_far more : Settings) (piece : List ℕ) → AreTold puts so_far → piece_told so_far piece ≡ Ok more → (AllPass is_gap piece × AreTold puts more) ⊎ ((put : Put) × IsItem piece put × AreTold (puts ++ put ∷ []) more)
+piece_found : (puts : List Put) (so_far more : InitItems) (piece : List ℕ) → AreTold puts so_far → piece_told so_far piece ≡ Ok more → (AllPass is_gap piece × AreTold puts more) ⊎ ((put : Put) × IsItem piece put × AreTold (puts ++ put ∷ []) more)
 unfolding piece_told item_told
 piece_found puts so_far more piece told e = elim (cases_Bool (list_all is_gap piece)) [
   | inl gaps ↦ inl (told_gaps piece gaps, subst (AreTold puts) (ok_is LitmusFault so_far more (rw gaps at e)) told)
@@ -176,11 +176,11 @@ piece_found puts so_far more piece told e = elim (cases_Bool (list_all is_gap pi
     go None is made = absurd cc
     go (Some put) is made = (put, item_found piece put is, item_found_told puts so_far more put told made)
 
-pieces_found : (ps : List (List ℕ)) (puts : List Put) (so_far settings : Settings) → AreTold puts so_far → pieces_told so_far ps ≡ Ok settings → (more : List Put) × AreItems ps more × AreTold (puts ++ more) settings
+pieces_found : (ps : List (List ℕ)) (puts : List Put) (so_far settings : InitItems) → AreTold puts so_far → pieces_told so_far ps ≡ Ok settings → (more : List Put) × AreItems ps more × AreTold (puts ++ more) settings
 pieces_found [] puts so_far settings told e =
     ([], none, subst (λ (xs : List Put). AreTold xs settings) (sym (append-nil puts)) (subst (AreTold puts) (ok_is LitmusFault so_far settings e) told))
 pieces_found (piece ∷ ps) puts so_far settings told e =
-    let step = bind_ok (piece_told so_far piece) (λ (more : Settings). pieces_told more ps) settings e in
+    let step = bind_ok (piece_told so_far piece) (λ (more : InitItems). pieces_told more ps) settings e in
     elim (piece_found puts so_far step.0 piece told step.1) [
       | inl gaps ↦ (let rest = pieces_found ps puts step.0 settings gaps.1 step.2 in (rest.0, empty piece ps rest.0 gaps.0 rest.1, rest.2))
       | inr one ↦ (
@@ -188,15 +188,15 @@ pieces_found (piece ∷ ps) puts so_far settings told e =
           (one.0 ∷ rest.0, item piece ps one.0 rest.0 one.1 rest.1, subst (λ (xs : List Put). AreTold xs settings) (append_assoc puts (one.0 ∷ []) rest.0) rest.2))
     ]
 
-piece_empty : (so_far : Settings) (piece : List ℕ) → AllPass is_gap piece → piece_told so_far piece ≡ Ok so_far
+piece_empty : (so_far : InitItems) (piece : List ℕ) → AllPass is_gap piece → piece_told so_far piece ≡ Ok so_far
 unfolding piece_told
 piece_empty so_far piece gaps = rw (gaps_told piece gaps) refl
 
-piece_item : (so_far : Settings) (piece : List ℕ) (put : Put) → IsItem piece put → piece_told so_far piece ≡ item_told so_far (Some put)
+piece_item : (so_far : InitItems) (piece : List ℕ) (put : Put) → IsItem piece put → piece_told so_far piece ≡ item_told so_far (Some put)
 unfolding piece_told
 piece_item so_far piece put is = rw (item_solid piece put is, item_read piece put is) refl
 
-pieces_only : (ps : List (List ℕ)) (more puts : List Put) (so_far : Settings) → AreItems ps more → AreTold puts so_far → length (each_once (names_in (puts ++ more))) ≤ 1024 → (settings : Settings) × (pieces_told so_far ps ≡ Ok settings) × AreTold (puts ++ more) settings
+pieces_only : (ps : List (List ℕ)) (more puts : List Put) (so_far : InitItems) → AreItems ps more → AreTold puts so_far → length (each_once (names_in (puts ++ more))) ≤ 1024 → (settings : InitItems) × (pieces_told so_far ps ≡ Ok settings) × AreTold (puts ++ more) settings
 pieces_only ps more puts so_far none told few = (so_far, refl, subst (λ (xs : List Put). AreTold xs so_far) (sym (append-nil puts)) told)
 pieces_only ps more puts so_far (empty piece rest others gaps items) told few =
     let next = pieces_only rest others puts so_far items told few in
@@ -210,15 +210,15 @@ pieces_only ps more puts so_far (item piece rest put others is items) told few =
     let next = pieces_only rest others (puts ++ put ∷ []) one.0 items one.2 all in
     (next.0, (rw (piece_item so_far piece put is, one.1) next.1), subst (λ (xs : List Put). AreTold xs next.0) same next.2)
 
-none_told : AreTold [] no_settings
+none_told : AreTold [] no_items
 none_told = record { names = refl; few = omega arith; settings = tt }
 
-pub items_found : (ps : List (List ℕ)) (settings : Settings) → pieces_told no_settings ps ≡ Ok settings → (puts : List Put) × AreItems ps puts × (settings.names ≡ each_once (names_in puts)) × (length settings.names ≤ 1024) × AreSettings settings.names puts settings.items
+pub items_found : (ps : List (List ℕ)) (settings : InitItems) → pieces_told no_items ps ≡ Ok settings → (puts : List Put) × AreItems ps puts × (settings.names ≡ each_once (names_in puts)) × (length settings.names ≤ 1024) × AreSettings settings.names puts settings.items
 items_found ps settings e =
-    let found = pieces_found ps [] no_settings settings none_told e in
+    let found = pieces_found ps [] no_items settings none_told e in
     (found.0, found.1, found.2.names, found.2.few, found.2.settings)
 
-pub items_only : (ps : List (List ℕ)) (puts : List Put) → AreItems ps puts → length (each_once (names_in puts)) ≤ 1024 → (settings : Settings) × (pieces_told no_settings ps ≡ Ok settings) × (settings.names ≡ each_once (names_in puts)) × AreSettings settings.names puts settings.items
+pub items_only : (ps : List (List ℕ)) (puts : List Put) → AreItems ps puts → length (each_once (names_in puts)) ≤ 1024 → (settings : InitItems) × (pieces_told no_items ps ≡ Ok settings) × (settings.names ≡ each_once (names_in puts)) × AreSettings settings.names puts settings.items
 items_only ps puts items few =
-    let read = pieces_only ps puts [] no_settings items none_told few in
+    let read = pieces_only ps puts [] no_items items none_told few in
     (read.0, read.1, read.2.names, read.2.settings)

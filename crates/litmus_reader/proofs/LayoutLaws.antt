@@ -7,12 +7,12 @@ use Rattle.texts.specs.Cutting.{before, after, is_byte, without_front, AreBlanks
 use Rattle.texts.proofs.CuttingLaws.{before_stop, after_stop, cut_byte, before_passes_not}
 use Rattle.texts.proofs.TrimLaws.{leading_first, leading_split}
 use Rattle.litmus_reader.specs.declared.marks.Mark.TheVariants as mark
-use Rattle.litmus_reader.specs.Marks.{has_word, before_line, from_line}
+use Rattle.litmus_reader.specs.Marks.{has_token, before_line, from_line}
 use Rattle.litmus_reader.specs.Header.{has_name, is_header, behind_line, behind_header, behind_front, behind_brace}
 use Rattle.litmus_reader.specs.Shapes.{IsCut, IsFirst}
 use Rattle.litmus_reader.specs.Shapes.IsFirst.{here, below as further}
 use Rattle.litmus_reader.specs.Layout.{IsVisible, BeginsWith, BeginsCondition, IsHeader, IsLaidOut}
-use Rattle.litmus_reader.proofs.ShapeLaws.{none_passes, has_none, cut_found, cut_only, front_of, word_cut, word_only, visible_matches, brace_matches, condition_matches, first_found, first_only}
+use Rattle.litmus_reader.proofs.ShapeLaws.{none_passes, has_none, cut_found, cut_only, front_of, token_cut, word_only, visible_matches, brace_matches, condition_matches, first_found, first_only}
 
 -- the text from that line on begins so
 pub first_begins : (B : List ℕ → Type 0) (text above from : List ℕ) → IsFirst B text above from → B from
@@ -47,10 +47,10 @@ name_found (b ∷ text) h = go (without_front text) refl both.1
 header_found : (line : List ℕ) → is_header line ≡ true → IsHeader line
 unfolding is_header
 header_found line h =
-    let both = and_parts (has_word (codes "RISCV") (without_front line)) (has_name (drop 5 (without_front line))) h in
+    let both = and_parts (has_token (codes "RISCV") (without_front line)) (has_name (drop 5 (without_front line))) h in
     let front = leading_split is_blank line in
     let name = name_found (drop 5 (without_front line)) both.1 in
-    let whole : without_front line ≡ codes "RISCV" ++ name.b ∷ (name.gap ++ name.c ∷ name.rest) = word_cut (codes "RISCV") (without_front line) both.0 ∙ ap (λ (ys : List ℕ). codes "RISCV" ++ ys) name.whole in
+    let whole : without_front line ≡ codes "RISCV" ++ name.b ∷ (name.gap ++ name.c ∷ name.rest) = token_cut (codes "RISCV") (without_front line) both.0 ∙ ap (λ (ys : List ℕ). codes "RISCV" ++ ys) name.whole in
     (front.0, name.gap, name.rest, name.b, name.c, front.1, name.blanks, name.solid, front.2 ∙ ap (λ (ys : List ℕ). front.0 ++ ys) whole)
 
 header_only : (line : List ℕ) → IsHeader line → is_header line ≡ true
@@ -59,7 +59,7 @@ header_only line (blanks, gap, rest, b, c, are, apart, solid, whole) =
     let front : without_front line ≡ codes "RISCV" ++ b ∷ (gap ++ c ∷ rest) = ap without_front whole ∙ front_of blanks 82 (codes "ISCV" ++ b ∷ (gap ++ c ∷ rest)) are refl in
     let some : (length (c ∷ rest) == 0) ≡ false = ne_eqb (length (c ∷ rest)) 0 (λ none. omega (arith, none)) in
     let name : has_name (drop 5 (without_front line)) ≡ true = rw (front, apart.0, front_of gap c rest apart.1 solid, some) refl in
-    and_from (has_word (codes "RISCV") (without_front line)) (has_name (drop 5 (without_front line))) (word_only 82 (codes "ISCV") line refl (blanks, b ∷ (gap ++ c ∷ rest), are, whole)) name
+    and_from (has_token (codes "RISCV") (without_front line)) (has_name (drop 5 (without_front line))) (word_only 82 (codes "ISCV") line refl (blanks, b ∷ (gap ++ c ∷ rest), are, whole)) name
 
 record Headed (text below : List ℕ) : Type 0 where
   headed : List ℕ

@@ -7,8 +7,8 @@ use Rattle.std.proofs.lemmas.List.{append-nil}
 use Rattle.std.proofs.lemmas.List.Elements.{filter-append}
 use Rattle.std.proofs.lemmas.Slice.Eq.{bytes_eq-Decides}
 use Rattle.texts.proofs.ResultLaws.{ok_is, bind_ok}
-use Rattle.litmus_words.specs.Settings.{Value}
-use Rattle.litmus_words.specs.Settings.Value.{number, address_of}
+use Rattle.litmus_tokens.specs.Settings.{Value}
+use Rattle.litmus_tokens.specs.Settings.Value.{number, address_of}
 use Rattle.litmus_reader.specs.declared.faults.LitmusFault.{LitmusFault}
 use Rattle.litmus_reader.specs.Locations.{Names, index_from, joined, met, value_met}
 use Rattle.litmus_reader.specs.Openings.{each_once, name_of_value, IsAt, IsWorth}
@@ -24,15 +24,12 @@ without name names = filter (λ other. not (bytes_eq name other)) names
 same_bytes : (xs : List ℕ) → bytes_eq xs xs ≡ true
 same_bytes xs = (bytes_eq-Decides xs xs).1 refl
 
-are_same : (xs ys : List ℕ) → bytes_eq xs ys ≡ true → xs ≡ ys
-are_same xs ys e = (bytes_eq-Decides xs ys).0 e
-
 -- ---- what is left without a name
 
 has-without : (m name : List ℕ) (names : Names) → bytes_eq m name ≡ false → has (without m names) name ≡ has names name
 has-without m name [] other = refl
 has-without m name (x ∷ names) other = elim (cases_Bool (bytes_eq m x)) [
-  | inl same ↦ (let here : m ≡ x = are_same m x same in let apart : bytes_eq x name ≡ false = subst (λ (y : List ℕ). bytes_eq y name ≡ false) here other in rw (same, apart) (has-without m name names other))
+  | inl same ↦ (let here : m ≡ x = (bytes_eq-Decides m x).0 same in let apart : bytes_eq x name ≡ false = subst (λ (y : List ℕ). bytes_eq y name ≡ false) here other in rw (same, apart) (has-without m name names other))
   | inr kept ↦ rw kept (ap (λ (b : Bool). bytes_eq x name || b) (has-without m name names other))
 ]
 
@@ -42,14 +39,14 @@ gone m (x ∷ names) = elim (cases_Bool (bytes_eq m x)) [
   | inl same ↦ rw same (gone m names)
   | inr kept ↦ (
       elim (cases_Bool (bytes_eq x m)) [
-        | inl turned ↦ absurd (let here : x ≡ m = are_same x m turned in let f : bytes_eq m x ≡ true = subst (λ (y : List ℕ). bytes_eq m y ≡ true) (sym here) (same_bytes m) in let g : false ≡ true = sym kept ∙ f in cc)
+        | inl turned ↦ absurd (let here : x ≡ m = (bytes_eq-Decides x m).0 turned in let f : bytes_eq m x ≡ true = subst (λ (y : List ℕ). bytes_eq m y ≡ true) (sym here) (same_bytes m) in let g : false ≡ true = sym kept ∙ f in cc)
         | inr apart ↦ rw (kept, apart) (gone m names)
       ])
 ]
 
 none-without : (m name : List ℕ) (names : Names) → has names name ≡ false → has (without m names) name ≡ false
 none-without m name names none = elim (cases_Bool (bytes_eq m name)) [
-  | inl same ↦ (let here : m ≡ name = are_same m name same in subst (λ (y : List ℕ). has (without m names) y ≡ false) here (gone m names))
+  | inl same ↦ (let here : m ≡ name = (bytes_eq-Decides m name).0 same in subst (λ (y : List ℕ). has (without m names) y ≡ false) here (gone m names))
   | inr other ↦ has-without m name names other ∙ none
 ]
 
@@ -127,7 +124,7 @@ has_middle (first ∷ above) below name other none = elim (cases_Bool (bytes_eq 
 
 turned_apart : (a b : List ℕ) → bytes_eq a b ≡ false → bytes_eq b a ≡ false
 turned_apart a b apart = elim (cases_Bool (bytes_eq b a)) [
-  | inl same ↦ absurd (let here : b ≡ a = are_same b a same in let f : bytes_eq a b ≡ true = subst (λ (y : List ℕ). bytes_eq a y ≡ true) (sym here) (same_bytes a) in let g : false ≡ true = sym apart ∙ f in cc)
+  | inl same ↦ absurd (let here : b ≡ a = (bytes_eq-Decides b a).0 same in let f : bytes_eq a b ≡ true = subst (λ (y : List ℕ). bytes_eq a y ≡ true) (sym here) (same_bytes a) in let g : false ≡ true = sym apart ∙ f in cc)
   | inr other ↦ other
 ]
 
@@ -192,7 +189,7 @@ record Indexed (at : ℕ) (names : Names) (name : List ℕ) (index : ℕ) : Type
 indexed : (at : ℕ) (names : Names) (name : List ℕ) (index : ℕ) → index_from at names name ≡ Some index → Indexed at names name index
 indexed at [] name index e = absurd cc
 indexed at (other ∷ others) name index e = elim (cases_Bool (bytes_eq other name)) [
-  | inl same ↦ (let here : at ≡ index = some_index at index (rw same at e) in record { above = []; below = others; whole = ap (λ (x : List ℕ). x ∷ others) (are_same other name same); counted = omega (arith, here) })
+  | inl same ↦ (let here : at ≡ index = some_index at index (rw same at e) in record { above = []; below = others; whole = ap (λ (x : List ℕ). x ∷ others) ((bytes_eq-Decides other name).0 same); counted = omega (arith, here) })
   | inr apart ↦ (
       let rest = indexed (at + 1) others name index (rw apart at e) in
       record { above = other ∷ rest.above; below = rest.below; whole = ap (λ (xs : Names). other ∷ xs) rest.whole; counted = omega (arith, rest.counted) })

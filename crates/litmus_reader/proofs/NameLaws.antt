@@ -1,18 +1,18 @@
 -- The locations in settings have the shapes of names.
 use Rattle.std.proofs.Common.{◌≡◌, ℕ, Bool, true, false, List, [], ◌∷◌, Option, Some, None, refl, sym, subst, inl, inr}
 use Rattle.std.specs.Prelude.{◌==◌, if◌then◌else◌}
-use Rattle.litmus_words.specs.Settings.{Place, Value, Put, IsPlace, IsValue, IsSetting, IsDeclared, IsItem}
-use Rattle.litmus_words.specs.Settings.Place.{in_register, at_location}
-use Rattle.litmus_words.specs.Settings.Value.{number, address_of}
-use Rattle.litmus_words.specs.Reading.{setting_at}
-use Rattle.litmus_words.specs.Words.{Token, Beginning, nothing, begins, no_word, conjunction, disjunction, is_mark, behind_not, paired, told_atom, told_not, unmarked, begun, beginning_of}
+use Rattle.litmus_tokens.specs.Settings.{NamedPlace, Value, Put, IsNamedPlace, IsValue, IsSetting, IsDeclared, IsItem}
+use Rattle.litmus_tokens.specs.Settings.NamedPlace.{in_register, at_location}
+use Rattle.litmus_tokens.specs.Settings.Value.{number, address_of}
+use Rattle.litmus_tokens.specs.Reading.{setting_at}
+use Rattle.litmus_tokens.specs.Tokens.{Token, Beginning, nothing, begins, no_token, conjunction, disjunction, is_mark, behind_not, paired, told_atom, told_not, unmarked, begun, beginning_of}
 use Rattle.texts.specs.Cutting.{before, from_first, without_leading}
-use Rattle.litmus_words.proofs.SettingLaws.{setting_found}
+use Rattle.litmus_tokens.proofs.SettingLaws.{setting_found}
 use Rattle.litmus_reader.specs.Locations.{HasLocation, HasName, HasNames}
-use Rattle.litmus_reader.specs.Condition.{WordHasNames}
+use Rattle.litmus_reader.specs.Condition.{TokenHasNames}
 use Rattle.texts.specs.Pieces.{is_gap}
 
-place_names : (text : List ℕ) (place : Place) → IsPlace text place → HasLocation place
+place_names : (text : List ℕ) (place : NamedPlace) → IsNamedPlace text place → HasLocation place
 place_names text (in_register hart register) is = tt
 place_names text (at_location name) is = is.0
 
@@ -20,7 +20,7 @@ value_names : (text : List ℕ) (value : Value) → IsValue text value → HasNa
 value_names text (number n) is = tt
 value_names text (address_of name) is = is.0
 
-declared_names : (text : List ℕ) (place : Place) → IsDeclared text place → HasLocation place
+declared_names : (text : List ℕ) (place : NamedPlace) → IsDeclared text place → HasLocation place
 declared_names text (in_register hart register) is = tt
 declared_names text (at_location name) is = is.4
 
@@ -42,20 +42,20 @@ item_location text put is = (item_names text put is).0
 pub item_value : (text : List ℕ) (put : Put) → IsItem text put → HasName put.1
 item_value text put is = (item_names text put is).1
 
--- ---- words
+-- ---- tokens
 
 abbrev pub Named : Beginning → Type 0
 Named nothing = Unit {0}
-Named (begins token rest) = WordHasNames token
-Named no_word = Unit {0}
+Named (begins token rest) = TokenHasNames token
+Named no_token = Unit {0}
 
 either_named : (b : Bool) (x y : Beginning) → Named x → Named y → Named (if b then x else y)
 either_named true x y first second = first
 either_named false x y first second = second
 
-paired_named : (token : Token) (second : ℕ) (text : List ℕ) → WordHasNames token → Named (paired token second text)
+paired_named : (token : Token) (second : ℕ) (text : List ℕ) → TokenHasNames token → Named (paired token second text)
 paired_named token second [] names = tt
-paired_named token second (c ∷ rest) names = either_named (c == second) (begins token rest) no_word names tt
+paired_named token second (c ∷ rest) names = either_named (c == second) (begins token rest) no_token names tt
 
 atom_named : (o : Option Put) (rest : List ℕ) → ((put : Put) → o ≡ Some put → HasNames put) → Named (told_atom o rest)
 atom_named None rest names = tt
@@ -78,5 +78,5 @@ pub first_named : (text : List ℕ) → Named (beginning_of text)
 unfolding beginning_of
 first_named text = begun_named (without_leading is_gap text)
 
-pub word_named : (text rest : List ℕ) (token : Token) → begins token rest ≡ beginning_of text → WordHasNames token
-word_named text rest token is = let P : Beginning → Type 0 = λ b. Named b in subst P (sym is) (first_named text)
+pub token_named : (text rest : List ℕ) (token : Token) → begins token rest ≡ beginning_of text → TokenHasNames token
+token_named text rest token is = let P : Beginning → Type 0 = λ b. Named b in subst P (sym is) (first_named text)

@@ -10,7 +10,7 @@ use Rattle.texts.proofs.CuttingLaws.{before_stop, after_stop, decimal_none, digi
 use Rattle.texts.proofs.TrimLaws.{stripped_none, padded_stripped, stripped_padded}
 use Rattle.litmus_reader.specs.declared.faults.LitmusFault.{LitmusFault}
 use Rattle.litmus_reader.specs.declared.faults.LitmusFault.TheVariants.{TooMany}
-use Rattle.litmus_reader.specs.Rows.{is_blank_line, ended_by, row_in, cells_of, names_hart, name_harts, at_most_64, all_named, harts_of, harts_in}
+use Rattle.litmus_reader.specs.Rows.{is_blank_line, ended_by, row_in, cells_of, names_hart, name_harts, harts_within, all_named, harts_of, harts_in}
 use Rattle.litmus_reader.specs.Columns.{Cells, IsRow, AreNames}
 use Rattle.litmus_reader.proofs.ShapeLaws.{none_passes, has_none, parts_found, parts_only}
 
@@ -101,7 +101,7 @@ named_found cells harts e = elim (cases_Bool (name_harts 0 cells)) [
   | inr other ↦ absurd (let f = rw other at e in cc)
 ]
 
-few_found : (all harts : ℕ) → at_most_64 all ≡ Ok harts → (all ≡ harts) × (harts ≤ 64)
+few_found : (all harts : ℕ) → harts_within all ≡ Ok harts → (all ≡ harts) × (harts ≤ 64)
 few_found all harts e =
     let passed = guard_ok (ltb 64 all) TooMany all harts e in
     (passed.1, subst (λ (n : ℕ). n ≤ 64) passed.1 (ltb-false 64 all passed.0))
@@ -113,7 +113,7 @@ first_row_found line harts e = go (row_in line) refl e
     go : (o : Option (List ℕ)) → row_in line ≡ o → harts_of o ≡ Ok harts → FirstRow line harts
     go None none f = absurd cc
     go (Some row) read f =
-        let step = bind_ok (at_most_64 (length (cells_of row))) (λ (all : ℕ). all_named (cells_of row)) harts f in
+        let step = bind_ok (harts_within (length (cells_of row))) (λ (all : ℕ). all_named (cells_of row)) harts f in
         let few = few_found (length (cells_of row)) step.0 step.1 in
         let named = named_found (cells_of row) harts step.2 in
         record { names = cells_of row; row = row_found line row read; named = named.0; counted = named.1; few = subst (λ (n : ℕ). n ≤ 64) (sym few.0 ∙ named.1) few.1 }

@@ -11,7 +11,7 @@ use Rattle.texts.proofs.CuttingLaws.{before_none, after_none, before_stop, after
 use Rattle.texts.proofs.TrimLaws.{leading_first, leading_past, leading_split}
 use Rattle.litmus_reader.specs.declared.marks.Mark.{Mark}
 use Rattle.litmus_reader.specs.declared.marks.Mark.TheVariants as mark
-use Rattle.litmus_reader.specs.Marks.{has_word, is_visible, is_brace, is_unread, is_condition, begins, before_next, from_next, before_line, from_line}
+use Rattle.litmus_reader.specs.Marks.{has_token, is_visible, is_brace, is_unread, is_condition, begins, before_next, from_next, before_line, from_line}
 use Rattle.litmus_reader.specs.Shapes.{HasNo, AreParts, IsCut, IsFirst, NoneBegins}
 use Rattle.litmus_reader.specs.Shapes as shape
 use Rattle.litmus_reader.specs.Shapes.IsFirst.{here, below as further}
@@ -87,18 +87,18 @@ visible_matches = record {
   only = λ text is. rw (is.6, front_of is.0 is.2 is.1 is.3 is.4, is.5) refl;
 }
 
-pub word_cut : (word line : List ℕ) → has_word word line ≡ true → line ≡ word ++ drop (length word) line
-word_cut word line h = (starts_is Decides-eqb line word (has_word word line) refl).0 h
+pub token_cut : (word line : List ℕ) → has_token word line ≡ true → line ≡ word ++ drop (length word) line
+token_cut word line h = (starts_is Decides-eqb line word (has_token word line) refl).0 h
 
-pub word_found : (word text : List ℕ) → has_word word (without_front text) ≡ true → BeginsWith word text
+pub word_found : (word text : List ℕ) → has_token word (without_front text) ≡ true → BeginsWith word text
 word_found word text h =
     let front = leading_split is_blank text in
-    (front.0, drop (length word) (without_front text), front.1, front.2 ∙ ap (λ (ys : List ℕ). front.0 ++ ys) (word_cut word (without_front text) h))
+    (front.0, drop (length word) (without_front text), front.1, front.2 ∙ ap (λ (ys : List ℕ). front.0 ++ ys) (token_cut word (without_front text) h))
 
-pub word_only : (c : ℕ) (letters text : List ℕ) → is_blank c ≡ false → BeginsWith (c ∷ letters) text → has_word (c ∷ letters) (without_front text) ≡ true
+pub word_only : (c : ℕ) (letters text : List ℕ) → is_blank c ≡ false → BeginsWith (c ∷ letters) text → has_token (c ∷ letters) (without_front text) ≡ true
 word_only c letters text solid is =
     let front : without_front text ≡ (c ∷ letters) ++ is.1 = ap without_front is.3 ∙ front_of is.0 c (letters ++ is.1) is.2 solid in
-    (starts_is Decides-eqb (without_front text) (c ∷ letters) (has_word (c ∷ letters) (without_front text)) refl).1 is.1 front
+    (starts_is Decides-eqb (without_front text) (c ∷ letters) (has_token (c ∷ letters) (without_front text)) refl).1 is.1 front
 
 split_brace : (text kept : List ℕ) → without_front text ≡ kept → is_brace kept ≡ true → BeginsWith (codes "{") text
 split_brace text [] e h = absurd cc
@@ -114,15 +114,15 @@ brace_matches = record {
 }
 
 unread_found : (text : List ℕ) → is_unread (without_front text) ≡ true → BeginsUnread text
-unread_found text h = elim (or_cases (has_word (codes "locations") (without_front text)) (has_word (codes "filter") (without_front text)) h) [
+unread_found text h = elim (or_cases (has_token (codes "locations") (without_front text)) (has_token (codes "filter") (without_front text)) h) [
   | inl locations ↦ inl (word_found (codes "locations") text locations)
   | inr filter ↦ inr (word_found (codes "filter") text filter)
 ]
 
 unread_only : (text : List ℕ) → BeginsUnread text → is_unread (without_front text) ≡ true
 unread_only text is = elim is [
-  | inl locations ↦ or_left (has_word (codes "locations") (without_front text)) (has_word (codes "filter") (without_front text)) (word_only 108 (codes "ocations") text refl locations)
-  | inr filter ↦ or_right (has_word (codes "locations") (without_front text)) (has_word (codes "filter") (without_front text)) (word_only 102 (codes "ilter") text refl filter)
+  | inl locations ↦ or_left (has_token (codes "locations") (without_front text)) (has_token (codes "filter") (without_front text)) (word_only 108 (codes "ocations") text refl locations)
+  | inr filter ↦ or_right (has_token (codes "locations") (without_front text)) (has_token (codes "filter") (without_front text)) (word_only 102 (codes "ilter") text refl filter)
 ]
 
 pub unread_matches : Matches mark.Unread BeginsUnread
@@ -131,7 +131,7 @@ unread_matches = record { found = unread_found; only = unread_only }
 
 -- the line begins with these letters
 abbrev begun_by : List ℕ → List ℕ → Bool
-begun_by word text = has_word word (without_front text)
+begun_by word text = has_token word (without_front text)
 
 -- it begins as a condition that isn't of all final states
 abbrev exists_or_not : List ℕ → Bool

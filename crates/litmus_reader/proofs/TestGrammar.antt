@@ -9,7 +9,7 @@ use Rattle.step_machine.specs.History.{HartStart}
 use Rattle.litmus.specs.declared.verdict.Quantifier.{Quantifier}
 use Rattle.litmus.specs.Formulas.{Formula}
 use Rattle.litmus.specs.Questions.{Question, question_of}
-use Rattle.litmus_words.specs.Settings.{Put}
+use Rattle.litmus_tokens.specs.Settings.{Put}
 use Rattle.litmus_reader.specs.declared.faults.LitmusFault.{LitmusFault}
 use Rattle.texts.specs.declared.errors.AtLine.{AtLine}
 use Rattle.texts.specs.declared.errors.TextError.{TextError}

@@ -5,19 +5,19 @@ use Rattle.std.specs.Str.{bytes_eq}
 use Rattle.std.proofs.lemmas.List.Elements.{All-append, All-cons, All-nil}
 use Rattle.texts.specs.Results.{◌>>=◌, Gives}
 use Rattle.rv_decode.specs.declared.instruction.Reg.{Reg}
-use Rattle.litmus.specs.declared.words.Place.{Place}
-use Rattle.litmus.specs.declared.words.Place.TheVariants as place
-use Rattle.litmus.specs.declared.words.Token.{Token}
-use Rattle.litmus.specs.declared.words.Token.TheVariants as token
+use Rattle.litmus.specs.declared.symbols.Place.{Place}
+use Rattle.litmus.specs.declared.symbols.Place.TheVariants as place
+use Rattle.litmus.specs.declared.symbols.Symbol.{Symbol}
+use Rattle.litmus.specs.declared.symbols.Symbol.TheVariants as symbol
 use Rattle.litmus.specs.Formulas.{Formula, places}
 use Rattle.litmus.specs.Grammar.{Level, operand, conjunction, disjunction, Stands}
 use Rattle.litmus.specs.Grammar.Stands.{atom, negated, enclosed, one_operand, joined, one_conjunction, parted}
-use Rattle.litmus.specs.Drafting.{Stage, stage_after, with_word, or_misplaced, told, finished}
+use Rattle.litmus.specs.Drafting.{Stage, stage_after, with_symbol, or_misplaced, told, finished}
 use Rattle.litmus.specs.Questions.{IsThere}
 use Rattle.litmus.proofs.FrontLaws.{finished_found}
-use Rattle.litmus_words.specs.Settings as setting
-use Rattle.litmus_words.specs.Words as word
-use Rattle.litmus_words.specs.Words.{Words, words_of}
+use Rattle.litmus_tokens.specs.Settings as setting
+use Rattle.litmus_tokens.specs.Tokens as token
+use Rattle.litmus_tokens.specs.Tokens.{Tokens, tokens_of}
 use Rattle.litmus_reader.specs.declared.condition.Question.{Question}
 use Rattle.litmus_reader.specs.declared.faults.LitmusFault.{LitmusFault}
 use Rattle.texts.specs.declared.errors.TextError.{TextError}
@@ -27,19 +27,19 @@ use Rattle.litmus_reader.specs.Faults.{fault_in}
 use Rattle.litmus_reader.specs.Marks.{before_line, from_line}
 use Rattle.litmus_reader.specs.Locations.{Names, index_from, met, value_met}
 use Rattle.litmus_reader.specs.Locations as locations
-use Rattle.litmus_reader.specs.Condition.{Quantified, Asked, Condition, quantifier_in, place_met, atom_met, token_met, as_condition, words_told, none_unread, behind_quantifier, condition_in, condition_of}
+use Rattle.litmus_reader.specs.Condition.{Quantified, Asked, Condition, quantifier_in, place_met, atom_met, token_met, as_condition, tokens_told, none_unread, behind_quantifier, condition_in, condition_of}
 
--- ---- words whose places are there
+-- ---- symbols whose places are there
 
-abbrev pub TokenThere : (harts n : ℕ) → Token → Type 0
-TokenThere harts n (token.Is p value) = IsThere harts n p
-TokenThere harts n token.Not = Unit {0}
-TokenThere harts n token.And = Unit {0}
-TokenThere harts n token.Or = Unit {0}
-TokenThere harts n token.Open = Unit {0}
-TokenThere harts n token.Close = Unit {0}
+abbrev pub TokenThere : (harts n : ℕ) → Symbol → Type 0
+TokenThere harts n (symbol.Is p value) = IsThere harts n p
+TokenThere harts n symbol.Not = Unit {0}
+TokenThere harts n symbol.And = Unit {0}
+TokenThere harts n symbol.Or = Unit {0}
+TokenThere harts n symbol.Open = Unit {0}
+TokenThere harts n symbol.Close = Unit {0}
 
-abbrev pub AllThere : (harts n : ℕ) → List Token → Type 0
+abbrev pub AllThere : (harts n : ℕ) → List Symbol → Type 0
 AllThere harts n [] = Unit {0}
 AllThere harts n (t ∷ ts) = TokenThere harts n t × AllThere harts n ts
 
@@ -47,40 +47,40 @@ place_more : (harts n m : ℕ) (p : Place) → n ≤ m → IsThere harts n p →
 place_more harts n m (place.Register h i) more there = there
 place_more harts n m (place.Word a) more there = let within = there.1 in (there.0, omega (arith, within))
 
-token_more : (harts n m : ℕ) (t : Token) → n ≤ m → TokenThere harts n t → TokenThere harts m t
-token_more harts n m (token.Is p value) more there = place_more harts n m p more there
-token_more harts n m token.Not more there = tt
-token_more harts n m token.And more there = tt
-token_more harts n m token.Or more there = tt
-token_more harts n m token.Open more there = tt
-token_more harts n m token.Close more there = tt
+token_more : (harts n m : ℕ) (t : Symbol) → n ≤ m → TokenThere harts n t → TokenThere harts m t
+token_more harts n m (symbol.Is p value) more there = place_more harts n m p more there
+token_more harts n m symbol.Not more there = tt
+token_more harts n m symbol.And more there = tt
+token_more harts n m symbol.Or more there = tt
+token_more harts n m symbol.Open more there = tt
+token_more harts n m symbol.Close more there = tt
 
-all_more : (harts n m : ℕ) (ts : List Token) → n ≤ m → AllThere harts n ts → AllThere harts m ts
+all_more : (harts n m : ℕ) (ts : List Symbol) → n ≤ m → AllThere harts n ts → AllThere harts m ts
 all_more harts n m [] more there = tt
 all_more harts n m (t ∷ ts) more there = (token_more harts n m t more there.0, all_more harts n m ts more there.1)
 
-there_with : (harts n : ℕ) (ts : List Token) (t : Token) → AllThere harts n ts → TokenThere harts n t → AllThere harts n (ts ++ t ∷ [])
+there_with : (harts n : ℕ) (ts : List Symbol) (t : Symbol) → AllThere harts n ts → TokenThere harts n t → AllThere harts n (ts ++ t ∷ [])
 there_with harts n [] t there last = (last, tt)
 there_with harts n (first ∷ ts) t there last = (there.0, there_with harts n ts t there.1 last)
 
-front_there : (harts n : ℕ) (xs ys : List Token) → AllThere harts n (xs ++ ys) → AllThere harts n xs
+front_there : (harts n : ℕ) (xs ys : List Symbol) → AllThere harts n (xs ++ ys) → AllThere harts n xs
 front_there harts n [] ys there = tt
 front_there harts n (x ∷ xs) ys there = (there.0, front_there harts n xs ys there.1)
 
-back_there : (harts n : ℕ) (xs ys : List Token) → AllThere harts n (xs ++ ys) → AllThere harts n ys
+back_there : (harts n : ℕ) (xs ys : List Symbol) → AllThere harts n (xs ++ ys) → AllThere harts n ys
 back_there harts n [] ys there = there
 back_there harts n (x ∷ xs) ys there = back_there harts n xs ys there.1
 
-formula_there : (harts n : ℕ) (level : Level) (words : List Token) (f : Formula) → Stands level words f → AllThere harts n words → All (IsThere harts n) (places f)
+formula_there : (harts n : ℕ) (level : Level) (words : List Symbol) (f : Formula) → Stands level words f → AllThere harts n words → All (IsThere harts n) (places f)
 formula_there harts n operand words f (atom p value) there = All-cons (IsThere harts n) p [] there.0 (All-nil (IsThere harts n))
 formula_there harts n operand words f (negated inner g stands) there = formula_there harts n operand inner g stands there.1
-formula_there harts n operand words f (enclosed inner g stands) there = formula_there harts n disjunction inner g stands (front_there harts n inner (token.Close ∷ []) there.1)
+formula_there harts n operand words f (enclosed inner g stands) there = formula_there harts n disjunction inner g stands (front_there harts n inner (symbol.Close ∷ []) there.1)
 formula_there harts n conjunction words f (one_operand inner g stands) there = formula_there harts n operand inner g stands there
 formula_there harts n conjunction words f (joined left right g h stands_left stands_right) there =
-    All-append (IsThere harts n) (places g) (places h) (formula_there harts n conjunction left g stands_left (front_there harts n left (token.And ∷ right) there)) (formula_there harts n operand right h stands_right (back_there harts n left (token.And ∷ right) there).1)
+    All-append (IsThere harts n) (places g) (places h) (formula_there harts n conjunction left g stands_left (front_there harts n left (symbol.And ∷ right) there)) (formula_there harts n operand right h stands_right (back_there harts n left (symbol.And ∷ right) there).1)
 formula_there harts n disjunction words f (one_conjunction inner g stands) there = formula_there harts n conjunction inner g stands there
 formula_there harts n disjunction words f (parted left right g h stands_left stands_right) there =
-    All-append (IsThere harts n) (places g) (places h) (formula_there harts n disjunction left g stands_left (front_there harts n left (token.Or ∷ right) there)) (formula_there harts n conjunction right h stands_right (back_there harts n left (token.Or ∷ right) there).1)
+    All-append (IsThere harts n) (places g) (places h) (formula_there harts n disjunction left g stands_left (front_there harts n left (symbol.Or ∷ right) there)) (formula_there harts n conjunction right h stands_right (back_there harts n left (symbol.Or ∷ right) there).1)
 
 -- ---- locations
 
@@ -131,60 +131,60 @@ register_met : (harts hart : ℕ) (names : Names) (register : Reg) (b : Bool) (e
 register_met harts hart names register true e within = ((ltb-true hart harts within, register.below_32), omega arith)
 register_met harts hart names register false e within = tt
 
-place_there : (harts : ℕ) (names : Names) (p : setting.Place) → IfOk (place_met harts names p) (PlaceMet harts names)
+place_there : (harts : ℕ) (names : Names) (p : setting.NamedPlace) → IfOk (place_met harts names p) (PlaceMet harts names)
 unfolding place_met
-place_there harts names (setting.Place.in_register hart register) = register_met harts hart names register (nat_lt hart harts) _ refl
-place_there harts names (setting.Place.at_location name) = after_ok (Met names) (PlaceMet harts names) (met names name) _ (met_there names name) (λ found there. ((omega arith, omega (arith, there.0)), there.1))
+place_there harts names (setting.NamedPlace.in_register hart register) = register_met harts hart names register (nat_lt hart harts) _ refl
+place_there harts names (setting.NamedPlace.at_location name) = after_ok (Met names) (PlaceMet harts names) (met names name) _ (met_there names name) (λ found there. ((omega arith, omega (arith, there.0)), there.1))
 
-abbrev TokenMet : ℕ → Names → (Token × Names) → Type 0
+abbrev TokenMet : ℕ → Names → (Symbol × Names) → Type 0
 TokenMet harts names found = TokenThere harts (length found.1) found.0 × (length names ≤ length found.1)
 
 atom_there : (harts : ℕ) (names : Names) (put : setting.Put) → IfOk (atom_met harts names put) (TokenMet harts names)
 unfolding atom_met
 atom_there harts names put = after_ok (PlaceMet harts names) (TokenMet harts names) (place_met harts names put.0) _ (place_there harts names put.0) (λ asked here. after_ok (Kept asked.1) (TokenMet harts names) (value_met asked.1 put.1) _ (value_kept asked.1 put.1) (λ value kept. (place_more harts (length asked.1) (length value.1) asked.0 kept here.0, omega (arith, kept, here.1))))
 
-token_there : (harts : ℕ) (names : Names) (t : word.Token) → IfOk (token_met harts names t) (TokenMet harts names)
+token_there : (harts : ℕ) (names : Names) (t : token.Token) → IfOk (token_met harts names t) (TokenMet harts names)
 unfolding token_met
-token_there harts names (word.Token.atom put) = atom_there harts names put
-token_there harts names word.Token.negation = (tt, omega arith)
-token_there harts names word.Token.conjunction = (tt, omega arith)
-token_there harts names word.Token.disjunction = (tt, omega arith)
-token_there harts names word.Token.opening = (tt, omega arith)
-token_there harts names word.Token.closing = (tt, omega arith)
+token_there harts names (token.Token.atom put) = atom_there harts names put
+token_there harts names token.Token.negation = (tt, omega arith)
+token_there harts names token.Token.conjunction = (tt, omega arith)
+token_there harts names token.Token.disjunction = (tt, omega arith)
+token_there harts names token.Token.opening = (tt, omega arith)
+token_there harts names token.Token.closing = (tt, omega arith)
 
--- ---- all words of a condition
+-- ---- all tokens of a condition
 
 abbrev Fine : (harts : ℕ) → Names → Asked → Type 0
 Fine harts names asked = AllThere harts (length asked.1) asked.0 × (length names ≤ length asked.1)
 
-pushed : (harts n : ℕ) (words : List Token) (t : Token) (o : Option Stage) → AllThere harts n words → TokenThere harts n t → IfOk (as_condition (or_misplaced (with_word words t o))) (λ more. AllThere harts n more)
+pushed : (harts n : ℕ) (words : List Symbol) (t : Symbol) (o : Option Stage) → AllThere harts n words → TokenThere harts n t → IfOk (as_condition (or_misplaced (with_symbol words t o))) (λ more. AllThere harts n more)
 pushed harts n words t None there last = tt
 pushed harts n words t (Some stage) there last = there_with harts n words t there last
 
-told_there : (harts n : ℕ) (words : List Token) (t : Token) → AllThere harts n words → TokenThere harts n t → IfOk (as_condition (told words t)) (λ more. AllThere harts n more)
+told_there : (harts n : ℕ) (words : List Symbol) (t : Symbol) → AllThere harts n words → TokenThere harts n t → IfOk (as_condition (told words t)) (λ more. AllThere harts n more)
 unfolding told
 told_there harts n words t there last = pushed harts n words t (stage_after (words ++ t ∷ [])) there last
 
-words_there : (harts : ℕ) (names : Names) (so_far : Asked) (words : Words) → Fine harts names so_far → IfOk (words_told harts so_far words) (Fine harts names)
-words_there harts names so_far word.Words.ended fine = fine
-words_there harts names so_far word.Words.broken fine = tt
-words_there harts names so_far (word.Words.word first others) fine =
+tokens_there : (harts : ℕ) (names : Names) (so_far : Asked) (words : Tokens) → Fine harts names so_far → IfOk (tokens_told harts so_far words) (Fine harts names)
+tokens_there harts names so_far token.Tokens.ended fine = fine
+tokens_there harts names so_far token.Tokens.broken fine = tt
+tokens_there harts names so_far (token.Tokens.more first others) fine =
     after_ok (TokenMet harts so_far.1) (Fine harts names) (token_met harts so_far.1 first) _ (token_there harts so_far.1 first) (λ known here.
     after_ok (λ more. AllThere harts (length known.1) more) (Fine harts names) (as_condition (told so_far.0 known.0)) _
     (told_there harts (length known.1) so_far.0 known.0 (all_more harts (length so_far.1) (length known.1) so_far.0 here.1 fine.0) here.0)
-    (λ more there. words_there harts names (more, known.1) others (there, omega (arith, here.1, fine.1))))
+    (λ more there. tokens_there harts names (more, known.1) others (there, omega (arith, here.1, fine.1))))
 
 abbrev pub AsksThere : (harts : ℕ) → Names → Condition → Type 0
 AsksThere harts names asked = All (IsThere harts (length asked.names)) (places asked.formula) × (length names ≤ length asked.names)
 
-finished_there : (harts n : ℕ) (words : List Token) (r : Result Formula (Unit {0})) → finished words ≡ r → AllThere harts n words → IfOk (as_condition r) (λ f. All (IsThere harts n) (places f))
+finished_there : (harts n : ℕ) (words : List Symbol) (r : Result Formula (Unit {0})) → finished words ≡ r → AllThere harts n words → IfOk (as_condition r) (λ f. All (IsThere harts n) (places f))
 finished_there harts n words (Ok f) done there = formula_there harts n disjunction words f (finished_found words f done) there
 finished_there harts n words (Err misplaced) done there = tt
 
 behind_there : (harts : ℕ) (names : Names) (text : List ℕ) (o : Option Quantified) → IfOk (behind_quantifier harts names text o) (AsksThere harts names)
 behind_there harts names text None = tt
 behind_there harts names text (Some quantified) =
-    after_ok (Fine harts names) (AsksThere harts names) (words_told harts ([], names) (words_of quantified.1)) _ (words_there harts names ([], names) (words_of quantified.1) (tt, omega arith)) (λ asked fine.
+    after_ok (Fine harts names) (AsksThere harts names) (tokens_told harts ([], names) (tokens_of quantified.1)) _ (tokens_there harts names ([], names) (tokens_of quantified.1) (tt, omega arith)) (λ asked fine.
     after_ok (λ _. Unit {0}) (AsksThere harts names) (none_unread (from_line Unread text)) _ (none_fine (from_line Unread text)) (λ end _.
     after_ok (λ f. All (IsThere harts (length asked.1)) (places f)) (AsksThere harts names) (as_condition (finished asked.0)) _ (finished_there harts (length asked.1) asked.0 (finished asked.0) refl fine.0) (λ f there. (there, fine.1))))
   where

@@ -9,6 +9,7 @@ use Rattle.assembler.specs.Program.{AreLines, AreInstrs}
 use Rattle.litmus_reader.specs.Table.{Code}
 use Rattle.litmus_reader.specs.Shapes.{HasNo, AreParts, IsCut, IsFirst}
 use Rattle.litmus_reader.specs.Layout.{IsVisible}
+use Rattle.step_machine.specs.declared.opening.TheConstants.{MAX_HARTS}
 
 abbrev pub Cells : Type 0
 Cells = List (List ℕ)
@@ -41,7 +42,7 @@ pub record IsTable (table : List ℕ) (harts : ℕ) (rows : List Cells) : Type 0
   pub row : IsRow first names
   pub named : AreNames 0 names
   pub counted : length names ≡ harts
-  pub few : harts ≤ 64
+  pub few : harts ≤ MAX_HARTS
   pub parted : AreParts 10 below lines
   pub written : AreRows harts lines rows
 
@@ -50,5 +51,5 @@ abbrev pub column_of : ℕ → List Cells → List (List ℕ)
 column_of hart rows = map (λ (cells : Cells). slice_index_or cells hart []) rows
 
 -- the hart's cells are the lines of a program of these instructions
-abbrev pub IsCode : List (List ℕ) → Code → Type 0
-IsCode cells code = (all : List Line) × (instrs : List Instr) × AreLines cells all × AreInstrs all instrs × (code ≡ map Some instrs)
+abbrev pub IsColumnCode : List (List ℕ) → Code → Type 0
+IsColumnCode cells code = (all : List Line) × (instrs : List Instr) × AreLines cells all × AreInstrs all instrs × (code ≡ map Some instrs)

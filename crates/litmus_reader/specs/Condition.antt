@@ -1,24 +1,24 @@
--- The condition: a quantifier, and words up to the end of the text.
+-- The condition: a quantifier, and tokens up to the end of the text.
 use Rattle.std.specs.Prelude.{ℕ, ◌*◌, nat_lt, List, [], drop, Option, None, Some, Result, Ok, Err, if◌then◌else◌, codes}
-use Rattle.texts.specs.Results.{◌>>=◌}
+use Rattle.texts.specs.Results.{◌>>=◌, map_err}
 use Rattle.texts.specs.Cutting.{without_front}
 use Rattle.litmus.specs.declared.verdict.Quantifier.{Quantifier}
 use Rattle.litmus.specs.declared.verdict.Quantifier.TheVariants.{Exists, NotExists, ForAll}
-use Rattle.litmus.specs.declared.words.Place.{Place}
-use Rattle.litmus.specs.declared.words.Place.TheVariants as place
-use Rattle.litmus.specs.declared.words.Token.{Token}
-use Rattle.litmus.specs.declared.words.Token.TheVariants as token
+use Rattle.litmus.specs.declared.symbols.Place.{Place}
+use Rattle.litmus.specs.declared.symbols.Place.TheVariants as place
+use Rattle.litmus.specs.declared.symbols.Symbol.{Symbol}
+use Rattle.litmus.specs.declared.symbols.Symbol.TheVariants as symbol
 use Rattle.litmus.specs.Formulas.{Formula}
 use Rattle.litmus.specs.Drafting.{told, finished}
-use Rattle.litmus_words.specs.Settings as setting
-use Rattle.litmus_words.specs.Words as word
-use Rattle.litmus_words.specs.Words.{Words, words_of}
+use Rattle.litmus_tokens.specs.Settings as setting
+use Rattle.litmus_tokens.specs.Tokens as token
+use Rattle.litmus_tokens.specs.Tokens.{Tokens, tokens_of}
 use Rattle.litmus_reader.specs.declared.condition.Quantified as code
 use Rattle.litmus_reader.specs.declared.condition.Question as question
 use Rattle.litmus_reader.specs.declared.faults.LitmusFault.{LitmusFault}
 use Rattle.litmus_reader.specs.declared.faults.LitmusFault.TheVariants.{BadCondition}
 use Rattle.litmus_reader.specs.declared.marks.Mark.TheVariants.{Unread}
-use Rattle.litmus_reader.specs.Marks.{has_word, before_line, from_line}
+use Rattle.litmus_reader.specs.Marks.{has_token, before_line, from_line}
 use Rattle.litmus_reader.specs.Locations.{Names, met, value_met, HasNames}
 
 -- the quantifier and what follows it
@@ -27,9 +27,9 @@ Quantified = Quantifier × List ℕ
 
 abbrev pub quantifier_of : List ℕ → Option Quantified
 quantifier_of line =
-    if has_word (codes "exists") line then Some (Exists, drop 6 line) else (
-    if has_word (codes "~exists") line then Some (NotExists, drop 7 line) else (
-    if has_word (codes "forall") line then Some (ForAll, drop 6 line) else
+    if has_token (codes "exists") line then Some (Exists, drop 6 line) else (
+    if has_token (codes "~exists") line then Some (NotExists, drop 7 line) else (
+    if has_token (codes "forall") line then Some (ForAll, drop 6 line) else
     None))
 
 -- the quantifier that the text's first letters are
@@ -37,44 +37,43 @@ unfoldable pub quantifier_in : List ℕ → Option Quantified
 quantifier_in text = quantifier_of (without_front text)
 
 -- the place that an atom asks for; its hart has to be there
-unfoldable pub place_met : (harts : ℕ) → Names → setting.Place → Result (Place × Names) LitmusFault
-place_met harts names (setting.Place.in_register hart register) = if nat_lt hart harts then Ok (place.Register hart register.number, names) else Err BadCondition
-place_met harts names (setting.Place.at_location name) = do
+unfoldable pub place_met : (harts : ℕ) → Names → setting.NamedPlace → Result (Place × Names) LitmusFault
+place_met harts names (setting.NamedPlace.in_register hart register) = if nat_lt hart harts then Ok (place.Register hart register.number, names) else Err BadCondition
+place_met harts names (setting.NamedPlace.at_location name) = do
   found ← met names name
   Ok (place.Word (4 * found.0), found.1)
 
-unfoldable pub atom_met : (harts : ℕ) → Names → setting.Put → Result (Token × Names) LitmusFault
+unfoldable pub atom_met : (harts : ℕ) → Names → setting.Put → Result (Symbol × Names) LitmusFault
 atom_met harts names put = do
   asked ← place_met harts names put.0
   value ← value_met asked.1 put.1
-  Ok (token.Is asked.0 value.0, value.1)
+  Ok (symbol.Is asked.0 value.0, value.1)
 
--- the word with its place known
-unfoldable pub token_met : (harts : ℕ) → Names → word.Token → Result (Token × Names) LitmusFault
-token_met harts names (word.Token.atom put) = atom_met harts names put
-token_met harts names word.Token.negation = Ok (token.Not, names)
-token_met harts names word.Token.conjunction = Ok (token.And, names)
-token_met harts names word.Token.disjunction = Ok (token.Or, names)
-token_met harts names word.Token.opening = Ok (token.Open, names)
-token_met harts names word.Token.closing = Ok (token.Close, names)
+-- the token with its place known, a symbol
+unfoldable pub token_met : (harts : ℕ) → Names → token.Token → Result (Symbol × Names) LitmusFault
+token_met harts names (token.Token.atom put) = atom_met harts names put
+token_met harts names token.Token.negation = Ok (symbol.Not, names)
+token_met harts names token.Token.conjunction = Ok (symbol.And, names)
+token_met harts names token.Token.disjunction = Ok (symbol.Or, names)
+token_met harts names token.Token.opening = Ok (symbol.Open, names)
+token_met harts names token.Token.closing = Ok (symbol.Close, names)
 
 -- what the condition's own reader refuses
 abbrev pub as_condition : {A : Type 0} → Result A (Unit {0}) → Result A LitmusFault
-as_condition (Ok x) = Ok x
-as_condition (Err misplaced) = Err BadCondition
+as_condition result = map_err (λ misplaced. BadCondition) result
 
--- the words so far, and the names in them and in the init part
+-- the symbols so far, and the names in them and in the init part
 abbrev pub Asked : Type 0
-Asked = List Token × Names
+Asked = List Symbol × Names
 
--- all words of a text, behind those so far
-abbrev pub words_told : (harts : ℕ) → Asked → Words → Result Asked LitmusFault
-words_told harts so_far word.Words.ended = Ok so_far
-words_told harts so_far word.Words.broken = Err BadCondition
-words_told harts so_far (word.Words.word first others) = do
+-- all tokens of a text, behind those so far
+abbrev pub tokens_told : (harts : ℕ) → Asked → Tokens → Result Asked LitmusFault
+tokens_told harts so_far token.Tokens.ended = Ok so_far
+tokens_told harts so_far token.Tokens.broken = Err BadCondition
+tokens_told harts so_far (token.Tokens.more first others) = do
   known ← token_met harts so_far.1 first
   more ← as_condition (told so_far.0 known.0)
-  words_told harts (more, known.1) others
+  tokens_told harts (more, known.1) others
 
 abbrev pub none_unread : Option (List ℕ) → Result (Unit {0}) LitmusFault
 none_unread None = Ok tt
@@ -89,7 +88,7 @@ pub record Condition : Type 0 where
 abbrev pub behind_quantifier : (harts : ℕ) → Names → List ℕ → Option Quantified → Result Condition LitmusFault
 behind_quantifier harts names text None = Err BadCondition
 behind_quantifier harts names text (Some quantified) = do
-  asked ← words_told harts ([], names) (words_of quantified.1)
+  asked ← tokens_told harts ([], names) (tokens_of quantified.1)
   end ← none_unread (from_line Unread text)
   formula ← as_condition (finished asked.0)
   Ok (record { quantifier = quantified.0; formula = formula; names = asked.1 })
@@ -108,16 +107,16 @@ condition_at harts names (Some text) = condition_in harts names text
 
 abbrev pub quantified_of : Option code.Quantified → Option Quantified
 quantified_of None = None
-quantified_of (Some quantified) = Some (quantified.quantifier, quantified.words.now)
+quantified_of (Some quantified) = Some (quantified.quantifier, quantified.tokens.now)
 
 abbrev pub condition_of : Names → question.Question → Condition
 condition_of names asked = record { quantifier = asked.quantifier; formula = asked.condition; names = names }
 
--- the locations in a word have the shapes of names
-abbrev pub WordHasNames : word.Token → Type 0
-WordHasNames (word.Token.atom put) = HasNames put
-WordHasNames word.Token.negation = Unit {0}
-WordHasNames word.Token.conjunction = Unit {0}
-WordHasNames word.Token.disjunction = Unit {0}
-WordHasNames word.Token.opening = Unit {0}
-WordHasNames word.Token.closing = Unit {0}
+-- the locations in a token have the shapes of names
+abbrev pub TokenHasNames : token.Token → Type 0
+TokenHasNames (token.Token.atom put) = HasNames put
+TokenHasNames token.Token.negation = Unit {0}
+TokenHasNames token.Token.conjunction = Unit {0}
+TokenHasNames token.Token.disjunction = Unit {0}
+TokenHasNames token.Token.opening = Unit {0}
+TokenHasNames token.Token.closing = Unit {0}

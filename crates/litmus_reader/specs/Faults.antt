@@ -7,13 +7,13 @@ use Rattle.litmus_reader.specs.declared.faults.LitmusFault.{LitmusFault}
 use Rattle.litmus_reader.specs.declared.faults.LitmusFault.TheVariants.{NoHeader, BadInit, BadTable, BadInstr, BadCondition, TooMany}
 use Rattle.litmus_reader.specs.declared.refusals.AtLeft.{AtLeft}
 
-abbrev pub number_of : LitmusFault → ℕ
-number_of NoHeader = 21
-number_of BadInit = 22
-number_of BadTable = 23
-number_of BadInstr = 24
-number_of BadCondition = 25
-number_of TooMany = 26
+abbrev pub fault_number : LitmusFault → ℕ
+fault_number NoHeader = 21
+fault_number BadInit = 22
+fault_number BadTable = 23
+fault_number BadInstr = 24
+fault_number BadCondition = 25
+fault_number TooMany = 26
 
 -- the text's fault that an error tells; its line is no part of it
 abbrev pub fault_of : TextError (AtLine LitmusFault) → Option LitmusFault

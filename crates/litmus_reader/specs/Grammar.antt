@@ -1,25 +1,26 @@
 -- Which text stands for which test.
 use Rattle.std.specs.Prelude.{◌≡◌, ℕ, ◌+◌, ◌≤◌, List, [], ◌∷◌, ◌++◌, length, All}
 use Rattle.step_machine.specs.History.{HartStart}
-use Rattle.litmus.specs.declared.words.Token as known
+use Rattle.litmus.specs.declared.symbols.Symbol as known
 use Rattle.litmus.specs.Grammar.{IsConditionOf}
 use Rattle.litmus.specs.Questions.{Question}
-use Rattle.litmus_words.specs.Cleaning.{IsCleaned}
-use Rattle.litmus_words.specs.Settings.{Put}
-use Rattle.litmus_words.specs.Words.{Token}
+use Rattle.litmus.specs.declared.question.TheConstants.{MAX_LOCATIONS}
+use Rattle.litmus_tokens.specs.Cleaning.{IsCleaned}
+use Rattle.litmus_tokens.specs.Settings.{Put}
+use Rattle.litmus_tokens.specs.Tokens.{Token}
 use Rattle.litmus_reader.specs.Locations.{Names}
 use Rattle.litmus_reader.specs.Table.{IsPlainCode}
 use Rattle.litmus_reader.specs.Shapes.{AreParts}
 use Rattle.litmus_reader.specs.Layout.{IsLaidOut}
 use Rattle.litmus_reader.specs.Openings.{AreItems, names_in, each_once, AreRegisters, AreFirstWords, IsHartThere}
-use Rattle.litmus_reader.specs.Columns.{Cells, IsTable, column_of, IsCode}
+use Rattle.litmus_reader.specs.Columns.{Cells, IsTable, column_of, IsColumnCode}
 use Rattle.litmus_reader.specs.Asked.{IsQuestion, atoms_in, AreKnown}
 use Rattle.litmus_reader.specs.Reading.{HartContent, Content, content_of}
 
 -- each hart has its column's code and the registers that the items put; the first one is this hart
 abbrev pub AreHarts : Names → List Put → List Cells → (hart : ℕ) → List HartContent → Type 0
 AreHarts names puts rows hart [] = Unit {0}
-AreHarts names puts rows hart (first ∷ others) = IsCode (column_of hart rows) first.code × AreRegisters names puts hart first.registers × (first.inbox ≡ []) × AreHarts names puts rows (hart + 1) others
+AreHarts names puts rows hart (first ∷ others) = IsColumnCode (column_of hart rows) first.code × AreRegisters names puts hart first.registers × (first.inbox ≡ []) × AreHarts names puts rows (hart + 1) others
 
 -- A test's locations are those of its init part and its condition, in order of first appearance.
 pub record IsContent (text : List ℕ) (content : Content) : Type 0 where
@@ -30,7 +31,7 @@ pub record IsContent (text : List ℕ) (content : Content) : Type 0 where
   pub parts : List (List ℕ)
   pub puts : List Put
   pub rows : List Cells
-  pub words : List Token
+  pub tokens : List Token
   pub known : List known.Token
   pub cleaned : IsCleaned text clean
   pub laid_out : IsLaidOut clean init table asked
@@ -39,11 +40,11 @@ pub record IsContent (text : List ℕ) (content : Content) : Type 0 where
   pub tabled : IsTable table (length content.harts) rows
   pub harts : AreHarts content.names puts rows 0 content.harts
   pub there : All (IsHartThere (length content.harts)) puts
-  pub question : IsQuestion asked content.quantifier words
-  pub named : content.names ≡ each_once (names_in puts ++ names_in (atoms_in words))
-  pub few : length content.names ≤ 1024
+  pub question : IsQuestion asked content.quantifier tokens
+  pub named : content.names ≡ each_once (names_in puts ++ names_in (atoms_in tokens))
+  pub few : length content.names ≤ MAX_LOCATIONS
   pub first_words : AreFirstWords content.names puts content.words
-  pub all_known : AreKnown (length content.harts) content.names words known
+  pub all_known : AreKnown (length content.harts) content.names tokens known
   pub condition : IsConditionOf known content.condition
 
 -- each instruction has the one plain word that means it

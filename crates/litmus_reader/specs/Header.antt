@@ -5,7 +5,7 @@ use Rattle.texts.specs.Cutting.{before, after, is_byte, without_front}
 use Rattle.litmus_reader.specs.declared.faults.LitmusFault.{LitmusFault}
 use Rattle.litmus_reader.specs.declared.faults.LitmusFault.TheVariants.{NoHeader, BadInit}
 use Rattle.litmus_reader.specs.declared.marks.Mark.TheVariants.{Visible, Brace}
-use Rattle.litmus_reader.specs.Marks.{from_line, has_word}
+use Rattle.litmus_reader.specs.Marks.{from_line, has_token}
 
 -- blanks, and then a byte that isn't blank
 abbrev pub has_name : List ℕ → Bool
@@ -14,7 +14,7 @@ has_name (c ∷ rest) = is_blank c && not (length (without_front rest) == 0)
 
 -- `RISCV`, blanks and a name of one or more bytes that aren't blank; whatever follows isn't read
 unfoldable pub is_header : List ℕ → Bool
-is_header line = has_word (codes "RISCV") (without_front line) && has_name (drop 5 (without_front line))
+is_header line = has_token (codes "RISCV") (without_front line) && has_name (drop 5 (without_front line))
 
 abbrev pub behind_line : Option (List ℕ) → Result (List ℕ) LitmusFault
 behind_line None = Err NoHeader

@@ -3,9 +3,9 @@ use Rattle.std.specs.Prelude.{ℕ, List, [], ◌∷◌, ◌++◌, map, Option, N
 use Rattle.std.specs.List.{list_all}
 use Rattle.texts.specs.Results.{◌>>=◌}
 use Rattle.texts.specs.Pieces.{is_gap, pieces}
-use Rattle.litmus_words.specs.Settings.{Place, Put}
-use Rattle.litmus_words.specs.Settings.Place.{in_register, at_location}
-use Rattle.litmus_words.specs.Reading.{item_at}
+use Rattle.litmus_tokens.specs.Settings.{NamedPlace, Put}
+use Rattle.litmus_tokens.specs.Settings.NamedPlace.{in_register, at_location}
+use Rattle.litmus_tokens.specs.Reading.{item_at}
 use Rattle.litmus_reader.specs.declared.faults.LitmusFault.{LitmusFault}
 use Rattle.litmus_reader.specs.declared.faults.LitmusFault.TheVariants.{BadInit}
 use Rattle.litmus_reader.specs.declared.init.Item.{Item}
@@ -16,34 +16,34 @@ use Rattle.litmus_reader.specs.Locations.{Names, met, value_met}
 use Rattle.texts.specs.declared.pieces.Separators.TheVariants.{Byte}
 
 -- an item: where it puts which value
-pub record Setting : Type 0 where
+pub record InitItem : Type 0 where
   pub target : Target
   pub value : ℕ
 
 -- the items so far, and the names in them
-pub record Settings : Type 0 where
-  pub items : List Setting
+pub record InitItems : Type 0 where
+  pub items : List InitItem
   pub names : Names
 
-abbrev pub no_settings : Settings
-no_settings = record { items = []; names = [] }
+abbrev pub no_items : InitItems
+no_items = record { items = []; names = [] }
 
 -- what the code's items stand for, whose places are no part of them
-abbrev pub setting_of : Item → Setting
-setting_of item = record { target = item.target; value = item.value }
+abbrev pub item_of : Item → InitItem
+item_of item = record { target = item.target; value = item.value }
 
-abbrev pub settings_of : Init → Settings
-settings_of init = record { items = map setting_of init.items.items; names = init.locations }
+abbrev pub items_of : Init → InitItems
+items_of init = record { items = map item_of init.items.items; names = init.locations }
 
 -- where an item puts its value, with a location told by its index
-unfoldable pub target_met : Names → Place → Result (Target × Names) LitmusFault
+unfoldable pub target_met : Names → NamedPlace → Result (Target × Names) LitmusFault
 target_met names (in_register hart register) = Ok (Register hart register, names)
 target_met names (at_location name) = do
   found ← met names name
   Ok (Word found.0, found.1)
 
 -- the items with one more
-unfoldable pub item_told : Settings → Option Put → Result Settings LitmusFault
+unfoldable pub item_told : InitItems → Option Put → Result InitItems LitmusFault
 item_told so_far None = Err BadInit
 item_told so_far (Some put) = do
   target ← target_met so_far.names put.0
@@ -51,18 +51,18 @@ item_told so_far (Some put) = do
   Ok (record { items = so_far.items ++ (record { target = target.0; value = value.0 }) ∷ []; names = value.1 })
 
 -- an item, or nothing, between two `;`
-unfoldable pub piece_told : Settings → List ℕ → Result Settings LitmusFault
+unfoldable pub piece_told : InitItems → List ℕ → Result InitItems LitmusFault
 piece_told so_far piece = if list_all is_gap piece then Ok so_far else item_told so_far (item_at piece)
 
-abbrev pub pieces_told : Settings → List (List ℕ) → Result Settings LitmusFault
+abbrev pub pieces_told : InitItems → List (List ℕ) → Result InitItems LitmusFault
 pieces_told so_far [] = Ok so_far
 pieces_told so_far (piece ∷ pieces) = do
   more ← piece_told so_far piece
   pieces_told more pieces
 
 -- the items of a text
-unfoldable pub items_at : List ℕ → Result Settings LitmusFault
-items_at text = pieces_told no_settings (pieces (Byte 59) text)
+unfoldable pub items_at : List ℕ → Result InitItems LitmusFault
+items_at text = pieces_told no_items (pieces (Byte 59) text)
 
 -- what follows the init part; its `}` may be missing
 abbrev pub behind_init : Option (List ℕ) → Result (List ℕ) LitmusFault

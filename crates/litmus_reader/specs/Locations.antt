@@ -2,12 +2,13 @@
 use Rattle.std.specs.Prelude.{ℕ, IsTrue, ◌+◌, ◌*◌, nat_lt, List, [], ◌∷◌, ◌++◌, length, Option, None, Some, Result, Ok, Err, if◌then◌else◌}
 use Rattle.std.specs.Str.{bytes_eq}
 use Rattle.texts.specs.Results.{◌>>=◌}
-use Rattle.litmus_words.specs.Names.{is_name}
-use Rattle.litmus_words.specs.Settings.{Place, Value, Put}
-use Rattle.litmus_words.specs.Settings.Place.{in_register, at_location}
-use Rattle.litmus_words.specs.Settings.Value.{number, address_of}
+use Rattle.litmus_tokens.specs.Names.{is_name}
+use Rattle.litmus_tokens.specs.Settings.{NamedPlace, Value, Put}
+use Rattle.litmus_tokens.specs.Settings.NamedPlace.{in_register, at_location}
+use Rattle.litmus_tokens.specs.Settings.Value.{number, address_of}
 use Rattle.litmus_reader.specs.declared.faults.LitmusFault.{LitmusFault}
 use Rattle.litmus_reader.specs.declared.faults.LitmusFault.TheVariants.{TooMany}
+use Rattle.litmus.specs.declared.question.TheConstants.{MAX_LOCATIONS}
 
 abbrev pub Names : Type 0
 Names = List (List ℕ)
@@ -19,14 +20,14 @@ index_from at (other ∷ others) name = if bytes_eq other name then Some at else
 
 abbrev pub joined : Names → List ℕ → Option ℕ → Result (ℕ × Names) LitmusFault
 joined names name (Some index) = Ok (index, names)
-joined names name None = if nat_lt (length names) 1024 then Ok (length names, names ++ name ∷ []) else Err TooMany
+joined names name None = if nat_lt (length names) MAX_LOCATIONS then Ok (length names, names ++ name ∷ []) else Err TooMany
 
 -- the index of the location of this name, which joins the others where it is new
 unfoldable pub met : Names → List ℕ → Result (ℕ × Names) LitmusFault
 met names name = joined names name (index_from 0 names name)
 
 -- a location in it has the shape of a name
-abbrev pub HasLocation : Place → Type 0
+abbrev pub HasLocation : NamedPlace → Type 0
 HasLocation (in_register hart register) = Unit {0}
 HasLocation (at_location name) = IsTrue (is_name name)
 

@@ -8,8 +8,8 @@ use Rattle.litmus_reader.specs.declared.marks.Mark.TheVariants.{Visible, Brace, 
 abbrev pub is_line_feed : ℕ → Bool
 is_line_feed byte = byte == 10
 
-abbrev pub has_word : List ℕ → List ℕ → Bool
-has_word word line = starts_with nat_eq line word
+abbrev pub has_token : List ℕ → List ℕ → Bool
+has_token word line = starts_with nat_eq line word
 
 -- the line's first byte, if it has one, isn't its end
 abbrev pub is_visible : List ℕ → Bool
@@ -24,10 +24,10 @@ is_brace (c ∷ rest) = c == 123
 -- The first line of a text begins so, past its blanks. The words are first letters alone, whatever
 -- follows them.
 abbrev pub is_unread : List ℕ → Bool
-is_unread line = has_word (codes "locations") line || has_word (codes "filter") line
+is_unread line = has_token (codes "locations") line || has_token (codes "filter") line
 
 abbrev pub is_condition : List ℕ → Bool
-is_condition line = has_word (codes "exists") line || has_word (codes "~exists") line || has_word (codes "forall") line
+is_condition line = has_token (codes "exists") line || has_token (codes "~exists") line || has_token (codes "forall") line
 
 unfoldable pub begins : Mark → List ℕ → Bool
 begins Visible text = is_visible (without_front text)

@@ -2,9 +2,9 @@
 use Rattle.std.specs.Prelude.{◌≡◌, ℕ, ◌*◌, ◌<◌, ◌≤◌, ◌==◌, ◌&&◌, Bool, false, not, List, [], ◌∷◌, ◌++◌, length, filter, Option, Some, None, if◌then◌else◌}
 use Rattle.std.specs.List.{slice_index_or}
 use Rattle.std.specs.Str.{bytes_eq}
-use Rattle.litmus_words.specs.Settings.{Place, Value, Put, IsItem}
-use Rattle.litmus_words.specs.Settings.Place.{in_register, at_location}
-use Rattle.litmus_words.specs.Settings.Value.{number, address_of}
+use Rattle.litmus_tokens.specs.Settings.{NamedPlace, Value, Put, IsItem}
+use Rattle.litmus_tokens.specs.Settings.NamedPlace.{in_register, at_location}
+use Rattle.litmus_tokens.specs.Settings.Value.{number, address_of}
 use Rattle.texts.specs.Pieces.{is_gap}
 use Rattle.texts.specs.Cutting.{AllPass}
 use Rattle.litmus_reader.specs.Locations.{Names}
@@ -17,7 +17,7 @@ pub data AreItems : List (List ℕ) → List Put → Type 0 where
 
 -- ---- locations
 
-abbrev pub name_of_place : Place → Names
+abbrev pub name_of_place : NamedPlace → Names
 name_of_place (in_register hart register) = []
 name_of_place (at_location name) = name ∷ []
 
@@ -51,15 +51,15 @@ or_else None other = other
 or_else (Some value) other = Some value
 
 -- what the last of the items that put something there puts there
-abbrev pub last_put : (Place → Bool) → List Put → Option Value
+abbrev pub last_put : (NamedPlace → Bool) → List Put → Option Value
 last_put is_there [] = None
 last_put is_there (put ∷ puts) = or_else (last_put is_there puts) (if is_there put.0 then Some put.1 else None)
 
-abbrev pub is_register : (hart n : ℕ) → Place → Bool
+abbrev pub is_register : (hart n : ℕ) → NamedPlace → Bool
 is_register hart n (in_register other register) = (other == hart) && (register.number == n)
 is_register hart n (at_location name) = false
 
-abbrev pub is_location : List ℕ → Place → Bool
+abbrev pub is_location : List ℕ → NamedPlace → Bool
 is_location name (in_register hart register) = false
 is_location name (at_location other) = bytes_eq other name
 

@@ -8,13 +8,13 @@ use Rattle.step_machine.specs.History.{HartStart}
 use Rattle.litmus.specs.declared.verdict.Quantifier.{Quantifier}
 use Rattle.litmus.specs.Formulas.{Formula}
 use Rattle.litmus.specs.Questions.{Question}
-use Rattle.litmus_words.specs.Cleaning.{cleaned_text}
+use Rattle.litmus_tokens.specs.Cleaning.{cleaned_text}
 use Rattle.litmus_reader.specs.declared.faults.LitmusFault.{LitmusFault}
 use Rattle.litmus_reader.specs.declared.marks.Mark.TheVariants as mark
 use Rattle.litmus_reader.specs.Marks.{before_line, from_line}
 use Rattle.litmus_reader.specs.Header.{behind_header, behind_brace}
 use Rattle.litmus_reader.specs.Locations.{Names}
-use Rattle.litmus_reader.specs.Init.{Settings, items_at, behind_init}
+use Rattle.litmus_reader.specs.Init.{InitItems, items_at, behind_init}
 use Rattle.litmus_reader.specs.Table.{Code, table_at, codes_of}
 use Rattle.litmus_reader.specs.Values.{Values, values_at, padded}
 use Rattle.litmus_reader.specs.Condition.{Condition, condition_at}
@@ -49,14 +49,14 @@ abbrev pub content : List Code → Values → Condition → Content
 content codes values asked = record { harts = with_registers codes values.registers; words = padded (length asked.names) values.words; names = asked.names; quantifier = asked.quantifier; condition = asked.formula }
 
 -- the test whose table has this code, with the condition from its first line on
-unfoldable pub content_below : Settings → List Code → Option (List ℕ) → Result Content LitmusFault
+unfoldable pub content_below : InitItems → List Code → Option (List ℕ) → Result Content LitmusFault
 content_below settings codes condition = do
   values ← values_at (length codes) settings
   asked ← condition_at (length codes) settings.names condition
   Ok (content codes values asked)
 
 -- the test with this init part, with what stands behind it: the table and the condition
-unfoldable pub content_behind : Settings → List ℕ → Result Content LitmusFault
+unfoldable pub content_behind : InitItems → List ℕ → Result Content LitmusFault
 content_behind settings text = do
   columns ← table_at (before_line mark.Condition text)
   codes ← codes_of columns

@@ -8,6 +8,7 @@ use Rattle.texts.specs.Pieces.{pieces}
 use Rattle.litmus_reader.specs.declared.faults.LitmusFault.{LitmusFault}
 use Rattle.litmus_reader.specs.declared.faults.LitmusFault.TheVariants.{BadTable, TooMany}
 use Rattle.texts.specs.declared.pieces.Separators.TheVariants.{Byte}
+use Rattle.step_machine.specs.declared.opening.TheConstants.{MAX_HARTS}
 
 abbrev pub is_blank_line : List ℕ → Bool
 is_blank_line line = length (without_front line) == 0
@@ -33,8 +34,8 @@ abbrev pub name_harts : ℕ → List (List ℕ) → Bool
 name_harts hart [] = true
 name_harts hart (cell ∷ cells) = names_hart hart cell && name_harts (hart + 1) cells
 
-abbrev pub at_most_64 : ℕ → Result ℕ LitmusFault
-at_most_64 harts = if nat_lt 64 harts then Err TooMany else Ok harts
+abbrev pub harts_within : ℕ → Result ℕ LitmusFault
+harts_within harts = if nat_lt MAX_HARTS harts then Err TooMany else Ok harts
 
 abbrev pub all_named : List (List ℕ) → Result ℕ LitmusFault
 all_named cells = if name_harts 0 cells then Ok (length cells) else Err BadTable
@@ -42,7 +43,7 @@ all_named cells = if name_harts 0 cells then Ok (length cells) else Err BadTable
 abbrev pub harts_of : Option (List ℕ) → Result ℕ LitmusFault
 harts_of None = Err BadTable
 harts_of (Some row) = do
-  harts ← at_most_64 (length (cells_of row))
+  harts ← harts_within (length (cells_of row))
   all_named (cells_of row)
 
 -- how many harts the first row names; its cells are counted before they are judged

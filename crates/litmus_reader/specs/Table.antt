@@ -2,10 +2,11 @@
 use Rattle.std.specs.Prelude.{ℕ, ◌^◌, ◌<◌, ◌≤◌, ◌==◌, nat_lt, List, [], ◌∷◌, length, map, replicate, All, Option, None, Some, Result, Ok, Err, if◌then◌else◌}
 use Rattle.std.specs.declared.vec.Vec.{Vec}
 use Rattle.std.specs.declared.alloc.Global.{Global}
-use Rattle.texts.specs.Results.{◌>>=◌}
+use Rattle.texts.specs.Results.{◌>>=◌, map_err}
 use Rattle.texts.specs.Cutting.{before, after, is_byte}
 use Rattle.rv_decode.specs.declared.instruction.Instr.{Instr}
 use Rattle.rv_decode.specs.Meaning.{meaning}
+use Rattle.rv_decode.specs.declared.instruction.TheConstants.{MAX_CODE}
 use Rattle.assembler.specs.Faults.{Refusal}
 use Rattle.assembler.specs.Drafts.{Line, words_of, told, finished, AllPlain}
 use Rattle.litmus_reader.specs.declared.faults.LitmusFault.{LitmusFault}
@@ -22,11 +23,10 @@ Column = List Line
 
 -- whatever the assembler refuses
 abbrev pub as_instr : {A : Type 0} → Result A Refusal → Result A LitmusFault
-as_instr (Ok x) = Ok x
-as_instr (Err refusal) = Err BadInstr
+as_instr result = map_err (λ refusal. BadInstr) result
 
 abbrev pub in_limit : Column → Result Column LitmusFault
-in_limit column = if nat_lt 4096 (words_of column) then Err TooMany else Ok column
+in_limit column = if nat_lt MAX_CODE (words_of column) then Err TooMany else Ok column
 
 -- a column with one more cell
 unfoldable pub cell_told : Column → List ℕ → Result Column LitmusFault
@@ -97,4 +97,4 @@ ArePlain codes = All (λ (words : Vec ℕ Global). IsPlainCode words.items) code
 -- no hart has more words than it may have
 abbrev pub AreShort : List Code → Type 0
 AreShort [] = Unit {0}
-AreShort (code ∷ codes) = (length code ≤ 4096) × AreShort codes
+AreShort (code ∷ codes) = (length code ≤ MAX_CODE) × AreShort codes

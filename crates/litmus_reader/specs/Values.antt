@@ -10,7 +10,7 @@ use Rattle.litmus_reader.specs.declared.faults.LitmusFault.TheVariants.{BadInit}
 use Rattle.litmus_reader.specs.declared.opening.Values as code
 use Rattle.litmus_reader.specs.declared.init.Target.{Target}
 use Rattle.litmus_reader.specs.declared.init.Target.TheVariants.{Register, Word}
-use Rattle.litmus_reader.specs.Init.{Setting, Settings}
+use Rattle.litmus_reader.specs.Init.{InitItem, InitItems}
 
 -- each hart's registers, and the words of the locations
 pub record Values : Type 0 where
@@ -30,17 +30,17 @@ put_at (Register hart register) value values = if nat_lt hart (length values.reg
 put_at (Word index) value values = Ok (record values { words = slice_set values.words index value })
 
 -- the values with that of one item more; its hart has to be there
-unfoldable pub item_put : Values → Setting → Result Values LitmusFault
+unfoldable pub item_put : Values → InitItem → Result Values LitmusFault
 item_put values item = put_at item.target item.value values
 
-abbrev pub items_put : Values → List Setting → Result Values LitmusFault
+abbrev pub items_put : Values → List InitItem → Result Values LitmusFault
 items_put values [] = Ok values
 items_put values (item ∷ items) = do
   more ← item_put values item
   items_put more items
 
 -- the values of all items, where a later one wins
-unfoldable pub values_at : (harts : ℕ) → Settings → Result Values LitmusFault
+unfoldable pub values_at : (harts : ℕ) → InitItems → Result Values LitmusFault
 values_at harts settings = items_put (zeros harts (length settings.names)) settings.items
 
 -- the words with zeros for the locations that only the condition names

@@ -6,22 +6,23 @@ ghost use Rattle.texts.specs.Results.{Gives};
 ghost use Rattle.litmus.specs.Formulas.{Formula, places};
 ghost use Rattle.litmus.specs.Questions.{IsThere};
 ghost use Rattle.litmus.specs.Drafting.{told, finished};
-ghost use Rattle.litmus.specs.declared.words.Token.{Token};
-ghost use Rattle.litmus_words.specs.Settings.{place_of as place_put, put_of};
-ghost use Rattle.litmus_words.specs.Words.{token_of as token_put, words_of};
+ghost use Rattle.litmus.specs.declared.symbols.Symbol.{Symbol};
+ghost use Rattle.litmus_tokens.specs.Settings.{place_of as place_put, put_of};
+ghost use Rattle.litmus_tokens.specs.Tokens.{token_of as token_put, tokens_of};
 ghost use Rattle.litmus_reader.specs.declared.faults.LitmusFault.TheVariants.{BadCondition};
 ghost use Rattle.texts.specs.declared.errors.TextError.TheVariants.{Refused};
 ghost use Rattle.litmus_reader.specs.Faults.{fault_in};
 ghost use Rattle.litmus_reader.specs.Locations.{HasLocation, HasNames};
-ghost use Rattle.litmus_reader.specs.Condition.{Quantified, quantified_of, quantifier_in, place_met, atom_met, token_met, WordHasNames, as_condition, words_told, condition_in, condition_of};
+ghost use Rattle.litmus_reader.specs.Condition.{Quantified, quantified_of, quantifier_in, place_met, atom_met, token_met, TokenHasNames, as_condition, tokens_told, condition_in, condition_of};
+ghost use Rattle.step_machine.specs.declared.opening.TheConstants.{MAX_HARTS};
 
 use crate::faults::LitmusFault;
 use crate::locations::Locations;
 use crate::marks::{Mark, cut_at_line};
 use crate::refusals::{Refusal, left_of};
 use crate::settings::{address_of, value_of};
-use litmus::{Condition, ConditionDraft, ConditionError, Place, Quantifier, Token};
-use litmus_words::{Front, Setting, Spot, Word, first_word};
+use litmus::{Condition, ConditionDraft, ConditionError, Place, Quantifier, Symbol};
+use litmus_tokens::{Front, Setting, Spot, Token, first_token};
 use std::alloc::Global;
 use texts::cutting::without_front;
 
@@ -29,13 +30,13 @@ use texts::cutting::without_front;
 #[derive(Clone, Copy)]
 pub struct Quantified<'a> {
     quantifier: Quantifier,
-    words: &'a [u8],
+    tokens: &'a [u8],
 }
 
-fn quantified_by(quantifier: Quantifier, words: &[u8]) -> Option<Quantified<'_>>
-    ensures { quantified_of result ≡ Some (quantifier, words.now) }
+fn quantified_by(quantifier: Quantifier, tokens: &[u8]) -> Option<Quantified<'_>>
+    ensures { quantified_of result ≡ Some (quantifier, tokens.now) }
 {
-    Some(Quantified { quantifier, words })
+    Some(Quantified { quantifier, tokens })
 }
 
 /// The quantifier that the text's first letters are, and what follows them.
@@ -64,7 +65,7 @@ fn place_of(
     left: usize,
 ) -> Result<Place, Refusal>
     requires named { HasLocation (place_put spot) }
-    requires few { harts ≤ 64 }
+    requires few { harts ≤ MAX_HARTS }
     ensures { Gives fault_in (λ place. (place, locations.new)) result (place_met harts locations.old (place_put spot.entry)) }
 {
     match spot {
@@ -89,40 +90,40 @@ fn atom_of(
     setting: Setting<'_>,
     harts: usize,
     left: usize,
-) -> Result<Token, Refusal>
+) -> Result<Symbol, Refusal>
     requires named { HasNames (put_of setting) }
-    requires few { harts ≤ 64 }
+    requires few { harts ≤ MAX_HARTS }
     ensures { Gives fault_in (λ token. (token, locations.new)) result (atom_met harts locations.old (put_of setting.entry)) }
 {
     let place = place_of(locations, setting.spot, harts, left)?;
     let value = value_of(locations, setting.worth, left)?;
-    Ok(Token::Is { place, value })
+    Ok(Symbol::Is { place, value })
 }
 
-/// The word with its place known.
+/// The token with its place known, a symbol.
 #[tactic(auto, unfolding(crate::specs::Condition::token_met))]
 fn token_of(
     locations: &mut Locations,
-    word: Word<'_>,
+    token: Token<'_>,
     harts: usize,
     left: usize,
-) -> Result<Token, Refusal>
-    requires named { WordHasNames (token_put word) }
-    requires few { harts ≤ 64 }
-    ensures { Gives fault_in (λ token. (token, locations.new)) result (token_met harts locations.old (token_put word.entry)) }
+) -> Result<Symbol, Refusal>
+    requires named { TokenHasNames (token_put token) }
+    requires few { harts ≤ MAX_HARTS }
+    ensures { Gives fault_in (λ symbol. (symbol, locations.new)) result (token_met harts locations.old (token_put token.entry)) }
 {
-    match word {
-        Word::Is(setting) => atom_of(locations, setting, harts, left),
-        Word::Not => Ok(Token::Not),
-        Word::And => Ok(Token::And),
-        Word::Or => Ok(Token::Or),
-        Word::Open => Ok(Token::Open),
-        Word::Close => Ok(Token::Close),
+    match token {
+        Token::Is(setting) => atom_of(locations, setting, harts, left),
+        Token::Not => Ok(Symbol::Not),
+        Token::And => Ok(Symbol::And),
+        Token::Or => Ok(Symbol::Or),
+        Token::Open => Ok(Symbol::Open),
+        Token::Close => Ok(Symbol::Close),
     }
 }
 
-/// Adds a word to the condition.
-fn push(draft: &mut ConditionDraft, token: Token, left: usize) -> Result<(), Refusal>
+/// Adds a symbol to the condition.
+fn push(draft: &mut ConditionDraft, token: Symbol, left: usize) -> Result<(), Refusal>
     ensures { Gives fault_in (λ _. draft.new) result (as_condition (told draft.old token)) }
 {
     match draft.push(token) {
@@ -132,35 +133,35 @@ fn push(draft: &mut ConditionDraft, token: Token, left: usize) -> Result<(), Ref
     }
 }
 
-/// The words of a text, behind which so many bytes stand.
-#[tactic(auto, using(crate::proofs::NameLaws::word_named))]
-fn read_words(
+/// The tokens of a text, behind which so many bytes stand.
+#[tactic(auto, using(crate::proofs::NameLaws::token_named))]
+fn read_tokens(
     alloc: Global,
     text: &[u8],
     harts: usize,
     locations: &mut Locations,
     behind: usize,
 ) -> Result<ConditionDraft, Refusal>
-    requires { harts ≤ 64 }
-    ensures { Gives fault_in (λ (tokens : List Token). (tokens, locations.new)) result (words_told harts ([], locations.old) (words_of text.now)) }
+    requires { harts ≤ MAX_HARTS }
+    ensures { Gives fault_in (λ (symbols : List Symbol). (symbols, locations.new)) result (tokens_told harts ([], locations.old) (tokens_of text.now)) }
 {
     let mut draft = ConditionDraft::new(alloc);
     let mut rest = text;
     loop {
         let left = left_of(rest).saturating_add(behind);
-        match first_word(rest) {
+        match first_token(rest) {
             Front::End => return Ok(draft),
-            Front::NoWord => return Err(LitmusFault::BadCondition.at(left)),
-            Front::Word(word, after) => {
-                let token = token_of(locations, word, harts, left)?;
-                push(&mut draft, token, left)?;
+            Front::NoToken => return Err(LitmusFault::BadCondition.at(left)),
+            Front::Token(token, after) => {
+                let symbol = token_of(locations, token, harts, left)?;
+                push(&mut draft, symbol, left)?;
                 rest = after;
             }
         }
     }
 }
 
-/// The condition of the words.
+/// The condition of the symbols.
 fn finish(draft: ConditionDraft) -> Result<Condition, Refusal>
     ensures place { IfErr result (λ refusal. refusal ≡ Refused (record { fault = BadCondition; left = 0 })) }
     ensures exact { Gives fault_in (λ (f : Formula). f) result (as_condition (finished draft)) }
@@ -187,15 +188,15 @@ fn question_in(
     harts: usize,
     locations: &mut Locations,
 ) -> Result<Question, Refusal>
-    requires { harts ≤ 64 }
+    requires { harts ≤ MAX_HARTS }
     ensures { Gives fault_in (condition_of locations.new) result (condition_in harts locations.old text.now) }
 {
     let (read, unread) = cut_at_line(Mark::Unread, text);
-    let Some(Quantified { quantifier, words }) = quantifier_in(read) else {
+    let Some(Quantified { quantifier, tokens }) = quantifier_in(read) else {
         return Err(LitmusFault::BadCondition.at(text.len()));
     };
     let behind = text.len().saturating_sub(read.len());
-    let draft = read_words(alloc, words, harts, locations, behind)?;
+    let draft = read_tokens(alloc, tokens, harts, locations, behind)?;
     if let Some(rest) = unread {
         return Err(LitmusFault::BadCondition.at(rest.len()));
     }
@@ -215,7 +216,7 @@ pub fn read_condition(
     harts: usize,
     locations: &mut Locations,
 ) -> Result<Question, Refusal>
-    requires { harts ≤ 64 }
+    requires { harts ≤ MAX_HARTS }
     ensures exact { Gives fault_in (condition_of locations.new) result (condition_in harts locations.old text.now) }
     ensures there { IfOk result (λ asked. All (IsThere harts (length locations.new)) (places asked.condition)) }
     ensures more { IfOk result (λ asked. length locations.old ≤ length locations.new) }

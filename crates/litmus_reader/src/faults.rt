@@ -29,9 +29,9 @@ pub enum LitmusFault {
 }
 
 impl Numbered for LitmusFault {
-    ghost use Rattle.litmus_reader.specs.Faults.{number_of};
+    ghost use Rattle.litmus_reader.specs.Faults.{fault_number};
 
-    ghost number = { number_of };
+    ghost number = { fault_number };
 
     fn number(self) -> u8 {
         match self {

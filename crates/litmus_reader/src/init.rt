@@ -2,16 +2,16 @@
 
 ghost use Rattle.std.specs.Prelude.{◌≡◌};
 ghost use Rattle.texts.specs.Results.{Gives};
-ghost use Rattle.litmus_words.specs.Settings.{place_of};
+ghost use Rattle.litmus_tokens.specs.Settings.{place_of};
 ghost use Rattle.litmus_reader.specs.Faults.{fault_in};
 ghost use Rattle.litmus_reader.specs.Locations.{HasLocation};
-ghost use Rattle.litmus_reader.specs.Init.{no_settings, target_met, piece_told, items_at, settings_of};
+ghost use Rattle.litmus_reader.specs.Init.{no_items, target_met, piece_told, items_at, items_of};
 
 use crate::faults::LitmusFault;
 use crate::locations::Locations;
 use crate::refusals::{Refusal, left_of};
 use crate::settings::value_of;
-use litmus_words::{Spot, item_in};
+use litmus_tokens::{Spot, item_in};
 use rv_decode::Reg;
 use std::alloc::Global;
 use texts::cutting::is_all;
@@ -60,7 +60,7 @@ fn target_of(locations: &mut Locations, spot: Spot<'_>, left: usize) -> Result<T
 impl Init {
     /// No item yet.
     fn new(alloc: Global) -> Init
-        ensures { settings_of result ≡ no_settings }
+        ensures { items_of result ≡ no_items }
     {
         Init {
             items: Vec::new(alloc),
@@ -71,7 +71,7 @@ impl Init {
     /// Reads what stands between two semicolons, which is an item or nothing.
     #[tactic(auto, using(crate::proofs::NameLaws::item_location, crate::proofs::NameLaws::item_value), unfolding(crate::specs::Init::piece_told, crate::specs::Init::item_told))]
     fn read(&mut self, piece: &[u8], left: usize) -> Result<(), Refusal>
-        ensures { Gives fault_in (λ _. settings_of self.new) result (piece_told (settings_of self.old) piece.now) }
+        ensures { Gives fault_in (λ _. items_of self.new) result (piece_told (items_of self.old) piece.now) }
     {
         if is_all(Separators::Gaps, piece) {
             return Ok(());
@@ -93,7 +93,7 @@ impl Init {
 /// The items that stand in this text, behind which so many bytes follow.
 #[tactic(auto, unfolding(crate::specs::Init::items_at))]
 pub fn read_items(alloc: Global, text: &[u8], behind: usize) -> Result<Init, Refusal>
-    ensures { Gives fault_in settings_of result (items_at text.now) }
+    ensures { Gives fault_in items_of result (items_at text.now) }
 {
     let mut init = Init::new(alloc);
     let mut rest = Some(text);

@@ -5,16 +5,15 @@ ghost use Rattle.std.specs.List.{list_all};
 ghost use Rattle.std.specs.String.{string_bytes};
 ghost use Rattle.texts.specs.Results.{Gives};
 ghost use Rattle.litmus_reader.specs.Faults.{fault_in};
-ghost use Rattle.litmus_words.specs.Names.{is_name, goes_on_name};
+ghost use Rattle.litmus_tokens.specs.Names.{is_name, goes_on_name};
 ghost use Rattle.litmus_reader.specs.Locations.{index_from, met};
+ghost use Rattle.litmus.specs.declared.question.TheConstants.{MAX_LOCATIONS};
 
 use crate::faults::LitmusFault;
 use crate::refusals::Refusal;
+use litmus::MAX_LOCATIONS;
 use std::alloc::{AllocError, Global};
 use std::marker::Model;
-
-/// How many locations a test may have.
-pub const MAX_LOCATIONS: usize = 1024;
 
 /// A name as a text. Its bytes are letters, digits and `_`.
 fn text_of(alloc: Global, name: &[u8]) -> Result<String, AllocError>
@@ -40,7 +39,7 @@ impl Model for Locations {
 
     ghost view = { λ locations. map string_bytes locations.names.items };
 
-    ghost invariant = { λ locations. vec_len locations.names ≤ 1024 };
+    ghost invariant = { λ locations. vec_len locations.names ≤ MAX_LOCATIONS };
 }
 
 impl Locations {
@@ -56,7 +55,7 @@ impl Locations {
     /// How many there are so far.
     pub fn count(&self) -> usize
         ensures count { result ≡ length self.now }
-        ensures few { result ≤ 1024 }
+        ensures few { result ≤ MAX_LOCATIONS }
     {
         self.names.len()
     }
@@ -64,7 +63,7 @@ impl Locations {
     /// The place of the name among the others, if it is one of them.
     fn find(&self, name: &[u8]) -> Option<usize>
         ensures found { result ≡ index_from 0 self.now name.now }
-        ensures small { IfSome result (λ index. index < 1024) }
+        ensures small { IfSome result (λ index. index < MAX_LOCATIONS) }
     {
         for (index, other) in self.names.iter().enumerate() {
             if other.as_bytes() == name {
@@ -80,7 +79,7 @@ impl Locations {
     pub fn index_of(&mut self, name: &[u8], left: usize) -> Result<usize, Refusal>
         requires { IsTrue (is_name name.now) }
         ensures exact { Gives fault_in (λ index. (index, self.new)) result (met self.old name.now) }
-        ensures small { IfOk result (λ index. index < 1024) }
+        ensures small { IfOk result (λ index. index < MAX_LOCATIONS) }
     {
         if let Some(index) = self.find(name) {
             return Ok(index);

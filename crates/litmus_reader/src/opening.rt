@@ -3,8 +3,10 @@
 ghost use Rattle.std.specs.Prelude.{◌≡◌, ◌≤◌, ◌+◌, ◌++◌, length, map, replicate, vec_len, IfOk, OnOk};
 ghost use Rattle.texts.specs.Results.{Gives};
 ghost use Rattle.litmus_reader.specs.Faults.{fault_in};
-ghost use Rattle.litmus_reader.specs.Init.{setting_of};
+ghost use Rattle.litmus_reader.specs.Init.{item_of};
 ghost use Rattle.litmus_reader.specs.Values.{values_in, zeros, item_put, items_put, starts_of};
+ghost use Rattle.step_machine.specs.declared.opening.TheConstants.{MAX_HARTS};
+ghost use Rattle.litmus.specs.declared.question.TheConstants.{MAX_LOCATIONS};
 
 use crate::faults::LitmusFault;
 use crate::init::{Item, Target};
@@ -34,10 +36,10 @@ impl Values {
     /// Puts the item's value, but none in x0. A hart that isn't there is `BadInit`.
     #[tactic(auto, unfolding(crate::specs::Values::item_put))]
     fn put(&mut self, item: Item) -> Result<(), Refusal>
-        requires { vec_len self.old.registers ≤ 64 }
+        requires { vec_len self.old.registers ≤ MAX_HARTS }
         ensures same_harts { vec_len self.new.registers ≡ vec_len self.old.registers }
         ensures same_words { vec_len self.new.words ≡ vec_len self.old.words }
-        ensures exact { Gives fault_in (λ _. values_in self.new) result (item_put (values_in self.old) (setting_of item)) }
+        ensures exact { Gives fault_in (λ _. values_in self.new) result (item_put (values_in self.old) (item_of item)) }
     {
         match item.target {
             Target::Register { hart, register } => {
@@ -65,8 +67,8 @@ pub fn values_of(
     locations: usize,
     items: &[Item],
 ) -> Result<Values, Refusal>
-    requires { harts ≤ 64 }
-    ensures exact { Gives fault_in values_in result (items_put (zeros harts locations) (map setting_of items.now)) }
+    requires { harts ≤ MAX_HARTS }
+    ensures exact { Gives fault_in values_in result (items_put (zeros harts locations) (map item_of items.now)) }
     ensures harts { IfOk result (λ values. vec_len values.registers ≡ harts) }
     ensures words { IfOk result (λ values. vec_len values.words ≡ locations) }
 {
@@ -79,7 +81,7 @@ pub fn values_of(
 
 /// The words with zeros for so many more.
 pub fn pad(words: &mut Vec<u32>, more: usize) -> Result<(), AllocError>
-    requires { vec_len words.old + more ≤ 1024 }
+    requires { vec_len words.old + more ≤ MAX_LOCATIONS }
     ensures padded { OnOk result (words.new.items ≡ words.old.items ++ replicate more 0) }
     ensures len { OnOk result (vec_len words.new ≡ vec_len words.old + more) }
 {
@@ -94,7 +96,7 @@ pub fn harts_of(
     registers: &[[u32; 32]],
 ) -> Result<Vec<HartOpening>, AllocError>
     requires some { vec_len codes ≤ length registers.now }
-    requires few { length registers.now ≤ 64 }
+    requires few { length registers.now ≤ MAX_HARTS }
     ensures { IfOk result (λ harts. harts.items ≡ starts_of codes.items registers.now) }
 {
     let mut harts = Vec::new(alloc);

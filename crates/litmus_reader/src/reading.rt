@@ -6,12 +6,13 @@ ghost use Rattle.texts.specs.Results.{Gives};
 ghost use Rattle.litmus.specs.Questions.{Question as Asked, IsThere, IsTest};
 ghost use Rattle.litmus.specs.Formulas.{places};
 ghost use Rattle.litmus_reader.specs.Faults.{fault_of, fault_in};
-ghost use Rattle.litmus_reader.specs.Init.{settings_of};
+ghost use Rattle.litmus_reader.specs.Init.{items_of};
 ghost use Rattle.litmus_reader.specs.Table.{instructions, ArePlain, AreShort};
 ghost use Rattle.litmus_reader.specs.Values.{values_in};
 ghost use Rattle.litmus_reader.specs.Condition.{condition_of};
 ghost use Rattle.litmus_reader.specs.Reading.{content_of, content, content_below, content_behind, content_at, test_at};
 ghost use Rattle.litmus_reader.specs.Grammar.{HasPlainCode, IsTestOf};
+ghost use Rattle.step_machine.specs.declared.opening.TheConstants.{MAX_HARTS};
 
 use crate::condition::{Question, read_condition};
 use crate::faults::{LitmusError, LitmusFault};
@@ -23,7 +24,7 @@ use crate::opening::{Values, harts_of, pad, values_of};
 use crate::refusals::{Refusal, error_of};
 use crate::table::read_table;
 use litmus::Test;
-use litmus_words::cleaned;
+use litmus_tokens::cleaned;
 use std::alloc::{AllocError, Global};
 use texts::cutting::cut_at;
 
@@ -36,7 +37,7 @@ fn assemble(
     asked: Question,
 ) -> Result<Test, AllocError>
     requires some { 1 ≤ vec_len codes }
-    requires few { vec_len codes ≤ 64 }
+    requires few { vec_len codes ≤ MAX_HARTS }
     requires short { AreShort (instructions codes) }
     requires plain { ArePlain codes.items }
     requires harts { vec_len values.registers ≡ vec_len codes }
@@ -69,10 +70,10 @@ fn test_below(
     condition: Option<&[u8]>,
 ) -> Result<Test, Refusal>
     requires some { 1 ≤ vec_len codes }
-    requires few { vec_len codes ≤ 64 }
+    requires few { vec_len codes ≤ MAX_HARTS }
     requires short { AreShort (instructions codes) }
     requires plain { ArePlain codes.items }
-    ensures exact { Gives fault_in content_of result (content_below (settings_of init) (instructions codes) (option_copied condition.entry)) }
+    ensures exact { Gives fault_in content_of result (content_below (items_of init) (instructions codes) (option_copied condition.entry)) }
     ensures plain { IfOk result (λ test. All HasPlainCode test.opening.harts) }
 {
     let Init {
@@ -91,7 +92,7 @@ fn test_below(
 /// The test with this init part, with what stands behind it.
 #[tactic(auto, unfolding(crate::specs::Reading::content_behind))]
 fn test_behind(alloc: Global, init: Init, text: &[u8]) -> Result<Test, Refusal>
-    ensures exact { Gives fault_in content_of result (content_behind (settings_of init) text.now) }
+    ensures exact { Gives fault_in content_of result (content_behind (items_of init) text.now) }
     ensures plain { IfOk result (λ test. All HasPlainCode test.opening.harts) }
 {
     let (rows, condition) = cut_at_line(Mark::Condition, text);

@@ -7,6 +7,7 @@ ghost use Rattle.texts.specs.Cutting.{is_byte};
 ghost use Rattle.texts.specs.Results.{Gives};
 ghost use Rattle.litmus_reader.specs.Faults.{fault_in};
 ghost use Rattle.litmus_reader.specs.Rows.{is_blank_line, row_in, cells_of, names_hart, name_harts, harts_in};
+ghost use Rattle.step_machine.specs.declared.opening.TheConstants.{MAX_HARTS};
 
 use crate::faults::LitmusFault;
 use crate::refusals::Refusal;
@@ -61,7 +62,7 @@ fn names_hart(alloc: Global, cell: &[u8], hart: usize) -> Result<bool, AllocErro
 
 /// Whether the cells of the first row name the harts in order.
 fn name_harts(alloc: Global, row: &[u8]) -> Result<bool, AllocError>
-    requires { length (cells_of row.now) ≤ 64 }
+    requires { length (cells_of row.now) ≤ MAX_HARTS }
     ensures { IfOk result (λ named. named ≡ name_harts 0 (cells_of row.now)) }
 {
     let mut hart = 0;
@@ -83,7 +84,7 @@ fn name_harts(alloc: Global, row: &[u8]) -> Result<bool, AllocError>
 pub fn harts_in(alloc: Global, line: &[u8], left: usize) -> Result<usize, Refusal>
     ensures exact { Gives fault_in (λ harts. harts) result (harts_in line.now) }
     ensures some { IfOk result (λ harts. 1 ≤ harts) }
-    ensures few { IfOk result (λ harts. harts ≤ 64) }
+    ensures few { IfOk result (λ harts. harts ≤ MAX_HARTS) }
 {
     let Some(row) = row_in(line) else {
         return Err(LitmusFault::BadTable.at(left));

@@ -2,17 +2,18 @@
 
 ghost use Rattle.std.specs.Prelude.{◌≡◌, ◌*◌, ◌<◌};
 ghost use Rattle.texts.specs.Results.{Gives};
-ghost use Rattle.litmus_words.specs.Settings.{value_of as value_put};
+ghost use Rattle.litmus_tokens.specs.Settings.{value_of as value_put};
 ghost use Rattle.litmus_reader.specs.Faults.{fault_in};
 ghost use Rattle.litmus_reader.specs.Locations.{HasName, value_met};
+ghost use Rattle.litmus.specs.declared.question.TheConstants.{MAX_LOCATIONS};
 
 use crate::locations::Locations;
 use crate::refusals::Refusal;
-use litmus_words::Worth;
+use litmus_tokens::Worth;
 
 /// The address of the location with this index.
 pub fn address_of(index: usize) -> u32
-    requires { index < 1024 }
+    requires { index < MAX_LOCATIONS }
     ensures { result ≡ 4 * index }
 {
     4 * index as u32

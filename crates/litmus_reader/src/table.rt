@@ -9,6 +9,7 @@ ghost use Rattle.litmus_reader.specs.Rows.{cells_of};
 ghost use Rattle.litmus_reader.specs.Lines.{earlier, left_at_row};
 ghost use Rattle.litmus_reader.specs.Table.{Column, cell_told, cells_told, line_told, lines_told, table_at, codes_of, instructions, ArePlain, AreShort};
 ghost use Rattle.texts.specs.declared.pieces.Separators.TheVariants.{Byte};
+ghost use Rattle.step_machine.specs.declared.opening.TheConstants.{MAX_HARTS};
 
 use crate::faults::LitmusFault;
 use crate::marks::{Mark, cut_at_line};
@@ -17,7 +18,7 @@ use crate::rows::{count_cells, harts_in, is_blank_line, row_in};
 use assembler::{AsmError, Draft};
 use std::alloc::{AllocError, Global};
 use std::marker::Model;
-use step_machine::opening::MAX_CODE;
+use rv_decode::instruction::MAX_CODE;
 use texts::cutting::cut_at;
 use texts::{Separators, first_piece};
 
@@ -186,7 +187,7 @@ fn left_at_row(text: &[u8], row: usize) -> usize
 pub fn read_table(alloc: Global, text: &[u8], behind: usize) -> Result<Table, Refusal>
     ensures exact { Gives fault_in (λ (table : List Column). table) result (table_at text.now) }
     ensures some { IfOk result (λ table. 1 ≤ length table) }
-    ensures few { IfOk result (λ table. length table ≤ 64) }
+    ensures few { IfOk result (λ table. length table ≤ MAX_HARTS) }
 {
     let Some(rows) = cut_at_line(Mark::Visible, text).1 else {
         return Err(LitmusFault::BadTable.at_end());

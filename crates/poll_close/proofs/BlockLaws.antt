@@ -11,7 +11,7 @@ use Rattle.hart.specs.declared.need.Report.TheVariants as report
 use Rattle.poll_close.specs.Layout.{block_size}
 use Rattle.poll_close.specs.Invariant.Blocks.{Block, offset}
 use Rattle.poll_close.specs.Invariant.ReceiverState.{Noted, whole_of}
-use Rattle.poll_close.specs.Invariant.ReceiverPlaces.{ReceiverPlace, R08, R14, R18, R1C, R20, R24, receives, due}
+use Rattle.poll_close.specs.Invariant.ReceiverPlaces.{ReceiverPlace, Pc08, Pc14, Pc18, Pc1C, Pc20, Pc24, receives, due}
 use Rattle.poll_close.specs.Invariant.BlockMeaning.{BlockMeaning, Quiet, ReceiverIs}
 use Rattle.poll_close.proofs.Acts.{stored_by, said_by, IsNoAmo}
 use Rattle.poll_close.proofs.Lines.{loads}
@@ -76,7 +76,7 @@ pub record Comes (m : BlockMeaning) (k : Block) (count : ℕ) (there : ReceiverP
   pub block : ℕ
   pub known : block < count
   pub quiet : Quiet m n
-  pub here : there ≡ R08
+  pub here : there ≡ Pc08
   pub index : r.x22 ≡ block
   pub base : r.x8 ≡ block * block_size k.size
 
@@ -186,8 +186,8 @@ pub record BlockLaws (m : BlockMeaning) (code : List ℕ) : Type 0 where
   pub stores_done : (k : Block) (n : m.Count) → m.Ordered k n → m.Level n → m.tails n ≡ length k.list → m.dones n ≡ 0 → Done m k n
   pub reports : (k : Block) (n : m.Count) (took shut : ℕ) → m.Ordered k n → m.Level n → Reported m k n took shut
   -- the receiver's middle
-  pub moves_14 : MiddleMoves m R14
-  pub moves_18 : MiddleMoves m R18
-  pub moves_1C : MiddleMoves m R1C
-  pub moves_20 : MiddleMoves m R20
-  pub moves_24 : MiddleMoves m R24
+  pub moves_14 : MiddleMoves m Pc14
+  pub moves_18 : MiddleMoves m Pc18
+  pub moves_1C : MiddleMoves m Pc1C
+  pub moves_20 : MiddleMoves m Pc20
+  pub moves_24 : MiddleMoves m Pc24

@@ -26,9 +26,9 @@ use Rattle.poll_close.specs.Reports.{Clean}
 use Rattle.poll_close.specs.Going.{GoesOn, AllGoOn}
 use Rattle.poll_close.specs.Invariant.Blocks.{block_of, as_writes}
 use Rattle.poll_close.specs.Invariant.ReceiverState.{receiver_of}
-use Rattle.poll_close.specs.Invariant.ReceiverPlaces.{R00}
+use Rattle.poll_close.specs.Invariant.ReceiverPlaces.{Pc00}
 use Rattle.poll_close.specs.Invariant.BlockMeaning.{BlockMeaning, Quiet}
-use Rattle.poll_close.specs.Invariant.Channels.{BlockPart, Told, shuts, Channel, means_by}
+use Rattle.poll_close.specs.Invariant.Channels.{BlockPart, ReportsOf, shuts, Channel, means_by}
 use Rattle.poll_close.proofs.Blocks.{IsBlock}
 use Rattle.poll_close.proofs.BlockLaws.{BlockLaws, Begins, opens_with}
 use Rattle.poll_close.proofs.AllBlocks.{BlocksAfter, sender_goes_on, sender_acts, sender_store_lands, receiver_store_lands}
@@ -144,7 +144,7 @@ module _ (m : BlockMeaning) (code : List ℕ) (laws : BlockLaws m code) (least :
       numbers = none;
       parts = part;
       receiver = record {
-        place = R00;
+        place = Pc00;
         noted = record { x5 = 0; x6 = 0; x7 = 0; x8 = 0; x10 = 0; x11 = 0; x17 = 0; x20 = length lists; x22 = 0; x28 = 0; x30 = 0 };
         block = 0;
         known = omega (arith, accepted.some_sender);
@@ -154,7 +154,7 @@ module _ (m : BlockMeaning) (code : List ℕ) (laws : BlockLaws m code) (least :
         count = none_shut (length lists) (omega arith);
       };
       reports = record {
-        told = each (λ j n. Told [] j (slice_index_or lists j []) (m.took n) (m.shut n)) (λ j within. (let b = begun j within in record {
+        told = each (λ j n. ReportsOf [] j (slice_index_or lists j []) (m.took n) (m.shut n)) (λ j within. (let b = begun j within in record {
           words = ap (λ c. take c (slice_index_or lists j [])) (sym b.took);
           closed = λ k is. cc;
           said = λ is. absurd (omega (arith, b.shut, is));

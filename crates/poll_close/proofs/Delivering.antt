@@ -5,7 +5,7 @@ use Rattle.std.proofs.lemmas.List.Elements.{All-nil, All-cons}
 use Rattle.hart.specs.declared.need.Report.{Report}
 use Rattle.step_machine.specs.declared.events.Event.{Event}
 use Rattle.step_machine.specs.declared.events.Outcome.{Outcome}
-use Rattle.step_machine.specs.History.{HartStart, Start, History, FitsIn, unrun}
+use Rattle.step_machine.specs.History.{HartStart, Start, History, FitsIn, IsShort, unrun}
 use Rattle.step_machine.specs.Entries.{reported}
 use Rattle.step_machine.specs.Legal.{Kept}
 use Rattle.step_machine.specs.Runs.{Happens, Run, RunFrom}
@@ -41,12 +41,9 @@ delivers ring means B M lists S evs t o reports opens keeps cleans accepted is r
     let last : Known ring means B M lists S t = known-run ring means keeps B M lists S accepted (unrun o) evs t first run in
     record { history = t; run = run; answer = answer; clean = rw answer (cleans B M lists S t accepted last.opening last.kept last.meant) }
 
-abbrev short_start : HartStart → Type 0
-short_start h = length h.code ≤ 4096
-
-senders-short : (code : List ℕ) (S i : ℕ) (lists : List (List ℕ)) → length code ≤ 4096 → All (λ (h : HartStart). length h.code ≤ 4096) (senders_from code S i lists)
-senders-short code S i [] short = All-nil short_start
-senders-short code S i (ws ∷ lists) short = All-cons short_start _ _ short (senders-short code S (i + 1) lists short)
+senders-short : (code : List ℕ) (S i : ℕ) (lists : List (List ℕ)) → length code ≤ 4096 → All IsShort (senders_from code S i lists)
+senders-short code S i [] short = All-nil IsShort
+senders-short code S i (ws ∷ lists) short = All-cons IsShort _ _ short (senders-short code S (i + 1) lists short)
 
 pub senders-length : (code : List ℕ) (S i : ℕ) (lists : List (List ℕ)) → length (senders_from code S i lists) ≡ length lists
 senders-length code S i [] = refl
@@ -57,7 +54,7 @@ channel-fits ring M lists S o short accepted is =
     subst (FitsIn M) (sym is) (record {
       some_hart = omega arith;
       harts = omega (arith, senders-length ring.sender S 0 lists, accepted.senders);
-      code = All-cons short_start _ _ short.1 (senders-short ring.sender S 0 lists short.0);
+      code = All-cons IsShort _ _ short.1 (senders-short ring.sender S 0 lists short.0);
       words = omega arith;
     })
 

@@ -16,7 +16,7 @@ use Rattle.poll_close.specs.Paces.{Pace, far_at, far_of, visited_by, some_open, 
 use Rattle.poll_close.specs.Plans.{is_closed}
 use Rattle.poll_close.specs.Invariant.Blocks.{Block}
 use Rattle.poll_close.specs.Invariant.ReceiverState.{Middle, Noted, Whole, whole_of, receiving}
-use Rattle.poll_close.specs.Invariant.ReceiverPlaces.{ReceiverPlace, R00, R04, R08, R0C, R10, R14, R18, R1C, R20, R24, R28, R2C, R30, R34, R38, R3C, R40, R44, R48, R4C, R50, R54, R58, R5C, R60, R64, R68, R6C, R70, R74, R78, R7C, ROver, receives, due}
+use Rattle.poll_close.specs.Invariant.ReceiverPlaces.{ReceiverPlace, Pc00, Pc04, Pc08, Pc0C, Pc10, Pc14, Pc18, Pc1C, Pc20, Pc24, Pc28, Pc2C, Pc30, Pc34, Pc38, Pc3C, Pc40, Pc44, Pc48, Pc4C, Pc50, Pc54, Pc58, Pc5C, Pc60, Pc64, Pc68, Pc6C, Pc70, Pc74, Pc78, Pc7C, ROver, receives, due}
 use Rattle.poll_close.specs.Invariant.BlockMeaning.{BlockMeaning, ReceiverIs}
 use Rattle.poll_close.proofs.Lines.{loads}
 use Rattle.poll_close.proofs.ReceiverLines.{line_00, line_04, line_08, line_0C-same, line_0C-other, line_10, line_28, line_2C-same, line_2C-other, line_30, line_34, line_38, line_3C, line_40, line_44, line_48-same, line_48-other, line_4C, line_50, line_54, line_58, line_5C, line_60, line_64-other, line_68, line_6C, line_70-same, line_70-other, line_74}
@@ -44,11 +44,11 @@ pub record BlockProgress (m : BlockMeaning) (p : Pace) (least : ℕ) : Type 1 wh
   pub marked : (k : Block) (n : m.Count) (s : HartState) → IsBlock k → m.Ordered k n → m.Stands k n s → runs (Some s) ≡ false → m.unsent k n ≡ [] → m.marks n ≡ 1
   -- a visit is not stale once the mark is read, nor where the sender runs
   pub fresh : (f : Whole) (r : Noted) (T size : ℕ) (E : Bool) → (E ≡ true → r.x30 ≡ 1) → p.stale (receiving m.middle f 0x14 r) T size E ≡ false
-  pub near_14 : MiddleNears m p Ready R14
-  pub near_18 : MiddleNears m p Ready R18
-  pub near_1C : MiddleNears m p Ready R1C
-  pub near_20 : MiddleNears m p Ready R20
-  pub near_24 : MiddleNears m p Ready R24
+  pub near_14 : MiddleNears m p Ready Pc14
+  pub near_18 : MiddleNears m p Ready Pc18
+  pub near_1C : MiddleNears m p Ready Pc1C
+  pub near_20 : MiddleNears m p Ready Pc20
+  pub near_24 : MiddleNears m p Ready Pc24
 
 -- an act by a line
 pub falls : {p : Pace} {s new at : HartState} {T size : ℕ} {sh E : Bool} {rest start : ℕ} → new ≡ at → Falls p s at T size sh E rest start → Falls p s new T size sh E rest start
@@ -116,130 +116,130 @@ module _ (m : BlockMeaning) (code : List ℕ) (laws : BlockLaws m code) (p : Pac
   goes : (here there : ReceiverPlace) (T : ℕ) (noted : Noted) → advanced (receives m.middle (whole_of k count) here r) v ≡ receives m.middle (whole_of k count) there noted → Falls p (receives m.middle (whole_of k count) here r) (receives m.middle (whole_of k count) there noted) T k.size sh E rest start → Fell here T
   goes here there T noted leaves f = falls leaves f
 
-  falls_08 : (T : ℕ) → ReceiverIs m k i R08 n r → Fell R08 T
-  falls_08 T h = goes R08 R0C T (record r { x5 = v }) ((line_08 m.middle (whole_of k count) r (omega (arith, is.even, h.1.base)) (omega (arith, is.inside, is.some_slot, h.1.base)) is.small).leaves v) (record { block = refl; nearer = at sh })
+  falls_08 : (T : ℕ) → ReceiverIs m k i Pc08 n r → Fell Pc08 T
+  falls_08 T h = goes Pc08 Pc0C T (record r { x5 = v }) ((line_08 m.middle (whole_of k count) r (omega (arith, is.even, h.1.base)) (omega (arith, is.inside, is.some_slot, h.1.base)) is.small).leaves v) (record { block = refl; nearer = at sh })
     where
       at : (b : Bool) → (if b then 16 + rest else 21) < (if b then 17 + rest else 22)
       at true = omega arith
       at false = omega arith
 
-  falls_0C : (T : ℕ) → ReceiverIs m k i R0C n r → Fell R0C T
+  falls_0C : (T : ℕ) → ReceiverIs m k i Pc0C n r → Fell Pc0C T
   falls_0C T h =
       elim (cases_eq r.x5 0) [
-        | inl none ↦ goes R0C R10 T r ((line_0C-same m.middle (whole_of k count) r none).leaves v) (record { block = refl; nearer = at sh })
-        | inr some ↦ goes R0C R68 T r ((line_0C-other m.middle (whole_of k count) r some).leaves v) (record { block = refl; nearer = (let on : sh ≡ true = shut_is h.1.index (λ zero_is. some (h.2 ∙ sym h.0.closed ∙ zero_is)) in rw on (omega arith)) })
+        | inl none ↦ goes Pc0C Pc10 T r ((line_0C-same m.middle (whole_of k count) r none).leaves v) (record { block = refl; nearer = at sh })
+        | inr some ↦ goes Pc0C Pc68 T r ((line_0C-other m.middle (whole_of k count) r some).leaves v) (record { block = refl; nearer = (let on : sh ≡ true = shut_is h.1.index (λ zero_is. some (h.2 ∙ sym h.0.closed ∙ zero_is)) in rw on (omega arith)) })
       ]
     where
       at : (b : Bool) → 20 + 0 * rest + 0 * start < (if b then 16 + rest else 21)
       at true = omega arith
       at false = omega arith
 
-  falls_10 : (T : ℕ) → ReceiverIs m k i R10 n r → v ≡ seen_at m k n word_at (k.base + 4) → Fell R10 T
+  falls_10 : (T : ℕ) → ReceiverIs m k i Pc10 n r → v ≡ seen_at m k n word_at (k.base + 4) → Fell Pc10 T
   falls_10 T h seen =
       let read : v ≡ m.marks n = seen ∙ laws.sees_mark k n word_at order words in
       let new : p.stale (receiving m.middle (whole_of k count) 0x14 (record r { x30 = v })) T k.size E ≡ false = prog.fresh (whole_of k count) (record r { x30 = v }) T k.size E (λ on. read ∙ marked h.visits.index on) in
-      goes R10 R14 T (record r { x30 = v }) ((line_10 m.middle (whole_of k count) r (omega (arith, is.even, h.visits.base)) (omega (arith, is.inside, is.some_slot, h.visits.base)) is.small).leaves v) (record { block = refl; nearer = rw new (omega arith) })
+      goes Pc10 Pc14 T (record r { x30 = v }) ((line_10 m.middle (whole_of k count) r (omega (arith, is.even, h.visits.base)) (omega (arith, is.inside, is.some_slot, h.visits.base)) is.small).leaves v) (record { block = refl; nearer = rw new (omega arith) })
 
-  falls_28 : (T : ℕ) → ReceiverIs m k i R28 n r → Fell R28 T
-  falls_28 T h = goes R28 R2C T (record r { x7 = r.x7 + 4 }) ((line_28 m.middle (whole_of k count) r (omega (arith, is.inside, is.small, h.1, offset_low k is (m.tails n)))).leaves v) (record { block = refl; nearer = omega arith })
+  falls_28 : (T : ℕ) → ReceiverIs m k i Pc28 n r → Fell Pc28 T
+  falls_28 T h = goes Pc28 Pc2C T (record r { x7 = r.x7 + 4 }) ((line_28 m.middle (whole_of k count) r (omega (arith, is.inside, is.small, h.1, offset_low k is (m.tails n)))).leaves v) (record { block = refl; nearer = omega arith })
 
-  falls_2C : (T : ℕ) → ReceiverIs m k i R2C n r → Fell R2C T
+  falls_2C : (T : ℕ) → ReceiverIs m k i Pc2C n r → Fell Pc2C T
   falls_2C T h =
       elim (cases_eq r.x7 (4 * k.size)) [
-        | inl same ↦ goes R2C R30 T r ((line_2C-same m.middle (whole_of k count) r same).leaves v) (record { block = refl; nearer = omega arith })
-        | inr other ↦ goes R2C R34 T r ((line_2C-other m.middle (whole_of k count) r other).leaves v) (record { block = refl; nearer = omega arith })
+        | inl same ↦ goes Pc2C Pc30 T r ((line_2C-same m.middle (whole_of k count) r same).leaves v) (record { block = refl; nearer = omega arith })
+        | inr other ↦ goes Pc2C Pc34 T r ((line_2C-other m.middle (whole_of k count) r other).leaves v) (record { block = refl; nearer = omega arith })
       ]
 
-  falls_30 : (T : ℕ) → ReceiverIs m k i R30 n r → Fell R30 T
-  falls_30 T h = goes R30 R34 T (record r { x7 = 0 }) ((line_30 m.middle (whole_of k count) r).leaves v) (record { block = refl; nearer = omega arith })
+  falls_30 : (T : ℕ) → ReceiverIs m k i Pc30 n r → Fell Pc30 T
+  falls_30 T h = goes Pc30 Pc34 T (record r { x7 = 0 }) ((line_30 m.middle (whole_of k count) r).leaves v) (record { block = refl; nearer = omega arith })
 
-  falls_34 : (T : ℕ) → ReceiverIs m k i R34 n r → Fell R34 T
-  falls_34 T h = goes R34 R38 T r ((line_34 m.middle (whole_of k count) r (omega (arith, is.even, h.0.visits.base)) (omega (arith, is.inside, is.some_slot, h.0.visits.base)) is.small).leaves v) (record { block = refl; nearer = omega arith })
+  falls_34 : (T : ℕ) → ReceiverIs m k i Pc34 n r → Fell Pc34 T
+  falls_34 T h = goes Pc34 Pc38 T r ((line_34 m.middle (whole_of k count) r (omega (arith, is.even, h.0.visits.base)) (omega (arith, is.inside, is.some_slot, h.0.visits.base)) is.small).leaves v) (record { block = refl; nearer = omega arith })
 
-  falls_38 : (T : ℕ) → ReceiverIs m k i R38 n r → Fell R38 T
-  falls_38 T h = goes R38 R3C T (record r { x10 = r.x22 }) ((line_38 m.middle (whole_of k count) r (omega (arith, h.visits.index, known, few))).leaves v) (record { block = refl; nearer = omega arith })
+  falls_38 : (T : ℕ) → ReceiverIs m k i Pc38 n r → Fell Pc38 T
+  falls_38 T h = goes Pc38 Pc3C T (record r { x10 = r.x22 }) ((line_38 m.middle (whole_of k count) r (omega (arith, h.visits.index, known, few))).leaves v) (record { block = refl; nearer = omega arith })
 
-  falls_3C : (T : ℕ) → ReceiverIs m k i R3C n r → Fell R3C T
-  falls_3C T h = goes R3C R40 T (record r { x17 = 2 }) ((line_3C m.middle (whole_of k count) r).leaves v) (record { block = refl; nearer = omega arith })
+  falls_3C : (T : ℕ) → ReceiverIs m k i Pc3C n r → Fell Pc3C T
+  falls_3C T h = goes Pc3C Pc40 T (record r { x17 = 2 }) ((line_3C m.middle (whole_of k count) r).leaves v) (record { block = refl; nearer = omega arith })
 
-  falls_44 : (T : ℕ) → ReceiverIs m k i R44 n r → Fell R44 T
-  falls_44 T h = goes R44 R68 T r ((line_44 m.middle (whole_of k count) r).leaves v) (record { block = refl; nearer = omega arith })
+  falls_44 : (T : ℕ) → ReceiverIs m k i Pc44 n r → Fell Pc44 T
+  falls_44 T h = goes Pc44 Pc68 T r ((line_44 m.middle (whole_of k count) r).leaves v) (record { block = refl; nearer = omega arith })
 
-  falls_48 : (T : ℕ) → ReceiverIs m k i R48 n r → Fell R48 T
+  falls_48 : (T : ℕ) → ReceiverIs m k i Pc48 n r → Fell Pc48 T
   falls_48 T h =
       elim (cases_eq r.x30 0) [
-        | inl none ↦ goes R48 R68 T r ((line_48-same m.middle (whole_of k count) r none).leaves v) (record { block = refl; nearer = (let on : (r.x30 == 0) ≡ true = grind (arith, nat_tests) in rw on (omega arith)) })
-        | inr some ↦ goes R48 R4C T r ((line_48-other m.middle (whole_of k count) r some).leaves v) (record { block = refl; nearer = (let not_on : (r.x30 == 0) ≡ false = grind (arith, nat_tests) in rw not_on (omega arith)) })
+        | inl none ↦ goes Pc48 Pc68 T r ((line_48-same m.middle (whole_of k count) r none).leaves v) (record { block = refl; nearer = (let on : (r.x30 == 0) ≡ true = grind (arith, nat_tests) in rw on (omega arith)) })
+        | inr some ↦ goes Pc48 Pc4C T r ((line_48-other m.middle (whole_of k count) r some).leaves v) (record { block = refl; nearer = (let not_on : (r.x30 == 0) ≡ false = grind (arith, nat_tests) in rw not_on (omega arith)) })
       ]
 
-  falls_4C : (T : ℕ) → ReceiverIs m k i R4C n r → Fell R4C T
-  falls_4C T h = goes R4C R50 T (record r { x5 = 1 }) ((line_4C m.middle (whole_of k count) r).leaves v) (record { block = refl; nearer = omega arith })
+  falls_4C : (T : ℕ) → ReceiverIs m k i Pc4C n r → Fell Pc4C T
+  falls_4C T h = goes Pc4C Pc50 T (record r { x5 = 1 }) ((line_4C m.middle (whole_of k count) r).leaves v) (record { block = refl; nearer = omega arith })
 
-  falls_50 : (T : ℕ) → ReceiverIs m k i R50 n r → Fell R50 T
-  falls_50 T h = goes R50 R54 T r ((line_50 m.middle (whole_of k count) r (omega (arith, is.even, h.0.visits.base)) (omega (arith, is.inside, is.some_slot, h.0.visits.base)) is.small).leaves v) (record { block = refl; nearer = omega arith })
+  falls_50 : (T : ℕ) → ReceiverIs m k i Pc50 n r → Fell Pc50 T
+  falls_50 T h = goes Pc50 Pc54 T r ((line_50 m.middle (whole_of k count) r (omega (arith, is.even, h.0.visits.base)) (omega (arith, is.inside, is.some_slot, h.0.visits.base)) is.small).leaves v) (record { block = refl; nearer = omega arith })
 
-  falls_54 : (T : ℕ) → ReceiverIs m k i R54 n r → Fell R54 T
-  falls_54 T h = goes R54 R58 T (record r { x10 = r.x22 }) ((line_54 m.middle (whole_of k count) r (omega (arith, h.visits.index, known, few))).leaves v) (record { block = refl; nearer = omega arith })
+  falls_54 : (T : ℕ) → ReceiverIs m k i Pc54 n r → Fell Pc54 T
+  falls_54 T h = goes Pc54 Pc58 T (record r { x10 = r.x22 }) ((line_54 m.middle (whole_of k count) r (omega (arith, h.visits.index, known, few))).leaves v) (record { block = refl; nearer = omega arith })
 
-  falls_58 : (T : ℕ) → ReceiverIs m k i R58 n r → Fell R58 T
-  falls_58 T h = goes R58 R5C T (record r { x17 = 3 }) ((line_58 m.middle (whole_of k count) r).leaves v) (record { block = refl; nearer = omega arith })
+  falls_58 : (T : ℕ) → ReceiverIs m k i Pc58 n r → Fell Pc58 T
+  falls_58 T h = goes Pc58 Pc5C T (record r { x17 = 3 }) ((line_58 m.middle (whole_of k count) r).leaves v) (record { block = refl; nearer = omega arith })
 
-  falls_60 : (T : ℕ) → (y : ℕ) → r.x20 ≡ y + 1 → r.x20 ≤ 64 → Fell R60 T
-  falls_60 T y one small = goes R60 R64 T (record r { x20 = y }) ((line_60 m.middle (whole_of k count) r y one (omega (arith, one, small))).leaves v) (record { block = refl; nearer = omega arith })
+  falls_60 : (T : ℕ) → (y : ℕ) → r.x20 ≡ y + 1 → r.x20 ≤ 64 → Fell Pc60 T
+  falls_60 T y one small = goes Pc60 Pc64 T (record r { x20 = y }) ((line_60 m.middle (whole_of k count) r y one (omega (arith, one, small))).leaves v) (record { block = refl; nearer = omega arith })
 
-  falls_64 : (T : ℕ) → 0 < r.x20 → Fell R64 T
-  falls_64 T owing = goes R64 R68 T r ((line_64-other m.middle (whole_of k count) r (λ none. omega (arith, none, owing))).leaves v) (record { block = refl; nearer = omega arith })
+  falls_64 : (T : ℕ) → 0 < r.x20 → Fell Pc64 T
+  falls_64 T owing = goes Pc64 Pc68 T r ((line_64-other m.middle (whole_of k count) r (λ none. omega (arith, none, owing))).leaves v) (record { block = refl; nearer = omega arith })
 
-  falls_68 : (T : ℕ) → ReceiverIs m k i R68 n r → Fell R68 T
-  falls_68 T h = goes R68 R6C T (record r { x8 = r.x8 + block_size k.size }) ((line_68 m.middle (whole_of k count) r (omega (arith, h.1.base, is.inside, is.wide, is.some_slot))).leaves v) (record { block = refl; nearer = omega arith })
+  falls_68 : (T : ℕ) → ReceiverIs m k i Pc68 n r → Fell Pc68 T
+  falls_68 T h = goes Pc68 Pc6C T (record r { x8 = r.x8 + block_size k.size }) ((line_68 m.middle (whole_of k count) r (omega (arith, h.1.base, is.inside, is.wide, is.some_slot))).leaves v) (record { block = refl; nearer = omega arith })
 
-  falls_6C : (T : ℕ) → ReceiverIs m k i R6C n r → Fell R6C T
-  falls_6C T h = goes R6C R70 T (record r { x22 = r.x22 + 1 }) ((line_6C m.middle (whole_of k count) r (omega (arith, h.1, known, few))).leaves v) (record { block = omega arith; nearer = omega arith })
+  falls_6C : (T : ℕ) → ReceiverIs m k i Pc6C n r → Fell Pc6C T
+  falls_6C T h = goes Pc6C Pc70 T (record r { x22 = r.x22 + 1 }) ((line_6C m.middle (whole_of k count) r (omega (arith, h.1, known, few))).leaves v) (record { block = omega arith; nearer = omega arith })
 
-  falls_74 : (T : ℕ) → ReceiverIs m k i R74 n r → Fell R74 T
-  falls_74 T h = goes R74 R00 T r ((line_74 m.middle (whole_of k count) r).leaves v) (record { block = refl; nearer = omega arith })
+  falls_74 : (T : ℕ) → ReceiverIs m k i Pc74 n r → Fell Pc74 T
+  falls_74 T h = goes Pc74 Pc00 T r ((line_74 m.middle (whole_of k count) r).leaves v) (record { block = refl; nearer = omega arith })
 
-  falls_00 : (T : ℕ) → ReceiverIs m k i R00 n r → Fell R00 T
-  falls_00 T h = goes R00 R04 T (record r { x8 = 0 }) ((line_00 m.middle (whole_of k count) r).leaves v) (record { block = refl; nearer = omega arith })
+  falls_00 : (T : ℕ) → ReceiverIs m k i Pc00 n r → Fell Pc00 T
+  falls_00 T h = goes Pc00 Pc04 T (record r { x8 = 0 }) ((line_00 m.middle (whole_of k count) r).leaves v) (record { block = refl; nearer = omega arith })
 
   -- it reports something of this sender
   abbrev pub Tells : ReceiverPlace → Type 0
   Tells here = (x : Report) × (need_of (receives m.middle (whole_of k count) here r) ≡ need.Report x) × (sender_of x ≡ i)
 
   -- wherever it stands, but where it comes to another block
-  pub falls_on : (here : ReceiverPlace) → (T : ℕ) → (r.x22 ≡ i → m.took n ≡ m.tails n → T ≡ m.took n) → Finds m k count here n word_at r v → due here < r.x20 → r.x20 ≤ 64 → ReceiverIs m k i here n r → Tells here ⊎ (Fell here T ⊎ ((here ≡ R04) ⊎ (here ≡ R70)))
-  falls_on R00 T took find owing small h = inr (inl (falls_00 T h))
-  falls_on R04 T took find owing small h = inr (inr (inl refl))
-  falls_on R08 T took find owing small h = inr (inl (falls_08 T h))
-  falls_on R0C T took find owing small h = inr (inl (falls_0C T h))
-  falls_on R10 T took find owing small h = inr (inl (falls_10 T h (find (k.base + 4) (word_of k is 4 (omega arith) refl) ((line_10 m.middle (whole_of k count) r (omega (arith, is.even, h.visits.base)) (omega (arith, is.inside, is.some_slot, h.visits.base)) is.small).wants ∙ ap (λ b. loads (b + 4)) h.visits.base))))
-  falls_on R14 T took find owing small h = inr (inl (subst (λ (z : ℕ). Fell R14 z) (sym (took h.0.visits.index h.0.quiet.words)) (prog.near_14 k i count n word_at r v sh E rest start is order words find h (ready h.0.visits.index) off)))
-  falls_on R18 T took find owing small h = inr (inl (subst (λ (z : ℕ). Fell R18 z) (sym (took h.0.visits.index h.0.quiet.words)) (prog.near_18 k i count n word_at r v sh E rest start is order words find h (ready h.0.visits.index) off)))
-  falls_on R1C T took find owing small h = inr (inl (subst (λ (z : ℕ). Fell R1C z) (sym (took h.0.visits.index h.0.quiet.words)) (prog.near_1C k i count n word_at r v sh E rest start is order words find h (ready h.0.visits.index) off)))
-  falls_on R20 T took find owing small h = inr (inl (subst (λ (z : ℕ). Fell R20 z) (sym (took h.0.visits.index h.0.quiet.words)) (prog.near_20 k i count n word_at r v sh E rest start is order words find h (ready h.0.visits.index) off)))
-  falls_on R24 T took find owing small h = inr (inl (subst (λ (z : ℕ). Fell R24 z) (sym (took h.0.visits.index h.0.quiet.words)) (prog.near_24 k i count n word_at r v sh E rest start is order words find h (ready h.0.visits.index) off)))
-  falls_on R28 T took find owing small h = inr (inl (falls_28 T h))
-  falls_on R2C T took find owing small h = inr (inl (falls_2C T h))
-  falls_on R30 T took find owing small h = inr (inl (falls_30 T h))
-  falls_on R34 T took find owing small h = inr (inl (falls_34 T h))
-  falls_on R38 T took find owing small h = inr (inl (falls_38 T h))
-  falls_on R3C T took find owing small h = inr (inl (falls_3C T h))
-  falls_on R40 T took find owing small h = inl (report.Took r.x10 r.x11, (line_40 m.middle (whole_of k count) r h.2).wants, h.1)
-  falls_on R44 T took find owing small h = inr (inl (falls_44 T h))
-  falls_on R48 T took find owing small h = inr (inl (falls_48 T h))
-  falls_on R4C T took find owing small h = inr (inl (falls_4C T h))
-  falls_on R50 T took find owing small h = inr (inl (falls_50 T h))
-  falls_on R54 T took find owing small h = inr (inl (falls_54 T h))
-  falls_on R58 T took find owing small h = inr (inl (falls_58 T h))
-  falls_on R5C T took find owing small h = inl (report.Closed r.x10, (line_5C m.middle (whole_of k count) r h.2).wants, h.1)
-  falls_on R60 T took find owing small h = inr (inl (falls_60 T (r.x20 - 1) (omega (arith, owing)) small))
-  falls_on R64 T took find owing small h = inr (inl (falls_64 T owing))
-  falls_on R68 T took find owing small h = inr (inl (falls_68 T h))
-  falls_on R6C T took find owing small h = inr (inl (falls_6C T h))
-  falls_on R70 T took find owing small h = inr (inr (inr refl))
-  falls_on R74 T took find owing small h = inr (inl (falls_74 T h))
-  falls_on R78 T took find owing small h = absurd (omega (arith, owing, h.1))
-  falls_on R7C T took find owing small h = absurd (omega (arith, owing, h.2))
+  pub falls_on : (here : ReceiverPlace) → (T : ℕ) → (r.x22 ≡ i → m.took n ≡ m.tails n → T ≡ m.took n) → Finds m k count here n word_at r v → due here < r.x20 → r.x20 ≤ 64 → ReceiverIs m k i here n r → Tells here ⊎ (Fell here T ⊎ ((here ≡ Pc04) ⊎ (here ≡ Pc70)))
+  falls_on Pc00 T took find owing small h = inr (inl (falls_00 T h))
+  falls_on Pc04 T took find owing small h = inr (inr (inl refl))
+  falls_on Pc08 T took find owing small h = inr (inl (falls_08 T h))
+  falls_on Pc0C T took find owing small h = inr (inl (falls_0C T h))
+  falls_on Pc10 T took find owing small h = inr (inl (falls_10 T h (find (k.base + 4) (word_of k is 4 (omega arith) refl) ((line_10 m.middle (whole_of k count) r (omega (arith, is.even, h.visits.base)) (omega (arith, is.inside, is.some_slot, h.visits.base)) is.small).wants ∙ ap (λ b. loads (b + 4)) h.visits.base))))
+  falls_on Pc14 T took find owing small h = inr (inl (subst (λ (z : ℕ). Fell Pc14 z) (sym (took h.0.visits.index h.0.quiet.words)) (prog.near_14 k i count n word_at r v sh E rest start is order words find h (ready h.0.visits.index) off)))
+  falls_on Pc18 T took find owing small h = inr (inl (subst (λ (z : ℕ). Fell Pc18 z) (sym (took h.0.visits.index h.0.quiet.words)) (prog.near_18 k i count n word_at r v sh E rest start is order words find h (ready h.0.visits.index) off)))
+  falls_on Pc1C T took find owing small h = inr (inl (subst (λ (z : ℕ). Fell Pc1C z) (sym (took h.0.visits.index h.0.quiet.words)) (prog.near_1C k i count n word_at r v sh E rest start is order words find h (ready h.0.visits.index) off)))
+  falls_on Pc20 T took find owing small h = inr (inl (subst (λ (z : ℕ). Fell Pc20 z) (sym (took h.0.visits.index h.0.quiet.words)) (prog.near_20 k i count n word_at r v sh E rest start is order words find h (ready h.0.visits.index) off)))
+  falls_on Pc24 T took find owing small h = inr (inl (subst (λ (z : ℕ). Fell Pc24 z) (sym (took h.0.visits.index h.0.quiet.words)) (prog.near_24 k i count n word_at r v sh E rest start is order words find h (ready h.0.visits.index) off)))
+  falls_on Pc28 T took find owing small h = inr (inl (falls_28 T h))
+  falls_on Pc2C T took find owing small h = inr (inl (falls_2C T h))
+  falls_on Pc30 T took find owing small h = inr (inl (falls_30 T h))
+  falls_on Pc34 T took find owing small h = inr (inl (falls_34 T h))
+  falls_on Pc38 T took find owing small h = inr (inl (falls_38 T h))
+  falls_on Pc3C T took find owing small h = inr (inl (falls_3C T h))
+  falls_on Pc40 T took find owing small h = inl (report.Took r.x10 r.x11, (line_40 m.middle (whole_of k count) r h.2).wants, h.1)
+  falls_on Pc44 T took find owing small h = inr (inl (falls_44 T h))
+  falls_on Pc48 T took find owing small h = inr (inl (falls_48 T h))
+  falls_on Pc4C T took find owing small h = inr (inl (falls_4C T h))
+  falls_on Pc50 T took find owing small h = inr (inl (falls_50 T h))
+  falls_on Pc54 T took find owing small h = inr (inl (falls_54 T h))
+  falls_on Pc58 T took find owing small h = inr (inl (falls_58 T h))
+  falls_on Pc5C T took find owing small h = inl (report.Closed r.x10, (line_5C m.middle (whole_of k count) r h.2).wants, h.1)
+  falls_on Pc60 T took find owing small h = inr (inl (falls_60 T (r.x20 - 1) (omega (arith, owing)) small))
+  falls_on Pc64 T took find owing small h = inr (inl (falls_64 T owing))
+  falls_on Pc68 T took find owing small h = inr (inl (falls_68 T h))
+  falls_on Pc6C T took find owing small h = inr (inl (falls_6C T h))
+  falls_on Pc70 T took find owing small h = inr (inr (inr refl))
+  falls_on Pc74 T took find owing small h = inr (inl (falls_74 T h))
+  falls_on Pc78 T took find owing small h = absurd (omega (arith, owing, h.1))
+  falls_on Pc7C T took find owing small h = absurd (omega (arith, owing, h.2))
   falls_on ROver T took find owing small h = absurd (omega (arith, owing, h.1))
 
 -- and where it comes to another block, or to the end of a round
@@ -250,20 +250,20 @@ module _ (p : Pace) (mid : Middle) (k : Block) (i count : ℕ) (base : k.base �
   far_by : (here : ReceiverPlace) (new : HartState) → advanced (receives mid (whole_of k count) here r) v ≡ new → far_of p count size rs states new < far_of p count size rs states (receives mid (whole_of k count) here r) → Near here
   far_by here new leaves less = subst (λ (z : HartState). far_of p count size rs states z < far_of p count size rs states (receives mid (whole_of k count) here r)) (sym leaves) less
 
-  pub near_04 : Near R04
-  near_04 = far_by R04 (receiving mid (whole_of k count) 0x08 (record r { x22 = 0 })) ((line_04 mid (whole_of k count) r).leaves v) (omega (arith, arrives rs count 0 (omega arith)))
+  pub near_04 : Near Pc04
+  near_04 = far_by Pc04 (receiving mid (whole_of k count) 0x08 (record r { x22 = 0 })) ((line_04 mid (whole_of k count) r).leaves v) (omega (arith, arrives rs count 0 (omega arith)))
 
-  pub near_70 : some_open rs 0 count ≡ true → r.x22 ≡ i + 1 → r.x8 ≡ k.base + block_size k.size → Near R70
+  pub near_70 : some_open rs 0 count ≡ true → r.x22 ≡ i + 1 → r.x8 ≡ k.base + block_size k.size → Near Pc70
   near_70 open_one index at =
       elim (cases_eq r.x8 (count * block_size k.size)) [
         | inl same ↦
             let last : r.x22 - 1 + 1 ≡ count = omega (arith, at_end same, index) in
             let over : rest_from rs count (r.x22 - 1 + 1) ≡ rest_from rs count count = ap (rest_from rs count) last in
-            far_by R70 (receiving mid (whole_of k count) 0x74 r) ((line_70-same mid (whole_of k count) r same).leaves v) (omega (arith, over, wraps rs count open_one))
+            far_by Pc70 (receiving mid (whole_of k count) 0x74 r) ((line_70-same mid (whole_of k count) r same).leaves v) (omega (arith, over, wraps rs count open_one))
         | inr other ↦
             let here : r.x22 - 1 + 1 ≡ r.x22 = omega (arith, index) in
             let rest : rest_from rs count (r.x22 - 1 + 1) ≡ rest_from rs count r.x22 = ap (rest_from rs count) here in
-            far_by R70 (receiving mid (whole_of k count) 0x08 r) ((line_70-other mid (whole_of k count) r other).leaves v) (omega (arith, rest, arrives rs count r.x22 (omega (arith, index, more other (cases_eq (i + 1) count)))))
+            far_by Pc70 (receiving mid (whole_of k count) 0x08 r) ((line_70-other mid (whole_of k count) r other).leaves v) (omega (arith, rest, arrives rs count r.x22 (omega (arith, index, more other (cases_eq (i + 1) count)))))
       ]
     where
       next : k.base + block_size k.size ≡ (i + 1) * block_size k.size
@@ -281,8 +281,8 @@ module _ (p : Pace) (mid : Middle) (k : Block) (i count : ℕ) (base : k.base �
       more other (inr less) = omega (arith, known)
 
 -- at each place but 70 the block that it visits is in x22
-pub visited_at : (mid : Middle) (f : Whole) (r : Noted) (here : ReceiverPlace) → (here ≡ R70) ⊎ (visited_by (receives mid f here r) ≡ r.x22)
-visited_at mid f r R70 = inl refl
+pub visited_at : (mid : Middle) (f : Whole) (r : Noted) (here : ReceiverPlace) → (here ≡ Pc70) ⊎ (visited_by (receives mid f here r) ≡ r.x22)
+visited_at mid f r Pc70 = inl refl
 visited_at mid f r here = inr refl
 
 -- it runs as long as some sender is not counted, and reports a sender closed once at most
@@ -292,19 +292,19 @@ module _ (m : BlockMeaning) (code : List ℕ) (laws : BlockLaws m code) (k : Blo
   running_at here owing h = refl
 
   pub shut_one : (here : ReceiverPlace) → ReceiverIs m k i here n r → m.shut n ≤ 1
-  shut_one R00 h = omega (arith, h.closed, laws.dones_one k n order)
-  shut_one R10 h = omega (arith, h.quiet.closed, laws.dones_one k n order)
-  shut_one R14 h = omega (arith, h.0.quiet.closed, laws.dones_one k n order)
-  shut_one R18 h = omega (arith, h.0.quiet.closed, laws.dones_one k n order)
-  shut_one R1C h = omega (arith, h.0.quiet.closed, laws.dones_one k n order)
-  shut_one R20 h = omega (arith, h.0.quiet.closed, laws.dones_one k n order)
-  shut_one R24 h = omega (arith, h.0.quiet.closed, laws.dones_one k n order)
-  shut_one R38 h = omega (arith, h.closed, laws.dones_one k n order)
-  shut_one R48 h = omega (arith, h.0.quiet.closed, laws.dones_one k n order)
-  shut_one R4C h = omega (arith, h.0.quiet.closed, laws.dones_one k n order)
-  shut_one R50 h = omega (arith, h.0.quiet.closed, laws.dones_one k n order)
-  shut_one R54 h = omega (arith, h.unsaid)
-  shut_one R58 h = omega (arith, h.0.unsaid)
-  shut_one R5C h = omega (arith, h.0.unsaid)
-  shut_one R74 h = omega (arith, h.closed, laws.dones_one k n order)
+  shut_one Pc00 h = omega (arith, h.closed, laws.dones_one k n order)
+  shut_one Pc10 h = omega (arith, h.quiet.closed, laws.dones_one k n order)
+  shut_one Pc14 h = omega (arith, h.0.quiet.closed, laws.dones_one k n order)
+  shut_one Pc18 h = omega (arith, h.0.quiet.closed, laws.dones_one k n order)
+  shut_one Pc1C h = omega (arith, h.0.quiet.closed, laws.dones_one k n order)
+  shut_one Pc20 h = omega (arith, h.0.quiet.closed, laws.dones_one k n order)
+  shut_one Pc24 h = omega (arith, h.0.quiet.closed, laws.dones_one k n order)
+  shut_one Pc38 h = omega (arith, h.closed, laws.dones_one k n order)
+  shut_one Pc48 h = omega (arith, h.0.quiet.closed, laws.dones_one k n order)
+  shut_one Pc4C h = omega (arith, h.0.quiet.closed, laws.dones_one k n order)
+  shut_one Pc50 h = omega (arith, h.0.quiet.closed, laws.dones_one k n order)
+  shut_one Pc54 h = omega (arith, h.unsaid)
+  shut_one Pc58 h = omega (arith, h.0.unsaid)
+  shut_one Pc5C h = omega (arith, h.0.unsaid)
+  shut_one Pc74 h = omega (arith, h.closed, laws.dones_one k n order)
   shut_one here h = omega (arith, h.0.closed, laws.dones_one k n order)

@@ -3,7 +3,7 @@
 use Rattle.std.proofs.Common.{ℕ, zero, suc, ◌+◌, ◌-◌, ◌%◌, ◌<◌, ◌≤◌, ◌≡◌, ◌≢◌, ◌⊎◌, inl, inr, Bool, true, false, not, ◌&&◌, if◌then◌else◌, List, [], ◌∷◌, ◌++◌, length, take, min, length-take, Some, None, refl, sym, ◌∙◌, ap, subst, arith, add-one, append-nil, lit<}
 use Rattle.std.specs.Prelude.{slice_index, unwrap_or}
 use Rattle.std.specs.List.{slice_index_or}
-use Rattle.std.proofs.lemmas.Bool.{cases_eq}
+use Rattle.std.proofs.lemmas.Bool.{cases_eq, and_parts}
 use Rattle.std.proofs.Math.Nat.{mul-div_cancel_left}
 use Rattle.hart.specs.State.{HartState}
 use Rattle.hart.specs.Steps.{need_of, advanced}
@@ -35,7 +35,7 @@ use Rattle.poll_close.specs.Paces.{Pace, Nearer, Nears, some_open, rest_from, vi
 use Rattle.poll_close.specs.Plans.{AllLanded, is_closed, is_done, senders_of}
 use Rattle.poll_close.specs.Invariant.Blocks.{Block, block_of, as_writes, to_block}
 use Rattle.poll_close.specs.Invariant.ReceiverState.{Noted, whole_of, receiver_of}
-use Rattle.poll_close.specs.Invariant.ReceiverPlaces.{ReceiverPlace, R04, R70, receives, due}
+use Rattle.poll_close.specs.Invariant.ReceiverPlaces.{ReceiverPlace, Pc04, Pc70, receives, due}
 use Rattle.poll_close.specs.Invariant.BlockMeaning.{BlockMeaning, Quiet, ReceiverIs}
 use Rattle.poll_close.specs.Invariant.Channels.{Channel, means_by}
 use Rattle.poll_close.proofs.Acts.{Acted, acted, said_by}
@@ -93,11 +93,6 @@ running_is : (st : Status) → is_running st ≡ true → st ≡ status.Running
 running_is status.Running is = refl
 running_is status.Ended is = cc
 running_is (status.Stopped why) is = cc
-
-pub both_true : (a b : Bool) → (a && b) ≡ true → (a ≡ true) × (b ≡ true)
-both_true true true is = (refl, refl)
-both_true true false is = cc
-both_true false b is = cc
 
 not_true : (b : Bool) → not b ≡ true → b ≡ false
 not_true true is = cc
@@ -166,7 +161,7 @@ module _ (m : BlockMeaning) (code : List ℕ) (laws : BlockLaws m code) (least :
     s = (ch.parts j within).sender.stands
 
     is_on : (is_running s.status ≡ true) × (not (p.waits s (word_in_memory t.opening t.entries)) ≡ true)
-    is_on = both_true (is_running s.status) (not (p.waits s (word_in_memory t.opening t.entries))) (sym (ap (ready_if p (word_in_memory t.opening t.entries)) (ch.parts j within).sender.state) ∙ on)
+    is_on = and_parts (is_running s.status) (not (p.waits s (word_in_memory t.opening t.entries))) (sym (ap (ready_if p (word_in_memory t.opening t.entries)) (ch.parts j within).sender.state) ∙ on)
 
     running : s.status ≡ status.Running
     running = running_is s.status is_on.0
@@ -262,12 +257,12 @@ module _ (m : BlockMeaning) (code : List ℕ) (laws : BlockLaws m code) (least :
       abbrev Nears_far : Type 0
       Nears_far = far_of p (length lists) S rs (λ h. state_of M t h) (advanced st v) < far_of p (length lists) S rs (λ h. state_of M t h) st
 
-      at_04 : ch.receiver.place ≡ R04 → Nears_far
+      at_04 : ch.receiver.place ≡ Pc04 → Nears_far
       at_04 is = subst (λ (here : ReceiverPlace). far_of p (length lists) S rs (λ h. state_of M t h) (advanced (receives m.middle (whole_of receiver_block (length lists)) here r) v) < far_of p (length lists) S rs (λ h. state_of M t h) (receives m.middle (whole_of receiver_block (length lists)) here r)) (sym is) (near_04 p m.middle receiver_block b (length lists) refl ch.receiver.known S rs (λ h. state_of M t h) r v)
 
-      at_70 : ch.receiver.place ≡ R70 → Nears_far
+      at_70 : ch.receiver.place ≡ Pc70 → Nears_far
       at_70 is =
-          let h : ReceiverIs m receiver_block b R70 (ch.numbers b) r = subst (λ (here : ReceiverPlace). ReceiverIs m receiver_block b here (ch.numbers b) r) is ch.receiver.holds in
+          let h : ReceiverIs m receiver_block b Pc70 (ch.numbers b) r = subst (λ (here : ReceiverPlace). ReceiverIs m receiver_block b here (ch.numbers b) r) is ch.receiver.holds in
           subst (λ (here : ReceiverPlace). far_of p (length lists) S rs (λ h. state_of M t h) (advanced (receives m.middle (whole_of receiver_block (length lists)) here r) v) < far_of p (length lists) S rs (λ h. state_of M t h) (receives m.middle (whole_of receiver_block (length lists)) here r)) (sym is) (near_70 p m.middle receiver_block b (length lists) refl ch.receiver.known S rs (λ h. state_of M t h) r v some_is_open h.1 h.2)
 
       -- at the block that it visits

@@ -25,9 +25,9 @@ use Rattle.poll_close.specs.Reports.{taken, sender_of, IsPrefixOf}
 use Rattle.poll_close.specs.Going.{GoesOn}
 use Rattle.poll_close.specs.Invariant.Blocks.{block_of, as_write, as_writes, to_block}
 use Rattle.poll_close.specs.Invariant.ReceiverState.{Noted, whole_of}
-use Rattle.poll_close.specs.Invariant.ReceiverPlaces.{ReceiverPlace, R60, receives, due}
+use Rattle.poll_close.specs.Invariant.ReceiverPlaces.{ReceiverPlace, Pc60, receives, due}
 use Rattle.poll_close.specs.Invariant.BlockMeaning.{BlockMeaning, Quiet, ReceiverIs}
-use Rattle.poll_close.specs.Invariant.Channels.{BlockPart, ReceiverPart, Told, ReportPart, shuts}
+use Rattle.poll_close.specs.Invariant.Channels.{BlockPart, ReceiverPart, ReportsOf, ReportPart, shuts}
 use Rattle.poll_close.proofs.Acts.{Acted, Plain, acted, going, stored_by, said_by}
 use Rattle.poll_close.proofs.Windows.{get_end}
 use Rattle.poll_close.proofs.Blocks.{IsBlock, Within, IsWordOf, IsStore, IsStore-whole, newest-as_writes, apart, to_block-stored, to_block-elsewhere, newest-to_block, put, put_same, put_other}
@@ -76,17 +76,17 @@ pub record Received (m : BlockMeaning) (M S : ℕ) (lists : List (List ℕ)) (ne
 
 -- what is reported, where the receiver visits a block
 module _ (m : BlockMeaning) (M S : ℕ) (lists : List (List ℕ)) (f : ℕ → m.Count) (b : ℕ) (known : b < length lists) (rs : List Report) (told : ReportPart m lists rs f) where
-  told_put : (now : List Report) (n : m.Count) → Told now b (slice_index_or lists b []) (m.took n) (m.shut n) → ((j : ℕ) → j < length lists → j ≢ b → Told now j (slice_index_or lists j []) (m.took (f j)) (m.shut (f j))) → (j : ℕ) → j < length lists → Told now j (slice_index_or lists j []) (m.took (put f b n j)) (m.shut (put f b n j))
+  told_put : (now : List Report) (n : m.Count) → ReportsOf now b (slice_index_or lists b []) (m.took n) (m.shut n) → ((j : ℕ) → j < length lists → j ≢ b → ReportsOf now j (slice_index_or lists j []) (m.took (f j)) (m.shut (f j))) → (j : ℕ) → j < length lists → ReportsOf now j (slice_index_or lists j []) (m.took (put f b n j)) (m.shut (put f b n j))
   told_put now n one others j within =
       elim (cases_eq j b) [
         | inl same ↦
-            let P : ℕ → m.Count → Type 0 = λ i c. Told now i (slice_index_or lists i []) (m.took c) (m.shut c) in
+            let P : ℕ → m.Count → Type 0 = λ i c. ReportsOf now i (slice_index_or lists i []) (m.took c) (m.shut c) in
             subst (λ (c : m.Count). P j c) (sym (ap (put f b n) same ∙ put_same f b n)) (subst (λ (i : ℕ). P i n) (sym same) one)
-        | inr other ↦ subst (λ (c : m.Count). Told now j (slice_index_or lists j []) (m.took c) (m.shut c)) (sym (put_other f b n j other)) (others j within other)
+        | inr other ↦ subst (λ (c : m.Count). ReportsOf now j (slice_index_or lists j []) (m.took c) (m.shut c)) (sym (put_other f b n j other)) (others j within other)
       ]
 
   -- one report of the visited sender
-  one_said : (x : Report) (n : m.Count) → sender_of x ≡ b → m.shut (f b) ≡ 0 → Told (rs ++ x ∷ []) b (slice_index_or lists b []) (m.took n) (m.shut n) → ((i : ℕ) → x ≡ report.Closed i → taken rs i ≡ slice_index_or lists i []) → ReportPart m lists (rs ++ x ∷ []) (put f b n)
+  one_said : (x : Report) (n : m.Count) → sender_of x ≡ b → m.shut (f b) ≡ 0 → ReportsOf (rs ++ x ∷ []) b (slice_index_or lists b []) (m.took n) (m.shut n) → ((i : ℕ) → x ≡ report.Closed i → taken rs i ≡ slice_index_or lists i []) → ReportPart m lists (rs ++ x ∷ []) (put f b n)
   one_said x n from open_yet new all = record {
     told = told_put (rs ++ x ∷ []) n new (λ j within other. told_other rs j (slice_index_or lists j []) (m.took (f j)) (m.shut (f j)) x (λ same. other (sym same ∙ from)) (told.told j within));
     clean = clean_more rs lists x told.clean (subst (λ (j : ℕ). j < length lists) (sym from) known) unclosed prefix all;
@@ -121,14 +121,14 @@ module _ (m : BlockMeaning) (code : List ℕ) (laws : BlockLaws m code) (B M S :
   quiet_one j within q = omega (arith, q.closed, laws.dones_one (block_of M S lists j) (f j) (parts j within).order)
 
   pub owed_at : (place : ReceiverPlace) → ReceiverIs m (block_of M S lists part.block) part.block place (f part.block) part.noted → part.noted.x20 + shuts m f (length lists) ≡ length lists + due place → due place ≤ part.noted.x20
-  owed_at R60 h is = let most : shuts m f (length lists) ≤ length lists = shuts_most m f (length lists) (λ j within. elim (cases_eq j part.block) [
+  owed_at Pc60 h is = let most : shuts m f (length lists) ≤ length lists = shuts_most m f (length lists) (λ j within. elim (cases_eq j part.block) [
     | inl same ↦ subst (λ (z : ℕ). m.shut (f z) ≤ 1) (sym same) (quiet_one part.block part.known h.0)
     | inr other ↦ quiet_one j within (part.others j within other)
   ]) in omega (arith, is)
   owed_at here h is = omega arith
 
   due_one : (place : ReceiverPlace) → due place ≤ 1
-  due_one R60 = omega arith
+  due_one Pc60 = omega arith
   due_one here = omega arith
 
   pub small : part.noted.x20 ≤ 64

@@ -8,7 +8,7 @@ use Rattle.step_machine.specs.Paths.{state_of}
 use Rattle.poll_close.specs.Reports.{taken, Clean}
 use Rattle.poll_close.specs.Invariant.Blocks.{Block, block_of, offset}
 use Rattle.poll_close.specs.Invariant.ReceiverState.{Noted}
-use Rattle.poll_close.specs.Invariant.ReceiverPlaces.{ReceiverPlace, R00, R04, R08, R0C, R10, R14, R18, R1C, R20, R24, R28, R2C, R30, R34, R38, R3C, R40, R44, R48, R4C, R50, R54, R58, R5C, R60, R64, R68, R6C, R70, R74, R78, R7C, ROver}
+use Rattle.poll_close.specs.Invariant.ReceiverPlaces.{ReceiverPlace, Pc00, Pc04, Pc08, Pc0C, Pc10, Pc14, Pc18, Pc1C, Pc20, Pc24, Pc28, Pc2C, Pc30, Pc34, Pc38, Pc3C, Pc40, Pc44, Pc48, Pc4C, Pc50, Pc54, Pc58, Pc5C, Pc60, Pc64, Pc68, Pc6C, Pc70, Pc74, Pc78, Pc7C, ROver}
 use Rattle.poll_close.specs.Invariant.BlockMeaning.{BlockMeaning, Quiet, Opened, Flag, Has, Taking, Closing, ReceiverIs}
 use Rattle.poll_close.specs.Invariant.Channels.{BlockPart, ReceiverPart, ReportPart, shuts}
 use Rattle.poll_close.proofs.BlockLaws.{BlockLaws, Grows}
@@ -38,38 +38,38 @@ module _ (m : BlockMeaning) (code : List ℕ) (laws : BlockLaws m code) (k : Blo
   all_stays (inr all) = inr (g.tails ∙ all)
 
   pub receiver_stays : (here : ReceiverPlace) → m.Ordered k new → ReceiverIs m k i here n r → ReceiverIs m k i here new r
-  receiver_stays R00 order h = quiet_stays h
-  receiver_stays R04 order h = (quiet_stays h.0, h.1)
-  receiver_stays R08 order h = (quiet_stays h.0, h.1)
-  receiver_stays R0C order h = (quiet_stays h.0, h.1, h.2 ∙ sym g.dones)
-  receiver_stays R10 order h = opened_stays h
-  receiver_stays R14 order h = (opened_stays h.0, flag_stays h.1 (laws.marks_one k new order))
-  receiver_stays R18 order h = (opened_stays h.0, laws.stays_18 k n new r g order h.1)
-  receiver_stays R1C order h = (opened_stays h.0, laws.stays_1C k n new r g order h.1)
-  receiver_stays R20 order h = (opened_stays h.0, laws.stays_20 k n new r g order h.1)
-  receiver_stays R24 order h = (opened_stays h.0, laws.stays_24 k n new r g order h.1)
-  receiver_stays R28 order h = (has_stays h.0, h.1 ∙ ap (offset k) (sym g.tails))
-  receiver_stays R2C order h = (has_stays h.0, h.1 ∙ ap (λ j. offset k j + 4) (sym g.tails))
-  receiver_stays R30 order h = (has_stays h.0, ap (λ j. offset k j + 4) g.tails ∙ h.1)
-  receiver_stays R34 order h = (has_stays h.0, h.1 ∙ ap (λ j. offset k (j + 1)) (sym g.tails))
-  receiver_stays R38 order h = taking_stays h
-  receiver_stays R3C order h = (taking_stays h.0, h.1)
-  receiver_stays R40 order h = (taking_stays h.0, h.1, h.2)
-  receiver_stays R44 order h = (quiet_stays h.0, h.1)
-  receiver_stays R48 order h = (opened_stays h.0, all_stays h.1)
-  receiver_stays R4C order h = (opened_stays h.0, g.tails ∙ h.1)
-  receiver_stays R50 order h = (opened_stays h.0, g.tails ∙ h.1, h.2)
-  receiver_stays R54 order h = closing_stays h
-  receiver_stays R58 order h = (closing_stays h.0, h.1)
-  receiver_stays R5C order h = (closing_stays h.0, h.1, h.2)
-  receiver_stays R60 order h = (quiet_stays h.0, h.1)
-  receiver_stays R64 order h = (quiet_stays h.0, h.1)
-  receiver_stays R68 order h = (quiet_stays h.0, h.1)
-  receiver_stays R6C order h = (quiet_stays h.0, h.1, h.2)
-  receiver_stays R70 order h = (quiet_stays h.0, h.1, h.2)
-  receiver_stays R74 order h = quiet_stays h
-  receiver_stays R78 order h = (quiet_stays h.0, h.1)
-  receiver_stays R7C order h = (quiet_stays h.0, h.1, h.2)
+  receiver_stays Pc00 order h = quiet_stays h
+  receiver_stays Pc04 order h = (quiet_stays h.0, h.1)
+  receiver_stays Pc08 order h = (quiet_stays h.0, h.1)
+  receiver_stays Pc0C order h = (quiet_stays h.0, h.1, h.2 ∙ sym g.dones)
+  receiver_stays Pc10 order h = opened_stays h
+  receiver_stays Pc14 order h = (opened_stays h.0, flag_stays h.1 (laws.marks_one k new order))
+  receiver_stays Pc18 order h = (opened_stays h.0, laws.stays_18 k n new r g order h.1)
+  receiver_stays Pc1C order h = (opened_stays h.0, laws.stays_1C k n new r g order h.1)
+  receiver_stays Pc20 order h = (opened_stays h.0, laws.stays_20 k n new r g order h.1)
+  receiver_stays Pc24 order h = (opened_stays h.0, laws.stays_24 k n new r g order h.1)
+  receiver_stays Pc28 order h = (has_stays h.0, h.1 ∙ ap (offset k) (sym g.tails))
+  receiver_stays Pc2C order h = (has_stays h.0, h.1 ∙ ap (λ j. offset k j + 4) (sym g.tails))
+  receiver_stays Pc30 order h = (has_stays h.0, ap (λ j. offset k j + 4) g.tails ∙ h.1)
+  receiver_stays Pc34 order h = (has_stays h.0, h.1 ∙ ap (λ j. offset k (j + 1)) (sym g.tails))
+  receiver_stays Pc38 order h = taking_stays h
+  receiver_stays Pc3C order h = (taking_stays h.0, h.1)
+  receiver_stays Pc40 order h = (taking_stays h.0, h.1, h.2)
+  receiver_stays Pc44 order h = (quiet_stays h.0, h.1)
+  receiver_stays Pc48 order h = (opened_stays h.0, all_stays h.1)
+  receiver_stays Pc4C order h = (opened_stays h.0, g.tails ∙ h.1)
+  receiver_stays Pc50 order h = (opened_stays h.0, g.tails ∙ h.1, h.2)
+  receiver_stays Pc54 order h = closing_stays h
+  receiver_stays Pc58 order h = (closing_stays h.0, h.1)
+  receiver_stays Pc5C order h = (closing_stays h.0, h.1, h.2)
+  receiver_stays Pc60 order h = (quiet_stays h.0, h.1)
+  receiver_stays Pc64 order h = (quiet_stays h.0, h.1)
+  receiver_stays Pc68 order h = (quiet_stays h.0, h.1)
+  receiver_stays Pc6C order h = (quiet_stays h.0, h.1, h.2)
+  receiver_stays Pc70 order h = (quiet_stays h.0, h.1, h.2)
+  receiver_stays Pc74 order h = quiet_stays h
+  receiver_stays Pc78 order h = (quiet_stays h.0, h.1)
+  receiver_stays Pc7C order h = (quiet_stays h.0, h.1, h.2)
   receiver_stays ROver order h = (quiet_stays h.0, h.1)
 
 -- sums over all senders

@@ -13,7 +13,7 @@ use Rattle.poll_close.specs.Reports.{taken, sender_of, Clean}
 use Rattle.poll_close.specs.Paces.{Pace, some_open, rest_from, visited_by, runs, far_of, far_if, sender_if, one_if, share, total, round, left_in, far_at}
 use Rattle.poll_close.specs.Plans.{is_closed, all_closed}
 use Rattle.poll_close.specs.Invariant.ReceiverState.{Middle, Noted, Whole, receiving}
-use Rattle.poll_close.specs.Invariant.ReceiverPlaces.{ReceiverPlace, R04, R70, receives, R00, R08, R0C, R10, R14, R18, R1C, R20, R24, R28, R2C, R30, R34, R38, R3C, R40, R44, R48, R4C, R50, R54, R58, R5C, R60, R64, R68, R6C, R74, R78, R7C, ROver}
+use Rattle.poll_close.specs.Invariant.ReceiverPlaces.{ReceiverPlace, Pc04, Pc70, receives, Pc00, Pc08, Pc0C, Pc10, Pc14, Pc18, Pc1C, Pc20, Pc24, Pc28, Pc2C, Pc30, Pc34, Pc38, Pc3C, Pc40, Pc44, Pc48, Pc4C, Pc50, Pc54, Pc58, Pc5C, Pc60, Pc64, Pc68, Pc6C, Pc74, Pc78, Pc7C, ROver}
 use Rattle.poll_close.specs.Invariant.BlockMeaning.{BlockMeaning}
 use Rattle.poll_close.specs.Invariant.Channels.{shuts}
 use Rattle.poll_close.proofs.Windows.{get_end}
@@ -36,38 +36,38 @@ module _ (p : Pace) (mid : Middle) (f : Whole) (r : Noted) (T size : ℕ) (sh E 
   by_two a c false one two = omega arith
 
   pub far_most : (here : ReceiverPlace) → Far here
-  far_most R08 = by_two 17 22 sh (omega arith) (omega arith)
-  far_most R0C = by_two 16 21 sh (omega arith) (omega arith)
-  far_most R14 = by_three 16 (p.stale (receiving mid f 0x14 r) T size E) (omega arith)
-  far_most R18 = by_three 15 (p.stale (receiving mid f 0x18 r) T size E) (omega arith)
-  far_most R1C = by_three 14 (p.stale (receiving mid f 0x1C r) T size E) (omega arith)
-  far_most R20 = by_three 13 (p.stale (receiving mid f 0x20 r) T size E) (omega arith)
-  far_most R24 = by_three 12 (p.stale (receiving mid f 0x24 r) T size E) (omega arith)
-  far_most R48 = by_two 11 14 (r.x30 == 0) (omega arith) (omega arith)
-  far_most R00 = omega arith
-  far_most R04 = omega arith
-  far_most R10 = omega arith
-  far_most R28 = omega arith
-  far_most R2C = omega arith
-  far_most R30 = omega arith
-  far_most R34 = omega arith
-  far_most R38 = omega arith
-  far_most R3C = omega arith
-  far_most R40 = omega arith
-  far_most R44 = omega arith
-  far_most R4C = omega arith
-  far_most R50 = omega arith
-  far_most R54 = omega arith
-  far_most R58 = omega arith
-  far_most R5C = omega arith
-  far_most R60 = omega arith
-  far_most R64 = omega arith
-  far_most R68 = omega arith
-  far_most R6C = omega arith
-  far_most R70 = omega arith
-  far_most R74 = omega arith
-  far_most R78 = omega arith
-  far_most R7C = omega arith
+  far_most Pc08 = by_two 17 22 sh (omega arith) (omega arith)
+  far_most Pc0C = by_two 16 21 sh (omega arith) (omega arith)
+  far_most Pc14 = by_three 16 (p.stale (receiving mid f 0x14 r) T size E) (omega arith)
+  far_most Pc18 = by_three 15 (p.stale (receiving mid f 0x18 r) T size E) (omega arith)
+  far_most Pc1C = by_three 14 (p.stale (receiving mid f 0x1C r) T size E) (omega arith)
+  far_most Pc20 = by_three 13 (p.stale (receiving mid f 0x20 r) T size E) (omega arith)
+  far_most Pc24 = by_three 12 (p.stale (receiving mid f 0x24 r) T size E) (omega arith)
+  far_most Pc48 = by_two 11 14 (r.x30 == 0) (omega arith) (omega arith)
+  far_most Pc00 = omega arith
+  far_most Pc04 = omega arith
+  far_most Pc10 = omega arith
+  far_most Pc28 = omega arith
+  far_most Pc2C = omega arith
+  far_most Pc30 = omega arith
+  far_most Pc34 = omega arith
+  far_most Pc38 = omega arith
+  far_most Pc3C = omega arith
+  far_most Pc40 = omega arith
+  far_most Pc44 = omega arith
+  far_most Pc4C = omega arith
+  far_most Pc50 = omega arith
+  far_most Pc54 = omega arith
+  far_most Pc58 = omega arith
+  far_most Pc5C = omega arith
+  far_most Pc60 = omega arith
+  far_most Pc64 = omega arith
+  far_most Pc68 = omega arith
+  far_most Pc6C = omega arith
+  far_most Pc70 = omega arith
+  far_most Pc74 = omega arith
+  far_most Pc78 = omega arith
+  far_most Pc7C = omega arith
   far_most ROver = omega arith
 
 -- sums over the senders

@@ -8,6 +8,7 @@ use Rattle.step_machine.specs.Runs.{CanFollow}
 use Rattle.poll_close.specs.Layout.{block_size, opening_of}
 use Rattle.poll_close.specs.Reports.{Clean}
 use Rattle.poll_close.specs.Going.{AllGoOn}
+use Rattle.rv_decode.specs.declared.instruction.TheConstants.{MAX_CODE}
 
 -- what a ring of a kind is: its tables, its least size, and what its histories mean
 pub record Ring : Type 0 where
@@ -42,7 +43,7 @@ Cleans ring means = (B M : ℕ) (lists : List (List ℕ)) (S : ℕ) (t : History
 
 -- tables that fit a hart
 abbrev pub IsShort : Ring → Type 0
-IsShort ring = (length ring.sender ≤ 4096) × (length ring.receiver ≤ 4096)
+IsShort ring = (length ring.sender ≤ MAX_CODE) × (length ring.receiver ≤ MAX_CODE)
 
 -- no hart of such a channel is ever stopped
 abbrev pub Goes : Ring → Meaning → Type 0

@@ -7,13 +7,13 @@ use Rattle.poll_close.specs.Laws.{Ring, AreWords, Accepted}
 use Rattle.poll_close.specs.declared.faults.Refused.{Refused}
 use Rattle.poll_close.specs.declared.faults.Refused.TheVariants.{NoMemory, ZeroWord, NoSenders, TooManySenders, RingTooSmall, DoesNotFit}
 
-abbrev pub number_of : Refused → ℕ
-number_of NoMemory = 0
-number_of (ZeroWord sender place) = 16
-number_of NoSenders = 17
-number_of TooManySenders = 18
-number_of RingTooSmall = 19
-number_of DoesNotFit = 20
+abbrev pub fault_number : Refused → ℕ
+fault_number NoMemory = 0
+fault_number (ZeroWord sender place) = 16
+fault_number NoSenders = 17
+fault_number TooManySenders = 18
+fault_number RingTooSmall = 19
+fault_number DoesNotFit = 20
 
 -- the first zero of a list stands at place j
 pub record ZeroAt (ws : List ℕ) (j : ℕ) : Type 0 where

@@ -30,11 +30,11 @@ pub enum Refused {
 }
 
 impl Refused {
-    ghost use Rattle.poll_close.specs.Refusals.{number_of};
+    ghost use Rattle.poll_close.specs.Refusals.{fault_number};
 
     /// The number by which texts name it.
     pub fn number(self) -> u8
-        ensures { result ≡ number_of self }
+        ensures { result ≡ fault_number self }
     {
         match self {
             Refused::NoMemory => 0,

@@ -3,9 +3,9 @@ use Rattle.std.specs.Prelude.{ℕ}
 use Rattle.recorder.specs.declared.faults.ScheduleFault.{ScheduleFault}
 use Rattle.recorder.specs.declared.faults.ScheduleFault.TheVariants.{BadHead, BadToken, BadHart, BadCount, Truncated}
 
-abbrev pub number_of : ScheduleFault → ℕ
-number_of BadHead = 27
-number_of BadToken = 28
-number_of BadHart = 29
-number_of BadCount = 30
-number_of Truncated = 31
+abbrev pub fault_number : ScheduleFault → ℕ
+fault_number BadHead = 27
+fault_number BadToken = 28
+fault_number BadHart = 29
+fault_number BadCount = 30
+fault_number Truncated = 31

@@ -3,12 +3,14 @@ use Rattle.std.specs.Prelude.{◌≡◌, ℕ, ◌+◌, ◌-◌, ◌==◌, nat_lt
 use Rattle.std.specs.List.{starts_with}
 use Rattle.step_machine.specs.declared.events.Event.{Event}
 use Rattle.step_machine.specs.declared.events.Event.TheVariants.{Act, Land}
+use Rattle.step_machine.specs.declared.opening.TheConstants.{MAX_HARTS}
 use Rattle.recorder.specs.declared.faults.ScheduleFault.{ScheduleFault}
 use Rattle.recorder.specs.declared.faults.ScheduleFault.TheVariants.{BadHead, BadToken, BadHart, BadCount, Truncated}
 use Rattle.recorder.specs.declared.faults.AtByte.{AtByte}
 use Rattle.recorder.specs.declared.tokens.Kind.{Kind}
 use Rattle.recorder.specs.declared.tokens.Kind.TheVariants as kinds
 use Rattle.recorder.specs.declared.tokens.Token.{Token}
+use Rattle.recorder.specs.declared.reading.TheConstants.{MAX_EVENTS}
 use Rattle.texts.specs.declared.pieces.Separators.TheVariants.{BlanksAndLineEnds}
 use Rattle.texts.specs.Pieces.{pieces}
 use Rattle.texts.specs.Numbers.{number_of}
@@ -68,7 +70,7 @@ event_of kinds.Land hart = Land hart
 -- `room` more events may come.
 abbrev pub judged : (end place room : ℕ) → List ℕ → Option Token → Result (Event × ℕ) AtByte
 judged end place room word None = Err (if is_cut word && ((place + length word) == end) then at_byte Truncated end else at_byte BadToken place)
-judged end place room word (Some token) = if nat_le 64 token.hart then Err (at_byte BadHart place) else (if (token.times == 0) || nat_lt room token.times then Err (at_byte BadCount place) else Ok (event_of token.kind token.hart, token.times))
+judged end place room word (Some token) = if nat_le MAX_HARTS token.hart then Err (at_byte BadHart place) else (if (token.times == 0) || nat_lt room token.times then Err (at_byte BadCount place) else Ok (event_of token.kind token.hart, token.times))
 
 unfoldable pub run_at : (end place room : ℕ) → List ℕ → Result (Event × ℕ) AtByte
 run_at end place room word = judged end place room word (said_by word)
@@ -100,8 +102,8 @@ tokens_at room text = tokens_from 0 room text
 -- comes first, and then the token with which the total passes the limit.
 unfoldable pub tokens_after : (before : ℕ) → List ℕ → Result (List Event) AtByte
 tokens_after before text = do
-  own ← tokens_at 1048576 text
-  tokens_at (1048576 - before) text
+  own ← tokens_at MAX_EVENTS text
+  tokens_at (MAX_EVENTS - before) text
 
 -- ---- a schedule
 
@@ -121,7 +123,7 @@ has_head text = starts_with nat_eq text head && ends_line (drop 15 text)
 
 -- The events of a schedule: its first line has to be the head, and tokens follow.
 unfoldable pub schedule_at : List ℕ → Result (List Event) AtByte
-schedule_at text = if has_head text then tokens_from 15 1048576 text else Err (at_byte BadHead 0)
+schedule_at text = if has_head text then tokens_from 15 MAX_EVENTS text else Err (at_byte BadHead 0)
 
 -- What a function did that appends events: those that are answered, or none, where the answer is a
 -- refusal or memory ran out.

@@ -3,6 +3,7 @@
 ghost use Rattle.std.specs.Prelude.{◌≡◌, ◌≤◌, length, map, IfOk, OnOk, OnErr};
 ghost use Rattle.recorder.specs.Schedule.{OfHarts};
 ghost use Rattle.recorder.specs.Drawing.{drawn, words, left_after};
+ghost use Rattle.step_machine.specs.declared.opening.TheConstants.{MAX_HARTS};
 
 use rand_core::Rng;
 use std::alloc::{AllocError, Global};
@@ -11,7 +12,7 @@ use step_machine::events::Event;
 /// The event that the word draws.
 fn event_of(word: u32, harts: u32) -> Event
     requires some { 1 ≤ harts }
-    requires most { harts ≤ 64 }
+    requires most { harts ≤ MAX_HARTS }
     ensures { result ≡ drawn harts word }
 {
     let number = word % (2 * harts);
@@ -34,7 +35,7 @@ pub fn seeded<R: Rng>(
     n: u32,
 ) -> Result<Vec<Event>, AllocError>
     requires some_hart { 1 ≤ harts }
-    requires most_harts { harts ≤ 64 }
+    requires most_harts { harts ≤ MAX_HARTS }
     ensures drawn { IfOk result (λ events. events.items ≡ map (drawn harts) (words n (R.stream generator.old))) }
     ensures rest { OnOk result (R.stream generator.new ≡ left_after n (R.stream generator.old)) }
     ensures err { OnErr result (generator.new ≡ generator.old) }

@@ -27,9 +27,9 @@ pub enum ScheduleFault {
 }
 
 impl Numbered for ScheduleFault {
-    ghost use Rattle.recorder.specs.Faults.{number_of};
+    ghost use Rattle.recorder.specs.Faults.{fault_number};
 
-    ghost number = { number_of };
+    ghost number = { fault_number };
 
     fn number(self) -> u8 {
         match self {

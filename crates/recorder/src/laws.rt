@@ -6,6 +6,7 @@ ghost use Rattle.step_machine.specs.declared.events.Event.{Event};
 ghost use Rattle.recorder.specs.Schedule.{OfHarts, IsTokensOf, IsScheduleOf};
 ghost use Rattle.recorder.specs.Reading.{tokens_at, tokens_after, schedule_at};
 ghost use Rattle.recorder.specs.Writing.{Run, runs_of, expanded, AreLongest, tokens_of};
+ghost use Rattle.recorder.specs.declared.reading.TheConstants.{MAX_EVENTS};
 
 /// A text's tokens stand for one list of events at most, and so does a schedule. It does nothing.
 #[tactic(auto, using(crate::proofs::TextLaws::one_list, crate::proofs::HeadLaws::one_schedule))]
@@ -18,8 +19,8 @@ pub fn one_value()
 /// is no schedule; behind other events, where there is no room for those that it stands for. It does
 /// nothing.
 pub fn refused_without_value()
-    ensures tokens { (text : List ℕ) → IsErr (tokens_at 1048576 text) ↔ ((events : List Event) → ¬ IsTokensOf text events) }
-    ensures further { (before : ℕ) (text : List ℕ) → before ≤ 1048576 → IsErr (tokens_after before text) ↔ ((events : List Event) → IsTokensOf text events → ¬ (before + length events ≤ 1048576)) }
+    ensures tokens { (text : List ℕ) → IsErr (tokens_at MAX_EVENTS text) ↔ ((events : List Event) → ¬ IsTokensOf text events) }
+    ensures further { (before : ℕ) (text : List ℕ) → before ≤ MAX_EVENTS → IsErr (tokens_after before text) ↔ ((events : List Event) → IsTokensOf text events → ¬ (before + length events ≤ MAX_EVENTS)) }
     ensures schedules { (text : List ℕ) → IsErr (schedule_at text) ↔ ((events : List Event) → ¬ IsScheduleOf text events) }
 {}
 
@@ -34,5 +35,5 @@ pub fn longest_runs()
 /// The tokens that are written for some events stand for these events. It does nothing.
 #[tactic(auto, using(crate::proofs::RoundTrip::tokens_alone))]
 pub fn tokens_are_read_again()
-    ensures { (events : List Event) → OfHarts events → length events ≤ 1048576 → IsTokensOf (tokens_of events) events }
+    ensures { (events : List Event) → OfHarts events → length events ≤ MAX_EVENTS → IsTokensOf (tokens_of events) events }
 {}

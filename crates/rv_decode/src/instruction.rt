@@ -2,6 +2,9 @@
 
 ghost use Rattle.std.specs.Prelude.{◌<◌};
 
+/// How many instructions a program may have.
+pub const MAX_CODE: usize = 4096;
+
 /// An integer register, `x0` to `x31`.
 #[derive(Clone, Copy, Debug, PartialEq, Eq)]
 pub struct Reg {

@@ -14,7 +14,7 @@ use Rattle.step_machine.specs.declared.events.Event.TheVariants as event
 use Rattle.step_machine.specs.declared.events.Entry.{Entry}
 use Rattle.step_machine.specs.declared.events.Entry.TheVariants as entry
 use Rattle.step_machine.specs.declared.events.Outcome.TheVariants as outcome
-use Rattle.step_machine.specs.History.{HartStart, Start, History, Progress, with_entry}
+use Rattle.step_machine.specs.History.{HartStart, Start, History, history_of, Progress, with_entry}
 use Rattle.step_machine.specs.Entries.{hart_of, is_land, own}
 use Rattle.step_machine.specs.Paths.{entry_of, value_of, CanMake, after_entries, opens_as, state_of, PathOf}
 use Rattle.step_machine.specs.Legal.{Allowed, IsOfHarts, Kept}
@@ -25,9 +25,6 @@ use Rattle.step_machine.proofs.Appended.{own-append, Makes-front, LegalAfter-fro
 use Rattle.step_machine.proofs.Follows.{act_only}
 use Rattle.step_machine.proofs.Running.{hart_follows}
 
-abbrev hist : Start → List Entry → History
-hist o es = record { opening = o; entries = es }
-
 path_front : (M : ℕ) (so : Option HartStart) (es fs : List Entry) → PathOf M so (es ++ fs) → PathOf M so es
 path_front M None es fs p = p
 path_front M (Some o) es fs p = Makes-front (opens_as M o) es fs p
@@ -37,7 +34,7 @@ of_harts_front o [] fs all = All-nil (IsOfHarts o)
 of_harts_front o (e ∷ es) fs all = All-cons (IsOfHarts o) e es (All-head (IsOfHarts o) e (es ++ fs) all) (of_harts_front o es fs (All-tail (IsOfHarts o) e (es ++ fs) all))
 
 -- the front of a kept history is kept
-pub kept-front : (B M : ℕ) (o : Start) (es fs : List Entry) → Kept B M (hist o (es ++ fs)) → Kept B M (hist o es)
+pub kept-front : (B M : ℕ) (o : Start) (es fs : List Entry) → Kept B M (history_of o (es ++ fs)) → Kept B M (history_of o es)
 kept-front B M o es fs kept = record {
   legal = LegalAfter-front B o [] es fs kept.legal;
   paths = λ h within. path_front M (slice_get o.harts h) (own h es) (own h fs) (subst (PathOf M (slice_get o.harts h)) (own-append h es fs) (kept.paths h within));
@@ -91,16 +88,16 @@ added B M t e f = at (is_land e) refl
     at true is = record { for_event = landing e is; follows = f; only = λ d for_d g. for_d ∙ sym (landing e is); after = refl }
     at false is = record { for_event = (refl, is); follows = f; only = λ d for_d g. only_act B M t (hart_of e) e d (hart_follows B M t e f) refl is f for_d.0 for_d.1 g; after = refl }
 
-run_on : (B M : ℕ) (o : Start) (before es : List Entry) → Kept B M (hist o (before ++ es)) → RunFrom B M (hist o before) (map event_of es) (hist o (before ++ es))
-run_on B M o before [] kept = ap (hist o) (append-nil before)
+run_on : (B M : ℕ) (o : Start) (before es : List Entry) → Kept B M (history_of o (before ++ es)) → RunFrom B M (history_of o before) (map event_of es) (history_of o (before ++ es))
+run_on B M o before [] kept = ap (history_of o) (append-nil before)
 run_on B M o before (e ∷ es) kept =
-    let longer : Kept B M (hist o ((before ++ e ∷ []) ++ es)) = subst (λ (xs : List Entry). Kept B M (hist o xs)) (sym (append_assoc before (e ∷ []) es)) kept in
-    let here : Kept B M (hist o (before ++ e ∷ [])) = kept-front B M o (before ++ e ∷ []) es longer in
-    let rest : RunFrom B M (hist o (before ++ e ∷ [])) (map event_of es) (hist o ((before ++ e ∷ []) ++ es)) = run_on B M o (before ++ e ∷ []) es longer in (
+    let longer : Kept B M (history_of o ((before ++ e ∷ []) ++ es)) = subst (λ (xs : List Entry). Kept B M (history_of o xs)) (sym (append_assoc before (e ∷ []) es)) kept in
+    let here : Kept B M (history_of o (before ++ e ∷ [])) = kept-front B M o (before ++ e ∷ []) es longer in
+    let rest : RunFrom B M (history_of o (before ++ e ∷ [])) (map event_of es) (history_of o ((before ++ e ∷ []) ++ es)) = run_on B M o (before ++ e ∷ []) es longer in (
       outcome.Did e,
-      hist o (before ++ e ∷ []),
-      added B M (hist o before) e (record { legal = here.legal; path = here.paths (hart_of e) (last_of_harts o before e here.of_harts) }),
-      subst (λ (xs : List Entry). RunFrom B M (hist o (before ++ e ∷ [])) (map event_of es) (hist o xs)) (append_assoc before (e ∷ []) es) rest,
+      history_of o (before ++ e ∷ []),
+      added B M (history_of o before) e (record { legal = here.legal; path = here.paths (hart_of e) (last_of_harts o before e here.of_harts) }),
+      subst (λ (xs : List Entry). RunFrom B M (history_of o (before ++ e ∷ [])) (map event_of es) (history_of o xs)) (append_assoc before (e ∷ []) es) rest,
     )
   where
     last_of_harts : (o : Start) (before : List Entry) (e : Entry) → All (IsOfHarts o) (before ++ e ∷ []) → hart_of e < length o.harts
@@ -111,5 +108,5 @@ pub own_run : (B M : ℕ) (t : History) → Kept B M t → IsOwnRun B M t
 own_run B M t kept = run_on B M t.opening [] t.entries kept
 
 -- what a sound machine did, as it is seen, is the run of its own entries' events
-pub own_run_seen : (B M n : ℕ) (o : Start) (es : List Entry) (c : Config) (p : Progress) → Sound B M (hist o es) c n → record { history = hist o es; room = n } ≡ p → IsOwnRun B M p.history
-own_run_seen B M n o es c p sound is = subst (λ (q : Progress). IsOwnRun B M q.history) is (own_run B M (hist o es) sound.kept)
+pub own_run_seen : (B M n : ℕ) (o : Start) (es : List Entry) (c : Config) (p : Progress) → Sound B M (history_of o es) c n → record { history = history_of o es; room = n } ≡ p → IsOwnRun B M p.history
+own_run_seen B M n o es c p sound is = subst (λ (q : Progress). IsOwnRun B M q.history) is (own_run B M (history_of o es) sound.kept)

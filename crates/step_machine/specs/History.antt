@@ -1,6 +1,8 @@
 -- A machine's history: where it began, and what was done since. All other definitions read it.
 use Rattle.std.specs.Prelude.{ℕ, ◌≤◌, List, [], ◌∷◌, ◌++◌, length, All}
 use Rattle.step_machine.specs.declared.events.Entry.{Entry}
+use Rattle.step_machine.specs.declared.opening.TheConstants.{MAX_HARTS}
+use Rattle.rv_decode.specs.declared.instruction.TheConstants.{MAX_CODE}
 
 -- one hart's beginning
 pub record HartStart : Type 0 where
@@ -18,6 +20,10 @@ pub record History : Type 0 where
   pub opening : Start
   pub entries : List Entry
 
+-- these entries since this beginning
+abbrev pub history_of : Start → List Entry → History
+history_of o es = record { opening = o; entries = es }
+
 -- what a contract sees of a machine: its history, and for how many more steps room is reserved
 pub record Progress : Type 0 where
   pub history : History
@@ -30,10 +36,14 @@ unrun o = record { opening = o; entries = [] }
 abbrev pub with_entry : History → Entry → History
 with_entry t e = record { opening = t.opening; entries = t.entries ++ e ∷ [] }
 
--- the limits of an opening over a memory of M words: 1 to 64 harts, of at most 4,096 instructions
--- each, and at most M words
+-- a hart's code has no more instructions than it may
+abbrev pub IsShort : HartStart → Type 0
+IsShort o = length o.code ≤ MAX_CODE
+
+-- the limits of an opening over a memory of M words: a hart or more and at most
+-- MAX_HARTS, each of at most MAX_CODE instructions, and at most M words
 pub record FitsIn (M : ℕ) (o : Start) : Type 0 where
   pub some_hart : 1 ≤ length o.harts
-  pub harts : length o.harts ≤ 64
-  pub code : All (λ (h : HartStart). length h.code ≤ 4096) o.harts
+  pub harts : length o.harts ≤ MAX_HARTS
+  pub code : All IsShort o.harts
   pub words : length o.words ≤ M

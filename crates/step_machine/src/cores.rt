@@ -7,6 +7,7 @@ ghost use Rattle.step_machine.specs.inner.Config.{IsPlace};
 ghost use Rattle.hart.specs.Steps.{reads, restarted};
 ghost use Rattle.step_machine.specs.inner.Config.{all_put_back, no_stores};
 ghost use Rattle.step_machine.specs.inner.Opened.{opened_hart};
+ghost use Rattle.rv_decode.specs.declared.instruction.TheConstants.{MAX_CODE};
 
 use crate::events::{Entry, Event, Outcome};
 use crate::opening::{HartOpening, Opening};
@@ -314,7 +315,7 @@ fn open_harts(
     words: usize,
 ) -> Result<Vec<Hart>, AllocError>
     requires words { words ≤ 65536 }
-    requires code { All (λ o. length o.code ≤ 4096) openings.now }
+    requires code { All (λ o. length o.code ≤ MAX_CODE) openings.now }
     ensures { IfOk result (λ harts. harts.items ≡ map (opened_hart words) openings.now) }
 {
     let mut harts = Vec::with_capacity(alloc, openings.len())?;

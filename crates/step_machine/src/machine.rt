@@ -4,6 +4,7 @@ ghost use Rattle.std.specs.Prelude.{◌≡◌, ◌+◌, ◌≤◌, ◌<◌, ℕ,
 ghost use Rattle.hart.specs.State.{HartState};
 ghost use Rattle.memory.specs.Words.{IsAddress};
 ghost use Rattle.step_machine.specs.inner.Config.{AllHaveRoom, HasRoom, SameButRoom, entries_after};
+ghost use Rattle.step_machine.specs.declared.opening.TheConstants.{MAX_HARTS};
 
 use crate::cores::Cores;
 use crate::events::{Entry, Event, Outcome};
@@ -154,7 +155,7 @@ impl<const B: usize, const M: usize> Machine<B, M> {
     pub fn harts(&self) -> u32
         ensures value { result ≡ length self.now.history.opening.harts }
         ensures some { 1 ≤ result }
-        ensures most { result ≤ 64 }
+        ensures most { result ≤ MAX_HARTS }
     {
         self.opening.harts.len() as u32
     }

@@ -3,14 +3,12 @@
 ghost use Rattle.std.specs.Prelude.{◌≡◌, ◌↔◌, IsTrue, IfOk};
 
 use crate::events::Entry;
+use rv_decode::instruction::MAX_CODE;
 use std::alloc::{AllocError, Global};
 use std::marker::Model;
 
 /// How many harts a machine may have.
 pub const MAX_HARTS: usize = 64;
-
-/// How many instructions a hart's code may have.
-pub const MAX_CODE: usize = 4096;
 
 /// One hart's beginning: its instruction words, its registers and the words it will be given.
 #[derive(Debug, Drop)]

@@ -76,17 +76,17 @@ without_end text = without_trailing is_blank text
 abbrev pub trimmed : List ℕ → List ℕ
 trimmed text = stripped is_blank text
 
--- ---- words
+-- ---- tokens
 
--- a line's words: the pieces between its blanks that have a byte
-unfoldable pub words : List ℕ → List (List ℕ)
-words line = filter (λ piece. nat_lt 0 (length piece)) (pieces Blanks line)
+-- a line's tokens: the pieces between its blanks that have a byte
+unfoldable pub tokens : List ℕ → List (List ℕ)
+tokens line = filter (λ piece. nat_lt 0 (length piece)) (pieces Blanks line)
 
 -- a text cut at its first blank, if there is any text
 abbrev pub cut_at_blank : List ℕ → Option (List ℕ × List ℕ)
 cut_at_blank [] = None
 cut_at_blank (byte ∷ text) = Some (before is_blank (byte ∷ text), unwrap_or (after is_blank (byte ∷ text)) [])
 
--- a line's first word, if it has one, and what follows the blank behind it
+-- a line's first token, if it has one, and what follows the blank behind it
 unfoldable pub first_cut : List ℕ → Option (List ℕ × List ℕ)
 first_cut line = cut_at_blank (without_front line)

@@ -9,6 +9,11 @@ abbrev pub ◌>>=◌ : {A B E : Type 0} → Result A E → (A → Result B E) �
 (Ok x) >>= f = f x
 (Err e) >>= f = Err e
 
+-- the result with another error in the place of its own
+abbrev pub map_err : {A E F : Type 0} → (E → F) → Result A E → Result A F
+map_err f (Ok x) = Ok x
+map_err f (Err e) = Err (f e)
+
 -- What a function returned, seen by view, is what the definition answers. Of an error in which
 -- fault_of sees no fault of the text, as memory that ran out, nothing is said.
 abbrev pub Gives : {X Y E F : Type 0} → (E → Option F) → (X → Y) → Result X E → Result Y F → Type 0
@@ -22,5 +27,5 @@ refusal_of (Refused refusal) = Some refusal
 
 -- the number of what went wrong, where refusals have these
 abbrev pub number_in : {R : Type 0} → (R → ℕ) → TextError R → ℕ
-number_in number_of NoMemory = 0
-number_in number_of (Refused refusal) = number_of refusal
+number_in fault_number NoMemory = 0
+number_in fault_number (Refused refusal) = fault_number refusal

@@ -1,10 +1,10 @@
-//! Texts cut at separators, the separators round them, and the words between.
+//! Texts cut at separators, the separators round them, and the tokens between.
 
 ghost use Rattle.std.specs.Prelude.{◌≡◌, ◌<◌, ◌+◌, [], ◌∷◌, not, length, position, Some, None, MatchOption, IfSome};
 ghost use Rattle.std.specs.List.{list_all};
 ghost use Rattle.std.specs.Option.{option_copied};
 ghost use Rattle.texts.specs.Pieces.{separates, bytes_left};
-ghost use Rattle.texts.specs.Cutting.{before, after, is_byte, without_leading, without_trailing, stripped, without_front, trimmed, words, first_cut};
+ghost use Rattle.texts.specs.Cutting.{before, after, is_byte, without_leading, without_trailing, stripped, without_front, trimmed, tokens, first_cut};
 
 use crate::pieces::Separators;
 
@@ -93,20 +93,20 @@ pub fn trimmed(text: &[u8]) -> &[u8]
     stripped(Separators::Blanks, text)
 }
 
-/// The first word of a line, and what follows the blank behind it; `None` where there is no word.
-pub fn first_word(line: &[u8]) -> Option<(&[u8], &[u8])>
+/// The first token of a line, and what follows the blank behind it; `None` where there is no token.
+pub fn first_token(line: &[u8]) -> Option<(&[u8], &[u8])>
     ensures cut { MatchOption result (first_cut line.now ≡ None) (λ cut. first_cut line.now ≡ Some (cut.0.now, cut.1.now)) }
-    ensures words { MatchOption result (words line.now ≡ []) (λ cut. words line.now ≡ cut.0.now ∷ words cut.1.now) }
-    // a line is walked word by word, in time linear in its length
+    ensures tokens { MatchOption result (tokens line.now ≡ []) (λ cut. tokens line.now ≡ cut.0.now ∷ tokens cut.1.now) }
+    // a line is walked token by token, in time linear in its length
     ensures shorter { IfSome result (λ cut. length cut.1.now < length line.now) }
 {
     let line = without_front(line);
     if line.is_empty() {
         return None;
     }
-    let (word, rest) = cut_at_any(Separators::Blanks, line);
+    let (token, rest) = cut_at_any(Separators::Blanks, line);
     match rest {
-        Some(rest) => Some((word, rest)),
-        None => Some((word, &[])),
+        Some(rest) => Some((token, rest)),
+        None => Some((token, &[])),
     }
 }

@@ -2,7 +2,7 @@ use crate::cutting::{
     cut_at, cut_at_any, is_all, stripped, trimmed, without_front, without_leading,
 };
 use crate::{
-    Separators, first_line, first_piece, first_word, hex_number, hex_word, integer, number,
+    Separators, first_line, first_piece, first_token, hex_number, hex_word, integer, number,
     push_decimal, word,
 };
 use std::test::Fail;
@@ -74,11 +74,11 @@ fn texts_are_cut_and_trimmed(rt: HostRuntime) {
 
 #[test]
 fn words_of_a_line(rt: HostRuntime) -> Result<(), Fail> {
-    let (word, rest) = first_word(b" \tlw\t x5").ok_or("a word")?;
-    assert_eq!(rt; word, b"lw".as_slice());
-    let (word, rest) = first_word(rest).ok_or("a second word")?;
-    assert_eq!(rt; word, b"x5".as_slice());
-    assert_eq!(rt; first_word(rest).is_none(), true);
+    let (token, rest) = first_token(b" \tlw\t x5").ok_or("a token")?;
+    assert_eq!(rt; token, b"lw".as_slice());
+    let (token, rest) = first_token(rest).ok_or("a second token")?;
+    assert_eq!(rt; token, b"x5".as_slice());
+    assert_eq!(rt; first_token(rest).is_none(), true);
     Ok(())
 }
 

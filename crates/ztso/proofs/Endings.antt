@@ -6,10 +6,10 @@ use Rattle.ztso_engines.specs.declared.fault.Fault.TheVariants.{ReadFailed, Writ
 use Rattle.ztso_engines.specs.declared.fault.Refusal.{Refusal}
 use Rattle.ztso_engines.specs.Engines.{Ends}
 use Rattle.ztso_engines.specs.Talks.{EndsAloud}
-use Rattle.ztso.specs.Work.{Told, ended_with}
+use Rattle.ztso.specs.Work.{WithStatus, ended_with}
 
 told : {V W : Type 0} (status : V → ℕ) (IsAnswer : Result (List ℕ × V) Refusal → Type 0) (r : Result V Fault) (contents : W → Option (List ℕ)) (old new : W)
-    → Ends IsAnswer r contents old new → Ends (Told status IsAnswer) (ended_with status r) contents old new
+    → Ends IsAnswer r contents old new → Ends (WithStatus status IsAnswer) (ended_with status r) contents old new
 told status IsAnswer (Ok v) contents old new (out, answers, appends) = (out, (v, refl, answers), appends)
 told status IsAnswer (Err (Refused refusal)) contents old new h = h
 told status IsAnswer (Err ReadFailed) contents old new h = h
@@ -17,11 +17,11 @@ told status IsAnswer (Err NoMemory) contents old new h = h
 told status IsAnswer (Err WriteFailed) contents old new (answer, is) = ((answer.0, status answer.1), (answer.1, refl, is))
 
 pub ends_told : {V W : Type 0} (status : V → ℕ) (IsAnswer : Result (List ℕ × V) Refusal → Type 0) (r : Result V Fault) (contents : W → Option (List ℕ)) (old new : W)
-    → Ends IsAnswer r contents old new → (s : Result ℕ Fault) → s ≡ ended_with status r → Ends (Told status IsAnswer) s contents old new
+    → Ends IsAnswer r contents old new → (s : Result ℕ Fault) → s ≡ ended_with status r → Ends (WithStatus status IsAnswer) s contents old new
 ends_told status IsAnswer r contents old new h s is = rw is (told status IsAnswer r contents old new h)
 
 told_aloud : {V W : Type 0} (status : V → ℕ) (IsAnswer : Result (List ℕ × V) Refusal → Type 0) (r : Result V Fault) (contents : W → Option (List ℕ)) (old new : W)
-    → EndsAloud IsAnswer r contents old new → EndsAloud (Told status IsAnswer) (ended_with status r) contents old new
+    → EndsAloud IsAnswer r contents old new → EndsAloud (WithStatus status IsAnswer) (ended_with status r) contents old new
 told_aloud status IsAnswer (Ok v) contents old new (out, answers, appends) = (out, (v, refl, answers), appends)
 told_aloud status IsAnswer (Err (Refused refusal)) contents old new h = h
 told_aloud status IsAnswer (Err ReadFailed) contents old new h = h
@@ -29,5 +29,5 @@ told_aloud status IsAnswer (Err NoMemory) contents old new h = h
 told_aloud status IsAnswer (Err WriteFailed) contents old new h = h
 
 pub ends_aloud : {V W : Type 0} (status : V → ℕ) (IsAnswer : Result (List ℕ × V) Refusal → Type 0) (r : Result V Fault) (contents : W → Option (List ℕ)) (old new : W)
-    → EndsAloud IsAnswer r contents old new → (s : Result ℕ Fault) → s ≡ ended_with status r → EndsAloud (Told status IsAnswer) s contents old new
+    → EndsAloud IsAnswer r contents old new → (s : Result ℕ Fault) → s ≡ ended_with status r → EndsAloud (WithStatus status IsAnswer) s contents old new
 ends_aloud status IsAnswer r contents old new h s is = rw is (told_aloud status IsAnswer r contents old new h)

@@ -2,15 +2,11 @@
 use Rattle.std.proofs.Common.{◌≡◌, ◌≤◌, ◌<◌, ◌^◌, ℕ, List, refl, Some, None, true, false, Bool, ◌&&◌, ap, arith, leb, leb-true, le-leb}
 use Rattle.std.specs.Prelude.{Result, Ok, Err}
 use Rattle.std.specs.Result.{result_ok}
+use Rattle.std.proofs.lemmas.Bool.{and_parts}
 use Rattle.std.specs.Str.Parse.{ParsesUnsigned, IsNumeral, digits_value, without_leading_plus}
 use Rattle.texts.specs.Numbers.{is_numeral}
 use Rattle.texts.proofs.NumberLaws.{IsNumeral-from_test, is_numeral-from_IsNumeral}
 use Rattle.ztso.specs.Numbers.{number_within}
-
-both : (a b : Bool) → (a && b) ≡ true → (a ≡ true) × (b ≡ true)
-both true true e = (refl, refl)
-both true false e = absurd cc
-both false b e = absurd cc
 
 abbrev digits_of : List ℕ → List ℕ
 digits_of text = without_leading_plus text
@@ -26,8 +22,8 @@ no_number least most text never = go (is_numeral 10 (digits_of text) && (leb lea
   where
     go : (b : Bool) → (is_numeral 10 (digits_of text) && (leb least (value_of text) && leb (value_of text) most)) ≡ b → None ≡ number_within least most text
     go true passes =
-        let first = both (is_numeral 10 (digits_of text)) (leb least (value_of text) && leb (value_of text) most) passes in
-        let second = both (leb least (value_of text)) (leb (value_of text) most) first.1 in
+        let first = and_parts (is_numeral 10 (digits_of text)) (leb least (value_of text) && leb (value_of text) most) passes in
+        let second = and_parts (leb least (value_of text)) (leb (value_of text) most) first.1 in
         absurd (never (IsNumeral-from_test 10 (digits_of text) first.0) (leb-true least (value_of text) second.0) (leb-true (value_of text) most second.1))
     go false fails = rw fails refl
 

@@ -52,14 +52,14 @@ text_says Two = refl
 text_says Four = refl
 text_says Sixteen = refl
 
-record Told (capacity : Capacity) (options : List Text) : Type 0 where
+record WithStatus (capacity : Capacity) (options : List Text) : Type 0 where
   tail : Tail
   text : Text
   is : options ≡ map text_in (tail_of tail text)
   says : capacity_at tail text ≡ Some capacity
   are : ArePlain (tail_of tail text)
 
-told : (capacity : Capacity) (options : List Text) → AsksFor capacity options → Told capacity options
+told : (capacity : Capacity) (options : List Text) → AsksFor capacity options → WithStatus capacity options
 told capacity options (inl default) = record { tail = none; text = []; is = default.0; says = ap (λ (c : Capacity). Some c) (sym default.1); are = tt }
 told capacity options (inr (inl is)) = record { tail = blank; text = text_of capacity; is = is; says = text_says capacity; are = (text_is_word capacity, tt) }
 told capacity options (inr (inr is)) = record { tail = equals; text = text_of capacity; is = is; says = text_says capacity; are = tt }

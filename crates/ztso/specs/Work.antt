@@ -80,25 +80,25 @@ abbrev pub Answer : Type 0
 Answer = Result (List ℕ × ℕ) Refusal
 
 -- an engine's output, and the status of the value that it returns beside it
-abbrev pub Told : {V : Type 0} → (V → ℕ) → (Result (List ℕ × V) Refusal → Type 0) → Answer → Type 0
-Told {V = V} status IsAnswer (Ok answer) = (value : V) × (answer.1 ≡ status value) × IsAnswer (Ok (answer.0, value))
-Told status IsAnswer (Err refusal) = IsAnswer (Err refusal)
+abbrev pub WithStatus : {V : Type 0} → (V → ℕ) → (Result (List ℕ × V) Refusal → Type 0) → Answer → Type 0
+WithStatus {V = V} status IsAnswer (Ok answer) = (value : V) × (answer.1 ≡ status value) × IsAnswer (Ok (answer.0, value))
+WithStatus status IsAnswer (Err refusal) = IsAnswer (Err refusal)
 
 -- what answers the first input alone, and what answers both
-abbrev pub ToldBy : {V : Type 0} → (V → ℕ) → (List ℕ → Result (List ℕ × V) Refusal → Type 0) → Given → Answer → Type 0
-ToldBy status IsAnswer given = Told status (λ answer. OfInput given.first (λ bytes. IsAnswer bytes answer))
+abbrev pub WithStatusBy : {V : Type 0} → (V → ℕ) → (List ℕ → Result (List ℕ × V) Refusal → Type 0) → Given → Answer → Type 0
+WithStatusBy status IsAnswer given = WithStatus status (λ answer. OfInput given.first (λ bytes. IsAnswer bytes answer))
 
-abbrev pub ToldByBoth : {V : Type 0} → (V → ℕ) → (List ℕ → List ℕ → Result (List ℕ × V) Refusal → Type 0) → Given → Answer → Type 0
-ToldByBoth status IsAnswer given = Told status (AnswersBoth IsAnswer given.first given.second)
+abbrev pub WithStatusByBoth : {V : Type 0} → (V → ℕ) → (List ℕ → List ℕ → Result (List ℕ × V) Refusal → Type 0) → Given → Answer → Type 0
+WithStatusByBoth status IsAnswer given = WithStatus status (AnswersBoth IsAnswer given.first given.second)
 
 -- The table of work with a machine, over buffers of B stores and a memory of 4,096 words.
 abbrev pub IsAnswerOf : (B : ℕ) → Work → Given → Answer → Type 0
-IsAnswerOf B Steps given = ToldBy done_status (IsStepsAnswer B 4096) given
-IsAnswerOf B Run given = ToldByBoth verdict_status (IsRunAnswer B 4096) given
-IsAnswerOf B Replay given = ToldByBoth done_status (IsReplayAnswer B 4096) given
-IsAnswerOf B Debug given = ToldByBoth done_status (IsDebugAnswer B 4096 given.commands) given
-IsAnswerOf B (Try seed runs size) given = ToldBy tried_status (IsTryAnswer B 4096 (drawn_from seed) runs size) given
-IsAnswerOf B (Channel ring slots finish) given = ToldByBoth done_status (IsChannelAnswer (tables_of ring) B 4096 slots finish) given
+IsAnswerOf B Steps given = WithStatusBy done_status (IsStepsAnswer B 4096) given
+IsAnswerOf B Run given = WithStatusByBoth verdict_status (IsRunAnswer B 4096) given
+IsAnswerOf B Replay given = WithStatusByBoth done_status (IsReplayAnswer B 4096) given
+IsAnswerOf B Debug given = WithStatusByBoth done_status (IsDebugAnswer B 4096 given.commands) given
+IsAnswerOf B (Try seed runs size) given = WithStatusBy tried_status (IsTryAnswer B 4096 (drawn_from seed) runs size) given
+IsAnswerOf B (Channel ring slots finish) given = WithStatusByBoth done_status (IsChannelAnswer (tables_of ring) B 4096 slots finish) given
 
 -- What was written and the exit status answer the inputs, or the refusal does and nothing was written.
 -- Where a read failed or memory ran out nothing was written; where a write failed nothing is said of it.
@@ -112,13 +112,13 @@ DoesWork B (Try seed runs size) result given contents old new = Ends (IsAnswerOf
 DoesWork B (Channel ring slots finish) result given contents old new = Ends (IsAnswerOf B (Channel ring slots finish) given) result contents old new
 
 abbrev pub DoesErrand : {W : Type 0} → Errand → Result ℕ Fault → Given → (contents : W → Option (List ℕ)) → (old new : W) → Type 0
-DoesErrand Asm result given contents old new = Ends (ToldBy done_status IsAsmAnswer given) result contents old new
-DoesErrand Dis result given contents old new = Ends (ToldBy done_status IsDisAnswer given) result contents old new
+DoesErrand Asm result given contents old new = Ends (WithStatusBy done_status IsAsmAnswer given) result contents old new
+DoesErrand Dis result given contents old new = Ends (WithStatusBy done_status IsDisAnswer given) result contents old new
 DoesErrand (Machine work capacity) result given contents old new = DoesWork (stores_of capacity) work result given contents old new
 
 -- the same of a run of a litmus test on threads, with buffers of this capacity, by the file that was read
 abbrev pub DoesThreads : {W : Type 0} → Capacity → Result ℕ Fault → (file : Option (List ℕ)) → (contents : W → Option (List ℕ)) → (old new : W) → Type 0
-DoesThreads capacity result file contents old new = Ends (Told verdict_status (λ answer. OfInput file (λ bytes. IsThreadsAnswer (stores_of capacity) 4096 bytes answer))) result contents old new
+DoesThreads capacity result file contents old new = Ends (WithStatus verdict_status (λ answer. OfInput file (λ bytes. IsThreadsAnswer (stores_of capacity) 4096 bytes answer))) result contents old new
 
 -- ---- what is left unread
 

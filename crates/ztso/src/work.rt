@@ -1,7 +1,7 @@
 //! Which engine does a job.
 
 ghost use Rattle.std.specs.Prelude.{◌≡◌, ◌≤◌};
-ghost use Rattle.ztso.specs.Work.{DoesErrand, DoesThreads, DoesWork, Given, LeavesSecond, LeavesSecondOf, Told, done_status, drawn_from, ended_with, tables_of, tried_status, verdict_status};
+ghost use Rattle.ztso.specs.Work.{DoesErrand, DoesThreads, DoesWork, Given, LeavesSecond, LeavesSecondOf, WithStatus, done_status, drawn_from, ended_with, tables_of, tried_status, verdict_status};
 ghost use Rattle.ztso_engines.specs.Channels.{IsChannelAnswer};
 ghost use Rattle.ztso_engines.specs.Engines.{AnswersBoth, Ends, EndsBy, EndsByBoth, OfInput};
 ghost use Rattle.ztso_engines.specs.Schedules.{HasNoSchedule};
@@ -219,7 +219,7 @@ fn run_threads<const B: usize, F: Read, W: Write, T: Threads + Wait + Sync>(
 ) -> Result<u8, Fault>
     requires some_capacity { 1 ≤ B }
     requires capacity { B ≤ 64 }
-    ensures { Ends (Told verdict_status (λ answer. OfInput (F.remaining file.old) (λ bytes. IsThreadsAnswer B 4096 bytes answer))) result W.contents writer.old writer.new }
+    ensures { Ends (WithStatus verdict_status (λ answer. OfInput (F.remaining file.old) (λ bytes. IsThreadsAnswer B 4096 bytes answer))) result W.contents writer.old writer.new }
 {
     after_run(threads_engine::<B, WORDS, _, _, _>(rt, alloc, file, turns, writer))
 }

@@ -69,29 +69,29 @@ store_in_front es us ws h p split own =
 -- a hart's stores, as places and as pairs
 
 -- each place holds a store of the pair beside it
-abbrev pub Told : List Entry → List ℕ → List Write → Type 0
-Told all [] [] = Unit {0}
-Told all [] (p ∷ ps) = ⊥
-Told all (g ∷ gs) [] = ⊥
-Told all (g ∷ gs) (p ∷ ps) = ((a : ℕ) → written_at all a g ≡ byte_in p a) × Told all gs ps
+abbrev pub AreWritten : List Entry → List ℕ → List Write → Type 0
+AreWritten all [] [] = Unit {0}
+AreWritten all [] (p ∷ ps) = ⊥
+AreWritten all (g ∷ gs) [] = ⊥
+AreWritten all (g ∷ gs) (p ∷ ps) = ((a : ℕ) → written_at all a g ≡ byte_in p a) × AreWritten all gs ps
 
-pub Told-length : (all : List Entry) (gs : List ℕ) (ps : List Write) → Told all gs ps → length gs ≡ length ps
-Told-length all [] [] told = refl
-Told-length all [] (p ∷ ps) told = absurd told
-Told-length all (g ∷ gs) [] told = absurd told
-Told-length all (g ∷ gs) (p ∷ ps) told = ap suc (Told-length all gs ps told.1)
+pub AreWritten-length : (all : List Entry) (gs : List ℕ) (ps : List Write) → AreWritten all gs ps → length gs ≡ length ps
+AreWritten-length all [] [] told = refl
+AreWritten-length all [] (p ∷ ps) told = absurd told
+AreWritten-length all (g ∷ gs) [] told = absurd told
+AreWritten-length all (g ∷ gs) (p ∷ ps) told = ap suc (AreWritten-length all gs ps told.1)
 
-pub Told-drop : (all : List Entry) (n : ℕ) (gs : List ℕ) (ps : List Write) → Told all gs ps → Told all (drop n gs) (drop n ps)
-Told-drop all zero gs ps told = told
-Told-drop all (suc n) [] [] told = told
-Told-drop all (suc n) [] (p ∷ ps) told = absurd told
-Told-drop all (suc n) (g ∷ gs) [] told = absurd told
-Told-drop all (suc n) (g ∷ gs) (p ∷ ps) told = Told-drop all n gs ps told.1
+pub AreWritten-drop : (all : List Entry) (n : ℕ) (gs : List ℕ) (ps : List Write) → AreWritten all gs ps → AreWritten all (drop n gs) (drop n ps)
+AreWritten-drop all zero gs ps told = told
+AreWritten-drop all (suc n) [] [] told = told
+AreWritten-drop all (suc n) [] (p ∷ ps) told = absurd told
+AreWritten-drop all (suc n) (g ∷ gs) [] told = absurd told
+AreWritten-drop all (suc n) (g ∷ gs) (p ∷ ps) told = AreWritten-drop all n gs ps told.1
 
-told_by : (all us : List Entry) (e : Entry) (ws : List Entry) (h : ℕ) (rest : List Entry) → all ≡ us ++ e ∷ ws → (gs : List ℕ) → Told all gs (stores h rest) → Told all (place_of (is_store_of h) (length us) e ++ gs) (store_of h e ++ stores h rest)
+told_by : (all us : List Entry) (e : Entry) (ws : List Entry) (h : ℕ) (rest : List Entry) → all ≡ us ++ e ∷ ws → (gs : List ℕ) → AreWritten all gs (stores h rest) → AreWritten all (place_of (is_store_of h) (length us) e ++ gs) (store_of h e ++ stores h rest)
 told_by all us e ws h rest split gs told = at e split
   where
-    at : (d : Entry) → all ≡ us ++ d ∷ ws → Told all (place_of (is_store_of h) (length us) d ++ gs) (store_of h d ++ stores h rest)
+    at : (d : Entry) → all ≡ us ++ d ∷ ws → AreWritten all (place_of (is_store_of h) (length us) d ++ gs) (store_of h d ++ stores h rest)
     at (entry.Inner g) here = told
     at (entry.Load g a width v) here = told
     at (entry.Store g a width v) here = mine (g == h)
@@ -99,7 +99,7 @@ told_by all us e ws h rest split gs told = at e split
         writes : (b : ℕ) → written_at all b (length us) ≡ byte_in (write a width v) b
         writes b = ap (λ zs. written_at zs b (length us)) here ∙ ap (option_and_then (written_to b)) (entry_here us (entry.Store g a width v) ws)
 
-        mine : (b : Bool) → Told all ((if b then length us ∷ [] else []) ++ gs) ((if b then write a width v ∷ [] else []) ++ stores h rest)
+        mine : (b : Bool) → AreWritten all ((if b then length us ∷ [] else []) ++ gs) ((if b then write a width v ∷ [] else []) ++ stores h rest)
         mine true = (writes, told)
         mine false = told
     at (entry.Amo g a old new) here = told
@@ -111,25 +111,25 @@ told_by all us e ws h rest split gs told = at e split
     at (entry.Stopped g why) here = told
     at (entry.Land g) here = told
 
-pub told_stores : (all us es ws : List Entry) (h : ℕ) → all ≡ us ++ (es ++ ws) → Told all (places_of (is_store_of h) (length us) es) (stores h es)
+pub told_stores : (all us es ws : List Entry) (h : ℕ) → all ≡ us ++ (es ++ ws) → AreWritten all (places_of (is_store_of h) (length us) es) (stores h es)
 told_stores all us [] ws h split = tt
 told_stores all us (e ∷ es) ws h split =
     let len : length (us ++ e ∷ []) ≡ suc (length us) = omega (arith, length-append us (e ∷ [])) in
-    let rest : Told all (places_of (is_store_of h) (suc (length us)) es) (stores h es)
-    = subst (λ (n : ℕ). Told all (places_of (is_store_of h) n es) (stores h es)) len (told_stores all (us ++ e ∷ []) es ws h (split ∙ sym (append_assoc us (e ∷ []) (es ++ ws)))) in
-    subst (λ (zs : List ℕ). Told all zs (store_of h e ++ stores h es)) (sym (places_of-cons (is_store_of h) (length us) e es))
+    let rest : AreWritten all (places_of (is_store_of h) (suc (length us)) es) (stores h es)
+    = subst (λ (n : ℕ). AreWritten all (places_of (is_store_of h) n es) (stores h es)) len (told_stores all (us ++ e ∷ []) es ws h (split ∙ sym (append_assoc us (e ∷ []) (es ++ ws)))) in
+    subst (λ (zs : List ℕ). AreWritten all zs (store_of h e ++ stores h es)) (sym (places_of-cons (is_store_of h) (length us) e es))
     (told_by all us e (es ++ ws) h es split (places_of (is_store_of h) (suc (length us)) es) rest)
 
 -- the front of a legal trace
 
-pub front_told : (es us ws : List Entry) (h : ℕ) → es ≡ us ++ ws → Told es (store_places h us) (stores h us)
+pub front_told : (es us ws : List Entry) (h : ℕ) → es ≡ us ++ ws → AreWritten es (store_places h us) (stores h us)
 front_told es us ws h split = told_stores es [] us ws h split
 
 pub front_balanced : (B : ℕ) (o : Start) (es us ws : List Entry) (h : ℕ) → LegalAfter B o [] es → es ≡ us ++ ws → lands h us ≤ length (store_places h us)
 front_balanced B o es us ws h legal split =
     let front : LegalAfter B o [] us = LegalAfter-front B o [] us ws (subst (λ (zs : List Entry). LegalAfter B o [] zs) split legal) in
     let le : lands h us ≤ length (stores h us) = balanced-after B o [] us h front (omega arith) in
-    let same : length (store_places h us) ≡ length (stores h us) = Told-length es (store_places h us) (stores h us) (front_told es us ws h split) in
+    let same : length (store_places h us) ≡ length (stores h us) = AreWritten-length es (store_places h us) (stores h us) (front_told es us ws h split) in
     omega arith
 
 pub front_stores : (es us ws : List Entry) (h : ℕ) → es ≡ us ++ ws → store_places h es ≡ store_places h us ++ places_of (is_store_of h) (length us) ws
@@ -146,7 +146,7 @@ front_allows B o es us e ws legal split = (LegalAfter-back B o [] us (e ∷ ws) 
 -- where nothing is pending of a hart, its stores have been performed
 pub store_performed : (B : ℕ) (o : Start) (es us ws : List Entry) (h p : ℕ) → LegalAfter B o [] es → es ≡ us ++ ws → pending h us ≡ [] → stores_at es h p ≡ true → p < length us → is_named p (performed_after es [] us) ≡ true
 store_performed B o es us ws h p legal split none own lt =
-    let same : length (store_places h us) ≡ length (stores h us) = Told-length es (store_places h us) (stores h us) (front_told es us ws h split) in
+    let same : length (store_places h us) ≡ length (stores h us) = AreWritten-length es (store_places h us) (stores h us) (front_told es us ws h split) in
     let left : length (drop (lands h us) (stores h us)) ≡ 0 = ap length none in
     let all_landed : length (store_places h us) ≤ lands h us = omega (arith, length-drop (lands h us) (stores h us)) in
     store_in_front es us ws h p split own

@@ -6,7 +6,7 @@ use Rattle.texts.specs.Numbers.{IsHexWord}
 use Rattle.texts.proofs.ResultLaws.{bind_ok, ok_is}
 use Rattle.assembler.specs.Drafts.{onto}
 use Rattle.ztso_engines.specs.declared.fault.Refusal.{Refusal}
-use Rattle.texts.specs.Cutting.{words}
+use Rattle.texts.specs.Cutting.{tokens}
 use Rattle.ztso_engines.specs.LineFaults.{at_line}
 use Rattle.ztso_engines.specs.Code.{code_at}
 use Rattle.ztso_engines.specs.Dis.{SaysCode, code_of_lines, dis_at}
@@ -33,24 +33,24 @@ zip_parted {B = B} R (x ∷ xs) ys (u ∷ all) zip =
 
 -- ---- the lines
 
-lines_said : (number : ℕ) (left : List (List ℕ)) (code : List ℕ) → code_of_lines number left ≡ Ok code → AllZip IsHexWord (flat_map words left) code
+lines_said : (number : ℕ) (left : List (List ℕ)) (code : List ℕ) → code_of_lines number left ≡ Ok code → AllZip IsHexWord (flat_map tokens left) code
 unfolding code_of_lines
 lines_said number [] code e = subst (λ (xs : List ℕ). AllZip IsHexWord [] xs) (ok_is Refusal [] code e) tt
 lines_said number (line ∷ others) code e =
-    let first = bind_ok (at_line number (code_at (words line))) (λ front. onto front (code_of_lines (number + 1) others)) code e in
+    let first = bind_ok (at_line number (code_at (tokens line))) (λ front. onto front (code_of_lines (number + 1) others)) code e in
     let next = bind_ok (code_of_lines (number + 1) others) (λ more. Ok (first.0 ++ more)) code first.2 in
-    subst (λ (xs : List ℕ). AllZip IsHexWord (words line ++ flat_map words others) xs) (ok_is Refusal (first.0 ++ next.0) code next.2)
-    (zip_joined IsHexWord (words line) (flat_map words others) first.0 next.0
-    (code_said (words line) first.0 (at_line_ok number (code_at (words line)) first.0 first.1))
+    subst (λ (xs : List ℕ). AllZip IsHexWord (tokens line ++ flat_map tokens others) xs) (ok_is Refusal (first.0 ++ next.0) code next.2)
+    (zip_joined IsHexWord (tokens line) (flat_map tokens others) first.0 next.0
+    (code_said (tokens line) first.0 (at_line_ok number (code_at (tokens line)) first.0 first.1))
     (lines_said (number + 1) others next.0 next.1))
 
-lines_read : (number : ℕ) (left : List (List ℕ)) (code : List ℕ) → AllZip IsHexWord (flat_map words left) code → code_of_lines number left ≡ Ok code
+lines_read : (number : ℕ) (left : List (List ℕ)) (code : List ℕ) → AllZip IsHexWord (flat_map tokens left) code → code_of_lines number left ≡ Ok code
 unfolding code_of_lines
 lines_read number [] [] said = refl
 lines_read number [] (w ∷ code) said = absurd said
 lines_read number (line ∷ others) code said =
-    let parts = zip_parted IsHexWord (words line) (flat_map words others) code said in
-    rw (says_code (words line) parts.0 parts.3, lines_read (number + 1) others parts.1 parts.4) (ap (λ (xs : List ℕ). Ok xs) (sym parts.2))
+    let parts = zip_parted IsHexWord (tokens line) (flat_map tokens others) code said in
+    rw (says_code (tokens line) parts.0 parts.3, lines_read (number + 1) others parts.1 parts.4) (ap (λ (xs : List ℕ). Ok xs) (sym parts.2))
 
 -- ---- a text
 

@@ -8,12 +8,12 @@ use Rattle.std.proofs.lemmas.Bool.{ne_eqb, cases_Bool, eqb-false}
 use Rattle.std.proofs.lemmas.List.Elements.{recursion_from_All}
 use Rattle.std.proofs.lemmas.List.Splits.{length-slice_split}
 use Rattle.texts.specs.Pieces.{is_blank}
-use Rattle.texts.specs.Cutting.{words, NonePass}
+use Rattle.texts.specs.Cutting.{tokens, NonePass}
 use Rattle.texts.proofs.PieceLaws.{lines_of_parts-cons}
 use Rattle.texts.proofs.CuttingLaws.{split_none, split_stop}
 use Rattle.ztso_engines.specs.Asm.{hex_text, hex_line}
 use Rattle.ztso_engines.specs.Dis.{SaysCode}
-use Rattle.texts.proofs.WordLaws.{filter_kept}
+use Rattle.texts.proofs.TokenLaws.{filter_kept}
 use Rattle.std.specs.Prelude.{replicate}
 use Rattle.std.specs.Fmt.{digits, digits_onto, digit_glyph, padded_integral, format_spec, char_count}
 use Rattle.std.proofs.Math.Nat.{pow-suc}
@@ -85,8 +85,8 @@ lines_after ds rest all =
     ∙ lines_of_parts-cons ds parts (omega (arith, length-slice_split (λ b. eqb b 10) rest))
     ∙ rw (no_carriage_return ds (length ds - 1) all) refl
 
-one_word : (ds : List ℕ) → 0 < length ds → AllDigits 16 ds → words ds ≡ ds ∷ []
-unfolding words
+one_word : (ds : List ℕ) → 0 < length ds → AllDigits 16 ds → tokens ds ≡ ds ∷ []
+unfolding tokens
 one_word ds some all =
     ap (filter (λ piece. ltb 0 (length piece))) (split_none is_blank ds (none_pass is_blank no_blank ds all))
     ∙ filter_kept ds [] some

@@ -4,14 +4,11 @@ use Rattle.std.specs.List.{AllByRecursion}
 use Rattle.std.specs.Str.Lines.{lines}
 use Rattle.std.proofs.lemmas.List.{length-replicate}
 use Rattle.std.proofs.lemmas.List.Elements.{All-from_recursion}
-use Rattle.step_machine.specs.History.{HartStart, FitsIn}
-use Rattle.ztso_engines.specs.Told.{Told, untold, opening_of, fresh, register_set, Statement, hart, reg, word, steps, with_statement, MayCome}
+use Rattle.step_machine.specs.History.{HartStart, FitsIn, IsShort}
+use Rattle.ztso_engines.specs.Scenario.{Scenario, no_scenario, opening_of, fresh, register_set, Statement, hart, reg, word, steps, with_statement, MayCome}
 use Rattle.ztso_engines.specs.StepsText.{LinesTell, Tells}
 
-abbrev IsShort : HartStart → Type 0
-IsShort h = length h.code ≤ 4096
-
-record Within (M : ℕ) (t : Told) : Type 0 where
+record Within (M : ℕ) (t : Scenario) : Type 0 where
   harts : length t.harts ≤ 64
   code : AllByRecursion IsShort t.harts
   memory : length t.words ≡ M
@@ -30,21 +27,21 @@ length-register_set [] h n v = refl
 length-register_set (first ∷ others) zero n v = refl
 length-register_set (first ∷ others) (suc h) n v = ap suc (length-register_set others h n v)
 
-within_stays : (M : ℕ) (t : Told) (s : Statement) → Within M t → MayCome t s → Within M (with_statement t s)
+within_stays : (M : ℕ) (t : Scenario) (s : Statement) → Within M t → MayCome t s → Within M (with_statement t s)
 within_stays M t (hart code) w fits = record { harts = simp length-append (omega (arith, fits.0)); code = short_added t.harts code w.code fits.1; memory = w.memory }
 within_stays M t (reg h n v) w fits = record { harts = rw length-register_set w.harts; code = short_kept t.harts h n v w.code; memory = w.memory }
 within_stays M t (word a v) w fits = record { harts = w.harts; code = w.code; memory = simp length-set w.memory }
 within_stays M t (steps events) w fits = record { harts = w.harts; code = w.code; memory = w.memory }
 
-within_lines : (M : ℕ) (t : Told) (left : List (List ℕ)) (told : Told) → Within M t → LinesTell t left told → Within M told
+within_lines : (M : ℕ) (t : Scenario) (left : List (List ℕ)) (told : Scenario) → Within M t → LinesTell t left told → Within M told
 within_lines M t [] told w tell = rw tell w
 within_lines M t (line ∷ others) told w (inl blank) = within_lines M t others told w blank.1
 within_lines M t (line ∷ others) told w (inr said) = within_lines M (with_statement t said.0) others told (within_stays M t said.0 w said.2) said.3
 
-pub told_fits : (M : ℕ) (text : List ℕ) (told : Told) → Tells M text told → FitsIn M (opening_of told)
+pub told_fits : (M : ℕ) (text : List ℕ) (told : Scenario) → Tells M text told → FitsIn M (opening_of told)
 told_fits M text told tells =
-    let none : Within M (untold M) = record { harts = omega arith; code = tt; memory = length-replicate M 0 } in
-    let w = within_lines M (untold M) (lines text) told none tells.lines_tell in
+    let none : Within M (no_scenario M) = record { harts = omega arith; code = tt; memory = length-replicate M 0 } in
+    let w = within_lines M (no_scenario M) (lines text) told none tells.lines_tell in
     record {
       some_hart = tells.some_hart;
       harts = w.harts;

@@ -16,13 +16,13 @@ use Rattle.recorder.specs.Reading.{tokens_at, tokens_after}
 use Rattle.recorder.proofs.TextLaws.{tokens_at-IsTokensOf, IsTokensOf-tokens_after}
 use Rattle.ztso_engines.specs.declared.steps.line.Keyword.{Keyword}
 use Rattle.ztso_engines.specs.declared.steps.line.Keyword.TheVariants as keyword
-use Rattle.texts.specs.Cutting.{words, first_cut}
-use Rattle.ztso_engines.specs.Told.{Told, Statement, hart, reg, word, steps, fresh, register_set, with_statement, MayCome}
+use Rattle.texts.specs.Cutting.{tokens, first_cut}
+use Rattle.ztso_engines.specs.Scenario.{Scenario, Statement, hart, reg, word, steps, fresh, register_set, with_statement, MayCome}
 use Rattle.ztso_engines.specs.StepsText.{SaysWord, LineSays}
 use Rattle.ztso_engines.specs.LineFaults.{bad_line}
 use Rattle.ztso_engines.specs.Code.{code_at}
 use Rattle.ztso_engines.specs.StepsReading.{two_numbers, three_numbers, with_hart, with_register, with_word, with_steps, numbered, keyword_named, by_keyword, by_cut, after_line}
-use Rattle.texts.proofs.WordLaws.{words_cut, words_uncut, words_first, words_none}
+use Rattle.texts.proofs.TokenLaws.{tokens_cut, tokens_uncut, tokens_first, tokens_none}
 use Rattle.ztso_engines.proofs.NumberWords.{code_said, says_code, two_said, says_two, three_said, says_three}
 
 -- ---- keywords
@@ -139,32 +139,32 @@ makes_with_steps events text more said few = rw (IsTokensOf-tokens_after (length
 -- ---- a line
 
 -- the line has no word and changes nothing, or says what may come and changes that
-abbrev pub LineMakes : Told → List ℕ → Told → Type 0
-LineMakes before line made = ((words line ≡ []) × (made ≡ before)) ⊎ ((s : Statement) × LineSays line s × MayCome before s × (made ≡ with_statement before s))
+abbrev pub LineMakes : Scenario → List ℕ → Scenario → Type 0
+LineMakes before line made = ((tokens line ≡ []) × (made ≡ before)) ⊎ ((s : Statement) × LineSays line s × MayCome before s × (made ≡ with_statement before s))
 
 -- ---- what is read of a line is what it says
 
 abbrev cut_of : List ℕ → List ℕ → Option (List ℕ × List ℕ)
 cut_of name rest = Some (name, rest)
 
-with_name : (line name rest : List ℕ) (k : Keyword) → first_cut line ≡ Some (name, rest) → keyword_named name ≡ Some k → words line ≡ spelling k ∷ words rest
-with_name line name rest k cut e = words_cut line name rest cut ∙ ap (λ (w : List ℕ). w ∷ words rest) (named name k e)
+with_name : (line name rest : List ℕ) (k : Keyword) → first_cut line ≡ Some (name, rest) → keyword_named name ≡ Some k → tokens line ≡ spelling k ∷ tokens rest
+with_name line name rest k cut e = tokens_cut line name rest cut ∙ ap (λ (w : List ℕ). w ∷ tokens rest) (named name k e)
 
-hart_made : (t : Told) (line name rest : List ℕ) (made : Told) → first_cut line ≡ Some (name, rest) → keyword_named name ≡ Some keyword.Hart → by_keyword t (Some keyword.Hart) rest ≡ Ok made → LineMakes t line made
+hart_made : (t : Scenario) (line name rest : List ℕ) (made : Scenario) → first_cut line ≡ Some (name, rest) → keyword_named name ≡ Some keyword.Hart → by_keyword t (Some keyword.Hart) rest ≡ Ok made → LineMakes t line made
 hart_made t line name rest made cut k e =
-    let read = bind_ok (with_hart t.harts (words rest)) (λ harts. Ok (record t { harts = harts })) made e in
-    let change = with_hart_made t.harts (words rest) read.0 read.1 in
+    let read = bind_ok (with_hart t.harts (tokens rest)) (λ harts. Ok (record t { harts = harts })) made e in
+    let change = with_hart_made t.harts (tokens rest) read.0 read.1 in
     inr (
       hart change.0,
-      (words rest, with_name line name rest keyword.Hart cut k, change.1),
+      (tokens rest, with_name line name rest keyword.Hart cut k, change.1),
       (change.2, change.3),
       sym (ok_is ℕ (record t { harts = read.0 }) made read.2) ∙ ap (λ (harts : List HartStart). record t { harts = harts }) change.4,
     )
 
-register_made : (t : Told) (line name rest : List ℕ) (made : Told) → first_cut line ≡ Some (name, rest) → keyword_named name ≡ Some keyword.Register → by_keyword t (Some keyword.Register) rest ≡ Ok made → LineMakes t line made
+register_made : (t : Scenario) (line name rest : List ℕ) (made : Scenario) → first_cut line ≡ Some (name, rest) → keyword_named name ≡ Some keyword.Register → by_keyword t (Some keyword.Register) rest ≡ Ok made → LineMakes t line made
 register_made t line name rest made cut k e =
-    let read = bind_ok (with_register t.harts (words rest)) (λ harts. Ok (record t { harts = harts })) made e in
-    let change = with_register_made t.harts (words rest) read.0 read.1 in
+    let read = bind_ok (with_register t.harts (tokens rest)) (λ harts. Ok (record t { harts = harts })) made e in
+    let change = with_register_made t.harts (tokens rest) read.0 read.1 in
     inr (
       reg change.0 change.1 change.2,
       (change.3, change.4, change.5, with_name line name rest keyword.Register cut k ∙ ap (λ (ws : List (List ℕ)). codes "reg" ∷ ws) change.6, change.7, change.8, change.9),
@@ -172,10 +172,10 @@ register_made t line name rest made cut k e =
       sym (ok_is ℕ (record t { harts = read.0 }) made read.2) ∙ ap (λ (harts : List HartStart). record t { harts = harts }) change.13,
     )
 
-word_made : (t : Told) (line name rest : List ℕ) (made : Told) → first_cut line ≡ Some (name, rest) → keyword_named name ≡ Some keyword.Word → by_keyword t (Some keyword.Word) rest ≡ Ok made → LineMakes t line made
+word_made : (t : Scenario) (line name rest : List ℕ) (made : Scenario) → first_cut line ≡ Some (name, rest) → keyword_named name ≡ Some keyword.Word → by_keyword t (Some keyword.Word) rest ≡ Ok made → LineMakes t line made
 word_made t line name rest made cut k e =
-    let read = bind_ok (with_word t.words (words rest)) (λ memory. Ok (record t { words = memory })) made e in
-    let change = with_word_made t.words (words rest) read.0 read.1 in
+    let read = bind_ok (with_word t.words (tokens rest)) (λ memory. Ok (record t { words = memory })) made e in
+    let change = with_word_made t.words (tokens rest) read.0 read.1 in
     inr (
       word change.0 change.1,
       (change.2, change.3, with_name line name rest keyword.Word cut k ∙ ap (λ (ws : List (List ℕ)). codes "word" ∷ ws) change.4, change.5, change.6),
@@ -183,7 +183,7 @@ word_made t line name rest made cut k e =
       sym (ok_is ℕ (record t { words = read.0 }) made read.2) ∙ ap (λ (memory : List ℕ). record t { words = memory }) change.8,
     )
 
-steps_made : (t : Told) (line name rest : List ℕ) (made : Told) → first_cut line ≡ Some (name, rest) → keyword_named name ≡ Some keyword.Steps → length t.events ≤ 1048576 → by_keyword t (Some keyword.Steps) rest ≡ Ok made → LineMakes t line made
+steps_made : (t : Scenario) (line name rest : List ℕ) (made : Scenario) → first_cut line ≡ Some (name, rest) → keyword_named name ≡ Some keyword.Steps → length t.events ≤ 1048576 → by_keyword t (Some keyword.Steps) rest ≡ Ok made → LineMakes t line made
 steps_made t line name rest made cut k few e =
     let read = bind_ok (with_steps t.events rest) (λ events. Ok (record t { events = events })) made e in
     let change = with_steps_made t.events rest read.0 few read.1 in
@@ -194,51 +194,51 @@ steps_made t line name rest made cut k few e =
       sym (ok_is ℕ (record t { events = read.0 }) made read.2) ∙ ap (λ (events : List Event). record t { events = events }) change.3,
     )
 
-name_made : (t : Told) (line name rest : List ℕ) (made : Told) → first_cut line ≡ Some (name, rest) → (k : Option Keyword) → keyword_named name ≡ k → length t.events ≤ 1048576 → by_keyword t k rest ≡ Ok made → LineMakes t line made
+name_made : (t : Scenario) (line name rest : List ℕ) (made : Scenario) → first_cut line ≡ Some (name, rest) → (k : Option Keyword) → keyword_named name ≡ k → length t.events ≤ 1048576 → by_keyword t k rest ≡ Ok made → LineMakes t line made
 name_made t line name rest made cut None k few e = absurd cc
 name_made t line name rest made cut (Some keyword.Hart) k few e = hart_made t line name rest made cut k e
 name_made t line name rest made cut (Some keyword.Register) k few e = register_made t line name rest made cut k e
 name_made t line name rest made cut (Some keyword.Word) k few e = word_made t line name rest made cut k e
 name_made t line name rest made cut (Some keyword.Steps) k few e = steps_made t line name rest made cut k few e
 
-cut_made : (t : Told) (line : List ℕ) (made : Told) (cut : Option (List ℕ × List ℕ)) → first_cut line ≡ cut → length t.events ≤ 1048576 → by_cut t cut ≡ Ok made → LineMakes t line made
-cut_made t line made None cut few e = inl (words_uncut line cut, sym (ok_is ℕ t made e))
+cut_made : (t : Scenario) (line : List ℕ) (made : Scenario) (cut : Option (List ℕ × List ℕ)) → first_cut line ≡ cut → length t.events ≤ 1048576 → by_cut t cut ≡ Ok made → LineMakes t line made
+cut_made t line made None cut few e = inl (tokens_uncut line cut, sym (ok_is ℕ t made e))
 cut_made t line made (Some (name, rest)) cut few e = name_made t line name rest made cut (keyword_named name) refl few e
 
-pub line_made : (t : Told) (line : List ℕ) (made : Told) → length t.events ≤ 1048576 → after_line t line ≡ Ok made → LineMakes t line made
+pub line_made : (t : Scenario) (line : List ℕ) (made : Scenario) → length t.events ≤ 1048576 → after_line t line ≡ Ok made → LineMakes t line made
 unfolding after_line
 line_made t line made few e = cut_made t line made (first_cut line) refl few e
 
 -- ---- what a line says is read
 
-hart_read : (t : Told) (line code : List ℕ) → LineSays line (hart code) → MayCome t (hart code) → after_line t line ≡ Ok (with_statement t (hart code))
+hart_read : (t : Scenario) (line code : List ℕ) → LineSays line (hart code) → MayCome t (hart code) → after_line t line ≡ Ok (with_statement t (hart code))
 unfolding after_line
 hart_read t line code said fits =
-    let first = words_first line (codes "hart") said.0 said.1 in
+    let first = tokens_first line (codes "hart") said.0 said.1 in
     rw (first.1, first.2, makes_with_hart t.harts said.0 code said.2 fits.0 fits.1) refl
 
-register_read : (t : Told) (line : List ℕ) (h n v : ℕ) → LineSays line (reg h n v) → MayCome t (reg h n v) → after_line t line ≡ Ok (with_statement t (reg h n v))
+register_read : (t : Scenario) (line : List ℕ) (h n v : ℕ) → LineSays line (reg h n v) → MayCome t (reg h n v) → after_line t line ≡ Ok (with_statement t (reg h n v))
 unfolding after_line
 register_read t line h n v said fits =
-    let first = words_first line (codes "reg") (said.0 ∷ said.1 ∷ said.2 ∷ []) said.3 in
+    let first = tokens_first line (codes "reg") (said.0 ∷ said.1 ∷ said.2 ∷ []) said.3 in
     rw (first.1, first.2, makes_with_register t.harts said.0 said.1 said.2 h n v said.4 said.5 said.6 fits.0 fits.1 fits.2) refl
 
-word_read : (t : Told) (line : List ℕ) (a v : ℕ) → LineSays line (word a v) → MayCome t (word a v) → after_line t line ≡ Ok (with_statement t (word a v))
+word_read : (t : Scenario) (line : List ℕ) (a v : ℕ) → LineSays line (word a v) → MayCome t (word a v) → after_line t line ≡ Ok (with_statement t (word a v))
 unfolding after_line
 word_read t line a v said fits =
-    let first = words_first line (codes "word") (said.0 ∷ said.1 ∷ []) said.2 in
+    let first = tokens_first line (codes "word") (said.0 ∷ said.1 ∷ []) said.2 in
     rw (first.1, first.2, makes_with_word t.words said.0 said.1 a v said.3 said.4 fits) refl
 
-steps_read : (t : Told) (line : List ℕ) (events : List Event) → LineSays line (steps events) → MayCome t (steps events) → after_line t line ≡ Ok (with_statement t (steps events))
+steps_read : (t : Scenario) (line : List ℕ) (events : List Event) → LineSays line (steps events) → MayCome t (steps events) → after_line t line ≡ Ok (with_statement t (steps events))
 unfolding after_line
 steps_read t line events said fits = rw (said.1, makes_with_steps t.events said.0 events said.2 fits) refl
 
-pub statement_read : (t : Told) (line : List ℕ) (s : Statement) → LineSays line s → MayCome t s → after_line t line ≡ Ok (with_statement t s)
+pub statement_read : (t : Scenario) (line : List ℕ) (s : Statement) → LineSays line s → MayCome t s → after_line t line ≡ Ok (with_statement t s)
 statement_read t line (hart code) said fits = hart_read t line code said fits
 statement_read t line (reg h n v) said fits = register_read t line h n v said fits
 statement_read t line (word a v) said fits = word_read t line a v said fits
 statement_read t line (steps events) said fits = steps_read t line events said fits
 
-pub blank_read : (t : Told) (line : List ℕ) → words line ≡ [] → after_line t line ≡ Ok t
+pub blank_read : (t : Scenario) (line : List ℕ) → tokens line ≡ [] → after_line t line ≡ Ok t
 unfolding after_line
-blank_read t line none = rw (words_none line none) refl
+blank_read t line none = rw (tokens_none line none) refl

@@ -26,20 +26,20 @@ use Rattle.litmus.specs.Questions.{Question}
 use Rattle.litmus.specs.Verdicts.{IsVerdict}
 use Rattle.litmus.specs.declared.verdict.Verdict.{Verdict}
 use Rattle.litmus_reader.specs.declared.faults.LitmusFault.{LitmusFault}
-use Rattle.litmus_reader.specs.Faults.{number_of}
+use Rattle.litmus_reader.specs.Faults.{fault_number}
 use Rattle.litmus_reader.specs.Grammar.{IsTestOf}
 use Rattle.litmus_reader.specs.Reading.{Content, content_of, test_at}
 use Rattle.litmus_reader.proofs.TestGrammar.{one_test, read_exactly}
 use Rattle.ztso_engines.specs.declared.fault.Fault.TheVariants as fault
-use Rattle.ztso_engines.specs.declared.fault.Place.{Place}
-use Rattle.ztso_engines.specs.declared.fault.Place.TheVariants.{Line, Nowhere, Word}
+use Rattle.ztso_engines.specs.declared.fault.Position.{Position}
+use Rattle.ztso_engines.specs.declared.fault.Position.TheVariants.{Line, Nowhere, Word}
 use Rattle.ztso_engines.specs.declared.fault.Refusal.{Refusal}
 use Rattle.ztso_engines.specs.Engines.{Accepted, AreOneAnswer, judged}
 use Rattle.ztso_engines.specs.Faults.{too_large, not_text}
 use Rattle.ztso_engines.specs.Tests.{ByTest, IsNoTest, refused_test, test_of}
 use Rattle.ztso_engines.specs.Schedules.{BySchedule, IsNoSchedule, events_of}
 use Rattle.ztso_engines.specs.Asm.{IsAsmAnswer, asm_at, hex_line, refused_program}
-use Rattle.ztso_engines.specs.Told.{Told, opening_of}
+use Rattle.ztso_engines.specs.Scenario.{Scenario, opening_of}
 use Rattle.ztso_engines.specs.StepsText.{Tells}
 use Rattle.ztso_engines.specs.StepsReading.{script_at}
 use Rattle.ztso_engines.specs.StateText.{shown}
@@ -72,13 +72,13 @@ one_refusal judgement r s e f = cc
 
 -- ---- `steps`
 
-one_state : (B M : ℕ) (told : Told) (a b : List ℕ) → IsStateText B M told a → IsStateText B M told b → a ≡ b
+one_state : (B M : ℕ) (told : Scenario) (a b : List ℕ) → IsStateText B M told a → IsStateText B M told b → a ≡ b
 one_state B M told a b is other = is.is_shown ∙ ap (shown M) (run-one B M (unrun (opening_of told)) told.events is.history other.history is.ran other.ran) ∙ sym other.is_shown
 
 pub one_steps : (B M : ℕ) (input : List ℕ) (a b : Result Output Refusal) → IsStepsAnswer B M input a → IsStepsAnswer B M input b → a ≡ b
 one_steps B M input (Ok a) (Ok b) (told, is, tells) (said, also, shows) =
     let same : said ≡ told = one_told M input said told also.value_is is.value_is in
-    ap (λ (out : Output). Ok out) (same_output a b (one_state B M told a.0 b.0 tells (subst (λ (t : Told). IsStateText B M t b.0) same shows)))
+    ap (λ (out : Output). Ok out) (same_output a b (one_state B M told a.0 b.0 tells (subst (λ (t : Scenario). IsStateText B M t b.0) same shows)))
 one_steps B M input (Ok a) (Err r) (told, is, tells) refused = absurd (let read : judged (script_at M) input ≡ Ok told = accepted_judged (script_at M) (Tells M) input told (text_read M input told) is in cc)
 one_steps B M input (Err r) (Ok a) refused (told, is, tells) = absurd (let read : judged (script_at M) input ≡ Ok told = accepted_judged (script_at M) (Tells M) input told (text_read M input told) is in cc)
 one_steps B M input (Err r) (Err s) refused other = ap (λ (x : Refusal). Err x) (one_refusal (judged (script_at M) input) r s refused other)
@@ -129,8 +129,8 @@ numbers_of : (long text : Bool) (read : Result Content LitmusFault) (line other 
 numbers_of true text read line other r s e f = ap (λ (x : Refusal). x.number) (let same : r ≡ s = cc in same)
 numbers_of false true (Ok test) line other r s e f = absurd cc
 numbers_of false true (Err why) line other r s e f =
-    let first : record { number = number_of why; place = Line line } ≡ r = cc in
-    let second : record { number = number_of why; place = Line other } ≡ s = cc in
+    let first : record { number = fault_number why; place = Line line } ≡ r = cc in
+    let second : record { number = fault_number why; place = Line other } ≡ s = cc in
     ap (λ (x : Refusal). x.number) (sym first) ∙ ap (λ (x : Refusal). x.number) second
 numbers_of false false read line other r s e f = ap (λ (x : Refusal). x.number) (let same : r ≡ s = cc in same)
 
@@ -219,7 +219,7 @@ lists_or_refusal input lists r is refused =
 abbrev first_of_lists : (none many small large : Bool) → ℕ
 first_of_lists none many small large = cond none 17 (cond many 18 (cond small 19 (cond large 20 16)))
 
-told_number : (number : ℕ) (place : Place) (r : Refusal) → fault.Refused (record { number = number; place = place }) ≡ fault.Refused r → r.number ≡ number
+told_number : (number : ℕ) (place : Position) (r : Refusal) → fault.Refused (record { number = number; place = place }) ≡ fault.Refused r → r.number ≡ number
 told_number number place r told = let same : r ≡ record { number = number; place = place } = cc in ap (λ (x : Refusal). x.number) same
 
 module _ (ring : Ring) (M size : ℕ) (lists : List (List ℕ)) where

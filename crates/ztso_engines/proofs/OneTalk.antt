@@ -12,7 +12,7 @@ use Rattle.ztso_engines.specs.declared.debug.command.Command.{Command}
 use Rattle.ztso_engines.specs.declared.debug.command.Command.TheVariants as command
 use Rattle.ztso_engines.specs.declared.walk.Source.{Source}
 use Rattle.ztso_engines.specs.declared.walk.Source.TheVariants.{Schedule, User}
-use Rattle.texts.specs.Cutting.{words}
+use Rattle.texts.specs.Cutting.{tokens}
 use Rattle.ztso_engines.specs.Sessions.{Past, without_last}
 use Rattle.ztso_engines.specs.Walks.{Way, Walks, WalksBack, scheduled, set_out}
 use Rattle.ztso_engines.specs.Commands.{asked}
@@ -116,7 +116,7 @@ one_answers B M command.Quit old x y points p q s t a b = (a.0.0 ∙ sym b.0.0, 
 
 one_line : (B M : ℕ) (line : List ℕ) (old x y : Way) (points p q : List (ℕ × ℕ)) (s t : List ℕ) → AnswersLine B M line old x points p s → AnswersLine B M line old y points q t → AreAlike s t x y p q
 one_line B M line old x y points p q s t a b =
-    by_option (asked (words line)) ((s ≡ unknown_line) × (x ≡ old) × (p ≡ points)) ((t ≡ unknown_line) × (y ≡ old) × (q ≡ points)) (λ said. Answers B M said old x points p s) (λ said. Answers B M said old y points q t) (AreAlike s t x y p q) (λ e f. (e.0 ∙ sym f.0, e.1 ∙ sym f.1, e.2 ∙ sym f.2)) (λ said e f. one_answers B M said old x y points p q s t e f) a b
+    by_option (asked (tokens line)) ((s ≡ unknown_line) × (x ≡ old) × (p ≡ points)) ((t ≡ unknown_line) × (y ≡ old) × (q ≡ points)) (λ said. Answers B M said old x points p s) (λ said. Answers B M said old y points q t) (AreAlike s t x y p q) (λ e f. (e.0 ∙ sym f.0, e.1 ∙ sym f.1, e.2 ∙ sym f.2)) (λ said e f. one_answers B M said old x y points p q s t e f) a b
 
 -- the line is answered, and then those behind it
 abbrev SaysMore : (B M : ℕ) (line : List ℕ) (others : List (List ℕ)) (old : Way) (points : List (ℕ × ℕ)) (out : List ℕ) → Type 0
@@ -125,7 +125,7 @@ SaysMore B M line others old points out = (text : List ℕ) × (new : Way) × (l
 pub one_talk : (B M : ℕ) (ls : List (List ℕ)) (old : Way) (points : List (ℕ × ℕ)) (s t : List ℕ) → Talks B M ls old points s → Talks B M ls old points t → s ≡ t
 one_talk B M [] old points s t a b = a ∙ sym b
 one_talk B M (line ∷ ls) old points s t a b =
-    by_bool (quits (asked (words line))) (s ≡ []) (t ≡ []) (SaysMore B M line ls old points s) (SaysMore B M line ls old points t) (s ≡ t)
+    by_bool (quits (asked (tokens line))) (s ≡ []) (t ≡ []) (SaysMore B M line ls old points s) (SaysMore B M line ls old points t) (s ≡ t)
     (λ e f. e ∙ sym f) (more (λ walk left u v e f. one_talk B M ls walk left u v e f)) a b
   where
     more : ((walk : Way) (left : List (ℕ × ℕ)) (u v : List ℕ) → Talks B M ls walk left u → Talks B M ls walk left v → u ≡ v) → SaysMore B M line ls old points s → SaysMore B M line ls old points t → s ≡ t

@@ -18,7 +18,7 @@ use Rattle.ztso_engines.specs.declared.trials.tally.Row.{Row}
 use Rattle.ztso_engines.specs.declared.trials.tally.Tally.{Tally}
 use Rattle.ztso_engines.specs.Trials.{Trial, AreTrials, is_holds, is_fails, gave, are_good}
 use Rattle.ztso_engines.specs.Outcomes.{schedule_text, first_schedule_text, line_of, outcome_line, unfinished_line, AreOutcomes, IsTried}
-use Rattle.ztso_engines.specs.inner.Tallies.{Told, told_by, is_key, told_of, seen_of, IsTallyOf, order, AreFound, row_line, good_by}
+use Rattle.ztso_engines.specs.inner.Tallies.{Counted, counted_by, is_key, counted_of, seen_of, IsTallyOf, order, AreFound, row_line, good_by}
 use Rattle.ztso_engines.proofs.Rows.{same_is, same_itself}
 
 abbrev Rows : Type 0
@@ -74,10 +74,10 @@ some_found {X} p (x ∷ xs) = by (p x) (some_found p xs)
     by false rest = rest
 
 given_and_found : (trials : List Trial) (tally : Tally) (outcome : List ℕ) → IsTallyOf trials tally → is_some (lookup (is_key outcome) tally.rows.entries) ≡ list_any (gave outcome) trials
-unfolding told_of seen_of
+unfolding counted_of seen_of
 given_and_found trials tally outcome is =
-    sym (some_mapped told_by (lookup (is_key outcome) tally.rows.entries))
-    ∙ ap (λ (o : Option Told). is_some o) (is.rows outcome)
+    sym (some_mapped counted_by (lookup (is_key outcome) tally.rows.entries))
+    ∙ ap (λ (o : Option Counted). is_some o) (is.rows outcome)
     ∙ some_mapped (λ (first : Trial). (count_by (gave outcome) trials, schedule_text first.events)) (find (gave outcome) trials)
     ∙ some_found (gave outcome) trials
 
@@ -92,16 +92,16 @@ are_outcomes trials tally is sorted = record {
 
 -- ---- and its line is the outcome's
 
-told : (n : ℕ) (text : List ℕ) → Option Told
+told : (n : ℕ) (text : List ℕ) → Option Counted
 told n text = Some (n, text)
 
 count_told : (n m : ℕ) (text other : List ℕ) → told n text ≡ told m other → n ≡ m
 unfolding told
-count_told n m text other e = ap (λ (o : Option Told). (unwrap_or o (0, [])).0) e
+count_told n m text other e = ap (λ (o : Option Counted). (unwrap_or o (0, [])).0) e
 
 text_told : (n m : ℕ) (text other : List ℕ) → told n text ≡ told m other → text ≡ other
 unfolding told
-text_told n m text other e = ap (λ (o : Option Told). (unwrap_or o (0, [])).1) e
+text_told n m text other e = ap (λ (o : Option Counted). (unwrap_or o (0, [])).1) e
 
 line_seen : (question : Question) (outcome : List ℕ) (o : Option Trial) (n count : ℕ) (schedule : List ℕ) → option_map (λ (first : Trial). (n, schedule_text first.events)) o ≡ told count schedule
     → line_of question outcome count schedule ≡ line_of question outcome n (first_schedule_text o)
@@ -112,9 +112,9 @@ line_seen question outcome (Some first) n count schedule e =
     ∙ ap (λ (text : List ℕ). line_of question outcome n text) (sym (text_told n count (schedule_text first.events) schedule e))
 
 line_is : (question : Question) (trials : List Trial) (tally : Tally) (key : Vec ℕ) (row : Row) → IsTallyOf trials tally → lookup (is_key key.items) tally.rows.entries ≡ Some row → row_line question (key, row) ≡ outcome_line question trials key.items
-unfolding told_of seen_of told
+unfolding counted_of seen_of told
 line_is question trials tally key row is found =
-    line_seen question key.items (find (gave key.items) trials) (count_by (gave key.items) trials) row.count (string_bytes row.schedule) (sym (is.rows key.items) ∙ ap (option_map told_by) found)
+    line_seen question key.items (find (gave key.items) trials) (count_by (gave key.items) trials) row.count (string_bytes row.schedule) (sym (is.rows key.items) ∙ ap (option_map counted_by) found)
 
 lines_are : (question : Question) (trials : List Trial) (tally : Tally) (rows : Rows) → IsTallyOf trials tally → All (λ e. lookup (is_key e.0.items) tally.rows.entries ≡ Some e.1) rows
     → flat_map (row_line question) rows ≡ flat_map (outcome_line question trials) (outcomes_of rows)

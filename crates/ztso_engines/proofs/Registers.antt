@@ -2,7 +2,7 @@
 use Rattle.std.proofs.Common.{◌≡◌, ℕ, zero, suc, ◌<◌, false, ◌||◌, eqb, leb, List, [], ◌∷◌, length, get_or, set, Ok, sym, ap, arith}
 use Rattle.std.proofs.lemmas.Bool.{lt-leb, ne_eqb, or_from}
 use Rattle.step_machine.specs.History.{HartStart}
-use Rattle.ztso_engines.specs.Told.{register_set}
+use Rattle.ztso_engines.specs.Scenario.{register_set}
 use Rattle.ztso_engines.specs.StepsReading.{three_numbers, with_register}
 
 -- the hart x, with v in register n

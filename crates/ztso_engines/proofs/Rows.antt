@@ -12,7 +12,7 @@ use Rattle.std.proofs.lemmas.Slice.Eq.{bytes_eq-Decides}
 use Rattle.std.proofs.lemmas.Map.Text.{is_eq-slice_cmp}
 use Rattle.step_machine.specs.declared.events.Event.{Event}
 use Rattle.ztso_engines.specs.declared.trials.tally.Row.{Row}
-use Rattle.ztso_engines.specs.inner.Tallies.{told_by, is_key, told_of, told_more, Counts, order}
+use Rattle.ztso_engines.specs.inner.Tallies.{counted_by, is_key, counted_of, counted_more, Counts, order}
 
 pub same_is : (xs ys : List ℕ) → is_eq (slice_cmp nat_cmp xs ys) ≡ true → xs ≡ ys
 same_is xs ys e = (bytes_eq-Decides xs ys).0 (sym (is_eq-slice_cmp xs ys) ∙ e)
@@ -61,20 +61,20 @@ lookup_inserted {X} key value other (e ∷ rows) = by (order key e.0) refl (look
         ap (λ (o : Option X). cond (is_key other e.0) (Some e.1) o) rest ∙ two_tests (is_key other key) (is_key other e.0) value e.1 (lookup (is_key other) rows) apart
 
 -- a row that was taken out, and put in with one run more
-counted_at : (events : List Event) (old : List (Vec ℕ × Row)) (key : Vec ℕ) (row : Row) (other : List ℕ) → told_by row ≡ told_more events (told_of old key.items)
-    → told_of (insert_entry order (remove_entry (is_key key.items) old) key row) other ≡ cond (is_key other key) (Some (told_more events (told_of old other))) (told_of old other)
-unfolding told_of
-counted_at events old key row other is = ap (option_map told_by) (lookup_inserted key row other (remove_entry (is_key key.items) old)) ∙ by (is_key other key) refl
+counted_at : (events : List Event) (old : List (Vec ℕ × Row)) (key : Vec ℕ) (row : Row) (other : List ℕ) → counted_by row ≡ counted_more events (counted_of old key.items)
+    → counted_of (insert_entry order (remove_entry (is_key key.items) old) key row) other ≡ cond (is_key other key) (Some (counted_more events (counted_of old other))) (counted_of old other)
+unfolding counted_of
+counted_at events old key row other is = ap (option_map counted_by) (lookup_inserted key row other (remove_entry (is_key key.items) old)) ∙ by (is_key other key) refl
   where
-    by : (b : Bool) → is_key other key ≡ b → option_map told_by (cond b (Some row) (lookup (is_key other) (remove_entry (is_key key.items) old))) ≡ cond b (Some (told_more events (told_of old other))) (told_of old other)
-    by true same = ap Some (is ∙ ap (λ (k : List ℕ). told_more events (told_of old k)) (sym (same_is other key.items same)))
-    by false apart = ap (option_map told_by) (lookup_removed key.items other apart old)
+    by : (b : Bool) → is_key other key ≡ b → option_map counted_by (cond b (Some row) (lookup (is_key other) (remove_entry (is_key key.items) old))) ≡ cond b (Some (counted_more events (counted_of old other))) (counted_of old other)
+    by true same = ap Some (is ∙ ap (λ (k : List ℕ). counted_more events (counted_of old k)) (sym (same_is other key.items same)))
+    by false apart = ap (option_map counted_by) (lookup_removed key.items other apart old)
 
-pub counted : (events : List Event) (old : List (Vec ℕ × Row)) (key : Vec ℕ) (row : Row) → told_by row ≡ told_more events (told_of old key.items) → Counts key.items events old (insert_entry order (remove_entry (is_key key.items) old) key row)
+pub counted : (events : List Event) (old : List (Vec ℕ × Row)) (key : Vec ℕ) (row : Row) → counted_by row ≡ counted_more events (counted_of old key.items) → Counts key.items events old (insert_entry order (remove_entry (is_key key.items) old) key row)
 counted events old key row is = λ other. counted_at events old key row other is
 
 -- the row that is found is one of which something is told
-pub found_row : (Small : ℕ → Type 0) (rows : List (Vec ℕ × Row)) (outcome : List ℕ) (found : Option Row) → found ≡ lookup (is_key outcome) rows → IfSome (told_of rows outcome) (λ told. Small told.0) → IfSome found (λ row. Small row.count)
-unfolding told_of
+pub found_row : (Small : ℕ → Type 0) (rows : List (Vec ℕ × Row)) (outcome : List ℕ) (found : Option Row) → found ≡ lookup (is_key outcome) rows → IfSome (counted_of rows outcome) (λ told. Small told.0) → IfSome found (λ row. Small row.count)
+unfolding counted_of
 found_row Small rows outcome None is small = tt
 found_row Small rows outcome (Some row) is small = rw (← is) at small

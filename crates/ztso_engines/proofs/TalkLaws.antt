@@ -10,7 +10,8 @@ use Rattle.std.specs.Io.KnownBytes.{Appends}
 use Rattle.std.proofs.lemmas.Bool.{cases_Bool, lt-ltb}
 use Rattle.std.proofs.lemmas.List.{append-nil, append_assoc, take_all, drop_all, take-take, length-take-le}
 use Rattle.texts.proofs.PieceLaws.{position_is, position_past, lines_found, lines_whole}
-use Rattle.texts.specs.Cutting.{words}
+use Rattle.texts.specs.Cutting.{tokens}
+use Rattle.litmus_reader.specs.Marks.{is_line_feed}
 use Rattle.ztso_engines.specs.Walks.{Way}
 use Rattle.ztso_engines.specs.Commands.{asked}
 use Rattle.ztso_engines.specs.declared.fault.Fault.{Fault}
@@ -24,15 +25,12 @@ use Rattle.ztso_engines.proofs.HistoryLaws.{weaker_both}
 
 -- ---- the first line of an input, which ends through its first LF
 
-abbrev is_lf : ℕ → Bool
-is_lf byte = byte == 10
-
 abbrev line_len : List ℕ → ℕ
-line_len bytes = position_or_len is_lf bytes
+line_len bytes = position_or_len is_line_feed bytes
 
 through_is : (bytes : List ℕ) → (take_through 10 bytes ≡ take (line_len bytes + 1) bytes) × (drop_through 10 bytes ≡ drop (line_len bytes + 1) bytes) × (line_len (take_through 10 bytes) ≡ line_len bytes)
 through_is [] = (refl, refl, refl)
-through_is (byte ∷ bytes) = elim (cases_Bool (is_lf byte)) [
+through_is (byte ∷ bytes) = elim (cases_Bool (is_line_feed byte)) [
   | inl is ↦ rw is (rw is (refl, refl, refl))
   | inr other ↦
       (let behind = through_is bytes in
@@ -40,30 +38,30 @@ through_is (byte ∷ bytes) = elim (cases_Bool (is_lf byte)) [
       rw other (rw one (rw other (ap (λ (xs : List ℕ). byte ∷ xs) behind.0, behind.1, ap (λ (n : ℕ). 1 + n) behind.2))))
 ]
 
-position_at : (bytes : List ℕ) (i : ℕ) → line_len bytes ≡ i → i < length bytes → position is_lf bytes ≡ Some i
+position_at : (bytes : List ℕ) (i : ℕ) → line_len bytes ≡ i → i < length bytes → position is_line_feed bytes ≡ Some i
 position_at bytes i is within = rw is (rw (lt-ltb i (length bytes) within) refl)
 
 -- what the first line is, is told by its own bytes
 pub first_told : (bytes line : List ℕ) (none : List (List ℕ)) → lines (take_through 10 bytes) ≡ line ∷ none → lines bytes ≡ line ∷ lines (drop_through 10 bytes)
 first_told [] line none is = absurd cc
-first_told (byte ∷ bytes) line none is = at (position is_lf (byte ∷ bytes)) refl
+first_told (byte ∷ bytes) line none is = at (position is_line_feed (byte ∷ bytes)) refl
   where
-    at : (o : Option ℕ) → position is_lf (byte ∷ bytes) ≡ o → lines (byte ∷ bytes) ≡ line ∷ lines (drop_through 10 (byte ∷ bytes))
+    at : (o : Option ℕ) → position is_line_feed (byte ∷ bytes) ≡ o → lines (byte ∷ bytes) ≡ line ∷ lines (drop_through 10 (byte ∷ bytes))
     at (Some i) found =
         let all = byte ∷ bytes in
-        let place = position_is is_lf all i found in
+        let place = position_is is_line_feed all i found in
         let within : i < length all = rw (← place.1) place.0 in
         let through = through_is all in
         let front : take_through 10 all ≡ take (i + 1) all = through.0 ∙ ap (λ (k : ℕ). take (k + 1) all) place.1 in
         let back : drop_through 10 all ≡ drop (i + 1) all = through.1 ∙ ap (λ (k : ℕ). drop (k + 1) all) place.1 in
         let long : length (take_through 10 all) ≡ i + 1 = ap length front ∙ length-take-le (i + 1) all (omega arith) in
-        let again : position is_lf (take_through 10 all) ≡ Some i = position_at (take_through 10 all) i (through.2 ∙ place.1) (omega arith) in
+        let again : position is_line_feed (take_through 10 all) ≡ Some i = position_at (take_through 10 all) i (through.2 ∙ place.1) (omega arith) in
         let same : take i (take_through 10 all) ≡ take i all = ap (take i) front ∙ take-take i (i + 1) all (omega arith) in
         let told : line ≡ strip_carriage_return (take i all) = let told_first = lines_found (take_through 10 all) i again in let e : line ≡ strip_carriage_return (take i (take_through 10 all)) = cc in e ∙ ap strip_carriage_return same in
         lines_found all i found ∙ ap (λ (l : List ℕ). l ∷ lines (drop (i + 1) all)) (sym told) ∙ ap (λ (rest : List ℕ). line ∷ lines rest) (sym back)
     at None none_found =
         let all = byte ∷ bytes in
-        let past = position_past is_lf all none_found in
+        let past = position_past is_line_feed all none_found in
         let through = through_is all in
         let front : take_through 10 all ≡ all = through.0 ∙ take_all (line_len all + 1) all (omega arith) in
         let back : drop_through 10 all ≡ [] = through.1 ∙ drop_all (line_len all + 1) all (omega arith) in
@@ -73,7 +71,7 @@ first_told (byte ∷ bytes) line none is = at (position is_lf (byte ∷ bytes)) 
 
 no_byte : (bytes : List ℕ) → take_through 10 bytes ≡ [] → bytes ≡ []
 no_byte [] e = refl
-no_byte (byte ∷ bytes) e = elim (cases_Bool (is_lf byte)) [
+no_byte (byte ∷ bytes) e = elim (cases_Bool (is_line_feed byte)) [
   | inl is ↦ (let f : byte ∷ [] ≡ [] = rw is at e in cc)
   | inr other ↦ (let f : byte ∷ take_through 10 bytes ≡ [] = rw other at e in cc)
 ]
@@ -94,20 +92,20 @@ prints_none B M None read walk points is none = tt
 prints_none B M (Some bytes) read walk points is none = subst (λ (xs : List ℕ). Talks B M (lines xs) walk points []) (sym (no_byte bytes (sym is ∙ none))) refl
 
 -- the line that was read ends the talk
-pub prints_no_more : (B M : ℕ) (input : Option (List ℕ)) (read line : List ℕ) (none : List (List ℕ)) (walk : Way) (points : List (ℕ × ℕ)) → IfSome input (λ bytes. read ≡ take_through 10 bytes) → lines read ≡ line ∷ none → quits (asked (words line)) ≡ true → Prints B M input walk points []
+pub prints_no_more : (B M : ℕ) (input : Option (List ℕ)) (read line : List ℕ) (none : List (List ℕ)) (walk : Way) (points : List (ℕ × ℕ)) → IfSome input (λ bytes. read ≡ take_through 10 bytes) → lines read ≡ line ∷ none → quits (asked (tokens line)) ≡ true → Prints B M input walk points []
 prints_no_more B M None read line none walk points is told quit = tt
 prints_no_more B M (Some bytes) read line none walk points is told quit =
     let first : lines bytes ≡ line ∷ lines (drop_through 10 bytes) = first_told bytes line none (ap lines (sym is) ∙ told) in
-    subst (λ (ls : List (List ℕ)). Talks B M ls walk points []) (sym first) (on_true (quits (asked (words line))) _ _ quit refl)
+    subst (λ (ls : List (List ℕ)). Talks B M ls walk points []) (sym first) (on_true (quits (asked (tokens line))) _ _ quit refl)
 
 -- the line that was read is answered, and then those behind it
 pub prints_more : (B M : ℕ) (input next : Option (List ℕ)) (read line : List ℕ) (none : List (List ℕ)) (old new : Way) (points left : List (ℕ × ℕ)) (text later : List ℕ) → IfSome input (λ bytes. read ≡ take_through 10 bytes) → DropsThrough input next 10 → lines read ≡ line ∷ none
-    → quits (asked (words line)) ≡ false → AnswersLine B M line old new points left text → Prints B M next new left later → Prints B M input old points (text ++ later)
+    → quits (asked (tokens line)) ≡ false → AnswersLine B M line old new points left text → Prints B M next new left later → Prints B M input old points (text ++ later)
 prints_more B M None next read line none old new points left text later is drops told quit answers prints = tt
 prints_more B M (Some bytes) next read line none old new points left text later is drops told quit answers prints =
     let first : lines bytes ≡ line ∷ lines (drop_through 10 bytes) = first_told bytes line none (ap lines (sym is) ∙ told) in
     let rest : Talks B M (lines (drop_through 10 bytes)) new left later = subst (λ (n : Option (List ℕ)). Prints B M n new left later) drops prints in
-    subst (λ (ls : List (List ℕ)). Talks B M ls old points (text ++ later)) (sym first) (on_false (quits (asked (words line))) _ _ quit (text, new, left, later, answers, refl, rest))
+    subst (λ (ls : List (List ℕ)). Talks B M ls old points (text ++ later)) (sym first) (on_false (quits (asked (tokens line))) _ _ quit (text, new, left, later, answers, refl, rest))
 
 -- ---- what a writer holds, where that is known
 
@@ -129,9 +127,9 @@ no_line read [] is none = sym is
 no_line read (byte ∷ text) is none = absurd (some_line byte text none)
   where
     some_line : (byte : ℕ) (text : List ℕ) → lines (byte ∷ text) ≡ [] → ⊥
-    some_line byte text none = at (position is_lf (byte ∷ text)) refl
+    some_line byte text none = at (position is_line_feed (byte ∷ text)) refl
       where
-        at : (o : Option ℕ) → position is_lf (byte ∷ text) ≡ o → ⊥
+        at : (o : Option ℕ) → position is_line_feed (byte ∷ text) ≡ o → ⊥
         at (Some i) found = let e = lines_found (byte ∷ text) i found in cc
         at None whole = let e = lines_whole (byte ∷ text) whole (omega arith) in cc
 

@@ -14,7 +14,7 @@ use Rattle.litmus.specs.declared.verdict.Verdict.{Verdict}
 use Rattle.ztso_engines.specs.declared.trials.tally.Tally.{Tally}
 use Rattle.ztso_engines.specs.Trials.{Trial, is_finished, is_holds, is_fails, gave}
 use Rattle.ztso_engines.specs.Outcomes.{schedule_text, unfinished}
-use Rattle.ztso_engines.specs.inner.Tallies.{Told, told_of, told_more, seen_of, Counts, IsTallyOf, Tallies}
+use Rattle.ztso_engines.specs.inner.Tallies.{Counted, counted_of, counted_more, seen_of, Counts, IsTallyOf, Tallies}
 
 -- ---- counts of a list and one element more
 
@@ -44,13 +44,13 @@ none_counted {X} p (x ∷ xs) e = by (p x) refl e (none_counted p xs)
 
 told_once_more : (trial : Trial) (b : Bool) (o : Option Trial) (n : ℕ) → (o ≡ None → n ≡ 0)
     → option_map (λ (first : Trial). (n + cond b 1 0, schedule_text first.events)) (option_or o (cond b (Some trial) None))
-    ≡ cond b (Some (told_more trial.events (option_map (λ (first : Trial). (n, schedule_text first.events)) o))) (option_map (λ (first : Trial). (n, schedule_text first.events)) o)
+    ≡ cond b (Some (counted_more trial.events (option_map (λ (first : Trial). (n, schedule_text first.events)) o))) (option_map (λ (first : Trial). (n, schedule_text first.events)) o)
 told_once_more trial true None n none = ap (λ (k : ℕ). Some (k + 1, schedule_text trial.events)) (none refl)
 told_once_more trial true (Some first) n none = refl
 told_once_more trial false None n none = refl
 told_once_more trial false (Some first) n none = let same : n + 0 ≡ n = omega arith in ap (λ (k : ℕ). Some (k, schedule_text first.events)) same
 
-seen_more : (trials : List Trial) (trial : Trial) (outcome : List ℕ) → seen_of (trials ++ trial ∷ []) outcome ≡ cond (gave outcome trial) (Some (told_more trial.events (seen_of trials outcome))) (seen_of trials outcome)
+seen_more : (trials : List Trial) (trial : Trial) (outcome : List ℕ) → seen_of (trials ++ trial ∷ []) outcome ≡ cond (gave outcome trial) (Some (counted_more trial.events (seen_of trials outcome))) (seen_of trials outcome)
 unfolding seen_of
 seen_more trials trial outcome =
     ap (λ (n : ℕ). option_map (λ (first : Trial). (n, schedule_text first.events)) (find (gave outcome) (trials ++ trial ∷ []))) (count_more (gave outcome) trials trial)
@@ -60,7 +60,7 @@ seen_more trials trial outcome =
 -- one more run makes a tally of one more
 pub tally_more : (trials : List Trial) (trial : Trial) (old new : Tally) → IsTallyOf trials old → Tallies trial old new → IsTallyOf (trials ++ trial ∷ []) new
 tally_more trials trial old new tally more = record {
-  rows = λ outcome. more.rows outcome ∙ ap (λ (o : Option Told). cond (gave outcome trial) (Some (told_more trial.events o)) o) (tally.rows outcome) ∙ sym (seen_more trials trial outcome);
+  rows = λ outcome. more.rows outcome ∙ ap (λ (o : Option Counted). cond (gave outcome trial) (Some (counted_more trial.events o)) o) (tally.rows outcome) ∙ sym (seen_more trials trial outcome);
   unfinished_are = more.unfinished_are ∙ unfinished_more (is_finished trial.verdict) refl;
   holds = more.holds ∙ ap (λ (b : Bool). b || is_holds trial.verdict) tally.holds ∙ sym (any_more (λ (t : Trial). is_holds t.verdict) trials trial);
   fails = more.fails ∙ ap (λ (b : Bool). b || is_fails trial.verdict) tally.fails ∙ sym (any_more (λ (t : Trial). is_fails t.verdict) trials trial);
@@ -71,15 +71,15 @@ tally_more trials trial old new tally more = record {
     unfinished_more false is = let e = count_more (λ (t : Trial). not (is_finished t.verdict)) trials trial ∙ ap (λ (c : Bool). unfinished trials + cond (not c) 1 0) is in omega (arith, e, tally.unfinished_are)
 
 -- no count is above the number of runs
-seen_few : (trials : List Trial) (outcome : List ℕ) (most : ℕ) → length trials < most → IfSome {T = Told} (seen_of trials outcome) (λ told. told.0 < most)
+seen_few : (trials : List Trial) (outcome : List ℕ) (most : ℕ) → length trials < most → IfSome {T = Counted} (seen_of trials outcome) (λ told. told.0 < most)
 unfolding seen_of
 seen_few trials outcome most few = by (find (gave outcome) trials)
   where
-    by : (o : Option Trial) → IfSome {T = Told} (option_map (λ (first : Trial). (count_by (gave outcome) trials, schedule_text first.events)) o) (λ told. told.0 < most)
+    by : (o : Option Trial) → IfSome {T = Counted} (option_map (λ (first : Trial). (count_by (gave outcome) trials, schedule_text first.events)) o) (λ told. told.0 < most)
     by None = tt
     by (Some first) = omega (arith, count_by-le-length (gave outcome) trials, few)
 
-pub told_few : (trials : List Trial) (tally : Tally) (most : ℕ) → IsTallyOf trials tally → length trials < most → (outcome : List ℕ) → IfSome {T = Told} (told_of tally.rows.entries outcome) (λ told. told.0 < most)
+pub told_few : (trials : List Trial) (tally : Tally) (most : ℕ) → IsTallyOf trials tally → length trials < most → (outcome : List ℕ) → IfSome {T = Counted} (counted_of tally.rows.entries outcome) (λ told. told.0 < most)
 told_few trials tally most is few outcome = rw (is.rows outcome) (seen_few trials outcome most few)
 
 pub unfinished_few : (trials : List Trial) (tally : Tally) (most : ℕ) → IsTallyOf trials tally → length trials < most → tally.unfinished < most
@@ -89,7 +89,7 @@ unfinished_few trials tally most is few = omega (arith, is.unfinished_are, count
 
 -- of no run nothing is told
 pub nothing_told : (tally : Tally) → tally.rows.entries ≡ [] → tally.unfinished ≡ 0 → tally.some_hold ≡ false → tally.some_fail ≡ false → IsTallyOf [] tally
-unfolding told_of seen_of
+unfolding counted_of seen_of
 nothing_told tally rows none holds fails = record { rows = λ outcome. rw rows refl; unfinished_are = none; holds = holds; fails = fails }
 
 -- an outcome's test, as the rows' keys and as the runs do it
@@ -103,7 +103,7 @@ pub tallied : {E : Type 0} (result : Result (Unit {0}) E) (events : List Event) 
     → OnOk result (Counts values events old.rows.entries new.rows.entries) → OnOk result (Tallies (record { events = events; verdict = verdict; values = values }) old new)
 tallied (Err e) events verdict values old new finished same holds fails counts = tt
 tallied (Ok x) events verdict values old new finished same holds fails counts = record {
-  rows = λ outcome. counts outcome ∙ ap (λ (b : Bool). cond b (Some (told_more events (told_of old.rows.entries outcome))) (told_of old.rows.entries outcome)) (sym (gave_by_key (is_finished verdict) finished outcome values));
+  rows = λ outcome. counts outcome ∙ ap (λ (b : Bool). cond b (Some (counted_more events (counted_of old.rows.entries outcome))) (counted_of old.rows.entries outcome)) (sym (gave_by_key (is_finished verdict) finished outcome values));
   unfinished_are = let e = ap (λ (b : Bool). old.unfinished + cond b 0 1) finished in omega (arith, same, e);
   holds = holds;
   fails = fails;

@@ -4,8 +4,8 @@ use Rattle.std.specs.Str.Lines.{lines}
 use Rattle.std.proofs.lemmas.Bool.{eqb-false, ne_eqb}
 use Rattle.texts.proofs.ResultLaws.{bind_ok, guard_ok, ok_is}
 use Rattle.ztso_engines.specs.declared.fault.Refusal.{Refusal}
-use Rattle.ztso_engines.specs.declared.fault.Place.TheVariants.{Nowhere}
-use Rattle.ztso_engines.specs.Told.{Told, untold, Statement, hart, reg, word, steps, with_statement, MayCome}
+use Rattle.ztso_engines.specs.declared.fault.Position.TheVariants.{Nowhere}
+use Rattle.ztso_engines.specs.Scenario.{Scenario, no_scenario, Statement, hart, reg, word, steps, with_statement, MayCome}
 use Rattle.ztso_engines.specs.StepsText.{LinesTell, Tells}
 use Rattle.ztso_engines.specs.LineFaults.{bad_line, at_line}
 use Rattle.ztso_engines.specs.StepsReading.{after_line, after_lines, with_some_hart, script_at}
@@ -13,44 +13,44 @@ use Rattle.ztso_engines.proofs.Lines.{line_made, statement_read, blank_read}
 use Rattle.ztso_engines.proofs.LineFaulted.{at_line_ok}
 
 -- the events stay within their limit
-few_stay : (t : Told) (s : Statement) → length t.events ≤ 1048576 → MayCome t s → length (with_statement t s).events ≤ 1048576
+few_stay : (t : Scenario) (s : Statement) → length t.events ≤ 1048576 → MayCome t s → length (with_statement t s).events ≤ 1048576
 few_stay t (hart code) few fits = few
 few_stay t (reg h n v) few fits = few
 few_stay t (word a v) few fits = few
 few_stay t (steps events) few fits = simp length-append fits
 
-pub lines_told : (t : Told) (number : ℕ) (left : List (List ℕ)) (told : Told) → length t.events ≤ 1048576 → after_lines t number left ≡ Ok told → LinesTell t left told
+pub lines_told : (t : Scenario) (number : ℕ) (left : List (List ℕ)) (told : Scenario) → length t.events ≤ 1048576 → after_lines t number left ≡ Ok told → LinesTell t left told
 unfolding after_lines
 lines_told t number [] told few e = sym (ok_is Refusal t told e)
 lines_told t number (line ∷ others) told few e =
     let first = bind_ok (at_line number (after_line t line)) (λ next. after_lines next (number + 1) others) told e in
     elim (line_made t line first.0 few (at_line_ok number (after_line t line) first.0 first.1)) [
-      | inl blank ↦ inl (blank.0, subst (λ (u : Told). LinesTell u others told) blank.1 (lines_told first.0 (number + 1) others told (rw blank.1 few) first.2))
-      | inr said ↦ inr (said.0, said.1, said.2, subst (λ (u : Told). LinesTell u others told) said.3 (lines_told first.0 (number + 1) others told (rw said.3 (few_stay t said.0 few said.2)) first.2))
+      | inl blank ↦ inl (blank.0, subst (λ (u : Scenario). LinesTell u others told) blank.1 (lines_told first.0 (number + 1) others told (rw blank.1 few) first.2))
+      | inr said ↦ inr (said.0, said.1, said.2, subst (λ (u : Scenario). LinesTell u others told) said.3 (lines_told first.0 (number + 1) others told (rw said.3 (few_stay t said.0 few said.2)) first.2))
     ]
 
-pub lines_read : (t : Told) (number : ℕ) (left : List (List ℕ)) (told : Told) → LinesTell t left told → after_lines t number left ≡ Ok told
+pub lines_read : (t : Scenario) (number : ℕ) (left : List (List ℕ)) (told : Scenario) → LinesTell t left told → after_lines t number left ≡ Ok told
 unfolding after_lines
-lines_read t number [] told tell = ap (λ (u : Told). Ok u) (sym tell)
+lines_read t number [] told tell = ap (λ (u : Scenario). Ok u) (sym tell)
 lines_read t number (line ∷ others) told (inl blank) = rw (blank_read t line blank.0) (lines_read t (number + 1) others told blank.1)
 lines_read t number (line ∷ others) told (inr said) = rw (statement_read t line said.0 said.1 said.2) (lines_read (with_statement t said.0) (number + 1) others told said.3)
 
-pub text_told : (M : ℕ) (text : List ℕ) (told : Told) → script_at M text ≡ Ok told → Tells M text told
+pub text_told : (M : ℕ) (text : List ℕ) (told : Scenario) → script_at M text ≡ Ok told → Tells M text told
 unfolding script_at
 text_told M text told e =
-    let read = bind_ok (after_lines (untold M) 1 (lines text)) with_some_hart told e in
+    let read = bind_ok (after_lines (no_scenario M) 1 (lines text)) with_some_hart told e in
     let last = guard_ok (eqb (length read.0.harts) 0) (record { number = bad_line; place = Nowhere }) read.0 told read.2 in
     let no_less : length read.0.harts ≡ 0 → ⊥ = eqb-false (length read.0.harts) 0 last.0 in
-    subst (λ (u : Told). Tells M text u) last.1 (record {
-      lines_tell = lines_told (untold M) 1 (lines text) read.0 (omega arith) read.1;
+    subst (λ (u : Scenario). Tells M text u) last.1 (record {
+      lines_tell = lines_told (no_scenario M) 1 (lines text) read.0 (omega arith) read.1;
       some_hart = omega arith;
     })
 
-pub text_read : (M : ℕ) (text : List ℕ) (told : Told) → Tells M text told → script_at M text ≡ Ok told
+pub text_read : (M : ℕ) (text : List ℕ) (told : Scenario) → Tells M text told → script_at M text ≡ Ok told
 unfolding script_at
 text_read M text told tells =
     let some : eqb (length told.harts) 0 ≡ false = ne_eqb (length told.harts) 0 (λ none. let n : length told.harts ≡ 0 = none in omega (arith, tells.some_hart)) in
-    rw (lines_read (untold M) 1 (lines text) told tells.lines_tell, some) refl
+    rw (lines_read (no_scenario M) 1 (lines text) told tells.lines_tell, some) refl
 
-pub one_told : (M : ℕ) (text : List ℕ) (a b : Told) → Tells M text a → Tells M text b → a ≡ b
+pub one_told : (M : ℕ) (text : List ℕ) (a b : Scenario) → Tells M text a → Tells M text b → a ≡ b
 one_told M text a b p q = ok_is Refusal a b (sym (text_read M text a p) ∙ text_read M text b q)

@@ -2,18 +2,18 @@
 use Rattle.std.specs.Prelude.{ℕ, ◌≡◌, ◌-◌, false, List, ◌∷◌, [], ◌++◌, length, replicate, Option, Result, Ok, Err}
 use Rattle.std.specs.List.{flat_map}
 use Rattle.std.specs.Fmt.{digits}
+use Rattle.texts.specs.Results.{map_err}
 use Rattle.rv_decode.specs.declared.instruction.Instr.{Instr}
 use Rattle.assembler.specs.Drafts.{assembled}
 use Rattle.assembler.specs.Program.{IsCode}
-use Rattle.assembler.specs.Faults.{number_of, Refusal as AsmRefusal}
+use Rattle.assembler.specs.Faults.{fault_number, Refusal as AsmRefusal}
 use Rattle.ztso_engines.specs.declared.fault.Refusal.{Refusal}
 use Rattle.ztso_engines.specs.Faults.{refused_at}
 use Rattle.ztso_engines.specs.Engines.{Accepted, judged}
 
 -- a fault of an assembly text, refused by its number at its line
 abbrev pub refused_program : {V : Type 0} → Result V AsmRefusal → Result V Refusal
-refused_program (Ok x) = Ok x
-refused_program (Err refusal) = Err (refused_at number_of refusal)
+refused_program result = map_err (refused_at fault_number) result
 
 -- the instructions of an assembly text, or its refusal
 unfoldable pub asm_at : List ℕ → Result (List (Option Instr)) Refusal

@@ -15,7 +15,7 @@ use Rattle.poll_close.specs.declared.faults.Refused.{Refused}
 use Rattle.poll_close.specs.declared.faults.Refused.TheVariants as refused
 use Rattle.ztso_engines.specs.declared.fault.Fault.{Fault}
 use Rattle.ztso_engines.specs.declared.fault.Fault.TheVariants as fault
-use Rattle.ztso_engines.specs.declared.fault.Place.TheVariants as place
+use Rattle.ztso_engines.specs.declared.fault.Position.TheVariants as place
 use Rattle.ztso_engines.specs.declared.fault.Refusal.{Refusal}
 use Rattle.ztso_engines.specs.Engines.{Accepted, judged}
 use Rattle.ztso_engines.specs.Schedules.{IsNoSchedule}

@@ -9,21 +9,21 @@ use Rattle.rv_decode.specs.declared.instruction.Instr.{Instr}
 use Rattle.assembler.specs.Drafts.{onto}
 use Rattle.assembler.specs.Writing.{text_of}
 use Rattle.ztso_engines.specs.declared.fault.Refusal.{Refusal}
-use Rattle.texts.specs.Cutting.{words}
+use Rattle.texts.specs.Cutting.{tokens}
 use Rattle.ztso_engines.specs.LineFaults.{at_line}
 use Rattle.ztso_engines.specs.Code.{code_at}
 use Rattle.ztso_engines.specs.Engines.{Accepted, judged}
 
 -- The text says these instruction words: each word of its lines is 8 hex digits that say the next one.
 abbrev pub SaysCode : List ℕ → List ℕ → Type 0
-SaysCode text code = AllZip IsHexWord (flat_map words (lines text)) code
+SaysCode text code = AllZip IsHexWord (flat_map tokens (lines text)) code
 
 -- the instruction words that the words of these lines say, the first of which has this number; a word
 -- that isn't 8 hex digits is refused at its line
 unfoldable pub code_of_lines : (number : ℕ) → List (List ℕ) → Result (List ℕ) Refusal
 code_of_lines number [] = Ok []
 code_of_lines number (line ∷ others) = do
-  code ← at_line number (code_at (words line))
+  code ← at_line number (code_at (tokens line))
   onto code (code_of_lines (number + 1) others)
 
 -- the instruction words that a text says, or its first fault

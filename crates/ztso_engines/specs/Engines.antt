@@ -6,16 +6,17 @@ use Rattle.ztso_engines.specs.declared.fault.Fault.{Fault}
 use Rattle.ztso_engines.specs.declared.fault.Fault.TheVariants.{ReadFailed, WriteFailed, NoMemory, Refused}
 use Rattle.ztso_engines.specs.declared.fault.Refusal.{Refusal}
 use Rattle.ztso_engines.specs.Faults.{too_large, not_text}
+use Rattle.ztso_engines.specs.declared.input.TheConstants.{INPUT_BYTES}
 
 -- the input is a text within the limit, and has this value
 pub record Accepted {V : Type 0} (IsValue : List ℕ → V → Type 0) (input : List ℕ) (value : V) : Type 0 where
-  pub few : length input ≤ 1048576
+  pub few : length input ≤ INPUT_BYTES
   pub text : IsUtf8 input
   pub value_is : IsValue input value
 
 -- the value of an input, or why it is refused: as too large, else as no text, else by its own rules
 abbrev pub judged : {V : Type 0} → (List ℕ → Result V Refusal) → List ℕ → Result V Refusal
-judged value_at input = if nat_lt 1048576 (length input) then Err too_large else (if is_utf8 input then value_at input else Err not_text)
+judged value_at input = if nat_lt INPUT_BYTES (length input) then Err too_large else (if is_utf8 input then value_at input else Err not_text)
 
 -- this holds of a reader's bytes, or of some bytes where the reader doesn't tell its own
 abbrev pub OfInput : Option (List ℕ) → (List ℕ → Type 0) → Type 0

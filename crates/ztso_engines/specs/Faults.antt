@@ -6,7 +6,7 @@ use Rattle.texts.specs.declared.errors.TextError.TheVariants as error
 use Rattle.ztso_engines.specs.declared.fault.Fault.{Fault}
 use Rattle.ztso_engines.specs.declared.fault.Fault.TheVariants.{ReadFailed, WriteFailed, NoMemory, Refused}
 use Rattle.ztso_engines.specs.declared.fault.Refusal.{Refusal}
-use Rattle.ztso_engines.specs.declared.fault.Place.TheVariants.{Nowhere, Line}
+use Rattle.ztso_engines.specs.declared.fault.Position.TheVariants.{Nowhere, Line}
 
 -- the exit status of a program that ends with a fault
 abbrev pub status_of : Fault → ℕ
@@ -30,7 +30,7 @@ fault_for refused (error.Refused refusal) = Refused (refused refusal)
 
 -- a fault at a line is refused there, by its number
 abbrev pub refused_at : {F : Type 0} → (F → ℕ) → AtLine F → Refusal
-refused_at number_of refusal = record { number = number_of refusal.fault; place = Line refusal.line }
+refused_at fault_number refusal = record { number = fault_number refusal.fault; place = Line refusal.line }
 
 -- What a function that reads and writes nothing returned, seen by view, is an answer, unless memory ran
 -- out.

@@ -4,11 +4,12 @@ use Rattle.std.specs.Global.{Vec}
 use Rattle.ztso_engines.specs.declared.fault.Fault.{Fault}
 use Rattle.ztso_engines.specs.declared.fault.Fault.TheVariants.{ReadFailed, WriteFailed, NoMemory, Refused}
 use Rattle.ztso_engines.specs.Faults.{too_large}
+use Rattle.ztso_engines.specs.declared.input.TheConstants.{INPUT_BYTES}
 
 -- all of the bytes; refused only as too large, and only past the limit
 abbrev pub IsInput : List ℕ → Result (Vec ℕ) Fault → Type 0
 IsInput bytes (Ok input) = input.items ≡ bytes
-IsInput bytes (Err (Refused refusal)) = (refusal ≡ too_large) × (1048576 < length bytes)
+IsInput bytes (Err (Refused refusal)) = (refusal ≡ too_large) × (INPUT_BYTES < length bytes)
 IsInput bytes (Err ReadFailed) = Unit {0}
 IsInput bytes (Err NoMemory) = Unit {0}
 IsInput bytes (Err WriteFailed) = ⊥

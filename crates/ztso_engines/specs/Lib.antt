@@ -2,7 +2,7 @@ pub mod Faults
 pub mod Input
 pub mod LineFaults
 pub mod Code
-pub mod Told
+pub mod Scenario
 pub mod StepsText
 pub mod StepsReading
 pub mod StateText

@@ -1,9 +1,10 @@
 -- Faults of a line: the numbers of their refusals, and the refusals of the input.
 use Rattle.std.specs.Prelude.{ℕ, Option, None, Some, Result, Ok, Err}
+use Rattle.texts.specs.Results.{map_err}
 use Rattle.texts.specs.declared.errors.TextError.{TextError}
 use Rattle.ztso_engines.specs.declared.fault.Fault.{Fault}
 use Rattle.ztso_engines.specs.declared.fault.Refusal.{Refusal}
-use Rattle.ztso_engines.specs.declared.fault.Place.TheVariants.{Line}
+use Rattle.ztso_engines.specs.declared.fault.Position.TheVariants.{Line}
 use Rattle.ztso_engines.specs.Faults.{fault_for}
 
 -- a line that no rule allows
@@ -19,8 +20,7 @@ abbrev pub refused_on : (line number : ℕ) → Refusal
 refused_on line number = record { number = number; place = Line line }
 
 abbrev pub at_line : {A : Type 0} → ℕ → Result A ℕ → Result A Refusal
-at_line line (Ok x) = Ok x
-at_line line (Err number) = Err (refused_on line number)
+at_line line result = map_err (refused_on line) result
 
 -- the input's fault where the line of this number has this fault
 abbrev pub fault_at : ℕ → TextError ℕ → Fault

@@ -1,21 +1,21 @@
 -- Inputs that are schedules.
 use Rattle.std.specs.Prelude.{ℕ, ◌≡◌, List, Option, IsSomeAnd, Result, Ok, Err}
+use Rattle.texts.specs.Results.{map_err}
 use Rattle.step_machine.specs.declared.events.Event.{Event}
 use Rattle.recorder.specs.declared.faults.AtByte.{AtByte}
-use Rattle.recorder.specs.Faults.{number_of}
+use Rattle.recorder.specs.Faults.{fault_number}
 use Rattle.recorder.specs.Reading.{schedule_at}
 use Rattle.recorder.specs.Schedule.{IsScheduleOf}
 use Rattle.ztso_engines.specs.declared.fault.Refusal.{Refusal}
-use Rattle.ztso_engines.specs.declared.fault.Place.TheVariants.{Byte}
+use Rattle.ztso_engines.specs.declared.fault.Position.TheVariants.{Byte}
 use Rattle.ztso_engines.specs.Engines.{Accepted, judged}
 
 -- a fault of a schedule is refused at its byte, by its number
 abbrev pub refused_at_byte : AtByte → Refusal
-refused_at_byte refusal = record { number = number_of refusal.fault; place = Byte refusal.place }
+refused_at_byte refusal = record { number = fault_number refusal.fault; place = Byte refusal.place }
 
 abbrev pub refused_schedule : {V : Type 0} → Result V AtByte → Result V Refusal
-refused_schedule (Ok v) = Ok v
-refused_schedule (Err refusal) = Err (refused_at_byte refusal)
+refused_schedule result = map_err refused_at_byte result
 
 -- the events of a schedule, or its refusal
 unfoldable pub events_of : List ℕ → Result (List Event) Refusal

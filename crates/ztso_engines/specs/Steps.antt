@@ -3,7 +3,7 @@ use Rattle.std.specs.Prelude.{ℕ, ◌≡◌, List, Result, Ok, Err}
 use Rattle.step_machine.specs.History.{History}
 use Rattle.step_machine.specs.Runs.{Run}
 use Rattle.ztso_engines.specs.declared.fault.Refusal.{Refusal}
-use Rattle.ztso_engines.specs.Told.{Told, opening_of}
+use Rattle.ztso_engines.specs.Scenario.{Scenario, opening_of}
 use Rattle.ztso_engines.specs.StepsText.{Tells}
 use Rattle.ztso_engines.specs.StepsReading.{script_at}
 use Rattle.ztso_engines.specs.StateText.{shown}
@@ -11,7 +11,7 @@ use Rattle.ztso_engines.specs.Engines.{Accepted, judged}
 
 -- the state text of the history that the events make of the opening, over store buffers of B pairs and
 -- a memory of M words
-pub record IsStateText (B M : ℕ) (told : Told) (out : List ℕ) : Type 0 where
+pub record IsStateText (B M : ℕ) (told : Scenario) (out : List ℕ) : Type 0 where
   pub history : History
   pub ran : Run B M (opening_of told) told.events history
   pub is_shown : out ≡ shown M history
@@ -19,5 +19,5 @@ pub record IsStateText (B M : ℕ) (told : Told) (out : List ℕ) : Type 0 where
 -- What answers an input: the state text of what it tells, where it is a text within the limit that
 -- tells something, else the refusal for its first fault.
 abbrev pub IsStepsAnswer : (B M : ℕ) → List ℕ → Result (List ℕ × Unit {0}) Refusal → Type 0
-IsStepsAnswer B M input (Ok answer) = (told : Told) × Accepted (Tells M) input told × IsStateText B M told answer.0
+IsStepsAnswer B M input (Ok answer) = (told : Scenario) × Accepted (Tells M) input told × IsStateText B M told answer.0
 IsStepsAnswer B M input (Err refusal) = judged (script_at M) input ≡ Err refusal

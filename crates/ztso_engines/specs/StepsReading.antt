@@ -4,20 +4,22 @@ use Rattle.std.specs.Prelude.{ℕ, ◌+◌, ◌/◌, ◌%◌, ◌==◌, nat_lt, 
 use Rattle.std.specs.Str.{bytes_eq}
 use Rattle.std.specs.Str.Lines.{lines}
 use Rattle.texts.specs.Numbers.{word_of}
-use Rattle.texts.specs.Results.{◌>>=◌}
+use Rattle.texts.specs.Results.{◌>>=◌, map_err}
 use Rattle.step_machine.specs.History.{HartStart}
 use Rattle.step_machine.specs.declared.events.Event.{Event}
+use Rattle.step_machine.specs.declared.opening.TheConstants.{MAX_HARTS}
 use Rattle.recorder.specs.declared.faults.AtByte.{AtByte}
-use Rattle.recorder.specs.Faults.{number_of}
+use Rattle.recorder.specs.Faults.{fault_number}
 use Rattle.recorder.specs.Reading.{tokens_after}
 use Rattle.ztso_engines.specs.declared.fault.Refusal.{Refusal}
-use Rattle.ztso_engines.specs.declared.fault.Place.TheVariants.{Nowhere}
+use Rattle.ztso_engines.specs.declared.fault.Position.TheVariants.{Nowhere}
 use Rattle.ztso_engines.specs.declared.steps.line.Keyword.{Keyword}
 use Rattle.ztso_engines.specs.declared.steps.line.Keyword.TheVariants as keyword
-use Rattle.texts.specs.Cutting.{words, first_cut}
+use Rattle.texts.specs.Cutting.{tokens, first_cut}
 use Rattle.ztso_engines.specs.LineFaults.{bad_line, or_bad, at_line}
 use Rattle.ztso_engines.specs.Code.{code_at}
-use Rattle.ztso_engines.specs.Told.{Told, untold, fresh, register_set}
+use Rattle.ztso_engines.specs.Scenario.{Scenario, no_scenario, fresh, register_set}
+use Rattle.rv_decode.specs.declared.instruction.TheConstants.{MAX_CODE}
 
 -- ---- the words behind a keyword
 
@@ -50,7 +52,7 @@ three_numbers text = do
 unfoldable pub with_hart : List HartStart → List (List ℕ) → Result (List HartStart) ℕ
 with_hart harts text = do
   code ← code_at text
-  if nat_le 64 (length harts) || nat_lt 4096 (length code) then Err bad_line else Ok (harts ++ fresh code ∷ [])
+  if nat_le MAX_HARTS (length harts) || nat_lt MAX_CODE (length code) then Err bad_line else Ok (harts ++ fresh code ∷ [])
 
 unfoldable pub with_register : List HartStart → List (List ℕ) → Result (List HartStart) ℕ
 with_register harts text = do
@@ -64,8 +66,7 @@ with_word memory text = do
 
 -- a fault of tokens, by its number
 abbrev pub numbered : {A : Type 0} → Result A AtByte → Result A ℕ
-numbered (Ok x) = Ok x
-numbered (Err refused) = Err (number_of refused.fault)
+numbered result = map_err (λ refused. fault_number refused.fault) result
 
 unfoldable pub with_steps : List Event → List ℕ → Result (List Event) ℕ
 with_steps events text = do
@@ -81,44 +82,44 @@ keyword_named name =
     (if bytes_eq name (codes "word") then Some keyword.Word else
     (if bytes_eq name (codes "steps") then Some keyword.Steps else None)))
 
-abbrev pub by_keyword : Told → Option Keyword → List ℕ → Result Told ℕ
+abbrev pub by_keyword : Scenario → Option Keyword → List ℕ → Result Scenario ℕ
 by_keyword t None rest = Err bad_line
 by_keyword t (Some keyword.Hart) rest = do
-  harts ← with_hart t.harts (words rest)
+  harts ← with_hart t.harts (tokens rest)
   Ok (record t { harts = harts })
 by_keyword t (Some keyword.Register) rest = do
-  harts ← with_register t.harts (words rest)
+  harts ← with_register t.harts (tokens rest)
   Ok (record t { harts = harts })
 by_keyword t (Some keyword.Word) rest = do
-  memory ← with_word t.words (words rest)
+  memory ← with_word t.words (tokens rest)
   Ok (record t { words = memory })
 by_keyword t (Some keyword.Steps) rest = do
   events ← with_steps t.events rest
   Ok (record t { events = events })
 
-abbrev pub by_cut : Told → Option (List ℕ × List ℕ) → Result Told ℕ
+abbrev pub by_cut : Scenario → Option (List ℕ × List ℕ) → Result Scenario ℕ
 by_cut t None = Ok t
 by_cut t (Some cut) = by_keyword t (keyword_named cut.0) cut.1
 
 -- what is told behind one more line; a line without a word tells nothing
-unfoldable pub after_line : Told → List ℕ → Result Told ℕ
+unfoldable pub after_line : Scenario → List ℕ → Result Scenario ℕ
 after_line t line = by_cut t (first_cut line)
 
 -- ---- a text
 
 -- what is told behind these lines, the first of which has this number
-unfoldable pub after_lines : Told → (number : ℕ) → List (List ℕ) → Result Told Refusal
+unfoldable pub after_lines : Scenario → (number : ℕ) → List (List ℕ) → Result Scenario Refusal
 after_lines t number [] = Ok t
 after_lines t number (line ∷ others) = do
   next ← at_line number (after_line t line)
   after_lines next (number + 1) others
 
 -- a text without a hart is refused as a whole, where no line is
-abbrev pub with_some_hart : Told → Result Told Refusal
+abbrev pub with_some_hart : Scenario → Result Scenario Refusal
 with_some_hart t = if length t.harts == 0 then Err (record { number = bad_line; place = Nowhere }) else Ok t
 
 -- what a steps text tells of a machine with M words, or its first fault
-unfoldable pub script_at : (M : ℕ) → List ℕ → Result Told Refusal
+unfoldable pub script_at : (M : ℕ) → List ℕ → Result Scenario Refusal
 script_at M text = do
-  told ← after_lines (untold M) 1 (lines text)
+  told ← after_lines (no_scenario M) 1 (lines text)
   with_some_hart told

@@ -4,8 +4,8 @@ use Rattle.std.specs.List.{AllZip}
 use Rattle.std.specs.Str.Lines.{lines}
 use Rattle.texts.specs.Numbers.{Says, IsHexWord}
 use Rattle.recorder.specs.Schedule.{IsTokensOf}
-use Rattle.texts.specs.Cutting.{words, first_cut}
-use Rattle.ztso_engines.specs.Told.{Told, untold, Statement, hart, reg, word, steps, with_statement, MayCome}
+use Rattle.texts.specs.Cutting.{tokens, first_cut}
+use Rattle.ztso_engines.specs.Scenario.{Scenario, no_scenario, Statement, hart, reg, word, steps, with_statement, MayCome}
 
 -- decimal digits that say a number below 2^32
 abbrev pub SaysWord : List ℕ → ℕ → Type 0
@@ -13,17 +13,17 @@ SaysWord digits n = Says digits n × (n < 2 ^ 32)
 
 -- The line says this, by its words; behind `steps` the rest of the line is a text of tokens.
 abbrev pub LineSays : List ℕ → Statement → Type 0
-LineSays line (hart code) = (numbers : List (List ℕ)) × (words line ≡ codes "hart" ∷ numbers) × AllZip IsHexWord numbers code
-LineSays line (reg h n v) = (H N V : List ℕ) × (words line ≡ codes "reg" ∷ H ∷ N ∷ V ∷ []) × SaysWord H h × SaysWord N n × SaysWord V v
-LineSays line (word a v) = (A V : List ℕ) × (words line ≡ codes "word" ∷ A ∷ V ∷ []) × SaysWord A a × SaysWord V v
+LineSays line (hart code) = (numbers : List (List ℕ)) × (tokens line ≡ codes "hart" ∷ numbers) × AllZip IsHexWord numbers code
+LineSays line (reg h n v) = (H N V : List ℕ) × (tokens line ≡ codes "reg" ∷ H ∷ N ∷ V ∷ []) × SaysWord H h × SaysWord N n × SaysWord V v
+LineSays line (word a v) = (A V : List ℕ) × (tokens line ≡ codes "word" ∷ A ∷ V ∷ []) × SaysWord A a × SaysWord V v
 LineSays line (steps events) = (tokens : List ℕ) × (first_cut line ≡ Some (codes "steps", tokens)) × IsTokensOf tokens events
 
 -- From the top, each line says what may come there, or has no word and says nothing.
-abbrev pub LinesTell : Told → List (List ℕ) → Told → Type 0
+abbrev pub LinesTell : Scenario → List (List ℕ) → Scenario → Type 0
 LinesTell before [] told = told ≡ before
-LinesTell before (line ∷ others) told = ((words line ≡ []) × LinesTell before others told) ⊎ ((s : Statement) × LineSays line s × MayCome before s × LinesTell (with_statement before s) others told)
+LinesTell before (line ∷ others) told = ((tokens line ≡ []) × LinesTell before others told) ⊎ ((s : Statement) × LineSays line s × MayCome before s × LinesTell (with_statement before s) others told)
 
 -- The text tells this of a machine with M words: its lines do, and there is a hart.
-pub record Tells (M : ℕ) (text : List ℕ) (told : Told) : Type 0 where
-  pub lines_tell : LinesTell (untold M) (lines text) told
+pub record Tells (M : ℕ) (text : List ℕ) (told : Scenario) : Type 0 where
+  pub lines_tell : LinesTell (no_scenario M) (lines text) told
   pub some_hart : 1 ≤ length told.harts

@@ -9,7 +9,7 @@ use Rattle.ztso_engines.specs.declared.debug.command.Command.TheVariants as comm
 use Rattle.ztso_engines.specs.declared.fault.Fault.{Fault}
 use Rattle.ztso_engines.specs.declared.fault.Fault.TheVariants.{ReadFailed, WriteFailed, NoMemory, Refused}
 use Rattle.ztso_engines.specs.declared.fault.Refusal.{Refusal}
-use Rattle.texts.specs.Cutting.{words}
+use Rattle.texts.specs.Cutting.{tokens}
 use Rattle.ztso_engines.specs.Histories.{ByBoth}
 use Rattle.ztso_engines.specs.Walks.{Way, set_out}
 use Rattle.ztso_engines.specs.Commands.{asked}
@@ -32,12 +32,12 @@ quits (Some command.Quit) = true
 
 -- the line prints this text, and leads from a walk and breakpoints to others
 abbrev pub AnswersLine : (B M : ℕ) → (line : List ℕ) → (old new : Way) (points others : List (ℕ × ℕ)) (text : List ℕ) → Type 0
-AnswersLine B M line old new points others text = MatchOption (asked (words line)) ((text ≡ unknown_line) × (new ≡ old) × (others ≡ points)) (λ said. Answers B M said old new points others text)
+AnswersLine B M line old new points others text = MatchOption (asked (tokens line)) ((text ≡ unknown_line) × (new ≡ old) × (others ≡ points)) (λ said. Answers B M said old new points others text)
 
 -- these lines print this, up to the one that ends the talk
 abbrev pub Talks : (B M : ℕ) → List (List ℕ) → Way → (points : List (ℕ × ℕ)) → (out : List ℕ) → Type 0
 Talks B M [] old points out = out ≡ []
-Talks B M (line ∷ others) old points out = MatchBool (quits (asked (words line))) (out ≡ [])
+Talks B M (line ∷ others) old points out = MatchBool (quits (asked (tokens line))) (out ≡ [])
     ((text : List ℕ) × (new : Way) × (left : List (ℕ × ℕ)) × (later : List ℕ) × AnswersLine B M line old new points left text × (out ≡ text ++ later) × Talks B M others new left later)
 
 -- what the user's lines print from here on, where their bytes are known

@@ -1,8 +1,9 @@
 -- Inputs that are litmus texts.
 use Rattle.std.specs.Prelude.{ℕ, ◌≡◌, ◌⊎◌, List, Option, IsSomeAnd, Result, Ok, Err}
+use Rattle.texts.specs.Results.{map_err}
 use Rattle.litmus.specs.Questions.{Question}
 use Rattle.litmus_reader.specs.declared.faults.LitmusFault.{LitmusFault}
-use Rattle.litmus_reader.specs.Faults.{number_of}
+use Rattle.litmus_reader.specs.Faults.{fault_number}
 use Rattle.litmus_reader.specs.Reading.{Content, test_at}
 use Rattle.litmus_reader.specs.Grammar.{IsTestOf}
 use Rattle.ztso_engines.specs.declared.fault.Refusal.{Refusal}
@@ -11,8 +12,7 @@ use Rattle.ztso_engines.specs.Engines.{Accepted, judged}
 
 -- a fault of a litmus text, refused by its number at this line
 abbrev pub refused_test : {V : Type 0} → (line : ℕ) → Result V LitmusFault → Result V Refusal
-refused_test line (Ok v) = Ok v
-refused_test line (Err fault) = Err (refused_at number_of (record { fault = fault; line = line }))
+refused_test line result = map_err (λ fault. refused_at fault_number (record { fault = fault; line = line })) result
 
 -- what a litmus text has for its test, or its refusal, where its first fault is on this line
 unfoldable pub test_of : (line : ℕ) → List ℕ → Result Content Refusal

@@ -7,12 +7,13 @@ use Rattle.step_machine.specs.declared.events.Event.{Event}
 use Rattle.litmus.specs.Questions.{Question}
 use Rattle.litmus.specs.declared.verdict.Verdict.{Verdict}
 use Rattle.recorder.specs.Writing.{canon}
+use Rattle.recorder.specs.declared.reading.TheConstants.{MAX_EVENTS}
 use Rattle.hart_threads.specs.declared.fault.Fault.{Fault as ThreadFault}
 use Rattle.hart_threads.specs.declared.fault.Fault.TheVariants as thread
 use Rattle.ztso_engines.specs.declared.fault.Fault.{Fault}
 use Rattle.ztso_engines.specs.declared.fault.Fault.TheVariants.{NoMemory, Refused}
 use Rattle.ztso_engines.specs.declared.fault.Refusal.{Refusal}
-use Rattle.ztso_engines.specs.declared.fault.Place.TheVariants.{Nowhere}
+use Rattle.ztso_engines.specs.declared.fault.Position.TheVariants.{Nowhere}
 use Rattle.ztso_engines.specs.Tests.{ByTest}
 use Rattle.ztso_engines.specs.Run.{IsJudged}
 
@@ -27,7 +28,7 @@ fault_of_threads (thread.Mismatch h es) = Refused (record { number = 32; place =
 -- words: its schedule, then its state text and its verdict
 pub record IsThreadsRun (B M : ℕ) (question : Question) (answer : List ℕ × Verdict) : Type 0 where
   pub events : List Event
-  pub few : length events ≤ 1048576
+  pub few : length events ≤ MAX_EVENTS
   pub history : History
   pub ran : Run B M question.opening events history
   pub each : events ≡ map event_of history.entries

@@ -11,6 +11,7 @@ ghost use Rattle.ztso_engines.specs.Faults.{Answers, AnswersAs};
 ghost use Rattle.ztso_engines.specs.Engines.{EndsBy, judged};
 ghost use Rattle.ztso_engines.specs.Asm.{asm_at, hex_line, IsAsmAnswer};
 ghost use Rattle.ztso_engines.specs.inner.Making.{FindsBy, text_and_value};
+ghost use Rattle.ztso_engines.specs.declared.input.TheConstants.{INPUT_BYTES};
 
 use crate::fault::Fault;
 use crate::input::{read_input, text_of};
@@ -35,7 +36,7 @@ fn code_of(alloc: Global, text: &str) -> Result<Vec<u32>, Fault>
 /// What an input is assembled to.
 #[tactic(auto, using(crate::proofs::Judging::judged_text, crate::proofs::Judging::judged_no_text))]
 fn code_of_input(alloc: Global, input: &[u8]) -> Result<Vec<u32>, Fault>
-    requires { length input.now ≤ 1048576 }
+    requires { length input.now ≤ INPUT_BYTES }
     ensures found { IfOk result (λ code. (instrs : List Instr) × IsProgram input.now instrs × AreWordsOf code.items instrs) }
     ensures exact { Answers (λ code. map meaning code.items) result (judged asm_at input.now) }
     ensures plain { IfOk result (λ code. AllPlain code.items) }
@@ -63,7 +64,7 @@ fn code_text(alloc: Global, code: &[u32]) -> Result<String, AllocError>
 }
 
 fn answer(alloc: Global, input: &[u8]) -> Result<(String, ()), Fault>
-    requires { length input.now ≤ 1048576 }
+    requires { length input.now ≤ INPUT_BYTES }
     ensures { AnswersAs (IsAsmAnswer input.now) text_and_value result }
 {
     let code = code_of_input(alloc, input)?;

@@ -11,7 +11,7 @@ ghost use Rattle.ztso_engines.specs.Channels.{report_line, told_as, Reported, Is
 ghost use Rattle.ztso_engines.specs.Schedules.{HasNoSchedule};
 ghost use Rattle.ztso_engines.specs.inner.Making.{Finds, text_and_value};
 
-use crate::fault::{Fault, Place};
+use crate::fault::{Fault, Position};
 use crate::lists::read_lists;
 use crate::output::end_with;
 use crate::schedule::read_events;
@@ -29,9 +29,9 @@ impl From<Refused> for Fault {
         match why {
             Refused::NoMemory => Fault::NoMemory,
             Refused::ZeroWord { sender, place } => {
-                Fault::refused(why.number(), Place::Word { sender, place })
+                Fault::refused(why.number(), Position::Word { sender, place })
             }
-            _ => Fault::refused(why.number(), Place::Nowhere),
+            _ => Fault::refused(why.number(), Position::Nowhere),
         }
     }
 }

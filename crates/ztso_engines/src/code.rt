@@ -1,21 +1,21 @@
 //! Instruction words in hex.
 
 ghost use Rattle.texts.specs.Results.{Gives, refusal_of};
-ghost use Rattle.texts.specs.Cutting.{words};
+ghost use Rattle.texts.specs.Cutting.{tokens};
 ghost use Rattle.ztso_engines.specs.Code.{code_at};
 
 use crate::fault::{BAD, LineFault};
 use std::alloc::Global;
-use texts::{first_word, hex_word};
+use texts::{first_token, hex_word};
 
 /// The instruction words that the words of a line say, however many.
 #[tactic(auto, unfolding(crate::specs::Code::code_at))]
 pub fn code_of(alloc: Global, text: &[u8]) -> Result<Vec<u32>, LineFault>
-    ensures { Gives refusal_of (λ code. code.items) result (code_at (words text.now)) }
+    ensures { Gives refusal_of (λ code. code.items) result (code_at (tokens text.now)) }
 {
     let mut code = Vec::new(alloc);
     let mut rest = text;
-    while let Some((digits, after)) = first_word(rest) {
+    while let Some((digits, after)) = first_token(rest) {
         code.push(hex_word(digits).ok_or(BAD)?)?;
         rest = after;
     }

@@ -7,6 +7,7 @@ ghost use Rattle.ztso_engines.specs.Histories.{ByBoth};
 ghost use Rattle.ztso_engines.specs.Talks.{EndsAloud, IsDebugAnswer, OnRefused};
 ghost use Rattle.ztso_engines.specs.inner.Making.{Finds};
 ghost use Rattle.ztso_engines.specs.inner.Talking.{IsSetOut};
+ghost use Rattle.litmus.specs.declared.question.TheConstants.{MAX_LOCATIONS};
 
 use crate::debug::talk::talk;
 use crate::fault::Fault;
@@ -32,7 +33,7 @@ fn read_walk<const B: usize, const M: usize, F: Read, S: Read>(
 ) -> Result<Walk<B, M>, Fault>
     requires some_capacity { 1 ≤ B }
     requires capacity { B ≤ 64 }
-    requires words { 1024 ≤ M }
+    requires words { MAX_LOCATIONS ≤ M }
     requires size { M ≤ 65536 }
     ensures walk { Finds (AnswersBoth (ByBoth IsSetOut) (F.remaining file.old) (S.remaining schedule.old)) (λ walk. walk) result }
     ensures unread { HasNoTest (F.remaining file.old) → schedule.new ≡ schedule.old }
@@ -61,7 +62,7 @@ pub fn debug_engine<const B: usize, const M: usize, F: Read, S: Read, C: BufRead
 ) -> Result<(), Fault>
     requires some_capacity { 1 ≤ B }
     requires capacity { B ≤ 64 }
-    requires words { 1024 ≤ M }
+    requires words { MAX_LOCATIONS ≤ M }
     requires size { M ≤ 65536 }
     ensures ends { EndsAloud (AnswersBoth (IsDebugAnswer B M (C.remaining commands.old)) (F.remaining file.old) (S.remaining schedule.old)) result W.contents writer.old writer.new }
     ensures unread { HasNoTest (F.remaining file.old) → schedule.new ≡ schedule.old }

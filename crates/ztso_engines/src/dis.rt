@@ -6,11 +6,12 @@ ghost use Rattle.std.specs.String.{string_bytes};
 ghost use Rattle.rv_decode.specs.Meaning.{meaning};
 ghost use Rattle.ztso_engines.specs.Faults.{Answers, AnswersAs};
 ghost use Rattle.ztso_engines.specs.Engines.{EndsBy, judged};
-ghost use Rattle.texts.specs.Cutting.{words};
+ghost use Rattle.texts.specs.Cutting.{tokens};
 ghost use Rattle.ztso_engines.specs.LineFaults.{at_line as told_at};
 ghost use Rattle.ztso_engines.specs.Code.{code_at};
 ghost use Rattle.ztso_engines.specs.Dis.{dis_at, meant_text, instr_line, IsDisAnswer};
 ghost use Rattle.ztso_engines.specs.inner.Making.{FindsBy, text_and_value};
+ghost use Rattle.ztso_engines.specs.declared.input.TheConstants.{INPUT_BYTES};
 
 use crate::code::code_of;
 use crate::fault::{Fault, at_line};
@@ -25,7 +26,7 @@ use texts::first_line;
 /// The instruction words of the line of this number.
 #[tactic(auto, using(crate::proofs::LineFaulted::refused_at_line))]
 fn code_of_line(alloc: Global, line: &[u8], number: usize) -> Result<Vec<u32>, Fault>
-    ensures { Answers (λ code. code.items) result (told_at number (code_at (words line.now))) }
+    ensures { Answers (λ code. code.items) result (told_at number (code_at (tokens line.now))) }
 {
     match code_of(alloc, line) {
         Ok(code) => Ok(code),
@@ -53,7 +54,7 @@ fn code_of_text(alloc: Global, text: &[u8]) -> Result<Vec<u32>, Fault>
 /// The instruction words of an input.
 #[tactic(auto, using(crate::proofs::Judging::judged_text, crate::proofs::Judging::judged_no_text))]
 fn code_of_input(alloc: Global, input: &[u8]) -> Result<Vec<u32>, Fault>
-    requires { length input.now ≤ 1048576 }
+    requires { length input.now ≤ INPUT_BYTES }
     ensures { Answers (λ code. code.items) result (judged dis_at input.now) }
 {
     code_of_text(alloc, text_of(input)?.as_bytes())
@@ -87,7 +88,7 @@ fn code_text(alloc: Global, code: &[u32]) -> Result<String, AllocError>
 }
 
 fn answer(alloc: Global, input: &[u8]) -> Result<(String, ()), Fault>
-    requires { length input.now ≤ 1048576 }
+    requires { length input.now ≤ INPUT_BYTES }
     ensures { AnswersAs (IsDisAnswer input.now) text_and_value result }
 {
     let code = code_of_input(alloc, input)?;

@@ -19,7 +19,7 @@ pub const TOO_LARGE: u8 = 37;
 
 /// Where an input was refused.
 #[derive(Clone, Copy, Debug, PartialEq, Eq)]
-pub enum Place {
+pub enum Position {
     /// The input as a whole.
     Nowhere,
     /// A line, counted from 1.
@@ -30,13 +30,13 @@ pub enum Place {
     Word { sender: usize, place: usize },
 }
 
-impl fmt::Display for Place {
+impl fmt::Display for Position {
     fn fmt<W: fmt::Write>(&self, f: &mut fmt::Formatter<W>) -> fmt::Result {
         match self {
-            Place::Nowhere => Ok(()),
-            Place::Line(line) => write!(f, " at line {line}"),
-            Place::Byte(byte) => write!(f, " at byte {byte}"),
-            Place::Word { sender, place } => write!(f, " at sender {sender} place {place}"),
+            Position::Nowhere => Ok(()),
+            Position::Line(line) => write!(f, " at line {line}"),
+            Position::Byte(byte) => write!(f, " at byte {byte}"),
+            Position::Word { sender, place } => write!(f, " at sender {sender} place {place}"),
         }
     }
 }
@@ -46,7 +46,7 @@ impl fmt::Display for Place {
 #[error("refused {number}{place}")]
 pub struct Refusal {
     pub number: u8,
-    pub place: Place,
+    pub place: Position,
 }
 
 /// Why a command failed.
@@ -79,7 +79,7 @@ impl Fault {
     }
 
     /// An input refused for this reason at this place.
-    pub(crate) fn refused(number: u8, place: Place) -> Fault
+    pub(crate) fn refused(number: u8, place: Position) -> Fault
         ensures { result ≡ Refused (record { number = number; place = place }) }
     {
         Fault::Refused(Refusal { number, place })
@@ -112,7 +112,7 @@ impl<F: Numbered> From<TextError<AtLine<F>>> for Fault {
         match error {
             TextError::NoMemory => Fault::NoMemory,
             TextError::Refused(AtLine { fault, line }) => {
-                Fault::refused(fault.number(), Place::Line(line))
+                Fault::refused(fault.number(), Position::Line(line))
             }
         }
     }
@@ -130,6 +130,6 @@ pub fn at_line(fault: LineFault, number: usize) -> Fault
 {
     match fault {
         LineFault::NoMemory => Fault::NoMemory,
-        LineFault::Refused(refusal) => Fault::refused(refusal, Place::Line(number)),
+        LineFault::Refused(refusal) => Fault::refused(refusal, Position::Line(number)),
     }
 }

@@ -6,8 +6,9 @@ ghost use Rattle.ztso_engines.specs.declared.fault.Fault.TheVariants.{Refused};
 ghost use Rattle.ztso_engines.specs.Engines.{OfInput};
 ghost use Rattle.ztso_engines.specs.Faults.{not_text};
 ghost use Rattle.ztso_engines.specs.Input.{IsInput};
+ghost use Rattle.ztso_engines.specs.declared.input.TheConstants.{INPUT_BYTES};
 
-use crate::fault::{Fault, NOT_TEXT, Place, TOO_LARGE};
+use crate::fault::{Fault, NOT_TEXT, Position, TOO_LARGE};
 use std::alloc::Global;
 use std::io::{ErrorKind, Read};
 
@@ -20,7 +21,7 @@ const CHUNK_BYTES: usize = 4096;
 /// after the limit.
 pub fn read_input<R: Read>(alloc: Global, reader: &mut R) -> Result<Vec<u8>, Fault>
     ensures input { OfInput (R.remaining reader.old) (λ bytes. IsInput bytes result) }
-    ensures few { IfOk result (λ input. vec_len input ≤ 1048576) }
+    ensures few { IfOk result (λ input. vec_len input ≤ INPUT_BYTES) }
 {
     let mut input = Vec::new(alloc);
     let mut chunk = [0; CHUNK_BYTES];
@@ -28,7 +29,7 @@ pub fn read_input<R: Read>(alloc: Global, reader: &mut R) -> Result<Vec<u8>, Fau
         match reader.read(&mut chunk) {
             Ok(0) => return Ok(input),
             Ok(count) if count > INPUT_BYTES - input.len() => {
-                return Err(Fault::refused(TOO_LARGE, Place::Nowhere));
+                return Err(Fault::refused(TOO_LARGE, Position::Nowhere));
             }
             Ok(count) => input.extend_from_slice(&chunk[..count])?,
             Err(error) if error.kind() == ErrorKind::Interrupted => {}
@@ -45,6 +46,6 @@ pub fn text_of(input: &[u8]) -> Result<&str, Fault>
 {
     match str::from_utf8(input) {
         Ok(text) => Ok(text),
-        Err(_) => Err(Fault::refused(NOT_TEXT, Place::Nowhere)),
+        Err(_) => Err(Fault::refused(NOT_TEXT, Position::Nowhere)),
     }
 }

@@ -7,7 +7,7 @@ ghost use Rattle.poll_close.specs.Laws.{Ring};
 ghost use Rattle.litmus.specs.declared.verdict.Verdict.{Verdict};
 ghost use Rattle.ztso_engines.specs.declared.fault.Refusal.{Refusal};
 ghost use Rattle.ztso_engines.specs.Engines.{Accepted, AreOneAnswer, judged};
-ghost use Rattle.ztso_engines.specs.Told.{Told};
+ghost use Rattle.ztso_engines.specs.Scenario.{Scenario};
 ghost use Rattle.ztso_engines.specs.StepsText.{Tells};
 ghost use Rattle.ztso_engines.specs.StepsReading.{script_at};
 ghost use Rattle.ztso_engines.specs.Steps.{IsStepsAnswer};
@@ -23,9 +23,9 @@ ghost use Rattle.ztso_engines.specs.Channels.{IsChannelAnswer};
 /// A steps text tells one thing at most, and reading it from the top finds that; an input is not
 /// refused exactly where it is a text within the limit that tells something. It does nothing.
 pub fn laws_of_steps_texts()
-    ensures read { (M : ℕ) (text : List ℕ) (told : Told) → (script_at M text ≡ Ok told) ↔ Tells M text told }
-    ensures judged { (M : ℕ) (input : List ℕ) (told : Told) → (judged (script_at M) input ≡ Ok told) ↔ Accepted (Tells M) input told }
-    ensures one { (M : ℕ) (text : List ℕ) (a b : Told) → Tells M text a → Tells M text b → a ≡ b }
+    ensures read { (M : ℕ) (text : List ℕ) (told : Scenario) → (script_at M text ≡ Ok told) ↔ Tells M text told }
+    ensures judged { (M : ℕ) (input : List ℕ) (told : Scenario) → (judged (script_at M) input ≡ Ok told) ↔ Accepted (Tells M) input told }
+    ensures one { (M : ℕ) (text : List ℕ) (a b : Scenario) → Tells M text a → Tells M text b → a ≡ b }
 {}
 
 /// A text of words in hex says one code at most, and reading it from the top finds that; an input is

@@ -8,6 +8,7 @@ ghost use Rattle.ztso_engines.specs.LineFaults.{at_line as told_at};
 ghost use Rattle.ztso_engines.specs.Lists.{list_of as list_said, lists_at};
 ghost use Rattle.ztso_engines.specs.inner.Making.{FindsBy};
 ghost use Rattle.ztso_engines.specs.inner.Inputs.{IsReadAsLists};
+ghost use Rattle.ztso_engines.specs.declared.input.TheConstants.{INPUT_BYTES};
 
 use crate::fault::{BAD, Fault, LineFault, at_line};
 use crate::input::{read_input, text_of};
@@ -63,7 +64,7 @@ fn lists_of_text(alloc: Global, text: &[u8]) -> Result<Vec<Vec<u32>>, Fault>
 /// The lists of an input.
 #[tactic(auto, using(crate::proofs::Judging::judged_text, crate::proofs::Judging::judged_no_text))]
 fn lists_of_input(alloc: Global, input: &[u8]) -> Result<Vec<Vec<u32>>, Fault>
-    requires { length input.now ≤ 1048576 }
+    requires { length input.now ≤ INPUT_BYTES }
     ensures { Answers (λ lists. map (λ list. list.items) lists.items) result (judged lists_at input.now) }
 {
     lists_of_text(alloc, text_of(input)?.as_bytes())

@@ -8,6 +8,7 @@ ghost use Rattle.ztso_engines.specs.Engines.{Accepted, judged};
 ghost use Rattle.ztso_engines.specs.Tests.{test_of, HasNoTest};
 ghost use Rattle.ztso_engines.specs.inner.Making.{FindsBy};
 ghost use Rattle.ztso_engines.specs.inner.Inputs.{IsReadAsTest};
+ghost use Rattle.ztso_engines.specs.declared.input.TheConstants.{INPUT_BYTES};
 
 use crate::fault::Fault;
 use crate::input::{read_input, text_of};
@@ -30,7 +31,7 @@ fn test_of_text(alloc: Global, text: &str) -> Result<Test, Fault>
 /// The test of an input, which is let go.
 #[tactic(auto, using(crate::proofs::Judging::judged_text, crate::proofs::Judging::judged_no_text))]
 fn test_of_input(alloc: Global, input: Vec<u8>) -> Result<Test, Fault>
-    requires { vec_len input ≤ 1048576 }
+    requires { vec_len input ≤ INPUT_BYTES }
     ensures found { IfOk result (λ test. Accepted IsTestOf input.items test) }
     ensures exact { (line : ℕ) × Answers content_of result (judged (test_of line) input.items) }
 {

@@ -8,6 +8,7 @@ ghost use Rattle.ztso_engines.specs.Tests.{HasNoTest};
 ghost use Rattle.ztso_engines.specs.EntryText.{entry_line};
 ghost use Rattle.ztso_engines.specs.Replay.{IsReplayAnswer};
 ghost use Rattle.ztso_engines.specs.inner.Making.{Finds, text_and_value};
+ghost use Rattle.litmus.specs.declared.question.TheConstants.{MAX_LOCATIONS};
 
 use crate::entry_text::push_entry_line;
 use crate::fault::Fault;
@@ -36,7 +37,7 @@ fn made<const B: usize, const M: usize, F: Read, S: Read>(
 ) -> Result<(String, ()), Fault>
     requires some_capacity { 1 ≤ B }
     requires capacity { B ≤ 64 }
-    requires words { 1024 ≤ M }
+    requires words { MAX_LOCATIONS ≤ M }
     requires size { M ≤ 65536 }
     ensures made { Finds (AnswersBoth (IsReplayAnswer B M) (F.remaining file.old) (S.remaining schedule.old)) text_and_value result }
     ensures unread { HasNoTest (F.remaining file.old) → schedule.new ≡ schedule.old }
@@ -60,7 +61,7 @@ pub fn replay_engine<const B: usize, const M: usize, F: Read, S: Read, W: Write>
 ) -> Result<(), Fault>
     requires some_capacity { 1 ≤ B }
     requires capacity { B ≤ 64 }
-    requires words { 1024 ≤ M }
+    requires words { MAX_LOCATIONS ≤ M }
     requires size { M ≤ 65536 }
     ensures ends { EndsByBoth (IsReplayAnswer B M) result (F.remaining file.old) (S.remaining schedule.old) W.contents writer.old writer.new }
     ensures unread { HasNoTest (F.remaining file.old) → schedule.new ≡ schedule.old }

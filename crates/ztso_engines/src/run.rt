@@ -6,6 +6,7 @@ ghost use Rattle.ztso_engines.specs.Engines.{AnswersBoth, EndsByBoth};
 ghost use Rattle.ztso_engines.specs.Tests.{HasNoTest};
 ghost use Rattle.ztso_engines.specs.Run.{verdict_line, IsJudged, IsRunAnswer};
 ghost use Rattle.ztso_engines.specs.inner.Making.{Finds, text_and_value};
+ghost use Rattle.litmus.specs.declared.question.TheConstants.{MAX_LOCATIONS};
 
 use crate::fault::Fault;
 use crate::output::end_with;
@@ -51,7 +52,7 @@ fn made<const B: usize, const M: usize, F: Read, S: Read>(
 ) -> Result<(String, Verdict), Fault>
     requires some_capacity { 1 ≤ B }
     requires capacity { B ≤ 64 }
-    requires words { 1024 ≤ M }
+    requires words { MAX_LOCATIONS ≤ M }
     requires size { M ≤ 65536 }
     ensures made { Finds (AnswersBoth (IsRunAnswer B M) (F.remaining file.old) (S.remaining schedule.old)) text_and_value result }
     ensures unread { HasNoTest (F.remaining file.old) → schedule.new ≡ schedule.old }
@@ -77,7 +78,7 @@ pub fn run_engine<const B: usize, const M: usize, F: Read, S: Read, W: Write>(
 ) -> Result<Verdict, Fault>
     requires some_capacity { 1 ≤ B }
     requires capacity { B ≤ 64 }
-    requires words { 1024 ≤ M }
+    requires words { MAX_LOCATIONS ≤ M }
     requires size { M ≤ 65536 }
     ensures ends { EndsByBoth (IsRunAnswer B M) result (F.remaining file.old) (S.remaining schedule.old) W.contents writer.old writer.new }
     ensures unread { HasNoTest (F.remaining file.old) → schedule.new ≡ schedule.old }

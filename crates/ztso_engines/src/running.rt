@@ -2,11 +2,13 @@
 
 ghost use Rattle.std.specs.Prelude.{◌≡◌, ◌≤◌, length, IfOk, OnOk};
 ghost use Rattle.step_machine.specs.Runs.{Run};
+ghost use Rattle.step_machine.specs.declared.opening.TheConstants.{MAX_HARTS};
 ghost use Rattle.ztso_engines.specs.Engines.{AnswersBoth};
 ghost use Rattle.ztso_engines.specs.Tests.{HasNoTest};
 ghost use Rattle.ztso_engines.specs.Histories.{ByRun};
 ghost use Rattle.ztso_engines.specs.inner.Making.{Finds};
 ghost use Rattle.ztso_engines.specs.inner.Inputs.{IsItself};
+ghost use Rattle.litmus.specs.declared.question.TheConstants.{MAX_LOCATIONS};
 
 use crate::fault::Fault;
 use crate::litmus_text::read_test;
@@ -25,7 +27,7 @@ fn machine_after<const B: usize, const M: usize>(
 ) -> Result<Machine<B, M>, AllocError>
     requires some_capacity { 1 ≤ B }
     requires capacity { B ≤ 64 }
-    requires words { 1024 ≤ M }
+    requires words { MAX_LOCATIONS ≤ M }
     requires size { M ≤ 65536 }
     ensures ran { IfOk result (λ machine. Run B M test.now.opening events.now machine.history) }
     ensures harts { IfOk result (λ machine. length machine.history.opening.harts ≡ length test.now.opening.harts) }
@@ -45,7 +47,7 @@ pub fn read_run<const B: usize, const M: usize, F: Read, S: Read>(
 ) -> Result<(Test, Machine<B, M>), Fault>
     requires some_capacity { 1 ≤ B }
     requires capacity { B ≤ 64 }
-    requires words { 1024 ≤ M }
+    requires words { MAX_LOCATIONS ≤ M }
     requires size { M ≤ 65536 }
     ensures run { Finds (AnswersBoth (ByRun B M IsItself) (F.remaining file.old) (S.remaining schedule.old)) (λ run. (run.0, run.1.history)) result }
     ensures harts { IfOk result (λ run. length run.1.history.opening.harts ≡ length run.0.opening.harts) }
@@ -65,11 +67,11 @@ pub fn machine_of<const B: usize, const M: usize>(
 ) -> Result<Machine<B, M>, AllocError>
     requires some_capacity { 1 ≤ B }
     requires capacity { B ≤ 64 }
-    requires words { 1024 ≤ M }
+    requires words { MAX_LOCATIONS ≤ M }
     requires size { M ≤ 65536 }
     ensures opening { IfOk result (λ machine. machine.history.opening ≡ test.now.opening) }
     ensures some_hart { IfOk result (λ machine. 1 ≤ length machine.history.opening.harts) }
-    ensures most_harts { IfOk result (λ machine. length machine.history.opening.harts ≤ 64) }
+    ensures most_harts { IfOk result (λ machine. length machine.history.opening.harts ≤ MAX_HARTS) }
     ensures names { IfOk result (λ _. length test.now.names ≤ M) }
 {
     let opening = test.opening(alloc)?;

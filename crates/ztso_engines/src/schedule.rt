@@ -7,8 +7,9 @@ ghost use Rattle.ztso_engines.specs.Engines.{Accepted, judged};
 ghost use Rattle.ztso_engines.specs.Schedules.{refused_at_byte, events_of as events_said, HasNoSchedule};
 ghost use Rattle.ztso_engines.specs.inner.Making.{FindsBy};
 ghost use Rattle.ztso_engines.specs.inner.Inputs.{IsReadAsSchedule};
+ghost use Rattle.ztso_engines.specs.declared.input.TheConstants.{INPUT_BYTES};
 
-use crate::fault::{Fault, Place};
+use crate::fault::{Fault, Position};
 use crate::input::{read_input, text_of};
 use recorder::{AtByte, ScheduleError, read_schedule};
 use std::alloc::Global;
@@ -23,7 +24,7 @@ impl From<ScheduleError> for Fault {
         match error {
             ScheduleError::NoMemory => Fault::NoMemory,
             ScheduleError::Refused(AtByte { fault, place }) => {
-                Fault::refused(fault.number(), Place::Byte(place))
+                Fault::refused(fault.number(), Position::Byte(place))
             }
         }
     }
@@ -44,7 +45,7 @@ fn events_of_text(alloc: Global, text: &str) -> Result<Vec<Event>, Fault>
 /// The events of an input, which is let go.
 #[tactic(auto, using(crate::proofs::Judging::judged_text, crate::proofs::Judging::judged_no_text))]
 fn events_of_input(alloc: Global, input: Vec<u8>) -> Result<Vec<Event>, Fault>
-    requires { vec_len input ≤ 1048576 }
+    requires { vec_len input ≤ INPUT_BYTES }
     ensures found { IfOk result (λ events. Accepted IsScheduleOf input.items events.items) }
     ensures exact { Answers (λ events. events.items) result (judged events_said input.items) }
 {

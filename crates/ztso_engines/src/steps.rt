@@ -5,10 +5,11 @@ ghost use Rattle.step_machine.specs.History.{FitsIn};
 ghost use Rattle.step_machine.specs.Runs.{Run};
 ghost use Rattle.ztso_engines.specs.Faults.{Answers, AnswersAs};
 ghost use Rattle.ztso_engines.specs.Engines.{EndsBy, judged};
-ghost use Rattle.ztso_engines.specs.Told.{told_by, opening_of};
+ghost use Rattle.ztso_engines.specs.Scenario.{scenario_of, opening_of};
 ghost use Rattle.ztso_engines.specs.StepsReading.{script_at};
 ghost use Rattle.ztso_engines.specs.Steps.{IsStepsAnswer};
 ghost use Rattle.ztso_engines.specs.inner.Making.{FindsBy, text_and_value};
+ghost use Rattle.ztso_engines.specs.declared.input.TheConstants.{INPUT_BYTES};
 
 use crate::fault::Fault;
 use crate::input::{read_input, text_of};
@@ -24,9 +25,9 @@ mod script;
 /// What an input tells.
 #[tactic(auto, using(crate::proofs::Judging::judged_text, crate::proofs::Judging::judged_no_text))]
 fn script_of_input<const M: usize>(alloc: Global, input: &[u8]) -> Result<Script, Fault>
-    requires { length input.now ≤ 1048576 }
-    ensures exact { Answers told_by result (judged (script_at M) input.now) }
-    ensures fits { IfOk result (λ script. FitsIn M (opening_of (told_by script))) }
+    requires { length input.now ≤ INPUT_BYTES }
+    ensures exact { Answers scenario_of result (judged (script_at M) input.now) }
+    ensures fits { IfOk result (λ script. FitsIn M (opening_of (scenario_of script))) }
 {
     read_script::<M>(alloc, text_of(input)?)
 }
@@ -40,8 +41,8 @@ fn machine_after<const B: usize, const M: usize>(
     requires capacity { B ≤ 64 }
     requires some_word { 1 ≤ M }
     requires size { M ≤ 65536 }
-    requires fits { FitsIn M (opening_of (told_by script)) }
-    ensures { MatchResult result (λ machine. Run B M (opening_of (told_by script)) (told_by script).events machine.history) (λ fault. fault ≡ Fault.NoMemory) }
+    requires fits { FitsIn M (opening_of (scenario_of script)) }
+    ensures { MatchResult result (λ machine. Run B M (opening_of (scenario_of script)) (scenario_of script).events machine.history) (λ fault. fault ≡ Fault.NoMemory) }
 {
     let Script {
         harts,
@@ -64,7 +65,7 @@ fn answer<const B: usize, const M: usize>(
     requires capacity { B ≤ 64 }
     requires some_word { 1 ≤ M }
     requires size { M ≤ 65536 }
-    requires few { vec_len input ≤ 1048576 }
+    requires few { vec_len input ≤ INPUT_BYTES }
     ensures { AnswersAs (IsStepsAnswer B M input.items) text_and_value result }
 {
     let script = script_of_input::<M>(alloc, &input)?;

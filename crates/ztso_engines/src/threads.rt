@@ -7,8 +7,10 @@ ghost use Rattle.ztso_engines.specs.Engines.{EndsBy};
 ghost use Rattle.ztso_engines.specs.Faults.{AnswersAs};
 ghost use Rattle.ztso_engines.specs.Threads.{fault_of_threads, IsThreadsGiven, IsThreadsAnswer};
 ghost use Rattle.ztso_engines.specs.inner.Making.{FindsBy, text_and_value};
+ghost use Rattle.step_machine.specs.declared.opening.TheConstants.{MAX_HARTS};
+ghost use Rattle.litmus.specs.declared.question.TheConstants.{MAX_LOCATIONS};
 
-use crate::fault::{Fault, Place, TOO_LARGE};
+use crate::fault::{Fault, Position, TOO_LARGE};
 use crate::litmus_text::read_test;
 use crate::output::end_with;
 use crate::run::judged_text;
@@ -27,9 +29,9 @@ impl From<hart_threads::Fault> for Fault {
     fn from(error: hart_threads::Fault) -> Fault {
         match error {
             hart_threads::Fault::NoMemory => Fault::NoMemory,
-            hart_threads::Fault::NoThread => Fault::refused(35, Place::Nowhere),
-            hart_threads::Fault::Missing { .. } => Fault::refused(33, Place::Nowhere),
-            hart_threads::Fault::Mismatch { .. } => Fault::refused(32, Place::Nowhere),
+            hart_threads::Fault::NoThread => Fault::refused(35, Position::Nowhere),
+            hart_threads::Fault::Missing { .. } => Fault::refused(33, Position::Nowhere),
+            hart_threads::Fault::Mismatch { .. } => Fault::refused(32, Position::Nowhere),
         }
     }
 }
@@ -41,13 +43,13 @@ fn told<const B: usize, const M: usize>(
     made: &Record<B, M>,
 ) -> Result<(String, Verdict), Fault>
     requires size { M ≤ 65536 }
-    requires harts { length test.now.opening.harts ≤ 64 }
+    requires harts { length test.now.opening.harts ≤ MAX_HARTS }
     requires names { length test.now.names ≤ M }
     requires runs { IsRecord B M test.now.opening made.now }
     ensures { AnswersAs (IsThreadsGiven B M test.now) text_and_value result }
 {
     if made.events.len() > MAX_EVENTS {
-        return Err(Fault::refused(TOO_LARGE, Place::Nowhere));
+        return Err(Fault::refused(TOO_LARGE, Position::Nowhere));
     }
     laws_of_runs();
     let mut text = write_schedule(alloc, &made.events)?;
@@ -65,7 +67,7 @@ fn answer<const B: usize, const M: usize, T: Threads + Wait + Sync>(
 ) -> Result<(String, Verdict), Fault>
     requires some_capacity { 1 ≤ B }
     requires capacity { B ≤ 64 }
-    requires words { 1024 ≤ M }
+    requires words { MAX_LOCATIONS ≤ M }
     requires size { M ≤ 65536 }
     ensures { AnswersAs (IsThreadsGiven B M test.now) text_and_value result }
 {
@@ -84,7 +86,7 @@ fn made<const B: usize, const M: usize, R: Read, T: Threads + Wait + Sync>(
 ) -> Result<(String, Verdict), Fault>
     requires some_capacity { 1 ≤ B }
     requires capacity { B ≤ 64 }
-    requires words { 1024 ≤ M }
+    requires words { MAX_LOCATIONS ≤ M }
     requires size { M ≤ 65536 }
     ensures { FindsBy (IsThreadsAnswer B M) text_and_value (R.remaining file.old) result }
 {
@@ -109,7 +111,7 @@ pub fn threads_engine<const B: usize, const M: usize, R: Read, W: Write, T: Thre
 ) -> Result<Verdict, Fault>
     requires some_capacity { 1 ≤ B }
     requires capacity { B ≤ 64 }
-    requires words { 1024 ≤ M }
+    requires words { MAX_LOCATIONS ≤ M }
     requires size { M ≤ 65536 }
     ensures { EndsBy (IsThreadsAnswer B M) result (R.remaining file.old) W.contents writer.old writer.new }
 {

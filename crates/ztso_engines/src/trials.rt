@@ -5,6 +5,7 @@ ghost use Rattle.ztso_engines.specs.Engines.{EndsBy};
 ghost use Rattle.ztso_engines.specs.Outcomes.{IsTried, IsTryAnswer};
 ghost use Rattle.ztso_engines.specs.inner.Making.{FindsBy, text_and_value};
 ghost use Rattle.ztso_engines.specs.inner.Tallies.{good_by};
+ghost use Rattle.litmus.specs.declared.question.TheConstants.{MAX_LOCATIONS};
 
 use crate::fault::Fault;
 use crate::litmus_text::read_test;
@@ -41,7 +42,7 @@ fn answer<const B: usize, const M: usize, G: Rng>(
 ) -> Result<(String, bool), AllocError>
     requires some_capacity { 1 ≤ B }
     requires capacity { B ≤ 64 }
-    requires words { 1024 ≤ M }
+    requires words { MAX_LOCATIONS ≤ M }
     requires size { M ≤ 65536 }
     ensures { IfOk result (λ told. IsTried B M (G.stream generator.old) runs length test.now (text_and_value told)) }
 {
@@ -61,7 +62,7 @@ fn made<const B: usize, const M: usize, R: Read, G: Rng>(
 ) -> Result<(String, bool), Fault>
     requires some_capacity { 1 ≤ B }
     requires capacity { B ≤ 64 }
-    requires words { 1024 ≤ M }
+    requires words { MAX_LOCATIONS ≤ M }
     requires size { M ≤ 65536 }
     ensures { FindsBy (IsTryAnswer B M (G.stream generator.old) runs length) text_and_value (R.remaining file.old) result }
 {
@@ -89,7 +90,7 @@ pub fn try_engine<const B: usize, const M: usize, R: Read, G: Rng, W: Write>(
 ) -> Result<bool, Fault>
     requires some_capacity { 1 ≤ B }
     requires capacity { B ≤ 64 }
-    requires words { 1024 ≤ M }
+    requires words { MAX_LOCATIONS ≤ M }
     requires size { M ≤ 65536 }
     ensures { EndsBy (IsTryAnswer B M (G.stream generator.old) runs length) result (R.remaining file.old) W.contents writer.old writer.new }
 {

@@ -1,8 +1,8 @@
 -- How the steps of a condition are gone through: with one truth value, and how many steps to skip.
 use Rattle.std.specs.Prelude.{ℕ, ◌==◌, Bool, not, zero, suc, List, [], ◌∷◌, if◌then◌else◌}
-use Rattle.litmus.specs.declared.words.Place.{Place}
-use Rattle.litmus.specs.declared.words.Step.{Step}
-use Rattle.litmus.specs.declared.words.Step.TheVariants as step
+use Rattle.litmus.specs.declared.symbols.Place.{Place}
+use Rattle.litmus.specs.declared.symbols.Step.{Step}
+use Rattle.litmus.specs.declared.symbols.Step.TheVariants as step
 use Rattle.litmus.specs.Questions.{IsThere}
 
 -- the truth value after a step, and how many steps it skips

@@ -1,9 +1,9 @@
 -- Which places were seen: a table with an entry for each register of 64 harts and each of 1,024 words.
 use Rattle.std.specs.Prelude.{ℕ, ◌+◌, ◌*◌, ◌/◌, Bool, true, false, not, cond, List, [], ◌∷◌, filter, slice_index_or, slice_set}
-use Rattle.litmus.specs.declared.words.Place.{Place}
-use Rattle.litmus.specs.declared.words.Place.TheVariants as place
-use Rattle.litmus.specs.declared.words.Step.{Step}
-use Rattle.litmus.specs.declared.words.Step.TheVariants as step
+use Rattle.litmus.specs.declared.symbols.Place.{Place}
+use Rattle.litmus.specs.declared.symbols.Place.TheVariants as place
+use Rattle.litmus.specs.declared.symbols.Step.{Step}
+use Rattle.litmus.specs.declared.symbols.Step.TheVariants as step
 use Rattle.litmus.specs.Questions.{firsts}
 use Rattle.litmus.specs.inner.Running.{asked_by}
 

@@ -2,9 +2,9 @@
 use Rattle.std.proofs.Common.{◌≡◌, ◌∙◌, ◌≤◌, sym, ap, subst, ℕ, suc, zero, List, [], ◌∷◌, ◌++◌, length, take, drop, refl, arith, append_assoc, length-append, length-take, length-drop}
 use Rattle.std.proofs.Math.Seq.{take-append_seam, drop-append_seam}
 use Rattle.std.proofs.lemmas.List.{append-nil}
-use Rattle.litmus.specs.declared.words.Place.TheVariants as place
-use Rattle.litmus.specs.declared.words.Step.{Step}
-use Rattle.litmus.specs.declared.words.Step.TheVariants as step
+use Rattle.litmus.specs.declared.symbols.Place.TheVariants as place
+use Rattle.litmus.specs.declared.symbols.Step.{Step}
+use Rattle.litmus.specs.declared.symbols.Step.TheVariants as step
 use Rattle.litmus.specs.Formulas.{Formula, is, negation, both, either}
 use Rattle.litmus.specs.Steps.{steps_of, formula_from, formula_of}
 

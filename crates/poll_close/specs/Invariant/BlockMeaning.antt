@@ -6,7 +6,7 @@ use Rattle.hart.specs.State.{HartState}
 use Rattle.poll_close.specs.Layout.{block_size}
 use Rattle.poll_close.specs.Invariant.Blocks.{Block, offset}
 use Rattle.poll_close.specs.Invariant.ReceiverState.{Middle, Noted}
-use Rattle.poll_close.specs.Invariant.ReceiverPlaces.{ReceiverPlace, R00, R04, R08, R0C, R10, R14, R18, R1C, R20, R24, R28, R2C, R30, R34, R38, R3C, R40, R44, R48, R4C, R50, R54, R58, R5C, R60, R64, R68, R6C, R70, R74, R78, R7C, ROver}
+use Rattle.poll_close.specs.Invariant.ReceiverPlaces.{ReceiverPlace, Pc00, Pc04, Pc08, Pc0C, Pc10, Pc14, Pc18, Pc1C, Pc20, Pc24, Pc28, Pc2C, Pc30, Pc34, Pc38, Pc3C, Pc40, Pc44, Pc48, Pc4C, Pc50, Pc54, Pc58, Pc5C, Pc60, Pc64, Pc68, Pc6C, Pc70, Pc74, Pc78, Pc7C, ROver}
 
 pub record BlockMeaning : Type 1 where
   -- the numbers of a block, which say everything of its memory and of both harts' stores to it
@@ -86,36 +86,36 @@ pub record Closing (m : BlockMeaning) (k : Block) (i : ℕ) (n : m.Count) (r : N
   pub unsaid : m.shut n ≡ 0
 
 abbrev pub ReceiverIs : (m : BlockMeaning) → Block → ℕ → ReceiverPlace → m.Count → Noted → Type 0
-ReceiverIs m k i R00 n r = Quiet m n
-ReceiverIs m k i R04 n r = Quiet m n × (r.x8 ≡ 0)
-ReceiverIs m k i R08 n r = Quiet m n × Visits k i r
-ReceiverIs m k i R0C n r = Quiet m n × Visits k i r × (r.x5 ≡ m.dones n)
-ReceiverIs m k i R10 n r = Opened m k i n r
-ReceiverIs m k i R14 n r = Opened m k i n r × Flag m n r
-ReceiverIs m k i R18 n r = Opened m k i n r × m.At18 k n r
-ReceiverIs m k i R1C n r = Opened m k i n r × m.At1C k n r
-ReceiverIs m k i R20 n r = Opened m k i n r × m.At20 k n r
-ReceiverIs m k i R24 n r = Opened m k i n r × m.At24 k n r
-ReceiverIs m k i R28 n r = Has m k i n r × (r.x7 ≡ offset k (m.tails n))
-ReceiverIs m k i R2C n r = Has m k i n r × (r.x7 ≡ offset k (m.tails n) + 4)
-ReceiverIs m k i R30 n r = Has m k i n r × (offset k (m.tails n) + 4 ≡ 4 * k.size)
-ReceiverIs m k i R34 n r = Has m k i n r × (r.x7 ≡ offset k (m.tails n + 1))
-ReceiverIs m k i R38 n r = Taking m k i n r
-ReceiverIs m k i R3C n r = Taking m k i n r × (r.x10 ≡ i)
-ReceiverIs m k i R40 n r = Taking m k i n r × (r.x10 ≡ i) × (r.x17 ≡ 2)
-ReceiverIs m k i R44 n r = Quiet m n × Visits k i r
-ReceiverIs m k i R48 n r = Opened m k i n r × ((r.x30 ≡ 0) ⊎ (m.tails n ≡ length k.list))
-ReceiverIs m k i R4C n r = Opened m k i n r × (m.tails n ≡ length k.list)
-ReceiverIs m k i R50 n r = Opened m k i n r × (m.tails n ≡ length k.list) × (r.x5 ≡ 1)
-ReceiverIs m k i R54 n r = Closing m k i n r
-ReceiverIs m k i R58 n r = Closing m k i n r × (r.x10 ≡ i)
-ReceiverIs m k i R5C n r = Closing m k i n r × (r.x10 ≡ i) × (r.x17 ≡ 3)
-ReceiverIs m k i R60 n r = Quiet m n × Visits k i r
-ReceiverIs m k i R64 n r = Quiet m n × Visits k i r
-ReceiverIs m k i R68 n r = Quiet m n × Visits k i r
-ReceiverIs m k i R6C n r = Quiet m n × (r.x22 ≡ i) × (r.x8 ≡ k.base + block_size k.size)
-ReceiverIs m k i R70 n r = Quiet m n × (r.x22 ≡ i + 1) × (r.x8 ≡ k.base + block_size k.size)
-ReceiverIs m k i R74 n r = Quiet m n
-ReceiverIs m k i R78 n r = Quiet m n × (r.x20 ≡ 0)
-ReceiverIs m k i R7C n r = Quiet m n × (r.x17 ≡ 93) × (r.x20 ≡ 0)
+ReceiverIs m k i Pc00 n r = Quiet m n
+ReceiverIs m k i Pc04 n r = Quiet m n × (r.x8 ≡ 0)
+ReceiverIs m k i Pc08 n r = Quiet m n × Visits k i r
+ReceiverIs m k i Pc0C n r = Quiet m n × Visits k i r × (r.x5 ≡ m.dones n)
+ReceiverIs m k i Pc10 n r = Opened m k i n r
+ReceiverIs m k i Pc14 n r = Opened m k i n r × Flag m n r
+ReceiverIs m k i Pc18 n r = Opened m k i n r × m.At18 k n r
+ReceiverIs m k i Pc1C n r = Opened m k i n r × m.At1C k n r
+ReceiverIs m k i Pc20 n r = Opened m k i n r × m.At20 k n r
+ReceiverIs m k i Pc24 n r = Opened m k i n r × m.At24 k n r
+ReceiverIs m k i Pc28 n r = Has m k i n r × (r.x7 ≡ offset k (m.tails n))
+ReceiverIs m k i Pc2C n r = Has m k i n r × (r.x7 ≡ offset k (m.tails n) + 4)
+ReceiverIs m k i Pc30 n r = Has m k i n r × (offset k (m.tails n) + 4 ≡ 4 * k.size)
+ReceiverIs m k i Pc34 n r = Has m k i n r × (r.x7 ≡ offset k (m.tails n + 1))
+ReceiverIs m k i Pc38 n r = Taking m k i n r
+ReceiverIs m k i Pc3C n r = Taking m k i n r × (r.x10 ≡ i)
+ReceiverIs m k i Pc40 n r = Taking m k i n r × (r.x10 ≡ i) × (r.x17 ≡ 2)
+ReceiverIs m k i Pc44 n r = Quiet m n × Visits k i r
+ReceiverIs m k i Pc48 n r = Opened m k i n r × ((r.x30 ≡ 0) ⊎ (m.tails n ≡ length k.list))
+ReceiverIs m k i Pc4C n r = Opened m k i n r × (m.tails n ≡ length k.list)
+ReceiverIs m k i Pc50 n r = Opened m k i n r × (m.tails n ≡ length k.list) × (r.x5 ≡ 1)
+ReceiverIs m k i Pc54 n r = Closing m k i n r
+ReceiverIs m k i Pc58 n r = Closing m k i n r × (r.x10 ≡ i)
+ReceiverIs m k i Pc5C n r = Closing m k i n r × (r.x10 ≡ i) × (r.x17 ≡ 3)
+ReceiverIs m k i Pc60 n r = Quiet m n × Visits k i r
+ReceiverIs m k i Pc64 n r = Quiet m n × Visits k i r
+ReceiverIs m k i Pc68 n r = Quiet m n × Visits k i r
+ReceiverIs m k i Pc6C n r = Quiet m n × (r.x22 ≡ i) × (r.x8 ≡ k.base + block_size k.size)
+ReceiverIs m k i Pc70 n r = Quiet m n × (r.x22 ≡ i + 1) × (r.x8 ≡ k.base + block_size k.size)
+ReceiverIs m k i Pc74 n r = Quiet m n
+ReceiverIs m k i Pc78 n r = Quiet m n × (r.x20 ≡ 0)
+ReceiverIs m k i Pc7C n r = Quiet m n × (r.x17 ≡ 93) × (r.x20 ≡ 0)
 ReceiverIs m k i ROver n r = Quiet m n × (r.x20 ≡ 0)

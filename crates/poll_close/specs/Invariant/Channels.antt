@@ -47,13 +47,13 @@ pub record ReceiverPart (m : BlockMeaning) (M S : ℕ) (lists : List (List ℕ))
   pub count : noted.x20 + shuts m f (length lists) ≡ length lists + due place
 
 -- what is reported of sender i
-pub record Told (rs : List Report) (i : ℕ) (list : List ℕ) (took shut : ℕ) : Type 0 where
+pub record ReportsOf (rs : List Report) (i : ℕ) (list : List ℕ) (took shut : ℕ) : Type 0 where
   pub words : taken rs i ≡ take took list
   pub closed : (k : ℕ) → slice_get rs k ≡ Some (report.Closed i) → shut ≡ 1
   pub said : shut ≡ 1 → (k : ℕ) × (slice_get rs k ≡ Some (report.Closed i))
 
 pub record ReportPart (m : BlockMeaning) (lists : List (List ℕ)) (rs : List Report) (f : ℕ → m.Count) : Type 0 where
-  pub told : (j : ℕ) → j < length lists → Told rs j (slice_index_or lists j []) (m.took (f j)) (m.shut (f j))
+  pub told : (j : ℕ) → j < length lists → ReportsOf rs j (slice_index_or lists j []) (m.took (f j)) (m.shut (f j))
   pub clean : Clean rs lists
 
 pub record Channel (m : BlockMeaning) (M S : ℕ) (lists : List (List ℕ)) (t : History) : Type 0 where

@@ -17,45 +17,45 @@ use Rattle.ztso_engines.specs.Trials.{Trial, is_finished, is_holds, is_fails, ga
 use Rattle.ztso_engines.specs.Outcomes.{schedule_text, line_of, unfinished}
 
 -- what is told of an outcome: how many runs gave it, and the first one's schedule as text
-abbrev pub Told : Type 0
-Told = ℕ × List ℕ
+abbrev pub Counted : Type 0
+Counted = ℕ × List ℕ
 
-abbrev pub told_by : Row → Told
-told_by row = (row.count, string_bytes row.schedule)
+abbrev pub counted_by : Row → Counted
+counted_by row = (row.count, string_bytes row.schedule)
 
 abbrev pub is_key : (outcome : List ℕ) → Vec ℕ → Bool
 is_key outcome key = is_eq (slice_cmp nat_cmp outcome key.items)
 
 -- what some rows tell of an outcome, if one of them is its row
-unfoldable pub told_of : List (Vec ℕ × Row) → (outcome : List ℕ) → Option Told
-told_of rows outcome = option_map told_by (lookup (is_key outcome) rows)
+unfoldable pub counted_of : List (Vec ℕ × Row) → (outcome : List ℕ) → Option Counted
+counted_of rows outcome = option_map counted_by (lookup (is_key outcome) rows)
 
 -- what is told once one more run gave the outcome
-abbrev pub told_more : List Event → Option Told → Told
-told_more events None = (1, schedule_text events)
-told_more events (Some told) = (told.0 + 1, told.1)
+abbrev pub counted_more : List Event → Option Counted → Counted
+counted_more events None = (1, schedule_text events)
+counted_more events (Some told) = (told.0 + 1, told.1)
 
 -- what some runs tell of an outcome
-unfoldable pub seen_of : List Trial → (outcome : List ℕ) → Option Told
+unfoldable pub seen_of : List Trial → (outcome : List ℕ) → Option Counted
 seen_of trials outcome = option_map (λ first. (count_by (gave outcome) trials, schedule_text first.events)) (find (gave outcome) trials)
 
 -- a tally of these runs
 pub record IsTallyOf (trials : List Trial) (tally : Tally) : Type 0 where
-  pub rows : (outcome : List ℕ) → told_of tally.rows.entries outcome ≡ seen_of trials outcome
+  pub rows : (outcome : List ℕ) → counted_of tally.rows.entries outcome ≡ seen_of trials outcome
   pub unfinished_are : tally.unfinished ≡ unfinished trials
   pub holds : tally.some_hold ≡ list_any (λ t. is_holds t.verdict) trials
   pub fails : tally.some_fail ≡ list_any (λ t. is_fails t.verdict) trials
 
 -- one more run was tallied
 pub record Tallies (trial : Trial) (old new : Tally) : Type 0 where
-  pub rows : (outcome : List ℕ) → told_of new.rows.entries outcome ≡ (if gave outcome trial then Some (told_more trial.events (told_of old.rows.entries outcome)) else told_of old.rows.entries outcome)
+  pub rows : (outcome : List ℕ) → counted_of new.rows.entries outcome ≡ (if gave outcome trial then Some (counted_more trial.events (counted_of old.rows.entries outcome)) else counted_of old.rows.entries outcome)
   pub unfinished_are : new.unfinished ≡ old.unfinished + (if is_finished trial.verdict then 0 else 1)
   pub holds : new.some_hold ≡ (old.some_hold || is_holds trial.verdict)
   pub fails : new.some_fail ≡ (old.some_fail || is_fails trial.verdict)
 
 -- one more run gave this outcome
 abbrev pub Counts : (outcome : List ℕ) → List Event → (old new : List (Vec ℕ × Row)) → Type 0
-Counts outcome events old new = (other : List ℕ) → told_of new other ≡ (if is_eq (slice_cmp nat_cmp other outcome) then Some (told_more events (told_of old other)) else told_of old other)
+Counts outcome events old new = (other : List ℕ) → counted_of new other ≡ (if is_eq (slice_cmp nat_cmp other outcome) then Some (counted_more events (counted_of old other)) else counted_of old other)
 
 -- ---- the text of a tally
 

@@ -1,11 +1,11 @@
 //! What a line of the debugger's asks for.
 
 ghost use Rattle.std.specs.Prelude.{◌≡◌};
-ghost use Rattle.texts.specs.Cutting.{words};
+ghost use Rattle.texts.specs.Cutting.{tokens};
 ghost use Rattle.ztso_engines.specs.Commands.{asked, asked_alone, asked_with_one, asked_with_two};
 
 use step_machine::Event;
-use texts::{first_word, number, word};
+use texts::{first_token, number, word};
 
 /// A command. Its numbers are as they were given, and judged by no machine yet.
 #[derive(Clone, Copy, Debug, PartialEq, Eq)]
@@ -68,16 +68,16 @@ fn asked_with_two(name: &[u8], first: &[u8], second: &[u8]) -> Option<Command>
 
 /// What a line asks for; `None` where it asks for nothing.
 pub fn command_of(line: &[u8]) -> Option<Command>
-    ensures { result ≡ asked (words line.now) }
+    ensures { result ≡ asked (tokens line.now) }
 {
-    let (name, rest) = first_word(line)?;
-    let Some((first, rest)) = first_word(rest) else {
+    let (name, rest) = first_token(line)?;
+    let Some((first, rest)) = first_token(rest) else {
         return asked_alone(name);
     };
-    let Some((second, rest)) = first_word(rest) else {
+    let Some((second, rest)) = first_token(rest) else {
         return asked_with_one(name, first);
     };
-    match first_word(rest) {
+    match first_token(rest) {
         None => asked_with_two(name, first, second),
         Some(_) => None,
     }

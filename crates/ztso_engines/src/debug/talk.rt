@@ -4,7 +4,7 @@ ghost use Rattle.std.specs.Prelude.{◌≡◌, ◌++◌, ℕ, List, [], IfOk, If
 ghost use Rattle.std.specs.String.{string_bytes};
 ghost use Rattle.std.specs.Io.BufRead.{take_through, DropsThrough};
 ghost use Rattle.std.specs.Io.KnownBytes.{Appends, IsAtEnd};
-ghost use Rattle.texts.specs.Cutting.{words};
+ghost use Rattle.texts.specs.Cutting.{tokens};
 ghost use Rattle.ztso_engines.specs.Commands.{asked};
 ghost use Rattle.ztso_engines.specs.Talks.{AnswersLine, Prints, quits};
 ghost use Rattle.ztso_engines.specs.inner.Talking.{IsFailure};
@@ -34,7 +34,7 @@ fn read_line<C: BufRead>(alloc: Global, commands: &mut C) -> Result<Vec<u8>, Fau
 }
 
 fn does_quit(line: &[u8]) -> bool
-    ensures { result ≡ quits (asked (words line.now)) }
+    ensures { result ≡ quits (asked (tokens line.now)) }
 {
     match command_of(line) {
         Some(Command::Quit) => true,

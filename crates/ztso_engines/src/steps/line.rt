@@ -2,16 +2,17 @@
 
 ghost use Rattle.std.specs.Prelude.{◌≡◌};
 ghost use Rattle.texts.specs.Results.{Gives, refusal_of};
-ghost use Rattle.texts.specs.Cutting.{words, words as words_of};
+ghost use Rattle.texts.specs.Cutting.{tokens};
 ghost use Rattle.ztso_engines.specs.StepsReading.{keyword_named, number_at, two_numbers, three_numbers, with_hart, with_register, with_word, with_steps};
 
 use crate::code::code_of;
 use crate::fault::{BAD, LineFault};
 use recorder::{ScheduleError, push_tokens_of};
 use std::alloc::Global;
-use step_machine::opening::{MAX_CODE, MAX_HARTS};
+use rv_decode::instruction::MAX_CODE;
+use step_machine::opening::MAX_HARTS;
 use step_machine::{Event, HartOpening};
-use texts::{Numbered, first_word, word};
+use texts::{Numbered, first_token, word};
 
 /// What a line begins with.
 #[derive(Clone, Copy)]
@@ -37,9 +38,9 @@ pub fn keyword_of(word: &[u8]) -> Option<Keyword>
 /// The number that the text's first word says, and what follows.
 #[tactic(auto, unfolding(crate::specs::StepsReading::number_at))]
 fn first_number(text: &[u8]) -> Result<(u32, &[u8]), LineFault>
-    ensures { Gives refusal_of (λ cut. (cut.0, words cut.1.now)) result (number_at (words text.now)) }
+    ensures { Gives refusal_of (λ cut. (cut.0, tokens cut.1.now)) result (number_at (tokens text.now)) }
 {
-    let (digits, rest) = first_word(text).ok_or(BAD)?;
+    let (digits, rest) = first_token(text).ok_or(BAD)?;
     let number = word(digits).ok_or(BAD)?;
     Ok((number, rest))
 }
@@ -47,11 +48,11 @@ fn first_number(text: &[u8]) -> Result<(u32, &[u8]), LineFault>
 /// The two numbers that are the words of the text.
 #[tactic(auto, unfolding(crate::specs::StepsReading::two_numbers))]
 fn two_numbers_of(text: &[u8]) -> Result<(u32, u32), LineFault>
-    ensures { Gives refusal_of (λ said. said) result (two_numbers (words text.now)) }
+    ensures { Gives refusal_of (λ said. said) result (two_numbers (tokens text.now)) }
 {
     let (a, rest) = first_number(text)?;
     let (b, rest) = first_number(rest)?;
-    match first_word(rest) {
+    match first_token(rest) {
         None => Ok((a, b)),
         Some(_) => Err(BAD),
     }
@@ -60,7 +61,7 @@ fn two_numbers_of(text: &[u8]) -> Result<(u32, u32), LineFault>
 /// The three numbers that are the words of the text.
 #[tactic(auto, unfolding(crate::specs::StepsReading::three_numbers))]
 fn three_numbers_of(text: &[u8]) -> Result<(u32, u32, u32), LineFault>
-    ensures { Gives refusal_of (λ said. said) result (three_numbers (words text.now)) }
+    ensures { Gives refusal_of (λ said. said) result (three_numbers (tokens text.now)) }
 {
     let (a, rest) = first_number(text)?;
     let (b, c) = two_numbers_of(rest)?;
@@ -70,7 +71,7 @@ fn three_numbers_of(text: &[u8]) -> Result<(u32, u32, u32), LineFault>
 /// Adds the hart of this code.
 #[tactic(auto, unfolding(crate::specs::StepsReading::with_hart))]
 pub fn add_hart(alloc: Global, harts: &mut Vec<HartOpening>, text: &[u8]) -> Result<(), LineFault>
-    ensures { Gives refusal_of (λ x. harts.new.items) result (with_hart harts.old.items (words text.now)) }
+    ensures { Gives refusal_of (λ x. harts.new.items) result (with_hart harts.old.items (tokens text.now)) }
 {
     let code = code_of(alloc, text)?;
     if harts.len() >= MAX_HARTS || code.len() > MAX_CODE {
@@ -87,7 +88,7 @@ pub fn add_hart(alloc: Global, harts: &mut Vec<HartOpening>, text: &[u8]) -> Res
 /// Sets a register of a hart above.
 #[tactic(auto, unfolding(crate::specs::StepsReading::with_register))]
 pub fn set_register(harts: &mut Vec<HartOpening>, text: &[u8]) -> Result<(), LineFault>
-    ensures { Gives refusal_of (λ x. harts.new.items) result (with_register harts.old.items (words text.now)) }
+    ensures { Gives refusal_of (λ x. harts.new.items) result (with_register harts.old.items (tokens text.now)) }
 {
     let (hart, number, value) = three_numbers_of(text)?;
     let hart = hart as usize;
@@ -102,7 +103,7 @@ pub fn set_register(harts: &mut Vec<HartOpening>, text: &[u8]) -> Result<(), Lin
 /// Sets a word of memory.
 #[tactic(auto, unfolding(crate::specs::StepsReading::with_word))]
 pub fn set_word(words: &mut Vec<u32>, text: &[u8]) -> Result<(), LineFault>
-    ensures { Gives refusal_of (λ x. words.new.items) result (with_word words.old.items (words_of text.now)) }
+    ensures { Gives refusal_of (λ x. words.new.items) result (with_word words.old.items (tokens text.now)) }
 {
     let (addr, value) = two_numbers_of(text)?;
     let place = (addr / 4) as usize;

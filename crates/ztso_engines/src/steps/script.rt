@@ -6,15 +6,15 @@ ghost use Rattle.texts.specs.Results.{Gives, refusal_of};
 ghost use Rattle.step_machine.specs.History.{FitsIn};
 ghost use Rattle.ztso_engines.specs.Faults.{Answers};
 ghost use Rattle.ztso_engines.specs.LineFaults.{at_line as told_at};
-ghost use Rattle.ztso_engines.specs.Told.{Told, told_by, untold, opening_of};
+ghost use Rattle.ztso_engines.specs.Scenario.{Scenario, scenario_of, no_scenario, opening_of};
 ghost use Rattle.ztso_engines.specs.StepsText.{Tells};
 ghost use Rattle.ztso_engines.specs.StepsReading.{after_line, after_lines, script_at};
 
-use crate::fault::{BAD, BAD_LINE, Fault, LineFault, Place, at_line};
+use crate::fault::{BAD, BAD_LINE, Fault, LineFault, Position, at_line};
 use crate::steps::line::{Keyword, add_hart, add_steps, keyword_of, set_register, set_word};
 use std::alloc::{AllocError, Global};
 use step_machine::{Event, HartOpening};
-use texts::{first_line, first_word};
+use texts::{first_line, first_token};
 
 /// What a steps text tells.
 #[derive(Drop)]
@@ -28,7 +28,7 @@ pub struct Script {
 impl Script {
     /// Nothing is told yet of a machine with M words.
     fn new<const M: usize>(alloc: Global) -> Result<Script, AllocError>
-        ensures { IfOk result (λ script. told_by script ≡ untold M) }
+        ensures { IfOk result (λ script. scenario_of script ≡ no_scenario M) }
     {
         Ok(Script {
             harts: Vec::new(alloc),
@@ -40,9 +40,9 @@ impl Script {
     /// Follows one more line.
     #[tactic(auto, unfolding(crate::specs::StepsReading::after_line))]
     fn add_line(&mut self, alloc: Global, line: &[u8]) -> Result<(), LineFault>
-        ensures { Gives refusal_of (λ x. told_by self.new) result (after_line (told_by self.old) line.now) }
+        ensures { Gives refusal_of (λ x. scenario_of self.new) result (after_line (scenario_of self.old) line.now) }
     {
-        let Some((name, rest)) = first_word(line) else {
+        let Some((name, rest)) = first_token(line) else {
             return Ok(());
         };
         match keyword_of(name).ok_or(BAD)? {
@@ -56,7 +56,7 @@ impl Script {
     /// Follows the line of this number.
     #[tactic(auto, using(crate::proofs::LineFaulted::refused_at_line))]
     fn add_line_at(&mut self, alloc: Global, line: &[u8], number: usize) -> Result<(), Fault>
-        ensures { Answers (λ x. told_by self.new) result (told_at number (after_line (told_by self.old) line.now)) }
+        ensures { Answers (λ x. scenario_of self.new) result (told_at number (after_line (scenario_of self.old) line.now)) }
     {
         match self.add_line(alloc, line) {
             Ok(()) => Ok(()),
@@ -67,7 +67,7 @@ impl Script {
     /// Follows all lines of a text.
     #[tactic(auto, unfolding(crate::specs::StepsReading::after_lines))]
     fn add_lines(&mut self, alloc: Global, text: &[u8]) -> Result<(), Fault>
-        ensures { Answers (λ x. told_by self.new) result (after_lines (told_by self.old) 1 (lines text.now)) }
+        ensures { Answers (λ x. scenario_of self.new) result (after_lines (scenario_of self.old) 1 (lines text.now)) }
     {
         let mut rest = text;
         let mut number = 0;
@@ -82,12 +82,12 @@ impl Script {
 
 #[tactic(auto, unfolding(crate::specs::StepsReading::script_at))]
 fn script_of<const M: usize>(alloc: Global, text: &str) -> Result<Script, Fault>
-    ensures { Answers told_by result (script_at M text.now) }
+    ensures { Answers scenario_of result (script_at M text.now) }
 {
     let mut script = Script::new::<M>(alloc)?;
     script.add_lines(alloc, text.as_bytes())?;
     if script.harts.is_empty() {
-        return Err(Fault::refused(BAD_LINE, Place::Nowhere));
+        return Err(Fault::refused(BAD_LINE, Position::Nowhere));
     }
     Ok(script)
 }
@@ -98,10 +98,10 @@ fn script_of<const M: usize>(alloc: Global, text: &str) -> Result<Script, Fault>
 /// a hart, at no line; tokens behind `steps` are refused as [`recorder::push_tokens_of`] refuses them, at the
 /// line. The first faulty line is answered.
 pub fn read_script<const M: usize>(alloc: Global, text: &str) -> Result<Script, Fault>
-    ensures found { IfOk result (λ script. Tells M text.now (told_by script)) }
-    ensures only { (told : Told) → Tells M text.now told → Answers told_by result (Ok told) }
-    ensures exact { Answers told_by result (script_at M text.now) }
-    ensures fits { IfOk result (λ script. FitsIn M (opening_of (told_by script))) }
+    ensures found { IfOk result (λ script. Tells M text.now (scenario_of script)) }
+    ensures only { (told : Scenario) → Tells M text.now told → Answers scenario_of result (Ok told) }
+    ensures exact { Answers scenario_of result (script_at M text.now) }
+    ensures fits { IfOk result (λ script. FitsIn M (opening_of (scenario_of script))) }
 {
     script_of::<M>(alloc, text)
 }

@@ -5,7 +5,7 @@ ghost use Rattle.std.specs.String.{string_bytes};
 ghost use Rattle.step_machine.specs.Runs.{Run};
 ghost use Rattle.ztso_engines.specs.Trials.{Trial, IsTrial};
 ghost use Rattle.ztso_engines.specs.Outcomes.{schedule_text as text_of_schedule};
-ghost use Rattle.ztso_engines.specs.inner.Tallies.{told_by, told_of, told_more, Counts, IsTallyOf, Tallies};
+ghost use Rattle.ztso_engines.specs.inner.Tallies.{counted_by, counted_of, counted_more, Counts, IsTallyOf, Tallies};
 
 use crate::running::run_anew;
 use litmus::{Test, Verdict};
@@ -48,7 +48,7 @@ fn schedule_text(alloc: Global, events: &[Event]) -> Result<String, AllocError>
 /// The row of an outcome that one more run gave, by these events.
 fn row_after(alloc: Global, row: Option<Row>, events: &[Event]) -> Result<Row, AllocError>
     requires { IfSome row (λ row. row.count < 4294967295) }
-    ensures { IfOk result (λ new. told_by new ≡ told_more events.now (option_map told_by row)) }
+    ensures { IfOk result (λ new. counted_by new ≡ counted_more events.now (option_map counted_by row)) }
 {
     match row {
         Some(Row { count, schedule }) => Ok(Row {
@@ -69,7 +69,7 @@ fn count_outcome(
     outcome: Vec<u32>,
     events: &[Event],
 ) -> Result<(), AllocError>
-    requires { IfSome (told_of rows.old.entries outcome.items) (λ told. told.0 < 4294967295) }
+    requires { IfSome (counted_of rows.old.entries outcome.items) (λ told. told.0 < 4294967295) }
     ensures { OnOk result (Counts outcome.items events.now rows.old.entries rows.new.entries) }
 {
     let row = rows.remove(outcome.as_slice());
@@ -99,7 +99,7 @@ impl Tally {
         verdict: Verdict,
         values: Vec<u32>,
     ) -> Result<(), AllocError>
-        requires counts { (outcome : List ℕ) → IfSome (told_of self.old.rows.entries outcome) (λ told. told.0 < 4294967295) }
+        requires counts { (outcome : List ℕ) → IfSome (counted_of self.old.rows.entries outcome) (λ told. told.0 < 4294967295) }
         requires unfinished { self.old.unfinished < 4294967295 }
         ensures { OnOk result (Tallies (record { events = events.now; verdict = verdict; values = values.items }) self.old self.new) }
     {
@@ -129,7 +129,7 @@ impl Tally {
     ) -> Result<(), AllocError>
         requires opening { machine.old.history.opening ≡ test.now.opening }
         requires names { length test.now.names ≤ M }
-        requires counts { (outcome : List ℕ) → IfSome (told_of self.old.rows.entries outcome) (λ told. told.0 < 4294967295) }
+        requires counts { (outcome : List ℕ) → IfSome (counted_of self.old.rows.entries outcome) (λ told. told.0 < 4294967295) }
         requires unfinished { self.old.unfinished < 4294967295 }
         ensures trial { OnOk result ((trial : Trial) × (trial.events ≡ events.now) × IsTrial B M test.now trial × Tallies trial self.old self.new) }
         ensures opening { machine.new.history.opening ≡ machine.old.history.opening }

@@ -1,5 +1,5 @@
 use Rattle.std.proofs.Common.{◌≡◌, ◌+◌, ◌-◌, ◌≤◌, ◌++◌, replicate, vec_len, vec_capacity}
-use Rattle.litmus.specs.declared.words.Step.TheVariants.{Not}
+use Rattle.litmus.specs.declared.symbols.Step.TheVariants.{Not}
 use Rattle.litmus.proofs.builder.add_negations.Given as goal
 
 abbrev pub invariant-loop : goal.invariant-loop

@@ -1,5 +1,5 @@
 use Rattle.std.proofs.Common.{ℕ, ◌<◌, get_or}
-use Rattle.litmus.specs.declared.words.Step.{Step}
+use Rattle.litmus.specs.declared.symbols.Step.{Step}
 use Rattle.litmus.specs.inner.Running.{AsksThere}
 use Rattle.litmus.proofs.condition.all_ask_there.Given as goal
 

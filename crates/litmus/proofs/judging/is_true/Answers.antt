@@ -1,5 +1,5 @@
 use Rattle.std.proofs.Common.{◌∙◌, subst, sym, List, All, lit<, true, ap, length}
-use Rattle.litmus.specs.declared.words.Step.{Step}
+use Rattle.litmus.specs.declared.symbols.Step.{Step}
 use Rattle.litmus.specs.inner.Running.{AsksThere, all_done}
 use Rattle.litmus.specs.Verdicts.{final_value}
 use Rattle.litmus.proofs.RunLaws.{all_done-condition, AsksThere-steps_of}

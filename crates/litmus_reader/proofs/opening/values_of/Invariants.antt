@@ -1,5 +1,5 @@
 use Rattle.std.proofs.Common.{◌≡◌, map, drop, vec_len}
-use Rattle.litmus_reader.specs.Init.{setting_of}
+use Rattle.litmus_reader.specs.Init.{item_of}
 use Rattle.litmus_reader.specs.Values.{zeros, items_put, values_in}
 use Rattle.litmus_reader.proofs.opening.values_of.Given as goal
 
@@ -7,5 +7,5 @@ abbrev pub invariant-loop-item : goal.invariant-loop-item
 invariant-loop-item l = record {
   harts : vec_len l.values.registers ≡ l.harts;
   words : vec_len l.values.words ≡ l.locations;
-  so_far : items_put (values_in l.values) (map setting_of (drop l.item-index l.items)) ≡ items_put (zeros l.harts l.locations) (map setting_of l.items);
+  so_far : items_put (values_in l.values) (map item_of (drop l.item-index l.items)) ≡ items_put (zeros l.harts l.locations) (map item_of l.items);
 }

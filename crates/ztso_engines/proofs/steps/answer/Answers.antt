@@ -1,4 +1,4 @@
-use Rattle.ztso_engines.specs.Told.{told_by}
+use Rattle.ztso_engines.specs.Scenario.{scenario_of}
 use Rattle.ztso_engines.specs.StepsText.{Tells}
 use Rattle.ztso_engines.specs.StepsReading.{script_at}
 use Rattle.ztso_engines.proofs.Judging.{accepted_well}
@@ -7,7 +7,7 @@ use Rattle.ztso_engines.proofs.steps.answer.Goals as goal
 
 pub returns : goal.returns
 returns g c =
-    let told = told_by c.in_ok-script.script in (
+    let told = scenario_of c.in_ok-script.script in (
       told,
       accepted_well (script_at g.row.M) (Tells g.row.M) c.args.input.items told (text_told g.row.M c.args.input.items told) (rw c.deref.ensures.value at c.in_ok-script.ensures.exact),
       record { history = c.in_ok-machine.machine.history; ran = c.in_ok-machine.ensures; is_shown = c.in_ok-text.ensures },

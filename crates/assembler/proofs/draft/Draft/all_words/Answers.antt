@@ -3,8 +3,8 @@ use Rattle.assembler.specs.Kept.{line_of, place_in}
 use Rattle.assembler.proofs.DraftLaws.{place_within, finished_long, finished_short}
 use Rattle.assembler.proofs.draft.Draft.all_words.Goals as goal
 
-pub returns-then-self-gt-MAX_WORDS-clause-exact : goal.returns-then-self-gt-MAX_WORDS-clause-exact
-returns-then-self-gt-MAX_WORDS-clause-exact c =
+pub returns-then-self-gt-MAX_CODE-clause-exact : goal.returns-then-self-gt-MAX_CODE-clause-exact
+returns-then-self-gt-MAX_CODE-clause-exact c =
     rw (c.at_line.ensures, c.first_over.ensures, c.deref.ensures.value, ← c.self.view_is)
     (finished_long (map line_of c.self.inside.lines.items) (omega (arith, c.self.invariant.size)))
 

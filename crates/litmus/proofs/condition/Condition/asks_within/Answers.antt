@@ -1,5 +1,5 @@
 use Rattle.std.proofs.Common.{subst, sym, List, All}
-use Rattle.litmus.specs.declared.words.Step.{Step}
+use Rattle.litmus.specs.declared.symbols.Step.{Step}
 use Rattle.litmus.specs.inner.Running.{AsksThere}
 use Rattle.litmus.proofs.RunLaws.{AsksThere-steps_of, steps_of-AsksThere}
 use Rattle.litmus.proofs.condition.Condition.asks_within.Goals as goal

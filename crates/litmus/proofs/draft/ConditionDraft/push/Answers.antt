@@ -1,6 +1,6 @@
 use Rattle.std.proofs.Common.{◌≡◌, ◌≤◌, List, [], ◌∷◌, ◌++◌, Err, IfSome, length, arith}
 use Rattle.litmus.proofs.StageLaws.{few_negations, is_within, push_laid, push_told, push_refused}
-use Rattle.litmus.specs.declared.words.Token.{Token}
+use Rattle.litmus.specs.declared.symbols.Symbol.{Symbol}
 use Rattle.litmus.specs.declared.draft.ConditionError.{ConditionError}
 use Rattle.litmus.specs.declared.draft.ConditionError.TheVariants.{NoMemory, Misplaced}
 use Rattle.litmus.specs.Faults.{fault_of}
@@ -28,9 +28,9 @@ returns-in-Err-clause-exact c = rw (← c.self.view_is) (push_refused c.self.ins
 pub returns-in-Ok-clause-begins : goal.returns-in-Ok-clause-begins
 returns-in-Ok-clause-begins c = begins_built c.push_reserved.new.self.items c.take.new.self (invariant_of-self-in-Ok c)
 
-misplaced-refused : (words : List Token) (word : Token) (e : ConditionError) → IfSome (fault_of e) (λ fault. told words word ≡ Err fault) → e ≡ Misplaced → ¬ Begins (words ++ word ∷ [])
-misplaced-refused words word NoMemory told_so same = absurd (cc)
-misplaced-refused words word Misplaced told_so same = refused_begins words word told_so
+misplaced-refused : (symbols : List Symbol) (next : Symbol) (e : ConditionError) → IfSome (fault_of e) (λ fault. told symbols next ≡ Err fault) → e ≡ Misplaced → ¬ Begins (symbols ++ next ∷ [])
+misplaced-refused symbols next NoMemory told_so same = absurd (cc)
+misplaced-refused symbols next Misplaced told_so same = refused_begins symbols next told_so
 
 pub returns-in-Err-clause-misplaced : goal.returns-in-Err-clause-misplaced
 returns-in-Err-clause-misplaced c = λ same. let is : c.in-Err.error ≡ Misplaced = cc in misplaced-refused c.args.self.now c.args.token c.in-Err.error (returns-in-Err-clause-exact c) is

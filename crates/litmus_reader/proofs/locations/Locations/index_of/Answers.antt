@@ -1,4 +1,4 @@
-use Rattle.litmus_words.proofs.Bytes.{name_bytes}
+use Rattle.litmus_tokens.proofs.Bytes.{name_bytes}
 use Rattle.litmus_reader.proofs.locations.Locations.index_of.Goals as goal
 
 pub text_of-requires : goal.text_of-requires

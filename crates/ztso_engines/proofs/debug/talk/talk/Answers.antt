@@ -3,7 +3,7 @@ use Rattle.std.proofs.Common.{◌≡◌, ℕ, List, [], ◌++◌, true, false, s
 use Rattle.std.specs.String.{string_bytes}
 use Rattle.std.specs.Str.Lines.{lines}
 use Rattle.std.specs.Io.KnownBytes.{Appends}
-use Rattle.texts.specs.Cutting.{words}
+use Rattle.texts.specs.Cutting.{tokens}
 use Rattle.ztso_engines.specs.Commands.{asked}
 use Rattle.ztso_engines.specs.Talks.{Prints, quits}
 use Rattle.ztso_engines.proofs.TalkLaws.{appends_more, appends_nothing, failed_end, fails, no_line, prints_more, prints_no_more, prints_none, told_so_far}
@@ -26,7 +26,7 @@ pub returns-then-does_quit-clause-told : goal.returns-then-does_quit-clause-told
 returns-then-does_quit-clause-told g c =
     let so_far = c.loop.invariant in
     let told = ap lines (sym c.deref.ensures.value) ∙ c.in-Some.ensures.line in
-    let quit : quits (asked (words c.in-Some.line.now)) ≡ true = sym c.does_quit.ensures ∙ c.if-does_quit.true in
+    let quit : quits (asked (tokens c.in-Some.line.now)) ≡ true = sym c.does_quit.ensures ∙ c.if-does_quit.true in
     told_so_far g.row.B g.row.M (g.C.Read.remaining c.args.commands.now) c.args.walk so_far.0 _ _ so_far.1
     (so_far.2 [] (prints_no_more g.row.B g.row.M (g.C.Read.remaining c.loop.commands) c.in_ok-bytes.bytes.items c.in-Some.line.now _ c.loop.walk c.loop.points.items c.in_ok-bytes.ensures.bytes told quit))
 
@@ -40,7 +40,7 @@ loop-preserved g c =
     let so_far = c.loop.invariant in
     let did = c.in_ok-walk.ensures in
     let told = ap lines (sym c.deref.ensures.value) ∙ c.in-Some.ensures.line in
-    let quit : quits (asked (words c.in-Some.line.now)) ≡ false = sym c.does_quit.ensures ∙ c.if-does_quit.false in
+    let quit : quits (asked (tokens c.in-Some.line.now)) ≡ false = sym c.does_quit.ensures ∙ c.if-does_quit.false in
     let text : string_bytes c.answer_line.new.out ≡ did.0 = did.1 ∙ ap (λ (xs : List ℕ). xs ++ did.0) c.new-out.ensures.bytes in (
       so_far.0 ++ did.0,
       appends_more (g.W.Write.contents c.args.writer.now) (g.W.Write.contents c.loop.writer) (g.W.Write.contents c.end_with.new.writer) so_far.0 did.0 so_far.1

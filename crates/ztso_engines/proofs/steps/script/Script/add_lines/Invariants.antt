@@ -1,13 +1,13 @@
 use Rattle.std.proofs.Common.{◌≡◌, ◌+◌, ◌≤◌, length}
 use Rattle.std.specs.Str.Lines.{lines}
-use Rattle.ztso_engines.specs.Told.{told_by}
+use Rattle.ztso_engines.specs.Scenario.{scenario_of}
 use Rattle.ztso_engines.specs.StepsReading.{after_lines}
 use Rattle.ztso_engines.proofs.steps.script.Script.add_lines.Given as goal
 
 -- the lines left, behind what is told so far, tell what all lines tell
 abbrev pub invariant-loop-line : goal.invariant-loop-line
 invariant-loop-line l = record {
-  so_far : after_lines (told_by l.self) (l.number + 1) (lines l.rest) ≡ after_lines (told_by l.fn.self) 1 (lines l.text);
+  so_far : after_lines (scenario_of l.self) (l.number + 1) (lines l.rest) ≡ after_lines (scenario_of l.fn.self) 1 (lines l.text);
   few : l.number + length l.rest ≤ length l.text;
 }
 

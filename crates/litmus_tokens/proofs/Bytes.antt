@@ -1,0 +1,104 @@
+-- Bytes that stand in no name, and where texts are cut at them.
+use Rattle.std.proofs.Common.{◌≡◌, ℕ, ◌<◌, ◌≤◌, Bool, true, false, not, ◌==◌, List, [], ◌∷◌, Option, Some, None, refl, subst, inl, inr, arith}
+use Rattle.std.specs.List.{list_all}
+use Rattle.std.specs.Char.{digit_value}
+use Rattle.std.specs.Str.Parse.{AllDigits}
+use Rattle.std.proofs.lemmas.Bool.{cases_Bool, and_parts, eqb-true, ne_eqb, lt-ltb, le-ltb}
+use Rattle.texts.specs.Cutting.{is_byte, stripped, NonePass, without_leading, without_trailing, onto_kept}
+use Rattle.rv_decode.specs.Registers.{register_named, register_names}
+use Rattle.rv_decode.specs.Tables.{row_of, told}
+use Rattle.rv_decode.specs.Meaning.{reg_of}
+use Rattle.rv_decode.specs.declared.instruction.Reg.{Reg}
+use Rattle.std.specs.Prelude.{option_map}
+use Rattle.std.proofs.lemmas.Slice.Eq.{bytes_eq-Decides}
+use Rattle.texts.specs.Pieces.{is_gap}
+use Rattle.litmus_tokens.specs.Names.{core, begins_name, goes_on_name, is_spelled, is_not, is_name}
+
+-- ---- a byte that is none of some others
+
+pub other_byte : (q : ℕ → Bool) (b x : ℕ) → q b ≡ false → q x ≡ true → is_byte b x ≡ false
+other_byte q b x none one = go (x == b) refl
+  where
+    go : (t : Bool) → (x == b) ≡ t → is_byte b x ≡ false
+    go true e = (let same = eqb-true x b e in let never = rw same at one in absurd cc)
+    go false e = e
+
+pub none_name : (b : ℕ) → goes_on_name b ≡ false → (text : List ℕ) → list_all goes_on_name text ≡ true → NonePass (is_byte b) text
+none_name b none [] all = tt
+none_name b none (x ∷ text) all =
+    let both = and_parts (goes_on_name x) (list_all goes_on_name text) all in
+    (other_byte goes_on_name b x none both.0, none_name b none text both.1)
+
+-- ---- what gaps round a text leave out
+
+none_behind : (p : ℕ → Bool) → ((x : ℕ) → is_gap x ≡ true → p x ≡ false) → (text : List ℕ) → NonePass p (without_leading is_gap text) → NonePass p text
+none_behind p gaps [] h = tt
+none_behind p gaps (x ∷ text) h = elim (cases_Bool (is_gap x)) [
+  | inl gap ↦ (gaps x gap, none_behind p gaps text (rw gap at h))
+  | inr solid ↦ (rw solid at h)
+]
+
+none_before : (p : ℕ → Bool) → ((x : ℕ) → is_gap x ≡ true → p x ≡ false) → (text : List ℕ) → NonePass p (without_trailing is_gap text) → NonePass p text
+none_before p gaps [] h = tt
+none_before p gaps (x ∷ text) h = go (none_before p gaps text) (without_trailing is_gap text) refl h
+  where
+    alone : (b : Bool) → is_gap x ≡ b → NonePass p (onto_kept is_gap x []) → p x ≡ false
+    alone true gap k = gaps x gap
+    alone false solid k = (let one = rw solid at k in one.0)
+
+    go : (NonePass p (without_trailing is_gap text) → NonePass p text) → (ys : List ℕ) → without_trailing is_gap text ≡ ys → NonePass p (onto_kept is_gap x ys) → NonePass p (x ∷ text)
+    go rest [] is k = (alone (is_gap x) refl k, rest (rw is tt))
+    go rest (y ∷ ys) is k = (k.0, rest (rw is k.1))
+
+pub none_round : (b : ℕ) → is_gap b ≡ false → (text : List ℕ) → NonePass (is_byte b) (core text) → NonePass (is_byte b) text
+unfolding stripped
+none_round b none text h =
+    let gaps = λ (x : ℕ) (gap : is_gap x ≡ true). other_byte is_gap b x none gap in
+    none_behind (is_byte b) gaps text (none_before (is_byte b) gaps (without_leading is_gap text) h)
+
+-- a text of a name's bytes, with gaps round it
+pub none_round_name : (b : ℕ) → goes_on_name b ≡ false → is_gap b ≡ false → (text name : List ℕ) → core text ≡ name → list_all goes_on_name name ≡ true → NonePass (is_byte b) text
+none_round_name b no_name no_gap text name is all = none_round b no_gap text (rw is (none_name b no_name name all))
+
+-- ---- names, digits and registers have a name's bytes
+
+pub name_bytes : (name : List ℕ) → is_name name ≡ true → list_all goes_on_name name ≡ true
+name_bytes [] is = absurd cc
+name_bytes (c ∷ rest) is =
+    let spelled = (and_parts (is_spelled (c ∷ rest)) (not (is_not (c ∷ rest))) is).0 in
+    (and_parts (begins_name c) (list_all goes_on_name (c ∷ rest)) spelled).1
+
+digit_range : (d : ℕ) → digit_value d < 10 → (48 ≤ d) × (d < 58)
+digit_range d h = grind arith
+
+pub digit_begins_none : (d : ℕ) → digit_value d < 10 → begins_name d ≡ false
+digit_begins_none d h =
+    let range = digit_range d h in
+    rw (le-ltb 64 d (omega arith), le-ltb 96 d (omega arith), ne_eqb d 95 (λ same. omega arith)) refl
+
+digit_goes_on : (d : ℕ) → digit_value d < 10 → goes_on_name d ≡ true
+digit_goes_on d h =
+    let range = digit_range d h in
+    rw (digit_begins_none d h, lt-ltb 47 d (omega arith), lt-ltb d 58 (omega arith)) refl
+
+pub digit_bytes : (digits : List ℕ) → AllDigits 10 digits → list_all goes_on_name digits ≡ true
+digit_bytes [] h = refl
+digit_bytes (d ∷ digits) h = rw (digit_goes_on d h.0, digit_bytes digits h.1) refl
+
+-- what holds of each row's name holds of a text that is one
+row_passes : {R V : Type 0} (p : List ℕ → Bool) (name : R → List ℕ) (value : R → V) (rows : List R) (text : List ℕ) (v : V) → list_all (λ row. p (name row)) rows ≡ true → row_of name value rows text ≡ Some v → p text ≡ true
+row_passes p name value [] text v all e = absurd cc
+row_passes p name value (row ∷ rows) text v all e =
+    let both = and_parts (p (name row)) (list_all (λ other. p (name other)) rows) all in
+    elim (cases_Bool (told (name row) text)) [
+      | inl passes ↦ subst (λ (t : List ℕ). p t ≡ true) ((bytes_eq-Decides (name row) text).0 passes) both.0
+      | inr other ↦ row_passes p name value rows text v both.1 (rw other at e)
+    ]
+
+pub register_bytes : (name : List ℕ) (register : Reg) → register_named name ≡ Some register → list_all goes_on_name name ≡ true
+unfolding register_named
+register_bytes name register e = go (row_of (λ row. row.0) (λ row. row.1) register_names name) refl
+  where
+    go : (o : Option ℕ) → row_of (λ row. row.0) (λ row. row.1) register_names name ≡ o → list_all goes_on_name name ≡ true
+    go None is = (let never : option_map reg_of None ≡ Some register = rw is at e in absurd cc)
+    go (Some n) is = row_passes (list_all goes_on_name) (λ (row : List ℕ × ℕ). row.0) (λ (row : List ℕ × ℕ). row.1) register_names name n refl is

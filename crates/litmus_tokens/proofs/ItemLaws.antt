@@ -1,0 +1,135 @@
+-- Items of init: what is read is what the text says, and what it says is read.
+use Rattle.std.proofs.Common.{◌≡◌, ℕ, Bool, true, false, ◌==◌, ◌&&◌, List, [], ◌∷◌, ◌++◌, drop, Option, Some, None, refl, sym, ap, subst, ◌∙◌, inl, inr, ◌⊎◌}
+use Rattle.std.specs.Prelude.{IfSome, nat_eq, codes}
+use Rattle.std.specs.List.{starts_with}
+use Rattle.std.proofs.lemmas.Bool.{eqb-true, and_parts}
+use Rattle.std.proofs.lemmas.Bool.Decides.{Decides-eqb}
+use Rattle.std.proofs.lemmas.Slice.Eq.{starts_is}
+use Rattle.texts.specs.Cutting.{NonePass, before, after, is_byte, stripped}
+use Rattle.texts.proofs.CuttingLaws.{before_none, after_none, before_stop, after_stop, cut_byte, uncut}
+use Rattle.texts.specs.Pieces.{is_gap}
+use Rattle.litmus_tokens.specs.Names.{core, goes_on_name}
+use Rattle.litmus_tokens.specs.Settings.{NamedPlace, Value, Put, IsNamedPlace, IsDeclared, IsItem}
+use Rattle.litmus_tokens.specs.Settings.NamedPlace.{in_register, at_location}
+use Rattle.litmus_tokens.specs.Settings.Value.{number}
+use Rattle.litmus_tokens.specs.Reading.{value_in, inside, place_in, begins_with_gap, behind_int, declared_in, place_or, item_place_in, item_round, item_at}
+use Rattle.litmus_tokens.proofs.Bytes.{other_byte, name_bytes, none_round, none_round_name}
+use Rattle.litmus_tokens.proofs.SettingLaws.{value_found, value_read, named_found, place_found, place_read, place_free, told_put_found}
+
+-- ---- declarations
+
+gap_no_name : (x : ℕ) → is_gap x ≡ true → goes_on_name x ≡ false
+gap_no_name x gap = go (x == 32) refl (x == 9) refl (x == 10) refl
+  where
+    go : (a : Bool) → (x == 32) ≡ a → (b : Bool) → (x == 9) ≡ b → (d : Bool) → (x == 10) ≡ d → goes_on_name x ≡ false
+    go true e b f d g = rw (eqb-true x 32 e) refl
+    go false e true f d g = rw (eqb-true x 9 f) refl
+    go false e false f true g = rw (eqb-true x 10 g) refl
+    go false e false f false g = (let never : false ≡ true = rw (e, f, g) at gap in absurd cc)
+
+core_behind : (gap : ℕ) (rest : List ℕ) → is_gap gap ≡ true → core (gap ∷ rest) ≡ core rest
+unfolding stripped
+core_behind gap rest is = rw is refl
+
+int_front : (text rest : List ℕ) → behind_int text ≡ Some rest → (text ≡ codes "int" ++ rest) × (begins_with_gap rest ≡ true)
+unfolding behind_int
+int_front text rest e = go (starts_with nat_eq text (codes "int") && begins_with_gap (drop 3 text)) refl
+  where
+    go : (t : Bool) → (starts_with nat_eq text (codes "int") && begins_with_gap (drop 3 text)) ≡ t → (text ≡ codes "int" ++ rest) × (begins_with_gap rest ≡ true)
+    go true is =
+        let told = rw is at e in
+        let same : drop 3 text ≡ rest = cc in
+        let both = and_parts (starts_with nat_eq text (codes "int")) (begins_with_gap (drop 3 text)) is in
+        let cut = (starts_is Decides-eqb text (codes "int") (starts_with nat_eq text (codes "int")) refl).0 both.0 in
+        subst (λ (r : List ℕ). (text ≡ codes "int" ++ r) × (begins_with_gap r ≡ true)) same (cut, both.1)
+    go false isnt = (let never = rw isnt at e in absurd cc)
+
+declared_behind : (text : List ℕ) (place : NamedPlace) (behind : Option (List ℕ)) → behind_int (core text) ≡ behind → inside behind ≡ Some place → IsDeclared text place
+declared_behind text place None is e = absurd cc
+declared_behind text place (Some []) is e = (let front = int_front (core text) [] is in absurd cc)
+declared_behind text place (Some (gap ∷ rest)) is e =
+    let front = int_front (core text) (gap ∷ rest) is in
+    let found = named_found (core (gap ∷ rest)) place e in
+    subst (IsDeclared text) found.1 (gap, rest, front.0, front.1, found.0, sym (core_behind gap rest front.1))
+
+declared_found : (text : List ℕ) (place : NamedPlace) → declared_in text ≡ Some place → IsDeclared text place
+unfolding declared_in
+declared_found text place e = declared_behind text place (behind_int (core text)) refl e
+
+declared_read : (text : List ℕ) (place : NamedPlace) → IsDeclared text place → declared_in text ≡ Some place
+unfolding declared_in behind_int
+declared_read text (in_register hart register) is = absurd is
+declared_read text (at_location name) (gap, rest, whole, gap_is, name_is, same) = rw whole (rw (gap_is, core_behind gap rest gap_is, same, name_is) refl)
+
+-- a byte that stands in no name and no gap stands in no declaration
+declared_free : (b : ℕ) → goes_on_name b ≡ false → is_gap b ≡ false → (text : List ℕ) (place : NamedPlace) → IsDeclared text place → NonePass (is_byte b) text
+declared_free b no_name no_gap text (in_register hart register) is = absurd is
+declared_free b no_name no_gap text (at_location name) (gap, rest, whole, gap_is, name_is, same) =
+    none_round b no_gap text (rw whole (
+      other_byte goes_on_name b 105 no_name refl,
+      (
+        other_byte goes_on_name b 110 no_name refl,
+        (
+          other_byte goes_on_name b 116 no_name refl,
+          (other_byte is_gap b gap no_gap gap_is, none_round_name b no_name no_gap rest name same (name_bytes name name_is)),
+        ),
+      ),
+    ))
+
+-- no place is a declaration
+declared_no_place : (text : List ℕ) (place : NamedPlace) → IsDeclared text place → place_in text ≡ None
+unfolding place_in
+declared_no_place text (in_register hart register) is = absurd is
+declared_no_place text (at_location name) (gap, rest, whole, gap_is, name_is, same) =
+    let free = declared_free 58 refl refl text (at_location name) (gap, rest, whole, gap_is, name_is, same) in
+    rw (before_none (is_byte 58) text free, after_none (is_byte 58) text free, whole) (rw (gap_no_name gap gap_is) refl)
+
+-- ---- items
+
+item_place_found : (left : List ℕ) (place : NamedPlace) (declared : Option NamedPlace) → declared_in left ≡ declared → place_or declared (place_in left) ≡ Some place → IsNamedPlace left place ⊎ IsDeclared left place
+item_place_found left place None is e = inl (place_found left place e)
+item_place_found left place (Some other) is e = inr (declared_found left place (is ∙ e))
+
+pub item_found : (text : List ℕ) (put : Put) → item_at text ≡ Some put → IsItem text put
+unfolding item_at item_place_in
+item_found text put e = go (after (is_byte 61) text) refl e
+  where
+    go : (behind : Option (List ℕ)) → after (is_byte 61) text ≡ behind → item_round (before (is_byte 61) text) behind ≡ Some put → IsItem text put
+    go None none h =
+        let told = told_put_found (declared_in (before (is_byte 61) text)) (Some (number 0)) put h in
+        let whole = uncut (is_byte 61) text none in
+        inr (inr (declared_found text put.0 (rw whole at told.0), cc))
+    go (Some right) some h =
+        let left = before (is_byte 61) text in
+        let told = told_put_found (item_place_in left) (value_in right) put h in
+        let whole = cut_byte 61 text right some in
+        let value = value_found right put.1 told.1 in
+        elim (item_place_found left put.0 (declared_in left) refl told.0) [
+          | inl place ↦ inl (left, right, whole, place, value)
+          | inr declared ↦ inr (inl (left, right, whole, declared, value))
+        ]
+
+undeclared : (left : List ℕ) (place : NamedPlace) (declared : Option NamedPlace) → declared_in left ≡ declared → IsNamedPlace left place → place_or declared (place_in left) ≡ Some place
+undeclared left place None is at = place_read left place at
+undeclared left place (Some other) is at =
+    let none = declared_no_place left other (declared_found left other is) in
+    let some = place_read left place at in
+    absurd cc
+
+pub item_read : (text : List ℕ) (put : Put) → IsItem text put → item_at text ≡ Some put
+unfolding item_at item_place_in
+item_read text put (inl (left, right, is, place, value)) =
+    let free = place_free 61 refl refl refl refl refl left put.0 place in
+    rw is (rw (before_stop (is_byte 61) left 61 right free refl, after_stop (is_byte 61) left 61 right free refl, undeclared left put.0 (declared_in left) refl place, value_read right put.1 value) refl)
+item_read text put (inr (inl (left, right, is, declared, value))) =
+    let free = declared_free 61 refl refl left put.0 declared in
+    rw is (rw (before_stop (is_byte 61) left 61 right free refl, after_stop (is_byte 61) left 61 right free refl, declared_read left put.0 declared, value_read right put.1 value) refl)
+item_read text put (inr (inr (declared, zero_is))) =
+    let free = declared_free 61 refl refl text put.0 declared in
+    rw (before_none (is_byte 61) text free, after_none (is_byte 61) text free, declared_read text put.0 declared) (ap (λ (v : Value). Some (put.0, v)) (sym zero_is))
+
+-- ---- what the reader answers
+
+pub found_item : (text : List ℕ) (o : Option Put) → o ≡ item_at text → IfSome o (IsItem text)
+found_item text None e = tt
+found_item text (Some put) e = item_found text put (sym e)

@@ -1,0 +1,90 @@
+-- The numbers that are read are those that stand there, and no name is one.
+use Rattle.std.proofs.Common.{◌≡◌, ℕ, suc, zero, ◌-◌, ◌%◌, ◌^◌, ◌<◌, ◌≤◌, Bool, true, false, ◌==◌, List, [], ◌∷◌, length, drop, Option, Some, None, refl, sym, ap, subst, ◌∙◌, inl, inr, arith}
+use Rattle.std.specs.Prelude.{pos, neg_ℤ, nat_lt, option_map}
+use Rattle.std.proofs.lemmas.Bool.{and_right, ltb-true, lt-ltb, ne_eqb}
+use Rattle.texts.specs.Numbers.{capped, is_hex, is_negative, magnitude_of, integer_of}
+use Rattle.texts.proofs.NumberLaws.{hex_text, no_hex, negative_text, number_said, says_number, hex_number_said, says_hex_number}
+use Rattle.litmus_tokens.specs.Names.{is_name, Counts, IsNumber, word_told, word_read, word_in}
+use Rattle.litmus_tokens.specs.Names.IsNumber.{plain, negated}
+use Rattle.litmus_tokens.proofs.Bytes.{digit_begins_none}
+
+-- ---- without a sign
+
+magnitude_counts : (text : List ℕ) (n : ℕ) → magnitude_of text ≡ Some n → n < 2 ^ 32 → Counts text n
+unfolding magnitude_of
+magnitude_counts text n e small = go (is_hex text) refl
+  where
+    go : (b : Bool) → is_hex text ≡ b → Counts text n
+    go true hex = inr (drop 2 text, hex_text text hex, hex_number_said (drop 2 text) n (rw hex at e) small)
+    go false other = inl (number_said text n (rw other at e) small)
+
+counts_magnitude : (text : List ℕ) (n : ℕ) → Counts text n → n < 2 ^ 32 → magnitude_of text ≡ Some n
+unfolding magnitude_of
+counts_magnitude text n (inl says) small = let same : capped n ≡ n = omega arith in rw (no_hex text says.0.1, says_number text n says, same) refl
+counts_magnitude text n (inr (digits, is, says)) small =
+    let same : capped n ≡ n = omega arith in
+    let long = lt-ltb 1 (suc (suc (length digits))) (omega arith) in
+    rw is (rw (long, says_hex_number digits n says, same) refl)
+
+counts_plain : (text : List ℕ) (n : ℕ) → Counts text n → (is_negative text ≡ false) × (is_name text ≡ false)
+counts_plain [] n (inl says) = (refl, refl)
+counts_plain (a ∷ text) n (inl says) =
+    let range : (48 ≤ a) × (a < 58) = grind (arith, says.0.1.0) in
+    (and_right (nat_lt 0 (length (a ∷ text))) (a == 45) (ne_eqb a 45 (λ same. omega arith)), rw (digit_begins_none a says.0.1.0) refl)
+counts_plain text n (inr (digits, is, says)) = rw is (and_right (nat_lt 0 (suc (suc (length digits)))) false refl, refl)
+
+-- ---- with a sign
+
+-- the word of a number below 0
+below_zero : (n : ℕ) → n ≤ 2 ^ 31 → word_told (neg_ℤ (pos n)) ≡ Some ((2 ^ 32 - n) % 2 ^ 32)
+below_zero zero le = refl
+below_zero (suc n) le =
+    let small : n < 2 ^ 31 = omega arith in
+    let same : 2 ^ 32 - 1 - n ≡ (2 ^ 32 - suc n) % 2 ^ 32 = omega arith in
+    rw (lt-ltb n (2 ^ 31) small) (ap (λ (w : ℕ). Some w) same)
+
+above_least : (n w : ℕ) → word_told (neg_ℤ (pos n)) ≡ Some w → n ≤ 2 ^ 31
+above_least zero w e = omega arith
+above_least (suc n) w e = go (nat_lt n (2 ^ 31)) refl
+  where
+    go : (t : Bool) → nat_lt n (2 ^ 31) ≡ t → suc n ≤ 2 ^ 31
+    go true x = omega (arith, ltb-true n (2 ^ 31) x)
+    go false x = (let never = rw x at e in absurd cc)
+
+some_is : (a b : ℕ) → Some a ≡ Some b → a ≡ b
+some_is a b e = cc
+
+plain_found : (text : List ℕ) (w : ℕ) (m : Option ℕ) → magnitude_of text ≡ m → word_read (option_map pos m) ≡ Some w → IsNumber text w
+plain_found text w None is e = absurd cc
+plain_found text w (Some n) is e = go (nat_lt n (2 ^ 32)) refl
+  where
+    go : (t : Bool) → nat_lt n (2 ^ 32) ≡ t → IsNumber text w
+    go true x =
+        let small = ltb-true n (2 ^ 32) x in
+        let same = some_is n w (rw x at e) in
+        subst (λ (v : ℕ). IsNumber text v) same (plain text n (magnitude_counts text n is small) small)
+    go false x = (let never = rw x at e in absurd cc)
+
+negated_found : (digits : List ℕ) (w : ℕ) (m : Option ℕ) → magnitude_of digits ≡ m → word_read (option_map (λ n. neg_ℤ (pos n)) m) ≡ Some w → IsNumber (45 ∷ digits) w
+negated_found digits w None is e = absurd cc
+negated_found digits w (Some n) is e =
+    let le = above_least n w e in
+    let same = some_is ((2 ^ 32 - n) % 2 ^ 32) w (sym (below_zero n le) ∙ e) in
+    subst (λ (v : ℕ). IsNumber (45 ∷ digits) v) same (negated digits n (magnitude_counts digits n is (omega arith)) le)
+
+pub word_found : (text : List ℕ) (w : ℕ) → word_in text ≡ Some w → IsNumber text w
+unfolding word_in integer_of
+word_found text w e = go (is_negative text) refl
+  where
+    go : (t : Bool) → is_negative text ≡ t → IsNumber text w
+    go true x = subst (λ (s : List ℕ). IsNumber s w) (sym (negative_text text x)) (negated_found (drop 1 text) w (magnitude_of (drop 1 text)) refl (rw x at e))
+    go false x = plain_found text w (magnitude_of text) refl (rw x at e)
+
+pub number_word : (text : List ℕ) (w : ℕ) → IsNumber text w → word_in text ≡ Some w
+unfolding word_in integer_of
+number_word text w (plain digits n counts small) = rw ((counts_plain digits n counts).0, counts_magnitude digits n counts small) (rw (lt-ltb n (2 ^ 32) small) refl)
+number_word text w (negated digits n counts le) = let some = lt-ltb 0 (suc (length digits)) (omega arith) in rw (some, counts_magnitude digits n counts (omega arith)) (below_zero n le)
+
+pub number_no_name : (text : List ℕ) (w : ℕ) → IsNumber text w → is_name text ≡ false
+number_no_name text w (plain digits n counts small) = (counts_plain digits n counts).1
+number_no_name text w (negated digits n counts le) = refl

@@ -1,0 +1,5 @@
+pub mod Cleaning
+pub mod Names
+pub mod Settings
+pub mod Reading
+pub mod Tokens

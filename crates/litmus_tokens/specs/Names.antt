@@ -1,0 +1,55 @@
+-- Names and numbers.
+use Rattle.std.specs.Prelude.{◌≡◌, ℕ, ◌-◌, ◌<◌, ◌≤◌, ◌^◌, ◌%◌, ◌==◌, ℤ, pos, negsuc, Bool, false, not, ◌&&◌, ◌||◌, nat_lt, nat_eq, List, [], ◌∷◌, length, codes, Option, None, Some, if◌then◌else◌, ◌⊎◌}
+use Rattle.std.specs.List.{list_all, starts_with}
+use Rattle.texts.specs.Letters.{is_letter, is_digit}
+use Rattle.texts.specs.Pieces.{is_gap}
+use Rattle.texts.specs.Cutting.{stripped}
+use Rattle.texts.specs.Numbers.{Says, SaysInHex, integer_of}
+
+-- What is left of a text without the blanks and LFs round it. A CR that ends a line is a space in a
+-- cleaned text, and another one is no blank.
+abbrev pub core : List ℕ → List ℕ
+core text = stripped is_gap text
+
+-- a letter or `_`
+abbrev pub begins_name : ℕ → Bool
+begins_name c = is_letter c || (c == 95)
+
+abbrev pub goes_on_name : ℕ → Bool
+goes_on_name c = begins_name c || is_digit c
+
+-- a letter or `_`, and then letters, digits and `_`
+abbrev pub is_spelled : List ℕ → Bool
+is_spelled [] = false
+is_spelled (c ∷ rest) = begins_name c && list_all goes_on_name (c ∷ rest)
+
+abbrev pub is_not : List ℕ → Bool
+is_not text = starts_with nat_eq text (codes "not") && (length text == 3)
+
+-- `not` is a token of conditions, and never a name
+abbrev pub is_name : List ℕ → Bool
+is_name text = is_spelled text && not (is_not text)
+
+-- ---- numbers
+
+-- decimal digits, or `0x` (48, 120) and hex digits
+abbrev pub Counts : List ℕ → ℕ → Type 0
+Counts text n = Says text n ⊎ ((digits : List ℕ) × (text ≡ 48 ∷ 120 ∷ digits) × SaysInHex digits n)
+
+-- A number's text and the word for which it stands, which is the number modulo 2^32; `-` is 45.
+pub data IsNumber : List ℕ → ℕ → Type 0 where
+  plain : (digits : List ℕ) (n : ℕ) → Counts digits n → n < 2 ^ 32 → IsNumber digits n
+  negated : (digits : List ℕ) (n : ℕ) → Counts digits n → n ≤ 2 ^ 31 → IsNumber (45 ∷ digits) ((2 ^ 32 - n) % 2 ^ 32)
+
+-- ---- numbers, as they are read
+
+abbrev pub word_told : ℤ → Option ℕ
+word_told (pos n) = if nat_lt n (2 ^ 32) then Some n else None
+word_told (negsuc n) = if nat_lt n (2 ^ 31) then Some (2 ^ 32 - 1 - n) else None
+
+abbrev pub word_read : Option ℤ → Option ℕ
+word_read None = None
+word_read (Some n) = word_told n
+
+unfoldable pub word_in : List ℕ → Option ℕ
+word_in text = word_read (integer_of text)

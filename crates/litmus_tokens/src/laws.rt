@@ -1,0 +1,18 @@
+//! Laws of the grammars.
+
+ghost use Rattle.std.specs.Prelude.{◌≡◌, ℕ, List};
+ghost use Rattle.litmus_tokens.specs.Settings.{Put, IsSetting, IsItem};
+ghost use Rattle.litmus_tokens.specs.Tokens.{Token, AreTokens, tokens_of, listed};
+
+/// A text says one setting at most, and an item too. It does nothing.
+pub fn one_value()
+    ensures settings { (text : List ℕ) → (a b : Put) → IsSetting text a → IsSetting text b → a ≡ b }
+    ensures items { (text : List ℕ) → (a b : Put) → IsItem text a → IsItem text b → a ≡ b }
+{}
+
+/// The tokens that a text has up to its end are the tokens that it spells. It does nothing.
+#[tactic(auto, using(crate::proofs::Spelling::are_tokens, crate::proofs::Spelling::tokens_are))]
+pub fn tokens_are_spelled()
+    ensures found { (text : List ℕ) → (tokens : List Token) → tokens_of text ≡ listed tokens → AreTokens text tokens }
+    ensures only { (text : List ℕ) → (tokens : List Token) → AreTokens text tokens → tokens_of text ≡ listed tokens }
+{}

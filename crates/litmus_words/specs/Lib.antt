@@ -1,5 +1,0 @@
-pub mod Cleaning
-pub mod Names
-pub mod Settings
-pub mod Reading
-pub mod Words
