@@ -1,6 +1,6 @@
 pub mod CleaningLaws
 pub mod CommentLaws
-pub mod WordLaws
+pub mod TokenLaws
 pub mod Bytes
 pub mod NumberTexts
 pub mod SettingLaws

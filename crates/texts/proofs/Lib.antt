@@ -3,4 +3,4 @@ pub mod NumberLaws
 pub mod ResultLaws
 pub mod CuttingLaws
 pub mod TrimLaws
-pub mod WordLaws
+pub mod TokenLaws
