@@ -1,5 +1,5 @@
 -- What answers a schedule and lists of words.
-use Rattle.std.proofs.Common.{◌≡◌, ℕ, Bool, List, [], refl, Result, Ok, Err, inl, inr}
+use Rattle.std.proofs.Common.{◌≡◌, ℕ, Bool, List, [], refl, Result, Ok, Err}
 use Rattle.std.specs.Prelude.{Option, Some, None}
 use Rattle.step_machine.specs.declared.events.Event.{Event}
 use Rattle.poll_close.specs.Laws.{Ring}
@@ -12,6 +12,7 @@ use Rattle.ztso_engines.specs.declared.fault.Refusal.{Refusal}
 use Rattle.ztso_engines.specs.Engines.{OfInput, AnswersBoth}
 use Rattle.ztso_engines.specs.Schedules.{IsNoSchedule}
 use Rattle.ztso_engines.specs.Channels.{told_as, HasNoChannel, IsDelivery, IsChannelAnswer}
+use Rattle.ztso_engines.specs.Channels.IsChannelAnswer.{no_schedule, no_lists, no_channel, delivered}
 use Rattle.ztso_engines.specs.inner.Making.{Finds, FindsBy}
 use Rattle.ztso_engines.specs.inner.Inputs.{IsReadAsSchedule, IsReadAsLists}
 use Rattle.ztso_engines.proofs.Endings.{weaker}
@@ -24,41 +25,41 @@ module _ (ring : Ring) (B M size : ℕ) (finish : Bool) (first second : Option (
   Answers = AnswersBoth (IsChannelAnswer ring B M size finish) first second
 
   -- both were read, and the lists are a channel's
-  pub delivered : (events : List Event) (lists : List (List ℕ)) (answer : Answer) → OfInput first (λ bytes. IsReadAsSchedule bytes (Ok events)) → OfInput second (λ bytes. IsReadAsLists bytes (Ok lists)) → IsDelivery ring B M size finish events lists answer → Answers (Ok answer)
-  delivered events lists answer schedule input is =
-      weaker first _ _ (λ text said. weaker second _ _ (λ words told. (events, said, (lists, told, is))) input) schedule
+  pub answers_delivered : (events : List Event) (lists : List (List ℕ)) (answer : Answer) → OfInput first (λ bytes. IsReadAsSchedule bytes (Ok events)) → OfInput second (λ bytes. IsReadAsLists bytes (Ok lists)) → IsDelivery ring B M size finish events lists answer → Answers (Ok answer)
+  answers_delivered events lists answer schedule input is =
+      weaker first _ _ (λ text said. weaker second _ _ (λ words told. delivered events lists answer said told is) input) schedule
 
   -- the schedule is refused, whatever the second input is
-  no_schedule : (refusal : Refusal) → OfInput first (λ bytes. IsNoSchedule bytes refusal) → Answers (Err refusal)
-  no_schedule refusal none = weaker first _ _ (λ text bad. any second text bad) none
+  answers_no_schedule : (refusal : Refusal) → OfInput first (λ bytes. IsNoSchedule bytes refusal) → Answers (Err refusal)
+  answers_no_schedule refusal none = weaker first _ _ (λ text bad. any second text bad) none
     where
       any : (known : Option (List ℕ)) (text : List ℕ) → IsNoSchedule text refusal → OfInput known (λ words. IsChannelAnswer ring B M size finish text words (Err refusal))
-      any None text bad = ([], inl bad)
-      any (Some words) text bad = inl bad
+      any None text bad = ([], no_schedule refusal bad)
+      any (Some words) text bad = no_schedule refusal bad
 
-  no_lists : (events : List Event) (refusal : Refusal) → OfInput first (λ bytes. IsReadAsSchedule bytes (Ok events)) → OfInput second (λ bytes. IsReadAsLists bytes (Err refusal)) → Answers (Err refusal)
-  no_lists events refusal schedule none = weaker first _ _ (λ text said. weaker second _ _ (λ words bad. inr (events, said, inl bad)) none) schedule
+  answers_no_lists : (events : List Event) (refusal : Refusal) → OfInput first (λ bytes. IsReadAsSchedule bytes (Ok events)) → OfInput second (λ bytes. IsReadAsLists bytes (Err refusal)) → Answers (Err refusal)
+  answers_no_lists events refusal schedule none = weaker first _ _ (λ text said. weaker second _ _ (λ words bad. no_lists events refusal said bad) none) schedule
 
-  no_channel : (events : List Event) (lists : List (List ℕ)) (refusal : Refusal) → OfInput first (λ bytes. IsReadAsSchedule bytes (Ok events)) → OfInput second (λ bytes. IsReadAsLists bytes (Ok lists)) → HasNoChannel ring M size lists refusal → Answers (Err refusal)
-  no_channel events lists refusal schedule input none = weaker first _ _ (λ text said. weaker second _ _ (λ words told. inr (events, said, inr (lists, told, none))) input) schedule
+  answers_no_channel : (events : List Event) (lists : List (List ℕ)) (refusal : Refusal) → OfInput first (λ bytes. IsReadAsSchedule bytes (Ok events)) → OfInput second (λ bytes. IsReadAsLists bytes (Ok lists)) → HasNoChannel ring M size lists refusal → Answers (Err refusal)
+  answers_no_channel events lists refusal schedule input none = weaker first _ _ (λ text said. weaker second _ _ (λ words told. no_channel events lists refusal said told none) input) schedule
 
   -- ---- faults on the way
 
   pub schedule_fault : {X Y : Type 0} (seen : X → Answer) (view : Y → List Event) (result : Result X Fault) (fault : Fault) → result ≡ Err fault → FindsBy IsReadAsSchedule view first (Err fault) → Finds Answers seen result
-  schedule_fault seen view result (Refused r) is finds = rw is (no_schedule r finds)
+  schedule_fault seen view result (Refused r) is finds = rw is (answers_no_schedule r finds)
   schedule_fault seen view result NoMemory is finds = rw is tt
   schedule_fault seen view result ReadFailed is finds = rw is tt
   schedule_fault seen view result WriteFailed is finds = rw is finds
 
   pub lists_fault : {X Y : Type 0} (seen : X → Answer) (view : Y → List (List ℕ)) (events : List Event) (result : Result X Fault) (fault : Fault) → result ≡ Err fault → OfInput first (λ bytes. IsReadAsSchedule bytes (Ok events)) → FindsBy IsReadAsLists view second (Err fault) → Finds Answers seen result
-  lists_fault seen view events result (Refused r) is schedule finds = rw is (no_lists events r schedule finds)
+  lists_fault seen view events result (Refused r) is schedule finds = rw is (answers_no_lists events r schedule finds)
   lists_fault seen view events result NoMemory is schedule finds = rw is tt
   lists_fault seen view events result ReadFailed is schedule finds = rw is tt
   lists_fault seen view events result WriteFailed is schedule finds = rw is finds
 
   refused_for : {X : Type 0} (seen : X → Answer) (events : List Event) (lists : List (List ℕ)) (result : Result X Fault) (because : Why) (refusal : Refusal) → result ≡ Err (Refused refusal) → told_as because ≡ Refused refusal → OfInput first (λ bytes. IsReadAsSchedule bytes (Ok events)) → OfInput second (λ bytes. IsReadAsLists bytes (Ok lists))
       → Refuses ring M lists size because → Finds Answers seen result
-  refused_for seen events lists result because refusal is told schedule input refuses = rw is (no_channel events lists refusal schedule input (because, refuses, told))
+  refused_for seen events lists result because refusal is told schedule input refuses = rw is (answers_no_channel events lists refusal schedule input (because, refuses, told))
 
   pub channel_fault : {X : Type 0} (seen : X → Answer) (events : List Event) (lists : List (List ℕ)) (result : Result X Fault) (because : Why) (fault : Fault) → result ≡ Err fault → fault ≡ told_as because → OfInput first (λ bytes. IsReadAsSchedule bytes (Ok events)) → OfInput second (λ bytes. IsReadAsLists bytes (Ok lists))
       → Refuses ring M lists size because → Finds Answers seen result

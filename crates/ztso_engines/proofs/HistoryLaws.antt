@@ -1,5 +1,5 @@
 -- What is told of the history of a litmus text and a schedule.
-use Rattle.std.proofs.Common.{◌≡◌, ℕ, List, [], Result, Ok, Err, refl, subst, inl, inr}
+use Rattle.std.proofs.Common.{◌≡◌, ℕ, List, [], Result, Ok, Err, refl, subst}
 use Rattle.std.specs.Prelude.{Option, Some, None}
 use Rattle.step_machine.specs.History.{History}
 use Rattle.step_machine.specs.Runs.{Run}
@@ -11,6 +11,7 @@ use Rattle.ztso_engines.specs.declared.fault.Refusal.{Refusal}
 use Rattle.ztso_engines.specs.Engines.{OfInput, AnswersBoth}
 use Rattle.ztso_engines.specs.Tests.{IsNoTest}
 use Rattle.ztso_engines.specs.Histories.{ByBoth, ByRun, IsOfRun}
+use Rattle.ztso_engines.specs.Histories.ByBoth.{no_test, no_schedule, ran}
 use Rattle.ztso_engines.specs.inner.Making.{Finds, FindsBy}
 use Rattle.ztso_engines.specs.inner.Inputs.{IsReadAsTest, IsReadAsSchedule, IsItself}
 use Rattle.ztso_engines.proofs.Endings.{weaker}
@@ -23,20 +24,20 @@ module _ (first second : Option (List ℕ)) where
   -- both were read
   pub both_read : {A : Type 0} (IsTold : Question → List Event → A → Type 0) (question : Question) (events : List Event) (answer : A) → OfInput first (λ bytes. IsReadAsTest bytes (Ok question)) → OfInput second (λ bytes. IsReadAsSchedule bytes (Ok events)) → IsTold question events answer
       → AnswersBoth (ByBoth IsTold) first second (Ok answer)
-  both_read IsTold question events answer test schedule told = weaker first _ _ (λ file is. weaker second _ _ (λ text said. (question, is, (events, said, told))) schedule) test
+  both_read IsTold question events answer test schedule told = weaker first _ _ (λ file is. weaker second _ _ (λ text said. ran question events answer is said told) schedule) test
 
   -- the first was refused
   first_refused : {A : Type 0} (IsTold : Question → List Event → A → Type 0) (refusal : Refusal) → OfInput first (λ bytes. IsNoTest bytes refusal) → AnswersBoth (ByBoth IsTold) first second (Err refusal)
   first_refused IsTold refusal none = weaker first _ _ (λ file bad. any second file bad) none
     where
       any : (known : Option (List ℕ)) (file : List ℕ) → IsNoTest file refusal → OfInput known (λ text. ByBoth IsTold file text (Err refusal))
-      any None file bad = ([], inl bad)
-      any (Some text) file bad = inl bad
+      any None file bad = ([], no_test refusal bad)
+      any (Some text) file bad = no_test refusal bad
 
   -- the second was
   second_refused : {A : Type 0} (IsTold : Question → List Event → A → Type 0) (question : Question) (refusal : Refusal) → OfInput first (λ bytes. IsReadAsTest bytes (Ok question)) → OfInput second (λ bytes. IsReadAsSchedule bytes (Err refusal))
       → AnswersBoth (ByBoth IsTold) first second (Err refusal)
-  second_refused IsTold question refusal test none = weaker first _ _ (λ file is. weaker second _ _ (λ text bad. inr (question, is, bad)) none) test
+  second_refused IsTold question refusal test none = weaker first _ _ (λ file is. weaker second _ _ (λ text bad. no_schedule question refusal is bad) none) test
 
   -- a fault in reading the first or the second
   pub test_fault : {A X Y : Type 0} (IsTold : Question → List Event → A → Type 0) (seen : X → A) (view : Y → Question) (result : Result X Fault) (fault : Fault) → result ≡ Err fault → FindsBy IsReadAsTest view first (Err fault) → Finds (AnswersBoth (ByBoth IsTold) first second) seen result
@@ -63,7 +64,5 @@ module _ (B M : ℕ) (first second : Option (List ℕ)) where
   told_of_run IsTold question history answer run told = weaker_both first second (ByRun B M IsItself) (ByRun B M IsTold) (Ok (question, history)) (Ok answer) more run
     where
       more : (file schedule : List ℕ) → ByRun B M IsItself file schedule (Ok (question, history)) → ByRun B M IsTold file schedule (Ok answer)
-      more file schedule by =
-          let run = by.2.2 in
-          let is = run.told in
-          (by.0, by.1, (by.2.0, by.2.1, record { history = run.history; ran = run.ran; told = subst (λ (p : Question × History). IsTold p.0 p.1 answer) is told }))
+      more file schedule (ran asked events known test read run) =
+          ran asked events answer test read (record { history = run.history; ran = run.ran; told = subst (λ (p : Question × History). IsTold p.0 p.1 answer) run.told told })

@@ -21,6 +21,7 @@ use Rattle.ztso_engines.specs.inner.Making.{Finds, IsEndOf, text_and_value}
 use Rattle.ztso_engines.specs.inner.Talking.{IsFailure, IsSetOut}
 use Rattle.ztso_engines.specs.Engines.{AnswersBoth}
 use Rattle.ztso_engines.specs.Histories.{ByBoth}
+use Rattle.ztso_engines.specs.Histories.ByBoth.{no_test, no_schedule, ran}
 use Rattle.ztso_engines.proofs.HistoryLaws.{weaker_both}
 
 -- ---- the first line of an input, which ends through its first LF
@@ -157,7 +158,7 @@ module _ (B M : ℕ) (first second input : Option (List ℕ)) {W : Type 0} (cont
   talked (Ok x) walk old new set told failed = (told.0, weaker_both first second (ByBoth IsSetOut) (IsDebugAnswer B M input) (Ok walk) (Ok (told.0, x)) more set, told.1)
     where
       more : (file schedule : List ℕ) → ByBoth IsSetOut file schedule (Ok walk) → IsDebugAnswer B M input file schedule (Ok (told.0, x))
-      more file schedule by = (by.0, by.1, (by.2.0, by.2.1, subst (λ (w : Way). Prints B M input w [] told.0) by.2.2 told.2))
+      more file schedule (ran question events known test read set) = ran question events (told.0, x) test read (subst (λ (w : Way). Prints B M input w [] told.0) set told.2)
   talked (Err (Refused refusal)) walk old new set told failed = absurd failed
   talked (Err ReadFailed) walk old new set told failed = tt
   talked (Err WriteFailed) walk old new set told failed = tt
@@ -165,7 +166,11 @@ module _ (B M : ℕ) (first second input : Option (List ℕ)) {W : Type 0} (cont
 
   -- and so does a fault before it begins
   pub not_begun : {X : Type 0} (view : X → Way) (result : Result (Unit {0}) Fault) (fault : Fault) (old : W) → result ≡ Err fault → Finds (AnswersBoth (ByBoth IsSetOut) first second) view (Err fault) → EndsAloud (AnswersBoth (IsDebugAnswer B M input) first second) result contents old old
-  not_begun view result (Refused refusal) old is finds = rw is (finds, refl)
+  not_begun view result (Refused refusal) old is finds = rw is (weaker_both first second (ByBoth IsSetOut) (IsDebugAnswer B M input) (Err refusal) (Err refusal) same finds, refl)
+    where
+      same : (file schedule : List ℕ) → ByBoth IsSetOut file schedule (Err refusal) → IsDebugAnswer B M input file schedule (Err refusal)
+      same file schedule (no_test r bad) = no_test r bad
+      same file schedule (no_schedule question r test bad) = no_schedule question r test bad
   not_begun view result ReadFailed old is finds = rw is tt
   not_begun view result WriteFailed old is finds = rw is tt
   not_begun view result NoMemory old is finds = rw is tt

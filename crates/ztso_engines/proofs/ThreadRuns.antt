@@ -19,6 +19,7 @@ use Rattle.ztso_engines.specs.declared.fault.Refusal.{Refusal}
 use Rattle.ztso_engines.specs.Faults.{AnswersAs}
 use Rattle.ztso_engines.specs.Engines.{Accepted, OfInput}
 use Rattle.ztso_engines.specs.Tests.{ByTest}
+use Rattle.ztso_engines.specs.Tests.ByTest.{no_test, of_test}
 use Rattle.ztso_engines.specs.inner.Making.{FindsBy}
 use Rattle.ztso_engines.specs.inner.Inputs.{IsReadAsTest}
 use Rattle.ztso_engines.proofs.Endings.{weaker}
@@ -39,15 +40,15 @@ of_64 o evs es each of few =
 module _ {X A : Type 0} (IsAnswer : Question → Result A Refusal → Type 0) (view : X → A) (known : Option (List ℕ)) where
   -- what answers the test that was read
   pub by_test : (question : Question) (result : Result X Fault) → OfInput known (λ bytes. Accepted IsTestOf bytes question) → AnswersAs (IsAnswer question) view result → FindsBy (ByTest IsAnswer) view known result
-  by_test question (Ok x) read answers = weaker known _ _ (λ bytes accepted. (question, accepted, answers)) read
-  by_test question (Err (Refused r)) read answers = weaker known _ _ (λ bytes accepted. inr (question, accepted, answers)) read
+  by_test question (Ok x) read answers = weaker known _ _ (λ bytes accepted. of_test question _ accepted answers) read
+  by_test question (Err (Refused r)) read answers = weaker known _ _ (λ bytes accepted. of_test question _ accepted answers) read
   by_test question (Err NoMemory) read answers = tt
   by_test question (Err ReadFailed) read answers = tt
   by_test question (Err WriteFailed) read answers = answers
 
   -- no test was read
   pub by_no_test : (fault : Fault) → FindsBy IsReadAsTest (λ (q : Question). q) known (Err fault) → FindsBy (ByTest IsAnswer) view known (Err fault)
-  by_no_test (Refused r) read = weaker known _ _ (λ bytes bad. inl bad) read
+  by_no_test (Refused r) read = weaker known _ _ (λ bytes bad. no_test r bad) read
   by_no_test NoMemory read = tt
   by_no_test ReadFailed read = tt
   by_no_test WriteFailed read = read

@@ -1,5 +1,5 @@
 -- The command `channel`: a schedule and the senders' lists in, what the receiver reports out.
-use Rattle.std.specs.Prelude.{ℕ, ◌≡◌, ◌⊎◌, Bool, true, false, List, [], ◌∷◌, ◌++◌, Result, Ok, Err, codes}
+use Rattle.std.specs.Prelude.{ℕ, ◌≡◌, Bool, true, false, List, [], ◌∷◌, ◌++◌, Result, Ok, Err, codes}
 use Rattle.std.specs.Fmt.{decimal}
 use Rattle.std.specs.List.{flat_map}
 use Rattle.hart.specs.declared.need.Report.{Report}
@@ -58,8 +58,8 @@ abbrev pub IsNoLists : List ℕ → Refusal → Type 0
 IsNoLists input refusal = judged lists_at input ≡ Err refusal
 
 -- What answers a schedule and lists. The schedule is judged first, then the text of lists, then the lists.
-abbrev pub IsChannelAnswer : Ring → (B M size : ℕ) → (finish : Bool) → (schedule input : List ℕ) → Result (List ℕ × Unit {0}) Refusal → Type 0
-IsChannelAnswer ring B M size finish schedule input (Ok answer) =
-    (events : List Event) × Accepted IsScheduleOf schedule events × ((lists : List (List ℕ)) × Accepted SaysLists input lists × IsDelivery ring B M size finish events lists answer)
-IsChannelAnswer ring B M size finish schedule input (Err refusal) =
-    IsNoSchedule schedule refusal ⊎ ((events : List Event) × Accepted IsScheduleOf schedule events × (IsNoLists input refusal ⊎ ((lists : List (List ℕ)) × Accepted SaysLists input lists × HasNoChannel ring M size lists refusal)))
+pub data IsChannelAnswer (ring : Ring) (B M size : ℕ) (finish : Bool) (schedule input : List ℕ) : Result (List ℕ × Unit {0}) Refusal → Type 0 where
+  no_schedule : (refusal : Refusal) → IsNoSchedule schedule refusal → IsChannelAnswer ring B M size finish schedule input (Err refusal)
+  no_lists : (events : List Event) (refusal : Refusal) → Accepted IsScheduleOf schedule events → IsNoLists input refusal → IsChannelAnswer ring B M size finish schedule input (Err refusal)
+  no_channel : (events : List Event) (lists : List (List ℕ)) (refusal : Refusal) → Accepted IsScheduleOf schedule events → Accepted SaysLists input lists → HasNoChannel ring M size lists refusal → IsChannelAnswer ring B M size finish schedule input (Err refusal)
+  delivered : (events : List Event) (lists : List (List ℕ)) (answer : List ℕ × Unit {0}) → Accepted IsScheduleOf schedule events → Accepted SaysLists input lists → IsDelivery ring B M size finish events lists answer → IsChannelAnswer ring B M size finish schedule input (Ok answer)

@@ -1,12 +1,15 @@
 -- What answers a litmus text and a schedule, by the history that they make.
-use Rattle.std.specs.Prelude.{ℕ, List, Result}
+use Rattle.std.specs.Prelude.{ℕ, List, Result, Ok, Err}
 use Rattle.step_machine.specs.History.{History}
 use Rattle.step_machine.specs.Runs.{Run}
 use Rattle.step_machine.specs.declared.events.Event.{Event}
 use Rattle.litmus.specs.Questions.{Question}
+use Rattle.litmus_reader.specs.Grammar.{IsTestOf}
+use Rattle.recorder.specs.Schedule.{IsScheduleOf}
 use Rattle.ztso_engines.specs.declared.fault.Refusal.{Refusal}
-use Rattle.ztso_engines.specs.Tests.{ByTest}
-use Rattle.ztso_engines.specs.Schedules.{BySchedule}
+use Rattle.ztso_engines.specs.Engines.{Accepted}
+use Rattle.ztso_engines.specs.Tests.{IsNoTest}
+use Rattle.ztso_engines.specs.Schedules.{IsNoSchedule}
 
 -- This is told of the history that the events make of the test's opening, over store buffers of B pairs
 -- and a memory of M words.
@@ -15,10 +18,12 @@ pub record IsOfRun {A : Type 0} (B M : ℕ) (IsTold : Question → History → A
   pub ran : Run B M question.opening events history
   pub told : IsTold question history answer
 
--- What answers a litmus text and a schedule: what is told of their test and events, else the refusal of
--- the first fault. The test is judged first.
-abbrev pub ByBoth : {A : Type 0} → (Question → List Event → A → Type 0) → (file schedule : List ℕ) → Result A Refusal → Type 0
-ByBoth IsTold file schedule answer = ByTest (λ question given. BySchedule (IsTold question) schedule given) file answer
+-- What answers a litmus text and a schedule, where this is told of their test and events. The test is
+-- judged first.
+pub data ByBoth {A : Type 0} (IsTold : Question → List Event → A → Type 0) (file schedule : List ℕ) : Result A Refusal → Type 0 where
+  no_test : (refusal : Refusal) → IsNoTest file refusal → ByBoth IsTold file schedule (Err refusal)
+  no_schedule : (question : Question) (refusal : Refusal) → Accepted IsTestOf file question → IsNoSchedule schedule refusal → ByBoth IsTold file schedule (Err refusal)
+  ran : (question : Question) (events : List Event) (answer : A) → Accepted IsTestOf file question → Accepted IsScheduleOf schedule events → IsTold question events answer → ByBoth IsTold file schedule (Ok answer)
 
 -- the same where it is told of their history
 abbrev pub ByRun : {A : Type 0} → (B M : ℕ) → (Question → History → A → Type 0) → (file schedule : List ℕ) → Result A Refusal → Type 0

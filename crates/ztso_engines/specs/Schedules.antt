@@ -28,9 +28,3 @@ IsNoSchedule input refusal = judged events_of input ≡ Err refusal
 -- a reader's bytes are known, and refused as a schedule
 abbrev pub HasNoSchedule : (input : Option (List ℕ)) → Type 0
 HasNoSchedule input = IsSomeAnd input (λ bytes. (refusal : Refusal) × IsNoSchedule bytes refusal)
-
--- What answers an input that is to be a schedule: what answers its events, else the refusal for its
--- first fault.
-abbrev pub BySchedule : {A : Type 0} → (List Event → A → Type 0) → List ℕ → Result A Refusal → Type 0
-BySchedule IsAnswer input (Ok answer) = (events : List Event) × Accepted IsScheduleOf input events × IsAnswer events answer
-BySchedule IsAnswer input (Err refusal) = IsNoSchedule input refusal

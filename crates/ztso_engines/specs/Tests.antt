@@ -1,5 +1,5 @@
 -- Inputs that are litmus texts.
-use Rattle.std.specs.Prelude.{ℕ, ◌≡◌, ◌⊎◌, List, Option, IsSomeAnd, Result, Ok, Err}
+use Rattle.std.specs.Prelude.{ℕ, ◌≡◌, List, Option, IsSomeAnd, Result, Ok, Err}
 use Rattle.texts.specs.Results.{map_err}
 use Rattle.litmus.specs.Questions.{Question}
 use Rattle.litmus_reader.specs.declared.faults.LitmusFault.{LitmusFault}
@@ -26,7 +26,7 @@ IsNoTest input refusal = (line : ℕ) × (judged (test_of line) input ≡ Err re
 abbrev pub HasNoTest : (input : Option (List ℕ)) → Type 0
 HasNoTest input = IsSomeAnd input (λ bytes. (refusal : Refusal) × IsNoTest bytes refusal)
 
--- What answers an input that is to be a test: what answers its test, else why it is none.
-abbrev pub ByTest : {A : Type 0} → (Question → Result A Refusal → Type 0) → List ℕ → Result A Refusal → Type 0
-ByTest IsAnswer input (Ok answer) = (question : Question) × Accepted IsTestOf input question × IsAnswer question (Ok answer)
-ByTest IsAnswer input (Err refusal) = IsNoTest input refusal ⊎ ((question : Question) × Accepted IsTestOf input question × IsAnswer question (Err refusal))
+-- What answers an input that is to be a test.
+pub data ByTest {A : Type 0} (IsAnswer : Question → Result A Refusal → Type 0) (input : List ℕ) : Result A Refusal → Type 0 where
+  no_test : (refusal : Refusal) → IsNoTest input refusal → ByTest IsAnswer input (Err refusal)
+  of_test : (question : Question) (answer : Result A Refusal) → Accepted IsTestOf input question → IsAnswer question answer → ByTest IsAnswer input answer

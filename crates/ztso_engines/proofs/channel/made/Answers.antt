@@ -5,7 +5,7 @@ use Rattle.std.specs.String.{string_bytes}
 use Rattle.std.proofs.lemmas.Result.{err_from_is_err_and}
 use Rattle.step_machine.specs.declared.events.Event.{Event}
 use Rattle.ztso_engines.specs.Channels.{report_line}
-use Rattle.ztso_engines.proofs.ChannelLaws.{delivered, schedule_fault, lists_fault, channel_fault}
+use Rattle.ztso_engines.proofs.ChannelLaws.{answers_delivered, schedule_fault, lists_fault, channel_fault}
 use Rattle.ztso_engines.proofs.channel.made.Goals as goal
 
 pub returns-in_err-events-clause-made : goal.returns-in_err-events-clause-made
@@ -26,7 +26,7 @@ returns-in_err-reports-clause-made g c =
 
 pub returns-clause-made : goal.returns-clause-made
 returns-clause-made g c =
-    delivered g.K.RingKind.ring g.row.B g.row.M c.args.ring c.args.finish _ _ c.in_ok-events.events.items (map (λ (list : Vec ℕ). list.items) c.in_ok-lists.lists.items) (string_bytes c.in_ok-text.text, tt) c.in_ok-events.ensures.events c.in_ok-lists.ensures
+    answers_delivered g.K.RingKind.ring g.row.B g.row.M c.args.ring c.args.finish _ _ c.in_ok-events.events.items (map (λ (list : Vec ℕ). list.items) c.in_ok-lists.lists.items) (string_bytes c.in_ok-text.text, tt) c.in_ok-events.ensures.events c.in_ok-lists.ensures
     (record {
       within = rw c.deref.ensures.value at c.in_ok-reports.ensures.accepted;
       reports = c.in_ok-reports.reports.items;
