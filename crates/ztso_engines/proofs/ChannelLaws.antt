@@ -9,7 +9,7 @@ use Rattle.poll_close.specs.declared.faults.Refused.TheVariants as why
 use Rattle.ztso_engines.specs.declared.fault.Fault.{Fault}
 use Rattle.ztso_engines.specs.declared.fault.Fault.TheVariants.{ReadFailed, WriteFailed, NoMemory, Refused}
 use Rattle.ztso_engines.specs.declared.fault.Refusal.{Refusal}
-use Rattle.ztso_engines.specs.Engines.{OfInput, AnswersBoth}
+use Rattle.ztso_engines.specs.Engines.{Output, OfInput, AnswersBoth}
 use Rattle.ztso_engines.specs.Schedules.{IsNoSchedule}
 use Rattle.ztso_engines.specs.Channels.{told_as, HasNoChannel, IsDelivery, IsChannelAnswer}
 use Rattle.ztso_engines.specs.Channels.IsChannelAnswer.{no_schedule, no_lists, no_channel, delivered}
@@ -17,15 +17,12 @@ use Rattle.ztso_engines.specs.inner.Making.{Finds, FindsBy}
 use Rattle.ztso_engines.specs.inner.Inputs.{IsReadAsSchedule, IsReadAsLists}
 use Rattle.ztso_engines.proofs.Endings.{weaker}
 
-abbrev Answer : Type 0
-Answer = List ℕ × Unit {0}
-
 module _ (ring : Ring) (B M size : ℕ) (finish : Bool) (first second : Option (List ℕ)) where
-  abbrev Answers : Result Answer Refusal → Type 0
+  abbrev Answers : Result Output Refusal → Type 0
   Answers = AnswersBoth (IsChannelAnswer ring B M size finish) first second
 
   -- both were read, and the lists are a channel's
-  pub answers_delivered : (events : List Event) (lists : List (List ℕ)) (answer : Answer) → OfInput first (λ bytes. IsReadAsSchedule bytes (Ok events)) → OfInput second (λ bytes. IsReadAsLists bytes (Ok lists)) → IsDelivery ring B M size finish events lists answer → Answers (Ok answer)
+  pub answers_delivered : (events : List Event) (lists : List (List ℕ)) (answer : Output) → OfInput first (λ bytes. IsReadAsSchedule bytes (Ok events)) → OfInput second (λ bytes. IsReadAsLists bytes (Ok lists)) → IsDelivery ring B M size finish events lists answer → Answers (Ok answer)
   answers_delivered events lists answer schedule input is =
       weaker first _ _ (λ text said. weaker second _ _ (λ words told. delivered events lists answer said told is) input) schedule
 
@@ -45,23 +42,23 @@ module _ (ring : Ring) (B M size : ℕ) (finish : Bool) (first second : Option (
 
   -- ---- faults on the way
 
-  pub schedule_fault : {X Y : Type 0} (seen : X → Answer) (view : Y → List Event) (result : Result X Fault) (fault : Fault) → result ≡ Err fault → FindsBy IsReadAsSchedule view first (Err fault) → Finds Answers seen result
+  pub schedule_fault : {X Y : Type 0} (seen : X → Output) (view : Y → List Event) (result : Result X Fault) (fault : Fault) → result ≡ Err fault → FindsBy IsReadAsSchedule view first (Err fault) → Finds Answers seen result
   schedule_fault seen view result (Refused r) is finds = rw is (answers_no_schedule r finds)
   schedule_fault seen view result NoMemory is finds = rw is tt
   schedule_fault seen view result ReadFailed is finds = rw is tt
   schedule_fault seen view result WriteFailed is finds = rw is finds
 
-  pub lists_fault : {X Y : Type 0} (seen : X → Answer) (view : Y → List (List ℕ)) (events : List Event) (result : Result X Fault) (fault : Fault) → result ≡ Err fault → OfInput first (λ bytes. IsReadAsSchedule bytes (Ok events)) → FindsBy IsReadAsLists view second (Err fault) → Finds Answers seen result
+  pub lists_fault : {X Y : Type 0} (seen : X → Output) (view : Y → List (List ℕ)) (events : List Event) (result : Result X Fault) (fault : Fault) → result ≡ Err fault → OfInput first (λ bytes. IsReadAsSchedule bytes (Ok events)) → FindsBy IsReadAsLists view second (Err fault) → Finds Answers seen result
   lists_fault seen view events result (Refused r) is schedule finds = rw is (answers_no_lists events r schedule finds)
   lists_fault seen view events result NoMemory is schedule finds = rw is tt
   lists_fault seen view events result ReadFailed is schedule finds = rw is tt
   lists_fault seen view events result WriteFailed is schedule finds = rw is finds
 
-  refused_for : {X : Type 0} (seen : X → Answer) (events : List Event) (lists : List (List ℕ)) (result : Result X Fault) (because : Why) (refusal : Refusal) → result ≡ Err (Refused refusal) → told_as because ≡ Refused refusal → OfInput first (λ bytes. IsReadAsSchedule bytes (Ok events)) → OfInput second (λ bytes. IsReadAsLists bytes (Ok lists))
+  refused_for : {X : Type 0} (seen : X → Output) (events : List Event) (lists : List (List ℕ)) (result : Result X Fault) (because : Why) (refusal : Refusal) → result ≡ Err (Refused refusal) → told_as because ≡ Refused refusal → OfInput first (λ bytes. IsReadAsSchedule bytes (Ok events)) → OfInput second (λ bytes. IsReadAsLists bytes (Ok lists))
       → Refuses ring M lists size because → Finds Answers seen result
   refused_for seen events lists result because refusal is told schedule input refuses = rw is (answers_no_channel events lists refusal schedule input (because, refuses, told))
 
-  pub channel_fault : {X : Type 0} (seen : X → Answer) (events : List Event) (lists : List (List ℕ)) (result : Result X Fault) (because : Why) (fault : Fault) → result ≡ Err fault → fault ≡ told_as because → OfInput first (λ bytes. IsReadAsSchedule bytes (Ok events)) → OfInput second (λ bytes. IsReadAsLists bytes (Ok lists))
+  pub channel_fault : {X : Type 0} (seen : X → Output) (events : List Event) (lists : List (List ℕ)) (result : Result X Fault) (because : Why) (fault : Fault) → result ≡ Err fault → fault ≡ told_as because → OfInput first (λ bytes. IsReadAsSchedule bytes (Ok events)) → OfInput second (λ bytes. IsReadAsLists bytes (Ok lists))
       → Refuses ring M lists size because → Finds Answers seen result
   channel_fault seen events lists result why.NoMemory fault is told schedule input refuses = rw (is, told) tt
   channel_fault seen events lists result (why.ZeroWord sender place) fault is told schedule input refuses = refused_for seen events lists result (why.ZeroWord sender place) _ (rw told at is) refl schedule input refuses

@@ -34,7 +34,7 @@ use Rattle.ztso_engines.specs.declared.fault.Fault.TheVariants as fault
 use Rattle.ztso_engines.specs.declared.fault.Position.{Position}
 use Rattle.ztso_engines.specs.declared.fault.Position.TheVariants.{Line, Nowhere, Word}
 use Rattle.ztso_engines.specs.declared.fault.Refusal.{Refusal}
-use Rattle.ztso_engines.specs.Engines.{Accepted, AreOneAnswer, judged}
+use Rattle.ztso_engines.specs.Engines.{Output, Accepted, AreOneAnswer, judged}
 use Rattle.ztso_engines.specs.Faults.{too_large, not_text}
 use Rattle.ztso_engines.specs.Tests.{ByTest, IsNoTest, refused_test, test_of}
 use Rattle.ztso_engines.specs.Tests.ByTest as test
@@ -63,9 +63,6 @@ use Rattle.ztso_engines.proofs.ListTexts.{lists_read, one_lists}
 use Rattle.ztso_engines.proofs.OneText.{one_try, one_verdict}
 use Rattle.ztso_engines.proofs.OneTalk.{one_talk_of}
 use Rattle.ztso_engines.proofs.TestTexts.{test_or_none}
-
-abbrev Output : Type 0
-Output = List ℕ × Unit {0}
 
 same_output : (a b : Output) → a.0 ≡ b.0 → a ≡ b
 same_output a b e = λ i. (e i, tt)

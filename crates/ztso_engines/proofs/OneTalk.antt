@@ -19,6 +19,7 @@ use Rattle.ztso_engines.specs.Commands.{asked}
 use Rattle.ztso_engines.specs.DebugText.{outcome_line, end_line, break_line, unknown_line}
 use Rattle.ztso_engines.specs.Debugging.{Answers, Breaks, Does, DoesAll, DoesNext, Toggled, is_point, stop_before}
 use Rattle.ztso_engines.specs.Talks.{AnswersLine, IsTalk, Talks, quits}
+use Rattle.ztso_engines.specs.Engines.{Output}
 
 -- ---- each case of a choice
 
@@ -136,5 +137,5 @@ one_talk B M (line ∷ ls) old points s t a b =
         e.5 ∙ ap (λ (text : List ℕ). text ++ e.3) here.0 ∙ ap (λ (later : List ℕ). f.0 ++ later) behind ∙ sym f.5
 
 -- of a test, its events and a user's lines
-pub one_talk_of : (B M : ℕ) (input : List ℕ) (question : Question) (events : List Event) (a b : List ℕ × Unit {0}) → IsTalk B M (Some input) question events a → IsTalk B M (Some input) question events b → a ≡ b
+pub one_talk_of : (B M : ℕ) (input : List ℕ) (question : Question) (events : List Event) (a b : Output) → IsTalk B M (Some input) question events a → IsTalk B M (Some input) question events b → a ≡ b
 one_talk_of B M input question events a b is other = let same = one_talk B M (lines input) (set_out question.opening events) [] a.0 b.0 is other in λ i. (same i, tt)

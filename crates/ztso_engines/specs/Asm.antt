@@ -9,7 +9,7 @@ use Rattle.assembler.specs.Program.{IsCode}
 use Rattle.assembler.specs.Faults.{fault_number, Refusal as AsmRefusal}
 use Rattle.ztso_engines.specs.declared.fault.Refusal.{Refusal}
 use Rattle.ztso_engines.specs.Faults.{refused_at}
-use Rattle.ztso_engines.specs.Engines.{Accepted, judged}
+use Rattle.ztso_engines.specs.Engines.{Output, Accepted, judged}
 
 -- a fault of an assembly text, refused by its number at its line
 abbrev pub refused_program : {V : Type 0} → Result V AsmRefusal → Result V Refusal
@@ -29,6 +29,6 @@ hex_line word = hex_text word ++ 10 ∷ []
 
 -- What answers an input: the lines of the words that it is assembled to, where it is a text within the
 -- limit that is, else the refusal for its first fault.
-abbrev pub IsAsmAnswer : List ℕ → Result (List ℕ × Unit {0}) Refusal → Type 0
+abbrev pub IsAsmAnswer : List ℕ → Result Output Refusal → Type 0
 IsAsmAnswer input (Ok answer) = (words : List ℕ) × Accepted IsCode input words × (answer.0 ≡ flat_map hex_line words)
 IsAsmAnswer input (Err refusal) = judged asm_at input ≡ Err refusal

@@ -17,7 +17,7 @@ use Rattle.ztso_engines.specs.declared.fault.Fault.{Fault}
 use Rattle.ztso_engines.specs.declared.fault.Fault.TheVariants as fault
 use Rattle.ztso_engines.specs.declared.fault.Position.TheVariants as place
 use Rattle.ztso_engines.specs.declared.fault.Refusal.{Refusal}
-use Rattle.ztso_engines.specs.Engines.{Accepted, judged}
+use Rattle.ztso_engines.specs.Engines.{Output, Accepted, judged}
 use Rattle.ztso_engines.specs.Schedules.{IsNoSchedule}
 use Rattle.ztso_engines.specs.Lists.{SaysLists, lists_at}
 
@@ -34,7 +34,7 @@ Reported true B M opening lists events reports = DeliversWhole B M opening lists
 
 -- The receiver reports this in the run of the events over these lists: lists within the limits, whose
 -- reports are clean, a line each.
-pub record IsDelivery (ring : Ring) (B M size : ℕ) (finish : Bool) (events : List Event) (lists : List (List ℕ)) (answer : List ℕ × Unit {0}) : Type 0 where
+pub record IsDelivery (ring : Ring) (B M size : ℕ) (finish : Bool) (events : List Event) (lists : List (List ℕ)) (answer : Output) : Type 0 where
   pub within : IsWithin ring M lists size
   pub reports : List Report
   pub delivers : Reported finish B M (opening_of ring.sender ring.receiver lists size) lists events reports
@@ -58,8 +58,8 @@ abbrev pub IsNoLists : List ℕ → Refusal → Type 0
 IsNoLists input refusal = judged lists_at input ≡ Err refusal
 
 -- What answers a schedule and lists. The schedule is judged first, then the text of lists, then the lists.
-pub data IsChannelAnswer (ring : Ring) (B M size : ℕ) (finish : Bool) (schedule input : List ℕ) : Result (List ℕ × Unit {0}) Refusal → Type 0 where
+pub data IsChannelAnswer (ring : Ring) (B M size : ℕ) (finish : Bool) (schedule input : List ℕ) : Result Output Refusal → Type 0 where
   no_schedule : (refusal : Refusal) → IsNoSchedule schedule refusal → IsChannelAnswer ring B M size finish schedule input (Err refusal)
   no_lists : (events : List Event) (refusal : Refusal) → Accepted IsScheduleOf schedule events → IsNoLists input refusal → IsChannelAnswer ring B M size finish schedule input (Err refusal)
   no_channel : (events : List Event) (lists : List (List ℕ)) (refusal : Refusal) → Accepted IsScheduleOf schedule events → Accepted SaysLists input lists → HasNoChannel ring M size lists refusal → IsChannelAnswer ring B M size finish schedule input (Err refusal)
-  delivered : (events : List Event) (lists : List (List ℕ)) (answer : List ℕ × Unit {0}) → Accepted IsScheduleOf schedule events → Accepted SaysLists input lists → IsDelivery ring B M size finish events lists answer → IsChannelAnswer ring B M size finish schedule input (Ok answer)
+  delivered : (events : List Event) (lists : List (List ℕ)) (answer : Output) → Accepted IsScheduleOf schedule events → Accepted SaysLists input lists → IsDelivery ring B M size finish events lists answer → IsChannelAnswer ring B M size finish schedule input (Ok answer)

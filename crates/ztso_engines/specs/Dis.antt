@@ -12,7 +12,7 @@ use Rattle.ztso_engines.specs.declared.fault.Refusal.{Refusal}
 use Rattle.texts.specs.Cutting.{tokens}
 use Rattle.ztso_engines.specs.LineFaults.{at_line}
 use Rattle.ztso_engines.specs.Code.{code_at}
-use Rattle.ztso_engines.specs.Engines.{Accepted, judged}
+use Rattle.ztso_engines.specs.Engines.{Output, Accepted, judged}
 
 -- The text says these instruction words: each word of its lines is 8 hex digits that say the next one.
 abbrev pub SaysCode : List ℕ → List ℕ → Type 0
@@ -40,6 +40,6 @@ instr_line word = meant_text (meaning word) ++ 10 ∷ []
 
 -- What answers an input: the lines of what its words mean, where it is a text of words within the
 -- limit, else the refusal for its first fault.
-abbrev pub IsDisAnswer : List ℕ → Result (List ℕ × Unit {0}) Refusal → Type 0
+abbrev pub IsDisAnswer : List ℕ → Result Output Refusal → Type 0
 IsDisAnswer input (Ok answer) = (code : List ℕ) × Accepted SaysCode input code × (answer.0 ≡ flat_map instr_line code)
 IsDisAnswer input (Err refusal) = judged dis_at input ≡ Err refusal

@@ -8,6 +8,10 @@ use Rattle.ztso_engines.specs.declared.fault.Refusal.{Refusal}
 use Rattle.ztso_engines.specs.Faults.{too_large, not_text}
 use Rattle.ztso_engines.specs.declared.input.TheConstants.{INPUT_BYTES}
 
+-- an output, with nothing that an engine returns beside it
+abbrev pub Output : Type 0
+Output = List ℕ × Unit {0}
+
 -- the input is a text within the limit, and has this value
 pub record Accepted {V : Type 0} (IsValue : List ℕ → V → Type 0) (input : List ℕ) (value : V) : Type 0 where
   pub few : length input ≤ INPUT_BYTES

@@ -6,11 +6,12 @@ use Rattle.litmus.specs.Questions.{Question}
 use Rattle.ztso_engines.specs.declared.fault.Refusal.{Refusal}
 use Rattle.ztso_engines.specs.EntryText.{entry_line}
 use Rattle.ztso_engines.specs.Histories.{ByRun}
+use Rattle.ztso_engines.specs.Engines.{Output}
 
 -- the lines of a history's entries
-abbrev pub IsReplay : Question → History → (answer : List ℕ × Unit {0}) → Type 0
+abbrev pub IsReplay : Question → History → (answer : Output) → Type 0
 IsReplay question history answer = answer.0 ≡ flat_map entry_line history.entries
 
 -- what answers a litmus text and a schedule
-abbrev pub IsReplayAnswer : (B M : ℕ) → (file schedule : List ℕ) → Result (List ℕ × Unit {0}) Refusal → Type 0
+abbrev pub IsReplayAnswer : (B M : ℕ) → (file schedule : List ℕ) → Result Output Refusal → Type 0
 IsReplayAnswer B M = ByRun B M IsReplay

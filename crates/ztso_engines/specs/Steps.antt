@@ -7,7 +7,7 @@ use Rattle.ztso_engines.specs.Scenario.{Scenario, opening_of}
 use Rattle.ztso_engines.specs.StepsText.{Tells}
 use Rattle.ztso_engines.specs.StepsReading.{script_at}
 use Rattle.ztso_engines.specs.StateText.{shown}
-use Rattle.ztso_engines.specs.Engines.{Accepted, judged}
+use Rattle.ztso_engines.specs.Engines.{Output, Accepted, judged}
 
 -- the state text of the history that the events make of the opening, over store buffers of B pairs and
 -- a memory of M words
@@ -18,6 +18,6 @@ pub record IsStateText (B M : ℕ) (told : Scenario) (out : List ℕ) : Type 0 w
 
 -- What answers an input: the state text of what it tells, where it is a text within the limit that
 -- tells something, else the refusal for its first fault.
-abbrev pub IsStepsAnswer : (B M : ℕ) → List ℕ → Result (List ℕ × Unit {0}) Refusal → Type 0
+abbrev pub IsStepsAnswer : (B M : ℕ) → List ℕ → Result Output Refusal → Type 0
 IsStepsAnswer B M input (Ok answer) = (told : Scenario) × Accepted (Tells M) input told × IsStateText B M told answer.0
 IsStepsAnswer B M input (Err refusal) = judged (script_at M) input ≡ Err refusal

@@ -15,6 +15,7 @@ use Rattle.ztso_engines.specs.Walks.{Way, set_out}
 use Rattle.ztso_engines.specs.Commands.{asked}
 use Rattle.ztso_engines.specs.DebugText.{unknown_line}
 use Rattle.ztso_engines.specs.Debugging.{Answers}
+use Rattle.ztso_engines.specs.Engines.{Output}
 
 -- whether a line ends the talk
 abbrev pub quits : Option Command → Bool
@@ -45,11 +46,11 @@ abbrev pub Prints : (B M : ℕ) → (input : Option (List ℕ)) → Way → (poi
 Prints B M input walk points out = IfSome input (λ bytes. Talks B M (lines bytes) walk points out)
 
 -- what the user's lines print at a test's opening; there is no other value
-abbrev pub IsTalk : (B M : ℕ) → (input : Option (List ℕ)) → Question → List Event → (answer : List ℕ × Unit {0}) → Type 0
+abbrev pub IsTalk : (B M : ℕ) → (input : Option (List ℕ)) → Question → List Event → (answer : Output) → Type 0
 IsTalk B M input question events answer = Prints B M input (set_out question.opening events) [] answer.0
 
 -- What answers a test, a schedule and the user's lines. The test is judged first.
-abbrev pub IsDebugAnswer : (B M : ℕ) → (input : Option (List ℕ)) → (file schedule : List ℕ) → Result (List ℕ × Unit {0}) Refusal → Type 0
+abbrev pub IsDebugAnswer : (B M : ℕ) → (input : Option (List ℕ)) → (file schedule : List ℕ) → Result Output Refusal → Type 0
 IsDebugAnswer B M input = ByBoth (IsTalk B M input)
 
 -- How an engine ends that writes as it reads: it wrote an output that is an answer together with what it
