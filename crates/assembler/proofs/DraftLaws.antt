@@ -20,9 +20,6 @@ use Rattle.std.specs.declared.alloc.Global.{Global}
 use Rattle.std.specs.Map.{lookup, IsKeyTest, AreApart, KeepsOthers}
 use Rattle.std.proofs.lemmas.Cmp.{nat_list_eq_equiv}
 
-abbrev line_fault : AsmFault → ℕ → Result (List Line) Refusal
-line_fault fault line = Err (record { fault = fault; line = line })
-
 pub told_twice : (above : List Line) (text : List ℕ) → is_twice above (label_of text) ≡ true → told above text ≡ Err (record { fault = LabelTwice; line = length above + 1 })
 unfolding told line_below
 told_twice above text twice = rw twice refl

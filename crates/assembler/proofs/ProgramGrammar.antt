@@ -30,16 +30,16 @@ use Rattle.assembler.proofs.LineGrammar.{line_found, line_only}
 
 -- ---- lines
 
-pub record Told (above : List Line) (text : List ℕ) (more : List Line) : Type 0 where
+pub record LineAdded (above : List Line) (text : List ℕ) (more : List Line) : Type 0 where
   pub line : Line
   pub is : IsLine text line
   pub apart : Apart above line.label
   pub whole : more ≡ above ++ line ∷ []
 
-pub told_found : (above : List Line) (text : List ℕ) (more : List Line) → told above text ≡ Ok more → Told above text more
+pub told_found : (above : List Line) (text : List ℕ) (more : List Line) → told above text ≡ Ok more → LineAdded above text more
 told_found above text more e = go (is_twice above (label_of text)) refl (made_in (statement_text text)) refl
   where
-    go : (b : Bool) → is_twice above (label_of text) ≡ b → (r : Result (Option Made) AsmFault) → made_in (statement_text text) ≡ r → Told above text more
+    go : (b : Bool) → is_twice above (label_of text) ≡ b → (r : Result (Option Made) AsmFault) → made_in (statement_text text) ≡ r → LineAdded above text more
     go true twice r is = absurd (let f = sym (told_twice above text twice) ∙ e in cc)
     go false fresh (Err fault) is = absurd (let f = sym (told_faulty above text fault fresh is) ∙ e in cc)
     go false fresh (Ok made) is = record {

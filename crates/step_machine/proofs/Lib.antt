@@ -17,4 +17,3 @@ pub mod WordReads
 pub mod OwnRuns
 pub mod Acts
 pub mod States
-pub mod Openings

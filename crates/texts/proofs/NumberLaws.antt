@@ -99,9 +99,6 @@ pub says_hex_number : (digits : List ℕ) (n : ℕ) → SaysInHex digits n → h
 says_hex_number digits n h = subst (λ (m : ℕ). hex_number_of digits ≡ Some (capped m)) h.1 (capped_value-of_IsNumeral 16 digits h.0)
 
 -- what is written in decimal is read again
-pub number_of-decimal : (n : ℕ) → n < 2 ^ 64 → number_of (decimal n) ≡ Some (capped n)
-number_of-decimal n fits = says_number (decimal n) n (decimal_is_IsNumeral n fits)
-
 -- digits say one number
 pub one_said : (digits : List ℕ) (m n : ℕ) → Says digits m → Says digits n → m ≡ n
 one_said digits m n h k = sym h.1 ∙ k.1
