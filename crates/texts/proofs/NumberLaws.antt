@@ -7,8 +7,6 @@ use Rattle.std.specs.Str.Parse.{IsNumeral, AllDigits, digits_value}
 use Rattle.std.proofs.lemmas.Bool.{ltb-true, lt-ltb, le-ltb, cases_lt, eqb-true, ne_eqb, and_parts, and_right}
 use Rattle.std.proofs.lemmas.List.Folds.{list_all_more, list_all_at}
 use Rattle.std.proofs.lemmas.Int.Digits.{digits_value_more, digits_value-lt}
-use Rattle.std.proofs.lemmas.Fmt.{decimal_is_IsNumeral}
-use Rattle.std.specs.Fmt.{decimal}
 use Rattle.std.proofs.Math.Nat.{mul-le-mul_left, mul-le-mul_right}
 use Rattle.texts.specs.Numbers.{Says, SaysInHex, IsHexWord, capped, is_numeral, capped_value, number_of, hex_number_of, below_cap_of, word_of, hex_word_of, is_hex, is_negative}
 
@@ -98,7 +96,6 @@ hex_number_said digits n e lt = let said = capped_value-said 16 digits n e in (s
 pub says_hex_number : (digits : List ℕ) (n : ℕ) → SaysInHex digits n → hex_number_of digits ≡ Some (capped n)
 says_hex_number digits n h = subst (λ (m : ℕ). hex_number_of digits ≡ Some (capped m)) h.1 (capped_value-of_IsNumeral 16 digits h.0)
 
--- what is written in decimal is read again
 -- digits say one number
 pub one_said : (digits : List ℕ) (m n : ℕ) → Says digits m → Says digits n → m ≡ n
 one_said digits m n h k = sym h.1 ∙ k.1
