@@ -228,12 +228,12 @@ record TokensFound (harts : ℕ) (ms : Names) (so_far : List Symbol) (text : Tok
   few : length asked.1 ≤ 1024
   all : AreKnown harts asked.1 words known
 
-token_found : (harts : ℕ) (ms : Names) (so_far more : List Symbol) (first : token.Token) (others : Tokens) (asked : Asked) (known : Symbol) → so_far ++ known ∷ [] ≡ more → IsKnown harts (each_once (ms ++ names_of first)) first known → TokensFound harts (ms ++ names_of first) more others asked → TokensFound harts ms so_far (token.Tokens.more first others) asked
+token_found : (harts : ℕ) (ms : Names) (so_far more : List Symbol) (first : token.Token) (others : Tokens) (asked : Asked) (known : Symbol) → so_far ++ known ∷ [] ≡ more → IsKnown harts (each_once (ms ++ names_of first)) first known → TokensFound harts (ms ++ names_of first) more others asked → TokensFound harts ms so_far (token.Tokens.goes_on first others) asked
 token_found harts ms so_far more first others asked known taken is rest =
     record {
       words = first ∷ rest.words;
       known = known ∷ rest.known;
-      whole = ap (λ (ws : Tokens). token.Tokens.more first ws) rest.whole;
+      whole = ap (λ (ws : Tokens). token.Tokens.goes_on first ws) rest.whole;
       behind = rest.behind ∙ ap (λ (ws : List Symbol). ws ++ rest.known) (sym taken) ∙ append_assoc so_far (known ∷ []) rest.known;
       names = rest.names ∙ ap each_once (names-behind ms first rest.words);
       few = rest.few;
@@ -245,7 +245,7 @@ tokens_found harts ms so_far token.Tokens.ended asked few e =
     subst (TokensFound harts ms so_far token.Tokens.ended) (ok_is LitmusFault (so_far, each_once ms) asked e)
     (record { words = []; known = []; whole = refl; behind = sym (append-nil so_far); names = ap each_once (sym (append-nil ms)); few = few; all = refl })
 tokens_found harts ms so_far token.Tokens.broken asked few e = absurd cc
-tokens_found harts ms so_far (token.Tokens.more first others) asked few e =
+tokens_found harts ms so_far (token.Tokens.goes_on first others) asked few e =
     let known = bind_ok (token_met harts (each_once ms) first) (λ known. as_condition (told so_far known.0) >>= λ more. tokens_told harts (more, known.1) others) asked e in
     let more = bind_ok (as_condition (told so_far known.0.0)) (λ more. tokens_told harts (more, known.0.1) others) asked known.2 in
     let one = token_found harts ms first known.0 few known.1 in
