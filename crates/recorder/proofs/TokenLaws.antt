@@ -7,13 +7,12 @@ use Rattle.std.proofs.Math.Seq.{take-append_seam, drop-append-add}
 use Rattle.std.proofs.lemmas.Bool.{ltb-false, le-ltb, lt-ltb, leb-false, lt-leb, eqb-true, eqb-false, ne_eqb}
 use Rattle.std.proofs.lemmas.List.Sums.{split_at_first, passes_at_first}
 use Rattle.std.proofs.lemmas.Str.Parse.{digit_from_value}
-use Rattle.std.proofs.Math.Option.{some-injective}
 use Rattle.step_machine.specs.declared.events.Event.{Event}
 use Rattle.step_machine.specs.declared.events.Event.TheVariants.{Act, Land}
 use Rattle.texts.specs.Numbers.{Says, capped, number_of}
 use Rattle.texts.proofs.PieceLaws.{position_is}
 use Rattle.texts.proofs.NumberLaws.{number_said, says_number}
-use Rattle.texts.proofs.ResultLaws.{guard_err, ok_is}
+use Rattle.texts.proofs.ResultLaws.{some_is, guard_err, ok_is}
 use Rattle.recorder.specs.declared.faults.ScheduleFault.TheVariants.{BadHart, BadCount}
 use Rattle.recorder.specs.declared.tokens.Kind.{Kind}
 use Rattle.recorder.specs.declared.tokens.Kind.TheVariants as kinds
@@ -62,12 +61,12 @@ star_behind digits count h =
 
 once_some : (o : Option ℕ) (n : Numbers) → once_of o ≡ Some n → (o ≡ Some n.0) × (n.1 ≡ 1)
 once_some None n e = absurd cc
-once_some (Some hart) n e = let same : (hart, 1) ≡ n = some-injective (hart, 1) n e in (ap (λ (x : Numbers). Some x.0) same, sym (ap (λ (x : Numbers). x.1) same))
+once_some (Some hart) n e = let same : (hart, 1) ≡ n = some_is (hart, 1) n e in (ap (λ (x : Numbers). Some x.0) same, sym (ap (λ (x : Numbers). x.1) same))
 
 counted_some : (o p : Option ℕ) (n : Numbers) → counted o p ≡ Some n → (o ≡ Some n.0) × (p ≡ Some n.1)
 counted_some None p n e = absurd cc
 counted_some (Some hart) None n e = absurd cc
-counted_some (Some hart) (Some times) n e = let same : (hart, times) ≡ n = some-injective (hart, times) n e in (ap (λ (x : Numbers). Some x.0) same, ap (λ (x : Numbers). Some x.1) same)
+counted_some (Some hart) (Some times) n e = let same : (hart, times) ≡ n = some_is (hart, times) n e in (ap (λ (x : Numbers). Some x.0) same, ap (λ (x : Numbers). Some x.1) same)
 
 -- numbers that were told are a token's, behind its letter
 numbers_spell : (event : Event) (numbers : List ℕ) (n : Numbers) → numbers_of numbers ≡ Some n → n.0 ≡ hart_of event → n.0 < 2 ^ 32 → n.1 < 2 ^ 32 → Spells event (letter event ∷ numbers) n.1
@@ -87,7 +86,7 @@ numbers_spell event numbers n e hart small few = go (star_in numbers) refl
 
 token_some : (kind : Kind) (o : Option Numbers) (token : Token) → token_of kind o ≡ Some token → (n : Numbers) × (o ≡ Some n) × (record { kind = kind; hart = n.0; times = n.1 } ≡ token)
 token_some kind None token e = absurd cc
-token_some kind (Some n) token e = (n, refl, some-injective (record { kind = kind; hart = n.0; times = n.1 }) token e)
+token_some kind (Some n) token e = (n, refl, some_is (record { kind = kind; hart = n.0; times = n.1 }) token e)
 
 -- the event of a token
 abbrev pub event_in : Token → Event

@@ -1,5 +1,6 @@
 -- What an answer says of the steps that made it.
 use Rattle.std.proofs.Common.{◌≡◌, ◌↔◌, Bool, true, false, cond, Result, Ok, Err, refl}
+use Rattle.std.specs.Prelude.{Option, Some}
 use Rattle.std.specs.Result.{IsErr}
 use Rattle.texts.specs.Results.{◌>>=◌}
 
@@ -32,3 +33,9 @@ ok_is E x y e = cc
 pub refused_without : {A B E : Type 0} (answer : Result A E) (P : B → Type 0) → ((x : A) → answer ≡ Ok x → (y : B) × P y) → ((y : B) → P y → (x : A) × (answer ≡ Ok x)) → IsErr answer ↔ ((y : B) → ¬ P y)
 refused_without (Ok x) P found only = (λ refused. absurd cc, λ none. absurd (let value = found x refl in none value.0 value.1))
 refused_without (Err d) P found only = (λ refused y is. absurd (let value = only y is in let f = value.1 in cc), λ none. refl)
+
+abbrev pub some : {A : Type 0} → A → Option A
+some x = Some x
+
+pub some_is : {A : Type 0} (x y : A) → some x ≡ some y → x ≡ y
+some_is x y e = cc

@@ -57,7 +57,7 @@ module _ (B M : ℕ) (first second : Option (List ℕ)) where
   -- both were read and run
   pub run_found : (question : Question) (events : List Event) (history : History) → OfInput first (λ bytes. IsReadAsTest bytes (Ok question)) → OfInput second (λ bytes. IsReadAsSchedule bytes (Ok events)) → Run B M question.opening events history
       → AnswersBoth (ByRun B M IsItself) first second (Ok (question, history))
-  run_found question events history test schedule ran = both_read first second (IsOfRun B M IsItself) question events (question, history) test schedule (record { history = history; ran = ran; told = refl })
+  run_found question events history test schedule run = both_read first second (IsOfRun B M IsItself) question events (question, history) test schedule (record { history = history; ran = run; told = refl })
 
   -- what is told of the history answers both
   pub told_of_run : {A : Type 0} (IsTold : Question → History → A → Type 0) (question : Question) (history : History) (answer : A) → AnswersBoth (ByRun B M IsItself) first second (Ok (question, history)) → IsTold question history answer → AnswersBoth (ByRun B M IsTold) first second (Ok answer)

@@ -37,7 +37,7 @@ use Rattle.ztso_engines.specs.declared.fault.Refusal.{Refusal}
 use Rattle.ztso_engines.specs.Engines.{Output, Accepted, AreOneAnswer, judged}
 use Rattle.ztso_engines.specs.Faults.{too_large, not_text}
 use Rattle.ztso_engines.specs.Tests.{ByTest, IsNoTest, refused_test, test_of}
-use Rattle.ztso_engines.specs.Tests.ByTest as test
+use Rattle.ztso_engines.specs.Tests as tests
 use Rattle.ztso_engines.specs.Schedules.{IsNoSchedule, events_of}
 use Rattle.ztso_engines.specs.Asm.{IsAsmAnswer, asm_at, hex_line, refused_program}
 use Rattle.ztso_engines.specs.Scenario.{Scenario, opening_of}
@@ -48,14 +48,14 @@ use Rattle.ztso_engines.specs.Steps.{IsStateText, IsStepsAnswer}
 use Rattle.ztso_engines.specs.Dis.{SaysCode, dis_at, instr_line, IsDisAnswer}
 use Rattle.ztso_engines.specs.EntryText.{entry_line}
 use Rattle.ztso_engines.specs.Histories.{ByBoth, IsOfRun}
-use Rattle.ztso_engines.specs.Histories.ByBoth as both
+use Rattle.ztso_engines.specs.Histories as histories
 use Rattle.ztso_engines.specs.Run.{IsJudged, IsRunAnswer, verdict_line}
 use Rattle.ztso_engines.specs.Replay.{IsReplay, IsReplayAnswer}
 use Rattle.ztso_engines.specs.Talks.{IsDebugAnswer, IsTalk}
 use Rattle.ztso_engines.specs.Outcomes.{IsTriedOf, IsTryAnswer}
 use Rattle.ztso_engines.specs.Lists.{SaysLists, lists_at}
 use Rattle.ztso_engines.specs.Channels.{IsChannelAnswer, IsDelivery, IsNoLists, report_line, told_as}
-use Rattle.ztso_engines.specs.Channels.IsChannelAnswer as channel
+use Rattle.ztso_engines.specs.Channels as channels
 use Rattle.ztso_engines.proofs.Judging.{accepted_judged, judged_text}
 use Rattle.ztso_engines.proofs.Telling.{text_read, one_told}
 use Rattle.ztso_engines.proofs.CodeTexts.{code_read, one_code}
@@ -144,10 +144,10 @@ module _ {A : Type 0} (IsAnswer : Question → Result A Refusal → Type 0)
   same_test q p a b is also told other = one q a b told (subst (λ (x : Question). IsAnswer x b) (one_test input p q also.value_is is.value_is) other)
 
   one_by_test : (a b : Result A Refusal) → ByTest IsAnswer input a → ByTest IsAnswer input b → AreOneAnswer a b
-  one_by_test a b (test.no_test r none) (test.no_test s other) = one_number input r s none other
-  one_by_test a b (test.no_test r none) (test.of_test q given is told) = absurd (test_or_refusal input q r is none)
-  one_by_test a b (test.of_test q given is told) (test.no_test s none) = absurd (test_or_refusal input q s is none)
-  one_by_test a b (test.of_test q given is told) (test.of_test p other also tells) = same_test q p a b is also told tells
+  one_by_test a b (tests.ByTest.no_test r none) (tests.ByTest.no_test s other) = one_number input r s none other
+  one_by_test a b (tests.ByTest.no_test r none) (tests.ByTest.of_test q given is told) = absurd (test_or_refusal input q r is none)
+  one_by_test a b (tests.ByTest.of_test q given is told) (tests.ByTest.no_test s none) = absurd (test_or_refusal input q s is none)
+  one_by_test a b (tests.ByTest.of_test q given is told) (tests.ByTest.of_test p other also tells) = same_test q p a b is also told tells
 
 -- ---- and by a schedule
 
@@ -159,15 +159,15 @@ schedule_or_refusal input events r is refused =
 
 module _ {A : Type 0} (IsTold : Question → List Event → A → Type 0) (one : (q : Question) (events : List Event) (a b : A) → IsTold q events a → IsTold q events b → a ≡ b) (file schedule : List ℕ) where
   one_by_both : (a b : Result A Refusal) → ByBoth IsTold file schedule a → ByBoth IsTold file schedule b → AreOneAnswer a b
-  one_by_both a b (both.no_test r none) (both.no_test s other) = one_number file r s none other
-  one_by_both a b (both.no_test r none) (both.no_schedule q s is bad) = absurd (test_or_refusal file q r is none)
-  one_by_both a b (both.no_test r none) (both.ran q events given is said told) = absurd (test_or_refusal file q r is none)
-  one_by_both a b (both.no_schedule q r is bad) (both.no_test s none) = absurd (test_or_refusal file q s is none)
-  one_by_both a b (both.no_schedule q r is bad) (both.no_schedule p s also other) = ap (λ (x : Refusal). x.number) (one_refusal (judged events_of schedule) r s bad other)
-  one_by_both a b (both.no_schedule q r is bad) (both.ran p events given also said told) = absurd (schedule_or_refusal schedule events r said bad)
-  one_by_both a b (both.ran q events given is said told) (both.no_test s none) = absurd (test_or_refusal file q s is none)
-  one_by_both a b (both.ran q events given is said told) (both.no_schedule p s also bad) = absurd (schedule_or_refusal schedule events s said bad)
-  one_by_both a b (both.ran q events given is said told) (both.ran p others other also says tells) =
+  one_by_both a b (histories.ByBoth.no_test r none) (histories.ByBoth.no_test s other) = one_number file r s none other
+  one_by_both a b (histories.ByBoth.no_test r none) (histories.ByBoth.no_schedule q s is bad) = absurd (test_or_refusal file q r is none)
+  one_by_both a b (histories.ByBoth.no_test r none) (histories.ByBoth.ran q events given is said told) = absurd (test_or_refusal file q r is none)
+  one_by_both a b (histories.ByBoth.no_schedule q r is bad) (histories.ByBoth.no_test s none) = absurd (test_or_refusal file q s is none)
+  one_by_both a b (histories.ByBoth.no_schedule q r is bad) (histories.ByBoth.no_schedule p s also other) = ap (λ (x : Refusal). x.number) (one_refusal (judged events_of schedule) r s bad other)
+  one_by_both a b (histories.ByBoth.no_schedule q r is bad) (histories.ByBoth.ran p events given also said told) = absurd (schedule_or_refusal schedule events r said bad)
+  one_by_both a b (histories.ByBoth.ran q events given is said told) (histories.ByBoth.no_test s none) = absurd (test_or_refusal file q s is none)
+  one_by_both a b (histories.ByBoth.ran q events given is said told) (histories.ByBoth.no_schedule p s also bad) = absurd (schedule_or_refusal schedule events s said bad)
+  one_by_both a b (histories.ByBoth.ran q events given is said told) (histories.ByBoth.ran p others other also says tells) =
       one q events given other told
       (subst (λ (x : Question). IsTold x events other) (one_test file p q also.value_is is.value_is)
       (subst (λ (evs : List Event). IsTold p evs other) (one_schedule schedule others events says.value_is said.value_is) tells))
@@ -251,26 +251,26 @@ module _ (ring : Ring) (B M size : ℕ) (schedule input : List ℕ) where
   IsAnswer = IsChannelAnswer ring B M size false schedule input
 
   delivered_or_refused : (a : Output) (s : Refusal) → IsAnswer (Ok a) → IsAnswer (Err s) → ⊥
-  delivered_or_refused a s (channel.delivered events lists given is said tells) (channel.no_schedule r none) = schedule_or_refusal schedule events s is none
-  delivered_or_refused a s (channel.delivered events lists given is said tells) (channel.no_lists others r also none) = lists_or_refusal input lists s said none
-  delivered_or_refused a s (channel.delivered events lists given is said tells) (channel.no_channel others words r also says (why, refuses, told)) =
+  delivered_or_refused a s (channels.IsChannelAnswer.delivered events lists given is said tells) (channels.IsChannelAnswer.no_schedule r none) = schedule_or_refusal schedule events s is none
+  delivered_or_refused a s (channels.IsChannelAnswer.delivered events lists given is said tells) (channels.IsChannelAnswer.no_lists others r also none) = lists_or_refusal input lists s said none
+  delivered_or_refused a s (channels.IsChannelAnswer.delivered events lists given is said tells) (channels.IsChannelAnswer.no_channel others words r also says (why, refuses, told)) =
       within_or_refused ring M size lists why s tells.within (subst (λ (ls : List (List ℕ)). Refuses ring M ls size why) (one_lists input words lists says.value_is said.value_is) refuses) told
 
   pub one_channel : (a b : Result Output Refusal) → IsAnswer a → IsAnswer b → AreOneAnswer a b
-  one_channel (Ok a) (Ok b) (channel.delivered events lists given is said tells) (channel.delivered others words answer also says other) =
+  one_channel (Ok a) (Ok b) (channels.IsChannelAnswer.delivered events lists given is said tells) (channels.IsChannelAnswer.delivered others words answer also says other) =
       one_delivery ring B M size events lists a b tells
       (subst (λ (evs : List Event). IsDelivery ring B M size false evs lists b) (one_schedule schedule others events also.value_is is.value_is)
       (subst (λ (ls : List (List ℕ)). IsDelivery ring B M size false others ls b) (one_lists input words lists says.value_is said.value_is) other))
   one_channel (Ok a) (Err s) is other = delivered_or_refused a s is other
   one_channel (Err r) (Ok b) is other = delivered_or_refused b r other is
-  one_channel (Err r) (Err s) (channel.no_schedule x none) (channel.no_schedule y other) = ap (λ (x : Refusal). x.number) (one_refusal (judged events_of schedule) r s none other)
-  one_channel (Err r) (Err s) (channel.no_schedule x none) (channel.no_lists events y is more) = absurd (schedule_or_refusal schedule events r is none)
-  one_channel (Err r) (Err s) (channel.no_schedule x none) (channel.no_channel events lists y is said more) = absurd (schedule_or_refusal schedule events r is none)
-  one_channel (Err r) (Err s) (channel.no_lists events x is more) (channel.no_schedule y none) = absurd (schedule_or_refusal schedule events s is none)
-  one_channel (Err r) (Err s) (channel.no_channel events lists x is said more) (channel.no_schedule y none) = absurd (schedule_or_refusal schedule events s is none)
-  one_channel (Err r) (Err s) (channel.no_lists events x is none) (channel.no_lists others y also other) = ap (λ (x : Refusal). x.number) (one_refusal (judged lists_at input) r s none other)
-  one_channel (Err r) (Err s) (channel.no_lists events x is none) (channel.no_channel others words y also says more) = absurd (lists_or_refusal input words r says none)
-  one_channel (Err r) (Err s) (channel.no_channel events lists x is said more) (channel.no_lists others y also none) = absurd (lists_or_refusal input lists s said none)
-  one_channel (Err r) (Err s) (channel.no_channel events lists x is said (why, refuses, told)) (channel.no_channel others words y also says (reason, denies, tells)) =
+  one_channel (Err r) (Err s) (channels.IsChannelAnswer.no_schedule x none) (channels.IsChannelAnswer.no_schedule y other) = ap (λ (x : Refusal). x.number) (one_refusal (judged events_of schedule) r s none other)
+  one_channel (Err r) (Err s) (channels.IsChannelAnswer.no_schedule x none) (channels.IsChannelAnswer.no_lists events y is more) = absurd (schedule_or_refusal schedule events r is none)
+  one_channel (Err r) (Err s) (channels.IsChannelAnswer.no_schedule x none) (channels.IsChannelAnswer.no_channel events lists y is said more) = absurd (schedule_or_refusal schedule events r is none)
+  one_channel (Err r) (Err s) (channels.IsChannelAnswer.no_lists events x is more) (channels.IsChannelAnswer.no_schedule y none) = absurd (schedule_or_refusal schedule events s is none)
+  one_channel (Err r) (Err s) (channels.IsChannelAnswer.no_channel events lists x is said more) (channels.IsChannelAnswer.no_schedule y none) = absurd (schedule_or_refusal schedule events s is none)
+  one_channel (Err r) (Err s) (channels.IsChannelAnswer.no_lists events x is none) (channels.IsChannelAnswer.no_lists others y also other) = ap (λ (x : Refusal). x.number) (one_refusal (judged lists_at input) r s none other)
+  one_channel (Err r) (Err s) (channels.IsChannelAnswer.no_lists events x is none) (channels.IsChannelAnswer.no_channel others words y also says more) = absurd (lists_or_refusal input words r says none)
+  one_channel (Err r) (Err s) (channels.IsChannelAnswer.no_channel events lists x is said more) (channels.IsChannelAnswer.no_lists others y also none) = absurd (lists_or_refusal input lists s said none)
+  one_channel (Err r) (Err s) (channels.IsChannelAnswer.no_channel events lists x is said (why, refuses, told)) (channels.IsChannelAnswer.no_channel others words y also says (reason, denies, tells)) =
       is_expected ring M size lists why r refuses told
       ∙ sym (is_expected ring M size lists reason s (subst (λ (ls : List (List ℕ)). Refuses ring M ls size reason) (one_lists input words lists says.value_is said.value_is) denies) tells)
