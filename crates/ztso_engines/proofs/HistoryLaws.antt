@@ -16,6 +16,11 @@ use Rattle.ztso_engines.specs.inner.Making.{Finds, FindsBy}
 use Rattle.ztso_engines.specs.inner.Inputs.{IsReadAsTest, IsReadAsSchedule, IsItself}
 use Rattle.ztso_engines.proofs.Endings.{weaker}
 
+-- a refusal is one whatever is told of a run
+pub still_refused : {A C : Type 0} (P : Question → List Event → A → Type 0) (Q : Question → List Event → C → Type 0) (refusal : Refusal) (file schedule : List ℕ) → ByBoth P file schedule (Err refusal) → ByBoth Q file schedule (Err refusal)
+still_refused P Q refusal file schedule (no_test r bad) = no_test r bad
+still_refused P Q refusal file schedule (no_schedule question r test bad) = no_schedule question r test bad
+
 module _ (first second : Option (List ℕ)) where
   -- what is told of both by their bytes
   pub weaker_both : {A C : Type 0} (P : List ℕ → List ℕ → A → Type 0) (Q : List ℕ → List ℕ → C → Type 0) (a : A) (c : C) → ((file schedule : List ℕ) → P file schedule a → Q file schedule c) → AnswersBoth P first second a → AnswersBoth Q first second c
@@ -52,6 +57,13 @@ module _ (first second : Option (List ℕ)) where
   schedule_fault IsTold seen view question result NoMemory is test finds = rw is tt
   schedule_fault IsTold seen view question result ReadFailed is test finds = rw is tt
   schedule_fault IsTold seen view question result WriteFailed is test finds = rw is finds
+
+  -- a fault on the way to a run
+  pub run_fault : {A C X Y : Type 0} (P : Question → List Event → A → Type 0) (Q : Question → List Event → C → Type 0) (seen : X → C) (view : Y → A) (result : Result X Fault) (fault : Fault) → result ≡ Err fault → Finds (AnswersBoth (ByBoth P) first second) view (Err fault) → Finds (AnswersBoth (ByBoth Q) first second) seen result
+  run_fault P Q seen view result (Refused r) is finds = rw is (weaker_both (ByBoth P) (ByBoth Q) (Err r) (Err r) (still_refused P Q r) finds)
+  run_fault P Q seen view result NoMemory is finds = rw is tt
+  run_fault P Q seen view result ReadFailed is finds = rw is tt
+  run_fault P Q seen view result WriteFailed is finds = rw is finds
 
 module _ (B M : ℕ) (first second : Option (List ℕ)) where
   -- both were read and run

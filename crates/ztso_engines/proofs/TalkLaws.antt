@@ -16,13 +16,13 @@ use Rattle.ztso_engines.specs.Walks.{Way}
 use Rattle.ztso_engines.specs.Commands.{asked}
 use Rattle.ztso_engines.specs.declared.fault.Fault.{Fault}
 use Rattle.ztso_engines.specs.declared.fault.Fault.TheVariants.{ReadFailed, WriteFailed, NoMemory, Refused}
-use Rattle.ztso_engines.specs.Talks.{AnswersLine, EndsAloud, IsDebugAnswer, OnRefused, Prints, Talks, quits}
+use Rattle.ztso_engines.specs.Talks.{AnswersLine, EndsAloud, IsDebugAnswer, IsTalk, OnRefused, Prints, Talks, quits}
 use Rattle.ztso_engines.specs.inner.Making.{Finds, IsEndOf, text_and_value}
 use Rattle.ztso_engines.specs.inner.Talking.{IsFailure, IsSetOut}
 use Rattle.ztso_engines.specs.Engines.{AnswersBoth}
 use Rattle.ztso_engines.specs.Histories.{ByBoth}
-use Rattle.ztso_engines.specs.Histories.ByBoth.{no_test, no_schedule, ran}
-use Rattle.ztso_engines.proofs.HistoryLaws.{weaker_both}
+use Rattle.ztso_engines.specs.Histories.ByBoth.{ran}
+use Rattle.ztso_engines.proofs.HistoryLaws.{still_refused, weaker_both}
 
 -- ---- the first line of an input, which ends through its first LF
 
@@ -166,11 +166,7 @@ module _ (B M : ℕ) (first second input : Option (List ℕ)) {W : Type 0} (cont
 
   -- and so does a fault before it begins
   pub not_begun : {X : Type 0} (view : X → Way) (result : Result (Unit {0}) Fault) (fault : Fault) (old : W) → result ≡ Err fault → Finds (AnswersBoth (ByBoth IsSetOut) first second) view (Err fault) → EndsAloud (AnswersBoth (IsDebugAnswer B M input) first second) result contents old old
-  not_begun view result (Refused refusal) old is finds = rw is (weaker_both first second (ByBoth IsSetOut) (IsDebugAnswer B M input) (Err refusal) (Err refusal) same finds, refl)
-    where
-      same : (file schedule : List ℕ) → ByBoth IsSetOut file schedule (Err refusal) → IsDebugAnswer B M input file schedule (Err refusal)
-      same file schedule (no_test r bad) = no_test r bad
-      same file schedule (no_schedule question r test bad) = no_schedule question r test bad
+  not_begun view result (Refused refusal) old is finds = rw is (weaker_both first second (ByBoth IsSetOut) (IsDebugAnswer B M input) (Err refusal) (Err refusal) (still_refused IsSetOut (IsTalk B M input) refusal) finds, refl)
   not_begun view result ReadFailed old is finds = rw is tt
   not_begun view result WriteFailed old is finds = rw is tt
   not_begun view result NoMemory old is finds = rw is tt

@@ -47,11 +47,11 @@ module _ {X A : Type 0} (IsAnswer : Question → Result A Refusal → Type 0) (v
   by_test question (Err WriteFailed) read answers = answers
 
   -- no test was read
-  pub by_no_test : (fault : Fault) → FindsBy IsReadAsTest (λ (q : Question). q) known (Err fault) → FindsBy (ByTest IsAnswer) view known (Err fault)
-  by_no_test (Refused r) read = weaker known _ _ (λ bytes bad. no_test r bad) read
-  by_no_test NoMemory read = tt
-  by_no_test ReadFailed read = tt
-  by_no_test WriteFailed read = read
+  pub by_no_test : {Y : Type 0} (seen : Y → Question) (result : Result X Fault) (fault : Fault) → result ≡ Err fault → FindsBy IsReadAsTest seen known (Err fault) → FindsBy (ByTest IsAnswer) view known result
+  by_no_test seen result (Refused r) is read = rw is (weaker known _ _ (λ bytes bad. no_test r bad) read)
+  by_no_test seen result NoMemory is read = rw is tt
+  by_no_test seen result ReadFailed is read = rw is tt
+  by_no_test seen result WriteFailed is read = rw is read
 
 pub joined : (all text more a b : List ℕ) → all ≡ text ++ more → text ≡ a → more ≡ b → all ≡ a ++ b
 joined all text more a b p q r = cc
