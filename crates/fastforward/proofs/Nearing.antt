@@ -29,8 +29,8 @@ use Rattle.fastforward.specs.Invariant.Stores.{null_store, sender_stores, receiv
 use Rattle.fastforward.specs.Invariant.Middle.{middle}
 use Rattle.fastforward.specs.Invariant.Numbers.{Numbers, sent, gone, taken, freed, Ordered, Words, pending_of, unread_of}
 use Rattle.fastforward.specs.Invariant.SenderPlaces.{SenderPlace, P10, Over, stands, SenderIs, Standing}
-use Rattle.fastforward.proofs.SenderMoves.{Moves, moves}
-use Rattle.fastforward.proofs.SenderActs.{finds}
+use Rattle.fastforward.proofs.SenderMoves.{Moves}
+use Rattle.fastforward.proofs.SenderActs.{moves, finds}
 use Rattle.fastforward.proofs.MiddleLines as mid
 use Rattle.fastforward.proofs.ReceiverReads.{seen_word}
 use Rattle.fastforward.proofs.FastForwardLaws.{fastforward_laws}

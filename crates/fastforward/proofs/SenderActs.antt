@@ -16,9 +16,29 @@ use Rattle.fastforward.specs.FastForward.{fastforward_blocks}
 use Rattle.fastforward.specs.Invariant.Stores.{sender_stores}
 use Rattle.fastforward.specs.Invariant.Numbers.{Made, Numbers, sent, gone, Ordered, Words, pending_of}
 use Rattle.poll_close.specs.Invariant.SenderState.{Written}
-use Rattle.fastforward.specs.Invariant.SenderPlaces.{SenderPlace, stands, Free, SenderIs, Standing}
+use Rattle.fastforward.specs.Invariant.SenderPlaces.{SenderPlace, P00, P04, P08, P0C, P10, P14, P18, P1C, P20, P24, P28, P2C, P30, P34, P38, Over, stands, Free, SenderIs, Standing}
 use Rattle.fastforward.proofs.Stores.{slots_apart, slot_again, store_word, word_at}
-use Rattle.fastforward.proofs.SenderMoves.{Moves, moves}
+use Rattle.fastforward.proofs.SenderMoves.{Moves, moves_00, moves_04, moves_08, moves_0C, at_slot, reads_10, moves_10, moves_14, moves_18, moves_1C, moves_20, moves_24, moves_28, moves_2C, moves_30, moves_34, moves_38}
+
+module _ (k : Block) (is : IsBlock k) (n : Numbers) (r : Written) (v : ℕ) (order : Ordered k n) where
+  -- wherever it runs, it moves, by what it finds in its slot
+  pub moves : (here : SenderPlace) → (stands k here n.made r).status ≡ status.Running → (n.made.m ≡ 0 → n.made.p < length k.list → need_of (stands k here n.made r) ≡ loads (slot k.size k.base n.made.p) → (v ≢ 0) ⊎ Free k n.made n.ln) → SenderIs k here n.made n.ln r → Moves k here n r v
+  moves P00 runs read h = moves_00 k is n r v order h
+  moves P04 runs read h = moves_04 k is n r v order h
+  moves P08 runs read h = moves_08 k is n r v order h
+  moves P0C runs read h = moves_0C k is n r v order h
+  moves P10 runs read h = moves_10 k is n r v order h (read h.0.unmarked h.0.within ((reads_10 k is n r v order h).wants ∙ ap loads (at_slot k is n r v order r.x28 h.1 h.0.index)))
+  moves P14 runs read h = moves_14 k is n r v order h
+  moves P18 runs read h = moves_18 k is n r v order h
+  moves P1C runs read h = moves_1C k is n r v order h
+  moves P20 runs read h = moves_20 k is n r v order h
+  moves P24 runs read h = moves_24 k is n r v order h
+  moves P28 runs read h = moves_28 k is n r v order h
+  moves P2C runs read h = moves_2C k is n r v order h
+  moves P30 runs read h = moves_30 k is n r v order h
+  moves P34 runs read h = moves_34 k is n r v order h
+  moves P38 runs read h = moves_38 k is n r v order h
+  moves Over runs read h = cc
 
 module _ (k : Block) (is : IsBlock k) (n : Numbers) (order : Ordered k n) (word : ℕ → ℕ) (words : Words k n word) where
   -- a slot whose null is not in memory holds the word of a round before: in memory, or pending

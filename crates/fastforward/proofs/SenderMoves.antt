@@ -6,7 +6,6 @@ use Rattle.std.specs.List.{slice_get}
 use Rattle.std.proofs.lemmas.Bool.{cases_lt, cases_eq}
 use Rattle.std.proofs.lemmas.Bool.Decides.{nat_tests}
 use Rattle.rv_decode.specs.declared.instruction.Instr.{Instr}
-use Rattle.hart.specs.declared.status.Status.TheVariants as status
 use Rattle.hart.specs.declared.need.Need.{Need}
 use Rattle.hart.specs.declared.need.Need.TheVariants as need
 use Rattle.hart.specs.Steps.{need_of, advanced}
@@ -76,7 +75,10 @@ module _ (k : Block) (is : IsBlock k) (n : Numbers) (r : Written) (v : ℕ) (ord
   behind : gone n ≤ sent n
   behind = omega (arith, order.ls_p, order.km_m)
 
-  moves_04 : SenderIs k P04 n.made n.ln r → Moves k P04 n r v
+  pub moves_00 : SenderIs k P00 n.made n.ln r → Moves k P00 n r v
+  moves_00 h = still P00 P04 (record r { x17 = 1 }) (line_00 sender_code (lit< tt) (fixed k) r (drop n.made.g k.list) (at 0 refl)) (h.0, h.1, refl) (λ free. omega arith)
+
+  pub moves_04 : SenderIs k P04 n.made n.ln r → Moves k P04 n r v
   moves_04 h =
       let before : length (drop n.made.g k.list) ≡ _ = length-drop n.made.g k.list in
       let after : length (drop (suc n.made.g) k.list) ≡ _ = length-drop (suc n.made.g) k.list in
@@ -94,7 +96,7 @@ module _ (k : Block) (is : IsBlock k) (n : Numbers) (r : Written) (v : ℕ) (ord
             (λ free. omega arith)
       ]
 
-  moves_08 : SenderIs k P08 n.made n.ln r → Moves k P08 n r v
+  pub moves_08 : SenderIs k P08 n.made n.ln r → Moves k P08 n r v
   moves_08 h =
       elim h.answer [
         | inl some ↦ still P08 P0C r (other_goes_on (at 2 refl) (omega (arith, some.0))) (record { taken = some.1; unmarked = h.unmarked; within = some.2; word = some.3; index = h.index }) (λ free. omega (arith, some.0))
@@ -104,21 +106,21 @@ module _ (k : Block) (is : IsBlock k) (n : Numbers) (r : Written) (v : ℕ) (ord
   holds_again : Holds k n.made r → (a b : ℕ) → Holds k n.made (record r { x7 = a; x28 = b })
   holds_again h a b = record { taken = h.taken; unmarked = h.unmarked; within = h.within; word = h.word; index = h.index }
 
-  moves_0C : SenderIs k P0C n.made n.ln r → Moves k P0C n r v
+  pub moves_0C : SenderIs k P0C n.made n.ln r → Moves k P0C n r v
   moves_0C h = still P0C P10 (record r { x28 = k.base + r.x5 }) (sum_line (at 3 refl) (omega (arith, is.inside, is.small, h.index, offset_low k is n.made.p))) (holds_again h r.x7 (k.base + r.x5), refl) (λ free. omega arith)
 
   -- it reads its slot
-  at_slot : (x28 : ℕ) → x28 ≡ k.base + r.x5 → r.x5 ≡ offset k n.made.p → x28 + 16 ≡ slot k.size k.base n.made.p
+  pub at_slot : (x28 : ℕ) → x28 ≡ k.base + r.x5 → r.x5 ≡ offset k n.made.p → x28 + 16 ≡ slot k.size k.base n.made.p
   at_slot x28 place index = omega (arith, place, index)
 
-  reads_10 : SenderIs k P10 n.made n.ln r → Line (stands k P10 n.made r) (loads (r.x28 + 16)) (λ u. stands k P14 n.made (record r { x7 = u }))
+  pub reads_10 : SenderIs k P10 n.made n.ln r → Line (stands k P10 n.made r) (loads (r.x28 + 16)) (λ u. stands k P14 n.made (record r { x7 = u }))
   reads_10 h = load_line (at 4 refl) (omega (arith, is.even, h.0.index, h.1)) refl (omega (arith, is.inside, h.0.index, h.1, offset_low k is n.made.p)) is.small
 
-  moves_10 : SenderIs k P10 n.made n.ln r → ((v ≢ 0) ⊎ Free k n.made n.ln) → Moves k P10 n r v
+  pub moves_10 : SenderIs k P10 n.made n.ln r → ((v ≢ 0) ⊎ Free k n.made n.ln) → Moves k P10 n r v
   moves_10 h found = acts P10 P14 (loads (r.x28 + 16)) n.made (λ u. record r { x7 = u }) tt (reads_10 h) order (holds_again h.0 v r.x28, h.1, found) (append-nil (pending_of k n)) (λ free. let none : (v == 0) ≡ true = free refl (reads_10 h).wants in rw none (omega arith))
 
   -- a word keeps it here; else the slot is free
-  moves_14 : SenderIs k P14 n.made n.ln r → Moves k P14 n r v
+  pub moves_14 : SenderIs k P14 n.made n.ln r → Moves k P14 n r v
   moves_14 h =
       elim (cases_eq r.x7 0) [
         | inl none ↦ still P14 P18 r (same_goes_on (at 5 refl) none) (h.0, h.1, room none h.2) (λ free. let on : (r.x7 == 0) ≡ true = grind (arith, nat_tests) in rw on (omega arith))
@@ -129,7 +131,7 @@ module _ (k : Block) (is : IsBlock k) (n : Numbers) (r : Written) (v : ℕ) (ord
       room none (inl some) = absurd (some none)
       room none (inr free) = free
 
-  moves_18 : SenderIs k P18 n.made n.ln r → Moves k P18 n r v
+  pub moves_18 : SenderIs k P18 n.made n.ln r → Moves k P18 n r v
   moves_18 h =
       let place : r.x28 + 16 ≡ slot k.size k.base n.made.p = at_slot r.x28 h.1 h.0.index in
       let next : slice_get (sender_stores k.size k.base k.list) (sent n) ≡ Some (slot k.size k.base n.made.p, slice_index k.list n.made.p) = store_word k.size k.base k.list n.made.p (sent n) h.0.within (omega (arith, h.0.unmarked)) in
@@ -139,20 +141,26 @@ module _ (k : Block) (is : IsBlock k) (n : Numbers) (r : Written) (v : ℕ) (ord
       (rw (place, h.0.word, ← more) (window_made (sender_stores k.size k.base k.list) (gone n) (sent n) (slot k.size k.base n.made.p, slice_index k.list n.made.p) behind next))
       (λ free. omega arith)
 
-  moves_1C : SenderIs k P1C n.made n.ln r → Moves k P1C n r v
+  pub moves_1C : SenderIs k P1C n.made n.ln r → Moves k P1C n r v
   moves_1C h = still P1C P20 (record r { x5 = r.x5 + 4 }) (add_line (at 7 refl) (word_plus r.x5 4 (omega (arith, is.inside, is.wide, h.1, offset_low k is h.0.last)))) (h.0, ap (λ o. o + 4) h.1) (λ free. omega arith)
 
-  moves_20 : SenderIs k P20 n.made n.ln r → Moves k P20 n r v
+  pub moves_20 : SenderIs k P20 n.made n.ln r → Moves k P20 n r v
   moves_20 h =
       elim (cases_eq r.x5 (4 * k.size)) [
         | inl same ↦ still P20 P24 r (same_goes_on (at 8 refl) same) (h.0, sym h.1 ∙ same) (λ free. omega arith)
         | inr other ↦ still P20 P00 r (other_jumps (at 8 refl) other refl) (h.0.between, h.1 ∙ offset_step k.size h.0.last is.some_slot (λ full. other (h.1 ∙ full)) ∙ ap (offset k) (sym h.0.next)) (λ free. omega arith)
       ]
 
-  moves_24 : SenderIs k P24 n.made n.ln r → Moves k P24 n r v
+  pub moves_24 : SenderIs k P24 n.made n.ln r → Moves k P24 n r v
   moves_24 h = still P24 P28 (record r { x5 = 0 }) (add_line (at 9 refl) (word_plus 0 0 (lit< tt))) (h.0.between, sym (offset_wrap k.size h.0.last is.some_slot h.1) ∙ ap (offset k) (sym h.0.next)) (λ free. omega arith)
 
-  moves_30 : SenderIs k P30 n.made n.ln r → Moves k P30 n r v
+  pub moves_28 : SenderIs k P28 n.made n.ln r → Moves k P28 n r v
+  moves_28 h = still P28 P00 r (jump_line (at 10 refl) refl) h (λ free. omega arith)
+
+  pub moves_2C : SenderIs k P2C n.made n.ln r → Moves k P2C n r v
+  moves_2C h = still P2C P30 (record r { x6 = 1 }) (add_line (at 11 refl) (word_plus 0 1 (lit< tt))) (h.0, h.1, refl) (λ free. omega arith)
+
+  pub moves_30 : SenderIs k P30 n.made n.ln r → Moves k P30 n r v
   moves_30 h =
       let next : slice_get (sender_stores k.size k.base k.list) (sent n) ≡ Some (k.base + 4, 1) = store_mark k.size k.base k.list (sent n) (omega (arith, h.0.unmarked, h.1)) in
       let more : suc (sent n) ≡ n.made.p + 1 = omega (arith, h.0.unmarked) in
@@ -161,21 +169,8 @@ module _ (k : Block) (is : IsBlock k) (n : Numbers) (r : Written) (v : ℕ) (ord
       (rw (h.2, ← more) (window_made (sender_stores k.size k.base k.list) (gone n) (sent n) (k.base + 4, 1) behind next))
       (λ free. omega arith)
 
-  -- wherever it runs, it moves, by what it finds in its slot
-  pub moves : (here : SenderPlace) → (stands k here n.made r).status ≡ status.Running → (n.made.m ≡ 0 → n.made.p < length k.list → need_of (stands k here n.made r) ≡ loads (slot k.size k.base n.made.p) → (v ≢ 0) ⊎ Free k n.made n.ln) → SenderIs k here n.made n.ln r → Moves k here n r v
-  moves P00 runs read h = still P00 P04 (record r { x17 = 1 }) (line_00 sender_code (lit< tt) (fixed k) r (drop n.made.g k.list) (at 0 refl)) (h.0, h.1, refl) (λ free. omega arith)
-  moves P04 runs read h = moves_04 h
-  moves P08 runs read h = moves_08 h
-  moves P0C runs read h = moves_0C h
-  moves P10 runs read h = moves_10 h (read h.0.unmarked h.0.within ((reads_10 h).wants ∙ ap loads (at_slot r.x28 h.1 h.0.index)))
-  moves P14 runs read h = moves_14 h
-  moves P18 runs read h = moves_18 h
-  moves P1C runs read h = moves_1C h
-  moves P20 runs read h = moves_20 h
-  moves P24 runs read h = moves_24 h
-  moves P28 runs read h = still P28 P00 r (jump_line (at 10 refl) refl) h (λ free. omega arith)
-  moves P2C runs read h = still P2C P30 (record r { x6 = 1 }) (add_line (at 11 refl) (word_plus 0 1 (lit< tt))) (h.0, h.1, refl) (λ free. omega arith)
-  moves P30 runs read h = moves_30 h
-  moves P34 runs read h = still P34 P38 (record r { x17 = 93 }) (add_line (at 13 refl) (word_plus 0 93 (lit< tt))) (h, refl) (λ free. omega arith)
-  moves P38 runs read h = acts P38 Over need.Exit n.made (λ w. r) tt (record { wants = exit_need (at 14 refl) h.1; leaves = λ w. exit_after (at 14 refl) h.1 w }) order h.0 (append-nil (pending_of k n)) (λ free. omega arith)
-  moves Over runs read h = cc
+  pub moves_34 : SenderIs k P34 n.made n.ln r → Moves k P34 n r v
+  moves_34 h = still P34 P38 (record r { x17 = 93 }) (add_line (at 13 refl) (word_plus 0 93 (lit< tt))) (h, refl) (λ free. omega arith)
+
+  pub moves_38 : SenderIs k P38 n.made n.ln r → Moves k P38 n r v
+  moves_38 h = acts P38 Over need.Exit n.made (λ w. r) tt (record { wants = exit_need (at 14 refl) h.1; leaves = λ w. exit_after (at 14 refl) h.1 w }) order h.0 (append-nil (pending_of k n)) (λ free. omega arith)

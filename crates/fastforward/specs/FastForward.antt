@@ -1,5 +1,5 @@
 -- FastForward, what its histories mean, and how far its harts are from their ends.
-use Rattle.std.specs.Prelude.{ℕ, ◌+◌, ◌*◌, ◌/◌, ◌==◌, Bool, false, not, ◌&&◌, ◌||◌, if◌then◌else◌, List, [], ◌∷◌, length, slice_index}
+use Rattle.std.specs.Prelude.{ℕ, ◌+◌, ◌*◌, ◌/◌, ◌==◌, Bool, false, not, ◌&&◌, ◌||◌, if◌then◌else◌, [], ◌∷◌, length, slice_index}
 use Rattle.hart.specs.State.{HartState}
 use Rattle.poll_close.specs.Laws.{Ring, Meaning}
 use Rattle.poll_close.specs.Paces.{Pace, is_running}

@@ -29,7 +29,8 @@ use Rattle.lamport_ring.specs.Invariant.Stores.{head_store, sender_stores, recei
 use Rattle.lamport_ring.specs.Invariant.Middle.{middle}
 use Rattle.lamport_ring.specs.Invariant.Numbers.{Numbers, sent, gone, Ordered, Words, pending_of, unread_of}
 use Rattle.lamport_ring.specs.Invariant.SenderPlaces.{SenderPlace, P00, P18, Over, stands, SenderIs, Standing}
-use Rattle.lamport_ring.proofs.SenderMoves.{Moves, moves}
+use Rattle.lamport_ring.proofs.SenderMoves.{Moves}
+use Rattle.lamport_ring.proofs.SenderActs.{moves}
 use Rattle.lamport_ring.proofs.MiddleLines as mid
 use Rattle.lamport_ring.proofs.ReceiverReads.{seen_head, seen_tail}
 use Rattle.lamport_ring.proofs.LamportLaws.{lamport_laws}

@@ -14,8 +14,30 @@ use Rattle.lamport_ring.specs.Lamport.{lamport_blocks}
 use Rattle.lamport_ring.specs.Invariant.Stores.{head_store, sender_stores}
 use Rattle.lamport_ring.specs.Invariant.Numbers.{Made, Numbers, sent, gone, Ordered, Words, pending_of}
 use Rattle.poll_close.specs.Invariant.SenderState.{Written}
-use Rattle.lamport_ring.specs.Invariant.SenderPlaces.{SenderPlace, stands, SenderIs, Standing}
-use Rattle.lamport_ring.proofs.SenderMoves.{Moves, moves}
+use Rattle.lamport_ring.specs.Invariant.SenderPlaces.{SenderPlace, P00, P04, P08, P0C, P10, P14, P18, P1C, P20, P24, P28, P2C, P30, P34, P38, P3C, P40, Over, stands, SenderIs, Standing}
+use Rattle.lamport_ring.proofs.SenderMoves.{Moves, moves_00, moves_04, moves_08, moves_0C, moves_10, moves_14, reads_18, moves_18, moves_1C, moves_20, moves_24, moves_28, moves_2C, moves_30, moves_34, moves_38, moves_3C, moves_40}
+
+module _ (k : Block) (is : IsBlock k) (n : Numbers) (r : Written) (v : ℕ) (order : Ordered k n) where
+  -- wherever it runs, it moves; what it reads is the tail that landed last
+  pub moves : (here : SenderPlace) → (stands k here n.made r).status ≡ status.Running → (need_of (stands k here n.made r) ≡ loads (k.base + 8) → v ≡ offset k n.kc) → SenderIs k here n.made n.kc r → Moves k here n r v
+  moves P00 runs read h = moves_00 k is n r v order h
+  moves P04 runs read h = moves_04 k is n r v order h
+  moves P08 runs read h = moves_08 k is n r v order h
+  moves P0C runs read h = moves_0C k is n r v order h
+  moves P10 runs read h = moves_10 k is n r v order h
+  moves P14 runs read h = moves_14 k is n r v order h
+  moves P18 runs read h = moves_18 k is n r v order h (read (reads_18 k is n r v order).wants)
+  moves P1C runs read h = moves_1C k is n r v order h
+  moves P20 runs read h = moves_20 k is n r v order h
+  moves P24 runs read h = moves_24 k is n r v order h
+  moves P28 runs read h = moves_28 k is n r v order h
+  moves P2C runs read h = moves_2C k is n r v order h
+  moves P30 runs read h = moves_30 k is n r v order h
+  moves P34 runs read h = moves_34 k is n r v order h
+  moves P38 runs read h = moves_38 k is n r v order h
+  moves P3C runs read h = moves_3C k is n r v order h
+  moves P40 runs read h = moves_40 k is n r v order h
+  moves Over runs read h = cc
 
 -- the sender never stores to the tail
 no_tail : (S b : ℕ) (ws : List ℕ) → Each (λ y. y.0 ≢ b + 8) (sender_stores S b ws)

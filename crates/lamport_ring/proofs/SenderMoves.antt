@@ -7,7 +7,6 @@ use Rattle.std.specs.List.{slice_get}
 use Rattle.std.proofs.lemmas.Bool.{cases_lt, cases_eq}
 use Rattle.std.proofs.lemmas.Bool.Decides.{nat_tests}
 use Rattle.rv_decode.specs.declared.instruction.Instr.{Instr}
-use Rattle.hart.specs.declared.status.Status.TheVariants as status
 use Rattle.hart.specs.declared.need.Need.{Need}
 use Rattle.hart.specs.declared.need.Need.TheVariants as need
 use Rattle.hart.specs.Steps.{need_of, advanced}
@@ -77,7 +76,10 @@ module _ (k : Block) (is : IsBlock k) (n : Numbers) (r : Written) (v : ℕ) (ord
   behind : gone n ≤ sent n
   behind = omega (arith, order.ls_p, order.kh_q, order.km_m)
 
-  moves_04 : SenderIs k P04 n.made n.kc r → Moves k P04 n r v
+  pub moves_00 : SenderIs k P00 n.made n.kc r → Moves k P00 n r v
+  moves_00 h = still P00 P04 (record r { x17 = 1 }) (line_00 sender_code (lit< tt) (fixed k) r (drop n.made.g k.list) (at 0 refl)) (h.0, h.1, refl) (λ room. omega arith)
+
+  pub moves_04 : SenderIs k P04 n.made n.kc r → Moves k P04 n r v
   moves_04 h =
       let before : length (drop n.made.g k.list) ≡ _ = length-drop n.made.g k.list in
       let after : length (drop (suc n.made.g) k.list) ≡ _ = length-drop (suc n.made.g) k.list in
@@ -95,17 +97,17 @@ module _ (k : Block) (is : IsBlock k) (n : Numbers) (r : Written) (v : ℕ) (ord
             (λ room. omega arith)
       ]
 
-  moves_08 : SenderIs k P08 n.made n.kc r → Moves k P08 n r v
+  pub moves_08 : SenderIs k P08 n.made n.kc r → Moves k P08 n r v
   moves_08 h =
       elim h.answer [
         | inl some ↦ still P08 P0C r (other_goes_on (at 2 refl) (omega (arith, some.0))) (record { taken = some.1; heads = h.heads; unmarked = h.unmarked; within = some.2; word = some.3; index = h.index }) (λ room. omega (arith, some.0))
         | inr none ↦ still P08 P34 r (same_jumps (at 2 refl) none.0 refl) (record { taken = none.1; heads = h.heads; unmarked = h.unmarked }, none.2) (λ room. omega (arith, none.0))
       ]
 
-  moves_0C : SenderIs k P0C n.made n.kc r → Moves k P0C n r v
+  pub moves_0C : SenderIs k P0C n.made n.kc r → Moves k P0C n r v
   moves_0C h = still P0C P10 (record r { x6 = r.x5 + 4 }) (add_line (at 3 refl) (word_plus r.x5 4 (omega (arith, is.inside, is.small, h.index, offset_low k is n.made.p)))) (record { taken = h.taken; heads = h.heads; unmarked = h.unmarked; within = h.within; word = h.word; index = h.index }, refl) (λ room. omega arith)
 
-  moves_10 : SenderIs k P10 n.made n.kc r → Moves k P10 n r v
+  pub moves_10 : SenderIs k P10 n.made n.kc r → Moves k P10 n r v
   moves_10 h =
       elim (cases_eq r.x6 (4 * k.size)) [
         | inl same ↦ still P10 P14 r (same_goes_on (at 4 refl) same) (h.0, omega arith) (λ room. omega arith)
@@ -115,14 +117,14 @@ module _ (k : Block) (is : IsBlock k) (n : Numbers) (r : Written) (v : ℕ) (ord
   holds_again : Holds k n.made r → (a b c : ℕ) → Holds k n.made (record r { x6 = a; x7 = b; x28 = c })
   holds_again h a b c = record { taken = h.taken; heads = h.heads; unmarked = h.unmarked; within = h.within; word = h.word; index = h.index }
 
-  moves_14 : SenderIs k P14 n.made n.kc r → Moves k P14 n r v
+  pub moves_14 : SenderIs k P14 n.made n.kc r → Moves k P14 n r v
   moves_14 h = still P14 P18 (record r { x6 = 0 }) (add_line (at 5 refl) (word_plus 0 0 (lit< tt))) (holds_again h.0 0 r.x7 r.x28, sym (offset_wrap k.size n.made.p (omega (arith, is.some_slot)) (omega (arith, h.0.index, h.1)))) (λ room. omega arith)
 
   -- it reads the tail that landed last
-  reads_18 : Line (stands k P18 n.made r) (loads (k.base + 8)) (λ u. stands k P1C n.made (record r { x7 = u }))
+  pub reads_18 : Line (stands k P18 n.made r) (loads (k.base + 8)) (λ u. stands k P1C n.made (record r { x7 = u }))
   reads_18 = load_line (at 6 refl) is.even refl (omega (arith, is.inside, is.some_slot)) is.small
 
-  moves_18 : SenderIs k P18 n.made n.kc r → v ≡ offset k n.kc → Moves k P18 n r v
+  pub moves_18 : SenderIs k P18 n.made n.kc r → v ≡ offset k n.kc → Moves k P18 n r v
   moves_18 h read =
       acts P18 P1C (loads (k.base + 8)) n.made (λ u. record r { x7 = u }) tt reads_18 order
       (holds_again h.0 r.x6 v r.x28, h.1, record { tail = n.kc; landed = omega arith; near = order.p_kc; old = omega (arith, order.kc_c, order.c_kh, order.kh_ls, order.ls_p); is = read })
@@ -130,7 +132,7 @@ module _ (k : Block) (is : IsBlock k) (n : Numbers) (r : Written) (v : ℕ) (ord
       (λ room. let off : (v == r.x6) ≡ false = room refl reads_18.wants in rw off (omega arith))
 
   -- a full ring keeps it here; else the next slot is free
-  moves_1C : SenderIs k P1C n.made n.kc r → Moves k P1C n r v
+  pub moves_1C : SenderIs k P1C n.made n.kc r → Moves k P1C n r v
   moves_1C h =
       elim (cases_eq r.x7 r.x6) [
         | inl same ↦ still P1C P18 r (same_jumps (at 7 refl) same refl) (h.0, h.1) (λ room. let on : (r.x7 == r.x6) ≡ true = grind (arith, nat_tests) in rw on (omega arith))
@@ -143,10 +145,10 @@ module _ (k : Block) (is : IsBlock k) (n : Numbers) (r : Written) (v : ℕ) (ord
           absurd (other (h.2.is ∙ ap (λ o. 4 * o) (sym wrapped) ∙ sym h.1))
       free other (inr room) = omega (arith, h.2.near, h.2.landed)
 
-  moves_20 : SenderIs k P20 n.made n.kc r → Moves k P20 n r v
+  pub moves_20 : SenderIs k P20 n.made n.kc r → Moves k P20 n r v
   moves_20 h = still P20 P24 (record r { x28 = k.base + r.x5 }) (sum_line (at 8 refl) (omega (arith, is.inside, is.small, h.0.index, offset_low k is n.made.p))) (holds_again h.0 r.x6 r.x7 (k.base + r.x5), h.1, h.2, refl) (λ room. omega arith)
 
-  moves_24 : SenderIs k P24 n.made n.kc r → Moves k P24 n r v
+  pub moves_24 : SenderIs k P24 n.made n.kc r → Moves k P24 n r v
   moves_24 h =
       let place : r.x28 + 16 ≡ slot k.size k.base n.made.p = omega (arith, h.0.index, h.3) in
       let next : slice_get (sender_stores k.size k.base k.list) (sent n) ≡ Some (slot k.size k.base n.made.p, slice_index k.list n.made.p) = store_slot k.size k.base k.list n.made.p (sent n) h.0.within (omega (arith, h.0.heads, h.0.unmarked)) in
@@ -156,7 +158,7 @@ module _ (k : Block) (is : IsBlock k) (n : Numbers) (r : Written) (v : ℕ) (ord
       (rw (place, h.0.word, ← more) (window_made (sender_stores k.size k.base k.list) (gone n) (sent n) (slot k.size k.base n.made.p, slice_index k.list n.made.p) behind next))
       (λ room. omega arith)
 
-  moves_28 : SenderIs k P28 n.made n.kc r → Moves k P28 n r v
+  pub moves_28 : SenderIs k P28 n.made n.kc r → Moves k P28 n r v
   moves_28 h =
       let next : slice_get (sender_stores k.size k.base k.list) (sent n) ≡ Some (k.base, offset k (n.made.q + 1)) = store_head k.size k.base k.list n.made.q (sent n) (omega (arith, h.heads, order.p_all)) (omega (arith, h.heads, h.unmarked)) in
       let word : r.x6 ≡ offset k (n.made.q + 1) = h.next ∙ ap (offset k) (sym h.heads) in
@@ -167,10 +169,16 @@ module _ (k : Block) (is : IsBlock k) (n : Numbers) (r : Written) (v : ℕ) (ord
       (rw (place, word, ← more) (window_made (sender_stores k.size k.base k.list) (gone n) (sent n) (k.base, offset k (n.made.q + 1)) behind next))
       (λ room. omega arith)
 
-  moves_2C : SenderIs k P2C n.made n.kc r → Moves k P2C n r v
+  pub moves_2C : SenderIs k P2C n.made n.kc r → Moves k P2C n r v
   moves_2C h = still P2C P30 (record r { x5 = r.x6 }) (add_line (at 11 refl) (word_plus r.x6 0 (omega (arith, is.inside, is.small, h.1, offset_low k is n.made.p)) ∙ add-zero r.x6)) (h.0, h.1) (λ room. omega arith)
 
-  moves_38 : SenderIs k P38 n.made n.kc r → Moves k P38 n r v
+  pub moves_30 : SenderIs k P30 n.made n.kc r → Moves k P30 n r v
+  moves_30 h = still P30 P00 r (jump_line (at 12 refl) refl) h (λ room. omega arith)
+
+  pub moves_34 : SenderIs k P34 n.made n.kc r → Moves k P34 n r v
+  moves_34 h = still P34 P38 (record r { x6 = 1 }) (add_line (at 13 refl) (word_plus 0 1 (lit< tt))) (h.0, h.1, refl) (λ room. omega arith)
+
+  pub moves_38 : SenderIs k P38 n.made n.kc r → Moves k P38 n r v
   moves_38 h =
       let next : slice_get (sender_stores k.size k.base k.list) (sent n) ≡ Some (k.base + 4, 1) = store_mark k.size k.base k.list (sent n) (omega (arith, h.0.heads, h.0.unmarked)) in
       let more : suc (sent n) ≡ n.made.p + n.made.q + 1 = omega (arith, h.0.unmarked) in
@@ -179,23 +187,8 @@ module _ (k : Block) (is : IsBlock k) (n : Numbers) (r : Written) (v : ℕ) (ord
       (rw (h.2, ← more) (window_made (sender_stores k.size k.base k.list) (gone n) (sent n) (k.base + 4, 1) behind next))
       (λ room. omega arith)
 
-  -- wherever it runs, it moves; what it reads is the tail that landed last
-  pub moves : (here : SenderPlace) → (stands k here n.made r).status ≡ status.Running → (need_of (stands k here n.made r) ≡ loads (k.base + 8) → v ≡ offset k n.kc) → SenderIs k here n.made n.kc r → Moves k here n r v
-  moves P00 runs read h = still P00 P04 (record r { x17 = 1 }) (line_00 sender_code (lit< tt) (fixed k) r (drop n.made.g k.list) (at 0 refl)) (h.0, h.1, refl) (λ room. omega arith)
-  moves P04 runs read h = moves_04 h
-  moves P08 runs read h = moves_08 h
-  moves P0C runs read h = moves_0C h
-  moves P10 runs read h = moves_10 h
-  moves P14 runs read h = moves_14 h
-  moves P18 runs read h = moves_18 h (read reads_18.wants)
-  moves P1C runs read h = moves_1C h
-  moves P20 runs read h = moves_20 h
-  moves P24 runs read h = moves_24 h
-  moves P28 runs read h = moves_28 h
-  moves P2C runs read h = moves_2C h
-  moves P30 runs read h = still P30 P00 r (jump_line (at 12 refl) refl) h (λ room. omega arith)
-  moves P34 runs read h = still P34 P38 (record r { x6 = 1 }) (add_line (at 13 refl) (word_plus 0 1 (lit< tt))) (h.0, h.1, refl) (λ room. omega arith)
-  moves P38 runs read h = moves_38 h
-  moves P3C runs read h = still P3C P40 (record r { x17 = 93 }) (add_line (at 15 refl) (word_plus 0 93 (lit< tt))) (h, refl) (λ room. omega arith)
-  moves P40 runs read h = acts P40 Over need.Exit n.made (λ w. r) tt (record { wants = exit_need (at 16 refl) h.1; leaves = λ w. exit_after (at 16 refl) h.1 w }) order h.0 (append-nil (pending_of k n)) (λ room. omega arith)
-  moves Over runs read h = cc
+  pub moves_3C : SenderIs k P3C n.made n.kc r → Moves k P3C n r v
+  moves_3C h = still P3C P40 (record r { x17 = 93 }) (add_line (at 15 refl) (word_plus 0 93 (lit< tt))) (h, refl) (λ room. omega arith)
+
+  pub moves_40 : SenderIs k P40 n.made n.kc r → Moves k P40 n r v
+  moves_40 h = acts P40 Over need.Exit n.made (λ w. r) tt (record { wants = exit_need (at 16 refl) h.1; leaves = λ w. exit_after (at 16 refl) h.1 w }) order h.0 (append-nil (pending_of k n)) (λ room. omega arith)

@@ -5,7 +5,7 @@ use Rattle.std.proofs.lemmas.List.Elements.{All-nil, All-cons}
 use Rattle.hart.specs.declared.need.Report.{Report}
 use Rattle.step_machine.specs.declared.events.Event.{Event}
 use Rattle.step_machine.specs.declared.events.Outcome.{Outcome}
-use Rattle.step_machine.specs.History.{HartStart, Start, History, FitsIn, IsShort, unrun}
+use Rattle.step_machine.specs.History.{Start, History, FitsIn, IsShort, unrun}
 use Rattle.step_machine.specs.Entries.{reported}
 use Rattle.step_machine.specs.Legal.{Kept}
 use Rattle.step_machine.specs.Runs.{Happens, Run, RunFrom}

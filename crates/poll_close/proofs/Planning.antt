@@ -1,6 +1,6 @@
 -- What each step of the plan's loop keeps.
 use Rattle.std.proofs.Common.{◌≡◌, ◌≢◌, ℕ, zero, suc, ◌+◌, ◌-◌, ◌==◌, not, ◌≤◌, ◌<◌, inl, inr, ◌⊎◌, Bool, true, false, if◌then◌else◌, ◌||◌, ◌&&◌, Some, None, List, [], ◌∷◌, ◌++◌, length, drop, refl, sym, ◌∙◌, ap, subst, arith}
-use Rattle.std.proofs.lemmas.Bool.{cases_eq}
+use Rattle.std.proofs.lemmas.Bool.{cases_eq, cases_lt}
 use Rattle.std.proofs.lemmas.Bool.Decides.{nat_tests}
 use Rattle.step_machine.specs.declared.events.Event.{Event}
 use Rattle.step_machine.specs.declared.events.Event.TheVariants as event
@@ -14,6 +14,7 @@ use Rattle.step_machine.specs.Legal.{Kept}
 use Rattle.step_machine.specs.Runs.{Happens, Run, RunFrom, IsOwnRun, event_of}
 use Rattle.step_machine.proofs.Running.{shape_of, RunFrom-more, run-one}
 use Rattle.step_machine.proofs.Follows.{land_follows}
+use Rattle.step_machine.proofs.Acts.{happens_some}
 use Rattle.step_machine.proofs.Balanced.{balanced}
 use Rattle.step_machine.proofs.Appended.{pending-last}
 use Rattle.step_machine.proofs.Stays.{pending-land, pending-other, land_of-other, store_of-other}
@@ -23,16 +24,16 @@ use Rattle.hart.specs.declared.need.Report.{Report}
 use Rattle.hart.specs.declared.need.Report.TheVariants as report
 use Rattle.std.specs.Prelude.{map}
 use Rattle.std.specs.List.{slice_get, slice_index_or}
-use Rattle.poll_close.specs.Laws.{Ring, Meaning, Keeps, Cleans}
+use Rattle.poll_close.specs.Laws.{Ring, Meaning, Accepted, Opens, Keeps, Cleans}
 use Rattle.poll_close.specs.Reports.{taken, Clean}
 use Rattle.poll_close.specs.Standing.{Stands, lists_of}
-use Rattle.poll_close.proofs.Standing.{inboxes, stands-happens, stands-clean}
+use Rattle.poll_close.proofs.Standing.{inboxes, stands-opens, stands-happens, stands-run, stands-clean}
 use Rattle.poll_close.specs.Layout.{opening_of, senders_from}
 use Rattle.poll_close.specs.Delivery.{DeliversWhole}
 use Rattle.poll_close.proofs.Delivering.{senders-length}
 use Rattle.poll_close.proofs.CleanReports.{closed_whole}
 use Rattle.poll_close.specs.Paces.{Nearer, Nears}
-use Rattle.poll_close.specs.Plans.{AllLanded, Finished, Finishes, is_closed, all_closed, ends_in_word, is_word, is_done, senders_of}
+use Rattle.poll_close.specs.Plans.{AllLanded, Finished, Finishes, CanFinish, is_closed, all_closed, ends_in_word, is_word, is_done, senders_of}
 
 pub record Planned (ring : Ring) (means : Meaning) (B M : ℕ) (start : History) (evs : List Event) (t : History) : Type 0 where
   pub run : RunFrom B M start evs t
@@ -314,3 +315,70 @@ landed_more es h before none k below = elim (cases_eq k h) [
   | inl same ↦ subst (λ (j : ℕ). pending j es ≡ []) (sym same) (no_length (pending h es) none)
   | inr other ↦ before k (omega (arith, other))
 ]
+
+-- ---- such a plan exists, whether or not it is computed
+
+done_or : (b : Bool) → (b ≡ true) ⊎ (b ≡ false)
+done_or true = inl refl
+done_or false = inr refl
+
+module _ (ring : Ring) (means : Meaning) (left next : ℕ → History → ℕ) (keeps : Keeps ring means) (cleans : Cleans ring means) (nears : Nears ring means left next) (B M : ℕ) (some : 1 ≤ B) (start : History) where
+  abbrev Reached : (History → Type 0) → Type 0
+  Reached P = (evs : List Event) × (t : History) × Planned ring means B M start evs t × P t
+
+  -- all that is pending of hart h lands, which is so many stores at most
+  land_hart : (h room : ℕ) → h < length start.opening.harts → (evs : List Event) (t : History) → Planned ring means B M start evs t → ((k : ℕ) → k < h → pending k t.entries ≡ []) → length (pending h t.entries) ≤ room → Reached (λ u. (k : ℕ) → k < h + 1 → pending k u.entries ≡ [])
+  land_hart h zero hart evs t p before few = (evs, t, p, landed_more t.entries h before (omega (arith, few)))
+  land_hart h (suc room) hart evs t p before few =
+      elim (cases_lt 0 (length (pending h t.entries))) [
+        | inl more ↦
+            let hap = happens_some B M t (event.Land h) p.stands.kept in
+            let less : Less t hap.1 h = lands_one B M t h hap.0 hap.1 p.stands.kept (omega (arith, p.harts, hart)) more hap.2 in
+            land_hart h room hart (evs ++ event.Land h ∷ []) hap.1 (planned-more ring means B M start evs t (event.Land h) hap.0 hap.1 keeps p hap.2) (λ k below. less.others k (omega (arith, below)) ∙ before k below) (omega (arith, less.fewer, few))
+        | inr none ↦ (evs, t, p, landed_more t.entries h before (omega (arith, none)))
+      ]
+
+  land_all : Stands ring means B M start → (m : ℕ) → m ≤ length start.opening.harts → Reached (λ u. (k : ℕ) → k < m → pending k u.entries ≡ [])
+  land_all stands zero less = ([], start, planned-none ring means B M start stands, λ k below. absurd (omega (arith, below)))
+  land_all stands (suc m) less =
+      let most = land_all stands m (omega (arith, less)) in
+      let all = land_hart m (length (pending m most.1.entries)) (omega (arith, less)) most.0 most.1 most.2 most.3 (omega arith) in
+      (all.0, all.1, all.2, λ k below. all.3 k (omega (arith, below)))
+
+  -- the hart that comes next acts, and its store lands
+  turn_one : (evs : List Event) (t : History) → Planned ring means B M start evs t → AllLanded t → is_done t ≡ false → (more : List Event) × (u : History) × Over ring means B M (left M) start more t u
+  turn_one evs t p all open_yet =
+      let hap = happens_some B M t (event.Act (next M t)) p.stands.kept in
+      let turn : Turned ring means B M (left M) start (evs ++ event.Act (next M t) ∷ []) t hap.1 (next M t) = turned ring means left next B M start evs t (next M t) hap.0 hap.1 nears keeps some p all open_yet refl hap.2 in
+      elim (cases_lt 0 (length (pending (next M t) hap.1.entries))) [
+        | inl more ↦
+            let land = happens_some B M hap.1 (event.Land (next M t)) turn.planned.stands.kept in
+            ((evs ++ event.Act (next M t) ∷ []) ++ event.Land (next M t) ∷ [], land.1, turn_over ring means left B M start (evs ++ event.Act (next M t) ∷ []) t hap.1 (next M t) land.0 land.1 keeps all turn more land.2)
+        | inr none ↦ (evs ++ event.Act (next M t) ∷ [], hap.1, turn_quiet ring means left B M start (evs ++ event.Act (next M t) ∷ []) t hap.1 (next M t) all turn (omega (arith, none)))
+      ]
+
+  -- and so on, where so much is left at most
+  turns : (most : ℕ) (evs : List Event) (t : History) → Planned ring means B M start evs t → AllLanded t → left M t ≤ most → Reached (λ u. is_done u ≡ true)
+  turns zero evs t p all few =
+      elim (done_or (is_done t)) [
+        | inl done ↦ (evs, t, p, done)
+        | inr open_yet ↦ absurd (omega (arith, (turn_one evs t p all open_yet).2.less, few))
+      ]
+  turns (suc most) evs t p all few =
+      elim (done_or (is_done t)) [
+        | inl done ↦ (evs, t, p, done)
+        | inr open_yet ↦
+            let one = turn_one evs t p all open_yet in
+            turns most one.0 one.1 one.2.planned one.2.all (omega (arith, one.2.less, few))
+      ]
+
+  pub can_finish : Stands ring means B M start → CanFinish B M start
+  can_finish stands =
+      let quiet = land_all stands (length start.opening.harts) (omega arith) in
+      let end = turns (left M quiet.1) quiet.0 quiet.1 quiet.2 (λ k below. quiet.3 k (omega (arith, quiet.2.harts, below))) (omega arith) in
+      record { events = end.0; finishes = planned-done ring means B M start end.0 end.1 cleans end.2 end.3; history = end.1; run = end.2.run }
+
+-- so from every state that events lead to
+pub run_can_finish : (ring : Ring) (means : Meaning) (left next : ℕ → History → ℕ) → Opens ring means → Keeps ring means → Cleans ring means → Nears ring means left next → (B M : ℕ) (lists : List (List ℕ)) (S : ℕ) (evs : List Event) (t : History) → 1 ≤ B → Accepted ring M lists S → Run B M (opening_of ring.sender ring.receiver lists S) evs t → CanFinish B M t
+run_can_finish ring means left next opens keeps cleans nears B M lists S evs t some accepted run =
+    can_finish ring means left next keeps cleans nears B M some t (stands-run ring means B M (unrun (opening_of ring.sender ring.receiver lists S)) evs t keeps (stands-opens ring means B M lists S (unrun (opening_of ring.sender ring.receiver lists S)) opens accepted refl) run)

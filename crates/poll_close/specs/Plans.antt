@@ -47,5 +47,12 @@ pub record Finished (t : History) : Type 0 where
 abbrev pub Finishes : ℕ → ℕ → History → List Event → Type 0
 Finishes B M t evs = (new : History) → RunFrom B M t evs new → Finished new
 
+-- there are such events, and they run
+pub record CanFinish (B M : ℕ) (t : History) : Type 0 where
+  pub events : List Event
+  pub finishes : Finishes B M t events
+  pub history : History
+  pub run : RunFrom B M t events history
+
 abbrev pub AllLanded : History → Type 0
 AllLanded t = (h : ℕ) → h < length t.opening.harts → pending h t.entries ≡ []

@@ -10,6 +10,8 @@ ghost use Rattle.poll_close.specs.Laws.{Accepted};
 ghost use Rattle.poll_close.specs.Refusals.{Refuses};
 ghost use Rattle.poll_close.specs.Reports.{Clean};
 ghost use Rattle.poll_close.specs.Delivery.{Delivers, DeliversWhole};
+ghost use Rattle.poll_close.specs.Standing.{Stands};
+ghost use Rattle.poll_close.specs.Plans.{CanFinish};
 
 use crate::channel::Channel;
 use crate::faults::Refused;
@@ -100,4 +102,15 @@ pub fn laws_of_channels<K: RingKind>()
     ensures clean { (B M : ℕ) (lists : List (List ℕ)) (S : ℕ) (events : List Event) (t : History) → Accepted K.ring M lists S → Run B M (opening_of K.ring.sender K.ring.receiver lists S) events t → Clean (reported 0 t.entries) lists }
 {
     K::laws();
+}
+
+/// The law of plans: from every state of a channel of this kind, and so from every one that events lead
+/// to, further events finish it, where a buffer holds a store at least. It does nothing.
+#[tactic(auto, using(crate::proofs::Planning::can_finish, crate::proofs::Planning::run_can_finish))]
+pub fn laws_of_plans<K: Finish<B, M>, const B: usize, const M: usize>()
+    ensures standing { (capacity memory : ℕ) (t : History) → 1 ≤ capacity → Stands K.RingKind.ring K.RingKind.meaning capacity memory t → CanFinish capacity memory t }
+    ensures running { (capacity memory : ℕ) (lists : List (List ℕ)) (S : ℕ) (events : List Event) (t : History) → 1 ≤ capacity → Accepted K.RingKind.ring memory lists S → Run capacity memory (opening_of K.RingKind.ring.sender K.RingKind.ring.receiver lists S) events t → CanFinish capacity memory t }
+{
+    K::laws();
+    K::nears();
 }

@@ -12,7 +12,7 @@ pub mod openings;
 pub mod plans;
 
 pub use channel::Channel;
-pub use delivery::{deliver, deliver_whole, laws_of_channels};
+pub use delivery::{deliver, deliver_whole, laws_of_channels, laws_of_plans};
 pub use faults::Refused;
 pub use kind::RingKind;
 pub use openings::{MAX_SENDERS, opening};

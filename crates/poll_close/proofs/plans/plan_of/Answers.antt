@@ -1,5 +1,4 @@
-use Rattle.std.proofs.Common.{◌≡◌, ◌<◌, true, false, [], ◌∷◌, ◌++◌, lit<, sym, ◌∙◌, ap, subst, arith}
-use Rattle.step_machine.specs.Entries.{pending}
+use Rattle.std.proofs.Common.{◌≡◌, true, false, [], ◌∷◌, ◌++◌, lit<, sym, ◌∙◌, ap, subst, arith}
 use Rattle.step_machine.specs.declared.events.Event.TheVariants as event
 use Rattle.poll_close.specs.Paces.{left_by, next_by}
 use Rattle.poll_close.specs.Plans.{is_done}
