@@ -4,7 +4,7 @@ use Rattle.std.specs.Prelude.{Result}
 use Rattle.clap.specs.Words.{Text}
 use Rattle.clap.proofs.OnLiterals.{clap_on_literals}
 use Rattle.ztso.proofs.Pieces.{Piece, plain, other, text_in, ArePlain, IsCommand, said, pieces_fault, by_pieces}
-use Rattle.ztso.specs.CommandLines.{Answers, capacity_said, job_said, ◌>>=◌}
+use Rattle.ztso.specs.CommandLines.{Answers, capacity_said, job_said, ring_said, ◌>>=◌}
 use Rattle.ztso.specs.Numbers.{number_within}
 use Rattle.ztso.specs.Spellings.{AsksFor, AsksForTurns, AsksToFinish, IsOnFiles, IsSpelling, IsSpellingOf, IsWord, name_of, text_of}
 use Rattle.ztso.specs.declared.job.Ring.{Ring}
@@ -187,38 +187,41 @@ abbrev finish_pieces : Bool → List Piece → List Piece
 finish_pieces false tail = tail
 finish_pieces true tail = other (codes "--finish") ∷ tail
 
-abbrev channel_pieces : (ring : Ring) (number schedule : Text) → List Piece → List Piece
-channel_pieces ring number schedule tail = other (name_of ring) ∷ plain number ∷ plain schedule ∷ tail
+abbrev channel_pieces : (kind number schedule : Text) → List Piece → List Piece
+channel_pieces kind number schedule tail = plain kind ∷ plain number ∷ plain schedule ∷ tail
 
 channel_is_command : IsCommand (codes "channel")
 unfolding clap_on_literals
 channel_is_command = (refl, refl)
 
-abbrev carried : (ring : Ring) (number schedule : Text) (finish : Bool) → Option Capacity → Option Wanted
-carried ring number schedule finish found = on_schedule_of schedule (machine_of found (do
+kind_is_word : (ring : Ring) → IsWord (name_of ring)
+kind_is_word Lamport = λ e. omega (arith, e)
+kind_is_word FastForward = λ e. omega (arith, e)
+
+kind_says : (ring : Ring) → ring_said (name_of ring) ≡ Some ring
+kind_says Lamport = refl
+kind_says FastForward = refl
+
+abbrev carried : (kind number schedule : Text) (finish : Bool) → Option Capacity → Option Wanted
+carried kind number schedule finish found = on_schedule_of schedule (machine_of found (do
+  ring ← ring_said kind
   slots ← number_within 0 4294967295 number
   Some (Channel ring slots finish)))
 
-carried_says : (ring : Ring) (number schedule : Text) (slots : ℕ) (finish : Bool) (capacity : Capacity) (found : Option Capacity)
-    → number_within 0 4294967295 number ≡ Some slots → found ≡ Some capacity
-    → carried ring number schedule finish found ≡ Some (two_inputs (Alone (Machine (Channel ring slots finish) capacity)) (File schedule) Standard)
-carried_says ring number schedule slots finish capacity found a b = rw (a, b) refl
+carried_says : (ring : Ring) (kind number schedule : Text) (slots : ℕ) (finish : Bool) (capacity : Capacity) (found : Option Capacity)
+    → ring_said kind ≡ Some ring → number_within 0 4294967295 number ≡ Some slots → found ≡ Some capacity
+    → carried kind number schedule finish found ≡ Some (two_inputs (Alone (Machine (Channel ring slots finish) capacity)) (File schedule) Standard)
+carried_says ring kind number schedule slots finish capacity found a b c = rw (a, b, c) refl
 
-channel_told : (ring : Ring) (number schedule : Text) (finish : Bool) (tail : Tail) (t : Text)
-    → said (codes "channel") (channel_pieces ring number schedule (finish_pieces finish (tail_of tail t))) ≡ carried ring number schedule finish (capacity_at tail t)
+channel_told : (kind number schedule : Text) (finish : Bool) (tail : Tail) (t : Text)
+    → said (codes "channel") (channel_pieces kind number schedule (finish_pieces finish (tail_of tail t))) ≡ carried kind number schedule finish (capacity_at tail t)
 unfolding clap_on_literals pieces_fault
-channel_told Lamport number schedule false none t = refl
-channel_told Lamport number schedule false blank t = refl
-channel_told Lamport number schedule false equals t = refl
-channel_told Lamport number schedule true none t = refl
-channel_told Lamport number schedule true blank t = refl
-channel_told Lamport number schedule true equals t = refl
-channel_told FastForward number schedule false none t = refl
-channel_told FastForward number schedule false blank t = refl
-channel_told FastForward number schedule false equals t = refl
-channel_told FastForward number schedule true none t = refl
-channel_told FastForward number schedule true blank t = refl
-channel_told FastForward number schedule true equals t = refl
+channel_told kind number schedule false none t = refl
+channel_told kind number schedule false blank t = refl
+channel_told kind number schedule false equals t = refl
+channel_told kind number schedule true none t = refl
+channel_told kind number schedule true blank t = refl
+channel_told kind number schedule true equals t = refl
 
 finish_plain : (finish : Bool) (tail : List Piece) → ArePlain tail → ArePlain (finish_pieces finish tail)
 finish_plain false tail are = are
@@ -295,9 +298,9 @@ spelled_of name rest (Alone (Machine (Try seed runs events) capacity)) wanted (f
 spelled_of name rest (Alone (Machine (Channel ring slots finish) capacity)) wanted (number, schedule, first, options, is, slots_are, s, finishes, asks, wants) =
     let to = told capacity options asks in
     let tail = tail_of to.tail to.text in
-    by_pieces name (codes "channel") (channel_pieces ring number schedule (finish_pieces finish tail)) rest wanted channel_is_command (slots_are.0, (s, finish_plain finish tail to.are))
+    by_pieces name (codes "channel") (channel_pieces (name_of ring) number schedule (finish_pieces finish tail)) rest wanted channel_is_command (kind_is_word ring, (slots_are.0, (s, finish_plain finish tail to.are)))
     (is ∙ ap (λ (o : List Text). codes "channel" ∷ name_of ring ∷ number ∷ schedule ∷ o) (finish_texts finish first options tail finishes to.is))
-    (channel_told ring number schedule finish to.tail to.text ∙ carried_says ring number schedule slots finish capacity _ slots_are.1 to.says ∙ ap (λ (w : Wanted). Some w) (sym wants))
+    (channel_told (name_of ring) number schedule finish to.tail to.text ∙ carried_says ring (name_of ring) number schedule slots finish capacity _ (kind_says ring) slots_are.1 to.says ∙ ap (λ (w : Wanted). Some w) (sym wants))
 spelled_of name rest (Threads turns capacity) wanted (file, first, options, is, f, turns_are, asks, wants) =
     ap (λ (words : List Text). job_said (name ∷ words)) is ∙ of_threads name file turns capacity first options f turns_are asks ∙ ap (λ (w : Wanted). Some w) (sym wants)
 

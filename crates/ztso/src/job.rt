@@ -1,7 +1,7 @@
 //! What a command line can ask for.
 
 /// How many stores a hart's buffer holds.
-#[derive(Clone, Copy, Debug, PartialEq, Eq)]
+#[derive(Clone, Copy)]
 pub enum Capacity {
     One,
     Two,
@@ -10,7 +10,7 @@ pub enum Capacity {
 }
 
 /// Where an input comes from.
-#[derive(Clone, Copy, Debug, PartialEq, Eq)]
+#[derive(Clone, Copy)]
 pub enum Input<'a> {
     Standard,
     /// The file of this path.
@@ -18,14 +18,14 @@ pub enum Input<'a> {
 }
 
 /// A kind of ring.
-#[derive(Clone, Copy, Debug, PartialEq, Eq)]
+#[derive(Clone, Copy)]
 pub enum Ring {
     Lamport,
     FastForward,
 }
 
 /// What is done with a machine.
-#[derive(Clone, Copy, Debug, PartialEq, Eq)]
+#[derive(Clone, Copy)]
 pub enum Work {
     /// To run the machine that a steps text describes.
     Steps,
@@ -51,7 +51,7 @@ pub enum Work {
 }
 
 /// What one thread does, which waits for no other.
-#[derive(Clone, Copy, Debug, PartialEq, Eq)]
+#[derive(Clone, Copy)]
 pub enum Errand {
     /// To make words of assembly.
     Asm,
@@ -62,7 +62,7 @@ pub enum Errand {
 }
 
 /// What is to be done.
-#[derive(Clone, Copy, Debug, PartialEq, Eq)]
+#[derive(Clone, Copy)]
 pub enum Task {
     /// An errand of the program's own thread.
     Alone(Errand),
@@ -72,7 +72,7 @@ pub enum Task {
 }
 
 /// What a command line asks for: a task, and its inputs in the order in which they are read.
-#[derive(Clone, Copy, Debug, PartialEq, Eq)]
+#[derive(Clone, Copy)]
 pub struct Job<'a> {
     pub task: Task,
     pub first: Input<'a>,

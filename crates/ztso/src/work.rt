@@ -2,9 +2,14 @@
 
 ghost use Rattle.std.specs.Prelude.{◌≡◌, ◌≤◌};
 ghost use Rattle.ztso.specs.Work.{DoesErrand, DoesThreads, DoesWork, Given, LeavesSecond, LeavesSecondOf, WithStatus, done_status, drawn_from, ended_with, tables_of, tried_status, verdict_status};
+ghost use Rattle.ztso_engines.specs.Asm.{IsAsmAnswer};
 ghost use Rattle.ztso_engines.specs.Channels.{IsChannelAnswer};
+ghost use Rattle.ztso_engines.specs.Dis.{IsDisAnswer};
 ghost use Rattle.ztso_engines.specs.Engines.{AnswersBoth, Ends, EndsBy, EndsByBoth, OfInput};
+ghost use Rattle.ztso_engines.specs.Replay.{IsReplayAnswer};
+ghost use Rattle.ztso_engines.specs.Run.{IsRunAnswer};
 ghost use Rattle.ztso_engines.specs.Schedules.{HasNoSchedule};
+ghost use Rattle.ztso_engines.specs.Steps.{IsStepsAnswer};
 ghost use Rattle.ztso_engines.specs.Talks.{EndsAloud, IsDebugAnswer};
 ghost use Rattle.ztso_engines.specs.Tests.{HasNoTest};
 ghost use Rattle.ztso_engines.specs.Outcomes.{IsTryAnswer};
@@ -60,21 +65,65 @@ fn after(ended: Result<(), Fault>) -> Result<u8, Fault>
     Ok(0)
 }
 
-/// Runs a test by schedules that are drawn from a generator of this seed.
-fn try_drawn<const B: usize, F: Read, W: Write>(
+/// Makes words of assembly.
+fn assemble<R: Read, W: Write>(alloc: Global, reader: &mut R, writer: &mut W) -> Result<u8, Fault>
+    ensures { Ends (WithStatus done_status (λ answer. OfInput (R.remaining reader.old) (λ bytes. IsAsmAnswer bytes answer))) result W.contents writer.old writer.new }
+{
+    after(asm_engine(alloc, reader, writer))
+}
+
+/// Names the instructions of words.
+fn disassemble<R: Read, W: Write>(
     alloc: Global,
-    seed: u64,
-    runs: u32,
-    length: u32,
-    file: &mut F,
+    reader: &mut R,
     writer: &mut W,
-) -> Result<bool, Fault>
+) -> Result<u8, Fault>
+    ensures { Ends (WithStatus done_status (λ answer. OfInput (R.remaining reader.old) (λ bytes. IsDisAnswer bytes answer))) result W.contents writer.old writer.new }
+{
+    after(dis_engine(alloc, reader, writer))
+}
+
+/// Runs the machine that a steps text describes.
+fn run_steps<const B: usize, R: Read, W: Write>(
+    alloc: Global,
+    reader: &mut R,
+    writer: &mut W,
+) -> Result<u8, Fault>
     requires some_capacity { 1 ≤ B }
     requires capacity { B ≤ 64 }
-    ensures { EndsBy (IsTryAnswer B 4096 (drawn_from seed) runs length) result (F.remaining file.old) W.contents writer.old writer.new }
+    ensures { Ends (WithStatus done_status (λ answer. OfInput (R.remaining reader.old) (λ bytes. IsStepsAnswer B 4096 bytes answer))) result W.contents writer.old writer.new }
 {
-    let mut generator = Lcg64Xsh32::seed_from_u64(seed);
-    try_engine::<B, WORDS, _, _, _>(alloc, file, &mut generator, runs, length, writer)
+    after(steps_engine::<B, WORDS, _, _>(alloc, reader, writer))
+}
+
+/// Runs a test by a schedule, and judges it.
+fn run_test<const B: usize, F: Read, S: Read, W: Write>(
+    alloc: Global,
+    file: &mut F,
+    schedule: &mut S,
+    writer: &mut W,
+) -> Result<u8, Fault>
+    requires some_capacity { 1 ≤ B }
+    requires capacity { B ≤ 64 }
+    ensures ends { Ends (WithStatus verdict_status (AnswersBoth (IsRunAnswer B 4096) (F.remaining file.old) (S.remaining schedule.old))) result W.contents writer.old writer.new }
+    ensures unread { HasNoTest (F.remaining file.old) → schedule.new ≡ schedule.old }
+{
+    after_run(run_engine::<B, WORDS, _, _, _>(alloc, file, schedule, writer))
+}
+
+/// Tells each event's outcome in a run of a test by a schedule.
+fn replay_test<const B: usize, F: Read, S: Read, W: Write>(
+    alloc: Global,
+    file: &mut F,
+    schedule: &mut S,
+    writer: &mut W,
+) -> Result<u8, Fault>
+    requires some_capacity { 1 ≤ B }
+    requires capacity { B ≤ 64 }
+    ensures ends { Ends (WithStatus done_status (AnswersBoth (IsReplayAnswer B 4096) (F.remaining file.old) (S.remaining schedule.old))) result W.contents writer.old writer.new }
+    ensures unread { HasNoTest (F.remaining file.old) → schedule.new ≡ schedule.old }
+{
+    after(replay_engine::<B, WORDS, _, _, _>(alloc, file, schedule, writer))
 }
 
 /// Walks along a schedule's run at a user's commands.
@@ -96,9 +145,58 @@ fn debug<const B: usize, F: Read, S: Read, C: Read, W: Write>(
     debug_engine::<B, WORDS, _, _, _, _>(alloc, file, schedule, &mut commands, writer)
 }
 
+/// Debugs a test's run by a schedule, at a user's commands.
+fn debug_test<const B: usize, F: Read, S: Read, C: Read, W: Write>(
+    alloc: Global,
+    file: &mut F,
+    schedule: &mut S,
+    commands: &mut C,
+    writer: &mut W,
+) -> Result<u8, Fault>
+    requires some_capacity { 1 ≤ B }
+    requires capacity { B ≤ 64 }
+    ensures ends { EndsAloud (WithStatus done_status (AnswersBoth (IsDebugAnswer B 4096 (C.remaining commands.old)) (F.remaining file.old) (S.remaining schedule.old))) result W.contents writer.old writer.new }
+    ensures unread { HasNoTest (F.remaining file.old) → schedule.new ≡ schedule.old }
+{
+    after(debug::<B, F, S, C, W>(alloc, file, schedule, commands, writer))
+}
+
+/// Runs a test by schedules that are drawn from a generator of this seed.
+fn try_drawn<const B: usize, F: Read, W: Write>(
+    alloc: Global,
+    seed: u64,
+    runs: u32,
+    length: u32,
+    file: &mut F,
+    writer: &mut W,
+) -> Result<bool, Fault>
+    requires some_capacity { 1 ≤ B }
+    requires capacity { B ≤ 64 }
+    ensures { EndsBy (IsTryAnswer B 4096 (drawn_from seed) runs length) result (F.remaining file.old) W.contents writer.old writer.new }
+{
+    let mut generator = Lcg64Xsh32::seed_from_u64(seed);
+    try_engine::<B, WORDS, _, _, _>(alloc, file, &mut generator, runs, length, writer)
+}
+
+/// Tries a test.
+fn try_test<const B: usize, F: Read, W: Write>(
+    alloc: Global,
+    seed: u64,
+    runs: u32,
+    length: u32,
+    file: &mut F,
+    writer: &mut W,
+) -> Result<u8, Fault>
+    requires some_capacity { 1 ≤ B }
+    requires capacity { B ≤ 64 }
+    ensures { Ends (WithStatus tried_status (λ answer. OfInput (F.remaining file.old) (λ bytes. IsTryAnswer B 4096 (drawn_from seed) runs length bytes answer))) result W.contents writer.old writer.new }
+{
+    after_try(try_drawn::<B, _, _>(alloc, seed, runs, length, file, writer))
+}
+
 /// Runs a channel over lists of words by a schedule, through rings of this kind, and then by a plan if it
 /// is to be finished.
-fn run_channel<const B: usize, S: Read, L: Read, W: Write>(
+fn run_rings<const B: usize, S: Read, L: Read, W: Write>(
     alloc: Global,
     ring: Ring,
     slots: u32,
@@ -122,8 +220,25 @@ fn run_channel<const B: usize, S: Read, L: Read, W: Write>(
     }
 }
 
+/// Runs a channel.
+fn run_channel<const B: usize, S: Read, L: Read, W: Write>(
+    alloc: Global,
+    ring: Ring,
+    slots: u32,
+    finish: bool,
+    schedule: &mut S,
+    lists: &mut L,
+    writer: &mut W,
+) -> Result<u8, Fault>
+    requires some_capacity { 1 ≤ B }
+    requires capacity { B ≤ 64 }
+    ensures ends { Ends (WithStatus done_status (AnswersBoth (IsChannelAnswer (tables_of ring) B 4096 slots finish) (S.remaining schedule.old) (L.remaining lists.old))) result W.contents writer.old writer.new }
+    ensures unread { HasNoSchedule (S.remaining schedule.old) → lists.new ≡ lists.old }
+{
+    after(run_rings::<B, _, _, _>(alloc, ring, slots, finish, schedule, lists, writer))
+}
+
 /// Does the work with a machine whose harts' buffers hold `B` stores.
-#[tactic(auto, using(crate::proofs::Endings::ends_told, crate::proofs::Endings::ends_aloud))]
 fn do_work<const B: usize, F: Read, S: Read, C: Read, W: Write>(
     alloc: Global,
     work: Work,
@@ -138,18 +253,18 @@ fn do_work<const B: usize, F: Read, S: Read, C: Read, W: Write>(
     ensures unread { LeavesSecondOf work (F.remaining first.old) → second.new ≡ second.old }
 {
     match work {
-        Work::Steps => after(steps_engine::<B, WORDS, _, _>(alloc, first, writer)),
-        Work::Run => after_run(run_engine::<B, WORDS, _, _, _>(alloc, first, second, writer)),
-        Work::Replay => after(replay_engine::<B, WORDS, _, _, _>(alloc, first, second, writer)),
-        Work::Debug => after(debug::<B, F, S, C, W>(alloc, first, second, commands, writer)),
+        Work::Steps => run_steps::<B, _, _>(alloc, first, writer),
+        Work::Run => run_test::<B, _, _, _>(alloc, first, second, writer),
+        Work::Replay => replay_test::<B, _, _, _>(alloc, first, second, writer),
+        Work::Debug => debug_test::<B, _, _, _, _>(alloc, first, second, commands, writer),
         Work::Try { seed, runs, length } => {
-            after_try(try_drawn::<B, F, W>(alloc, seed, runs, length, first, writer))
+            try_test::<B, _, _>(alloc, seed, runs, length, first, writer)
         }
         Work::Channel {
             ring,
             slots,
             finish,
-        } => after(run_channel::<B, F, S, W>(alloc, ring, slots, finish, first, second, writer)),
+        } => run_channel::<B, _, _, _>(alloc, ring, slots, finish, first, second, writer),
     }
 }
 
@@ -159,7 +274,6 @@ fn do_work<const B: usize, F: Read, S: Read, C: Read, W: Write>(
 ///
 /// `first` is what the errand reads first, and `second` what it reads behind that, if it has two inputs and
 /// the first one was accepted. `commands` is what a user types to the debugger, which writes as it reads.
-#[tactic(auto, using(crate::proofs::Endings::ends_told))]
 pub fn do_errand<F: Read, S: Read, C: Read, W: Write>(
     alloc: Global,
     errand: Errand,
@@ -172,8 +286,8 @@ pub fn do_errand<F: Read, S: Read, C: Read, W: Write>(
     ensures unread { LeavesSecond errand (F.remaining first.old) → second.new ≡ second.old }
 {
     match errand {
-        Errand::Asm => after(asm_engine(alloc, first, writer)),
-        Errand::Dis => after(dis_engine(alloc, first, writer)),
+        Errand::Asm => assemble(alloc, first, writer),
+        Errand::Dis => disassemble(alloc, first, writer),
         Errand::Machine { work, capacity } => match capacity {
             Capacity::One => do_work::<1, _, _, _, _>(alloc, work, first, second, commands, writer),
             Capacity::Two => do_work::<2, _, _, _, _>(alloc, work, first, second, commands, writer),
@@ -209,7 +323,6 @@ pub fn do_threads<F: Read, W: Write, T: Threads + Wait + Sync>(
 }
 
 /// Runs a litmus test on threads, with buffers of `B` stores.
-#[tactic(auto, using(crate::proofs::Endings::ends_told))]
 fn run_threads<const B: usize, F: Read, W: Write, T: Threads + Wait + Sync>(
     rt: &T,
     alloc: Global,

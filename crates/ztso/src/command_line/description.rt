@@ -1,9 +1,9 @@
 //! The command line, as it is described to clap.
 
-ghost use Rattle.std.specs.Prelude.{◌≡◌, false, IfOk};
+ghost use Rattle.std.specs.Prelude.{◌≡◌, ◌∷◌, [], false, IfOk, codes};
 ghost use Rattle.clap.specs.Words.{app_of, rule_of};
 ghost use Rattle.clap.specs.declared.builder.command.Command.TheViews.{out-Command as fields_of};
-ghost use Rattle.ztso.specs.Descriptions.{buffer_option, channel_command, flag, option_or, option_wanted, schedule_command, steps_command, threads_command, try_command, word_wanted, ztso_command};
+ghost use Rattle.ztso.specs.Descriptions.{asm_command, buffer_option, channel_command, dis_command, flag, option_or, option_wanted, schedule_command, steps_command, threads_command, try_command, with_commands, word_wanted, ztso_command};
 
 use clap::{Arg, ArgAction, Command};
 use std::alloc::{AllocError, Global};
@@ -101,26 +101,50 @@ fn threads_command<'a>(alloc: Global) -> Result<Command<'a>, AllocError>
     with_turns.arg(buffer_option(alloc))
 }
 
+/// The command with those on standard input alone: `steps`, `asm` and `dis`.
+fn with_input_commands<'a>(alloc: Global, command: Command<'a>) -> Result<Command<'a>, AllocError>
+    ensures { IfOk result (λ whole. app_of whole ≡ with_commands (app_of command.entry) (steps_command ∷ asm_command ∷ dis_command ∷ [])) }
+{
+    let steps = steps_command(alloc)?;
+    let with_steps = command.subcommand(steps)?;
+    let asm = Command::new(alloc, "asm");
+    let with_asm = with_steps.subcommand(asm)?;
+    let dis = Command::new(alloc, "dis");
+    with_asm.subcommand(dis)
+}
+
+/// The command with those on a litmus text and a schedule: `run`, `replay` and `debug`.
+fn with_schedule_commands<'a>(
+    alloc: Global,
+    command: Command<'a>,
+) -> Result<Command<'a>, AllocError>
+    ensures { IfOk result (λ whole. app_of whole ≡ with_commands (app_of command.entry) (schedule_command (codes "run") ∷ schedule_command (codes "replay") ∷ schedule_command (codes "debug") ∷ [])) }
+{
+    let run = schedule_command(alloc, "run")?;
+    let with_run = command.subcommand(run)?;
+    let replay = schedule_command(alloc, "replay")?;
+    let with_replay = with_run.subcommand(replay)?;
+    let debug = schedule_command(alloc, "debug")?;
+    with_replay.subcommand(debug)
+}
+
+/// The command with those that have options of their own: `try`, `channel` and `threads`.
+fn with_option_commands<'a>(alloc: Global, command: Command<'a>) -> Result<Command<'a>, AllocError>
+    ensures { IfOk result (λ whole. app_of whole ≡ with_commands (app_of command.entry) (try_command ∷ channel_command ∷ threads_command ∷ [])) }
+{
+    let trying = try_command(alloc)?;
+    let with_try = command.subcommand(trying)?;
+    let channel = channel_command(alloc)?;
+    let with_channel = with_try.subcommand(channel)?;
+    let threads = threads_command(alloc)?;
+    with_channel.subcommand(threads)
+}
+
 /// The whole command line.
 pub fn ztso_command<'a>(alloc: Global) -> Result<Command<'a>, AllocError>
     ensures { IfOk result (λ command. app_of command ≡ ztso_command) }
 {
-    let steps = steps_command(alloc)?;
-    let asm = Command::new(alloc, "asm");
-    let dis = Command::new(alloc, "dis");
-    let run = schedule_command(alloc, "run")?;
-    let replay = schedule_command(alloc, "replay")?;
-    let debug = schedule_command(alloc, "debug")?;
-    let trying = try_command(alloc)?;
-    let channel = channel_command(alloc)?;
-    let threads = threads_command(alloc)?;
-    let with_steps = Command::new(alloc, "ztso").subcommand(steps)?;
-    let with_asm = with_steps.subcommand(asm)?;
-    let with_dis = with_asm.subcommand(dis)?;
-    let with_run = with_dis.subcommand(run)?;
-    let with_replay = with_run.subcommand(replay)?;
-    let with_debug = with_replay.subcommand(debug)?;
-    let with_try = with_debug.subcommand(trying)?;
-    let with_channel = with_try.subcommand(channel)?;
-    with_channel.subcommand(threads)
+    let on_input = with_input_commands(alloc, Command::new(alloc, "ztso"))?;
+    let on_schedules = with_schedule_commands(alloc, on_input)?;
+    with_option_commands(alloc, on_schedules)
 }

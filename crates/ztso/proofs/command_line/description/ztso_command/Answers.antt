@@ -1,19 +1,13 @@
-use Rattle.std.proofs.Common.{◌∙◌, ap, ap₂}
+use Rattle.std.proofs.Common.{◌∙◌, List, [], ◌∷◌, ap}
+use Rattle.std.specs.Prelude.{codes}
 use Rattle.std.proofs.lemmas.Result.{IfOk-weaker}
-use Rattle.clap.specs.Words.{App, Shape, with_subcommand}
+use Rattle.clap.specs.Words.{App}
+use Rattle.ztso.specs.Descriptions.{asm_command, channel_command, dis_command, schedule_command, steps_command, threads_command, try_command, with_commands}
 use Rattle.ztso.proofs.command_line.description.ztso_command.Goals as goal
 
 pub returns : goal.returns
 returns c =
-    let top : App → Shape = λ app. app.top in
-    let with_steps = c.in_ok-with_steps.ensures.shape c.in_ok-steps.ensures.local ∙ ap₂ with_subcommand c.new.ensures.app (ap top c.in_ok-steps.ensures.shape) in
-    let with_asm = c.in_ok-with_asm.ensures.shape c.new-asm.ensures.local ∙ ap₂ with_subcommand with_steps (ap top c.new-asm.ensures.app) in
-    let with_dis = c.in_ok-with_dis.ensures.shape c.new-dis.ensures.local ∙ ap₂ with_subcommand with_asm (ap top c.new-dis.ensures.app) in
-    let with_run = c.in_ok-with_run.ensures.shape c.in_ok-run.ensures.local ∙ ap₂ with_subcommand with_dis (ap top c.in_ok-run.ensures.shape) in
-    let with_replay = c.in_ok-with_replay.ensures.shape c.in_ok-replay.ensures.local ∙ ap₂ with_subcommand with_run (ap top c.in_ok-replay.ensures.shape) in
-    let with_debug = c.in_ok-with_debug.ensures.shape c.in_ok-debug.ensures.local ∙ ap₂ with_subcommand with_replay (ap top c.in_ok-debug.ensures.shape) in
-    let with_try = c.in_ok-with_try.ensures.shape c.in_ok-trying.ensures.local ∙ ap₂ with_subcommand with_debug (ap top c.in_ok-trying.ensures.shape) in
-    let with_channel = c.in_ok-with_channel.ensures.shape c.in_ok-channel.ensures.local ∙ ap₂ with_subcommand with_try (ap top c.in_ok-channel.ensures.shape) in
-    IfOk-weaker c.subcommand-9.result _ _
-    (λ command added. added.shape c.in_ok-threads.ensures.local ∙ ap₂ with_subcommand with_channel (ap top c.in_ok-threads.ensures.shape))
-    c.subcommand-9.ensures
+    let adding : List App → App → App = λ commands app. with_commands app commands in
+    let on_input = c.in_ok-on_input.ensures ∙ ap (adding (steps_command ∷ asm_command ∷ dis_command ∷ [])) c.new.ensures.app in
+    let on_schedules = c.in_ok-on_schedules.ensures ∙ ap (adding (schedule_command (codes "run") ∷ schedule_command (codes "replay") ∷ schedule_command (codes "debug") ∷ [])) on_input in
+    IfOk-weaker c.with_option_commands.result _ _ (λ command added. added ∙ ap (adding (try_command ∷ channel_command ∷ threads_command ∷ [])) on_schedules) c.with_option_commands.ensures

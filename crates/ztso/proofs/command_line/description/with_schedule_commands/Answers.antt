@@ -1,0 +1,11 @@
+use Rattle.std.proofs.Common.{◌∙◌, ap, ap₂}
+use Rattle.std.proofs.lemmas.Result.{IfOk-weaker}
+use Rattle.clap.specs.Words.{App, Shape, app_of, with_subcommand}
+use Rattle.ztso.proofs.command_line.description.with_schedule_commands.Goals as goal
+
+pub returns : goal.returns
+returns c =
+    let top : App → Shape = λ app. app.top in
+    let with_run = c.in_ok-with_run.ensures.shape c.in_ok-run.ensures.local ∙ ap (with_subcommand (app_of c.args.command)) (ap top c.in_ok-run.ensures.shape) in
+    let with_replay = c.in_ok-with_replay.ensures.shape c.in_ok-replay.ensures.local ∙ ap₂ with_subcommand with_run (ap top c.in_ok-replay.ensures.shape) in
+    IfOk-weaker c.subcommand-3.result _ _ (λ command added. added.shape c.in_ok-debug.ensures.local ∙ ap₂ with_subcommand with_replay (ap top c.in_ok-debug.ensures.shape)) c.subcommand-3.ensures
