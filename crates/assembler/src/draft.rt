@@ -20,6 +20,7 @@ use crate::line::{Line, parts, statement_in};
 use crate::places::{Places, define_label, no_places, place_in};
 use crate::placing::{first_over, place_all};
 use crate::statement::Statement;
+use rv_decode::instruction::MAX_CODE;
 use std::alloc::{AllocError, Global};
 use std::marker::Model;
 

@@ -1,7 +1,7 @@
 -- The laws of one block, all together, and so the laws of the ring.
 use Rattle.std.proofs.Common.{ℕ, ◌+◌, ◌≤◌, ◌≡◌, refl, ◌∙◌, arith, lit≤}
 use Rattle.std.proofs.Math.Nat.{zero-mod}
-use Rattle.poll_close.specs.Laws.{IsShort, Opens, Keeps, Cleans, Goes}
+use Rattle.poll_close.specs.Laws.{AreShort, Opens, Keeps, Cleans, Goes}
 use Rattle.poll_close.specs.Invariant.Blocks.{Block, slot}
 use Rattle.poll_close.proofs.Blocks.{IsBlock, Within, word_of, slot_of}
 use Rattle.poll_close.proofs.BlockLaws.{BlockLaws, Begins, opens_with}
@@ -76,7 +76,7 @@ fastforward_laws = record {
   moves_24 = middle_24;
 }
 
-pub fastforward_short : IsShort fastforward
+pub fastforward_short : AreShort fastforward
 fastforward_short = (lit≤ tt, lit≤ tt)
 
 pub fastforward_opens : Opens fastforward fastforward_means

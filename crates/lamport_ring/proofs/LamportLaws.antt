@@ -3,7 +3,7 @@ use Rattle.std.proofs.Common.{ℕ, suc, ◌+◌, ◌<◌, ◌≤◌, ◌≡◌, 
 use Rattle.std.specs.List.{slice_get}
 use Rattle.std.proofs.Math.Nat.{zero-mod}
 use Rattle.hart.specs.State.{HartState}
-use Rattle.poll_close.specs.Laws.{IsShort, Opens, Keeps, Cleans, Goes}
+use Rattle.poll_close.specs.Laws.{AreShort, Opens, Keeps, Cleans, Goes}
 use Rattle.poll_close.specs.Invariant.Blocks.{Block, offset, slot}
 use Rattle.poll_close.proofs.Windows.{window_made}
 use Rattle.poll_close.proofs.Blocks.{IsBlock, Within, first_of, word_of, slot_of}
@@ -142,7 +142,7 @@ lamport_laws = record {
   moves_24 = middle_24;
 }
 
-pub lamport_short : IsShort lamport
+pub lamport_short : AreShort lamport
 lamport_short = (lit≤ tt, lit≤ tt)
 
 pub lamport_opens : Opens lamport lamport_means

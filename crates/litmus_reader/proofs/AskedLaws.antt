@@ -228,12 +228,12 @@ record TokensFound (harts : ℕ) (ms : Names) (so_far : List Symbol) (text : Tok
   few : length asked.1 ≤ 1024
   all : AreKnown harts asked.1 words known
 
-token_found : (harts : ℕ) (ms : Names) (so_far more : List Symbol) (first : token.Token) (others : Tokens) (asked : Asked) (known : Symbol) → so_far ++ known ∷ [] ≡ more → IsKnown harts (each_once (ms ++ names_of first)) first known → TokensFound harts (ms ++ names_of first) more others asked → TokensFound harts ms so_far (token.Tokens.more first others) asked
-token_found harts ms so_far more first others asked known taken is rest =
+token_taken : (harts : ℕ) (ms : Names) (so_far more : List Symbol) (first : token.Token) (others : Tokens) (asked : Asked) (known : Symbol) → so_far ++ known ∷ [] ≡ more → IsKnown harts (each_once (ms ++ names_of first)) first known → TokensFound harts (ms ++ names_of first) more others asked → TokensFound harts ms so_far (token.Tokens.goes_on first others) asked
+token_taken harts ms so_far more first others asked known taken is rest =
     record {
       words = first ∷ rest.words;
       known = known ∷ rest.known;
-      whole = ap (λ (ws : Tokens). token.Tokens.more first ws) rest.whole;
+      whole = ap (λ (ws : Tokens). token.Tokens.goes_on first ws) rest.whole;
       behind = rest.behind ∙ ap (λ (ws : List Symbol). ws ++ rest.known) (sym taken) ∙ append_assoc so_far (known ∷ []) rest.known;
       names = rest.names ∙ ap each_once (names-behind ms first rest.words);
       few = rest.few;
@@ -245,11 +245,11 @@ tokens_found harts ms so_far token.Tokens.ended asked few e =
     subst (TokensFound harts ms so_far token.Tokens.ended) (ok_is LitmusFault (so_far, each_once ms) asked e)
     (record { words = []; known = []; whole = refl; behind = sym (append-nil so_far); names = ap each_once (sym (append-nil ms)); few = few; all = refl })
 tokens_found harts ms so_far token.Tokens.broken asked few e = absurd cc
-tokens_found harts ms so_far (token.Tokens.more first others) asked few e =
+tokens_found harts ms so_far (token.Tokens.goes_on first others) asked few e =
     let known = bind_ok (token_met harts (each_once ms) first) (λ known. as_condition (told so_far known.0) >>= λ more. tokens_told harts (more, known.1) others) asked e in
     let more = bind_ok (as_condition (told so_far known.0.0)) (λ more. tokens_told harts (more, known.0.1) others) asked known.2 in
     let one = token_found harts ms first known.0 few known.1 in
-    token_found harts ms so_far more.0 first others asked known.0.0 (told_found so_far known.0.0 more.0 more.1)
+    token_taken harts ms so_far more.0 first others asked known.0.0 (told_found so_far known.0.0 more.0 more.1)
     (subst (λ (names : Names). IsKnown harts names first known.0.0) one.names one.known)
     (tokens_found harts (ms ++ names_of first) more.0 others asked (subst (λ (names : Names). length names ≤ 1024) one.names one.few) (subst (λ (names : Names). tokens_told harts (more.0, names) others ≡ Ok asked) one.names more.2))
 
@@ -286,7 +286,7 @@ IsAsked harts ms text condition = (words : List token.Token) × (known : List Sy
 finished_asked : (harts : ℕ) (ms : Names) (text : List ℕ) (quantified : Quantified) (asked : Asked) (condition : Condition) → IsQuantified text quantified → NoneBegins BeginsUnread text → TokensFound harts ms [] (tokens_of quantified.1) asked → (as_condition (finished asked.0) >>= λ formula. asked_so quantified.0 formula asked.1) ≡ Ok condition → IsAsked harts ms text condition
 finished_asked harts ms text quantified asked condition front none walk e =
     let formula = bind_ok (as_condition (finished asked.0)) (λ formula. asked_so quantified.0 formula asked.1) condition e in
-    let spelled : AreTokens quantified.1 walk.words = are_words walk.words quantified.1 walk.whole in
+    let spelled : AreTokens quantified.1 walk.words = are_tokens walk.words quantified.1 walk.whole in
     let stands : IsConditionOf walk.known formula.0 = finished_found walk.known formula.0 (subst (λ (ws : List Symbol). finished ws ≡ Ok formula.0) walk.behind (finished_ok asked.0 formula.0 formula.1)) in
     subst (IsAsked harts ms text) (ok_is LitmusFault (record { quantifier = quantified.0; formula = formula.0; names = asked.1 }) condition formula.2)
     (walk.words, walk.known, (front.0, quantified.1, front.1, front.2, spelled, none), walk.names, walk.few, walk.all, stands)
@@ -311,4 +311,4 @@ unfolding condition_in
 asked_only harts ms text quantifier words known formula (blanks, rest, all, whole, spelled, none) few are stands =
     let lines = nowhere_only Unread BeginsUnread unread_matches text none in
     let first : quantifier_in (before_line Unread text) ≡ Some (quantifier, rest) = ap quantifier_in (lines.0 ∙ whole) ∙ quantifier_only blanks rest quantifier all in
-    rw (first, words_are rest words spelled, tokens_only harts ms [] words known formula few are stands, lines.1, finished_only known formula stands) refl
+    rw (first, tokens_are rest words spelled, tokens_only harts ms [] words known formula few are stands, lines.1, finished_only known formula stands) refl

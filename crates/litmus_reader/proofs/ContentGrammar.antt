@@ -170,7 +170,7 @@ content_found text whole e =
       parts = pieces (Byte 59) (before (is_byte 125) read.inner);
       puts = puts;
       rows = table.0;
-      words = asked.0;
+      tokens = asked.0;
       known = asked.1;
       cleaned = is_cleaned text;
       laid_out = layout_found (cleaned_text text) read.below read.inner read.rest asking.text read.headed read.braced read.closed asking.begins;
@@ -193,7 +193,7 @@ pub content_only : (text : List ℕ) (whole : Content) → IsContent text whole 
 unfolding test_at content_at content_behind content_below items_at
 content_only text whole is =
     let harts = length whole.harts in
-    let more = names_in (atoms_in is.words) in
+    let more = names_in (atoms_in is.tokens) in
     let all = names_in is.puts ++ more in
     let clean : cleaned_text text ≡ is.clean = only_cleaned text is.clean is.cleaned in
     let laying = layout_only is.clean is.init is.table is.asked is.laid_out in
@@ -210,5 +210,5 @@ content_only text whole is =
     let registers : AreAllRegisters (each_once all) is.puts 0 values.registers = from_first (each_once all) is.puts values.registers (λ i less. registers_later (names_in is.puts) more is.puts i (slice_index_or values.registers i []) (subst (λ (ns : Names). AreRegisters ns is.puts i (slice_index_or values.registers i [])) items.2 (first.2 i (omega (arith, less, first.1))))) in
     let same_harts : with_registers codes values.registers ≡ whole.harts = harts_only all is.puts is.rows 0 whole.harts values.registers first.1 (subst (λ (ns : Names). AreHarts ns is.puts is.rows 0 whole.harts) is.named is.harts) registers in
     let same_words : padded (length (each_once all)) values.words ≡ whole.words = words_one all is.puts _ whole.words (words_later is.puts more values.words (subst (λ (ns : Names). AreFirstWords ns is.puts values.words) items.2 first.3)) (subst (λ (ns : Names). AreFirstWords ns is.puts whole.words) is.named is.first_words) in
-    let asks : condition_in harts settings.names is.asked ≡ Ok (record { quantifier = whole.quantifier; formula = whole.condition; names = each_once all }) = subst (λ (ns : Names). condition_in harts ns is.asked ≡ Ok (record { quantifier = whole.quantifier; formula = whole.condition; names = each_once all })) (sym items.2) (asked_only harts (names_in is.puts) is.asked whole.quantifier is.words is.known whole.condition is.question total (subst (λ (ns : Names). AreKnown harts ns is.words is.known) is.named is.all_known) is.condition) in
+    let asks : condition_in harts settings.names is.asked ≡ Ok (record { quantifier = whole.quantifier; formula = whole.condition; names = each_once all }) = subst (λ (ns : Names). condition_in harts ns is.asked ≡ Ok (record { quantifier = whole.quantifier; formula = whole.condition; names = each_once all })) (sym items.2) (asked_only harts (names_in is.puts) is.asked whole.quantifier is.tokens is.known whole.condition is.question total (subst (λ (ns : Names). AreKnown harts ns is.tokens is.known) is.named is.all_known) is.condition) in
     rw (clean, laying.headed, laying.braced, laying.opened, parts_only 59 is.init is.parts is.parted, items.1, laying.closed, laying.above, table.1, table.2, count, put.1, laying.asks, asks, same_harts, same_words, ← is.named) refl

@@ -168,7 +168,7 @@ told_there harts n words t there last = pushed harts n words t (stage_after (wor
 tokens_there : (harts : ℕ) (names : Names) (so_far : Asked) (words : Tokens) → Fine harts names so_far → IfOk (tokens_told harts so_far words) (Fine harts names)
 tokens_there harts names so_far token.Tokens.ended fine = fine
 tokens_there harts names so_far token.Tokens.broken fine = tt
-tokens_there harts names so_far (token.Tokens.more first others) fine =
+tokens_there harts names so_far (token.Tokens.goes_on first others) fine =
     after_ok (TokenMet harts so_far.1) (Fine harts names) (token_met harts so_far.1 first) _ (token_there harts so_far.1 first) (λ known here.
     after_ok (λ more. AllThere harts (length known.1) more) (Fine harts names) (as_condition (told so_far.0 known.0)) _
     (told_there harts (length known.1) so_far.0 known.0 (all_more harts (length so_far.1) (length known.1) so_far.0 here.1 fine.0) here.0)

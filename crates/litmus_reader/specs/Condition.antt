@@ -70,7 +70,7 @@ Asked = List Symbol × Names
 abbrev pub tokens_told : (harts : ℕ) → Asked → Tokens → Result Asked LitmusFault
 tokens_told harts so_far token.Tokens.ended = Ok so_far
 tokens_told harts so_far token.Tokens.broken = Err BadCondition
-tokens_told harts so_far (token.Tokens.more first others) = do
+tokens_told harts so_far (token.Tokens.goes_on first others) = do
   known ← token_met harts so_far.1 first
   more ← as_condition (told so_far.0 known.0)
   tokens_told harts (more, known.1) others

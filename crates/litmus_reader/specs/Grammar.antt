@@ -32,7 +32,7 @@ pub record IsContent (text : List ℕ) (content : Content) : Type 0 where
   pub puts : List Put
   pub rows : List Cells
   pub tokens : List Token
-  pub known : List known.Token
+  pub known : List known.Symbol
   pub cleaned : IsCleaned text clean
   pub laid_out : IsLaidOut clean init table asked
   pub parted : AreParts 59 init parts

@@ -13,7 +13,7 @@ use Rattle.litmus_tokens.specs.Reading.{setting_at}
 use Rattle.litmus_tokens.specs.Tokens.{Token, Beginning, Tokens, is_mark, ends_name, behind_not, paired, told_atom, told_not, unmarked, begun, beginning_of, tokens_from, tokens_of, EndsAtom, Spells, AreTokens, listed}
 use Rattle.litmus_tokens.specs.Tokens.Token.{atom, negation, conjunction, disjunction, opening, closing}
 use Rattle.litmus_tokens.specs.Tokens.Beginning.{nothing, begins, no_token}
-use Rattle.litmus_tokens.specs.Tokens.Tokens.{ended, more}
+use Rattle.litmus_tokens.specs.Tokens.Tokens.{ended, goes_on}
 use Rattle.litmus_tokens.specs.Tokens.Spells.{opens, closes, tilde, named_not, both, either, says}
 use Rattle.litmus_tokens.specs.Tokens.AreTokens.{no_more, one_more}
 use Rattle.litmus_tokens.proofs.SettingLaws.{setting_found, setting_read}
@@ -106,7 +106,7 @@ tokens_are text tokens (no_more gaps all) = tokens_cut gaps ∙ ap (tokens_from 
 tokens_are text tokens (one_more gaps bytes rest token others all spelled are) =
     tokens_cut (gaps ++ (bytes ++ rest))
     ∙ ap (tokens_from tokens_of) (beginning_behind gaps (bytes ++ rest) all ∙ spelled_begun token bytes rest spelled)
-    ∙ ap (λ (ws : Tokens). more token ws) (tokens_are rest others are)
+    ∙ ap (λ (ws : Tokens). goes_on token ws) (tokens_are rest others are)
 
 -- ---- what is read is spelled
 
@@ -237,7 +237,7 @@ are_tokens [] text e = go (beginning_of text) refl (sym (tokens_cut text) ∙ e)
     go no_token is told = absurd cc
 are_tokens (token ∷ tokens) text e = go (are_tokens tokens) (beginning_of text) refl (sym (tokens_cut text) ∙ e)
   where
-    go : ((rest : List ℕ) → tokens_of rest ≡ listed tokens → AreTokens rest tokens) → (b : Beginning) → beginning_of text ≡ b → tokens_from tokens_of b ≡ more token (listed tokens) → AreTokens text (token ∷ tokens)
+    go : ((rest : List ℕ) → tokens_of rest ≡ listed tokens → AreTokens rest tokens) → (b : Beginning) → beginning_of text ≡ b → tokens_from tokens_of b ≡ goes_on token (listed tokens) → AreTokens text (token ∷ tokens)
     go others nothing is told = absurd cc
     go others (begins first rest) is told =
         let same : first ≡ token = cc in

@@ -7,7 +7,7 @@ use Rattle.litmus_tokens.specs.Settings.{Put}
 use Rattle.litmus_tokens.specs.Reading.{setting_at}
 use Rattle.litmus_tokens.specs.Tokens.{Token, Beginning, Tokens, is_mark, ends_name, behind_not, paired, told_atom, told_not, unmarked, begun, beginning_of, tokens_from, tokens_within, tokens_of, LeavesLess}
 use Rattle.litmus_tokens.specs.Tokens.Beginning.{nothing, begins, no_token}
-use Rattle.litmus_tokens.specs.Tokens.Tokens.{more}
+use Rattle.litmus_tokens.specs.Tokens.Tokens.{goes_on}
 use Rattle.litmus_tokens.specs.Tokens.Token.{conjunction, disjunction}
 use Rattle.texts.proofs.CuttingLaws.{length-from_first}
 use Rattle.texts.specs.Pieces.{is_gap}
@@ -70,7 +70,7 @@ same_tokens (suc n) text (suc m) lt lt' = go (same_tokens n) (beginning_of text)
   where
     go : ((rest : List ℕ) (m : ℕ) → length rest < n → length rest < m → tokens_within n rest ≡ tokens_within m rest) → (b : Beginning) → LeavesLess text b → tokens_from (tokens_within n) b ≡ tokens_from (tokens_within m) b
     go same nothing less = refl
-    go same (begins token rest) less = ap (λ (others : Tokens). more token others) (same rest m (omega arith) (omega arith))
+    go same (begins token rest) less = ap (λ (others : Tokens). goes_on token others) (same rest m (omega arith) (omega arith))
     go same no_token less = refl
 
 pub tokens_cut : (text : List ℕ) → tokens_of text ≡ tokens_from tokens_of (beginning_of text)
@@ -79,5 +79,5 @@ tokens_cut text = go (beginning_of text) (leaves_less text)
   where
     go : (b : Beginning) → LeavesLess text b → tokens_from (tokens_within (length text)) b ≡ tokens_from tokens_of b
     go nothing less = refl
-    go (begins token rest) less = ap (λ (others : Tokens). more token others) (same_tokens (length text) rest (suc (length rest)) less (omega arith))
+    go (begins token rest) less = ap (λ (others : Tokens). goes_on token others) (same_tokens (length text) rest (suc (length rest)) less (omega arith))
     go no_token less = refl

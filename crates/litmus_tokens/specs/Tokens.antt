@@ -29,7 +29,7 @@ pub data Beginning : Type 0 where
 -- the tokens of a text, up to its end or to the first place where no token begins
 pub data Tokens : Type 0 where
   ended : Tokens
-  more : Token → Tokens → Tokens
+  goes_on : Token → Tokens → Tokens
   broken : Tokens
 
 -- `(` 40, `)` 41, `~` 126, `/` 47, `\` 92: the bytes at which an atom ends
@@ -77,7 +77,7 @@ beginning_of text = begun (without_leading is_gap text)
 
 abbrev pub tokens_from : (List ℕ → Tokens) → Beginning → Tokens
 tokens_from others nothing = ended
-tokens_from others (begins token rest) = more token (others rest)
+tokens_from others (begins token rest) = goes_on token (others rest)
 tokens_from others no_token = broken
 
 -- so many tokens at most
@@ -135,4 +135,4 @@ pub data AreTokens : List ℕ → List Token → Type 0 where
 -- the tokens, with the text's end behind them
 abbrev pub listed : List Token → Tokens
 listed [] = ended
-listed (token ∷ tokens) = more token (listed tokens)
+listed (token ∷ tokens) = goes_on token (listed tokens)

@@ -11,7 +11,7 @@ use Rattle.step_machine.specs.Legal.{Kept}
 use Rattle.step_machine.specs.Runs.{Happens, Run, RunFrom}
 use Rattle.step_machine.proofs.Running.{shape_of, kept-happens, kept-unrun}
 use Rattle.poll_close.specs.Layout.{opening_of, senders_from}
-use Rattle.poll_close.specs.Laws.{Ring, Meaning, Accepted, IsShort, Opens, Keeps, Cleans}
+use Rattle.poll_close.specs.Laws.{Ring, Meaning, Accepted, AreShort, Opens, Keeps, Cleans}
 use Rattle.poll_close.specs.Delivery.{Delivers}
 
 -- what has been known of a history since its opening
@@ -49,7 +49,7 @@ pub senders-length : (code : List ℕ) (S i : ℕ) (lists : List (List ℕ)) →
 senders-length code S i [] = refl
 senders-length code S i (ws ∷ lists) = ap (λ n. suc n) (senders-length code S (i + 1) lists)
 
-pub channel-fits : (ring : Ring) (M : ℕ) (lists : List (List ℕ)) (S : ℕ) (o : Start) → IsShort ring → Accepted ring M lists S → o ≡ opening_of ring.sender ring.receiver lists S → FitsIn M o
+pub channel-fits : (ring : Ring) (M : ℕ) (lists : List (List ℕ)) (S : ℕ) (o : Start) → AreShort ring → Accepted ring M lists S → o ≡ opening_of ring.sender ring.receiver lists S → FitsIn M o
 channel-fits ring M lists S o short accepted is =
     subst (FitsIn M) (sym is) (record {
       some_hart = omega arith;

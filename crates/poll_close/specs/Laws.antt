@@ -42,8 +42,8 @@ abbrev pub Cleans : Ring → Meaning → Type 0
 Cleans ring means = (B M : ℕ) (lists : List (List ℕ)) (S : ℕ) (t : History) → Accepted ring M lists S → t.opening ≡ opening_of ring.sender ring.receiver lists S → Kept B M t → means B M lists S t → Clean (reported 0 t.entries) lists
 
 -- tables that fit a hart
-abbrev pub IsShort : Ring → Type 0
-IsShort ring = (length ring.sender ≤ MAX_CODE) × (length ring.receiver ≤ MAX_CODE)
+abbrev pub AreShort : Ring → Type 0
+AreShort ring = (length ring.sender ≤ MAX_CODE) × (length ring.receiver ≤ MAX_CODE)
 
 -- no hart of such a channel is ever stopped
 abbrev pub Goes : Ring → Meaning → Type 0

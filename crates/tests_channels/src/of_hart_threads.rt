@@ -37,10 +37,11 @@ fn shared(rt: &(impl Abort + AllocGlobal)) -> (Shared<4, 16>, Vec<Seat<16>>) {
 }
 
 /// Gives all seats up.
-fn give_up_all(mut seats: Vec<Seat<16>>) {
-    while let Some(seat) = seats.pop() {
-        seat.give_up();
+fn give_up_all(rt: &impl Abort, mut seats: Vec<Seat<16>>) {
+    for _ in 0..seats.len() {
+        seats.pop().expect(rt, "a seat").give_up();
     }
+    assert!(rt; seats.is_empty());
     seats.destroy_empty();
 }
 
@@ -150,7 +151,7 @@ fn a_seat_too_many_is_named(rt: HostRuntime) {
     let (machine, mut seats) = shared(&rt);
     let (_other, mut others) = shared(&rt);
     let stranger = others.pop().expect(&rt, "a seat");
-    give_up_all(others);
+    give_up_all(&rt, others);
     seats.push(stranger).expect(&rt, "memory");
     let answer = machine.gather(rt.alloc(), seats);
     assert!(rt; matches!(answer, Err(Gather::Missing { hart: 1 })));
@@ -167,7 +168,7 @@ fn no_thread_starts_where_a_seat_is_missing(rt: HostRuntime) {
 #[test]
 fn seats_of_another_machine_are_no_part(rt: HostRuntime) {
     let (machine, own) = shared(&rt);
-    give_up_all(own);
+    give_up_all(&rt, own);
     let (other, mut seats) = shared(&rt);
     store_and_land(&rt, &other, &mut seats);
     match machine.gather(rt.alloc(), seats) {

@@ -10,6 +10,6 @@ returns c =
     let exact : seen c.begun.result ≡ beginning_of text = c.begun.ensures ∙ ap begun c.without_leading.ensures in
     record {
       exact = exact;
-      words = tokens_cut text ∙ ap (tokens_from tokens_of) (sym exact);
+      tokens = tokens_cut text ∙ ap (tokens_from tokens_of) (sym exact);
       rest = subst (LeavesLess text) (sym exact) (leaves_less text);
     }
