@@ -11,6 +11,9 @@ pub const L0: Event = Event::Land(0);
 
 pub const L1: Event = Event::Land(1);
 
+/// The registers of a hart that opens with 0 in all of them.
+pub const ZEROS: &[(u8, u32)] = &[];
+
 /// A hart with these words of code and these registers; all others are 0.
 fn hart_opening(
     alloc: Global,

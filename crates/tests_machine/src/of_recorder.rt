@@ -42,7 +42,7 @@ fn refusals_have_their_texts(rt: HostRuntime) -> Result<(), Fail> {
     });
     let told = refused.to_string(rt.alloc())?;
     assert_eq!(rt; told.as_str(), "bad hart at byte 16");
-    assert_eq!(rt; refused.number(), 29);
+    assert_eq!(rt; ScheduleFault::BadHart.number(), 29);
     Ok(())
 }
 

@@ -3,10 +3,10 @@
 ghost use Rattle.std.specs.Prelude.{◌≤◌};
 
 use crate::given::{
-    A0, A1, BOTH_READ_0, L0, L1, amo, both_read_0, land, opening_of, store, store_buffering,
+    A0, A1, BOTH_READ_0, L0, L1, ZEROS, amo, both_read_0, land, opening_of, store, store_buffering,
 };
 use hart::status::Status;
-use std::alloc::AllocError;
+use std::alloc::{AllocError, Global};
 use std::process::Abort;
 use std::test::Fail;
 use step_machine::{Event, Machine, Opening, Outcome};
@@ -123,23 +123,24 @@ fn an_entry_tells_its_event(rt: HostRuntime) {
     assert!(rt; landed.is_land() && !stored.is_land());
 }
 
-/// Whether harts with this code and 0 in all registers fit a memory of 2 words.
+/// Whether harts with this code and these registers fit a memory of 2 words.
 fn fits(
-    rt: &impl AllocGlobal,
+    alloc: Global,
     code: &[u32],
     harts: &[&[(u8, u32)]],
     words: &[u32],
 ) -> Result<bool, AllocError> {
-    let opening = opening_of(rt.alloc(), code, harts, words)?;
-    Ok(opening.copy(rt.alloc())?.fits(2))
+    let opening = opening_of(alloc, code, harts, words)?;
+    Ok(opening.copy(alloc)?.fits(2))
 }
 
 #[test]
 fn an_opening_past_the_limits_does_not_fit(rt: HostRuntime) -> Result<(), Fail> {
-    assert!(rt; fits(&rt, &[], &[&[]; 64], &[0; 2])?);
-    assert!(rt; !fits(&rt, &[], &[&[]; 64], &[0; 3])?);
-    assert!(rt; !fits(&rt, &[], &[&[]; 65], &[0; 2])?);
-    assert!(rt; !fits(&rt, &[], &[], &[0; 2])?);
-    assert!(rt; !fits(&rt, &[0; 4097], &[&[]; 1], &[0; 2])?);
+    let alloc = rt.alloc();
+    assert!(rt; fits(alloc, &[], &[ZEROS; 64], &[0; 2])?);
+    assert!(rt; !fits(alloc, &[], &[ZEROS; 64], &[0; 3])?);
+    assert!(rt; !fits(alloc, &[], &[ZEROS; 65], &[0; 2])?);
+    assert!(rt; !fits(alloc, &[], &[], &[0; 2])?);
+    assert!(rt; !fits(alloc, &[0; 4097], &[ZEROS; 1], &[0; 2])?);
     Ok(())
 }

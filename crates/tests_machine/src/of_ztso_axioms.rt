@@ -1,7 +1,7 @@
 //! Orders worked out by hand, and every list over the operations of a small trace, as `check` and a plain
 //! program of the axioms see it.
 
-use crate::given::{amo, both_read_0, full_fence, land, load, opening_of, store};
+use crate::given::{ZEROS, amo, both_read_0, full_fence, land, load, opening_of, store};
 use std::alloc::{AllocError, Global};
 use std::process::Abort;
 use std::test::Fail;
@@ -10,7 +10,7 @@ use ztso_axioms::{Op, check, order_of};
 
 /// A trace of four harts, over words that open as 0.
 fn trace_of(alloc: Global, entries: &[Entry]) -> Result<Trace, AllocError> {
-    let opening = opening_of(alloc, &[], &[&[]; 4], &[])?;
+    let opening = opening_of(alloc, &[], &[ZEROS; 4], &[])?;
     let entries = Vec::from_slice(alloc, entries)?;
     Ok(Trace { opening, entries })
 }
