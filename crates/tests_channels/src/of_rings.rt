@@ -212,7 +212,7 @@ fn expect_steps<K: RingKind, const B: usize>(
     Ok(())
 }
 
-/// The ring is empty in the receiver's first round; the buffer is full before the second word's head.
+/// The slot lands before the head, so the receiver's first round finds the ring empty.
 #[test]
 fn lamport_s_run_and_steps_report_the_same(rt: HostRuntime) -> Result<(), Fail> {
     let steps = [(A1, 10), (L1, 1), (A0, 13), (L1, 1), (A0, 16)];
