@@ -43,6 +43,3 @@ pub use draft::Draft;
 pub use faults::{AsmError, AsmFault};
 pub use rv_decode::register_named;
 pub use writer::write_instr;
-
-#[cfg(test)]
-mod tests;

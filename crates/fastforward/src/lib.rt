@@ -11,9 +11,6 @@ use hart::status::Status;
 use poll_close::{Finish, RingKind};
 use step_machine::Machine;
 
-#[cfg(test)]
-mod tests;
-
 /// The words of the sender's listing.
 const SENDER: [u32; 15] = [
     0x00100893, 0x00000073, 0x02058263, 0x00540E33, 0x010E2383, 0xFE039EE3, 0x00AE2823, 0x00428293,

@@ -10,8 +10,6 @@ pub mod effects;
 pub mod need;
 mod state;
 pub mod status;
-#[cfg(test)]
-mod tests;
 mod wanted;
 
 pub use effects::amo;

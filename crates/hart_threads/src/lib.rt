@@ -24,8 +24,6 @@ mod missing;
 pub mod record;
 pub mod seat;
 pub mod shared;
-#[cfg(test)]
-mod tests;
 mod turns;
 
 pub use channels::deliver_threads;

@@ -11,9 +11,6 @@ use hart::status::Status;
 use poll_close::{Finish, RingKind};
 use step_machine::Machine;
 
-#[cfg(test)]
-mod tests;
-
 /// The words of the sender's listing.
 const SENDER: [u32; 17] = [
     0x00100893, 0x00000073, 0x02058663, 0x00428313, 0x00931463, 0x00000313, 0x00842383, 0xFE638EE3,

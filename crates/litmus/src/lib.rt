@@ -23,6 +23,3 @@ pub use draft::{ConditionDraft, ConditionError};
 pub use question::{MAX_LOCATIONS, Test};
 pub use verdict::{Quantifier, Verdict};
 pub use symbols::{Place, Symbol};
-
-#[cfg(test)]
-mod tests;

@@ -30,6 +30,3 @@ mod table;
 
 pub use faults::{LitmusError, LitmusFault};
 pub use reading::read;
-
-#[cfg(test)]
-mod tests;

@@ -20,6 +20,3 @@ pub use cleaning::cleaned;
 pub use laws::{one_value, tokens_are_spelled};
 pub use settings::{Setting, Spot, Worth, item_in, setting_in};
 pub use tokens::{Front, Token, first_token};
-
-#[cfg(test)]
-mod tests;

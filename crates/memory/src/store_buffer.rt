@@ -109,35 +109,3 @@ impl<const B: usize> StoreBuffer<B> {
         self.stores.clear();
     }
 }
-
-#[cfg(test)]
-mod tests {
-    use super::StoreBuffer;
-    use crate::writes::Write;
-
-    #[test]
-    fn stores_land_in_their_order(rt: HostRuntime) {
-        let mut buffer = StoreBuffer::<4>::new();
-        buffer.push(0, 4, 258);
-        buffer.push(8, 4, 2);
-        buffer.push(1, 1, 3);
-        assert_eq!(rt; buffer.len(), 3);
-        assert_eq!(rt; buffer.as_slice().len(), 3);
-        assert_eq!(rt; buffer.newest(0), Some(2));
-        assert_eq!(rt; buffer.newest(1), Some(3));
-        assert_eq!(rt; buffer.newest(4), None);
-        assert_eq!(rt; buffer.over(2, 5), 770);
-        let oldest = Write {
-            addr: 0,
-            width: 4,
-            value: 258,
-        };
-        assert_eq!(rt; buffer.land(), Some(oldest));
-        assert!(rt; oldest.covers(3) && !oldest.covers(4));
-        assert_eq!(rt; (oldest.byte(1), oldest.over(7)), (1, 258));
-        assert!(rt; !buffer.is_empty());
-        buffer.clear();
-        assert!(rt; buffer.is_empty());
-        assert_eq!(rt; buffer.land(), None);
-    }
-}

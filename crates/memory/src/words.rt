@@ -100,28 +100,3 @@ impl<const M: usize> Memory<M> {
         first.copy_from_slice(words);
     }
 }
-
-#[cfg(test)]
-mod tests {
-    use super::Memory;
-    use crate::writes::part;
-    use std::test::Fail;
-
-    #[test]
-    fn words_stand_where_they_were_put(rt: HostRuntime) -> Result<(), Fail> {
-        let mut memory = Memory::<4>::new(rt.alloc())?;
-        memory.fill(&[7, 8]);
-        memory.store(4, 9);
-        memory.store(12, 5);
-        assert_eq!(rt; memory.words(), [7, 9, 0, 5].as_slice());
-        assert_eq!(rt; memory.load(4), 9);
-        memory.store_bytes(6, 2, 258);
-        assert_eq!(rt; (memory.load(4), memory.load_byte(6)), (16908297, 2));
-        assert_eq!(rt; part(memory.load(4), 6, 2), 258);
-        for addr in [4, 12, 16] {
-            memory.restore(addr, &[7, 8]);
-        }
-        assert_eq!(rt; memory.words(), [7, 8, 0, 0].as_slice());
-        Ok(())
-    }
-}

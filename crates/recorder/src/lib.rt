@@ -26,6 +26,3 @@ pub use laws::{longest_runs, one_value, refused_without_value, tokens_are_read_a
 pub use reading::{MAX_EVENTS, push_tokens_of, read_schedule, read_tokens};
 pub use replaying::replay;
 pub use writing::{push_tokens, write_schedule};
-
-#[cfg(test)]
-mod tests;

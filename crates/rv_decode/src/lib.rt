@@ -17,8 +17,6 @@ mod opcode;
 mod operations;
 pub mod registers;
 pub mod tables;
-#[cfg(test)]
-mod tests;
 mod word;
 
 pub use decoder::decode;

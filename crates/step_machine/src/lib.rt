@@ -13,8 +13,6 @@ pub mod events;
 pub mod laws;
 pub mod machine;
 pub mod opening;
-#[cfg(test)]
-mod tests;
 
 pub use events::{Entry, Event, Outcome};
 pub use machine::Machine;

@@ -20,6 +20,3 @@ pub use errors::{AtLine, Numbered, TextError};
 pub use lines::first_line;
 pub use numbers::{hex_number, hex_word, integer, number, push_decimal, word};
 pub use pieces::{Separators, first_piece};
-
-#[cfg(test)]
-mod tests;

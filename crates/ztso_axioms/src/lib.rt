@@ -18,6 +18,3 @@ pub use checking::check;
 pub use laws::traces_satisfy_ztso;
 pub use operation::Op;
 pub use performing::order_of;
-
-#[cfg(test)]
-mod tests;

@@ -1,11 +1,94 @@
-//! Every list over the operations of a small trace, as `check` and a plain program of the axioms see it.
+//! Orders worked out by hand, and every list over the operations of a small trace, as `check` and a plain
+//! program of the axioms see it.
 
-use super::{full_fence, land, load, own_stores_early, store, store_buffering, trace_of};
-use crate::{Op, check};
+use crate::given::{ZEROS, amo, both_read_0, full_fence, land, load, opening_of, store};
 use std::alloc::{AllocError, Global};
 use std::process::Abort;
 use std::test::Fail;
-use step_machine::Entry;
+use step_machine::{Entry, Trace};
+use ztso_axioms::{Op, check, order_of};
+
+/// A trace of four harts, over words that open as 0.
+fn trace_of(alloc: Global, entries: &[Entry]) -> Result<Trace, AllocError> {
+    let opening = opening_of(alloc, &[], &[ZEROS; 4], &[])?;
+    let entries = Vec::from_slice(alloc, entries)?;
+    Ok(Trace { opening, entries })
+}
+
+/// Hart 0 reads its own newest store, before hart 1 sees any.
+fn own_stores_early() -> [Entry; 6] {
+    [
+        store(0, 0, 1),
+        store(0, 0, 2),
+        load(0, 0, 2),
+        load(1, 0, 0),
+        land(0),
+        load(1, 0, 1),
+    ]
+}
+
+/// Store buffering with a full fence between each hart's store and load.
+fn fenced() -> [Entry; 8] {
+    [
+        store(0, 0, 1),
+        store(1, 4, 1),
+        land(0),
+        full_fence(0),
+        load(0, 4, 0),
+        land(1),
+        full_fence(1),
+        load(1, 0, 1),
+    ]
+}
+
+fn listed(alloc: Global, places: &[usize]) -> Result<Vec<Op>, AllocError> {
+    let mut order = Vec::new(alloc);
+    for place in places {
+        order.push(Op { place: *place })?;
+    }
+    Ok(order)
+}
+
+/// The trace's order names these places, and is accepted.
+fn expect_order(
+    rt: &impl Abort,
+    alloc: Global,
+    entries: &[Entry],
+    places: &[usize],
+) -> Result<(), AllocError> {
+    let trace = trace_of(alloc, entries)?;
+    let order = order_of(alloc, &trace)?;
+    assert_eq!(rt; order.as_slice(), listed(alloc, places)?.as_slice());
+    assert!(rt; check(&trace, &order));
+    Ok(())
+}
+
+#[test]
+fn pending_stores_come_behind_the_loads(rt: HostRuntime) -> Result<(), Fail> {
+    expect_order(&rt, rt.alloc(), &both_read_0(), &[2, 3, 0, 1])?;
+    Ok(())
+}
+
+#[test]
+fn an_own_store_is_seen_before_its_place(rt: HostRuntime) -> Result<(), Fail> {
+    expect_order(&rt, rt.alloc(), &own_stores_early(), &[2, 3, 0, 5, 1])?;
+    Ok(())
+}
+
+#[test]
+fn fenced_stores_come_before_the_loads(rt: HostRuntime) -> Result<(), Fail> {
+    expect_order(&rt, rt.alloc(), &fenced(), &[0, 4, 1, 7])?;
+    Ok(())
+}
+
+#[test]
+fn an_order_names_every_operation(rt: HostRuntime) -> Result<(), Fail> {
+    let trace = trace_of(rt.alloc(), &both_read_0())?;
+    assert!(rt; check(&trace, &listed(rt.alloc(), &[2, 3, 1, 0])?));
+    assert!(rt; !check(&trace, &listed(rt.alloc(), &[2, 3, 0])?));
+    assert!(rt; !check(&trace, &listed(rt.alloc(), &[2, 3, 0, 1, 4])?));
+    Ok(())
+}
 
 /// What an operation does to memory.
 #[derive(Clone, Copy)]
@@ -14,15 +97,6 @@ struct Access {
     addr: u32,
     read: Option<u32>,
     written: Option<u32>,
-}
-
-fn amo(hart: u32, addr: u32, old: u32, new: u32) -> Entry {
-    Entry::Amo {
-        hart,
-        addr,
-        old,
-        new,
-    }
 }
 
 fn effect_of(entry: Entry) -> Option<Access> {
@@ -175,7 +249,7 @@ fn expect_accepted(
     places: &[usize],
     wanted: usize,
 ) -> Result<(), AllocError> {
-    let trace = trace_of(alloc, 4, entries)?;
+    let trace = trace_of(alloc, entries)?;
     let mut lists = 1usize;
     for _ in 0..places.len() {
         lists = lists.saturating_mul(places.len());
@@ -196,7 +270,7 @@ fn expect_accepted(
 /// Store buffering's loads come each before the other hart's store, in any of six ways.
 #[test]
 fn lists_of_store_buffering(rt: HostRuntime) -> Result<(), Fail> {
-    expect_accepted(&rt, rt.alloc(), &store_buffering(), &[0, 1, 2, 3], 6)?;
+    expect_accepted(&rt, rt.alloc(), &both_read_0(), &[0, 1, 2, 3], 6)?;
     Ok(())
 }
 
@@ -217,9 +291,8 @@ fn lists_of_increments(rt: HostRuntime) -> Result<(), Fail> {
     Ok(())
 }
 
-/// `fence.tso` leaves store buffering allowed; an AMO on one hart and a full fence on the other do not.
 #[test]
-fn lists_of_store_buffering_with_barriers(rt: HostRuntime) -> Result<(), Fail> {
+fn a_fence_tso_leaves_store_buffering_allowed(rt: HostRuntime) -> Result<(), Fail> {
     let tso = Entry::Fence {
         hart: 0,
         full: false,
@@ -232,6 +305,11 @@ fn lists_of_store_buffering_with_barriers(rt: HostRuntime) -> Result<(), Fail> {
         load(1, 0, 0),
     ];
     expect_accepted(&rt, rt.alloc(), &open, &[0, 2, 3, 4], 6)?;
+    Ok(())
+}
+
+#[test]
+fn an_amo_and_a_full_fence_forbid_store_buffering(rt: HostRuntime) -> Result<(), Fail> {
     let closed = [
         store(0, 0, 1),
         amo(0, 8, 0, 1),
@@ -244,20 +322,23 @@ fn lists_of_store_buffering_with_barriers(rt: HostRuntime) -> Result<(), Fail> {
     Ok(())
 }
 
-/// What Ztso forbids: a flag before its message, loads of later stores, two harts whose stores each come
-/// last to the word that the other wrote first, two readers that disagree.
 #[test]
-fn forbidden_shapes(rt: HostRuntime) -> Result<(), Fail> {
-    let passing = [
-        store(0, 0, 1),
-        store(0, 4, 1),
-        land(0),
-        load(1, 4, 1),
-        load(1, 0, 0),
-    ];
-    expect_accepted(&rt, rt.alloc(), &passing, &[0, 1, 3, 4], 0)?;
+fn a_flag_does_not_pass_its_message(rt: HostRuntime) -> Result<(), Fail> {
+    let passing = [store(0, 0, 1), store(0, 4, 1), load(1, 4, 1), load(1, 0, 0)];
+    expect_accepted(&rt, rt.alloc(), &passing, &[0, 1, 2, 3], 0)?;
+    Ok(())
+}
+
+#[test]
+fn loads_see_no_later_store(rt: HostRuntime) -> Result<(), Fail> {
     let buffering = [load(0, 0, 1), store(0, 4, 1), load(1, 4, 1), store(1, 0, 1)];
     expect_accepted(&rt, rt.alloc(), &buffering, &[0, 1, 2, 3], 0)?;
+    Ok(())
+}
+
+/// Two harts, whose stores each come last to the word that the other wrote first.
+#[test]
+fn stores_do_not_cross(rt: HostRuntime) -> Result<(), Fail> {
     let crossed = [
         amo(0, 0, 2, 1),
         store(0, 4, 2),
@@ -265,15 +346,11 @@ fn forbidden_shapes(rt: HostRuntime) -> Result<(), Fail> {
         store(1, 0, 2),
     ];
     expect_accepted(&rt, rt.alloc(), &crossed, &[0, 1, 2, 3], 0)?;
-    let fenced = [
-        store(0, 0, 1),
-        full_fence(0),
-        load(0, 4, 0),
-        store(1, 4, 1),
-        full_fence(1),
-        load(1, 0, 0),
-    ];
-    expect_accepted(&rt, rt.alloc(), &fenced, &[0, 2, 3, 5], 0)?;
+    Ok(())
+}
+
+#[test]
+fn two_readers_agree(rt: HostRuntime) -> Result<(), Fail> {
     let readers = [
         store(0, 0, 1),
         store(1, 4, 1),

@@ -1,0 +1,198 @@
+//! Runs on threads and off them, and what is refused.
+
+use hart::Status;
+use hart_threads::{Fault, Gate, Gather, Open, Record, Seat, Shared, run_harts};
+use std::alloc::{AllocError, Global};
+use std::process::Abort;
+use std::sync::Wait;
+use std::sync::atomic::{AtomicBool, Ordering};
+use std::test::Fail;
+use std::thread;
+use step_machine::{Entry, HartOpening, Machine, Opening, Outcome};
+
+/// Store buffering: each hart stores 1 to a word of its own and then loads the other's.
+fn store_buffering(alloc: Global) -> Result<Opening, AllocError> {
+    let mut harts = Vec::new(alloc);
+    for (own, other) in [(0, 4), (4, 0)] {
+        let mut registers = [0; 32];
+        registers[5] = 1;
+        registers[6] = own;
+        registers[8] = other;
+        harts.push(HartOpening {
+            // sw x5,0(x6); lw x7,0(x8)
+            code: Vec::from_slice(alloc, &[0x0053_2023, 0x0004_2383])?,
+            registers,
+            inbox: Vec::new(alloc),
+        })?;
+    }
+    let words = Vec::new(alloc);
+    Ok(Opening { harts, words })
+}
+
+/// A machine for store buffering, with its seats.
+fn shared(rt: &(impl Abort + AllocGlobal)) -> (Shared<4, 16>, Vec<Seat<16>>) {
+    let opening = store_buffering(rt.alloc()).expect(rt, "memory");
+    assert!(rt; opening.fits(16));
+    Shared::open(rt.alloc(), opening).expect(rt, "memory")
+}
+
+/// Gives all seats up.
+fn give_up_all(rt: &impl Abort, mut seats: Vec<Seat<16>>) {
+    for _ in 0..seats.len() {
+        seats.pop().expect(rt, "a seat").give_up();
+    }
+    assert!(rt; seats.is_empty());
+    seats.destroy_empty();
+}
+
+/// All seats but the last one.
+fn without_last(rt: &impl Abort, mut seats: Vec<Seat<16>>) -> Vec<Seat<16>> {
+    seats.pop().expect(rt, "a seat").give_up();
+    seats
+}
+
+/// Opens at the second hart's first call for the first one, and the other way round.
+#[derive(Drop)]
+struct Meeting {
+    first: AtomicBool,
+    second: AtomicBool,
+}
+
+impl Gate for Meeting {
+    ghost is_open = { λ _. ⊥ };
+
+    fn pass(&self, hart: u32, call: u32) -> bool {
+        if call > 1 {
+            return true;
+        }
+        let (mine, theirs) = if hart == 0 {
+            (&self.first, &self.second)
+        } else {
+            (&self.second, &self.first)
+        };
+        mine.store(true, Ordering::SeqCst);
+        for _ in 0..10_000_000 {
+            if theirs.load(Ordering::SeqCst) {
+                return true;
+            }
+            thread::yield_now();
+        }
+        false
+    }
+}
+
+/// Another machine that runs the record's events does what the record says.
+fn is_replayed(rt: &(impl Abort + AllocGlobal), record: &Record<4, 16>) {
+    let opening = store_buffering(rt.alloc()).expect(rt, "memory");
+    assert!(rt; opening.fits(16));
+    let mut machine = Machine::<4, 16>::open(rt.alloc(), opening).expect(rt, "memory");
+    machine.run(&record.events).expect(rt, "memory");
+    assert!(rt; machine.entries() == record.trace.entries.as_slice());
+    assert!(rt; record.machine.entries() == record.trace.entries.as_slice());
+}
+
+#[test]
+fn two_harts_pass_the_gate_and_end(rt: HostRuntime) {
+    let (machine, seats) = shared(&rt);
+    let gate = Meeting {
+        first: AtomicBool::new(false),
+        second: AtomicBool::new(false),
+    };
+    let record = run_harts(&rt, rt.alloc(), machine, seats, &gate, 10_000_000);
+    let record = record.expect(&rt, "a record");
+    assert_eq!(rt; record.machine.harts(), 2);
+    assert_eq!(rt; record.machine.status(0), Status::Ended);
+    assert_eq!(rt; record.machine.status(1), Status::Ended);
+    is_replayed(&rt, &record);
+}
+
+/// The first hart stores, and its store lands: what its acting seat and its landing one answer.
+fn store_and_land(
+    rt: &(impl Abort + Wait),
+    machine: &Shared<4, 16>,
+    seats: &mut Vec<Seat<16>>,
+) -> (Outcome, Outcome) {
+    assert!(rt; seats.len() == 4);
+    let acting = &mut seats[0];
+    assert!(rt; acting.acts());
+    let stored = machine.act(rt, acting).expect(rt, "memory");
+    let landing = &mut seats[1];
+    assert!(rt; !landing.acts());
+    let landed = machine.land(rt, landing).expect(rt, "memory");
+    (stored, landed)
+}
+
+#[test]
+fn what_seats_do_is_gathered(rt: HostRuntime) {
+    let (machine, mut seats) = shared(&rt);
+    let store = Entry::Store {
+        hart: 0,
+        addr: 0,
+        width: 4,
+        value: 1,
+    };
+    let land = Entry::Land { hart: 0 };
+    let answers = store_and_land(&rt, &machine, &mut seats);
+    assert_eq!(rt; answers, (Outcome::Did(store), Outcome::Did(land)));
+    let record = machine.gather(rt.alloc(), seats).expect(&rt, "a record");
+    assert_eq!(rt; record.trace.entries.as_slice(), [store, land].as_slice());
+    is_replayed(&rt, &record);
+}
+
+#[test]
+fn a_missing_seat_is_named(rt: HostRuntime) {
+    let (machine, seats) = shared(&rt);
+    let answer = machine.gather(rt.alloc(), without_last(&rt, seats));
+    assert!(rt; matches!(answer, Err(Gather::Missing { hart: 1 })));
+}
+
+#[test]
+fn a_seat_too_many_is_named(rt: HostRuntime) {
+    let (machine, mut seats) = shared(&rt);
+    let (_other, mut others) = shared(&rt);
+    let stranger = others.pop().expect(&rt, "a seat");
+    give_up_all(&rt, others);
+    seats.push(stranger).expect(&rt, "memory");
+    let answer = machine.gather(rt.alloc(), seats);
+    assert!(rt; matches!(answer, Err(Gather::Missing { hart: 1 })));
+}
+
+#[test]
+fn no_thread_starts_where_a_seat_is_missing(rt: HostRuntime) {
+    let (machine, seats) = shared(&rt);
+    let seats = without_last(&rt, seats);
+    let answer = run_harts(&rt, rt.alloc(), machine, seats, &Open, 10);
+    assert!(rt; matches!(answer, Err(Fault::Missing { hart: 1 })));
+}
+
+#[test]
+fn seats_of_another_machine_are_no_part(rt: HostRuntime) {
+    let (machine, own) = shared(&rt);
+    give_up_all(&rt, own);
+    let (other, mut seats) = shared(&rt);
+    store_and_land(&rt, &other, &mut seats);
+    match machine.gather(rt.alloc(), seats) {
+        Err(Gather::Mismatch { hart, history }) => {
+            assert_eq!(rt; (hart, history.len()), (0, 0));
+        }
+        _ => panic!(rt; "a record of two machines"),
+    }
+}
+
+#[test]
+fn faults_have_numbers_and_texts(rt: HostRuntime) -> Result<(), Fail> {
+    let missing = Fault::from(Gather::Missing { hart: 1 });
+    let rows = [
+        (Fault::NoThread, 35, "no thread"),
+        (
+            missing,
+            33,
+            "the seats of hart 1 are missing, or there are too many",
+        ),
+    ];
+    for (fault, number, text) in rows {
+        assert_eq!(rt; fault.number(), number);
+        assert_eq!(rt; fault.to_string(rt.alloc())?.as_str(), text);
+    }
+    Ok(())
+}

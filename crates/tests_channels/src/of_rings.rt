@@ -1,0 +1,305 @@
+//! Both rings: their tables against the listings that docs/channels.md tells, and channels with what they
+//! report worked out apart from the program.
+
+ghost use Rattle.std.specs.Prelude.{◌≤◌};
+
+use assembler::assemble;
+use fastforward::FastForward;
+use hart::{Report, Status};
+use hart_threads::{Open, deliver_threads};
+use lamport_ring::Lamport;
+use poll_close::{Channel, Refused, RingKind, deliver};
+use std::alloc::{AllocError, Global};
+use std::process::Abort;
+use std::test::Fail;
+use step_machine::{Entry, Event, Outcome};
+
+const LAMPORT_SENDER: &str = "next: addi x17,x0,1
+ecall
+beq x11,x0,done
+addi x6,x5,4
+bne x6,x9,test
+addi x6,x0,0
+test: lw x7,8(x8)
+beq x7,x6,test
+add x28,x8,x5
+sw x10,16(x28)
+sw x6,0(x8)
+addi x5,x6,0
+jal x0,next
+done: addi x6,x0,1
+sw x6,4(x8)
+addi x17,x0,93
+ecall
+";
+
+const LAMPORT_RECEIVER: &str = "round: addi x8,x21,0
+addi x22,x0,0
+visit: lw x5,12(x8)
+bne x5,x0,step
+lw x30,4(x8)
+lw x6,0(x8)
+lw x7,8(x8)
+beq x6,x7,empty
+add x28,x8,x7
+lw x11,16(x28)
+addi x7,x7,4
+bne x7,x9,keep
+addi x7,x0,0
+keep: sw x7,8(x8)
+addi x10,x22,0
+addi x17,x0,2
+ecall
+jal x0,step
+empty: beq x30,x0,step
+addi x5,x0,1
+sw x5,12(x8)
+addi x10,x22,0
+addi x17,x0,3
+ecall
+addi x20,x20,-1
+beq x20,x0,quit
+step: add x8,x8,x18
+addi x22,x22,1
+bne x8,x19,visit
+jal x0,round
+quit: addi x17,x0,93
+ecall
+";
+
+const FAST_FORWARD_SENDER: &str = "next: addi x17,x0,1
+ecall
+beq x11,x0,done
+add x28,x8,x5
+test: lw x7,16(x28)
+bne x7,x0,test
+sw x10,16(x28)
+addi x5,x5,4
+bne x5,x9,next
+addi x5,x0,0
+jal x0,next
+done: addi x6,x0,1
+sw x6,4(x8)
+addi x17,x0,93
+ecall
+";
+
+const FAST_FORWARD_RECEIVER: &str = "round: addi x8,x21,0
+addi x22,x0,0
+visit: lw x5,12(x8)
+bne x5,x0,step
+lw x30,4(x8)
+lw x7,8(x8)
+add x28,x8,x7
+lw x11,16(x28)
+beq x11,x0,empty
+sw x0,16(x28)
+addi x7,x7,4
+bne x7,x9,keep
+addi x7,x0,0
+keep: sw x7,8(x8)
+addi x10,x22,0
+addi x17,x0,2
+ecall
+jal x0,step
+empty: beq x30,x0,step
+addi x5,x0,1
+sw x5,12(x8)
+addi x10,x22,0
+addi x17,x0,3
+ecall
+addi x20,x20,-1
+beq x20,x0,quit
+step: add x8,x8,x18
+addi x22,x22,1
+bne x8,x19,visit
+jal x0,round
+quit: addi x17,x0,93
+ecall
+";
+
+/// The words of a ring's tables are those of these listings.
+fn expect_tables<K: RingKind>(
+    rt: &(impl Abort + AllocGlobal),
+    sender: &str,
+    receiver: &str,
+) -> Result<(), Fail> {
+    let words = assemble(rt.alloc(), sender)?;
+    assert_eq!(rt; words.as_slice(), K::sender());
+    let words = assemble(rt.alloc(), receiver)?;
+    assert_eq!(rt; words.as_slice(), K::receiver());
+    Ok(())
+}
+
+#[test]
+fn lamport_s_listing_is_its_table(rt: HostRuntime) -> Result<(), Fail> {
+    expect_tables::<Lamport>(&rt, LAMPORT_SENDER, LAMPORT_RECEIVER)
+}
+
+#[test]
+fn fast_forward_s_listing_is_its_table(rt: HostRuntime) -> Result<(), Fail> {
+    expect_tables::<FastForward>(&rt, FAST_FORWARD_SENDER, FAST_FORWARD_RECEIVER)
+}
+
+const A0: Event = Event::Act(0);
+
+const A1: Event = Event::Act(1);
+
+const L0: Event = Event::Land(0);
+
+const L1: Event = Event::Land(1);
+
+/// The events of `steps`, each so often.
+fn events_of(alloc: Global, steps: &[(Event, u32)]) -> Result<Vec<Event>, AllocError> {
+    let mut events = Vec::new(alloc);
+    for (event, times) in steps {
+        for _ in 0..*times {
+            events.push(*event)?;
+        }
+    }
+    Ok(events)
+}
+
+/// The one list of a channel with one sender.
+fn one_list(alloc: Global, list: &[u32]) -> Result<Vec<Vec<u32>>, AllocError> {
+    let mut lists = Vec::new(alloc);
+    lists.push(Vec::from_slice(alloc, list)?)?;
+    Ok(lists)
+}
+
+/// A channel with one sender that runs these events reports this, and so does `deliver`.
+fn expect_run<K: RingKind, const B: usize>(
+    rt: &(impl Abort + AllocGlobal),
+    list: &[u32],
+    ring: u32,
+    events: &[Event],
+    wanted: &[Report],
+) -> Result<(), Refused>
+    requires some { 1 ≤ B }
+    requires capacity { B ≤ 64 }
+{
+    let lists = one_list(rt.alloc(), list)?;
+    let mut channel = Channel::<K, B, 4096>::open(rt.alloc(), &lists, ring)?;
+    channel.run(events).map_err(|error| error.1)?;
+    assert_eq!(rt; channel.reports(), wanted);
+    let delivered = deliver::<K, B, 4096>(rt.alloc(), &lists, ring, events)?;
+    assert_eq!(rt; delivered.as_slice(), wanted);
+    Ok(())
+}
+
+/// And so does one that takes them one by one, where this many of them wait.
+fn expect_steps<K: RingKind, const B: usize>(
+    rt: &(impl Abort + AllocGlobal),
+    list: &[u32],
+    ring: u32,
+    events: &[Event],
+    wanted: &[Report],
+    waiting: u32,
+) -> Result<(), Refused>
+    requires some { 1 ≤ B }
+    requires capacity { B ≤ 64 }
+{
+    let lists = one_list(rt.alloc(), list)?;
+    let mut channel = Channel::<K, B, 4096>::open(rt.alloc(), &lists, ring)?;
+    let mut waited = 0u32;
+    for event in events {
+        if channel.step(*event)? == Outcome::Waited {
+            waited = waited.saturating_add(1);
+        }
+    }
+    assert_eq!(rt; channel.reports(), wanted);
+    assert_eq!(rt; waited, waiting);
+    Ok(())
+}
+
+/// The slot lands before the head, so the receiver's first round finds the ring empty.
+#[test]
+fn lamport_s_run_and_steps_report_the_same(rt: HostRuntime) -> Result<(), Fail> {
+    let steps = [(A1, 10), (L1, 1), (A0, 13), (L1, 1), (A0, 16)];
+    let events = events_of(rt.alloc(), &steps)?;
+    let took = [Report::Took { sender: 0, word: 9 }];
+    expect_run::<Lamport, 2>(&rt, &[9, 9, 9], 2, &events, &took)?;
+    expect_steps::<Lamport, 2>(&rt, &[9, 9, 9], 2, &events, &took, 0)?;
+    Ok(())
+}
+
+/// The sender's mark and the receiver's tail wait each for the store before.
+#[test]
+fn fast_forward_s_run_and_steps_report_the_same(rt: HostRuntime) -> Result<(), Fail> {
+    let steps = [
+        (A1, 16),
+        (L1, 1),
+        (A1, 3),
+        (L1, 1),
+        (A0, 14),
+        (L0, 1),
+        (A0, 20),
+        (L0, 1),
+        (A0, 4),
+    ];
+    let events = events_of(rt.alloc(), &steps)?;
+    let all = [
+        Report::Took { sender: 0, word: 7 },
+        Report::Closed { sender: 0 },
+    ];
+    expect_run::<FastForward, 1>(&rt, &[7], 1, &events, &all)?;
+    expect_steps::<FastForward, 1>(&rt, &[7], 1, &events, &all, 2)?;
+    Ok(())
+}
+
+/// How many harts of a channel with one sender end where they act and land in turns.
+fn ended_of<K: RingKind>(alloc: Global, list: &[u32], ring: u32) -> Result<usize, Refused> {
+    let lists = one_list(alloc, list)?;
+    let mut channel = Channel::<K, 4, 4096>::open(alloc, &lists, ring)?;
+    for _ in 0..400 {
+        for event in [A0, A1, L0, L1] {
+            channel.step(event)?;
+        }
+    }
+    let trace = channel.trace(alloc)?;
+    let ended = trace
+        .entries
+        .iter()
+        .filter(|entry| matches!(entry, Entry::Ended { .. }));
+    Ok(ended.count())
+}
+
+#[test]
+fn harts_that_act_and_land_in_turns_end(rt: HostRuntime) -> Result<(), Fail> {
+    assert_eq!(rt; ended_of::<Lamport>(rt.alloc(), &[2, 3, 4], 3)?, 2);
+    assert_eq!(rt; ended_of::<FastForward>(rt.alloc(), &[2, 3, 4], 3)?, 2);
+    Ok(())
+}
+
+/// What a ring of two slots delivers of one list, with a thread for each hart and each lander.
+#[test]
+fn threads_deliver_what_their_events_deliver(rt: HostRuntime) -> Result<(), Fail> {
+    let lists = one_list(rt.alloc(), &[5])?;
+    let answer = deliver_threads::<Lamport, 4, 4096, Open, HostRuntime>(
+        &rt,
+        rt.alloc(),
+        &lists,
+        2,
+        &Open,
+        1000,
+    );
+    let (record, reports) = answer.expect(&rt, "a record");
+    assert_eq!(rt; record.machine.harts(), 2);
+    assert_eq!(rt; record.machine.status(1), Status::Ended);
+    let again = deliver::<Lamport, 4, 4096>(rt.alloc(), &lists, 2, &record.events)?;
+    assert_eq!(rt; reports.as_slice(), again.as_slice());
+    Ok(())
+}
+
+#[test]
+fn threads_refuse_lists_by_number(rt: HostRuntime) {
+    let answer = deliver_threads::<Lamport, 4, 4096, Open, HostRuntime>(
+        &rt,
+        rt.alloc(),
+        &[],
+        2,
+        &Open,
+        1,
+    );
+    assert_eq!(rt; answer.err().map(|fault| fault.number()), Some(17));
+}

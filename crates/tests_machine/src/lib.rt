@@ -1,0 +1,17 @@
+//! Tests of the machine and of the crates that speak of its runs, a module for each; of the two litmus
+//! crates above the machine in one. `given` has what several of them begin with.
+//!
+//! Without its tests this crate is empty: it promises nothing, and no crate uses it.
+
+#![tactic(auto)]
+
+#[cfg(test)]
+mod given;
+#[cfg(test)]
+mod of_litmus;
+#[cfg(test)]
+mod of_recorder;
+#[cfg(test)]
+mod of_step_machine;
+#[cfg(test)]
+mod of_ztso_axioms;
