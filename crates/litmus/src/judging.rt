@@ -7,8 +7,8 @@ ghost use Rattle.litmus.specs.inner.Running.{done, all_done, AsksThere};
 ghost use Rattle.litmus.specs.Verdicts.{HasFinished, IsFinished, final_value, is_asked_for as asked_for};
 
 use crate::condition::Condition;
-use crate::verdict::Quantifier;
 use crate::symbols::{Place, Step};
+use crate::verdict::Quantifier;
 use hart::status::Status;
 use std::alloc::{AllocError, Global};
 use step_machine::Machine;

@@ -15,11 +15,11 @@ mod judging;
 pub mod laws;
 mod lefts;
 mod question;
-mod verdict;
 mod symbols;
+mod verdict;
 
 pub use condition::Condition;
 pub use draft::{ConditionDraft, ConditionError};
 pub use question::{MAX_LOCATIONS, Test};
-pub use verdict::{Quantifier, Verdict};
 pub use symbols::{Place, Symbol};
+pub use verdict::{Quantifier, Verdict};

@@ -16,9 +16,9 @@ use crate::marks::{Mark, cut_at_line};
 use crate::refusals::Refusal;
 use crate::rows::{count_cells, harts_in, is_blank_line, row_in};
 use assembler::{AsmError, Draft};
+use rv_decode::instruction::MAX_CODE;
 use std::alloc::{AllocError, Global};
 use std::marker::Model;
-use rv_decode::instruction::MAX_CODE;
 use texts::cutting::cut_at;
 use texts::{Separators, first_piece};
 

@@ -8,8 +8,8 @@ ghost use Rattle.ztso_engines.specs.StepsReading.{keyword_named, number_at, two_
 use crate::code::code_of;
 use crate::fault::{BAD, LineFault};
 use recorder::{ScheduleError, push_tokens_of};
-use std::alloc::Global;
 use rv_decode::instruction::MAX_CODE;
+use std::alloc::Global;
 use step_machine::opening::MAX_HARTS;
 use step_machine::{Event, HartOpening};
 use texts::{Numbered, first_token, word};
