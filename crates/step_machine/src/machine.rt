@@ -64,6 +64,7 @@ impl<const B: usize, const M: usize> Machine<B, M> {
 
     /// One event. All growth comes first, so an error changes nothing; within reserved room there is
     /// no error.
+    #[inline(always)]
     pub fn step(&mut self, event: Event) -> Result<Outcome, AllocError>
         ensures happens { IfOk result (λ o. Happens B M self.old.history event o self.new.history) }
         ensures opening { self.new.history.opening ≡ self.old.history.opening }
