@@ -1,7 +1,7 @@
 -- What a gathered record is, and what it means that there is none.
 use Rattle.std.specs.Prelude.{ℕ, ◌≡◌, List, map, length}
 use Rattle.step_machine.specs.declared.events.Entry.{Entry}
-use Rattle.step_machine.specs.History.{Start, History, history_of}
+use Rattle.step_machine.specs.History.{Start, history_of}
 use Rattle.step_machine.specs.Legal.{Kept}
 use Rattle.step_machine.specs.Runs.{Run, IsOwnRun, event_of}
 use Rattle.hart_threads.specs.Seats.{SeatView}

@@ -1,5 +1,5 @@
 -- What threads made is a schedule of harts below 64, and what answers its test answers the input.
-use Rattle.std.proofs.Common.{◌≡◌, ℕ, ◌<◌, ◌≤◌, Bool, true, false, cond, List, ◌++◌, length, refl, sym, subst, inl, inr, arith, Result, Ok, Err}
+use Rattle.std.proofs.Common.{◌≡◌, ℕ, ◌<◌, ◌≤◌, Bool, true, false, cond, List, ◌++◌, length, refl, sym, subst, arith, Result, Ok, Err}
 use Rattle.std.specs.Prelude.{map, All, Option}
 use Rattle.std.proofs.lemmas.List.Elements.{All-map, All-weaker}
 use Rattle.step_machine.specs.declared.events.Event.{Event}

@@ -1,14 +1,13 @@
 -- Inputs that are schedules.
-use Rattle.std.specs.Prelude.{ℕ, ◌≡◌, List, Option, IsSomeAnd, Result, Ok, Err}
+use Rattle.std.specs.Prelude.{ℕ, ◌≡◌, List, Option, IsSomeAnd, Result, Err}
 use Rattle.texts.specs.Results.{map_err}
 use Rattle.step_machine.specs.declared.events.Event.{Event}
 use Rattle.recorder.specs.declared.faults.AtByte.{AtByte}
 use Rattle.recorder.specs.Faults.{fault_number}
 use Rattle.recorder.specs.Reading.{schedule_at}
-use Rattle.recorder.specs.Schedule.{IsScheduleOf}
 use Rattle.ztso_engines.specs.declared.fault.Refusal.{Refusal}
 use Rattle.ztso_engines.specs.declared.fault.Position.TheVariants.{Byte}
-use Rattle.ztso_engines.specs.Engines.{Accepted, judged}
+use Rattle.ztso_engines.specs.Engines.{judged}
 
 -- a fault of a schedule is refused at its byte, by its number
 abbrev pub refused_at_byte : AtByte → Refusal
