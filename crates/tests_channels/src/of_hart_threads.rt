@@ -182,12 +182,20 @@ fn seats_of_another_machine_are_no_part(rt: HostRuntime) {
 #[test]
 fn faults_have_numbers_and_texts(rt: HostRuntime) -> Result<(), Fail> {
     let missing = Fault::from(Gather::Missing { hart: 1 });
+    let history = Vec::new(rt.alloc());
+    let mismatch = Fault::from(Gather::Mismatch { hart: 2, history });
     let rows = [
+        (Fault::NoMemory, 0, "no memory"),
         (Fault::NoThread, 35, "no thread"),
         (
             missing,
             33,
             "the seats of hart 1 are missing, or there are too many",
+        ),
+        (
+            mismatch,
+            32,
+            "a diary of hart 2 is not its part of the history",
         ),
     ];
     for (fault, number, text) in rows {
