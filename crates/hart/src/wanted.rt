@@ -1,6 +1,6 @@
 //! The needs of single instructions.
 
-ghost use Rattle.std.specs.Prelude.{◌≡◌, ◌≤◌, ◌<◌};
+ghost use Rattle.std.specs.Prelude.{◌≡◌, ◌≤◌, ◌<◌, ◌%◌};
 ghost use Rattle.hart.specs.Steps.{jump_need, access_need, call_need, is_full};
 
 use crate::need::{Need, Report};
@@ -25,13 +25,26 @@ pub(crate) fn jump_need(target: u32) -> Need
     }
 }
 
+/// How far an address is past a multiple of `width`. No width that an access has costs a division.
+fn past_multiple(addr: u32, width: u32) -> u32
+    requires { 0 < width }
+    ensures { result ≡ addr % width }
+{
+    match width {
+        1 => addr % 1,
+        2 => addr % 2,
+        4 => addr % 4,
+        _ => addr % width,
+    }
+}
+
 /// What an access to `width` bytes from `addr` on wants, in a memory of so many words.
 pub(crate) fn access_need(words: usize, width: u32, addr: u32, wanted: Need) -> Need
     requires words { words ≤ 65536 }
     requires some { 0 < width }
     ensures { result ≡ access_need words width addr wanted }
 {
-    if addr % width != 0 {
+    if past_multiple(addr, width) != 0 {
         Need::Stop(Stop::Misaligned)
     } else if (addr as usize) < 4 * words {
         wanted

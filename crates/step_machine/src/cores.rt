@@ -63,6 +63,7 @@ impl<const B: usize, const M: usize> Cores<B, M> {
     }
 
     /// What the event answers, and does.
+    #[inline(always)]
     pub fn happen(&mut self, event: Event) -> Outcome
         requires room { HasRoom self.old.harts event }
         ensures outcome { result ≡ outcome_of B self.old event }
@@ -77,6 +78,7 @@ impl<const B: usize, const M: usize> Cores<B, M> {
         outcome
     }
 
+    #[inline(always)]
     fn act(&mut self, hart: u32) -> Outcome
         requires room { IfSome (slice_get self.old.harts hart) (λ v. 0 < v.room) }
         ensures outcome { result ≡ act_outcome B self.old hart (slice_get self.old.harts hart) }
@@ -97,6 +99,7 @@ impl<const B: usize, const M: usize> Cores<B, M> {
     }
 
     /// Does what a running hart needs, or lets it wait.
+    #[inline(always)]
     fn meet(&mut self, hart: u32, need: Need) -> Outcome
         requires next { IsNext self.old hart need }
         requires within { hart < length self.old.harts }
@@ -132,6 +135,7 @@ impl<const B: usize, const M: usize> Cores<B, M> {
     }
 
     /// What a hart does without memory and its buffer, which this entry tells.
+    #[inline(always)]
     fn do_alone(&mut self, hart: u32, need: Need, entry: Entry) -> Outcome
         requires within { hart < length self.old.harts }
         requires next { IsNext self.old hart need }
@@ -143,6 +147,7 @@ impl<const B: usize, const M: usize> Cores<B, M> {
         Outcome::Did(entry)
     }
 
+    #[inline(always)]
     fn store(&mut self, hart: u32, addr: u32, width: u32, value: u32) -> Outcome
         requires next { IsNext self.old hart (Need.Store addr width value) }
         requires within { hart < length self.old.harts }
@@ -200,6 +205,7 @@ impl<const B: usize, const M: usize> Cores<B, M> {
     }
 
     /// Lets a running hart do what it needs, given the word that it read.
+    #[inline(always)]
     #[tactic(auto, using(crate::proofs::Fitting::stepped_in_place, crate::proofs::Fitting::fit_step))]
     fn advance(&mut self, hart: u32, need: Need, value: Option<u32>)
         requires within { hart < length self.old.harts }
@@ -222,6 +228,7 @@ impl<const B: usize, const M: usize> Cores<B, M> {
         part(seen, addr, width)
     }
 
+    #[inline(always)]
     fn land(&mut self, hart: u32) -> Outcome
         ensures outcome { result ≡ land_outcome self.old hart (slice_get self.old.harts hart) }
         ensures after { self.new ≡ after_outcome self.old result }
