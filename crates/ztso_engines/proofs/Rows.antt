@@ -1,11 +1,11 @@
--- Rows by outcomes: what is found after one was put in anew.
-use Rattle.std.proofs.Common.{◌≡◌, ℕ, Bool, true, false, cond, List, [], ◌∷◌, Option, Some, None, option_map, refl, sym, ap, ◌∙◌, subst}
+-- Rows by outcomes: what is found after one was changed or put in.
+use Rattle.std.proofs.Common.{◌≡◌, ℕ, ◌+◌, Bool, true, false, cond, List, [], ◌∷◌, Option, Some, None, option_map, refl, sym, ap, ◌∙◌, subst}
 use Rattle.std.specs.Prelude.{IfSome}
 use Rattle.std.specs.declared.cmp.Ordering.{Ordering}
 use Rattle.std.specs.declared.cmp.Ordering.TheVariants.{Less, Equal, Greater}
 use Rattle.std.specs.Ordering.{is_eq, match_ordering, nat_cmp}
 use Rattle.std.specs.Cmp.Lexicographic.{slice_cmp}
-use Rattle.std.specs.Map.{lookup, remove_entry}
+use Rattle.std.specs.Map.{lookup, set_value}
 use Rattle.std.specs.BTreeMap.{insert_entry}
 use Rattle.std.specs.Global.{Vec}
 use Rattle.std.proofs.lemmas.Slice.Eq.{bytes_eq-Decides}
@@ -20,17 +20,6 @@ same_is xs ys e = (bytes_eq-Decides xs ys).0 (sym (is_eq-slice_cmp xs ys) ∙ e)
 pub same_itself : (xs : List ℕ) → is_eq (slice_cmp nat_cmp xs xs) ≡ true
 same_itself xs = is_eq-slice_cmp xs xs ∙ (bytes_eq-Decides xs xs).1 refl
 
-lookup_removed : {X : Type 0} (key other : List ℕ) → is_eq (slice_cmp nat_cmp other key) ≡ false → (rows : List (Vec ℕ × X)) → lookup (is_key other) (remove_entry (is_key key) rows) ≡ lookup (is_key other) rows
-lookup_removed key other apart [] = refl
-lookup_removed {X} key other apart (e ∷ rows) = by (is_key key e.0) refl (lookup_removed key other apart rows)
-  where
-    by : (b : Bool) → is_key key e.0 ≡ b → lookup (is_key other) (remove_entry (is_key key) rows) ≡ lookup (is_key other) rows
-        → lookup (is_key other) (cond b rows (e ∷ remove_entry (is_key key) rows)) ≡ cond (is_key other e.0) (Some e.1) (lookup (is_key other) rows)
-    by true is rest =
-        let other_too : is_key other e.0 ≡ false = subst (λ (k : List ℕ). is_eq (slice_cmp nat_cmp other k) ≡ false) (same_is key e.0.items is) apart in
-        sym (ap (λ (b : Bool). cond b (Some e.1) (lookup (is_key other) rows)) other_too)
-    by false is rest = ap (λ (o : Option X). cond (is_key other e.0) (Some e.1) o) rest
-
 -- two tests of one answer, and two that never pass together
 one_test : {X : Type 0} (b c : Bool) (v w : X) (o : Option X) → c ≡ b → cond c (Some v) o ≡ cond b (Some v) (cond c (Some w) o)
 one_test true true v w o e = refl
@@ -43,6 +32,27 @@ two_tests true true v w o apart = absurd (apart refl refl)
 two_tests false true v w o apart = refl
 two_tests true false v w o apart = refl
 two_tests false false v w o apart = refl
+
+either : {X : Type 0} (b : Bool) (x : X) → x ≡ cond b x x
+either true x = refl
+either false x = refl
+
+-- another value for the key that is found
+lookup_set : {X : Type 0} (key other : List ℕ) (value : X) (rows : List (Vec ℕ × X)) → lookup (is_key other) (set_value (is_key key) rows value) ≡ cond (is_eq (slice_cmp nat_cmp other key)) (option_map (λ (old : X). value) (lookup (is_key key) rows)) (lookup (is_key other) rows)
+lookup_set key other value [] = either (is_eq (slice_cmp nat_cmp other key)) None
+lookup_set {X} key other value (e ∷ rows) = by (is_key key e.0) refl (lookup_set key other value rows)
+  where
+    by : (b : Bool) → is_key key e.0 ≡ b → lookup (is_key other) (set_value (is_key key) rows value) ≡ cond (is_eq (slice_cmp nat_cmp other key)) (option_map (λ (old : X). value) (lookup (is_key key) rows)) (lookup (is_key other) rows)
+        → lookup (is_key other) (cond b ((e.0, value) ∷ rows) (e ∷ set_value (is_key key) rows value)) ≡ cond (is_eq (slice_cmp nat_cmp other key)) (option_map (λ (old : X). value) (cond b (Some e.1) (lookup (is_key key) rows))) (cond (is_key other e.0) (Some e.1) (lookup (is_key other) rows))
+    by true is rest = subst (λ (k : List ℕ). cond (is_key other e.0) (Some value) (lookup (is_key other) rows) ≡ cond (is_eq (slice_cmp nat_cmp other k)) (Some value) (cond (is_key other e.0) (Some e.1) (lookup (is_key other) rows))) (sym (same_is key e.0.items is)) (one_test (is_key other e.0) (is_key other e.0) value e.1 (lookup (is_key other) rows) refl)
+    by false is rest = at (is_eq (slice_cmp nat_cmp other key)) refl rest
+      where
+        at : (b : Bool) → is_eq (slice_cmp nat_cmp other key) ≡ b → lookup (is_key other) (set_value (is_key key) rows value) ≡ cond b (option_map (λ (old : X). value) (lookup (is_key key) rows)) (lookup (is_key other) rows)
+            → cond (is_key other e.0) (Some e.1) (lookup (is_key other) (set_value (is_key key) rows value)) ≡ cond b (option_map (λ (old : X). value) (lookup (is_key key) rows)) (cond (is_key other e.0) (Some e.1) (lookup (is_key other) rows))
+        at true same rest =
+            let none : is_key other e.0 ≡ false = subst (λ (k : List ℕ). is_eq (slice_cmp nat_cmp k e.0.items) ≡ false) (sym (same_is other key same)) is in
+            ap (λ (b : Bool). cond b (Some e.1) (lookup (is_key other) (set_value (is_key key) rows value))) none ∙ rest
+        at false apart rest = ap (λ (o : Option X). cond (is_key other e.0) (Some e.1) o) rest
 
 lookup_inserted : {X : Type 0} (key : Vec ℕ) (value : X) (other : List ℕ) (rows : List (Vec ℕ × X)) → lookup (is_key other) (insert_entry order rows key value) ≡ cond (is_key other key) (Some value) (lookup (is_key other) rows)
 lookup_inserted key value other [] = refl
@@ -60,18 +70,27 @@ lookup_inserted {X} key value other (e ∷ rows) = by (order key e.0) refl (look
         let none : is_eq (order key e.0) ≡ false = ap is_eq is in cc in
         ap (λ (o : Option X). cond (is_key other e.0) (Some e.1) o) rest ∙ two_tests (is_key other key) (is_key other e.0) value e.1 (lookup (is_key other) rows) apart
 
--- a row that was taken out, and put in with one run more
-counted_at : (events : List Event) (old : List (Vec ℕ × Row)) (key : Vec ℕ) (row : Row) (other : List ℕ) → counted_by row ≡ counted_more events (counted_of old key.items)
-    → counted_of (insert_entry order (remove_entry (is_key key.items) old) key row) other ≡ cond (is_key other key) (Some (counted_more events (counted_of old other))) (counted_of old other)
+-- a row with one run more
+pub counted_again : (events : List Event) (old : List (Vec ℕ × Row)) (key : List ℕ) (row : Row) → Some row ≡ lookup (is_key key) old → Counts key events old (set_value (is_key key) old (record row { count = row.count + 1 }))
 unfolding counted_of
-counted_at events old key row other is = ap (option_map counted_by) (lookup_inserted key row other (remove_entry (is_key key.items) old)) ∙ by (is_key other key) refl
+counted_again events old key row found = λ other. ap (option_map counted_by) (lookup_set key other (record row { count = row.count + 1 }) old) ∙ by other (is_eq (slice_cmp nat_cmp other key)) refl
   where
-    by : (b : Bool) → is_key other key ≡ b → option_map counted_by (cond b (Some row) (lookup (is_key other) (remove_entry (is_key key.items) old))) ≡ cond b (Some (counted_more events (counted_of old other))) (counted_of old other)
-    by true same = ap Some (is ∙ ap (λ (k : List ℕ). counted_more events (counted_of old k)) (sym (same_is other key.items same)))
-    by false apart = ap (option_map counted_by) (lookup_removed key.items other apart old)
+    by : (other : List ℕ) (b : Bool) → is_eq (slice_cmp nat_cmp other key) ≡ b → option_map counted_by (cond b (option_map (λ (old : Row). record row { count = row.count + 1 }) (lookup (is_key key) old)) (lookup (is_key other) old)) ≡ cond b (Some (counted_more events (counted_of old other))) (counted_of old other)
+    by other true same =
+        let here : Some row ≡ lookup (is_key other) old = found ∙ ap (λ (k : List ℕ). lookup (is_key k) old) (sym (same_is other key same)) in
+        rw (← found, ← here) refl
+    by other false apart = refl
 
-pub counted : (events : List Event) (old : List (Vec ℕ × Row)) (key : Vec ℕ) (row : Row) → counted_by row ≡ counted_more events (counted_of old key.items) → Counts key.items events old (insert_entry order (remove_entry (is_key key.items) old) key row)
-counted events old key row is = λ other. counted_at events old key row other is
+-- a first run's row
+pub counted_first : (events : List Event) (old : List (Vec ℕ × Row)) (key : Vec ℕ) (row : Row) → None ≡ lookup (is_key key.items) old → counted_by row ≡ counted_more events None → Counts key.items events old (insert_entry order old key row)
+unfolding counted_of
+counted_first events old key row none first = λ other. ap (option_map counted_by) (lookup_inserted key row other old) ∙ by other (is_key other key) refl
+  where
+    by : (other : List ℕ) (b : Bool) → is_key other key ≡ b → option_map counted_by (cond b (Some row) (lookup (is_key other) old)) ≡ cond b (Some (counted_more events (counted_of old other))) (counted_of old other)
+    by other true same =
+        let here : None ≡ lookup (is_key other) old = none ∙ ap (λ (k : List ℕ). lookup (is_key k) old) (sym (same_is other key.items same)) in
+        rw (← here) (ap Some first)
+    by other false apart = refl
 
 -- the row that is found is one of which something is told
 pub found_row : (Small : ℕ → Type 0) (rows : List (Vec ℕ × Row)) (outcome : List ℕ) (found : Option Row) → found ≡ lookup (is_key outcome) rows → IfSome (counted_of rows outcome) (λ told. Small told.0) → IfSome found (λ row. Small row.count)

@@ -1,11 +1,11 @@
 //! What is kept of a test's runs.
 
-ghost use Rattle.std.specs.Prelude.{◌≡◌, ◌+◌, ◌<◌, ◌≤◌, ℕ, List, [], ◌∷◌, length, option_map, IfOk, IfSome, OnOk};
+ghost use Rattle.std.specs.Prelude.{◌≡◌, ◌+◌, ◌<◌, ◌≤◌, ℕ, List, [], ◌∷◌, length, IfOk, IfSome, OnOk};
 ghost use Rattle.std.specs.String.{string_bytes};
 ghost use Rattle.step_machine.specs.Runs.{Run};
 ghost use Rattle.ztso_engines.specs.Trials.{Trial, IsTrial};
 ghost use Rattle.ztso_engines.specs.Outcomes.{schedule_text as text_of_schedule};
-ghost use Rattle.ztso_engines.specs.inner.Tallies.{counted_by, counted_of, counted_more, Counts, IsTallyOf, Tallies};
+ghost use Rattle.ztso_engines.specs.inner.Tallies.{counted_of, Counts, IsTallyOf, Tallies};
 
 use crate::running::run_anew;
 use litmus::{Test, Verdict};
@@ -45,23 +45,6 @@ fn schedule_text(alloc: Global, events: &[Event]) -> Result<String, AllocError>
     Ok(text)
 }
 
-/// The row of an outcome that one more run gave, by these events.
-fn row_after(alloc: Global, row: Option<Row>, events: &[Event]) -> Result<Row, AllocError>
-    requires { IfSome row (λ row. row.count < 4294967295) }
-    ensures { IfOk result (λ new. counted_by new ≡ counted_more events.now (option_map counted_by row)) }
-{
-    match row {
-        Some(Row { count, schedule }) => Ok(Row {
-            count: count + 1,
-            schedule,
-        }),
-        None => {
-            let schedule = schedule_text(alloc, events)?;
-            Ok(Row { count: 1, schedule })
-        }
-    }
-}
-
 /// Counts one more run with this outcome.
 fn count_outcome(
     alloc: Global,
@@ -72,9 +55,13 @@ fn count_outcome(
     requires { IfSome (counted_of rows.old.entries outcome.items) (λ told. told.0 < 4294967295) }
     ensures { OnOk result (Counts outcome.items events.now rows.old.entries rows.new.entries) }
 {
-    let row = rows.remove(outcome.as_slice());
-    let row = row_after(alloc, row, events)?;
-    rows.insert(outcome, row)?;
+    match rows.get_mut(outcome.as_slice()) {
+        Some(row) => row.count += 1,
+        None => {
+            let schedule = schedule_text(alloc, events)?;
+            rows.insert(outcome, Row { count: 1, schedule })?;
+        }
+    }
     Ok(())
 }
 

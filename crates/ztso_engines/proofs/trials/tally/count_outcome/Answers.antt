@@ -1,14 +1,19 @@
-use Rattle.std.proofs.Common.{ℕ, ◌<◌, option_map, ap, ◌∙◌}
-use Rattle.ztso_engines.specs.inner.Tallies.{counted_by, counted_of, counted_more}
-use Rattle.ztso_engines.proofs.Rows.{counted, found_row}
+use Rattle.std.proofs.Common.{ℕ, ◌<◌, List, Some, ap, arith}
+use Rattle.ztso_engines.proofs.Rows.{counted_again, counted_first, found_row}
 use Rattle.ztso_engines.proofs.trials.tally.count_outcome.Goals as goal
 
-pub row_after-requires : goal.row_after-requires
-row_after-requires c = found_row (λ (n : ℕ). n < 4294967295) c.args.rows.now.entries c.args.outcome.items c.remove-row.result (rw c.as_slice.ensures.value at c.remove-row.ensures.value) c.requires
+pub overflow_add-row : goal.overflow_add-row
+overflow_add-row c =
+    let small = found_row (λ (n : ℕ). n < 4294967295) c.args.rows.now.entries c.args.outcome.items (Some c.in-Some.row.now) (rw c.as_slice.ensures.value at c.in-Some.ensures.value) c.requires in
+    omega (arith, small)
 
-pub returns : goal.returns
-unfolding counted_of
-returns c =
-    let at_key = rw c.as_slice.ensures.value at c.remove-row.ensures.value in
-    let is = c.in_ok-row.ensures ∙ ap (λ o. counted_more c.args.events.now (option_map counted_by o)) at_key in
-    rw (c.in_ok-insert.ensures.entries, c.remove-row.ensures.entries, c.as_slice.ensures.value) (counted c.args.events.now c.args.rows.now.entries c.args.outcome c.in_ok-row.row is)
+pub returns-in-Some : goal.returns-in-Some
+returns-in-Some c =
+    rw ((c.get_mut.follows.holds _).0, c.as_slice.ensures.value)
+    (counted_again c.args.events.now c.args.rows.now.entries c.args.outcome.items c.in-Some.row.now (rw c.as_slice.ensures.value at c.in-Some.ensures.value))
+
+pub returns-in_ok-insert-in-None : goal.returns-in_ok-insert-in-None
+returns-in_ok-insert-in-None c =
+    rw (c.in_ok-insert-in-None.ensures.entries, c.get_mut.follows.holds-at-none)
+    (counted_first c.args.events.now c.args.rows.now.entries c.args.outcome (record { count = 1; schedule = c.in_ok-schedule-in-None.schedule })
+    (rw c.as_slice.ensures.value at c.in-None.ensures.value) (ap (λ (text : List ℕ). (1, text)) c.in_ok-schedule-in-None.ensures))
