@@ -1,5 +1,7 @@
 //! Inputs that are opened at their first read.
 
+ghost use Rattle.std.specs.Prelude.{◌≡◌, None};
+
 use crate::job::Input;
 use std::io::{ErrorKind, Input as StandardInput, Read};
 use std::rt::Files;
@@ -22,7 +24,10 @@ enum Opened<R: Files + StandardInput> {
 
 impl<'a, R: Files + StandardInput> LateInput<'a, R> {
     /// This input, not opened yet. Where there is none each read fails.
-    pub fn new(rt: &'a R, input: Option<Input<'a>>) -> LateInput<'a, R> {
+    pub fn new(rt: &'a R, input: Option<Input<'a>>) -> LateInput<'a, R>
+        ensures input { result.input ≡ input.entry }
+        ensures unopened { result.opened ≡ None }
+    {
         LateInput {
             rt,
             input,

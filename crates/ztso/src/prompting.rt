@@ -1,5 +1,7 @@
 //! A user's commands.
 
+ghost use Rattle.std.specs.Prelude.{◌≡◌, None, true};
+
 use std::io;
 use std::io::{Input, IsTerminal, Read};
 
@@ -15,7 +17,10 @@ pub struct Prompting<'a, R: Input + Eprint> {
 
 impl<'a, R: Input + Eprint> Prompting<'a, R> {
     /// Nothing was read yet.
-    pub fn new(rt: &'a R) -> Prompting<'a, R> {
+    pub fn new(rt: &'a R) -> Prompting<'a, R>
+        ensures unopened { result.reader ≡ None }
+        ensures begins { result.begins ≡ true }
+    {
         Prompting {
             rt,
             reader: None,
