@@ -10,7 +10,7 @@ use Rattle.assembler.specs.declared.faults.AsmFault.{AsmFault}
 use Rattle.assembler.specs.declared.faults.AsmFault.TheVariants.{LabelTwice, TooLong}
 use Rattle.assembler.specs.Statements.{Made, one, two, jump, branch}
 use Rattle.assembler.specs.Lines.{label_of, statement_text, made_in}
-use Rattle.assembler.specs.Drafts.{Line, size_of, words_of, is_label, place_from, place_of, is_twice, line_below, told, placed, all_placed, Fitting, AllFit, over, finished}
+use Rattle.assembler.specs.Drafts.{Line, size_of, words_of, is_label, place_from, place_of, is_twice, line_below, drafted, placed, all_placed, Fitting, AllFit, over, finished}
 use Rattle.assembler.proofs.LabelLaws.{fresh_apart, once-push}
 use Rattle.std.specs.Str.{bytes_eq}
 use Rattle.std.specs.HashMap.{HashMap, UpdatesBy}
@@ -19,17 +19,17 @@ use Rattle.std.specs.declared.alloc.Global.{Global}
 use Rattle.std.specs.Map.{lookup, IsKeyTest, AreApart, KeepsOthers}
 use Rattle.std.proofs.lemmas.Cmp.{nat_list_eq_equiv}
 
-pub told_twice : (above : List Line) (text : List ℕ) → is_twice above (label_of text) ≡ true → told above text ≡ Err (record { fault = LabelTwice; line = length above + 1 })
-unfolding told line_below
-told_twice above text twice = rw twice refl
+pub drafted_twice : (above : List Line) (text : List ℕ) → is_twice above (label_of text) ≡ true → drafted above text ≡ Err (record { fault = LabelTwice; line = length above + 1 })
+unfolding drafted line_below
+drafted_twice above text twice = rw twice refl
 
-pub told_added : (above : List Line) (text : List ℕ) (made : Option Made) → is_twice above (label_of text) ≡ false → made_in (statement_text text) ≡ Ok made → told above text ≡ Ok (above ++ (record { label = label_of text; made = made }) ∷ [])
-unfolding told line_below
-told_added above text made fresh e = rw (fresh, e) refl
+pub drafted_added : (above : List Line) (text : List ℕ) (made : Option Made) → is_twice above (label_of text) ≡ false → made_in (statement_text text) ≡ Ok made → drafted above text ≡ Ok (above ++ (record { label = label_of text; made = made }) ∷ [])
+unfolding drafted line_below
+drafted_added above text made fresh e = rw (fresh, e) refl
 
-pub told_faulty : (above : List Line) (text : List ℕ) (fault : AsmFault) → is_twice above (label_of text) ≡ false → made_in (statement_text text) ≡ Err fault → told above text ≡ Err (record { fault = fault; line = length above + 1 })
-unfolding told line_below
-told_faulty above text fault fresh e = rw (fresh, e) refl
+pub drafted_faulty : (above : List Line) (text : List ℕ) (fault : AsmFault) → is_twice above (label_of text) ≡ false → made_in (statement_text text) ≡ Err fault → drafted above text ≡ Err (record { fault = fault; line = length above + 1 })
+unfolding drafted line_below
+drafted_faulty above text fault fresh e = rw (fresh, e) refl
 
 -- ---- places
 

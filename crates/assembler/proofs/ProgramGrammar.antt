@@ -19,13 +19,13 @@ use Rattle.rv_decode.proofs.Meanings.{meaning_iff}
 use Rattle.assembler.specs.Operands.{bytes, is_reached, IsReached}
 use Rattle.assembler.specs.Statements.{Made, one, two, jump, branch}
 use Rattle.assembler.specs.Lines.{label_of, statement_text, made_in}
-use Rattle.assembler.specs.Drafts.{Line, size_of, words_of, is_label, place_from, place_of, is_twice, at_line, told, all_told, in_bytes, distance, placed, onto, all_placed, finished, assembled}
+use Rattle.assembler.specs.Drafts.{Line, size_of, words_of, is_label, place_from, place_of, is_twice, at_line, drafted, all_drafted, in_bytes, distance, placed, onto, all_placed, finished, assembled}
 use Rattle.assembler.specs.Grammar.{IsLine}
 use Rattle.assembler.specs.Program.{AreLines, AreApart, EachOnce, IsFresh, Defines, IsPlaced, ArePlaced, AreInstrs, IsProgram, AreWordsOf}
 use Rattle.assembler.specs.Program.IsPlaced.{nothing, single, double, jumping, branching}
 use Rattle.assembler.proofs.Addresses.{is_reached_only, reached_true}
 use Rattle.assembler.proofs.LabelLaws.{label_is, is_the_label, Apart, fresh_apart, apart_fresh, apart-append}
-use Rattle.assembler.proofs.DraftLaws.{told_twice, told_added, told_faulty}
+use Rattle.assembler.proofs.DraftLaws.{drafted_twice, drafted_added, drafted_faulty}
 use Rattle.assembler.proofs.LineGrammar.{line_found, line_only}
 
 -- ---- lines
@@ -36,23 +36,23 @@ pub record LineAdded (above : List Line) (text : List ℕ) (more : List Line) : 
   pub apart : Apart above line.label
   pub whole : more ≡ above ++ line ∷ []
 
-pub told_found : (above : List Line) (text : List ℕ) (more : List Line) → told above text ≡ Ok more → LineAdded above text more
-told_found above text more e = go (is_twice above (label_of text)) refl (made_in (statement_text text)) refl
+pub drafted_found : (above : List Line) (text : List ℕ) (more : List Line) → drafted above text ≡ Ok more → LineAdded above text more
+drafted_found above text more e = go (is_twice above (label_of text)) refl (made_in (statement_text text)) refl
   where
     go : (b : Bool) → is_twice above (label_of text) ≡ b → (r : Result (Option Made) AsmFault) → made_in (statement_text text) ≡ r → LineAdded above text more
-    go true twice r is = absurd (let f = sym (told_twice above text twice) ∙ e in cc)
-    go false fresh (Err fault) is = absurd (let f = sym (told_faulty above text fault fresh is) ∙ e in cc)
+    go true twice r is = absurd (let f = sym (drafted_twice above text twice) ∙ e in cc)
+    go false fresh (Err fault) is = absurd (let f = sym (drafted_faulty above text fault fresh is) ∙ e in cc)
     go false fresh (Ok made) is = record {
       line = record { label = label_of text; made = made };
       is = line_found text made is;
       apart = fresh_apart above (label_of text) fresh;
-      whole = sym (ok_is Refusal (above ++ (record { label = label_of text; made = made }) ∷ []) more (sym (told_added above text made fresh is) ∙ e));
+      whole = sym (ok_is Refusal (above ++ (record { label = label_of text; made = made }) ∷ []) more (sym (drafted_added above text made fresh is) ∙ e));
     }
 
-pub told_only : (above : List Line) (text : List ℕ) (line : Line) → IsLine text line → Apart above line.label → told above text ≡ Ok (above ++ line ∷ [])
-told_only above text line is apart =
+pub drafted_only : (above : List Line) (text : List ℕ) (line : Line) → IsLine text line → Apart above line.label → drafted above text ≡ Ok (above ++ line ∷ [])
+drafted_only above text line is apart =
     let read = line_only text line is in
-    told_added above text line.made (ap (is_twice above) read.label ∙ apart_fresh above line.label apart) read.made ∙ ap (λ label. Ok (above ++ (record { label = label; made = line.made }) ∷ [])) read.label
+    drafted_added above text line.made (ap (is_twice above) read.label ∙ apart_fresh above line.label apart) read.made ∙ ap (λ label. Ok (above ++ (record { label = label; made = line.made }) ∷ [])) read.label
 
 -- each of the lines below is apart from each line above
 abbrev pub AllApart : List Line → List Line → Type 0
@@ -78,19 +78,19 @@ all_more : (above : List Line) (line : Line) (below : List Line) → AllApart ab
 all_more above line [] h k = tt
 all_more above line (next ∷ below) h k = (apart-append above line next.label h.0 k.0, all_more above line below h.1 k.1)
 
-pub record AllTold (above : List Line) (texts : List (List ℕ)) (all : List Line) : Type 0 where
+pub record AllDrafted (above : List Line) (texts : List (List ℕ)) (all : List Line) : Type 0 where
   pub below : List Line
   pub whole : all ≡ above ++ below
   pub written : AreLines texts below
   pub once : EachOnce below
   pub apart : AllApart above below
 
-pub all_found : (above : List Line) (texts : List (List ℕ)) (all : List Line) → all_told above texts ≡ Ok all → AllTold above texts all
+pub all_found : (above : List Line) (texts : List (List ℕ)) (all : List Line) → all_drafted above texts ≡ Ok all → AllDrafted above texts all
 all_found above [] all e = record { below = []; whole = sym (ok_is Refusal above all e) ∙ sym (append-nil above); written = refl; once = tt; apart = tt }
 all_found above (text ∷ texts) all e =
-    let step = bind_ok (told above text) (λ more. all_told more texts) all e in
-    let first = told_found above text step.0 step.1 in
-    let rest = all_found (above ++ first.line ∷ []) texts all (ap (λ more. all_told more texts) (sym first.whole) ∙ step.2) in
+    let step = bind_ok (drafted above text) (λ more. all_drafted more texts) all e in
+    let first = drafted_found above text step.0 step.1 in
+    let rest = all_found (above ++ first.line ∷ []) texts all (ap (λ more. all_drafted more texts) (sym first.whole) ∙ step.2) in
     record {
       below = first.line ∷ rest.below;
       whole = rest.whole ∙ append_assoc above (first.line ∷ []) rest.below;
@@ -99,7 +99,7 @@ all_found above (text ∷ texts) all e =
       apart = (first.apart, all_fronts above first.line rest.below rest.apart);
     }
 
-pub all_only : (above : List Line) (texts : List (List ℕ)) (below : List Line) → AreLines texts below → EachOnce below → AllApart above below → all_told above texts ≡ Ok (above ++ below)
+pub all_only : (above : List Line) (texts : List (List ℕ)) (below : List Line) → AreLines texts below → EachOnce below → AllApart above below → all_drafted above texts ≡ Ok (above ++ below)
 all_only above [] below written once apart = ap Ok (sym (append-nil above) ∙ ap (λ more. above ++ more) (sym written))
 all_only above (text ∷ texts) [] written once apart = absurd (let f = written.2 in cc)
 all_only above (text ∷ texts) (first ∷ below) written once apart =
@@ -107,7 +107,7 @@ all_only above (text ∷ texts) (first ∷ below) written once apart =
     let tail : below ≡ written.1 = (let f = written.2 in cc) in
     let is : IsLine text first = subst (λ (l : Line). IsLine text l) (sym head) written.3 in
     let rest : AreLines texts below = subst (λ (ls : List Line). AreLines texts ls) (sym tail) written.4 in
-    rw (told_only above text first is apart.0)
+    rw (drafted_only above text first is apart.0)
     (all_only (above ++ first ∷ []) texts below rest once.1 (all_more above first below apart.1 once.0) ∙ ap Ok (append_assoc above (first ∷ []) below))
 
 -- ---- places
@@ -267,7 +267,7 @@ pub record Assembling (text : List ℕ) (answers : List (Option Instr)) : Type 0
 pub program_found : (text : List ℕ) (answers : List (Option Instr)) → assembled text ≡ Ok answers → Assembling text answers
 unfolding assembled
 program_found text answers e =
-    let step = bind_ok (all_told [] (lines text)) finished answers e in
+    let step = bind_ok (all_drafted [] (lines text)) finished answers e in
     let written = all_found [] (lines text) step.0 step.1 in
     let same : written.below ≡ step.0 = sym written.whole in
     let answer = finished_found step.0 answers step.2 in
@@ -332,12 +332,12 @@ only_program refusal_of text instrs result e is = subst (λ (answer : Result (Li
 
 -- ---- a draft's line and its end
 
-pub found_line : {X E : Type 0} (refusal_of : E → Option Refusal) (above new : List Line) (text : List ℕ) (result : Result X E) → Gives refusal_of (λ x. new) result (told above text) → OnOk result ((more : Line) × IsLine text more × IsFresh above more × (new ≡ above ++ more ∷ []))
-found_line refusal_of above new text (Ok x) e = let first = told_found above text new e in (first.line, first.is, first.apart, first.whole)
+pub found_line : {X E : Type 0} (refusal_of : E → Option Refusal) (above new : List Line) (text : List ℕ) (result : Result X E) → Gives refusal_of (λ x. new) result (drafted above text) → OnOk result ((more : Line) × IsLine text more × IsFresh above more × (new ≡ above ++ more ∷ []))
+found_line refusal_of above new text (Ok x) e = let first = drafted_found above text new e in (first.line, first.is, first.apart, first.whole)
 found_line refusal_of above new text (Err error) e = tt
 
-pub only_line : {X E : Type 0} (refusal_of : E → Option Refusal) (above new : List Line) (text : List ℕ) (result : Result X E) → Gives refusal_of (λ x. new) result (told above text) → (more : Line) → IsLine text more → IsFresh above more → Gives refusal_of (λ x. new) result (Ok (above ++ more ∷ []))
-only_line refusal_of above new text result e more is fresh = subst (λ (answer : Result (List Line) Refusal). Gives refusal_of (λ x. new) result answer) (told_only above text more is fresh) e
+pub only_line : {X E : Type 0} (refusal_of : E → Option Refusal) (above new : List Line) (text : List ℕ) (result : Result X E) → Gives refusal_of (λ x. new) result (drafted above text) → (more : Line) → IsLine text more → IsFresh above more → Gives refusal_of (λ x. new) result (Ok (above ++ more ∷ []))
+only_line refusal_of above new text result e more is fresh = subst (λ (answer : Result (List Line) Refusal). Gives refusal_of (λ x. new) result answer) (drafted_only above text more is fresh) e
 
 pub found_instrs : {E : Type 0} (refusal_of : E → Option Refusal) (all : List Line) (result : Result Words E) → EachOnce all → Gives refusal_of meanings result (finished all) → IfOk result (λ words. (instrs : List Instr) × AreInstrs all instrs × AreWordsOf words.items instrs)
 found_instrs refusal_of all (Ok words) once e =

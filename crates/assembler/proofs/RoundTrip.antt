@@ -19,7 +19,7 @@ use Rattle.assembler.specs.Operands.{bytes, Kind, register, upper, amount, short
 use Rattle.assembler.specs.Statements.{one, row, statement_of}
 use Rattle.assembler.specs.Spelled.{IsSpelled}
 use Rattle.assembler.specs.Lines.{label_and_rest, parts_of, label_of, statement_text, made_in, made_for, between_commas, some_text}
-use Rattle.assembler.specs.Drafts.{assembled, told, line_below, finished}
+use Rattle.assembler.specs.Drafts.{assembled, drafted, line_below, finished}
 use Rattle.assembler.specs.Writing.{register_text, address_text, set_text, branch_name, load_name, store_name, immediate_name, shift_name, register_name, amo_name, order_name, with_two, with_three, text_of}
 use Rattle.texts.proofs.CuttingLaws.{none-append, before_none, after_none, before_stop, after_stop, one_line, decimal_none, not_byte, not_low_byte, digit_no_blank}
 use Rattle.texts.proofs.TrimLaws.{stripped_none, stripped_ends}
@@ -92,7 +92,7 @@ made_text name ops h k =
 
 -- a text of one statement, which makes one instruction
 assembled_one : (text : List ℕ) (i : Instr) → 0 < length text → NonePass (is_byte 10) text → NonePass (is_byte 35) text → NonePass (is_byte 58) text → trimmed text ≡ text → made_in text ≡ Ok (Some (one i)) → assembled text ≡ Ok (Some i ∷ [])
-unfolding assembled told line_below label_of statement_text finished
+unfolding assembled drafted line_below label_of statement_text finished
 assembled_one text i some feeds hashes colons same made =
     let code = before_none (is_byte 35) text hashes in
     let uncut = after_none (is_byte 58) text colons in

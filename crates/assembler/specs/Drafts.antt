@@ -65,16 +65,16 @@ at_line line (Ok x) = Ok x
 at_line line (Err fault) = Err (record { fault = fault; line = line })
 
 -- the lines above with one more
-unfoldable pub told : List Line → List ℕ → Result (List Line) Refusal
-told above text = do
+unfoldable pub drafted : List Line → List ℕ → Result (List Line) Refusal
+drafted above text = do
   line ← at_line (length above + 1) (line_below above text)
   Ok (above ++ line ∷ [])
 
-abbrev pub all_told : List Line → List (List ℕ) → Result (List Line) Refusal
-all_told above [] = Ok above
-all_told above (text ∷ rest) = do
-  more ← told above text
-  all_told more rest
+abbrev pub all_drafted : List Line → List (List ℕ) → Result (List Line) Refusal
+all_drafted above [] = Ok above
+all_drafted above (text ∷ rest) = do
+  more ← drafted above text
+  all_drafted more rest
 
 -- ---- the places of labels
 
@@ -122,7 +122,7 @@ finished all = if nat_lt MAX_CODE (words_of all) then Err (record { fault = TooL
 -- the instructions of a text, or its first fault
 unfoldable pub assembled : List ℕ → Result (List (Option Instr)) Refusal
 assembled text = do
-  all ← all_told [] (lines text)
+  all ← all_drafted [] (lines text)
   finished all
 
 -- ---- what a draft knows of its lines

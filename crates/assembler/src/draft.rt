@@ -9,7 +9,7 @@ ghost use Rattle.rv_decode.specs.declared.instruction.Instr.{Instr};
 ghost use Rattle.rv_decode.specs.declared.instruction.TheConstants.{MAX_CODE};
 ghost use Rattle.assembler.specs.Grammar.{IsLine};
 ghost use Rattle.assembler.specs.Program.{IsFresh, AreInstrs, AreWordsOf};
-ghost use Rattle.assembler.specs.Drafts.{Line as TextLine, Fitting, is_twice, words_of, told, over, finished, AllPlain};
+ghost use Rattle.assembler.specs.Drafts.{Line as TextLine, Fitting, is_twice, words_of, drafted, over, finished, AllPlain};
 ghost use Rattle.assembler.specs.Lines.{made_by};
 ghost use Rattle.std.specs.Option.{option_copied};
 ghost use Rattle.assembler.specs.Kept.{place_in as found, line_of, IsKept};
@@ -75,8 +75,8 @@ impl Draft {
     pub fn line(&mut self, line: &str) -> Result<(), AsmError>
         ensures found { OnOk result ((more : TextLine) × IsLine line.now more × IsFresh self.old more × (self.new ≡ self.old ++ more ∷ [])) }
         ensures only { (more : TextLine) → IsLine line.now more → IsFresh self.old more → Gives refusal_of (λ _. self.new) result (Ok (self.old ++ more ∷ [])) }
-        ensures exact { Gives refusal_of (λ _. self.new) result (told self.old line.now) }
-        ensures refused { IfErr (told self.old line.now) (λ refusal. result ≡ Err (Refused refusal)) }
+        ensures exact { Gives refusal_of (λ _. self.new) result (drafted self.old line.now) }
+        ensures refused { IfErr (drafted self.old line.now) (λ refusal. result ≡ Err (Refused refusal)) }
         ensures kept { OnErr result (self.new ≡ self.old) }
     {
         self.read(line.as_bytes())
@@ -86,17 +86,17 @@ impl Draft {
     pub fn read(&mut self, line: &[u8]) -> Result<(), AsmError>
         ensures found { OnOk result ((more : TextLine) × IsLine line.now more × IsFresh self.old more × (self.new ≡ self.old ++ more ∷ [])) }
         ensures only { (more : TextLine) → IsLine line.now more → IsFresh self.old more → Gives refusal_of (λ _. self.new) result (Ok (self.old ++ more ∷ [])) }
-        ensures exact { Gives refusal_of (λ _. self.new) result (told self.old line.now) }
-        ensures refused { IfErr (told self.old line.now) (λ refusal. result ≡ Err (Refused refusal)) }
+        ensures exact { Gives refusal_of (λ _. self.new) result (drafted self.old line.now) }
+        ensures refused { IfErr (drafted self.old line.now) (λ refusal. result ≡ Err (Refused refusal)) }
         ensures kept { OnErr result (self.new ≡ self.old) }
     {
         self.tell(line)
     }
 
-    #[tactic(auto, using(crate::proofs::DraftLaws::told_twice, crate::proofs::DraftLaws::told_added, crate::proofs::DraftLaws::told_faulty))]
+    #[tactic(auto, using(crate::proofs::DraftLaws::drafted_twice, crate::proofs::DraftLaws::drafted_added, crate::proofs::DraftLaws::drafted_faulty))]
     fn tell(&mut self, line: &[u8]) -> Result<(), AsmError>
-        ensures exact { Gives refusal_of (λ _. self.new) result (told self.old line.now) }
-        ensures refused { IfErr (told self.old line.now) (λ refusal. result ≡ Err (Refused refusal)) }
+        ensures exact { Gives refusal_of (λ _. self.new) result (drafted self.old line.now) }
+        ensures refused { IfErr (drafted self.old line.now) (λ refusal. result ≡ Err (Refused refusal)) }
         ensures kept { OnErr result (self.new ≡ self.old) }
     {
         let line_number = self.count() + 1;

@@ -6,7 +6,7 @@ use Rattle.hart.specs.State.{HartState}
 use Rattle.poll_close.specs.Laws.{AreShort, Opens, Keeps, Cleans, Goes}
 use Rattle.poll_close.specs.Invariant.Blocks.{Block, offset, slot}
 use Rattle.poll_close.proofs.Windows.{window_made}
-use Rattle.poll_close.proofs.Blocks.{IsBlock, Within, first_of, word_of, slot_of}
+use Rattle.poll_close.proofs.Blocks.{IsBlock, Within, base_word, word_of, slot_of}
 use Rattle.poll_close.proofs.BlockLaws.{BlockLaws, Begins, Tailed, Done, Reported, opens_with}
 use Rattle.poll_close.proofs.ChannelLaws.{opens, keeps, cleans, goes}
 use Rattle.lamport_ring.specs.Listing.{sender_code}
@@ -41,7 +41,7 @@ begins k is = record {
 
 words_same : (k : Block) (n : Numbers) (word new : ℕ → ℕ) → IsBlock k → ((a : ℕ) → Within k a → new a ≡ word a) → Words k n word → Words k n new
 words_same k n word new is same w = record {
-  head = same k.base (first_of k is).within ∙ w.head;
+  head = same k.base (base_word k is).within ∙ w.head;
   mark = same (k.base + 4) (word_of k is 4 (omega arith) refl).within ∙ w.mark;
   tail = same (k.base + 8) (word_of k is 8 (omega arith) refl).within ∙ w.tail;
   done = same (k.base + 12) (word_of k is 12 (omega arith) refl).within ∙ w.done;

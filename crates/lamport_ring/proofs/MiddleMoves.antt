@@ -8,7 +8,7 @@ use Rattle.poll_close.specs.Invariant.ReceiverPlaces.{Pc14, Pc18, Pc1C, Pc20, Pc
 use Rattle.poll_close.specs.Invariant.BlockMeaning.{Flag}
 use Rattle.poll_close.proofs.Lines.{loads}
 use Rattle.poll_close.proofs.Modulo.{same_offset}
-use Rattle.poll_close.proofs.Blocks.{offset_low, first_of, word_of, slot_of}
+use Rattle.poll_close.proofs.Blocks.{offset_low, base_word, word_of, slot_of}
 use Rattle.poll_close.proofs.BlockLaws.{MiddleMoves}
 use Rattle.poll_close.proofs.ReceiverSteps.{still, reads, opened_noted}
 use Rattle.lamport_ring.specs.Lamport.{lamport_blocks}
@@ -19,7 +19,7 @@ use Rattle.lamport_ring.proofs.ReceiverReads.{seen_head, seen_tail, seen_slot}
 pub middle_14 : MiddleMoves lamport_blocks Pc14
 middle_14 k i count n word r v is order words find h =
     let line = line_14 (whole_of k count) r (omega (arith, is.even, h.0.visits.base)) (omega (arith, is.inside, is.some_slot, h.0.visits.base)) is.small in
-    let seen : v ≡ offset k n.kh = find k.base (first_of k is) (line.wants ∙ ap loads (let same : r.x8 + 0 ≡ k.base = omega (arith, h.0.visits.base) in same)) ∙ seen_head k n word order words in
+    let seen : v ≡ offset k n.kh = find k.base (base_word k is) (line.wants ∙ ap loads (let same : r.x8 + 0 ≡ k.base = omega (arith, h.0.visits.base) in same)) ∙ seen_head k n word order words in
     reads lamport_blocks k i count n order r v Pc14 Pc18 (r.x8 + 0) (λ w. record r { x6 = w }) refl line
     (opened_noted lamport_blocks k i count n order r v h.0 r.x5 v r.x7 r.x10 r.x11 r.x17 r.x20 r.x28 r.x30, record { head = n.kh; from = order.c_kh; to = omega arith; is = seen; last = last h.1 })
   where

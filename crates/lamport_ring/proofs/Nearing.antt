@@ -19,7 +19,7 @@ use Rattle.poll_close.specs.Invariant.ReceiverPlaces.{Pc14, Pc18, Pc1C, Pc20, Pc
 use Rattle.poll_close.proofs.Lines.{loads}
 use Rattle.poll_close.proofs.Modulo.{same_offset}
 use Rattle.poll_close.proofs.Windows.{none_left, singles_length, pairs_length}
-use Rattle.poll_close.proofs.Blocks.{IsBlock, IsWordOf, offset_low, first_of, word_of}
+use Rattle.poll_close.proofs.Blocks.{IsBlock, IsWordOf, offset_low, base_word, word_of}
 use Rattle.poll_close.proofs.Distance.{falls, two_flags, not_stale, MiddleNears, BlockProgress}
 use Rattle.poll_close.proofs.Progress.{nears}
 use Rattle.poll_close.proofs.Standing.{Sender, value_is}
@@ -92,7 +92,7 @@ fresh f r T size E some = not_stale r.x30 E some
 near_14 : MiddleNears lamport_blocks lamport_pace (λ k n. n.c < n.kh) Pc14
 near_14 k i count n word r v sh E rest start is order words find h ready off =
     let line = mid.line_14 (whole_of k count) r (omega (arith, is.even, h.0.visits.base)) (omega (arith, is.inside, is.some_slot, h.0.visits.base)) is.small in
-    let seen : v ≡ offset k n.kh = find k.base (first_of k is) (line.wants ∙ ap loads (let same : r.x8 + 0 ≡ k.base = omega (arith, h.0.visits.base) in same)) ∙ seen_head k n word order words in
+    let seen : v ≡ offset k n.kh = find k.base (base_word k is) (line.wants ∙ ap loads (let same : r.x8 + 0 ≡ k.base = omega (arith, h.0.visits.base) in same)) ∙ seen_head k n word order words in
     falls (line.leaves v) (record { block = refl; nearer = two_flags 15 16 rest ((r.x30 == 0) && (v == 4 * (n.took % k.size))) ((r.x30 == 0) && E) (omega arith) (omega arith) off (older seen E refl) })
   where
     apart : v ≡ offset k n.kh → (v == 4 * (n.took % k.size)) ≡ true → n.c < n.kh → ⊥

@@ -4,7 +4,7 @@ use Rattle.std.specs.Prelude.{slice_index}
 use Rattle.std.specs.List.{slice_get}
 use Rattle.poll_close.specs.Invariant.Blocks.{Block, slot, window, slot_store, tail_store}
 use Rattle.poll_close.proofs.Windows.{Each, Each-window, single_at, single_last, first_at, second_at, pair_last, singles_each, pairs_each}
-use Rattle.poll_close.proofs.Blocks.{IsBlock, IsStore, offset_small, first_of, word_of, slot_of}
+use Rattle.poll_close.proofs.Blocks.{IsBlock, IsStore, offset_small, base_word, word_of, slot_of}
 use Rattle.lamport_ring.specs.Invariant.Stores.{head_store, sender_stores, receiver_stores}
 
 module _ (S b : ℕ) (ws : List ℕ) where
@@ -25,7 +25,7 @@ module _ (S b : ℕ) (ws : List ℕ) where
 
 module _ (k : Block) (is : IsBlock k) where
   pub sender_stores_are : (i n : ℕ) → Each (IsStore k) (window (sender_stores k.size k.base k.list) i n)
-  sender_stores_are i n = Each-window (IsStore k) (sender_stores k.size k.base k.list) i n (pairs_each (IsStore k) (slot_store k.size k.base) (head_store k.size k.base) (k.base + 4, 1) k.list (λ j less. (record { place = slot_of k is j; word = is.words j less }, record { place = first_of k is; word = offset_small k is (j + 1) })) (record { place = word_of k is 4 (omega arith) refl; word = omega arith }))
+  sender_stores_are i n = Each-window (IsStore k) (sender_stores k.size k.base k.list) i n (pairs_each (IsStore k) (slot_store k.size k.base) (head_store k.size k.base) (k.base + 4, 1) k.list (λ j less. (record { place = slot_of k is j; word = is.words j less }, record { place = base_word k is; word = offset_small k is (j + 1) })) (record { place = word_of k is 4 (omega arith) refl; word = omega arith }))
 
   pub receiver_stores_are : (i n : ℕ) → Each (IsStore k) (window (receiver_stores k.size k.base k.list) i n)
   receiver_stores_are i n = Each-window (IsStore k) (receiver_stores k.size k.base k.list) i n (singles_each (IsStore k) (tail_store k.size k.base) (k.base + 12, 1) k.list (λ j less. record { place = word_of k is 8 (omega arith) refl; word = offset_small k is (j + 1) }) (record { place = word_of k is 12 (omega arith) refl; word = omega arith }))

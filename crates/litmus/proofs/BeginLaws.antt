@@ -5,7 +5,7 @@ use Rattle.litmus.specs.declared.symbols.Symbol.{Symbol}
 use Rattle.litmus.specs.declared.symbols.Symbol.TheVariants as symbol
 use Rattle.litmus.specs.Formulas.{Formula, is}
 use Rattle.litmus.specs.Grammar.{Begins}
-use Rattle.litmus.specs.Drafting.{Group, Stage, awaits, has, empty_group, disjunction_of, negated_by, all_taken, stage_after, formula_at, or_misplaced, with_symbol, told, finished}
+use Rattle.litmus.specs.Drafting.{Group, Stage, awaits, has, empty_group, disjunction_of, negated_by, all_taken, stage_after, formula_at, or_misplaced, with_symbol, symbol_added, finished}
 use Rattle.litmus.specs.inner.Building.{Build, build_at}
 use Rattle.litmus.proofs.StageLaws.{all_taken-append}
 use Rattle.litmus.proofs.GrammarLaws.{finished_only}
@@ -66,6 +66,6 @@ refused-none : (symbols : List Symbol) (next : Symbol) (o : Option Stage) → or
 refused-none symbols next None refused = refl
 refused-none symbols next (Some stage) refused = absurd (cc)
 
-pub refused_begins : (symbols : List Symbol) (next : Symbol) → told symbols next ≡ Err tt → ¬ Begins (symbols ++ next ∷ [])
-unfolding told
+pub refused_begins : (symbols : List Symbol) (next : Symbol) → symbol_added symbols next ≡ Err tt → ¬ Begins (symbols ++ next ∷ [])
+unfolding symbol_added
 refused_begins symbols next refused = begins_taken (symbols ++ next ∷ []) (refused-none symbols next (stage_after (symbols ++ next ∷ [])) refused)

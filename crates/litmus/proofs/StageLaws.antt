@@ -11,7 +11,7 @@ use Rattle.litmus.specs.Formulas.{Formula}
 use Rattle.litmus.specs.Steps.{steps_of, formula_of}
 use Rattle.litmus.specs.inner.StepLaws.{formula_of-steps_of}
 use Rattle.litmus.specs.Faults.{fault_of}
-use Rattle.litmus.specs.Drafting.{Group, Stage, awaits, has, empty_group, disjunction_of, enclosed, taken, taken_from, all_taken, stage_after, formula_at, or_misplaced, with_symbol, told, finished}
+use Rattle.litmus.specs.Drafting.{Group, Stage, awaits, has, empty_group, disjunction_of, enclosed, taken, taken_from, all_taken, stage_after, formula_at, or_misplaced, with_symbol, symbol_added, finished}
 use Rattle.litmus.specs.inner.Building.{Build, all_closed, built, is_empty, is_finished, IsWithin, or_steps, and_steps, steps_around, end_of, mark_of, marks_around, build_of, build_at}
 use Rattle.litmus.proofs.BuildLaws.{built-law, all_closed-law}
 
@@ -41,9 +41,9 @@ built-at (Some stage) next b same = sym (built-law stage next) ∙ ap (λ (x : B
 pub built-push : (symbols : List Symbol) (next : Symbol) (b : Build) → build_at (stage_after symbols) ≡ Some b → build_at (stage_after (symbols ++ next ∷ [])) ≡ built b next
 built-push symbols next b same = ap (λ (o : Option Stage). build_at o) (stage_after-push symbols next) ∙ built-at (stage_after symbols) next b same
 
-told-at : (symbols : List Symbol) (next : Symbol) (o : Option Stage) (b : Build) → build_at o ≡ Some b → or_misplaced (with_symbol symbols next o) ≡ Ok (symbols ++ next ∷ [])
-told-at symbols next None b same = cc
-told-at symbols next (Some stage) b same = refl
+added-at : (symbols : List Symbol) (next : Symbol) (o : Option Stage) (b : Build) → build_at o ≡ Some b → or_misplaced (with_symbol symbols next o) ≡ Ok (symbols ++ next ∷ [])
+added-at symbols next None b same = cc
+added-at symbols next (Some stage) b same = refl
 
 refused-at : (symbols : List Symbol) (next : Symbol) (o : Option Stage) → build_at o ≡ None → or_misplaced (with_symbol symbols next o) ≡ Err tt
 refused-at symbols next None same = refl
@@ -53,13 +53,13 @@ refused-at symbols next (Some stage) same = cc
 pub push_laid : (symbols : List Symbol) (next : Symbol) (b new : Build) → build_at (stage_after symbols) ≡ Some b → or_misplaced (built b next) ≡ Ok new → build_at (stage_after (symbols ++ next ∷ [])) ≡ Some new
 push_laid symbols next b new same done = built-push symbols next b same ∙ ok_some (built b next) new done
 
-pub push_told : (symbols : List Symbol) (next : Symbol) (b new : Build) → build_at (stage_after symbols) ≡ Some b → or_misplaced (built b next) ≡ Ok new → told symbols next ≡ Ok (symbols ++ next ∷ [])
-unfolding told
-push_told symbols next b new same done = told-at symbols next (stage_after (symbols ++ next ∷ [])) new (push_laid symbols next b new same done)
+pub push_added : (symbols : List Symbol) (next : Symbol) (b new : Build) → build_at (stage_after symbols) ≡ Some b → or_misplaced (built b next) ≡ Ok new → symbol_added symbols next ≡ Ok (symbols ++ next ∷ [])
+unfolding symbol_added
+push_added symbols next b new same done = added-at symbols next (stage_after (symbols ++ next ∷ [])) new (push_laid symbols next b new same done)
 
 -- and one that isn't is refused
-pub push_refused : (symbols : List Symbol) (next : Symbol) (b : Build) (e : ConditionError) → build_at (stage_after symbols) ≡ Some b → IfSome (fault_of e) (λ fault. or_misplaced (built b next) ≡ Err fault) → IfSome (fault_of e) (λ fault. told symbols next ≡ Err fault)
-unfolding told
+pub push_refused : (symbols : List Symbol) (next : Symbol) (b : Build) (e : ConditionError) → build_at (stage_after symbols) ≡ Some b → IfSome (fault_of e) (λ fault. or_misplaced (built b next) ≡ Err fault) → IfSome (fault_of e) (λ fault. symbol_added symbols next ≡ Err fault)
+unfolding symbol_added
 push_refused symbols next b NoMemory same refused = tt
 push_refused symbols next b Misplaced same refused = refused-at symbols next (stage_after (symbols ++ next ∷ [])) (built-push symbols next b same ∙ err_none (built b next) refused)
 

@@ -91,8 +91,8 @@ with_symbol symbols next None = None
 with_symbol symbols next (Some stage) = Some (symbols ++ next ∷ [])
 
 -- the symbols with one more, where it may stand there
-unfoldable pub told : List Symbol → Symbol → Result (List Symbol) (Unit {0})
-told symbols next = or_misplaced (with_symbol symbols next (stage_after (symbols ++ next ∷ [])))
+unfoldable pub symbol_added : List Symbol → Symbol → Result (List Symbol) (Unit {0})
+symbol_added symbols next = or_misplaced (with_symbol symbols next (stage_after (symbols ++ next ∷ [])))
 
 -- what all the symbols are, where they are a condition
 unfoldable pub finished : List Symbol → Result Formula (Unit {0})

@@ -3,7 +3,7 @@
 ghost use Rattle.std.specs.Prelude.{◌≡◌, ◌≢◌, ◌↔◌, [], ◌∷◌, ◌++◌, Ok, Err, IfOk, OnOk, OnErr};
 ghost use Rattle.texts.specs.Results.{Gives};
 ghost use Rattle.litmus.specs.declared.draft.ConditionError.TheVariants.{NoMemory, Misplaced};
-ghost use Rattle.litmus.specs.Drafting.{told, finished};
+ghost use Rattle.litmus.specs.Drafting.{symbol_added, finished};
 ghost use Rattle.litmus.specs.Faults.{fault_of};
 
 use crate::builder::Builder;
@@ -77,7 +77,7 @@ impl ConditionDraft {
     /// Takes one more symbol. `Misplaced` comes exactly where no condition begins with the symbols so far
     /// and this one. An `Err` changes nothing.
     pub fn push(&mut self, token: Symbol) -> Result<(), ConditionError>
-        ensures exact { Gives fault_of (λ _. self.new) result (told self.old token) }
+        ensures exact { Gives fault_of (λ _. self.new) result (symbol_added self.old token) }
         ensures begins { OnOk result (Begins self.new) }
         ensures misplaced { result ≡ Err Misplaced → ¬ Begins (self.old ++ token ∷ []) }
         ensures kept { OnErr result (self.new ≡ self.old) }

@@ -15,7 +15,7 @@ use Rattle.litmus.specs.declared.symbols.Symbol.{Symbol}
 use Rattle.litmus.specs.declared.symbols.Symbol.TheVariants as symbol
 use Rattle.litmus.specs.Formulas.{Formula}
 use Rattle.litmus.specs.Grammar.{IsConditionOf, Begins}
-use Rattle.litmus.specs.Drafting.{Stage, stage_after, with_symbol, or_misplaced, told, finished}
+use Rattle.litmus.specs.Drafting.{Stage, stage_after, with_symbol, or_misplaced, symbol_added, finished}
 use Rattle.litmus.proofs.GrammarLaws.{finished_only}
 use Rattle.litmus.proofs.FrontLaws.{finished_found}
 use Rattle.litmus.proofs.BeginLaws.{refused_begins}
@@ -75,15 +75,15 @@ with_symbol_found : (words : List Symbol) (next : Symbol) (o : Option Stage) (mo
 with_symbol_found words next None more e = absurd cc
 with_symbol_found words next (Some stage) more e = cc
 
-told_found : (words : List Symbol) (next : Symbol) (more : List Symbol) → as_condition (told words next) ≡ Ok more → words ++ next ∷ [] ≡ more
-unfolding told
-told_found words next more e = with_symbol_found words next (stage_after (words ++ next ∷ [])) more e
+symbol_found : (words : List Symbol) (next : Symbol) (more : List Symbol) → as_condition (symbol_added words next) ≡ Ok more → words ++ next ∷ [] ≡ more
+unfolding symbol_added
+symbol_found words next more e = with_symbol_found words next (stage_after (words ++ next ∷ [])) more e
 
-told_begins : (words : List Symbol) (next : Symbol) → Begins (words ++ next ∷ []) → as_condition (told words next) ≡ Ok (words ++ next ∷ [])
-told_begins words next begun = go (told words next) refl
+symbol_begins : (words : List Symbol) (next : Symbol) → Begins (words ++ next ∷ []) → as_condition (symbol_added words next) ≡ Ok (words ++ next ∷ [])
+symbol_begins words next begun = go (symbol_added words next) refl
   where
-    go : (r : Result (List Symbol) (Unit {0})) → told words next ≡ r → as_condition (told words next) ≡ Ok (words ++ next ∷ [])
-    go (Ok more) is = (let found = told_found words next more (rw is refl) in rw is (ap (λ (ws : List Symbol). Ok ws) (sym found)))
+    go : (r : Result (List Symbol) (Unit {0})) → symbol_added words next ≡ r → as_condition (symbol_added words next) ≡ Ok (words ++ next ∷ [])
+    go (Ok more) is = (let found = symbol_found words next more (rw is refl) in rw is (ap (λ (ws : List Symbol). Ok ws) (sym found)))
     go (Err misplaced) is = absurd (refused_begins words next is begun)
 
 finished_ok : (words : List Symbol) (formula : Formula) → as_condition (finished words) ≡ Ok formula → finished words ≡ Ok formula
@@ -246,10 +246,10 @@ tokens_found harts ms so_far token.Tokens.ended asked few e =
     (record { words = []; known = []; whole = refl; behind = sym (append-nil so_far); names = ap each_once (sym (append-nil ms)); few = few; all = refl })
 tokens_found harts ms so_far token.Tokens.broken asked few e = absurd cc
 tokens_found harts ms so_far (token.Tokens.goes_on first others) asked few e =
-    let known = bind_ok (token_met harts (each_once ms) first) (λ known. as_condition (told so_far known.0) >>= λ more. tokens_told harts (more, known.1) others) asked e in
-    let more = bind_ok (as_condition (told so_far known.0.0)) (λ more. tokens_told harts (more, known.0.1) others) asked known.2 in
+    let known = bind_ok (token_met harts (each_once ms) first) (λ known. as_condition (symbol_added so_far known.0) >>= λ more. tokens_told harts (more, known.1) others) asked e in
+    let more = bind_ok (as_condition (symbol_added so_far known.0.0)) (λ more. tokens_told harts (more, known.0.1) others) asked known.2 in
     let one = token_found harts ms first known.0 few known.1 in
-    token_taken harts ms so_far more.0 first others asked known.0.0 (told_found so_far known.0.0 more.0 more.1)
+    token_taken harts ms so_far more.0 first others asked known.0.0 (symbol_found so_far known.0.0 more.0 more.1)
     (subst (λ (names : Names). IsKnown harts names first known.0.0) one.names one.known)
     (tokens_found harts (ms ++ names_of first) more.0 others asked (subst (λ (names : Names). length names ≤ 1024) one.names one.few) (subst (λ (names : Names). tokens_told harts (more.0, names) others ≡ Ok asked) one.names more.2))
 
@@ -265,7 +265,7 @@ tokens_only harts ms so_far (first ∷ words) known formula few all stands =
     let rest_known : AreKnown harts (each_once (here ++ more)) words all.1 = rw split all.4 in
     let whole : so_far ++ known ≡ (so_far ++ all.0 ∷ []) ++ all.1 = ap (λ (ws : List Symbol). so_far ++ ws) all.2 ∙ sym (append_assoc so_far (all.0 ∷ []) all.1) in
     let stands_here : IsConditionOf ((so_far ++ all.0 ∷ []) ++ all.1) formula = subst (λ (ws : List Symbol). IsConditionOf ws formula) whole stands in
-    rw (token_only harts ms more first all.0 few_here first_known, told_begins so_far all.0 (all.1, formula, stands_here))
+    rw (token_only harts ms more first all.0 few_here first_known, symbol_begins so_far all.0 (all.1, formula, stands_here))
     (tokens_only harts here (so_far ++ all.0 ∷ []) words all.1 formula few_more rest_known stands_here
     ∙ ap (λ (ws : List Symbol). Ok (ws, each_once (here ++ more))) (sym whole)
     ∙ ap (λ (ns : Names). Ok (so_far ++ known, each_once ns)) split)

@@ -8,7 +8,7 @@ use Rattle.texts.specs.Results.{◌>>=◌}
 use Rattle.texts.specs.Cutting.{before, after, is_byte, AreBlanks}
 use Rattle.texts.proofs.ResultLaws.{ok_is, bind_ok}
 use Rattle.assembler.specs.Faults.{Refusal}
-use Rattle.assembler.specs.Drafts.{Line, words_of, told, all_told, finished}
+use Rattle.assembler.specs.Drafts.{Line, words_of, drafted, all_drafted, finished}
 use Rattle.assembler.specs.Program.{AreLines, EachOnce}
 use Rattle.assembler.proofs.ProgramGrammar.{all_found, all_only, finished_found, finished_only, none_above}
 use Rattle.litmus_reader.specs.declared.faults.LitmusFault.{LitmusFault}
@@ -35,17 +35,17 @@ words_of-append [] below = omega arith
 words_of-append (line ∷ above) below = let rest = words_of-append above below in omega (arith, rest)
 
 -- a column's words are no fewer with more cells
-words_grow : (above : Column) (texts : List (List ℕ)) (all : Column) → all_told above texts ≡ Ok all → words_of above ≤ words_of all
+words_grow : (above : Column) (texts : List (List ℕ)) (all : Column) → all_drafted above texts ≡ Ok all → words_of above ≤ words_of all
 words_grow above texts all e =
     let told = all_found above texts all e in
     let sum : words_of all ≡ words_of above + words_of told.below = ap words_of told.whole ∙ words_of-append above told.below in
     omega (arith, sum)
 
-cell_found : (column : Column) (cell : List ℕ) (more : Column) → cell_told column cell ≡ Ok more → told column cell ≡ Ok more
+cell_found : (column : Column) (cell : List ℕ) (more : Column) → cell_told column cell ≡ Ok more → drafted column cell ≡ Ok more
 unfolding cell_told
 cell_found column cell more e =
-    let step = bind_ok (as_instr (told column cell)) in_limit more e in
-    as_instr_ok (told column cell) more (step.1 ∙ ap Ok (within step.0 step.2))
+    let step = bind_ok (as_instr (drafted column cell)) in_limit more e in
+    as_instr_ok (drafted column cell) more (step.1 ∙ ap Ok (within step.0 step.2))
   where
     within : (made : Column) → in_limit made ≡ Ok more → made ≡ more
     within made f = elim (cases_Bool (nat_lt 4096 (words_of made))) [
@@ -53,7 +53,7 @@ cell_found column cell more e =
       | inr few ↦ ok_is LitmusFault made more (rw few at f)
     ]
 
-cell_only : (column : Column) (cell : List ℕ) (more : Column) → told column cell ≡ Ok more → words_of more ≤ 4096 → cell_told column cell ≡ Ok more
+cell_only : (column : Column) (cell : List ℕ) (more : Column) → drafted column cell ≡ Ok more → words_of more ≤ 4096 → cell_told column cell ≡ Ok more
 unfolding cell_told
 cell_only column cell more e few = rw (e, le-ltb 4096 (words_of more) few) refl
 
@@ -62,7 +62,7 @@ cell_only column cell more e few = rw (e, le-ltb 4096 (words_of more) few) refl
 -- each column with its cells of these rows, the first with those of this hart
 abbrev AreEnds : List Cells → ℕ → List Column → List Column → Type 0
 AreEnds rows hart [] ends = ends ≡ []
-AreEnds rows hart (column ∷ columns) ends = (end : Column) × (others : List Column) × (ends ≡ end ∷ others) × (all_told column (column_of hart rows) ≡ Ok end) × AreEnds rows (hart + 1) columns others
+AreEnds rows hart (column ∷ columns) ends = (end : Column) × (others : List Column) × (ends ≡ end ∷ others) × (all_drafted column (column_of hart rows) ≡ Ok end) × AreEnds rows (hart + 1) columns others
 
 abbrev AreFew : List Column → Type 0
 AreFew ends = AllByRecursion (λ end. words_of end ≤ 4096) ends
@@ -120,8 +120,8 @@ fronts rows cells hart [] here ends at count are few = record { more = []; told 
 fronts rows cells hart (column ∷ columns) [] ends at count are few = absurd (omega (arith, count))
 fronts rows cells hart (column ∷ columns) (cell ∷ here) ends at count are few =
     let fewer = subst AreFew are.2 few in
-    let all : all_told column (cell ∷ column_of hart rows) ≡ Ok are.0 = rw (← (from_first hart cells cell here at)) are.3 in
-    let step = bind_ok (told column cell) (λ (m : Column). all_told m (column_of hart rows)) are.0 all in
+    let all : all_drafted column (cell ∷ column_of hart rows) ≡ Ok are.0 = rw (← (from_first hart cells cell here at)) are.3 in
+    let step = bind_ok (drafted column cell) (λ (m : Column). all_drafted m (column_of hart rows)) are.0 all in
     let grow = words_grow step.0 (column_of hart rows) are.0 step.2 in
     let rest = fronts rows cells (hart + 1) columns here are.1 (from_next hart cells cell here at) (omega (arith, count)) are.4 fewer.1 in
     record {
@@ -148,7 +148,7 @@ abbrev pub AreCodes : List Cells → ℕ → List Code → Type 0
 AreCodes rows hart [] = Unit {0}
 AreCodes rows hart (code ∷ codes) = IsColumnCode (column_of hart rows) code × AreCodes rows (hart + 1) codes
 
-code_found : (cells : List (List ℕ)) (end : Column) (code : Code) → all_told [] cells ≡ Ok end → finished end ≡ Ok code → IsColumnCode cells code
+code_found : (cells : List (List ℕ)) (end : Column) (code : Code) → all_drafted [] cells ≡ Ok end → finished end ≡ Ok code → IsColumnCode cells code
 code_found cells end code e done =
     let written = all_found [] cells end e in
     let same : written.below ≡ end = sym written.whole in

@@ -5,7 +5,7 @@ use Rattle.litmus_tokens.specs.Settings.{NamedPlace, Value, Put, IsNamedPlace, I
 use Rattle.litmus_tokens.specs.Settings.NamedPlace.{in_register, at_location}
 use Rattle.litmus_tokens.specs.Settings.Value.{number, address_of}
 use Rattle.litmus_tokens.specs.Reading.{setting_at}
-use Rattle.litmus_tokens.specs.Tokens.{Token, Beginning, nothing, begins, no_token, conjunction, disjunction, is_mark, behind_not, paired, told_atom, told_not, unmarked, begun, beginning_of}
+use Rattle.litmus_tokens.specs.Tokens.{Token, Beginning, nothing, begins, no_token, conjunction, disjunction, is_mark, behind_not, paired, atom_from, negation_or, unmarked, begun, beginning_of}
 use Rattle.texts.specs.Cutting.{before, from_first, without_leading}
 use Rattle.litmus_tokens.proofs.SettingLaws.{setting_found}
 use Rattle.litmus_reader.specs.Locations.{HasLocation, HasName, HasNames}
@@ -57,11 +57,11 @@ paired_named : (token : Token) (second : ℕ) (text : List ℕ) → TokenHasName
 paired_named token second [] names = tt
 paired_named token second (c ∷ rest) names = either_named (c == second) (begins token rest) no_token names tt
 
-atom_named : (o : Option Put) (rest : List ℕ) → ((put : Put) → o ≡ Some put → HasNames put) → Named (told_atom o rest)
+atom_named : (o : Option Put) (rest : List ℕ) → ((put : Put) → o ≡ Some put → HasNames put) → Named (atom_from o rest)
 atom_named None rest names = tt
 atom_named (Some put) rest names = names put refl
 
-not_named : (o : Option (List ℕ)) (other : Beginning) → Named other → Named (told_not o other)
+not_named : (o : Option (List ℕ)) (other : Beginning) → Named other → Named (negation_or o other)
 not_named None other names = names
 not_named (Some rest) other names = tt
 

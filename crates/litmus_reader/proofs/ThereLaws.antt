@@ -12,7 +12,7 @@ use Rattle.litmus.specs.declared.symbols.Symbol.TheVariants as symbol
 use Rattle.litmus.specs.Formulas.{Formula, places}
 use Rattle.litmus.specs.Grammar.{Level, operand, conjunction, disjunction, Stands}
 use Rattle.litmus.specs.Grammar.Stands.{atom, negated, enclosed, one_operand, joined, one_conjunction, parted}
-use Rattle.litmus.specs.Drafting.{Stage, stage_after, with_symbol, or_misplaced, told, finished}
+use Rattle.litmus.specs.Drafting.{Stage, stage_after, with_symbol, or_misplaced, symbol_added, finished}
 use Rattle.litmus.specs.Questions.{IsThere}
 use Rattle.litmus.proofs.FrontLaws.{finished_found}
 use Rattle.litmus_tokens.specs.Settings as setting
@@ -161,17 +161,17 @@ pushed : (harts n : ℕ) (words : List Symbol) (t : Symbol) (o : Option Stage) �
 pushed harts n words t None there last = tt
 pushed harts n words t (Some stage) there last = there_with harts n words t there last
 
-told_there : (harts n : ℕ) (words : List Symbol) (t : Symbol) → AllThere harts n words → TokenThere harts n t → IfOk (as_condition (told words t)) (λ more. AllThere harts n more)
-unfolding told
-told_there harts n words t there last = pushed harts n words t (stage_after (words ++ t ∷ [])) there last
+symbol_there : (harts n : ℕ) (words : List Symbol) (t : Symbol) → AllThere harts n words → TokenThere harts n t → IfOk (as_condition (symbol_added words t)) (λ more. AllThere harts n more)
+unfolding symbol_added
+symbol_there harts n words t there last = pushed harts n words t (stage_after (words ++ t ∷ [])) there last
 
 tokens_there : (harts : ℕ) (names : Names) (so_far : Asked) (words : Tokens) → Fine harts names so_far → IfOk (tokens_told harts so_far words) (Fine harts names)
 tokens_there harts names so_far token.Tokens.ended fine = fine
 tokens_there harts names so_far token.Tokens.broken fine = tt
 tokens_there harts names so_far (token.Tokens.goes_on first others) fine =
     after_ok (TokenMet harts so_far.1) (Fine harts names) (token_met harts so_far.1 first) _ (token_there harts so_far.1 first) (λ known here.
-    after_ok (λ more. AllThere harts (length known.1) more) (Fine harts names) (as_condition (told so_far.0 known.0)) _
-    (told_there harts (length known.1) so_far.0 known.0 (all_more harts (length so_far.1) (length known.1) so_far.0 here.1 fine.0) here.0)
+    after_ok (λ more. AllThere harts (length known.1) more) (Fine harts names) (as_condition (symbol_added so_far.0 known.0)) _
+    (symbol_there harts (length known.1) so_far.0 known.0 (all_more harts (length so_far.1) (length known.1) so_far.0 here.1 fine.0) here.0)
     (λ more there. tokens_there harts names (more, known.1) others (there, omega (arith, here.1, fine.1))))
 
 abbrev pub AsksThere : (harts : ℕ) → Names → Condition → Type 0

@@ -9,7 +9,7 @@ use Rattle.litmus.specs.declared.symbols.Place.TheVariants as place
 use Rattle.litmus.specs.declared.symbols.Symbol.{Symbol}
 use Rattle.litmus.specs.declared.symbols.Symbol.TheVariants as symbol
 use Rattle.litmus.specs.Formulas.{Formula}
-use Rattle.litmus.specs.Drafting.{told, finished}
+use Rattle.litmus.specs.Drafting.{symbol_added, finished}
 use Rattle.litmus_tokens.specs.Settings as setting
 use Rattle.litmus_tokens.specs.Tokens as token
 use Rattle.litmus_tokens.specs.Tokens.{Tokens, tokens_of}
@@ -72,7 +72,7 @@ tokens_told harts so_far token.Tokens.ended = Ok so_far
 tokens_told harts so_far token.Tokens.broken = Err BadCondition
 tokens_told harts so_far (token.Tokens.goes_on first others) = do
   known ← token_met harts so_far.1 first
-  more ← as_condition (told so_far.0 known.0)
+  more ← as_condition (symbol_added so_far.0 known.0)
   tokens_told harts (more, known.1) others
 
 abbrev pub none_unread : Option (List ℕ) → Result (Unit {0}) LitmusFault

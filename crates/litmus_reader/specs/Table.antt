@@ -8,7 +8,7 @@ use Rattle.rv_decode.specs.declared.instruction.Instr.{Instr}
 use Rattle.rv_decode.specs.Meaning.{meaning}
 use Rattle.rv_decode.specs.declared.instruction.TheConstants.{MAX_CODE}
 use Rattle.assembler.specs.Faults.{Refusal}
-use Rattle.assembler.specs.Drafts.{Line, words_of, told, finished, AllPlain}
+use Rattle.assembler.specs.Drafts.{Line, words_of, drafted, finished, AllPlain}
 use Rattle.litmus_reader.specs.declared.faults.LitmusFault.{LitmusFault}
 use Rattle.litmus_reader.specs.declared.faults.LitmusFault.TheVariants.{BadTable, BadInstr, TooMany}
 use Rattle.litmus_reader.specs.declared.marks.Mark.TheVariants.{Visible}
@@ -31,7 +31,7 @@ in_limit column = if nat_lt MAX_CODE (words_of column) then Err TooMany else Ok 
 -- a column with one more cell
 unfoldable pub cell_told : Column → List ℕ → Result Column LitmusFault
 cell_told column cell = do
-  more ← as_instr (told column cell)
+  more ← as_instr (drafted column cell)
   in_limit more
 
 -- the columns with a cell more each, from the left

@@ -5,7 +5,7 @@ ghost use Rattle.std.specs.Result.{IfErr};
 ghost use Rattle.texts.specs.Results.{Gives};
 ghost use Rattle.litmus.specs.Formulas.{Formula, places};
 ghost use Rattle.litmus.specs.Questions.{IsThere};
-ghost use Rattle.litmus.specs.Drafting.{told, finished};
+ghost use Rattle.litmus.specs.Drafting.{symbol_added, finished};
 ghost use Rattle.litmus.specs.declared.symbols.Symbol.{Symbol};
 ghost use Rattle.litmus_tokens.specs.Settings.{place_of as place_put, put_of};
 ghost use Rattle.litmus_tokens.specs.Tokens.{token_of as token_put, tokens_of};
@@ -124,7 +124,7 @@ fn token_of(
 
 /// Adds a symbol to the condition.
 fn push(draft: &mut ConditionDraft, token: Symbol, left: usize) -> Result<(), Refusal>
-    ensures { Gives fault_in (λ _. draft.new) result (as_condition (told draft.old token)) }
+    ensures { Gives fault_in (λ _. draft.new) result (as_condition (symbol_added draft.old token)) }
 {
     match draft.push(token) {
         Ok(()) => Ok(()),

@@ -6,10 +6,10 @@ use Rattle.std.specs.Str.Parse.{AllDigits}
 use Rattle.std.proofs.lemmas.Bool.{cases_Bool, and_parts, eqb-true, ne_eqb, lt-ltb, le-ltb}
 use Rattle.texts.specs.Cutting.{is_byte, stripped, NonePass, without_leading, without_trailing, onto_kept}
 use Rattle.rv_decode.specs.Registers.{register_named, register_names}
-use Rattle.rv_decode.specs.Tables.{row_of, told}
+use Rattle.rv_decode.specs.Tables.{row_of}
 use Rattle.rv_decode.specs.Meaning.{reg_of}
 use Rattle.rv_decode.specs.declared.instruction.Reg.{Reg}
-use Rattle.std.specs.Prelude.{option_map}
+use Rattle.std.specs.Prelude.{option_map, bytes_eq}
 use Rattle.std.proofs.lemmas.Slice.Eq.{bytes_eq-Decides}
 use Rattle.texts.specs.Pieces.{is_gap}
 use Rattle.litmus_tokens.specs.Names.{core, begins_name, goes_on_name, is_spelled, is_not, is_name}
@@ -90,7 +90,7 @@ row_passes : {R V : Type 0} (p : List ℕ → Bool) (name : R → List ℕ) (val
 row_passes p name value [] text v all e = absurd cc
 row_passes p name value (row ∷ rows) text v all e =
     let both = and_parts (p (name row)) (list_all (λ other. p (name other)) rows) all in
-    elim (cases_Bool (told (name row) text)) [
+    elim (cases_Bool (bytes_eq (name row) text)) [
       | inl passes ↦ subst (λ (t : List ℕ). p t ≡ true) ((bytes_eq-Decides (name row) text).0 passes) both.0
       | inr other ↦ row_passes p name value rows text v both.1 (rw other at e)
     ]

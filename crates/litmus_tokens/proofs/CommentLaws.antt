@@ -3,12 +3,12 @@ use Rattle.std.proofs.Common.{◌≡◌, ℕ, suc, zero, ◌<◌, Bool, true, fa
 use Rattle.std.specs.Prelude.{replicate}
 use Rattle.std.proofs.lemmas.Bool.{and_parts, eqb-true}
 use Rattle.litmus_tokens.specs.declared.cleaning.Part.TheVariants.{Text, Comment}
-use Rattle.litmus_tokens.specs.Cleaning.{first_of, is_next, opens, closes, ends_line, cleaned_from, cleaned_text, NoneCloses, IsCleaned}
+use Rattle.litmus_tokens.specs.Cleaning.{next_byte, is_next, opens, closes, ends_line, cleaned_from, cleaned_text, NoneCloses, IsCleaned}
 use Rattle.litmus_tokens.specs.Cleaning.IsCleaned.{ended, commented, unclosed, line_end, other}
 
 -- ---- bytes that are known by the tests
 
-is_second : (byte : ℕ) (rest : List ℕ) → is_next byte (first_of rest) ≡ true → (behind : List ℕ) × (rest ≡ byte ∷ behind)
+is_second : (byte : ℕ) (rest : List ℕ) → is_next byte (next_byte rest) ≡ true → (behind : List ℕ) × (rest ≡ byte ∷ behind)
 is_second byte [] e = absurd cc
 is_second byte (d ∷ rest) e = let same = eqb-true d byte e in (rest, cc)
 
@@ -23,29 +23,29 @@ pub record Closed (text : List ℕ) : Type 0 where
 
 closed_or_not : (text : List ℕ) → Closed text ⊎ NoneCloses text
 closed_or_not [] = inr tt
-closed_or_not (c ∷ rest) = go (closes c (first_of rest)) refl (closed_or_not rest)
+closed_or_not (c ∷ rest) = go (closes c (next_byte rest)) refl (closed_or_not rest)
   where
-    here : closes c (first_of rest) ≡ true → Closed (c ∷ rest)
+    here : closes c (next_byte rest) ≡ true → Closed (c ∷ rest)
     here is =
-        let both = and_parts (c == 42) (is_next 41 (first_of rest)) is in
+        let both = and_parts (c == 42) (is_next 41 (next_byte rest)) is in
         let star = eqb-true c 42 both.0 in
         let second = is_second 41 rest both.1 in
         let is_rest = second.1 in
         record { inner = []; rest = second.0; whole = cc; first = tt }
 
-    there : closes c (first_of rest) ≡ false → Closed rest → Closed (c ∷ rest)
+    there : closes c (next_byte rest) ≡ false → Closed rest → Closed (c ∷ rest)
     there isnt closed = record {
       inner = c ∷ closed.inner;
       rest = closed.rest;
       whole = ap (λ (ys : List ℕ). c ∷ ys) closed.whole;
-      first = (not_inside closed.inner (subst (λ (ys : List ℕ). closes c (first_of ys) ≡ false) closed.whole isnt), closed.first);
+      first = (not_inside closed.inner (subst (λ (ys : List ℕ). closes c (next_byte ys) ≡ false) closed.whole isnt), closed.first);
     }
       where
-        not_inside : (ys : List ℕ) → closes c (first_of (ys ++ 42 ∷ 41 ∷ closed.rest)) ≡ false → closes c (first_of ys) ≡ false
+        not_inside : (ys : List ℕ) → closes c (next_byte (ys ++ 42 ∷ 41 ∷ closed.rest)) ≡ false → closes c (next_byte ys) ≡ false
         not_inside [] h = h
         not_inside (y ∷ ys) h = h
 
-    go : (t : Bool) → closes c (first_of rest) ≡ t → Closed rest ⊎ NoneCloses rest → Closed (c ∷ rest) ⊎ NoneCloses (c ∷ rest)
+    go : (t : Bool) → closes c (next_byte rest) ≡ t → Closed rest ⊎ NoneCloses rest → Closed (c ∷ rest) ⊎ NoneCloses (c ∷ rest)
     go true is others = inl (here is)
     go false isnt (inl closed) = inl (there isnt closed)
     go false isnt (inr none) = inr (isnt, none)
@@ -59,7 +59,7 @@ comment_closed (c ∷ inner) rest none = rw (still inner none.0) (ap (λ (ys : L
     never c true is = rw is refl
     never c false isnt = rw isnt refl
 
-    still : (ys : List ℕ) → closes c (first_of ys) ≡ false → closes c (first_of (ys ++ 42 ∷ 41 ∷ rest)) ≡ false
+    still : (ys : List ℕ) → closes c (next_byte ys) ≡ false → closes c (next_byte (ys ++ 42 ∷ 41 ∷ rest)) ≡ false
     still [] h = never c (c == 42) refl
     still (y ∷ ys) h = h
 
@@ -78,7 +78,7 @@ text_line_end : (rest : List ℕ) → cleaned_from Text (13 ∷ 10 ∷ rest) ≡
 unfolding cleaned_from
 text_line_end rest = refl
 
-text_other : (c : ℕ) (rest : List ℕ) → opens c (first_of rest) ≡ false → ends_line c (first_of rest) ≡ false → cleaned_from Text (c ∷ rest) ≡ c ∷ cleaned_from Text rest
+text_other : (c : ℕ) (rest : List ℕ) → opens c (next_byte rest) ≡ false → ends_line c (next_byte rest) ≡ false → cleaned_from Text (c ∷ rest) ≡ c ∷ cleaned_from Text rest
 unfolding cleaned_from
 text_other c rest no_comment no_end = rw (no_comment, no_end) refl
 
@@ -95,26 +95,26 @@ short_cleaned : (n : ℕ) (text : List ℕ) → length text < n → IsCleaned te
 unfolding cleaned_from
 short_cleaned zero text lt = absurd (omega arith)
 short_cleaned (suc n) [] lt = ended
-short_cleaned (suc n) (c ∷ rest) lt = go (short_cleaned n) (opens c (first_of rest)) refl (ends_line c (first_of rest)) refl
+short_cleaned (suc n) (c ∷ rest) lt = go (short_cleaned n) (opens c (next_byte rest)) refl (ends_line c (next_byte rest)) refl
   where
-    at_opening : ((text : List ℕ) → length text < n → IsCleaned text (cleaned_from Text text)) → opens c (first_of rest) ≡ true → IsCleaned (c ∷ rest) (cleaned_from Text (c ∷ rest))
+    at_opening : ((text : List ℕ) → length text < n → IsCleaned text (cleaned_from Text text)) → opens c (next_byte rest) ≡ true → IsCleaned (c ∷ rest) (cleaned_from Text (c ∷ rest))
     at_opening smaller is =
-        let both = and_parts (c == 40) (is_next 42 (first_of rest)) is in
+        let both = and_parts (c == 40) (is_next 42 (next_byte rest)) is in
         let second = is_second 42 rest both.1 in
         let same : 40 ∷ 42 ∷ second.0 ≡ c ∷ rest = (let one = eqb-true c 40 both.0 in let two = second.1 in cc) in
         let less : length second.0 < n = omega (arith, ap length same) in
         subst (λ (text : List ℕ). IsCleaned text (cleaned_from Text text)) same (opened n second.0 less smaller (closed_or_not second.0))
 
-    at_line_end : ((text : List ℕ) → length text < n → IsCleaned text (cleaned_from Text text)) → ends_line c (first_of rest) ≡ true → IsCleaned (c ∷ rest) (cleaned_from Text (c ∷ rest))
+    at_line_end : ((text : List ℕ) → length text < n → IsCleaned text (cleaned_from Text text)) → ends_line c (next_byte rest) ≡ true → IsCleaned (c ∷ rest) (cleaned_from Text (c ∷ rest))
     at_line_end smaller is =
-        let both = and_parts (c == 13) (is_next 10 (first_of rest)) is in
+        let both = and_parts (c == 13) (is_next 10 (next_byte rest)) is in
         let second = is_second 10 rest both.1 in
         let same : 13 ∷ 10 ∷ second.0 ≡ c ∷ rest = (let one = eqb-true c 13 both.0 in let two = second.1 in cc) in
         let less : length (10 ∷ second.0) < n = omega (arith, ap length same) in
         subst (λ (text : List ℕ). IsCleaned text (cleaned_from Text text)) same
         (subst (IsCleaned (13 ∷ 10 ∷ second.0)) (sym (text_line_end second.0)) (line_end second.0 (cleaned_from Text (10 ∷ second.0)) (smaller (10 ∷ second.0) less)))
 
-    go : ((text : List ℕ) → length text < n → IsCleaned text (cleaned_from Text text)) → (a : Bool) → opens c (first_of rest) ≡ a → (b : Bool) → ends_line c (first_of rest) ≡ b → IsCleaned (c ∷ rest) (cleaned_from Text (c ∷ rest))
+    go : ((text : List ℕ) → length text < n → IsCleaned text (cleaned_from Text text)) → (a : Bool) → opens c (next_byte rest) ≡ a → (b : Bool) → ends_line c (next_byte rest) ≡ b → IsCleaned (c ∷ rest) (cleaned_from Text (c ∷ rest))
     go smaller true is b e = at_opening smaller is
     go smaller false isnt true is = at_line_end smaller is
     go smaller false isnt false plain = subst (IsCleaned (c ∷ rest)) (sym (text_other c rest isnt plain)) (other c rest (cleaned_from Text rest) isnt plain (smaller rest (omega arith)))

@@ -14,7 +14,7 @@ use Rattle.litmus_tokens.specs.Settings.NamedPlace.{in_register, at_location}
 use Rattle.litmus_tokens.specs.Settings.Value.{number}
 use Rattle.litmus_tokens.specs.Reading.{value_in, inside, place_in, begins_with_gap, behind_int, declared_in, place_or, item_place_in, item_round, item_at}
 use Rattle.litmus_tokens.proofs.Bytes.{other_byte, name_bytes, none_round, none_round_name}
-use Rattle.litmus_tokens.proofs.SettingLaws.{value_found, value_read, named_found, place_found, place_read, place_free, told_put_found}
+use Rattle.litmus_tokens.proofs.SettingLaws.{value_found, value_read, named_found, place_found, place_read, place_free, put_from_found}
 
 -- ---- declarations
 
@@ -96,12 +96,12 @@ item_found text put e = go (after (is_byte 61) text) refl e
   where
     go : (behind : Option (List ℕ)) → after (is_byte 61) text ≡ behind → item_round (before (is_byte 61) text) behind ≡ Some put → IsItem text put
     go None none h =
-        let told = told_put_found (declared_in (before (is_byte 61) text)) (Some (number 0)) put h in
+        let told = put_from_found (declared_in (before (is_byte 61) text)) (Some (number 0)) put h in
         let whole = uncut (is_byte 61) text none in
         inr (inr (declared_found text put.0 (rw whole at told.0), cc))
     go (Some right) some h =
         let left = before (is_byte 61) text in
-        let told = told_put_found (item_place_in left) (value_in right) put h in
+        let told = put_from_found (item_place_in left) (value_in right) put h in
         let whole = cut_byte 61 text right some in
         let value = value_found right put.1 told.1 in
         elim (item_place_found left put.0 (declared_in left) refl told.0) [

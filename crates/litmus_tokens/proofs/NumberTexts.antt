@@ -4,7 +4,7 @@ use Rattle.std.specs.Prelude.{pos, neg_ℤ, nat_lt, option_map}
 use Rattle.std.proofs.lemmas.Bool.{and_right, ltb-true, lt-ltb, ne_eqb}
 use Rattle.texts.specs.Numbers.{capped, is_hex, is_negative, magnitude_of, integer_of}
 use Rattle.texts.proofs.NumberLaws.{hex_text, no_hex, negative_text, number_said, says_number, hex_number_said, says_hex_number}
-use Rattle.litmus_tokens.specs.Names.{is_name, Counts, IsNumber, word_told, word_read, word_in}
+use Rattle.litmus_tokens.specs.Names.{is_name, Counts, IsNumber, word_from, word_read, word_in}
 use Rattle.litmus_tokens.specs.Names.IsNumber.{plain, negated}
 use Rattle.litmus_tokens.proofs.Bytes.{digit_begins_none}
 
@@ -36,14 +36,14 @@ counts_plain text n (inr (digits, is, says)) = rw is (and_right (nat_lt 0 (suc (
 -- ---- with a sign
 
 -- the word of a number below 0
-below_zero : (n : ℕ) → n ≤ 2 ^ 31 → word_told (neg_ℤ (pos n)) ≡ Some ((2 ^ 32 - n) % 2 ^ 32)
+below_zero : (n : ℕ) → n ≤ 2 ^ 31 → word_from (neg_ℤ (pos n)) ≡ Some ((2 ^ 32 - n) % 2 ^ 32)
 below_zero zero le = refl
 below_zero (suc n) le =
     let small : n < 2 ^ 31 = omega arith in
     let same : 2 ^ 32 - 1 - n ≡ (2 ^ 32 - suc n) % 2 ^ 32 = omega arith in
     rw (lt-ltb n (2 ^ 31) small) (ap (λ (w : ℕ). Some w) same)
 
-above_least : (n w : ℕ) → word_told (neg_ℤ (pos n)) ≡ Some w → n ≤ 2 ^ 31
+above_least : (n w : ℕ) → word_from (neg_ℤ (pos n)) ≡ Some w → n ≤ 2 ^ 31
 above_least zero w e = omega arith
 above_least (suc n) w e = go (nat_lt n (2 ^ 31)) refl
   where

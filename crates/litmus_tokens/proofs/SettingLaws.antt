@@ -16,13 +16,13 @@ use Rattle.litmus_tokens.specs.Names.{core, begins_name, goes_on_name, is_spelle
 use Rattle.litmus_tokens.specs.Settings.{NamedPlace, Value, Put, IsValue, IsNamedPlace, IsSetting}
 use Rattle.litmus_tokens.specs.Settings.NamedPlace.{in_register, at_location}
 use Rattle.litmus_tokens.specs.Settings.Value.{number, address_of}
-use Rattle.litmus_tokens.specs.Reading.{told_value, value_in, told_register, named, closed, location_in, place_round, place_in, told_put, setting_round, setting_at}
+use Rattle.litmus_tokens.specs.Reading.{value_from, value_in, register_from, named, closed, location_in, place_round, place_in, put_from, setting_round, setting_at}
 use Rattle.litmus_tokens.proofs.Bytes.{other_byte, name_bytes, digit_bytes, register_bytes, none_round, none_round_name}
 use Rattle.litmus_tokens.proofs.NumberTexts.{word_found, number_word, number_no_name}
 
 -- ---- values
 
-number_told : (text : List ℕ) (m : Option ℕ) (v : Value) → word_in (core text) ≡ m → told_value m ≡ Some v → IsValue text v
+number_told : (text : List ℕ) (m : Option ℕ) (v : Value) → word_in (core text) ≡ m → value_from m ≡ Some v → IsValue text v
 number_told text None v is e = absurd cc
 number_told text (Some n) v is e =
     let same : number n ≡ v = cc in
@@ -76,7 +76,7 @@ location_found text (c ∷ rest) place is e = go (c == 91) refl
         let found = named_found (c ∷ rest) place (rw other at e) in
         subst (IsNamedPlace text) found.1 (found.0, inl is)
 
-register_found : (text front name : List ℕ) (place : NamedPlace) (hart : Option ℕ) (register : Option Reg) → text ≡ front ++ 58 ∷ name → number_of (core front) ≡ hart → register_named (core name) ≡ register → told_register hart register ≡ Some place → IsNamedPlace text place
+register_found : (text front name : List ℕ) (place : NamedPlace) (hart : Option ℕ) (register : Option Reg) → text ≡ front ++ 58 ∷ name → number_of (core front) ≡ hart → register_named (core name) ≡ register → register_from hart register ≡ Some place → IsNamedPlace text place
 register_found text front name place None register whole says is e = absurd cc
 register_found text front name place (Some hart) None whole says is e = absurd cc
 register_found text front name place (Some hart) (Some register) whole says is e =
@@ -132,10 +132,10 @@ place_read text (at_location name) (is, inr (inner, whole, same)) =
 pub put_is : (a b : Put) → Some a ≡ Some b → a ≡ b
 put_is a b e = cc
 
-pub told_put_found : (place : Option NamedPlace) (value : Option Value) (put : Put) → told_put place value ≡ Some put → (place ≡ Some put.0) × (value ≡ Some put.1)
-told_put_found None value put e = absurd cc
-told_put_found (Some place) None put e = absurd cc
-told_put_found (Some place) (Some value) put e =
+pub put_from_found : (place : Option NamedPlace) (value : Option Value) (put : Put) → put_from place value ≡ Some put → (place ≡ Some put.0) × (value ≡ Some put.1)
+put_from_found None value put e = absurd cc
+put_from_found (Some place) None put e = absurd cc
+put_from_found (Some place) (Some value) put e =
     let same : (place, value) ≡ put = put_is (place, value) put e in
     (ap (λ (p : Put). Some p.0) same, ap (λ (p : Put). Some p.1) same)
 
@@ -146,7 +146,7 @@ setting_found text put e = go (after (is_byte 61) text) refl e
     go : (behind : Option (List ℕ)) → after (is_byte 61) text ≡ behind → setting_round (before (is_byte 61) text) behind ≡ Some put → IsSetting text put
     go None none h = absurd cc
     go (Some right) some h =
-        let told = told_put_found (place_in (before (is_byte 61) text)) (value_in right) put h in
+        let told = put_from_found (place_in (before (is_byte 61) text)) (value_in right) put h in
         (before (is_byte 61) text, right, cut_byte 61 text right some, place_found (before (is_byte 61) text) put.0 told.0, value_found right put.1 told.1)
 
 pub setting_read : (text : List ℕ) (put : Put) → IsSetting text put → setting_at text ≡ Some put

@@ -10,7 +10,7 @@ use Rattle.texts.proofs.TrimLaws.{leading_all, leading_past, leading_split, lead
 use Rattle.texts.specs.Pieces.{is_gap}
 use Rattle.litmus_tokens.specs.Settings.{Put, IsSetting}
 use Rattle.litmus_tokens.specs.Reading.{setting_at}
-use Rattle.litmus_tokens.specs.Tokens.{Token, Beginning, Tokens, is_mark, ends_name, behind_not, paired, told_atom, told_not, unmarked, begun, beginning_of, tokens_from, tokens_of, EndsAtom, Spells, AreTokens, listed}
+use Rattle.litmus_tokens.specs.Tokens.{Token, Beginning, Tokens, is_mark, ends_name, behind_not, paired, atom_from, negation_or, unmarked, begun, beginning_of, tokens_from, tokens_of, EndsAtom, Spells, AreTokens, listed}
 use Rattle.litmus_tokens.specs.Tokens.Token.{atom, negation, conjunction, disjunction, opening, closing}
 use Rattle.litmus_tokens.specs.Tokens.Beginning.{nothing, begins, no_token}
 use Rattle.litmus_tokens.specs.Tokens.Tokens.{ended, goes_on}
@@ -151,7 +151,7 @@ not_front text rest e = go (starts_with nat_eq text (codes "not") && ends_name (
         subst (λ (r : List ℕ). (text ≡ codes "not" ++ r) × (ends_name r ≡ true)) same (cut, parts.1)
     go false isnt = (let never = rw isnt at e in absurd cc)
 
-atom_found : (c : ℕ) (behind : List ℕ) (token : Token) (rest : List ℕ) (put : Option Put) → is_gap c ≡ false → is_mark c ≡ false → behind_not (c ∷ behind) ≡ None → setting_at (c ∷ before is_mark behind) ≡ put → told_atom put (from_first is_mark behind) ≡ begins token rest → Spelled (c ∷ behind) token rest
+atom_found : (c : ℕ) (behind : List ℕ) (token : Token) (rest : List ℕ) (put : Option Put) → is_gap c ≡ false → is_mark c ≡ false → behind_not (c ∷ behind) ≡ None → setting_at (c ∷ before is_mark behind) ≡ put → atom_from put (from_first is_mark behind) ≡ begins token rest → Spelled (c ∷ behind) token rest
 atom_found c behind token rest None solid plain no_name is e = absurd cc
 atom_found c behind token rest (Some put) solid plain no_name is e =
     let cut = stretch behind in
@@ -205,7 +205,7 @@ paired_some one second (d ∷ more) e = go (d == second) refl
     go true is = (let never = rw is at e in absurd cc)
     go false isnt = (let never = rw isnt at e in absurd cc)
 
-told_some : (name : Option (List ℕ)) (put : Option Put) (rest : List ℕ) → told_not name (told_atom put rest) ≡ nothing → ⊥
+told_some : (name : Option (List ℕ)) (put : Option Put) (rest : List ℕ) → negation_or name (atom_from put rest) ≡ nothing → ⊥
 told_some (Some more) put rest e = absurd cc
 told_some None None rest e = absurd cc
 told_some None (Some put) rest e = absurd cc

@@ -5,7 +5,7 @@ use Rattle.std.specs.List.{starts_with}
 use Rattle.texts.specs.Cutting.{before, fails, from_first, without_leading}
 use Rattle.litmus_tokens.specs.Settings.{Put}
 use Rattle.litmus_tokens.specs.Reading.{setting_at}
-use Rattle.litmus_tokens.specs.Tokens.{Token, Beginning, Tokens, is_mark, ends_name, behind_not, paired, told_atom, told_not, unmarked, begun, beginning_of, tokens_from, tokens_within, tokens_of, LeavesLess}
+use Rattle.litmus_tokens.specs.Tokens.{Token, Beginning, Tokens, is_mark, ends_name, behind_not, paired, atom_from, negation_or, unmarked, begun, beginning_of, tokens_from, tokens_within, tokens_of, LeavesLess}
 use Rattle.litmus_tokens.specs.Tokens.Beginning.{nothing, begins, no_token}
 use Rattle.litmus_tokens.specs.Tokens.Tokens.{goes_on}
 use Rattle.litmus_tokens.specs.Tokens.Token.{conjunction, disjunction}
@@ -14,21 +14,21 @@ use Rattle.texts.specs.Pieces.{is_gap}
 
 -- ---- what follows a token is shorter than the text
 
-not_or_less : (c : ℕ) (rest : List ℕ) (other : Beginning) → LeavesLess (c ∷ rest) other → LeavesLess (c ∷ rest) (told_not (behind_not (c ∷ rest)) other)
+not_or_less : (c : ℕ) (rest : List ℕ) (other : Beginning) → LeavesLess (c ∷ rest) other → LeavesLess (c ∷ rest) (negation_or (behind_not (c ∷ rest)) other)
 unfolding behind_not
 not_or_less c rest other less = go (starts_with nat_eq (c ∷ rest) (codes "not") && ends_name (drop 3 (c ∷ rest))) refl
   where
-    go : (b : Bool) → (starts_with nat_eq (c ∷ rest) (codes "not") && ends_name (drop 3 (c ∷ rest))) ≡ b → LeavesLess (c ∷ rest) (told_not (behind_not (c ∷ rest)) other)
+    go : (b : Bool) → (starts_with nat_eq (c ∷ rest) (codes "not") && ends_name (drop 3 (c ∷ rest))) ≡ b → LeavesLess (c ∷ rest) (negation_or (behind_not (c ∷ rest)) other)
     go true is = rw is (omega (arith, length-drop 3 (c ∷ rest)))
     go false isnt = rw isnt less
 
-atom_less : (c : ℕ) (rest : List ℕ) (put : Option Put) → is_mark c ≡ false → LeavesLess (c ∷ rest) (told_atom put (from_first is_mark (c ∷ rest)))
+atom_less : (c : ℕ) (rest : List ℕ) (put : Option Put) → is_mark c ≡ false → LeavesLess (c ∷ rest) (atom_from put (from_first is_mark (c ∷ rest)))
 atom_less c rest None other = tt
 atom_less c rest (Some put) other = rw other (omega (arith, length-from_first is_mark rest))
 
 unmarked_less : (c : ℕ) (rest : List ℕ) → is_mark c ≡ false → LeavesLess (c ∷ rest) (unmarked (c ∷ rest))
 unfolding unmarked
-unmarked_less c rest other = not_or_less c rest (told_atom (setting_at (before is_mark (c ∷ rest))) (from_first is_mark (c ∷ rest))) (atom_less c rest (setting_at (before is_mark (c ∷ rest))) other)
+unmarked_less c rest other = not_or_less c rest (atom_from (setting_at (before is_mark (c ∷ rest))) (from_first is_mark (c ∷ rest))) (atom_less c rest (setting_at (before is_mark (c ∷ rest))) other)
 
 paired_less : (c : ℕ) (rest : List ℕ) (token : Token) (second : ℕ) → LeavesLess (c ∷ rest) (paired token second rest)
 paired_less c [] token second = tt

@@ -4,9 +4,9 @@ use Rattle.std.specs.Prelude.{◌≡◌, ℕ, ◌==◌, Bool, false, ◌&&◌, L
 use Rattle.litmus_tokens.specs.declared.cleaning.Part.{Part}
 use Rattle.litmus_tokens.specs.declared.cleaning.Part.TheVariants.{Text, Opening, Comment, Closing}
 
-abbrev pub first_of : List ℕ → Option ℕ
-first_of [] = None
-first_of (c ∷ rest) = Some c
+abbrev pub next_byte : List ℕ → Option ℕ
+next_byte [] = None
+next_byte (c ∷ rest) = Some c
 
 abbrev pub is_next : ℕ → Option ℕ → Bool
 is_next byte None = false
@@ -33,7 +33,7 @@ turned Closing c next = (32, Text)
 
 unfoldable pub cleaned_from : Part → List ℕ → List ℕ
 cleaned_from part [] = []
-cleaned_from part (c ∷ rest) = (turned part c (first_of rest)).0 ∷ cleaned_from (turned part c (first_of rest)).1 rest
+cleaned_from part (c ∷ rest) = (turned part c (next_byte rest)).0 ∷ cleaned_from (turned part c (next_byte rest)).1 rest
 
 unfoldable pub cleaned_text : List ℕ → List ℕ
 cleaned_text text = cleaned_from Text text
@@ -43,7 +43,7 @@ cleaned_text text = cleaned_from Text text
 -- no `*)` stands in the text
 abbrev pub NoneCloses : List ℕ → Type 0
 NoneCloses [] = Unit {0}
-NoneCloses (c ∷ rest) = (closes c (first_of rest) ≡ false) × NoneCloses rest
+NoneCloses (c ∷ rest) = (closes c (next_byte rest) ≡ false) × NoneCloses rest
 
 -- What a text is cleaned to. A comment goes from `(*` to the first `*)` behind that, or to the end.
 pub data IsCleaned : List ℕ → List ℕ → Type 0 where
@@ -51,4 +51,4 @@ pub data IsCleaned : List ℕ → List ℕ → Type 0 where
   commented : (inner rest out : List ℕ) → NoneCloses inner → IsCleaned rest out → IsCleaned (40 ∷ 42 ∷ (inner ++ 42 ∷ 41 ∷ rest)) (32 ∷ 32 ∷ (replicate (length inner) 32 ++ 32 ∷ 32 ∷ out))
   unclosed : (inner : List ℕ) → NoneCloses inner → IsCleaned (40 ∷ 42 ∷ inner) (32 ∷ 32 ∷ replicate (length inner) 32)
   line_end : (rest out : List ℕ) → IsCleaned (10 ∷ rest) out → IsCleaned (13 ∷ 10 ∷ rest) (32 ∷ out)
-  other : (c : ℕ) (rest out : List ℕ) → opens c (first_of rest) ≡ false → ends_line c (first_of rest) ≡ false → IsCleaned rest out → IsCleaned (c ∷ rest) (c ∷ out)
+  other : (c : ℕ) (rest out : List ℕ) → opens c (next_byte rest) ≡ false → ends_line c (next_byte rest) ≡ false → IsCleaned rest out → IsCleaned (c ∷ rest) (c ∷ out)

@@ -43,13 +43,13 @@ pub data IsNumber : List ℕ → ℕ → Type 0 where
 
 -- ---- numbers, as they are read
 
-abbrev pub word_told : ℤ → Option ℕ
-word_told (pos n) = if nat_lt n (2 ^ 32) then Some n else None
-word_told (negsuc n) = if nat_lt n (2 ^ 31) then Some (2 ^ 32 - 1 - n) else None
+abbrev pub word_from : ℤ → Option ℕ
+word_from (pos n) = if nat_lt n (2 ^ 32) then Some n else None
+word_from (negsuc n) = if nat_lt n (2 ^ 31) then Some (2 ^ 32 - 1 - n) else None
 
 abbrev pub word_read : Option ℤ → Option ℕ
 word_read None = None
-word_read (Some n) = word_told n
+word_read (Some n) = word_from n
 
 unfoldable pub word_in : List ℕ → Option ℕ
 word_in text = word_read (integer_of text)

@@ -13,19 +13,19 @@ use Rattle.litmus_tokens.specs.Settings.Value.{number, address_of}
 
 -- ---- values
 
-abbrev pub told_value : Option ℕ → Option Value
-told_value None = None
-told_value (Some n) = Some (number n)
+abbrev pub value_from : Option ℕ → Option Value
+value_from None = None
+value_from (Some n) = Some (number n)
 
 unfoldable pub value_in : List ℕ → Option Value
-value_in text = if is_name (core text) then Some (address_of (core text)) else told_value (word_in (core text))
+value_in text = if is_name (core text) then Some (address_of (core text)) else value_from (word_in (core text))
 
 -- ---- places
 
-abbrev pub told_register : Option ℕ → Option Reg → Option NamedPlace
-told_register None register = None
-told_register (Some hart) None = None
-told_register (Some hart) (Some register) = Some (in_register hart register)
+abbrev pub register_from : Option ℕ → Option Reg → Option NamedPlace
+register_from None register = None
+register_from (Some hart) None = None
+register_from (Some hart) (Some register) = Some (in_register hart register)
 
 abbrev pub named : List ℕ → Option NamedPlace
 named name = if is_name name then Some (at_location name) else None
@@ -46,21 +46,21 @@ location_in (c ∷ rest) = if c == 91 then closed (before (is_byte 93) rest) (af
 
 abbrev pub place_round : List ℕ → Option (List ℕ) → Option NamedPlace
 place_round front None = location_in (core front)
-place_round front (Some name) = told_register (number_of (core front)) (register_named (core name))
+place_round front (Some name) = register_from (number_of (core front)) (register_named (core name))
 
 unfoldable pub place_in : List ℕ → Option NamedPlace
 place_in text = place_round (before (is_byte 58) text) (after (is_byte 58) text)
 
 -- ---- settings
 
-abbrev pub told_put : Option NamedPlace → Option Value → Option Put
-told_put None value = None
-told_put (Some place) None = None
-told_put (Some place) (Some value) = Some (place, value)
+abbrev pub put_from : Option NamedPlace → Option Value → Option Put
+put_from None value = None
+put_from (Some place) None = None
+put_from (Some place) (Some value) = Some (place, value)
 
 abbrev pub setting_round : List ℕ → Option (List ℕ) → Option Put
 setting_round left None = None
-setting_round left (Some right) = told_put (place_in left) (value_in right)
+setting_round left (Some right) = put_from (place_in left) (value_in right)
 
 unfoldable pub setting_at : List ℕ → Option Put
 setting_at text = setting_round (before (is_byte 61) text) (after (is_byte 61) text)
@@ -86,8 +86,8 @@ unfoldable pub item_place_in : List ℕ → Option NamedPlace
 item_place_in text = place_or (declared_in text) (place_in text)
 
 abbrev pub item_round : List ℕ → Option (List ℕ) → Option Put
-item_round text None = told_put (declared_in text) (Some (number 0))
-item_round left (Some right) = told_put (item_place_in left) (value_in right)
+item_round text None = put_from (declared_in text) (Some (number 0))
+item_round left (Some right) = put_from (item_place_in left) (value_in right)
 
 -- the text before the `=`, if it has one, and the value behind it
 unfoldable pub item_at : List ℕ → Option Put

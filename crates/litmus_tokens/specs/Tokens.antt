@@ -49,17 +49,17 @@ abbrev pub paired : Token → ℕ → List ℕ → Beginning
 paired token second [] = no_token
 paired token second (c ∷ rest) = if c == second then begins token rest else no_token
 
-abbrev pub told_atom : Option Put → List ℕ → Beginning
-told_atom None rest = no_token
-told_atom (Some put) rest = begins (atom put) rest
+abbrev pub atom_from : Option Put → List ℕ → Beginning
+atom_from None rest = no_token
+atom_from (Some put) rest = begins (atom put) rest
 
-abbrev pub told_not : Option (List ℕ) → Beginning → Beginning
-told_not None other = other
-told_not (Some rest) other = begins negation rest
+abbrev pub negation_or : Option (List ℕ) → Beginning → Beginning
+negation_or None other = other
+negation_or (Some rest) other = begins negation rest
 
 -- a token that no mark begins: `not`, or the atom that goes on to the next mark
 unfoldable pub unmarked : List ℕ → Beginning
-unmarked text = told_not (behind_not text) (told_atom (setting_at (before is_mark text)) (from_first is_mark text))
+unmarked text = negation_or (behind_not text) (atom_from (setting_at (before is_mark text)) (from_first is_mark text))
 
 unfoldable pub begun : List ℕ → Beginning
 begun [] = nothing

@@ -2,7 +2,7 @@
 
 ghost use Rattle.std.specs.Prelude.{◌≡◌};
 ghost use Rattle.std.specs.List.{list_all};
-ghost use Rattle.litmus_tokens.specs.Names.{begins_name, goes_on_name, is_spelled, is_not, is_name, word_told, word_in};
+ghost use Rattle.litmus_tokens.specs.Names.{begins_name, goes_on_name, is_spelled, is_not, is_name, word_from, word_in};
 
 use texts::integer;
 
@@ -49,7 +49,7 @@ pub fn is_name(text: &[u8]) -> bool
 
 /// The number modulo 2^32, where it is one from -2147483648 to 4294967295.
 fn word_of(number: i64) -> Option<u32>
-    ensures { result ≡ word_told number }
+    ensures { result ≡ word_from number }
 {
     if number < -0x8000_0000 || number > 0xffff_ffff {
         None

@@ -4,7 +4,7 @@ ghost use Rattle.std.specs.Prelude.{◌≡◌, Some, IfSome, option_map};
 ghost use Rattle.std.specs.Option.{option_copied};
 ghost use Rattle.litmus_tokens.specs.Names.{core};
 ghost use Rattle.litmus_tokens.specs.Settings.{Put, IsSetting, IsItem, place_of, value_of, puts};
-ghost use Rattle.litmus_tokens.specs.Reading.{value_in, named, location_in, told_register, place_in, told_put, setting_at, begins_with_gap, behind_int, declared_in, item_place_in, item_at};
+ghost use Rattle.litmus_tokens.specs.Reading.{value_in, named, location_in, register_from, place_in, put_from, setting_at, begins_with_gap, behind_int, declared_in, item_place_in, item_at};
 
 use crate::names::{is_name, word_in};
 use rv_decode::{Reg, register_named};
@@ -82,7 +82,7 @@ fn location_in(text: &[u8]) -> Option<Spot<'_>>
 }
 
 fn register_of<'a>(hart: Option<u64>, register: Option<Reg>) -> Option<Spot<'a>>
-    ensures { option_map place_of result ≡ told_register hart register }
+    ensures { option_map place_of result ≡ register_from hart register }
 {
     match (hart, register) {
         (Some(hart), Some(register)) => Some(Spot::Register { hart, register }),
@@ -103,7 +103,7 @@ fn spot_in(text: &[u8]) -> Option<Spot<'_>>
 }
 
 fn put<'a>(spot: Option<Spot<'a>>, worth: Option<Worth<'a>>) -> Option<Setting<'a>>
-    ensures { puts result ≡ told_put (option_map place_of spot.entry) (option_map value_of worth.entry) }
+    ensures { puts result ≡ put_from (option_map place_of spot.entry) (option_map value_of worth.entry) }
 {
     match (spot, worth) {
         (Some(spot), Some(worth)) => Some(Setting { spot, worth }),

@@ -45,8 +45,8 @@ module _ (k : Block) (is : IsBlock k) where
   pub word_of : (j : ℕ) → j ≤ 12 → j % 4 ≡ 0 → IsWordOf k (k.base + j)
   word_of j small aligned = record { within = record { from = omega arith; below = omega arith }; aligned = omega (arith, is.even, aligned) }
 
-  pub first_of : IsWordOf k k.base
-  first_of = record { within = record { from = omega arith; below = omega arith }; aligned = is.even }
+  pub base_word : IsWordOf k k.base
+  base_word = record { within = record { from = omega arith; below = omega arith }; aligned = is.even }
 
   pub slot_of : (j : ℕ) → IsWordOf k (slot k.size k.base j)
   slot_of j = record { within = record { from = omega arith; below = omega (arith, offset_low j) }; aligned = omega (arith, is.even) }

@@ -154,7 +154,7 @@ module _ (m : BlockMeaning) (code : List ℕ) (laws : BlockLaws m code) (least :
         count = none_shut (length lists) (omega arith);
       };
       reports = record {
-        told = each (λ j n. ReportsOf [] j (slice_index_or lists j []) (m.took n) (m.shut n)) (λ j within. (let b = begun j within in record {
+        senders = each (λ j n. ReportsOf [] j (slice_index_or lists j []) (m.took n) (m.shut n)) (λ j within. (let b = begun j within in record {
           words = ap (λ c. take c (slice_index_or lists j [])) (sym b.took);
           closed = λ k is. cc;
           said = λ is. absurd (omega (arith, b.shut, is));

@@ -205,7 +205,7 @@ module _ (m : BlockMeaning) (code : List ℕ) (laws : BlockLaws m code) (least :
   -- who is reported closed is noted so, and the other way round
   shut_said : (j : ℕ) → j < length lists → m.shut (ch.numbers j) ≢ 0 → is_closed rs j ≡ true
   shut_said j less shut =
-      let old = (ch.reports.told j less).said (omega (arith, shut, each_shut j less)) in
+      let old = (ch.reports.senders j less).said (omega (arith, shut, each_shut j less)) in
       closed_from rs old.0 j old.1
 
   owing : due ch.receiver.place < ch.receiver.noted.x20
@@ -219,7 +219,7 @@ module _ (m : BlockMeaning) (code : List ℕ) (laws : BlockLaws m code) (least :
 
   took_is : (j : ℕ) (less : j < length lists) → m.took (ch.numbers j) ≡ m.tails (ch.numbers j) → length (taken rs j) ≡ m.took (ch.numbers j)
   took_is j less same =
-      let words : length (taken rs j) ≡ length (take (m.took (ch.numbers j)) (slice_index_or lists j [])) = ap length (ch.reports.told j less).words in
+      let words : length (taken rs j) ≡ length (take (m.took (ch.numbers j)) (slice_index_or lists j [])) = ap length (ch.reports.senders j less).words in
       let long : length (take (m.took (ch.numbers j)) (slice_index_or lists j [])) ≡ min (m.took (ch.numbers j)) (length (slice_index_or lists j [])) = length-take (m.took (ch.numbers j)) (slice_index_or lists j []) in
       let most : m.tails (ch.numbers j) ≤ length (slice_index_or lists j []) = laws.tails_all (block_of M S lists j) (ch.numbers j) (ch.parts j less).order in
       omega (arith, words, long, same, most)

@@ -88,12 +88,12 @@ module _ (m : BlockMeaning) (M S : ℕ) (lists : List (List ℕ)) (f : ℕ → m
   -- one report of the visited sender
   one_said : (x : Report) (n : m.Count) → sender_of x ≡ b → m.shut (f b) ≡ 0 → ReportsOf (rs ++ x ∷ []) b (slice_index_or lists b []) (m.took n) (m.shut n) → ((i : ℕ) → x ≡ report.Closed i → taken rs i ≡ slice_index_or lists i []) → ReportPart m lists (rs ++ x ∷ []) (put f b n)
   one_said x n from open_yet new all = record {
-    told = told_put (rs ++ x ∷ []) n new (λ j within other. told_other rs j (slice_index_or lists j []) (m.took (f j)) (m.shut (f j)) x (λ same. other (sym same ∙ from)) (told.told j within));
+    senders = told_put (rs ++ x ∷ []) n new (λ j within other. told_other rs j (slice_index_or lists j []) (m.took (f j)) (m.shut (f j)) x (λ same. other (sym same ∙ from)) (told.senders j within));
     clean = clean_more rs lists x told.clean (subst (λ (j : ℕ). j < length lists) (sym from) known) unclosed prefix all;
   }
     where
       unclosed : (j : ℕ) → slice_get rs j ≡ Some (report.Closed (sender_of x)) → ⊥
-      unclosed j is = let shut : m.shut (f b) ≡ 1 = (told.told b known).closed j (is ∙ ap (λ z. Some (report.Closed z)) from) in omega (arith, open_yet)
+      unclosed j is = let shut : m.shut (f b) ≡ 1 = (told.senders b known).closed j (is ∙ ap (λ z. Some (report.Closed z)) from) in omega (arith, open_yet)
 
       prefix : (i : ℕ) → IsPrefixOf (taken (rs ++ x ∷ []) i) (slice_index_or lists i [])
       prefix i =
@@ -105,16 +105,16 @@ module _ (m : BlockMeaning) (M S : ℕ) (lists : List (List ℕ)) (f : ℕ → m
   pub said_reports : (said : List Report) (n : m.Count) → Says m (block_of M S lists b) b (f b) n said → ReportPart m lists (rs ++ said) (put f b n)
   said_reports said n (inl none) = subst (λ (ys : List Report). ReportPart m lists ys (put f b n)) (sym (ap (λ ys. rs ++ ys) none.0 ∙ append-nil rs)) (record {
     clean = told.clean;
-    told = told_put rs n (rw (none.1, none.2) (told.told b known)) (λ j within other. told.told j within);
+    senders = told_put rs n (rw (none.1, none.2) (told.senders b known)) (λ j within other. told.senders j within);
   })
   said_reports said n (inr (inl word)) = subst (λ (ys : List Report). ReportPart m lists (rs ++ ys) (put f b n)) (sym word.0)
       (one_said (report.Took b (slice_index (slice_index_or lists b []) (m.took (f b)))) n refl word.4
-      (rw (word.1, word.2) (told_took rs b (slice_index_or lists b []) (m.took (f b)) (m.shut (f b)) word.3 (told.told b known)))
+      (rw (word.1, word.2) (told_took rs b (slice_index_or lists b []) (m.took (f b)) (m.shut (f b)) word.3 (told.senders b known)))
       (λ i is. cc))
   said_reports said n (inr (inr closing)) = subst (λ (ys : List Report). ReportPart m lists (rs ++ ys) (put f b n)) (sym closing.0)
       (one_said (report.Closed b) n refl closing.4
-      (rw (closing.1, closing.2) (told_closed rs b (slice_index_or lists b []) (m.took (f b)) (m.shut (f b)) (told.told b known)))
-      (λ i is. subst (λ (j : ℕ). taken rs j ≡ slice_index_or lists j []) (ap sender_of is) ((told.told b known).words ∙ ap (λ c. take c (slice_index_or lists b [])) closing.3 ∙ take-length (slice_index_or lists b []))))
+      (rw (closing.1, closing.2) (told_closed rs b (slice_index_or lists b []) (m.took (f b)) (m.shut (f b)) (told.senders b known)))
+      (λ i is. subst (λ (j : ℕ). taken rs j ≡ slice_index_or lists j []) (ap sender_of is) ((told.senders b known).words ∙ ap (λ c. take c (slice_index_or lists b [])) closing.3 ∙ take-length (slice_index_or lists b []))))
 
 module _ (m : BlockMeaning) (code : List ℕ) (laws : BlockLaws m code) (B M S : ℕ) (lists : List (List ℕ)) (are : (i : ℕ) → i < length lists → IsBlock (block_of M S lists i)) (few : length lists ≤ 63) (t : History) (f : ℕ → m.Count) (legal : Legal B t) (opens : OpensWithWords t.opening) (written : AllWriteWords t.entries) (parts : (i : ℕ) → i < length lists → BlockPart m (block_of M S lists i) M i t (f i)) (part : ReceiverPart m M S lists t f) (told : ReportPart m lists (reported 0 t.entries) f) where
   pub quiet_one : (j : ℕ) → j < length lists → Quiet m (f j) → m.shut (f j) ≤ 1

@@ -96,7 +96,7 @@ module _ (m : BlockMeaning) (code : List ℕ) (laws : BlockLaws m code) (M S : �
 
   pub reports_stay : (rs now : List Report) → now ≡ rs → ReportPart m lists rs f → ReportPart m lists now g
   reports_stay rs now same part = record {
-    told = λ j within. (let told = part.told j within in record {
+    senders = λ j within. (let told = part.senders j within in record {
       words = ap (λ ys. taken ys j) same ∙ told.words ∙ ap (λ c. take c (slice_index_or lists j [])) (sym (after j within).1.took);
       closed = λ k is. (after j within).1.shut ∙ told.closed k (ap (λ ys. slice_get ys k) (sym same) ∙ is);
       said = λ is. (let old = told.said (sym (after j within).1.shut ∙ is) in (old.0, ap (λ ys. slice_get ys old.0) same ∙ old.1));

@@ -171,8 +171,8 @@ event_of-kind_of : (event : Event) → event_of (kind_of event) (hart_of event) 
 event_of-kind_of (Act hart) = refl
 event_of-kind_of (Land hart) = refl
 
-told : (digits : List ℕ) (n : ℕ) → Says digits n → n < 2 ^ 32 → number_of digits ≡ Some n
-told digits n says small = let same : capped n ≡ n = omega arith in rw same at (says_number digits n says)
+says_small : (digits : List ℕ) (n : ℕ) → Says digits n → n < 2 ^ 32 → number_of digits ≡ Some n
+says_small digits n says small = let same : capped n ≡ n = omega arith in rw same at (says_number digits n says)
 
 said_by-letter : (event : Event) (numbers : List ℕ) → said_by (letter event ∷ numbers) ≡ token_of (kind_of event) (numbers_of numbers)
 unfolding said_by
@@ -182,11 +182,11 @@ said_by-letter (Land hart) numbers = refl
 spells_said : (event : Event) (word : List ℕ) (times : ℕ) → Spells event word times → hart_of event < 2 ^ 32 → times < 2 ^ 32 → said_by word ≡ Some (record { kind = kind_of event; hart = hart_of event; times = times })
 unfolding numbers_of
 spells_said event word times (once hart says) small few =
-    said_by-letter event hart ∙ rw (no_star hart says.0.1, told hart (hart_of event) says small) refl
+    said_by-letter event hart ∙ rw (no_star hart says.0.1, says_small hart (hart_of event) says small) refl
 spells_said event word times (repeated hart count often says counts) small few =
     let before : take (length hart) (hart ++ 42 ∷ count) ≡ hart = take-append_seam hart (42 ∷ count) in
     let behind : drop (length hart + 1) (hart ++ 42 ∷ count) ≡ count = drop-append-add hart (42 ∷ count) 1 in
-    said_by-letter event (hart ++ 42 ∷ count) ∙ rw (star_behind hart count says.0.1, before, behind, told hart (hart_of event) says small, told count often counts few) refl
+    said_by-letter event (hart ++ 42 ∷ count) ∙ rw (star_behind hart count says.0.1, before, behind, says_small hart (hart_of event) says small, says_small count often counts few) refl
 
 pub run_at-from_IsRun : (end place room : ℕ) (word : List ℕ) (event : Event) (times : ℕ) → room < 2 ^ 32 → IsRun room word event times → run_at end place room word ≡ Ok (event, times)
 unfolding run_at

@@ -2,10 +2,11 @@
 
 ghost use Rattle.std.specs.Prelude.{◌≡◌, find};
 ghost use Rattle.std.specs.Option.{option_copied};
-ghost use Rattle.rv_decode.specs.Tables.{told, row_of};
+ghost use Rattle.std.specs.Str.{bytes_eq};
+ghost use Rattle.rv_decode.specs.Tables.{row_of};
 
 fn is_text(name: &str, text: &[u8]) -> bool
-    ensures { result ≡ told name.now text.now }
+    ensures { result ≡ bytes_eq name.now text.now }
 {
     name.as_bytes() == text
 }
@@ -15,7 +16,7 @@ pub fn row_in<'a, T: Copy>(
     table: &'a [(&'static str, T)],
     text: &[u8],
 ) -> Option<&'a (&'static str, T)>
-    ensures { option_copied result ≡ find (λ row. told row.0.now text.now) table.now }
+    ensures { option_copied result ≡ find (λ row. bytes_eq row.0.now text.now) table.now }
 {
     table.iter().find(|row| is_text(row.0, text))
 }

@@ -11,7 +11,7 @@ use Rattle.hart.specs.State.{HartView}
 use Rattle.step_machine.specs.History.{HartStart, Start, unrun, FitsIn}
 use Rattle.step_machine.specs.Paths.{opens_as}
 use Rattle.step_machine.specs.inner.Opened.{opened_hart}
-use Rattle.step_machine.specs.inner.Config.{Config, HasAddress, Fit, first_of, opened_config}
+use Rattle.step_machine.specs.inner.Config.{Config, HasAddress, Fit, beginning, opened_config}
 use Rattle.step_machine.specs.inner.Ties.{view_state, Tied}
 use Rattle.memory.specs.declared.writes.Write.{Write}
 
@@ -37,7 +37,7 @@ view_opened : (M : ℕ) (so : Option HartStart) → option_map view_state (optio
 view_opened M None = refl
 view_opened M (Some o) = refl
 
-first_opened : (M : ℕ) (so : Option HartStart) → option_map first_of (option_map (opened_hart M) so) ≡ option_map (opens_as M) so
+first_opened : (M : ℕ) (so : Option HartStart) → option_map beginning (option_map (opened_hart M) so) ≡ option_map (opens_as M) so
 first_opened M None = refl
 first_opened M (Some o) = refl
 
@@ -63,7 +63,7 @@ zeros_after (x ∷ xs) m (suc i) = zeros_after xs m i
 pub tied_opened : (M : ℕ) (o : Start) → Tied M (unrun o) (opened_config M o)
 tied_opened M o = record {
   states = λ h. ap (option_map view_state) (slice_get-map (opened_hart M) o.harts h) ∙ view_opened M (slice_get o.harts h);
-  firsts = λ h. ap (option_map first_of) (slice_get-map (opened_hart M) o.harts h) ∙ first_opened M (slice_get o.harts h);
+  firsts = λ h. ap (option_map beginning) (slice_get-map (opened_hart M) o.harts h) ∙ first_opened M (slice_get o.harts h);
   reports = λ h v is. reports_opened M (slice_get o.harts h) v (sym (slice_get-map (opened_hart M) o.harts h) ∙ is);
   buffers = λ h. none_everywhere (length o.harts) h;
   in_words = All-nil WritesInWord;

@@ -17,7 +17,7 @@ use Rattle.step_machine.specs.Access.{Access, nothing, load, store, exchange, fe
 use Rattle.step_machine.specs.History.{HartStart, Start, History, unrun}
 use Rattle.step_machine.specs.Entries.{hart_of, stored_by, written_by, store_of, stores, lands, pending, write_of, landed_after, landed, opening_byte, memory_byte}
 use Rattle.step_machine.specs.Paths.{opens_as}
-use Rattle.step_machine.specs.inner.Config.{Config, HasAddress, Fit, first_of, put_back_by, put_back, all_put_back, no_stores, restarted_config}
+use Rattle.step_machine.specs.inner.Config.{Config, HasAddress, Fit, beginning, put_back_by, put_back, all_put_back, no_stores, restarted_config}
 use Rattle.step_machine.specs.inner.Ties.{view_state, Tied, Sound}
 use Rattle.step_machine.proofs.Running.{kept-unrun}
 use Rattle.memory.specs.declared.writes.Write.{Write}
@@ -156,11 +156,11 @@ no_stores_anywhere [] h = refl
 no_stores_anywhere (ps ∷ bs) zero = refl
 no_stores_anywhere (ps ∷ bs) (suc h) = no_stores_anywhere bs h
 
-state_again : (so : Option HartView) → option_map view_state (option_map restarted so) ≡ option_map first_of so
+state_again : (so : Option HartView) → option_map view_state (option_map restarted so) ≡ option_map beginning so
 state_again None = refl
 state_again (Some v) = refl
 
-first_again : (so : Option HartView) → option_map first_of (option_map restarted so) ≡ option_map first_of so
+first_again : (so : Option HartView) → option_map beginning (option_map restarted so) ≡ option_map beginning so
 first_again None = refl
 first_again (Some v) = refl
 
@@ -179,7 +179,7 @@ first_words M (Some o) x is = let first_is : x.first ≡ opens_as M o = cc in ap
 -- each hart opened over this memory
 pub firsts_fit : (M : ℕ) (t : History) (c : Config) → Tied M t c → All (λ (v : HartView). v.first.words ≡ M) c.harts
 firsts_fit M t c tied = λ h d within.
-    first_words M (slice_get t.opening.harts h) (get_or c.harts h d) (ap (option_map first_of) (sym (slice_get-get_or c.harts h d within)) ∙ tied.firsts h)
+    first_words M (slice_get t.opening.harts h) (get_or c.harts h d) (ap (option_map beginning) (sym (slice_get-get_or c.harts h d within)) ∙ tied.firsts h)
 
 pub fit_restarted : (M : ℕ) (o : Start) (es : List Entry) (c : Config) → All (λ (v : HartView). v.first.words ≡ M) c.harts → Fit M c → Fit M (restarted_config o es c)
 fit_restarted M o es c firsts fit = record {
@@ -192,7 +192,7 @@ fit_restarted M o es c firsts fit = record {
 pub tied_restarted : (M : ℕ) (t : History) (c : Config) → length c.words ≡ M → Tied M t c → Tied M (unrun t.opening) (restarted_config t.opening t.entries c)
 tied_restarted M t c count tied = record {
   states = λ h. ap (option_map view_state) (slice_get-map restarted c.harts h) ∙ state_again (slice_get c.harts h) ∙ tied.firsts h;
-  firsts = λ h. ap (option_map first_of) (slice_get-map restarted c.harts h) ∙ first_again (slice_get c.harts h) ∙ tied.firsts h;
+  firsts = λ h. ap (option_map beginning) (slice_get-map restarted c.harts h) ∙ first_again (slice_get c.harts h) ∙ tied.firsts h;
   reports = λ h v is. none_reported (slice_get c.harts h) v (sym (slice_get-map restarted c.harts h) ∙ is);
   buffers = λ h. no_stores_anywhere c.buffers h;
   in_words = All-nil WritesInWord;

@@ -7,7 +7,7 @@ use Rattle.std.proofs.lemmas.List.{length-map}
 use Rattle.std.proofs.lemmas.Option.{slice_get_within, get_or_from_slice_get}
 use Rattle.std.proofs.Math.Seq.{map-set_same}
 use Rattle.hart.specs.State.{HartView}
-use Rattle.step_machine.specs.inner.Config.{Config, told, first_of, SameButRoom, AllHaveRoom, roomy, roomy_in, roomy_at}
+use Rattle.step_machine.specs.inner.Config.{Config, without_room, beginning, SameButRoom, AllHaveRoom, roomy, roomy_in, roomy_at}
 use Rattle.step_machine.proofs.Stays.{slice_get-set_same, slice_get-set_other}
 
 pub same_self : (c : Config) → SameButRoom c c
@@ -21,7 +21,7 @@ same_in f same hs h n None is = refl
 same_in f same hs h n (Some v) is = map-set_same f hs h (roomy n v) v (same n v ∙ ap f (sym (get_or_from_slice_get hs h v v is)))
 
 pub same_roomy : (c : Config) (h n : ℕ) → SameButRoom c (record c { harts = roomy_at c.harts h n })
-same_roomy c h n = record { harts = same_in told (λ m v. refl) c.harts h n (slice_get c.harts h) refl; firsts = same_in first_of (λ m v. refl) c.harts h n (slice_get c.harts h) refl; buffers = refl; words = refl }
+same_roomy c h n = record { harts = same_in without_room (λ m v. refl) c.harts h n (slice_get c.harts h) refl; firsts = same_in beginning (λ m v. refl) c.harts h n (slice_get c.harts h) refl; buffers = refl; words = refl }
 
 -- a hart written at h: what a test says of it and of the others
 pub written_at_place : (P : HartView → Type 0) (hs : List HartView) (h k : ℕ) (x v : HartView) → h < length hs → P x → ((w : HartView) → slice_get hs k ≡ Some w → P w) → slice_get (set hs h x) k ≡ Some v → P v
@@ -78,7 +78,7 @@ pub all_have_room : (hs : List HartView) (i n : ℕ) → length hs ≤ i → Roo
 all_have_room hs i n end below h v got = let within : h < length hs = slice_get_within hs h v got in below h v (omega arith) got
 
 pub same-length : (c d : Config) → SameButRoom c d → length d.harts ≡ length c.harts
-same-length c d same = sym (length-map d.harts told) ∙ ap length same.harts ∙ length-map c.harts told
+same-length c d same = sym (length-map d.harts without_room) ∙ ap length same.harts ∙ length-map c.harts without_room
 
 -- whatever the result, all stays but room
 pub same_whichever : {E : Type 0} (c d : Config) (h n : ℕ) (r : Result (Unit {0}) E) → OnOk r (d ≡ record c { harts = roomy_at c.harts h n }) → OnErr r (d ≡ c) → SameButRoom c d

@@ -15,7 +15,7 @@ use Rattle.step_machine.specs.declared.events.Outcome.{Outcome}
 use Rattle.step_machine.specs.declared.events.Outcome.TheVariants as outcome
 use Rattle.step_machine.specs.History.{Start, History, unrun, FitsIn}
 use Rattle.step_machine.specs.Runs.{Happens}
-use Rattle.step_machine.specs.inner.Config.{Config, HasAddress, Fit, AllHaveRoom, SameButRoom, told, step_at, after_entry, after_outcome, entries_after, outcome_of, opened_config}
+use Rattle.step_machine.specs.inner.Config.{Config, HasAddress, Fit, AllHaveRoom, SameButRoom, without_room, step_at, after_entry, after_outcome, entries_after, outcome_of, opened_config}
 use Rattle.step_machine.specs.inner.Ties.{view_state, Tied, Sound}
 use Rattle.step_machine.proofs.Carried.{carried}
 use Rattle.step_machine.proofs.Fitting.{length-step_at}
@@ -28,27 +28,27 @@ use Rattle.memory.specs.declared.writes.Write.{Write}
 
 -- room is no part of what a history says
 
-told_of : (c : Config) (h : ℕ) → option_map told (slice_get c.harts h) ≡ slice_get (map told c.harts) h
-told_of c h = sym (slice_get-map told c.harts h)
+without_room_at : (c : Config) (h : ℕ) → option_map without_room (slice_get c.harts h) ≡ slice_get (map without_room c.harts) h
+without_room_at c h = sym (slice_get-map without_room c.harts h)
 
-told_same : (c d : Config) (h : ℕ) → SameButRoom c d → option_map told (slice_get d.harts h) ≡ option_map told (slice_get c.harts h)
-told_same c d h same = told_of d h ∙ ap (λ (ts : List (HartState × List Report)). slice_get ts h) same.harts ∙ sym (told_of c h)
+same_without_room : (c d : Config) (h : ℕ) → SameButRoom c d → option_map without_room (slice_get d.harts h) ≡ option_map without_room (slice_get c.harts h)
+same_without_room c d h same = without_room_at d h ∙ ap (λ (ts : List (HartState × List Report)). slice_get ts h) same.harts ∙ sym (without_room_at c h)
 
-states_told : (so to : Option HartView) → option_map told so ≡ option_map told to → option_map view_state so ≡ option_map view_state to
-states_told None None is = refl
-states_told None (Some y) is = cc
-states_told (Some x) None is = cc
-states_told (Some x) (Some y) is = let both : told x ≡ told y = cc in ap (λ (p : HartState × List Report). Some p.0) both
+same_states : (so to : Option HartView) → option_map without_room so ≡ option_map without_room to → option_map view_state so ≡ option_map view_state to
+same_states None None is = refl
+same_states None (Some y) is = cc
+same_states (Some x) None is = cc
+same_states (Some x) (Some y) is = let both : without_room x ≡ without_room y = cc in ap (λ (p : HartState × List Report). Some p.0) both
 
-reports_told : (so : Option HartView) (v : HartView) (rs : List Report) → option_map told so ≡ Some (told v) → ((w : HartView) → so ≡ Some w → w.reports ≡ rs) → v.reports ≡ rs
-reports_told None v rs is all = cc
-reports_told (Some x) v rs is all = let both : told x ≡ told v = cc in sym (ap (λ (p : HartState × List Report). p.1) both) ∙ all x refl
+same_reports : (so : Option HartView) (v : HartView) (rs : List Report) → option_map without_room so ≡ Some (without_room v) → ((w : HartView) → so ≡ Some w → w.reports ≡ rs) → v.reports ≡ rs
+same_reports None v rs is all = cc
+same_reports (Some x) v rs is all = let both : without_room x ≡ without_room v = cc in sym (ap (λ (p : HartState × List Report). p.1) both) ∙ all x refl
 
 pub tied_same : (M : ℕ) (t : History) (c d : Config) → Tied M t c → SameButRoom c d → Tied M t d
 tied_same M t c d tied same = record {
-  states = λ h. states_told (slice_get d.harts h) (slice_get c.harts h) (told_same c d h same) ∙ tied.states h;
+  states = λ h. same_states (slice_get d.harts h) (slice_get c.harts h) (same_without_room c d h same) ∙ tied.states h;
   firsts = λ h. first_same c.harts d.harts h same.firsts ∙ tied.firsts h;
-  reports = λ h v is. reports_told (slice_get c.harts h) v _ (sym (told_same c d h same) ∙ ap (option_map told) is) (tied.reports h);
+  reports = λ h v is. same_reports (slice_get c.harts h) v _ (sym (same_without_room c d h same) ∙ ap (option_map without_room) is) (tied.reports h);
   buffers = λ h. ap (λ (bs : List (List Write)). get_or bs h []) same.buffers ∙ tied.buffers h;
   in_words = tied.in_words;
   bytes = λ a is. ap (λ (ws : List ℕ). byte_of ws a) same.words ∙ tied.bytes a is;
@@ -110,16 +110,16 @@ sound_opened B M o fits = record {
 words_of : (M : ℕ) (c : Config) → Fit M c → (h : ℕ) (v : HartView) → slice_get c.harts h ≡ Some v → v.state.words ≡ M
 words_of M c fit h v is = subst (λ (y : HartView). y.state.words ≡ M) (get_or_from_slice_get c.harts h v v is) (fit.harts h v (slice_get_within c.harts h v is))
 
-words_told : (M : ℕ) (so : Option HartView) (v : HartView) → option_map told so ≡ Some (told v) → ((w : HartView) → so ≡ Some w → w.state.words ≡ M) → v.state.words ≡ M
-words_told M None v is all = cc
-words_told M (Some x) v is all = let both : told x ≡ told v = cc in sym (ap (λ (p : HartState × List Report). p.0.words) both) ∙ all x refl
+same_words : (M : ℕ) (so : Option HartView) (v : HartView) → option_map without_room so ≡ Some (without_room v) → ((w : HartView) → so ≡ Some w → w.state.words ≡ M) → v.state.words ≡ M
+same_words M None v is all = cc
+same_words M (Some x) v is all = let both : without_room x ≡ without_room v = cc in sym (ap (λ (p : HartState × List Report). p.0.words) both) ∙ all x refl
 
 pub fit_same : (M : ℕ) (c d : Config) → Fit M c → SameButRoom c d → Fit M d
 fit_same M c d fit same = record {
   buffers = ap length same.buffers ∙ fit.buffers ∙ sym (same-length c d same);
   words = ap length same.words ∙ fit.words;
   harts = λ h x lt. (let here : slice_get d.harts h ≡ Some (get_or d.harts h x) = slice_get-get_or d.harts h x lt in
-      words_told M (slice_get c.harts h) (get_or d.harts h x) (sym (told_same c d h same) ∙ ap (option_map told) here) (words_of M c fit h));
+      same_words M (slice_get c.harts h) (get_or d.harts h x) (sym (same_without_room c d h same) ∙ ap (option_map without_room) here) (words_of M c fit h));
   pending = subst (λ (bs : List (List Write)). All (λ (ps : List Write). All (HasAddress M) ps) bs) (sym same.buffers) fit.pending;
 }
 

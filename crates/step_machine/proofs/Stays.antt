@@ -22,7 +22,7 @@ use Rattle.step_machine.specs.History.{Start, History, with_entry}
 use Rattle.step_machine.specs.Entries.{hart_of, is_land, is_own, store_of, land_of, report_of, reported, pending, write_of, landed, opening_byte, memory_byte, memory_word}
 use Rattle.step_machine.specs.Paths.{entry_of, value_of, opens_as, state_of}
 use Rattle.step_machine.specs.Legal.{Legal}
-use Rattle.step_machine.specs.inner.Config.{Config, HasAddress, first_of, written, step_at, step_hart}
+use Rattle.step_machine.specs.inner.Config.{Config, HasAddress, beginning, written, step_at, step_hart}
 use Rattle.step_machine.specs.inner.Ties.{view_state, Tied}
 use Rattle.memory.proofs.Newest.{newest_of-append}
 use Rattle.step_machine.proofs.Appended.{pending-last, landed-last, reported-last}
@@ -88,19 +88,19 @@ states_land M t h k = state_of-other M t k (entry.Land h) (own_is h k (entry.Lan
 
 -- where the harts opened
 
-first_at : (hs : List HartView) (h : ℕ) → option_map first_of (slice_get hs h) ≡ slice_get (map first_of hs) h
-first_at hs h = sym (slice_get-map first_of hs h)
+first_at : (hs : List HartView) (h : ℕ) → option_map beginning (slice_get hs h) ≡ slice_get (map beginning hs) h
+first_at hs h = sym (slice_get-map beginning hs h)
 
 -- harts with the same openings, one by one
-pub first_same : (hs gs : List HartView) (h : ℕ) → map first_of gs ≡ map first_of hs → option_map first_of (slice_get gs h) ≡ option_map first_of (slice_get hs h)
+pub first_same : (hs gs : List HartView) (h : ℕ) → map beginning gs ≡ map beginning hs → option_map beginning (slice_get gs h) ≡ option_map beginning (slice_get hs h)
 first_same hs gs h same = first_at gs h ∙ ap (λ (ss : List HartState). slice_get ss h) same ∙ sym (first_at hs h)
 
-firsts_step_at : (hs : List HartView) (h v : ℕ) (so : Option HartView) → slice_get hs h ≡ so → map first_of (step_at hs h v so) ≡ map first_of hs
+firsts_step_at : (hs : List HartView) (h v : ℕ) (so : Option HartView) → slice_get hs h ≡ so → map beginning (step_at hs h v so) ≡ map beginning hs
 firsts_step_at hs h v None is = refl
-firsts_step_at hs h v (Some x) is = map-set_same first_of hs h (stepped x v) x (ap first_of (sym (get_or_from_slice_get hs h x x is)))
+firsts_step_at hs h v (Some x) is = map-set_same beginning hs h (stepped x v) x (ap beginning (sym (get_or_from_slice_get hs h x x is)))
 
 -- a step leaves where each hart opened
-pub firsts_stay : (M : ℕ) (t : History) (c : Config) (h v : ℕ) → Tied M t c → (k : ℕ) → option_map first_of (slice_get (step_hart c h v) k) ≡ option_map (opens_as M) (slice_get t.opening.harts k)
+pub firsts_stay : (M : ℕ) (t : History) (c : Config) (h v : ℕ) → Tied M t c → (k : ℕ) → option_map beginning (slice_get (step_hart c h v) k) ≡ option_map (opens_as M) (slice_get t.opening.harts k)
 firsts_stay M t c h v tied k = first_same c.harts (step_hart c h v) k (firsts_step_at c.harts h v (slice_get c.harts h) refl) ∙ tied.firsts k
 
 -- reports

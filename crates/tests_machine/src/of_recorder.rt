@@ -40,8 +40,8 @@ fn refusals_have_their_texts(rt: HostRuntime) -> Result<(), Fail> {
         fault: ScheduleFault::BadHart,
         place: 16,
     });
-    let told = refused.to_string(rt.alloc())?;
-    assert_eq!(rt; told.as_str(), "bad hart at byte 16");
+    let text = refused.to_string(rt.alloc())?;
+    assert_eq!(rt; text.as_str(), "bad hart at byte 16");
     assert_eq!(rt; ScheduleFault::BadHart.number(), 29);
     Ok(())
 }

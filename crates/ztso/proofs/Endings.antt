@@ -8,17 +8,17 @@ use Rattle.ztso_engines.specs.Engines.{Ends}
 use Rattle.ztso_engines.specs.Talks.{EndsAloud}
 use Rattle.ztso.specs.Work.{WithStatus, ended_with}
 
-told : {V W : Type 0} (status : V → ℕ) (IsAnswer : Result (List ℕ × V) Refusal → Type 0) (r : Result V Fault) (contents : W → Option (List ℕ)) (old new : W)
+answered : {V W : Type 0} (status : V → ℕ) (IsAnswer : Result (List ℕ × V) Refusal → Type 0) (r : Result V Fault) (contents : W → Option (List ℕ)) (old new : W)
     → Ends IsAnswer r contents old new → Ends (WithStatus status IsAnswer) (ended_with status r) contents old new
-told status IsAnswer (Ok v) contents old new (out, answers, appends) = (out, (v, refl, answers), appends)
-told status IsAnswer (Err (Refused refusal)) contents old new h = h
-told status IsAnswer (Err ReadFailed) contents old new h = h
-told status IsAnswer (Err NoMemory) contents old new h = h
-told status IsAnswer (Err WriteFailed) contents old new (answer, is) = ((answer.0, status answer.1), (answer.1, refl, is))
+answered status IsAnswer (Ok v) contents old new (out, answers, appends) = (out, (v, refl, answers), appends)
+answered status IsAnswer (Err (Refused refusal)) contents old new h = h
+answered status IsAnswer (Err ReadFailed) contents old new h = h
+answered status IsAnswer (Err NoMemory) contents old new h = h
+answered status IsAnswer (Err WriteFailed) contents old new (answer, is) = ((answer.0, status answer.1), (answer.1, refl, is))
 
 pub ends_told : {V W : Type 0} (status : V → ℕ) (IsAnswer : Result (List ℕ × V) Refusal → Type 0) (r : Result V Fault) (contents : W → Option (List ℕ)) (old new : W)
     → Ends IsAnswer r contents old new → (s : Result ℕ Fault) → s ≡ ended_with status r → Ends (WithStatus status IsAnswer) s contents old new
-ends_told status IsAnswer r contents old new h s is = rw is (told status IsAnswer r contents old new h)
+ends_told status IsAnswer r contents old new h s is = rw is (answered status IsAnswer r contents old new h)
 
 told_aloud : {V W : Type 0} (status : V → ℕ) (IsAnswer : Result (List ℕ × V) Refusal → Type 0) (r : Result V Fault) (contents : W → Option (List ℕ)) (old new : W)
     → EndsAloud IsAnswer r contents old new → EndsAloud (WithStatus status IsAnswer) (ended_with status r) contents old new

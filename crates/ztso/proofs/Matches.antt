@@ -9,7 +9,7 @@ use Rattle.clap.proofs.OnLiterals.{clap_on_literals}
 use Rattle.ztso.specs.CommandLines.{Answers, job_in, job_said, job_without}
 use Rattle.ztso.specs.Descriptions.{ztso_command}
 use Rattle.ztso.specs.Jobs.{wanted_by}
-use Rattle.ztso.specs.Failures.{IsToldAs}
+use Rattle.ztso.specs.Failures.{IsFailureFor}
 use Rattle.ztso.specs.declared.failure.Failure.{Failure}
 use Rattle.ztso.specs.declared.failure.Failure.TheVariants.{BadCommandLine}
 use Rattle.ztso.specs.declared.job.Job.{Job}
@@ -24,7 +24,7 @@ unfolding clap_on_literals
 is_free_ztso = refl
 
 failed : (kinds : Kinds) (found : Option (Text × List Row)) (error : Error) → HasKind kinds error
-    → (r : Result Job Failure) → IsErrAnd r (IsToldAs (kind_of error ≡ OutOfMemory)) → Answers (job_without kinds found) r
+    → (r : Result Job Failure) → IsErrAnd r (IsFailureFor (kind_of error ≡ OutOfMemory)) → Answers (job_without kinds found) r
 failed kinds found error has (Ok job) told = absurd told
 failed kinds found error has (Err failure) (inl memory) = inl memory.1
 failed kinds found error (inl memory) (Err failure) (inr other) = absurd (other.0 memory)
@@ -33,7 +33,7 @@ failed (kind ∷ kinds) found error (inr among) (Err failure) (inr other) = inr 
 
 -- a parse that fails is told as its kind wants
 pub answers_failed : (words : List Text) (error : Error) → HasKind (fault_of ztso_command words) error
-    → (r : Result Job Failure) → IsErrAnd r (IsToldAs (kind_of error ≡ OutOfMemory)) → Answers (job_said words) r
+    → (r : Result Job Failure) → IsErrAnd r (IsFailureFor (kind_of error ≡ OutOfMemory)) → Answers (job_said words) r
 unfolding job_said
 answers_failed words = failed (fault_of ztso_command words) (subcommand_of ztso_command words)
 

@@ -52,17 +52,17 @@ text_says Two = refl
 text_says Four = refl
 text_says Sixteen = refl
 
-record WithStatus (capacity : Capacity) (options : List Text) : Type 0 where
+record CapacitySpelled (capacity : Capacity) (options : List Text) : Type 0 where
   tail : Tail
   text : Text
   is : options ≡ map text_in (tail_of tail text)
   says : capacity_at tail text ≡ Some capacity
   are : ArePlain (tail_of tail text)
 
-told : (capacity : Capacity) (options : List Text) → AsksFor capacity options → WithStatus capacity options
-told capacity options (inl default) = record { tail = none; text = []; is = default.0; says = ap (λ (c : Capacity). Some c) (sym default.1); are = tt }
-told capacity options (inr (inl is)) = record { tail = blank; text = text_of capacity; is = is; says = text_says capacity; are = (text_is_word capacity, tt) }
-told capacity options (inr (inr is)) = record { tail = equals; text = text_of capacity; is = is; says = text_says capacity; are = tt }
+capacity_spelled : (capacity : Capacity) (options : List Text) → AsksFor capacity options → CapacitySpelled capacity options
+capacity_spelled capacity options (inl default) = record { tail = none; text = []; is = default.0; says = ap (λ (c : Capacity). Some c) (sym default.1); are = tt }
+capacity_spelled capacity options (inr (inl is)) = record { tail = blank; text = text_of capacity; is = is; says = text_says capacity; are = (text_is_word capacity, tt) }
+capacity_spelled capacity options (inr (inr is)) = record { tail = equals; text = text_of capacity; is = is; says = text_says capacity; are = tt }
 
 abbrev machine_of : Option Capacity → Option Work → Option Task
 machine_of found work = work >>= (λ w. found >>= (λ capacity. Some (Alone (Machine w capacity))))
@@ -146,7 +146,7 @@ on_files_says work file schedule capacity found a = rw a refl
 of_files : (name : Text) (rest : List Text) (command : OnFiles) (capacity : Capacity) (wanted : Wanted)
     → IsOnFiles (command_of command) (work_of command) capacity wanted rest → job_said (name ∷ rest) ≡ Some wanted
 of_files name rest command capacity wanted (file, schedule, options, is, f, s, asks, wants) =
-    let to = told capacity options asks in
+    let to = capacity_spelled capacity options asks in
     by_pieces name (command_of command) (plain file ∷ plain schedule ∷ tail_of to.tail to.text) rest wanted (on_files_is_command command) (f, (s, to.are))
     (is ∙ ap (λ (o : List Text). command_of command ∷ file ∷ schedule ∷ o) to.is)
     (on_files_told command file schedule to.tail to.text ∙ on_files_says (work_of command) file schedule capacity _ to.says ∙ ap (λ (w : Wanted). Some w) (sym wants))
@@ -268,12 +268,12 @@ most_turns = refl
 of_threads : (name file : Text) (turns : ℕ) (capacity : Capacity) (first options : List Text) → IsWord file → AsksForTurns turns first → AsksFor capacity options
     → job_said (name ∷ codes "threads" ∷ file ∷ (first ++ options)) ≡ Some (one_input (Threads turns capacity) (File file))
 of_threads name file turns capacity first options f (inl silent) asks =
-    let to = told capacity options asks in
+    let to = capacity_spelled capacity options asks in
     by_pieces name (codes "threads") (plain file ∷ tail_of to.tail to.text) _ _ threads_is_command (f, to.are)
     (ap₂ (λ (a b : List Text). codes "threads" ∷ file ∷ (a ++ b)) silent.0 to.is)
     (threads_told file to.tail to.text ∙ threaded_says file turns capacity _ _ (most_turns ∙ ap (λ (k : ℕ). Some k) (sym silent.1)) to.says)
 of_threads name file turns capacity first options f (inr (number, is, says)) asks =
-    let to = told capacity options asks in
+    let to = capacity_spelled capacity options asks in
     by_pieces name (codes "threads") (plain file ∷ other (codes "--turns") ∷ plain number ∷ tail_of to.tail to.text) _ _ threads_is_command (f, (says.0, to.are))
     (ap₂ (λ (a b : List Text). codes "threads" ∷ file ∷ (a ++ b)) is to.is)
     (threads_counted file number to.tail to.text ∙ threaded_says file turns capacity _ _ says.1 to.says)
@@ -284,19 +284,19 @@ spelled_of : (name : Text) (rest : List Text) (task : Task) (wanted : Wanted) �
 spelled_of name rest (Alone Asm) wanted (is, wants) = ap (λ (words : List Text). job_said (name ∷ words)) is ∙ of_asm name ∙ ap (λ (w : Wanted). Some w) (sym wants)
 spelled_of name rest (Alone Dis) wanted (is, wants) = ap (λ (words : List Text). job_said (name ∷ words)) is ∙ of_dis name ∙ ap (λ (w : Wanted). Some w) (sym wants)
 spelled_of name rest (Alone (Machine Steps capacity)) wanted (options, is, asks, wants) =
-    let to = told capacity options asks in
+    let to = capacity_spelled capacity options asks in
     by_pieces name (codes "steps") (tail_of to.tail to.text) rest wanted steps_is_command to.are (is ∙ ap (λ (o : List Text). codes "steps" ∷ o) to.is)
     (steps_told to.tail to.text ∙ steps_says capacity _ to.says ∙ ap (λ (w : Wanted). Some w) (sym wants))
 spelled_of name rest (Alone (Machine Run capacity)) wanted spelling = of_files name rest running capacity wanted spelling
 spelled_of name rest (Alone (Machine Replay capacity)) wanted spelling = of_files name rest replaying capacity wanted spelling
 spelled_of name rest (Alone (Machine Debug capacity)) wanted spelling = of_files name rest debugging capacity wanted spelling
 spelled_of name rest (Alone (Machine (Try seed runs events) capacity)) wanted (file, s, n, l, options, is, f, seed_is, runs_is, events_is, asks, wants) =
-    let to = told capacity options asks in
+    let to = capacity_spelled capacity options asks in
     by_pieces name (codes "try") (try_pieces file s n l (tail_of to.tail to.text)) rest wanted try_is_command (f, (seed_is.0, (runs_is.0, (events_is.0, to.are))))
     (is ∙ ap (λ (o : List Text). codes "try" ∷ file ∷ codes "--seed" ∷ s ∷ codes "--runs" ∷ n ∷ codes "--length" ∷ l ∷ o) to.is)
     (try_told file s n l to.tail to.text ∙ tried_says file s n l seed runs events capacity _ seed_is.1 runs_is.1 events_is.1 to.says ∙ ap (λ (w : Wanted). Some w) (sym wants))
 spelled_of name rest (Alone (Machine (Channel ring slots finish) capacity)) wanted (number, schedule, first, options, is, slots_are, s, finishes, asks, wants) =
-    let to = told capacity options asks in
+    let to = capacity_spelled capacity options asks in
     let tail = tail_of to.tail to.text in
     by_pieces name (codes "channel") (channel_pieces (name_of ring) number schedule (finish_pieces finish tail)) rest wanted channel_is_command (kind_is_word ring, (slots_are.0, (s, finish_plain finish tail to.are)))
     (is ∙ ap (λ (o : List Text). codes "channel" ∷ name_of ring ∷ number ∷ schedule ∷ o) (finish_texts finish first options tail finishes to.is))

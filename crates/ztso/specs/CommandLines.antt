@@ -2,6 +2,7 @@
 use Rattle.std.specs.Prelude.{◌≡◌, ◌⊎◌, Bool, List, [], ◌∷◌, Option, Some, None, Result, Ok, Err, codes, if◌then◌else◌, option_and_then}
 use Rattle.std.specs.Str.{bytes_eq}
 use Rattle.clap.specs.Words.{Kinds, Row, Text, fault_of, first_of, subcommand_of}
+use Rattle.recorder.specs.declared.reading.TheConstants.{MAX_EVENTS}
 use Rattle.ztso_engines.specs.declared.fault.Fault.TheVariants.{NoMemory}
 use Rattle.ztso.specs.declared.failure.Failure.{Failure}
 use Rattle.ztso.specs.declared.failure.Failure.TheVariants.{BadCommandLine, Engine}
@@ -39,7 +40,7 @@ try_in options = do
   runs_text ← first_of (codes "runs") options
   runs ← number_within 1 100000 runs_text
   length_text ← first_of (codes "length") options
-  events ← number_within 0 1048576 length_text
+  events ← number_within 0 MAX_EVENTS length_text
   Some (Try seed runs events)
 
 abbrev pub ring_said : Text → Option Ring

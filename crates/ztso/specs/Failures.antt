@@ -11,6 +11,6 @@ status_of BadCommandLine = 2
 status_of (Engine fault) = fault_status_of fault
 
 -- want of memory is told as such, and every other error as a bad command line
-abbrev pub IsToldAs : Type 0 → Failure → Type 0
-IsToldAs WantOfMemory failure = (WantOfMemory × (failure ≡ Engine NoMemory))
+abbrev pub IsFailureFor : Type 0 → Failure → Type 0
+IsFailureFor WantOfMemory failure = (WantOfMemory × (failure ≡ Engine NoMemory))
     ⊎ ((WantOfMemory → ⊥) × (failure ≡ BadCommandLine))

@@ -10,6 +10,7 @@ use Rattle.ztso.specs.declared.job.Errand.TheVariants.{Asm, Dis, Machine}
 use Rattle.ztso.specs.declared.job.Task.TheVariants.{Alone, Threads}
 use Rattle.ztso.specs.declared.job.Work.{Work}
 use Rattle.ztso.specs.declared.job.Work.TheVariants.{Steps, Run, Replay, Debug, Try, Channel}
+use Rattle.recorder.specs.declared.reading.TheConstants.{MAX_EVENTS}
 use Rattle.ztso.specs.Jobs.{Wanted, one_input, two_inputs}
 use Rattle.ztso.specs.Jobs.Input.{Standard, File}
 use Rattle.ztso.specs.Numbers.{number_within}
@@ -75,7 +76,7 @@ IsSpellingOf (Alone (Machine Debug capacity)) wanted words = IsOnFiles (codes "d
 IsSpellingOf (Alone (Machine (Try seed runs events) capacity)) wanted words =
     (file s n l : Text) × (options : List Text)
     × (words ≡ codes "try" ∷ file ∷ codes "--seed" ∷ s ∷ codes "--runs" ∷ n ∷ codes "--length" ∷ l ∷ options)
-    × IsWord file × SaysNumber 0 18446744073709551615 seed s × SaysNumber 1 100000 runs n × SaysNumber 0 1048576 events l
+    × IsWord file × SaysNumber 0 18446744073709551615 seed s × SaysNumber 1 100000 runs n × SaysNumber 0 MAX_EVENTS events l
     × AsksFor capacity options × (wanted ≡ one_input (Alone (Machine (Try seed runs events) capacity)) (File file))
 IsSpellingOf (Alone (Machine (Channel ring slots finish) capacity)) wanted words =
     (said schedule : Text) × (first options : List Text) × (words ≡ codes "channel" ∷ name_of ring ∷ said ∷ schedule ∷ (first ++ options))

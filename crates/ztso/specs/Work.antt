@@ -31,6 +31,7 @@ use Rattle.ztso.specs.declared.job.Errand.{Errand}
 use Rattle.ztso.specs.declared.job.Errand.TheVariants.{Asm, Dis, Machine}
 use Rattle.ztso.specs.declared.job.Work.{Work}
 use Rattle.ztso.specs.declared.job.Work.TheVariants.{Steps, Run, Replay, Debug, Try, Channel}
+use Rattle.ztso.specs.declared.work.TheConstants.{WORDS}
 
 -- how many stores a buffer of this capacity holds
 abbrev pub stores_of : Capacity → ℕ
@@ -93,12 +94,12 @@ WithStatusByBoth status IsAnswer given = WithStatus status (AnswersBoth IsAnswer
 
 -- The table of work with a machine, over buffers of B stores and a memory of 4,096 words.
 abbrev pub IsAnswerOf : (B : ℕ) → Work → Given → Answer → Type 0
-IsAnswerOf B Steps given = WithStatusBy done_status (IsStepsAnswer B 4096) given
-IsAnswerOf B Run given = WithStatusByBoth verdict_status (IsRunAnswer B 4096) given
-IsAnswerOf B Replay given = WithStatusByBoth done_status (IsReplayAnswer B 4096) given
-IsAnswerOf B Debug given = WithStatusByBoth done_status (IsDebugAnswer B 4096 given.commands) given
-IsAnswerOf B (Try seed runs size) given = WithStatusBy tried_status (IsTryAnswer B 4096 (drawn_from seed) runs size) given
-IsAnswerOf B (Channel ring slots finish) given = WithStatusByBoth done_status (IsChannelAnswer (tables_of ring) B 4096 slots finish) given
+IsAnswerOf B Steps given = WithStatusBy done_status (IsStepsAnswer B WORDS) given
+IsAnswerOf B Run given = WithStatusByBoth verdict_status (IsRunAnswer B WORDS) given
+IsAnswerOf B Replay given = WithStatusByBoth done_status (IsReplayAnswer B WORDS) given
+IsAnswerOf B Debug given = WithStatusByBoth done_status (IsDebugAnswer B WORDS given.commands) given
+IsAnswerOf B (Try seed runs size) given = WithStatusBy tried_status (IsTryAnswer B WORDS (drawn_from seed) runs size) given
+IsAnswerOf B (Channel ring slots finish) given = WithStatusByBoth done_status (IsChannelAnswer (tables_of ring) B WORDS slots finish) given
 
 -- What was written and the exit status answer the inputs, or the refusal does and nothing was written.
 -- Where a read failed or memory ran out nothing was written; where a write failed nothing is said of it.
@@ -118,7 +119,7 @@ DoesErrand (Machine work capacity) result given contents old new = DoesWork (sto
 
 -- the same of a run of a litmus test on threads, with buffers of this capacity, by the file that was read
 abbrev pub DoesThreads : {W : Type 0} → Capacity → Result ℕ Fault → (file : Option (List ℕ)) → (contents : W → Option (List ℕ)) → (old new : W) → Type 0
-DoesThreads capacity result file contents old new = Ends (WithStatus verdict_status (λ answer. OfInput file (λ bytes. IsThreadsAnswer (stores_of capacity) 4096 bytes answer))) result contents old new
+DoesThreads capacity result file contents old new = Ends (WithStatus verdict_status (λ answer. OfInput file (λ bytes. IsThreadsAnswer (stores_of capacity) WORDS bytes answer))) result contents old new
 
 -- ---- what is left unread
 

@@ -12,6 +12,7 @@ use crate::job::{Capacity, Errand, Input, Job, Ring, Task, Work};
 use clap::ArgMatches;
 use description::ztso_command;
 use numbers::{count_of, seed_of};
+use recorder::MAX_EVENTS;
 use std::alloc::Global;
 use std::convert::AsStr;
 
@@ -20,9 +21,6 @@ mod numbers;
 
 /// The most schedules that `try` draws.
 const MOST_RUNS: u32 = 100_000;
-
-/// The most events of a schedule that `try` draws.
-const MOST_EVENTS: u32 = 1_048_576;
 
 /// The most calls that a thread of `threads` makes.
 const MOST_TURNS: u32 = 10_000_000;
@@ -149,7 +147,7 @@ fn try_in(options: &ArgMatches<'_>) -> Option<Work>
 {
     let seed = seed_of(word_in(options, "seed")?)?;
     let runs = count_of(word_in(options, "runs")?, 1, MOST_RUNS)?;
-    let length = count_of(word_in(options, "length")?, 0, MOST_EVENTS)?;
+    let length = count_of(word_in(options, "length")?, 0, MAX_EVENTS as u32)?;
     Some(Work::Try { seed, runs, length })
 }
 

@@ -5,7 +5,7 @@ ghost use Rattle.clap.specs.Words.{kind_of};
 ghost use Rattle.clap.specs.declared.error.kind.ErrorKind.TheVariants as kind;
 ghost use Rattle.std.specs.IoError.{error_kind};
 ghost use Rattle.std.specs.declared.io.ErrorKind.TheVariants as io_kind;
-ghost use Rattle.ztso.specs.Failures.{IsToldAs, status_of};
+ghost use Rattle.ztso.specs.Failures.{IsFailureFor, status_of};
 ghost use Rattle.ztso.specs.declared.failure.Failure.TheVariants.{Engine};
 ghost use Rattle.ztso_engines.specs.declared.fault.Fault.TheVariants.{NoMemory};
 
@@ -56,7 +56,7 @@ impl From<Fault> for Failure {
 }
 
 impl From<clap::Error> for Failure {
-    ghost from_gives = { λ error failure. IsToldAs (kind_of error ≡ kind.OutOfMemory) failure };
+    ghost from_gives = { λ error failure. IsFailureFor (kind_of error ≡ kind.OutOfMemory) failure };
 
     fn from(error: clap::Error) -> Failure {
         match error.kind() {
@@ -69,7 +69,7 @@ impl From<clap::Error> for Failure {
 impl Failure {
     /// The failure to read the arguments at all: one of them is no text, or there is no memory.
     pub fn of_arguments(error: io::Error) -> Failure
-        ensures { IsToldAs (error_kind error ≡ io_kind.OutOfMemory) result }
+        ensures { IsFailureFor (error_kind error ≡ io_kind.OutOfMemory) result }
     {
         if error.kind() == io::ErrorKind::OutOfMemory {
             Failure::Engine(Fault::NoMemory)

@@ -1,6 +1,7 @@
 //! Which engine does a job.
 
 ghost use Rattle.std.specs.Prelude.{◌≡◌, ◌≤◌};
+ghost use Rattle.ztso.specs.declared.work.TheConstants.{WORDS};
 ghost use Rattle.ztso.specs.Work.{DoesErrand, DoesThreads, DoesWork, Given, LeavesSecond, LeavesSecondOf, WithStatus, done_status, drawn_from, ended_with, tables_of, tried_status, verdict_status};
 ghost use Rattle.ztso_engines.specs.Asm.{IsAsmAnswer};
 ghost use Rattle.ztso_engines.specs.Channels.{IsChannelAnswer};
@@ -37,7 +38,7 @@ use ztso_engines::threads::threads_engine;
 use ztso_engines::trials::try_engine;
 
 /// The words of the program's memory.
-const WORDS: usize = 4096;
+pub const WORDS: usize = 4096;
 
 /// The exit status after a verdict.
 fn after_run(ended: Result<Verdict, Fault>) -> Result<u8, Fault>
@@ -91,7 +92,7 @@ fn run_steps<const B: usize, R: Read, W: Write>(
 ) -> Result<u8, Fault>
     requires some_capacity { 1 ≤ B }
     requires capacity { B ≤ 64 }
-    ensures { Ends (WithStatus done_status (λ answer. OfInput (R.remaining reader.old) (λ bytes. IsStepsAnswer B 4096 bytes answer))) result W.contents writer.old writer.new }
+    ensures { Ends (WithStatus done_status (λ answer. OfInput (R.remaining reader.old) (λ bytes. IsStepsAnswer B WORDS bytes answer))) result W.contents writer.old writer.new }
 {
     after(steps_engine::<B, WORDS, _, _>(alloc, reader, writer))
 }
@@ -105,7 +106,7 @@ fn run_test<const B: usize, F: Read, S: Read, W: Write>(
 ) -> Result<u8, Fault>
     requires some_capacity { 1 ≤ B }
     requires capacity { B ≤ 64 }
-    ensures ends { Ends (WithStatus verdict_status (AnswersBoth (IsRunAnswer B 4096) (F.remaining file.old) (S.remaining schedule.old))) result W.contents writer.old writer.new }
+    ensures ends { Ends (WithStatus verdict_status (AnswersBoth (IsRunAnswer B WORDS) (F.remaining file.old) (S.remaining schedule.old))) result W.contents writer.old writer.new }
     ensures unread { HasNoTest (F.remaining file.old) → schedule.new ≡ schedule.old }
 {
     after_run(run_engine::<B, WORDS, _, _, _>(alloc, file, schedule, writer))
@@ -120,7 +121,7 @@ fn replay_test<const B: usize, F: Read, S: Read, W: Write>(
 ) -> Result<u8, Fault>
     requires some_capacity { 1 ≤ B }
     requires capacity { B ≤ 64 }
-    ensures ends { Ends (WithStatus done_status (AnswersBoth (IsReplayAnswer B 4096) (F.remaining file.old) (S.remaining schedule.old))) result W.contents writer.old writer.new }
+    ensures ends { Ends (WithStatus done_status (AnswersBoth (IsReplayAnswer B WORDS) (F.remaining file.old) (S.remaining schedule.old))) result W.contents writer.old writer.new }
     ensures unread { HasNoTest (F.remaining file.old) → schedule.new ≡ schedule.old }
 {
     after(replay_engine::<B, WORDS, _, _, _>(alloc, file, schedule, writer))
@@ -136,7 +137,7 @@ fn debug<const B: usize, F: Read, S: Read, C: Read, W: Write>(
 ) -> Result<(), Fault>
     requires some_capacity { 1 ≤ B }
     requires capacity { B ≤ 64 }
-    ensures ends { EndsAloud (AnswersBoth (IsDebugAnswer B 4096 (C.remaining commands.old)) (F.remaining file.old) (S.remaining schedule.old)) result W.contents writer.old writer.new }
+    ensures ends { EndsAloud (AnswersBoth (IsDebugAnswer B WORDS (C.remaining commands.old)) (F.remaining file.old) (S.remaining schedule.old)) result W.contents writer.old writer.new }
     ensures unread { HasNoTest (F.remaining file.old) → schedule.new ≡ schedule.old }
 {
     let Ok(mut commands) = BufReader::new(alloc, commands) else {
@@ -155,7 +156,7 @@ fn debug_test<const B: usize, F: Read, S: Read, C: Read, W: Write>(
 ) -> Result<u8, Fault>
     requires some_capacity { 1 ≤ B }
     requires capacity { B ≤ 64 }
-    ensures ends { EndsAloud (WithStatus done_status (AnswersBoth (IsDebugAnswer B 4096 (C.remaining commands.old)) (F.remaining file.old) (S.remaining schedule.old))) result W.contents writer.old writer.new }
+    ensures ends { EndsAloud (WithStatus done_status (AnswersBoth (IsDebugAnswer B WORDS (C.remaining commands.old)) (F.remaining file.old) (S.remaining schedule.old))) result W.contents writer.old writer.new }
     ensures unread { HasNoTest (F.remaining file.old) → schedule.new ≡ schedule.old }
 {
     after(debug::<B, F, S, C, W>(alloc, file, schedule, commands, writer))
@@ -172,7 +173,7 @@ fn try_drawn<const B: usize, F: Read, W: Write>(
 ) -> Result<bool, Fault>
     requires some_capacity { 1 ≤ B }
     requires capacity { B ≤ 64 }
-    ensures { EndsBy (IsTryAnswer B 4096 (drawn_from seed) runs length) result (F.remaining file.old) W.contents writer.old writer.new }
+    ensures { EndsBy (IsTryAnswer B WORDS (drawn_from seed) runs length) result (F.remaining file.old) W.contents writer.old writer.new }
 {
     let mut generator = Lcg64Xsh32::seed_from_u64(seed);
     try_engine::<B, WORDS, _, _, _>(alloc, file, &mut generator, runs, length, writer)
@@ -189,7 +190,7 @@ fn try_test<const B: usize, F: Read, W: Write>(
 ) -> Result<u8, Fault>
     requires some_capacity { 1 ≤ B }
     requires capacity { B ≤ 64 }
-    ensures { Ends (WithStatus tried_status (λ answer. OfInput (F.remaining file.old) (λ bytes. IsTryAnswer B 4096 (drawn_from seed) runs length bytes answer))) result W.contents writer.old writer.new }
+    ensures { Ends (WithStatus tried_status (λ answer. OfInput (F.remaining file.old) (λ bytes. IsTryAnswer B WORDS (drawn_from seed) runs length bytes answer))) result W.contents writer.old writer.new }
 {
     after_try(try_drawn::<B, _, _>(alloc, seed, runs, length, file, writer))
 }
@@ -207,7 +208,7 @@ fn run_rings<const B: usize, S: Read, L: Read, W: Write>(
 ) -> Result<(), Fault>
     requires some_capacity { 1 ≤ B }
     requires capacity { B ≤ 64 }
-    ensures ends { EndsByBoth (IsChannelAnswer (tables_of ring) B 4096 slots finish) result (S.remaining schedule.old) (L.remaining lists.old) W.contents writer.old writer.new }
+    ensures ends { EndsByBoth (IsChannelAnswer (tables_of ring) B WORDS slots finish) result (S.remaining schedule.old) (L.remaining lists.old) W.contents writer.old writer.new }
     ensures unread { HasNoSchedule (S.remaining schedule.old) → lists.new ≡ lists.old }
 {
     match ring {
@@ -232,7 +233,7 @@ fn run_channel<const B: usize, S: Read, L: Read, W: Write>(
 ) -> Result<u8, Fault>
     requires some_capacity { 1 ≤ B }
     requires capacity { B ≤ 64 }
-    ensures ends { Ends (WithStatus done_status (AnswersBoth (IsChannelAnswer (tables_of ring) B 4096 slots finish) (S.remaining schedule.old) (L.remaining lists.old))) result W.contents writer.old writer.new }
+    ensures ends { Ends (WithStatus done_status (AnswersBoth (IsChannelAnswer (tables_of ring) B WORDS slots finish) (S.remaining schedule.old) (L.remaining lists.old))) result W.contents writer.old writer.new }
     ensures unread { HasNoSchedule (S.remaining schedule.old) → lists.new ≡ lists.old }
 {
     after(run_rings::<B, _, _, _>(alloc, ring, slots, finish, schedule, lists, writer))
@@ -332,7 +333,7 @@ fn run_threads<const B: usize, F: Read, W: Write, T: Threads + Wait + Sync>(
 ) -> Result<u8, Fault>
     requires some_capacity { 1 ≤ B }
     requires capacity { B ≤ 64 }
-    ensures { Ends (WithStatus verdict_status (λ answer. OfInput (F.remaining file.old) (λ bytes. IsThreadsAnswer B 4096 bytes answer))) result W.contents writer.old writer.new }
+    ensures { Ends (WithStatus verdict_status (λ answer. OfInput (F.remaining file.old) (λ bytes. IsThreadsAnswer B WORDS bytes answer))) result W.contents writer.old writer.new }
 {
     after_run(threads_engine::<B, WORDS, _, _, _>(rt, alloc, file, turns, writer))
 }

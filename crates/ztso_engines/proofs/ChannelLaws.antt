@@ -11,7 +11,7 @@ use Rattle.ztso_engines.specs.declared.fault.Fault.TheVariants.{ReadFailed, Writ
 use Rattle.ztso_engines.specs.declared.fault.Refusal.{Refusal}
 use Rattle.ztso_engines.specs.Engines.{Output, OfInput, AnswersBoth}
 use Rattle.ztso_engines.specs.Schedules.{IsNoSchedule}
-use Rattle.ztso_engines.specs.Channels.{told_as, HasNoChannel, IsDelivery, IsChannelAnswer}
+use Rattle.ztso_engines.specs.Channels.{fault_from, HasNoChannel, IsDelivery, IsChannelAnswer}
 use Rattle.ztso_engines.specs.Channels.IsChannelAnswer.{no_schedule, no_lists, no_channel, delivered}
 use Rattle.ztso_engines.specs.inner.Making.{Finds, FindsBy}
 use Rattle.ztso_engines.specs.inner.Inputs.{IsReadAsSchedule, IsReadAsLists}
@@ -54,11 +54,11 @@ module _ (ring : Ring) (B M size : ℕ) (finish : Bool) (first second : Option (
   lists_fault seen view events result ReadFailed is schedule finds = rw is tt
   lists_fault seen view events result WriteFailed is schedule finds = rw is finds
 
-  refused_for : {X : Type 0} (seen : X → Output) (events : List Event) (lists : List (List ℕ)) (result : Result X Fault) (because : Why) (refusal : Refusal) → result ≡ Err (Refused refusal) → told_as because ≡ Refused refusal → OfInput first (λ bytes. IsReadAsSchedule bytes (Ok events)) → OfInput second (λ bytes. IsReadAsLists bytes (Ok lists))
+  refused_for : {X : Type 0} (seen : X → Output) (events : List Event) (lists : List (List ℕ)) (result : Result X Fault) (because : Why) (refusal : Refusal) → result ≡ Err (Refused refusal) → fault_from because ≡ Refused refusal → OfInput first (λ bytes. IsReadAsSchedule bytes (Ok events)) → OfInput second (λ bytes. IsReadAsLists bytes (Ok lists))
       → Refuses ring M lists size because → Finds Answers seen result
   refused_for seen events lists result because refusal is told schedule input refuses = rw is (answers_no_channel events lists refusal schedule input (because, refuses, told))
 
-  pub channel_fault : {X : Type 0} (seen : X → Output) (events : List Event) (lists : List (List ℕ)) (result : Result X Fault) (because : Why) (fault : Fault) → result ≡ Err fault → fault ≡ told_as because → OfInput first (λ bytes. IsReadAsSchedule bytes (Ok events)) → OfInput second (λ bytes. IsReadAsLists bytes (Ok lists))
+  pub channel_fault : {X : Type 0} (seen : X → Output) (events : List Event) (lists : List (List ℕ)) (result : Result X Fault) (because : Why) (fault : Fault) → result ≡ Err fault → fault ≡ fault_from because → OfInput first (λ bytes. IsReadAsSchedule bytes (Ok events)) → OfInput second (λ bytes. IsReadAsLists bytes (Ok lists))
       → Refuses ring M lists size because → Finds Answers seen result
   channel_fault seen events lists result why.NoMemory fault is told schedule input refuses = rw (is, told) tt
   channel_fault seen events lists result (why.ZeroWord sender place) fault is told schedule input refuses = refused_for seen events lists result (why.ZeroWord sender place) _ (rw told at is) refl schedule input refuses

@@ -14,9 +14,9 @@ pub at_line_ok : {A : Type 0} (number : ℕ) (r : Result A ℕ) (x : A) → at_l
 at_line_ok {A = A} number (Ok y) x e = ap (λ (z : A). Ok z) (ok_is Refusal y x e)
 at_line_ok {A = A} number (Err refused) x e = absurd cc
 
-abbrev IsTold : {X Y : Type 0} → (X → Y) → Fault → Result Y Refusal → Type 0
-IsTold {X = X} view fault answer = Answers {X = X} view (Err fault) answer
+abbrev RefusedAs : {X Y : Type 0} → (X → Y) → Fault → Result Y Refusal → Type 0
+RefusedAs {X = X} view fault answer = Answers {X = X} view (Err fault) answer
 
-pub refused_at_line : {X Y : Type 0} (view : X → Y) (number : ℕ) (fault : TextError ℕ) (made : Fault) (answer : Result Y ℕ) → made ≡ fault_at number fault → IfSome (refusal_of fault) (λ n. answer ≡ Err n) → IsTold view made (at_line number answer)
+pub refused_at_line : {X Y : Type 0} (view : X → Y) (number : ℕ) (fault : TextError ℕ) (made : Fault) (answer : Result Y ℕ) → made ≡ fault_at number fault → IfSome (refusal_of fault) (λ n. answer ≡ Err n) → RefusedAs view made (at_line number answer)
 refused_at_line view number NoMemory made answer is told = rw is tt
 refused_at_line view number (Refused n) made answer is told = rw (is, told) refl

@@ -54,7 +54,7 @@ use Rattle.ztso_engines.specs.Replay.{IsReplay, IsReplayAnswer}
 use Rattle.ztso_engines.specs.Talks.{IsDebugAnswer, IsTalk}
 use Rattle.ztso_engines.specs.Outcomes.{IsTriedOf, IsTryAnswer}
 use Rattle.ztso_engines.specs.Lists.{SaysLists, lists_at}
-use Rattle.ztso_engines.specs.Channels.{IsChannelAnswer, IsDelivery, IsNoLists, report_line, told_as}
+use Rattle.ztso_engines.specs.Channels.{IsChannelAnswer, IsDelivery, IsNoLists, report_line, fault_from}
 use Rattle.ztso_engines.specs.Channels as channels
 use Rattle.ztso_engines.proofs.Judging.{accepted_judged, judged_text}
 use Rattle.ztso_engines.proofs.Telling.{text_read, one_told}
@@ -157,8 +157,8 @@ schedule_or_refusal input events r is refused =
     let read : judged events_of input ≡ Ok events = judged_text events_of input is.few is.text ∙ (let found = IsScheduleOf-schedule_at input events is.value_is in rw found refl) in
     absurd cc
 
-module _ {A : Type 0} (IsTold : Question → List Event → A → Type 0) (one : (q : Question) (events : List Event) (a b : A) → IsTold q events a → IsTold q events b → a ≡ b) (file schedule : List ℕ) where
-  one_by_both : (a b : Result A Refusal) → ByBoth IsTold file schedule a → ByBoth IsTold file schedule b → AreOneAnswer a b
+module _ {A : Type 0} (IsAnswer : Question → List Event → A → Type 0) (one : (q : Question) (events : List Event) (a b : A) → IsAnswer q events a → IsAnswer q events b → a ≡ b) (file schedule : List ℕ) where
+  one_by_both : (a b : Result A Refusal) → ByBoth IsAnswer file schedule a → ByBoth IsAnswer file schedule b → AreOneAnswer a b
   one_by_both a b (histories.ByBoth.no_test r none) (histories.ByBoth.no_test s other) = one_number file r s none other
   one_by_both a b (histories.ByBoth.no_test r none) (histories.ByBoth.no_schedule q s is bad) = absurd (test_or_refusal file q r is none)
   one_by_both a b (histories.ByBoth.no_test r none) (histories.ByBoth.ran q events given is said told) = absurd (test_or_refusal file q r is none)
@@ -169,22 +169,22 @@ module _ {A : Type 0} (IsTold : Question → List Event → A → Type 0) (one :
   one_by_both a b (histories.ByBoth.ran q events given is said told) (histories.ByBoth.no_schedule p s also bad) = absurd (schedule_or_refusal schedule events s said bad)
   one_by_both a b (histories.ByBoth.ran q events given is said told) (histories.ByBoth.ran p others other also says tells) =
       one q events given other told
-      (subst (λ (x : Question). IsTold x events other) (one_test file p q also.value_is is.value_is)
-      (subst (λ (evs : List Event). IsTold p evs other) (one_schedule schedule others events says.value_is said.value_is) tells))
+      (subst (λ (x : Question). IsAnswer x events other) (one_test file p q also.value_is is.value_is)
+      (subst (λ (evs : List Event). IsAnswer p evs other) (one_schedule schedule others events says.value_is said.value_is) tells))
 
 -- ---- `run`, `replay` and `debug`
 
 one_judged : (B M : ℕ) (q : Question) (events : List Event) (a b : List ℕ × Verdict) → IsOfRun B M (IsJudged M) q events a → IsOfRun B M (IsJudged M) q events b → a ≡ b
 one_judged B M q events a b is other =
     let histories : is.history ≡ other.history = run-one B M (unrun q.opening) events is.history other.history is.ran other.ran in
-    let verdicts : a.1 ≡ b.1 = one_verdict M q is.history a.1 b.1 is.told.verdict (subst (λ (h : History). IsVerdict M q h b.1) (sym histories) other.told.verdict) in
-    let texts : a.0 ≡ b.0 = is.told.is_shown ∙ ap (λ (h : History). shown M h ++ verdict_line a.1) histories ∙ ap (λ (v : Verdict). shown M other.history ++ verdict_line v) verdicts ∙ sym other.told.is_shown in
+    let verdicts : a.1 ≡ b.1 = one_verdict M q is.history a.1 b.1 is.answers.verdict (subst (λ (h : History). IsVerdict M q h b.1) (sym histories) other.answers.verdict) in
+    let texts : a.0 ≡ b.0 = is.answers.is_shown ∙ ap (λ (h : History). shown M h ++ verdict_line a.1) histories ∙ ap (λ (v : Verdict). shown M other.history ++ verdict_line v) verdicts ∙ sym other.answers.is_shown in
     λ i. (texts i, verdicts i)
 
 one_replayed : (B M : ℕ) (q : Question) (events : List Event) (a b : Output) → IsOfRun B M IsReplay q events a → IsOfRun B M IsReplay q events b → a ≡ b
 one_replayed B M q events a b is other =
     let histories : is.history ≡ other.history = run-one B M (unrun q.opening) events is.history other.history is.ran other.ran in
-    same_output a b (is.told ∙ ap (λ (h : History). flat_map entry_line h.entries) histories ∙ sym other.told)
+    same_output a b (is.answers ∙ ap (λ (h : History). flat_map entry_line h.entries) histories ∙ sym other.answers)
 
 pub one_run : (B M : ℕ) (file schedule : List ℕ) (a b : Result (List ℕ × Verdict) Refusal) → IsRunAnswer B M file schedule a → IsRunAnswer B M file schedule b → AreOneAnswer a b
 one_run B M = one_by_both (IsOfRun B M (IsJudged M)) (one_judged B M)
@@ -223,7 +223,7 @@ module _ (ring : Ring) (M size : ℕ) (lists : List (List ℕ)) where
   abbrev expected : ℕ
   expected = first_of_lists (ltb (length lists) 1) (ltb 63 (length lists)) (ltb size ring.least) (ltb (4 * M) (length lists * block_size size))
 
-  is_expected : (why : Refused) (r : Refusal) → Refuses ring M lists size why → told_as why ≡ fault.Refused r → r.number ≡ expected
+  is_expected : (why : Refused) (r : Refusal) → Refuses ring M lists size why → fault_from why ≡ fault.Refused r → r.number ≡ expected
   is_expected refused.NoMemory r refuses told = absurd cc
   is_expected refused.NoSenders r none told = told_number 17 Nowhere r told ∙ rw (lt-ltb (length lists) 1 (omega (arith, none))) refl
   is_expected refused.TooManySenders r many told = told_number 18 Nowhere r told ∙ rw (le-ltb (length lists) 1 (omega (arith, many)), lt-ltb 63 (length lists) many) refl
@@ -231,7 +231,7 @@ module _ (ring : Ring) (M size : ℕ) (lists : List (List ℕ)) where
   is_expected refused.DoesNotFit r (has, large) told = told_number 20 Nowhere r told ∙ rw (le-ltb (length lists) 1 has.some_sender, le-ltb 63 (length lists) has.senders, le-ltb size ring.least has.size, lt-ltb (4 * M) (length lists * block_size size) large) refl
   is_expected (refused.ZeroWord sender place) r (has, fits, zero) told = told_number 16 (Word sender place) r told ∙ rw (le-ltb (length lists) 1 has.some_sender, le-ltb 63 (length lists) has.senders, le-ltb size ring.least has.size, le-ltb (4 * M) (length lists * block_size size) fits) refl
 
-  within_or_refused : (why : Refused) (r : Refusal) → IsWithin ring M lists size → Refuses ring M lists size why → told_as why ≡ fault.Refused r → ⊥
+  within_or_refused : (why : Refused) (r : Refusal) → IsWithin ring M lists size → Refuses ring M lists size why → fault_from why ≡ fault.Refused r → ⊥
   within_or_refused refused.NoMemory r is refuses told = absurd cc
   within_or_refused refused.NoSenders r is refuses told = omega (arith, is.some_sender, refuses)
   within_or_refused refused.TooManySenders r is refuses told = omega (arith, is.senders, refuses)
@@ -244,7 +244,7 @@ module _ (ring : Ring) (M size : ℕ) (lists : List (List ℕ)) where
 one_delivery : (ring : Ring) (B M size : ℕ) (events : List Event) (lists : List (List ℕ)) (a b : Output) → IsDelivery ring B M size false events lists a → IsDelivery ring B M size false events lists b → a ≡ b
 one_delivery ring B M size events lists a b is other =
     let histories : is.delivers.history ≡ other.delivers.history = run-one B M (unrun (opening_of_lists ring.sender ring.receiver lists size)) events is.delivers.history other.delivers.history is.delivers.run other.delivers.run in
-    same_output a b (is.told ∙ ap (flat_map report_line) (is.delivers.answer ∙ ap (λ (h : History). reported 0 h.entries) histories ∙ sym other.delivers.answer) ∙ sym other.told)
+    same_output a b (is.text ∙ ap (flat_map report_line) (is.delivers.answer ∙ ap (λ (h : History). reported 0 h.entries) histories ∙ sym other.delivers.answer) ∙ sym other.text)
 
 module _ (ring : Ring) (B M size : ℕ) (schedule input : List ℕ) where
   abbrev IsAnswer : Result Output Refusal → Type 0

@@ -92,27 +92,27 @@ are_outcomes trials tally is sorted = record {
 
 -- ---- and its line is the outcome's
 
-told : (n : ℕ) (text : List ℕ) → Option Counted
-told n text = Some (n, text)
+counted_one : (n : ℕ) (text : List ℕ) → Option Counted
+counted_one n text = Some (n, text)
 
-count_told : (n m : ℕ) (text other : List ℕ) → told n text ≡ told m other → n ≡ m
-unfolding told
+count_told : (n m : ℕ) (text other : List ℕ) → counted_one n text ≡ counted_one m other → n ≡ m
+unfolding counted_one
 count_told n m text other e = ap (λ (o : Option Counted). (unwrap_or o (0, [])).0) e
 
-text_told : (n m : ℕ) (text other : List ℕ) → told n text ≡ told m other → text ≡ other
-unfolding told
+text_told : (n m : ℕ) (text other : List ℕ) → counted_one n text ≡ counted_one m other → text ≡ other
+unfolding counted_one
 text_told n m text other e = ap (λ (o : Option Counted). (unwrap_or o (0, [])).1) e
 
-line_seen : (question : Question) (outcome : List ℕ) (o : Option Trial) (n count : ℕ) (schedule : List ℕ) → option_map (λ (first : Trial). (n, schedule_text first.events)) o ≡ told count schedule
+line_seen : (question : Question) (outcome : List ℕ) (o : Option Trial) (n count : ℕ) (schedule : List ℕ) → option_map (λ (first : Trial). (n, schedule_text first.events)) o ≡ counted_one count schedule
     → line_of question outcome count schedule ≡ line_of question outcome n (first_schedule_text o)
-unfolding told
+unfolding counted_one
 line_seen question outcome None n count schedule e = absurd cc
 line_seen question outcome (Some first) n count schedule e =
     ap (λ (k : ℕ). line_of question outcome k schedule) (sym (count_told n count (schedule_text first.events) schedule e))
     ∙ ap (λ (text : List ℕ). line_of question outcome n text) (sym (text_told n count (schedule_text first.events) schedule e))
 
 line_is : (question : Question) (trials : List Trial) (tally : Tally) (key : Vec ℕ) (row : Row) → IsTallyOf trials tally → lookup (is_key key.items) tally.rows.entries ≡ Some row → row_line question (key, row) ≡ outcome_line question trials key.items
-unfolding counted_of seen_of told
+unfolding counted_of seen_of counted_one
 line_is question trials tally key row is found =
     line_seen question key.items (find (gave key.items) trials) (count_by (gave key.items) trials) row.count (string_bytes row.schedule) (sym (is.rows key.items) ∙ ap (option_map counted_by) found)
 

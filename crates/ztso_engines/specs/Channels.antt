@@ -38,20 +38,20 @@ pub record IsDelivery (ring : Ring) (B M size : ℕ) (finish : Bool) (events : L
   pub within : IsWithin ring M lists size
   pub reports : List Report
   pub delivers : Reported finish B M (opening_of ring.sender ring.receiver lists size) lists events reports
-  pub told : answer.0 ≡ flat_map report_line reports
+  pub text : answer.0 ≡ flat_map report_line reports
 
 -- why there is no channel, as a fault; a word that is 0 has its place
-abbrev pub told_as : Refused → Fault
-told_as refused.NoMemory = fault.NoMemory
-told_as (refused.ZeroWord sender word) = fault.Refused (record { number = 16; place = place.Word sender word })
-told_as refused.NoSenders = fault.Refused (record { number = 17; place = place.Nowhere })
-told_as refused.TooManySenders = fault.Refused (record { number = 18; place = place.Nowhere })
-told_as refused.RingTooSmall = fault.Refused (record { number = 19; place = place.Nowhere })
-told_as refused.DoesNotFit = fault.Refused (record { number = 20; place = place.Nowhere })
+abbrev pub fault_from : Refused → Fault
+fault_from refused.NoMemory = fault.NoMemory
+fault_from (refused.ZeroWord sender word) = fault.Refused (record { number = 16; place = place.Word sender word })
+fault_from refused.NoSenders = fault.Refused (record { number = 17; place = place.Nowhere })
+fault_from refused.TooManySenders = fault.Refused (record { number = 18; place = place.Nowhere })
+fault_from refused.RingTooSmall = fault.Refused (record { number = 19; place = place.Nowhere })
+fault_from refused.DoesNotFit = fault.Refused (record { number = 20; place = place.Nowhere })
 
 -- There is no channel over these lists, for this reason.
 abbrev pub HasNoChannel : Ring → (M size : ℕ) → List (List ℕ) → Refusal → Type 0
-HasNoChannel ring M size lists refusal = (why : Refused) × Refuses ring M lists size why × (told_as why ≡ fault.Refused refusal)
+HasNoChannel ring M size lists refusal = (why : Refused) × Refuses ring M lists size why × (fault_from why ≡ fault.Refused refusal)
 
 -- The input says no lists, for this reason.
 abbrev pub IsNoLists : List ℕ → Refusal → Type 0

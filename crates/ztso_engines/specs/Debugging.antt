@@ -46,14 +46,14 @@ Breaks t hart pc old new text = MatchBool (nat_lt hart (length t.opening.harts))
 
 -- ---- what is looked at
 
-abbrev pub hart_told : (M : ℕ) → History → (hart : ℕ) → List ℕ
-hart_told M t hart = if nat_lt hart (length t.opening.harts) then hart_shown M t hart else unknown_line
+abbrev pub hart_answer : (M : ℕ) → History → (hart : ℕ) → List ℕ
+hart_answer M t hart = if nat_lt hart (length t.opening.harts) then hart_shown M t hart else unknown_line
 
-abbrev pub pending_told : History → (hart : ℕ) → List ℕ
-pending_told t hart = if nat_lt hart (length t.opening.harts) then store_lines (pending hart t.entries) else unknown_line
+abbrev pub pending_answer : History → (hart : ℕ) → List ℕ
+pending_answer t hart = if nat_lt hart (length t.opening.harts) then store_lines (pending hart t.entries) else unknown_line
 
-abbrev pub word_told : (M : ℕ) → History → (addr : ℕ) → List ℕ
-word_told M t addr = if (addr % 4 == 0) && nat_lt (addr / 4) M then number_line (memory_word t.opening t.entries addr) else unknown_line
+abbrev pub word_answer : (M : ℕ) → History → (addr : ℕ) → List ℕ
+word_answer M t addr = if (addr % 4 == 0) && nat_lt (addr / 4) M then number_line (memory_word t.opening t.entries addr) else unknown_line
 
 -- ---- what is done
 
@@ -85,9 +85,9 @@ Answers B M command.Step old new points others text = DoesNext B M old text new 
 Answers B M command.Go old new points others text = DoesAll B M points (drop old.place old.schedule) true old text new × (others ≡ points)
 Answers B M (command.Give ev) old new points others text = Does B M old ev User text new × (others ≡ points)
 Answers B M (command.Break hart pc) old new points others text = Breaks old.past.history hart pc points others text × (new ≡ old)
-Answers B M (command.Hart hart) old new points others text = Looks (hart_told M old.past.history hart) old text new × (others ≡ points)
-Answers B M (command.Pending hart) old new points others text = Looks (pending_told old.past.history hart) old text new × (others ≡ points)
-Answers B M (command.Word addr) old new points others text = Looks (word_told M old.past.history addr) old text new × (others ≡ points)
+Answers B M (command.Hart hart) old new points others text = Looks (hart_answer M old.past.history hart) old text new × (others ≡ points)
+Answers B M (command.Pending hart) old new points others text = Looks (pending_answer old.past.history hart) old text new × (others ≡ points)
+Answers B M (command.Word addr) old new points others text = Looks (word_answer M old.past.history addr) old text new × (others ≡ points)
 Answers B M (command.Back k) old new points others text = WalksBack B M old k new × (text ≡ []) × (others ≡ points)
 Answers B M command.Count old new points others text = Looks (number_line (length old.past.events)) old text new × (others ≡ points)
 Answers B M command.Quit old new points others text = Looks [] old text new × (others ≡ points)

@@ -11,20 +11,20 @@ use Rattle.ztso_engines.specs.Engines.{Accepted}
 use Rattle.ztso_engines.specs.Tests.{IsNoTest}
 use Rattle.ztso_engines.specs.Schedules.{IsNoSchedule}
 
--- This is told of the history that the events make of the test's opening, over store buffers of B pairs
+-- This holds of the history that the events make of the test's opening, over store buffers of B pairs
 -- and a memory of M words.
-pub record IsOfRun {A : Type 0} (B M : ℕ) (IsTold : Question → History → A → Type 0) (question : Question) (events : List Event) (answer : A) : Type 0 where
+pub record IsOfRun {A : Type 0} (B M : ℕ) (IsAnswer : Question → History → A → Type 0) (question : Question) (events : List Event) (answer : A) : Type 0 where
   pub history : History
   pub ran : Run B M question.opening events history
-  pub told : IsTold question history answer
+  pub answers : IsAnswer question history answer
 
--- What answers a litmus text and a schedule, where this is told of their test and events. The test is
+-- What answers a litmus text and a schedule, where this holds of their test and events. The test is
 -- judged first.
-pub data ByBoth {A : Type 0} (IsTold : Question → List Event → A → Type 0) (file schedule : List ℕ) : Result A Refusal → Type 0 where
-  no_test : (refusal : Refusal) → IsNoTest file refusal → ByBoth IsTold file schedule (Err refusal)
-  no_schedule : (question : Question) (refusal : Refusal) → Accepted IsTestOf file question → IsNoSchedule schedule refusal → ByBoth IsTold file schedule (Err refusal)
-  ran : (question : Question) (events : List Event) (answer : A) → Accepted IsTestOf file question → Accepted IsScheduleOf schedule events → IsTold question events answer → ByBoth IsTold file schedule (Ok answer)
+pub data ByBoth {A : Type 0} (IsAnswer : Question → List Event → A → Type 0) (file schedule : List ℕ) : Result A Refusal → Type 0 where
+  no_test : (refusal : Refusal) → IsNoTest file refusal → ByBoth IsAnswer file schedule (Err refusal)
+  no_schedule : (question : Question) (refusal : Refusal) → Accepted IsTestOf file question → IsNoSchedule schedule refusal → ByBoth IsAnswer file schedule (Err refusal)
+  ran : (question : Question) (events : List Event) (answer : A) → Accepted IsTestOf file question → Accepted IsScheduleOf schedule events → IsAnswer question events answer → ByBoth IsAnswer file schedule (Ok answer)
 
--- the same where it is told of their history
+-- the same where it holds of their history
 abbrev pub ByRun : {A : Type 0} → (B M : ℕ) → (Question → History → A → Type 0) → (file schedule : List ℕ) → Result A Refusal → Type 0
-ByRun B M IsTold = ByBoth (IsOfRun B M IsTold)
+ByRun B M IsAnswer = ByBoth (IsOfRun B M IsAnswer)

@@ -11,13 +11,13 @@ use Rattle.ztso_engines.specs.Engines.{Output, Accepted, judged}
 
 -- the state text of the history that the events make of the opening, over store buffers of B pairs and
 -- a memory of M words
-pub record IsStateText (B M : ℕ) (told : Scenario) (out : List ℕ) : Type 0 where
+pub record IsStateText (B M : ℕ) (scenario : Scenario) (out : List ℕ) : Type 0 where
   pub history : History
-  pub ran : Run B M (opening_of told) told.events history
+  pub ran : Run B M (opening_of scenario) scenario.events history
   pub is_shown : out ≡ shown M history
 
 -- What answers an input: the state text of what it tells, where it is a text within the limit that
 -- tells something, else the refusal for its first fault.
 abbrev pub IsStepsAnswer : (B M : ℕ) → List ℕ → Result Output Refusal → Type 0
-IsStepsAnswer B M input (Ok answer) = (told : Scenario) × Accepted (Tells M) input told × IsStateText B M told answer.0
+IsStepsAnswer B M input (Ok answer) = (scenario : Scenario) × Accepted (Tells M) input scenario × IsStateText B M scenario answer.0
 IsStepsAnswer B M input (Err refusal) = judged (script_at M) input ≡ Err refusal

@@ -121,5 +121,5 @@ with_some_hart t = if length t.harts == 0 then Err (record { number = bad_line; 
 -- what a steps text tells of a machine with M words, or its first fault
 unfoldable pub script_at : (M : ℕ) → List ℕ → Result Scenario Refusal
 script_at M text = do
-  told ← after_lines (no_scenario M) 1 (lines text)
-  with_some_hart told
+  scenario ← after_lines (no_scenario M) 1 (lines text)
+  with_some_hart scenario

@@ -20,10 +20,10 @@ LineSays line (steps events) = (tokens : List ℕ) × (first_cut line ≡ Some (
 
 -- From the top, each line says what may come there, or has no word and says nothing.
 abbrev pub LinesTell : Scenario → List (List ℕ) → Scenario → Type 0
-LinesTell before [] told = told ≡ before
-LinesTell before (line ∷ others) told = ((tokens line ≡ []) × LinesTell before others told) ⊎ ((s : Statement) × LineSays line s × MayCome before s × LinesTell (with_statement before s) others told)
+LinesTell before [] scenario = scenario ≡ before
+LinesTell before (line ∷ others) scenario = ((tokens line ≡ []) × LinesTell before others scenario) ⊎ ((s : Statement) × LineSays line s × MayCome before s × LinesTell (with_statement before s) others scenario)
 
 -- The text tells this of a machine with M words: its lines do, and there is a hart.
-pub record Tells (M : ℕ) (text : List ℕ) (told : Scenario) : Type 0 where
-  pub lines_tell : LinesTell (no_scenario M) (lines text) told
-  pub some_hart : 1 ≤ length told.harts
+pub record Tells (M : ℕ) (text : List ℕ) (scenario : Scenario) : Type 0 where
+  pub lines_tell : LinesTell (no_scenario M) (lines text) scenario
+  pub some_hart : 1 ≤ length scenario.harts

@@ -7,7 +7,7 @@ ghost use Rattle.ztso_engines.specs.Engines.{AnswersBoth, EndsByBoth};
 ghost use Rattle.poll_close.specs.Layout.{opening_of};
 ghost use Rattle.poll_close.specs.Laws.{Accepted};
 ghost use Rattle.poll_close.specs.Refusals.{Refuses};
-ghost use Rattle.ztso_engines.specs.Channels.{report_line, told_as, Reported, IsChannelAnswer};
+ghost use Rattle.ztso_engines.specs.Channels.{report_line, fault_from, Reported, IsChannelAnswer};
 ghost use Rattle.ztso_engines.specs.Schedules.{HasNoSchedule};
 ghost use Rattle.ztso_engines.specs.inner.Making.{Finds, text_and_value};
 
@@ -23,7 +23,7 @@ use std::io::{Read, Write};
 use step_machine::Event;
 
 impl From<Refused> for Fault {
-    ghost from_gives = { λ why fault. fault ≡ told_as why };
+    ghost from_gives = { λ why fault. fault ≡ fault_from why };
 
     fn from(why: Refused) -> Fault {
         match why {

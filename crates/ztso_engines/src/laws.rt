@@ -23,8 +23,8 @@ ghost use Rattle.ztso_engines.specs.Channels.{IsChannelAnswer};
 /// A steps text tells one thing at most, and reading it from the top finds that; an input is not
 /// refused exactly where it is a text within the limit that tells something. It does nothing.
 pub fn laws_of_steps_texts()
-    ensures read { (M : ℕ) (text : List ℕ) (told : Scenario) → (script_at M text ≡ Ok told) ↔ Tells M text told }
-    ensures judged { (M : ℕ) (input : List ℕ) (told : Scenario) → (judged (script_at M) input ≡ Ok told) ↔ Accepted (Tells M) input told }
+    ensures read { (M : ℕ) (text : List ℕ) (scenario : Scenario) → (script_at M text ≡ Ok scenario) ↔ Tells M text scenario }
+    ensures judged { (M : ℕ) (input : List ℕ) (scenario : Scenario) → (judged (script_at M) input ≡ Ok scenario) ↔ Accepted (Tells M) input scenario }
     ensures one { (M : ℕ) (text : List ℕ) (a b : Scenario) → Tells M text a → Tells M text b → a ≡ b }
 {}
 

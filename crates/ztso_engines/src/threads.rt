@@ -37,7 +37,7 @@ impl From<hart_threads::Fault> for Fault {
 }
 
 /// The schedule of a record, and the state text and the verdict of a test after it.
-fn told<const B: usize, const M: usize>(
+fn record_text<const B: usize, const M: usize>(
     alloc: Global,
     test: &Test,
     made: &Record<B, M>,
@@ -74,7 +74,7 @@ fn answer<const B: usize, const M: usize, T: Threads + Wait + Sync>(
     let opening = test.opening(alloc)?;
     let (shared, seats) = Shared::<B, M>::open(alloc, opening)?;
     let record = run_harts(rt, alloc, shared, seats, &Open, turns)?;
-    told(alloc, test, &record)
+    record_text(alloc, test, &record)
 }
 
 /// What is to be written for the input that the reader gives, and the verdict.

@@ -53,7 +53,7 @@ pub record ReportsOf (rs : List Report) (i : ℕ) (list : List ℕ) (took shut :
   pub said : shut ≡ 1 → (k : ℕ) × (slice_get rs k ≡ Some (report.Closed i))
 
 pub record ReportPart (m : BlockMeaning) (lists : List (List ℕ)) (rs : List Report) (f : ℕ → m.Count) : Type 0 where
-  pub told : (j : ℕ) → j < length lists → ReportsOf rs j (slice_index_or lists j []) (m.took (f j)) (m.shut (f j))
+  pub senders : (j : ℕ) → j < length lists → ReportsOf rs j (slice_index_or lists j []) (m.took (f j)) (m.shut (f j))
   pub clean : Clean rs lists
 
 pub record Channel (m : BlockMeaning) (M S : ℕ) (lists : List (List ℕ)) (t : History) : Type 0 where

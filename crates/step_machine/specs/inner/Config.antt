@@ -159,17 +159,17 @@ abbrev pub IsNext : Config → ℕ → Need → Type 0
 IsNext c h n = IsSomeAnd (slice_get c.harts h) (IsReady n)
 
 -- a hart as a history sees it, without its room
-abbrev pub told : HartView → HartState × List Report
-told v = (v.state, v.reports)
+abbrev pub without_room : HartView → HartState × List Report
+without_room v = (v.state, v.reports)
 
 -- where a hart opened
-abbrev pub first_of : HartView → HartState
-first_of v = v.first
+abbrev pub beginning : HartView → HartState
+beginning v = v.first
 
 -- the same but for room
 pub record SameButRoom (c d : Config) : Type 0 where
-  pub harts : map told d.harts ≡ map told c.harts
-  pub firsts : map first_of d.harts ≡ map first_of c.harts
+  pub harts : map without_room d.harts ≡ map without_room c.harts
+  pub firsts : map beginning d.harts ≡ map beginning c.harts
   pub buffers : d.buffers ≡ c.buffers
   pub words : d.words ≡ c.words
 

@@ -7,14 +7,14 @@ use Rattle.step_machine.specs.History.{History, FitsIn}
 use Rattle.step_machine.specs.Legal.{Kept}
 use Rattle.step_machine.specs.Entries.{pending, landed, memory_byte, reported}
 use Rattle.step_machine.specs.Paths.{opens_as, state_of}
-use Rattle.step_machine.specs.inner.Config.{Config, Fit, AllHaveRoom, first_of, buffer_of}
+use Rattle.step_machine.specs.inner.Config.{Config, Fit, AllHaveRoom, beginning, buffer_of}
 
 abbrev pub view_state : HartView → HartState
 view_state v = v.state
 
 pub record Tied (M : ℕ) (t : History) (c : Config) : Type 0 where
   pub states : (h : ℕ) → option_map view_state (slice_get c.harts h) ≡ state_of M t h
-  pub firsts : (h : ℕ) → option_map first_of (slice_get c.harts h) ≡ option_map (opens_as M) (slice_get t.opening.harts h)
+  pub firsts : (h : ℕ) → option_map beginning (slice_get c.harts h) ≡ option_map (opens_as M) (slice_get t.opening.harts h)
   pub reports : (h : ℕ) (v : HartView) → slice_get c.harts h ≡ Some v → v.reports ≡ reported h t.entries
   pub buffers : (h : ℕ) → buffer_of c h ≡ pending h t.entries
   pub in_words : All WritesInWord (landed t.entries)

@@ -23,7 +23,7 @@ IsReadAsSchedule input (Err refusal) = judged events_of input ≡ Err refusal
 
 -- a test with its history, told as they are
 abbrev pub IsItself : Question → History → Question × History → Type 0
-IsItself question history told = told ≡ (question, history)
+IsItself question history made = made ≡ (question, history)
 
 -- the input's lists, or why it says none
 abbrev pub IsReadAsLists : List ℕ → Result (List (List ℕ)) Refusal → Type 0

@@ -11,7 +11,7 @@ ghost use Rattle.ztso_engines.specs.Debugging.{Answers, Does, DoesAll, DoesNext}
 use crate::debug::breakpoints::{set_breakpoint, stop_before};
 use crate::debug::command::Command;
 use crate::debug::lines::{push_break_line, push_end_line, push_number_line, push_outcome_line};
-use crate::debug::looking::{push_hart_told, push_pending_told, push_word_told};
+use crate::debug::looking::{push_hart_answer, push_pending_answer, push_word_answer};
 use crate::walk::Walk;
 use std::alloc::AllocError;
 use step_machine::Event;
@@ -107,15 +107,15 @@ pub fn answer<const B: usize, const M: usize>(
             Ok(walk)
         }
         Command::Hart(hart) => {
-            push_hart_told(out, machine, hart)?;
+            push_hart_answer(out, machine, hart)?;
             Ok(walk)
         }
         Command::Pending(hart) => {
-            push_pending_told(out, machine, hart)?;
+            push_pending_answer(out, machine, hart)?;
             Ok(walk)
         }
         Command::Word(addr) => {
-            push_word_told(out, machine, addr)?;
+            push_word_answer(out, machine, addr)?;
             Ok(walk)
         }
         Command::Count => {

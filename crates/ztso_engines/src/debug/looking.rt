@@ -2,7 +2,7 @@
 
 ghost use Rattle.std.specs.Prelude.{◌≡◌, ◌++◌, ◌≤◌, OnOk};
 ghost use Rattle.std.specs.String.{string_bytes};
-ghost use Rattle.ztso_engines.specs.Debugging.{hart_told, pending_told, word_told};
+ghost use Rattle.ztso_engines.specs.Debugging.{hart_answer, pending_answer, word_answer};
 
 use crate::debug::lines::{push_number_line, push_store_lines, push_unknown_line};
 use crate::state_text::push_hart;
@@ -10,12 +10,12 @@ use std::alloc::AllocError;
 use step_machine::Machine;
 
 /// A hart's lines of the state text.
-pub fn push_hart_told<const B: usize, const M: usize>(
+pub fn push_hart_answer<const B: usize, const M: usize>(
     out: &mut String,
     machine: &Machine<B, M>,
     hart: u32,
 ) -> Result<(), AllocError>
-    ensures { OnOk result (string_bytes out.new ≡ string_bytes out.old ++ hart_told M machine.now.history hart) }
+    ensures { OnOk result (string_bytes out.new ≡ string_bytes out.old ++ hart_answer M machine.now.history hart) }
 {
     if hart < machine.harts() {
         push_hart(out, machine, hart)
@@ -25,12 +25,12 @@ pub fn push_hart_told<const B: usize, const M: usize>(
 }
 
 /// A hart's pending stores, oldest first.
-pub fn push_pending_told<const B: usize, const M: usize>(
+pub fn push_pending_answer<const B: usize, const M: usize>(
     out: &mut String,
     machine: &Machine<B, M>,
     hart: u32,
 ) -> Result<(), AllocError>
-    ensures { OnOk result (string_bytes out.new ≡ string_bytes out.old ++ pending_told machine.now.history hart) }
+    ensures { OnOk result (string_bytes out.new ≡ string_bytes out.old ++ pending_answer machine.now.history hart) }
 {
     if hart < machine.harts() {
         push_store_lines(out, machine.pending(hart))
@@ -40,12 +40,12 @@ pub fn push_pending_told<const B: usize, const M: usize>(
 }
 
 /// The word of memory at an address in bytes.
-pub fn push_word_told<const B: usize, const M: usize>(
+pub fn push_word_answer<const B: usize, const M: usize>(
     out: &mut String,
     machine: &Machine<B, M>,
     addr: u32,
 ) -> Result<(), AllocError>
-    ensures { OnOk result (string_bytes out.new ≡ string_bytes out.old ++ word_told M machine.now.history addr) }
+    ensures { OnOk result (string_bytes out.new ≡ string_bytes out.old ++ word_answer M machine.now.history addr) }
 {
     if addr % 4 == 0 && ((addr / 4) as usize) < M {
         push_number_line(out, machine.word(addr) as usize)

@@ -99,7 +99,7 @@ fn script_of<const M: usize>(alloc: Global, text: &str) -> Result<Script, Fault>
 /// line. The first faulty line is answered.
 pub fn read_script<const M: usize>(alloc: Global, text: &str) -> Result<Script, Fault>
     ensures found { IfOk result (λ script. Tells M text.now (scenario_of script)) }
-    ensures only { (told : Scenario) → Tells M text.now told → Answers scenario_of result (Ok told) }
+    ensures only { (scenario : Scenario) → Tells M text.now scenario → Answers scenario_of result (Ok scenario) }
     ensures exact { Answers scenario_of result (script_at M text.now) }
     ensures fits { IfOk result (λ script. FitsIn M (opening_of (scenario_of script))) }
 {

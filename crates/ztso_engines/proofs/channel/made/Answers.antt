@@ -31,5 +31,5 @@ returns-clause-made g c =
       within = rw c.deref.ensures.value at c.in_ok-reports.ensures.accepted;
       reports = c.in_ok-reports.reports.items;
       delivers = rw (c.deref.ensures.value, c.deref-2.ensures.value) at c.in_ok-reports.ensures.reported;
-      told = c.in_ok-text.ensures ∙ ap (flat_map report_line) c.deref-3.ensures.value;
+      text = c.in_ok-text.ensures ∙ ap (flat_map report_line) c.deref-3.ensures.value;
     })

@@ -9,11 +9,11 @@ use Rattle.ztso_engines.specs.Replay.{IsReplay}
 use Rattle.ztso_engines.specs.Histories.{IsOfRun}
 use Rattle.ztso_engines.specs.inner.Inputs.{IsItself}
 use Rattle.ztso_engines.specs.inner.Making.{text_and_value}
-use Rattle.ztso_engines.proofs.HistoryLaws.{told_of_run, run_fault}
+use Rattle.ztso_engines.proofs.HistoryLaws.{answers_of_run, run_fault}
 use Rattle.ztso_engines.proofs.replay.made.Goals as goal
 
 pub returns-clause-made : goal.returns-clause-made
-returns-clause-made g c = told_of_run g.row.B g.row.M _ _ IsReplay c.in_ok-machine.field-0-0 c.in_ok-machine.machine.history (string_bytes c.in_ok-text.text, tt) c.in_ok-machine.ensures.run (c.in_ok-text.ensures ∙ ap (flat_map entry_line) c.entries.ensures.value)
+returns-clause-made g c = answers_of_run g.row.B g.row.M _ _ IsReplay c.in_ok-machine.field-0-0 c.in_ok-machine.machine.history (string_bytes c.in_ok-text.text, tt) c.in_ok-machine.ensures.run (c.in_ok-text.ensures ∙ ap (flat_map entry_line) c.entries.ensures.value)
 
 pub returns-in_err-machine-clause-made : goal.returns-in_err-machine-clause-made
 returns-in_err-machine-clause-made g c =

@@ -1,10 +1,10 @@
 use Rattle.std.proofs.Common.{◌≡◌, ◌≤◌, List, [], ◌∷◌, ◌++◌, Err, IfSome, length, arith}
-use Rattle.litmus.proofs.StageLaws.{few_negations, is_within, push_laid, push_told, push_refused}
+use Rattle.litmus.proofs.StageLaws.{few_negations, is_within, push_laid, push_added, push_refused}
 use Rattle.litmus.specs.declared.symbols.Symbol.{Symbol}
 use Rattle.litmus.specs.declared.draft.ConditionError.{ConditionError}
 use Rattle.litmus.specs.declared.draft.ConditionError.TheVariants.{NoMemory, Misplaced}
 use Rattle.litmus.specs.Faults.{fault_of}
-use Rattle.litmus.specs.Drafting.{told}
+use Rattle.litmus.specs.Drafting.{symbol_added}
 use Rattle.litmus.specs.Grammar.{Begins}
 use Rattle.litmus.proofs.BeginLaws.{begins_built, refused_begins}
 use Rattle.litmus.proofs.draft.ConditionDraft.push.Goals as goal
@@ -20,7 +20,7 @@ pub invariant_of-self-in-Ok : goal.invariant_of-self-in-Ok
 invariant_of-self-in-Ok c = rw (c.push_reserved.ensures.items, c.reserve.ensures.items) (push_laid c.self.inside.tokens.items c.args.token c.self.inside.builder c.take.new.self c.self.invariant c.in-Ok.ensures.exact)
 
 pub returns-in-Ok-clause-exact : goal.returns-in-Ok-clause-exact
-returns-in-Ok-clause-exact c = rw (c.push_reserved.ensures.items, c.reserve.ensures.items, ← c.self.view_is) (push_told c.self.inside.tokens.items c.args.token c.self.inside.builder c.take.new.self c.self.invariant c.in-Ok.ensures.exact)
+returns-in-Ok-clause-exact c = rw (c.push_reserved.ensures.items, c.reserve.ensures.items, ← c.self.view_is) (push_added c.self.inside.tokens.items c.args.token c.self.inside.builder c.take.new.self c.self.invariant c.in-Ok.ensures.exact)
 
 pub returns-in-Err-clause-exact : goal.returns-in-Err-clause-exact
 returns-in-Err-clause-exact c = rw (← c.self.view_is) (push_refused c.self.inside.tokens.items c.args.token c.self.inside.builder c.in-Err.error c.self.invariant c.in-Err.ensures.exact)
@@ -28,7 +28,7 @@ returns-in-Err-clause-exact c = rw (← c.self.view_is) (push_refused c.self.ins
 pub returns-in-Ok-clause-begins : goal.returns-in-Ok-clause-begins
 returns-in-Ok-clause-begins c = begins_built c.push_reserved.new.self.items c.take.new.self (invariant_of-self-in-Ok c)
 
-misplaced-refused : (symbols : List Symbol) (next : Symbol) (e : ConditionError) → IfSome (fault_of e) (λ fault. told symbols next ≡ Err fault) → e ≡ Misplaced → ¬ Begins (symbols ++ next ∷ [])
+misplaced-refused : (symbols : List Symbol) (next : Symbol) (e : ConditionError) → IfSome (fault_of e) (λ fault. symbol_added symbols next ≡ Err fault) → e ≡ Misplaced → ¬ Begins (symbols ++ next ∷ [])
 misplaced-refused symbols next NoMemory told_so same = absurd (cc)
 misplaced-refused symbols next Misplaced told_so same = refused_begins symbols next told_so
 
