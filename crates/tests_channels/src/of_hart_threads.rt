@@ -181,26 +181,28 @@ fn seats_of_another_machine_are_no_part(rt: HostRuntime) {
 
 #[test]
 fn faults_have_numbers_and_texts(rt: HostRuntime) -> Result<(), Fail> {
-    let missing = Fault::from(Gather::Missing { hart: 1 });
     let history = Vec::new(rt.alloc());
-    let mismatch = Fault::from(Gather::Mismatch { hart: 2, history });
-    let rows = [
-        (Fault::NoMemory, 0, "no memory"),
-        (Fault::NoThread, 35, "no thread"),
+    let gathered = [
+        (Gather::NoMemory, 0, "no memory"),
         (
-            missing,
-            33,
-            "the seats of hart 1 are missing, or there are too many",
-        ),
-        (
-            mismatch,
+            Gather::Mismatch { hart: 2, history },
             32,
             "a diary of hart 2 is not its part of the history",
         ),
+        (
+            Gather::Missing { hart: 1 },
+            33,
+            "the seats of hart 1 are missing, or there are too many",
+        ),
     ];
-    for (fault, number, text) in rows {
+    for (why, number, text) in gathered {
+        assert_eq!(rt; why.to_string(rt.alloc())?.as_str(), text);
+        let fault = Fault::from(why);
         assert_eq!(rt; fault.number(), number);
         assert_eq!(rt; fault.to_string(rt.alloc())?.as_str(), text);
     }
+    let fault = Fault::NoThread;
+    assert_eq!(rt; fault.number(), 35);
+    assert_eq!(rt; fault.to_string(rt.alloc())?.as_str(), "no thread");
     Ok(())
 }

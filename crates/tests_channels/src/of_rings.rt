@@ -303,3 +303,24 @@ fn threads_refuse_lists_by_number(rt: HostRuntime) {
     );
     assert_eq!(rt; answer.err().map(|fault| fault.number()), Some(17));
 }
+
+#[test]
+fn refusals_have_their_numbers_and_texts(rt: HostRuntime) -> Result<(), Fail> {
+    let zero = Refused::ZeroWord {
+        sender: 2,
+        place: 5,
+    };
+    let rows = [
+        (Refused::NoMemory, 0, "no memory"),
+        (zero, 16, "zero word at sender 2 place 5"),
+        (Refused::NoSenders, 17, "no senders"),
+        (Refused::TooManySenders, 18, "too many senders"),
+        (Refused::RingTooSmall, 19, "ring too small"),
+        (Refused::DoesNotFit, 20, "does not fit"),
+    ];
+    for (refused, number, text) in rows {
+        assert_eq!(rt; refused.number(), number);
+        assert_eq!(rt; refused.to_string(rt.alloc())?.as_str(), text);
+    }
+    Ok(())
+}

@@ -35,14 +35,19 @@ fn a_refused_token_leaves_the_events(rt: HostRuntime) -> Result<(), Fail> {
 }
 
 #[test]
-fn refusals_have_their_texts(rt: HostRuntime) -> Result<(), Fail> {
-    let refused = ScheduleError::Refused(AtByte {
-        fault: ScheduleFault::BadHart,
-        place: 16,
-    });
-    let text = refused.to_string(rt.alloc())?;
-    assert_eq!(rt; text.as_str(), "bad hart at byte 16");
-    assert_eq!(rt; ScheduleFault::BadHart.number(), 29);
+fn refusals_have_their_numbers_and_texts(rt: HostRuntime) -> Result<(), Fail> {
+    let faults = [
+        (ScheduleFault::BadHead, 27, "bad head line at byte 16"),
+        (ScheduleFault::BadToken, 28, "bad token at byte 16"),
+        (ScheduleFault::BadHart, 29, "bad hart at byte 16"),
+        (ScheduleFault::BadCount, 30, "bad count at byte 16"),
+        (ScheduleFault::Truncated, 31, "truncated at byte 16"),
+    ];
+    for (fault, number, text) in faults {
+        let refused = ScheduleError::Refused(AtByte { fault, place: 16 });
+        assert_eq!(rt; fault.number(), number);
+        assert_eq!(rt; refused.to_string(rt.alloc())?.as_str(), text);
+    }
     Ok(())
 }
 

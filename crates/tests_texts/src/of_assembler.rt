@@ -1,5 +1,6 @@
 use assembler::{AsmError, AsmFault, Draft};
 use std::test::Fail;
+use texts::Numbered;
 
 #[test]
 fn a_refused_line_leaves_the_draft(rt: HostRuntime) -> Result<(), Fail> {
@@ -14,5 +15,25 @@ fn a_refused_line_leaves_the_draft(rt: HostRuntime) -> Result<(), Fail> {
         words.as_slice(),
         [0x123462B7, 0xFFF28293, 0x00000013].as_slice()
     );
+    Ok(())
+}
+
+#[test]
+fn faults_have_their_numbers_and_texts(rt: HostRuntime) -> Result<(), Fail> {
+    let faults = [
+        (AsmFault::UnknownName, 2, "unknown name at line 9"),
+        (AsmFault::BadOperand, 3, "bad operand at line 9"),
+        (AsmFault::OutOfRange, 4, "out of range at line 9"),
+        (AsmFault::NoSuchLabel, 5, "no such label at line 9"),
+        (AsmFault::LabelTwice, 6, "label defined twice at line 9"),
+        (AsmFault::TooLong, 7, "too long at line 9"),
+    ];
+    for (fault, number, text) in faults {
+        let error = AsmError::at_line(fault, 9);
+        assert_eq!(rt; error.number(), number);
+        assert_eq!(rt; error.to_string(rt.alloc())?.as_str(), text);
+    }
+    let none = AsmError::NoMemory;
+    assert_eq!(rt; none.to_string(rt.alloc())?.as_str(), "no memory");
     Ok(())
 }
