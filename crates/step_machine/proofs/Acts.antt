@@ -29,6 +29,7 @@ use Rattle.step_machine.specs.Runs.{CanFollow, Happens, RunFrom, Run, idle_of, i
 use Rattle.step_machine.proofs.Follows.{act_only, follows}
 use Rattle.step_machine.proofs.Running.{kept-happens, kept-unrun}
 use Rattle.step_machine.specs.inner.Config.{land_in}
+use Rattle.step_machine.specs.Banks.{is_over}
 use Rattle.step_machine.proofs.Happening.{history_after, none-no_hart, over_happens, state_of-hart, some_land}
 use Rattle.step_machine.proofs.OwnRuns.{only_act}
 
@@ -198,7 +199,7 @@ state_or M t h = at (state_of M t h) refl
     at (Some s) is = inl (s, is)
 
 lands : (B M : ℕ) (t : History) (h : ℕ) (s : HartState) (ps : List Write) → Kept B M t → state_of M t h ≡ Some s → ps ≡ pending h t.entries → Happening B M t (event.Land h)
-lands B M t h s ps kept is same = (land_in ps h s.status, history_after t (land_in ps h s.status), some_land B M t h s ps kept is same)
+lands B M t h s ps kept is same = (land_in ps h (is_over s.status), history_after t (land_in ps h (is_over s.status)), some_land B M t h s ps kept is same)
 
 pub happens_some : (B M : ℕ) (t : History) (ev : Event) → Kept B M t → Happening B M t ev
 happens_some B M t (event.Act h) kept =

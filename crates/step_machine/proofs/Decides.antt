@@ -21,8 +21,9 @@ use Rattle.step_machine.specs.History.{Start, History}
 use Rattle.step_machine.specs.Entries.{hart_of, is_land, pending, memory_byte, memory_word, read_byte, read}
 use Rattle.step_machine.specs.Paths.{entry_of, value_of}
 use Rattle.step_machine.specs.Legal.{Allowed}
-use Rattle.step_machine.specs.inner.Config.{Config, IsPlace, IsInRange, buffer_of, word_at, found_byte, found, is_empty, if_waits, outcome_for}
-use Rattle.step_machine.specs.inner.Ties.{Tied}
+use Rattle.step_machine.specs.Banks.{Does}
+use Rattle.step_machine.specs.inner.Config.{Stored, IsPlace, IsInRange, buffer_of, word_at, found_byte, found, is_empty, if_waits, outcome_for}
+use Rattle.step_machine.specs.inner.Ties.{Holds}
 use Rattle.memory.specs.declared.writes.Write.{Write}
 
 in_range_true : (s : HartState) (n : Need) → IsTrueOf s n → IsInRange s.words n
@@ -34,11 +35,6 @@ in_range_true s n is = tt
 pub need_of-in_range : (M : ℕ) (s : HartState) → s.words ≡ M → IsInRange M (need_of s)
 need_of-in_range M s words = subst (λ (m : ℕ). IsInRange m (need_of s)) words (in_range_true s (need_of s) (need_is_true s))
 
--- an entry with which hart h does what it needs, and which memory and buffers allow
-pub record Does (B : ℕ) (t : History) (h : ℕ) (n : Need) (e : Entry) : Type 0 where
-  pub made : e ≡ entry_of h n (value_of e)
-  pub allowed : Allowed B t.opening t.entries e
-
 -- the outcome of an act of a running hart that needs n: the one entry that does it, or waiting
 -- because none can
 abbrev pub Decided : ℕ → History → ℕ → Need → Outcome → Type 0
@@ -49,17 +45,17 @@ Decided B t h n outcome.Over = ⊥
 Decided B t h n outcome.NoHart = ⊥
 
 -- what an act sees of memory and of its own buffer
-pub record Sees (M : ℕ) (t : History) (c : Config) (h : ℕ) : Type 0 where
+pub record Sees (M : ℕ) (t : History) (c : Stored) (h : ℕ) : Type 0 where
   pub buffer : buffer_of c h ≡ pending h t.entries
   pub finds : (a width : ℕ) → IsPlace M width a → found c h a width ≡ read t.opening t.entries h a width
   pub words : (a : ℕ) → IsPlace M 4 a → word_at c a ≡ memory_word t.opening t.entries a
 
-found_byte-read : (M : ℕ) (t : History) (c : Config) (h x : ℕ) → Tied M t c → x < 4 * M → found_byte c h x ≡ read_byte t.opening t.entries h x
+found_byte-read : (M : ℕ) (t : History) (c : Stored) (h x : ℕ) → Holds M t c → x < 4 * M → found_byte c h x ≡ read_byte t.opening t.entries h x
 found_byte-read M t c h x tied below =
     ap (λ ws. unwrap_or (newest_of x None ws) (byte_of c.words x)) (tied.buffers h) ∙ ap (unwrap_or (newest_of x None (pending h t.entries))) (tied.bytes x below)
 
-pub Tied-sees : (M : ℕ) (t : History) (c : Config) (h : ℕ) → Tied M t c → Sees M t c h
-Tied-sees M t c h tied = record {
+pub Holds-sees : (M : ℕ) (t : History) (c : Stored) (h : ℕ) → Holds M t c → Sees M t c h
+Holds-sees M t c h tied = record {
   buffer = tied.buffers h;
   finds = λ a width is. joined-same (λ i. found_byte c h (a + i)) (λ i. read_byte t.opening t.entries h (a + i)) width (λ i lt. (
       let within : a % 4 + width ≤ 4 = is.1 in
@@ -86,7 +82,7 @@ read-empty o es h a e = ap (λ ws. joined (λ i. unwrap_or (newest_of (a + i) No
 alone : (B : ℕ) (t : History) (h : ℕ) (n : Need) (e : Entry) → hart_of e ≡ h → is_land e ≡ false → e ≡ entry_of h n (value_of e) → Allowed B t.opening t.entries e → ((d : Entry) → d ≡ entry_of h n (value_of d) → d ≡ e) → Decided B t h n (outcome.Did e)
 alone B t h n e mine act made allowed only = (mine, act, record { made = made; allowed = allowed }, λ d does. only d does.made)
 
-decided_load : (B M : ℕ) (t : History) (c : Config) (h a width : ℕ) → Sees M t c h → IsPlace M width a → Decided B t h (need.Load a width) (outcome.Did (entry.Load h a width (found c h a width)))
+decided_load : (B M : ℕ) (t : History) (c : Stored) (h a width : ℕ) → Sees M t c h → IsPlace M width a → Decided B t h (need.Load a width) (outcome.Did (entry.Load h a width (found c h a width)))
 decided_load B M t c h a width sees is = (
   refl,
   refl,
@@ -94,7 +90,7 @@ decided_load B M t c h a width sees is = (
   λ d does. does.made ∙ ap (λ v. entry.Load h a width v) (subst (Allowed B t.opening t.entries) does.made does.allowed ∙ sym (sees.finds a width is)),
 )
 
-decided_store : (B M : ℕ) (t : History) (c : Config) (h a width w : ℕ) (b : Bool) → Sees M t c h → nat_lt (length (buffer_of c h)) B ≡ b → Decided B t h (need.Store a width w) (if_waits (not b) (entry.Store h a width w))
+decided_store : (B M : ℕ) (t : History) (c : Stored) (h a width w : ℕ) (b : Bool) → Sees M t c h → nat_lt (length (buffer_of c h)) B ≡ b → Decided B t h (need.Store a width w) (if_waits (not b) (entry.Store h a width w))
 decided_store B M t c h a width w true sees is =
     let few : length (buffer_of c h) < B = grind (arith, nat_tests) in
     alone B t h (need.Store a width w) (entry.Store h a width w) refl refl refl (subst (λ (ps : List Write). length ps < B) sees.buffer few) (λ d made. made)
@@ -104,7 +100,7 @@ decided_store B M t c h a width w false sees is = λ d does.
     let full : B ≤ length (buffer_of c h) = grind (arith, nat_tests) in
     absurd (omega arith)
 
-decided_amo : (B M : ℕ) (t : History) (c : Config) (h a : ℕ) (op : AmoOp) (rs2 : ℕ) (b : Bool) → Sees M t c h → IsPlace M 4 a → is_empty (buffer_of c h) ≡ b → Decided B t h (need.Amo a op rs2) (if_waits (not b) (entry.Amo h a (word_at c a) (updated op (word_at c a) rs2)))
+decided_amo : (B M : ℕ) (t : History) (c : Stored) (h a : ℕ) (op : AmoOp) (rs2 : ℕ) (b : Bool) → Sees M t c h → IsPlace M 4 a → is_empty (buffer_of c h) ≡ b → Decided B t h (need.Amo a op rs2) (if_waits (not b) (entry.Amo h a (word_at c a) (updated op (word_at c a) rs2)))
 decided_amo B M t c h a op rs2 true sees is b =
     let empty : pending h t.entries ≡ [] = sym sees.buffer ∙ is_empty-nil (buffer_of c h) b in
     let word : word_at c a ≡ read t.opening t.entries h a 4 = sees.words a is ∙ sym (read-empty t.opening t.entries h a empty) in (
@@ -118,7 +114,7 @@ decided_amo B M t c h a op rs2 false sees is b = λ d does.
     let yes : is_empty (buffer_of c h) ≡ true = nil-is_empty (buffer_of c h) (sees.buffer ∙ empty) in
     cc
 
-decided_fence : (B M : ℕ) (t : History) (c : Config) (h : ℕ) (full b : Bool) → Sees M t c h → is_empty (buffer_of c h) ≡ b → Decided B t h (need.Fence full) (if_waits (full && not b) (entry.Fence h full))
+decided_fence : (B M : ℕ) (t : History) (c : Stored) (h : ℕ) (full b : Bool) → Sees M t c h → is_empty (buffer_of c h) ≡ b → Decided B t h (need.Fence full) (if_waits (full && not b) (entry.Fence h full))
 decided_fence B M t c h false b sees is = alone B t h (need.Fence false) (entry.Fence h false) refl refl refl (λ bad. absurd (cc)) (λ d made. made)
 decided_fence B M t c h true true sees is =
     alone B t h (need.Fence true) (entry.Fence h true) refl refl refl (λ _. sym sees.buffer ∙ is_empty-nil (buffer_of c h) is) (λ d made. made)
@@ -128,7 +124,7 @@ decided_fence B M t c h true false sees is = λ d does.
     cc
 
 -- what a running hart's act answers is decided
-pub outcome_for-decided : (B M : ℕ) (t : History) (c : Config) (h : ℕ) (n : Need) → Sees M t c h → IsInRange M n → Decided B t h n (outcome_for B c h n)
+pub outcome_for-decided : (B M : ℕ) (t : History) (c : Stored) (h : ℕ) (n : Need) → Sees M t c h → IsInRange M n → Decided B t h n (outcome_for B c h n)
 outcome_for-decided B M t c h need.Inner sees is = alone B t h need.Inner (entry.Inner h) refl refl refl tt (λ d made. made)
 outcome_for-decided B M t c h (need.Load a width) sees is = decided_load B M t c h a width sees is
 outcome_for-decided B M t c h (need.Store a width w) sees is = decided_store B M t c h a width w (nat_lt (length (buffer_of c h)) B) sees refl

@@ -1,17 +1,20 @@
 -- A step of one hart, a store, an AMO and a landing keep harts, buffers and memory fit for each other.
-use Rattle.std.proofs.Common.{◌≡◌, ℕ, ◌<◌, List, length, set, get_or, Option, Some, None, refl, sym, ◌∙◌, ap, subst}
+use Rattle.std.proofs.Common.{◌≡◌, ℕ, ◌<◌, Bool, true, false, List, [], ◌∷◌, length, set, get_or, Option, Some, None, refl, sym, ◌∙◌, ap, subst}
 use Rattle.std.specs.Prelude.{All, IfSome, IsSomeAnd}
 use Rattle.std.specs.List.{slice_get}
 use Rattle.std.proofs.lemmas.Option.{slice_get_within, slice_get_read, get_or_from_slice_get}
 use Rattle.std.proofs.lemmas.List.{length-set}
 use Rattle.std.proofs.lemmas.List.Elements.{All-set}
+use Rattle.memory.specs.declared.writes.Write.{Write}
+use Rattle.step_machine.specs.declared.events.Outcome.{Outcome}
 use Rattle.hart.specs.State.{HartView}
+use Rattle.step_machine.specs.Banks.{is_over}
 use Rattle.hart.specs.Steps.{need_of, stepped}
 use Rattle.hart.specs.declared.need.Need.{Need}
 use Rattle.hart.specs.declared.status.Status.{Status}
 use Rattle.hart.specs.declared.status.Status.TheVariants as status
 use Rattle.hart.proofs.Advances.{advanced-words}
-use Rattle.step_machine.specs.inner.Config.{Config, IsInRange, step_at, step_hart, Fit, IsNext, IsReady, act_in, act_outcome, outcome_for}
+use Rattle.step_machine.specs.inner.Config.{Stored, FitStored, stored_after_outcome, after_outcome, Config, buffer_of, land_in, land_outcome, IsInRange, step_at, step_hart, Fit, IsNext, IsReady, act_in, act_outcome, outcome_for}
 use Rattle.step_machine.proofs.Decides.{need_of-in_range}
 
 -- the element x of the list, stepped in its place
@@ -31,9 +34,8 @@ words_step_at M hs h v (Some x) is all =
 pub fit_step : (M : ℕ) (c : Config) (h v : ℕ) → Fit M c → Fit M (record c { harts = step_hart c h v })
 fit_step M c h v fit = record {
   buffers = fit.buffers ∙ sym (length-step_at c.harts h v (slice_get c.harts h));
-  words = fit.words;
   harts = words_step_at M c.harts h v (slice_get c.harts h) refl fit.harts;
-  pending = fit.pending;
+  stored = fit.stored;
 }
 
 pub fit_stepped : (M : ℕ) (c : Config) (h v : ℕ) (x y : HartView) → h < length c.harts → x ≡ get_or c.harts h x → y ≡ stepped x v → Fit M c → Fit M (record c { harts = set c.harts h y })
@@ -51,8 +53,26 @@ ready_in_place M c h x n within is running next room fit =
       subst (IsInRange M) (sym next) (need_of-in_range M x.state words),
     )
 
+-- other buffers and words that fit, for as many harts
+pub fit_served : (M : ℕ) (c : Config) (s : Stored) → Fit M c → length s.buffers ≡ length c.stored.buffers → FitStored M s → Fit M (record c { stored = s })
+fit_served M c s fit count stored = record { buffers = count ∙ fit.buffers; harts = fit.harts; stored = stored }
+
+-- a landing leaves the harts
+pub land_leaves : (c : Config) (s : Stored) (o : Outcome) (ps : List Write) (h : ℕ) (over : Bool) → o ≡ land_in ps h over → s ≡ stored_after_outcome c.stored o → record c { stored = s } ≡ after_outcome c o
+land_leaves c s o ps h over is after = ap (λ (x : Stored). record c { stored = x }) after ∙ rw is (at ps over)
+  where
+    at : (qs : List Write) (b : Bool) → record c { stored = stored_after_outcome c.stored (land_in qs h b) } ≡ after_outcome c (land_in qs h b)
+    at [] true = refl
+    at [] false = refl
+    at (q ∷ qs) b = refl
+
+-- a landing of a hart that is over or goes on
+pub land_outcome-over : (c : Config) (h : ℕ) (x : HartView) (over : Bool) → h < length c.harts → x ≡ get_or c.harts h x → over ≡ is_over x.state.status → land_in (buffer_of c.stored h) h over ≡ land_outcome c h (slice_get c.harts h)
+land_outcome-over c h x over within is is_so =
+    ap (land_in (buffer_of c.stored h) h) is_so ∙ sym (ap (land_outcome c h) (slice_get_read c.harts (length c.harts) h x refl within is))
+
 -- an act of a hart in this status
-pub act_outcome-status : (B : ℕ) (c : Config) (h : ℕ) (x : HartView) (st : Status) → h < length c.harts → x ≡ get_or c.harts h x → x.state.status ≡ st → act_outcome B c h (slice_get c.harts h) ≡ act_in st (outcome_for B c h (need_of x.state))
+pub act_outcome-status : (B : ℕ) (c : Config) (h : ℕ) (x : HartView) (st : Status) → h < length c.harts → x ≡ get_or c.harts h x → x.state.status ≡ st → act_outcome B c h (slice_get c.harts h) ≡ act_in st (outcome_for B c.stored h (need_of x.state))
 act_outcome-status B c h x st within is status_is =
     let here : slice_get c.harts h ≡ Some x = slice_get_read c.harts (length c.harts) h x refl within is in
-    ap (act_outcome B c h) here ∙ ap (λ s. act_in s (outcome_for B c h (need_of x.state))) status_is
+    ap (act_outcome B c h) here ∙ ap (λ s. act_in s (outcome_for B c.stored h (need_of x.state))) status_is

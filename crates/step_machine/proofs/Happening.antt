@@ -16,11 +16,12 @@ use Rattle.step_machine.specs.History.{HartStart, History, with_entry}
 use Rattle.step_machine.specs.Entries.{hart_of, own, pending}
 use Rattle.step_machine.specs.Paths.{entry_of, value_of, CanMake, state_of, Path}
 use Rattle.step_machine.specs.Legal.{Allowed, Kept}
+use Rattle.step_machine.specs.Banks.{is_over}
 use Rattle.step_machine.specs.Runs.{CanFollow, NoEntry, idle_of, idle_in, Happens}
 use Rattle.step_machine.specs.inner.Config.{Config, IsInRange, buffer_of, entries_after, outcome_for, act_in, act_outcome, land_in, land_outcome, outcome_of}
 use Rattle.step_machine.specs.inner.Ties.{view_state, Tied}
 use Rattle.step_machine.proofs.Follows.{state_after, follows, act_only, land_follows, Path-hart, Legal-last}
-use Rattle.step_machine.proofs.Decides.{need_of-in_range, Decided, Tied-sees, outcome_for-decided}
+use Rattle.step_machine.proofs.Decides.{need_of-in_range, Decided, Holds-sees, outcome_for-decided}
 use Rattle.memory.specs.declared.writes.Write.{Write}
 
 -- the history after an outcome
@@ -94,8 +95,8 @@ act_happens B M t c h None stands words is =
     }
 act_happens B M t c h (Some v) stands words is =
     let range : IsInRange M (need_of v.state) = need_of-in_range M v.state (words v refl) in
-    status_happens B M t h v.state v.state.status (outcome_for B c h (need_of v.state)) stands.kept (sym is) refl
-    (outcome_for-decided B M t c h (need_of v.state) (Tied-sees M t c h stands.tied) range)
+    status_happens B M t h v.state v.state.status (outcome_for B c.stored h (need_of v.state)) stands.kept (sym is) refl
+    (outcome_for-decided B M t c.stored h (need_of v.state) (Holds-sees M t c.stored h stands.tied.holds) range)
 
 land_none : (B M : ℕ) (t : History) (h : ℕ) → pending h t.entries ≡ [] → NoEntry B M t (event.Land h)
 land_none B M t h empty d is f =
@@ -103,7 +104,7 @@ land_none B M t h empty d is f =
     let none : length (pending h t.entries) ≡ 0 = ap length empty in
     absurd (omega arith)
 
-idle_land : (B M : ℕ) (t : History) (h : ℕ) (s : HartState) (st : Status) → state_of M t h ≡ Some s → s.status ≡ st → pending h t.entries ≡ [] → Happens B M t (event.Land h) (act_in st outcome.NothingToLand) (history_after t (act_in st outcome.NothingToLand))
+idle_land : (B M : ℕ) (t : History) (h : ℕ) (s : HartState) (st : Status) → state_of M t h ≡ Some s → s.status ≡ st → pending h t.entries ≡ [] → Happens B M t (event.Land h) (land_in [] h (is_over st)) (history_after t (land_in [] h (is_over st)))
 idle_land B M t h s status.Running is run empty =
     record { none = land_none B M t h empty; why = sym (ap (λ o. idle_of o outcome.NothingToLand) is ∙ ap (λ x. idle_in x outcome.NothingToLand) run); after = refl }
 idle_land B M t h s status.Ended is run empty =
@@ -112,7 +113,7 @@ idle_land B M t h s (status.Stopped why) is run empty =
     record { none = land_none B M t h empty; why = sym (ap (λ o. idle_of o outcome.NothingToLand) is ∙ ap (λ x. idle_in x outcome.NothingToLand) run); after = refl }
 
 -- a landing where so much is pending
-pub some_land : (B M : ℕ) (t : History) (h : ℕ) (s : HartState) (ps : List Write) → Kept B M t → state_of M t h ≡ Some s → ps ≡ pending h t.entries → Happens B M t (event.Land h) (land_in ps h s.status) (history_after t (land_in ps h s.status))
+pub some_land : (B M : ℕ) (t : History) (h : ℕ) (s : HartState) (ps : List Write) → Kept B M t → state_of M t h ≡ Some s → ps ≡ pending h t.entries → Happens B M t (event.Land h) (land_in ps h (is_over s.status)) (history_after t (land_in ps h (is_over s.status)))
 some_land B M t h s [] kept is ps = idle_land B M t h s s.status is refl (sym ps)
 some_land B M t h s (p ∷ ps) kept is e =
     let count : length (p ∷ ps) ≡ length (pending h t.entries) = ap length e in
@@ -130,7 +131,7 @@ land_happens B M t c h None stands is =
       why = ap (λ o. idle_of o outcome.NothingToLand) is;
       after = refl;
     }
-land_happens B M t c h (Some v) stands is = some_land B M t h v.state (buffer_of c h) stands.kept (sym is) (stands.tied.buffers h)
+land_happens B M t c h (Some v) stands is = some_land B M t h v.state (buffer_of c.stored h) stands.kept (sym is) (stands.tied.holds.buffers h)
 
 -- the outcome of an event is the one that the history allows, and the history goes on by it
 pub outcome_of-happens : (B M : ℕ) (t : History) (c : Config) (ev : Event) → Stands B M t c → ((h : ℕ) (v : HartView) → slice_get c.harts h ≡ Some v → v.state.words ≡ M) → Happens B M t ev (outcome_of B c ev) (history_after t (outcome_of B c ev))

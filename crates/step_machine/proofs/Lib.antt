@@ -17,3 +17,6 @@ pub mod WordReads
 pub mod OwnRuns
 pub mod Acts
 pub mod States
+pub mod MemoryAlone
+pub mod Placing
+pub mod Banking

@@ -11,16 +11,14 @@ use Rattle.hart.specs.State.{HartView}
 use Rattle.step_machine.specs.History.{HartStart, Start, unrun, FitsIn}
 use Rattle.step_machine.specs.Paths.{opens_as}
 use Rattle.step_machine.specs.inner.Opened.{opened_hart}
-use Rattle.step_machine.specs.inner.Config.{Config, HasAddress, Fit, beginning, opened_config}
-use Rattle.step_machine.specs.inner.Ties.{view_state, Tied}
+use Rattle.step_machine.specs.inner.Config.{Config, HasAddress, FitStored, Fit, beginning, opened_stored, opened_config}
+use Rattle.step_machine.specs.inner.Ties.{view_state, Holds, Tied}
 use Rattle.memory.specs.declared.writes.Write.{Write}
 
-pub fit_opened : (M : ℕ) (o : Start) → FitsIn M o → Fit M (opened_config M o)
-fit_opened M o fits = record {
-  buffers = length-replicate (length o.harts) [] ∙ sym (length-map o.harts (opened_hart M));
-  words = length-append o.words (drop (length o.words) (replicate M 0)) ∙ rest (length o.words) fits.words;
-  harts = All-map (λ (v : HartView). v.state.words ≡ M) (opened_hart M) o.harts (λ k d lt. refl);
-  pending = All-replicate (λ (ps : List Write). All (HasAddress M) ps) (length o.harts) [] (All-nil (HasAddress M));
+pub fit_stored : (M : ℕ) (first : List ℕ) (harts : ℕ) → length first ≤ M → FitStored M (opened_stored M first harts)
+fit_stored M first harts few = record {
+  words = length-append first (drop (length first) (replicate M 0)) ∙ rest (length first) few;
+  pending = All-replicate (λ (ps : List Write). All (HasAddress M) ps) harts [] (All-nil (HasAddress M));
 }
   where
     rest : (n : ℕ) → n ≤ M → n + length {A = ℕ} (drop n (replicate M 0)) ≡ M
@@ -29,6 +27,13 @@ fit_opened M o fits = record {
         let left : length (drop n zeros) ≡ length zeros - n = length-drop n zeros in
         let all : length zeros ≡ M = length-replicate {A = ℕ} M 0 in
         omega arith
+
+pub fit_opened : (M : ℕ) (o : Start) → FitsIn M o → Fit M (opened_config M o)
+fit_opened M o fits = record {
+  buffers = length-replicate (length o.harts) [] ∙ sym (length-map o.harts (opened_hart M));
+  harts = All-map (λ (v : HartView). v.state.words ≡ M) (opened_hart M) o.harts (λ k d lt. refl);
+  stored = fit_stored M o.words (length o.harts) fits.words;
+}
 
 pub fit_held : (M : ℕ) (o : Start) (c : Config) → FitsIn M o → c ≡ opened_config M o → Fit M c
 fit_held M o c fits is = subst (Fit M) (sym is) (fit_opened M o fits)
@@ -60,12 +65,17 @@ zeros_after [] m i = zeros_everywhere m i
 zeros_after (x ∷ xs) m zero = refl
 zeros_after (x ∷ xs) m (suc i) = zeros_after xs m i
 
+pub holds_opened : (M : ℕ) (o : Start) (harts : ℕ) → Holds M (unrun o) (opened_stored M o.words harts)
+holds_opened M o harts = record {
+  buffers = λ h. none_everywhere harts h;
+  in_words = All-nil WritesInWord;
+  bytes = λ a is. ap (λ (ws : List ℕ). byte_of (o.words ++ ws) a) (drop-replicate (length o.words) M 0) ∙ ap (byte_at (a % 4)) (zeros_after o.words (M - length o.words) (a / 4));
+}
+
 pub tied_opened : (M : ℕ) (o : Start) → Tied M (unrun o) (opened_config M o)
 tied_opened M o = record {
   states = λ h. ap (option_map view_state) (slice_get-map (opened_hart M) o.harts h) ∙ view_opened M (slice_get o.harts h);
   firsts = λ h. ap (option_map beginning) (slice_get-map (opened_hart M) o.harts h) ∙ first_opened M (slice_get o.harts h);
   reports = λ h v is. reports_opened M (slice_get o.harts h) v (sym (slice_get-map (opened_hart M) o.harts h) ∙ is);
-  buffers = λ h. none_everywhere (length o.harts) h;
-  in_words = All-nil WritesInWord;
-  bytes = λ a is. ap (λ (ws : List ℕ). byte_of (o.words ++ ws) a) (drop-replicate (length o.words) M 0) ∙ ap (byte_at (a % 4)) (zeros_after o.words (M - length o.words) (a / 4));
+  holds = holds_opened M o (length o.harts);
 }

@@ -17,7 +17,7 @@ use Rattle.step_machine.specs.Access.{Access, nothing, load, store, exchange, fe
 use Rattle.step_machine.specs.History.{HartStart, Start, History, unrun}
 use Rattle.step_machine.specs.Entries.{hart_of, stored_by, written_by, store_of, stores, lands, pending, write_of, landed_after, landed, opening_byte, memory_byte}
 use Rattle.step_machine.specs.Paths.{opens_as}
-use Rattle.step_machine.specs.inner.Config.{Config, HasAddress, Fit, beginning, put_back_by, put_back, all_put_back, no_stores, restarted_config}
+use Rattle.step_machine.specs.inner.Config.{Stored, Config, HasAddress, FitStored, Fit, beginning, put_back_by, put_back, all_put_back, no_stores, restarted_stored, restarted_config}
 use Rattle.step_machine.specs.inner.Ties.{view_state, Tied, Sound}
 use Rattle.step_machine.proofs.Running.{kept-unrun}
 use Rattle.memory.specs.declared.writes.Write.{Write}
@@ -181,30 +181,37 @@ pub firsts_fit : (M : ℕ) (t : History) (c : Config) → Tied M t c → All (λ
 firsts_fit M t c tied = λ h d within.
     first_words M (slice_get t.opening.harts h) (get_or c.harts h d) (ap (option_map beginning) (sym (slice_get-get_or c.harts h d within)) ∙ tied.firsts h)
 
-pub fit_restarted : (M : ℕ) (o : Start) (es : List Entry) (c : Config) → All (λ (v : HartView). v.first.words ≡ M) c.harts → Fit M c → Fit M (restarted_config o es c)
-fit_restarted M o es c firsts fit = record {
-  buffers = length-map c.buffers no_stores ∙ fit.buffers ∙ sym (length-map c.harts restarted);
-  words = length-all_put_back o.words c.words es ∙ fit.words;
-  harts = All-map (λ (v : HartView). v.state.words ≡ M) restarted c.harts firsts;
-  pending = All-map (λ (ps : List Write). All (HasAddress M) ps) no_stores c.buffers (λ h d within. All-nil (HasAddress M));
+pub fit_put_back : (M : ℕ) (first : List ℕ) (es : List Entry) (s : Stored) → FitStored M s → FitStored M (restarted_stored first es s)
+fit_put_back M first es s fit = record {
+  words = length-all_put_back first s.words es ∙ fit.words;
+  pending = All-map (λ (ps : List Write). All (HasAddress M) ps) no_stores s.buffers (λ h d within. All-nil (HasAddress M));
 }
 
-pub tied_restarted : (M : ℕ) (t : History) (c : Config) → length c.words ≡ M → Tied M t c → Tied M (unrun t.opening) (restarted_config t.opening t.entries c)
+pub fit_restarted : (M : ℕ) (o : Start) (es : List Entry) (c : Config) → All (λ (v : HartView). v.first.words ≡ M) c.harts → Fit M c → Fit M (restarted_config o es c)
+fit_restarted M o es c firsts fit = record {
+  buffers = length-map c.stored.buffers no_stores ∙ fit.buffers ∙ sym (length-map c.harts restarted);
+  harts = All-map (λ (v : HartView). v.state.words ≡ M) restarted c.harts firsts;
+  stored = fit_put_back M o.words es c.stored fit.stored;
+}
+
+pub tied_restarted : (M : ℕ) (t : History) (c : Config) → length c.stored.words ≡ M → Tied M t c → Tied M (unrun t.opening) (restarted_config t.opening t.entries c)
 tied_restarted M t c count tied = record {
   states = λ h. ap (option_map view_state) (slice_get-map restarted c.harts h) ∙ state_again (slice_get c.harts h) ∙ tied.firsts h;
   firsts = λ h. ap (option_map beginning) (slice_get-map restarted c.harts h) ∙ first_again (slice_get c.harts h) ∙ tied.firsts h;
   reports = λ h v is. none_reported (slice_get c.harts h) v (sym (slice_get-map restarted c.harts h) ∙ is);
-  buffers = λ h. no_stores_anywhere c.buffers h;
-  in_words = All-nil WritesInWord;
-  bytes = λ a is. (let within : a / 4 < length c.words = omega arith in
-      all_back t.opening.words c.words (a / 4) (a % 4) t.entries within (λ none. tied.bytes a is ∙ byte_not_named t.opening t.entries a tied.in_words none));
+  holds = record {
+    buffers = λ h. no_stores_anywhere c.stored.buffers h;
+    in_words = All-nil WritesInWord;
+    bytes = λ a is. (let within : a / 4 < length c.stored.words = omega arith in
+        all_back t.opening.words c.stored.words (a / 4) (a % 4) t.entries within (λ none. tied.holds.bytes a is ∙ byte_not_named t.opening t.entries a tied.holds.in_words none));
+  };
 }
 
 pub sound_restarted : (B M n : ℕ) (t : History) (c : Config) → Sound B M t c n → Sound B M (unrun t.opening) (restarted_config t.opening t.entries c) n
 sound_restarted B M n t c sound = record {
   fits = sound.fits;
   kept = kept-unrun B M t.opening;
-  tied = tied_restarted M t c sound.fit.words sound.tied;
+  tied = tied_restarted M t c sound.fit.stored.words sound.tied;
   fit = fit_restarted M t.opening t.entries c (firsts_fit M t c sound.tied) sound.fit;
   count = length-map c.harts restarted ∙ sound.count;
   room = λ h v is. roomy_again n (slice_get c.harts h) v (sym (slice_get-map restarted c.harts h) ∙ is) (sound.room h);

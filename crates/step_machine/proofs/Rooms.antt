@@ -11,17 +11,17 @@ use Rattle.step_machine.specs.inner.Config.{Config, without_room, beginning, Sam
 use Rattle.step_machine.proofs.Stays.{slice_get-set_same, slice_get-set_other}
 
 pub same_self : (c : Config) → SameButRoom c c
-same_self c = record { harts = refl; firsts = refl; buffers = refl; words = refl }
+same_self c = record { harts = refl; firsts = refl; stored = refl }
 
 pub same_after : (c d e : Config) → SameButRoom c d → SameButRoom d e → SameButRoom c e
-same_after c d e s t = record { harts = t.harts ∙ s.harts; firsts = t.firsts ∙ s.firsts; buffers = t.buffers ∙ s.buffers; words = t.words ∙ s.words }
+same_after c d e s t = record { harts = t.harts ∙ s.harts; firsts = t.firsts ∙ s.firsts; stored = t.stored ∙ s.stored }
 
 same_in : {X : Type 0} (f : HartView → X) → ((n : ℕ) (v : HartView) → f (roomy n v) ≡ f v) → (hs : List HartView) (h n : ℕ) (so : Option HartView) → slice_get hs h ≡ so → map f (roomy_in hs h n so) ≡ map f hs
 same_in f same hs h n None is = refl
 same_in f same hs h n (Some v) is = map-set_same f hs h (roomy n v) v (same n v ∙ ap f (sym (get_or_from_slice_get hs h v v is)))
 
 pub same_roomy : (c : Config) (h n : ℕ) → SameButRoom c (record c { harts = roomy_at c.harts h n })
-same_roomy c h n = record { harts = same_in without_room (λ m v. refl) c.harts h n (slice_get c.harts h) refl; firsts = same_in beginning (λ m v. refl) c.harts h n (slice_get c.harts h) refl; buffers = refl; words = refl }
+same_roomy c h n = record { harts = same_in without_room (λ m v. refl) c.harts h n (slice_get c.harts h) refl; firsts = same_in beginning (λ m v. refl) c.harts h n (slice_get c.harts h) refl; stored = refl }
 
 -- a hart written at h: what a test says of it and of the others
 pub written_at_place : (P : HartView → Type 0) (hs : List HartView) (h k : ℕ) (x v : HartView) → h < length hs → P x → ((w : HartView) → slice_get hs k ≡ Some w → P w) → slice_get (set hs h x) k ≡ Some v → P v

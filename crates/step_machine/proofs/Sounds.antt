@@ -1,10 +1,9 @@
 -- A sound machine stays sound, whatever the event.
 use Rattle.std.proofs.Common.{◌≡◌, ℕ, ◌-◌, ◌≤◌, List, [], length, get_or, Option, Some, None, refl, sym, ◌∙◌, ap, subst, arith}
-use Rattle.std.specs.Prelude.{map, option_map, All}
+use Rattle.std.specs.Prelude.{map, option_map}
 use Rattle.std.specs.List.{slice_get}
 use Rattle.std.proofs.lemmas.List.{length-map}
 use Rattle.std.proofs.lemmas.Option.{slice_get_within, slice_get-get_or, get_or_from_slice_get, slice_get-map}
-use Rattle.memory.specs.Writes.{byte_of}
 use Rattle.hart.specs.State.{HartState, HartView}
 use Rattle.hart.specs.Steps.{stepped}
 use Rattle.hart.specs.declared.need.Report.{Report}
@@ -15,8 +14,8 @@ use Rattle.step_machine.specs.declared.events.Outcome.{Outcome}
 use Rattle.step_machine.specs.declared.events.Outcome.TheVariants as outcome
 use Rattle.step_machine.specs.History.{Start, History, unrun, FitsIn}
 use Rattle.step_machine.specs.Runs.{Happens}
-use Rattle.step_machine.specs.inner.Config.{Config, HasAddress, Fit, AllHaveRoom, SameButRoom, without_room, step_at, after_entry, after_outcome, entries_after, outcome_of, opened_config}
-use Rattle.step_machine.specs.inner.Ties.{view_state, Tied, Sound}
+use Rattle.step_machine.specs.inner.Config.{Stored, Config, FitStored, Fit, AllHaveRoom, SameButRoom, without_room, step_at, after_entry, after_outcome, entries_after, outcome_of, opened_config}
+use Rattle.step_machine.specs.inner.Ties.{view_state, Holds, Tied, Sound}
 use Rattle.step_machine.proofs.Carried.{carried}
 use Rattle.step_machine.proofs.Fitting.{length-step_at}
 use Rattle.step_machine.proofs.Happening.{history_after, outcome_of-happens}
@@ -24,7 +23,6 @@ use Rattle.step_machine.proofs.Opens.{fit_opened, tied_opened}
 use Rattle.step_machine.proofs.Rooms.{written_at_place, same-length}
 use Rattle.step_machine.proofs.Running.{kept-unrun, kept_after}
 use Rattle.step_machine.proofs.Stays.{first_same}
-use Rattle.memory.specs.declared.writes.Write.{Write}
 
 -- room is no part of what a history says
 
@@ -49,9 +47,7 @@ tied_same M t c d tied same = record {
   states = λ h. same_states (slice_get d.harts h) (slice_get c.harts h) (same_without_room c d h same) ∙ tied.states h;
   firsts = λ h. first_same c.harts d.harts h same.firsts ∙ tied.firsts h;
   reports = λ h v is. same_reports (slice_get c.harts h) v _ (sym (same_without_room c d h same) ∙ ap (option_map without_room) is) (tied.reports h);
-  buffers = λ h. ap (λ (bs : List (List Write)). get_or bs h []) same.buffers ∙ tied.buffers h;
-  in_words = tied.in_words;
-  bytes = λ a is. ap (λ (ws : List ℕ). byte_of ws a) same.words ∙ tied.bytes a is;
+  holds = subst (Holds M t) (sym same.stored) tied.holds;
 }
 
 -- room after a step
@@ -116,11 +112,10 @@ same_words M (Some x) v is all = let both : without_room x ≡ without_room v = 
 
 pub fit_same : (M : ℕ) (c d : Config) → Fit M c → SameButRoom c d → Fit M d
 fit_same M c d fit same = record {
-  buffers = ap length same.buffers ∙ fit.buffers ∙ sym (same-length c d same);
-  words = ap length same.words ∙ fit.words;
+  buffers = ap (λ (s : Stored). length s.buffers) same.stored ∙ fit.buffers ∙ sym (same-length c d same);
   harts = λ h x lt. (let here : slice_get d.harts h ≡ Some (get_or d.harts h x) = slice_get-get_or d.harts h x lt in
       same_words M (slice_get c.harts h) (get_or d.harts h x) (sym (same_without_room c d h same) ∙ ap (option_map without_room) here) (words_of M c fit h));
-  pending = subst (λ (bs : List (List Write)). All (λ (ps : List Write). All (HasAddress M) ps) bs) (sym same.buffers) fit.pending;
+  stored = subst (FitStored M) (sym same.stored) fit.stored;
 }
 
 pub sound_same : (B M n m : ℕ) (t : History) (c d : Config) → Sound B M t c n → SameButRoom c d → AllHaveRoom m d.harts → Sound B M t d m

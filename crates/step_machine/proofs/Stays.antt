@@ -22,8 +22,8 @@ use Rattle.step_machine.specs.History.{Start, History, with_entry}
 use Rattle.step_machine.specs.Entries.{hart_of, is_land, is_own, store_of, land_of, report_of, reported, pending, write_of, landed, opening_byte, memory_byte, memory_word}
 use Rattle.step_machine.specs.Paths.{entry_of, value_of, opens_as, state_of}
 use Rattle.step_machine.specs.Legal.{Legal}
-use Rattle.step_machine.specs.inner.Config.{Config, HasAddress, beginning, written, step_at, step_hart}
-use Rattle.step_machine.specs.inner.Ties.{view_state, Tied}
+use Rattle.step_machine.specs.inner.Config.{Stored, Config, HasAddress, beginning, written, step_at, step_hart}
+use Rattle.step_machine.specs.inner.Ties.{view_state, Holds, Tied}
 use Rattle.memory.proofs.Newest.{newest_of-append}
 use Rattle.step_machine.proofs.Appended.{pending-last, landed-last, reported-last}
 use Rattle.step_machine.proofs.Balanced.{balanced}
@@ -191,7 +191,7 @@ pub land_of-other : (h k : ℕ) → (k ≡ h → ⊥) → land_of k (entry.Land 
 land_of-other h k ne = ap (λ b. if b then 1 else 0) (ne_eqb h k (λ q. ne (sym q)))
 
 -- a buffer written at h is what is pending, where it is so at h, and the others stay
-pub buffers_stay : (M : ℕ) (t : History) (c : Config) (h : ℕ) (ps : List Write) (e : Entry) → Tied M t c → h < length c.buffers → ps ≡ pending h (t.entries ++ e ∷ []) → ((k : ℕ) → (k ≡ h → ⊥) → pending k (t.entries ++ e ∷ []) ≡ pending k t.entries) → (k : ℕ) → get_or (set c.buffers h ps) k [] ≡ pending k (t.entries ++ e ∷ [])
+pub buffers_stay : (M : ℕ) (t : History) (c : Stored) (h : ℕ) (ps : List Write) (e : Entry) → Holds M t c → h < length c.buffers → ps ≡ pending h (t.entries ++ e ∷ []) → ((k : ℕ) → (k ≡ h → ⊥) → pending k (t.entries ++ e ∷ []) ≡ pending k t.entries) → (k : ℕ) → get_or (set c.buffers h ps) k [] ≡ pending k (t.entries ++ e ∷ [])
 buffers_stay M t c h ps e tied within here others k = at (k == h) refl
   where
     at : (b : Bool) → (k == h) ≡ b → get_or (set c.buffers h ps) k [] ≡ pending k (t.entries ++ e ∷ [])
@@ -233,7 +233,7 @@ memory_byte-write o es e w a is =
     chosen false = refl
 
 -- words after a write say what memory says after it
-pub bytes_stay : (M : ℕ) (t : History) (c : Config) (e : Entry) (w : Write) → Tied M t c → length c.words ≡ M → HasAddress M w → write_of t.entries e ≡ w ∷ [] → (a : ℕ) → a < 4 * M → byte_of (written w c.words) a ≡ memory_byte t.opening (t.entries ++ e ∷ []) a
+pub bytes_stay : (M : ℕ) (t : History) (c : Stored) (e : Entry) (w : Write) → Holds M t c → length c.words ≡ M → HasAddress M w → write_of t.entries e ≡ w ∷ [] → (a : ℕ) → a < 4 * M → byte_of (written w c.words) a ≡ memory_byte t.opening (t.entries ++ e ∷ []) a
 bytes_stay M t c e w tied count place is a below =
     let within : w.addr < 4 * M = place.1 in
     byte_of-write c.words w a place.0 (omega arith)

@@ -6,3 +6,6 @@ pub mod Legal
 pub mod Runs
 pub mod WordReads
 pub mod inner
+pub mod MemoryEntries
+pub mod Placing
+pub mod Banks

@@ -42,6 +42,20 @@ value_of (entry.Ended h) = 0
 value_of (entry.Stopped h why) = 0
 value_of (entry.Land h) = 0
 
+-- the number that an entry read, if it read one
+abbrev pub read_of : Entry → Option ℕ
+read_of (entry.Inner h) = None
+read_of (entry.Load h a width v) = Some v
+read_of (entry.Store h a width v) = None
+read_of (entry.Amo h a old new) = Some old
+read_of (entry.Fence h full) = None
+read_of (entry.Next h w) = None
+read_of (entry.Took h i w) = None
+read_of (entry.Closed h i) = None
+read_of (entry.Ended h) = None
+read_of (entry.Stopped h why) = None
+read_of (entry.Land h) = None
+
 -- a running hart in this state can make this entry
 pub record CanMake (s : HartState) (e : Entry) : Type 0 where
   pub running : s.status ≡ status.Running

@@ -2,3 +2,4 @@
 pub mod Config
 pub mod Opened
 pub mod Ties
+pub mod Banking

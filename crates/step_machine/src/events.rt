@@ -78,6 +78,8 @@ pub enum Entry {
 impl Entry {
     ghost use Rattle.step_machine.specs.Entries.{hart_of, is_land};
     ghost use Rattle.step_machine.specs.Runs.{event_of};
+    ghost use Rattle.step_machine.specs.Paths.{read_of};
+    ghost use Rattle.step_machine.specs.MemoryEntries.{is_memory};
 
     /// The event by which the entry comes about.
     pub fn event(self) -> Event
@@ -107,6 +109,32 @@ impl Entry {
             Entry::Stopped { hart, .. } => hart,
             Entry::Land { hart } => hart,
         }
+    }
+
+    /// The number that was read, by an entry that reads.
+    #[inline(always)]
+    pub fn read(self) -> Option<u32>
+        ensures { result ≡ read_of self }
+    {
+        match self {
+            Entry::Load { value, .. } => Some(value),
+            Entry::Amo { old, .. } => Some(old),
+            _ => None,
+        }
+    }
+
+    /// Whether memory or a buffer took part in it, or it is a fence.
+    pub fn is_memory(self) -> bool
+        ensures { result ≡ is_memory self }
+    {
+        matches!(
+            self,
+            Entry::Load { .. }
+                | Entry::Store { .. }
+                | Entry::Amo { .. }
+                | Entry::Fence { .. }
+                | Entry::Land { .. }
+        )
     }
 
     /// Whether a store landed.

@@ -1,9 +1,13 @@
 //! Laws of runs, which hold of every machine.
 
-ghost use Rattle.std.specs.Prelude.{◌≡◌, ◌%◌, ℕ, Bool, IsTrue, List, All};
-ghost use Rattle.step_machine.specs.History.{Start, History, unrun};
-ghost use Rattle.step_machine.specs.Entries.{landed, landed_by_count, memory_word, read};
+ghost use Rattle.std.specs.Prelude.{◌≡◌, ◌<◌, ◌%◌, ◌↔◌, ℕ, Bool, IsTrue, List, All, length};
+ghost use Rattle.std.specs.List.{slice_get};
+ghost use Rattle.step_machine.specs.History.{Start, History, history_of, unrun};
+ghost use Rattle.step_machine.specs.Entries.{landed, landed_by_count, memory_word, own, pending, read};
 ghost use Rattle.step_machine.specs.Legal.{IsOfHarts, Kept, Legal};
+ghost use Rattle.step_machine.specs.Paths.{PathOf};
+ghost use Rattle.step_machine.specs.MemoryEntries.{memory_of};
+ghost use Rattle.step_machine.specs.Placing.{diary_of, placed, IsMemory, Parts};
 ghost use Rattle.step_machine.specs.Runs.{Happens, Run, IsOwnRun};
 ghost use Rattle.step_machine.specs.WordReads.{AllWriteWords, OpensWithWords, word_in_memory, word_read};
 ghost use Rattle.step_machine.specs.declared.events.Entry.{Entry};
@@ -26,4 +30,20 @@ pub fn laws_of_runs()
     ensures landings { (B : ℕ) (t : History) → Legal B t → landed t.entries ≡ landed_by_count t.entries }
     ensures word_reads { (o : Start) (es : List Entry) (h a : ℕ) → OpensWithWords o → AllWriteWords es → a % 4 ≡ 0 → read o es h a 4 ≡ word_read o es h a }
     ensures words_of_memory { (o : Start) (es : List Entry) (a : ℕ) → OpensWithWords o → AllWriteWords es → a % 4 ≡ 0 → memory_word o es a ≡ word_in_memory o es a }
+{}
+
+/// The laws of memory entries. What is pending, what landed, what is read and what is legal goes by the
+/// memory entries alone. So other entries can be put back among them: where legal memory entries over an
+/// opening stand beside a diary for each hart, which is its path and whose memory entries are its own
+/// among these, the whole holds each diary as its hart's own entries and no other memory entry, and is
+/// kept; so it is the run of its own entries' events. It does nothing.
+pub fn laws_of_placing()
+    ensures pending { (h : ℕ) (es : List Entry) → pending h (memory_of es) ≡ pending h es }
+    ensures landed { (es : List Entry) → landed (memory_of es) ≡ landed es }
+    ensures reads { (o : Start) (es : List Entry) (h a width : ℕ) → read o (memory_of es) h a width ≡ read o es h a width }
+    ensures legal { (B : ℕ) (o : Start) (es : List Entry) → Legal B (history_of o (memory_of es)) ↔ Legal B (history_of o es) }
+    ensures words { (B : ℕ) (o p : Start) (es : List Entry) → o.words ≡ p.words → Legal B (history_of o es) → Legal B (history_of p es) }
+    ensures own { (ds : List (List Entry)) (us : List Entry) → Parts ds us → (h : ℕ) → own h (placed ds us) ≡ diary_of ds h }
+    ensures memory { (ds : List (List Entry)) (us : List Entry) → All IsMemory us → Parts ds us → memory_of (placed ds us) ≡ us }
+    ensures kept { (B M : ℕ) (o : Start) (ds : List (List Entry)) (us : List Entry) → length ds ≡ length o.harts → All IsMemory us → Legal B (history_of o us) → Parts ds us → ((h : ℕ) → h < length o.harts → PathOf M (slice_get o.harts h) (diary_of ds h)) → Kept B M (history_of o (placed ds us)) }
 {}

@@ -8,12 +8,16 @@
 
 #![tactic(auto)]
 
+pub mod bank;
 mod cores;
 pub mod events;
 pub mod laws;
 pub mod machine;
+pub mod needs;
 pub mod opening;
+mod stores;
 
+pub use bank::Bank;
 pub use events::{Entry, Event, Outcome};
 pub use machine::Machine;
 pub use opening::{HartOpening, Opening, Trace};

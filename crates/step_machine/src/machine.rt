@@ -238,7 +238,7 @@ fn make_room<const B: usize, const M: usize>(
 }
 
 /// Adds the entry of an outcome that has one.
-fn add_entry(entries: &mut Vec<Entry>, outcome: Outcome)
+pub(crate) fn add_entry(entries: &mut Vec<Entry>, outcome: Outcome)
     requires { vec_len entries.old < vec_capacity entries.old }
     ensures items { entries.new.items ≡ entries_after entries.old.items outcome }
     ensures len { vec_len entries.new ≤ vec_len entries.old + 1 }

@@ -1,8 +1,11 @@
 //! Where a machine begins.
 
-ghost use Rattle.std.specs.Prelude.{◌≡◌, ◌↔◌, IsTrue, IfOk};
+ghost use Rattle.std.specs.Prelude.{◌≡◌, ◌≤◌, ◌↔◌, IsTrue, IfOk, All, length, map};
+ghost use Rattle.step_machine.specs.inner.Opened.{opened_hart};
+ghost use Rattle.rv_decode.specs.declared.instruction.TheConstants.{MAX_CODE};
 
 use crate::events::Entry;
+use hart::Hart;
 use rv_decode::instruction::MAX_CODE;
 use std::alloc::{AllocError, Global};
 use std::marker::Model;
@@ -81,6 +84,25 @@ impl Opening {
         let words = Vec::from_slice(alloc, &self.words)?;
         Ok(Opening { harts, words })
     }
+}
+
+/// The harts at their openings, over a memory of so many words.
+pub fn open_harts(
+    alloc: Global,
+    openings: &[HartOpening],
+    words: usize,
+) -> Result<Vec<Hart>, AllocError>
+    requires words { words ≤ 65536 }
+    requires code { All (λ o. length o.code ≤ MAX_CODE) openings.now }
+    ensures { IfOk result (λ harts. harts.items ≡ map (opened_hart words) openings.now) }
+{
+    let mut harts = Vec::with_capacity(alloc, openings.len())?;
+    for opening in openings {
+        let code = Vec::from_slice(alloc, &opening.code)?;
+        let inbox = Vec::from_slice(alloc, &opening.inbox)?;
+        harts.push(Hart::new(alloc, code, opening.registers, inbox, words))?;
+    }
+    Ok(harts)
 }
 
 /// A history by itself: where a machine began, and what was done since, oldest first.

@@ -19,7 +19,7 @@ returns-in-Running-clause-outcome g c =
     let within : c.args.hart < length c.args.self.now.harts = subst (λ (k : Config). c.args.hart < length k.harts) c.self.view_is (omega arith) in
     let here : c.index-here.result.now ≡ get_or c.args.self.now.harts c.args.hart c.index-here.result.now = subst (λ (k : Config). c.index-here.result.now ≡ get_or k.harts c.args.hart c.index-here.result.now) c.self.view_is c.index-here.ensures in
     c.meet.ensures.outcome
-    ∙ ap (outcome_for g.row.B c.args.self.now c.args.hart) c.next_need-need.ensures
+    ∙ ap (outcome_for g.row.B c.args.self.now.stored c.args.hart) c.next_need-need.ensures
     ∙ sym (act_outcome-status g.row.B c.args.self.now c.args.hart c.index-here.result.now status.Running within here (sym c.in-Running.ensures))
 
 pub returns-in-Ended : goal.returns-in-Ended

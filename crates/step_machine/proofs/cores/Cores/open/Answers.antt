@@ -6,6 +6,6 @@ use Rattle.step_machine.proofs.cores.Cores.open.Goals as goal
 
 pub invariant_of-result : goal.invariant_of-result
 invariant_of-result g c =
-    let held : Config = record { harts = c.in_ok-harts.harts.items; buffers = c.in_ok-buffers.buffers.items; words = c.fill.new.self } in
+    let held : Config = record { harts = c.in_ok-harts.harts.items; stored = c.in_ok-stores.stores } in
     let is : held ≡ opened_config g.row.M c.args.opening.now = grind (arith, common_steps) in
     (c.requires.capacity, fit_held g.row.M c.args.opening.now held c.requires.fits is)

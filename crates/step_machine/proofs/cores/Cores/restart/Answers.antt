@@ -9,11 +9,10 @@ use Rattle.step_machine.proofs.cores.Cores.restart.Goals as goal
 
 pub invariant_of-self : goal.invariant_of-self
 invariant_of-self g c =
-    let held : Config = record { harts = c.self.inside.harts.items; buffers = c.self.inside.buffers.items; words = c.self.inside.memory } in
+    let held : Config = record { harts = c.self.inside.harts.items; stored = c.self.inside.stores } in
     let left : Config = record {
       harts = take c.self.inside.harts.len (c.restart_harts.new.harts ++ drop (length c.restart_harts.new.harts) c.self.inside.harts.items);
-      buffers = take c.self.inside.buffers.len (c.clear_buffers.new.buffers ++ drop (length c.clear_buffers.new.buffers) c.self.inside.buffers.items);
-      words = c.put_words_back.new.memory;
+      stored = c.restart.new.self;
     } in
     let is : left ≡ restarted_config c.args.opening.now c.args.entries.now held = grind (arith, common_steps) in
     let firsts : All (λ (v : HartView). v.first.words ≡ g.row.M) held.harts = subst (λ (k : Config). All (λ (v : HartView). v.first.words ≡ g.row.M) k.harts) (sym c.self.view_is) c.requires in

@@ -1,5 +1,5 @@
 use Rattle.std.proofs.Common.{◌≡◌, [], replicate}
-use Rattle.step_machine.proofs.cores.empty_buffers.Given as goal
+use Rattle.step_machine.proofs.stores.empty_buffers.Given as goal
 
 abbrev pub invariant-loop : goal.invariant-loop
 invariant-loop g l = l.buffers.items ≡ replicate l.counter []
