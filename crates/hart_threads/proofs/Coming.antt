@@ -7,7 +7,9 @@ use Rattle.step_machine.specs.History.{Start}
 use Rattle.step_machine.specs.declared.events.Entry.{Entry}
 use Rattle.step_machine.specs.declared.events.Outcome.{Outcome}
 use Rattle.step_machine.specs.declared.events.Outcome.TheVariants as outcome
-use Rattle.hart_threads.specs.Seats.{SeatView, Notes}
+use Rattle.hart_threads.specs.declared.local.Local.{Local}
+use Rattle.hart_threads.specs.declared.local.Local.TheVariants as local
+use Rattle.hart_threads.specs.Seats.{SeatView, Notes, NotesAlone}
 use Rattle.hart_threads.specs.Missing.{is_missing, IsFirst, IsComplete, sits_at, acts_for, lands_for}
 use Rattle.hart_threads.specs.Records.{Refuses}
 use Rattle.hart_threads.specs.Returns.{Continues, ComeBack, Fails}
@@ -33,6 +35,15 @@ notes_continue s t (Ok outcome.NothingToLand) is = subst (Continues s) (sym is) 
 notes_continue s t (Ok outcome.Over) is = subst (Continues s) (sym is) (continues_self s)
 notes_continue s t (Ok outcome.NoHart) is = subst (Continues s) (sym is) (continues_self s)
 notes_continue s t (Err e) is = subst (Continues s) (sym is) (continues_self s)
+
+notes_alone_continue : {E : Type 0} (s t : SeatView) (r : Result Local E) → NotesAlone s r t → Continues s t
+notes_alone_continue s t (Ok (local.Did e)) is = (e ∷ [], is)
+notes_alone_continue s t (Ok local.NeedsMemory) is = subst (Continues s) (sym is) (continues_self s)
+notes_alone_continue s t (Ok local.Over) is = subst (Continues s) (sym is) (continues_self s)
+notes_alone_continue s t (Err e) is = subst (Continues s) (sym is) (continues_self s)
+
+pub notes_alone_on : {E : Type 0} (s t u : SeatView) (r : Result Local E) → Continues s t → NotesAlone t r u → Continues s u
+notes_alone_on s t u r on notes = continues_on s t u on (notes_alone_continue t u r notes)
 
 pub notes_on : {E : Type 0} (s t u : SeatView) (r : Result Outcome E) → Continues s t → Notes t r u → Continues s u
 notes_on s t u r on notes = continues_on s t u on (notes_continue t u r notes)

@@ -22,7 +22,7 @@ other a h lt = grind (arith, nat_tests)
 same : (a h : ℕ) → a ≡ h → eqb a h ≡ true
 same a h is = grind (arith, nat_tests)
 
-missing_within : (n h : ℕ) (seats : List SeatView) → h < n → is_missing n seats h ≡ not (is_seated h seats)
+pub missing_within : (n h : ℕ) (seats : List SeatView) → h < n → is_missing n seats h ≡ not (is_seated h seats)
 unfolding is_missing
 missing_within n h seats lt = ap (λ (b : Bool). cond b (not (is_seated h seats)) (list_any (sits_at h) seats)) (within h n lt)
 

@@ -2,3 +2,8 @@ pub mod Least
 pub mod FirstMissing
 pub mod Diaries
 pub mod Coming
+pub mod OnPaths
+pub mod Gathering
+pub mod GettingOn
+pub mod Replays
+pub mod SeatsBelow

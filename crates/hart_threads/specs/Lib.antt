@@ -2,6 +2,7 @@ pub mod Openings
 pub mod Seats
 pub mod Missing
 pub mod Parts
+pub mod Diaries
 pub mod Records
 pub mod Returns
 pub mod Faults

@@ -50,10 +50,10 @@ abbrev pub channel_over : Ring → List (List ℕ) → ℕ → Start
 channel_over ring lists S = opening_of ring.sender ring.receiver lists S
 
 -- each hart's two seats, which have done nothing
-abbrev pub fresh_seats : Start → List SeatView
-fresh_seats o = seats_of (length o.harts)
+abbrev pub fresh_seats : ℕ → Start → List SeatView
+fresh_seats M o = seats_of M o
 
 -- why a channel on threads delivers nothing
 abbrev pub ChannelFails : Ring → ℕ → ℕ → List (List ℕ) → ℕ → ChannelFault → Type 0
 ChannelFails ring B M lists S (channel.Lists refused) = refusals.Refuses ring M lists S refused
-ChannelFails ring B M lists S (channel.Threads fault) = Accepted ring M lists S × Fails B M (channel_over ring lists S) (fresh_seats (channel_over ring lists S)) fault
+ChannelFails ring B M lists S (channel.Threads fault) = Accepted ring M lists S × Fails B M (channel_over ring lists S) (fresh_seats M (channel_over ring lists S)) fault

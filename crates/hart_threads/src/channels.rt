@@ -44,7 +44,7 @@ pub fn deliver_threads<
     requires memory { M ≤ 65536 }
     ensures accepted { OnOk result (Accepted K.ring M (map (λ v. v.items) lists.now) ring) }
     ensures record { IfOk result (λ r. IsRecord B M (channel_over K.ring (map (λ v. v.items) lists.now) ring) r.0) }
-    ensures merge { IfOk result (λ r. IsMerged B M (channel_over K.ring (map (λ v. v.items) lists.now) ring) (fresh_seats (channel_over K.ring (map (λ v. v.items) lists.now) ring)) r.0) }
+    ensures merge { IfOk result (λ r. IsMerged B M (channel_over K.ring (map (λ v. v.items) lists.now) ring) (fresh_seats M (channel_over K.ring (map (λ v. v.items) lists.now) ring)) r.0) }
     ensures reports { IfOk result (λ r. r.1.items ≡ reported 0 r.0.trace.entries) }
     ensures clean { IfOk result (λ r. Clean r.1.items (map (λ v. v.items) lists.now)) }
     ensures fault { IfErr result (ChannelFails K.ring B M (map (λ v. v.items) lists.now) ring) }

@@ -13,6 +13,7 @@
 
 #![tactic(auto)]
 
+mod acting;
 pub mod channels;
 mod diary;
 pub mod fault;
@@ -20,7 +21,9 @@ pub mod gate;
 pub mod gather;
 pub mod harts;
 mod held;
+pub mod local;
 mod missing;
+mod placing;
 pub mod record;
 pub mod seat;
 pub mod shared;
@@ -30,6 +33,7 @@ pub use channels::deliver_threads;
 pub use fault::{ChannelFault, Fault};
 pub use gate::{Gate, Open};
 pub use harts::run_harts;
+pub use local::Local;
 pub use record::{Gather, Record};
 pub use seat::Seat;
 pub use shared::Shared;

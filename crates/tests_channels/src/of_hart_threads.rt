@@ -1,7 +1,7 @@
 //! Runs on threads and off them, and what is refused.
 
 use hart::Status;
-use hart_threads::{Fault, Gate, Gather, Open, Record, Seat, Shared, run_harts};
+use hart_threads::{Fault, Gate, Gather, Local, Open, Record, Seat, Shared, run_harts};
 use std::alloc::{AllocError, Global};
 use std::process::Abort;
 use std::sync::Wait;
@@ -137,6 +137,58 @@ fn what_seats_do_is_gathered(rt: HostRuntime) {
     let record = machine.gather(rt.alloc(), seats).expect(&rt, "a record");
     assert_eq!(rt; record.trace.entries.as_slice(), [store, land].as_slice());
     is_replayed(&rt, &record);
+}
+
+/// The first hart counts and stores, the second loads that word.
+fn count_and_store(alloc: Global) -> Result<Opening, AllocError> {
+    let mut harts = Vec::new(alloc);
+    // addi x5,x0,1; sw x5,0(x6) and lw x7,0(x6)
+    let first = Vec::from_slice(alloc, &[0x0010_0293, 0x0053_2023])?;
+    let second = Vec::from_slice(alloc, &[0x0003_2383])?;
+    for code in [first, second] {
+        harts.push(HartOpening {
+            code,
+            registers: [0; 32],
+            inbox: Vec::new(alloc),
+        })?;
+    }
+    let words = Vec::new(alloc);
+    Ok(Opening { harts, words })
+}
+
+#[test]
+fn work_without_the_lock_is_put_back(rt: HostRuntime) {
+    let opening = count_and_store(rt.alloc()).expect(&rt, "memory");
+    assert!(rt; opening.fits(16));
+    let opened: Result<(Shared<4, 16>, Vec<Seat<16>>), AllocError> = Shared::open(rt.alloc(), opening);
+    let (shared, mut seats) = opened.expect(&rt, "memory");
+    assert!(rt; seats.len() == 4);
+    let inner = Entry::Inner { hart: 0 };
+    let store = Entry::Store {
+        hart: 0,
+        addr: 0,
+        width: 4,
+        value: 1,
+    };
+    let load = Entry::Load {
+        hart: 1,
+        addr: 0,
+        width: 4,
+        value: 0,
+    };
+    let first = &mut seats[0];
+    assert!(rt; first.acts());
+    assert_eq!(rt; first.local().expect(&rt, "memory"), Local::Did(inner));
+    let second = &mut seats[2];
+    assert!(rt; second.acts());
+    assert_eq!(rt; second.local().expect(&rt, "memory"), Local::NeedsMemory);
+    assert_eq!(rt; shared.act(&rt, second).expect(&rt, "memory"), Outcome::Did(load));
+    let first = &mut seats[0];
+    assert!(rt; first.acts());
+    assert_eq!(rt; shared.act(&rt, first).expect(&rt, "memory"), Outcome::Did(store));
+    let record = shared.gather(rt.alloc(), seats).expect(&rt, "a record");
+    assert_eq!(rt; record.trace.entries.as_slice(), [load, inner, store].as_slice());
+    assert!(rt; record.machine.entries() == record.trace.entries.as_slice());
 }
 
 #[test]
