@@ -52,15 +52,7 @@ reads_kind set = reads_set
 none_in_empty : (kind : Kind) (x : Value kind) → value_in kind [] ≡ Ok x → ⊥
 unfolding register_named set_named magnitude_of integer_of capped_value
 none_in_empty register x e = cc
-none_in_empty upper x e = cc
-none_in_empty amount x e = cc
-none_in_empty short x e = cc
-none_in_empty word x e = cc
-none_in_empty address x e = cc
-none_in_empty pointer x e = cc
-none_in_empty near x e = cc
-none_in_empty far x e = cc
-none_in_empty set x e = cc
+none_in_empty kind x e = cc
 
 -- ---- operands of such kinds
 
