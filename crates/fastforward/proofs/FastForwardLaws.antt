@@ -3,29 +3,31 @@ use Rattle.std.proofs.Common.{ℕ, ◌+◌, ◌≡◌, refl, ◌∙◌, arith, l
 use Rattle.std.proofs.Math.Nat.{zero-mod}
 use Rattle.poll_close.specs.Laws.{AreShort, Opens, Keeps, Cleans, Goes}
 use Rattle.poll_close.specs.Invariant.Blocks.{Block, slot}
+use Rattle.poll_close.specs.Invariant.SenderState.{Written}
 use Rattle.poll_close.proofs.Blocks.{IsBlock, Within, word_of, slot_of}
 use Rattle.poll_close.proofs.BlockLaws.{BlockLaws, Begins, opens_with}
+use Rattle.poll_close.proofs.Outlines.{Reasons, Right, sends}
 use Rattle.poll_close.proofs.ChannelLaws.{opens, keeps, cleans, goes}
 use Rattle.fastforward.specs.Listing.{sender_code}
 use Rattle.fastforward.specs.FastForward.{fastforward, fastforward_blocks, fastforward_means}
-use Rattle.fastforward.specs.Invariant.Numbers.{Numbers, sent, gone, taken, freed, Words, pending_of, unread_of}
-use Rattle.fastforward.specs.Invariant.SenderPlaces.{P00}
+use Rattle.fastforward.specs.Invariant.Numbers.{Numbers, sent, gone, taken, freed, Ordered, Words, pending_of, unread_of}
 use Rattle.fastforward.proofs.Stores.{sender_stores_are, receiver_stores_are}
 use Rattle.fastforward.proofs.Landings.{sender_lands, receiver_lands}
-use Rattle.fastforward.proofs.SenderActs.{sends}
+use Rattle.fastforward.proofs.Sender.{fastforward_sender}
+use Rattle.fastforward.proofs.Sender as row
 use Rattle.fastforward.proofs.ReceiverReads.{seen_mark, seen_done}
 use Rattle.fastforward.proofs.ReceiverActs.{stores_tail, stores_done, reported, level_stays, filled_stays, stays_18, stays_1C, stays_20, stays_24}
 use Rattle.fastforward.proofs.MiddleMoves.{middle_14, middle_18, middle_1C, middle_20, middle_24}
 
 abbrev nothing : Numbers
-nothing = record { made = record { g = 0; p = 0; m = 0 }; ls = 0; km = 0; u = 0; c = 0; d = 0; ln = 0; kc = 0; kd = 0; took = 0; shut = 0 }
+nothing = record { made = record { g = 0; p = 0; m = 0; seen = 0 }; ls = 0; km = 0; u = 0; c = 0; d = 0; ln = 0; kc = 0; kd = 0; took = 0; shut = 0 }
 
 begins : (k : Block) → IsBlock k → Begins fastforward_blocks k (opens_with sender_code k)
 begins k is = record {
   none = nothing;
   order = omega (arith, is.some_slot);
   words = record { mark = refl; tail = omega (arith, zero-mod k.size); done = refl; full = λ j from below. omega arith; empty = λ j from below. refl };
-  stands = record { place = P00; written = record { x5 = 0; x6 = 0; x7 = 0; x10 = 0; x11 = 0; x17 = 0; x28 = 0 }; is = refl; holds = (record { taken = refl; unmarked = refl }, omega (arith, zero-mod k.size)) };
+  stands = record { place = 0x00; written = record { x5 = 0; x6 = 0; x7 = 0; x10 = 0; x11 = 0; x17 = 0; x28 = 0 }; is = refl; holds = (record { taken = refl; unmarked = refl }, omega (arith, zero-mod k.size)) };
   unsent = refl;
   unread = refl;
   level = refl;
@@ -44,6 +46,10 @@ words_same k n word new is same w = record {
   empty = λ j from below. same (slot k.size k.base j) (slot_of k is j).within ∙ w.empty j from below;
 }
 
+-- the reason of each row of the sender's outline
+pub reasons : (k : Block) (n : Numbers) (word : ℕ → ℕ) (v : ℕ) (r : Written) → IsBlock k → Ordered k n → Words k n word → Reasons (Right fastforward_blocks fastforward_sender k n word v r) fastforward_sender.outline.rows
+reasons k n word v r is order words = (row.right_00 k n word v r is order words, (row.right_04 k n word v r is order words, (row.right_08 k n word v r is order words, (row.right_0C k n word v r is order words, (row.right_10 k n word v r is order words, (row.right_14 k n word v r is order words, (row.right_18 k n word v r is order words, (row.right_1C k n word v r is order words, (row.right_20 k n word v r is order words, (row.right_24 k n word v r is order words, (row.right_28 k n word v r is order words, (row.right_2C k n word v r is order words, (row.right_30 k n word v r is order words, (row.right_34 k n word v r is order words, (row.right_38 k n word v r is order words, tt)))))))))))))))
+
 pub fastforward_laws : BlockLaws fastforward_blocks sender_code
 fastforward_laws = record {
   begins = begins;
@@ -61,7 +67,7 @@ fastforward_laws = record {
   stays_1C = stays_1C;
   stays_20 = stays_20;
   stays_24 = stays_24;
-  sends = sends;
+  sends = λ k n s word v is order words st running find. sends fastforward_blocks fastforward_sender reasons k n s word v is order words st running find;
   sender_lands = λ k n word new x rest is order words oldest write. sender_lands k is n order word new words (unread_of k n) refl x rest oldest write;
   receiver_lands = λ k n word new x rest is order words oldest write. receiver_lands k is n order word new words (pending_of k n) refl x rest oldest write;
   sees_done = λ k n word order words. seen_done k n word order words;

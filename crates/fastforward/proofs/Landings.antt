@@ -8,35 +8,19 @@ use Rattle.poll_close.proofs.Windows.{some_in, oldest_lands}
 use Rattle.poll_close.proofs.Writes.{IsWrite, hit, miss}
 use Rattle.poll_close.proofs.Blocks.{IsBlock}
 use Rattle.poll_close.proofs.BlockLaws.{Lands}
-use Rattle.poll_close.specs.Invariant.SenderState.{Written}
 use Rattle.fastforward.specs.FastForward.{fastforward_blocks}
-use Rattle.fastforward.specs.Invariant.SenderPlaces.{SenderPlace, P14, P18, SenderIs}
 use Rattle.fastforward.specs.Invariant.Stores.{sender_stores, receiver_stores}
-use Rattle.fastforward.specs.Invariant.Numbers.{Made, Numbers, sent, gone, taken, freed, Ordered, Words, pending_of, unread_of}
-use Rattle.fastforward.proofs.Orders.{order_ls, order_km, order_ln, order_kc, order_kd}
+use Rattle.fastforward.specs.Invariant.Numbers.{Numbers, sent, gone, taken, freed, Ordered, Words, pending_of, unread_of}
 use Rattle.fastforward.proofs.Stores.{slots_apart, slot_again, store_word, store_mark, store_null, store_tail, store_done}
-
--- a null that lands later keeps the sender's assertion
-holds_later : (k : Block) (here : SenderPlace) (n : Made) (ln later : ℕ) (r : Written) → ln ≤ later → SenderIs k here n ln r → SenderIs k here n later r
-holds_later k P14 n ln later r more h = (
-  h.0,
-  h.1,
-  elim h.2 [
-    | inl word ↦ inl word
-    | inr free ↦ inr (omega arith)
-  ],
-)
-holds_later k P18 n ln later r more h = (h.0, h.1, omega arith)
-holds_later k here n ln later r more h = h
 
 module _ (k : Block) (n : Numbers) (new : ℕ → ℕ) where
   -- a landing, by the numbers after it
-  lands : {mine theirs : List (ℕ × ℕ)} (ls km ln kc kd : ℕ) → (n.ls ≤ ls) × (n.km ≤ km) × (n.ln ≤ ln) → Ordered k (record n { ls = ls; km = km; ln = ln; kc = kc; kd = kd }) → Words k (record n { ls = ls; km = km; ln = ln; kc = kc; kd = kd }) new → mine ≡ pending_of k (record n { ls = ls; km = km; ln = ln; kc = kc; kd = kd }) → theirs ≡ unread_of k (record n { ls = ls; km = km; ln = ln; kc = kc; kd = kd }) → Lands fastforward_blocks k n new mine theirs
+  lands : {mine theirs : List (ℕ × ℕ)} (ls km ln kc kd : ℕ) → (n.ls ≤ ls) × (n.km ≤ km) → Ordered k (record n { ls = ls; km = km; ln = ln; kc = kc; kd = kd }) → Words k (record n { ls = ls; km = km; ln = ln; kc = kc; kd = kd }) new → mine ≡ pending_of k (record n { ls = ls; km = km; ln = ln; kc = kc; kd = kd }) → theirs ≡ unread_of k (record n { ls = ls; km = km; ln = ln; kc = kc; kd = kd }) → Lands fastforward_blocks k n new mine theirs
   lands ls km ln kc kd later order words mine_is theirs_is = record {
     after = record n { ls = ls; km = km; ln = ln; kc = kc; kd = kd };
     order = order;
     words = words;
-    sender = λ s st. record { place = st.place; written = st.written; is = st.is; holds = holds_later k st.place n.made n.ln ln st.written later.2 st.holds };
+    sender = λ s st. st;
     unsent = mine_is;
     unread = theirs_is;
     grows = record { tails = refl; dones = refl; took = refl; shut = refl; marks = later.1; later = (refl, later.0) };
@@ -46,7 +30,7 @@ module _ (k : Block) (n : Numbers) (new : ℕ → ℕ) where
 module _ (k : Block) (is : IsBlock k) (n : Numbers) (order : Ordered k n) (word new : ℕ → ℕ) (words : Words k n word) (theirs : List (ℕ × ℕ)) (their : theirs ≡ unread_of k n) where
   word_lands : n.ls < n.made.p → IsWrite word new (slot k.size k.base n.ls, slice_index k.list n.ls) → Lands fastforward_blocks k n new (window (sender_stores k.size k.base k.list) (suc (gone n)) (sent n)) theirs
   word_lands some write =
-      lands k n new (n.ls + 1) n.km n.ln n.kc n.kd (omega arith) (order_ls k n order some)
+      lands k n new (n.ls + 1) n.km n.ln n.kc n.kd (omega arith) (omega (arith, some))
       (record {
         mark = miss word new at w write (k.base + 4) (omega arith) ∙ words.mark;
         tail = miss word new at w write (k.base + 8) (omega arith) ∙ words.tail;
@@ -68,7 +52,7 @@ module _ (k : Block) (is : IsBlock k) (n : Numbers) (order : Ordered k n) (word 
 
   mark_lands : n.ls ≡ length k.list → n.km < n.made.m → IsWrite word new (k.base + 4, 1) → Lands fastforward_blocks k n new (window (sender_stores k.size k.base k.list) (suc (gone n)) (sent n)) theirs
   mark_lands all some write =
-      lands k n new n.ls (n.km + 1) n.ln n.kc n.kd (omega arith) (order_km k n order all some)
+      lands k n new n.ls (n.km + 1) n.ln n.kc n.kd (omega arith) (omega (arith, all, some))
       (record {
         mark = hit word new (k.base + 4) 1 write (k.base + 4) refl ∙ one;
         tail = miss word new (k.base + 4) 1 write (k.base + 8) (omega arith) ∙ words.tail;
@@ -108,7 +92,7 @@ module _ (k : Block) (is : IsBlock k) (n : Numbers) (order : Ordered k n) (word 
 module _ (k : Block) (is : IsBlock k) (n : Numbers) (order : Ordered k n) (word new : ℕ → ℕ) (words : Words k n word) (mine : List (ℕ × ℕ)) (my : mine ≡ pending_of k n) where
   null_lands : n.ln ≡ n.kc → n.ln < n.u → IsWrite word new (slot k.size k.base n.ln, 0) → Lands fastforward_blocks k n new mine (window (receiver_stores k.size k.base k.list) (suc (freed n)) (taken n))
   null_lands even some write =
-      lands k n new n.ls n.km (n.ln + 1) n.kc n.kd (omega arith) (order_ln k n order even some)
+      lands k n new n.ls n.km (n.ln + 1) n.kc n.kd (omega arith) (omega (arith, even, some))
       (record {
         mark = miss word new at 0 write (k.base + 4) (omega arith) ∙ words.mark;
         tail = miss word new at 0 write (k.base + 8) (omega arith) ∙ words.tail;
@@ -127,7 +111,7 @@ module _ (k : Block) (is : IsBlock k) (n : Numbers) (order : Ordered k n) (word 
 
   tail_lands : n.ln ≡ n.kc + 1 → n.kc < n.c → IsWrite word new (k.base + 8, offset k (n.kc + 1)) → Lands fastforward_blocks k n new mine (window (receiver_stores k.size k.base k.list) (suc (freed n)) (taken n))
   tail_lands odd some write =
-      lands k n new n.ls n.km n.ln (n.kc + 1) n.kd (omega arith) (order_kc k n order odd some)
+      lands k n new n.ls n.km n.ln (n.kc + 1) n.kd (omega arith) (omega (arith, odd, some))
       (record {
         mark = miss word new (k.base + 8) w write (k.base + 4) (omega arith) ∙ words.mark;
         tail = hit word new (k.base + 8) w write (k.base + 8) refl;
@@ -142,7 +126,7 @@ module _ (k : Block) (is : IsBlock k) (n : Numbers) (order : Ordered k n) (word 
 
   done_lands : n.kc ≡ length k.list → n.kd < n.d → IsWrite word new (k.base + 12, 1) → Lands fastforward_blocks k n new mine (window (receiver_stores k.size k.base k.list) (suc (freed n)) (taken n))
   done_lands all some write =
-      lands k n new n.ls n.km n.ln n.kc (n.kd + 1) (omega arith) (order_kd k n order all some)
+      lands k n new n.ls n.km n.ln n.kc (n.kd + 1) (omega arith) (omega (arith, all, some))
       (record {
         mark = miss word new (k.base + 12) 1 write (k.base + 4) (omega arith) ∙ words.mark;
         tail = miss word new (k.base + 12) 1 write (k.base + 8) (omega arith) ∙ words.tail;

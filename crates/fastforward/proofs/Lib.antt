@@ -1,10 +1,8 @@
 pub mod Means
-pub mod Orders
 pub mod Stores
 pub mod Landings
 pub mod ReceiverReads
-pub mod SenderMoves
-pub mod SenderActs
+pub mod Sender
 pub mod MiddleLines
 pub mod MiddleMoves
 pub mod ReceiverActs

@@ -3,7 +3,6 @@
 use Rattle.std.proofs.Common.{ℕ, suc, ◌+◌, ◌<◌, ◌≤◌, ◌≡◌, ◌⊎◌, inl, inr, [], ◌∷◌, ◌++◌, length, Some, refl, sym, ◌∙◌, ap, arith, append-nil}
 use Rattle.std.specs.Prelude.{slice_index}
 use Rattle.std.specs.List.{slice_get}
-use Rattle.hart.specs.State.{HartState}
 use Rattle.poll_close.specs.Invariant.Blocks.{Block, offset, slot, window}
 use Rattle.poll_close.specs.Invariant.ReceiverState.{Noted}
 use Rattle.poll_close.proofs.Windows.{window_made}
@@ -11,18 +10,13 @@ use Rattle.poll_close.proofs.BlockLaws.{Changes, Tailed, Done, Reported, Grows, 
 use Rattle.fastforward.specs.FastForward.{fastforward_blocks}
 use Rattle.fastforward.specs.Invariant.Stores.{receiver_stores}
 use Rattle.fastforward.specs.Invariant.Numbers.{Numbers, taken, freed, Ordered, Words, unread_of}
-use Rattle.fastforward.specs.Invariant.SenderPlaces.{Standing}
 use Rattle.fastforward.specs.Invariant.Middle.{Level, Filled, Flagged, Loaded, Empty, At18, At1C, At20, At24}
-use Rattle.fastforward.proofs.Orders.{order_u, order_c, order_d, order_told}
 use Rattle.fastforward.proofs.Stores.{store_null, store_tail, store_done}
 
 -- the receiver's own numbers grow: the sender and the words of memory stay
 module _ (k : Block) (n : Numbers) (order : Ordered k n) where
   words_taken : (u c d took shut : ℕ) (word : ℕ → ℕ) → Words k n word → Words k (record n { u = u; c = c; d = d; took = took; shut = shut }) word
   words_taken u c d took shut word w = record { mark = w.mark; tail = w.tail; done = w.done; full = w.full; empty = w.empty }
-
-  standing_taken : (u c d took shut : ℕ) (s : HartState) → Standing k n s → Standing k (record n { u = u; c = c; d = d; took = took; shut = shut }) s
-  standing_taken u c d took shut s st = record { place = st.place; written = st.written; is = st.is; holds = st.holds }
 
   behind : freed n ≤ taken n
   behind = omega (arith, order.ln_u, order.kc_c, order.kd_d)
@@ -33,9 +27,9 @@ module _ (k : Block) (n : Numbers) (order : Ordered k n) where
 
   pub stores_null : Level n → n.c < n.ls → n.d ≡ 0 → Changes fastforward_blocks k n (record n { u = n.u + 1 }) ((slot k.size k.base n.c, 0) ∷ [])
   stores_null level more on = record {
-    order = order_u k n order level more;
+    order = omega (arith, level, more);
     words = λ word w. words_taken (n.u + 1) n.c n.d n.took n.shut word w;
-    sender = λ s st. standing_taken (n.u + 1) n.c n.d n.took n.shut s st;
+    sender = λ s st. st;
     unsent = refl;
     unread = joins (slot k.size k.base n.c, 0) (n.u + 1 + n.c + n.d) (omega arith) (store_null k.size k.base k.list n.c (taken n) (omega (arith, more, order.ls_p, order.p_all)) (omega (arith, level, on)));
   }
@@ -44,9 +38,9 @@ module _ (k : Block) (n : Numbers) (order : Ordered k n) where
   stores_tail filled on = record {
     after = record n { c = n.c + 1 };
     changes = record {
-      order = order_c k n order filled on;
+      order = omega (arith, filled, on);
       words = λ word w. words_taken n.u (n.c + 1) n.d n.took n.shut word w;
-      sender = λ s st. standing_taken n.u (n.c + 1) n.d n.took n.shut s st;
+      sender = λ s st. st;
       unsent = refl;
       unread = joins (k.base + 8, offset k (n.c + 1)) (n.u + (n.c + 1) + n.d) (omega arith) (store_tail k.size k.base k.list n.c (taken n) (omega (arith, filled, order.u_ls, order.ls_p, order.p_all)) (omega (arith, filled, on)));
     };
@@ -61,9 +55,9 @@ module _ (k : Block) (n : Numbers) (order : Ordered k n) where
   stores_done level all on = record {
     after = record n { d = 1 };
     changes = record {
-      order = order_d k n order all;
+      order = omega (arith, all);
       words = λ word w. words_taken n.u n.c 1 n.took n.shut word w;
-      sender = λ s st. standing_taken n.u n.c 1 n.took n.shut s st;
+      sender = λ s st. st;
       unsent = refl;
       unread = joins (k.base + 12, 1) (n.u + n.c + 1) (omega (arith, on)) (store_done k.size k.base k.list (taken n) (omega (arith, level, all, on)));
     };
@@ -77,7 +71,7 @@ module _ (k : Block) (n : Numbers) (order : Ordered k n) where
   pub reported : (words closed : ℕ) → Level n → Reported fastforward_blocks k n words closed
   reported words closed level = record {
     after = record n { took = words; shut = closed };
-    changes = record { order = order_told k n order words closed; words = λ word w. words_taken n.u n.c n.d words closed word w; sender = λ s st. standing_taken n.u n.c n.d words closed s st; unsent = refl; unread = append-nil (unread_of k n) };
+    changes = record { order = omega arith; words = λ word w. words_taken n.u n.c n.d words closed word w; sender = λ s st. st; unsent = refl; unread = append-nil (unread_of k n) };
     level = level;
     tails = refl;
     dones = refl;

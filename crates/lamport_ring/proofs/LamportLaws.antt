@@ -2,34 +2,34 @@
 use Rattle.std.proofs.Common.{ℕ, suc, ◌+◌, ◌<◌, ◌≤◌, ◌≡◌, length, Some, refl, sym, ◌∙◌, ap, arith, append-nil, lit≤}
 use Rattle.std.specs.List.{slice_get}
 use Rattle.std.proofs.Math.Nat.{zero-mod}
-use Rattle.hart.specs.State.{HartState}
 use Rattle.poll_close.specs.Laws.{AreShort, Opens, Keeps, Cleans, Goes}
 use Rattle.poll_close.specs.Invariant.Blocks.{Block, offset, slot}
 use Rattle.poll_close.proofs.Windows.{window_made}
+use Rattle.poll_close.specs.Invariant.SenderState.{Written}
 use Rattle.poll_close.proofs.Blocks.{IsBlock, Within, base_word, word_of, slot_of}
 use Rattle.poll_close.proofs.BlockLaws.{BlockLaws, Begins, Tailed, Done, Reported, opens_with}
+use Rattle.poll_close.proofs.Outlines.{Reasons, Right, sends}
 use Rattle.poll_close.proofs.ChannelLaws.{opens, keeps, cleans, goes}
 use Rattle.lamport_ring.specs.Listing.{sender_code}
 use Rattle.lamport_ring.specs.Lamport.{lamport, lamport_blocks, lamport_means}
 use Rattle.lamport_ring.specs.Invariant.Stores.{receiver_stores}
 use Rattle.lamport_ring.specs.Invariant.Numbers.{Numbers, sent, gone, Ordered, Words, pending_of, unread_of}
-use Rattle.lamport_ring.specs.Invariant.SenderPlaces.{P00, Standing}
-use Rattle.lamport_ring.proofs.Orders.{order_c, order_d, order_told}
 use Rattle.lamport_ring.proofs.Stores.{store_tail, store_done, sender_stores_are, receiver_stores_are}
 use Rattle.lamport_ring.proofs.Landings.{sender_lands, receiver_lands}
 use Rattle.lamport_ring.proofs.ReceiverReads.{seen_mark, seen_done}
-use Rattle.lamport_ring.proofs.SenderActs.{sends}
+use Rattle.lamport_ring.proofs.Sender.{lamport_sender}
+use Rattle.lamport_ring.proofs.Sender as row
 use Rattle.lamport_ring.proofs.MiddleMoves.{middle_14, middle_18, middle_1C, middle_20, middle_24}
 
 abbrev nothing : Numbers
-nothing = record { made = record { g = 0; p = 0; q = 0; m = 0 }; ls = 0; kh = 0; km = 0; c = 0; d = 0; kc = 0; kd = 0; took = 0; shut = 0 }
+nothing = record { made = record { g = 0; p = 0; q = 0; m = 0; seen = 0 }; ls = 0; kh = 0; km = 0; c = 0; d = 0; kc = 0; kd = 0; took = 0; shut = 0 }
 
 begins : (k : Block) → IsBlock k → Begins lamport_blocks k (opens_with sender_code k)
 begins k is = record {
   none = nothing;
   order = omega (arith, is.some_slot);
   words = record { head = omega (arith, zero-mod k.size); mark = refl; tail = omega (arith, zero-mod k.size); done = refl; slots = λ j from below. omega arith };
-  stands = record { place = P00; written = record { x5 = 0; x6 = 0; x7 = 0; x10 = 0; x11 = 0; x17 = 0; x28 = 0 }; is = refl; holds = (record { taken = refl; heads = refl; unmarked = refl }, omega (arith, zero-mod k.size)) };
+  stands = record { place = 0x00; written = record { x5 = 0; x6 = 0; x7 = 0; x10 = 0; x11 = 0; x17 = 0; x28 = 0 }; is = refl; holds = (record { taken = refl; heads = refl; unmarked = refl }, omega (arith, zero-mod k.size)) };
   unsent = refl;
   unread = refl;
   level = tt;
@@ -53,9 +53,6 @@ module _ (k : Block) (n : Numbers) (order : Ordered k n) where
   words_taken : (c d took shut : ℕ) (word : ℕ → ℕ) → n.c ≤ c → Words k n word → Words k (record n { c = c; d = d; took = took; shut = shut }) word
   words_taken c d took shut word later w = record { head = w.head; mark = w.mark; tail = w.tail; done = w.done; slots = λ j from below. w.slots j (omega arith) below }
 
-  standing_taken : (c d took shut : ℕ) (s : HartState) → Standing k n s → Standing k (record n { c = c; d = d; took = took; shut = shut }) s
-  standing_taken c d took shut s st = record { place = st.place; written = st.written; is = st.is; holds = st.holds }
-
   behind : n.kc + n.kd ≤ n.c + n.d
   behind = omega (arith, order.kc_c, order.kd_d)
 
@@ -66,9 +63,9 @@ module _ (k : Block) (n : Numbers) (order : Ordered k n) where
       record {
         after = record n { c = n.c + 1 };
         changes = record {
-          order = order_c k n order more on;
+          order = omega (arith, more, on);
           words = λ word w. words_taken (n.c + 1) n.d n.took n.shut word (omega arith) w;
-          sender = λ s st. standing_taken (n.c + 1) n.d n.took n.shut s st;
+          sender = λ s st. st;
           unsent = refl;
           unread = rw (← one) (window_made (receiver_stores k.size k.base k.list) (n.kc + n.kd) (n.c + n.d) (k.base + 8, offset k (n.c + 1)) behind next);
         };
@@ -86,9 +83,9 @@ module _ (k : Block) (n : Numbers) (order : Ordered k n) where
       record {
         after = record n { d = 1 };
         changes = record {
-          order = order_d k n order all;
+          order = omega (arith, all);
           words = λ word w. words_taken n.c 1 n.took n.shut word (omega arith) w;
-          sender = λ s st. standing_taken n.c 1 n.took n.shut s st;
+          sender = λ s st. st;
           unsent = refl;
           unread = rw (← one) (window_made (receiver_stores k.size k.base k.list) (n.kc + n.kd) (n.c + n.d) (k.base + 12, 1) behind next);
         };
@@ -102,13 +99,17 @@ module _ (k : Block) (n : Numbers) (order : Ordered k n) where
   reported : (words closed : ℕ) → Reported lamport_blocks k n words closed
   reported words closed = record {
     after = record n { took = words; shut = closed };
-    changes = record { order = order_told k n order words closed; words = λ word w. words_taken n.c n.d words closed word (omega arith) w; sender = λ s st. standing_taken n.c n.d words closed s st; unsent = refl; unread = append-nil (unread_of k n) };
+    changes = record { order = omega arith; words = λ word w. words_taken n.c n.d words closed word (omega arith) w; sender = λ s st. st; unsent = refl; unread = append-nil (unread_of k n) };
     level = tt;
     tails = refl;
     dones = refl;
     took = refl;
     shut = refl;
   }
+
+-- the reason of each row of the sender's outline
+pub reasons : (k : Block) (n : Numbers) (word : ℕ → ℕ) (v : ℕ) (r : Written) → IsBlock k → Ordered k n → Words k n word → Reasons (Right lamport_blocks lamport_sender k n word v r) lamport_sender.outline.rows
+reasons k n word v r is order words = (row.right_00 k n word v r is order words, (row.right_04 k n word v r is order words, (row.right_08 k n word v r is order words, (row.right_0C k n word v r is order words, (row.right_10 k n word v r is order words, (row.right_14 k n word v r is order words, (row.right_18 k n word v r is order words, (row.right_1C k n word v r is order words, (row.right_20 k n word v r is order words, (row.right_24 k n word v r is order words, (row.right_28 k n word v r is order words, (row.right_2C k n word v r is order words, (row.right_30 k n word v r is order words, (row.right_34 k n word v r is order words, (row.right_38 k n word v r is order words, (row.right_3C k n word v r is order words, (row.right_40 k n word v r is order words, tt)))))))))))))))))
 
 pub lamport_laws : BlockLaws lamport_blocks sender_code
 lamport_laws = record {
@@ -127,7 +128,7 @@ lamport_laws = record {
   stays_1C = λ k n new r g order h. (record { head = h.0.head; from = omega (arith, g.tails, h.0.from); to = omega (arith, g.later, h.0.to); is = h.0.is; last = h.0.last }, h.1 ∙ ap (offset k) (sym g.tails));
   stays_20 = λ k n new r g order h. (omega (arith, g.tails, g.later, h.0), h.1 ∙ ap (offset k) (sym g.tails));
   stays_24 = λ k n new r g order h. (omega (arith, g.tails, g.later, h.0), h.1 ∙ ap (offset k) (sym g.tails), h.2);
-  sends = sends;
+  sends = λ k n s word v is order words st running find. sends lamport_blocks lamport_sender reasons k n s word v is order words st running find;
   sender_lands = λ k n word new x rest is order words oldest write. sender_lands k is n order word new words x rest (unread_of k n) oldest write refl;
   receiver_lands = λ k n word new x rest is order words oldest write. receiver_lands k is n order word new words x rest (pending_of k n) oldest write refl;
   sees_done = λ k n word order words. seen_done k n word order words;

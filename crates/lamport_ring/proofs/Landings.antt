@@ -16,27 +16,17 @@ use Rattle.poll_close.specs.Invariant.Blocks.{Block, offset}
 use Rattle.lamport_ring.specs.Invariant.Numbers.{Numbers, sent, gone, Ordered, pending_of}
 use Rattle.poll_close.proofs.Blocks.{IsBlock}
 use Rattle.poll_close.proofs.BlockLaws.{Lands}
-use Rattle.poll_close.specs.Invariant.SenderState.{Written}
 use Rattle.lamport_ring.specs.Lamport.{lamport_blocks}
-use Rattle.lamport_ring.specs.Invariant.SenderPlaces.{SenderPlace, P1C, P20, P24, SenderIs}
-use Rattle.lamport_ring.proofs.Orders.{order_ls, order_kh, order_km, order_kc, order_kd}
 use Rattle.lamport_ring.specs.Invariant.Numbers.{Words, unread_of}
-
--- a later tail keeps the sender's assertion
-holds_later : (k : Block) (here : SenderPlace) (n : _) (kc later : ℕ) (r : Written) → kc ≤ later → SenderIs k here n kc r → SenderIs k here n later r
-holds_later k P1C n kc later r more h = (h.0, h.1, record { tail = h.2.tail; landed = omega (arith, h.2.landed); near = h.2.near; old = h.2.old; is = h.2.is })
-holds_later k P20 n kc later r more h = (h.0, h.1, omega arith)
-holds_later k P24 n kc later r more h = (h.0, h.1, omega arith, h.3)
-holds_later k here n kc later r more h = h
 
 module _ (k : Block) (n : Numbers) (new : ℕ → ℕ) where
   -- a landing, by the numbers after it
-  lands : {mine theirs : List (ℕ × ℕ)} (ls kh km kc kd : ℕ) → (n.kh ≤ kh) × (n.km ≤ km) × (n.kc ≤ kc) → Ordered k (record n { ls = ls; kh = kh; km = km; kc = kc; kd = kd }) → Words k (record n { ls = ls; kh = kh; km = km; kc = kc; kd = kd }) new → mine ≡ pending_of k (record n { ls = ls; kh = kh; km = km; kc = kc; kd = kd }) → theirs ≡ unread_of k (record n { ls = ls; kh = kh; km = km; kc = kc; kd = kd }) → Lands lamport_blocks k n new mine theirs
+  lands : {mine theirs : List (ℕ × ℕ)} (ls kh km kc kd : ℕ) → (n.kh ≤ kh) × (n.km ≤ km) → Ordered k (record n { ls = ls; kh = kh; km = km; kc = kc; kd = kd }) → Words k (record n { ls = ls; kh = kh; km = km; kc = kc; kd = kd }) new → mine ≡ pending_of k (record n { ls = ls; kh = kh; km = km; kc = kc; kd = kd }) → theirs ≡ unread_of k (record n { ls = ls; kh = kh; km = km; kc = kc; kd = kd }) → Lands lamport_blocks k n new mine theirs
   lands ls kh km kc kd later order words mine_is theirs_is = record {
     after = record n { ls = ls; kh = kh; km = km; kc = kc; kd = kd };
     order = order;
     words = words;
-    sender = λ s st. record { place = st.place; written = st.written; is = st.is; holds = holds_later k st.place n.made n.kc kc st.written later.2 st.holds };
+    sender = λ s st. st;
     unsent = mine_is;
     unread = theirs_is;
     grows = record { tails = refl; dones = refl; took = refl; shut = refl; marks = later.1; later = later.0 };
@@ -45,7 +35,7 @@ module _ (k : Block) (n : Numbers) (new : ℕ → ℕ) where
 module _ (k : Block) (is : IsBlock k) (n : Numbers) (order : Ordered k n) (word new : ℕ → ℕ) (words : Words k n word) where
   slot_lands : (theirs : List (ℕ × ℕ)) → n.ls ≡ n.kh → n.kh < length k.list → gone n < sent n → IsWrite word new (slot k.size k.base n.ls, slice_index k.list n.ls) → theirs ≡ unread_of k n → Lands lamport_blocks k n new (window (sender_stores k.size k.base k.list) (suc (gone n)) (sent n)) theirs
   slot_lands theirs even more some write their =
-      lands k n new (n.ls + 1) n.kh n.km n.kc n.kd (omega arith) (order_ls k n order even room)
+      lands k n new (n.ls + 1) n.kh n.km n.kc n.kd (omega arith) (omega (arith, even, room))
       (record {
         head = miss word new at w write k.base (omega arith) ∙ words.head;
         mark = miss word new at w write (k.base + 4) (omega arith) ∙ words.mark;
@@ -75,7 +65,7 @@ module _ (k : Block) (is : IsBlock k) (n : Numbers) (order : Ordered k n) (word 
 
   head_lands : (theirs : List (ℕ × ℕ)) → n.ls ≡ n.kh + 1 → gone n < sent n → IsWrite word new (k.base, offset k (n.kh + 1)) → theirs ≡ unread_of k n → Lands lamport_blocks k n new (window (sender_stores k.size k.base k.list) (suc (gone n)) (sent n)) theirs
   head_lands theirs odd more write their =
-      lands k n new n.ls (n.kh + 1) n.km n.kc n.kd (omega arith) (order_kh k n order odd room)
+      lands k n new n.ls (n.kh + 1) n.km n.kc n.kd (omega arith) (omega (arith, odd, room))
       (record {
         head = hit word new k.base w write k.base refl;
         mark = miss word new k.base w write (k.base + 4) (omega arith) ∙ words.mark;
@@ -93,7 +83,7 @@ module _ (k : Block) (is : IsBlock k) (n : Numbers) (order : Ordered k n) (word 
 
   mark_lands : (theirs : List (ℕ × ℕ)) → n.kh ≡ length k.list → gone n < sent n → IsWrite word new (k.base + 4, 1) → theirs ≡ unread_of k n → Lands lamport_blocks k n new (window (sender_stores k.size k.base k.list) (suc (gone n)) (sent n)) theirs
   mark_lands theirs all more write their =
-      lands k n new n.ls n.kh (n.km + 1) n.kc n.kd (omega arith) (order_km k n order all room)
+      lands k n new n.ls n.kh (n.km + 1) n.kc n.kd (omega arith) (omega (arith, all, room))
       (record {
         head = miss word new (k.base + 4) 1 write k.base (omega arith) ∙ words.head;
         mark = hit word new (k.base + 4) 1 write (k.base + 4) refl ∙ one;
@@ -111,7 +101,7 @@ module _ (k : Block) (is : IsBlock k) (n : Numbers) (order : Ordered k n) (word 
 
   tail_lands : (mine : List (ℕ × ℕ)) → n.kc < n.c → IsWrite word new (k.base + 8, offset k (n.kc + 1)) → mine ≡ pending_of k n → Lands lamport_blocks k n new mine (window (receiver_stores k.size k.base k.list) (suc (n.kc + n.kd)) (n.c + n.d))
   tail_lands mine more write my =
-      lands k n new n.ls n.kh n.km (n.kc + 1) n.kd (omega arith) (order_kc k n order more)
+      lands k n new n.ls n.kh n.km (n.kc + 1) n.kd (omega arith) (omega (arith, more))
       (record {
         head = miss word new (k.base + 8) w write k.base (omega arith) ∙ words.head;
         mark = miss word new (k.base + 8) w write (k.base + 4) (omega arith) ∙ words.mark;
@@ -126,7 +116,7 @@ module _ (k : Block) (is : IsBlock k) (n : Numbers) (order : Ordered k n) (word 
 
   done_lands : (mine : List (ℕ × ℕ)) → n.kc ≡ length k.list → n.kd < n.d → IsWrite word new (k.base + 12, 1) → mine ≡ pending_of k n → Lands lamport_blocks k n new mine (window (receiver_stores k.size k.base k.list) (suc (n.kc + n.kd)) (n.c + n.d))
   done_lands mine all more write my =
-      lands k n new n.ls n.kh n.km n.kc (n.kd + 1) (omega arith) (order_kd k n order all more)
+      lands k n new n.ls n.kh n.km n.kc (n.kd + 1) (omega arith) (omega (arith, all, more))
       (record {
         head = miss word new (k.base + 12) 1 write k.base (omega arith) ∙ words.head;
         mark = miss word new (k.base + 12) 1 write (k.base + 4) (omega arith) ∙ words.mark;

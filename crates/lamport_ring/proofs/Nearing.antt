@@ -1,10 +1,9 @@
 -- What a plan needs of one block of Lamport's ring.
-use Rattle.std.proofs.Common.{ℕ, ◌+◌, ◌*◌, ◌%◌, ◌^◌, ◌<◌, ◌≤◌, ◌≡◌, ◌==◌, inl, inr, Bool, true, false, not, ◌&&◌, if◌then◌else◌, [], Option, Some, refl, sym, ◌∙◌, ap, subst, arith, lit≤}
+use Rattle.std.proofs.Common.{ℕ, ◌+◌, ◌*◌, ◌%◌, ◌^◌, ◌<◌, ◌≤◌, ◌≡◌, ◌==◌, inl, inr, Bool, true, false, not, ◌&&◌, if◌then◌else◌, [], Option, Some, refl, sym, ◌∙◌, ap, arith, lit≤}
 use Rattle.std.specs.Prelude.{slice_index, option_map}
 use Rattle.std.proofs.lemmas.Bool.{cases_eq, and_parts}
 use Rattle.std.proofs.lemmas.Bool.Decides.{nat_tests}
 use Rattle.hart.specs.State.{HartState}
-use Rattle.hart.specs.Steps.{need_of, advanced}
 use Rattle.hart.specs.declared.status.Status.{Status}
 use Rattle.hart.specs.declared.status.Status.TheVariants as status
 use Rattle.step_machine.specs.History.{History}
@@ -13,27 +12,27 @@ use Rattle.step_machine.specs.Paths.{state_of}
 use Rattle.step_machine.specs.WordReads.{word_in_memory}
 use Rattle.poll_close.specs.Paces.{Nears, runs, left_by, next_by, ready_if, is_ready}
 use Rattle.poll_close.specs.Invariant.Blocks.{Block, offset, slot_store, tail_store}
-use Rattle.poll_close.specs.Invariant.SenderState.{Written}
+use Rattle.poll_close.specs.Invariant.Outlines.{Standing}
 use Rattle.poll_close.specs.Invariant.ReceiverState.{Noted, Whole, whole_of, receiving}
 use Rattle.poll_close.specs.Invariant.ReceiverPlaces.{Pc14, Pc18, Pc1C, Pc20, Pc24}
 use Rattle.poll_close.proofs.Lines.{loads}
 use Rattle.poll_close.proofs.Modulo.{same_offset}
 use Rattle.poll_close.proofs.Windows.{none_left, singles_length, pairs_length}
-use Rattle.poll_close.proofs.Blocks.{IsBlock, IsWordOf, offset_low, base_word, word_of}
+use Rattle.poll_close.proofs.Blocks.{IsBlock, offset_low, base_word, word_of}
+use Rattle.poll_close.proofs.Outlines.{base_is, stands_at, has_ended, nearer}
 use Rattle.poll_close.proofs.Distance.{falls, two_flags, not_stale, MiddleNears, BlockProgress}
 use Rattle.poll_close.proofs.Progress.{nears}
 use Rattle.poll_close.proofs.Standing.{Sender, value_is}
 use Rattle.lamport_ring.specs.Listing.{sender_code}
-use Rattle.lamport_ring.specs.Lamport.{lamport, lamport_blocks, lamport_means, sender_left, waits, stale, lamport_pace}
+use Rattle.lamport_ring.specs.Lamport.{lamport, lamport_blocks, lamport_means, waits, stale, lamport_pace}
 use Rattle.lamport_ring.specs.Invariant.Stores.{head_store, sender_stores, receiver_stores}
 use Rattle.lamport_ring.specs.Invariant.Middle.{middle}
 use Rattle.lamport_ring.specs.Invariant.Numbers.{Numbers, sent, gone, Ordered, Words, pending_of, unread_of}
-use Rattle.lamport_ring.specs.Invariant.SenderPlaces.{SenderPlace, P00, P18, Over, stands, SenderIs, Standing}
-use Rattle.lamport_ring.proofs.SenderMoves.{Moves}
-use Rattle.lamport_ring.proofs.SenderActs.{moves}
+use Rattle.lamport_ring.specs.Invariant.Sender.{Marked, sender}
+use Rattle.lamport_ring.proofs.Sender.{lamport_sender}
 use Rattle.lamport_ring.proofs.MiddleLines as mid
 use Rattle.lamport_ring.proofs.ReceiverReads.{seen_head, seen_tail}
-use Rattle.lamport_ring.proofs.LamportLaws.{lamport_laws}
+use Rattle.lamport_ring.proofs.LamportLaws.{lamport_laws, reasons}
 
 -- where nothing is pending all that was stored has landed
 module _ (k : Block) (n : Numbers) (order : Ordered k n) where
@@ -43,45 +42,24 @@ module _ (k : Block) (n : Numbers) (order : Ordered k n) where
   pub all_read : unread_of k n ≡ [] → n.c + n.d ≤ n.kc + n.kd
   all_read none = none_left (receiver_stores k.size k.base k.list) (n.kc + n.kd) (n.c + n.d) none (omega (arith, singles_length (tail_store k.size k.base) (k.base + 12, 1) k.list, order.c_kh, order.kh_ls, order.ls_p, order.p_all, order.d_one))
 
--- each act of a sender that does not wait brings it nearer to its end
-nearer_at : (k : Block) (n : Numbers) (here : SenderPlace) (r : Written) (word : ℕ → ℕ) (v : ℕ) → IsBlock k → Ordered k n → Words k n word → SenderIs k here n.made n.kc r → (stands k here n.made r).status ≡ status.Running → ((a : ℕ) → IsWordOf k a → need_of (stands k here n.made r) ≡ loads a → v ≡ word a) → waits (stands k here n.made r) word ≡ false → sender_left (advanced (stands k here n.made r) v) < sender_left (stands k here n.made r)
-nearer_at k n here r word v is order words h runs find room =
-    let m : Moves k here n r v = moves k is n r v order here runs (λ wants. tail wants ∙ words.tail) h in
-    subst (λ (z : HartState). sender_left z < sender_left (stands k here n.made r)) (sym m.leaves) (m.nearer (λ at wants. ap (λ z. z == r.x6) (tail wants) ∙ subst (λ (p : SenderPlace). waits (stands k p n.made r) word ≡ false) at room))
-  where
-    tail : need_of (stands k here n.made r) ≡ loads (k.base + 8) → v ≡ word (k.base + 8)
-    tail wants = find (k.base + 8) (word_of k is 8 (omega arith) refl) wants
-
-nearer : (k : Block) (n : Numbers) (s : HartState) (word : ℕ → ℕ) (v : ℕ) → IsBlock k → Ordered k n → Words k n word → Standing k n s → s.status ≡ status.Running → pending_of k n ≡ [] → unread_of k n ≡ [] → ((a : ℕ) → IsWordOf k a → need_of s ≡ loads a → v ≡ word a) → waits s word ≡ false → sender_left (advanced s v) < sender_left s
-nearer k n s word v is order words st runs none empty find room = subst (λ (z : HartState). z.status ≡ status.Running → ((a : ℕ) → IsWordOf k a → need_of z ≡ loads a → v ≡ word a) → waits z word ≡ false → sender_left (advanced z v) < sender_left z) (sym st.is) (nearer_at k n st.place st.written word v is order words st.holds) runs find room
-
 -- one that waits at a full ring has words there, since a ring has two slots at least
-full_18 : (k : Block) (n : Numbers) (r : Written) (word : ℕ → ℕ) → IsBlock k → 2 ≤ k.size → Ordered k n → Words k n word → sent n ≤ gone n → n.c + n.d ≤ n.kc + n.kd → SenderIs k P18 n.made n.kc r → word (k.base + 8) ≡ r.x6 → n.c < n.kh
-full_18 k n r word is two order words all read h same =
+ready : (k : Block) (n : Numbers) (s : HartState) (word : ℕ → ℕ) → IsBlock k → 2 ≤ k.size → Ordered k n → Words k n word → Standing sender k n.made s → s.status ≡ status.Running → pending_of k n ≡ [] → unread_of k n ≡ [] → waits s word ≡ true → n.c < n.kh
+ready k n s word is two order words st running none empty wait =
+    let test = and_parts (s.pc == 0x18) (word (slice_index s.registers 8 + 8) == slice_index s.registers 6) wait in
+    let at = stands_at sender k n.made s st 0x18 (let on : (s.pc == 0x18) ≡ true = test.0 in grind (arith, nat_tests)) (omega arith) (omega arith) in
+    let found : word (slice_index s.registers 8 + 8) ≡ slice_index s.registers 6 = let on : (word (slice_index s.registers 8 + 8) == slice_index s.registers 6) ≡ true = test.1 in grind (arith, nat_tests) in
+    let same : word (k.base + 8) ≡ st.written.x6 = sym (ap (λ (z : HartState). word (slice_index z.registers 8 + 8)) at.0) ∙ found ∙ ap (λ (z : HartState). slice_index z.registers 6) at.0 in
+    let all : sent n ≤ gone n = all_sent k n order none in
     elim (cases_eq (n.made.p + 1) (n.kc + k.size)) [
-      | inl full ↦ omega (arith, full, two, all, read, h.0.heads, h.0.unmarked, order.ls_p, order.kh_q, order.km_m, order.kc_c, order.kd_d)
+      | inl full ↦ omega (arith, full, two, all, all_read k n order empty, at.1.0.heads, at.1.0.unmarked, order.ls_p, order.kh_q, order.km_m, order.kc_c, order.kd_d)
       | inr free ↦
-          let near : n.kc ≡ n.made.p + 1 = same_offset k.size n.kc (n.made.p + 1) (omega (arith, is.some_slot)) (omega (arith, order.kc_c, order.c_kh, order.kh_ls, order.ls_p)) (omega (arith, free, order.p_kc)) (sym words.tail ∙ same ∙ h.1) in
+          let near : n.kc ≡ n.made.p + 1 = same_offset k.size n.kc (n.made.p + 1) (omega (arith, is.some_slot)) (omega (arith, order.kc_c, order.c_kh, order.kh_ls, order.ls_p)) (omega (arith, free, order.p_kc)) (sym words.tail ∙ same ∙ at.1.1) in
           absurd (omega (arith, near, order.kc_c, order.c_kh, order.kh_ls, order.ls_p))
     ]
 
-waits_at : (k : Block) (n : Numbers) (r : Written) (word : ℕ → ℕ) (here : SenderPlace) → waits (stands k here n.made r) word ≡ true → (here ≡ P18) × (word (k.base + 8) ≡ r.x6)
-waits_at k n r word P18 on = (refl, (let same : word (k.base + 8) ≡ r.x6 = grind (arith, nat_tests) in same))
-waits_at k n r word here on = cc
-
-ready : (k : Block) (n : Numbers) (s : HartState) (word : ℕ → ℕ) → IsBlock k → 2 ≤ k.size → Ordered k n → Words k n word → Standing k n s → s.status ≡ status.Running → pending_of k n ≡ [] → unread_of k n ≡ [] → waits s word ≡ true → n.c < n.kh
-ready k n s word is two order words st runs none empty wait =
-    let at = waits_at k n st.written word st.place (subst (λ (z : HartState). waits z word ≡ true) st.is wait) in
-    full_18 k n st.written word is two order words (all_sent k n order none) (all_read k n order empty) (subst (λ (here : SenderPlace). SenderIs k here n.made n.kc st.written) at.0 st.holds) at.1
-
-over_at : (k : Block) (n : Numbers) (r : Written) (here : SenderPlace) → runs (Some (stands k here n.made r)) ≡ false → here ≡ Over
-over_at k n r Over off = refl
-over_at k n r here off = cc
-
-marked : (k : Block) (n : Numbers) (s : HartState) → IsBlock k → Ordered k n → Standing k n s → runs (Some s) ≡ false → pending_of k n ≡ [] → n.km ≡ 1
+marked : (k : Block) (n : Numbers) (s : HartState) → IsBlock k → Ordered k n → Standing sender k n.made s → runs (Some s) ≡ false → pending_of k n ≡ [] → n.km ≡ 1
 marked k n s is order st off none =
-    let over : st.place ≡ Over = over_at k n st.written st.place (subst (λ (z : HartState). runs (Some z) ≡ false) st.is off) in
-    let h : SenderIs k Over n.made n.kc st.written = subst (λ (here : SenderPlace). SenderIs k here n.made n.kc st.written) over st.holds in
+    let h : Marked k n.made = has_ended sender k n.made s st off in
     omega (arith, h.mark, all_sent k n order none, order.ls_p, order.kh_q, order.km_m)
 
 fresh : (f : Whole) (r : Noted) (T size : ℕ) (E : Bool) → (E ≡ true → r.x30 ≡ 1) → stale (receiving middle f 0x14 r) T size E ≡ false
@@ -135,7 +113,7 @@ near_24 k i count n word r v sh E rest start is order words find h ready off =
 pub lamport_progress : BlockProgress lamport_blocks lamport_pace 2
 lamport_progress = record {
   Ready = λ k n. n.c < n.kh;
-  nearer = nearer;
+  nearer = λ k n s word v is order words st running none empty find on. nearer lamport_blocks lamport_sender reasons k n s word v is order words st running none find on;
   ready = ready;
   marked = marked;
   fresh = fresh;
@@ -149,14 +127,10 @@ lamport_progress = record {
 pub lamport_nears : Nears lamport lamport_means (left_by lamport_pace) (next_by lamport_pace)
 lamport_nears = nears lamport_blocks sender_code lamport_laws 2 (lit≤ tt) lamport_pace lamport_progress
 
-base_at : (k : Block) (n : Numbers) (r : Written) (here : SenderPlace) → slice_index (stands k here n.made r).registers 8 ≡ k.base
-base_at k n r P00 = refl
-base_at k n r here = refl
-
 -- the tail's address
 pub address : (M : ℕ) (t : History) (h : ℕ) (d : Sender lamport_blocks M t h) (v : ℕ) → option_map (λ (s : HartState). slice_index s.registers 8) (state_of M t h) ≡ Some v → (v + 8 < 2 ^ 32) × ((v + 8) % 4 ≡ 0) × (v + 8 < 4 * M)
 address M t h d v at =
-    let same : v ≡ d.block.base = value_is (λ (s : HartState). slice_index s.registers 8) (state_of M t h) d.state v d.at at ∙ ap (λ (s : HartState). slice_index s.registers 8) d.stands.is ∙ base_at d.block d.numbers d.stands.written d.stands.place in
+    let same : v ≡ d.block.base = value_is (λ (s : HartState). slice_index s.registers 8) (state_of M t h) d.state v d.at at ∙ base_is sender d.block d.numbers.made d.state d.stands in
     (omega (arith, same, d.is.inside, d.is.small, d.is.some_slot), omega (arith, same, d.is.even), omega (arith, same, d.is.inside, d.words, d.is.some_slot))
 
 ready_of : (word : ℕ → ℕ) (o : Option HartState) (s : HartState) (w x : ℕ) → o ≡ Some s → s.status ≡ status.Running → s.pc ≡ 0x18 → w ≡ word (slice_index s.registers 8 + 8) → x ≡ slice_index s.registers 6 → not (w == x) ≡ ready_if lamport_pace word o

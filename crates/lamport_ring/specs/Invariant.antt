@@ -2,5 +2,5 @@
 -- of the ring are proved by it.
 pub mod Stores
 pub mod Numbers
-pub mod SenderPlaces
+pub mod Sender
 pub mod Middle

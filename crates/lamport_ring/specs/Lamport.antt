@@ -1,13 +1,14 @@
 -- Lamport's ring, what its histories mean, and how far its harts are from their ends.
-use Rattle.std.specs.Prelude.{ℕ, ◌≤◌, ◌+◌, ◌*◌, ◌/◌, ◌%◌, ◌==◌, Bool, false, ◌&&◌, if◌then◌else◌, [], ◌∷◌, length, slice_index}
+use Rattle.std.specs.Prelude.{ℕ, ◌≤◌, ◌+◌, ◌*◌, ◌%◌, ◌==◌, Bool, false, ◌&&◌, if◌then◌else◌, slice_index}
 use Rattle.hart.specs.State.{HartState}
 use Rattle.poll_close.specs.Laws.{Ring, Meaning}
-use Rattle.poll_close.specs.Paces.{Pace, is_running}
+use Rattle.poll_close.specs.Paces.{Pace}
 use Rattle.poll_close.specs.Invariant.BlockMeaning.{BlockMeaning}
+use Rattle.poll_close.specs.Invariant.Outlines.{Standing, left_of}
 use Rattle.poll_close.specs.Invariant.Channels.{means_by}
 use Rattle.lamport_ring.specs.Listing.{sender_code, receiver_code}
 use Rattle.lamport_ring.specs.Invariant.Numbers.{Numbers, Ordered, Words, pending_of, unread_of}
-use Rattle.lamport_ring.specs.Invariant.SenderPlaces.{Standing}
+use Rattle.lamport_ring.specs.Invariant.Sender.{sender}
 use Rattle.lamport_ring.specs.Invariant.Middle.{middle, Headed, More, At1C, At20, At24}
 
 -- one slot stays free, so a ring has at least two
@@ -27,7 +28,7 @@ lamport_blocks = record {
   Words = Words;
   unsent = pending_of;
   unread = unread_of;
-  Stands = Standing;
+  Stands = λ k n s. Standing sender k n.made s;
   Level = λ n. Unit {0};
   Filled = More;
   Later = λ n new. n.kh ≤ new.kh;
@@ -41,16 +42,8 @@ lamport_blocks = record {
 abbrev pub lamport_means : Meaning
 lamport_means = means_by lamport_blocks
 
--- ---- how far a sender is from its end, when it waits, and when a visit of the receiver may find nothing
+-- ---- when a sender waits, and when a visit of the receiver may find nothing
 -- though a word is there by now
-
--- by its place, and where it has read the tail by what it read
-abbrev pub place_left : ℕ → ℕ → ℕ → ℕ → ℕ
-place_left pc x6 x7 x11 = if pc == 0x08 then 5 + 15 * x11 else if pc == 0x1C then (if x7 == x6 then 16 else 14) else slice_index (8 ∷ 7 ∷ 0 ∷ 19 ∷ 18 ∷ 17 ∷ 15 ∷ 0 ∷ 13 ∷ 12 ∷ 11 ∷ 10 ∷ 9 ∷ 4 ∷ 3 ∷ 2 ∷ 1 ∷ []) (pc / 4)
-
--- the words in its inbox, then its place
-abbrev pub sender_left : HartState → ℕ
-sender_left s = 32 * length s.inbox + (if is_running s.status then place_left s.pc (slice_index s.registers 6) (slice_index s.registers 7) (slice_index s.registers 11) else 0)
 
 -- it is about to read the tail, and will find its ring full
 abbrev pub waits : HartState → (ℕ → ℕ) → Bool
@@ -64,4 +57,4 @@ stale s took size ended =
     else false
 
 abbrev pub lamport_pace : Pace
-lamport_pace = record { sender = sender_left; waits = waits; stale = stale }
+lamport_pace = record { sender = left_of sender; waits = waits; stale = stale }

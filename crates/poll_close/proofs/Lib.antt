@@ -7,6 +7,7 @@ pub mod Windows
 pub mod Writes
 pub mod Blocks
 pub mod BlockLaws
+pub mod Outlines
 pub mod ReceiverSteps
 pub mod ReceiverMoves
 pub mod ReceiverStays

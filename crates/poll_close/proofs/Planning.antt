@@ -90,7 +90,7 @@ module _ (ring : Ring) (means : Meaning) (B M : ℕ) where
   }
 
   pub planned-done : (start : History) (evs : List Event) (t : History) → Cleans ring means → Planned ring means B M start evs t → is_done t ≡ true → Finishes B M start evs
-  planned-done start evs t cleans p done new run = subst Finished (run-one B M start evs t new p.run run) (finished ring means B M t cleans p.stands done)
+  planned-done start evs t cleans p done = record { history = t; run = p.run; finished = finished ring means B M t cleans p.stands done }
 
 drop_one : (ps : List Write) → 0 < length ps → length (drop 1 ps) < length ps
 drop_one [] some = absurd (omega arith)
@@ -288,7 +288,7 @@ whole_delivered ring means B M lists S o events plan mid new reports opens first
     let lists_is : lists_of new.opening ≡ lists = ap lists_of (same ∙ opens) ∙ inboxes ring.sender S 0 lists in
     let harts : length new.opening.harts ≡ suc (length (senders_from ring.sender S 0 lists)) = ap (λ (p : Start). length p.harts) (same ∙ opens) in
     let count : senders_of new ≡ length lists = omega (arith, harts, senders-length ring.sender S 0 lists) in
-    let end : Finished new = finishes new second in
+    let end : Finished new = subst Finished (run-one B M mid plan finishes.history new finishes.run second) finishes.finished in
     record {
       plan = plan;
       middle = mid;
@@ -376,7 +376,7 @@ module _ (ring : Ring) (means : Meaning) (left next : ℕ → History → ℕ) (
   can_finish stands =
       let quiet = land_all stands (length start.opening.harts) (omega arith) in
       let end = turns (left M quiet.1) quiet.0 quiet.1 quiet.2 (λ k below. quiet.3 k (omega (arith, quiet.2.harts, below))) (omega arith) in
-      record { events = end.0; finishes = planned-done ring means B M start end.0 end.1 cleans end.2 end.3; history = end.1; run = end.2.run }
+      record { events = end.0; finishes = planned-done ring means B M start end.0 end.1 cleans end.2 end.3 }
 
 -- so from every state that events lead to
 pub run_can_finish : (ring : Ring) (means : Meaning) (left next : ℕ → History → ℕ) → Opens ring means → Keeps ring means → Cleans ring means → Nears ring means left next → (B M : ℕ) (lists : List (List ℕ)) (S : ℕ) (evs : List Event) (t : History) → 1 ≤ B → Accepted ring M lists S → Run B M (opening_of ring.sender ring.receiver lists S) evs t → CanFinish B M t

@@ -1,32 +1,23 @@
 -- The lines of a sender that all rings have alike, over its code: it asks for the next word of its list.
-use Rattle.std.proofs.Common.{ℕ, pos, suc, ◌*◌, ◌<◌, ◌≤◌, ◌≡◌, ◌==◌, Bool, false, if◌then◌else◌, List, [], ◌∷◌, length, drop, Some, None, sym, ◌∙◌, ap, subst, arith, drop-cons, lit<}
+use Rattle.std.proofs.Common.{ℕ, suc, ◌*◌, ◌<◌, ◌≤◌, ◌≡◌, ◌==◌, Bool, false, if◌then◌else◌, List, [], ◌∷◌, length, drop, Some, None, sym, ◌∙◌, ap, subst, arith, drop-cons}
 use Rattle.std.specs.Prelude.{slice_index}
 use Rattle.std.proofs.Math.ListN.{drop_of_length-le}
 use Rattle.std.proofs.lemmas.Bool.Decides.{nat_tests}
-use Rattle.rv_decode.specs.Meaning.{reg_of}
-use Rattle.rv_decode.specs.declared.instruction.ImmediateOp.TheVariants as immediate
-use Rattle.rv_decode.specs.declared.instruction.Instr.TheVariants.{Immediate, Ecall}
+use Rattle.rv_decode.specs.declared.instruction.Instr.TheVariants.{Ecall}
 use Rattle.hart.specs.State.{HartState}
 use Rattle.hart.specs.declared.status.Status.TheVariants as status
 use Rattle.hart.specs.declared.need.Need.TheVariants as need
 use Rattle.hart.proofs.Instructions.{IsAt, next_need, next_after}
 use Rattle.poll_close.specs.Invariant.SenderState.{Written, Fixed, file, running}
-use Rattle.poll_close.proofs.Lines.{Line, word_plus, add_line}
+use Rattle.poll_close.proofs.Lines.{Line}
 
 module _ (code : List ℕ) (long : 2 < length code) (f : Fixed) (r : Written) where
   -- a pc inside the code leaves it running
   abbrev settles : ℕ → Written → List ℕ → Bool → HartState
   settles pc q inbox over = record { code = code; words = f.words; registers = file f q; pc = pc; inbox = inbox; status = if over then status.Ended else status.Running }
 
-  inside_4 : (4 == 4 * length code) ≡ false
-  inside_4 = grind (arith, nat_tests)
-
   inside_8 : (8 == 4 * length code) ≡ false
   inside_8 = grind (arith, nat_tests)
-
-  -- addi x17,x0,1
-  pub line_00 : (inbox : List ℕ) → IsAt (running code f 0x00 r inbox) (Immediate immediate.Add (reg_of 17) (reg_of 0) (pos 1)) → Line (running code f 0x00 r inbox) need.Inner (λ v. running code f 0x04 (record r { x17 = 1 }) inbox)
-  line_00 inbox at = let line = add_line at (word_plus 0 1 (lit< tt)) in record { wants = line.wants; leaves = λ v. line.leaves v ∙ ap (settles 0x04 (record r { x17 = 1 }) inbox) inside_4 }
 
   -- ecall: the next word of its list, or none
   pub line_04-word : ((inbox : List ℕ) → IsAt (running code f 0x04 r inbox) Ecall) → r.x17 ≡ 1 → (list : List ℕ) (g : ℕ) → g < length list → Line (running code f 0x04 r (drop g list)) (need.Next (Some (slice_index list g))) (λ v. running code f 0x08 (record r { x10 = slice_index list g; x11 = 1 }) (drop (suc g) list))

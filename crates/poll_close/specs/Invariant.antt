@@ -2,6 +2,7 @@
 -- to be believed: the laws of a ring are proved by it.
 pub mod Blocks
 pub mod SenderState
+pub mod Outlines
 pub mod ReceiverState
 pub mod ReceiverPlaces
 pub mod BlockMeaning

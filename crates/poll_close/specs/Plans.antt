@@ -43,16 +43,16 @@ pub record Finished (t : History) : Type 0 where
   pub closed : (i : ℕ) → i < senders_of t → is_closed (reported 0 t.entries) i ≡ true
   pub whole : (i : ℕ) → i < senders_of t → taken (reported 0 t.entries) i ≡ slice_index_or (lists_of t.opening) i []
 
--- after these events the channel is finished
-abbrev pub Finishes : ℕ → ℕ → History → List Event → Type 0
-Finishes B M t evs = (new : History) → RunFrom B M t evs new → Finished new
+-- these events run, and after them the channel is finished
+pub record Finishes (B M : ℕ) (t : History) (evs : List Event) : Type 0 where
+  pub history : History
+  pub run : RunFrom B M t evs history
+  pub finished : Finished history
 
--- there are such events, and they run
+-- there are such events
 pub record CanFinish (B M : ℕ) (t : History) : Type 0 where
   pub events : List Event
   pub finishes : Finishes B M t events
-  pub history : History
-  pub run : RunFrom B M t events history
 
 abbrev pub AllLanded : History → Type 0
 AllLanded t = (h : ℕ) → h < length t.opening.harts → pending h t.entries ≡ []

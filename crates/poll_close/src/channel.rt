@@ -1,6 +1,6 @@
 //! A channel that runs event by event.
 
-ghost use Rattle.std.specs.Prelude.{◌≡◌, ◌≤◌, ◌<◌, ℕ, List, IfOk, IfErr, OnOk, OnErr, map, take, length};
+ghost use Rattle.std.specs.Prelude.{◌≡◌, ◌≤◌, ◌<◌, ◌+◌, ℕ, List, IsOk, IfOk, IfErr, OnOk, OnErr, map, take, length};
 ghost use Rattle.step_machine.specs.Runs.{event_of};
 ghost use Rattle.poll_close.specs.Layout.{opening_of};
 ghost use Rattle.poll_close.specs.Laws.{Accepted};
@@ -69,6 +69,8 @@ impl<K: RingKind, const B: usize, const M: usize> Channel<K, B, M> {
         ensures happens { IfOk result (λ o. Happens B M self.old.history event o self.new.history) }
         ensures opening { self.new.history.opening ≡ self.old.history.opening }
         ensures err { OnErr result (self.new ≡ self.old) }
+        ensures reserved { 0 < self.old.room → IsOk result }
+        ensures room { self.old.room ≤ self.new.room + 1 }
     {
         K::laws();
         self.machine.step(event)
@@ -81,9 +83,20 @@ impl<K: RingKind, const B: usize, const M: usize> Channel<K, B, M> {
         ensures err { IfErr result (λ e. RunFrom B M self.old.history (take e.0 events.now) self.new.history) }
         ensures below { IfErr result (λ e. e.0 < length events.now) }
         ensures opening { self.new.history.opening ≡ self.old.history.opening }
+        ensures reserved { length events.now ≤ self.old.room → IsOk result }
+        ensures room { self.old.room ≤ self.new.room + length events.now }
     {
         K::laws();
         self.machine.run(events)
+    }
+
+    /// Makes room for `n` events. Neither outcome changes the history.
+    pub fn reserve(&mut self, n: usize) -> Result<(), AllocError>
+        ensures history { self.new.history ≡ self.old.history }
+        ensures room { OnOk result (n ≤ self.new.room) }
+        ensures err { OnErr result (self.new ≡ self.old) }
+    {
+        self.machine.reserve(n)
     }
 
     /// What the receiver reported, oldest first.

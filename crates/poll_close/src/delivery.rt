@@ -9,6 +9,7 @@ ghost use Rattle.poll_close.specs.Layout.{opening_of};
 ghost use Rattle.poll_close.specs.Laws.{Accepted};
 ghost use Rattle.poll_close.specs.Refusals.{Refuses};
 ghost use Rattle.poll_close.specs.Reports.{Clean};
+ghost use Rattle.poll_close.specs.Going.{AllGoOn};
 ghost use Rattle.poll_close.specs.Delivery.{Delivers, DeliversWhole};
 ghost use Rattle.poll_close.specs.Standing.{Stands};
 ghost use Rattle.poll_close.specs.Plans.{CanFinish};
@@ -100,6 +101,8 @@ pub fn deliver_whole<K: Finish<B, M>, const B: usize, const M: usize>(
 pub fn laws_of_channels<K: RingKind>()
     ensures fits { (M : ℕ) (lists : List (List ℕ)) (S : ℕ) → Accepted K.ring M lists S → FitsIn M (opening_of K.ring.sender K.ring.receiver lists S) }
     ensures clean { (B M : ℕ) (lists : List (List ℕ)) (S : ℕ) (events : List Event) (t : History) → Accepted K.ring M lists S → Run B M (opening_of K.ring.sender K.ring.receiver lists S) events t → Clean (reported 0 t.entries) lists }
+    ensures stands { (B M : ℕ) (lists : List (List ℕ)) (S : ℕ) (events : List Event) (t : History) → Accepted K.ring M lists S → Run B M (opening_of K.ring.sender K.ring.receiver lists S) events t → Stands K.ring K.meaning B M t }
+    ensures goes { (B M : ℕ) (lists : List (List ℕ)) (S : ℕ) (events : List Event) (t : History) → Accepted K.ring M lists S → Run B M (opening_of K.ring.sender K.ring.receiver lists S) events t → AllGoOn t.entries }
 {
     K::laws();
 }

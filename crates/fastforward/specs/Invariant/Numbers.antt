@@ -4,11 +4,13 @@ use Rattle.std.specs.Prelude.{slice_index}
 use Rattle.poll_close.specs.Invariant.Blocks.{Block, offset, slot, window}
 use Rattle.fastforward.specs.Invariant.Stores.{sender_stores, receiver_stores}
 
--- the sender's own: the words that it took from its inbox; the slots and marks that it stored
+-- the sender's own: the words that it took from its inbox; the slots and marks that it stored; the nulls
+-- that had landed when it last read a slot
 pub record Made : Type 0 where
   pub g : ℕ
   pub p : ℕ
   pub m : ℕ
+  pub seen : ℕ
 
 pub record Numbers : Type 0 where
   pub made : Made
@@ -41,6 +43,7 @@ freed n = n.ln + n.kc + n.kd
 -- a word is stored where the null before it in the slot has landed, and so at most one store to a slot
 -- is pending in both buffers
 pub record Ordered (k : Block) (n : Numbers) : Type 0 where
+  pub seen_ln : n.made.seen ≤ n.ln
   pub ln_u : n.ln ≤ n.u
   pub u_ls : n.u ≤ n.ls
   pub ls_p : n.ls ≤ n.made.p

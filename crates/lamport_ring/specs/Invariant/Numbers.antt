@@ -4,12 +4,14 @@ use Rattle.std.specs.Prelude.{slice_index}
 use Rattle.poll_close.specs.Invariant.Blocks.{Block, offset, slot, window}
 use Rattle.lamport_ring.specs.Invariant.Stores.{sender_stores, receiver_stores}
 
--- the sender's own: the words that it took from its inbox; the slots, heads and marks that it stored
+-- the sender's own: the words that it took from its inbox; the slots, heads and marks that it stored; the
+-- tails that had landed when it last read one
 pub record Made : Type 0 where
   pub g : ℕ
   pub p : ℕ
   pub q : ℕ
   pub m : ℕ
+  pub seen : ℕ
 
 pub record Numbers : Type 0 where
   pub made : Made
@@ -33,6 +35,7 @@ abbrev pub gone : Numbers → ℕ
 gone n = n.ls + n.kh + n.km
 
 pub record Ordered (k : Block) (n : Numbers) : Type 0 where
+  pub seen_kc : n.made.seen ≤ n.kc
   pub kc_c : n.kc ≤ n.c
   pub c_kh : n.c ≤ n.kh
   pub kh_ls : n.kh ≤ n.ls

@@ -1,6 +1,9 @@
 -- The meaning holds at the opening, and each event keeps it.
 use Rattle.std.proofs.Common.{refl}
 use Rattle.poll_close.proofs.Delivering.{delivers, channel-fits}
+use Rattle.poll_close.proofs.Standing.{stands-opens, stands-run, stands-goes}
+use Rattle.step_machine.specs.History.{unrun}
+use Rattle.poll_close.specs.Layout.{opening_of}
 use Rattle.poll_close.proofs.delivery.laws_of_channels.Goals as goal
 
 pub returns-clause-fits : goal.returns-clause-fits
@@ -9,3 +12,11 @@ returns-clause-fits g c = λ M lists S accepted. channel-fits g.K.RingKind.ring 
 pub returns-clause-clean : goal.returns-clause-clean
 returns-clause-clean g c = λ B M lists S evs t accepted run.
     (delivers g.K.RingKind.ring g.K.RingKind.meaning B M lists S evs t _ _ c.laws.ensures.opens c.laws.ensures.keeps c.laws.ensures.cleans accepted refl run refl).clean
+
+pub returns-clause-stands : goal.returns-clause-stands
+returns-clause-stands g c = λ B M lists S evs t accepted run.
+    stands-run g.K.RingKind.ring g.K.RingKind.meaning B M _ evs t c.laws.ensures.keeps (stands-opens g.K.RingKind.ring g.K.RingKind.meaning B M lists S (unrun (opening_of g.K.RingKind.ring.sender g.K.RingKind.ring.receiver lists S)) c.laws.ensures.opens accepted refl) run
+
+pub returns-clause-goes : goal.returns-clause-goes
+returns-clause-goes g c = λ B M lists S evs t accepted run.
+    stands-goes g.K.RingKind.ring g.K.RingKind.meaning B M t c.laws.ensures.goes (stands-run g.K.RingKind.ring g.K.RingKind.meaning B M _ evs t c.laws.ensures.keeps (stands-opens g.K.RingKind.ring g.K.RingKind.meaning B M lists S (unrun (opening_of g.K.RingKind.ring.sender g.K.RingKind.ring.receiver lists S)) c.laws.ensures.opens accepted refl) run)

@@ -1,0 +1,185 @@
+-- Why each row of the sender's outline is right: from its assertion, the act there leads to the next row's.
+use Rattle.std.proofs.Common.{ℕ, suc, ◌+◌, ◌*◌, ◌<◌, ◌≤◌, ◌≡◌, ◌≢◌, ◌==◌, ◌⊎◌, inl, inr, true, false, [], ◌∷◌, ◌++◌, length, drop, length-drop, Some, None, refl, sym, ◌∙◌, ap, subst, arith, append-nil, lit<}
+use Rattle.std.specs.Prelude.{slice_index, unwrap_or, map}
+use Rattle.std.specs.List.{slice_get}
+use Rattle.std.proofs.lemmas.Bool.{cases_lt, cases_eq}
+use Rattle.std.proofs.lemmas.Bool.Decides.{nat_tests}
+use Rattle.rv_decode.specs.declared.instruction.Instr.{Instr}
+use Rattle.hart.specs.declared.need.Need.TheVariants as need
+use Rattle.hart.proofs.Instructions.{IsAt, exit_need, exit_after}
+use Rattle.poll_close.specs.Invariant.Blocks.{Block, offset, slot, window}
+use Rattle.poll_close.specs.Invariant.SenderState.{Written, fixed, running}
+use Rattle.poll_close.proofs.Lines.{loads, stores, word_plus, add_line, sum_line, load_line, store_line, jump_line, same_jumps, other_goes_on, other_jumps, same_goes_on}
+use Rattle.poll_close.proofs.SenderLines.{line_04-word, line_04-none}
+use Rattle.poll_close.proofs.Modulo.{offset_step, offset_wrap}
+use Rattle.poll_close.proofs.Windows.{newest_none, Each-range, newest_at, window_made}
+use Rattle.poll_close.proofs.Blocks.{IsBlock, IsWordOf, offset_low, slot_of}
+use Rattle.poll_close.proofs.BlockLaws.{found_in}
+use Rattle.poll_close.proofs.Outlines.{Sender}
+use Rattle.poll_close.proofs.Outlines as outline
+use Rattle.poll_close.proofs.Progress.{not_false}
+use Rattle.fastforward.specs.Listing.{sender_code, sender_lines}
+use Rattle.fastforward.specs.FastForward.{fastforward_blocks, waits}
+use Rattle.fastforward.specs.Invariant.Stores.{sender_stores}
+use Rattle.fastforward.specs.Invariant.Numbers.{Made, Numbers, sent, gone, Ordered, Words, pending_of}
+use Rattle.fastforward.specs.Invariant.Sender.{sender}
+use Rattle.fastforward.proofs.Means.{sender-decoded}
+use Rattle.fastforward.proofs.Stores.{slots_apart, slot_again, store_word, store_mark, word_at}
+
+module _ (k : Block) (is : IsBlock k) (n : Numbers) (order : Ordered k n) (word : ℕ → ℕ) (words : Words k n word) where
+  -- a slot whose null is not in memory holds the word of a round before: in memory, or pending
+  full_slot : n.made.m ≡ 0 → n.made.p < length k.list → n.made.p ≡ n.ln + k.size → found_in (pending_of k n) word (slot k.size k.base n.made.p) ≡ slice_index k.list n.ln
+  full_slot unmarked more round = at (cases_eq n.ls n.ln)
+    where
+      place : ℕ
+      place = slot k.size k.base n.made.p
+
+      here : place ≡ slot k.size k.base n.ln
+      here = ap (slot k.size k.base) round ∙ slot_again k.size k.base n.ln
+
+      -- no mark is made, so all that is pending are words
+      first : gone n ≡ n.ls
+      first = omega (arith, order.km_m, unmarked)
+
+      elsewhere : (t : ℕ) (x : ℕ × ℕ) → n.ln < t → t < sent n → slice_get (sender_stores k.size k.base k.list) t ≡ Some x → x.0 ≢ place
+      elsewhere t x above below got same =
+          let before : t < n.made.p = omega (arith, below, unmarked) in
+          slots_apart k.size k.base t n.made.p is.some_slot before (omega (arith, above, round)) (sym (word_at k.size k.base k.list t x got (omega (arith, before, more))) ∙ same)
+
+      at : (n.ls ≡ n.ln) ⊎ (n.ls ≢ n.ln) → found_in (pending_of k n) word place ≡ slice_index k.list n.ln
+      at (inl none) =
+          let store : slice_get (sender_stores k.size k.base k.list) n.ln ≡ Some (place, slice_index k.list n.ln) = store_word k.size k.base k.list n.ln n.ln (omega (arith, more, round)) refl ∙ ap (λ a. Some (a, slice_index k.list n.ln)) (sym here) in
+          ap (λ o. unwrap_or o (word place)) (newest_at (sender_stores k.size k.base k.list) (gone n) n.ln (sent n) place (slice_index k.list n.ln) (omega (arith, none, first)) (omega (arith, round, is.some_slot)) store elsewhere)
+      at (inr some) =
+          ap (λ o. unwrap_or o (word place)) (newest_none place None (pending_of k n) (Each-range (λ x. x.0 ≢ place) (sender_stores k.size k.base k.list) (gone n) (sent n) (λ t x from below got. elsewhere t x (omega (arith, from, first, some, order.ln_u, order.u_ls)) below got)))
+          ∙ ap word here ∙ words.full n.ln (omega arith) (omega (arith, some, order.ln_u, order.u_ls))
+
+  -- so where it reads 0 the slot is free, since no word is 0
+  found_free : (v : ℕ) → n.made.m ≡ 0 → n.made.p < length k.list → v ≡ found_in (pending_of k n) word (slot k.size k.base n.made.p) → v ≡ 0 → n.made.p + 1 ≤ n.ln + k.size
+  found_free v unmarked more read zero_is =
+      elim (cases_eq n.made.p (n.ln + k.size)) [
+        | inl round ↦ absurd (is.full n.ln (omega (arith, more, round)) (sym (full_slot unmarked more round) ∙ sym read ∙ zero_is))
+        | inr free ↦ omega (arith, order.p_ln)
+      ]
+
+-- its own among a block's numbers
+abbrev pub fastforward_sender : Sender fastforward_blocks
+fastforward_sender = record {
+  outline = sender;
+  lines = sender_lines;
+  decoded = sender-decoded;
+  waits = waits;
+  own = λ n. n.made;
+  with_own = λ n made. record n { made = made };
+  same = λ n. refl;
+  stands_by = λ k n s st. st;
+  by_standing = λ k n made s st. st;
+  words = λ k n made word w. record { mark = w.mark; tail = w.tail; done = w.done; full = w.full; empty = w.empty };
+  unread = λ k n made. refl;
+  grows = λ n made. record { tails = refl; dones = refl; took = refl; shut = refl; marks = omega arith; later = (refl, omega arith) };
+}
+
+module _ (k : Block) (n : Numbers) (word : ℕ → ℕ) (v : ℕ) (r : Written) (is : IsBlock k) (order : Ordered k n) (words : Words k n word) where
+  -- a store joins those that are pending
+  joins : (x : ℕ × ℕ) (later : ℕ) → later ≡ suc (sent n) → slice_get (sender_stores k.size k.base k.list) (sent n) ≡ Some x → pending_of k n ++ x ∷ [] ≡ window (sender_stores k.size k.base k.list) (gone n) later
+  joins x later next store = rw next (window_made (sender_stores k.size k.base k.list) (gone n) (sent n) x (omega (arith, order.ls_p, order.km_m)) store)
+
+  at : (j : ℕ) {i : Instr} → slice_get (map Some sender_lines) j ≡ Some (Some i) → IsAt (running sender_code (fixed k) (4 * j) r (drop n.made.g k.list)) i
+  at j found = outline.at fastforward_blocks fastforward_sender k n word v r j found
+
+  goes : {here : ℕ} → outline.GoesBy fastforward_blocks fastforward_sender k n word v r here
+  goes {here} = outline.goes fastforward_blocks fastforward_sender k n word v r here
+
+  still : {here : ℕ} → outline.Still fastforward_blocks fastforward_sender k n word v r here
+  still {here} = outline.still fastforward_blocks fastforward_sender k n word v r order here
+
+  abbrev Right_at : ℕ → Type 0
+  Right_at here = outline.Right_at fastforward_blocks fastforward_sender k n word v r here
+
+  pub right_00 : Right_at 0x00  -- next: addi x17,x0,1
+  right_00 h = still 0x04 (record r { x17 = 1 }) (add_line (at 0 refl) (word_plus 0 1 (lit< tt))) (h.0, h.1, refl) (omega arith)
+
+  pub right_04 : Right_at 0x04  -- ecall
+  right_04 h =
+      elim (cases_lt n.made.p (length k.list)) [
+        | inl more ↦
+            let w : ℕ = slice_index k.list n.made.g in
+            let made : Made = record n.made { g = suc n.made.g } in
+            let before : length (drop n.made.g k.list) ≡ _ = length-drop n.made.g k.list in
+            let after : length (drop (suc n.made.g) k.list) ≡ _ = length-drop (suc n.made.g) k.list in
+            goes 0x08 (need.Next (Some w)) made (λ u. record r { x10 = w; x11 = 1 }) tt (line_04-word sender_code (lit< tt) (fixed k) r (λ inbox. outline.at_in fastforward_blocks fastforward_sender k n word v r r inbox 1 refl) h.2 k.list n.made.g (omega (arith, h.0.taken))) (omega arith) (append-nil (pending_of k n))
+            (record { unmarked = h.0.unmarked; index = h.1; answer = inl (refl, omega (arith, h.0.taken), more, ap (slice_index k.list) h.0.taken) })
+            (λ free. omega (arith, before, after, more, h.0.taken))
+        | inr all ↦
+            goes 0x08 (need.Next None) n.made (λ u. record r { x11 = 0 }) tt (line_04-none sender_code (lit< tt) (fixed k) r (λ inbox. outline.at_in fastforward_blocks fastforward_sender k n word v r r inbox 1 refl) h.2 k.list n.made.g (omega (arith, h.0.taken))) order (append-nil (pending_of k n))
+            (record { unmarked = h.0.unmarked; index = h.1; answer = inr (refl, h.0.taken, omega (arith, all, order.p_all)) })
+            (λ free. omega arith)
+      ]
+
+  pub right_08 : Right_at 0x08  -- beq x11,x0,done
+  right_08 h =
+      elim h.answer [
+        | inl some ↦ still 0x0C r (other_goes_on (at 2 refl) (omega (arith, some.0))) (record { taken = some.1; unmarked = h.unmarked; within = some.2; word = some.3; index = h.index }) (omega (arith, some.0))
+        | inr all ↦ still 0x2C r (same_jumps (at 2 refl) all.0 refl) (record { taken = all.1; unmarked = h.unmarked }, all.2) (omega (arith, all.0))
+      ]
+
+  pub right_0C : Right_at 0x0C  -- add x28,x8,x5
+  right_0C h = still 0x10 (record r { x28 = k.base + r.x5 }) (sum_line (at 3 refl) (omega (arith, is.inside, is.small, h.index, offset_low k is n.made.p))) (h, refl) (omega arith)
+
+  -- where it reads 0 its slot is free, and it reads 0 where it doesn't wait
+  pub right_10 : Right_at 0x10  -- test: lw x7,16(x28)
+  right_10 h find =
+      let place : r.x28 + 16 ≡ slot k.size k.base n.made.p = omega (arith, h.1, h.0.index) in
+      let line = load_line (at 4 refl) (omega (arith, is.even, h.0.index, h.1)) refl (omega (arith, is.inside, h.0.index, h.1, offset_low k is n.made.p)) is.small in
+      let read : v ≡ found_in (pending_of k n) word (r.x28 + 16) = find (r.x28 + 16) (subst (IsWordOf k) (sym place) (slot_of k is n.made.p)) line.wants in
+      goes 0x14 (loads (r.x28 + 16)) (record n.made { seen = n.ln }) (λ u. record r { x7 = u }) tt line (omega arith) (append-nil (pending_of k n))
+      (record { taken = h.0.taken; unmarked = h.0.unmarked; within = h.0.within; word = h.0.word; index = h.0.index }, h.1, found_free k is n order word words v h.0.unmarked h.0.within (read ∙ ap (found_in (pending_of k n) word) place))
+      (λ free. let zero_is : (v == 0) ≡ true = ap (λ w. w == 0) (read ∙ ap (λ ps. found_in ps word (r.x28 + 16)) free.0) ∙ not_false (word (r.x28 + 16) == 0) free.1 in rw zero_is (omega arith))
+      find
+
+  pub right_14 : Right_at 0x14  -- bne x7,x0,test
+  right_14 h =
+      elim (cases_eq r.x7 0) [
+        | inl zero_is ↦ still 0x18 r (same_goes_on (at 5 refl) zero_is) (h.0, h.1, h.2 zero_is) (let on : (r.x7 == 0) ≡ true = grind (arith, nat_tests) in rw on (omega arith))
+        | inr some ↦ still 0x10 r (other_jumps (at 5 refl) some refl) (h.0, h.1) (let off : (r.x7 == 0) ≡ false = grind (arith, nat_tests) in rw off (omega arith))
+      ]
+
+  pub right_18 : Right_at 0x18  -- sw x10,16(x28)
+  right_18 h =
+      let place : slot k.size k.base n.made.p ≡ r.x28 + 16 = omega (arith, h.1, h.0.index) in
+      let store : slice_get (sender_stores k.size k.base k.list) (sent n) ≡ Some (r.x28 + 16, r.x10) = store_word k.size k.base k.list n.made.p (sent n) h.0.within (omega (arith, h.0.unmarked)) ∙ rw (place, h.0.word) refl in
+      goes 0x1C (stores (r.x28 + 16) r.x10) (record n.made { p = n.made.p + 1 }) (λ u. r) tt (store_line (at 6 refl) (omega (arith, is.even, h.0.index, h.1)) refl (omega (arith, is.inside, h.0.index, h.1, offset_low k is n.made.p)) is.small) (omega (arith, h.0.unmarked, h.0.within, h.2)) (joins (r.x28 + 16, r.x10) (n.made.p + 1 + n.made.m) (omega arith) store)
+      (record { between = record { taken = h.0.taken; unmarked = h.0.unmarked }; last = n.made.p; next = refl }, h.0.index)
+      (λ free. omega arith)
+
+  pub right_1C : Right_at 0x1C  -- addi x5,x5,4
+  right_1C h = still 0x20 (record r { x5 = r.x5 + 4 }) (add_line (at 7 refl) (word_plus r.x5 4 (omega (arith, is.inside, is.wide, h.1, offset_low k is h.0.last)))) (h.0, ap (λ o. o + 4) h.1) (omega arith)
+
+  pub right_20 : Right_at 0x20  -- bne x5,x9,next
+  right_20 h =
+      elim (cases_eq r.x5 (4 * k.size)) [
+        | inl same ↦ still 0x24 r (same_goes_on (at 8 refl) same) (h.0, sym h.1 ∙ same) (omega arith)
+        | inr other ↦ still 0x00 r (other_jumps (at 8 refl) other refl) (h.0.between, h.1 ∙ offset_step k.size h.0.last is.some_slot (λ full. other (h.1 ∙ full)) ∙ ap (offset k) (sym h.0.next)) (omega arith)
+      ]
+
+  pub right_24 : Right_at 0x24  -- addi x5,x0,0
+  right_24 h = still 0x28 (record r { x5 = 0 }) (add_line (at 9 refl) (word_plus 0 0 (lit< tt))) (h.0.between, sym (offset_wrap k.size h.0.last is.some_slot h.1) ∙ ap (offset k) (sym h.0.next)) (omega arith)
+
+  pub right_28 : Right_at 0x28  -- jal x0,next
+  right_28 h = still 0x00 r (jump_line (at 10 refl) refl) h (omega arith)
+
+  pub right_2C : Right_at 0x2C  -- done: addi x6,x0,1
+  right_2C h = still 0x30 (record r { x6 = 1 }) (add_line (at 11 refl) (word_plus 0 1 (lit< tt))) (h.0, h.1, refl) (omega arith)
+
+  pub right_30 : Right_at 0x30  -- sw x6,4(x8)
+  right_30 h =
+      let store : slice_get (sender_stores k.size k.base k.list) (sent n) ≡ Some (k.base + 4, r.x6) = store_mark k.size k.base k.list (sent n) (omega (arith, h.0.unmarked, h.1)) ∙ rw h.2 refl in
+      goes 0x34 (stores (k.base + 4) r.x6) (record n.made { m = 1 }) (λ u. r) tt (store_line (at 12 refl) is.even refl (omega (arith, is.inside, is.some_slot)) is.small) (omega (arith, h.1)) (joins (k.base + 4, r.x6) (n.made.p + 1) (omega (arith, h.0.unmarked)) store)
+      (record { taken = h.0.taken ∙ h.1; all = h.1; mark = refl })
+      (λ free. omega arith)
+
+  pub right_34 : Right_at 0x34  -- addi x17,x0,93
+  right_34 h = still 0x38 (record r { x17 = 93 }) (add_line (at 13 refl) (word_plus 0 93 (lit< tt))) (h, refl) (omega arith)
+
+  pub right_38 : Right_at 0x38  -- ecall
+  right_38 h = goes 0x3C need.Exit n.made (λ u. r) tt (record { wants = exit_need (at 14 refl) h.1; leaves = λ w. exit_after (at 14 refl) h.1 w }) order (append-nil (pending_of k n)) h.0 (λ free. omega arith)

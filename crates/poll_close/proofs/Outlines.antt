@@ -1,0 +1,196 @@
+-- A sender whose outline is right keeps its block's meaning: from each row's assertion, whatever it reads,
+-- its act leads to the row where it goes on, and nearer to its end where it doesn't wait.
+use Rattle.std.proofs.Common.{ℕ, ◌≡◌, ◌≢◌, ◌+◌, ◌-◌, ◌*◌, ◌<◌, ◌≤◌, ◌==◌, Bool, true, false, List, [], ◌∷◌, ◌++◌, drop, Some, if◌then◌else◌, refl, sym, ◌∙◌, ap, subst, arith, append-nil}
+use Rattle.std.specs.Prelude.{slice_index, map}
+use Rattle.std.specs.List.{slice_get}
+use Rattle.std.proofs.lemmas.Bool.Decides.{nat_tests}
+use Rattle.rv_decode.specs.Meaning.{meaning}
+use Rattle.rv_decode.specs.declared.instruction.Instr.{Instr}
+use Rattle.hart.specs.State.{HartState}
+use Rattle.hart.specs.Steps.{need_of, advanced}
+use Rattle.hart.specs.declared.status.Status.TheVariants as status
+use Rattle.hart.specs.declared.need.Need.{Need}
+use Rattle.hart.specs.declared.need.Need.TheVariants as need
+use Rattle.hart.proofs.Instructions.{IsAt}
+use Rattle.poll_close.specs.Paces.{runs}
+use Rattle.poll_close.specs.Invariant.Blocks.{Block}
+use Rattle.poll_close.specs.Invariant.SenderState.{Written, fixed, running, ended}
+use Rattle.poll_close.specs.Invariant.BlockMeaning.{BlockMeaning}
+use Rattle.poll_close.specs.Invariant.Outlines.{Row, Outline, either, stands, HoldsIn, Holds, Standing, left_of}
+use Rattle.poll_close.proofs.Acts.{stored_by, IsNoAmo}
+use Rattle.poll_close.proofs.Lines.{Line, loads, at_line}
+use Rattle.poll_close.proofs.Blocks.{IsBlock, IsWordOf}
+use Rattle.poll_close.proofs.BlockLaws.{found_in, Grows, Sends}
+
+-- a reason for each row
+abbrev pub Reasons : {Own : Type 0} → (Row Own → Type 0) → List (Row Own) → Type 0
+Reasons P [] = Unit {0}
+Reasons P (row ∷ rows) = P row × Reasons P rows
+
+-- where it has ended, and where it runs
+module _ (o : Outline) (k : Block) (here : ℕ) (n : o.Own) (r : Written) where
+  abbrev inbox : List ℕ
+  inbox = drop (o.asked n) k.list
+
+  by : (b : Bool) → (here == o.over) ≡ b → stands o k here n r ≡ (if b then ended o.code (fixed k) (here - 4) r inbox else running o.code (fixed k) here r inbox)
+  by b is = ap (λ c. if c then ended o.code (fixed k) (here - 4) r inbox else running o.code (fixed k) here r inbox) is
+
+  at_end : (here == o.over) ≡ true → stands o k here n r ≡ ended o.code (fixed k) (here - 4) r inbox
+  at_end is = by true is
+
+  at_run : (here == o.over) ≡ false → stands o k here n r ≡ running o.code (fixed k) here r inbox
+  at_run is = by false is
+
+-- what a state tells: its line, and that all holds that does at its end
+module _ (o : Outline) (k : Block) (n : o.Own) (s : HartState) (st : Standing o k n s) where
+  pub stands_at : (pc : ℕ) → s.pc ≡ pc → o.over ≢ pc + 4 → 4 ≤ o.over → (s ≡ stands o k pc n st.written) × Holds o pc k n st.written
+  stands_at pc is other some =
+      let place : st.place ≡ pc = at (st.place == o.over) refl in
+      (st.is ∙ ap (λ p. stands o k p n st.written) place, subst (λ (p : ℕ). Holds o p k n st.written) place st.holds)
+    where
+      at : (b : Bool) → (st.place == o.over) ≡ b → st.place ≡ pc
+      at true over =
+          let end : st.place ≡ o.over = grind (arith, nat_tests) in
+          let same : s.pc ≡ st.place - 4 = ap (λ (z : HartState). z.pc) (st.is ∙ at_end o k st.place n st.written over) in
+          absurd (other (omega (arith, is, same, end, some)))
+      at false on = sym (ap (λ (z : HartState). z.pc) (st.is ∙ at_run o k st.place n st.written on)) ∙ is
+
+  -- x8 is always where its block begins
+  pub base_is : slice_index s.registers 8 ≡ k.base
+  base_is = ap (λ (z : HartState). slice_index z.registers 8) st.is ∙ at (st.place == o.over) refl
+    where
+      at : (b : Bool) → (st.place == o.over) ≡ b → slice_index (stands o k st.place n st.written).registers 8 ≡ k.base
+      at true over = ap (λ (z : HartState). slice_index z.registers 8) (at_end o k st.place n st.written over)
+      at false on = ap (λ (z : HartState). slice_index z.registers 8) (at_run o k st.place n st.written on)
+
+  pub has_ended : runs (Some s) ≡ false → o.done k n
+  has_ended off = at (st.place == o.over) refl st.holds
+    where
+      at : (b : Bool) → (st.place == o.over) ≡ b → either b (o.done k n) (HoldsIn o.rows st.place k n st.written) → o.done k n
+      at true over h = h
+      at false on h = let bad : false ≡ true = sym off ∙ ap (λ (z : HartState). runs (Some z)) (st.is ∙ at_run o k st.place n st.written on) in cc
+
+-- the block after the sender stored these
+pub record Sent (m : BlockMeaning) (k : Block) (n after : m.Count) (stored : List (ℕ × ℕ)) : Type 0 where
+  pub order : m.Ordered k after
+  pub words : (word : ℕ → ℕ) → m.Words k n word → m.Words k after word
+  pub unsent : m.unsent k n ++ stored ≡ m.unsent k after
+  pub unread : m.unread k after ≡ m.unread k n
+  pub grows : Grows m n after
+
+-- a ring's sender: its outline, its own among a block's numbers, and that nothing else goes by these
+pub record Sender (m : BlockMeaning) : Type 1 where
+  pub outline : Outline
+  pub lines : List Instr
+  pub decoded : map meaning outline.code ≡ map Some lines
+  pub waits : HartState → (ℕ → ℕ) → Bool
+  pub own : m.Count → outline.Own
+  pub with_own : m.Count → outline.Own → m.Count
+  pub same : (n : m.Count) → with_own n (own n) ≡ n
+  pub stands_by : (k : Block) (n : m.Count) (s : HartState) → m.Stands k n s → Standing outline k (own n) s
+  pub by_standing : (k : Block) (n : m.Count) (new : outline.Own) (s : HartState) → Standing outline k new s → m.Stands k (with_own n new) s
+  pub words : (k : Block) (n : m.Count) (new : outline.Own) (word : ℕ → ℕ) → m.Words k n word → m.Words k (with_own n new) word
+  pub unread : (k : Block) (n : m.Count) (new : outline.Own) → m.unread k (with_own n new) ≡ m.unread k n
+  pub grows : (n : m.Count) (new : outline.Own) → Grows m n (with_own n new)
+
+module _ (m : BlockMeaning) (g : Sender m) (k : Block) (n : m.Count) (word : ℕ → ℕ) (v : ℕ) (r : Written) where
+  abbrev now : ℕ → HartState
+  now here = stands g.outline k here (g.own n) r
+
+  -- v is what a load here reads
+  abbrev pub Finds : ℕ → Type 0
+  Finds here = (a : ℕ) → IsWordOf k a → need_of (now here) ≡ loads a → v ≡ found_in (m.unsent k n) word a
+
+  -- nothing of its own is pending, and it doesn't wait for the receiver
+  abbrev pub Free : ℕ → Type 0
+  Free here = (m.unsent k n ≡ []) × (g.waits (now here) word ≡ false)
+
+  abbrev pub Nearer : ℕ → ℕ → g.outline.Own → Written → Type 0
+  Nearer here there made written = left_of g.outline (stands g.outline k there made written) < left_of g.outline (now here)
+
+  -- one act at this offset: what it wants, where it goes on, and what its own numbers are then
+  pub record Goes (here : ℕ) : Type 0 where
+    pub wanted : Need
+    pub there : ℕ
+    pub made : g.outline.Own
+    pub written : Written
+    pub plain : IsNoAmo wanted
+    pub wants : need_of (now here) ≡ wanted
+    pub leaves : advanced (now here) v ≡ stands g.outline k there made written
+    pub order : m.Ordered k (g.with_own n made)
+    pub unsent : m.unsent k n ++ stored_by wanted ≡ m.unsent k (g.with_own n made)
+    pub holds : Holds g.outline there k made written
+    pub nearer : Free here → Nearer here there made written
+
+  -- the reason why a row is right
+  abbrev pub Right : Row g.outline.Own → Type 0
+  Right row = row.holds k (g.own n) r → Finds row.at → Goes row.at
+
+  abbrev pub Right_at : ℕ → Type 0
+  Right_at here = Holds g.outline here k (g.own n) r → Finds here → Goes here
+
+  -- an act by a line; and by one that changes no number
+  abbrev pub GoesBy : ℕ → Type 0
+  GoesBy here = (there : ℕ) (wanted : Need) (made : g.outline.Own) (written : ℕ → Written) → IsNoAmo wanted → Line (now here) wanted (λ w. stands g.outline k there made (written w)) → m.Ordered k (g.with_own n made) → m.unsent k n ++ stored_by wanted ≡ m.unsent k (g.with_own n made) → Holds g.outline there k made (written v) → (Free here → Nearer here there made (written v)) → Finds here → Goes here
+
+  abbrev pub Still : ℕ → Type 0
+  Still here = (there : ℕ) (written : Written) → Line (now here) need.Inner (λ w. stands g.outline k there (g.own n) written) → Holds g.outline there k (g.own n) written → Nearer here there (g.own n) written → Finds here → Goes here
+
+  pub goes : (here : ℕ) → GoesBy here
+  goes here there wanted made written plain line order unsent holds nearer find = record { wanted = wanted; there = there; made = made; written = written v; plain = plain; wants = line.wants; leaves = line.leaves v; order = order; unsent = unsent; holds = holds; nearer = nearer }
+
+  pub still : m.Ordered k n → (here : ℕ) → Still here
+  still order here there written line holds nearer = goes here there need.Inner (g.own n) (λ w. written) tt line (subst (m.Ordered k) (sym (g.same n)) order) (append-nil (m.unsent k n) ∙ ap (m.unsent k) (sym (g.same n))) holds (λ free. nearer)
+
+  -- where the line at this offset is that instruction
+  pub at_in : (q : Written) (inbox : List ℕ) (j : ℕ) {i : Instr} → slice_get (map Some g.lines) j ≡ Some (Some i) → IsAt (running g.outline.code (fixed k) (4 * j) q inbox) i
+  at_in q inbox j found = at_line (running g.outline.code (fixed k) (4 * j) q inbox) j refl (ap (λ xs. slice_get xs j) g.decoded ∙ found)
+
+  pub at : (j : ℕ) {i : Instr} → slice_get (map Some g.lines) j ≡ Some (Some i) → IsAt (running g.outline.code (fixed k) (4 * j) r (drop (g.outline.asked (g.own n)) k.list)) i
+  at j found = at_in r (drop (g.outline.asked (g.own n)) k.list) j found
+
+  found : (rows : List (Row g.outline.Own)) → Reasons Right rows → (here : ℕ) → HoldsIn rows here k (g.own n) r → Finds here → Goes here
+  found [] reasons here h find = absurd h
+  found (row ∷ rows) reasons here h find = by_test (row.at == here) refl h (λ later. found rows reasons.1 here later find)
+    where
+      by_test : (b : Bool) → (row.at == here) ≡ b → either b (row.holds k (g.own n) r) (HoldsIn rows here k (g.own n) r) → (HoldsIn rows here k (g.own n) r → Goes here) → Goes here
+      by_test true same h rest =
+          let is : row.at ≡ here = grind (arith, nat_tests) in
+          subst Goes is (reasons.0 h (subst Finds (sym is) find))
+      by_test false other h rest = rest h
+
+  right : Reasons Right g.outline.rows → (here : ℕ) → (now here).status ≡ status.Running → Right_at here
+  right reasons here running h find = by_test (here == g.outline.over) refl h
+    where
+      by_test : (b : Bool) → (here == g.outline.over) ≡ b → either b (g.outline.done k (g.own n)) (HoldsIn g.outline.rows here k (g.own n) r) → Goes here
+      by_test true over h = let bad : status.Ended ≡ status.Running = sym (ap (λ (s : HartState). s.status) (at_end g.outline k here (g.own n) r over)) ∙ running in cc
+      by_test false on h = found g.outline.rows reasons here h find
+
+-- so its acts keep the block's meaning, and bring it nearer to its end, as the laws of a block ask
+module _ (m : BlockMeaning) (g : Sender m) (reasons : (k : Block) (n : m.Count) (word : ℕ → ℕ) (v : ℕ) (r : Written) → IsBlock k → m.Ordered k n → m.Words k n word → Reasons (Right m g k n word v r) g.outline.rows) (k : Block) (n : m.Count) (s : HartState) (word : ℕ → ℕ) (v : ℕ) (is : IsBlock k) (order : m.Ordered k n) (words : m.Words k n word) (stand : m.Stands k n s) (running : s.status ≡ status.Running) where
+  abbrev st : Standing g.outline k (g.own n) s
+  st = g.stands_by k n s stand
+
+  act : ((a : ℕ) → IsWordOf k a → need_of s ≡ loads a → v ≡ found_in (m.unsent k n) word a) → Goes m g k n word v st.written st.place
+  act find = right m g k n word v st.written (reasons k n word v st.written is order words) st.place (subst (λ (z : HartState). z.status ≡ status.Running) st.is running) st.holds (λ a inside wants. find a inside (ap need_of st.is ∙ wants))
+
+  pub sends : ((a : ℕ) → IsWordOf k a → need_of s ≡ loads a → v ≡ found_in (m.unsent k n) word a) → Sends m k n s v
+  sends find =
+      let a : Goes m g k n word v st.written st.place = act find in
+      let wants : need_of s ≡ a.wanted = ap need_of st.is ∙ a.wants in
+      record {
+        after = g.with_own n a.made;
+        plain = subst IsNoAmo (sym wants) a.plain;
+        stands = g.by_standing k n a.made (advanced s v) (record { place = a.there; written = a.written; is = ap (λ z. advanced z v) st.is ∙ a.leaves; holds = a.holds });
+        order = a.order;
+        words = λ word w. g.words k n a.made word w;
+        unsent = ap (λ w. m.unsent k n ++ stored_by w) wants ∙ a.unsent;
+        unread = g.unread k n a.made;
+        grows = g.grows n a.made;
+      }
+
+  pub nearer : m.unsent k n ≡ [] → ((a : ℕ) → IsWordOf k a → need_of s ≡ loads a → v ≡ word a) → g.waits s word ≡ false → left_of g.outline (advanced s v) < left_of g.outline s
+  nearer none find on =
+      let a : Goes m g k n word v st.written st.place = act (λ a inside wants. find a inside wants ∙ sym (ap (λ ps. found_in ps word a) none)) in
+      let less : left_of g.outline (stands g.outline k a.there a.made a.written) < left_of g.outline (stands g.outline k st.place (g.own n) st.written) = a.nearer (none, subst (λ (z : HartState). g.waits z word ≡ false) st.is on) in
+      rw (st.is, a.leaves) less

@@ -1,0 +1,59 @@
+-- A sender's program as a proof outline: a row for each line, with how far its hart is from its end and
+-- what holds there.
+use Rattle.std.specs.Prelude.{ℕ, ◌≡◌, ◌+◌, ◌-◌, ◌*◌, ◌==◌, Bool, true, false, if◌then◌else◌, List, [], ◌∷◌, length, drop}
+use Rattle.hart.specs.State.{HartState}
+use Rattle.poll_close.specs.Paces.{is_running}
+use Rattle.poll_close.specs.Invariant.Blocks.{Block}
+use Rattle.poll_close.specs.Invariant.SenderState.{Written, fixed, running, ended}
+
+-- the line at this offset: how far from the end, by the registers, and what holds there of the sender's
+-- own numbers and registers
+pub record Row (Own : Type 0) : Type 1 where
+  pub at : ℕ
+  pub rank : List ℕ → ℕ
+  pub holds : Block → Own → Written → Type 0
+
+pub record Outline : Type 1 where
+  -- the numbers of a block that are the sender's own: no one else's act and no landing changes them
+  pub Own : Type 0
+  -- of these, how many words of its list it has asked for
+  pub asked : Own → ℕ
+  pub code : List ℕ
+  pub rows : List (Row Own)
+  -- the offset after the last line, where it has ended, and what holds there
+  pub over : ℕ
+  pub done : Block → Own → Type 0
+
+abbrev pub row : {Own : Type 0} → ℕ → (List ℕ → ℕ) → (Block → Own → Written → Type 0) → Row Own
+row at rank holds = record { at = at; rank = rank; holds = holds }
+
+-- the state at an offset
+abbrev pub stands : (o : Outline) → Block → ℕ → o.Own → Written → HartState
+stands o k here n r = if here == o.over then ended o.code (fixed k) (here - 4) r (drop (o.asked n) k.list) else running o.code (fixed k) here r (drop (o.asked n) k.list)
+
+-- what holds at an offset
+abbrev pub either : Bool → Type 0 → Type 0 → Type 0
+either true a b = a
+either false a b = b
+
+abbrev pub HoldsIn : {Own : Type 0} → List (Row Own) → ℕ → Block → Own → Written → Type 0
+HoldsIn [] here k n r = ⊥
+HoldsIn (row ∷ rows) here k n r = either (row.at == here) (row.holds k n r) (HoldsIn rows here k n r)
+
+abbrev pub Holds : (o : Outline) → ℕ → Block → o.Own → Written → Type 0
+Holds o here k n r = either (here == o.over) (o.done k n) (HoldsIn o.rows here k n r)
+
+-- the sender may be in this state
+pub record Standing (o : Outline) (k : Block) (n : o.Own) (s : HartState) : Type 0 where
+  pub place : ℕ
+  pub written : Written
+  pub is : s ≡ stands o k place n written
+  pub holds : Holds o place k n written
+
+-- how far it is from its end: the words in its inbox, then its line
+abbrev pub rank_in : {Own : Type 0} → List (Row Own) → ℕ → List ℕ → ℕ
+rank_in [] here xs = 0
+rank_in (row ∷ rows) here xs = if row.at == here then row.rank xs else rank_in rows here xs
+
+abbrev pub left_of : Outline → HartState → ℕ
+left_of o s = 32 * length s.inbox + (if is_running s.status then rank_in o.rows s.pc s.registers else 0)
