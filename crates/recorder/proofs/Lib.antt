@@ -5,3 +5,4 @@ pub mod Runs
 pub mod Longest
 pub mod RoundTrip
 pub mod Drawn
+pub mod RecordLaws

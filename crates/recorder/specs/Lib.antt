@@ -3,3 +3,4 @@ pub mod Faults
 pub mod Reading
 pub mod Writing
 pub mod Drawing
+pub mod Records

@@ -1,5 +1,5 @@
 -- Reading tokens from the left, with the first fault that is met and its byte.
-use Rattle.std.specs.Prelude.{◌≡◌, ℕ, ◌+◌, ◌-◌, ◌==◌, nat_lt, nat_le, is_some, Bool, true, false, ◌&&◌, ◌||◌, if◌then◌else◌, List, [], ◌∷◌, ◌++◌, length, take, drop, position, replicate, Option, Some, None, Result, Ok, Err, IfSome, codes, nat_eq}
+use Rattle.std.specs.Prelude.{◌≡◌, ℕ, ◌+◌, ◌-◌, ◌==◌, nat_lt, nat_le, is_some, Bool, true, false, ◌&&◌, ◌||◌, if◌then◌else◌, List, [], ◌∷◌, ◌++◌, length, drop, replicate, Option, Some, None, Result, Ok, Err, IfSome, codes, nat_eq}
 use Rattle.std.specs.List.{starts_with}
 use Rattle.step_machine.specs.declared.events.Event.{Event}
 use Rattle.step_machine.specs.declared.events.Event.TheVariants.{Act, Land}
@@ -14,6 +14,8 @@ use Rattle.recorder.specs.declared.reading.TheConstants.{MAX_EVENTS}
 use Rattle.texts.specs.declared.pieces.Separators.TheVariants.{BlanksAndLineEnds}
 use Rattle.texts.specs.Pieces.{pieces}
 use Rattle.texts.specs.Numbers.{number_of}
+use Rattle.texts.specs.Cutting.{before, after, is_byte}
+use Rattle.texts.specs.Formats.{or_fault, in_turn}
 use Rattle.texts.specs.declared.errors.TextError.{TextError}
 use Rattle.texts.specs.Results.{◌>>=◌, refusal_of}
 
@@ -21,9 +23,6 @@ abbrev pub at_byte : ScheduleFault → (place : ℕ) → AtByte
 at_byte fault place = record { fault = fault; place = place }
 
 -- ---- a token: `a` is 97, `l` is 108, `*` is 42
-
-abbrev pub star_in : List ℕ → Option ℕ
-star_in numbers = position (λ byte. byte == 42) numbers
 
 -- the hart and the count that stand behind a token's letter
 abbrev pub Numbers : Type 0
@@ -38,12 +37,12 @@ counted None times = None
 counted (Some hart) None = None
 counted (Some hart) (Some times) = Some (hart, times)
 
-abbrev pub numbers_round : List ℕ → Option ℕ → Option Numbers
-numbers_round numbers None = once_of (number_of numbers)
-numbers_round numbers (Some at) = counted (number_of (take at numbers)) (number_of (drop (at + 1) numbers))
+abbrev pub numbers_cut : List ℕ → Option (List ℕ) → Option Numbers
+numbers_cut hart None = once_of (number_of hart)
+numbers_cut hart (Some times) = counted (number_of hart) (number_of times)
 
 unfoldable pub numbers_of : List ℕ → Option Numbers
-numbers_of numbers = numbers_round numbers (star_in numbers)
+numbers_of numbers = numbers_cut (before (is_byte 42) numbers) (after (is_byte 42) numbers)
 
 abbrev pub token_of : Kind → Option Numbers → Option Token
 token_of kind None = None
@@ -53,14 +52,14 @@ unfoldable pub said_by : List ℕ → Option Token
 said_by [] = None
 said_by (c ∷ numbers) = if c == 97 then token_of kinds.Act (numbers_of numbers) else (if c == 108 then token_of kinds.Land (numbers_of numbers) else None)
 
-abbrev pub ends_at : List ℕ → Option ℕ → Bool
-ends_at numbers None = false
-ends_at numbers (Some at) = ((at + 1) == length numbers) && is_some (number_of (take at numbers))
+abbrev pub ends_behind : List ℕ → Option (List ℕ) → Bool
+ends_behind hart None = length hart == 0
+ends_behind hart (Some times) = (length times == 0) && is_some (number_of hart)
 
 -- a letter alone, or a letter, a hart and a star: what more bytes would have made a token
 unfoldable pub is_cut : List ℕ → Bool
 is_cut [] = false
-is_cut (c ∷ numbers) = ((c == 97) || (c == 108)) && ((length numbers == 0) || ends_at numbers (star_in numbers))
+is_cut (c ∷ numbers) = ((c == 97) || (c == 108)) && ends_behind (before (is_byte 42) numbers) (after (is_byte 42) numbers)
 
 abbrev pub event_of : Kind → ℕ → Event
 event_of kinds.Act hart = Act hart
@@ -68,12 +67,16 @@ event_of kinds.Land hart = Land hart
 
 -- The run of one event for which a token stands that begins at `place` in a text of `end` bytes, where
 -- `room` more events may come.
-abbrev pub judged : (end place room : ℕ) → List ℕ → Option Token → Result (Event × ℕ) AtByte
-judged end place room word None = Err (if is_cut word && ((place + length word) == end) then at_byte Truncated end else at_byte BadToken place)
-judged end place room word (Some token) = if nat_le MAX_HARTS token.hart then Err (at_byte BadHart place) else (if (token.times == 0) || nat_lt room token.times then Err (at_byte BadCount place) else Ok (event_of token.kind token.hart, token.times))
+abbrev pub shape_fault : (end place : ℕ) → List ℕ → AtByte
+shape_fault end place word = if is_cut word && ((place + length word) == end) then at_byte Truncated end else at_byte BadToken place
+
+abbrev pub judged : (place room : ℕ) → Token → Result (Event × ℕ) AtByte
+judged place room token = if nat_le MAX_HARTS token.hart then Err (at_byte BadHart place) else (if (token.times == 0) || nat_lt room token.times then Err (at_byte BadCount place) else Ok (event_of token.kind token.hart, token.times))
 
 unfoldable pub run_at : (end place room : ℕ) → List ℕ → Result (Event × ℕ) AtByte
-run_at end place room word = judged end place room word (said_by word)
+run_at end place room word = do
+  token ← or_fault (shape_fault end place word) (said_by word)
+  judged place room token
 
 -- ---- a text
 
@@ -83,16 +86,13 @@ piece_at end place room (c ∷ word) = do
   run ← run_at end place room (c ∷ word)
   Ok (replicate run.1 run.0)
 
-unfoldable pub events_at : (end place room : ℕ) → List (List ℕ) → Result (List Event) AtByte
-events_at end place room [] = Ok []
-events_at end place room (piece ∷ others) = do
-  events ← piece_at end place room piece
-  rest ← events_at end (place + length piece + 1) (room - length events) others
-  Ok (events ++ rest)
+-- a piece and the separator behind it
+abbrev pub step_over : List ℕ → ℕ
+step_over piece = length piece + 1
 
 -- the events of the tokens that a text has from the byte `start` on, where `room` events may come
 unfoldable pub tokens_from : (start room : ℕ) → List ℕ → Result (List Event) AtByte
-tokens_from start room text = events_at (length text) start room (pieces BlanksAndLineEnds (drop start text))
+tokens_from start room text = in_turn (piece_at (length text)) step_over start room (pieces BlanksAndLineEnds (drop start text))
 
 -- the events of a text's tokens
 abbrev pub tokens_at : (room : ℕ) → List ℕ → Result (List Event) AtByte

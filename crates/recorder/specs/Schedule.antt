@@ -6,6 +6,7 @@ use Rattle.step_machine.specs.declared.opening.TheConstants.{MAX_HARTS}
 use Rattle.texts.specs.declared.pieces.Separators.TheVariants.{BlanksAndLineEnds}
 use Rattle.texts.specs.Pieces.{pieces}
 use Rattle.texts.specs.Numbers.{Says}
+use Rattle.texts.specs.Formats.{Stand}
 use Rattle.recorder.specs.declared.reading.TheConstants.{MAX_EVENTS}
 
 -- an act is written by an `a`, a landing by an `l`
@@ -22,17 +23,15 @@ pub data Spells (event : Event) : List ℕ → ℕ → Type 0 where
   once : (hart : List ℕ) → Says hart (hart_of event) → Spells event (letter event ∷ hart) 1
   repeated : (hart count : List ℕ) (times : ℕ) → Says hart (hart_of event) → Says count times → Spells event (letter event ∷ (hart ++ 42 ∷ count)) times
 
--- The pieces of a text stand for these events: a token for a run of one event of one of the harts, once
--- at least, and an empty piece for none.
-abbrev pub Stand : List (List ℕ) → List Event → Type 0
-Stand [] events = events ≡ []
-Stand ([] ∷ others) events = Stand others events
-Stand ((c ∷ token) ∷ others) events = (event : Event) × (times : ℕ) × (rest : List Event) × Spells event (c ∷ token) times × (hart_of event < MAX_HARTS) × (0 < times) × (events ≡ replicate times event ++ rest) × Stand others rest
+-- A piece is a token for a run of one event of one of the harts, once at least, or it is empty and for none.
+abbrev pub IsPieceOf : List ℕ → List Event → Type 0
+IsPieceOf [] events = events ≡ []
+IsPieceOf (c ∷ token) events = (event : Event) × (times : ℕ) × Spells event (c ∷ token) times × (hart_of event < MAX_HARTS) × (0 < times) × (events ≡ replicate times event)
 
 -- The tokens of the text stand for these events, which are at most 1,048,576. Tokens are parted by
 -- spaces, tabs, CR and LF.
 abbrev pub IsTokensOf : List ℕ → List Event → Type 0
-IsTokensOf text events = Stand (pieces BlanksAndLineEnds text) events × (length events ≤ MAX_EVENTS)
+IsTokensOf text events = Stand IsPieceOf (pieces BlanksAndLineEnds text) events × (length events ≤ MAX_EVENTS)
 
 -- each event is of a hart that a machine may have
 abbrev pub OfHarts : List Event → Type 0

@@ -24,6 +24,9 @@ pub enum ScheduleFault {
     /// The text ends right after a token's letter or its `*`.
     #[error("truncated")]
     Truncated,
+    /// What follows a token is no outcome of its event.
+    #[error("bad outcome")]
+    BadOutcome,
 }
 
 impl Numbered for ScheduleFault {
@@ -38,6 +41,7 @@ impl Numbered for ScheduleFault {
             ScheduleFault::BadHart => 29,
             ScheduleFault::BadCount => 30,
             ScheduleFault::Truncated => 31,
+            ScheduleFault::BadOutcome => 39,
         }
     }
 }

@@ -15,6 +15,7 @@ pub mod drawing;
 pub mod faults;
 mod heads;
 pub mod laws;
+mod outcomes;
 pub mod reading;
 pub mod replaying;
 mod tokens;
@@ -22,7 +23,9 @@ pub mod writing;
 
 pub use drawing::seeded;
 pub use faults::{AtByte, ScheduleError, ScheduleFault};
-pub use laws::{longest_runs, one_value, refused_without_value, tokens_are_read_again};
+pub use laws::{
+    longest_runs, one_value, records_are_read_again, refused_without_value, tokens_are_read_again,
+};
 pub use reading::{MAX_EVENTS, push_tokens_of, read_schedule, read_tokens};
 pub use replaying::replay;
 pub use writing::{push_tokens, write_schedule};

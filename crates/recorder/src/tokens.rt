@@ -4,11 +4,12 @@ ghost use Rattle.std.specs.Prelude.{◌≡◌, ◌+◌, ◌≤◌, ℕ, length, 
 ghost use Rattle.step_machine.specs.declared.events.Event.{Event};
 ghost use Rattle.texts.specs.Results.{Gives, refusal_of};
 ghost use Rattle.texts.specs.declared.errors.TextError.TheVariants.{Refused};
-ghost use Rattle.recorder.specs.Reading.{star_in, numbers_of, said_by, is_cut, event_of, run_at};
+ghost use Rattle.recorder.specs.Reading.{numbers_of, said_by, is_cut, event_of, run_at};
 
 use crate::faults::{ScheduleError, ScheduleFault};
 use step_machine::events::Event;
 use step_machine::opening::MAX_HARTS;
+use texts::cutting::cut_at;
 use texts::number;
 
 /// What a token's letter tells.
@@ -38,21 +39,14 @@ impl Kind {
     }
 }
 
-/// The place of the first `*`.
-fn first_star(numbers: &[u8]) -> Option<usize>
-    ensures { result ≡ star_in numbers.now }
-{
-    numbers.iter().position(|byte| *byte == b'*')
-}
-
 /// The hart and the count behind a token's letter; no count is once.
 #[tactic(auto, unfolding(crate::specs::Reading::numbers_of))]
 fn numbers_in(numbers: &[u8]) -> Option<(u64, u64)>
     ensures { result ≡ numbers_of numbers.now }
 {
-    match first_star(numbers) {
-        None => Some((number(numbers)?, 1)),
-        Some(at) => Some((number(&numbers[..at])?, number(&numbers[at + 1..])?)),
+    match cut_at(numbers, b'*') {
+        (hart, None) => Some((number(hart)?, 1)),
+        (hart, Some(times)) => Some((number(hart)?, number(times)?)),
     }
 }
 
@@ -76,10 +70,9 @@ fn is_cut_short(word: &[u8]) -> bool
     ensures { result ≡ is_cut word.now }
 {
     match word {
-        [b'a' | b'l'] => true,
-        [b'a' | b'l', numbers @ ..] => match first_star(numbers) {
-            Some(at) => at + 1 == numbers.len() && number(&numbers[..at]).is_some(),
-            None => false,
+        [b'a' | b'l', numbers @ ..] => match cut_at(numbers, b'*') {
+            (hart, None) => hart.is_empty(),
+            (hart, Some(times)) => times.is_empty() && number(hart).is_some(),
         },
         _ => false,
     }

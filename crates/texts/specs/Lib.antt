@@ -1,3 +1,5 @@
+pub mod Rows
+pub mod Formats
 pub mod Results
 pub mod Pieces
 pub mod Numbers

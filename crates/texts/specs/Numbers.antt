@@ -1,5 +1,5 @@
 -- Numbers in digits, with a sign or without.
-use Rattle.std.specs.Prelude.{◌≡◌, ℕ, ℤ, pos, neg_ℤ, ◌^◌, ◌==◌, nat_lt, Bool, false, ◌&&◌, if◌then◌else◌, min, List, [], ◌∷◌, length, drop, slice_index, Option, Some, None, option_map}
+use Rattle.std.specs.Prelude.{◌≡◌, ℕ, ℤ, pos, neg_ℤ, ◌^◌, ◌<◌, ◌==◌, nat_lt, Bool, false, ◌&&◌, if◌then◌else◌, min, List, [], ◌∷◌, length, drop, slice_index, Option, Some, None, option_map}
 use Rattle.std.specs.List.{list_all}
 use Rattle.std.specs.Char.{is_digit}
 use Rattle.std.specs.Str.Parse.{IsNumeral, digits_value}
@@ -19,6 +19,14 @@ IsHexWord digits n = (length digits ≡ 8) × SaysInHex digits n
 -- A number from 2^32 on is told as 2^32, which passes every limit.
 abbrev pub capped : ℕ → ℕ
 capped n = min n (2 ^ 32)
+
+-- One or more decimal digits say a number that is told as n.
+abbrev pub SaysCapped : List ℕ → ℕ → Type 0
+SaysCapped digits n = (said : ℕ) × Says digits said × (n ≡ capped said)
+
+-- One or more decimal digits say a number n below 2^32.
+abbrev pub SaysWord : List ℕ → ℕ → Type 0
+SaysWord digits n = Says digits n × (n < 2 ^ 32)
 
 -- the test of `IsNumeral`
 abbrev pub is_numeral : ℕ → List ℕ → Bool
