@@ -137,3 +137,19 @@ abbrev pub LeavesSecond : Errand → (first : Option (List ℕ)) → Type 0
 LeavesSecond Asm first = Unit {0}
 LeavesSecond Dis first = Unit {0}
 LeavesSecond (Machine work capacity) first = LeavesSecondOf work first
+
+-- ---- what a user's commands are left
+
+-- the debugger's alone are read
+abbrev pub reads_commands : Work → Bool
+reads_commands Steps = false
+reads_commands Run = false
+reads_commands Replay = false
+reads_commands Debug = true
+reads_commands (Try seed runs size) = false
+reads_commands (Channel ring slots finish) = false
+
+abbrev pub LeavesCommands : Errand → Type 0
+LeavesCommands Asm = Unit {0}
+LeavesCommands Dis = Unit {0}
+LeavesCommands (Machine work capacity) = reads_commands work ≡ false

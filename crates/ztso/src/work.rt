@@ -2,7 +2,8 @@
 
 ghost use Rattle.std.specs.Prelude.{◌≡◌, ◌≤◌};
 ghost use Rattle.ztso.specs.declared.work.TheConstants.{WORDS};
-ghost use Rattle.ztso.specs.Work.{DoesErrand, DoesThreads, DoesWork, Given, LeavesSecond, LeavesSecondOf, WithStatus, done_status, drawn_from, ended_with, tables_of, tried_status, verdict_status};
+ghost use Rattle.std.specs.Prelude.{false};
+ghost use Rattle.ztso.specs.Work.{LeavesCommands, reads_commands, DoesErrand, DoesThreads, DoesWork, Given, LeavesSecond, LeavesSecondOf, WithStatus, done_status, drawn_from, ended_with, tables_of, tried_status, verdict_status};
 ghost use Rattle.ztso_engines.specs.Asm.{IsAsmAnswer};
 ghost use Rattle.ztso_engines.specs.Channels.{IsChannelAnswer};
 ghost use Rattle.ztso_engines.specs.Dis.{IsDisAnswer};
@@ -252,6 +253,7 @@ fn do_work<const B: usize, F: Read, S: Read, C: Read, W: Write>(
     requires capacity { B ≤ 64 }
     ensures does { DoesWork B work result (record { first = F.remaining first.old; second = S.remaining second.old; commands = C.remaining commands.old }) W.contents writer.old writer.new }
     ensures unread { LeavesSecondOf work (F.remaining first.old) → second.new ≡ second.old }
+    ensures unasked { reads_commands work ≡ false → commands.new ≡ commands.old }
 {
     match work {
         Work::Steps => run_steps::<B, _, _>(alloc, first, writer),
@@ -285,6 +287,7 @@ pub fn do_errand<F: Read, S: Read, C: Read, W: Write>(
 ) -> Result<u8, Fault>
     ensures does { DoesErrand errand result (record { first = F.remaining first.old; second = S.remaining second.old; commands = C.remaining commands.old }) W.contents writer.old writer.new }
     ensures unread { LeavesSecond errand (F.remaining first.old) → second.new ≡ second.old }
+    ensures unasked { LeavesCommands errand → commands.new ≡ commands.old }
 {
     match errand {
         Errand::Asm => assemble(alloc, first, writer),

@@ -10,7 +10,8 @@ use Rattle.texts.specs.Cutting.{tokens}
 use Rattle.ztso_engines.specs.LineFaults.{at_line}
 use Rattle.ztso_engines.specs.Code.{code_at}
 use Rattle.ztso_engines.specs.Dis.{SaysCode, code_of_lines, dis_at}
-use Rattle.ztso_engines.proofs.NumberWords.{code_said, says_code}
+use Rattle.texts.proofs.FormatLaws.{settled_found, settled_only}
+use Rattle.ztso_engines.proofs.NumberWords.{code_settles}
 use Rattle.ztso_engines.proofs.LineFaulted.{at_line_ok}
 
 -- ---- two lists, element by element, in front of two others
@@ -41,7 +42,7 @@ lines_said number (line ∷ others) code e =
     let next = bind_ok (code_of_lines (number + 1) others) (λ more. Ok (first.0 ++ more)) code first.2 in
     subst (λ (xs : List ℕ). AllZip IsHexWord (tokens line ++ flat_map tokens others) xs) (ok_is Refusal (first.0 ++ next.0) code next.2)
     (zip_joined IsHexWord (tokens line) (flat_map tokens others) first.0 next.0
-    (code_said (tokens line) first.0 (at_line_ok number (code_at (tokens line)) first.0 first.1))
+    (settled_found (AllZip IsHexWord (tokens line)) (code_at (tokens line)) first.0 (code_settles (tokens line)) (at_line_ok number (code_at (tokens line)) first.0 first.1))
     (lines_said (number + 1) others next.0 next.1))
 
 lines_read : (number : ℕ) (left : List (List ℕ)) (code : List ℕ) → AllZip IsHexWord (flat_map tokens left) code → code_of_lines number left ≡ Ok code
@@ -50,7 +51,7 @@ lines_read number [] [] said = refl
 lines_read number [] (w ∷ code) said = absurd said
 lines_read number (line ∷ others) code said =
     let parts = zip_parted IsHexWord (tokens line) (flat_map tokens others) code said in
-    rw (says_code (tokens line) parts.0 parts.3, lines_read (number + 1) others parts.1 parts.4) (ap (λ (xs : List ℕ). Ok xs) (sym parts.2))
+    rw (settled_only (AllZip IsHexWord (tokens line)) (code_at (tokens line)) parts.0 (code_settles (tokens line)) parts.3, lines_read (number + 1) others parts.1 parts.4) (ap (λ (xs : List ℕ). Ok xs) (sym parts.2))
 
 -- ---- a text
 

@@ -29,3 +29,5 @@ pub mod OneAnswer
 pub mod ScheduleTexts
 pub mod ChannelLaws
 pub mod ThreadRuns
+pub mod SeatsComplete
+pub mod StepsSettle

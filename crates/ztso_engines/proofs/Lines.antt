@@ -13,7 +13,8 @@ use Rattle.step_machine.specs.declared.events.Event.{Event}
 use Rattle.recorder.specs.declared.faults.AtByte.{AtByte}
 use Rattle.recorder.specs.Schedule.{IsTokensOf}
 use Rattle.recorder.specs.Reading.{tokens_at, tokens_after}
-use Rattle.recorder.proofs.TextLaws.{tokens_at-IsTokensOf, IsTokensOf-tokens_after}
+use Rattle.texts.proofs.FormatLaws.{settled_found, settled_only}
+use Rattle.recorder.proofs.TextLaws.{tokens_settle, further_settles}
 use Rattle.ztso_engines.specs.declared.steps.line.Keyword.{Keyword}
 use Rattle.ztso_engines.specs.declared.steps.line.Keyword.TheVariants as keyword
 use Rattle.texts.specs.Cutting.{tokens, first_cut}
@@ -23,7 +24,7 @@ use Rattle.ztso_engines.specs.LineFaults.{bad_line}
 use Rattle.ztso_engines.specs.Code.{code_at}
 use Rattle.ztso_engines.specs.StepsReading.{two_numbers, three_numbers, with_hart, with_register, with_word, with_steps, numbered, keyword_named, by_keyword, by_cut, after_line}
 use Rattle.texts.proofs.TokenLaws.{tokens_cut, tokens_uncut, tokens_first, tokens_none}
-use Rattle.ztso_engines.proofs.NumberWords.{code_said, says_code, two_said, says_two, three_said, says_three}
+use Rattle.ztso_engines.proofs.NumberWords.{code_settles, two_said, says_two, three_said, says_three}
 
 -- ---- keywords
 
@@ -67,13 +68,13 @@ with_hart_made harts text made e =
     let code = read.0 in
     let fits = guard_ok (leb 64 (length harts) || ltb 4096 (length code)) bad_line (harts ++ fresh code ∷ []) made read.2 in
     let tests = or_parts (leb 64 (length harts)) (ltb 4096 (length code)) fits.0 in
-    (code, code_said text code read.1, leb-false 64 (length harts) tests.0, ltb-false 4096 (length code) tests.1, sym fits.1)
+    (code, settled_found (AllZip IsHexWord text) (code_at text) code (code_settles text) read.1, leb-false 64 (length harts) tests.0, ltb-false 4096 (length code) tests.1, sym fits.1)
 
 makes_with_hart : (harts : List HartStart) (text : List (List ℕ)) (code : List ℕ) → AllZip IsHexWord text code → length harts < 64 → length code ≤ 4096 → with_hart harts text ≡ Ok (harts ++ fresh code ∷ [])
 unfolding with_hart
 makes_with_hart harts text code said few short =
     let fits : (leb 64 (length harts) || ltb 4096 (length code)) ≡ false = or_from _ _ (lt-leb 64 (length harts) few) (le-ltb 4096 (length code) short) in
-    rw (says_code text code said, fits) refl
+    rw (settled_only (AllZip IsHexWord text) (code_at text) code (code_settles text) said, fits) refl
 
 with_register_made : (harts : List HartStart) (text : List (List ℕ)) (made : List HartStart) → with_register harts text ≡ Ok made
     → (h n v : ℕ) × (H N V : List ℕ) × (text ≡ H ∷ N ∷ V ∷ []) × SaysWord H h × SaysWord N n × SaysWord V v × (h < length harts) × (1 ≤ n) × (n < 32) × (made ≡ register_set harts h n v)
@@ -129,12 +130,12 @@ with_steps_made events text made few e =
     let more = read.0 in
     let found : tokens_after (length events) text ≡ Ok more = numbered_ok (tokens_after (length events) text) more read.1 in
     let second = bind_ok (tokens_at 1048576 text) (λ own. tokens_at (1048576 - length events) text) more found in
-    let said = tokens_at-IsTokensOf (1048576 - length events) text more (omega arith) second.2 in
+    let said = settled_found (λ read. IsTokensOf text read × (length read ≤ 1048576 - length events)) (tokens_at (1048576 - length events) text) more (tokens_settle 0 (1048576 - length events) text (omega arith)) second.2 in
     (more, said.0, omega (arith, said.1), sym (ok_is ℕ (events ++ more) made read.2))
 
 makes_with_steps : (events : List Event) (text : List ℕ) (more : List Event) → IsTokensOf text more → length events + length more ≤ 1048576 → with_steps events text ≡ Ok (events ++ more)
 unfolding with_steps
-makes_with_steps events text more said few = rw (IsTokensOf-tokens_after (length events) text more said few) refl
+makes_with_steps events text more said few = rw (settled_only (λ read. IsTokensOf text read × (length read ≤ 1048576 - length events)) (tokens_after (length events) text) more (further_settles (length events) text) (said, omega (arith, few))) refl
 
 -- ---- a line
 

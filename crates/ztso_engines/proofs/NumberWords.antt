@@ -4,9 +4,11 @@ use Rattle.std.specs.List.{AllZip}
 use Rattle.texts.specs.Numbers.{IsHexWord, word_of, hex_word_of}
 use Rattle.texts.specs.Results.{◌>>=◌}
 use Rattle.texts.proofs.NumberLaws.{word_said, says_word, hex_word_said, is_hex_word}
+use Rattle.texts.specs.Formats.{Settles}
+use Rattle.texts.proofs.FormatLaws.{settles_each, settles_hex_word}
 use Rattle.texts.proofs.ResultLaws.{bind_ok, ok_is}
 use Rattle.ztso_engines.specs.StepsText.{SaysWord}
-use Rattle.ztso_engines.specs.LineFaults.{or_bad}
+use Rattle.ztso_engines.specs.LineFaults.{bad_line, or_bad}
 use Rattle.ztso_engines.specs.Code.{code_at}
 use Rattle.ztso_engines.specs.StepsReading.{number_at, with_no_more, two_numbers, three_numbers}
 
@@ -17,21 +19,9 @@ or_bad_ok {A = A} (Some y) x e = ap (λ (z : A). Some z) (ok_is ℕ y x e)
 
 -- ---- instruction words
 
-pub code_said : (text : List (List ℕ)) (code : List ℕ) → code_at text ≡ Ok code → AllZip IsHexWord text code
+pub code_settles : (text : List (List ℕ)) → Settles (AllZip IsHexWord text) (code_at text)
 unfolding code_at
-code_said [] code e = subst (λ (xs : List ℕ). AllZip IsHexWord [] xs) (ok_is ℕ [] code e) tt
-code_said (digits ∷ others) code e =
-    let first = bind_ok (or_bad (hex_word_of digits)) (λ w. code_at others >>= λ rest. Ok (w ∷ rest)) code e in
-    let next = bind_ok (code_at others) (λ rest. Ok (first.0 ∷ rest)) code first.2 in
-    subst (λ (xs : List ℕ). AllZip IsHexWord (digits ∷ others) xs) (ok_is ℕ (first.0 ∷ next.0) code next.2)
-    (hex_word_said digits first.0 (or_bad_ok (hex_word_of digits) first.0 first.1), code_said others next.0 next.1)
-
-pub says_code : (text : List (List ℕ)) (code : List ℕ) → AllZip IsHexWord text code → code_at text ≡ Ok code
-unfolding code_at
-says_code [] [] said = refl
-says_code [] (w ∷ code) said = absurd said
-says_code (digits ∷ others) [] said = absurd said
-says_code (digits ∷ others) (w ∷ code) said = rw (is_hex_word digits w said.0, says_code others code said.1) refl
+code_settles text = settles_each IsHexWord (λ digits. or_bad (hex_word_of digits)) (settles_hex_word bad_line) text
 
 -- ---- one number
 

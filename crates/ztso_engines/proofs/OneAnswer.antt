@@ -21,7 +21,9 @@ use Rattle.assembler.specs.Program.{IsCode}
 use Rattle.assembler.proofs.OneCode.{refused_without_program}
 use Rattle.assembler.proofs.OneCode as assembler
 use Rattle.recorder.specs.Schedule.{IsScheduleOf}
-use Rattle.recorder.proofs.HeadLaws.{IsScheduleOf-schedule_at, one_schedule}
+use Rattle.recorder.specs.Reading.{schedule_at}
+use Rattle.texts.proofs.FormatLaws.{settled_only}
+use Rattle.recorder.proofs.HeadLaws.{schedule_settles, one_schedule}
 use Rattle.litmus.specs.Questions.{Question}
 use Rattle.litmus.specs.Verdicts.{IsVerdict}
 use Rattle.litmus.specs.declared.verdict.Verdict.{Verdict}
@@ -154,7 +156,7 @@ module _ {A : Type 0} (IsAnswer : Question → Result A Refusal → Type 0)
 schedule_or_refusal : (input : List ℕ) (events : List Event) (r : Refusal) → Accepted IsScheduleOf input events → IsNoSchedule input r → ⊥
 unfolding events_of
 schedule_or_refusal input events r is refused =
-    let read : judged events_of input ≡ Ok events = judged_text events_of input is.few is.text ∙ (let found = IsScheduleOf-schedule_at input events is.value_is in rw found refl) in
+    let read : judged events_of input ≡ Ok events = judged_text events_of input is.few is.text ∙ (let found = settled_only (IsScheduleOf input) (schedule_at input) events (schedule_settles input) is.value_is in rw found refl) in
     absurd cc
 
 module _ {A : Type 0} (IsAnswer : Question → List Event → A → Type 0) (one : (q : Question) (events : List Event) (a b : A) → IsAnswer q events a → IsAnswer q events b → a ≡ b) (file schedule : List ℕ) where

@@ -1,5 +1,5 @@
 -- A user's lines, read one by one.
-use Rattle.std.proofs.Common.{◌≡◌, ℕ, suc, ◌+◌, ◌<◌, Bool, true, false, List, [], ◌∷◌, ◌++◌, length, take, drop, Option, Some, None, Result, Ok, Err, refl, sym, ap, subst, ◌∙◌, inl, inr, arith}
+use Rattle.std.proofs.Common.{◌≡◌, ℕ, suc, ◌+◌, ◌<◌, Bool, true, false, List, [], ◌∷◌, ◌++◌, length, take, drop, Option, Some, None, Result, Ok, Err, refl, sym, ap, subst, ◌∙◌, ◌⊎◌, inl, inr, arith}
 use Rattle.std.specs.Prelude.{position, IfSome, IfErr, OnOk, MatchBool}
 use Rattle.std.specs.List.{position_or_len}
 use Rattle.std.specs.declared.string.String.{String}
@@ -16,7 +16,7 @@ use Rattle.ztso_engines.specs.Walks.{Way}
 use Rattle.ztso_engines.specs.Commands.{asked}
 use Rattle.ztso_engines.specs.declared.fault.Fault.{Fault}
 use Rattle.ztso_engines.specs.declared.fault.Fault.TheVariants.{ReadFailed, WriteFailed, NoMemory, Refused}
-use Rattle.ztso_engines.specs.Talks.{AnswersLine, EndsAloud, IsDebugAnswer, IsTalk, OnRefused, Prints, Talks, quits}
+use Rattle.ztso_engines.specs.Talks.{AnswersLine, EndsAloud, IsDebugAnswer, IsDebugFront, IsTalk, OnRefused, OnStopped, Prints, PrintsFront, Talks, quits}
 use Rattle.ztso_engines.specs.inner.Making.{Finds, IsEndOf, text_and_value}
 use Rattle.ztso_engines.specs.inner.Talking.{IsFailure, IsSetOut}
 use Rattle.ztso_engines.specs.Engines.{AnswersBoth}
@@ -89,24 +89,68 @@ on_false false P Q e q = q
 
 -- nothing was left to read
 pub prints_none : (B M : ℕ) (input : Option (List ℕ)) (read : List ℕ) (walk : Way) (points : List (ℕ × ℕ)) → IfSome input (λ bytes. read ≡ take_through 10 bytes) → read ≡ [] → Prints B M input walk points []
-prints_none B M None read walk points is none = tt
+prints_none B M None read walk points is none = ([], refl)
 prints_none B M (Some bytes) read walk points is none = subst (λ (xs : List ℕ). Talks B M (lines xs) walk points []) (sym (no_byte bytes (sym is ∙ none))) refl
 
 -- the line that was read ends the talk
 pub prints_no_more : (B M : ℕ) (input : Option (List ℕ)) (read line : List ℕ) (none : List (List ℕ)) (walk : Way) (points : List (ℕ × ℕ)) → IfSome input (λ bytes. read ≡ take_through 10 bytes) → lines read ≡ line ∷ none → quits (asked (tokens line)) ≡ true → Prints B M input walk points []
-prints_no_more B M None read line none walk points is told quit = tt
+prints_no_more B M None read line none walk points is told quit = (line ∷ [], on_true (quits (asked (tokens line))) _ _ quit refl)
 prints_no_more B M (Some bytes) read line none walk points is told quit =
     let first : lines bytes ≡ line ∷ lines (drop_through 10 bytes) = first_told bytes line none (ap lines (sym is) ∙ told) in
     subst (λ (ls : List (List ℕ)). Talks B M ls walk points []) (sym first) (on_true (quits (asked (tokens line))) _ _ quit refl)
 
+some_lines : (B M : ℕ) (input : Option (List ℕ)) (walk : Way) (points : List (ℕ × ℕ)) (out : List ℕ) → Prints B M input walk points out → (typed : List (List ℕ)) × Talks B M typed walk points out
+some_lines B M None walk points out prints = prints
+some_lines B M (Some bytes) walk points out prints = (lines bytes, prints)
+
 -- the line that was read is answered, and then those behind it
 pub prints_more : (B M : ℕ) (input next : Option (List ℕ)) (read line : List ℕ) (none : List (List ℕ)) (old new : Way) (points left : List (ℕ × ℕ)) (text later : List ℕ) → IfSome input (λ bytes. read ≡ take_through 10 bytes) → DropsThrough input next 10 → lines read ≡ line ∷ none
     → quits (asked (tokens line)) ≡ false → AnswersLine B M line old new points left text → Prints B M next new left later → Prints B M input old points (text ++ later)
-prints_more B M None next read line none old new points left text later is drops told quit answers prints = tt
+prints_more B M None next read line none old new points left text later is drops told quit answers prints =
+    let typed = some_lines B M next new left later prints in
+    (line ∷ typed.0, on_false (quits (asked (tokens line))) _ _ quit (text, new, left, later, answers, refl, typed.1))
 prints_more B M (Some bytes) next read line none old new points left text later is drops told quit answers prints =
     let first : lines bytes ≡ line ∷ lines (drop_through 10 bytes) = first_told bytes line none (ap lines (sym is) ∙ told) in
     let rest : Talks B M (lines (drop_through 10 bytes)) new left later = subst (λ (n : Option (List ℕ)). Prints B M n new left later) drops prints in
     subst (λ (ls : List (List ℕ)). Talks B M ls old points (text ++ later)) (sym first) (on_false (quits (asked (tokens line))) _ _ quit (text, new, left, later, answers, refl, rest))
+
+-- ---- what the first lines print
+
+pub front_none : (B M : ℕ) (input : Option (List ℕ)) (walk : Way) (points : List (ℕ × ℕ)) → PrintsFront B M input walk points []
+front_none B M None walk points = ([], refl)
+front_none B M (Some bytes) walk points = ([], lines bytes, refl, refl)
+
+some_front : (B M : ℕ) (input : Option (List ℕ)) (walk : Way) (points : List (ℕ × ℕ)) (out : List ℕ) → PrintsFront B M input walk points out → (typed : List (List ℕ)) × Talks B M typed walk points out
+some_front B M None walk points out prints = prints
+some_front B M (Some bytes) walk points out (done, rest, is, talks) = (done, talks)
+
+pub front_more : (B M : ℕ) (input next : Option (List ℕ)) (read line : List ℕ) (none : List (List ℕ)) (old new : Way) (points left : List (ℕ × ℕ)) (text later : List ℕ) → IfSome input (λ bytes. read ≡ take_through 10 bytes) → DropsThrough input next 10 → lines read ≡ line ∷ none
+    → quits (asked (tokens line)) ≡ false → AnswersLine B M line old new points left text → PrintsFront B M next new left later → PrintsFront B M input old points (text ++ later)
+front_more B M None next read line none old new points left text later is drops told quit answers prints =
+    let typed = some_front B M next new left later prints in
+    (line ∷ typed.0, on_false (quits (asked (tokens line))) _ _ quit (text, new, left, later, answers, refl, typed.1))
+front_more B M (Some bytes) next read line none old new points left text later is drops told quit answers prints =
+    let first : lines bytes ≡ line ∷ lines (drop_through 10 bytes) = first_told bytes line none (ap lines (sym is) ∙ told) in
+    let front : PrintsFront B M (Some (drop_through 10 bytes)) new left later = subst (λ (n : Option (List ℕ)). PrintsFront B M n new left later) drops prints in
+    (line ∷ front.0, front.1, first ∙ ap (λ (ls : List (List ℕ)). line ∷ ls) front.2, on_false (quits (asked (tokens line))) _ _ quit (text, new, left, later, answers, refl, front.3))
+
+-- what was printed by then is what the first lines print
+pub left_so_far : (B M : ℕ) (input : Option (List ℕ)) (walk : Way) (so_far : List ℕ) (old new : Option (List ℕ)) → Appends old new so_far → PrintsFront B M input walk [] (so_far ++ []) → (out : List ℕ) × Appends old new out × PrintsFront B M input walk [] out
+left_so_far B M input walk so_far old new appends prints = (so_far, appends, subst (λ (out : List ℕ). PrintsFront B M input walk [] out) (append-nil so_far) prints)
+
+pub stopped : {V : Type 0} (result : Result V Fault) (P : Type 0) → P → OnStopped result P
+stopped (Ok x) P p = tt
+stopped (Err ReadFailed) P p = p
+stopped (Err NoMemory) P p = p
+stopped (Err WriteFailed) P p = tt
+stopped (Err (Refused r)) P p = tt
+
+-- a write that failed is no stop
+pub write_stops : {W : Type 0} (made : String Global × Unit {0}) (result : Result (Unit {0}) Fault) (fault : Fault) (contents : W → Option (List ℕ)) (old new : W) (P : Type 0) → result ≡ Err fault → IsEndOf text_and_value (Ok made) (Err fault) contents old new → OnStopped result P
+write_stops made result ReadFailed contents old new P is end = absurd end
+write_stops made result WriteFailed contents old new P is end = rw is tt
+write_stops made result NoMemory contents old new P is end = absurd end
+write_stops made result (Refused refusal) contents old new P is end = absurd end
 
 -- ---- what a writer holds, where that is known
 
@@ -170,6 +214,28 @@ module _ (B M : ℕ) (first second input : Option (List ℕ)) {W : Type 0} (cont
   not_begun view result ReadFailed old is finds = rw is tt
   not_begun view result WriteFailed old is finds = rw is tt
   not_begun view result NoMemory old is finds = rw is tt
+
+  -- what a talk that stops has written
+  pub left_begun : (result : Result (Unit {0}) Fault) (walk : Way) (old new : W) → AnswersBoth (ByBoth IsSetOut) first second (Ok walk) → OnStopped result ((out : List ℕ) × Appends (contents old) (contents new) out × PrintsFront B M input walk [] out)
+      → OnStopped result ((out : List ℕ) × Appends (contents old) (contents new) out × ((out ≡ []) ⊎ AnswersBoth (IsDebugFront B M input) first second (Ok (out, tt))))
+  left_begun result walk old new set told = at result told
+    where
+      more : (out : List ℕ) → PrintsFront B M input walk [] out → (file schedule : List ℕ) → ByBoth IsSetOut file schedule (Ok walk) → IsDebugFront B M input file schedule (Ok (out, tt))
+      more out prints file schedule (ran question events known test read set) = ran question events (out, tt) test read (subst (λ (w : Way). PrintsFront B M input w [] out) set prints)
+
+      told_of : (out : List ℕ) × Appends (contents old) (contents new) out × PrintsFront B M input walk [] out → (out : List ℕ) × Appends (contents old) (contents new) out × ((out ≡ []) ⊎ AnswersBoth (IsDebugFront B M input) first second (Ok (out, tt)))
+      told_of (out, appends, prints) = (out, appends, inr (weaker_both first second (ByBoth IsSetOut) (IsDebugFront B M input) (Ok walk) (Ok (out, tt)) (more out prints) set))
+
+      at : (r : Result (Unit {0}) Fault) → OnStopped r ((out : List ℕ) × Appends (contents old) (contents new) out × PrintsFront B M input walk [] out) → OnStopped r ((out : List ℕ) × Appends (contents old) (contents new) out × ((out ≡ []) ⊎ AnswersBoth (IsDebugFront B M input) first second (Ok (out, tt))))
+      at (Ok x) t = tt
+      at (Err ReadFailed) t = told_of t
+      at (Err NoMemory) t = told_of t
+      at (Err WriteFailed) t = tt
+      at (Err (Refused r)) t = tt
+
+  -- nothing was written before it began
+  pub left_nothing : (result : Result (Unit {0}) Fault) (old : W) → OnStopped result ((out : List ℕ) × Appends (contents old) (contents old) out × ((out ≡ []) ⊎ AnswersBoth (IsDebugFront B M input) first second (Ok (out, tt))))
+  left_nothing result old = stopped result _ ([], appends_nothing (contents old), inl refl)
 
 -- a talk refuses nothing
 pub not_refused : (result : Result (Unit {0}) Fault) (P : Type 0) → IfErr result IsFailure → OnRefused result P

@@ -1,13 +1,9 @@
 -- Instruction words in hex.
 use Rattle.std.specs.Prelude.{ℕ, List, [], ◌∷◌, Result, Ok}
 use Rattle.texts.specs.Numbers.{hex_word_of}
-use Rattle.texts.specs.Results.{◌>>=◌}
+use Rattle.texts.specs.Formats.{each}
 use Rattle.ztso_engines.specs.LineFaults.{or_bad}
 
 -- the instruction words that all of the words say
 unfoldable pub code_at : List (List ℕ) → Result (List ℕ) ℕ
-code_at [] = Ok []
-code_at (digits ∷ others) = do
-  instruction ← or_bad (hex_word_of digits)
-  code ← code_at others
-  Ok (instruction ∷ code)
+code_at words = each (λ digits. or_bad (hex_word_of digits)) words

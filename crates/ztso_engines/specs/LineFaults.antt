@@ -1,6 +1,7 @@
 -- Faults of a line: the numbers of their refusals, and the refusals of the input.
 use Rattle.std.specs.Prelude.{ℕ, Option, None, Some, Result, Ok, Err}
 use Rattle.texts.specs.Results.{map_err}
+use Rattle.texts.specs.Formats.{or_fault}
 use Rattle.texts.specs.declared.errors.TextError.{TextError}
 use Rattle.ztso_engines.specs.declared.fault.Fault.{Fault}
 use Rattle.ztso_engines.specs.declared.fault.Refusal.{Refusal}
@@ -12,8 +13,7 @@ abbrev pub bad_line : ℕ
 bad_line = 34
 
 abbrev pub or_bad : {A : Type 0} → Option A → Result A ℕ
-or_bad None = Err bad_line
-or_bad (Some x) = Ok x
+or_bad option = or_fault bad_line option
 
 -- a line's fault, by its number, is refused at the line
 abbrev pub refused_on : (line number : ℕ) → Refusal

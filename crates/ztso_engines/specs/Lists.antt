@@ -5,7 +5,7 @@ use Rattle.std.specs.Str.Lines.{lines}
 use Rattle.texts.specs.Numbers.{word_of}
 use Rattle.texts.specs.Pieces.{pieces}
 use Rattle.texts.specs.declared.pieces.Separators.TheVariants.{Spaces}
-use Rattle.texts.specs.Results.{◌>>=◌}
+use Rattle.texts.specs.Formats.{each, each_at}
 use Rattle.ztso_engines.specs.declared.fault.Refusal.{Refusal}
 use Rattle.ztso_engines.specs.LineFaults.{or_bad, at_line}
 use Rattle.ztso_engines.specs.StepsText.{SaysWord}
@@ -24,11 +24,7 @@ SaysLists text lists = AllZip SaysList (lines text) lists
 
 -- the words that all of these say
 unfoldable pub list_at : List (List ℕ) → Result (List ℕ) ℕ
-list_at [] = Ok []
-list_at (digits ∷ others) = do
-  word ← or_bad (word_of digits)
-  list ← list_at others
-  Ok (word ∷ list)
+list_at words = each (λ digits. or_bad (word_of digits)) words
 
 abbrev pub list_of : List ℕ → Result (List ℕ) ℕ
 list_of line = list_at (with_bytes (pieces Spaces line))
@@ -36,11 +32,7 @@ list_of line = list_at (with_bytes (pieces Spaces line))
 -- the lists that these lines say, the first of which has this number; a line that holds anything else is
 -- refused
 unfoldable pub lists_of_lines : (number : ℕ) → List (List ℕ) → Result (List (List ℕ)) Refusal
-lists_of_lines number [] = Ok []
-lists_of_lines number (line ∷ others) = do
-  list ← at_line number (list_of line)
-  lists ← lists_of_lines (number + 1) others
-  Ok (list ∷ lists)
+lists_of_lines number lines = each_at (λ place line. at_line place (list_of line)) number lines
 
 -- the lists that a text says, or its first fault
 unfoldable pub lists_at : List ℕ → Result (List (List ℕ)) Refusal

@@ -1,5 +1,5 @@
 -- The command `debug`: what a user's lines print in turn.
-use Rattle.std.specs.Prelude.{ℕ, ◌≡◌, Bool, true, false, List, [], ◌∷◌, ◌++◌, Option, None, Some, IfSome, MatchOption, MatchBool, Result, Ok, Err}
+use Rattle.std.specs.Prelude.{ℕ, ◌≡◌, Bool, true, false, List, [], ◌∷◌, ◌++◌, Option, None, Some, MatchOption, MatchBool, Result, Ok, Err}
 use Rattle.std.specs.Str.Lines.{lines}
 use Rattle.std.specs.Io.KnownBytes.{Appends}
 use Rattle.step_machine.specs.declared.events.Event.{Event}
@@ -41,9 +41,23 @@ Talks B M [] old points out = out ≡ []
 Talks B M (line ∷ others) old points out = MatchBool (quits (asked (tokens line))) (out ≡ [])
     ((text : List ℕ) × (new : Way) × (left : List (ℕ × ℕ)) × (later : List ℕ) × AnswersLine B M line old new points left text × (out ≡ text ++ later) × Talks B M others new left later)
 
--- what the user's lines print from here on, where their bytes are known
+-- what the user's lines print from here on: those of the bytes that are known, or else some lines
 abbrev pub Prints : (B M : ℕ) → (input : Option (List ℕ)) → Way → (points : List (ℕ × ℕ)) → (out : List ℕ) → Type 0
-Prints B M input walk points out = IfSome input (λ bytes. Talks B M (lines bytes) walk points out)
+Prints B M None walk points out = (typed : List (List ℕ)) × Talks B M typed walk points out
+Prints B M (Some bytes) walk points out = Talks B M (lines bytes) walk points out
+
+-- what the first of the user's lines print from here on
+abbrev pub PrintsFront : (B M : ℕ) → (input : Option (List ℕ)) → Way → (points : List (ℕ × ℕ)) → (out : List ℕ) → Type 0
+PrintsFront B M None walk points out = (done : List (List ℕ)) × Talks B M done walk points out
+PrintsFront B M (Some bytes) walk points out = (done : List (List ℕ)) × (rest : List (List ℕ)) × (lines bytes ≡ done ++ rest) × Talks B M done walk points out
+
+-- this holds where a read failed or memory ran out
+abbrev pub OnStopped : {V : Type 0} → Result V Fault → Type 0 → Type 0
+OnStopped (Err ReadFailed) P = P
+OnStopped (Err NoMemory) P = P
+OnStopped (Err WriteFailed) P = Unit {0}
+OnStopped (Err (Refused refusal)) P = Unit {0}
+OnStopped (Ok x) P = Unit {0}
 
 -- what the user's lines print at a test's opening; there is no other value
 abbrev pub IsTalk : (B M : ℕ) → (input : Option (List ℕ)) → Question → List Event → (answer : Output) → Type 0
@@ -52,6 +66,10 @@ IsTalk B M input question events answer = Prints B M input (set_out question.ope
 -- What answers a test, a schedule and the user's lines. The test is judged first.
 abbrev pub IsDebugAnswer : (B M : ℕ) → (input : Option (List ℕ)) → (file schedule : List ℕ) → Result Output Refusal → Type 0
 IsDebugAnswer B M input = ByBoth (IsTalk B M input)
+
+-- What the first of the user's lines print, for a test and a schedule that are read.
+abbrev pub IsDebugFront : (B M : ℕ) → (input : Option (List ℕ)) → (file schedule : List ℕ) → Result Output Refusal → Type 0
+IsDebugFront B M input = ByBoth (λ question events answer. PrintsFront B M input (set_out question.opening events) [] answer.0)
 
 -- How an engine ends that writes as it reads: it wrote an output that is an answer together with what it
 -- returned, or a refusal is the answer and nothing was written. Where a read or a write failed or memory

@@ -1,6 +1,6 @@
 -- The command `threads`: the schedule of a run that threads made, in canonical form, its state text and
 -- its verdict.
-use Rattle.std.specs.Prelude.{ℕ, ◌≡◌, ◌≤◌, ◌==◌, ◌||◌, Bool, IsTrue, List, ◌++◌, length, map, Result, Ok, Err}
+use Rattle.std.specs.Prelude.{ℕ, ◌≡◌, ◌≤◌, ◌<◌, ◌⊎◌, List, ◌++◌, length, map, Result, Ok, Err}
 use Rattle.step_machine.specs.History.{History}
 use Rattle.step_machine.specs.Runs.{Run, event_of}
 use Rattle.step_machine.specs.declared.events.Event.{Event}
@@ -36,13 +36,21 @@ pub record IsThreadsRun (B M : ℕ) (question : Question) (answer : List ℕ × 
   pub judged : IsJudged M question history (state, answer.1)
   pub written : answer.0 ≡ canon events ++ state
 
--- the refusals of threads, and that of a run which is too long to be written
-abbrev pub refuses_threads : ℕ → Bool
-refuses_threads n = (n == 32) || (n == 33) || (n == 35) || (n == 37)
+-- a run of the test's opening, one event an entry, that is too long to be written
+pub record IsTooLong (B M : ℕ) (question : Question) : Type 0 where
+  pub events : List Event
+  pub history : History
+  pub ran : Run B M question.opening events history
+  pub each : events ≡ map event_of history.entries
+  pub many : MAX_EVENTS < length events
+
+-- the refusals of threads that have all their seats, and that of a run which is too long
+abbrev pub RefusesThreads : (B M : ℕ) → Question → ℕ → Type 0
+RefusesThreads B M question n = (n ≡ 32) ⊎ ((n ≡ 35) ⊎ ((n ≡ 37) × IsTooLong B M question))
 
 abbrev pub IsThreadsGiven : ℕ → ℕ → Question → Result (List ℕ × Verdict) Refusal → Type 0
 IsThreadsGiven B M question (Ok answer) = IsThreadsRun B M question answer
-IsThreadsGiven B M question (Err refusal) = (refusal.place ≡ Nowhere) × IsTrue (refuses_threads refusal.number)
+IsThreadsGiven B M question (Err refusal) = (refusal.place ≡ Nowhere) × RefusesThreads B M question refusal.number
 
 -- what answers a test
 abbrev pub IsThreadsAnswer : ℕ → ℕ → List ℕ → Result (List ℕ × Verdict) Refusal → Type 0

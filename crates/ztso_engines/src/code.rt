@@ -9,7 +9,7 @@ use std::alloc::Global;
 use texts::{first_token, hex_word};
 
 /// The instruction words that the words of a line say, however many.
-#[tactic(auto, unfolding(crate::specs::Code::code_at))]
+#[tactic(auto, unfolding(crate::specs::Code::code_at, texts::specs::Formats::each))]
 pub fn code_of(alloc: Global, text: &[u8]) -> Result<Vec<u32>, LineFault>
     ensures { Gives refusal_of (λ code. code.items) result (code_at (tokens text.now)) }
 {

@@ -1,10 +1,11 @@
 //! The command `debug`: a walk along a schedule's run of a litmus test, at a user's commands.
 
-ghost use Rattle.std.specs.Prelude.{◌≡◌, ◌≤◌};
+ghost use Rattle.std.specs.Prelude.{◌≡◌, ◌≤◌, ◌⊎◌, ℕ, List, [], Ok};
+ghost use Rattle.std.specs.Io.KnownBytes.{Appends};
 ghost use Rattle.ztso_engines.specs.Engines.{AnswersBoth};
 ghost use Rattle.ztso_engines.specs.Tests.{HasNoTest};
 ghost use Rattle.ztso_engines.specs.Histories.{ByBoth};
-ghost use Rattle.ztso_engines.specs.Talks.{EndsAloud, IsDebugAnswer, OnRefused};
+ghost use Rattle.ztso_engines.specs.Talks.{EndsAloud, IsDebugAnswer, IsDebugFront, OnRefused, OnStopped};
 ghost use Rattle.ztso_engines.specs.inner.Making.{Finds};
 ghost use Rattle.ztso_engines.specs.inner.Talking.{IsSetOut};
 ghost use Rattle.litmus.specs.declared.question.TheConstants.{MAX_LOCATIONS};
@@ -67,6 +68,10 @@ pub fn debug_engine<const B: usize, const M: usize, F: Read, S: Read, C: BufRead
     ensures ends { EndsAloud (AnswersBoth (IsDebugAnswer B M (C.remaining commands.old)) (F.remaining file.old) (S.remaining schedule.old)) result W.contents writer.old writer.new }
     ensures unread { HasNoTest (F.remaining file.old) → schedule.new ≡ schedule.old }
     ensures unasked { OnRefused result (commands.new ≡ commands.old) }
+
+    // where a read failed or memory ran out, what the first lines print was written, or nothing
+    ensures left { OnStopped result ((out : List ℕ) × Appends (W.contents writer.old) (W.contents writer.new) out
+        × ((out ≡ []) ⊎ AnswersBoth (IsDebugFront B M (C.remaining commands.old)) (F.remaining file.old) (S.remaining schedule.old) (Ok (out, tt)))) }
 {
     let walk = read_walk::<B, M, F, S>(alloc, file, schedule)?;
     talk(alloc, walk, commands, writer)

@@ -17,7 +17,7 @@ use std::io::Read;
 use texts::{Separators, first_line, first_piece, word};
 
 /// The words of a line.
-#[tactic(auto, unfolding(crate::specs::Lists::list_at))]
+#[tactic(auto, unfolding(crate::specs::Lists::list_at, texts::specs::Formats::each))]
 fn list_of(alloc: Global, line: &[u8]) -> Result<Vec<u32>, LineFault>
     ensures { Gives refusal_of (λ list. list.items) result (list_said line.now) }
 {
@@ -45,7 +45,7 @@ fn list_of_line(alloc: Global, line: &[u8], number: usize) -> Result<Vec<u32>, F
 }
 
 /// The lists of a text.
-#[tactic(auto, unfolding(crate::specs::Lists::lists_at, crate::specs::Lists::lists_of_lines))]
+#[tactic(auto, unfolding(crate::specs::Lists::lists_at, crate::specs::Lists::lists_of_lines, texts::specs::Formats::each_at))]
 fn lists_of_text(alloc: Global, text: &[u8]) -> Result<Vec<Vec<u32>>, Fault>
     ensures { Answers (λ lists. map (λ list. list.items) lists.items) result (lists_at text.now) }
 {

@@ -6,7 +6,7 @@ ghost use Rattle.std.specs.Io.BufRead.{take_through, DropsThrough};
 ghost use Rattle.std.specs.Io.KnownBytes.{Appends, IsAtEnd};
 ghost use Rattle.texts.specs.Cutting.{tokens};
 ghost use Rattle.ztso_engines.specs.Commands.{asked};
-ghost use Rattle.ztso_engines.specs.Talks.{AnswersLine, Prints, quits};
+ghost use Rattle.ztso_engines.specs.Talks.{AnswersLine, OnStopped, Prints, PrintsFront, quits};
 ghost use Rattle.ztso_engines.specs.inner.Talking.{IsFailure};
 
 use crate::debug::answers::answer;
@@ -71,6 +71,8 @@ pub fn talk<const B: usize, const M: usize, C: BufRead, W: Write>(
     ensures told { OnOk result ((out : List ℕ) × Appends (W.contents writer.old) (W.contents writer.new) out
         × Prints B M (C.remaining commands.old) walk.entry [] out) }
     ensures err { IfErr result IsFailure }
+    ensures left { OnStopped result ((out : List ℕ) × Appends (W.contents writer.old) (W.contents writer.new) out
+        × PrintsFront B M (C.remaining commands.old) walk.entry [] out) }
 {
     let mut walk = walk;
     let mut points = Vec::new(alloc);

@@ -1,6 +1,6 @@
 use Rattle.std.proofs.lemmas.Result.{err_from_is_err_and}
 use Rattle.ztso_engines.specs.Walks.{Way}
-use Rattle.ztso_engines.proofs.TalkLaws.{not_begun, not_refused, talked}
+use Rattle.ztso_engines.proofs.TalkLaws.{left_begun, left_nothing, not_begun, not_refused, talked}
 use Rattle.ztso_engines.proofs.debug.debug_engine.Goals as goal
 
 pub returns-in_err-walk-clause-ends : goal.returns-in_err-walk-clause-ends
@@ -13,3 +13,9 @@ returns-clause-ends g c = talked g.row.B g.row.M (g.F.Read.remaining c.args.file
 
 pub returns-clause-unasked : goal.returns-clause-unasked
 returns-clause-unasked g c = not_refused c.talk.result _ c.talk.ensures.err
+
+pub returns-in_err-walk-clause-left : goal.returns-in_err-walk-clause-left
+returns-in_err-walk-clause-left g c = left_nothing g.row.B g.row.M (g.F.Read.remaining c.args.file.now) (g.S.Read.remaining c.args.schedule.now) (g.C.Read.remaining c.args.commands.now) g.W.Write.contents c.from_residual.result c.args.writer.now
+
+pub returns-clause-left : goal.returns-clause-left
+returns-clause-left g c = left_begun g.row.B g.row.M (g.F.Read.remaining c.args.file.now) (g.S.Read.remaining c.args.schedule.now) (g.C.Read.remaining c.args.commands.now) g.W.Write.contents c.talk.result c.in_ok-walk.walk c.args.writer.now c.talk.new.writer c.in_ok-walk.ensures.walk c.talk.ensures.left

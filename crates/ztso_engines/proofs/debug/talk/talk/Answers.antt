@@ -5,8 +5,8 @@ use Rattle.std.specs.Str.Lines.{lines}
 use Rattle.std.specs.Io.KnownBytes.{Appends}
 use Rattle.texts.specs.Cutting.{tokens}
 use Rattle.ztso_engines.specs.Commands.{asked}
-use Rattle.ztso_engines.specs.Talks.{Prints, quits}
-use Rattle.ztso_engines.proofs.TalkLaws.{appends_more, appends_nothing, failed_end, fails, no_line, prints_more, prints_no_more, prints_none, told_so_far}
+use Rattle.ztso_engines.specs.Talks.{Prints, PrintsFront, quits}
+use Rattle.ztso_engines.proofs.TalkLaws.{appends_more, appends_nothing, failed_end, fails, no_line, prints_more, prints_no_more, prints_none, told_so_far, front_none, front_more, left_so_far, stopped, write_stops}
 use Rattle.ztso_engines.proofs.debug.talk.talk.Goals as goal
 
 pub loop-init : goal.loop-init
@@ -14,6 +14,7 @@ loop-init g c = (
   [],
   appends_nothing (g.W.Write.contents c.args.writer.now),
   λ later prints. subst (λ (points : List (ℕ × ℕ)). Prints g.row.B g.row.M (g.C.Read.remaining c.args.commands.now) c.args.walk points later) c.new-points.ensures.items prints,
+  λ later prints. subst (λ (points : List (ℕ × ℕ)). PrintsFront g.row.B g.row.M (g.C.Read.remaining c.args.commands.now) c.args.walk points later) c.new-points.ensures.items prints,
 )
 
 pub returns-in_default-clause-told : goal.returns-in_default-clause-told
@@ -48,4 +49,27 @@ loop-preserved g c =
       λ later prints. subst (λ (out : List ℕ). Prints g.row.B g.row.M (g.C.Read.remaining c.args.commands.now) c.args.walk [] out) (sym (append_assoc so_far.0 did.0 later))
           (so_far.2 (did.0 ++ later) (prints_more g.row.B g.row.M (g.C.Read.remaining c.loop.commands) (g.C.Read.remaining c.read_line.new.commands) c.in_ok-bytes.bytes.items c.in-Some.line.now _ c.loop.walk c.in_ok-walk.walk
           c.loop.points.items c.answer_line.new.points.items did.0 later c.in_ok-bytes.ensures.bytes c.in_ok-bytes.ensures.rest told quit did.2 prints)),
+      λ later prints. subst (λ (out : List ℕ). PrintsFront g.row.B g.row.M (g.C.Read.remaining c.args.commands.now) c.args.walk [] out) (sym (append_assoc so_far.0 did.0 later))
+          (so_far.3 (did.0 ++ later) (front_more g.row.B g.row.M (g.C.Read.remaining c.loop.commands) (g.C.Read.remaining c.read_line.new.commands) c.in_ok-bytes.bytes.items c.in-Some.line.now _ c.loop.walk c.in_ok-walk.walk
+          c.loop.points.items c.answer_line.new.points.items did.0 later c.in_ok-bytes.ensures.bytes c.in_ok-bytes.ensures.rest told quit did.2 prints)),
     )
+
+pub returns-in_err-bytes-clause-left : goal.returns-in_err-bytes-clause-left
+returns-in_err-bytes-clause-left g c =
+    let so_far = c.loop.invariant in
+    stopped c.from_residual.result _ (left_so_far g.row.B g.row.M (g.C.Read.remaining c.args.commands.now) c.args.walk so_far.0 _ _ so_far.1 (so_far.3 [] (front_none g.row.B g.row.M (g.C.Read.remaining c.loop.commands) c.loop.walk c.loop.points.items)))
+
+pub returns-in_err-walk-clause-left : goal.returns-in_err-walk-clause-left
+returns-in_err-walk-clause-left g c =
+    let so_far = c.loop.invariant in
+    stopped c.from_residual-in_err-walk.result _ (left_so_far g.row.B g.row.M (g.C.Read.remaining c.args.commands.now) c.args.walk so_far.0 _ _ so_far.1 (so_far.3 [] (front_none g.row.B g.row.M (g.C.Read.remaining c.loop.commands) c.loop.walk c.loop.points.items)))
+
+pub returns-in_err-end_with-clause-left : goal.returns-in_err-end_with-clause-left
+returns-in_err-end_with-clause-left g c =
+    let p = err_from_is_err_and c.from_residual-in_err-end_with.result c.from_residual-in_err-end_with.ensures.1 in
+    write_stops (c.answer_line.new.out, tt) c.from_residual-in_err-end_with.result c.in_err-end_with.field-0.0 g.W.Write.contents _ _ _ (rw p.2 at p.1) c.in_err-end_with.ensures
+
+pub returns-clause-left : goal.returns-clause-left
+returns-clause-left g c =
+    let so_far = c.loop.invariant in
+    left_so_far g.row.B g.row.M (g.C.Read.remaining c.args.commands.now) c.args.walk so_far.0 _ _ so_far.1 (so_far.3 [] (front_none g.row.B g.row.M (g.C.Read.remaining c.loop.commands) c.loop.walk c.loop.points.items))

@@ -1,0 +1,89 @@
+-- The seats of an opening are all there.
+use Rattle.std.proofs.Common.{◌≡◌, ◌⊎◌, inl, inr, ℕ, zero, suc, ◌+◌, ◌<◌, ◌≤◌, Bool, true, false, not, ltb, eqb, cond, ◌||◌, ◌&&◌, List, [], ◌∷◌, ◌++◌, length, count_by, Result, Err, refl, sym, ◌∙◌, ap, subst, arith}
+use Rattle.std.specs.List.{list_any}
+use Rattle.std.proofs.lemmas.Bool.{cases_lt}
+use Rattle.std.proofs.lemmas.Bool.Decides.{nat_tests}
+use Rattle.std.proofs.lemmas.List.Folds.{list_any-append}
+use Rattle.std.proofs.lemmas.List.Sums.{sum_by-append}
+use Rattle.step_machine.specs.History.{Start}
+use Rattle.litmus.specs.Questions.{Question}
+use Rattle.hart_threads.specs.Seats.{SeatView, seats_of}
+use Rattle.hart_threads.specs.Missing.{is_missing, is_seated, IsFirst, sits_at, acts_for, lands_for}
+use Rattle.hart_threads.specs.Returns.{Fails}
+use Rattle.hart_threads.specs.declared.fault.Fault.{Fault}
+use Rattle.hart_threads.specs.declared.fault.Fault.TheVariants as fault
+use Rattle.ztso_engines.specs.Faults.{AnswersAs}
+use Rattle.ztso_engines.specs.Threads.{IsThreadsGiven, fault_of_threads}
+use Rattle.ztso_engines.specs.inner.Making.{text_and_value}
+
+abbrev acting_seat : ℕ → SeatView
+acting_seat n = record { hart = n; acts = true; diary = [] }
+
+abbrev landing_seat : ℕ → SeatView
+landing_seat n = record { hart = n; acts = false; diary = [] }
+
+within : (h n : ℕ) → h < n → ltb h n ≡ true
+within h n lt = grind (arith, nat_tests)
+
+past : (h n : ℕ) → n ≤ h → ltb h n ≡ false
+past h n le = grind (arith, nat_tests)
+
+other : (a h : ℕ) → a < h → eqb a h ≡ false
+other a h lt = grind (arith, nat_tests)
+
+above : (a h : ℕ) → h < a → eqb a h ≡ false
+above a h lt = grind (arith, nat_tests)
+
+same : (a h : ℕ) → a ≡ h → eqb a h ≡ true
+same a h is = grind (arith, nat_tests)
+
+two_acting : (n h : ℕ) (b : Bool) → eqb n h ≡ b → count_by (acts_for h) (record { hart = n; acts = true; diary = [] } ∷ record { hart = n; acts = false; diary = [] } ∷ []) ≡ cond b 1 0
+two_acting n h true is = rw is refl
+two_acting n h false is = rw is refl
+
+two_landing : (n h : ℕ) (b : Bool) → eqb n h ≡ b → count_by (lands_for h) (record { hart = n; acts = true; diary = [] } ∷ record { hart = n; acts = false; diary = [] } ∷ []) ≡ cond b 1 0
+two_landing n h true is = rw is refl
+two_landing n h false is = rw is refl
+
+two_sitting : (n h : ℕ) → n < h → list_any (sits_at h) (record { hart = n; acts = true; diary = [] } ∷ record { hart = n; acts = false; diary = [] } ∷ []) ≡ false
+two_sitting n h lt = rw (other n h lt) refl
+
+-- one more hart
+one_more : (n h c : ℕ) → c ≡ cond (ltb h n) 1 0 → c + cond (eqb n h) 1 0 ≡ cond (ltb h (suc n)) 1 0
+one_more n h c is = at (cases_lt h n) (cases_lt n h)
+  where
+    at : (h < n) ⊎ (n ≤ h) → (n < h) ⊎ (h ≤ n) → c + cond (eqb n h) 1 0 ≡ cond (ltb h (suc n)) 1 0
+    at (inl lt) side = rw (above n h lt) (rw (within h (suc n) (omega arith)) (let e : c ≡ 1 = is ∙ ap (λ (b : Bool). cond b 1 0) (within h n lt) in omega (arith, e)))
+    at (inr ge) (inl gt) = rw (other n h gt) (rw (past h (suc n) (omega arith)) (let e : c ≡ 0 = is ∙ ap (λ (b : Bool). cond b 1 0) (past h n ge) in omega (arith, e)))
+    at (inr ge) (inr le) = rw (same n h (omega arith)) (rw (within h (suc n) (omega arith)) (let e : c ≡ 0 = is ∙ ap (λ (b : Bool). cond b 1 0) (past h n ge) in omega (arith, e)))
+
+acting : (n h : ℕ) → count_by (acts_for h) (seats_of n) ≡ cond (ltb h n) 1 0
+acting zero h = sym (ap (λ (b : Bool). cond b 1 0) (past h 0 (omega arith)))
+acting (suc n) h = sum_by-append (λ s. cond (acts_for h s) 1 0) (seats_of n) (acting_seat n ∷ landing_seat n ∷ []) ∙ ap (λ (k : ℕ). count_by (acts_for h) (seats_of n) + k) (two_acting n h (eqb n h) refl) ∙ one_more n h _ (acting n h)
+
+landing : (n h : ℕ) → count_by (lands_for h) (seats_of n) ≡ cond (ltb h n) 1 0
+landing zero h = sym (ap (λ (b : Bool). cond b 1 0) (past h 0 (omega arith)))
+landing (suc n) h = sum_by-append (λ s. cond (lands_for h s) 1 0) (seats_of n) (acting_seat n ∷ landing_seat n ∷ []) ∙ ap (λ (k : ℕ). count_by (lands_for h) (seats_of n) + k) (two_landing n h (eqb n h) refl) ∙ one_more n h _ (landing n h)
+
+sitting : (n h : ℕ) → n ≤ h → list_any (sits_at h) (seats_of n) ≡ false
+sitting zero h le = refl
+sitting (suc n) h le = list_any-append (sits_at h) (seats_of n) (acting_seat n ∷ landing_seat n ∷ []) ∙ rw (sitting n h (omega arith)) (two_sitting n h (omega arith))
+
+pub seats_complete : (n h : ℕ) → is_missing n (seats_of n) h ≡ false
+unfolding is_missing
+seats_complete n h = at (cases_lt h n)
+  where
+    at : (h < n) ⊎ (n ≤ h) → is_missing n (seats_of n) h ≡ false
+    at (inl lt) = let a : count_by (acts_for h) (seats_of n) ≡ 1 = acting n h ∙ ap (λ (b : Bool). cond b 1 0) (within h n lt) in
+        let l : count_by (lands_for h) (seats_of n) ≡ 1 = landing n h ∙ ap (λ (b : Bool). cond b 1 0) (within h n lt) in
+        rw (within h n lt) (rw a (rw l refl))
+    at (inr ge) = rw (past h n ge) (sitting n h ge)
+
+-- what a run on threads refuses where all seats are there
+pub threads_refused : (B M : ℕ) (q : Question) (o : Start) (seats : List SeatView) (e : Fault) → seats ≡ seats_of (length o.harts) → Fails B M o seats e → AnswersAs (IsThreadsGiven B M q) text_and_value (Err (fault_of_threads e))
+threads_refused B M q o seats fault.NoMemory is fails = tt
+threads_refused B M q o seats fault.NoThread is fails = (refl, inr (inl refl))
+threads_refused B M q o seats (fault.Missing h) is fails =
+    let missing : is_missing (length o.harts) (seats_of (length o.harts)) h ≡ true = subst (λ (l : List SeatView). is_missing (length o.harts) l h ≡ true) is fails.here in
+    let e : true ≡ false = sym missing ∙ seats_complete (length o.harts) h in cc
+threads_refused B M q o seats (fault.Mismatch h es) is fails = (refl, inl refl)
