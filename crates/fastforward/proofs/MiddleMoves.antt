@@ -7,7 +7,7 @@ use Rattle.poll_close.specs.Invariant.ReceiverPlaces.{Pc14, Pc18, Pc1C, Pc20, Pc
 use Rattle.poll_close.proofs.Lines.{loads, stores}
 use Rattle.poll_close.proofs.Blocks.{offset_low, word_of, slot_of}
 use Rattle.poll_close.proofs.BlockLaws.{Changes, MiddleMoves}
-use Rattle.poll_close.proofs.ReceiverSteps.{still, reads, opened_noted}
+use Rattle.poll_close.proofs.ReceiverSteps.{still, reads}
 use Rattle.fastforward.specs.FastForward.{fastforward_blocks}
 use Rattle.fastforward.specs.Invariant.Middle.{Flagged, Loaded, Empty}
 use Rattle.fastforward.proofs.MiddleLines.{line_14, line_18, line_1C, line_20-none, line_20-word, line_24}
@@ -20,21 +20,20 @@ middle_14 k i count n word r v is order words find h =
     let line = line_14 (whole_of k count) r (omega (arith, is.even, h.0.visits.base)) (omega (arith, is.inside, is.some_slot, h.0.visits.base)) is.small in
     let seen : v ≡ offset k n.c = find (k.base + 8) (word_of k is 8 (omega arith) refl) (line.wants ∙ ap (λ b. loads (b + 8)) h.0.visits.base) ∙ seen_tail k n word order words h.0.quiet.level h.0.open_yet in
     reads fastforward_blocks k i count n order r v Pc14 Pc18 (r.x8 + 8) (λ w. record r { x7 = w }) refl line
-    (opened_noted fastforward_blocks k i count n order r v h.0 r.x5 r.x6 v r.x10 r.x11 r.x17 r.x20 r.x28 r.x30, (h.1, seen))
+    (h.0, (h.1, seen))
 
 pub middle_18 : MiddleMoves fastforward_blocks Pc18
 middle_18 k i count n word r v is order words find h =
     still fastforward_blocks k i count n order r v Pc18 Pc1C (record r { x28 = r.x8 + r.x7 }) refl (line_18 (whole_of k count) r (omega (arith, is.inside, is.small, h.0.visits.base, h.1.1, offset_low k is n.c)))
-    (opened_noted fastforward_blocks k i count n order r v h.0 r.x5 r.x6 r.x7 r.x10 r.x11 r.x17 r.x20 (r.x8 + r.x7) r.x30, (h.1.0, h.1.1, (let same : r.x8 + r.x7 ≡ k.base + r.x7 = omega (arith, h.0.visits.base) in same)))
+    (h.0, (h.1.0, h.1.1, (let same : r.x8 + r.x7 ≡ k.base + r.x7 = omega (arith, h.0.visits.base) in same)))
 
 -- the slot of word c: it has landed, or it holds 0; the mark was read before, and so all had landed then
 pub middle_1C : MiddleMoves fastforward_blocks Pc1C
 middle_1C k i count n word r v is order words find h =
     let line = line_1C (whole_of k count) r (omega (arith, is.even, h.1.1, h.1.2)) (omega (arith, is.inside, h.1.1, h.1.2, offset_low k is n.c)) is.small in
     let found = find (slot k.size k.base n.c) (slot_of k is n.c) (line.wants ∙ ap loads (let same : r.x28 + 16 ≡ slot k.size k.base n.c = omega (arith, h.1.1, h.1.2) in same)) in
-    let opened = opened_noted fastforward_blocks k i count n order r v h.0 r.x5 r.x6 r.x7 r.x10 v r.x17 r.x20 r.x28 r.x30 in
     reads fastforward_blocks k i count n order r v Pc1C Pc20 (r.x28 + 16) (λ w. record r { x11 = w }) refl line (
-      opened,
+      h.0,
       (
         elim (cases_lt n.c n.ls) [
           | inl more ↦ inr (more, found ∙ seen_word k n word order words is h.0.quiet.level h.0.open_yet more)

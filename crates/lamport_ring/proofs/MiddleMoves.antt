@@ -10,7 +10,7 @@ use Rattle.poll_close.proofs.Lines.{loads}
 use Rattle.poll_close.proofs.Modulo.{same_offset}
 use Rattle.poll_close.proofs.Blocks.{offset_low, base_word, word_of, slot_of}
 use Rattle.poll_close.proofs.BlockLaws.{MiddleMoves}
-use Rattle.poll_close.proofs.ReceiverSteps.{still, reads, opened_noted}
+use Rattle.poll_close.proofs.ReceiverSteps.{still, reads}
 use Rattle.lamport_ring.specs.Lamport.{lamport_blocks}
 use Rattle.lamport_ring.proofs.MiddleLines.{line_14, line_18, line_1C-same, line_1C-other, line_20, line_24}
 use Rattle.lamport_ring.proofs.ReceiverReads.{seen_head, seen_tail, seen_slot}
@@ -21,7 +21,7 @@ middle_14 k i count n word r v is order words find h =
     let line = line_14 (whole_of k count) r (omega (arith, is.even, h.0.visits.base)) (omega (arith, is.inside, is.some_slot, h.0.visits.base)) is.small in
     let seen : v ≡ offset k n.kh = find k.base (base_word k is) (line.wants ∙ ap loads (let same : r.x8 + 0 ≡ k.base = omega (arith, h.0.visits.base) in same)) ∙ seen_head k n word order words in
     reads lamport_blocks k i count n order r v Pc14 Pc18 (r.x8 + 0) (λ w. record r { x6 = w }) refl line
-    (opened_noted lamport_blocks k i count n order r v h.0 r.x5 v r.x7 r.x10 r.x11 r.x17 r.x20 r.x28 r.x30, record { head = n.kh; from = order.c_kh; to = omega arith; is = seen; last = last h.1 })
+    (h.0, record { head = n.kh; from = order.c_kh; to = omega arith; is = seen; last = last h.1 })
   where
     last : Flag lamport_blocks n r → (r.x30 ≡ 0) ⊎ ((r.x30 ≡ 1) × (n.kh ≡ length k.list))
     last (inl none) = inl none
@@ -33,7 +33,7 @@ middle_18 k i count n word r v is order words find h =
     let line = line_18 (whole_of k count) r (omega (arith, is.even, h.0.visits.base)) (omega (arith, is.inside, is.some_slot, h.0.visits.base)) is.small in
     let seen : v ≡ offset k n.c = find (k.base + 8) (word_of k is 8 (omega arith) refl) (line.wants ∙ ap (λ b. loads (b + 8)) h.0.visits.base) ∙ seen_tail k n word order words h.0.open_yet in
     reads lamport_blocks k i count n order r v Pc18 Pc1C (r.x8 + 8) (λ w. record r { x7 = w }) refl line
-    (opened_noted lamport_blocks k i count n order r v h.0 r.x5 r.x6 v r.x10 r.x11 r.x17 r.x20 r.x28 r.x30, (record { head = h.1.head; from = h.1.from; to = h.1.to; is = h.1.is; last = h.1.last }, seen))
+    (h.0, (record { head = h.1.head; from = h.1.from; to = h.1.to; is = h.1.is; last = h.1.last }, seen))
 
 -- equal offsets mean that nothing is there: head and tail are less than a round apart
 pub middle_1C : MiddleMoves lamport_blocks Pc1C
@@ -57,7 +57,7 @@ middle_1C k i count n word r v is order words find h =
 pub middle_20 : MiddleMoves lamport_blocks Pc20
 middle_20 k i count n word r v is order words find h =
     still lamport_blocks k i count n order r v Pc20 Pc24 (record r { x28 = r.x8 + r.x7 }) refl (line_20 (whole_of k count) r (omega (arith, is.inside, is.small, h.0.visits.base, h.1.1, offset_low k is n.c)))
-    (opened_noted lamport_blocks k i count n order r v h.0 r.x5 r.x6 r.x7 r.x10 r.x11 r.x17 r.x20 (r.x8 + r.x7) r.x30, (h.1.0, h.1.1, (let same : r.x8 + r.x7 ≡ k.base + r.x7 = omega (arith, h.0.visits.base) in same)))
+    (h.0, (h.1.0, h.1.1, (let same : r.x8 + r.x7 ≡ k.base + r.x7 = omega (arith, h.0.visits.base) in same)))
 
 -- the slot has landed, and no later store to it is made
 pub middle_24 : MiddleMoves lamport_blocks Pc24

@@ -41,4 +41,3 @@ module _ (m : BlockMeaning) (k : Block) (i count : ℕ) (n : m.Count) (order : m
     says = inl (refl, refl, refl);
     counts = counts;
   }
-

@@ -44,13 +44,13 @@ pub record Quiet (m : BlockMeaning) (n : m.Count) : Type 0 where
   pub closed : m.shut n ≡ m.dones n
   pub level : m.Level n
 
-pub record Visits (k : Block) (i : ℕ) (r : Noted) : Type 0 where
-  pub base : r.x8 ≡ k.base
-  pub index : r.x22 ≡ i
+pub record Visits (k : Block) (i x8 x22 : ℕ) : Type 0 where
+  pub base : x8 ≡ k.base
+  pub index : x22 ≡ i
 
 -- it visits a block that is not done
-pub record Opened (m : BlockMeaning) (k : Block) (i : ℕ) (n : m.Count) (r : Noted) : Type 0 where
-  pub visits : Visits k i r
+pub record Opened (m : BlockMeaning) (k : Block) (i : ℕ) (n : m.Count) (x8 x22 : ℕ) : Type 0 where
+  pub visits : Visits k i x8 x22
   pub quiet : Quiet m n
   pub open_yet : m.dones n ≡ 0
 
@@ -59,26 +59,26 @@ abbrev pub Flag : (m : BlockMeaning) → m.Count → Noted → Type 0
 Flag m n r = (r.x30 ≡ 0) ⊎ ((r.x30 ≡ 1) × (m.marks n ≡ 1))
 
 -- the word is in x11, and its tail is not stored
-pub record Has (m : BlockMeaning) (k : Block) (i : ℕ) (n : m.Count) (r : Noted) : Type 0 where
-  pub visits : Visits k i r
+pub record Has (m : BlockMeaning) (k : Block) (i : ℕ) (n : m.Count) (x8 x22 x11 : ℕ) : Type 0 where
+  pub visits : Visits k i x8 x22
   pub ahead : m.took n ≡ m.tails n
   pub closed : m.shut n ≡ m.dones n
   pub open_yet : m.dones n ≡ 0
   pub filled : m.Filled k n
-  pub word : r.x11 ≡ slice_index k.list (m.tails n)
+  pub word : x11 ≡ slice_index k.list (m.tails n)
 
 -- the tail is stored and the word not reported
-pub record Taking (m : BlockMeaning) (k : Block) (i : ℕ) (n : m.Count) (r : Noted) : Type 0 where
-  pub visits : Visits k i r
+pub record Taking (m : BlockMeaning) (k : Block) (i : ℕ) (n : m.Count) (x8 x22 x11 : ℕ) : Type 0 where
+  pub visits : Visits k i x8 x22
   pub level : m.Level n
   pub ahead : m.tails n ≡ m.took n + 1
   pub closed : m.shut n ≡ m.dones n
   pub open_yet : m.dones n ≡ 0
-  pub word : r.x11 ≡ slice_index k.list (m.took n)
+  pub word : x11 ≡ slice_index k.list (m.took n)
 
 -- the done word is stored and the closing not reported
-pub record Closing (m : BlockMeaning) (k : Block) (i : ℕ) (n : m.Count) (r : Noted) : Type 0 where
-  pub visits : Visits k i r
+pub record Closing (m : BlockMeaning) (k : Block) (i : ℕ) (n : m.Count) (x8 x22 : ℕ) : Type 0 where
+  pub visits : Visits k i x8 x22
   pub level : m.Level n
   pub words : m.took n ≡ m.tails n
   pub all : m.tails n ≡ length k.list
@@ -88,31 +88,31 @@ pub record Closing (m : BlockMeaning) (k : Block) (i : ℕ) (n : m.Count) (r : N
 abbrev pub ReceiverIs : (m : BlockMeaning) → Block → ℕ → ReceiverPlace → m.Count → Noted → Type 0
 ReceiverIs m k i Pc00 n r = Quiet m n
 ReceiverIs m k i Pc04 n r = Quiet m n × (r.x8 ≡ 0)
-ReceiverIs m k i Pc08 n r = Quiet m n × Visits k i r
-ReceiverIs m k i Pc0C n r = Quiet m n × Visits k i r × (r.x5 ≡ m.dones n)
-ReceiverIs m k i Pc10 n r = Opened m k i n r
-ReceiverIs m k i Pc14 n r = Opened m k i n r × Flag m n r
-ReceiverIs m k i Pc18 n r = Opened m k i n r × m.At18 k n r
-ReceiverIs m k i Pc1C n r = Opened m k i n r × m.At1C k n r
-ReceiverIs m k i Pc20 n r = Opened m k i n r × m.At20 k n r
-ReceiverIs m k i Pc24 n r = Opened m k i n r × m.At24 k n r
-ReceiverIs m k i Pc28 n r = Has m k i n r × (r.x7 ≡ offset k (m.tails n))
-ReceiverIs m k i Pc2C n r = Has m k i n r × (r.x7 ≡ offset k (m.tails n) + 4)
-ReceiverIs m k i Pc30 n r = Has m k i n r × (offset k (m.tails n) + 4 ≡ 4 * k.size)
-ReceiverIs m k i Pc34 n r = Has m k i n r × (r.x7 ≡ offset k (m.tails n + 1))
-ReceiverIs m k i Pc38 n r = Taking m k i n r
-ReceiverIs m k i Pc3C n r = Taking m k i n r × (r.x10 ≡ i)
-ReceiverIs m k i Pc40 n r = Taking m k i n r × (r.x10 ≡ i) × (r.x17 ≡ 2)
-ReceiverIs m k i Pc44 n r = Quiet m n × Visits k i r
-ReceiverIs m k i Pc48 n r = Opened m k i n r × ((r.x30 ≡ 0) ⊎ (m.tails n ≡ length k.list))
-ReceiverIs m k i Pc4C n r = Opened m k i n r × (m.tails n ≡ length k.list)
-ReceiverIs m k i Pc50 n r = Opened m k i n r × (m.tails n ≡ length k.list) × (r.x5 ≡ 1)
-ReceiverIs m k i Pc54 n r = Closing m k i n r
-ReceiverIs m k i Pc58 n r = Closing m k i n r × (r.x10 ≡ i)
-ReceiverIs m k i Pc5C n r = Closing m k i n r × (r.x10 ≡ i) × (r.x17 ≡ 3)
-ReceiverIs m k i Pc60 n r = Quiet m n × Visits k i r
-ReceiverIs m k i Pc64 n r = Quiet m n × Visits k i r
-ReceiverIs m k i Pc68 n r = Quiet m n × Visits k i r
+ReceiverIs m k i Pc08 n r = Quiet m n × Visits k i r.x8 r.x22
+ReceiverIs m k i Pc0C n r = Quiet m n × Visits k i r.x8 r.x22 × (r.x5 ≡ m.dones n)
+ReceiverIs m k i Pc10 n r = Opened m k i n r.x8 r.x22
+ReceiverIs m k i Pc14 n r = Opened m k i n r.x8 r.x22 × Flag m n r
+ReceiverIs m k i Pc18 n r = Opened m k i n r.x8 r.x22 × m.At18 k n r
+ReceiverIs m k i Pc1C n r = Opened m k i n r.x8 r.x22 × m.At1C k n r
+ReceiverIs m k i Pc20 n r = Opened m k i n r.x8 r.x22 × m.At20 k n r
+ReceiverIs m k i Pc24 n r = Opened m k i n r.x8 r.x22 × m.At24 k n r
+ReceiverIs m k i Pc28 n r = Has m k i n r.x8 r.x22 r.x11 × (r.x7 ≡ offset k (m.tails n))
+ReceiverIs m k i Pc2C n r = Has m k i n r.x8 r.x22 r.x11 × (r.x7 ≡ offset k (m.tails n) + 4)
+ReceiverIs m k i Pc30 n r = Has m k i n r.x8 r.x22 r.x11 × (offset k (m.tails n) + 4 ≡ 4 * k.size)
+ReceiverIs m k i Pc34 n r = Has m k i n r.x8 r.x22 r.x11 × (r.x7 ≡ offset k (m.tails n + 1))
+ReceiverIs m k i Pc38 n r = Taking m k i n r.x8 r.x22 r.x11
+ReceiverIs m k i Pc3C n r = Taking m k i n r.x8 r.x22 r.x11 × (r.x10 ≡ i)
+ReceiverIs m k i Pc40 n r = Taking m k i n r.x8 r.x22 r.x11 × (r.x10 ≡ i) × (r.x17 ≡ 2)
+ReceiverIs m k i Pc44 n r = Quiet m n × Visits k i r.x8 r.x22
+ReceiverIs m k i Pc48 n r = Opened m k i n r.x8 r.x22 × ((r.x30 ≡ 0) ⊎ (m.tails n ≡ length k.list))
+ReceiverIs m k i Pc4C n r = Opened m k i n r.x8 r.x22 × (m.tails n ≡ length k.list)
+ReceiverIs m k i Pc50 n r = Opened m k i n r.x8 r.x22 × (m.tails n ≡ length k.list) × (r.x5 ≡ 1)
+ReceiverIs m k i Pc54 n r = Closing m k i n r.x8 r.x22
+ReceiverIs m k i Pc58 n r = Closing m k i n r.x8 r.x22 × (r.x10 ≡ i)
+ReceiverIs m k i Pc5C n r = Closing m k i n r.x8 r.x22 × (r.x10 ≡ i) × (r.x17 ≡ 3)
+ReceiverIs m k i Pc60 n r = Quiet m n × Visits k i r.x8 r.x22
+ReceiverIs m k i Pc64 n r = Quiet m n × Visits k i r.x8 r.x22
+ReceiverIs m k i Pc68 n r = Quiet m n × Visits k i r.x8 r.x22
 ReceiverIs m k i Pc6C n r = Quiet m n × (r.x22 ≡ i) × (r.x8 ≡ k.base + block_size k.size)
 ReceiverIs m k i Pc70 n r = Quiet m n × (r.x22 ≡ i + 1) × (r.x8 ≡ k.base + block_size k.size)
 ReceiverIs m k i Pc74 n r = Quiet m n
