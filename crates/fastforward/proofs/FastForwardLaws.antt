@@ -10,17 +10,22 @@ use Rattle.poll_close.proofs.Outlines.{Reasons, Right, sends}
 use Rattle.poll_close.proofs.ChannelLaws.{opens, keeps, cleans, goes}
 use Rattle.fastforward.specs.Listing.{sender_code}
 use Rattle.fastforward.specs.FastForward.{fastforward, fastforward_blocks, fastforward_means}
-use Rattle.fastforward.specs.Invariant.Numbers.{Numbers, sent, gone, taken, freed, Ordered, Words, pending_of, unread_of}
+use Rattle.fastforward.specs.Invariant.Numbers.{Numbers, Landed, sent, gone, taken, freed, Ordered, Words}
+use Rattle.fastforward.specs.Invariant.Sender.{sender}
 use Rattle.fastforward.proofs.Stores.{sender_stores_are, receiver_stores_are}
 use Rattle.fastforward.proofs.Landings.{sender_lands, receiver_lands}
 use Rattle.fastforward.proofs.Sender.{fastforward_sender}
 use Rattle.fastforward.proofs.Sender as row
 use Rattle.fastforward.proofs.ReceiverReads.{seen_mark, seen_done}
-use Rattle.fastforward.proofs.ReceiverActs.{stores_tail, stores_done, reported, level_stays, filled_stays, stays_18, stays_1C, stays_20, stays_24}
+use Rattle.fastforward.proofs.ReceiverActs.{stores_tail, stores_done, reported}
 use Rattle.fastforward.proofs.MiddleMoves.{middle_14, middle_18, middle_1C, middle_20, middle_24}
 
 abbrev nothing : Numbers
-nothing = record { made = record { g = 0; p = 0; m = 0; seen = 0 }; ls = 0; km = 0; u = 0; c = 0; d = 0; ln = 0; kc = 0; kd = 0; took = 0; shut = 0 }
+nothing = record {
+  sender = record { asked = 0; stored = 0; marked = 0; seen = 0 };
+  receiver = record { nulls = 0; tails = 0; done = 0; took = 0; shut = 0; seen = 0; mark = 0 };
+  landed = record { slots = 0; mark = 0; nulls = 0; tails = 0; done = 0 };
+}
 
 begins : (k : Block) → IsBlock k → Begins fastforward_blocks k (opens_with sender_code k)
 begins k is = record {
@@ -37,7 +42,7 @@ begins k is = record {
   shut = refl;
 }
 
-words_same : (k : Block) (n : Numbers) (word new : ℕ → ℕ) → IsBlock k → ((a : ℕ) → Within k a → new a ≡ word a) → Words k n word → Words k n new
+words_same : (k : Block) (n : Landed) (word new : ℕ → ℕ) → IsBlock k → ((a : ℕ) → Within k a → new a ≡ word a) → Words k n word → Words k n new
 words_same k n word new is same w = record {
   mark = same (k.base + 4) (word_of k is 4 (omega arith) refl).within ∙ w.mark;
   tail = same (k.base + 8) (word_of k is 8 (omega arith) refl).within ∙ w.tail;
@@ -47,29 +52,22 @@ words_same k n word new is same w = record {
 }
 
 -- the reason of each row of the sender's outline
-pub reasons : (k : Block) (n : Numbers) (word : ℕ → ℕ) (v : ℕ) (r : Written) → IsBlock k → Ordered k n → Words k n word → Reasons (Right fastforward_blocks fastforward_sender k n word v r) fastforward_sender.outline.rows
+pub reasons : (k : Block) (n : Numbers) (word : ℕ → ℕ) (v : ℕ) (r : Written) → IsBlock k → Ordered k n → Words k n.landed word → Reasons (Right fastforward_blocks fastforward_sender k n word v r) sender.rows
 reasons k n word v r is order words = (row.right_00 k n word v r is order words, (row.right_04 k n word v r is order words, (row.right_08 k n word v r is order words, (row.right_0C k n word v r is order words, (row.right_10 k n word v r is order words, (row.right_14 k n word v r is order words, (row.right_18 k n word v r is order words, (row.right_1C k n word v r is order words, (row.right_20 k n word v r is order words, (row.right_24 k n word v r is order words, (row.right_28 k n word v r is order words, (row.right_2C k n word v r is order words, (row.right_30 k n word v r is order words, (row.right_34 k n word v r is order words, (row.right_38 k n word v r is order words, tt)))))))))))))))
 
-pub fastforward_laws : BlockLaws fastforward_blocks sender_code
+pub fastforward_laws : BlockLaws fastforward_blocks
 fastforward_laws = record {
   begins = begins;
-  tails_all = λ k n order. omega (arith, order.c_u, order.u_ls, order.ls_p, order.p_all);
-  dones_one = λ k n order. order.d_one;
-  marks_one = λ k n order. omega (arith, order.km_m, order.m_one);
-  filled_more = λ k n order filled. omega (arith, filled, order.u_ls, order.ls_p, order.p_all);
-  unsent_are = λ k n is order. sender_stores_are k is (gone n) (sent n);
-  unread_are = λ k n is order. receiver_stores_are k is (freed n) (taken n);
+  tails_all = λ k n order. omega (arith, order.tails_nulls, order.nulls_slots, order.slots_landed, order.stored_all);
+  dones_one = λ k n order. order.done_one;
+  marks_one = λ k n order. omega (arith, order.mark_landed, order.marked_one);
+  filled_more = λ k n order filled. omega (arith, filled, order.nulls_slots, order.slots_landed, order.stored_all);
+  unsent_are = λ k n is order. sender_stores_are k is (gone n.landed) (sent n.sender);
+  unread_are = λ k n is order. receiver_stores_are k is (freed n.landed) (taken n.receiver);
   words_same = words_same;
-  later_same = λ n. (refl, omega arith);
-  level_stays = level_stays;
-  filled_stays = filled_stays;
-  stays_18 = stays_18;
-  stays_1C = stays_1C;
-  stays_20 = stays_20;
-  stays_24 = stays_24;
   sends = λ k n s word v is order words st running find. sends fastforward_blocks fastforward_sender reasons k n s word v is order words st running find;
-  sender_lands = λ k n word new x rest is order words oldest write. sender_lands k is n order word new words (unread_of k n) refl x rest oldest write;
-  receiver_lands = λ k n word new x rest is order words oldest write. receiver_lands k is n order word new words (pending_of k n) refl x rest oldest write;
+  sender_lands = λ k n word new x rest is order words oldest write. sender_lands k is n order word new words x rest oldest write;
+  receiver_lands = λ k n word new x rest is order words oldest write. receiver_lands k is n order word new words x rest oldest write;
   sees_done = λ k n word order words. seen_done k n word order words;
   sees_mark = λ k n word order words. seen_mark k n word order words;
   stores_tail = λ k n order filled on. stores_tail k n order filled on;
@@ -86,13 +84,13 @@ pub fastforward_short : AreShort fastforward
 fastforward_short = (lit≤ tt, lit≤ tt)
 
 pub fastforward_opens : Opens fastforward fastforward_means
-fastforward_opens = opens fastforward_blocks sender_code fastforward_laws 1 (lit≤ tt)
+fastforward_opens = opens fastforward_blocks fastforward_laws 1 (lit≤ tt)
 
 pub fastforward_keeps : Keeps fastforward fastforward_means
-fastforward_keeps = keeps fastforward_blocks sender_code fastforward_laws 1 (lit≤ tt)
+fastforward_keeps = keeps fastforward_blocks fastforward_laws 1 (lit≤ tt)
 
 pub fastforward_cleans : Cleans fastforward fastforward_means
-fastforward_cleans = cleans fastforward_blocks sender_code fastforward_laws 1 (lit≤ tt)
+fastforward_cleans = cleans fastforward_blocks fastforward_laws 1 (lit≤ tt)
 
 pub fastforward_goes : Goes fastforward fastforward_means
-fastforward_goes = goes fastforward_blocks sender_code fastforward_laws 1 (lit≤ tt)
+fastforward_goes = goes fastforward_blocks fastforward_laws 1 (lit≤ tt)

@@ -11,21 +11,21 @@ use Rattle.fastforward.specs.Invariant.Stores.{receiver_stores}
 use Rattle.fastforward.specs.Invariant.Numbers.{Numbers, taken, freed, Ordered, Words, unread_of}
 use Rattle.fastforward.proofs.Stores.{slots_apart, slot_again, store_null, store_tail, store_done, place_at}
 
-module _ (k : Block) (n : Numbers) (word : ℕ → ℕ) (order : Ordered k n) (words : Words k n word) where
+module _ (k : Block) (n : Numbers) (word : ℕ → ℕ) (order : Ordered k n) (words : Words k n.landed word) where
   -- where no pending store goes to the address, the word of memory
-  in_memory : (a : ℕ) → ((t : ℕ) (x : ℕ × ℕ) → freed n ≤ t → t < taken n → slice_get (receiver_stores k.size k.base k.list) t ≡ Some x → x.0 ≢ a) → found_in (unread_of k n) word a ≡ word a
-  in_memory a none = ap (λ o. unwrap_or o (word a)) (newest_none a None (unread_of k n) (Each-range (λ x. x.0 ≢ a) (receiver_stores k.size k.base k.list) (freed n) (taken n) none))
+  in_memory : (a : ℕ) → ((t : ℕ) (x : ℕ × ℕ) → freed n.landed ≤ t → t < taken n.receiver → slice_get (receiver_stores k.size k.base k.list) t ≡ Some x → x.0 ≢ a) → found_in (unread_of k n.receiver n.landed) word a ≡ word a
+  in_memory a none = ap (λ o. unwrap_or o (word a)) (newest_none a None (unread_of k n.receiver n.landed) (Each-range (λ x. x.0 ≢ a) (receiver_stores k.size k.base k.list) (freed n.landed) (taken n.receiver) none))
 
-  none_pending : (a : ℕ) → taken n ≤ freed n → found_in (unread_of k n) word a ≡ word a
-  none_pending a all = ap (λ ps. unwrap_or (newest_to a None ps) (word a)) (window_empty (receiver_stores k.size k.base k.list) (freed n) (taken n) all)
+  none_pending : (a : ℕ) → taken n.receiver ≤ freed n.landed → found_in (unread_of k n.receiver n.landed) word a ≡ word a
+  none_pending a all = ap (λ ps. unwrap_or (newest_to a None ps) (word a)) (window_empty (receiver_stores k.size k.base k.list) (freed n.landed) (taken n.receiver) all)
 
   -- where the last pending store goes to the address, its word
-  last_made : (a v t : ℕ) → taken n ≡ suc t → freed n ≤ t → slice_get (receiver_stores k.size k.base k.list) t ≡ Some (a, v) → found_in (unread_of k n) word a ≡ v
+  last_made : (a v t : ℕ) → taken n.receiver ≡ suc t → freed n.landed ≤ t → slice_get (receiver_stores k.size k.base k.list) t ≡ Some (a, v) → found_in (unread_of k n.receiver n.landed) word a ≡ v
   last_made a v t last pending store =
-      ap (λ j. unwrap_or (newest_to a None (window (receiver_stores k.size k.base k.list) (freed n) j)) (word a)) last
-      ∙ ap (λ o. unwrap_or o (word a)) (newest_made (receiver_stores k.size k.base k.list) (freed n) t a v pending store)
+      ap (λ j. unwrap_or (newest_to a None (window (receiver_stores k.size k.base k.list) (freed n.landed) j)) (word a)) last
+      ∙ ap (λ o. unwrap_or o (word a)) (newest_made (receiver_stores k.size k.base k.list) (freed n.landed) t a v pending store)
 
-  pub seen_mark : found_in (unread_of k n) word (k.base + 4) ≡ n.km
+  pub seen_mark : found_in (unread_of k n.receiver n.landed) word (k.base + 4) ≡ n.landed.mark
   seen_mark = in_memory (k.base + 4) (λ t x from below got. differs t x (place_at k.size k.base k.list t x got)) ∙ words.mark
     where
       differs : (t : ℕ) (x : ℕ × ℕ) → (x.0 ≡ k.base + 8) ⊎ (((x.0 ≡ k.base + 12) × (t ≡ 2 * length k.list)) ⊎ ((s : ℕ) × (t ≡ 2 * s) × (x.0 ≡ slot k.size k.base s))) → x.0 ≢ k.base + 4
@@ -33,62 +33,62 @@ module _ (k : Block) (n : Numbers) (word : ℕ → ℕ) (order : Ordered k n) (w
       differs t x (inr (inl done)) same = omega (arith, done.0)
       differs t x (inr (inr null)) same = omega (arith, null.2)
 
-  pub seen_tail : n.u ≡ n.c → n.d ≡ 0 → found_in (unread_of k n) word (k.base + 8) ≡ offset k n.c
-  seen_tail level on = at n.c refl (cases_lt n.kc n.c)
+  pub seen_tail : n.receiver.nulls ≡ n.receiver.tails → n.receiver.done ≡ 0 → found_in (unread_of k n.receiver n.landed) word (k.base + 8) ≡ offset k n.receiver.tails
+  seen_tail level on = at n.receiver.tails refl (cases_lt n.landed.tails n.receiver.tails)
     where
-      at : (c : ℕ) → c ≡ n.c → (n.kc < n.c) ⊎ (n.c ≤ n.kc) → found_in (unread_of k n) word (k.base + 8) ≡ offset k n.c
+      at : (c : ℕ) → c ≡ n.receiver.tails → (n.landed.tails < n.receiver.tails) ⊎ (n.receiver.tails ≤ n.landed.tails) → found_in (unread_of k n.receiver n.landed) word (k.base + 8) ≡ offset k n.receiver.tails
       at c is (inr none) =
-          let same : n.kc ≡ n.c = omega (arith, order.kc_c) in
-          none_pending (k.base + 8) (omega (arith, same, level, on, order.kc_ln)) ∙ words.tail ∙ ap (offset k) same
+          let same : n.landed.tails ≡ n.receiver.tails = omega (arith, order.tails_landed) in
+          none_pending (k.base + 8) (omega (arith, same, level, on, order.tail_after)) ∙ words.tail ∙ ap (offset k) same
       at zero is (inl some) = absurd (omega arith)
       at (suc c) is (inl some) =
-          let next : c + 1 ≡ n.c = omega arith in
-          last_made (k.base + 8) (offset k (c + 1)) (2 * c + 1) (omega (arith, level, on, is)) (omega (arith, is, some, on, order.kd_d, order.ln_kc)) (store_tail k.size k.base k.list c (2 * c + 1) (omega (arith, is, order.c_u, order.u_ls, order.ls_p, order.p_all)) refl)
+          let next : c + 1 ≡ n.receiver.tails = omega arith in
+          last_made (k.base + 8) (offset k (c + 1)) (2 * c + 1) (omega (arith, level, on, is)) (omega (arith, is, some, on, order.done_landed, order.null_before)) (store_tail k.size k.base k.list c (2 * c + 1) (omega (arith, is, order.tails_nulls, order.nulls_slots, order.slots_landed, order.stored_all)) refl)
           ∙ ap (offset k) next
 
-  pub seen_done : found_in (unread_of k n) word (k.base + 12) ≡ n.d
-  seen_done = at (cases_eq n.d 0) (cases_eq n.kd 0)
+  pub seen_done : found_in (unread_of k n.receiver n.landed) word (k.base + 12) ≡ n.receiver.done
+  seen_done = at (cases_eq n.receiver.done 0) (cases_eq n.landed.done 0)
     where
-      nulls_all : n.u ≤ length k.list
-      nulls_all = omega (arith, order.u_ls, order.ls_p, order.p_all)
+      nulls_all : n.receiver.nulls ≤ length k.list
+      nulls_all = omega (arith, order.nulls_slots, order.slots_landed, order.stored_all)
 
       differs : (t : ℕ) (x : ℕ × ℕ) → t < 2 * length k.list → (x.0 ≡ k.base + 8) ⊎ (((x.0 ≡ k.base + 12) × (t ≡ 2 * length k.list)) ⊎ ((s : ℕ) × (t ≡ 2 * s) × (x.0 ≡ slot k.size k.base s))) → x.0 ≢ k.base + 12
       differs t x below (inl tail) same = omega arith
       differs t x below (inr (inl done)) same = omega (arith, below, done.1)
       differs t x below (inr (inr null)) same = omega (arith, null.2)
 
-      at : (n.d ≡ 0) ⊎ (n.d ≢ 0) → (n.kd ≡ 0) ⊎ (n.kd ≢ 0) → found_in (unread_of k n) word (k.base + 12) ≡ n.d
+      at : (n.receiver.done ≡ 0) ⊎ (n.receiver.done ≢ 0) → (n.landed.done ≡ 0) ⊎ (n.landed.done ≢ 0) → found_in (unread_of k n.receiver n.landed) word (k.base + 12) ≡ n.receiver.done
       at (inl none) kd =
-          in_memory (k.base + 12) (λ t x from below got. differs t x (omega (arith, below, none, nulls_all, order.c_u)) (place_at k.size k.base k.list t x got))
-          ∙ words.done ∙ (let same : n.kd ≡ n.d = omega (arith, order.kd_d) in same)
+          in_memory (k.base + 12) (λ t x from below got. differs t x (omega (arith, below, none, nulls_all, order.tails_nulls)) (place_at k.size k.base k.list t x got))
+          ∙ words.done ∙ (let same : n.landed.done ≡ n.receiver.done = omega (arith, order.done_landed) in same)
       at (inr one) (inr landed) =
-          let all : n.kc ≡ length k.list = order.kd_all (omega (arith, landed)) in
-          none_pending (k.base + 12) (omega (arith, all, landed, nulls_all, order.c_u, order.kc_ln, order.d_one)) ∙ words.done ∙ (let same : n.kd ≡ n.d = omega (arith, order.kd_d, order.d_one, landed) in same)
+          let all : n.landed.tails ≡ length k.list = order.all_landed (omega (arith, landed)) in
+          none_pending (k.base + 12) (omega (arith, all, landed, nulls_all, order.tails_nulls, order.tail_after, order.done_one)) ∙ words.done ∙ (let same : n.landed.done ≡ n.receiver.done = omega (arith, order.done_landed, order.done_one, landed) in same)
       at (inr one) (inl pending) =
-          let all : n.c ≡ length k.list = order.d_all (omega (arith, one)) in
-          last_made (k.base + 12) 1 (2 * length k.list) (omega (arith, all, one, nulls_all, order.c_u, order.d_one)) (omega (arith, all, pending, nulls_all, order.ln_u, order.kc_c)) (store_done k.size k.base k.list (2 * length k.list) refl)
-          ∙ (let same : 1 ≡ n.d = omega (arith, order.d_one, one) in same)
+          let all : n.receiver.tails ≡ length k.list = order.done_all (omega (arith, one)) in
+          last_made (k.base + 12) 1 (2 * length k.list) (omega (arith, all, one, nulls_all, order.tails_nulls, order.done_one)) (omega (arith, all, pending, nulls_all, order.nulls_landed, order.tails_landed)) (store_done k.size k.base k.list (2 * length k.list) refl)
+          ∙ (let same : 1 ≡ n.receiver.done = omega (arith, order.done_one, one) in same)
 
   -- a null before that of word c, less than a round, goes to another slot
-  elsewhere : IsBlock k → (t : ℕ) (x : ℕ × ℕ) → t < 2 * n.c → ((s : ℕ) → t ≡ 2 * s → n.c < s + k.size) → (x.0 ≡ k.base + 8) ⊎ (((x.0 ≡ k.base + 12) × (t ≡ 2 * length k.list)) ⊎ ((s : ℕ) × (t ≡ 2 * s) × (x.0 ≡ slot k.size k.base s))) → x.0 ≢ slot k.size k.base n.c
+  elsewhere : IsBlock k → (t : ℕ) (x : ℕ × ℕ) → t < 2 * n.receiver.tails → ((s : ℕ) → t ≡ 2 * s → n.receiver.tails < s + k.size) → (x.0 ≡ k.base + 8) ⊎ (((x.0 ≡ k.base + 12) × (t ≡ 2 * length k.list)) ⊎ ((s : ℕ) × (t ≡ 2 * s) × (x.0 ≡ slot k.size k.base s))) → x.0 ≢ slot k.size k.base n.receiver.tails
   elsewhere is t x below near (inl tail) same = omega arith
   elsewhere is t x below near (inr (inl done)) same = omega (arith, done.0)
-  elsewhere is t x below near (inr (inr null)) same = slots_apart k.size k.base null.0 n.c is.some_slot (omega (arith, null.1, below)) (near null.0 null.1) (sym null.2 ∙ same)
+  elsewhere is t x below near (inr (inr null)) same = slots_apart k.size k.base null.0 n.receiver.tails is.some_slot (omega (arith, null.1, below)) (near null.0 null.1) (sym null.2 ∙ same)
 
-  slot_in_memory : IsBlock k → n.u ≡ n.c → n.d ≡ 0 → n.c < n.ln + k.size → found_in (unread_of k n) word (slot k.size k.base n.c) ≡ word (slot k.size k.base n.c)
-  slot_in_memory is level on near = in_memory (slot k.size k.base n.c) (λ t x from below got. elsewhere is t x (omega (arith, below, level, on)) (λ s twice. omega (arith, from, twice, near, order.ln_kc)) (place_at k.size k.base k.list t x got))
+  slot_in_memory : IsBlock k → n.receiver.nulls ≡ n.receiver.tails → n.receiver.done ≡ 0 → n.receiver.tails < n.landed.nulls + k.size → found_in (unread_of k n.receiver n.landed) word (slot k.size k.base n.receiver.tails) ≡ word (slot k.size k.base n.receiver.tails)
+  slot_in_memory is level on near = in_memory (slot k.size k.base n.receiver.tails) (λ t x from below got. elsewhere is t x (omega (arith, below, level, on)) (λ s twice. omega (arith, from, twice, near, order.null_before)) (place_at k.size k.base k.list t x got))
 
   -- where each null has its tail: word c if it has landed, else 0
-  pub seen_word : IsBlock k → n.u ≡ n.c → n.d ≡ 0 → n.c < n.ls → found_in (unread_of k n) word (slot k.size k.base n.c) ≡ slice_index k.list n.c
-  seen_word is level on more = slot_in_memory is level on (omega (arith, more, order.ls_p, order.p_ln)) ∙ words.full n.c (omega (arith, level, order.ln_u)) more
+  pub seen_word : IsBlock k → n.receiver.nulls ≡ n.receiver.tails → n.receiver.done ≡ 0 → n.receiver.tails < n.landed.slots → found_in (unread_of k n.receiver n.landed) word (slot k.size k.base n.receiver.tails) ≡ slice_index k.list n.receiver.tails
+  seen_word is level on more = slot_in_memory is level on (omega (arith, more, order.slots_landed, order.room)) ∙ words.full n.receiver.tails (omega (arith, level, order.nulls_landed)) more
 
-  pub seen_none : IsBlock k → n.u ≡ n.c → n.d ≡ 0 → n.ls ≤ n.c → found_in (unread_of k n) word (slot k.size k.base n.c) ≡ 0
-  seen_none is level on none = at (cases_lt n.c (n.ln + k.size))
+  pub seen_none : IsBlock k → n.receiver.nulls ≡ n.receiver.tails → n.receiver.done ≡ 0 → n.landed.slots ≤ n.receiver.tails → found_in (unread_of k n.receiver n.landed) word (slot k.size k.base n.receiver.tails) ≡ 0
+  seen_none is level on none = at (cases_lt n.receiver.tails (n.landed.nulls + k.size))
     where
-      at : (n.c < n.ln + k.size) ⊎ (n.ln + k.size ≤ n.c) → found_in (unread_of k n) word (slot k.size k.base n.c) ≡ 0
-      at (inl near) = slot_in_memory is level on near ∙ words.empty n.c none near
+      at : (n.receiver.tails < n.landed.nulls + k.size) ⊎ (n.landed.nulls + k.size ≤ n.receiver.tails) → found_in (unread_of k n.receiver n.landed) word (slot k.size k.base n.receiver.tails) ≡ 0
+      at (inl near) = slot_in_memory is level on near ∙ words.empty n.receiver.tails none near
       at (inr far) =
-          let round : n.c ≡ n.ln + k.size = omega (arith, far, level, order.u_ls, order.ls_p, order.p_ln) in
-          let here : slot k.size k.base n.ln ≡ slot k.size k.base n.c = sym (ap (slot k.size k.base) round ∙ slot_again k.size k.base n.ln) in
-          let store : slice_get (receiver_stores k.size k.base k.list) (2 * n.ln) ≡ Some (slot k.size k.base n.c, 0) = store_null k.size k.base k.list n.ln (2 * n.ln) (omega (arith, round, is.some_slot, order.c_u, order.u_ls, order.ls_p, order.p_all)) refl ∙ ap (λ a. Some (a, 0)) here in
-          ap (λ o. unwrap_or o (word (slot k.size k.base n.c))) (newest_at (receiver_stores k.size k.base k.list) (freed n) (2 * n.ln) (taken n) (slot k.size k.base n.c) 0 (omega (arith, on, order.kc_ln, order.kd_d)) (omega (arith, round, level, is.some_slot)) store (λ t x more below got. elsewhere is t x (omega (arith, below, level, on)) (λ s twice. omega (arith, more, twice, round)) (place_at k.size k.base k.list t x got)))
+          let round : n.receiver.tails ≡ n.landed.nulls + k.size = omega (arith, far, level, order.nulls_slots, order.slots_landed, order.room) in
+          let here : slot k.size k.base n.landed.nulls ≡ slot k.size k.base n.receiver.tails = sym (ap (slot k.size k.base) round ∙ slot_again k.size k.base n.landed.nulls) in
+          let store : slice_get (receiver_stores k.size k.base k.list) (2 * n.landed.nulls) ≡ Some (slot k.size k.base n.receiver.tails, 0) = store_null k.size k.base k.list n.landed.nulls (2 * n.landed.nulls) (omega (arith, round, is.some_slot, order.tails_nulls, order.nulls_slots, order.slots_landed, order.stored_all)) refl ∙ ap (λ a. Some (a, 0)) here in
+          ap (λ o. unwrap_or o (word (slot k.size k.base n.receiver.tails))) (newest_at (receiver_stores k.size k.base k.list) (freed n.landed) (2 * n.landed.nulls) (taken n.receiver) (slot k.size k.base n.receiver.tails) 0 (omega (arith, on, order.tail_after, order.done_landed)) (omega (arith, round, level, is.some_slot)) store (λ t x more below got. elsewhere is t x (omega (arith, below, level, on)) (λ s twice. omega (arith, more, twice, round)) (place_at k.size k.base k.list t x got)))

@@ -21,70 +21,55 @@ use Rattle.poll_close.proofs.Progress.{not_false}
 use Rattle.fastforward.specs.Listing.{sender_code, sender_lines}
 use Rattle.fastforward.specs.FastForward.{fastforward_blocks, waits}
 use Rattle.fastforward.specs.Invariant.Stores.{sender_stores}
-use Rattle.fastforward.specs.Invariant.Numbers.{Made, Numbers, sent, gone, Ordered, Words, pending_of}
-use Rattle.fastforward.specs.Invariant.Sender.{sender}
+use Rattle.fastforward.specs.Invariant.Numbers.{Sent, Numbers, sent, gone, Ordered, Words, pending_of}
 use Rattle.fastforward.proofs.Means.{sender-decoded}
 use Rattle.fastforward.proofs.Stores.{slots_apart, slot_again, store_word, store_mark, word_at}
 
-module _ (k : Block) (is : IsBlock k) (n : Numbers) (order : Ordered k n) (word : ℕ → ℕ) (words : Words k n word) where
+module _ (k : Block) (is : IsBlock k) (n : Numbers) (order : Ordered k n) (word : ℕ → ℕ) (words : Words k n.landed word) where
   -- a slot whose null is not in memory holds the word of a round before: in memory, or pending
-  full_slot : n.made.m ≡ 0 → n.made.p < length k.list → n.made.p ≡ n.ln + k.size → found_in (pending_of k n) word (slot k.size k.base n.made.p) ≡ slice_index k.list n.ln
-  full_slot unmarked more round = at (cases_eq n.ls n.ln)
+  full_slot : n.sender.marked ≡ 0 → n.sender.stored < length k.list → n.sender.stored ≡ n.landed.nulls + k.size → found_in (pending_of k n.sender n.landed) word (slot k.size k.base n.sender.stored) ≡ slice_index k.list n.landed.nulls
+  full_slot unmarked more round = at (cases_eq n.landed.slots n.landed.nulls)
     where
       place : ℕ
-      place = slot k.size k.base n.made.p
+      place = slot k.size k.base n.sender.stored
 
-      here : place ≡ slot k.size k.base n.ln
-      here = ap (slot k.size k.base) round ∙ slot_again k.size k.base n.ln
+      here : place ≡ slot k.size k.base n.landed.nulls
+      here = ap (slot k.size k.base) round ∙ slot_again k.size k.base n.landed.nulls
 
       -- no mark is made, so all that is pending are words
-      first : gone n ≡ n.ls
-      first = omega (arith, order.km_m, unmarked)
+      first : gone n.landed ≡ n.landed.slots
+      first = omega (arith, order.mark_landed, unmarked)
 
-      elsewhere : (t : ℕ) (x : ℕ × ℕ) → n.ln < t → t < sent n → slice_get (sender_stores k.size k.base k.list) t ≡ Some x → x.0 ≢ place
+      elsewhere : (t : ℕ) (x : ℕ × ℕ) → n.landed.nulls < t → t < sent n.sender → slice_get (sender_stores k.size k.base k.list) t ≡ Some x → x.0 ≢ place
       elsewhere t x above below got same =
-          let before : t < n.made.p = omega (arith, below, unmarked) in
-          slots_apart k.size k.base t n.made.p is.some_slot before (omega (arith, above, round)) (sym (word_at k.size k.base k.list t x got (omega (arith, before, more))) ∙ same)
+          let before : t < n.sender.stored = omega (arith, below, unmarked) in
+          slots_apart k.size k.base t n.sender.stored is.some_slot before (omega (arith, above, round)) (sym (word_at k.size k.base k.list t x got (omega (arith, before, more))) ∙ same)
 
-      at : (n.ls ≡ n.ln) ⊎ (n.ls ≢ n.ln) → found_in (pending_of k n) word place ≡ slice_index k.list n.ln
+      at : (n.landed.slots ≡ n.landed.nulls) ⊎ (n.landed.slots ≢ n.landed.nulls) → found_in (pending_of k n.sender n.landed) word place ≡ slice_index k.list n.landed.nulls
       at (inl none) =
-          let store : slice_get (sender_stores k.size k.base k.list) n.ln ≡ Some (place, slice_index k.list n.ln) = store_word k.size k.base k.list n.ln n.ln (omega (arith, more, round)) refl ∙ ap (λ a. Some (a, slice_index k.list n.ln)) (sym here) in
-          ap (λ o. unwrap_or o (word place)) (newest_at (sender_stores k.size k.base k.list) (gone n) n.ln (sent n) place (slice_index k.list n.ln) (omega (arith, none, first)) (omega (arith, round, is.some_slot)) store elsewhere)
+          let store : slice_get (sender_stores k.size k.base k.list) n.landed.nulls ≡ Some (place, slice_index k.list n.landed.nulls) = store_word k.size k.base k.list n.landed.nulls n.landed.nulls (omega (arith, more, round)) refl ∙ ap (λ a. Some (a, slice_index k.list n.landed.nulls)) (sym here) in
+          ap (λ o. unwrap_or o (word place)) (newest_at (sender_stores k.size k.base k.list) (gone n.landed) n.landed.nulls (sent n.sender) place (slice_index k.list n.landed.nulls) (omega (arith, none, first)) (omega (arith, round, is.some_slot)) store elsewhere)
       at (inr some) =
-          ap (λ o. unwrap_or o (word place)) (newest_none place None (pending_of k n) (Each-range (λ x. x.0 ≢ place) (sender_stores k.size k.base k.list) (gone n) (sent n) (λ t x from below got. elsewhere t x (omega (arith, from, first, some, order.ln_u, order.u_ls)) below got)))
-          ∙ ap word here ∙ words.full n.ln (omega arith) (omega (arith, some, order.ln_u, order.u_ls))
+          ap (λ o. unwrap_or o (word place)) (newest_none place None (pending_of k n.sender n.landed) (Each-range (λ x. x.0 ≢ place) (sender_stores k.size k.base k.list) (gone n.landed) (sent n.sender) (λ t x from below got. elsewhere t x (omega (arith, from, first, some, order.nulls_landed, order.nulls_slots)) below got)))
+          ∙ ap word here ∙ words.full n.landed.nulls (omega arith) (omega (arith, some, order.nulls_landed, order.nulls_slots))
 
   -- so where it reads 0 the slot is free, since no word is 0
-  found_free : (v : ℕ) → n.made.m ≡ 0 → n.made.p < length k.list → v ≡ found_in (pending_of k n) word (slot k.size k.base n.made.p) → v ≡ 0 → n.made.p + 1 ≤ n.ln + k.size
+  found_free : (v : ℕ) → n.sender.marked ≡ 0 → n.sender.stored < length k.list → v ≡ found_in (pending_of k n.sender n.landed) word (slot k.size k.base n.sender.stored) → v ≡ 0 → n.sender.stored + 1 ≤ n.landed.nulls + k.size
   found_free v unmarked more read zero_is =
-      elim (cases_eq n.made.p (n.ln + k.size)) [
-        | inl round ↦ absurd (is.full n.ln (omega (arith, more, round)) (sym (full_slot unmarked more round) ∙ sym read ∙ zero_is))
-        | inr free ↦ omega (arith, order.p_ln)
+      elim (cases_eq n.sender.stored (n.landed.nulls + k.size)) [
+        | inl round ↦ absurd (is.full n.landed.nulls (omega (arith, more, round)) (sym (full_slot unmarked more round) ∙ sym read ∙ zero_is))
+        | inr free ↦ omega (arith, order.room)
       ]
 
--- its own among a block's numbers
 abbrev pub fastforward_sender : Sender fastforward_blocks
-fastforward_sender = record {
-  outline = sender;
-  lines = sender_lines;
-  decoded = sender-decoded;
-  waits = waits;
-  own = λ n. n.made;
-  with_own = λ n made. record n { made = made };
-  same = λ n. refl;
-  stands_by = λ k n s st. st;
-  by_standing = λ k n made s st. st;
-  words = λ k n made word w. record { mark = w.mark; tail = w.tail; done = w.done; full = w.full; empty = w.empty };
-  unread = λ k n made. refl;
-  grows = λ n made. record { tails = refl; dones = refl; took = refl; shut = refl; marks = omega arith; later = (refl, omega arith) };
-}
+fastforward_sender = record { lines = sender_lines; decoded = sender-decoded; waits = waits }
 
-module _ (k : Block) (n : Numbers) (word : ℕ → ℕ) (v : ℕ) (r : Written) (is : IsBlock k) (order : Ordered k n) (words : Words k n word) where
+module _ (k : Block) (n : Numbers) (word : ℕ → ℕ) (v : ℕ) (r : Written) (is : IsBlock k) (order : Ordered k n) (words : Words k n.landed word) where
   -- a store joins those that are pending
-  joins : (x : ℕ × ℕ) (later : ℕ) → later ≡ suc (sent n) → slice_get (sender_stores k.size k.base k.list) (sent n) ≡ Some x → pending_of k n ++ x ∷ [] ≡ window (sender_stores k.size k.base k.list) (gone n) later
-  joins x later next store = rw next (window_made (sender_stores k.size k.base k.list) (gone n) (sent n) x (omega (arith, order.ls_p, order.km_m)) store)
+  joins : (x : ℕ × ℕ) (later : ℕ) → later ≡ suc (sent n.sender) → slice_get (sender_stores k.size k.base k.list) (sent n.sender) ≡ Some x → pending_of k n.sender n.landed ++ x ∷ [] ≡ window (sender_stores k.size k.base k.list) (gone n.landed) later
+  joins x later next store = rw next (window_made (sender_stores k.size k.base k.list) (gone n.landed) (sent n.sender) x (omega (arith, order.slots_landed, order.mark_landed)) store)
 
-  at : (j : ℕ) {i : Instr} → slice_get (map Some sender_lines) j ≡ Some (Some i) → IsAt (running sender_code (fixed k) (4 * j) r (drop n.made.g k.list)) i
+  at : (j : ℕ) {i : Instr} → slice_get (map Some sender_lines) j ≡ Some (Some i) → IsAt (running sender_code (fixed k) (4 * j) r (drop n.sender.asked k.list)) i
   at j found = outline.at fastforward_blocks fastforward_sender k n word v r j found
 
   goes : {here : ℕ} → outline.GoesBy fastforward_blocks fastforward_sender k n word v r here
@@ -101,18 +86,18 @@ module _ (k : Block) (n : Numbers) (word : ℕ → ℕ) (v : ℕ) (r : Written) 
 
   pub right_04 : Right_at 0x04  -- ecall
   right_04 h =
-      elim (cases_lt n.made.p (length k.list)) [
+      elim (cases_lt n.sender.stored (length k.list)) [
         | inl more ↦
-            let w : ℕ = slice_index k.list n.made.g in
-            let made : Made = record n.made { g = suc n.made.g } in
-            let before : length (drop n.made.g k.list) ≡ _ = length-drop n.made.g k.list in
-            let after : length (drop (suc n.made.g) k.list) ≡ _ = length-drop (suc n.made.g) k.list in
-            goes 0x08 (need.Next (Some w)) made (λ u. record r { x10 = w; x11 = 1 }) tt (line_04-word sender_code (lit< tt) (fixed k) r (λ inbox. outline.at_in fastforward_blocks fastforward_sender k n word v r r inbox 1 refl) h.2 k.list n.made.g (omega (arith, h.0.taken))) (omega arith) (append-nil (pending_of k n))
+            let w : ℕ = slice_index k.list n.sender.asked in
+            let made : Sent = record n.sender { asked = suc n.sender.asked } in
+            let before : length (drop n.sender.asked k.list) ≡ _ = length-drop n.sender.asked k.list in
+            let after : length (drop (suc n.sender.asked) k.list) ≡ _ = length-drop (suc n.sender.asked) k.list in
+            goes 0x08 (need.Next (Some w)) made (λ u. record r { x10 = w; x11 = 1 }) tt (line_04-word sender_code (lit< tt) (fixed k) r (λ inbox. outline.at_in fastforward_blocks fastforward_sender k n word v r r inbox 1 refl) h.2 k.list n.sender.asked (omega (arith, h.0.taken))) (omega arith) (append-nil (pending_of k n.sender n.landed))
             (record { unmarked = h.0.unmarked; index = h.1; answer = inl (refl, omega (arith, h.0.taken), more, ap (slice_index k.list) h.0.taken) })
             (λ free. omega (arith, before, after, more, h.0.taken))
         | inr all ↦
-            goes 0x08 (need.Next None) n.made (λ u. record r { x11 = 0 }) tt (line_04-none sender_code (lit< tt) (fixed k) r (λ inbox. outline.at_in fastforward_blocks fastforward_sender k n word v r r inbox 1 refl) h.2 k.list n.made.g (omega (arith, h.0.taken))) order (append-nil (pending_of k n))
-            (record { unmarked = h.0.unmarked; index = h.1; answer = inr (refl, h.0.taken, omega (arith, all, order.p_all)) })
+            goes 0x08 (need.Next None) n.sender (λ u. record r { x11 = 0 }) tt (line_04-none sender_code (lit< tt) (fixed k) r (λ inbox. outline.at_in fastforward_blocks fastforward_sender k n word v r r inbox 1 refl) h.2 k.list n.sender.asked (omega (arith, h.0.taken))) order (append-nil (pending_of k n.sender n.landed))
+            (record { unmarked = h.0.unmarked; index = h.1; answer = inr (refl, h.0.taken, omega (arith, all, order.stored_all)) })
             (λ free. omega arith)
       ]
 
@@ -124,16 +109,16 @@ module _ (k : Block) (n : Numbers) (word : ℕ → ℕ) (v : ℕ) (r : Written) 
       ]
 
   pub right_0C : Right_at 0x0C  -- add x28,x8,x5
-  right_0C h = still 0x10 (record r { x28 = k.base + r.x5 }) (sum_line (at 3 refl) (omega (arith, is.inside, is.small, h.index, offset_low k is n.made.p))) (h, refl) (omega arith)
+  right_0C h = still 0x10 (record r { x28 = k.base + r.x5 }) (sum_line (at 3 refl) (omega (arith, is.inside, is.small, h.index, offset_low k is n.sender.stored))) (h, refl) (omega arith)
 
   -- where it reads 0 its slot is free, and it reads 0 where it doesn't wait
   pub right_10 : Right_at 0x10  -- test: lw x7,16(x28)
   right_10 h find =
-      let place : r.x28 + 16 ≡ slot k.size k.base n.made.p = omega (arith, h.1, h.0.index) in
-      let line = load_line (at 4 refl) (omega (arith, is.even, h.0.index, h.1)) refl (omega (arith, is.inside, h.0.index, h.1, offset_low k is n.made.p)) is.small in
-      let read : v ≡ found_in (pending_of k n) word (r.x28 + 16) = find (r.x28 + 16) (subst (IsWordOf k) (sym place) (slot_of k is n.made.p)) line.wants in
-      goes 0x14 (loads (r.x28 + 16)) (record n.made { seen = n.ln }) (λ u. record r { x7 = u }) tt line (omega arith) (append-nil (pending_of k n))
-      (record { taken = h.0.taken; unmarked = h.0.unmarked; within = h.0.within; word = h.0.word; index = h.0.index }, h.1, found_free k is n order word words v h.0.unmarked h.0.within (read ∙ ap (found_in (pending_of k n) word) place))
+      let place : r.x28 + 16 ≡ slot k.size k.base n.sender.stored = omega (arith, h.1, h.0.index) in
+      let line = load_line (at 4 refl) (omega (arith, is.even, h.0.index, h.1)) refl (omega (arith, is.inside, h.0.index, h.1, offset_low k is n.sender.stored)) is.small in
+      let read : v ≡ found_in (pending_of k n.sender n.landed) word (r.x28 + 16) = find (r.x28 + 16) (subst (IsWordOf k) (sym place) (slot_of k is n.sender.stored)) line.wants in
+      goes 0x14 (loads (r.x28 + 16)) (record n.sender { seen = n.landed.nulls }) (λ u. record r { x7 = u }) tt line (omega arith) (append-nil (pending_of k n.sender n.landed))
+      (record { taken = h.0.taken; unmarked = h.0.unmarked; within = h.0.within; word = h.0.word; index = h.0.index }, h.1, found_free k is n order word words v h.0.unmarked h.0.within (read ∙ ap (found_in (pending_of k n.sender n.landed) word) place))
       (λ free. let zero_is : (v == 0) ≡ true = ap (λ w. w == 0) (read ∙ ap (λ ps. found_in ps word (r.x28 + 16)) free.0) ∙ not_false (word (r.x28 + 16) == 0) free.1 in rw zero_is (omega arith))
       find
 
@@ -146,10 +131,10 @@ module _ (k : Block) (n : Numbers) (word : ℕ → ℕ) (v : ℕ) (r : Written) 
 
   pub right_18 : Right_at 0x18  -- sw x10,16(x28)
   right_18 h =
-      let place : slot k.size k.base n.made.p ≡ r.x28 + 16 = omega (arith, h.1, h.0.index) in
-      let store : slice_get (sender_stores k.size k.base k.list) (sent n) ≡ Some (r.x28 + 16, r.x10) = store_word k.size k.base k.list n.made.p (sent n) h.0.within (omega (arith, h.0.unmarked)) ∙ rw (place, h.0.word) refl in
-      goes 0x1C (stores (r.x28 + 16) r.x10) (record n.made { p = n.made.p + 1 }) (λ u. r) tt (store_line (at 6 refl) (omega (arith, is.even, h.0.index, h.1)) refl (omega (arith, is.inside, h.0.index, h.1, offset_low k is n.made.p)) is.small) (omega (arith, h.0.unmarked, h.0.within, h.2)) (joins (r.x28 + 16, r.x10) (n.made.p + 1 + n.made.m) (omega arith) store)
-      (record { between = record { taken = h.0.taken; unmarked = h.0.unmarked }; last = n.made.p; next = refl }, h.0.index)
+      let place : slot k.size k.base n.sender.stored ≡ r.x28 + 16 = omega (arith, h.1, h.0.index) in
+      let store : slice_get (sender_stores k.size k.base k.list) (sent n.sender) ≡ Some (r.x28 + 16, r.x10) = store_word k.size k.base k.list n.sender.stored (sent n.sender) h.0.within (omega (arith, h.0.unmarked)) ∙ rw (place, h.0.word) refl in
+      goes 0x1C (stores (r.x28 + 16) r.x10) (record n.sender { stored = n.sender.stored + 1 }) (λ u. r) tt (store_line (at 6 refl) (omega (arith, is.even, h.0.index, h.1)) refl (omega (arith, is.inside, h.0.index, h.1, offset_low k is n.sender.stored)) is.small) (omega (arith, h.0.unmarked, h.0.within, h.2)) (joins (r.x28 + 16, r.x10) (n.sender.stored + 1 + n.sender.marked) (omega arith) store)
+      (record { between = record { taken = h.0.taken; unmarked = h.0.unmarked }; last = n.sender.stored; next = refl }, h.0.index)
       (λ free. omega arith)
 
   pub right_1C : Right_at 0x1C  -- addi x5,x5,4
@@ -173,8 +158,8 @@ module _ (k : Block) (n : Numbers) (word : ℕ → ℕ) (v : ℕ) (r : Written) 
 
   pub right_30 : Right_at 0x30  -- sw x6,4(x8)
   right_30 h =
-      let store : slice_get (sender_stores k.size k.base k.list) (sent n) ≡ Some (k.base + 4, r.x6) = store_mark k.size k.base k.list (sent n) (omega (arith, h.0.unmarked, h.1)) ∙ rw h.2 refl in
-      goes 0x34 (stores (k.base + 4) r.x6) (record n.made { m = 1 }) (λ u. r) tt (store_line (at 12 refl) is.even refl (omega (arith, is.inside, is.some_slot)) is.small) (omega (arith, h.1)) (joins (k.base + 4, r.x6) (n.made.p + 1) (omega (arith, h.0.unmarked)) store)
+      let store : slice_get (sender_stores k.size k.base k.list) (sent n.sender) ≡ Some (k.base + 4, r.x6) = store_mark k.size k.base k.list (sent n.sender) (omega (arith, h.0.unmarked, h.1)) ∙ rw h.2 refl in
+      goes 0x34 (stores (k.base + 4) r.x6) (record n.sender { marked = 1 }) (λ u. r) tt (store_line (at 12 refl) is.even refl (omega (arith, is.inside, is.some_slot)) is.small) (omega (arith, h.1)) (joins (k.base + 4, r.x6) (n.sender.stored + 1) (omega (arith, h.0.unmarked)) store)
       (record { taken = h.0.taken ∙ h.1; all = h.1; mark = refl })
       (λ free. omega arith)
 
@@ -182,4 +167,4 @@ module _ (k : Block) (n : Numbers) (word : ℕ → ℕ) (v : ℕ) (r : Written) 
   right_34 h = still 0x38 (record r { x17 = 93 }) (add_line (at 13 refl) (word_plus 0 93 (lit< tt))) (h, refl) (omega arith)
 
   pub right_38 : Right_at 0x38  -- ecall
-  right_38 h = goes 0x3C need.Exit n.made (λ u. r) tt (record { wants = exit_need (at 14 refl) h.1; leaves = λ w. exit_after (at 14 refl) h.1 w }) order (append-nil (pending_of k n)) h.0 (λ free. omega arith)
+  right_38 h = goes 0x3C need.Exit n.sender (λ u. r) tt (record { wants = exit_need (at 14 refl) h.1; leaves = λ w. exit_after (at 14 refl) h.1 w }) order (append-nil (pending_of k n.sender n.landed)) h.0 (λ free. omega arith)

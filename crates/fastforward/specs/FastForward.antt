@@ -4,12 +4,12 @@ use Rattle.hart.specs.State.{HartState}
 use Rattle.poll_close.specs.Laws.{Ring, Meaning}
 use Rattle.poll_close.specs.Paces.{Pace}
 use Rattle.poll_close.specs.Invariant.BlockMeaning.{BlockMeaning}
-use Rattle.poll_close.specs.Invariant.Outlines.{Standing, left_of}
+use Rattle.poll_close.specs.Invariant.Outlines.{left_of}
 use Rattle.poll_close.specs.Invariant.Channels.{means_by}
 use Rattle.fastforward.specs.Listing.{sender_code, receiver_code}
-use Rattle.fastforward.specs.Invariant.Numbers.{Numbers, Ordered, Words, pending_of, unread_of}
+use Rattle.fastforward.specs.Invariant.Numbers.{Taken, Landed, Ordered, Words, pending_of, unread_of}
 use Rattle.fastforward.specs.Invariant.Sender.{sender}
-use Rattle.fastforward.specs.Invariant.Middle.{middle, Level, Filled, Later, At18, At1C, At20, At24}
+use Rattle.fastforward.specs.Invariant.Middle.{middle, Level, Filled, At18, At1C, At20, At24}
 
 -- the slots themselves say what is free, so one is enough
 abbrev pub fastforward : Ring
@@ -17,20 +17,21 @@ fastforward = record { sender = sender_code; receiver = receiver_code; least = 1
 
 abbrev pub fastforward_blocks : BlockMeaning
 fastforward_blocks = record {
-  Count = Numbers;
-  tails = λ n. n.c;
-  dones = λ n. n.d;
+  sender = sender;
+  Receiver = Taken;
+  Landed = Landed;
+  tails = λ n. n.tails;
+  dones = λ n. n.done;
   took = λ n. n.took;
   shut = λ n. n.shut;
-  marks = λ n. n.km;
+  seen_mark = λ n. n.mark;
+  marks = λ n. n.mark;
   Ordered = Ordered;
   Words = Words;
   unsent = pending_of;
   unread = unread_of;
-  Stands = λ k n s. Standing sender k n.made s;
   Level = Level;
   Filled = Filled;
-  Later = Later;
   middle = middle;
   At18 = At18;
   At1C = At1C;

@@ -23,11 +23,10 @@ use Rattle.poll_close.proofs.Outlines.{base_is, stands_at, has_ended, nearer}
 use Rattle.poll_close.proofs.Distance.{falls, two_flags, not_stale, MiddleNears, BlockProgress}
 use Rattle.poll_close.proofs.Progress.{nears}
 use Rattle.poll_close.proofs.Standing.{Sender, value_is}
-use Rattle.lamport_ring.specs.Listing.{sender_code}
 use Rattle.lamport_ring.specs.Lamport.{lamport, lamport_blocks, lamport_means, waits, stale, lamport_pace}
 use Rattle.lamport_ring.specs.Invariant.Stores.{head_store, sender_stores, receiver_stores}
 use Rattle.lamport_ring.specs.Invariant.Middle.{middle}
-use Rattle.lamport_ring.specs.Invariant.Numbers.{Numbers, sent, gone, Ordered, Words, pending_of, unread_of}
+use Rattle.lamport_ring.specs.Invariant.Numbers.{Numbers, sent, gone, Ordered, Words, pending_of, unread_of, taken, freed}
 use Rattle.lamport_ring.specs.Invariant.Sender.{Marked, sender}
 use Rattle.lamport_ring.proofs.Sender.{lamport_sender}
 use Rattle.lamport_ring.proofs.MiddleLines as mid
@@ -36,62 +35,62 @@ use Rattle.lamport_ring.proofs.LamportLaws.{lamport_laws, reasons}
 
 -- where nothing is pending all that was stored has landed
 module _ (k : Block) (n : Numbers) (order : Ordered k n) where
-  pub all_sent : pending_of k n ≡ [] → sent n ≤ gone n
-  all_sent none = none_left (sender_stores k.size k.base k.list) (gone n) (sent n) none (omega (arith, pairs_length (slot_store k.size k.base) (head_store k.size k.base) (k.base + 4, 1) k.list, order.p_all, order.q_p, order.m_one))
+  pub all_sent : pending_of k n.sender n.landed ≡ [] → sent n.sender ≤ gone n.landed
+  all_sent none = none_left (sender_stores k.size k.base k.list) (gone n.landed) (sent n.sender) none (omega (arith, pairs_length (slot_store k.size k.base) (head_store k.size k.base) (k.base + 4, 1) k.list, order.stored_all, order.headed_stored, order.marked_one))
 
-  pub all_read : unread_of k n ≡ [] → n.c + n.d ≤ n.kc + n.kd
-  all_read none = none_left (receiver_stores k.size k.base k.list) (n.kc + n.kd) (n.c + n.d) none (omega (arith, singles_length (tail_store k.size k.base) (k.base + 12, 1) k.list, order.c_kh, order.kh_ls, order.ls_p, order.p_all, order.d_one))
+  pub all_read : unread_of k n.receiver n.landed ≡ [] → taken n.receiver ≤ freed n.landed
+  all_read none = none_left (receiver_stores k.size k.base k.list) (freed n.landed) (taken n.receiver) none (omega (arith, singles_length (tail_store k.size k.base) (k.base + 12, 1) k.list, order.tails_seen, order.seen_heads, order.heads_slots, order.slots_landed, order.stored_all, order.done_one))
 
 -- one that waits at a full ring has words there, since a ring has two slots at least
-ready : (k : Block) (n : Numbers) (s : HartState) (word : ℕ → ℕ) → IsBlock k → 2 ≤ k.size → Ordered k n → Words k n word → Standing sender k n.made s → s.status ≡ status.Running → pending_of k n ≡ [] → unread_of k n ≡ [] → waits s word ≡ true → n.c < n.kh
+ready : (k : Block) (n : Numbers) (s : HartState) (word : ℕ → ℕ) → IsBlock k → 2 ≤ k.size → Ordered k n → Words k n.landed word → Standing sender k n.sender s → s.status ≡ status.Running → pending_of k n.sender n.landed ≡ [] → unread_of k n.receiver n.landed ≡ [] → waits s word ≡ true → n.receiver.tails < n.landed.heads
 ready k n s word is two order words st running none empty wait =
     let test = and_parts (s.pc == 0x18) (word (slice_index s.registers 8 + 8) == slice_index s.registers 6) wait in
-    let at = stands_at sender k n.made s st 0x18 (let on : (s.pc == 0x18) ≡ true = test.0 in grind (arith, nat_tests)) (omega arith) (omega arith) in
+    let at = stands_at sender k n.sender s st 0x18 (let on : (s.pc == 0x18) ≡ true = test.0 in grind (arith, nat_tests)) (omega arith) (omega arith) in
     let found : word (slice_index s.registers 8 + 8) ≡ slice_index s.registers 6 = let on : (word (slice_index s.registers 8 + 8) == slice_index s.registers 6) ≡ true = test.1 in grind (arith, nat_tests) in
     let same : word (k.base + 8) ≡ st.written.x6 = sym (ap (λ (z : HartState). word (slice_index z.registers 8 + 8)) at.0) ∙ found ∙ ap (λ (z : HartState). slice_index z.registers 6) at.0 in
-    let all : sent n ≤ gone n = all_sent k n order none in
-    elim (cases_eq (n.made.p + 1) (n.kc + k.size)) [
-      | inl full ↦ omega (arith, full, two, all, all_read k n order empty, at.1.0.heads, at.1.0.unmarked, order.ls_p, order.kh_q, order.km_m, order.kc_c, order.kd_d)
+    let all : sent n.sender ≤ gone n.landed = all_sent k n order none in
+    elim (cases_eq (n.sender.stored + 1) (n.landed.tails + k.size)) [
+      | inl full ↦ omega (arith, full, two, all, all_read k n order empty, at.1.0.heads, at.1.0.unmarked, order.slots_landed, order.heads_landed, order.mark_landed, order.tails_landed, order.done_landed)
       | inr free ↦
-          let near : n.kc ≡ n.made.p + 1 = same_offset k.size n.kc (n.made.p + 1) (omega (arith, is.some_slot)) (omega (arith, order.kc_c, order.c_kh, order.kh_ls, order.ls_p)) (omega (arith, free, order.p_kc)) (sym words.tail ∙ same ∙ at.1.1) in
-          absurd (omega (arith, near, order.kc_c, order.c_kh, order.kh_ls, order.ls_p))
+          let near : n.landed.tails ≡ n.sender.stored + 1 = same_offset k.size n.landed.tails (n.sender.stored + 1) (omega (arith, is.some_slot)) (omega (arith, order.tails_landed, order.tails_seen, order.seen_heads, order.heads_slots, order.slots_landed)) (omega (arith, free, order.room)) (sym words.tail ∙ same ∙ at.1.1) in
+          absurd (omega (arith, near, order.tails_landed, order.tails_seen, order.seen_heads, order.heads_slots, order.slots_landed))
     ]
 
-marked : (k : Block) (n : Numbers) (s : HartState) → IsBlock k → Ordered k n → Standing sender k n.made s → runs (Some s) ≡ false → pending_of k n ≡ [] → n.km ≡ 1
+marked : (k : Block) (n : Numbers) (s : HartState) → IsBlock k → Ordered k n → Standing sender k n.sender s → runs (Some s) ≡ false → pending_of k n.sender n.landed ≡ [] → n.landed.mark ≡ 1
 marked k n s is order st off none =
-    let h : Marked k n.made = has_ended sender k n.made s st off in
-    omega (arith, h.mark, all_sent k n order none, order.ls_p, order.kh_q, order.km_m)
+    let h : Marked k n.sender = has_ended sender k n.sender s st off in
+    omega (arith, h.mark, all_sent k n order none, order.slots_landed, order.heads_landed, order.mark_landed)
 
 fresh : (f : Whole) (r : Noted) (T size : ℕ) (E : Bool) → (E ≡ true → r.x30 ≡ 1) → stale (receiving middle f 0x14 r) T size E ≡ false
 fresh f r T size E some = not_stale r.x30 E some
 
 -- the receiver's five lines
 
-near_14 : MiddleNears lamport_blocks lamport_pace (λ k n. n.c < n.kh) Pc14
+near_14 : MiddleNears lamport_blocks lamport_pace (λ k n. n.receiver.tails < n.landed.heads) Pc14
 near_14 k i count n word r v sh E rest start is order words find h ready off =
     let line = mid.line_14 (whole_of k count) r (omega (arith, is.even, h.0.visits.base)) (omega (arith, is.inside, is.some_slot, h.0.visits.base)) is.small in
-    let seen : v ≡ offset k n.kh = find k.base (base_word k is) (line.wants ∙ ap loads (let same : r.x8 + 0 ≡ k.base = omega (arith, h.0.visits.base) in same)) ∙ seen_head k n word order words in
-    falls (line.leaves v) (record { block = refl; nearer = two_flags 15 16 rest ((r.x30 == 0) && (v == 4 * (n.took % k.size))) ((r.x30 == 0) && E) (omega arith) (omega arith) off (older seen E refl) })
+    let seen : v ≡ offset k n.landed.heads = find k.base (base_word k is) (line.wants ∙ ap loads (let same : r.x8 + 0 ≡ k.base = omega (arith, h.0.visits.base) in same)) ∙ seen_head k n word order words in
+    falls (line.leaves v) (record { block = refl; nearer = two_flags 15 16 rest ((r.x30 == 0) && (v == 4 * (n.receiver.took % k.size))) ((r.x30 == 0) && E) (omega arith) (omega arith) off (older seen E refl) })
   where
-    apart : v ≡ offset k n.kh → (v == 4 * (n.took % k.size)) ≡ true → n.c < n.kh → ⊥
+    apart : v ≡ offset k n.landed.heads → (v == 4 * (n.receiver.took % k.size)) ≡ true → n.receiver.tails < n.landed.heads → ⊥
     apart seen same more =
-        let one : v ≡ 4 * (n.took % k.size) = grind (arith, nat_tests) in
-        let tail : 4 * (n.took % k.size) ≡ offset k n.c = ap (offset k) h.0.quiet.words in
-        let both : n.c ≡ n.kh = same_offset k.size n.c n.kh (omega (arith, is.some_slot)) order.c_kh (omega (arith, order.kh_ls, order.ls_p, order.p_kc, order.kc_c)) (sym tail ∙ sym one ∙ seen) in
+        let one : v ≡ 4 * (n.receiver.took % k.size) = grind (arith, nat_tests) in
+        let tail : 4 * (n.receiver.took % k.size) ≡ offset k n.receiver.tails = ap (offset k) h.0.quiet.words in
+        let both : n.receiver.tails ≡ n.landed.heads = same_offset k.size n.receiver.tails n.landed.heads (omega (arith, is.some_slot)) (omega (arith, order.tails_seen, order.seen_heads)) (omega (arith, order.heads_slots, order.slots_landed, order.room, order.tails_landed)) (sym tail ∙ sym one ∙ seen) in
         omega (arith, both, more)
 
-    older : v ≡ offset k n.kh → (b : Bool) → E ≡ b → ((r.x30 == 0) && (v == 4 * (n.took % k.size))) ≡ true → ((r.x30 == 0) && E) ≡ true
-    older seen true is_b both = let parts = and_parts (r.x30 == 0) (v == 4 * (n.took % k.size)) both in rw (parts.0, is_b) refl
-    older seen false is_b both = let parts = and_parts (r.x30 == 0) (v == 4 * (n.took % k.size)) both in absurd (apart seen parts.1 (ready is_b))
+    older : v ≡ offset k n.landed.heads → (b : Bool) → E ≡ b → ((r.x30 == 0) && (v == 4 * (n.receiver.took % k.size))) ≡ true → ((r.x30 == 0) && E) ≡ true
+    older seen true is_b both = let parts = and_parts (r.x30 == 0) (v == 4 * (n.receiver.took % k.size)) both in rw (parts.0, is_b) refl
+    older seen false is_b both = let parts = and_parts (r.x30 == 0) (v == 4 * (n.receiver.took % k.size)) both in absurd (apart seen parts.1 (ready is_b))
 
-near_18 : MiddleNears lamport_blocks lamport_pace (λ k n. n.c < n.kh) Pc18
+near_18 : MiddleNears lamport_blocks lamport_pace (λ k n. n.receiver.tails < n.landed.heads) Pc18
 near_18 k i count n word r v sh E rest start is order words find h ready off =
     let line = mid.line_18 (whole_of k count) r (omega (arith, is.even, h.0.visits.base)) (omega (arith, is.inside, is.some_slot, h.0.visits.base)) is.small in
-    let seen : v ≡ offset k n.c = find (k.base + 8) (word_of k is 8 (omega arith) refl) (line.wants ∙ ap (λ b. loads (b + 8)) h.0.visits.base) ∙ seen_tail k n word order words h.0.open_yet in
-    let tail : v ≡ 4 * (n.took % k.size) = seen ∙ ap (offset k) (sym h.0.quiet.words) in
-    falls (line.leaves v) (record { block = refl; nearer = two_flags 14 15 rest ((r.x30 == 0) && (r.x6 == v)) ((r.x30 == 0) && (r.x6 == 4 * (n.took % k.size))) (omega arith) (omega arith) off (λ both. sym (ap (λ z. (r.x30 == 0) && (r.x6 == z)) tail) ∙ both) })
+    let seen : v ≡ offset k n.receiver.tails = find (k.base + 8) (word_of k is 8 (omega arith) refl) (line.wants ∙ ap (λ b. loads (b + 8)) h.0.visits.base) ∙ seen_tail k n word order words h.0.open_yet in
+    let tail : v ≡ 4 * (n.receiver.took % k.size) = seen ∙ ap (offset k) (sym h.0.quiet.words) in
+    falls (line.leaves v) (record { block = refl; nearer = two_flags 14 15 rest ((r.x30 == 0) && (r.x6 == v)) ((r.x30 == 0) && (r.x6 == 4 * (n.receiver.took % k.size))) (omega arith) (omega arith) off (λ both. sym (ap (λ z. (r.x30 == 0) && (r.x6 == z)) tail) ∙ both) })
 
-near_1C : MiddleNears lamport_blocks lamport_pace (λ k n. n.c < n.kh) Pc1C
+near_1C : MiddleNears lamport_blocks lamport_pace (λ k n. n.receiver.tails < n.landed.heads) Pc1C
 near_1C k i count n word r v sh E rest start is order words find h ready off =
     elim (cases_eq r.x6 r.x7) [
       | inl same ↦ falls ((mid.line_1C-same (whole_of k count) r same).leaves v) (record { block = refl; nearer = (let on : (r.x6 == r.x7) ≡ true = grind (arith, nat_tests) in rw on (by_flag (r.x30 == 0))) })
@@ -102,17 +101,17 @@ near_1C k i count n word r v sh E rest start is order words find h ready off =
     by_flag true = omega arith
     by_flag false = omega arith
 
-near_20 : MiddleNears lamport_blocks lamport_pace (λ k n. n.c < n.kh) Pc20
+near_20 : MiddleNears lamport_blocks lamport_pace (λ k n. n.receiver.tails < n.landed.heads) Pc20
 near_20 k i count n word r v sh E rest start is order words find h ready off =
-    falls ((mid.line_20 (whole_of k count) r (omega (arith, is.inside, is.small, h.0.visits.base, h.1.1, offset_low k is n.c))).leaves v) (record { block = refl; nearer = omega arith })
+    falls ((mid.line_20 (whole_of k count) r (omega (arith, is.inside, is.small, h.0.visits.base, h.1.1, offset_low k is n.receiver.tails))).leaves v) (record { block = refl; nearer = omega arith })
 
-near_24 : MiddleNears lamport_blocks lamport_pace (λ k n. n.c < n.kh) Pc24
+near_24 : MiddleNears lamport_blocks lamport_pace (λ k n. n.receiver.tails < n.landed.heads) Pc24
 near_24 k i count n word r v sh E rest start is order words find h ready off =
-    falls ((mid.line_24 (whole_of k count) r (omega (arith, is.even, h.1.1, h.1.2)) (omega (arith, is.inside, h.1.1, h.1.2, offset_low k is n.c)) is.small).leaves v) (record { block = refl; nearer = omega arith })
+    falls ((mid.line_24 (whole_of k count) r (omega (arith, is.even, h.1.1, h.1.2)) (omega (arith, is.inside, h.1.1, h.1.2, offset_low k is n.receiver.tails)) is.small).leaves v) (record { block = refl; nearer = omega arith })
 
 pub lamport_progress : BlockProgress lamport_blocks lamport_pace 2
 lamport_progress = record {
-  Ready = λ k n. n.c < n.kh;
+  Ready = λ k n. n.receiver.tails < n.landed.heads;
   nearer = λ k n s word v is order words st running none empty find on. nearer lamport_blocks lamport_sender reasons k n s word v is order words st running none find on;
   ready = ready;
   marked = marked;
@@ -125,12 +124,12 @@ lamport_progress = record {
 }
 
 pub lamport_nears : Nears lamport lamport_means (left_by lamport_pace) (next_by lamport_pace)
-lamport_nears = nears lamport_blocks sender_code lamport_laws 2 (lit≤ tt) lamport_pace lamport_progress
+lamport_nears = nears lamport_blocks lamport_laws 2 (lit≤ tt) lamport_pace lamport_progress
 
 -- the tail's address
 pub address : (M : ℕ) (t : History) (h : ℕ) (d : Sender lamport_blocks M t h) (v : ℕ) → option_map (λ (s : HartState). slice_index s.registers 8) (state_of M t h) ≡ Some v → (v + 8 < 2 ^ 32) × ((v + 8) % 4 ≡ 0) × (v + 8 < 4 * M)
 address M t h d v at =
-    let same : v ≡ d.block.base = value_is (λ (s : HartState). slice_index s.registers 8) (state_of M t h) d.state v d.at at ∙ base_is sender d.block d.numbers.made d.state d.stands in
+    let same : v ≡ d.block.base = value_is (λ (s : HartState). slice_index s.registers 8) (state_of M t h) d.state v d.at at ∙ base_is sender d.block d.numbers.sender d.state d.stands in
     (omega (arith, same, d.is.inside, d.is.small, d.is.some_slot), omega (arith, same, d.is.even), omega (arith, same, d.is.inside, d.words, d.is.some_slot))
 
 ready_of : (word : ℕ → ℕ) (o : Option HartState) (s : HartState) (w x : ℕ) → o ≡ Some s → s.status ≡ status.Running → s.pc ≡ 0x18 → w ≡ word (slice_index s.registers 8 + 8) → x ≡ slice_index s.registers 6 → not (w == x) ≡ ready_if lamport_pace word o

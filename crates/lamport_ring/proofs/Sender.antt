@@ -21,8 +21,7 @@ use Rattle.poll_close.proofs.Outlines as outline
 use Rattle.lamport_ring.specs.Listing.{sender_code, sender_lines}
 use Rattle.lamport_ring.specs.Lamport.{lamport_blocks, waits}
 use Rattle.lamport_ring.specs.Invariant.Stores.{head_store, sender_stores}
-use Rattle.lamport_ring.specs.Invariant.Numbers.{Made, Numbers, sent, gone, Ordered, Words, pending_of}
-use Rattle.lamport_ring.specs.Invariant.Sender.{sender}
+use Rattle.lamport_ring.specs.Invariant.Numbers.{Sent, Numbers, sent, gone, Ordered, Words, pending_of}
 use Rattle.lamport_ring.proofs.Means.{sender-decoded}
 use Rattle.lamport_ring.proofs.Stores.{store_slot, store_head, store_mark}
 
@@ -31,34 +30,20 @@ no_tail : (S b : ℕ) (ws : List ℕ) → Each (λ y. y.0 ≢ b + 8) (sender_sto
 no_tail S b ws = pairs_each (λ y. y.0 ≢ b + 8) (slot_store S b) (head_store S b) (b + 4, 1) ws (λ j less. (λ same. omega arith, λ same. omega arith)) (λ same. omega arith)
 
 -- what the sender finds at the tail is the word of memory
-tail_found : (k : Block) (n : Numbers) (word : ℕ → ℕ) → Words k n word → found_in (pending_of k n) word (k.base + 8) ≡ offset k n.kc
+tail_found : (k : Block) (n : Numbers) (word : ℕ → ℕ) → Words k n.landed word → found_in (pending_of k n.sender n.landed) word (k.base + 8) ≡ offset k n.landed.tails
 tail_found k n word words =
-    ap (λ o. unwrap_or o (word (k.base + 8))) (newest_none (k.base + 8) None (pending_of k n) (Each-window (λ y. y.0 ≢ k.base + 8) (sender_stores k.size k.base k.list) (gone n) (sent n) (no_tail k.size k.base k.list)))
+    ap (λ o. unwrap_or o (word (k.base + 8))) (newest_none (k.base + 8) None (pending_of k n.sender n.landed) (Each-window (λ y. y.0 ≢ k.base + 8) (sender_stores k.size k.base k.list) (gone n.landed) (sent n.sender) (no_tail k.size k.base k.list)))
     ∙ words.tail
 
--- its own among a block's numbers
 abbrev pub lamport_sender : Sender lamport_blocks
-lamport_sender = record {
-  outline = sender;
-  lines = sender_lines;
-  decoded = sender-decoded;
-  waits = waits;
-  own = λ n. n.made;
-  with_own = λ n made. record n { made = made };
-  same = λ n. refl;
-  stands_by = λ k n s st. st;
-  by_standing = λ k n made s st. st;
-  words = λ k n made word w. record { head = w.head; mark = w.mark; tail = w.tail; done = w.done; slots = w.slots };
-  unread = λ k n made. refl;
-  grows = λ n made. record { tails = refl; dones = refl; took = refl; shut = refl; marks = omega arith; later = omega arith };
-}
+lamport_sender = record { lines = sender_lines; decoded = sender-decoded; waits = waits }
 
-module _ (k : Block) (n : Numbers) (word : ℕ → ℕ) (v : ℕ) (r : Written) (is : IsBlock k) (order : Ordered k n) (words : Words k n word) where
+module _ (k : Block) (n : Numbers) (word : ℕ → ℕ) (v : ℕ) (r : Written) (is : IsBlock k) (order : Ordered k n) (words : Words k n.landed word) where
   -- a store joins those that are pending
-  joins : (x : ℕ × ℕ) (later : ℕ) → later ≡ suc (sent n) → slice_get (sender_stores k.size k.base k.list) (sent n) ≡ Some x → pending_of k n ++ x ∷ [] ≡ window (sender_stores k.size k.base k.list) (gone n) later
-  joins x later next store = rw next (window_made (sender_stores k.size k.base k.list) (gone n) (sent n) x (omega (arith, order.ls_p, order.kh_q, order.km_m)) store)
+  joins : (x : ℕ × ℕ) (later : ℕ) → later ≡ suc (sent n.sender) → slice_get (sender_stores k.size k.base k.list) (sent n.sender) ≡ Some x → pending_of k n.sender n.landed ++ x ∷ [] ≡ window (sender_stores k.size k.base k.list) (gone n.landed) later
+  joins x later next store = rw next (window_made (sender_stores k.size k.base k.list) (gone n.landed) (sent n.sender) x (omega (arith, order.slots_landed, order.heads_landed, order.mark_landed)) store)
 
-  at : (j : ℕ) {i : Instr} → slice_get (map Some sender_lines) j ≡ Some (Some i) → IsAt (running sender_code (fixed k) (4 * j) r (drop n.made.g k.list)) i
+  at : (j : ℕ) {i : Instr} → slice_get (map Some sender_lines) j ≡ Some (Some i) → IsAt (running sender_code (fixed k) (4 * j) r (drop n.sender.asked k.list)) i
   at j found = outline.at lamport_blocks lamport_sender k n word v r j found
 
   goes : {here : ℕ} → outline.GoesBy lamport_blocks lamport_sender k n word v r here
@@ -75,18 +60,18 @@ module _ (k : Block) (n : Numbers) (word : ℕ → ℕ) (v : ℕ) (r : Written) 
 
   pub right_04 : Right_at 0x04  -- ecall
   right_04 h =
-      elim (cases_lt n.made.p (length k.list)) [
+      elim (cases_lt n.sender.stored (length k.list)) [
         | inl more ↦
-            let w : ℕ = slice_index k.list n.made.g in
-            let made : Made = record n.made { g = suc n.made.g } in
-            let before : length (drop n.made.g k.list) ≡ _ = length-drop n.made.g k.list in
-            let after : length (drop (suc n.made.g) k.list) ≡ _ = length-drop (suc n.made.g) k.list in
-            goes 0x08 (need.Next (Some w)) made (λ u. record r { x10 = w; x11 = 1 }) tt (line_04-word sender_code (lit< tt) (fixed k) r (λ inbox. outline.at_in lamport_blocks lamport_sender k n word v r r inbox 1 refl) h.2 k.list n.made.g (omega (arith, h.0.taken))) (omega arith) (append-nil (pending_of k n))
+            let w : ℕ = slice_index k.list n.sender.asked in
+            let made : Sent = record n.sender { asked = suc n.sender.asked } in
+            let before : length (drop n.sender.asked k.list) ≡ _ = length-drop n.sender.asked k.list in
+            let after : length (drop (suc n.sender.asked) k.list) ≡ _ = length-drop (suc n.sender.asked) k.list in
+            goes 0x08 (need.Next (Some w)) made (λ u. record r { x10 = w; x11 = 1 }) tt (line_04-word sender_code (lit< tt) (fixed k) r (λ inbox. outline.at_in lamport_blocks lamport_sender k n word v r r inbox 1 refl) h.2 k.list n.sender.asked (omega (arith, h.0.taken))) (omega arith) (append-nil (pending_of k n.sender n.landed))
             (record { heads = h.0.heads; unmarked = h.0.unmarked; index = h.1; answer = inl (refl, omega (arith, h.0.taken), more, ap (slice_index k.list) h.0.taken) })
             (λ free. omega (arith, before, after, more, h.0.taken))
         | inr all ↦
-            goes 0x08 (need.Next None) n.made (λ u. record r { x11 = 0 }) tt (line_04-none sender_code (lit< tt) (fixed k) r (λ inbox. outline.at_in lamport_blocks lamport_sender k n word v r r inbox 1 refl) h.2 k.list n.made.g (omega (arith, h.0.taken))) order (append-nil (pending_of k n))
-            (record { heads = h.0.heads; unmarked = h.0.unmarked; index = h.1; answer = inr (refl, h.0.taken, omega (arith, all, order.p_all)) })
+            goes 0x08 (need.Next None) n.sender (λ u. record r { x11 = 0 }) tt (line_04-none sender_code (lit< tt) (fixed k) r (λ inbox. outline.at_in lamport_blocks lamport_sender k n word v r r inbox 1 refl) h.2 k.list n.sender.asked (omega (arith, h.0.taken))) order (append-nil (pending_of k n.sender n.landed))
+            (record { heads = h.0.heads; unmarked = h.0.unmarked; index = h.1; answer = inr (refl, h.0.taken, omega (arith, all, order.stored_all)) })
             (λ free. omega arith)
       ]
 
@@ -98,25 +83,25 @@ module _ (k : Block) (n : Numbers) (word : ℕ → ℕ) (v : ℕ) (r : Written) 
       ]
 
   pub right_0C : Right_at 0x0C  -- addi x6,x5,4
-  right_0C h = still 0x10 (record r { x6 = r.x5 + 4 }) (add_line (at 3 refl) (word_plus r.x5 4 (omega (arith, is.inside, is.small, h.index, offset_low k is n.made.p)))) (h, refl) (omega arith)
+  right_0C h = still 0x10 (record r { x6 = r.x5 + 4 }) (add_line (at 3 refl) (word_plus r.x5 4 (omega (arith, is.inside, is.small, h.index, offset_low k is n.sender.stored)))) (h, refl) (omega arith)
 
   pub right_10 : Right_at 0x10  -- bne x6,x9,test
   right_10 h =
       elim (cases_eq r.x6 (4 * k.size)) [
         | inl same ↦ still 0x14 r (same_goes_on (at 4 refl) same) (h.0, omega arith) (omega arith)
-        | inr other ↦ still 0x18 r (other_jumps (at 4 refl) other refl) (h.0, (let step : offset k n.made.p + 4 ≡ offset k (n.made.p + 1) = offset_step k.size n.made.p (omega (arith, is.some_slot)) (omega (arith, h.0.index, h.1)) in omega (arith, h.0.index, h.1))) (omega arith)
+        | inr other ↦ still 0x18 r (other_jumps (at 4 refl) other refl) (h.0, (let step : offset k n.sender.stored + 4 ≡ offset k (n.sender.stored + 1) = offset_step k.size n.sender.stored (omega (arith, is.some_slot)) (omega (arith, h.0.index, h.1)) in omega (arith, h.0.index, h.1))) (omega arith)
       ]
 
   pub right_14 : Right_at 0x14  -- addi x6,x0,0
-  right_14 h = still 0x18 (record r { x6 = 0 }) (add_line (at 5 refl) (word_plus 0 0 (lit< tt))) (h.0, sym (offset_wrap k.size n.made.p (omega (arith, is.some_slot)) (omega (arith, h.0.index, h.1)))) (omega arith)
+  right_14 h = still 0x18 (record r { x6 = 0 }) (add_line (at 5 refl) (word_plus 0 0 (lit< tt))) (h.0, sym (offset_wrap k.size n.sender.stored (omega (arith, is.some_slot)) (omega (arith, h.0.index, h.1)))) (omega arith)
 
   -- it reads the tail that landed last
   pub right_18 : Right_at 0x18  -- test: lw x7,8(x8)
   right_18 h find =
       let line = load_line (at 6 refl) is.even refl (omega (arith, is.inside, is.some_slot)) is.small in
-      let read : v ≡ found_in (pending_of k n) word (k.base + 8) = find (k.base + 8) (word_of k is 8 (omega arith) refl) line.wants in
-      goes 0x1C (loads (k.base + 8)) (record n.made { seen = n.kc }) (λ u. record r { x7 = u }) tt line (omega arith) (append-nil (pending_of k n))
-      (record { taken = h.0.taken; heads = h.0.heads; unmarked = h.0.unmarked; within = h.0.within; word = h.0.word; index = h.0.index }, h.1, record { near = order.p_kc; is = read ∙ tail_found k n word words })
+      let read : v ≡ found_in (pending_of k n.sender n.landed) word (k.base + 8) = find (k.base + 8) (word_of k is 8 (omega arith) refl) line.wants in
+      goes 0x1C (loads (k.base + 8)) (record n.sender { seen = n.landed.tails }) (λ u. record r { x7 = u }) tt line (omega arith) (append-nil (pending_of k n.sender n.landed))
+      (record { taken = h.0.taken; heads = h.0.heads; unmarked = h.0.unmarked; within = h.0.within; word = h.0.word; index = h.0.index }, h.1, record { near = order.room; is = read ∙ tail_found k n word words })
       (λ free. let off : (v == r.x6) ≡ false = ap (λ w. w == r.x6) (read ∙ ap (λ ps. found_in ps word (k.base + 8)) free.0) ∙ free.1 in rw off (omega arith))
       find
 
@@ -125,35 +110,35 @@ module _ (k : Block) (n : Numbers) (word : ℕ → ℕ) (v : ℕ) (r : Written) 
   right_1C h =
       elim (cases_eq r.x7 r.x6) [
         | inl same ↦ still 0x18 r (same_jumps (at 7 refl) same refl) (h.0, h.1) (let on : (r.x7 == r.x6) ≡ true = grind (arith, nat_tests) in rw on (omega arith))
-        | inr other ↦ still 0x20 r (other_goes_on (at 7 refl) other) (h.0, h.1, room other (cases_eq (n.made.p + 1) (n.made.seen + k.size))) (let off : (r.x7 == r.x6) ≡ false = grind (arith, nat_tests) in rw off (omega arith))
+        | inr other ↦ still 0x20 r (other_goes_on (at 7 refl) other) (h.0, h.1, room other (cases_eq (n.sender.stored + 1) (n.sender.seen + k.size))) (let off : (r.x7 == r.x6) ≡ false = grind (arith, nat_tests) in rw off (omega arith))
       ]
     where
-      room : r.x7 ≢ r.x6 → (n.made.p + 1 ≡ n.made.seen + k.size) ⊎ (n.made.p + 1 ≢ n.made.seen + k.size) → n.made.p + 2 ≤ n.made.seen + k.size
+      room : r.x7 ≢ r.x6 → (n.sender.stored + 1 ≡ n.sender.seen + k.size) ⊎ (n.sender.stored + 1 ≢ n.sender.seen + k.size) → n.sender.stored + 2 ≤ n.sender.seen + k.size
       room other (inl full) =
-          let wrapped : (n.made.p + 1) % k.size ≡ n.made.seen % k.size = ap (λ j. j % k.size) full ∙ add-mod_right n.made.seen k.size in
+          let wrapped : (n.sender.stored + 1) % k.size ≡ n.sender.seen % k.size = ap (λ j. j % k.size) full ∙ add-mod_right n.sender.seen k.size in
           absurd (other (h.2.is ∙ ap (λ o. 4 * o) (sym wrapped) ∙ sym h.1))
       room other (inr some) = omega (arith, h.2.near)
 
   pub right_20 : Right_at 0x20  -- add x28,x8,x5
-  right_20 h = still 0x24 (record r { x28 = k.base + r.x5 }) (sum_line (at 8 refl) (omega (arith, is.inside, is.small, h.0.index, offset_low k is n.made.p))) (h.0, h.1, h.2, refl) (omega arith)
+  right_20 h = still 0x24 (record r { x28 = k.base + r.x5 }) (sum_line (at 8 refl) (omega (arith, is.inside, is.small, h.0.index, offset_low k is n.sender.stored))) (h.0, h.1, h.2, refl) (omega arith)
 
   pub right_24 : Right_at 0x24  -- sw x10,16(x28)
   right_24 h =
-      let place : slot k.size k.base n.made.p ≡ r.x28 + 16 = omega (arith, h.0.index, h.3) in
-      let store : slice_get (sender_stores k.size k.base k.list) (sent n) ≡ Some (r.x28 + 16, r.x10) = store_slot k.size k.base k.list n.made.p (sent n) h.0.within (omega (arith, h.0.heads, h.0.unmarked)) ∙ rw (place, h.0.word) refl in
-      goes 0x28 (stores (r.x28 + 16) r.x10) (record n.made { p = n.made.p + 1 }) (λ u. r) tt (store_line (at 9 refl) (omega (arith, is.even, h.0.index, h.3)) refl (omega (arith, is.inside, h.0.index, h.3, offset_low k is n.made.p)) is.small) (omega (arith, h.0.heads, h.0.unmarked, h.0.within, h.2)) (joins (r.x28 + 16, r.x10) (n.made.p + 1 + n.made.q + n.made.m) (omega arith) store)
+      let place : slot k.size k.base n.sender.stored ≡ r.x28 + 16 = omega (arith, h.0.index, h.3) in
+      let store : slice_get (sender_stores k.size k.base k.list) (sent n.sender) ≡ Some (r.x28 + 16, r.x10) = store_slot k.size k.base k.list n.sender.stored (sent n.sender) h.0.within (omega (arith, h.0.heads, h.0.unmarked)) ∙ rw (place, h.0.word) refl in
+      goes 0x28 (stores (r.x28 + 16) r.x10) (record n.sender { stored = n.sender.stored + 1 }) (λ u. r) tt (store_line (at 9 refl) (omega (arith, is.even, h.0.index, h.3)) refl (omega (arith, is.inside, h.0.index, h.3, offset_low k is n.sender.stored)) is.small) (omega (arith, h.0.heads, h.0.unmarked, h.0.within, h.2)) (joins (r.x28 + 16, r.x10) (n.sender.stored + 1 + n.sender.headed + n.sender.marked) (omega arith) store)
       (record { taken = h.0.taken; heads = omega (arith, h.0.heads); unmarked = h.0.unmarked; next = h.1 })
       (λ free. omega arith)
 
   pub right_28 : Right_at 0x28  -- sw x6,0(x8)
   right_28 h =
-      let store : slice_get (sender_stores k.size k.base k.list) (sent n) ≡ Some (k.base + 0, r.x6) = store_head k.size k.base k.list n.made.q (sent n) (omega (arith, h.heads, order.p_all)) (omega (arith, h.heads, h.unmarked)) ∙ ap Some (rw (add-zero k.base, h.next, ← h.heads) refl) in
-      goes 0x2C (stores (k.base + 0) r.x6) (record n.made { q = n.made.q + 1 }) (λ u. r) tt (store_line (at 10 refl) is.even refl (omega (arith, is.inside, is.some_slot)) is.small) (omega (arith, h.heads)) (joins (k.base + 0, r.x6) (n.made.p + (n.made.q + 1) + n.made.m) (omega arith) store)
+      let store : slice_get (sender_stores k.size k.base k.list) (sent n.sender) ≡ Some (k.base + 0, r.x6) = store_head k.size k.base k.list n.sender.headed (sent n.sender) (omega (arith, h.heads, order.stored_all)) (omega (arith, h.heads, h.unmarked)) ∙ ap Some (rw (add-zero k.base, h.next, ← h.heads) refl) in
+      goes 0x2C (stores (k.base + 0) r.x6) (record n.sender { headed = n.sender.headed + 1 }) (λ u. r) tt (store_line (at 10 refl) is.even refl (omega (arith, is.inside, is.some_slot)) is.small) (omega (arith, h.heads)) (joins (k.base + 0, r.x6) (n.sender.stored + (n.sender.headed + 1) + n.sender.marked) (omega arith) store)
       (record { taken = h.taken; heads = h.heads; unmarked = h.unmarked }, h.next)
       (λ free. omega arith)
 
   pub right_2C : Right_at 0x2C  -- addi x5,x6,0
-  right_2C h = still 0x30 (record r { x5 = r.x6 }) (add_line (at 11 refl) (word_plus r.x6 0 (omega (arith, is.inside, is.small, h.1, offset_low k is n.made.p)) ∙ add-zero r.x6)) (h.0, h.1) (omega arith)
+  right_2C h = still 0x30 (record r { x5 = r.x6 }) (add_line (at 11 refl) (word_plus r.x6 0 (omega (arith, is.inside, is.small, h.1, offset_low k is n.sender.stored)) ∙ add-zero r.x6)) (h.0, h.1) (omega arith)
 
   pub right_30 : Right_at 0x30  -- jal x0,next
   right_30 h = still 0x00 r (jump_line (at 12 refl) refl) h (omega arith)
@@ -163,8 +148,8 @@ module _ (k : Block) (n : Numbers) (word : ℕ → ℕ) (v : ℕ) (r : Written) 
 
   pub right_38 : Right_at 0x38  -- sw x6,4(x8)
   right_38 h =
-      let store : slice_get (sender_stores k.size k.base k.list) (sent n) ≡ Some (k.base + 4, r.x6) = store_mark k.size k.base k.list (sent n) (omega (arith, h.0.heads, h.0.unmarked, h.1)) ∙ rw h.2 refl in
-      goes 0x3C (stores (k.base + 4) r.x6) (record n.made { m = 1 }) (λ u. r) tt (store_line (at 14 refl) is.even refl (omega (arith, is.inside, is.some_slot)) is.small) (omega (arith, h.0.heads ∙ h.1)) (joins (k.base + 4, r.x6) (n.made.p + n.made.q + 1) (omega (arith, h.0.unmarked)) store)
+      let store : slice_get (sender_stores k.size k.base k.list) (sent n.sender) ≡ Some (k.base + 4, r.x6) = store_mark k.size k.base k.list (sent n.sender) (omega (arith, h.0.heads, h.0.unmarked, h.1)) ∙ rw h.2 refl in
+      goes 0x3C (stores (k.base + 4) r.x6) (record n.sender { marked = 1 }) (λ u. r) tt (store_line (at 14 refl) is.even refl (omega (arith, is.inside, is.some_slot)) is.small) (omega (arith, h.0.heads ∙ h.1)) (joins (k.base + 4, r.x6) (n.sender.stored + n.sender.headed + 1) (omega (arith, h.0.unmarked)) store)
       (record { taken = h.0.taken ∙ h.1; heads = h.0.heads ∙ h.1; mark = refl })
       (λ free. omega arith)
 
@@ -172,4 +157,4 @@ module _ (k : Block) (n : Numbers) (word : ℕ → ℕ) (v : ℕ) (r : Written) 
   right_3C h = still 0x40 (record r { x17 = 93 }) (add_line (at 15 refl) (word_plus 0 93 (lit< tt))) (h, refl) (omega arith)
 
   pub right_40 : Right_at 0x40  -- ecall
-  right_40 h = goes 0x44 need.Exit n.made (λ u. r) tt (record { wants = exit_need (at 16 refl) h.1; leaves = λ w. exit_after (at 16 refl) h.1 w }) order (append-nil (pending_of k n)) h.0 (λ free. omega arith)
+  right_40 h = goes 0x44 need.Exit n.sender (λ u. r) tt (record { wants = exit_need (at 16 refl) h.1; leaves = λ w. exit_after (at 16 refl) h.1 w }) order (append-nil (pending_of k n.sender n.landed)) h.0 (λ free. omega arith)

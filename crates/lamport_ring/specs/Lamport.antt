@@ -1,15 +1,15 @@
 -- Lamport's ring, what its histories mean, and how far its harts are from their ends.
-use Rattle.std.specs.Prelude.{ℕ, ◌≤◌, ◌+◌, ◌*◌, ◌%◌, ◌==◌, Bool, false, ◌&&◌, if◌then◌else◌, slice_index}
+use Rattle.std.specs.Prelude.{ℕ, ◌+◌, ◌*◌, ◌%◌, ◌==◌, Bool, false, ◌&&◌, if◌then◌else◌, slice_index}
 use Rattle.hart.specs.State.{HartState}
 use Rattle.poll_close.specs.Laws.{Ring, Meaning}
 use Rattle.poll_close.specs.Paces.{Pace}
 use Rattle.poll_close.specs.Invariant.BlockMeaning.{BlockMeaning}
-use Rattle.poll_close.specs.Invariant.Outlines.{Standing, left_of}
+use Rattle.poll_close.specs.Invariant.Outlines.{left_of}
 use Rattle.poll_close.specs.Invariant.Channels.{means_by}
 use Rattle.lamport_ring.specs.Listing.{sender_code, receiver_code}
-use Rattle.lamport_ring.specs.Invariant.Numbers.{Numbers, Ordered, Words, pending_of, unread_of}
+use Rattle.lamport_ring.specs.Invariant.Numbers.{Taken, Landed, Ordered, Words, pending_of, unread_of}
 use Rattle.lamport_ring.specs.Invariant.Sender.{sender}
-use Rattle.lamport_ring.specs.Invariant.Middle.{middle, Headed, More, At1C, At20, At24}
+use Rattle.lamport_ring.specs.Invariant.Middle.{middle, More, At18, At1C, At20, At24}
 
 -- one slot stays free, so a ring has at least two
 abbrev pub lamport : Ring
@@ -18,22 +18,23 @@ lamport = record { sender = sender_code; receiver = receiver_code; least = 2 }
 -- the receiver takes a word out of its slot by its tail alone: it has no step of its own half done
 abbrev pub lamport_blocks : BlockMeaning
 lamport_blocks = record {
-  Count = Numbers;
-  tails = λ n. n.c;
-  dones = λ n. n.d;
+  sender = sender;
+  Receiver = Taken;
+  Landed = Landed;
+  tails = λ n. n.tails;
+  dones = λ n. n.done;
   took = λ n. n.took;
   shut = λ n. n.shut;
-  marks = λ n. n.km;
+  seen_mark = λ n. n.mark;
+  marks = λ n. n.mark;
   Ordered = Ordered;
   Words = Words;
   unsent = pending_of;
   unread = unread_of;
-  Stands = λ k n s. Standing sender k n.made s;
   Level = λ n. Unit {0};
   Filled = More;
-  Later = λ n new. n.kh ≤ new.kh;
   middle = middle;
-  At18 = Headed;
+  At18 = At18;
   At1C = At1C;
   At20 = At20;
   At24 = At24;

@@ -24,13 +24,13 @@ use Rattle.step_machine.specs.Legal.{Legal}
 use Rattle.step_machine.specs.Runs.{CanFollow}
 use Rattle.poll_close.specs.Going.{GoesOn}
 use Rattle.poll_close.specs.Invariant.Blocks.{Block, block_of, is_within, as_write, as_writes, to_block}
-use Rattle.poll_close.specs.Invariant.BlockMeaning.{BlockMeaning}
+use Rattle.poll_close.specs.Invariant.BlockMeaning.{BlockMeaning, Count, unsent_of, unread_of}
 use Rattle.poll_close.specs.Invariant.Channels.{BlockPart}
 use Rattle.poll_close.proofs.Acts.{Acted, Landed, acted, landed, Plain, going, stored_by}
 use Rattle.poll_close.proofs.Windows.{get_end}
 use Rattle.poll_close.proofs.Writes.{IsWrite}
 use Rattle.poll_close.proofs.Blocks.{IsBlock, Within, IsStore-whole, apart, outside_differs, newest-as_writes, first-as_writes, choose}
-use Rattle.poll_close.proofs.BlockLaws.{BlockLaws, found_in, Grows, Sends, Lands}
+use Rattle.poll_close.proofs.BlockLaws.{BlockLaws, found_in, Sends, Lands}
 
 -- what a need would read where this is found
 abbrev pub would_read : (ℕ → ℕ) → Need → ℕ
@@ -55,94 +55,98 @@ pub record Untouched (M : ℕ) (k : Block) (i : ℕ) (t new : History) : Type 0 
   pub theirs : to_block k (pending 0 new.entries) ≡ to_block k (pending 0 t.entries)
   pub memory : (a : ℕ) → Within k a → word_in_memory new.opening new.entries a ≡ word_in_memory t.opening t.entries a
 
-module _ (m : BlockMeaning) (code : List ℕ) (laws : BlockLaws m code) (M : ℕ) (k : Block) (i : ℕ) (t new : History) (n : m.Count) (is : IsBlock k) (part : BlockPart m k M i t n) where
+-- a block's statement after an event that is not the receiver's act: the receiver's own numbers are as they were
+abbrev pub Grown : (m : BlockMeaning) → ℕ → Block → ℕ → History → Count m → Type 0
+Grown m M k i new n = (after : Count m) × BlockPart m k M i new after × (after.receiver ≡ n.receiver)
+
+module _ (m : BlockMeaning) (laws : BlockLaws m) (M : ℕ) (k : Block) (i : ℕ) (t new : History) (n : Count m) (is : IsBlock k) (part : BlockPart m k M i t n) where
   pub untouched : Untouched M k i t new → BlockPart m k M i new n
   untouched u = record {
     order = part.order;
     sender = record { stands = part.sender.stands; state = u.state ∙ part.sender.state; holds = part.sender.holds; buffer = u.buffer ∙ part.sender.buffer };
     theirs = u.theirs ∙ part.theirs;
-    words = laws.words_same k n (word_in_memory t.opening t.entries) (word_in_memory new.opening new.entries) is u.memory part.words;
+    words = laws.words_same k n.landed (word_in_memory t.opening t.entries) (word_in_memory new.opening new.entries) is u.memory part.words;
   }
 
   -- a store landed
-  pub lands_part : (mine theirs : List (ℕ × ℕ)) → Lands m k n (word_in_memory new.opening new.entries) mine theirs → pending (i + 1) new.entries ≡ as_writes mine → to_block k (pending 0 new.entries) ≡ as_writes theirs → state_of M new (i + 1) ≡ state_of M t (i + 1) → (after : m.Count) × (BlockPart m k M i new after × Grows m n after)
+  pub lands_part : (mine theirs : List (ℕ × ℕ)) → Lands m k n (word_in_memory new.opening new.entries) mine theirs → pending (i + 1) new.entries ≡ as_writes mine → to_block k (pending 0 new.entries) ≡ as_writes theirs → state_of M new (i + 1) ≡ state_of M t (i + 1) → Grown m M k i new n
   lands_part mine theirs l my their state = (
-    l.after,
-    (
-      record {
-        order = l.order;
-        sender = record { stands = part.sender.stands; state = state ∙ part.sender.state; holds = l.sender part.sender.stands part.sender.holds; buffer = my ∙ ap as_writes l.unsent };
-        theirs = their ∙ ap as_writes l.unread;
-        words = l.words;
-      },
-      l.grows,
-    ),
+    record n { landed = l.after },
+    record {
+      order = l.order;
+      sender = record { stands = part.sender.stands; state = state ∙ part.sender.state; holds = part.sender.holds; buffer = my ∙ ap as_writes l.unsent };
+      theirs = their ∙ ap as_writes l.unread;
+      words = l.words;
+    },
+    refl,
   )
 
   -- the sender needs no AMO and no stop, and stores whole words
   pub sender_plain : part.sender.stands.status ≡ status.Running → Plain (need_of part.sender.stands)
   sender_plain runs =
-      let seen : ℕ → ℕ = found_in (m.unsent k n) (word_in_memory t.opening t.entries) in
+      let seen : ℕ → ℕ = found_in (unsent_of m k n) (word_in_memory t.opening t.entries) in
       let sent : Sends m k n part.sender.stands (would_read seen (need_of part.sender.stands)) = laws.sends k n part.sender.stands (word_in_memory t.opening t.entries) (would_read seen (need_of part.sender.stands)) is part.order part.words part.sender.holds runs (λ a within wants. ap (would_read seen) wants) in
       record {
         no_amo = sent.plain;
-        whole = λ x one. IsStore-whole k x (laws.unsent_are k sent.after is sent.order (length (m.unsent k n)) x (ap (λ ps. slice_get ps (length (m.unsent k n))) (sym sent.unsent ∙ ap (λ ps. m.unsent k n ++ ps) one) ∙ get_end (m.unsent k n) x));
+        whole = λ x one. IsStore-whole k x (laws.unsent_are k (record n { sender = sent.after }) is sent.order (length (unsent_of m k n)) x (ap (λ ps. slice_get ps (length (unsent_of m k n))) (sym sent.unsent ∙ ap (λ ps. unsent_of m k n ++ ps) one) ∙ get_end (unsent_of m k n) x));
       }
 
   -- the sender acted
-  pub acts_part : (v : ℕ) → OpensWithWords t.opening → AllWriteWords t.entries → Acted M t new (i + 1) part.sender.stands v → (after : m.Count) × (BlockPart m k M i new after × Grows m n after)
+  pub acts_part : (v : ℕ) → OpensWithWords t.opening → AllWriteWords t.entries → Acted M t new (i + 1) part.sender.stands v → Grown m M k i new n
   acts_part v opens written a =
       let s : HartState = part.sender.stands in
       let sent : Sends m k n s v = laws.sends k n s (word_in_memory t.opening t.entries) v is part.order part.words part.sender.holds a.running (λ b word wants. a.loaded b wants ∙ found b word.aligned) in (
-        sent.after,
-        (
-          record {
-            order = sent.order;
-            sender = record { stands = advanced s v; state = a.state; holds = sent.stands; buffer = a.buffer ∙ ap (λ ws. ws ++ as_writes (stored_by (need_of s))) part.sender.buffer ∙ sym (map-append as_write (m.unsent k n) (stored_by (need_of s))) ∙ ap as_writes sent.unsent };
-            theirs = ap (to_block k) (a.buffers 0 (omega arith)) ∙ part.theirs ∙ ap as_writes (sym sent.unread);
-            words = laws.words_same k sent.after (word_in_memory t.opening t.entries) (word_in_memory new.opening new.entries) is (λ b within. a.memory b) (sent.words (word_in_memory t.opening t.entries) part.words);
-          },
-          sent.grows,
-        ),
+        record n { sender = sent.after },
+        record {
+          order = sent.order;
+          sender = record { stands = advanced s v; state = a.state; holds = sent.stands; buffer = a.buffer ∙ ap (λ ws. ws ++ as_writes (stored_by (need_of s))) part.sender.buffer ∙ sym (map-append as_write (unsent_of m k n) (stored_by (need_of s))) ∙ ap as_writes sent.unsent };
+          theirs = ap (to_block k) (a.buffers 0 (omega arith)) ∙ part.theirs;
+          words = laws.words_same k n.landed (word_in_memory t.opening t.entries) (word_in_memory new.opening new.entries) is (λ b within. a.memory b) part.words;
+        },
+        refl,
       )
     where
-      found : (b : ℕ) → b % 4 ≡ 0 → read t.opening t.entries (i + 1) b 4 ≡ found_in (m.unsent k n) (word_in_memory t.opening t.entries) b
+      found : (b : ℕ) → b % 4 ≡ 0 → read t.opening t.entries (i + 1) b 4 ≡ found_in (unsent_of m k n) (word_in_memory t.opening t.entries) b
       found b aligned =
           read_is t (i + 1) b opens written aligned
           ∙ ap (λ ws. unwrap_or (newest_word b None ws) (word_in_memory t.opening t.entries b)) part.sender.buffer
-          ∙ ap (λ o. unwrap_or o (word_in_memory t.opening t.entries b)) (newest-as_writes b None (m.unsent k n))
+          ∙ ap (λ o. unwrap_or o (word_in_memory t.opening t.entries b)) (newest-as_writes b None (unsent_of m k n))
 
 -- a landing writes the word that its store says
 writes : (word new : ℕ → ℕ) (w : Write) (x : ℕ × ℕ) → w ≡ as_write x → ((a : ℕ) → new a ≡ (if w.addr == a then w.value else word a)) → IsWrite word new x
 writes word new w x same write = subst (λ (u : Write). (a : ℕ) → new a ≡ (if u.addr == a then u.value else word a)) same write
 
-pub grows_same : (m : BlockMeaning) (code : List ℕ) → BlockLaws m code → (n : m.Count) → Grows m n n
-grows_same m code laws n = record { tails = refl; dones = refl; took = refl; shut = refl; marks = omega arith; later = laws.later_same n }
+-- and all blocks' statements after it
+pub record BlocksAfter (m : BlockMeaning) (M S : ℕ) (lists : List (List ℕ)) (new : History) (f : ℕ → Count m) : Type 0 where
+  pub numbers : ℕ → Count m
+  pub parts : (i : ℕ) → i < length lists → BlockPart m (block_of M S lists i) M i new (numbers i)
+  pub same : (i : ℕ) → i < length lists → (numbers i).receiver ≡ (f i).receiver
 
--- all blocks' statements after an event, the receiver's numbers being as they were
-abbrev pub BlocksAfter : (m : BlockMeaning) (M S : ℕ) → List (List ℕ) → History → (ℕ → m.Count) → Type 0
-BlocksAfter m M S lists new f = (g : ℕ → m.Count) × ((i : ℕ) → i < length lists → BlockPart m (block_of M S lists i) M i new (g i) × Grows m (f i) (g i))
+module _ (m : BlockMeaning) (laws : BlockLaws m) (B M S : ℕ) (lists : List (List ℕ)) (are : (i : ℕ) → i < length lists → IsBlock (block_of M S lists i)) (t : History) (f : ℕ → Count m) (legal : Legal B t) (opens : OpensWithWords t.opening) (written : AllWriteWords t.entries) (parts : (i : ℕ) → i < length lists → BlockPart m (block_of M S lists i) M i t (f i)) where
+  abbrev Now : History → ℕ → Type 0
+  Now new i = Grown m M (block_of M S lists i) i new (f i)
 
-module _ (m : BlockMeaning) (code : List ℕ) (laws : BlockLaws m code) (B M S : ℕ) (lists : List (List ℕ)) (are : (i : ℕ) → i < length lists → IsBlock (block_of M S lists i)) (t : History) (f : ℕ → m.Count) (legal : Legal B t) (opens : OpensWithWords t.opening) (written : AllWriteWords t.entries) (parts : (i : ℕ) → i < length lists → BlockPart m (block_of M S lists i) M i t (f i)) where
-  abbrev Now : History → ℕ → m.Count → Type 0
-  Now new i n = BlockPart m (block_of M S lists i) M i new n × Grows m (f i) n
+  all_now : (new : History) → ((i : ℕ) → i < length lists → Now new i) → BlocksAfter m M S lists new f
+  all_now new each =
+      let g = choose (Count m) (λ i n. BlockPart m (block_of M S lists i) M i new n × (n.receiver ≡ (f i).receiver)) (f 0) (length lists) (λ i less. (let one : Now new i = each i less in (one.0, (one.1, one.2)))) in
+      record { numbers = g.0; parts = λ i less. (g.1 i less).0; same = λ i less. (g.1 i less).1 }
 
   -- one block has new numbers, and all others are untouched
-  one_changed : (new : History) (j : ℕ) → (n : m.Count) × Now new j n → ((i : ℕ) → i < length lists → i ≢ j → Untouched M (block_of M S lists i) i t new) → BlocksAfter m M S lists new f
-  one_changed new j mine others = choose m.Count (Now new) (f 0) (length lists) (λ i less. at i less (cases_eq i j))
+  one_changed : (new : History) (j : ℕ) → Now new j → ((i : ℕ) → i < length lists → i ≢ j → Untouched M (block_of M S lists i) i t new) → BlocksAfter m M S lists new f
+  one_changed new j mine others = all_now new (λ i less. at i less (cases_eq i j))
     where
-      at : (i : ℕ) → i < length lists → (i ≡ j) ⊎ (i ≢ j) → (n : m.Count) × Now new i n
-      at i less (inl same) = subst (λ (z : ℕ). (n : m.Count) × Now new z n) (sym same) mine
-      at i less (inr other) = (f i, (untouched m code laws M (block_of M S lists i) i t new (f i) (are i less) (parts i less) (others i less other), grows_same m code laws (f i)))
+      at : (i : ℕ) → i < length lists → (i ≡ j) ⊎ (i ≢ j) → Now new i
+      at i less (inl same) = subst (Now new) (sym same) mine
+      at i less (inr other) = (f i, untouched m laws M (block_of M S lists i) i t new (f i) (are i less) (parts i less) (others i less other), refl)
 
   -- a sender acts
   pub sender_goes_on : (j : ℕ) (within : j < length lists) (e : Entry) → CanFollow B M t e → hart_of e ≡ j + 1 → is_land e ≡ false → GoesOn e × WritesWord (access_of e)
-  sender_goes_on j within e can mine alone = going B M t (j + 1) (parts j within).sender.stands e (parts j within).sender.state can mine alone (sender_plain m code laws M (block_of M S lists j) j t t (f j) (are j within) (parts j within))
+  sender_goes_on j within e can mine alone = going B M t (j + 1) (parts j within).sender.stands e (parts j within).sender.state can mine alone (sender_plain m laws M (block_of M S lists j) j t t (f j) (are j within) (parts j within))
 
   pub sender_acts : (j : ℕ) (within : j < length lists) (e : Entry) → CanFollow B M t e → hart_of e ≡ j + 1 → is_land e ≡ false → BlocksAfter m M S lists (with_entry t e) f
   sender_acts j within e can mine alone =
-      let a : Acted M t (with_entry t e) (j + 1) (parts j within).sender.stands (value_of e) = acted B M t (j + 1) (parts j within).sender.stands e legal (parts j within).sender.state can mine alone (sender_plain m code laws M (block_of M S lists j) j t t (f j) (are j within) (parts j within)) in
-      one_changed (with_entry t e) j (acts_part m code laws M (block_of M S lists j) j t (with_entry t e) (f j) (are j within) (parts j within) (value_of e) opens written a) (λ i less other. record {
+      let a : Acted M t (with_entry t e) (j + 1) (parts j within).sender.stands (value_of e) = acted B M t (j + 1) (parts j within).sender.stands e legal (parts j within).sender.state can mine alone (sender_plain m laws M (block_of M S lists j) j t t (f j) (are j within) (parts j within)) in
+      one_changed (with_entry t e) j (acts_part m laws M (block_of M S lists j) j t (with_entry t e) (f j) (are j within) (parts j within) (value_of e) opens written a) (λ i less other. record {
         state = a.states (i + 1) (λ same. other (omega arith));
         buffer = a.buffers (i + 1) (λ same. other (omega arith));
         theirs = ap (to_block (block_of M S lists i)) (a.buffers 0 (omega arith));
@@ -153,7 +157,7 @@ module _ (m : BlockMeaning) (code : List ℕ) (laws : BlockLaws m code) (B M S :
   pub sender_store_lands : (j : ℕ) (within : j < length lists) → CanFollow B M t (entry.Land (j + 1)) → BlocksAfter m M S lists (with_entry t (entry.Land (j + 1))) f
   sender_store_lands j within can =
       let l = landed B M t (j + 1) legal can in
-      at l.0 l.1 l.2 (first-as_writes (m.unsent (block_of M S lists j) (f j)) l.0 l.1 (sym (parts j within).sender.buffer ∙ l.2.first))
+      at l.0 l.1 l.2 (first-as_writes (unsent_of m (block_of M S lists j) (f j)) l.0 l.1 (sym (parts j within).sender.buffer ∙ l.2.first))
     where
       missed : (x : ℕ × ℕ) (i a : ℕ) → i ≢ j → Within (block_of M S lists i) a → Within (block_of M S lists j) x.0 → (x.0 == a) ≡ false
       missed x i a other here inside =
@@ -162,12 +166,12 @@ module _ (m : BlockMeaning) (code : List ℕ) (laws : BlockLaws m code) (B M S :
             | inr differ ↦ grind (arith, nat_tests)
           ]
 
-      at : (w : Write) (rest : List Write) → Landed M t (with_entry t (entry.Land (j + 1))) (j + 1) w rest → (x : ℕ × ℕ) × (more : List (ℕ × ℕ)) × (m.unsent (block_of M S lists j) (f j) ≡ x ∷ more) × (w ≡ as_write x) × (rest ≡ as_writes more) → BlocksAfter m M S lists (with_entry t (entry.Land (j + 1))) f
+      at : (w : Write) (rest : List Write) → Landed M t (with_entry t (entry.Land (j + 1))) (j + 1) w rest → (x : ℕ × ℕ) × (more : List (ℕ × ℕ)) × (unsent_of m (block_of M S lists j) (f j) ≡ x ∷ more) × (w ≡ as_write x) × (rest ≡ as_writes more) → BlocksAfter m M S lists (with_entry t (entry.Land (j + 1))) f
       at w rest l oldest =
           let x : ℕ × ℕ = oldest.0 in
           let inside : Within (block_of M S lists j) x.0 = (laws.unsent_are (block_of M S lists j) (f j) (are j within) (parts j within).order 0 x (ap (λ ps. slice_get ps 0) oldest.2)).place.within in
           one_changed (with_entry t (entry.Land (j + 1))) j
-          (lands_part m code laws M (block_of M S lists j) j t (with_entry t (entry.Land (j + 1))) (f j) (are j within) (parts j within) oldest.1 (m.unread (block_of M S lists j) (f j))
+          (lands_part m laws M (block_of M S lists j) j t (with_entry t (entry.Land (j + 1))) (f j) (are j within) (parts j within) oldest.1 (unread_of m (block_of M S lists j) (f j))
           (laws.sender_lands (block_of M S lists j) (f j) (word_in_memory t.opening t.entries) (word_in_memory (with_entry t (entry.Land (j + 1))).opening (with_entry t (entry.Land (j + 1))).entries) x oldest.1 (are j within) (parts j within).order (parts j within).words oldest.2 (writes (word_in_memory t.opening t.entries) (word_in_memory (with_entry t (entry.Land (j + 1))).opening (with_entry t (entry.Land (j + 1))).entries) w x oldest.3 l.memory))
           (l.buffer ∙ oldest.4) (ap (to_block (block_of M S lists j)) (l.buffers 0 (omega arith)) ∙ (parts j within).theirs) (l.states (j + 1)))
           (λ i less other. record {
@@ -181,27 +185,25 @@ module _ (m : BlockMeaning) (code : List ℕ) (laws : BlockLaws m code) (B M S :
   pub receiver_store_lands : CanFollow B M t (entry.Land 0) → BlocksAfter m M S lists (with_entry t (entry.Land 0)) f
   receiver_store_lands can =
       let l = landed B M t 0 legal can in
-      choose m.Count (Now (with_entry t (entry.Land 0))) (f 0) (length lists) (λ i less. at i less l.0 l.1 l.2 (is_within (block_of M S lists i) l.0.addr) refl)
+      all_now (with_entry t (entry.Land 0)) (λ i less. at i less l.0 l.1 l.2 (is_within (block_of M S lists i) l.0.addr) refl)
     where
-      visited : (i : ℕ) (less : i < length lists) (w : Write) (rest : List Write) → Landed M t (with_entry t (entry.Land 0)) 0 w rest → (x : ℕ × ℕ) × (more : List (ℕ × ℕ)) × (m.unread (block_of M S lists i) (f i) ≡ x ∷ more) × (w ≡ as_write x) × (to_block (block_of M S lists i) rest ≡ as_writes more) → (n : m.Count) × Now (with_entry t (entry.Land 0)) i n
+      visited : (i : ℕ) (less : i < length lists) (w : Write) (rest : List Write) → Landed M t (with_entry t (entry.Land 0)) 0 w rest → (x : ℕ × ℕ) × (more : List (ℕ × ℕ)) × (unread_of m (block_of M S lists i) (f i) ≡ x ∷ more) × (w ≡ as_write x) × (to_block (block_of M S lists i) rest ≡ as_writes more) → Now (with_entry t (entry.Land 0)) i
       visited i less w rest l oldest =
-          lands_part m code laws M (block_of M S lists i) i t (with_entry t (entry.Land 0)) (f i) (are i less) (parts i less) (m.unsent (block_of M S lists i) (f i)) oldest.1
+          lands_part m laws M (block_of M S lists i) i t (with_entry t (entry.Land 0)) (f i) (are i less) (parts i less) (unsent_of m (block_of M S lists i) (f i)) oldest.1
           (laws.receiver_lands (block_of M S lists i) (f i) (word_in_memory t.opening t.entries) (word_in_memory (with_entry t (entry.Land 0)).opening (with_entry t (entry.Land 0)).entries) oldest.0 oldest.1 (are i less) (parts i less).order (parts i less).words oldest.2 (writes (word_in_memory t.opening t.entries) (word_in_memory (with_entry t (entry.Land 0)).opening (with_entry t (entry.Land 0)).entries) w oldest.0 oldest.3 l.memory))
           (l.buffers (i + 1) (omega arith) ∙ (parts i less).sender.buffer) (ap (to_block (block_of M S lists i)) l.buffer ∙ oldest.4) (l.states (i + 1))
 
-      at : (i : ℕ) → i < length lists → (w : Write) (rest : List Write) → Landed M t (with_entry t (entry.Land 0)) 0 w rest → (b : Bool) → is_within (block_of M S lists i) w.addr ≡ b → (n : m.Count) × Now (with_entry t (entry.Land 0)) i n
+      at : (i : ℕ) → i < length lists → (w : Write) (rest : List Write) → Landed M t (with_entry t (entry.Land 0)) 0 w rest → (b : Bool) → is_within (block_of M S lists i) w.addr ≡ b → Now (with_entry t (entry.Land 0)) i
       at i less w rest l true on =
           let first : to_block (block_of M S lists i) (pending 0 t.entries) ≡ w ∷ to_block (block_of M S lists i) rest = ap (to_block (block_of M S lists i)) l.first ∙ rw on refl in
-          visited i less w rest l (first-as_writes (m.unread (block_of M S lists i) (f i)) w (to_block (block_of M S lists i) rest) (sym (parts i less).theirs ∙ first))
+          visited i less w rest l (first-as_writes (unread_of m (block_of M S lists i) (f i)) w (to_block (block_of M S lists i) rest) (sym (parts i less).theirs ∙ first))
       at i less w rest l false off = (
         f i,
-        (
-          untouched m code laws M (block_of M S lists i) i t (with_entry t (entry.Land 0)) (f i) (are i less) (parts i less) (record {
-            state = l.states (i + 1);
-            buffer = l.buffers (i + 1) (omega arith);
-            theirs = ap (to_block (block_of M S lists i)) l.buffer ∙ sym (ap (to_block (block_of M S lists i)) l.first ∙ rw off refl);
-            memory = λ a here. l.memory a ∙ (let miss : (w.addr == a) ≡ false = outside_differs (block_of M S lists i) a w.addr here off in rw miss refl);
-          }),
-          grows_same m code laws (f i),
-        ),
+        untouched m laws M (block_of M S lists i) i t (with_entry t (entry.Land 0)) (f i) (are i less) (parts i less) (record {
+          state = l.states (i + 1);
+          buffer = l.buffers (i + 1) (omega arith);
+          theirs = ap (to_block (block_of M S lists i)) l.buffer ∙ sym (ap (to_block (block_of M S lists i)) l.first ∙ rw off refl);
+          memory = λ a here. l.memory a ∙ (let miss : (w.addr == a) ≡ false = outside_differs (block_of M S lists i) a w.addr here off in rw miss refl);
+        }),
+        refl,
       )

@@ -27,7 +27,7 @@ use Rattle.poll_close.specs.Going.{GoesOn, AllGoOn}
 use Rattle.poll_close.specs.Invariant.Blocks.{block_of, as_writes}
 use Rattle.poll_close.specs.Invariant.ReceiverState.{receiver_of}
 use Rattle.poll_close.specs.Invariant.ReceiverPlaces.{Pc00}
-use Rattle.poll_close.specs.Invariant.BlockMeaning.{BlockMeaning, Quiet}
+use Rattle.poll_close.specs.Invariant.BlockMeaning.{BlockMeaning, Count, Quiet}
 use Rattle.poll_close.specs.Invariant.Channels.{BlockPart, ReportsOf, shuts, Channel, means_by}
 use Rattle.poll_close.proofs.Blocks.{IsBlock}
 use Rattle.poll_close.proofs.BlockLaws.{BlockLaws, Begins, opens_with}
@@ -99,22 +99,22 @@ all_go_on (x ∷ es) e all one (suc j) d is = all_go_on es e (λ i c at. all (su
 one_more : (es : List Entry) (e : Entry) → AllWriteWords es → WritesWord (access_of e) → AllWriteWords (es ++ e ∷ [])
 one_more es e all one = AllWriteWords-append es (e ∷ []) all (one, tt)
 
-module _ (m : BlockMeaning) (code : List ℕ) (laws : BlockLaws m code) (least : ℕ) (some : 1 ≤ least) where
+module _ (m : BlockMeaning) (laws : BlockLaws m) (least : ℕ) (some : 1 ≤ least) where
   abbrev pub ring_by : Ring
-  ring_by = record { sender = code; receiver = receiver_of m.middle; least = least }
+  ring_by = record { sender = m.sender.code; receiver = receiver_of m.middle; least = least }
 
   module _ (M S : ℕ) (lists : List (List ℕ)) (accepted : Accepted ring_by M lists S) where
-    begun : (i : ℕ) → i < length lists → Begins m (block_of M S lists i) (opens_with code (block_of M S lists i))
+    begun : (i : ℕ) → i < length lists → Begins m (block_of M S lists i) (opens_with m.sender.code (block_of M S lists i))
     begun i within = laws.begins (block_of M S lists i) (blocks ring_by M S lists some accepted i within)
 
-    pick : (i : ℕ) → (i < length lists) ⊎ (length lists ≤ i) → m.Count
+    pick : (i : ℕ) → (i < length lists) ⊎ (length lists ≤ i) → Count m
     pick i (inl within) = (begun i within).none
     pick i (inr past) = (begun 0 (omega (arith, accepted.some_sender))).none
 
-    none : ℕ → m.Count
+    none : ℕ → Count m
     none i = pick i (cases_lt i (length lists))
 
-    each : (P : ℕ → m.Count → Type 0) → ((i : ℕ) (within : i < length lists) → P i (begun i within).none) → (i : ℕ) → i < length lists → P i (none i)
+    each : (P : ℕ → Count m → Type 0) → ((i : ℕ) (within : i < length lists) → P i (begun i within).none) → (i : ℕ) → i < length lists → P i (none i)
     unfolding pick begun none
     each P all i within = at (cases_lt i (length lists))
       where
@@ -122,24 +122,24 @@ module _ (m : BlockMeaning) (code : List ℕ) (laws : BlockLaws m code) (least :
         at (inl less) = all i less
         at (inr more) = absurd (omega arith)
 
-    quiet : (i : ℕ) → i < length lists → Quiet m (none i)
-    quiet = each (λ i n. Quiet m n) (λ i within. (let b = begun i within in record { words = b.took ∙ sym b.tails; closed = b.shut ∙ sym b.dones; level = b.level }))
+    quiet : (i : ℕ) → i < length lists → Quiet m (none i).receiver
+    quiet = each (λ i n. Quiet m n.receiver) (λ i within. (let b = begun i within in record { words = b.took ∙ sym b.tails; closed = b.shut ∙ sym b.dones; level = b.level }))
 
     none_shut : (count : ℕ) → count ≤ length lists → count + shuts m none count ≡ count + 0
     none_shut zero less = refl
     none_shut (suc i) less =
-        let last : m.shut (none i) ≡ 0 = each (λ j n. m.shut n ≡ 0) (λ j within. (begun j within).shut) i (omega arith) in
+        let last : m.shut (none i).receiver ≡ 0 = each (λ j n. m.shut n.receiver ≡ 0) (λ j within. (begun j within).shut) i (omega arith) in
         omega (arith, last, none_shut i (omega arith))
 
-    part : (i : ℕ) → i < length lists → BlockPart m (block_of M S lists i) M i (unrun (opening_of code (receiver_of m.middle) lists S)) (none i)
-    part = each (λ i n. BlockPart m (block_of M S lists i) M i (unrun (opening_of code (receiver_of m.middle) lists S)) n) (λ i within. (let b = begun i within in record {
+    part : (i : ℕ) → i < length lists → BlockPart m (block_of M S lists i) M i (unrun (opening_of m.sender.code (receiver_of m.middle) lists S)) (none i)
+    part = each (λ i n. BlockPart m (block_of M S lists i) M i (unrun (opening_of m.sender.code (receiver_of m.middle) lists S)) n) (λ i within. (let b = begun i within in record {
       order = b.order;
-      sender = record { stands = opens_with code (block_of M S lists i); state = start_state code (receiver_of m.middle) M S lists i within; holds = b.stands; buffer = ap as_writes (sym b.unsent) };
+      sender = record { stands = opens_with m.sender.code (block_of M S lists i); state = start_state m.sender.code (receiver_of m.middle) M S lists i within; holds = b.stands; buffer = ap as_writes (sym b.unsent) };
       theirs = ap as_writes (sym b.unread);
       words = b.words;
     }))
 
-    opened : Channel m M S lists (unrun (opening_of code (receiver_of m.middle) lists S))
+    opened : Channel m M S lists (unrun (opening_of m.sender.code (receiver_of m.middle) lists S))
     opened = record {
       numbers = none;
       parts = part;
@@ -154,7 +154,7 @@ module _ (m : BlockMeaning) (code : List ℕ) (laws : BlockLaws m code) (least :
         count = none_shut (length lists) (omega arith);
       };
       reports = record {
-        senders = each (λ j n. ReportsOf [] j (slice_index_or lists j []) (m.took n) (m.shut n)) (λ j within. (let b = begun j within in record {
+        senders = each (λ j n. ReportsOf [] j (slice_index_or lists j []) (m.took n.receiver) (m.shut n.receiver)) (λ j within. (let b = begun j within in record {
           words = ap (λ c. take c (slice_index_or lists j [])) (sym b.took);
           closed = λ k is. cc;
           said = λ is. absurd (omega (arith, b.shut, is));
@@ -180,30 +180,30 @@ module _ (m : BlockMeaning) (code : List ℕ) (laws : BlockLaws m code) (least :
       are : (i : ℕ) → i < length lists → IsBlock (block_of M S lists i)
       are = blocks ring_by M S lists some accepted
 
-      opens_zero : (u : History) → u.opening ≡ opening_of code (receiver_of m.middle) lists S → OpensWithWords u.opening
+      opens_zero : (u : History) → u.opening ≡ opening_of m.sender.code (receiver_of m.middle) lists S → OpensWithWords u.opening
       opens_zero u same = subst OpensWithWords (sym same) (λ i. omega arith)
 
       go_on : (new : History) → state_of M new 0 ≡ state_of M t 0 → reported 0 new.entries ≡ reported 0 t.entries → BlocksAfter m M S lists new ch.numbers → AllGoOn new.entries → AllWriteWords new.entries → Channel m M S lists new
       go_on new state said b all words = record {
         unstopped = all;
         written = words;
-        numbers = b.0;
-        parts = λ i within. (b.1 i within).0;
-        receiver = part_stays m code laws M S lists t new ch.numbers b.0 b.1 state ch.receiver;
-        reports = reports_stay m code laws M S lists t new ch.numbers b.0 b.1 (reported 0 t.entries) (reported 0 new.entries) said ch.reports;
+        numbers = b.numbers;
+        parts = b.parts;
+        receiver = part_stays m M S lists t new ch.numbers b state ch.receiver;
+        reports = reports_stay m M S lists t new ch.numbers b (reported 0 t.entries) (reported 0 new.entries) said ch.reports;
       }
 
       acts : (h : ℕ) → hart_of e ≡ h → is_land e ≡ false → Channel m M S lists (with_entry t e)
       acts zero mine act =
-          let plain : GoesOn e × WritesWord (access_of e) = receiver_goes_on m code laws B M S lists (blocks ring_by M S lists some accepted) accepted.senders t ch.numbers kept.legal (opens_zero t is) ch.written ch.parts ch.receiver ch.reports e can mine act in
-          let r : Received m M S lists (with_entry t e) = receiver_acts m code laws B M S lists (blocks ring_by M S lists some accepted) accepted.senders t ch.numbers kept.legal (opens_zero t is) ch.written ch.parts ch.receiver ch.reports e can mine act in
+          let plain : GoesOn e × WritesWord (access_of e) = receiver_goes_on m laws B M S lists (blocks ring_by M S lists some accepted) accepted.senders t ch.numbers kept.legal (opens_zero t is) ch.written ch.parts ch.receiver ch.reports e can mine act in
+          let r : Received m M S lists (with_entry t e) = receiver_acts m laws B M S lists (blocks ring_by M S lists some accepted) accepted.senders t ch.numbers kept.legal (opens_zero t is) ch.written ch.parts ch.receiver ch.reports e can mine act in
           record { numbers = r.numbers; parts = r.parts; receiver = r.receiver; reports = r.reports; unstopped = all_go_on t.entries e ch.unstopped plain.0; written = one_more t.entries e ch.written plain.1 }
       acts (suc j) mine act =
-          let within : j < length lists = omega (arith, is_hart code (receiver_of m.middle) B M S lists t e is can, mine) in
+          let within : j < length lists = omega (arith, is_hart m.sender.code (receiver_of m.middle) B M S lists t e is can, mine) in
           let other : (hart_of e == 0) ≡ false = grind (arith, nat_tests) in
-          let plain : GoesOn e × WritesWord (access_of e) = sender_goes_on m code laws B M S lists (blocks ring_by M S lists some accepted) t ch.numbers kept.legal (opens_zero t is) ch.written ch.parts j within e can (mine ∙ sym (add-one j)) act in
+          let plain : GoesOn e × WritesWord (access_of e) = sender_goes_on m laws B M S lists (blocks ring_by M S lists some accepted) t ch.numbers kept.legal (opens_zero t is) ch.written ch.parts j within e can (mine ∙ sym (add-one j)) act in
           go_on (with_entry t e) (state_of-other M t 0 e (rw other refl)) (reported-last 0 t.entries e ∙ ap (λ rs. reported 0 t.entries ++ rs) (report_of-other 0 e other) ∙ append-nil (reported 0 t.entries))
-          (sender_acts m code laws B M S lists (blocks ring_by M S lists some accepted) t ch.numbers kept.legal (opens_zero t is) ch.written ch.parts j within e can (mine ∙ sym (add-one j)) act)
+          (sender_acts m laws B M S lists (blocks ring_by M S lists some accepted) t ch.numbers kept.legal (opens_zero t is) ch.written ch.parts j within e can (mine ∙ sym (add-one j)) act)
           (all_go_on t.entries e ch.unstopped plain.0) (one_more t.entries e ch.written plain.1)
 
       lands : (h : ℕ) → e ≡ entry.Land h → (g : ℕ) → h ≡ g → Channel m M S lists (with_entry t e)
@@ -211,13 +211,13 @@ module _ (m : BlockMeaning) (code : List ℕ) (laws : BlockLaws m code) (least :
           let is_0 : e ≡ entry.Land 0 = land ∙ ap entry.Land same in
           subst (λ (d : Entry). Channel m M S lists (with_entry t d)) (sym is_0)
           (go_on (with_entry t (entry.Land 0)) (states_land M t 0 0) (reported-last 0 t.entries (entry.Land 0) ∙ append-nil (reported 0 t.entries))
-          (receiver_store_lands m code laws B M S lists (blocks ring_by M S lists some accepted) t ch.numbers kept.legal (opens_zero t is) ch.written ch.parts (subst (CanFollow B M t) is_0 can)) (all_go_on t.entries (entry.Land 0) ch.unstopped tt) (one_more t.entries (entry.Land 0) ch.written tt))
+          (receiver_store_lands m laws B M S lists (blocks ring_by M S lists some accepted) t ch.numbers kept.legal (opens_zero t is) ch.written ch.parts (subst (CanFollow B M t) is_0 can)) (all_go_on t.entries (entry.Land 0) ch.unstopped tt) (one_more t.entries (entry.Land 0) ch.written tt))
       lands h land (suc j) same =
           let is_j : e ≡ entry.Land (j + 1) = land ∙ ap entry.Land (same ∙ sym (add-one j)) in
-          let within : j < length lists = omega (arith, is_hart code (receiver_of m.middle) B M S lists t e is can, ap hart_of is_j) in
+          let within : j < length lists = omega (arith, is_hart m.sender.code (receiver_of m.middle) B M S lists t e is can, ap hart_of is_j) in
           subst (λ (d : Entry). Channel m M S lists (with_entry t d)) (sym is_j)
           (go_on (with_entry t (entry.Land (j + 1))) (states_land M t (j + 1) 0) (reported-last 0 t.entries (entry.Land (j + 1)) ∙ append-nil (reported 0 t.entries))
-          (sender_store_lands m code laws B M S lists (blocks ring_by M S lists some accepted) t ch.numbers kept.legal (opens_zero t is) ch.written ch.parts j within (subst (CanFollow B M t) is_j can)) (all_go_on t.entries (entry.Land (j + 1)) ch.unstopped tt) (one_more t.entries (entry.Land (j + 1)) ch.written tt))
+          (sender_store_lands m laws B M S lists (blocks ring_by M S lists some accepted) t ch.numbers kept.legal (opens_zero t is) ch.written ch.parts j within (subst (CanFollow B M t) is_j can)) (all_go_on t.entries (entry.Land (j + 1)) ch.unstopped tt) (one_more t.entries (entry.Land (j + 1)) ch.written tt))
 
   pub cleans : Cleans ring_by (means_by m)
   cleans B M lists S t accepted is kept ch = ch.reports.clean

@@ -14,10 +14,11 @@ use Rattle.poll_close.specs.Layout.{block_size}
 use Rattle.poll_close.specs.Reports.{sender_of}
 use Rattle.poll_close.specs.Paces.{Pace, far_at, far_of, visited_by, some_open, rest_from, runs}
 use Rattle.poll_close.specs.Plans.{is_closed}
+use Rattle.poll_close.specs.Invariant.Outlines.{Standing}
 use Rattle.poll_close.specs.Invariant.Blocks.{Block}
 use Rattle.poll_close.specs.Invariant.ReceiverState.{Middle, Noted, Whole, whole_of, receiving}
 use Rattle.poll_close.specs.Invariant.ReceiverPlaces.{ReceiverPlace, Pc00, Pc04, Pc08, Pc0C, Pc10, Pc14, Pc18, Pc1C, Pc20, Pc24, Pc28, Pc2C, Pc30, Pc34, Pc38, Pc3C, Pc40, Pc44, Pc48, Pc4C, Pc50, Pc54, Pc58, Pc5C, Pc60, Pc64, Pc68, Pc6C, Pc70, Pc74, Pc78, Pc7C, ROver, receives, due}
-use Rattle.poll_close.specs.Invariant.BlockMeaning.{BlockMeaning, ReceiverIs}
+use Rattle.poll_close.specs.Invariant.BlockMeaning.{BlockMeaning, Count, unsent_of, unread_of, ReceiverIs}
 use Rattle.poll_close.proofs.Lines.{loads}
 use Rattle.poll_close.proofs.ReceiverLines.{line_00, line_04, line_08, line_0C-same, line_0C-other, line_10, line_28, line_2C-same, line_2C-other, line_30, line_34, line_38, line_3C, line_40, line_44, line_48-same, line_48-other, line_4C, line_50, line_54, line_58, line_5C, line_60, line_64-other, line_68, line_6C, line_70-same, line_70-other, line_74}
 use Rattle.poll_close.proofs.Blocks.{IsBlock, IsWordOf, offset_low, word_of}
@@ -30,18 +31,18 @@ pub record Falls (p : Pace) (s new : HartState) (T size : ℕ) (sh E : Bool) (re
 
 -- from a place of the middle the receiver comes nearer: where the sender has ended its mark is there,
 -- else a word is ready
-abbrev pub MiddleNears : (m : BlockMeaning) → Pace → (Block → m.Count → Type 0) → ReceiverPlace → Type 0
-MiddleNears m p Ready here = (k : Block) (i count : ℕ) (n : m.Count) (word : ℕ → ℕ) (r : Noted) (v : ℕ) (sh E : Bool) (rest start : ℕ) → IsBlock k → m.Ordered k n → m.Words k n word → Finds m k count here n word r v → ReceiverIs m k i here n r → (E ≡ false → Ready k n) → 40 ≤ rest → Falls p (receives m.middle (whole_of k count) here r) (advanced (receives m.middle (whole_of k count) here r) v) (m.took n) k.size sh E rest start
+abbrev pub MiddleNears : (m : BlockMeaning) → Pace → (Block → Count m → Type 0) → ReceiverPlace → Type 0
+MiddleNears m p Ready here = (k : Block) (i count : ℕ) (n : Count m) (word : ℕ → ℕ) (r : Noted) (v : ℕ) (sh E : Bool) (rest start : ℕ) → IsBlock k → m.Ordered k n → m.Words k n.landed word → Finds m k count here n word r v → ReceiverIs m k i here n.receiver r → (E ≡ false → Ready k n) → 40 ≤ rest → Falls p (receives m.middle (whole_of k count) here r) (advanced (receives m.middle (whole_of k count) here r) v) (m.took n.receiver) k.size sh E rest start
 
 -- what a ring shows of one block for the plan. The least size of a ring is known here.
 pub record BlockProgress (m : BlockMeaning) (p : Pace) (least : ℕ) : Type 1 where
   -- a word is there for the receiver
-  pub Ready : Block → m.Count → Type 0
+  pub Ready : Block → Count m → Type 0
   -- with nothing pending, an act of a sender that does not wait brings it nearer to its end; one that
   -- waits has a word ready; one that has ended has its mark landed
-  pub nearer : (k : Block) (n : m.Count) (s : HartState) (word : ℕ → ℕ) (v : ℕ) → IsBlock k → m.Ordered k n → m.Words k n word → m.Stands k n s → s.status ≡ status.Running → m.unsent k n ≡ [] → m.unread k n ≡ [] → ((a : ℕ) → IsWordOf k a → need_of s ≡ loads a → v ≡ word a) → p.waits s word ≡ false → p.sender (advanced s v) < p.sender s
-  pub ready : (k : Block) (n : m.Count) (s : HartState) (word : ℕ → ℕ) → IsBlock k → least ≤ k.size → m.Ordered k n → m.Words k n word → m.Stands k n s → s.status ≡ status.Running → m.unsent k n ≡ [] → m.unread k n ≡ [] → p.waits s word ≡ true → Ready k n
-  pub marked : (k : Block) (n : m.Count) (s : HartState) → IsBlock k → m.Ordered k n → m.Stands k n s → runs (Some s) ≡ false → m.unsent k n ≡ [] → m.marks n ≡ 1
+  pub nearer : (k : Block) (n : Count m) (s : HartState) (word : ℕ → ℕ) (v : ℕ) → IsBlock k → m.Ordered k n → m.Words k n.landed word → Standing m.sender k n.sender s → s.status ≡ status.Running → unsent_of m k n ≡ [] → unread_of m k n ≡ [] → ((a : ℕ) → IsWordOf k a → need_of s ≡ loads a → v ≡ word a) → p.waits s word ≡ false → p.sender (advanced s v) < p.sender s
+  pub ready : (k : Block) (n : Count m) (s : HartState) (word : ℕ → ℕ) → IsBlock k → least ≤ k.size → m.Ordered k n → m.Words k n.landed word → Standing m.sender k n.sender s → s.status ≡ status.Running → unsent_of m k n ≡ [] → unread_of m k n ≡ [] → p.waits s word ≡ true → Ready k n
+  pub marked : (k : Block) (n : Count m) (s : HartState) → IsBlock k → m.Ordered k n → Standing m.sender k n.sender s → runs (Some s) ≡ false → unsent_of m k n ≡ [] → m.marks n.landed ≡ 1
   -- a visit is not stale once the mark is read, nor where the sender runs
   pub fresh : (f : Whole) (r : Noted) (T size : ℕ) (E : Bool) → (E ≡ true → r.x30 ≡ 1) → p.stale (receiving m.middle f 0x14 r) T size E ≡ false
   pub near_14 : MiddleNears m p Ready Pc14
@@ -108,7 +109,7 @@ module _ (rs : List Report) (n : ℕ) where
       omega (arith, first, last)
 
 -- one act at a place, with the block that it visits
-module _ (m : BlockMeaning) (code : List ℕ) (laws : BlockLaws m code) (p : Pace) (least : ℕ) (prog : BlockProgress m p least) (k : Block) (is : IsBlock k) (i count : ℕ) (base : k.base ≡ i * block_size k.size) (known : i < count) (few : count ≤ 63) (n : m.Count) (order : m.Ordered k n) (word_at : ℕ → ℕ) (words : m.Words k n word_at) (r : Noted) (v : ℕ) (sh E : Bool) (shut_is : r.x22 ≡ i → m.shut n ≢ 0 → sh ≡ true) (marked : r.x22 ≡ i → E ≡ true → m.marks n ≡ 1) (ready : r.x22 ≡ i → E ≡ false → prog.Ready k n) (rest start : ℕ) (off : 40 ≤ rest) where
+module _ (m : BlockMeaning) (laws : BlockLaws m) (p : Pace) (least : ℕ) (prog : BlockProgress m p least) (k : Block) (is : IsBlock k) (i count : ℕ) (base : k.base ≡ i * block_size k.size) (known : i < count) (few : count ≤ 63) (n : Count m) (order : m.Ordered k n) (word_at : ℕ → ℕ) (words : m.Words k n.landed word_at) (r : Noted) (v : ℕ) (sh E : Bool) (shut_is : r.x22 ≡ i → m.shut n.receiver ≢ 0 → sh ≡ true) (marked : r.x22 ≡ i → E ≡ true → m.marks n.landed ≡ 1) (ready : r.x22 ≡ i → E ≡ false → prog.Ready k n) (rest start : ℕ) (off : 40 ≤ rest) where
   abbrev Fell : ReceiverPlace → ℕ → Type 0
   Fell here T = Falls p (receives m.middle (whole_of k count) here r) (advanced (receives m.middle (whole_of k count) here r) v) T k.size sh E rest start
 
@@ -116,14 +117,14 @@ module _ (m : BlockMeaning) (code : List ℕ) (laws : BlockLaws m code) (p : Pac
   goes : (here there : ReceiverPlace) (T : ℕ) (noted : Noted) → advanced (receives m.middle (whole_of k count) here r) v ≡ receives m.middle (whole_of k count) there noted → Falls p (receives m.middle (whole_of k count) here r) (receives m.middle (whole_of k count) there noted) T k.size sh E rest start → Fell here T
   goes here there T noted leaves f = falls leaves f
 
-  falls_08 : (T : ℕ) → ReceiverIs m k i Pc08 n r → Fell Pc08 T
+  falls_08 : (T : ℕ) → ReceiverIs m k i Pc08 n.receiver r → Fell Pc08 T
   falls_08 T h = goes Pc08 Pc0C T (record r { x5 = v }) ((line_08 m.middle (whole_of k count) r (omega (arith, is.even, h.1.base)) (omega (arith, is.inside, is.some_slot, h.1.base)) is.small).leaves v) (record { block = refl; nearer = at sh })
     where
       at : (b : Bool) → (if b then 16 + rest else 21) < (if b then 17 + rest else 22)
       at true = omega arith
       at false = omega arith
 
-  falls_0C : (T : ℕ) → ReceiverIs m k i Pc0C n r → Fell Pc0C T
+  falls_0C : (T : ℕ) → ReceiverIs m k i Pc0C n.receiver r → Fell Pc0C T
   falls_0C T h =
       elim (cases_eq r.x5 0) [
         | inl none ↦ goes Pc0C Pc10 T r ((line_0C-same m.middle (whole_of k count) r none).leaves v) (record { block = refl; nearer = at sh })
@@ -134,54 +135,54 @@ module _ (m : BlockMeaning) (code : List ℕ) (laws : BlockLaws m code) (p : Pac
       at true = omega arith
       at false = omega arith
 
-  falls_10 : (T : ℕ) → ReceiverIs m k i Pc10 n r → v ≡ seen_at m k n word_at (k.base + 4) → Fell Pc10 T
+  falls_10 : (T : ℕ) → ReceiverIs m k i Pc10 n.receiver r → v ≡ seen_at m k n word_at (k.base + 4) → Fell Pc10 T
   falls_10 T h seen =
-      let read : v ≡ m.marks n = seen ∙ laws.sees_mark k n word_at order words in
+      let read : v ≡ m.marks n.landed = seen ∙ laws.sees_mark k n word_at order words in
       let new : p.stale (receiving m.middle (whole_of k count) 0x14 (record r { x30 = v })) T k.size E ≡ false = prog.fresh (whole_of k count) (record r { x30 = v }) T k.size E (λ on. read ∙ marked h.visits.index on) in
       goes Pc10 Pc14 T (record r { x30 = v }) ((line_10 m.middle (whole_of k count) r (omega (arith, is.even, h.visits.base)) (omega (arith, is.inside, is.some_slot, h.visits.base)) is.small).leaves v) (record { block = refl; nearer = rw new (omega arith) })
 
-  falls_28 : (T : ℕ) → ReceiverIs m k i Pc28 n r → Fell Pc28 T
-  falls_28 T h = goes Pc28 Pc2C T (record r { x7 = r.x7 + 4 }) ((line_28 m.middle (whole_of k count) r (omega (arith, is.inside, is.small, h.1, offset_low k is (m.tails n)))).leaves v) (record { block = refl; nearer = omega arith })
+  falls_28 : (T : ℕ) → ReceiverIs m k i Pc28 n.receiver r → Fell Pc28 T
+  falls_28 T h = goes Pc28 Pc2C T (record r { x7 = r.x7 + 4 }) ((line_28 m.middle (whole_of k count) r (omega (arith, is.inside, is.small, h.1, offset_low k is (m.tails n.receiver)))).leaves v) (record { block = refl; nearer = omega arith })
 
-  falls_2C : (T : ℕ) → ReceiverIs m k i Pc2C n r → Fell Pc2C T
+  falls_2C : (T : ℕ) → ReceiverIs m k i Pc2C n.receiver r → Fell Pc2C T
   falls_2C T h =
       elim (cases_eq r.x7 (4 * k.size)) [
         | inl same ↦ goes Pc2C Pc30 T r ((line_2C-same m.middle (whole_of k count) r same).leaves v) (record { block = refl; nearer = omega arith })
         | inr other ↦ goes Pc2C Pc34 T r ((line_2C-other m.middle (whole_of k count) r other).leaves v) (record { block = refl; nearer = omega arith })
       ]
 
-  falls_30 : (T : ℕ) → ReceiverIs m k i Pc30 n r → Fell Pc30 T
+  falls_30 : (T : ℕ) → ReceiverIs m k i Pc30 n.receiver r → Fell Pc30 T
   falls_30 T h = goes Pc30 Pc34 T (record r { x7 = 0 }) ((line_30 m.middle (whole_of k count) r).leaves v) (record { block = refl; nearer = omega arith })
 
-  falls_34 : (T : ℕ) → ReceiverIs m k i Pc34 n r → Fell Pc34 T
+  falls_34 : (T : ℕ) → ReceiverIs m k i Pc34 n.receiver r → Fell Pc34 T
   falls_34 T h = goes Pc34 Pc38 T r ((line_34 m.middle (whole_of k count) r (omega (arith, is.even, h.0.visits.base)) (omega (arith, is.inside, is.some_slot, h.0.visits.base)) is.small).leaves v) (record { block = refl; nearer = omega arith })
 
-  falls_38 : (T : ℕ) → ReceiverIs m k i Pc38 n r → Fell Pc38 T
+  falls_38 : (T : ℕ) → ReceiverIs m k i Pc38 n.receiver r → Fell Pc38 T
   falls_38 T h = goes Pc38 Pc3C T (record r { x10 = r.x22 }) ((line_38 m.middle (whole_of k count) r (omega (arith, h.visits.index, known, few))).leaves v) (record { block = refl; nearer = omega arith })
 
-  falls_3C : (T : ℕ) → ReceiverIs m k i Pc3C n r → Fell Pc3C T
+  falls_3C : (T : ℕ) → ReceiverIs m k i Pc3C n.receiver r → Fell Pc3C T
   falls_3C T h = goes Pc3C Pc40 T (record r { x17 = 2 }) ((line_3C m.middle (whole_of k count) r).leaves v) (record { block = refl; nearer = omega arith })
 
-  falls_44 : (T : ℕ) → ReceiverIs m k i Pc44 n r → Fell Pc44 T
+  falls_44 : (T : ℕ) → ReceiverIs m k i Pc44 n.receiver r → Fell Pc44 T
   falls_44 T h = goes Pc44 Pc68 T r ((line_44 m.middle (whole_of k count) r).leaves v) (record { block = refl; nearer = omega arith })
 
-  falls_48 : (T : ℕ) → ReceiverIs m k i Pc48 n r → Fell Pc48 T
+  falls_48 : (T : ℕ) → ReceiverIs m k i Pc48 n.receiver r → Fell Pc48 T
   falls_48 T h =
       elim (cases_eq r.x30 0) [
         | inl none ↦ goes Pc48 Pc68 T r ((line_48-same m.middle (whole_of k count) r none).leaves v) (record { block = refl; nearer = (let on : (r.x30 == 0) ≡ true = grind (arith, nat_tests) in rw on (omega arith)) })
         | inr some ↦ goes Pc48 Pc4C T r ((line_48-other m.middle (whole_of k count) r some).leaves v) (record { block = refl; nearer = (let not_on : (r.x30 == 0) ≡ false = grind (arith, nat_tests) in rw not_on (omega arith)) })
       ]
 
-  falls_4C : (T : ℕ) → ReceiverIs m k i Pc4C n r → Fell Pc4C T
+  falls_4C : (T : ℕ) → ReceiverIs m k i Pc4C n.receiver r → Fell Pc4C T
   falls_4C T h = goes Pc4C Pc50 T (record r { x5 = 1 }) ((line_4C m.middle (whole_of k count) r).leaves v) (record { block = refl; nearer = omega arith })
 
-  falls_50 : (T : ℕ) → ReceiverIs m k i Pc50 n r → Fell Pc50 T
+  falls_50 : (T : ℕ) → ReceiverIs m k i Pc50 n.receiver r → Fell Pc50 T
   falls_50 T h = goes Pc50 Pc54 T r ((line_50 m.middle (whole_of k count) r (omega (arith, is.even, h.0.visits.base)) (omega (arith, is.inside, is.some_slot, h.0.visits.base)) is.small).leaves v) (record { block = refl; nearer = omega arith })
 
-  falls_54 : (T : ℕ) → ReceiverIs m k i Pc54 n r → Fell Pc54 T
+  falls_54 : (T : ℕ) → ReceiverIs m k i Pc54 n.receiver r → Fell Pc54 T
   falls_54 T h = goes Pc54 Pc58 T (record r { x10 = r.x22 }) ((line_54 m.middle (whole_of k count) r (omega (arith, h.visits.index, known, few))).leaves v) (record { block = refl; nearer = omega arith })
 
-  falls_58 : (T : ℕ) → ReceiverIs m k i Pc58 n r → Fell Pc58 T
+  falls_58 : (T : ℕ) → ReceiverIs m k i Pc58 n.receiver r → Fell Pc58 T
   falls_58 T h = goes Pc58 Pc5C T (record r { x17 = 3 }) ((line_58 m.middle (whole_of k count) r).leaves v) (record { block = refl; nearer = omega arith })
 
   falls_60 : (T : ℕ) → (y : ℕ) → r.x20 ≡ y + 1 → r.x20 ≤ 64 → Fell Pc60 T
@@ -190,16 +191,16 @@ module _ (m : BlockMeaning) (code : List ℕ) (laws : BlockLaws m code) (p : Pac
   falls_64 : (T : ℕ) → 0 < r.x20 → Fell Pc64 T
   falls_64 T owing = goes Pc64 Pc68 T r ((line_64-other m.middle (whole_of k count) r (λ none. omega (arith, none, owing))).leaves v) (record { block = refl; nearer = omega arith })
 
-  falls_68 : (T : ℕ) → ReceiverIs m k i Pc68 n r → Fell Pc68 T
+  falls_68 : (T : ℕ) → ReceiverIs m k i Pc68 n.receiver r → Fell Pc68 T
   falls_68 T h = goes Pc68 Pc6C T (record r { x8 = r.x8 + block_size k.size }) ((line_68 m.middle (whole_of k count) r (omega (arith, h.1.base, is.inside, is.wide, is.some_slot))).leaves v) (record { block = refl; nearer = omega arith })
 
-  falls_6C : (T : ℕ) → ReceiverIs m k i Pc6C n r → Fell Pc6C T
+  falls_6C : (T : ℕ) → ReceiverIs m k i Pc6C n.receiver r → Fell Pc6C T
   falls_6C T h = goes Pc6C Pc70 T (record r { x22 = r.x22 + 1 }) ((line_6C m.middle (whole_of k count) r (omega (arith, h.1, known, few))).leaves v) (record { block = omega arith; nearer = omega arith })
 
-  falls_74 : (T : ℕ) → ReceiverIs m k i Pc74 n r → Fell Pc74 T
+  falls_74 : (T : ℕ) → ReceiverIs m k i Pc74 n.receiver r → Fell Pc74 T
   falls_74 T h = goes Pc74 Pc00 T r ((line_74 m.middle (whole_of k count) r).leaves v) (record { block = refl; nearer = omega arith })
 
-  falls_00 : (T : ℕ) → ReceiverIs m k i Pc00 n r → Fell Pc00 T
+  falls_00 : (T : ℕ) → ReceiverIs m k i Pc00 n.receiver r → Fell Pc00 T
   falls_00 T h = goes Pc00 Pc04 T (record r { x8 = 0 }) ((line_00 m.middle (whole_of k count) r).leaves v) (record { block = refl; nearer = omega arith })
 
   -- it reports something of this sender
@@ -207,7 +208,7 @@ module _ (m : BlockMeaning) (code : List ℕ) (laws : BlockLaws m code) (p : Pac
   Tells here = (x : Report) × (need_of (receives m.middle (whole_of k count) here r) ≡ need.Report x) × (sender_of x ≡ i)
 
   -- wherever it stands, but where it comes to another block
-  pub falls_on : (here : ReceiverPlace) → (T : ℕ) → (r.x22 ≡ i → m.took n ≡ m.tails n → T ≡ m.took n) → Finds m k count here n word_at r v → due here < r.x20 → r.x20 ≤ 64 → ReceiverIs m k i here n r → Tells here ⊎ (Fell here T ⊎ ((here ≡ Pc04) ⊎ (here ≡ Pc70)))
+  pub falls_on : (here : ReceiverPlace) → (T : ℕ) → (r.x22 ≡ i → m.took n.receiver ≡ m.tails n.receiver → T ≡ m.took n.receiver) → Finds m k count here n word_at r v → due here < r.x20 → r.x20 ≤ 64 → ReceiverIs m k i here n.receiver r → Tells here ⊎ (Fell here T ⊎ ((here ≡ Pc04) ⊎ (here ≡ Pc70)))
   falls_on Pc00 T took find owing small h = inr (inl (falls_00 T h))
   falls_on Pc04 T took find owing small h = inr (inr (inl refl))
   falls_on Pc08 T took find owing small h = inr (inl (falls_08 T h))
@@ -286,12 +287,12 @@ visited_at mid f r Pc70 = inl refl
 visited_at mid f r here = inr refl
 
 -- it runs as long as some sender is not counted, and reports a sender closed once at most
-module _ (m : BlockMeaning) (code : List ℕ) (laws : BlockLaws m code) (k : Block) (i : ℕ) (f : Whole) (n : m.Count) (order : m.Ordered k n) (r : Noted) where
-  pub running_at : (here : ReceiverPlace) → due here < r.x20 → ReceiverIs m k i here n r → (receives m.middle f here r).status ≡ status.Running
+module _ (m : BlockMeaning) (laws : BlockLaws m) (k : Block) (i : ℕ) (f : Whole) (n : Count m) (order : m.Ordered k n) (r : Noted) where
+  pub running_at : (here : ReceiverPlace) → due here < r.x20 → ReceiverIs m k i here n.receiver r → (receives m.middle f here r).status ≡ status.Running
   running_at ROver owing h = absurd (omega (arith, owing, h.1))
   running_at here owing h = refl
 
-  pub shut_one : (here : ReceiverPlace) → ReceiverIs m k i here n r → m.shut n ≤ 1
+  pub shut_one : (here : ReceiverPlace) → ReceiverIs m k i here n.receiver r → m.shut n.receiver ≤ 1
   shut_one Pc00 h = omega (arith, h.closed, laws.dones_one k n order)
   shut_one Pc10 h = omega (arith, h.quiet.closed, laws.dones_one k n order)
   shut_one Pc14 h = omega (arith, h.0.quiet.closed, laws.dones_one k n order)

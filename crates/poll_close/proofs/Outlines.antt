@@ -15,12 +15,12 @@ use Rattle.hart.proofs.Instructions.{IsAt}
 use Rattle.poll_close.specs.Paces.{runs}
 use Rattle.poll_close.specs.Invariant.Blocks.{Block}
 use Rattle.poll_close.specs.Invariant.SenderState.{Written, fixed, running, ended}
-use Rattle.poll_close.specs.Invariant.BlockMeaning.{BlockMeaning}
+use Rattle.poll_close.specs.Invariant.BlockMeaning.{BlockMeaning, Count, unsent_of}
 use Rattle.poll_close.specs.Invariant.Outlines.{Row, Outline, either, stands, HoldsIn, Holds, Standing, left_of}
 use Rattle.poll_close.proofs.Acts.{stored_by, IsNoAmo}
 use Rattle.poll_close.proofs.Lines.{Line, loads, at_line}
 use Rattle.poll_close.proofs.Blocks.{IsBlock, IsWordOf}
-use Rattle.poll_close.proofs.BlockLaws.{found_in, Grows, Sends}
+use Rattle.poll_close.proofs.BlockLaws.{found_in, Sends}
 
 -- a reason for each row
 abbrev pub Reasons : {Own : Type 0} → (Row Own → Type 0) → List (Row Own) → Type 0
@@ -70,127 +70,104 @@ module _ (o : Outline) (k : Block) (n : o.Own) (s : HartState) (st : Standing o 
       at true over h = h
       at false on h = let bad : false ≡ true = sym off ∙ ap (λ (z : HartState). runs (Some z)) (st.is ∙ at_run o k st.place n st.written on) in cc
 
--- the block after the sender stored these
-pub record Sent (m : BlockMeaning) (k : Block) (n after : m.Count) (stored : List (ℕ × ℕ)) : Type 0 where
-  pub order : m.Ordered k after
-  pub words : (word : ℕ → ℕ) → m.Words k n word → m.Words k after word
-  pub unsent : m.unsent k n ++ stored ≡ m.unsent k after
-  pub unread : m.unread k after ≡ m.unread k n
-  pub grows : Grows m n after
-
--- a ring's sender: its outline, its own among a block's numbers, and that nothing else goes by these
-pub record Sender (m : BlockMeaning) : Type 1 where
-  pub outline : Outline
+-- what its code's listing is, and when it waits
+pub record Sender (m : BlockMeaning) : Type 0 where
   pub lines : List Instr
-  pub decoded : map meaning outline.code ≡ map Some lines
+  pub decoded : map meaning m.sender.code ≡ map Some lines
   pub waits : HartState → (ℕ → ℕ) → Bool
-  pub own : m.Count → outline.Own
-  pub with_own : m.Count → outline.Own → m.Count
-  pub same : (n : m.Count) → with_own n (own n) ≡ n
-  pub stands_by : (k : Block) (n : m.Count) (s : HartState) → m.Stands k n s → Standing outline k (own n) s
-  pub by_standing : (k : Block) (n : m.Count) (new : outline.Own) (s : HartState) → Standing outline k new s → m.Stands k (with_own n new) s
-  pub words : (k : Block) (n : m.Count) (new : outline.Own) (word : ℕ → ℕ) → m.Words k n word → m.Words k (with_own n new) word
-  pub unread : (k : Block) (n : m.Count) (new : outline.Own) → m.unread k (with_own n new) ≡ m.unread k n
-  pub grows : (n : m.Count) (new : outline.Own) → Grows m n (with_own n new)
 
-module _ (m : BlockMeaning) (g : Sender m) (k : Block) (n : m.Count) (word : ℕ → ℕ) (v : ℕ) (r : Written) where
+module _ (m : BlockMeaning) (g : Sender m) (k : Block) (n : Count m) (word : ℕ → ℕ) (v : ℕ) (r : Written) where
   abbrev now : ℕ → HartState
-  now here = stands g.outline k here (g.own n) r
+  now here = stands m.sender k here n.sender r
 
   -- v is what a load here reads
   abbrev pub Finds : ℕ → Type 0
-  Finds here = (a : ℕ) → IsWordOf k a → need_of (now here) ≡ loads a → v ≡ found_in (m.unsent k n) word a
+  Finds here = (a : ℕ) → IsWordOf k a → need_of (now here) ≡ loads a → v ≡ found_in (unsent_of m k n) word a
 
   -- nothing of its own is pending, and it doesn't wait for the receiver
   abbrev pub Free : ℕ → Type 0
-  Free here = (m.unsent k n ≡ []) × (g.waits (now here) word ≡ false)
+  Free here = (unsent_of m k n ≡ []) × (g.waits (now here) word ≡ false)
 
-  abbrev pub Nearer : ℕ → ℕ → g.outline.Own → Written → Type 0
-  Nearer here there made written = left_of g.outline (stands g.outline k there made written) < left_of g.outline (now here)
+  abbrev pub Nearer : ℕ → ℕ → m.sender.Own → Written → Type 0
+  Nearer here there made written = left_of m.sender (stands m.sender k there made written) < left_of m.sender (now here)
 
   -- one act at this offset: what it wants, where it goes on, and what its own numbers are then
   pub record Goes (here : ℕ) : Type 0 where
     pub wanted : Need
     pub there : ℕ
-    pub made : g.outline.Own
+    pub made : m.sender.Own
     pub written : Written
     pub plain : IsNoAmo wanted
     pub wants : need_of (now here) ≡ wanted
-    pub leaves : advanced (now here) v ≡ stands g.outline k there made written
-    pub order : m.Ordered k (g.with_own n made)
-    pub unsent : m.unsent k n ++ stored_by wanted ≡ m.unsent k (g.with_own n made)
-    pub holds : Holds g.outline there k made written
+    pub leaves : advanced (now here) v ≡ stands m.sender k there made written
+    pub order : m.Ordered k (record n { sender = made })
+    pub unsent : unsent_of m k n ++ stored_by wanted ≡ m.unsent k made n.landed
+    pub holds : Holds m.sender there k made written
     pub nearer : Free here → Nearer here there made written
 
   -- the reason why a row is right
-  abbrev pub Right : Row g.outline.Own → Type 0
-  Right row = row.holds k (g.own n) r → Finds row.at → Goes row.at
+  abbrev pub Right : Row m.sender.Own → Type 0
+  Right row = row.holds k n.sender r → Finds row.at → Goes row.at
 
   abbrev pub Right_at : ℕ → Type 0
-  Right_at here = Holds g.outline here k (g.own n) r → Finds here → Goes here
+  Right_at here = Holds m.sender here k n.sender r → Finds here → Goes here
 
   -- an act by a line; and by one that changes no number
   abbrev pub GoesBy : ℕ → Type 0
-  GoesBy here = (there : ℕ) (wanted : Need) (made : g.outline.Own) (written : ℕ → Written) → IsNoAmo wanted → Line (now here) wanted (λ w. stands g.outline k there made (written w)) → m.Ordered k (g.with_own n made) → m.unsent k n ++ stored_by wanted ≡ m.unsent k (g.with_own n made) → Holds g.outline there k made (written v) → (Free here → Nearer here there made (written v)) → Finds here → Goes here
+  GoesBy here = (there : ℕ) (wanted : Need) (made : m.sender.Own) (written : ℕ → Written) → IsNoAmo wanted → Line (now here) wanted (λ w. stands m.sender k there made (written w)) → m.Ordered k (record n { sender = made }) → unsent_of m k n ++ stored_by wanted ≡ m.unsent k made n.landed → Holds m.sender there k made (written v) → (Free here → Nearer here there made (written v)) → Finds here → Goes here
 
   abbrev pub Still : ℕ → Type 0
-  Still here = (there : ℕ) (written : Written) → Line (now here) need.Inner (λ w. stands g.outline k there (g.own n) written) → Holds g.outline there k (g.own n) written → Nearer here there (g.own n) written → Finds here → Goes here
+  Still here = (there : ℕ) (written : Written) → Line (now here) need.Inner (λ w. stands m.sender k there n.sender written) → Holds m.sender there k n.sender written → Nearer here there n.sender written → Finds here → Goes here
 
   pub goes : (here : ℕ) → GoesBy here
   goes here there wanted made written plain line order unsent holds nearer find = record { wanted = wanted; there = there; made = made; written = written v; plain = plain; wants = line.wants; leaves = line.leaves v; order = order; unsent = unsent; holds = holds; nearer = nearer }
 
   pub still : m.Ordered k n → (here : ℕ) → Still here
-  still order here there written line holds nearer = goes here there need.Inner (g.own n) (λ w. written) tt line (subst (m.Ordered k) (sym (g.same n)) order) (append-nil (m.unsent k n) ∙ ap (m.unsent k) (sym (g.same n))) holds (λ free. nearer)
+  still order here there written line holds nearer = goes here there need.Inner n.sender (λ w. written) tt line order (append-nil (unsent_of m k n)) holds (λ free. nearer)
 
   -- where the line at this offset is that instruction
-  pub at_in : (q : Written) (inbox : List ℕ) (j : ℕ) {i : Instr} → slice_get (map Some g.lines) j ≡ Some (Some i) → IsAt (running g.outline.code (fixed k) (4 * j) q inbox) i
-  at_in q inbox j found = at_line (running g.outline.code (fixed k) (4 * j) q inbox) j refl (ap (λ xs. slice_get xs j) g.decoded ∙ found)
+  pub at_in : (q : Written) (inbox : List ℕ) (j : ℕ) {i : Instr} → slice_get (map Some g.lines) j ≡ Some (Some i) → IsAt (running m.sender.code (fixed k) (4 * j) q inbox) i
+  at_in q inbox j found = at_line (running m.sender.code (fixed k) (4 * j) q inbox) j refl (ap (λ xs. slice_get xs j) g.decoded ∙ found)
 
-  pub at : (j : ℕ) {i : Instr} → slice_get (map Some g.lines) j ≡ Some (Some i) → IsAt (running g.outline.code (fixed k) (4 * j) r (drop (g.outline.asked (g.own n)) k.list)) i
-  at j found = at_in r (drop (g.outline.asked (g.own n)) k.list) j found
+  pub at : (j : ℕ) {i : Instr} → slice_get (map Some g.lines) j ≡ Some (Some i) → IsAt (running m.sender.code (fixed k) (4 * j) r (drop (m.sender.asked n.sender) k.list)) i
+  at j found = at_in r (drop (m.sender.asked n.sender) k.list) j found
 
-  found : (rows : List (Row g.outline.Own)) → Reasons Right rows → (here : ℕ) → HoldsIn rows here k (g.own n) r → Finds here → Goes here
+  found : (rows : List (Row m.sender.Own)) → Reasons Right rows → (here : ℕ) → HoldsIn rows here k n.sender r → Finds here → Goes here
   found [] reasons here h find = absurd h
   found (row ∷ rows) reasons here h find = by_test (row.at == here) refl h (λ later. found rows reasons.1 here later find)
     where
-      by_test : (b : Bool) → (row.at == here) ≡ b → either b (row.holds k (g.own n) r) (HoldsIn rows here k (g.own n) r) → (HoldsIn rows here k (g.own n) r → Goes here) → Goes here
+      by_test : (b : Bool) → (row.at == here) ≡ b → either b (row.holds k n.sender r) (HoldsIn rows here k n.sender r) → (HoldsIn rows here k n.sender r → Goes here) → Goes here
       by_test true same h rest =
           let is : row.at ≡ here = grind (arith, nat_tests) in
           subst Goes is (reasons.0 h (subst Finds (sym is) find))
       by_test false other h rest = rest h
 
-  right : Reasons Right g.outline.rows → (here : ℕ) → (now here).status ≡ status.Running → Right_at here
-  right reasons here running h find = by_test (here == g.outline.over) refl h
+  right : Reasons Right m.sender.rows → (here : ℕ) → (now here).status ≡ status.Running → Right_at here
+  right reasons here running h find = by_test (here == m.sender.over) refl h
     where
-      by_test : (b : Bool) → (here == g.outline.over) ≡ b → either b (g.outline.done k (g.own n)) (HoldsIn g.outline.rows here k (g.own n) r) → Goes here
-      by_test true over h = let bad : status.Ended ≡ status.Running = sym (ap (λ (s : HartState). s.status) (at_end g.outline k here (g.own n) r over)) ∙ running in cc
-      by_test false on h = found g.outline.rows reasons here h find
+      by_test : (b : Bool) → (here == m.sender.over) ≡ b → either b (m.sender.done k n.sender) (HoldsIn m.sender.rows here k n.sender r) → Goes here
+      by_test true over h = let bad : status.Ended ≡ status.Running = sym (ap (λ (s : HartState). s.status) (at_end m.sender k here n.sender r over)) ∙ running in cc
+      by_test false on h = found m.sender.rows reasons here h find
 
 -- so its acts keep the block's meaning, and bring it nearer to its end, as the laws of a block ask
-module _ (m : BlockMeaning) (g : Sender m) (reasons : (k : Block) (n : m.Count) (word : ℕ → ℕ) (v : ℕ) (r : Written) → IsBlock k → m.Ordered k n → m.Words k n word → Reasons (Right m g k n word v r) g.outline.rows) (k : Block) (n : m.Count) (s : HartState) (word : ℕ → ℕ) (v : ℕ) (is : IsBlock k) (order : m.Ordered k n) (words : m.Words k n word) (stand : m.Stands k n s) (running : s.status ≡ status.Running) where
-  abbrev st : Standing g.outline k (g.own n) s
-  st = g.stands_by k n s stand
-
-  act : ((a : ℕ) → IsWordOf k a → need_of s ≡ loads a → v ≡ found_in (m.unsent k n) word a) → Goes m g k n word v st.written st.place
+module _ (m : BlockMeaning) (g : Sender m) (reasons : (k : Block) (n : Count m) (word : ℕ → ℕ) (v : ℕ) (r : Written) → IsBlock k → m.Ordered k n → m.Words k n.landed word → Reasons (Right m g k n word v r) m.sender.rows) (k : Block) (n : Count m) (s : HartState) (word : ℕ → ℕ) (v : ℕ) (is : IsBlock k) (order : m.Ordered k n) (words : m.Words k n.landed word) (st : Standing m.sender k n.sender s) (running : s.status ≡ status.Running) where
+  act : ((a : ℕ) → IsWordOf k a → need_of s ≡ loads a → v ≡ found_in (unsent_of m k n) word a) → Goes m g k n word v st.written st.place
   act find = right m g k n word v st.written (reasons k n word v st.written is order words) st.place (subst (λ (z : HartState). z.status ≡ status.Running) st.is running) st.holds (λ a inside wants. find a inside (ap need_of st.is ∙ wants))
 
-  pub sends : ((a : ℕ) → IsWordOf k a → need_of s ≡ loads a → v ≡ found_in (m.unsent k n) word a) → Sends m k n s v
+  pub sends : ((a : ℕ) → IsWordOf k a → need_of s ≡ loads a → v ≡ found_in (unsent_of m k n) word a) → Sends m k n s v
   sends find =
       let a : Goes m g k n word v st.written st.place = act find in
       let wants : need_of s ≡ a.wanted = ap need_of st.is ∙ a.wants in
       record {
-        after = g.with_own n a.made;
+        after = a.made;
         plain = subst IsNoAmo (sym wants) a.plain;
-        stands = g.by_standing k n a.made (advanced s v) (record { place = a.there; written = a.written; is = ap (λ z. advanced z v) st.is ∙ a.leaves; holds = a.holds });
+        stands = record { place = a.there; written = a.written; is = ap (λ z. advanced z v) st.is ∙ a.leaves; holds = a.holds };
         order = a.order;
-        words = λ word w. g.words k n a.made word w;
-        unsent = ap (λ w. m.unsent k n ++ stored_by w) wants ∙ a.unsent;
-        unread = g.unread k n a.made;
-        grows = g.grows n a.made;
+        unsent = ap (λ w. unsent_of m k n ++ stored_by w) wants ∙ a.unsent;
       }
 
-  pub nearer : m.unsent k n ≡ [] → ((a : ℕ) → IsWordOf k a → need_of s ≡ loads a → v ≡ word a) → g.waits s word ≡ false → left_of g.outline (advanced s v) < left_of g.outline s
+  pub nearer : unsent_of m k n ≡ [] → ((a : ℕ) → IsWordOf k a → need_of s ≡ loads a → v ≡ word a) → g.waits s word ≡ false → left_of m.sender (advanced s v) < left_of m.sender s
   nearer none find on =
       let a : Goes m g k n word v st.written st.place = act (λ a inside wants. find a inside wants ∙ sym (ap (λ ps. found_in ps word a) none)) in
-      let less : left_of g.outline (stands g.outline k a.there a.made a.written) < left_of g.outline (stands g.outline k st.place (g.own n) st.written) = a.nearer (none, subst (λ (z : HartState). g.waits z word ≡ false) st.is on) in
+      let less : left_of m.sender (stands m.sender k a.there a.made a.written) < left_of m.sender (stands m.sender k st.place n.sender st.written) = a.nearer (none, subst (λ (z : HartState). g.waits z word ≡ false) st.is on) in
       rw (st.is, a.leaves) less

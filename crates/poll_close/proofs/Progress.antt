@@ -36,7 +36,7 @@ use Rattle.poll_close.specs.Plans.{AllLanded, is_closed, is_done, senders_of}
 use Rattle.poll_close.specs.Invariant.Blocks.{Block, block_of, as_writes, to_block}
 use Rattle.poll_close.specs.Invariant.ReceiverState.{Noted, whole_of, receiver_of}
 use Rattle.poll_close.specs.Invariant.ReceiverPlaces.{ReceiverPlace, Pc04, Pc70, receives, due}
-use Rattle.poll_close.specs.Invariant.BlockMeaning.{BlockMeaning, Quiet, ReceiverIs}
+use Rattle.poll_close.specs.Invariant.BlockMeaning.{BlockMeaning, Count, unsent_of, unread_of, Quiet, ReceiverIs}
 use Rattle.poll_close.specs.Invariant.Channels.{Channel, means_by}
 use Rattle.poll_close.proofs.Acts.{Acted, acted, said_by}
 use Rattle.poll_close.proofs.Blocks.{IsBlock}
@@ -107,21 +107,21 @@ not_ready true b off on = not_false b off
 not_ready false b off on = cc
 
 -- everything that is known of a channel's history, with nothing pending
-module _ (m : BlockMeaning) (code : List ℕ) (laws : BlockLaws m code) (least : ℕ) (some_least : 1 ≤ least) (p : Pace) (prog : BlockProgress m p least) (B M S : ℕ) (lists : List (List ℕ)) (t : History) (some : 1 ≤ B) (accepted : Accepted (ring_by m code laws least some_least) M lists S) (opening : t.opening ≡ opening_of code (receiver_of m.middle) lists S) (kept : Kept B M t) (ch : Channel m M S lists t) (landed : AllLanded t) (open_yet : is_done t ≡ false) where
+module _ (m : BlockMeaning) (laws : BlockLaws m) (least : ℕ) (some_least : 1 ≤ least) (p : Pace) (prog : BlockProgress m p least) (B M S : ℕ) (lists : List (List ℕ)) (t : History) (some : 1 ≤ B) (accepted : Accepted (ring_by m laws least some_least) M lists S) (opening : t.opening ≡ opening_of m.sender.code (receiver_of m.middle) lists S) (kept : Kept B M t) (ch : Channel m M S lists t) (landed : AllLanded t) (open_yet : is_done t ≡ false) where
   are : (i : ℕ) → i < length lists → IsBlock (block_of M S lists i)
-  are = blocks (ring_by m code laws least some_least) M S lists some_least accepted
+  are = blocks (ring_by m laws least some_least) M S lists some_least accepted
 
   opens_words : OpensWithWords t.opening
   opens_words = subst OpensWithWords (sym opening) (λ i. omega arith)
 
   harts : length t.opening.harts ≡ suc (length lists)
-  harts = ap (λ (o : Start). length o.harts) opening ∙ ap (λ n. suc n) (senders-length code S 0 lists)
+  harts = ap (λ (o : Start). length o.harts) opening ∙ ap (λ n. suc n) (senders-length m.sender.code S 0 lists)
 
   senders : senders_of t ≡ length lists
   senders = omega (arith, harts)
 
   lists_is : lists_of t.opening ≡ lists
-  lists_is = ap lists_of opening ∙ inboxes code S 0 lists
+  lists_is = ap lists_of opening ∙ inboxes m.sender.code S 0 lists
 
   size_is : ring_size t.opening ≡ S
   size_is = ap ring_size opening ∙ mul-div_cancel_left S (lit< tt)
@@ -132,11 +132,11 @@ module _ (m : BlockMeaning) (code : List ℕ) (laws : BlockLaws m code) (least :
   quiet_buffer : (h : ℕ) → h ≤ length lists → pending h t.entries ≡ []
   quiet_buffer h less = landed h (omega (arith, harts, less))
 
-  unsent : (j : ℕ) (within : j < length lists) → m.unsent (block_of M S lists j) (ch.numbers j) ≡ []
-  unsent j within = no_writes (m.unsent (block_of M S lists j) (ch.numbers j)) (sym (ch.parts j within).sender.buffer ∙ quiet_buffer (j + 1) (omega arith))
+  unsent : (j : ℕ) (within : j < length lists) → unsent_of m (block_of M S lists j) (ch.numbers j) ≡ []
+  unsent j within = no_writes (unsent_of m (block_of M S lists j) (ch.numbers j)) (sym (ch.parts j within).sender.buffer ∙ quiet_buffer (j + 1) (omega arith))
 
-  unread : (j : ℕ) (within : j < length lists) → m.unread (block_of M S lists j) (ch.numbers j) ≡ []
-  unread j within = no_writes (m.unread (block_of M S lists j) (ch.numbers j)) (sym (ch.parts j within).theirs ∙ ap (to_block (block_of M S lists j)) (quiet_buffer 0 (omega arith)))
+  unread : (j : ℕ) (within : j < length lists) → unread_of m (block_of M S lists j) (ch.numbers j) ≡ []
+  unread j within = no_writes (unread_of m (block_of M S lists j) (ch.numbers j)) (sym (ch.parts j within).theirs ∙ ap (to_block (block_of M S lists j)) (quiet_buffer 0 (omega arith)))
 
   -- what is left, over the lists and the ring size of the channel
   left_is : (new : History) → new.opening ≡ t.opening → left_by p M new ≡ left_in p (length lists) S lists (reported 0 new.entries) (λ h. state_of M new h)
@@ -171,7 +171,7 @@ module _ (m : BlockMeaning) (code : List ℕ) (laws : BlockLaws m code) (least :
 
     sender_falls : (e : Entry) → IsFor (event.Act (j + 1)) e → CanFollow B M t e → left_by p M (with_entry t e) < left_by p M t
     sender_falls e for_event can =
-        let a : Acted M t (with_entry t e) (j + 1) s (value_of e) = acted B M t (j + 1) s e kept.legal (ch.parts j within).sender.state can for_event.0 for_event.1 (sender_plain m code laws M (block_of M S lists j) j t t (ch.numbers j) (are j within) (ch.parts j within)) in
+        let a : Acted M t (with_entry t e) (j + 1) s (value_of e) = acted B M t (j + 1) s e kept.legal (ch.parts j within).sender.state can for_event.0 for_event.1 (sender_plain m laws M (block_of M S lists j) j t t (ch.numbers j) (are j within) (ch.parts j within)) in
         let less : p.sender (advanced s (value_of e)) < p.sender s = prog.nearer (block_of M S lists j) (ch.numbers j) s (word_in_memory t.opening t.entries) (value_of e) (are j within) (ch.parts j within).order (ch.parts j within).words (ch.parts j within).sender.holds running (unsent j within) (unread j within) (λ b inside wants. a.loaded b wants ∙ act_found b inside.aligned) (not_true (p.waits s (word_in_memory t.opening t.entries)) is_on.1) in
         let said : reported 0 (with_entry t e).entries ≡ rs = a.others 0 (omega arith) in
         left_falls (with_entry t e) refl
@@ -195,33 +195,33 @@ module _ (m : BlockMeaning) (code : List ℕ) (laws : BlockLaws m code) (least :
   some_is_open : some_open rs 0 (length lists) ≡ true
   some_is_open = some_from rs 0 (length lists) some_one.0 some_one.1 (ap (is_closed rs) (let same : 0 + some_one.0 ≡ some_one.0 = omega arith in same) ∙ some_one.2)
 
-  each_shut : (j : ℕ) → j < length lists → m.shut (ch.numbers j) ≤ 1
+  each_shut : (j : ℕ) → j < length lists → m.shut (ch.numbers j).receiver ≤ 1
   each_shut j less =
       elim (cases_eq j ch.receiver.block) [
-        | inl same ↦ subst (λ (z : ℕ). m.shut (ch.numbers z) ≤ 1) (sym same) (shut_one m code laws receiver_block ch.receiver.block (whole_of receiver_block (length lists)) (ch.numbers ch.receiver.block) (ch.parts ch.receiver.block ch.receiver.known).order ch.receiver.noted ch.receiver.place ch.receiver.holds)
-        | inr other ↦ (let q : Quiet m (ch.numbers j) = ch.receiver.others j less other in omega (arith, q.closed, laws.dones_one (block_of M S lists j) (ch.numbers j) (ch.parts j less).order))
+        | inl same ↦ subst (λ (z : ℕ). m.shut (ch.numbers z).receiver ≤ 1) (sym same) (shut_one m laws receiver_block ch.receiver.block (whole_of receiver_block (length lists)) (ch.numbers ch.receiver.block) (ch.parts ch.receiver.block ch.receiver.known).order ch.receiver.noted ch.receiver.place ch.receiver.holds)
+        | inr other ↦ (let q : Quiet m (ch.numbers j).receiver = ch.receiver.others j less other in omega (arith, q.closed, laws.dones_one (block_of M S lists j) (ch.numbers j) (ch.parts j less).order))
       ]
 
   -- who is reported closed is noted so, and the other way round
-  shut_said : (j : ℕ) → j < length lists → m.shut (ch.numbers j) ≢ 0 → is_closed rs j ≡ true
+  shut_said : (j : ℕ) → j < length lists → m.shut (ch.numbers j).receiver ≢ 0 → is_closed rs j ≡ true
   shut_said j less shut =
       let old = (ch.reports.senders j less).said (omega (arith, shut, each_shut j less)) in
       closed_from rs old.0 j old.1
 
   owing : due ch.receiver.place < ch.receiver.noted.x20
   owing =
-      let none : m.shut (ch.numbers some_one.0) ≡ 0 = at (cases_eq (m.shut (ch.numbers some_one.0)) 0) in
+      let none : m.shut (ch.numbers some_one.0).receiver ≡ 0 = at (cases_eq (m.shut (ch.numbers some_one.0).receiver) 0) in
       omega (arith, ch.receiver.count, shuts_less m ch.numbers (length lists) some_one.0 each_shut some_one.1 none)
     where
-      at : (m.shut (ch.numbers some_one.0) ≡ 0) ⊎ (m.shut (ch.numbers some_one.0) ≢ 0) → m.shut (ch.numbers some_one.0) ≡ 0
+      at : (m.shut (ch.numbers some_one.0).receiver ≡ 0) ⊎ (m.shut (ch.numbers some_one.0).receiver ≢ 0) → m.shut (ch.numbers some_one.0).receiver ≡ 0
       at (inl none) = none
       at (inr shut) = let bad : is_closed rs some_one.0 ≡ true = shut_said some_one.0 some_one.1 shut in let good : is_closed rs some_one.0 ≡ false = some_one.2 in cc
 
-  took_is : (j : ℕ) (less : j < length lists) → m.took (ch.numbers j) ≡ m.tails (ch.numbers j) → length (taken rs j) ≡ m.took (ch.numbers j)
+  took_is : (j : ℕ) (less : j < length lists) → m.took (ch.numbers j).receiver ≡ m.tails (ch.numbers j).receiver → length (taken rs j) ≡ m.took (ch.numbers j).receiver
   took_is j less same =
-      let words : length (taken rs j) ≡ length (take (m.took (ch.numbers j)) (slice_index_or lists j [])) = ap length (ch.reports.senders j less).words in
-      let long : length (take (m.took (ch.numbers j)) (slice_index_or lists j [])) ≡ min (m.took (ch.numbers j)) (length (slice_index_or lists j [])) = length-take (m.took (ch.numbers j)) (slice_index_or lists j []) in
-      let most : m.tails (ch.numbers j) ≤ length (slice_index_or lists j []) = laws.tails_all (block_of M S lists j) (ch.numbers j) (ch.parts j less).order in
+      let words : length (taken rs j) ≡ length (take (m.took (ch.numbers j).receiver) (slice_index_or lists j [])) = ap length (ch.reports.senders j less).words in
+      let long : length (take (m.took (ch.numbers j).receiver) (slice_index_or lists j [])) ≡ min (m.took (ch.numbers j).receiver) (length (slice_index_or lists j [])) = length-take (m.took (ch.numbers j).receiver) (slice_index_or lists j []) in
+      let most : m.tails (ch.numbers j).receiver ≤ length (slice_index_or lists j []) = laws.tails_all (block_of M S lists j) (ch.numbers j) (ch.parts j less).order in
       omega (arith, words, long, same, most)
 
   -- the receiver, where every sender waits or has ended
@@ -241,7 +241,7 @@ module _ (m : BlockMeaning) (code : List ℕ) (laws : BlockLaws m code) (least :
     runs_is : runs (state_of M t (b + 1)) ≡ is_running sender.status
     runs_is = ap runs (ch.parts b ch.receiver.known).sender.state
 
-    marked : runs (state_of M t (b + 1)) ≡ false → m.marks (ch.numbers b) ≡ 1
+    marked : runs (state_of M t (b + 1)) ≡ false → m.marks (ch.numbers b).landed ≡ 1
     marked off = prog.marked receiver_block (ch.numbers b) sender (are b ch.receiver.known) (ch.parts b ch.receiver.known).order (ch.parts b ch.receiver.known).sender.holds (sym runs_is ∙ off) (unsent b ch.receiver.known)
 
     ready : runs (state_of M t (b + 1)) ≡ true → prog.Ready receiver_block (ch.numbers b)
@@ -251,7 +251,7 @@ module _ (m : BlockMeaning) (code : List ℕ) (laws : BlockLaws m code) (least :
         prog.ready receiver_block (ch.numbers b) sender (word_in_memory t.opening t.entries) (are b ch.receiver.known) accepted.size (ch.parts b ch.receiver.known).order (ch.parts b ch.receiver.known).words (ch.parts b ch.receiver.known).sender.holds (running_is sender.status run) (unsent b ch.receiver.known) (unread b ch.receiver.known) waiting
 
     running_st : st.status ≡ status.Running
-    running_st = running_at m code laws receiver_block b (whole_of receiver_block (length lists)) (ch.numbers b) (ch.parts b ch.receiver.known).order r ch.receiver.place owing ch.receiver.holds
+    running_st = running_at m laws receiver_block b (whole_of receiver_block (length lists)) (ch.numbers b) (ch.parts b ch.receiver.known).order r ch.receiver.place owing ch.receiver.holds
 
     module _ (v : ℕ) (find : Finds m receiver_block (length lists) ch.receiver.place (ch.numbers b) (word_in_memory t.opening t.entries) r v) where
       abbrev Nears_far : Type 0
@@ -262,19 +262,19 @@ module _ (m : BlockMeaning) (code : List ℕ) (laws : BlockLaws m code) (least :
 
       at_70 : ch.receiver.place ≡ Pc70 → Nears_far
       at_70 is =
-          let h : ReceiverIs m receiver_block b Pc70 (ch.numbers b) r = subst (λ (here : ReceiverPlace). ReceiverIs m receiver_block b here (ch.numbers b) r) is ch.receiver.holds in
+          let h : ReceiverIs m receiver_block b Pc70 (ch.numbers b).receiver r = subst (λ (here : ReceiverPlace). ReceiverIs m receiver_block b here (ch.numbers b).receiver r) is ch.receiver.holds in
           subst (λ (here : ReceiverPlace). far_of p (length lists) S rs (λ h. state_of M t h) (advanced (receives m.middle (whole_of receiver_block (length lists)) here r) v) < far_of p (length lists) S rs (λ h. state_of M t h) (receives m.middle (whole_of receiver_block (length lists)) here r)) (sym is) (near_70 p m.middle receiver_block b (length lists) refl ch.receiver.known S rs (λ h. state_of M t h) r v some_is_open h.1 h.2)
 
       -- at the block that it visits
       at_block : visited_by st ≡ r.x22 → said_by (need_of st) ≡ [] → Nears_far
       at_block visits silent =
-          elim (falls_on m code laws p least prog receiver_block (are b ch.receiver.known) b (length lists) refl ch.receiver.known accepted.senders (ch.numbers b) (ch.parts b ch.receiver.known).order (word_in_memory t.opening t.entries) (ch.parts b ch.receiver.known).words r v (is_closed rs (visited_by st)) (not (runs (state_of M t (visited_by st + 1))))
+          elim (falls_on m laws p least prog receiver_block (are b ch.receiver.known) b (length lists) refl ch.receiver.known accepted.senders (ch.numbers b) (ch.parts b ch.receiver.known).order (word_in_memory t.opening t.entries) (ch.parts b ch.receiver.known).words r v (is_closed rs (visited_by st)) (not (runs (state_of M t (visited_by st + 1))))
           (λ index shut. ap (is_closed rs) (visits ∙ index) ∙ shut_said b ch.receiver.known shut)
           (λ index ended. marked (ap (λ j. runs (state_of M t (j + 1))) (sym (visits ∙ index)) ∙ not_true (runs (state_of M t (visited_by st + 1))) ended))
           (λ index on. ready (ap (λ j. runs (state_of M t (j + 1))) (sym (visits ∙ index)) ∙ not_false (runs (state_of M t (visited_by st + 1))) on))
           (rest_from rs (length lists) (visited_by st + 1)) (rest_from rs (length lists) 0) (far_off rs (length lists) (visited_by st + 1))
           ch.receiver.place (length (taken rs (visited_by st))) (λ index same. ap (λ j. length (taken rs j)) (visits ∙ index) ∙ took_is b ch.receiver.known same) find owing
-          (small m code laws B M S lists are accepted.senders t ch.numbers kept.legal opens_words ch.written ch.parts ch.receiver ch.reports) ch.receiver.holds) [
+          (small m laws B M S lists are accepted.senders t ch.numbers kept.legal opens_words ch.written ch.parts ch.receiver ch.reports) ch.receiver.holds) [
             | inl tells ↦ let some_said : tells.0 ∷ [] ≡ [] = sym (ap said_by tells.1) ∙ silent in cc
             | inr more ↦ elim more [
               | inl fell ↦ fell_far fell
@@ -300,16 +300,16 @@ module _ (m : BlockMeaning) (code : List ℕ) (laws : BlockLaws m code) (least :
     receiver_falls e for_event can = by_says v_says
       where
         a : Acted M t (with_entry t e) 0 st (value_of e)
-        a = acted B M t 0 st e kept.legal ch.receiver.state can for_event.0 for_event.1 (plain_by m code laws B M S lists are accepted.senders t ch.numbers kept.legal opens_words ch.written ch.parts ch.receiver ch.reports)
+        a = acted B M t 0 st e kept.legal ch.receiver.state can for_event.0 for_event.1 (plain_by m laws B M S lists are accepted.senders t ch.numbers kept.legal opens_words ch.written ch.parts ch.receiver ch.reports)
 
         find : Finds m receiver_block (length lists) ch.receiver.place (ch.numbers b) (word_in_memory t.opening t.entries) r (value_of e)
-        find x inside wants = a.loaded x wants ∙ found m code laws B M S lists are accepted.senders t ch.numbers kept.legal opens_words ch.written ch.parts ch.receiver ch.reports x inside
+        find x inside wants = a.loaded x wants ∙ found m laws B M S lists are accepted.senders t ch.numbers kept.legal opens_words ch.written ch.parts ch.receiver ch.reports x inside
 
         move : Receives m receiver_block b (length lists) ch.receiver.place (ch.numbers b) r (value_of e)
-        move = moves_by m code laws B M S lists are accepted.senders t ch.numbers kept.legal opens_words ch.written ch.parts ch.receiver ch.reports (value_of e) a.running find
+        move = moves_by m laws B M S lists are accepted.senders t ch.numbers kept.legal opens_words ch.written ch.parts ch.receiver ch.reports (value_of e) a.running find
 
         after : Channel m M S lists (with_entry t e)
-        after = keeps m code laws least some_least B M lists S t e accepted opening kept can ch
+        after = keeps m laws least some_least B M lists S t e accepted opening kept can ch
 
         silent : said_by (need_of st) ≡ [] → left_by p M (with_entry t e) < left_by p M t
         silent none =
@@ -330,12 +330,12 @@ module _ (m : BlockMeaning) (code : List ℕ) (laws : BlockLaws m code) (least :
             (report_falls p lists rs (λ h. state_of M t h) (λ h. state_of M (with_entry t e) h) b (a.states (b + 1) (omega arith)) x from (subst (λ (ys : List Report). Clean ys lists) said after.reports.clean))
             (far_small p (length lists) S lists (rs ++ x ∷ []) (λ h. state_of M (with_entry t e) h) m.middle (whole_of (block_of M S lists after.receiver.block) (length lists)) after.receiver.place after.receiver.noted after.receiver.state)))
 
-        v_says : Says m receiver_block b (ch.numbers b) move.after (said_by (need_of st))
-        v_says = subst (λ (w : Need). Says m receiver_block b (ch.numbers b) move.after (said_by w)) (sym move.wants) move.says
+        v_says : Says m receiver_block b (ch.numbers b).receiver move.after (said_by (need_of st))
+        v_says = subst (λ (w : Need). Says m receiver_block b (ch.numbers b).receiver move.after (said_by w)) (sym move.wants) move.says
 
-        by_says : Says m receiver_block b (ch.numbers b) move.after (said_by (need_of st)) → left_by p M (with_entry t e) < left_by p M t
+        by_says : Says m receiver_block b (ch.numbers b).receiver move.after (said_by (need_of st)) → left_by p M (with_entry t e) < left_by p M t
         by_says (inl none) = silent none.0
-        by_says (inr (inl word)) = tells (report.Took b (slice_index receiver_block.list (m.took (ch.numbers b)))) word.0 refl
+        by_says (inr (inl word)) = tells (report.Took b (slice_index receiver_block.list (m.took (ch.numbers b).receiver))) word.0 refl
         by_says (inr (inr closing)) = tells (report.Closed b) closing.0 refl
 
     pub receiver_nears : Nearer B M (left_by p M) t 0
@@ -353,6 +353,6 @@ module _ (m : BlockMeaning) (code : List ℕ) (laws : BlockLaws m code) (least :
         | inr ready ↦ subst (Nearer B M (left_by p M) t) (sym ready.2) (sender_nears ready.0 (omega (arith, senders, ready.1)) ready.3)
       ]
 
-pub nears : (m : BlockMeaning) (code : List ℕ) (laws : BlockLaws m code) (least : ℕ) (some_least : 1 ≤ least) (p : Pace) → BlockProgress m p least → Nears (ring_by m code laws least some_least) (means_by m) (left_by p) (next_by p)
+pub nears : (m : BlockMeaning) (laws : BlockLaws m) (least : ℕ) (some_least : 1 ≤ least) (p : Pace) → BlockProgress m p least → Nears (ring_by m laws least some_least) (means_by m) (left_by p) (next_by p)
 unfolding Nears
-nears m code laws least some_least p prog B M t some stands landed open_yet = hart_nears m code laws least some_least p prog B M stands.opens.size stands.opens.lists t some stands.opens.accepted stands.opens.opening stands.kept stands.meant landed open_yet
+nears m laws least some_least p prog B M t some stands landed open_yet = hart_nears m laws least some_least p prog B M stands.opens.size stands.opens.lists t some stands.opens.accepted stands.opens.opening stands.kept stands.meant landed open_yet

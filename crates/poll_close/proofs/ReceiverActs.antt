@@ -26,7 +26,7 @@ use Rattle.poll_close.specs.Going.{GoesOn}
 use Rattle.poll_close.specs.Invariant.Blocks.{block_of, as_write, as_writes, to_block}
 use Rattle.poll_close.specs.Invariant.ReceiverState.{Noted, whole_of}
 use Rattle.poll_close.specs.Invariant.ReceiverPlaces.{ReceiverPlace, Pc60, receives, due}
-use Rattle.poll_close.specs.Invariant.BlockMeaning.{BlockMeaning, Quiet, ReceiverIs}
+use Rattle.poll_close.specs.Invariant.BlockMeaning.{BlockMeaning, Count, unread_of, Quiet, ReceiverIs}
 use Rattle.poll_close.specs.Invariant.Channels.{BlockPart, ReceiverPart, ReportsOf, ReportPart, shuts}
 use Rattle.poll_close.proofs.Acts.{Acted, Plain, acted, going, stored_by, said_by}
 use Rattle.poll_close.proofs.Windows.{get_end}
@@ -49,80 +49,80 @@ stored_cases (need.Report r) = inl refl
 stored_cases need.Exit = inl refl
 stored_cases (need.Stop why) = inl refl
 
-pub shuts_put : (m : BlockMeaning) (f : ℕ → m.Count) (j : ℕ) (n : m.Count) (count : ℕ) → j < count → shuts m (put f j n) count + m.shut (f j) ≡ shuts m f count + m.shut n
+pub shuts_put : (m : BlockMeaning) (f : ℕ → Count m) (j : ℕ) (n : Count m) (count : ℕ) → j < count → shuts m (put f j n) count + m.shut (f j).receiver ≡ shuts m f count + m.shut n.receiver
 shuts_put m f j n zero less = absurd (omega arith)
 shuts_put m f j n (suc i) less =
     elim (cases_eq i j) [
       | inl same ↦
-          let last : m.shut (put f j n i) ≡ m.shut n = ap (λ z. m.shut (put f j n z)) same ∙ ap m.shut (put_same f j n) in
-          let was : m.shut (f i) ≡ m.shut (f j) = ap (λ z. m.shut (f z)) same in
-          let rest : shuts m (put f j n) i ≡ shuts m f i = shuts_same m f (put f j n) i (λ h below. ap m.shut (put_other f j n h (λ is. absurd (omega (arith, is, same, below))))) in
+          let last : m.shut (put f j n i).receiver ≡ m.shut n.receiver = ap (λ z. m.shut (put f j n z).receiver) same ∙ ap (λ (z : Count m). m.shut z.receiver) (put_same f j n) in
+          let was : m.shut (f i).receiver ≡ m.shut (f j).receiver = ap (λ z. m.shut (f z).receiver) same in
+          let rest : shuts m (put f j n) i ≡ shuts m f i = shuts_same m f (put f j n) i (λ h below. ap (λ (z : Count m). m.shut z.receiver) (put_other f j n h (λ is. absurd (omega (arith, is, same, below))))) in
           omega (arith, last, was, rest)
       | inr other ↦
-          let last : m.shut (put f j n i) ≡ m.shut (f i) = ap m.shut (put_other f j n i other) in
+          let last : m.shut (put f j n i).receiver ≡ m.shut (f i).receiver = ap (λ (z : Count m). m.shut z.receiver) (put_other f j n i other) in
           omega (arith, last, shuts_put m f j n i (omega (arith, other, less)))
     ]
 
-pub shuts_most : (m : BlockMeaning) (f : ℕ → m.Count) (count : ℕ) → ((j : ℕ) → j < count → m.shut (f j) ≤ 1) → shuts m f count ≤ count
+pub shuts_most : (m : BlockMeaning) (f : ℕ → Count m) (count : ℕ) → ((j : ℕ) → j < count → m.shut (f j).receiver ≤ 1) → shuts m f count ≤ count
 shuts_most m f zero each = omega arith
 shuts_most m f (suc i) each = omega (arith, each i (omega arith), shuts_most m f i (λ j less. each j (omega arith)))
 
 -- the channel after the receiver's act
 pub record Received (m : BlockMeaning) (M S : ℕ) (lists : List (List ℕ)) (new : History) : Type 0 where
-  pub numbers : ℕ → m.Count
+  pub numbers : ℕ → Count m
   pub parts : (i : ℕ) → i < length lists → BlockPart m (block_of M S lists i) M i new (numbers i)
   pub receiver : ReceiverPart m M S lists new numbers
   pub reports : ReportPart m lists (reported 0 new.entries) numbers
 
 -- what is reported, where the receiver visits a block
-module _ (m : BlockMeaning) (M S : ℕ) (lists : List (List ℕ)) (f : ℕ → m.Count) (b : ℕ) (known : b < length lists) (rs : List Report) (told : ReportPart m lists rs f) where
-  told_put : (now : List Report) (n : m.Count) → ReportsOf now b (slice_index_or lists b []) (m.took n) (m.shut n) → ((j : ℕ) → j < length lists → j ≢ b → ReportsOf now j (slice_index_or lists j []) (m.took (f j)) (m.shut (f j))) → (j : ℕ) → j < length lists → ReportsOf now j (slice_index_or lists j []) (m.took (put f b n j)) (m.shut (put f b n j))
+module _ (m : BlockMeaning) (M S : ℕ) (lists : List (List ℕ)) (f : ℕ → Count m) (b : ℕ) (known : b < length lists) (rs : List Report) (told : ReportPart m lists rs f) where
+  told_put : (now : List Report) (n : Count m) → ReportsOf now b (slice_index_or lists b []) (m.took n.receiver) (m.shut n.receiver) → ((j : ℕ) → j < length lists → j ≢ b → ReportsOf now j (slice_index_or lists j []) (m.took (f j).receiver) (m.shut (f j).receiver)) → (j : ℕ) → j < length lists → ReportsOf now j (slice_index_or lists j []) (m.took (put f b n j).receiver) (m.shut (put f b n j).receiver)
   told_put now n one others j within =
       elim (cases_eq j b) [
         | inl same ↦
-            let P : ℕ → m.Count → Type 0 = λ i c. ReportsOf now i (slice_index_or lists i []) (m.took c) (m.shut c) in
-            subst (λ (c : m.Count). P j c) (sym (ap (put f b n) same ∙ put_same f b n)) (subst (λ (i : ℕ). P i n) (sym same) one)
-        | inr other ↦ subst (λ (c : m.Count). ReportsOf now j (slice_index_or lists j []) (m.took c) (m.shut c)) (sym (put_other f b n j other)) (others j within other)
+            let P : ℕ → Count m → Type 0 = λ i c. ReportsOf now i (slice_index_or lists i []) (m.took c.receiver) (m.shut c.receiver) in
+            subst (λ (c : Count m). P j c) (sym (ap (put f b n) same ∙ put_same f b n)) (subst (λ (i : ℕ). P i n) (sym same) one)
+        | inr other ↦ subst (λ (c : Count m). ReportsOf now j (slice_index_or lists j []) (m.took c.receiver) (m.shut c.receiver)) (sym (put_other f b n j other)) (others j within other)
       ]
 
   -- one report of the visited sender
-  one_said : (x : Report) (n : m.Count) → sender_of x ≡ b → m.shut (f b) ≡ 0 → ReportsOf (rs ++ x ∷ []) b (slice_index_or lists b []) (m.took n) (m.shut n) → ((i : ℕ) → x ≡ report.Closed i → taken rs i ≡ slice_index_or lists i []) → ReportPart m lists (rs ++ x ∷ []) (put f b n)
+  one_said : (x : Report) (n : Count m) → sender_of x ≡ b → m.shut (f b).receiver ≡ 0 → ReportsOf (rs ++ x ∷ []) b (slice_index_or lists b []) (m.took n.receiver) (m.shut n.receiver) → ((i : ℕ) → x ≡ report.Closed i → taken rs i ≡ slice_index_or lists i []) → ReportPart m lists (rs ++ x ∷ []) (put f b n)
   one_said x n from open_yet new all = record {
-    senders = told_put (rs ++ x ∷ []) n new (λ j within other. told_other rs j (slice_index_or lists j []) (m.took (f j)) (m.shut (f j)) x (λ same. other (sym same ∙ from)) (told.senders j within));
+    senders = told_put (rs ++ x ∷ []) n new (λ j within other. told_other rs j (slice_index_or lists j []) (m.took (f j).receiver) (m.shut (f j).receiver) x (λ same. other (sym same ∙ from)) (told.senders j within));
     clean = clean_more rs lists x told.clean (subst (λ (j : ℕ). j < length lists) (sym from) known) unclosed prefix all;
   }
     where
       unclosed : (j : ℕ) → slice_get rs j ≡ Some (report.Closed (sender_of x)) → ⊥
-      unclosed j is = let shut : m.shut (f b) ≡ 1 = (told.senders b known).closed j (is ∙ ap (λ z. Some (report.Closed z)) from) in omega (arith, open_yet)
+      unclosed j is = let shut : m.shut (f b).receiver ≡ 1 = (told.senders b known).closed j (is ∙ ap (λ z. Some (report.Closed z)) from) in omega (arith, open_yet)
 
       prefix : (i : ℕ) → IsPrefixOf (taken (rs ++ x ∷ []) i) (slice_index_or lists i [])
       prefix i =
           elim (cases_eq i b) [
-            | inl same ↦ subst (λ (j : ℕ). IsPrefixOf (taken (rs ++ x ∷ []) j) (slice_index_or lists j [])) (sym same) (prefix_take (slice_index_or lists b []) (taken (rs ++ x ∷ []) b) (m.took n) new.words)
+            | inl same ↦ subst (λ (j : ℕ). IsPrefixOf (taken (rs ++ x ∷ []) j) (slice_index_or lists j [])) (sym same) (prefix_take (slice_index_or lists b []) (taken (rs ++ x ∷ []) b) (m.took n.receiver) new.words)
             | inr other ↦ subst (λ (ys : List ℕ). IsPrefixOf ys (slice_index_or lists i [])) (sym (taken_other rs i x (λ same. other (sym same ∙ from)))) (told.clean.in_order i)
           ]
 
-  pub said_reports : (said : List Report) (n : m.Count) → Says m (block_of M S lists b) b (f b) n said → ReportPart m lists (rs ++ said) (put f b n)
+  pub said_reports : (said : List Report) (n : Count m) → Says m (block_of M S lists b) b (f b).receiver n.receiver said → ReportPart m lists (rs ++ said) (put f b n)
   said_reports said n (inl none) = subst (λ (ys : List Report). ReportPart m lists ys (put f b n)) (sym (ap (λ ys. rs ++ ys) none.0 ∙ append-nil rs)) (record {
     clean = told.clean;
     senders = told_put rs n (rw (none.1, none.2) (told.senders b known)) (λ j within other. told.senders j within);
   })
   said_reports said n (inr (inl word)) = subst (λ (ys : List Report). ReportPart m lists (rs ++ ys) (put f b n)) (sym word.0)
-      (one_said (report.Took b (slice_index (slice_index_or lists b []) (m.took (f b)))) n refl word.4
-      (rw (word.1, word.2) (told_took rs b (slice_index_or lists b []) (m.took (f b)) (m.shut (f b)) word.3 (told.senders b known)))
+      (one_said (report.Took b (slice_index (slice_index_or lists b []) (m.took (f b).receiver))) n refl word.4
+      (rw (word.1, word.2) (told_took rs b (slice_index_or lists b []) (m.took (f b).receiver) (m.shut (f b).receiver) word.3 (told.senders b known)))
       (λ i is. cc))
   said_reports said n (inr (inr closing)) = subst (λ (ys : List Report). ReportPart m lists (rs ++ ys) (put f b n)) (sym closing.0)
       (one_said (report.Closed b) n refl closing.4
-      (rw (closing.1, closing.2) (told_closed rs b (slice_index_or lists b []) (m.took (f b)) (m.shut (f b)) (told.senders b known)))
+      (rw (closing.1, closing.2) (told_closed rs b (slice_index_or lists b []) (m.took (f b).receiver) (m.shut (f b).receiver) (told.senders b known)))
       (λ i is. subst (λ (j : ℕ). taken rs j ≡ slice_index_or lists j []) (ap sender_of is) ((told.senders b known).words ∙ ap (λ c. take c (slice_index_or lists b [])) closing.3 ∙ take-length (slice_index_or lists b []))))
 
-module _ (m : BlockMeaning) (code : List ℕ) (laws : BlockLaws m code) (B M S : ℕ) (lists : List (List ℕ)) (are : (i : ℕ) → i < length lists → IsBlock (block_of M S lists i)) (few : length lists ≤ 63) (t : History) (f : ℕ → m.Count) (legal : Legal B t) (opens : OpensWithWords t.opening) (written : AllWriteWords t.entries) (parts : (i : ℕ) → i < length lists → BlockPart m (block_of M S lists i) M i t (f i)) (part : ReceiverPart m M S lists t f) (told : ReportPart m lists (reported 0 t.entries) f) where
-  pub quiet_one : (j : ℕ) → j < length lists → Quiet m (f j) → m.shut (f j) ≤ 1
+module _ (m : BlockMeaning) (laws : BlockLaws m) (B M S : ℕ) (lists : List (List ℕ)) (are : (i : ℕ) → i < length lists → IsBlock (block_of M S lists i)) (few : length lists ≤ 63) (t : History) (f : ℕ → Count m) (legal : Legal B t) (opens : OpensWithWords t.opening) (written : AllWriteWords t.entries) (parts : (i : ℕ) → i < length lists → BlockPart m (block_of M S lists i) M i t (f i)) (part : ReceiverPart m M S lists t f) (told : ReportPart m lists (reported 0 t.entries) f) where
+  pub quiet_one : (j : ℕ) → j < length lists → Quiet m (f j).receiver → m.shut (f j).receiver ≤ 1
   quiet_one j within q = omega (arith, q.closed, laws.dones_one (block_of M S lists j) (f j) (parts j within).order)
 
-  pub owed_at : (place : ReceiverPlace) → ReceiverIs m (block_of M S lists part.block) part.block place (f part.block) part.noted → part.noted.x20 + shuts m f (length lists) ≡ length lists + due place → due place ≤ part.noted.x20
+  pub owed_at : (place : ReceiverPlace) → ReceiverIs m (block_of M S lists part.block) part.block place (f part.block).receiver part.noted → part.noted.x20 + shuts m f (length lists) ≡ length lists + due place → due place ≤ part.noted.x20
   owed_at Pc60 h is = let most : shuts m f (length lists) ≤ length lists = shuts_most m f (length lists) (λ j within. elim (cases_eq j part.block) [
-    | inl same ↦ subst (λ (z : ℕ). m.shut (f z) ≤ 1) (sym same) (quiet_one part.block part.known h.0)
+    | inl same ↦ subst (λ (z : ℕ). m.shut (f z).receiver ≤ 1) (sym same) (quiet_one part.block part.known h.0)
     | inr other ↦ quiet_one j within (part.others j within other)
   ]) in omega (arith, is)
   owed_at here h is = omega arith
@@ -134,15 +134,15 @@ module _ (m : BlockMeaning) (code : List ℕ) (laws : BlockLaws m code) (B M S :
   pub small : part.noted.x20 ≤ 64
   small = omega (arith, few, due_one part.place, part.count)
 
-  count_after : (n : m.Count) (noted : Noted) (there : ReceiverPlace) → noted.x20 + m.shut n + due part.place ≡ part.noted.x20 + m.shut (f part.block) + due there → noted.x20 + shuts m (put f part.block n) (length lists) ≡ length lists + due there
+  count_after : (n : Count m) (noted : Noted) (there : ReceiverPlace) → noted.x20 + m.shut n.receiver + due part.place ≡ part.noted.x20 + m.shut (f part.block).receiver + due there → noted.x20 + shuts m (put f part.block n) (length lists) ≡ length lists + due there
   count_after n noted there counts = omega (arith, part.count, shuts_put m f part.block n (length lists) part.known)
 
   pub moves_by : (v : ℕ) → (receives m.middle (whole_of (block_of M S lists part.block) (length lists)) part.place part.noted).status ≡ status.Running → Finds m (block_of M S lists part.block) (length lists) part.place (f part.block) (word_in_memory t.opening t.entries) part.noted v → Receives m (block_of M S lists part.block) part.block (length lists) part.place (f part.block) part.noted v
-  moves_by v runs find = receives_on m code laws (block_of M S lists part.block) (are part.block part.known) part.block (length lists) refl part.known few (f part.block) (parts part.block part.known).order (word_in_memory t.opening t.entries) (parts part.block part.known).words part.noted v part.place runs find (owed_at part.place part.holds part.count) small part.holds
+  moves_by v runs find = receives_on m laws (block_of M S lists part.block) (are part.block part.known) part.block (length lists) refl part.known few (f part.block) (parts part.block part.known).order (word_in_memory t.opening t.entries) (parts part.block part.known).words part.noted v part.place runs find (owed_at part.place part.holds part.count) small part.holds
 
   -- what it stores goes to the visited block
   stored_is : (v : ℕ) (r : Receives m (block_of M S lists part.block) part.block (length lists) part.place (f part.block) part.noted v) (x : ℕ × ℕ) → stored_by r.wanted ≡ x ∷ [] → IsStore (block_of M S lists part.block) x
-  stored_is v r x one = laws.unread_are (block_of M S lists part.block) r.after (are part.block part.known) r.changes.order (length (m.unread (block_of M S lists part.block) (f part.block))) x (ap (λ ps. slice_get ps (length (m.unread (block_of M S lists part.block) (f part.block)))) (sym r.changes.unread ∙ ap (λ ps. m.unread (block_of M S lists part.block) (f part.block) ++ ps) one) ∙ get_end (m.unread (block_of M S lists part.block) (f part.block)) x)
+  stored_is v r x one = laws.unread_are (block_of M S lists part.block) (record (f part.block) { receiver = r.after }) (are part.block part.known) r.changes.order (length (unread_of m (block_of M S lists part.block) (f part.block))) x (ap (λ ps. slice_get ps (length (unread_of m (block_of M S lists part.block) (f part.block)))) (sym r.changes.unread ∙ ap (λ ps. unread_of m (block_of M S lists part.block) (f part.block) ++ ps) one) ∙ get_end (unread_of m (block_of M S lists part.block) (f part.block)) x)
 
   pub plain_by : (receives m.middle (whole_of (block_of M S lists part.block) (length lists)) part.place part.noted).status ≡ status.Running → Plain (need_of (receives m.middle (whole_of (block_of M S lists part.block) (length lists)) part.place part.noted))
   plain_by runs =
@@ -155,11 +155,11 @@ module _ (m : BlockMeaning) (code : List ℕ) (laws : BlockLaws m code) (B M S :
   receiver_goes_on e can mine alone = going B M t 0 (receives m.middle (whole_of (block_of M S lists part.block) (length lists)) part.place part.noted) e part.state can mine alone plain_by
 
   -- all are quiet once the visited block is
-  all_quiet : (n : m.Count) → Quiet m n → (j : ℕ) → j < length lists → Quiet m (put f part.block n j)
+  all_quiet : (n : Count m) → Quiet m n.receiver → (j : ℕ) → j < length lists → Quiet m (put f part.block n j).receiver
   all_quiet n quiet j within =
       elim (cases_eq j part.block) [
-        | inl same ↦ subst (Quiet m) (sym (ap (put f part.block n) same ∙ put_same f part.block n)) quiet
-        | inr other ↦ subst (Quiet m) (sym (put_other f part.block n j other)) (part.others j within other)
+        | inl same ↦ subst (λ (z : Count m). Quiet m z.receiver) (sym (ap (put f part.block n) same ∙ put_same f part.block n)) quiet
+        | inr other ↦ subst (λ (z : Count m). Quiet m z.receiver) (sym (put_other f part.block n j other)) (part.others j within other)
       ]
 
   -- what the act found in the visited block
@@ -168,43 +168,46 @@ module _ (m : BlockMeaning) (code : List ℕ) (laws : BlockLaws m code) (B M S :
       read_is t 0 b opens written word.aligned
       ∙ ap (λ o. unwrap_or o (word_in_memory t.opening t.entries b)) (sym (newest-to_block (block_of M S lists part.block) b None (pending 0 t.entries) word.within))
       ∙ ap (λ ws. unwrap_or (newest_word b None ws) (word_in_memory t.opening t.entries b)) (parts part.block part.known).theirs
-      ∙ ap (λ o. unwrap_or o (word_in_memory t.opening t.entries b)) (newest-as_writes b None (m.unread (block_of M S lists part.block) (f part.block)))
+      ∙ ap (λ o. unwrap_or o (word_in_memory t.opening t.entries b)) (newest-as_writes b None (unread_of m (block_of M S lists part.block) (f part.block)))
 
   module _ (new : History) (v : ℕ) (a : Acted M t new 0 (receives m.middle (whole_of (block_of M S lists part.block) (length lists)) part.place part.noted) v) (r : Receives m (block_of M S lists part.block) part.block (length lists) part.place (f part.block) part.noted v) where
+    abbrev n : Count m
+    n = record (f part.block) { receiver = r.after }
+
     inside : (x : ℕ × ℕ) → stored_by r.wanted ≡ x ∷ [] → Within (block_of M S lists part.block) x.0
     inside x one = (stored_is v r x one).place.within
 
-    visited : BlockPart m (block_of M S lists part.block) M part.block new r.after
+    visited : BlockPart m (block_of M S lists part.block) M part.block new n
     visited =
         let old : BlockPart m (block_of M S lists part.block) M part.block t (f part.block) = parts part.block part.known in
         record {
           order = r.changes.order;
-          sender = record { stands = old.sender.stands; state = a.states (part.block + 1) (λ zero_is. omega arith) ∙ old.sender.state; holds = r.changes.sender old.sender.stands old.sender.holds; buffer = a.buffers (part.block + 1) (λ zero_is. omega arith) ∙ old.sender.buffer ∙ ap as_writes (sym r.changes.unsent) };
-          theirs = ap (to_block (block_of M S lists part.block)) (a.buffer ∙ ap (λ w. pending 0 t.entries ++ as_writes (stored_by w)) r.wants) ∙ to_block-stored (block_of M S lists part.block) (pending 0 t.entries) (stored_by r.wanted) (stored_cases r.wanted) inside ∙ ap (λ ws. ws ++ as_writes (stored_by r.wanted)) old.theirs ∙ sym (map-append as_write (m.unread (block_of M S lists part.block) (f part.block)) (stored_by r.wanted)) ∙ ap as_writes r.changes.unread;
-          words = laws.words_same (block_of M S lists part.block) r.after (word_in_memory t.opening t.entries) (word_in_memory new.opening new.entries) (are part.block part.known) (λ x here. a.memory x) (r.changes.words (word_in_memory t.opening t.entries) old.words);
+          sender = record { stands = old.sender.stands; state = a.states (part.block + 1) (λ zero_is. omega arith) ∙ old.sender.state; holds = old.sender.holds; buffer = a.buffers (part.block + 1) (λ zero_is. omega arith) ∙ old.sender.buffer };
+          theirs = ap (to_block (block_of M S lists part.block)) (a.buffer ∙ ap (λ w. pending 0 t.entries ++ as_writes (stored_by w)) r.wants) ∙ to_block-stored (block_of M S lists part.block) (pending 0 t.entries) (stored_by r.wanted) (stored_cases r.wanted) inside ∙ ap (λ ws. ws ++ as_writes (stored_by r.wanted)) old.theirs ∙ sym (map-append as_write (unread_of m (block_of M S lists part.block) (f part.block)) (stored_by r.wanted)) ∙ ap as_writes r.changes.unread;
+          words = laws.words_same (block_of M S lists part.block) (f part.block).landed (word_in_memory t.opening t.entries) (word_in_memory new.opening new.entries) (are part.block part.known) (λ x here. a.memory x) old.words;
         }
 
-    each : (i : ℕ) → i < length lists → (i ≡ part.block) ⊎ (i ≢ part.block) → BlockPart m (block_of M S lists i) M i new (put f part.block r.after i)
+    each : (i : ℕ) → i < length lists → (i ≡ part.block) ⊎ (i ≢ part.block) → BlockPart m (block_of M S lists i) M i new (put f part.block n i)
     each i within (inl same) =
-        subst (λ (z : m.Count). BlockPart m (block_of M S lists i) M i new z) (sym (ap (put f part.block r.after) same ∙ put_same f part.block r.after)) (subst (λ (z : ℕ). BlockPart m (block_of M S lists z) M z new r.after) (sym same) visited)
+        subst (λ (z : Count m). BlockPart m (block_of M S lists i) M i new z) (sym (ap (put f part.block n) same ∙ put_same f part.block n)) (subst (λ (z : ℕ). BlockPart m (block_of M S lists z) M z new n) (sym same) visited)
     each i within (inr other) =
-        subst (λ (z : m.Count). BlockPart m (block_of M S lists i) M i new z) (sym (put_other f part.block r.after i other)) (untouched m code laws M (block_of M S lists i) i t new (f i) (are i within) (parts i within) (record {
+        subst (λ (z : Count m). BlockPart m (block_of M S lists i) M i new z) (sym (put_other f part.block n i other)) (untouched m laws M (block_of M S lists i) i t new (f i) (are i within) (parts i within) (record {
           state = a.states (i + 1) (λ zero_is. omega arith);
           buffer = a.buffers (i + 1) (λ zero_is. omega arith);
           theirs = ap (to_block (block_of M S lists i)) (a.buffer ∙ ap (λ w. pending 0 t.entries ++ as_writes (stored_by w)) r.wants) ∙ to_block-elsewhere (block_of M S lists i) (pending 0 t.entries) (stored_by r.wanted) (stored_cases r.wanted) (λ x one here. apart M S lists i part.block x.0 other here (inside x one));
           memory = λ x here. a.memory x;
         }))
 
-    came : ReceiverIs m (block_of M S lists part.block) part.block r.there r.after r.noted ⊎ Comes m (block_of M S lists part.block) (length lists) r.there r.after r.noted → ReceiverPart m M S lists new (put f part.block r.after)
+    came : ReceiverIs m (block_of M S lists part.block) part.block r.there r.after r.noted ⊎ Comes m (block_of M S lists part.block) (length lists) r.there r.after r.noted → ReceiverPart m M S lists new (put f part.block n)
     came (inl stays) = record {
       place = r.there;
       noted = r.noted;
       block = part.block;
       known = part.known;
       state = a.state ∙ ap Some r.leaves;
-      holds = subst (λ (z : m.Count). ReceiverIs m (block_of M S lists part.block) part.block r.there z r.noted) (sym (put_same f part.block r.after)) stays;
-      others = λ j within other. subst (Quiet m) (sym (put_other f part.block r.after j other)) (part.others j within other);
-      count = count_after r.after r.noted r.there r.counts;
+      holds = subst (λ (z : Count m). ReceiverIs m (block_of M S lists part.block) part.block r.there z.receiver r.noted) (sym (put_same f part.block n)) stays;
+      others = λ j within other. subst (λ (z : Count m). Quiet m z.receiver) (sym (put_other f part.block n j other)) (part.others j within other);
+      count = count_after n r.noted r.there r.counts;
     }
     came (inr comes) = record {
       place = r.there;
@@ -212,17 +215,17 @@ module _ (m : BlockMeaning) (code : List ℕ) (laws : BlockLaws m code) (B M S :
       block = comes.block;
       known = comes.known;
       state = a.state ∙ ap Some r.leaves;
-      holds = subst (λ (p : ReceiverPlace). ReceiverIs m (block_of M S lists comes.block) comes.block p (put f part.block r.after comes.block) r.noted) (sym comes.here) (all_quiet r.after comes.quiet comes.block comes.known, record { base = comes.base; index = comes.index });
-      others = λ j within other. all_quiet r.after comes.quiet j within;
-      count = count_after r.after r.noted r.there r.counts;
+      holds = subst (λ (p : ReceiverPlace). ReceiverIs m (block_of M S lists comes.block) comes.block p (put f part.block n comes.block).receiver r.noted) (sym comes.here) (all_quiet n comes.quiet comes.block comes.known, record { base = comes.base; index = comes.index });
+      others = λ j within other. all_quiet n comes.quiet j within;
+      count = count_after n r.noted r.there r.counts;
     }
 
     received : Received m M S lists new
     received = record {
-      numbers = put f part.block r.after;
+      numbers = put f part.block n;
       parts = λ i within. each i within (cases_eq i part.block);
       receiver = came r.holds;
-      reports = subst (λ (rs : List Report). ReportPart m lists rs (put f part.block r.after)) (sym (a.reports ∙ ap (λ w. reported 0 t.entries ++ said_by w) r.wants)) (said_reports m M S lists f part.block part.known (reported 0 t.entries) told (said_by r.wanted) r.after r.says);
+      reports = subst (λ (rs : List Report). ReportPart m lists rs (put f part.block n)) (sym (a.reports ∙ ap (λ w. reported 0 t.entries ++ said_by w) r.wants)) (said_reports m M S lists f part.block part.known (reported 0 t.entries) told (said_by r.wanted) n r.says);
     }
 
   pub receiver_acts : (e : Entry) → CanFollow B M t e → hart_of e ≡ 0 → is_land e ≡ false → Received m M S lists (with_entry t e)

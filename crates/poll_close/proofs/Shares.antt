@@ -14,7 +14,7 @@ use Rattle.poll_close.specs.Paces.{Pace, some_open, rest_from, visited_by, runs,
 use Rattle.poll_close.specs.Plans.{is_closed, all_closed}
 use Rattle.poll_close.specs.Invariant.ReceiverState.{Middle, Noted, Whole, receiving}
 use Rattle.poll_close.specs.Invariant.ReceiverPlaces.{ReceiverPlace, Pc04, Pc70, receives, Pc00, Pc08, Pc0C, Pc10, Pc14, Pc18, Pc1C, Pc20, Pc24, Pc28, Pc2C, Pc30, Pc34, Pc38, Pc3C, Pc40, Pc44, Pc48, Pc4C, Pc50, Pc54, Pc58, Pc5C, Pc60, Pc64, Pc68, Pc6C, Pc74, Pc78, Pc7C, ROver}
-use Rattle.poll_close.specs.Invariant.BlockMeaning.{BlockMeaning}
+use Rattle.poll_close.specs.Invariant.BlockMeaning.{BlockMeaning, Count}
 use Rattle.poll_close.specs.Invariant.Channels.{shuts}
 use Rattle.poll_close.proofs.Windows.{get_end}
 use Rattle.poll_close.proofs.CleanReports.{taken-took, taken-closed, get_front}
@@ -219,12 +219,12 @@ some_from rs j (suc n) (suc i) less is = at (is_closed rs j) (some_from rs (suc 
     at true e = e
     at false e = refl
 
-pub shuts_less : (m : BlockMeaning) (f : ℕ → m.Count) (count i : ℕ) → ((j : ℕ) → j < count → m.shut (f j) ≤ 1) → i < count → m.shut (f i) ≡ 0 → shuts m f count < count
+pub shuts_less : (m : BlockMeaning) (f : ℕ → Count m) (count i : ℕ) → ((j : ℕ) → j < count → m.shut (f j).receiver ≤ 1) → i < count → m.shut (f i).receiver ≡ 0 → shuts m f count < count
 shuts_less m f zero i each less none = absurd (omega arith)
 shuts_less m f (suc c) i each less none =
     elim (cases_eq i c) [
       | inl same ↦
-          let last : m.shut (f c) ≡ 0 = ap (λ z. m.shut (f z)) (sym same) ∙ none in
+          let last : m.shut (f c).receiver ≡ 0 = ap (λ z. m.shut (f z).receiver) (sym same) ∙ none in
           omega (arith, last, shuts_most m f c (λ j below. each j (omega arith)))
       | inr other ↦ omega (arith, each c (omega arith), shuts_less m f c i (λ j below. each j (omega arith)) (omega (arith, other, less)) none)
     ]

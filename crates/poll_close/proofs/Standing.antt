@@ -19,8 +19,9 @@ use Rattle.hart.specs.State.{HartState}
 use Rattle.step_machine.specs.Paths.{state_of}
 use Rattle.step_machine.specs.WordReads.{OpensWithWords, word_in_memory}
 use Rattle.step_machine.proofs.WordReads.{memory-word}
+use Rattle.poll_close.specs.Invariant.Outlines.{Standing}
 use Rattle.poll_close.specs.Invariant.Blocks.{Block, block_of}
-use Rattle.poll_close.specs.Invariant.BlockMeaning.{BlockMeaning}
+use Rattle.poll_close.specs.Invariant.BlockMeaning.{BlockMeaning, Count}
 use Rattle.poll_close.specs.Invariant.Channels.{means_by}
 use Rattle.poll_close.proofs.Blocks.{IsBlock}
 use Rattle.poll_close.proofs.ChannelLaws.{blocks}
@@ -78,12 +79,12 @@ module _ (ring : Ring) (means : Meaning) (B M : ℕ) where
 
 pub record Sender (m : BlockMeaning) (M : ℕ) (t : History) (h : ℕ) : Type 0 where
   pub block : Block
-  pub numbers : m.Count
+  pub numbers : Count m
   pub is : IsBlock block
   pub words : block.words ≡ M
   pub state : HartState
   pub at : state_of M t h ≡ Some state
-  pub stands : m.Stands block numbers state
+  pub stands : Standing m.sender block numbers.sender state
   pub memory : (a : ℕ) → a % 4 ≡ 0 → memory_word t.opening t.entries a ≡ word_in_memory t.opening t.entries a
 
 pub sender_at : (m : BlockMeaning) (ring : Ring) → 1 ≤ ring.least → (B M : ℕ) (t : History) (h : ℕ) → Stands ring (means_by m) B M t → 1 ≤ h → h < length t.opening.harts → Sender m M t h

@@ -2,80 +2,89 @@
 use Rattle.std.proofs.Common.{ℕ, ◌+◌, ◌<◌, ◌≤◌, ◌≡◌, List, length}
 use Rattle.std.specs.Prelude.{slice_index}
 use Rattle.poll_close.specs.Invariant.Blocks.{Block, offset, slot, window}
+use Rattle.poll_close.specs.Invariant.BlockMeaning as meaning
 use Rattle.fastforward.specs.Invariant.Stores.{sender_stores, receiver_stores}
 
--- the sender's own: the words that it took from its inbox; the slots and marks that it stored; the nulls
+-- the sender's own: the words that it got from its inbox; the slots and marks that it stored; the nulls
 -- that had landed when it last read a slot
-pub record Made : Type 0 where
-  pub g : ℕ
-  pub p : ℕ
-  pub m : ℕ
+pub record Sent : Type 0 where
+  pub asked : ℕ
+  pub stored : ℕ
+  pub marked : ℕ
   pub seen : ℕ
 
-pub record Numbers : Type 0 where
-  pub made : Made
-  -- of its stores landed
-  pub ls : ℕ
-  pub km : ℕ
-  -- the nulls, tails and done words that the receiver stored, and of these landed
-  pub u : ℕ
-  pub c : ℕ
-  pub d : ℕ
-  pub ln : ℕ
-  pub kc : ℕ
-  pub kd : ℕ
-  -- the words reported of the sender, and whether it is reported closed
+-- the receiver's own: the nulls, tails and done words that it stored; the words reported of the sender, and
+-- whether it is reported closed; the slots that had landed when it last read one, and the mark that it read
+pub record Taken : Type 0 where
+  pub nulls : ℕ
+  pub tails : ℕ
+  pub done : ℕ
   pub took : ℕ
   pub shut : ℕ
+  pub seen : ℕ
+  pub mark : ℕ
 
-abbrev pub sent : Numbers → ℕ
-sent n = n.made.p + n.made.m
+-- what has landed
+pub record Landed : Type 0 where
+  pub slots : ℕ
+  pub mark : ℕ
+  pub nulls : ℕ
+  pub tails : ℕ
+  pub done : ℕ
 
-abbrev pub gone : Numbers → ℕ
-gone n = n.ls + n.km
+abbrev pub Numbers : Type 0
+Numbers = meaning.Numbers Sent Taken Landed
 
-abbrev pub taken : Numbers → ℕ
-taken n = n.u + n.c + n.d
+-- each hart's stores, made and landed
+abbrev pub sent : Sent → ℕ
+sent n = n.stored + n.marked
 
-abbrev pub freed : Numbers → ℕ
-freed n = n.ln + n.kc + n.kd
+abbrev pub gone : Landed → ℕ
+gone n = n.slots + n.mark
+
+abbrev pub taken : Taken → ℕ
+taken n = n.nulls + n.tails + n.done
+
+abbrev pub freed : Landed → ℕ
+freed n = n.nulls + n.tails + n.done
 
 -- a word is stored where the null before it in the slot has landed, and so at most one store to a slot
 -- is pending in both buffers
 pub record Ordered (k : Block) (n : Numbers) : Type 0 where
-  pub seen_ln : n.made.seen ≤ n.ln
-  pub ln_u : n.ln ≤ n.u
-  pub u_ls : n.u ≤ n.ls
-  pub ls_p : n.ls ≤ n.made.p
-  pub p_ln : n.made.p ≤ n.ln + k.size
-  pub p_all : n.made.p ≤ length k.list
-  pub c_u : n.c ≤ n.u
-  pub u_c : n.u ≤ n.c + 1
-  pub kc_ln : n.kc ≤ n.ln
-  pub ln_kc : n.ln ≤ n.kc + 1
-  pub kc_c : n.kc ≤ n.c
-  pub m_one : n.made.m ≤ 1
-  pub km_m : n.km ≤ n.made.m
-  pub m_all : 0 < n.made.m → n.made.p ≡ length k.list
-  pub km_all : 0 < n.km → n.ls ≡ length k.list
-  pub d_one : n.d ≤ 1
-  pub kd_d : n.kd ≤ n.d
-  pub d_all : 0 < n.d → n.c ≡ length k.list
-  pub kd_all : 0 < n.kd → n.kc ≡ length k.list
+  pub seen_nulls : n.sender.seen ≤ n.landed.nulls
+  pub seen_slots : n.receiver.seen ≤ n.landed.slots
+  pub seen_mark : n.receiver.mark ≤ n.landed.mark
+  pub nulls_landed : n.landed.nulls ≤ n.receiver.nulls
+  pub nulls_slots : n.receiver.nulls ≤ n.landed.slots
+  pub slots_landed : n.landed.slots ≤ n.sender.stored
+  pub room : n.sender.stored ≤ n.landed.nulls + k.size
+  pub stored_all : n.sender.stored ≤ length k.list
+  pub tails_nulls : n.receiver.tails ≤ n.receiver.nulls
+  pub nulls_tails : n.receiver.nulls ≤ n.receiver.tails + 1
+  pub tail_after : n.landed.tails ≤ n.landed.nulls
+  pub null_before : n.landed.nulls ≤ n.landed.tails + 1
+  pub tails_landed : n.landed.tails ≤ n.receiver.tails
+  pub marked_one : n.sender.marked ≤ 1
+  pub mark_landed : n.landed.mark ≤ n.sender.marked
+  pub marked_all : 0 < n.sender.marked → n.sender.stored ≡ length k.list
+  pub mark_all : 0 < n.landed.mark → n.landed.slots ≡ length k.list
+  pub done_one : n.receiver.done ≤ 1
+  pub done_landed : n.landed.done ≤ n.receiver.done
+  pub done_all : 0 < n.receiver.done → n.receiver.tails ≡ length k.list
+  pub all_landed : 0 < n.landed.done → n.landed.tails ≡ length k.list
 
--- the sender's pending stores
-abbrev pub pending_of : Block → Numbers → List (ℕ × ℕ)
-pending_of k n = window (sender_stores k.size k.base k.list) (gone n) (sent n)
+-- the pending stores of the sender, and those of the receiver to the block
+abbrev pub pending_of : Block → Sent → Landed → List (ℕ × ℕ)
+pending_of k s l = window (sender_stores k.size k.base k.list) (gone l) (sent s)
 
--- the receiver's pending stores to the block
-abbrev pub unread_of : Block → Numbers → List (ℕ × ℕ)
-unread_of k n = window (receiver_stores k.size k.base k.list) (freed n) (taken n)
+abbrev pub unread_of : Block → Taken → Landed → List (ℕ × ℕ)
+unread_of k r l = window (receiver_stores k.size k.base k.list) (freed l) (taken r)
 
--- the words of the block in memory: its slots hold the words from ln up to ls, and 0 from there round
--- to ln
-pub record Words (k : Block) (n : Numbers) (word : ℕ → ℕ) : Type 0 where
-  pub mark : word (k.base + 4) ≡ n.km
-  pub tail : word (k.base + 8) ≡ offset k n.kc
-  pub done : word (k.base + 12) ≡ n.kd
-  pub full : (j : ℕ) → n.ln ≤ j → j < n.ls → word (slot k.size k.base j) ≡ slice_index k.list j
-  pub empty : (j : ℕ) → n.ls ≤ j → j < n.ln + k.size → word (slot k.size k.base j) ≡ 0
+-- the words of the block in memory: its slots hold the words that are not emptied, and 0 from there
+-- round to them
+pub record Words (k : Block) (n : Landed) (word : ℕ → ℕ) : Type 0 where
+  pub mark : word (k.base + 4) ≡ n.mark
+  pub tail : word (k.base + 8) ≡ offset k n.tails
+  pub done : word (k.base + 12) ≡ n.done
+  pub full : (j : ℕ) → n.nulls ≤ j → j < n.slots → word (slot k.size k.base j) ≡ slice_index k.list j
+  pub empty : (j : ℕ) → n.slots ≤ j → j < n.nulls + k.size → word (slot k.size k.base j) ≡ 0

@@ -2,71 +2,86 @@
 use Rattle.std.proofs.Common.{ℕ, ◌+◌, ◌<◌, ◌≤◌, ◌≡◌, List, length}
 use Rattle.std.specs.Prelude.{slice_index}
 use Rattle.poll_close.specs.Invariant.Blocks.{Block, offset, slot, window}
+use Rattle.poll_close.specs.Invariant.BlockMeaning as meaning
 use Rattle.lamport_ring.specs.Invariant.Stores.{sender_stores, receiver_stores}
 
--- the sender's own: the words that it took from its inbox; the slots, heads and marks that it stored; the
+-- the sender's own: the words that it got from its inbox; the slots, heads and marks that it stored; the
 -- tails that had landed when it last read one
-pub record Made : Type 0 where
-  pub g : ℕ
-  pub p : ℕ
-  pub q : ℕ
-  pub m : ℕ
+pub record Sent : Type 0 where
+  pub asked : ℕ
+  pub stored : ℕ
+  pub headed : ℕ
+  pub marked : ℕ
   pub seen : ℕ
 
-pub record Numbers : Type 0 where
-  pub made : Made
-  -- of its stores landed
-  pub ls : ℕ
-  pub kh : ℕ
-  pub km : ℕ
-  -- the tails and done words that the receiver stored, and of these landed
-  pub c : ℕ
-  pub d : ℕ
-  pub kc : ℕ
-  pub kd : ℕ
-  -- the words reported of the sender, and whether it is reported closed
+-- the receiver's own: the tails and done words that it stored; the words reported of the sender, and whether
+-- it is reported closed; the heads that had landed when it last read one, and the mark that it read
+pub record Taken : Type 0 where
+  pub tails : ℕ
+  pub done : ℕ
   pub took : ℕ
   pub shut : ℕ
+  pub seen : ℕ
+  pub mark : ℕ
 
-abbrev pub sent : Numbers → ℕ
-sent n = n.made.p + n.made.q + n.made.m
+-- what has landed
+pub record Landed : Type 0 where
+  pub slots : ℕ
+  pub heads : ℕ
+  pub mark : ℕ
+  pub tails : ℕ
+  pub done : ℕ
 
-abbrev pub gone : Numbers → ℕ
-gone n = n.ls + n.kh + n.km
+abbrev pub Numbers : Type 0
+Numbers = meaning.Numbers Sent Taken Landed
+
+-- each hart's stores, made and landed
+abbrev pub sent : Sent → ℕ
+sent n = n.stored + n.headed + n.marked
+
+abbrev pub gone : Landed → ℕ
+gone n = n.slots + n.heads + n.mark
+
+abbrev pub taken : Taken → ℕ
+taken n = n.tails + n.done
+
+abbrev pub freed : Landed → ℕ
+freed n = n.tails + n.done
 
 pub record Ordered (k : Block) (n : Numbers) : Type 0 where
-  pub seen_kc : n.made.seen ≤ n.kc
-  pub kc_c : n.kc ≤ n.c
-  pub c_kh : n.c ≤ n.kh
-  pub kh_ls : n.kh ≤ n.ls
-  pub ls_kh : n.ls ≤ n.kh + 1
-  pub ls_p : n.ls ≤ n.made.p
-  pub kh_q : n.kh ≤ n.made.q
-  pub q_p : n.made.q ≤ n.made.p
-  pub p_q : n.made.p ≤ n.made.q + 1
-  pub p_kc : n.made.p + 1 ≤ n.kc + k.size
-  pub p_all : n.made.p ≤ length k.list
-  pub m_one : n.made.m ≤ 1
-  pub km_m : n.km ≤ n.made.m
-  pub m_all : 0 < n.made.m → n.made.q ≡ length k.list
-  pub km_all : 0 < n.km → n.kh ≡ length k.list
-  pub d_one : n.d ≤ 1
-  pub kd_d : n.kd ≤ n.d
-  pub d_all : 0 < n.d → n.c ≡ length k.list
-  pub kd_all : 0 < n.kd → n.kc ≡ length k.list
+  pub seen_tails : n.sender.seen ≤ n.landed.tails
+  pub seen_heads : n.receiver.seen ≤ n.landed.heads
+  pub seen_mark : n.receiver.mark ≤ n.landed.mark
+  pub tails_landed : n.landed.tails ≤ n.receiver.tails
+  pub tails_seen : n.receiver.tails ≤ n.receiver.seen
+  pub heads_slots : n.landed.heads ≤ n.landed.slots
+  pub slots_heads : n.landed.slots ≤ n.landed.heads + 1
+  pub slots_landed : n.landed.slots ≤ n.sender.stored
+  pub heads_landed : n.landed.heads ≤ n.sender.headed
+  pub headed_stored : n.sender.headed ≤ n.sender.stored
+  pub stored_headed : n.sender.stored ≤ n.sender.headed + 1
+  pub room : n.sender.stored + 1 ≤ n.landed.tails + k.size
+  pub stored_all : n.sender.stored ≤ length k.list
+  pub marked_one : n.sender.marked ≤ 1
+  pub mark_landed : n.landed.mark ≤ n.sender.marked
+  pub marked_all : 0 < n.sender.marked → n.sender.headed ≡ length k.list
+  pub mark_all : 0 < n.landed.mark → n.landed.heads ≡ length k.list
+  pub done_one : n.receiver.done ≤ 1
+  pub done_landed : n.landed.done ≤ n.receiver.done
+  pub done_all : 0 < n.receiver.done → n.receiver.tails ≡ length k.list
+  pub all_landed : 0 < n.landed.done → n.landed.tails ≡ length k.list
 
--- the sender's pending stores
-abbrev pub pending_of : Block → Numbers → List (ℕ × ℕ)
-pending_of k n = window (sender_stores k.size k.base k.list) (gone n) (sent n)
+-- the pending stores of the sender, and those of the receiver to the block
+abbrev pub pending_of : Block → Sent → Landed → List (ℕ × ℕ)
+pending_of k s l = window (sender_stores k.size k.base k.list) (gone l) (sent s)
+
+abbrev pub unread_of : Block → Taken → Landed → List (ℕ × ℕ)
+unread_of k r l = window (receiver_stores k.size k.base k.list) (freed l) (taken r)
 
 -- the words of the block in memory
-pub record Words (k : Block) (n : Numbers) (word : ℕ → ℕ) : Type 0 where
-  pub head : word k.base ≡ offset k n.kh
-  pub mark : word (k.base + 4) ≡ n.km
-  pub tail : word (k.base + 8) ≡ offset k n.kc
-  pub done : word (k.base + 12) ≡ n.kd
-  pub slots : (j : ℕ) → n.c ≤ j → j < n.ls → word (slot k.size k.base j) ≡ slice_index k.list j
-
--- the receiver's pending stores to the block
-abbrev pub unread_of : Block → Numbers → List (ℕ × ℕ)
-unread_of k n = window (receiver_stores k.size k.base k.list) (n.kc + n.kd) (n.c + n.d)
+pub record Words (k : Block) (n : Landed) (word : ℕ → ℕ) : Type 0 where
+  pub head : word k.base ≡ offset k n.heads
+  pub mark : word (k.base + 4) ≡ n.mark
+  pub tail : word (k.base + 8) ≡ offset k n.tails
+  pub done : word (k.base + 12) ≡ n.done
+  pub slots : (j : ℕ) → n.tails ≤ j → j < n.slots → word (slot k.size k.base j) ≡ slice_index k.list j

@@ -11,38 +11,39 @@ use Rattle.step_machine.specs.Paths.{state_of}
 use Rattle.poll_close.specs.Laws.{Meaning}
 use Rattle.poll_close.specs.Reports.{taken, Clean}
 use Rattle.poll_close.specs.Going.{AllGoOn}
+use Rattle.poll_close.specs.Invariant.Outlines.{Standing}
 use Rattle.poll_close.specs.Invariant.Blocks.{Block, block_of, as_writes, to_block}
 use Rattle.poll_close.specs.Invariant.ReceiverState.{Noted, whole_of}
 use Rattle.poll_close.specs.Invariant.ReceiverPlaces.{ReceiverPlace, receives, due}
-use Rattle.poll_close.specs.Invariant.BlockMeaning.{BlockMeaning, Quiet, ReceiverIs}
+use Rattle.poll_close.specs.Invariant.BlockMeaning.{BlockMeaning, Count, unsent_of, unread_of, Quiet, ReceiverIs}
 
 -- the sender of a block, which is hart h
-pub record SenderPart (m : BlockMeaning) (k : Block) (M h : ℕ) (t : History) (n : m.Count) : Type 0 where
+pub record SenderPart (m : BlockMeaning) (k : Block) (M h : ℕ) (t : History) (n : Count m) : Type 0 where
   pub stands : HartState
   pub state : state_of M t h ≡ Some stands
-  pub holds : m.Stands k n stands
-  pub buffer : pending h t.entries ≡ as_writes (m.unsent k n)
+  pub holds : Standing m.sender k n.sender stands
+  pub buffer : pending h t.entries ≡ as_writes (unsent_of m k n)
 
-pub record BlockPart (m : BlockMeaning) (k : Block) (M i : ℕ) (t : History) (n : m.Count) : Type 0 where
+pub record BlockPart (m : BlockMeaning) (k : Block) (M i : ℕ) (t : History) (n : Count m) : Type 0 where
   pub order : m.Ordered k n
   pub sender : SenderPart m k M (i + 1) t n
-  pub theirs : to_block k (pending 0 t.entries) ≡ as_writes (m.unread k n)
-  pub words : m.Words k n (word_in_memory t.opening t.entries)
+  pub theirs : to_block k (pending 0 t.entries) ≡ as_writes (unread_of m k n)
+  pub words : m.Words k n.landed (word_in_memory t.opening t.entries)
 
 -- how many senders are reported closed
-abbrev pub shuts : (m : BlockMeaning) → (ℕ → m.Count) → ℕ → ℕ
+abbrev pub shuts : (m : BlockMeaning) → (ℕ → Count m) → ℕ → ℕ
 shuts m f zero = 0
-shuts m f (suc i) = m.shut (f i) + shuts m f i
+shuts m f (suc i) = m.shut (f i).receiver + shuts m f i
 
 -- where the receiver stands, and what holds of the block that it visits or visited last
-pub record ReceiverPart (m : BlockMeaning) (M S : ℕ) (lists : List (List ℕ)) (t : History) (f : ℕ → m.Count) : Type 0 where
+pub record ReceiverPart (m : BlockMeaning) (M S : ℕ) (lists : List (List ℕ)) (t : History) (f : ℕ → Count m) : Type 0 where
   pub place : ReceiverPlace
   pub noted : Noted
   pub block : ℕ
   pub known : block < length lists
   pub state : state_of M t 0 ≡ Some (receives m.middle (whole_of (block_of M S lists block) (length lists)) place noted)
-  pub holds : ReceiverIs m (block_of M S lists block) block place (f block) noted
-  pub others : (j : ℕ) → j < length lists → j ≢ block → Quiet m (f j)
+  pub holds : ReceiverIs m (block_of M S lists block) block place (f block).receiver noted
+  pub others : (j : ℕ) → j < length lists → j ≢ block → Quiet m (f j).receiver
   -- the receiver's count and the closed senders make all
   pub count : noted.x20 + shuts m f (length lists) ≡ length lists + due place
 
@@ -52,12 +53,12 @@ pub record ReportsOf (rs : List Report) (i : ℕ) (list : List ℕ) (took shut :
   pub closed : (k : ℕ) → slice_get rs k ≡ Some (report.Closed i) → shut ≡ 1
   pub said : shut ≡ 1 → (k : ℕ) × (slice_get rs k ≡ Some (report.Closed i))
 
-pub record ReportPart (m : BlockMeaning) (lists : List (List ℕ)) (rs : List Report) (f : ℕ → m.Count) : Type 0 where
-  pub senders : (j : ℕ) → j < length lists → ReportsOf rs j (slice_index_or lists j []) (m.took (f j)) (m.shut (f j))
+pub record ReportPart (m : BlockMeaning) (lists : List (List ℕ)) (rs : List Report) (f : ℕ → Count m) : Type 0 where
+  pub senders : (j : ℕ) → j < length lists → ReportsOf rs j (slice_index_or lists j []) (m.took (f j).receiver) (m.shut (f j).receiver)
   pub clean : Clean rs lists
 
 pub record Channel (m : BlockMeaning) (M S : ℕ) (lists : List (List ℕ)) (t : History) : Type 0 where
-  pub numbers : ℕ → m.Count
+  pub numbers : ℕ → Count m
   pub parts : (i : ℕ) → i < length lists → BlockPart m (block_of M S lists i) M i t (numbers i)
   pub receiver : ReceiverPart m M S lists t numbers
   pub reports : ReportPart m lists (reported 0 t.entries) numbers
