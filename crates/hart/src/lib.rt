@@ -6,12 +6,14 @@
 
 #![tactic(auto)]
 
+pub mod code;
 pub mod effects;
 pub mod need;
 mod state;
 pub mod status;
 mod wanted;
 
+pub use code::Code;
 pub use effects::amo;
 pub use need::{Need, Report};
 pub use state::Hart;

@@ -6,6 +6,7 @@ use Rattle.std.proofs.lemmas.List.{length-map, length-replicate, drop-replicate}
 use Rattle.std.proofs.lemmas.List.Elements.{All-map, All-nil, All-replicate}
 use Rattle.std.proofs.lemmas.Option.{slice_get-map}
 use Rattle.std.specs.Int.{byte_at}
+use Rattle.memory.specs.Words.{opened_words}
 use Rattle.memory.specs.Writes.{WritesInWord, byte_of}
 use Rattle.hart.specs.State.{HartView}
 use Rattle.step_machine.specs.History.{HartStart, Start, unrun, FitsIn}
@@ -17,7 +18,8 @@ use Rattle.memory.specs.declared.writes.Write.{Write}
 
 pub fit_stored : (M : ℕ) (first : List ℕ) (harts : ℕ) → length first ≤ M → FitStored M (opened_stored M first harts)
 fit_stored M first harts few = record {
-  words = length-append first (drop (length first) (replicate M 0)) ∙ rest (length first) few;
+  words = count;
+  first = count;
   pending = All-replicate (λ (ps : List Write). All (HasAddress M) ps) harts [] (All-nil (HasAddress M));
 }
   where
@@ -27,6 +29,9 @@ fit_stored M first harts few = record {
         let left : length (drop n zeros) ≡ length zeros - n = length-drop n zeros in
         let all : length zeros ≡ M = length-replicate {A = ℕ} M 0 in
         omega arith
+
+    count : length (opened_words M first) ≡ M
+    count = length-append first (drop (length first) (replicate M 0)) ∙ rest (length first) few
 
 pub fit_opened : (M : ℕ) (o : Start) → FitsIn M o → Fit M (opened_config M o)
 fit_opened M o fits = record {
@@ -69,6 +74,7 @@ pub holds_opened : (M : ℕ) (o : Start) (harts : ℕ) → Holds M (unrun o) (op
 holds_opened M o harts = record {
   buffers = λ h. none_everywhere harts h;
   in_words = All-nil WritesInWord;
+  opens = refl;
   bytes = λ a is. ap (λ (ws : List ℕ). byte_of (o.words ++ ws) a) (drop-replicate (length o.words) M 0) ∙ ap (byte_at (a % 4)) (zeros_after o.words (M - length o.words) (a / 4));
 }
 

@@ -1,6 +1,6 @@
 //! The machine: an opening, the entries since, and what the harts, buffers and memory hold by now.
 
-ghost use Rattle.std.specs.Prelude.{◌≡◌, ◌+◌, ◌≤◌, ◌<◌, ℕ, List, All, length, take, option_map, slice_index, IfOk, IfErr, IsOk, OnOk, OnErr, vec_len, vec_capacity};
+ghost use Rattle.std.specs.Prelude.{◌≡◌, ◌+◌, ◌≤◌, ◌<◌, ℕ, List, All, length, take, option_map, slice_index, IfOk, IfErr, IsOk, IsErr, OnOk, OnErr, vec_len, vec_capacity};
 ghost use Rattle.hart.specs.State.{HartState};
 ghost use Rattle.memory.specs.Words.{IsAddress};
 ghost use Rattle.step_machine.specs.inner.Config.{AllHaveRoom, HasRoom, SameButRoom, entries_after};
@@ -79,6 +79,14 @@ impl<const B: usize, const M: usize> Machine<B, M> {
         Ok(outcome)
     }
 
+    /// Makes room for so many entries, which is asked for once and not as they come.
+    fn reserve_entries(&mut self, n: usize) -> Result<(), AllocError>
+        ensures same { self.new ≡ self.old }
+        ensures few { IsErr result → self.old.room < n }
+    {
+        self.entries.reserve(n)
+    }
+
     /// The events one after the other. An error names how many of them came before it, which is fewer
     /// than there are: the machine stands after those.
     pub fn run(&mut self, events: &[Event]) -> Result<(), (usize, AllocError)>
@@ -89,6 +97,9 @@ impl<const B: usize, const M: usize> Machine<B, M> {
         ensures reserved { length events.now ≤ self.old.room → IsOk result }
         ensures room { self.old.room ≤ self.new.room + length events.now }
     {
+        if let Err(error) = self.reserve_entries(events.len()) {
+            return Err((0, error));
+        }
         for (done, event) in events.iter().enumerate() {
             match self.step(*event) {
                 Ok(_) => {}
@@ -99,11 +110,11 @@ impl<const B: usize, const M: usize> Machine<B, M> {
     }
 
     /// Puts the machine back at its opening, in the room that it has. It takes no memory, and its time
-    /// goes by the harts and the entries since the opening, however large the memory is.
+    /// goes by the harts and by the highest address that was written since, however long it ran.
     pub fn restart(&mut self)
         ensures { self.new ≡ record self.old { history = unrun self.old.history.opening } }
     {
-        self.cores.restart(&self.opening, &self.entries);
+        self.cores.restart();
         self.entries.clear();
     }
 

@@ -14,6 +14,6 @@ invariant_of-self g c =
       harts = take c.self.inside.harts.len (c.restart_harts.new.harts ++ drop (length c.restart_harts.new.harts) c.self.inside.harts.items);
       stored = c.restart.new.self;
     } in
-    let is : left ≡ restarted_config c.args.opening.now c.args.entries.now held = grind (arith, common_steps) in
+    let is : left ≡ restarted_config held = grind (arith, common_steps) in
     let firsts : All (λ (v : HartView). v.first.words ≡ g.row.M) held.harts = subst (λ (k : Config). All (λ (v : HartView). v.first.words ≡ g.row.M) k.harts) (sym c.self.view_is) c.requires in
-    (c.self.invariant.0, subst (Fit g.row.M) (sym is) (fit_restarted g.row.M c.args.opening.now c.args.entries.now held firsts c.self.invariant.1))
+    (c.self.invariant.0, subst (Fit g.row.M) (sym is) (fit_restarted g.row.M held firsts c.self.invariant.1))
