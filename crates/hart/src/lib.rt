@@ -8,7 +8,9 @@
 
 pub mod code;
 pub mod effects;
+pub mod laws;
 pub mod need;
+pub mod saved;
 mod state;
 pub mod status;
 mod wanted;
@@ -16,5 +18,6 @@ mod wanted;
 pub use code::Code;
 pub use effects::amo;
 pub use need::{Need, Report};
+pub use saved::SavedHart;
 pub use state::Hart;
 pub use status::{Status, Stop};

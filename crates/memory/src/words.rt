@@ -29,8 +29,7 @@ impl<const M: usize> Model for Memory<M> {
 }
 
 impl<const M: usize> Memory<M> {
-    /// A memory that opens with these words, and 0 behind them. It is the one call of this crate that
-    /// takes memory.
+    /// A memory that opens with these words, and 0 after them.
     pub fn open(alloc: Global, words: &[u32]) -> Result<Self, AllocError>
         requires size { M ≤ 65536 }
         requires fits { length words.now ≤ M }
@@ -90,6 +89,24 @@ impl<const M: usize> Memory<M> {
     {
         put_first(&mut self.words, &self.first[..self.untouched]);
         self.untouched = 0;
+    }
+
+    /// The words up to the last that was written since the opening; those after them are the opening's.
+    pub fn save(&self, alloc: Global) -> Result<Vec<u32>, AllocError>
+        ensures few { IfOk result (λ saved. length saved.items ≤ M) }
+        ensures same { IfOk result (λ saved. saved.items ++ drop (length saved.items) self.now.first ≡ self.now.words) }
+    {
+        Vec::from_slice(alloc, &self.words[..self.untouched])
+    }
+
+    /// Makes the words these, and the opening's after them. It takes no memory.
+    pub fn restore(&mut self, saved: &[u32])
+        requires { length saved.now ≤ M }
+        ensures { self.new ≡ record self.old { words = saved.now ++ drop (length saved.now) self.old.first } }
+    {
+        self.restart();
+        put_first(&mut self.words, saved);
+        self.untouched = saved.len();
     }
 }
 

@@ -12,7 +12,8 @@ use Rattle.hart.specs.State.{HartView}
 use Rattle.step_machine.specs.History.{HartStart, Start, unrun, FitsIn}
 use Rattle.step_machine.specs.Paths.{opens_as}
 use Rattle.step_machine.specs.inner.Opened.{opened_hart}
-use Rattle.step_machine.specs.inner.Config.{Config, HasAddress, FitStored, Fit, beginning, opened_stored, opened_config}
+use Rattle.step_machine.specs.inner.Stored.{HasAddress, FitStored, opened_stored}
+use Rattle.step_machine.specs.inner.Config.{Config, Fit, beginning, opened_config}
 use Rattle.step_machine.specs.inner.Ties.{view_state, Holds, Tied}
 use Rattle.memory.specs.declared.writes.Write.{Write}
 
@@ -37,6 +38,7 @@ pub fit_opened : (M : ℕ) (o : Start) → FitsIn M o → Fit M (opened_config M
 fit_opened M o fits = record {
   buffers = length-replicate (length o.harts) [] ∙ sym (length-map o.harts (opened_hart M));
   harts = All-map (λ (v : HartView). v.state.words ≡ M) (opened_hart M) o.harts (λ k d lt. refl);
+  firsts = All-map (λ (v : HartView). v.first.words ≡ M) (opened_hart M) o.harts (λ k d lt. refl);
   stored = fit_stored M o.words (length o.harts) fits.words;
 }
 

@@ -1,17 +1,17 @@
 -- A machine that is put back holds what its opening gives.
-use Rattle.std.proofs.Common.{◌≡◌, ℕ, zero, suc, ◌/◌, ◌<◌, ◌≤◌, List, [], ◌∷◌, length, get_or, Option, Some, None, refl, sym, ◌∙◌, ap, subst}
+use Rattle.std.proofs.Common.{◌≡◌, ℕ, zero, suc, ◌≤◌, List, [], ◌∷◌, length, get_or, Option, Some, None, refl, sym, ◌∙◌, ap, subst}
 use Rattle.std.specs.Prelude.{map, option_map, All}
 use Rattle.std.specs.List.{slice_get}
 use Rattle.std.proofs.lemmas.List.{length-map}
 use Rattle.std.proofs.lemmas.List.Elements.{All-nil, All-map}
-use Rattle.std.proofs.lemmas.Option.{slice_get-map, slice_get-get_or}
+use Rattle.std.proofs.lemmas.Option.{slice_get-map}
 use Rattle.memory.specs.Writes.{WritesInWord, byte_of}
-use Rattle.hart.specs.State.{HartState, HartView}
+use Rattle.hart.specs.State.{HartView}
 use Rattle.hart.specs.Steps.{restarted}
 use Rattle.step_machine.specs.declared.events.Entry.{Entry}
-use Rattle.step_machine.specs.History.{HartStart, Start, History, unrun}
-use Rattle.step_machine.specs.Paths.{opens_as}
-use Rattle.step_machine.specs.inner.Config.{Stored, Config, HasAddress, FitStored, Fit, beginning, no_stores, restarted_stored, restarted_config}
+use Rattle.step_machine.specs.History.{Start, History, unrun}
+use Rattle.step_machine.specs.inner.Stored.{Stored, HasAddress, FitStored, no_stores, restarted_stored}
+use Rattle.step_machine.specs.inner.Config.{Config, Fit, beginning, restarted_config}
 use Rattle.step_machine.specs.inner.Ties.{view_state, Holds, Tied, Sound}
 use Rattle.step_machine.proofs.Opens.{holds_opened}
 use Rattle.step_machine.proofs.Running.{kept-unrun}
@@ -38,15 +38,6 @@ roomy_again : (n : ℕ) (so : Option HartView) (v : HartView) → option_map res
 roomy_again n None v is all = cc
 roomy_again n (Some x) v is all = let v_is : restarted x ≡ v = cc in subst (λ (w : HartView). n ≤ w.room) v_is (all x refl)
 
-first_words : (M : ℕ) (so : Option HartStart) (x : HartView) → Some x.first ≡ option_map (opens_as M) so → x.first.words ≡ M
-first_words M None x is = cc
-first_words M (Some o) x is = let first_is : x.first ≡ opens_as M o = cc in ap (λ (s : HartState). s.words) first_is
-
--- each hart opened over this memory
-pub firsts_fit : (M : ℕ) (t : History) (c : Config) → Tied M t c → All (λ (v : HartView). v.first.words ≡ M) c.harts
-firsts_fit M t c tied = λ h d within.
-    first_words M (slice_get t.opening.harts h) (get_or c.harts h d) (ap (option_map beginning) (sym (slice_get-get_or c.harts h d within)) ∙ tied.firsts h)
-
 pub fit_put_back : (M : ℕ) (s : Stored) → FitStored M s → FitStored M (restarted_stored s)
 fit_put_back M s fit = record {
   words = fit.first;
@@ -54,10 +45,11 @@ fit_put_back M s fit = record {
   pending = All-map (λ (ps : List Write). All (HasAddress M) ps) no_stores s.buffers (λ h d within. All-nil (HasAddress M));
 }
 
-pub fit_restarted : (M : ℕ) (c : Config) → All (λ (v : HartView). v.first.words ≡ M) c.harts → Fit M c → Fit M (restarted_config c)
-fit_restarted M c firsts fit = record {
+pub fit_restarted : (M : ℕ) (c : Config) → Fit M c → Fit M (restarted_config c)
+fit_restarted M c fit = record {
   buffers = length-map c.stored.buffers no_stores ∙ fit.buffers ∙ sym (length-map c.harts restarted);
-  harts = All-map (λ (v : HartView). v.state.words ≡ M) restarted c.harts firsts;
+  harts = All-map (λ (v : HartView). v.state.words ≡ M) restarted c.harts fit.firsts;
+  firsts = All-map (λ (v : HartView). v.first.words ≡ M) restarted c.harts fit.firsts;
   stored = fit_put_back M c.stored fit.stored;
 }
 
@@ -82,7 +74,7 @@ sound_restarted B M n t c sound = record {
   fits = sound.fits;
   kept = kept-unrun B M t.opening;
   tied = tied_restarted M t c sound.tied;
-  fit = fit_restarted M c (firsts_fit M t c sound.tied) sound.fit;
+  fit = fit_restarted M c sound.fit;
   count = length-map c.harts restarted ∙ sound.count;
   room = λ h v is. roomy_again n (slice_get c.harts h) v (sym (slice_get-map restarted c.harts h) ∙ is) (sound.room h);
 }

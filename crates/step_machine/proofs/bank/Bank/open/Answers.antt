@@ -2,7 +2,7 @@
 use Rattle.std.proofs.Common.{◌≡◌, length, arith}
 use Rattle.std.proofs.lemmas.Grind.{common_steps}
 use Rattle.step_machine.specs.Banks.{BankView, opened_bank}
-use Rattle.step_machine.specs.inner.Config.{Stored, opened_stored}
+use Rattle.step_machine.specs.inner.Stored.{opened_stored}
 use Rattle.step_machine.proofs.Banking.{sound_opening}
 use Rattle.step_machine.proofs.bank.Bank.open.Goals as goal
 
