@@ -15,7 +15,7 @@ use Rattle.poll_close.proofs.ReceiverLines.{line_00, line_04, line_08, line_0C-s
 use Rattle.poll_close.proofs.Modulo.{offset_step, offset_wrap}
 use Rattle.poll_close.proofs.Blocks.{IsBlock, offset_low, word_of}
 use Rattle.poll_close.proofs.BlockLaws.{BlockLaws, seen_at, Changes, Finds, Tailed, Done, Reported, Receives}
-use Rattle.poll_close.proofs.ReceiverSteps.{unchanged, still, reads}
+use Rattle.poll_close.proofs.ReceiverSteps.{unchanged, still, reads, opened_noted}
 
 module _ (m : BlockMeaning) (code : List ℕ) (laws : BlockLaws m code) (k : Block) (is : IsBlock k) (i count : ℕ) (base : k.base ≡ i * block_size k.size) (known : i < count) (few : count ≤ 63) (n : m.Count) (order : m.Ordered k n) (word_at : ℕ → ℕ) (words : m.Words k n word_at) (r : Noted) (v : ℕ) where
   receives_00 : ReceiverIs m k i Pc00 n r → Receives m k i count Pc00 n r v
@@ -41,7 +41,7 @@ module _ (m : BlockMeaning) (code : List ℕ) (laws : BlockLaws m code) (k : Blo
   receives_08 : ReceiverIs m k i Pc08 n r → v ≡ seen_at m k n word_at (k.base + 12) → Receives m k i count Pc08 n r v
   receives_08 h seen =
       reads m k i count n order r v Pc08 Pc0C (r.x8 + 12) (λ w. record r { x5 = w }) refl (line_08 m.middle (whole_of k count) r (omega (arith, is.even, h.1.base)) (omega (arith, is.inside, is.some_slot, h.1.base)) is.small)
-      (h.0, h.1, seen ∙ laws.sees_done k n word_at order words)
+      (h.0, record { base = h.1.base; index = h.1.index }, seen ∙ laws.sees_done k n word_at order words)
 
   receives_0C : ReceiverIs m k i Pc0C n r → Receives m k i count Pc0C n r v
   receives_0C h =
@@ -53,7 +53,7 @@ module _ (m : BlockMeaning) (code : List ℕ) (laws : BlockLaws m code) (k : Blo
   receives_10 : ReceiverIs m k i Pc10 n r → v ≡ seen_at m k n word_at (k.base + 4) → Receives m k i count Pc10 n r v
   receives_10 h seen =
       reads m k i count n order r v Pc10 Pc14 (r.x8 + 4) (λ w. record r { x30 = w }) refl (line_10 m.middle (whole_of k count) r (omega (arith, is.even, h.visits.base)) (omega (arith, is.inside, is.some_slot, h.visits.base)) is.small)
-      (h, flag (cases_eq (m.marks n) 0))
+      (opened_noted m k i count n order r v h r.x5 r.x6 r.x7 r.x10 r.x11 r.x17 r.x20 r.x28 v, flag (cases_eq (m.marks n) 0))
     where
       read : v ≡ m.marks n
       read = seen ∙ laws.sees_mark k n word_at order words
@@ -62,8 +62,11 @@ module _ (m : BlockMeaning) (code : List ℕ) (laws : BlockLaws m code) (k : Blo
       flag (inl none) = inl (read ∙ none)
       flag (inr some) = let one : m.marks n ≡ 1 = omega (arith, laws.marks_one k n order) in inr (read ∙ one, one)
 
+  has_noted : Has m k i n r → (c : ℕ) → Has m k i n (record r { x7 = c })
+  has_noted h c = record { visits = record { base = h.visits.base; index = h.visits.index }; ahead = h.ahead; closed = h.closed; open_yet = h.open_yet; filled = h.filled; word = h.word }
+
   receives_28 : ReceiverIs m k i Pc28 n r → Receives m k i count Pc28 n r v
-  receives_28 h = still m k i count n order r v Pc28 Pc2C (record r { x7 = r.x7 + 4 }) refl (line_28 m.middle (whole_of k count) r (omega (arith, is.inside, is.small, h.1, offset_low k is (m.tails n)))) (h.0, (let same : r.x7 + 4 ≡ offset k (m.tails n) + 4 = omega (arith, h.1) in same))
+  receives_28 h = still m k i count n order r v Pc28 Pc2C (record r { x7 = r.x7 + 4 }) refl (line_28 m.middle (whole_of k count) r (omega (arith, is.inside, is.small, h.1, offset_low k is (m.tails n)))) (has_noted h.0 (r.x7 + 4), (let same : r.x7 + 4 ≡ offset k (m.tails n) + 4 = omega (arith, h.1) in same))
 
   receives_2C : ReceiverIs m k i Pc2C n r → Receives m k i count Pc2C n r v
   receives_2C h =
@@ -73,7 +76,7 @@ module _ (m : BlockMeaning) (code : List ℕ) (laws : BlockLaws m code) (k : Blo
       ]
 
   receives_30 : ReceiverIs m k i Pc30 n r → Receives m k i count Pc30 n r v
-  receives_30 h = still m k i count n order r v Pc30 Pc34 (record r { x7 = 0 }) refl (line_30 m.middle (whole_of k count) r) (h.0, sym (offset_wrap k.size (m.tails n) (omega (arith, is.some_slot)) h.1))
+  receives_30 h = still m k i count n order r v Pc30 Pc34 (record r { x7 = 0 }) refl (line_30 m.middle (whole_of k count) r) (has_noted h.0 0, sym (offset_wrap k.size (m.tails n) (omega (arith, is.some_slot)) h.1))
 
   receives_34 : ReceiverIs m k i Pc34 n r → Receives m k i count Pc34 n r v
   receives_34 h =
@@ -100,11 +103,14 @@ module _ (m : BlockMeaning) (code : List ℕ) (laws : BlockLaws m code) (k : Blo
         counts = ap (λ j. r.x20 + j + 0) made.shut;
       }
 
+  taking_noted : Taking m k i n r → (a b : ℕ) → Taking m k i n (record r { x10 = a; x17 = b })
+  taking_noted h a b = record { visits = record { base = h.visits.base; index = h.visits.index }; level = h.level; ahead = h.ahead; closed = h.closed; open_yet = h.open_yet; word = h.word }
+
   receives_38 : ReceiverIs m k i Pc38 n r → Receives m k i count Pc38 n r v
-  receives_38 h = still m k i count n order r v Pc38 Pc3C (record r { x10 = r.x22 }) refl (line_38 m.middle (whole_of k count) r (omega (arith, h.visits.index))) (h, h.visits.index)
+  receives_38 h = still m k i count n order r v Pc38 Pc3C (record r { x10 = r.x22 }) refl (line_38 m.middle (whole_of k count) r (omega (arith, h.visits.index))) (taking_noted h r.x22 r.x17, h.visits.index)
 
   receives_3C : ReceiverIs m k i Pc3C n r → Receives m k i count Pc3C n r v
-  receives_3C h = still m k i count n order r v Pc3C Pc40 (record r { x17 = 2 }) refl (line_3C m.middle (whole_of k count) r) (h.0, h.1, refl)
+  receives_3C h = still m k i count n order r v Pc3C Pc40 (record r { x17 = 2 }) refl (line_3C m.middle (whole_of k count) r) (taking_noted h.0 r.x10 2, h.1, refl)
 
   receives_40 : ReceiverIs m k i Pc40 n r → Receives m k i count Pc40 n r v
   receives_40 h =
@@ -139,7 +145,7 @@ module _ (m : BlockMeaning) (code : List ℕ) (laws : BlockLaws m code) (k : Blo
       all some (inr whole) = whole
 
   receives_4C : ReceiverIs m k i Pc4C n r → Receives m k i count Pc4C n r v
-  receives_4C h = still m k i count n order r v Pc4C Pc50 (record r { x5 = 1 }) refl (line_4C m.middle (whole_of k count) r) (h.0, h.1, refl)
+  receives_4C h = still m k i count n order r v Pc4C Pc50 (record r { x5 = 1 }) refl (line_4C m.middle (whole_of k count) r) (opened_noted m k i count n order r v h.0 1 r.x6 r.x7 r.x10 r.x11 r.x17 r.x20 r.x28 r.x30, h.1, refl)
 
   receives_50 : ReceiverIs m k i Pc50 n r → Receives m k i count Pc50 n r v
   receives_50 h =
@@ -159,11 +165,14 @@ module _ (m : BlockMeaning) (code : List ℕ) (laws : BlockLaws m code) (k : Blo
         counts = ap (λ j. r.x20 + j + 0) made.shut;
       }
 
+  closing_noted : Closing m k i n r → (a b : ℕ) → Closing m k i n (record r { x10 = a; x17 = b })
+  closing_noted h a b = record { visits = record { base = h.visits.base; index = h.visits.index }; level = h.level; words = h.words; all = h.all; done = h.done; unsaid = h.unsaid }
+
   receives_54 : ReceiverIs m k i Pc54 n r → Receives m k i count Pc54 n r v
-  receives_54 h = still m k i count n order r v Pc54 Pc58 (record r { x10 = r.x22 }) refl (line_54 m.middle (whole_of k count) r (omega (arith, h.visits.index))) (h, h.visits.index)
+  receives_54 h = still m k i count n order r v Pc54 Pc58 (record r { x10 = r.x22 }) refl (line_54 m.middle (whole_of k count) r (omega (arith, h.visits.index))) (closing_noted h r.x22 r.x17, h.visits.index)
 
   receives_58 : ReceiverIs m k i Pc58 n r → Receives m k i count Pc58 n r v
-  receives_58 h = still m k i count n order r v Pc58 Pc5C (record r { x17 = 3 }) refl (line_58 m.middle (whole_of k count) r) (h.0, h.1, refl)
+  receives_58 h = still m k i count n order r v Pc58 Pc5C (record r { x17 = 3 }) refl (line_58 m.middle (whole_of k count) r) (closing_noted h.0 r.x10 3, h.1, refl)
 
   receives_5C : ReceiverIs m k i Pc5C n r → Receives m k i count Pc5C n r v
   receives_5C h =
@@ -184,7 +193,7 @@ module _ (m : BlockMeaning) (code : List ℕ) (laws : BlockLaws m code) (k : Blo
       }
 
   receives_60 : ReceiverIs m k i Pc60 n r → (y : ℕ) → r.x20 ≡ y + 1 → r.x20 ≤ 64 → Receives m k i count Pc60 n r v
-  receives_60 h y one small = still m k i count n order r v Pc60 Pc64 (record r { x20 = y }) (omega (arith, one)) (line_60 m.middle (whole_of k count) r y one (omega (arith, one, small))) (h.0, h.1)
+  receives_60 h y one small = still m k i count n order r v Pc60 Pc64 (record r { x20 = y }) (omega (arith, one)) (line_60 m.middle (whole_of k count) r y one (omega (arith, one, small))) (h.0, record { base = h.1.base; index = h.1.index })
 
   receives_64 : ReceiverIs m k i Pc64 n r → Receives m k i count Pc64 n r v
   receives_64 h =

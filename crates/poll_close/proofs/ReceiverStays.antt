@@ -17,20 +17,20 @@ module _ (m : BlockMeaning) (code : List ℕ) (laws : BlockLaws m code) (k : Blo
   pub quiet_stays : Quiet m n → Quiet m new
   quiet_stays h = record { words = g.took ∙ h.words ∙ sym g.tails; closed = g.shut ∙ h.closed ∙ sym g.dones; level = laws.level_stays n new g h.level }
 
-  opened_stays : Opened m k i n r.x8 r.x22 → Opened m k i new r.x8 r.x22
+  opened_stays : Opened m k i n r → Opened m k i new r
   opened_stays h = record { visits = h.visits; quiet = quiet_stays h.quiet; open_yet = g.dones ∙ h.open_yet }
 
   flag_stays : Flag m n r → m.marks new ≤ 1 → Flag m new r
   flag_stays (inl none) one = inl none
   flag_stays (inr some) one = inr (some.0, (let same : m.marks new ≡ 1 = omega (arith, g.marks, some.1) in same))
 
-  has_stays : Has m k i n r.x8 r.x22 r.x11 → Has m k i new r.x8 r.x22 r.x11
+  has_stays : Has m k i n r → Has m k i new r
   has_stays h = record { visits = h.visits; ahead = g.took ∙ h.ahead ∙ sym g.tails; closed = g.shut ∙ h.closed ∙ sym g.dones; open_yet = g.dones ∙ h.open_yet; filled = laws.filled_stays k n new g h.filled; word = h.word ∙ ap (slice_index k.list) (sym g.tails) }
 
-  taking_stays : Taking m k i n r.x8 r.x22 r.x11 → Taking m k i new r.x8 r.x22 r.x11
+  taking_stays : Taking m k i n r → Taking m k i new r
   taking_stays h = record { visits = h.visits; level = laws.level_stays n new g h.level; ahead = g.tails ∙ h.ahead ∙ ap (λ j. j + 1) (sym g.took); closed = g.shut ∙ h.closed ∙ sym g.dones; open_yet = g.dones ∙ h.open_yet; word = h.word ∙ ap (slice_index k.list) (sym g.took) }
 
-  closing_stays : Closing m k i n r.x8 r.x22 → Closing m k i new r.x8 r.x22
+  closing_stays : Closing m k i n r → Closing m k i new r
   closing_stays h = record { visits = h.visits; level = laws.level_stays n new g h.level; words = g.took ∙ h.words ∙ sym g.tails; all = g.tails ∙ h.all; done = g.dones ∙ h.done; unsaid = g.shut ∙ h.unsaid }
 
   all_stays : (r.x30 ≡ 0) ⊎ (m.tails n ≡ length k.list) → (r.x30 ≡ 0) ⊎ (m.tails new ≡ length k.list)

@@ -42,3 +42,6 @@ module _ (m : BlockMeaning) (k : Block) (i count : ℕ) (n : m.Count) (order : m
     counts = counts;
   }
 
+  -- other registers are written
+  pub opened_noted : Opened m k i n r → (a b c d e g h y z : ℕ) → Opened m k i n (record r { x5 = a; x6 = b; x7 = c; x10 = d; x11 = e; x17 = g; x20 = h; x28 = y; x30 = z })
+  opened_noted o a b c d e g h y z = record { visits = record { base = o.visits.base; index = o.visits.index }; quiet = o.quiet; open_yet = o.open_yet }
