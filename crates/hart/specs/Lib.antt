@@ -1,4 +1,5 @@
 pub mod State
 pub mod Effects
 pub mod Steps
+pub mod Saved
 pub mod inner

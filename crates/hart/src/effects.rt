@@ -1,6 +1,6 @@
 //! What an instruction leaves in the registers and the pc.
 
-ghost use Rattle.std.specs.Prelude.{◌≡◌, ◌<◌};
+ghost use Rattle.std.specs.Prelude.{◌≡◌, ◌<◌, ◌*◌, ◌/◌};
 ghost use Rattle.rv_decode.specs.Fits.{Fits};
 ghost use Rattle.hart.specs.Effects.{load_width, store_width, sign_extended, extended, stored, updated, computed, with_immediate, shifted, is_taken, read, written, next_pc, address, registers_after, pc_after};
 
@@ -157,13 +157,40 @@ pub(crate) fn next_pc(pc: u32) -> u32
     pc.wrapping_add(4)
 }
 
-/// The pc after the instruction at `pc`.
-pub(crate) fn pc_after(instr: &Instr, registers: &[u32; 32], pc: u32) -> u32
-    ensures { result ≡ pc_after instr.now registers.now pc }
+/// The same for a jump to a register: bit 0 is left out.
+pub(crate) fn even_address(base: u32, offset: i32) -> u32
+    ensures { result ≡ address base offset / 2 * 2 }
+{
+    address(base, offset) & !1
+}
+
+/// Leaves the registers as the instruction at `pc` does, and answers the pc behind it. `loaded` is the
+/// number that a load or an AMO read, and is not looked at elsewhere. It is one choice among the
+/// instructions, since the processor pays for each.
+#[inline(always)]
+pub(crate) fn apply(instr: &Instr, registers: &mut [u32; 32], pc: u32, loaded: u32) -> u32
+    requires { Fits instr.now }
+    ensures registers { registers.new ≡ registers_after instr.now registers.old pc loaded }
+    ensures pc { result ≡ pc_after instr.now registers.old pc }
 {
     match *instr {
-        Instr::Jal { offset, .. } => address(pc, offset),
-        Instr::Jalr { rs1, offset, .. } => address(read(registers, rs1), offset) & !1,
+        Instr::Lui { rd, upper } => {
+            write(registers, rd, upper << 12);
+            next_pc(pc)
+        }
+        Instr::Auipc { rd, upper } => {
+            write(registers, rd, pc.wrapping_add(upper << 12));
+            next_pc(pc)
+        }
+        Instr::Jal { rd, offset } => {
+            write(registers, rd, next_pc(pc));
+            address(pc, offset)
+        }
+        Instr::Jalr { rd, rs1, offset } => {
+            let target = even_address(read(registers, rs1), offset);
+            write(registers, rd, next_pc(pc));
+            target
+        }
         Instr::Branch {
             op,
             rs1,
@@ -176,40 +203,40 @@ pub(crate) fn pc_after(instr: &Instr, registers: &[u32; 32], pc: u32) -> u32
                 next_pc(pc)
             }
         }
-        _ => next_pc(pc),
-    }
-}
-
-/// Leaves the registers as the instruction at `pc` does; `loaded` is the number that a load or an
-/// AMO read, and is not looked at elsewhere.
-pub(crate) fn apply(instr: &Instr, registers: &mut [u32; 32], pc: u32, loaded: u32)
-    requires { Fits instr.now }
-    ensures { registers.new ≡ registers_after instr.now registers.old pc loaded }
-{
-    let (rd, word) = match *instr {
-        Instr::Lui { rd, upper } => (rd, upper << 12),
-        Instr::Auipc { rd, upper } => (rd, pc.wrapping_add(upper << 12)),
-        Instr::Jal { rd, .. } => (rd, next_pc(pc)),
-        Instr::Jalr { rd, .. } => (rd, next_pc(pc)),
-        Instr::Load { op, rd, .. } => (rd, extended(op, loaded)),
+        Instr::Load { op, rd, .. } => {
+            write(registers, rd, extended(op, loaded));
+            next_pc(pc)
+        }
         Instr::Immediate {
             op,
             rd,
             rs1,
             immediate,
-        } => { (rd, with_immediate(op, read(registers, rs1), immediate)) }
+        } => {
+            let word = with_immediate(op, read(registers, rs1), immediate);
+            write(registers, rd, word);
+            next_pc(pc)
+        }
         Instr::Shift {
             op,
             rd,
             rs1,
             amount,
-        } => (rd, shifted(op, read(registers, rs1), amount)),
-        Instr::Register { op, rd, rs1, rs2 } => {
-            (rd, computed(op, read(registers, rs1), read(registers, rs2)))
+        } => {
+            let word = shifted(op, read(registers, rs1), amount);
+            write(registers, rd, word);
+            next_pc(pc)
         }
-        Instr::Amo { rd, .. } => (rd, loaded),
-        Instr::Branch { .. } | Instr::Store { .. } => return,
-        Instr::Fence { .. } | Instr::FenceTso | Instr::Ecall | Instr::Ebreak => return,
-    };
-    write(registers, rd, word);
+        Instr::Register { op, rd, rs1, rs2 } => {
+            let word = computed(op, read(registers, rs1), read(registers, rs2));
+            write(registers, rd, word);
+            next_pc(pc)
+        }
+        Instr::Amo { rd, .. } => {
+            write(registers, rd, loaded);
+            next_pc(pc)
+        }
+        Instr::Store { .. } => next_pc(pc),
+        Instr::Fence { .. } | Instr::FenceTso | Instr::Ecall | Instr::Ebreak => next_pc(pc),
+    }
 }

@@ -6,13 +6,18 @@
 
 #![tactic(auto)]
 
+pub mod code;
 pub mod effects;
+pub mod laws;
 pub mod need;
+pub mod saved;
 mod state;
 pub mod status;
 mod wanted;
 
+pub use code::Code;
 pub use effects::amo;
 pub use need::{Need, Report};
+pub use saved::SavedHart;
 pub use state::Hart;
 pub use status::{Status, Stop};

@@ -15,6 +15,7 @@ pub(crate) const A1: usize = 11;
 const A7: usize = 17;
 
 /// What a jump to `target` wants.
+#[inline(always)]
 pub(crate) fn jump_need(target: u32) -> Need
     ensures { result ≡ jump_need target }
 {
@@ -26,6 +27,7 @@ pub(crate) fn jump_need(target: u32) -> Need
 }
 
 /// How far an address is past a multiple of `width`. No width that an access has costs a division.
+#[inline(always)]
 fn past_multiple(addr: u32, width: u32) -> u32
     requires { 0 < width }
     ensures { result ≡ addr % width }
@@ -39,6 +41,7 @@ fn past_multiple(addr: u32, width: u32) -> u32
 }
 
 /// What an access to `width` bytes from `addr` on wants, in a memory of so many words.
+#[inline(always)]
 pub(crate) fn access_need(words: usize, width: u32, addr: u32, wanted: Need) -> Need
     requires words { words ≤ 65536 }
     requires some { 0 < width }

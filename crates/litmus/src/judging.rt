@@ -1,6 +1,6 @@
 //! What a machine's last registers and words say of a condition.
 
-ghost use Rattle.std.specs.Prelude.{◌≡◌, ◌↔◌, ◌<◌, IsTrue, IfOk, All, true, length, map};
+ghost use Rattle.std.specs.Prelude.{◌≡◌, ◌↔◌, ◌<◌, IsTrue, IfOk, OnOk, All, true, length, map};
 ghost use Rattle.litmus.specs.Formulas.{truth, places};
 ghost use Rattle.litmus.specs.Questions.{IsThere};
 ghost use Rattle.litmus.specs.inner.Running.{done, all_done, AsksThere};
@@ -62,10 +62,24 @@ pub(crate) fn values_of<const B: usize, const M: usize>(
     ensures { IfOk result (λ values. values.items ≡ map (final_value M machine.now.history) places.now) }
 {
     let mut values = Vec::new(alloc);
+    put_values(&mut values, places, machine)?;
+    Ok(values)
+}
+
+/// The same in the place of what a vector holds.
+pub(crate) fn put_values<const B: usize, const M: usize>(
+    values: &mut Vec<u32>,
+    places: &[Place],
+    machine: &Machine<B, M>,
+) -> Result<(), AllocError>
+    requires { All (IsThere (length machine.now.history.opening.harts) M) places.now }
+    ensures { OnOk result (values.new.items ≡ map (final_value M machine.now.history) places.now) }
+{
+    values.clear();
     for place in places {
         values.push(value_at(*place, machine))?;
     }
-    Ok(values)
+    Ok(())
 }
 
 /// The truth value after a step, and how many steps to skip.

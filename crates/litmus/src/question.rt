@@ -1,10 +1,10 @@
 //! A litmus test: an opening, and a question about where it leads.
 
-ghost use Rattle.std.specs.Prelude.{◌≡◌, ◌<◌, ◌≤◌, ◌*◌, ◌/◌, ◌↔◌, [], All, IfOk, IsTrue, length, map, slice_index_or};
+ghost use Rattle.std.specs.Prelude.{◌≡◌, ◌<◌, ◌≤◌, ◌*◌, ◌/◌, ◌↔◌, [], All, IfOk, OnOk, IsTrue, length, map, slice_index_or};
 ghost use Rattle.std.specs.String.{string_bytes};
 
 use crate::condition::Condition;
-use crate::judging::{is_asked_for, is_finished, is_true, values_of};
+use crate::judging::{is_asked_for, is_finished, is_true, put_values, values_of};
 use crate::lefts::first_places;
 use crate::symbols::Place;
 use crate::verdict::{Quantifier, Verdict};
@@ -112,6 +112,19 @@ impl Test {
         ensures { IfOk result (λ values. values.items ≡ map (final_value M machine.now.history) (left_sides self.now.condition)) }
     {
         values_of(alloc, &self.lefts, machine)
+    }
+
+    /// The same in the place of what a vector holds, so that the room that it has serves again.
+    pub fn put_values<const B: usize, const M: usize>(
+        &self,
+        values: &mut Vec<u32>,
+        machine: &Machine<B, M>,
+    ) -> Result<(), AllocError>
+        requires harts { length machine.now.history.opening.harts ≡ length self.now.opening.harts }
+        requires words { length self.now.names ≤ M }
+        ensures { OnOk result (values.new.items ≡ map (final_value M machine.now.history) (left_sides self.now.condition)) }
+    {
+        put_values(values, &self.lefts, machine)
     }
 
     /// What the test says of a machine. It takes no memory.

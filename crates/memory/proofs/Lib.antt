@@ -3,3 +3,4 @@ pub mod Newest
 pub mod WholeWords
 pub mod MemoryBytes
 pub mod Joined
+pub mod Untouched

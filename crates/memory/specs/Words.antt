@@ -1,5 +1,5 @@
 -- Byte addresses of words, and what a memory and a buffer keep.
-use Rattle.std.specs.Prelude.{ℕ, ◌≡◌, ◌*◌, ◌%◌, ◌<◌, ◌≤◌, List, length, All}
+use Rattle.std.specs.Prelude.{ℕ, ◌≡◌, ◌*◌, ◌%◌, ◌<◌, ◌≤◌, ◌++◌, List, length, drop, replicate, All}
 use Rattle.memory.specs.declared.writes.Write.{Write}
 use Rattle.memory.specs.Writes.{WritesInWord}
 
@@ -7,10 +7,25 @@ use Rattle.memory.specs.Writes.{WritesInWord}
 abbrev pub IsAddress : ℕ → ℕ → Type 0
 IsAddress M a = (a % 4 ≡ 0) × (a < 4 * M)
 
--- a memory has M words, at most 65536 of them
-pub record IsMemory (M : ℕ) (words : List ℕ) : Type 0 where
+-- what a contract sees of a memory: its words, and those with which it opened
+pub record MemoryView : Type 0 where
+  pub words : List ℕ
+  pub first : List ℕ
+
+-- these words, and 0 behind them, M in all
+abbrev pub opened_words : ℕ → List ℕ → List ℕ
+opened_words M words = words ++ drop (length words) (replicate M 0)
+
+abbrev pub opened_memory : ℕ → List ℕ → MemoryView
+opened_memory M words = record { words = opened_words M words; first = opened_words M words }
+
+-- a memory has M words, at most 65536 of them, and from some place on they are those of its opening
+pub record IsMemory (M : ℕ) (words first : List ℕ) (untouched : ℕ) : Type 0 where
   pub size : length words ≡ M
+  pub first_size : length first ≡ M
   pub limit : M ≤ 65536
+  pub place : untouched ≤ M
+  pub same : drop untouched words ≡ drop untouched first
 
 -- a buffer has room for B stores, at most 64 of them
 pub record IsBuffer (B : ℕ) (stores : List Write) : Type 0 where

@@ -108,4 +108,24 @@ impl<const B: usize> StoreBuffer<B> {
     {
         self.stores.clear();
     }
+
+    /// A copy, which takes no memory.
+    pub fn save(&self) -> Self
+        ensures { result ≡ self.now }
+    {
+        let _ = &self.stores;
+        let mut saved = StoreBuffer::new();
+        saved.restore(self);
+        saved
+    }
+
+    /// Makes the pending stores those of a copy. It takes no memory.
+    pub fn restore(&mut self, saved: &Self)
+        ensures { self.new ≡ saved.now }
+    {
+        self.stores.clear();
+        for store in saved.stores.as_slice() {
+            self.stores.push(*store);
+        }
+    }
 }

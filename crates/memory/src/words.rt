@@ -1,44 +1,53 @@
 //! The words that all harts share.
 
 ghost use Rattle.std.specs.Prelude.{◌≡◌, ◌+◌, ◌*◌, ◌/◌, ◌<◌, ◌≤◌, ◌++◌, length, drop, replicate, slice_index, slice_set, IfOk};
-ghost use Rattle.memory.specs.Words.{IsAddress};
+ghost use Rattle.memory.specs.Words.{IsAddress, opened_words, opened_memory};
 ghost use Rattle.memory.specs.Writes.{write, over, byte_of, IsInWord};
 
 use crate::writes::{Write, byte_at};
 use std::alloc::{AllocError, Global};
 use std::marker::Model;
 
-/// `M` words of 32 bits, at the byte addresses 0, 4, .. below `4 * M`; seen as the list of the words.
+/// `M` words of 32 bits, at the byte addresses 0, 4, .. below `4 * M`; seen as the list of the words,
+/// and the list of those with which it opened.
 #[derive(Drop)]
 pub struct Memory<const M: usize> {
     words: Vec<u32>,
+    first: Vec<u32>,
+    /// From this index on no word was written since the opening.
+    untouched: usize,
 }
 
 impl<const M: usize> Model for Memory<M> {
-    ghost use Rattle.std.specs.Prelude.{ℕ, List};
-    ghost use Rattle.memory.specs.Words.{IsMemory};
+    ghost use Rattle.memory.specs.Words.{MemoryView, IsMemory};
 
-    ghost Value = { List ℕ };
+    ghost Value = { MemoryView };
 
-    ghost view = { λ m. m.words.items };
+    ghost view = { λ m. record { words = m.words.items; first = m.first.items } };
 
-    ghost invariant = { λ m. IsMemory M m.words.items };
+    ghost invariant = { λ m. IsMemory M m.words.items m.first.items m.untouched };
 }
 
 impl<const M: usize> Memory<M> {
-    /// A memory of zeros. It is the one call of this crate that takes memory.
-    pub fn new(alloc: Global) -> Result<Self, AllocError>
-        requires { M ≤ 65536 }
-        ensures { IfOk result (λ m. m ≡ replicate M 0) }
+    /// A memory that opens with these words, and 0 after them.
+    pub fn open(alloc: Global, words: &[u32]) -> Result<Self, AllocError>
+        requires size { M ≤ 65536 }
+        requires fits { length words.now ≤ M }
+        ensures { IfOk result (λ m. m ≡ opened_memory M words.now) }
     {
-        let words = vec![in alloc; 0; M]?;
-        Ok(Memory { words })
+        let first = padded::<M>(alloc, words)?;
+        let words = Vec::from_slice(alloc, &first)?;
+        Ok(Memory {
+            words,
+            first,
+            untouched: 0,
+        })
     }
 
     /// The words in order, that at byte address `4 * i` at index `i`.
     pub fn words(&self) -> &[u32]
-        ensures value { result.now ≡ self.now }
-        ensures len { length self.now ≡ M }
+        ensures value { result.now ≡ self.now.words }
+        ensures len { length self.now.words ≡ M }
     {
         &self.words
     }
@@ -46,24 +55,15 @@ impl<const M: usize> Memory<M> {
     /// The word at byte address `addr`.
     pub fn load(&self, addr: u32) -> u32
         requires { IsAddress M addr }
-        ensures { result ≡ slice_index self.now (addr / 4) }
+        ensures { result ≡ slice_index self.now.words (addr / 4) }
     {
         self.words[(addr / 4) as usize]
-    }
-
-    /// Makes `value` the word at byte address `addr`.
-    pub fn store(&mut self, addr: u32, value: u32)
-        requires { IsAddress M addr }
-        ensures { self.new ≡ slice_set self.old (addr / 4) value }
-    {
-        let index = (addr / 4) as usize;
-        self.words[index] = value;
     }
 
     /// The byte at address `addr`.
     pub fn load_byte(&self, addr: u32) -> u8
         requires { addr < 4 * M }
-        ensures { result ≡ byte_of self.now addr }
+        ensures { result ≡ byte_of self.now.words addr }
     {
         byte_at(self.words[(addr / 4) as usize], addr % 4)
     }
@@ -72,31 +72,59 @@ impl<const M: usize> Memory<M> {
     pub fn store_bytes(&mut self, addr: u32, width: u32, value: u32)
         requires within { addr < 4 * M }
         requires in_word { IsInWord width addr }
-        ensures { self.new ≡ slice_set self.old (addr / 4) (over (write addr width value) (slice_index self.old (addr / 4))) }
+        ensures { self.new ≡ record self.old { words = slice_set self.old.words (addr / 4) (over (write addr width value) (slice_index self.old.words (addr / 4))) } }
     {
         let index = (addr / 4) as usize;
         let write = Write { addr, width, value };
         self.words[index] = write.over(self.words[index]);
-    }
-
-    /// Makes the word at byte address `addr` the one that `words` has there, and 0 where it has none,
-    /// as it is after they were put into a memory of zeros. An `addr` past the memory changes nothing.
-    pub fn restore(&mut self, addr: u32, words: &[u32])
-        ensures { self.new ≡ slice_set self.old (addr / 4) (slice_index words.now (addr / 4)) }
-    {
-        let index = (addr / 4) as usize;
-        let value = words.get(index).copied().unwrap_or(0);
-        if let Some(word) = self.words.get_mut(index) {
-            *word = value;
+        if self.untouched <= index {
+            self.untouched = index + 1;
         }
     }
 
-    /// Puts `words` in the place of the first ones, as an opening does.
-    pub fn fill(&mut self, words: &[u32])
-        requires { length words.now ≤ M }
-        ensures { self.new ≡ words.now ++ drop (length words.now) self.old }
+    /// Puts the words back with which the memory opened. It goes over those up to the last that was
+    /// written since, and over no other.
+    pub fn restart(&mut self)
+        ensures { self.new ≡ record self.old { words = self.old.first } }
     {
-        let (first, _) = self.words.split_at_mut(words.len());
-        first.copy_from_slice(words);
+        put_first(&mut self.words, &self.first[..self.untouched]);
+        self.untouched = 0;
     }
+
+    /// The words up to the last that was written since the opening; those after them are the opening's.
+    pub fn save(&self, alloc: Global) -> Result<Vec<u32>, AllocError>
+        ensures few { IfOk result (λ saved. length saved.items ≤ M) }
+        ensures same { IfOk result (λ saved. saved.items ++ drop (length saved.items) self.now.first ≡ self.now.words) }
+    {
+        Vec::from_slice(alloc, &self.words[..self.untouched])
+    }
+
+    /// Makes the words these, and the opening's after them. It takes no memory.
+    pub fn restore(&mut self, saved: &[u32])
+        requires { length saved.now ≤ M }
+        ensures { self.new ≡ record self.old { words = saved.now ++ drop (length saved.now) self.old.first } }
+    {
+        self.restart();
+        put_first(&mut self.words, saved);
+        self.untouched = saved.len();
+    }
+}
+
+/// These words, and zeros up to `M` words.
+fn padded<const M: usize>(alloc: Global, words: &[u32]) -> Result<Vec<u32>, AllocError>
+    requires { length words.now ≤ M }
+    ensures { IfOk result (λ all. all.items ≡ opened_words M words.now) }
+{
+    let mut all = vec![in alloc; 0; M]?;
+    put_first(&mut all, words);
+    Ok(all)
+}
+
+/// Puts some words in the place of the first ones.
+fn put_first(words: &mut [u32], first: &[u32])
+    requires { length first.now ≤ length words.old }
+    ensures { words.new ≡ first.now ++ drop (length first.now) words.old }
+{
+    let (front, _) = words.split_at_mut(first.len());
+    front.copy_from_slice(first);
 }

@@ -10,6 +10,7 @@ use std::alloc::{AllocError, Global};
 use step_machine::events::Event;
 
 /// The event that the word draws.
+#[inline(always)]
 fn event_of(word: u32, harts: u32) -> Event
     requires some { 1 ≤ harts }
     requires most { harts ≤ MAX_HARTS }
@@ -42,10 +43,56 @@ pub fn seeded<R: Rng>(
     ensures harts { IfOk result (λ events. OfHarts events.items) }
     ensures len { IfOk result (λ events. length events.items ≡ n) }
 {
+    let mut events = Vec::new(alloc);
+    draw(&mut events, generator, harts, n)?;
+    Ok(events)
+}
+
+/// The same in the place of what a vector holds, so that the room that it has serves again.
+pub fn draw<R: Rng>(
+    events: &mut Vec<Event>,
+    generator: &mut R,
+    harts: u32,
+    n: u32,
+) -> Result<(), AllocError>
+    requires some_hart { 1 ≤ harts }
+    requires most_harts { harts ≤ MAX_HARTS }
+    ensures drawn { OnOk result (events.new.items ≡ map (drawn harts) (words n (R.stream generator.old))) }
+    ensures rest { OnOk result (R.stream generator.new ≡ left_after n (R.stream generator.old)) }
+    ensures err { OnErr result (generator.new ≡ generator.old) }
+    ensures harts { OnOk result (OfHarts events.new.items) }
+    ensures len { OnOk result (length events.new.items ≡ n) }
+{
+    // each call is a loop of its own, in which a remainder by a constant costs no division
+    match harts {
+        1 => put(events, generator, 1, n),
+        2 => put(events, generator, 2, n),
+        3 => put(events, generator, 3, n),
+        4 => put(events, generator, 4, n),
+        _ => put(events, generator, harts, n),
+    }
+}
+
+#[inline(always)]
+fn put<R: Rng>(
+    events: &mut Vec<Event>,
+    generator: &mut R,
+    harts: u32,
+    n: u32,
+) -> Result<(), AllocError>
+    requires some_hart { 1 ≤ harts }
+    requires most_harts { harts ≤ MAX_HARTS }
+    ensures drawn { OnOk result (events.new.items ≡ map (drawn harts) (words n (R.stream generator.old))) }
+    ensures rest { OnOk result (R.stream generator.new ≡ left_after n (R.stream generator.old)) }
+    ensures err { OnErr result (generator.new ≡ generator.old) }
+    ensures harts { OnOk result (OfHarts events.new.items) }
+    ensures len { OnOk result (length events.new.items ≡ n) }
+{
     // room comes first, so that no word is drawn in vain
-    let mut events = Vec::with_capacity(alloc, n as usize)?;
+    events.clear();
+    events.reserve(n as usize)?;
     for _ in 0..n {
         events.push_reserved(event_of(generator.next_u32(), harts));
     }
-    Ok(events)
+    Ok(())
 }

@@ -21,7 +21,7 @@ pub mod replaying;
 mod tokens;
 pub mod writing;
 
-pub use drawing::seeded;
+pub use drawing::{draw, seeded};
 pub use faults::{AtByte, ScheduleError, ScheduleFault};
 pub use laws::{
     longest_runs, one_value, records_are_read_again, refused_without_value, tokens_are_read_again,

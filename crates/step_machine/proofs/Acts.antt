@@ -28,7 +28,7 @@ use Rattle.step_machine.specs.Legal.{Allowed, Kept}
 use Rattle.step_machine.specs.Runs.{CanFollow, Happens, RunFrom, Run, idle_of, idle_in}
 use Rattle.step_machine.proofs.Follows.{act_only, follows}
 use Rattle.step_machine.proofs.Running.{kept-happens, kept-unrun}
-use Rattle.step_machine.specs.inner.Config.{land_in}
+use Rattle.step_machine.specs.inner.Stored.{land_in}
 use Rattle.step_machine.specs.Banks.{is_over}
 use Rattle.step_machine.proofs.Happening.{history_after, none-no_hart, over_happens, state_of-hart, some_land}
 use Rattle.step_machine.proofs.OwnRuns.{only_act}

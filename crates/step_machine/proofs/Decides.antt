@@ -22,7 +22,8 @@ use Rattle.step_machine.specs.Entries.{hart_of, is_land, pending, memory_byte, m
 use Rattle.step_machine.specs.Paths.{entry_of, value_of}
 use Rattle.step_machine.specs.Legal.{Allowed}
 use Rattle.step_machine.specs.Banks.{Does}
-use Rattle.step_machine.specs.inner.Config.{Stored, IsPlace, IsInRange, buffer_of, word_at, found_byte, found, is_empty, if_waits, outcome_for}
+use Rattle.step_machine.specs.Ranges.{IsPlace, IsInRange}
+use Rattle.step_machine.specs.inner.Stored.{Stored, buffer_of, word_at, found_byte, found, is_empty, if_waits, outcome_for}
 use Rattle.step_machine.specs.inner.Ties.{Holds}
 use Rattle.memory.specs.declared.writes.Write.{Write}
 

@@ -6,7 +6,7 @@ use Rattle.std.proofs.lemmas.Option.{slice_get_read, get_or_from_slice_get}
 use Rattle.memory.specs.declared.writes.Write.{Write}
 use Rattle.memory.specs.Writes.{joined, overlaid, IsInWord, WritesInWord}
 use Rattle.memory.proofs.Bytes.{overlaid_part}
-use Rattle.step_machine.specs.inner.Config.{Stored, FitStored, buffer_of, found}
+use Rattle.step_machine.specs.inner.Stored.{Stored, FitStored, buffer_of, found}
 
 pub found_in_word : (M : ℕ) (c : Stored) (h a width word seen value : ℕ) (ws : List Write) → FitStored M c → h < length c.buffers → ws ≡ get_or c.buffers h ws → word ≡ slice_index c.words ((a - a % 4) / 4) → seen ≡ overlaid a word ws → value ≡ joined (λ i. byte_at (a % 4 + i) seen) width → IsInWord width a → value ≡ found c h a width
 found_in_word M c h a width word seen value ws fit within here word_is seen_is value_is in_word =

@@ -14,7 +14,9 @@ use Rattle.hart.specs.declared.need.Need.{Need}
 use Rattle.hart.specs.declared.status.Status.{Status}
 use Rattle.hart.specs.declared.status.Status.TheVariants as status
 use Rattle.hart.proofs.Advances.{advanced-words}
-use Rattle.step_machine.specs.inner.Config.{Stored, FitStored, stored_after_outcome, after_outcome, Config, buffer_of, land_in, land_outcome, IsInRange, step_at, step_hart, Fit, IsNext, IsReady, act_in, act_outcome, outcome_for}
+use Rattle.step_machine.specs.Ranges.{IsInRange}
+use Rattle.step_machine.specs.inner.Stored.{Stored, FitStored, stored_after_outcome, buffer_of, land_in, outcome_for}
+use Rattle.step_machine.specs.inner.Config.{after_outcome, Config, land_outcome, step_at, step_hart, Fit, IsNext, IsReady, act_in, act_outcome}
 use Rattle.step_machine.proofs.Decides.{need_of-in_range}
 
 -- the element x of the list, stepped in its place
@@ -25,16 +27,16 @@ pub length-step_at : (hs : List HartView) (h v : ℕ) (so : Option HartView) →
 length-step_at hs h v None = refl
 length-step_at hs h v (Some x) = length-set hs h (stepped x v)
 
-words_step_at : (M : ℕ) (hs : List HartView) (h v : ℕ) (so : Option HartView) → slice_get hs h ≡ so → All (λ (x : HartView). x.state.words ≡ M) hs → All (λ (x : HartView). x.state.words ≡ M) (step_at hs h v so)
-words_step_at M hs h v None is all = all
-words_step_at M hs h v (Some x) is all =
-    let words : x.state.words ≡ M = subst (λ (y : HartView). y.state.words ≡ M) (get_or_from_slice_get hs h x x is) (all h x (slice_get_within hs h x is)) in
-    All-set (λ (y : HartView). y.state.words ≡ M) hs h (stepped x v) (advanced-words x.state v ∙ words) all
+-- what a step keeps of a hart, it keeps of all harts
+all_step_at : (P : HartView → Type 0) (hs : List HartView) (h v : ℕ) (so : Option HartView) → ((x : HartView) → P x → P (stepped x v)) → slice_get hs h ≡ so → All P hs → All P (step_at hs h v so)
+all_step_at P hs h v None keeps is all = all
+all_step_at P hs h v (Some x) keeps is all = All-set P hs h (stepped x v) (keeps x (subst P (get_or_from_slice_get hs h x x is) (all h x (slice_get_within hs h x is)))) all
 
 pub fit_step : (M : ℕ) (c : Config) (h v : ℕ) → Fit M c → Fit M (record c { harts = step_hart c h v })
 fit_step M c h v fit = record {
   buffers = fit.buffers ∙ sym (length-step_at c.harts h v (slice_get c.harts h));
-  harts = words_step_at M c.harts h v (slice_get c.harts h) refl fit.harts;
+  harts = all_step_at (λ x. x.state.words ≡ M) c.harts h v (slice_get c.harts h) (λ x words. advanced-words x.state v ∙ words) refl fit.harts;
+  firsts = all_step_at (λ x. x.first.words ≡ M) c.harts h v (slice_get c.harts h) (λ x words. words) refl fit.firsts;
   stored = fit.stored;
 }
 
@@ -55,7 +57,7 @@ ready_in_place M c h x n within is running next room fit =
 
 -- other buffers and words that fit, for as many harts
 pub fit_served : (M : ℕ) (c : Config) (s : Stored) → Fit M c → length s.buffers ≡ length c.stored.buffers → FitStored M s → Fit M (record c { stored = s })
-fit_served M c s fit count stored = record { buffers = count ∙ fit.buffers; harts = fit.harts; stored = stored }
+fit_served M c s fit count stored = record { buffers = count ∙ fit.buffers; harts = fit.harts; firsts = fit.firsts; stored = stored }
 
 -- a landing leaves the harts
 pub land_leaves : (c : Config) (s : Stored) (o : Outcome) (ps : List Write) (h : ℕ) (over : Bool) → o ≡ land_in ps h over → s ≡ stored_after_outcome c.stored o → record c { stored = s } ≡ after_outcome c o

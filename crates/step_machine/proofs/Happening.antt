@@ -18,7 +18,9 @@ use Rattle.step_machine.specs.Paths.{entry_of, value_of, CanMake, state_of, Path
 use Rattle.step_machine.specs.Legal.{Allowed, Kept}
 use Rattle.step_machine.specs.Banks.{is_over}
 use Rattle.step_machine.specs.Runs.{CanFollow, NoEntry, idle_of, idle_in, Happens}
-use Rattle.step_machine.specs.inner.Config.{Config, IsInRange, buffer_of, entries_after, outcome_for, act_in, act_outcome, land_in, land_outcome, outcome_of}
+use Rattle.step_machine.specs.Ranges.{IsInRange}
+use Rattle.step_machine.specs.inner.Stored.{buffer_of, outcome_for, land_in}
+use Rattle.step_machine.specs.inner.Config.{Config, entries_after, act_in, act_outcome, land_outcome, outcome_of}
 use Rattle.step_machine.specs.inner.Ties.{view_state, Tied}
 use Rattle.step_machine.proofs.Follows.{state_after, follows, act_only, land_follows, Path-hart, Legal-last}
 use Rattle.step_machine.proofs.Decides.{need_of-in_range, Decided, Holds-sees, outcome_for-decided}

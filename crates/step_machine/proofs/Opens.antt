@@ -6,18 +6,21 @@ use Rattle.std.proofs.lemmas.List.{length-map, length-replicate, drop-replicate}
 use Rattle.std.proofs.lemmas.List.Elements.{All-map, All-nil, All-replicate}
 use Rattle.std.proofs.lemmas.Option.{slice_get-map}
 use Rattle.std.specs.Int.{byte_at}
+use Rattle.memory.specs.Words.{opened_words}
 use Rattle.memory.specs.Writes.{WritesInWord, byte_of}
 use Rattle.hart.specs.State.{HartView}
 use Rattle.step_machine.specs.History.{HartStart, Start, unrun, FitsIn}
 use Rattle.step_machine.specs.Paths.{opens_as}
 use Rattle.step_machine.specs.inner.Opened.{opened_hart}
-use Rattle.step_machine.specs.inner.Config.{Config, HasAddress, FitStored, Fit, beginning, opened_stored, opened_config}
+use Rattle.step_machine.specs.inner.Stored.{HasAddress, FitStored, opened_stored}
+use Rattle.step_machine.specs.inner.Config.{Config, Fit, beginning, opened_config}
 use Rattle.step_machine.specs.inner.Ties.{view_state, Holds, Tied}
 use Rattle.memory.specs.declared.writes.Write.{Write}
 
 pub fit_stored : (M : ℕ) (first : List ℕ) (harts : ℕ) → length first ≤ M → FitStored M (opened_stored M first harts)
 fit_stored M first harts few = record {
-  words = length-append first (drop (length first) (replicate M 0)) ∙ rest (length first) few;
+  words = count;
+  first = count;
   pending = All-replicate (λ (ps : List Write). All (HasAddress M) ps) harts [] (All-nil (HasAddress M));
 }
   where
@@ -28,10 +31,14 @@ fit_stored M first harts few = record {
         let all : length zeros ≡ M = length-replicate {A = ℕ} M 0 in
         omega arith
 
+    count : length (opened_words M first) ≡ M
+    count = length-append first (drop (length first) (replicate M 0)) ∙ rest (length first) few
+
 pub fit_opened : (M : ℕ) (o : Start) → FitsIn M o → Fit M (opened_config M o)
 fit_opened M o fits = record {
   buffers = length-replicate (length o.harts) [] ∙ sym (length-map o.harts (opened_hart M));
   harts = All-map (λ (v : HartView). v.state.words ≡ M) (opened_hart M) o.harts (λ k d lt. refl);
+  firsts = All-map (λ (v : HartView). v.first.words ≡ M) (opened_hart M) o.harts (λ k d lt. refl);
   stored = fit_stored M o.words (length o.harts) fits.words;
 }
 
@@ -69,6 +76,7 @@ pub holds_opened : (M : ℕ) (o : Start) (harts : ℕ) → Holds M (unrun o) (op
 holds_opened M o harts = record {
   buffers = λ h. none_everywhere harts h;
   in_words = All-nil WritesInWord;
+  opens = refl;
   bytes = λ a is. ap (λ (ws : List ℕ). byte_of (o.words ++ ws) a) (drop-replicate (length o.words) M 0) ∙ ap (byte_at (a % 4)) (zeros_after o.words (M - length o.words) (a / 4));
 }
 

@@ -1,6 +1,6 @@
 -- A sound machine stays sound, whatever the event.
 use Rattle.std.proofs.Common.{◌≡◌, ℕ, ◌-◌, ◌≤◌, List, [], length, get_or, Option, Some, None, refl, sym, ◌∙◌, ap, subst, arith}
-use Rattle.std.specs.Prelude.{map, option_map}
+use Rattle.std.specs.Prelude.{map, option_map, All}
 use Rattle.std.specs.List.{slice_get}
 use Rattle.std.proofs.lemmas.List.{length-map}
 use Rattle.std.proofs.lemmas.Option.{slice_get_within, slice_get-get_or, get_or_from_slice_get, slice_get-map}
@@ -13,8 +13,10 @@ use Rattle.step_machine.specs.declared.events.Entry.TheVariants as entry
 use Rattle.step_machine.specs.declared.events.Outcome.{Outcome}
 use Rattle.step_machine.specs.declared.events.Outcome.TheVariants as outcome
 use Rattle.step_machine.specs.History.{Start, History, unrun, FitsIn}
+use Rattle.step_machine.specs.Entries.{reported}
 use Rattle.step_machine.specs.Runs.{Happens}
-use Rattle.step_machine.specs.inner.Config.{Stored, Config, FitStored, Fit, AllHaveRoom, SameButRoom, without_room, step_at, after_entry, after_outcome, entries_after, outcome_of, opened_config}
+use Rattle.step_machine.specs.inner.Stored.{Stored, FitStored}
+use Rattle.step_machine.specs.inner.Config.{Config, Fit, AllHaveRoom, SameButRoom, without_room, beginning, step_at, after_entry, after_outcome, entries_after, outcome_of, opened_config}
 use Rattle.step_machine.specs.inner.Ties.{view_state, Holds, Tied, Sound}
 use Rattle.step_machine.proofs.Carried.{carried}
 use Rattle.step_machine.proofs.Fitting.{length-step_at}
@@ -38,15 +40,16 @@ same_states None (Some y) is = cc
 same_states (Some x) None is = cc
 same_states (Some x) (Some y) is = let both : without_room x ≡ without_room y = cc in ap (λ (p : HartState × List Report). Some p.0) both
 
-same_reports : (so : Option HartView) (v : HartView) (rs : List Report) → option_map without_room so ≡ Some (without_room v) → ((w : HartView) → so ≡ Some w → w.reports ≡ rs) → v.reports ≡ rs
-same_reports None v rs is all = cc
-same_reports (Some x) v rs is all = let both : without_room x ≡ without_room v = cc in sym (ap (λ (p : HartState × List Report). p.1) both) ∙ all x refl
+-- what is so of a hart is so of another that looks the same
+same_at : {X : Type 0} (f : HartView → X) (P : X → Type 0) (so : Option HartView) (v : HartView) → option_map f so ≡ Some (f v) → ((w : HartView) → so ≡ Some w → P (f w)) → P (f v)
+same_at f P None v is all = cc
+same_at f P (Some x) v is all = let both : f x ≡ f v = cc in subst P both (all x refl)
 
 pub tied_same : (M : ℕ) (t : History) (c d : Config) → Tied M t c → SameButRoom c d → Tied M t d
 tied_same M t c d tied same = record {
   states = λ h. same_states (slice_get d.harts h) (slice_get c.harts h) (same_without_room c d h same) ∙ tied.states h;
   firsts = λ h. first_same c.harts d.harts h same.firsts ∙ tied.firsts h;
-  reports = λ h v is. same_reports (slice_get c.harts h) v _ (sym (same_without_room c d h same) ∙ ap (option_map without_room) is) (tied.reports h);
+  reports = λ h v is. same_at without_room (λ p. p.1 ≡ reported h t.entries) (slice_get c.harts h) v (sym (same_without_room c d h same) ∙ ap (option_map without_room) is) (tied.reports h);
   holds = subst (Holds M t) (sym same.stored) tied.holds;
 }
 
@@ -103,18 +106,20 @@ sound_opened B M o fits = record {
 
 -- a machine with other room is as fit, and as sound
 
-words_of : (M : ℕ) (c : Config) → Fit M c → (h : ℕ) (v : HartView) → slice_get c.harts h ≡ Some v → v.state.words ≡ M
-words_of M c fit h v is = subst (λ (y : HartView). y.state.words ≡ M) (get_or_from_slice_get c.harts h v v is) (fit.harts h v (slice_get_within c.harts h v is))
+hart_at : (P : HartView → Type 0) (hs : List HartView) → All P hs → (h : ℕ) (v : HartView) → slice_get hs h ≡ Some v → P v
+hart_at P hs all h v is = subst P (get_or_from_slice_get hs h v v is) (all h v (slice_get_within hs h v is))
 
-same_words : (M : ℕ) (so : Option HartView) (v : HartView) → option_map without_room so ≡ Some (without_room v) → ((w : HartView) → so ≡ Some w → w.state.words ≡ M) → v.state.words ≡ M
-same_words M None v is all = cc
-same_words M (Some x) v is all = let both : without_room x ≡ without_room v = cc in sym (ap (λ (p : HartState × List Report). p.0.words) both) ∙ all x refl
+words_of : (M : ℕ) (c : Config) → Fit M c → (h : ℕ) (v : HartView) → slice_get c.harts h ≡ Some v → v.state.words ≡ M
+words_of M c fit = hart_at (λ v. v.state.words ≡ M) c.harts fit.harts
 
 pub fit_same : (M : ℕ) (c d : Config) → Fit M c → SameButRoom c d → Fit M d
 fit_same M c d fit same = record {
   buffers = ap (λ (s : Stored). length s.buffers) same.stored ∙ fit.buffers ∙ sym (same-length c d same);
   harts = λ h x lt. (let here : slice_get d.harts h ≡ Some (get_or d.harts h x) = slice_get-get_or d.harts h x lt in
-      same_words M (slice_get c.harts h) (get_or d.harts h x) (sym (same_without_room c d h same) ∙ ap (option_map without_room) here) (words_of M c fit h));
+      same_at without_room (λ p. p.0.words ≡ M) (slice_get c.harts h) (get_or d.harts h x) (sym (same_without_room c d h same) ∙ ap (option_map without_room) here) (words_of M c fit h));
+  firsts = λ h x lt. (let here : slice_get d.harts h ≡ Some (get_or d.harts h x) = slice_get-get_or d.harts h x lt in
+      same_at beginning (λ s. s.words ≡ M) (slice_get c.harts h) (get_or d.harts h x) (sym (first_same c.harts d.harts h same.firsts) ∙ ap (option_map beginning) here)
+      (hart_at (λ v. v.first.words ≡ M) c.harts fit.firsts h));
   stored = subst (FitStored M) (sym same.stored) fit.stored;
 }
 

@@ -22,7 +22,8 @@ use Rattle.step_machine.specs.History.{Start, History, with_entry}
 use Rattle.step_machine.specs.Entries.{hart_of, is_land, is_own, store_of, land_of, report_of, reported, pending, write_of, landed, opening_byte, memory_byte, memory_word}
 use Rattle.step_machine.specs.Paths.{entry_of, value_of, opens_as, state_of}
 use Rattle.step_machine.specs.Legal.{Legal}
-use Rattle.step_machine.specs.inner.Config.{Stored, Config, HasAddress, beginning, written, step_at, step_hart}
+use Rattle.step_machine.specs.inner.Stored.{Stored, HasAddress, written}
+use Rattle.step_machine.specs.inner.Config.{Config, beginning, step_at, step_hart}
 use Rattle.step_machine.specs.inner.Ties.{view_state, Holds, Tied}
 use Rattle.memory.proofs.Newest.{newest_of-append}
 use Rattle.step_machine.proofs.Appended.{pending-last, landed-last, reported-last}

@@ -8,7 +8,7 @@ use Rattle.hart.specs.declared.need.Report.TheVariants as report
 use Rattle.step_machine.specs.declared.events.Entry.{Entry}
 use Rattle.step_machine.specs.declared.events.Entry.TheVariants as entry
 use Rattle.step_machine.specs.History.{Start}
-use Rattle.step_machine.specs.Access.{Access, nothing, load, store, exchange, fence, land, access_of}
+use Rattle.step_machine.specs.Access.{Access, store, exchange, land, access_of}
 use Rattle.memory.specs.declared.writes.Write.{Write}
 
 abbrev pub hart_of : Entry → ℕ
@@ -25,12 +25,8 @@ hart_of (entry.Stopped h why) = h
 hart_of (entry.Land h) = h
 
 abbrev pub is_landing : Access → Bool
-is_landing nothing = false
-is_landing (load a width v) = false
-is_landing (store w) = false
-is_landing (exchange a old new) = false
-is_landing (fence full) = false
 is_landing land = true
+is_landing other = false
 
 abbrev pub is_land : Entry → Bool
 is_land e = is_landing (access_of e)
@@ -46,12 +42,8 @@ own h (e ∷ es) = if is_own h e then e ∷ own h es else own h es
 
 -- what is stored by an access, where it counts
 abbrev pub stored_by : Bool → Access → List Write
-stored_by counts nothing = []
-stored_by counts (load a width v) = []
 stored_by counts (store w) = if counts then w ∷ [] else []
-stored_by counts (exchange a old new) = []
-stored_by counts (fence full) = []
-stored_by counts land = []
+stored_by counts other = []
 
 -- what the hart stores by this entry, if it is its store
 abbrev pub store_of : ℕ → Entry → List Write
@@ -63,12 +55,8 @@ stores h [] = []
 stores h (e ∷ es) = store_of h e ++ stores h es
 
 abbrev pub landed_by : Bool → Access → ℕ
-landed_by counts nothing = 0
-landed_by counts (load a width v) = 0
-landed_by counts (store w) = 0
-landed_by counts (exchange a old new) = 0
-landed_by counts (fence full) = 0
 landed_by counts land = if counts then 1 else 0
+landed_by counts other = 0
 
 -- 1 for a landing of this hart
 abbrev pub land_of : ℕ → Entry → ℕ
@@ -85,12 +73,9 @@ pending h es = drop (lands h es) (stores h es)
 
 -- what an access writes to memory: a landing this, an AMO its new word, and nothing else writes
 abbrev pub written_by : List Write → Access → List Write
-written_by oldest nothing = []
-written_by oldest (load a width v) = []
-written_by oldest (store w) = []
 written_by oldest (exchange a old new) = write a 4 new ∷ []
-written_by oldest (fence full) = []
 written_by oldest land = oldest
+written_by oldest other = []
 
 -- what an entry writes, after the entries before it: a landing writes its hart's oldest pending store
 abbrev pub write_of : List Entry → Entry → List Write
@@ -118,17 +103,9 @@ landed_by_count es = landed_by_count_after es [] es
 
 -- what the hart reports by this entry
 abbrev pub report_of : ℕ → Entry → List Report
-report_of h (entry.Inner g) = []
-report_of h (entry.Load g a width v) = []
-report_of h (entry.Store g a width v) = []
-report_of h (entry.Amo g a old new) = []
-report_of h (entry.Fence g full) = []
-report_of h (entry.Next g w) = []
 report_of h (entry.Took g i w) = if g == h then report.Took i w ∷ [] else []
 report_of h (entry.Closed g i) = if g == h then report.Closed i ∷ [] else []
-report_of h (entry.Ended g) = []
-report_of h (entry.Stopped g why) = []
-report_of h (entry.Land g) = []
+report_of h other = []
 
 -- the hart's reports, oldest first
 abbrev pub reported : ℕ → List Entry → List Report

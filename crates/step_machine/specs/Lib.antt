@@ -9,3 +9,5 @@ pub mod inner
 pub mod MemoryEntries
 pub mod Placing
 pub mod Banks
+pub mod Ranges
+pub mod Standing

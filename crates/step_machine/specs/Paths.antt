@@ -1,11 +1,12 @@
 -- One hart's path: the states that its own entries lead through, and that each entry is the one that
 -- its state makes. One hart alone: no memory and no other hart is in it, and what its loads and AMOs
 -- read is free.
-use Rattle.std.specs.Prelude.{ℕ, ◌≡◌, List, [], ◌∷◌, Option, Some, None, option_map}
+use Rattle.std.specs.Prelude.{ℕ, ◌≡◌, List, [], ◌∷◌, Option, Some, None, option_map, slice_index}
 use Rattle.std.specs.List.{slice_get}
 use Rattle.hart.specs.State.{HartState}
 use Rattle.hart.specs.Steps.{first_state, need_of, advanced}
 use Rattle.hart.specs.Effects.{updated}
+use Rattle.hart.specs.declared.status.Status.{Status}
 use Rattle.hart.specs.declared.status.Status.TheVariants as status
 use Rattle.hart.specs.declared.need.Need.{Need}
 use Rattle.hart.specs.declared.need.Need.TheVariants as need
@@ -30,31 +31,15 @@ entry_of h (need.Stop why) v = entry.Stopped h why
 
 -- the number that an entry read, and 0 where it read none
 abbrev pub value_of : Entry → ℕ
-value_of (entry.Inner h) = 0
 value_of (entry.Load h a width v) = v
-value_of (entry.Store h a width v) = 0
 value_of (entry.Amo h a old new) = old
-value_of (entry.Fence h full) = 0
-value_of (entry.Next h w) = 0
-value_of (entry.Took h i w) = 0
-value_of (entry.Closed h i) = 0
-value_of (entry.Ended h) = 0
-value_of (entry.Stopped h why) = 0
-value_of (entry.Land h) = 0
+value_of other = 0
 
 -- the number that an entry read, if it read one
 abbrev pub read_of : Entry → Option ℕ
-read_of (entry.Inner h) = None
 read_of (entry.Load h a width v) = Some v
-read_of (entry.Store h a width v) = None
 read_of (entry.Amo h a old new) = Some old
-read_of (entry.Fence h full) = None
-read_of (entry.Next h w) = None
-read_of (entry.Took h i w) = None
-read_of (entry.Closed h i) = None
-read_of (entry.Ended h) = None
-read_of (entry.Stopped h why) = None
-read_of (entry.Land h) = None
+read_of other = None
 
 -- a running hart in this state can make this entry
 pub record CanMake (s : HartState) (e : Entry) : Type 0 where
@@ -77,6 +62,16 @@ opens_as M o = first_state o.code o.registers o.inbox M
 -- the state of hart h after all its own entries, where h is a hart
 abbrev pub state_of : ℕ → History → ℕ → Option HartState
 state_of M t h = option_map (λ o. after_entries (opens_as M o) (own h t.entries)) (slice_get t.opening.harts h)
+
+-- the status, the pc and a register in that state
+abbrev pub IsStatus : ℕ → History → ℕ → Status → Type 0
+IsStatus M t h x = option_map (λ s. s.status) (state_of M t h) ≡ Some x
+
+abbrev pub IsPc : ℕ → History → ℕ → ℕ → Type 0
+IsPc M t h pc = option_map (λ s. s.pc) (state_of M t h) ≡ Some pc
+
+abbrev pub IsRegister : ℕ → History → ℕ → ℕ → ℕ → Type 0
+IsRegister M t h number word = option_map (λ s. slice_index s.registers number) (state_of M t h) ≡ Some word
 
 abbrev pub PathOf : ℕ → Option HartStart → List Entry → Type 0
 PathOf M None es = ⊥

@@ -1,4 +1,5 @@
 -- What serves the proof alone: no public clause names it.
+pub mod Stored
 pub mod Config
 pub mod Opened
 pub mod Ties

@@ -9,15 +9,17 @@
 #![tactic(auto)]
 
 pub mod bank;
-mod cores;
+pub mod cores;
 pub mod events;
 pub mod laws;
 pub mod machine;
 pub mod needs;
 pub mod opening;
+mod standing;
 mod stores;
 
 pub use bank::Bank;
+pub use cores::Cores;
 pub use events::{Entry, Event, Outcome};
 pub use machine::Machine;
 pub use opening::{HartOpening, Opening, Trace};

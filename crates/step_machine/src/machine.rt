@@ -1,6 +1,6 @@
 //! The machine: an opening, the entries since, and what the harts, buffers and memory hold by now.
 
-ghost use Rattle.std.specs.Prelude.{◌≡◌, ◌+◌, ◌≤◌, ◌<◌, ℕ, List, All, length, take, option_map, slice_index, IfOk, IfErr, IsOk, OnOk, OnErr, vec_len, vec_capacity};
+ghost use Rattle.std.specs.Prelude.{◌≡◌, ◌+◌, ◌≤◌, ◌<◌, ℕ, List, All, length, take, IfOk, IfErr, IsOk, IsErr, OnOk, OnErr, vec_len, vec_capacity};
 ghost use Rattle.hart.specs.State.{HartState};
 ghost use Rattle.memory.specs.Words.{IsAddress};
 ghost use Rattle.step_machine.specs.inner.Config.{AllHaveRoom, HasRoom, SameButRoom, entries_after};
@@ -40,7 +40,8 @@ impl<const B: usize, const M: usize> Model for Machine<B, M> {
 impl<const B: usize, const M: usize> Machine<B, M> {
     ghost use Rattle.step_machine.specs.History.{FitsIn, unrun};
     ghost use Rattle.step_machine.specs.Entries.{pending, reported, memory_word};
-    ghost use Rattle.step_machine.specs.Paths.{state_of};
+    ghost use Rattle.step_machine.specs.Standing.{StandsAt};
+    ghost use Rattle.step_machine.specs.Paths.{IsStatus, IsPc, IsRegister};
     ghost use Rattle.step_machine.specs.Legal.{IsOfHarts, Kept};
     ghost use Rattle.step_machine.specs.Runs.{Happens, RunFrom, IsOwnRun};
 
@@ -53,7 +54,7 @@ impl<const B: usize, const M: usize> Machine<B, M> {
         requires fits { FitsIn M opening }
         ensures { IfOk result (λ m. m.history ≡ unrun opening) }
     {
-        let cores = Cores::open(alloc, &opening)?;
+        let cores = Cores::opened(alloc, &opening)?;
         Ok(Machine {
             opening,
             entries: Vec::new(alloc),
@@ -79,6 +80,14 @@ impl<const B: usize, const M: usize> Machine<B, M> {
         Ok(outcome)
     }
 
+    /// Makes room for so many entries, which is asked for once and not as they come.
+    fn reserve_entries(&mut self, n: usize) -> Result<(), AllocError>
+        ensures same { self.new ≡ self.old }
+        ensures few { IsErr result → self.old.room < n }
+    {
+        self.entries.reserve(n)
+    }
+
     /// The events one after the other. An error names how many of them came before it, which is fewer
     /// than there are: the machine stands after those.
     pub fn run(&mut self, events: &[Event]) -> Result<(), (usize, AllocError)>
@@ -89,6 +98,9 @@ impl<const B: usize, const M: usize> Machine<B, M> {
         ensures reserved { length events.now ≤ self.old.room → IsOk result }
         ensures room { self.old.room ≤ self.new.room + length events.now }
     {
+        if let Err(error) = self.reserve_entries(events.len()) {
+            return Err((0, error));
+        }
         for (done, event) in events.iter().enumerate() {
             match self.step(*event) {
                 Ok(_) => {}
@@ -99,11 +111,11 @@ impl<const B: usize, const M: usize> Machine<B, M> {
     }
 
     /// Puts the machine back at its opening, in the room that it has. It takes no memory, and its time
-    /// goes by the harts and the entries since the opening, however large the memory is.
+    /// goes by the harts and by the highest address that was written since, however long it ran.
     pub fn restart(&mut self)
         ensures { self.new ≡ record self.old { history = unrun self.old.history.opening } }
     {
-        self.cores.restart(&self.opening, &self.entries);
+        self.cores.put_back();
         self.entries.clear();
     }
 
@@ -120,6 +132,14 @@ impl<const B: usize, const M: usize> Machine<B, M> {
             self.room = n;
         }
         Ok(())
+    }
+
+    /// The machine without its history, which stands at its end.
+    pub fn cores(&self) -> &Cores<B, M>
+        ensures stands { StandsAt B M self.now.history result.now }
+        ensures harts { length result.now.harts ≡ length self.now.history.opening.harts }
+    {
+        &self.cores
     }
 
     /// Where the machine began.
@@ -164,7 +184,7 @@ impl<const B: usize, const M: usize> Machine<B, M> {
     /// Whether the hart goes on.
     pub fn status(&self, hart: u32) -> Status
         requires { hart < length self.now.history.opening.harts }
-        ensures { option_map (λ s. s.status) (state_of M self.now.history hart) ≡ Some result }
+        ensures { IsStatus M self.now.history hart result }
     {
         self.cores.hart(hart).status()
     }
@@ -172,7 +192,7 @@ impl<const B: usize, const M: usize> Machine<B, M> {
     /// The address in bytes of the hart's next instruction.
     pub fn pc(&self, hart: u32) -> u32
         requires { hart < length self.now.history.opening.harts }
-        ensures { option_map (λ s. s.pc) (state_of M self.now.history hart) ≡ Some result }
+        ensures { IsPc M self.now.history hart result }
     {
         self.cores.hart(hart).pc()
     }
@@ -181,7 +201,7 @@ impl<const B: usize, const M: usize> Machine<B, M> {
     pub fn register(&self, hart: u32, number: u8) -> u32
         requires hart { hart < length self.now.history.opening.harts }
         requires number { number < 32 }
-        ensures { option_map (λ s. slice_index s.registers number) (state_of M self.now.history hart) ≡ Some result }
+        ensures { IsRegister M self.now.history hart number result }
     {
         self.cores.hart(hart).register(number)
     }
@@ -199,7 +219,7 @@ impl<const B: usize, const M: usize> Machine<B, M> {
         requires { hart < length self.now.history.opening.harts }
         ensures { result.now ≡ pending hart self.now.history.entries }
     {
-        self.cores.pending(hart)
+        self.cores.buffer(hart)
     }
 
     /// The word of memory at an address, a multiple of 4 below 4 times `M`.
@@ -207,7 +227,7 @@ impl<const B: usize, const M: usize> Machine<B, M> {
         requires { IsAddress M addr }
         ensures { result ≡ memory_word self.now.history.opening self.now.history.entries addr }
     {
-        self.cores.word(addr)
+        self.cores.held_word(addr)
     }
 }
 

@@ -5,7 +5,7 @@ ghost use Rattle.step_machine.specs.inner.Opened.{opened_hart};
 ghost use Rattle.rv_decode.specs.declared.instruction.TheConstants.{MAX_CODE};
 
 use crate::events::Entry;
-use hart::Hart;
+use hart::{Code, Hart};
 use rv_decode::instruction::MAX_CODE;
 use std::alloc::{AllocError, Global};
 use std::marker::Model;
@@ -98,7 +98,7 @@ pub fn open_harts(
 {
     let mut harts = Vec::with_capacity(alloc, openings.len())?;
     for opening in openings {
-        let code = Vec::from_slice(alloc, &opening.code)?;
+        let code = Code::decode(alloc, Vec::from_slice(alloc, &opening.code)?)?;
         let inbox = Vec::from_slice(alloc, &opening.inbox)?;
         harts.push(Hart::new(alloc, code, opening.registers, inbox, words))?;
     }

@@ -2,7 +2,7 @@
 
 ghost use Rattle.std.specs.Prelude.{◌≤◌, length};
 
-use hart::{Hart, Need, Report, Status};
+use hart::{Code, Hart, Need, Report, Status};
 use std::alloc::{AllocError, Global};
 use std::process::Abort;
 use std::test::Fail;
@@ -11,7 +11,7 @@ use std::test::Fail;
 fn hart_at(alloc: Global, code: &[u32], word: u32, inbox: &[u32]) -> Result<Hart, AllocError>
     requires { length code.now ≤ 4096 }
 {
-    let code = code.to_vec(alloc)?;
+    let code = Code::decode(alloc, code.to_vec(alloc)?)?;
     let inbox = inbox.to_vec(alloc)?;
     Ok(Hart::new(alloc, code, [word; 32], inbox, 4096))
 }

@@ -5,10 +5,9 @@ use std::test::Fail;
 
 #[test]
 fn words_stand_where_they_were_put(rt: HostRuntime) -> Result<(), Fail> {
-    let mut memory = Memory::<4>::new(rt.alloc())?;
-    memory.fill(&[7, 8]);
-    memory.store(4, 9);
-    memory.store(12, 5);
+    let mut memory = Memory::<4>::open(rt.alloc(), &[7, 8])?;
+    memory.store_bytes(4, 4, 9);
+    memory.store_bytes(12, 4, 5);
     assert_eq!(rt; memory.words(), [7, 9, 0, 5].as_slice());
     assert_eq!(rt; memory.load(4), 9);
     Ok(())
@@ -16,7 +15,7 @@ fn words_stand_where_they_were_put(rt: HostRuntime) -> Result<(), Fail> {
 
 #[test]
 fn the_lowest_byte_stands_at_the_lowest_address(rt: HostRuntime) -> Result<(), Fail> {
-    let mut memory = Memory::<1>::new(rt.alloc())?;
+    let mut memory = Memory::<1>::open(rt.alloc(), &[])?;
     memory.store_bytes(2, 2, 258);
     assert_eq!(rt; (memory.load(0), memory.load_byte(2)), (16908288, 2));
     assert_eq!(rt; part(memory.load(0), 2, 2), 258);
@@ -24,14 +23,11 @@ fn the_lowest_byte_stands_at_the_lowest_address(rt: HostRuntime) -> Result<(), F
 }
 
 #[test]
-fn a_restored_word_is_the_first_one(rt: HostRuntime) -> Result<(), Fail> {
-    let mut memory = Memory::<2>::new(rt.alloc())?;
-    memory.store(0, 9);
-    memory.store(4, 5);
-    // the last address is past the memory
-    for addr in [0, 4, 8] {
-        memory.restore(addr, &[7]);
-    }
+fn a_restarted_memory_has_its_first_words(rt: HostRuntime) -> Result<(), Fail> {
+    let mut memory = Memory::<2>::open(rt.alloc(), &[7])?;
+    memory.store_bytes(4, 4, 5);
+    memory.store_bytes(0, 4, 9);
+    memory.restart();
     assert_eq!(rt; memory.words(), [7, 0].as_slice());
     Ok(())
 }

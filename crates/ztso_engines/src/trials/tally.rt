@@ -49,16 +49,17 @@ fn schedule_text(alloc: Global, events: &[Event]) -> Result<String, AllocError>
 fn count_outcome(
     alloc: Global,
     rows: &mut BTreeMap<Vec<u32>, Row>,
-    outcome: Vec<u32>,
+    outcome: &[u32],
     events: &[Event],
 ) -> Result<(), AllocError>
-    requires { IfSome (counted_of rows.old.entries outcome.items) (λ told. told.0 < 4294967295) }
-    ensures { OnOk result (Counts outcome.items events.now rows.old.entries rows.new.entries) }
+    requires { IfSome (counted_of rows.old.entries outcome.now) (λ told. told.0 < 4294967295) }
+    ensures { OnOk result (Counts outcome.now events.now rows.old.entries rows.new.entries) }
 {
-    match rows.get_mut(outcome.as_slice()) {
+    match rows.get_mut(outcome) {
         Some(row) => row.count += 1,
         None => {
             let schedule = schedule_text(alloc, events)?;
+            let outcome = Vec::from_slice(alloc, outcome)?;
             rows.insert(outcome, Row { count: 1, schedule })?;
         }
     }
@@ -84,11 +85,11 @@ impl Tally {
         alloc: Global,
         events: &[Event],
         verdict: Verdict,
-        values: Vec<u32>,
+        values: &[u32],
     ) -> Result<(), AllocError>
         requires counts { (outcome : List ℕ) → IfSome (counted_of self.old.rows.entries outcome) (λ told. told.0 < 4294967295) }
         requires unfinished { self.old.unfinished < 4294967295 }
-        ensures { OnOk result (Tallies (record { events = events.now; verdict = verdict; values = values.items }) self.old self.new) }
+        ensures { OnOk result (Tallies (record { events = events.now; verdict = verdict; values = values.now }) self.old self.new) }
     {
         match verdict {
             Verdict::Holds => {
@@ -106,13 +107,15 @@ impl Tally {
         }
     }
 
-    /// Takes in the run of these events on a machine of the test's opening, whatever it did before.
+    /// Takes in the run of these events on a machine of the test's opening, whatever it did before. The
+    /// last values go into `values`, in the place of what it holds.
     pub fn add_run<const B: usize, const M: usize>(
         &mut self,
         alloc: Global,
         test: &Test,
         machine: &mut Machine<B, M>,
         events: &[Event],
+        values: &mut Vec<u32>,
     ) -> Result<(), AllocError>
         requires opening { machine.old.history.opening ≡ test.now.opening }
         requires names { length test.now.names ≤ M }
@@ -123,7 +126,7 @@ impl Tally {
     {
         run_anew(machine, events)?;
         let verdict = test.verdict(machine);
-        let values = test.values(alloc, machine)?;
+        test.put_values(values, machine)?;
         self.add(alloc, events, verdict, values)
     }
 }

@@ -1,6 +1,6 @@
 use Rattle.std.proofs.Common.{◌<◌, length, set, ap, ◌∙◌, arith}
 use Rattle.std.proofs.lemmas.List.Edits.{map_over_more}
-use Rattle.step_machine.specs.inner.Config.{no_stores}
+use Rattle.step_machine.specs.inner.Stored.{no_stores}
 use Rattle.step_machine.proofs.stores.clear_buffers.Goals as goal
 
 pub loop-buffer-preserved : goal.loop-buffer-preserved

@@ -1,6 +1,6 @@
 use Rattle.std.proofs.Common.{◌≡◌, ◌++◌, take, drop}
 use Rattle.std.specs.Prelude.{map}
-use Rattle.step_machine.specs.inner.Config.{no_stores}
+use Rattle.step_machine.specs.inner.Stored.{no_stores}
 use Rattle.step_machine.proofs.stores.clear_buffers.Given as goal
 
 abbrev pub invariant-loop-buffer : goal.invariant-loop-buffer

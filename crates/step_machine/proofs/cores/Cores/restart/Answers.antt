@@ -1,19 +1,7 @@
--- The harts, the buffers and the words are those put back, which fit each other.
-use Rattle.std.proofs.Common.{◌≡◌, ◌++◌, length, take, drop, arith, subst, sym}
-use Rattle.std.specs.Prelude.{All}
-use Rattle.std.proofs.lemmas.Grind.{common_steps}
-use Rattle.hart.specs.State.{HartView}
-use Rattle.step_machine.specs.inner.Config.{Config, Fit, restarted_config}
-use Rattle.step_machine.proofs.Restarts.{fit_restarted}
+-- Whatever history the machine stood at the end of, it stands at that one's opening.
+use Rattle.std.proofs.Common.{refl}
+use Rattle.step_machine.proofs.Restarts.{sound_put_back}
 use Rattle.step_machine.proofs.cores.Cores.restart.Goals as goal
 
-pub invariant_of-self : goal.invariant_of-self
-invariant_of-self g c =
-    let held : Config = record { harts = c.self.inside.harts.items; stored = c.self.inside.stores } in
-    let left : Config = record {
-      harts = take c.self.inside.harts.len (c.restart_harts.new.harts ++ drop (length c.restart_harts.new.harts) c.self.inside.harts.items);
-      stored = c.restart.new.self;
-    } in
-    let is : left ≡ restarted_config c.args.opening.now c.args.entries.now held = grind (arith, common_steps) in
-    let firsts : All (λ (v : HartView). v.first.words ≡ g.row.M) held.harts = subst (λ (k : Config). All (λ (v : HartView). v.first.words ≡ g.row.M) k.harts) (sym c.self.view_is) c.requires in
-    (c.self.invariant.0, subst (Fit g.row.M) (sym is) (fit_restarted g.row.M c.args.opening.now c.args.entries.now held firsts c.self.invariant.1))
+pub returns : goal.returns
+returns g c = λ t sound. sound_put_back g.row.B g.row.M 0 t.opening t.entries _ c.args.self.now c.put_back.new.self sound refl c.put_back.ensures

@@ -1,16 +1,11 @@
 -- A sound machine that is put back is sound.
-use Rattle.std.proofs.Common.{◌∙◌, ap, List, arith, lit<}
-use Rattle.step_machine.specs.declared.events.Entry.{Entry}
-use Rattle.step_machine.specs.inner.Config.{restarted_config}
-use Rattle.step_machine.proofs.Restarts.{firsts_fit, sound_put_back}
+use Rattle.std.proofs.Common.{arith}
+use Rattle.step_machine.proofs.Restarts.{sound_put_back}
 use Rattle.step_machine.proofs.machine.Machine.restart.Goals as goal
-
-pub restart-requires : goal.restart-requires
-restart-requires g c = (lit< tt, firsts_fit g.row.M _ c.self.inside.cores c.self.invariant.0.tied)
 
 pub invariant_of-self : goal.invariant_of-self
 invariant_of-self g c = (
-  sound_put_back g.row.B g.row.M c.self.inside.room c.self.inside.opening c.self.inside.entries.items c.clear.new.self.items c.self.inside.cores c.restart.new.self
-      c.self.invariant.0 c.clear.ensures.items (c.restart.ensures ∙ ap (λ (es : List Entry). restarted_config c.self.inside.opening es c.self.inside.cores) c.deref.ensures.value),
+  sound_put_back g.row.B g.row.M c.self.inside.room c.self.inside.opening c.self.inside.entries.items c.clear.new.self.items c.self.inside.cores c.put_back.new.self
+      c.self.invariant.0 c.clear.ensures.items c.put_back.ensures,
   omega arith,
 )

@@ -1,7 +1,7 @@
 -- The word around the address, after the hart's pending stores, and the bytes of it that are read.
 use Rattle.std.proofs.Common.{◌≡◌, ◌-◌, ◌/◌, ◌%◌, get_or, subst}
 use Rattle.std.specs.Prelude.{slice_index}
-use Rattle.step_machine.specs.inner.Config.{Stored, FitStored}
+use Rattle.step_machine.specs.inner.Stored.{Stored, FitStored}
 use Rattle.step_machine.proofs.Finding.{found_in_word}
 use Rattle.step_machine.proofs.stores.Stores.find.Goals as goal
 

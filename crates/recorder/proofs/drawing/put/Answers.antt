@@ -1,14 +1,14 @@
 use Rattle.std.proofs.Common.{◌++◌, [], ◌∷◌, ap, ◌∙◌, refl, arith}
 use Rattle.recorder.specs.Drawing.{words, left_after}
 use Rattle.recorder.proofs.Drawn.{left-more, words-more, drawn-OfHarts}
-use Rattle.recorder.proofs.drawing.seeded.Goals as goal
+use Rattle.recorder.proofs.drawing.put.Goals as goal
 
 pub loop-init : goal.loop-init
 unfolding words left_after
 loop-init g c = record {
-  len = c.in_ok-events.ensures.len;
-  room = omega (arith, c.in_ok-events.ensures.exact);
-  so_far = c.in_ok-events.ensures.items;
+  len = c.reserve.ensures.len ∙ c.clear.ensures.len;
+  room = omega (arith, c.in_ok-reserve.ensures.ok);
+  so_far = c.reserve.ensures.items ∙ c.clear.ensures.items;
   left = refl;
 }
 

@@ -1,6 +1,6 @@
 use Rattle.std.proofs.Common.{◌≡◌, ◌≤◌, map, vec_len, vec_capacity}
 use Rattle.recorder.specs.Drawing.{drawn, words, left_after}
-use Rattle.recorder.proofs.drawing.seeded.Given as goal
+use Rattle.recorder.proofs.drawing.put.Given as goal
 
 abbrev pub invariant-loop : goal.invariant-loop
 invariant-loop g l = record {

@@ -1,6 +1,6 @@
 use Rattle.std.proofs.Common.{◌≡◌, map, take}
 use Rattle.litmus.specs.Verdicts.{final_value}
-use Rattle.litmus.proofs.judging.values_of.Given as goal
+use Rattle.litmus.proofs.judging.put_values.Given as goal
 
 abbrev pub invariant-loop-place : goal.invariant-loop-place
 invariant-loop-place g l = l.values.items ≡ map (final_value g.row.M l.machine.history) (take l.place-index l.places)
