@@ -1,0 +1,16 @@
+//! Schedules made short: of a run that is finished, the events that its outcome needs.
+//!
+//! The contract: [`shrink`] answers a part of the given events whose run is finished too, with the same
+//! last values of the test's left sides, and from which no single event can be left out
+//! (`IsShrunk` of `specs/Shrinking.antt`); a run that isn't finished is refused.
+//! This crate reads and writes no text, and promises no shortest list: only that each event is needed.
+
+#![tactic(auto)]
+
+mod faults;
+mod passes;
+mod shrinking;
+mod trying;
+
+pub use faults::ShrinkError;
+pub use shrinking::shrink;

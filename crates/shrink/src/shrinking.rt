@@ -1,0 +1,56 @@
+//! The call.
+
+ghost use Rattle.std.specs.Prelude.{◌≡◌, ◌≤◌, IfOk, IfErr, map};
+ghost use Rattle.step_machine.specs.Runs.{event_of};
+ghost use Rattle.litmus.specs.declared.question.TheConstants.{MAX_LOCATIONS};
+ghost use Rattle.shrink.specs.Shrinking.{IsShrunk, Refuses};
+
+use crate::faults::ShrinkError;
+use crate::passes::leave_out;
+use crate::trying::{is_finished, run_again};
+use litmus::Test;
+use std::alloc::{AllocError, Global};
+use step_machine::laws::laws_of_runs;
+use step_machine::{Entry, Event, Machine};
+
+/// The events by which these entries came about.
+fn events_of(alloc: Global, entries: &[Entry]) -> Result<Vec<Event>, AllocError>
+    ensures { IfOk result (λ events. events.items ≡ map event_of entries.now) }
+{
+    let mut events = Vec::with_capacity(alloc, entries.len())?;
+    for entry in entries {
+        events.push(entry.event())?;
+    }
+    Ok(events)
+}
+
+/// Leaves events out of a schedule of the test, until each one that is left is needed for the outcome:
+/// for a run that is finished, with the same last values of the left sides. The machine has store
+/// buffers of `B` stores and `M` words of memory.
+///
+/// Events without an entry go first, then pieces of half the length, of half that and so on, then single
+/// events. So n entries usually take some 2 n runs of at most n events.
+pub fn shrink<const B: usize, const M: usize>(
+    alloc: Global,
+    test: &Test,
+    events: &[Event],
+) -> Result<Vec<Event>, ShrinkError>
+    requires some_capacity { 1 ≤ B }
+    requires capacity { B ≤ 64 }
+    requires words { MAX_LOCATIONS ≤ M }
+    requires size { M ≤ 65536 }
+    ensures shrunk { IfOk result (λ answer. IsShrunk B M test.now events.now answer.items) }
+    ensures refused { IfErr result (λ why. Refuses B M test.now events.now why) }
+{
+    laws_of_runs();
+    let opening = test.opening(alloc)?;
+    let mut machine: Machine<B, M> = Machine::open(alloc, opening)?;
+    run_again(&mut machine, events)?;
+    if !is_finished(test, &machine) {
+        return Err(ShrinkError::NotFinished);
+    }
+    let last = test.values(alloc, &machine)?;
+    let mut left = events_of(alloc, machine.entries())?;
+    leave_out(alloc, test, &mut machine, &last, &mut left)?;
+    Ok(left)
+}
