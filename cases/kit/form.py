@@ -40,6 +40,8 @@ class Case:
     name: str
     words: List[bytes]
     status: int = 0
+    # a line for the shell that runs the program as ./ztso, in place of words
+    shell: Optional[str] = None
     comments: List[str] = field(default_factory=list)
     memory: Optional[int] = None
     each_allocation: Optional[str] = None
