@@ -1,0 +1,32 @@
+-- What the named sources give is what is read, and a landing is joined to its own hart's oldest pending store.
+use Rattle.std.proofs.Common.{◌≡◌, ℕ, ◌+◌, Bool, true, false, List, [], ◌∷◌, Option, Some, None, All, refl, sym, ◌∙◌, ap, subst, take}
+use Rattle.std.specs.Prelude.{option_map, unwrap_or, IfSome, map}
+use Rattle.std.specs.List.{slice_get}
+use Rattle.std.proofs.lemmas.List.Elements.{All-head}
+use Rattle.memory.specs.declared.writes.Write.{Write}
+use Rattle.memory.specs.Writes.{newest_of, joined}
+use Rattle.memory.proofs.Bytes.{joined-same}
+use Rattle.step_machine.specs.declared.events.Entry.{Entry}
+use Rattle.step_machine.specs.History.{Start}
+use Rattle.step_machine.specs.Entries.{hart_of, is_land, pending, landed, opening_byte, memory_byte, read_byte, read}
+use Rattle.chart.specs.declared.sources.RowWrite.{RowWrite}
+use Rattle.chart.specs.Sources.{pending_by_row, landed_by_row, newest, named, source_of, row_of, landed_store, stored_at, byte_from}
+use Rattle.chart.proofs.ByRow.{write_in, writes, byte_by, HasStored, HasWritten, writes-pending, writes-landed, newest-bytes, newest-is, pending_stored, landed_written}
+
+-- the newest write to cover a byte, where it is told by the rows
+newest_row : (a : ℕ) (ws : List RowWrite) (plain : List Write) → writes ws ≡ plain → newest_of a None plain ≡ option_map (byte_by a) (newest a ws)
+newest_row a ws plain same = ap (λ (vs : List Write). newest_of a None vs) (sym same) ∙ newest-bytes a None ws
+
+given_by : (o : Start) (es : List Entry) (h a : ℕ) (own memory : Option RowWrite) → IfSome own (HasStored h es) → IfSome memory (HasWritten es) → unwrap_or (option_map (byte_by a) own) (unwrap_or (option_map (byte_by a) memory) (opening_byte o a)) ≡ byte_from o es h a (named own memory)
+given_by o es h a (Some w) memory stored written = rw stored refl
+given_by o es h a None (Some w) stored written = rw written refl
+given_by o es h a None None stored written = refl
+
+-- the byte that a hart reads is the one that its source gives
+pub byte_given : (o : Start) (es : List Entry) (h a : ℕ) → read_byte o es h a ≡ byte_from o es h a (source_of es h a)
+byte_given o es h a =
+    rw (newest_row a (pending_by_row h es) (pending h es) (writes-pending h es), newest_row a (landed_by_row es) (landed es) (writes-landed es))
+    (given_by o es h a (newest a (pending_by_row h es)) (newest a (landed_by_row es)) (newest-is (HasStored h es) a None (pending_by_row h es) tt (pending_stored h es)) (newest-is (HasWritten es) a None (landed_by_row es) tt (landed_written es)))
+
+pub read_given : (o : Start) (es : List Entry) (h a width : ℕ) → read o es h a width ≡ joined (λ i. byte_from o es h (a + i) (source_of es h (a + i))) width
+read_given o es h a width = joined-same (λ i. read_byte o es h (a + i)) (λ i. byte_from o es h (a + i) (source_of es h (a + i))) width (λ i below. byte_given o es h (a + i))

@@ -1,0 +1,3 @@
+pub mod ByRow
+pub mod Given
+pub mod RowLaws
