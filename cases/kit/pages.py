@@ -59,5 +59,23 @@ def read(path):
     return cases
 
 
+def numbers(source):
+    """The names and numbers of a source: those that its functions `number` return, and its constants."""
+    for body in re.findall(r"fn number\(.*?\n    \}\n", source, re.DOTALL):
+        yield from re.findall(r"^ +\w+::(\w+)(?: \{ \.\. \})? => (\d+),$", body, re.MULTILINE)
+    for name, number in re.findall(r"^pub const (\w+): u8 = (\d+);$", source, re.MULTILINE):
+        yield name.title().replace("_", ""), number
+
+
+def missing():
+    """A line for each number of the crates' faults and stops that has no section in docs/errors.md."""
+    page = PAGES[0].read_text()
+    for path in sorted(form.ROOT.glob("crates/*/src/*.rt")):
+        if path.stem in ("fault", "faults", "status"):
+            for name, number in numbers(path.read_text()):
+                if f"\n### {number} {name}\n" not in page:
+                    yield f"docs/errors.md: no section `{number} {name}` ({path.relative_to(form.ROOT)})"
+
+
 def text_of(lines):
     return [(1, f"{line}\n".encode()) for line in lines]
