@@ -6,7 +6,7 @@ use Rattle.poll_close.specs.Invariant.Blocks.{Block, slot}
 use Rattle.poll_close.specs.Invariant.SenderState.{Written}
 use Rattle.poll_close.proofs.Blocks.{IsBlock, Within, word_of, slot_of}
 use Rattle.poll_close.proofs.BlockLaws.{BlockLaws, Begins, opens_with}
-use Rattle.poll_close.proofs.Outlines.{Reasons, Right, sends}
+use Rattle.poll_close.proofs.Outlines.{Right, sends}
 use Rattle.poll_close.proofs.ChannelLaws.{opens, keeps, cleans, goes}
 use Rattle.fastforward.specs.Listing.{sender_code}
 use Rattle.fastforward.specs.FastForward.{fastforward, fastforward_blocks, fastforward_means}
@@ -18,7 +18,8 @@ use Rattle.fastforward.proofs.Sender.{fastforward_sender}
 use Rattle.fastforward.proofs.Sender as row
 use Rattle.fastforward.proofs.ReceiverReads.{seen_mark, seen_done}
 use Rattle.fastforward.proofs.ReceiverActs.{stores_tail, stores_done, reported}
-use Rattle.fastforward.proofs.MiddleMoves.{middle_14, middle_18, middle_1C, middle_20, middle_24}
+use Rattle.fastforward.proofs.Receiver.{right_14, receiver_reasons}
+use Rattle.poll_close.specs.Invariant.Outlines.{Reasons}
 
 abbrev nothing : Numbers
 nothing = record {
@@ -59,6 +60,7 @@ pub fastforward_laws : BlockLaws fastforward_blocks
 fastforward_laws = record {
   begins = begins;
   tails_all = λ k n order. omega (arith, order.tails_nulls, order.nulls_slots, order.slots_landed, order.stored_all);
+  shut_done = λ k n order. order.shut_done;
   dones_one = λ k n order. order.done_one;
   marks_one = λ k n order. omega (arith, order.mark_landed, order.marked_one);
   filled_more = λ k n order filled. omega (arith, filled, order.nulls_slots, order.slots_landed, order.stored_all);
@@ -72,12 +74,9 @@ fastforward_laws = record {
   sees_mark = λ k n word order words. seen_mark k n word order words;
   stores_tail = λ k n order filled on. stores_tail k n order filled on;
   stores_done = λ k n order level all on. stores_done k n order level all on;
-  reports = λ k n words closed order level. reported k n order words closed level;
-  moves_14 = middle_14;
-  moves_18 = middle_18;
-  moves_1C = middle_1C;
-  moves_20 = middle_20;
-  moves_24 = middle_24;
+  reports = λ k n words closed order level known. reported k n order words closed level known;
+  moves_14 = λ k i count n word r v is order words. right_14 k i count n word r v is order words;
+  moves = λ k i count n word r v is order words. receiver_reasons k i count n word r v is order words;
 }
 
 pub fastforward_short : AreShort fastforward

@@ -3,8 +3,7 @@ pub mod Stores
 pub mod Landings
 pub mod ReceiverReads
 pub mod Sender
-pub mod MiddleLines
-pub mod MiddleMoves
+pub mod Receiver
 pub mod ReceiverActs
 pub mod FastForwardLaws
 pub mod Nearing

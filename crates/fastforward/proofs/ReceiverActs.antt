@@ -1,6 +1,6 @@
 -- The receiver's stores and reports, and what stays of its assertions, as the laws of a block ask for
 -- them.
-use Rattle.std.proofs.Common.{ℕ, suc, ◌+◌, ◌<◌, ◌≡◌, [], ◌∷◌, ◌++◌, length, Some, refl, arith, append-nil}
+use Rattle.std.proofs.Common.{ℕ, suc, ◌+◌, ◌<◌, ◌≡◌, [], ◌∷◌, ◌++◌, length, Some, refl, arith, append-nil, ◌≤◌}
 use Rattle.std.specs.List.{slice_get}
 use Rattle.poll_close.specs.Invariant.Blocks.{Block, offset, slot, window}
 use Rattle.poll_close.proofs.Windows.{window_made}
@@ -53,8 +53,8 @@ module _ (k : Block) (n : Numbers) (order : Ordered k n) where
     mark = refl;
   }
 
-  pub reported : (words closed : ℕ) → Level n.receiver → Stepped fastforward_blocks k n [] n.receiver.tails n.receiver.done words closed
-  reported words closed level = record {
+  pub reported : (words closed : ℕ) → Level n.receiver → closed ≤ n.receiver.done → Stepped fastforward_blocks k n [] n.receiver.tails n.receiver.done words closed
+  reported words closed level known = record {
     after = record n.receiver { took = words; shut = closed; mark = n.landed.mark };
     changes = record { order = omega arith; unread = append-nil (unread_of k n.receiver n.landed) };
     level = level;

@@ -19,7 +19,7 @@ use Rattle.poll_close.proofs.Outlines.{Sender}
 use Rattle.poll_close.proofs.Outlines as outline
 use Rattle.poll_close.proofs.Progress.{not_false}
 use Rattle.fastforward.specs.Listing.{sender_code, sender_lines}
-use Rattle.fastforward.specs.FastForward.{fastforward_blocks, waits}
+use Rattle.fastforward.specs.FastForward.{fastforward_blocks}
 use Rattle.fastforward.specs.Invariant.Stores.{sender_stores}
 use Rattle.fastforward.specs.Invariant.Numbers.{Sent, Numbers, sent, gone, Ordered, Words, pending_of}
 use Rattle.fastforward.proofs.Means.{sender-decoded}
@@ -62,7 +62,7 @@ module _ (k : Block) (is : IsBlock k) (n : Numbers) (order : Ordered k n) (word 
       ]
 
 abbrev pub fastforward_sender : Sender fastforward_blocks
-fastforward_sender = record { lines = sender_lines; decoded = sender-decoded; waits = waits }
+fastforward_sender = record { lines = sender_lines; decoded = sender-decoded }
 
 module _ (k : Block) (n : Numbers) (word : ℕ → ℕ) (v : ℕ) (r : Written) (is : IsBlock k) (order : Ordered k n) (words : Words k n.landed word) where
   -- a store joins those that are pending

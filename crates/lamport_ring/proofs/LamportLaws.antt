@@ -1,5 +1,5 @@
 -- The laws of one block, all together, and so the laws of the ring.
-use Rattle.std.proofs.Common.{ℕ, suc, ◌+◌, ◌<◌, ◌≡◌, length, Some, refl, ◌∙◌, arith, append-nil, lit≤, ◌++◌, ◌∷◌, []}
+use Rattle.std.proofs.Common.{ℕ, suc, ◌+◌, ◌<◌, ◌≡◌, length, Some, refl, ◌∙◌, arith, append-nil, lit≤, ◌++◌, ◌∷◌, [], ◌≤◌}
 use Rattle.std.specs.List.{slice_get}
 use Rattle.std.proofs.Math.Nat.{zero-mod}
 use Rattle.poll_close.specs.Laws.{AreShort, Opens, Keeps, Cleans, Goes}
@@ -8,7 +8,7 @@ use Rattle.poll_close.proofs.Windows.{window_made}
 use Rattle.poll_close.specs.Invariant.SenderState.{Written}
 use Rattle.poll_close.proofs.Blocks.{IsBlock, Within, base_word, word_of, slot_of}
 use Rattle.poll_close.proofs.BlockLaws.{BlockLaws, Begins, Stepped, opens_with}
-use Rattle.poll_close.proofs.Outlines.{Reasons, Right, sends}
+use Rattle.poll_close.proofs.Outlines.{Right, sends}
 use Rattle.poll_close.proofs.ChannelLaws.{opens, keeps, cleans, goes}
 use Rattle.lamport_ring.specs.Listing.{sender_code}
 use Rattle.lamport_ring.specs.Lamport.{lamport, lamport_blocks, lamport_means}
@@ -20,7 +20,8 @@ use Rattle.lamport_ring.proofs.Landings.{sender_lands, receiver_lands}
 use Rattle.lamport_ring.proofs.ReceiverReads.{seen_mark, seen_done}
 use Rattle.lamport_ring.proofs.Sender.{lamport_sender}
 use Rattle.lamport_ring.proofs.Sender as row
-use Rattle.lamport_ring.proofs.MiddleMoves.{middle_14, middle_18, middle_1C, middle_20, middle_24}
+use Rattle.lamport_ring.proofs.Receiver.{right_14, receiver_reasons}
+use Rattle.poll_close.specs.Invariant.Outlines.{Reasons}
 
 abbrev nothing : Numbers
 nothing = record {
@@ -89,8 +90,8 @@ module _ (k : Block) (n : Numbers) (order : Ordered k n) where
     mark = refl;
   }
 
-  reported : (words closed : ℕ) → Stepped lamport_blocks k n [] n.receiver.tails n.receiver.done words closed
-  reported words closed = record {
+  reported : (words closed : ℕ) → closed ≤ n.receiver.done → Stepped lamport_blocks k n [] n.receiver.tails n.receiver.done words closed
+  reported words closed known = record {
     after = record n.receiver { took = words; shut = closed; mark = n.landed.mark };
     changes = record { order = omega arith; unread = append-nil (unread_of k n.receiver n.landed) };
     level = tt;
@@ -109,6 +110,7 @@ pub lamport_laws : BlockLaws lamport_blocks
 lamport_laws = record {
   begins = begins;
   tails_all = λ k n order. omega (arith, order.tails_seen, order.seen_heads, order.heads_slots, order.slots_landed, order.stored_all);
+  shut_done = λ k n order. order.shut_done;
   dones_one = λ k n order. order.done_one;
   marks_one = λ k n order. omega (arith, order.mark_landed, order.marked_one);
   filled_more = λ k n order more. omega (arith, more, order.heads_slots, order.slots_landed, order.stored_all);
@@ -122,12 +124,9 @@ lamport_laws = record {
   sees_mark = λ k n word order words. seen_mark k n word order words;
   stores_tail = λ k n order more on. stores_tail k n order more on;
   stores_done = λ k n order level all on. stores_done k n order all on;
-  reports = λ k n words closed order level. reported k n order words closed;
-  moves_14 = middle_14;
-  moves_18 = middle_18;
-  moves_1C = middle_1C;
-  moves_20 = middle_20;
-  moves_24 = middle_24;
+  reports = λ k n words closed order level known. reported k n order words closed known;
+  moves_14 = λ k i count n word r v is order words. right_14 k i count n word r v is order words;
+  moves = λ k i count n word r v is order words. receiver_reasons k i count n word r v is order words;
 }
 
 pub lamport_short : AreShort lamport

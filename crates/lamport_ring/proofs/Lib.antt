@@ -3,7 +3,6 @@ pub mod Stores
 pub mod Landings
 pub mod ReceiverReads
 pub mod Sender
-pub mod MiddleLines
-pub mod MiddleMoves
+pub mod Receiver
 pub mod LamportLaws
 pub mod Nearing

@@ -1,5 +1,5 @@
 -- What a plan needs of one block of Lamport's ring.
-use Rattle.std.proofs.Common.{ℕ, ◌+◌, ◌*◌, ◌%◌, ◌^◌, ◌<◌, ◌≤◌, ◌≡◌, ◌==◌, inl, inr, Bool, true, false, not, ◌&&◌, if◌then◌else◌, [], Option, Some, refl, sym, ◌∙◌, ap, arith, lit≤}
+use Rattle.std.proofs.Common.{ℕ, ◌+◌, ◌*◌, ◌%◌, ◌^◌, ◌<◌, ◌≤◌, ◌≡◌, ◌==◌, inl, inr, true, false, not, [], Option, Some, refl, sym, ◌∙◌, ap, arith, lit≤}
 use Rattle.std.specs.Prelude.{slice_index, option_map}
 use Rattle.std.proofs.lemmas.Bool.{cases_eq, and_parts}
 use Rattle.std.proofs.lemmas.Bool.Decides.{nat_tests}
@@ -11,26 +11,20 @@ use Rattle.step_machine.specs.Entries.{memory_word}
 use Rattle.step_machine.specs.Paths.{state_of}
 use Rattle.step_machine.specs.WordReads.{word_in_memory}
 use Rattle.poll_close.specs.Paces.{Nears, runs, left_by, next_by, ready_if, is_ready}
-use Rattle.poll_close.specs.Invariant.Blocks.{Block, offset, slot_store, tail_store}
+use Rattle.poll_close.specs.Invariant.Blocks.{Block, slot_store, tail_store}
 use Rattle.poll_close.specs.Invariant.Outlines.{Standing}
-use Rattle.poll_close.specs.Invariant.ReceiverState.{Noted, Whole, whole_of, receiving}
-use Rattle.poll_close.specs.Invariant.ReceiverPlaces.{Pc14, Pc18, Pc1C, Pc20, Pc24}
-use Rattle.poll_close.proofs.Lines.{loads}
 use Rattle.poll_close.proofs.Modulo.{same_offset}
 use Rattle.poll_close.proofs.Windows.{none_left, singles_length, pairs_length}
-use Rattle.poll_close.proofs.Blocks.{IsBlock, offset_low, base_word, word_of}
+use Rattle.poll_close.proofs.Blocks.{IsBlock}
 use Rattle.poll_close.proofs.Outlines.{base_is, stands_at, has_ended, nearer}
-use Rattle.poll_close.proofs.Distance.{falls, two_flags, not_stale, MiddleNears, BlockProgress}
+use Rattle.poll_close.proofs.Distance.{BlockProgress}
 use Rattle.poll_close.proofs.Progress.{nears}
 use Rattle.poll_close.proofs.Standing.{Sender, value_is}
-use Rattle.lamport_ring.specs.Lamport.{lamport, lamport_blocks, lamport_means, waits, stale, lamport_pace}
+use Rattle.lamport_ring.specs.Lamport.{lamport, lamport_blocks, lamport_means, waits, lamport_pace}
 use Rattle.lamport_ring.specs.Invariant.Stores.{head_store, sender_stores, receiver_stores}
-use Rattle.lamport_ring.specs.Invariant.Middle.{middle}
 use Rattle.lamport_ring.specs.Invariant.Numbers.{Numbers, sent, gone, Ordered, Words, pending_of, unread_of, taken, freed}
 use Rattle.lamport_ring.specs.Invariant.Sender.{Marked, sender}
 use Rattle.lamport_ring.proofs.Sender.{lamport_sender}
-use Rattle.lamport_ring.proofs.MiddleLines as mid
-use Rattle.lamport_ring.proofs.ReceiverReads.{seen_head, seen_tail}
 use Rattle.lamport_ring.proofs.LamportLaws.{lamport_laws, reasons}
 
 -- where nothing is pending all that was stored has landed
@@ -61,70 +55,16 @@ marked k n s is order st off none =
     let h : Marked k n.sender = has_ended sender k n.sender s st off in
     omega (arith, h.mark, all_sent k n order none, order.slots_landed, order.heads_landed, order.mark_landed)
 
-fresh : (f : Whole) (r : Noted) (T size : ℕ) (E : Bool) → (E ≡ true → r.x30 ≡ 1) → stale (receiving middle f 0x14 r) T size E ≡ false
-fresh f r T size E some = not_stale r.x30 E some
-
--- the receiver's five lines
-
-near_14 : MiddleNears lamport_blocks lamport_pace (λ k n. n.receiver.tails < n.landed.heads) Pc14
-near_14 k i count n word r v sh E rest start is order words find h ready off =
-    let line = mid.line_14 (whole_of k count) r (omega (arith, is.even, h.0.visits.base)) (omega (arith, is.inside, is.some_slot, h.0.visits.base)) is.small in
-    let seen : v ≡ offset k n.landed.heads = find k.base (base_word k is) (line.wants ∙ ap loads (let same : r.x8 + 0 ≡ k.base = omega (arith, h.0.visits.base) in same)) ∙ seen_head k n word order words in
-    falls (line.leaves v) (record { block = refl; nearer = two_flags 15 16 rest ((r.x30 == 0) && (v == 4 * (n.receiver.took % k.size))) ((r.x30 == 0) && E) (omega arith) (omega arith) off (older seen E refl) })
-  where
-    apart : v ≡ offset k n.landed.heads → (v == 4 * (n.receiver.took % k.size)) ≡ true → n.receiver.tails < n.landed.heads → ⊥
-    apart seen same more =
-        let one : v ≡ 4 * (n.receiver.took % k.size) = grind (arith, nat_tests) in
-        let tail : 4 * (n.receiver.took % k.size) ≡ offset k n.receiver.tails = ap (offset k) h.0.quiet.words in
-        let both : n.receiver.tails ≡ n.landed.heads = same_offset k.size n.receiver.tails n.landed.heads (omega (arith, is.some_slot)) (omega (arith, order.tails_seen, order.seen_heads)) (omega (arith, order.heads_slots, order.slots_landed, order.room, order.tails_landed)) (sym tail ∙ sym one ∙ seen) in
-        omega (arith, both, more)
-
-    older : v ≡ offset k n.landed.heads → (b : Bool) → E ≡ b → ((r.x30 == 0) && (v == 4 * (n.receiver.took % k.size))) ≡ true → ((r.x30 == 0) && E) ≡ true
-    older seen true is_b both = let parts = and_parts (r.x30 == 0) (v == 4 * (n.receiver.took % k.size)) both in rw (parts.0, is_b) refl
-    older seen false is_b both = let parts = and_parts (r.x30 == 0) (v == 4 * (n.receiver.took % k.size)) both in absurd (apart seen parts.1 (ready is_b))
-
-near_18 : MiddleNears lamport_blocks lamport_pace (λ k n. n.receiver.tails < n.landed.heads) Pc18
-near_18 k i count n word r v sh E rest start is order words find h ready off =
-    let line = mid.line_18 (whole_of k count) r (omega (arith, is.even, h.0.visits.base)) (omega (arith, is.inside, is.some_slot, h.0.visits.base)) is.small in
-    let seen : v ≡ offset k n.receiver.tails = find (k.base + 8) (word_of k is 8 (omega arith) refl) (line.wants ∙ ap (λ b. loads (b + 8)) h.0.visits.base) ∙ seen_tail k n word order words h.0.open_yet in
-    let tail : v ≡ 4 * (n.receiver.took % k.size) = seen ∙ ap (offset k) (sym h.0.quiet.words) in
-    falls (line.leaves v) (record { block = refl; nearer = two_flags 14 15 rest ((r.x30 == 0) && (r.x6 == v)) ((r.x30 == 0) && (r.x6 == 4 * (n.receiver.took % k.size))) (omega arith) (omega arith) off (λ both. sym (ap (λ z. (r.x30 == 0) && (r.x6 == z)) tail) ∙ both) })
-
-near_1C : MiddleNears lamport_blocks lamport_pace (λ k n. n.receiver.tails < n.landed.heads) Pc1C
-near_1C k i count n word r v sh E rest start is order words find h ready off =
-    elim (cases_eq r.x6 r.x7) [
-      | inl same ↦ falls ((mid.line_1C-same (whole_of k count) r same).leaves v) (record { block = refl; nearer = (let on : (r.x6 == r.x7) ≡ true = grind (arith, nat_tests) in rw on (by_flag (r.x30 == 0))) })
-      | inr other ↦ falls ((mid.line_1C-other (whole_of k count) r other).leaves v) (record { block = refl; nearer = two_flags 13 14 rest false ((r.x30 == 0) && (r.x6 == r.x7)) (omega arith) (omega arith) off (λ both. cc) })
-    ]
-  where
-    by_flag : (b : Bool) → (if b then 11 + rest else 14) < 14 + (if b && true then rest else 3)
-    by_flag true = omega arith
-    by_flag false = omega arith
-
-near_20 : MiddleNears lamport_blocks lamport_pace (λ k n. n.receiver.tails < n.landed.heads) Pc20
-near_20 k i count n word r v sh E rest start is order words find h ready off =
-    falls ((mid.line_20 (whole_of k count) r (omega (arith, is.inside, is.small, h.0.visits.base, h.1.1, offset_low k is n.receiver.tails))).leaves v) (record { block = refl; nearer = omega arith })
-
-near_24 : MiddleNears lamport_blocks lamport_pace (λ k n. n.receiver.tails < n.landed.heads) Pc24
-near_24 k i count n word r v sh E rest start is order words find h ready off =
-    falls ((mid.line_24 (whole_of k count) r (omega (arith, is.even, h.1.1, h.1.2)) (omega (arith, is.inside, h.1.1, h.1.2, offset_low k is n.receiver.tails)) is.small).leaves v) (record { block = refl; nearer = omega arith })
-
-pub lamport_progress : BlockProgress lamport_blocks lamport_pace 2
+pub lamport_progress : BlockProgress lamport_blocks 2
 lamport_progress = record {
-  Ready = λ k n. n.receiver.tails < n.landed.heads;
+  short = refl;
   nearer = λ k n s word v is order words st running none empty find on. nearer lamport_blocks lamport_sender reasons k n s word v is order words st running none find on;
   ready = ready;
   marked = marked;
-  fresh = fresh;
-  near_14 = near_14;
-  near_18 = near_18;
-  near_1C = near_1C;
-  near_20 = near_20;
-  near_24 = near_24;
 }
 
 pub lamport_nears : Nears lamport lamport_means (left_by lamport_pace) (next_by lamport_pace)
-lamport_nears = nears lamport_blocks lamport_laws 2 (lit≤ tt) lamport_pace lamport_progress
+lamport_nears = nears lamport_blocks lamport_laws 2 (lit≤ tt) lamport_progress
 
 -- the tail's address
 pub address : (M : ℕ) (t : History) (h : ℕ) (d : Sender lamport_blocks M t h) (v : ℕ) → option_map (λ (s : HartState). slice_index s.registers 8) (state_of M t h) ≡ Some v → (v + 8 < 2 ^ 32) × ((v + 8) % 4 ≡ 0) × (v + 8 < 4 * M)

@@ -19,7 +19,7 @@ use Rattle.poll_close.proofs.BlockLaws.{found_in}
 use Rattle.poll_close.proofs.Outlines.{Sender}
 use Rattle.poll_close.proofs.Outlines as outline
 use Rattle.lamport_ring.specs.Listing.{sender_code, sender_lines}
-use Rattle.lamport_ring.specs.Lamport.{lamport_blocks, waits}
+use Rattle.lamport_ring.specs.Lamport.{lamport_blocks}
 use Rattle.lamport_ring.specs.Invariant.Stores.{head_store, sender_stores}
 use Rattle.lamport_ring.specs.Invariant.Numbers.{Sent, Numbers, sent, gone, Ordered, Words, pending_of}
 use Rattle.lamport_ring.proofs.Means.{sender-decoded}
@@ -36,7 +36,7 @@ tail_found k n word words =
     ∙ words.tail
 
 abbrev pub lamport_sender : Sender lamport_blocks
-lamport_sender = record { lines = sender_lines; decoded = sender-decoded; waits = waits }
+lamport_sender = record { lines = sender_lines; decoded = sender-decoded }
 
 module _ (k : Block) (n : Numbers) (word : ℕ → ℕ) (v : ℕ) (r : Written) (is : IsBlock k) (order : Ordered k n) (words : Words k n.landed word) where
   -- a store joins those that are pending

@@ -1,19 +1,22 @@
 -- Lamport's ring, what its histories mean, and how far its harts are from their ends.
-use Rattle.std.specs.Prelude.{ℕ, ◌+◌, ◌*◌, ◌%◌, ◌==◌, Bool, false, ◌&&◌, if◌then◌else◌, slice_index}
+use Rattle.std.specs.Prelude.{ℕ, ◌+◌, ◌==◌, Bool, ◌&&◌, slice_index, ◌<◌}
 use Rattle.hart.specs.State.{HartState}
 use Rattle.poll_close.specs.Laws.{Ring, Meaning}
 use Rattle.poll_close.specs.Paces.{Pace}
-use Rattle.poll_close.specs.Invariant.BlockMeaning.{BlockMeaning}
-use Rattle.poll_close.specs.Invariant.Outlines.{left_of}
+use Rattle.poll_close.specs.Invariant.BlockMeaning.{BlockMeaning, pace_of}
 use Rattle.poll_close.specs.Invariant.Channels.{means_by}
 use Rattle.lamport_ring.specs.Listing.{sender_code, receiver_code}
 use Rattle.lamport_ring.specs.Invariant.Numbers.{Taken, Landed, Ordered, Words, pending_of, unread_of}
 use Rattle.lamport_ring.specs.Invariant.Sender.{sender}
-use Rattle.lamport_ring.specs.Invariant.Middle.{middle, More, At18, At1C, At20, At24}
+use Rattle.lamport_ring.specs.Invariant.Middle.{middle, More, rows}
 
 -- one slot stays free, so a ring has at least two
 abbrev pub lamport : Ring
 lamport = record { sender = sender_code; receiver = receiver_code; least = 2 }
+
+-- it is about to read the tail, and will find its ring full
+abbrev pub waits : HartState → (ℕ → ℕ) → Bool
+waits s word = (s.pc == 0x18) && (word (slice_index s.registers 8 + 8) == slice_index s.registers 6)
 
 -- the receiver takes a word out of its slot by its tail alone: it has no step of its own half done
 abbrev pub lamport_blocks : BlockMeaning
@@ -34,28 +37,13 @@ lamport_blocks = record {
   Level = λ n. Unit {0};
   Filled = More;
   middle = middle;
-  At18 = At18;
-  At1C = At1C;
-  At20 = At20;
-  At24 = At24;
+  rows = rows;
+  waits = waits;
+  Ready = λ k n. n.receiver.tails < n.landed.heads;
 }
 
 abbrev pub lamport_means : Meaning
 lamport_means = means_by lamport_blocks
 
--- ---- when a sender waits, and when a visit of the receiver may find nothing
--- though a word is there by now
-
--- it is about to read the tail, and will find its ring full
-abbrev pub waits : HartState → (ℕ → ℕ) → Bool
-waits s word = (s.pc == 0x18) && (word (slice_index s.registers 8 + 8) == slice_index s.registers 6)
-
-abbrev pub stale : HartState → ℕ → ℕ → Bool → Bool
-stale s took size ended =
-    if s.pc == 0x14 then (slice_index s.registers 30 == 0) && ended
-    else if s.pc == 0x18 then (slice_index s.registers 30 == 0) && (slice_index s.registers 6 == 4 * (took % size))
-    else if s.pc == 0x1C then (slice_index s.registers 30 == 0) && (slice_index s.registers 6 == slice_index s.registers 7)
-    else false
-
 abbrev pub lamport_pace : Pace
-lamport_pace = record { sender = left_of sender; waits = waits; stale = stale }
+lamport_pace = pace_of lamport_blocks

@@ -1,6 +1,6 @@
 -- What a ring has to prove of one block. Nothing here speaks of a history or of another block: a
 -- sender is its state, memory a function from addresses to words.
-use Rattle.std.proofs.Common.{ℕ, ◌+◌, ◌*◌, ◌<◌, ◌≤◌, ◌≡◌, ◌⊎◌, List, [], ◌∷◌, ◌++◌, length, None}
+use Rattle.std.proofs.Common.{ℕ, ◌+◌, ◌*◌, ◌<◌, ◌≤◌, ◌≡◌, ◌≢◌, ◌⊎◌, true, false, not, List, [], ◌∷◌, ◌++◌, length, Option, None}
 use Rattle.std.specs.Prelude.{slice_index, unwrap_or}
 use Rattle.hart.specs.State.{HartState}
 use Rattle.hart.specs.Steps.{need_of, advanced, first_state}
@@ -9,11 +9,13 @@ use Rattle.hart.specs.declared.need.Need.{Need}
 use Rattle.hart.specs.declared.need.Report.{Report}
 use Rattle.hart.specs.declared.need.Report.TheVariants as report
 use Rattle.poll_close.specs.Layout.{block_size}
-use Rattle.poll_close.specs.Invariant.Outlines.{Standing}
+use Rattle.poll_close.specs.Reports.{taken}
+use Rattle.poll_close.specs.Plans.{is_closed}
+use Rattle.poll_close.specs.Paces.{runs, some_open, far_of}
+use Rattle.poll_close.specs.Invariant.Outlines.{Standing, Reasons}
 use Rattle.poll_close.specs.Invariant.Blocks.{Block, offset}
-use Rattle.poll_close.specs.Invariant.ReceiverState.{Noted, whole_of}
-use Rattle.poll_close.specs.Invariant.ReceiverPlaces.{ReceiverPlace, Pc08, Pc14, Pc18, Pc1C, Pc20, Pc24, receives, due}
-use Rattle.poll_close.specs.Invariant.BlockMeaning.{BlockMeaning, Count, unsent_of, unread_of, Quiet, ReceiverIs}
+use Rattle.poll_close.specs.Invariant.ReceiverState.{Noted, whole_of, receives, due}
+use Rattle.poll_close.specs.Invariant.BlockMeaning.{BlockMeaning, Count, unsent_of, unread_of, Quiet, ReceiverRow, ReceiverIs, opened_rows, pace_of}
 use Rattle.poll_close.proofs.Acts.{stored_by, said_by, IsNoAmo}
 use Rattle.poll_close.proofs.Lines.{loads}
 use Rattle.poll_close.proofs.Windows.{Each, newest_to}
@@ -56,18 +58,31 @@ Says m k i n after rs =
     ⊎ ((rs ≡ report.Closed i ∷ []) × (m.took after ≡ m.took n) × (m.shut after ≡ 1) × (m.took n ≡ length k.list) × (m.shut n ≡ 0)))
 
 -- the receiver comes to a block: its own assertion there is that all is quiet
-pub record Comes (m : BlockMeaning) (k : Block) (count : ℕ) (there : ReceiverPlace) (n : m.Receiver) (r : Noted) : Type 0 where
+pub record Comes (m : BlockMeaning) (k : Block) (count : ℕ) (there : ℕ) (n : m.Receiver) (r : Noted) : Type 0 where
   pub block : ℕ
   pub known : block < count
   pub quiet : Quiet m n
-  pub here : there ≡ Pc08
+  pub here : there ≡ 0x08
   pub index : r.x22 ≡ block
   pub base : r.x8 ≡ block * block_size k.size
 
+-- what is known of the block that it visits where every sender waits or has ended, by the reports and states
+pub record Idle (m : BlockMeaning) (k : Block) (i count here : ℕ) (n : Count m) (r : Noted) (rs : List Report) (states : ℕ → Option HartState) : Type 0 where
+  pub took : r.x22 ≡ i → m.took n.receiver ≡ m.tails n.receiver → length (taken rs r.x22) ≡ m.took n.receiver
+  pub shut : r.x22 ≡ i → m.shut n.receiver ≢ 0 → is_closed rs r.x22 ≡ true
+  pub marked : r.x22 ≡ i → not (runs (states (r.x22 + 1))) ≡ true → m.marks n.landed ≡ 1
+  pub ready : r.x22 ≡ i → not (runs (states (r.x22 + 1))) ≡ false → m.Ready k n
+  -- some sender is owed
+  pub open_yet : some_open rs 0 count ≡ true
+  pub owing : due here < r.x20
+
+abbrev pub Nearer : (m : BlockMeaning) → Block → ℕ → ℕ → ℕ → ℕ → Count m → Noted → Noted → Type 0
+Nearer m k i count here there n r noted = (rs : List Report) (states : ℕ → Option HartState) → Idle m k i count here n r rs states → far_of (pace_of m) count k.size rs states (receives m.middle (whole_of k count) there noted) < far_of (pace_of m) count k.size rs states (receives m.middle (whole_of k count) here r)
+
 -- one act of the receiver, which visits or visited this block, and read v
-pub record Receives (m : BlockMeaning) (k : Block) (i count : ℕ) (here : ReceiverPlace) (n : Count m) (r : Noted) (v : ℕ) : Type 0 where
+pub record Receives (m : BlockMeaning) (k : Block) (i count : ℕ) (here : ℕ) (n : Count m) (r : Noted) (v : ℕ) : Type 0 where
   pub wanted : Need
-  pub there : ReceiverPlace
+  pub there : ℕ
   pub noted : Noted
   pub after : m.Receiver
   pub plain : IsNoAmo wanted
@@ -78,14 +93,26 @@ pub record Receives (m : BlockMeaning) (k : Block) (i count : ℕ) (here : Recei
   pub says : Says m k i n.receiver after (said_by wanted)
   -- what it does to the receiver's count
   pub counts : noted.x20 + m.shut after + due here ≡ r.x20 + m.shut n.receiver + due there
+  -- where every sender waits or has ended, it comes nearer to its next report
+  pub nearer : said_by wanted ≡ [] → Nearer m k i count here there n r noted
 
 -- what a load at this place reads in the block
-abbrev pub Finds : (m : BlockMeaning) → Block → ℕ → ReceiverPlace → Count m → (ℕ → ℕ) → Noted → ℕ → Type 0
+abbrev pub Finds : (m : BlockMeaning) → Block → ℕ → ℕ → Count m → (ℕ → ℕ) → Noted → ℕ → Type 0
 Finds m k count here n word r v = (a : ℕ) → IsWordOf k a → need_of (receives m.middle (whole_of k count) here r) ≡ loads a → v ≡ seen_at m k n word a
 
--- from a place of the middle, whatever the block holds, the receiver goes on as the places say
-abbrev pub MiddleMoves : BlockMeaning → ReceiverPlace → Type 0
-MiddleMoves m here = (k : Block) (i count : ℕ) (n : Count m) (word : ℕ → ℕ) (r : Noted) (v : ℕ) → IsBlock k → m.Ordered k n → m.Words k n.landed word → Finds m k count here n word r v → ReceiverIs m k i here n.receiver r → Receives m k i count here n r v
+-- it runs, and v is what a load reads; nor is its count wrong
+pub record Runs (m : BlockMeaning) (k : Block) (count here : ℕ) (n : Count m) (word : ℕ → ℕ) (r : Noted) (v : ℕ) : Type 0 where
+  pub runs : (receives m.middle (whole_of k count) here r).status ≡ status.Running
+  pub find : Finds m k count here n word r v
+  pub owed : due here ≤ r.x20
+  pub small : r.x20 ≤ 64
+
+-- the reason why a row is right: from what holds there the receiver goes on as the rows say
+abbrev pub Right : (m : BlockMeaning) → Block → ℕ → ℕ → Count m → (ℕ → ℕ) → Noted → ℕ → ReceiverRow m → Type 0
+Right m k i count n word r v row = row.holds k i n.receiver r → Runs m k count row.at n word r v → Receives m k i count row.at n r v
+
+abbrev pub Right_at : (m : BlockMeaning) → Block → ℕ → ℕ → Count m → (ℕ → ℕ) → Noted → ℕ → ℕ → Type 0
+Right_at m k i count n word r v here = ReceiverIs m k i here n.receiver r → Runs m k count here n word r v → Receives m k i count here n r v
 
 -- the receiver stored a tail or a done word, or reported: its own numbers after it, which note the mark
 -- if it has landed
@@ -122,6 +149,7 @@ pub record BlockLaws (m : BlockMeaning) : Type 0 where
   pub begins : (k : Block) → IsBlock k → Begins m k (opens_with m.sender.code k)
   -- bounds of the numbers
   pub tails_all : (k : Block) (n : Count m) → m.Ordered k n → m.tails n.receiver ≤ length k.list
+  pub shut_done : (k : Block) (n : Count m) → m.Ordered k n → m.shut n.receiver ≤ m.dones n.receiver
   pub dones_one : (k : Block) (n : Count m) → m.Ordered k n → m.dones n.receiver ≤ 1
   pub marks_one : (k : Block) (n : Count m) → m.Ordered k n → m.marks n.landed ≤ 1
   pub filled_more : (k : Block) (n : Count m) → m.Ordered k n → m.Filled n.receiver → m.tails n.receiver < length k.list
@@ -140,10 +168,7 @@ pub record BlockLaws (m : BlockMeaning) : Type 0 where
   pub sees_mark : (k : Block) (n : Count m) (word : ℕ → ℕ) → m.Ordered k n → m.Words k n.landed word → seen_at m k n word (k.base + 4) ≡ m.marks n.landed
   pub stores_tail : (k : Block) (n : Count m) → m.Ordered k n → m.Filled n.receiver → m.dones n.receiver ≡ 0 → Stepped m k n ((k.base + 8, offset k (m.tails n.receiver + 1)) ∷ []) (m.tails n.receiver + 1) (m.dones n.receiver) (m.took n.receiver) (m.shut n.receiver)
   pub stores_done : (k : Block) (n : Count m) → m.Ordered k n → m.Level n.receiver → m.tails n.receiver ≡ length k.list → m.dones n.receiver ≡ 0 → Stepped m k n ((k.base + 12, 1) ∷ []) (m.tails n.receiver) 1 (m.took n.receiver) (m.shut n.receiver)
-  pub reports : (k : Block) (n : Count m) (took shut : ℕ) → m.Ordered k n → m.Level n.receiver → Stepped m k n [] (m.tails n.receiver) (m.dones n.receiver) took shut
-  -- the receiver's middle
-  pub moves_14 : MiddleMoves m Pc14
-  pub moves_18 : MiddleMoves m Pc18
-  pub moves_1C : MiddleMoves m Pc1C
-  pub moves_20 : MiddleMoves m Pc20
-  pub moves_24 : MiddleMoves m Pc24
+  pub reports : (k : Block) (n : Count m) (took shut : ℕ) → m.Ordered k n → m.Level n.receiver → shut ≤ m.dones n.receiver → Stepped m k n [] (m.tails n.receiver) (m.dones n.receiver) took shut
+  -- the receiver's lines between: the first, and the ring's rows
+  pub moves_14 : (k : Block) (i count : ℕ) (n : Count m) (word : ℕ → ℕ) (r : Noted) (v : ℕ) → IsBlock k → m.Ordered k n → m.Words k n.landed word → Right_at m k i count n word r v 0x14
+  pub moves : (k : Block) (i count : ℕ) (n : Count m) (word : ℕ → ℕ) (r : Noted) (v : ℕ) → IsBlock k → m.Ordered k n → m.Words k n.landed word → Reasons (Right m k i count n word r v) (opened_rows m m.rows)

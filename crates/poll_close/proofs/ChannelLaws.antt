@@ -26,7 +26,6 @@ use Rattle.poll_close.specs.Reports.{Clean}
 use Rattle.poll_close.specs.Going.{GoesOn, AllGoOn}
 use Rattle.poll_close.specs.Invariant.Blocks.{block_of, as_writes}
 use Rattle.poll_close.specs.Invariant.ReceiverState.{receiver_of}
-use Rattle.poll_close.specs.Invariant.ReceiverPlaces.{Pc00}
 use Rattle.poll_close.specs.Invariant.BlockMeaning.{BlockMeaning, Count, Quiet}
 use Rattle.poll_close.specs.Invariant.Channels.{BlockPart, ReportsOf, shuts, Channel, means_by}
 use Rattle.poll_close.proofs.Blocks.{IsBlock}
@@ -144,7 +143,7 @@ module _ (m : BlockMeaning) (laws : BlockLaws m) (least : ℕ) (some : 1 ≤ lea
       numbers = none;
       parts = part;
       receiver = record {
-        place = Pc00;
+        place = 0x00;
         noted = record { x5 = 0; x6 = 0; x7 = 0; x8 = 0; x10 = 0; x11 = 0; x17 = 0; x20 = length lists; x22 = 0; x28 = 0; x30 = 0 };
         block = 0;
         known = omega (arith, accepted.some_sender);

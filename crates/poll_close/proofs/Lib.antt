@@ -1,14 +1,12 @@
 pub mod Acts
 pub mod Lines
 pub mod SenderLines
-pub mod ReceiverLines
 pub mod Modulo
 pub mod Windows
 pub mod Writes
 pub mod Blocks
 pub mod BlockLaws
 pub mod Outlines
-pub mod ReceiverSteps
 pub mod ReceiverMoves
 pub mod ReceiverStays
 pub mod CleanReports

@@ -16,16 +16,20 @@ use Rattle.poll_close.specs.Paces.{runs}
 use Rattle.poll_close.specs.Invariant.Blocks.{Block}
 use Rattle.poll_close.specs.Invariant.SenderState.{Written, fixed, running, ended}
 use Rattle.poll_close.specs.Invariant.BlockMeaning.{BlockMeaning, Count, unsent_of}
-use Rattle.poll_close.specs.Invariant.Outlines.{Row, Outline, either, stands, HoldsIn, Holds, Standing, left_of}
+use Rattle.poll_close.specs.Invariant.Outlines.{Row, SenderRow, Reasons, Outline, either, stands, HoldsIn, Holds, Standing, left_of}
 use Rattle.poll_close.proofs.Acts.{stored_by, IsNoAmo}
 use Rattle.poll_close.proofs.Lines.{Line, loads, at_line}
 use Rattle.poll_close.proofs.Blocks.{IsBlock, IsWordOf}
 use Rattle.poll_close.proofs.BlockLaws.{found_in, Sends}
 
--- a reason for each row
-abbrev pub Reasons : {Own : Type 0} → (Row Own → Type 0) → List (Row Own) → Type 0
-Reasons P [] = Unit {0}
-Reasons P (row ∷ rows) = P row × Reasons P rows
+-- where each row is right, what is wanted follows at any offset from what holds there
+pub found : {Rank : Type 0} {Held : Type 1} (holds : Held → Type 0) (Goal : ℕ → Type 0) (rows : List (Row Rank Held)) → Reasons (λ (row : Row Rank Held). holds row.holds → Goal row.at) rows → (here : ℕ) → HoldsIn holds rows here → Goal here
+found holds Goal [] reasons here h = absurd h
+found holds Goal (row ∷ rows) reasons here h = by_test (row.at == here) refl h (λ later. found holds Goal rows reasons.1 here later)
+  where
+    by_test : (b : Bool) → (row.at == here) ≡ b → either b (holds row.holds) (HoldsIn holds rows here) → (HoldsIn holds rows here → Goal here) → Goal here
+    by_test true same h rest = let is : row.at ≡ here = grind (arith, nat_tests) in subst Goal is (reasons.0 h)
+    by_test false other h rest = rest h
 
 -- where it has ended, and where it runs
 module _ (o : Outline) (k : Block) (here : ℕ) (n : o.Own) (r : Written) where
@@ -66,15 +70,14 @@ module _ (o : Outline) (k : Block) (n : o.Own) (s : HartState) (st : Standing o 
   pub has_ended : runs (Some s) ≡ false → o.done k n
   has_ended off = at (st.place == o.over) refl st.holds
     where
-      at : (b : Bool) → (st.place == o.over) ≡ b → either b (o.done k n) (HoldsIn o.rows st.place k n st.written) → o.done k n
+      at : (b : Bool) → (st.place == o.over) ≡ b → either b (o.done k n) (HoldsIn (λ (H : Block → o.Own → Written → Type 0). H k n st.written) o.rows st.place) → o.done k n
       at true over h = h
       at false on h = let bad : false ≡ true = sym off ∙ ap (λ (z : HartState). runs (Some z)) (st.is ∙ at_run o k st.place n st.written on) in cc
 
--- what its code's listing is, and when it waits
+-- what its code's listing is
 pub record Sender (m : BlockMeaning) : Type 0 where
   pub lines : List Instr
   pub decoded : map meaning m.sender.code ≡ map Some lines
-  pub waits : HartState → (ℕ → ℕ) → Bool
 
 module _ (m : BlockMeaning) (g : Sender m) (k : Block) (n : Count m) (word : ℕ → ℕ) (v : ℕ) (r : Written) where
   abbrev now : ℕ → HartState
@@ -86,7 +89,7 @@ module _ (m : BlockMeaning) (g : Sender m) (k : Block) (n : Count m) (word : ℕ
 
   -- nothing of its own is pending, and it doesn't wait for the receiver
   abbrev pub Free : ℕ → Type 0
-  Free here = (unsent_of m k n ≡ []) × (g.waits (now here) word ≡ false)
+  Free here = (unsent_of m k n ≡ []) × (m.waits (now here) word ≡ false)
 
   abbrev pub Nearer : ℕ → ℕ → m.sender.Own → Written → Type 0
   Nearer here there made written = left_of m.sender (stands m.sender k there made written) < left_of m.sender (now here)
@@ -106,7 +109,7 @@ module _ (m : BlockMeaning) (g : Sender m) (k : Block) (n : Count m) (word : ℕ
     pub nearer : Free here → Nearer here there made written
 
   -- the reason why a row is right
-  abbrev pub Right : Row m.sender.Own → Type 0
+  abbrev pub Right : SenderRow m.sender.Own → Type 0
   Right row = row.holds k n.sender r → Finds row.at → Goes row.at
 
   abbrev pub Right_at : ℕ → Type 0
@@ -132,22 +135,12 @@ module _ (m : BlockMeaning) (g : Sender m) (k : Block) (n : Count m) (word : ℕ
   pub at : (j : ℕ) {i : Instr} → slice_get (map Some g.lines) j ≡ Some (Some i) → IsAt (running m.sender.code (fixed k) (4 * j) r (drop (m.sender.asked n.sender) k.list)) i
   at j found = at_in r (drop (m.sender.asked n.sender) k.list) j found
 
-  found : (rows : List (Row m.sender.Own)) → Reasons Right rows → (here : ℕ) → HoldsIn rows here k n.sender r → Finds here → Goes here
-  found [] reasons here h find = absurd h
-  found (row ∷ rows) reasons here h find = by_test (row.at == here) refl h (λ later. found rows reasons.1 here later find)
-    where
-      by_test : (b : Bool) → (row.at == here) ≡ b → either b (row.holds k n.sender r) (HoldsIn rows here k n.sender r) → (HoldsIn rows here k n.sender r → Goes here) → Goes here
-      by_test true same h rest =
-          let is : row.at ≡ here = grind (arith, nat_tests) in
-          subst Goes is (reasons.0 h (subst Finds (sym is) find))
-      by_test false other h rest = rest h
-
   right : Reasons Right m.sender.rows → (here : ℕ) → (now here).status ≡ status.Running → Right_at here
   right reasons here running h find = by_test (here == m.sender.over) refl h
     where
-      by_test : (b : Bool) → (here == m.sender.over) ≡ b → either b (m.sender.done k n.sender) (HoldsIn m.sender.rows here k n.sender r) → Goes here
+      by_test : (b : Bool) → (here == m.sender.over) ≡ b → either b (m.sender.done k n.sender) (HoldsIn (λ (H : Block → m.sender.Own → Written → Type 0). H k n.sender r) m.sender.rows here) → Goes here
       by_test true over h = let bad : status.Ended ≡ status.Running = sym (ap (λ (s : HartState). s.status) (at_end m.sender k here n.sender r over)) ∙ running in cc
-      by_test false on h = found m.sender.rows reasons here h find
+      by_test false on h = found (λ (H : Block → m.sender.Own → Written → Type 0). H k n.sender r) (λ j. Finds j → Goes j) m.sender.rows reasons here h find
 
 -- so its acts keep the block's meaning, and bring it nearer to its end, as the laws of a block ask
 module _ (m : BlockMeaning) (g : Sender m) (reasons : (k : Block) (n : Count m) (word : ℕ → ℕ) (v : ℕ) (r : Written) → IsBlock k → m.Ordered k n → m.Words k n.landed word → Reasons (Right m g k n word v r) m.sender.rows) (k : Block) (n : Count m) (s : HartState) (word : ℕ → ℕ) (v : ℕ) (is : IsBlock k) (order : m.Ordered k n) (words : m.Words k n.landed word) (st : Standing m.sender k n.sender s) (running : s.status ≡ status.Running) where
@@ -166,8 +159,8 @@ module _ (m : BlockMeaning) (g : Sender m) (reasons : (k : Block) (n : Count m) 
         unsent = ap (λ w. unsent_of m k n ++ stored_by w) wants ∙ a.unsent;
       }
 
-  pub nearer : unsent_of m k n ≡ [] → ((a : ℕ) → IsWordOf k a → need_of s ≡ loads a → v ≡ word a) → g.waits s word ≡ false → left_of m.sender (advanced s v) < left_of m.sender s
+  pub nearer : unsent_of m k n ≡ [] → ((a : ℕ) → IsWordOf k a → need_of s ≡ loads a → v ≡ word a) → m.waits s word ≡ false → left_of m.sender (advanced s v) < left_of m.sender s
   nearer none find on =
       let a : Goes m g k n word v st.written st.place = act (λ a inside wants. find a inside wants ∙ sym (ap (λ ps. found_in ps word a) none)) in
-      let less : left_of m.sender (stands m.sender k a.there a.made a.written) < left_of m.sender (stands m.sender k st.place n.sender st.written) = a.nearer (none, subst (λ (z : HartState). g.waits z word ≡ false) st.is on) in
+      let less : left_of m.sender (stands m.sender k a.there a.made a.written) < left_of m.sender (stands m.sender k st.place n.sender st.written) = a.nearer (none, subst (λ (z : HartState). m.waits z word ≡ false) st.is on) in
       rw (st.is, a.leaves) less

@@ -1,6 +1,6 @@
 -- From what a ring shows of one block to the law of the plan: where nothing is pending and some sender is
 -- not reported closed, the hart that comes next can act, and less is left after its act.
-use Rattle.std.proofs.Common.{ℕ, zero, suc, ◌+◌, ◌-◌, ◌%◌, ◌<◌, ◌≤◌, ◌≡◌, ◌≢◌, ◌⊎◌, inl, inr, Bool, true, false, not, ◌&&◌, if◌then◌else◌, List, [], ◌∷◌, ◌++◌, length, take, min, length-take, Some, None, refl, sym, ◌∙◌, ap, subst, arith, add-one, append-nil, lit<}
+use Rattle.std.proofs.Common.{◌==◌, ℕ, zero, suc, ◌+◌, ◌-◌, ◌%◌, ◌<◌, ◌≤◌, ◌≡◌, ◌≢◌, ◌⊎◌, inl, inr, Bool, true, false, not, ◌&&◌, if◌then◌else◌, List, [], ◌∷◌, ◌++◌, length, take, min, length-take, Some, None, refl, sym, ◌∙◌, ap, subst, arith, add-one, append-nil, lit<}
 use Rattle.std.specs.Prelude.{slice_index, unwrap_or}
 use Rattle.std.specs.List.{slice_index_or}
 use Rattle.std.proofs.lemmas.Bool.{cases_eq, and_parts}
@@ -31,24 +31,24 @@ use Rattle.poll_close.specs.Layout.{opening_of}
 use Rattle.poll_close.specs.Reports.{taken, sender_of, Clean}
 use Rattle.poll_close.specs.Laws.{Accepted, Keeps}
 use Rattle.poll_close.specs.Standing.{lists_of}
-use Rattle.poll_close.specs.Paces.{Pace, Nearer, Nears, some_open, rest_from, visited_by, is_running, runs, far_of, far_if, left_in, left_by, ring_size, ready_if, is_ready, next_of, next_by}
+use Rattle.poll_close.specs.Paces.{Pace, Around, around, Nearer, Nears, some_open, visited_by, is_running, runs, far_of, far_if, left_in, left_by, ring_size, ready_if, is_ready, next_of, next_by}
 use Rattle.poll_close.specs.Plans.{AllLanded, is_closed, is_done, senders_of}
 use Rattle.poll_close.specs.Invariant.Blocks.{Block, block_of, as_writes, to_block}
-use Rattle.poll_close.specs.Invariant.ReceiverState.{Noted, whole_of, receiver_of}
-use Rattle.poll_close.specs.Invariant.ReceiverPlaces.{ReceiverPlace, Pc04, Pc70, receives, due}
-use Rattle.poll_close.specs.Invariant.BlockMeaning.{BlockMeaning, Count, unsent_of, unread_of, Quiet, ReceiverIs}
+use Rattle.poll_close.specs.Invariant.ReceiverState.{Noted, whole_of, receiver_of, receiving, received, receives, due}
+use Rattle.poll_close.specs.Invariant.BlockMeaning.{BlockMeaning, unsent_of, unread_of, ReceiverIs, rows_of, pace_of}
 use Rattle.poll_close.specs.Invariant.Channels.{Channel, means_by}
 use Rattle.poll_close.proofs.Acts.{Acted, acted, said_by}
 use Rattle.poll_close.proofs.Blocks.{IsBlock}
-use Rattle.poll_close.proofs.BlockLaws.{BlockLaws, Receives, Says, Finds}
+use Rattle.poll_close.proofs.BlockLaws.{BlockLaws, Receives, Says, Finds, Idle}
 use Rattle.poll_close.proofs.CleanReports.{taken_other}
 use Rattle.poll_close.proofs.AllBlocks.{read_is, sender_plain}
-use Rattle.poll_close.proofs.ReceiverActs.{small, moves_by, plain_by, found}
+use Rattle.poll_close.proofs.ReceiverActs.{moves_by, plain_by, found}
 use Rattle.poll_close.proofs.Delivering.{senders-length}
 use Rattle.poll_close.proofs.Standing.{inboxes}
 use Rattle.poll_close.proofs.ChannelLaws.{blocks, ring_by, keeps}
-use Rattle.poll_close.proofs.Distance.{Falls, BlockProgress, far_off, falls_on, near_04, near_70, visited_at, running_at, shut_one}
+use Rattle.poll_close.proofs.Distance.{BlockProgress, rank_short}
 use Rattle.poll_close.proofs.Shares.{share_same, share_acts, sum_falls, far_falls, left_same, far_small, closed_from, closed_other, report_falls, open_from, some_from, shuts_less}
+use Rattle.std.proofs.lemmas.Bool.Decides.{nat_tests}
 
 -- which hart comes next
 pub next_is : (ready : ℕ → Bool) (n : ℕ) → ((next_of ready n ≡ 0) × ((i : ℕ) → i < n → ready (i + 1) ≡ false)) ⊎ ((j : ℕ) × (j < n) × (next_of ready n ≡ j + 1) × (ready (j + 1) ≡ true))
@@ -107,7 +107,10 @@ not_ready true b off on = not_false b off
 not_ready false b off on = cc
 
 -- everything that is known of a channel's history, with nothing pending
-module _ (m : BlockMeaning) (laws : BlockLaws m) (least : ℕ) (some_least : 1 ≤ least) (p : Pace) (prog : BlockProgress m p least) (B M S : ℕ) (lists : List (List ℕ)) (t : History) (some : 1 ≤ B) (accepted : Accepted (ring_by m laws least some_least) M lists S) (opening : t.opening ≡ opening_of m.sender.code (receiver_of m.middle) lists S) (kept : Kept B M t) (ch : Channel m M S lists t) (landed : AllLanded t) (open_yet : is_done t ≡ false) where
+module _ (m : BlockMeaning) (laws : BlockLaws m) (least : ℕ) (some_least : 1 ≤ least) (prog : BlockProgress m least) (B M S : ℕ) (lists : List (List ℕ)) (t : History) (some : 1 ≤ B) (accepted : Accepted (ring_by m laws least some_least) M lists S) (opening : t.opening ≡ opening_of m.sender.code (receiver_of m.middle) lists S) (kept : Kept B M t) (ch : Channel m M S lists t) (landed : AllLanded t) (open_yet : is_done t ≡ false) where
+  abbrev p : Pace
+  p = pace_of m
+
   are : (i : ℕ) → i < length lists → IsBlock (block_of M S lists i)
   are = blocks (ring_by m laws least some_least) M S lists some_least accepted
 
@@ -155,6 +158,9 @@ module _ (m : BlockMeaning) (laws : BlockLaws m) (least : ℕ) (some_least : 1 �
   abbrev receiver_block : Block
   receiver_block = block_of M S lists ch.receiver.block
 
+  near : (a : Around) (s : HartState) → p.receiver a s ≤ 22 + a.rest + a.start
+  near a s = rank_short a s.registers (rows_of m) prog.short s.pc
+
   -- a sender that does not wait
   module _ (j : ℕ) (within : j < length lists) (on : is_ready p M t (j + 1) ≡ true) where
     abbrev s : HartState
@@ -178,7 +184,7 @@ module _ (m : BlockMeaning) (laws : BlockLaws m) (least : ℕ) (some_least : 1 �
         (sum_falls p (length lists) S lists rs (reported 0 (with_entry t e).entries) (λ h. state_of M t h) (λ h. state_of M (with_entry t e) h) j within
         (λ i below other. share_same p (length lists) S lists rs (reported 0 (with_entry t e).entries) (λ h. state_of M t h) (λ h. state_of M (with_entry t e) h) i (ap (λ ys. taken ys i) said) (ap (λ ys. is_closed ys i) said) (a.states (i + 1) (λ same. other (omega arith))))
         (share_acts p (length lists) S lists rs (reported 0 (with_entry t e).entries) (λ h. state_of M t h) (λ h. state_of M (with_entry t e) h) j s (advanced s (value_of e)) said (ch.parts j within).sender.state a.state less)
-        (far_small p (length lists) S lists (reported 0 (with_entry t e).entries) (λ h. state_of M (with_entry t e) h) m.middle (whole_of receiver_block (length lists)) ch.receiver.place ch.receiver.noted (a.states 0 (omega arith) ∙ ch.receiver.state)))
+        (far_small p (length lists) S lists near (reported 0 (with_entry t e).entries) (λ h. state_of M (with_entry t e) h) (receives m.middle (whole_of receiver_block (length lists)) ch.receiver.place ch.receiver.noted) (a.states 0 (omega arith) ∙ ch.receiver.state)))
 
     pub sender_nears : Nearer B M (left_by p M) t (j + 1)
     sender_nears = record {
@@ -196,11 +202,7 @@ module _ (m : BlockMeaning) (laws : BlockLaws m) (least : ℕ) (some_least : 1 �
   some_is_open = some_from rs 0 (length lists) some_one.0 some_one.1 (ap (is_closed rs) (let same : 0 + some_one.0 ≡ some_one.0 = omega arith in same) ∙ some_one.2)
 
   each_shut : (j : ℕ) → j < length lists → m.shut (ch.numbers j).receiver ≤ 1
-  each_shut j less =
-      elim (cases_eq j ch.receiver.block) [
-        | inl same ↦ subst (λ (z : ℕ). m.shut (ch.numbers z).receiver ≤ 1) (sym same) (shut_one m laws receiver_block ch.receiver.block (whole_of receiver_block (length lists)) (ch.numbers ch.receiver.block) (ch.parts ch.receiver.block ch.receiver.known).order ch.receiver.noted ch.receiver.place ch.receiver.holds)
-        | inr other ↦ (let q : Quiet m (ch.numbers j).receiver = ch.receiver.others j less other in omega (arith, q.closed, laws.dones_one (block_of M S lists j) (ch.numbers j) (ch.parts j less).order))
-      ]
+  each_shut j less = omega (arith, laws.shut_done (block_of M S lists j) (ch.numbers j) (ch.parts j less).order, laws.dones_one (block_of M S lists j) (ch.numbers j) (ch.parts j less).order)
 
   -- who is reported closed is noted so, and the other way round
   shut_said : (j : ℕ) → j < length lists → m.shut (ch.numbers j).receiver ≢ 0 → is_closed rs j ≡ true
@@ -244,56 +246,32 @@ module _ (m : BlockMeaning) (laws : BlockLaws m) (least : ℕ) (some_least : 1 �
     marked : runs (state_of M t (b + 1)) ≡ false → m.marks (ch.numbers b).landed ≡ 1
     marked off = prog.marked receiver_block (ch.numbers b) sender (are b ch.receiver.known) (ch.parts b ch.receiver.known).order (ch.parts b ch.receiver.known).sender.holds (sym runs_is ∙ off) (unsent b ch.receiver.known)
 
-    ready : runs (state_of M t (b + 1)) ≡ true → prog.Ready receiver_block (ch.numbers b)
+    ready : runs (state_of M t (b + 1)) ≡ true → m.Ready receiver_block (ch.numbers b)
     ready on =
         let run : is_running sender.status ≡ true = sym runs_is ∙ on in
         let waiting : p.waits sender (word_in_memory t.opening t.entries) ≡ true = not_ready (is_running sender.status) (p.waits sender (word_in_memory t.opening t.entries)) (sym (ap (ready_if p (word_in_memory t.opening t.entries)) (ch.parts b ch.receiver.known).sender.state) ∙ idle b ch.receiver.known) run in
         prog.ready receiver_block (ch.numbers b) sender (word_in_memory t.opening t.entries) (are b ch.receiver.known) accepted.size (ch.parts b ch.receiver.known).order (ch.parts b ch.receiver.known).words (ch.parts b ch.receiver.known).sender.holds (running_is sender.status run) (unsent b ch.receiver.known) (unread b ch.receiver.known) waiting
 
+    -- it has not ended, since some sender is owed
     running_st : st.status ≡ status.Running
-    running_st = running_at m laws receiver_block b (whole_of receiver_block (length lists)) (ch.numbers b) (ch.parts b ch.receiver.known).order r ch.receiver.place owing ch.receiver.holds
+    running_st = at (ch.receiver.place == 0x80) refl
+      where
+        at : (b : Bool) → (ch.receiver.place == 0x80) ≡ b → (if b then received m.middle (whole_of receiver_block (length lists)) r else receiving m.middle (whole_of receiver_block (length lists)) ch.receiver.place r).status ≡ status.Running
+        at true over =
+            let end : ch.receiver.place ≡ 0x80 = grind (arith, nat_tests) in
+            let h : ReceiverIs m receiver_block b 0x80 (ch.numbers b).receiver r = subst (λ (here : ℕ). ReceiverIs m receiver_block b here (ch.numbers b).receiver r) end ch.receiver.holds in
+            absurd (omega (arith, owing, h.1))
+        at false on = refl
 
-    module _ (v : ℕ) (find : Finds m receiver_block (length lists) ch.receiver.place (ch.numbers b) (word_in_memory t.opening t.entries) r v) where
-      abbrev Nears_far : Type 0
-      Nears_far = far_of p (length lists) S rs (λ h. state_of M t h) (advanced st v) < far_of p (length lists) S rs (λ h. state_of M t h) st
-
-      at_04 : ch.receiver.place ≡ Pc04 → Nears_far
-      at_04 is = subst (λ (here : ReceiverPlace). far_of p (length lists) S rs (λ h. state_of M t h) (advanced (receives m.middle (whole_of receiver_block (length lists)) here r) v) < far_of p (length lists) S rs (λ h. state_of M t h) (receives m.middle (whole_of receiver_block (length lists)) here r)) (sym is) (near_04 p m.middle receiver_block b (length lists) refl ch.receiver.known S rs (λ h. state_of M t h) r v)
-
-      at_70 : ch.receiver.place ≡ Pc70 → Nears_far
-      at_70 is =
-          let h : ReceiverIs m receiver_block b Pc70 (ch.numbers b).receiver r = subst (λ (here : ReceiverPlace). ReceiverIs m receiver_block b here (ch.numbers b).receiver r) is ch.receiver.holds in
-          subst (λ (here : ReceiverPlace). far_of p (length lists) S rs (λ h. state_of M t h) (advanced (receives m.middle (whole_of receiver_block (length lists)) here r) v) < far_of p (length lists) S rs (λ h. state_of M t h) (receives m.middle (whole_of receiver_block (length lists)) here r)) (sym is) (near_70 p m.middle receiver_block b (length lists) refl ch.receiver.known S rs (λ h. state_of M t h) r v some_is_open h.1 h.2)
-
-      -- at the block that it visits
-      at_block : visited_by st ≡ r.x22 → said_by (need_of st) ≡ [] → Nears_far
-      at_block visits silent =
-          elim (falls_on m laws p least prog receiver_block (are b ch.receiver.known) b (length lists) refl ch.receiver.known accepted.senders (ch.numbers b) (ch.parts b ch.receiver.known).order (word_in_memory t.opening t.entries) (ch.parts b ch.receiver.known).words r v (is_closed rs (visited_by st)) (not (runs (state_of M t (visited_by st + 1))))
-          (λ index shut. ap (is_closed rs) (visits ∙ index) ∙ shut_said b ch.receiver.known shut)
-          (λ index ended. marked (ap (λ j. runs (state_of M t (j + 1))) (sym (visits ∙ index)) ∙ not_true (runs (state_of M t (visited_by st + 1))) ended))
-          (λ index on. ready (ap (λ j. runs (state_of M t (j + 1))) (sym (visits ∙ index)) ∙ not_false (runs (state_of M t (visited_by st + 1))) on))
-          (rest_from rs (length lists) (visited_by st + 1)) (rest_from rs (length lists) 0) (far_off rs (length lists) (visited_by st + 1))
-          ch.receiver.place (length (taken rs (visited_by st))) (λ index same. ap (λ j. length (taken rs j)) (visits ∙ index) ∙ took_is b ch.receiver.known same) find owing
-          (small m laws B M S lists are accepted.senders t ch.numbers kept.legal opens_words ch.written ch.parts ch.receiver ch.reports) ch.receiver.holds) [
-            | inl tells ↦ let some_said : tells.0 ∷ [] ≡ [] = sym (ap said_by tells.1) ∙ silent in cc
-            | inr more ↦ elim more [
-              | inl fell ↦ fell_far fell
-              | inr moved ↦ elim moved [
-                | inl first ↦ at_04 first
-                | inr last ↦ at_70 last
-              ]
-            ]
-          ]
-        where
-          fell_far : Falls p st (advanced st v) (length (taken rs (visited_by st))) S (is_closed rs (visited_by st)) (not (runs (state_of M t (visited_by st + 1)))) (rest_from rs (length lists) (visited_by st + 1)) (rest_from rs (length lists) 0) → Nears_far
-          fell_far f = rw f.block f.nearer
-
-      far_nears : said_by (need_of st) ≡ [] → Nears_far
-      far_nears silent =
-          elim (visited_at m.middle (whole_of receiver_block (length lists)) r ch.receiver.place) [
-            | inl last ↦ at_70 last
-            | inr here ↦ at_block here silent
-          ]
+    idle_at : Idle m receiver_block b (length lists) ch.receiver.place (ch.numbers b) r rs (λ h. state_of M t h)
+    idle_at = record {
+      took = λ index same. ap (λ j. length (taken rs j)) index ∙ took_is b ch.receiver.known same;
+      shut = λ index shut. ap (is_closed rs) index ∙ shut_said b ch.receiver.known shut;
+      marked = λ index ended. marked (ap (λ j. runs (state_of M t (j + 1))) (sym index) ∙ not_true (runs (state_of M t (r.x22 + 1))) ended);
+      ready = λ index on. ready (ap (λ j. runs (state_of M t (j + 1))) (sym index) ∙ not_false (runs (state_of M t (r.x22 + 1))) on);
+      open_yet = some_is_open;
+      owing = owing;
+    }
 
     receiver_falls : (e : Entry) → IsFor (event.Act 0) e → CanFollow B M t e → left_by p M (with_entry t e) < left_by p M t
     unfolding Keeps
@@ -314,11 +292,11 @@ module _ (m : BlockMeaning) (laws : BlockLaws m) (least : ℕ) (some_least : 1 �
         silent : said_by (need_of st) ≡ [] → left_by p M (with_entry t e) < left_by p M t
         silent none =
             let said : reported 0 (with_entry t e).entries ≡ rs = a.reports ∙ ap (λ ys. rs ++ ys) none ∙ append-nil rs in
-            let less : far_of p (length lists) S rs (λ h. state_of M t h) (advanced st (value_of e)) < far_of p (length lists) S rs (λ h. state_of M t h) st = far_nears (value_of e) find none in
+            let less : far_of p (length lists) S rs (λ h. state_of M t h) (advanced st (value_of e)) < far_of p (length lists) S rs (λ h. state_of M t h) st = subst (λ (z : HartState). far_of p (length lists) S rs (λ h. state_of M t h) z < far_of p (length lists) S rs (λ h. state_of M t h) st) (sym move.leaves) (move.nearer (sym (ap said_by move.wants) ∙ none) rs (λ h. state_of M t h) idle_at) in
             left_falls (with_entry t e) refl (far_falls p (length lists) S lists rs (reported 0 (with_entry t e).entries) (λ h. state_of M t h) (λ h. state_of M (with_entry t e) h) said (λ i below. a.states (i + 1) (omega arith)) (moved (advanced st (value_of e)) a.state less))
           where
             moved : (next : HartState) → state_of M (with_entry t e) 0 ≡ Some next → far_of p (length lists) S rs (λ h. state_of M t h) next < far_of p (length lists) S rs (λ h. state_of M t h) st → far_if p (length lists) S rs (λ h. state_of M (with_entry t e) h) (state_of M (with_entry t e) 0) < far_if p (length lists) S rs (λ h. state_of M t h) (state_of M t 0)
-            moved next is less = rw (is, ch.receiver.state, a.states (visited_by next + 1) (omega arith)) less
+            moved next is less = rw (is, ch.receiver.state) (subst (λ o. p.receiver (around (length lists) S rs o (visited_by next)) next < far_of p (length lists) S rs (λ h. state_of M t h) st) (sym (a.states (visited_by next + 1) (omega arith))) less)
 
         tells : (x : Report) → said_by (need_of st) ≡ x ∷ [] → sender_of x ≡ b → left_by p M (with_entry t e) < left_by p M t
         tells x one from =
@@ -328,7 +306,7 @@ module _ (m : BlockMeaning) (laws : BlockLaws m) (least : ℕ) (some_least : 1 �
             (sum_falls p (length lists) S lists rs (rs ++ x ∷ []) (λ h. state_of M t h) (λ h. state_of M (with_entry t e) h) b ch.receiver.known
             (λ i below other. share_same p (length lists) S lists rs (rs ++ x ∷ []) (λ h. state_of M t h) (λ h. state_of M (with_entry t e) h) i (taken_other rs i x (λ same. other (sym same ∙ from))) (closed_other rs x i (λ same. other (sym same ∙ from))) (a.states (i + 1) (omega arith)))
             (report_falls p lists rs (λ h. state_of M t h) (λ h. state_of M (with_entry t e) h) b (a.states (b + 1) (omega arith)) x from (subst (λ (ys : List Report). Clean ys lists) said after.reports.clean))
-            (far_small p (length lists) S lists (rs ++ x ∷ []) (λ h. state_of M (with_entry t e) h) m.middle (whole_of (block_of M S lists after.receiver.block) (length lists)) after.receiver.place after.receiver.noted after.receiver.state)))
+            (far_small p (length lists) S lists near (rs ++ x ∷ []) (λ h. state_of M (with_entry t e) h) (receives m.middle (whole_of (block_of M S lists after.receiver.block) (length lists)) after.receiver.place after.receiver.noted) after.receiver.state)))
 
         v_says : Says m receiver_block b (ch.numbers b).receiver move.after (said_by (need_of st))
         v_says = subst (λ (w : Need). Says m receiver_block b (ch.numbers b).receiver move.after (said_by w)) (sym move.wants) move.says
@@ -353,6 +331,6 @@ module _ (m : BlockMeaning) (laws : BlockLaws m) (least : ℕ) (some_least : 1 �
         | inr ready ↦ subst (Nearer B M (left_by p M) t) (sym ready.2) (sender_nears ready.0 (omega (arith, senders, ready.1)) ready.3)
       ]
 
-pub nears : (m : BlockMeaning) (laws : BlockLaws m) (least : ℕ) (some_least : 1 ≤ least) (p : Pace) → BlockProgress m p least → Nears (ring_by m laws least some_least) (means_by m) (left_by p) (next_by p)
+pub nears : (m : BlockMeaning) (laws : BlockLaws m) (least : ℕ) (some_least : 1 ≤ least) → BlockProgress m least → Nears (ring_by m laws least some_least) (means_by m) (left_by (pace_of m)) (next_by (pace_of m))
 unfolding Nears
-nears m laws least some_least p prog B M t some stands landed open_yet = hart_nears m laws least some_least p prog B M stands.opens.size stands.opens.lists t some stands.opens.accepted stands.opens.opening stands.kept stands.meant landed open_yet
+nears m laws least some_least prog B M t some stands landed open_yet = hart_nears m laws least some_least prog B M stands.opens.size stands.opens.lists t some stands.opens.accepted stands.opens.opening stands.kept stands.meant landed open_yet

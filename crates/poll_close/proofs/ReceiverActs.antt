@@ -1,5 +1,5 @@
 -- An act of the receiver, over the whole channel.
-use Rattle.std.proofs.Common.{ℕ, zero, suc, ◌+◌, ◌<◌, ◌≤◌, ◌≡◌, ◌≢◌, ◌⊎◌, inl, inr, false, List, [], ◌∷◌, ◌++◌, length, take, Some, None, refl, sym, ◌∙◌, ap, subst, arith, append-nil}
+use Rattle.std.proofs.Common.{ℕ, ◌==◌, Bool, true, if◌then◌else◌, zero, suc, ◌+◌, ◌<◌, ◌≤◌, ◌≡◌, ◌≢◌, ◌⊎◌, inl, inr, false, List, [], ◌∷◌, ◌++◌, length, take, Some, None, refl, sym, ◌∙◌, ap, subst, arith, append-nil}
 use Rattle.std.specs.Prelude.{slice_index, unwrap_or}
 use Rattle.std.specs.List.{slice_get, slice_index_or}
 use Rattle.std.proofs.lemmas.Bool.{cases_eq}
@@ -24,8 +24,7 @@ use Rattle.step_machine.specs.Runs.{CanFollow}
 use Rattle.poll_close.specs.Reports.{taken, sender_of, IsPrefixOf}
 use Rattle.poll_close.specs.Going.{GoesOn}
 use Rattle.poll_close.specs.Invariant.Blocks.{block_of, as_write, as_writes, to_block}
-use Rattle.poll_close.specs.Invariant.ReceiverState.{Noted, whole_of}
-use Rattle.poll_close.specs.Invariant.ReceiverPlaces.{ReceiverPlace, Pc60, receives, due}
+use Rattle.poll_close.specs.Invariant.ReceiverState.{Noted, whole_of, receives, due}
 use Rattle.poll_close.specs.Invariant.BlockMeaning.{BlockMeaning, Count, unread_of, Quiet, ReceiverIs}
 use Rattle.poll_close.specs.Invariant.Channels.{BlockPart, ReceiverPart, ReportsOf, ReportPart, shuts}
 use Rattle.poll_close.proofs.Acts.{Acted, Plain, acted, going, stored_by, said_by}
@@ -117,28 +116,26 @@ module _ (m : BlockMeaning) (M S : ℕ) (lists : List (List ℕ)) (f : ℕ → C
       (λ i is. subst (λ (j : ℕ). taken rs j ≡ slice_index_or lists j []) (ap sender_of is) ((told.senders b known).words ∙ ap (λ c. take c (slice_index_or lists b [])) closing.3 ∙ take-length (slice_index_or lists b []))))
 
 module _ (m : BlockMeaning) (laws : BlockLaws m) (B M S : ℕ) (lists : List (List ℕ)) (are : (i : ℕ) → i < length lists → IsBlock (block_of M S lists i)) (few : length lists ≤ 63) (t : History) (f : ℕ → Count m) (legal : Legal B t) (opens : OpensWithWords t.opening) (written : AllWriteWords t.entries) (parts : (i : ℕ) → i < length lists → BlockPart m (block_of M S lists i) M i t (f i)) (part : ReceiverPart m M S lists t f) (told : ReportPart m lists (reported 0 t.entries) f) where
-  pub quiet_one : (j : ℕ) → j < length lists → Quiet m (f j).receiver → m.shut (f j).receiver ≤ 1
-  quiet_one j within q = omega (arith, q.closed, laws.dones_one (block_of M S lists j) (f j) (parts j within).order)
+  pub each_shut : (j : ℕ) → j < length lists → m.shut (f j).receiver ≤ 1
+  each_shut j within = omega (arith, laws.shut_done (block_of M S lists j) (f j) (parts j within).order, laws.dones_one (block_of M S lists j) (f j) (parts j within).order)
 
-  pub owed_at : (place : ReceiverPlace) → ReceiverIs m (block_of M S lists part.block) part.block place (f part.block).receiver part.noted → part.noted.x20 + shuts m f (length lists) ≡ length lists + due place → due place ≤ part.noted.x20
-  owed_at Pc60 h is = let most : shuts m f (length lists) ≤ length lists = shuts_most m f (length lists) (λ j within. elim (cases_eq j part.block) [
-    | inl same ↦ subst (λ (z : ℕ). m.shut (f z).receiver ≤ 1) (sym same) (quiet_one part.block part.known h.0)
-    | inr other ↦ quiet_one j within (part.others j within other)
-  ]) in omega (arith, is)
-  owed_at here h is = omega arith
-
-  due_one : (place : ReceiverPlace) → due place ≤ 1
-  due_one Pc60 = omega arith
-  due_one here = omega arith
+  due_one : (here : ℕ) → due here ≤ 1
+  due_one here = at (here == 0x60)
+    where
+      at : (b : Bool) → (if b then 1 else 0) ≤ 1
+      at true = omega arith
+      at false = omega arith
 
   pub small : part.noted.x20 ≤ 64
   small = omega (arith, few, due_one part.place, part.count)
 
-  count_after : (n : Count m) (noted : Noted) (there : ReceiverPlace) → noted.x20 + m.shut n.receiver + due part.place ≡ part.noted.x20 + m.shut (f part.block).receiver + due there → noted.x20 + shuts m (put f part.block n) (length lists) ≡ length lists + due there
+  count_after : (n : Count m) (noted : Noted) (there : ℕ) → noted.x20 + m.shut n.receiver + due part.place ≡ part.noted.x20 + m.shut (f part.block).receiver + due there → noted.x20 + shuts m (put f part.block n) (length lists) ≡ length lists + due there
   count_after n noted there counts = omega (arith, part.count, shuts_put m f part.block n (length lists) part.known)
 
   pub moves_by : (v : ℕ) → (receives m.middle (whole_of (block_of M S lists part.block) (length lists)) part.place part.noted).status ≡ status.Running → Finds m (block_of M S lists part.block) (length lists) part.place (f part.block) (word_in_memory t.opening t.entries) part.noted v → Receives m (block_of M S lists part.block) part.block (length lists) part.place (f part.block) part.noted v
-  moves_by v runs find = receives_on m laws (block_of M S lists part.block) (are part.block part.known) part.block (length lists) refl part.known few (f part.block) (parts part.block part.known).order (word_in_memory t.opening t.entries) (parts part.block part.known).words part.noted v part.place runs find (owed_at part.place part.holds part.count) small part.holds
+  moves_by v runs find =
+      receives_on m (block_of M S lists part.block) part.block (length lists) (f part.block) (parts part.block part.known).order part.noted v laws (are part.block part.known) refl part.known few (word_in_memory t.opening t.entries) (parts part.block part.known).words part.place part.holds
+      (record { runs = runs; find = find; owed = omega (arith, part.count, shuts_most m f (length lists) each_shut); small = small })
 
   -- what it stores goes to the visited block
   stored_is : (v : ℕ) (r : Receives m (block_of M S lists part.block) part.block (length lists) part.place (f part.block) part.noted v) (x : ℕ × ℕ) → stored_by r.wanted ≡ x ∷ [] → IsStore (block_of M S lists part.block) x
@@ -215,7 +212,7 @@ module _ (m : BlockMeaning) (laws : BlockLaws m) (B M S : ℕ) (lists : List (Li
       block = comes.block;
       known = comes.known;
       state = a.state ∙ ap Some r.leaves;
-      holds = subst (λ (p : ReceiverPlace). ReceiverIs m (block_of M S lists comes.block) comes.block p (put f part.block n comes.block).receiver r.noted) (sym comes.here) (all_quiet n comes.quiet comes.block comes.known, record { base = comes.base; index = comes.index });
+      holds = subst (λ (p : ℕ). ReceiverIs m (block_of M S lists comes.block) comes.block p (put f part.block n comes.block).receiver r.noted) (sym comes.here) (all_quiet n comes.quiet comes.block comes.known, record { base = comes.base; index = comes.index });
       others = λ j within other. all_quiet n comes.quiet j within;
       count = count_after n r.noted r.there r.counts;
     }

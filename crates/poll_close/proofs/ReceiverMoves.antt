@@ -1,301 +1,355 @@
--- One act of the receiver, whatever the ring: from each place's assertion to the next place's.
-use Rattle.std.proofs.Common.{ℕ, ◌+◌, ◌-◌, ◌*◌, ◌<◌, ◌≤◌, ◌≡◌, ◌≢◌, ◌⊎◌, inl, inr, List, ◌∷◌, [], length, refl, sym, ◌∙◌, ap, subst, arith}
-use Rattle.std.specs.Prelude.{slice_index}
-use Rattle.std.proofs.lemmas.Bool.{cases_eq}
-use Rattle.hart.specs.declared.status.Status.TheVariants as status
+-- The reasons of the receiver's rows, whatever the ring: from what holds at each line to what holds where it goes
+-- on, and nearer to its next report.
+use Rattle.std.proofs.Common.{ℕ, pos, negsuc, ◌+◌, ◌*◌, ◌≡◌, ◌⊎◌, inl, List, [], ◌∷◌, Option, Some, refl, ◌∙◌, ap, append-nil, ◌-◌, ◌<◌, ◌≤◌, ◌≢◌, ◌==◌, inr, true, false, not, ◌&&◌, length, sym, subst, add-zero, arith, lit<}
+use Rattle.std.specs.Prelude.{map, slice_index}
+use Rattle.std.specs.List.{slice_get}
+use Rattle.rv_decode.specs.Meaning.{meaning, reg_of}
+use Rattle.rv_decode.specs.declared.instruction.BranchOp.TheVariants as branch
+use Rattle.rv_decode.specs.declared.instruction.ImmediateOp.TheVariants as immediate
+use Rattle.rv_decode.specs.declared.instruction.RegisterOp.TheVariants as register
+use Rattle.rv_decode.specs.declared.instruction.LoadOp.TheVariants as load
+use Rattle.rv_decode.specs.declared.instruction.StoreOp.TheVariants as store
+use Rattle.rv_decode.specs.declared.instruction.Instr.{Instr}
+use Rattle.rv_decode.specs.declared.instruction.Instr.TheVariants.{Jal, Branch, Load, Store, Immediate, Register, Ecall}
+use Rattle.hart.specs.State.{HartState}
+use Rattle.hart.specs.declared.need.Need.{Need}
 use Rattle.hart.specs.declared.need.Need.TheVariants as need
+use Rattle.hart.proofs.Instructions.{IsAt, took_need, took_after, closed_need, closed_after, exit_need, exit_after}
+use Rattle.poll_close.specs.Invariant.Blocks.{Block, offset}
+use Rattle.poll_close.specs.Invariant.ReceiverState.{Middle, Noted, whole_of, receiver_of, receiving, receives, due}
+use Rattle.poll_close.specs.Invariant.BlockMeaning.{BlockMeaning, Count, unread_of, ReceiverIs, Flag, rows_of}
+use Rattle.poll_close.proofs.Acts.{stored_by, said_by, IsNoAmo}
+use Rattle.poll_close.proofs.Lines.{Line, loads, at_line, stores, word_plus, word_minus, add_line, sum_line, load_line, store_line, jump_line, same_jumps, other_goes_on, other_jumps, same_goes_on}
+use Rattle.poll_close.proofs.BlockLaws.{Changes, Comes, Says, Nearer, Receives, BlockLaws, Runs, Right_at}
+use Rattle.std.proofs.lemmas.Bool.{cases_eq, cases_lt}
+use Rattle.std.proofs.lemmas.Bool.Decides.{nat_tests}
+use Rattle.std.proofs.lemmas.Nat.{row_fits}
+use Rattle.hart.specs.declared.status.Status.TheVariants as status
 use Rattle.hart.specs.declared.need.Report.TheVariants as report
 use Rattle.poll_close.specs.Layout.{block_size}
-use Rattle.poll_close.specs.Invariant.Blocks.{Block, offset}
-use Rattle.poll_close.specs.Invariant.ReceiverState.{Noted, whole_of}
-use Rattle.poll_close.specs.Invariant.ReceiverPlaces.{ReceiverPlace, Pc00, Pc04, Pc08, Pc0C, Pc10, Pc14, Pc18, Pc1C, Pc20, Pc24, Pc28, Pc2C, Pc30, Pc34, Pc38, Pc3C, Pc40, Pc44, Pc48, Pc4C, Pc50, Pc54, Pc58, Pc5C, Pc60, Pc64, Pc68, Pc6C, Pc70, Pc74, Pc78, Pc7C, ROver, receives, due}
-use Rattle.poll_close.specs.Invariant.BlockMeaning.{BlockMeaning, Count, Flag, Has, Taking, Closing, ReceiverIs}
-use Rattle.poll_close.proofs.Lines.{loads, stores}
-use Rattle.poll_close.proofs.ReceiverLines.{line_00, line_04, line_08, line_0C-same, line_0C-other, line_10, line_28, line_2C-same, line_2C-other, line_30, line_34, line_38, line_3C, line_40, line_44, line_48-same, line_48-other, line_4C, line_50, line_54, line_58, line_5C, line_60, line_64-same, line_64-other, line_68, line_6C, line_70-same, line_70-other, line_74, line_78, line_7C}
+use Rattle.poll_close.specs.Paces.{rest_from, runs}
+use Rattle.poll_close.specs.Plans.{is_closed}
 use Rattle.poll_close.proofs.Modulo.{offset_step, offset_wrap}
 use Rattle.poll_close.proofs.Blocks.{IsBlock, offset_low, word_of}
-use Rattle.poll_close.proofs.BlockLaws.{BlockLaws, seen_at, Changes, Finds, Stepped, Receives}
-use Rattle.poll_close.proofs.ReceiverSteps.{unchanged, still, reads}
+use Rattle.poll_close.proofs.Outlines.{found}
+use Rattle.poll_close.proofs.Distance.{flags, not_stale, far_off, arrives, wraps}
 
-module _ (m : BlockMeaning) (laws : BlockLaws m) (k : Block) (is : IsBlock k) (i count : ℕ) (base : k.base ≡ i * block_size k.size) (known : i < count) (few : count ≤ 63) (n : Count m) (order : m.Ordered k n) (word_at : ℕ → ℕ) (words : m.Words k n.landed word_at) (r : Noted) (v : ℕ) where
-  receives_00 : ReceiverIs m k i Pc00 n.receiver r → Receives m k i count Pc00 n r v
-  receives_00 h = still m k i count n order r v Pc00 Pc04 (record r { x8 = 0 }) refl (line_00 m.middle (whole_of k count) r) (h, refl)
+-- what the decoder finds: its own lines, whatever the middle
+abbrev lines_of : Middle → List (Option Instr)
+lines_of m =
+    Some (Immediate immediate.Add (reg_of 8) (reg_of 21) (pos 0)) ∷
+    Some (Immediate immediate.Add (reg_of 22) (reg_of 0) (pos 0)) ∷
+    Some (Load load.Word (reg_of 5) (reg_of 8) (pos 12)) ∷
+    Some (Branch branch.NotEqual (reg_of 5) (reg_of 0) (pos 92)) ∷
+    Some (Load load.Word (reg_of 30) (reg_of 8) (pos 4)) ∷
+    meaning m.at_14 ∷
+    meaning m.at_18 ∷
+    meaning m.at_1C ∷
+    meaning m.at_20 ∷
+    meaning m.at_24 ∷
+    Some (Immediate immediate.Add (reg_of 7) (reg_of 7) (pos 4)) ∷
+    Some (Branch branch.NotEqual (reg_of 7) (reg_of 9) (pos 8)) ∷
+    Some (Immediate immediate.Add (reg_of 7) (reg_of 0) (pos 0)) ∷
+    Some (Store store.Word (reg_of 8) (reg_of 7) (pos 8)) ∷
+    Some (Immediate immediate.Add (reg_of 10) (reg_of 22) (pos 0)) ∷
+    Some (Immediate immediate.Add (reg_of 17) (reg_of 0) (pos 2)) ∷
+    Some Ecall ∷
+    Some (Jal (reg_of 0) (pos 36)) ∷
+    Some (Branch branch.Equal (reg_of 30) (reg_of 0) (pos 32)) ∷
+    Some (Immediate immediate.Add (reg_of 5) (reg_of 0) (pos 1)) ∷
+    Some (Store store.Word (reg_of 8) (reg_of 5) (pos 12)) ∷
+    Some (Immediate immediate.Add (reg_of 10) (reg_of 22) (pos 0)) ∷
+    Some (Immediate immediate.Add (reg_of 17) (reg_of 0) (pos 3)) ∷
+    Some Ecall ∷
+    Some (Immediate immediate.Add (reg_of 20) (reg_of 20) (negsuc 0)) ∷
+    Some (Branch branch.Equal (reg_of 20) (reg_of 0) (pos 20)) ∷
+    Some (Register register.Add (reg_of 8) (reg_of 8) (reg_of 18)) ∷
+    Some (Immediate immediate.Add (reg_of 22) (reg_of 22) (pos 1)) ∷
+    Some (Branch branch.NotEqual (reg_of 8) (reg_of 19) (negsuc 103)) ∷
+    Some (Jal (reg_of 0) (negsuc 115)) ∷
+    Some (Immediate immediate.Add (reg_of 17) (reg_of 0) (pos 93)) ∷
+    Some Ecall ∷
+    []
 
-  receives_04 : ReceiverIs m k i Pc04 n.receiver r → Receives m k i count Pc04 n r v
-  receives_04 h =
-      let line = line_04 m.middle (whole_of k count) r in
-      record {
-        wanted = need.Inner;
-        there = Pc08;
-        noted = record r { x22 = 0 };
-        after = n.receiver;
-        plain = tt;
-        wants = line.wants;
-        leaves = line.leaves v;
-        changes = unchanged m k n order;
-        holds = inr (record { block = 0; known = omega arith; quiet = h.0; here = refl; index = refl; base = omega (arith, h.1) });
-        says = inl (refl, refl, refl);
-        counts = refl;
-      }
+decoded : (m : Middle) → map meaning (receiver_of m) ≡ lines_of m
+unfolding meaning
+decoded m = refl
 
-  receives_08 : ReceiverIs m k i Pc08 n.receiver r → v ≡ seen_at m k n word_at (k.base + 12) → Receives m k i count Pc08 n r v
-  receives_08 h seen =
-      reads m k i count n order r v Pc08 Pc0C (r.x8 + 12) (λ w. record r { x5 = w }) refl (line_08 m.middle (whole_of k count) r (omega (arith, is.even, h.1.base)) (omega (arith, is.inside, is.some_slot, h.1.base)) is.small)
-      (h.0, h.1, seen ∙ laws.sees_done k n word_at order words)
+module _ (m : BlockMeaning) (k : Block) (i count : ℕ) (n : Count m) (order : m.Ordered k n) (r : Noted) (v : ℕ) where
+  abbrev pub now : ℕ → Noted → HartState
+  now here noted = receives m.middle (whole_of k count) here noted
 
-  receives_0C : ReceiverIs m k i Pc0C n.receiver r → Receives m k i count Pc0C n r v
-  receives_0C h =
-      elim (cases_eq r.x5 0) [
-        | inl none ↦ still m k i count n order r v Pc0C Pc10 r refl (line_0C-same m.middle (whole_of k count) r none) (record { visits = h.1; quiet = h.0; open_yet = sym h.2 ∙ none })
-        | inr some ↦ still m k i count n order r v Pc0C Pc68 r refl (line_0C-other m.middle (whole_of k count) r some) (h.0, h.1)
-      ]
+  abbrev pub Counts : ℕ → ℕ → Noted → m.Receiver → Type 0
+  Counts here there noted after = noted.x20 + m.shut after + due here ≡ r.x20 + m.shut n.receiver + due there
 
-  -- it notes the mark that it reads
-  receives_10 : ReceiverIs m k i Pc10 n.receiver r → v ≡ seen_at m k n word_at (k.base + 4) → Receives m k i count Pc10 n r v
-  receives_10 h seen =
-      let line = line_10 m.middle (whole_of k count) r (omega (arith, is.even, h.visits.base)) (omega (arith, is.inside, is.some_slot, h.visits.base)) is.small in
-      let made = laws.reports k n (m.took n.receiver) (m.shut n.receiver) order h.quiet.level in
-      record {
-        wanted = loads (r.x8 + 4);
-        there = Pc14;
-        noted = record r { x30 = v };
-        after = made.after;
-        plain = tt;
-        wants = line.wants;
-        leaves = line.leaves v;
-        changes = made.changes;
-        holds = inl (record { visits = h.visits; quiet = record { words = made.took ∙ h.quiet.words ∙ sym made.tails; closed = made.shut ∙ h.quiet.closed ∙ sym made.dones; level = made.level }; open_yet = made.dones ∙ h.open_yet }, flag made.after made.mark (cases_eq (m.marks n.landed) 0));
-        says = inl (refl, made.took, made.shut);
-        counts = ap (λ j. r.x20 + j + 0) made.shut;
-      }
-    where
-      read : v ≡ m.marks n.landed
-      read = seen ∙ laws.sees_mark k n word_at order words
+  -- where the line is that instruction
+  pub at : (j : ℕ) {instr : Instr} → slice_get (lines_of m.middle) j ≡ Some (Some instr) → IsAt (receiving m.middle (whole_of k count) (4 * j) r) instr
+  at j is = at_line (receiving m.middle (whole_of k count) (4 * j) r) j refl (ap (λ xs. slice_get xs j) (decoded m.middle) ∙ is)
 
-      flag : (o : m.Receiver) → m.seen_mark o ≡ m.marks n.landed → (m.marks n.landed ≡ 0) ⊎ (m.marks n.landed ≢ 0) → Flag m o (record r { x30 = v })
-      flag o mark (inl none) = inl (read ∙ none)
-      flag o mark (inr some) = let one : m.marks n.landed ≡ 1 = omega (arith, laws.marks_one k n order) in inr (read ∙ one, mark ∙ one)
+  pub unchanged : Changes m k n n.receiver []
+  unchanged = record { order = order; unread = append-nil (unread_of m k n) }
 
-  receives_28 : ReceiverIs m k i Pc28 n.receiver r → Receives m k i count Pc28 n r v
-  receives_28 h = still m k i count n order r v Pc28 Pc2C (record r { x7 = r.x7 + 4 }) refl (line_28 m.middle (whole_of k count) r (omega (arith, is.inside, is.small, h.1, offset_low k is (m.tails n.receiver)))) (h.0, (let same : r.x7 + 4 ≡ offset k (m.tails n.receiver) + 4 = omega (arith, h.1) in same))
+  -- an act by a line
+  pub acts : (here there : ℕ) (wanted : Need) (noted : ℕ → Noted) (after : m.Receiver) → IsNoAmo wanted → Line (now here r) wanted (λ w. now there (noted w)) → Changes m k n after (stored_by wanted) → ReceiverIs m k i there after (noted v) ⊎ Comes m k count there after (noted v) → Says m k i n.receiver after (said_by wanted) → Counts here there (noted v) after → (said_by wanted ≡ [] → Nearer m k i count here there n r (noted v)) → Receives m k i count here n r v
+  acts here there wanted noted after plain line changes holds says counts nearer = record { wanted = wanted; there = there; noted = noted v; after = after; plain = plain; wants = line.wants; leaves = line.leaves v; changes = changes; holds = holds; says = says; counts = counts; nearer = nearer }
 
-  receives_2C : ReceiverIs m k i Pc2C n.receiver r → Receives m k i count Pc2C n r v
-  receives_2C h =
-      elim (cases_eq r.x7 (4 * k.size)) [
-        | inl same ↦ still m k i count n order r v Pc2C Pc30 r refl (line_2C-same m.middle (whole_of k count) r same) (h.0, sym h.1 ∙ same)
-        | inr other ↦ still m k i count n order r v Pc2C Pc34 r refl (line_2C-other m.middle (whole_of k count) r other) (h.0, h.1 ∙ offset_step k.size (m.tails n.receiver) (omega (arith, is.some_slot)) (λ full. other (h.1 ∙ full)))
-      ]
+  -- one inside itself
+  pub still : (here there : ℕ) (noted : Noted) → Counts here there noted n.receiver → Line (now here r) need.Inner (λ w. now there noted) → ReceiverIs m k i there n.receiver noted → Nearer m k i count here there n r noted → Receives m k i count here n r v
+  still here there noted counts line holds nearer = acts here there need.Inner (λ w. noted) n.receiver tt line unchanged (inl holds) (inl (refl, refl, refl)) counts (λ none. nearer)
 
-  receives_30 : ReceiverIs m k i Pc30 n.receiver r → Receives m k i count Pc30 n r v
-  receives_30 h = still m k i count n order r v Pc30 Pc34 (record r { x7 = 0 }) refl (line_30 m.middle (whole_of k count) r) (h.0, sym (offset_wrap k.size (m.tails n.receiver) (omega (arith, is.some_slot)) h.1))
+  -- a load
+  pub reads : (here there a : ℕ) (noted : ℕ → Noted) → Counts here there (noted v) n.receiver → Line (now here r) (loads a) (λ w. now there (noted w)) → ReceiverIs m k i there n.receiver (noted v) → Nearer m k i count here there n r (noted v) → Receives m k i count here n r v
+  reads here there a noted counts line holds nearer = acts here there (loads a) noted n.receiver tt line unchanged (inl holds) (inl (refl, refl, refl)) counts (λ none. nearer)
 
-  receives_34 : ReceiverIs m k i Pc34 n.receiver r → Receives m k i count Pc34 n r v
-  receives_34 h =
-      let line = line_34 m.middle (whole_of k count) r (omega (arith, is.even, h.0.visits.base)) (omega (arith, is.inside, is.some_slot, h.0.visits.base)) is.small in
-      let made : Stepped m k n _ _ _ _ _ = laws.stores_tail k n order h.0.filled h.0.open_yet in
-      record {
-        wanted = stores (r.x8 + 8) r.x7;
-        there = Pc38;
-        noted = r;
-        after = made.after;
-        plain = tt;
-        wants = line.wants;
-        leaves = line.leaves v;
-        changes = subst (λ (x : ℕ × ℕ). Changes m k n made.after (x ∷ [])) (ap (λ b. (b + 8, offset k (m.tails n.receiver + 1))) (sym h.0.visits.base) ∙ ap (λ o. (r.x8 + 8, o)) (sym h.1)) made.changes;
-        holds = inl (record {
+  module _ (laws : BlockLaws m) (is : IsBlock k) (base : k.base ≡ i * block_size k.size) (known : i < count) (few : count ≤ 63) (word_at : ℕ → ℕ) (words : m.Words k n.landed word_at) where
+    abbrev Right_here : ℕ → Type 0
+    Right_here here = Right_at m k i count n word_at r v here
+
+    abbrev o : m.Receiver
+    o = n.receiver
+
+    right_00 : Right_here 0x00  -- round: addi x8,x21,0
+    right_00 h z = still 0x00 0x04 (record r { x8 = 0 }) refl (add_line (at 0 refl) (word_plus 0 0 (lit< tt))) (h, refl) (λ rs states idle. omega arith)
+
+    right_04 : Right_here 0x04  -- addi x22,x0,0
+    right_04 h z =
+        acts 0x04 0x08 need.Inner (λ w. record r { x22 = 0 }) o tt (add_line (at 1 refl) (word_plus 0 0 (lit< tt))) unchanged
+        (inr (record { block = 0; known = omega arith; quiet = h.0; here = refl; index = refl; base = omega (arith, h.1) }))
+        (inl (refl, refl, refl)) refl
+        (λ none rs states idle. arrives rs count 0 (omega arith))
+
+    right_08 : Right_here 0x08  -- visit: lw x5,12(x8)
+    right_08 h z =
+        let line = load_line (at 2 refl) (omega (arith, is.even, h.1.base)) refl (omega (arith, is.inside, is.some_slot, h.1.base)) is.small in
+        let found = z.find (k.base + 12) (word_of k is 12 (omega arith) refl) (line.wants ∙ ap (λ b. loads (b + 12)) h.1.base) in
+        reads 0x08 0x0C (r.x8 + 12) (λ w. record r { x5 = w }) refl line
+        (h.0, h.1, found ∙ laws.sees_done k n word_at order words)
+        (λ rs states idle. flags 16 17 21 22 (is_closed rs r.x22) (is_closed rs r.x22) (omega arith) (far_off rs count (r.x22 + 1)) (λ on. on))
+
+    right_0C : Right_here 0x0C  -- bne x5,x0,step
+    right_0C h z =
+        elim (cases_eq r.x5 0) [
+          | inl none ↦ still 0x0C 0x10 r refl (same_goes_on (at 3 refl) none) (record { visits = h.1; quiet = h.0; open_yet = sym h.2 ∙ none })
+              (λ rs states idle. flags 0 16 20 21 false (is_closed rs r.x22) (omega arith) (far_off rs count (r.x22 + 1)) (λ on. cc))
+          | inr some ↦ still 0x0C 0x68 r refl (other_jumps (at 3 refl) some refl) (h.0, h.1)
+              (λ rs states idle. flags 10 16 20 21 true (is_closed rs r.x22) (omega arith) (far_off rs count (r.x22 + 1)) (λ on. idle.shut h.1.index (λ zero_is. some (h.2 ∙ sym h.0.closed ∙ zero_is))))
+        ]
+
+    -- it notes the mark that it reads
+    right_10 : Right_here 0x10  -- lw x30,4(x8)
+    right_10 h z =
+        let line = load_line (at 4 refl) (omega (arith, is.even, h.visits.base)) refl (omega (arith, is.inside, is.some_slot, h.visits.base)) is.small in
+        let read : v ≡ m.marks n.landed = z.find (k.base + 4) (word_of k is 4 (omega arith) refl) (line.wants ∙ ap (λ b. loads (b + 4)) h.visits.base) ∙ laws.sees_mark k n word_at order words in
+        let made = laws.reports k n (m.took o) (m.shut o) order h.quiet.level (laws.shut_done k n order) in
+        acts 0x10 0x14 (loads (r.x8 + 4)) (λ w. record r { x30 = w }) made.after tt line made.changes
+        (inl (record { visits = h.visits; quiet = record { words = made.took ∙ h.quiet.words ∙ sym made.tails; closed = made.shut ∙ h.quiet.closed ∙ sym made.dones; level = made.level }; open_yet = made.dones ∙ h.open_yet }, flag read made.after made.mark (cases_eq (m.marks n.landed) 0)))
+        (inl (refl, made.took, made.shut)) (ap (λ j. r.x20 + j + 0) made.shut)
+        (λ none rs states idle. (let fresh = not_stale v (not (runs (states (r.x22 + 1)))) (λ ended. read ∙ idle.marked h.visits.index ended) in
+        flags 16 17 19 20 ((v == 0) && not (runs (states (r.x22 + 1)))) false (omega arith) (far_off rs count (r.x22 + 1)) (λ on. sym fresh ∙ on)))
+      where
+        flag : v ≡ m.marks n.landed → (new : m.Receiver) → m.seen_mark new ≡ m.marks n.landed → (m.marks n.landed ≡ 0) ⊎ (m.marks n.landed ≢ 0) → Flag m new v
+        flag read new mark (inl none) = inl (read ∙ none)
+        flag read new mark (inr some) = let one : m.marks n.landed ≡ 1 = omega (arith, laws.marks_one k n order) in inr (read ∙ one, mark ∙ one)
+
+    right_28 : Right_here 0x28  -- addi x7,x7,4
+    right_28 h z =
+        still 0x28 0x2C (record r { x7 = r.x7 + 4 }) refl (add_line (at 10 refl) (word_plus r.x7 4 (omega (arith, is.inside, is.small, h.1, offset_low k is (m.tails o)))))
+        (h.0, (let same : r.x7 + 4 ≡ offset k (m.tails o) + 4 = omega (arith, h.1) in same))
+        (λ rs states idle. omega arith)
+
+    right_2C : Right_here 0x2C  -- bne x7,x9,keep
+    right_2C h z =
+        elim (cases_eq r.x7 (4 * k.size)) [
+          | inl same ↦ still 0x2C 0x30 r refl (same_goes_on (at 11 refl) same) (h.0, sym h.1 ∙ same) (λ rs states idle. omega arith)
+          | inr other ↦ still 0x2C 0x34 r refl (other_jumps (at 11 refl) other refl) (h.0, h.1 ∙ offset_step k.size (m.tails o) (omega (arith, is.some_slot)) (λ full. other (h.1 ∙ full))) (λ rs states idle. omega arith)
+        ]
+
+    right_30 : Right_here 0x30  -- addi x7,x0,0
+    right_30 h z = still 0x30 0x34 (record r { x7 = 0 }) refl (add_line (at 12 refl) (word_plus 0 0 (lit< tt))) (h.0, sym (offset_wrap k.size (m.tails o) (omega (arith, is.some_slot)) h.1)) (λ rs states idle. omega arith)
+
+    right_34 : Right_here 0x34  -- keep: sw x7,8(x8)
+    right_34 h z =
+        let line = store_line (at 13 refl) (omega (arith, is.even, h.0.visits.base)) refl (omega (arith, is.inside, is.some_slot, h.0.visits.base)) is.small in
+        let made = laws.stores_tail k n order h.0.filled h.0.open_yet in
+        acts 0x34 0x38 (stores (r.x8 + 8) r.x7) (λ w. r) made.after tt line
+        (subst (λ (x : ℕ × ℕ). Changes m k n made.after (x ∷ [])) (ap (λ b. (b + 8, offset k (m.tails o + 1))) (sym h.0.visits.base) ∙ ap (λ j. (r.x8 + 8, j)) (sym h.1)) made.changes)
+        (inl (record {
           visits = h.0.visits;
           level = made.level;
           ahead = made.tails ∙ ap (λ j. j + 1) (sym h.0.ahead) ∙ ap (λ j. j + 1) (sym made.took);
           closed = made.shut ∙ h.0.closed ∙ sym made.dones;
           open_yet = made.dones ∙ h.0.open_yet;
           word = h.0.word ∙ ap (slice_index k.list) (sym h.0.ahead ∙ sym made.took);
-        });
-        says = inl (refl, made.took, made.shut);
-        counts = ap (λ j. r.x20 + j + 0) made.shut;
-      }
+        }))
+        (inl (refl, made.took, made.shut)) (ap (λ j. r.x20 + j + 0) made.shut) (λ none rs states idle. omega arith)
 
-  receives_38 : ReceiverIs m k i Pc38 n.receiver r → Receives m k i count Pc38 n r v
-  receives_38 h = still m k i count n order r v Pc38 Pc3C (record r { x10 = r.x22 }) refl (line_38 m.middle (whole_of k count) r (omega (arith, h.visits.index))) (h, h.visits.index)
+    right_38 : Right_here 0x38  -- addi x10,x22,0
+    right_38 h z = still 0x38 0x3C (record r { x10 = r.x22 }) refl (add_line (at 14 refl) (word_plus r.x22 0 (omega (arith, h.visits.index, known, few)) ∙ add-zero r.x22)) (h, h.visits.index) (λ rs states idle. omega arith)
 
-  receives_3C : ReceiverIs m k i Pc3C n.receiver r → Receives m k i count Pc3C n r v
-  receives_3C h = still m k i count n order r v Pc3C Pc40 (record r { x17 = 2 }) refl (line_3C m.middle (whole_of k count) r) (h.0, h.1, refl)
+    right_3C : Right_here 0x3C  -- addi x17,x0,2
+    right_3C h z = still 0x3C 0x40 (record r { x17 = 2 }) refl (add_line (at 15 refl) (word_plus 0 2 (lit< tt))) (h.0, h.1, refl) (λ rs states idle. omega arith)
 
-  receives_40 : ReceiverIs m k i Pc40 n.receiver r → Receives m k i count Pc40 n r v
-  receives_40 h =
-      let line = line_40 m.middle (whole_of k count) r h.2 in
-      let made : Stepped m k n _ _ _ _ _ = laws.reports k n (m.took n.receiver + 1) (m.shut n.receiver) order h.0.level in
-      record {
-        wanted = need.Report (report.Took r.x10 r.x11);
-        there = Pc44;
-        noted = r;
-        after = made.after;
-        plain = tt;
-        wants = line.wants;
-        leaves = line.leaves v;
-        changes = made.changes;
-        holds = inl (record { words = made.took ∙ sym h.0.ahead ∙ sym made.tails; closed = made.shut ∙ h.0.closed ∙ sym made.dones; level = made.level }, h.0.visits);
-        says = inr (inl (rw (h.1, h.0.word) refl, made.took, made.shut, omega (arith, h.0.ahead, laws.tails_all k n order), h.0.closed ∙ h.0.open_yet));
-        counts = ap (λ j. r.x20 + j + 0) made.shut;
-      }
+    right_40 : Right_here 0x40  -- ecall
+    right_40 h z =
+        let made = laws.reports k n (m.took o + 1) (m.shut o) order h.0.level (laws.shut_done k n order) in
+        acts 0x40 0x44 (need.Report (report.Took r.x10 r.x11)) (λ w. r) made.after tt (record { wants = took_need (at 16 refl) h.2; leaves = λ w. took_after (at 16 refl) h.2 w }) made.changes
+        (inl (record { words = made.took ∙ sym h.0.ahead ∙ sym made.tails; closed = made.shut ∙ h.0.closed ∙ sym made.dones; level = made.level }, h.0.visits))
+        (inr (inl (rw (h.1, h.0.word) refl, made.took, made.shut, omega (arith, h.0.ahead, laws.tails_all k n order), h.0.closed ∙ h.0.open_yet)))
+        (ap (λ j. r.x20 + j + 0) made.shut) (λ none rs states idle. cc)
 
-  receives_44 : ReceiverIs m k i Pc44 n.receiver r → Receives m k i count Pc44 n r v
-  receives_44 h = still m k i count n order r v Pc44 Pc68 r refl (line_44 m.middle (whole_of k count) r) h
+    right_44 : Right_here 0x44  -- jal x0,step
+    right_44 h z = still 0x44 0x68 r refl (jump_line (at 17 refl) refl) h (λ rs states idle. omega arith)
 
-  receives_48 : ReceiverIs m k i Pc48 n.receiver r → Receives m k i count Pc48 n r v
-  receives_48 h =
-      elim (cases_eq r.x30 0) [
-        | inl none ↦ still m k i count n order r v Pc48 Pc68 r refl (line_48-same m.middle (whole_of k count) r none) (h.0.quiet, h.0.visits)
-        | inr some ↦ still m k i count n order r v Pc48 Pc4C r refl (line_48-other m.middle (whole_of k count) r some) (h.0, all some h.1)
-      ]
-    where
-      all : r.x30 ≢ 0 → (r.x30 ≡ 0) ⊎ (m.tails n.receiver ≡ length k.list) → m.tails n.receiver ≡ length k.list
-      all some (inl none) = absurd (some none)
-      all some (inr whole) = whole
+    right_48 : Right_here 0x48  -- empty: beq x30,x0,step
+    right_48 h z =
+        elim (cases_eq r.x30 0) [
+          | inl none ↦ still 0x48 0x68 r refl (same_jumps (at 18 refl) none refl) (h.0.quiet, h.0.visits)
+              (λ rs states idle. flags 10 11 13 14 true (r.x30 == 0) (omega arith) (far_off rs count (r.x22 + 1)) (λ on. grind (arith, nat_tests)))
+          | inr some ↦ still 0x48 0x4C r refl (other_goes_on (at 18 refl) some) (h.0, all some h.1)
+              (λ rs states idle. flags 0 11 13 14 false (r.x30 == 0) (omega arith) (far_off rs count (r.x22 + 1)) (λ on. cc))
+        ]
+      where
+        all : r.x30 ≢ 0 → (r.x30 ≡ 0) ⊎ (m.tails o ≡ length k.list) → m.tails o ≡ length k.list
+        all some (inl none) = absurd (some none)
+        all some (inr whole) = whole
 
-  receives_4C : ReceiverIs m k i Pc4C n.receiver r → Receives m k i count Pc4C n r v
-  receives_4C h = still m k i count n order r v Pc4C Pc50 (record r { x5 = 1 }) refl (line_4C m.middle (whole_of k count) r) (h.0, h.1, refl)
+    right_4C : Right_here 0x4C  -- addi x5,x0,1
+    right_4C h z = still 0x4C 0x50 (record r { x5 = 1 }) refl (add_line (at 19 refl) (word_plus 0 1 (lit< tt))) (h.0, h.1, refl) (λ rs states idle. omega arith)
 
-  receives_50 : ReceiverIs m k i Pc50 n.receiver r → Receives m k i count Pc50 n r v
-  receives_50 h =
-      let line = line_50 m.middle (whole_of k count) r (omega (arith, is.even, h.0.visits.base)) (omega (arith, is.inside, is.some_slot, h.0.visits.base)) is.small in
-      let made : Stepped m k n _ _ _ _ _ = laws.stores_done k n order h.0.quiet.level h.1 h.0.open_yet in
-      record {
-        wanted = stores (r.x8 + 12) r.x5;
-        there = Pc54;
-        noted = r;
-        after = made.after;
-        plain = tt;
-        wants = line.wants;
-        leaves = line.leaves v;
-        changes = subst (λ (x : ℕ × ℕ). Changes m k n made.after (x ∷ [])) (ap (λ b. (b + 12, 1)) (sym h.0.visits.base) ∙ ap (λ o. (r.x8 + 12, o)) (sym h.2)) made.changes;
-        holds = inl (record { visits = h.0.visits; level = made.level; words = made.took ∙ h.0.quiet.words ∙ sym made.tails; all = made.tails ∙ h.1; done = made.dones; unsaid = made.shut ∙ h.0.quiet.closed ∙ h.0.open_yet });
-        says = inl (refl, made.took, made.shut);
-        counts = ap (λ j. r.x20 + j + 0) made.shut;
-      }
+    right_50 : Right_here 0x50  -- sw x5,12(x8)
+    right_50 h z =
+        let line = store_line (at 20 refl) (omega (arith, is.even, h.0.visits.base)) refl (omega (arith, is.inside, is.some_slot, h.0.visits.base)) is.small in
+        let made = laws.stores_done k n order h.0.quiet.level h.1 h.0.open_yet in
+        acts 0x50 0x54 (stores (r.x8 + 12) r.x5) (λ w. r) made.after tt line
+        (subst (λ (x : ℕ × ℕ). Changes m k n made.after (x ∷ [])) (ap (λ b. (b + 12, 1)) (sym h.0.visits.base) ∙ ap (λ j. (r.x8 + 12, j)) (sym h.2)) made.changes)
+        (inl (record { visits = h.0.visits; level = made.level; words = made.took ∙ h.0.quiet.words ∙ sym made.tails; all = made.tails ∙ h.1; done = made.dones; unsaid = made.shut ∙ h.0.quiet.closed ∙ h.0.open_yet }))
+        (inl (refl, made.took, made.shut)) (ap (λ j. r.x20 + j + 0) made.shut) (λ none rs states idle. omega arith)
 
-  receives_54 : ReceiverIs m k i Pc54 n.receiver r → Receives m k i count Pc54 n r v
-  receives_54 h = still m k i count n order r v Pc54 Pc58 (record r { x10 = r.x22 }) refl (line_54 m.middle (whole_of k count) r (omega (arith, h.visits.index))) (h, h.visits.index)
+    right_54 : Right_here 0x54  -- addi x10,x22,0
+    right_54 h z = still 0x54 0x58 (record r { x10 = r.x22 }) refl (add_line (at 21 refl) (word_plus r.x22 0 (omega (arith, h.visits.index, known, few)) ∙ add-zero r.x22)) (h, h.visits.index) (λ rs states idle. omega arith)
 
-  receives_58 : ReceiverIs m k i Pc58 n.receiver r → Receives m k i count Pc58 n r v
-  receives_58 h = still m k i count n order r v Pc58 Pc5C (record r { x17 = 3 }) refl (line_58 m.middle (whole_of k count) r) (h.0, h.1, refl)
+    right_58 : Right_here 0x58  -- addi x17,x0,3
+    right_58 h z = still 0x58 0x5C (record r { x17 = 3 }) refl (add_line (at 22 refl) (word_plus 0 3 (lit< tt))) (h.0, h.1, refl) (λ rs states idle. omega arith)
 
-  receives_5C : ReceiverIs m k i Pc5C n.receiver r → Receives m k i count Pc5C n r v
-  receives_5C h =
-      let line = line_5C m.middle (whole_of k count) r h.2 in
-      let made : Stepped m k n _ _ _ _ _ = laws.reports k n (m.took n.receiver) 1 order h.0.level in
-      record {
-        wanted = need.Report (report.Closed r.x10);
-        there = Pc60;
-        noted = r;
-        after = made.after;
-        plain = tt;
-        wants = line.wants;
-        leaves = line.leaves v;
-        changes = made.changes;
-        holds = inl (record { words = made.took ∙ h.0.words ∙ sym made.tails; closed = made.shut ∙ sym h.0.done ∙ sym made.dones; level = made.level }, h.0.visits);
-        says = inr (inr (rw h.1 refl, made.took, made.shut, h.0.words ∙ h.0.all, h.0.unsaid));
-        counts = omega (arith, h.0.unsaid, made.shut);
-      }
+    right_5C : Right_here 0x5C  -- ecall
+    right_5C h z =
+        let made = laws.reports k n (m.took o) 1 order h.0.level (omega (arith, h.0.done)) in
+        acts 0x5C 0x60 (need.Report (report.Closed r.x10)) (λ w. r) made.after tt (record { wants = closed_need (at 23 refl) h.2; leaves = λ w. closed_after (at 23 refl) h.2 w }) made.changes
+        (inl (record { words = made.took ∙ h.0.words ∙ sym made.tails; closed = made.shut ∙ sym h.0.done ∙ sym made.dones; level = made.level }, h.0.visits))
+        (inr (inr (rw h.1 refl, made.took, made.shut, h.0.words ∙ h.0.all, h.0.unsaid)))
+        (omega (arith, h.0.unsaid, made.shut)) (λ none rs states idle. cc)
 
-  receives_60 : ReceiverIs m k i Pc60 n.receiver r → (y : ℕ) → r.x20 ≡ y + 1 → r.x20 ≤ 64 → Receives m k i count Pc60 n r v
-  receives_60 h y one small = still m k i count n order r v Pc60 Pc64 (record r { x20 = y }) (omega (arith, one)) (line_60 m.middle (whole_of k count) r y one (omega (arith, one, small))) (h.0, h.1)
+    right_60 : Right_here 0x60  -- addi x20,x20,-1
+    right_60 h z =
+        let one : r.x20 ≡ r.x20 - 1 + 1 = omega (arith, z.owed) in
+        still 0x60 0x64 (record r { x20 = r.x20 - 1 }) (omega (arith, one)) (add_line (at 24 refl) (word_minus r.x20 (r.x20 - 1) one (omega (arith, one, z.small)))) (h.0, h.1) (λ rs states idle. omega arith)
 
-  receives_64 : ReceiverIs m k i Pc64 n.receiver r → Receives m k i count Pc64 n r v
-  receives_64 h =
-      elim (cases_eq r.x20 0) [
-        | inl none ↦ still m k i count n order r v Pc64 Pc78 r refl (line_64-same m.middle (whole_of k count) r none) (h.0, none)
-        | inr some ↦ still m k i count n order r v Pc64 Pc68 r refl (line_64-other m.middle (whole_of k count) r some) h
-      ]
+    right_64 : Right_here 0x64  -- beq x20,x0,quit
+    right_64 h z =
+        elim (cases_eq r.x20 0) [
+          | inl none ↦ still 0x64 0x78 r refl (same_jumps (at 25 refl) none refl) (h.0, none) (λ rs states idle. omega arith)
+          | inr some ↦ still 0x64 0x68 r refl (other_goes_on (at 25 refl) some) h (λ rs states idle. omega arith)
+        ]
 
-  receives_68 : ReceiverIs m k i Pc68 n.receiver r → Receives m k i count Pc68 n r v
-  receives_68 h = still m k i count n order r v Pc68 Pc6C (record r { x8 = r.x8 + block_size k.size }) refl (line_68 m.middle (whole_of k count) r (omega (arith, h.1.base, is.inside, is.wide, is.some_slot))) (h.0, h.1.index, (let same : r.x8 + block_size k.size ≡ k.base + block_size k.size = omega (arith, h.1.base) in same))
+    right_68 : Right_here 0x68  -- step: add x8,x8,x18
+    right_68 h z =
+        still 0x68 0x6C (record r { x8 = r.x8 + block_size k.size }) refl (sum_line (at 26 refl) (omega (arith, h.1.base, is.inside, is.wide, is.some_slot)))
+        (h.0, h.1.index, (let same : r.x8 + block_size k.size ≡ k.base + block_size k.size = omega (arith, h.1.base) in same))
+        (λ rs states idle. omega arith)
 
-  receives_6C : ReceiverIs m k i Pc6C n.receiver r → Receives m k i count Pc6C n r v
-  receives_6C h = still m k i count n order r v Pc6C Pc70 (record r { x22 = r.x22 + 1 }) refl (line_6C m.middle (whole_of k count) r (omega (arith, h.1, known, few))) (h.0, (let same : r.x22 + 1 ≡ i + 1 = omega (arith, h.1) in same), h.2)
+    right_6C : Right_here 0x6C  -- addi x22,x22,1
+    right_6C h z =
+        still 0x6C 0x70 (record r { x22 = r.x22 + 1 }) refl (add_line (at 27 refl) (word_plus r.x22 1 (omega (arith, h.1, known, few))))
+        (h.0, (let same : r.x22 + 1 ≡ i + 1 = omega (arith, h.1) in same), h.2)
+        (λ rs states idle. (let rest : rest_from rs count (r.x22 + 1 - 1 + 1) ≡ rest_from rs count (r.x22 + 1) = ap (λ j. rest_from rs count (j + 1)) {x = r.x22 + 1 - 1} (omega arith) in omega (arith, rest)))
 
-  receives_70 : ReceiverIs m k i Pc70 n.receiver r → Receives m k i count Pc70 n r v
-  receives_70 h =
-      elim (cases_eq r.x8 (count * block_size k.size)) [
-        | inl same ↦ still m k i count n order r v Pc70 Pc74 r refl (line_70-same m.middle (whole_of k count) r same) h.0
-        | inr other ↦
-            let line = line_70-other m.middle (whole_of k count) r other in
-            record {
-              wanted = need.Inner;
-              there = Pc08;
-              noted = r;
-              after = n.receiver;
-              plain = tt;
-              wants = line.wants;
-              leaves = line.leaves v;
-              changes = unchanged m k n order;
-              holds = inr (record { block = i + 1; known = more other (cases_eq (i + 1) count); quiet = h.0; here = refl; index = h.1; base = h.2 ∙ next });
-              says = inl (refl, refl, refl);
-              counts = refl;
-            }
-      ]
-    where
-      next : k.base + block_size k.size ≡ (i + 1) * block_size k.size
-      next = omega (arith, base)
+    right_70 : Right_here 0x70  -- bne x8,x19,visit
+    right_70 h z =
+        elim (cases_eq r.x8 (count * block_size k.size)) [
+          | inl same ↦ still 0x70 0x74 r refl (same_goes_on (at 28 refl) same) h.0
+              (λ rs states idle. (let over : rest_from rs count (r.x22 - 1 + 1) ≡ rest_from rs count count = ap (rest_from rs count) {x = r.x22 - 1 + 1} (omega (arith, at_end same, h.1)) in omega (arith, over, wraps rs count idle.open_yet)))
+          | inr other ↦ acts 0x70 0x08 need.Inner (λ w. r) o tt (other_jumps (at 28 refl) other refl) unchanged
+              (inr (record { block = i + 1; known = more other (cases_eq (i + 1) count); quiet = h.0; here = refl; index = h.1; base = h.2 ∙ next }))
+              (inl (refl, refl, refl)) refl
+              (λ none rs states idle. (let rest : rest_from rs count (r.x22 - 1 + 1) ≡ rest_from rs count r.x22 = ap (rest_from rs count) {x = r.x22 - 1 + 1} (omega (arith, h.1)) in omega (arith, rest, arrives rs count r.x22 (omega (arith, h.1, more other (cases_eq (i + 1) count))))))
+        ]
+      where
+        next : k.base + block_size k.size ≡ (i + 1) * block_size k.size
+        next = omega (arith, base)
 
-      more : r.x8 ≢ count * block_size k.size → (i + 1 ≡ count) ⊎ (i + 1 ≢ count) → i + 1 < count
-      more other (inl last) = absurd (other (h.2 ∙ next ∙ ap (λ j. j * block_size k.size) last))
-      more other (inr less) = omega (arith, known)
+        at_end : r.x8 ≡ count * block_size k.size → i + 1 ≡ count
+        at_end same =
+            elim (cases_lt (i + 1) count) [
+              | inl less ↦ let below : (i + 1) * block_size k.size + block_size k.size ≤ count * block_size k.size = row_fits (i + 1) (block_size k.size) count (block_size k.size) less (omega arith) in absurd (omega (arith, below, same, h.2, next))
+              | inr past ↦ omega (arith, known)
+            ]
 
-  receives_74 : ReceiverIs m k i Pc74 n.receiver r → Receives m k i count Pc74 n r v
-  receives_74 h = still m k i count n order r v Pc74 Pc00 r refl (line_74 m.middle (whole_of k count) r) h
+        more : r.x8 ≢ count * block_size k.size → (i + 1 ≡ count) ⊎ (i + 1 ≢ count) → i + 1 < count
+        more other (inl last) = absurd (other (h.2 ∙ next ∙ ap (λ j. j * block_size k.size) last))
+        more other (inr less) = omega (arith, known)
 
-  receives_78 : ReceiverIs m k i Pc78 n.receiver r → Receives m k i count Pc78 n r v
-  receives_78 h = still m k i count n order r v Pc78 Pc7C (record r { x17 = 93 }) refl (line_78 m.middle (whole_of k count) r) (h.0, refl, h.1)
+    right_74 : Right_here 0x74  -- jal x0,round
+    right_74 h z = still 0x74 0x00 r refl (jump_line (at 29 refl) refl) h (λ rs states idle. omega arith)
 
-  receives_7C : ReceiverIs m k i Pc7C n.receiver r → Receives m k i count Pc7C n r v
-  receives_7C h =
-      let line = line_7C m.middle (whole_of k count) r h.1 in
-      record {
-        wanted = need.Exit;
-        there = ROver;
-        noted = r;
-        after = n.receiver;
-        plain = tt;
-        wants = line.wants;
-        leaves = line.leaves v;
-        changes = unchanged m k n order;
-        holds = inl (h.0, h.2);
-        says = inl (refl, refl, refl);
-        counts = refl;
-      }
+    right_78 : Right_here 0x78  -- quit: addi x17,x0,93
+    right_78 h z = still 0x78 0x7C (record r { x17 = 93 }) refl (add_line (at 30 refl) (word_plus 0 93 (lit< tt))) (h.0, refl, h.1) (λ rs states idle. omega arith)
 
-  -- wherever it runs, it moves, by what it finds in the block that it visits
-  pub receives_on : (here : ReceiverPlace) → (receives m.middle (whole_of k count) here r).status ≡ status.Running → Finds m k count here n word_at r v → due here ≤ r.x20 → r.x20 ≤ 64 → ReceiverIs m k i here n.receiver r → Receives m k i count here n r v
-  receives_on Pc00 runs find owed small h = receives_00 h
-  receives_on Pc04 runs find owed small h = receives_04 h
-  receives_on Pc08 runs find owed small h = receives_08 h (find (k.base + 12) (word_of k is 12 (omega arith) refl) ((line_08 m.middle (whole_of k count) r (omega (arith, is.even, h.1.base)) (omega (arith, is.inside, is.some_slot, h.1.base)) is.small).wants ∙ ap (λ b. loads (b + 12)) h.1.base))
-  receives_on Pc0C runs find owed small h = receives_0C h
-  receives_on Pc10 runs find owed small h = receives_10 h (find (k.base + 4) (word_of k is 4 (omega arith) refl) ((line_10 m.middle (whole_of k count) r (omega (arith, is.even, h.visits.base)) (omega (arith, is.inside, is.some_slot, h.visits.base)) is.small).wants ∙ ap (λ b. loads (b + 4)) h.visits.base))
-  receives_on Pc14 runs find owed small h = laws.moves_14 k i count n word_at r v is order words find h
-  receives_on Pc18 runs find owed small h = laws.moves_18 k i count n word_at r v is order words find h
-  receives_on Pc1C runs find owed small h = laws.moves_1C k i count n word_at r v is order words find h
-  receives_on Pc20 runs find owed small h = laws.moves_20 k i count n word_at r v is order words find h
-  receives_on Pc24 runs find owed small h = laws.moves_24 k i count n word_at r v is order words find h
-  receives_on Pc28 runs find owed small h = receives_28 h
-  receives_on Pc2C runs find owed small h = receives_2C h
-  receives_on Pc30 runs find owed small h = receives_30 h
-  receives_on Pc34 runs find owed small h = receives_34 h
-  receives_on Pc38 runs find owed small h = receives_38 h
-  receives_on Pc3C runs find owed small h = receives_3C h
-  receives_on Pc40 runs find owed small h = receives_40 h
-  receives_on Pc44 runs find owed small h = receives_44 h
-  receives_on Pc48 runs find owed small h = receives_48 h
-  receives_on Pc4C runs find owed small h = receives_4C h
-  receives_on Pc50 runs find owed small h = receives_50 h
-  receives_on Pc54 runs find owed small h = receives_54 h
-  receives_on Pc58 runs find owed small h = receives_58 h
-  receives_on Pc5C runs find owed small h = receives_5C h
-  receives_on Pc60 runs find owed small h = receives_60 h (r.x20 - 1) (omega (arith, owed)) small
-  receives_on Pc64 runs find owed small h = receives_64 h
-  receives_on Pc68 runs find owed small h = receives_68 h
-  receives_on Pc6C runs find owed small h = receives_6C h
-  receives_on Pc70 runs find owed small h = receives_70 h
-  receives_on Pc74 runs find owed small h = receives_74 h
-  receives_on Pc78 runs find owed small h = receives_78 h
-  receives_on Pc7C runs find owed small h = receives_7C h
-  receives_on ROver runs find owed small h = cc
+    right_7C : Right_here 0x7C  -- ecall
+    right_7C h z =
+        acts 0x7C 0x80 need.Exit (λ w. r) o tt (record { wants = exit_need (at 31 refl) h.1; leaves = λ w. exit_after (at 31 refl) h.1 w }) unchanged
+        (inl (h.0, h.2)) (inl (refl, refl, refl)) refl (λ none rs states idle. omega arith)
+
+    right_80 : Right_here 0x80
+    right_80 h z = let bad : status.Ended ≡ status.Running = z.runs in cc
+
+    -- wherever it runs, it moves, by what it finds in the block that it visits
+    pub receives_on : (here : ℕ) → Right_here here
+    receives_on = found (λ (H : Block → ℕ → m.Receiver → Noted → Type 0). H k i o r) (λ here. Runs m k count here n word_at r v → Receives m k i count here n r v) (rows_of m) (
+      right_00,
+      (
+        right_04,
+        (
+          right_08,
+          (
+            right_0C,
+            (
+              right_10,
+              (
+                laws.moves_14 k i count n word_at r v is order words,
+                (
+                  right_28,
+                  (
+                    right_2C,
+                    (
+                      right_30,
+                      (
+                        right_34,
+                        (
+                          right_38,
+                          (
+                            right_3C,
+                            (
+                              right_40,
+                              (
+                                right_44,
+                                (
+                                  right_48,
+                                  (
+                                    right_4C,
+                                    (right_50, (right_54, (right_58, (right_5C, (right_60, (right_64, (right_68, (right_6C, (right_70, (right_74, (right_78, (right_7C, (right_80, laws.moves k i count n word_at r v is order words))))))))))))),
+                                  ),
+                                ),
+                              ),
+                            ),
+                          ),
+                        ),
+                      ),
+                    ),
+                  ),
+                ),
+              ),
+            ),
+          ),
+        ),
+      ),
+    )

@@ -1,11 +1,10 @@
 -- What holds of the receiver goes on holding as others act and stores land.
-use Rattle.std.proofs.Common.{ℕ, zero, suc, ◌+◌, ◌<◌, ◌≤◌, ◌≡◌, ◌⊎◌, inl, inr, refl, List, [], length, take, sym, ◌∙◌, ap, subst, arith}
-use Rattle.std.specs.Prelude.{slice_index}
-use Rattle.std.specs.List.{slice_get, slice_index_or}
+use Rattle.std.proofs.Common.{ℕ, zero, suc, ◌<◌, ◌≡◌, refl, List, [], length, sym, ◌∙◌, ap, subst, arith}
+use Rattle.std.specs.List.{slice_index_or}
 use Rattle.hart.specs.declared.need.Report.{Report}
 use Rattle.step_machine.specs.History.{History}
 use Rattle.step_machine.specs.Paths.{state_of}
-use Rattle.poll_close.specs.Reports.{taken, Clean}
+use Rattle.poll_close.specs.Reports.{Clean}
 use Rattle.poll_close.specs.Invariant.Blocks.{block_of}
 use Rattle.poll_close.specs.Invariant.BlockMeaning.{BlockMeaning, Count, Quiet, ReceiverIs}
 use Rattle.poll_close.specs.Invariant.Channels.{ReceiverPart, ReportsOf, ReportPart, shuts}

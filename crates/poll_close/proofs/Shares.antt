@@ -10,10 +10,8 @@ use Rattle.hart.specs.State.{HartState}
 use Rattle.hart.specs.declared.need.Report.{Report}
 use Rattle.hart.specs.declared.need.Report.TheVariants as report
 use Rattle.poll_close.specs.Reports.{taken, sender_of, Clean}
-use Rattle.poll_close.specs.Paces.{Pace, some_open, rest_from, visited_by, runs, far_of, far_if, sender_if, one_if, share, total, round, left_in, far_at}
+use Rattle.poll_close.specs.Paces.{Pace, some_open, rest_from, visited_by, far_of, far_if, sender_if, one_if, share, total, round, left_in, Around, around}
 use Rattle.poll_close.specs.Plans.{is_closed, all_closed}
-use Rattle.poll_close.specs.Invariant.ReceiverState.{Middle, Noted, Whole, receiving}
-use Rattle.poll_close.specs.Invariant.ReceiverPlaces.{ReceiverPlace, Pc04, Pc70, receives, Pc00, Pc08, Pc0C, Pc10, Pc14, Pc18, Pc1C, Pc20, Pc24, Pc28, Pc2C, Pc30, Pc34, Pc38, Pc3C, Pc40, Pc44, Pc48, Pc4C, Pc50, Pc54, Pc58, Pc5C, Pc60, Pc64, Pc68, Pc6C, Pc74, Pc78, Pc7C, ROver}
 use Rattle.poll_close.specs.Invariant.BlockMeaning.{BlockMeaning, Count}
 use Rattle.poll_close.specs.Invariant.Channels.{shuts}
 use Rattle.poll_close.proofs.Windows.{get_end}
@@ -21,54 +19,6 @@ use Rattle.poll_close.proofs.CleanReports.{taken-took, taken-closed, get_front}
 use Rattle.poll_close.proofs.ReceiverActs.{shuts_most}
 use Rattle.poll_close.proofs.Planning.{closed_at}
 use Rattle.poll_close.proofs.Distance.{not_far}
-
--- it is never further away than a round
-module _ (p : Pace) (mid : Middle) (f : Whole) (r : Noted) (T size : ℕ) (sh E : Bool) (rest start : ℕ) where
-  abbrev Far : ReceiverPlace → Type 0
-  Far here = far_at p (receives mid f here r) T size sh E rest start ≤ 22 + rest + start
-
-  by_three : (a : ℕ) (b : Bool) → a ≤ 19 → a + (if b then rest else 3) ≤ 22 + rest + start
-  by_three a true less = omega arith
-  by_three a false less = omega arith
-
-  by_two : (a c : ℕ) (b : Bool) → a ≤ 22 → c ≤ 22 → (if b then a + rest else c) ≤ 22 + rest + start
-  by_two a c true one two = omega arith
-  by_two a c false one two = omega arith
-
-  pub far_most : (here : ReceiverPlace) → Far here
-  far_most Pc08 = by_two 17 22 sh (omega arith) (omega arith)
-  far_most Pc0C = by_two 16 21 sh (omega arith) (omega arith)
-  far_most Pc14 = by_three 16 (p.stale (receiving mid f 0x14 r) T size E) (omega arith)
-  far_most Pc18 = by_three 15 (p.stale (receiving mid f 0x18 r) T size E) (omega arith)
-  far_most Pc1C = by_three 14 (p.stale (receiving mid f 0x1C r) T size E) (omega arith)
-  far_most Pc20 = by_three 13 (p.stale (receiving mid f 0x20 r) T size E) (omega arith)
-  far_most Pc24 = by_three 12 (p.stale (receiving mid f 0x24 r) T size E) (omega arith)
-  far_most Pc48 = by_two 11 14 (r.x30 == 0) (omega arith) (omega arith)
-  far_most Pc00 = omega arith
-  far_most Pc04 = omega arith
-  far_most Pc10 = omega arith
-  far_most Pc28 = omega arith
-  far_most Pc2C = omega arith
-  far_most Pc30 = omega arith
-  far_most Pc34 = omega arith
-  far_most Pc38 = omega arith
-  far_most Pc3C = omega arith
-  far_most Pc40 = omega arith
-  far_most Pc44 = omega arith
-  far_most Pc4C = omega arith
-  far_most Pc50 = omega arith
-  far_most Pc54 = omega arith
-  far_most Pc58 = omega arith
-  far_most Pc5C = omega arith
-  far_most Pc60 = omega arith
-  far_most Pc64 = omega arith
-  far_most Pc68 = omega arith
-  far_most Pc6C = omega arith
-  far_most Pc70 = omega arith
-  far_most Pc74 = omega arith
-  far_most Pc78 = omega arith
-  far_most Pc7C = omega arith
-  far_most ROver = omega arith
 
 -- sums over the senders
 pub total_same : (f g : ℕ → ℕ) (n : ℕ) → ((i : ℕ) → i < n → g i ≡ f i) → total g n ≡ total f n
@@ -113,7 +63,7 @@ module _ (p : Pace) (n size : ℕ) (lists : List (List ℕ)) where
 
   far_same : (rs : List Report) (states after : ℕ → Option HartState) (o : Option HartState) → ((h : ℕ) → after h ≡ states h) → far_if p n size rs after o ≡ far_if p n size rs states o
   far_same rs states after None same = refl
-  far_same rs states after (Some s) same = rw (same (visited_by s + 1)) refl
+  far_same rs states after (Some s) same = ap (λ o. p.receiver (around n size rs o (visited_by s)) s) (same (visited_by s + 1))
 
   pub left_same : (rs new : List Report) (states after : ℕ → Option HartState) → new ≡ rs → ((h : ℕ) → after h ≡ states h) → left_in p n size lists new after ≡ left_in p n size lists rs states
   left_same rs new states after said same =
@@ -122,12 +72,11 @@ module _ (p : Pace) (n size : ℕ) (lists : List (List ℕ)) where
       both : (a b c d : ℕ) → a ≡ b → c ≡ d → a * round n + c ≡ b * round n + d
       both a b c d one two = rw (one, two) refl
 
-  -- it is less than a round away
-  pub far_small : (rs : List Report) (states : ℕ → Option HartState) (mid : Middle) (f : Whole) (here : ReceiverPlace) (r : Noted) → states 0 ≡ Some (receives mid f here r) → far_if p n size rs states (states 0) < round n
-  far_small rs states mid f here r is =
-      let s : HartState = receives mid f here r in
-      let most : far_of p n size rs states (receives mid f here r) ≤ 22 + rest_from rs n (visited_by (receives mid f here r) + 1) + rest_from rs n 0 = far_most p mid f r (length (taken rs (visited_by (receives mid f here r)))) size (is_closed rs (visited_by (receives mid f here r))) (not (runs (states (visited_by (receives mid f here r) + 1)))) (rest_from rs n (visited_by (receives mid f here r) + 1)) (rest_from rs n 0) here in
-      rw is (bound (far_of p n size rs states (receives mid f here r)) (rest_from rs n (visited_by (receives mid f here r) + 1)) (rest_from rs n 0) most (not_far rs n (visited_by (receives mid f here r) + 1)) (not_far rs n 0))
+  -- it is never further away than a round
+  pub far_small : ((a : Around) (s : HartState) → p.receiver a s ≤ 22 + a.rest + a.start) → (rs : List Report) (states : ℕ → Option HartState) (s : HartState) → states 0 ≡ Some s → far_if p n size rs states (states 0) < round n
+  far_small most rs states s is =
+      let b : ℕ = visited_by s in
+      rw is (bound (far_of p n size rs states s) (rest_from rs n (b + 1)) (rest_from rs n 0) (most (around n size rs (states (b + 1)) b) s) (not_far rs n (b + 1)) (not_far rs n 0))
     where
       bound : (d rest start : ℕ) → d ≤ 22 + rest + start → rest ≤ 40 * n + 40 * (n + 2) → start ≤ 40 * n + 40 * (n + 2) → d < round n
       bound d rest start most one two = omega arith

@@ -4,6 +4,5 @@ pub mod Blocks
 pub mod SenderState
 pub mod Outlines
 pub mod ReceiverState
-pub mod ReceiverPlaces
 pub mod BlockMeaning
 pub mod Channels

@@ -19,36 +19,24 @@ use Rattle.poll_close.specs.Reports.{taken}
 use Rattle.poll_close.specs.Standing.{Stands, lists_of}
 use Rattle.poll_close.specs.Plans.{is_closed, is_done, senders_of, AllLanded}
 
--- What a ring shows of its harts. By a sender's state: how far it is from its end, and, with the words
--- of memory, whether it waits until the receiver acts. By the receiver's state at 14 to 24, the words
--- taken of the block's sender, the ring size, and whether that sender has ended: this visit may find
--- nothing though a word is there by now.
+-- What the receiver's way depends on, besides its state: the words taken of the sender that it visits, the
+-- ring size, whether that sender is reported closed and whether it has ended; and how far it is from its next
+-- report from the end of this block on, and from block 0 on.
+pub record Around : Type 0 where
+  pub took : ℕ
+  pub size : ℕ
+  pub shut : Bool
+  pub ended : Bool
+  pub rest : ℕ
+  pub start : ℕ
+
+-- What a ring shows of its harts, by their states: how far a sender is from its end; whether it waits, by the
+-- words of memory, until the receiver acts; and how far the receiver is from its next report, where every
+-- sender waits or has ended.
 pub record Pace : Type 0 where
   pub sender : HartState → ℕ
   pub waits : HartState → (ℕ → ℕ) → Bool
-  pub stale : HartState → ℕ → ℕ → Bool → Bool
-
--- How far the receiver is from its next report, where every sender waits or has ended: rest is how far
--- from the end of this block on, start from block 0 on.
-abbrev pub far_place : List ℕ
-far_place = 2 ∷ 1 ∷ 0 ∷ 0 ∷ 20 ∷ 16 ∷ 15 ∷ 14 ∷ 13 ∷ 12 ∷ 13 ∷ 12 ∷ 11 ∷ 10 ∷ 9 ∷ 8 ∷ 7 ∷ 11 ∷ 0 ∷ 13 ∷ 12 ∷ 11 ∷ 10 ∷ 9 ∷ 12 ∷ 11 ∷ 10 ∷ 9 ∷ 8 ∷ 3 ∷ 2 ∷ 1 ∷ []
-
-abbrev pub far_rest : List ℕ
-far_rest = 0 ∷ 0 ∷ 0 ∷ 0 ∷ 0 ∷ 0 ∷ 0 ∷ 0 ∷ 0 ∷ 0 ∷ 0 ∷ 0 ∷ 0 ∷ 0 ∷ 0 ∷ 0 ∷ 0 ∷ 1 ∷ 0 ∷ 0 ∷ 0 ∷ 0 ∷ 0 ∷ 0 ∷ 1 ∷ 1 ∷ 1 ∷ 1 ∷ 1 ∷ 0 ∷ 0 ∷ 0 ∷ []
-
-abbrev pub far_start : List ℕ
-far_start = 1 ∷ 1 ∷ 0 ∷ 0 ∷ 0 ∷ 0 ∷ 0 ∷ 0 ∷ 0 ∷ 0 ∷ 0 ∷ 0 ∷ 0 ∷ 0 ∷ 0 ∷ 0 ∷ 0 ∷ 0 ∷ 0 ∷ 0 ∷ 0 ∷ 0 ∷ 0 ∷ 0 ∷ 0 ∷ 0 ∷ 0 ∷ 0 ∷ 0 ∷ 1 ∷ 0 ∷ 0 ∷ []
-
-abbrev pub is_middle : ℕ → Bool
-is_middle pc = (pc == 0x14) || (pc == 0x18) || (pc == 0x1C) || (pc == 0x20) || (pc == 0x24)
-
-abbrev pub far_at : Pace → HartState → ℕ → ℕ → Bool → Bool → ℕ → ℕ → ℕ
-far_at p s took size shut ended rest start =
-    if s.pc == 0x08 then (if shut then 17 + rest else 22)
-    else if s.pc == 0x0C then (if shut then 16 + rest else 21)
-    else if s.pc == 0x48 then (if slice_index s.registers 30 == 0 then 11 + rest else 14)
-    else if is_middle s.pc then slice_index far_place (s.pc / 4) + (if p.stale s took size ended then rest else 3)
-    else slice_index far_place (s.pc / 4) + slice_index far_rest (s.pc / 4) * rest + slice_index far_start (s.pc / 4) * start
+  pub receiver : Around → HartState → ℕ
 
 -- some of the m senders from j on is not reported closed
 abbrev pub some_open : List Report → ℕ → ℕ → Bool
@@ -73,8 +61,11 @@ runs None = false
 runs (Some s) = is_running s.status
 
 -- the receiver's distance, by the reports and the harts' states
+abbrev pub around : ℕ → ℕ → List Report → Option HartState → ℕ → Around
+around n size rs sender i = record { took = length (taken rs i); size = size; shut = is_closed rs i; ended = not (runs sender); rest = rest_from rs n (i + 1); start = rest_from rs n 0 }
+
 abbrev pub far_of : Pace → ℕ → ℕ → List Report → (ℕ → Option HartState) → HartState → ℕ
-far_of p n size rs states s = far_at p s (length (taken rs (visited_by s))) size (is_closed rs (visited_by s)) (not (runs (states (visited_by s + 1)))) (rest_from rs n (visited_by s + 1)) (rest_from rs n 0)
+far_of p n size rs states s = p.receiver (around n size rs (states (visited_by s + 1)) (visited_by s)) s
 
 abbrev pub far_if : Pace → ℕ → ℕ → List Report → (ℕ → Option HartState) → Option HartState → ℕ
 far_if p n size rs states None = 0

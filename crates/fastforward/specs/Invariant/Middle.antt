@@ -1,7 +1,9 @@
--- The receiver's five lines between, and what holds of the block that it visits at the last four.
-use Rattle.std.proofs.Common.{ℕ, ◌+◌, ◌<◌, ◌≡◌, ◌⊎◌, length}
+-- The receiver's five lines between, and its rows at the last four.
+use Rattle.std.proofs.Common.{ℕ, ◌+◌, ◌<◌, ◌≡◌, ◌==◌, ◌⊎◌, ◌&&◌, List, [], ◌∷◌, length}
 use Rattle.std.specs.Prelude.{slice_index}
 use Rattle.poll_close.specs.Invariant.Blocks.{Block, offset}
+use Rattle.poll_close.specs.Invariant.Outlines.{Row}
+use Rattle.poll_close.specs.Invariant.BlockMeaning.{Way, Near, Visit, between}
 use Rattle.poll_close.specs.Invariant.ReceiverState.{Middle, Noted}
 use Rattle.fastforward.specs.Invariant.Numbers.{Taken}
 
@@ -28,14 +30,11 @@ Loaded k n x11 = (n.tails < n.seen) × (x11 ≡ slice_index k.list n.tails)
 abbrev pub Empty : Block → Taken → ℕ → ℕ → Type 0
 Empty k n x11 x30 = (x11 ≡ 0) × ((x30 ≡ 0) ⊎ (n.tails ≡ length k.list))
 
-abbrev pub At18 : Block → Taken → Noted → Type 0
-At18 k n r = Flagged n r.x30 × (r.x7 ≡ offset k n.tails)
-
-abbrev pub At1C : Block → Taken → Noted → Type 0
-At1C k n r = Flagged n r.x30 × (r.x7 ≡ offset k n.tails) × (r.x28 ≡ k.base + r.x7)
-
-abbrev pub At20 : Block → Taken → Noted → Type 0
-At20 k n r = (Empty k n r.x11 r.x30 ⊎ Loaded k n r.x11) × (r.x7 ≡ offset k n.tails) × (r.x28 ≡ k.base + r.x7)
-
-abbrev pub At24 : Block → Taken → Noted → Type 0
-At24 k n r = Loaded k n r.x11 × (r.x7 ≡ offset k n.tails) × (r.x28 ≡ k.base + r.x7)
+-- this visit may find nothing: its sender has ended, and the mark was not read; or nothing was found
+abbrev pub rows : List (Row Way (Block → Taken → Noted → Type 0))
+rows =
+    between 0x18 (Visit (λ a x. (slice_index x 30 == 0) && a.ended) 15 18) (λ k n r. Flagged n r.x30 × (r.x7 ≡ offset k n.tails)) ∷  -- add x28,x8,x7
+    between 0x1C (Visit (λ a x. (slice_index x 30 == 0) && a.ended) 14 17) (λ k n r. Flagged n r.x30 × (r.x7 ≡ offset k n.tails) × (r.x28 ≡ k.base + r.x7)) ∷  -- lw x11,16(x28)
+    between 0x20 (Visit (λ a x. (slice_index x 30 == 0) && (slice_index x 11 == 0)) 13 16) (λ k n r. (Empty k n r.x11 r.x30 ⊎ Loaded k n r.x11) × (r.x7 ≡ offset k n.tails) × (r.x28 ≡ k.base + r.x7)) ∷  -- beq x11,x0,empty
+    between 0x24 (Near 15) (λ k n r. Loaded k n r.x11 × (r.x7 ≡ offset k n.tails) × (r.x28 ≡ k.base + r.x7)) ∷  -- sw x0,16(x28)
+    []

@@ -1,6 +1,9 @@
--- The receiver's five lines between, and what holds of the block that it visits at the last four.
-use Rattle.std.proofs.Common.{ℕ, ◌+◌, ◌<◌, ◌≡◌, ◌⊎◌, length}
+-- The receiver's five lines between, and its rows at the last four.
+use Rattle.std.proofs.Common.{ℕ, ◌+◌, ◌*◌, ◌%◌, ◌<◌, ◌≡◌, ◌==◌, ◌⊎◌, ◌&&◌, List, [], ◌∷◌, length}
+use Rattle.std.specs.Prelude.{slice_index}
 use Rattle.poll_close.specs.Invariant.Blocks.{Block, offset}
+use Rattle.poll_close.specs.Invariant.Outlines.{Row}
+use Rattle.poll_close.specs.Invariant.BlockMeaning.{Way, Near, Visit, between}
 use Rattle.poll_close.specs.Invariant.ReceiverState.{Middle, Noted}
 use Rattle.lamport_ring.specs.Invariant.Numbers.{Taken}
 
@@ -16,14 +19,11 @@ pub record Headed (k : Block) (n : Taken) (x6 x30 : ℕ) : Type 0 where
 abbrev pub More : Taken → Type 0
 More n = n.tails < n.seen
 
-abbrev pub At18 : Block → Taken → Noted → Type 0
-At18 k n r = Headed k n r.x6 r.x30
-
-abbrev pub At1C : Block → Taken → Noted → Type 0
-At1C k n r = Headed k n r.x6 r.x30 × (r.x7 ≡ offset k n.tails)
-
-abbrev pub At20 : Block → Taken → Noted → Type 0
-At20 k n r = More n × (r.x7 ≡ offset k n.tails)
-
-abbrev pub At24 : Block → Taken → Noted → Type 0
-At24 k n r = More n × (r.x7 ≡ offset k n.tails) × (r.x28 ≡ k.base + r.x7)
+-- this visit may find nothing: the mark was not read, and the head that was read is the tail
+abbrev pub rows : List (Row Way (Block → Taken → Noted → Type 0))
+rows =
+    between 0x18 (Visit (λ a x. (slice_index x 30 == 0) && (slice_index x 6 == 4 * (a.took % a.size))) 15 18) (λ k n r. Headed k n r.x6 r.x30) ∷  -- lw x7,8(x8)
+    between 0x1C (Visit (λ a x. (slice_index x 30 == 0) && (slice_index x 6 == slice_index x 7)) 14 17) (λ k n r. Headed k n r.x6 r.x30 × (r.x7 ≡ offset k n.tails)) ∷  -- beq x6,x7,empty
+    between 0x20 (Near 16) (λ k n r. More n × (r.x7 ≡ offset k n.tails)) ∷  -- add x28,x8,x7
+    between 0x24 (Near 15) (λ k n r. More n × (r.x7 ≡ offset k n.tails) × (r.x28 ≡ k.base + r.x7)) ∷  -- lw x11,16(x28)
+    []

@@ -66,6 +66,7 @@ pub record Ordered (k : Block) (n : Numbers) : Type 0 where
   pub mark_landed : n.landed.mark ≤ n.sender.marked
   pub marked_all : 0 < n.sender.marked → n.sender.headed ≡ length k.list
   pub mark_all : 0 < n.landed.mark → n.landed.heads ≡ length k.list
+  pub shut_done : n.receiver.shut ≤ n.receiver.done
   pub done_one : n.receiver.done ≤ 1
   pub done_landed : n.landed.done ≤ n.receiver.done
   pub done_all : 0 < n.receiver.done → n.receiver.tails ≡ length k.list

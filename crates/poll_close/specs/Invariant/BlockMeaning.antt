@@ -1,12 +1,28 @@
--- What a ring says of one block, and what holds at each place of the receiver of the block that it
--- visits: one line a place.
-use Rattle.std.proofs.Common.{ℕ, ◌+◌, ◌*◌, ◌≡◌, ◌⊎◌, List, length}
+-- What a ring says of one block, and the receiver's outline: a row for each line, with how far it is from its
+-- next report, and what holds there of the block that it visits.
+use Rattle.std.proofs.Common.{ℕ, ◌+◌, ◌*◌, ◌≡◌, ◌⊎◌, ◌==◌, Bool, ◌&&◌, if◌then◌else◌, List, [], ◌∷◌, length}
 use Rattle.std.specs.Prelude.{slice_index}
+use Rattle.hart.specs.State.{HartState}
 use Rattle.poll_close.specs.Layout.{block_size}
+use Rattle.poll_close.specs.Paces.{Around, Pace}
 use Rattle.poll_close.specs.Invariant.Blocks.{Block, offset}
-use Rattle.poll_close.specs.Invariant.Outlines.{Outline}
+use Rattle.poll_close.specs.Invariant.Outlines.{Row, Outline, HoldsIn, rank_in, left_of}
 use Rattle.poll_close.specs.Invariant.ReceiverState.{Middle, Noted}
-use Rattle.poll_close.specs.Invariant.ReceiverPlaces.{ReceiverPlace, Pc00, Pc04, Pc08, Pc0C, Pc10, Pc14, Pc18, Pc1C, Pc20, Pc24, Pc28, Pc2C, Pc30, Pc34, Pc38, Pc3C, Pc40, Pc44, Pc48, Pc4C, Pc50, Pc54, Pc58, Pc5C, Pc60, Pc64, Pc68, Pc6C, Pc70, Pc74, Pc78, Pc7C, ROver}
+
+-- the receiver's way from a line to its next report: so many steps; so many to the end of the block, and the rest
+-- of the round; so many to the end of the round, and a whole one; or, where this visit may find nothing though
+-- a word is there by now, the second of these, else the first
+pub data Way : Type 0 where
+  Near : ℕ → Way
+  Round : ℕ → Way
+  Over : ℕ → Way
+  Visit : (Around → List ℕ → Bool) → ℕ → ℕ → Way
+
+abbrev pub length_of : Around → List ℕ → Way → ℕ
+length_of a x (Near n) = n
+length_of a x (Round n) = n + a.rest
+length_of a x (Over n) = n + a.start
+length_of a x (Visit stale n other) = if stale a x then n + a.rest else other
 
 -- the numbers of a block, which say everything of its memory and of both harts' stores to it, by who
 -- changes them: the sender's acts, the receiver's, and landings
@@ -38,12 +54,12 @@ pub record BlockMeaning : Type 1 where
   -- the receiver has no step of its own half done; it has taken a word out of its slot
   pub Level : Receiver → Type 0
   pub Filled : Receiver → Type 0
-  -- the receiver's five lines between, and what holds of the block at the last four of them
+  -- the receiver's five words between, and its rows at the last four of them
   pub middle : Middle
-  pub At18 : Block → Receiver → Noted → Type 0
-  pub At1C : Block → Receiver → Noted → Type 0
-  pub At20 : Block → Receiver → Noted → Type 0
-  pub At24 : Block → Receiver → Noted → Type 0
+  pub rows : List (Row Way (Block → Receiver → Noted → Type 0))
+  -- the sender waits until the receiver acts; then a word is there for the receiver
+  pub waits : HartState → (ℕ → ℕ) → Bool
+  pub Ready : Block → Numbers sender.Own Receiver Landed → Type 0
 
 abbrev pub Count : BlockMeaning → Type 0
 Count m = Numbers m.sender.Own m.Receiver m.Landed
@@ -71,8 +87,8 @@ pub record Opened (m : BlockMeaning) (k : Block) (i : ℕ) (n : m.Receiver) (x8 
   pub open_yet : m.dones n ≡ 0
 
 -- it has seen the mark where it read one
-abbrev pub Flag : (m : BlockMeaning) → m.Receiver → Noted → Type 0
-Flag m n r = (r.x30 ≡ 0) ⊎ ((r.x30 ≡ 1) × (m.seen_mark n ≡ 1))
+abbrev pub Flag : (m : BlockMeaning) → m.Receiver → ℕ → Type 0
+Flag m n x30 = (x30 ≡ 0) ⊎ ((x30 ≡ 1) × (m.seen_mark n ≡ 1))
 
 -- the word is in x11, and its tail is not stored
 pub record Has (m : BlockMeaning) (k : Block) (i : ℕ) (n : m.Receiver) (x8 x22 x11 : ℕ) : Type 0 where
@@ -101,37 +117,56 @@ pub record Closing (m : BlockMeaning) (k : Block) (i : ℕ) (n : m.Receiver) (x8
   pub done : m.dones n ≡ 1
   pub unsaid : m.shut n ≡ 0
 
-abbrev pub ReceiverIs : (m : BlockMeaning) → Block → ℕ → ReceiverPlace → m.Receiver → Noted → Type 0
-ReceiverIs m k i Pc00 n r = Quiet m n
-ReceiverIs m k i Pc04 n r = Quiet m n × (r.x8 ≡ 0)
-ReceiverIs m k i Pc08 n r = Quiet m n × Visits k i r.x8 r.x22
-ReceiverIs m k i Pc0C n r = Quiet m n × Visits k i r.x8 r.x22 × (r.x5 ≡ m.dones n)
-ReceiverIs m k i Pc10 n r = Opened m k i n r.x8 r.x22
-ReceiverIs m k i Pc14 n r = Opened m k i n r.x8 r.x22 × Flag m n r
-ReceiverIs m k i Pc18 n r = Opened m k i n r.x8 r.x22 × m.At18 k n r
-ReceiverIs m k i Pc1C n r = Opened m k i n r.x8 r.x22 × m.At1C k n r
-ReceiverIs m k i Pc20 n r = Opened m k i n r.x8 r.x22 × m.At20 k n r
-ReceiverIs m k i Pc24 n r = Opened m k i n r.x8 r.x22 × m.At24 k n r
-ReceiverIs m k i Pc28 n r = Has m k i n r.x8 r.x22 r.x11 × (r.x7 ≡ offset k (m.tails n))
-ReceiverIs m k i Pc2C n r = Has m k i n r.x8 r.x22 r.x11 × (r.x7 ≡ offset k (m.tails n) + 4)
-ReceiverIs m k i Pc30 n r = Has m k i n r.x8 r.x22 r.x11 × (offset k (m.tails n) + 4 ≡ 4 * k.size)
-ReceiverIs m k i Pc34 n r = Has m k i n r.x8 r.x22 r.x11 × (r.x7 ≡ offset k (m.tails n + 1))
-ReceiverIs m k i Pc38 n r = Taking m k i n r.x8 r.x22 r.x11
-ReceiverIs m k i Pc3C n r = Taking m k i n r.x8 r.x22 r.x11 × (r.x10 ≡ i)
-ReceiverIs m k i Pc40 n r = Taking m k i n r.x8 r.x22 r.x11 × (r.x10 ≡ i) × (r.x17 ≡ 2)
-ReceiverIs m k i Pc44 n r = Quiet m n × Visits k i r.x8 r.x22
-ReceiverIs m k i Pc48 n r = Opened m k i n r.x8 r.x22 × ((r.x30 ≡ 0) ⊎ (m.tails n ≡ length k.list))
-ReceiverIs m k i Pc4C n r = Opened m k i n r.x8 r.x22 × (m.tails n ≡ length k.list)
-ReceiverIs m k i Pc50 n r = Opened m k i n r.x8 r.x22 × (m.tails n ≡ length k.list) × (r.x5 ≡ 1)
-ReceiverIs m k i Pc54 n r = Closing m k i n r.x8 r.x22
-ReceiverIs m k i Pc58 n r = Closing m k i n r.x8 r.x22 × (r.x10 ≡ i)
-ReceiverIs m k i Pc5C n r = Closing m k i n r.x8 r.x22 × (r.x10 ≡ i) × (r.x17 ≡ 3)
-ReceiverIs m k i Pc60 n r = Quiet m n × Visits k i r.x8 r.x22
-ReceiverIs m k i Pc64 n r = Quiet m n × Visits k i r.x8 r.x22
-ReceiverIs m k i Pc68 n r = Quiet m n × Visits k i r.x8 r.x22
-ReceiverIs m k i Pc6C n r = Quiet m n × (r.x22 ≡ i) × (r.x8 ≡ k.base + block_size k.size)
-ReceiverIs m k i Pc70 n r = Quiet m n × (r.x22 ≡ i + 1) × (r.x8 ≡ k.base + block_size k.size)
-ReceiverIs m k i Pc74 n r = Quiet m n
-ReceiverIs m k i Pc78 n r = Quiet m n × (r.x20 ≡ 0)
-ReceiverIs m k i Pc7C n r = Quiet m n × (r.x17 ≡ 93) × (r.x20 ≡ 0)
-ReceiverIs m k i ROver n r = Quiet m n × (r.x20 ≡ 0)
+abbrev pub ReceiverRow : BlockMeaning → Type 1
+ReceiverRow m = Row Way (Block → ℕ → m.Receiver → Noted → Type 0)
+
+abbrev pub line : {Own : Type 0} → ℕ → Way → (Block → ℕ → Own → Noted → Type 0) → Row Way (Block → ℕ → Own → Noted → Type 0)
+line at rank holds = record { at = at; rank = rank; holds = holds }
+
+-- the ring's own rows: it visits a block that is not done
+abbrev pub between : {Own : Type 0} → ℕ → Way → (Block → Own → Noted → Type 0) → Row Way (Block → Own → Noted → Type 0)
+between at rank holds = record { at = at; rank = rank; holds = holds }
+
+abbrev pub opened_rows : (m : BlockMeaning) → List (Row Way (Block → m.Receiver → Noted → Type 0)) → List (ReceiverRow m)
+opened_rows m [] = []
+opened_rows m (row ∷ rows) = record { at = row.at; rank = row.rank; holds = λ k i n r. Opened m k i n r.x8 r.x22 × row.holds k n r } ∷ opened_rows m rows
+
+abbrev pub rows_of : (m : BlockMeaning) → List (ReceiverRow m)
+rows_of m =
+    line 0x00 (Over 2) (λ k i n r. Quiet m n) ∷  -- round: addi x8,x21,0
+    line 0x04 (Over 1) (λ k i n r. Quiet m n × (r.x8 ≡ 0)) ∷  -- addi x22,x0,0
+    line 0x08 (Visit (λ a x. a.shut) 17 22) (λ k i n r. Quiet m n × Visits k i r.x8 r.x22) ∷  -- visit: lw x5,12(x8)
+    line 0x0C (Visit (λ a x. a.shut) 16 21) (λ k i n r. Quiet m n × Visits k i r.x8 r.x22 × (r.x5 ≡ m.dones n)) ∷  -- bne x5,x0,step
+    line 0x10 (Near 20) (λ k i n r. Opened m k i n r.x8 r.x22) ∷  -- lw x30,4(x8)
+    line 0x14 (Visit (λ a x. (slice_index x 30 == 0) && a.ended) 16 19) (λ k i n r. Opened m k i n r.x8 r.x22 × Flag m n r.x30) ∷  -- the ring's first line
+    line 0x28 (Near 13) (λ k i n r. Has m k i n r.x8 r.x22 r.x11 × (r.x7 ≡ offset k (m.tails n))) ∷  -- addi x7,x7,4
+    line 0x2C (Near 12) (λ k i n r. Has m k i n r.x8 r.x22 r.x11 × (r.x7 ≡ offset k (m.tails n) + 4)) ∷  -- bne x7,x9,keep
+    line 0x30 (Near 11) (λ k i n r. Has m k i n r.x8 r.x22 r.x11 × (offset k (m.tails n) + 4 ≡ 4 * k.size)) ∷  -- addi x7,x0,0
+    line 0x34 (Near 10) (λ k i n r. Has m k i n r.x8 r.x22 r.x11 × (r.x7 ≡ offset k (m.tails n + 1))) ∷  -- keep: sw x7,8(x8)
+    line 0x38 (Near 9) (λ k i n r. Taking m k i n r.x8 r.x22 r.x11) ∷  -- addi x10,x22,0
+    line 0x3C (Near 8) (λ k i n r. Taking m k i n r.x8 r.x22 r.x11 × (r.x10 ≡ i)) ∷  -- addi x17,x0,2
+    line 0x40 (Near 7) (λ k i n r. Taking m k i n r.x8 r.x22 r.x11 × (r.x10 ≡ i) × (r.x17 ≡ 2)) ∷  -- ecall
+    line 0x44 (Round 11) (λ k i n r. Quiet m n × Visits k i r.x8 r.x22) ∷  -- jal x0,step
+    line 0x48 (Visit (λ a x. slice_index x 30 == 0) 11 14) (λ k i n r. Opened m k i n r.x8 r.x22 × ((r.x30 ≡ 0) ⊎ (m.tails n ≡ length k.list))) ∷  -- empty: beq x30,x0,step
+    line 0x4C (Near 13) (λ k i n r. Opened m k i n r.x8 r.x22 × (m.tails n ≡ length k.list)) ∷  -- addi x5,x0,1
+    line 0x50 (Near 12) (λ k i n r. Opened m k i n r.x8 r.x22 × (m.tails n ≡ length k.list) × (r.x5 ≡ 1)) ∷  -- sw x5,12(x8)
+    line 0x54 (Near 11) (λ k i n r. Closing m k i n r.x8 r.x22) ∷  -- addi x10,x22,0
+    line 0x58 (Near 10) (λ k i n r. Closing m k i n r.x8 r.x22 × (r.x10 ≡ i)) ∷  -- addi x17,x0,3
+    line 0x5C (Near 9) (λ k i n r. Closing m k i n r.x8 r.x22 × (r.x10 ≡ i) × (r.x17 ≡ 3)) ∷  -- ecall
+    line 0x60 (Round 12) (λ k i n r. Quiet m n × Visits k i r.x8 r.x22) ∷  -- addi x20,x20,-1
+    line 0x64 (Round 11) (λ k i n r. Quiet m n × Visits k i r.x8 r.x22) ∷  -- beq x20,x0,quit
+    line 0x68 (Round 10) (λ k i n r. Quiet m n × Visits k i r.x8 r.x22) ∷  -- step: add x8,x8,x18
+    line 0x6C (Round 9) (λ k i n r. Quiet m n × (r.x22 ≡ i) × (r.x8 ≡ k.base + block_size k.size)) ∷  -- addi x22,x22,1
+    line 0x70 (Round 8) (λ k i n r. Quiet m n × (r.x22 ≡ i + 1) × (r.x8 ≡ k.base + block_size k.size)) ∷  -- bne x8,x19,visit
+    line 0x74 (Over 3) (λ k i n r. Quiet m n) ∷  -- jal x0,round
+    line 0x78 (Near 2) (λ k i n r. Quiet m n × (r.x20 ≡ 0)) ∷  -- quit: addi x17,x0,93
+    line 0x7C (Near 1) (λ k i n r. Quiet m n × (r.x17 ≡ 93) × (r.x20 ≡ 0)) ∷  -- ecall
+    line 0x80 (Near 0) (λ k i n r. Quiet m n × (r.x20 ≡ 0)) ∷
+    opened_rows m m.rows
+
+-- what holds at an offset, and how far its harts are from their ends
+abbrev pub ReceiverIs : (m : BlockMeaning) → Block → ℕ → ℕ → m.Receiver → Noted → Type 0
+ReceiverIs m k i here n r = HoldsIn (λ (H : Block → ℕ → m.Receiver → Noted → Type 0). H k i n r) (rows_of m) here
+
+abbrev pub pace_of : BlockMeaning → Pace
+pace_of m = record { sender = left_of m.sender; waits = m.waits; receiver = λ a s. rank_in (length_of a s.registers) (rows_of m) s.pc }

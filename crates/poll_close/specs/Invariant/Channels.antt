@@ -13,8 +13,7 @@ use Rattle.poll_close.specs.Reports.{taken, Clean}
 use Rattle.poll_close.specs.Going.{AllGoOn}
 use Rattle.poll_close.specs.Invariant.Outlines.{Standing}
 use Rattle.poll_close.specs.Invariant.Blocks.{Block, block_of, as_writes, to_block}
-use Rattle.poll_close.specs.Invariant.ReceiverState.{Noted, whole_of}
-use Rattle.poll_close.specs.Invariant.ReceiverPlaces.{ReceiverPlace, receives, due}
+use Rattle.poll_close.specs.Invariant.ReceiverState.{Noted, whole_of, receives, due}
 use Rattle.poll_close.specs.Invariant.BlockMeaning.{BlockMeaning, Count, unsent_of, unread_of, Quiet, ReceiverIs}
 
 -- the sender of a block, which is hart h
@@ -37,7 +36,7 @@ shuts m f (suc i) = m.shut (f i).receiver + shuts m f i
 
 -- where the receiver stands, and what holds of the block that it visits or visited last
 pub record ReceiverPart (m : BlockMeaning) (M S : ℕ) (lists : List (List ℕ)) (t : History) (f : ℕ → Count m) : Type 0 where
-  pub place : ReceiverPlace
+  pub place : ℕ
   pub noted : Noted
   pub block : ℕ
   pub known : block < length lists

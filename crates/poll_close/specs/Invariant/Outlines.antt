@@ -6,12 +6,15 @@ use Rattle.poll_close.specs.Paces.{is_running}
 use Rattle.poll_close.specs.Invariant.Blocks.{Block}
 use Rattle.poll_close.specs.Invariant.SenderState.{Written, fixed, running, ended}
 
--- the line at this offset: how far from the end, by the registers, and what holds there of the sender's
--- own numbers and registers
-pub record Row (Own : Type 0) : Type 1 where
+-- the line at this offset: how far from the end, and what holds there
+pub record Row (Rank : Type 0) (Held : Type 1) : Type 1 where
   pub at : ℕ
-  pub rank : List ℕ → ℕ
-  pub holds : Block → Own → Written → Type 0
+  pub rank : Rank
+  pub holds : Held
+
+-- a sender's: by the registers, and of the sender's own numbers and the registers that it writes
+abbrev pub SenderRow : Type 0 → Type 1
+SenderRow Own = Row (List ℕ → ℕ) (Block → Own → Written → Type 0)
 
 pub record Outline : Type 1 where
   -- the numbers of a block that are the sender's own: no one else's act and no landing changes them
@@ -19,12 +22,12 @@ pub record Outline : Type 1 where
   -- of these, how many words of its list it has asked for
   pub asked : Own → ℕ
   pub code : List ℕ
-  pub rows : List (Row Own)
+  pub rows : List (SenderRow Own)
   -- the offset after the last line, where it has ended, and what holds there
   pub over : ℕ
   pub done : Block → Own → Type 0
 
-abbrev pub row : {Own : Type 0} → ℕ → (List ℕ → ℕ) → (Block → Own → Written → Type 0) → Row Own
+abbrev pub row : {Own : Type 0} → ℕ → (List ℕ → ℕ) → (Block → Own → Written → Type 0) → SenderRow Own
 row at rank holds = record { at = at; rank = rank; holds = holds }
 
 -- the state at an offset
@@ -36,12 +39,21 @@ abbrev pub either : Bool → Type 0 → Type 0 → Type 0
 either true a b = a
 either false a b = b
 
-abbrev pub HoldsIn : {Own : Type 0} → List (Row Own) → ℕ → Block → Own → Written → Type 0
-HoldsIn [] here k n r = ⊥
-HoldsIn (row ∷ rows) here k n r = either (row.at == here) (row.holds k n r) (HoldsIn rows here k n r)
+abbrev pub HoldsIn : {Rank : Type 0} {Held : Type 1} → (Held → Type 0) → List (Row Rank Held) → ℕ → Type 0
+HoldsIn f [] here = ⊥
+HoldsIn f (row ∷ rows) here = either (row.at == here) (f row.holds) (HoldsIn f rows here)
+
+abbrev pub rank_in : {Rank : Type 0} {Held : Type 1} → (Rank → ℕ) → List (Row Rank Held) → ℕ → ℕ
+rank_in f [] here = 0
+rank_in f (row ∷ rows) here = if row.at == here then f row.rank else rank_in f rows here
+
+-- a reason for each row
+abbrev pub Reasons : {Rank : Type 0} {Held : Type 1} → (Row Rank Held → Type 0) → List (Row Rank Held) → Type 0
+Reasons P [] = Unit {0}
+Reasons P (row ∷ rows) = P row × Reasons P rows
 
 abbrev pub Holds : (o : Outline) → ℕ → Block → o.Own → Written → Type 0
-Holds o here k n r = either (here == o.over) (o.done k n) (HoldsIn o.rows here k n r)
+Holds o here k n r = either (here == o.over) (o.done k n) (HoldsIn (λ (H : Block → o.Own → Written → Type 0). H k n r) o.rows here)
 
 -- the sender may be in this state
 pub record Standing (o : Outline) (k : Block) (n : o.Own) (s : HartState) : Type 0 where
@@ -51,9 +63,5 @@ pub record Standing (o : Outline) (k : Block) (n : o.Own) (s : HartState) : Type
   pub holds : Holds o place k n written
 
 -- how far it is from its end: the words in its inbox, then its line
-abbrev pub rank_in : {Own : Type 0} → List (Row Own) → ℕ → List ℕ → ℕ
-rank_in [] here xs = 0
-rank_in (row ∷ rows) here xs = if row.at == here then row.rank xs else rank_in rows here xs
-
 abbrev pub left_of : Outline → HartState → ℕ
-left_of o s = 32 * length s.inbox + (if is_running s.status then rank_in o.rows s.pc s.registers else 0)
+left_of o s = 32 * length s.inbox + (if is_running s.status then rank_in (λ (f : List ℕ → ℕ). f s.registers) o.rows s.pc else 0)

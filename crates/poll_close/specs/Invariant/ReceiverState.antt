@@ -1,6 +1,6 @@
 -- The receiver's states: its registers as one list, of which the program writes eleven. Its code is a
 -- front and an end that all rings share, and five words between that are the ring's own.
-use Rattle.std.specs.Prelude.{ℕ, ◌*◌, List, [], ◌∷◌}
+use Rattle.std.specs.Prelude.{ℕ, ◌*◌, ◌==◌, if◌then◌else◌, List, [], ◌∷◌}
 use Rattle.hart.specs.State.{HartState}
 use Rattle.hart.specs.declared.status.Status.TheVariants as status
 use Rattle.poll_close.specs.Layout.{block_size}
@@ -46,6 +46,14 @@ receiving m f pc r = record { code = receiver_of m; words = f.words; registers =
 
 abbrev pub received : Middle → Whole → Noted → HartState
 received m f r = record { code = receiver_of m; words = f.words; registers = receiver_file f r; pc = 0x7C; inbox = []; status = status.Ended }
+
+-- at an offset, where 80 is after its last line
+abbrev pub receives : Middle → Whole → ℕ → Noted → HartState
+receives m f here r = if here == 0x80 then received m f r else receiving m f here r
+
+-- at 60 the sender that was closed last is not counted yet
+abbrev pub due : ℕ → ℕ
+due here = if here == 0x60 then 1 else 0
 
 abbrev pub whole_of : Block → ℕ → Whole
 whole_of k count = record { words = k.words; bytes = 4 * k.size; block = block_size k.size; all = count * block_size k.size }
