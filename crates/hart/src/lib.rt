@@ -8,7 +8,6 @@
 
 pub mod code;
 pub mod effects;
-pub mod laws;
 pub mod need;
 pub mod saved;
 mod state;

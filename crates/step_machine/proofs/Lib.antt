@@ -20,3 +20,5 @@ pub mod States
 pub mod MemoryAlone
 pub mod Placing
 pub mod Banking
+pub mod Changed
+pub mod Snapshots

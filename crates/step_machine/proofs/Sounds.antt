@@ -106,7 +106,7 @@ sound_opened B M o fits = record {
 
 -- a machine with other room is as fit, and as sound
 
-hart_at : (P : HartView → Type 0) (hs : List HartView) → All P hs → (h : ℕ) (v : HartView) → slice_get hs h ≡ Some v → P v
+pub hart_at : (P : HartView → Type 0) (hs : List HartView) → All P hs → (h : ℕ) (v : HartView) → slice_get hs h ≡ Some v → P v
 hart_at P hs all h v is = subst P (get_or_from_slice_get hs h v v is) (all h v (slice_get_within hs h v is))
 
 words_of : (M : ℕ) (c : Config) → Fit M c → (h : ℕ) (v : HartView) → slice_get c.harts h ≡ Some v → v.state.words ≡ M

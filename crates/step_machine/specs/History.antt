@@ -1,5 +1,5 @@
 -- A machine's history: where it began, and what was done since. All other definitions read it.
-use Rattle.std.specs.Prelude.{ℕ, ◌≤◌, List, [], ◌∷◌, ◌++◌, length, All}
+use Rattle.std.specs.Prelude.{ℕ, ◌≤◌, List, [], ◌∷◌, ◌++◌, length, take, All}
 use Rattle.step_machine.specs.declared.events.Entry.{Entry}
 use Rattle.step_machine.specs.declared.opening.TheConstants.{MAX_HARTS}
 use Rattle.rv_decode.specs.declared.instruction.TheConstants.{MAX_CODE}
@@ -28,6 +28,10 @@ history_of o es = record { opening = o; entries = es }
 pub record Progress : Type 0 where
   pub history : History
   pub room : ℕ
+
+-- the same up to its n-th entry
+abbrev pub up_to : ℕ → History → History
+up_to n t = history_of t.opening (take n t.entries)
 
 -- nothing was done yet
 abbrev pub unrun : Start → History

@@ -11,3 +11,4 @@ pub mod Placing
 pub mod Banks
 pub mod Ranges
 pub mod Standing
+pub mod Snapshots

@@ -1,6 +1,7 @@
 -- What serves the proof alone: no public clause names it.
 pub mod Stored
 pub mod Config
+pub mod Restored
 pub mod Opened
 pub mod Ties
 pub mod Banking

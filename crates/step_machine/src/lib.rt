@@ -15,6 +15,7 @@ pub mod laws;
 pub mod machine;
 pub mod needs;
 pub mod opening;
+pub mod snapshot;
 mod standing;
 mod stores;
 
@@ -23,3 +24,4 @@ pub use cores::Cores;
 pub use events::{Entry, Event, Outcome};
 pub use machine::Machine;
 pub use opening::{HartOpening, Opening, Trace};
+pub use snapshot::Snapshot;

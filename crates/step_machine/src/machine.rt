@@ -9,6 +9,7 @@ ghost use Rattle.step_machine.specs.declared.opening.TheConstants.{MAX_HARTS};
 use crate::cores::Cores;
 use crate::events::{Entry, Event, Outcome};
 use crate::opening::{Opening, Trace};
+use crate::snapshot::Snapshot;
 use hart::need::Report;
 use hart::status::Status;
 use memory::writes::Write;
@@ -38,7 +39,8 @@ impl<const B: usize, const M: usize> Model for Machine<B, M> {
 }
 
 impl<const B: usize, const M: usize> Machine<B, M> {
-    ghost use Rattle.step_machine.specs.History.{FitsIn, unrun};
+    ghost use Rattle.step_machine.specs.History.{FitsIn, unrun, up_to};
+    ghost use Rattle.step_machine.specs.Snapshots.{IsTakenAt};
     ghost use Rattle.step_machine.specs.Entries.{pending, reported, memory_word};
     ghost use Rattle.step_machine.specs.Standing.{StandsAt};
     ghost use Rattle.step_machine.specs.Paths.{IsStatus, IsPc, IsRegister};
@@ -117,6 +119,25 @@ impl<const B: usize, const M: usize> Machine<B, M> {
     {
         self.cores.put_back();
         self.entries.clear();
+    }
+
+    /// What the machine holds now, without its history.
+    pub fn snapshot(&self) -> Result<Snapshot<B, M>, AllocError>
+        ensures { IfOk result (IsTakenAt B M self.now.history) }
+    {
+        let alloc = *self.entries.allocator();
+        let snapshot = self.cores.save(alloc, self.entries.len() as u128)?;
+        Ok(snapshot)
+    }
+
+    /// Puts the machine back to where it stood at a snapshot of its own, in the room that it has. It takes no
+    /// memory.
+    pub fn back_to(&mut self, snapshot: &Snapshot<B, M>)
+        requires { IsTakenAt B M (up_to snapshot.now.count self.old.history) snapshot.now }
+        ensures { self.new ≡ record self.old { history = up_to snapshot.now.count self.old.history } }
+    {
+        self.cores.restore(snapshot);
+        self.entries.truncate(snapshot.entries as usize);
     }
 
     /// Makes room for `n` steps. Neither outcome changes the history.
