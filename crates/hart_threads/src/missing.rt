@@ -40,7 +40,7 @@ fn is_seated<const M: usize>(hart: u32, seats: &[Seat<M>]) -> bool
 /// The least hart of a seat that is none of so many harts.
 #[tactic(auto, using(crate::proofs::Least::good_more, crate::proofs::Least::bad_more))]
 fn least_past<const M: usize>(harts: u32, seats: &[Seat<M>]) -> Option<u32>
-    ensures { Found (λ s. s.hart < harts) (λ s. harts ≤ s.hart) seats.now result }
+    ensures { Found (λ s. s.hart) (λ s. s.hart < harts) (λ s. harts ≤ s.hart) seats.now result }
 {
     let mut least = None;
     for seat in seats {
