@@ -7,7 +7,7 @@ use Rattle.std.proofs.lemmas.List.Folds.{list_any-append}
 use Rattle.std.proofs.lemmas.List.Sums.{sum_by-append}
 use Rattle.step_machine.specs.History.{Start}
 use Rattle.litmus.specs.Questions.{Question}
-use Rattle.hart_threads.specs.Seats.{SeatView, seats_of}
+use Rattle.hart_threads.specs.Seats.{SeatView, acting_seat, landing_seat, seats_below, seats_of}
 use Rattle.hart_threads.specs.Missing.{is_missing, is_seated, IsFirst, sits_at, acts_for, lands_for}
 use Rattle.hart_threads.specs.Returns.{Fails}
 use Rattle.hart_threads.specs.declared.fault.Fault.{Fault}
@@ -15,12 +15,6 @@ use Rattle.hart_threads.specs.declared.fault.Fault.TheVariants as fault
 use Rattle.ztso_engines.specs.Faults.{AnswersAs}
 use Rattle.ztso_engines.specs.Threads.{IsThreadsGiven, fault_of_threads}
 use Rattle.ztso_engines.specs.inner.Making.{text_and_value}
-
-abbrev acting_seat : ℕ → SeatView
-acting_seat n = record { hart = n; acts = true; diary = [] }
-
-abbrev landing_seat : ℕ → SeatView
-landing_seat n = record { hart = n; acts = false; diary = [] }
 
 within : (h n : ℕ) → h < n → ltb h n ≡ true
 within h n lt = grind (arith, nat_tests)
@@ -37,16 +31,16 @@ above a h lt = grind (arith, nat_tests)
 same : (a h : ℕ) → a ≡ h → eqb a h ≡ true
 same a h is = grind (arith, nat_tests)
 
-two_acting : (n h : ℕ) (b : Bool) → eqb n h ≡ b → count_by (acts_for h) (record { hart = n; acts = true; diary = [] } ∷ record { hart = n; acts = false; diary = [] } ∷ []) ≡ cond b 1 0
-two_acting n h true is = rw is refl
-two_acting n h false is = rw is refl
+two_acting : (M : ℕ) (o : Start) (n h : ℕ) (b : Bool) → eqb n h ≡ b → count_by (acts_for h) (acting_seat M o n ∷ landing_seat n ∷ []) ≡ cond b 1 0
+two_acting M o n h true is = rw is refl
+two_acting M o n h false is = rw is refl
 
-two_landing : (n h : ℕ) (b : Bool) → eqb n h ≡ b → count_by (lands_for h) (record { hart = n; acts = true; diary = [] } ∷ record { hart = n; acts = false; diary = [] } ∷ []) ≡ cond b 1 0
-two_landing n h true is = rw is refl
-two_landing n h false is = rw is refl
+two_landing : (M : ℕ) (o : Start) (n h : ℕ) (b : Bool) → eqb n h ≡ b → count_by (lands_for h) (acting_seat M o n ∷ landing_seat n ∷ []) ≡ cond b 1 0
+two_landing M o n h true is = rw is refl
+two_landing M o n h false is = rw is refl
 
-two_sitting : (n h : ℕ) → n < h → list_any (sits_at h) (record { hart = n; acts = true; diary = [] } ∷ record { hart = n; acts = false; diary = [] } ∷ []) ≡ false
-two_sitting n h lt = rw (other n h lt) refl
+two_sitting : (M : ℕ) (o : Start) (n h : ℕ) → n < h → list_any (sits_at h) (acting_seat M o n ∷ landing_seat n ∷ []) ≡ false
+two_sitting M o n h lt = rw (other n h lt) refl
 
 -- one more hart
 one_more : (n h c : ℕ) → c ≡ cond (ltb h n) 1 0 → c + cond (eqb n h) 1 0 ≡ cond (ltb h (suc n)) 1 0
@@ -57,33 +51,33 @@ one_more n h c is = at (cases_lt h n) (cases_lt n h)
     at (inr ge) (inl gt) = rw (other n h gt) (rw (past h (suc n) (omega arith)) (let e : c ≡ 0 = is ∙ ap (λ (b : Bool). cond b 1 0) (past h n ge) in omega (arith, e)))
     at (inr ge) (inr le) = rw (same n h (omega arith)) (rw (within h (suc n) (omega arith)) (let e : c ≡ 0 = is ∙ ap (λ (b : Bool). cond b 1 0) (past h n ge) in omega (arith, e)))
 
-acting : (n h : ℕ) → count_by (acts_for h) (seats_of n) ≡ cond (ltb h n) 1 0
-acting zero h = sym (ap (λ (b : Bool). cond b 1 0) (past h 0 (omega arith)))
-acting (suc n) h = sum_by-append (λ s. cond (acts_for h s) 1 0) (seats_of n) (acting_seat n ∷ landing_seat n ∷ []) ∙ ap (λ (k : ℕ). count_by (acts_for h) (seats_of n) + k) (two_acting n h (eqb n h) refl) ∙ one_more n h _ (acting n h)
+acting : (M : ℕ) (o : Start) (n h : ℕ) → count_by (acts_for h) (seats_below M o n) ≡ cond (ltb h n) 1 0
+acting M o zero h = sym (ap (λ (b : Bool). cond b 1 0) (past h 0 (omega arith)))
+acting M o (suc n) h = sum_by-append (λ s. cond (acts_for h s) 1 0) (seats_below M o n) (acting_seat M o n ∷ landing_seat n ∷ []) ∙ ap (λ (k : ℕ). count_by (acts_for h) (seats_below M o n) + k) (two_acting M o n h (eqb n h) refl) ∙ one_more n h _ (acting M o n h)
 
-landing : (n h : ℕ) → count_by (lands_for h) (seats_of n) ≡ cond (ltb h n) 1 0
-landing zero h = sym (ap (λ (b : Bool). cond b 1 0) (past h 0 (omega arith)))
-landing (suc n) h = sum_by-append (λ s. cond (lands_for h s) 1 0) (seats_of n) (acting_seat n ∷ landing_seat n ∷ []) ∙ ap (λ (k : ℕ). count_by (lands_for h) (seats_of n) + k) (two_landing n h (eqb n h) refl) ∙ one_more n h _ (landing n h)
+landing : (M : ℕ) (o : Start) (n h : ℕ) → count_by (lands_for h) (seats_below M o n) ≡ cond (ltb h n) 1 0
+landing M o zero h = sym (ap (λ (b : Bool). cond b 1 0) (past h 0 (omega arith)))
+landing M o (suc n) h = sum_by-append (λ s. cond (lands_for h s) 1 0) (seats_below M o n) (acting_seat M o n ∷ landing_seat n ∷ []) ∙ ap (λ (k : ℕ). count_by (lands_for h) (seats_below M o n) + k) (two_landing M o n h (eqb n h) refl) ∙ one_more n h _ (landing M o n h)
 
-sitting : (n h : ℕ) → n ≤ h → list_any (sits_at h) (seats_of n) ≡ false
-sitting zero h le = refl
-sitting (suc n) h le = list_any-append (sits_at h) (seats_of n) (acting_seat n ∷ landing_seat n ∷ []) ∙ rw (sitting n h (omega arith)) (two_sitting n h (omega arith))
+sitting : (M : ℕ) (o : Start) (n h : ℕ) → n ≤ h → list_any (sits_at h) (seats_below M o n) ≡ false
+sitting M o zero h le = refl
+sitting M o (suc n) h le = list_any-append (sits_at h) (seats_below M o n) (acting_seat M o n ∷ landing_seat n ∷ []) ∙ rw (sitting M o n h (omega arith)) (two_sitting M o n h (omega arith))
 
-pub seats_complete : (n h : ℕ) → is_missing n (seats_of n) h ≡ false
+pub seats_complete : (M : ℕ) (o : Start) (n h : ℕ) → is_missing n (seats_below M o n) h ≡ false
 unfolding is_missing
-seats_complete n h = at (cases_lt h n)
+seats_complete M o n h = at (cases_lt h n)
   where
-    at : (h < n) ⊎ (n ≤ h) → is_missing n (seats_of n) h ≡ false
-    at (inl lt) = let a : count_by (acts_for h) (seats_of n) ≡ 1 = acting n h ∙ ap (λ (b : Bool). cond b 1 0) (within h n lt) in
-        let l : count_by (lands_for h) (seats_of n) ≡ 1 = landing n h ∙ ap (λ (b : Bool). cond b 1 0) (within h n lt) in
+    at : (h < n) ⊎ (n ≤ h) → is_missing n (seats_below M o n) h ≡ false
+    at (inl lt) = let a : count_by (acts_for h) (seats_below M o n) ≡ 1 = acting M o n h ∙ ap (λ (b : Bool). cond b 1 0) (within h n lt) in
+        let l : count_by (lands_for h) (seats_below M o n) ≡ 1 = landing M o n h ∙ ap (λ (b : Bool). cond b 1 0) (within h n lt) in
         rw (within h n lt) (rw a (rw l refl))
-    at (inr ge) = rw (past h n ge) (sitting n h ge)
+    at (inr ge) = rw (past h n ge) (sitting M o n h ge)
 
 -- what a run on threads refuses where all seats are there
-pub threads_refused : (B M : ℕ) (q : Question) (o : Start) (seats : List SeatView) (e : Fault) → seats ≡ seats_of (length o.harts) → Fails B M o seats e → AnswersAs (IsThreadsGiven B M q) text_and_value (Err (fault_of_threads e))
+pub threads_refused : (B M : ℕ) (q : Question) (o : Start) (seats : List SeatView) (e : Fault) → seats ≡ seats_of M o → Fails B M o seats e → AnswersAs (IsThreadsGiven B M q) text_and_value (Err (fault_of_threads e))
 threads_refused B M q o seats fault.NoMemory is fails = tt
 threads_refused B M q o seats fault.NoThread is fails = (refl, inr (inl refl))
 threads_refused B M q o seats (fault.Missing h) is fails =
-    let missing : is_missing (length o.harts) (seats_of (length o.harts)) h ≡ true = subst (λ (l : List SeatView). is_missing (length o.harts) l h ≡ true) is fails.here in
-    let e : true ≡ false = sym missing ∙ seats_complete (length o.harts) h in cc
+    let missing : is_missing (length o.harts) (seats_of M o) h ≡ true = subst (λ (l : List SeatView). is_missing (length o.harts) l h ≡ true) is fails.here in
+    let e : true ≡ false = sym missing ∙ seats_complete M o (length o.harts) h in cc
 threads_refused B M q o seats (fault.Mismatch h es) is fails = (refl, inl refl)
