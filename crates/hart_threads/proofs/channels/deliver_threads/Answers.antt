@@ -20,8 +20,8 @@ open-requires g c =
     let fits : FitsIn g.row.M c.in_ok-opening.opening = subst (FitsIn g.row.M) (sym c.in_ok-opening.ensures.value) (c.laws_of_channels.ensures.fits g.row.M _ c.args.ring c.in_ok-opening.ensures.accepted) in
     (lit< tt, (lit< tt, (c.requires.some_capacity, (c.requires.capacity, (c.requires.some_word, (c.requires.memory, fits))))))
 
-fails_over : (B M n : ℕ) (shared opened told : Start) (given : List SeatView) (e : Fault) → shared ≡ opened → opened ≡ told → given ≡ seats_of M opened → Fails B M n shared given e → Fails B M n told (seats_of M told) e
-fails_over B M n shared opened told given e same is fresh fails =
+fails_over : (B M n : ℕ) (shared opened asked : Start) (given : List SeatView) (e : Fault) → shared ≡ opened → opened ≡ asked → given ≡ seats_of M opened → Fails B M n shared given e → Fails B M n asked (seats_of M asked) e
+fails_over B M n shared opened asked given e same is fresh fails =
     subst (λ (o : Start). Fails B M n o (seats_of M o) e) (same ∙ is)
     (subst (λ (seats : List SeatView). Fails B M n shared seats e) (fresh ∙ ap (seats_of M) (sym same)) fails)
 
