@@ -1,80 +1,74 @@
 -- Seats that come back with perhaps more in their diaries, and what is known of them by those given.
-use Rattle.std.proofs.Common.{◌≡◌, ℕ, ◌+◌, Bool, true, false, not, ◌&&◌, eqb, cond, List, [], ◌∷◌, ◌++◌, length, refl, sym, ◌∙◌, ap, subst, append-nil, append_assoc}
-use Rattle.std.proofs.lemmas.List.{map-append}
-use Rattle.std.specs.Prelude.{map, fold, count_by, Result, Ok, Err}
-use Rattle.std.specs.List.{list_any}
-use Rattle.step_machine.specs.History.{Start}
+use Rattle.std.proofs.Common.{◌⊎◌, inl, inr, ◌≡◌, ℕ, ◌+◌, ◌<◌, ◌≤◌, Bool, true, false, not, ◌&&◌, eqb, cond, List, [], ◌∷◌, ◌++◌, length, get_or, refl, sym, ◌∙◌, ap, subst, arith, append-nil, append_assoc}
+use Rattle.std.specs.Prelude.{map, fold, count_by, All}
+use Rattle.std.specs.List.{AllZip, list_any, Contains}
+use Rattle.std.proofs.lemmas.Bool.{cases_lt, eq-eqb}
+use Rattle.std.proofs.lemmas.List.Elements.{All-nil, All-cons, All-head, All-tail, All-contains, Contains-get_or}
+use Rattle.std.proofs.lemmas.Slice.Zip.{all_zipped_more}
+use Rattle.std.proofs.lemmas.List.Folds.{list_any-from_Any}
 use Rattle.step_machine.specs.declared.events.Entry.{Entry}
-use Rattle.step_machine.specs.declared.events.Outcome.{Outcome}
-use Rattle.step_machine.specs.declared.events.Outcome.TheVariants as outcome
-use Rattle.hart_threads.specs.declared.local.Local.{Local}
-use Rattle.hart_threads.specs.declared.local.Local.TheVariants as local
-use Rattle.hart_threads.specs.Seats.{SeatView, Notes, NotesAlone}
+use Rattle.step_machine.specs.History.{Start}
+use Rattle.hart_threads.specs.Seats.{SeatView}
 use Rattle.hart_threads.specs.Missing.{is_missing, IsFirst, IsComplete, sits_at, acts_for, lands_for}
+use Rattle.hart_threads.specs.Parts.{Fits, Merge, Belongs, part_of}
 use Rattle.hart_threads.specs.Records.{Refuses}
-use Rattle.hart_threads.specs.Returns.{Continues, ComeBack, Fails}
+use Rattle.hart_threads.specs.Returns.{GrowsInto, IsMerged, CanBelong, Fails}
 use Rattle.hart_threads.specs.Faults.{fault_of}
 use Rattle.hart_threads.specs.declared.record.Gather.{Gather}
 use Rattle.hart_threads.specs.declared.record.Gather.TheVariants as gather
+use Rattle.hart_threads.specs.inner.Threads.{Continues}
+use Rattle.hart_threads.proofs.FirstMissing.{missing_past}
 
-pub continues_self : (s : SeatView) → Continues s s
-continues_self s = ([], ap (λ (d : List Entry). record s { diary = d }) (sym (append-nil s.diary)))
+-- ---- two lists, element by element
 
-pub continues_on : (s t u : SeatView) → Continues s t → Continues t u → Continues s u
-continues_on s t u (first, is) (more, then_is) = (
-  first ++ more,
-  then_is ∙ ap (λ (v : SeatView). record v { diary = v.diary ++ more }) is
-      ∙ ap (λ (d : List Entry). record s { diary = d }) (append_assoc s.diary first more),
-)
+pub zip_left : {A B : Type 0} (R : A → B → Type 0) (P : B → Type 0) (Q : A → Type 0) → ((x : A) (y : B) → R x y → P y → Q x) → (xs : List A) (ys : List B) → AllZip R xs ys → All P ys → All Q xs
+zip_left R P Q step [] [] zip all = All-nil Q
+zip_left R P Q step [] (y ∷ ys) zip all = absurd zip
+zip_left R P Q step (x ∷ xs) [] zip all = absurd zip
+zip_left R P Q step (x ∷ xs) (y ∷ ys) (here, more) all =
+    All-cons Q x xs (step x y here (All-head P y ys all)) (zip_left R P Q step xs ys more (All-tail P y ys all))
 
--- a call continues its seat
-notes_continue : {E : Type 0} (s t : SeatView) (r : Result Outcome E) → Notes s r t → Continues s t
-notes_continue s t (Ok (outcome.Did e)) is = (e ∷ [], is)
-notes_continue s t (Ok outcome.Waited) is = subst (Continues s) (sym is) (continues_self s)
-notes_continue s t (Ok outcome.NothingToLand) is = subst (Continues s) (sym is) (continues_self s)
-notes_continue s t (Ok outcome.Over) is = subst (Continues s) (sym is) (continues_self s)
-notes_continue s t (Ok outcome.NoHart) is = subst (Continues s) (sym is) (continues_self s)
-notes_continue s t (Err e) is = subst (Continues s) (sym is) (continues_self s)
+pub zip_right : {A B : Type 0} (R : A → B → Type 0) (P : A → Type 0) (Q : B → Type 0) → ((x : A) (y : B) → R x y → P x → Q y) → (xs : List A) (ys : List B) → AllZip R xs ys → All P xs → All Q ys
+zip_right R P Q step [] [] zip all = All-nil Q
+zip_right R P Q step [] (y ∷ ys) zip all = absurd zip
+zip_right R P Q step (x ∷ xs) [] zip all = absurd zip
+zip_right R P Q step (x ∷ xs) (y ∷ ys) (here, more) all =
+    All-cons Q y ys (step x y here (All-head P x xs all)) (zip_right R P Q step xs ys more (All-tail P x xs all))
 
-notes_alone_continue : {E : Type 0} (s t : SeatView) (r : Result Local E) → NotesAlone s r t → Continues s t
-notes_alone_continue s t (Ok (local.Did e)) is = (e ∷ [], is)
-notes_alone_continue s t (Ok local.NeedsMemory) is = subst (Continues s) (sym is) (continues_self s)
-notes_alone_continue s t (Ok local.Over) is = subst (Continues s) (sym is) (continues_self s)
-notes_alone_continue s t (Err e) is = subst (Continues s) (sym is) (continues_self s)
+-- the same of what the elements of one list show
+pub zip_before : {A B C : Type 0} (R : A → B → Type 0) (S : C → B → Type 0) (P : A → Type 0) (f : A → C) → ((x : A) (y : B) → R x y → P x → S (f x) y) → (xs : List A) (ys : List B) → AllZip R xs ys → All P xs → AllZip S (map f xs) ys
+zip_before R S P f step [] [] zip all = tt
+zip_before R S P f step [] (y ∷ ys) zip all = absurd zip
+zip_before R S P f step (x ∷ xs) [] zip all = absurd zip
+zip_before R S P f step (x ∷ xs) (y ∷ ys) (here, more) all = (step x y here (All-head P x xs all), zip_before R S P f step xs ys more (All-tail P x xs all))
 
-pub notes_alone_on : {E : Type 0} (s t u : SeatView) (r : Result Local E) → Continues s t → NotesAlone t r u → Continues s u
-notes_alone_on s t u r on notes = continues_on s t u on (notes_alone_continue t u r notes)
+pub zip_after : {A B C : Type 0} (R : A → B → Type 0) (S : A → C → Type 0) (f : B → C) → ((x : A) (y : B) → R x y → S x (f y)) → (xs : List A) (ys : List B) → AllZip R xs ys → AllZip S xs (map f ys)
+zip_after R S f step [] [] zip = tt
+zip_after R S f step [] (y ∷ ys) zip = absurd zip
+zip_after R S f step (x ∷ xs) [] zip = absurd zip
+zip_after R S f step (x ∷ xs) (y ∷ ys) (here, more) = (step x y here, zip_after R S f step xs ys more)
 
-pub notes_on : {E : Type 0} (s t u : SeatView) (r : Result Outcome E) → Continues s t → Notes t r u → Continues s u
-notes_on s t u r on notes = continues_on s t u on (notes_continue t u r notes)
+-- some of the first list's elements have been joined, and these are out
+pub record Joined {A B : Type 0} (R : A → B → Type 0) (whole out : List A) (came : List B) : Type 0 where
+  pub front : List A
+  pub split : whole ≡ front ++ out
+  pub zip : AllZip R front came
 
-pub same_role : (s t : SeatView) → Continues s t → t.acts ≡ s.acts
-same_role s t (more, is) = ap (λ (v : SeatView). v.acts) is
+pub joined_none : {A B : Type 0} (R : A → B → Type 0) (whole out : List A) (came : List B) → out ≡ whole → came ≡ [] → Joined R whole out came
+joined_none R whole out came all none = record { front = []; split = sym all; zip = subst (AllZip R []) (sym none) tt }
 
--- before any seat has come back
-pub none_came : {A B : Type 0} (f : A → SeatView) (g : B → SeatView) (given out : List A) (came : List B) → came ≡ [] → out ≡ given → ComeBack (map f given) (map g came ++ map f out)
-none_came f g given out came none all =
-    subst (λ (xs : List SeatView). ComeBack (map f given) xs) (sym (rw none (ap (map f) all))) (selves (map f given))
-  where
-    selves : (xs : List SeatView) → ComeBack xs xs
-    selves [] = tt
-    selves (x ∷ xs) = (continues_self x, selves xs)
+pub joined_more : {A B : Type 0} (R : A → B → Type 0) (whole out later : List A) (came grown : List B) (x : A) (y : B) → Joined R whole out came → out ≡ x ∷ later → R x y → grown ≡ came ++ y ∷ [] → Joined R whole later grown
+joined_more {A = A} {B = B} R whole out later came grown x y joined next here is = record {
+  front = joined.front ++ x ∷ [];
+  split = joined.split ∙ ap (λ (xs : List A). joined.front ++ xs) next ∙ sym (append_assoc joined.front (x ∷ []) later);
+  zip = subst (AllZip R (joined.front ++ x ∷ [])) (sym is) (all_zipped_more R joined.front came x y joined.zip here);
+}
 
-in_place : (given came out : List SeatView) (s t : SeatView) → ComeBack given (came ++ s ∷ out) → Continues s t → ComeBack given ((came ++ t ∷ []) ++ out)
-in_place [] [] out s t come on = absurd come
-in_place [] (c ∷ came) out s t come on = absurd come
-in_place (g ∷ given) [] out s t (first, rest) on = (continues_on g s t first on, rest)
-in_place (g ∷ given) (c ∷ came) out s t (first, rest) on = (first, in_place given came out s t rest on)
+pub joined_all : {A B : Type 0} (R : A → B → Type 0) (whole out : List A) (came : List B) → Joined R whole out came → out ≡ [] → AllZip R whole came
+joined_all {A = A} R whole out came joined none =
+    subst (λ (xs : List A). AllZip R xs came) (sym (joined.split ∙ ap (λ (xs : List A). joined.front ++ xs) none ∙ append-nil joined.front)) joined.zip
 
--- one seat more comes back
-pub one_more : {A B : Type 0} (f : A → SeatView) (g : B → SeatView) (given : List SeatView) (out later : List A) (came grown : List B) (x : A) (y : B) → ComeBack given (map g came ++ map f out) → out ≡ x ∷ later → Continues (f x) (g y) → grown ≡ came ++ y ∷ [] → ComeBack given (map g grown ++ map f later)
-one_more f g given out later came grown x y come next on is =
-    let whole : map g grown ≡ map g came ++ g y ∷ [] = ap (map g) is ∙ map-append g came (y ∷ []) in
-    subst (λ (xs : List SeatView). ComeBack given (xs ++ map f later)) (sym whole)
-    (in_place given (map g came) (map f later) (f x) (g y) (subst (λ (xs : List SeatView). ComeBack given (map g came ++ xs)) (ap (map f) next) come) on)
-
-pub as_given : (given held back come : List SeatView) → held ≡ given → come ≡ back → ComeBack held back → ComeBack given come
-as_given given held back come is last came = subst (λ (xs : List SeatView). ComeBack xs come) is (subst (ComeBack held) (sym last) came)
+-- ---- roles
 
 -- a seat without its diary
 record Role : Type 0 where
@@ -84,13 +78,13 @@ record Role : Type 0 where
 abbrev role_of : SeatView → Role
 role_of s = record { hart = s.hart; acts = s.acts }
 
-same_roles : (given back : List SeatView) → ComeBack given back → map role_of back ≡ map role_of given
-same_roles [] [] come = refl
-same_roles [] (t ∷ back) come = absurd come
-same_roles (s ∷ given) [] come = absurd come
-same_roles (s ∷ given) (t ∷ back) (on, come) =
-    let head : role_of t ≡ role_of s = ap role_of on.1 in
-    let tail : map role_of back ≡ map role_of given = same_roles given back come in
+same_roles : (n : ℕ) (given back : List SeatView) → AllZip (Continues n) given back → map role_of back ≡ map role_of given
+same_roles n [] [] come = refl
+same_roles n [] (t ∷ back) come = absurd come
+same_roles n (s ∷ given) [] come = absurd come
+same_roles n (s ∷ given) (t ∷ back) (on, come) =
+    let head : role_of t ≡ role_of s = ap role_of on.is in
+    let tail : map role_of back ≡ map role_of given = same_roles n given back come in
     cc
 
 -- a test of roles counts alike
@@ -117,11 +111,11 @@ same_any p (x ∷ xs) (y ∷ ys) is =
     let rest : list_any (λ s. p (role_of s)) xs ≡ list_any (λ s. p (role_of s)) ys = same_any p xs ys tail in
     rw (first, rest) refl
 
--- what is missing goes by harts and roles alone
-same_missing : (n h : ℕ) (given back : List SeatView) → ComeBack given back → is_missing n back h ≡ is_missing n given h
+-- what is missing depends on harts and roles alone
+same_missing : (k n h : ℕ) (given back : List SeatView) → AllZip (Continues k) given back → is_missing n back h ≡ is_missing n given h
 unfolding is_missing
-same_missing n h given back come =
-    let is : map role_of back ≡ map role_of given = same_roles given back come in
+same_missing k n h given back come =
+    let is : map role_of back ≡ map role_of given = same_roles k given back come in
     let acting : count_by (acts_for h) back ≡ count_by (acts_for h) given = same_count (λ (r : Role). eqb r.hart h && r.acts) back given is in
     let landing : count_by (lands_for h) back ≡ count_by (lands_for h) given = same_count (λ (r : Role). eqb r.hart h && not r.acts) back given is in
     let any : list_any (sits_at h) back ≡ list_any (sits_at h) given = same_any (λ (r : Role). eqb r.hart h) back given is in
@@ -133,9 +127,47 @@ true_isnt_false is = cc
 pub none_is_first : (n h : ℕ) (seats : List SeatView) → IsComplete n seats → IsFirst (is_missing n seats) h → ⊥
 none_is_first n h seats complete first = true_isnt_false (sym first.here ∙ complete h)
 
--- a refusal to gather the seats that come back, by those that were given
-pub fails_from : (B M : ℕ) (o : Start) (given back : List SeatView) (e : Gather) → IsComplete (length o.harts) given → ComeBack given back → Refuses B M o back e → Fails B M o given (fault_of e)
-fails_from B M o given back gather.NoMemory complete come why = complete
-fails_from B M o given back (gather.Missing h) complete come why =
-    absurd (true_isnt_false (sym why.here ∙ same_missing (length o.harts) h given back come ∙ complete h))
-fails_from B M o given back (gather.Mismatch h es) complete come why = record { back = back; come = come; mismatch = why }
+-- where no seat is missing, each is of a hart
+pub harts_within : (n : ℕ) (seats : List SeatView) → IsComplete n seats → All (λ (s : SeatView). s.hart < n) seats
+harts_within n seats complete k d lt = elim (cases_lt (get_or seats k d).hart n) [
+  | inl low ↦ low
+  | inr past ↦ absurd (true_isnt_false (sym (found (get_or seats k d) (Contains-get_or seats k d lt)) ∙ sym (missing_past n (get_or seats k d).hart seats past) ∙ complete (get_or seats k d).hart))
+]
+  where
+    found : (s : SeatView) → Contains seats s → list_any (sits_at s.hart) seats ≡ true
+    found s (i, low, is) = list_any-from_Any (sits_at s.hart) seats (i, s, low, is, eq-eqb s.hart s.hart refl)
+
+-- ---- what is gathered of the seats that come back, by those that were given
+
+grown : (n : ℕ) (es : List Entry) (s t : SeatView) → Continues n s t → Fits es t → GrowsInto n es s
+grown n es s t on fits = record {
+  more = on.more;
+  whole = sym (ap (λ (v : SeatView). part_of v es) on.is) ∙ sym fits ∙ ap (λ (v : SeatView). v.diary) on.is;
+  few = on.few;
+}
+
+pub merged_from : (n : ℕ) (o : Start) (es : List Entry) (given back : List SeatView) → IsComplete (length o.harts) given → AllZip (Continues n) given back → Merge (length o.harts) es back → IsMerged n o es given
+merged_from n o es given back complete come merge = record { complete = complete; parts = zip_left (Continues n) (Fits es) (GrowsInto n es) (grown n es) given back come merge.fit }
+
+can_belong : (M n : ℕ) (o : Start) (us : List Entry) (h : ℕ) (s t : SeatView) → Continues n s t → (t.hart < h → Belongs M o us t) → s.hart < h → CanBelong M n o us s
+can_belong M n o us h s t on good low = record {
+  more = on.more;
+  few = on.few;
+  belongs = subst (Belongs M o us) on.is (good (subst (λ (k : ℕ). k < h) (sym (ap (λ (v : SeatView). v.hart) on.is)) low));
+}
+
+-- a refusal to gather the seats that come back
+pub fails_from : (B M n : ℕ) (o : Start) (given back : List SeatView) (e : Gather) → IsComplete (length o.harts) given → AllZip (Continues n) given back → Refuses B M o back e → Fails B M n o given (fault_of e)
+fails_from B M n o given back gather.NoMemory complete come why = complete
+fails_from B M n o given back (gather.Missing h) complete come why =
+    absurd (true_isnt_false (sym why.here ∙ same_missing n (length o.harts) h given back come ∙ complete h))
+fails_from B M n o given back (gather.Mismatch h es) complete come why =
+    let all : All (λ (s : SeatView). s.hart < length o.harts) back = harts_within (length o.harts) back why.complete in
+    let bad = why.misfit.bad in
+    record {
+      complete = complete;
+      within = subst (λ (k : ℕ). k < length o.harts) bad.2 (All-contains (λ (s : SeatView). s.hart < length o.harts) back bad.0 all bad.1);
+      legal = why.legal;
+      memory = why.memory;
+      below = zip_left (Continues n) (λ (t : SeatView). t.hart < h → Belongs M o es.items t) (λ (s : SeatView). s.hart < h → CanBelong M n o es.items s) (can_belong M n o es.items h) given back come why.misfit.below;
+    }

@@ -26,7 +26,7 @@ pub missing_within : (n h : ℕ) (seats : List SeatView) → h < n → is_missin
 unfolding is_missing
 missing_within n h seats lt = ap (λ (b : Bool). cond b (not (is_seated h seats)) (list_any (sits_at h) seats)) (within h n lt)
 
-missing_past : (n h : ℕ) (seats : List SeatView) → n ≤ h → is_missing n seats h ≡ list_any (sits_at h) seats
+pub missing_past : (n h : ℕ) (seats : List SeatView) → n ≤ h → is_missing n seats h ≡ list_any (sits_at h) seats
 unfolding is_missing
 missing_past n h seats le = ap (λ (b : Bool). cond b (not (is_seated h seats)) (list_any (sits_at h) seats)) (past h n le)
 
@@ -46,7 +46,7 @@ none_between n h k seats le lt all = list_any_none (sits_at k) seats (All-weaker
     at s only true is = (let here : s.hart ≡ k = grind (arith, nat_tests) in let low : s.hart < n = only (omega arith) in absurd (omega arith))
     at s only false is = refl
 
-pub first_past : (n i : ℕ) (seats : List SeatView) (o : Option ℕ) → n ≤ i → ((k : ℕ) → k < i → is_missing n seats k ≡ false) → Found (λ s. s.hart < n) (λ s. n ≤ s.hart) seats o → MatchOption o (IsComplete n seats) (IsFirst (is_missing n seats))
+pub first_past : (n i : ℕ) (seats : List SeatView) (o : Option ℕ) → n ≤ i → ((k : ℕ) → k < i → is_missing n seats k ≡ false) → Found (λ s. s.hart) (λ s. s.hart < n) (λ s. n ≤ s.hart) seats o → MatchOption o (IsComplete n seats) (IsFirst (is_missing n seats))
 first_past n i seats None le below all = λ k. at k (cases_lt k n)
   where
     at : (k : ℕ) → (k < n) ⊎ (n ≤ k) → is_missing n seats k ≡ false

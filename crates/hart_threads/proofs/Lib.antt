@@ -7,3 +7,5 @@ pub mod Gathering
 pub mod GettingOn
 pub mod Replays
 pub mod SeatsBelow
+pub mod Fresh
+pub mod Returning

@@ -4,6 +4,7 @@ pub mod Missing
 pub mod Parts
 pub mod Diaries
 pub mod Records
+pub mod GettingOn
 pub mod Returns
 pub mod Faults
 pub mod inner

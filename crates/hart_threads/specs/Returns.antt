@@ -1,47 +1,61 @@
--- What running harts on threads answers, by the seats that were given and come back.
-use Rattle.std.specs.Prelude.{ℕ, ◌≡◌, List, ◌++◌, length}
-use Rattle.std.specs.List.{AllZip}
+-- What running harts on threads answers, by the seats that were given.
+use Rattle.std.specs.Prelude.{ℕ, ◌≡◌, ◌≤◌, ◌<◌, ◌⊎◌, List, ◌++◌, length, All}
 use Rattle.step_machine.specs.declared.events.Entry.{Entry}
-use Rattle.step_machine.specs.History.{Start}
+use Rattle.step_machine.specs.History.{Start, history_of}
+use Rattle.step_machine.specs.Legal.{Legal}
+use Rattle.step_machine.specs.Placing.{IsMemory}
 use Rattle.poll_close.specs.Layout.{opening_of}
 use Rattle.poll_close.specs.Laws.{Ring, Accepted}
 use Rattle.poll_close.specs.Refusals as refusals
 use Rattle.hart_threads.specs.Seats.{SeatView, seats_of}
 use Rattle.hart_threads.specs.Missing.{is_missing, IsFirst, IsComplete}
-use Rattle.hart_threads.specs.Parts.{Merge}
-use Rattle.hart_threads.specs.Records.{IsMismatch}
+use Rattle.hart_threads.specs.Parts.{part_of, Belongs}
+use Rattle.hart_threads.specs.Records.{IsRecord}
 use Rattle.hart_threads.specs.declared.record.Record.{Record}
 use Rattle.hart_threads.specs.declared.fault.Fault.{Fault}
 use Rattle.hart_threads.specs.declared.fault.Fault.TheVariants as fault
 use Rattle.hart_threads.specs.declared.fault.ChannelFault.{ChannelFault}
 use Rattle.hart_threads.specs.declared.fault.ChannelFault.TheVariants as channel
 
--- t is the seat s with perhaps more in its diary
-abbrev pub Continues : SeatView → SeatView → Type 0
-Continues s t = (more : List Entry) × (t ≡ record s { diary = s.diary ++ more })
+-- the seat's diary is a beginning of its part of the entries, which has at most n entries more
+pub record GrowsInto (n : ℕ) (es : List Entry) (s : SeatView) : Type 0 where
+  pub more : List Entry
+  pub whole : part_of s es ≡ s.diary ++ more
+  pub few : length more ≤ n
 
--- these are the given seats as they come back, in the same order
-abbrev pub ComeBack : List SeatView → List SeatView → Type 0
-ComeBack given back = AllZip Continues given back
+-- each hart has its two seats, and each seat's diary grows by at most n entries into its part
+pub record IsMerged (n : ℕ) (o : Start) (es : List Entry) (given : List SeatView) : Type 0 where
+  pub complete : IsComplete (length o.harts) given
+  pub parts : All (GrowsInto n es) given
 
--- the record's entries are merged of the diaries that come back
-pub record IsMerged (B M : ℕ) (o : Start) (given : List SeatView) (r : Record B M) : Type 0 where
-  pub back : List SeatView
-  pub come : ComeBack given back
-  pub merge : Merge (length o.harts) r.trace.entries back
+-- an act of hart h, the least such hart, found no such hart in the bank, though the seats make a record
+pub record IsLost (B M n : ℕ) (o : Start) (given : List SeatView) (h : ℕ) : Type 0 where
+  pub within : h < length o.harts
+  pub made : Record B M
+  pub record_of : IsRecord B M o made
+  pub merge : IsMerged n o made.trace.entries given
 
--- the diaries that come back are no parts of one history
-pub record IsMismatched (B M : ℕ) (o : Start) (given : List SeatView) (h : ℕ) (es : List Entry) : Type 0 where
-  pub back : List SeatView
-  pub come : ComeBack given back
-  pub mismatch : IsMismatch B M o back h es
+-- with at most n entries more in its diary the seat belongs to these memory entries
+pub record CanBelong (M n : ℕ) (o : Start) (us : List Entry) (s : SeatView) : Type 0 where
+  pub more : List Entry
+  pub few : length more ≤ n
+  pub belongs : Belongs M o us (record s { diary = s.diary ++ more })
 
--- why there is no record; where a seat is missing, that is what is told
-abbrev pub Fails : ℕ → ℕ → Start → List SeatView → Fault → Type 0
-Fails B M o given fault.NoMemory = IsComplete (length o.harts) given
-Fails B M o given fault.NoThread = IsComplete (length o.harts) given
-Fails B M o given (fault.Missing h) = IsFirst (is_missing (length o.harts) given) h
-Fails B M o given (fault.Mismatch h es) = IsMismatched B M o given h es.items
+-- the seats are all there, these memory entries are legal over the opening, and the seats of harts below
+-- hart h belong to them as they come back
+pub record IsMismatched (B M n : ℕ) (o : Start) (given : List SeatView) (h : ℕ) (us : List Entry) : Type 0 where
+  pub complete : IsComplete (length o.harts) given
+  pub within : h < length o.harts
+  pub legal : Legal B (history_of o us)
+  pub memory : All IsMemory us
+  pub below : All (λ s. s.hart < h → CanBelong M n o us s) given
+
+-- why there is no record after n turns or less; where a seat is missing, that is the answer
+abbrev pub Fails : ℕ → ℕ → ℕ → Start → List SeatView → Fault → Type 0
+Fails B M n o given fault.NoMemory = IsComplete (length o.harts) given
+Fails B M n o given fault.NoThread = IsComplete (length o.harts) given
+Fails B M n o given (fault.Missing h) = IsFirst (is_missing (length o.harts) given) h ⊎ IsLost B M n o given h
+Fails B M n o given (fault.Mismatch h es) = IsMismatched B M n o given h es.items
 
 -- ---- a channel on threads
 
@@ -49,11 +63,7 @@ Fails B M o given (fault.Mismatch h es) = IsMismatched B M o given h es.items
 abbrev pub channel_over : Ring → List (List ℕ) → ℕ → Start
 channel_over ring lists S = opening_of ring.sender ring.receiver lists S
 
--- each hart's two seats, which have done nothing
-abbrev pub fresh_seats : ℕ → Start → List SeatView
-fresh_seats M o = seats_of M o
-
--- why a channel on threads delivers nothing
-abbrev pub ChannelFails : Ring → ℕ → ℕ → List (List ℕ) → ℕ → ChannelFault → Type 0
-ChannelFails ring B M lists S (channel.Lists refused) = refusals.Refuses ring M lists S refused
-ChannelFails ring B M lists S (channel.Threads fault) = Accepted ring M lists S × Fails B M (channel_over ring lists S) (fresh_seats M (channel_over ring lists S)) fault
+-- why a channel on threads delivers nothing after n turns or less, with seats that have done nothing
+abbrev pub ChannelFails : Ring → ℕ → ℕ → ℕ → List (List ℕ) → ℕ → ChannelFault → Type 0
+ChannelFails ring B M n lists S (channel.Lists refused) = refusals.Refuses ring M lists S refused
+ChannelFails ring B M n lists S (channel.Threads fault) = Accepted ring M lists S × Fails B M n (channel_over ring lists S) (seats_of M (channel_over ring lists S)) fault

@@ -1,4 +1,4 @@
 -- What private functions say of themselves. No public clause names it.
 pub mod Seating
 pub mod Searches
-pub mod Endings
+pub mod Threads

@@ -3,9 +3,11 @@
 ghost use Rattle.std.specs.Prelude.{◌≡◌, ◌≤◌, IfOk, IfErr, OnOk, map};
 ghost use Rattle.step_machine.specs.Entries.{reported};
 ghost use Rattle.poll_close.specs.Laws.{Accepted};
+ghost use Rattle.poll_close.specs.Going.{AllGoOn};
 ghost use Rattle.poll_close.specs.Reports.{Clean};
 ghost use Rattle.hart_threads.specs.Records.{IsRecord};
-ghost use Rattle.hart_threads.specs.Returns.{channel_over, fresh_seats, IsMerged, ChannelFails};
+ghost use Rattle.hart_threads.specs.GettingOn.{AllGetOn, AtMost};
+ghost use Rattle.hart_threads.specs.Returns.{channel_over, ChannelFails};
 
 use crate::fault::ChannelFault;
 use crate::gate::Gate;
@@ -20,7 +22,8 @@ use std::thread::Threads;
 
 /// Runs a channel of this kind over these lists, through rings of `ring` slots, with a thread for each
 /// hart and each lander: the record, and what the receiver reports in it. Whatever the threads do, these
-/// reports are clean.
+/// reports are clean, no hart is stopped, and each hart makes at most `turns` entries, and each lander too.
+/// Under an open gate each hart gets on: it ends, makes `turns` entries, or comes to what may have to wait.
 ///
 /// Lists are refused as [`opening`] refuses them, and the threads run and fail as in [`run_harts`], with
 /// fresh seats. It may wait, for the lock and for the threads.
@@ -44,10 +47,12 @@ pub fn deliver_threads<
     requires memory { M ≤ 65536 }
     ensures accepted { OnOk result (Accepted K.ring M (map (λ v. v.items) lists.now) ring) }
     ensures record { IfOk result (λ r. IsRecord B M (channel_over K.ring (map (λ v. v.items) lists.now) ring) r.0) }
-    ensures merge { IfOk result (λ r. IsMerged B M (channel_over K.ring (map (λ v. v.items) lists.now) ring) (fresh_seats M (channel_over K.ring (map (λ v. v.items) lists.now) ring)) r.0) }
     ensures reports { IfOk result (λ r. r.1.items ≡ reported 0 r.0.trace.entries) }
     ensures clean { IfOk result (λ r. Clean r.1.items (map (λ v. v.items) lists.now)) }
-    ensures fault { IfErr result (ChannelFails K.ring B M (map (λ v. v.items) lists.now) ring) }
+    ensures goes { IfOk result (λ r. AllGoOn r.0.trace.entries) }
+    ensures few { IfOk result (λ r. AtMost turns r.0.trace) }
+    ensures gets_on { G.is_open gate.now → IfOk result (λ r. AllGetOn turns M r.0.trace) }
+    ensures fault { IfErr result (ChannelFails K.ring B M turns (map (λ v. v.items) lists.now) ring) }
 {
     laws_of_channels::<K>();
     let opening = opening::<K>(alloc, lists, ring, M)?;

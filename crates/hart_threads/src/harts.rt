@@ -1,15 +1,20 @@
 //! One thread for each seat.
 
-ghost use Rattle.std.specs.Prelude.{◌≡◌, ◌≤◌, ℕ, [], true, length, map, Err, IfOk, IfErr, vec_len, vec_capacity};
+ghost use Rattle.std.specs.Prelude.{◌≡◌, ◌≤◌, ◌<◌, ℕ, [], true, length, map, All, MatchBool, Err, IfOk, IfErr, vec_len, vec_capacity};
+ghost use Rattle.std.specs.List.{AllZip, HoldsAt};
 ghost use Rattle.hart_threads.specs.Missing.{is_missing, IsFirst};
 ghost use Rattle.hart_threads.specs.Records.{IsRecord};
-ghost use Rattle.hart_threads.specs.Returns.{Continues, ComeBack, IsMerged, Fails};
+ghost use Rattle.hart_threads.specs.GettingOn.{AllGetOn, OpensAs};
+ghost use Rattle.hart_threads.specs.Returns.{IsMerged, Fails};
+ghost use Rattle.hart_threads.specs.inner.Searches.{Found};
+ghost use Rattle.hart_threads.specs.inner.Threads.{Ran};
+ghost use Rattle.hart_threads.specs.declared.turns.Ending.TheVariants as ending;
 
 use crate::fault::Fault;
 use crate::gate::Gate;
 use crate::gather::spend;
 use crate::held::{Held, hold, release_all};
-use crate::missing::first_missing;
+use crate::missing::{first_missing, lesser};
 use crate::record::Record;
 use crate::seat::Seat;
 use crate::shared::Shared;
@@ -20,16 +25,18 @@ use std::sync::Wait;
 use std::thread;
 use std::thread::{Promise, PromisedHandle, Scope, Threads};
 
-/// The seat that comes back is the one that was given, with perhaps more in its diary.
+/// What a thread makes of the seat that it is given, with this gate and this many turns.
 #[derive(Drop)]
-struct Pledge<const M: usize> {
+struct Pledge<G: Gate, const M: usize> {
     given: Snapshot<Held<M>>,
+    gate: Snapshot<G>,
+    turns: u32,
 }
 
-impl<const M: usize> Promise<Returned<M>> for Pledge<M> {
-    ghost use Rattle.hart_threads.specs.Returns.{Continues};
+impl<G: Gate, const M: usize> Promise<Returned<M>> for Pledge<G, M> {
+    ghost use Rattle.hart_threads.specs.inner.Threads.{Ran};
 
-    ghost kept_by = { λ p r. Continues p.given.value.seat r.0.seat };
+    ghost kept_by = { λ p r. Ran (G.is_open p.gate.value) p.turns p.given.value.seat r.1 r.0.seat };
 }
 
 /// Starts a thread for each seat, up to one that the system refuses: whether it refused none.
@@ -40,19 +47,22 @@ fn start_all<'s, E, G: Gate + Sync, R: Wait + Sync, const B: usize, const M: usi
     gate: &'s G,
     turns: u32,
     seats: Vec<Held<M>>,
-    mut handles: Vec<PromisedHandle<Returned<M>, Pledge<M>>>,
-) -> (Vec<PromisedHandle<Returned<M>, Pledge<M>>>, bool)
+    mut handles: Vec<PromisedHandle<Returned<M>, Pledge<G, M>>>,
+) -> (Vec<PromisedHandle<Returned<M>, Pledge<G, M>>>, bool)
     requires room { vec_len seats ≤ vec_capacity handles }
     requires empty { handles.items ≡ [] }
     ensures few { vec_len result.0 ≤ vec_len seats.entry }
     ensures same { result.1 ≡ true → map (λ h. h.promise.given.value.seat) result.0.items ≡ map (λ h. h.seat) seats.entry.items }
+    ensures asked { All (λ h. (h.promise.gate.value ≡ gate.now) × (h.promise.turns ≡ turns)) result.0.items }
 {
     for held in seats {
         let pledge = Pledge {
             given: Snapshot::of(&held),
+            gate: Snapshot::of(gate),
+            turns,
         };
         let run = move || -> Returned<M>
-            ensures { Continues held.seat result.0.seat }
+            ensures { Ran (G.is_open gate.entry.now) turns held.seat result.1 result.0.seat }
         { turns_of(rt, shared, held, gate, turns) };
         match scope.spawn_with(pledge, run) {
             Ok(handle) => handles.push_reserved(handle),
@@ -62,66 +72,89 @@ fn start_all<'s, E, G: Gate + Sync, R: Wait + Sync, const B: usize, const M: usi
     (handles, true)
 }
 
-/// Waits for all threads: their seats, and whether one of them found no memory.
-fn join_all<R: Threads, const M: usize>(
+/// Waits for all threads: what each returns.
+fn join_all<G: Gate, R: Threads, const M: usize>(
     rt: &R,
-    handles: Vec<PromisedHandle<Returned<M>, Pledge<M>>>,
-    mut back: Vec<Held<M>>,
-) -> (Vec<Held<M>>, bool)
+    handles: Vec<PromisedHandle<Returned<M>, Pledge<G, M>>>,
+    mut back: Vec<Returned<M>>,
+) -> Vec<Returned<M>>
     requires room { vec_len handles ≤ vec_capacity back }
     requires empty { back.items ≡ [] }
-    ensures few { vec_len result.0 ≤ vec_len handles.entry }
-    ensures come { ComeBack (map (λ h. h.promise.given.value.seat) handles.entry.items) (map (λ h. h.seat) result.0.items) }
+    ensures few { vec_len result ≤ vec_len handles }
+    ensures kept { AllZip (λ h r. Ran (G.is_open h.promise.gate.value) h.promise.turns h.promise.given.value.seat r.1 r.0.seat) handles.items result.items }
 {
-    let mut refused = false;
     for handle in handles {
-        let (held, ending) = handle.join(rt);
-        back.push_reserved(held);
-        refused |= ending == Ending::NoMemory;
+        back.push_reserved(handle.join(rt));
     }
-    (back, refused)
+    back
 }
 
-/// Runs a thread for each seat to its end: the seats as they come back, whether a thread found no
-/// memory, and whether all could start.
+/// Runs a thread for each seat to its end: what each returns, and whether all could start.
 fn run_all<G: Gate + Sync, R: Threads + Wait + Sync, const B: usize, const M: usize>(
     rt: &R,
     shared: &Shared<B, M>,
     gate: &G,
     turns: u32,
     held: Vec<Held<M>>,
-    handles: Vec<PromisedHandle<Returned<M>, Pledge<M>>>,
-    back: Vec<Held<M>>,
-) -> (Vec<Held<M>>, bool, bool)
+    handles: Vec<PromisedHandle<Returned<M>, Pledge<G, M>>>,
+    back: Vec<Returned<M>>,
+) -> (Vec<Returned<M>>, bool)
     requires none { handles.items ≡ [] }
     requires empty { back.items ≡ [] }
     requires room { vec_len held ≤ vec_capacity handles }
     requires space { vec_len held ≤ vec_capacity back }
     ensures few { vec_len result.0 ≤ vec_len held.entry }
-    ensures come { result.2 ≡ true → ComeBack (map (λ h. h.seat) held.entry.items) (map (λ h. h.seat) result.0.items) }
+    ensures ran { result.1 ≡ true → AllZip (λ s r. Ran (G.is_open gate.now) turns s r.1 r.0.seat) (map (λ h. h.seat) held.entry.items) result.0.items }
 {
     thread::scope(
         thread::scope_env(),
         rt,
-        |scope| -> (Vec<Held<M>>, bool, bool)
+        |scope| -> (Vec<Returned<M>>, bool)
             requires { (handles.items ≡ []) × (back.items ≡ []) × (vec_len held ≤ vec_capacity handles) × (vec_len held ≤ vec_capacity back) }
             ensures few { vec_len result.0 ≤ vec_len held }
-            ensures come { result.2 ≡ true → ComeBack (map (λ h. h.seat) held.items) (map (λ h. h.seat) result.0.items) }
+            ensures ran { result.1 ≡ true → AllZip (λ s r. Ran (G.is_open gate.entry.now) turns s r.1 r.0.seat) (map (λ h. h.seat) held.items) result.0.items }
         {
             let (handles, started) = start_all(scope, rt, shared, gate, turns, held, handles);
-            let (back, refused) = join_all(rt, handles, back);
-            (back, refused, started)
+            (join_all(rt, handles, back), started)
         },
     )
 }
 
+/// Whether a thread found no memory.
+fn lacked_memory<const M: usize>(back: &[Returned<M>]) -> bool
+    ensures { MatchBool result ((k : ℕ) × (k < length back.now) × HoldsAt (λ r. r.1 ≡ ending.NoMemory) back.now k) (All (λ r. r.1 ≡ ending.NoMemory → ⊥) back.now) }
+{
+    for one in back {
+        if one.1 == Ending::NoMemory {
+            return true;
+        }
+    }
+    false
+}
+
+/// The least hart of which an act found no such hart.
+#[tactic(auto, using(crate::proofs::Least::good_more, crate::proofs::Least::bad_more))]
+fn least_lost<const M: usize>(back: &[Returned<M>]) -> Option<u32>
+    ensures { Found (λ r. r.0.seat.hart) (λ r. r.0.seat.acts ≡ true → r.1 ≡ ending.NoHart → ⊥) (λ r. (r.0.seat.acts ≡ true) × (r.1 ≡ ending.NoHart)) back.now result }
+{
+    let mut least = None;
+    for one in back {
+        if one.1 == Ending::NoHart && one.0.seat.acts() {
+            least = Some(lesser(least, one.0.seat.hart()));
+        }
+    }
+    least
+}
+
 /// Runs each seat on a thread of its own, waits for all of them and gathers what they did.
 ///
-/// A hart's thread asks the gate before each call and ends where it answers `false`, where its hart is
-/// over, or after so many calls. A lander's thread ends where its hart is over and has no pending store,
-/// or after so many calls. A thread whose call finds no memory ends; the others go on. No thread starts
-/// where a seat is missing. Each error gives up the machine and the seats. It may wait, for the lock and
-/// for the threads.
+/// A turn of a hart's thread is one question to the gate, by the turn's number from 1, and one instruction:
+/// [`Seat::local`] and, where that leaves it, [`Shared::act`]. The thread ends where the gate answers `false`,
+/// where its hart is over, or after `turns` turns. A lander's thread ends where its hart is over and has no
+/// pending store, or after `turns` calls of [`Shared::land`]. A thread whose call finds no memory ends; the
+/// others go on. Where an act found no such hart and the seats make a record, the least such hart is
+/// missing; no run of this crate ever ends so, but a lock's type can't say it. No thread starts where a seat
+/// is missing. Each error gives up the bank and the seats. It may wait, for the lock and for the threads.
 pub fn run_harts<G: Gate + Sync, R: Threads + Wait + Sync, const B: usize, const M: usize>(
     rt: &R,
     alloc: Global,
@@ -131,9 +164,10 @@ pub fn run_harts<G: Gate + Sync, R: Threads + Wait + Sync, const B: usize, const
     turns: u32,
 ) -> Result<Record<B, M>, Fault>
     ensures missing { (h : ℕ) → IsFirst (is_missing (length shared.entry.harts) seats.entry.items) h → result ≡ Err (Fault.Missing h) }
-    ensures fault { IfErr result (Fails B M shared.entry seats.entry.items) }
+    ensures fault { IfErr result (Fails B M turns shared.entry seats.entry.items) }
     ensures record { IfOk result (IsRecord B M shared.entry) }
-    ensures merge { IfOk result (IsMerged B M shared.entry seats.entry.items) }
+    ensures merge { IfOk result (λ r. IsMerged turns shared.entry r.trace.entries seats.entry.items) }
+    ensures gets_on { G.is_open gate.now → All (OpensAs M shared.entry) seats.entry.items → IfOk result (λ r. AllGetOn turns M r.trace) }
 {
     if let Some(hart) = first_missing(shared.harts(), seats.as_slice()) {
         spend(seats);
@@ -146,15 +180,21 @@ pub fn run_harts<G: Gate + Sync, R: Threads + Wait + Sync, const B: usize, const
     let Ok(seats) = Vec::with_capacity(alloc, held.len()) else {
         return Err(Fault::NoMemory);
     };
-    let (back, refused, started) = run_all(rt, &shared, gate, turns, held, handles, back);
+    let (back, started) = run_all(rt, &shared, gate, turns, held, handles, back);
+    let lacked = lacked_memory(back.as_slice());
+    let lost = least_lost(back.as_slice());
     let seats = release_all(back, seats);
     if !started {
         spend(seats);
         return Err(Fault::NoThread);
     }
-    if refused {
+    if lacked {
         spend(seats);
         return Err(Fault::NoMemory);
     }
-    Ok(shared.gather(alloc, seats)?)
+    let record = shared.gather(alloc, seats)?;
+    match lost {
+        Some(hart) => Err(Fault::Missing { hart }),
+        None => Ok(record),
+    }
 }

@@ -4,6 +4,7 @@ ghost use Rattle.std.specs.Prelude.{◌≡◌, ◌≤◌, [], map, IfOk, vec_len
 
 use crate::gather::spend;
 use crate::seat::Seat;
+use crate::turns::Returned;
 use std::alloc::{AllocError, Global};
 
 /// A seat that can be let go, as all must that a thread holds or returns: letting it go gives it up.
@@ -46,17 +47,17 @@ pub(crate) fn hold<const M: usize>(
     Ok(held)
 }
 
-/// The seats that were held, in a vector that has the room.
+/// The seats that came back, in a vector that has the room.
 pub(crate) fn release_all<const M: usize>(
-    held: Vec<Held<M>>,
+    back: Vec<Returned<M>>,
     mut seats: Vec<Seat<M>>,
 ) -> Vec<Seat<M>>
-    requires room { vec_len held ≤ vec_capacity seats }
+    requires room { vec_len back ≤ vec_capacity seats }
     requires empty { seats.items ≡ [] }
-    ensures { result.items ≡ map (λ h. h.seat) held.entry.items }
+    ensures { result.items ≡ map (λ r. r.0.seat) back.entry.items }
 {
-    for one in held {
-        seats.push_reserved(one.release());
+    for (held, _) in back {
+        seats.push_reserved(held.release());
     }
     seats
 }

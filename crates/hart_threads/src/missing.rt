@@ -6,8 +6,8 @@ ghost use Rattle.hart_threads.specs.inner.Searches.{lesser, Found};
 
 use crate::seat::Seat;
 
-/// The least number that is a hart, of so many, without exactly one seat of each role, or that is no
-/// hart and has a seat.
+/// The least number that is one of `harts` harts without exactly one seat of each role, or that is no hart
+/// and has a seat.
 pub(crate) fn first_missing<const M: usize>(harts: u32, seats: &[Seat<M>]) -> Option<u32>
     ensures { MatchOption result (IsComplete harts seats.now) (IsFirst (is_missing harts seats.now)) }
 {
@@ -37,10 +37,10 @@ fn is_seated<const M: usize>(hart: u32, seats: &[Seat<M>]) -> bool
     acting == 1 && landing == 1
 }
 
-/// The least hart of a seat that is none of so many harts.
+/// The least hart of a seat that is none of `harts` harts.
 #[tactic(auto, using(crate::proofs::Least::good_more, crate::proofs::Least::bad_more))]
 fn least_past<const M: usize>(harts: u32, seats: &[Seat<M>]) -> Option<u32>
-    ensures { Found (λ s. s.hart < harts) (λ s. harts ≤ s.hart) seats.now result }
+    ensures { Found (λ s. s.hart) (λ s. s.hart < harts) (λ s. harts ≤ s.hart) seats.now result }
 {
     let mut least = None;
     for seat in seats {

@@ -1,8 +1,9 @@
 //! What one thread does with its seat.
 
-ghost use Rattle.std.specs.Prelude.{◌≡◌, true, false};
-ghost use Rattle.hart_threads.specs.Returns.{Continues};
-ghost use Rattle.hart_threads.specs.inner.Endings.{ending_of, Turned, WhereDone, GotOn};
+ghost use Rattle.std.specs.Prelude.{◌≡◌, ◌<◌, ◌+◌, ◌-◌, ◌^◌, true, false, IfOk, IsSomeAnd};
+ghost use Rattle.hart_threads.specs.Seats.{Answers, Notes, state_in};
+ghost use Rattle.hart_threads.specs.inner.Threads.{Continues, GotOn, IsEnding, Ran, WhereDone, ending_of, last_answer, no_calls};
+ghost use Rattle.hart_threads.specs.declared.turns.Ending.TheVariants.{HeldBack};
 
 use crate::gate::Gate;
 use crate::held::Held;
@@ -14,17 +15,57 @@ use std::sync::Wait;
 use std::thread;
 use step_machine::Outcome;
 
-/// How a thread ended: by its gate, at its hart's end or after its turns; since the bank has no such
+/// How a thread ended: held back by its gate; at its hart's end; after its turns; since the bank has no such
 /// hart; or for want of memory.
 #[derive(Clone, Copy, Debug, PartialEq, Eq)]
 pub(crate) enum Ending {
-    Done,
+    HeldBack,
+    Over,
+    TurnsDone,
     NoHart,
     NoMemory,
 }
 
 /// A thread's seat as it comes back, and how the thread ended.
 pub(crate) type Returned<const M: usize> = (Held<M>, Ending);
+
+/// The calls that a thread has made: how many, and what the last one answered, if it found memory.
+#[derive(Clone, Copy, Debug)]
+pub(crate) struct Calls {
+    made: u32,
+    last: Option<Outcome>,
+}
+
+impl Calls {
+    fn none() -> Calls
+        ensures { result ≡ no_calls }
+    {
+        Calls {
+            made: 0,
+            last: None,
+        }
+    }
+
+    /// Counts one call more. How the thread ends by its answer, if it does.
+    fn count(&mut self, answer: Result<Outcome, AllocError>) -> Option<Ending>
+        requires { self.old.made < 2 ^ 32 - 1 }
+        ensures made { self.new.made ≡ self.old.made + 1 }
+        ensures last { self.new.last ≡ last_answer answer }
+        ensures ending { result ≡ ending_of answer }
+    {
+        self.made += 1;
+        match answer {
+            Ok(outcome) => self.last = Some(outcome),
+            Err(_) => self.last = None,
+        }
+        match answer {
+            Ok(Outcome::Over) => Some(Ending::Over),
+            Ok(Outcome::NoHart) => Some(Ending::NoHart),
+            Ok(_) => None,
+            Err(_) => Some(Ending::NoMemory),
+        }
+    }
+}
 
 /// The turns of an acting or of a landing seat. It may wait for the lock.
 pub(crate) fn turns_of<G: Gate, R: Wait, const B: usize, const M: usize>(
@@ -34,69 +75,58 @@ pub(crate) fn turns_of<G: Gate, R: Wait, const B: usize, const M: usize>(
     gate: &G,
     turns: u32,
 ) -> Returned<M>
-    ensures { Continues held.entry.seat result.0.seat }
+    ensures { Ran (G.is_open gate.now) turns held.entry.seat result.1 result.0.seat }
 {
-    let ending = if held.seat.acts() {
+    let ended = if held.seat.acts() {
         acting_turns(rt, shared, &mut held.seat, gate, turns)
     } else {
         landing_turns(rt, shared, &mut held.seat, turns)
     };
-    (held, ending)
+    (held, ended.0)
 }
 
-/// How a thread ends by the answer of a call, if it does.
-fn ending_of(answer: Result<Outcome, AllocError>) -> Option<Ending>
-    ensures { result ≡ ending_of answer }
-{
-    match answer {
-        Ok(Outcome::Over) => Some(Ending::Done),
-        Ok(Outcome::NoHart) => Some(Ending::NoHart),
-        Ok(_) => None,
-        Err(_) => Some(Ending::NoMemory),
-    }
-}
-
-/// Lets the hart take turns until the gate holds it back, it is over or the turns are done. A turn is one
-/// instruction: without the lock where it needs no memory, else with it.
+/// Lets the hart take turns until the gate holds it back, it is over or the turns are done. The gate is asked
+/// before each turn, by the turn's number.
 fn acting_turns<G: Gate, R: Wait, const B: usize, const M: usize>(
     rt: &R,
     shared: &Shared<B, M>,
     seat: &mut Seat<M>,
     gate: &G,
     turns: u32,
-) -> Ending
+) -> (Ending, Calls)
     requires { seat.old.acts ≡ true }
-    ensures on { Continues seat.old seat.new }
-    ensures got_on { G.is_open gate.now → WhereDone result (GotOn turns seat.old seat.new) }
+    ensures on { Continues turns seat.old seat.new }
+    ensures got_on { G.is_open gate.now → WhereDone result.0 (GotOn turns seat.old seat.new) }
+    ensures ends { IsEnding turns result.0 result.1 }
 {
-    for call in 0..turns {
-        if !gate.pass(seat.hart(), call + 1) {
-            return Ending::Done;
+    let mut calls = Calls::none();
+    while calls.made < turns {
+        if !gate.pass(seat.hart(), calls.made + 1) {
+            return (Ending::HeldBack, calls);
         }
-        if let Some(ending) = turn(rt, shared, seat) {
-            return ending;
+        let answer = turn(rt, shared, seat);
+        if let Some(ending) = calls.count(answer) {
+            return (ending, calls);
         }
         thread::yield_now();
     }
-    Ending::Done
+    (Ending::TurnsDone, calls)
 }
 
-/// One instruction: without the lock where it needs no memory, else with it. How the thread ends by it, if
-/// it does.
+/// One instruction, as [`Shared::act`] does it, but without the lock where it needs no memory.
 fn turn<R: Wait, const B: usize, const M: usize>(
     rt: &R,
     shared: &Shared<B, M>,
     seat: &mut Seat<M>,
-) -> Option<Ending>
+) -> Result<Outcome, AllocError>
     requires { seat.old.acts ≡ true }
-    ensures on { Continues seat.old seat.new }
-    ensures turned { Turned seat.old result seat.new }
+    ensures diary { Notes seat.old result seat.new }
+    ensures answers { IfOk result (λ o. IsSomeAnd (state_in seat.old) (λ s. Answers s o)) }
 {
-    match seat.local() {
-        Ok(Local::Did(_)) => None,
-        Ok(Local::NeedsMemory) => ending_of(shared.act(rt, seat)),
-        Ok(Local::Over) => ending_of(shared.act(rt, seat)),
-        Err(_) => Some(Ending::NoMemory),
+    match seat.local()? {
+        Local::Did(entry) => Ok(Outcome::Did(entry)),
+        Local::NeedsMemory => shared.act(rt, seat),
+        Local::Over => shared.act(rt, seat),
     }
 }
 
@@ -106,16 +136,19 @@ fn landing_turns<R: Wait, const B: usize, const M: usize>(
     shared: &Shared<B, M>,
     seat: &mut Seat<M>,
     turns: u32,
-) -> Ending
+) -> (Ending, Calls)
     requires { seat.old.acts ≡ false }
-    ensures { Continues seat.old seat.new }
+    ensures on { Continues turns seat.old seat.new }
+    ensures ends { IsEnding turns result.0 result.1 }
+    ensures free { result.0 ≡ HeldBack → ⊥ }
 {
-    for _ in 0..turns {
+    let mut calls = Calls::none();
+    while calls.made < turns {
         let answer = shared.land(rt, seat);
-        if let Some(ending) = ending_of(answer) {
-            return ending;
+        if let Some(ending) = calls.count(answer) {
+            return (ending, calls);
         }
         thread::yield_now();
     }
-    Ending::Done
+    (Ending::TurnsDone, calls)
 }

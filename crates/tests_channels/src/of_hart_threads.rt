@@ -5,7 +5,7 @@ use hart_threads::{Fault, Gate, Gather, Local, Open, Record, Seat, Shared, run_h
 use std::alloc::{AllocError, Global};
 use std::process::Abort;
 use std::sync::Wait;
-use std::sync::atomic::{AtomicBool, Ordering};
+use std::sync::atomic::{AtomicBool, AtomicU32, Ordering};
 use std::test::Fail;
 use std::thread;
 use step_machine::{Entry, HartOpening, Machine, Opening, Outcome};
@@ -160,7 +160,10 @@ fn count_and_store(alloc: Global) -> Result<Opening, AllocError> {
 fn work_without_the_lock_is_put_back(rt: HostRuntime) {
     let opening = count_and_store(rt.alloc()).expect(&rt, "memory");
     assert!(rt; opening.fits(16));
-    let opened: Result<(Shared<4, 16>, Vec<Seat<16>>), AllocError> = Shared::open(rt.alloc(), opening);
+    let opened: Result<(Shared<4, 16>, Vec<Seat<16>>), AllocError> = Shared::open(
+        rt.alloc(),
+        opening,
+    );
     let (shared, mut seats) = opened.expect(&rt, "memory");
     assert!(rt; seats.len() == 4);
     let inner = Entry::Inner { hart: 0 };
@@ -182,13 +185,178 @@ fn work_without_the_lock_is_put_back(rt: HostRuntime) {
     let second = &mut seats[2];
     assert!(rt; second.acts());
     assert_eq!(rt; second.local().expect(&rt, "memory"), Local::NeedsMemory);
-    assert_eq!(rt; shared.act(&rt, second).expect(&rt, "memory"), Outcome::Did(load));
+    assert_eq!(rt;
+        shared.act(&rt, second).expect(&rt, "memory"),
+        Outcome::Did(load)
+    );
     let first = &mut seats[0];
     assert!(rt; first.acts());
-    assert_eq!(rt; shared.act(&rt, first).expect(&rt, "memory"), Outcome::Did(store));
+    assert_eq!(rt;
+        shared.act(&rt, first).expect(&rt, "memory"),
+        Outcome::Did(store)
+    );
     let record = shared.gather(rt.alloc(), seats).expect(&rt, "a record");
-    assert_eq!(rt; record.trace.entries.as_slice(), [load, inner, store].as_slice());
+    assert_eq!(rt;
+        record.trace.entries.as_slice(),
+        [load, inner, store].as_slice()
+    );
     assert!(rt; record.machine.entries() == record.trace.entries.as_slice());
+}
+
+/// One hart, with 7 in x5, the address 0 in x6 and this code.
+fn one_hart(rt: &(impl Abort + AllocGlobal), code: &[u32]) -> (Shared<4, 16>, Vec<Seat<16>>) {
+    let mut registers = [0; 32];
+    registers[5] = 7;
+    let mut harts = Vec::new(rt.alloc());
+    let code = Vec::from_slice(rt.alloc(), code).expect(rt, "memory");
+    let inbox = Vec::new(rt.alloc());
+    let hart = HartOpening {
+        code,
+        registers,
+        inbox,
+    };
+    harts.push(hart).expect(rt, "memory");
+    let words = Vec::new(rt.alloc());
+    let opening = Opening { harts, words };
+    assert!(rt; opening.fits(16));
+    Shared::open(rt.alloc(), opening).expect(rt, "memory")
+}
+
+/// What that hart's store and its landing are.
+const STORE: Entry = Entry::Store {
+    hart: 0,
+    addr: 0,
+    width: 4,
+    value: 7,
+};
+
+const LAND: Entry = Entry::Land { hart: 0 };
+
+#[test]
+fn a_lander_is_over_once_its_hart_has_ended(rt: HostRuntime) {
+    // sw x5,0(x6)
+    let (shared, mut seats) = one_hart(&rt, &[0x0053_2023]);
+    assert!(rt; seats.len() == 2);
+    let acting = &mut seats[0];
+    assert!(rt; acting.acts());
+    assert_eq!(rt;
+        shared.act(&rt, acting).expect(&rt, "memory"),
+        Outcome::Did(STORE)
+    );
+    let landing = &mut seats[1];
+    assert!(rt; !landing.acts());
+    assert_eq!(rt;
+        shared.land(&rt, landing).expect(&rt, "memory"),
+        Outcome::Did(LAND)
+    );
+    assert_eq!(rt;
+        shared.land(&rt, landing).expect(&rt, "memory"),
+        Outcome::Over
+    );
+    let record = shared.gather(rt.alloc(), seats).expect(&rt, "a record");
+    assert_eq!(rt; record.trace.entries.as_slice(), [STORE, LAND].as_slice());
+    assert_eq!(rt; record.machine.word(0), 7);
+}
+
+#[test]
+fn a_hart_loads_what_it_stored(rt: HostRuntime) {
+    // sw x5,0(x6); lw x7,0(x6)
+    let (shared, seats) = one_hart(&rt, &[0x0053_2023, 0x0003_2383]);
+    let record = run_harts(&rt, rt.alloc(), shared, seats, &Open, 1000);
+    let record = record.expect(&rt, "a record");
+    assert!(rt; record.machine.harts() == 1);
+    assert_eq!(rt; record.machine.status(0), Status::Ended);
+    assert_eq!(rt; record.machine.register(0, 7), 7);
+}
+
+#[test]
+fn a_fence_waits_for_the_landers_thread(rt: HostRuntime) {
+    // sw x5,0(x6); fence rw,rw; lw x7,0(x6)
+    let (shared, seats) = one_hart(&rt, &[0x0053_2023, 0x0330_000f, 0x0003_2383]);
+    let record = run_harts(&rt, rt.alloc(), shared, seats, &Open, 10_000_000);
+    let record = record.expect(&rt, "a record");
+    let fence = Entry::Fence {
+        hart: 0,
+        full: true,
+    };
+    let load = Entry::Load {
+        hart: 0,
+        addr: 0,
+        width: 4,
+        value: 7,
+    };
+    assert_eq!(rt;
+        record.trace.entries.as_slice(),
+        [STORE, LAND, fence, load].as_slice()
+    );
+    assert!(rt; record.machine.harts() == 1);
+    assert_eq!(rt; record.machine.status(0), Status::Ended);
+    assert_eq!(rt; record.machine.word(0), 7);
+}
+
+/// Closes at each hart's third call, and says whether a call came out of turn.
+#[derive(Drop)]
+pub(crate) struct Thrice {
+    first: AtomicU32,
+    others: AtomicU32,
+    out_of_turn: AtomicBool,
+}
+
+impl Thrice {
+    pub(crate) fn new() -> Thrice {
+        Thrice {
+            first: AtomicU32::new(0),
+            others: AtomicU32::new(0),
+            out_of_turn: AtomicBool::new(false),
+        }
+    }
+
+    /// How often the two harts asked, and whether each asked by 1, 2 and so on.
+    pub(crate) fn asked(&self) -> (u32, u32, bool) {
+        (
+            self.first.load(Ordering::SeqCst),
+            self.others.load(Ordering::SeqCst),
+            !self.out_of_turn.load(Ordering::SeqCst),
+        )
+    }
+}
+
+impl Gate for Thrice {
+    ghost is_open = { λ _. ⊥ };
+
+    fn pass(&self, hart: u32, call: u32) -> bool {
+        let calls = if hart == 0 { &self.first } else { &self.others };
+        let before = calls.load(Ordering::SeqCst);
+        if call != before.wrapping_add(1) {
+            self.out_of_turn.store(true, Ordering::SeqCst);
+        }
+        calls.store(call, Ordering::SeqCst);
+        call < 3
+    }
+}
+
+#[test]
+fn a_gate_is_asked_before_each_turn(rt: HostRuntime) {
+    // here: jal x0,here
+    let (shared, seats) = one_hart(&rt, &[0x0000_006f]);
+    let gate = Thrice::new();
+    let record = run_harts(&rt, rt.alloc(), shared, seats, &gate, 10);
+    let record = record.expect(&rt, "a record");
+    let inner = Entry::Inner { hart: 0 };
+    assert_eq!(rt; record.trace.entries.as_slice(), [inner, inner].as_slice());
+    assert_eq!(rt; gate.asked(), (3, 0, true));
+}
+
+#[test]
+fn a_seat_is_missing_where_there_is_none(rt: HostRuntime) {
+    let (machine, seats) = shared(&rt);
+    give_up_all(&rt, seats);
+    let answer = machine.gather(rt.alloc(), Vec::new(rt.alloc()));
+    assert!(rt; matches!(answer, Err(Gather::Missing { hart: 0 })));
+    let (machine, seats) = shared(&rt);
+    let seats = without_last(&rt, without_last(&rt, seats));
+    let answer = machine.gather(rt.alloc(), seats);
+    assert!(rt; matches!(answer, Err(Gather::Missing { hart: 1 })));
 }
 
 #[test]

@@ -3,6 +3,7 @@
 
 ghost use Rattle.std.specs.Prelude.{◌≤◌};
 
+use crate::of_hart_threads::Thrice;
 use assembler::assemble;
 use fastforward::FastForward;
 use hart::{Report, Status};
@@ -288,6 +289,24 @@ fn threads_deliver_what_their_events_deliver(rt: HostRuntime) -> Result<(), Fail
     assert_eq!(rt; record.machine.status(1), Status::Ended);
     let again = deliver::<Lamport, 4, 4096>(rt.alloc(), &lists, 2, &record.events)?;
     assert_eq!(rt; reports.as_slice(), again.as_slice());
+    Ok(())
+}
+
+#[test]
+fn a_channels_gate_is_asked_before_each_turn(rt: HostRuntime) -> Result<(), Fail> {
+    let lists = one_list(rt.alloc(), &[5])?;
+    let gate = Thrice::new();
+    let answer = deliver_threads::<Lamport, 4, 4096, Thrice, HostRuntime>(
+        &rt,
+        rt.alloc(),
+        &lists,
+        2,
+        &gate,
+        1000,
+    );
+    let (record, _) = answer.expect(&rt, "a record");
+    assert_eq!(rt; gate.asked(), (3, 3, true));
+    assert_eq!(rt; record.trace.entries.len(), 4);
     Ok(())
 }
 

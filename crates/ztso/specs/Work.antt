@@ -117,9 +117,10 @@ DoesErrand Asm result given contents old new = Ends (WithStatusBy done_status Is
 DoesErrand Dis result given contents old new = Ends (WithStatusBy done_status IsDisAnswer given) result contents old new
 DoesErrand (Machine work capacity) result given contents old new = DoesWork (stores_of capacity) work result given contents old new
 
--- the same of a run of a litmus test on threads, with buffers of this capacity, by the file that was read
-abbrev pub DoesThreads : {W : Type 0} → Capacity → Result ℕ Fault → (file : Option (List ℕ)) → (contents : W → Option (List ℕ)) → (old new : W) → Type 0
-DoesThreads capacity result file contents old new = Ends (WithStatus verdict_status (λ answer. OfInput file (λ bytes. IsThreadsAnswer (stores_of capacity) WORDS bytes answer))) result contents old new
+-- the same of a run of a litmus test on threads, with n turns each and buffers of this capacity, by the
+-- file that was read
+abbrev pub DoesThreads : {W : Type 0} → ℕ → Capacity → Result ℕ Fault → (file : Option (List ℕ)) → (contents : W → Option (List ℕ)) → (old new : W) → Type 0
+DoesThreads n capacity result file contents old new = Ends (WithStatus verdict_status (λ answer. OfInput file (λ bytes. IsThreadsAnswer (stores_of capacity) WORDS n bytes answer))) result contents old new
 
 -- ---- what is left unread
 

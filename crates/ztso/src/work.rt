@@ -316,7 +316,7 @@ pub fn do_threads<F: Read, W: Write, T: Threads + Wait + Sync>(
     file: &mut F,
     writer: &mut W,
 ) -> Result<u8, Fault>
-    ensures { DoesThreads capacity result (F.remaining file.old) W.contents writer.old writer.new }
+    ensures { DoesThreads turns capacity result (F.remaining file.old) W.contents writer.old writer.new }
 {
     match capacity {
         Capacity::One => run_threads::<1, _, _, _>(rt, alloc, turns, file, writer),
@@ -336,7 +336,7 @@ fn run_threads<const B: usize, F: Read, W: Write, T: Threads + Wait + Sync>(
 ) -> Result<u8, Fault>
     requires some_capacity { 1 ≤ B }
     requires capacity { B ≤ 64 }
-    ensures { Ends (WithStatus verdict_status (λ answer. OfInput (F.remaining file.old) (λ bytes. IsThreadsAnswer B WORDS bytes answer))) result W.contents writer.old writer.new }
+    ensures { Ends (WithStatus verdict_status (λ answer. OfInput (F.remaining file.old) (λ bytes. IsThreadsAnswer B WORDS turns bytes answer))) result W.contents writer.old writer.new }
 {
     after_run(threads_engine::<B, WORDS, _, _, _>(rt, alloc, file, turns, writer))
 }

@@ -9,7 +9,7 @@ use Rattle.step_machine.specs.History.{Start}
 use Rattle.litmus.specs.Questions.{Question}
 use Rattle.hart_threads.specs.Seats.{SeatView, acting_seat, landing_seat, seats_below, seats_of}
 use Rattle.hart_threads.specs.Missing.{is_missing, is_seated, IsFirst, sits_at, acts_for, lands_for}
-use Rattle.hart_threads.specs.Returns.{Fails}
+use Rattle.hart_threads.specs.Returns.{Fails, IsLost}
 use Rattle.hart_threads.specs.declared.fault.Fault.{Fault}
 use Rattle.hart_threads.specs.declared.fault.Fault.TheVariants as fault
 use Rattle.ztso_engines.specs.Faults.{AnswersAs}
@@ -74,10 +74,12 @@ seats_complete M o n h = at (cases_lt h n)
     at (inr ge) = rw (past h n ge) (sitting M o n h ge)
 
 -- what a run on threads refuses where all seats are there
-pub threads_refused : (B M : ℕ) (q : Question) (o : Start) (seats : List SeatView) (e : Fault) → seats ≡ seats_of M o → Fails B M o seats e → AnswersAs (IsThreadsGiven B M q) text_and_value (Err (fault_of_threads e))
-threads_refused B M q o seats fault.NoMemory is fails = tt
-threads_refused B M q o seats fault.NoThread is fails = (refl, inr (inl refl))
-threads_refused B M q o seats (fault.Missing h) is fails =
-    let missing : is_missing (length o.harts) (seats_of M o) h ≡ true = subst (λ (l : List SeatView). is_missing (length o.harts) l h ≡ true) is fails.here in
+pub threads_refused : (B M n : ℕ) (q : Question) (o : Start) (seats : List SeatView) (e : Fault) → seats ≡ seats_of M o → o ≡ q.opening → Fails B M n o seats e → AnswersAs (IsThreadsGiven B M n q) text_and_value (Err (fault_of_threads e))
+threads_refused B M n q o seats fault.NoMemory is opening fails = tt
+threads_refused B M n q o seats fault.NoThread is opening fails = (refl, inr (inr (inl refl)))
+threads_refused B M n q o seats (fault.Missing h) is opening (inl first) =
+    let missing : is_missing (length o.harts) (seats_of M o) h ≡ true = subst (λ (l : List SeatView). is_missing (length o.harts) l h ≡ true) is first.here in
     let e : true ≡ false = sym missing ∙ seats_complete M o (length o.harts) h in cc
-threads_refused B M q o seats (fault.Mismatch h es) is fails = (refl, inl refl)
+threads_refused B M n q o seats (fault.Missing h) is opening (inr lost) =
+    (refl, inr (inl (refl, (h, subst (λ (x : Start). IsLost B M n x (seats_of M x) h) opening (subst (λ (l : List SeatView). IsLost B M n o l h) is lost)))))
+threads_refused B M n q o seats (fault.Mismatch h es) is opening fails = (refl, inl refl)

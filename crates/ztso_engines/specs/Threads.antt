@@ -8,6 +8,9 @@ use Rattle.litmus.specs.Questions.{Question}
 use Rattle.litmus.specs.declared.verdict.Verdict.{Verdict}
 use Rattle.recorder.specs.Writing.{canon}
 use Rattle.recorder.specs.declared.reading.TheConstants.{MAX_EVENTS}
+use Rattle.hart_threads.specs.GettingOn.{AllGetOn, AtMost}
+use Rattle.hart_threads.specs.Returns.{IsLost}
+use Rattle.hart_threads.specs.Seats.{seats_of}
 use Rattle.hart_threads.specs.declared.fault.Fault.{Fault as ThreadFault}
 use Rattle.hart_threads.specs.declared.fault.Fault.TheVariants as thread
 use Rattle.ztso_engines.specs.declared.fault.Fault.{Fault}
@@ -25,13 +28,16 @@ fault_of_threads (thread.Missing h) = Refused (record { number = 33; place = Now
 fault_of_threads (thread.Mismatch h es) = Refused (record { number = 32; place = Nowhere })
 
 -- a run of the test's opening, one event an entry, over store buffers of B pairs and a memory of M
--- words: its schedule, then its state text and its verdict
-pub record IsThreadsRun (B M : ℕ) (question : Question) (answer : List ℕ × Verdict) : Type 0 where
+-- words, by harts and landers that got on for n turns and made no more: its schedule, then its state text
+-- and its verdict
+pub record IsThreadsRun (B M n : ℕ) (question : Question) (answer : List ℕ × Verdict) : Type 0 where
   pub events : List Event
   pub few : length events ≤ MAX_EVENTS
   pub history : History
   pub ran : Run B M question.opening events history
   pub each : events ≡ map event_of history.entries
+  pub at_most : AtMost n history
+  pub get_on : AllGetOn n M history
   pub state : List ℕ
   pub judged : IsJudged M question history (state, answer.1)
   pub written : answer.0 ≡ canon events ++ state
@@ -44,14 +50,22 @@ pub record IsTooLong (B M : ℕ) (question : Question) : Type 0 where
   pub each : events ≡ map event_of history.entries
   pub many : MAX_EVENTS < length events
 
+-- the bank has lost a hart, though the threads made a run
+abbrev pub HasLost : ℕ → ℕ → ℕ → Question → Type 0
+HasLost B M n question = (h : ℕ) × IsLost B M n question.opening (seats_of M question.opening) h
+
 -- the refusals of threads that have all their seats, and that of a run which is too long
-abbrev pub RefusesThreads : (B M : ℕ) → Question → ℕ → Type 0
-RefusesThreads B M question n = (n ≡ 32) ⊎ ((n ≡ 35) ⊎ ((n ≡ 37) × IsTooLong B M question))
+abbrev pub RefusesThreads : (B M n : ℕ) → Question → ℕ → Type 0
+RefusesThreads B M n question number =
+    (number ≡ 32)
+    ⊎ ((number ≡ 33) × HasLost B M n question
+    ⊎ ((number ≡ 35)
+    ⊎ ((number ≡ 37) × IsTooLong B M question)))
 
-abbrev pub IsThreadsGiven : ℕ → ℕ → Question → Result (List ℕ × Verdict) Refusal → Type 0
-IsThreadsGiven B M question (Ok answer) = IsThreadsRun B M question answer
-IsThreadsGiven B M question (Err refusal) = (refusal.place ≡ Nowhere) × RefusesThreads B M question refusal.number
+abbrev pub IsThreadsGiven : ℕ → ℕ → ℕ → Question → Result (List ℕ × Verdict) Refusal → Type 0
+IsThreadsGiven B M n question (Ok answer) = IsThreadsRun B M n question answer
+IsThreadsGiven B M n question (Err refusal) = (refusal.place ≡ Nowhere) × RefusesThreads B M n question refusal.number
 
--- what answers a test
-abbrev pub IsThreadsAnswer : ℕ → ℕ → List ℕ → Result (List ℕ × Verdict) Refusal → Type 0
-IsThreadsAnswer B M file answer = ByTest (IsThreadsGiven B M) file answer
+-- what answers a test after at most n turns of each thread
+abbrev pub IsThreadsAnswer : ℕ → ℕ → ℕ → List ℕ → Result (List ℕ × Verdict) Refusal → Type 0
+IsThreadsAnswer B M n file answer = ByTest (IsThreadsGiven B M n) file answer

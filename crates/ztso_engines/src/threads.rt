@@ -1,7 +1,8 @@
 //! The command `threads`: a litmus text in; out the schedule of a run that threads made, its state text
 //! and its verdict.
 
-ghost use Rattle.std.specs.Prelude.{◌≡◌, ◌≤◌, length};
+ghost use Rattle.std.specs.Prelude.{ℕ, ◌≡◌, ◌≤◌, length};
+ghost use Rattle.hart_threads.specs.GettingOn.{AllGetOn, AtMost};
 ghost use Rattle.hart_threads.specs.Records.{IsRecord};
 ghost use Rattle.ztso_engines.specs.Engines.{EndsBy};
 ghost use Rattle.ztso_engines.specs.Faults.{AnswersAs};
@@ -46,7 +47,7 @@ fn record_text<const B: usize, const M: usize>(
     requires harts { length test.now.opening.harts ≤ MAX_HARTS }
     requires names { length test.now.names ≤ M }
     requires runs { IsRecord B M test.now.opening made.now }
-    ensures { AnswersAs (IsThreadsGiven B M test.now) text_and_value result }
+    ensures { (n : ℕ) → AtMost n made.now.trace → AllGetOn n M made.now.trace → AnswersAs (IsThreadsGiven B M n test.now) text_and_value result }
 {
     if made.events.len() > MAX_EVENTS {
         return Err(Fault::refused(TOO_LARGE, Position::Nowhere));
@@ -69,7 +70,7 @@ fn answer<const B: usize, const M: usize, T: Threads + Wait + Sync>(
     requires capacity { B ≤ 64 }
     requires words { MAX_LOCATIONS ≤ M }
     requires size { M ≤ 65536 }
-    ensures { AnswersAs (IsThreadsGiven B M test.now) text_and_value result }
+    ensures { AnswersAs (IsThreadsGiven B M turns test.now) text_and_value result }
 {
     let opening = test.opening(alloc)?;
     let (shared, seats) = Shared::<B, M>::open(alloc, opening)?;
@@ -88,15 +89,16 @@ fn made<const B: usize, const M: usize, R: Read, T: Threads + Wait + Sync>(
     requires capacity { B ≤ 64 }
     requires words { MAX_LOCATIONS ≤ M }
     requires size { M ≤ 65536 }
-    ensures { FindsBy (IsThreadsAnswer B M) text_and_value (R.remaining file.old) result }
+    ensures { FindsBy (IsThreadsAnswer B M turns) text_and_value (R.remaining file.old) result }
 {
     let test = read_test(alloc, file)?;
     answer::<B, M, T>(rt, alloc, &test, turns)
 }
 
 /// Reads a litmus text to its end, runs its harts and their landers on a thread each, with store
-/// buffers of `B` pairs and `M` words of memory and for at most so many calls each, writes the schedule
-/// of what they did, the state text and the verdict on a line, and answers the verdict.
+/// buffers of `B` pairs and `M` words of memory and for at most `turns` turns each, writes the schedule
+/// of what they did, the state text and the verdict on a line, and answers the verdict. In that run each
+/// hart gets on: it has ended or stopped, has made `turns` entries, or came to what may have to wait.
 ///
 /// The input is refused as [`crate::run::run_engine`] refuses it. A run of more than
 /// [`recorder::MAX_EVENTS`] events is refused as too large ([`TOO_LARGE`]), and a fault of the threads
@@ -113,7 +115,7 @@ pub fn threads_engine<const B: usize, const M: usize, R: Read, W: Write, T: Thre
     requires capacity { B ≤ 64 }
     requires words { MAX_LOCATIONS ≤ M }
     requires size { M ≤ 65536 }
-    ensures { EndsBy (IsThreadsAnswer B M) result (R.remaining file.old) W.contents writer.old writer.new }
+    ensures { EndsBy (IsThreadsAnswer B M turns) result (R.remaining file.old) W.contents writer.old writer.new }
 {
     end_with(made::<B, M, R, T>(rt, alloc, file, turns), writer)
 }

@@ -10,9 +10,9 @@ abbrev pub lesser : Option ℕ → ℕ → ℕ
 lesser None h = h
 lesser (Some k) h = if nat_lt h k then h else k
 
--- all seats are good, or this is the least hart of a bad one
-abbrev pub Found : (SeatView → Type 0) → (SeatView → Type 0) → List SeatView → Option ℕ → Type 0
-Found Good Bad seats o = MatchOption o (All Good seats) (IsLeast Good Bad seats)
+-- all are good, or this is the least hart of a bad one
+abbrev pub Found : {A : Type 0} → (A → ℕ) → (A → Type 0) → (A → Type 0) → List A → Option ℕ → Type 0
+Found hart Good Bad xs o = MatchOption o (All Good xs) (IsLeast hart Good Bad xs)
 
 -- the entry is of the seat's part
 abbrev pub keeps : SeatView → Entry → Bool

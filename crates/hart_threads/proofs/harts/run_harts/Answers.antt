@@ -1,22 +1,66 @@
-use Rattle.std.proofs.Common.{◌≡◌, ℕ, List, length, subst}
+-- What is known of the seats that come back, and so of the record, by those that were given.
+use Rattle.std.proofs.Common.{◌≡◌, ◌⊎◌, inr, ℕ, true, List, length, subst, sym, ◌∙◌}
+use Rattle.std.specs.Prelude.{All}
+use Rattle.std.specs.List.{AllZip}
 use Rattle.std.proofs.lemmas.Result.{err_from_is_err_and}
 use Rattle.hart_threads.specs.Seats.{SeatView}
 use Rattle.hart_threads.specs.Missing.{IsComplete}
-use Rattle.hart_threads.specs.Returns.{ComeBack}
-use Rattle.hart_threads.proofs.Coming.{as_given, none_is_first, fails_from}
+use Rattle.hart_threads.specs.Parts.{Merge, IsLeast}
+use Rattle.hart_threads.specs.declared.turns.Ending.TheVariants as ending
+use Rattle.hart_threads.specs.inner.Threads.{Continues, Ran}
+use Rattle.hart_threads.proofs.Coming.{none_is_first, merged_from, fails_from}
+use Rattle.hart_threads.proofs.Returning.{came, all_get_on, lost_within}
 use Rattle.hart_threads.proofs.harts.run_harts.Goals as goal
 
 complete_by : (n m : ℕ) (given seats : List SeatView) → n ≡ m → given ≡ seats → IsComplete n given → IsComplete m seats
 complete_by n m given seats is same complete = subst (λ (k : ℕ). IsComplete k seats) is (subst (IsComplete n) same complete)
 
-pub returns-in_err-gather-clause-fault : goal.returns-in_err-gather-clause-fault
-returns-in_err-gather-clause-fault g c =
-    let p = err_from_is_err_and c.from_residual-in_err-gather.result c.from_residual-in_err-gather.ensures.1 in
+pub returns-in_err-record-clause-fault : goal.returns-in_err-record-clause-fault
+returns-in_err-record-clause-fault g c =
+    let p = err_from_is_err_and c.from_residual-in_err-record.result c.from_residual-in_err-record.ensures.1 in
     let complete : IsComplete (length c.args.shared.harts) c.args.seats.items = complete_by _ _ _ _ c.harts.ensures c.as_slice.ensures.value c.in_default.ensures in
-    let come : ComeBack c.args.seats.items c.release_all-seats.result.items =
-    as_given _ _ _ _ c.in_ok-held.ensures c.release_all-seats.ensures (c.run_all-back.ensures.come c.if-not-started.false) in
-    rw (p.1, p.2) (fails_from g.row.B g.row.M c.args.shared c.args.seats.items c.release_all-seats.result.items c.in_err-gather.field-0.0 complete come c.in_err-gather.ensures.refused)
+    let ran : AllZip (λ s r. Ran (g.G.Gate.is_open c.args.gate.now) c.args.turns s r.1 r.0.seat) c.args.seats.items c.run_all-back.result.0.items =
+    subst (λ (xs : List SeatView). AllZip (λ s r. Ran (g.G.Gate.is_open c.args.gate.now) c.args.turns s r.1 r.0.seat) xs c.run_all-back.result.0.items) c.in_ok-held.ensures (c.run_all-back.ensures.ran c.if-not-started.false) in
+    let come : AllZip (Continues c.args.turns) c.args.seats.items c.release_all-seats.result.items =
+    subst (AllZip (Continues c.args.turns) c.args.seats.items) (sym c.release_all-seats.ensures) (came (λ r. r.0.seat) (λ r. r.1) _ c.args.turns c.args.seats.items c.run_all-back.result.0.items ran) in
+    rw (p.1, p.2) (fails_from g.row.B g.row.M c.args.turns c.args.shared c.args.seats.items c.release_all-seats.result.items c.in_err-record.field-0.0 complete come c.in_err-record.ensures.refused)
 
-pub returns-clause-missing : goal.returns-clause-missing
-returns-clause-missing g c h first =
+pub returns-in-Some-lost-clause-missing : goal.returns-in-Some-lost-clause-missing
+returns-in-Some-lost-clause-missing g c h first =
     absurd (none_is_first _ h _ (complete_by _ _ _ _ c.harts.ensures c.as_slice.ensures.value c.in_default.ensures) first)
+
+pub returns-in-Some-lost-clause-fault : goal.returns-in-Some-lost-clause-fault
+returns-in-Some-lost-clause-fault g c =
+    let complete : IsComplete (length c.args.shared.harts) c.args.seats.items = complete_by _ _ _ _ c.harts.ensures c.as_slice.ensures.value c.in_default.ensures in
+    let ran : AllZip (λ s r. Ran (g.G.Gate.is_open c.args.gate.now) c.args.turns s r.1 r.0.seat) c.args.seats.items c.run_all-back.result.0.items =
+    subst (λ (xs : List SeatView). AllZip (λ s r. Ran (g.G.Gate.is_open c.args.gate.now) c.args.turns s r.1 r.0.seat) xs c.run_all-back.result.0.items) c.in_ok-held.ensures (c.run_all-back.ensures.ran c.if-not-started.false) in
+    let come : AllZip (Continues c.args.turns) c.args.seats.items c.release_all-seats.result.items =
+    subst (AllZip (Continues c.args.turns) c.args.seats.items) (sym c.release_all-seats.ensures) (came (λ r. r.0.seat) (λ r. r.1) _ c.args.turns c.args.seats.items c.run_all-back.result.0.items ran) in
+    inr (record {
+      within = lost_within (λ r. r.0.seat) (λ r. r.1) _ c.args.turns c.args.seats.items c.run_all-back.result.0.items ran (length c.args.shared.harts) c.in-Some-lost.hart _ _ complete (rw c.as_slice-3.ensures.value at c.in-Some-lost.ensures);
+      made = c.in_ok-record.record;
+      record_of = c.in_ok-record.ensures.record;
+      merge = merged_from c.args.turns c.args.shared c.in_ok-record.record.trace.entries c.args.seats.items c.release_all-seats.result.items complete come c.in_ok-record.ensures.merge;
+    })
+
+pub returns-in-None-clause-missing : goal.returns-in-None-clause-missing
+returns-in-None-clause-missing g c h first =
+    absurd (none_is_first _ h _ (complete_by _ _ _ _ c.harts.ensures c.as_slice.ensures.value c.in_default.ensures) first)
+
+pub returns-in-None-clause-merge : goal.returns-in-None-clause-merge
+returns-in-None-clause-merge g c =
+    let complete : IsComplete (length c.args.shared.harts) c.args.seats.items = complete_by _ _ _ _ c.harts.ensures c.as_slice.ensures.value c.in_default.ensures in
+    let ran : AllZip (λ s r. Ran (g.G.Gate.is_open c.args.gate.now) c.args.turns s r.1 r.0.seat) c.args.seats.items c.run_all-back.result.0.items =
+    subst (λ (xs : List SeatView). AllZip (λ s r. Ran (g.G.Gate.is_open c.args.gate.now) c.args.turns s r.1 r.0.seat) xs c.run_all-back.result.0.items) c.in_ok-held.ensures (c.run_all-back.ensures.ran c.if-not-started.false) in
+    let come : AllZip (Continues c.args.turns) c.args.seats.items c.release_all-seats.result.items =
+    subst (AllZip (Continues c.args.turns) c.args.seats.items) (sym c.release_all-seats.ensures) (came (λ r. r.0.seat) (λ r. r.1) _ c.args.turns c.args.seats.items c.run_all-back.result.0.items ran) in
+    merged_from c.args.turns c.args.shared c.in_ok-record.record.trace.entries c.args.seats.items c.release_all-seats.result.items complete come c.in_ok-record.ensures.merge
+
+pub returns-in-None-clause-gets_on : goal.returns-in-None-clause-gets_on
+returns-in-None-clause-gets_on g c unheld opens =
+    let ran : AllZip (λ s r. Ran (g.G.Gate.is_open c.args.gate.now) c.args.turns s r.1 r.0.seat) c.args.seats.items c.run_all-back.result.0.items =
+    subst (λ (xs : List SeatView). AllZip (λ s r. Ran (g.G.Gate.is_open c.args.gate.now) c.args.turns s r.1 r.0.seat) xs c.run_all-back.result.0.items) c.in_ok-held.ensures (c.run_all-back.ensures.ran c.if-not-started.false) in
+    all_get_on (λ r. r.0.seat) (λ r. r.1) _ c.args.turns c.args.seats.items c.run_all-back.result.0.items ran g.row.M c.args.shared c.in_ok-record.record.trace c.in_ok-record.ensures.record.opening unheld opens
+    (rw c.as_slice-2.ensures.value at c.if-lacked.ensures)
+    (rw c.as_slice-3.ensures.value at c.in-None.ensures)
+    (subst (Merge (length c.args.shared.harts) c.in_ok-record.record.trace.entries) c.release_all-seats.ensures c.in_ok-record.ensures.merge)

@@ -1,16 +1,17 @@
-use Rattle.std.proofs.Common.{◌∙◌}
-use Rattle.hart_threads.proofs.Coming.{continues_self, continues_on, same_role}
-use Rattle.hart_threads.proofs.GettingOn.{goes_start, goes_on}
+use Rattle.std.proofs.Common.{◌≡◌, ℕ, ◌+◌, None, sym, subst, arith, ◌∙◌}
+use Rattle.hart_threads.specs.inner.Threads.{Continues, Goes, ending_of}
+use Rattle.hart_threads.proofs.GettingOn.{notes_on, same_role, goes_on}
 use Rattle.hart_threads.proofs.turns.acting_turns.Goals as goal
 
-pub loop-call-init : goal.loop-call-init
-loop-call-init g c = record { acts = c.requires; on = continues_self _; goes = goes_start _ }
-
-pub loop-call-preserved : goal.loop-call-preserved
-loop-call-preserved g c =
-    let on = continues_on _ _ _ c.loop-call.invariant.on c.turn.ensures.on in
+pub loop-calls-preserved : goal.loop-calls-preserved
+loop-calls-preserved g c =
+    let before = c.loop-calls.invariant in
+    let made : c.count.new.self.made ≡ c.loop-calls.calls.made + 1 = c.count.ensures.made in
+    let on = notes_on c.loop-calls.calls.made c.args.seat.now c.loop-calls.seat c.turn-answer.new.seat c.turn-answer.result before.on c.turn-answer.ensures.diary in
     record {
-      acts = same_role _ _ on ∙ c.requires;
-      on = on;
-      goes = goes_on c.loop-call.call c.args.seat.now c.loop-call.seat c.turn.new.seat c.turn.result c.loop-call.invariant.goes c.turn.ensures.on c.turn.ensures.turned c.in_default.is;
+      few = omega arith;
+      acts = same_role _ c.args.seat.now c.turn-answer.new.seat on ∙ c.requires;
+      on = subst (λ (n : ℕ). Continues n c.args.seat.now c.turn-answer.new.seat) (sym made) on;
+      goes = subst (λ (n : ℕ). Goes n c.args.seat.now c.turn-answer.new.seat) (sym made)
+          (goes_on c.loop-calls.calls.made c.args.seat.now c.loop-calls.seat c.turn-answer.new.seat c.turn-answer.result before.goes c.turn-answer.ensures.diary c.turn-answer.ensures.answers (sym c.count.ensures.ending ∙ c.in_default.is));
     }

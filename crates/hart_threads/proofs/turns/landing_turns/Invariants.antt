@@ -1,6 +1,13 @@
-use Rattle.std.proofs.Common.{◌≡◌, false}
-use Rattle.hart_threads.specs.Returns.{Continues}
+use Rattle.std.proofs.Common.{◌≡◌, ◌-◌, ◌≤◌, false}
+use Rattle.hart_threads.specs.inner.Threads.{Continues}
 use Rattle.hart_threads.proofs.turns.landing_turns.Given as goal
 
-abbrev pub invariant-loop : goal.invariant-loop
-invariant-loop g l = record { acts : l.seat.acts ≡ false; on : Continues l.fn.seat l.seat }
+abbrev pub invariant-loop-calls : goal.invariant-loop-calls
+invariant-loop-calls g l = record {
+  few : l.calls.made ≤ l.turns;
+  acts : l.seat.acts ≡ false;
+  on : Continues l.calls.made l.fn.seat l.seat;
+}
+
+abbrev pub decreases-loop-calls : goal.decreases-loop-calls
+decreases-loop-calls g l = l.turns - l.calls.made

@@ -6,5 +6,5 @@ use Rattle.ztso.proofs.work.run_threads.Goals as goal
 
 pub returns : goal.returns
 returns g c =
-    ends_told verdict_status (λ answer. OfInput (g.F.Read.remaining c.args.file.now) (λ bytes. IsThreadsAnswer g.row.B 4096 bytes answer)) c.threads_engine.result g.W.Write.contents c.args.writer.now c.threads_engine.new.writer
+    ends_told verdict_status (λ answer. OfInput (g.F.Read.remaining c.args.file.now) (λ bytes. IsThreadsAnswer g.row.B 4096 c.args.turns bytes answer)) c.threads_engine.result g.W.Write.contents c.args.writer.now c.threads_engine.new.writer
     c.threads_engine.ensures c.after_run.result c.after_run.ensures

@@ -6,9 +6,9 @@ use Rattle.ztso_engines.proofs.ThreadRuns.{by_test, by_no_test}
 use Rattle.ztso_engines.proofs.threads.made.Goals as goal
 
 pub returns : goal.returns
-returns g c = by_test (IsThreadsGiven g.row.B g.row.M) _ _ c.in_ok-test.test _ c.in_ok-test.ensures.test c.answer.ensures
+returns g c = by_test (IsThreadsGiven g.row.B g.row.M c.args.turns) _ _ c.in_ok-test.test _ c.in_ok-test.ensures.test c.answer.ensures
 
 pub returns-in_err-test : goal.returns-in_err-test
 returns-in_err-test g c =
     let p = err_from_is_err_and c.from_residual.result c.from_residual.ensures.1 in
-    by_no_test (IsThreadsGiven g.row.B g.row.M) text_and_value _ (λ (q : Question). q) c.from_residual.result c.in_err-test.field-0.0 (rw p.2 at p.1) c.in_err-test.ensures.test
+    by_no_test (IsThreadsGiven g.row.B g.row.M c.args.turns) text_and_value _ (λ (q : Question). q) c.from_residual.result c.in_err-test.field-0.0 (rw p.2 at p.1) c.in_err-test.ensures.test

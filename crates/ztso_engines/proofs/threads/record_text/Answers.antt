@@ -14,7 +14,7 @@ write_schedule-requires-clause-harts g c =
     (of_64 c.args.test.now.opening made.events.items made.trace.entries c.requires.runs.each (c.laws_of_runs.ensures.harts g.row.B g.row.M _ _ _ c.requires.runs.run) c.requires.harts)
 
 pub returns : goal.returns
-returns g c =
+returns g c n at_most get_on =
     let made = c.args.made.now in
     let told = c.in_ok-judged.judged in
     record {
@@ -23,6 +23,8 @@ returns g c =
       history = made.trace;
       ran = c.requires.runs.run;
       each = c.requires.runs.each;
+      at_most = at_most;
+      get_on = get_on;
       state = string_bytes told.0;
       judged = subst (λ (t : History). IsJudged g.row.M c.args.test.now t (string_bytes told.0, told.1)) c.requires.runs.stands c.in_ok-judged.ensures;
       written = joined _ _ _ _ _ c.in_ok-push_str.ensures.bytes (c.in_ok-text.ensures.canonical ∙ ap canon c.deref.ensures.value) c.deref-2.ensures;

@@ -1,0 +1,80 @@
+-- What a thread makes of its seat, and how it ends.
+use Rattle.std.specs.Prelude.{ℕ, zero, ◌≡◌, ◌+◌, ◌≤◌, ◌⊎◌, true, List, ◌++◌, length, IsSomeAnd, Result, Ok, Err, Option, Some, None}
+use Rattle.std.specs.List.{AllZip}
+use Rattle.hart.specs.Steps.{need_of}
+use Rattle.hart.specs.declared.status.Status.TheVariants as status
+use Rattle.step_machine.specs.Banks.{is_over}
+use Rattle.step_machine.specs.declared.events.Entry.{Entry}
+use Rattle.step_machine.specs.declared.events.Outcome.{Outcome}
+use Rattle.step_machine.specs.declared.events.Outcome.TheVariants as outcome
+use Rattle.hart_threads.specs.Seats.{SeatView, state_in, may_wait}
+use Rattle.hart_threads.specs.declared.turns.Ending.{Ending}
+use Rattle.hart_threads.specs.declared.turns.Ending.TheVariants as ending
+use Rattle.hart_threads.specs.declared.turns.Calls.{Calls}
+
+-- ---- calls
+
+abbrev pub no_calls : Calls
+no_calls = record { made = 0; last = None }
+
+-- what a call answered, if it found memory
+abbrev pub last_answer : {E : Type 0} → Result Outcome E → Option Outcome
+last_answer (Ok o) = Some o
+last_answer (Err e) = None
+
+-- how a thread ends by the answer of a call, if it does
+abbrev pub ending_of : {E : Type 0} → Result Outcome E → Option Ending
+ending_of (Ok outcome.Over) = Some ending.Over
+ending_of (Ok (outcome.Did e)) = None
+ending_of (Ok outcome.Waited) = None
+ending_of (Ok outcome.NothingToLand) = None
+ending_of (Ok outcome.NoHart) = Some ending.NoHart
+ending_of (Err e) = Some ending.NoMemory
+
+-- a thread that was to make n calls ends so after these
+abbrev pub IsEnding : ℕ → Ending → Calls → Type 0
+IsEnding n ending.HeldBack calls = calls.made + 1 ≤ n
+IsEnding n ending.Over calls = calls.last ≡ Some outcome.Over
+IsEnding n ending.TurnsDone calls = calls.made ≡ n
+IsEnding n ending.NoHart calls = calls.last ≡ Some outcome.NoHart
+IsEnding n ending.NoMemory calls = calls.last ≡ None
+
+-- ---- the seat
+
+-- t is the seat s with at most n entries more in its diary
+pub record Continues (n : ℕ) (s t : SeatView) : Type 0 where
+  pub more : List Entry
+  pub few : length more ≤ n
+  pub is : t ≡ record s { diary = s.diary ++ more }
+
+-- the seat's hart has ended or stopped
+abbrev pub IsOver : SeatView → Type 0
+IsOver t = IsSomeAnd (state_in t) (λ x. is_over x.status ≡ true)
+
+-- somewhere on its path the seat's hart comes to a store, an AMO or a full fence
+pub record MayHaveWaited (t : SeatView) : Type 0 where
+  pub front : List Entry
+  pub rest : List Entry
+  pub whole : t.diary ≡ front ++ rest
+  pub there : IsSomeAnd (state_in (record t { diary = front })) (λ x. (x.status ≡ status.Running) × (may_wait (need_of x) ≡ true))
+
+-- n entries more, or the hart may have waited
+abbrev pub Goes : ℕ → SeatView → SeatView → Type 0
+Goes n s t = (length s.diary + n ≤ length t.diary) ⊎ MayHaveWaited t
+
+-- n turns
+abbrev pub GotOn : ℕ → SeatView → SeatView → Type 0
+GotOn n s t = IsOver t ⊎ Goes n s t
+
+-- where a thread had what it needs, a hart in the bank and memory
+abbrev pub WhereDone : Ending → Type 0 → Type 0
+WhereDone ending.HeldBack P = P
+WhereDone ending.Over P = P
+WhereDone ending.TurnsDone P = P
+WhereDone ending.NoHart P = Unit {0}
+WhereDone ending.NoMemory P = Unit {0}
+
+-- what n turns make of a seat, where the gate is open if unheld holds
+pub record Ran (unheld : Type 0) (n : ℕ) (s : SeatView) (e : Ending) (t : SeatView) : Type 0 where
+  pub on : Continues n s t
+  pub got_on : s.acts ≡ true → unheld → WhereDone e (GotOn n s t)
