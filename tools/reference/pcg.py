@@ -37,6 +37,16 @@ class Generator:
         self.state = (state * MULTIPLIER + self.increment) & MASK
         return output(state)
 
+    def pass_over(self, count):
+        """As many words as `count` are given to nobody: the step is squared for each bit of it."""
+        multiplier, increment = MULTIPLIER, self.increment
+        while count:
+            if count & 1:
+                self.state = (self.state * multiplier + increment) & MASK
+            increment = (multiplier + 1) * increment & MASK
+            multiplier = multiplier * multiplier & MASK
+            count >>= 1
+
     def remainders(self, divisor, count):
         """The next words' remainders by a number. It is `next_u32` told again, for speed."""
         state, increment, found = self.state, self.increment, []

@@ -8,6 +8,8 @@
 #[cfg(test)]
 mod given;
 #[cfg(test)]
+mod of_jumping;
+#[cfg(test)]
 mod of_litmus;
 #[cfg(test)]
 mod of_recorder;

@@ -1,12 +1,12 @@
 -- Each way of writing a job says that job.
-use Rattle.std.proofs.Common.{◌≡◌, ℕ, Bool, true, false, List, [], ◌∷◌, ◌++◌, map, Option, Some, refl, codes, ap, ap₂, sym, inl, inr, ◌∙◌, arith}
+use Rattle.std.proofs.Common.{◌≡◌, ℕ, Bool, true, false, List, [], ◌∷◌, ◌++◌, map, Option, Some, None, refl, codes, ap, ap₂, sym, inl, inr, ◌∙◌, arith}
 use Rattle.std.specs.Prelude.{Result}
 use Rattle.clap.specs.Words.{Text}
 use Rattle.clap.proofs.OnLiterals.{clap_on_literals}
 use Rattle.ztso.proofs.Pieces.{Piece, plain, other, text_in, ArePlain, IsCommand, said, pieces_fault, by_pieces}
 use Rattle.ztso.specs.CommandLines.{Answers, capacity_said, job_said, ring_said, ◌>>=◌}
 use Rattle.ztso.specs.Numbers.{number_within}
-use Rattle.ztso.specs.Spellings.{AsksFor, AsksForTurns, AsksToFinish, IsOnFiles, IsSpelling, IsSpellingOf, IsWord, name_of, text_of}
+use Rattle.ztso.specs.Spellings.{AsksFor, AsksForNumber, AsksToFinish, IsOnFiles, IsSpelling, IsSpellingOf, IsWord, name_of, text_of}
 use Rattle.ztso.specs.declared.job.Ring.{Ring}
 use Rattle.ztso.specs.declared.job.Ring.TheVariants.{Lamport, FastForward}
 use Rattle.ztso.specs.declared.job.Task.{Task}
@@ -18,6 +18,7 @@ use Rattle.ztso.specs.declared.job.Errand.TheVariants.{Asm, Dis, Machine}
 use Rattle.ztso.specs.declared.job.Task.TheVariants.{Alone, Threads}
 use Rattle.ztso.specs.declared.job.Work.{Work}
 use Rattle.ztso.specs.declared.job.Work.TheVariants.{Steps, Run, Replay, Debug, Try, Channel}
+use Rattle.ztso_engines.specs.declared.trials.Runs.{Runs}
 use Rattle.ztso.specs.Jobs.{Wanted, one_input, two_inputs}
 use Rattle.ztso.specs.Jobs.Input.{Standard, File}
 
@@ -78,6 +79,39 @@ on_files_of file schedule task = task >>= (λ wanted. Some (two_inputs wanted (F
 
 abbrev on_standard_of : Option Task → Option Wanted
 on_standard_of task = task >>= (λ wanted. Some (one_input wanted Standard))
+
+-- ---- an option with a number
+
+-- what stands for an option, if it is given, before other pieces
+abbrev number_pieces : (option : Text) → Option Text → List Piece → List Piece
+number_pieces option None tail = tail
+number_pieces option (Some said) tail = other option ∷ plain said ∷ tail
+
+-- the number's text, or the usual one's
+abbrev text_or : Text → Option Text → Text
+text_or usual None = usual
+text_or usual (Some said) = said
+
+record NumberSpelled (option usual : Text) (least most number : ℕ) (words : List Text) : Type 0 where
+  text : Option Text
+  says : number_within least most (text_or usual text) ≡ Some number
+  are : (tail : List Piece) → ArePlain tail → ArePlain (number_pieces option text tail)
+  is : (options : List Text) (tail : List Piece) → options ≡ map text_in tail → words ++ options ≡ map text_in (number_pieces option text tail)
+
+number_spelled : (option usual : Text) (default least most number : ℕ) (words : List Text) → number_within least most usual ≡ Some default
+    → AsksForNumber option default least most number words → NumberSpelled option usual least most number words
+number_spelled option usual default least most number words usually (inl silent) = record {
+  text = None;
+  says = usually ∙ ap (λ (n : ℕ). Some n) (sym silent.1);
+  are = λ tail plains. plains;
+  is = λ options tail same. ap₂ (λ (a b : List Text). a ++ b) silent.0 same;
+}
+number_spelled option usual default least most number words usually (inr (said, words_are, says)) = record {
+  text = Some said;
+  says = says.1;
+  are = λ tail plains. (says.0, plains);
+  is = λ options tail same. ap₂ (λ (a b : List Text). a ++ b) words_are same;
+}
 
 -- ---- `asm`, `dis` and `steps`
 
@@ -161,24 +195,46 @@ try_is_command : IsCommand (codes "try")
 unfolding clap_on_literals
 try_is_command = (refl, refl)
 
--- what the words of `try` say, by what is said of the capacity
-abbrev tried : (file s n l : Text) → Option Capacity → Option Wanted
-tried file s n l found = on_file_of file (machine_of found (do
+-- what the words of `try` say, by the texts of its numbers and what is said of the capacity
+abbrev tried : (file s n l k j : Text) → Option Capacity → Option Wanted
+tried file s n l k j found = on_file_of file (machine_of found (do
   seed ← number_within 0 18446744073709551615 s
+  skip ← number_within 0 18446744073709551615 k
   runs ← number_within 1 100000 n
   events ← number_within 0 1048576 l
-  Some (Try seed runs events)))
+  jobs ← number_within 1 64 j
+  Some (Try seed (record { skip = skip; number = runs; length = events; jobs = jobs }))))
 
-tried_says : (file s n l : Text) (seed runs events : ℕ) (capacity : Capacity) (found : Option Capacity)
-    → number_within 0 18446744073709551615 s ≡ Some seed → number_within 1 100000 n ≡ Some runs → number_within 0 1048576 l ≡ Some events → found ≡ Some capacity
-    → tried file s n l found ≡ Some (one_input (Alone (Machine (Try seed runs events) capacity)) (File file))
-tried_says file s n l seed runs events capacity found a b c d = rw (a, b, c, d) refl
+tried_says : (file s n l k j : Text) (seed : ℕ) (runs : Runs) (capacity : Capacity) (found : Option Capacity)
+    → number_within 0 18446744073709551615 s ≡ Some seed → number_within 0 18446744073709551615 k ≡ Some runs.skip → number_within 1 100000 n ≡ Some runs.number
+    → number_within 0 1048576 l ≡ Some runs.length → number_within 1 64 j ≡ Some runs.jobs → found ≡ Some capacity
+    → tried file s n l k j found ≡ Some (one_input (Alone (Machine (Try seed runs) capacity)) (File file))
+tried_says file s n l k j seed runs capacity found a b c d e f = rw (a, b, c, d, e, f) refl
 
-try_told : (file s n l : Text) (tail : Tail) (t : Text) → said (codes "try") (try_pieces file s n l (tail_of tail t)) ≡ tried file s n l (capacity_at tail t)
+try_told : (file s n l : Text) (skip jobs : Option Text) (tail : Tail) (t : Text)
+    → said (codes "try") (try_pieces file s n l (number_pieces (codes "--skip") skip (number_pieces (codes "--jobs") jobs (tail_of tail t))))
+    ≡ tried file s n l (text_or (codes "0") skip) (text_or (codes "1") jobs) (capacity_at tail t)
 unfolding clap_on_literals pieces_fault
-try_told file s n l none t = refl
-try_told file s n l blank t = refl
-try_told file s n l equals t = refl
+try_told file s n l None None none t = refl
+try_told file s n l None None blank t = refl
+try_told file s n l None None equals t = refl
+try_told file s n l None (Some j) none t = refl
+try_told file s n l None (Some j) blank t = refl
+try_told file s n l None (Some j) equals t = refl
+try_told file s n l (Some k) None none t = refl
+try_told file s n l (Some k) None blank t = refl
+try_told file s n l (Some k) None equals t = refl
+try_told file s n l (Some k) (Some j) none t = refl
+try_told file s n l (Some k) (Some j) blank t = refl
+try_told file s n l (Some k) (Some j) equals t = refl
+
+no_skip : number_within 0 18446744073709551615 (codes "0") ≡ Some 0
+unfolding number_within
+no_skip = refl
+
+one_job : number_within 1 64 (codes "1") ≡ Some 1
+unfolding number_within
+one_job = refl
 
 -- ---- `channel`
 
@@ -247,36 +303,20 @@ threaded_says : (file : Text) (turns : ℕ) (capacity : Capacity) (count : Optio
     → count ≡ Some turns → found ≡ Some capacity → threaded file count found ≡ Some (one_input (Threads turns capacity) (File file))
 threaded_says file turns capacity count found a b = rw (a, b) refl
 
-threads_told : (file : Text) (tail : Tail) (t : Text)
-    → said (codes "threads") (plain file ∷ tail_of tail t) ≡ threaded file (number_within 0 10000000 (codes "100000")) (capacity_at tail t)
+threads_told : (file : Text) (turns : Option Text) (tail : Tail) (t : Text)
+    → said (codes "threads") (plain file ∷ number_pieces (codes "--turns") turns (tail_of tail t))
+    ≡ threaded file (number_within 0 10000000 (text_or (codes "100000") turns)) (capacity_at tail t)
 unfolding clap_on_literals pieces_fault
-threads_told file none t = refl
-threads_told file blank t = refl
-threads_told file equals t = refl
-
-threads_counted : (file number : Text) (tail : Tail) (t : Text)
-    → said (codes "threads") (plain file ∷ other (codes "--turns") ∷ plain number ∷ tail_of tail t) ≡ threaded file (number_within 0 10000000 number) (capacity_at tail t)
-unfolding clap_on_literals pieces_fault
-threads_counted file number none t = refl
-threads_counted file number blank t = refl
-threads_counted file number equals t = refl
+threads_told file None none t = refl
+threads_told file None blank t = refl
+threads_told file None equals t = refl
+threads_told file (Some number) none t = refl
+threads_told file (Some number) blank t = refl
+threads_told file (Some number) equals t = refl
 
 most_turns : number_within 0 10000000 (codes "100000") ≡ Some 100000
 unfolding number_within
 most_turns = refl
-
-of_threads : (name file : Text) (turns : ℕ) (capacity : Capacity) (first options : List Text) → IsWord file → AsksForTurns turns first → AsksFor capacity options
-    → job_said (name ∷ codes "threads" ∷ file ∷ (first ++ options)) ≡ Some (one_input (Threads turns capacity) (File file))
-of_threads name file turns capacity first options f (inl silent) asks =
-    let to = capacity_spelled capacity options asks in
-    by_pieces name (codes "threads") (plain file ∷ tail_of to.tail to.text) _ _ threads_is_command (f, to.are)
-    (ap₂ (λ (a b : List Text). codes "threads" ∷ file ∷ (a ++ b)) silent.0 to.is)
-    (threads_told file to.tail to.text ∙ threaded_says file turns capacity _ _ (most_turns ∙ ap (λ (k : ℕ). Some k) (sym silent.1)) to.says)
-of_threads name file turns capacity first options f (inr (number, is, says)) asks =
-    let to = capacity_spelled capacity options asks in
-    by_pieces name (codes "threads") (plain file ∷ other (codes "--turns") ∷ plain number ∷ tail_of to.tail to.text) _ _ threads_is_command (f, (says.0, to.are))
-    (ap₂ (λ (a b : List Text). codes "threads" ∷ file ∷ (a ++ b)) is to.is)
-    (threads_counted file number to.tail to.text ∙ threaded_says file turns capacity _ _ says.1 to.says)
 
 -- ---- each task
 
@@ -290,11 +330,18 @@ spelled_of name rest (Alone (Machine Steps capacity)) wanted (options, is, asks,
 spelled_of name rest (Alone (Machine Run capacity)) wanted spelling = of_files name rest running capacity wanted spelling
 spelled_of name rest (Alone (Machine Replay capacity)) wanted spelling = of_files name rest replaying capacity wanted spelling
 spelled_of name rest (Alone (Machine Debug capacity)) wanted spelling = of_files name rest debugging capacity wanted spelling
-spelled_of name rest (Alone (Machine (Try seed runs events) capacity)) wanted (file, s, n, l, options, is, f, seed_is, runs_is, events_is, asks, wants) =
+spelled_of name rest (Alone (Machine (Try seed runs) capacity)) wanted (file, s, n, l, first, second, options, is, f, seed_is, runs_are, events_are, skips, jobs_are, asks, wants) =
     let to = capacity_spelled capacity options asks in
-    by_pieces name (codes "try") (try_pieces file s n l (tail_of to.tail to.text)) rest wanted try_is_command (f, (seed_is.0, (runs_is.0, (events_is.0, to.are))))
-    (is ∙ ap (λ (o : List Text). codes "try" ∷ file ∷ codes "--seed" ∷ s ∷ codes "--runs" ∷ n ∷ codes "--length" ∷ l ∷ o) to.is)
-    (try_told file s n l to.tail to.text ∙ tried_says file s n l seed runs events capacity _ seed_is.1 runs_is.1 events_is.1 to.says ∙ ap (λ (w : Wanted). Some w) (sym wants))
+    let jobs = number_spelled (codes "--jobs") (codes "1") 1 1 64 runs.jobs second one_job jobs_are in
+    let skip = number_spelled (codes "--skip") (codes "0") 0 0 18446744073709551615 runs.skip first no_skip skips in
+    let end = tail_of to.tail to.text in
+    let with_jobs = number_pieces (codes "--jobs") jobs.text end in
+    by_pieces name (codes "try") (try_pieces file s n l (number_pieces (codes "--skip") skip.text with_jobs)) rest wanted try_is_command
+    (f, (seed_is.0, (runs_are.0, (events_are.0, skip.are with_jobs (jobs.are end to.are)))))
+    (is ∙ ap (λ (o : List Text). codes "try" ∷ file ∷ codes "--seed" ∷ s ∷ codes "--runs" ∷ n ∷ codes "--length" ∷ l ∷ o)
+    (skip.is (second ++ options) with_jobs (jobs.is options end to.is)))
+    (try_told file s n l skip.text jobs.text to.tail to.text
+    ∙ tried_says file s n l _ _ seed runs capacity _ seed_is.1 skip.says runs_are.1 events_are.1 jobs.says to.says ∙ ap (λ (w : Wanted). Some w) (sym wants))
 spelled_of name rest (Alone (Machine (Channel ring slots finish) capacity)) wanted (number, schedule, first, options, is, slots_are, s, finishes, asks, wants) =
     let to = capacity_spelled capacity options asks in
     let tail = tail_of to.tail to.text in
@@ -302,7 +349,12 @@ spelled_of name rest (Alone (Machine (Channel ring slots finish) capacity)) want
     (is ∙ ap (λ (o : List Text). codes "channel" ∷ name_of ring ∷ number ∷ schedule ∷ o) (finish_texts finish first options tail finishes to.is))
     (channel_told (name_of ring) number schedule finish to.tail to.text ∙ carried_says ring (name_of ring) number schedule slots finish capacity _ (kind_says ring) slots_are.1 to.says ∙ ap (λ (w : Wanted). Some w) (sym wants))
 spelled_of name rest (Threads turns capacity) wanted (file, first, options, is, f, turns_are, asks, wants) =
-    ap (λ (words : List Text). job_said (name ∷ words)) is ∙ of_threads name file turns capacity first options f turns_are asks ∙ ap (λ (w : Wanted). Some w) (sym wants)
+    let to = capacity_spelled capacity options asks in
+    let number = number_spelled (codes "--turns") (codes "100000") 100000 0 10000000 turns first most_turns turns_are in
+    let end = tail_of to.tail to.text in
+    by_pieces name (codes "threads") (plain file ∷ number_pieces (codes "--turns") number.text end) rest wanted threads_is_command (f, number.are end to.are)
+    (is ∙ ap (λ (o : List Text). codes "threads" ∷ file ∷ o) (number.is options end to.is))
+    (threads_told file number.text to.tail to.text ∙ threaded_says file turns capacity _ _ number.says to.says ∙ ap (λ (w : Wanted). Some w) (sym wants))
 
 pub job_said-spelling : (name : Text) (rest : List Text) (wanted : Wanted) → IsSpelling wanted rest
     → job_said (name ∷ rest) ≡ Some wanted

@@ -37,11 +37,15 @@ abbrev pub try_in : List Row → Option Work
 try_in options = do
   seed_text ← first_of (codes "seed") options
   seed ← number_within 0 18446744073709551615 seed_text
+  skip_text ← first_of (codes "skip") options
+  skip ← number_within 0 18446744073709551615 skip_text
   runs_text ← first_of (codes "runs") options
   runs ← number_within 1 100000 runs_text
   length_text ← first_of (codes "length") options
   events ← number_within 0 MAX_EVENTS length_text
-  Some (Try seed runs events)
+  jobs_text ← first_of (codes "jobs") options
+  jobs ← number_within 1 64 jobs_text
+  Some (Try seed (record { skip = skip; number = runs; length = events; jobs = jobs }))
 
 abbrev pub ring_said : Text → Option Ring
 ring_said text =

@@ -43,11 +43,12 @@ abbrev pub schedule_command : Text → App
 schedule_command name =
     with_rule (with_rule (with_rule (new_app name) (word_wanted (codes "file"))) (word_wanted (codes "schedule"))) buffer_option
 
--- `try FILE --seed S --runs N --length L [--buffer B]`
+-- `try FILE --seed S --runs N --length L [--skip K] [--jobs J] [--buffer B]`
 abbrev pub try_command : App
 try_command =
-    with_rule (with_rule (with_rule (with_rule (with_rule (new_app (codes "try")) (word_wanted (codes "file")))
-    (option_wanted (codes "seed"))) (option_wanted (codes "runs"))) (option_wanted (codes "length"))) buffer_option
+    with_rule (with_rule (with_rule (with_rule (with_rule (with_rule (with_rule (new_app (codes "try")) (word_wanted (codes "file")))
+    (option_wanted (codes "seed"))) (option_wanted (codes "runs"))) (option_wanted (codes "length")))
+    (option_or (codes "skip") (codes "0"))) (option_or (codes "jobs") (codes "1"))) buffer_option
 
 -- `--name`, a flag
 abbrev pub flag : Text → Rule

@@ -43,11 +43,23 @@ name_of FastForward = codes "fastforward"
 abbrev pub SaysNumber : (least most number : ℕ) → Text → Type 0
 SaysNumber least most number word = IsWord word × (number_within least most word ≡ Some number)
 
--- nothing, which asks for 100,000 turns, or `--turns` and their number
+-- nothing, which asks for the usual number, or an option and a number within these limits
+abbrev pub AsksForNumber : (option : Text) → (usual least most number : ℕ) → List Text → Type 0
+AsksForNumber option usual least most number words =
+    ((words ≡ []) × (number ≡ usual))
+    ⊎ ((said : Text) × (words ≡ option ∷ said ∷ []) × SaysNumber least most number said)
+
+-- the runs that are passed over, none where nothing is said
+abbrev pub AsksToSkip : ℕ → List Text → Type 0
+AsksToSkip skip words = AsksForNumber (codes "--skip") 0 0 18446744073709551615 skip words
+
+-- the jobs, one where nothing is said
+abbrev pub AsksForJobs : ℕ → List Text → Type 0
+AsksForJobs jobs words = AsksForNumber (codes "--jobs") 1 1 64 jobs words
+
+-- the turns, 100,000 where nothing is said
 abbrev pub AsksForTurns : ℕ → List Text → Type 0
-AsksForTurns turns words =
-    ((words ≡ []) × (turns ≡ 100000))
-    ⊎ ((said : Text) × (words ≡ codes "--turns" ∷ said ∷ []) × SaysNumber 0 10000000 turns said)
+AsksForTurns turns words = AsksForNumber (codes "--turns") 100000 0 10000000 turns words
 
 -- nothing, or `--finish`
 abbrev pub AsksToFinish : Bool → List Text → Type 0
@@ -73,11 +85,12 @@ IsSpellingOf (Alone (Machine Steps capacity)) wanted words =
 IsSpellingOf (Alone (Machine Run capacity)) wanted words = IsOnFiles (codes "run") Run capacity wanted words
 IsSpellingOf (Alone (Machine Replay capacity)) wanted words = IsOnFiles (codes "replay") Replay capacity wanted words
 IsSpellingOf (Alone (Machine Debug capacity)) wanted words = IsOnFiles (codes "debug") Debug capacity wanted words
-IsSpellingOf (Alone (Machine (Try seed runs events) capacity)) wanted words =
-    (file s n l : Text) × (options : List Text)
-    × (words ≡ codes "try" ∷ file ∷ codes "--seed" ∷ s ∷ codes "--runs" ∷ n ∷ codes "--length" ∷ l ∷ options)
-    × IsWord file × SaysNumber 0 18446744073709551615 seed s × SaysNumber 1 100000 runs n × SaysNumber 0 MAX_EVENTS events l
-    × AsksFor capacity options × (wanted ≡ one_input (Alone (Machine (Try seed runs events) capacity)) (File file))
+IsSpellingOf (Alone (Machine (Try seed runs) capacity)) wanted words =
+    (file s n l : Text) × (first second options : List Text)
+    × (words ≡ codes "try" ∷ file ∷ codes "--seed" ∷ s ∷ codes "--runs" ∷ n ∷ codes "--length" ∷ l ∷ (first ++ (second ++ options)))
+    × IsWord file × SaysNumber 0 18446744073709551615 seed s × SaysNumber 1 100000 runs.number n × SaysNumber 0 MAX_EVENTS runs.length l
+    × AsksToSkip runs.skip first × AsksForJobs runs.jobs second × AsksFor capacity options
+    × (wanted ≡ one_input (Alone (Machine (Try seed runs) capacity)) (File file))
 IsSpellingOf (Alone (Machine (Channel ring slots finish) capacity)) wanted words =
     (said schedule : Text) × (first options : List Text) × (words ≡ codes "channel" ∷ name_of ring ∷ said ∷ schedule ∷ (first ++ options))
     × SaysNumber 0 4294967295 slots said × IsWord schedule × AsksToFinish finish first × AsksFor capacity options

@@ -1,9 +1,10 @@
 -- How a job ends.
-use Rattle.std.specs.Prelude.{ℕ, ◌≡◌, Bool, true, false, List, Option, Result, Ok, Err}
+use Rattle.std.specs.Prelude.{ℕ, ◌≡◌, ◌*◌, Bool, true, false, List, Option, Result, Ok, Err}
 use Rattle.rand_core.specs.Stream.{Stream}
 use Rattle.rand_core.specs.Steps.{stream_of, steps_u32}
 use Rattle.rand_core.specs.Pcg32Seed.{pcg32_seed}
 use Rattle.rand_pcg.specs.Pcg.{pcg32, pcg32_of_seed}
+use Rattle.recorder.specs.Drawing.{left_after}
 use Rattle.litmus.specs.declared.verdict.Verdict.{Verdict}
 use Rattle.litmus.specs.declared.verdict.Verdict.TheVariants.{Holds, Fails, Unfinished}
 use Rattle.ztso_engines.specs.declared.fault.Fault.{Fault}
@@ -98,7 +99,8 @@ IsAnswerOf B Steps given = WithStatusBy done_status (IsStepsAnswer B WORDS) give
 IsAnswerOf B Run given = WithStatusByBoth verdict_status (IsRunAnswer B WORDS) given
 IsAnswerOf B Replay given = WithStatusByBoth done_status (IsReplayAnswer B WORDS) given
 IsAnswerOf B Debug given = WithStatusByBoth done_status (IsDebugAnswer B WORDS given.commands) given
-IsAnswerOf B (Try seed runs size) given = WithStatusBy tried_status (IsTryAnswer B WORDS (drawn_from seed) runs size) given
+IsAnswerOf B (Try seed runs) given =
+    WithStatusBy tried_status (IsTryAnswer B WORDS (left_after (runs.skip * runs.length) (drawn_from seed)) runs.number runs.length) given
 IsAnswerOf B (Channel ring slots finish) given = WithStatusByBoth done_status (IsChannelAnswer (tables_of ring) B WORDS slots finish) given
 
 -- What was written and the exit status answer the inputs, or the refusal does and nothing was written.
@@ -109,7 +111,7 @@ DoesWork B Steps result given contents old new = Ends (IsAnswerOf B Steps given)
 DoesWork B Run result given contents old new = Ends (IsAnswerOf B Run given) result contents old new
 DoesWork B Replay result given contents old new = Ends (IsAnswerOf B Replay given) result contents old new
 DoesWork B Debug result given contents old new = EndsAloud (IsAnswerOf B Debug given) result contents old new
-DoesWork B (Try seed runs size) result given contents old new = Ends (IsAnswerOf B (Try seed runs size) given) result contents old new
+DoesWork B (Try seed runs) result given contents old new = Ends (IsAnswerOf B (Try seed runs) given) result contents old new
 DoesWork B (Channel ring slots finish) result given contents old new = Ends (IsAnswerOf B (Channel ring slots finish) given) result contents old new
 
 abbrev pub DoesErrand : {W : Type 0} → Errand → Result ℕ Fault → Given → (contents : W → Option (List ℕ)) → (old new : W) → Type 0
@@ -131,7 +133,7 @@ LeavesSecondOf Steps first = Unit {0}
 LeavesSecondOf Run first = HasNoTest first
 LeavesSecondOf Replay first = HasNoTest first
 LeavesSecondOf Debug first = HasNoTest first
-LeavesSecondOf (Try seed runs size) first = Unit {0}
+LeavesSecondOf (Try seed runs) first = Unit {0}
 LeavesSecondOf (Channel ring slots finish) first = HasNoSchedule first
 
 abbrev pub LeavesSecond : Errand → (first : Option (List ℕ)) → Type 0
@@ -147,7 +149,7 @@ reads_commands Steps = false
 reads_commands Run = false
 reads_commands Replay = false
 reads_commands Debug = true
-reads_commands (Try seed runs size) = false
+reads_commands (Try seed runs) = false
 reads_commands (Channel ring slots finish) = false
 
 abbrev pub LeavesCommands : Errand → Type 0

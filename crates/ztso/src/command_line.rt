@@ -11,16 +11,20 @@ use crate::failure::Failure;
 use crate::job::{Capacity, Errand, Input, Job, Ring, Task, Work};
 use clap::ArgMatches;
 use description::ztso_command;
-use numbers::{count_of, seed_of};
+use numbers::{count_of, number_of};
 use recorder::MAX_EVENTS;
 use std::alloc::Global;
 use std::convert::AsStr;
+use ztso_engines::trials::Runs;
 
 mod description;
 mod numbers;
 
-/// The most schedules that `try` draws.
+/// The most runs that `try` makes.
 const MOST_RUNS: u32 = 100_000;
+
+/// The most threads that share them.
+const MOST_JOBS: u32 = 64;
 
 /// The most calls that a thread of `threads` makes.
 const MOST_TURNS: u32 = 10_000_000;
@@ -145,10 +149,18 @@ fn threads_in(options: &ArgMatches<'_>) -> Option<Task>
 fn try_in(options: &ArgMatches<'_>) -> Option<Work>
     ensures { result ≡ try_in (rows_of (found_of options.now)) }
 {
-    let seed = seed_of(word_in(options, "seed")?)?;
-    let runs = count_of(word_in(options, "runs")?, 1, MOST_RUNS)?;
+    let seed = number_of(word_in(options, "seed")?)?;
+    let skip = number_of(word_in(options, "skip")?)?;
+    let number = count_of(word_in(options, "runs")?, 1, MOST_RUNS)?;
     let length = count_of(word_in(options, "length")?, 0, MAX_EVENTS as u32)?;
-    Some(Work::Try { seed, runs, length })
+    let jobs = count_of(word_in(options, "jobs")?, 1, MOST_JOBS)?;
+    let runs = Runs {
+        skip,
+        number,
+        length,
+        jobs,
+    };
+    Some(Work::Try { seed, runs })
 }
 
 /// The channel that is to run.

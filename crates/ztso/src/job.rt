@@ -1,5 +1,7 @@
 //! What a command line can ask for.
 
+use ztso_engines::trials::Runs;
+
 /// How many stores a hart's buffer holds.
 #[derive(Clone, Copy)]
 pub enum Capacity {
@@ -35,11 +37,10 @@ pub enum Work {
     Replay,
     /// To walk along a schedule's run of a litmus test, at the commands on standard input.
     Debug,
-    /// To run a litmus test by `runs` schedules of `length` events, drawn from a generator of this seed.
+    /// To make these runs of a litmus test, by schedules that are drawn from a generator of this seed.
     Try {
         seed: u64,
-        runs: u32,
-        length: u32,
+        runs: Runs,
     },
     /// To run a channel over lists of words by a schedule, through rings of this kind with so many slots,
     /// and to `finish` it by a plan.

@@ -3,8 +3,8 @@
 //! The contract: [`command_line::job_of`] says which words ask for which job, [`work::do_errand`] and
 //! [`work::do_threads`] which engine does it with what capacity and with which exit status, and
 //! [`failure::Failure`] the exit status of each failure. This crate knows no text, no instruction and no
-//! machine. Only the command `threads` starts threads and waits for them: [`work::do_threads`] does, and
-//! nothing that another job calls can.
+//! machine. Only the command `threads` may wait, for the lock and for its threads: [`work::do_threads`]
+//! does. The jobs of `try` are threads too, but no job other than `threads` has leave to wait.
 
 #![tactic(auto)]
 
@@ -52,6 +52,7 @@ where
     let mut writer = io::writer(rt);
     let status = match job.task {
         Task::Alone(errand) => do_errand(
+            rt,
             rt.alloc(),
             errand,
             &mut first,

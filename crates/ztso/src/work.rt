@@ -1,9 +1,9 @@
 //! Which engine does a job.
 
-ghost use Rattle.std.specs.Prelude.{◌≡◌, ◌≤◌};
+ghost use Rattle.std.specs.Prelude.{◌≡◌, ◌≤◌, ◌*◌, false};
 ghost use Rattle.ztso.specs.declared.work.TheConstants.{WORDS};
-ghost use Rattle.std.specs.Prelude.{false};
 ghost use Rattle.ztso.specs.Work.{LeavesCommands, reads_commands, DoesErrand, DoesThreads, DoesWork, Given, LeavesSecond, LeavesSecondOf, WithStatus, done_status, drawn_from, ended_with, tables_of, tried_status, verdict_status};
+ghost use Rattle.recorder.specs.Drawing.{left_after};
 ghost use Rattle.ztso_engines.specs.Asm.{IsAsmAnswer};
 ghost use Rattle.ztso_engines.specs.Channels.{IsChannelAnswer};
 ghost use Rattle.ztso_engines.specs.Dis.{IsDisAnswer};
@@ -36,7 +36,7 @@ use ztso_engines::replay::replay_engine;
 use ztso_engines::run::run_engine;
 use ztso_engines::steps::steps_engine;
 use ztso_engines::threads::threads_engine;
-use ztso_engines::trials::try_engine;
+use ztso_engines::trials::{Runs, try_engine};
 
 /// The words of the program's memory.
 pub const WORDS: usize = 4096;
@@ -164,36 +164,36 @@ fn debug_test<const B: usize, F: Read, S: Read, C: Read, W: Write>(
 }
 
 /// Runs a test by schedules that are drawn from a generator of this seed.
-fn try_drawn<const B: usize, F: Read, W: Write>(
+fn try_drawn<const B: usize, F: Read, W: Write, T: Threads + Sync>(
+    rt: &T,
     alloc: Global,
     seed: u64,
-    runs: u32,
-    length: u32,
+    runs: Runs,
     file: &mut F,
     writer: &mut W,
 ) -> Result<bool, Fault>
     requires some_capacity { 1 ≤ B }
     requires capacity { B ≤ 64 }
-    ensures { EndsBy (IsTryAnswer B WORDS (drawn_from seed) runs length) result (F.remaining file.old) W.contents writer.old writer.new }
+    ensures { EndsBy (IsTryAnswer B WORDS (left_after (runs.skip * runs.length) (drawn_from seed)) runs.number runs.length) result (F.remaining file.old) W.contents writer.old writer.new }
 {
-    let mut generator = Lcg64Xsh32::seed_from_u64(seed);
-    try_engine::<B, WORDS, _, _, _>(alloc, file, &mut generator, runs, length, writer)
+    let generator = Lcg64Xsh32::seed_from_u64(seed);
+    try_engine::<B, WORDS, _, _, _, _>(rt, alloc, file, &generator, runs, writer)
 }
 
 /// Tries a test.
-fn try_test<const B: usize, F: Read, W: Write>(
+fn try_test<const B: usize, F: Read, W: Write, T: Threads + Sync>(
+    rt: &T,
     alloc: Global,
     seed: u64,
-    runs: u32,
-    length: u32,
+    runs: Runs,
     file: &mut F,
     writer: &mut W,
 ) -> Result<u8, Fault>
     requires some_capacity { 1 ≤ B }
     requires capacity { B ≤ 64 }
-    ensures { Ends (WithStatus tried_status (λ answer. OfInput (F.remaining file.old) (λ bytes. IsTryAnswer B WORDS (drawn_from seed) runs length bytes answer))) result W.contents writer.old writer.new }
+    ensures { Ends (WithStatus tried_status (λ answer. OfInput (F.remaining file.old) (λ bytes. IsTryAnswer B WORDS (left_after (runs.skip * runs.length) (drawn_from seed)) runs.number runs.length bytes answer))) result W.contents writer.old writer.new }
 {
-    after_try(try_drawn::<B, _, _>(alloc, seed, runs, length, file, writer))
+    after_try(try_drawn::<B, _, _, _>(rt, alloc, seed, runs, file, writer))
 }
 
 /// Runs a channel over lists of words by a schedule, through rings of this kind, and then by a plan if it
@@ -241,7 +241,8 @@ fn run_channel<const B: usize, S: Read, L: Read, W: Write>(
 }
 
 /// Does the work with a machine whose harts' buffers hold `B` stores.
-fn do_work<const B: usize, F: Read, S: Read, C: Read, W: Write>(
+fn do_work<const B: usize, F: Read, S: Read, C: Read, W: Write, T: Threads + Sync>(
+    rt: &T,
     alloc: Global,
     work: Work,
     first: &mut F,
@@ -260,9 +261,7 @@ fn do_work<const B: usize, F: Read, S: Read, C: Read, W: Write>(
         Work::Run => run_test::<B, _, _, _>(alloc, first, second, writer),
         Work::Replay => replay_test::<B, _, _, _>(alloc, first, second, writer),
         Work::Debug => debug_test::<B, _, _, _, _>(alloc, first, second, commands, writer),
-        Work::Try { seed, runs, length } => {
-            try_test::<B, _, _>(alloc, seed, runs, length, first, writer)
-        }
+        Work::Try { seed, runs } => { try_test::<B, _, _, _>(rt, alloc, seed, runs, first, writer) }
         Work::Channel {
             ring,
             slots,
@@ -277,7 +276,9 @@ fn do_work<const B: usize, F: Read, S: Read, C: Read, W: Write>(
 ///
 /// `first` is what the errand reads first, and `second` what it reads behind that, if it has two inputs and
 /// the first one was accepted. `commands` is what a user types to the debugger, which writes as it reads.
-pub fn do_errand<F: Read, S: Read, C: Read, W: Write>(
+/// The jobs of runs that are tried are threads; it has no leave to wait for anything else.
+pub fn do_errand<F: Read, S: Read, C: Read, W: Write, T: Threads + Sync>(
+    rt: &T,
     alloc: Global,
     errand: Errand,
     first: &mut F,
@@ -293,13 +294,17 @@ pub fn do_errand<F: Read, S: Read, C: Read, W: Write>(
         Errand::Asm => assemble(alloc, first, writer),
         Errand::Dis => disassemble(alloc, first, writer),
         Errand::Machine { work, capacity } => match capacity {
-            Capacity::One => do_work::<1, _, _, _, _>(alloc, work, first, second, commands, writer),
-            Capacity::Two => do_work::<2, _, _, _, _>(alloc, work, first, second, commands, writer),
-            Capacity::Four => do_work::<4, _, _, _, _>(
-                alloc, work, first, second, commands, writer,
+            Capacity::One => do_work::<1, _, _, _, _, _>(
+                rt, alloc, work, first, second, commands, writer,
             ),
-            Capacity::Sixteen => do_work::<16, _, _, _, _>(
-                alloc, work, first, second, commands, writer,
+            Capacity::Two => do_work::<2, _, _, _, _, _>(
+                rt, alloc, work, first, second, commands, writer,
+            ),
+            Capacity::Four => do_work::<4, _, _, _, _, _>(
+                rt, alloc, work, first, second, commands, writer,
+            ),
+            Capacity::Sixteen => do_work::<16, _, _, _, _, _>(
+                rt, alloc, work, first, second, commands, writer,
             ),
         },
     }

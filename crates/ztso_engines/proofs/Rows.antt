@@ -1,18 +1,22 @@
 -- Rows by outcomes: what is found after one was changed or put in.
-use Rattle.std.proofs.Common.{◌≡◌, ℕ, ◌+◌, Bool, true, false, cond, List, [], ◌∷◌, Option, Some, None, option_map, refl, sym, ap, ◌∙◌, subst}
+use Rattle.std.proofs.Common.{◌≡◌, ℕ, ◌+◌, ◌<◌, Bool, true, false, cond, List, [], ◌∷◌, Option, Some, None, option_map, refl, sym, ap, ◌∙◌, subst}
 use Rattle.std.specs.Prelude.{IfSome}
 use Rattle.std.specs.declared.cmp.Ordering.{Ordering}
 use Rattle.std.specs.declared.cmp.Ordering.TheVariants.{Less, Equal, Greater}
 use Rattle.std.specs.Ordering.{is_eq, match_ordering, nat_cmp}
 use Rattle.std.specs.Cmp.Lexicographic.{slice_cmp}
-use Rattle.std.specs.Map.{lookup, set_value}
+use Rattle.std.specs.Map.{lookup, set_value, keys_of}
+use Rattle.std.specs.List.{AllByRecursion}
+use Rattle.std.specs.List.Sorted.{IsStrictlySortedBy}
+use Rattle.std.proofs.lemmas.Map.Keys.{sorted_head, sorted_tail}
 use Rattle.std.specs.BTreeMap.{insert_entry}
 use Rattle.std.specs.Global.{Vec}
 use Rattle.std.proofs.lemmas.Slice.Eq.{bytes_eq-Decides}
 use Rattle.std.proofs.lemmas.Map.Text.{is_eq-slice_cmp}
 use Rattle.step_machine.specs.declared.events.Event.{Event}
 use Rattle.ztso_engines.specs.declared.trials.tally.Row.{Row}
-use Rattle.ztso_engines.specs.inner.Tallies.{counted_by, is_key, counted_of, counted_more, Counts, order}
+use Rattle.ztso_engines.specs.inner.Tallies.{Counted, counted_by, is_key, counted_of, counted_more, Counts, order}
+use Rattle.ztso_engines.specs.inner.Merging.{counted_both, CountsRow}
 
 pub same_is : (xs ys : List ℕ) → is_eq (slice_cmp nat_cmp xs ys) ≡ true → xs ≡ ys
 same_is xs ys e = (bytes_eq-Decides xs ys).0 (sym (is_eq-slice_cmp xs ys) ∙ e)
@@ -97,3 +101,107 @@ pub found_row : (Small : ℕ → Type 0) (rows : List (Vec ℕ × Row)) (outcome
 unfolding counted_of
 found_row Small rows outcome None is small = tt
 found_row Small rows outcome (Some row) is small = rw (← is) at small
+
+-- a row with a later row's runs
+pub row_again : (later : Row) (old : List (Vec ℕ × Row)) (key : List ℕ) (row : Row) → Some row ≡ lookup (is_key key) old
+    → CountsRow key later old (set_value (is_key key) old (record row { count = row.count + later.count }))
+unfolding counted_of
+row_again later old key row found = λ other.
+    ap (option_map counted_by) (lookup_set key other (record row { count = row.count + later.count }) old)
+    ∙ by other (is_eq (slice_cmp nat_cmp other key)) refl
+  where
+    by : (other : List ℕ) (b : Bool) → is_eq (slice_cmp nat_cmp other key) ≡ b
+        → option_map counted_by (cond b (option_map (λ (old : Row). record row { count = row.count + later.count }) (lookup (is_key key) old)) (lookup (is_key other) old))
+        ≡ cond b (counted_both (counted_of old other) (Some (counted_by later))) (counted_of old other)
+    by other true same =
+        let here : Some row ≡ lookup (is_key other) old = found ∙ ap (λ (k : List ℕ). lookup (is_key k) old) (sym (same_is other key same)) in
+        rw (← found, ← here) refl
+    by other false apart = refl
+
+-- a later row of an outcome that had none
+pub row_first : (later : Row) (old : List (Vec ℕ × Row)) (key : Vec ℕ) → None ≡ lookup (is_key key.items) old
+    → CountsRow key.items later old (insert_entry order old key later)
+unfolding counted_of
+row_first later old key none = λ other. ap (option_map counted_by) (lookup_inserted key later other old) ∙ by other (is_key other key) refl
+  where
+    by : (other : List ℕ) (b : Bool) → is_key other key ≡ b
+        → option_map counted_by (cond b (Some later) (lookup (is_key other) old)) ≡ cond b (counted_both (counted_of old other) (Some (counted_by later))) (counted_of old other)
+    by other true same =
+        let here : None ≡ lookup (is_key other) old = none ∙ ap (λ (k : List ℕ). lookup (is_key k) old) (sym (same_is other key.items same)) in
+        rw (← here) refl
+    by other false apart = refl
+
+-- ---- the rows that are left to take in
+
+-- no row after another has its outcome
+none_later : (key : Vec ℕ) (other : List ℕ) (rest : List (Vec ℕ × Row)) → is_key other key ≡ true
+    → AllByRecursion (λ (k : Vec ℕ). order key k ≡ Less) (keys_of rest) → lookup (is_key other) rest ≡ None
+none_later key other [] same later = refl
+none_later key other (e ∷ rest) same later =
+    let apart : is_key other e.0 ≡ false =
+    subst (λ (k : List ℕ). is_eq (slice_cmp nat_cmp k e.0.items) ≡ false) (sym (same_is other key.items same)) (ap is_eq later.0) in
+    ap (λ (b : Bool). cond b (Some e.1) (lookup (is_key other) rest)) apart ∙ none_later key other rest same later.1
+
+both_none : (told : Option Counted) → counted_both told None ≡ told
+both_none None = refl
+both_none (Some told) = refl
+
+-- what is counted and what is left to count are together what both say
+abbrev pub IsLeft : (now left : List (Vec ℕ × Row)) → (both : List ℕ → Option Counted) → Type 0
+IsLeft now left both = (other : List ℕ) → counted_both (counted_of now other) (counted_of left other) ≡ both other
+
+-- a row was taken in of those that are left
+pub row_taken : (key : Vec ℕ) (later : Row) (left rest now new : List (Vec ℕ × Row)) (both : List ℕ → Option Counted) → left ≡ (key, later) ∷ rest
+    → IsStrictlySortedBy order (keys_of left) → CountsRow key.items later now new → IsLeft now left both → IsLeft new rest both
+unfolding counted_of
+row_taken key later left rest now new both is sorted counts so_far other = by (is_key other key) refl
+  where
+    told : Option Counted
+    told = counted_of now other
+
+    taken : Bool → Option Counted
+    taken b = counted_both told (option_map counted_by (cond b (Some later) (lookup (is_key other) rest)))
+
+    shown : taken (is_key other key) ≡ both other
+    shown = subst (λ (rows : List (Vec ℕ × Row)). counted_both told (option_map counted_by (lookup (is_key other) rows)) ≡ both other) is (so_far other)
+
+    ordered : IsStrictlySortedBy order (key ∷ keys_of rest)
+    ordered = subst (λ (rows : List (Vec ℕ × Row)). IsStrictlySortedBy order (keys_of rows)) is sorted
+
+    counted : Bool → Option Counted
+    counted b = cond b (counted_both told (Some (counted_by later))) told
+
+    by : (b : Bool) → is_key other key ≡ b → counted_both (counted_of new other) (counted_of rest other) ≡ both other
+    by true same =
+        ap (λ (o : Option Row). counted_both (counted_of new other) (option_map counted_by o))
+        (none_later key other rest same (sorted_head order key (keys_of rest) ordered))
+        ∙ both_none (counted_of new other) ∙ counts other ∙ ap counted same ∙ sym (ap taken same) ∙ shown
+    by false apart =
+        ap (λ (o : Option Counted). counted_both o (counted_of rest other)) (counts other ∙ ap counted apart) ∙ sym (ap taken apart) ∙ shown
+
+-- no count grows past what both maps say together
+pub row_few : (key : Vec ℕ) (later : Row) (left rest now : List (Vec ℕ × Row)) (both : Option Counted) (most : ℕ) → left ≡ (key, later) ∷ rest
+    → counted_both (counted_of now key.items) (counted_of left key.items) ≡ both
+    → IfSome {T = Counted} both (λ told. told.0 < most) → IfSome {T = Counted} (counted_of now key.items) (λ told. told.0 + later.count < most)
+unfolding counted_of
+row_few key later left rest now both most is so_far few = at (counted_of now key.items) shown
+  where
+    taken : Bool → Option Counted
+    taken b = counted_both (counted_of now key.items) (option_map counted_by (cond b (Some later) (lookup (is_key key.items) rest)))
+
+    shown : taken true ≡ both
+    shown =
+        sym (ap taken (same_itself key.items))
+        ∙ subst (λ (rows : List (Vec ℕ × Row)). counted_both (counted_of now key.items) (option_map counted_by (lookup (is_key key.items) rows)) ≡ both) is so_far
+
+    at : (o : Option Counted) → counted_both o (Some (counted_by later)) ≡ both → IfSome {T = Counted} o (λ told. told.0 + later.count < most)
+    at None e = tt
+    at (Some told) e = subst (λ (b : Option Counted). IfSome {T = Counted} b (λ t. t.0 < most)) (sym e) few
+
+-- no row is left
+pub rows_done : (left now : List (Vec ℕ × Row)) (both : List ℕ → Option Counted) → left ≡ [] → IsLeft now left both
+    → (other : List ℕ) → counted_of now other ≡ both other
+unfolding counted_of
+rows_done left now both is so_far other =
+    sym (both_none (counted_of now other))
+    ∙ subst (λ (rows : List (Vec ℕ × Row)). counted_both (counted_of now other) (option_map counted_by (lookup (is_key other) rows)) ≡ both other) is (so_far other)

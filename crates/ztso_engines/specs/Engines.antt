@@ -50,6 +50,13 @@ AnswersBoth IsAnswer first second answer = OfInput first (λ a. OfInput second (
 abbrev pub EndsByBoth : {V W : Type 0} → (List ℕ → List ℕ → Result (List ℕ × V) Refusal → Type 0) → Result V Fault → (first second : Option (List ℕ)) → (contents : W → Option (List ℕ)) → (old new : W) → Type 0
 EndsByBoth IsAnswer result first second contents old new = Ends (AnswersBoth IsAnswer first second) result contents old new
 
+-- Two answers are both outputs, or one refusal.
+abbrev pub AreAlike : {A : Type 0} → Result A Refusal → Result A Refusal → Type 0
+AreAlike (Ok a) (Ok b) = Unit {0}
+AreAlike (Ok a) (Err s) = ⊥
+AreAlike (Err r) (Ok b) = ⊥
+AreAlike (Err r) (Err s) = r ≡ s
+
 -- Two answers are one answer: one output with one value, or refusals of one number.
 abbrev pub AreOneAnswer : {A : Type 0} → Result A Refusal → Result A Refusal → Type 0
 AreOneAnswer (Ok a) (Ok b) = a ≡ b

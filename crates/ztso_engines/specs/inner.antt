@@ -2,4 +2,5 @@
 pub mod Inputs
 pub mod Making
 pub mod Tallies
+pub mod Merging
 pub mod Talking

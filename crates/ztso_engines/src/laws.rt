@@ -1,12 +1,12 @@
 //! Laws of the texts.
 
-ghost use Rattle.std.specs.Prelude.{◌≡◌, ◌<◌, ◌^◌, ◌↔◌, ℕ, Bool, false, List, Ok, Result, Some};
+ghost use Rattle.std.specs.Prelude.{◌≡◌, ◌<◌, ◌^◌, ◌↔◌, ℕ, Bool, true, false, List, Ok, Result, Some};
 ghost use Rattle.std.specs.List.{All, flat_map};
 ghost use Rattle.rand_core.specs.Stream.{Stream};
 ghost use Rattle.poll_close.specs.Laws.{Ring};
 ghost use Rattle.litmus.specs.declared.verdict.Verdict.{Verdict};
 ghost use Rattle.ztso_engines.specs.declared.fault.Refusal.{Refusal};
-ghost use Rattle.ztso_engines.specs.Engines.{Output, Accepted, AreOneAnswer, judged};
+ghost use Rattle.ztso_engines.specs.Engines.{Output, Accepted, AreAlike, AreOneAnswer, judged};
 ghost use Rattle.ztso_engines.specs.Scenario.{Scenario};
 ghost use Rattle.ztso_engines.specs.StepsText.{Tells};
 ghost use Rattle.ztso_engines.specs.StepsReading.{script_at};
@@ -47,9 +47,9 @@ pub fn laws_of_list_texts()
 {}
 
 /// What a command answers is one function of what it reads: the output with the exit status's value, or a
-/// refusal. Of a refused litmus text it isn't said on which line its first fault stands, so for the
-/// commands that read one, and for `channel`, the number of the refusal is one. Of `channel --finish` it
-/// isn't said which plan runs. It does nothing.
+/// refusal with its place. Of a refused litmus text it isn't said on which line its first fault stands, so
+/// for the commands that read one the number of the refusal is one. Of `channel --finish` it isn't said
+/// which plan runs: there both answers are outputs, or one refusal. It does nothing.
 pub fn one_answer()
     ensures steps { (B M : ℕ) (input : List ℕ) (a b : Result Output Refusal) → IsStepsAnswer B M input a → IsStepsAnswer B M input b → a ≡ b }
     ensures asm { (input : List ℕ) (a b : Result Output Refusal) → IsAsmAnswer input a → IsAsmAnswer input b → a ≡ b }
@@ -58,5 +58,6 @@ pub fn one_answer()
     ensures replay { (B M : ℕ) (file schedule : List ℕ) (a b : Result Output Refusal) → IsReplayAnswer B M file schedule a → IsReplayAnswer B M file schedule b → AreOneAnswer a b }
     ensures debug { (B M : ℕ) (input file schedule : List ℕ) (a b : Result Output Refusal) → IsDebugAnswer B M (Some input) file schedule a → IsDebugAnswer B M (Some input) file schedule b → AreOneAnswer a b }
     ensures trials { (B M : ℕ) (stream : Stream) (runs size : ℕ) (file : List ℕ) (a b : Result (List ℕ × Bool) Refusal) → IsTryAnswer B M stream runs size file a → IsTryAnswer B M stream runs size file b → AreOneAnswer a b }
-    ensures channel { (ring : Ring) (B M size : ℕ) (schedule input : List ℕ) (a b : Result Output Refusal) → IsChannelAnswer ring B M size false schedule input a → IsChannelAnswer ring B M size false schedule input b → AreOneAnswer a b }
+    ensures channel { (ring : Ring) (B M size : ℕ) (schedule input : List ℕ) (a b : Result Output Refusal) → IsChannelAnswer ring B M size false schedule input a → IsChannelAnswer ring B M size false schedule input b → a ≡ b }
+    ensures finished { (ring : Ring) (B M size : ℕ) (schedule input : List ℕ) (a b : Result Output Refusal) → IsChannelAnswer ring B M size true schedule input a → IsChannelAnswer ring B M size true schedule input b → AreAlike a b }
 {}

@@ -70,7 +70,9 @@ fn try_command<'a>(alloc: Global) -> Result<Command<'a>, AllocError>
     let with_seed = with_file.arg(option_wanted(alloc, "seed"))?;
     let with_runs = with_seed.arg(option_wanted(alloc, "runs"))?;
     let with_length = with_runs.arg(option_wanted(alloc, "length"))?;
-    with_length.arg(buffer_option(alloc))
+    let with_skip = with_length.arg(option_or(alloc, "skip", "0"))?;
+    let with_jobs = with_skip.arg(option_or(alloc, "jobs", "1"))?;
+    with_jobs.arg(buffer_option(alloc))
 }
 
 /// `--name`, which has no value.

@@ -4,7 +4,7 @@ ghost use Rattle.std.specs.Prelude.{◌≡◌};
 ghost use Rattle.ztso.specs.Numbers.{number_within};
 
 /// The number that the text says, if it is below 2^64.
-pub fn seed_of(text: &str) -> Option<u64>
+pub fn number_of(text: &str) -> Option<u64>
     ensures { result ≡ number_within 0 18446744073709551615 text.now }
 {
     text.parse::<u64>().ok()

@@ -6,6 +6,7 @@ ghost use Rattle.step_machine.specs.Runs.{Run};
 ghost use Rattle.ztso_engines.specs.Trials.{Trial, IsTrial};
 ghost use Rattle.ztso_engines.specs.Outcomes.{schedule_text as text_of_schedule};
 ghost use Rattle.ztso_engines.specs.inner.Tallies.{counted_of, Counts, IsTallyOf, Tallies};
+ghost use Rattle.ztso_engines.specs.inner.Merging.{counted_both, CountsRow, Merges};
 
 use crate::running::run_anew;
 use litmus::{Test, Verdict};
@@ -66,7 +67,40 @@ fn count_outcome(
     Ok(())
 }
 
+/// Counts the runs of a later row too, after those that are counted for this outcome.
+fn count_row(
+    rows: &mut BTreeMap<Vec<u32>, Row>,
+    outcome: Vec<u32>,
+    later: Row,
+) -> Result<(), AllocError>
+    requires { IfSome (counted_of rows.old.entries outcome.items) (λ told. told.0 + later.count < 4294967296) }
+    ensures { OnOk result (CountsRow outcome.items later rows.old.entries rows.new.entries) }
+{
+    match rows.get_mut(outcome.as_slice()) {
+        Some(row) => row.count += later.count,
+        None => {
+            rows.insert(outcome, later)?;
+        }
+    }
+    Ok(())
+}
+
 impl Tally {
+    /// Takes in the runs of a later tally, after its own.
+    pub fn take_in(&mut self, later: Tally) -> Result<(), AllocError>
+        requires counts { (outcome : List ℕ) → IfSome (counted_both (counted_of self.old.rows.entries outcome) (counted_of later.rows.entries outcome)) (λ told. told.0 < 4294967296) }
+        requires unfinished { self.old.unfinished + later.unfinished < 4294967296 }
+        ensures { OnOk result (Merges self.old later self.new) }
+    {
+        for (outcome, row) in later.rows {
+            count_row(&mut self.rows, outcome, row)?;
+        }
+        self.unfinished += later.unfinished;
+        self.some_hold = self.some_hold || later.some_hold;
+        self.some_fail = self.some_fail || later.some_fail;
+        Ok(())
+    }
+
     /// Of no run.
     pub fn new(alloc: Global) -> Tally
         ensures { IsTallyOf [] result }

@@ -1,3 +1,4 @@
+use Rattle.std.proofs.Common.{true}
 use Rattle.ztso_engines.proofs.OneAnswer as one
 use Rattle.ztso_engines.proofs.laws.one_answer.Goals as goal
 
@@ -24,3 +25,6 @@ returns-clause-trials c = one.one_tried
 
 pub returns-clause-channel : goal.returns-clause-channel
 returns-clause-channel c = one.one_channel
+
+pub returns-clause-finished : goal.returns-clause-finished
+returns-clause-finished c ring B M size = one.alike_channel ring B M size true
