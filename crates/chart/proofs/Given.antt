@@ -1,5 +1,5 @@
 -- What the named sources give is what is read, and a landing is joined to its own hart's oldest pending store.
-use Rattle.std.proofs.Common.{◌≡◌, ℕ, ◌+◌, Bool, true, false, List, [], ◌∷◌, Option, Some, None, All, refl, sym, ◌∙◌, ap, subst, take}
+use Rattle.std.proofs.Common.{◌≡◌, ℕ, ◌+◌, ◌<◌, length, arith, Bool, true, false, List, [], ◌∷◌, Option, Some, None, All, refl, sym, ◌∙◌, ap, subst, take}
 use Rattle.std.specs.Prelude.{option_map, unwrap_or, IfSome, map}
 use Rattle.std.specs.List.{slice_get}
 use Rattle.std.proofs.lemmas.List.Elements.{All-head}
@@ -7,8 +7,10 @@ use Rattle.memory.specs.declared.writes.Write.{Write}
 use Rattle.memory.specs.Writes.{newest_of, joined}
 use Rattle.memory.proofs.Bytes.{joined-same}
 use Rattle.step_machine.specs.declared.events.Entry.{Entry}
+use Rattle.step_machine.specs.declared.events.Entry.TheVariants as entry
 use Rattle.step_machine.specs.History.{Start}
-use Rattle.step_machine.specs.Entries.{hart_of, is_land, pending, landed, opening_byte, memory_byte, read_byte, read}
+use Rattle.step_machine.specs.Legal.{Allowed}
+use Rattle.step_machine.specs.Entries.{hart_of, is_land, pending, landed, opening_byte, memory_byte, read_byte, read, write_of}
 use Rattle.chart.specs.declared.sources.RowWrite.{RowWrite}
 use Rattle.chart.specs.Sources.{pending_by_row, landed_by_row, newest, named, source_of, row_of, landed_store, stored_at, byte_from}
 use Rattle.chart.proofs.ByRow.{write_in, writes, byte_by, HasStored, HasWritten, writes-pending, writes-landed, newest-bytes, newest-is, pending_stored, landed_written}
@@ -30,3 +32,21 @@ byte_given o es h a =
 
 pub read_given : (o : Start) (es : List Entry) (h a width : ℕ) → read o es h a width ≡ joined (λ i. byte_from o es h (a + i) (source_of es h (a + i))) width
 read_given o es h a width = joined-same (λ i. read_byte o es h (a + i)) (λ i. byte_from o es h (a + i) (source_of es h (a + i))) width (λ i below. byte_given o es h (a + i))
+
+pub load_given : (B : ℕ) (o : Start) (before : List Entry) (h a width v : ℕ) → Allowed B o before (entry.Load h a width v) → v ≡ joined (λ i. byte_from o before h (a + i) (source_of before h (a + i))) width
+load_given B o before h a width v may = may ∙ read_given o before h a width
+
+pub amo_given : (B : ℕ) (o : Start) (before : List Entry) (h a old new : ℕ) → Allowed B o before (entry.Amo h a old new) → old ≡ joined (λ i. byte_from o before h (a + i) (source_of before h (a + i))) 4
+amo_given B o before h a old new may = may.1 ∙ read_given o before h a 4
+
+-- the oldest of some pending stores, where there is one
+oldest_joined : (h : ℕ) (before : List Entry) (ws : List RowWrite) → All (HasStored h before) ws → 0 < length (writes ws) → (row : ℕ) × (row_of (slice_get ws 0) ≡ Some row) × (take 1 (writes ws) ≡ stored_at h before row)
+oldest_joined h before [] all some = absurd (omega (arith, some))
+oldest_joined h before (w ∷ ws) all some = (w.row, refl, sym (All-head (HasStored h before) w ws all))
+
+-- a landing writes what its own hart stored in the row that it is joined to
+pub landing_joined : (B : ℕ) (o : Start) (before : List Entry) (h : ℕ) → Allowed B o before (entry.Land h) → (row : ℕ) × (landed_store before (entry.Land h) ≡ Some row) × (write_of before (entry.Land h) ≡ stored_at h before row)
+landing_joined B o before h may =
+    let same = writes-pending h before in
+    let joined_row = oldest_joined h before (pending_by_row h before) (pending_stored h before) (subst (λ (ws : List Write). 0 < length ws) (sym same) may) in
+    (joined_row.0, joined_row.1, ap (λ (ws : List Write). take 1 ws) (sym same) ∙ joined_row.2)

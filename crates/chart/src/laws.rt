@@ -1,16 +1,23 @@
-//! Laws of sources, which hold of every list of entries.
+//! Laws of rows and sources, which hold of every list of entries.
 
-ghost use Rattle.std.specs.Prelude.{◌≡◌, ◌+◌, ℕ, List};
+ghost use Rattle.std.specs.Prelude.{◌≡◌, ◌+◌, ℕ, List, Some, map};
 ghost use Rattle.memory.specs.Writes.{joined};
 ghost use Rattle.step_machine.specs.declared.events.Entry.{Entry};
+ghost use Rattle.step_machine.specs.declared.events.Entry.TheVariants as entry;
 ghost use Rattle.step_machine.specs.History.{Start};
-ghost use Rattle.step_machine.specs.Entries.{read, read_byte};
-ghost use Rattle.chart.specs.Sources.{byte_from, source_of};
+ghost use Rattle.step_machine.specs.Entries.{read, read_byte, write_of};
+ghost use Rattle.step_machine.specs.Legal.{Allowed};
+ghost use Rattle.chart.specs.Sources.{byte_from, landed_store, source_of, stored_at};
+ghost use Rattle.chart.specs.Rows.{rows_of};
 
-/// The laws of sources. A byte that a hart reads after some entries is the one that its source gives,
-/// and so the number that it reads is made of what its sources give. It does nothing.
-#[tactic(auto, using(crate::proofs::Given::byte_given, crate::proofs::Given::read_given))]
+/// The laws of rows and sources. A byte that a hart reads after some entries is the one that its source
+/// gives, and so the value of a load and the old word of an AMO are what their sources give. A landing
+/// writes what its own hart stored in the row that it is joined to. It does nothing.
+#[tactic(auto, using(crate::proofs::Given::byte_given, crate::proofs::Given::load_given, crate::proofs::Given::amo_given, crate::proofs::RowLaws::entries_of_rows))]
 pub fn laws_of_sources()
     ensures bytes { (o : Start) (es : List Entry) (h a : ℕ) → read_byte o es h a ≡ byte_from o es h a (source_of es h a) }
-    ensures reads { (o : Start) (es : List Entry) (h a width : ℕ) → read o es h a width ≡ joined (λ i. byte_from o es h (a + i) (source_of es h (a + i))) width }
+    ensures loads { (B : ℕ) (o : Start) (before : List Entry) (h a width v : ℕ) → Allowed B o before (entry.Load h a width v) → v ≡ joined (λ i. byte_from o before h (a + i) (source_of before h (a + i))) width }
+    ensures amos { (B : ℕ) (o : Start) (before : List Entry) (h a old new : ℕ) → Allowed B o before (entry.Amo h a old new) → old ≡ joined (λ i. byte_from o before h (a + i) (source_of before h (a + i))) 4 }
+    ensures landings { (B : ℕ) (o : Start) (before : List Entry) (h : ℕ) → Allowed B o before (entry.Land h) → (row : ℕ) × (landed_store before (entry.Land h) ≡ Some row) × (write_of before (entry.Land h) ≡ stored_at h before row) }
+    ensures entries { (es : List Entry) → map (λ r. r.entry) (rows_of es) ≡ es }
 {}

@@ -25,6 +25,9 @@ fn store_buffering_needs_six_events(rt: HostRuntime) -> Result<(), Fail> {
     assert_eq!(rt; again.as_slice(), BOTH_READ_0.as_slice());
     let unfinished = shrink::<8, 1024>(rt.alloc(), &test, &BOTH_READ_0[..5]);
     assert!(rt; matches!(unfinished, Err(ShrinkError::NotFinished)));
-    assert_eq!(rt; ShrinkError::NotFinished.to_string(rt.alloc())?.as_str(), "not finished");
+    assert_eq!(rt;
+        ShrinkError::NotFinished.to_string(rt.alloc())?.as_str(),
+        "not finished"
+    );
     Ok(())
 }
