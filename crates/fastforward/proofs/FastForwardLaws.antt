@@ -18,7 +18,7 @@ use Rattle.fastforward.proofs.Sender.{fastforward_sender}
 use Rattle.fastforward.proofs.Sender as row
 use Rattle.fastforward.proofs.ReceiverReads.{seen_mark, seen_done}
 use Rattle.fastforward.proofs.ReceiverActs.{stores_tail, stores_done, reported}
-use Rattle.fastforward.proofs.Receiver.{right_14, receiver_reasons}
+use Rattle.fastforward.proofs.Receiver as between
 use Rattle.poll_close.specs.Invariant.Outlines.{Reasons}
 
 abbrev nothing : Numbers
@@ -75,8 +75,8 @@ fastforward_laws = record {
   stores_tail = λ k n order filled on. stores_tail k n order filled on;
   stores_done = λ k n order level all on. stores_done k n order level all on;
   reports = λ k n words closed order level known. reported k n order words closed level known;
-  moves_14 = λ k i count n word r v is order words. right_14 k i count n word r v is order words;
-  moves = λ k i count n word r v is order words. receiver_reasons k i count n word r v is order words;
+  moves_14 = λ k i count n word r v is order words. between.right_14 k i count n word r v is order words;
+  moves = λ k i count n word r v is order words. (between.right_18 k i count n word r v is order words, (between.right_1C k i count n word r v is order words, (between.right_20 k i count n word r v is order words, (between.right_24 k i count n word r v is order words, tt))));
 }
 
 pub fastforward_short : AreShort fastforward

@@ -10,11 +10,9 @@ use Rattle.hart.proofs.Instructions.{IsAt}
 use Rattle.poll_close.specs.Paces.{runs}
 use Rattle.poll_close.specs.Invariant.Blocks.{Block, offset, slot}
 use Rattle.poll_close.specs.Invariant.ReceiverState.{Noted, whole_of, receiver_of, receiving}
-use Rattle.poll_close.specs.Invariant.BlockMeaning.{opened_rows}
-use Rattle.poll_close.specs.Invariant.Outlines.{Reasons}
 use Rattle.poll_close.proofs.Lines.{loads, stores, at_line, sum_line, load_line, store_line, same_jumps, other_goes_on}
 use Rattle.poll_close.proofs.Blocks.{IsBlock, offset_low, word_of, slot_of}
-use Rattle.poll_close.proofs.BlockLaws.{found_in, Changes, Right, Right_at}
+use Rattle.poll_close.proofs.BlockLaws.{found_in, Changes, Right_at}
 use Rattle.poll_close.proofs.Distance.{flags, far_off}
 use Rattle.poll_close.proofs.ReceiverMoves as step
 use Rattle.fastforward.specs.Listing.{receiver_lines}
@@ -109,6 +107,3 @@ module _ (k : Block) (i count : ℕ) (n : Numbers) (word : ℕ → ℕ) (r : Not
       (inl (record { visits = h.0.visits; ahead = h.0.quiet.words; closed = h.0.quiet.closed; open_yet = h.0.open_yet; filled = ap (λ u. u + 1) h.0.quiet.level; word = h.1.0.1 }, h.1.1))
       (inl (refl, refl, refl)) refl
       (λ none rs states idle. omega arith)
-
-  pub receiver_reasons : Reasons (Right fastforward_blocks k i count n word r v) (opened_rows fastforward_blocks fastforward_blocks.rows)
-  receiver_reasons = (right_18, (right_1C, (right_20, (right_24, tt))))

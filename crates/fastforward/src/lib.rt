@@ -4,7 +4,8 @@
 
 #![tactic(auto)]
 
-ghost use Rattle.fastforward.specs.Listing.{sender_code, sender_lines, receiver_code, receiver_lines};
+ghost use Rattle.fastforward.specs.Listing.{sender_lines, receiver_lines};
+ghost use Rattle.fastforward.specs.FastForward.{fastforward};
 ghost use Rattle.poll_close.specs.Means.{AllMean};
 
 use hart::status::Status;
@@ -29,7 +30,7 @@ const RECEIVER: [u32; 32] = [
 pub struct FastForward;
 
 impl RingKind for FastForward {
-    ghost use Rattle.fastforward.specs.FastForward.{fastforward, fastforward_means};
+    ghost use Rattle.fastforward.specs.FastForward.{fastforward_means};
 
     ghost ring = { fastforward };
 
@@ -70,9 +71,9 @@ impl<const B: usize, const M: usize> Finish<B, M> for FastForward {
     fn nears() {}
 }
 
-/// Each word of the tables means its line's instruction. It does nothing.
+/// Each word of the ring's tables means its line's instruction. It does nothing.
 #[tactic(auto, using(crate::proofs::Means::sender_means, crate::proofs::Means::receiver_means))]
 pub fn tables_mean()
-    ensures sender { AllMean sender_code sender_lines }
-    ensures receiver { AllMean receiver_code receiver_lines }
+    ensures sender { AllMean fastforward.sender sender_lines }
+    ensures receiver { AllMean fastforward.receiver receiver_lines }
 {}

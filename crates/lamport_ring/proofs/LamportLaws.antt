@@ -20,7 +20,7 @@ use Rattle.lamport_ring.proofs.Landings.{sender_lands, receiver_lands}
 use Rattle.lamport_ring.proofs.ReceiverReads.{seen_mark, seen_done}
 use Rattle.lamport_ring.proofs.Sender.{lamport_sender}
 use Rattle.lamport_ring.proofs.Sender as row
-use Rattle.lamport_ring.proofs.Receiver.{right_14, receiver_reasons}
+use Rattle.lamport_ring.proofs.Receiver as between
 use Rattle.poll_close.specs.Invariant.Outlines.{Reasons}
 
 abbrev nothing : Numbers
@@ -125,8 +125,8 @@ lamport_laws = record {
   stores_tail = λ k n order more on. stores_tail k n order more on;
   stores_done = λ k n order level all on. stores_done k n order all on;
   reports = λ k n words closed order level known. reported k n order words closed known;
-  moves_14 = λ k i count n word r v is order words. right_14 k i count n word r v is order words;
-  moves = λ k i count n word r v is order words. receiver_reasons k i count n word r v is order words;
+  moves_14 = λ k i count n word r v is order words. between.right_14 k i count n word r v is order words;
+  moves = λ k i count n word r v is order words. (between.right_18 k i count n word r v is order words, (between.right_1C k i count n word r v is order words, (between.right_20 k i count n word r v is order words, (between.right_24 k i count n word r v is order words, tt))));
 }
 
 pub lamport_short : AreShort lamport

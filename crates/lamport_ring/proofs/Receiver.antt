@@ -11,12 +11,11 @@ use Rattle.poll_close.specs.Reports.{taken}
 use Rattle.poll_close.specs.Paces.{runs}
 use Rattle.poll_close.specs.Invariant.Blocks.{Block, offset, slot}
 use Rattle.poll_close.specs.Invariant.ReceiverState.{Noted, whole_of, receiver_of, receiving}
-use Rattle.poll_close.specs.Invariant.BlockMeaning.{Flag, opened_rows}
-use Rattle.poll_close.specs.Invariant.Outlines.{Reasons}
+use Rattle.poll_close.specs.Invariant.BlockMeaning.{Flag}
 use Rattle.poll_close.proofs.Lines.{loads, at_line, sum_line, load_line, same_jumps, other_goes_on}
 use Rattle.poll_close.proofs.Modulo.{same_offset}
 use Rattle.poll_close.proofs.Blocks.{IsBlock, offset_low, base_word, word_of, slot_of}
-use Rattle.poll_close.proofs.BlockLaws.{Right, Right_at}
+use Rattle.poll_close.proofs.BlockLaws.{Right_at}
 use Rattle.poll_close.proofs.Distance.{flags, far_off}
 use Rattle.poll_close.proofs.ReceiverMoves as step
 use Rattle.lamport_ring.specs.Listing.{receiver_lines}
@@ -108,6 +107,3 @@ module _ (k : Block) (i count : ℕ) (n : Numbers) (word : ℕ → ℕ) (r : Not
       step.reads lamport_blocks k i count n order r v 0x24 0x28 (r.x28 + 16) (λ w. record r { x11 = w }) refl line
       (record { visits = h.0.visits; ahead = h.0.quiet.words; closed = h.0.quiet.closed; open_yet = h.0.open_yet; filled = h.1.0; word = read }, h.1.1)
       (λ rs states idle. omega arith)
-
-  pub receiver_reasons : Reasons (Right lamport_blocks k i count n word r v) (opened_rows lamport_blocks lamport_blocks.rows)
-  receiver_reasons = (right_18, (right_1C, (right_20, (right_24, tt))))

@@ -4,7 +4,8 @@
 
 #![tactic(auto)]
 
-ghost use Rattle.lamport_ring.specs.Listing.{sender_code, sender_lines, receiver_code, receiver_lines};
+ghost use Rattle.lamport_ring.specs.Listing.{sender_lines, receiver_lines};
+ghost use Rattle.lamport_ring.specs.Lamport.{lamport};
 ghost use Rattle.poll_close.specs.Means.{AllMean};
 
 use hart::status::Status;
@@ -30,7 +31,7 @@ const RECEIVER: [u32; 32] = [
 pub struct Lamport;
 
 impl RingKind for Lamport {
-    ghost use Rattle.lamport_ring.specs.Lamport.{lamport, lamport_means};
+    ghost use Rattle.lamport_ring.specs.Lamport.{lamport_means};
 
     ghost ring = { lamport };
 
@@ -72,9 +73,9 @@ impl<const B: usize, const M: usize> Finish<B, M> for Lamport {
     fn nears() {}
 }
 
-/// Each word of the tables means its line's instruction. It does nothing.
+/// Each word of the ring's tables means its line's instruction. It does nothing.
 #[tactic(auto, using(crate::proofs::Means::sender_means, crate::proofs::Means::receiver_means))]
 pub fn tables_mean()
-    ensures sender { AllMean sender_code sender_lines }
-    ensures receiver { AllMean receiver_code receiver_lines }
+    ensures sender { AllMean lamport.sender sender_lines }
+    ensures receiver { AllMean lamport.receiver receiver_lines }
 {}

@@ -22,6 +22,10 @@ use Rattle.poll_close.proofs.Lines.{Line, loads, at_line}
 use Rattle.poll_close.proofs.Blocks.{IsBlock, IsWordOf}
 use Rattle.poll_close.proofs.BlockLaws.{found_in, Sends}
 
+-- one reason before others
+abbrev pub also : {A B : Type 0} → A → B → A × B
+also a b = (a, b)
+
 -- where each row is right, what is wanted follows at any offset from what holds there
 pub found : {Rank : Type 0} {Held : Type 1} (holds : Held → Type 0) (Goal : ℕ → Type 0) (rows : List (Row Rank Held)) → Reasons (λ (row : Row Rank Held). holds row.holds → Goal row.at) rows → (here : ℕ) → HoldsIn holds rows here → Goal here
 found holds Goal [] reasons here h = absurd h

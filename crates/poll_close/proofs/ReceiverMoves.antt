@@ -31,7 +31,7 @@ use Rattle.poll_close.specs.Paces.{rest_from, runs}
 use Rattle.poll_close.specs.Plans.{is_closed}
 use Rattle.poll_close.proofs.Modulo.{offset_step, offset_wrap}
 use Rattle.poll_close.proofs.Blocks.{IsBlock, offset_low, word_of}
-use Rattle.poll_close.proofs.Outlines.{found}
+use Rattle.poll_close.proofs.Outlines.{also, found}
 use Rattle.poll_close.proofs.Distance.{flags, not_stale, far_off, arrives, wraps}
 
 -- what the decoder finds: its own lines, whatever the middle
@@ -304,52 +304,9 @@ module _ (m : BlockMeaning) (k : Block) (i count : ℕ) (n : Count m) (order : m
 
     -- wherever it runs, it moves, by what it finds in the block that it visits
     pub receives_on : (here : ℕ) → Right_here here
-    receives_on = found (λ (H : Block → ℕ → m.Receiver → Noted → Type 0). H k i o r) (λ here. Runs m k count here n word_at r v → Receives m k i count here n r v) (rows_of m) (
-      right_00,
-      (
-        right_04,
-        (
-          right_08,
-          (
-            right_0C,
-            (
-              right_10,
-              (
-                laws.moves_14 k i count n word_at r v is order words,
-                (
-                  right_28,
-                  (
-                    right_2C,
-                    (
-                      right_30,
-                      (
-                        right_34,
-                        (
-                          right_38,
-                          (
-                            right_3C,
-                            (
-                              right_40,
-                              (
-                                right_44,
-                                (
-                                  right_48,
-                                  (
-                                    right_4C,
-                                    (right_50, (right_54, (right_58, (right_5C, (right_60, (right_64, (right_68, (right_6C, (right_70, (right_74, (right_78, (right_7C, (right_80, laws.moves k i count n word_at r v is order words))))))))))))),
-                                  ),
-                                ),
-                              ),
-                            ),
-                          ),
-                        ),
-                      ),
-                    ),
-                  ),
-                ),
-              ),
-            ),
-          ),
-        ),
-      ),
-    )
+    receives_on here h =
+        let last = also right_68 (also right_6C (also right_70 (also right_74 (also right_78 (also right_7C (also right_80 (laws.moves k i count n word_at r v is order words))))))) in
+        let close = also right_48 (also right_4C (also right_50 (also right_54 (also right_58 (also right_5C (also right_60 (also right_64 last))))))) in
+        let take = also right_28 (also right_2C (also right_30 (also right_34 (also right_38 (also right_3C (also right_40 (also right_44 close))))))) in
+        found (λ (H : Block → ℕ → m.Receiver → Noted → Type 0). H k i o r) (λ at. Runs m k count at n word_at r v → Receives m k i count at n r v) (rows_of m)
+        (also right_00 (also right_04 (also right_08 (also right_0C (also right_10 (also (laws.moves_14 k i count n word_at r v is order words) take)))))) here h
