@@ -11,6 +11,8 @@ CASES = Path(__file__).resolve().parent.parent
 ROOT = CASES.parent
 SUFFIXES = (".cases", ".expected")
 STREAMS = ("stdin", "stdout")
+# how the text of standard input is given: at a pseudoterminal, or by a pipe
+TYPED = ("at-a-terminal", "line-by-line", "byte-by-byte")
 NAME = re.compile(r"[^\s/]+")
 
 Pieces = List[Tuple[int, bytes]]
@@ -45,6 +47,7 @@ class Case:
     comments: List[str] = field(default_factory=list)
     memory: Optional[int] = None
     each_allocation: Optional[str] = None
+    typed: Optional[str] = None
     copied: List[str] = field(default_factory=list)
     files: Dict[str, Pieces] = field(default_factory=dict)
     stdin: Stream = field(default_factory=Stream)
@@ -136,6 +139,8 @@ class Reader:
                 raise self.refused(f"{case.name} has no line `$ ztso ..`")
             if case.each_allocation is not None and case.needs_shell():
                 raise self.refused(f"{case.name} is run by a shell, whose allocations aren't to be refused")
+            if case.typed and (case.stdin.device or case.stdout.device):
+                raise self.refused(f"{case.name} has no text that is typed, or no pipe for the answers")
         return found
 
     def opened(self, name, before):
@@ -162,6 +167,8 @@ class Reader:
             case.memory = int(rest)
         elif head == "each-allocation":
             case.each_allocation = rest
+        elif head == "typed" and rest in TYPED:
+            case.typed = rest
         elif head == "copy" and rest:
             case.copied += rest.split(" ")
         elif head == "file" and rest.endswith(":"):
@@ -220,6 +227,8 @@ def block(case):
         yield f"memory {case.memory}"
     if case.each_allocation is not None:
         yield f"each-allocation {case.each_allocation}".rstrip()
+    if case.typed:
+        yield f"typed {case.typed}"
     if case.copied:
         yield " ".join(["copy", *case.copied])
     for name, pieces in case.files.items():

@@ -5,6 +5,8 @@ import subprocess
 import tempfile
 from pathlib import Path
 
+from . import typing_in
+
 SECONDS = 60
 # status, standard error and standard output where memory ran out
 NO_MEMORY = (4, b"ztso: no memory\n", b"")
@@ -108,6 +110,9 @@ def run(program, case, folder, variables=None):
 def run_in(program, case, inside, variables):
     for name, content in case.folder_files().items():
         Path(inside, name).write_bytes(content)
+    if case.typed:
+        environment = {**os.environ, **variables} if variables else None
+        return typing_in.run(case.typed, case.stdin.content(), command(program, case), inside, environment, SECONDS)
     given, taken = device(case.stdin, os.O_RDONLY), device(case.stdout, os.O_WRONLY)
     try:
         done = subprocess.run(
