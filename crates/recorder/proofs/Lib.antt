@@ -2,7 +2,6 @@ pub mod TokenLaws
 pub mod TextLaws
 pub mod HeadLaws
 pub mod Runs
-pub mod Longest
 pub mod RoundTrip
 pub mod Drawn
 pub mod RecordLaws

@@ -18,34 +18,36 @@ use Rattle.texts.proofs.RowLaws.{is_low, Solid, none_of, decimal_solid}
 use Rattle.recorder.specs.Schedule.{letter, hart_of, Spells, IsPieceOf, OfHarts, IsTokensOf, EndsLine, IsScheduleOf}
 use Rattle.recorder.specs.Schedule.Spells.{once, repeated}
 use Rattle.recorder.specs.Reading.{head}
-use Rattle.recorder.specs.Writing.{is_same, Run, joined, runs_of, expanded, token_of, text_of, tokens_of, canon}
-use Rattle.recorder.proofs.Longest.{expanded-runs_of}
+use Rattle.texts.specs.Runs.{Run, joined, runs_of, expanded}
+use Rattle.texts.proofs.RunLaws.{expanded-runs_of}
+use Rattle.recorder.specs.Writing.{is_same, token_of, text_of, tokens_of, canon}
+use Rattle.recorder.proofs.Runs.{decides}
 
 -- ---- the runs of events of 64 harts
 
 -- a run of one of 64 harts, of one event at least
-abbrev pub IsFit : Run → Type 0
+abbrev pub IsFit : Run Event → Type 0
 IsFit run = (hart_of run.0 < 64) × (0 < run.1)
 
-abbrev AreFit : List Run → Type 0
+abbrev AreFit : List (Run Event) → Type 0
 AreFit [] = Unit {0}
 AreFit (run ∷ runs) = IsFit run × AreFit runs
 
-AreFit-joined : (run : Run) (runs : List Run) → IsFit run → AreFit runs → AreFit (joined run runs)
+AreFit-joined : (run : Run Event) (runs : List (Run Event)) → IsFit run → AreFit runs → AreFit (joined is_same run runs)
 AreFit-joined run [] fit others = (fit, tt)
 AreFit-joined run (next ∷ runs) fit others = go (is_same run.0 next.0) refl
   where
-    go : (b : Bool) → is_same run.0 next.0 ≡ b → AreFit (joined run (next ∷ runs))
+    go : (b : Bool) → is_same run.0 next.0 ≡ b → AreFit (joined is_same run (next ∷ runs))
     go true is = rw is ((fit.0, omega (arith, fit.1)), others.1)
     go false isnt = rw isnt (fit, others)
 
-AreFit-runs_of : (events : List Event) → OfHarts events → AreFit (runs_of events)
+AreFit-runs_of : (events : List Event) → OfHarts events → AreFit (runs_of is_same events)
 unfolding runs_of
 AreFit-runs_of events harts = go events (recursion_from_All (λ (e : Event). hart_of e < 64) events harts)
   where
-    go : (es : List Event) → AllByRecursion (λ (e : Event). hart_of e < 64) es → AreFit (runs_of es)
+    go : (es : List Event) → AllByRecursion (λ (e : Event). hart_of e < 64) es → AreFit (runs_of is_same es)
     go [] all = tt
-    go (e ∷ es) all = AreFit-joined (e, 1) (runs_of es) (all.0, omega arith) (go es all.1)
+    go (e ∷ es) all = AreFit-joined (e, 1) (runs_of is_same es) (all.0, omega arith) (go es all.1)
 
 -- ---- a token is one piece
 
@@ -63,17 +65,17 @@ behind_letter (Land hart) rest none = (omega arith, (refl, none))
 says : (n : ℕ) → n < 2 ^ 64 → Says (decimal n) n
 says n small = decimal_is_IsNumeral n small
 
-token-more : (run : Run) → 1 < run.1 → token_of run ≡ letter run.0 ∷ (decimal (hart_of run.0) ++ 42 ∷ decimal run.1)
+token-more : (run : Run Event) → 1 < run.1 → token_of run ≡ letter run.0 ∷ (decimal (hart_of run.0) ++ 42 ∷ decimal run.1)
 token-more run more = rw (lt-ltb 1 run.1 more) refl
 
-token-one : (run : Run) → run.1 ≤ 1 → token_of run ≡ letter run.0 ∷ decimal (hart_of run.0)
+token-one : (run : Run Event) → run.1 ≤ 1 → token_of run ≡ letter run.0 ∷ decimal (hart_of run.0)
 token-one run one = rw (le-ltb 1 run.1 one) (ap (λ (word : List ℕ). letter run.0 ∷ word) (append-nil (decimal (hart_of run.0))))
 
-abbrev pub IsToken : Run → List ℕ → Type 0
+abbrev pub IsToken : Run Event → List ℕ → Type 0
 IsToken run word = Spells run.0 word run.1 × Solid word
 
 -- a run's token spells its event, so many times, and nothing in it parts pieces
-pub token_fits : (run : Run) → IsFit run → run.1 < 2 ^ 64 → IsToken run (token_of run)
+pub token_fits : (run : Run Event) → IsFit run → run.1 < 2 ^ 64 → IsToken run (token_of run)
 token_fits run fit small = elim (cases_lt 1 run.1) [ inl more ↦ subst (IsToken run) (sym (token-more run more)) (repeats more) | inr one ↦ subst (IsToken run) (sym (token-one run one)) (comes_once one) ]
   where
     hart : Says (decimal (hart_of run.0)) (hart_of run.0)
@@ -93,7 +95,7 @@ token_fits run fit small = elim (cases_lt 1 run.1) [ inl more ↦ subst (IsToken
 
 -- ---- the tokens of runs stand for their events
 
-run_stands : (run : Run) (behind : ℕ) (rest : List ℕ) (events : List Event) → IsFit run → run.1 < 2 ^ 64 → parts behind ≡ true → Stand IsPieceOf (pieces BlanksAndLineEnds rest) events → Stand IsPieceOf (pieces BlanksAndLineEnds (token_of run ++ behind ∷ rest)) (replicate run.1 run.0 ++ events)
+run_stands : (run : Run Event) (behind : ℕ) (rest : List ℕ) (events : List Event) → IsFit run → run.1 < 2 ^ 64 → parts behind ≡ true → Stand IsPieceOf (pieces BlanksAndLineEnds rest) events → Stand IsPieceOf (pieces BlanksAndLineEnds (token_of run ++ behind ∷ rest)) (replicate run.1 run.0 ++ events)
 run_stands run behind rest events fit small part stand =
     let token = token_fits run fit small in
     subst (λ (all : List (List ℕ)). Stand IsPieceOf all (replicate run.1 run.0 ++ events)) (sym (split_stop parts (token_of run) behind rest (none_of parts parts_none (token_of run) token.1.1) part))
@@ -103,7 +105,7 @@ run_stands run behind rest events fit small part stand =
 empty_stands : Stand IsPieceOf ([] ∷ []) []
 empty_stands = ([], [], refl, refl, refl)
 
-text_stands : (runs : List Run) → AreFit runs → length (expanded runs) ≤ 1048576 → Stand IsPieceOf (pieces BlanksAndLineEnds (text_of runs ++ 10 ∷ [])) (expanded runs)
+text_stands : (runs : List (Run Event)) → AreFit runs → length (expanded runs) ≤ 1048576 → Stand IsPieceOf (pieces BlanksAndLineEnds (text_of runs ++ 10 ∷ [])) (expanded runs)
 text_stands [] fit few = ([], [], refl, refl, empty_stands)
 text_stands (run ∷ []) fit few =
     let small : run.1 < 2 ^ 64 = omega (arith, length-append (replicate run.1 run.0) [], length-replicate run.1 run.0) in
@@ -118,13 +120,13 @@ text_stands (run ∷ next ∷ runs) fit few =
 pub tokens_again : (events : List Event) → OfHarts events → length events ≤ 1048576 → IsTokensOf (tokens_of events ++ 10 ∷ []) events
 unfolding tokens_of
 tokens_again events harts few =
-    let same = expanded-runs_of events in
-    let stand = text_stands (runs_of events) (AreFit-runs_of events harts) (rw same few) in
-    (subst (Stand IsPieceOf (pieces BlanksAndLineEnds (text_of (runs_of events) ++ 10 ∷ []))) same stand, few)
+    let same = expanded-runs_of is_same decides events in
+    let stand = text_stands (runs_of is_same events) (AreFit-runs_of events harts) (rw same few) in
+    (subst (Stand IsPieceOf (pieces BlanksAndLineEnds (text_of (runs_of is_same events) ++ 10 ∷ []))) same stand, few)
 
 -- ---- the tokens alone
 
-alone_stands : (runs : List Run) → AreFit runs → length (expanded runs) ≤ 1048576 → Stand IsPieceOf (pieces BlanksAndLineEnds (text_of runs)) (expanded runs)
+alone_stands : (runs : List (Run Event)) → AreFit runs → length (expanded runs) ≤ 1048576 → Stand IsPieceOf (pieces BlanksAndLineEnds (text_of runs)) (expanded runs)
 alone_stands [] fit few = empty_stands
 alone_stands (run ∷ []) fit few =
     let small : run.1 < 2 ^ 64 = omega (arith, length-append (replicate run.1 run.0) [], length-replicate run.1 run.0) in
@@ -138,9 +140,9 @@ alone_stands (run ∷ next ∷ runs) fit few =
 pub tokens_alone : (events : List Event) → OfHarts events → length events ≤ 1048576 → IsTokensOf (tokens_of events) events
 unfolding tokens_of
 tokens_alone events harts few =
-    let same = expanded-runs_of events in
-    let stand = alone_stands (runs_of events) (AreFit-runs_of events harts) (rw same few) in
-    (subst (Stand IsPieceOf (pieces BlanksAndLineEnds (text_of (runs_of events)))) same stand, few)
+    let same = expanded-runs_of is_same decides events in
+    let stand = alone_stands (runs_of is_same events) (AreFit-runs_of events harts) (rw same few) in
+    (subst (Stand IsPieceOf (pieces BlanksAndLineEnds (text_of (runs_of is_same events)))) same stand, few)
 
 -- ---- with the head line
 

@@ -5,7 +5,8 @@ ghost use Rattle.std.specs.Result.{IsErr};
 ghost use Rattle.step_machine.specs.declared.events.Event.{Event};
 ghost use Rattle.recorder.specs.Schedule.{OfHarts, IsTokensOf, IsScheduleOf};
 ghost use Rattle.recorder.specs.Reading.{tokens_at, tokens_after, schedule_at};
-ghost use Rattle.recorder.specs.Writing.{Run, runs_of, expanded, AreLongest, tokens_of};
+ghost use Rattle.texts.specs.Runs.{Run, runs_of, expanded, AreLongest};
+ghost use Rattle.recorder.specs.Writing.{is_same, tokens_of};
 ghost use Rattle.recorder.specs.declared.reading.TheConstants.{MAX_EVENTS};
 ghost use Rattle.recorder.specs.Records.{Step, AreRecordsOf, records_from, AllCan, steps_in, record_line};
 ghost use Rattle.std.specs.List.{flat_map};
@@ -29,9 +30,9 @@ pub fn refused_without_value()
 /// The runs that are written for some events are those events, and no two of them could be one; there
 /// is one such list of runs only. It does nothing.
 pub fn longest_runs()
-    ensures same { (events : List Event) → expanded (runs_of events) ≡ events }
-    ensures longest { (events : List Event) → AreLongest (runs_of events) }
-    ensures one { (runs : List Run) → AreLongest runs → runs_of (expanded runs) ≡ runs }
+    ensures same { (events : List Event) → expanded (runs_of is_same events) ≡ events }
+    ensures longest { (events : List Event) → AreLongest (runs_of is_same events) }
+    ensures one { (runs : List (Run Event)) → AreLongest runs → runs_of is_same (expanded runs) ≡ runs }
 {}
 
 /// The tokens that are written for some events stand for these events. It does nothing.

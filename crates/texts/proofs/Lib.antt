@@ -6,3 +6,4 @@ pub mod TrimLaws
 pub mod TokenLaws
 pub mod FormatLaws
 pub mod RowLaws
+pub mod RunLaws

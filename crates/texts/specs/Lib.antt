@@ -5,3 +5,4 @@ pub mod Pieces
 pub mod Numbers
 pub mod Cutting
 pub mod Letters
+pub mod Runs

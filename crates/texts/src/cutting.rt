@@ -1,6 +1,6 @@
 //! Texts cut at separators, the separators round them, and the tokens between.
 
-ghost use Rattle.std.specs.Prelude.{◌≡◌, ◌<◌, ◌+◌, [], ◌∷◌, not, length, position, Some, None, MatchOption, IfSome};
+ghost use Rattle.std.specs.Prelude.{◌≡◌, ◌<◌, ◌≤◌, ◌+◌, [], ◌∷◌, not, length, position, Some, None, MatchOption, IfSome};
 ghost use Rattle.std.specs.List.{list_all};
 ghost use Rattle.std.specs.Option.{option_copied};
 ghost use Rattle.texts.specs.Pieces.{separates, bytes_left};
@@ -99,6 +99,7 @@ pub fn first_token(line: &[u8]) -> Option<(&[u8], &[u8])>
     ensures tokens { MatchOption result (tokens line.now ≡ []) (λ cut. tokens line.now ≡ cut.0.now ∷ tokens cut.1.now) }
     // a line is walked token by token, in time linear in its length
     ensures shorter { IfSome result (λ cut. length cut.1.now < length line.now) }
+    ensures within { IfSome result (λ cut. length cut.0.now ≤ length line.now) }
 {
     let line = without_front(line);
     if line.is_empty() {

@@ -17,6 +17,6 @@ pub mod pieces;
 
 pub use cutting::first_token;
 pub use errors::{AtLine, Numbered, TextError};
-pub use lines::first_line;
+pub use lines::{first_line, without_carriage_return};
 pub use numbers::{hex_number, hex_word, integer, number, push_decimal, word};
 pub use pieces::{Separators, first_piece};

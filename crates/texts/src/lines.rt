@@ -11,7 +11,7 @@ fn line_feed_in(bytes: &[u8]) -> Option<usize>
 }
 
 /// The line without the one CR at its end, if it has one.
-fn without_carriage_return(line: &[u8]) -> &[u8]
+pub fn without_carriage_return(line: &[u8]) -> &[u8]
     ensures { result.now ≡ strip_carriage_return line.now }
 {
     match line {

@@ -32,3 +32,13 @@ returns-in-None-clause-cut c =
 
 pub returns-in-None-clause-tokens : goal.returns-in-None-clause-tokens
 returns-in-None-clause-tokens c = tokens_cut c.args.line.now _ _ (returns-in-None-clause-cut c)
+
+pub returns-in-Some-clause-within : goal.returns-in-Some-clause-within
+returns-in-Some-clause-within c =
+    let le : length c.without_front-line.result.now ≤ length c.args.line.now = rw c.without_front-line.ensures (length-from_first (fails is_blank) c.args.line.now) in
+    omega (arith, c.cut_at_any.ensures.rest)
+
+pub returns-in-None-clause-within : goal.returns-in-None-clause-within
+returns-in-None-clause-within c =
+    let le : length c.without_front-line.result.now ≤ length c.args.line.now = rw c.without_front-line.ensures (length-from_first (fails is_blank) c.args.line.now) in
+    omega (arith, c.cut_at_any.ensures.rest)
