@@ -12,6 +12,8 @@ mod of_litmus;
 #[cfg(test)]
 mod of_recorder;
 #[cfg(test)]
+mod of_records;
+#[cfg(test)]
 mod of_step_machine;
 #[cfg(test)]
 mod of_ztso_axioms;
