@@ -1,7 +1,10 @@
+pub mod Slices
 pub mod TokenLaws
 pub mod TextLaws
 pub mod HeadLaws
 pub mod Runs
 pub mod RoundTrip
 pub mod Drawn
+pub mod OutcomeLaws
 pub mod RecordLaws
+pub mod RunRecords

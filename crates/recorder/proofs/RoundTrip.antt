@@ -15,12 +15,13 @@ use Rattle.texts.specs.Cutting.{NonePass}
 use Rattle.texts.specs.Formats.{Stand}
 use Rattle.texts.proofs.CuttingLaws.{none-append, split_none, split_stop}
 use Rattle.texts.proofs.RowLaws.{is_low, Solid, none_of, decimal_solid}
-use Rattle.recorder.specs.Schedule.{letter, hart_of, Spells, IsPieceOf, OfHarts, IsTokensOf, EndsLine, IsScheduleOf}
+use Rattle.recorder.specs.Schedule.{letter, hart_of, Spells, IsPieceOf, OfHarts, IsTokensOf, EndsLine, IsPlainOf}
 use Rattle.recorder.specs.Schedule.Spells.{once, repeated}
 use Rattle.recorder.specs.Reading.{head}
-use Rattle.texts.specs.Runs.{Run, joined, runs_of, expanded}
-use Rattle.texts.proofs.RunLaws.{expanded-runs_of}
+use Rattle.texts.specs.Runs.{Run, runs_of, expanded}
+use Rattle.texts.proofs.RunLaws.{expanded-runs_of, all-runs_of}
 use Rattle.recorder.specs.Writing.{is_same, token_of, text_of, tokens_of, canon}
+use Rattle.recorder.specs.Versions.{plain, IsScheduleOf}
 use Rattle.recorder.proofs.Runs.{decides}
 
 -- ---- the runs of events of 64 harts
@@ -30,24 +31,10 @@ abbrev pub IsFit : Run Event → Type 0
 IsFit run = (hart_of run.0 < 64) × (0 < run.1)
 
 abbrev AreFit : List (Run Event) → Type 0
-AreFit [] = Unit {0}
-AreFit (run ∷ runs) = IsFit run × AreFit runs
-
-AreFit-joined : (run : Run Event) (runs : List (Run Event)) → IsFit run → AreFit runs → AreFit (joined is_same run runs)
-AreFit-joined run [] fit others = (fit, tt)
-AreFit-joined run (next ∷ runs) fit others = go (is_same run.0 next.0) refl
-  where
-    go : (b : Bool) → is_same run.0 next.0 ≡ b → AreFit (joined is_same run (next ∷ runs))
-    go true is = rw is ((fit.0, omega (arith, fit.1)), others.1)
-    go false isnt = rw isnt (fit, others)
+AreFit runs = AllByRecursion IsFit runs
 
 AreFit-runs_of : (events : List Event) → OfHarts events → AreFit (runs_of is_same events)
-unfolding runs_of
-AreFit-runs_of events harts = go events (recursion_from_All (λ (e : Event). hart_of e < 64) events harts)
-  where
-    go : (es : List Event) → AllByRecursion (λ (e : Event). hart_of e < 64) es → AreFit (runs_of is_same es)
-    go [] all = tt
-    go (e ∷ es) all = AreFit-joined (e, 1) (runs_of is_same es) (all.0, omega arith) (go es all.1)
+AreFit-runs_of events harts = all-runs_of is_same decides (λ (e : Event). hart_of e < 64) events (recursion_from_All (λ (e : Event). hart_of e < 64) events harts)
 
 -- ---- a token is one piece
 
@@ -146,11 +133,11 @@ tokens_alone events harts few =
 
 -- ---- with the head line
 
-ends_by_lf : (rest : List ℕ) → EndsLine (10 ∷ rest)
+pub ends_by_lf : (rest : List ℕ) → EndsLine (10 ∷ rest)
 ends_by_lf [] = refl
 ends_by_lf (c ∷ rest) = inl refl
 
-pub canon_again : (events : List Event) → OfHarts events → length events ≤ 1048576 → IsScheduleOf (canon events) events
+pub canon_again : (events : List Event) → OfHarts events → length events ≤ 1048576 → IsPlainOf (canon events) events
 unfolding canon
 canon_again [] harts few = (10 ∷ [], refl, refl, (([], [], refl, refl, empty_stands), few))
 canon_again (event ∷ events) harts few =
@@ -170,4 +157,4 @@ canon-some [] some = absurd (some refl)
 canon-some (event ∷ events) some = refl
 
 pub written_again : (text : List ℕ) (events : List Event) → OfHarts events → length events ≤ 1048576 → text ≡ canon events → IsScheduleOf text events
-written_again text events harts few is = subst (λ (t : List ℕ). IsScheduleOf t events) (sym is) (canon_again events harts few)
+written_again text events harts few is = (plain events, subst (λ (t : List ℕ). IsPlainOf t events) (sym is) (canon_again events harts few), refl)

@@ -3,4 +3,7 @@ pub mod Faults
 pub mod Reading
 pub mod Writing
 pub mod Drawing
+pub mod Outcomes
 pub mod Records
+pub mod Versions
+pub mod Replaying

@@ -118,15 +118,16 @@ abbrev pub ends_line : List ℕ → Bool
 ends_line [] = true
 ends_line (c ∷ rest) = (c == 10) || ((c == 13) && begins_with_lf rest)
 
-unfoldable pub has_head : List ℕ → Bool
-has_head text = starts_with nat_eq text head && ends_line (drop 15 text)
+-- the first line is this head
+unfoldable pub has_head : (head text : List ℕ) → Bool
+has_head head text = starts_with nat_eq text head && ends_line (drop (length head) text)
 
--- The events of a schedule: its first line has to be the head, and tokens follow.
-unfoldable pub schedule_at : List ℕ → Result (List Event) AtByte
-schedule_at text = if has_head text then tokens_from 15 MAX_EVENTS text else Err (at_byte BadHead 0)
+-- The events of a schedule that says no outcomes: its first line has to be the head, and tokens follow.
+unfoldable pub plain_at : List ℕ → Result (List Event) AtByte
+plain_at text = if has_head head text then tokens_from 15 MAX_EVENTS text else Err (at_byte BadHead 0)
 
--- What a function did that appends events: those that are answered, or none, where the answer is a
+-- What a function did that appends elements: those that are answered, or none, where the answer is a
 -- refusal or memory ran out.
-abbrev pub Pushes : List Event → List Event → Result (Unit {0}) (TextError AtByte) → Result (List Event) AtByte → Type 0
-Pushes old new (Ok x) answer = (events : List Event) × (answer ≡ Ok events) × (new ≡ old ++ events)
+abbrev pub Pushes : {E : Type 0} → List E → List E → Result (Unit {0}) (TextError AtByte) → Result (List E) AtByte → Type 0
+Pushes {E = E} old new (Ok x) answer = (elements : List E) × (answer ≡ Ok elements) × (new ≡ old ++ elements)
 Pushes old new (Err e) answer = (new ≡ old) × IfSome (refusal_of e) (λ refusal. answer ≡ Err refusal)

@@ -43,6 +43,10 @@ EndsLine [] = Unit {0}
 EndsLine (c ∷ []) = c ≡ 10
 EndsLine (c ∷ d ∷ rest) = (c ≡ 10) ⊎ ((c ≡ 13) × (d ≡ 10))
 
--- The text is a schedule of these events: the head line, and then tokens.
-abbrev pub IsScheduleOf : List ℕ → List Event → Type 0
-IsScheduleOf text events = (body : List ℕ) × (text ≡ codes "ztso-schedule 1" ++ body) × EndsLine body × IsTokensOf body events
+-- The text is this head line, and then a body of this value.
+abbrev pub IsHeaded : {V : Type 0} → (head : List ℕ) → (List ℕ → V → Type 0) → List ℕ → V → Type 0
+IsHeaded head IsBody text value = (body : List ℕ) × (text ≡ head ++ body) × EndsLine body × IsBody body value
+
+-- The text is a schedule of these events alone: the head line, and then tokens.
+abbrev pub IsPlainOf : List ℕ → List Event → Type 0
+IsPlainOf text events = IsHeaded (codes "ztso-schedule 1") IsTokensOf text events

@@ -1,12 +1,17 @@
-//! The texts of schedules: lists of events, written as tokens.
+//! The texts of schedules: lists of events, written as tokens, and records, which say each event's
+//! outcome too.
 //!
-//! The contract: [`read_schedule`] and [`read_tokens`] answer the one list of events that a text
-//! stands for by the grammar of `specs/Schedule.antt`, or name the first fault from the left and its
-//! byte (`specs/Reading.antt`), which they do exactly where the text stands for none
-//! ([`refused_without_value`]); [`write_schedule`] writes the one canonical text of its events
-//! (`specs/Writing.antt`), which is read as these events again. [`seeded`] draws events by a
-//! generator's words (`specs/Drawing.antt`), and [`replay`] runs them from a machine's opening.
-//! This crate opens no file and judges no outcome: events of any harts below 64 are read and written,
+//! The contract: [`read_either`], [`read_schedule`], [`read_plain`], [`read_record`] and [`read_tokens`] answer the one
+//! value that a text stands for by the grammars of `specs/Schedule.antt`, `specs/Records.antt` and
+//! `specs/Versions.antt`, or name the first fault from the left and its byte (`specs/Reading.antt` and
+//! the readings of those files), which they do exactly where the text has no value
+//! ([`refused_without_value`]); [`write_schedule`] and [`write_record`] write the one canonical text of a
+//! list, which is read as this list again. [`push_outcome_line`] writes an outcome, and its text is read
+//! as this outcome again ([`outcomes_are_read_again`]). [`seeded`] draws events by a generator's words
+//! (`specs/Drawing.antt`). [`replay`] runs events from a machine's opening, [`record`] notes what came of
+//! each, and [`replay_checked`] runs a record as long as each outcome is the run's
+//! (`specs/Replaying.antt`).
+//! This crate opens no file and judges no run: events of any harts below 64 are read and written,
 //! whether a machine could follow them or not.
 
 #![tactic(auto)]
@@ -15,17 +20,23 @@ pub mod drawing;
 pub mod faults;
 mod heads;
 pub mod laws;
-mod outcomes;
+pub mod outcomes;
 pub mod reading;
+pub mod records;
 pub mod replaying;
 mod tokens;
+pub mod versions;
 pub mod writing;
 
 pub use drawing::{draw, seeded};
 pub use faults::{AtByte, ScheduleError, ScheduleFault};
 pub use laws::{
-    longest_runs, one_value, records_are_read_again, refused_without_value, tokens_are_read_again,
+    longest_runs, one_value, outcomes_are_read_again, records_are_runs, refused_without_value,
+    tokens_are_read_again,
 };
-pub use reading::{MAX_EVENTS, push_tokens_of, read_schedule, read_tokens};
-pub use replaying::replay;
+pub use outcomes::{push_entry_line, push_outcome_line};
+pub use reading::{MAX_EVENTS, push_tokens_of, read_plain, read_tokens};
+pub use records::{read_record, write_record};
+pub use replaying::{CheckError, record, replay, replay_checked};
+pub use versions::{Schedule, read_either, read_schedule};
 pub use writing::{push_tokens, write_schedule};

@@ -3,10 +3,10 @@
 ghost use Rattle.std.specs.Prelude.{◌≡◌, ◌+◌, ◌-◌, ◌≤◌, ◌<◌, ◌^◌, ◌++◌, List, length, replicate, false, Ok, Err, IfOk, IfErr, OnOk, OnErr, vec_len};
 ghost use Rattle.step_machine.specs.declared.events.Event.{Event};
 ghost use Rattle.texts.specs.Results.{Gives, refusal_of};
-ghost use Rattle.recorder.specs.declared.faults.ScheduleFault.TheVariants.{BadHead};
 ghost use Rattle.texts.specs.declared.errors.TextError.TheVariants.{Refused};
-ghost use Rattle.recorder.specs.Schedule.{OfHarts, IsTokensOf, IsScheduleOf};
-ghost use Rattle.recorder.specs.Reading.{piece_at, tokens_from, tokens_at, tokens_after, has_head, schedule_at, Pushes};
+ghost use Rattle.recorder.specs.declared.faults.ScheduleFault.TheVariants.{BadHead};
+ghost use Rattle.recorder.specs.Schedule.{OfHarts, IsTokensOf, IsPlainOf};
+ghost use Rattle.recorder.specs.Reading.{piece_at, tokens_from, tokens_at, tokens_after, head, has_head, plain_at, Pushes};
 
 use crate::faults::{ScheduleError, ScheduleFault};
 use crate::heads::{HEAD, has_head};
@@ -18,15 +18,15 @@ use texts::{Separators, first_piece};
 /// A schedule has at most so many events.
 pub const MAX_EVENTS: usize = 1_048_576;
 
-/// Appends the event so many times, or nothing where memory runs out.
-fn push_run(events: &mut Vec<Event>, event: Event, times: usize) -> Result<(), AllocError>
-    requires { vec_len events.old + times < 2 ^ 32 }
-    ensures ok { OnOk result (events.new.items ≡ events.old.items ++ replicate times event) }
-    ensures len { OnOk result (vec_len events.new ≡ vec_len events.old + times) }
-    ensures err { OnErr result (events.new.items ≡ events.old.items) }
+/// Appends the item so many times, or nothing where memory runs out.
+pub(crate) fn push_run<E: Copy>(items: &mut Vec<E>, item: E, times: usize) -> Result<(), AllocError>
+    requires { vec_len items.old + times < 2 ^ 32 }
+    ensures ok { OnOk result (items.new.items ≡ items.old.items ++ replicate times item) }
+    ensures len { OnOk result (vec_len items.new ≡ vec_len items.old + times) }
+    ensures err { OnErr result (items.new.items ≡ items.old.items) }
 {
-    let len = events.len() + times;
-    events.resize(len, event)
+    let len = items.len() + times;
+    items.resize(len, item)
 }
 
 /// Appends the events of one piece, where `room` events may stand in all.
@@ -54,7 +54,7 @@ fn push_piece(
 }
 
 /// The events of the tokens that a text has from the byte `start` on, where `room` events may come.
-fn tokens_within(
+pub(crate) fn tokens_within(
     alloc: Global,
     text: &[u8],
     start: usize,
@@ -93,32 +93,33 @@ pub fn read_tokens(alloc: Global, text: &str) -> Result<Vec<Event>, ScheduleErro
     tokens_within(alloc, text.as_bytes(), 0, MAX_EVENTS)
 }
 
-/// The events of the schedule that stands in these bytes.
-fn schedule_in(alloc: Global, text: &[u8]) -> Result<Vec<Event>, ScheduleError>
-    ensures exact { Gives refusal_of (λ events. events.items) result (schedule_at text.now) }
-    ensures headless { has_head text.now ≡ false → result ≡ Err (Refused (record { fault = BadHead; place = 0 })) }
+/// The events of the schedule of events alone that stands in these bytes.
+#[tactic(auto, unfolding(crate::specs::Reading::plain_at))]
+fn plain_in(alloc: Global, text: &[u8]) -> Result<Vec<Event>, ScheduleError>
+    ensures exact { Gives refusal_of (λ events. events.items) result (plain_at text.now) }
+    ensures headless { has_head head text.now ≡ false → result ≡ Err (Refused (record { fault = BadHead; place = 0 })) }
 {
-    if !has_head(text) {
+    if !has_head(HEAD, text) {
         return Err(ScheduleFault::BadHead.at(0));
     }
     tokens_within(alloc, text, HEAD.len(), MAX_EVENTS)
 }
 
-/// The events of a schedule: its first line is `ztso-schedule 1`, ended by LF, CR LF or the end of
-/// the text, and tokens follow.
+/// The events of a schedule that says no outcomes: its first line is `ztso-schedule 1`, ended by LF,
+/// CR LF or the end of the text, and tokens follow.
 ///
-/// Another first line is `BadHead` at byte 0; then the first faulty token is answered as
-/// [`read_tokens`] answers it, its place counted from the schedule's first byte.
-#[tactic(auto, using(crate::proofs::HeadLaws::found_schedule, crate::proofs::HeadLaws::only_schedule, crate::proofs::HeadLaws::schedule_harts, crate::proofs::HeadLaws::schedule_few))]
-pub fn read_schedule(alloc: Global, text: &str) -> Result<Vec<Event>, ScheduleError>
-    ensures found { IfOk result (λ events. IsScheduleOf text.now events.items) }
-    ensures only { (events : List Event) → IsScheduleOf text.now events → Gives refusal_of (λ read. read.items) result (Ok events) }
-    ensures exact { Gives refusal_of (λ events. events.items) result (schedule_at text.now) }
-    ensures headless { has_head text.now ≡ false → result ≡ Err (Refused (record { fault = BadHead; place = 0 })) }
+/// Another first line is `BadHead` at byte 0, also that of a record; then the first faulty token is
+/// answered as [`read_tokens`] answers it, its place counted from the schedule's first byte.
+#[tactic(auto, using(crate::proofs::HeadLaws::found_plain, crate::proofs::HeadLaws::only_plain, crate::proofs::HeadLaws::plain_harts, crate::proofs::HeadLaws::plain_few))]
+pub fn read_plain(alloc: Global, text: &str) -> Result<Vec<Event>, ScheduleError>
+    ensures found { IfOk result (λ events. IsPlainOf text.now events.items) }
+    ensures only { (events : List Event) → IsPlainOf text.now events → Gives refusal_of (λ read. read.items) result (Ok events) }
+    ensures exact { Gives refusal_of (λ events. events.items) result (plain_at text.now) }
+    ensures headless { has_head head text.now ≡ false → result ≡ Err (Refused (record { fault = BadHead; place = 0 })) }
     ensures harts { IfOk result (λ events. OfHarts events.items) }
     ensures few { IfOk result (λ events. length events.items ≤ MAX_EVENTS) }
 {
-    schedule_in(alloc, text.as_bytes())
+    plain_in(alloc, text.as_bytes())
 }
 
 /// The events of a further text's tokens, where `before` events stand already.

@@ -1,12 +1,16 @@
-//! Replaying schedules.
+//! Replaying schedules, and records of runs.
 
-ghost use Rattle.std.specs.Prelude.{◌≤◌, IfOk};
-ghost use Rattle.step_machine.specs.History.{FitsIn};
+ghost use Rattle.std.specs.Prelude.{◌≡◌, ◌≤◌, ◌↔◌, IsTrue, IfOk, IfErr};
+ghost use Rattle.step_machine.specs.History.{History, FitsIn};
 ghost use Rattle.step_machine.specs.Runs.{Run};
+ghost use Rattle.recorder.specs.Records.{events_in};
+ghost use Rattle.recorder.specs.Outcomes.{is_same_outcome};
+ghost use Rattle.recorder.specs.Replaying.{IsRunRecord, DiffersAt, Differs as SaysDiffers};
 
 use std::alloc::{AllocError, Global};
-use step_machine::events::Event;
+use step_machine::events::{Event, Outcome};
 use step_machine::{Machine, Opening};
+use thiserror::Error;
 
 /// The machine that these events make of the opening, one after the other.
 pub fn replay<const B: usize, const M: usize>(
@@ -26,4 +30,82 @@ pub fn replay<const B: usize, const M: usize>(
         Ok(()) => Ok(machine),
         Err((_, error)) => Err(error),
     }
+}
+
+/// The record of the run of these events from the opening: each event, in order, with its outcome.
+pub fn record<const B: usize, const M: usize>(
+    alloc: Global,
+    opening: Opening,
+    events: &[Event],
+) -> Result<Vec<(Event, Outcome)>, AllocError>
+    requires some_capacity { 1 ≤ B }
+    requires capacity { B ≤ 64 }
+    requires some_word { 1 ≤ M }
+    requires size { M ≤ 65536 }
+    requires fits { FitsIn M opening }
+    ensures events { IfOk result (λ steps. events_in steps.items ≡ events.now) }
+    ensures outcomes { IfOk result (λ steps. (history : History) × IsRunRecord B M opening steps.items history) }
+{
+    let mut machine = Machine::<B, M>::open(alloc, opening)?;
+    let mut steps = Vec::new(alloc);
+    for event in events {
+        let outcome = machine.step(*event)?;
+        steps.push((*event, outcome))?;
+    }
+    Ok(steps)
+}
+
+/// Why a record is not replayed.
+#[derive(Clone, Copy, Debug, PartialEq, Eq, Error)]
+pub enum CheckError {
+    #[error("no memory")]
+    NoMemory,
+    /// The event of this place, counted from 0, is the first with another outcome than the record says.
+    #[error("other outcome at event {event}")]
+    Differs { event: usize },
+}
+
+impl From<AllocError> for CheckError {
+    ghost use Rattle.recorder.specs.declared.replaying.CheckError.TheVariants.{NoMemory};
+
+    ghost from_gives = { λ _ e. e ≡ NoMemory };
+
+    fn from(_error: AllocError) -> CheckError {
+        CheckError::NoMemory
+    }
+}
+
+/// Whether two outcomes are the same.
+pub(crate) fn are_same_outcomes(outcome: Outcome, other: Outcome) -> bool
+    ensures same { IsTrue result ↔ (outcome ≡ other) }
+    ensures test { result ≡ is_same_outcome outcome other }
+{
+    outcome == other
+}
+
+/// The machine that the events of a record make of the opening, one after the other, where each has the
+/// outcome that the record says. Else the first whose outcome is another one is answered by its place,
+/// and the machine is given up.
+pub fn replay_checked<const B: usize, const M: usize>(
+    alloc: Global,
+    opening: Opening,
+    steps: &[(Event, Outcome)],
+) -> Result<Machine<B, M>, CheckError>
+    requires some_capacity { 1 ≤ B }
+    requires capacity { B ≤ 64 }
+    requires some_word { 1 ≤ M }
+    requires size { M ≤ 65536 }
+    requires fits { FitsIn M opening }
+    ensures checked { IfOk result (λ machine. IsRunRecord B M opening steps.now machine.history) }
+    ensures differs { IfErr result (SaysDiffers (DiffersAt B M opening steps.now)) }
+{
+    let mut machine = Machine::open(alloc, opening)?;
+    for (place, step) in steps.iter().enumerate() {
+        let (event, said) = *step;
+        let outcome = machine.step(event)?;
+        if !are_same_outcomes(outcome, said) {
+            return Err(CheckError::Differs { event: place });
+        }
+    }
+    Ok(machine)
 }

@@ -1,6 +1,6 @@
 //! One token of a schedule text.
 
-ghost use Rattle.std.specs.Prelude.{◌≡◌, ◌+◌, ◌≤◌, ℕ, length, Err, IfOk, IfErr};
+ghost use Rattle.std.specs.Prelude.{◌≡◌, ◌+◌, ◌≤◌, ◌||◌, ℕ, is_some, length, Err, IfOk, IfErr};
 ghost use Rattle.step_machine.specs.declared.events.Event.{Event};
 ghost use Rattle.texts.specs.Results.{Gives, refusal_of};
 ghost use Rattle.texts.specs.declared.errors.TextError.TheVariants.{Refused};
@@ -76,6 +76,13 @@ fn is_cut_short(word: &[u8]) -> bool
         },
         _ => false,
     }
+}
+
+/// Whether the word is a token, or one that ends too early.
+pub fn may_begin(word: &[u8]) -> bool
+    ensures { result ≡ (is_cut word.now || is_some (said_by word.now)) }
+{
+    is_cut_short(word) || token_in(word).is_some()
 }
 
 /// The event for which the word stands, and how often, where the word begins at `place` in a text of

@@ -2,7 +2,8 @@
 
 ghost use Rattle.std.specs.Prelude.{◌≡◌, ◌≤◌, ◌++◌, length, IfOk, OnOk, OnErr};
 ghost use Rattle.std.specs.String.{string_bytes};
-ghost use Rattle.recorder.specs.Schedule.{OfHarts, IsScheduleOf};
+ghost use Rattle.recorder.specs.Schedule.{OfHarts};
+ghost use Rattle.recorder.specs.Versions.{IsScheduleOf};
 ghost use Rattle.recorder.specs.Writing.{is_same, token_of, tokens_of, canon};
 
 use crate::heads::HEAD;
@@ -11,14 +12,14 @@ use std::alloc::{AllocError, Global};
 use step_machine::events::Event;
 use texts::push_decimal;
 
-fn are_same(event: Event, other: Event) -> bool
+pub(crate) fn are_same(event: Event, other: Event) -> bool
     ensures { result ≡ is_same event other }
 {
     event == other
 }
 
 /// Appends the token of a run: the event, so many times.
-fn push_token(out: &mut String, event: Event, times: usize) -> Result<(), AllocError>
+pub(crate) fn push_token(out: &mut String, event: Event, times: usize) -> Result<(), AllocError>
     ensures { OnOk result (string_bytes out.new ≡ string_bytes out.old ++ token_of (event, times)) }
 {
     let (letter, hart) = match event {

@@ -14,6 +14,8 @@ mod of_litmus;
 #[cfg(test)]
 mod of_recorder;
 #[cfg(test)]
+mod of_records;
+#[cfg(test)]
 mod of_shrink;
 #[cfg(test)]
 mod of_step_machine;

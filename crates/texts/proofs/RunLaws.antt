@@ -1,7 +1,7 @@
 -- The runs of a list are the longest ones, and a text of them is written one element at a time.
 use Rattle.std.proofs.Common.{◌≡◌, ◌≢◌, ℕ, zero, suc, ◌+◌, ◌<◌, ◌≤◌, Bool, true, false, List, [], ◌∷◌, ◌++◌, length, drop, replicate, get_or, Option, Some, None, refl, sym, ap, subst, ◌∙◌, append_assoc, add-one, drop-cons, arith}
 use Rattle.std.specs.Prelude.{Decides}
-use Rattle.std.specs.List.{slice_get}
+use Rattle.std.specs.List.{slice_get, AllByRecursion}
 use Rattle.std.proofs.lemmas.Bool.Decides.{not_from_Decides}
 use Rattle.std.proofs.lemmas.List.{replicate-append-replicate, drop_all}
 use Rattle.texts.specs.Runs.{Run, joined, runs_of, expanded, AreLongest}
@@ -82,6 +82,21 @@ module _ {E : Type 0} (same : E → E → Bool) (decides : (a b : E) → Decides
   runs_of-expanded ((e, suc times) ∷ next ∷ runs) longest =
       let rest = runs_of-expanded (next ∷ runs) longest.2 in
       runs_of-run e times (expanded (next ∷ runs)) (subst (Differs e) (sym rest) longest.1) ∙ ap (λ (others : List (Run E)). (e, suc times) ∷ others) rest
+
+  -- ---- what holds of each element holds of each run
+
+  all-joined : (P : Run E → Type 0) → ((e : E) (m n : ℕ) → P (e, m) → P (e, m + n)) → (run : Run E) (runs : List (Run E)) → P run → AllByRecursion P runs → AllByRecursion P (joined same run runs)
+  all-joined P longer run [] holds all = (holds, tt)
+  all-joined P longer run (next ∷ runs) holds all = go (same run.0 next.0) refl
+    where
+      go : (b : Bool) → same run.0 next.0 ≡ b → AllByRecursion P (joined same run (next ∷ runs))
+      go true is = rw is (longer run.0 run.1 next.1 holds, all.1)
+      go false isnt = rw isnt (holds, all)
+
+  pub all-runs_of : (P : E → Type 0) (elements : List E) → AllByRecursion P elements → AllByRecursion (λ (run : Run E). P run.0 × (0 < run.1)) (runs_of same elements)
+  unfolding runs_of
+  all-runs_of P [] all = tt
+  all-runs_of P (e ∷ elements) all = all-joined (λ (run : Run E). P run.0 × (0 < run.1)) (λ x m n holds. (holds.0, omega (arith, holds.1))) (e, 1) (runs_of same elements) (all.0, omega arith) (all-runs_of P elements all.1)
 
   -- ---- a text of runs: write is what stands for a run that others follow
 

@@ -31,4 +31,3 @@ pub mod ScheduleTexts
 pub mod ChannelLaws
 pub mod ThreadRuns
 pub mod SeatsComplete
-pub mod StepsSettle

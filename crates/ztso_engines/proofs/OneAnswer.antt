@@ -22,10 +22,10 @@ use Rattle.assembler.specs.Faults.{Refusal as AsmRefusal}
 use Rattle.assembler.specs.Program.{IsCode}
 use Rattle.assembler.proofs.OneCode.{refused_without_program}
 use Rattle.assembler.proofs.OneCode as assembler
-use Rattle.recorder.specs.Schedule.{IsScheduleOf}
-use Rattle.recorder.specs.Reading.{schedule_at}
+use Rattle.recorder.specs.Schedule.{IsPlainOf}
+use Rattle.recorder.specs.Reading.{plain_at}
 use Rattle.texts.proofs.FormatLaws.{settled_only}
-use Rattle.recorder.proofs.HeadLaws.{schedule_settles, one_schedule}
+use Rattle.recorder.proofs.HeadLaws.{plain_settles, one_plain}
 use Rattle.litmus.specs.Questions.{Question}
 use Rattle.litmus.specs.Verdicts.{IsVerdict}
 use Rattle.litmus.specs.declared.verdict.Verdict.{Verdict}
@@ -50,7 +50,7 @@ use Rattle.ztso_engines.specs.StepsReading.{script_at}
 use Rattle.ztso_engines.specs.StateText.{shown}
 use Rattle.ztso_engines.specs.Steps.{IsStateText, IsStepsAnswer}
 use Rattle.ztso_engines.specs.Dis.{SaysCode, dis_at, instr_line, IsDisAnswer}
-use Rattle.ztso_engines.specs.EntryText.{entry_line}
+use Rattle.recorder.specs.Outcomes.{entry_line}
 use Rattle.ztso_engines.specs.Histories.{ByBoth, IsOfRun}
 use Rattle.ztso_engines.specs.Histories as histories
 use Rattle.ztso_engines.specs.Run.{IsJudged, IsRunAnswer, verdict_line}
@@ -155,10 +155,10 @@ module _ {A : Type 0} (IsAnswer : Question → Result A Refusal → Type 0)
 
 -- ---- and by a schedule
 
-schedule_or_refusal : (input : List ℕ) (events : List Event) (r : Refusal) → Accepted IsScheduleOf input events → IsNoSchedule input r → ⊥
+schedule_or_refusal : (input : List ℕ) (events : List Event) (r : Refusal) → Accepted IsPlainOf input events → IsNoSchedule input r → ⊥
 unfolding events_of
 schedule_or_refusal input events r is refused =
-    let read : judged events_of input ≡ Ok events = judged_text events_of input is.few is.text ∙ (let found = settled_only (IsScheduleOf input) (schedule_at input) events (schedule_settles input) is.value_is in rw found refl) in
+    let read : judged events_of input ≡ Ok events = judged_text events_of input is.few is.text ∙ (let found = settled_only (IsPlainOf input) (plain_at input) events (plain_settles input) is.value_is in rw found refl) in
     absurd cc
 
 module _ {A : Type 0} (IsAnswer : Question → List Event → A → Type 0) (one : (q : Question) (events : List Event) (a b : A) → IsAnswer q events a → IsAnswer q events b → a ≡ b) (file schedule : List ℕ) where
@@ -174,7 +174,7 @@ module _ {A : Type 0} (IsAnswer : Question → List Event → A → Type 0) (one
   one_by_both a b (histories.ByBoth.ran q events given is said told) (histories.ByBoth.ran p others other also says tells) =
       one q events given other told
       (subst (λ (x : Question). IsAnswer x events other) (one_test file p q also.value_is is.value_is)
-      (subst (λ (evs : List Event). IsAnswer p evs other) (one_schedule schedule others events says.value_is said.value_is) tells))
+      (subst (λ (evs : List Event). IsAnswer p evs other) (one_plain schedule others events says.value_is said.value_is) tells))
 
 -- ---- `run`, `replay` and `debug`
 
@@ -358,7 +358,7 @@ module _ (ring : Ring) (B M size : ℕ) (schedule input : List ℕ) where
   pub one_channel : (a b : Result Output Refusal) → IsUnfinished a → IsUnfinished b → a ≡ b
   one_channel (Ok a) (Ok b) (channels.IsChannelAnswer.delivered events lists given is said tells) (channels.IsChannelAnswer.delivered others words answer also says other) =
       ap (λ (out : Output). Ok out) (one_delivery ring B M size events lists a b tells
-      (subst (λ (evs : List Event). IsDelivery ring B M size false evs lists b) (one_schedule schedule others events also.value_is is.value_is)
+      (subst (λ (evs : List Event). IsDelivery ring B M size false evs lists b) (one_plain schedule others events also.value_is is.value_is)
       (subst (λ (ls : List (List ℕ)). IsDelivery ring B M size false others ls b) (one_lists input words lists says.value_is said.value_is) other)))
   one_channel (Ok a) (Err s) is other = absurd (delivered_or_refused ring B M size false schedule input a s is other)
   one_channel (Err r) (Ok b) is other = absurd (delivered_or_refused ring B M size false schedule input b r other is)

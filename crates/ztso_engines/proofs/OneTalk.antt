@@ -16,7 +16,8 @@ use Rattle.texts.specs.Cutting.{tokens}
 use Rattle.ztso_engines.specs.Sessions.{Past, without_last}
 use Rattle.ztso_engines.specs.Walks.{Way, Walks, WalksBack, scheduled, set_out}
 use Rattle.ztso_engines.specs.Commands.{asked}
-use Rattle.ztso_engines.specs.DebugText.{outcome_line, end_line, break_line, unknown_line}
+use Rattle.recorder.specs.Outcomes.{outcome_line}
+use Rattle.ztso_engines.specs.DebugText.{end_line, break_line, unknown_line}
 use Rattle.ztso_engines.specs.Debugging.{Answers, Breaks, Does, DoesAll, DoesNext, Toggled, is_point, stop_before}
 use Rattle.ztso_engines.specs.Talks.{AnswersLine, IsTalk, Talks, quits}
 use Rattle.ztso_engines.specs.Engines.{Output}

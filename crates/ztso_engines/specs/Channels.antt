@@ -6,7 +6,7 @@ use Rattle.hart.specs.declared.need.Report.{Report}
 use Rattle.hart.specs.declared.need.Report.TheVariants as report
 use Rattle.step_machine.specs.declared.events.Event.{Event}
 use Rattle.step_machine.specs.History.{Start}
-use Rattle.recorder.specs.Schedule.{IsScheduleOf}
+use Rattle.recorder.specs.Schedule.{IsPlainOf}
 use Rattle.poll_close.specs.Layout.{opening_of}
 use Rattle.poll_close.specs.Laws.{Ring, Accepted as IsWithin}
 use Rattle.poll_close.specs.Delivery.{Delivers, DeliversWhole}
@@ -60,6 +60,6 @@ IsNoLists input refusal = judged lists_at input ≡ Err refusal
 -- What answers a schedule and lists. The schedule is judged first, then the text of lists, then the lists.
 pub data IsChannelAnswer (ring : Ring) (B M size : ℕ) (finish : Bool) (schedule input : List ℕ) : Result Output Refusal → Type 0 where
   no_schedule : (refusal : Refusal) → IsNoSchedule schedule refusal → IsChannelAnswer ring B M size finish schedule input (Err refusal)
-  no_lists : (events : List Event) (refusal : Refusal) → Accepted IsScheduleOf schedule events → IsNoLists input refusal → IsChannelAnswer ring B M size finish schedule input (Err refusal)
-  no_channel : (events : List Event) (lists : List (List ℕ)) (refusal : Refusal) → Accepted IsScheduleOf schedule events → Accepted SaysLists input lists → HasNoChannel ring M size lists refusal → IsChannelAnswer ring B M size finish schedule input (Err refusal)
-  delivered : (events : List Event) (lists : List (List ℕ)) (answer : Output) → Accepted IsScheduleOf schedule events → Accepted SaysLists input lists → IsDelivery ring B M size finish events lists answer → IsChannelAnswer ring B M size finish schedule input (Ok answer)
+  no_lists : (events : List Event) (refusal : Refusal) → Accepted IsPlainOf schedule events → IsNoLists input refusal → IsChannelAnswer ring B M size finish schedule input (Err refusal)
+  no_channel : (events : List Event) (lists : List (List ℕ)) (refusal : Refusal) → Accepted IsPlainOf schedule events → Accepted SaysLists input lists → HasNoChannel ring M size lists refusal → IsChannelAnswer ring B M size finish schedule input (Err refusal)
+  delivered : (events : List Event) (lists : List (List ℕ)) (answer : Output) → Accepted IsPlainOf schedule events → Accepted SaysLists input lists → IsDelivery ring B M size finish events lists answer → IsChannelAnswer ring B M size finish schedule input (Ok answer)

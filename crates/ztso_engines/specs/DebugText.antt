@@ -3,19 +3,6 @@ use Rattle.std.specs.Prelude.{ℕ, ◌==◌, if◌then◌else◌, List, [], ◌�
 use Rattle.std.specs.List.{flat_map}
 use Rattle.std.specs.Fmt.{decimal}
 use Rattle.memory.specs.declared.writes.Write.{Write}
-use Rattle.recorder.specs.Schedule.{hart_of}
-use Rattle.step_machine.specs.declared.events.Event.{Event}
-use Rattle.step_machine.specs.declared.events.Outcome.{Outcome}
-use Rattle.step_machine.specs.declared.events.Outcome.TheVariants.{Did, Waited, NothingToLand, Over, NoHart}
-use Rattle.ztso_engines.specs.EntryText.{entry_line}
-
--- an event's outcome: the entry that it added, or why it added none
-abbrev pub outcome_line : Event → Outcome → List ℕ
-outcome_line event (Did entry) = entry_line entry
-outcome_line event Waited = codes "waited " ++ decimal (hart_of event) ++ 10 ∷ []
-outcome_line event NothingToLand = codes "nothing " ++ decimal (hart_of event) ++ 10 ∷ []
-outcome_line event Over = codes "over " ++ decimal (hart_of event) ++ 10 ∷ []
-outcome_line event NoHart = codes "nohart " ++ decimal (hart_of event) ++ 10 ∷ []
 
 -- at the schedule's end
 abbrev pub end_line : List ℕ

@@ -14,7 +14,8 @@ use Rattle.ztso_engines.specs.declared.walk.Source.{Source}
 use Rattle.ztso_engines.specs.declared.walk.Source.TheVariants.{Schedule, User}
 use Rattle.ztso_engines.specs.Walks.{Way, Walks, WalksBack}
 use Rattle.ztso_engines.specs.StateText.{hart_shown}
-use Rattle.ztso_engines.specs.DebugText.{outcome_line, end_line, break_line, number_line, store_lines, unknown_line}
+use Rattle.recorder.specs.Outcomes.{outcome_line}
+use Rattle.ztso_engines.specs.DebugText.{end_line, break_line, number_line, store_lines, unknown_line}
 
 -- ---- breakpoints: pairs of a hart and a pc
 

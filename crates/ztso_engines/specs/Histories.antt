@@ -5,7 +5,7 @@ use Rattle.step_machine.specs.Runs.{Run}
 use Rattle.step_machine.specs.declared.events.Event.{Event}
 use Rattle.litmus.specs.Questions.{Question}
 use Rattle.litmus_reader.specs.Grammar.{IsTestOf}
-use Rattle.recorder.specs.Schedule.{IsScheduleOf}
+use Rattle.recorder.specs.Schedule.{IsPlainOf}
 use Rattle.ztso_engines.specs.declared.fault.Refusal.{Refusal}
 use Rattle.ztso_engines.specs.Engines.{Accepted}
 use Rattle.ztso_engines.specs.Tests.{IsNoTest}
@@ -23,7 +23,7 @@ pub record IsOfRun {A : Type 0} (B M : ℕ) (IsAnswer : Question → History →
 pub data ByBoth {A : Type 0} (IsAnswer : Question → List Event → A → Type 0) (file schedule : List ℕ) : Result A Refusal → Type 0 where
   no_test : (refusal : Refusal) → IsNoTest file refusal → ByBoth IsAnswer file schedule (Err refusal)
   no_schedule : (question : Question) (refusal : Refusal) → Accepted IsTestOf file question → IsNoSchedule schedule refusal → ByBoth IsAnswer file schedule (Err refusal)
-  ran : (question : Question) (events : List Event) (answer : A) → Accepted IsTestOf file question → Accepted IsScheduleOf schedule events → IsAnswer question events answer → ByBoth IsAnswer file schedule (Ok answer)
+  ran : (question : Question) (events : List Event) (answer : A) → Accepted IsTestOf file question → Accepted IsPlainOf schedule events → IsAnswer question events answer → ByBoth IsAnswer file schedule (Ok answer)
 
 -- the same where it holds of their history
 abbrev pub ByRun : {A : Type 0} → (B M : ℕ) → (Question → History → A → Type 0) → (file schedule : List ℕ) → Result A Refusal → Type 0

@@ -14,7 +14,6 @@ pub mod Tests
 pub mod Schedules
 pub mod Histories
 pub mod Run
-pub mod EntryText
 pub mod Replay
 pub mod Trials
 pub mod Outcomes

@@ -8,7 +8,7 @@ use Rattle.texts.specs.declared.pieces.Separators.TheVariants.{Spaces}
 use Rattle.texts.specs.Formats.{each, each_at}
 use Rattle.ztso_engines.specs.declared.fault.Refusal.{Refusal}
 use Rattle.ztso_engines.specs.LineFaults.{or_bad, at_line}
-use Rattle.ztso_engines.specs.StepsText.{SaysWord}
+use Rattle.texts.specs.Numbers.{SaysWord}
 
 -- the pieces that have a byte
 abbrev pub with_bytes : List (List ℕ) → List (List ℕ)

@@ -4,7 +4,7 @@ use Rattle.std.specs.List.{flat_map}
 use Rattle.step_machine.specs.History.{History}
 use Rattle.litmus.specs.Questions.{Question}
 use Rattle.ztso_engines.specs.declared.fault.Refusal.{Refusal}
-use Rattle.ztso_engines.specs.EntryText.{entry_line}
+use Rattle.recorder.specs.Outcomes.{entry_line}
 use Rattle.ztso_engines.specs.Histories.{ByRun}
 use Rattle.ztso_engines.specs.Engines.{Output}
 

@@ -4,7 +4,7 @@ use Rattle.texts.specs.Results.{map_err}
 use Rattle.step_machine.specs.declared.events.Event.{Event}
 use Rattle.recorder.specs.declared.faults.AtByte.{AtByte}
 use Rattle.recorder.specs.Faults.{fault_number}
-use Rattle.recorder.specs.Reading.{schedule_at}
+use Rattle.recorder.specs.Reading.{plain_at}
 use Rattle.ztso_engines.specs.declared.fault.Refusal.{Refusal}
 use Rattle.ztso_engines.specs.declared.fault.Position.TheVariants.{Byte}
 use Rattle.ztso_engines.specs.Engines.{judged}
@@ -18,7 +18,7 @@ refused_schedule result = map_err refused_at_byte result
 
 -- the events of a schedule, or its refusal
 unfoldable pub events_of : List ℕ → Result (List Event) Refusal
-events_of text = refused_schedule (schedule_at text)
+events_of text = refused_schedule (plain_at text)
 
 -- The input is no schedule, for this reason.
 abbrev pub IsNoSchedule : List ℕ → Refusal → Type 0

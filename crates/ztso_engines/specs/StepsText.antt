@@ -1,15 +1,11 @@
 -- The steps text: which text tells what.
-use Rattle.std.specs.Prelude.{ℕ, ◌≡◌, ◌<◌, ◌≤◌, ◌^◌, ◌⊎◌, List, [], ◌∷◌, length, Some, codes}
+use Rattle.std.specs.Prelude.{ℕ, ◌≡◌, ◌≤◌, ◌⊎◌, List, [], ◌∷◌, length, Some, codes}
 use Rattle.std.specs.List.{AllZip}
 use Rattle.std.specs.Str.Lines.{lines}
-use Rattle.texts.specs.Numbers.{Says, IsHexWord}
+use Rattle.texts.specs.Numbers.{SaysWord, IsHexWord}
 use Rattle.recorder.specs.Schedule.{IsTokensOf}
 use Rattle.texts.specs.Cutting.{tokens, first_cut}
 use Rattle.ztso_engines.specs.Scenario.{Scenario, no_scenario, Statement, hart, reg, word, steps, with_statement, MayCome}
-
--- decimal digits that say a number below 2^32
-abbrev pub SaysWord : List ℕ → ℕ → Type 0
-SaysWord digits n = Says digits n × (n < 2 ^ 32)
 
 -- The line says this, by its words; behind `steps` the rest of the line is a text of tokens.
 abbrev pub LineSays : List ℕ → Statement → Type 0

@@ -11,7 +11,6 @@ pub mod channel;
 mod code;
 pub mod debug;
 pub mod dis;
-mod entry_text;
 pub mod fault;
 pub mod input;
 pub mod laws;

@@ -5,15 +5,15 @@ ghost use Rattle.std.specs.List.{flat_map};
 ghost use Rattle.std.specs.String.{string_bytes};
 ghost use Rattle.ztso_engines.specs.Engines.{AnswersBoth, EndsByBoth};
 ghost use Rattle.ztso_engines.specs.Tests.{HasNoTest};
-ghost use Rattle.ztso_engines.specs.EntryText.{entry_line};
+ghost use Rattle.recorder.specs.Outcomes.{entry_line};
 ghost use Rattle.ztso_engines.specs.Replay.{IsReplayAnswer};
 ghost use Rattle.ztso_engines.specs.inner.Making.{Finds, text_and_value};
 ghost use Rattle.litmus.specs.declared.question.TheConstants.{MAX_LOCATIONS};
 
-use crate::entry_text::push_entry_line;
 use crate::fault::Fault;
 use crate::output::end_with;
 use crate::running::read_run;
+use recorder::push_entry_line;
 use std::alloc::{AllocError, Global};
 use std::io::{Read, Write};
 use step_machine::Entry;

@@ -1,7 +1,7 @@
 //! Inputs that are schedules.
 
 ghost use Rattle.std.specs.Prelude.{◌≡◌, ◌≤◌, IfOk, IsErr, vec_len};
-ghost use Rattle.recorder.specs.Schedule.{IsScheduleOf};
+ghost use Rattle.recorder.specs.Schedule.{IsPlainOf};
 ghost use Rattle.ztso_engines.specs.Faults.{Answers, fault_for};
 ghost use Rattle.ztso_engines.specs.Engines.{Accepted, judged};
 ghost use Rattle.ztso_engines.specs.Schedules.{refused_at_byte, events_of as events_said, HasNoSchedule};
@@ -11,7 +11,7 @@ ghost use Rattle.ztso_engines.specs.declared.input.TheConstants.{INPUT_BYTES};
 
 use crate::fault::{Fault, Position};
 use crate::input::{read_input, text_of};
-use recorder::{AtByte, ScheduleError, read_schedule};
+use recorder::{AtByte, ScheduleError, read_plain};
 use std::alloc::Global;
 use std::io::Read;
 use step_machine::Event;
@@ -33,10 +33,10 @@ impl From<ScheduleError> for Fault {
 /// The events of a text.
 #[tactic(auto, unfolding(crate::specs::Schedules::events_of))]
 fn events_of_text(alloc: Global, text: &str) -> Result<Vec<Event>, Fault>
-    ensures found { IfOk result (λ events. IsScheduleOf text.now events.items) }
+    ensures found { IfOk result (λ events. IsPlainOf text.now events.items) }
     ensures exact { Answers (λ events. events.items) result (events_said text.now) }
 {
-    match read_schedule(alloc, text) {
+    match read_plain(alloc, text) {
         Ok(events) => Ok(events),
         Err(error) => Err(Fault::from(error)),
     }
@@ -46,7 +46,7 @@ fn events_of_text(alloc: Global, text: &str) -> Result<Vec<Event>, Fault>
 #[tactic(auto, using(crate::proofs::Judging::judged_text, crate::proofs::Judging::judged_no_text))]
 fn events_of_input(alloc: Global, input: Vec<u8>) -> Result<Vec<Event>, Fault>
     requires { vec_len input ≤ INPUT_BYTES }
-    ensures found { IfOk result (λ events. Accepted IsScheduleOf input.items events.items) }
+    ensures found { IfOk result (λ events. Accepted IsPlainOf input.items events.items) }
     ensures exact { Answers (λ events. events.items) result (judged events_said input.items) }
 {
     events_of_text(alloc, text_of(&input)?)

@@ -2,7 +2,7 @@
 use Rattle.std.specs.Prelude.{ℕ, ◌≡◌, List, Result, Ok, Err}
 use Rattle.step_machine.specs.History.{History}
 use Rattle.step_machine.specs.declared.events.Event.{Event}
-use Rattle.recorder.specs.Schedule.{IsScheduleOf}
+use Rattle.recorder.specs.Schedule.{IsPlainOf}
 use Rattle.litmus.specs.Questions.{Question}
 use Rattle.litmus_reader.specs.Grammar.{IsTestOf}
 use Rattle.ztso_engines.specs.declared.fault.Refusal.{Refusal}
@@ -18,7 +18,7 @@ IsReadAsTest input (Err refusal) = IsNoTest input refusal
 
 -- the input's events, or why it is no schedule
 abbrev pub IsReadAsSchedule : List ℕ → Result (List Event) Refusal → Type 0
-IsReadAsSchedule input (Ok events) = Accepted IsScheduleOf input events
+IsReadAsSchedule input (Ok events) = Accepted IsPlainOf input events
 IsReadAsSchedule input (Err refusal) = judged events_of input ≡ Err refusal
 
 -- a test with its history, told as they are

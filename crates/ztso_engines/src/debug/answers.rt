@@ -10,9 +10,10 @@ ghost use Rattle.ztso_engines.specs.Debugging.{Answers, Does, DoesAll, DoesNext}
 
 use crate::debug::breakpoints::{set_breakpoint, stop_before};
 use crate::debug::command::Command;
-use crate::debug::lines::{push_break_line, push_end_line, push_number_line, push_outcome_line};
+use crate::debug::lines::{push_break_line, push_end_line, push_number_line};
 use crate::debug::looking::{push_hart_answer, push_pending_answer, push_word_answer};
 use crate::walk::Walk;
+use recorder::push_outcome_line;
 use std::alloc::AllocError;
 use step_machine::Event;
 

@@ -2,35 +2,10 @@
 
 ghost use Rattle.std.specs.Prelude.{◌≡◌, ◌++◌, OnOk};
 ghost use Rattle.std.specs.String.{string_bytes};
-ghost use Rattle.recorder.specs.Schedule.{hart_of};
-ghost use Rattle.ztso_engines.specs.DebugText.{outcome_line, end_line, break_line, number_line, store_line, store_lines, unknown_line};
+ghost use Rattle.ztso_engines.specs.DebugText.{end_line, break_line, number_line, store_line, store_lines, unknown_line};
 
-use crate::entry_text::push_entry_line;
 use memory::writes::Write;
 use std::alloc::AllocError;
-use step_machine::{Event, Outcome};
-
-fn hart_of(event: Event) -> u32
-    ensures { result ≡ hart_of event }
-{
-    match event {
-        Event::Act(hart) | Event::Land(hart) => hart,
-    }
-}
-
-/// An event's outcome.
-pub fn push_outcome_line(out: &mut String, event: Event, outcome: Outcome) -> Result<(), AllocError>
-    ensures { OnOk result (string_bytes out.new ≡ string_bytes out.old ++ outcome_line event outcome) }
-{
-    let hart = hart_of(event);
-    match outcome {
-        Outcome::Did(entry) => push_entry_line(out, entry),
-        Outcome::Waited => writeln!(out, "waited {hart}"),
-        Outcome::NothingToLand => writeln!(out, "nothing {hart}"),
-        Outcome::Over => writeln!(out, "over {hart}"),
-        Outcome::NoHart => writeln!(out, "nohart {hart}"),
-    }
-}
 
 /// The schedule's end.
 pub fn push_end_line(out: &mut String) -> Result<(), AllocError>

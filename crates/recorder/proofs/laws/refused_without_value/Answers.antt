@@ -1,4 +1,4 @@
-use Rattle.recorder.proofs.HeadLaws.{refused_tokens, refused_further, refused_schedule}
+use Rattle.recorder.proofs.HeadLaws.{refused_tokens, refused_further, refused_said, refused_record}
 use Rattle.recorder.proofs.laws.refused_without_value.Goals as goal
 
 pub returns-clause-tokens : goal.returns-clause-tokens
@@ -8,4 +8,7 @@ pub returns-clause-further : goal.returns-clause-further
 returns-clause-further c = refused_further
 
 pub returns-clause-schedules : goal.returns-clause-schedules
-returns-clause-schedules c = refused_schedule
+returns-clause-schedules c = refused_said
+
+pub returns-clause-records : goal.returns-clause-records
+returns-clause-records c = refused_record

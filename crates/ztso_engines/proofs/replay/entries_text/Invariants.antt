@@ -1,7 +1,7 @@
 use Rattle.std.proofs.Common.{◌≡◌, take}
 use Rattle.std.specs.List.{flat_map}
 use Rattle.std.specs.String.{string_bytes}
-use Rattle.ztso_engines.specs.EntryText.{entry_line}
+use Rattle.recorder.specs.Outcomes.{entry_line}
 use Rattle.ztso_engines.proofs.replay.entries_text.Given as goal
 
 abbrev pub invariant-loop-entry : goal.invariant-loop-entry

@@ -4,7 +4,7 @@ use Rattle.std.specs.String.{string_bytes}
 use Rattle.std.proofs.lemmas.Result.{err_from_is_err_and}
 use Rattle.step_machine.specs.History.{Progress}
 use Rattle.litmus.specs.Questions.{Question}
-use Rattle.ztso_engines.specs.EntryText.{entry_line}
+use Rattle.recorder.specs.Outcomes.{entry_line}
 use Rattle.ztso_engines.specs.Replay.{IsReplay}
 use Rattle.ztso_engines.specs.Histories.{IsOfRun}
 use Rattle.ztso_engines.specs.inner.Inputs.{IsItself}

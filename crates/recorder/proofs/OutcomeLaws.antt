@@ -1,0 +1,183 @@
+-- The texts of outcomes: what is read of words, against what they tell, and what is written, read again.
+use Rattle.std.proofs.Common.{◌≡◌, ◌↔◌, inl, inr, ℕ, ◌^◌, ◌<◌, ◌==◌, Bool, true, false, cond, ◌&&◌, List, [], ◌∷◌, length, map, suc, Option, Some, None, Ok, refl, sym, ap, subst, ◌∙◌, arith}
+use Rattle.std.specs.Prelude.{codes, Decides, if◌then◌else◌}
+use Rattle.std.specs.Fmt.{decimal}
+use Rattle.std.specs.Str.{bytes_eq}
+use Rattle.std.proofs.lemmas.Bool.{and_parts, eqb-true, eq-eqb}
+use Rattle.std.proofs.lemmas.Slice.Eq.{bytes_eq-Decides}
+use Rattle.hart.specs.declared.status.Stop.{Stop}
+use Rattle.hart.specs.declared.status.Stop.TheVariants as stop
+use Rattle.hart.specs.Steps.{stop_number}
+use Rattle.step_machine.specs.declared.events.Event.{Event}
+use Rattle.step_machine.specs.declared.events.Entry.{Entry}
+use Rattle.step_machine.specs.declared.events.Entry.TheVariants as entry
+use Rattle.step_machine.specs.declared.events.Outcome.{Outcome}
+use Rattle.step_machine.specs.declared.events.Outcome.TheVariants.{Did, Waited, NothingToLand, Over, NoHart}
+use Rattle.texts.specs.Numbers.{SaysWord, word_of}
+use Rattle.texts.specs.Cutting.{tokens}
+use Rattle.texts.specs.Formats.{Settles, or_fault}
+use Rattle.texts.specs.Rows.{IsRowOf, rows_at, of_length, chain_at, are_apart, Written, word_text}
+use Rattle.texts.proofs.ResultLaws.{some, some_is}
+use Rattle.texts.proofs.RowLaws.{rows_settle, rows_of_length, rows_by_name, Solid, AreSolid, decimal_says, decimal_solid, solid_by_test, row_again}
+use Rattle.recorder.specs.declared.faults.AtByte.{AtByte}
+use Rattle.recorder.specs.declared.faults.ScheduleFault.TheVariants.{BadOutcome}
+use Rattle.recorder.specs.Schedule.{hart_of}
+use Rattle.recorder.specs.Reading.{at_byte}
+use Rattle.recorder.specs.Outcomes.{Told, did, stop_of, stopped, outcome_rows, may_have, told_for, TellOutcome, entry_row, outcome_row, outcome_text, IsWidth, Word, Fits, OutcomeFits, CanBeTold, entry_key, outcome_key, is_same_outcome}
+
+-- no two rows of the table are filled by the same words
+rows_apart : are_apart outcome_rows ≡ true
+rows_apart = refl
+
+pub no_words : (told : Told) → ¬ IsRowOf outcome_rows [] told
+no_words told = rows_settle (at_byte BadOutcome 0) outcome_rows [] rows_apart told
+
+pub outcome_settles : (fault : AtByte) (event : Event) (words : List (List ℕ)) → Settles (TellOutcome event words) (or_fault fault (told_for event (rows_at outcome_rows words)))
+outcome_settles fault event words = of_told (rows_at outcome_rows words) (rows_settle fault outcome_rows words rows_apart)
+  where
+    of_told : (read : Option Told) → Settles (IsRowOf outcome_rows words) (or_fault fault read) → Settles (TellOutcome event words) (or_fault fault (told_for event read))
+    of_told None settles = λ outcome tells. settles (hart_of event, outcome) tells.0
+    of_told (Some told) settles = by_test ((told.0 == hart_of event) && may_have event told.1) refl
+      where
+        by_test : (b : Bool) → ((told.0 == hart_of event) && may_have event told.1) ≡ b → Settles (TellOutcome event words) (or_fault fault (cond b (Some told.1) None))
+        by_test true fits =
+            let both = and_parts (told.0 == hart_of event) (may_have event told.1) fits in
+            ((subst (λ (h : ℕ). IsRowOf outcome_rows words (h, told.1)) (eqb-true told.0 (hart_of event) both.0) settles.0, both.1), λ outcome tells. ap (λ (t : Told). t.1) (settles.1 (hart_of event, outcome) tells.0))
+        by_test false other = λ outcome tells.
+            let same = settles.1 (hart_of event, outcome) tells.0 in
+            let hart : (told.0 == hart_of event) ≡ true = eq-eqb told.0 (hart_of event) (sym (ap (λ (t : Told). t.0) same)) in
+            let may : may_have event told.1 ≡ true = subst (λ (o : Outcome). may_have event o ≡ true) (ap (λ (t : Told). t.1) same) tells.1 in
+            absurd (let never : true ≡ false = rw (hart, may) at other in cc)
+
+-- ---- what is written is read again
+
+-- a row that is written says its outcome
+abbrev pub IsSaid : ℕ → Outcome → List Written → Type 0
+IsSaid h outcome row = IsRowOf outcome_rows (map word_text row) (h, outcome) × AreSolid row
+
+small : (n : ℕ) → Word n → SaysWord (decimal n) n
+small n is = decimal_says n is
+
+solid : (n : ℕ) → Word n → Solid (decimal n)
+solid n is = decimal_solid n (omega (arith, is))
+
+stop_again : (why : Stop) → (stop_of (stop_number why) ≡ Some why) × Word (stop_number why)
+stop_again stop.Illegal = (refl, omega arith)
+stop_again stop.Misaligned = (refl, omega arith)
+stop_again stop.SubWord = (refl, omega arith)
+stop_again stop.OutOfRange = (refl, omega arith)
+stop_again stop.MisalignedJump = (refl, omega arith)
+stop_again stop.NoCode = (refl, omega arith)
+stop_again stop.UnknownCall = (refl, omega arith)
+stop_again stop.Break = (refl, omega arith)
+
+load_says : (h a width v : ℕ) → Word h → IsWidth width → Word a → Word v → IsSaid h (Did (entry.Load h a width v)) (entry_row (entry.Load h a width v))
+load_says h a width v hart (inl (inl is)) a' v' = rw is (inr (inr (inl ((refl, (h, small h hart, (a, small a a', (v, small v v', refl))))))), (solid_by_test (codes "load1") refl, (solid h hart, (solid a a', (solid v v', tt)))))
+load_says h a width v hart (inl (inr is)) a' v' = rw is (inr (inr (inr (inl ((refl, (h, small h hart, (a, small a a', (v, small v v', refl)))))))), (solid_by_test (codes "load2") refl, (solid h hart, (solid a a', (solid v v', tt)))))
+load_says h a width v hart (inr is) a' v' = rw is (inr (inl ((refl, (h, small h hart, (a, small a a', (v, small v v', refl)))))), (solid_by_test (codes "load") refl, (solid h hart, (solid a a', (solid v v', tt)))))
+
+store_says : (h a width v : ℕ) → Word h → IsWidth width → Word a → Word v → IsSaid h (Did (entry.Store h a width v)) (entry_row (entry.Store h a width v))
+store_says h a width v hart (inl (inl is)) a' v' = rw is (inr (inr (inr (inr (inr (inl ((refl, (h, small h hart, (a, small a a', (v, small v v', refl)))))))))), (solid_by_test (codes "store1") refl, (solid h hart, (solid a a', (solid v v', tt)))))
+store_says h a width v hart (inl (inr is)) a' v' = rw is (inr (inr (inr (inr (inr (inr (inl ((refl, (h, small h hart, (a, small a a', (v, small v v', refl))))))))))), (solid_by_test (codes "store2") refl, (solid h hart, (solid a a', (solid v v', tt)))))
+store_says h a width v hart (inr is) a' v' = rw is (inr (inr (inr (inr (inl ((refl, (h, small h hart, (a, small a a', (v, small v v', refl))))))))), (solid_by_test (codes "store") refl, (solid h hart, (solid a a', (solid v v', tt)))))
+
+said_here : (h : ℕ) (e : Entry) → Word h → Fits h e → IsSaid h (Did e) (entry_row e)
+said_here h (entry.Inner g) hart is = rw (← is) (inl ((refl, (h, small h hart, refl))), (solid_by_test (codes "inner") refl, (solid h hart, tt)))
+said_here h (entry.Load g a width v) hart (is, width', a', v') = rw (← is) (load_says h a width v hart width' a' v')
+said_here h (entry.Store g a width v) hart (is, width', a', v') = rw (← is) (store_says h a width v hart width' a' v')
+said_here h (entry.Amo g a old new) hart (is, a', old', new') = rw (← is) (inr (inr (inr (inr (inr (inr (inr (inl ((refl, (h, small h hart, (a, small a a', (old, small old old', (new, small new new', refl))))))))))))), (solid_by_test (codes "amo") refl, (solid h hart, (solid a a', (solid old old', (solid new new', tt))))))
+said_here h (entry.Fence g true) hart is = rw (← is) (inr (inr (inr (inr (inr (inr (inr (inr (inl ((refl, (h, small h hart, (refl, refl)))))))))))), (solid_by_test (codes "fence") refl, (solid h hart, (solid_by_test (codes "full") refl, tt))))
+said_here h (entry.Fence g false) hart is = rw (← is) (inr (inr (inr (inr (inr (inr (inr (inr (inr (inl ((refl, (h, small h hart, (refl, refl))))))))))))), (solid_by_test (codes "fence") refl, (solid h hart, (solid_by_test (codes "part") refl, tt))))
+said_here h (entry.Next g (Some w)) hart (is, w') = rw (← is) (inr (inr (inr (inr (inr (inr (inr (inr (inr (inr (inl ((refl, (h, small h hart, (w, small w w', refl)))))))))))))), (solid_by_test (codes "next") refl, (solid h hart, (solid w w', tt))))
+said_here h (entry.Next g None) hart is = rw (← is) (inr (inr (inr (inr (inr (inr (inr (inr (inr (inr (inr (inl ((refl, (h, small h hart, (refl, refl))))))))))))))), (solid_by_test (codes "next") refl, (solid h hart, (solid_by_test (codes "end") refl, tt))))
+said_here h (entry.Took g i w) hart (is, i', w') = rw (← is) (inr (inr (inr (inr (inr (inr (inr (inr (inr (inr (inr (inr (inl ((refl, (h, small h hart, (i, small i i', (w, small w w', refl))))))))))))))))), (solid_by_test (codes "took") refl, (solid h hart, (solid i i', (solid w w', tt)))))
+said_here h (entry.Closed g i) hart (is, i') = rw (← is) (inr (inr (inr (inr (inr (inr (inr (inr (inr (inr (inr (inr (inr (inl ((refl, (h, small h hart, (i, small i i', refl))))))))))))))))), (solid_by_test (codes "closed") refl, (solid h hart, (solid i i', tt))))
+said_here h (entry.Ended g) hart is = rw (← is) (inr (inr (inr (inr (inr (inr (inr (inr (inr (inr (inr (inr (inr (inr (inl ((refl, (h, small h hart, refl))))))))))))))))), (solid_by_test (codes "ended") refl, (solid h hart, tt)))
+said_here h (entry.Stopped g why) hart is = let n = stop_number why in let again = stop_again why in let n' = again.1 in rw (← is) (inr (inr (inr (inr (inr (inr (inr (inr (inr (inr (inr (inr (inr (inr (inr (inl ((refl, (h, small h hart, (n, small n n', ap (stopped h) again.0))))))))))))))))))), (solid_by_test (codes "stopped") refl, (solid h hart, (solid n n', tt))))
+said_here h (entry.Land g) hart is = rw (← is) (inr (inr (inr (inr (inr (inr (inr (inr (inr (inr (inr (inr (inr (inr (inr (inr (inl ((refl, (h, small h hart, refl))))))))))))))))))), (solid_by_test (codes "land") refl, (solid h hart, tt)))
+
+pub outcome_says : (h : ℕ) (outcome : Outcome) → Word h → OutcomeFits h outcome → IsSaid h outcome (outcome_row h outcome)
+outcome_says h (Did e) hart fits = said_here h e hart fits
+outcome_says h Waited hart fits = (inr (inr (inr (inr (inr (inr (inr (inr (inr (inr (inr (inr (inr (inr (inr (inr (inr (inl ((refl, (h, small h hart, refl)))))))))))))))))))), (solid_by_test (codes "waited") refl, (solid h hart, tt)))
+outcome_says h NothingToLand hart fits = (inr (inr (inr (inr (inr (inr (inr (inr (inr (inr (inr (inr (inr (inr (inr (inr (inr (inr (inl ((refl, (h, small h hart, refl))))))))))))))))))))), (solid_by_test (codes "nothing") refl, (solid h hart, tt)))
+outcome_says h Over hart fits = (inr (inr (inr (inr (inr (inr (inr (inr (inr (inr (inr (inr (inr (inr (inr (inr (inr (inr (inr (inl ((refl, (h, small h hart, refl)))))))))))))))))))))), (solid_by_test (codes "over") refl, (solid h hart, tt)))
+outcome_says h NoHart hart fits = (inr (inr (inr (inr (inr (inr (inr (inr (inr (inr (inr (inr (inr (inr (inr (inr (inr (inr (inr (inr (inl ((refl, (h, small h hart, refl))))))))))))))))))))))), (solid_by_test (codes "nohart") refl, (solid h hart, tt)))
+
+pub outcome_read : (event : Event) (words : List (List ℕ)) (outcome : Outcome) → TellOutcome event words outcome ↔ (told_for event (rows_at outcome_rows words) ≡ Some outcome)
+outcome_read event words outcome = go (told_for event (rows_at outcome_rows words)) (outcome_settles (at_byte BadOutcome 0) event words)
+  where
+    go : (told : Option Outcome) → Settles (TellOutcome event words) (or_fault (at_byte BadOutcome 0) told) → TellOutcome event words outcome ↔ (told ≡ Some outcome)
+    go None settles = (λ tells. absurd (settles outcome tells), λ e. absurd cc)
+    go (Some x) settles = (λ tells. ap (λ (o : Outcome). some o) (sym (settles.1 outcome tells)), λ e. subst (TellOutcome event words) (some_is x outcome e) settles.0)
+
+pub outcome_again : (event : Event) (outcome : Outcome) → hart_of event < 64 → CanBeTold event outcome → TellOutcome event (tokens (outcome_text (hart_of event) outcome)) outcome
+outcome_again event outcome hart can =
+    let said = outcome_says (hart_of event) outcome (omega (arith, hart)) can.0 in
+    (subst (λ (words : List (List ℕ)). IsRowOf outcome_rows words (hart_of event, outcome)) (sym (row_again (outcome_row (hart_of event) outcome) said.1)) said.0, can.1)
+
+-- words are read by how many they are, and by the first
+pub told_chain : (name : List ℕ) (words : List (List ℕ)) → rows_at outcome_rows (name ∷ words) ≡ chain_at (of_length (suc (length words)) outcome_rows) name words
+told_chain name words = rows_of_length outcome_rows (name ∷ words) ∙ rows_by_name (of_length (suc (length words)) outcome_rows) name words
+
+pub end_is_no_number : (word : List ℕ) → bytes_eq word (codes "end") ≡ true → word_of word ≡ None
+unfolding word_of
+end_is_no_number word e = let is : word ≡ codes "end" = (bytes_eq-Decides word (codes "end")).0 e in rw is refl
+
+-- ---- equal outcomes
+
+-- the outcome whose numbers these are
+abbrev one_number : ℕ → ℕ → Outcome
+one_number kind h =
+    if kind == 0 then Did (entry.Inner h) else
+    (if kind == 4 then Did (entry.Fence h true) else
+    (if kind == 5 then Did (entry.Fence h false) else
+    (if kind == 7 then Did (entry.Next h None) else
+    (if kind == 10 then Did (entry.Ended h) else Did (entry.Land h)))))
+
+abbrev stopped_at : ℕ → Option Stop → Outcome
+stopped_at h None = Waited
+stopped_at h (Some why) = Did (entry.Stopped h why)
+
+abbrev two_numbers : ℕ → ℕ → ℕ → Outcome
+two_numbers kind h n = if kind == 6 then Did (entry.Next h (Some n)) else (if kind == 9 then Did (entry.Closed h n) else stopped_at h (stop_of n))
+
+abbrev four_numbers : ℕ → ℕ → ℕ → ℕ → ℕ → Outcome
+four_numbers kind h a b c = if kind == 1 then Did (entry.Load h a b c) else (if kind == 2 then Did (entry.Store h a b c) else Did (entry.Amo h a b c))
+
+abbrev no_number : ℕ → Outcome
+no_number kind = if kind == 13 then Waited else (if kind == 14 then NothingToLand else (if kind == 15 then Over else NoHart))
+
+abbrev from_key : List ℕ → Outcome
+from_key [] = Waited
+from_key (kind ∷ []) = no_number kind
+from_key (kind ∷ h ∷ []) = one_number kind h
+from_key (kind ∷ h ∷ n ∷ []) = two_numbers kind h n
+from_key (kind ∷ h ∷ i ∷ w ∷ []) = Did (entry.Took h i w)
+from_key (kind ∷ h ∷ a ∷ b ∷ c ∷ more) = four_numbers kind h a b c
+
+entry_again : (e : Entry) → from_key (entry_key e) ≡ Did e
+entry_again (entry.Inner h) = refl
+entry_again (entry.Load h a width v) = refl
+entry_again (entry.Store h a width v) = refl
+entry_again (entry.Amo h a old new) = refl
+entry_again (entry.Fence h true) = refl
+entry_again (entry.Fence h false) = refl
+entry_again (entry.Next h (Some w)) = refl
+entry_again (entry.Next h None) = refl
+entry_again (entry.Took h i w) = refl
+entry_again (entry.Closed h i) = refl
+entry_again (entry.Ended h) = refl
+entry_again (entry.Stopped h why) = ap (stopped_at h) (stop_again why).0
+entry_again (entry.Land h) = refl
+
+key_again : (o : Outcome) → from_key (outcome_key o) ≡ o
+key_again (Did e) = entry_again e
+key_again Waited = refl
+key_again NothingToLand = refl
+key_again Over = refl
+key_again NoHart = refl
+
+pub decides_outcomes : (a b : Outcome) → Decides (is_same_outcome a b) (a ≡ b)
+decides_outcomes a b =
+    let keys = bytes_eq-Decides (outcome_key a) (outcome_key b) in
+    (λ e. sym (key_again a) ∙ ap from_key (keys.0 e) ∙ key_again b, λ same. keys.1 (ap outcome_key same))

@@ -1,0 +1,79 @@
+-- Records of runs, one more step at a time, and checks of them.
+use Rattle.std.proofs.Common.{◌≡◌, ◌≢◌, ℕ, zero, suc, ◌+◌, ◌<◌, List, [], ◌∷◌, ◌++◌, length, take, map, get_or, Some, refl, sym, ap, subst, ◌∙◌, arith}
+use Rattle.std.specs.List.{slice_get}
+use Rattle.std.proofs.lemmas.List.{take_more}
+use Rattle.step_machine.specs.History.{Start, History, unrun}
+use Rattle.step_machine.specs.Runs.{Happens, RunFrom, Run}
+use Rattle.step_machine.specs.declared.events.Event.{Event}
+use Rattle.step_machine.specs.declared.events.Outcome.{Outcome}
+use Rattle.step_machine.proofs.Running.{happens-one}
+use Rattle.texts.proofs.ResultLaws.{some_is}
+use Rattle.recorder.specs.Records.{Step, events_in}
+use Rattle.recorder.specs.Replaying.{RecordFrom, IsRunRecord, DiffersAt}
+
+-- one more step at the end
+pub RecordFrom-more : (B M : ℕ) (t : History) (steps : List Step) (mid : History) (step : Step) (new : History) → RecordFrom B M t steps mid → Happens B M mid step.0 step.1 new → RecordFrom B M t (steps ++ step ∷ []) new
+RecordFrom-more B M t [] mid step new is happens = (new, subst (λ (u : History). Happens B M u step.0 step.1 new) is happens, refl)
+RecordFrom-more B M t (first ∷ steps) mid step new is happens = (is.0, is.1, RecordFrom-more B M is.0 steps mid step new is.2 happens)
+
+-- a record of a run is a run of its events
+pub RecordFrom-RunFrom : (B M : ℕ) (t : History) (steps : List Step) (new : History) → RecordFrom B M t steps new → RunFrom B M t (events_in steps) new
+RecordFrom-RunFrom B M t [] new is = is
+RecordFrom-RunFrom B M t (step ∷ steps) new is = (step.1, is.0, is.1, RecordFrom-RunFrom B M is.0 steps new is.2)
+
+-- the first steps are a record, and the next has happened as it says
+pub record_more : (B M : ℕ) (t : History) (steps : List Step) (i : ℕ) (d : Step) (mid : History) (new : History) → i < length steps → RecordFrom B M t (take i steps) mid → Happens B M mid (get_or steps i d).0 (get_or steps i d).1 new → RecordFrom B M t (take (i + 1) steps) new
+record_more B M t steps i d mid new within is happens = subst (λ (front : List Step). RecordFrom B M t front new) (sym (take_more steps i d within)) (RecordFrom-more B M t (take i steps) mid (get_or steps i d) new is happens)
+
+pub checked_more : (B M : ℕ) (t : History) (steps : List Step) (i : ℕ) (d : Step) (mid : History) (o : Outcome) (new : History) → i < length steps → RecordFrom B M t (take i steps) mid → Happens B M mid (get_or steps i d).0 o new → o ≡ (get_or steps i d).1 → RecordFrom B M t (take (i + 1) steps) new
+checked_more B M t steps i d mid o new within is happens same = record_more B M t steps i d mid new within is (subst (λ (p : Outcome). Happens B M mid (get_or steps i d).0 p new) same happens)
+
+-- ---- the events of a record
+
+events_in-append : (front back : List Step) → events_in (front ++ back) ≡ events_in front ++ events_in back
+events_in-append [] back = refl
+events_in-append (step ∷ front) back = ap (λ (rest : List Event). step.0 ∷ rest) (events_in-append front back)
+
+pub events_more : (steps : List Step) (i : ℕ) (d : Step) (old new : List Event) → i < length steps → old ≡ events_in (take i steps) → new ≡ old ++ (get_or steps i d).0 ∷ [] → new ≡ events_in (take (i + 1) steps)
+events_more steps i d old new within so_far pushed =
+    pushed
+    ∙ ap (λ (front : List Event). front ++ (get_or steps i d).0 ∷ []) so_far
+    ∙ sym (events_in-append (take i steps) (get_or steps i d ∷ []))
+    ∙ ap events_in (sym (take_more steps i d within))
+
+-- one more event has happened, and is noted
+pub one_recorded : (B M : ℕ) (t : History) (old new : List Step) (events : List Event) (i : ℕ) (d : Event) (o : Outcome) (mid after : History)
+    → i < length events → RecordFrom B M t old mid → events_in old ≡ take i events → Happens B M mid (get_or events i d) o after → new ≡ old ++ (get_or events i d, o) ∷ []
+    → RecordFrom B M t new after × (events_in new ≡ take (i + 1) events)
+one_recorded B M t old new events i d o mid after within is same happens noted =
+    let step : Step = (get_or events i d, o) in (
+      subst (λ (steps : List Step). RecordFrom B M t steps after) (sym noted) (RecordFrom-more B M t old mid step after is happens),
+      ap events_in noted ∙ events_in-append old (step ∷ []) ∙ ap (λ (front : List Event). front ++ get_or events i d ∷ []) same ∙ sym (take_more events i d within),
+    )
+
+-- ---- a check has one answer
+
+alike : (B M : ℕ) (t : History) (steps : List Step) (a b : History) → RecordFrom B M t steps a → RecordFrom B M t steps b → a ≡ b
+alike B M t [] a b one other = one ∙ sym other
+alike B M t (step ∷ steps) a b one other =
+    let mid = (happens-one B M t step.0 step.1 step.1 one.0 other.0 one.1 other.1).1 in
+    alike B M other.0 steps a b (subst (λ (u : History). RecordFrom B M u steps a) mid one.2) other.2
+
+-- the part of a record before a place, and what its step says there
+cut : (B M : ℕ) (t : History) (steps : List Step) (new : History) (k : ℕ) (step : Step) → RecordFrom B M t steps new → slice_get steps k ≡ Some step → (before : History) × (after : History) × RecordFrom B M t (take k steps) before × Happens B M before step.0 step.1 after
+cut B M t [] new k step is stands = absurd cc
+cut B M t (first ∷ steps) new zero step is stands = (t, is.0, refl, subst (λ (s : Step). Happens B M t s.0 s.1 is.0) (some_is first step stands) is.1)
+cut B M t (first ∷ steps) new (suc k) step is stands =
+    let later = cut B M is.0 steps new k step is.2 stands in
+    (later.0, later.1, (is.0, is.1, later.2), later.3)
+
+-- where each outcome is the run's, none differs
+pub no_other : (B M : ℕ) (o : Start) (steps : List Step) (history : History) (k : ℕ) → IsRunRecord B M o steps history → ¬ DiffersAt B M o steps k
+no_other B M o steps history k is differs =
+    let here = cut B M (unrun o) steps history k differs.step is differs.stands in
+    let before = alike B M (unrun o) (take k steps) differs.before here.0 differs.is_record here.2 in
+    let happens = subst (λ (u : History). Happens B M u differs.step.0 differs.outcome differs.after) before differs.happens in
+    differs.other (happens-one B M here.0 differs.step.0 differs.outcome differs.step.1 differs.after here.1 happens here.3).0
+
+pub record_runs : (B M : ℕ) (o : Start) (steps : List Step) (history : History) → IsRunRecord B M o steps history → Run B M o (events_in steps) history
+record_runs B M o steps history is = RecordFrom-RunFrom B M (unrun o) steps history is
