@@ -5,7 +5,7 @@ from dataclasses import dataclass, field
 from pathlib import Path
 from typing import Dict, List, Optional, Tuple
 
-from . import escapes
+from . import escapes, parts
 
 CASES = Path(__file__).resolve().parent.parent
 ROOT = CASES.parent
@@ -23,14 +23,14 @@ class FormError(Exception):
 @dataclass
 class Stream:
     """Standard input, or what must come on standard output: a text, the bytes of a file of the
-    repository, or what the stream is instead of a pipe (a device, or closed)."""
+    repository or of a part of one (`FILE#PART`), or what the stream is instead of a pipe (a device, or closed)."""
 
     text: Pieces = field(default_factory=list)
     source: Optional[str] = None
     device: Optional[str] = None
 
     def content(self):
-        return (ROOT / self.source).read_bytes() if self.source else escapes.content(self.text)
+        return parts.content(self.source) if self.source else escapes.content(self.text)
 
 
 @dataclass
@@ -40,6 +40,8 @@ class Case:
     name: str
     words: List[bytes]
     status: int = 0
+    # a line for the shell that runs the program as ./ztso, in place of words
+    shell: Optional[str] = None
     comments: List[str] = field(default_factory=list)
     memory: Optional[int] = None
     each_allocation: Optional[str] = None

@@ -78,7 +78,10 @@ def redirections(case):
 
 
 def command(program, case):
-    """The words of the command, behind a shell where the case limits memory or closes a stream."""
+    """The words of the command, behind a shell where the case limits memory or closes a stream, or is a
+    line for the shell."""
+    if case.shell is not None:
+        return ["/bin/bash", "-c", case.shell.replace("./ztso", '"$0"'), os.fsencode(program)]
     words = [os.fsencode(program), *case.words]
     if not case.needs_shell():
         return words

@@ -1,0 +1,62 @@
+"""Parts of the repository's files, named `FILE#PART`: a listing of docs/channels.md, a program of an assembly
+file, or a table of words in a source."""
+
+import re
+from pathlib import Path
+
+ROOT = Path(__file__).resolve().parent.parent.parent
+HEADING = {"lamport": "## Lamport's ring", "fastforward": "## FastForward"}
+CRATE = {"lamport": "lamport_ring", "fastforward": "fastforward"}
+ROLES = ("sender", "receiver")
+
+
+class NoSuchPart(Exception):
+    """A file hasn't the part that was asked for."""
+
+
+def listing(page, kind, role):
+    """The lines of a program's listing and their remarks, by their offsets. A receiver's are Lamport's, except
+    where the ring has lines of its own."""
+    def of(ring):
+        section = page.split(f"{HEADING[ring]}\n")[1].split("\n## ")[0]
+        found = [re.findall(r"^\| ([0-9A-F]{2}) \| `([^`]*)` \|(.*)\|", part, re.MULTILINE)
+                 for part in section.split("\n\n")]
+        return [{at: (line, remark.strip()) for at, line, remark in lines} for lines in found if lines]
+    return of(kind)[0] if role == "sender" else of("lamport")[1] | of(kind)[1]
+
+
+def program(assembly, name):
+    """The lines of a global symbol's program up to its size, without directives, and with local labels
+    `.Lname_label` as `label`."""
+    body = assembly.split(f"\n{name}:\n")[1].split(f"    .size {name},")[0]
+    return body.replace(f".L{name}_", "").splitlines()
+
+
+def table(source, name):
+    """The words of a constant table."""
+    words = re.search(rf"^const {name}: \[u32; \d+\] = \[(.*?)\];", source, re.DOTALL | re.MULTILINE)[1]
+    return [int(word, 16) for word in re.findall("0x[0-9A-F]{8}", words)]
+
+
+def source_of(kind):
+    """The file with a ring's tables."""
+    return ROOT / "crates" / CRATE[kind] / "src/lib.rt"
+
+
+def content(name):
+    """The bytes of a file of the repository, or of the part that `FILE#PART` names."""
+    path, _, part = name.partition("#")
+    read = (ROOT / path).read_bytes()
+    if not part:
+        return read
+    text = read.decode()
+    try:
+        if path.endswith(".md"):
+            lines = [line for line, _ in listing(text, *part.split("-")).values()]
+        elif path.endswith(".S"):
+            lines = program(text, part)
+        else:
+            lines = [f"{word:08x}" for word in table(text, part)]
+    except (KeyError, IndexError, TypeError) as error:
+        raise NoSuchPart(f"{name}: no such part") from error
+    return "".join(f"{line}\n" for line in lines).encode()
