@@ -14,8 +14,7 @@ LINE, CODE, MEMORY = 34, 4096, 4 * 4096
 def tokens(line, number):
     """The events of a `steps` line."""
     told, total = [], 0
-    _, *pieces = re.finditer(r"[^ \t]+", line)
-    for piece in pieces:
+    for piece in re.compile(r"[^ \t\r]+").finditer(line, line.index("steps") + len("steps")):
         shape = TOKEN_SHAPE.fullmatch(piece[0])
         if not shape:
             cut = piece.end() == len(line) and CUT_SHAPE.fullmatch(piece[0])
