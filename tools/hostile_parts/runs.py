@@ -22,8 +22,6 @@ NO_THREAD = (2, b"ztso: refused 35\n", b"")
 READ_FAILED = (3, b"ztso: read failed\n", b"")
 WRITE_FAILED = (3, b"ztso: write failed\n")
 BAD_COMMAND_LINE = (2, b"ztso: bad command line\n", b"")
-# what `run` answers is in the status
-CLOSED = subprocess.DEVNULL
 
 
 def refused(number, place=""):
@@ -52,9 +50,9 @@ class Runs:
                 self.files[name] = content
 
     def run(self, words, stdin=b"", variables=None, **others):
-        """The status, standard error and standard output of the program."""
+        """The status, standard error and standard output of the program; standard input is bytes or a file."""
+        given = {"input": stdin} if isinstance(stdin, bytes) else {"stdin": stdin}
         try:
-            given = {} if "stdin" in others else {"input": stdin}
             done = subprocess.run([self.program, *words], stdout=others.pop("stdout", subprocess.PIPE),
                                   stderr=subprocess.PIPE, timeout=SECONDS, **given, **others,
                                   env={**os.environ, **variables} if variables else None)
