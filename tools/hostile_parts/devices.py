@@ -41,7 +41,11 @@ def feed(path, content):
 def failed_reads(runs, words, stdin):
     """A stream or a file from which nothing can be read."""
     if reads_stdin(words):
-        # of closed standard input the kit's reader says the same as of an empty one
+        done = subprocess.run(["/bin/bash", "-c", 'exec "$0" "$@" <&-', runs.program, *words], capture_output=True)
+        came = done.returncode, done.stderr, done.stdout
+        # a debugger whose commands are closed has none
+        wanted = (0, b"", b"") if words[0] == "debug" else READ_FAILED
+        runs.hold("read failed", came == wanted, brief(came), words, note="< closed")
         with open(os.devnull, "wb") as only_written:
             came = runs.run(words, stdin=only_written)
         runs.hold("read failed", came == READ_FAILED, brief(came), words, note="< a stream that can't be read")
