@@ -42,8 +42,10 @@ def events(runs, harts, count):
     """The tokens of drawn events, of which each comes some times."""
     told, left = [], count
     while left:
-        times = min(left, runs.draw.choice((1, 3, 16, 200)))
-        told.append((runs.draw.choice("aaal"), runs.draw.randrange(harts), times))
+        # a loop of four instructions has a store in each
+        letter = runs.draw.choice("al")
+        times = min(left, runs.draw.choice((1, 3, 16, 60) if letter == "a" else (1, 4, 16)))
+        told.append((letter, runs.draw.randrange(harts), times))
         left -= times
     return " ".join(f"{letter}{hart}*{times}" for letter, hart, times in told).encode()
 
