@@ -13,8 +13,8 @@ NO_MEMORY = (4, b"ztso: no memory\n", b"")
 # the most allocations that a case may make
 ALLOCATIONS = 10_000
 
-# Put before the C library, it refuses one call that allocates, counted from 1, and leaves a file where
-# it came to that call.
+# Put before the C library, it refuses one call that allocates, counted from 1, or that one and all later
+# ones where REFUSED_LATER is 1, and leaves a file where it came to that call.
 REFUSER = r"""
 #define _GNU_SOURCE
 #include <dlfcn.h>
@@ -26,8 +26,14 @@ REFUSER = r"""
 static long left = -1;
 
 static int is_refused(void) {
-    if (left < 0) left = atol(getenv("REFUSED_ALLOCATION"));
-    if (left == 0 || --left > 0) return 0;
+    static int later;
+    if (left < 0) {
+        const char *told = getenv("REFUSED_LATER");
+        later = told && *told == '1';
+        left = atol(getenv("REFUSED_ALLOCATION"));
+    }
+    if (left == 0 && !later) return 0;
+    if (left > 0 && --left > 0) return 0;
     close(open(getenv("REFUSAL_SEEN"), O_WRONLY | O_CREAT, 0600));
     errno = ENOMEM;
     return 1;

@@ -1,0 +1,118 @@
+"""The worked examples: sessions of docs/ and README, and a run of each kind of command."""
+
+import re
+
+from kit import pages
+
+from . import ROOT
+
+PAGES = [ROOT / "README.md", *sorted((ROOT / "docs").glob("*.md"))]
+SB = "litmus/sb.litmus"
+WITNESS = "litmus/sb.0-0.schedule"
+LISTS = (ROOT / "examples/two-senders.lists").read_bytes()
+# each of the debugger's commands, each with an answer and with `?`
+COMMANDS = b"""s
+s
+p 0
+a 1
+l 1
+b 1 4
+g
+g
+b 1 4
+u 2
+u 99999999999999999999
+r 0
+w 0
+w 4
+g
+r 1
+t
+t 1
+r 2
+w 2
+p 9
+a 7
+?
+q
+"""
+# bytes, halfwords, AMOs, fences, branches, calls and stops
+FORMS = b"""# each form once
+a: lui x5,0x12345
+ auipc x6,1048575
+b: jal x1,a
+ jalr x1,-4(x2)
+ jalr x1,x2,2047
+ beq x1,x2,c
+ bge t0,t1,-4096
+ lb a0,(sp)
+ sw fp, -2048( s11 )
+ sltiu x31,x30,-1
+ srai x1,x2,31
+ xor x1,x2,x3
+ amoadd.w x1,x2,(x3)
+ amomaxu.w.aq.rl x1,x2,0(x3)
+ fence rw,0
+ fence.tso
+ fence
+ ecall
+c: ebreak # the end
+ li x5,-2147483648
+ li x6,0xFFF
+ not x1,x2
+ bnez x1,b
+ ret
+"""
+WORDS = b"FE029EE3 00000000\n00532023\tfff28293\r\n1821a0af 0330000f\n 8330000f\n"
+STEPS = b"""hart 00532023 00042383\r
+hart 0002a303 00000073
+
+\treg 0 5 4294967295
+reg 1 17 93
+word 0012 7
+steps a0*2 l0
+steps
+steps a1*3 l63
+"""
+
+
+def sessions():
+    """The command lines of the pages that run the program, each with the files that the page shows before it."""
+    for page in PAGES:
+        for _, number, lines in pages.blocks(page.read_text()):
+            files = {}
+            for command, _, answer in pages.commands(number, lines):
+                shown = re.fullmatch(r"cat (\S+)", command)
+                made = re.fullmatch(r"echo '([^']*)' > (\S+)", command)
+                if shown:
+                    files[shown[1]] = "".join(f"{line}\n" for line in answer).encode()
+                elif made:
+                    files[made[2]] = f"{made[1]}\n".encode()
+                elif "./ztso" in command:
+                    yield command, files
+    page = (ROOT / "docs/debugging.md").read_text()
+    typed = "".join(f"{line}\n" for line in re.findall(r"^> (.*)$", page, re.MULTILINE)).encode()
+    yield f"./ztso debug {SB} {WITNESS} < typed", {"typed": typed}
+
+
+def kinds():
+    """A run of each kind of command: its words and its standard input."""
+    none = {"none.schedule": b"ztso-schedule 1\n"}
+    yield ["run", SB, WITNESS], b"", {}
+    yield ["replay", SB, WITNESS, "--buffer", "1"], b"", {}
+    yield ["replay", "litmus/ticket.litmus", "some.schedule"], b"", {
+        "some.schedule": b"ztso-schedule 1\n" + b"a0 a1 l0 a1*2 l1 " * 60}
+    for name in ("sb", "ticket", "n6"):
+        yield ["try", f"litmus/{name}.litmus", "--seed", "7", "--runs", "40", "--length", "60"], b"", {}
+    for kind in ("lamport", "fastforward"):
+        yield ["channel", kind, "3", "examples/two-senders.schedule"], LISTS, {}
+        yield ["channel", kind, "3", "none.schedule", "--finish"], LISTS, none
+        yield ["channel", kind, "2", "none.schedule", "--finish", "--buffer", "1"], b"1 2 3\n\n4\n" * 3, none
+    yield ["debug", SB, WITNESS], COMMANDS, {}
+    yield from ((["debug", SB, WITNESS], line + b"\n", {}) for line in sorted(set(COMMANDS.splitlines())))
+    yield ["asm"], FORMS, {}
+    yield ["dis"], WORDS, {}
+    yield ["steps"], STEPS, {}
+    yield ["threads", SB], b"", {}
+    yield ["threads", SB, "--turns", "3", "--buffer", "1"], b"", {}
+    yield ["threads", "litmus/ticket.litmus", "--turns", "2000"], b"", {}

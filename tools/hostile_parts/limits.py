@@ -1,0 +1,137 @@
+"""Inputs at the limits and one past them. What is wanted is told here and, where the reference has the command, by it."""
+
+from . import ROOT
+from .runs import BAD_COMMAND_LINE, refused
+
+INPUT, EVENTS, CODE = 1_048_576, 1_048_576, 4096
+NONE = b"ztso-schedule 1\n"
+SB = str(ROOT / "litmus/sb.litmus")
+# slots of a ring at the least
+LEAST = {"lamport": 2, "fastforward": 1}
+
+
+def litmus(harts=1, cells=(), items="", condition="exists (x=0)"):
+    """A litmus text, whose table begins at line 3 and whose cells are the first hart's."""
+    names = " | ".join(f"P{hart}" for hart in range(harts))
+    rows = "".join(f" {cell}{' |' * (harts - 1)} ;\n" for cell in cells)
+    return f"RISCV X\n{{{items}}}\n {names} ;\n{rows}{condition}\n".encode()
+
+
+def tests():
+    """Litmus texts: what is wanted is a refusal, or None where the text is read."""
+    yield litmus(64), None
+    yield litmus(65), refused(26, " at line 3")
+    names = [f"x{i}" for i in range(1026)]
+    for count, wanted in ((1024, None), (1025, refused(26, " at line 2"))):
+        yield litmus(items=";".join(f"{name}=1" for name in names[:count]), condition="exists (x0=1)"), wanted
+    for count, wanted in ((1024, None), (1025, refused(26, " at line 4"))):
+        yield litmus(condition="exists " + " /\\ ".join(f"{name}=0" for name in names[:count])), wanted
+    # the places of registers name locations too
+    yield litmus(items=";".join(f"0:x5={name}" for name in names[:1025])), refused(26, " at line 2")
+    nops = ["nop"] * CODE
+    yield litmus(cells=nops), None
+    yield litmus(cells=[*nops, "end:"]), None
+    yield litmus(cells=[*nops, "nop"]), refused(26, f" at line {CODE + 4}")
+    yield litmus(cells=[*nops[:-1], "li x5,4097"]), refused(26, f" at line {CODE + 3}")
+    yield litmus(cells=[*nops[:-2], "li x5,4097"]), None
+    text = litmus()
+    for more, wanted in ((0, None), (1, refused(37))):
+        yield text + b" " * (INPUT - len(text) + more), wanted
+
+
+def schedules():
+    head = len(NONE)
+    for text, wanted in [
+            (b"a0*1048576", None), (b"a0*1048577", refused(30, f" at byte {head}")),
+            (b"a0*1048576 l0", refused(30, f" at byte {head + 11}")),
+            (b"a0*1048575 l0 a1", refused(30, f" at byte {head + 14}")), (b"a0*1048575 l0", None),
+            (b"a63 l63", None), (b"l64", refused(29, f" at byte {head}")), (b"a0*0", refused(30, f" at byte {head}")),
+            (b" " * (INPUT - head), None), (b" " * (INPUT - head + 1), refused(37))]:
+        yield NONE + text, wanted
+
+
+def inputs():
+    """Commands that read standard input alone."""
+    nop = b"00000013 "
+    for text, wanted in [
+            (b"hart\n" * 64, None), (b"hart\n" * 65, refused(34, " at line 65")),
+            (b"hart " + nop * CODE, None), (b"hart\nhart " + nop * (CODE + 1), refused(34, " at line 2")),
+            (b"hart\nsteps a0*1048576", None), (b"hart\nsteps a0*1048576\nsteps\n", None),
+            (b"hart\nsteps a0*1048576\nsteps a0\n", refused(30, " at line 3")),
+            (b"hart\nsteps a0*1048576 l0\n", refused(30, " at line 2")),
+            (b"hart\nreg 0 31 4294967295\nword 16380 4294967295", None), (b"hart\nreg 0 32 1", refused(34, " at line 2")),
+            (b"hart\nreg 0 5 4294967296", refused(34, " at line 2")), (b"hart\nword 16384 1", refused(34, " at line 2"))]:
+        yield ["steps"], text, wanted
+    for text, wanted in [(b"nop\n" * CODE, None), (b"nop\n" * CODE + b"end:#", None),
+                         (b"nop\n" * (CODE + 1), refused(7, f" at line {CODE + 1}")),
+                         (b"nop\n" * (CODE - 1) + b"li x5,4097\n", refused(7, f" at line {CODE}")),
+                         (b"j end\n" + b"nop\n" * (CODE - 1) + b"end:\n", None)]:
+        yield ["asm"], text, wanted
+    for words, text in ((["asm"], b"nop\n"), (["dis"], b"fe029ee3\n"), (["steps"], b"hart\n")):
+        for more, wanted in ((0, None), (1, refused(37))):
+            yield words, text + b"\n" * (INPUT - len(text) + more), wanted
+    # the debugger has no limit on its input
+    yield ["debug", SB, "schedule"], b"t\n" + b" " * INPUT + b"t\n" * 3, None
+    yield ["debug", SB, "schedule"], b"a 4294967295\na 4294967296\nu " + b"9" * 100_000 + b"\nt\n", None
+
+
+def channels(runs):
+    """Channels: the number of senders, the size of their rings and of their text."""
+    for kind, least in LEAST.items():
+        for senders, wanted in ((1, None), (63, None), (64, refused(18))):
+            yield ["channel", kind, "2", "schedule"], b"7\n" * senders, wanted
+        for slots, wanted in ((least, None), (least - 1, refused(19)), (2**32 - 1, refused(20)), (2**32, BAD_COMMAND_LINE)):
+            yield ["channel", kind, str(slots), "schedule"], b"7\n", wanted
+        for senders in (1, 2, 31, 62, 63) if runs.short else range(1, 64):
+            most = (16384 // senders - 16) // 4
+            for slots, wanted in ((most, None), (most + 1, refused(20))):
+                yield ["channel", kind, str(slots), "schedule", "--finish"], b"7\n" * senders, wanted
+    for more, wanted in ((0, None), (1, refused(37))):
+        yield ["channel", "lamport", "2", "schedule"], b"7\n" + b" " * (INPUT - 2 + more), wanted
+    for text, wanted in ((b"4294967295", None), (b"4294967296", refused(34, " at line 1"))):
+        yield ["channel", "lamport", "2", "schedule"], text, wanted
+
+
+def options(short):
+    """Options at their ends and past them."""
+    drawn = {"--seed": "1", "--runs": "1", "--length": "0"}
+    for name, values in [
+            ("--seed", [("0", None), (str(2**64 - 1), None), (str(2**64), BAD_COMMAND_LINE), ("-1", BAD_COMMAND_LINE)]),
+            ("--runs", [("1", None), ("100000", None), ("0", BAD_COMMAND_LINE), ("100001", BAD_COMMAND_LINE)]),
+            ("--length", [("0", None), ("1048576", None), ("1048577", BAD_COMMAND_LINE)]),
+            ("--buffer", [("1", None), ("16", None), ("0", BAD_COMMAND_LINE), ("3", BAD_COMMAND_LINE),
+                          ("17", BAD_COMMAND_LINE), ("32", BAD_COMMAND_LINE)])]:
+        for value, wanted in values:
+            if not (short and value in ("100000", "1048576")):
+                told = {**drawn, name: value}
+                yield ["try", SB, *(word for pair in told.items() for word in pair)], wanted
+    for value, wanted in [("0", None), ("10000000", None), ("10000001", BAD_COMMAND_LINE), ("-1", BAD_COMMAND_LINE)]:
+        yield ["threads", SB, "--turns", value], wanted
+
+
+def hold(runs, kind, words, stdin, wanted):
+    """Holds a run against what is told here, and against the reference."""
+    came = runs.run(words, stdin)
+    right = came == wanted if wanted else came[0] in (0, 1) and not came[1]
+    if words[0] == "threads":
+        right = right and (wanted is not None or runs.is_answer_of_threads(words, came))
+    else:
+        right = right and came == runs.reference(words, stdin)
+    runs.hold(kind, right, f"{came[:2]}, wanted {wanted}", words, stdin[:200])
+
+
+def part(runs):
+    runs.put({"schedule": NONE + b"a0*3 l0\n"})
+    for text, wanted in tests():
+        runs.put({"text": text})
+        hold(runs, "litmus", ["run", "text", "schedule"], b"", wanted)
+    for text, wanted in schedules():
+        runs.put({"text": text})
+        hold(runs, "schedules", ["replay", SB, "text"], b"", wanted)
+    for words, stdin, wanted in inputs():
+        hold(runs, words[0], words, stdin, wanted)
+    for words, stdin, wanted in channels(runs):
+        hold(runs, "channels", words, stdin, wanted)
+    for words, wanted in options(runs.short):
+        hold(runs, "options", words, b"", wanted)
+    runs.counts("limits", ["litmus", "schedules", "steps", "asm", "dis", "debug", "channels", "options"])

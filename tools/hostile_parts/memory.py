@@ -1,0 +1,79 @@
+"""Allocations that are refused: the nth, and the nth with every later one."""
+
+import os
+import subprocess
+from pathlib import Path
+
+from kit import running
+
+from . import examples
+from .runs import NO_MEMORY, NO_THREAD, SECONDS, brief
+
+KINDS = ["no memory", "no thread", "own answers", "answers of their own until memory ran out"]
+# the most allocations that a command may make
+MOST = 20_000
+
+
+def answer_of_shell(runs, command, variables):
+    """What a session's command line answers, with the program alone below the refuser."""
+    set_ = " ".join(f"{name}={value}" for name, value in variables.items())
+    line = command.replace("./ztso", f"env {set_} {runs.program}")
+    try:
+        done = subprocess.run(["/bin/bash", "-c", line], capture_output=True, timeout=SECONDS, stdin=subprocess.DEVNULL)
+    except subprocess.TimeoutExpired:
+        return "no end", b"", b""
+    return done.returncode, done.stderr, done.stdout
+
+
+def refusals(runs, refuser, answer, own, words, stdin=b""):
+    """Runs a command with each of its allocations refused, alone and with all later ones."""
+    seen = Path(runs.folder, "seen")
+    for later in ("0", "1"):
+        for number in range(1, MOST):
+            told = answer({"LD_PRELOAD": str(refuser), "REFUSED_ALLOCATION": str(number),
+                           "REFUSED_LATER": later, "REFUSAL_SEEN": str(seen)})
+            if not seen.exists():
+                break
+            seen.unlink()
+            note = f"allocation {number} refused{', and all later ones' if later == '1' else ''}"
+            runs.hold(*judged(runs, told, own, words), brief(told), words, stdin, note)
+        else:
+            runs.hold("own answers", False, f"{MOST} allocations", words, stdin)
+
+
+def judged(runs, told, own, words):
+    """The kind of an answer, and whether it may be."""
+    if told == NO_MEMORY:
+        return "no memory", True
+    if "threads" in words and told == NO_THREAD:
+        return "no thread", True
+    if "debug" in words and told[:2] == NO_MEMORY[:2]:
+        return "answers of their own until memory ran out", own[2].startswith(told[2])
+    right = runs.is_answer_of_threads(words, told) if own is None else told == own
+    return "own answers", right
+
+
+def part(runs):
+    refuser = running.refuser_in(runs.folder)
+    if refuser is None:
+        runs.hold("own answers", False, "cc can't compile what refuses an allocation", [])
+        return
+    commands = 0
+    told = list({(command, *files.values()): (command, files) for command, files in examples.sessions()}.values())
+    for command, files in told[::6] if runs.short else told:
+        if "ulimit" in command:
+            continue
+        runs.put(files)
+        words = command.partition("./ztso ")[2].split()
+        own = answer_of_shell(runs, command, {})
+        # what threads do is another thing each time, except where their test is refused
+        own = None if words[0] == "threads" and own[0] in (0, 1) else own
+        refusals(runs, refuser, lambda variables: answer_of_shell(runs, command, variables), own, words)
+        commands += 1
+    told = list(examples.kinds())
+    for words, stdin, files in told[::5] if runs.short else told:
+        runs.put(files)
+        own = None if words[0] == "threads" else runs.compare("own answers", words, stdin)
+        refusals(runs, refuser, lambda variables: runs.run(words, stdin, variables), own, words, stdin)
+        commands += 1
+    runs.counts(f"memory, {commands} commands, each allocation refused alone and with all later ones", KINDS)

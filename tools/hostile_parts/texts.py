@@ -1,0 +1,78 @@
+"""Texts of each grammar that are cut at every byte, or have one byte changed."""
+
+import re
+
+from . import ROOT, examples
+
+TELLING = b"\0\t\n\r\x0b\x0c !\"#$'()*+,-./0159:;<=>?@AFPRX[\\]_`abflsxz{|}~\x7f\x80\xbf\xc3\xff"
+# of a text's changes that many are drawn
+DRAWN, DRAWN_SHORT = 1400, 12
+
+
+def read(name):
+    return (ROOT / name).read_bytes()
+
+
+def grammars():
+    """The texts of each grammar: a name, a text, the command that reads it, standard input and files around it, and
+    whether the text is a file `text` or standard input."""
+    for name in ("litmus/sb", "litmus/ticket", "litmus/n6", "examples/message-passing"):
+        witness = sorted(ROOT.glob(f"{name}*.schedule"))[0]
+        yield "litmus", read(f"{name}.litmus"), ["run", "text", str(witness)], None
+    for name, test in (("litmus/sb.0-0", "litmus/sb"), ("examples/message-passing", "examples/message-passing")):
+        yield "schedules", read(f"{name}.schedule"), ["replay", str(ROOT / f"{test}.litmus"), "text"], None
+    yield "schedules", read("examples/two-senders.schedule"), ["channel", "lamport", "3", "text"], examples.LISTS
+    yield "schedules", b"ztso-schedule 1\r\na0*1048570\ta1 l063*03\r\nl1\n", ["channel", "fastforward", "3", "text"], b"7\n"
+    for text in (read("examples/store-buffering.steps"), examples.STEPS):
+        yield "steps", text, ["steps"], text
+    schedule = str(ROOT / "examples/two-senders.schedule")
+    for text in (examples.LISTS, b"4294967295  007\r\n\n 8 \n", b"1 2 3\n" * 5):
+        yield "lists", text, ["channel", "lamport", "3", schedule], text
+        yield "lists", text, ["channel", "fastforward", "3", schedule, "--finish"], text
+    sum_ = read("examples/sum.asm")
+    for text in (sum_, examples.FORMS, b"loop: addi x5,x5,-1\nbnez x5,loop\n"):
+        yield "assembly", text, ["asm"], text
+    yield "words", examples.WORDS, ["dis"], examples.WORDS
+    files = [str(ROOT / examples.SB), str(ROOT / examples.WITNESS)]
+    typed = "".join(f"{line}\n" for line in re.findall(
+        r"^> (.*)$", (ROOT / "docs/debugging.md").read_text(), re.MULTILINE)).encode()
+    for text in (examples.COMMANDS, typed):
+        yield "debugger lines", text, ["debug", *files], text
+
+
+NAMES = ["litmus", "schedules", "steps", "lists", "assembly", "words", "debugger lines"]
+
+
+def hold(runs, grammar, text, words, stdin):
+    """Holds the program against the reference on a text, which is a file where the words name it."""
+    if "text" in words:
+        runs.put({"text": text})
+        wanted = runs.compare(grammar, words, stdin or b"")
+    else:
+        wanted = runs.compare(grammar, words, text)
+    runs.came[f"{grammar} refused"] += wanted[0] == 2
+
+
+def count(runs, title):
+    for grammar in NAMES:
+        refused = runs.came.pop(f"{grammar} refused", 0)
+        runs.counts(f"{title}, {refused} of them refused", [grammar])
+
+
+def cut(runs):
+    for grammar, text, words, stdin in grammars():
+        step = 7 if runs.short else 1
+        for end in range(len(text), -1, -step):
+            hold(runs, grammar, text[:end], words, stdin)
+    count(runs, "cut texts")
+
+
+def changed(runs):
+    for grammar, text, words, stdin in grammars():
+        every = len(text) * len(TELLING)
+        most = DRAWN_SHORT if runs.short else DRAWN
+        drawn = range(every) if every <= most else runs.draw.sample(range(every), most)
+        for number in drawn:
+            at, byte = divmod(number, len(TELLING))
+            hold(runs, grammar, text[:at] + TELLING[byte:byte + 1] + text[at + 1:], words, stdin)
+    count(runs, "changed texts")
