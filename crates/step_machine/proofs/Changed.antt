@@ -24,7 +24,8 @@ not_yet f (x ∷ xs) [] (suc i) d = refl
 not_yet f (x ∷ xs) (y ∷ ys) zero d = refl
 not_yet f (x ∷ xs) (y ∷ ys) (suc i) d = not_yet f xs ys i d
 
-more_at : {X Y : Type 0} (f : X → Y → X) (xs : List X) (ys : List Y) (i : ℕ) (d : X) (e : Y) → i < length ys → set (changed_by f xs (take i ys)) i (f (get_or xs i d) (get_or ys i e)) ≡ changed_by f xs (take (suc i) ys)
+more_at : {X Y : Type 0} (f : X → Y → X) (xs : List X) (ys : List Y) (i : ℕ) (d : X) (e : Y) → i < length ys
+    → set (changed_by f xs (take i ys)) i (f (get_or xs i d) (get_or ys i e)) ≡ changed_by f xs (take (suc i) ys)
 more_at f xs [] i d e within = let none : ⊥ = omega arith in absurd none
 more_at f [] (y ∷ ys) zero d e within = refl
 more_at f [] (y ∷ ys) (suc i) d e within = refl
@@ -32,20 +33,25 @@ more_at f (x ∷ xs) (y ∷ ys) zero d e within = ap (λ zs. f x y ∷ zs) (sym 
 more_at f (x ∷ xs) (y ∷ ys) (suc i) d e within = ap (λ zs. f x y ∷ zs) (more_at f xs ys i d e (omega arith))
 
 -- a loop that changes each element
-pub changed_at : {X Y : Type 0} (f : X → Y → X) (xs zs : List X) (ys : List Y) (i : ℕ) (d : X) (e : Y) → i < length ys → zs ≡ changed_by f xs (take i ys) → set zs i (f (get_or zs i d) (get_or ys i e)) ≡ changed_by f xs (take (i + 1) ys)
+pub changed_at : {X Y : Type 0} (f : X → Y → X) (xs zs : List X) (ys : List Y) (i : ℕ) (d : X) (e : Y) → i < length ys → zs ≡ changed_by f xs (take i ys)
+    → set zs i (f (get_or zs i d) (get_or ys i e)) ≡ changed_by f xs (take (i + 1) ys)
 changed_at f xs zs ys i d e within is =
     let next : suc i ≡ i + 1 = omega arith in
     ap (λ ws. set ws i (f (get_or ws i d) (get_or ys i e))) is ∙ ap (λ z. set (changed_by f xs (take i ys)) i (f z (get_or ys i e))) (not_yet f xs ys i d)
     ∙ more_at f xs ys i d e within ∙ ap (λ n. changed_by f xs (take n ys)) next
 
-pub changed_more : {X Y : Type 0} (f : X → Y → X) (xs zs : List X) (ys : List Y) (i : ℕ) (x : X) (y : Y) → i < length ys → zs ≡ changed_by f xs (take i ys) → x ≡ get_or zs i x → y ≡ get_or ys i y → set zs i (f x y) ≡ changed_by f xs (take (i + 1) ys)
-changed_more f xs zs ys i x y within is x_is y_is = ap (λ z. set zs i (f z y)) x_is ∙ ap (λ z. set zs i (f (get_or zs i x) z)) y_is ∙ changed_at f xs zs ys i x y within is
+pub changed_more : {X Y : Type 0} (f : X → Y → X) (xs zs : List X) (ys : List Y) (i : ℕ) (x : X) (y : Y) → i < length ys → zs ≡ changed_by f xs (take i ys)
+    → x ≡ get_or zs i x → y ≡ get_or ys i y → set zs i (f x y) ≡ changed_by f xs (take (i + 1) ys)
+changed_more f xs zs ys i x y within is x_is y_is =
+    ap (λ z. set zs i (f z y)) x_is ∙ ap (λ z. set zs i (f (get_or zs i x) z)) y_is ∙ changed_at f xs zs ys i x y within is
 
 -- and it reads each element as it was
-pub still_at : {X Y : Type 0} (f : X → Y → X) (xs zs : List X) (ys : List Y) (i : ℕ) (x : X) → i < length xs → zs ≡ changed_by f xs (take i ys) → x ≡ get_or zs i x → slice_get xs i ≡ Some x
+pub still_at : {X Y : Type 0} (f : X → Y → X) (xs zs : List X) (ys : List Y) (i : ℕ) (x : X) → i < length xs → zs ≡ changed_by f xs (take i ys)
+    → x ≡ get_or zs i x → slice_get xs i ≡ Some x
 still_at f xs zs ys i x within is x_is = slice_get_read xs (length xs) i x refl within (x_is ∙ ap (λ ws. get_or ws i x) is ∙ not_yet f xs ys i x)
 
-pub changed_all : {X Y : Type 0} (f : X → Y → X) (xs zs : List X) (ys : List Y) (i : ℕ) → zs ≡ changed_by f xs (take i ys) → length ys ≡ i → zs ≡ changed_by f xs ys
+pub changed_all : {X Y : Type 0} (f : X → Y → X) (xs zs : List X) (ys : List Y) (i : ℕ) → zs ≡ changed_by f xs (take i ys) → length ys ≡ i
+    → zs ≡ changed_by f xs ys
 changed_all f xs zs ys i is all = is ∙ ap (λ n. changed_by f xs (take n ys)) (sym all) ∙ ap (changed_by f xs) (take-length ys)
 
 pub all_others : {X : Type 0} (xs ys : List X) → length ys ≡ length xs → changed_by (λ x y. y) xs ys ≡ ys
@@ -55,13 +61,16 @@ all_others (x ∷ xs) [] same = cc
 all_others (x ∷ xs) (y ∷ ys) same = ap (λ zs. y ∷ zs) (all_others xs ys (omega arith))
 
 -- what each change keeps, all of them keep
-pub kept_at : {X Y : Type 0} (f : X → Y → X) (P : X → Type 0) → ((x : X) (y : Y) → P x → P (f x y)) → (xs : List X) (ys : List Y) → ((h : ℕ) (v : X) → slice_get xs h ≡ Some v → P v) → (h : ℕ) (v : X) → slice_get (changed_by f xs ys) h ≡ Some v → P v
+pub kept_at : {X Y : Type 0} (f : X → Y → X) (P : X → Type 0) → ((x : X) (y : Y) → P x → P (f x y)) → (xs : List X) (ys : List Y)
+    → ((h : ℕ) (v : X) → slice_get xs h ≡ Some v → P v) → (h : ℕ) (v : X) → slice_get (changed_by f xs ys) h ≡ Some v → P v
 kept_at f P keeps [] ys all h v got = all h v got
 kept_at f P keeps (x ∷ xs) [] all h v got = all h v got
 kept_at f P keeps (x ∷ xs) (y ∷ ys) all zero v got = let v_is : f x y ≡ v = cc in subst P v_is (keeps x y (all zero x refl))
 kept_at f P keeps (x ∷ xs) (y ∷ ys) all (suc h) v got = kept_at f P keeps xs ys (λ k w is. all (suc k) w is) h v got
 
-pub all_kept : {X Y : Type 0} (f : X → Y → X) (P : X → Type 0) → ((x : X) (y : Y) → P x → P (f x y)) → (xs : List X) (ys : List Y) → All P xs → All P (changed_by f xs ys)
+pub all_kept : {X Y : Type 0} (f : X → Y → X) (P : X → Type 0) → ((x : X) (y : Y) → P x → P (f x y)) → (xs : List X) (ys : List Y) → All P xs
+    → All P (changed_by f xs ys)
 all_kept f P keeps [] ys all = all
 all_kept f P keeps (x ∷ xs) [] all = all
-all_kept f P keeps (x ∷ xs) (y ∷ ys) all = All-cons P (f x y) (changed_by f xs ys) (keeps x y (All-head P x xs all)) (all_kept f P keeps xs ys (All-tail P x xs all))
+all_kept f P keeps (x ∷ xs) (y ∷ ys) all =
+    All-cons P (f x y) (changed_by f xs ys) (keeps x y (All-head P x xs all)) (all_kept f P keeps xs ys (All-tail P x xs all))

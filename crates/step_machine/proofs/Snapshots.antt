@@ -26,7 +26,8 @@ use Rattle.step_machine.proofs.Follows.{state_after}
 use Rattle.step_machine.proofs.Sounds.{hart_at, sound_same}
 use Rattle.step_machine.proofs.States.{state_keeps}
 
-pub saved_at : (ws : List HartView) (ss : List SavedHart) (h : ℕ) (x : SavedHart) → AreSaved ws ss → slice_get ss h ≡ Some x → (w : HartView) × (slice_get ws h ≡ Some w) × IsSavedOf w x
+pub saved_at : (ws : List HartView) (ss : List SavedHart) (h : ℕ) (x : SavedHart) → AreSaved ws ss → slice_get ss h ≡ Some x
+    → (w : HartView) × (slice_get ws h ≡ Some w) × IsSavedOf w x
 saved_at [] [] h x are is = cc
 saved_at [] (y ∷ ss) h x are is = absurd are
 saved_at (w ∷ ws) [] h x are is = absurd are
@@ -39,14 +40,16 @@ length-saved [] (y ∷ ss) are = absurd are
 length-saved (w ∷ ws) [] are = absurd are
 length-saved (w ∷ ws) (y ∷ ss) are = ap suc (length-saved ws ss are.1)
 
-pub saved_next : (hs : List HartView) (ss : List SavedHart) (i : ℕ) (v : HartView) (x : SavedHart) → AreSaved (take i hs) ss → slice_get hs i ≡ Some v → IsSavedOf v x → AreSaved (take (suc i) hs) (ss ++ x ∷ [])
+pub saved_next : (hs : List HartView) (ss : List SavedHart) (i : ℕ) (v : HartView) (x : SavedHart) → AreSaved (take i hs) ss → slice_get hs i ≡ Some v
+    → IsSavedOf v x → AreSaved (take (suc i) hs) (ss ++ x ∷ [])
 saved_next [] ss i v x are is saved = cc
 saved_next (w ∷ hs) [] zero v x are is saved = let w_is : w ≡ v = cc in (subst (λ (y : HartView). IsSavedOf y x) (sym w_is) saved, tt)
 saved_next (w ∷ hs) (y ∷ ss) zero v x are is saved = absurd are
 saved_next (w ∷ hs) [] (suc i) v x are is saved = absurd are
 saved_next (w ∷ hs) (y ∷ ss) (suc i) v x are is saved = (are.0, saved_next hs ss i v x are.1 is saved)
 
-pub saved_more : (hs : List HartView) (ss rs : List SavedHart) (i : ℕ) (v : HartView) (x : SavedHart) → AreSaved (take i hs) ss → i < length hs → v ≡ get_or hs i v → IsSavedOf v x → rs ≡ ss ++ x ∷ [] → AreSaved (take (i + 1) hs) rs
+pub saved_more : (hs : List HartView) (ss rs : List SavedHart) (i : ℕ) (v : HartView) (x : SavedHart) → AreSaved (take i hs) ss → i < length hs
+    → v ≡ get_or hs i v → IsSavedOf v x → rs ≡ ss ++ x ∷ [] → AreSaved (take (i + 1) hs) rs
 saved_more hs ss rs i v x are within v_is saved more =
     let next : suc i ≡ i + 1 = omega arith in
     subst (AreSaved (take (i + 1) hs)) (sym more) (subst (λ (n : ℕ). AreSaved (take n hs) (ss ++ x ∷ [])) next (saved_next hs ss i v x are (slice_get_read hs (length hs) i v refl within v_is) saved))
@@ -54,9 +57,11 @@ saved_more hs ss rs i v x are within v_is saved more =
 -- ---- a hart has gone on since
 
 same_first : (so to : Option HartView) (v w : HartView) → option_map beginning so ≡ option_map beginning to → so ≡ Some v → to ≡ Some w → v.first ≡ w.first
-same_first so to v w same is_v is_w = let both : Some v.first ≡ Some w.first = sym (ap (option_map beginning) is_v) ∙ same ∙ ap (option_map beginning) is_w in cc
+same_first so to v w same is_v is_w =
+    let both : Some v.first ≡ Some w.first = sym (ap (option_map beginning) is_v) ∙ same ∙ ap (option_map beginning) is_w in cc
 
-same_code : (M k : ℕ) (t : History) (h : ℕ) (so : Option HartStart) (r s : HartState) → slice_get t.opening.harts h ≡ so → state_of M t h ≡ Some r → state_of M (up_to k t) h ≡ Some s → r.code ≡ s.code
+same_code : (M k : ℕ) (t : History) (h : ℕ) (so : Option HartStart) (r s : HartState) → slice_get t.opening.harts h ≡ so → state_of M t h ≡ Some r
+    → state_of M (up_to k t) h ≡ Some s → r.code ≡ s.code
 same_code M k t h None r s here is_r is_s = let none : None ≡ Some r = sym (ap (option_map (state_after M (own h t.entries))) here) ∙ is_r in cc
 same_code M k t h (Some o) r s here is_r is_s = (state_keeps M t h o r here is_r).code ∙ sym (state_keeps M (up_to k t) h o s here is_s).code
 
@@ -66,7 +71,8 @@ first_reports k es h rs qs all some =
     all ∙ ap (reported h) (sym (take-append-drop k es)) ∙ reported-append h (take k es) (drop k es) ∙ ap (λ ps. ps ++ reported h (drop k es)) (sym some) in
     ap (take (length qs)) whole ∙ take-append_seam qs (reported h (drop k es))
 
-gone_on : (B M n k : ℕ) (t : History) (c d : Config) → Sound B M t c n → Sound B M (up_to k t) d 0 → (h : ℕ) (v w : HartView) → slice_get c.harts h ≡ Some v → slice_get d.harts h ≡ Some w → HasGoneOn w v
+gone_on : (B M n k : ℕ) (t : History) (c d : Config) → Sound B M t c n → Sound B M (up_to k t) d 0 → (h : ℕ) (v w : HartView) → slice_get c.harts h ≡ Some v
+    → slice_get d.harts h ≡ Some w → HasGoneOn w v
 gone_on B M n k t c d now then h v w is_v is_w = record {
   first = same_first (slice_get c.harts h) (slice_get d.harts h) v w (now.tied.firsts h ∙ sym (then.tied.firsts h)) is_v is_w;
   code = same_code M k t h (slice_get t.opening.harts h) v.state w.state refl (sym (now.tied.states h) ∙ ap (option_map view_state) is_v) (sym (then.tied.states h) ∙ ap (option_map view_state) is_w);
@@ -76,7 +82,9 @@ gone_on B M n k t c d now then h v w is_v is_w = record {
 
 -- ---- harts put back
 
-same_restored : {X : Type 0} (f : HartView → X) (hs ws : List HartView) (ss : List SavedHart) → AreSaved ws ss → length hs ≡ length ws → ((h : ℕ) (v w : HartView) (x : SavedHart) → slice_get hs h ≡ Some v → slice_get ws h ≡ Some w → IsSavedOf w x → f (put_back v x) ≡ f w) → map f (restored_harts hs ss) ≡ map f ws
+same_restored : {X : Type 0} (f : HartView → X) (hs ws : List HartView) (ss : List SavedHart) → AreSaved ws ss → length hs ≡ length ws
+    → ((h : ℕ) (v w : HartView) (x : SavedHart) → slice_get hs h ≡ Some v → slice_get ws h ≡ Some w → IsSavedOf w x → f (put_back v x) ≡ f w)
+    → map f (restored_harts hs ss) ≡ map f ws
 same_restored f [] [] ss are count same = refl
 same_restored f [] (w ∷ ws) ss are count same = cc
 same_restored f (v ∷ hs) [] ss are count same = cc
@@ -90,13 +98,15 @@ same_seen v w x saved on =
     ap (λ (s : HartState). (s, (put_back v x).reports)) (state_again w v x saved on)
     ∙ ap (λ (rs : List Report). (w.state, rs)) (reports_again w v x saved on)
 
-same_stored : (s : Taken) (a b : Stored) → a.first ≡ b.first → s.buffers ≡ b.buffers → s.words ++ drop (length s.words) b.first ≡ b.words → restored_stored s.buffers s.words a ≡ b
+same_stored : (s : Taken) (a b : Stored) → a.first ≡ b.first → s.buffers ≡ b.buffers → s.words ++ drop (length s.words) b.first ≡ b.words
+    → restored_stored s.buffers s.words a ≡ b
 same_stored s a b first buffers words =
     ap (λ (f : List ℕ). record { buffers = s.buffers; words = s.words ++ drop (length s.words) f; first = f }) first
     ∙ ap (λ (bs : List (List Write)). record { buffers = bs; words = s.words ++ drop (length s.words) b.first; first = b.first }) buffers
     ∙ ap (λ (ws : List ℕ). record { buffers = b.buffers; words = ws; first = b.first }) words
 
-same_again : (B M n k : ℕ) (t : History) (c d : Config) (s : Taken) → Sound B M t c n → Sound B M (up_to k t) d 0 → IsSavedFrom M d s → SameButRoom d (restored_config s c)
+same_again : (B M n k : ℕ) (t : History) (c d : Config) (s : Taken) → Sound B M t c n → Sound B M (up_to k t) d 0 → IsSavedFrom M d s
+    → SameButRoom d (restored_config s c)
 same_again B M n k t c d s now then saved =
     let count : length c.harts ≡ length d.harts = now.count ∙ sym then.count in record {
       harts = same_restored without_room c.harts d.harts s.harts saved.harts count (λ h v w x is_v is_w of_w. same_seen v w x of_w (gone_on B M n k t c d now then h v w is_v is_w));
@@ -106,12 +116,15 @@ same_again B M n k t c d s now then saved =
 
 -- ---- the machine put back
 
-pub sound_back : (B M n : ℕ) (t : History) (c : Config) (s : Taken) → Sound B M t c n → IsTakenAt B M (up_to s.count t) s → Sound B M (up_to s.count t) (restored_config s c) n
+pub sound_back : (B M n : ℕ) (t : History) (c : Config) (s : Taken) → Sound B M t c n → IsTakenAt B M (up_to s.count t) s
+    → Sound B M (up_to s.count t) (restored_config s c) n
 sound_back B M n t c s now taken =
     sound_same B M 0 n (up_to s.count t) taken.held (restored_config s c) taken.stands (same_again B M n s.count t c taken.held s now taken.stands taken.saved)
     (kept_at put_back (λ v. n ≤ v.room) (λ v x room. room) c.harts s.harts now.room)
 
-pub sound_put_to : (B M n : ℕ) (o : Start) (es fs : List Entry) (c d : Config) (s : Taken) → Sound B M (record { opening = o; entries = es }) c n → IsTakenAt B M (up_to s.count (record { opening = o; entries = es })) s → fs ≡ take s.count es → d ≡ restored_config s c → Sound B M (record { opening = o; entries = fs }) d n
+pub sound_put_to : (B M n : ℕ) (o : Start) (es fs : List Entry) (c d : Config) (s : Taken) → Sound B M (record { opening = o; entries = es }) c n
+    → IsTakenAt B M (up_to s.count (record { opening = o; entries = es })) s → fs ≡ take s.count es → d ≡ restored_config s c
+    → Sound B M (record { opening = o; entries = fs }) d n
 sound_put_to B M n o es fs c d s now taken cut is =
     subst (λ (xs : List Entry). Sound B M (record { opening = o; entries = xs }) d n) (sym cut)
     (subst (λ (k : Config). Sound B M (up_to s.count (record { opening = o; entries = es })) k n) (sym is) (sound_back B M n (record { opening = o; entries = es }) c s now taken))
@@ -137,7 +150,8 @@ within_back B M n t c s now taken = record {
       reports_within v of_w.0 x of_w.2 (gone_on B M n s.count t c taken.held now taken.stands h v of_w.0 is_v of_w.1));
 }
 
-pub buffers_back : (B M n : ℕ) (t : History) (c : Config) (s : Taken) → Sound B M t c n → IsTakenAt B M (up_to s.count t) s → length s.buffers ≡ length c.stored.buffers
+pub buffers_back : (B M n : ℕ) (t : History) (c : Config) (s : Taken) → Sound B M t c n → IsTakenAt B M (up_to s.count t) s
+    → length s.buffers ≡ length c.stored.buffers
 buffers_back B M n t c s now taken = ap length taken.saved.buffers ∙ taken.stands.fit.buffers ∙ taken.stands.count ∙ sym now.count ∙ sym now.fit.buffers
 
 pub pending_back : (B M : ℕ) (t : History) (s : Taken) → IsTakenAt B M t s → All (λ (ps : List Write). All (HasAddress M) ps) s.buffers
@@ -145,7 +159,8 @@ pending_back B M t s taken = subst (All (λ (ps : List Write). All (HasAddress M
 
 -- what is put back fits
 
-pub fit_stored_back : (M : ℕ) (bs : List (List Write)) (ws : List ℕ) (s : Stored) → FitStored M s → length ws ≤ M → All (λ (ps : List Write). All (HasAddress M) ps) bs → FitStored M (restored_stored bs ws s)
+pub fit_stored_back : (M : ℕ) (bs : List (List Write)) (ws : List ℕ) (s : Stored) → FitStored M s → length ws ≤ M
+    → All (λ (ps : List Write). All (HasAddress M) ps) bs → FitStored M (restored_stored bs ws s)
 fit_stored_back M bs ws s fit few pending = record {
   words = (let joined : length (ws ++ drop (length ws) s.first) ≡ length ws + length (drop (length ws) s.first) = length-append ws (drop (length ws) s.first) in
       let left : length (drop (length ws) s.first) ≡ length s.first - length ws = length-drop (length ws) s.first in
@@ -155,7 +170,8 @@ fit_stored_back M bs ws s fit few pending = record {
   pending = pending;
 }
 
-pub fit_back : (M : ℕ) (c : Config) (s : Taken) → Fit M c → length s.buffers ≡ length c.stored.buffers → length s.words ≤ M → All (λ (ps : List Write). All (HasAddress M) ps) s.buffers → Fit M (restored_config s c)
+pub fit_back : (M : ℕ) (c : Config) (s : Taken) → Fit M c → length s.buffers ≡ length c.stored.buffers → length s.words ≤ M
+    → All (λ (ps : List Write). All (HasAddress M) ps) s.buffers → Fit M (restored_config s c)
 fit_back M c s fit count few pending = record {
   buffers = count ∙ fit.buffers ∙ sym (length-changed put_back c.harts s.harts);
   harts = all_kept put_back (λ v. v.state.words ≡ M) (λ v x is. is) c.harts s.harts fit.harts;

@@ -13,7 +13,8 @@ pub loop-index-init : goal.loop-index-init
 loop-index-init c = sym (by_none put_back c.args.harts.now)
 
 -- the hart that is put back, as it was
-here : (hs gs : List HartView) (ss : List SavedHart) (i : ℕ) (x : HartView) → i < length hs → gs ≡ restored_harts hs (take i ss) → x ≡ get_or gs i x → slice_get hs i ≡ Some (get_or gs i x)
+here : (hs gs : List HartView) (ss : List SavedHart) (i : ℕ) (x : HartView) → i < length hs → gs ≡ restored_harts hs (take i ss) → x ≡ get_or gs i x
+    → slice_get hs i ≡ Some (get_or gs i x)
 here hs gs ss i x inside is x_is = still_at put_back hs gs ss i (get_or gs i x) inside is (ap (get_or gs i) x_is)
 
 pub restore-requires-clause-given : goal.restore-requires-clause-given
@@ -35,4 +36,5 @@ loop-index-preserved c =
     ∙ changed_at put_back c.args.harts.now c.loop-index.harts c.args.saved.now c.loop-index.index c.index-harts-index.result _ within c.loop-index.invariant
 
 pub returns : goal.returns
-returns c = changed_all put_back c.args.harts.now c.loop-index.harts c.args.saved.now c.loop-index.index c.loop-index.invariant (omega (arith, c.loop-index-test.false, c.loop-index.auto.index-end, c.requires.count))
+returns c =
+    changed_all put_back c.args.harts.now c.loop-index.harts c.args.saved.now c.loop-index.index c.loop-index.invariant (omega (arith, c.loop-index-test.false, c.loop-index.auto.index-end, c.requires.count))
