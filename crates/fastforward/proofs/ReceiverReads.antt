@@ -69,7 +69,7 @@ module _ (k : Block) (n : Numbers) (word : ℕ → ℕ) (order : Ordered k n) (w
           last_made (k.base + 12) 1 (2 * length k.list) (omega (arith, all, one, nulls_all, order.tails_nulls, order.done_one)) (omega (arith, all, pending, nulls_all, order.nulls_landed, order.tails_landed)) (store_done k.size k.base k.list (2 * length k.list) refl)
           ∙ (let same : 1 ≡ n.receiver.done = omega (arith, order.done_one, one) in same)
 
-  -- a null before that of word c, less than a round, goes to another slot
+  -- a null before that of the next word, less than a round, goes to another slot
   elsewhere : IsBlock k → (t : ℕ) (x : ℕ × ℕ) → t < 2 * n.receiver.tails → ((s : ℕ) → t ≡ 2 * s → n.receiver.tails < s + k.size) → (x.0 ≡ k.base + 8) ⊎ (((x.0 ≡ k.base + 12) × (t ≡ 2 * length k.list)) ⊎ ((s : ℕ) × (t ≡ 2 * s) × (x.0 ≡ slot k.size k.base s))) → x.0 ≢ slot k.size k.base n.receiver.tails
   elsewhere is t x below near (inl tail) same = omega arith
   elsewhere is t x below near (inr (inl done)) same = omega (arith, done.0)
@@ -78,7 +78,7 @@ module _ (k : Block) (n : Numbers) (word : ℕ → ℕ) (order : Ordered k n) (w
   slot_in_memory : IsBlock k → n.receiver.nulls ≡ n.receiver.tails → n.receiver.done ≡ 0 → n.receiver.tails < n.landed.nulls + k.size → found_in (unread_of k n.receiver n.landed) word (slot k.size k.base n.receiver.tails) ≡ word (slot k.size k.base n.receiver.tails)
   slot_in_memory is level on near = in_memory (slot k.size k.base n.receiver.tails) (λ t x from below got. elsewhere is t x (omega (arith, below, level, on)) (λ s twice. omega (arith, from, twice, near, order.null_before)) (place_at k.size k.base k.list t x got))
 
-  -- where each null has its tail: word c if it has landed, else 0
+  -- where each null has its tail: the next word if it has landed, else 0
   pub seen_word : IsBlock k → n.receiver.nulls ≡ n.receiver.tails → n.receiver.done ≡ 0 → n.receiver.tails < n.landed.slots → found_in (unread_of k n.receiver n.landed) word (slot k.size k.base n.receiver.tails) ≡ slice_index k.list n.receiver.tails
   seen_word is level on more = slot_in_memory is level on (omega (arith, more, order.slots_landed, order.room)) ∙ words.full n.receiver.tails (omega (arith, level, order.nulls_landed)) more
 

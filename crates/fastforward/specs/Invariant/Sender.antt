@@ -12,7 +12,7 @@ pub record Between (k : Block) (n : Sent) : Type 0 where
   pub taken : n.asked ≡ n.stored
   pub unmarked : n.marked ≡ 0
 
--- it holds word p, which it has not stored
+-- it holds the next word, which it has not stored
 pub record Holds (k : Block) (n : Sent) (x5 x10 : ℕ) : Type 0 where
   pub taken : n.asked ≡ n.stored + 1
   pub unmarked : n.marked ≡ 0
@@ -25,7 +25,7 @@ pub record Asked (k : Block) (n : Sent) (x5 x10 x11 : ℕ) : Type 0 where
   pub index : x5 ≡ offset k n.stored
   pub answer : ((x11 ≡ 1) × (n.asked ≡ n.stored + 1) × (n.stored < length k.list) × (x10 ≡ slice_index k.list n.stored)) ⊎ ((x11 ≡ 0) × (n.asked ≡ n.stored) × (n.stored ≡ length k.list))
 
--- slot p is free: it has seen the null of the word that stood there before
+-- the next word's slot is free: it has seen the null of the word that stood there before
 abbrev pub Free : Block → Sent → Type 0
 Free k n = n.stored + 1 ≤ n.seen + k.size
 

@@ -7,13 +7,13 @@ use Rattle.poll_close.specs.Invariant.Outlines.{Outline, row}
 use Rattle.lamport_ring.specs.Listing.{sender_code}
 use Rattle.lamport_ring.specs.Invariant.Numbers.{Sent}
 
--- between two words: g taken, all of them stored, with their heads, and no mark
+-- between two words: all that it asked for are stored, with their heads, and no mark
 pub record Between (k : Block) (n : Sent) : Type 0 where
   pub taken : n.asked ≡ n.stored
   pub heads : n.headed ≡ n.stored
   pub unmarked : n.marked ≡ 0
 
--- it holds word p, which it has not stored
+-- it holds the next word, which it has not stored
 pub record Holds (k : Block) (n : Sent) (x5 x10 : ℕ) : Type 0 where
   pub taken : n.asked ≡ n.stored + 1
   pub heads : n.headed ≡ n.stored
@@ -33,7 +33,7 @@ pub record HasRead (k : Block) (n : Sent) (x7 : ℕ) : Type 0 where
   pub near : n.stored + 1 ≤ n.seen + k.size
   pub is : x7 ≡ offset k n.seen
 
--- the slot after slot p is free too: it has seen so many tails
+-- the slot after the next word's is free too: it has seen enough tails
 abbrev pub Room : Block → Sent → Type 0
 Room k n = n.stored + 2 ≤ n.seen + k.size
 

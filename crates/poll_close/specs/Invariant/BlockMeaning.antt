@@ -1,4 +1,4 @@
--- What a ring says of one block, and the receiver's outline: a row for each line, with how far it is from its
+-- What a ring defines for one block, and the receiver's outline: a row for each line, with how far it is from its
 -- next report, and what holds there of the block that it visits.
 use Rattle.std.proofs.Common.{ℕ, ◌+◌, ◌*◌, ◌≡◌, ◌⊎◌, ◌==◌, Bool, ◌&&◌, if◌then◌else◌, List, [], ◌∷◌, length}
 use Rattle.std.specs.Prelude.{slice_index}
@@ -9,9 +9,9 @@ use Rattle.poll_close.specs.Invariant.Blocks.{Block, offset}
 use Rattle.poll_close.specs.Invariant.Outlines.{Row, Outline, HoldsIn, rank_in, left_of}
 use Rattle.poll_close.specs.Invariant.ReceiverState.{Middle, Noted}
 
--- the receiver's way from a line to its next report: so many steps; so many to the end of the block, and the rest
--- of the round; so many to the end of the round, and a whole one; or, where this visit may find nothing though
--- a word is there by now, the second of these, else the first
+-- the receiver's way from a line to its next report: n steps (Near); n to the end of this block, then the rest of
+-- the round (Round); n to the end of the round, then a whole one (Over). A Visit may find nothing though a word is
+-- there by now: then it is a Round, else a Near
 pub data Way : Type 0 where
   Near : ℕ → Way
   Round : ℕ → Way
