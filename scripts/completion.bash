@@ -9,7 +9,7 @@ _ztso() {
     run) options='--buffer' ;;
     replay) options='--buffer' ;;
     debug) options='--buffer' ;;
-    try) options='--buffer --seed --runs --length' ;;
+    try) options='--buffer --seed --runs --length --skip --jobs' ;;
     threads) options='--buffer --turns' ;;
     channel) options='--buffer --finish' ;;
     steps) options='--buffer' ;;
