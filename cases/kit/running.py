@@ -139,20 +139,30 @@ def run_in(program, case, inside, variables):
 
 
 def without_memory(program, case, folder, refuser, first, step):
-    """What is wrong with the program's answers where one allocation of the case is refused: each is
-    that there is no memory, or the case's own answer where the program can do without. The refused
-    ones are the first-th and every step-th behind it; None tells that all is as it should be."""
+    """What is wrong with the program's answers where an allocation of the case is refused, alone or with all later
+    ones: each is that there is no memory, or the case's own answer where the program can do without. The refused
+    ones are the first-th and every step-th after it; None tells that all is as it should be."""
     if refuser is None:
         return "cc can't compile what refuses an allocation"
-    own = case.answer()
     seen = Path(folder, f"seen-{os.getpid()}")
     for number in range(first, ALLOCATIONS + 1, step):
-        variables = {"LD_PRELOAD": str(refuser), "REFUSED_ALLOCATION": str(number),
-                     "REFUSAL_SEEN": str(seen)}
-        answer = run(program, case, folder, variables)
-        if not seen.exists():
-            return None if number > 1 else "no allocation was refused"
-        seen.unlink()
-        if answer not in (NO_MEMORY, own):
-            return f"with allocation {number} refused: status {answer[0]}, {answer[1]}"
+        for later in "01":
+            variables = {"LD_PRELOAD": str(refuser), "REFUSED_ALLOCATION": str(number), "REFUSED_LATER": later,
+                         "REFUSAL_SEEN": str(seen)}
+            answer = run(program, case, folder, variables)
+            if not seen.exists():
+                return None if number > 1 else "no allocation was refused"
+            seen.unlink()
+            if not is_answer_without_memory(case, answer):
+                others = " and all later ones" if later == "1" else ""
+                return f"with allocation {number}{others} refused: status {answer[0]}, {answer[1]}"
     return f"more than {ALLOCATIONS} allocations"
+
+
+def is_answer_without_memory(case, answer):
+    """Whether it is the case's own answer, or that there is no memory, which the debugger says after what it has
+    answered."""
+    own = case.answer()
+    if case.words[:1] == [b"debug"] and answer[:2] == NO_MEMORY[:2]:
+        return own[2].startswith(answer[2])
+    return answer in (NO_MEMORY, own)

@@ -43,9 +43,9 @@ def failed_reads(runs, words, stdin):
     if reads_stdin(words):
         done = subprocess.run(["/bin/bash", "-c", 'exec "$0" "$@" <&-', runs.program, *words], capture_output=True)
         came = done.returncode, done.stderr, done.stdout
-        # a debugger whose commands are closed has none
-        wanted = (0, b"", b"") if words[0] == "debug" else READ_FAILED
-        runs.hold("read failed", came == wanted, brief(came), words, note="< closed")
+        # a debugger whose commands are closed may have none
+        right = came == READ_FAILED or words[0] == "debug" and came == (0, b"", b"")
+        runs.hold("read failed", right, brief(came), words, note="<&-")
         with open(os.devnull, "wb") as only_written:
             came = runs.run(words, stdin=only_written)
         runs.hold("read failed", came == READ_FAILED, brief(came), words, note="< a stream that can't be read")

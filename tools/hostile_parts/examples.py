@@ -77,22 +77,32 @@ steps a1*3 l63
 
 
 def sessions():
-    """The command lines of the pages that run the program, each with the files that the page shows before it."""
+    """The command lines of the pages that run the program: each with the files that the page shows before it, and
+    standard error and output as the page has them."""
     for page in PAGES:
         for _, number, lines in pages.blocks(page.read_text()):
             files = {}
             for command, _, answer in pages.commands(number, lines):
+                while command.count("'") % 2:
+                    command += "\n" + answer.pop(0)
                 shown = re.fullmatch(r"cat (\S+)", command)
                 made = re.fullmatch(r"echo '([^']*)' > (\S+)", command)
                 if shown:
-                    files[shown[1]] = "".join(f"{line}\n" for line in answer).encode()
+                    files[shown[1]] = text_of(answer)
                 elif made:
                     files[made[2]] = f"{made[1]}\n".encode()
-                elif "./ztso" in command:
-                    yield command, files
-    page = (ROOT / "docs/debugging.md").read_text()
-    typed = "".join(f"{line}\n" for line in re.findall(r"^> (.*)$", page, re.MULTILINE)).encode()
-    yield f"./ztso debug {SB} {WITNESS} < typed", {"typed": typed}
+                elif "./ztso" in command and not command.startswith("./ztso debug"):
+                    faults = [line for line in answer if line.startswith("ztso: ")]
+                    yield command, files, (text_of(faults), text_of(line for line in answer if line not in faults))
+    blocks = pages.blocks((ROOT / "docs/debugging.md").read_text())
+    lines = [line for _, _, lines in blocks for line in lines if not line.startswith("$ ")]
+    typed = text_of(line[2:] for line in lines if line.startswith("> "))
+    told = text_of(line for line in lines if not line.startswith("> "))
+    yield f"./ztso debug {SB} {WITNESS} < typed", {"typed": typed}, (b"", told)
+
+
+def text_of(lines):
+    return "".join(f"{line}\n" for line in lines).encode()
 
 
 def kinds():

@@ -59,19 +59,22 @@ def part(runs):
         runs.hold("own answers", False, "cc can't compile what refuses an allocation", [])
         return
     commands = 0
-    told = list({(command, *files.values()): (command, files) for command, files in examples.sessions()}.values())
-    for command, files in told[::6] if runs.short else told:
+    told = list({(command, *files.values()): (command, files, page) for command, files, page in examples.sessions()}.values())
+    for command, files, page in told[1::7] if runs.short else told:
         if "ulimit" in command:
             continue
         runs.put(files)
         words = command.partition("./ztso ")[2].split()
         own = answer_of_shell(runs, command, {})
         # what threads do is another thing each time, except where their test is refused
-        own = None if words[0] == "threads" and own[0] in (0, 1) else own
+        if words[0] == "threads" and own[0] in (0, 1):
+            own = None
+        else:
+            runs.hold("own answers", own[1:] == page, f"{brief(own)}, but the page has {page}", words, note=command)
         refusals(runs, refuser, lambda variables: answer_of_shell(runs, command, variables), own, words)
         commands += 1
     told = list(examples.kinds())
-    for words, stdin, files in told[::5] if runs.short else told:
+    for words, stdin, files in told[1::6] if runs.short else told:
         runs.put(files)
         own = None if words[0] == "threads" else runs.compare("own answers", words, stdin)
         refusals(runs, refuser, lambda variables: runs.run(words, stdin, variables), own, words, stdin)

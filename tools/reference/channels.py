@@ -6,8 +6,10 @@ from pathlib import Path
 
 import assembly
 import litmus
+from digits import of_digits
 from faults import at_line, refused
 from machine import MEMORY, RUNNING, Machine, word_at
+from words import lines
 
 PAGE = Path(__file__).resolve().parent.parent.parent / "docs/channels.md"
 LINE, ZERO_WORD, NO_SENDERS, TOO_MANY, TOO_SMALL, NO_ROOM = 34, 16, 17, 18, 19, 20
@@ -18,15 +20,12 @@ SENDERS = 63
 
 def lists(text):
     """A list for each line of decimal words, parted by spaces."""
-    lines = text.split("\n")
-    if not lines[-1]:
-        lines.pop()
     told = []
-    for number, line in enumerate(lines, 1):
-        words = line.removesuffix("\r").split(" ")
-        if not all(re.fullmatch("[0-9]*", word) and int(word or 0) < 1 << 32 for word in words):
+    for number, line in enumerate(lines(text), 1):
+        words = line.split(" ")
+        if not all(re.fullmatch("[0-9]*", word) and of_digits(word) < 1 << 32 for word in words):
             raise at_line(LINE, number)
-        told.append(tuple(int(word) for word in words if word))
+        told.append(tuple(of_digits(word) for word in words if word))
     return told
 
 
