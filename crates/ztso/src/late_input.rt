@@ -8,7 +8,8 @@ use std::rt::Files;
 use std::{fs, io};
 
 /// An input as a reader. It is opened at the first read, so what is never read is never touched, and a
-/// file that can't be opened is a failed read.
+/// file that can't be opened is a failed read. A file is closed at its end: where standard input is closed
+/// the file has its descriptor, and a later read of standard input must not find the file.
 #[derive(Drop)]
 pub struct LateInput<'a, R: Files + StandardInput> {
     rt: &'a R,
@@ -20,6 +21,7 @@ pub struct LateInput<'a, R: Files + StandardInput> {
 enum Opened<R: Files + StandardInput> {
     Standard(R::Reader),
     File(R::File),
+    Ended,
 }
 
 impl<'a, R: Files + StandardInput> LateInput<'a, R> {
@@ -47,8 +49,14 @@ impl<'a, R: Files + StandardInput> Read for LateInput<'a, R> {
         }
         match &mut self.opened {
             Some(Opened::Standard(reader)) => reader.read(buf),
-            Some(Opened::File(file)) => file.read(buf),
-            None => Ok(0),
+            Some(Opened::File(file)) => {
+                let count = file.read(buf)?;
+                if count == 0 && !buf.is_empty() {
+                    self.opened = Some(Opened::Ended);
+                }
+                Ok(count)
+            }
+            Some(Opened::Ended) | None => Ok(0),
         }
     }
 }
