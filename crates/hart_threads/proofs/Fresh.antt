@@ -1,14 +1,13 @@
 -- The seats of an opening, which have done nothing: what running them says of a record.
-use Rattle.std.proofs.Common.{◌⊎◌, inl, inr, ◌≡◌, ℕ, zero, suc, ◌+◌, ◌<◌, ◌≤◌, true, false, List, [], ◌∷◌, ◌++◌, length, None, refl, sym, ◌∙◌, ap, subst, arith}
-use Rattle.std.specs.Prelude.{All, option_map}
-use Rattle.std.specs.List.{slice_get, Contains}
+use Rattle.std.proofs.Common.{◌⊎◌, inl, inr, ◌≡◌, ℕ, zero, suc, ◌<◌, ◌≤◌, List, [], ◌∷◌, ◌++◌, length, refl, sym, ◌∙◌, ap, subst, arith}
+use Rattle.std.specs.Prelude.{All}
+use Rattle.std.specs.List.{Contains}
 use Rattle.std.proofs.lemmas.Bool.{cases_lt}
-use Rattle.std.proofs.lemmas.List.Elements.{All-nil, All-cons, All-append, All-contains, Contains-append_left, Contains-append_right, Contains-push}
+use Rattle.std.proofs.lemmas.List.Elements.{All-nil, All-cons, All-append, All-contains, Contains-append_left, Contains-append_right}
 use Rattle.step_machine.specs.declared.events.Entry.{Entry}
 use Rattle.step_machine.specs.History.{Start, History}
-use Rattle.step_machine.specs.Entries.{own}
 use Rattle.hart_threads.specs.Seats.{SeatView, acting_seat, landing_seat, seats_below, seats_of}
-use Rattle.hart_threads.specs.Parts.{landings, part_of}
+use Rattle.hart_threads.specs.Parts.{part_of}
 use Rattle.hart_threads.specs.GettingOn.{OpensAs, AtMost}
 use Rattle.hart_threads.specs.Returns.{GrowsInto, IsMerged}
 

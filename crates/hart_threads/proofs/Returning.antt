@@ -1,14 +1,14 @@
 -- What threads made of the seats that were given, and how far each hart got in the record.
-use Rattle.std.proofs.Common.{◌⊎◌, inl, inr, ◌≡◌, ℕ, ◌+◌, ◌<◌, ◌≤◌, Bool, true, refl, List, ◌++◌, length, Option, Some, None, sym, ◌∙◌, ap, subst, arith}
+use Rattle.std.proofs.Common.{◌⊎◌, inl, inr, ◌≡◌, ℕ, ◌<◌, ◌≤◌, Bool, true, refl, List, length, Option, Some, None, sym, ◌∙◌, ap, subst, arith}
 use Rattle.std.specs.Prelude.{map, All, IsSomeAnd, option_map, if◌then◌else◌}
-use Rattle.std.specs.List.{AllZip, Contains, slice_get}
+use Rattle.std.specs.List.{AllZip, slice_get}
 use Rattle.std.proofs.lemmas.List.Elements.{All-map, All-contains}
 use Rattle.hart.specs.State.{HartState}
 use Rattle.step_machine.specs.declared.events.Entry.{Entry}
 use Rattle.step_machine.specs.History.{HartStart, Start, History}
 use Rattle.step_machine.specs.Entries.{own}
-use Rattle.step_machine.specs.Paths.{after_entries, opens_as, state_of}
-use Rattle.hart_threads.specs.Seats.{SeatView, state_in}
+use Rattle.step_machine.specs.Paths.{after_entries, opens_as}
+use Rattle.hart_threads.specs.Seats.{SeatView}
 use Rattle.hart_threads.specs.Missing.{IsComplete}
 use Rattle.hart_threads.specs.Parts.{Fits, Merge, IsLeast, landings}
 use Rattle.hart_threads.specs.GettingOn.{GetsOn, AllGetOn, OpensAs}

@@ -1,5 +1,5 @@
 -- The texts of outcomes: what is read of words, against what they tell, and what is written, read again.
-use Rattle.std.proofs.Common.{◌≡◌, ◌↔◌, inl, inr, ℕ, ◌^◌, ◌<◌, ◌==◌, Bool, true, false, cond, ◌&&◌, List, [], ◌∷◌, length, map, suc, Option, Some, None, Ok, refl, sym, ap, subst, ◌∙◌, arith}
+use Rattle.std.proofs.Common.{◌≡◌, ◌↔◌, inl, inr, ℕ, ◌<◌, ◌==◌, Bool, true, false, cond, ◌&&◌, List, [], ◌∷◌, length, map, suc, Option, Some, None, refl, sym, ap, subst, ◌∙◌, arith}
 use Rattle.std.specs.Prelude.{codes, Decides, if◌then◌else◌}
 use Rattle.std.specs.Fmt.{decimal}
 use Rattle.std.specs.Str.{bytes_eq}
@@ -23,7 +23,7 @@ use Rattle.recorder.specs.declared.faults.AtByte.{AtByte}
 use Rattle.recorder.specs.declared.faults.ScheduleFault.TheVariants.{BadOutcome}
 use Rattle.recorder.specs.Schedule.{hart_of}
 use Rattle.recorder.specs.Reading.{at_byte}
-use Rattle.recorder.specs.Outcomes.{Told, did, stop_of, stopped, outcome_rows, may_have, told_for, TellOutcome, entry_row, outcome_row, outcome_text, IsWidth, Word, Fits, OutcomeFits, CanBeTold, entry_key, outcome_key, is_same_outcome}
+use Rattle.recorder.specs.Outcomes.{Told, stop_of, stopped, outcome_rows, may_have, told_for, TellOutcome, entry_row, outcome_row, outcome_text, IsWidth, Word, Fits, OutcomeFits, CanBeTold, entry_key, outcome_key, is_same_outcome}
 
 -- no two rows of the table are filled by the same words
 rows_apart : are_apart outcome_rows ≡ true

@@ -11,7 +11,7 @@ use Rattle.step_machine.specs.declared.events.Entry.TheVariants as entry
 use Rattle.step_machine.specs.declared.events.Outcome.{Outcome}
 use Rattle.step_machine.specs.declared.events.Outcome.TheVariants.{Did, Waited, NothingToLand, Over, NoHart}
 use Rattle.step_machine.specs.Entries.{is_land}
-use Rattle.texts.specs.Rows.{Row, fixed, any, IsRowOf, rows_at, Written, plain, number, row_text}
+use Rattle.texts.specs.Rows.{Row, fixed, any, IsRowOf, Written, plain, number, row_text}
 use Rattle.recorder.specs.Schedule.{hart_of}
 
 -- ---- the writing

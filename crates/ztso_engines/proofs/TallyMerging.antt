@@ -1,5 +1,5 @@
 -- Runs after runs: their schedules, and the tally of them all from the tallies of the two parts.
-use Rattle.std.proofs.Common.{◌≡◌, ℕ, zero, suc, ◌+◌, ◌*◌, Bool, cond, ◌||◌, not, List, [], ◌∷◌, ◌++◌, length, map, find, count_by, Option, Some, None, option_map, refl, sym, ap, ◌∙◌, arith, append-nil, append_assoc, subst, ◌-◌, ◌≤◌, ◌<◌, ◌/◌, rules, length-append}
+use Rattle.std.proofs.Common.{◌≡◌, ℕ, zero, suc, ◌+◌, ◌*◌, Bool, cond, ◌||◌, not, List, [], ◌∷◌, ◌++◌, length, map, find, count_by, Option, Some, None, option_map, refl, sym, ap, ◌∙◌, arith, append-nil, append_assoc, subst, ◌-◌, ◌≤◌, ◌<◌, rules}
 use Rattle.std.specs.List.{list_any, range_with_len}
 use Rattle.std.specs.Option.{option_or}
 use Rattle.std.specs.Prelude.{IfSome, IfOk, Result, Ok, slice_index_or}
@@ -16,7 +16,7 @@ use Rattle.step_machine.specs.declared.events.Event.{Event}
 use Rattle.recorder.specs.Drawing.{left_after, drawn, words}
 use Rattle.ztso_engines.specs.declared.trials.tally.Tally.{Tally}
 use Rattle.ztso_engines.specs.Trials.{Trial, IsTrial, schedule_drawn, AreTrials, is_finished, is_holds, is_fails, gave}
-use Rattle.ztso_engines.specs.Outcomes.{schedule_text, unfinished}
+use Rattle.ztso_engines.specs.Outcomes.{schedule_text}
 use Rattle.ztso_engines.specs.inner.Tallies.{Counted, counted_of, seen_of, IsTallyOf}
 use Rattle.ztso_engines.specs.inner.Merging.{counted_both, first_of, AreRunsFrom, AreTalliesFrom, IsTallyFrom, Merges, Source}
 use Rattle.ztso_engines.proofs.TrialLaws.{left_after-sum, no_trials}

@@ -1,5 +1,5 @@
 -- Instruction words in hex.
-use Rattle.std.specs.Prelude.{ℕ, List, [], ◌∷◌, Result, Ok}
+use Rattle.std.specs.Prelude.{ℕ, List, Result}
 use Rattle.texts.specs.Numbers.{hex_word_of}
 use Rattle.texts.specs.Formats.{each}
 use Rattle.ztso_engines.specs.LineFaults.{or_bad}

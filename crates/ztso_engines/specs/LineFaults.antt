@@ -1,5 +1,5 @@
 -- Faults of a line: the numbers of their refusals, and the refusals of the input.
-use Rattle.std.specs.Prelude.{ℕ, Option, None, Some, Result, Ok, Err}
+use Rattle.std.specs.Prelude.{ℕ, Option, Result}
 use Rattle.texts.specs.Results.{map_err}
 use Rattle.texts.specs.Formats.{or_fault}
 use Rattle.texts.specs.declared.errors.TextError.{TextError}

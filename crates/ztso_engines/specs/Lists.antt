@@ -1,5 +1,5 @@
 -- Lists of words, a line each: the input of `channel`.
-use Rattle.std.specs.Prelude.{ℕ, ◌+◌, nat_lt, List, [], ◌∷◌, length, Result, Ok}
+use Rattle.std.specs.Prelude.{ℕ, nat_lt, List, length, Result}
 use Rattle.std.specs.List.{AllZip, filter}
 use Rattle.std.specs.Str.Lines.{lines}
 use Rattle.texts.specs.Numbers.{word_of}

@@ -1,6 +1,5 @@
 -- What a thread makes of its seat, and how it ends.
-use Rattle.std.specs.Prelude.{ℕ, zero, ◌≡◌, ◌+◌, ◌≤◌, ◌⊎◌, true, List, ◌++◌, length, IsSomeAnd, Result, Ok, Err, Option, Some, None}
-use Rattle.std.specs.List.{AllZip}
+use Rattle.std.specs.Prelude.{ℕ, ◌≡◌, ◌+◌, ◌≤◌, ◌⊎◌, true, List, ◌++◌, length, IsSomeAnd, Result, Ok, Err, Option, Some, None}
 use Rattle.hart.specs.Steps.{need_of}
 use Rattle.hart.specs.declared.status.Status.TheVariants as status
 use Rattle.step_machine.specs.Banks.{is_over}

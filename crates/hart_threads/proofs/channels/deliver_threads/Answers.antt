@@ -1,5 +1,5 @@
 -- A channel that opens is one that the machine takes, and a record of it is one of its runs.
-use Rattle.std.proofs.Common.{◌≡◌, ℕ, List, length, lit<, sym, ap, subst, ◌∙◌}
+use Rattle.std.proofs.Common.{◌≡◌, ℕ, List, lit<, sym, ap, subst, ◌∙◌}
 use Rattle.std.proofs.lemmas.Result.{err_from_is_err_and}
 use Rattle.std.specs.Prelude.{map}
 use Rattle.hart.specs.declared.need.Report.{Report}
@@ -11,7 +11,6 @@ use Rattle.hart_threads.specs.declared.fault.Fault.{Fault}
 use Rattle.hart_threads.specs.Seats.{SeatView, seats_of}
 use Rattle.hart_threads.specs.Records.{IsRecord}
 use Rattle.hart_threads.specs.Returns.{Fails}
-use Rattle.hart_threads.specs.declared.record.Record.{Record}
 use Rattle.hart_threads.proofs.Fresh.{fresh_opens, fresh_few}
 use Rattle.hart_threads.proofs.channels.deliver_threads.Goals as goal
 

@@ -1,12 +1,10 @@
 -- What is known of the seats that come back, and so of the record, by those that were given.
-use Rattle.std.proofs.Common.{◌≡◌, ◌⊎◌, inr, ℕ, true, List, length, subst, sym, ◌∙◌}
-use Rattle.std.specs.Prelude.{All}
+use Rattle.std.proofs.Common.{◌≡◌, inr, ℕ, List, length, subst, sym}
 use Rattle.std.specs.List.{AllZip}
 use Rattle.std.proofs.lemmas.Result.{err_from_is_err_and}
 use Rattle.hart_threads.specs.Seats.{SeatView}
 use Rattle.hart_threads.specs.Missing.{IsComplete}
-use Rattle.hart_threads.specs.Parts.{Merge, IsLeast}
-use Rattle.hart_threads.specs.declared.turns.Ending.TheVariants as ending
+use Rattle.hart_threads.specs.Parts.{Merge}
 use Rattle.hart_threads.specs.inner.Threads.{Continues, Ran}
 use Rattle.hart_threads.proofs.Coming.{none_is_first, merged_from, fails_from}
 use Rattle.hart_threads.proofs.Returning.{came, all_get_on, lost_within}

@@ -1,6 +1,6 @@
 use Rattle.std.proofs.Common.{rules, ◌≡◌, ◌+◌, ◌*◌, ap, ◌∙◌, arith, ℕ}
 use Rattle.rand_core.specs.Steps.{stream_of, steps_u32}
-use Rattle.rand_pcg.specs.Lcg.{Lcg, advance}
+use Rattle.rand_pcg.specs.Lcg.{advance}
 use Rattle.rand_pcg.specs.Pcg.{multiplier_64, pcg32}
 use Rattle.jumping.proofs.Jumps.{stream_ahead, advance_again, advance_none}
 use Rattle.jumping.proofs.Lcg64Xsh32Jump.ahead.Goals as goal

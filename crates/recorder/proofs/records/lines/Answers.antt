@@ -1,5 +1,4 @@
-use Rattle.std.proofs.Common.{◌++◌, [], sym, ap, ◌∙◌, arith}
-use Rattle.std.specs.List.{flat_map}
+use Rattle.std.proofs.Common.{sym, ◌∙◌, arith}
 use Rattle.std.specs.String.{string_bytes}
 use Rattle.texts.proofs.RunLaws.{write-start, turn-same, turn-other, turns-end}
 use Rattle.recorder.specs.Records.{is_same_step, record_line}

@@ -1,5 +1,3 @@
-use Rattle.std.proofs.Common.{◌≡◌, length, take}
-use Rattle.std.proofs.lemmas.List.{take_all}
 use Rattle.recorder.proofs.RunRecords.{events_more}
 use Rattle.recorder.proofs.versions.events_of.Goals as goal
 

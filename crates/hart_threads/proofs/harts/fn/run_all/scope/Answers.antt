@@ -1,4 +1,4 @@
-use Rattle.std.proofs.Common.{◌≡◌, ◌≤◌, List, subst, arith}
+use Rattle.std.proofs.Common.{◌≡◌, List, subst, arith}
 use Rattle.std.specs.List.{AllZip}
 use Rattle.hart_threads.specs.Seats.{SeatView}
 use Rattle.hart_threads.specs.inner.Threads.{Ran}
