@@ -68,6 +68,7 @@ def part(runs):
         own = answer_of_shell(runs, command, {})
         # what threads do is another thing each time, except where their test is refused
         if words[0] == "threads" and own[0] in (0, 1):
+            runs.hold("own answers", runs.is_answer_of_threads(words, own), brief(own), words)
             own = None
         else:
             runs.hold("own answers", own[1:] == page, f"{brief(own)}, but the page has {page}", words, note=command)
@@ -77,6 +78,9 @@ def part(runs):
     for words, stdin, files in told[1::6] if runs.short else told:
         runs.put(files)
         own = None if words[0] == "threads" else runs.compare("own answers", words, stdin)
+        if own is None:
+            came = runs.run(words)
+            runs.hold("own answers", runs.is_answer_of_threads(words, came), brief(came), words)
         refusals(runs, refuser, lambda variables: runs.run(words, stdin, variables), own, words, stdin)
         commands += 1
     runs.counts(f"memory, {commands} commands, each allocation refused alone and with all later ones", KINDS)

@@ -22,7 +22,7 @@ def grammars():
     for name, test in (("litmus/sb.0-0", "litmus/sb"), ("examples/message-passing", "examples/message-passing")):
         yield "schedules", read(f"{name}.schedule"), ["replay", str(ROOT / f"{test}.litmus"), "text"], None
     yield "schedules", read("examples/two-senders.schedule"), ["channel", "lamport", "3", "text"], examples.LISTS
-    yield "schedules", b"ztso-schedule 1\r\na0*1048570\ta1 l063*03\r\nl1\n", ["channel", "fastforward", "3", "text"], b"7\n"
+    yield "schedules", b"ztso-schedule 1\r\na0*1000\ta1 l063*03\r\nl1\n", ["channel", "fastforward", "3", "text"], b"7\n"
     for text in (read("examples/store-buffering.steps"), examples.STEPS):
         yield "steps", text, ["steps"], text
     schedule = str(ROOT / "examples/two-senders.schedule")

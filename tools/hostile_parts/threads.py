@@ -66,6 +66,8 @@ def part(runs):
     os.chmod("sb-copy.litmus", 0o644)
     step, wide_step = (2 * MIB, 64) if runs.short else (256 * KIB, 8)
     for words, harts in ((["threads", "sb-copy.litmus"], 2), (["threads", "wide.litmus", "--turns", "50"], 64)):
+        came = runs.run(words)
+        runs.hold("own answers", runs.is_answer_of_threads(words, came), brief(came), words)
         if os.geteuid() == 0:
             few_processes(runs, program, words, min(2 * harts + 4, 24 if runs.short else 200))
         little_room(runs, program, words, range(2 * MIB, 64 * MIB, step * (2 if harts > 2 else 1)))
