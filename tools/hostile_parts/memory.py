@@ -59,7 +59,8 @@ def part(runs):
         runs.hold("own answers", False, "cc can't compile what refuses an allocation", [])
         return
     commands = 0
-    told = list({(command, *files.values()): (command, files, page) for command, files, page in examples.sessions()}.values())
+    # some stand on two pages
+    told = list({(row[0], *row[1].values()): row for row in examples.sessions()}.values())
     for command, files, page in told[1::7] if runs.short else told:
         if "ulimit" in command:
             continue

@@ -32,7 +32,7 @@ def judged(runs, words, came, begins):
         return "no thread", True
     if came == NO_MEMORY:
         return "no memory", True
-    if not begins and came[0] in (127, -9, -11):
+    if not begins and came[0] == 127:
         return "didn't begin", True
     return "own answers", runs.is_answer_of_threads(words, came)
 
@@ -46,7 +46,7 @@ def few_processes(runs, program, words, most):
 
 
 def little_room(runs, program, words, sizes):
-    """An address space of so many bytes. Where it has none for the program itself, that doesn't begin."""
+    """An address space of so many bytes. Where the C library has no room, the program doesn't begin."""
     for size in sizes:
         begins = answer(runs, program, ["dis"], resource.RLIMIT_AS, size)[0] == 0
         came = answer(runs, program, words, resource.RLIMIT_AS, size)
