@@ -27,9 +27,9 @@ def reads_stdin(words):
     return words[0] in ("steps", "asm", "dis", "channel", "debug")
 
 
-def feed(path, content):
-    """Opens a FIFO and writes to it a byte at a time."""
-    with open(path, "wb", buffering=0) as file:
+def feed(where, content):
+    """Writes to a pipe, or to a FIFO that it opens, a byte at a time."""
+    with open(where, "wb", buffering=0) as file:
         for byte in content:
             try:
                 file.write(bytes([byte]))
@@ -109,22 +109,24 @@ def limited_file(runs, words, stdin, own):
 
 
 def byte_by_byte(runs, words, stdin, own):
-    """Standard input, and each file in turn, from a FIFO that gives a byte at a time."""
-    def held(words, content, given):
-        feeder = threading.Thread(target=feed, args=(FIFO, content))
+    """Standard input from a pipe, and each file in turn from a FIFO, that give a byte at a time."""
+    def held(words, where, content, given):
+        feeder = threading.Thread(target=feed, args=(where, content))
         feeder.start()
         came = runs.run(words, given)
+        # where the program didn't open the FIFO, the feeder waits for someone who does
+        opened = os.open(FIFO, os.O_RDONLY | os.O_NONBLOCK)
         feeder.join()
+        os.close(opened)
         runs.hold("byte by byte", came == own, brief(came), words, stdin)
 
     if reads_stdin(words):
-        opened = os.open(FIFO, os.O_RDONLY | os.O_NONBLOCK)
-        os.set_blocking(opened, True)
-        held(words, stdin, opened)
-        os.close(opened)
+        given, taken = os.pipe()
+        held(words, taken, stdin, given)
+        os.close(given)
     for at, word in enumerate(words):
         if word.endswith((".litmus", ".schedule")):
-            held([*words[:at], FIFO, *words[at + 1:]], Path(word).read_bytes(), stdin)
+            held([*words[:at], FIFO, *words[at + 1:]], FIFO, Path(word).read_bytes(), stdin)
 
 
 def closed_error(runs, words, stdin):

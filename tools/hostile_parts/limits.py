@@ -1,4 +1,5 @@
-"""Inputs at the limits and one past them. What is wanted is told here and, where the reference has the command, by it."""
+"""Inputs at the limits and one past them. The wanted answer stands here, and the reference, except of `threads`, must
+give it too."""
 
 from . import ROOT
 from .runs import BAD_COMMAND_LINE, refused
@@ -59,8 +60,10 @@ def inputs():
             (b"hart\nsteps a0*1048576", None), (b"hart\nsteps a0*1048576\nsteps\n", None),
             (b"hart\nsteps a0*1048576\nsteps a0\n", refused(30, " at line 3")),
             (b"hart\nsteps a0*1048576 l0\n", refused(30, " at line 2")),
-            (b"hart\nreg 0 31 4294967295\nword 16380 4294967295", None), (b"hart\nreg 0 32 1", refused(34, " at line 2")),
-            (b"hart\nreg 0 5 4294967296", refused(34, " at line 2")), (b"hart\nword 16384 1", refused(34, " at line 2"))]:
+            (b"hart\nreg 0 31 4294967295\nword 16380 4294967295", None),
+            (b"hart\nreg 0 32 1", refused(34, " at line 2")),
+            (b"hart\nreg 0 5 4294967296", refused(34, " at line 2")),
+            (b"hart\nword 16384 1", refused(34, " at line 2"))]:
         yield ["steps"], text, wanted
     for text, wanted in [(b"nop\n" * CODE, None), (b"nop\n" * CODE + b"end:#", None),
                          (b"nop\n" * (CODE + 1), refused(7, f" at line {CODE + 1}")),
@@ -80,7 +83,8 @@ def channels(runs):
     for kind, least in LEAST.items():
         for senders, wanted in ((1, None), (63, None), (64, refused(18))):
             yield ["channel", kind, "2", "schedule"], b"7\n" * senders, wanted
-        for slots, wanted in ((least, None), (least - 1, refused(19)), (2**32 - 1, refused(20)), (2**32, BAD_COMMAND_LINE)):
+        for slots, wanted in ((least, None), (least - 1, refused(19)), (2**32 - 1, refused(20)),
+                              (2**32, BAD_COMMAND_LINE)):
             yield ["channel", kind, str(slots), "schedule"], b"7\n", wanted
         for senders in (1, 2, 31, 62, 63) if runs.short else range(1, 64):
             most = (16384 // senders - 16) // 4

@@ -80,8 +80,8 @@ def machine_loads(runs, count):
 
 
 def channel_load(runs, count):
-    """63 senders with lists of many words, through the smallest and the largest rings that fit, with a plan and without:
-    the reports are clean by the definition of tools/drawn-channels."""
+    """63 senders with lists of many words, through the smallest and the largest rings that fit, with a plan and
+    without: the reports are clean by the definition of tools/drawn-channels."""
     lists = [[runs.draw.randrange(1, 1 << 32) for _ in range(200)] for _ in range(63)]
     stdin = b"".join(b" ".join(b"%d" % word for word in words) + b"\n" for words in lists)
     drawn, left = [], count
@@ -100,15 +100,14 @@ def channel_load(runs, count):
             why = why or flags and DRAWN["unfinished"](lists, before, reports)
             before = reports
             runs.hold("channel", came[:2] == (0, b"") and not why, f"{brief(came)}: {why}", words + flags)
-            print(f"  {' '.join(words[:3] + flags)}: {seconds:.1f} s, peak {peak / 2**20:.0f} MiB, {len(reports)} reports",
-                  flush=True)
+            print(f"  {' '.join(words[:3] + flags)}: {seconds:.1f} s, peak {peak / 2**20:.0f} MiB, "
+                  f"{len(reports)} reports", flush=True)
 
 
 def session(runs, count, backs):
-    """A session of so many events, gone back in it so often, and then to its end. What is left of the events is known
-    without a machine; the last state is that of their run."""
-    test = Path("litmus/n6.litmus").read_text()
-    text = test.replace("{", "{\n", 1)
+    """A session of `count` events that goes back `backs` times. How many events are left each time is known without a
+    machine; the last state is that of their run."""
+    text = Path("litmus/n6.litmus").read_text()
     drawn = events(runs, 2, count)
     runs.put({"long.litmus": text.encode(), "long.schedule": b"ztso-schedule 1\n" + drawn})
     done, told, typed = count, [], ["g"]
@@ -134,7 +133,8 @@ def session(runs, count, backs):
     last = came[2].decode().endswith(state_text(state).partition("word")[0])
     right = came[:2] == (0, b"") and numbers == told and last
     runs.hold("debug", right, f"{came[:2]}, {numbers[:8]}, wanted {told[:8]}", words)
-    print(f"  debug of {count} events, gone back {backs} times: {seconds:.1f} s, peak {peak / 2**20:.0f} MiB", flush=True)
+    print(f"  debug of {count} events, gone back {backs} times: {seconds:.1f} s, peak {peak / 2**20:.0f} MiB",
+          flush=True)
 
 
 def part(runs):

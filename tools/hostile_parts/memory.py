@@ -59,7 +59,8 @@ def part(runs):
         runs.hold("own answers", False, "cc can't compile what refuses an allocation", [])
         return
     commands = 0
-    told = list({(command, *files.values()): (command, files, page) for command, files, page in examples.sessions()}.values())
+    # some stand on two pages
+    told = list({(row[0], *row[1].values()): row for row in examples.sessions()}.values())
     for command, files, page in told[1::7] if runs.short else told:
         if "ulimit" in command:
             continue
@@ -68,6 +69,7 @@ def part(runs):
         own = answer_of_shell(runs, command, {})
         # what threads do is another thing each time, except where their test is refused
         if words[0] == "threads" and own[0] in (0, 1):
+            runs.hold("own answers", runs.is_answer_of_threads(words, own), brief(own), words)
             own = None
         else:
             runs.hold("own answers", own[1:] == page, f"{brief(own)}, but the page has {page}", words, note=command)
@@ -77,6 +79,9 @@ def part(runs):
     for words, stdin, files in told[1::6] if runs.short else told:
         runs.put(files)
         own = None if words[0] == "threads" else runs.compare("own answers", words, stdin)
+        if own is None:
+            came = runs.run(words)
+            runs.hold("own answers", runs.is_answer_of_threads(words, came), brief(came), words)
         refusals(runs, refuser, lambda variables: runs.run(words, stdin, variables), own, words, stdin)
         commands += 1
     runs.counts(f"memory, {commands} commands, each allocation refused alone and with all later ones", KINDS)

@@ -14,15 +14,16 @@ def read(name):
 
 
 def grammars():
-    """The texts of each grammar: a name, a text, the command that reads it, standard input and files around it, and
-    whether the text is a file `text` or standard input."""
+    """The texts of each grammar: its name, a text, the words of a command that reads it, and standard input. The words
+    name the text's file `text` where it isn't standard input."""
     for name in ("litmus/sb", "litmus/ticket", "litmus/n6", "examples/message-passing"):
         witness = sorted(ROOT.glob(f"{name}*.schedule"))[0]
         yield "litmus", read(f"{name}.litmus"), ["run", "text", str(witness)], None
     for name, test in (("litmus/sb.0-0", "litmus/sb"), ("examples/message-passing", "examples/message-passing")):
         yield "schedules", read(f"{name}.schedule"), ["replay", str(ROOT / f"{test}.litmus"), "text"], None
     yield "schedules", read("examples/two-senders.schedule"), ["channel", "lamport", "3", "text"], examples.LISTS
-    yield "schedules", b"ztso-schedule 1\r\na0*1048570\ta1 l063*03\r\nl1\n", ["channel", "fastforward", "3", "text"], b"7\n"
+    text = b"ztso-schedule 1\r\na0*1000\ta1 l063*03\r\nl1\n"
+    yield "schedules", text, ["channel", "fastforward", "3", "text"], b"7\n"
     for text in (read("examples/store-buffering.steps"), examples.STEPS):
         yield "steps", text, ["steps"], text
     schedule = str(ROOT / "examples/two-senders.schedule")

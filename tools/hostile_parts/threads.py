@@ -32,7 +32,7 @@ def judged(runs, words, came, begins):
         return "no thread", True
     if came == NO_MEMORY:
         return "no memory", True
-    if not begins and came[0] in (127, -9, -11):
+    if not begins and came[0] == 127:
         return "didn't begin", True
     return "own answers", runs.is_answer_of_threads(words, came)
 
@@ -46,7 +46,7 @@ def few_processes(runs, program, words, most):
 
 
 def little_room(runs, program, words, sizes):
-    """An address space of so many bytes. Where it has none for the program itself, that doesn't begin."""
+    """An address space of so many bytes. Where the C library has no room, the program doesn't begin."""
     for size in sizes:
         begins = answer(runs, program, ["dis"], resource.RLIMIT_AS, size)[0] == 0
         came = answer(runs, program, words, resource.RLIMIT_AS, size)
@@ -66,6 +66,8 @@ def part(runs):
     os.chmod("sb-copy.litmus", 0o644)
     step, wide_step = (2 * MIB, 64) if runs.short else (256 * KIB, 8)
     for words, harts in ((["threads", "sb-copy.litmus"], 2), (["threads", "wide.litmus", "--turns", "50"], 64)):
+        came = runs.run(words)
+        runs.hold("own answers", runs.is_answer_of_threads(words, came), brief(came), words)
         if os.geteuid() == 0:
             few_processes(runs, program, words, min(2 * harts + 4, 24 if runs.short else 200))
         little_room(runs, program, words, range(2 * MIB, 64 * MIB, step * (2 if harts > 2 else 1)))
