@@ -1,11 +1,11 @@
 -- An engine's end as the job's.
 use Rattle.std.proofs.Common.{◌≡◌, ℕ, List, refl}
 use Rattle.std.specs.Prelude.{Option, Result, Ok, Err}
-use Rattle.ztso_engines.specs.declared.fault.Fault.{Fault}
-use Rattle.ztso_engines.specs.declared.fault.Fault.TheVariants.{ReadFailed, WriteFailed, NoMemory, Refused}
-use Rattle.ztso_engines.specs.declared.fault.Refusal.{Refusal}
-use Rattle.ztso_engines.specs.Engines.{Ends}
-use Rattle.ztso_engines.specs.Talks.{EndsAloud}
+use Rattle.engine_parts.specs.declared.fault.Fault.{Fault}
+use Rattle.engine_parts.specs.declared.fault.Fault.TheVariants.{ReadFailed, WriteFailed, NoMemory, Refused}
+use Rattle.engine_parts.specs.declared.fault.Refusal.{Refusal}
+use Rattle.engine_parts.specs.Engines.{Ends}
+use Rattle.debugger.specs.Talks.{EndsAloud}
 use Rattle.ztso.specs.Work.{WithStatus, ended_with}
 
 answered : {V W : Type 0} (status : V → ℕ) (IsAnswer : Result (List ℕ × V) Refusal → Type 0) (r : Result V Fault) (contents : W → Option (List ℕ)) (old new : W)

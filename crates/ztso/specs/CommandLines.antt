@@ -3,7 +3,7 @@ use Rattle.std.specs.Prelude.{◌≡◌, ◌⊎◌, Bool, List, [], ◌∷◌, O
 use Rattle.std.specs.Str.{bytes_eq}
 use Rattle.clap.specs.Words.{Kinds, Row, Text, fault_of, first_of, subcommand_of}
 use Rattle.recorder.specs.declared.reading.TheConstants.{MAX_EVENTS}
-use Rattle.ztso_engines.specs.declared.fault.Fault.TheVariants.{NoMemory}
+use Rattle.engine_parts.specs.declared.fault.Fault.TheVariants.{NoMemory}
 use Rattle.ztso.specs.declared.failure.Failure.{Failure}
 use Rattle.ztso.specs.declared.failure.Failure.TheVariants.{BadCommandLine, Engine}
 use Rattle.ztso.specs.declared.job.Capacity.{Capacity}

@@ -2,8 +2,8 @@
 use Rattle.std.specs.Prelude.{ℕ, ◌≡◌, ◌⊎◌}
 use Rattle.ztso.specs.declared.failure.Failure.{Failure}
 use Rattle.ztso.specs.declared.failure.Failure.TheVariants.{BadCommandLine, Engine}
-use Rattle.ztso_engines.specs.declared.fault.Fault.TheVariants.{NoMemory}
-use Rattle.ztso_engines.specs.Faults.{status_of as fault_status_of}
+use Rattle.engine_parts.specs.declared.fault.Fault.TheVariants.{NoMemory}
+use Rattle.engine_parts.specs.Faults.{status_of as fault_status_of}
 
 -- the exit status of a program that fails
 abbrev pub status_of : Failure → ℕ

@@ -7,18 +7,18 @@ use Rattle.rand_pcg.specs.Pcg.{pcg32, pcg32_of_seed}
 use Rattle.recorder.specs.Drawing.{left_after}
 use Rattle.litmus.specs.declared.verdict.Verdict.{Verdict}
 use Rattle.litmus.specs.declared.verdict.Verdict.TheVariants.{Holds, Fails, Unfinished}
-use Rattle.ztso_engines.specs.declared.fault.Fault.{Fault}
-use Rattle.ztso_engines.specs.declared.fault.Refusal.{Refusal}
-use Rattle.ztso_engines.specs.Engines.{AnswersBoth, Ends, OfInput}
+use Rattle.engine_parts.specs.declared.fault.Fault.{Fault}
+use Rattle.engine_parts.specs.declared.fault.Refusal.{Refusal}
+use Rattle.engine_parts.specs.Engines.{AnswersBoth, Ends, OfInput}
 use Rattle.ztso_engines.specs.Asm.{IsAsmAnswer}
 use Rattle.ztso_engines.specs.Dis.{IsDisAnswer}
 use Rattle.ztso_engines.specs.Steps.{IsStepsAnswer}
-use Rattle.ztso_engines.specs.Tests.{HasNoTest}
+use Rattle.engine_parts.specs.Tests.{HasNoTest}
 use Rattle.ztso_engines.specs.Run.{IsRunAnswer}
 use Rattle.ztso_engines.specs.Replay.{IsReplayAnswer}
-use Rattle.ztso_engines.specs.Talks.{EndsAloud, IsDebugAnswer}
-use Rattle.ztso_engines.specs.Outcomes.{IsTryAnswer}
-use Rattle.ztso_engines.specs.Schedules.{HasNoSchedule}
+use Rattle.debugger.specs.Talks.{EndsAloud, IsDebugAnswer}
+use Rattle.tries.specs.Outcomes.{IsTryAnswer}
+use Rattle.engine_parts.specs.Schedules.{HasNoSchedule}
 use Rattle.ztso_engines.specs.Channels.{IsChannelAnswer}
 use Rattle.ztso_engines.specs.Threads.{IsThreadsAnswer}
 use Rattle.poll_close.specs.Laws.{Ring as RingTables}

@@ -15,7 +15,7 @@ use numbers::{count_of, number_of};
 use recorder::MAX_EVENTS;
 use std::alloc::Global;
 use std::convert::AsStr;
-use ztso_engines::trials::Runs;
+use tries::trials::Runs;
 
 mod description;
 mod numbers;

@@ -7,13 +7,13 @@ ghost use Rattle.std.specs.IoError.{error_kind};
 ghost use Rattle.std.specs.declared.io.ErrorKind.TheVariants as io_kind;
 ghost use Rattle.ztso.specs.Failures.{IsFailureFor, status_of};
 ghost use Rattle.ztso.specs.declared.failure.Failure.TheVariants.{Engine};
-ghost use Rattle.ztso_engines.specs.declared.fault.Fault.TheVariants.{NoMemory};
+ghost use Rattle.engine_parts.specs.declared.fault.Fault.TheVariants.{NoMemory};
 
 use clap::error::ErrorKind;
+use engine_parts::fault::Fault;
 use std::alloc::AllocError;
 use std::io;
 use thiserror::Error;
-use ztso_engines::fault::Fault;
 
 /// Why the program ends without having done a job. Its text is what stands after `ztso: ` on
 /// standard error.

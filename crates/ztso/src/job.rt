@@ -1,6 +1,6 @@
 //! What a command line can ask for.
 
-use ztso_engines::trials::Runs;
+use tries::trials::Runs;
 
 /// How many stores a hart's buffer holds.
 #[derive(Clone, Copy)]

@@ -6,16 +6,17 @@ use Rattle.poll_close.specs.Laws.{Ring}
 use Rattle.poll_close.specs.Refusals.{Refuses}
 use Rattle.poll_close.specs.declared.faults.Refused.{Refused as Why}
 use Rattle.poll_close.specs.declared.faults.Refused.TheVariants as why
-use Rattle.ztso_engines.specs.declared.fault.Fault.{Fault}
-use Rattle.ztso_engines.specs.declared.fault.Fault.TheVariants.{ReadFailed, WriteFailed, NoMemory, Refused}
-use Rattle.ztso_engines.specs.declared.fault.Refusal.{Refusal}
-use Rattle.ztso_engines.specs.Engines.{Output, OfInput, AnswersBoth}
-use Rattle.ztso_engines.specs.Schedules.{IsNoSchedule}
+use Rattle.engine_parts.specs.declared.fault.Fault.{Fault}
+use Rattle.engine_parts.specs.declared.fault.Fault.TheVariants.{ReadFailed, WriteFailed, NoMemory, Refused}
+use Rattle.engine_parts.specs.declared.fault.Refusal.{Refusal}
+use Rattle.engine_parts.specs.Engines.{Output, OfInput, AnswersBoth}
+use Rattle.engine_parts.specs.Schedules.{IsNoSchedule}
 use Rattle.ztso_engines.specs.Channels.{fault_from, HasNoChannel, IsDelivery, IsChannelAnswer}
 use Rattle.ztso_engines.specs.Channels.IsChannelAnswer.{no_schedule, no_lists, no_channel, delivered}
-use Rattle.ztso_engines.specs.inner.Making.{Finds, FindsBy}
-use Rattle.ztso_engines.specs.inner.Inputs.{IsReadAsSchedule, IsReadAsLists}
-use Rattle.ztso_engines.proofs.Endings.{weaker}
+use Rattle.engine_parts.specs.inner.Making.{Finds, FindsBy}
+use Rattle.engine_parts.specs.inner.Inputs.{IsReadAsSchedule}
+use Rattle.ztso_engines.specs.inner.Inputs.{IsReadAsLists}
+use Rattle.engine_parts.proofs.Endings.{weaker}
 
 module _ (ring : Ring) (B M size : ℕ) (finish : Bool) (first second : Option (List ℕ)) where
   abbrev Answers : Result Output Refusal → Type 0

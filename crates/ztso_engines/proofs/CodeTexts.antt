@@ -5,14 +5,14 @@ use Rattle.std.specs.Str.Lines.{lines}
 use Rattle.texts.specs.Numbers.{IsHexWord}
 use Rattle.texts.proofs.ResultLaws.{bind_ok, ok_is}
 use Rattle.assembler.specs.Drafts.{onto}
-use Rattle.ztso_engines.specs.declared.fault.Refusal.{Refusal}
+use Rattle.engine_parts.specs.declared.fault.Refusal.{Refusal}
 use Rattle.texts.specs.Cutting.{tokens}
-use Rattle.ztso_engines.specs.LineFaults.{at_line}
+use Rattle.engine_parts.specs.LineFaults.{at_line}
 use Rattle.ztso_engines.specs.Code.{code_at}
 use Rattle.ztso_engines.specs.Dis.{SaysCode, code_of_lines, dis_at}
 use Rattle.texts.proofs.FormatLaws.{settled_found, settled_only}
 use Rattle.ztso_engines.proofs.NumberWords.{code_settles}
-use Rattle.ztso_engines.proofs.LineFaulted.{at_line_ok}
+use Rattle.engine_parts.proofs.LineFaulted.{at_line_ok}
 
 -- ---- two lists, element by element, in front of two others
 

@@ -21,7 +21,7 @@ use Rattle.ztso_engines.specs.declared.steps.line.Keyword.TheVariants as keyword
 use Rattle.texts.specs.Cutting.{tokens, first_cut}
 use Rattle.ztso_engines.specs.Scenario.{Scenario, Statement, hart, reg, word, steps, fresh, register_set, with_statement, MayCome}
 use Rattle.ztso_engines.specs.StepsText.{LineSays}
-use Rattle.ztso_engines.specs.LineFaults.{bad_line}
+use Rattle.engine_parts.specs.LineFaults.{bad_line}
 use Rattle.ztso_engines.specs.Code.{code_at}
 use Rattle.ztso_engines.specs.StepsReading.{two_numbers, three_numbers, with_hart, with_register, with_word, with_steps, numbered, keyword_named, by_keyword, by_cut, after_line}
 use Rattle.texts.proofs.TokenLaws.{tokens_cut, tokens_uncut, tokens_first, tokens_none}

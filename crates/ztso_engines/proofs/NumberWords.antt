@@ -6,7 +6,7 @@ use Rattle.texts.specs.Results.{◌>>=◌}
 use Rattle.texts.specs.Formats.{Settles}
 use Rattle.texts.proofs.FormatLaws.{settles_as, settles_then, settles_ok, settles_word, settles_each, settles_hex_word}
 use Rattle.texts.proofs.ResultLaws.{ok_is}
-use Rattle.ztso_engines.specs.LineFaults.{bad_line, or_bad}
+use Rattle.engine_parts.specs.LineFaults.{bad_line, or_bad}
 use Rattle.ztso_engines.specs.Code.{code_at}
 use Rattle.ztso_engines.specs.StepsReading.{number_at, with_no_more, two_numbers, three_numbers}
 

@@ -34,39 +34,39 @@ use Rattle.litmus_reader.specs.Faults.{fault_number}
 use Rattle.litmus_reader.specs.Grammar.{IsTestOf}
 use Rattle.litmus_reader.specs.Reading.{Content, content_of, test_at}
 use Rattle.litmus_reader.proofs.TestGrammar.{one_test, read_exactly}
-use Rattle.ztso_engines.specs.declared.fault.Fault.TheVariants as fault
-use Rattle.ztso_engines.specs.declared.fault.Position.{Position}
-use Rattle.ztso_engines.specs.declared.fault.Position.TheVariants.{Line, Nowhere, Word}
-use Rattle.ztso_engines.specs.declared.fault.Refusal.{Refusal}
-use Rattle.ztso_engines.specs.Engines.{Output, Accepted, AreAlike, AreOneAnswer, judged}
-use Rattle.ztso_engines.specs.Faults.{too_large, not_text}
-use Rattle.ztso_engines.specs.Tests.{ByTest, IsNoTest, refused_test, test_of}
-use Rattle.ztso_engines.specs.Tests as tests
-use Rattle.ztso_engines.specs.Schedules.{IsNoSchedule, events_of}
+use Rattle.engine_parts.specs.declared.fault.Fault.TheVariants as fault
+use Rattle.engine_parts.specs.declared.fault.Position.{Position}
+use Rattle.engine_parts.specs.declared.fault.Position.TheVariants.{Line, Nowhere, Word}
+use Rattle.engine_parts.specs.declared.fault.Refusal.{Refusal}
+use Rattle.engine_parts.specs.Engines.{Output, Accepted, AreAlike, AreOneAnswer, judged}
+use Rattle.engine_parts.specs.Faults.{too_large, not_text}
+use Rattle.engine_parts.specs.Tests.{ByTest, IsNoTest, refused_test, test_of}
+use Rattle.engine_parts.specs.Tests as tests
+use Rattle.engine_parts.specs.Schedules.{IsNoSchedule, events_of}
 use Rattle.ztso_engines.specs.Asm.{IsAsmAnswer, asm_at, hex_line, refused_program}
 use Rattle.ztso_engines.specs.Scenario.{Scenario, opening_of}
 use Rattle.ztso_engines.specs.StepsText.{Tells}
 use Rattle.ztso_engines.specs.StepsReading.{script_at}
-use Rattle.ztso_engines.specs.StateText.{shown}
+use Rattle.engine_parts.specs.StateText.{shown}
 use Rattle.ztso_engines.specs.Steps.{IsStateText, IsStepsAnswer}
 use Rattle.ztso_engines.specs.Dis.{SaysCode, dis_at, instr_line, IsDisAnswer}
 use Rattle.recorder.specs.Outcomes.{entry_line}
-use Rattle.ztso_engines.specs.Histories.{ByBoth, IsOfRun}
-use Rattle.ztso_engines.specs.Histories as histories
+use Rattle.engine_parts.specs.Histories.{ByBoth, IsOfRun}
+use Rattle.engine_parts.specs.Histories as histories
 use Rattle.ztso_engines.specs.Run.{IsJudged, IsRunAnswer, verdict_line}
 use Rattle.ztso_engines.specs.Replay.{IsReplay, IsReplayAnswer}
-use Rattle.ztso_engines.specs.Talks.{IsDebugAnswer, IsTalk}
-use Rattle.ztso_engines.specs.Outcomes.{IsTriedOf, IsTryAnswer}
+use Rattle.debugger.specs.Talks.{IsDebugAnswer, IsTalk}
+use Rattle.tries.specs.Outcomes.{IsTriedOf, IsTryAnswer}
 use Rattle.ztso_engines.specs.Lists.{SaysLists, lists_at}
 use Rattle.ztso_engines.specs.Channels.{IsChannelAnswer, IsDelivery, IsNoLists, report_line, fault_from}
 use Rattle.ztso_engines.specs.Channels as channels
-use Rattle.ztso_engines.proofs.Judging.{accepted_judged, judged_text}
+use Rattle.engine_parts.proofs.Judging.{accepted_judged, judged_text}
 use Rattle.ztso_engines.proofs.Telling.{text_read, one_told}
 use Rattle.ztso_engines.proofs.CodeTexts.{code_read, one_code}
 use Rattle.ztso_engines.proofs.ListTexts.{lists_read, one_lists}
-use Rattle.ztso_engines.proofs.OneText.{one_try, one_verdict}
-use Rattle.ztso_engines.proofs.OneTalk.{one_talk_of}
-use Rattle.ztso_engines.proofs.TestTexts.{test_or_none}
+use Rattle.tries.proofs.OneText.{one_try, one_verdict}
+use Rattle.debugger.proofs.OneTalk.{one_talk_of}
+use Rattle.engine_parts.proofs.TestTexts.{test_or_none}
 
 same_output : (a b : Output) → a.0 ≡ b.0 → a ≡ b
 same_output a b e = λ i. (e i, tt)

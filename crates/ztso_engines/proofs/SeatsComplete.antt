@@ -12,9 +12,9 @@ use Rattle.hart_threads.specs.Missing.{is_missing, sits_at, acts_for, lands_for}
 use Rattle.hart_threads.specs.Returns.{Fails, IsLost}
 use Rattle.hart_threads.specs.declared.fault.Fault.{Fault}
 use Rattle.hart_threads.specs.declared.fault.Fault.TheVariants as fault
-use Rattle.ztso_engines.specs.Faults.{AnswersAs}
+use Rattle.engine_parts.specs.Faults.{AnswersAs}
 use Rattle.ztso_engines.specs.Threads.{IsThreadsGiven, fault_of_threads}
-use Rattle.ztso_engines.specs.inner.Making.{text_and_value}
+use Rattle.engine_parts.specs.inner.Making.{text_and_value}
 
 within : (h n : ℕ) → h < n → ltb h n ≡ true
 within h n lt = grind (arith, nat_tests)

@@ -3,14 +3,14 @@ use Rattle.std.proofs.Common.{◌≡◌, ℕ, ◌+◌, ◌≤◌, false, eqb, le
 use Rattle.std.specs.Str.Lines.{lines}
 use Rattle.std.proofs.lemmas.Bool.{eqb-false, ne_eqb}
 use Rattle.texts.proofs.ResultLaws.{bind_ok, guard_ok, ok_is}
-use Rattle.ztso_engines.specs.declared.fault.Refusal.{Refusal}
-use Rattle.ztso_engines.specs.declared.fault.Position.TheVariants.{Nowhere}
+use Rattle.engine_parts.specs.declared.fault.Refusal.{Refusal}
+use Rattle.engine_parts.specs.declared.fault.Position.TheVariants.{Nowhere}
 use Rattle.ztso_engines.specs.Scenario.{Scenario, no_scenario, Statement, hart, reg, word, steps, with_statement, MayCome}
 use Rattle.ztso_engines.specs.StepsText.{LinesTell, Tells}
-use Rattle.ztso_engines.specs.LineFaults.{bad_line, at_line}
+use Rattle.engine_parts.specs.LineFaults.{bad_line, at_line}
 use Rattle.ztso_engines.specs.StepsReading.{after_line, after_lines, with_some_hart, script_at}
 use Rattle.ztso_engines.proofs.Lines.{line_made, statement_read, blank_read}
-use Rattle.ztso_engines.proofs.LineFaulted.{at_line_ok}
+use Rattle.engine_parts.proofs.LineFaulted.{at_line_ok}
 
 -- the events stay within their limit
 few_stay : (t : Scenario) (s : Statement) → length t.events ≤ 1048576 → MayCome t s → length (with_statement t s).events ≤ 1048576

@@ -13,12 +13,12 @@ use Rattle.poll_close.specs.Delivery.{Delivers, DeliversWhole}
 use Rattle.poll_close.specs.Refusals.{Refuses}
 use Rattle.poll_close.specs.declared.faults.Refused.{Refused}
 use Rattle.poll_close.specs.declared.faults.Refused.TheVariants as refused
-use Rattle.ztso_engines.specs.declared.fault.Fault.{Fault}
-use Rattle.ztso_engines.specs.declared.fault.Fault.TheVariants as fault
-use Rattle.ztso_engines.specs.declared.fault.Position.TheVariants as place
-use Rattle.ztso_engines.specs.declared.fault.Refusal.{Refusal}
-use Rattle.ztso_engines.specs.Engines.{Output, Accepted, judged}
-use Rattle.ztso_engines.specs.Schedules.{IsNoSchedule}
+use Rattle.engine_parts.specs.declared.fault.Fault.{Fault}
+use Rattle.engine_parts.specs.declared.fault.Fault.TheVariants as fault
+use Rattle.engine_parts.specs.declared.fault.Position.TheVariants as place
+use Rattle.engine_parts.specs.declared.fault.Refusal.{Refusal}
+use Rattle.engine_parts.specs.Engines.{Output, Accepted, judged}
+use Rattle.engine_parts.specs.Schedules.{IsNoSchedule}
 use Rattle.ztso_engines.specs.Lists.{SaysLists, lists_at}
 
 -- the line of a report

@@ -2,12 +2,12 @@
 use Rattle.std.specs.Prelude.{ℕ, ◌≡◌, List, Result, Ok, Err}
 use Rattle.step_machine.specs.History.{History}
 use Rattle.step_machine.specs.Runs.{Run}
-use Rattle.ztso_engines.specs.declared.fault.Refusal.{Refusal}
+use Rattle.engine_parts.specs.declared.fault.Refusal.{Refusal}
 use Rattle.ztso_engines.specs.Scenario.{Scenario, opening_of}
 use Rattle.ztso_engines.specs.StepsText.{Tells}
 use Rattle.ztso_engines.specs.StepsReading.{script_at}
-use Rattle.ztso_engines.specs.StateText.{shown}
-use Rattle.ztso_engines.specs.Engines.{Output, Accepted, judged}
+use Rattle.engine_parts.specs.StateText.{shown}
+use Rattle.engine_parts.specs.Engines.{Output, Accepted, judged}
 
 -- the state text of the history that the events make of the opening, over store buffers of B pairs and
 -- a memory of M words

@@ -11,12 +11,12 @@ use Rattle.step_machine.specs.declared.opening.TheConstants.{MAX_HARTS}
 use Rattle.recorder.specs.declared.faults.AtByte.{AtByte}
 use Rattle.recorder.specs.Faults.{fault_number}
 use Rattle.recorder.specs.Reading.{tokens_after}
-use Rattle.ztso_engines.specs.declared.fault.Refusal.{Refusal}
-use Rattle.ztso_engines.specs.declared.fault.Position.TheVariants.{Nowhere}
+use Rattle.engine_parts.specs.declared.fault.Refusal.{Refusal}
+use Rattle.engine_parts.specs.declared.fault.Position.TheVariants.{Nowhere}
 use Rattle.ztso_engines.specs.declared.steps.line.Keyword.{Keyword}
 use Rattle.ztso_engines.specs.declared.steps.line.Keyword.TheVariants as keyword
 use Rattle.texts.specs.Cutting.{tokens, first_cut}
-use Rattle.ztso_engines.specs.LineFaults.{bad_line, or_bad, at_line}
+use Rattle.engine_parts.specs.LineFaults.{bad_line, or_bad, at_line}
 use Rattle.ztso_engines.specs.Code.{code_at}
 use Rattle.ztso_engines.specs.Scenario.{Scenario, no_scenario, fresh, register_set}
 use Rattle.rv_decode.specs.declared.instruction.TheConstants.{MAX_CODE}

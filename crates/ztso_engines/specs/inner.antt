@@ -1,6 +1,2 @@
 -- What serves the proofs alone, where a private contract names it.
 pub mod Inputs
-pub mod Making
-pub mod Tallies
-pub mod Merging
-pub mod Talking

@@ -7,16 +7,16 @@ ghost use Rattle.rv_decode.specs.Meaning.{meaning};
 ghost use Rattle.rv_decode.specs.declared.instruction.Instr.{Instr};
 ghost use Rattle.assembler.specs.Drafts.{AllPlain};
 ghost use Rattle.assembler.specs.Program.{IsProgram, AreWordsOf};
-ghost use Rattle.ztso_engines.specs.Faults.{Answers, AnswersAs};
-ghost use Rattle.ztso_engines.specs.Engines.{EndsBy, judged};
+ghost use Rattle.engine_parts.specs.Faults.{Answers, AnswersAs};
+ghost use Rattle.engine_parts.specs.Engines.{EndsBy, judged};
 ghost use Rattle.ztso_engines.specs.Asm.{asm_at, hex_line, IsAsmAnswer};
-ghost use Rattle.ztso_engines.specs.inner.Making.{FindsBy, text_and_value};
-ghost use Rattle.ztso_engines.specs.declared.input.TheConstants.{INPUT_BYTES};
+ghost use Rattle.engine_parts.specs.inner.Making.{FindsBy, text_and_value};
+ghost use Rattle.engine_parts.specs.declared.input.TheConstants.{INPUT_BYTES};
 
-use crate::fault::Fault;
-use crate::input::{read_input, text_of};
-use crate::output::end_with;
 use assembler::assemble;
+use engine_parts::fault::Fault;
+use engine_parts::input::{read_input, text_of};
+use engine_parts::output::end_with;
 use std::alloc::{AllocError, Global};
 use std::io::{Read, Write};
 
@@ -34,7 +34,7 @@ fn code_of(alloc: Global, text: &str) -> Result<Vec<u32>, Fault>
 }
 
 /// What an input is assembled to.
-#[tactic(auto, using(crate::proofs::Judging::judged_text, crate::proofs::Judging::judged_no_text))]
+#[tactic(auto, using(engine_parts::proofs::Judging::judged_text, engine_parts::proofs::Judging::judged_no_text))]
 fn code_of_input(alloc: Global, input: &[u8]) -> Result<Vec<u32>, Fault>
     requires { length input.now ≤ INPUT_BYTES }
     ensures found { IfOk result (λ code. (instrs : List Instr) × IsProgram input.now instrs × AreWordsOf code.items instrs) }
@@ -82,8 +82,8 @@ fn made<R: Read>(alloc: Global, reader: &mut R) -> Result<(String, ()), Fault>
 
 /// Reads an assembly text to its end, and writes its words, each as 8 hex digits on a line.
 ///
-/// An input is refused as too large ([`crate::fault::TOO_LARGE`]), else as no text
-/// ([`crate::fault::NOT_TEXT`]), else as [`assemble`] says, at the line, and then nothing was written.
+/// An input is refused as too large ([`engine_parts::fault::TOO_LARGE`]), else as no text
+/// ([`engine_parts::fault::NOT_TEXT`]), else as [`assemble`] says, at the line, and then nothing was written.
 pub fn asm_engine<R: Read, W: Write>(
     alloc: Global,
     reader: &mut R,

@@ -3,18 +3,18 @@
 ghost use Rattle.std.specs.Prelude.{◌≡◌, ◌≤◌, ◌++◌, IfErr, IfOk, OnOk, map};
 ghost use Rattle.std.specs.List.{flat_map};
 ghost use Rattle.std.specs.String.{string_bytes};
-ghost use Rattle.ztso_engines.specs.Engines.{AnswersBoth, EndsByBoth};
+ghost use Rattle.engine_parts.specs.Engines.{AnswersBoth, EndsByBoth};
 ghost use Rattle.poll_close.specs.Layout.{opening_of};
 ghost use Rattle.poll_close.specs.Laws.{Accepted};
 ghost use Rattle.poll_close.specs.Refusals.{Refuses};
 ghost use Rattle.ztso_engines.specs.Channels.{report_line, fault_from, Reported, IsChannelAnswer};
-ghost use Rattle.ztso_engines.specs.Schedules.{HasNoSchedule};
-ghost use Rattle.ztso_engines.specs.inner.Making.{Finds, text_and_value};
+ghost use Rattle.engine_parts.specs.Schedules.{HasNoSchedule};
+ghost use Rattle.engine_parts.specs.inner.Making.{Finds, text_and_value};
 
-use crate::fault::{Fault, Position};
 use crate::lists::read_lists;
-use crate::output::end_with;
-use crate::schedule::read_events;
+use engine_parts::fault::{Fault, Position};
+use engine_parts::output::end_with;
+use engine_parts::schedule::read_events;
 use hart::need::Report;
 use poll_close::plans::Finish;
 use poll_close::{Refused, deliver, deliver_whole};
@@ -112,9 +112,9 @@ fn made<K: Finish<B, M>, const B: usize, const M: usize, S: Read, L: Read>(
 /// reported, and that it is closed.
 ///
 /// The schedule is refused as [`crate::run::run_engine`] refuses it, and the lists are not read then.
-/// An input of lists is refused as too large ([`crate::fault::TOO_LARGE`]), as no text
-/// ([`crate::fault::NOT_TEXT`]), else at its first line that holds anything but such words
-/// ([`crate::fault::BAD_LINE`]). Lists are refused by the numbers of [`poll_close::Refused`]. Then nothing
+/// An input of lists is refused as too large ([`engine_parts::fault::TOO_LARGE`]), as no text
+/// ([`engine_parts::fault::NOT_TEXT`]), else at its first line that holds anything but such words
+/// ([`engine_parts::fault::BAD_LINE`]). Lists are refused by the numbers of [`poll_close::Refused`]. Then nothing
 /// was written.
 pub fn channel_engine<K: Finish<B, M>, const B: usize, const M: usize, S: Read, L: Read, W: Write>(
     alloc: Global,

@@ -4,7 +4,7 @@ ghost use Rattle.texts.specs.Results.{Gives, refusal_of};
 ghost use Rattle.texts.specs.Cutting.{tokens};
 ghost use Rattle.ztso_engines.specs.Code.{code_at};
 
-use crate::fault::{BAD, LineFault};
+use engine_parts::fault::{BAD, LineFault};
 use std::alloc::Global;
 use texts::{first_token, hex_word};
 

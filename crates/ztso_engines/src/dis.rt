@@ -4,27 +4,27 @@ ghost use Rattle.std.specs.Prelude.{◌≡◌, ◌≤◌, ◌++◌, length, IfOk
 ghost use Rattle.std.specs.List.{flat_map};
 ghost use Rattle.std.specs.String.{string_bytes};
 ghost use Rattle.rv_decode.specs.Meaning.{meaning};
-ghost use Rattle.ztso_engines.specs.Faults.{Answers, AnswersAs};
-ghost use Rattle.ztso_engines.specs.Engines.{EndsBy, judged};
+ghost use Rattle.engine_parts.specs.Faults.{Answers, AnswersAs};
+ghost use Rattle.engine_parts.specs.Engines.{EndsBy, judged};
 ghost use Rattle.texts.specs.Cutting.{tokens};
-ghost use Rattle.ztso_engines.specs.LineFaults.{at_line as told_at};
+ghost use Rattle.engine_parts.specs.LineFaults.{at_line as told_at};
 ghost use Rattle.ztso_engines.specs.Code.{code_at};
 ghost use Rattle.ztso_engines.specs.Dis.{dis_at, meant_text, instr_line, IsDisAnswer};
-ghost use Rattle.ztso_engines.specs.inner.Making.{FindsBy, text_and_value};
-ghost use Rattle.ztso_engines.specs.declared.input.TheConstants.{INPUT_BYTES};
+ghost use Rattle.engine_parts.specs.inner.Making.{FindsBy, text_and_value};
+ghost use Rattle.engine_parts.specs.declared.input.TheConstants.{INPUT_BYTES};
 
 use crate::code::code_of;
-use crate::fault::{Fault, at_line};
-use crate::input::{read_input, text_of};
-use crate::output::end_with;
 use assembler::write_instr;
+use engine_parts::fault::{Fault, at_line};
+use engine_parts::input::{read_input, text_of};
+use engine_parts::output::end_with;
 use rv_decode::decode;
 use std::alloc::{AllocError, Global};
 use std::io::{Read, Write};
 use texts::first_line;
 
 /// The instruction words of the line of this number.
-#[tactic(auto, using(crate::proofs::LineFaulted::refused_at_line))]
+#[tactic(auto, using(engine_parts::proofs::LineFaulted::refused_at_line))]
 fn code_of_line(alloc: Global, line: &[u8], number: usize) -> Result<Vec<u32>, Fault>
     ensures { Answers (λ code. code.items) result (told_at number (code_at (tokens line.now))) }
 {
@@ -52,7 +52,7 @@ fn code_of_text(alloc: Global, text: &[u8]) -> Result<Vec<u32>, Fault>
 }
 
 /// The instruction words of an input.
-#[tactic(auto, using(crate::proofs::Judging::judged_text, crate::proofs::Judging::judged_no_text))]
+#[tactic(auto, using(engine_parts::proofs::Judging::judged_text, engine_parts::proofs::Judging::judged_no_text))]
 fn code_of_input(alloc: Global, input: &[u8]) -> Result<Vec<u32>, Fault>
     requires { length input.now ≤ INPUT_BYTES }
     ensures { Answers (λ code. code.items) result (judged dis_at input.now) }
@@ -107,9 +107,9 @@ fn made<R: Read>(alloc: Global, reader: &mut R) -> Result<(String, ()), Fault>
 /// Reads words of 8 hex digits to the end, parted by blanks and line ends, and writes what each means
 /// on a line, or `illegal`.
 ///
-/// An input is refused as too large ([`crate::fault::TOO_LARGE`]), else as no text
-/// ([`crate::fault::NOT_TEXT`]), else at the line of its first word that isn't 8 hex digits
-/// ([`crate::fault::BAD_LINE`]), and then nothing was written.
+/// An input is refused as too large ([`engine_parts::fault::TOO_LARGE`]), else as no text
+/// ([`engine_parts::fault::NOT_TEXT`]), else at the line of its first word that isn't 8 hex digits
+/// ([`engine_parts::fault::BAD_LINE`]), and then nothing was written.
 pub fn dis_engine<R: Read, W: Write>(
     alloc: Global,
     reader: &mut R,

@@ -5,8 +5,8 @@ ghost use Rattle.std.specs.List.{All, flat_map};
 ghost use Rattle.rand_core.specs.Stream.{Stream};
 ghost use Rattle.poll_close.specs.Laws.{Ring};
 ghost use Rattle.litmus.specs.declared.verdict.Verdict.{Verdict};
-ghost use Rattle.ztso_engines.specs.declared.fault.Refusal.{Refusal};
-ghost use Rattle.ztso_engines.specs.Engines.{Output, Accepted, AreAlike, AreOneAnswer, judged};
+ghost use Rattle.engine_parts.specs.declared.fault.Refusal.{Refusal};
+ghost use Rattle.engine_parts.specs.Engines.{Output, Accepted, AreAlike, AreOneAnswer, judged};
 ghost use Rattle.ztso_engines.specs.Scenario.{Scenario};
 ghost use Rattle.ztso_engines.specs.StepsText.{Tells};
 ghost use Rattle.ztso_engines.specs.StepsReading.{script_at};
@@ -16,8 +16,8 @@ ghost use Rattle.ztso_engines.specs.Dis.{SaysCode, dis_at, IsDisAnswer};
 ghost use Rattle.ztso_engines.specs.Lists.{SaysLists, lists_at};
 ghost use Rattle.ztso_engines.specs.Run.{IsRunAnswer};
 ghost use Rattle.ztso_engines.specs.Replay.{IsReplayAnswer};
-ghost use Rattle.ztso_engines.specs.Talks.{IsDebugAnswer};
-ghost use Rattle.ztso_engines.specs.Outcomes.{IsTryAnswer};
+ghost use Rattle.debugger.specs.Talks.{IsDebugAnswer};
+ghost use Rattle.tries.specs.Outcomes.{IsTryAnswer};
 ghost use Rattle.ztso_engines.specs.Channels.{IsChannelAnswer};
 
 /// A steps text tells one thing at most, and reading it from the top finds that; an input is not

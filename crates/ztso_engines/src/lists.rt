@@ -2,16 +2,16 @@
 
 ghost use Rattle.std.specs.Prelude.{◌≡◌, ◌≤◌, length, map};
 ghost use Rattle.texts.specs.Results.{Gives, refusal_of};
-ghost use Rattle.ztso_engines.specs.Faults.{Answers};
-ghost use Rattle.ztso_engines.specs.Engines.{judged};
-ghost use Rattle.ztso_engines.specs.LineFaults.{at_line as told_at};
+ghost use Rattle.engine_parts.specs.Faults.{Answers};
+ghost use Rattle.engine_parts.specs.Engines.{judged};
+ghost use Rattle.engine_parts.specs.LineFaults.{at_line as told_at};
 ghost use Rattle.ztso_engines.specs.Lists.{list_of as list_said, lists_at};
-ghost use Rattle.ztso_engines.specs.inner.Making.{FindsBy};
+ghost use Rattle.engine_parts.specs.inner.Making.{FindsBy};
 ghost use Rattle.ztso_engines.specs.inner.Inputs.{IsReadAsLists};
-ghost use Rattle.ztso_engines.specs.declared.input.TheConstants.{INPUT_BYTES};
+ghost use Rattle.engine_parts.specs.declared.input.TheConstants.{INPUT_BYTES};
 
-use crate::fault::{BAD, Fault, LineFault, at_line};
-use crate::input::{read_input, text_of};
+use engine_parts::fault::{BAD, Fault, LineFault, at_line};
+use engine_parts::input::{read_input, text_of};
 use std::alloc::Global;
 use std::io::Read;
 use texts::{Separators, first_line, first_piece, word};
@@ -34,7 +34,7 @@ fn list_of(alloc: Global, line: &[u8]) -> Result<Vec<u32>, LineFault>
 }
 
 /// The words of the line of this number.
-#[tactic(auto, using(crate::proofs::LineFaulted::refused_at_line))]
+#[tactic(auto, using(engine_parts::proofs::LineFaulted::refused_at_line))]
 fn list_of_line(alloc: Global, line: &[u8], number: usize) -> Result<Vec<u32>, Fault>
     ensures { Answers (λ list. list.items) result (told_at number (list_said line.now)) }
 {
@@ -62,7 +62,7 @@ fn lists_of_text(alloc: Global, text: &[u8]) -> Result<Vec<Vec<u32>>, Fault>
 }
 
 /// The lists of an input.
-#[tactic(auto, using(crate::proofs::Judging::judged_text, crate::proofs::Judging::judged_no_text))]
+#[tactic(auto, using(engine_parts::proofs::Judging::judged_text, engine_parts::proofs::Judging::judged_no_text))]
 fn lists_of_input(alloc: Global, input: &[u8]) -> Result<Vec<Vec<u32>>, Fault>
     requires { length input.now ≤ INPUT_BYTES }
     ensures { Answers (λ lists. map (λ list. list.items) lists.items) result (judged lists_at input.now) }

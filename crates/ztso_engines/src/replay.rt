@@ -3,16 +3,16 @@
 ghost use Rattle.std.specs.Prelude.{◌≡◌, ◌≤◌, IfOk};
 ghost use Rattle.std.specs.List.{flat_map};
 ghost use Rattle.std.specs.String.{string_bytes};
-ghost use Rattle.ztso_engines.specs.Engines.{AnswersBoth, EndsByBoth};
-ghost use Rattle.ztso_engines.specs.Tests.{HasNoTest};
+ghost use Rattle.engine_parts.specs.Engines.{AnswersBoth, EndsByBoth};
+ghost use Rattle.engine_parts.specs.Tests.{HasNoTest};
 ghost use Rattle.recorder.specs.Outcomes.{entry_line};
 ghost use Rattle.ztso_engines.specs.Replay.{IsReplayAnswer};
-ghost use Rattle.ztso_engines.specs.inner.Making.{Finds, text_and_value};
+ghost use Rattle.engine_parts.specs.inner.Making.{Finds, text_and_value};
 ghost use Rattle.litmus.specs.declared.question.TheConstants.{MAX_LOCATIONS};
 
-use crate::fault::Fault;
-use crate::output::end_with;
-use crate::running::read_run;
+use engine_parts::fault::Fault;
+use engine_parts::output::end_with;
+use engine_parts::running::read_run;
 use recorder::push_entry_line;
 use std::alloc::{AllocError, Global};
 use std::io::{Read, Write};

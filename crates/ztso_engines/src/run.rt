@@ -2,16 +2,16 @@
 
 ghost use Rattle.std.specs.Prelude.{◌≡◌, ◌≤◌, ◌++◌, length, IfOk, OnOk};
 ghost use Rattle.std.specs.String.{string_bytes};
-ghost use Rattle.ztso_engines.specs.Engines.{AnswersBoth, EndsByBoth};
-ghost use Rattle.ztso_engines.specs.Tests.{HasNoTest};
+ghost use Rattle.engine_parts.specs.Engines.{AnswersBoth, EndsByBoth};
+ghost use Rattle.engine_parts.specs.Tests.{HasNoTest};
 ghost use Rattle.ztso_engines.specs.Run.{verdict_line, IsJudged, IsRunAnswer};
-ghost use Rattle.ztso_engines.specs.inner.Making.{Finds, text_and_value};
+ghost use Rattle.engine_parts.specs.inner.Making.{Finds, text_and_value};
 ghost use Rattle.litmus.specs.declared.question.TheConstants.{MAX_LOCATIONS};
 
-use crate::fault::Fault;
-use crate::output::end_with;
-use crate::running::read_run;
-use crate::state_text::state_text;
+use engine_parts::fault::Fault;
+use engine_parts::output::end_with;
+use engine_parts::running::read_run;
+use engine_parts::state_text::state_text;
 use litmus::{Test, Verdict};
 use std::alloc::{AllocError, Global};
 use std::io::{Read, Write};
@@ -66,8 +66,8 @@ fn made<const B: usize, const M: usize, F: Read, S: Read>(
 /// with store buffers of `B` pairs and `M` words of memory, writes the state text and the verdict on a
 /// line, and answers the verdict.
 ///
-/// Each input is refused as too large ([`crate::fault::TOO_LARGE`]), else as no text
-/// ([`crate::fault::NOT_TEXT`]), else as [`litmus_reader::read`] says, at the line, or as
+/// Each input is refused as too large ([`engine_parts::fault::TOO_LARGE`]), else as no text
+/// ([`engine_parts::fault::NOT_TEXT`]), else as [`litmus_reader::read`] says, at the line, or as
 /// [`recorder::read_schedule`] says, at the byte; then nothing was written. A schedule behind a refused
 /// litmus text is not read. A memory of 1,024 words has room for each test's locations.
 pub fn run_engine<const B: usize, const M: usize, F: Read, S: Read, W: Write>(

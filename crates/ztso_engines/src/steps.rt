@@ -3,19 +3,19 @@
 ghost use Rattle.std.specs.Prelude.{◌≡◌, ◌≤◌, length, IfOk, MatchResult, vec_len};
 ghost use Rattle.step_machine.specs.History.{FitsIn};
 ghost use Rattle.step_machine.specs.Runs.{Run};
-ghost use Rattle.ztso_engines.specs.Faults.{Answers, AnswersAs};
-ghost use Rattle.ztso_engines.specs.Engines.{EndsBy, judged};
+ghost use Rattle.engine_parts.specs.Faults.{Answers, AnswersAs};
+ghost use Rattle.engine_parts.specs.Engines.{EndsBy, judged};
 ghost use Rattle.ztso_engines.specs.Scenario.{scenario_of, opening_of};
 ghost use Rattle.ztso_engines.specs.StepsReading.{script_at};
 ghost use Rattle.ztso_engines.specs.Steps.{IsStepsAnswer};
-ghost use Rattle.ztso_engines.specs.inner.Making.{FindsBy, text_and_value};
-ghost use Rattle.ztso_engines.specs.declared.input.TheConstants.{INPUT_BYTES};
+ghost use Rattle.engine_parts.specs.inner.Making.{FindsBy, text_and_value};
+ghost use Rattle.engine_parts.specs.declared.input.TheConstants.{INPUT_BYTES};
 
-use crate::fault::Fault;
-use crate::input::{read_input, text_of};
-use crate::output::end_with;
-use crate::state_text::state_text;
 use crate::steps::script::{Script, read_script};
+use engine_parts::fault::Fault;
+use engine_parts::input::{read_input, text_of};
+use engine_parts::output::end_with;
+use engine_parts::state_text::state_text;
 use std::alloc::Global;
 use std::io::{Read, Write};
 use step_machine::{Machine, Opening};
@@ -23,7 +23,7 @@ use step_machine::{Machine, Opening};
 mod line;
 mod script;
 /// What an input tells.
-#[tactic(auto, using(crate::proofs::Judging::judged_text, crate::proofs::Judging::judged_no_text))]
+#[tactic(auto, using(engine_parts::proofs::Judging::judged_text, engine_parts::proofs::Judging::judged_no_text))]
 fn script_of_input<const M: usize>(alloc: Global, input: &[u8]) -> Result<Script, Fault>
     requires { length input.now ≤ INPUT_BYTES }
     ensures exact { Answers scenario_of result (judged (script_at M) input.now) }

@@ -4,17 +4,17 @@
 ghost use Rattle.std.specs.Prelude.{ℕ, ◌≡◌, ◌≤◌, length};
 ghost use Rattle.hart_threads.specs.GettingOn.{AllGetOn, AtMost};
 ghost use Rattle.hart_threads.specs.Records.{IsRecord};
-ghost use Rattle.ztso_engines.specs.Engines.{EndsBy};
-ghost use Rattle.ztso_engines.specs.Faults.{AnswersAs};
+ghost use Rattle.engine_parts.specs.Engines.{EndsBy};
+ghost use Rattle.engine_parts.specs.Faults.{AnswersAs};
 ghost use Rattle.ztso_engines.specs.Threads.{fault_of_threads, IsThreadsGiven, IsThreadsAnswer};
-ghost use Rattle.ztso_engines.specs.inner.Making.{FindsBy, text_and_value};
+ghost use Rattle.engine_parts.specs.inner.Making.{FindsBy, text_and_value};
 ghost use Rattle.step_machine.specs.declared.opening.TheConstants.{MAX_HARTS};
 ghost use Rattle.litmus.specs.declared.question.TheConstants.{MAX_LOCATIONS};
 
-use crate::fault::{Fault, Position, TOO_LARGE};
-use crate::litmus_text::read_test;
-use crate::output::end_with;
 use crate::run::judged_text;
+use engine_parts::fault::{Fault, Position, TOO_LARGE};
+use engine_parts::litmus_text::read_test;
+use engine_parts::output::end_with;
 use hart_threads::{Open, Record, Shared, run_harts};
 use litmus::{Test, Verdict};
 use recorder::{MAX_EVENTS, write_schedule};

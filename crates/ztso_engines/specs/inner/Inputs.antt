@@ -1,29 +1,8 @@
--- What inputs are read as: litmus texts, schedules and lists.
+-- What an input is read as: lists.
 use Rattle.std.specs.Prelude.{ℕ, ◌≡◌, List, Result, Ok, Err}
-use Rattle.step_machine.specs.History.{History}
-use Rattle.step_machine.specs.declared.events.Event.{Event}
-use Rattle.recorder.specs.Schedule.{IsPlainOf}
-use Rattle.litmus.specs.Questions.{Question}
-use Rattle.litmus_reader.specs.Grammar.{IsTestOf}
-use Rattle.ztso_engines.specs.declared.fault.Refusal.{Refusal}
-use Rattle.ztso_engines.specs.Engines.{Accepted, judged}
-use Rattle.ztso_engines.specs.Tests.{IsNoTest}
-use Rattle.ztso_engines.specs.Schedules.{events_of}
+use Rattle.engine_parts.specs.declared.fault.Refusal.{Refusal}
+use Rattle.engine_parts.specs.Engines.{Accepted, judged}
 use Rattle.ztso_engines.specs.Lists.{SaysLists, lists_at}
-
--- the input's test, or why it has none
-abbrev pub IsReadAsTest : List ℕ → Result Question Refusal → Type 0
-IsReadAsTest input (Ok question) = Accepted IsTestOf input question
-IsReadAsTest input (Err refusal) = IsNoTest input refusal
-
--- the input's events, or why it is no schedule
-abbrev pub IsReadAsSchedule : List ℕ → Result (List Event) Refusal → Type 0
-IsReadAsSchedule input (Ok events) = Accepted IsPlainOf input events
-IsReadAsSchedule input (Err refusal) = judged events_of input ≡ Err refusal
-
--- a test with its history, told as they are
-abbrev pub IsItself : Question → History → Question × History → Type 0
-IsItself question history made = made ≡ (question, history)
 
 -- the input's lists, or why it says none
 abbrev pub IsReadAsLists : List ℕ → Result (List (List ℕ)) Refusal → Type 0

@@ -6,7 +6,7 @@ ghost use Rattle.texts.specs.Cutting.{tokens};
 ghost use Rattle.ztso_engines.specs.StepsReading.{keyword_named, number_at, two_numbers, three_numbers, with_hart, with_register, with_word, with_steps};
 
 use crate::code::code_of;
-use crate::fault::{BAD, LineFault};
+use engine_parts::fault::{BAD, LineFault};
 use recorder::{ScheduleError, push_tokens_of};
 use rv_decode::instruction::MAX_CODE;
 use std::alloc::Global;

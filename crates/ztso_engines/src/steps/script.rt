@@ -4,14 +4,14 @@ ghost use Rattle.std.specs.Prelude.{◌≡◌, Ok, IfOk};
 ghost use Rattle.std.specs.Str.Lines.{lines};
 ghost use Rattle.texts.specs.Results.{Gives, refusal_of};
 ghost use Rattle.step_machine.specs.History.{FitsIn};
-ghost use Rattle.ztso_engines.specs.Faults.{Answers};
-ghost use Rattle.ztso_engines.specs.LineFaults.{at_line as told_at};
+ghost use Rattle.engine_parts.specs.Faults.{Answers};
+ghost use Rattle.engine_parts.specs.LineFaults.{at_line as told_at};
 ghost use Rattle.ztso_engines.specs.Scenario.{Scenario, scenario_of, no_scenario, opening_of};
 ghost use Rattle.ztso_engines.specs.StepsText.{Tells};
 ghost use Rattle.ztso_engines.specs.StepsReading.{after_line, after_lines, script_at};
 
-use crate::fault::{BAD, BAD_LINE, Fault, LineFault, Position, at_line};
 use crate::steps::line::{Keyword, add_hart, add_steps, keyword_of, set_register, set_word};
+use engine_parts::fault::{BAD, BAD_LINE, Fault, LineFault, Position, at_line};
 use std::alloc::{AllocError, Global};
 use step_machine::{Event, HartOpening};
 use texts::{first_line, first_token};
@@ -54,7 +54,7 @@ impl Script {
     }
 
     /// Follows the line of this number.
-    #[tactic(auto, using(crate::proofs::LineFaulted::refused_at_line))]
+    #[tactic(auto, using(engine_parts::proofs::LineFaulted::refused_at_line))]
     fn add_line_at(&mut self, alloc: Global, line: &[u8], number: usize) -> Result<(), Fault>
         ensures { Answers (λ x. scenario_of self.new) result (told_at number (after_line (scenario_of self.old) line.now)) }
     {

@@ -1,4 +1,4 @@
-use Rattle.ztso_engines.specs.Engines.{OfInput}
+use Rattle.engine_parts.specs.Engines.{OfInput}
 use Rattle.ztso_engines.specs.Asm.{IsAsmAnswer}
 use Rattle.ztso.specs.Work.{done_status}
 use Rattle.ztso.proofs.Endings.{ends_told}

@@ -1,6 +1,6 @@
 use Rattle.std.proofs.Common.{ℕ, List, Option, MutBor, subst}
-use Rattle.ztso_engines.specs.Engines.{AnswersBoth}
-use Rattle.ztso_engines.specs.Talks.{EndsAloud, IsDebugAnswer}
+use Rattle.engine_parts.specs.Engines.{AnswersBoth}
+use Rattle.debugger.specs.Talks.{EndsAloud, IsDebugAnswer}
 use Rattle.ztso.proofs.Buffered.{remaining_of}
 use Rattle.ztso.proofs.work.debug.Goals as goal
 

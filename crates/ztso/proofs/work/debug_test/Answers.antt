@@ -1,5 +1,5 @@
-use Rattle.ztso_engines.specs.Engines.{AnswersBoth}
-use Rattle.ztso_engines.specs.Talks.{IsDebugAnswer}
+use Rattle.engine_parts.specs.Engines.{AnswersBoth}
+use Rattle.debugger.specs.Talks.{IsDebugAnswer}
 use Rattle.ztso.specs.Work.{done_status}
 use Rattle.ztso.proofs.Endings.{ends_aloud}
 use Rattle.ztso.proofs.work.debug_test.Goals as goal

@@ -1,4 +1,4 @@
-use Rattle.ztso_engines.specs.Engines.{AnswersBoth}
+use Rattle.engine_parts.specs.Engines.{AnswersBoth}
 use Rattle.ztso_engines.specs.Channels.{IsChannelAnswer}
 use Rattle.ztso.specs.Work.{done_status, tables_of}
 use Rattle.ztso.proofs.Endings.{ends_told}

@@ -1,4 +1,4 @@
-use Rattle.ztso_engines.specs.Engines.{AnswersBoth}
+use Rattle.engine_parts.specs.Engines.{AnswersBoth}
 use Rattle.ztso_engines.specs.Run.{IsRunAnswer}
 use Rattle.ztso.specs.Work.{verdict_status}
 use Rattle.ztso.proofs.Endings.{ends_told}

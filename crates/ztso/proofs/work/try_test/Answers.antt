@@ -1,7 +1,7 @@
 use Rattle.std.proofs.Common.{◌*◌}
 use Rattle.recorder.specs.Drawing.{left_after}
-use Rattle.ztso_engines.specs.Engines.{OfInput}
-use Rattle.ztso_engines.specs.Outcomes.{IsTryAnswer}
+use Rattle.engine_parts.specs.Engines.{OfInput}
+use Rattle.tries.specs.Outcomes.{IsTryAnswer}
 use Rattle.ztso.specs.Work.{drawn_from, tried_status}
 use Rattle.ztso.proofs.Endings.{ends_told}
 use Rattle.ztso.proofs.work.try_test.Goals as goal

@@ -1,7 +1,7 @@
 use Rattle.std.proofs.Common.{map}
 use Rattle.rv_decode.specs.Meaning.{meaning}
 use Rattle.ztso_engines.specs.Asm.{asm_at}
-use Rattle.ztso_engines.proofs.Judging.{judged_well}
+use Rattle.engine_parts.proofs.Judging.{judged_well}
 use Rattle.ztso_engines.proofs.asm.answer.Goals as goal
 
 pub returns : goal.returns

@@ -1,5 +1,5 @@
 use Rattle.ztso_engines.specs.Dis.{SaysCode, dis_at}
-use Rattle.ztso_engines.proofs.Judging.{accepted_well}
+use Rattle.engine_parts.proofs.Judging.{accepted_well}
 use Rattle.ztso_engines.proofs.CodeTexts.{code_found}
 use Rattle.ztso_engines.proofs.dis.answer.Goals as goal
 

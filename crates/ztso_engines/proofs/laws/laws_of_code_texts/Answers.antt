@@ -1,5 +1,5 @@
 use Rattle.ztso_engines.specs.Dis.{SaysCode, dis_at}
-use Rattle.ztso_engines.proofs.Judging.{accepted_well, accepted_judged}
+use Rattle.engine_parts.proofs.Judging.{accepted_well, accepted_judged}
 use Rattle.ztso_engines.proofs.CodeTexts.{code_found, code_read, one_code}
 use Rattle.ztso_engines.proofs.HexTexts.{written_says}
 use Rattle.ztso_engines.proofs.laws.laws_of_code_texts.Goals as goal

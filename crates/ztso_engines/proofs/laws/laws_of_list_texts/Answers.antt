@@ -1,5 +1,5 @@
 use Rattle.ztso_engines.specs.Lists.{SaysLists, lists_at}
-use Rattle.ztso_engines.proofs.Judging.{accepted_well, accepted_judged}
+use Rattle.engine_parts.proofs.Judging.{accepted_well, accepted_judged}
 use Rattle.ztso_engines.proofs.ListTexts.{lists_found, lists_read, one_lists}
 use Rattle.ztso_engines.proofs.laws.laws_of_list_texts.Goals as goal
 

@@ -1,6 +1,6 @@
 use Rattle.ztso_engines.specs.StepsText.{Tells}
 use Rattle.ztso_engines.specs.StepsReading.{script_at}
-use Rattle.ztso_engines.proofs.Judging.{accepted_well, accepted_judged}
+use Rattle.engine_parts.proofs.Judging.{accepted_well, accepted_judged}
 use Rattle.ztso_engines.proofs.Telling.{text_told, text_read, one_told}
 use Rattle.ztso_engines.proofs.laws.laws_of_steps_texts.Goals as goal
 

@@ -1,5 +1,5 @@
 use Rattle.ztso_engines.specs.inner.Inputs.{IsReadAsLists}
-use Rattle.ztso_engines.proofs.Endings.{found_by}
+use Rattle.engine_parts.proofs.Endings.{found_by}
 use Rattle.ztso_engines.proofs.ListTexts.{read_as_lists}
 use Rattle.ztso_engines.proofs.lists.read_lists.Goals as goal
 

@@ -2,10 +2,10 @@ use Rattle.std.proofs.lemmas.Result.{err_from_is_err_and}
 use Rattle.step_machine.specs.History.{Progress}
 use Rattle.litmus.specs.Questions.{Question}
 use Rattle.ztso_engines.specs.Run.{IsJudged}
-use Rattle.ztso_engines.specs.inner.Making.{text_and_value}
-use Rattle.ztso_engines.specs.Histories.{IsOfRun}
-use Rattle.ztso_engines.specs.inner.Inputs.{IsItself}
-use Rattle.ztso_engines.proofs.HistoryLaws.{answers_of_run, run_fault}
+use Rattle.engine_parts.specs.inner.Making.{text_and_value}
+use Rattle.engine_parts.specs.Histories.{IsOfRun}
+use Rattle.engine_parts.specs.inner.Inputs.{IsItself}
+use Rattle.engine_parts.proofs.HistoryLaws.{answers_of_run, run_fault}
 use Rattle.ztso_engines.proofs.run.made.Goals as goal
 
 pub returns-clause-made : goal.returns-clause-made

@@ -1,6 +1,6 @@
-use Rattle.ztso_engines.specs.Engines.{AnswersBoth}
+use Rattle.engine_parts.specs.Engines.{AnswersBoth}
 use Rattle.ztso_engines.specs.Run.{IsRunAnswer}
-use Rattle.ztso_engines.proofs.Endings.{ended}
+use Rattle.engine_parts.proofs.Endings.{ended}
 use Rattle.ztso_engines.proofs.run.run_engine.Goals as goal
 
 pub returns-clause-ends : goal.returns-clause-ends

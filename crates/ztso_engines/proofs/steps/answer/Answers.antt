@@ -1,7 +1,7 @@
 use Rattle.ztso_engines.specs.Scenario.{scenario_of}
 use Rattle.ztso_engines.specs.StepsText.{Tells}
 use Rattle.ztso_engines.specs.StepsReading.{script_at}
-use Rattle.ztso_engines.proofs.Judging.{accepted_well}
+use Rattle.engine_parts.proofs.Judging.{accepted_well}
 use Rattle.ztso_engines.proofs.Telling.{text_told}
 use Rattle.ztso_engines.proofs.steps.answer.Goals as goal
 

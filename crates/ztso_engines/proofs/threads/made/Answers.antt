@@ -1,8 +1,8 @@
 use Rattle.std.proofs.lemmas.Result.{err_from_is_err_and}
 use Rattle.litmus.specs.Questions.{Question}
 use Rattle.ztso_engines.specs.Threads.{IsThreadsGiven}
-use Rattle.ztso_engines.specs.inner.Making.{text_and_value}
-use Rattle.ztso_engines.proofs.ThreadRuns.{by_test, by_no_test}
+use Rattle.engine_parts.specs.inner.Making.{text_and_value}
+use Rattle.engine_parts.proofs.ThreadRuns.{by_test, by_no_test}
 use Rattle.ztso_engines.proofs.threads.made.Goals as goal
 
 pub returns : goal.returns

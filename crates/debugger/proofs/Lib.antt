@@ -1,0 +1,5 @@
+pub mod SessionLaws
+pub mod WalkLaws
+pub mod DebugLaws
+pub mod TalkLaws
+pub mod OneTalk

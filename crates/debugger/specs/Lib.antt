@@ -1,0 +1,7 @@
+pub mod Sessions
+pub mod Walks
+pub mod Commands
+pub mod DebugText
+pub mod Debugging
+pub mod Talks
+pub mod inner

@@ -1,0 +1,78 @@
+//! The command `debug`: a walk along a schedule's run of a litmus test, at a user's commands.
+
+ghost use Rattle.std.specs.Prelude.{◌≡◌, ◌≤◌, ◌⊎◌, ℕ, List, [], Ok};
+ghost use Rattle.std.specs.Io.KnownBytes.{Appends};
+ghost use Rattle.engine_parts.specs.Engines.{AnswersBoth};
+ghost use Rattle.engine_parts.specs.Tests.{HasNoTest};
+ghost use Rattle.engine_parts.specs.Histories.{ByBoth};
+ghost use Rattle.debugger.specs.Talks.{EndsAloud, IsDebugAnswer, IsDebugFront, OnRefused, OnStopped};
+ghost use Rattle.engine_parts.specs.inner.Making.{Finds};
+ghost use Rattle.debugger.specs.inner.Talking.{IsSetOut};
+ghost use Rattle.litmus.specs.declared.question.TheConstants.{MAX_LOCATIONS};
+
+use crate::debug::talk::talk;
+use crate::walk::Walk;
+use engine_parts::fault::Fault;
+use engine_parts::litmus_text::read_test;
+use engine_parts::schedule::read_events;
+use std::alloc::Global;
+use std::io::{BufRead, Read, Write};
+
+mod answers;
+mod breakpoints;
+mod command;
+mod lines;
+mod looking;
+mod talk;
+
+/// A walk at the opening of the test that a litmus text stands for, along a schedule. The schedule is
+/// read behind an accepted test only.
+fn read_walk<const B: usize, const M: usize, F: Read, S: Read>(
+    alloc: Global,
+    file: &mut F,
+    schedule: &mut S,
+) -> Result<Walk<B, M>, Fault>
+    requires some_capacity { 1 ≤ B }
+    requires capacity { B ≤ 64 }
+    requires words { MAX_LOCATIONS ≤ M }
+    requires size { M ≤ 65536 }
+    ensures walk { Finds (AnswersBoth (ByBoth IsSetOut) (F.remaining file.old) (S.remaining schedule.old)) (λ walk. walk) result }
+    ensures unread { HasNoTest (F.remaining file.old) → schedule.new ≡ schedule.old }
+{
+    let test = read_test(alloc, file)?;
+    let events = read_events(alloc, schedule)?;
+    let opening = test.opening(alloc)?;
+    let walk = Walk::open(alloc, opening, events)?;
+    Ok(walk)
+}
+
+/// Reads a litmus text and then a schedule, each to its end, and then answers a user's commands, a line
+/// each, each as soon as it is read: docs/formats.md has them. The machine has store buffers of `B`
+/// pairs and `M` words of memory.
+///
+/// The first two inputs are refused as `run` refuses them, before the first command
+/// is read and with nothing written. A schedule behind a refused litmus text is not read. Commands are
+/// never refused, and their number and length have no limit. After a failed read or write, or where
+/// memory runs out, what was answered before stays written.
+pub fn debug_engine<const B: usize, const M: usize, F: Read, S: Read, C: BufRead, W: Write>(
+    alloc: Global,
+    file: &mut F,
+    schedule: &mut S,
+    commands: &mut C,
+    writer: &mut W,
+) -> Result<(), Fault>
+    requires some_capacity { 1 ≤ B }
+    requires capacity { B ≤ 64 }
+    requires words { MAX_LOCATIONS ≤ M }
+    requires size { M ≤ 65536 }
+    ensures ends { EndsAloud (AnswersBoth (IsDebugAnswer B M (C.remaining commands.old)) (F.remaining file.old) (S.remaining schedule.old)) result W.contents writer.old writer.new }
+    ensures unread { HasNoTest (F.remaining file.old) → schedule.new ≡ schedule.old }
+    ensures unasked { OnRefused result (commands.new ≡ commands.old) }
+
+    // where a read failed or memory ran out, what the first lines print was written, or nothing
+    ensures left { OnStopped result ((out : List ℕ) × Appends (W.contents writer.old) (W.contents writer.new) out
+        × ((out ≡ []) ⊎ AnswersBoth (IsDebugFront B M (C.remaining commands.old)) (F.remaining file.old) (S.remaining schedule.old) (Ok (out, tt)))) }
+{
+    let walk = read_walk::<B, M, F, S>(alloc, file, schedule)?;
+    talk(alloc, walk, commands, writer)
+}

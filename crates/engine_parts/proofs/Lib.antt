@@ -1,0 +1,9 @@
+pub mod Counted
+pub mod StateLines
+pub mod Judging
+pub mod Endings
+pub mod HistoryLaws
+pub mod LineFaulted
+pub mod TestTexts
+pub mod ScheduleTexts
+pub mod ThreadRuns

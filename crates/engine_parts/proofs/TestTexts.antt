@@ -1,0 +1,40 @@
+-- Inputs that are litmus texts.
+use Rattle.std.proofs.Common.{◌≡◌, ℕ, List, Result, Ok, Err, refl, sym, ◌∙◌}
+use Rattle.std.specs.Prelude.{Option, Some, None, IfSome, IsErr}
+use Rattle.std.specs.Global.{Vec}
+use Rattle.litmus_reader.specs.declared.faults.LitmusFault.{LitmusFault}
+use Rattle.texts.specs.declared.errors.AtLine.{AtLine}
+use Rattle.texts.specs.declared.errors.TextError.{TextError}
+use Rattle.texts.specs.declared.errors.TextError.TheVariants as error
+use Rattle.litmus_reader.specs.Faults.{fault_of, fault_number}
+use Rattle.litmus.specs.Questions.{Question}
+use Rattle.litmus_reader.specs.Reading.{Content, content_of, test_at}
+use Rattle.engine_parts.specs.declared.fault.Fault.{Fault}
+use Rattle.engine_parts.specs.declared.fault.Refusal.{Refusal}
+use Rattle.engine_parts.specs.Faults.{Answers, fault_for, refused_at}
+use Rattle.engine_parts.specs.Engines.{judged, OfInput}
+use Rattle.engine_parts.specs.Tests.{refused_test, test_of, HasNoTest}
+use Rattle.engine_parts.proofs.Judging.{judged_text, judged_well}
+
+-- an error tells the fault at some line
+pub answered_refusal : {X : Type 0} (view : X → Content) (text : List ℕ) (e : TextError (AtLine LitmusFault)) → IfSome (fault_of e) (λ f. test_at text ≡ Err f) → (line : ℕ) × Answers view (Err (fault_for (refused_at fault_number) e)) (test_of line text)
+unfolding test_of
+answered_refusal view text error.NoMemory is = (0, tt)
+answered_refusal view text (error.Refused refusal) is = (refusal.line, rw is refl)
+
+-- an input that has a test isn't refused, at whichever line
+well_or_refused : (r : Result Content LitmusFault) (line other : ℕ) (test : Content) (refusal : Refusal) → refused_test line r ≡ Ok test → refused_test other r ≡ Err refusal → ⊥
+well_or_refused (Ok v) line other test refusal e f = cc
+well_or_refused (Err x) line other test refusal e f = cc
+
+pub test_or_none : (input : List ℕ) (line other : ℕ) (test : Content) (refusal : Refusal) → judged (test_of line) input ≡ Ok test → judged (test_of other) input ≡ Err refusal → ⊥
+unfolding test_of
+test_or_none input line other test refusal e f =
+    let well = judged_well (test_of line) input test e in
+    well_or_refused (test_at input) line other test refusal well.2 (sym (judged_text (test_of other) input well.0 well.1) ∙ f)
+
+-- so what reads such an input answers no test
+pub no_test_no_answer : (known : Option (List ℕ)) (input : Vec ℕ) (result : Result Question Fault) → OfInput known (λ bytes. input.items ≡ bytes) → (line : ℕ) × Answers content_of result (judged (test_of line) input.items) → HasNoTest known → IsErr result
+no_test_no_answer known input (Err fault) is answers none = refl
+no_test_no_answer (Some bytes) input (Ok q) is answers none = absurd (test_or_none bytes answers.0 none.1.0 (content_of q) none.0 (rw is at answers.1) none.1.1)
+no_test_no_answer None input (Ok q) is answers none = absurd none

@@ -1,0 +1,57 @@
+-- What threads made is a schedule of harts below 64, and what answers its test answers the input.
+use Rattle.std.proofs.Common.{◌≡◌, ℕ, ◌<◌, ◌≤◌, Bool, true, false, cond, List, ◌++◌, length, refl, sym, subst, arith, Result, Ok, Err}
+use Rattle.std.specs.Prelude.{map, All, Option}
+use Rattle.std.proofs.lemmas.List.Elements.{All-map, All-weaker}
+use Rattle.step_machine.specs.declared.events.Event.{Event}
+use Rattle.step_machine.specs.declared.events.Event.TheVariants as event
+use Rattle.step_machine.specs.declared.events.Entry.{Entry}
+use Rattle.step_machine.specs.History.{Start}
+use Rattle.step_machine.specs.Entries as entries
+use Rattle.step_machine.specs.Entries.{is_land}
+use Rattle.step_machine.specs.Legal.{IsOfHarts}
+use Rattle.step_machine.specs.Runs.{event_of}
+use Rattle.recorder.specs.Schedule.{OfHarts, hart_of}
+use Rattle.litmus.specs.Questions.{Question}
+use Rattle.litmus_reader.specs.Grammar.{IsTestOf}
+use Rattle.engine_parts.specs.declared.fault.Fault.{Fault}
+use Rattle.engine_parts.specs.declared.fault.Fault.TheVariants.{ReadFailed, WriteFailed, NoMemory, Refused}
+use Rattle.engine_parts.specs.declared.fault.Refusal.{Refusal}
+use Rattle.engine_parts.specs.Faults.{AnswersAs}
+use Rattle.engine_parts.specs.Engines.{Accepted, OfInput}
+use Rattle.engine_parts.specs.Tests.{ByTest}
+use Rattle.engine_parts.specs.Tests.ByTest.{no_test, of_test}
+use Rattle.engine_parts.specs.inner.Making.{FindsBy}
+use Rattle.engine_parts.specs.inner.Inputs.{IsReadAsTest}
+use Rattle.engine_parts.proofs.Endings.{weaker}
+
+event_hart : (e : Entry) → hart_of (event_of e) ≡ entries.hart_of e
+event_hart e = at (is_land e)
+  where
+    at : (b : Bool) → hart_of (cond b (event.Land (entries.hart_of e)) (event.Act (entries.hart_of e))) ≡ entries.hart_of e
+    at true = refl
+    at false = refl
+
+pub of_64 : (o : Start) (evs : List Event) (es : List Entry) → evs ≡ map event_of es → All (IsOfHarts o) es → length o.harts ≤ 64 → OfHarts evs
+of_64 o evs es each of few =
+    subst OfHarts (sym each)
+    (All-map (λ (ev : Event). hart_of ev < 64) event_of es
+    (All-weaker (IsOfHarts o) (λ (e : Entry). hart_of (event_of e) < 64) (λ e lt. (let same : hart_of (event_of e) ≡ entries.hart_of e = event_hart e in omega arith)) es of))
+
+module _ {X A : Type 0} (IsAnswer : Question → Result A Refusal → Type 0) (view : X → A) (known : Option (List ℕ)) where
+  -- what answers the test that was read
+  pub by_test : (question : Question) (result : Result X Fault) → OfInput known (λ bytes. Accepted IsTestOf bytes question) → AnswersAs (IsAnswer question) view result → FindsBy (ByTest IsAnswer) view known result
+  by_test question (Ok x) read answers = weaker known _ _ (λ bytes accepted. of_test question _ accepted answers) read
+  by_test question (Err (Refused r)) read answers = weaker known _ _ (λ bytes accepted. of_test question _ accepted answers) read
+  by_test question (Err NoMemory) read answers = tt
+  by_test question (Err ReadFailed) read answers = tt
+  by_test question (Err WriteFailed) read answers = answers
+
+  -- no test was read
+  pub by_no_test : {Y : Type 0} (seen : Y → Question) (result : Result X Fault) (fault : Fault) → result ≡ Err fault → FindsBy IsReadAsTest seen known (Err fault) → FindsBy (ByTest IsAnswer) view known result
+  by_no_test seen result (Refused r) is read = rw is (weaker known _ _ (λ bytes bad. no_test r bad) read)
+  by_no_test seen result NoMemory is read = rw is tt
+  by_no_test seen result ReadFailed is read = rw is tt
+  by_no_test seen result WriteFailed is read = rw is read
+
+pub joined : (all text more a b : List ℕ) → all ≡ text ++ more → text ≡ a → more ≡ b → all ≡ a ++ b
+joined all text more a b p q r = cc

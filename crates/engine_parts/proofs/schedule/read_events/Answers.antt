@@ -1,0 +1,5 @@
+use Rattle.engine_parts.proofs.ScheduleTexts.{no_schedule_no_answer}
+use Rattle.engine_parts.proofs.schedule.read_events.Goals as goal
+
+pub returns-clause-refused : goal.returns-clause-refused
+returns-clause-refused g c = no_schedule_no_answer _ c.in_ok-input.input c.events_of_input.result c.in_ok-input.ensures.input c.events_of_input.ensures.exact

@@ -1,0 +1,7 @@
+use Rattle.std.proofs.Common.{◌≡◌, ◌++◌}
+use Rattle.std.specs.String.{string_bytes}
+use Rattle.engine_parts.specs.StateText.{harts_shown}
+use Rattle.engine_parts.proofs.state_text.push_harts.Given as goal
+
+abbrev pub invariant-loop-hart : goal.invariant-loop-hart
+invariant-loop-hart g l = string_bytes l.out ≡ string_bytes l.fn.out ++ harts_shown g.row.M l.machine.history l.hart

@@ -1,0 +1,10 @@
+use Rattle.step_machine.specs.Paths.{state_of}
+use Rattle.engine_parts.proofs.Counted.{none_added, one_added}
+use Rattle.engine_parts.proofs.StateLines.{registers_shown_none, registers_shown_more}
+use Rattle.engine_parts.proofs.state_text.push_registers.Goals as goal
+
+pub loop-number-init : goal.loop-number-init
+loop-number-init g c = none_added _ _ (registers_shown_none (state_of g.row.M c.args.machine.now.history c.args.hart))
+
+pub loop-number-preserved : goal.loop-number-preserved
+loop-number-preserved g c = one_added _ _ _ _ _ _ c.loop-number.invariant c.in_ok-push_register_line.ensures (registers_shown_more (state_of g.row.M c.args.machine.now.history c.args.hart) c.loop-number.number c.register.result c.register.ensures)

@@ -1,0 +1,9 @@
+pub mod Faults
+pub mod Input
+pub mod LineFaults
+pub mod StateText
+pub mod Engines
+pub mod Tests
+pub mod Schedules
+pub mod Histories
+pub mod inner

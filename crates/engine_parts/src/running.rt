@@ -1,0 +1,95 @@
+//! A test's runs.
+
+ghost use Rattle.std.specs.Prelude.{◌≡◌, ◌≤◌, length, IfOk, OnOk};
+ghost use Rattle.step_machine.specs.Runs.{Run};
+ghost use Rattle.step_machine.specs.declared.opening.TheConstants.{MAX_HARTS};
+ghost use Rattle.engine_parts.specs.Engines.{AnswersBoth};
+ghost use Rattle.engine_parts.specs.Tests.{HasNoTest};
+ghost use Rattle.engine_parts.specs.Histories.{ByRun};
+ghost use Rattle.engine_parts.specs.inner.Making.{Finds};
+ghost use Rattle.engine_parts.specs.inner.Inputs.{IsItself};
+ghost use Rattle.litmus.specs.declared.question.TheConstants.{MAX_LOCATIONS};
+
+use crate::fault::Fault;
+use crate::litmus_text::read_test;
+use crate::schedule::read_events;
+use litmus::Test;
+use recorder::replay;
+use std::alloc::{AllocError, Global};
+use std::io::Read;
+use step_machine::{Event, Machine};
+
+/// The machine that these events make of the test's opening: one that the test can judge.
+fn machine_after<const B: usize, const M: usize>(
+    alloc: Global,
+    test: &Test,
+    events: &[Event],
+) -> Result<Machine<B, M>, AllocError>
+    requires some_capacity { 1 ≤ B }
+    requires capacity { B ≤ 64 }
+    requires words { MAX_LOCATIONS ≤ M }
+    requires size { M ≤ 65536 }
+    ensures ran { IfOk result (λ machine. Run B M test.now.opening events.now machine.history) }
+    ensures harts { IfOk result (λ machine. length machine.history.opening.harts ≡ length test.now.opening.harts) }
+    ensures names { IfOk result (λ _. length test.now.names ≤ M) }
+{
+    let opening = test.opening(alloc)?;
+    let machine = replay(alloc, opening, events)?;
+    Ok(machine)
+}
+
+/// The test that a litmus text stands for, and the machine that a schedule makes of its opening. The
+/// schedule is read behind an accepted test only.
+pub fn read_run<const B: usize, const M: usize, F: Read, S: Read>(
+    alloc: Global,
+    file: &mut F,
+    schedule: &mut S,
+) -> Result<(Test, Machine<B, M>), Fault>
+    requires some_capacity { 1 ≤ B }
+    requires capacity { B ≤ 64 }
+    requires words { MAX_LOCATIONS ≤ M }
+    requires size { M ≤ 65536 }
+    ensures run { Finds (AnswersBoth (ByRun B M IsItself) (F.remaining file.old) (S.remaining schedule.old)) (λ run. (run.0, run.1.history)) result }
+    ensures harts { IfOk result (λ run. length run.1.history.opening.harts ≡ length run.0.opening.harts) }
+    ensures names { IfOk result (λ run. length run.0.names ≤ M) }
+    ensures unread { HasNoTest (F.remaining file.old) → schedule.new ≡ schedule.old }
+{
+    let test = read_test(alloc, file)?;
+    let events = read_events(alloc, schedule)?;
+    let machine = machine_after::<B, M>(alloc, &test, &events)?;
+    Ok((test, machine))
+}
+
+/// The machine at the test's opening, for runs that begin anew.
+pub fn machine_of<const B: usize, const M: usize>(
+    alloc: Global,
+    test: &Test,
+) -> Result<Machine<B, M>, AllocError>
+    requires some_capacity { 1 ≤ B }
+    requires capacity { B ≤ 64 }
+    requires words { MAX_LOCATIONS ≤ M }
+    requires size { M ≤ 65536 }
+    ensures opening { IfOk result (λ machine. machine.history.opening ≡ test.now.opening) }
+    ensures some_hart { IfOk result (λ machine. 1 ≤ length machine.history.opening.harts) }
+    ensures most_harts { IfOk result (λ machine. length machine.history.opening.harts ≤ MAX_HARTS) }
+    ensures names { IfOk result (λ _. length test.now.names ≤ M) }
+{
+    let opening = test.opening(alloc)?;
+    let machine = Machine::open(alloc, opening)?;
+    Ok(machine)
+}
+
+/// Runs these events from the machine's opening, whatever it did before, in the room that it has.
+pub fn run_anew<const B: usize, const M: usize>(
+    machine: &mut Machine<B, M>,
+    events: &[Event],
+) -> Result<(), AllocError>
+    ensures ran { OnOk result (Run B M machine.old.history.opening events.now machine.new.history) }
+    ensures opening { machine.new.history.opening ≡ machine.old.history.opening }
+{
+    machine.restart();
+    match machine.run(events) {
+        Ok(()) => Ok(()),
+        Err((_, error)) => Err(error),
+    }
+}

@@ -1,0 +1,62 @@
+//! Inputs that are schedules.
+
+ghost use Rattle.std.specs.Prelude.{◌≡◌, ◌≤◌, IfOk, IsErr, vec_len};
+ghost use Rattle.recorder.specs.Schedule.{IsPlainOf};
+ghost use Rattle.engine_parts.specs.Faults.{Answers, fault_for};
+ghost use Rattle.engine_parts.specs.Engines.{Accepted, judged};
+ghost use Rattle.engine_parts.specs.Schedules.{refused_at_byte, events_of as events_said, HasNoSchedule};
+ghost use Rattle.engine_parts.specs.inner.Making.{FindsBy};
+ghost use Rattle.engine_parts.specs.inner.Inputs.{IsReadAsSchedule};
+ghost use Rattle.engine_parts.specs.declared.input.TheConstants.{INPUT_BYTES};
+
+use crate::fault::{Fault, Position};
+use crate::input::{read_input, text_of};
+use recorder::{AtByte, ScheduleError, read_plain};
+use std::alloc::Global;
+use std::io::Read;
+use step_machine::Event;
+use texts::Numbered;
+
+impl From<ScheduleError> for Fault {
+    ghost from_gives = { λ error fault. fault ≡ fault_for refused_at_byte error };
+
+    fn from(error: ScheduleError) -> Fault {
+        match error {
+            ScheduleError::NoMemory => Fault::NoMemory,
+            ScheduleError::Refused(AtByte { fault, place }) => {
+                Fault::refused(fault.number(), Position::Byte(place))
+            }
+        }
+    }
+}
+
+/// The events of a text.
+#[tactic(auto, unfolding(crate::specs::Schedules::events_of))]
+fn events_of_text(alloc: Global, text: &str) -> Result<Vec<Event>, Fault>
+    ensures found { IfOk result (λ events. IsPlainOf text.now events.items) }
+    ensures exact { Answers (λ events. events.items) result (events_said text.now) }
+{
+    match read_plain(alloc, text) {
+        Ok(events) => Ok(events),
+        Err(error) => Err(Fault::from(error)),
+    }
+}
+
+/// The events of an input, which is let go.
+#[tactic(auto, using(crate::proofs::Judging::judged_text, crate::proofs::Judging::judged_no_text))]
+fn events_of_input(alloc: Global, input: Vec<u8>) -> Result<Vec<Event>, Fault>
+    requires { vec_len input ≤ INPUT_BYTES }
+    ensures found { IfOk result (λ events. Accepted IsPlainOf input.items events.items) }
+    ensures exact { Answers (λ events. events.items) result (judged events_said input.items) }
+{
+    events_of_text(alloc, text_of(&input)?)
+}
+
+/// The events of the schedule that a reader gives.
+pub fn read_events<R: Read>(alloc: Global, reader: &mut R) -> Result<Vec<Event>, Fault>
+    ensures events { FindsBy IsReadAsSchedule (λ events. events.items) (R.remaining reader.old) result }
+    ensures refused { HasNoSchedule (R.remaining reader.old) → IsErr result }
+{
+    let input = read_input(alloc, reader)?;
+    events_of_input(alloc, input)
+}

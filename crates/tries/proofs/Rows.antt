@@ -1,0 +1,207 @@
+-- Rows by outcomes: what is found after one was changed or put in.
+use Rattle.std.proofs.Common.{◌≡◌, ℕ, ◌+◌, ◌<◌, Bool, true, false, cond, List, [], ◌∷◌, Option, Some, None, option_map, refl, sym, ap, ◌∙◌, subst}
+use Rattle.std.specs.Prelude.{IfSome}
+use Rattle.std.specs.declared.cmp.Ordering.{Ordering}
+use Rattle.std.specs.declared.cmp.Ordering.TheVariants.{Less, Equal, Greater}
+use Rattle.std.specs.Ordering.{is_eq, match_ordering, nat_cmp}
+use Rattle.std.specs.Cmp.Lexicographic.{slice_cmp}
+use Rattle.std.specs.Map.{lookup, set_value, keys_of}
+use Rattle.std.specs.List.{AllByRecursion}
+use Rattle.std.specs.List.Sorted.{IsStrictlySortedBy}
+use Rattle.std.proofs.lemmas.Map.Keys.{sorted_head}
+use Rattle.std.specs.BTreeMap.{insert_entry}
+use Rattle.std.specs.Global.{Vec}
+use Rattle.std.proofs.lemmas.Slice.Eq.{bytes_eq-Decides}
+use Rattle.std.proofs.lemmas.Map.Text.{is_eq-slice_cmp}
+use Rattle.step_machine.specs.declared.events.Event.{Event}
+use Rattle.tries.specs.declared.trials.tally.Row.{Row}
+use Rattle.tries.specs.inner.Tallies.{Counted, counted_by, is_key, counted_of, counted_more, Counts, order}
+use Rattle.tries.specs.inner.Merging.{counted_both, CountsRow}
+
+pub same_is : (xs ys : List ℕ) → is_eq (slice_cmp nat_cmp xs ys) ≡ true → xs ≡ ys
+same_is xs ys e = (bytes_eq-Decides xs ys).0 (sym (is_eq-slice_cmp xs ys) ∙ e)
+
+pub same_itself : (xs : List ℕ) → is_eq (slice_cmp nat_cmp xs xs) ≡ true
+same_itself xs = is_eq-slice_cmp xs xs ∙ (bytes_eq-Decides xs xs).1 refl
+
+-- two tests of one answer, and two that never pass together
+one_test : {X : Type 0} (b c : Bool) (v w : X) (o : Option X) → c ≡ b → cond c (Some v) o ≡ cond b (Some v) (cond c (Some w) o)
+one_test true true v w o e = refl
+one_test false false v w o e = refl
+one_test true false v w o e = absurd cc
+one_test false true v w o e = absurd cc
+
+two_tests : {X : Type 0} (b c : Bool) (v w : X) (o : Option X) → (c ≡ true → b ≡ true → ⊥) → cond c (Some w) (cond b (Some v) o) ≡ cond b (Some v) (cond c (Some w) o)
+two_tests true true v w o apart = absurd (apart refl refl)
+two_tests false true v w o apart = refl
+two_tests true false v w o apart = refl
+two_tests false false v w o apart = refl
+
+either : {X : Type 0} (b : Bool) (x : X) → x ≡ cond b x x
+either true x = refl
+either false x = refl
+
+-- another value for the key that is found
+lookup_set : {X : Type 0} (key other : List ℕ) (value : X) (rows : List (Vec ℕ × X)) → lookup (is_key other) (set_value (is_key key) rows value) ≡ cond (is_eq (slice_cmp nat_cmp other key)) (option_map (λ (old : X). value) (lookup (is_key key) rows)) (lookup (is_key other) rows)
+lookup_set key other value [] = either (is_eq (slice_cmp nat_cmp other key)) None
+lookup_set {X} key other value (e ∷ rows) = by (is_key key e.0) refl (lookup_set key other value rows)
+  where
+    by : (b : Bool) → is_key key e.0 ≡ b → lookup (is_key other) (set_value (is_key key) rows value) ≡ cond (is_eq (slice_cmp nat_cmp other key)) (option_map (λ (old : X). value) (lookup (is_key key) rows)) (lookup (is_key other) rows)
+        → lookup (is_key other) (cond b ((e.0, value) ∷ rows) (e ∷ set_value (is_key key) rows value)) ≡ cond (is_eq (slice_cmp nat_cmp other key)) (option_map (λ (old : X). value) (cond b (Some e.1) (lookup (is_key key) rows))) (cond (is_key other e.0) (Some e.1) (lookup (is_key other) rows))
+    by true is rest = subst (λ (k : List ℕ). cond (is_key other e.0) (Some value) (lookup (is_key other) rows) ≡ cond (is_eq (slice_cmp nat_cmp other k)) (Some value) (cond (is_key other e.0) (Some e.1) (lookup (is_key other) rows))) (sym (same_is key e.0.items is)) (one_test (is_key other e.0) (is_key other e.0) value e.1 (lookup (is_key other) rows) refl)
+    by false is rest = at (is_eq (slice_cmp nat_cmp other key)) refl rest
+      where
+        at : (b : Bool) → is_eq (slice_cmp nat_cmp other key) ≡ b → lookup (is_key other) (set_value (is_key key) rows value) ≡ cond b (option_map (λ (old : X). value) (lookup (is_key key) rows)) (lookup (is_key other) rows)
+            → cond (is_key other e.0) (Some e.1) (lookup (is_key other) (set_value (is_key key) rows value)) ≡ cond b (option_map (λ (old : X). value) (lookup (is_key key) rows)) (cond (is_key other e.0) (Some e.1) (lookup (is_key other) rows))
+        at true same rest =
+            let none : is_key other e.0 ≡ false = subst (λ (k : List ℕ). is_eq (slice_cmp nat_cmp k e.0.items) ≡ false) (sym (same_is other key same)) is in
+            ap (λ (b : Bool). cond b (Some e.1) (lookup (is_key other) (set_value (is_key key) rows value))) none ∙ rest
+        at false apart rest = ap (λ (o : Option X). cond (is_key other e.0) (Some e.1) o) rest
+
+lookup_inserted : {X : Type 0} (key : Vec ℕ) (value : X) (other : List ℕ) (rows : List (Vec ℕ × X)) → lookup (is_key other) (insert_entry order rows key value) ≡ cond (is_key other key) (Some value) (lookup (is_key other) rows)
+lookup_inserted key value other [] = refl
+lookup_inserted {X} key value other (e ∷ rows) = by (order key e.0) refl (lookup_inserted key value other rows)
+  where
+    by : (o : Ordering) → order key e.0 ≡ o → lookup (is_key other) (insert_entry order rows key value) ≡ cond (is_key other key) (Some value) (lookup (is_key other) rows)
+        → lookup (is_key other) (match_ordering o ((key, value) ∷ e ∷ rows) ((e.0, value) ∷ rows) (e ∷ insert_entry order rows key value)) ≡ cond (is_key other key) (Some value) (cond (is_key other e.0) (Some e.1) (lookup (is_key other) rows))
+    by Less is rest = refl
+    by Equal is rest =
+        let same : e.0.items ≡ key.items = sym (same_is key.items e.0.items (ap is_eq is)) in
+        one_test (is_key other key) (is_key other e.0) value e.1 (lookup (is_key other) rows) (ap (λ (k : List ℕ). is_eq (slice_cmp nat_cmp other k)) same)
+    by Greater is rest =
+        let apart : is_key other e.0 ≡ true → is_key other key ≡ true → ⊥ = λ at_e at_key.
+        let same : is_eq (order key e.0) ≡ true = subst (λ (k : List ℕ). is_eq (slice_cmp nat_cmp key.items k) ≡ true) (sym (same_is other key.items at_key) ∙ same_is other e.0.items at_e) (same_itself key.items) in
+        let none : is_eq (order key e.0) ≡ false = ap is_eq is in cc in
+        ap (λ (o : Option X). cond (is_key other e.0) (Some e.1) o) rest ∙ two_tests (is_key other key) (is_key other e.0) value e.1 (lookup (is_key other) rows) apart
+
+-- a row with one run more
+pub counted_again : (events : List Event) (old : List (Vec ℕ × Row)) (key : List ℕ) (row : Row) → Some row ≡ lookup (is_key key) old → Counts key events old (set_value (is_key key) old (record row { count = row.count + 1 }))
+unfolding counted_of
+counted_again events old key row found = λ other. ap (option_map counted_by) (lookup_set key other (record row { count = row.count + 1 }) old) ∙ by other (is_eq (slice_cmp nat_cmp other key)) refl
+  where
+    by : (other : List ℕ) (b : Bool) → is_eq (slice_cmp nat_cmp other key) ≡ b → option_map counted_by (cond b (option_map (λ (old : Row). record row { count = row.count + 1 }) (lookup (is_key key) old)) (lookup (is_key other) old)) ≡ cond b (Some (counted_more events (counted_of old other))) (counted_of old other)
+    by other true same =
+        let here : Some row ≡ lookup (is_key other) old = found ∙ ap (λ (k : List ℕ). lookup (is_key k) old) (sym (same_is other key same)) in
+        rw (← found, ← here) refl
+    by other false apart = refl
+
+-- a first run's row
+pub counted_first : (events : List Event) (old : List (Vec ℕ × Row)) (key : Vec ℕ) (row : Row) → None ≡ lookup (is_key key.items) old → counted_by row ≡ counted_more events None → Counts key.items events old (insert_entry order old key row)
+unfolding counted_of
+counted_first events old key row none first = λ other. ap (option_map counted_by) (lookup_inserted key row other old) ∙ by other (is_key other key) refl
+  where
+    by : (other : List ℕ) (b : Bool) → is_key other key ≡ b → option_map counted_by (cond b (Some row) (lookup (is_key other) old)) ≡ cond b (Some (counted_more events (counted_of old other))) (counted_of old other)
+    by other true same =
+        let here : None ≡ lookup (is_key other) old = none ∙ ap (λ (k : List ℕ). lookup (is_key k) old) (sym (same_is other key.items same)) in
+        rw (← here) (ap Some first)
+    by other false apart = refl
+
+-- the row that is found is one of which something is told
+pub found_row : (Small : ℕ → Type 0) (rows : List (Vec ℕ × Row)) (outcome : List ℕ) (found : Option Row) → found ≡ lookup (is_key outcome) rows → IfSome (counted_of rows outcome) (λ told. Small told.0) → IfSome found (λ row. Small row.count)
+unfolding counted_of
+found_row Small rows outcome None is small = tt
+found_row Small rows outcome (Some row) is small = rw (← is) at small
+
+-- a row with a later row's runs
+pub row_again : (later : Row) (old : List (Vec ℕ × Row)) (key : List ℕ) (row : Row) → Some row ≡ lookup (is_key key) old
+    → CountsRow key later old (set_value (is_key key) old (record row { count = row.count + later.count }))
+unfolding counted_of
+row_again later old key row found = λ other.
+    ap (option_map counted_by) (lookup_set key other (record row { count = row.count + later.count }) old)
+    ∙ by other (is_eq (slice_cmp nat_cmp other key)) refl
+  where
+    by : (other : List ℕ) (b : Bool) → is_eq (slice_cmp nat_cmp other key) ≡ b
+        → option_map counted_by (cond b (option_map (λ (old : Row). record row { count = row.count + later.count }) (lookup (is_key key) old)) (lookup (is_key other) old))
+        ≡ cond b (counted_both (counted_of old other) (Some (counted_by later))) (counted_of old other)
+    by other true same =
+        let here : Some row ≡ lookup (is_key other) old = found ∙ ap (λ (k : List ℕ). lookup (is_key k) old) (sym (same_is other key same)) in
+        rw (← found, ← here) refl
+    by other false apart = refl
+
+-- a later row of an outcome that had none
+pub row_first : (later : Row) (old : List (Vec ℕ × Row)) (key : Vec ℕ) → None ≡ lookup (is_key key.items) old
+    → CountsRow key.items later old (insert_entry order old key later)
+unfolding counted_of
+row_first later old key none = λ other. ap (option_map counted_by) (lookup_inserted key later other old) ∙ by other (is_key other key) refl
+  where
+    by : (other : List ℕ) (b : Bool) → is_key other key ≡ b
+        → option_map counted_by (cond b (Some later) (lookup (is_key other) old)) ≡ cond b (counted_both (counted_of old other) (Some (counted_by later))) (counted_of old other)
+    by other true same =
+        let here : None ≡ lookup (is_key other) old = none ∙ ap (λ (k : List ℕ). lookup (is_key k) old) (sym (same_is other key.items same)) in
+        rw (← here) refl
+    by other false apart = refl
+
+-- ---- the rows that are left to take in
+
+-- no row after another has its outcome
+none_later : (key : Vec ℕ) (other : List ℕ) (rest : List (Vec ℕ × Row)) → is_key other key ≡ true
+    → AllByRecursion (λ (k : Vec ℕ). order key k ≡ Less) (keys_of rest) → lookup (is_key other) rest ≡ None
+none_later key other [] same later = refl
+none_later key other (e ∷ rest) same later =
+    let apart : is_key other e.0 ≡ false =
+    subst (λ (k : List ℕ). is_eq (slice_cmp nat_cmp k e.0.items) ≡ false) (sym (same_is other key.items same)) (ap is_eq later.0) in
+    ap (λ (b : Bool). cond b (Some e.1) (lookup (is_key other) rest)) apart ∙ none_later key other rest same later.1
+
+both_none : (told : Option Counted) → counted_both told None ≡ told
+both_none None = refl
+both_none (Some told) = refl
+
+-- what is counted and what is left to count are together what both say
+abbrev pub IsLeft : (now left : List (Vec ℕ × Row)) → (both : List ℕ → Option Counted) → Type 0
+IsLeft now left both = (other : List ℕ) → counted_both (counted_of now other) (counted_of left other) ≡ both other
+
+-- a row was taken in of those that are left
+pub row_taken : (key : Vec ℕ) (later : Row) (left rest now new : List (Vec ℕ × Row)) (both : List ℕ → Option Counted) → left ≡ (key, later) ∷ rest
+    → IsStrictlySortedBy order (keys_of left) → CountsRow key.items later now new → IsLeft now left both → IsLeft new rest both
+unfolding counted_of
+row_taken key later left rest now new both is sorted counts so_far other = by (is_key other key) refl
+  where
+    told : Option Counted
+    told = counted_of now other
+
+    taken : Bool → Option Counted
+    taken b = counted_both told (option_map counted_by (cond b (Some later) (lookup (is_key other) rest)))
+
+    shown : taken (is_key other key) ≡ both other
+    shown = subst (λ (rows : List (Vec ℕ × Row)). counted_both told (option_map counted_by (lookup (is_key other) rows)) ≡ both other) is (so_far other)
+
+    ordered : IsStrictlySortedBy order (key ∷ keys_of rest)
+    ordered = subst (λ (rows : List (Vec ℕ × Row)). IsStrictlySortedBy order (keys_of rows)) is sorted
+
+    counted : Bool → Option Counted
+    counted b = cond b (counted_both told (Some (counted_by later))) told
+
+    by : (b : Bool) → is_key other key ≡ b → counted_both (counted_of new other) (counted_of rest other) ≡ both other
+    by true same =
+        ap (λ (o : Option Row). counted_both (counted_of new other) (option_map counted_by o))
+        (none_later key other rest same (sorted_head order key (keys_of rest) ordered))
+        ∙ both_none (counted_of new other) ∙ counts other ∙ ap counted same ∙ sym (ap taken same) ∙ shown
+    by false apart =
+        ap (λ (o : Option Counted). counted_both o (counted_of rest other)) (counts other ∙ ap counted apart) ∙ sym (ap taken apart) ∙ shown
+
+-- no count grows past what both maps say together
+pub row_few : (key : Vec ℕ) (later : Row) (left rest now : List (Vec ℕ × Row)) (both : Option Counted) (most : ℕ) → left ≡ (key, later) ∷ rest
+    → counted_both (counted_of now key.items) (counted_of left key.items) ≡ both
+    → IfSome {T = Counted} both (λ told. told.0 < most) → IfSome {T = Counted} (counted_of now key.items) (λ told. told.0 + later.count < most)
+unfolding counted_of
+row_few key later left rest now both most is so_far few = at (counted_of now key.items) shown
+  where
+    taken : Bool → Option Counted
+    taken b = counted_both (counted_of now key.items) (option_map counted_by (cond b (Some later) (lookup (is_key key.items) rest)))
+
+    shown : taken true ≡ both
+    shown =
+        sym (ap taken (same_itself key.items))
+        ∙ subst (λ (rows : List (Vec ℕ × Row)). counted_both (counted_of now key.items) (option_map counted_by (lookup (is_key key.items) rows)) ≡ both) is so_far
+
+    at : (o : Option Counted) → counted_both o (Some (counted_by later)) ≡ both → IfSome {T = Counted} o (λ told. told.0 + later.count < most)
+    at None e = tt
+    at (Some told) e = subst (λ (b : Option Counted). IfSome {T = Counted} b (λ t. t.0 < most)) (sym e) few
+
+-- no row is left
+pub rows_done : (left now : List (Vec ℕ × Row)) (both : List ℕ → Option Counted) → left ≡ [] → IsLeft now left both
+    → (other : List ℕ) → counted_of now other ≡ both other
+unfolding counted_of
+rows_done left now both is so_far other =
+    sym (both_none (counted_of now other))
+    ∙ subst (λ (rows : List (Vec ℕ × Row)). counted_both (counted_of now other) (option_map counted_by (lookup (is_key other) rows)) ≡ both other) is (so_far other)

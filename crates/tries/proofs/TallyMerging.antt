@@ -1,0 +1,218 @@
+-- Runs after runs: their schedules, and the tally of them all from the tallies of the two parts.
+use Rattle.std.proofs.Common.{◌≡◌, ℕ, zero, suc, ◌+◌, ◌*◌, Bool, cond, ◌||◌, not, List, [], ◌∷◌, ◌++◌, length, map, find, count_by, Option, Some, None, option_map, refl, sym, ap, ◌∙◌, arith, append-nil, append_assoc, subst, ◌-◌, ◌≤◌, ◌<◌, rules}
+use Rattle.std.specs.List.{list_any, range_with_len}
+use Rattle.std.specs.Option.{option_or}
+use Rattle.std.specs.Prelude.{IfSome, IfOk, Result, Ok, slice_index_or}
+use Rattle.std.specs.declared.alloc.AllocError.{AllocError}
+use Rattle.std.proofs.Math.Nat.{div-mul-le_self}
+use Rattle.std.proofs.lemmas.Nat.{le-div}
+use Rattle.std.proofs.lemmas.List.{map-append, length-map}
+use Rattle.std.proofs.lemmas.List.Folds.{find-append, list_any-append}
+use Rattle.std.proofs.lemmas.List.Sums.{sum_by-append, count_by-le-length}
+use Rattle.std.proofs.lemmas.List.Elements.{All-append}
+use Rattle.std.proofs.lemmas.List.FromFn.{map-range_with_len_more, length-map-range_with_len}
+use Rattle.rand_core.specs.Stream.{Stream}
+use Rattle.step_machine.specs.declared.events.Event.{Event}
+use Rattle.recorder.specs.Drawing.{left_after, drawn, words}
+use Rattle.tries.specs.declared.trials.tally.Tally.{Tally}
+use Rattle.tries.specs.Trials.{Trial, IsTrial, schedule_drawn, AreTrials, is_finished, is_holds, is_fails, gave}
+use Rattle.tries.specs.Outcomes.{schedule_text}
+use Rattle.tries.specs.inner.Tallies.{Counted, counted_of, seen_of, IsTallyOf}
+use Rattle.tries.specs.inner.Merging.{counted_both, first_of, AreRunsFrom, AreTalliesFrom, IsTallyFrom, Merges, Source}
+use Rattle.tries.proofs.TrialLaws.{left_after-sum, no_trials}
+use Rattle.tries.proofs.TallyLaws.{none_counted, seen_few}
+
+-- ---- what is told of an outcome
+
+abbrev told_by : ℕ → Option Trial → Option Counted
+told_by n o = option_map (λ (first : Trial). (n, schedule_text first.events)) o
+
+told_of_both : (o p : Option Trial) (n m : ℕ) → (o ≡ None → n ≡ 0) → (p ≡ None → m ≡ 0) → told_by (n + m) (option_or o p) ≡ counted_both (told_by n o) (told_by m p)
+told_of_both None None n m none also = refl
+told_of_both None (Some first) n m none also = let same : n + m ≡ m = omega (arith, none refl) in ap (λ (k : ℕ). told_by k (Some first)) same
+told_of_both (Some first) None n m none also = let same : n + m ≡ n = omega (arith, also refl) in ap (λ (k : ℕ). told_by k (Some first)) same
+told_of_both (Some first) (Some other) n m none also = refl
+
+seen_both : (front back : List Trial) (outcome : List ℕ) → seen_of (front ++ back) outcome ≡ counted_both (seen_of front outcome) (seen_of back outcome)
+unfolding seen_of
+seen_both front back outcome =
+    ap (λ (n : ℕ). told_by n (find (gave outcome) (front ++ back))) (sum_by-append (λ y. cond (gave outcome y) 1 0) front back)
+    ∙ ap (told_by (count_by (gave outcome) front + count_by (gave outcome) back)) (find-append (gave outcome) front back)
+    ∙ told_of_both (find (gave outcome) front) (find (gave outcome) back) _ _ (none_counted (gave outcome) front) (none_counted (gave outcome) back)
+
+-- two flags, each of one part, are one of all
+any_both : (p : Trial → Bool) (front back : List Trial) (old later new : Bool) → new ≡ (old || later) → old ≡ list_any p front → later ≡ list_any p back
+    → new ≡ list_any p (front ++ back)
+any_both p front back old later new either first second =
+    either ∙ ap (λ (b : Bool). b || later) first ∙ ap (λ (b : Bool). list_any p front || b) second ∙ sym (list_any-append p front back)
+
+-- two tallies make the tally of the first one's runs and then the other's
+tally_both : (front back : List Trial) (old later new : Tally) → IsTallyOf front old → IsTallyOf back later → Merges old later new → IsTallyOf (front ++ back) new
+tally_both front back old later new first second merged = record {
+  rows = λ outcome.
+      merged.rows outcome
+      ∙ ap (λ (o : Option Counted). counted_both o (counted_of later.rows.entries outcome)) (first.rows outcome)
+      ∙ ap (counted_both (seen_of front outcome)) (second.rows outcome)
+      ∙ sym (seen_both front back outcome);
+  unfinished_are =
+      let e = sum_by-append (λ (y : Trial). cond (not (is_finished y.verdict)) 1 0) front back in
+      omega (arith, e, merged.unfinished_are, first.unfinished_are, second.unfinished_are);
+  holds = any_both (λ (t : Trial). is_holds t.verdict) front back _ _ _ merged.holds first.holds second.holds;
+  fails = any_both (λ (t : Trial). is_fails t.verdict) front back _ _ _ merged.fails first.fails second.fails;
+}
+
+-- ---- the runs themselves
+
+-- a list of numbered things, and then more of them
+numbered_both : {X : Type 0} (f later : ℕ → X) (before number : ℕ) → ((k : ℕ) → later k ≡ f (before + k))
+    → map f (range_with_len 0 (before + number)) ≡ map f (range_with_len 0 before) ++ map later (range_with_len 0 number)
+numbered_both f later before zero same =
+    let none : before + 0 ≡ before = omega arith in
+    ap (λ (n : ℕ). map f (range_with_len 0 n)) none ∙ sym (append-nil (map f (range_with_len 0 before)))
+numbered_both {X} f later before (suc number) same =
+    let whole : before + suc number ≡ (before + number) + 1 = omega arith in
+    let one : suc number ≡ number + 1 = omega arith in
+    let all : 0 + (before + number) ≡ before + number = omega arith in
+    let own : 0 + number ≡ number = omega arith in
+    let front = map f (range_with_len 0 before) in
+    ap (λ (n : ℕ). map f (range_with_len 0 n)) whole
+    ∙ map-range_with_len_more f 0 (before + number) (before + number) all
+    ∙ ap (λ (xs : List X). xs ++ f (before + number) ∷ []) (numbered_both f later before number same)
+    ∙ append_assoc front (map later (range_with_len 0 number)) (f (before + number) ∷ [])
+    ∙ ap (λ (x : X). front ++ (map later (range_with_len 0 number) ++ x ∷ [])) (sym (same number))
+    ∙ ap (λ (back : List X). front ++ back) (sym (map-range_with_len_more later 0 number number own))
+    ∙ ap (λ (n : ℕ). front ++ map later (range_with_len 0 n)) (sym one)
+
+-- the schedules from a number on are those that the generator draws there
+drawn_later : (harts size : ℕ) (stream : Stream) (before number : ℕ) → schedule_drawn harts size (left_after (before * size) stream) number ≡ schedule_drawn harts size stream (before + number)
+drawn_later harts size stream before number =
+    let place : before * size + number * size ≡ (before + number) * size = omega arith in
+    ap (λ (s : Stream). map (drawn harts) (words size s)) (left_after-sum (number * size) (before * size) stream ∙ ap (λ (n : ℕ). left_after n stream) place)
+
+at_start : (size : ℕ) (stream : Stream) → left_after (0 * size) stream ≡ stream
+unfolding left_after
+at_start size stream = let none : 0 * size ≡ 0 = omega arith in ap (λ (n : ℕ). left_after n stream) none
+
+module _ (source : Source) where
+  -- all runs, from the first on
+  abbrev AreRuns : (runs : ℕ) → List Trial → Type 0
+  AreRuns runs trials = AreTrials source.B source.M source.question source.stream runs source.size trials
+
+  abbrev IsRun : Trial → Type 0
+  IsRun trial = IsTrial source.B source.M source.question trial
+
+  -- runs, and those that the generator draws after them
+  runs_both : (before number : ℕ) (front back : List Trial) → AreRuns before front → AreRunsFrom source before number back → AreRuns (before + number) (front ++ back)
+  runs_both before number front back first second =
+      let drawing = schedule_drawn (length source.question.opening.harts) source.size source.stream in
+      let later = schedule_drawn (length source.question.opening.harts) source.size (left_after (before * source.size) source.stream) in
+      record {
+        schedules =
+            map-append (λ (t : Trial). t.events) front back
+            ∙ ap (λ (xs : List (List Event)). xs ++ map (λ (t : Trial). t.events) back) first.schedules
+            ∙ ap (λ (xs : List (List Event)). map drawing (range_with_len 0 before) ++ xs) second.schedules
+            ∙ sym (numbered_both drawing later before number (drawn_later (length source.question.opening.harts) source.size source.stream before));
+        ran = All-append IsRun front back first.ran second.ran;
+      }
+
+  -- from the first run on, all runs
+  first_are : (runs : ℕ) (tally : Tally) → (is : IsTallyFrom source 0 runs tally) → AreRuns runs is.trials
+  first_are runs tally is =
+      let all : runs - 0 ≡ runs = omega arith in
+      subst (λ (n : ℕ). AreRuns n is.trials) all
+      (subst (λ (s : Stream). AreTrials source.B source.M source.question s (runs - 0) source.size is.trials) (at_start source.size source.stream) is.are)
+
+  are_first : (runs : ℕ) (trials : List Trial) → AreRuns runs trials → AreRunsFrom source 0 (runs - 0) trials
+  are_first runs trials are =
+      let all : runs ≡ runs - 0 = omega arith in
+      subst (λ (n : ℕ). AreRunsFrom source 0 n trials) all
+      (subst (λ (s : Stream). AreTrials source.B source.M source.question s runs source.size trials) (sym (at_start source.size source.stream)) are)
+
+  pub from_all : (runs : ℕ) (tally : Tally) → IsTallyFrom source 0 runs tally → (trials : List Trial) × AreRuns runs trials × IsTallyOf trials tally
+  from_all runs tally is = (is.trials, first_are runs tally is, is.tallied)
+
+  -- the tally that has none is that of no run
+  pub from_none : (runs jobs : ℕ) (tally : Tally) → IsTallyOf [] tally → 1 ≤ jobs → IsTallyFrom source 0 (first_of runs jobs 0) tally
+  from_none runs jobs tally none some =
+      let zero_runs : 0 ≡ first_of runs jobs 0 = search rules in
+      record {
+        trials = [];
+        are = are_first (first_of runs jobs 0) [] (subst (λ (n : ℕ). AreRuns n []) zero_runs (no_trials source.B source.M source.question source.stream source.size));
+        tallied = none;
+      }
+
+  -- the runs before a job, and the job's own
+  module _ (before end : ℕ) (old later : Tally) (le : before ≤ end) (first : IsTallyFrom source 0 before old) (second : IsTallyFrom source before end later) where
+    abbrev both : List Trial
+    both = first.trials ++ second.trials
+
+    both_are : AreRuns end both
+    both_are =
+        let sum : before + (end - before) ≡ end = omega (arith, le) in
+        subst (λ (n : ℕ). AreRuns n both) sum (runs_both before (end - before) first.trials second.trials (first_are before old first) second.are)
+
+    pub from_both : (new : Tally) → Merges old later new → IsTallyFrom source 0 end new
+    from_both new merged = record {
+      trials = both;
+      are = are_first end both both_are;
+      tallied = tally_both first.trials second.trials old later new first.tallied second.tallied merged;
+    }
+
+    both_long : length both ≡ end
+    both_long =
+        sym (length-map both (λ (t : Trial). t.events)) ∙ ap (λ (xs : List (List Event)). length xs) both_are.schedules
+        ∙ length-map-range_with_len (schedule_drawn (length source.question.opening.harts) source.size source.stream) 0 end
+
+    -- no count is above the number of all runs
+    pub both_few : (most : ℕ) → end < most → (outcome : List ℕ)
+        → IfSome {T = Counted} (counted_both (counted_of old.rows.entries outcome) (counted_of later.rows.entries outcome)) (λ told. told.0 < most)
+    both_few most few outcome =
+        rw (first.tallied.rows outcome, second.tallied.rows outcome, ← seen_both first.trials second.trials outcome)
+        (seen_few both outcome most (omega (arith, both_long, few)))
+
+    pub both_unfinished_few : (most : ℕ) → end < most → old.unfinished + later.unfinished < most
+    both_unfinished_few most few =
+        let e = sum_by-append (λ (y : Trial). cond (not (is_finished y.verdict)) 1 0) first.trials second.trials in
+        omega (arith, both_long, few, e, first.tallied.unfinished_are, second.tallied.unfinished_are, count_by-le-length (λ (t : Trial). not (is_finished t.verdict)) both)
+
+  -- ---- the tallies that are left
+
+  module _ (runs jobs : ℕ) where
+    abbrev IsJobs : ℕ → Result Tally AllocError → Type 0
+    IsJobs job result = IfOk result (λ tally. IsTallyFrom source (first_of runs jobs job) (first_of runs jobs (job + 1)) tally)
+
+    pub job_first : (job : ℕ) (tallies rest : List (Result Tally AllocError)) (tally : Tally) → tallies ≡ Ok tally ∷ rest
+        → AreTalliesFrom source runs jobs job tallies → IsTallyFrom source (first_of runs jobs job) (first_of runs jobs (job + 1)) tally
+    job_first job tallies rest tally is all =
+        let here : job + 0 ≡ job = omega arith in
+        subst (λ (n : ℕ). IsJobs n (Ok tally)) here
+        (subst (λ (xs : List (Result Tally AllocError)). AreTalliesFrom source runs jobs job xs) is all 0 (Ok tally) (omega arith))
+
+    pub jobs_left : (job : ℕ) (tallies rest : List (Result Tally AllocError)) (tally : Result Tally AllocError) → tallies ≡ tally ∷ rest
+        → AreTalliesFrom source runs jobs job tallies → AreTalliesFrom source runs jobs (job + 1) rest
+    jobs_left job tallies rest tally is all k d less =
+        let here : job + (k + 1) ≡ job + 1 + k = omega arith in
+        let next : slice_index_or (tally ∷ rest) (k + 1) d ≡ slice_index_or rest k d = search rules in
+        let found = subst (λ (xs : List (Result Tally AllocError)). AreTalliesFrom source runs jobs job xs) is all (k + 1) d (omega (arith, less)) in
+        subst (λ (n : ℕ). IsJobs n (slice_index_or rest k d)) here (subst (IsJobs (job + (k + 1))) next found)
+
+    pub jobs_all : (tallies shown : List (Result Tally AllocError)) → shown ≡ tallies → length tallies ≡ jobs
+        → ((job : ℕ) (d : Result Tally AllocError) → job < jobs → IsJobs job (slice_index_or tallies job d)) → AreTalliesFrom source runs jobs 0 shown
+    jobs_all tallies shown same long each =
+        subst (λ (xs : List (Result Tally AllocError)). AreTalliesFrom source runs jobs 0 xs) (sym same)
+        (λ k d less. let here : k ≡ 0 + k = omega arith in
+        subst (λ (n : ℕ). IsJobs n (slice_index_or tallies k d)) here (each k d (omega (arith, less, long))))
+
+-- ---- where jobs begin
+
+pub all_placed : (runs jobs job : ℕ) → 1 ≤ jobs → job ≡ jobs → first_of runs jobs job ≡ runs
+all_placed runs jobs job some last = search rules
+
+pub placed_later : (runs jobs job : ℕ) → 1 ≤ jobs → first_of runs jobs job ≤ first_of runs jobs (job + 1)
+placed_later runs jobs job some =
+    let before = div-mul-le_self (runs * job) jobs in
+    let more : runs * (job + 1) ≡ runs * job + runs = omega arith in
+    le-div (first_of runs jobs job) (runs * (job + 1)) jobs (omega (arith, some)) (omega (arith, before, more))
+
+pub placed_within : (runs jobs job : ℕ) → 1 ≤ jobs → job ≤ jobs → first_of runs jobs job ≤ runs
+placed_within runs jobs job some most = search rules

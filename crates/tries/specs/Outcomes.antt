@@ -1,0 +1,73 @@
+-- The command `try`: the outcomes of a test's runs, each with how many runs gave it and the schedule of
+-- the first one, and how many runs did not finish.
+use Rattle.std.specs.Prelude.{ℕ, ◌≡◌, ◌/◌, ◌==◌, ◌↔◌, IsTrue, if◌then◌else◌, Bool, not, List, [], ◌∷◌, ◌++◌, length, zip, find, flat_map, count_by, Contains, slice_index_or, Option, Some, None, Result, Ok, Err, codes}
+use Rattle.std.specs.List.{list_any}
+use Rattle.std.specs.List.Sorted.{IsStrictlySortedBy}
+use Rattle.std.specs.Ordering.{nat_cmp}
+use Rattle.std.specs.Cmp.Lexicographic.{slice_cmp}
+use Rattle.std.specs.Fmt.{decimal}
+use Rattle.rand_core.specs.Stream.{Stream}
+use Rattle.step_machine.specs.declared.events.Event.{Event}
+use Rattle.litmus.specs.Questions.{Question, left_sides}
+use Rattle.litmus.specs.declared.symbols.Place.{Place}
+use Rattle.litmus.specs.declared.symbols.Place.TheVariants as place
+use Rattle.recorder.specs.Writing.{tokens_of}
+use Rattle.engine_parts.specs.declared.fault.Refusal.{Refusal}
+use Rattle.engine_parts.specs.Tests.{ByTest}
+use Rattle.tries.specs.Trials.{Trial, AreTrials, is_finished, gave, are_good}
+
+-- a register as `H:xN`, a word as the name of its location
+abbrev pub place_text : (names : List (List ℕ)) → Place → List ℕ
+place_text names (place.Register h n) = decimal h ++ codes ":x" ++ decimal n
+place_text names (place.Word a) = slice_index_or names (a / 4) []
+
+-- ` LEFT=VALUE`, a place and its value
+abbrev pub value_text : (names : List (List ℕ)) → Place × ℕ → List ℕ
+value_text names side = codes " " ++ place_text names side.0 ++ codes "=" ++ decimal side.1
+
+-- a schedule's tokens behind a space, where it has any
+abbrev pub schedule_text : List Event → List ℕ
+schedule_text events = if length events == 0 then [] else (codes " " ++ tokens_of events)
+
+-- of the first of these runs, which there is for every outcome
+abbrev pub first_schedule_text : Option Trial → List ℕ
+first_schedule_text None = []
+first_schedule_text (Some trial) = schedule_text trial.events
+
+-- a line: how many runs, the values of the left sides, and a schedule
+abbrev pub line_of : Question → (outcome : List ℕ) → (count : ℕ) → (schedule : List ℕ) → List ℕ
+line_of question outcome count schedule = decimal count ++ flat_map (value_text question.names) (zip (left_sides question.condition) outcome) ++ codes " ;" ++ schedule ++ 10 ∷ []
+
+-- the line of an outcome, with how many runs gave it and the schedule of the first run that did
+abbrev pub outcome_line : Question → List Trial → (outcome : List ℕ) → List ℕ
+outcome_line question trials outcome = line_of question outcome (count_by (gave outcome) trials) (first_schedule_text (find (gave outcome) trials))
+
+abbrev pub unfinished_line : (count : ℕ) → List ℕ
+unfinished_line count = codes "unfinished " ++ decimal count ++ 10 ∷ []
+
+-- how many runs did not finish
+abbrev pub unfinished : List Trial → ℕ
+unfinished trials = count_by (λ t. not (is_finished t.verdict)) trials
+
+-- these are the outcomes of the runs: each once, ascending as lists of numbers
+pub record AreOutcomes (trials : List Trial) (outcomes : List (List ℕ)) : Type 0 where
+  pub ascending : IsStrictlySortedBy (slice_cmp nat_cmp) outcomes
+  pub all : (outcome : List ℕ) → Contains outcomes outcome ↔ IsTrue (list_any (gave outcome) trials)
+
+-- the text of so many runs of a test, over store buffers of B pairs and a memory of M words, and
+-- whether they show what the test asks
+pub record IsTried (B M : ℕ) (stream : Stream) (runs size : ℕ) (question : Question) (answer : List ℕ × Bool) : Type 0 where
+  pub trials : List Trial
+  pub are : AreTrials B M question stream runs size trials
+  pub outcomes : List (List ℕ)
+  pub shown : AreOutcomes trials outcomes
+  pub text : answer.0 ≡ flat_map (outcome_line question trials) outcomes ++ unfinished_line (unfinished trials)
+  pub good : answer.1 ≡ are_good question.quantifier trials
+
+abbrev pub IsTriedOf : (B M : ℕ) → Stream → (runs size : ℕ) → Question → Result (List ℕ × Bool) Refusal → Type 0
+IsTriedOf B M stream runs size question (Ok answer) = IsTried B M stream runs size question answer
+IsTriedOf B M stream runs size question (Err refusal) = ⊥
+
+-- what answers a test, where the generator gives this stream
+abbrev pub IsTryAnswer : (B M : ℕ) → Stream → (runs size : ℕ) → (file : List ℕ) → Result (List ℕ × Bool) Refusal → Type 0
+IsTryAnswer B M stream runs size file answer = ByTest (IsTriedOf B M stream runs size) file answer

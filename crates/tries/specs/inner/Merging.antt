@@ -1,0 +1,60 @@
+-- Two tallies made one: that of the first one's runs and then of the other's.
+use Rattle.std.specs.Prelude.{ℕ, ◌≡◌, ◌+◌, ◌*◌, ◌/◌, ◌-◌, ◌<◌, ◌||◌, if◌then◌else◌, length, slice_index_or, IfOk, Result, List, Option, Some, None}
+use Rattle.std.specs.Global.{Vec}
+use Rattle.std.specs.declared.alloc.AllocError.{AllocError}
+use Rattle.std.specs.Ordering.{is_eq, nat_cmp}
+use Rattle.std.specs.Cmp.Lexicographic.{slice_cmp}
+use Rattle.rand_core.specs.Stream.{Stream}
+use Rattle.litmus.specs.Questions.{Question}
+use Rattle.recorder.specs.Drawing.{left_after}
+use Rattle.tries.specs.declared.trials.tally.Row.{Row}
+use Rattle.tries.specs.declared.trials.tally.Tally.{Tally}
+use Rattle.tries.specs.Trials.{Trial, AreTrials}
+use Rattle.tries.specs.inner.Tallies.{Counted, counted_by, counted_of, IsTallyOf}
+
+-- what both tell of an outcome: the counts together, and the schedule of the first that has one
+abbrev pub counted_both : Option Counted → Option Counted → Option Counted
+counted_both None later = later
+counted_both (Some told) None = Some told
+counted_both (Some told) (Some later) = Some (told.0 + later.0, told.1)
+
+-- the runs of a later row were counted after those of its outcome
+abbrev pub CountsRow : (outcome : List ℕ) → Row → (old new : List (Vec ℕ × Row)) → Type 0
+CountsRow outcome later old new = (other : List ℕ)
+    → counted_of new other ≡ (if is_eq (slice_cmp nat_cmp other outcome) then counted_both (counted_of old other) (Some (counted_by later)) else counted_of old other)
+
+-- the runs of a later tally were taken in after those of this one
+pub record Merges (old later new : Tally) : Type 0 where
+  pub rows : (outcome : List ℕ) → counted_of new.rows.entries outcome ≡ counted_both (counted_of old.rows.entries outcome) (counted_of later.rows.entries outcome)
+  pub unfinished_are : new.unfinished ≡ old.unfinished + later.unfinished
+  pub holds : new.some_hold ≡ (old.some_hold || later.some_hold)
+  pub fails : new.some_fail ≡ (old.some_fail || later.some_fail)
+
+-- Where runs come from: buffers of B stores and a memory of M words, the test, the stream that draws the
+-- schedules, and how many events each schedule has.
+pub record Source : Type 0 where
+  pub B : ℕ
+  pub M : ℕ
+  pub question : Question
+  pub stream : Stream
+  pub size : ℕ
+
+-- so many runs, from the one of this number on
+abbrev pub AreRunsFrom : Source → (first number : ℕ) → List Trial → Type 0
+AreRunsFrom source first number trials =
+    AreTrials source.B source.M source.question (left_after (first * source.size) source.stream) number source.size trials
+
+-- the tally of the runs from one number up to another
+pub record IsTallyFrom (source : Source) (first end : ℕ) (tally : Tally) : Type 0 where
+  pub trials : List Trial
+  pub are : AreRunsFrom source first (end - first) trials
+  pub tallied : IsTallyOf trials tally
+
+-- the first run of a job, of so many jobs; after the last job all runs end
+abbrev pub first_of : (runs jobs job : ℕ) → ℕ
+first_of runs jobs job = runs * job / jobs
+
+-- the tallies of the jobs from this one on, in order
+abbrev pub AreTalliesFrom : Source → (runs jobs job : ℕ) → List (Result Tally AllocError) → Type 0
+AreTalliesFrom source runs jobs job tallies = (k : ℕ) (d : Result Tally AllocError) → k < length tallies
+    → IfOk (slice_index_or tallies k d) (λ tally. IsTallyFrom source (first_of runs jobs (job + k)) (first_of runs jobs (job + k + 1)) tally)

@@ -1,0 +1,133 @@
+//! The command `try`: runs of a litmus test from schedules that a generator draws, and their outcomes.
+
+ghost use Rattle.std.specs.Prelude.{◌≡◌, ◌≤◌, ◌*◌, IfOk};
+ghost use Rattle.engine_parts.specs.Engines.{EndsBy};
+ghost use Rattle.tries.specs.Outcomes.{IsTried, IsTryAnswer};
+ghost use Rattle.engine_parts.specs.inner.Making.{FindsBy, text_and_value};
+ghost use Rattle.tries.specs.inner.Tallies.{good_by};
+ghost use Rattle.recorder.specs.Drawing.{left_after};
+ghost use Rattle.litmus.specs.declared.question.TheConstants.{MAX_LOCATIONS};
+
+use crate::trials::outcomes::tally_text;
+use crate::trials::spreading::tally_by_jobs;
+use crate::trials::tally::Tally;
+use engine_parts::fault::Fault;
+use engine_parts::litmus_text::read_test;
+use engine_parts::output::end_with;
+use jumping::Jump;
+use litmus::Test;
+use std::alloc::{AllocError, Global};
+use std::io::{Read, Write};
+use std::thread::Threads;
+
+mod drawing;
+mod outcomes;
+mod spreading;
+mod tally;
+
+/// Which runs of a test a generator draws, and how they are spread.
+#[derive(Clone, Copy)]
+pub struct Runs {
+    /// How many runs of the stream are passed over.
+    pub skip: u64,
+    /// How many runs after them are made.
+    pub number: u32,
+    /// How many events each run has, passed over or made.
+    pub length: u32,
+    /// How many threads share the runs, where 0 is one. The answer doesn't depend on it.
+    pub jobs: u32,
+}
+
+/// Whether the runs of a tally show what the test asks.
+fn is_good(test: &Test, tally: &Tally) -> bool
+    ensures { result ≡ good_by test.now.quantifier tally.now.some_hold tally.now.some_fail }
+{
+    if test.by_exists() {
+        tally.some_hold
+    } else {
+        !tally.some_fail
+    }
+}
+
+/// The text of a test's runs, and whether they show what it asks.
+fn answer<const B: usize, const M: usize, G: Jump + Sync + Drop, T: Threads + Sync>(
+    rt: &T,
+    alloc: Global,
+    test: &Test,
+    generator: &G,
+    runs: Runs,
+) -> Result<(String, bool), AllocError>
+    requires some_capacity { 1 ≤ B }
+    requires capacity { B ≤ 64 }
+    requires words { MAX_LOCATIONS ≤ M }
+    requires size { M ≤ 65536 }
+    ensures { IfOk result (λ told. IsTried B M (left_after (runs.skip * runs.length) (G.Rng.stream generator.now)) runs.number runs.length test.now (text_and_value told)) }
+{
+    let start = generator.ahead(runs.skip, runs.length)?;
+    let Runs {
+        number,
+        length,
+        jobs,
+        ..
+    } = runs;
+    let tally = tally_by_jobs::<B, M, G, T>(rt, alloc, test, &start, number, length, jobs)?;
+    let text = tally_text(alloc, test, &tally)?;
+    Ok((text, is_good(test, &tally)))
+}
+
+/// What is to be written for the input that the reader gives, and whether the runs show what its test
+/// asks.
+fn made<const B: usize, const M: usize, R: Read, G: Jump + Sync + Drop, T: Threads + Sync>(
+    rt: &T,
+    alloc: Global,
+    file: &mut R,
+    generator: &G,
+    runs: Runs,
+) -> Result<(String, bool), Fault>
+    requires some_capacity { 1 ≤ B }
+    requires capacity { B ≤ 64 }
+    requires words { MAX_LOCATIONS ≤ M }
+    requires size { M ≤ 65536 }
+    ensures { FindsBy (IsTryAnswer B M (left_after (runs.skip * runs.length) (G.Rng.stream generator.now)) runs.number runs.length) text_and_value (R.remaining file.old) result }
+{
+    let test = read_test(alloc, file)?;
+    let told = answer::<B, M, G, T>(rt, alloc, &test, generator, runs)?;
+    Ok(told)
+}
+
+/// Reads a litmus text to its end, and runs the test `runs.number` times from its opening with store
+/// buffers of `B` pairs and `M` words of memory, each time by `runs.length` events that the generator
+/// draws, after the events of the runs that are passed over.
+///
+/// It writes a line for each outcome of the finished runs, ascending by the values: how many runs gave
+/// it, the values of the condition's left sides, and the schedule of the first of these runs; and then
+/// how many runs did not finish. It answers whether the runs show what the test asks: with `exists` a
+/// run that holds, else no run that fails. The answer doesn't depend on the jobs.
+///
+/// The input is refused as `run` refuses it, and then nothing was written.
+pub fn try_engine<
+    const B: usize,
+    const M: usize,
+    R: Read,
+    G: Jump + Sync + Drop,
+    W: Write,
+    T: Threads + Sync,
+>(
+    rt: &T,
+    alloc: Global,
+    file: &mut R,
+    generator: &G,
+    runs: Runs,
+    writer: &mut W,
+) -> Result<bool, Fault>
+    requires some_capacity { 1 ≤ B }
+    requires capacity { B ≤ 64 }
+    requires words { MAX_LOCATIONS ≤ M }
+    requires size { M ≤ 65536 }
+    ensures { EndsBy (IsTryAnswer B M (left_after (runs.skip * runs.length) (G.Rng.stream generator.now)) runs.number runs.length) result (R.remaining file.old) W.contents writer.old writer.new }
+{
+    end_with(
+        made::<B, M, R, G, T>(rt, alloc, file, generator, runs),
+        writer,
+    )
+}

@@ -1,0 +1,166 @@
+//! What is kept of a test's runs.
+
+ghost use Rattle.std.specs.Prelude.{◌≡◌, ◌+◌, ◌<◌, ◌≤◌, ℕ, List, [], ◌∷◌, length, IfOk, IfSome, OnOk};
+ghost use Rattle.std.specs.String.{string_bytes};
+ghost use Rattle.step_machine.specs.Runs.{Run};
+ghost use Rattle.tries.specs.Trials.{Trial, IsTrial};
+ghost use Rattle.tries.specs.Outcomes.{schedule_text as text_of_schedule};
+ghost use Rattle.tries.specs.inner.Tallies.{counted_of, Counts, IsTallyOf, Tallies};
+ghost use Rattle.tries.specs.inner.Merging.{counted_both, CountsRow, Merges};
+
+use engine_parts::running::run_anew;
+use litmus::{Test, Verdict};
+use recorder::push_tokens;
+use std::alloc::{AllocError, Global};
+use std::collections::BTreeMap;
+use step_machine::{Event, Machine};
+
+/// What the runs with one outcome showed.
+#[derive(Drop)]
+pub struct Row {
+    /// How many they are.
+    pub count: u32,
+    /// The tokens of the first one's schedule behind a space, or nothing where there are none.
+    pub schedule: String,
+}
+
+/// The rows by their outcomes, and what else is told of the runs.
+#[derive(Drop)]
+pub struct Tally {
+    pub rows: BTreeMap<Vec<u32>, Row>,
+    /// How many runs did not finish.
+    pub unfinished: u32,
+    pub some_hold: bool,
+    pub some_fail: bool,
+}
+
+fn schedule_text(alloc: Global, events: &[Event]) -> Result<String, AllocError>
+    ensures { IfOk result (λ text. string_bytes text ≡ text_of_schedule events.now) }
+{
+    let mut text = String::new(alloc);
+    if events.is_empty() {
+        return Ok(text);
+    }
+    text.push_str(" ")?;
+    push_tokens(&mut text, events)?;
+    Ok(text)
+}
+
+/// Counts one more run with this outcome.
+fn count_outcome(
+    alloc: Global,
+    rows: &mut BTreeMap<Vec<u32>, Row>,
+    outcome: &[u32],
+    events: &[Event],
+) -> Result<(), AllocError>
+    requires { IfSome (counted_of rows.old.entries outcome.now) (λ told. told.0 < 4294967295) }
+    ensures { OnOk result (Counts outcome.now events.now rows.old.entries rows.new.entries) }
+{
+    match rows.get_mut(outcome) {
+        Some(row) => row.count += 1,
+        None => {
+            let schedule = schedule_text(alloc, events)?;
+            let outcome = Vec::from_slice(alloc, outcome)?;
+            rows.insert(outcome, Row { count: 1, schedule })?;
+        }
+    }
+    Ok(())
+}
+
+/// Counts the runs of a later row too, after those that are counted for this outcome.
+fn count_row(
+    rows: &mut BTreeMap<Vec<u32>, Row>,
+    outcome: Vec<u32>,
+    later: Row,
+) -> Result<(), AllocError>
+    requires { IfSome (counted_of rows.old.entries outcome.items) (λ told. told.0 + later.count < 4294967296) }
+    ensures { OnOk result (CountsRow outcome.items later rows.old.entries rows.new.entries) }
+{
+    match rows.get_mut(outcome.as_slice()) {
+        Some(row) => row.count += later.count,
+        None => {
+            rows.insert(outcome, later)?;
+        }
+    }
+    Ok(())
+}
+
+impl Tally {
+    /// Takes in the runs of a later tally, after its own.
+    pub fn take_in(&mut self, later: Tally) -> Result<(), AllocError>
+        requires counts { (outcome : List ℕ) → IfSome (counted_both (counted_of self.old.rows.entries outcome) (counted_of later.rows.entries outcome)) (λ told. told.0 < 4294967296) }
+        requires unfinished { self.old.unfinished + later.unfinished < 4294967296 }
+        ensures { OnOk result (Merges self.old later self.new) }
+    {
+        for (outcome, row) in later.rows {
+            count_row(&mut self.rows, outcome, row)?;
+        }
+        self.unfinished += later.unfinished;
+        self.some_hold = self.some_hold || later.some_hold;
+        self.some_fail = self.some_fail || later.some_fail;
+        Ok(())
+    }
+
+    /// Of no run.
+    pub fn new(alloc: Global) -> Tally
+        ensures { IsTallyOf [] result }
+    {
+        Tally {
+            rows: BTreeMap::new(alloc),
+            unfinished: 0,
+            some_hold: false,
+            some_fail: false,
+        }
+    }
+
+    /// Takes in one more run, by these events, with this verdict and these last values.
+    fn add(
+        &mut self,
+        alloc: Global,
+        events: &[Event],
+        verdict: Verdict,
+        values: &[u32],
+    ) -> Result<(), AllocError>
+        requires counts { (outcome : List ℕ) → IfSome (counted_of self.old.rows.entries outcome) (λ told. told.0 < 4294967295) }
+        requires unfinished { self.old.unfinished < 4294967295 }
+        ensures { OnOk result (Tallies (record { events = events.now; verdict = verdict; values = values.now }) self.old self.new) }
+    {
+        match verdict {
+            Verdict::Holds => {
+                self.some_hold = true;
+                count_outcome(alloc, &mut self.rows, values, events)
+            }
+            Verdict::Fails => {
+                self.some_fail = true;
+                count_outcome(alloc, &mut self.rows, values, events)
+            }
+            Verdict::Unfinished => {
+                self.unfinished += 1;
+                Ok(())
+            }
+        }
+    }
+
+    /// Takes in the run of these events on a machine of the test's opening, whatever it did before. The
+    /// last values go into `values`, in the place of what it holds.
+    pub fn add_run<const B: usize, const M: usize>(
+        &mut self,
+        alloc: Global,
+        test: &Test,
+        machine: &mut Machine<B, M>,
+        events: &[Event],
+        values: &mut Vec<u32>,
+    ) -> Result<(), AllocError>
+        requires opening { machine.old.history.opening ≡ test.now.opening }
+        requires names { length test.now.names ≤ M }
+        requires counts { (outcome : List ℕ) → IfSome (counted_of self.old.rows.entries outcome) (λ told. told.0 < 4294967295) }
+        requires unfinished { self.old.unfinished < 4294967295 }
+        ensures trial { OnOk result ((trial : Trial) × (trial.events ≡ events.now) × IsTrial B M test.now trial × Tallies trial self.old self.new) }
+        ensures opening { machine.new.history.opening ≡ machine.old.history.opening }
+    {
+        run_anew(machine, events)?;
+        let verdict = test.verdict(machine);
+        test.put_values(values, machine)?;
+        self.add(alloc, events, verdict, values)
+    }
+}

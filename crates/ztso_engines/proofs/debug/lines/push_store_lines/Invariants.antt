@@ -1,7 +1,0 @@
-use Rattle.std.proofs.Common.{◌≡◌, ◌++◌, take}
-use Rattle.std.specs.String.{string_bytes}
-use Rattle.ztso_engines.specs.DebugText.{store_lines}
-use Rattle.ztso_engines.proofs.debug.lines.push_store_lines.Given as goal
-
-abbrev pub invariant-loop-store : goal.invariant-loop-store
-invariant-loop-store l = string_bytes l.out ≡ string_bytes l.fn.out ++ store_lines (take l.store-index l.stores)

@@ -1,5 +1,0 @@
-use Rattle.ztso_engines.proofs.ScheduleTexts.{no_schedule_no_answer}
-use Rattle.ztso_engines.proofs.schedule.read_events.Goals as goal
-
-pub returns-clause-refused : goal.returns-clause-refused
-returns-clause-refused g c = no_schedule_no_answer _ c.in_ok-input.input c.events_of_input.result c.in_ok-input.ensures.input c.events_of_input.ensures.exact

@@ -1,7 +1,0 @@
-use Rattle.std.proofs.Common.{◌≡◌, ◌++◌}
-use Rattle.std.specs.String.{string_bytes}
-use Rattle.ztso_engines.specs.StateText.{words_shown}
-use Rattle.ztso_engines.proofs.state_text.push_words.Given as goal
-
-abbrev pub invariant-loop-place : goal.invariant-loop-place
-invariant-loop-place g l = string_bytes l.out ≡ string_bytes l.fn.out ++ words_shown l.machine.history l.place
