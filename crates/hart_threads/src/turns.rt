@@ -108,12 +108,12 @@ fn acting_turns<G: Gate, R: Wait, const B: usize, const M: usize>(
         if let Some(ending) = calls.count(answer) {
             return (ending, calls);
         }
-        thread::yield_now();
     }
     (Ending::TurnsDone, calls)
 }
 
-/// One instruction, as [`Shared::act`] does it, but without the lock where it needs no memory.
+/// One instruction, as [`Shared::act`] does it, but without the lock where it needs no memory. After a turn
+/// that took the lock the thread yields, so that threads which wait for the lock get it.
 fn turn<R: Wait, const B: usize, const M: usize>(
     rt: &R,
     shared: &Shared<B, M>,
@@ -125,8 +125,11 @@ fn turn<R: Wait, const B: usize, const M: usize>(
 {
     match seat.local()? {
         Local::Did(entry) => Ok(Outcome::Did(entry)),
-        Local::NeedsMemory => shared.act(rt, seat),
-        Local::Over => shared.act(rt, seat),
+        Local::NeedsMemory | Local::Over => {
+            let answer = shared.act(rt, seat);
+            thread::yield_now();
+            answer
+        }
     }
 }
 

@@ -22,17 +22,16 @@ use std::alloc::{AllocError, Global};
 use std::io::{Read, Write};
 use step_machine::Event;
 
-impl From<Refused> for Fault {
-    ghost from_gives = { λ why fault. fault ≡ fault_from why };
-
-    fn from(why: Refused) -> Fault {
-        match why {
-            Refused::NoMemory => Fault::NoMemory,
-            Refused::ZeroWord { sender, place } => {
-                Fault::refused(why.number(), Position::Word { sender, place })
-            }
-            _ => Fault::refused(why.number(), Position::Nowhere),
+/// Why there is no channel, as a fault.
+fn channel_fault(why: Refused) -> Fault
+    ensures { result ≡ fault_from why }
+{
+    match why {
+        Refused::NoMemory => Fault::NoMemory,
+        Refused::ZeroWord { sender, place } => {
+            Fault::refused(why.number(), Position::Word { sender, place })
         }
+        _ => Fault::refused(why.number(), Position::Nowhere),
     }
 }
 
@@ -97,7 +96,10 @@ fn made<K: Finish<B, M>, const B: usize, const M: usize, S: Read, L: Read>(
 {
     let events = read_events(alloc, schedule)?;
     let lists = read_lists(alloc, input)?;
-    let reports = reports_of::<K, B, M>(alloc, ring, finish, &lists, &events)?;
+    let reports = match reports_of::<K, B, M>(alloc, ring, finish, &lists, &events) {
+        Ok(reports) => reports,
+        Err(why) => return Err(channel_fault(why)),
+    };
     let text = reports_text(alloc, &reports)?;
     Ok((text, ()))
 }

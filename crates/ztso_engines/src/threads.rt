@@ -24,16 +24,15 @@ use std::sync::Wait;
 use std::thread::Threads;
 use step_machine::laws::laws_of_runs;
 
-impl From<hart_threads::Fault> for Fault {
-    ghost from_gives = { λ error fault. fault ≡ fault_of_threads error };
-
-    fn from(error: hart_threads::Fault) -> Fault {
-        match error {
-            hart_threads::Fault::NoMemory => Fault::NoMemory,
-            hart_threads::Fault::NoThread => Fault::refused(35, Position::Nowhere),
-            hart_threads::Fault::Missing { .. } => Fault::refused(33, Position::Nowhere),
-            hart_threads::Fault::Mismatch { .. } => Fault::refused(32, Position::Nowhere),
-        }
+/// Why threads made no record, as a fault.
+fn threads_fault(error: hart_threads::Fault) -> Fault
+    ensures { result ≡ fault_of_threads error }
+{
+    match error {
+        hart_threads::Fault::NoMemory => Fault::NoMemory,
+        hart_threads::Fault::NoThread => Fault::refused(35, Position::Nowhere),
+        hart_threads::Fault::Missing { .. } => Fault::refused(33, Position::Nowhere),
+        hart_threads::Fault::Mismatch { .. } => Fault::refused(32, Position::Nowhere),
     }
 }
 
@@ -74,8 +73,10 @@ fn answer<const B: usize, const M: usize, T: Threads + Wait + Sync>(
 {
     let opening = test.opening(alloc)?;
     let (shared, seats) = Shared::<B, M>::open(alloc, opening)?;
-    let record = run_harts(rt, alloc, shared, seats, &Open, turns)?;
-    record_text(alloc, test, &record)
+    match run_harts(rt, alloc, shared, seats, &Open, turns) {
+        Ok(record) => record_text(alloc, test, &record),
+        Err(error) => Err(threads_fault(error)),
+    }
 }
 
 /// What is to be written for the input that the reader gives, and the verdict.
