@@ -5,8 +5,12 @@ ghost use Rattle.std.specs.Prelude.{◌≡◌, None, true};
 use std::io;
 use std::io::{Input, IsTerminal, Read};
 
-/// Standard input as a user's commands. It is opened at the first read. Where it is a terminal, a prompt
-/// on standard error asks for each line.
+/// The first line at a terminal.
+const HINT: &str = "s: next event, g: go on, u K: back, r H: registers, q: end; \
+    all commands: docs/debugging.md; rlwrap keeps a history";
+
+/// Standard input as a user's commands. It is opened at the first read. Where it is a terminal, a line on
+/// standard error then names the commands, and a prompt there asks for each line.
 #[derive(Drop)]
 pub struct Prompting<'a, R: Input + Eprint> {
     rt: &'a R,
@@ -35,7 +39,11 @@ where
 {
     fn read(&mut self, buf: &mut [u8]) -> io::Result<usize> {
         if self.reader.is_none() {
-            self.reader = Some(self.rt.reader());
+            let reader = self.rt.reader();
+            if reader.is_terminal() {
+                let _ = eprintln!(self.rt; "{HINT}");
+            }
+            self.reader = Some(reader);
         }
         let Some(reader) = &mut self.reader else {
             return Ok(0);
