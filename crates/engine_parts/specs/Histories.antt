@@ -1,12 +1,16 @@
 -- What answers a litmus text and a schedule, by the history that they make.
-use Rattle.std.specs.Prelude.{ℕ, List, Result, Ok, Err}
-use Rattle.step_machine.specs.History.{History}
+use Rattle.std.specs.Prelude.{ℕ, ◌≡◌, List, Result, Ok, Err}
+use Rattle.step_machine.specs.History.{Start, History}
 use Rattle.step_machine.specs.Runs.{Run}
 use Rattle.step_machine.specs.declared.events.Event.{Event}
 use Rattle.litmus.specs.Questions.{Question}
 use Rattle.litmus_reader.specs.Grammar.{IsTestOf}
 use Rattle.recorder.specs.Schedule.{IsPlainOf}
+use Rattle.recorder.specs.Versions.{Said}
+use Rattle.recorder.specs.Versions.Said.{plain, recorded}
+use Rattle.recorder.specs.Replaying.{IsRunRecord, DiffersAt}
 use Rattle.engine_parts.specs.declared.fault.Refusal.{Refusal}
+use Rattle.engine_parts.specs.declared.fault.Position.TheVariants.{Event as AtEvent}
 use Rattle.engine_parts.specs.Engines.{Accepted}
 use Rattle.engine_parts.specs.Tests.{IsNoTest}
 use Rattle.engine_parts.specs.Schedules.{IsNoSchedule}
@@ -28,3 +32,17 @@ pub data ByBoth {A : Type 0} (IsAnswer : Question → List Event → A → Type 
 -- the same where it holds of their history
 abbrev pub ByRun : {A : Type 0} → (B M : ℕ) → (Question → History → A → Type 0) → (file schedule : List ℕ) → Result A Refusal → Type 0
 ByRun B M IsAnswer = ByBoth (IsOfRun B M IsAnswer)
+
+-- ---- schedules of either version
+
+-- a record that differs is refused at the first event whose outcome isn't the run's, counted from 0
+abbrev pub differing : (event : ℕ) → Refusal
+differing event = record { number = 38; place = AtEvent event }
+
+-- What running a schedule from an opening gives: the history of its events, and of a record only where
+-- each outcome is the run's; else the first event whose outcome isn't.
+abbrev pub Runs : (B M : ℕ) → Start → Said → Result History Refusal → Type 0
+Runs B M opening (plain events) (Ok history) = Run B M opening events history
+Runs B M opening (plain events) (Err refusal) = ⊥
+Runs B M opening (recorded steps) (Ok history) = IsRunRecord B M opening steps history
+Runs B M opening (recorded steps) (Err refusal) = (event : ℕ) × DiffersAt B M opening steps event × (refusal ≡ differing event)

@@ -16,6 +16,8 @@ pub const BAD_LINE: u8 = 34;
 pub const NOT_TEXT: u8 = 36;
 /// An input of more than [`crate::input::INPUT_BYTES`] bytes.
 pub const TOO_LARGE: u8 = 37;
+/// A record that says another outcome of an event than its run has.
+pub const DIFFERS: u8 = 38;
 
 /// Where an input was refused.
 #[derive(Clone, Copy, Debug, PartialEq, Eq)]
@@ -28,6 +30,8 @@ pub enum Position {
     Byte(usize),
     /// A word of a sender's list, both counted from 0.
     Word { sender: usize, place: usize },
+    /// An event of a schedule, counted from 0.
+    Event(usize),
 }
 
 impl fmt::Display for Position {
@@ -37,6 +41,7 @@ impl fmt::Display for Position {
             Position::Line(line) => write!(f, " at line {line}"),
             Position::Byte(byte) => write!(f, " at byte {byte}"),
             Position::Word { sender, place } => write!(f, " at sender {sender} place {place}"),
+            Position::Event(event) => write!(f, " at event {event}"),
         }
     }
 }

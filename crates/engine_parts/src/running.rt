@@ -3,18 +3,20 @@
 ghost use Rattle.std.specs.Prelude.{◌≡◌, ◌≤◌, length, IfOk, OnOk};
 ghost use Rattle.step_machine.specs.Runs.{Run};
 ghost use Rattle.step_machine.specs.declared.opening.TheConstants.{MAX_HARTS};
+ghost use Rattle.recorder.specs.Versions.{said_of};
 ghost use Rattle.engine_parts.specs.Engines.{AnswersBoth};
+ghost use Rattle.engine_parts.specs.Faults.{AnswersAs};
 ghost use Rattle.engine_parts.specs.Tests.{HasNoTest};
-ghost use Rattle.engine_parts.specs.Histories.{ByRun};
+ghost use Rattle.engine_parts.specs.Histories.{ByRun, Runs};
 ghost use Rattle.engine_parts.specs.inner.Making.{Finds};
 ghost use Rattle.engine_parts.specs.inner.Inputs.{IsItself};
 ghost use Rattle.litmus.specs.declared.question.TheConstants.{MAX_LOCATIONS};
 
-use crate::fault::Fault;
+use crate::fault::{DIFFERS, Fault, Position};
 use crate::litmus_text::read_test;
 use crate::schedule::read_events;
 use litmus::Test;
-use recorder::replay;
+use recorder::{CheckError, Schedule, replay, replay_checked};
 use std::alloc::{AllocError, Global};
 use std::io::Read;
 use step_machine::{Event, Machine};
@@ -36,6 +38,35 @@ fn machine_after<const B: usize, const M: usize>(
     let opening = test.opening(alloc)?;
     let machine = replay(alloc, opening, events)?;
     Ok(machine)
+}
+
+/// The machine that a schedule of either version makes of the test's opening. A record is checked as it
+/// runs: it is refused by [`DIFFERS`] at the first event whose outcome isn't the run's.
+pub fn machine_of_schedule<const B: usize, const M: usize>(
+    alloc: Global,
+    test: &Test,
+    schedule: Schedule,
+) -> Result<Machine<B, M>, Fault>
+    requires some_capacity { 1 ≤ B }
+    requires capacity { B ≤ 64 }
+    requires words { MAX_LOCATIONS ≤ M }
+    requires size { M ≤ 65536 }
+    ensures { AnswersAs (Runs B M test.now.opening (said_of schedule)) (λ machine. machine.history) result }
+{
+    let opening = test.opening(alloc)?;
+    match schedule {
+        Schedule::Plain(events) => match replay(alloc, opening, &events) {
+            Ok(machine) => Ok(machine),
+            Err(_) => Err(Fault::NoMemory),
+        },
+        Schedule::Record(steps) => match replay_checked(alloc, opening, &steps) {
+            Ok(machine) => Ok(machine),
+            Err(CheckError::NoMemory) => Err(Fault::NoMemory),
+            Err(CheckError::Differs { event }) => {
+                Err(Fault::refused(DIFFERS, Position::Event(event)))
+            }
+        },
+    }
 }
 
 /// The test that a litmus text stands for, and the machine that a schedule makes of its opening. The

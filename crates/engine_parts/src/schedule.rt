@@ -2,16 +2,17 @@
 
 ghost use Rattle.std.specs.Prelude.{◌≡◌, ◌≤◌, IfOk, IsErr, vec_len};
 ghost use Rattle.recorder.specs.Schedule.{IsPlainOf};
+ghost use Rattle.recorder.specs.Versions.{Says, said_of};
 ghost use Rattle.engine_parts.specs.Faults.{Answers, fault_for};
 ghost use Rattle.engine_parts.specs.Engines.{Accepted, judged};
-ghost use Rattle.engine_parts.specs.Schedules.{refused_at_byte, events_of as events_said, HasNoSchedule};
+ghost use Rattle.engine_parts.specs.Schedules.{refused_at_byte, events_of as events_said, schedule_of as schedule_said, HasNoSchedule, HasNeitherVersion};
 ghost use Rattle.engine_parts.specs.inner.Making.{FindsBy};
-ghost use Rattle.engine_parts.specs.inner.Inputs.{IsReadAsSchedule};
+ghost use Rattle.engine_parts.specs.inner.Inputs.{IsReadAsSchedule, IsReadAsEither};
 ghost use Rattle.engine_parts.specs.declared.input.TheConstants.{INPUT_BYTES};
 
 use crate::fault::{Fault, Position};
 use crate::input::{read_input, text_of};
-use recorder::{AtByte, ScheduleError, read_plain};
+use recorder::{AtByte, Schedule, ScheduleError, read_either, read_plain};
 use std::alloc::Global;
 use std::io::Read;
 use step_machine::Event;
@@ -59,4 +60,35 @@ pub fn read_events<R: Read>(alloc: Global, reader: &mut R) -> Result<Vec<Event>,
 {
     let input = read_input(alloc, reader)?;
     events_of_input(alloc, input)
+}
+
+/// What a text says as a schedule of either version.
+#[tactic(auto, unfolding(crate::specs::Schedules::schedule_of))]
+fn schedule_of_text(alloc: Global, text: &str) -> Result<Schedule, Fault>
+    ensures found { IfOk result (λ schedule. Says text.now (said_of schedule)) }
+    ensures exact { Answers said_of result (schedule_said text.now) }
+{
+    match read_either(alloc, text) {
+        Ok(schedule) => Ok(schedule),
+        Err(error) => Err(Fault::from(error)),
+    }
+}
+
+/// What an input says as a schedule of either version. The input is let go.
+#[tactic(auto, using(crate::proofs::Judging::judged_text, crate::proofs::Judging::judged_no_text))]
+fn schedule_of_input(alloc: Global, input: Vec<u8>) -> Result<Schedule, Fault>
+    requires { vec_len input ≤ INPUT_BYTES }
+    ensures found { IfOk result (λ schedule. Accepted Says input.items (said_of schedule)) }
+    ensures exact { Answers said_of result (judged schedule_said input.items) }
+{
+    schedule_of_text(alloc, text_of(&input)?)
+}
+
+/// The schedule of either version that a reader gives. A record's outcomes are not checked here.
+pub fn read_schedule<R: Read>(alloc: Global, reader: &mut R) -> Result<Schedule, Fault>
+    ensures schedule { FindsBy IsReadAsEither said_of (R.remaining reader.old) result }
+    ensures refused { HasNeitherVersion (R.remaining reader.old) → IsErr result }
+{
+    let input = read_input(alloc, reader)?;
+    schedule_of_input(alloc, input)
 }

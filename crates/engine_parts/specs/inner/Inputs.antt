@@ -3,12 +3,13 @@ use Rattle.std.specs.Prelude.{ℕ, ◌≡◌, List, Result, Ok, Err}
 use Rattle.step_machine.specs.History.{History}
 use Rattle.step_machine.specs.declared.events.Event.{Event}
 use Rattle.recorder.specs.Schedule.{IsPlainOf}
+use Rattle.recorder.specs.Versions.{Said, Says}
 use Rattle.litmus.specs.Questions.{Question}
 use Rattle.litmus_reader.specs.Grammar.{IsTestOf}
 use Rattle.engine_parts.specs.declared.fault.Refusal.{Refusal}
 use Rattle.engine_parts.specs.Engines.{Accepted, judged}
 use Rattle.engine_parts.specs.Tests.{IsNoTest}
-use Rattle.engine_parts.specs.Schedules.{events_of}
+use Rattle.engine_parts.specs.Schedules.{events_of, IsNeitherVersion}
 
 -- the input's test, or why it has none
 abbrev pub IsReadAsTest : List ℕ → Result Question Refusal → Type 0
@@ -19,6 +20,11 @@ IsReadAsTest input (Err refusal) = IsNoTest input refusal
 abbrev pub IsReadAsSchedule : List ℕ → Result (List Event) Refusal → Type 0
 IsReadAsSchedule input (Ok events) = Accepted IsPlainOf input events
 IsReadAsSchedule input (Err refusal) = judged events_of input ≡ Err refusal
+
+-- what the input says as a schedule of either version, or why it is none
+abbrev pub IsReadAsEither : List ℕ → Result Said Refusal → Type 0
+IsReadAsEither input (Ok said) = Accepted Says input said
+IsReadAsEither input (Err refusal) = IsNeitherVersion input refusal
 
 -- a test with its history, told as they are
 abbrev pub IsItself : Question → History → Question × History → Type 0
