@@ -378,6 +378,78 @@ fn a_seat_too_many_is_named(rt: HostRuntime) {
 }
 
 #[test]
+fn of_two_missing_seats_the_least_hart_is_named(rt: HostRuntime) {
+    for first in 0..3 {
+        for second in first + 1..4 {
+            let (machine, mut seats) = shared(&rt);
+            assert!(rt; second < seats.len());
+            seats.remove(second).give_up();
+            assert!(rt; first < seats.len());
+            seats.remove(first).give_up();
+            // a hart's acting seat and its landing one stand side by side
+            let least = if first < 2 { 0 } else { 1 };
+            match machine.gather(rt.alloc(), seats) {
+                Err(Gather::Missing { hart }) => assert_eq!(rt; hart, least),
+                _ => panic!(rt; "a record without two seats"),
+            }
+        }
+    }
+}
+
+#[test]
+fn two_acting_seats_of_a_hart_are_too_many(rt: HostRuntime) {
+    let (machine, mut seats) = shared(&rt);
+    let (_other, mut others) = shared(&rt);
+    assert!(rt; seats.len() == 4 && others.len() == 4);
+    let stranger = others.remove(2);
+    assert!(rt; stranger.acts());
+    assert_eq!(rt; stranger.hart(), 1);
+    give_up_all(&rt, others);
+    seats.remove(3).give_up();
+    seats.push(stranger).expect(&rt, "memory");
+    let answer = machine.gather(rt.alloc(), seats);
+    assert!(rt; matches!(answer, Err(Gather::Missing { hart: 1 })));
+}
+
+#[test]
+fn work_of_other_code_is_no_path(rt: HostRuntime) {
+    let (machine, own) = shared(&rt);
+    give_up_all(&rt, own);
+    let opening = count_and_store(rt.alloc()).expect(&rt, "memory");
+    assert!(rt; opening.fits(16));
+    let opened: Result<(Shared<4, 16>, Vec<Seat<16>>), AllocError> = Shared::open(
+        rt.alloc(),
+        opening,
+    );
+    let (_other, mut seats) = opened.expect(&rt, "memory");
+    assert!(rt; seats.len() == 4);
+    let first = &mut seats[0];
+    assert!(rt; first.acts());
+    let inner = Entry::Inner { hart: 0 };
+    assert_eq!(rt; first.local().expect(&rt, "memory"), Local::Did(inner));
+    // no diary has a memory entry, and neither has the bank
+    match machine.gather(rt.alloc(), seats) {
+        Err(Gather::Mismatch { hart, history }) => {
+            assert_eq!(rt; (hart, history.len()), (0, 0));
+        }
+        _ => panic!(rt; "a record of other code"),
+    }
+}
+
+#[test]
+fn seats_that_did_nothing_serve_another_machine(rt: HostRuntime) {
+    let (machine, own) = shared(&rt);
+    give_up_all(&rt, own);
+    let (_other, seats) = shared(&rt);
+    let record = machine.gather(rt.alloc(), seats).expect(&rt, "a record");
+    assert_eq!(rt; record.events.len(), 0);
+    assert_eq!(rt; record.trace.entries.len(), 0);
+    assert!(rt; record.machine.harts() == 2);
+    assert_eq!(rt; record.machine.status(0), Status::Running);
+    assert_eq!(rt; record.machine.status(1), Status::Running);
+}
+
+#[test]
 fn no_thread_starts_where_a_seat_is_missing(rt: HostRuntime) {
     let (machine, seats) = shared(&rt);
     let seats = without_last(&rt, seats);
