@@ -81,8 +81,8 @@ class Case:
 
 
 def files_below(folder):
-    """The case files of a folder, by name."""
-    return sorted(path for path in Path(folder).iterdir() if path.suffix in SUFFIXES)
+    """The case files of a folder and those below it, by name."""
+    return sorted(path for path in Path(folder).rglob("*") if path.suffix in SUFFIXES)
 
 
 def all_files():

@@ -8,8 +8,9 @@ from . import ROOT
 
 # docs/many-runs.md shows long calls without what they print
 PAGES = [ROOT / "README.md", *(page for page in sorted((ROOT / "docs").glob("*.md")) if page.name != "many-runs.md")]
-SB = "litmus/sb.litmus"
-WITNESS = "litmus/sb.0-0.schedule"
+SB = "litmus/store-buffering/sb.litmus"
+WITNESS = "litmus/store-buffering/sb/0-0.schedule"
+TICKET = "litmus/mutual-exclusion/ticket.litmus"
 LISTS = (ROOT / "examples/two-senders.lists").read_bytes()
 # each of the debugger's commands, each with an answer and with `?`
 COMMANDS = b"""s
@@ -111,10 +112,10 @@ def kinds():
     none = {"none.schedule": b"ztso-schedule 1\n"}
     yield ["run", SB, WITNESS], b"", {}
     yield ["replay", SB, WITNESS, "--buffer", "1"], b"", {}
-    yield ["replay", "litmus/ticket.litmus", "some.schedule"], b"", {
+    yield ["replay", TICKET, "some.schedule"], b"", {
         "some.schedule": b"ztso-schedule 1\n" + b"a0 a1 l0 a1*2 l1 " * 60}
-    for name in ("sb", "ticket", "n6"):
-        yield ["try", f"litmus/{name}.litmus", "--seed", "7", "--runs", "40", "--length", "60"], b"", {}
+    for test in (SB, TICKET, "litmus/own-reads/n6.litmus"):
+        yield ["try", test, "--seed", "7", "--runs", "40", "--length", "60"], b"", {}
     for kind in ("lamport", "fastforward"):
         yield ["channel", kind, "3", "examples/two-senders.schedule"], LISTS, {}
         yield ["channel", kind, "3", "none.schedule", "--finish"], LISTS, none
@@ -126,4 +127,4 @@ def kinds():
     yield ["steps"], STEPS, {}
     yield ["threads", SB], b"", {}
     yield ["threads", SB, "--turns", "3", "--buffer", "1"], b"", {}
-    yield ["threads", "litmus/ticket.litmus", "--turns", "2000"], b"", {}
+    yield ["threads", TICKET, "--turns", "2000"], b"", {}

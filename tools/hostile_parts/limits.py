@@ -6,7 +6,7 @@ from .runs import BAD_COMMAND_LINE, refused
 
 INPUT, EVENTS, CODE = 1_048_576, 1_048_576, 4096
 NONE = b"ztso-schedule 1\n"
-SB = str(ROOT / "litmus/sb.litmus")
+SB = str(ROOT / "litmus/store-buffering/sb.litmus")
 # slots of a ring at the least
 LEAST = {"lamport": 2, "fastforward": 1}
 

@@ -107,7 +107,7 @@ def channel_load(runs, count):
 def session(runs, count, backs):
     """A session of `count` events that goes back `backs` times. How many events are left each time is known without a
     machine; the last state is that of their run."""
-    text = Path("litmus/n6.litmus").read_text()
+    text = Path("litmus/own-reads/n6.litmus").read_text()
     drawn = events(runs, 2, count)
     runs.put({"long.litmus": text.encode(), "long.schedule": b"ztso-schedule 1\n" + drawn})
     done, told, typed = count, [], ["g"]

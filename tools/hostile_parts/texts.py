@@ -16,11 +16,14 @@ def read(name):
 def grammars():
     """The texts of each grammar: its name, a text, the words of a command that reads it, and standard input. The words
     name the text's file `text` where it isn't standard input."""
-    for name in ("litmus/sb", "litmus/ticket", "litmus/n6", "examples/message-passing"):
-        witness = sorted(ROOT.glob(f"{name}*.schedule"))[0]
+    shelf = [str(test.relative_to(ROOT)).removesuffix(".litmus")
+             for name in ("sb", "ticket", "n6") for test in ROOT.glob(f"litmus/*/{name}.litmus")]
+    for name in (*shelf, "examples/message-passing"):
+        witness = sorted([*ROOT.glob(f"{name}/*.schedule"), *ROOT.glob(f"{name}*.schedule")])[0]
         yield "litmus", read(f"{name}.litmus"), ["run", "text", str(witness)], None
-    for name, test in (("litmus/sb.0-0", "litmus/sb"), ("examples/message-passing", "examples/message-passing")):
-        yield "schedules", read(f"{name}.schedule"), ["replay", str(ROOT / f"{test}.litmus"), "text"], None
+    for name, test in ((examples.WITNESS, examples.SB),
+                       ("examples/message-passing.schedule", "examples/message-passing.litmus")):
+        yield "schedules", read(name), ["replay", str(ROOT / test), "text"], None
     yield "schedules", read("examples/two-senders.schedule"), ["channel", "lamport", "3", "text"], examples.LISTS
     text = b"ztso-schedule 1\r\na0*1000\ta1 l063*03\r\nl1\n"
     yield "schedules", text, ["channel", "fastforward", "3", "text"], b"7\n"

@@ -62,7 +62,7 @@ def part(runs):
     runs.put({"wide.litmus": wide})
     os.chmod("wide.litmus", 0o644)
     # a test of the shelf may lie where another user can't go
-    runs.put({"sb-copy.litmus": Path("litmus/sb.litmus").read_bytes()})
+    runs.put({"sb-copy.litmus": Path("litmus/store-buffering/sb.litmus").read_bytes()})
     os.chmod("sb-copy.litmus", 0o644)
     step, wide_step = (2 * MIB, 64) if runs.short else (256 * KIB, 8)
     for words, harts in ((["threads", "sb-copy.litmus"], 2), (["threads", "wide.litmus", "--turns", "50"], 64)):
