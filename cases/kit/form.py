@@ -14,6 +14,7 @@ STREAMS = ("stdin", "stdout")
 # how the text of standard input is given: at a pseudoterminal, or by a pipe
 TYPED = ("at-a-terminal", "line-by-line", "byte-by-byte")
 NAME = re.compile(r"[^\s/]+")
+LIKE = re.compile(r"(\S+), with line ([1-9][0-9]*):(?: (.*))?")
 
 Pieces = List[Tuple[int, bytes]]
 
@@ -53,6 +54,8 @@ class Case:
     stdin: Stream = field(default_factory=Stream)
     stdout: Stream = field(default_factory=Stream)
     stderr: bytes = b""
+    # the case above whose command line, status and file it has, and which line of the file is its own
+    like: Optional[Tuple[str, int]] = None
     # where it stands: its file, its first line, and the line behind its last one
     path: Optional[Path] = None
     line: int = 0
@@ -73,11 +76,27 @@ class Case:
         closed = "closed" in (self.stdin.device, self.stdout.device)
         return closed or self.memory is not None
 
+    def is_plain(self):
+        """Whether it has a command line, a status, one file and lines of standard error, and nothing else."""
+        return len(self.files) == 1 and not self.shell and told_of(self) == told_of(
+            Case(self.name, self.words, self.status, files=self.files))
+
     def group(self):
         return "litmus" if self.path.suffix == ".expected" else self.path.stem
 
     def full_name(self):
         return f"{self.group()}/{self.name}"
+
+
+def told_of(case):
+    """All of a case except its comments, its standard error and its place."""
+    return (case.words, case.status, case.memory, case.each_allocation, case.typed, case.copied, case.files,
+            case.stdin, case.stdout, case.like)
+
+
+def lines_in(pieces):
+    """The lines of a text, each with its line end where it has one."""
+    return re.findall(rb"[^\n]*\n|[^\n]+", escapes.content(pieces))
 
 
 def files_below(folder):
@@ -103,6 +122,7 @@ class Reader:
 
     def __init__(self, path, lines):
         self.path, self.lines, self.at = path, lines, 0
+        self.found = []
 
     def refused(self, why):
         return FormError(f"{self.path}:{self.at}: {why}")
@@ -118,7 +138,7 @@ class Reader:
         return line
 
     def cases(self):
-        found, case = [], None
+        found, case = self.found, None
         while (line := self.next_line()) is not None:
             if line.startswith("== "):
                 case = self.opened(line[3:], found)
@@ -154,7 +174,11 @@ class Reader:
     def take(self, case, line):
         """Takes a line that isn't a case's first, and the text behind it where it opens one."""
         head, _, rest = line.partition(" ")
-        if head == "$":
+        if case.like and head != "!":
+            raise self.refused("a case that is like another has lines of standard error alone")
+        if head == "like":
+            self.take_like(case, rest)
+        elif head == "$":
             words = escapes.read_words(rest)
             if case.words is not None or not words or words[0] != b"ztso":
                 raise self.refused("not one command line `ztso ..` of plain and quoted words")
@@ -177,6 +201,20 @@ class Reader:
             self.take_stream(case, head, rest)
         else:
             raise self.refused("no such line in a case")
+
+    def take_like(self, case, rest):
+        """Takes the line that makes a case of one above: the same, with another line in its file."""
+        form = LIKE.fullmatch(rest)
+        base = next((base for base in self.found[:-1] if form and base.name == form[1]), None)
+        if base is None or not base.is_plain() or told_of(case) != told_of(Case(case.name, None)):
+            raise self.refused("a case is `like NAME, with line N: TEXT`, where NAME above has one file and no stream")
+        (name, pieces), = base.files.items()
+        lines, number = lines_in(pieces), int(form[2])
+        if number > len(lines):
+            raise self.refused(f"{base.name} has no line {number}")
+        lines[number - 1] = escapes.read_line(form[3] or "")
+        case.words, case.status, case.like = base.words, base.status, (base.name, number)
+        case.files = {name: escapes.pieces_of(b"".join(lines))}
 
     def take_file(self, case, name):
         if name in case.files or "/" in name or not name:
@@ -220,6 +258,24 @@ def block(case):
     """The lines of a case file that tell a case."""
     yield f"== {case.name}"
     yield from (f"# {comment}".rstrip() for comment in case.comments)
+    yield from like_line(case) if case.like else given(case)
+    if case.stderr:
+        *lines, last = case.stderr.split(b"\n")
+        told = [escapes.shown(line) for line in lines] + ([escapes.shown(last) + "\\"] if last else [])
+        yield from (f"! {line}".rstrip(" ") for line in told)
+
+
+def like_line(case):
+    """The line of a case that is like another."""
+    name, number = case.like
+    (_, pieces), = case.files.items()
+    line = lines_in(pieces)[number - 1]
+    text = escapes.shown(line[:-1]) if line.endswith(b"\n") else escapes.shown(line) + "\\"
+    yield f"like {name}, with line {number}: {text}".rstrip(" ")
+
+
+def given(case):
+    """The lines of a case between its comments and its standard error."""
     yield " ".join(["$ ztso", *map(escapes.quoted, case.words)])
     if case.status:
         yield f"status {case.status}"
@@ -241,10 +297,6 @@ def block(case):
         elif stream.text:
             yield f"{name}:"
             yield from escapes.lines_of(stream.text)
-    if case.stderr:
-        *lines, last = case.stderr.split(b"\n")
-        told = [escapes.shown(line) for line in lines] + ([escapes.shown(last) + "\\"] if last else [])
-        yield from (f"! {line}".rstrip(" ") for line in told)
 
 
 def written(cases, head=()):
