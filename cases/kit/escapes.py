@@ -1,4 +1,4 @@
-"""Bytes as lines that one can see, and back: README.md tells the escapes.
+"""Bytes as lines that one can see, and back: README.md lists the escapes.
 
 A text is a list of pieces `(how often, bytes)`. Reading what was written gives the same bytes.
 """
@@ -21,38 +21,38 @@ RUN_OF_BYTES, RUN_OF_LINES = 100, 16
 
 def shown(content):
     """Bytes as characters that one can see, and that read_line reads as the same bytes."""
-    told = []
+    parts = []
     for character in content.decode("utf-8", "surrogateescape"):
         if character in SHORT:
-            told.append(SHORT[character])
+            parts.append(SHORT[character])
         elif character.isprintable():
-            told.append(character)
+            parts.append(character)
         else:
             raw = character.encode("utf-8", "surrogateescape")
-            told.append("".join(f"\\x{byte:02X}" for byte in raw))
-    if told and told[-1] == " ":
-        told[-1] = r"\x20"
+            parts.append("".join(f"\\x{byte:02X}" for byte in raw))
+    if parts and parts[-1] == " ":
+        parts[-1] = r"\x20"
     behind = ""
-    for token in reversed(told):
+    for token in reversed(parts):
         alone = token == "\\" and READ_AS_ESCAPE.match(behind)
         behind = ("\\\\" if alone else token) + behind
     return behind
 
 
 def read_line(line):
-    """The bytes that a line tells, its line end among them where it has one."""
-    told, ended = [], True
+    """The bytes of a written line, its line end among them where it has one."""
+    parts, ended = [], True
     for match in ESCAPE.finditer(line):
         escape = match[1]
         if escape is None:
-            told.append(match[0].encode())
+            parts.append(match[0].encode())
         elif escape == "":
             ended = False
         elif escape[0] == "x":
-            told.append(bytes([int(escape[1:], 16)]))
+            parts.append(bytes([int(escape[1:], 16)]))
         else:
-            told.append({"\\": b"\\", "r": b"\r", "t": b"\t"}[escape])
-    return b"".join(told) + (b"\n" if ended else b"")
+            parts.append({"\\": b"\\", "r": b"\r", "t": b"\t"}[escape])
+    return b"".join(parts) + (b"\n" if ended else b"")
 
 
 def content(pieces):
@@ -94,18 +94,18 @@ def repeated_lines(pieces):
 
 def joined(pieces):
     """The pieces without empty ones, and with neighbours that come once as one."""
-    told = []
+    merged = []
     for count, piece in pieces:
         if not piece or not count:
             continue
-        if count == 1 and told and told[-1][0] == 1:
-            piece = told.pop()[1] + piece
-        told.append((count, piece))
-    return told
+        if count == 1 and merged and merged[-1][0] == 1:
+            piece = merged.pop()[1] + piece
+        merged.append((count, piece))
+    return merged
 
 
 def lines_of(pieces):
-    """The lines of a case file that tell a text."""
+    """The lines of a case file for a text."""
     lines = [line for count, piece in pieces for line in piece_lines(count, piece)]
     if lines and not lines[-1]:
         # empty lines behind a text are none of it
@@ -116,8 +116,8 @@ def lines_of(pieces):
 def piece_lines(count, piece):
     if count > 1:
         ended = piece.endswith(b"\n")
-        told = shown(piece[:-1] if ended else piece) + ("" if ended else "\\")
-        return [f"{count} x {told}".rstrip(" ")]
+        text = shown(piece[:-1] if ended else piece) + ("" if ended else "\\")
+        return [f"{count} x {text}".rstrip(" ")]
     *lines, last = map(shown, piece.split(b"\n"))
     lines += [last + "\\"] if last else []
     return [f"  {part}".rstrip(" ") for line in lines for part in wrapped(line)]
@@ -136,17 +136,17 @@ def wrapped(line):
 
 def quoted(word):
     """A word of a command line as the shell reads it."""
-    told = word.decode("utf-8", "surrogateescape")
-    if PLAIN_WORD.fullmatch(told):
-        return told
-    if told.isprintable() and "'" not in told:
-        return f"'{told}'"
+    text = word.decode("utf-8", "surrogateescape")
+    if PLAIN_WORD.fullmatch(text):
+        return text
+    if text.isprintable() and "'" not in text:
+        return f"'{text}'"
     parts = (shown(part).replace("'", r"\x27") for part in word.split(b"\\"))
     return "$'" + r"\\".join(parts) + "'"
 
 
 def read_words(line):
-    """The words of a command line, or None where it isn't told by plain and quoted words."""
+    """The words of a command line, or None where it isn't made of plain and quoted words."""
     words, at = [], 0
     while at < len(line):
         match = QUOTED.match(line, at)

@@ -1,4 +1,4 @@
-"""Case files: README.md tells their form. What is written here is read as the same cases."""
+"""Case files: README.md has their form. What is written here is read as the same cases."""
 
 import re
 from dataclasses import dataclass, field
@@ -78,7 +78,7 @@ class Case:
 
     def is_plain(self):
         """Whether it has a command line, a status, one file and lines of standard error, and nothing else."""
-        return len(self.files) == 1 and not self.shell and told_of(self) == told_of(
+        return len(self.files) == 1 and not self.shell and substance(self) == substance(
             Case(self.name, self.words, self.status, files=self.files))
 
     def group(self):
@@ -88,7 +88,7 @@ class Case:
         return f"{self.group()}/{self.name}"
 
 
-def told_of(case):
+def substance(case):
     """All of a case except its comments, its standard error and its place."""
     return (case.words, case.status, case.memory, case.each_allocation, case.typed, case.copied, case.files,
             case.stdin, case.stdout, case.like)
@@ -206,7 +206,7 @@ class Reader:
         """Takes the line that makes a case of one above: the same, with another line in its file."""
         form = LIKE.fullmatch(rest)
         base = next((base for base in self.found[:-1] if form and base.name == form[1]), None)
-        if base is None or not base.is_plain() or told_of(case) != told_of(Case(case.name, None)):
+        if base is None or not base.is_plain() or substance(case) != substance(Case(case.name, None)):
             raise self.refused("a case is `like NAME, with line N: TEXT`, where NAME above has one file and no stream")
         (name, pieces), = base.files.items()
         lines, number = lines_in(pieces), int(form[2])
@@ -224,7 +224,7 @@ class Reader:
     def take_stream(self, case, head, rest):
         stream = getattr(case, head.rstrip(":"))
         if stream != Stream():
-            raise self.refused("the stream is told above")
+            raise self.refused("the stream stands above already")
         way, _, name = rest.partition(" ")
         if head.endswith(":") and not rest:
             stream.text = self.text()
@@ -233,10 +233,10 @@ class Reader:
         elif way == "is" and name:
             stream.device = name
         else:
-            raise self.refused("a stream is told by a text below it, by `from FILE` or by `is DEVICE`")
+            raise self.refused("a stream is given by a text below it, by `from FILE` or by `is DEVICE`")
 
     def text(self):
-        """The pieces that the next lines tell. Empty lines behind them are none of theirs."""
+        """The pieces of the next lines. Empty lines after them are none of theirs."""
         pieces, empty = [], 0
         while self.at < len(self.lines):
             line = self.lines[self.at]
@@ -255,14 +255,14 @@ class Reader:
 
 
 def block(case):
-    """The lines of a case file that tell a case."""
+    """The lines of a case file for a case."""
     yield f"== {case.name}"
     yield from (f"# {comment}".rstrip() for comment in case.comments)
     yield from like_line(case) if case.like else given(case)
     if case.stderr:
         *lines, last = case.stderr.split(b"\n")
-        told = [escapes.shown(line) for line in lines] + ([escapes.shown(last) + "\\"] if last else [])
-        yield from (f"! {line}".rstrip(" ") for line in told)
+        shown = [escapes.shown(line) for line in lines] + ([escapes.shown(last) + "\\"] if last else [])
+        yield from (f"! {line}".rstrip(" ") for line in shown)
 
 
 def like_line(case):
@@ -324,6 +324,6 @@ def replace(path, case):
     """Writes a case in the place of the one of its name, or behind all, and leaves the others."""
     lines = Path(path).read_bytes().decode().rstrip("\n").split("\n")
     old = next((old for old in read(path) if old.name == case.name), None)
-    told = list(block(case))
-    lines = lines[:old.line - 1] + told + lines[old.end:] if old else lines + ["", *told]
+    new = list(block(case))
+    lines = lines[:old.line - 1] + new + lines[old.end:] if old else lines + ["", *new]
     Path(path).write_bytes(("\n".join(lines) + "\n").encode())

@@ -28,8 +28,8 @@ static long left = -1;
 static int is_refused(void) {
     static int later;
     if (left < 0) {
-        const char *told = getenv("REFUSED_LATER");
-        later = told && *told == '1';
+        const char *which = getenv("REFUSED_LATER");
+        later = which && *which == '1';
         left = atol(getenv("REFUSED_ALLOCATION"));
     }
     if (left == 0 && !later) return 0;
@@ -80,7 +80,7 @@ def shell_front(case):
 
 
 def redirections(case):
-    """The standard streams that are closed, as the shell tells it."""
+    """The standard streams that are closed, as the shell writes it."""
     return "".join(f" {sign}&-" for stream, sign in ((case.stdin, "<"), (case.stdout, ">"))
                    if stream.device == "closed")
 
@@ -141,7 +141,7 @@ def run_in(program, case, inside, variables):
 def without_memory(program, case, folder, refuser, first, step):
     """What is wrong with the program's answers where an allocation of the case is refused, alone or with all later
     ones: each is that there is no memory, or the case's own answer where the program can do without. The refused
-    ones are the first-th and every step-th after it; None tells that all is as it should be."""
+    ones are the first-th and every step-th after it; None where all is as it should be."""
     if refuser is None:
         return "cc can't compile what refuses an allocation"
     seen = Path(folder, f"seen-{os.getpid()}")

@@ -1,20 +1,20 @@
-"""Tells how an answer differs from the wanted one, in the escapes of case files."""
+"""How an answer differs from the wanted one, in the escapes of case files."""
 
 import difflib
 
 from . import escapes
 
-# lines of one stream that are compared and told, and characters of a line
-COMPARED, TOLD, WIDTH = 400, 24, 160
+# lines of one stream that are compared and printed, and characters of a line
+COMPARED, SHOWN, WIDTH = 400, 24, 160
 
 
 def difference(wanted, came):
-    """The lines that tell how two answers (status, standard error, standard output) differ."""
-    told = [f"status {came[0]}, wanted {wanted[0]}"] if came[0] != wanted[0] else []
+    """The lines that say how two answers (status, standard error, standard output) differ."""
+    lines = [f"status {came[0]}, wanted {wanted[0]}"] if came[0] != wanted[0] else []
     for name, text, other in zip(("standard error", "standard output"), wanted[1:], came[1:]):
         if text != other:
-            told += [f"{name}: - is wanted, + came", *changed_lines(text, other)]
-    return told
+            lines += [f"{name}: - is wanted, + came", *changed_lines(text, other)]
+    return lines
 
 
 def changed_lines(wanted, came):
@@ -28,8 +28,8 @@ def changed_lines(wanted, came):
     cut = [lines[above:above + COMPARED] for lines in (wanted, came)]
     lines = list(difflib.unified_diff(*cut, n=3, lineterm=""))[2:]
     lines = [moved(line, above) if line.startswith("@@") else shortened(line) for line in lines]
-    more = len(lines) - TOLD
-    return lines[:TOLD] + ([f".. {more} more lines"] if more > 0 else [])
+    more = len(lines) - SHOWN
+    return lines[:SHOWN] + ([f".. {more} more lines"] if more > 0 else [])
 
 
 def visible_lines(text):
@@ -39,12 +39,12 @@ def visible_lines(text):
 
 def moved(head, above):
     """The head of a part of a difference, as it is where so many lines stand above."""
-    def told(span):
+    def numbers(span):
         line, comma, count = span[1:].partition(",")
         return f"{span[0]}{int(line) + above}{comma}{count}"
 
     marks = head.split(" ")
-    return " ".join([marks[0], told(marks[1]), told(marks[2]), marks[3]])
+    return " ".join([marks[0], numbers(marks[1]), numbers(marks[2]), marks[3]])
 
 
 def shortened(line):
