@@ -14,7 +14,7 @@ SIZES = (INPUT_BYTES // 16, INPUT_BYTES // 4, INPUT_BYTES)
 
 
 def is_ready():
-    """Whether the program is built and what tells peak memory is there: of Debian's package `time`."""
+    """Whether the program is built and what measures peak memory is there: of Debian's package `time`."""
     if subprocess.run([ROOT / "scripts/build"], stdin=subprocess.DEVNULL).returncode != 0:
         return False
     if not Path("/usr/bin/time").exists():
@@ -46,8 +46,8 @@ def cost_of(command, text="", runs=7, statuses=(0,)):
             return done.stdout, seconds
 
         run("/usr/bin/time", "-o", peak.name, "-f", "%M")
-        told = [run() for _ in range(runs)]
-        return told[0][0], min(seconds for _, seconds in told), int(peak.read().split()[-1]) * 1024
+        times = [run() for _ in range(runs)]
+        return times[0][0], min(seconds for _, seconds in times), int(peak.read().split()[-1]) * 1024
 
 
 def ratio(now, before):

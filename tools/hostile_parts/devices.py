@@ -16,11 +16,11 @@ FIFO = "fifo"
 
 def commands(short):
     """A run of each kind that has an output, but `threads`, whose output is another one each time."""
-    told = [row for row in examples.kinds() if row[0][0] != "threads"]
+    rows = [row for row in examples.kinds() if row[0][0] != "threads"]
     chosen = {}
-    for row in told:
+    for row in rows:
         chosen.setdefault(tuple(row[0][:2]) if row[0][0] == "channel" else row[0][0], row)
-    return list(chosen.values()) if short else told
+    return list(chosen.values()) if short else rows
 
 
 def reads_stdin(words):
@@ -70,7 +70,7 @@ def failed_writes(runs, words, stdin, own):
             came = runs.run(words, stdin, stdout=stream)
             runs.hold("write failed", came[:2] == WRITE_FAILED, brief(came), words, stdin, f"> {name}")
     for name, way in (("closed standard output", ">&-"), ("a pipe that nothing reads", "| :")):
-        # bash tells of a pipe the program's status, not that of its end
+        # bash returns for a pipe the program's status, not that of its end
         line = f'"$0" "$@" {way}; exit ${{PIPESTATUS[0]}}' if "|" in way else f'exec "$0" "$@" {way}'
         done = subprocess.run(["/bin/bash", "-c", line, runs.program, *words], input=stdin, capture_output=True)
         answer = done.returncode, done.stderr
@@ -140,7 +140,7 @@ def closed_error(runs, words, stdin):
 def changing_file(runs, rounds):
     """A text of equal lines that grows and is cut while it is read: the answer is that of some number of lines, or
     names the last one where a cut left a front of it."""
-    line, told = b"fe029ee3\n", b"bne x5,x0,-4\n"
+    line, wanted = b"fe029ee3\n", b"bne x5,x0,-4\n"
     name = Path("changing")
     name.write_bytes(line * 60_000)
     going = True
@@ -156,7 +156,7 @@ def changing_file(runs, rounds):
     for _ in range(rounds):
         with open(name, "rb") as file:
             status, fault, text = runs.run(["dis"], stdin=file)
-        whole = status == 0 and not fault and text == told * (len(text) // len(told))
+        whole = status == 0 and not fault and text == wanted * (len(text) // len(wanted))
         cut = status == 2 and not text and fault.startswith((b"ztso: refused 34 at line ", b"ztso: refused 37"))
         runs.hold("grown and cut", whole or cut, (status, fault, text[:40]), ["dis"])
     going = False

@@ -99,8 +99,8 @@ def sessions():
     blocks = pages.blocks((ROOT / "docs/debugging.md").read_text())
     lines = [line for _, _, lines in blocks for line in lines if not line.startswith("$ ")]
     typed = text_of(line[2:] for line in lines if line.startswith("> "))
-    told = text_of(line for line in lines if not line.startswith("> "))
-    yield f"./ztso debug {SB} {WITNESS} < typed", {"typed": typed}, (b"", told)
+    answers = text_of(line for line in lines if not line.startswith("> "))
+    yield f"./ztso debug {SB} {WITNESS} < typed", {"typed": typed}, (b"", answers)
 
 
 def text_of(lines):

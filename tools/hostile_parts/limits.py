@@ -107,14 +107,14 @@ def options(short):
                           ("17", BAD_COMMAND_LINE), ("32", BAD_COMMAND_LINE)])]:
         for value, wanted in values:
             if not (short and value in ("100000", "1048576")):
-                told = {**drawn, name: value}
-                yield ["try", SB, *(word for pair in told.items() for word in pair)], wanted
+                options = {**drawn, name: value}
+                yield ["try", SB, *(word for pair in options.items() for word in pair)], wanted
     for value, wanted in [("0", None), ("10000000", None), ("10000001", BAD_COMMAND_LINE), ("-1", BAD_COMMAND_LINE)]:
         yield ["threads", SB, "--turns", value], wanted
 
 
 def hold(runs, kind, words, stdin, wanted):
-    """Holds a run against what is told here, and against the reference."""
+    """Holds a run against what is wanted here, and against the reference."""
     came = runs.run(words, stdin)
     right = came == wanted if wanted else came[0] in (0, 1) and not came[1]
     if words[0] == "threads":

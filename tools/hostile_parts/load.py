@@ -20,7 +20,7 @@ KINDS = ["steps", "run", "replay", "channel", "debug"]
 
 
 def cost(runs, words, stdin):
-    """What a run answers, its seconds and its peak bytes, which /usr/bin/time tells."""
+    """What a run answers, its seconds and its peak bytes, by /usr/bin/time."""
     begun = time.monotonic()
     with open("stdin", "wb") as file:
         file.write(stdin)
@@ -40,14 +40,14 @@ def hold(runs, words, stdin, wanted, note=""):
 
 def events(runs, harts, count):
     """The tokens of drawn events, of which each comes some times."""
-    told, left = [], count
+    tokens, left = [], count
     while left:
         # a loop of four instructions has a store in each
         letter = runs.draw.choice("al")
         times = min(left, runs.draw.choice((1, 3, 16, 60) if letter == "a" else (1, 4, 16)))
-        told.append((letter, runs.draw.randrange(harts), times))
+        tokens.append((letter, runs.draw.randrange(harts), times))
         left -= times
-    return " ".join(f"{letter}{hart}*{times}" for letter, hart, times in told).encode()
+    return " ".join(f"{letter}{hart}*{times}" for letter, hart, times in tokens).encode()
 
 
 def machine_loads(runs, count):
@@ -110,17 +110,17 @@ def session(runs, count, backs):
     text = Path("litmus/own-reads/n6.litmus").read_text()
     drawn = events(runs, 2, count)
     runs.put({"long.litmus": text.encode(), "long.schedule": b"ztso-schedule 1\n" + drawn})
-    done, told, typed = count, [], ["g"]
+    done, wanted, typed = count, [], ["g"]
     for _ in range(backs):
         depth = runs.draw.choice((1, 10, 1000, 100_000, count))
         depth = runs.draw.randrange(depth + 1)
         done = max(done - depth, 0)
         typed += [f"u {depth}", "t"]
-        told.append(f"{done}")
+        wanted.append(f"{done}")
         if done == 0 or runs.draw.random() < 0.02:
             typed += ["g", "t"]
             done = count
-            told.append(f"{done}")
+            wanted.append(f"{done}")
     typed += ["r 0", "r 1"]
     machine = Machine(litmus.read(text), 4)
     state = machine.opening
@@ -131,8 +131,8 @@ def session(runs, count, backs):
     # of the events' own lines none is a number
     numbers = [line for line in came[2].decode().split("\n") if line.isdigit()]
     last = came[2].decode().endswith(state_text(state).partition("word")[0])
-    right = came[:2] == (0, b"") and numbers == told and last
-    runs.hold("debug", right, f"{came[:2]}, {numbers[:8]}, wanted {told[:8]}", words)
+    right = came[:2] == (0, b"") and numbers == wanted and last
+    runs.hold("debug", right, f"{came[:2]}, {numbers[:8]}, wanted {wanted[:8]}", words)
     print(f"  debug of {count} events, gone back {backs} times: {seconds:.1f} s, peak {peak / 2**20:.0f} MiB",
           flush=True)
 

@@ -30,26 +30,26 @@ def refusals(runs, refuser, answer, own, words, stdin=b""):
     seen = Path(runs.folder, "seen")
     for later in ("0", "1"):
         for number in range(1, MOST):
-            told = answer({"LD_PRELOAD": str(refuser), "REFUSED_ALLOCATION": str(number),
+            came = answer({"LD_PRELOAD": str(refuser), "REFUSED_ALLOCATION": str(number),
                            "REFUSED_LATER": later, "REFUSAL_SEEN": str(seen)})
             if not seen.exists():
                 break
             seen.unlink()
             note = f"allocation {number} refused{', and all later ones' if later == '1' else ''}"
-            runs.hold(*judged(runs, told, own, words), brief(told), words, stdin, note)
+            runs.hold(*judged(runs, came, own, words), brief(came), words, stdin, note)
         else:
             runs.hold("own answers", False, f"{MOST} allocations", words, stdin)
 
 
-def judged(runs, told, own, words):
+def judged(runs, came, own, words):
     """The kind of an answer, and whether it may be."""
-    if told == NO_MEMORY:
+    if came == NO_MEMORY:
         return "no memory", True
-    if "threads" in words and told == NO_THREAD:
+    if "threads" in words and came == NO_THREAD:
         return "no thread", True
-    if "debug" in words and told[:2] == NO_MEMORY[:2]:
-        return "answers of their own until memory ran out", own[2].startswith(told[2])
-    right = runs.is_answer_of_threads(words, told) if own is None else told == own
+    if "debug" in words and came[:2] == NO_MEMORY[:2]:
+        return "answers of their own until memory ran out", own[2].startswith(came[2])
+    right = runs.is_answer_of_threads(words, came) if own is None else came == own
     return "own answers", right
 
 
@@ -60,8 +60,8 @@ def part(runs):
         return
     commands = 0
     # some stand on two pages
-    told = list({(row[0], *row[1].values()): row for row in examples.sessions()}.values())
-    for command, files, page in told[1::7] if runs.short else told:
+    rows = list({(row[0], *row[1].values()): row for row in examples.sessions()}.values())
+    for command, files, page in rows[1::7] if runs.short else rows:
         if "ulimit" in command:
             continue
         runs.put(files)
@@ -75,8 +75,8 @@ def part(runs):
             runs.hold("own answers", own[1:] == page, f"{brief(own)}, but the page has {page}", words, note=command)
         refusals(runs, refuser, lambda variables: answer_of_shell(runs, command, variables), own, words)
         commands += 1
-    told = list(examples.kinds())
-    for words, stdin, files in told[1::6] if runs.short else told:
+    rows = list(examples.kinds())
+    for words, stdin, files in rows[1::6] if runs.short else rows:
         runs.put(files)
         own = None if words[0] == "threads" else runs.compare("own answers", words, stdin)
         if own is None:

@@ -70,7 +70,7 @@ class Runs:
             return fault.status, f"{fault.line}\n".encode(), b""
         return status, b"", text.encode()
 
-    def hold(self, kind, right, told, words, stdin=b"", note=""):
+    def hold(self, kind, right, came, words, stdin=b"", note=""):
         """Counts a run, and shows it where it isn't right."""
         self.came[kind] += 1
         if right:
@@ -86,7 +86,7 @@ class Runs:
         for name, content in self.files.items():
             (kept / name).write_bytes(content)
         line = " ".join(escapes.quoted(os.fsencode(word)) for word in words)
-        print(f"wrong: {kind}: ztso {line}  {note}\n  {kept}: {told}", flush=True)
+        print(f"wrong: {kind}: ztso {line}  {note}\n  {kept}: {came}", flush=True)
 
     def compare(self, kind, words, stdin=b""):
         """Holds the program against the reference."""
@@ -106,8 +106,8 @@ class Runs:
 
     def counts(self, title, kinds):
         """Prints how often each kind came, and forgets it."""
-        told = ", ".join(f"{self.came.pop(kind)} {kind}" for kind in kinds if self.came[kind])
-        print(f"{title}: {told or 'nothing'}", flush=True)
+        counts = ", ".join(f"{self.came.pop(kind)} {kind}" for kind in kinds if self.came[kind])
+        print(f"{title}: {counts or 'nothing'}", flush=True)
 
 
 def brief(answer):

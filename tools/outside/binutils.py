@@ -34,10 +34,10 @@ def words_of(texts, extensions):
                   if re.search(r" row\d+$", line)]
         if places != [TEXT_AT + 4 * i for i in range(len(texts))]:
             raise ValueError(f"a text of {extensions} isn't four bytes")
-        told = re.findall(r"<row(\d+)>:\n +[0-9a-f]+:\t[0-9a-f ]+\t(\S+)",
+        names = re.findall(r"<row(\d+)>:\n +[0-9a-f]+:\t[0-9a-f ]+\t(\S+)",
                           tool("objdump", "-d", "-M", "no-aliases,numeric", linked))
         words = Path(image).read_bytes()
-    for row, name in told:
+    for row, name in names:
         text = texts[int(row)]
         if not text.startswith(".") and text.split()[0] != name:
             raise ValueError(f"{text}: objdump says {name}")

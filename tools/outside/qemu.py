@@ -1,4 +1,4 @@
-"""What one instruction does, by qemu-riscv32: its debugger's port sets the state, steps and tells it."""
+"""What one instruction does, by qemu-riscv32: its debugger's port sets the state, steps and reads it."""
 
 import os
 import socket

@@ -2,7 +2,7 @@
 
 An instruction is a tuple: its name, then what it needs, with register numbers and numbers. A jump or
 branch to a label has the label's name in the target's place until `placed` puts the distance there.
-Pseudoinstructions are told as what they stand for."""
+Pseudoinstructions are read as what they stand for."""
 
 import re
 
@@ -53,7 +53,7 @@ def number(text, least, most, step=1):
 
 
 def integer(text):
-    """The number that a text of the shape NUMBER tells."""
+    """The number of a text of the shape NUMBER."""
     sign, digits = (-1, text[1:]) if text.startswith("-") else (1, text)
     return sign * (of_digits(digits[2:], 16) if digits.startswith("0x") else of_digits(digits))
 
@@ -117,9 +117,9 @@ def pseudoinstruction(name, operands):
 
 def instruction(name, operands):
     """The instructions of a statement, which are two for some `li`."""
-    told = pseudoinstruction(name, operands)
-    if told is not None:
-        return told
+    meant = pseudoinstruction(name, operands)
+    if meant is not None:
+        return meant
     if name in THREE_REGISTERS:
         return [(name, *map(register, arity(operands, 3)))]
     if name in IMMEDIATE or name in SHIFT:

@@ -20,20 +20,20 @@ SENDERS = 63
 
 def lists(text):
     """A list for each line of decimal words, parted by spaces."""
-    told = []
+    found = []
     for number, line in enumerate(lines(text), 1):
         words = line.split(" ")
         if not all(re.fullmatch("[0-9]*", word) and of_digits(word) < 1 << 32 for word in words):
             raise at_line(LINE, number)
-        told.append(tuple(of_digits(word) for word in words if word))
-    return told
+        found.append(tuple(of_digits(word) for word in words if word))
+    return found
 
 
 def tables(kind):
     """The page's lines for the sender and for the receiver, by their places."""
     section = PAGE.read_text().split(f"{HEADING[kind]}\n")[1].split("\n## ")[0]
-    told = [re.findall(r"^\| ([0-9A-F]{2}) \| `([^`]*)`", part, re.MULTILINE) for part in section.split("\n\n")]
-    sender, receiver = (dict(lines) for lines in told if lines)
+    tables = [re.findall(r"^\| ([0-9A-F]{2}) \| `([^`]*)`", part, re.MULTILINE) for part in section.split("\n\n")]
+    sender, receiver = (dict(lines) for lines in tables if lines)
     return sender, receiver
 
 
@@ -45,9 +45,9 @@ def listings(kind):
 
 
 def assembled(program):
-    told = [assembly.statement(text) for text in program]
-    labels = {label: at for at, (label, _) in enumerate(told) if label}
-    return [assembly.placed(instruction, at, labels) for at, (_, (instruction,)) in enumerate(told)]
+    statements = [assembly.statement(text) for text in program]
+    labels = {label: at for at, (label, _) in enumerate(statements) if label}
+    return [assembly.placed(instruction, at, labels) for at, (_, (instruction,)) in enumerate(statements)]
 
 
 def opened(kind, slots, words):
@@ -61,15 +61,15 @@ def opened(kind, slots, words):
         raise refused(TOO_SMALL)
     if len(words) * size > MEMORY:
         raise refused(NO_ROOM)
-    for sender, told in enumerate(words):
-        if 0 in told:
-            raise refused(ZERO_WORD, f" at sender {sender} place {told.index(0)}")
+    for sender, list_ in enumerate(words):
+        if 0 in list_:
+            raise refused(ZERO_WORD, f" at sender {sender} place {list_.index(0)}")
     sender, receiver = listings(kind)
     channel = litmus.Test(codes=[receiver] + [sender] * len(words))
     channel.registers = {(0, 9): 4 * slots, (0, 18): size, (0, 19): len(words) * size, (0, 20): len(words)}
-    for i, told in enumerate(words):
+    for i, list_ in enumerate(words):
         channel.registers |= {(i + 1, 8): i * size, (i + 1, 9): 4 * slots}
-        channel.inboxes[i + 1] = told
+        channel.inboxes[i + 1] = list_
     return channel
 
 

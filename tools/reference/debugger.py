@@ -33,9 +33,9 @@ class Session:
 
     def next(self):
         event = self.schedule[self.place]
-        told = self.event(event)
+        outcome = self.event(event)
         self.place += 1
-        return told
+        return outcome
 
     def held_up(self):
         """Where the next event's hart stands, if a breakpoint holds it up."""
@@ -46,14 +46,14 @@ class Session:
         return None
 
     def go(self):
-        told, first = [], True
+        lines, first = [], True
         while self.place < len(self.schedule):
             at = None if first else self.held_up()
             if at:
-                return [*told, f"break {at[0]} {at[1]}"]
-            told += self.next()
+                return [*lines, f"break {at[0]} {at[1]}"]
+            lines += self.next()
             first = False
-        return [*told, "end"]
+        return [*lines, "end"]
 
     def back(self, count):
         count = min(count, len(self.before))
@@ -99,9 +99,9 @@ class Session:
 
 def session(test, schedule, capacity, content):
     """What a session prints."""
-    told, lines = Session(test, schedule, capacity), []
+    session, lines = Session(test, schedule, capacity), []
     for words in commands(content):
         if words == ["q"]:
             break
-        lines += told.answer(words)
+        lines += session.answer(words)
     return lines

@@ -1,4 +1,4 @@
-"""Numbers of decimal or hex digits. One that is too long to matter anywhere is told as a large one."""
+"""Numbers of decimal or hex digits. One that is too long to matter anywhere is read as a large one."""
 
 LARGE = 10**30
 

@@ -35,12 +35,12 @@ ATOM = re.compile(rf"""
 
 @dataclass
 class Test:
-    """What a litmus text tells. A place is `("register", hart, number)` or `("word", address)`."""
+    """What a litmus text defines. A place is `("register", hart, number)` or `("word", address)`."""
     codes: list = field(default_factory=list)
     locations: dict = field(default_factory=dict)
     registers: dict = field(default_factory=dict)
     words: dict = field(default_factory=dict)
-    # of harts; a litmus text tells none
+    # of harts; a litmus text has none
     inboxes: dict = field(default_factory=dict)
     kind: str = ""
     # the condition in postfix: `("is", place, value)`, "not", "and", "or"
@@ -307,13 +307,13 @@ class Reader:
             hart, number = of_digits(shape["hart"]), assembly.REGISTERS.get(shape["register"])
             if number is None or hart >= len(self.test.codes):
                 raise self.fault(CONDITION, at)
-            told, place = f"{hart}:x{number}", ("register", hart, number)
+            name, place = f"{hart}:x{number}", ("register", hart, number)
         else:
-            told = shape["name"] or shape["bracketed"]
-            place = ("word", self.location(told, at))
+            name = shape["name"] or shape["bracketed"]
+            place = ("word", self.location(name, at))
         value = self.value(shape["value"], CONDITION, at)
         if all(place != other for _, other in self.test.lefts):
-            self.test.lefts.append((told, place))
+            self.test.lefts.append((name, place))
         self.test.condition.append(("is", place, value))
         return shape.end()
 

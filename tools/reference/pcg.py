@@ -48,7 +48,7 @@ class Generator:
             count >>= 1
 
     def remainders(self, divisor, count):
-        """The next words' remainders by a number. It is `next_u32` told again, for speed."""
+        """The next words' remainders by a number. It is `next_u32` written again, for speed."""
         state, increment, found = self.state, self.increment, []
         for _ in range(count):
             word = (state >> 18 ^ state) >> 27 & 0xFFFF_FFFF

@@ -76,14 +76,14 @@ def judge_operands(name, operands):
 
 
 def extra_of(name, operands):
-    """What the machine doesn't need of an instruction, as words.py tells it."""
+    """What the machine doesn't need of an instruction, as words.py has it."""
     if name in AMOS:
         return sum(bit for letters, bit in ((".aq", 2), ("rl", 1)) if letters in name.partition(".w")[2])
     if name == "fence.tso":
         return words.TSO
     if name == "fence":
-        return tuple(sum(1 << 3 - "iorw".index(letter) for letter in told if letter != "0")
-                     for told in operands or ("iorw", "iorw"))
+        return tuple(sum(1 << 3 - "iorw".index(letter) for letter in letters if letter != "0")
+                     for letters in operands or ("iorw", "iorw"))
     return None
 
 
@@ -120,13 +120,13 @@ def read(text):
             passed = line
     if passed is not None:
         raise at_line(TOO_LONG, passed)
-    told = []
+    found = []
     for at, (line, instruction, extra) in enumerate(code):
         name = assembly.target_of(instruction)
         if name is not None and name not in labels:
             raise at_line(NO_LABEL, line)
         try:
-            told.append(words.encoded(assembly.placed(instruction, at, labels), extra))
+            found.append(words.encoded(assembly.placed(instruction, at, labels), extra))
         except assembly.Refused:
             raise at_line(OUT_OF_RANGE, line) from None
-    return told
+    return found

@@ -13,7 +13,7 @@ LINE, CODE, MEMORY = 34, 4096, 4 * 4096
 
 def tokens(line, number):
     """The events of a `steps` line."""
-    told, total = [], 0
+    found, total = [], 0
     for piece in re.compile(r"[^ \t\r]+").finditer(line, line.index("steps") + len("steps")):
         shape = TOKEN_SHAPE.fullmatch(piece[0])
         if not shape:
@@ -26,8 +26,8 @@ def tokens(line, number):
         if not 1 <= count <= EVENTS - total:
             raise at_line(COUNT, number)
         total += count
-        told.append(((letter, hart), count))
-    return told
+        found.append(((letter, hart), count))
+    return found
 
 
 def read(text):
@@ -36,10 +36,10 @@ def read(text):
     for number, line in enumerate(words.lines(text), 1):
         head, *rest = re.findall(r"[^ \t]+", line) or [""]
         if head == "steps":
-            told = tokens(line, number)
-            if sum(count for _, count in told) > EVENTS - len(events):
+            more = tokens(line, number)
+            if sum(count for _, count in more) > EVENTS - len(events):
                 raise at_line(COUNT, number)
-            for event, count in told:
+            for event, count in more:
                 events += [event] * count
         elif head and not takes(test, head, rest):
             raise at_line(LINE, number)
@@ -54,8 +54,8 @@ def takes(test, head, rest):
         if len(test.codes) == HARTS or len(rest) > CODE or \
                 not all(re.fullmatch("[0-9A-Fa-f]{8}", word) for word in rest):
             return False
-        told = [words.decoded(int(word, 16)) for word in rest]
-        test.codes.append([each[0] if each else ("illegal",) for each in told])
+        decoded = [words.decoded(int(word, 16)) for word in rest]
+        test.codes.append([each[0] if each else ("illegal",) for each in decoded])
         return True
     if (head, len(rest)) not in (("reg", 3), ("word", 2)) or not all(re.fullmatch("[0-9]+", word) for word in rest):
         return False

@@ -7,7 +7,7 @@ import re
 import assembly
 
 # name: opcode, funct3 and funct7
-REGISTER = {name: (0x33, *told) for name, told in {
+REGISTER = {name: (0x33, *numbers) for name, numbers in {
     "add": (0, 0), "sub": (0, 0x20), "sll": (1, 0), "slt": (2, 0), "sltu": (3, 0), "xor": (4, 0), "srl": (5, 0),
     "sra": (5, 0x20), "or": (6, 0), "and": (7, 0)}.items()}
 SHIFT = {"slli": (0x13, 1, 0), "srli": (0x13, 5, 0), "srai": (0x13, 5, 0x20)}
@@ -79,27 +79,27 @@ def decoded(word):
     rd, rs1, rs2 = bits(word, 11, 7), bits(word, 19, 15), bits(word, 24, 20)
     funct3, funct7, opcode = bits(word, 14, 12), bits(word, 31, 25), word & 0x7F
     n = signed(word >> 20, 12)
-    for name, told in UPPER.items():
-        if told == opcode:
+    for name, numbers in UPPER.items():
+        if numbers == opcode:
             return (name, rd, word >> 12), None
     if opcode == 0x6F:
         n = bits(word, 31, 31) << 20 | bits(word, 19, 12) << 12 | bits(word, 20, 20) << 11 | bits(word, 30, 21) << 1
         return ("jal", rd, signed(n, 21)), None
-    for name, told in BRANCHES.items():
-        if told == (opcode, funct3):
+    for name, numbers in BRANCHES.items():
+        if numbers == (opcode, funct3):
             n = bits(word, 31, 31) << 12 | bits(word, 7, 7) << 11 | bits(word, 30, 25) << 5 | bits(word, 11, 8) << 1
             return (name, rs1, rs2, signed(n, 13)), None
-    for name, told in STORES.items():
-        if told == (opcode, funct3):
+    for name, numbers in STORES.items():
+        if numbers == (opcode, funct3):
             return (name, rs2, rs1, signed(funct7 << 5 | rd, 12)), None
-    for name, told in IMMEDIATE.items():
-        if told == (opcode, funct3):
+    for name, numbers in IMMEDIATE.items():
+        if numbers == (opcode, funct3):
             return (name, rd, rs1, n), None
-    for name, told in (REGISTER | SHIFT).items():
-        if told == (opcode, funct3, funct7):
+    for name, numbers in (REGISTER | SHIFT).items():
+        if numbers == (opcode, funct3, funct7):
             return (name, rd, rs1, rs2), None
-    for name, told in AMOS.items():
-        if (opcode, funct3, word >> 27) == (0x2F, 2, told):
+    for name, numbers in AMOS.items():
+        if (opcode, funct3, word >> 27) == (0x2F, 2, numbers):
             return (name, rd, rs2, rs1), bits(word, 26, 25)
     if (opcode, funct3) == (0xF, 0):
         before, after = bits(word, 27, 24), bits(word, 23, 20)
@@ -133,13 +133,13 @@ def text(instruction, extra):
 
 def read(content):
     """The words of a text for `dis`, or the number of the first line that holds anything else."""
-    told = []
+    found = []
     for number, line in enumerate(lines(content), 1):
         for piece in re.findall(r"[^ \t]+", line):
             if not re.fullmatch("[0-9A-Fa-f]{8}", piece):
                 return number
-            told.append(int(piece, 16))
-    return told
+            found.append(int(piece, 16))
+    return found
 
 
 def lines(content):
