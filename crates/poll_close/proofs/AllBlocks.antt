@@ -22,6 +22,7 @@ use Rattle.step_machine.proofs.WordReads.{read-word}
 use Rattle.step_machine.specs.Paths.{value_of, state_of}
 use Rattle.step_machine.specs.Legal.{Legal}
 use Rattle.step_machine.specs.Runs.{CanFollow}
+use Rattle.poll_close.specs.Layout.{Layout}
 use Rattle.poll_close.specs.Going.{GoesOn}
 use Rattle.poll_close.specs.Invariant.Blocks.{Block, block_of, is_within, as_write, as_writes, to_block}
 use Rattle.poll_close.specs.Invariant.BlockMeaning.{BlockMeaning, Count, unsent_of, unread_of}
@@ -117,12 +118,12 @@ writes : (word new : ℕ → ℕ) (w : Write) (x : ℕ × ℕ) → w ≡ as_writ
 writes word new w x same write = subst (λ (u : Write). (a : ℕ) → new a ≡ (if u.addr == a then u.value else word a)) same write
 
 -- and all blocks' statements after it
-pub record BlocksAfter (m : BlockMeaning) (M S : ℕ) (lists : List (List ℕ)) (new : History) (f : ℕ → Count m) : Type 0 where
+pub record BlocksAfter (m : BlockMeaning) (M : ℕ) (S : Layout) (lists : List (List ℕ)) (new : History) (f : ℕ → Count m) : Type 0 where
   pub numbers : ℕ → Count m
   pub parts : (i : ℕ) → i < length lists → BlockPart m (block_of M S lists i) M i new (numbers i)
   pub same : (i : ℕ) → i < length lists → (numbers i).receiver ≡ (f i).receiver
 
-module _ (m : BlockMeaning) (laws : BlockLaws m) (B M S : ℕ) (lists : List (List ℕ)) (are : (i : ℕ) → i < length lists → IsBlock (block_of M S lists i)) (t : History) (f : ℕ → Count m) (legal : Legal B t) (opens : OpensWithWords t.opening) (written : AllWriteWords t.entries) (parts : (i : ℕ) → i < length lists → BlockPart m (block_of M S lists i) M i t (f i)) where
+module _ (m : BlockMeaning) (laws : BlockLaws m) (B M : ℕ) (S : Layout) (lists : List (List ℕ)) (are : (i : ℕ) → i < length lists → IsBlock (block_of M S lists i)) (t : History) (f : ℕ → Count m) (legal : Legal B t) (opens : OpensWithWords t.opening) (written : AllWriteWords t.entries) (parts : (i : ℕ) → i < length lists → BlockPart m (block_of M S lists i) M i t (f i)) where
   abbrev Now : History → ℕ → Type 0
   Now new i = Grown m M (block_of M S lists i) i new (f i)
 
@@ -162,7 +163,7 @@ module _ (m : BlockMeaning) (laws : BlockLaws m) (B M S : ℕ) (lists : List (Li
       missed : (x : ℕ × ℕ) (i a : ℕ) → i ≢ j → Within (block_of M S lists i) a → Within (block_of M S lists j) x.0 → (x.0 == a) ≡ false
       missed x i a other here inside =
           elim (cases_eq x.0 a) [
-            | inl same ↦ absurd (apart M S lists i j a other here (subst (Within (block_of M S lists j)) same inside))
+            | inl same ↦ absurd (apart M S lists i j a (are j within).room other here (subst (Within (block_of M S lists j)) same inside))
             | inr differ ↦ grind (arith, nat_tests)
           ]
 

@@ -8,7 +8,6 @@ use Rattle.hart.specs.declared.status.Status.TheVariants as status
 use Rattle.hart.specs.declared.need.Need.{Need}
 use Rattle.hart.specs.declared.need.Report.{Report}
 use Rattle.hart.specs.declared.need.Report.TheVariants as report
-use Rattle.poll_close.specs.Layout.{block_size}
 use Rattle.poll_close.specs.Reports.{taken}
 use Rattle.poll_close.specs.Plans.{is_closed}
 use Rattle.poll_close.specs.Paces.{runs, some_open, far_of}
@@ -64,7 +63,7 @@ pub record Comes (m : BlockMeaning) (k : Block) (count : ℕ) (there : ℕ) (n :
   pub quiet : Quiet m n
   pub here : there ≡ 0x08
   pub index : r.x22 ≡ block
-  pub base : r.x8 ≡ block * block_size k.size
+  pub base : r.x8 ≡ k.first + block * k.stride
 
 -- what is known of the block that it visits where every sender waits or has ended, by the reports and states
 pub record Idle (m : BlockMeaning) (k : Block) (i count here : ℕ) (n : Count m) (r : Noted) (rs : List Report) (states : ℕ → Option HartState) : Type 0 where

@@ -7,7 +7,7 @@ use Rattle.std.proofs.lemmas.Bool.Decides.{nat_tests}
 use Rattle.std.proofs.lemmas.Nat.{mod_below, row_fits}
 use Rattle.memory.specs.declared.writes.Write.{Write}
 use Rattle.memory.specs.Writes.{newest_word, IsWholeWord}
-use Rattle.poll_close.specs.Layout.{block_size}
+use Rattle.poll_close.specs.Layout.{block_size, Layout}
 use Rattle.poll_close.specs.Invariant.Blocks.{Block, block_of, offset, slot, is_within, as_write, as_writes, is_to, to_block}
 use Rattle.poll_close.proofs.Windows.{newest_to}
 
@@ -16,6 +16,9 @@ pub record IsBlock (k : Block) : Type 0 where
   pub some_slot : 1 ≤ k.size
   pub even : k.base % 4 ≡ 0
   pub inside : k.base + 16 + 4 * k.size ≤ 4 * k.words
+  pub first : k.first ≤ k.base
+  pub room : block_size k.size ≤ k.stride
+  pub next : k.base + k.stride < 2 ^ 32
   pub small : 4 * k.words ≤ 2 ^ 32
   pub wide : 4 * k.words < 2 ^ 32
   pub words : (j : ℕ) → j < length k.list → slice_index k.list j < 2 ^ 32
@@ -57,16 +60,16 @@ within_true k a h = grind (arith, nat_tests, h.from, h.below)
 pub within_from : (k : Block) (a : ℕ) → is_within k a ≡ true → Within k a
 within_from k a h = record { from = grind (arith, nat_tests); below = grind (arith, nat_tests) }
 
-apart_below : (M S : ℕ) (lists : List (List ℕ)) (i j a : ℕ) → i < j → Within (block_of M S lists i) a → Within (block_of M S lists j) a → ⊥
-apart_below M S lists i j a less h g =
-    let far : i * block_size S + block_size S ≤ j * block_size S = row_fits i (block_size S) j (block_size S) less (omega arith) in
-    omega (arith, h.below, g.from)
+apart_below : (M : ℕ) (S : Layout) (lists : List (List ℕ)) (i j a : ℕ) → block_size S.size ≤ S.stride → i < j → Within (block_of M S lists i) a → Within (block_of M S lists j) a → ⊥
+apart_below M S lists i j a room less h g =
+    let far : i * S.stride + S.stride ≤ j * S.stride = row_fits i S.stride j S.stride less (omega arith) in
+    omega (arith, room, h.below, g.from)
 
-pub apart : (M S : ℕ) (lists : List (List ℕ)) (i j a : ℕ) → i ≢ j → Within (block_of M S lists i) a → Within (block_of M S lists j) a → ⊥
-apart M S lists i j a other h g =
+pub apart : (M : ℕ) (S : Layout) (lists : List (List ℕ)) (i j a : ℕ) → block_size S.size ≤ S.stride → i ≢ j → Within (block_of M S lists i) a → Within (block_of M S lists j) a → ⊥
+apart M S lists i j a room other h g =
     elim (cases_lt i j) [
-      | inl less ↦ apart_below M S lists i j a less h g
-      | inr more ↦ apart_below M S lists j i a (omega arith) g h
+      | inl less ↦ apart_below M S lists i j a room less h g
+      | inr more ↦ apart_below M S lists j i a room (omega arith) g h
     ]
 
 to_block-none : (k : Block) (ws : List Write) (w : Write) → is_within k w.addr ≡ false → to_block k (ws ++ w ∷ []) ≡ to_block k ws

@@ -21,6 +21,7 @@ use Rattle.memory.specs.Writes.{newest_word}
 use Rattle.step_machine.specs.Paths.{value_of}
 use Rattle.step_machine.specs.Legal.{Legal}
 use Rattle.step_machine.specs.Runs.{CanFollow}
+use Rattle.poll_close.specs.Layout.{Layout}
 use Rattle.poll_close.specs.Reports.{taken, sender_of, IsPrefixOf}
 use Rattle.poll_close.specs.Going.{GoesOn}
 use Rattle.poll_close.specs.Invariant.Blocks.{block_of, as_write, as_writes, to_block}
@@ -67,14 +68,14 @@ shuts_most m f zero each = omega arith
 shuts_most m f (suc i) each = omega (arith, each i (omega arith), shuts_most m f i (λ j less. each j (omega arith)))
 
 -- the channel after the receiver's act
-pub record Received (m : BlockMeaning) (M S : ℕ) (lists : List (List ℕ)) (new : History) : Type 0 where
+pub record Received (m : BlockMeaning) (M : ℕ) (S : Layout) (lists : List (List ℕ)) (new : History) : Type 0 where
   pub numbers : ℕ → Count m
   pub parts : (i : ℕ) → i < length lists → BlockPart m (block_of M S lists i) M i new (numbers i)
   pub receiver : ReceiverPart m M S lists new numbers
   pub reports : ReportPart m lists (reported 0 new.entries) numbers
 
 -- what is reported, where the receiver visits a block
-module _ (m : BlockMeaning) (M S : ℕ) (lists : List (List ℕ)) (f : ℕ → Count m) (b : ℕ) (known : b < length lists) (rs : List Report) (told : ReportPart m lists rs f) where
+module _ (m : BlockMeaning) (M : ℕ) (S : Layout) (lists : List (List ℕ)) (f : ℕ → Count m) (b : ℕ) (known : b < length lists) (rs : List Report) (told : ReportPart m lists rs f) where
   told_put : (now : List Report) (n : Count m) → ReportsOf now b (slice_index_or lists b []) (m.took n.receiver) (m.shut n.receiver) → ((j : ℕ) → j < length lists → j ≢ b → ReportsOf now j (slice_index_or lists j []) (m.took (f j).receiver) (m.shut (f j).receiver)) → (j : ℕ) → j < length lists → ReportsOf now j (slice_index_or lists j []) (m.took (put f b n j).receiver) (m.shut (put f b n j).receiver)
   told_put now n one others j within =
       elim (cases_eq j b) [
@@ -115,7 +116,7 @@ module _ (m : BlockMeaning) (M S : ℕ) (lists : List (List ℕ)) (f : ℕ → C
       (rw (closing.1, closing.2) (told_closed rs b (slice_index_or lists b []) (m.took (f b).receiver) (m.shut (f b).receiver) (told.senders b known)))
       (λ i is. subst (λ (j : ℕ). taken rs j ≡ slice_index_or lists j []) (ap sender_of is) ((told.senders b known).words ∙ ap (λ c. take c (slice_index_or lists b [])) closing.3 ∙ take-length (slice_index_or lists b []))))
 
-module _ (m : BlockMeaning) (laws : BlockLaws m) (B M S : ℕ) (lists : List (List ℕ)) (are : (i : ℕ) → i < length lists → IsBlock (block_of M S lists i)) (few : length lists ≤ 63) (t : History) (f : ℕ → Count m) (legal : Legal B t) (opens : OpensWithWords t.opening) (written : AllWriteWords t.entries) (parts : (i : ℕ) → i < length lists → BlockPart m (block_of M S lists i) M i t (f i)) (part : ReceiverPart m M S lists t f) (told : ReportPart m lists (reported 0 t.entries) f) where
+module _ (m : BlockMeaning) (laws : BlockLaws m) (B M : ℕ) (S : Layout) (lists : List (List ℕ)) (are : (i : ℕ) → i < length lists → IsBlock (block_of M S lists i)) (few : length lists ≤ 63) (t : History) (f : ℕ → Count m) (legal : Legal B t) (opens : OpensWithWords t.opening) (written : AllWriteWords t.entries) (parts : (i : ℕ) → i < length lists → BlockPart m (block_of M S lists i) M i t (f i)) (part : ReceiverPart m M S lists t f) (told : ReportPart m lists (reported 0 t.entries) f) where
   pub each_shut : (j : ℕ) → j < length lists → m.shut (f j).receiver ≤ 1
   each_shut j within = omega (arith, laws.shut_done (block_of M S lists j) (f j) (parts j within).order, laws.dones_one (block_of M S lists j) (f j) (parts j within).order)
 
@@ -191,7 +192,7 @@ module _ (m : BlockMeaning) (laws : BlockLaws m) (B M S : ℕ) (lists : List (Li
         subst (λ (z : Count m). BlockPart m (block_of M S lists i) M i new z) (sym (put_other f part.block n i other)) (untouched m laws M (block_of M S lists i) i t new (f i) (are i within) (parts i within) (record {
           state = a.states (i + 1) (λ zero_is. omega arith);
           buffer = a.buffers (i + 1) (λ zero_is. omega arith);
-          theirs = ap (to_block (block_of M S lists i)) (a.buffer ∙ ap (λ w. pending 0 t.entries ++ as_writes (stored_by w)) r.wants) ∙ to_block-elsewhere (block_of M S lists i) (pending 0 t.entries) (stored_by r.wanted) (stored_cases r.wanted) (λ x one here. apart M S lists i part.block x.0 other here (inside x one));
+          theirs = ap (to_block (block_of M S lists i)) (a.buffer ∙ ap (λ w. pending 0 t.entries ++ as_writes (stored_by w)) r.wants) ∙ to_block-elsewhere (block_of M S lists i) (pending 0 t.entries) (stored_by r.wanted) (stored_cases r.wanted) (λ x one here. apart M S lists i part.block x.0 (are part.block part.known).room other here (inside x one));
           memory = λ x here. a.memory x;
         }))
 

@@ -26,7 +26,6 @@ use Rattle.std.proofs.lemmas.Bool.Decides.{nat_tests}
 use Rattle.std.proofs.lemmas.Nat.{row_fits}
 use Rattle.hart.specs.declared.status.Status.TheVariants as status
 use Rattle.hart.specs.declared.need.Report.TheVariants as report
-use Rattle.poll_close.specs.Layout.{block_size}
 use Rattle.poll_close.specs.Paces.{rest_from, runs}
 use Rattle.poll_close.specs.Plans.{is_closed}
 use Rattle.poll_close.proofs.Modulo.{offset_step, offset_wrap}
@@ -101,7 +100,7 @@ module _ (m : BlockMeaning) (k : Block) (i count : ℕ) (n : Count m) (order : m
   pub reads : (here there a : ℕ) (noted : ℕ → Noted) → Counts here there (noted v) n.receiver → Line (now here r) (loads a) (λ w. now there (noted w)) → ReceiverIs m k i there n.receiver (noted v) → Nearer m k i count here there n r (noted v) → Receives m k i count here n r v
   reads here there a noted counts line holds nearer = acts here there (loads a) noted n.receiver tt line unchanged (inl holds) (inl (refl, refl, refl)) counts (λ none. nearer)
 
-  module _ (laws : BlockLaws m) (is : IsBlock k) (base : k.base ≡ i * block_size k.size) (known : i < count) (few : count ≤ 63) (word_at : ℕ → ℕ) (words : m.Words k n.landed word_at) where
+  module _ (laws : BlockLaws m) (is : IsBlock k) (base : k.base ≡ k.first + i * k.stride) (known : i < count) (few : count ≤ 63) (word_at : ℕ → ℕ) (words : m.Words k n.landed word_at) where
     abbrev Right_here : ℕ → Type 0
     Right_here here = Right_at m k i count n word_at r v here
 
@@ -109,7 +108,7 @@ module _ (m : BlockMeaning) (k : Block) (i count : ℕ) (n : Count m) (order : m
     o = n.receiver
 
     right_00 : Right_here 0x00  -- round: addi x8,x21,0
-    right_00 h z = still 0x00 0x04 (record r { x8 = 0 }) refl (add_line (at 0 refl) (word_plus 0 0 (lit< tt))) (h, refl) (λ rs states idle. omega arith)
+    right_00 h z = still 0x00 0x04 (record r { x8 = k.first }) refl (add_line (at 0 refl) (word_plus k.first 0 (omega (arith, is.first, is.next)) ∙ add-zero k.first)) (h, refl) (λ rs states idle. omega arith)
 
     right_04 : Right_here 0x04  -- addi x22,x0,0
     right_04 h z =
@@ -253,8 +252,8 @@ module _ (m : BlockMeaning) (k : Block) (i count : ℕ) (n : Count m) (order : m
 
     right_68 : Right_here 0x68  -- step: add x8,x8,x18
     right_68 h z =
-        still 0x68 0x6C (record r { x8 = r.x8 + block_size k.size }) refl (sum_line (at 26 refl) (omega (arith, h.1.base, is.inside, is.wide, is.some_slot)))
-        (h.0, h.1.index, (let same : r.x8 + block_size k.size ≡ k.base + block_size k.size = omega (arith, h.1.base) in same))
+        still 0x68 0x6C (record r { x8 = r.x8 + k.stride }) refl (sum_line (at 26 refl) (omega (arith, h.1.base, is.next)))
+        (h.0, h.1.index, (let same : r.x8 + k.stride ≡ k.base + k.stride = omega (arith, h.1.base) in same))
         (λ rs states idle. omega arith)
 
     right_6C : Right_here 0x6C  -- addi x22,x22,1
@@ -265,7 +264,7 @@ module _ (m : BlockMeaning) (k : Block) (i count : ℕ) (n : Count m) (order : m
 
     right_70 : Right_here 0x70  -- bne x8,x19,visit
     right_70 h z =
-        elim (cases_eq r.x8 (count * block_size k.size)) [
+        elim (cases_eq r.x8 (k.first + count * k.stride)) [
           | inl same ↦ still 0x70 0x74 r refl (same_goes_on (at 28 refl) same) h.0
               (λ rs states idle. (let over : rest_from rs count (r.x22 - 1 + 1) ≡ rest_from rs count count = ap (rest_from rs count) {x = r.x22 - 1 + 1} (omega (arith, at_end same, h.1)) in omega (arith, over, wraps rs count idle.open_yet)))
           | inr other ↦ acts 0x70 0x08 need.Inner (λ w. r) o tt (other_jumps (at 28 refl) other refl) unchanged
@@ -274,18 +273,18 @@ module _ (m : BlockMeaning) (k : Block) (i count : ℕ) (n : Count m) (order : m
               (λ none rs states idle. (let rest : rest_from rs count (r.x22 - 1 + 1) ≡ rest_from rs count r.x22 = ap (rest_from rs count) {x = r.x22 - 1 + 1} (omega (arith, h.1)) in omega (arith, rest, arrives rs count r.x22 (omega (arith, h.1, more other (cases_eq (i + 1) count))))))
         ]
       where
-        next : k.base + block_size k.size ≡ (i + 1) * block_size k.size
+        next : k.base + k.stride ≡ k.first + (i + 1) * k.stride
         next = omega (arith, base)
 
-        at_end : r.x8 ≡ count * block_size k.size → i + 1 ≡ count
+        at_end : r.x8 ≡ k.first + count * k.stride → i + 1 ≡ count
         at_end same =
             elim (cases_lt (i + 1) count) [
-              | inl less ↦ let below : (i + 1) * block_size k.size + block_size k.size ≤ count * block_size k.size = row_fits (i + 1) (block_size k.size) count (block_size k.size) less (omega arith) in absurd (omega (arith, below, same, h.2, next))
+              | inl less ↦ let below : (i + 1) * k.stride + k.stride ≤ count * k.stride = row_fits (i + 1) k.stride count k.stride less (omega arith) in absurd (omega (arith, below, same, h.2, next, is.room))
               | inr past ↦ omega (arith, known)
             ]
 
-        more : r.x8 ≢ count * block_size k.size → (i + 1 ≡ count) ⊎ (i + 1 ≢ count) → i + 1 < count
-        more other (inl last) = absurd (other (h.2 ∙ next ∙ ap (λ j. j * block_size k.size) last))
+        more : r.x8 ≢ k.first + count * k.stride → (i + 1 ≡ count) ⊎ (i + 1 ≢ count) → i + 1 < count
+        more other (inl last) = absurd (other (h.2 ∙ next ∙ ap (λ j. k.first + j * k.stride) last))
         more other (inr less) = omega (arith, known)
 
     right_74 : Right_here 0x74  -- jal x0,round

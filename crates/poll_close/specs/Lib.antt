@@ -1,4 +1,5 @@
 pub mod Layout
+pub mod Places
 pub mod Reports
 pub mod Going
 pub mod Laws
