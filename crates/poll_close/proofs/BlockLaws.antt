@@ -31,7 +31,7 @@ seen_at m k n word a = found_in (unread_of m k n) word a
 -- a sender acted in state s, and read v
 pub record Sends (m : BlockMeaning) (k : Block) (n : Count m) (s : HartState) (v : ℕ) : Type 0 where
   pub after : m.sender.Own
-  pub plain : IsNoAmo (need_of s)
+  pub plain : IsNoAmo (IsWordOf k) (need_of s)
   pub stands : Standing m.sender k after (advanced s v)
   pub order : m.Ordered k (record n { sender = after })
   pub unsent : unsent_of m k n ++ stored_by (need_of s) ≡ m.unsent k after n.landed
@@ -84,7 +84,7 @@ pub record Receives (m : BlockMeaning) (k : Block) (i count : ℕ) (here : ℕ) 
   pub there : ℕ
   pub noted : Noted
   pub after : m.Receiver
-  pub plain : IsNoAmo wanted
+  pub plain : IsNoAmo (IsWordOf k) wanted
   pub wants : need_of (receives m.middle (whole_of k count) here r) ≡ wanted
   pub leaves : advanced (receives m.middle (whole_of k count) here r) v ≡ receives m.middle (whole_of k count) there noted
   pub changes : Changes m k n after (stored_by wanted)

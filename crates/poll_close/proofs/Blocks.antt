@@ -1,5 +1,5 @@
 -- Blocks don't meet: an address in one is in no other, so what concerns one leaves the others.
-use Rattle.std.proofs.Common.{ℕ, ◌+◌, ◌*◌, ◌%◌, ◌^◌, ◌<◌, ◌≤◌, ◌≡◌, ◌≢◌, ◌==◌, ◌⊎◌, inl, inr, Bool, true, false, if◌then◌else◌, List, [], ◌∷◌, ◌++◌, length, Option, Some, refl, sym, ◌∙◌, ap, arith, append-nil, eq-eqb}
+use Rattle.std.proofs.Common.{ℕ, ◌+◌, ◌*◌, ◌%◌, ◌^◌, ◌<◌, ◌≤◌, ◌≡◌, ◌≢◌, ◌==◌, ◌⊎◌, inl, inr, Bool, true, false, if◌then◌else◌, List, [], ◌∷◌, ◌++◌, length, Option, Some, refl, sym, ◌∙◌, ap, subst, arith, append-nil, eq-eqb}
 use Rattle.std.specs.Prelude.{slice_index}
 use Rattle.std.proofs.lemmas.List.Elements.{filter-append}
 use Rattle.std.proofs.lemmas.Bool.{cases_lt, cases_eq}
@@ -51,8 +51,18 @@ module _ (k : Block) (is : IsBlock k) where
   pub base_word : IsWordOf k k.base
   base_word = record { within = record { from = omega arith; below = omega arith }; aligned = is.even }
 
+  pub word_from : (b j : ℕ) → b ≡ k.base → j ≤ 12 → j % 4 ≡ 0 → IsWordOf k (b + j)
+  word_from b j same small aligned = subst (λ (z : ℕ). IsWordOf k (z + j)) (sym same) (word_of j small aligned)
+
   pub slot_of : (j : ℕ) → IsWordOf k (slot k.size k.base j)
   slot_of j = record { within = record { from = omega arith; below = omega (arith, offset_low j) }; aligned = omega (arith, is.even) }
+
+  pub slot_at : (a j : ℕ) → a ≡ slot k.size k.base j → IsWordOf k a
+  slot_at a j same = subst (IsWordOf k) (sym same) (slot_of j)
+
+  -- all four bytes of a word are the block's
+  pub word_end : (a : ℕ) → IsWordOf k a → a + 4 ≤ k.base + block_size k.size
+  word_end a word = omega (arith, is.even, word.aligned, word.within.below)
 
 pub within_true : (k : Block) (a : ℕ) → Within k a → is_within k a ≡ true
 within_true k a h = grind (arith, nat_tests, h.from, h.below)

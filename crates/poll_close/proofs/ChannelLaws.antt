@@ -21,9 +21,10 @@ use Rattle.step_machine.proofs.Appended.{reported-last}
 use Rattle.step_machine.proofs.Follows.{Path-hart, state_of-other}
 use Rattle.step_machine.proofs.Stays.{report_of-other, states_land}
 use Rattle.poll_close.specs.Layout.{Layout, sender_registers, senders_from, opening_at}
-use Rattle.poll_close.specs.Laws.{Ring, AreWords, AcceptedAt, Opens, Keeps, Cleans, Goes}
+use Rattle.poll_close.specs.Laws.{Ring, AreWords, AcceptedAt, Opens, Keeps, Cleans, Goes, Stays}
 use Rattle.poll_close.specs.Reports.{Clean}
 use Rattle.poll_close.specs.Going.{GoesOn, AllGoOn}
+use Rattle.poll_close.specs.Touching.{Touches, AllTouch}
 use Rattle.poll_close.specs.Invariant.Blocks.{block_of, as_writes}
 use Rattle.poll_close.specs.Invariant.ReceiverState.{receiver_of}
 use Rattle.poll_close.specs.Invariant.BlockMeaning.{BlockMeaning, Count, Quiet}
@@ -98,11 +99,11 @@ is_hart code receiver B M S lists t e is can =
           absurd (Path-hart M (with_entry t e) (hart_of e) can.path (slice_get_past t.opening.harts (hart_of e) (omega arith)))
     ]
 
-all_go_on : (es : List Entry) (e : Entry) → AllGoOn es → GoesOn e → AllGoOn (es ++ e ∷ [])
-all_go_on [] e all one zero d is = subst GoesOn (let same : e ≡ d = cc in same) one
-all_go_on [] e all one (suc j) d is = cc
-all_go_on (x ∷ es) e all one zero d is = all 0 d is
-all_go_on (x ∷ es) e all one (suc j) d is = all_go_on es e (λ i c at. all (suc i) c at) one j d is
+all_more : (P : Entry → Type 0) (es : List Entry) (e : Entry) → ((j : ℕ) (d : Entry) → slice_get es j ≡ Some d → P d) → P e → (j : ℕ) (d : Entry) → slice_get (es ++ e ∷ []) j ≡ Some d → P d
+all_more P [] e all one zero d is = subst P (let same : e ≡ d = cc in same) one
+all_more P [] e all one (suc j) d is = cc
+all_more P (x ∷ es) e all one zero d is = all 0 d is
+all_more P (x ∷ es) e all one (suc j) d is = all_more P es e (λ i c at. all (suc i) c at) one j d is
 
 one_more : (es : List Entry) (e : Entry) → AllWriteWords es → WritesWord (access_of e) → AllWriteWords (es ++ e ∷ [])
 one_more es e all one = AllWriteWords-append es (e ∷ []) all (one, tt)
@@ -175,6 +176,7 @@ module _ (m : BlockMeaning) (laws : BlockLaws m) (least : ℕ) (some : 1 ≤ lea
         clean = clean-none lists;
       };
       unstopped = λ j e is. cc;
+      touched = λ j e is. cc;
       written = tt;
     }
 
@@ -196,9 +198,10 @@ module _ (m : BlockMeaning) (laws : BlockLaws m) (least : ℕ) (some : 1 ≤ lea
       opens_words : (u : History) → u.opening ≡ opening_at m.sender.code (receiver_of m.middle) lists S → OpensWithWords u.opening
       opens_words u same = subst OpensWithWords (sym same) accepted.empty.small
 
-      go_on : (new : History) → state_of M new 0 ≡ state_of M t 0 → reported 0 new.entries ≡ reported 0 t.entries → BlocksAfter m M S lists new ch.numbers → AllGoOn new.entries → AllWriteWords new.entries → Channel m M S lists new
-      go_on new state said b all words = record {
+      go_on : (new : History) → state_of M new 0 ≡ state_of M t 0 → reported 0 new.entries ≡ reported 0 t.entries → BlocksAfter m M S lists new ch.numbers → AllGoOn new.entries → AllTouch S (length lists) new.entries → AllWriteWords new.entries → Channel m M S lists new
+      go_on new state said b all reached words = record {
         unstopped = all;
+        touched = reached;
         written = words;
         numbers = b.numbers;
         parts = b.parts;
@@ -208,32 +211,35 @@ module _ (m : BlockMeaning) (laws : BlockLaws m) (least : ℕ) (some : 1 ≤ lea
 
       acts : (h : ℕ) → hart_of e ≡ h → is_land e ≡ false → Channel m M S lists (with_entry t e)
       acts zero mine act =
-          let plain : GoesOn e × WritesWord (access_of e) = receiver_goes_on m laws B M S lists (blocks ring_by M S lists some accepted) accepted.senders t ch.numbers kept.legal (opens_words t is) ch.written ch.parts ch.receiver ch.reports e can mine act in
+          let plain : GoesOn e × WritesWord (access_of e) × Touches S (length lists) e = receiver_goes_on m laws B M S lists (blocks ring_by M S lists some accepted) accepted.senders t ch.numbers kept.legal (opens_words t is) ch.written ch.parts ch.receiver ch.reports e can mine act in
           let r : Received m M S lists (with_entry t e) = receiver_acts m laws B M S lists (blocks ring_by M S lists some accepted) accepted.senders t ch.numbers kept.legal (opens_words t is) ch.written ch.parts ch.receiver ch.reports e can mine act in
-          record { numbers = r.numbers; parts = r.parts; receiver = r.receiver; reports = r.reports; unstopped = all_go_on t.entries e ch.unstopped plain.0; written = one_more t.entries e ch.written plain.1 }
+          record { numbers = r.numbers; parts = r.parts; receiver = r.receiver; reports = r.reports; unstopped = all_more GoesOn t.entries e ch.unstopped plain.0; touched = all_more (Touches S (length lists)) t.entries e ch.touched plain.2; written = one_more t.entries e ch.written plain.1 }
       acts (suc j) mine act =
           let within : j < length lists = omega (arith, is_hart m.sender.code (receiver_of m.middle) B M S lists t e is can, mine) in
           let other : (hart_of e == 0) ≡ false = not_zero (hart_of e) j mine in
-          let plain : GoesOn e × WritesWord (access_of e) = sender_goes_on m laws B M S lists (blocks ring_by M S lists some accepted) t ch.numbers kept.legal (opens_words t is) ch.written ch.parts j within e can (mine ∙ sym (add-one j)) act in
+          let plain : GoesOn e × WritesWord (access_of e) × Touches S (length lists) e = sender_goes_on m laws B M S lists (blocks ring_by M S lists some accepted) t ch.numbers kept.legal (opens_words t is) ch.written ch.parts j within e can (mine ∙ sym (add-one j)) act in
           go_on (with_entry t e) (state_of-other M t 0 e (rw other refl)) (reported-last 0 t.entries e ∙ ap (λ rs. reported 0 t.entries ++ rs) (report_of-other 0 e other) ∙ append-nil (reported 0 t.entries))
           (sender_acts m laws B M S lists (blocks ring_by M S lists some accepted) t ch.numbers kept.legal (opens_words t is) ch.written ch.parts j within e can (mine ∙ sym (add-one j)) act)
-          (all_go_on t.entries e ch.unstopped plain.0) (one_more t.entries e ch.written plain.1)
+          (all_more GoesOn t.entries e ch.unstopped plain.0) (all_more (Touches S (length lists)) t.entries e ch.touched plain.2) (one_more t.entries e ch.written plain.1)
 
       lands : (h : ℕ) → e ≡ entry.Land h → (g : ℕ) → h ≡ g → Channel m M S lists (with_entry t e)
       lands h land zero same =
           let is_0 : e ≡ entry.Land 0 = land ∙ ap entry.Land same in
           subst (λ (d : Entry). Channel m M S lists (with_entry t d)) (sym is_0)
           (go_on (with_entry t (entry.Land 0)) (states_land M t 0 0) (reported-last 0 t.entries (entry.Land 0) ∙ append-nil (reported 0 t.entries))
-          (receiver_store_lands m laws B M S lists (blocks ring_by M S lists some accepted) t ch.numbers kept.legal (opens_words t is) ch.written ch.parts (subst (CanFollow B M t) is_0 can)) (all_go_on t.entries (entry.Land 0) ch.unstopped tt) (one_more t.entries (entry.Land 0) ch.written tt))
+          (receiver_store_lands m laws B M S lists (blocks ring_by M S lists some accepted) t ch.numbers kept.legal (opens_words t is) ch.written ch.parts (subst (CanFollow B M t) is_0 can)) (all_more GoesOn t.entries (entry.Land 0) ch.unstopped tt) (all_more (Touches S (length lists)) t.entries (entry.Land 0) ch.touched tt) (one_more t.entries (entry.Land 0) ch.written tt))
       lands h land (suc j) same =
           let is_j : e ≡ entry.Land (j + 1) = land ∙ ap entry.Land (same ∙ sym (add-one j)) in
           let within : j < length lists = omega (arith, is_hart m.sender.code (receiver_of m.middle) B M S lists t e is can, ap hart_of is_j) in
           subst (λ (d : Entry). Channel m M S lists (with_entry t d)) (sym is_j)
           (go_on (with_entry t (entry.Land (j + 1))) (states_land M t (j + 1) 0) (reported-last 0 t.entries (entry.Land (j + 1)) ∙ append-nil (reported 0 t.entries))
-          (sender_store_lands m laws B M S lists (blocks ring_by M S lists some accepted) t ch.numbers kept.legal (opens_words t is) ch.written ch.parts j within (subst (CanFollow B M t) is_j can)) (all_go_on t.entries (entry.Land (j + 1)) ch.unstopped tt) (one_more t.entries (entry.Land (j + 1)) ch.written tt))
+          (sender_store_lands m laws B M S lists (blocks ring_by M S lists some accepted) t ch.numbers kept.legal (opens_words t is) ch.written ch.parts j within (subst (CanFollow B M t) is_j can)) (all_more GoesOn t.entries (entry.Land (j + 1)) ch.unstopped tt) (all_more (Touches S (length lists)) t.entries (entry.Land (j + 1)) ch.touched tt) (one_more t.entries (entry.Land (j + 1)) ch.written tt))
 
   pub cleans : Cleans ring_by (means_by m)
   cleans B M lists S t accepted is kept ch = ch.reports.clean
 
   pub goes : Goes ring_by (means_by m)
   goes B M lists S t accepted ch = ch.unstopped
+
+  pub stays : Stays ring_by (means_by m)
+  stays B M lists S t accepted ch = ch.touched

@@ -34,6 +34,12 @@ module _ (ring : Ring) (means : Meaning) (keeps : Keeps ring means) (B M : ℕ) 
   known-run t [] new known run = subst (Known ring means B M lists S) (sym run) known
   known-run t (ev ∷ evs) new known run = known-run run.1 evs new (known-happens t ev run.0 run.1 known run.2) run.3
 
+pub run-known : (ring : Ring) (means : Meaning) (B M : ℕ) (lists : List (List ℕ)) (S : Layout) (evs : List Event) (t : History) → Opens ring means → Keeps ring means → AcceptedAt ring M lists S → Run B M (opening_at ring.sender ring.receiver lists S) evs t → Known ring means B M lists S t
+unfolding Opens
+run-known ring means B M lists S evs t opens keeps accepted run =
+    let o : Start = opening_at ring.sender ring.receiver lists S in
+    known-run ring means keeps B M lists S accepted (unrun o) evs t (record { opening = refl; kept = kept-unrun B M o; meant = opens B M lists S accepted }) run
+
 pub delivers : (ring : Ring) (means : Meaning) (B M : ℕ) (lists : List (List ℕ)) (S : Layout) (evs : List Event) (t : History) (o : Start) (reports : List Report) → Opens ring means → Keeps ring means → Cleans ring means → AcceptedAt ring M lists S → o ≡ opening_at ring.sender ring.receiver lists S → Run B M o evs t → reports ≡ reported 0 t.entries → Delivers B M o lists evs reports
 unfolding Opens
 delivers ring means B M lists S evs t o reports opens keeps cleans accepted is run answer =

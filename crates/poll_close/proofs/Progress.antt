@@ -180,7 +180,7 @@ module _ (m : BlockMeaning) (laws : BlockLaws m) (least : ℕ) (some_least : 1 �
 
     sender_falls : (e : Entry) → IsFor (event.Act (j + 1)) e → CanFollow B M t e → left_by p M (with_entry t e) < left_by p M t
     sender_falls e for_event can =
-        let a : Acted M t (with_entry t e) (j + 1) s (value_of e) = acted B M t (j + 1) s e kept.legal (ch.parts j within).sender.state can for_event.0 for_event.1 (sender_plain m laws M (block_of M S lists j) j t t (ch.numbers j) (are j within) (ch.parts j within)) in
+        let a : Acted M t (with_entry t e) (j + 1) s (value_of e) = acted _ B M t (j + 1) s e kept.legal (ch.parts j within).sender.state can for_event.0 for_event.1 (sender_plain m laws M (block_of M S lists j) j t t (ch.numbers j) (are j within) (ch.parts j within)) in
         let less : p.sender (advanced s (value_of e)) < p.sender s = prog.nearer (block_of M S lists j) (ch.numbers j) s (word_in_memory t.opening t.entries) (value_of e) (are j within) (ch.parts j within).order (ch.parts j within).words (ch.parts j within).sender.holds running (unsent j within) (unread j within) (λ b inside wants. a.loaded b wants ∙ act_found b inside.aligned) (not_true (p.waits s (word_in_memory t.opening t.entries)) is_on.1) in
         let said : reported 0 (with_entry t e).entries ≡ rs = a.others 0 (omega arith) in
         left_falls (with_entry t e) refl
@@ -281,7 +281,7 @@ module _ (m : BlockMeaning) (laws : BlockLaws m) (least : ℕ) (some_least : 1 �
     receiver_falls e for_event can = by_says v_says
       where
         a : Acted M t (with_entry t e) 0 st (value_of e)
-        a = acted B M t 0 st e kept.legal ch.receiver.state can for_event.0 for_event.1 (plain_by m laws B M S lists are accepted.senders t ch.numbers kept.legal opens_words ch.written ch.parts ch.receiver ch.reports)
+        a = acted _ B M t 0 st e kept.legal ch.receiver.state can for_event.0 for_event.1 (plain_by m laws B M S lists are accepted.senders t ch.numbers kept.legal opens_words ch.written ch.parts ch.receiver ch.reports)
 
         find : Finds m receiver_block (length lists) ch.receiver.place (ch.numbers b) (word_in_memory t.opening t.entries) r (value_of e)
         find x inside wants = a.loaded x wants ∙ found m laws B M S lists are accepted.senders t ch.numbers kept.legal opens_words ch.written ch.parts ch.receiver ch.reports x inside

@@ -24,13 +24,14 @@ use Rattle.step_machine.specs.Runs.{CanFollow}
 use Rattle.poll_close.specs.Layout.{Layout}
 use Rattle.poll_close.specs.Reports.{taken, sender_of, IsPrefixOf}
 use Rattle.poll_close.specs.Going.{GoesOn}
+use Rattle.poll_close.specs.Touching.{Touches}
 use Rattle.poll_close.specs.Invariant.Blocks.{block_of, as_write, as_writes, to_block}
 use Rattle.poll_close.specs.Invariant.ReceiverState.{Noted, whole_of, receives, due}
 use Rattle.poll_close.specs.Invariant.BlockMeaning.{BlockMeaning, Count, unread_of, Quiet, ReceiverIs}
 use Rattle.poll_close.specs.Invariant.Channels.{BlockPart, ReceiverPart, ReportsOf, ReportPart, shuts}
 use Rattle.poll_close.proofs.Acts.{Acted, Plain, acted, going, stored_by, said_by}
 use Rattle.poll_close.proofs.Windows.{get_end}
-use Rattle.poll_close.proofs.Blocks.{IsBlock, Within, IsWordOf, IsStore, IsStore-whole, newest-as_writes, apart, to_block-stored, to_block-elsewhere, newest-to_block, put, put_same, put_other}
+use Rattle.poll_close.proofs.Blocks.{IsBlock, Within, IsWordOf, word_end, IsStore, IsStore-whole, newest-as_writes, apart, to_block-stored, to_block-elsewhere, newest-to_block, put, put_same, put_other}
 use Rattle.poll_close.proofs.BlockLaws.{BlockLaws, seen_at, Says, Comes, Receives, Finds}
 use Rattle.poll_close.proofs.ReceiverMoves.{receives_on}
 use Rattle.poll_close.proofs.ReceiverStays.{shuts_same}
@@ -142,15 +143,17 @@ module _ (m : BlockMeaning) (laws : BlockLaws m) (B M : ℕ) (S : Layout) (lists
   stored_is : (v : ℕ) (r : Receives m (block_of M S lists part.block) part.block (length lists) part.place (f part.block) part.noted v) (x : ℕ × ℕ) → stored_by r.wanted ≡ x ∷ [] → IsStore (block_of M S lists part.block) x
   stored_is v r x one = laws.unread_are (block_of M S lists part.block) (record (f part.block) { receiver = r.after }) (are part.block part.known) r.changes.order (length (unread_of m (block_of M S lists part.block) (f part.block))) x (ap (λ ps. slice_get ps (length (unread_of m (block_of M S lists part.block) (f part.block)))) (sym r.changes.unread ∙ ap (λ ps. unread_of m (block_of M S lists part.block) (f part.block) ++ ps) one) ∙ get_end (unread_of m (block_of M S lists part.block) (f part.block)) x)
 
-  pub plain_by : (receives m.middle (whole_of (block_of M S lists part.block) (length lists)) part.place part.noted).status ≡ status.Running → Plain (need_of (receives m.middle (whole_of (block_of M S lists part.block) (length lists)) part.place part.noted))
+  pub plain_by : (receives m.middle (whole_of (block_of M S lists part.block) (length lists)) part.place part.noted).status ≡ status.Running → Plain (IsWordOf (block_of M S lists part.block)) (need_of (receives m.middle (whole_of (block_of M S lists part.block) (length lists)) part.place part.noted))
   plain_by runs =
       let seen : ℕ → ℕ = seen_at m (block_of M S lists part.block) (f part.block) (word_in_memory t.opening t.entries) in
       let v : ℕ = would_read seen (need_of (receives m.middle (whole_of (block_of M S lists part.block) (length lists)) part.place part.noted)) in
       let r : Receives m (block_of M S lists part.block) part.block (length lists) part.place (f part.block) part.noted v = moves_by v runs (λ a inside wants. ap (would_read seen) wants) in
-      subst Plain (sym r.wants) (record { no_amo = r.plain; whole = λ x one. IsStore-whole (block_of M S lists part.block) x (stored_is v r x one) })
+      subst (Plain (IsWordOf (block_of M S lists part.block))) (sym r.wants) (record { no_amo = r.plain; whole = λ x one. IsStore-whole (block_of M S lists part.block) x (stored_is v r x one) })
 
-  pub receiver_goes_on : (e : Entry) → CanFollow B M t e → hart_of e ≡ 0 → is_land e ≡ false → GoesOn e × WritesWord (access_of e)
-  receiver_goes_on e can mine alone = going B M t 0 (receives m.middle (whole_of (block_of M S lists part.block) (length lists)) part.place part.noted) e part.state can mine alone plain_by
+  pub receiver_goes_on : (e : Entry) → CanFollow B M t e → hart_of e ≡ 0 → is_land e ≡ false → GoesOn e × WritesWord (access_of e) × Touches S (length lists) e
+  receiver_goes_on e can mine alone =
+      going _ S (length lists) B M t 0 (receives m.middle (whole_of (block_of M S lists part.block) (length lists)) part.place part.noted) e part.state can mine alone plain_by
+      (λ a word. record { block = part.block; known = part.known; own = inl refl; from = word.within.from; below = word_end (block_of M S lists part.block) (are part.block part.known) a word })
 
   -- all are quiet once the visited block is
   all_quiet : (n : Count m) → Quiet m n.receiver → (j : ℕ) → j < length lists → Quiet m (put f part.block n j).receiver
@@ -229,5 +232,5 @@ module _ (m : BlockMeaning) (laws : BlockLaws m) (B M : ℕ) (S : Layout) (lists
   pub receiver_acts : (e : Entry) → CanFollow B M t e → hart_of e ≡ 0 → is_land e ≡ false → Received m M S lists (with_entry t e)
   receiver_acts e can mine alone =
       let s : HartState = receives m.middle (whole_of (block_of M S lists part.block) (length lists)) part.place part.noted in
-      let a : Acted M t (with_entry t e) 0 s (value_of e) = acted B M t 0 s e legal part.state can mine alone plain_by in
+      let a : Acted M t (with_entry t e) 0 s (value_of e) = acted _ B M t 0 s e legal part.state can mine alone plain_by in
       received (with_entry t e) (value_of e) a (moves_by (value_of e) a.running (λ b inside wants. a.loaded b wants ∙ found b inside))

@@ -8,6 +8,7 @@ use Rattle.step_machine.specs.Runs.{CanFollow}
 use Rattle.poll_close.specs.Layout.{block_size, Layout, base_of, end_of, opening_at}
 use Rattle.poll_close.specs.Reports.{Clean}
 use Rattle.poll_close.specs.Going.{AllGoOn}
+use Rattle.poll_close.specs.Touching.{AllTouch}
 use Rattle.rv_decode.specs.declared.instruction.TheConstants.{MAX_CODE}
 
 -- what a ring of a kind is: its tables, its least size, and what its histories mean
@@ -81,3 +82,7 @@ AreShort ring = (length ring.sender ≤ MAX_CODE) × (length ring.receiver ≤ M
 -- no hart of such a channel is ever stopped
 abbrev pub Goes : Ring → Meaning → Type 0
 Goes ring means = (B M : ℕ) (lists : List (List ℕ)) (l : Layout) (t : History) → AcceptedAt ring M lists l → means B M lists l t → AllGoOn t.entries
+
+-- and each touches its blocks alone
+abbrev pub Stays : Ring → Meaning → Type 0
+Stays ring means = (B M : ℕ) (lists : List (List ℕ)) (l : Layout) (t : History) → AcceptedAt ring M lists l → means B M lists l t → AllTouch l (length lists) t.entries

@@ -2,6 +2,7 @@ pub mod Layout
 pub mod Places
 pub mod Reports
 pub mod Going
+pub mod Touching
 pub mod Laws
 pub mod Means
 pub mod Delivery

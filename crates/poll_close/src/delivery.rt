@@ -1,6 +1,6 @@
 //! Delivery.
 
-ghost use Rattle.std.specs.Prelude.{◌≡◌, ◌≤◌, ℕ, List, IfOk, IfErr, OnOk, map};
+ghost use Rattle.std.specs.Prelude.{◌≡◌, ◌≤◌, ℕ, List, IfOk, IfErr, OnOk, map, length};
 ghost use Rattle.step_machine.specs.History.{History, FitsIn};
 ghost use Rattle.step_machine.specs.Entries.{reported};
 ghost use Rattle.step_machine.specs.Runs.{Run};
@@ -11,6 +11,7 @@ ghost use Rattle.poll_close.specs.Places.{layout_of};
 ghost use Rattle.poll_close.specs.Refusals.{Refuses, RefusesAt};
 ghost use Rattle.poll_close.specs.Reports.{Clean};
 ghost use Rattle.poll_close.specs.Going.{AllGoOn};
+ghost use Rattle.poll_close.specs.Touching.{AllTouch};
 ghost use Rattle.poll_close.specs.Delivery.{Delivers, DeliversWhole};
 ghost use Rattle.poll_close.specs.Standing.{Stands};
 ghost use Rattle.poll_close.specs.Plans.{CanFinish};
@@ -119,7 +120,8 @@ pub fn deliver_whole<K: Finish<B, M>, const B: usize, const M: usize>(
 }
 
 /// The laws of channels of this kind: each opening fits its memory, and in each run from it what the
-/// receiver reports is clean, whatever made the events. It does nothing.
+/// receiver reports is clean, no hart is stopped, and each hart touches its blocks alone, whatever made
+/// the events. It does nothing.
 pub fn laws_of_channels<K: RingKind>()
     ensures fits { (M : ℕ) (lists : List (List ℕ)) (S : ℕ) → Accepted K.ring M lists S → FitsIn M (opening_of K.ring.sender K.ring.receiver lists S) }
     ensures clean { (B M : ℕ) (lists : List (List ℕ)) (S : ℕ) (events : List Event) (t : History) → Accepted K.ring M lists S → Run B M (opening_of K.ring.sender K.ring.receiver lists S) events t → Clean (reported 0 t.entries) lists }
@@ -129,6 +131,7 @@ pub fn laws_of_channels<K: RingKind>()
     ensures clean_at { (B M : ℕ) (lists : List (List ℕ)) (l : Layout) (events : List Event) (t : History) → AcceptedAt K.ring M lists l → Run B M (opening_at K.ring.sender K.ring.receiver lists l) events t → Clean (reported 0 t.entries) lists }
     ensures stands_at { (B M : ℕ) (lists : List (List ℕ)) (l : Layout) (events : List Event) (t : History) → AcceptedAt K.ring M lists l → Run B M (opening_at K.ring.sender K.ring.receiver lists l) events t → Stands K.ring K.meaning B M t }
     ensures goes_at { (B M : ℕ) (lists : List (List ℕ)) (l : Layout) (events : List Event) (t : History) → AcceptedAt K.ring M lists l → Run B M (opening_at K.ring.sender K.ring.receiver lists l) events t → AllGoOn t.entries }
+    ensures touches { (B M : ℕ) (lists : List (List ℕ)) (l : Layout) (events : List Event) (t : History) → AcceptedAt K.ring M lists l → Run B M (opening_at K.ring.sender K.ring.receiver lists l) events t → AllTouch l (length lists) t.entries }
 {
     K::laws();
 }

@@ -12,6 +12,7 @@ use Rattle.poll_close.specs.Layout.{Layout}
 use Rattle.poll_close.specs.Laws.{Meaning}
 use Rattle.poll_close.specs.Reports.{taken, Clean}
 use Rattle.poll_close.specs.Going.{AllGoOn}
+use Rattle.poll_close.specs.Touching.{AllTouch}
 use Rattle.poll_close.specs.Invariant.Outlines.{Standing}
 use Rattle.poll_close.specs.Invariant.Blocks.{Block, block_of, as_writes, to_block}
 use Rattle.poll_close.specs.Invariant.ReceiverState.{Noted, whole_of, receives, due}
@@ -63,6 +64,7 @@ pub record Channel (m : BlockMeaning) (M : ℕ) (S : Layout) (lists : List (List
   pub receiver : ReceiverPart m M S lists t numbers
   pub reports : ReportPart m lists (reported 0 t.entries) numbers
   pub unstopped : AllGoOn t.entries
+  pub touched : AllTouch S (length lists) t.entries
   -- all stores are of whole words, so that reads are told by words
   pub written : AllWriteWords t.entries
 

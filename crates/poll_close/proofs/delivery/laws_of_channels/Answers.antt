@@ -2,7 +2,7 @@
 use Rattle.std.proofs.Common.{refl}
 use Rattle.poll_close.specs.Layout.{dense}
 use Rattle.poll_close.proofs.Dense.{dense-accepted}
-use Rattle.poll_close.proofs.Delivering.{delivers, channel-fits}
+use Rattle.poll_close.proofs.Delivering.{delivers, run-known, channel-fits}
 use Rattle.poll_close.proofs.Standing.{stands-opens, stands-run, stands-goes}
 use Rattle.poll_close.proofs.delivery.laws_of_channels.Goals as goal
 
@@ -35,3 +35,7 @@ returns-clause-stands g c = λ B M lists S evs t accepted run.
 pub returns-clause-goes : goal.returns-clause-goes
 returns-clause-goes g c = λ B M lists S evs t accepted run.
     returns-clause-goes_at g c B M lists (dense S) evs t (dense-accepted g.K.RingKind.ring M lists S accepted) run
+
+pub returns-clause-touches : goal.returns-clause-touches
+returns-clause-touches g c = λ B M lists l evs t accepted run.
+    c.laws.ensures.stays B M lists l t accepted (run-known g.K.RingKind.ring g.K.RingKind.meaning B M lists l evs t c.laws.ensures.opens c.laws.ensures.keeps accepted run).meant
