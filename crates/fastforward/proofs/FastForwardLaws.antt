@@ -1,13 +1,13 @@
 -- The laws of one block, all together, and so the laws of the ring.
 use Rattle.std.proofs.Common.{ℕ, ◌+◌, ◌≡◌, refl, ◌∙◌, arith, lit≤}
 use Rattle.std.proofs.Math.Nat.{zero-mod}
-use Rattle.poll_close.specs.Laws.{AreShort, Opens, Keeps, Cleans, Goes}
+use Rattle.poll_close.specs.Laws.{AreShort, Opens, Keeps, Cleans, Goes, Stays}
 use Rattle.poll_close.specs.Invariant.Blocks.{Block, slot}
 use Rattle.poll_close.specs.Invariant.SenderState.{Written}
 use Rattle.poll_close.proofs.Blocks.{IsBlock, Within, word_of, slot_of}
 use Rattle.poll_close.proofs.BlockLaws.{BlockLaws, Begins, opens_with}
 use Rattle.poll_close.proofs.Outlines.{Right, sends}
-use Rattle.poll_close.proofs.ChannelLaws.{opens, keeps, cleans, goes}
+use Rattle.poll_close.proofs.ChannelLaws.{opens, keeps, cleans, goes, stays}
 use Rattle.fastforward.specs.Listing.{sender_code}
 use Rattle.fastforward.specs.FastForward.{fastforward, fastforward_blocks, fastforward_means}
 use Rattle.fastforward.specs.Invariant.Numbers.{Numbers, Landed, sent, gone, taken, freed, Ordered, Words}
@@ -93,3 +93,6 @@ fastforward_cleans = cleans fastforward_blocks fastforward_laws 1 (lit≤ tt)
 
 pub fastforward_goes : Goes fastforward fastforward_means
 fastforward_goes = goes fastforward_blocks fastforward_laws 1 (lit≤ tt)
+
+pub fastforward_stays : Stays fastforward fastforward_means
+fastforward_stays = stays fastforward_blocks fastforward_laws 1 (lit≤ tt)

@@ -11,7 +11,7 @@ use Rattle.poll_close.specs.Paces.{runs}
 use Rattle.poll_close.specs.Invariant.Blocks.{Block, offset, slot}
 use Rattle.poll_close.specs.Invariant.ReceiverState.{Noted, whole_of, receiver_of, receiving}
 use Rattle.poll_close.proofs.Lines.{loads, stores, at_line, sum_line, load_line, store_line, same_jumps, other_goes_on}
-use Rattle.poll_close.proofs.Blocks.{IsBlock, offset_low, word_of, slot_of}
+use Rattle.poll_close.proofs.Blocks.{IsBlock, offset_low, word_of, word_from, slot_of, slot_at}
 use Rattle.poll_close.proofs.BlockLaws.{found_in, Changes, Right_at}
 use Rattle.poll_close.proofs.Distance.{flags, far_off}
 use Rattle.poll_close.proofs.ReceiverMoves as step
@@ -40,7 +40,7 @@ module _ (k : Block) (i count : ℕ) (n : Numbers) (word : ℕ → ℕ) (r : Not
   right_14 h z =
       let line = load_line (at 0 refl refl) (omega (arith, is.even, h.0.visits.base)) refl (omega (arith, is.inside, is.some_slot, h.0.visits.base)) is.small in
       let read : v ≡ offset k n.receiver.tails = z.find (k.base + 8) (word_of k is 8 (omega arith) refl) (line.wants ∙ ap (λ b. loads (b + 8)) h.0.visits.base) ∙ seen_tail k n word order words h.0.quiet.level h.0.open_yet in
-      step.reads fastforward_blocks k i count n order r v 0x14 0x18 (r.x8 + 8) (λ w. record r { x7 = w }) refl line
+      step.reads fastforward_blocks k i count n order r v 0x14 0x18 (r.x8 + 8) (λ w. record r { x7 = w }) refl (word_from k is r.x8 8 h.0.visits.base (omega arith) refl) line
       (h.0, (h.1, read))
       (λ rs states idle. (let ended : Bool = (r.x30 == 0) && not (runs (states (r.x22 + 1))) in flags 15 16 18 19 ended ended (omega arith) (far_off rs count (r.x22 + 1)) (λ on. on)))
 
@@ -55,7 +55,7 @@ module _ (k : Block) (i count : ℕ) (n : Numbers) (word : ℕ → ℕ) (r : Not
   right_1C h z =
       let line = load_line (at 2 refl refl) (omega (arith, is.even, h.1.1, h.1.2)) refl (omega (arith, is.inside, h.1.1, h.1.2, offset_low k is n.receiver.tails)) is.small in
       let read = z.find (slot k.size k.base n.receiver.tails) (slot_of k is n.receiver.tails) (line.wants ∙ ap loads (let same : r.x28 + 16 ≡ slot k.size k.base n.receiver.tails = omega (arith, h.1.1, h.1.2) in same)) in
-      step.acts fastforward_blocks k i count n order r v 0x1C 0x20 (loads (r.x28 + 16)) (λ w. record r { x11 = w }) (record n.receiver { seen = n.landed.slots }) tt line (record { order = omega arith; unread = append-nil (unread_of k n.receiver n.landed) })
+      step.acts fastforward_blocks k i count n order r v 0x1C 0x20 (loads (r.x28 + 16)) (λ w. record r { x11 = w }) (record n.receiver { seen = n.landed.slots }) (tt, slot_at k is (r.x28 + 16) n.receiver.tails (omega (arith, h.1.1, h.1.2))) line (record { order = omega arith; unread = append-nil (unread_of k n.receiver n.landed) })
       (inl (record { visits = h.0.visits; quiet = record { words = h.0.quiet.words; closed = h.0.quiet.closed; level = h.0.quiet.level }; open_yet = h.0.open_yet }, (seen read (cases_lt n.receiver.tails n.landed.slots), h.1.1, h.1.2)))
       (inl (refl, refl, refl)) refl
       (λ none rs states idle. (let ended : Bool = not (runs (states (r.x22 + 1))) in flags 13 14 16 17 ((r.x30 == 0) && (v == 0)) ((r.x30 == 0) && ended) (omega arith) (far_off rs count (r.x22 + 1)) (older read ended (idle.ready h.0.visits.index))))
@@ -102,7 +102,7 @@ module _ (k : Block) (i count : ℕ) (n : Numbers) (word : ℕ → ℕ) (r : Not
   right_24 h z =
       let line = store_line (at 4 refl refl) (omega (arith, is.even, h.1.1, h.1.2)) refl (omega (arith, is.inside, h.1.1, h.1.2, offset_low k is n.receiver.tails)) is.small in
       let place : slot k.size k.base n.receiver.tails ≡ r.x28 + 16 = omega (arith, h.1.1, h.1.2) in
-      step.acts fastforward_blocks k i count n order r v 0x24 0x28 (stores (r.x28 + 16) 0) (λ w. r) (record n.receiver { nulls = n.receiver.nulls + 1 }) tt line
+      step.acts fastforward_blocks k i count n order r v 0x24 0x28 (stores (r.x28 + 16) 0) (λ w. r) (record n.receiver { nulls = n.receiver.nulls + 1 }) (tt, slot_at k is (r.x28 + 16) n.receiver.tails (sym place)) line
       (subst (λ (a : ℕ). Changes fastforward_blocks k n (record n.receiver { nulls = n.receiver.nulls + 1 }) ((a, 0) ∷ [])) place (stores_null k n order h.0.quiet.level h.1.0.0 h.0.open_yet))
       (inl (record { visits = h.0.visits; ahead = h.0.quiet.words; closed = h.0.quiet.closed; open_yet = h.0.open_yet; filled = ap (λ u. u + 1) h.0.quiet.level; word = h.1.0.1 }, h.1.1))
       (inl (refl, refl, refl)) refl

@@ -13,7 +13,7 @@ use Rattle.poll_close.proofs.Lines.{loads, stores, word_plus, add_line, sum_line
 use Rattle.poll_close.proofs.SenderLines.{line_04-word, line_04-none}
 use Rattle.poll_close.proofs.Modulo.{offset_step, offset_wrap}
 use Rattle.poll_close.proofs.Windows.{newest_none, Each-range, newest_at, window_made}
-use Rattle.poll_close.proofs.Blocks.{IsBlock, IsWordOf, offset_low, slot_of}
+use Rattle.poll_close.proofs.Blocks.{IsBlock, IsWordOf, offset_low, word_of, slot_of, slot_at}
 use Rattle.poll_close.proofs.BlockLaws.{found_in}
 use Rattle.poll_close.proofs.Outlines.{Sender}
 use Rattle.poll_close.proofs.Outlines as outline
@@ -117,7 +117,7 @@ module _ (k : Block) (n : Numbers) (word : ℕ → ℕ) (v : ℕ) (r : Written) 
       let place : r.x28 + 16 ≡ slot k.size k.base n.sender.stored = omega (arith, h.1, h.0.index) in
       let line = load_line (at 4 refl) (omega (arith, is.even, h.0.index, h.1)) refl (omega (arith, is.inside, h.0.index, h.1, offset_low k is n.sender.stored)) is.small in
       let read : v ≡ found_in (pending_of k n.sender n.landed) word (r.x28 + 16) = find (r.x28 + 16) (subst (IsWordOf k) (sym place) (slot_of k is n.sender.stored)) line.wants in
-      goes 0x14 (loads (r.x28 + 16)) (record n.sender { seen = n.landed.nulls }) (λ u. record r { x7 = u }) tt line (omega arith) (append-nil (pending_of k n.sender n.landed))
+      goes 0x14 (loads (r.x28 + 16)) (record n.sender { seen = n.landed.nulls }) (λ u. record r { x7 = u }) (tt, slot_at k is (r.x28 + 16) n.sender.stored place) line (omega arith) (append-nil (pending_of k n.sender n.landed))
       (record { taken = h.0.taken; unmarked = h.0.unmarked; within = h.0.within; word = h.0.word; index = h.0.index }, h.1, found_free k is n order word words v h.0.unmarked h.0.within (read ∙ ap (found_in (pending_of k n.sender n.landed) word) place))
       (λ free. let zero_is : (v == 0) ≡ true = ap (λ w. w == 0) (read ∙ ap (λ ps. found_in ps word (r.x28 + 16)) free.0) ∙ not_false (word (r.x28 + 16) == 0) free.1 in rw zero_is (omega arith))
       find
@@ -133,7 +133,7 @@ module _ (k : Block) (n : Numbers) (word : ℕ → ℕ) (v : ℕ) (r : Written) 
   right_18 h =
       let place : slot k.size k.base n.sender.stored ≡ r.x28 + 16 = omega (arith, h.1, h.0.index) in
       let store : slice_get (sender_stores k.size k.base k.list) (sent n.sender) ≡ Some (r.x28 + 16, r.x10) = store_word k.size k.base k.list n.sender.stored (sent n.sender) h.0.within (omega (arith, h.0.unmarked)) ∙ rw (place, h.0.word) refl in
-      goes 0x1C (stores (r.x28 + 16) r.x10) (record n.sender { stored = n.sender.stored + 1 }) (λ u. r) tt (store_line (at 6 refl) (omega (arith, is.even, h.0.index, h.1)) refl (omega (arith, is.inside, h.0.index, h.1, offset_low k is n.sender.stored)) is.small) (omega (arith, h.0.unmarked, h.0.within, h.2)) (joins (r.x28 + 16, r.x10) (n.sender.stored + 1 + n.sender.marked) (omega arith) store)
+      goes 0x1C (stores (r.x28 + 16) r.x10) (record n.sender { stored = n.sender.stored + 1 }) (λ u. r) (tt, slot_at k is (r.x28 + 16) n.sender.stored (sym place)) (store_line (at 6 refl) (omega (arith, is.even, h.0.index, h.1)) refl (omega (arith, is.inside, h.0.index, h.1, offset_low k is n.sender.stored)) is.small) (omega (arith, h.0.unmarked, h.0.within, h.2)) (joins (r.x28 + 16, r.x10) (n.sender.stored + 1 + n.sender.marked) (omega arith) store)
       (record { between = record { taken = h.0.taken; unmarked = h.0.unmarked }; last = n.sender.stored; next = refl }, h.0.index)
       (λ free. omega arith)
 
@@ -159,7 +159,7 @@ module _ (k : Block) (n : Numbers) (word : ℕ → ℕ) (v : ℕ) (r : Written) 
   pub right_30 : Right_at 0x30  -- sw x6,4(x8)
   right_30 h =
       let store : slice_get (sender_stores k.size k.base k.list) (sent n.sender) ≡ Some (k.base + 4, r.x6) = store_mark k.size k.base k.list (sent n.sender) (omega (arith, h.0.unmarked, h.1)) ∙ rw h.2 refl in
-      goes 0x34 (stores (k.base + 4) r.x6) (record n.sender { marked = 1 }) (λ u. r) tt (store_line (at 12 refl) is.even refl (omega (arith, is.inside, is.some_slot)) is.small) (omega (arith, h.1)) (joins (k.base + 4, r.x6) (n.sender.stored + 1) (omega (arith, h.0.unmarked)) store)
+      goes 0x34 (stores (k.base + 4) r.x6) (record n.sender { marked = 1 }) (λ u. r) (tt, word_of k is 4 (omega arith) refl) (store_line (at 12 refl) is.even refl (omega (arith, is.inside, is.some_slot)) is.small) (omega (arith, h.1)) (joins (k.base + 4, r.x6) (n.sender.stored + 1) (omega (arith, h.0.unmarked)) store)
       (record { taken = h.0.taken ∙ h.1; all = h.1; mark = refl })
       (λ free. omega arith)
 

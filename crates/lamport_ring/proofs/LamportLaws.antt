@@ -2,14 +2,14 @@
 use Rattle.std.proofs.Common.{ℕ, suc, ◌+◌, ◌<◌, ◌≡◌, length, Some, refl, ◌∙◌, arith, append-nil, lit≤, ◌++◌, ◌∷◌, [], ◌≤◌}
 use Rattle.std.specs.List.{slice_get}
 use Rattle.std.proofs.Math.Nat.{zero-mod}
-use Rattle.poll_close.specs.Laws.{AreShort, Opens, Keeps, Cleans, Goes}
+use Rattle.poll_close.specs.Laws.{AreShort, Opens, Keeps, Cleans, Goes, Stays}
 use Rattle.poll_close.specs.Invariant.Blocks.{Block, offset, slot, window}
 use Rattle.poll_close.proofs.Windows.{window_made}
 use Rattle.poll_close.specs.Invariant.SenderState.{Written}
 use Rattle.poll_close.proofs.Blocks.{IsBlock, Within, base_word, word_of, slot_of}
 use Rattle.poll_close.proofs.BlockLaws.{BlockLaws, Begins, Stepped, opens_with}
 use Rattle.poll_close.proofs.Outlines.{Right, sends}
-use Rattle.poll_close.proofs.ChannelLaws.{opens, keeps, cleans, goes}
+use Rattle.poll_close.proofs.ChannelLaws.{opens, keeps, cleans, goes, stays}
 use Rattle.lamport_ring.specs.Listing.{sender_code}
 use Rattle.lamport_ring.specs.Lamport.{lamport, lamport_blocks, lamport_means}
 use Rattle.lamport_ring.specs.Invariant.Stores.{receiver_stores}
@@ -143,3 +143,6 @@ lamport_cleans = cleans lamport_blocks lamport_laws 2 (lit≤ tt)
 
 pub lamport_goes : Goes lamport lamport_means
 lamport_goes = goes lamport_blocks lamport_laws 2 (lit≤ tt)
+
+pub lamport_stays : Stays lamport lamport_means
+lamport_stays = stays lamport_blocks lamport_laws 2 (lit≤ tt)

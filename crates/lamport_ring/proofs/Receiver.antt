@@ -14,7 +14,7 @@ use Rattle.poll_close.specs.Invariant.ReceiverState.{Noted, whole_of, receiver_o
 use Rattle.poll_close.specs.Invariant.BlockMeaning.{Flag}
 use Rattle.poll_close.proofs.Lines.{loads, at_line, sum_line, load_line, same_jumps, other_goes_on}
 use Rattle.poll_close.proofs.Modulo.{same_offset}
-use Rattle.poll_close.proofs.Blocks.{IsBlock, offset_low, base_word, word_of, slot_of}
+use Rattle.poll_close.proofs.Blocks.{IsBlock, offset_low, base_word, word_of, word_from, slot_of, slot_at}
 use Rattle.poll_close.proofs.BlockLaws.{Right_at}
 use Rattle.poll_close.proofs.Distance.{flags, far_off}
 use Rattle.poll_close.proofs.ReceiverMoves as step
@@ -42,7 +42,7 @@ module _ (k : Block) (i count : ℕ) (n : Numbers) (word : ℕ → ℕ) (r : Not
   right_14 h z =
       let line = load_line (at 0 refl refl) (omega (arith, is.even, h.0.visits.base)) refl (omega (arith, is.inside, is.some_slot, h.0.visits.base)) is.small in
       let read : v ≡ offset k n.landed.heads = z.find k.base (base_word k is) (line.wants ∙ ap loads (let same : r.x8 + 0 ≡ k.base = omega (arith, h.0.visits.base) in same)) ∙ seen_head k n word order words in
-      step.acts lamport_blocks k i count n order r v 0x14 0x18 (loads (r.x8 + 0)) (λ w. record r { x6 = w }) (record n.receiver { seen = n.landed.heads }) tt line (record { order = omega arith; unread = append-nil (unread_of k n.receiver n.landed) })
+      step.acts lamport_blocks k i count n order r v 0x14 0x18 (loads (r.x8 + 0)) (λ w. record r { x6 = w }) (record n.receiver { seen = n.landed.heads }) (tt, word_from k is r.x8 0 h.0.visits.base (omega arith) refl) line (record { order = omega arith; unread = append-nil (unread_of k n.receiver n.landed) })
       (inl (record { visits = h.0.visits; quiet = record { words = h.0.quiet.words; closed = h.0.quiet.closed; level = tt }; open_yet = h.0.open_yet }, record { is = read; last = last h.1 }))
       (inl (refl, refl, refl)) refl
       (λ none rs states idle. (let ended : Bool = not (runs (states (r.x22 + 1))) in let took = length (taken rs r.x22) in
@@ -67,7 +67,7 @@ module _ (k : Block) (i count : ℕ) (n : Numbers) (word : ℕ → ℕ) (r : Not
   right_18 h z =
       let line = load_line (at 1 refl refl) (omega (arith, is.even, h.0.visits.base)) refl (omega (arith, is.inside, is.some_slot, h.0.visits.base)) is.small in
       let read : v ≡ offset k n.receiver.tails = z.find (k.base + 8) (word_of k is 8 (omega arith) refl) (line.wants ∙ ap (λ b. loads (b + 8)) h.0.visits.base) ∙ seen_tail k n word order words h.0.open_yet in
-      step.reads lamport_blocks k i count n order r v 0x18 0x1C (r.x8 + 8) (λ w. record r { x7 = w }) refl line
+      step.reads lamport_blocks k i count n order r v 0x18 0x1C (r.x8 + 8) (λ w. record r { x7 = w }) refl (word_from k is r.x8 8 h.0.visits.base (omega arith) refl) line
       (h.0, (record { is = h.1.is; last = h.1.last }, read))
       (λ rs states idle. (let took = length (taken rs r.x22) in let tail : v ≡ 4 * (took % k.size) = read ∙ ap (offset k) (sym (idle.took h.0.visits.index h.0.quiet.words ∙ h.0.quiet.words)) in
       flags 14 15 17 18 ((r.x30 == 0) && (r.x6 == v)) ((r.x30 == 0) && (r.x6 == 4 * (took % k.size))) (omega arith) (far_off rs count (r.x22 + 1)) (λ on. sym (ap (λ y. (r.x30 == 0) && (r.x6 == y)) tail) ∙ on)))
@@ -104,6 +104,6 @@ module _ (k : Block) (i count : ℕ) (n : Numbers) (word : ℕ → ℕ) (r : Not
   right_24 h z =
       let line = load_line (at 4 refl refl) (omega (arith, is.even, h.1.1, h.1.2)) refl (omega (arith, is.inside, h.1.1, h.1.2, offset_low k is n.receiver.tails)) is.small in
       let read : v ≡ slice_index k.list n.receiver.tails = z.find (slot k.size k.base n.receiver.tails) (slot_of k is n.receiver.tails) (line.wants ∙ ap loads (let same : r.x28 + 16 ≡ slot k.size k.base n.receiver.tails = omega (arith, h.1.1, h.1.2) in same)) ∙ seen_slot k n word order words (omega (arith, h.1.0, order.seen_heads, order.heads_slots)) in
-      step.reads lamport_blocks k i count n order r v 0x24 0x28 (r.x28 + 16) (λ w. record r { x11 = w }) refl line
+      step.reads lamport_blocks k i count n order r v 0x24 0x28 (r.x28 + 16) (λ w. record r { x11 = w }) refl (slot_at k is (r.x28 + 16) n.receiver.tails (omega (arith, h.1.1, h.1.2))) line
       (record { visits = h.0.visits; ahead = h.0.quiet.words; closed = h.0.quiet.closed; open_yet = h.0.open_yet; filled = h.1.0; word = read }, h.1.1)
       (λ rs states idle. omega arith)

@@ -14,7 +14,7 @@ use Rattle.poll_close.proofs.Lines.{loads, stores, word_plus, add_line, sum_line
 use Rattle.poll_close.proofs.SenderLines.{line_04-word, line_04-none}
 use Rattle.poll_close.proofs.Modulo.{offset_step, offset_wrap}
 use Rattle.poll_close.proofs.Windows.{Each, Each-window, newest_none, pairs_each, window_made}
-use Rattle.poll_close.proofs.Blocks.{IsBlock, offset_low, word_of}
+use Rattle.poll_close.proofs.Blocks.{IsBlock, offset_low, word_of, slot_at}
 use Rattle.poll_close.proofs.BlockLaws.{found_in}
 use Rattle.poll_close.proofs.Outlines.{Sender}
 use Rattle.poll_close.proofs.Outlines as outline
@@ -100,7 +100,7 @@ module _ (k : Block) (n : Numbers) (word : ℕ → ℕ) (v : ℕ) (r : Written) 
   right_18 h find =
       let line = load_line (at 6 refl) is.even refl (omega (arith, is.inside, is.some_slot)) is.small in
       let read : v ≡ found_in (pending_of k n.sender n.landed) word (k.base + 8) = find (k.base + 8) (word_of k is 8 (omega arith) refl) line.wants in
-      goes 0x1C (loads (k.base + 8)) (record n.sender { seen = n.landed.tails }) (λ u. record r { x7 = u }) tt line (omega arith) (append-nil (pending_of k n.sender n.landed))
+      goes 0x1C (loads (k.base + 8)) (record n.sender { seen = n.landed.tails }) (λ u. record r { x7 = u }) (tt, word_of k is 8 (omega arith) refl) line (omega arith) (append-nil (pending_of k n.sender n.landed))
       (record { taken = h.0.taken; heads = h.0.heads; unmarked = h.0.unmarked; within = h.0.within; word = h.0.word; index = h.0.index }, h.1, record { near = order.room; is = read ∙ tail_found k n word words })
       (λ free. let off : (v == r.x6) ≡ false = ap (λ w. w == r.x6) (read ∙ ap (λ ps. found_in ps word (k.base + 8)) free.0) ∙ free.1 in rw off (omega arith))
       find
@@ -126,14 +126,14 @@ module _ (k : Block) (n : Numbers) (word : ℕ → ℕ) (v : ℕ) (r : Written) 
   right_24 h =
       let place : slot k.size k.base n.sender.stored ≡ r.x28 + 16 = omega (arith, h.0.index, h.3) in
       let store : slice_get (sender_stores k.size k.base k.list) (sent n.sender) ≡ Some (r.x28 + 16, r.x10) = store_slot k.size k.base k.list n.sender.stored (sent n.sender) h.0.within (omega (arith, h.0.heads, h.0.unmarked)) ∙ rw (place, h.0.word) refl in
-      goes 0x28 (stores (r.x28 + 16) r.x10) (record n.sender { stored = n.sender.stored + 1 }) (λ u. r) tt (store_line (at 9 refl) (omega (arith, is.even, h.0.index, h.3)) refl (omega (arith, is.inside, h.0.index, h.3, offset_low k is n.sender.stored)) is.small) (omega (arith, h.0.heads, h.0.unmarked, h.0.within, h.2)) (joins (r.x28 + 16, r.x10) (n.sender.stored + 1 + n.sender.headed + n.sender.marked) (omega arith) store)
+      goes 0x28 (stores (r.x28 + 16) r.x10) (record n.sender { stored = n.sender.stored + 1 }) (λ u. r) (tt, slot_at k is (r.x28 + 16) n.sender.stored (sym place)) (store_line (at 9 refl) (omega (arith, is.even, h.0.index, h.3)) refl (omega (arith, is.inside, h.0.index, h.3, offset_low k is n.sender.stored)) is.small) (omega (arith, h.0.heads, h.0.unmarked, h.0.within, h.2)) (joins (r.x28 + 16, r.x10) (n.sender.stored + 1 + n.sender.headed + n.sender.marked) (omega arith) store)
       (record { taken = h.0.taken; heads = omega (arith, h.0.heads); unmarked = h.0.unmarked; next = h.1 })
       (λ free. omega arith)
 
   pub right_28 : Right_at 0x28  -- sw x6,0(x8)
   right_28 h =
       let store : slice_get (sender_stores k.size k.base k.list) (sent n.sender) ≡ Some (k.base + 0, r.x6) = store_head k.size k.base k.list n.sender.headed (sent n.sender) (omega (arith, h.heads, order.stored_all)) (omega (arith, h.heads, h.unmarked)) ∙ ap Some (rw (add-zero k.base, h.next, ← h.heads) refl) in
-      goes 0x2C (stores (k.base + 0) r.x6) (record n.sender { headed = n.sender.headed + 1 }) (λ u. r) tt (store_line (at 10 refl) is.even refl (omega (arith, is.inside, is.some_slot)) is.small) (omega (arith, h.heads)) (joins (k.base + 0, r.x6) (n.sender.stored + (n.sender.headed + 1) + n.sender.marked) (omega arith) store)
+      goes 0x2C (stores (k.base + 0) r.x6) (record n.sender { headed = n.sender.headed + 1 }) (λ u. r) (tt, word_of k is 0 (omega arith) refl) (store_line (at 10 refl) is.even refl (omega (arith, is.inside, is.some_slot)) is.small) (omega (arith, h.heads)) (joins (k.base + 0, r.x6) (n.sender.stored + (n.sender.headed + 1) + n.sender.marked) (omega arith) store)
       (record { taken = h.taken; heads = h.heads; unmarked = h.unmarked }, h.next)
       (λ free. omega arith)
 
@@ -149,7 +149,7 @@ module _ (k : Block) (n : Numbers) (word : ℕ → ℕ) (v : ℕ) (r : Written) 
   pub right_38 : Right_at 0x38  -- sw x6,4(x8)
   right_38 h =
       let store : slice_get (sender_stores k.size k.base k.list) (sent n.sender) ≡ Some (k.base + 4, r.x6) = store_mark k.size k.base k.list (sent n.sender) (omega (arith, h.0.heads, h.0.unmarked, h.1)) ∙ rw h.2 refl in
-      goes 0x3C (stores (k.base + 4) r.x6) (record n.sender { marked = 1 }) (λ u. r) tt (store_line (at 14 refl) is.even refl (omega (arith, is.inside, is.some_slot)) is.small) (omega (arith, h.0.heads ∙ h.1)) (joins (k.base + 4, r.x6) (n.sender.stored + n.sender.headed + 1) (omega (arith, h.0.unmarked)) store)
+      goes 0x3C (stores (k.base + 4) r.x6) (record n.sender { marked = 1 }) (λ u. r) (tt, word_of k is 4 (omega arith) refl) (store_line (at 14 refl) is.even refl (omega (arith, is.inside, is.some_slot)) is.small) (omega (arith, h.0.heads ∙ h.1)) (joins (k.base + 4, r.x6) (n.sender.stored + n.sender.headed + 1) (omega (arith, h.0.unmarked)) store)
       (record { taken = h.0.taken ∙ h.1; heads = h.0.heads ∙ h.1; mark = refl })
       (λ free. omega arith)
 

@@ -49,7 +49,7 @@ impl RingKind for Lamport {
         2
     }
 
-    #[tactic(auto, using(crate::proofs::LamportLaws::lamport_short, crate::proofs::LamportLaws::lamport_opens, crate::proofs::LamportLaws::lamport_keeps, crate::proofs::LamportLaws::lamport_cleans, crate::proofs::LamportLaws::lamport_goes))]
+    #[tactic(auto, using(crate::proofs::LamportLaws::lamport_short, crate::proofs::LamportLaws::lamport_opens, crate::proofs::LamportLaws::lamport_keeps, crate::proofs::LamportLaws::lamport_cleans, crate::proofs::LamportLaws::lamport_goes, crate::proofs::LamportLaws::lamport_stays))]
     fn laws() {}
 }
 

@@ -12,6 +12,8 @@ use Rattle.hart.specs.declared.need.Report.{Report}
 use Rattle.hart.specs.declared.need.Report.TheVariants as report
 use Rattle.step_machine.specs.declared.events.Entry.{Entry}
 use Rattle.step_machine.specs.declared.events.Entry.TheVariants as entry
+use Rattle.poll_close.specs.Layout.{Layout}
+use Rattle.poll_close.specs.Touching.{StaysWithin, Touches}
 use Rattle.poll_close.specs.Going.{GoesOn}
 use Rattle.poll_close.specs.Invariant.Blocks.{as_write, as_writes}
 use Rattle.poll_close.proofs.Lines.{loads}
@@ -57,17 +59,17 @@ abbrev pub Holds : Bool → Type 0
 Holds true = Unit {0}
 Holds false = ⊥
 
--- an act that leaves memory as it is, and loads or stores a whole word if any
-abbrev pub IsNoAmo : Need → Type 0
-IsNoAmo need.Inner = Unit {0}
-IsNoAmo (need.Load a width) = Holds (width == 4)
-IsNoAmo (need.Store a width w) = Holds (width == 4)
-IsNoAmo (need.Amo a op rs2) = ⊥
-IsNoAmo (need.Fence full) = Unit {0}
-IsNoAmo (need.Next w) = Unit {0}
-IsNoAmo (need.Report r) = Unit {0}
-IsNoAmo need.Exit = Unit {0}
-IsNoAmo (need.Stop why) = ⊥
+-- an act that leaves memory as it is, and loads or stores a whole word at such an address if any
+abbrev pub IsNoAmo : (ℕ → Type 0) → Need → Type 0
+IsNoAmo P need.Inner = Unit {0}
+IsNoAmo P (need.Load a width) = Holds (width == 4) × P a
+IsNoAmo P (need.Store a width w) = Holds (width == 4) × P a
+IsNoAmo P (need.Amo a op rs2) = ⊥
+IsNoAmo P (need.Fence full) = Unit {0}
+IsNoAmo P (need.Next w) = Unit {0}
+IsNoAmo P (need.Report r) = Unit {0}
+IsNoAmo P need.Exit = Unit {0}
+IsNoAmo P (need.Stop why) = ⊥
 
 whole_width : (width : ℕ) (b : Bool) → (width == 4) ≡ b → Holds b → width ≡ 4
 whole_width width true is plain = grind (arith, nat_tests)
@@ -80,63 +82,77 @@ record Seen (h k : ℕ) (same : Bool) (es : List Entry) (n : Need) (e : Entry) :
   lands : land_of k e ≡ 0
   writes : write_of es e ≡ []
 
-seen : (h k : ℕ) (same : Bool) (es : List Entry) (n : Need) (v : ℕ) → (h == k) ≡ same → IsNoAmo n → Seen h k same es n (entry_of h n v)
-seen h k true es need.Inner v is plain = record { stores = refl; says = refl; lands = refl; writes = refl }
-seen h k false es need.Inner v is plain = record { stores = refl; says = refl; lands = refl; writes = refl }
-seen h k true es (need.Load a width) v is plain = record { stores = refl; says = refl; lands = refl; writes = refl }
-seen h k false es (need.Load a width) v is plain = record { stores = refl; says = refl; lands = refl; writes = refl }
-seen h k true es (need.Store a width w) v is plain = record { stores = rw is (ap (λ z. write a z w ∷ []) (whole_width width (width == 4) refl plain)); says = refl; lands = refl; writes = refl }
-seen h k false es (need.Store a width w) v is plain = record { stores = rw is refl; says = refl; lands = refl; writes = refl }
-seen h k same es (need.Amo a op rs2) v is plain = absurd plain
-seen h k true es (need.Fence full) v is plain = record { stores = refl; says = refl; lands = refl; writes = refl }
-seen h k false es (need.Fence full) v is plain = record { stores = refl; says = refl; lands = refl; writes = refl }
-seen h k true es (need.Next w) v is plain = record { stores = refl; says = refl; lands = refl; writes = refl }
-seen h k false es (need.Next w) v is plain = record { stores = refl; says = refl; lands = refl; writes = refl }
-seen h k true es (need.Report (report.Took i w)) v is plain = record { stores = refl; says = rw is refl; lands = refl; writes = refl }
-seen h k false es (need.Report (report.Took i w)) v is plain = record { stores = refl; says = rw is refl; lands = refl; writes = refl }
-seen h k true es (need.Report (report.Closed i)) v is plain = record { stores = refl; says = rw is refl; lands = refl; writes = refl }
-seen h k false es (need.Report (report.Closed i)) v is plain = record { stores = refl; says = rw is refl; lands = refl; writes = refl }
-seen h k true es need.Exit v is plain = record { stores = refl; says = refl; lands = refl; writes = refl }
-seen h k false es need.Exit v is plain = record { stores = refl; says = refl; lands = refl; writes = refl }
-seen h k same es (need.Stop why) v is plain = absurd plain
+seen : (P : ℕ → Type 0) (h k : ℕ) (same : Bool) (es : List Entry) (n : Need) (v : ℕ) → (h == k) ≡ same → IsNoAmo P n → Seen h k same es n (entry_of h n v)
+seen P h k true es need.Inner v is plain = record { stores = refl; says = refl; lands = refl; writes = refl }
+seen P h k false es need.Inner v is plain = record { stores = refl; says = refl; lands = refl; writes = refl }
+seen P h k true es (need.Load a width) v is plain = record { stores = refl; says = refl; lands = refl; writes = refl }
+seen P h k false es (need.Load a width) v is plain = record { stores = refl; says = refl; lands = refl; writes = refl }
+seen P h k true es (need.Store a width w) v is plain = record { stores = rw is (ap (λ z. write a z w ∷ []) (whole_width width (width == 4) refl plain.0)); says = refl; lands = refl; writes = refl }
+seen P h k false es (need.Store a width w) v is plain = record { stores = rw is refl; says = refl; lands = refl; writes = refl }
+seen P h k same es (need.Amo a op rs2) v is plain = absurd plain
+seen P h k true es (need.Fence full) v is plain = record { stores = refl; says = refl; lands = refl; writes = refl }
+seen P h k false es (need.Fence full) v is plain = record { stores = refl; says = refl; lands = refl; writes = refl }
+seen P h k true es (need.Next w) v is plain = record { stores = refl; says = refl; lands = refl; writes = refl }
+seen P h k false es (need.Next w) v is plain = record { stores = refl; says = refl; lands = refl; writes = refl }
+seen P h k true es (need.Report (report.Took i w)) v is plain = record { stores = refl; says = rw is refl; lands = refl; writes = refl }
+seen P h k false es (need.Report (report.Took i w)) v is plain = record { stores = refl; says = rw is refl; lands = refl; writes = refl }
+seen P h k true es (need.Report (report.Closed i)) v is plain = record { stores = refl; says = rw is refl; lands = refl; writes = refl }
+seen P h k false es (need.Report (report.Closed i)) v is plain = record { stores = refl; says = rw is refl; lands = refl; writes = refl }
+seen P h k true es need.Exit v is plain = record { stores = refl; says = refl; lands = refl; writes = refl }
+seen P h k false es need.Exit v is plain = record { stores = refl; says = refl; lands = refl; writes = refl }
+seen P h k same es (need.Stop why) v is plain = absurd plain
 
 -- such a need's entry is no stop
-goes_on : (h : ℕ) (n : Need) (v : ℕ) → IsNoAmo n → GoesOn (entry_of h n v)
-goes_on h need.Inner v plain = tt
-goes_on h (need.Load a width) v plain = tt
-goes_on h (need.Store a width w) v plain = tt
-goes_on h (need.Amo a op rs2) v plain = absurd plain
-goes_on h (need.Fence full) v plain = tt
-goes_on h (need.Next w) v plain = tt
-goes_on h (need.Report (report.Took i w)) v plain = tt
-goes_on h (need.Report (report.Closed i)) v plain = tt
-goes_on h need.Exit v plain = tt
-goes_on h (need.Stop why) v plain = absurd plain
+goes_on : (P : ℕ → Type 0) (h : ℕ) (n : Need) (v : ℕ) → IsNoAmo P n → GoesOn (entry_of h n v)
+goes_on P h need.Inner v plain = tt
+goes_on P h (need.Load a width) v plain = tt
+goes_on P h (need.Store a width w) v plain = tt
+goes_on P h (need.Amo a op rs2) v plain = absurd plain
+goes_on P h (need.Fence full) v plain = tt
+goes_on P h (need.Next w) v plain = tt
+goes_on P h (need.Report (report.Took i w)) v plain = tt
+goes_on P h (need.Report (report.Closed i)) v plain = tt
+goes_on P h need.Exit v plain = tt
+goes_on P h (need.Stop why) v plain = absurd plain
+
+-- and it touches such an address, if any
+touches : (P : ℕ → Type 0) (l : Layout) (k h : ℕ) (n : Need) (v : ℕ) → IsNoAmo P n → ((a : ℕ) → P a → StaysWithin l k h a 4) → Touches l k (entry_of h n v)
+touches P l k h need.Inner v plain reach = tt
+touches P l k h (need.Load a width) v plain reach = subst (StaysWithin l k h a) (sym (whole_width width (width == 4) refl plain.0)) (reach a plain.1)
+touches P l k h (need.Store a width w) v plain reach = subst (StaysWithin l k h a) (sym (whole_width width (width == 4) refl plain.0)) (reach a plain.1)
+touches P l k h (need.Amo a op rs2) v plain reach = absurd plain
+touches P l k h (need.Fence full) v plain reach = tt
+touches P l k h (need.Next w) v plain reach = tt
+touches P l k h (need.Report (report.Took i w)) v plain reach = tt
+touches P l k h (need.Report (report.Closed i)) v plain reach = tt
+touches P l k h need.Exit v plain reach = tt
+touches P l k h (need.Stop why) v plain reach = absurd plain
 
 -- and what it writes, if it writes, is a whole word
-writes_word : (h : ℕ) (n : Need) (v : ℕ) → IsNoAmo n → ((x : ℕ × ℕ) → stored_by n ≡ x ∷ [] → IsWholeWord (as_write x)) → WritesWord (access_of (entry_of h n v))
-writes_word h need.Inner v plain whole = tt
-writes_word h (need.Load a width) v plain whole = tt
-writes_word h (need.Store a width w) v plain whole = subst (λ (z : ℕ). IsWholeWord (write a z w)) (sym (whole_width width (width == 4) refl plain)) (whole (a, w) refl)
-writes_word h (need.Amo a op rs2) v plain whole = absurd plain
-writes_word h (need.Fence full) v plain whole = tt
-writes_word h (need.Next w) v plain whole = tt
-writes_word h (need.Report (report.Took i w)) v plain whole = tt
-writes_word h (need.Report (report.Closed i)) v plain whole = tt
-writes_word h need.Exit v plain whole = tt
-writes_word h (need.Stop why) v plain whole = absurd plain
+writes_word : (P : ℕ → Type 0) (h : ℕ) (n : Need) (v : ℕ) → IsNoAmo P n → ((x : ℕ × ℕ) → stored_by n ≡ x ∷ [] → IsWholeWord (as_write x)) → WritesWord (access_of (entry_of h n v))
+writes_word P h need.Inner v plain whole = tt
+writes_word P h (need.Load a width) v plain whole = tt
+writes_word P h (need.Store a width w) v plain whole = subst (λ (z : ℕ). IsWholeWord (write a z w)) (sym (whole_width width (width == 4) refl plain.0)) (whole (a, w) refl)
+writes_word P h (need.Amo a op rs2) v plain whole = absurd plain
+writes_word P h (need.Fence full) v plain whole = tt
+writes_word P h (need.Next w) v plain whole = tt
+writes_word P h (need.Report (report.Took i w)) v plain whole = tt
+writes_word P h (need.Report (report.Closed i)) v plain whole = tt
+writes_word P h need.Exit v plain whole = tt
+writes_word P h (need.Stop why) v plain whole = absurd plain
 
 -- an act by such a need, which stores a word if any
-pub record Plain (n : Need) : Type 0 where
-  pub no_amo : IsNoAmo n
+pub record Plain (P : ℕ → Type 0) (n : Need) : Type 0 where
+  pub no_amo : IsNoAmo P n
   pub whole : (x : ℕ × ℕ) → stored_by n ≡ x ∷ [] → IsWholeWord (as_write x)
 
-pub going : (B M : ℕ) (t : History) (h : ℕ) (s : HartState) (e : Entry) → state_of M t h ≡ Some s → CanFollow B M t e → hart_of e ≡ h → is_land e ≡ false → (s.status ≡ status.Running → Plain (need_of s)) → GoesOn e × WritesWord (access_of e)
-going B M t h s e is can mine act plain =
+pub going : (P : ℕ → Type 0) (l : Layout) (n : ℕ) (B M : ℕ) (t : History) (h : ℕ) (s : HartState) (e : Entry) → state_of M t h ≡ Some s → CanFollow B M t e → hart_of e ≡ h → is_land e ≡ false → (s.status ≡ status.Running → Plain P (need_of s)) → ((a : ℕ) → P a → StaysWithin l n h a 4) → GoesOn e × WritesWord (access_of e) × Touches l n e
+going P l n B M t h s e is can mine act plain reach =
     let both : CanMake s e × Allowed B t.opening t.entries e = act_only B M t h s e mine act is can in
-    let p : Plain (need_of s) = plain both.0.running in (
-      subst GoesOn (sym both.0.made) (goes_on (hart_of e) (need_of s) (value_of e) p.no_amo),
-      subst (λ (d : Entry). WritesWord (access_of d)) (sym both.0.made) (writes_word (hart_of e) (need_of s) (value_of e) p.no_amo p.whole),
+    let p : Plain P (need_of s) = plain both.0.running in (
+      subst GoesOn (sym both.0.made) (goes_on P (hart_of e) (need_of s) (value_of e) p.no_amo),
+      subst (λ (d : Entry). WritesWord (access_of d)) (sym both.0.made) (writes_word P (hart_of e) (need_of s) (value_of e) p.no_amo p.whole),
+      subst (Touches l n) (sym both.0.made) (touches P l n (hart_of e) (need_of s) (value_of e) p.no_amo (λ a there. subst (λ (j : ℕ). StaysWithin l n j a 4) (sym mine) (reach a there))),
     )
 
 -- what a load read
@@ -155,12 +171,12 @@ pub record Acted (M : ℕ) (t new : History) (h : ℕ) (s : HartState) (v : ℕ)
   pub others : (k : ℕ) → k ≢ h → reported k new.entries ≡ reported k t.entries
   pub loaded : (a : ℕ) → need_of s ≡ loads a → v ≡ read t.opening t.entries h a 4
 
-pub acted : (B M : ℕ) (t : History) (h : ℕ) (s : HartState) (e : Entry) → Legal B t → state_of M t h ≡ Some s → CanFollow B M t e → hart_of e ≡ h → is_land e ≡ false → (s.status ≡ status.Running → Plain (need_of s)) → Acted M t (with_entry t e) h s (value_of e)
-acted B M t h s e legal is can mine act no_amo =
+pub acted : (P : ℕ → Type 0) (B M : ℕ) (t : History) (h : ℕ) (s : HartState) (e : Entry) → Legal B t → state_of M t h ≡ Some s → CanFollow B M t e → hart_of e ≡ h → is_land e ≡ false → (s.status ≡ status.Running → Plain P (need_of s)) → Acted M t (with_entry t e) h s (value_of e)
+acted P B M t h s e legal is can mine act no_amo =
     let both : CanMake s e × Allowed B t.opening t.entries e = act_only B M t h s e mine act is can in
-    let plain : IsNoAmo (need_of s) = (no_amo both.0.running).no_amo in
+    let plain : IsNoAmo P (need_of s) = (no_amo both.0.running).no_amo in
     let made : e ≡ entry_of h (need_of s) (value_of e) = subst (λ (j : ℕ). e ≡ entry_of j (need_of s) (value_of e)) mine both.0.made in
-    let me : Seen h h true t.entries (need_of s) e = subst (λ (d : Entry). Seen h h true t.entries (need_of s) d) (sym made) (seen h h true t.entries (need_of s) (value_of e) (eq-eqb h h refl) plain) in
+    let me : Seen h h true t.entries (need_of s) e = subst (λ (d : Entry). Seen h h true t.entries (need_of s) d) (sym made) (seen P h h true t.entries (need_of s) (value_of e) (eq-eqb h h refl) plain) in
     record {
       running = both.0.running;
       state = state_of-mine M t h e mine act ∙ ap (option_map (λ z. advanced z (value_of e))) is;
@@ -176,8 +192,8 @@ acted B M t h s e legal is can mine act no_amo =
     not_mine : (k : ℕ) → k ≢ hart_of e → is_own k e ≡ false
     not_mine k other = let off : (hart_of e == k) ≡ false = grind (arith, nat_tests) in rw off refl
 
-    them : IsNoAmo (need_of s) → e ≡ entry_of h (need_of s) (value_of e) → (k : ℕ) → k ≢ h → Seen h k false t.entries (need_of s) e
-    them plain made k other = let off : (h == k) ≡ false = grind (arith, nat_tests) in subst (λ (d : Entry). Seen h k false t.entries (need_of s) d) (sym made) (seen h k false t.entries (need_of s) (value_of e) off plain)
+    them : IsNoAmo P (need_of s) → e ≡ entry_of h (need_of s) (value_of e) → (k : ℕ) → k ≢ h → Seen h k false t.entries (need_of s) e
+    them plain made k other = let off : (h == k) ≡ false = grind (arith, nat_tests) in subst (λ (d : Entry). Seen h k false t.entries (need_of s) d) (sym made) (seen P h k false t.entries (need_of s) (value_of e) off plain)
 
 -- hart h's oldest pending store x reached memory
 pub record Landed (M : ℕ) (t new : History) (h : ℕ) (w : Write) (rest : List Write) : Type 0 where

@@ -22,14 +22,16 @@ use Rattle.step_machine.proofs.WordReads.{read-word}
 use Rattle.step_machine.specs.Paths.{value_of, state_of}
 use Rattle.step_machine.specs.Legal.{Legal}
 use Rattle.step_machine.specs.Runs.{CanFollow}
+use Rattle.poll_close.specs.Layout.{Layout}
 use Rattle.poll_close.specs.Going.{GoesOn}
+use Rattle.poll_close.specs.Touching.{Touches}
 use Rattle.poll_close.specs.Invariant.Blocks.{Block, block_of, is_within, as_write, as_writes, to_block}
 use Rattle.poll_close.specs.Invariant.BlockMeaning.{BlockMeaning, Count, unsent_of, unread_of}
 use Rattle.poll_close.specs.Invariant.Channels.{BlockPart}
 use Rattle.poll_close.proofs.Acts.{Acted, Landed, acted, landed, Plain, going, stored_by}
 use Rattle.poll_close.proofs.Windows.{get_end}
 use Rattle.poll_close.proofs.Writes.{IsWrite}
-use Rattle.poll_close.proofs.Blocks.{IsBlock, Within, IsStore-whole, apart, outside_differs, newest-as_writes, first-as_writes, choose}
+use Rattle.poll_close.proofs.Blocks.{IsBlock, Within, IsWordOf, word_end, IsStore-whole, apart, outside_differs, newest-as_writes, first-as_writes, choose}
 use Rattle.poll_close.proofs.BlockLaws.{BlockLaws, found_in, Sends, Lands}
 
 -- what a need would read where this is found
@@ -82,7 +84,7 @@ module _ (m : BlockMeaning) (laws : BlockLaws m) (M : ℕ) (k : Block) (i : ℕ)
   )
 
   -- the sender needs no AMO and no stop, and stores whole words
-  pub sender_plain : part.sender.stands.status ≡ status.Running → Plain (need_of part.sender.stands)
+  pub sender_plain : part.sender.stands.status ≡ status.Running → Plain (IsWordOf k) (need_of part.sender.stands)
   sender_plain runs =
       let seen : ℕ → ℕ = found_in (unsent_of m k n) (word_in_memory t.opening t.entries) in
       let sent : Sends m k n part.sender.stands (would_read seen (need_of part.sender.stands)) = laws.sends k n part.sender.stands (word_in_memory t.opening t.entries) (would_read seen (need_of part.sender.stands)) is part.order part.words part.sender.holds runs (λ a within wants. ap (would_read seen) wants) in
@@ -117,12 +119,12 @@ writes : (word new : ℕ → ℕ) (w : Write) (x : ℕ × ℕ) → w ≡ as_writ
 writes word new w x same write = subst (λ (u : Write). (a : ℕ) → new a ≡ (if u.addr == a then u.value else word a)) same write
 
 -- and all blocks' statements after it
-pub record BlocksAfter (m : BlockMeaning) (M S : ℕ) (lists : List (List ℕ)) (new : History) (f : ℕ → Count m) : Type 0 where
+pub record BlocksAfter (m : BlockMeaning) (M : ℕ) (S : Layout) (lists : List (List ℕ)) (new : History) (f : ℕ → Count m) : Type 0 where
   pub numbers : ℕ → Count m
   pub parts : (i : ℕ) → i < length lists → BlockPart m (block_of M S lists i) M i new (numbers i)
   pub same : (i : ℕ) → i < length lists → (numbers i).receiver ≡ (f i).receiver
 
-module _ (m : BlockMeaning) (laws : BlockLaws m) (B M S : ℕ) (lists : List (List ℕ)) (are : (i : ℕ) → i < length lists → IsBlock (block_of M S lists i)) (t : History) (f : ℕ → Count m) (legal : Legal B t) (opens : OpensWithWords t.opening) (written : AllWriteWords t.entries) (parts : (i : ℕ) → i < length lists → BlockPart m (block_of M S lists i) M i t (f i)) where
+module _ (m : BlockMeaning) (laws : BlockLaws m) (B M : ℕ) (S : Layout) (lists : List (List ℕ)) (are : (i : ℕ) → i < length lists → IsBlock (block_of M S lists i)) (t : History) (f : ℕ → Count m) (legal : Legal B t) (opens : OpensWithWords t.opening) (written : AllWriteWords t.entries) (parts : (i : ℕ) → i < length lists → BlockPart m (block_of M S lists i) M i t (f i)) where
   abbrev Now : History → ℕ → Type 0
   Now new i = Grown m M (block_of M S lists i) i new (f i)
 
@@ -140,12 +142,15 @@ module _ (m : BlockMeaning) (laws : BlockLaws m) (B M S : ℕ) (lists : List (Li
       at i less (inr other) = (f i, untouched m laws M (block_of M S lists i) i t new (f i) (are i less) (parts i less) (others i less other), refl)
 
   -- a sender acts
-  pub sender_goes_on : (j : ℕ) (within : j < length lists) (e : Entry) → CanFollow B M t e → hart_of e ≡ j + 1 → is_land e ≡ false → GoesOn e × WritesWord (access_of e)
-  sender_goes_on j within e can mine alone = going B M t (j + 1) (parts j within).sender.stands e (parts j within).sender.state can mine alone (sender_plain m laws M (block_of M S lists j) j t t (f j) (are j within) (parts j within))
+  pub sender_goes_on : (j : ℕ) (within : j < length lists) (e : Entry) → CanFollow B M t e → hart_of e ≡ j + 1 → is_land e ≡ false → GoesOn e × WritesWord (access_of e) × Touches S (length lists) e
+  sender_goes_on j within e can mine alone =
+      going _ S (length lists) B M t (j + 1) (parts j within).sender.stands e (parts j within).sender.state can mine alone
+      (sender_plain m laws M (block_of M S lists j) j t t (f j) (are j within) (parts j within))
+      (λ a word. record { block = j; known = within; own = inr refl; from = word.within.from; below = word_end (block_of M S lists j) (are j within) a word })
 
   pub sender_acts : (j : ℕ) (within : j < length lists) (e : Entry) → CanFollow B M t e → hart_of e ≡ j + 1 → is_land e ≡ false → BlocksAfter m M S lists (with_entry t e) f
   sender_acts j within e can mine alone =
-      let a : Acted M t (with_entry t e) (j + 1) (parts j within).sender.stands (value_of e) = acted B M t (j + 1) (parts j within).sender.stands e legal (parts j within).sender.state can mine alone (sender_plain m laws M (block_of M S lists j) j t t (f j) (are j within) (parts j within)) in
+      let a : Acted M t (with_entry t e) (j + 1) (parts j within).sender.stands (value_of e) = acted _ B M t (j + 1) (parts j within).sender.stands e legal (parts j within).sender.state can mine alone (sender_plain m laws M (block_of M S lists j) j t t (f j) (are j within) (parts j within)) in
       one_changed (with_entry t e) j (acts_part m laws M (block_of M S lists j) j t (with_entry t e) (f j) (are j within) (parts j within) (value_of e) opens written a) (λ i less other. record {
         state = a.states (i + 1) (λ same. other (omega arith));
         buffer = a.buffers (i + 1) (λ same. other (omega arith));
@@ -162,7 +167,7 @@ module _ (m : BlockMeaning) (laws : BlockLaws m) (B M S : ℕ) (lists : List (Li
       missed : (x : ℕ × ℕ) (i a : ℕ) → i ≢ j → Within (block_of M S lists i) a → Within (block_of M S lists j) x.0 → (x.0 == a) ≡ false
       missed x i a other here inside =
           elim (cases_eq x.0 a) [
-            | inl same ↦ absurd (apart M S lists i j a other here (subst (Within (block_of M S lists j)) same inside))
+            | inl same ↦ absurd (apart M S lists i j a (are j within).room other here (subst (Within (block_of M S lists j)) same inside))
             | inr differ ↦ grind (arith, nat_tests)
           ]
 

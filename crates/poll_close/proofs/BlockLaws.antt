@@ -8,7 +8,6 @@ use Rattle.hart.specs.declared.status.Status.TheVariants as status
 use Rattle.hart.specs.declared.need.Need.{Need}
 use Rattle.hart.specs.declared.need.Report.{Report}
 use Rattle.hart.specs.declared.need.Report.TheVariants as report
-use Rattle.poll_close.specs.Layout.{block_size}
 use Rattle.poll_close.specs.Reports.{taken}
 use Rattle.poll_close.specs.Plans.{is_closed}
 use Rattle.poll_close.specs.Paces.{runs, some_open, far_of}
@@ -32,7 +31,7 @@ seen_at m k n word a = found_in (unread_of m k n) word a
 -- a sender acted in state s, and read v
 pub record Sends (m : BlockMeaning) (k : Block) (n : Count m) (s : HartState) (v : ℕ) : Type 0 where
   pub after : m.sender.Own
-  pub plain : IsNoAmo (need_of s)
+  pub plain : IsNoAmo (IsWordOf k) (need_of s)
   pub stands : Standing m.sender k after (advanced s v)
   pub order : m.Ordered k (record n { sender = after })
   pub unsent : unsent_of m k n ++ stored_by (need_of s) ≡ m.unsent k after n.landed
@@ -64,7 +63,7 @@ pub record Comes (m : BlockMeaning) (k : Block) (count : ℕ) (there : ℕ) (n :
   pub quiet : Quiet m n
   pub here : there ≡ 0x08
   pub index : r.x22 ≡ block
-  pub base : r.x8 ≡ block * block_size k.size
+  pub base : r.x8 ≡ k.first + block * k.stride
 
 -- what is known of the block that it visits where every sender waits or has ended, by the reports and states
 pub record Idle (m : BlockMeaning) (k : Block) (i count here : ℕ) (n : Count m) (r : Noted) (rs : List Report) (states : ℕ → Option HartState) : Type 0 where
@@ -85,7 +84,7 @@ pub record Receives (m : BlockMeaning) (k : Block) (i count : ℕ) (here : ℕ) 
   pub there : ℕ
   pub noted : Noted
   pub after : m.Receiver
-  pub plain : IsNoAmo wanted
+  pub plain : IsNoAmo (IsWordOf k) wanted
   pub wants : need_of (receives m.middle (whole_of k count) here r) ≡ wanted
   pub leaves : advanced (receives m.middle (whole_of k count) here r) v ≡ receives m.middle (whole_of k count) there noted
   pub changes : Changes m k n after (stored_by wanted)

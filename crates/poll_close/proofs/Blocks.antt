@@ -1,5 +1,5 @@
 -- Blocks don't meet: an address in one is in no other, so what concerns one leaves the others.
-use Rattle.std.proofs.Common.{ℕ, ◌+◌, ◌*◌, ◌%◌, ◌^◌, ◌<◌, ◌≤◌, ◌≡◌, ◌≢◌, ◌==◌, ◌⊎◌, inl, inr, Bool, true, false, if◌then◌else◌, List, [], ◌∷◌, ◌++◌, length, Option, Some, refl, sym, ◌∙◌, ap, arith, append-nil, eq-eqb}
+use Rattle.std.proofs.Common.{ℕ, ◌+◌, ◌*◌, ◌%◌, ◌^◌, ◌<◌, ◌≤◌, ◌≡◌, ◌≢◌, ◌==◌, ◌⊎◌, inl, inr, Bool, true, false, if◌then◌else◌, List, [], ◌∷◌, ◌++◌, length, Option, Some, refl, sym, ◌∙◌, ap, subst, arith, append-nil, eq-eqb}
 use Rattle.std.specs.Prelude.{slice_index}
 use Rattle.std.proofs.lemmas.List.Elements.{filter-append}
 use Rattle.std.proofs.lemmas.Bool.{cases_lt, cases_eq}
@@ -7,7 +7,7 @@ use Rattle.std.proofs.lemmas.Bool.Decides.{nat_tests}
 use Rattle.std.proofs.lemmas.Nat.{mod_below, row_fits}
 use Rattle.memory.specs.declared.writes.Write.{Write}
 use Rattle.memory.specs.Writes.{newest_word, IsWholeWord}
-use Rattle.poll_close.specs.Layout.{block_size}
+use Rattle.poll_close.specs.Layout.{block_size, Layout}
 use Rattle.poll_close.specs.Invariant.Blocks.{Block, block_of, offset, slot, is_within, as_write, as_writes, is_to, to_block}
 use Rattle.poll_close.proofs.Windows.{newest_to}
 
@@ -16,6 +16,9 @@ pub record IsBlock (k : Block) : Type 0 where
   pub some_slot : 1 ≤ k.size
   pub even : k.base % 4 ≡ 0
   pub inside : k.base + 16 + 4 * k.size ≤ 4 * k.words
+  pub first : k.first ≤ k.base
+  pub room : block_size k.size ≤ k.stride
+  pub next : k.base + k.stride < 2 ^ 32
   pub small : 4 * k.words ≤ 2 ^ 32
   pub wide : 4 * k.words < 2 ^ 32
   pub words : (j : ℕ) → j < length k.list → slice_index k.list j < 2 ^ 32
@@ -48,8 +51,18 @@ module _ (k : Block) (is : IsBlock k) where
   pub base_word : IsWordOf k k.base
   base_word = record { within = record { from = omega arith; below = omega arith }; aligned = is.even }
 
+  pub word_from : (b j : ℕ) → b ≡ k.base → j ≤ 12 → j % 4 ≡ 0 → IsWordOf k (b + j)
+  word_from b j same small aligned = subst (λ (z : ℕ). IsWordOf k (z + j)) (sym same) (word_of j small aligned)
+
   pub slot_of : (j : ℕ) → IsWordOf k (slot k.size k.base j)
   slot_of j = record { within = record { from = omega arith; below = omega (arith, offset_low j) }; aligned = omega (arith, is.even) }
+
+  pub slot_at : (a j : ℕ) → a ≡ slot k.size k.base j → IsWordOf k a
+  slot_at a j same = subst (IsWordOf k) (sym same) (slot_of j)
+
+  -- all four bytes of a word are the block's
+  pub word_end : (a : ℕ) → IsWordOf k a → a + 4 ≤ k.base + block_size k.size
+  word_end a word = omega (arith, is.even, word.aligned, word.within.below)
 
 pub within_true : (k : Block) (a : ℕ) → Within k a → is_within k a ≡ true
 within_true k a h = grind (arith, nat_tests, h.from, h.below)
@@ -57,16 +70,16 @@ within_true k a h = grind (arith, nat_tests, h.from, h.below)
 pub within_from : (k : Block) (a : ℕ) → is_within k a ≡ true → Within k a
 within_from k a h = record { from = grind (arith, nat_tests); below = grind (arith, nat_tests) }
 
-apart_below : (M S : ℕ) (lists : List (List ℕ)) (i j a : ℕ) → i < j → Within (block_of M S lists i) a → Within (block_of M S lists j) a → ⊥
-apart_below M S lists i j a less h g =
-    let far : i * block_size S + block_size S ≤ j * block_size S = row_fits i (block_size S) j (block_size S) less (omega arith) in
-    omega (arith, h.below, g.from)
+apart_below : (M : ℕ) (S : Layout) (lists : List (List ℕ)) (i j a : ℕ) → block_size S.size ≤ S.stride → i < j → Within (block_of M S lists i) a → Within (block_of M S lists j) a → ⊥
+apart_below M S lists i j a room less h g =
+    let far : i * S.stride + S.stride ≤ j * S.stride = row_fits i S.stride j S.stride less (omega arith) in
+    omega (arith, room, h.below, g.from)
 
-pub apart : (M S : ℕ) (lists : List (List ℕ)) (i j a : ℕ) → i ≢ j → Within (block_of M S lists i) a → Within (block_of M S lists j) a → ⊥
-apart M S lists i j a other h g =
+pub apart : (M : ℕ) (S : Layout) (lists : List (List ℕ)) (i j a : ℕ) → block_size S.size ≤ S.stride → i ≢ j → Within (block_of M S lists i) a → Within (block_of M S lists j) a → ⊥
+apart M S lists i j a room other h g =
     elim (cases_lt i j) [
-      | inl less ↦ apart_below M S lists i j a less h g
-      | inr more ↦ apart_below M S lists j i a (omega arith) g h
+      | inl less ↦ apart_below M S lists i j a room less h g
+      | inr more ↦ apart_below M S lists j i a room (omega arith) g h
     ]
 
 to_block-none : (k : Block) (ws : List Write) (w : Write) → is_within k w.addr ≡ false → to_block k (ws ++ w ∷ []) ≡ to_block k ws

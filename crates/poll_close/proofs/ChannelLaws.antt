@@ -1,13 +1,13 @@
 -- From the laws of one block to the laws of a ring: the opening has the meaning, every entry keeps it,
 -- it gives clean reports, and no hart is stopped.
-use Rattle.std.proofs.Common.{ℕ, zero, suc, ◌+◌, ◌*◌, ◌%◌, ◌<◌, ◌≤◌, ◌≡◌, ◌==◌, ◌⊎◌, inl, inr, false, List, [], ◌∷◌, ◌++◌, length, take, Some, refl, sym, ◌∙◌, ap, subst, arith, append-nil, add-one}
-use Rattle.std.specs.Prelude.{option_map}
+use Rattle.std.proofs.Common.{ℕ, zero, suc, ◌+◌, ◌-◌, ◌*◌, ◌<◌, ◌≤◌, ◌≡◌, ◌==◌, ◌⊎◌, inl, inr, false, List, [], ◌∷◌, ◌++◌, length, take, Some, refl, sym, ◌∙◌, ap, subst, arith, append-nil, add-one}
+use Rattle.std.specs.Prelude.{◌/◌, option_map, slice_index}
 use Rattle.std.specs.List.{slice_get, slice_index_or}
 use Rattle.std.proofs.lemmas.Bool.{cases_lt}
 use Rattle.std.proofs.lemmas.Bool.Decides.{nat_tests}
 use Rattle.std.proofs.lemmas.Nat.{row_fits}
 use Rattle.std.proofs.lemmas.Option.{slice_get_past}
-use Rattle.std.proofs.Math.Nat.{mul-mod_left}
+use Rattle.std.proofs.Math.Nat.{mul_assoc}
 use Rattle.step_machine.specs.declared.events.Entry.{Entry}
 use Rattle.step_machine.specs.declared.events.Entry.TheVariants as entry
 use Rattle.step_machine.specs.History.{HartStart, Start, History, unrun, with_entry}
@@ -20,15 +20,17 @@ use Rattle.step_machine.specs.Runs.{CanFollow}
 use Rattle.step_machine.proofs.Appended.{reported-last}
 use Rattle.step_machine.proofs.Follows.{Path-hart, state_of-other}
 use Rattle.step_machine.proofs.Stays.{report_of-other, states_land}
-use Rattle.poll_close.specs.Layout.{block_size, sender_registers, senders_from, opening_of}
-use Rattle.poll_close.specs.Laws.{Ring, AreWords, Accepted, Opens, Keeps, Cleans, Goes}
+use Rattle.poll_close.specs.Layout.{Layout, sender_registers, senders_from, opening_at}
+use Rattle.poll_close.specs.Laws.{Ring, AreWords, AcceptedAt, Opens, Keeps, Cleans, Goes, Stays}
 use Rattle.poll_close.specs.Reports.{Clean}
 use Rattle.poll_close.specs.Going.{GoesOn, AllGoOn}
+use Rattle.poll_close.specs.Touching.{Touches, AllTouch}
 use Rattle.poll_close.specs.Invariant.Blocks.{block_of, as_writes}
 use Rattle.poll_close.specs.Invariant.ReceiverState.{receiver_of}
 use Rattle.poll_close.specs.Invariant.BlockMeaning.{BlockMeaning, Count, Quiet}
 use Rattle.poll_close.specs.Invariant.Channels.{BlockPart, ReportsOf, shuts, Channel, means_by}
-use Rattle.poll_close.proofs.Blocks.{IsBlock}
+use Rattle.poll_close.proofs.Blocks.{IsBlock, Within}
+use Rattle.poll_close.proofs.Dense.{rows_before}
 use Rattle.poll_close.proofs.BlockLaws.{BlockLaws, Begins, opens_with}
 use Rattle.poll_close.proofs.AllBlocks.{BlocksAfter, sender_goes_on, sender_acts, sender_store_lands, receiver_store_lands}
 use Rattle.poll_close.proofs.ReceiverStays.{part_stays, reports_stay}
@@ -36,32 +38,37 @@ use Rattle.poll_close.proofs.ReceiverActs.{Received, receiver_goes_on, receiver_
 use Rattle.poll_close.proofs.Delivering.{senders-length}
 
 -- the blocks of an accepted opening
-pub blocks : (ring : Ring) (M S : ℕ) (lists : List (List ℕ)) → 1 ≤ ring.least → Accepted ring M lists S → (i : ℕ) → i < length lists → IsBlock (block_of M S lists i)
+pub blocks : (ring : Ring) (M : ℕ) (S : Layout) (lists : List (List ℕ)) → 1 ≤ ring.least → AcceptedAt ring M lists S → (i : ℕ) → i < length lists → IsBlock (block_of M S lists i)
 blocks ring M S lists some accepted i within =
-    let bytes : i * block_size S ≡ i * (4 + S) * 4 = omega arith in
-    let last : i * block_size S + block_size S ≤ length lists * block_size S = row_fits i (block_size S) (length lists) (block_size S) within (omega arith) in
+    let step : S.stride ≡ S.stride / 4 * 4 = omega (arith, accepted.stride) in
+    let bytes : i * S.stride ≡ i * (S.stride / 4) * 4 = ap (λ n. i * n) step ∙ sym (mul_assoc i (S.stride / 4) 4) in
+    let last : i * S.stride + S.stride ≤ length lists * S.stride = row_fits i S.stride (length lists) S.stride within (omega arith) in
+    let whole : (length lists - 1) * S.stride + S.stride ≡ length lists * S.stride = rows_before (length lists) S.stride accepted.some_sender in
     let words : AreWords (slice_index_or lists i []) = accepted.words i [] within in
     record {
       some_slot = omega (arith, some, accepted.size);
-      even = ap (λ n. n % 4) bytes ∙ mul-mod_left (i * (4 + S)) 4;
-      inside = omega (arith, accepted.fits);
+      even = omega (arith, accepted.base, bytes);
+      inside = omega (arith, accepted.fits, whole, last);
+      first = omega arith;
+      room = accepted.room;
+      next = omega (arith, accepted.ends, last);
       small = omega (arith, accepted.memory);
       wide = omega (arith, accepted.memory);
       words = λ j less. (words j 0 less).0;
       full = λ j less. (words j 0 less).1;
     }
 
-sender_start : (code : List ℕ) (S j i : ℕ) (lists : List (List ℕ)) → i < length lists → slice_get (senders_from code S j lists) i ≡ Some (record { code = code; registers = sender_registers S (j + i); inbox = slice_index_or lists i [] })
+sender_start : (code : List ℕ) (S : Layout) (j i : ℕ) (lists : List (List ℕ)) → i < length lists → slice_get (senders_from code S j lists) i ≡ Some (record { code = code; registers = sender_registers S (j + i); inbox = slice_index_or lists i [] })
 sender_start code S j i [] within = absurd (omega arith)
 sender_start code S j zero (ws ∷ lists) within = let same : j + 0 ≡ j = omega arith in rw same refl
 sender_start code S j (suc i) (ws ∷ lists) within = let same : j + suc i ≡ j + 1 + i = omega arith in rw same (sender_start code S (j + 1) i lists (omega arith))
 
-start_state : (code receiver : List ℕ) (M S : ℕ) (lists : List (List ℕ)) (i : ℕ) → i < length lists → state_of M (unrun (opening_of code receiver lists S)) (i + 1) ≡ Some (opens_with code (block_of M S lists i))
+start_state : (code receiver : List ℕ) (M : ℕ) (S : Layout) (lists : List (List ℕ)) (i : ℕ) → i < length lists → state_of M (unrun (opening_at code receiver lists S)) (i + 1) ≡ Some (opens_with code (block_of M S lists i))
 start_state code receiver M S lists i within =
     let start : HartStart = record { code = code; registers = sender_registers S i; inbox = slice_index_or lists i [] } in
     let same : 0 + i ≡ i = omega arith in
     let later : slice_get (senders_from code S 0 lists) i ≡ Some start = rw same at (sender_start code S 0 i lists within) in
-    let at_hart : slice_get (opening_of code receiver lists S).harts (i + 1) ≡ Some start = rw (add-one i) later in
+    let at_hart : slice_get (opening_at code receiver lists S).harts (i + 1) ≡ Some start = rw (add-one i) later in
     ap (option_map (opens_as M)) at_hart
 
 clean-none : (lists : List (List ℕ)) → Clean [] lists
@@ -80,7 +87,10 @@ act_or_land (entry.Ended h) = inl refl
 act_or_land (entry.Stopped h why) = inl refl
 act_or_land (entry.Land h) = inr (h, refl)
 
-is_hart : (code receiver : List ℕ) (B M S : ℕ) (lists : List (List ℕ)) (t : History) (e : Entry) → t.opening ≡ opening_of code receiver lists S → CanFollow B M t e → hart_of e < suc (length lists)
+not_zero : (h j : ℕ) → h ≡ suc j → (h == 0) ≡ false
+not_zero h j is = grind (arith, nat_tests)
+
+is_hart : (code receiver : List ℕ) (B M : ℕ) (S : Layout) (lists : List (List ℕ)) (t : History) (e : Entry) → t.opening ≡ opening_at code receiver lists S → CanFollow B M t e → hart_of e < suc (length lists)
 is_hart code receiver B M S lists t e is can =
     elim (cases_lt (hart_of e) (suc (length lists))) [
       | inl less ↦ less
@@ -89,11 +99,11 @@ is_hart code receiver B M S lists t e is can =
           absurd (Path-hart M (with_entry t e) (hart_of e) can.path (slice_get_past t.opening.harts (hart_of e) (omega arith)))
     ]
 
-all_go_on : (es : List Entry) (e : Entry) → AllGoOn es → GoesOn e → AllGoOn (es ++ e ∷ [])
-all_go_on [] e all one zero d is = subst GoesOn (let same : e ≡ d = cc in same) one
-all_go_on [] e all one (suc j) d is = cc
-all_go_on (x ∷ es) e all one zero d is = all 0 d is
-all_go_on (x ∷ es) e all one (suc j) d is = all_go_on es e (λ i c at. all (suc i) c at) one j d is
+all_more : (P : Entry → Type 0) (es : List Entry) (e : Entry) → ((j : ℕ) (d : Entry) → slice_get es j ≡ Some d → P d) → P e → (j : ℕ) (d : Entry) → slice_get (es ++ e ∷ []) j ≡ Some d → P d
+all_more P [] e all one zero d is = subst P (let same : e ≡ d = cc in same) one
+all_more P [] e all one (suc j) d is = cc
+all_more P (x ∷ es) e all one zero d is = all 0 d is
+all_more P (x ∷ es) e all one (suc j) d is = all_more P es e (λ i c at. all (suc i) c at) one j d is
 
 one_more : (es : List Entry) (e : Entry) → AllWriteWords es → WritesWord (access_of e) → AllWriteWords (es ++ e ∷ [])
 one_more es e all one = AllWriteWords-append es (e ∷ []) all (one, tt)
@@ -102,7 +112,7 @@ module _ (m : BlockMeaning) (laws : BlockLaws m) (least : ℕ) (some : 1 ≤ lea
   abbrev pub ring_by : Ring
   ring_by = record { sender = m.sender.code; receiver = receiver_of m.middle; least = least }
 
-  module _ (M S : ℕ) (lists : List (List ℕ)) (accepted : Accepted ring_by M lists S) where
+  module _ (M : ℕ) (S : Layout) (lists : List (List ℕ)) (accepted : AcceptedAt ring_by M lists S) where
     begun : (i : ℕ) → i < length lists → Begins m (block_of M S lists i) (opens_with m.sender.code (block_of M S lists i))
     begun i within = laws.begins (block_of M S lists i) (blocks ring_by M S lists some accepted i within)
 
@@ -130,15 +140,20 @@ module _ (m : BlockMeaning) (laws : BlockLaws m) (least : ℕ) (some : 1 ≤ lea
         let last : m.shut (none i).receiver ≡ 0 = each (λ j n. m.shut n.receiver ≡ 0) (λ j within. (begun j within).shut) i (omega arith) in
         omega (arith, last, none_shut i (omega arith))
 
-    part : (i : ℕ) → i < length lists → BlockPart m (block_of M S lists i) M i (unrun (opening_of m.sender.code (receiver_of m.middle) lists S)) (none i)
-    part = each (λ i n. BlockPart m (block_of M S lists i) M i (unrun (opening_of m.sender.code (receiver_of m.middle) lists S)) n) (λ i within. (let b = begun i within in record {
+    zero_there : (i : ℕ) (within : i < length lists) (a : ℕ) → Within (block_of M S lists i) a → slice_index S.words (a / 4) ≡ 0
+    zero_there i within a here =
+        let is : IsBlock (block_of M S lists i) = blocks ring_by M S lists some accepted i within in
+        accepted.empty.empty (a / 4) (record { block = i; known = within; from = omega (arith, is.even, here.from); below = omega (arith, here.below) })
+
+    part : (i : ℕ) → i < length lists → BlockPart m (block_of M S lists i) M i (unrun (opening_at m.sender.code (receiver_of m.middle) lists S)) (none i)
+    part = each (λ i n. BlockPart m (block_of M S lists i) M i (unrun (opening_at m.sender.code (receiver_of m.middle) lists S)) n) (λ i within. (let b = begun i within in record {
       order = b.order;
       sender = record { stands = opens_with m.sender.code (block_of M S lists i); state = start_state m.sender.code (receiver_of m.middle) M S lists i within; holds = b.stands; buffer = ap as_writes (sym b.unsent) };
       theirs = ap as_writes (sym b.unread);
-      words = b.words;
+      words = laws.words_same (block_of M S lists i) b.none.landed (λ a. 0) (λ a. slice_index S.words (a / 4)) (blocks ring_by M S lists some accepted i within) (λ a here. zero_there i within a here) b.words;
     }))
 
-    opened : Channel m M S lists (unrun (opening_of m.sender.code (receiver_of m.middle) lists S))
+    opened : Channel m M S lists (unrun (opening_at m.sender.code (receiver_of m.middle) lists S))
     opened = record {
       numbers = none;
       parts = part;
@@ -161,6 +176,7 @@ module _ (m : BlockMeaning) (laws : BlockLaws m) (least : ℕ) (some : 1 ≤ lea
         clean = clean-none lists;
       };
       unstopped = λ j e is. cc;
+      touched = λ j e is. cc;
       written = tt;
     }
 
@@ -179,12 +195,13 @@ module _ (m : BlockMeaning) (laws : BlockLaws m) (least : ℕ) (some : 1 ≤ lea
       are : (i : ℕ) → i < length lists → IsBlock (block_of M S lists i)
       are = blocks ring_by M S lists some accepted
 
-      opens_zero : (u : History) → u.opening ≡ opening_of m.sender.code (receiver_of m.middle) lists S → OpensWithWords u.opening
-      opens_zero u same = subst OpensWithWords (sym same) (λ i. omega arith)
+      opens_words : (u : History) → u.opening ≡ opening_at m.sender.code (receiver_of m.middle) lists S → OpensWithWords u.opening
+      opens_words u same = subst OpensWithWords (sym same) accepted.empty.small
 
-      go_on : (new : History) → state_of M new 0 ≡ state_of M t 0 → reported 0 new.entries ≡ reported 0 t.entries → BlocksAfter m M S lists new ch.numbers → AllGoOn new.entries → AllWriteWords new.entries → Channel m M S lists new
-      go_on new state said b all words = record {
+      go_on : (new : History) → state_of M new 0 ≡ state_of M t 0 → reported 0 new.entries ≡ reported 0 t.entries → BlocksAfter m M S lists new ch.numbers → AllGoOn new.entries → AllTouch S (length lists) new.entries → AllWriteWords new.entries → Channel m M S lists new
+      go_on new state said b all reached words = record {
         unstopped = all;
+        touched = reached;
         written = words;
         numbers = b.numbers;
         parts = b.parts;
@@ -194,32 +211,35 @@ module _ (m : BlockMeaning) (laws : BlockLaws m) (least : ℕ) (some : 1 ≤ lea
 
       acts : (h : ℕ) → hart_of e ≡ h → is_land e ≡ false → Channel m M S lists (with_entry t e)
       acts zero mine act =
-          let plain : GoesOn e × WritesWord (access_of e) = receiver_goes_on m laws B M S lists (blocks ring_by M S lists some accepted) accepted.senders t ch.numbers kept.legal (opens_zero t is) ch.written ch.parts ch.receiver ch.reports e can mine act in
-          let r : Received m M S lists (with_entry t e) = receiver_acts m laws B M S lists (blocks ring_by M S lists some accepted) accepted.senders t ch.numbers kept.legal (opens_zero t is) ch.written ch.parts ch.receiver ch.reports e can mine act in
-          record { numbers = r.numbers; parts = r.parts; receiver = r.receiver; reports = r.reports; unstopped = all_go_on t.entries e ch.unstopped plain.0; written = one_more t.entries e ch.written plain.1 }
+          let plain : GoesOn e × WritesWord (access_of e) × Touches S (length lists) e = receiver_goes_on m laws B M S lists (blocks ring_by M S lists some accepted) accepted.senders t ch.numbers kept.legal (opens_words t is) ch.written ch.parts ch.receiver ch.reports e can mine act in
+          let r : Received m M S lists (with_entry t e) = receiver_acts m laws B M S lists (blocks ring_by M S lists some accepted) accepted.senders t ch.numbers kept.legal (opens_words t is) ch.written ch.parts ch.receiver ch.reports e can mine act in
+          record { numbers = r.numbers; parts = r.parts; receiver = r.receiver; reports = r.reports; unstopped = all_more GoesOn t.entries e ch.unstopped plain.0; touched = all_more (Touches S (length lists)) t.entries e ch.touched plain.2; written = one_more t.entries e ch.written plain.1 }
       acts (suc j) mine act =
           let within : j < length lists = omega (arith, is_hart m.sender.code (receiver_of m.middle) B M S lists t e is can, mine) in
-          let other : (hart_of e == 0) ≡ false = grind (arith, nat_tests) in
-          let plain : GoesOn e × WritesWord (access_of e) = sender_goes_on m laws B M S lists (blocks ring_by M S lists some accepted) t ch.numbers kept.legal (opens_zero t is) ch.written ch.parts j within e can (mine ∙ sym (add-one j)) act in
+          let other : (hart_of e == 0) ≡ false = not_zero (hart_of e) j mine in
+          let plain : GoesOn e × WritesWord (access_of e) × Touches S (length lists) e = sender_goes_on m laws B M S lists (blocks ring_by M S lists some accepted) t ch.numbers kept.legal (opens_words t is) ch.written ch.parts j within e can (mine ∙ sym (add-one j)) act in
           go_on (with_entry t e) (state_of-other M t 0 e (rw other refl)) (reported-last 0 t.entries e ∙ ap (λ rs. reported 0 t.entries ++ rs) (report_of-other 0 e other) ∙ append-nil (reported 0 t.entries))
-          (sender_acts m laws B M S lists (blocks ring_by M S lists some accepted) t ch.numbers kept.legal (opens_zero t is) ch.written ch.parts j within e can (mine ∙ sym (add-one j)) act)
-          (all_go_on t.entries e ch.unstopped plain.0) (one_more t.entries e ch.written plain.1)
+          (sender_acts m laws B M S lists (blocks ring_by M S lists some accepted) t ch.numbers kept.legal (opens_words t is) ch.written ch.parts j within e can (mine ∙ sym (add-one j)) act)
+          (all_more GoesOn t.entries e ch.unstopped plain.0) (all_more (Touches S (length lists)) t.entries e ch.touched plain.2) (one_more t.entries e ch.written plain.1)
 
       lands : (h : ℕ) → e ≡ entry.Land h → (g : ℕ) → h ≡ g → Channel m M S lists (with_entry t e)
       lands h land zero same =
           let is_0 : e ≡ entry.Land 0 = land ∙ ap entry.Land same in
           subst (λ (d : Entry). Channel m M S lists (with_entry t d)) (sym is_0)
           (go_on (with_entry t (entry.Land 0)) (states_land M t 0 0) (reported-last 0 t.entries (entry.Land 0) ∙ append-nil (reported 0 t.entries))
-          (receiver_store_lands m laws B M S lists (blocks ring_by M S lists some accepted) t ch.numbers kept.legal (opens_zero t is) ch.written ch.parts (subst (CanFollow B M t) is_0 can)) (all_go_on t.entries (entry.Land 0) ch.unstopped tt) (one_more t.entries (entry.Land 0) ch.written tt))
+          (receiver_store_lands m laws B M S lists (blocks ring_by M S lists some accepted) t ch.numbers kept.legal (opens_words t is) ch.written ch.parts (subst (CanFollow B M t) is_0 can)) (all_more GoesOn t.entries (entry.Land 0) ch.unstopped tt) (all_more (Touches S (length lists)) t.entries (entry.Land 0) ch.touched tt) (one_more t.entries (entry.Land 0) ch.written tt))
       lands h land (suc j) same =
           let is_j : e ≡ entry.Land (j + 1) = land ∙ ap entry.Land (same ∙ sym (add-one j)) in
           let within : j < length lists = omega (arith, is_hart m.sender.code (receiver_of m.middle) B M S lists t e is can, ap hart_of is_j) in
           subst (λ (d : Entry). Channel m M S lists (with_entry t d)) (sym is_j)
           (go_on (with_entry t (entry.Land (j + 1))) (states_land M t (j + 1) 0) (reported-last 0 t.entries (entry.Land (j + 1)) ∙ append-nil (reported 0 t.entries))
-          (sender_store_lands m laws B M S lists (blocks ring_by M S lists some accepted) t ch.numbers kept.legal (opens_zero t is) ch.written ch.parts j within (subst (CanFollow B M t) is_j can)) (all_go_on t.entries (entry.Land (j + 1)) ch.unstopped tt) (one_more t.entries (entry.Land (j + 1)) ch.written tt))
+          (sender_store_lands m laws B M S lists (blocks ring_by M S lists some accepted) t ch.numbers kept.legal (opens_words t is) ch.written ch.parts j within (subst (CanFollow B M t) is_j can)) (all_more GoesOn t.entries (entry.Land (j + 1)) ch.unstopped tt) (all_more (Touches S (length lists)) t.entries (entry.Land (j + 1)) ch.touched tt) (one_more t.entries (entry.Land (j + 1)) ch.written tt))
 
   pub cleans : Cleans ring_by (means_by m)
   cleans B M lists S t accepted is kept ch = ch.reports.clean
 
   pub goes : Goes ring_by (means_by m)
   goes B M lists S t accepted ch = ch.unstopped
+
+  pub stays : Stays ring_by (means_by m)
+  stays B M lists S t accepted ch = ch.touched

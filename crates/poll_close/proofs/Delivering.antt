@@ -10,17 +10,17 @@ use Rattle.step_machine.specs.Entries.{reported}
 use Rattle.step_machine.specs.Legal.{Kept}
 use Rattle.step_machine.specs.Runs.{Happens, Run, RunFrom}
 use Rattle.step_machine.proofs.Running.{shape_of, kept-happens, kept-unrun}
-use Rattle.poll_close.specs.Layout.{opening_of, senders_from}
-use Rattle.poll_close.specs.Laws.{Ring, Meaning, Accepted, AreShort, Opens, Keeps, Cleans}
+use Rattle.poll_close.specs.Layout.{Layout, opening_at, senders_from}
+use Rattle.poll_close.specs.Laws.{Ring, Meaning, AcceptedAt, AreShort, Opens, Keeps, Cleans}
 use Rattle.poll_close.specs.Delivery.{Delivers}
 
 -- what has been known of a history since its opening
-pub record Known (ring : Ring) (means : Meaning) (B M : ℕ) (lists : List (List ℕ)) (S : ℕ) (t : History) : Type 0 where
-  pub opening : t.opening ≡ opening_of ring.sender ring.receiver lists S
+pub record Known (ring : Ring) (means : Meaning) (B M : ℕ) (lists : List (List ℕ)) (S : Layout) (t : History) : Type 0 where
+  pub opening : t.opening ≡ opening_at ring.sender ring.receiver lists S
   pub kept : Kept B M t
   pub meant : means B M lists S t
 
-module _ (ring : Ring) (means : Meaning) (keeps : Keeps ring means) (B M : ℕ) (lists : List (List ℕ)) (S : ℕ) (accepted : Accepted ring M lists S) where
+module _ (ring : Ring) (means : Meaning) (keeps : Keeps ring means) (B M : ℕ) (lists : List (List ℕ)) (S : Layout) (accepted : AcceptedAt ring M lists S) where
   pub known-happens : (t : History) (ev : Event) (o : Outcome) (new : History) → Known ring means B M lists S t → Happens B M t ev o new → Known ring means B M lists S new
   unfolding Keeps
   known-happens t ev o new known h =
@@ -34,28 +34,34 @@ module _ (ring : Ring) (means : Meaning) (keeps : Keeps ring means) (B M : ℕ) 
   known-run t [] new known run = subst (Known ring means B M lists S) (sym run) known
   known-run t (ev ∷ evs) new known run = known-run run.1 evs new (known-happens t ev run.0 run.1 known run.2) run.3
 
-pub delivers : (ring : Ring) (means : Meaning) (B M : ℕ) (lists : List (List ℕ)) (S : ℕ) (evs : List Event) (t : History) (o : Start) (reports : List Report) → Opens ring means → Keeps ring means → Cleans ring means → Accepted ring M lists S → o ≡ opening_of ring.sender ring.receiver lists S → Run B M o evs t → reports ≡ reported 0 t.entries → Delivers B M o lists evs reports
+pub run-known : (ring : Ring) (means : Meaning) (B M : ℕ) (lists : List (List ℕ)) (S : Layout) (evs : List Event) (t : History) → Opens ring means → Keeps ring means → AcceptedAt ring M lists S → Run B M (opening_at ring.sender ring.receiver lists S) evs t → Known ring means B M lists S t
+unfolding Opens
+run-known ring means B M lists S evs t opens keeps accepted run =
+    let o : Start = opening_at ring.sender ring.receiver lists S in
+    known-run ring means keeps B M lists S accepted (unrun o) evs t (record { opening = refl; kept = kept-unrun B M o; meant = opens B M lists S accepted }) run
+
+pub delivers : (ring : Ring) (means : Meaning) (B M : ℕ) (lists : List (List ℕ)) (S : Layout) (evs : List Event) (t : History) (o : Start) (reports : List Report) → Opens ring means → Keeps ring means → Cleans ring means → AcceptedAt ring M lists S → o ≡ opening_at ring.sender ring.receiver lists S → Run B M o evs t → reports ≡ reported 0 t.entries → Delivers B M o lists evs reports
 unfolding Opens
 delivers ring means B M lists S evs t o reports opens keeps cleans accepted is run answer =
     let first : Known ring means B M lists S (unrun o) = record { opening = is; kept = kept-unrun B M o; meant = subst (λ (p : Start). means B M lists S (unrun p)) (sym is) (opens B M lists S accepted) } in
     let last : Known ring means B M lists S t = known-run ring means keeps B M lists S accepted (unrun o) evs t first run in
     record { history = t; run = run; answer = answer; clean = rw answer (cleans B M lists S t accepted last.opening last.kept last.meant) }
 
-senders-short : (code : List ℕ) (S i : ℕ) (lists : List (List ℕ)) → length code ≤ 4096 → All IsShort (senders_from code S i lists)
+senders-short : (code : List ℕ) (S : Layout) (i : ℕ) (lists : List (List ℕ)) → length code ≤ 4096 → All IsShort (senders_from code S i lists)
 senders-short code S i [] short = All-nil IsShort
 senders-short code S i (ws ∷ lists) short = All-cons IsShort _ _ short (senders-short code S (i + 1) lists short)
 
-pub senders-length : (code : List ℕ) (S i : ℕ) (lists : List (List ℕ)) → length (senders_from code S i lists) ≡ length lists
+pub senders-length : (code : List ℕ) (S : Layout) (i : ℕ) (lists : List (List ℕ)) → length (senders_from code S i lists) ≡ length lists
 senders-length code S i [] = refl
 senders-length code S i (ws ∷ lists) = ap (λ n. suc n) (senders-length code S (i + 1) lists)
 
-pub channel-fits : (ring : Ring) (M : ℕ) (lists : List (List ℕ)) (S : ℕ) (o : Start) → AreShort ring → Accepted ring M lists S → o ≡ opening_of ring.sender ring.receiver lists S → FitsIn M o
+pub channel-fits : (ring : Ring) (M : ℕ) (lists : List (List ℕ)) (S : Layout) (o : Start) → AreShort ring → AcceptedAt ring M lists S → o ≡ opening_at ring.sender ring.receiver lists S → FitsIn M o
 channel-fits ring M lists S o short accepted is =
     subst (FitsIn M) (sym is) (record {
       some_hart = omega arith;
       harts = omega (arith, senders-length ring.sender S 0 lists, accepted.senders);
       code = All-cons IsShort _ _ short.1 (senders-short ring.sender S 0 lists short.0);
-      words = omega arith;
+      words = accepted.opens;
     })
 
 -- what holds of the value of an Ok holds of it by implication

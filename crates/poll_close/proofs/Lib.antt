@@ -14,6 +14,8 @@ pub mod Delivering
 pub mod AllBlocks
 pub mod ReceiverActs
 pub mod ChannelLaws
+pub mod Dense
+pub mod InBlocks
 pub mod Standing
 pub mod Planning
 pub mod Distance

@@ -2,13 +2,13 @@
 use Rattle.std.proofs.Common.{◌≡◌, ℕ, ◌+◌, ◌<◌, List, [], ◌∷◌, ◌++◌, length, take, get_or, map, Vec, Global, refl, sym, ◌∙◌, ap, arith, ◌≢◌, ◌^◌, ◌≤◌, All, subst}
 use Rattle.std.proofs.lemmas.List.{take_more, map-append, length-map, length-take-le, take_all, get_or-map, take-map}
 use Rattle.step_machine.specs.History.{HartStart}
-use Rattle.poll_close.specs.Layout.{sender_registers, senders_from}
+use Rattle.poll_close.specs.Layout.{Layout, sender_registers, senders_from}
 use Rattle.std.specs.Prelude.{slice_index}
 use Rattle.std.proofs.lemmas.List.Elements.{All-push}
 use Rattle.poll_close.specs.Laws.{AreWords}
 use Rattle.poll_close.specs.Refusals.{ZeroAt, ZeroWordAt}
 
-pub senders-last : (code : List ℕ) (S j : ℕ) (lists : List (List ℕ)) (ws : List ℕ) (i : ℕ) → i ≡ j + length lists → senders_from code S j (lists ++ ws ∷ []) ≡ senders_from code S j lists ++ record { code = code; registers = sender_registers S i; inbox = ws } ∷ []
+pub senders-last : (code : List ℕ) (S : Layout) (j : ℕ) (lists : List (List ℕ)) (ws : List ℕ) (i : ℕ) → i ≡ j + length lists → senders_from code S j (lists ++ ws ∷ []) ≡ senders_from code S j lists ++ record { code = code; registers = sender_registers S i; inbox = ws } ∷ []
 senders-last code S j [] ws i at = let same : j ≡ i = omega arith in rw same refl
 senders-last code S j (xs ∷ lists) ws i at = ap (λ hs. record { code = code; registers = sender_registers S j; inbox = xs } ∷ hs) (senders-last code S (j + 1) lists ws i (omega arith))
 
@@ -19,7 +19,7 @@ abbrev hart_with : List ℕ → List ℕ → List ℕ → HartStart
 hart_with code registers inbox = record { code = code; registers = registers; inbox = inbox }
 
 -- the loop has made one sender more
-pub senders-more : (lists : List (Vec ℕ Global)) (code : List ℕ) (S i : ℕ) (harts new : List HartStart) (list : Vec ℕ Global) (h : HartStart) → i < length lists → list ≡ get_or lists i list → harts ≡ senders_from code S 0 (map items_of (take i lists)) → new ≡ harts ++ h ∷ [] → h.code ≡ code → h.registers ≡ sender_registers S i → h.inbox ≡ list.items → new ≡ senders_from code S 0 (map items_of (take (i + 1) lists))
+pub senders-more : (lists : List (Vec ℕ Global)) (code : List ℕ) (S : Layout) (i : ℕ) (harts new : List HartStart) (list : Vec ℕ Global) (h : HartStart) → i < length lists → list ≡ get_or lists i list → harts ≡ senders_from code S 0 (map items_of (take i lists)) → new ≡ harts ++ h ∷ [] → h.code ≡ code → h.registers ≡ sender_registers S i → h.inbox ≡ list.items → new ≡ senders_from code S 0 (map items_of (take (i + 1) lists))
 senders-more lists code S i harts new list h within is so_far pushed same_code same_registers same_inbox =
     let whole : h ≡ record { code = code; registers = sender_registers S i; inbox = list.items } = ap (λ x. hart_with x h.registers h.inbox) same_code ∙ ap (λ x. hart_with code x h.inbox) same_registers ∙ ap (λ x. hart_with code (sender_registers S i) x) same_inbox in
     let count : i ≡ 0 + length (map items_of (take i lists)) = omega (arith, length-map (take i lists) items_of, length-take-le i lists (omega arith)) in

@@ -104,7 +104,7 @@ module _ (m : BlockMeaning) (g : Sender m) (k : Block) (n : Count m) (word : ℕ
     pub there : ℕ
     pub made : m.sender.Own
     pub written : Written
-    pub plain : IsNoAmo wanted
+    pub plain : IsNoAmo (IsWordOf k) wanted
     pub wants : need_of (now here) ≡ wanted
     pub leaves : advanced (now here) v ≡ stands m.sender k there made written
     pub order : m.Ordered k (record n { sender = made })
@@ -121,7 +121,7 @@ module _ (m : BlockMeaning) (g : Sender m) (k : Block) (n : Count m) (word : ℕ
 
   -- an act by a line; and by one that changes no number
   abbrev pub GoesBy : ℕ → Type 0
-  GoesBy here = (there : ℕ) (wanted : Need) (made : m.sender.Own) (written : ℕ → Written) → IsNoAmo wanted → Line (now here) wanted (λ w. stands m.sender k there made (written w)) → m.Ordered k (record n { sender = made }) → unsent_of m k n ++ stored_by wanted ≡ m.unsent k made n.landed → Holds m.sender there k made (written v) → (Free here → Nearer here there made (written v)) → Finds here → Goes here
+  GoesBy here = (there : ℕ) (wanted : Need) (made : m.sender.Own) (written : ℕ → Written) → IsNoAmo (IsWordOf k) wanted → Line (now here) wanted (λ w. stands m.sender k there made (written w)) → m.Ordered k (record n { sender = made }) → unsent_of m k n ++ stored_by wanted ≡ m.unsent k made n.landed → Holds m.sender there k made (written v) → (Free here → Nearer here there made (written v)) → Finds here → Goes here
 
   abbrev pub Still : ℕ → Type 0
   Still here = (there : ℕ) (written : Written) → Line (now here) need.Inner (λ w. stands m.sender k there n.sender written) → Holds m.sender there k n.sender written → Nearer here there n.sender written → Finds here → Goes here
@@ -157,7 +157,7 @@ module _ (m : BlockMeaning) (g : Sender m) (reasons : (k : Block) (n : Count m) 
       let wants : need_of s ≡ a.wanted = ap need_of st.is ∙ a.wants in
       record {
         after = a.made;
-        plain = subst IsNoAmo (sym wants) a.plain;
+        plain = subst (IsNoAmo (IsWordOf k)) (sym wants) a.plain;
         stands = record { place = a.there; written = a.written; is = ap (λ z. advanced z v) st.is ∙ a.leaves; holds = a.holds };
         order = a.order;
         unsent = ap (λ w. unsent_of m k n ++ stored_by w) wants ∙ a.unsent;

@@ -24,11 +24,12 @@ use Rattle.hart.specs.declared.need.Report.{Report}
 use Rattle.hart.specs.declared.need.Report.TheVariants as report
 use Rattle.std.specs.Prelude.{map}
 use Rattle.std.specs.List.{slice_get, slice_index_or}
-use Rattle.poll_close.specs.Laws.{Ring, Meaning, Accepted, Opens, Keeps, Cleans}
+use Rattle.poll_close.specs.Laws.{Ring, Meaning, Accepted, AcceptedAt, Opens, Keeps, Cleans}
 use Rattle.poll_close.specs.Reports.{taken, Clean}
 use Rattle.poll_close.specs.Standing.{Stands, lists_of}
+use Rattle.poll_close.proofs.Dense.{dense-accepted}
 use Rattle.poll_close.proofs.Standing.{inboxes, stands-opens, stands-happens, stands-run, stands-clean}
-use Rattle.poll_close.specs.Layout.{opening_of, senders_from}
+use Rattle.poll_close.specs.Layout.{Layout, dense, opening_at, opening_of, senders_from}
 use Rattle.poll_close.specs.Delivery.{DeliversWhole}
 use Rattle.poll_close.proofs.Delivering.{senders-length}
 use Rattle.poll_close.proofs.CleanReports.{closed_whole}
@@ -283,7 +284,7 @@ open_where_word ring means B M t cleans s word = at (is_done t) refl
         ]
 
 -- the reports after the events and the plan
-pub whole_delivered : (ring : Ring) (means : Meaning) (B M : ℕ) (lists : List (List ℕ)) (S : ℕ) (o : Start) (events plan : List Event) (mid new : History) (reports : List Report) → o ≡ opening_of ring.sender ring.receiver lists S → Run B M o events mid → RunFrom B M mid plan new → Finishes B M mid plan → (is_done mid ≡ true → plan ≡ []) → new.opening ≡ o → reports ≡ reported 0 new.entries → Clean reports (lists_of new.opening) → DeliversWhole B M o lists events reports
+pub whole_delivered : (ring : Ring) (means : Meaning) (B M : ℕ) (lists : List (List ℕ)) (S : Layout) (o : Start) (events plan : List Event) (mid new : History) (reports : List Report) → o ≡ opening_at ring.sender ring.receiver lists S → Run B M o events mid → RunFrom B M mid plan new → Finishes B M mid plan → (is_done mid ≡ true → plan ≡ []) → new.opening ≡ o → reports ≡ reported 0 new.entries → Clean reports (lists_of new.opening) → DeliversWhole B M o lists events reports
 whole_delivered ring means B M lists S o events plan mid new reports opens first second finishes none same answer clean =
     let lists_is : lists_of new.opening ≡ lists = ap lists_of (same ∙ opens) ∙ inboxes ring.sender S 0 lists in
     let harts : length new.opening.harts ≡ suc (length (senders_from ring.sender S 0 lists)) = ap (λ (p : Start). length p.harts) (same ∙ opens) in
@@ -379,6 +380,9 @@ module _ (ring : Ring) (means : Meaning) (left next : ℕ → History → ℕ) (
       record { events = end.0; finishes = planned-done ring means B M start end.0 end.1 cleans end.2 end.3 }
 
 -- so from every state that events lead to
-pub run_can_finish : (ring : Ring) (means : Meaning) (left next : ℕ → History → ℕ) → Opens ring means → Keeps ring means → Cleans ring means → Nears ring means left next → (B M : ℕ) (lists : List (List ℕ)) (S : ℕ) (evs : List Event) (t : History) → 1 ≤ B → Accepted ring M lists S → Run B M (opening_of ring.sender ring.receiver lists S) evs t → CanFinish B M t
+pub run_can_finish : (ring : Ring) (means : Meaning) (left next : ℕ → History → ℕ) → Opens ring means → Keeps ring means → Cleans ring means → Nears ring means left next → (B M : ℕ) (lists : List (List ℕ)) (S : Layout) (evs : List Event) (t : History) → 1 ≤ B → AcceptedAt ring M lists S → Run B M (opening_at ring.sender ring.receiver lists S) evs t → CanFinish B M t
 run_can_finish ring means left next opens keeps cleans nears B M lists S evs t some accepted run =
-    can_finish ring means left next keeps cleans nears B M some t (stands-run ring means B M (unrun (opening_of ring.sender ring.receiver lists S)) evs t keeps (stands-opens ring means B M lists S (unrun (opening_of ring.sender ring.receiver lists S)) opens accepted refl) run)
+    can_finish ring means left next keeps cleans nears B M some t (stands-run ring means B M (unrun (opening_at ring.sender ring.receiver lists S)) evs t keeps (stands-opens ring means B M lists S (unrun (opening_at ring.sender ring.receiver lists S)) opens accepted refl) run)
+
+pub dense_can_finish : (ring : Ring) (means : Meaning) (left next : ℕ → History → ℕ) → Opens ring means → Keeps ring means → Cleans ring means → Nears ring means left next → (B M : ℕ) (lists : List (List ℕ)) (S : ℕ) (evs : List Event) (t : History) → 1 ≤ B → Accepted ring M lists S → Run B M (opening_of ring.sender ring.receiver lists S) evs t → CanFinish B M t
+dense_can_finish ring means left next opens keeps cleans nears B M lists S evs t some accepted run = run_can_finish ring means left next opens keeps cleans nears B M lists (dense S) evs t some (dense-accepted ring M lists S accepted) run

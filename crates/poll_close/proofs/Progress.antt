@@ -27,9 +27,9 @@ use Rattle.step_machine.specs.Runs.{IsFor, CanFollow, NoEntry}
 use Rattle.step_machine.proofs.Appended.{reported-last}
 use Rattle.step_machine.proofs.Stays.{states_land}
 use Rattle.step_machine.proofs.Acts.{HasToWait, decide, does}
-use Rattle.poll_close.specs.Layout.{opening_of}
+use Rattle.poll_close.specs.Layout.{Layout, opening_at}
 use Rattle.poll_close.specs.Reports.{taken, sender_of, Clean}
-use Rattle.poll_close.specs.Laws.{Accepted, Keeps}
+use Rattle.poll_close.specs.Laws.{AcceptedAt, Keeps}
 use Rattle.poll_close.specs.Standing.{lists_of}
 use Rattle.poll_close.specs.Paces.{Pace, Around, around, Nearer, Nears, some_open, visited_by, is_running, runs, far_of, far_if, left_in, left_by, ring_size, ready_if, is_ready, next_of, next_by}
 use Rattle.poll_close.specs.Plans.{AllLanded, is_closed, is_done, senders_of}
@@ -107,7 +107,10 @@ not_ready true b off on = not_false b off
 not_ready false b off on = cc
 
 -- everything that is known of a channel's history, with nothing pending
-module _ (m : BlockMeaning) (laws : BlockLaws m) (least : ℕ) (some_least : 1 ≤ least) (prog : BlockProgress m least) (B M S : ℕ) (lists : List (List ℕ)) (t : History) (some : 1 ≤ B) (accepted : Accepted (ring_by m laws least some_least) M lists S) (opening : t.opening ≡ opening_of m.sender.code (receiver_of m.middle) lists S) (kept : Kept B M t) (ch : Channel m M S lists t) (landed : AllLanded t) (open_yet : is_done t ≡ false) where
+is_equal : (a b : ℕ) → (a == b) ≡ true → a ≡ b
+is_equal a b same = grind (arith, nat_tests)
+
+module _ (m : BlockMeaning) (laws : BlockLaws m) (least : ℕ) (some_least : 1 ≤ least) (prog : BlockProgress m least) (B M : ℕ) (S : Layout) (lists : List (List ℕ)) (t : History) (some : 1 ≤ B) (accepted : AcceptedAt (ring_by m laws least some_least) M lists S) (opening : t.opening ≡ opening_at m.sender.code (receiver_of m.middle) lists S) (kept : Kept B M t) (ch : Channel m M S lists t) (landed : AllLanded t) (open_yet : is_done t ≡ false) where
   abbrev p : Pace
   p = pace_of m
 
@@ -115,7 +118,7 @@ module _ (m : BlockMeaning) (laws : BlockLaws m) (least : ℕ) (some_least : 1 �
   are = blocks (ring_by m laws least some_least) M S lists some_least accepted
 
   opens_words : OpensWithWords t.opening
-  opens_words = subst OpensWithWords (sym opening) (λ i. omega arith)
+  opens_words = subst OpensWithWords (sym opening) accepted.empty.small
 
   harts : length t.opening.harts ≡ suc (length lists)
   harts = ap (λ (o : Start). length o.harts) opening ∙ ap (λ n. suc n) (senders-length m.sender.code S 0 lists)
@@ -126,8 +129,8 @@ module _ (m : BlockMeaning) (laws : BlockLaws m) (least : ℕ) (some_least : 1 �
   lists_is : lists_of t.opening ≡ lists
   lists_is = ap lists_of opening ∙ inboxes m.sender.code S 0 lists
 
-  size_is : ring_size t.opening ≡ S
-  size_is = ap ring_size opening ∙ mul-div_cancel_left S (lit< tt)
+  size_is : ring_size t.opening ≡ S.size
+  size_is = ap ring_size opening ∙ mul-div_cancel_left S.size (lit< tt)
 
   abbrev rs : List Report
   rs = reported 0 t.entries
@@ -142,14 +145,14 @@ module _ (m : BlockMeaning) (laws : BlockLaws m) (least : ℕ) (some_least : 1 �
   unread j within = no_writes (unread_of m (block_of M S lists j) (ch.numbers j)) (sym (ch.parts j within).theirs ∙ ap (to_block (block_of M S lists j)) (quiet_buffer 0 (omega arith)))
 
   -- what is left, over the lists and the ring size of the channel
-  left_is : (new : History) → new.opening ≡ t.opening → left_by p M new ≡ left_in p (length lists) S lists (reported 0 new.entries) (λ h. state_of M new h)
+  left_is : (new : History) → new.opening ≡ t.opening → left_by p M new ≡ left_in p (length lists) S.size lists (reported 0 new.entries) (λ h. state_of M new h)
   left_is new same =
       let n : senders_of new ≡ length lists = ap (λ (o : Start). length o.harts - 1) same ∙ senders in
-      let s : ring_size new.opening ≡ S = ap ring_size same ∙ size_is in
+      let s : ring_size new.opening ≡ S.size = ap ring_size same ∙ size_is in
       let l : lists_of new.opening ≡ lists = ap lists_of same ∙ lists_is in
       rw (n, s, l) refl
 
-  left_falls : (new : History) → new.opening ≡ t.opening → left_in p (length lists) S lists (reported 0 new.entries) (λ h. state_of M new h) < left_in p (length lists) S lists rs (λ h. state_of M t h) → left_by p M new < left_by p M t
+  left_falls : (new : History) → new.opening ≡ t.opening → left_in p (length lists) S.size lists (reported 0 new.entries) (λ h. state_of M new h) < left_in p (length lists) S.size lists rs (λ h. state_of M t h) → left_by p M new < left_by p M t
   left_falls new same less = rw (left_is new same, left_is t refl) less
 
   pub landing : (u : History) (h : ℕ) → left_by p M (with_entry u (entry.Land h)) ≡ left_by p M u
@@ -177,14 +180,14 @@ module _ (m : BlockMeaning) (laws : BlockLaws m) (least : ℕ) (some_least : 1 �
 
     sender_falls : (e : Entry) → IsFor (event.Act (j + 1)) e → CanFollow B M t e → left_by p M (with_entry t e) < left_by p M t
     sender_falls e for_event can =
-        let a : Acted M t (with_entry t e) (j + 1) s (value_of e) = acted B M t (j + 1) s e kept.legal (ch.parts j within).sender.state can for_event.0 for_event.1 (sender_plain m laws M (block_of M S lists j) j t t (ch.numbers j) (are j within) (ch.parts j within)) in
+        let a : Acted M t (with_entry t e) (j + 1) s (value_of e) = acted _ B M t (j + 1) s e kept.legal (ch.parts j within).sender.state can for_event.0 for_event.1 (sender_plain m laws M (block_of M S lists j) j t t (ch.numbers j) (are j within) (ch.parts j within)) in
         let less : p.sender (advanced s (value_of e)) < p.sender s = prog.nearer (block_of M S lists j) (ch.numbers j) s (word_in_memory t.opening t.entries) (value_of e) (are j within) (ch.parts j within).order (ch.parts j within).words (ch.parts j within).sender.holds running (unsent j within) (unread j within) (λ b inside wants. a.loaded b wants ∙ act_found b inside.aligned) (not_true (p.waits s (word_in_memory t.opening t.entries)) is_on.1) in
         let said : reported 0 (with_entry t e).entries ≡ rs = a.others 0 (omega arith) in
         left_falls (with_entry t e) refl
-        (sum_falls p (length lists) S lists rs (reported 0 (with_entry t e).entries) (λ h. state_of M t h) (λ h. state_of M (with_entry t e) h) j within
-        (λ i below other. share_same p (length lists) S lists rs (reported 0 (with_entry t e).entries) (λ h. state_of M t h) (λ h. state_of M (with_entry t e) h) i (ap (λ ys. taken ys i) said) (ap (λ ys. is_closed ys i) said) (a.states (i + 1) (λ same. other (omega arith))))
-        (share_acts p (length lists) S lists rs (reported 0 (with_entry t e).entries) (λ h. state_of M t h) (λ h. state_of M (with_entry t e) h) j s (advanced s (value_of e)) said (ch.parts j within).sender.state a.state less)
-        (far_small p (length lists) S lists near (reported 0 (with_entry t e).entries) (λ h. state_of M (with_entry t e) h) (receives m.middle (whole_of receiver_block (length lists)) ch.receiver.place ch.receiver.noted) (a.states 0 (omega arith) ∙ ch.receiver.state)))
+        (sum_falls p (length lists) S.size lists rs (reported 0 (with_entry t e).entries) (λ h. state_of M t h) (λ h. state_of M (with_entry t e) h) j within
+        (λ i below other. share_same p (length lists) S.size lists rs (reported 0 (with_entry t e).entries) (λ h. state_of M t h) (λ h. state_of M (with_entry t e) h) i (ap (λ ys. taken ys i) said) (ap (λ ys. is_closed ys i) said) (a.states (i + 1) (λ same. other (omega arith))))
+        (share_acts p (length lists) S.size lists rs (reported 0 (with_entry t e).entries) (λ h. state_of M t h) (λ h. state_of M (with_entry t e) h) j s (advanced s (value_of e)) said (ch.parts j within).sender.state a.state less)
+        (far_small p (length lists) S.size lists near (reported 0 (with_entry t e).entries) (λ h. state_of M (with_entry t e) h) (receives m.middle (whole_of receiver_block (length lists)) ch.receiver.place ch.receiver.noted) (a.states 0 (omega arith) ∙ ch.receiver.state)))
 
     pub sender_nears : Nearer B M (left_by p M) t (j + 1)
     sender_nears = record {
@@ -258,7 +261,7 @@ module _ (m : BlockMeaning) (laws : BlockLaws m) (least : ℕ) (some_least : 1 �
       where
         at : (b : Bool) → (ch.receiver.place == 0x80) ≡ b → (if b then received m.middle (whole_of receiver_block (length lists)) r else receiving m.middle (whole_of receiver_block (length lists)) ch.receiver.place r).status ≡ status.Running
         at true over =
-            let end : ch.receiver.place ≡ 0x80 = grind (arith, nat_tests) in
+            let end : ch.receiver.place ≡ 0x80 = is_equal ch.receiver.place 0x80 over in
             let h : ReceiverIs m receiver_block b 0x80 (ch.numbers b).receiver r = subst (λ (here : ℕ). ReceiverIs m receiver_block b here (ch.numbers b).receiver r) end ch.receiver.holds in
             absurd (omega (arith, owing, h.1))
         at false on = refl
@@ -278,7 +281,7 @@ module _ (m : BlockMeaning) (laws : BlockLaws m) (least : ℕ) (some_least : 1 �
     receiver_falls e for_event can = by_says v_says
       where
         a : Acted M t (with_entry t e) 0 st (value_of e)
-        a = acted B M t 0 st e kept.legal ch.receiver.state can for_event.0 for_event.1 (plain_by m laws B M S lists are accepted.senders t ch.numbers kept.legal opens_words ch.written ch.parts ch.receiver ch.reports)
+        a = acted _ B M t 0 st e kept.legal ch.receiver.state can for_event.0 for_event.1 (plain_by m laws B M S lists are accepted.senders t ch.numbers kept.legal opens_words ch.written ch.parts ch.receiver ch.reports)
 
         find : Finds m receiver_block (length lists) ch.receiver.place (ch.numbers b) (word_in_memory t.opening t.entries) r (value_of e)
         find x inside wants = a.loaded x wants ∙ found m laws B M S lists are accepted.senders t ch.numbers kept.legal opens_words ch.written ch.parts ch.receiver ch.reports x inside
@@ -292,21 +295,21 @@ module _ (m : BlockMeaning) (laws : BlockLaws m) (least : ℕ) (some_least : 1 �
         silent : said_by (need_of st) ≡ [] → left_by p M (with_entry t e) < left_by p M t
         silent none =
             let said : reported 0 (with_entry t e).entries ≡ rs = a.reports ∙ ap (λ ys. rs ++ ys) none ∙ append-nil rs in
-            let less : far_of p (length lists) S rs (λ h. state_of M t h) (advanced st (value_of e)) < far_of p (length lists) S rs (λ h. state_of M t h) st = subst (λ (z : HartState). far_of p (length lists) S rs (λ h. state_of M t h) z < far_of p (length lists) S rs (λ h. state_of M t h) st) (sym move.leaves) (move.nearer (sym (ap said_by move.wants) ∙ none) rs (λ h. state_of M t h) idle_at) in
-            left_falls (with_entry t e) refl (far_falls p (length lists) S lists rs (reported 0 (with_entry t e).entries) (λ h. state_of M t h) (λ h. state_of M (with_entry t e) h) said (λ i below. a.states (i + 1) (omega arith)) (moved (advanced st (value_of e)) a.state less))
+            let less : far_of p (length lists) S.size rs (λ h. state_of M t h) (advanced st (value_of e)) < far_of p (length lists) S.size rs (λ h. state_of M t h) st = subst (λ (z : HartState). far_of p (length lists) S.size rs (λ h. state_of M t h) z < far_of p (length lists) S.size rs (λ h. state_of M t h) st) (sym move.leaves) (move.nearer (sym (ap said_by move.wants) ∙ none) rs (λ h. state_of M t h) idle_at) in
+            left_falls (with_entry t e) refl (far_falls p (length lists) S.size lists rs (reported 0 (with_entry t e).entries) (λ h. state_of M t h) (λ h. state_of M (with_entry t e) h) said (λ i below. a.states (i + 1) (omega arith)) (moved (advanced st (value_of e)) a.state less))
           where
-            moved : (next : HartState) → state_of M (with_entry t e) 0 ≡ Some next → far_of p (length lists) S rs (λ h. state_of M t h) next < far_of p (length lists) S rs (λ h. state_of M t h) st → far_if p (length lists) S rs (λ h. state_of M (with_entry t e) h) (state_of M (with_entry t e) 0) < far_if p (length lists) S rs (λ h. state_of M t h) (state_of M t 0)
-            moved next is less = rw (is, ch.receiver.state) (subst (λ o. p.receiver (around (length lists) S rs o (visited_by next)) next < far_of p (length lists) S rs (λ h. state_of M t h) st) (sym (a.states (visited_by next + 1) (omega arith))) less)
+            moved : (next : HartState) → state_of M (with_entry t e) 0 ≡ Some next → far_of p (length lists) S.size rs (λ h. state_of M t h) next < far_of p (length lists) S.size rs (λ h. state_of M t h) st → far_if p (length lists) S.size rs (λ h. state_of M (with_entry t e) h) (state_of M (with_entry t e) 0) < far_if p (length lists) S.size rs (λ h. state_of M t h) (state_of M t 0)
+            moved next is less = rw (is, ch.receiver.state) (subst (λ o. p.receiver (around (length lists) S.size rs o (visited_by next)) next < far_of p (length lists) S.size rs (λ h. state_of M t h) st) (sym (a.states (visited_by next + 1) (omega arith))) less)
 
         tells : (x : Report) → said_by (need_of st) ≡ x ∷ [] → sender_of x ≡ b → left_by p M (with_entry t e) < left_by p M t
         tells x one from =
             let said : reported 0 (with_entry t e).entries ≡ rs ++ x ∷ [] = a.reports ∙ ap (λ ys. rs ++ ys) one in
             left_falls (with_entry t e) refl
-            (subst (λ (ys : List Report). left_in p (length lists) S lists ys (λ h. state_of M (with_entry t e) h) < left_in p (length lists) S lists rs (λ h. state_of M t h)) (sym said)
-            (sum_falls p (length lists) S lists rs (rs ++ x ∷ []) (λ h. state_of M t h) (λ h. state_of M (with_entry t e) h) b ch.receiver.known
-            (λ i below other. share_same p (length lists) S lists rs (rs ++ x ∷ []) (λ h. state_of M t h) (λ h. state_of M (with_entry t e) h) i (taken_other rs i x (λ same. other (sym same ∙ from))) (closed_other rs x i (λ same. other (sym same ∙ from))) (a.states (i + 1) (omega arith)))
+            (subst (λ (ys : List Report). left_in p (length lists) S.size lists ys (λ h. state_of M (with_entry t e) h) < left_in p (length lists) S.size lists rs (λ h. state_of M t h)) (sym said)
+            (sum_falls p (length lists) S.size lists rs (rs ++ x ∷ []) (λ h. state_of M t h) (λ h. state_of M (with_entry t e) h) b ch.receiver.known
+            (λ i below other. share_same p (length lists) S.size lists rs (rs ++ x ∷ []) (λ h. state_of M t h) (λ h. state_of M (with_entry t e) h) i (taken_other rs i x (λ same. other (sym same ∙ from))) (closed_other rs x i (λ same. other (sym same ∙ from))) (a.states (i + 1) (omega arith)))
             (report_falls p lists rs (λ h. state_of M t h) (λ h. state_of M (with_entry t e) h) b (a.states (b + 1) (omega arith)) x from (subst (λ (ys : List Report). Clean ys lists) said after.reports.clean))
-            (far_small p (length lists) S lists near (rs ++ x ∷ []) (λ h. state_of M (with_entry t e) h) (receives m.middle (whole_of (block_of M S lists after.receiver.block) (length lists)) after.receiver.place after.receiver.noted) after.receiver.state)))
+            (far_small p (length lists) S.size lists near (rs ++ x ∷ []) (λ h. state_of M (with_entry t e) h) (receives m.middle (whole_of (block_of M S lists after.receiver.block) (length lists)) after.receiver.place after.receiver.noted) after.receiver.state)))
 
         v_says : Says m receiver_block b (ch.numbers b).receiver move.after (said_by (need_of st))
         v_says = subst (λ (w : Need). Says m receiver_block b (ch.numbers b).receiver move.after (said_by w)) (sym move.wants) move.says
@@ -333,4 +336,4 @@ module _ (m : BlockMeaning) (laws : BlockLaws m) (least : ℕ) (some_least : 1 �
 
 pub nears : (m : BlockMeaning) (laws : BlockLaws m) (least : ℕ) (some_least : 1 ≤ least) → BlockProgress m least → Nears (ring_by m laws least some_least) (means_by m) (left_by (pace_of m)) (next_by (pace_of m))
 unfolding Nears
-nears m laws least some_least prog B M t some stands landed open_yet = hart_nears m laws least some_least prog B M stands.opens.size stands.opens.lists t some stands.opens.accepted stands.opens.opening stands.kept stands.meant landed open_yet
+nears m laws least some_least prog B M t some stands landed open_yet = hart_nears m laws least some_least prog B M stands.opens.layout stands.opens.lists t some stands.opens.accepted stands.opens.opening stands.kept stands.meant landed open_yet

@@ -21,15 +21,17 @@ use Rattle.memory.specs.Writes.{newest_word}
 use Rattle.step_machine.specs.Paths.{value_of}
 use Rattle.step_machine.specs.Legal.{Legal}
 use Rattle.step_machine.specs.Runs.{CanFollow}
+use Rattle.poll_close.specs.Layout.{Layout}
 use Rattle.poll_close.specs.Reports.{taken, sender_of, IsPrefixOf}
 use Rattle.poll_close.specs.Going.{GoesOn}
+use Rattle.poll_close.specs.Touching.{Touches}
 use Rattle.poll_close.specs.Invariant.Blocks.{block_of, as_write, as_writes, to_block}
 use Rattle.poll_close.specs.Invariant.ReceiverState.{Noted, whole_of, receives, due}
 use Rattle.poll_close.specs.Invariant.BlockMeaning.{BlockMeaning, Count, unread_of, Quiet, ReceiverIs}
 use Rattle.poll_close.specs.Invariant.Channels.{BlockPart, ReceiverPart, ReportsOf, ReportPart, shuts}
 use Rattle.poll_close.proofs.Acts.{Acted, Plain, acted, going, stored_by, said_by}
 use Rattle.poll_close.proofs.Windows.{get_end}
-use Rattle.poll_close.proofs.Blocks.{IsBlock, Within, IsWordOf, IsStore, IsStore-whole, newest-as_writes, apart, to_block-stored, to_block-elsewhere, newest-to_block, put, put_same, put_other}
+use Rattle.poll_close.proofs.Blocks.{IsBlock, Within, IsWordOf, word_end, IsStore, IsStore-whole, newest-as_writes, apart, to_block-stored, to_block-elsewhere, newest-to_block, put, put_same, put_other}
 use Rattle.poll_close.proofs.BlockLaws.{BlockLaws, seen_at, Says, Comes, Receives, Finds}
 use Rattle.poll_close.proofs.ReceiverMoves.{receives_on}
 use Rattle.poll_close.proofs.ReceiverStays.{shuts_same}
@@ -67,14 +69,14 @@ shuts_most m f zero each = omega arith
 shuts_most m f (suc i) each = omega (arith, each i (omega arith), shuts_most m f i (λ j less. each j (omega arith)))
 
 -- the channel after the receiver's act
-pub record Received (m : BlockMeaning) (M S : ℕ) (lists : List (List ℕ)) (new : History) : Type 0 where
+pub record Received (m : BlockMeaning) (M : ℕ) (S : Layout) (lists : List (List ℕ)) (new : History) : Type 0 where
   pub numbers : ℕ → Count m
   pub parts : (i : ℕ) → i < length lists → BlockPart m (block_of M S lists i) M i new (numbers i)
   pub receiver : ReceiverPart m M S lists new numbers
   pub reports : ReportPart m lists (reported 0 new.entries) numbers
 
 -- what is reported, where the receiver visits a block
-module _ (m : BlockMeaning) (M S : ℕ) (lists : List (List ℕ)) (f : ℕ → Count m) (b : ℕ) (known : b < length lists) (rs : List Report) (told : ReportPart m lists rs f) where
+module _ (m : BlockMeaning) (M : ℕ) (S : Layout) (lists : List (List ℕ)) (f : ℕ → Count m) (b : ℕ) (known : b < length lists) (rs : List Report) (told : ReportPart m lists rs f) where
   told_put : (now : List Report) (n : Count m) → ReportsOf now b (slice_index_or lists b []) (m.took n.receiver) (m.shut n.receiver) → ((j : ℕ) → j < length lists → j ≢ b → ReportsOf now j (slice_index_or lists j []) (m.took (f j).receiver) (m.shut (f j).receiver)) → (j : ℕ) → j < length lists → ReportsOf now j (slice_index_or lists j []) (m.took (put f b n j).receiver) (m.shut (put f b n j).receiver)
   told_put now n one others j within =
       elim (cases_eq j b) [
@@ -115,7 +117,7 @@ module _ (m : BlockMeaning) (M S : ℕ) (lists : List (List ℕ)) (f : ℕ → C
       (rw (closing.1, closing.2) (told_closed rs b (slice_index_or lists b []) (m.took (f b).receiver) (m.shut (f b).receiver) (told.senders b known)))
       (λ i is. subst (λ (j : ℕ). taken rs j ≡ slice_index_or lists j []) (ap sender_of is) ((told.senders b known).words ∙ ap (λ c. take c (slice_index_or lists b [])) closing.3 ∙ take-length (slice_index_or lists b []))))
 
-module _ (m : BlockMeaning) (laws : BlockLaws m) (B M S : ℕ) (lists : List (List ℕ)) (are : (i : ℕ) → i < length lists → IsBlock (block_of M S lists i)) (few : length lists ≤ 63) (t : History) (f : ℕ → Count m) (legal : Legal B t) (opens : OpensWithWords t.opening) (written : AllWriteWords t.entries) (parts : (i : ℕ) → i < length lists → BlockPart m (block_of M S lists i) M i t (f i)) (part : ReceiverPart m M S lists t f) (told : ReportPart m lists (reported 0 t.entries) f) where
+module _ (m : BlockMeaning) (laws : BlockLaws m) (B M : ℕ) (S : Layout) (lists : List (List ℕ)) (are : (i : ℕ) → i < length lists → IsBlock (block_of M S lists i)) (few : length lists ≤ 63) (t : History) (f : ℕ → Count m) (legal : Legal B t) (opens : OpensWithWords t.opening) (written : AllWriteWords t.entries) (parts : (i : ℕ) → i < length lists → BlockPart m (block_of M S lists i) M i t (f i)) (part : ReceiverPart m M S lists t f) (told : ReportPart m lists (reported 0 t.entries) f) where
   pub each_shut : (j : ℕ) → j < length lists → m.shut (f j).receiver ≤ 1
   each_shut j within = omega (arith, laws.shut_done (block_of M S lists j) (f j) (parts j within).order, laws.dones_one (block_of M S lists j) (f j) (parts j within).order)
 
@@ -141,15 +143,17 @@ module _ (m : BlockMeaning) (laws : BlockLaws m) (B M S : ℕ) (lists : List (Li
   stored_is : (v : ℕ) (r : Receives m (block_of M S lists part.block) part.block (length lists) part.place (f part.block) part.noted v) (x : ℕ × ℕ) → stored_by r.wanted ≡ x ∷ [] → IsStore (block_of M S lists part.block) x
   stored_is v r x one = laws.unread_are (block_of M S lists part.block) (record (f part.block) { receiver = r.after }) (are part.block part.known) r.changes.order (length (unread_of m (block_of M S lists part.block) (f part.block))) x (ap (λ ps. slice_get ps (length (unread_of m (block_of M S lists part.block) (f part.block)))) (sym r.changes.unread ∙ ap (λ ps. unread_of m (block_of M S lists part.block) (f part.block) ++ ps) one) ∙ get_end (unread_of m (block_of M S lists part.block) (f part.block)) x)
 
-  pub plain_by : (receives m.middle (whole_of (block_of M S lists part.block) (length lists)) part.place part.noted).status ≡ status.Running → Plain (need_of (receives m.middle (whole_of (block_of M S lists part.block) (length lists)) part.place part.noted))
+  pub plain_by : (receives m.middle (whole_of (block_of M S lists part.block) (length lists)) part.place part.noted).status ≡ status.Running → Plain (IsWordOf (block_of M S lists part.block)) (need_of (receives m.middle (whole_of (block_of M S lists part.block) (length lists)) part.place part.noted))
   plain_by runs =
       let seen : ℕ → ℕ = seen_at m (block_of M S lists part.block) (f part.block) (word_in_memory t.opening t.entries) in
       let v : ℕ = would_read seen (need_of (receives m.middle (whole_of (block_of M S lists part.block) (length lists)) part.place part.noted)) in
       let r : Receives m (block_of M S lists part.block) part.block (length lists) part.place (f part.block) part.noted v = moves_by v runs (λ a inside wants. ap (would_read seen) wants) in
-      subst Plain (sym r.wants) (record { no_amo = r.plain; whole = λ x one. IsStore-whole (block_of M S lists part.block) x (stored_is v r x one) })
+      subst (Plain (IsWordOf (block_of M S lists part.block))) (sym r.wants) (record { no_amo = r.plain; whole = λ x one. IsStore-whole (block_of M S lists part.block) x (stored_is v r x one) })
 
-  pub receiver_goes_on : (e : Entry) → CanFollow B M t e → hart_of e ≡ 0 → is_land e ≡ false → GoesOn e × WritesWord (access_of e)
-  receiver_goes_on e can mine alone = going B M t 0 (receives m.middle (whole_of (block_of M S lists part.block) (length lists)) part.place part.noted) e part.state can mine alone plain_by
+  pub receiver_goes_on : (e : Entry) → CanFollow B M t e → hart_of e ≡ 0 → is_land e ≡ false → GoesOn e × WritesWord (access_of e) × Touches S (length lists) e
+  receiver_goes_on e can mine alone =
+      going _ S (length lists) B M t 0 (receives m.middle (whole_of (block_of M S lists part.block) (length lists)) part.place part.noted) e part.state can mine alone plain_by
+      (λ a word. record { block = part.block; known = part.known; own = inl refl; from = word.within.from; below = word_end (block_of M S lists part.block) (are part.block part.known) a word })
 
   -- all are quiet once the visited block is
   all_quiet : (n : Count m) → Quiet m n.receiver → (j : ℕ) → j < length lists → Quiet m (put f part.block n j).receiver
@@ -191,7 +195,7 @@ module _ (m : BlockMeaning) (laws : BlockLaws m) (B M S : ℕ) (lists : List (Li
         subst (λ (z : Count m). BlockPart m (block_of M S lists i) M i new z) (sym (put_other f part.block n i other)) (untouched m laws M (block_of M S lists i) i t new (f i) (are i within) (parts i within) (record {
           state = a.states (i + 1) (λ zero_is. omega arith);
           buffer = a.buffers (i + 1) (λ zero_is. omega arith);
-          theirs = ap (to_block (block_of M S lists i)) (a.buffer ∙ ap (λ w. pending 0 t.entries ++ as_writes (stored_by w)) r.wants) ∙ to_block-elsewhere (block_of M S lists i) (pending 0 t.entries) (stored_by r.wanted) (stored_cases r.wanted) (λ x one here. apart M S lists i part.block x.0 other here (inside x one));
+          theirs = ap (to_block (block_of M S lists i)) (a.buffer ∙ ap (λ w. pending 0 t.entries ++ as_writes (stored_by w)) r.wants) ∙ to_block-elsewhere (block_of M S lists i) (pending 0 t.entries) (stored_by r.wanted) (stored_cases r.wanted) (λ x one here. apart M S lists i part.block x.0 (are part.block part.known).room other here (inside x one));
           memory = λ x here. a.memory x;
         }))
 
@@ -228,5 +232,5 @@ module _ (m : BlockMeaning) (laws : BlockLaws m) (B M S : ℕ) (lists : List (Li
   pub receiver_acts : (e : Entry) → CanFollow B M t e → hart_of e ≡ 0 → is_land e ≡ false → Received m M S lists (with_entry t e)
   receiver_acts e can mine alone =
       let s : HartState = receives m.middle (whole_of (block_of M S lists part.block) (length lists)) part.place part.noted in
-      let a : Acted M t (with_entry t e) 0 s (value_of e) = acted B M t 0 s e legal part.state can mine alone plain_by in
+      let a : Acted M t (with_entry t e) 0 s (value_of e) = acted _ B M t 0 s e legal part.state can mine alone plain_by in
       received (with_entry t e) (value_of e) a (moves_by (value_of e) a.running (λ b inside wants. a.loaded b wants ∙ found b inside))

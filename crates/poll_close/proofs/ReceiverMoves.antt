@@ -26,11 +26,10 @@ use Rattle.std.proofs.lemmas.Bool.Decides.{nat_tests}
 use Rattle.std.proofs.lemmas.Nat.{row_fits}
 use Rattle.hart.specs.declared.status.Status.TheVariants as status
 use Rattle.hart.specs.declared.need.Report.TheVariants as report
-use Rattle.poll_close.specs.Layout.{block_size}
 use Rattle.poll_close.specs.Paces.{rest_from, runs}
 use Rattle.poll_close.specs.Plans.{is_closed}
 use Rattle.poll_close.proofs.Modulo.{offset_step, offset_wrap}
-use Rattle.poll_close.proofs.Blocks.{IsBlock, offset_low, word_of}
+use Rattle.poll_close.proofs.Blocks.{IsBlock, IsWordOf, offset_low, word_of, word_from}
 use Rattle.poll_close.proofs.Outlines.{also, found}
 use Rattle.poll_close.proofs.Distance.{flags, not_stale, far_off, arrives, wraps}
 
@@ -90,7 +89,7 @@ module _ (m : BlockMeaning) (k : Block) (i count : ℕ) (n : Count m) (order : m
   unchanged = record { order = order; unread = append-nil (unread_of m k n) }
 
   -- an act by a line
-  pub acts : (here there : ℕ) (wanted : Need) (noted : ℕ → Noted) (after : m.Receiver) → IsNoAmo wanted → Line (now here r) wanted (λ w. now there (noted w)) → Changes m k n after (stored_by wanted) → ReceiverIs m k i there after (noted v) ⊎ Comes m k count there after (noted v) → Says m k i n.receiver after (said_by wanted) → Counts here there (noted v) after → (said_by wanted ≡ [] → Nearer m k i count here there n r (noted v)) → Receives m k i count here n r v
+  pub acts : (here there : ℕ) (wanted : Need) (noted : ℕ → Noted) (after : m.Receiver) → IsNoAmo (IsWordOf k) wanted → Line (now here r) wanted (λ w. now there (noted w)) → Changes m k n after (stored_by wanted) → ReceiverIs m k i there after (noted v) ⊎ Comes m k count there after (noted v) → Says m k i n.receiver after (said_by wanted) → Counts here there (noted v) after → (said_by wanted ≡ [] → Nearer m k i count here there n r (noted v)) → Receives m k i count here n r v
   acts here there wanted noted after plain line changes holds says counts nearer = record { wanted = wanted; there = there; noted = noted v; after = after; plain = plain; wants = line.wants; leaves = line.leaves v; changes = changes; holds = holds; says = says; counts = counts; nearer = nearer }
 
   -- one inside itself
@@ -98,10 +97,10 @@ module _ (m : BlockMeaning) (k : Block) (i count : ℕ) (n : Count m) (order : m
   still here there noted counts line holds nearer = acts here there need.Inner (λ w. noted) n.receiver tt line unchanged (inl holds) (inl (refl, refl, refl)) counts (λ none. nearer)
 
   -- a load
-  pub reads : (here there a : ℕ) (noted : ℕ → Noted) → Counts here there (noted v) n.receiver → Line (now here r) (loads a) (λ w. now there (noted w)) → ReceiverIs m k i there n.receiver (noted v) → Nearer m k i count here there n r (noted v) → Receives m k i count here n r v
-  reads here there a noted counts line holds nearer = acts here there (loads a) noted n.receiver tt line unchanged (inl holds) (inl (refl, refl, refl)) counts (λ none. nearer)
+  pub reads : (here there a : ℕ) (noted : ℕ → Noted) → Counts here there (noted v) n.receiver → IsWordOf k a → Line (now here r) (loads a) (λ w. now there (noted w)) → ReceiverIs m k i there n.receiver (noted v) → Nearer m k i count here there n r (noted v) → Receives m k i count here n r v
+  reads here there a noted counts word line holds nearer = acts here there (loads a) noted n.receiver (tt, word) line unchanged (inl holds) (inl (refl, refl, refl)) counts (λ none. nearer)
 
-  module _ (laws : BlockLaws m) (is : IsBlock k) (base : k.base ≡ i * block_size k.size) (known : i < count) (few : count ≤ 63) (word_at : ℕ → ℕ) (words : m.Words k n.landed word_at) where
+  module _ (laws : BlockLaws m) (is : IsBlock k) (base : k.base ≡ k.first + i * k.stride) (known : i < count) (few : count ≤ 63) (word_at : ℕ → ℕ) (words : m.Words k n.landed word_at) where
     abbrev Right_here : ℕ → Type 0
     Right_here here = Right_at m k i count n word_at r v here
 
@@ -109,7 +108,7 @@ module _ (m : BlockMeaning) (k : Block) (i count : ℕ) (n : Count m) (order : m
     o = n.receiver
 
     right_00 : Right_here 0x00  -- round: addi x8,x21,0
-    right_00 h z = still 0x00 0x04 (record r { x8 = 0 }) refl (add_line (at 0 refl) (word_plus 0 0 (lit< tt))) (h, refl) (λ rs states idle. omega arith)
+    right_00 h z = still 0x00 0x04 (record r { x8 = k.first }) refl (add_line (at 0 refl) (word_plus k.first 0 (omega (arith, is.first, is.next)) ∙ add-zero k.first)) (h, refl) (λ rs states idle. omega arith)
 
     right_04 : Right_here 0x04  -- addi x22,x0,0
     right_04 h z =
@@ -122,7 +121,7 @@ module _ (m : BlockMeaning) (k : Block) (i count : ℕ) (n : Count m) (order : m
     right_08 h z =
         let line = load_line (at 2 refl) (omega (arith, is.even, h.1.base)) refl (omega (arith, is.inside, is.some_slot, h.1.base)) is.small in
         let found = z.find (k.base + 12) (word_of k is 12 (omega arith) refl) (line.wants ∙ ap (λ b. loads (b + 12)) h.1.base) in
-        reads 0x08 0x0C (r.x8 + 12) (λ w. record r { x5 = w }) refl line
+        reads 0x08 0x0C (r.x8 + 12) (λ w. record r { x5 = w }) refl (word_from k is r.x8 12 h.1.base (omega arith) refl) line
         (h.0, h.1, found ∙ laws.sees_done k n word_at order words)
         (λ rs states idle. flags 16 17 21 22 (is_closed rs r.x22) (is_closed rs r.x22) (omega arith) (far_off rs count (r.x22 + 1)) (λ on. on))
 
@@ -141,7 +140,7 @@ module _ (m : BlockMeaning) (k : Block) (i count : ℕ) (n : Count m) (order : m
         let line = load_line (at 4 refl) (omega (arith, is.even, h.visits.base)) refl (omega (arith, is.inside, is.some_slot, h.visits.base)) is.small in
         let read : v ≡ m.marks n.landed = z.find (k.base + 4) (word_of k is 4 (omega arith) refl) (line.wants ∙ ap (λ b. loads (b + 4)) h.visits.base) ∙ laws.sees_mark k n word_at order words in
         let made = laws.reports k n (m.took o) (m.shut o) order h.quiet.level (laws.shut_done k n order) in
-        acts 0x10 0x14 (loads (r.x8 + 4)) (λ w. record r { x30 = w }) made.after tt line made.changes
+        acts 0x10 0x14 (loads (r.x8 + 4)) (λ w. record r { x30 = w }) made.after (tt, word_from k is r.x8 4 h.visits.base (omega arith) refl) line made.changes
         (inl (record { visits = h.visits; quiet = record { words = made.took ∙ h.quiet.words ∙ sym made.tails; closed = made.shut ∙ h.quiet.closed ∙ sym made.dones; level = made.level }; open_yet = made.dones ∙ h.open_yet }, flag read made.after made.mark (cases_eq (m.marks n.landed) 0)))
         (inl (refl, made.took, made.shut)) (ap (λ j. r.x20 + j + 0) made.shut)
         (λ none rs states idle. (let fresh = not_stale v (not (runs (states (r.x22 + 1)))) (λ ended. read ∙ idle.marked h.visits.index ended) in
@@ -171,7 +170,7 @@ module _ (m : BlockMeaning) (k : Block) (i count : ℕ) (n : Count m) (order : m
     right_34 h z =
         let line = store_line (at 13 refl) (omega (arith, is.even, h.0.visits.base)) refl (omega (arith, is.inside, is.some_slot, h.0.visits.base)) is.small in
         let made = laws.stores_tail k n order h.0.filled h.0.open_yet in
-        acts 0x34 0x38 (stores (r.x8 + 8) r.x7) (λ w. r) made.after tt line
+        acts 0x34 0x38 (stores (r.x8 + 8) r.x7) (λ w. r) made.after (tt, word_from k is r.x8 8 h.0.visits.base (omega arith) refl) line
         (subst (λ (x : ℕ × ℕ). Changes m k n made.after (x ∷ [])) (ap (λ b. (b + 8, offset k (m.tails o + 1))) (sym h.0.visits.base) ∙ ap (λ j. (r.x8 + 8, j)) (sym h.1)) made.changes)
         (inl (record {
           visits = h.0.visits;
@@ -220,7 +219,7 @@ module _ (m : BlockMeaning) (k : Block) (i count : ℕ) (n : Count m) (order : m
     right_50 h z =
         let line = store_line (at 20 refl) (omega (arith, is.even, h.0.visits.base)) refl (omega (arith, is.inside, is.some_slot, h.0.visits.base)) is.small in
         let made = laws.stores_done k n order h.0.quiet.level h.1 h.0.open_yet in
-        acts 0x50 0x54 (stores (r.x8 + 12) r.x5) (λ w. r) made.after tt line
+        acts 0x50 0x54 (stores (r.x8 + 12) r.x5) (λ w. r) made.after (tt, word_from k is r.x8 12 h.0.visits.base (omega arith) refl) line
         (subst (λ (x : ℕ × ℕ). Changes m k n made.after (x ∷ [])) (ap (λ b. (b + 12, 1)) (sym h.0.visits.base) ∙ ap (λ j. (r.x8 + 12, j)) (sym h.2)) made.changes)
         (inl (record { visits = h.0.visits; level = made.level; words = made.took ∙ h.0.quiet.words ∙ sym made.tails; all = made.tails ∙ h.1; done = made.dones; unsaid = made.shut ∙ h.0.quiet.closed ∙ h.0.open_yet }))
         (inl (refl, made.took, made.shut)) (ap (λ j. r.x20 + j + 0) made.shut) (λ none rs states idle. omega arith)
@@ -253,8 +252,8 @@ module _ (m : BlockMeaning) (k : Block) (i count : ℕ) (n : Count m) (order : m
 
     right_68 : Right_here 0x68  -- step: add x8,x8,x18
     right_68 h z =
-        still 0x68 0x6C (record r { x8 = r.x8 + block_size k.size }) refl (sum_line (at 26 refl) (omega (arith, h.1.base, is.inside, is.wide, is.some_slot)))
-        (h.0, h.1.index, (let same : r.x8 + block_size k.size ≡ k.base + block_size k.size = omega (arith, h.1.base) in same))
+        still 0x68 0x6C (record r { x8 = r.x8 + k.stride }) refl (sum_line (at 26 refl) (omega (arith, h.1.base, is.next)))
+        (h.0, h.1.index, (let same : r.x8 + k.stride ≡ k.base + k.stride = omega (arith, h.1.base) in same))
         (λ rs states idle. omega arith)
 
     right_6C : Right_here 0x6C  -- addi x22,x22,1
@@ -265,7 +264,7 @@ module _ (m : BlockMeaning) (k : Block) (i count : ℕ) (n : Count m) (order : m
 
     right_70 : Right_here 0x70  -- bne x8,x19,visit
     right_70 h z =
-        elim (cases_eq r.x8 (count * block_size k.size)) [
+        elim (cases_eq r.x8 (k.first + count * k.stride)) [
           | inl same ↦ still 0x70 0x74 r refl (same_goes_on (at 28 refl) same) h.0
               (λ rs states idle. (let over : rest_from rs count (r.x22 - 1 + 1) ≡ rest_from rs count count = ap (rest_from rs count) {x = r.x22 - 1 + 1} (omega (arith, at_end same, h.1)) in omega (arith, over, wraps rs count idle.open_yet)))
           | inr other ↦ acts 0x70 0x08 need.Inner (λ w. r) o tt (other_jumps (at 28 refl) other refl) unchanged
@@ -274,18 +273,18 @@ module _ (m : BlockMeaning) (k : Block) (i count : ℕ) (n : Count m) (order : m
               (λ none rs states idle. (let rest : rest_from rs count (r.x22 - 1 + 1) ≡ rest_from rs count r.x22 = ap (rest_from rs count) {x = r.x22 - 1 + 1} (omega (arith, h.1)) in omega (arith, rest, arrives rs count r.x22 (omega (arith, h.1, more other (cases_eq (i + 1) count))))))
         ]
       where
-        next : k.base + block_size k.size ≡ (i + 1) * block_size k.size
+        next : k.base + k.stride ≡ k.first + (i + 1) * k.stride
         next = omega (arith, base)
 
-        at_end : r.x8 ≡ count * block_size k.size → i + 1 ≡ count
+        at_end : r.x8 ≡ k.first + count * k.stride → i + 1 ≡ count
         at_end same =
             elim (cases_lt (i + 1) count) [
-              | inl less ↦ let below : (i + 1) * block_size k.size + block_size k.size ≤ count * block_size k.size = row_fits (i + 1) (block_size k.size) count (block_size k.size) less (omega arith) in absurd (omega (arith, below, same, h.2, next))
+              | inl less ↦ let below : (i + 1) * k.stride + k.stride ≤ count * k.stride = row_fits (i + 1) k.stride count k.stride less (omega arith) in absurd (omega (arith, below, same, h.2, next, is.room))
               | inr past ↦ omega (arith, known)
             ]
 
-        more : r.x8 ≢ count * block_size k.size → (i + 1 ≡ count) ⊎ (i + 1 ≢ count) → i + 1 < count
-        more other (inl last) = absurd (other (h.2 ∙ next ∙ ap (λ j. j * block_size k.size) last))
+        more : r.x8 ≢ k.first + count * k.stride → (i + 1 ≡ count) ⊎ (i + 1 ≢ count) → i + 1 < count
+        more other (inl last) = absurd (other (h.2 ∙ next ∙ ap (λ j. k.first + j * k.stride) last))
         more other (inr less) = omega (arith, known)
 
     right_74 : Right_here 0x74  -- jal x0,round

@@ -4,6 +4,7 @@ use Rattle.std.specs.List.{slice_index_or}
 use Rattle.hart.specs.declared.need.Report.{Report}
 use Rattle.step_machine.specs.History.{History}
 use Rattle.step_machine.specs.Paths.{state_of}
+use Rattle.poll_close.specs.Layout.{Layout}
 use Rattle.poll_close.specs.Reports.{Clean}
 use Rattle.poll_close.specs.Invariant.Blocks.{block_of}
 use Rattle.poll_close.specs.Invariant.BlockMeaning.{BlockMeaning, Count, Quiet, ReceiverIs}
@@ -19,7 +20,7 @@ shuts_same m f g (suc i) same =
     omega (arith, last, more)
 
 -- an event that is not the receiver's act keeps its part, and what is reported
-module _ (m : BlockMeaning) (M S : ℕ) (lists : List (List ℕ)) (t new : History) (f : ℕ → Count m) (after : BlocksAfter m M S lists new f) where
+module _ (m : BlockMeaning) (M : ℕ) (S : Layout) (lists : List (List ℕ)) (t new : History) (f : ℕ → Count m) (after : BlocksAfter m M S lists new f) where
   pub part_stays : state_of M new 0 ≡ state_of M t 0 → ReceiverPart m M S lists t f → ReceiverPart m M S lists new after.numbers
   part_stays same part = record {
     place = part.place;

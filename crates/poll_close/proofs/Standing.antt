@@ -9,8 +9,8 @@ use Rattle.step_machine.specs.History.{HartStart, Start, History, Progress, unru
 use Rattle.step_machine.specs.Entries.{reported, memory_word}
 use Rattle.step_machine.specs.Runs.{Happens, RunFrom}
 use Rattle.step_machine.proofs.Running.{kept-unrun}
-use Rattle.poll_close.specs.Layout.{opening_of, senders_from}
-use Rattle.poll_close.specs.Laws.{Ring, Meaning, Accepted, Opens, Keeps, Cleans, Goes}
+use Rattle.poll_close.specs.Layout.{Layout, opening_at, senders_from}
+use Rattle.poll_close.specs.Laws.{Ring, Meaning, AcceptedAt, Opens, Keeps, Cleans, Goes}
 use Rattle.poll_close.specs.Going.{AllGoOn}
 use Rattle.poll_close.specs.Reports.{Clean}
 use Rattle.poll_close.specs.Standing.{Stands, lists_of}
@@ -26,41 +26,41 @@ use Rattle.poll_close.specs.Invariant.Channels.{means_by}
 use Rattle.poll_close.proofs.Blocks.{IsBlock}
 use Rattle.poll_close.proofs.ChannelLaws.{blocks}
 
-pub inboxes : (code : List ℕ) (S i : ℕ) (lists : List (List ℕ)) → map (λ (h : HartStart). h.inbox) (senders_from code S i lists) ≡ lists
+pub inboxes : (code : List ℕ) (S : Layout) (i : ℕ) (lists : List (List ℕ)) → map (λ (h : HartStart). h.inbox) (senders_from code S i lists) ≡ lists
 inboxes code S i [] = refl
 inboxes code S i (ws ∷ lists) = ap (λ rest. ws ∷ rest) (inboxes code S (i + 1) lists)
 
 module _ (ring : Ring) (means : Meaning) (B M : ℕ) where
-  pub stands-opens : (lists : List (List ℕ)) (S : ℕ) (t : History) → Opens ring means → Accepted ring M lists S → t ≡ unrun (opening_of ring.sender ring.receiver lists S) → Stands ring means B M t
+  pub stands-opens : (lists : List (List ℕ)) (S : Layout) (t : History) → Opens ring means → AcceptedAt ring M lists S → t ≡ unrun (opening_at ring.sender ring.receiver lists S) → Stands ring means B M t
   unfolding Opens
   stands-opens lists S t opens accepted is = subst (Stands ring means B M) (sym is) (record {
-    opens = record { lists = lists; size = S; accepted = accepted; opening = refl };
-    kept = kept-unrun B M (opening_of ring.sender ring.receiver lists S);
+    opens = record { lists = lists; layout = S; accepted = accepted; opening = refl };
+    kept = kept-unrun B M (opening_at ring.sender ring.receiver lists S);
     meant = opens B M lists S accepted;
   })
 
-  known : (t : History) (s : Stands ring means B M t) → Known ring means B M s.opens.lists s.opens.size t
+  known : (t : History) (s : Stands ring means B M t) → Known ring means B M s.opens.lists s.opens.layout t
   known t s = record { opening = s.opens.opening; kept = s.kept; meant = s.meant }
 
-  again : (lists : List (List ℕ)) (S : ℕ) (t : History) → Accepted ring M lists S → Known ring means B M lists S t → Stands ring means B M t
-  again lists S t accepted k = record { opens = record { lists = lists; size = S; accepted = accepted; opening = k.opening }; kept = k.kept; meant = k.meant }
+  again : (lists : List (List ℕ)) (S : Layout) (t : History) → AcceptedAt ring M lists S → Known ring means B M lists S t → Stands ring means B M t
+  again lists S t accepted k = record { opens = record { lists = lists; layout = S; accepted = accepted; opening = k.opening }; kept = k.kept; meant = k.meant }
 
   pub stands-happens : (t : History) (ev : Event) (o : Outcome) (new : History) → Keeps ring means → Stands ring means B M t → Happens B M t ev o new → Stands ring means B M new
-  stands-happens t ev o new keeps s happens = again s.opens.lists s.opens.size new s.opens.accepted (known-happens ring means keeps B M s.opens.lists s.opens.size s.opens.accepted t ev o new (known t s) happens)
+  stands-happens t ev o new keeps s happens = again s.opens.lists s.opens.layout new s.opens.accepted (known-happens ring means keeps B M s.opens.lists s.opens.layout s.opens.accepted t ev o new (known t s) happens)
 
   pub stands-run : (t : History) (evs : List Event) (new : History) → Keeps ring means → Stands ring means B M t → RunFrom B M t evs new → Stands ring means B M new
-  stands-run t evs new keeps s run = again s.opens.lists s.opens.size new s.opens.accepted (known-run ring means keeps B M s.opens.lists s.opens.size s.opens.accepted t evs new (known t s) run)
+  stands-run t evs new keeps s run = again s.opens.lists s.opens.layout new s.opens.accepted (known-run ring means keeps B M s.opens.lists s.opens.layout s.opens.accepted t evs new (known t s) run)
 
   pub stands-clean : (t : History) → Cleans ring means → Stands ring means B M t → Clean (reported 0 t.entries) (lists_of t.opening)
   stands-clean t cleans s =
-      let lists : lists_of t.opening ≡ s.opens.lists = ap lists_of s.opens.opening ∙ inboxes ring.sender s.opens.size 0 s.opens.lists in
-      rw lists (cleans B M s.opens.lists s.opens.size t s.opens.accepted s.opens.opening s.kept s.meant)
+      let lists : lists_of t.opening ≡ s.opens.lists = ap lists_of s.opens.opening ∙ inboxes ring.sender s.opens.layout 0 s.opens.lists in
+      rw lists (cleans B M s.opens.lists s.opens.layout t s.opens.accepted s.opens.opening s.kept s.meant)
 
   pub stands-goes : (t : History) → Goes ring means → Stands ring means B M t → AllGoOn t.entries
-  stands-goes t goes s = goes B M s.opens.lists s.opens.size t s.opens.accepted s.meant
+  stands-goes t goes s = goes B M s.opens.lists s.opens.layout t s.opens.accepted s.meant
 
   pub stands-receiver : (t : History) → Stands ring means B M t → 0 < length t.opening.harts
-  stands-receiver t s = let count : length t.opening.harts ≡ length (opening_of ring.sender ring.receiver s.opens.lists s.opens.size).harts = ap (λ (o : Start). length o.harts) s.opens.opening in omega (arith, count)
+  stands-receiver t s = let count : length t.opening.harts ≡ length (opening_at ring.sender ring.receiver s.opens.lists s.opens.layout).harts = ap (λ (o : Start). length o.harts) s.opens.opening in omega (arith, count)
 
   -- one event, and a list of events, as a machine answers them
   pub stands-step : {E : Type 0} (old new : Progress) (ev : Event) (r : Result Outcome E) → Keeps ring means → Stands ring means B M old.history → IfOk r (λ o. Happens B M old.history ev o new.history) → OnErr r (new ≡ old) → Stands ring means B M new.history
@@ -89,19 +89,19 @@ pub record Sender (m : BlockMeaning) (M : ℕ) (t : History) (h : ℕ) : Type 0 
 
 pub sender_at : (m : BlockMeaning) (ring : Ring) → 1 ≤ ring.least → (B M : ℕ) (t : History) (h : ℕ) → Stands ring (means_by m) B M t → 1 ≤ h → h < length t.opening.harts → Sender m M t h
 sender_at m ring some_slot B M t h st some less =
-    let harts : length t.opening.harts ≡ suc (length st.opens.lists) = ap (λ (o : Start). length o.harts) st.opens.opening ∙ ap (λ n. suc n) (senders-length ring.sender st.opens.size 0 st.opens.lists) in
+    let harts : length t.opening.harts ≡ suc (length st.opens.lists) = ap (λ (o : Start). length o.harts) st.opens.opening ∙ ap (λ n. suc n) (senders-length ring.sender st.opens.layout 0 st.opens.lists) in
     let within : h - 1 < length st.opens.lists = omega (arith, harts, less, some) in
     let same : h - 1 + 1 ≡ h = omega (arith, some) in
     let part = st.meant.parts (h - 1) within in
     record {
-      block = block_of M st.opens.size st.opens.lists (h - 1);
+      block = block_of M st.opens.layout st.opens.lists (h - 1);
       numbers = st.meant.numbers (h - 1);
-      is = blocks ring M st.opens.size st.opens.lists some_slot st.opens.accepted (h - 1) within;
+      is = blocks ring M st.opens.layout st.opens.lists some_slot st.opens.accepted (h - 1) within;
       words = refl;
       state = part.sender.stands;
       at = ap (state_of M t) (sym same) ∙ part.sender.state;
       stands = part.sender.holds;
-      memory = λ a aligned. memory-word t.opening t.entries a (subst OpensWithWords (sym st.opens.opening) (λ i. omega arith)) st.meant.written aligned;
+      memory = λ a aligned. memory-word t.opening t.entries a (subst OpensWithWords (sym st.opens.opening) st.opens.accepted.empty.small) st.meant.written aligned;
     }
 
 -- what is read off its state

@@ -1,13 +1,14 @@
 -- What a ring's meaning has to be: the opening has it, every event keeps it, it gives clean reports.
-use Rattle.std.specs.Prelude.{ℕ, ◌≡◌, ◌≢◌, ◌*◌, ◌^◌, ◌≤◌, ◌<◌, List, All, length}
+use Rattle.std.specs.Prelude.{ℕ, ◌≡◌, ◌≢◌, ◌+◌, ◌*◌, ◌%◌, ◌^◌, ◌≤◌, ◌<◌, List, All, length, slice_index}
 use Rattle.step_machine.specs.declared.events.Entry.{Entry}
 use Rattle.step_machine.specs.History.{History, unrun, with_entry}
 use Rattle.step_machine.specs.Entries.{reported}
 use Rattle.step_machine.specs.Legal.{Kept}
 use Rattle.step_machine.specs.Runs.{CanFollow}
-use Rattle.poll_close.specs.Layout.{block_size, opening_of}
+use Rattle.poll_close.specs.Layout.{block_size, Layout, base_of, end_of, opening_at}
 use Rattle.poll_close.specs.Reports.{Clean}
 use Rattle.poll_close.specs.Going.{AllGoOn}
+use Rattle.poll_close.specs.Touching.{AllTouch}
 use Rattle.rv_decode.specs.declared.instruction.TheConstants.{MAX_CODE}
 
 -- what a ring of a kind is: its tables, its least size, and what its histories mean
@@ -28,18 +29,51 @@ pub record Accepted (ring : Ring) (M : ℕ) (lists : List (List ℕ)) (S : ℕ) 
   pub memory : M ≤ 65536
   pub words : All AreWords lists
 
--- a meaning of histories: for capacity B, memory M, the lists and the ring size
+-- address a is one of the n blocks'
+pub record IsInBlocks (l : Layout) (n a : ℕ) : Type 0 where
+  pub block : ℕ
+  pub known : block < n
+  pub from : base_of l block ≤ a
+  pub below : a < base_of l block + block_size l.size
+
+-- if word j of memory is in one of the n blocks it opens as 0
+abbrev pub IsEmptyAt : Layout → ℕ → ℕ → Type 0
+IsEmptyAt l n j = IsInBlocks l n (4 * j) → slice_index l.words j ≡ 0
+
+-- memory opens with words, and the n blocks with zeros
+pub record OpensEmpty (l : Layout) (n : ℕ) : Type 0 where
+  pub small : (j : ℕ) → slice_index l.words j < 2 ^ 32
+  pub empty : (j : ℕ) → IsEmptyAt l n j
+
+-- the same for a layout: it begins at a word, a stride is of whole words and has room for a block, the
+-- receiver's registers can hold where the strides end, the last block ends within memory, whose addresses are
+-- 32 bits wide, and the blocks' words open as 0, whatever the other words are
+pub record AcceptedAt (ring : Ring) (M : ℕ) (lists : List (List ℕ)) (l : Layout) : Type 0 where
+  pub some_sender : 1 ≤ length lists
+  pub senders : length lists ≤ 63
+  pub size : ring.least ≤ l.size
+  pub base : l.base % 4 ≡ 0
+  pub stride : l.stride % 4 ≡ 0
+  pub room : block_size l.size ≤ l.stride
+  pub ends : base_of l (length lists) < 2 ^ 32
+  pub fits : end_of l (length lists) ≤ 4 * M
+  pub memory : 4 * M < 2 ^ 32
+  pub words : All AreWords lists
+  pub opens : length l.words ≤ M
+  pub empty : OpensEmpty l (length lists)
+
+-- a meaning of histories: for capacity B, memory M, the lists and the layout
 abbrev pub Meaning : Type 1
-Meaning = ℕ → ℕ → List (List ℕ) → ℕ → History → Type 0
+Meaning = ℕ → ℕ → List (List ℕ) → Layout → History → Type 0
 
 unfoldable pub Opens : Ring → Meaning → Type 0
-Opens ring means = (B M : ℕ) (lists : List (List ℕ)) (S : ℕ) → Accepted ring M lists S → means B M lists S (unrun (opening_of ring.sender ring.receiver lists S))
+Opens ring means = (B M : ℕ) (lists : List (List ℕ)) (l : Layout) → AcceptedAt ring M lists l → means B M lists l (unrun (opening_at ring.sender ring.receiver lists l))
 
 unfoldable pub Keeps : Ring → Meaning → Type 0
-Keeps ring means = (B M : ℕ) (lists : List (List ℕ)) (S : ℕ) (t : History) (e : Entry) → Accepted ring M lists S → t.opening ≡ opening_of ring.sender ring.receiver lists S → Kept B M t → CanFollow B M t e → means B M lists S t → means B M lists S (with_entry t e)
+Keeps ring means = (B M : ℕ) (lists : List (List ℕ)) (l : Layout) (t : History) (e : Entry) → AcceptedAt ring M lists l → t.opening ≡ opening_at ring.sender ring.receiver lists l → Kept B M t → CanFollow B M t e → means B M lists l t → means B M lists l (with_entry t e)
 
 abbrev pub Cleans : Ring → Meaning → Type 0
-Cleans ring means = (B M : ℕ) (lists : List (List ℕ)) (S : ℕ) (t : History) → Accepted ring M lists S → t.opening ≡ opening_of ring.sender ring.receiver lists S → Kept B M t → means B M lists S t → Clean (reported 0 t.entries) lists
+Cleans ring means = (B M : ℕ) (lists : List (List ℕ)) (l : Layout) (t : History) → AcceptedAt ring M lists l → t.opening ≡ opening_at ring.sender ring.receiver lists l → Kept B M t → means B M lists l t → Clean (reported 0 t.entries) lists
 
 -- tables that fit a hart
 abbrev pub AreShort : Ring → Type 0
@@ -47,4 +81,8 @@ AreShort ring = (length ring.sender ≤ MAX_CODE) × (length ring.receiver ≤ M
 
 -- no hart of such a channel is ever stopped
 abbrev pub Goes : Ring → Meaning → Type 0
-Goes ring means = (B M : ℕ) (lists : List (List ℕ)) (S : ℕ) (t : History) → Accepted ring M lists S → means B M lists S t → AllGoOn t.entries
+Goes ring means = (B M : ℕ) (lists : List (List ℕ)) (l : Layout) (t : History) → AcceptedAt ring M lists l → means B M lists l t → AllGoOn t.entries
+
+-- and each touches its blocks alone
+abbrev pub Stays : Ring → Meaning → Type 0
+Stays ring means = (B M : ℕ) (lists : List (List ℕ)) (l : Layout) (t : History) → AcceptedAt ring M lists l → means B M lists l t → AllTouch l (length lists) t.entries

@@ -1,6 +1,8 @@
 pub mod Layout
+pub mod Places
 pub mod Reports
 pub mod Going
+pub mod Touching
 pub mod Laws
 pub mod Means
 pub mod Delivery

@@ -1,10 +1,12 @@
 -- When lists are refused, and why: the cases in their order, of which each comes only where none before
 -- it does.
-use Rattle.std.specs.Prelude.{ℕ, ◌≡◌, ◌*◌, ◌≤◌, ◌<◌, List, [], All, length, take, slice_index}
+use Rattle.std.specs.Prelude.{ℕ, ◌≡◌, ◌*◌, ◌%◌, ◌≢◌, ◌^◌, ◌≤◌, ◌<◌, ◌⊎◌, List, [], All, length, take, slice_index}
 use Rattle.std.specs.List.{slice_index_or}
-use Rattle.poll_close.specs.Layout.{block_size}
-use Rattle.poll_close.specs.Laws.{Ring, AreWords, Accepted}
+use Rattle.poll_close.specs.Layout.{block_size, base_of, end_of, Layout}
+use Rattle.poll_close.specs.Laws.{Ring, AreWords, Accepted, IsInBlocks, IsEmptyAt, OpensEmpty, AcceptedAt}
 use Rattle.poll_close.specs.declared.faults.Refused.{Refused}
+use Rattle.poll_close.specs.declared.faults.RefusedAt.{RefusedAt}
+use Rattle.poll_close.specs.declared.faults.RefusedAt.TheVariants.{Lists, UnevenBase, UnevenStride, BlocksMeet, FilledBlock}
 use Rattle.poll_close.specs.declared.faults.Refused.TheVariants.{NoMemory, ZeroWord, NoSenders, TooManySenders, RingTooSmall, DoesNotFit}
 
 abbrev pub fault_number : Refused → ℕ
@@ -40,3 +42,45 @@ Refuses ring M lists S RingTooSmall = (1 ≤ length lists) × (length lists ≤ 
 Refuses ring M lists S DoesNotFit = HasRing ring lists S × (4 * M < length lists * block_size S)
 Refuses ring M lists S (ZeroWord sender place) = HasRing ring lists S × (length lists * block_size S ≤ 4 * M) × ZeroWordAt lists sender place
 Refuses ring M lists S NoMemory = Accepted ring M lists S
+
+-- the same at a place
+abbrev pub fault_number_at : RefusedAt → ℕ
+fault_number_at (Lists refused) = fault_number refused
+fault_number_at UnevenBase = 41
+fault_number_at UnevenStride = 42
+fault_number_at BlocksMeet = 43
+fault_number_at (FilledBlock word) = 44
+
+-- the blocks begin at words, and none meets the next
+pub record HasPlace (ring : Ring) (lists : List (List ℕ)) (l : Layout) : Type 0 where
+  pub has_ring : HasRing ring lists l.size
+  pub base : l.base % 4 ≡ 0
+  pub stride : l.stride % 4 ≡ 0
+  pub room : block_size l.size ≤ l.stride
+
+-- the strides end below 2³², the last block ends within memory, and the words with which it opens do too
+pub record FitsAt (M n : ℕ) (l : Layout) : Type 0 where
+  pub ends : base_of l n < 2 ^ 32
+  pub fits : end_of l n ≤ 4 * M
+  pub opens : length l.words ≤ M
+
+abbrev pub IsBeyond : ℕ → ℕ → Layout → Type 0
+IsBeyond M n l = (2 ^ 32 ≤ base_of l n) ⊎ (4 * M < end_of l n) ⊎ (M < length l.words)
+
+-- the first word in one of the n blocks that does not open as 0 is word j
+pub record FilledAt (l : Layout) (n j : ℕ) : Type 0 where
+  pub inside : IsInBlocks l n (4 * j)
+  pub filled : slice_index l.words j ≢ 0
+  pub first : (k : ℕ) → k < j → IsEmptyAt l n k
+
+abbrev pub RefusesAt : Ring → ℕ → List (List ℕ) → Layout → RefusedAt → Type 0
+RefusesAt ring M lists l (Lists NoSenders) = length lists ≡ 0
+RefusesAt ring M lists l (Lists TooManySenders) = 63 < length lists
+RefusesAt ring M lists l (Lists RingTooSmall) = (1 ≤ length lists) × (length lists ≤ 63) × (l.size < ring.least)
+RefusesAt ring M lists l UnevenBase = HasRing ring lists l.size × (l.base % 4 ≢ 0)
+RefusesAt ring M lists l UnevenStride = HasRing ring lists l.size × (l.base % 4 ≡ 0) × (l.stride % 4 ≢ 0)
+RefusesAt ring M lists l BlocksMeet = HasRing ring lists l.size × (l.base % 4 ≡ 0) × (l.stride % 4 ≡ 0) × (l.stride < block_size l.size)
+RefusesAt ring M lists l (Lists DoesNotFit) = HasPlace ring lists l × IsBeyond M (length lists) l
+RefusesAt ring M lists l (FilledBlock word) = HasPlace ring lists l × FitsAt M (length lists) l × FilledAt l (length lists) word
+RefusesAt ring M lists l (Lists (ZeroWord sender place)) = HasPlace ring lists l × FitsAt M (length lists) l × OpensEmpty l (length lists) × ZeroWordAt lists sender place
+RefusesAt ring M lists l (Lists NoMemory) = AcceptedAt ring M lists l

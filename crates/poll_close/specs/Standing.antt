@@ -2,21 +2,21 @@
 use Rattle.std.specs.Prelude.{ℕ, ◌≡◌, List, drop, map}
 use Rattle.step_machine.specs.History.{HartStart, Start, History}
 use Rattle.step_machine.specs.Legal.{Kept}
-use Rattle.poll_close.specs.Layout.{opening_of}
-use Rattle.poll_close.specs.Laws.{Ring, Meaning, Accepted}
+use Rattle.poll_close.specs.Layout.{Layout, opening_at}
+use Rattle.poll_close.specs.Laws.{Ring, Meaning, AcceptedAt}
 
 -- the lists that an opening's senders were given
 abbrev pub lists_of : Start → List (List ℕ)
 lists_of o = map (λ (h : HartStart). h.inbox) (drop 1 o.harts)
 
--- the opening of a channel over accepted lists
+-- the opening of a channel over accepted lists, of some layout
 pub record IsOpeningOf (ring : Ring) (M : ℕ) (o : Start) : Type 0 where
   pub lists : List (List ℕ)
-  pub size : ℕ
-  pub accepted : Accepted ring M lists size
-  pub opening : o ≡ opening_of ring.sender ring.receiver lists size
+  pub layout : Layout
+  pub accepted : AcceptedAt ring M lists layout
+  pub opening : o ≡ opening_at ring.sender ring.receiver lists layout
 
 pub record Stands (ring : Ring) (means : Meaning) (B M : ℕ) (t : History) : Type 0 where
   pub opens : IsOpeningOf ring M t.opening
   pub kept : Kept B M t
-  pub meant : means B M opens.lists opens.size t
+  pub meant : means B M opens.lists opens.layout t

@@ -2,13 +2,15 @@
 
 ghost use Rattle.std.specs.Prelude.{◌≡◌, ◌≤◌, ◌<◌, ◌+◌, ℕ, List, IsOk, IfOk, IfErr, OnOk, OnErr, map, take, length};
 ghost use Rattle.step_machine.specs.Runs.{event_of};
-ghost use Rattle.poll_close.specs.Layout.{opening_of};
-ghost use Rattle.poll_close.specs.Laws.{Accepted};
-ghost use Rattle.poll_close.specs.Refusals.{Refuses};
+ghost use Rattle.poll_close.specs.Layout.{opening_of, opening_at};
+ghost use Rattle.poll_close.specs.Laws.{Accepted, AcceptedAt};
+ghost use Rattle.poll_close.specs.Places.{layout_of};
+ghost use Rattle.poll_close.specs.Refusals.{Refuses, RefusesAt};
 
-use crate::faults::Refused;
+use crate::faults::{Refused, RefusedAt};
 use crate::kind::RingKind;
-use crate::openings::opening;
+use crate::openings::{opening, opening_at};
+use crate::place::Place;
 use crate::plans::{Finish, plan_of};
 use hart::need::Report;
 use std::alloc::{AllocError, Global};
@@ -34,7 +36,7 @@ impl<K: RingKind, const B: usize, const M: usize> Model for Channel<K, B, M> {
 
     ghost view = { λ c. c.machine };
 
-    ghost invariant = { λ c. (1 ≤ B) × Stands K.ring K.meaning B M c.machine.history × (B ≤ 64) × (1 ≤ M) };
+    ghost invariant = { λ c. (1 ≤ B) × Stands K.ring K.meaning B M c.machine.history × (B ≤ 64) × (1 ≤ M) × (M ≤ 65536) };
 }
 
 impl<K: RingKind, const B: usize, const M: usize> Channel<K, B, M> {
@@ -57,6 +59,31 @@ impl<K: RingKind, const B: usize, const M: usize> Channel<K, B, M> {
     {
         K::laws();
         let opening = opening::<K>(alloc, lists, ring, M)?;
+        let machine = Machine::open(alloc, opening)?;
+        Ok(Channel {
+            machine,
+            kind: PhantomData,
+        })
+    }
+
+    /// A channel over these lists at a place, over a memory that opens with these words, at its opening.
+    /// Err as [`opening_at`].
+    pub fn open_at(
+        alloc: Global,
+        lists: &[Vec<u32>],
+        place: Place,
+        words: &[u32],
+    ) -> Result<Self, RefusedAt>
+        requires some_capacity { 1 ≤ B }
+        requires capacity { B ≤ 64 }
+        requires some_word { 1 ≤ M }
+        requires memory { M ≤ 65536 }
+        ensures value { IfOk result (λ c. c.history ≡ unrun (opening_at K.ring.sender K.ring.receiver (map (λ v. v.items) lists.now) (layout_of place words.now))) }
+        ensures accepted { OnOk result (AcceptedAt K.ring M (map (λ v. v.items) lists.now) (layout_of place words.now)) }
+        ensures refused { IfErr result (λ e. RefusesAt K.ring M (map (λ v. v.items) lists.now) (layout_of place words.now) e) }
+    {
+        K::laws();
+        let opening = opening_at::<K>(alloc, lists, place, words, M)?;
         let machine = Machine::open(alloc, opening)?;
         Ok(Channel {
             machine,

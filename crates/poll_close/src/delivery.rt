@@ -1,23 +1,26 @@
 //! Delivery.
 
-ghost use Rattle.std.specs.Prelude.{◌≡◌, ◌≤◌, ℕ, List, IfOk, IfErr, OnOk, map};
+ghost use Rattle.std.specs.Prelude.{◌≡◌, ◌≤◌, ℕ, List, IfOk, IfErr, OnOk, map, length};
 ghost use Rattle.step_machine.specs.History.{History, FitsIn};
 ghost use Rattle.step_machine.specs.Entries.{reported};
 ghost use Rattle.step_machine.specs.Runs.{Run};
 ghost use Rattle.step_machine.specs.declared.events.Event.{Event};
-ghost use Rattle.poll_close.specs.Layout.{opening_of};
-ghost use Rattle.poll_close.specs.Laws.{Accepted};
-ghost use Rattle.poll_close.specs.Refusals.{Refuses};
+ghost use Rattle.poll_close.specs.Layout.{Layout, opening_of, opening_at};
+ghost use Rattle.poll_close.specs.Laws.{Accepted, AcceptedAt};
+ghost use Rattle.poll_close.specs.Places.{layout_of};
+ghost use Rattle.poll_close.specs.Refusals.{Refuses, RefusesAt};
 ghost use Rattle.poll_close.specs.Reports.{Clean};
 ghost use Rattle.poll_close.specs.Going.{AllGoOn};
+ghost use Rattle.poll_close.specs.Touching.{AllTouch};
 ghost use Rattle.poll_close.specs.Delivery.{Delivers, DeliversWhole};
 ghost use Rattle.poll_close.specs.Standing.{Stands};
 ghost use Rattle.poll_close.specs.Plans.{CanFinish};
 
 use crate::channel::Channel;
-use crate::faults::Refused;
+use crate::faults::{Refused, RefusedAt};
 use crate::kind::RingKind;
-use crate::openings::opening;
+use crate::openings::{opening, opening_at};
+use crate::place::Place;
 use crate::plans::Finish;
 use hart::need::Report;
 use std::alloc::{AllocError, Global};
@@ -28,14 +31,13 @@ fn reports_of<K: RingKind, const B: usize, const M: usize>(
     alloc: Global,
     opening: Opening,
     lists: &[Vec<u32>],
-    size: u32,
     events: &[Event],
 ) -> Result<Vec<Report>, AllocError>
     requires some_capacity { 1 ≤ B }
     requires capacity { B ≤ 64 }
     requires some_word { 1 ≤ M }
-    requires accepted { Accepted K.ring M (map (λ v. v.items) lists.now) size }
-    requires opens { opening ≡ opening_of K.ring.sender K.ring.receiver (map (λ v. v.items) lists.now) size }
+    requires memory { M ≤ 65536 }
+    requires opens { (l : Layout) × AcceptedAt K.ring M (map (λ v. v.items) lists.now) l × (opening ≡ opening_at K.ring.sender K.ring.receiver (map (λ v. v.items) lists.now) l) }
     ensures { IfOk result (λ r. Delivers B M opening (map (λ v. v.items) lists.now) events.now r.items) }
 {
     K::laws();
@@ -64,7 +66,28 @@ pub fn deliver<K: RingKind, const B: usize, const M: usize>(
     ensures refused { IfErr result (λ e. Refuses K.ring M (map (λ v. v.items) lists.now) ring e) }
 {
     let opening = opening::<K>(alloc, lists, ring, M)?;
-    Ok(reports_of::<K, B, M>(alloc, opening, lists, ring, events)?)
+    Ok(reports_of::<K, B, M>(alloc, opening, lists, events)?)
+}
+
+/// What the receiver of such a channel at a place, over a memory that opens with these words, reports
+/// when these events run from its opening. Err as [`opening_at`].
+pub fn deliver_at<K: RingKind, const B: usize, const M: usize>(
+    alloc: Global,
+    lists: &[Vec<u32>],
+    place: Place,
+    words: &[u32],
+    events: &[Event],
+) -> Result<Vec<Report>, RefusedAt>
+    requires some_capacity { 1 ≤ B }
+    requires capacity { B ≤ 64 }
+    requires some_word { 1 ≤ M }
+    requires memory { M ≤ 65536 }
+    ensures delivers { IfOk result (λ r. Delivers B M (opening_at K.ring.sender K.ring.receiver (map (λ v. v.items) lists.now) (layout_of place words.now)) (map (λ v. v.items) lists.now) events.now r.items) }
+    ensures accepted { OnOk result (AcceptedAt K.ring M (map (λ v. v.items) lists.now) (layout_of place words.now)) }
+    ensures refused { IfErr result (λ e. RefusesAt K.ring M (map (λ v. v.items) lists.now) (layout_of place words.now) e) }
+{
+    let opening = opening_at::<K>(alloc, lists, place, words, M)?;
+    Ok(reports_of::<K, B, M>(alloc, opening, lists, events)?)
 }
 
 /// What the receiver of such a channel reports when these events run from its opening and then its plan:
@@ -97,22 +120,29 @@ pub fn deliver_whole<K: Finish<B, M>, const B: usize, const M: usize>(
 }
 
 /// The laws of channels of this kind: each opening fits its memory, and in each run from it what the
-/// receiver reports is clean, whatever made the events. It does nothing.
+/// receiver reports is clean, no hart is stopped, and each hart touches its blocks alone, whatever made
+/// the events. It does nothing.
 pub fn laws_of_channels<K: RingKind>()
     ensures fits { (M : ℕ) (lists : List (List ℕ)) (S : ℕ) → Accepted K.ring M lists S → FitsIn M (opening_of K.ring.sender K.ring.receiver lists S) }
     ensures clean { (B M : ℕ) (lists : List (List ℕ)) (S : ℕ) (events : List Event) (t : History) → Accepted K.ring M lists S → Run B M (opening_of K.ring.sender K.ring.receiver lists S) events t → Clean (reported 0 t.entries) lists }
     ensures stands { (B M : ℕ) (lists : List (List ℕ)) (S : ℕ) (events : List Event) (t : History) → Accepted K.ring M lists S → Run B M (opening_of K.ring.sender K.ring.receiver lists S) events t → Stands K.ring K.meaning B M t }
     ensures goes { (B M : ℕ) (lists : List (List ℕ)) (S : ℕ) (events : List Event) (t : History) → Accepted K.ring M lists S → Run B M (opening_of K.ring.sender K.ring.receiver lists S) events t → AllGoOn t.entries }
+    ensures fits_at { (M : ℕ) (lists : List (List ℕ)) (l : Layout) → AcceptedAt K.ring M lists l → FitsIn M (opening_at K.ring.sender K.ring.receiver lists l) }
+    ensures clean_at { (B M : ℕ) (lists : List (List ℕ)) (l : Layout) (events : List Event) (t : History) → AcceptedAt K.ring M lists l → Run B M (opening_at K.ring.sender K.ring.receiver lists l) events t → Clean (reported 0 t.entries) lists }
+    ensures stands_at { (B M : ℕ) (lists : List (List ℕ)) (l : Layout) (events : List Event) (t : History) → AcceptedAt K.ring M lists l → Run B M (opening_at K.ring.sender K.ring.receiver lists l) events t → Stands K.ring K.meaning B M t }
+    ensures goes_at { (B M : ℕ) (lists : List (List ℕ)) (l : Layout) (events : List Event) (t : History) → AcceptedAt K.ring M lists l → Run B M (opening_at K.ring.sender K.ring.receiver lists l) events t → AllGoOn t.entries }
+    ensures touches { (B M : ℕ) (lists : List (List ℕ)) (l : Layout) (events : List Event) (t : History) → AcceptedAt K.ring M lists l → Run B M (opening_at K.ring.sender K.ring.receiver lists l) events t → AllTouch l (length lists) t.entries }
 {
     K::laws();
 }
 
 /// The law of plans: from every state of a channel of this kind, and so from every one that events lead
 /// to, further events finish it, where a buffer holds a store at least. It does nothing.
-#[tactic(auto, using(crate::proofs::Planning::can_finish, crate::proofs::Planning::run_can_finish))]
+#[tactic(auto, using(crate::proofs::Planning::can_finish, crate::proofs::Planning::run_can_finish, crate::proofs::Planning::dense_can_finish))]
 pub fn laws_of_plans<K: Finish<B, M>, const B: usize, const M: usize>()
     ensures standing { (capacity memory : ℕ) (t : History) → 1 ≤ capacity → Stands K.RingKind.ring K.RingKind.meaning capacity memory t → CanFinish capacity memory t }
     ensures running { (capacity memory : ℕ) (lists : List (List ℕ)) (S : ℕ) (events : List Event) (t : History) → 1 ≤ capacity → Accepted K.RingKind.ring memory lists S → Run capacity memory (opening_of K.RingKind.ring.sender K.RingKind.ring.receiver lists S) events t → CanFinish capacity memory t }
+    ensures running_at { (capacity memory : ℕ) (lists : List (List ℕ)) (l : Layout) (events : List Event) (t : History) → 1 ≤ capacity → AcceptedAt K.RingKind.ring memory lists l → Run capacity memory (opening_at K.RingKind.ring.sender K.RingKind.ring.receiver lists l) events t → CanFinish capacity memory t }
 {
     K::laws();
     K::nears();

@@ -2,6 +2,7 @@
 
 ghost use Rattle.std.specs.Prelude.{◌≡◌};
 ghost use Rattle.poll_close.specs.declared.faults.Refused.TheVariants.{NoMemory};
+ghost use Rattle.poll_close.specs.declared.faults.RefusedAt.TheVariants.{Lists};
 
 use std::alloc::{AllocError, AllocFailed};
 use thiserror::Error;
@@ -60,5 +61,51 @@ impl<T: Drop> From<AllocFailed<T>> for Refused {
 
     fn from(_error: AllocFailed<T>) -> Refused {
         Refused::NoMemory
+    }
+}
+
+/// Why there is no channel over some lists at a place. The cases are tried in this order: no sender, too
+/// many, ring too small, uneven base, uneven stride, blocks meet, does not fit, filled block, zero word.
+#[derive(Clone, Copy, Debug, PartialEq, Eq, Error)]
+pub enum RefusedAt {
+    /// As without a place, or that memory ran out.
+    #[error(transparent)]
+    Lists(Refused),
+    /// The first block begins at no multiple of 4.
+    #[error("uneven base")]
+    UnevenBase,
+    /// The stride is no multiple of 4.
+    #[error("uneven stride")]
+    UnevenStride,
+    /// The stride is less than a block's bytes.
+    #[error("blocks meet")]
+    BlocksMeet,
+    /// Memory opens with another word than 0 in a block: the least such word.
+    #[error("filled block at word {word}")]
+    FilledBlock { word: usize },
+}
+
+impl RefusedAt {
+    ghost use Rattle.poll_close.specs.Refusals.{fault_number_at};
+
+    /// The number by which texts name it.
+    pub fn number(self) -> u8
+        ensures { result ≡ fault_number_at self }
+    {
+        match self {
+            RefusedAt::Lists(refused) => refused.number(),
+            RefusedAt::UnevenBase => 41,
+            RefusedAt::UnevenStride => 42,
+            RefusedAt::BlocksMeet => 43,
+            RefusedAt::FilledBlock { .. } => 44,
+        }
+    }
+}
+
+impl From<AllocError> for RefusedAt {
+    ghost from_gives = { λ _ e. e ≡ Lists NoMemory };
+
+    fn from(_error: AllocError) -> RefusedAt {
+        RefusedAt::Lists(Refused::NoMemory)
     }
 }

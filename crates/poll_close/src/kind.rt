@@ -4,7 +4,7 @@ ghost use Rattle.std.specs.Prelude.{◌≡◌};
 
 /// A kind of ring. A ring whose laws can't be proved is no instance.
 pub trait RingKind {
-    ghost use Rattle.poll_close.specs.Laws.{Ring, Meaning, AreShort, Opens, Keeps, Cleans, Goes};
+    ghost use Rattle.poll_close.specs.Laws.{Ring, Meaning, AreShort, Opens, Keeps, Cleans, Goes, Stays};
 
     /// The tables and the least size, as a definition.
     ghost ring: { Ring };
@@ -25,11 +25,12 @@ pub trait RingKind {
         ensures { result ≡ ring.least };
 
     /// The laws: the tables fit a hart, every opening has the meaning, every event keeps it, it gives
-    /// clean reports, and no hart is stopped. It does nothing.
+    /// clean reports, no hart is stopped, and each touches its blocks alone. It does nothing.
     fn laws()
         ensures short { AreShort ring }
         ensures opens { Opens ring meaning }
         ensures keeps { Keeps ring meaning }
         ensures cleans { Cleans ring meaning }
-        ensures goes { Goes ring meaning };
+        ensures goes { Goes ring meaning }
+        ensures stays { Stays ring meaning };
 }

@@ -9,11 +9,13 @@ pub mod delivery;
 pub mod faults;
 pub mod kind;
 pub mod openings;
+pub mod place;
 pub mod plans;
 
 pub use channel::Channel;
-pub use delivery::{deliver, deliver_whole, laws_of_channels, laws_of_plans};
-pub use faults::Refused;
+pub use delivery::{deliver, deliver_at, deliver_whole, laws_of_channels, laws_of_plans};
+pub use faults::{Refused, RefusedAt};
 pub use kind::RingKind;
-pub use openings::{MAX_SENDERS, opening};
+pub use openings::{MAX_SENDERS, opening, opening_at};
+pub use place::Place;
 pub use plans::{Finish, plan_of};

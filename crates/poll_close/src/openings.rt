@@ -1,12 +1,14 @@
 //! The opening of a channel, and when there is none.
 
-ghost use Rattle.std.specs.Prelude.{◌≡◌, ◌≤◌, ◌<◌, ◌*◌, ◌+◌, ◌^◌, ℕ, List, All, IfOk, IfErr, OnOk, IsOk, MatchOption, map, length};
-ghost use Rattle.poll_close.specs.Layout.{opening_of, senders_from, sender_registers, block_size};
-ghost use Rattle.poll_close.specs.Laws.{Accepted, AreWords};
-ghost use Rattle.poll_close.specs.Refusals.{Refuses, ZeroAt, ZeroWordAt};
+ghost use Rattle.std.specs.Prelude.{◌≡◌, ◌≤◌, ◌<◌, ◌*◌, ◌+◌, ◌^◌, ℕ, List, All, IfOk, IfErr, OnOk, IsOk, MatchOption, map, length, true, false, []};
+ghost use Rattle.poll_close.specs.Layout.{opening_of, opening_at, senders_from, sender_registers, base_of, block_size};
+ghost use Rattle.poll_close.specs.Laws.{Accepted, AcceptedAt, AreWords, IsInBlocks, OpensEmpty};
+ghost use Rattle.poll_close.specs.Places.{layout_of};
+ghost use Rattle.poll_close.specs.Refusals.{Refuses, RefusesAt, FitsAt, IsBeyond, FilledAt, ZeroAt, ZeroWordAt};
 
-use crate::faults::Refused;
+use crate::faults::{Refused, RefusedAt};
 use crate::kind::RingKind;
+use crate::place::Place;
 use std::alloc::{AllocError, Global};
 use step_machine::{HartOpening, Opening};
 
@@ -64,13 +66,14 @@ fn judge<K: RingKind>(lists: &[Vec<u32>], ring: u32, m: usize) -> Result<(), Ref
 }
 
 /// The registers with which sender `index` opens.
-fn sender_registers(ring: u32, index: u32) -> [u32; 32]
-    requires { index * block_size ring + block_size ring < 2 ^ 32 }
-    ensures { result ≡ sender_registers ring index }
+fn sender_registers(place: Place, index: u32) -> [u32; 32]
+    requires begins { base_of (layout_of place []) index < 2 ^ 32 }
+    requires slots { 4 * place.ring < 2 ^ 32 }
+    ensures { result ≡ sender_registers (layout_of place []) index }
 {
     let mut registers = [0; 32];
-    registers[8] = index * (16 + 4 * ring);
-    registers[9] = 4 * ring;
+    registers[8] = place.base + index * place.stride;
+    registers[9] = 4 * place.ring;
     registers
 }
 
@@ -79,16 +82,18 @@ fn sender_harts(
     alloc: Global,
     code: &[u32],
     lists: &[Vec<u32>],
-    size: u32,
+    place: Place,
 ) -> Result<Vec<HartOpening>, AllocError>
-    requires { length lists.now * block_size size + block_size size < 2 ^ 32 }
-    ensures { IfOk result (λ v. v.items ≡ senders_from code.now size 0 (map (λ v. v.items) lists.now)) }
+    requires few { length lists.now < 2 ^ 32 }
+    requires ends { base_of (layout_of place []) (length lists.now) < 2 ^ 32 }
+    requires slots { 4 * place.ring < 2 ^ 32 }
+    ensures { IfOk result (λ v. v.items ≡ senders_from code.now (layout_of place []) 0 (map (λ v. v.items) lists.now)) }
 {
     let mut harts = Vec::with_capacity(alloc, lists.len())?;
     for (index, list) in lists.iter().enumerate() {
         let hart = HartOpening {
             code: Vec::from_slice(alloc, code)?,
-            registers: sender_registers(size, index as u32),
+            registers: sender_registers(place, index as u32),
             inbox: Vec::from_slice(alloc, list)?,
         };
         harts.push(hart)?;
@@ -97,25 +102,33 @@ fn sender_harts(
 }
 
 /// The opening over lists that are accepted.
-fn lay_out<K: RingKind>(alloc: Global, lists: &[Vec<u32>], size: u32) -> Result<Opening, AllocError>
-    requires { length lists.now * block_size size + block_size size < 2 ^ 32 }
-    ensures { IfOk result (λ o. o ≡ opening_of K.ring.sender K.ring.receiver (map (λ v. v.items) lists.now) size) }
+fn lay_out<K: RingKind>(
+    alloc: Global,
+    lists: &[Vec<u32>],
+    place: Place,
+    words: &[u32],
+) -> Result<Opening, AllocError>
+    requires few { length lists.now < 2 ^ 32 }
+    requires ends { base_of (layout_of place words.now) (length lists.now) < 2 ^ 32 }
+    requires slots { 4 * place.ring < 2 ^ 32 }
+    ensures { IfOk result (λ o. o ≡ opening_at K.ring.sender K.ring.receiver (map (λ v. v.items) lists.now) (layout_of place words.now)) }
 {
     let mut registers = [0; 32];
-    registers[9] = 4 * size;
-    registers[18] = 16 + 4 * size;
-    registers[19] = lists.len() as u32 * (16 + 4 * size);
+    registers[9] = 4 * place.ring;
+    registers[18] = place.stride;
+    registers[19] = place.base + lists.len() as u32 * place.stride;
     registers[20] = lists.len() as u32;
+    registers[21] = place.base;
     let receiver = HartOpening {
         code: Vec::from_slice(alloc, K::receiver())?,
         registers,
         inbox: Vec::new(alloc),
     };
-    let mut harts = sender_harts(alloc, K::sender(), lists, size)?;
+    let mut harts = sender_harts(alloc, K::sender(), lists, place)?;
     harts.insert(0, receiver)?;
     Ok(Opening {
         harts,
-        words: Vec::new(alloc),
+        words: Vec::from_slice(alloc, words)?,
     })
 }
 
@@ -134,5 +147,116 @@ pub fn opening<K: RingKind>(
     ensures refused { IfErr result (λ e. Refuses K.ring m (map (λ v. v.items) lists.now) ring e) }
 {
     judge::<K>(lists, ring, m)?;
-    Ok(lay_out::<K>(alloc, lists, ring)?)
+    let place = Place {
+        ring,
+        base: 0,
+        stride: 16 + 4 * ring,
+    };
+    Ok(lay_out::<K>(alloc, lists, place, &[])?)
+}
+
+/// Whether this address is in one of the first so many blocks.
+#[tactic(auto, using(crate::proofs::InBlocks::is_inside, crate::proofs::InBlocks::inside_is))]
+fn is_in_blocks(place: Place, count: usize, address: u64) -> bool
+    requires room { block_size place.ring ≤ place.stride }
+    ensures inside { result ≡ true → IsInBlocks (layout_of place []) count address }
+    ensures outside { IsInBlocks (layout_of place []) count address → result ≡ true }
+{
+    if address < place.base as u64 {
+        return false;
+    }
+    let offset = address - place.base as u64;
+    offset / (place.stride as u64) < count as u64
+        && offset % (place.stride as u64) < 16 + 4 * place.ring as u64
+}
+
+/// The first word that is in a block and not 0, if there is one.
+fn filled_word(place: Place, count: usize, words: &[u32]) -> Option<usize>
+    requires room { block_size place.ring ≤ place.stride }
+    requires memory { length words.now ≤ 65536 }
+    ensures { MatchOption result (OpensEmpty (layout_of place words.now) count) (λ j. FilledAt (layout_of place words.now) count j) }
+{
+    for (j, word) in words.iter().enumerate() {
+        if *word != 0 && is_in_blocks(place, count, 4 * j as u64) {
+            return Some(j);
+        }
+    }
+    None
+}
+
+/// Whether so many blocks at a place, and the words with which memory opens, are within `m` words of memory.
+#[tactic(auto, using(crate::proofs::Dense::rows_before))]
+fn fits_at(place: Place, count: usize, words: &[u32], m: usize) -> bool
+    requires some { 1 ≤ count }
+    requires few { count ≤ 63 }
+    requires memory { m ≤ 65536 }
+    ensures fits { result ≡ true → FitsAt m count (layout_of place words.now) }
+    ensures beyond { result ≡ false → IsBeyond m count (layout_of place words.now) }
+{
+    let last = place.base as u64 + (count as u64 - 1) * place.stride as u64;
+    last + (place.stride as u64) < 1 << 32
+        && last + 16 + 4 * place.ring as u64 <= 4 * m as u64
+        && words.len() <= m
+}
+
+/// Whether a channel of this kind over these lists at a place fits a memory of `m` words that opens with
+/// these, and if not why.
+fn judge_at<K: RingKind>(
+    lists: &[Vec<u32>],
+    place: Place,
+    words: &[u32],
+    m: usize,
+) -> Result<(), RefusedAt>
+    requires memory { m ≤ 65536 }
+    ensures ok { OnOk result (AcceptedAt K.ring m (map (λ v. v.items) lists.now) (layout_of place words.now)) }
+    ensures err { IfErr result (λ e. RefusesAt K.ring m (map (λ v. v.items) lists.now) (layout_of place words.now) e) }
+{
+    if lists.is_empty() {
+        return Err(RefusedAt::Lists(Refused::NoSenders));
+    }
+    if lists.len() > MAX_SENDERS {
+        return Err(RefusedAt::Lists(Refused::TooManySenders));
+    }
+    if place.ring < K::least_size() {
+        return Err(RefusedAt::Lists(Refused::RingTooSmall));
+    }
+    if place.base % 4 != 0 {
+        return Err(RefusedAt::UnevenBase);
+    }
+    if place.stride % 4 != 0 {
+        return Err(RefusedAt::UnevenStride);
+    }
+    if (place.stride as u64) < 16 + 4 * place.ring as u64 {
+        return Err(RefusedAt::BlocksMeet);
+    }
+    if !fits_at(place, lists.len(), words, m) {
+        return Err(RefusedAt::Lists(Refused::DoesNotFit));
+    }
+    match filled_word(place, lists.len(), words) {
+        Some(word) => return Err(RefusedAt::FilledBlock { word }),
+        None => {}
+    }
+    match zero_word(lists) {
+        Some((sender, place)) => Err(RefusedAt::Lists(Refused::ZeroWord { sender, place })),
+        None => Ok(()),
+    }
+}
+
+/// The opening of a channel of this kind at a place, over a memory that opens with these words, as
+/// [`opening`] is that of one whose blocks lie one after the other from address 0 on, where all memory
+/// is zero.
+pub fn opening_at<K: RingKind>(
+    alloc: Global,
+    lists: &[Vec<u32>],
+    place: Place,
+    words: &[u32],
+    m: usize,
+) -> Result<Opening, RefusedAt>
+    requires memory { m ≤ 65536 }
+    ensures accepted { OnOk result (AcceptedAt K.ring m (map (λ v. v.items) lists.now) (layout_of place words.now)) }
+    ensures value { IfOk result (λ o. o ≡ opening_at K.ring.sender K.ring.receiver (map (λ v. v.items) lists.now) (layout_of place words.now)) }
+    ensures refused { IfErr result (λ e. RefusesAt K.ring m (map (λ v. v.items) lists.now) (layout_of place words.now) e) }
+{
+    judge_at::<K>(lists, place, words, m)?;
+    Ok(lay_out::<K>(alloc, lists, place, words)?)
 }

@@ -3,7 +3,6 @@
 use Rattle.std.proofs.Common.{ℕ, ◌+◌, ◌*◌, ◌≡◌, ◌⊎◌, ◌==◌, Bool, ◌&&◌, if◌then◌else◌, List, [], ◌∷◌, length}
 use Rattle.std.specs.Prelude.{slice_index}
 use Rattle.hart.specs.State.{HartState}
-use Rattle.poll_close.specs.Layout.{block_size}
 use Rattle.poll_close.specs.Paces.{Around, Pace}
 use Rattle.poll_close.specs.Invariant.Blocks.{Block, offset}
 use Rattle.poll_close.specs.Invariant.Outlines.{Row, Outline, HoldsIn, rank_in, left_of}
@@ -134,7 +133,7 @@ opened_rows m (row ∷ rows) = record { at = row.at; rank = row.rank; holds = λ
 abbrev pub rows_of : (m : BlockMeaning) → List (ReceiverRow m)
 rows_of m =
     line 0x00 (Over 2) (λ k i n r. Quiet m n) ∷  -- round: addi x8,x21,0
-    line 0x04 (Over 1) (λ k i n r. Quiet m n × (r.x8 ≡ 0)) ∷  -- addi x22,x0,0
+    line 0x04 (Over 1) (λ k i n r. Quiet m n × (r.x8 ≡ k.first)) ∷  -- addi x22,x0,0
     line 0x08 (Visit (λ a x. a.shut) 17 22) (λ k i n r. Quiet m n × Visits k i r.x8 r.x22) ∷  -- visit: lw x5,12(x8)
     line 0x0C (Visit (λ a x. a.shut) 16 21) (λ k i n r. Quiet m n × Visits k i r.x8 r.x22 × (r.x5 ≡ m.dones n)) ∷  -- bne x5,x0,step
     line 0x10 (Near 20) (λ k i n r. Opened m k i n r.x8 r.x22) ∷  -- lw x30,4(x8)
@@ -156,8 +155,8 @@ rows_of m =
     line 0x60 (Round 12) (λ k i n r. Quiet m n × Visits k i r.x8 r.x22) ∷  -- addi x20,x20,-1
     line 0x64 (Round 11) (λ k i n r. Quiet m n × Visits k i r.x8 r.x22) ∷  -- beq x20,x0,quit
     line 0x68 (Round 10) (λ k i n r. Quiet m n × Visits k i r.x8 r.x22) ∷  -- step: add x8,x8,x18
-    line 0x6C (Round 9) (λ k i n r. Quiet m n × (r.x22 ≡ i) × (r.x8 ≡ k.base + block_size k.size)) ∷  -- addi x22,x22,1
-    line 0x70 (Round 8) (λ k i n r. Quiet m n × (r.x22 ≡ i + 1) × (r.x8 ≡ k.base + block_size k.size)) ∷  -- bne x8,x19,visit
+    line 0x6C (Round 9) (λ k i n r. Quiet m n × (r.x22 ≡ i) × (r.x8 ≡ k.base + k.stride)) ∷  -- addi x22,x22,1
+    line 0x70 (Round 8) (λ k i n r. Quiet m n × (r.x22 ≡ i + 1) × (r.x8 ≡ k.base + k.stride)) ∷  -- bne x8,x19,visit
     line 0x74 (Over 3) (λ k i n r. Quiet m n) ∷  -- jal x0,round
     line 0x78 (Near 2) (λ k i n r. Quiet m n × (r.x20 ≡ 0)) ∷  -- quit: addi x17,x0,93
     line 0x7C (Near 1) (λ k i n r. Quiet m n × (r.x17 ≡ 93) × (r.x20 ≡ 0)) ∷  -- ecall

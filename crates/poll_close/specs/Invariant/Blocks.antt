@@ -4,17 +4,20 @@ use Rattle.std.specs.Prelude.{nat_lt, map}
 use Rattle.std.specs.List.{slice_index_or, filter}
 use Rattle.memory.specs.declared.writes.Write.{Write}
 use Rattle.memory.specs.Writes.{write}
-use Rattle.poll_close.specs.Layout.{block_size, base_of}
+use Rattle.poll_close.specs.Layout.{block_size, Layout, base_of}
 
--- the ring size, where the block begins, the memory's words, the sender's list
+-- the ring size, where the block begins, the memory's words, the sender's list; and where the first
+-- block begins, and how many bytes on the next one does
 pub record Block : Type 0 where
   pub size : ℕ
   pub base : ℕ
   pub words : ℕ
   pub list : List ℕ
+  pub first : ℕ
+  pub stride : ℕ
 
-abbrev pub block_of : ℕ → ℕ → List (List ℕ) → ℕ → Block
-block_of M S lists i = record { size = S; base = base_of S i; words = M; list = slice_index_or lists i [] }
+abbrev pub block_of : ℕ → Layout → List (List ℕ) → ℕ → Block
+block_of M l lists i = record { size = l.size; base = base_of l i; words = M; list = slice_index_or lists i []; first = l.base; stride = l.stride }
 
 -- the offset of word j among the slots, and the address of its slot
 abbrev pub offset : Block → ℕ → ℕ

@@ -8,9 +8,11 @@ use Rattle.step_machine.specs.History.{History}
 use Rattle.step_machine.specs.Entries.{pending, reported}
 use Rattle.step_machine.specs.WordReads.{AllWriteWords, word_in_memory}
 use Rattle.step_machine.specs.Paths.{state_of}
+use Rattle.poll_close.specs.Layout.{Layout}
 use Rattle.poll_close.specs.Laws.{Meaning}
 use Rattle.poll_close.specs.Reports.{taken, Clean}
 use Rattle.poll_close.specs.Going.{AllGoOn}
+use Rattle.poll_close.specs.Touching.{AllTouch}
 use Rattle.poll_close.specs.Invariant.Outlines.{Standing}
 use Rattle.poll_close.specs.Invariant.Blocks.{Block, block_of, as_writes, to_block}
 use Rattle.poll_close.specs.Invariant.ReceiverState.{Noted, whole_of, receives, due}
@@ -35,7 +37,7 @@ shuts m f zero = 0
 shuts m f (suc i) = m.shut (f i).receiver + shuts m f i
 
 -- where the receiver stands, and what holds of the block that it visits or visited last
-pub record ReceiverPart (m : BlockMeaning) (M S : ℕ) (lists : List (List ℕ)) (t : History) (f : ℕ → Count m) : Type 0 where
+pub record ReceiverPart (m : BlockMeaning) (M : ℕ) (S : Layout) (lists : List (List ℕ)) (t : History) (f : ℕ → Count m) : Type 0 where
   pub place : ℕ
   pub noted : Noted
   pub block : ℕ
@@ -56,15 +58,16 @@ pub record ReportPart (m : BlockMeaning) (lists : List (List ℕ)) (rs : List Re
   pub senders : (j : ℕ) → j < length lists → ReportsOf rs j (slice_index_or lists j []) (m.took (f j).receiver) (m.shut (f j).receiver)
   pub clean : Clean rs lists
 
-pub record Channel (m : BlockMeaning) (M S : ℕ) (lists : List (List ℕ)) (t : History) : Type 0 where
+pub record Channel (m : BlockMeaning) (M : ℕ) (S : Layout) (lists : List (List ℕ)) (t : History) : Type 0 where
   pub numbers : ℕ → Count m
   pub parts : (i : ℕ) → i < length lists → BlockPart m (block_of M S lists i) M i t (numbers i)
   pub receiver : ReceiverPart m M S lists t numbers
   pub reports : ReportPart m lists (reported 0 t.entries) numbers
   pub unstopped : AllGoOn t.entries
+  pub touched : AllTouch S (length lists) t.entries
   -- all stores are of whole words, so that reads are told by words
   pub written : AllWriteWords t.entries
 
 -- the meaning of a ring, by what it says of one block
 abbrev pub means_by : BlockMeaning → Meaning
-means_by m B M lists S t = Channel m M S lists t
+means_by m B M lists l t = Channel m M l lists t

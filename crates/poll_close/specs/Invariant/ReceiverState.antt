@@ -1,9 +1,8 @@
 -- The receiver's states: its registers as one list, of which the program writes eleven. Its code is a
 -- front and an end that all rings share, and five words between that are the ring's own.
-use Rattle.std.specs.Prelude.{ℕ, ◌*◌, ◌==◌, if◌then◌else◌, List, [], ◌∷◌}
+use Rattle.std.specs.Prelude.{ℕ, ◌+◌, ◌*◌, ◌==◌, if◌then◌else◌, List, [], ◌∷◌}
 use Rattle.hart.specs.State.{HartState}
 use Rattle.hart.specs.declared.status.Status.TheVariants as status
-use Rattle.poll_close.specs.Layout.{block_size}
 use Rattle.poll_close.specs.Invariant.Blocks.{Block}
 
 -- the words from 14 to 24
@@ -31,15 +30,16 @@ pub record Noted : Type 0 where
   pub x28 : ℕ
   pub x30 : ℕ
 
--- what stays: the memory's words, the ring's bytes, a block's bytes, all blocks' bytes
+-- what stays: the memory's words, the ring's bytes, the stride, where the blocks end and begin
 pub record Whole : Type 0 where
   pub words : ℕ
   pub bytes : ℕ
-  pub block : ℕ
-  pub all : ℕ
+  pub stride : ℕ
+  pub end : ℕ
+  pub first : ℕ
 
 abbrev pub receiver_file : Whole → Noted → List ℕ
-receiver_file f r = 0 ∷ 0 ∷ 0 ∷ 0 ∷ 0 ∷ r.x5 ∷ r.x6 ∷ r.x7 ∷ r.x8 ∷ f.bytes ∷ r.x10 ∷ r.x11 ∷ 0 ∷ 0 ∷ 0 ∷ 0 ∷ 0 ∷ r.x17 ∷ f.block ∷ f.all ∷ r.x20 ∷ 0 ∷ r.x22 ∷ 0 ∷ 0 ∷ 0 ∷ 0 ∷ 0 ∷ r.x28 ∷ 0 ∷ r.x30 ∷ 0 ∷ []
+receiver_file f r = 0 ∷ 0 ∷ 0 ∷ 0 ∷ 0 ∷ r.x5 ∷ r.x6 ∷ r.x7 ∷ r.x8 ∷ f.bytes ∷ r.x10 ∷ r.x11 ∷ 0 ∷ 0 ∷ 0 ∷ 0 ∷ 0 ∷ r.x17 ∷ f.stride ∷ f.end ∷ r.x20 ∷ f.first ∷ r.x22 ∷ 0 ∷ 0 ∷ 0 ∷ 0 ∷ 0 ∷ r.x28 ∷ 0 ∷ r.x30 ∷ 0 ∷ []
 
 abbrev pub receiving : Middle → Whole → ℕ → Noted → HartState
 receiving m f pc r = record { code = receiver_of m; words = f.words; registers = receiver_file f r; pc = pc; inbox = []; status = status.Running }
@@ -56,4 +56,4 @@ abbrev pub due : ℕ → ℕ
 due here = if here == 0x60 then 1 else 0
 
 abbrev pub whole_of : Block → ℕ → Whole
-whole_of k count = record { words = k.words; bytes = 4 * k.size; block = block_size k.size; all = count * block_size k.size }
+whole_of k count = record { words = k.words; bytes = 4 * k.size; stride = k.stride; end = k.first + count * k.stride; first = k.first }

@@ -1,0 +1,6 @@
+use Rattle.poll_close.specs.Places.{layout_of}
+use Rattle.poll_close.proofs.InBlocks.{EmptyTo}
+use Rattle.poll_close.proofs.openings.filled_word.Given as goal
+
+abbrev pub invariant-loop-j : goal.invariant-loop-j
+invariant-loop-j l = EmptyTo (layout_of l.place l.words) l.count l.j
