@@ -9,7 +9,7 @@ use fastforward::FastForward;
 use hart::{Report, Status};
 use hart_threads::{Open, deliver_threads};
 use lamport_ring::Lamport;
-use poll_close::{Channel, Refused, RingKind, deliver};
+use poll_close::{Channel, Place, Refused, RefusedAt, RingKind, deliver, deliver_at, opening_at};
 use std::alloc::{AllocError, Global};
 use std::process::Abort;
 use std::test::Fail;
@@ -248,6 +248,75 @@ fn fast_forward_s_run_and_steps_report_the_same(rt: HostRuntime) -> Result<(), F
     Ok(())
 }
 
+/// So many words: 0 in the six of a block at word 256, and 7 elsewhere.
+fn words_around(alloc: Global, count: u32) -> Result<Vec<u32>, AllocError> {
+    let mut words = Vec::new(alloc);
+    for index in 0..count {
+        if index >= 256 && index < 262 {
+            words.push(0)?;
+        } else {
+            words.push(7)?;
+        }
+    }
+    Ok(words)
+}
+
+/// One sender's block is the six words from word 256 on.
+const ELSEWHERE: Place = Place {
+    ring: 2,
+    base: 1024,
+    stride: 64,
+};
+
+#[test]
+fn a_channel_among_other_words_reports_the_same(rt: HostRuntime) -> Result<(), Fail> {
+    let steps = [(A1, 10), (L1, 1), (A0, 13), (L1, 1), (A0, 16)];
+    let events = events_of(rt.alloc(), &steps)?;
+    let took = [Report::Took { sender: 0, word: 9 }];
+    let lists = one_list(rt.alloc(), &[9, 9, 9])?;
+    let words = words_around(rt.alloc(), 300)?;
+    let mut channel = Channel::<Lamport, 2, 4096>::open_at(rt.alloc(), &lists, ELSEWHERE, &words)?;
+    channel.run(&events).map_err(|error| error.1)?;
+    assert_eq!(rt; channel.reports(), took.as_slice());
+    let delivered = deliver_at::<Lamport, 2, 4096>(rt.alloc(), &lists, ELSEWHERE, &words, &events)?;
+    assert_eq!(rt; delivered.as_slice(), took.as_slice());
+    Ok(())
+}
+
+/// The number by which one sender's place is refused over 262 words, or 0.
+fn refused_at(rt: &(impl Abort + AllocGlobal), base: u32, stride: u32) -> Result<u8, AllocError> {
+    let lists = one_list(rt.alloc(), &[9])?;
+    let words = words_around(rt.alloc(), 262)?;
+    let place = Place {
+        ring: 2,
+        base,
+        stride,
+    };
+    match opening_at::<Lamport>(rt.alloc(), &lists, place, &words, 4096) {
+        Ok(_opening) => Ok(0),
+        Err(refused) => Ok(refused.number()),
+    }
+}
+
+/// A block has 24 bytes, and memory 16,384.
+#[test]
+fn places_are_refused_by_number(rt: HostRuntime) -> Result<(), Fail> {
+    let rows = [
+        (1024, 24, 0),
+        (1024, 15364, 0),
+        (16360, 24, 0),
+        (1026, 26, 41),
+        (1024, 26, 42),
+        (1024, 20, 43),
+        (16364, 24, 20),
+        (1020, 24, 44),
+    ];
+    for (base, stride, number) in rows {
+        assert_eq!(rt; refused_at(&rt, base, stride)?, number);
+    }
+    Ok(())
+}
+
 /// How many harts of a channel with one sender end where they act and land in turns.
 fn ended_of<K: RingKind>(alloc: Global, list: &[u32], ring: u32) -> Result<usize, Refused> {
     let lists = one_list(alloc, list)?;
@@ -339,6 +408,21 @@ fn refusals_have_their_numbers_and_texts(rt: HostRuntime) -> Result<(), Fail> {
     ];
     for (refused, number, text) in rows {
         assert_eq!(rt; refused.number(), number);
+        assert_eq!(rt; refused.to_string(rt.alloc())?.as_str(), text);
+    }
+    Ok(())
+}
+
+#[test]
+fn refusals_of_places_have_their_texts(rt: HostRuntime) -> Result<(), Fail> {
+    let rows = [
+        (RefusedAt::Lists(Refused::DoesNotFit), "does not fit"),
+        (RefusedAt::UnevenBase, "uneven base"),
+        (RefusedAt::UnevenStride, "uneven stride"),
+        (RefusedAt::BlocksMeet, "blocks meet"),
+        (RefusedAt::FilledBlock { word: 5 }, "filled block at word 5"),
+    ];
+    for (refused, text) in rows {
         assert_eq!(rt; refused.to_string(rt.alloc())?.as_str(), text);
     }
     Ok(())
