@@ -155,7 +155,7 @@ pub fn opening<K: RingKind>(
     Ok(lay_out::<K>(alloc, lists, place, &[])?)
 }
 
-/// Whether this address is in one of the first so many blocks.
+/// Whether this address is in one of the first `count` blocks.
 #[tactic(auto, using(crate::proofs::InBlocks::is_inside, crate::proofs::InBlocks::inside_is))]
 fn is_in_blocks(place: Place, count: usize, address: u64) -> bool
     requires room { block_size place.ring ≤ place.stride }
@@ -184,7 +184,7 @@ fn filled_word(place: Place, count: usize, words: &[u32]) -> Option<usize>
     None
 }
 
-/// Whether so many blocks at a place, and the words with which memory opens, are within `m` words of memory.
+/// Whether `count` blocks at a place, and the words with which memory opens, are within `m` words of memory.
 #[tactic(auto, using(crate::proofs::Dense::rows_before))]
 fn fits_at(place: Place, count: usize, words: &[u32], m: usize) -> bool
     requires some { 1 ≤ count }

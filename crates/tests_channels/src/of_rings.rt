@@ -248,7 +248,7 @@ fn fast_forward_s_run_and_steps_report_the_same(rt: HostRuntime) -> Result<(), F
     Ok(())
 }
 
-/// So many words: 0 in the six of a block at word 256, and 7 elsewhere.
+/// `count` words: 0 in the six of a block at word 256, and 7 elsewhere.
 fn words_around(alloc: Global, count: u32) -> Result<Vec<u32>, AllocError> {
     let mut words = Vec::new(alloc);
     for index in 0..count {

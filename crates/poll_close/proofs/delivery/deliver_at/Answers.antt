@@ -1,4 +1,4 @@
--- The opening that was made is the one that is told.
+-- The opening that was made is the one that the clause names.
 use Rattle.poll_close.proofs.Delivering.{delivers-as}
 use Rattle.poll_close.proofs.delivery.deliver_at.Goals as goal
 
