@@ -55,7 +55,7 @@ place_from-le name at (first ∷ rest) = elim (cases_Bool (is_label name first.l
       rw (other, ← sum) (place_from-le name (at + size_of first.made) rest))
 ]
 
--- no label's place is behind the last word
+-- no label's place is after the last word
 pub place_within : (all : List Line) (name : List ℕ) (most : ℕ) → words_of all ≤ most → (r : Option ℕ) → r ≡ place_of all name → IfSome r (λ place. place ≤ most)
 unfolding place_of
 place_within all name most few None e = tt

@@ -117,7 +117,7 @@ no_commas : (operands : List (List ℕ)) → OperandBytes operands → NoCommas 
 no_commas [] h = tt
 no_commas (operand ∷ operands) h = (none_of_all is_operand_byte comma (not_this is_operand_byte 44 refl) operand h.0, no_commas operands h.1)
 
--- the operands behind a mnemonic are not blank
+-- the operands after a mnemonic are not blank
 operands_some : (text : List ℕ) (form : Form) (operands : List (List ℕ)) (made : Made) → AreListed text operands → Makes form operands made → trimmed text ≡ [] → ⊥
 unfolding stripped
 operands_some text form operands made listed makes blank =

@@ -1,4 +1,4 @@
--- A text, told line by line, and the first fault of it: those of the lines from the top, then a text
+-- A text, given line by line, and the first fault of it: those of the lines from the top, then a text
 -- that is too long, and then the places of labels, from the top again.
 use Rattle.std.specs.Prelude.{ℕ, ℤ, pos, ◌-ℤ◌, ◌+◌, ◌*◌, Bool, false, nat_lt, List, [], ◌∷◌, ◌++◌, length, Option, Some, None, Result, Ok, Err, if◌then◌else◌, IfSome}
 use Rattle.std.specs.Str.{bytes_eq}
@@ -59,7 +59,7 @@ with_label label answer = do
 unfoldable pub line_below : List Line → List ℕ → Result Line AsmFault
 line_below above text = if is_twice above (label_of text) then Err LabelTwice else with_label (label_of text) (made_in (statement_text text))
 
--- a fault is told with its line
+-- a fault comes with its line
 abbrev pub at_line : {A : Type 0} → ℕ → Result A AsmFault → Result A Refusal
 at_line line (Ok x) = Ok x
 at_line line (Err fault) = Err (record { fault = fault; line = line })
@@ -86,7 +86,7 @@ abbrev pub distance : ℤ → ℕ → Option ℕ → Result ℤ AsmFault
 distance bound at None = Err NoSuchLabel
 distance bound at (Some place) = if is_reached bound (in_bytes at place) then Ok (in_bytes at place) else Err OutOfRange
 
--- the instructions of a statement at a place, where found tells the labels' places
+-- the instructions of a statement at a place, where found gives the labels' places
 abbrev pub placed : (List ℕ → Option ℕ) → ℕ → Option Made → Result (List (Option Instr)) AsmFault
 placed found at None = Ok []
 placed found at (Some (one i)) = Ok (Some i ∷ [])

@@ -12,7 +12,7 @@ use Rattle.assembler.specs.Drafts.{Line}
 use Rattle.texts.specs.Cutting.{AreBlanks, IsPadded}
 use Rattle.assembler.specs.Spelled.{AreListed, IsSpelled}
 
--- ---- so many operands, each spelled as its place asks, and what is made of them
+-- ---- operands, each spelled as its place asks, and what is made of them
 
 abbrev pub AreSpelled : (kinds : List Kind) → Maker kinds → List (List ℕ) → Made → Type 0
 AreSpelled [] result operands made = (operands ≡ []) × (made ≡ result)

@@ -31,7 +31,7 @@ abbrev pub EachOnce : List Line → Type 0
 EachOnce [] = Unit {0}
 EachOnce (line ∷ below) = AllByRecursion (λ other. AreApart line other) below × EachOnce below
 
--- a label stands where so many words are above the line that defines it
+-- a label's place is the number of words above the line that defines it
 pub record Defines (all : List Line) (name : List ℕ) (place : ℕ) : Type 0 where
   pub above : List Line
   pub line : Line
@@ -40,7 +40,7 @@ pub record Defines (all : List Line) (name : List ℕ) (place : ℕ) : Type 0 wh
   pub defined : line.label ≡ Some name
   pub counted : place ≡ words_of above
 
--- The instructions of a statement with so many words before it. To a label it is 4 bytes for each
+-- The instructions of a statement with `at` words before it. To a label it is 4 bytes for each
 -- word between, forward or back, and the instruction has to reach it.
 pub data IsPlaced (all : List Line) (at : ℕ) : Option Made → List Instr → Type 0 where
   nothing : IsPlaced all at None []
@@ -49,7 +49,7 @@ pub data IsPlaced (all : List Line) (at : ℕ) : Option Made → List Instr → 
   jumping : (rd : Reg) (name : List ℕ) (place : ℕ) → Defines all name place → IsReached (pos 1048576) (bytes (in_bytes at place)) → IsPlaced all at (Some (jump rd name)) (instr.Jal rd (in_bytes at place) ∷ [])
   branching : (op : BranchOp) (rs1 rs2 : Reg) (name : List ℕ) (place : ℕ) → Defines all name place → IsReached (pos 4096) (bytes (in_bytes at place)) → IsPlaced all at (Some (branch op rs1 rs2 name)) (instr.Branch op rs1 rs2 (in_bytes at place) ∷ [])
 
--- the instructions of lines, the first of which has so many words before it
+-- the instructions of lines, the first of which has `at` words before it
 abbrev pub ArePlaced : (all : List Line) (at : ℕ) → List Line → List Instr → Type 0
 ArePlaced all at [] instrs = instrs ≡ []
 ArePlaced all at (line ∷ below) instrs = (front : List Instr) × (rest : List Instr) × (instrs ≡ front ++ rest) × IsPlaced all at line.made front × ArePlaced all (at + size_of line.made) below rest

@@ -83,7 +83,7 @@ order_name true false = codes ".aq"
 order_name false true = codes ".rl"
 order_name true true = codes ".aqrl"
 
--- ---- operands, behind a space or a comma
+-- ---- operands, after a space or a comma
 
 abbrev pub register_text : Reg → List ℕ
 register_text register = codes "x" ++ decimal register.number

@@ -1,4 +1,4 @@
-//! A text, told line by line.
+//! A text, given line by line.
 
 ghost use Rattle.std.specs.Prelude.{◌≡◌, List, [], ◌∷◌, ◌++◌, ◌<◌, ◌^◌, false, length, map, vec_len, vec_capacity, Ok, Err, Some, IfOk, IfErr, OnOk, OnErr};
 ghost use Rattle.rv_decode.specs.Meaning.{meaning};

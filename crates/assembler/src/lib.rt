@@ -11,7 +11,7 @@
 //! Beside the grammar stand definitions that are functions and name the first fault with its line
 //! (`exact`): a line's parts in `Lines`, what an operand says in `Operands`, the first fault of a
 //! statement in `Statements`, over the same table, and labels in `Drafts`, in the order that
-//! [`Draft::line`] and [`Draft::finish`] tell.
+//! [`Draft::line`] and [`Draft::finish`] return.
 //!
 //! [`laws::number_put`]: the one or two instructions of `li` put its number in the register.
 //! [`write_instr`] appends the text of `Writing`; [`laws::read_again`]: that text is a program of the

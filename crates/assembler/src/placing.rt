@@ -32,7 +32,7 @@ pub fn first_over(lines: &[KeptLine]) -> usize
     lines.len() + 1
 }
 
-/// How many bytes the place is behind the word.
+/// How many bytes the place is after the word.
 fn bytes_between(word: usize, place: usize) -> i64
     requires word { word ≤ MAX_CODE }
     requires place { place ≤ MAX_CODE }
@@ -41,7 +41,7 @@ fn bytes_between(word: usize, place: usize) -> i64
     4 * place as i64 - 4 * word as i64
 }
 
-/// How many bytes the label is behind the word, within the bound.
+/// How many bytes the label is after the word, within the bound.
 fn distance_to(places: &Places, label: &[u8], word: usize, bound: i64) -> Result<i32, AsmFault>
     requires near { IfSome (found places.now label.now) (λ place. place ≤ MAX_CODE) }
     requires word { word ≤ MAX_CODE }

@@ -1,5 +1,5 @@
 -- Writes with their rows are the writes, and each row named has made its write.
-use Rattle.std.proofs.Common.{◌≡◌, ℕ, zero, suc, ◌+◌, ◌-◌, ◌<◌, ◌≤◌, ◌==◌, min, get_or, Bool, true, false, if◌then◌else◌, List, [], ◌∷◌, ◌++◌, length, take, drop, map, Option, Some, None, All, refl, sym, ◌∙◌, ap, subst, arith, append_assoc, append-nil}
+use Rattle.std.proofs.Common.{◌≡◌, ℕ, suc, ◌+◌, ◌-◌, ◌<◌, ◌==◌, min, get_or, Bool, true, false, if◌then◌else◌, List, [], ◌∷◌, ◌++◌, length, take, drop, map, Option, Some, None, All, refl, sym, ◌∙◌, ap, subst, arith, append_assoc, append-nil}
 use Rattle.std.specs.Prelude.{option_map, option_to_list, IfSome}
 use Rattle.std.specs.Int.{byte_at}
 use Rattle.std.specs.List.{slice_get}
@@ -12,7 +12,7 @@ use Rattle.step_machine.specs.Access.{Access, nothing, load, store, exchange, fe
 use Rattle.step_machine.specs.Entries.{hart_of, stored_by, written_by, store_of, stores, lands, pending, write_of, landed_after, landed}
 use Rattle.step_machine.proofs.Appended.{lands-append}
 use Rattle.chart.specs.declared.sources.RowWrite.{RowWrite}
-use Rattle.chart.specs.Sources.{at_row, stores_by_row, pending_by_row, landed_by_row_after, landed_by_row, newest_from, stored_in, written_in, stored_at, written_at}
+use Rattle.chart.specs.Sources.{at_row, stores_by_row, pending_by_row, landed_by_row_after, landed_by_row, newest_from, stored_at, written_at}
 
 abbrev pub write_in : RowWrite → Write
 write_in w = w.write

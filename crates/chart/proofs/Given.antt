@@ -1,6 +1,6 @@
 -- What the named sources give is what is read, and a landing is joined to its own hart's oldest pending store.
-use Rattle.std.proofs.Common.{◌≡◌, ℕ, ◌+◌, ◌<◌, length, arith, Bool, true, false, List, [], ◌∷◌, Option, Some, None, All, refl, sym, ◌∙◌, ap, subst, take}
-use Rattle.std.specs.Prelude.{option_map, unwrap_or, IfSome, map}
+use Rattle.std.proofs.Common.{◌≡◌, ℕ, ◌+◌, ◌<◌, length, arith, List, [], ◌∷◌, Option, Some, None, All, refl, sym, ◌∙◌, ap, subst, take}
+use Rattle.std.specs.Prelude.{option_map, unwrap_or, IfSome}
 use Rattle.std.specs.List.{slice_get}
 use Rattle.std.proofs.lemmas.List.Elements.{All-head}
 use Rattle.memory.specs.declared.writes.Write.{Write}
@@ -10,10 +10,10 @@ use Rattle.step_machine.specs.declared.events.Entry.{Entry}
 use Rattle.step_machine.specs.declared.events.Entry.TheVariants as entry
 use Rattle.step_machine.specs.History.{Start}
 use Rattle.step_machine.specs.Legal.{Allowed}
-use Rattle.step_machine.specs.Entries.{hart_of, is_land, pending, landed, opening_byte, memory_byte, read_byte, read, write_of}
+use Rattle.step_machine.specs.Entries.{pending, landed, opening_byte, read_byte, read, write_of}
 use Rattle.chart.specs.declared.sources.RowWrite.{RowWrite}
 use Rattle.chart.specs.Sources.{pending_by_row, landed_by_row, newest, named, source_of, row_of, landed_store, stored_at, byte_from}
-use Rattle.chart.proofs.ByRow.{write_in, writes, byte_by, HasStored, HasWritten, writes-pending, writes-landed, newest-bytes, newest-is, pending_stored, landed_written}
+use Rattle.chart.proofs.ByRow.{writes, byte_by, HasStored, HasWritten, writes-pending, writes-landed, newest-bytes, newest-is, pending_stored, landed_written}
 
 -- the newest write to cover a byte, where it is told by the rows
 newest_row : (a : ℕ) (ws : List RowWrite) (plain : List Write) → writes ws ≡ plain → newest_of a None plain ≡ option_map (byte_by a) (newest a ws)

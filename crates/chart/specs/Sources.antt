@@ -1,7 +1,7 @@
 -- Where the bytes come from that a hart reads after some entries. A row is an entry's place, from 0. For
 -- each byte: the hart's own youngest pending store to cover it, else the row that wrote it to memory last,
 -- else the opening.
-use Rattle.std.specs.Prelude.{ℕ, ◌≡◌, ◌+◌, ◌-◌, if◌then◌else◌, List, [], ◌∷◌, ◌++◌, take, drop, Option, Some, None, option_map}
+use Rattle.std.specs.Prelude.{ℕ, ◌+◌, ◌-◌, if◌then◌else◌, List, [], ◌∷◌, ◌++◌, take, drop, Option, Some, None, option_map}
 use Rattle.std.specs.Int.{byte_at}
 use Rattle.std.specs.List.{slice_get}
 use Rattle.memory.specs.declared.writes.Write.{Write}

@@ -1,6 +1,6 @@
 //! Laws of rows and sources, which hold of every list of entries.
 
-ghost use Rattle.std.specs.Prelude.{◌≡◌, ◌+◌, ℕ, List, Some, map};
+ghost use Rattle.std.specs.Prelude.{◌≡◌, ◌+◌, ℕ, All, List, Some, map};
 ghost use Rattle.memory.specs.Writes.{joined};
 ghost use Rattle.step_machine.specs.declared.events.Entry.{Entry};
 ghost use Rattle.step_machine.specs.declared.events.Entry.TheVariants as entry;
@@ -8,7 +8,9 @@ ghost use Rattle.step_machine.specs.History.{Start};
 ghost use Rattle.step_machine.specs.Entries.{read, read_byte, write_of};
 ghost use Rattle.step_machine.specs.Legal.{Allowed};
 ghost use Rattle.chart.specs.Sources.{byte_from, landed_store, source_of, stored_at};
-ghost use Rattle.chart.specs.Rows.{rows_of};
+ghost use Rattle.chart.specs.Rows.{RowOf, rows_of};
+ghost use Rattle.chart.specs.declared.lanes.Shape.{Shape};
+ghost use Rattle.chart.specs.Lanes.{lanes_of, IsApart};
 
 /// The laws of rows and sources. A byte that a hart reads after some entries is the one that its source
 /// gives, and so the value of a load and the old word of an AMO are what their sources give. A landing
@@ -20,4 +22,10 @@ pub fn laws_of_sources()
     ensures amos { (B : ℕ) (o : Start) (before : List Entry) (h a old new : ℕ) → Allowed B o before (entry.Amo h a old new) → old ≡ joined (λ i. byte_from o before h (a + i) (source_of before h (a + i))) 4 }
     ensures landings { (B : ℕ) (o : Start) (before : List Entry) (h : ℕ) → Allowed B o before (entry.Land h) → (row : ℕ) × (landed_store before (entry.Land h) ≡ Some row) × (write_of before (entry.Land h) ≡ stored_at h before row) }
     ensures entries { (es : List Entry) → map (λ r. r.entry) (rows_of es) ≡ es }
+{}
+
+/// The law of lanes: no two lines that stand at one row have one lane. It does nothing.
+#[tactic(auto, using(crate::proofs::Apart::lanes_apart))]
+pub fn laws_of_lanes()
+    ensures { (shape : Shape) (rows : List RowOf) → All IsApart (lanes_of shape rows) }
 {}

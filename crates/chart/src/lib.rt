@@ -1,17 +1,29 @@
-//! The picture of a run: its rows, and where what they read came from.
+//! The picture of a run: its rows, where what they read came from, and what they say.
 //!
 //! The contract: [`rows_of`] answers a row for each entry of a run, with the source of each byte that it
 //! read (`specs/Sources.antt`) and, for a landing, the row of the store that landed; [`laws_of_sources`]
 //! states that what is read is what the named sources give, and that a landing lands its own hart's
-//! oldest pending store.
-//! This crate draws nothing yet, and runs no machine: it reads entries alone.
+//! oldest pending store. [`naming`] names places of memory (`specs/Names.antt`), [`saying`] writes what an
+//! entry did and what it leaves in memory (`specs/Sayings.antt`), and [`tags`] its sources
+//! (`specs/Tags.antt`); [`row_texts::row_texts`] lists all of them by rows. [`lanes`] gives each pending store the lane in which its line stands
+//! (`specs/Lanes.antt`); [`laws_of_lanes`] states that no two lines at one row have one lane.
+//! [`pictures`] is a picture as a value, and [`text::text`] writes it (`specs/Pictures.antt`); no picture is
+//! made of rows yet.
+//! This crate runs no machine: it reads entries alone.
 
 #![tactic(auto)]
 
+pub mod lanes;
 pub mod laws;
+pub mod naming;
+pub mod pictures;
+pub mod row_texts;
 mod rows;
+pub mod saying;
 mod sources;
+pub mod tags;
+pub mod text;
 
-pub use laws::laws_of_sources;
+pub use laws::{laws_of_lanes, laws_of_sources};
 pub use rows::{Row, rows_of};
 pub use sources::{RowWrite, Source};

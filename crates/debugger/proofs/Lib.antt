@@ -1,4 +1,5 @@
 pub mod SessionLaws
+pub mod SnapshotLaws
 pub mod WalkLaws
 pub mod DebugLaws
 pub mod TalkLaws

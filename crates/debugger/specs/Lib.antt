@@ -1,4 +1,5 @@
 pub mod Sessions
+pub mod Nearest
 pub mod Walks
 pub mod Commands
 pub mod DebugText

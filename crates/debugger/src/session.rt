@@ -1,13 +1,19 @@
 //! A machine that is given event after event, and that goes back.
 
-ghost use Rattle.std.specs.Prelude.{◌≡◌, ◌≤◌, IfOk};
+ghost use Rattle.std.specs.Prelude.{◌≡◌, ◌≤◌, ◌<◌, ◌/◌, Some, IfOk, length, drop};
+ghost use Rattle.std.specs.List.{slice_get};
 ghost use Rattle.step_machine.specs.History.{FitsIn};
 ghost use Rattle.step_machine.specs.Runs.{Run};
 ghost use Rattle.debugger.specs.Sessions.{begun, GoesOn, GoesBack};
+ghost use Rattle.debugger.specs.Nearest.{snapshot_before, IsNearest};
+ghost use Rattle.debugger.specs.declared.session.TheConstants.{SNAPSHOT_EVENTS};
 
 use std::alloc::{AllocError, Global};
 use std::marker::Model;
-use step_machine::{Event, Machine, Opening, Outcome};
+use step_machine::{Event, Machine, Opening, Outcome, Snapshot};
+
+/// How many events come between one snapshot of a session and the next.
+pub const SNAPSHOT_EVENTS: usize = 1024;
 
 /// A machine with store buffers of `B` pairs over `M` words, and the events that it was given since its
 /// opening. What it did is the run of these events from that opening.
@@ -15,17 +21,21 @@ use step_machine::{Event, Machine, Opening, Outcome};
 pub struct Session<const B: usize, const M: usize> {
     machine: Machine<B, M>,
     events: Vec<Event>,
+    /// One of the opening, and one after every `SNAPSHOT_EVENTS` events.
+    snapshots: Vec<Snapshot<B, M>>,
 }
 
 impl<const B: usize, const M: usize> Model for Session<B, M> {
     ghost use Rattle.step_machine.specs.Runs.{Run};
     ghost use Rattle.debugger.specs.Sessions.{Past};
+    ghost use Rattle.debugger.specs.inner.SnapshotsHeld.{HasSnapshots};
 
     ghost Value = { Past };
 
     ghost view = { λ s. record { opening = s.machine.history.opening; events = s.events.items; history = s.machine.history } };
 
-    ghost invariant = { λ s. Run B M s.machine.history.opening s.events.items s.machine.history };
+    ghost invariant = { λ s. Run B M s.machine.history.opening s.events.items s.machine.history
+        × HasSnapshots B M s.machine.history.opening s.events.items s.snapshots.items };
 }
 
 impl<const B: usize, const M: usize> Session<B, M> {
@@ -39,9 +49,13 @@ impl<const B: usize, const M: usize> Session<B, M> {
         ensures { IfOk result (λ session. session ≡ begun opening) }
     {
         let machine = Machine::open(alloc, opening)?;
+        let snapshot = machine.snapshot()?;
+        let mut snapshots = Vec::new(alloc);
+        snapshots.push(snapshot)?;
         Ok(Session {
             machine,
             events: Vec::new(alloc),
+            snapshots,
         })
     }
 
@@ -52,26 +66,53 @@ impl<const B: usize, const M: usize> Session<B, M> {
         let Session {
             mut machine,
             mut events,
+            mut snapshots,
         } = self;
         events.push(event)?;
         let outcome = machine.step(event)?;
-        Ok((Session { machine, events }, outcome))
+        if events.len() % SNAPSHOT_EVENTS == 0 {
+            let snapshot = machine.snapshot()?;
+            snapshots.push(snapshot)?;
+        }
+        let session = Session {
+            machine,
+            events,
+            snapshots,
+        };
+        Ok((session, outcome))
     }
 
-    /// Takes the last `k` events back, or all of them. Those that stay are run anew from the opening.
+    /// Takes the last `k` events back, or all of them. Of those that stay, the ones since the latest snapshot
+    /// are run anew, fewer than `SNAPSHOT_EVENTS`.
     pub fn back(self, k: usize) -> Result<Self, AllocError>
         ensures { IfOk result (GoesBack B M self.entry k) }
     {
         let Session {
             mut machine,
             mut events,
+            mut snapshots,
         } = self;
         events.truncate(events.len().saturating_sub(k));
-        machine.restart();
-        match machine.run(&events) {
-            Ok(()) => Ok(Session { machine, events }),
+        snapshots.truncate(events.len() / SNAPSHOT_EVENTS + 1);
+        let (snapshot, rest) = latest(&snapshots, &events);
+        machine.back_to(snapshot);
+        match machine.run(rest) {
+            Ok(()) => Ok(Session {
+                machine,
+                events,
+                snapshots,
+            }),
             Err((_, error)) => Err(error),
         }
+    }
+
+    /// The latest snapshot at or before a place, and the events from there to the place, fewer than
+    /// `SNAPSHOT_EVENTS`. A place is how many of the session's events come before it.
+    pub fn nearest(&self, place: usize) -> (&Snapshot<B, M>, &[Event])
+        requires { place ≤ length self.now.events }
+        ensures { IsNearest B M self.now place result.0.now result.1.now }
+    {
+        latest(&self.snapshots, &self.events[..place])
     }
 
     /// The machine as it stands after the events.
@@ -89,4 +130,17 @@ impl<const B: usize, const M: usize> Session<B, M> {
     {
         &self.events
     }
+}
+
+/// The latest of the snapshots that some events have, and those of the events that come after it.
+fn latest<'a, const B: usize, const M: usize>(
+    snapshots: &'a [Snapshot<B, M>],
+    events: &'a [Event],
+) -> (&'a Snapshot<B, M>, &'a [Event])
+    requires { length events.now / SNAPSHOT_EVENTS < length snapshots.now }
+    ensures snapshot { slice_get snapshots.now (length events.now / SNAPSHOT_EVENTS) ≡ Some result.0.now }
+    ensures rest { result.1.now ≡ drop (snapshot_before (length events.now)) events.now }
+{
+    let last = events.len() / SNAPSHOT_EVENTS;
+    (&snapshots[last], &events[last * SNAPSHOT_EVENTS..])
 }

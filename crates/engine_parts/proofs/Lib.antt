@@ -7,3 +7,5 @@ pub mod LineFaulted
 pub mod TestTexts
 pub mod ScheduleTexts
 pub mod ThreadRuns
+pub mod RunLaws
+pub mod ScheduleLaws

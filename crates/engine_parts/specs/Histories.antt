@@ -6,14 +6,19 @@ use Rattle.step_machine.specs.declared.events.Event.{Event}
 use Rattle.litmus.specs.Questions.{Question}
 use Rattle.litmus_reader.specs.Grammar.{IsTestOf}
 use Rattle.recorder.specs.Schedule.{IsPlainOf}
-use Rattle.recorder.specs.Versions.{Said}
+use Rattle.recorder.specs.Records.{Step, events_in}
+use Rattle.recorder.specs.Versions.{Said, Says, events_said}
 use Rattle.recorder.specs.Versions.Said.{plain, recorded}
 use Rattle.recorder.specs.Replaying.{IsRunRecord, DiffersAt}
+use Rattle.recorder.specs.declared.replaying.CheckError.{CheckError}
+use Rattle.recorder.specs.declared.replaying.CheckError.TheVariants as error
+use Rattle.engine_parts.specs.declared.fault.Fault.{Fault}
+use Rattle.engine_parts.specs.declared.fault.Fault.TheVariants.{NoMemory, Refused}
 use Rattle.engine_parts.specs.declared.fault.Refusal.{Refusal}
 use Rattle.engine_parts.specs.declared.fault.Position.TheVariants.{Event as AtEvent}
 use Rattle.engine_parts.specs.Engines.{Accepted}
 use Rattle.engine_parts.specs.Tests.{IsNoTest}
-use Rattle.engine_parts.specs.Schedules.{IsNoSchedule}
+use Rattle.engine_parts.specs.Schedules.{IsNoSchedule, IsNeitherVersion}
 
 -- This holds of the history that the events make of the test's opening, over store buffers of B pairs
 -- and a memory of M words.
@@ -39,6 +44,11 @@ ByRun B M IsAnswer = ByBoth (IsOfRun B M IsAnswer)
 abbrev pub differing : (event : ℕ) → Refusal
 differing event = record { number = 38; place = AtEvent event }
 
+-- why a check of a record fails, as a fault
+abbrev pub fault_of_check : CheckError → Fault
+fault_of_check error.NoMemory = NoMemory
+fault_of_check (error.Differs event) = Refused (differing event)
+
 -- What running a schedule from an opening gives: the history of its events, and of a record only where
 -- each outcome is the run's; else the first event whose outcome isn't.
 abbrev pub Runs : (B M : ℕ) → Start → Said → Result History Refusal → Type 0
@@ -46,3 +56,15 @@ Runs B M opening (plain events) (Ok history) = Run B M opening events history
 Runs B M opening (plain events) (Err refusal) = ⊥
 Runs B M opening (recorded steps) (Ok history) = IsRunRecord B M opening steps history
 Runs B M opening (recorded steps) (Err refusal) = (event : ℕ) × DiffersAt B M opening steps event × (refusal ≡ differing event)
+
+-- What noting its outcomes gives: its events, each with its outcome in the run.
+abbrev pub Records : (B M : ℕ) → Start → Said → Result (List Step) Refusal → Type 0
+Records B M opening said (Ok steps) = (events_in steps ≡ events_said said) × ((history : History) × Runs B M opening said (Ok history) × IsRunRecord B M opening steps history)
+Records B M opening said (Err refusal) = Runs B M opening said (Err refusal)
+
+-- What answers a litmus text and a schedule of either version, where this holds of their test, of what the
+-- schedule says and of the answer. The test is judged first, then the schedule's text.
+pub data BySchedule {A : Type 0} (IsAnswer : Question → Said → Result A Refusal → Type 0) (file schedule : List ℕ) : Result A Refusal → Type 0 where
+  no_test : (refusal : Refusal) → IsNoTest file refusal → BySchedule IsAnswer file schedule (Err refusal)
+  no_schedule : (question : Question) (refusal : Refusal) → Accepted IsTestOf file question → IsNeitherVersion schedule refusal → BySchedule IsAnswer file schedule (Err refusal)
+  both : (question : Question) (said : Said) (answer : Result A Refusal) → Accepted IsTestOf file question → Accepted Says schedule said → IsAnswer question said answer → BySchedule IsAnswer file schedule answer

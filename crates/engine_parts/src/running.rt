@@ -1,13 +1,16 @@
 //! A test's runs.
 
-ghost use Rattle.std.specs.Prelude.{◌≡◌, ◌≤◌, length, IfOk, OnOk};
+ghost use Rattle.std.specs.Prelude.{◌≡◌, ◌≤◌, ℕ, List, Result, length, IfOk, OnOk};
+ghost use Rattle.step_machine.specs.History.{Start, History};
 ghost use Rattle.step_machine.specs.Runs.{Run};
 ghost use Rattle.step_machine.specs.declared.opening.TheConstants.{MAX_HARTS};
-ghost use Rattle.recorder.specs.Versions.{said_of};
+ghost use Rattle.recorder.specs.Records.{Step};
+ghost use Rattle.recorder.specs.Versions.{Said, said_of};
 ghost use Rattle.engine_parts.specs.Engines.{AnswersBoth};
 ghost use Rattle.engine_parts.specs.Faults.{AnswersAs};
 ghost use Rattle.engine_parts.specs.Tests.{HasNoTest};
-ghost use Rattle.engine_parts.specs.Histories.{ByRun, Runs};
+ghost use Rattle.engine_parts.specs.Histories.{ByRun, Records, Runs, fault_of_check};
+ghost use Rattle.engine_parts.specs.declared.fault.Refusal.{Refusal};
 ghost use Rattle.engine_parts.specs.inner.Making.{Finds};
 ghost use Rattle.engine_parts.specs.inner.Inputs.{IsItself};
 ghost use Rattle.litmus.specs.declared.question.TheConstants.{MAX_LOCATIONS};
@@ -16,10 +19,10 @@ use crate::fault::{DIFFERS, Fault, Position};
 use crate::litmus_text::read_test;
 use crate::schedule::read_events;
 use litmus::Test;
-use recorder::{CheckError, Schedule, replay, replay_checked};
+use recorder::{CheckError, Schedule, record, replay, replay_checked};
 use std::alloc::{AllocError, Global};
 use std::io::Read;
-use step_machine::{Event, Machine};
+use step_machine::{Event, Machine, Outcome};
 
 /// The machine that these events make of the test's opening: one that the test can judge.
 fn machine_after<const B: usize, const M: usize>(
@@ -40,6 +43,16 @@ fn machine_after<const B: usize, const M: usize>(
     Ok(machine)
 }
 
+/// Why a record isn't replayed, as a fault.
+fn check_fault(error: CheckError) -> Fault
+    ensures { result ≡ fault_of_check error }
+{
+    match error {
+        CheckError::NoMemory => Fault::NoMemory,
+        CheckError::Differs { event } => Fault::refused(DIFFERS, Position::Event(event)),
+    }
+}
+
 /// The machine that a schedule of either version makes of the test's opening. A record is checked as it
 /// runs: it is refused by [`DIFFERS`] at the first event whose outcome isn't the run's.
 pub fn machine_of_schedule<const B: usize, const M: usize>(
@@ -51,7 +64,9 @@ pub fn machine_of_schedule<const B: usize, const M: usize>(
     requires capacity { B ≤ 64 }
     requires words { MAX_LOCATIONS ≤ M }
     requires size { M ≤ 65536 }
-    ensures { AnswersAs (Runs B M test.now.opening (said_of schedule)) (λ machine. machine.history) result }
+    ensures ran { AnswersAs (Runs B M test.now.opening (said_of schedule)) (λ machine. machine.history) result }
+    ensures harts { IfOk result (λ machine. length machine.history.opening.harts ≡ length test.now.opening.harts) }
+    ensures names { IfOk result (λ _. length test.now.names ≤ M) }
 {
     let opening = test.opening(alloc)?;
     match schedule {
@@ -61,10 +76,33 @@ pub fn machine_of_schedule<const B: usize, const M: usize>(
         },
         Schedule::Record(steps) => match replay_checked(alloc, opening, &steps) {
             Ok(machine) => Ok(machine),
-            Err(CheckError::NoMemory) => Err(Fault::NoMemory),
-            Err(CheckError::Differs { event }) => {
-                Err(Fault::refused(DIFFERS, Position::Event(event)))
-            }
+            Err(error) => Err(check_fault(error)),
+        },
+    }
+}
+
+/// The record of a test's run by a schedule of either version: its events, each with its outcome. A record
+/// is checked, as [`machine_of_schedule`] checks it.
+pub fn record_of_schedule<const B: usize, const M: usize>(
+    alloc: Global,
+    test: &Test,
+    schedule: Schedule,
+) -> Result<Vec<(Event, Outcome)>, Fault>
+    requires some_capacity { 1 ≤ B }
+    requires capacity { B ≤ 64 }
+    requires words { MAX_LOCATIONS ≤ M }
+    requires size { M ≤ 65536 }
+    ensures { AnswersAs (Records B M test.now.opening (said_of schedule)) (λ steps. steps.items) result }
+{
+    let opening = test.opening(alloc)?;
+    match schedule {
+        Schedule::Plain(events) => match record::<B, M>(alloc, opening, &events) {
+            Ok(steps) => Ok(steps),
+            Err(_) => Err(Fault::NoMemory),
+        },
+        Schedule::Record(steps) => match replay_checked::<B, M>(alloc, opening, &steps) {
+            Ok(_) => Ok(steps),
+            Err(error) => Err(check_fault(error)),
         },
     }
 }
@@ -124,3 +162,10 @@ pub fn run_anew<const B: usize, const M: usize>(
         Err((_, error)) => Err(error),
     }
 }
+
+/// Running a schedule from an opening gives one history, or one event that differs first; noting its
+/// outcomes gives one record. It does nothing.
+pub fn laws_of_schedules()
+    ensures runs { (B M : ℕ) (o : Start) (said : Said) (a b : Result History Refusal) → Runs B M o said a → Runs B M o said b → a ≡ b }
+    ensures records { (B M : ℕ) (o : Start) (said : Said) (a b : Result (List Step) Refusal) → Records B M o said a → Records B M o said b → a ≡ b }
+{}

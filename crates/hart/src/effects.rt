@@ -164,7 +164,7 @@ pub(crate) fn even_address(base: u32, offset: i32) -> u32
     address(base, offset) & !1
 }
 
-/// Leaves the registers as the instruction at `pc` does, and answers the pc behind it. `loaded` is the
+/// Leaves the registers as the instruction at `pc` does, and returns the pc after it. `loaded` is the
 /// number that a load or an AMO read, and is not looked at elsewhere. It is one choice among the
 /// instructions, since the processor pays for each.
 #[inline(always)]

@@ -40,7 +40,7 @@ fn past_multiple(addr: u32, width: u32) -> u32
     }
 }
 
-/// What an access to `width` bytes from `addr` on wants, in a memory of so many words.
+/// What an access to `width` bytes from `addr` on wants, in a memory of `words` words.
 #[inline(always)]
 pub(crate) fn access_need(words: usize, width: u32, addr: u32, wanted: Need) -> Need
     requires words { words ≤ 65536 }

@@ -2,7 +2,7 @@
 use Rattle.std.proofs.Common.{inl, inr, ◌≡◌, ℕ, ◌+◌, ◌<◌, Bool, true, false, not, ◌&&◌, eqb, cond, List, [], ◌∷◌, ◌++◌, length, get_or, refl, sym, ◌∙◌, ap, subst, append-nil, append_assoc}
 use Rattle.std.specs.Prelude.{map, fold, count_by, All}
 use Rattle.std.specs.List.{AllZip, list_any, Contains}
-use Rattle.std.proofs.lemmas.Bool.{cases_lt, eq-eqb}
+use Rattle.std.proofs.lemmas.Bool.{cases_lt, eq-eqb, true≢false}
 use Rattle.std.proofs.lemmas.List.Elements.{All-nil, All-cons, All-head, All-tail, All-contains, Contains-get_or}
 use Rattle.std.proofs.lemmas.Slice.Zip.{all_zipped_more}
 use Rattle.std.proofs.lemmas.List.Folds.{list_any-from_Any}
@@ -121,17 +121,14 @@ same_missing k n h given back come =
     let any : list_any (sits_at h) back ≡ list_any (sits_at h) given = same_any (λ (r : Role). eqb r.hart h) back given is in
     rw (acting, landing, any) refl
 
-true_isnt_false : true ≡ false → ⊥
-true_isnt_false is = cc
-
 pub none_is_first : (n h : ℕ) (seats : List SeatView) → IsComplete n seats → IsFirst (is_missing n seats) h → ⊥
-none_is_first n h seats complete first = true_isnt_false (sym first.here ∙ complete h)
+none_is_first n h seats complete first = true≢false (sym first.here ∙ complete h)
 
 -- where no seat is missing, each is of a hart
 pub harts_within : (n : ℕ) (seats : List SeatView) → IsComplete n seats → All (λ (s : SeatView). s.hart < n) seats
 harts_within n seats complete k d lt = elim (cases_lt (get_or seats k d).hart n) [
   | inl low ↦ low
-  | inr past ↦ absurd (true_isnt_false (sym (found (get_or seats k d) (Contains-get_or seats k d lt)) ∙ sym (missing_past n (get_or seats k d).hart seats past) ∙ complete (get_or seats k d).hart))
+  | inr past ↦ absurd (true≢false (sym (found (get_or seats k d) (Contains-get_or seats k d lt)) ∙ sym (missing_past n (get_or seats k d).hart seats past) ∙ complete (get_or seats k d).hart))
 ]
   where
     found : (s : SeatView) → Contains seats s → list_any (sits_at s.hart) seats ≡ true
@@ -160,7 +157,7 @@ can_belong M n o us h s t on good low = record {
 pub fails_from : (B M n : ℕ) (o : Start) (given back : List SeatView) (e : Gather) → IsComplete (length o.harts) given → AllZip (Continues n) given back → Refuses B M o back e → Fails B M n o given (fault_of e)
 fails_from B M n o given back gather.NoMemory complete come why = complete
 fails_from B M n o given back (gather.Missing h) complete come why =
-    absurd (true_isnt_false (sym why.here ∙ same_missing n (length o.harts) h given back come ∙ complete h))
+    absurd (true≢false (sym why.here ∙ same_missing n (length o.harts) h given back come ∙ complete h))
 fails_from B M n o given back (gather.Mismatch h es) complete come why =
     let all : All (λ (s : SeatView). s.hart < length o.harts) back = harts_within (length o.harts) back why.complete in
     let bad = why.misfit.bad in

@@ -2,7 +2,7 @@
 use Rattle.std.proofs.Common.{◌≡◌, ◌⊎◌, inl, inr, ℕ, ◌+◌, ◌<◌, ◌≤◌, Bool, true, false, not, ltb, eqb, cond, List, Option, Some, None, refl, sym, ◌∙◌, ap, arith, below_more}
 use Rattle.std.specs.Prelude.{All, MatchOption}
 use Rattle.std.specs.List.{list_any}
-use Rattle.std.proofs.lemmas.Bool.{cases_lt}
+use Rattle.std.proofs.lemmas.Bool.{cases_lt, eq-eqb, le-ltb, lt-ltb, ne_eqb}
 use Rattle.std.proofs.lemmas.Bool.Decides.{nat_tests}
 use Rattle.std.proofs.lemmas.List.Elements.{All-weaker}
 use Rattle.std.proofs.lemmas.List.Folds.{list_any_none, list_any-from_Any}
@@ -10,25 +10,13 @@ use Rattle.hart_threads.specs.Seats.{SeatView}
 use Rattle.hart_threads.specs.Missing.{is_missing, is_seated, IsFirst, IsComplete, sits_at}
 use Rattle.hart_threads.specs.inner.Searches.{Found}
 
-within : (h n : ℕ) → h < n → ltb h n ≡ true
-within h n lt = grind (arith, nat_tests)
-
-past : (h n : ℕ) → n ≤ h → ltb h n ≡ false
-past h n le = grind (arith, nat_tests)
-
-other : (a h : ℕ) → a < h → eqb a h ≡ false
-other a h lt = grind (arith, nat_tests)
-
-same : (a h : ℕ) → a ≡ h → eqb a h ≡ true
-same a h is = grind (arith, nat_tests)
-
 pub missing_within : (n h : ℕ) (seats : List SeatView) → h < n → is_missing n seats h ≡ not (is_seated h seats)
 unfolding is_missing
-missing_within n h seats lt = ap (λ (b : Bool). cond b (not (is_seated h seats)) (list_any (sits_at h) seats)) (within h n lt)
+missing_within n h seats lt = ap (λ (b : Bool). cond b (not (is_seated h seats)) (list_any (sits_at h) seats)) (lt-ltb h n lt)
 
 pub missing_past : (n h : ℕ) (seats : List SeatView) → n ≤ h → is_missing n seats h ≡ list_any (sits_at h) seats
 unfolding is_missing
-missing_past n h seats le = ap (λ (b : Bool). cond b (not (is_seated h seats)) (list_any (sits_at h) seats)) (past h n le)
+missing_past n h seats le = ap (λ (b : Bool). cond b (not (is_seated h seats)) (list_any (sits_at h) seats)) (le-ltb h n le)
 
 pub first_within : (n h : ℕ) (seats : List SeatView) (b : Bool) → h < n → b ≡ is_seated h seats → b ≡ false → ((k : ℕ) → k < h → is_missing n seats k ≡ false) → IsFirst (is_missing n seats) h
 first_within n h seats b lt is isnt below = record { here = missing_within n h seats lt ∙ ap not (sym is ∙ isnt); below = below }
@@ -37,7 +25,7 @@ pub none_more : (n h : ℕ) (seats : List SeatView) (b : Bool) → h < n → b �
 none_more n h seats b lt is all below = below_more _ _ below (missing_within n h seats lt ∙ ap not (sym is ∙ all))
 
 none_at : (k : ℕ) (seats : List SeatView) → All (λ (s : SeatView). s.hart < k) seats → list_any (sits_at k) seats ≡ false
-none_at k seats all = list_any_none (sits_at k) seats (All-weaker (λ (s : SeatView). s.hart < k) (λ (s : SeatView). sits_at k s ≡ false) (λ s lt. other s.hart k lt) seats all)
+none_at k seats all = list_any_none (sits_at k) seats (All-weaker (λ (s : SeatView). s.hart < k) (λ (s : SeatView). sits_at k s ≡ false) (λ s lt. ne_eqb s.hart k (λ is. omega arith)) seats all)
 
 none_between : (n h k : ℕ) (seats : List SeatView) → n ≤ k → k < h → All (λ (s : SeatView). s.hart < h → s.hart < n) seats → list_any (sits_at k) seats ≡ false
 none_between n h k seats le lt all = list_any_none (sits_at k) seats (All-weaker (λ (s : SeatView). s.hart < h → s.hart < n) (λ (s : SeatView). sits_at k s ≡ false) (λ s only. at s only (eqb s.hart k) refl) seats all)
@@ -57,7 +45,7 @@ first_past n i seats None le below all = λ k. at k (cases_lt k n)
 first_past n i seats (Some h) le below least =
     let there : n ≤ h = omega (arith, least.bad.2, least.bad.3) in
     record {
-      here = missing_past n h seats there ∙ list_any-from_Any (sits_at h) seats (least.bad.1.0, least.bad.0, least.bad.1.1, least.bad.1.2, same least.bad.0.hart h least.bad.2);
+      here = missing_past n h seats there ∙ list_any-from_Any (sits_at h) seats (least.bad.1.0, least.bad.0, least.bad.1.1, least.bad.1.2, eq-eqb least.bad.0.hart h least.bad.2);
       below = λ k lt. at k lt (cases_lt k n);
     }
   where

@@ -1,4 +1,4 @@
--- Places are told apart by their entries of the table, and each is seen first once.
+-- Places are distinguished by their entries of the table, and each is seen first once.
 use Rattle.std.proofs.Common.{◌≡◌, ◌≢◌, ◌∙◌, ◌<◌, ◌+◌, ◌*◌, ◌/◌, ◌%◌, ◌==◌, ◌&&◌, sym, ap, ℕ, Bool, true, false, not, cond, suc, zero, List, [], ◌∷◌, ◌++◌, length, replicate, drop, get_or, slice_set, filter, refl, arith, append_assoc, All, drop-cons, add-one}
 use Rattle.std.proofs.lemmas.Bool.{eqb-true, eqb-false, eq-eqb, ne_eqb}
 use Rattle.std.proofs.lemmas.List.{get_or-set_same, get_or-set_other, length-set, length-replicate}

@@ -49,7 +49,7 @@ refused-at : (symbols : List Symbol) (next : Symbol) (o : Option Stage) → buil
 refused-at symbols next None same = refl
 refused-at symbols next (Some stage) same = cc
 
--- a symbol that is built on is told
+-- a symbol that is built on is recorded
 pub push_laid : (symbols : List Symbol) (next : Symbol) (b new : Build) → build_at (stage_after symbols) ≡ Some b → or_misplaced (built b next) ≡ Ok new → build_at (stage_after (symbols ++ next ∷ [])) ≡ Some new
 push_laid symbols next b new same done = built-push symbols next b same ∙ ok_some (built b next) new done
 

@@ -17,7 +17,7 @@ steps_there q steps test same =
 pub left_sides-steps : (f : Formula) (steps : List Step) (lefts : List Place) → steps ≡ steps_of f → lefts ≡ firsts (asked_by steps) → lefts ≡ left_sides f
 left_sides-steps f steps lefts same found = found ∙ ap firsts (ap asked_by same ∙ asked_by-steps_of f)
 
--- in a machine with so many harts and words
+-- in a machine with this number of harts and words
 pub condition_there : (q asked : Question) (harts M : ℕ) → IsTest q → q ≡ asked → harts ≡ length asked.opening.harts → length asked.names ≤ M → All (IsThere harts M) (places q.condition)
 condition_there q asked harts M test same harts_same names_few =
     let harts_many : length q.opening.harts ≤ harts = subst (λ (r : Question). length r.opening.harts ≤ harts) (sym same) (omega (arith, harts_same)) in

@@ -13,7 +13,7 @@ steps_of (negation f) = steps_of f ++ step.Not ∷ []
 steps_of (both f g) = steps_of f ++ step.And (length (steps_of g)) ∷ steps_of g
 steps_of (either f g) = steps_of f ++ step.Or (length (steps_of g)) ∷ steps_of g
 
--- The formula of these steps, going on from the formula of those before them. At most so many are read,
+-- The formula of these steps, going on from the formula of those before them. At most the given number is read,
 -- and what isn't the steps of a formula gives some formula.
 abbrev pub formula_from : ℕ → Formula → List Step → Formula
 formula_from zero f steps = f

@@ -63,7 +63,7 @@ fn all_ask_there(steps: &[Step], harts: usize, locations: usize) -> bool
 }
 
 impl Condition {
-    /// Whether each place that the condition asks for is there among so many harts and locations.
+    /// Whether each place that the condition asks for is there among `harts` harts and `locations` locations.
     pub fn asks_within(&self, harts: usize, locations: usize) -> bool
         ensures { IsTrue result ↔ All (IsThere harts locations) (places self.now) }
     {

@@ -1,4 +1,4 @@
-//! A condition, told symbol by symbol.
+//! A condition, given symbol by symbol.
 
 ghost use Rattle.std.specs.Prelude.{◌≡◌, ◌≢◌, ◌↔◌, [], ◌∷◌, ◌++◌, Ok, Err, IfOk, OnOk, OnErr};
 ghost use Rattle.texts.specs.Results.{Gives};

@@ -1,4 +1,4 @@
-//! A litmus test: an opening, and a question about where it leads.
+//! A litmus test: an opening, and a condition on where it leads.
 
 ghost use Rattle.std.specs.Prelude.{◌≡◌, ◌<◌, ◌≤◌, ◌*◌, ◌/◌, ◌↔◌, [], All, IfOk, OnOk, IsTrue, length, map, slice_index_or};
 ghost use Rattle.std.specs.String.{string_bytes};

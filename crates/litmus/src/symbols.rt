@@ -28,9 +28,9 @@ pub(crate) enum Step {
     Is { place: Place, value: u32 },
     /// The value becomes its opposite.
     Not,
-    /// A false value stays, and so many steps are skipped.
+    /// A false value stays, and this number of steps is skipped.
     And { skip: usize },
-    /// A true value stays, and so many steps are skipped.
+    /// A true value stays, and this number of steps is skipped.
     Or { skip: usize },
 }
 

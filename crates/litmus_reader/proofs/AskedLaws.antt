@@ -69,7 +69,7 @@ quantifier_only : (blanks rest : List ℕ) (quantifier : Quantifier) → AreBlan
 unfolding quantifier_in
 quantifier_only blanks rest quantifier all = ap quantifier_of (leading_past is_blank blanks (token_for quantifier ++ rest) all) ∙ quantifier_first quantifier rest
 
--- ---- symbols that may stand behind others
+-- ---- symbols that may stand after others
 
 with_symbol_found : (words : List Symbol) (next : Symbol) (o : Option Stage) (more : List Symbol) → as_condition (or_misplaced (with_symbol words next o)) ≡ Ok more → words ++ next ∷ [] ≡ more
 with_symbol_found words next None more e = absurd cc
@@ -122,7 +122,7 @@ place_later : (harts : ℕ) (ms more : Names) (asked : setting.NamedPlace) (at :
 place_later harts ms more (setting.NamedPlace.in_register hart register) at is = is
 place_later harts ms more (setting.NamedPlace.at_location name) at is = (is.0, at_later ms more name is.0 is.1, is.2)
 
--- the names may be followed by others, of what stands behind
+-- the names may be followed by others, of what comes later
 place_only : (harts : ℕ) (ms more : Names) (asked : setting.NamedPlace) (at : Place) → length (each_once (ms ++ name_of_place asked)) ≤ 1024 → IsPlaceOf harts (each_once ((ms ++ name_of_place asked) ++ more)) asked at → place_met harts (each_once ms) asked ≡ Ok (at, each_once (ms ++ name_of_place asked))
 unfolding place_met
 place_only harts ms more (setting.NamedPlace.in_register hart register) at few is = rw (lt-ltb hart harts is.0, append-nil ms) (ap (λ (p : Place). Ok (p, each_once ms)) (sym is.1))

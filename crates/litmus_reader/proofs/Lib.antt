@@ -15,3 +15,4 @@ pub mod AskedLaws
 pub mod PlainWords
 pub mod ContentGrammar
 pub mod TestGrammar
+pub mod HeadingLaws

@@ -1,4 +1,4 @@
--- The lines and rows at which faults are told.
+-- The lines and rows at which faults are reported.
 use Rattle.std.proofs.Common.{◌≡◌, ◌∙◌, ℕ, zero, suc, ◌+◌, ◌-◌, false, List, ◌∷◌, length, ap, sym, arith}
 use Rattle.texts.specs.Pieces.{span, pieces}
 use Rattle.texts.specs.Cutting.{is_byte}
@@ -7,7 +7,7 @@ use Rattle.litmus_reader.specs.Rows.{is_blank_line}
 use Rattle.litmus_reader.specs.Lines.{left_from}
 use Rattle.texts.specs.declared.pieces.Separators.TheVariants.{Byte}
 
--- the last line that isn't empty, where so many lines were seen, the last such among them was this one,
+-- the last line that isn't empty, where this number of lines was seen, the last such among them was this one,
 -- and the others have one there
 abbrev pub reached : (seen last others : ℕ) → ℕ
 reached seen last zero = last

@@ -61,7 +61,7 @@ pub last_back : (mark : Mark) (xs : List ℕ) → begins mark xs ≡ false → p
 unfolding from_line
 last_back mark xs other ends = rw other (back_none mark xs (position_past is_line_feed xs ends))
 
--- ---- the walk over the lines of a text, of which so many bytes are behind
+-- ---- the walk over the lines of a text, of which this number of bytes is passed
 
 pub found_front : (mark : Mark) (xs whole : List ℕ) (at : ℕ) → begins mark (drop at xs) ≡ true → take at xs ++ before_line mark (drop at xs) ≡ whole → take at xs ≡ whole
 unfolding before_line

@@ -11,7 +11,7 @@ use Rattle.rv_decode.specs.declared.instruction.Instr.TheVariants.{Lui, Auipc, J
 use Rattle.rv_decode.proofs.Meanings.{meaning_iff}
 use Rattle.litmus_reader.specs.Table.{IsPlainCode}
 
--- ---- a word is told by its fields
+-- ---- a word is determined by its fields
 
 same_upper : (a b : ℕ) → a < 2 ^ 32 → b < 2 ^ 32 → opcode_of a ≡ opcode_of b → rd_of a ≡ rd_of b → imm_u a ≡ imm_u b → a ≡ b
 same_upper a b fits small opcode rd upper = omega arith

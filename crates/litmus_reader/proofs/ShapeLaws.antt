@@ -179,7 +179,7 @@ starts_not m B matches text other begun = (let never = matches.only text begun i
 starts_other : (m : Mark) (B : List ℕ → Type 0) → Matches m B → (text : List ℕ) → (B text → ⊥) → begins m text ≡ false
 starts_other m B matches text other = false_from_ne_true (begins m text) (λ begun. other (matches.found text begun))
 
--- where a line behind the first one begins so
+-- where a line after the first one begins so
 record Behind (m : Mark) (B : List ℕ → Type 0) (text from : List ℕ) : Type 0 where
   line : List ℕ
   rest : List ℕ

@@ -66,7 +66,7 @@ as_condition result = map_err (λ misplaced. BadCondition) result
 abbrev pub Asked : Type 0
 Asked = List Symbol × Names
 
--- all tokens of a text, behind those so far
+-- all tokens of a text, after those so far
 abbrev pub tokens_told : (harts : ℕ) → Asked → Tokens → Result Asked LitmusFault
 tokens_told harts so_far token.Tokens.ended = Ok so_far
 tokens_told harts so_far token.Tokens.broken = Err BadCondition

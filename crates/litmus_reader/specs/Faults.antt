@@ -15,12 +15,12 @@ fault_number BadInstr = 24
 fault_number BadCondition = 25
 fault_number TooMany = 26
 
--- the text's fault that an error tells; its line is no part of it
+-- the text's fault that an error carries; its line is no part of it
 abbrev pub fault_of : TextError (AtLine LitmusFault) → Option LitmusFault
 fault_of NoMemory = None
 fault_of (Refused refusal) = Some refusal.fault
 
--- the text's fault that a refusal tells; its place is no part of it
+-- the text's fault that a refusal carries; its place is no part of it
 abbrev pub fault_in : TextError AtLeft → Option LitmusFault
 fault_in NoMemory = None
 fault_in (Refused refusal) = Some refusal.fault

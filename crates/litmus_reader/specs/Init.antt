@@ -35,7 +35,7 @@ item_of item = record { target = item.target; value = item.value }
 abbrev pub items_of : Init → InitItems
 items_of init = record { items = map item_of init.items.items; names = init.locations }
 
--- where an item puts its value, with a location told by its index
+-- where an item puts its value, with a location given by its index
 unfoldable pub target_met : Names → NamedPlace → Result (Target × Names) LitmusFault
 target_met names (in_register hart register) = Ok (Register hart register, names)
 target_met names (at_location name) = do

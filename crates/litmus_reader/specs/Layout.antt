@@ -5,7 +5,7 @@ use Rattle.texts.specs.Pieces.{is_blank}
 use Rattle.texts.specs.Cutting.{AreBlanks}
 use Rattle.litmus_reader.specs.Shapes.{HasNo, IsCut, IsFirst}
 
--- ---- how a line begins, told of the text from that line on
+-- ---- how a line begins, as a fact about the text from that line on
 
 -- the line isn't blank
 abbrev pub IsVisible : List ℕ → Type 0
@@ -29,7 +29,7 @@ BeginsCondition text = BeginsWith (codes "exists") text ⊎ (BeginsWith (codes "
 abbrev pub IsHeader : List ℕ → Type 0
 IsHeader line = (blanks gap rest : List ℕ) × (b c : ℕ) × AreBlanks blanks × AreBlanks (b ∷ gap) × (is_blank c ≡ false) × (line ≡ blanks ++ (codes "RISCV" ++ b ∷ (gap ++ c ∷ rest)))
 
--- `{` is 123 and `}` is 125; what stands behind the `}` belongs to the table.
+-- `{` is 123 and `}` is 125; what stands after the `}` belongs to the table.
 pub record IsLaidOut (text init table asked : List ℕ) : Type 0 where
   pub blank_lines : List ℕ
   pub headed : List ℕ

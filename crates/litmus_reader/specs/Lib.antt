@@ -15,3 +15,4 @@ pub mod Openings
 pub mod Columns
 pub mod Asked
 pub mod Grammar
+pub mod Headings

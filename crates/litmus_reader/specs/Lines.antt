@@ -1,4 +1,4 @@
--- At which line a fault is told: it is met where so many bytes of the text are left, and none are left
+-- At which line a fault is reported: it is met where this number of bytes of the text is left, and none are left
 -- where a part is missing.
 use Rattle.std.specs.Prelude.{ℕ, zero, suc, ◌+◌, ◌-◌, ◌==◌, Bool, not, List, [], ◌∷◌, length, take, min, position, Option, Some, None, if◌then◌else◌}
 use Rattle.std.specs.List.{count_by}
@@ -51,7 +51,7 @@ left_behind text (Some at) = length text - at
 abbrev pub left_of : List ℕ → ℕ
 left_of text = left_behind text (position is_visible text)
 
--- how many bytes these lines have, from the row on that has so many others above; blank lines are none
+-- how many bytes these lines have, from the row on that has `row` others above; blank lines are none
 abbrev pub left_from : (row : ℕ) → List (List ℕ) → ℕ
 left_from row [] = 0
 left_from row (line ∷ below) = if is_blank_line line then left_from row below else (if row == 0 then span (line ∷ below) - 1 else left_from (row - 1) below)

@@ -1,4 +1,4 @@
--- Lines, told by how they begin.
+-- Lines, by how they begin.
 use Rattle.std.specs.Prelude.{ℕ, ◌==◌, Bool, false, not, ◌&&◌, ◌||◌, nat_eq, List, [], ◌∷◌, Option, None, Some, if◌then◌else◌, codes}
 use Rattle.std.specs.List.{starts_with}
 use Rattle.texts.specs.Cutting.{without_front}

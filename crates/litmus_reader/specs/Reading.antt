@@ -55,7 +55,7 @@ content_below settings codes condition = do
   asked ← condition_at (length codes) settings.names condition
   Ok (content codes values asked)
 
--- the test with this init part, with what stands behind it: the table and the condition
+-- the test with this init part, with what stands after it: the table and the condition
 unfoldable pub content_behind : InitItems → List ℕ → Result Content LitmusFault
 content_behind settings text = do
   columns ← table_at (before_line mark.Condition text)

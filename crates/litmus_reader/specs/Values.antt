@@ -17,7 +17,7 @@ pub record Values : Type 0 where
   pub registers : List (List ℕ)
   pub words : List ℕ
 
--- zeros for so many harts and locations
+-- zeros for these numbers of harts and locations
 abbrev pub zeros : (harts locations : ℕ) → Values
 zeros harts locations = record { registers = replicate harts (replicate 32 0); words = replicate locations 0 }
 

@@ -133,7 +133,7 @@ fn push(draft: &mut ConditionDraft, token: Symbol, left: usize) -> Result<(), Re
     }
 }
 
-/// The tokens of a text, behind which so many bytes stand.
+/// The tokens of a text, which `behind` bytes follow.
 #[tactic(auto, using(crate::proofs::NameLaws::token_named))]
 fn read_tokens(
     alloc: Global,

@@ -51,7 +51,7 @@ pub fn behind_header(text: &[u8]) -> Result<&[u8], Refusal>
     Ok(rest.unwrap_or(b""))
 }
 
-/// The bytes behind the first one.
+/// The bytes after the first one.
 fn behind_first(text: &[u8]) -> &[u8]
     ensures { result.now ≡ drop 1 text.now }
 {

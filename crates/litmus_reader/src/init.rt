@@ -90,7 +90,7 @@ impl Init {
     }
 }
 
-/// The items that stand in this text, behind which so many bytes follow.
+/// The items that stand in this text, which `behind` bytes follow.
 #[tactic(auto, unfolding(crate::specs::Init::items_at))]
 pub fn read_items(alloc: Global, text: &[u8], behind: usize) -> Result<Init, Refusal>
     ensures { Gives fault_in items_of result (items_at text.now) }

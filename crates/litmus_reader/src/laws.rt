@@ -5,6 +5,7 @@ ghost use Rattle.std.specs.Result.{IsErr};
 ghost use Rattle.litmus.specs.Questions.{Question};
 ghost use Rattle.litmus_reader.specs.Reading.{Content, test_at};
 ghost use Rattle.litmus_reader.specs.Grammar.{IsContent, IsTestOf};
+ghost use Rattle.litmus_reader.specs.Headings.{HeadingOf, IsHeading, heading_at};
 
 /// A text stands for one test at most, the words of its code among it. It does nothing.
 pub fn one_test()
@@ -17,4 +18,12 @@ pub fn one_test()
 pub fn refused_without_value()
     ensures read { (text : List ℕ) (content : Content) → (test_at text ≡ Ok content) ↔ IsContent text content }
     ensures refused { (text : List ℕ) → IsErr (test_at text) ↔ ((content : Content) → ¬ IsContent text content) }
+{}
+
+/// A text has one name and one condition at most, reading it from the top answers these, and each text
+/// that stands for a test has them. It does nothing.
+pub fn one_heading()
+    ensures one { (text : List ℕ) (a b : HeadingOf) → IsHeading text a → IsHeading text b → a ≡ b }
+    ensures read { (text : List ℕ) (heading : HeadingOf) → (heading_at text ≡ Ok heading) ↔ IsHeading text heading }
+    ensures test { (text : List ℕ) (content : Content) → IsContent text content → (heading : HeadingOf) × IsHeading text heading }
 {}

@@ -1,4 +1,4 @@
-//! Lines, told by how they begin.
+//! Lines, by how they begin.
 
 ghost use Rattle.std.specs.Prelude.{◌≡◌, position};
 ghost use Rattle.std.specs.Option.{option_copied};

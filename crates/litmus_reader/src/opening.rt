@@ -22,7 +22,7 @@ pub struct Values {
 }
 
 impl Values {
-    /// Zeros for so many harts and locations.
+    /// Zeros for `harts` harts and `locations` locations.
     fn new(alloc: Global, harts: usize, locations: usize) -> Result<Values, AllocError>
         ensures { IfOk result (λ values. values_in values ≡ zeros harts locations) }
     {
@@ -60,7 +60,7 @@ impl Values {
     }
 }
 
-/// The first values of so many harts and locations, where a later item wins.
+/// The first values of `harts` harts and `locations` locations, where a later item wins.
 pub fn values_of(
     alloc: Global,
     harts: usize,
@@ -79,7 +79,7 @@ pub fn values_of(
     Ok(values)
 }
 
-/// The words with zeros for so many more.
+/// The words with zeros for `more` more.
 pub fn pad(words: &mut Vec<u32>, more: usize) -> Result<(), AllocError>
     requires { vec_len words.old + more ≤ MAX_LOCATIONS }
     ensures padded { OnOk result (words.new.items ≡ words.old.items ++ replicate more 0) }

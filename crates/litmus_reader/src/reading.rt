@@ -89,7 +89,7 @@ fn test_below(
     Ok(assemble(alloc, codes, values, locations, asked)?)
 }
 
-/// The test with this init part, with what stands behind it.
+/// The test with this init part, with what stands after it.
 #[tactic(auto, unfolding(crate::specs::Reading::content_behind))]
 fn test_behind(alloc: Global, init: Init, text: &[u8]) -> Result<Test, Refusal>
     ensures exact { Gives fault_in content_of result (content_behind (items_of init) text.now) }

@@ -10,7 +10,7 @@ ghost use Rattle.litmus_reader.specs.Lines.{last_line, line_at, error_at, is_vis
 use crate::faults::{LitmusError, LitmusFault};
 use texts::{Separators, TextError, first_line};
 
-/// A fault that is met where so many bytes of the text are left; none are left where a part is missing.
+/// A fault that is met where `left` bytes of the text are left; none are left where a part is missing.
 #[derive(Clone, Copy)]
 pub struct AtLeft {
     pub fault: LitmusFault,
@@ -21,7 +21,7 @@ pub struct AtLeft {
 pub type Refusal = TextError<AtLeft>;
 
 impl LitmusFault {
-    /// The refusal for this fault where so many bytes of the text are left.
+    /// The refusal for this fault where `left` bytes of the text are left.
     pub(crate) fn at(self, left: usize) -> Refusal
         ensures fault { fault_in result ≡ Some self }
         ensures place { result ≡ Refused (record { fault = self; left = left }) }
@@ -98,7 +98,7 @@ fn first_visible(text: &[u8]) -> Option<usize>
 }
 
 /// How many bytes of the text are left where its first byte stands that is no blank and no line end.
-/// Only faults' lines are told by it.
+/// It serves the lines of faults alone.
 pub fn left_of(text: &[u8]) -> usize
     ensures { result ≡ left_of text.now }
 {

@@ -24,7 +24,7 @@ pub fn is_blank_line(line: &[u8]) -> bool
 }
 
 /// The row's cells, which `|` parts, without the `;` that ends the row; `None` where the line has no
-/// `;`, or something behind it.
+/// `;`, or something after it.
 #[tactic(auto, unfolding(crate::specs::Rows::row_in))]
 pub fn row_in(line: &[u8]) -> Option<&[u8]>
     ensures { option_copied result ≡ row_in line.now }
@@ -79,7 +79,7 @@ fn name_harts(alloc: Global, row: &[u8]) -> Result<bool, AllocError>
 }
 
 /// How many harts the first row names: 1 to 64. It is too long before its cells are judged. Its faults
-/// are met where so many bytes are left.
+/// are met where `left` bytes are left.
 #[tactic(auto, unfolding(crate::specs::Rows::harts_in))]
 pub fn harts_in(alloc: Global, line: &[u8], left: usize) -> Result<usize, Refusal>
     ensures exact { Gives fault_in (λ harts. harts) result (harts_in line.now) }

@@ -19,7 +19,7 @@ pub fn address_of(index: usize) -> u32
     4 * index as u32
 }
 
-/// The value that is put. A new location joins the others; one too many is met where so many bytes of
+/// The value that is put. A new location joins the others; one too many is met where `left` bytes of
 /// the text are left.
 #[tactic(auto, unfolding(crate::specs::Locations::value_met))]
 pub fn value_of(locations: &mut Locations, worth: Worth<'_>, left: usize) -> Result<u32, Refusal>

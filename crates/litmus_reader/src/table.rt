@@ -34,7 +34,7 @@ impl Model for Table {
     ghost view = { λ table. table.columns.items };
 }
 
-/// Tells a hart the statement in its cell, which may be none.
+/// Gives a hart the statement in its cell, which may be none.
 #[tactic(auto, unfolding(crate::specs::Table::cell_told))]
 fn tell(column: &mut Draft, cell: &[u8], left: usize) -> Result<(), Refusal>
     ensures { Gives fault_in (λ _. column.new) result (cell_told column.old cell.now) }
@@ -56,7 +56,7 @@ fn have_32_bits(words: &[u32])
 {}
 
 impl Table {
-    /// A table of so many harts and no row yet.
+    /// A table of `harts` harts and no row yet.
     fn new(alloc: Global, harts: usize) -> Result<Table, AllocError>
         ensures { IfOk result (λ table. table ≡ replicate harts []) }
     {
@@ -67,7 +67,7 @@ impl Table {
         Ok(Table { columns })
     }
 
-    /// Tells the harts the statements in the row's cells, from the left.
+    /// Gives the harts the statements in the row's cells, from the left.
     fn tell_cells(&mut self, row: &[u8], left: usize) -> Result<(), Refusal>
         requires { length (cells_of row.now) ≡ length self.old }
         ensures exact { Gives fault_in (λ _. self.new) result (cells_told self.old (cells_of row.now)) }
@@ -99,7 +99,7 @@ impl Table {
         }
     }
 
-    /// Reads the rows that follow the first one, behind which so many bytes stand.
+    /// Reads the rows after the first one, which `behind` bytes follow.
     fn read_rows(&mut self, rows: Option<&[u8]>, behind: usize) -> Result<(), Refusal>
         ensures exact { Gives fault_in (λ _. self.new) result (lines_told self.old (pieces_after (Byte 10) (option_copied rows.entry))) }
         ensures same { length self.new ≡ length self.old }
@@ -139,7 +139,7 @@ impl Table {
     }
 
     /// Each hart's words. `BadInstr` comes where a label has no place, at the first row of them, in the
-    /// table's text, behind which so many bytes stand.
+    /// table's text, which `behind` bytes follow.
     #[tactic(auto, using(crate::proofs::TableLaws::answered_count, crate::proofs::TableLaws::answered_short))]
     pub fn finish(self, alloc: Global, text: &[u8], behind: usize) -> Result<Vec<Vec<u32>>, Refusal>
         ensures exact { Gives fault_in instructions result (codes_of self) }
@@ -162,7 +162,7 @@ fn earlier(so_far: Option<usize>, row: usize) -> usize
 }
 
 /// How many bytes of the table's text are left at the row, which counts from 0 for the first one.
-/// Only a fault's line is told by it.
+/// It serves the line of a fault alone.
 #[tactic(auto, using(crate::proofs::LineLaws::row_here), unfolding(crate::specs::Lines::left_at_row))]
 fn left_at_row(text: &[u8], row: usize) -> usize
     ensures { result ≡ left_at_row text.now row }
@@ -182,7 +182,7 @@ fn left_at_row(text: &[u8], row: usize) -> usize
     0
 }
 
-/// The table in this text, behind which so many bytes stand.
+/// Parses the table; `behind` is how many bytes follow it, used for fault positions.
 #[tactic(auto, unfolding(crate::specs::Table::table_at))]
 pub fn read_table(alloc: Global, text: &[u8], behind: usize) -> Result<Table, Refusal>
     ensures exact { Gives fault_in (λ (table : List Column). table) result (table_at text.now) }

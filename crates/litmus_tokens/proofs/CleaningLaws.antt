@@ -24,7 +24,7 @@ one_turn part [] i lt = absurd (omega arith)
 one_turn part (c ∷ rest) zero lt = refl
 one_turn part (c ∷ rest) (suc i) lt = let e : suc i + 1 ≡ suc (i + 1) = omega arith in rw e (one_turn part rest i (omega arith))
 
--- ---- the byte behind
+-- ---- the next byte
 
 first_found : (text : List ℕ) (i : ℕ) → i < length text → next_byte (drop i text) ≡ Some (get_or text i 0)
 first_found [] i lt = absurd (omega arith)

@@ -60,7 +60,7 @@ pub leaves_less : (text : List ℕ) → LeavesLess text (beginning_of text)
 unfolding beginning_of
 leaves_less text = less_more (without_leading is_gap text) text (begun (without_leading is_gap text)) (length-from_first (fails is_gap) text) (begun_less (without_leading is_gap text))
 
--- ---- so many tokens are enough
+-- ---- this number of tokens is enough
 
 same_tokens : (n : ℕ) (text : List ℕ) (m : ℕ) → length text < n → length text < m → tokens_within n text ≡ tokens_within m text
 unfolding tokens_within

@@ -45,7 +45,7 @@ abbrev pub NoneCloses : List ℕ → Type 0
 NoneCloses [] = Unit {0}
 NoneCloses (c ∷ rest) = (closes c (next_byte rest) ≡ false) × NoneCloses rest
 
--- What a text is cleaned to. A comment goes from `(*` to the first `*)` behind that, or to the end.
+-- What a text is cleaned to. A comment goes from `(*` to the first `*)` after that, or to the end.
 pub data IsCleaned : List ℕ → List ℕ → Type 0 where
   ended : IsCleaned [] []
   commented : (inner rest out : List ℕ) → NoneCloses inner → IsCleaned rest out → IsCleaned (40 ∷ 42 ∷ (inner ++ 42 ∷ 41 ∷ rest)) (32 ∷ 32 ∷ (replicate (length inner) 32 ++ 32 ∷ 32 ∷ out))

@@ -89,6 +89,6 @@ abbrev pub item_round : List ℕ → Option (List ℕ) → Option Put
 item_round text None = put_from (declared_in text) (Some (number 0))
 item_round left (Some right) = put_from (item_place_in left) (value_in right)
 
--- the text before the `=`, if it has one, and the value behind it
+-- the text before the `=`, if it has one, and the value after it
 unfoldable pub item_at : List ℕ → Option Put
 item_at text = item_round (before (is_byte 61) text) (after (is_byte 61) text)

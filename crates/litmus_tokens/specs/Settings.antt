@@ -45,7 +45,7 @@ abbrev pub IsDeclared : List ℕ → NamedPlace → Type 0
 IsDeclared text (in_register hart register) = ⊥
 IsDeclared text (at_location name) = (gap : ℕ) × (rest : List ℕ) × (core text ≡ codes "int" ++ gap ∷ rest) × IsTrue (is_gap gap) × IsTrue (is_name name) × (core rest ≡ name)
 
--- The item puts a value: a setting, or one of a declared location, which gets 0 where no value is told.
+-- The item puts a value: a setting, or one of a declared location, which gets 0 where no value is given.
 abbrev pub IsItem : List ℕ → Put → Type 0
 IsItem text put = IsSetting text put ⊎ (((left right : List ℕ) × (text ≡ left ++ 61 ∷ right) × IsDeclared left put.0 × IsValue right put.1) ⊎ (IsDeclared text put.0 × (put.1 ≡ number 0)))
 

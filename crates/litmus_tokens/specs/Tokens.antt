@@ -71,7 +71,7 @@ begun (c ∷ rest) =
     if c == 92 then paired disjunction 47 rest else
     unmarked (c ∷ rest)))))
 
--- what the text begins with, behind gaps
+-- what the text begins with, after gaps
 unfoldable pub beginning_of : List ℕ → Beginning
 beginning_of text = begun (without_leading is_gap text)
 
@@ -80,7 +80,7 @@ tokens_from others nothing = ended
 tokens_from others (begins token rest) = goes_on token (others rest)
 tokens_from others no_token = broken
 
--- so many tokens at most
+-- at most this number of tokens
 unfoldable pub tokens_within : ℕ → List ℕ → Tokens
 tokens_within zero text = broken
 tokens_within (suc n) text = tokens_from (tokens_within n) (beginning_of text)
@@ -127,12 +127,12 @@ pub data Spells : Token → (bytes rest : List ℕ) → Type 0 where
   either : (rest : List ℕ) → Spells disjunction (92 ∷ 47 ∷ []) rest
   says : (first : ℕ) (others rest : List ℕ) (put : Put) → is_gap first ≡ false → NonePass is_mark (first ∷ others) → EndsAtom rest → behind_not (first ∷ (others ++ rest)) ≡ None → IsSetting (first ∷ others) put → Spells (atom put) (first ∷ others) rest
 
--- The text is these tokens, with gaps before, between and behind them.
+-- The text is these tokens, with gaps before, between and after them.
 pub data AreTokens : List ℕ → List Token → Type 0 where
   no_more : (gaps : List ℕ) → AllPass is_gap gaps → AreTokens gaps []
   one_more : (gaps bytes rest : List ℕ) (token : Token) (tokens : List Token) → AllPass is_gap gaps → Spells token bytes rest → AreTokens rest tokens → AreTokens (gaps ++ (bytes ++ rest)) (token ∷ tokens)
 
--- the tokens, with the text's end behind them
+-- the tokens, with the text's end after them
 abbrev pub listed : List Token → Tokens
 listed [] = ended
 listed (token ∷ tokens) = goes_on token (listed tokens)

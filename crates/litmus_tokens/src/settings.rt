@@ -14,7 +14,7 @@ use texts::{Separators, number};
 /// Where a value is put.
 #[derive(Clone, Copy, Debug, PartialEq, Eq)]
 pub enum Spot<'a> {
-    /// A register of a hart. A hart's number from 2^32 on is told as 2^32, which no hart has.
+    /// A register of a hart. A hart's number from 2^32 on counts as 2^32, which no hart has.
     Register { hart: u64, register: Reg },
     /// The word at the location of this name.
     Location(&'a [u8]),

@@ -27,7 +27,7 @@ pub enum Token<'a> {
     Close,
 }
 
-/// What a text begins with, behind blanks and LFs.
+/// What a text begins with, after blanks and LFs.
 #[derive(Clone, Copy, Debug, PartialEq, Eq)]
 pub enum Front<'a> {
     /// Nothing: the text is at its end.

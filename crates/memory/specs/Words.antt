@@ -12,7 +12,7 @@ pub record MemoryView : Type 0 where
   pub words : List ℕ
   pub first : List ℕ
 
--- these words, and 0 behind them, M in all
+-- these words, and 0 after them, M in all
 abbrev pub opened_words : ℕ → List ℕ → List ℕ
 opened_words M words = words ++ drop (length words) (replicate M 0)
 

@@ -29,9 +29,8 @@ use Rattle.poll_close.specs.Reports.{taken, Clean}
 use Rattle.poll_close.specs.Standing.{Stands, lists_of}
 use Rattle.poll_close.proofs.Dense.{dense-accepted}
 use Rattle.poll_close.proofs.Standing.{inboxes, stands-opens, stands-happens, stands-run, stands-clean}
-use Rattle.poll_close.specs.Layout.{Layout, dense, opening_at, opening_of, senders_from}
+use Rattle.poll_close.specs.Layout.{Layout, dense, opening_at, opening_of}
 use Rattle.poll_close.specs.Delivery.{DeliversWhole}
-use Rattle.poll_close.proofs.Delivering.{senders-length}
 use Rattle.poll_close.proofs.CleanReports.{closed_whole}
 use Rattle.poll_close.specs.Paces.{Nearer, Nears}
 use Rattle.poll_close.specs.Plans.{AllLanded, Finished, Finishes, CanFinish, is_closed, all_closed, ends_in_word, is_word, is_done, senders_of}
@@ -262,20 +261,20 @@ get_below [] k x is = cc
 get_below (r ∷ rs) zero x is = omega arith
 get_below (r ∷ rs) (suc k) x is = let less : k < length rs = get_below rs k x is in omega arith
 
+senders-count : (t : History) → length (lists_of t.opening) ≡ senders_of t
+senders-count t = length-map (drop 1 t.opening.harts) (λ (h : HartStart). h.inbox) ∙ length-drop 1 t.opening.harts
+
 pub open_where_word : (ring : Ring) (means : Meaning) (B M : ℕ) (t : History) → Cleans ring means → Stands ring means B M t → ends_in_word (reported 0 t.entries) ≡ true → is_done t ≡ false
 open_where_word ring means B M t cleans s word = at (is_done t) refl
   where
     clean : Clean (reported 0 t.entries) (lists_of t.opening)
     clean = stands-clean ring means B M t cleans s
 
-    count : length (lists_of t.opening) ≡ senders_of t
-    count = length-map (drop 1 t.opening.harts) (λ (h : HartStart). h.inbox) ∙ length-drop 1 t.opening.harts
-
     at : (b : Bool) → is_done t ≡ b → is_done t ≡ false
     at false is = is
     at true is =
         let last = word_last (reported 0 t.entries) word in
-        let within : last.1 < senders_of t = omega (arith, count, clean.known last.0 (report.Took last.1 last.2) last.4) in
+        let within : last.1 < senders_of t = omega (arith, senders-count t, clean.known last.0 (report.Took last.1 last.2) last.4) in
         let shut = closed_at (reported 0 t.entries) last.1 (each_closed (reported 0 t.entries) (senders_of t) is last.1 within) in
         let below : shut.0 < length (reported 0 t.entries) = get_below (reported 0 t.entries) shut.0 (report.Closed last.1) shut.1 in
         elim (cases_eq shut.0 last.0) [
@@ -284,11 +283,11 @@ open_where_word ring means B M t cleans s word = at (is_done t) refl
         ]
 
 -- the reports after the events and the plan
-pub whole_delivered : (ring : Ring) (means : Meaning) (B M : ℕ) (lists : List (List ℕ)) (S : Layout) (o : Start) (events plan : List Event) (mid new : History) (reports : List Report) → o ≡ opening_at ring.sender ring.receiver lists S → Run B M o events mid → RunFrom B M mid plan new → Finishes B M mid plan → (is_done mid ≡ true → plan ≡ []) → new.opening ≡ o → reports ≡ reported 0 new.entries → Clean reports (lists_of new.opening) → DeliversWhole B M o lists events reports
-whole_delivered ring means B M lists S o events plan mid new reports opens first second finishes none same answer clean =
-    let lists_is : lists_of new.opening ≡ lists = ap lists_of (same ∙ opens) ∙ inboxes ring.sender S 0 lists in
-    let harts : length new.opening.harts ≡ suc (length (senders_from ring.sender S 0 lists)) = ap (λ (p : Start). length p.harts) (same ∙ opens) in
-    let count : senders_of new ≡ length lists = omega (arith, harts, senders-length ring.sender S 0 lists) in
+pub whole_delivered : (B M : ℕ) (o : Start) (events plan : List Event) (mid new : History) (reports : List Report)
+    → Run B M o events mid → RunFrom B M mid plan new → Finishes B M mid plan → (is_done mid ≡ true → plan ≡ [])
+    → new.opening ≡ o → reports ≡ reported 0 new.entries → Clean reports (lists_of new.opening) → DeliversWhole B M o (lists_of o) events reports
+whole_delivered B M o events plan mid new reports first second finishes none same answer clean =
+    let count : length (lists_of o) ≡ senders_of new = ap (λ (p : Start). length (lists_of p)) (sym same) ∙ senders-count new in
     let end : Finished new = subst Finished (run-one B M mid plan finishes.history new finishes.run second) finishes.finished in
     record {
       plan = plan;
@@ -298,10 +297,18 @@ whole_delivered ring means B M lists S o events plan mid new reports opens first
       finish = second;
       none = none;
       answer = answer;
-      clean = subst (Clean reports) lists_is clean;
+      clean = subst (λ (p : Start). Clean reports (lists_of p)) same clean;
       closed = λ i less. ap (λ rs. is_closed rs i) answer ∙ end.closed i (omega (arith, count, less));
-      whole = λ i less. ap (λ rs. taken rs i) answer ∙ end.whole i (omega (arith, count, less)) ∙ ap (λ ls. slice_index_or ls i []) lists_is;
+      whole = λ i less. ap (λ rs. taken rs i) answer ∙ end.whole i (omega (arith, count, less)) ∙ ap (λ (p : Start). slice_index_or (lists_of p) i []) same;
     }
+
+-- a channel that begins at such an opening was given these lists
+pub whole_at : (B M : ℕ) (sender receiver : List ℕ) (lists : List (List ℕ)) (l : Layout) (t : History) (events : List Event) (reports : List Report)
+    → t ≡ unrun (opening_at sender receiver lists l) → DeliversWhole B M t.opening (lists_of t.opening) events reports
+    → DeliversWhole B M (opening_at sender receiver lists l) lists events reports
+whole_at B M sender receiver lists l t events reports begins whole =
+    subst (λ (ls : List (List ℕ)). DeliversWhole B M (opening_at sender receiver lists l) ls events reports) (inboxes sender l 0 lists)
+    (subst (λ (u : History). DeliversWhole B M u.opening (lists_of u.opening) events reports) begins whole)
 
 -- a list that isn't empty, or is, as its length's test says
 pub some_left : {A : Type 0} {seen xs : List A} {b : Bool} → seen ≡ xs → b ≡ (length seen == 0) → b ≡ false → 0 < length xs

@@ -1,7 +1,12 @@
 -- The layout of a place over a memory.
-use Rattle.std.specs.Prelude.{ℕ, List}
-use Rattle.poll_close.specs.Layout.{Layout}
+use Rattle.std.specs.Prelude.{ℕ, List, Option, Some, None}
+use Rattle.poll_close.specs.Layout.{Layout, block_size}
 use Rattle.poll_close.specs.declared.place.Place.{Place}
 
+-- the stride that is given, or that of blocks of S slots one after the other
+abbrev pub stride_or_dense : (S : ℕ) → Option ℕ → ℕ
+stride_or_dense S None = block_size S
+stride_or_dense S (Some stride) = stride
+
 abbrev pub layout_of : Place → List ℕ → Layout
-layout_of p words = record { size = p.ring; base = p.base; stride = p.stride; words = words }
+layout_of p words = record { size = p.ring; base = p.base; stride = stride_or_dense p.ring p.stride; words = words }

@@ -1,7 +1,7 @@
 //! Delivery.
 
 ghost use Rattle.std.specs.Prelude.{◌≡◌, ◌≤◌, ℕ, List, IfOk, IfErr, OnOk, map, length};
-ghost use Rattle.step_machine.specs.History.{History, FitsIn};
+ghost use Rattle.step_machine.specs.History.{History, FitsIn, unrun};
 ghost use Rattle.step_machine.specs.Entries.{reported};
 ghost use Rattle.step_machine.specs.Runs.{Run};
 ghost use Rattle.step_machine.specs.declared.events.Event.{Event};
@@ -13,7 +13,7 @@ ghost use Rattle.poll_close.specs.Reports.{Clean};
 ghost use Rattle.poll_close.specs.Going.{AllGoOn};
 ghost use Rattle.poll_close.specs.Touching.{AllTouch};
 ghost use Rattle.poll_close.specs.Delivery.{Delivers, DeliversWhole};
-ghost use Rattle.poll_close.specs.Standing.{Stands};
+ghost use Rattle.poll_close.specs.Standing.{Stands, lists_of};
 ghost use Rattle.poll_close.specs.Plans.{CanFinish};
 
 use crate::channel::Channel;
@@ -90,6 +90,27 @@ pub fn deliver_at<K: RingKind, const B: usize, const M: usize>(
     Ok(reports_of::<K, B, M>(alloc, opening, lists, events)?)
 }
 
+/// What the receiver of a channel reports when these events run, and then its plan.
+fn whole_of<K: Finish<B, M>, const B: usize, const M: usize>(
+    alloc: Global,
+    mut channel: Channel<K, B, M>,
+    events: &[Event],
+) -> Result<Vec<Report>, AllocError>
+    requires begins { channel.history ≡ unrun channel.history.opening }
+    ensures { IfOk result (λ r. DeliversWhole B M channel.history.opening (lists_of channel.history.opening) events.now r.items) }
+{
+    match channel.run(events) {
+        Ok(()) => {}
+        Err((_, error)) => return Err(error),
+    }
+    let plan = channel.finish_plan(alloc)?;
+    match channel.run(&plan) {
+        Ok(()) => {}
+        Err((_, error)) => return Err(error),
+    }
+    Vec::from_slice(alloc, channel.reports())
+}
+
 /// What the receiver of such a channel reports when these events run from its opening and then its plan:
 /// clean reports of each list's whole words, and of each sender that it is closed. Err as [`opening`].
 pub fn deliver_whole<K: Finish<B, M>, const B: usize, const M: usize>(
@@ -106,17 +127,29 @@ pub fn deliver_whole<K: Finish<B, M>, const B: usize, const M: usize>(
     ensures accepted { OnOk result (Accepted K.RingKind.ring M (map (λ v. v.items) lists.now) ring) }
     ensures refused { IfErr result (λ e. Refuses K.RingKind.ring M (map (λ v. v.items) lists.now) ring e) }
 {
-    let mut channel = Channel::<K, B, M>::open(alloc, lists, ring)?;
-    match channel.run(events) {
-        Ok(()) => {}
-        Err((_, error)) => return Err(Refused::from(error)),
-    }
-    let plan = channel.finish_plan(alloc)?;
-    match channel.run(&plan) {
-        Ok(()) => {}
-        Err((_, error)) => return Err(Refused::from(error)),
-    }
-    Ok(Vec::from_slice(alloc, channel.reports())?)
+    let channel = Channel::<K, B, M>::open(alloc, lists, ring)?;
+    Ok(whole_of(alloc, channel, events)?)
+}
+
+/// What the receiver of such a channel at a place, over a memory that opens with these words, reports
+/// when these events run from its opening and then its plan, as [`deliver_whole`]. Err as [`opening_at`].
+pub fn deliver_whole_at<K: Finish<B, M>, const B: usize, const M: usize>(
+    alloc: Global,
+    lists: &[Vec<u32>],
+    place: Place,
+    words: &[u32],
+    events: &[Event],
+) -> Result<Vec<Report>, RefusedAt>
+    requires some_capacity { 1 ≤ B }
+    requires capacity { B ≤ 64 }
+    requires some_word { 1 ≤ M }
+    requires memory { M ≤ 65536 }
+    ensures whole { IfOk result (λ r. DeliversWhole B M (opening_at K.RingKind.ring.sender K.RingKind.ring.receiver (map (λ v. v.items) lists.now) (layout_of place words.now)) (map (λ v. v.items) lists.now) events.now r.items) }
+    ensures accepted { OnOk result (AcceptedAt K.RingKind.ring M (map (λ v. v.items) lists.now) (layout_of place words.now)) }
+    ensures refused { IfErr result (λ e. RefusesAt K.RingKind.ring M (map (λ v. v.items) lists.now) (layout_of place words.now) e) }
+{
+    let channel = Channel::<K, B, M>::open_at(alloc, lists, place, words)?;
+    Ok(whole_of(alloc, channel, events)?)
 }
 
 /// The laws of channels of this kind: each opening fits its memory, and in each run from it what the

@@ -3,7 +3,7 @@
 ghost use Rattle.std.specs.Prelude.{◌≡◌, ◌≤◌, ◌<◌, ◌*◌, ◌+◌, ◌^◌, ℕ, List, All, IfOk, IfErr, OnOk, IsOk, MatchOption, map, length, true, false, []};
 ghost use Rattle.poll_close.specs.Layout.{opening_of, opening_at, senders_from, sender_registers, base_of, block_size};
 ghost use Rattle.poll_close.specs.Laws.{Accepted, AcceptedAt, AreWords, IsInBlocks, OpensEmpty};
-ghost use Rattle.poll_close.specs.Places.{layout_of};
+ghost use Rattle.poll_close.specs.Places.{layout_of, stride_or_dense};
 ghost use Rattle.poll_close.specs.Refusals.{Refuses, RefusesAt, FitsAt, IsBeyond, FilledAt, ZeroAt, ZeroWordAt};
 
 use crate::faults::{Refused, RefusedAt};
@@ -72,7 +72,7 @@ fn sender_registers(place: Place, index: u32) -> [u32; 32]
     ensures { result ≡ sender_registers (layout_of place []) index }
 {
     let mut registers = [0; 32];
-    registers[8] = place.base + index * place.stride;
+    registers[8] = (place.base as u64 + index as u64 * place.stride_or_dense()) as u32;
     registers[9] = 4 * place.ring;
     registers
 }
@@ -102,21 +102,24 @@ fn sender_harts(
 }
 
 /// The opening over lists that are accepted.
+#[tactic(auto, using(crate::proofs::Dense::rows_before))]
 fn lay_out<K: RingKind>(
     alloc: Global,
     lists: &[Vec<u32>],
     place: Place,
     words: &[u32],
 ) -> Result<Opening, AllocError>
+    requires some { 1 ≤ length lists.now }
     requires few { length lists.now < 2 ^ 32 }
     requires ends { base_of (layout_of place words.now) (length lists.now) < 2 ^ 32 }
     requires slots { 4 * place.ring < 2 ^ 32 }
     ensures { IfOk result (λ o. o ≡ opening_at K.ring.sender K.ring.receiver (map (λ v. v.items) lists.now) (layout_of place words.now)) }
 {
+    let stride = place.stride_or_dense();
     let mut registers = [0; 32];
     registers[9] = 4 * place.ring;
-    registers[18] = place.stride;
-    registers[19] = place.base + lists.len() as u32 * place.stride;
+    registers[18] = stride as u32;
+    registers[19] = (place.base as u64 + lists.len() as u64 * stride) as u32;
     registers[20] = lists.len() as u32;
     registers[21] = place.base;
     let receiver = HartOpening {
@@ -150,7 +153,7 @@ pub fn opening<K: RingKind>(
     let place = Place {
         ring,
         base: 0,
-        stride: 16 + 4 * ring,
+        stride: None,
     };
     Ok(lay_out::<K>(alloc, lists, place, &[])?)
 }
@@ -158,7 +161,7 @@ pub fn opening<K: RingKind>(
 /// Whether this address is in one of the first `count` blocks.
 #[tactic(auto, using(crate::proofs::InBlocks::is_inside, crate::proofs::InBlocks::inside_is))]
 fn is_in_blocks(place: Place, count: usize, address: u64) -> bool
-    requires room { block_size place.ring ≤ place.stride }
+    requires room { block_size place.ring ≤ stride_or_dense place.ring place.stride }
     ensures inside { result ≡ true → IsInBlocks (layout_of place []) count address }
     ensures outside { IsInBlocks (layout_of place []) count address → result ≡ true }
 {
@@ -166,13 +169,13 @@ fn is_in_blocks(place: Place, count: usize, address: u64) -> bool
         return false;
     }
     let offset = address - place.base as u64;
-    offset / (place.stride as u64) < count as u64
-        && offset % (place.stride as u64) < 16 + 4 * place.ring as u64
+    let stride = place.stride_or_dense();
+    offset / stride < count as u64 && offset % stride < 16 + 4 * place.ring as u64
 }
 
 /// The first word that is in a block and not 0, if there is one.
 fn filled_word(place: Place, count: usize, words: &[u32]) -> Option<usize>
-    requires room { block_size place.ring ≤ place.stride }
+    requires room { block_size place.ring ≤ stride_or_dense place.ring place.stride }
     requires memory { length words.now ≤ 65536 }
     ensures { MatchOption result (OpensEmpty (layout_of place words.now) count) (λ j. FilledAt (layout_of place words.now) count j) }
 {
@@ -193,10 +196,9 @@ fn fits_at(place: Place, count: usize, words: &[u32], m: usize) -> bool
     ensures fits { result ≡ true → FitsAt m count (layout_of place words.now) }
     ensures beyond { result ≡ false → IsBeyond m count (layout_of place words.now) }
 {
-    let last = place.base as u64 + (count as u64 - 1) * place.stride as u64;
-    last + (place.stride as u64) < 1 << 32
-        && last + 16 + 4 * place.ring as u64 <= 4 * m as u64
-        && words.len() <= m
+    let stride = place.stride_or_dense();
+    let last = place.base as u64 + (count as u64 - 1) * stride;
+    last + stride < 1 << 32 && last + 16 + 4 * place.ring as u64 <= 4 * m as u64 && words.len() <= m
 }
 
 /// Whether a channel of this kind over these lists at a place fits a memory of `m` words that opens with
@@ -223,10 +225,11 @@ fn judge_at<K: RingKind>(
     if place.base % 4 != 0 {
         return Err(RefusedAt::UnevenBase);
     }
-    if place.stride % 4 != 0 {
+    let stride = place.stride_or_dense();
+    if stride % 4 != 0 {
         return Err(RefusedAt::UnevenStride);
     }
-    if (place.stride as u64) < 16 + 4 * place.ring as u64 {
+    if stride < 16 + 4 * place.ring as u64 {
         return Err(RefusedAt::BlocksMeet);
     }
     if !fits_at(place, lists.len(), words, m) {

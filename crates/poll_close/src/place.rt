@@ -1,5 +1,8 @@
 //! Where a channel's blocks lie.
 
+ghost use Rattle.std.specs.Prelude.{◌≡◌, ◌<◌, ◌^◌};
+ghost use Rattle.poll_close.specs.Places.{stride_or_dense};
+
 /// Where the blocks of a channel lie in memory.
 #[derive(Clone, Copy, Debug, PartialEq, Eq)]
 pub struct Place {
@@ -7,6 +10,20 @@ pub struct Place {
     pub ring: u32,
     /// The byte at which block 0 begins.
     pub base: u32,
+    /// How many bytes after the beginning of a block the next one begins. If it is left out, that is where
+    /// the block ends.
+    pub stride: Option<u32>,
+}
+
+impl Place {
     /// How many bytes after the beginning of a block the next one begins.
-    pub stride: u32,
+    pub fn stride_or_dense(self) -> u64
+        ensures value { result ≡ stride_or_dense self.ring self.stride }
+        ensures small { result < 2 ^ 35 }
+    {
+        match self.stride {
+            Some(stride) => stride as u64,
+            None => 16 + 4 * self.ring as u64,
+        }
+    }
 }

@@ -1,4 +1,4 @@
--- The texts of outcomes: what is read of words, against what they tell, and what is written, read again.
+-- The texts of outcomes: what is read of words, against what they say, and what is written, read again.
 use Rattle.std.proofs.Common.{◌≡◌, ◌↔◌, inl, inr, ℕ, ◌<◌, ◌==◌, Bool, true, false, cond, ◌&&◌, List, [], ◌∷◌, length, map, suc, Option, Some, None, refl, sym, ap, subst, ◌∙◌, arith}
 use Rattle.std.specs.Prelude.{codes, Decides, if◌then◌else◌}
 use Rattle.std.specs.Fmt.{decimal}

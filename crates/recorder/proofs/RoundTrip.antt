@@ -61,7 +61,7 @@ token-one run one = rw (le-ltb 1 run.1 one) (ap (λ (word : List ℕ). letter ru
 abbrev pub IsToken : Run Event → List ℕ → Type 0
 IsToken run word = Spells run.0 word run.1 × Solid word
 
--- a run's token spells its event, so many times, and nothing in it parts pieces
+-- a run's token spells its event and how often it stands, and nothing in it parts pieces
 pub token_fits : (run : Run Event) → IsFit run → run.1 < 2 ^ 64 → IsToken run (token_of run)
 token_fits run fit small = elim (cases_lt 1 run.1) [ inl more ↦ subst (IsToken run) (sym (token-more run more)) (repeats more) | inr one ↦ subst (IsToken run) (sym (token-one run one)) (comes_once one) ]
   where
@@ -88,7 +88,7 @@ run_stands run behind rest events fit small part stand =
     subst (λ (all : List (List ℕ)). Stand IsPieceOf all (replicate run.1 run.0 ++ events)) (sym (split_stop parts (token_of run) behind rest (none_of parts parts_none (token_of run) token.1.1) part))
     (replicate run.1 run.0, events, (run.0, run.1, token.0, fit.0, fit.1, refl), refl, stand)
 
--- behind the last separator, or where there is no text, there is an empty piece
+-- after the last separator, or where there is no text, there is an empty piece
 empty_stands : Stand IsPieceOf ([] ∷ []) []
 empty_stands = ([], [], refl, refl, refl)
 

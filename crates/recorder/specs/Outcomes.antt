@@ -1,4 +1,4 @@
--- The texts of outcomes: what is written of one, and which words tell one.
+-- The texts of outcomes: what is written of one, and which words say one.
 use Rattle.std.specs.Prelude.{◌≡◌, ◌⊎◌, ℕ, ◌<◌, ◌^◌, ◌==◌, Bool, true, false, not, ◌&&◌, if◌then◌else◌, List, [], ◌∷◌, ◌++◌, Option, Some, None, codes}
 use Rattle.std.specs.Str.{bytes_eq}
 use Rattle.hart.specs.declared.status.Stop.{Stop}
@@ -56,7 +56,7 @@ outcome_line event outcome = outcome_text (hart_of event) outcome ++ 10 ∷ []
 abbrev pub entry_line : Entry → List ℕ
 entry_line e = row_text (entry_row e) ++ 10 ∷ []
 
--- ---- which words tell an outcome
+-- ---- which words say an outcome
 
 -- a hart, and what an event of it was answered
 abbrev pub Told : Type 0
@@ -122,7 +122,7 @@ may_have (Land h) NothingToLand = true
 may_have (Land h) Over = true
 may_have (Land h) NoHart = true
 
--- The words tell an outcome that the event can have.
+-- The words say an outcome that the event can have.
 abbrev pub TellOutcome : Event → List (List ℕ) → Outcome → Type 0
 TellOutcome event words outcome = IsRowOf outcome_rows words (hart_of event, outcome) × (may_have event outcome ≡ true)
 

@@ -24,7 +24,7 @@ at_byte fault place = record { fault = fault; place = place }
 
 -- ---- a token: `a` is 97, `l` is 108, `*` is 42
 
--- the hart and the count that stand behind a token's letter
+-- the hart and the count that stand after a token's letter
 abbrev pub Numbers : Type 0
 Numbers = ℕ × ℕ
 
@@ -86,7 +86,7 @@ piece_at end place room (c ∷ word) = do
   run ← run_at end place room (c ∷ word)
   Ok (replicate run.1 run.0)
 
--- a piece and the separator behind it
+-- a piece and the separator after it
 abbrev pub step_over : List ℕ → ℕ
 step_over piece = length piece + 1
 
@@ -98,7 +98,7 @@ tokens_from start room text = in_turn (piece_at (length text)) step_over start r
 abbrev pub tokens_at : (room : ℕ) → List ℕ → Result (List Event) AtByte
 tokens_at room text = tokens_from 0 room text
 
--- The events of a text's tokens behind `before` events of other texts: a fault of the text by itself
+-- The events of a text's tokens after `before` events of other texts: a fault of the text by itself
 -- comes first, and then the token with which the total passes the limit.
 unfoldable pub tokens_after : (before : ℕ) → List ℕ → Result (List Event) AtByte
 tokens_after before text = do

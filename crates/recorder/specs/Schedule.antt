@@ -18,7 +18,7 @@ abbrev pub hart_of : Event → ℕ
 hart_of (Act hart) = hart
 hart_of (Land hart) = hart
 
--- A token spells an event, so many times: its letter, its hart, and a star and the count, or no count for once.
+-- A token spells an event and how often it stands: its letter, its hart, and a star and the count, or no count for once.
 pub data Spells (event : Event) : List ℕ → ℕ → Type 0 where
   once : (hart : List ℕ) → Says hart (hart_of event) → Spells event (letter event ∷ hart) 1
   repeated : (hart count : List ℕ) (times : ℕ) → Says hart (hart_of event) → Says count times → Spells event (letter event ∷ (hart ++ 42 ∷ count)) times

@@ -24,7 +24,7 @@ fn event_of(word: u32, harts: u32) -> Event
     }
 }
 
-/// So many events of so many harts, 1 to 64, each drawn by one word of 32 bits.
+/// `n` events of `harts` harts, 1 to 64, each drawn by one word of 32 bits.
 ///
 /// A word draws the event of the number that it leaves modulo twice the harts: the act of that hart,
 /// or from `harts` on the landing of the hart that is `harts` less. Where memory runs out, the

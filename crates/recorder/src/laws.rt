@@ -28,7 +28,7 @@ pub fn one_value()
 {}
 
 /// Reading a text from the left names a fault exactly where its tokens stand for no events, or where it
-/// is no schedule or no record; behind other events, where there is no room for those that it stands for. It does
+/// is no schedule or no record; after other events, where there is no room for those that it stands for. It does
 /// nothing.
 pub fn refused_without_value()
     ensures tokens { (text : List ℕ) → IsErr (tokens_at MAX_EVENTS text) ↔ ((events : List Event) → ¬ IsTokensOf text events) }
@@ -52,7 +52,7 @@ pub fn tokens_are_read_again()
 {}
 
 /// The text of an outcome that an event can have, and which speaks of the event's hart, of widths 1, 2 and
-/// 4 and of words, tells this outcome; words are read as an outcome exactly where they tell it. It does
+/// 4 and of words, says this outcome; words are read as an outcome exactly where they say it. It does
 /// nothing.
 pub fn outcomes_are_read_again()
     ensures again { (event : Event) (outcome : Outcome) → hart_of event < MAX_HARTS → CanBeTold event outcome → TellOutcome event (tokens (outcome_text (hart_of event) outcome)) outcome }

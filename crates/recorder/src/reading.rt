@@ -15,10 +15,10 @@ use std::alloc::{AllocError, Global};
 use step_machine::events::Event;
 use texts::{Separators, first_piece};
 
-/// A schedule has at most so many events.
+/// The most events that a schedule has.
 pub const MAX_EVENTS: usize = 1_048_576;
 
-/// Appends the item so many times, or nothing where memory runs out.
+/// Appends the item `times` times, or nothing where memory runs out.
 pub(crate) fn push_run<E: Copy>(items: &mut Vec<E>, item: E, times: usize) -> Result<(), AllocError>
     requires { vec_len items.old + times < 2 ^ 32 }
     ensures ok { OnOk result (items.new.items ≡ items.old.items ++ replicate times item) }

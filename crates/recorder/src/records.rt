@@ -144,7 +144,7 @@ fn are_same(step: (Event, Outcome), other: (Event, Outcome)) -> bool
     are_same_events(step.0, other.0) && are_same_outcomes(step.1, other.1)
 }
 
-/// Appends the line of a run: the event with its outcome, so many times.
+/// Appends the line of a run: the event with its outcome, `times` times.
 fn push_record_line(
     out: &mut String,
     event: Event,

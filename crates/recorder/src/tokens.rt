@@ -12,7 +12,7 @@ use step_machine::opening::MAX_HARTS;
 use texts::cutting::cut_at;
 use texts::number;
 
-/// What a token's letter tells.
+/// What a token's letter says.
 #[derive(Clone, Copy)]
 pub enum Kind {
     Act,
@@ -39,7 +39,7 @@ impl Kind {
     }
 }
 
-/// The hart and the count behind a token's letter; no count is once.
+/// The hart and the count after a token's letter; no count is once.
 #[tactic(auto, unfolding(crate::specs::Reading::numbers_of))]
 fn numbers_in(numbers: &[u8]) -> Option<(u64, u64)>
     ensures { result ≡ numbers_of numbers.now }

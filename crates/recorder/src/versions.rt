@@ -67,7 +67,7 @@ fn said_in(alloc: Global, text: &[u8]) -> Result<Schedule, ScheduleError>
 }
 
 /// What a schedule of either version says: `ztso-schedule 1` as its first line, ended by LF, CR LF or
-/// the end of the text, and tokens behind it, or a record, as [`crate::read_record`] reads it.
+/// the end of the text, and tokens after it, or a record, as [`crate::read_record`] reads it.
 ///
 /// Another first line is `BadHead` at byte 0; then the first faulty token or line is answered as
 /// [`crate::read_tokens`] or [`crate::read_record`] answers it, its place counted from the text's first

@@ -18,7 +18,7 @@ pub(crate) fn are_same(event: Event, other: Event) -> bool
     event == other
 }
 
-/// Appends the token of a run: the event, so many times.
+/// Appends the token of a run: the event, `times` times.
 pub(crate) fn push_token(out: &mut String, event: Event, times: usize) -> Result<(), AllocError>
     ensures { OnOk result (string_bytes out.new ≡ string_bytes out.old ++ token_of (event, times)) }
 {

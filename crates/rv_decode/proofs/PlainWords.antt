@@ -48,7 +48,7 @@ same_imm_b a b e = (omega (arith, ints), omega (arith, ints), omega (arith, ints
 same_imm_j : (a b : ℕ) → imm_j a ≡ imm_j b → (field a 12 8 ≡ field b 12 8) × (field a 20 1 ≡ field b 20 1) × (field a 21 10 ≡ field b 21 10) × (field a 31 1 ≡ field b 31 1)
 same_imm_j a b e = (omega (arith, ints), omega (arith, ints), omega (arith, ints), omega (arith, ints))
 
--- two fields, each of which is told by a third number
+-- two fields, each of which a third number determines
 meet : {A : Type 0} {x y z : A} → x ≡ z → y ≡ z → x ≡ y
 meet p q = p ∙ sym q
 

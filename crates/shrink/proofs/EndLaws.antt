@@ -3,7 +3,7 @@ use Rattle.std.proofs.Common.{◌≡◌, ◌↔◌, ◌<◌, ℕ, Bool, IsTrue, 
 use Rattle.std.specs.Prelude.{map}
 use Rattle.step_machine.specs.declared.events.Event.{Event}
 use Rattle.step_machine.specs.History.{Start, History}
-use Rattle.step_machine.specs.Runs.{Run, IsOwnRun, event_of}
+use Rattle.step_machine.specs.Runs.{Run, event_of}
 use Rattle.litmus.specs.Questions.{Question, left_sides}
 use Rattle.litmus.specs.Verdicts.{IsFinished, final_value}
 use Rattle.shrink.specs.Shrinking.{EndsWith, IsPartOf, IsShrunk, without}

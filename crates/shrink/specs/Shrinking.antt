@@ -33,10 +33,14 @@ pub record IsShrunk (B M : ℕ) (q : Question) (given answer : List Event) : Typ
   pub ends : EndsWith B M q answer last
   pub minimal : (i : ℕ) → i < length answer → EndsWith B M q (without i 1 answer) last → ⊥
 
--- why there is no answer: the run of the given events isn't finished, or there is no memory
+-- why there is no answer: the run isn't finished, or there is no memory
+abbrev pub RefusesRun : (M : ℕ) → History → ShrinkError → Type 0
+RefusesRun M history NoMemory = Unit {0}
+RefusesRun M history NotFinished = IsFinished M history → ⊥
+
+-- the same of the run of the given events
 abbrev pub Refuses : (B M : ℕ) → Question → List Event → ShrinkError → Type 0
-Refuses B M q given NoMemory = Unit {0}
-Refuses B M q given NotFinished = (t : History) → Run B M q.opening given t → IsFinished M t → ⊥
+Refuses B M q given why = (t : History) → Run B M q.opening given t → RefusesRun M t why
 
 -- the number by which texts name a refusal
 abbrev pub fault_number : ShrinkError → ℕ

@@ -1,9 +1,10 @@
-//! The call.
+//! The calls.
 
-ghost use Rattle.std.specs.Prelude.{◌≡◌, ◌≤◌, IfOk, IfErr, map};
-ghost use Rattle.step_machine.specs.Runs.{event_of};
+ghost use Rattle.std.specs.Prelude.{◌≡◌, ◌≤◌, List, length, IfOk, IfErr, map};
+ghost use Rattle.step_machine.specs.Runs.{Run, event_of};
+ghost use Rattle.step_machine.specs.declared.events.Event.{Event};
 ghost use Rattle.litmus.specs.declared.question.TheConstants.{MAX_LOCATIONS};
-ghost use Rattle.shrink.specs.Shrinking.{IsShrunk, Refuses};
+ghost use Rattle.shrink.specs.Shrinking.{IsShrunk, Refuses, RefusesRun};
 
 use crate::faults::ShrinkError;
 use crate::passes::leave_out;
@@ -24,12 +25,33 @@ fn events_of(alloc: Global, entries: &[Entry]) -> Result<Vec<Event>, AllocError>
     Ok(events)
 }
 
-/// Leaves events out of a schedule of the test, until each one that is left is needed for the outcome:
-/// for a run that is finished, with the same last values of the left sides. The machine has store
-/// buffers of `B` stores and `M` words of memory.
+/// Leaves events out of a test's run, until each one that is left is needed for the outcome: for a run
+/// that is finished, with the same last values of the left sides. The machine stands at the end of the
+/// run; it has store buffers of `B` stores and `M` words of memory.
 ///
 /// Events without an entry go first, then pieces of half the length, of half that and so on, then single
 /// events. So n entries usually take some 2 n runs of at most n events.
+pub fn shrink_run<const B: usize, const M: usize>(
+    alloc: Global,
+    test: &Test,
+    machine: Machine<B, M>,
+) -> Result<Vec<Event>, ShrinkError>
+    requires opening { machine.history.opening ≡ test.now.opening }
+    requires names { length test.now.names ≤ M }
+    ensures shrunk { (given : List Event) → Run B M test.now.opening given machine.entry.history → IfOk result (λ answer. IsShrunk B M test.now given answer.items) }
+    ensures refused { IfErr result (λ why. RefusesRun M machine.entry.history why) }
+{
+    if !is_finished(test, &machine) {
+        return Err(ShrinkError::NotFinished);
+    }
+    let last = test.values(alloc, &machine)?;
+    let mut left = events_of(alloc, machine.entries())?;
+    let mut again = machine;
+    leave_out(alloc, test, &mut again, &last, &mut left)?;
+    Ok(left)
+}
+
+/// Leaves events out of a schedule of the test, as [`shrink_run`] does of the schedule's run.
 pub fn shrink<const B: usize, const M: usize>(
     alloc: Global,
     test: &Test,
@@ -46,11 +68,5 @@ pub fn shrink<const B: usize, const M: usize>(
     let opening = test.opening(alloc)?;
     let mut machine: Machine<B, M> = Machine::open(alloc, opening)?;
     run_again(&mut machine, events)?;
-    if !is_finished(test, &machine) {
-        return Err(ShrinkError::NotFinished);
-    }
-    let last = test.values(alloc, &machine)?;
-    let mut left = events_of(alloc, machine.entries())?;
-    leave_out(alloc, test, &mut machine, &last, &mut left)?;
-    Ok(left)
+    shrink_run(alloc, test, machine)
 }

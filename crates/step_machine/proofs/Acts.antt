@@ -1,4 +1,4 @@
--- A hart's act and a landing, told by what the hart needs and what is pending: it does what it needs, or
+-- A hart's act and a landing, by what the hart needs and what is pending: it does what it needs, or
 -- waits at a store, an AMO or a full fence. So every event of a kept history has an outcome. The law of
 -- each need is for the crates above, and for proofs about further programs.
 use Rattle.std.proofs.Common.{inl, inr, ◌⊎◌, ◌≡◌, ◌≢◌, ℕ, ◌<◌, ◌≤◌, Bool, true, false, List, [], ◌∷◌, length, take, Option, Some, None, refl, sym, ◌∙◌, ap, subst, arith}
@@ -33,7 +33,7 @@ use Rattle.step_machine.specs.Banks.{is_over}
 use Rattle.step_machine.proofs.Happening.{history_after, none-no_hart, over_happens, state_of-hart, some_land}
 use Rattle.step_machine.proofs.OwnRuns.{only_act}
 
--- the entry by which hart h does what it needs is its own, and tells what it read
+-- the entry by which hart h does what it needs is its own, and holds what it read
 pub own_entry : (h : ℕ) (n : Need) (v : ℕ) → (hart_of (entry_of h n v) ≡ h) × (is_land (entry_of h n v) ≡ false) × (entry_of h n v ≡ entry_of h n (value_of (entry_of h n v)))
 own_entry h need.Inner v = (refl, refl, refl)
 own_entry h (need.Load a width) v = (refl, refl, refl)
@@ -46,7 +46,7 @@ own_entry h (need.Report (report.Closed i)) v = (refl, refl, refl)
 own_entry h need.Exit v = (refl, refl, refl)
 own_entry h (need.Stop why) v = (refl, refl, refl)
 
--- where so much is pending of its hart, such a need has to wait: a store for room, an AMO and a full
+-- where this is pending of its hart, such a need has to wait: a store for room, an AMO and a full
 -- fence for an empty buffer; no other need waits
 abbrev pub HasToWait : ℕ → List Write → Need → Type 0
 HasToWait B ws need.Inner = ⊥

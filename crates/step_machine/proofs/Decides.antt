@@ -24,7 +24,7 @@ use Rattle.step_machine.specs.Legal.{Allowed}
 use Rattle.step_machine.specs.Banks.{Does}
 use Rattle.step_machine.specs.Ranges.{IsPlace, IsInRange}
 use Rattle.step_machine.specs.inner.Stored.{Stored, buffer_of, word_at, found_byte, found, is_empty, if_waits, outcome_for}
-use Rattle.step_machine.specs.inner.Ties.{Holds}
+use Rattle.step_machine.specs.inner.Representation.{Holds}
 use Rattle.memory.specs.declared.writes.Write.{Write}
 
 in_range_true : (s : HartState) (n : Need) → IsTrueOf s n → IsInRange s.words n

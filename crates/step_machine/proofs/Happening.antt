@@ -21,7 +21,7 @@ use Rattle.step_machine.specs.Runs.{CanFollow, NoEntry, idle_of, idle_in, Happen
 use Rattle.step_machine.specs.Ranges.{IsInRange}
 use Rattle.step_machine.specs.inner.Stored.{buffer_of, outcome_for, land_in}
 use Rattle.step_machine.specs.inner.Config.{Config, entries_after, act_in, act_outcome, land_outcome, outcome_of}
-use Rattle.step_machine.specs.inner.Ties.{view_state, Tied}
+use Rattle.step_machine.specs.inner.Representation.{view_state, Represents}
 use Rattle.step_machine.proofs.Follows.{state_after, follows, act_only, land_follows, Path-hart, Legal-last}
 use Rattle.step_machine.proofs.Decides.{need_of-in_range, Decided, Holds-sees, outcome_for-decided}
 use Rattle.memory.specs.declared.writes.Write.{Write}
@@ -33,7 +33,7 @@ history_after t o = record { opening = t.opening; entries = entries_after t.entr
 -- what is known of a machine between two steps
 pub record Stands (B M : ℕ) (t : History) (c : Config) : Type 0 where
   pub kept : Kept B M t
-  pub tied : Tied M t c
+  pub tied : Represents M t c
 
 pub no_hart : {X Y : Type 0} (f : X → Y) (o : Option X) → option_map f o ≡ None → o ≡ None
 no_hart f None e = refl
@@ -114,7 +114,7 @@ idle_land B M t h s status.Ended is run empty =
 idle_land B M t h s (status.Stopped why) is run empty =
     record { none = land_none B M t h empty; why = sym (ap (λ o. idle_of o outcome.NothingToLand) is ∙ ap (λ x. idle_in x outcome.NothingToLand) run); after = refl }
 
--- a landing where so much is pending
+-- a landing where this is pending
 pub some_land : (B M : ℕ) (t : History) (h : ℕ) (s : HartState) (ps : List Write) → Kept B M t → state_of M t h ≡ Some s → ps ≡ pending h t.entries → Happens B M t (event.Land h) (land_in ps h (is_over s.status)) (history_after t (land_in ps h (is_over s.status)))
 some_land B M t h s [] kept is ps = idle_land B M t h s s.status is refl (sym ps)
 some_land B M t h s (p ∷ ps) kept is e =

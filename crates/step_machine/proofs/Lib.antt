@@ -11,7 +11,7 @@ pub mod Fitting
 pub mod Rooms
 pub mod Opens
 pub mod Restarts
-pub mod Sounds
+pub mod Standings
 pub mod Landings
 pub mod WordReads
 pub mod OwnRuns

@@ -14,7 +14,7 @@ use Rattle.step_machine.specs.Paths.{opens_as}
 use Rattle.step_machine.specs.inner.Opened.{opened_hart}
 use Rattle.step_machine.specs.inner.Stored.{HasAddress, FitStored, opened_stored}
 use Rattle.step_machine.specs.inner.Config.{Config, Fit, beginning, opened_config}
-use Rattle.step_machine.specs.inner.Ties.{view_state, Holds, Tied}
+use Rattle.step_machine.specs.inner.Representation.{view_state, Holds, Represents}
 use Rattle.memory.specs.declared.writes.Write.{Write}
 
 pub fit_stored : (M : ℕ) (first : List ℕ) (harts : ℕ) → length first ≤ M → FitStored M (opened_stored M first harts)
@@ -80,7 +80,7 @@ holds_opened M o harts = record {
   bytes = λ a is. ap (λ (ws : List ℕ). byte_of (o.words ++ ws) a) (drop-replicate (length o.words) M 0) ∙ ap (byte_at (a % 4)) (zeros_after o.words (M - length o.words) (a / 4));
 }
 
-pub tied_opened : (M : ℕ) (o : Start) → Tied M (unrun o) (opened_config M o)
+pub tied_opened : (M : ℕ) (o : Start) → Represents M (unrun o) (opened_config M o)
 tied_opened M o = record {
   states = λ h. ap (option_map view_state) (slice_get-map (opened_hart M) o.harts h) ∙ view_opened M (slice_get o.harts h);
   firsts = λ h. ap (option_map beginning) (slice_get-map (opened_hart M) o.harts h) ∙ first_opened M (slice_get o.harts h);

@@ -20,7 +20,7 @@ use Rattle.step_machine.specs.Paths.{entry_of, value_of, CanMake, after_entries,
 use Rattle.step_machine.specs.Legal.{Allowed, IsOfHarts, Kept}
 use Rattle.step_machine.specs.Runs.{CanFollow, Adds, RunFrom, event_of, IsOwnRun}
 use Rattle.step_machine.specs.inner.Config.{Config}
-use Rattle.step_machine.specs.inner.Ties.{Sound}
+use Rattle.step_machine.specs.inner.Representation.{IsMachineAt}
 use Rattle.step_machine.proofs.Appended.{own-append, Makes-front, LegalAfter-front}
 use Rattle.step_machine.proofs.Follows.{act_only}
 use Rattle.step_machine.proofs.Running.{hart_follows}
@@ -108,5 +108,5 @@ pub own_run : (B M : ℕ) (t : History) → Kept B M t → IsOwnRun B M t
 own_run B M t kept = run_on B M t.opening [] t.entries kept
 
 -- what a sound machine did, as it is seen, is the run of its own entries' events
-pub own_run_seen : (B M n : ℕ) (o : Start) (es : List Entry) (c : Config) (p : Progress) → Sound B M (history_of o es) c n → record { history = history_of o es; room = n } ≡ p → IsOwnRun B M p.history
+pub own_run_seen : (B M n : ℕ) (o : Start) (es : List Entry) (c : Config) (p : Progress) → IsMachineAt B M (history_of o es) c n → record { history = history_of o es; room = n } ≡ p → IsOwnRun B M p.history
 own_run_seen B M n o es c p sound is = subst (λ (q : Progress). IsOwnRun B M q.history) is (own_run B M (history_of o es) sound.kept)

@@ -12,7 +12,7 @@ use Rattle.step_machine.specs.declared.events.Entry.{Entry}
 use Rattle.step_machine.specs.History.{Start, History, unrun}
 use Rattle.step_machine.specs.inner.Stored.{Stored, HasAddress, FitStored, no_stores, restarted_stored}
 use Rattle.step_machine.specs.inner.Config.{Config, Fit, beginning, restarted_config}
-use Rattle.step_machine.specs.inner.Ties.{view_state, Holds, Tied, Sound}
+use Rattle.step_machine.specs.inner.Representation.{view_state, Holds, Represents, IsMachineAt}
 use Rattle.step_machine.proofs.Opens.{holds_opened}
 use Rattle.step_machine.proofs.Running.{kept-unrun}
 use Rattle.memory.specs.declared.writes.Write.{Write}
@@ -61,7 +61,7 @@ holds_restarted M t s holds = record {
   bytes = λ a is. ap (λ (ws : List ℕ). byte_of ws a) holds.opens ∙ (holds_opened M t.opening (length s.buffers)).bytes a is;
 }
 
-pub tied_restarted : (M : ℕ) (t : History) (c : Config) → Tied M t c → Tied M (unrun t.opening) (restarted_config c)
+pub tied_restarted : (M : ℕ) (t : History) (c : Config) → Represents M t c → Represents M (unrun t.opening) (restarted_config c)
 tied_restarted M t c tied = record {
   states = λ h. ap (option_map view_state) (slice_get-map restarted c.harts h) ∙ state_again (slice_get c.harts h) ∙ tied.firsts h;
   firsts = λ h. ap (option_map beginning) (slice_get-map restarted c.harts h) ∙ first_again (slice_get c.harts h) ∙ tied.firsts h;
@@ -69,7 +69,7 @@ tied_restarted M t c tied = record {
   holds = holds_restarted M t c.stored tied.holds;
 }
 
-pub sound_restarted : (B M n : ℕ) (t : History) (c : Config) → Sound B M t c n → Sound B M (unrun t.opening) (restarted_config c) n
+pub sound_restarted : (B M n : ℕ) (t : History) (c : Config) → IsMachineAt B M t c n → IsMachineAt B M (unrun t.opening) (restarted_config c) n
 sound_restarted B M n t c sound = record {
   fits = sound.fits;
   kept = kept-unrun B M t.opening;
@@ -80,7 +80,7 @@ sound_restarted B M n t c sound = record {
 }
 
 -- the same of what the machine then holds
-pub sound_put_back : (B M n : ℕ) (o : Start) (es none : List Entry) (c d : Config) → Sound B M (record { opening = o; entries = es }) c n → none ≡ [] → d ≡ restarted_config c → Sound B M (record { opening = o; entries = none }) d n
+pub sound_put_back : (B M n : ℕ) (o : Start) (es none : List Entry) (c d : Config) → IsMachineAt B M (record { opening = o; entries = es }) c n → none ≡ [] → d ≡ restarted_config c → IsMachineAt B M (record { opening = o; entries = none }) d n
 sound_put_back B M n o es none c d sound is_none is =
-    subst (λ (xs : List Entry). Sound B M (record { opening = o; entries = xs }) d n) (sym is_none)
-    (subst (λ (k : Config). Sound B M (unrun o) k n) (sym is) (sound_restarted B M n (record { opening = o; entries = es }) c sound))
+    subst (λ (xs : List Entry). IsMachineAt B M (record { opening = o; entries = xs }) d n) (sym is_none)
+    (subst (λ (k : Config). IsMachineAt B M (unrun o) k n) (sym is) (sound_restarted B M n (record { opening = o; entries = es }) c sound))

@@ -19,11 +19,11 @@ use Rattle.step_machine.specs.Snapshots.{Taken, AreSaved, IsSavedFrom, IsTakenAt
 use Rattle.step_machine.specs.inner.Stored.{Stored, HasAddress, FitStored}
 use Rattle.step_machine.specs.inner.Config.{Config, Fit, SameButRoom, without_room, beginning}
 use Rattle.step_machine.specs.inner.Restored.{restored_harts, restored_stored, restored_config, AreWithin}
-use Rattle.step_machine.specs.inner.Ties.{view_state, Sound}
+use Rattle.step_machine.specs.inner.Representation.{view_state, IsMachineAt}
 use Rattle.step_machine.proofs.Appended.{reported-append}
 use Rattle.step_machine.proofs.Changed.{length-changed, kept_at, all_kept}
 use Rattle.step_machine.proofs.Follows.{state_after}
-use Rattle.step_machine.proofs.Sounds.{hart_at, sound_same}
+use Rattle.step_machine.proofs.Standings.{hart_at, sound_same}
 use Rattle.step_machine.proofs.States.{state_keeps}
 
 pub saved_at : (ws : List HartView) (ss : List SavedHart) (h : ℕ) (x : SavedHart) → AreSaved ws ss → slice_get ss h ≡ Some x
@@ -71,7 +71,7 @@ first_reports k es h rs qs all some =
     all ∙ ap (reported h) (sym (take-append-drop k es)) ∙ reported-append h (take k es) (drop k es) ∙ ap (λ ps. ps ++ reported h (drop k es)) (sym some) in
     ap (take (length qs)) whole ∙ take-append_seam qs (reported h (drop k es))
 
-gone_on : (B M n k : ℕ) (t : History) (c d : Config) → Sound B M t c n → Sound B M (up_to k t) d 0 → (h : ℕ) (v w : HartView) → slice_get c.harts h ≡ Some v
+gone_on : (B M n k : ℕ) (t : History) (c d : Config) → IsMachineAt B M t c n → IsMachineAt B M (up_to k t) d 0 → (h : ℕ) (v w : HartView) → slice_get c.harts h ≡ Some v
     → slice_get d.harts h ≡ Some w → HasGoneOn w v
 gone_on B M n k t c d now then h v w is_v is_w = record {
   first = same_first (slice_get c.harts h) (slice_get d.harts h) v w (now.tied.firsts h ∙ sym (then.tied.firsts h)) is_v is_w;
@@ -105,7 +105,7 @@ same_stored s a b first buffers words =
     ∙ ap (λ (bs : List (List Write)). record { buffers = bs; words = s.words ++ drop (length s.words) b.first; first = b.first }) buffers
     ∙ ap (λ (ws : List ℕ). record { buffers = b.buffers; words = ws; first = b.first }) words
 
-same_again : (B M n k : ℕ) (t : History) (c d : Config) (s : Taken) → Sound B M t c n → Sound B M (up_to k t) d 0 → IsSavedFrom M d s
+same_again : (B M n k : ℕ) (t : History) (c d : Config) (s : Taken) → IsMachineAt B M t c n → IsMachineAt B M (up_to k t) d 0 → IsSavedFrom M d s
     → SameButRoom d (restored_config s c)
 same_again B M n k t c d s now then saved =
     let count : length c.harts ≡ length d.harts = now.count ∙ sym then.count in record {
@@ -116,18 +116,18 @@ same_again B M n k t c d s now then saved =
 
 -- ---- the machine put back
 
-pub sound_back : (B M n : ℕ) (t : History) (c : Config) (s : Taken) → Sound B M t c n → IsTakenAt B M (up_to s.count t) s
-    → Sound B M (up_to s.count t) (restored_config s c) n
+pub sound_back : (B M n : ℕ) (t : History) (c : Config) (s : Taken) → IsMachineAt B M t c n → IsTakenAt B M (up_to s.count t) s
+    → IsMachineAt B M (up_to s.count t) (restored_config s c) n
 sound_back B M n t c s now taken =
     sound_same B M 0 n (up_to s.count t) taken.held (restored_config s c) taken.stands (same_again B M n s.count t c taken.held s now taken.stands taken.saved)
     (kept_at put_back (λ v. n ≤ v.room) (λ v x room. room) c.harts s.harts now.room)
 
-pub sound_put_to : (B M n : ℕ) (o : Start) (es fs : List Entry) (c d : Config) (s : Taken) → Sound B M (record { opening = o; entries = es }) c n
+pub sound_put_to : (B M n : ℕ) (o : Start) (es fs : List Entry) (c d : Config) (s : Taken) → IsMachineAt B M (record { opening = o; entries = es }) c n
     → IsTakenAt B M (up_to s.count (record { opening = o; entries = es })) s → fs ≡ take s.count es → d ≡ restored_config s c
-    → Sound B M (record { opening = o; entries = fs }) d n
+    → IsMachineAt B M (record { opening = o; entries = fs }) d n
 sound_put_to B M n o es fs c d s now taken cut is =
-    subst (λ (xs : List Entry). Sound B M (record { opening = o; entries = xs }) d n) (sym cut)
-    (subst (λ (k : Config). Sound B M (up_to s.count (record { opening = o; entries = es })) k n) (sym is) (sound_back B M n (record { opening = o; entries = es }) c s now taken))
+    subst (λ (xs : List Entry). IsMachineAt B M (record { opening = o; entries = xs }) d n) (sym cut)
+    (subst (λ (k : Config). IsMachineAt B M (up_to s.count (record { opening = o; entries = es })) k n) (sym is) (sound_back B M n (record { opening = o; entries = es }) c s now taken))
 
 reports_within : (v w : HartView) (x : SavedHart) → IsSavedOf w x → HasGoneOn w v → x.reports ≤ length v.reports
 reports_within v w x saved on =
@@ -141,7 +141,7 @@ reports_within v w x saved on =
     few_taken (suc m) [] = omega arith
     few_taken (suc m) (r ∷ rs) = let less : length (take m rs) ≤ length rs = few_taken m rs in omega arith
 
-pub within_back : (B M n : ℕ) (t : History) (c : Config) (s : Taken) → Sound B M t c n → IsTakenAt B M (up_to s.count t) s → AreWithin c.harts s.harts
+pub within_back : (B M n : ℕ) (t : History) (c : Config) (s : Taken) → IsMachineAt B M t c n → IsTakenAt B M (up_to s.count t) s → AreWithin c.harts s.harts
 within_back B M n t c s now taken = record {
   count = length-saved taken.held.harts s.harts taken.saved.harts ∙ taken.stands.count ∙ sym now.count;
   given = λ h v x is_v is_x. (let of_w = saved_at taken.held.harts s.harts h x taken.saved.harts is_x in
@@ -150,7 +150,7 @@ within_back B M n t c s now taken = record {
       reports_within v of_w.0 x of_w.2 (gone_on B M n s.count t c taken.held now taken.stands h v of_w.0 is_v of_w.1));
 }
 
-pub buffers_back : (B M n : ℕ) (t : History) (c : Config) (s : Taken) → Sound B M t c n → IsTakenAt B M (up_to s.count t) s
+pub buffers_back : (B M n : ℕ) (t : History) (c : Config) (s : Taken) → IsMachineAt B M t c n → IsTakenAt B M (up_to s.count t) s
     → length s.buffers ≡ length c.stored.buffers
 buffers_back B M n t c s now taken = ap length taken.saved.buffers ∙ taken.stands.fit.buffers ∙ taken.stands.count ∙ sym now.count ∙ sym now.fit.buffers
 

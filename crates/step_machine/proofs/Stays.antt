@@ -24,7 +24,7 @@ use Rattle.step_machine.specs.Paths.{entry_of, value_of, opens_as, state_of}
 use Rattle.step_machine.specs.Legal.{Legal}
 use Rattle.step_machine.specs.inner.Stored.{Stored, HasAddress, written}
 use Rattle.step_machine.specs.inner.Config.{Config, beginning, step_at, step_hart}
-use Rattle.step_machine.specs.inner.Ties.{view_state, Holds, Tied}
+use Rattle.step_machine.specs.inner.Representation.{view_state, Holds, Represents}
 use Rattle.memory.proofs.Newest.{newest_of-append}
 use Rattle.step_machine.proofs.Appended.{pending-last, landed-last, reported-last}
 use Rattle.step_machine.proofs.Balanced.{balanced}
@@ -63,7 +63,7 @@ own_is : (h k : ℕ) (e : Entry) (b : Bool) → hart_of e ≡ h → (h == k) ≡
 own_is h k e b mine is = let at : (hart_of e == k) ≡ b = subst (λ (g : ℕ). (g == k) ≡ b) (sym mine) is in ap (λ c. c && not (is_land e)) at
 
 -- the states after hart h made an entry e of its own and its list of harts stepped at h by what e read
-pub states_stay : (M : ℕ) (t : History) (c : Config) (h : ℕ) (e : Entry) → Tied M t c → hart_of e ≡ h → is_land e ≡ false → (k : ℕ) → option_map view_state (slice_get (step_hart c h (value_of e)) k) ≡ state_of M (with_entry t e) k
+pub states_stay : (M : ℕ) (t : History) (c : Config) (h : ℕ) (e : Entry) → Represents M t c → hart_of e ≡ h → is_land e ≡ false → (k : ℕ) → option_map view_state (slice_get (step_hart c h (value_of e)) k) ≡ state_of M (with_entry t e) k
 states_stay M t c h e tied mine act k = at (k == h) refl
   where
     at : (b : Bool) → (k == h) ≡ b → option_map view_state (slice_get (step_hart c h (value_of e)) k) ≡ state_of M (with_entry t e) k
@@ -101,7 +101,7 @@ firsts_step_at hs h v None is = refl
 firsts_step_at hs h v (Some x) is = map-set_same beginning hs h (stepped x v) x (ap beginning (sym (get_or_from_slice_get hs h x x is)))
 
 -- a step leaves where each hart opened
-pub firsts_stay : (M : ℕ) (t : History) (c : Config) (h v : ℕ) → Tied M t c → (k : ℕ) → option_map beginning (slice_get (step_hart c h v) k) ≡ option_map (opens_as M) (slice_get t.opening.harts k)
+pub firsts_stay : (M : ℕ) (t : History) (c : Config) (h v : ℕ) → Represents M t c → (k : ℕ) → option_map beginning (slice_get (step_hart c h v) k) ≡ option_map (opens_as M) (slice_get t.opening.harts k)
 firsts_stay M t c h v tied k = first_same c.harts (step_hart c h v) k (firsts_step_at c.harts h v (slice_get c.harts h) refl) ∙ tied.firsts k
 
 -- reports
@@ -135,7 +135,7 @@ report_of-other k (entry.Stopped g why) ne = refl
 report_of-other k (entry.Land g) ne = refl
 
 -- the reports after hart h, in state s, made e
-pub reports_stay : (M : ℕ) (t : History) (c : Config) (h : ℕ) (e : Entry) (s : HartState) → Tied M t c → hart_of e ≡ h → state_of M t h ≡ Some s → e ≡ entry_of h (need_of s) (value_of e) → (k : ℕ) (w : HartView) → slice_get (step_hart c h (value_of e)) k ≡ Some w → w.reports ≡ reported k (with_entry t e).entries
+pub reports_stay : (M : ℕ) (t : History) (c : Config) (h : ℕ) (e : Entry) (s : HartState) → Represents M t c → hart_of e ≡ h → state_of M t h ≡ Some s → e ≡ entry_of h (need_of s) (value_of e) → (k : ℕ) (w : HartView) → slice_get (step_hart c h (value_of e)) k ≡ Some w → w.reports ≡ reported k (with_entry t e).entries
 reports_stay M t c h e s tied mine is made k w here = at (k == h) refl
   where
     mine_at : (so : Option HartView) → slice_get c.harts h ≡ so → slice_get (step_hart c h (value_of e)) h ≡ Some w → w.reports ≡ reported h (t.entries ++ e ∷ [])

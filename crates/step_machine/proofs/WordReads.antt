@@ -1,5 +1,5 @@
 -- The law of word reads: where all stores and AMOs are of whole words, a word access by bytes reads the
--- word that is told without bytes.
+-- word, without bytes.
 use Rattle.std.proofs.Common.{◌≡◌, ℕ, ◌+◌, ◌/◌, ◌%◌, ◌<◌, ◌==◌, Bool, true, false, List, [], ◌∷◌, ◌++◌, if◌then◌else◌, Some, None, refl, ◌∙◌, ap, arith, append-nil}
 use Rattle.std.specs.Prelude.{All, take, slice_index, unwrap_or}
 use Rattle.std.specs.Int.{byte_at}
@@ -74,7 +74,7 @@ memory-word o es a opens all aligned =
     (λ i lt. ap (unwrap_or (newest_of (a + i) None (landed es))) (opening_at o a i aligned lt))
     ∙ word_reads a (slice_index o.words (a / 4)) (landed es) [] aligned (opens (a / 4)) (landed_whole es all) (All-nil IsWholeWord)
 
--- a word of memory after one more entry, told without bytes
+-- a word of memory after one more entry, stated without bytes
 
 pub word_in_memory-other : (o : Start) (es : List Entry) (e : Entry) (a : ℕ) → write_of es e ≡ [] → word_in_memory o (es ++ e ∷ []) a ≡ word_in_memory o es a
 word_in_memory-other o es e a none = ap (λ ws. unwrap_or (newest_word a None ws) (slice_index o.words (a / 4))) (landed-last es e ∙ ap (λ ws. landed es ++ ws) none ∙ append-nil (landed es))

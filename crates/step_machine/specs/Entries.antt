@@ -126,11 +126,11 @@ abbrev pub memory_word : Start → List Entry → ℕ → ℕ
 memory_word o es a = joined (λ i. memory_byte o es (a + i)) 4
 
 -- the byte that a hart reads at an address: that of its newest pending store to cover it, else that of
--- memory. This is the Load Value Axiom (RVWMO, with the store buffer's early reads) told by the order
+-- memory. This is the Load Value Axiom (RVWMO, with the store buffer's early reads) stated by the order
 -- of landings.
 abbrev pub read_byte : Start → List Entry → ℕ → ℕ → ℕ
 read_byte o es h a = unwrap_or (newest_of a None (pending h es)) (memory_byte o es a)
 
--- the number that a hart reads in so many bytes from an address on
+-- the number that a hart reads in width bytes from an address on
 abbrev pub read : Start → List Entry → ℕ → ℕ → ℕ → ℕ
 read o es h a width = joined (λ i. read_byte o es h (a + i)) width

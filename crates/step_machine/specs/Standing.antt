@@ -3,13 +3,13 @@ use Rattle.std.specs.Prelude.{ℕ, List}
 use Rattle.step_machine.specs.History.{History, unrun}
 use Rattle.step_machine.specs.Runs.{Happens, RunFrom}
 use Rattle.step_machine.specs.inner.Config.{Config}
-use Rattle.step_machine.specs.inner.Ties.{Sound}
+use Rattle.step_machine.specs.inner.Representation.{IsMachineAt}
 use Rattle.step_machine.specs.declared.events.Event.{Event}
 use Rattle.step_machine.specs.declared.events.Outcome.{Outcome}
 
 -- its harts, store buffers and memory are what the history, which is kept, leaves of its opening
 abbrev pub StandsAt : ℕ → ℕ → History → Config → Type 0
-StandsAt B M t c = Sound B M t c 0
+StandsAt B M t c = IsMachineAt B M t c 0
 
 -- an event with this outcome: it makes a history of each, at whose end the machine then stands
 abbrev pub MovesBy : ℕ → ℕ → Event → Outcome → Config → Config → Type 0

@@ -1,4 +1,4 @@
--- Lists whose stores and AMOs are all of whole words. What is read there at a multiple of 4 is told
+-- Lists whose stores and AMOs are all of whole words. What is read there at a multiple of 4 is stated
 -- without bytes: the newest pending store to that address, else the last write to it, else the opening's
 -- word.
 use Rattle.std.specs.Prelude.{ℕ, ◌/◌, ◌^◌, ◌<◌, List, [], ◌∷◌, None, slice_index, unwrap_or}

@@ -3,5 +3,5 @@ pub mod Stored
 pub mod Config
 pub mod Restored
 pub mod Opened
-pub mod Ties
+pub mod Representation
 pub mod Banking

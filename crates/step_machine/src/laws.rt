@@ -18,7 +18,7 @@ ghost use Rattle.step_machine.specs.declared.events.Outcome.{Outcome};
 /// begins at the opening, is legal, has a path for each hart and no other hart's entries. Each such
 /// history is the run of its own entries' events. A test that the opening passes and each event keeps,
 /// each run passes. In a legal history the k-th landing of a hart writes its k-th store. Where all stores
-/// and AMOs are of whole words, reads of words are told without bytes. It does nothing.
+/// and AMOs are of whole words, reads of words are stated without bytes. It does nothing.
 pub fn laws_of_runs()
     ensures exists { (B M : ℕ) (o : Start) (evs : List Event) → (t : History) × Run B M o evs t }
     ensures one { (B M : ℕ) (o : Start) (evs : List Event) (t u : History) → Run B M o evs t → Run B M o evs u → t ≡ u }
@@ -32,7 +32,7 @@ pub fn laws_of_runs()
     ensures words_of_memory { (o : Start) (es : List Entry) (a : ℕ) → OpensWithWords o → AllWriteWords es → a % 4 ≡ 0 → memory_word o es a ≡ word_in_memory o es a }
 {}
 
-/// The laws of memory entries. What is pending, what landed, what is read and what is legal goes by the
+/// The laws of memory entries. What is pending, what landed, what is read and what is legal depends on the
 /// memory entries alone. So other entries can be put back among them: where legal memory entries over an
 /// opening stand beside a diary for each hart, which is its path and whose memory entries are its own
 /// among these, the whole holds each diary as its hart's own entries and no other memory entry, and is

@@ -9,10 +9,10 @@
 #![tactic(auto)]
 
 pub mod bank;
-pub mod cores;
 pub mod events;
 pub mod laws;
 pub mod machine;
+pub mod machine_state;
 pub mod needs;
 pub mod opening;
 pub mod snapshot;
@@ -20,8 +20,8 @@ mod standing;
 mod stores;
 
 pub use bank::Bank;
-pub use cores::Cores;
 pub use events::{Entry, Event, Outcome};
 pub use machine::Machine;
+pub use machine_state::MachineState;
 pub use opening::{HartOpening, Opening, Trace};
 pub use snapshot::Snapshot;

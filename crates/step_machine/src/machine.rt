@@ -6,8 +6,8 @@ ghost use Rattle.memory.specs.Words.{IsAddress};
 ghost use Rattle.step_machine.specs.inner.Config.{AllHaveRoom, HasRoom, SameButRoom, entries_after};
 ghost use Rattle.step_machine.specs.declared.opening.TheConstants.{MAX_HARTS};
 
-use crate::cores::Cores;
 use crate::events::{Entry, Event, Outcome};
+use crate::machine_state::MachineState;
 use crate::opening::{Opening, Trace};
 use crate::snapshot::Snapshot;
 use hart::need::Report;
@@ -22,20 +22,20 @@ use std::marker::Model;
 pub struct Machine<const B: usize, const M: usize> {
     opening: Opening,
     entries: Vec<Entry>,
-    cores: Cores<B, M>,
+    machine_state: MachineState<B, M>,
     room: usize,
 }
 
 impl<const B: usize, const M: usize> Model for Machine<B, M> {
     ghost use Rattle.std.specs.Prelude.{◌+◌, ◌≤◌, vec_len, vec_capacity};
     ghost use Rattle.step_machine.specs.History.{Progress};
-    ghost use Rattle.step_machine.specs.inner.Ties.{Sound};
+    ghost use Rattle.step_machine.specs.inner.Representation.{IsMachineAt};
 
     ghost Value = { Progress };
 
     ghost view = { λ m. record { history = record { opening = m.opening; entries = m.entries.items }; room = m.room } };
 
-    ghost invariant = { λ m. Sound B M (record { opening = m.opening; entries = m.entries.items }) m.cores m.room × (m.room + vec_len m.entries ≤ vec_capacity m.entries) };
+    ghost invariant = { λ m. IsMachineAt B M (record { opening = m.opening; entries = m.entries.items }) m.machine_state m.room × (m.room + vec_len m.entries ≤ vec_capacity m.entries) };
 }
 
 impl<const B: usize, const M: usize> Machine<B, M> {
@@ -56,11 +56,11 @@ impl<const B: usize, const M: usize> Machine<B, M> {
         requires fits { FitsIn M opening }
         ensures { IfOk result (λ m. m.history ≡ unrun opening) }
     {
-        let cores = Cores::opened(alloc, &opening)?;
+        let machine_state = MachineState::opened(alloc, &opening)?;
         Ok(Machine {
             opening,
             entries: Vec::new(alloc),
-            cores,
+            machine_state,
             room: 0,
         })
     }
@@ -75,14 +75,14 @@ impl<const B: usize, const M: usize> Machine<B, M> {
         ensures reserved { 0 < self.old.room → IsOk result }
         ensures room { self.old.room ≤ self.new.room + 1 }
     {
-        make_room(&mut self.entries, &mut self.cores, self.room, event)?;
-        let outcome = self.cores.happen(event);
+        make_room(&mut self.entries, &mut self.machine_state, self.room, event)?;
+        let outcome = self.machine_state.happen(event);
         add_entry(&mut self.entries, outcome);
         self.room = self.room.saturating_sub(1);
         Ok(outcome)
     }
 
-    /// Makes room for so many entries, which is asked for once and not as they come.
+    /// Makes room for `n` entries, which is asked for once and not as they come.
     fn reserve_entries(&mut self, n: usize) -> Result<(), AllocError>
         ensures same { self.new ≡ self.old }
         ensures few { IsErr result → self.old.room < n }
@@ -113,11 +113,11 @@ impl<const B: usize, const M: usize> Machine<B, M> {
     }
 
     /// Puts the machine back at its opening, in the room that it has. It takes no memory, and its time
-    /// goes by the harts and by the highest address that was written since, however long it ran.
+    /// depends on the harts and on the highest address that was written since, however long it ran.
     pub fn restart(&mut self)
         ensures { self.new ≡ record self.old { history = unrun self.old.history.opening } }
     {
-        self.cores.put_back();
+        self.machine_state.put_back();
         self.entries.clear();
     }
 
@@ -126,7 +126,7 @@ impl<const B: usize, const M: usize> Machine<B, M> {
         ensures { IfOk result (IsTakenAt B M self.now.history) }
     {
         let alloc = *self.entries.allocator();
-        let snapshot = self.cores.save(alloc, self.entries.len() as u128)?;
+        let snapshot = self.machine_state.save(alloc, self.entries.len() as u128)?;
         Ok(snapshot)
     }
 
@@ -136,7 +136,7 @@ impl<const B: usize, const M: usize> Machine<B, M> {
         requires { IsTakenAt B M (up_to snapshot.now.count self.old.history) snapshot.now }
         ensures { self.new ≡ record self.old { history = up_to snapshot.now.count self.old.history } }
     {
-        self.cores.restore(snapshot);
+        self.machine_state.restore(snapshot);
         self.entries.truncate(snapshot.entries as usize);
     }
 
@@ -149,18 +149,18 @@ impl<const B: usize, const M: usize> Machine<B, M> {
     {
         if self.room < n {
             self.entries.reserve(n)?;
-            self.cores.reserve(n)?;
+            self.machine_state.reserve(n)?;
             self.room = n;
         }
         Ok(())
     }
 
     /// The machine without its history, which stands at its end.
-    pub fn cores(&self) -> &Cores<B, M>
+    pub fn machine_state(&self) -> &MachineState<B, M>
         ensures stands { StandsAt B M self.now.history result.now }
         ensures harts { length result.now.harts ≡ length self.now.history.opening.harts }
     {
-        &self.cores
+        &self.machine_state
     }
 
     /// Where the machine began.
@@ -207,7 +207,7 @@ impl<const B: usize, const M: usize> Machine<B, M> {
         requires { hart < length self.now.history.opening.harts }
         ensures { IsStatus M self.now.history hart result }
     {
-        self.cores.hart(hart).status()
+        self.machine_state.hart(hart).status()
     }
 
     /// The address in bytes of the hart's next instruction.
@@ -215,7 +215,7 @@ impl<const B: usize, const M: usize> Machine<B, M> {
         requires { hart < length self.now.history.opening.harts }
         ensures { IsPc M self.now.history hart result }
     {
-        self.cores.hart(hart).pc()
+        self.machine_state.hart(hart).pc()
     }
 
     /// The word in the hart's register x`number`.
@@ -224,7 +224,7 @@ impl<const B: usize, const M: usize> Machine<B, M> {
         requires number { number < 32 }
         ensures { IsRegister M self.now.history hart number result }
     {
-        self.cores.hart(hart).register(number)
+        self.machine_state.hart(hart).register(number)
     }
 
     /// The hart's reports, oldest first.
@@ -232,7 +232,7 @@ impl<const B: usize, const M: usize> Machine<B, M> {
         requires { hart < length self.now.history.opening.harts }
         ensures { result.now ≡ reported hart self.now.history.entries }
     {
-        self.cores.hart(hart).reports()
+        self.machine_state.hart(hart).reports()
     }
 
     /// The hart's pending stores, oldest first.
@@ -240,7 +240,7 @@ impl<const B: usize, const M: usize> Machine<B, M> {
         requires { hart < length self.now.history.opening.harts }
         ensures { result.now ≡ pending hart self.now.history.entries }
     {
-        self.cores.buffer(hart)
+        self.machine_state.buffer(hart)
     }
 
     /// The word of memory at an address, a multiple of 4 below 4 times `M`.
@@ -248,7 +248,7 @@ impl<const B: usize, const M: usize> Machine<B, M> {
         requires { IsAddress M addr }
         ensures { result ≡ memory_word self.now.history.opening self.now.history.entries addr }
     {
-        self.cores.held_word(addr)
+        self.machine_state.held_word(addr)
     }
 }
 
@@ -256,24 +256,24 @@ impl<const B: usize, const M: usize> Machine<B, M> {
 /// either is reserved.
 fn make_room<const B: usize, const M: usize>(
     entries: &mut Vec<Entry>,
-    cores: &mut Cores<B, M>,
+    machine_state: &mut MachineState<B, M>,
     room: usize,
     event: Event,
 ) -> Result<(), AllocError>
-    requires harts { AllHaveRoom room cores.old.harts }
+    requires harts { AllHaveRoom room machine_state.old.harts }
     requires entries { room + vec_len entries.old ≤ vec_capacity entries.old }
     ensures items { entries.new.items ≡ entries.old.items }
     ensures len { vec_len entries.new ≡ vec_len entries.old }
     ensures grown { vec_capacity entries.old ≤ vec_capacity entries.new }
-    ensures same { SameButRoom cores.old cores.new }
-    ensures harts { AllHaveRoom room cores.new.harts }
-    ensures hart { OnOk result (HasRoom cores.new.harts event) }
+    ensures same { SameButRoom machine_state.old machine_state.new }
+    ensures harts { AllHaveRoom room machine_state.new.harts }
+    ensures hart { OnOk result (HasRoom machine_state.new.harts event) }
     ensures space { OnOk result (vec_len entries.new < vec_capacity entries.new) }
     ensures reserved { 0 < room → IsOk result }
 {
     if room == 0 {
         entries.reserve(1)?;
-        cores.reserve_for(event)?;
+        machine_state.reserve_for(event)?;
     }
     Ok(())
 }

@@ -86,7 +86,7 @@ impl Opening {
     }
 }
 
-/// The harts at their openings, over a memory of so many words.
+/// The harts at their openings, over a memory of `words` words.
 pub fn open_harts(
     alloc: Global,
     openings: &[HartOpening],

@@ -8,15 +8,15 @@ ghost use Rattle.step_machine.specs.Entries.{pending, reported, memory_word};
 ghost use Rattle.step_machine.specs.Paths.{IsStatus, IsPc, IsRegister};
 ghost use Rattle.step_machine.specs.Standing.{StandsAt, MovesBy, RunsBy, StaysPut, BeginsAnew};
 
-use crate::cores::Cores;
 use crate::events::{Event, Outcome};
+use crate::machine_state::MachineState;
 use crate::opening::Opening;
 use hart::need::Report;
 use hart::status::Status;
 use memory::writes::Write;
 use std::alloc::{AllocError, Global};
 
-impl<const B: usize, const M: usize> Cores<B, M> {
+impl<const B: usize, const M: usize> MachineState<B, M> {
     /// A machine at its opening.
     pub fn open(alloc: Global, opening: &Opening) -> Result<Self, AllocError>
         requires capacity { B ≤ 64 }
@@ -24,8 +24,8 @@ impl<const B: usize, const M: usize> Cores<B, M> {
         requires fits { FitsIn M opening.now }
         ensures { IfOk result (λ c. StandsAt B M (unrun opening.now) c) }
     {
-        let cores = Cores::opened(alloc, opening)?;
-        Ok(cores)
+        let machine_state = MachineState::opened(alloc, opening)?;
+        Ok(machine_state)
     }
 
     /// One event. An error changes no history.

@@ -9,7 +9,9 @@ use fastforward::FastForward;
 use hart::{Report, Status};
 use hart_threads::{Open, deliver_threads};
 use lamport_ring::Lamport;
-use poll_close::{Channel, Place, Refused, RefusedAt, RingKind, deliver, deliver_at, opening_at};
+use poll_close::{
+    Channel, Place, Refused, RefusedAt, RingKind, deliver, deliver_at, deliver_whole_at, opening_at,
+};
 use std::alloc::{AllocError, Global};
 use std::process::Abort;
 use std::test::Fail;
@@ -265,7 +267,7 @@ fn words_around(alloc: Global, count: u32) -> Result<Vec<u32>, AllocError> {
 const ELSEWHERE: Place = Place {
     ring: 2,
     base: 1024,
-    stride: 64,
+    stride: Some(64),
 };
 
 #[test]
@@ -280,6 +282,30 @@ fn a_channel_among_other_words_reports_the_same(rt: HostRuntime) -> Result<(), F
     assert_eq!(rt; channel.reports(), took.as_slice());
     let delivered = deliver_at::<Lamport, 2, 4096>(rt.alloc(), &lists, ELSEWHERE, &words, &events)?;
     assert_eq!(rt; delivered.as_slice(), took.as_slice());
+    let whole = deliver_whole_at::<Lamport, 2, 4096>(
+        rt.alloc(),
+        &lists,
+        ELSEWHERE,
+        &words,
+        &events,
+    )?;
+    let took_all = [took[0], took[0], took[0], Report::Closed { sender: 0 }];
+    assert_eq!(rt; whole.as_slice(), took_all.as_slice());
+    Ok(())
+}
+
+/// The blocks of a place without a stride have no gap: memory ends with the second one.
+#[test]
+fn a_place_without_a_stride_is_dense(rt: HostRuntime) -> Result<(), Fail> {
+    let mut lists = one_list(rt.alloc(), &[9])?;
+    lists.push(Vec::from_slice(rt.alloc(), &[5])?)?;
+    let place = Place {
+        ring: 2,
+        base: 16336,
+        stride: None,
+    };
+    let whole = deliver_whole_at::<FastForward, 2, 4096>(rt.alloc(), &lists, place, &[], &[])?;
+    assert_eq!(rt; whole.len(), 4);
     Ok(())
 }
 
@@ -290,7 +316,7 @@ fn refused_at(rt: &(impl Abort + AllocGlobal), base: u32, stride: u32) -> Result
     let place = Place {
         ring: 2,
         base,
-        stride,
+        stride: Some(stride),
     };
     match opening_at::<Lamport>(rt.alloc(), &lists, place, &words, 4096) {
         Ok(_opening) => Ok(0),

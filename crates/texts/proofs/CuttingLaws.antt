@@ -1,4 +1,4 @@
--- Texts cut at bytes: what stands before the first byte that passes, behind it, and from it on.
+-- Texts cut at bytes: what stands before the first byte that passes, after it, and from it on.
 use Rattle.std.proofs.Common.{◌≡◌, ℕ, suc, ◌+◌, ◌%◌, ◌^◌, ◌<◌, ◌≤◌, Bool, true, false, List, [], ◌∷◌, ◌++◌, length, take, drop, Option, Some, None, refl, ap, subst, ◌∙◌, inl, inr, arith}
 use Rattle.std.specs.Prelude.{position}
 use Rattle.std.specs.List.{position_or_len, slice_split}
@@ -128,7 +128,7 @@ uncut p (x ∷ xs) e = elim (cases_Bool (p x)) [
 
 -- ---- a text that is split at bytes, from its first part on
 
--- the parts of what stands behind a cut
+-- the parts of what stands after a cut
 abbrev pub split_behind : (ℕ → Bool) → Option (List ℕ) → List (List ℕ)
 split_behind p None = []
 split_behind p (Some text) = slice_split p text

@@ -70,7 +70,7 @@ capped_value-all radix (c ∷ digits) some all = rw all refl
 
 -- ---- the numbers of the grammars
 
--- what is told was said by digits
+-- what is read was said by digits
 pub capped_value-said : (radix : ℕ) (digits : List ℕ) (n : ℕ) → capped_value radix digits ≡ Some n → IsNumeral radix digits × (capped (digits_value radix digits) ≡ n)
 unfolding capped_value
 capped_value-said radix digits n e = go (is_numeral radix digits) refl
@@ -79,7 +79,7 @@ capped_value-said radix digits n e = go (is_numeral radix digits) refl
     go true passes = (IsNumeral-from_test radix digits passes, (let h = rw passes at e in cc))
     go false fails = (let h = rw fails at e in absurd cc)
 
--- and what digits say is told
+-- and what digits say is read
 pub capped_value-of_IsNumeral : (radix : ℕ) (digits : List ℕ) → IsNumeral radix digits → capped_value radix digits ≡ Some (capped (digits_value radix digits))
 unfolding capped_value
 capped_value-of_IsNumeral radix digits h = rw (is_numeral-from_IsNumeral radix digits h) refl

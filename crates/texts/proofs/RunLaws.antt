@@ -159,7 +159,7 @@ module _ {E : Type 0} (same : E → E → Bool) (decides : (a b : E) → Decides
         ∙ ap (λ (rest : List ℕ). text ++ rest) (sym (write-other e d times i elements within other))
         ∙ so_far
 
-    -- behind the last turn
+    -- after the last turn
     pub turns-end : (e : E) (times n : ℕ) (elements : List E) (text new whole : List ℕ) → length elements ≤ n → text ++ to_write e times (drop n elements) ≡ whole → new ≡ text ++ text_of ((e, times) ∷ []) → new ≡ whole
     unfolding runs_of
     turns-end e times n elements text new whole past so_far written = written ∙ (rw (drop_all n elements past) at so_far)

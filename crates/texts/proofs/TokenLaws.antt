@@ -17,7 +17,7 @@ behind_words : (rest : Option (List ℕ)) → filter is_word (split_behind is_bl
 behind_words None = refl
 behind_words (Some rest) = refl
 
--- a text that begins with no blank is its first token, and the tokens behind it
+-- a text that begins with no blank is its first token, and the tokens after it
 tokens_solid : (byte : ℕ) (text : List ℕ) → is_blank byte ≡ false → tokens (byte ∷ text) ≡ before is_blank (byte ∷ text) ∷ tokens (unwrap_or (after is_blank (byte ∷ text)) [])
 unfolding tokens
 tokens_solid byte text solid =

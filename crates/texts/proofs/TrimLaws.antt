@@ -3,7 +3,7 @@ use Rattle.std.proofs.Common.{◌≡◌, ℕ, suc, zero, ◌+◌, ◌-◌, ◌<�
 use Rattle.std.proofs.lemmas.Bool.{cases_Bool}
 use Rattle.texts.specs.Cutting.{without_leading, without_trailing, onto_kept, stripped, AllPass, NonePass, IsPaddedBy}
 
--- ---- the end, from behind
+-- ---- the end, from the last byte back
 
 -- a byte that passes can go from the end of the part so far
 end_less : (p : ℕ → Bool) (xs : List ℕ) (i : ℕ) → i < length xs → p (get_or xs i 0) ≡ true → without_trailing p (take (i + 1) xs) ≡ without_trailing p (take i xs)
@@ -29,7 +29,7 @@ end_kept p (x ∷ xs) (suc i) lt fails =
     some [] i lt = absurd (omega arith)
     some (y ∷ ys) i lt = let e : i + 1 ≡ suc i = omega arith in rw e (omega arith)
 
--- the same, seen from behind the byte
+-- the same, seen from after the byte
 pub end_step : (p : ℕ → Bool) (xs : List ℕ) (e : ℕ) → 0 < e → e ≤ length xs → p (get_or xs (e - 1) 0) ≡ true → without_trailing p (take (e - 1) xs) ≡ without_trailing p (take e xs)
 end_step p xs e some le passes =
     let back : e - 1 + 1 ≡ e = omega arith in

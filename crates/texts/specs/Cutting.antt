@@ -87,6 +87,6 @@ abbrev pub cut_at_blank : List ℕ → Option (List ℕ × List ℕ)
 cut_at_blank [] = None
 cut_at_blank (byte ∷ text) = Some (before is_blank (byte ∷ text), unwrap_or (after is_blank (byte ∷ text)) [])
 
--- a line's first token, if it has one, and what follows the blank behind it
+-- a line's first token, if it has one, and what follows the blank after it
 unfoldable pub first_cut : List ℕ → Option (List ℕ × List ℕ)
 first_cut line = cut_at_blank (without_front line)

@@ -16,11 +16,11 @@ SaysInHex digits n = IsNumeral 16 digits × (digits_value 16 digits ≡ n)
 abbrev pub IsHexWord : List ℕ → ℕ → Type 0
 IsHexWord digits n = (length digits ≡ 8) × SaysInHex digits n
 
--- A number from 2^32 on is told as 2^32, which passes every limit.
+-- A number from 2^32 on counts as 2^32, which passes every limit.
 abbrev pub capped : ℕ → ℕ
 capped n = min n (2 ^ 32)
 
--- One or more decimal digits say a number that is told as n.
+-- One or more decimal digits say a number that counts as n.
 abbrev pub SaysCapped : List ℕ → ℕ → Type 0
 SaysCapped digits n = (said : ℕ) × Says digits said × (n ≡ capped said)
 
@@ -42,7 +42,7 @@ number_of digits = capped_value 10 digits
 abbrev pub hex_number_of : List ℕ → Option ℕ
 hex_number_of digits = capped_value 16 digits
 
--- a number that isn't told by the cap
+-- a number below the cap
 abbrev pub below_cap_of : Option ℕ → Option ℕ
 below_cap_of None = None
 below_cap_of (Some n) = if nat_lt n (2 ^ 32) then Some n else None

@@ -23,11 +23,11 @@ separates Blanks byte = is_blank byte
 separates Gaps byte = is_gap byte
 separates BlanksAndLineEnds byte = is_blank_or_line_end byte
 
--- What stands between the separators, before the first and behind the last; a piece may be empty.
+-- What stands between the separators, before the first and after the last; a piece may be empty.
 abbrev pub pieces : Separators → List ℕ → List (List ℕ)
 pieces separators text = slice_split (separates separators) text
 
--- the pieces of what is left of a text, which is nothing behind the last piece
+-- the pieces of what is left of a text, which is nothing after the last piece
 abbrev pub pieces_after : Separators → Option (List ℕ) → List (List ℕ)
 pieces_after separators None = []
 pieces_after separators (Some text) = pieces separators text

@@ -1,4 +1,4 @@
--- The first fault that a chain of steps meets, and the errors that tell it.
+-- The first fault that a chain of steps meets, and the errors that carry it.
 use Rattle.std.specs.Prelude.{◌≡◌, ℕ, Option, Some, None, Result, Ok, Err, IfSome}
 use Rattle.texts.specs.declared.errors.TextError.{TextError}
 use Rattle.texts.specs.declared.errors.TextError.TheVariants.{NoMemory, Refused}
@@ -20,7 +20,7 @@ abbrev pub Gives : {X Y E F : Type 0} → (E → Option F) → (X → Y) → Res
 Gives fault_of view (Ok x) answer = answer ≡ Ok (view x)
 Gives fault_of view (Err e) answer = IfSome (fault_of e) (λ fault. answer ≡ Err fault)
 
--- the refusal that an error tells; memory that ran out is none
+-- the refusal that an error carries; memory that ran out is none
 abbrev pub refusal_of : {R : Type 0} → TextError R → Option R
 refusal_of NoMemory = None
 refusal_of (Refused refusal) = Some refusal

@@ -1,4 +1,4 @@
--- The longest runs of equal elements of a list, where a test tells which are equal.
+-- The longest runs of equal elements of a list, where a test decides which are equal.
 use Rattle.std.specs.Prelude.{◌≢◌, ℕ, ◌+◌, ◌<◌, Bool, if◌then◌else◌, List, [], ◌∷◌, ◌++◌, replicate}
 
 -- an element, and how often it comes in a row

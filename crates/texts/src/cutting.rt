@@ -93,7 +93,7 @@ pub fn trimmed(text: &[u8]) -> &[u8]
     stripped(Separators::Blanks, text)
 }
 
-/// The first token of a line, and what follows the blank behind it; `None` where there is no token.
+/// The first token of a line, and what follows the blank after it; `None` where there is no token.
 pub fn first_token(line: &[u8]) -> Option<(&[u8], &[u8])>
     ensures cut { MatchOption result (first_cut line.now ≡ None) (λ cut. first_cut line.now ≡ Some (cut.0.now, cut.1.now)) }
     ensures tokens { MatchOption result (tokens line.now ≡ []) (λ cut. tokens line.now ≡ cut.0.now ∷ tokens cut.1.now) }

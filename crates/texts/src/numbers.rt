@@ -7,7 +7,7 @@ ghost use Rattle.texts.specs.Numbers.{capped_value, number_of, hex_number_of, be
 
 use std::alloc::AllocError;
 
-/// A number from here on is told as this one: it passes every limit of the texts, and so a number
+/// A number from here on counts as this one: it passes every limit of the texts, and so a number
 /// of any length is read and none is refused for its size.
 pub const NUMBER_CAP: u64 = 1 << 32;
 
@@ -112,7 +112,7 @@ fn signed_magnitude(text: &[u8]) -> Option<i64>
 }
 
 /// The number that the text says: decimal digits, or `0x` and hex digits, with a `-` in front or
-/// none. One from 2^32 on is told as 2^32, which is past every limit of the program.
+/// none. One from 2^32 on counts as 2^32, which is past every limit of the program.
 #[tactic(auto, using(std::proofs::lemmas::List::take_rest), unfolding(crate::specs::Numbers::integer_of))]
 pub fn integer(text: &[u8]) -> Option<i64>
     ensures { result ≡ integer_of text.now }

@@ -38,7 +38,7 @@ impl Separators {
     }
 }
 
-/// The first piece of the bytes, which may be empty, and what follows the separator behind it;
+/// The first piece of the bytes, which may be empty, and what follows the separator after it;
 /// nothing follows the last piece.
 ///
 /// A text is walked piece by piece in time linear in its length:
@@ -46,7 +46,7 @@ impl Separators {
 #[tactic(auto, using(crate::proofs::CuttingLaws::split_cut))]
 pub fn first_piece(separators: Separators, bytes: &[u8]) -> (&[u8], Option<&[u8]>)
     ensures cut { pieces separators bytes.now ≡ result.0.now ∷ pieces_after separators (option_copied result.1) }
-    // each piece and the separator behind it are one step through the text
+    // each piece and the separator after it are one step through the text
     ensures rest { length result.0.now + bytes_left (option_copied result.1) ≡ length bytes.now }
 {
     cut_at_any(separators, bytes)

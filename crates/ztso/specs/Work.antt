@@ -19,6 +19,7 @@ use Rattle.ztso_engines.specs.Replay.{IsReplayAnswer}
 use Rattle.debugger.specs.Talks.{EndsAloud, IsDebugAnswer}
 use Rattle.tries.specs.Outcomes.{IsTryAnswer}
 use Rattle.engine_parts.specs.Schedules.{HasNoSchedule}
+use Rattle.poll_close.specs.Layout.{dense}
 use Rattle.ztso_engines.specs.Channels.{IsChannelAnswer}
 use Rattle.ztso_engines.specs.Threads.{IsThreadsAnswer}
 use Rattle.poll_close.specs.Laws.{Ring as RingTables}
@@ -101,7 +102,7 @@ IsAnswerOf B Replay given = WithStatusByBoth done_status (IsReplayAnswer B WORDS
 IsAnswerOf B Debug given = WithStatusByBoth done_status (IsDebugAnswer B WORDS given.commands) given
 IsAnswerOf B (Try seed runs) given =
     WithStatusBy tried_status (IsTryAnswer B WORDS (left_after (runs.skip * runs.length) (drawn_from seed)) runs.number runs.length) given
-IsAnswerOf B (Channel ring slots finish) given = WithStatusByBoth done_status (IsChannelAnswer (tables_of ring) B WORDS slots finish) given
+IsAnswerOf B (Channel ring slots finish) given = WithStatusByBoth done_status (IsChannelAnswer (tables_of ring) B WORDS (dense slots) finish) given
 
 -- What was written and the exit status answer the inputs, or the refusal does and nothing was written.
 -- Where a read failed or memory ran out nothing was written; where a write failed nothing is said of it.

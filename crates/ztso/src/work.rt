@@ -5,6 +5,7 @@ ghost use Rattle.ztso.specs.declared.work.TheConstants.{WORDS};
 ghost use Rattle.ztso.specs.Work.{LeavesCommands, reads_commands, DoesErrand, DoesThreads, DoesWork, Given, LeavesSecond, LeavesSecondOf, WithStatus, done_status, drawn_from, ended_with, tables_of, tried_status, verdict_status};
 ghost use Rattle.recorder.specs.Drawing.{left_after};
 ghost use Rattle.ztso_engines.specs.Asm.{IsAsmAnswer};
+ghost use Rattle.poll_close.specs.Layout.{dense};
 ghost use Rattle.ztso_engines.specs.Channels.{IsChannelAnswer};
 ghost use Rattle.ztso_engines.specs.Dis.{IsDisAnswer};
 ghost use Rattle.engine_parts.specs.Engines.{AnswersBoth, Ends, EndsBy, EndsByBoth, OfInput};
@@ -23,6 +24,7 @@ use engine_parts::fault::Fault;
 use fastforward::FastForward;
 use lamport_ring::Lamport;
 use litmus::Verdict;
+use poll_close::Place;
 use rand_core::SeedableRng;
 use rand_pcg::Lcg64Xsh32;
 use std::alloc::Global;
@@ -209,15 +211,20 @@ fn run_rings<const B: usize, S: Read, L: Read, W: Write>(
 ) -> Result<(), Fault>
     requires some_capacity { 1 ≤ B }
     requires capacity { B ≤ 64 }
-    ensures ends { EndsByBoth (IsChannelAnswer (tables_of ring) B WORDS slots finish) result (S.remaining schedule.old) (L.remaining lists.old) W.contents writer.old writer.new }
+    ensures ends { EndsByBoth (IsChannelAnswer (tables_of ring) B WORDS (dense slots) finish) result (S.remaining schedule.old) (L.remaining lists.old) W.contents writer.old writer.new }
     ensures unread { HasNoSchedule (S.remaining schedule.old) → lists.new ≡ lists.old }
 {
+    let place = Place {
+        ring: slots,
+        base: 0,
+        stride: None,
+    };
     match ring {
         Ring::Lamport => channel_engine::<Lamport, B, WORDS, _, _, _>(
-            alloc, slots, finish, schedule, lists, writer,
+            alloc, place, finish, schedule, lists, writer,
         ),
         Ring::FastForward => channel_engine::<FastForward, B, WORDS, _, _, _>(
-            alloc, slots, finish, schedule, lists, writer,
+            alloc, place, finish, schedule, lists, writer,
         ),
     }
 }
@@ -234,7 +241,7 @@ fn run_channel<const B: usize, S: Read, L: Read, W: Write>(
 ) -> Result<u8, Fault>
     requires some_capacity { 1 ≤ B }
     requires capacity { B ≤ 64 }
-    ensures ends { Ends (WithStatus done_status (AnswersBoth (IsChannelAnswer (tables_of ring) B WORDS slots finish) (S.remaining schedule.old) (L.remaining lists.old))) result W.contents writer.old writer.new }
+    ensures ends { Ends (WithStatus done_status (AnswersBoth (IsChannelAnswer (tables_of ring) B WORDS (dense slots) finish) (S.remaining schedule.old) (L.remaining lists.old))) result W.contents writer.old writer.new }
     ensures unread { HasNoSchedule (S.remaining schedule.old) → lists.new ≡ lists.old }
 {
     after(run_rings::<B, _, _, _>(alloc, ring, slots, finish, schedule, lists, writer))

@@ -1,18 +1,17 @@
 -- What the checks of a list establish.
-use Rattle.std.proofs.Common.{◌≡◌, ℕ, ◌+◌, ◌-◌, ◌≤◌, ◌<◌, Bool, true, false, not, ◌&&◌, ◌||◌, if◌then◌else◌, nat_lt, List, [], ◌∷◌, ◌++◌, length, take, drop, get_or, Option, Some, None, refl, sym, ◌∙◌, ap, subst, arith, append-nil, length-drop, get_or-drop}
+use Rattle.std.proofs.Common.{◌≡◌, ℕ, ◌+◌, ◌-◌, ◌≤◌, ◌<◌, Bool, true, false, not, ◌&&◌, ◌||◌, if◌then◌else◌, nat_lt, List, [], ◌∷◌, ◌++◌, length, take, drop, get_or, Option, Some, None, refl, sym, ◌∙◌, ap, subst, arith, length-drop, get_or-drop}
 use Rattle.std.specs.Prelude.{All, filter, unwrap_or, option_and_then}
 use Rattle.std.specs.List.{slice_get}
 use Rattle.std.proofs.lemmas.Bool.{and_parts, ltb-true, ltb-false, lt-ltb, le-ltb}
-use Rattle.std.proofs.lemmas.List.{take_rest, get_or_default, get_or_read}
-use Rattle.std.proofs.lemmas.List.Elements.{filter_more}
+use Rattle.std.proofs.lemmas.List.{take_rest, get_or_default, get_or_read, drop_more}
+use Rattle.std.proofs.lemmas.List.Elements.{filter-append}
 use Rattle.std.proofs.lemmas.Option.{slice_get_past}
 use Rattle.step_machine.specs.History.{Start}
-use Rattle.step_machine.specs.Entries.{opening_byte}
 use Rattle.step_machine.specs.declared.events.Entry.{Entry}
 use Rattle.step_machine.specs.declared.events.Entry.TheVariants as entry
 use Rattle.ztso_axioms.specs.Operations.{is_operation, passes, is_at, read_of, read_at, written_at}
 use Rattle.ztso_axioms.specs.Axioms.{times_named, is_named, is_before, in_program_order, may_pass, is_preserved, is_seen, last_written, NamesEachOnce, KeepsProgramOrder, HasLoadValue}
-use Rattle.ztso_axioms.proofs.Listing.{Once, times-none, times-some, named-some, named_at, index_of, is_before-index}
+use Rattle.ztso_axioms.proofs.Listing.{Once, times-none, times-some, named-some, named_at, index_of, split_at, is_before-index}
 
 pub once_of : (es : List Entry) (gs : List ℕ) → NamesEachOnce es gs → Once gs
 once_of es gs n = record { once = λ p. at p (is_at is_operation es p) (n p) }
@@ -100,9 +99,40 @@ indices_from_keeps es gs i n keeps lt k d within = at (is_preserved es (get_or (
         let b : is_before gs (get_or gs (i + k) 0) (get_or gs i 0) ≡ true = subst (λ (x : ℕ). is_before gs x (get_or gs i 0) ≡ true) same before_it in
         cc
 
+-- nothing that is seen among these operations writes to the address
+abbrev pub NoneWrites : List Entry → ℕ → (ℕ → Bool) → List ℕ → Type 0
+NoneWrites es a seen gs = (w : ℕ) → last_written es a w (filter seen gs) ≡ w
+
+-- the byte that an operation writes to the address, where it is seen
+abbrev pub written_if : List Entry → ℕ → (ℕ → Bool) → ℕ → Option ℕ
+written_if es a seen p = if seen p then written_at es a p else None
+
 pub last_written-append : (es : List Entry) (a w : ℕ) (xs ys : List ℕ) → last_written es a w (xs ++ ys) ≡ last_written es a (last_written es a w xs) ys
 last_written-append es a w [] ys = refl
 last_written-append es a w (x ∷ xs) ys = last_written-append es a (unwrap_or (written_at es a x) w) xs ys
+
+-- a first operation, after which none writes to the address
+written_first : (es : List Entry) (a w x : ℕ) (seen : ℕ → Bool) (xs : List ℕ) → NoneWrites es a seen xs → last_written es a w (filter seen (x ∷ xs)) ≡ unwrap_or (written_if es a seen x) w
+written_first es a w x seen xs none = at (seen x)
+  where
+    at : (b : Bool) → last_written es a w (if b then x ∷ filter seen xs else filter seen xs) ≡ unwrap_or (if b then written_at es a x else None) w
+    at true = none (unwrap_or (written_at es a x) w)
+    at false = none w
+
+pub none_more : (es : List Entry) (a j : ℕ) (seen : ℕ → Bool) (gs : List ℕ) → j < length gs → written_if es a seen (get_or gs j 0) ≡ None → NoneWrites es a seen (drop (j + 1) gs) → NoneWrites es a seen (drop j gs)
+none_more es a j seen gs lt is none w =
+    ap (λ zs. last_written es a w (filter seen zs)) (drop_more gs j 0 lt)
+    ∙ written_first es a w (get_or gs j 0) seen (drop (j + 1) gs) none
+    ∙ ap (λ o. unwrap_or o w) is
+
+pub last_found : (es : List Entry) (a w j b : ℕ) (seen : ℕ → Bool) (gs : List ℕ) → j < length gs → written_if es a seen (get_or gs j 0) ≡ Some b → NoneWrites es a seen (drop (j + 1) gs) → b ≡ last_written es a w (filter seen gs)
+last_found es a w j b seen gs lt is none =
+    let front : ℕ = last_written es a w (filter seen (take j gs)) in
+    sym (ap (λ zs. last_written es a w (filter seen zs)) (split_at gs j lt)
+    ∙ ap (last_written es a w) (filter-append seen (take j gs) (get_or gs j 0 ∷ drop (j + 1) gs))
+    ∙ last_written-append es a w (filter seen (take j gs)) (filter seen (get_or gs j 0 ∷ drop (j + 1) gs))
+    ∙ written_first es a front (get_or gs j 0) seen (drop (j + 1) gs) none
+    ∙ ap (λ o. unwrap_or o front) is)
 
 -- a place that is read is an operation's
 pub read_op : (es : List Entry) (q : ℕ) (r : ℕ × ℕ × ℕ) → read_at es q ≡ Some r → is_at is_operation es q ≡ true
@@ -126,22 +156,6 @@ pub values_from_indices : (o : Start) (es : List Entry) (gs : List ℕ) → Name
 values_from_indices o es gs n values q a width v is =
     let at_q : (i : ℕ) × (i < length gs) × (get_or gs i 0 ≡ q) = index_of q gs (named_op es gs q n (read_op es q (a, width, v) is)) in
     subst (λ (x : ℕ). HasLoadValue o es gs x) at_q.2 (values at_q.0 at_q.1) a width v is
-
--- one more operation read, and the value that the read sees by then
-pub seen_more : (o : Start) (es : List Entry) (gs : List ℕ) (q a j w new : ℕ) (seen : Bool) → j < length gs → is_seen es gs q (get_or gs j 0) ≡ seen → w ≡ last_written es a (opening_byte o a) (filter (is_seen es gs q) (take j gs)) → new ≡ (if seen then unwrap_or (written_at es a (get_or gs j 0)) w else w) → new ≡ last_written es a (opening_byte o a) (filter (is_seen es gs q) (take (j + 1) gs))
-seen_more o es gs q a j w new seen lt is before_it after =
-    after ∙ at seen is
-    ∙ ap (last_written es a (opening_byte o a)) (sym (filter_more (is_seen es gs q) gs j 0 lt))
-  where
-    pushed : (b : Bool) → (if b then unwrap_or (written_at es a (get_or gs j 0)) (last_written es a (opening_byte o a) (filter (is_seen es gs q) (take j gs))) else last_written es a (opening_byte o a) (filter (is_seen es gs q) (take j gs))) ≡ last_written es a (opening_byte o a) (filter (is_seen es gs q) (take j gs) ++ (if b then get_or gs j 0 ∷ [] else []))
-    pushed true = sym (last_written-append es a (opening_byte o a) (filter (is_seen es gs q) (take j gs)) (get_or gs j 0 ∷ []))
-    pushed false = ap (last_written es a (opening_byte o a)) (sym (append-nil (filter (is_seen es gs q) (take j gs))))
-
-    at : (b : Bool) → is_seen es gs q (get_or gs j 0) ≡ b → (if b then unwrap_or (written_at es a (get_or gs j 0)) w else w) ≡ last_written es a (opening_byte o a) (filter (is_seen es gs q) (take j gs) ++ (if is_seen es gs q (get_or gs j 0) then get_or gs j 0 ∷ [] else []))
-    at b is_b =
-        ap (λ x. if b then unwrap_or (written_at es a (get_or gs j 0)) x else x) before_it
-        ∙ pushed b
-        ∙ ap (λ c. last_written es a (opening_byte o a) (filter (is_seen es gs q) (take j gs) ++ (if c then get_or gs j 0 ∷ [] else []))) (sym is_b)
 
 -- the same of the slice from i on, and the operation as it was read
 pub slice_from_none : (es : List Entry) (gs : List ℕ) (i x : ℕ) → i < length gs → x ≡ get_or gs i x → NoneBelongsBefore es gs i → All (λ (p : ℕ). is_preserved es p x ≡ false) (take (length gs - i) (drop i gs))

@@ -1,6 +1,6 @@
 //! Whether a list is a global memory order that the axioms allow.
 
-ghost use Rattle.std.specs.Prelude.{◌≡◌, ℕ, ◌^◌, ◌<◌, ◌↔◌, IsTrue, true, false, nat_lt, if◌then◌else◌, All, suc, drop, length, slice_index};
+ghost use Rattle.std.specs.Prelude.{◌≡◌, ℕ, ◌^◌, ◌<◌, ◌↔◌, IsTrue, true, false, nat_lt, if◌then◌else◌, All, suc, drop, length, slice_index, None};
 ghost use Rattle.std.specs.List.{list_any};
 ghost use Rattle.step_machine.specs.Entries.{opening_byte};
 ghost use Rattle.ztso_axioms.specs.Operations.{written_at, hart_at};
@@ -104,21 +104,21 @@ fn is_kept(entries: &[Entry], first: Op, second: Op, barrier: usize) -> bool
     requires { is_fenced entries.now (hart_at entries.now second) first second ≡ nat_lt first barrier }
     ensures { result ≡ is_preserved entries.now first second }
 {
+    if !is_earlier(entries, first, second) {
+        return false;
+    }
     let (Some(earlier), Some(later)) = (entry_at(entries, first), entry_at(entries, second)) else {
         return false;
     };
     let passes = is_plain_store(earlier) && is_plain_load(later) && barrier <= first.place;
-    is_memory_operation(earlier)
-        && is_memory_operation(later)
-        && is_earlier(entries, first, second)
-        && !passes
+    is_memory_operation(earlier) && is_memory_operation(later) && !passes
 }
 
 /// Whether both are of one hart, the first before the second in program order.
 fn is_earlier(entries: &[Entry], first: Op, second: Op) -> bool
     ensures { result ≡ in_program_order entries.now first second }
 {
-    hart_named(entries, first) == hart_named(entries, second) && first.place < second.place
+    first.place < second.place && hart_named(entries, first) == hart_named(entries, second)
 }
 
 /// Whether each load and AMO has the value that the order gives it.
@@ -182,14 +182,27 @@ fn latest_byte(trace: &Trace, order: &[Op], index: usize, addr: usize) -> u8
     requires within { index < length order.now }
     ensures { result ≡ byte_for trace.now.opening trace.now.entries order.now (slice_index order.now index) addr }
 {
-    let entries = &trace.entries;
-    let mut latest = first_byte(&trace.opening, addr);
-    for (place, op) in order.iter().enumerate() {
-        if sees(entries, order, index, place) {
-            latest = byte_named(entries, *op, addr).unwrap_or(latest);
+    for place in (0..order.len()).rev() {
+        if let Some(byte) = byte_seen(&trace.entries, order, index, place, addr) {
+            return byte;
         }
     }
-    latest
+    first_byte(&trace.opening, addr)
+}
+
+/// The byte that the store at `place` of the order writes to the address, where the operation at `index`
+/// can take its value from that store.
+fn byte_seen(entries: &[Entry], order: &[Op], index: usize, place: usize, addr: usize) -> Option<u8>
+    requires once { NamesEachOnce entries.now order.now }
+    requires index { index < length order.now }
+    requires place { place < length order.now }
+    ensures { result ≡ (if is_seen entries.now order.now (slice_index order.now index) (slice_index order.now place) then written_at entries.now addr (slice_index order.now place) else None) }
+{
+    if sees(entries, order, index, place) {
+        byte_named(entries, order[place], addr)
+    } else {
+        None
+    }
 }
 
 /// Whether the operation at `index` can take its value from the store at `place` of the order.

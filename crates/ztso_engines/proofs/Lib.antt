@@ -8,5 +8,6 @@ pub mod HexTexts
 pub mod CodeTexts
 mod ListTexts
 pub mod OneAnswer
+pub mod OneChannel
 pub mod ChannelLaws
 pub mod SeatsComplete

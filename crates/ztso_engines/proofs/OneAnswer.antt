@@ -1,22 +1,13 @@
 -- What answers an input is one answer.
-use Rattle.std.proofs.Common.{◌≡◌, ℕ, ◌*◌, Bool, true, false, cond, ltb, List, [], ◌++◌, length, Option, Some, Result, Ok, Err, refl, sym, ap, ap₂, ◌∙◌, subst, arith, ◌⊎◌, inl, inr, take, ◌<◌, ◌≤◌}
+use Rattle.std.proofs.Common.{◌≡◌, ℕ, Bool, true, false, cond, ltb, List, ◌++◌, length, Option, Some, Result, Ok, Err, refl, sym, ap, ◌∙◌, subst}
 use Rattle.std.specs.List.{flat_map}
 use Rattle.std.specs.Result.{IsErr}
 use Rattle.std.specs.Str.{is_utf8}
-use Rattle.std.specs.List.{slice_index_or}
-use Rattle.std.proofs.lemmas.Bool.{cases_lt, le-ltb, lt-ltb}
-use Rattle.std.proofs.lemmas.List.{get_or-take, length-take-le}
 use Rattle.rand_core.specs.Stream.{Stream}
 use Rattle.rv_decode.specs.declared.instruction.Instr.{Instr}
 use Rattle.step_machine.specs.History.{History, unrun}
-use Rattle.step_machine.specs.Entries.{reported}
 use Rattle.step_machine.specs.declared.events.Event.{Event}
 use Rattle.step_machine.proofs.Running.{run-one}
-use Rattle.poll_close.specs.Layout.{block_size, opening_of as opening_of_lists}
-use Rattle.poll_close.specs.Laws.{AreWords, Ring, Accepted as IsWithin}
-use Rattle.poll_close.specs.Refusals.{Refuses, ZeroAt, ZeroWordAt, fault_number as refusal_number}
-use Rattle.poll_close.specs.declared.faults.Refused.{Refused}
-use Rattle.poll_close.specs.declared.faults.Refused.TheVariants as refused
 use Rattle.assembler.specs.Drafts.{assembled}
 use Rattle.assembler.specs.Faults.{Refusal as AsmRefusal}
 use Rattle.assembler.specs.Program.{IsCode}
@@ -34,11 +25,9 @@ use Rattle.litmus_reader.specs.Faults.{fault_number}
 use Rattle.litmus_reader.specs.Grammar.{IsTestOf}
 use Rattle.litmus_reader.specs.Reading.{Content, content_of, test_at}
 use Rattle.litmus_reader.proofs.TestGrammar.{one_test, read_exactly}
-use Rattle.engine_parts.specs.declared.fault.Fault.TheVariants as fault
-use Rattle.engine_parts.specs.declared.fault.Position.{Position}
-use Rattle.engine_parts.specs.declared.fault.Position.TheVariants.{Line, Nowhere, Word}
+use Rattle.engine_parts.specs.declared.fault.Position.TheVariants.{Line}
 use Rattle.engine_parts.specs.declared.fault.Refusal.{Refusal}
-use Rattle.engine_parts.specs.Engines.{Output, Accepted, AreAlike, AreOneAnswer, judged}
+use Rattle.engine_parts.specs.Engines.{Output, Accepted, AreOneAnswer, judged}
 use Rattle.engine_parts.specs.Faults.{too_large, not_text}
 use Rattle.engine_parts.specs.Tests.{ByTest, IsNoTest, refused_test, test_of}
 use Rattle.engine_parts.specs.Tests as tests
@@ -57,21 +46,17 @@ use Rattle.ztso_engines.specs.Run.{IsJudged, IsRunAnswer, verdict_line}
 use Rattle.ztso_engines.specs.Replay.{IsReplay, IsReplayAnswer}
 use Rattle.debugger.specs.Talks.{IsDebugAnswer, IsTalk}
 use Rattle.tries.specs.Outcomes.{IsTriedOf, IsTryAnswer}
-use Rattle.ztso_engines.specs.Lists.{SaysLists, lists_at}
-use Rattle.ztso_engines.specs.Channels.{IsChannelAnswer, IsDelivery, IsNoLists, report_line, fault_from}
-use Rattle.ztso_engines.specs.Channels as channels
 use Rattle.engine_parts.proofs.Judging.{accepted_judged, judged_text}
 use Rattle.ztso_engines.proofs.Telling.{text_read, one_told}
 use Rattle.ztso_engines.proofs.CodeTexts.{code_read, one_code}
-use Rattle.ztso_engines.proofs.ListTexts.{lists_read, one_lists}
 use Rattle.tries.proofs.OneText.{one_try, one_verdict}
 use Rattle.debugger.proofs.OneTalk.{one_talk_of}
 use Rattle.engine_parts.proofs.TestTexts.{test_or_none}
 
-same_output : (a b : Output) → a.0 ≡ b.0 → a ≡ b
+pub same_output : (a b : Output) → a.0 ≡ b.0 → a ≡ b
 same_output a b e = λ i. (e i, tt)
 
-one_refusal : {V : Type 0} (judgement : Result V Refusal) (r s : Refusal) → judgement ≡ Err r → judgement ≡ Err s → r ≡ s
+pub one_refusal : {V : Type 0} (judgement : Result V Refusal) (r s : Refusal) → judgement ≡ Err r → judgement ≡ Err s → r ≡ s
 one_refusal judgement r s e f = cc
 
 -- ---- `steps`
@@ -155,7 +140,7 @@ module _ {A : Type 0} (IsAnswer : Question → Result A Refusal → Type 0)
 
 -- ---- and by a schedule
 
-schedule_or_refusal : (input : List ℕ) (events : List Event) (r : Refusal) → Accepted IsPlainOf input events → IsNoSchedule input r → ⊥
+pub schedule_or_refusal : (input : List ℕ) (events : List Event) (r : Refusal) → Accepted IsPlainOf input events → IsNoSchedule input r → ⊥
 unfolding events_of
 schedule_or_refusal input events r is refused =
     let read : judged events_of input ≡ Ok events = judged_text events_of input is.few is.text ∙ (let found = settled_only (IsPlainOf input) (plain_at input) events (plain_settles input) is.value_is in rw found refl) in
@@ -208,158 +193,3 @@ one_tried_of B M stream runs size q (Err r) b none other = absurd none
 
 pub one_tried : (B M : ℕ) (stream : Stream) (runs size : ℕ) (file : List ℕ) (a b : Result (List ℕ × Bool) Refusal) → IsTryAnswer B M stream runs size file a → IsTryAnswer B M stream runs size file b → AreOneAnswer a b
 one_tried B M stream runs size = one_by_test (IsTriedOf B M stream runs size) (one_tried_of B M stream runs size)
-
--- ---- `channel`
-
-lists_or_refusal : (input : List ℕ) (lists : List (List ℕ)) (r : Refusal) → Accepted SaysLists input lists → IsNoLists input r → ⊥
-lists_or_refusal input lists r is refused =
-    let read : judged lists_at input ≡ Ok lists = accepted_judged lists_at SaysLists input lists (lists_read input lists) is in
-    absurd cc
-
--- the number of the refusal of some lists, by what they are
-abbrev first_of_lists : (none many small large : Bool) → ℕ
-first_of_lists none many small large = cond none 17 (cond many 18 (cond small 19 (cond large 20 16)))
-
-told_refusal : (number : ℕ) (place : Position) (r : Refusal) → fault.Refused (record { number = number; place = place }) ≡ fault.Refused r
-    → r ≡ record { number = number; place = place }
-told_refusal number place r told = cc
-
--- the place of a refusal of lists, which only a word that is 0 has
-abbrev place_of : Refused → Position
-place_of refused.NoMemory = Nowhere
-place_of (refused.ZeroWord sender place) = Word sender place
-place_of refused.NoSenders = Nowhere
-place_of refused.TooManySenders = Nowhere
-place_of refused.RingTooSmall = Nowhere
-place_of refused.DoesNotFit = Nowhere
-
-zero_or : (why : Refused) → ((sender place : ℕ) × (why ≡ refused.ZeroWord sender place)) ⊎ ((place_of why ≡ Nowhere) × (refusal_number why ≡ 16 → ⊥))
-zero_or refused.NoMemory = inr (refl, λ e. omega (arith, e))
-zero_or (refused.ZeroWord sender place) = inl (sender, place, refl)
-zero_or refused.NoSenders = inr (refl, λ e. omega (arith, e))
-zero_or refused.TooManySenders = inr (refl, λ e. omega (arith, e))
-zero_or refused.RingTooSmall = inr (refl, λ e. omega (arith, e))
-zero_or refused.DoesNotFit = inr (refl, λ e. omega (arith, e))
-
--- ---- the first word that is 0
-
-neither_before : (i m : ℕ) → (i < m → ⊥) → (m < i → ⊥) → i ≡ m
-neither_before i m early late = at (cases_lt i m) (cases_lt m i)
-  where
-    at : (i < m) ⊎ (m ≤ i) → (m < i) ⊎ (i ≤ m) → i ≡ m
-    at (inl less) other = absurd (early less)
-    at (inr ge) (inl less) = absurd (late less)
-    at (inr ge) (inr le) = omega (arith, ge, le)
-
-none_before : (ws : List ℕ) (j n : ℕ) → ZeroAt ws j → ZeroAt ws n → j < n → ⊥
-none_before ws j n first other less =
-    let long : j < length (take n ws) = omega (arith, length-take-le n ws (omega (arith, other.within)), less) in
-    (other.first j 0 long).1 (get_or-take n ws j 0 less ∙ first.zero)
-
-no_list_before : (lists : List (List ℕ)) (i j m n : ℕ) → ZeroWordAt lists i j → ZeroWordAt lists m n → i < m → ⊥
-no_list_before lists i j m n first other less =
-    let long : i < length (take m lists) = omega (arith, length-take-le m lists (omega (arith, other.within)), less) in
-    let words : AreWords (slice_index_or lists i []) = subst AreWords (get_or-take m lists i [] less) (other.first i [] long) in
-    (words j 0 first.zero.within).1 first.zero.zero
-
-one_zero : (lists : List (List ℕ)) (i j m n : ℕ) → ZeroWordAt lists i j → ZeroWordAt lists m n → Word i j ≡ Word m n
-one_zero lists i j m n first other =
-    let lists_same : m ≡ i = neither_before m i (no_list_before lists m n i j other first) (no_list_before lists i j m n first other) in
-    let there : ZeroAt (slice_index_or lists i []) n = subst (λ (k : ℕ). ZeroAt (slice_index_or lists k []) n) lists_same other.zero in
-    let places_same : j ≡ n = neither_before j n (none_before _ j n first.zero there) (none_before _ n j there first.zero) in
-    ap₂ Word (sym lists_same) places_same
-
-module _ (ring : Ring) (M size : ℕ) (lists : List (List ℕ)) where
-  abbrev expected : ℕ
-  expected = first_of_lists (ltb (length lists) 1) (ltb 63 (length lists)) (ltb size ring.least) (ltb (4 * M) (length lists * block_size size))
-
-  is_expected : (why : Refused) (r : Refusal) → Refuses ring M lists size why → fault_from why ≡ fault.Refused r
-      → (r ≡ record { number = refusal_number why; place = place_of why }) × (refusal_number why ≡ expected)
-  is_expected refused.NoMemory r refuses told = absurd cc
-  is_expected refused.NoSenders r none told = (told_refusal 17 Nowhere r told, rw (lt-ltb (length lists) 1 (omega (arith, none))) refl)
-  is_expected refused.TooManySenders r many told = (told_refusal 18 Nowhere r told, rw (le-ltb (length lists) 1 (omega (arith, many)), lt-ltb 63 (length lists) many) refl)
-  is_expected refused.RingTooSmall r is told = (told_refusal 19 Nowhere r told, rw (le-ltb (length lists) 1 is.0, le-ltb 63 (length lists) is.1, lt-ltb size ring.least is.2) refl)
-  is_expected refused.DoesNotFit r (has, large) told = (
-    told_refusal 20 Nowhere r told,
-    rw (le-ltb (length lists) 1 has.some_sender, le-ltb 63 (length lists) has.senders, le-ltb size ring.least has.size, lt-ltb (4 * M) (length lists * block_size size) large) refl,
-  )
-  is_expected (refused.ZeroWord sender place) r (has, fits, zero) told = (
-    told_refusal 16 (Word sender place) r told,
-    rw (le-ltb (length lists) 1 has.some_sender, le-ltb 63 (length lists) has.senders, le-ltb size ring.least has.size, le-ltb (4 * M) (length lists * block_size size) fits) refl,
-  )
-
-  one_place : (why reason : Refused) → Refuses ring M lists size why → Refuses ring M lists size reason → refusal_number why ≡ refusal_number reason → place_of why ≡ place_of reason
-  one_place why reason refuses denies same = at (zero_or why) (zero_or reason)
-    where
-      at : ((sender place : ℕ) × (why ≡ refused.ZeroWord sender place)) ⊎ ((place_of why ≡ Nowhere) × (refusal_number why ≡ 16 → ⊥))
-          → ((sender place : ℕ) × (reason ≡ refused.ZeroWord sender place)) ⊎ ((place_of reason ≡ Nowhere) × (refusal_number reason ≡ 16 → ⊥)) → place_of why ≡ place_of reason
-      at (inl (i, j, is)) (inl (m, n, also)) =
-          ap place_of is ∙ one_zero lists i j m n (subst (Refuses ring M lists size) is refuses).2 (subst (Refuses ring M lists size) also denies).2 ∙ sym (ap place_of also)
-      at (inl (i, j, is)) (inr other) = absurd (other.1 (sym same ∙ ap refusal_number is))
-      at (inr other) (inl (m, n, also)) = absurd (other.1 (same ∙ ap refusal_number also))
-      at (inr other) (inr more) = other.0 ∙ sym more.0
-
-  one_reason : (why reason : Refused) (r s : Refusal) → Refuses ring M lists size why → fault_from why ≡ fault.Refused r
-      → Refuses ring M lists size reason → fault_from reason ≡ fault.Refused s → r ≡ s
-  one_reason why reason r s refuses told denies tells =
-      let first = is_expected why r refuses told in
-      let other = is_expected reason s denies tells in
-      let numbers : refusal_number why ≡ refusal_number reason = first.1 ∙ sym other.1 in
-      first.0 ∙ ap₂ (λ (n : ℕ) (p : Position). record { number = n; place = p }) numbers (one_place why reason refuses denies numbers) ∙ sym other.0
-
-  within_or_refused : (why : Refused) (r : Refusal) → IsWithin ring M lists size → Refuses ring M lists size why → fault_from why ≡ fault.Refused r → ⊥
-  within_or_refused refused.NoMemory r is refuses told = absurd cc
-  within_or_refused refused.NoSenders r is refuses told = omega (arith, is.some_sender, refuses)
-  within_or_refused refused.TooManySenders r is refuses told = omega (arith, is.senders, refuses)
-  within_or_refused refused.RingTooSmall r is refuses told = omega (arith, is.size, refuses.2)
-  within_or_refused refused.DoesNotFit r is refuses told = omega (arith, is.fits, refuses.1)
-  within_or_refused (refused.ZeroWord sender place) r is refuses told =
-      let found = refuses.2 in
-      (is.words sender [] found.within place 0 found.zero.within).1 found.zero.zero
-
-one_delivery : (ring : Ring) (B M size : ℕ) (events : List Event) (lists : List (List ℕ)) (a b : Output) → IsDelivery ring B M size false events lists a → IsDelivery ring B M size false events lists b → a ≡ b
-one_delivery ring B M size events lists a b is other =
-    let histories : is.delivers.history ≡ other.delivers.history = run-one B M (unrun (opening_of_lists ring.sender ring.receiver lists size)) events is.delivers.history other.delivers.history is.delivers.run other.delivers.run in
-    same_output a b (is.text ∙ ap (flat_map report_line) (is.delivers.answer ∙ ap (λ (h : History). reported 0 h.entries) histories ∙ sym other.delivers.answer) ∙ sym other.text)
-
-module _ (ring : Ring) (B M size : ℕ) (finish : Bool) (schedule input : List ℕ) where
-  abbrev IsAnswer : Result Output Refusal → Type 0
-  IsAnswer = IsChannelAnswer ring B M size finish schedule input
-
-  delivered_or_refused : (a : Output) (s : Refusal) → IsAnswer (Ok a) → IsAnswer (Err s) → ⊥
-  delivered_or_refused a s (channels.IsChannelAnswer.delivered events lists given is said tells) (channels.IsChannelAnswer.no_schedule r none) = schedule_or_refusal schedule events s is none
-  delivered_or_refused a s (channels.IsChannelAnswer.delivered events lists given is said tells) (channels.IsChannelAnswer.no_lists others r also none) = lists_or_refusal input lists s said none
-  delivered_or_refused a s (channels.IsChannelAnswer.delivered events lists given is said tells) (channels.IsChannelAnswer.no_channel others words r also says (why, refuses, told)) =
-      within_or_refused ring M size lists why s tells.within (subst (λ (ls : List (List ℕ)). Refuses ring M ls size why) (one_lists input words lists says.value_is said.value_is) refuses) told
-
-  one_refused : (r s : Refusal) → IsAnswer (Err r) → IsAnswer (Err s) → r ≡ s
-  one_refused r s (channels.IsChannelAnswer.no_schedule x none) (channels.IsChannelAnswer.no_schedule y other) = one_refusal (judged events_of schedule) r s none other
-  one_refused r s (channels.IsChannelAnswer.no_schedule x none) (channels.IsChannelAnswer.no_lists events y is more) = absurd (schedule_or_refusal schedule events r is none)
-  one_refused r s (channels.IsChannelAnswer.no_schedule x none) (channels.IsChannelAnswer.no_channel events lists y is said more) = absurd (schedule_or_refusal schedule events r is none)
-  one_refused r s (channels.IsChannelAnswer.no_lists events x is more) (channels.IsChannelAnswer.no_schedule y none) = absurd (schedule_or_refusal schedule events s is none)
-  one_refused r s (channels.IsChannelAnswer.no_channel events lists x is said more) (channels.IsChannelAnswer.no_schedule y none) = absurd (schedule_or_refusal schedule events s is none)
-  one_refused r s (channels.IsChannelAnswer.no_lists events x is none) (channels.IsChannelAnswer.no_lists others y also other) = one_refusal (judged lists_at input) r s none other
-  one_refused r s (channels.IsChannelAnswer.no_lists events x is none) (channels.IsChannelAnswer.no_channel others words y also says more) = absurd (lists_or_refusal input words r says none)
-  one_refused r s (channels.IsChannelAnswer.no_channel events lists x is said more) (channels.IsChannelAnswer.no_lists others y also none) = absurd (lists_or_refusal input lists s said none)
-  one_refused r s (channels.IsChannelAnswer.no_channel events lists x is said (why, refuses, told)) (channels.IsChannelAnswer.no_channel others words y also says (reason, denies, tells)) =
-      one_reason ring M size lists why reason r s refuses told
-      (subst (λ (ls : List (List ℕ)). Refuses ring M ls size reason) (one_lists input words lists says.value_is said.value_is) denies) tells
-
-  pub alike_channel : (a b : Result Output Refusal) → IsAnswer a → IsAnswer b → AreAlike a b
-  alike_channel (Ok a) (Ok b) is other = tt
-  alike_channel (Ok a) (Err s) is other = delivered_or_refused a s is other
-  alike_channel (Err r) (Ok b) is other = delivered_or_refused b r other is
-  alike_channel (Err r) (Err s) is other = one_refused r s is other
-
-module _ (ring : Ring) (B M size : ℕ) (schedule input : List ℕ) where
-  abbrev IsUnfinished : Result Output Refusal → Type 0
-  IsUnfinished = IsChannelAnswer ring B M size false schedule input
-
-  pub one_channel : (a b : Result Output Refusal) → IsUnfinished a → IsUnfinished b → a ≡ b
-  one_channel (Ok a) (Ok b) (channels.IsChannelAnswer.delivered events lists given is said tells) (channels.IsChannelAnswer.delivered others words answer also says other) =
-      ap (λ (out : Output). Ok out) (one_delivery ring B M size events lists a b tells
-      (subst (λ (evs : List Event). IsDelivery ring B M size false evs lists b) (one_plain schedule others events also.value_is is.value_is)
-      (subst (λ (ls : List (List ℕ)). IsDelivery ring B M size false others ls b) (one_lists input words lists says.value_is said.value_is) other)))
-  one_channel (Ok a) (Err s) is other = absurd (delivered_or_refused ring B M size false schedule input a s is other)
-  one_channel (Err r) (Ok b) is other = absurd (delivered_or_refused ring B M size false schedule input b r other is)
-  one_channel (Err r) (Err s) is other = ap (λ (x : Refusal). Err x) (one_refused ring B M size false schedule input r s is other)

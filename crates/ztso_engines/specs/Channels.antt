@@ -7,12 +7,13 @@ use Rattle.hart.specs.declared.need.Report.TheVariants as report
 use Rattle.step_machine.specs.declared.events.Event.{Event}
 use Rattle.step_machine.specs.History.{Start}
 use Rattle.recorder.specs.Schedule.{IsPlainOf}
-use Rattle.poll_close.specs.Layout.{opening_of}
-use Rattle.poll_close.specs.Laws.{Ring, Accepted as IsWithin}
+use Rattle.poll_close.specs.Layout.{Layout, opening_at}
+use Rattle.poll_close.specs.Laws.{Ring, AcceptedAt as IsWithin}
 use Rattle.poll_close.specs.Delivery.{Delivers, DeliversWhole}
-use Rattle.poll_close.specs.Refusals.{Refuses}
-use Rattle.poll_close.specs.declared.faults.Refused.{Refused}
+use Rattle.poll_close.specs.Refusals.{RefusesAt, fault_number_at}
 use Rattle.poll_close.specs.declared.faults.Refused.TheVariants as refused
+use Rattle.poll_close.specs.declared.faults.RefusedAt.{RefusedAt}
+use Rattle.poll_close.specs.declared.faults.RefusedAt.TheVariants as refused_at
 use Rattle.engine_parts.specs.declared.fault.Fault.{Fault}
 use Rattle.engine_parts.specs.declared.fault.Fault.TheVariants as fault
 use Rattle.engine_parts.specs.declared.fault.Position.TheVariants as place
@@ -32,34 +33,42 @@ abbrev pub Reported : (finish : Bool) → (B M : ℕ) → Start → List (List �
 Reported false B M opening lists events reports = Delivers B M opening lists events reports
 Reported true B M opening lists events reports = DeliversWhole B M opening lists events reports
 
--- The receiver reports this in the run of the events over these lists: lists within the limits, whose
--- reports are clean, a line each.
-pub record IsDelivery (ring : Ring) (B M size : ℕ) (finish : Bool) (events : List Event) (lists : List (List ℕ)) (answer : Output) : Type 0 where
-  pub within : IsWithin ring M lists size
+-- The receiver reports this in the run of the events over these lists: lists and a layout within the limits,
+-- whose reports are clean, a line each.
+pub record IsDelivery (ring : Ring) (B M : ℕ) (l : Layout) (finish : Bool) (events : List Event) (lists : List (List ℕ)) (answer : Output) : Type 0 where
+  pub within : IsWithin ring M lists l
   pub reports : List Report
-  pub delivers : Reported finish B M (opening_of ring.sender ring.receiver lists size) lists events reports
+  pub delivers : Reported finish B M (opening_at ring.sender ring.receiver lists l) lists events reports
   pub text : answer.0 ≡ flat_map report_line reports
 
 -- why there is no channel, as a fault; a word that is 0 has its place
-abbrev pub fault_from : Refused → Fault
-fault_from refused.NoMemory = fault.NoMemory
-fault_from (refused.ZeroWord sender word) = fault.Refused (record { number = 16; place = place.Word sender word })
-fault_from refused.NoSenders = fault.Refused (record { number = 17; place = place.Nowhere })
-fault_from refused.TooManySenders = fault.Refused (record { number = 18; place = place.Nowhere })
-fault_from refused.RingTooSmall = fault.Refused (record { number = 19; place = place.Nowhere })
-fault_from refused.DoesNotFit = fault.Refused (record { number = 20; place = place.Nowhere })
+abbrev pub fault_from : RefusedAt → Fault
+fault_from (refused_at.Lists refused.NoMemory) = fault.NoMemory
+fault_from (refused_at.Lists (refused.ZeroWord sender word)) = fault.Refused (record { number = 16; place = place.Word sender word })
+fault_from why = fault.Refused (record { number = fault_number_at why; place = place.Nowhere })
+
+-- no block is filled, since all memory opens as 0
+abbrev pub IsUnfilled : RefusedAt → Type 0
+IsUnfilled (refused_at.FilledBlock word) = ⊥
+IsUnfilled why = Unit {0}
 
 -- There is no channel over these lists, for this reason.
-abbrev pub HasNoChannel : Ring → (M size : ℕ) → List (List ℕ) → Refusal → Type 0
-HasNoChannel ring M size lists refusal = (why : Refused) × Refuses ring M lists size why × (fault_from why ≡ fault.Refused refusal)
+pub record HasNoChannel (ring : Ring) (M : ℕ) (l : Layout) (lists : List (List ℕ)) (refusal : Refusal) : Type 0 where
+  pub why : RefusedAt
+  pub unfilled : IsUnfilled why
+  pub refuses : RefusesAt ring M lists l why
+  pub is_fault : fault_from why ≡ fault.Refused refusal
 
 -- The input says no lists, for this reason.
 abbrev pub IsNoLists : List ℕ → Refusal → Type 0
 IsNoLists input refusal = judged lists_at input ≡ Err refusal
 
--- What answers a schedule and lists. The schedule is judged first, then the text of lists, then the lists.
-pub data IsChannelAnswer (ring : Ring) (B M size : ℕ) (finish : Bool) (schedule input : List ℕ) : Result Output Refusal → Type 0 where
-  no_schedule : (refusal : Refusal) → IsNoSchedule schedule refusal → IsChannelAnswer ring B M size finish schedule input (Err refusal)
-  no_lists : (events : List Event) (refusal : Refusal) → Accepted IsPlainOf schedule events → IsNoLists input refusal → IsChannelAnswer ring B M size finish schedule input (Err refusal)
-  no_channel : (events : List Event) (lists : List (List ℕ)) (refusal : Refusal) → Accepted IsPlainOf schedule events → Accepted SaysLists input lists → HasNoChannel ring M size lists refusal → IsChannelAnswer ring B M size finish schedule input (Err refusal)
-  delivered : (events : List Event) (lists : List (List ℕ)) (answer : Output) → Accepted IsPlainOf schedule events → Accepted SaysLists input lists → IsDelivery ring B M size finish events lists answer → IsChannelAnswer ring B M size finish schedule input (Ok answer)
+-- What answers a schedule and lists. The schedule is judged first, then the text of lists, then the lists and the place.
+pub data IsChannelAnswer (ring : Ring) (B M : ℕ) (l : Layout) (finish : Bool) (schedule input : List ℕ) : Result Output Refusal → Type 0 where
+  no_schedule : (refusal : Refusal) → IsNoSchedule schedule refusal → IsChannelAnswer ring B M l finish schedule input (Err refusal)
+  no_lists : (events : List Event) (refusal : Refusal) → Accepted IsPlainOf schedule events → IsNoLists input refusal
+      → IsChannelAnswer ring B M l finish schedule input (Err refusal)
+  no_channel : (events : List Event) (lists : List (List ℕ)) (refusal : Refusal) → Accepted IsPlainOf schedule events → Accepted SaysLists input lists
+      → HasNoChannel ring M l lists refusal → IsChannelAnswer ring B M l finish schedule input (Err refusal)
+  delivered : (events : List Event) (lists : List (List ℕ)) (answer : Output) → Accepted IsPlainOf schedule events → Accepted SaysLists input lists
+      → IsDelivery ring B M l finish events lists answer → IsChannelAnswer ring B M l finish schedule input (Ok answer)

@@ -1,12 +1,13 @@
 //! The command `channel`: a schedule and the senders' lists in, what the receiver reports out.
 
-ghost use Rattle.std.specs.Prelude.{◌≡◌, ◌≤◌, ◌++◌, IfErr, IfOk, OnOk, map};
+ghost use Rattle.std.specs.Prelude.{◌≡◌, ◌≤◌, ◌++◌, [], IfErr, IfOk, OnOk, map};
 ghost use Rattle.std.specs.List.{flat_map};
 ghost use Rattle.std.specs.String.{string_bytes};
 ghost use Rattle.engine_parts.specs.Engines.{AnswersBoth, EndsByBoth};
-ghost use Rattle.poll_close.specs.Layout.{opening_of};
-ghost use Rattle.poll_close.specs.Laws.{Accepted};
-ghost use Rattle.poll_close.specs.Refusals.{Refuses};
+ghost use Rattle.poll_close.specs.Layout.{opening_at};
+ghost use Rattle.poll_close.specs.Laws.{AcceptedAt};
+ghost use Rattle.poll_close.specs.Places.{layout_of};
+ghost use Rattle.poll_close.specs.Refusals.{RefusesAt};
 ghost use Rattle.ztso_engines.specs.Channels.{report_line, fault_from, Reported, IsChannelAnswer};
 ghost use Rattle.engine_parts.specs.Schedules.{HasNoSchedule};
 ghost use Rattle.engine_parts.specs.inner.Making.{Finds, text_and_value};
@@ -17,18 +18,18 @@ use engine_parts::output::end_with;
 use engine_parts::schedule::read_events;
 use hart::need::Report;
 use poll_close::plans::Finish;
-use poll_close::{Refused, deliver, deliver_whole};
+use poll_close::{Place, Refused, RefusedAt, deliver_at, deliver_whole_at};
 use std::alloc::{AllocError, Global};
 use std::io::{Read, Write};
 use step_machine::Event;
 
 /// Why there is no channel, as a fault.
-fn channel_fault(why: Refused) -> Fault
+fn channel_fault(why: RefusedAt) -> Fault
     ensures { result ≡ fault_from why }
 {
     match why {
-        Refused::NoMemory => Fault::NoMemory,
-        Refused::ZeroWord { sender, place } => {
+        RefusedAt::Lists(Refused::NoMemory) => Fault::NoMemory,
+        RefusedAt::Lists(Refused::ZeroWord { sender, place }) => {
             Fault::refused(why.number(), Position::Word { sender, place })
         }
         _ => Fault::refused(why.number(), Position::Nowhere),
@@ -56,33 +57,34 @@ fn reports_text(alloc: Global, reports: &[Report]) -> Result<String, AllocError>
     Ok(text)
 }
 
-/// What the receiver reports when these events run, and then a plan if the channel is to be finished.
+/// What the receiver reports when these events run, and then a plan if the channel is to be finished. All
+/// memory opens as 0.
 fn reports_of<K: Finish<B, M>, const B: usize, const M: usize>(
     alloc: Global,
-    ring: u32,
+    place: Place,
     finish: bool,
     lists: &[Vec<u32>],
     events: &[Event],
-) -> Result<Vec<Report>, Refused>
+) -> Result<Vec<Report>, RefusedAt>
     requires some_capacity { 1 ≤ B }
     requires capacity { B ≤ 64 }
     requires some_word { 1 ≤ M }
     requires size { M ≤ 65536 }
-    ensures reported { IfOk result (λ r. Reported finish B M (opening_of K.RingKind.ring.sender K.RingKind.ring.receiver (map (λ v. v.items) lists.now) ring) (map (λ v. v.items) lists.now) events.now r.items) }
-    ensures accepted { OnOk result (Accepted K.RingKind.ring M (map (λ v. v.items) lists.now) ring) }
-    ensures refused { IfErr result (λ e. Refuses K.RingKind.ring M (map (λ v. v.items) lists.now) ring e) }
+    ensures reported { IfOk result (λ r. Reported finish B M (opening_at K.RingKind.ring.sender K.RingKind.ring.receiver (map (λ v. v.items) lists.now) (layout_of place [])) (map (λ v. v.items) lists.now) events.now r.items) }
+    ensures accepted { OnOk result (AcceptedAt K.RingKind.ring M (map (λ v. v.items) lists.now) (layout_of place [])) }
+    ensures refused { IfErr result (λ e. RefusesAt K.RingKind.ring M (map (λ v. v.items) lists.now) (layout_of place []) e) }
 {
     if finish {
-        deliver_whole::<K, B, M>(alloc, lists, ring, events)
+        deliver_whole_at::<K, B, M>(alloc, lists, place, &[], events)
     } else {
-        deliver::<K, B, M>(alloc, lists, ring, events)
+        deliver_at::<K, B, M>(alloc, lists, place, &[], events)
     }
 }
 
 /// What is to be written for the inputs that the readers give.
 fn made<K: Finish<B, M>, const B: usize, const M: usize, S: Read, L: Read>(
     alloc: Global,
-    ring: u32,
+    place: Place,
     finish: bool,
     schedule: &mut S,
     input: &mut L,
@@ -91,12 +93,12 @@ fn made<K: Finish<B, M>, const B: usize, const M: usize, S: Read, L: Read>(
     requires capacity { B ≤ 64 }
     requires some_word { 1 ≤ M }
     requires size { M ≤ 65536 }
-    ensures made { Finds (AnswersBoth (IsChannelAnswer K.RingKind.ring B M ring finish) (S.remaining schedule.old) (L.remaining input.old)) text_and_value result }
+    ensures made { Finds (AnswersBoth (IsChannelAnswer K.RingKind.ring B M (layout_of place []) finish) (S.remaining schedule.old) (L.remaining input.old)) text_and_value result }
     ensures unread { HasNoSchedule (S.remaining schedule.old) → input.new ≡ input.old }
 {
     let events = read_events(alloc, schedule)?;
     let lists = read_lists(alloc, input)?;
-    let reports = match reports_of::<K, B, M>(alloc, ring, finish, &lists, &events) {
+    let reports = match reports_of::<K, B, M>(alloc, place, finish, &lists, &events) {
         Ok(reports) => reports,
         Err(why) => return Err(channel_fault(why)),
     };
@@ -106,21 +108,21 @@ fn made<K: Finish<B, M>, const B: usize, const M: usize, S: Read, L: Read>(
 
 /// Reads a schedule and then the senders' lists, each to its end: a line of words in decimal, parted by
 /// spaces, for each sender. Runs the schedule's events from the opening of a channel of kind `K` with
-/// `ring` slots over these lists, with store buffers of `B` pairs and `M` words of memory, and writes
+/// these lists at a place, with store buffers of `B` pairs and `M` words of memory that open as 0, and writes
 /// what the receiver reports, `took I W` or `closed I` on a line each. Whatever the schedule is, these
 /// reports are clean.
 ///
-/// If it is to `finish` the channel, a plan runs behind the schedule. Then each sender's whole list is
+/// If it is to `finish` the channel, a plan runs after the schedule. Then each sender's whole list is
 /// reported, and that it is closed.
 ///
 /// The schedule is refused as [`crate::run::run_engine`] refuses it, and the lists are not read then.
 /// An input of lists is refused as too large ([`engine_parts::fault::TOO_LARGE`]), as no text
 /// ([`engine_parts::fault::NOT_TEXT`]), else at its first line that holds anything but such words
-/// ([`engine_parts::fault::BAD_LINE`]). Lists are refused by the numbers of [`poll_close::Refused`]. Then nothing
-/// was written.
+/// ([`engine_parts::fault::BAD_LINE`]). Lists are refused by the numbers of [`poll_close::RefusedAt`], but never for a
+/// filled block. Then nothing was written.
 pub fn channel_engine<K: Finish<B, M>, const B: usize, const M: usize, S: Read, L: Read, W: Write>(
     alloc: Global,
-    ring: u32,
+    place: Place,
     finish: bool,
     schedule: &mut S,
     input: &mut L,
@@ -130,11 +132,11 @@ pub fn channel_engine<K: Finish<B, M>, const B: usize, const M: usize, S: Read, 
     requires capacity { B ≤ 64 }
     requires some_word { 1 ≤ M }
     requires size { M ≤ 65536 }
-    ensures ends { EndsByBoth (IsChannelAnswer K.RingKind.ring B M ring finish) result (S.remaining schedule.old) (L.remaining input.old) W.contents writer.old writer.new }
+    ensures ends { EndsByBoth (IsChannelAnswer K.RingKind.ring B M (layout_of place []) finish) result (S.remaining schedule.old) (L.remaining input.old) W.contents writer.old writer.new }
     ensures unread { HasNoSchedule (S.remaining schedule.old) → input.new ≡ input.old }
 {
     end_with(
-        made::<K, B, M, S, L>(alloc, ring, finish, schedule, input),
+        made::<K, B, M, S, L>(alloc, place, finish, schedule, input),
         writer,
     )
 }

@@ -3,6 +3,7 @@
 ghost use Rattle.std.specs.Prelude.{◌≡◌, ◌<◌, ◌^◌, ◌↔◌, ℕ, Bool, true, false, List, Ok, Result, Some};
 ghost use Rattle.std.specs.List.{All, flat_map};
 ghost use Rattle.rand_core.specs.Stream.{Stream};
+ghost use Rattle.poll_close.specs.Layout.{Layout};
 ghost use Rattle.poll_close.specs.Laws.{Ring};
 ghost use Rattle.litmus.specs.declared.verdict.Verdict.{Verdict};
 ghost use Rattle.engine_parts.specs.declared.fault.Refusal.{Refusal};
@@ -58,6 +59,6 @@ pub fn one_answer()
     ensures replay { (B M : ℕ) (file schedule : List ℕ) (a b : Result Output Refusal) → IsReplayAnswer B M file schedule a → IsReplayAnswer B M file schedule b → AreOneAnswer a b }
     ensures debug { (B M : ℕ) (input file schedule : List ℕ) (a b : Result Output Refusal) → IsDebugAnswer B M (Some input) file schedule a → IsDebugAnswer B M (Some input) file schedule b → AreOneAnswer a b }
     ensures trials { (B M : ℕ) (stream : Stream) (runs size : ℕ) (file : List ℕ) (a b : Result (List ℕ × Bool) Refusal) → IsTryAnswer B M stream runs size file a → IsTryAnswer B M stream runs size file b → AreOneAnswer a b }
-    ensures channel { (ring : Ring) (B M size : ℕ) (schedule input : List ℕ) (a b : Result Output Refusal) → IsChannelAnswer ring B M size false schedule input a → IsChannelAnswer ring B M size false schedule input b → a ≡ b }
-    ensures finished { (ring : Ring) (B M size : ℕ) (schedule input : List ℕ) (a b : Result Output Refusal) → IsChannelAnswer ring B M size true schedule input a → IsChannelAnswer ring B M size true schedule input b → AreAlike a b }
+    ensures channel { (ring : Ring) (B M : ℕ) (l : Layout) (schedule input : List ℕ) (a b : Result Output Refusal) → IsChannelAnswer ring B M l false schedule input a → IsChannelAnswer ring B M l false schedule input b → a ≡ b }
+    ensures finished { (ring : Ring) (B M : ℕ) (l : Layout) (schedule input : List ℕ) (a b : Result Output Refusal) → IsChannelAnswer ring B M l true schedule input a → IsChannelAnswer ring B M l true schedule input b → AreAlike a b }
 {}

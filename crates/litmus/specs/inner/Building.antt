@@ -37,7 +37,7 @@ or_closed (Some at) steps = slice_set steps at (step.Or (length steps - at - 1))
 abbrev pub all_closed : Frame → List Step → List Step
 all_closed mark steps = or_closed mark.or_at (and_closed mark.and_at steps)
 
--- the steps are those of an operand, but for its negations
+-- the steps are those of an operand, except for its negations
 abbrev pub with_operand : List Step → List Frame → Frame → Build
 with_operand steps around here = record { steps = steps ++ replicate here.negations step.Not; around = around; here = record { or_at = here.or_at; and_at = here.and_at; negations = 0 }; has_operand = true }
 

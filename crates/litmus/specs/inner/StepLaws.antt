@@ -27,7 +27,7 @@ formula_from-enough (suc m) (suc n) f (step.Or skip ∷ rest) few enough =
     ap (λ (g : Formula). formula_from m (either f g) (drop skip rest)) right
     ∙ formula_from-enough m n (either f (formula_from n f (take skip rest))) (drop skip rest) (omega (arith, length-drop skip rest, few)) (omega (arith, length-drop skip rest, enough))
 
--- the steps of a formula are read as it, whatever stands before and behind them
+-- the steps of a formula are read as it, whatever stands before and after them
 pub formula_from-steps_of : (g : Formula) (rest : List Step) (m n : ℕ) (f : Formula) → length (steps_of g ++ rest) ≤ m → length rest ≤ n → formula_from m f (steps_of g ++ rest) ≡ formula_from n g rest
 formula_from-steps_of (is p v) rest zero n f few enough = absurd (omega (arith, few))
 formula_from-steps_of (is p v) rest (suc m) n f few enough = formula_from-enough m n (is p v) rest (omega (arith, few)) enough

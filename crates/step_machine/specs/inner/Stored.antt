@@ -27,7 +27,7 @@ buffer_of c h = slice_index_or c.buffers h []
 abbrev pub word_at : Stored → ℕ → ℕ
 word_at c a = joined (λ i. byte_of c.words (a + i)) 4
 
--- the byte that hart h finds at an address, and the number in so many bytes from there on
+-- the byte that hart h finds at an address, and the number in width bytes from there on
 abbrev pub found_byte : Stored → ℕ → ℕ → ℕ
 found_byte c h a = unwrap_or (newest_of a None (buffer_of c h)) (byte_of c.words a)
 

@@ -1,4 +1,4 @@
-use Rattle.std.proofs.Common.{◌≡◌, ◌∙◌, ap, Ok}
+use Rattle.std.proofs.Common.{◌∙◌, ap, Ok}
 use Rattle.shrink.specs.Shrinking.{EndsWith}
 use Rattle.shrink.proofs.PartLaws.{part_of_part}
 use Rattle.shrink.proofs.PassLaws.{single_events}

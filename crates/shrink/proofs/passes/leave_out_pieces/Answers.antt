@@ -1,5 +1,5 @@
-use Rattle.std.proofs.Common.{◌≡◌, ◌-◌, length, min, refl, arith}
-use Rattle.shrink.specs.Shrinking.{EndsWith, without}
+use Rattle.std.proofs.Common.{refl, arith}
+use Rattle.shrink.specs.Shrinking.{EndsWith}
 use Rattle.shrink.proofs.PassLaws.{pass_start, pass_without, pass_beyond}
 use Rattle.shrink.proofs.passes.leave_out_pieces.Goals as goal
 

@@ -1,26 +1,29 @@
-use Rattle.std.proofs.Common.{◌≡◌, true, false, List, get_or, sym, ◌∙◌, ap, subst}
-use Rattle.std.proofs.lemmas.List.{get_or_read}
-use Rattle.std.specs.Prelude.{unwrap_or}
+use Rattle.std.proofs.Common.{◌≡◌, ℕ, Bool, ◌+◌, ◌-◌, List, get_or, drop, sym, ◌∙◌, ap, subst, arith}
 use Rattle.step_machine.specs.declared.events.Entry.{Entry}
+use Rattle.step_machine.specs.Entries.{opening_byte}
 use Rattle.step_machine.specs.History.{History}
-use Rattle.ztso_axioms.specs.Operations.{written_at}
 use Rattle.ztso_axioms.specs.Axioms.{is_seen}
-use Rattle.ztso_axioms.proofs.Checked.{seen_more}
+use Rattle.ztso_axioms.proofs.Checked.{NoneWrites, written_if, none_more, last_found}
 use Rattle.ztso_axioms.proofs.checking.latest_byte.Goals as goal
-use Rattle.ztso_axioms.proofs.checking.latest_byte.Goals.{then-sees, else-sees}
+use Rattle.ztso_axioms.proofs.checking.latest_byte.Goals.{After-byte_seen}
+
+abbrev seen_here : After-byte_seen → ℕ → Bool
+seen_here c = is_seen c.args.trace.now.entries c.args.order.now (get_or c.args.order.now c.args.index 0)
+
+taken : (c : After-byte_seen) → written_if c.args.trace.now.entries c.args.addr (seen_here c) (get_or c.args.order.now (c.loop-place.place - 1) 0) ≡ c.byte_seen.result
+taken c = subst (λ (es : List Entry). written_if es c.args.addr (is_seen es c.args.order.now (get_or c.args.order.now c.args.index 0)) (get_or c.args.order.now (c.loop-place.place - 1) 0) ≡ c.byte_seen.result)
+    (c.deref.ensures.value ∙ ap (λ (t : History). t.entries) c.trace.view_is)
+    (sym c.byte_seen.ensures)
+
+after : (c : After-byte_seen) → NoneWrites c.args.trace.now.entries c.args.addr (seen_here c) (drop (c.loop-place.place - 1 + 1) c.args.order.now)
+after c = subst (λ k. NoneWrites c.args.trace.now.entries c.args.addr (seen_here c) (drop k c.args.order.now)) (omega arith) c.loop-place.invariant
+
+pub returns-in-Some : goal.returns-in-Some
+returns-in-Some c =
+    let d : After-byte_seen = (goal.at.returns-in-Some c).After-byte_seen in
+    last_found c.args.trace.now.entries c.args.addr (opening_byte c.args.trace.now.opening c.args.addr) (c.loop-place.place - 1) c.in-Some.byte (seen_here d) c.args.order.now (omega arith) (taken d ∙ c.in-Some.is) (after d)
 
 pub loop-place-preserved : goal.loop-place-preserved
 loop-place-preserved c =
-    let entries : c.trace.inside.entries.items ≡ c.args.trace.now.entries = ap (λ (t : History). t.entries) c.trace.view_is in
-    let read : c.index-order-place.result ≡ get_or c.args.order.now c.loop-place.place 0 = get_or_read c.args.order.now c.loop-place.place c.index-order-place.result c.loop-place-test.true c.index-order-place.is 0 in
-    let sees : is_seen c.args.trace.now.entries c.args.order.now (get_or c.args.order.now c.args.index 0) (get_or c.args.order.now c.loop-place.place 0) ≡ c.sees.result
-    = subst (λ (es : List Entry). is_seen es c.args.order.now (get_or c.args.order.now c.args.index 0) (get_or c.args.order.now c.loop-place.place 0) ≡ c.sees.result) (c.deref.ensures.value ∙ entries) (sym c.sees.ensures) in
-    elim c.if-sees.branch [
-      | then-sees w ↦
-          let value : w.byte_named.result ≡ written_at c.args.trace.now.entries c.args.addr (get_or c.args.order.now c.loop-place.place 0)
-          = w.byte_named.ensures ∙ ap (λ (es : List Entry). written_at es c.args.addr c.index-order-place.result) (w.deref-then-sees.ensures.value ∙ entries) ∙ ap (written_at c.args.trace.now.entries c.args.addr) read in
-          seen_more c.args.trace.now.opening c.args.trace.now.entries c.args.order.now (get_or c.args.order.now c.args.index 0) c.args.addr c.loop-place.place c.loop-place.latest c.if-sees.latest true c.loop-place-test.true (sees ∙ w.if-sees.true) c.loop-place.invariant
-          (w.latest-is ∙ w.unwrap_or-latest.ensures ∙ ap (λ v. unwrap_or v c.loop-place.latest) value)
-      | else-sees w ↦
-          seen_more c.args.trace.now.opening c.args.trace.now.entries c.args.order.now (get_or c.args.order.now c.args.index 0) c.args.addr c.loop-place.place c.loop-place.latest c.if-sees.latest false c.loop-place-test.true (sees ∙ w.if-sees.false) c.loop-place.invariant w.latest-is
-    ]
+    let d : After-byte_seen = (goal.at.loop-place-preserved c).After-byte_seen in
+    none_more c.args.trace.now.entries c.args.addr (c.loop-place.place - 1) (seen_here d) c.args.order.now (omega arith) (taken d ∙ c.in_default.is) (after d)

@@ -1,5 +1,6 @@
 use Rattle.std.proofs.Common.{true}
 use Rattle.ztso_engines.proofs.OneAnswer as one
+use Rattle.ztso_engines.proofs.OneChannel.{one_channel, alike_channel}
 use Rattle.ztso_engines.proofs.laws.one_answer.Goals as goal
 
 pub returns-clause-steps : goal.returns-clause-steps
@@ -24,7 +25,7 @@ pub returns-clause-trials : goal.returns-clause-trials
 returns-clause-trials c = one.one_tried
 
 pub returns-clause-channel : goal.returns-clause-channel
-returns-clause-channel c = one.one_channel
+returns-clause-channel c = one_channel
 
 pub returns-clause-finished : goal.returns-clause-finished
-returns-clause-finished c ring B M size = one.alike_channel ring B M size true
+returns-clause-finished c ring B M l = alike_channel ring B M l true

@@ -13,8 +13,8 @@ restore-requires g c =
     let es : List Entry = c.self.inside.entries.items in
     let taken : IsTakenAt g.row.B g.row.M (up_to s.count (history_of o es)) s =
     subst (λ (p : Progress). IsTakenAt g.row.B g.row.M (up_to s.count p.history) s) (sym c.self.view_is) c.requires in
-    let harts = within_back g.row.B g.row.M c.self.inside.room (history_of o es) c.self.inside.cores s c.self.invariant.0 taken in
-    let buffers = buffers_back g.row.B g.row.M c.self.inside.room (history_of o es) c.self.inside.cores s c.self.invariant.0 taken in
+    let harts = within_back g.row.B g.row.M c.self.inside.room (history_of o es) c.self.inside.machine_state s c.self.invariant.0 taken in
+    let buffers = buffers_back g.row.B g.row.M c.self.inside.room (history_of o es) c.self.inside.machine_state s c.self.invariant.0 taken in
     (lit< tt, (lit< tt, (harts, (buffers, (taken.saved.few, pending_back g.row.B g.row.M (up_to s.count (history_of o es)) s taken)))))
 
 pub invariant_of-self : goal.invariant_of-self
@@ -25,6 +25,6 @@ invariant_of-self g c =
     let taken : IsTakenAt g.row.B g.row.M (up_to s.count (history_of o es)) s =
     subst (λ (p : Progress). IsTakenAt g.row.B g.row.M (up_to s.count p.history) s) (sym c.self.view_is) c.requires in
     let cut : c.truncate.new.self.items ≡ take s.count es = c.truncate.ensures.items ∙ ap (λ (x : Taken). take x.count es) c.snapshot.view_is in (
-      sound_put_to g.row.B g.row.M c.self.inside.room o es c.truncate.new.self.items c.self.inside.cores c.restore.new.self s c.self.invariant.0 taken cut c.restore.ensures,
+      sound_put_to g.row.B g.row.M c.self.inside.room o es c.truncate.new.self.items c.self.inside.machine_state c.restore.new.self s c.self.invariant.0 taken cut c.restore.ensures,
       omega arith,
     )

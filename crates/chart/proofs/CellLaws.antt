@@ -1,0 +1,30 @@
+-- One more stroke, one more mark and one more cell.
+use Rattle.std.proofs.Common.{◌≡◌, ℕ, suc, ◌+◌, ◌<◌, ◌==◌, if◌then◌else◌, List, [], ◌∷◌, ◌++◌, length, take, get_or, refl, arith}
+use Rattle.std.specs.Prelude.{unwrap_or}
+use Rattle.std.proofs.lemmas.List.{take_more}
+use Rattle.chart.specs.declared.pictures.Stroke.{Stroke}
+use Rattle.chart.specs.Pictures.{MarkOf, LineOf, sign_byte, strikes, struck, byte_of_mark, marked, cell_of, end_of, cells_of}
+
+struck-last : (cell found : ℕ) (ss : List Stroke) (s : Stroke) →
+    struck cell found (ss ++ s ∷ []) ≡ (if strikes s cell then sign_byte s.sign else struck cell found ss)
+struck-last cell found [] s = refl
+struck-last cell found (x ∷ ss) s = struck-last cell (if strikes x cell then sign_byte x.sign else found) ss s
+
+pub struck_next : (cell i : ℕ) (ss : List Stroke) (d : Stroke) → i < length ss →
+    struck cell 32 (take (i + 1) ss) ≡ (if strikes (get_or ss i d) cell then sign_byte (get_or ss i d).sign else struck cell 32 (take i ss))
+struck_next cell i ss d within = rw (take_more ss i d within) (struck-last cell 32 (take i ss) (get_or ss i d))
+
+marked-last : (cell found : ℕ) (ms : List MarkOf) (m : MarkOf) →
+    marked cell found (ms ++ m ∷ []) ≡ unwrap_or (byte_of_mark m cell) (marked cell found ms)
+marked-last cell found [] m = refl
+marked-last cell found (x ∷ ms) m = marked-last cell (unwrap_or (byte_of_mark x cell) found) ms m
+
+pub marked_next : (cell found i : ℕ) (ms : List MarkOf) (d : MarkOf) → i < length ms →
+    marked cell found (take (i + 1) ms) ≡ unwrap_or (byte_of_mark (get_or ms i d) cell) (marked cell found (take i ms))
+marked_next cell found i ms d within = rw (take_more ms i d within) (marked-last cell found (take i ms) (get_or ms i d))
+
+pub end_more : (line : LineOf) (n : ℕ) → end_of line (n + 1) ≡ (if cell_of line n == 32 then end_of line n else n + 1)
+end_more line n = let more : n + 1 ≡ suc n = omega arith in rw more refl
+
+pub cells_more : (line : LineOf) (n : ℕ) → cells_of line (n + 1) ≡ cells_of line n ++ cell_of line n ∷ []
+cells_more line n = let more : n + 1 ≡ suc n = omega arith in rw more refl

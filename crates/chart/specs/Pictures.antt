@@ -1,0 +1,87 @@
+-- A picture of a run as a value, and its text. A line has texts, which are marks at their cells, and
+-- strokes; cells count from 0.
+use Rattle.std.specs.Prelude.{ℕ, zero, suc, ◌-◌, ◌==◌, ◌&&◌, nat_lt, nat_le, if◌then◌else◌}
+use Rattle.std.specs.Prelude.{Bool, List, [], ◌∷◌, ◌++◌, map, Option, None, unwrap_or}
+use Rattle.std.specs.List.{slice_get, flat_map}
+use Rattle.chart.specs.declared.pictures.Sign.{Sign}
+use Rattle.chart.specs.declared.pictures.Sign.TheVariants.{Flat, Double, Down, Bend, Lands, From, To, Joins, Cut, Open}
+use Rattle.chart.specs.declared.pictures.Stroke.{Stroke}
+
+pub record MarkOf : Type 0 where
+  pub at : ℕ
+  pub loud : Bool
+  pub text : List ℕ
+
+pub record LineOf : Type 0 where
+  pub marks : List MarkOf
+  pub strokes : List Stroke
+
+-- the lines above the picture, the heads of its columns, its lines, those below it, and how many cells
+-- a line has
+pub record PictureOf : Type 0 where
+  pub head : List (List ℕ)
+  pub heads : LineOf
+  pub body : List LineOf
+  pub foot : List (List ℕ)
+  pub width : ℕ
+
+-- ---- what stands in a cell
+
+abbrev pub sign_byte : Sign → ℕ
+sign_byte Flat = 45
+sign_byte Double = 61
+sign_byte Down = 124
+sign_byte Bend = 46
+sign_byte Lands = 39
+sign_byte From = 60
+sign_byte To = 62
+sign_byte Joins = 111
+sign_byte Cut = 126
+sign_byte Open = 118
+
+abbrev pub strikes : Stroke → ℕ → Bool
+strikes s cell = nat_le s.at cell && nat_lt (cell - s.at) s.count
+
+-- the last stroke of a cell is the one that is seen there
+abbrev pub struck : (cell found : ℕ) → List Stroke → ℕ
+struck cell found [] = found
+struck cell found (s ∷ ss) = struck cell (if strikes s cell then sign_byte s.sign else found) ss
+
+-- the mark's byte in a cell, if it has one there
+abbrev pub byte_of_mark : MarkOf → ℕ → Option ℕ
+byte_of_mark m cell = if nat_lt cell m.at then None else slice_get m.text (cell - m.at)
+
+abbrev pub marked : (cell found : ℕ) → List MarkOf → ℕ
+marked cell found [] = found
+marked cell found (m ∷ ms) = marked cell (unwrap_or (byte_of_mark m cell) found) ms
+
+-- each byte outside of 32 to 126 is shown as `?`
+abbrev pub shown : ℕ → ℕ
+shown byte = if nat_lt 31 byte && nat_lt byte 127 then byte else 63
+
+-- what a line shows in a cell: a text, else a stroke, else a blank
+abbrev pub cell_of : LineOf → ℕ → ℕ
+cell_of line cell = shown (marked cell (struck cell 32 line.strokes) line.marks)
+
+-- ---- the text
+
+-- behind the last of the line's first n cells that isn't blank
+abbrev pub end_of : LineOf → ℕ → ℕ
+end_of line zero = 0
+end_of line (suc n) = if cell_of line n == 32 then end_of line n else suc n
+
+-- the first n cells
+abbrev pub cells_of : LineOf → ℕ → List ℕ
+cells_of line zero = []
+cells_of line (suc n) = cells_of line n ++ cell_of line n ∷ []
+
+-- a line, without the blanks at its end
+abbrev pub line_text : ℕ → LineOf → List ℕ
+line_text width line = cells_of line (end_of line width) ++ 10 ∷ []
+
+abbrev pub plain_line : List ℕ → List ℕ
+plain_line text = map shown text ++ 10 ∷ []
+
+abbrev pub picture_text : PictureOf → List ℕ
+picture_text p =
+    flat_map plain_line p.head ++ 10 ∷ [] ++ line_text p.width p.heads ++ flat_map (line_text p.width) p.body ++ 10 ∷ [] ++ flat_map plain_line p.foot

@@ -1,0 +1,22 @@
+-- The texts of a row: what it says beside its instruction, with the tag of its sources, and in memory's
+-- column. The row's hart is that of its entry.
+use Rattle.std.specs.Prelude.{ℕ, List, map}
+use Rattle.step_machine.specs.declared.events.Entry.{Entry}
+use Rattle.step_machine.specs.Entries.{hart_of}
+use Rattle.chart.specs.Rows.{RowOf}
+use Rattle.chart.specs.Sayings.{effect_text, memory_text}
+use Rattle.chart.specs.Tags.{tag_text}
+
+pub record RowTextOf : Type 0 where
+  pub hart : ℕ
+  pub effect : List ℕ
+  pub tag : List ℕ
+  pub memory : List ℕ
+
+-- the texts of a row of these entries
+abbrev pub row_text : List (List ℕ) → List Entry → RowOf → RowTextOf
+row_text names es r =
+    record { hart = hart_of r.entry; effect = effect_text names r.entry; tag = tag_text r.sources; memory = memory_text names es r.landed r.entry }
+
+abbrev pub row_texts : List (List ℕ) → List Entry → List RowOf → List RowTextOf
+row_texts names es rows = map (row_text names es) rows

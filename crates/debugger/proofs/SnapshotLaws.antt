@@ -1,0 +1,153 @@
+-- A session's snapshots: each was taken where the run of the first events ended, and the session's own
+-- history began so.
+use Rattle.std.proofs.Common.{◌≡◌, ℕ, zero, suc, ◌+◌, ◌-◌, ◌*◌, ◌/◌, ◌%◌, ◌<◌, ◌≤◌, ◌⊎◌, inl, inr, List, [], ◌∷◌, ◌++◌, length, take, drop, get_or, Some, refl, sym, ◌∙◌, ap, subst, arith, append-nil, append_assoc, length-append, length-drop, length-take-le, take-append-drop, take_all, take-take}
+use Rattle.std.specs.List.{slice_get}
+use Rattle.std.proofs.Math.Seq.{take-append_seam}
+use Rattle.std.proofs.lemmas.Bool.{cases_lt}
+use Rattle.std.proofs.lemmas.List.{take-append-le, get_or_append_left, get_or_push, get_or-take}
+use Rattle.std.proofs.lemmas.Option.{slice_get_within, get_or_from_slice_get}
+use Rattle.step_machine.specs.declared.events.Entry.{Entry}
+use Rattle.step_machine.specs.declared.events.Event.{Event}
+use Rattle.step_machine.specs.declared.events.Outcome.{Outcome}
+use Rattle.step_machine.specs.History.{Start, History, history_of, up_to}
+use Rattle.step_machine.specs.Runs.{Happens, RunFrom, Run}
+use Rattle.step_machine.specs.Snapshots.{Taken, IsTakenAt}
+use Rattle.step_machine.proofs.Running.{shape_of, run-one, RunFrom-append}
+use Rattle.debugger.specs.Sessions.{Past}
+use Rattle.debugger.specs.Nearest.{snapshot_before, IsNearest}
+use Rattle.debugger.specs.inner.SnapshotsHeld.{IsTakenAfter, HasSnapshots}
+use Rattle.debugger.specs.declared.session.TheConstants.{SNAPSHOT_EVENTS}
+
+-- ---- a run only adds at the end
+
+-- the history goes on from the one before
+abbrev GoesOnFrom : History → History → Type 0
+GoesOnFrom t new = (es : List Entry) × (new ≡ history_of t.opening (t.entries ++ es))
+
+goes_on-happens : (B M : ℕ) (t : History) (ev : Event) (o : Outcome) (new : History) → Happens B M t ev o new → GoesOnFrom t new
+goes_on-happens B M t ev o new h =
+    elim (shape_of B M t ev o new h) [
+      | inl a ↦ (a.0 ∷ [], a.2.after)
+      | inr i ↦ ([], i.after ∙ ap (history_of t.opening) (sym (append-nil t.entries)))
+    ]
+
+goes_on-run : (B M : ℕ) (t : History) (evs : List Event) (new : History) → RunFrom B M t evs new → GoesOnFrom t new
+goes_on-run B M t [] new run = ([], run ∙ ap (history_of t.opening) (sym (append-nil t.entries)))
+goes_on-run B M t (ev ∷ evs) new run =
+    let first : GoesOnFrom t run.1 = goes_on-happens B M t ev run.0 run.1 run.2 in
+    let rest : GoesOnFrom run.1 new = goes_on-run B M run.1 evs new run.3 in (
+      first.0 ++ rest.0,
+      rest.1 ∙ ap (λ (m : History). history_of m.opening (m.entries ++ rest.0)) first.1 ∙ ap (history_of t.opening) (append_assoc t.entries first.0 rest.0),
+    )
+
+-- a run's events, cut in two
+run_cut : (B M : ℕ) (t : History) (evs more : List Event) (new : History) → RunFrom B M t (evs ++ more) new → (mid : History) × RunFrom B M t evs mid × RunFrom B M mid more new
+run_cut B M t [] more new run = (t, refl, run)
+run_cut B M t (ev ∷ evs) more new run =
+    let rest = run_cut B M run.1 evs more new run.3 in
+    (rest.0, (run.0, run.1, run.2, rest.1), rest.2)
+
+-- what the first events make is the front of what all of them make
+run_front : (B M : ℕ) (t : History) (evs more : List Event) (new mid : History) → RunFrom B M t (evs ++ more) new → RunFrom B M t evs mid → up_to (length mid.entries) new ≡ mid
+run_front B M t evs more new mid run first =
+    let cut = run_cut B M t evs more new run in
+    let same : cut.0 ≡ mid = run-one B M t evs cut.0 mid cut.1 first in
+    let on : GoesOnFrom mid new = subst (λ (u : History). GoesOnFrom u new) same (goes_on-run B M cut.0 more new cut.2) in
+    ap (up_to (length mid.entries)) on.1 ∙ ap (history_of mid.opening) (take-append_seam mid.entries on.0)
+
+-- ---- the snapshots
+
+-- of the opening
+pub opened_with : (B M : ℕ) (o : Start) (t : History) (s : Taken) → Run B M o [] t → IsTakenAt B M t s → HasSnapshots B M o [] (s ∷ [])
+opened_with B M o t s ran taken = record { count = refl; taken = at }
+  where
+    at : (k : ℕ) (d : Taken) → k < 1 → IsTakenAfter B M o (take (k * SNAPSHOT_EVENTS) []) (get_or (s ∷ []) k d)
+    at k d within = let first : k ≡ 0 = omega arith in rw first (t, ran, taken)
+
+-- an event more leaves those that were taken
+still_taken : (B M : ℕ) (o : Start) (evs : List Event) (ev : Event) (ss : List Taken) (k : ℕ) (d : Taken) → HasSnapshots B M o evs ss → k < length ss
+    → IsTakenAfter B M o (take (k * SNAPSHOT_EVENTS) (evs ++ ev ∷ [])) (get_or ss k d)
+still_taken B M o evs ev ss k d has within =
+    let before : k * SNAPSHOT_EVENTS ≤ length evs = omega (arith, has.count, within) in
+    subst (λ (es : List Event). IsTakenAfter B M o es (get_or ss k d)) (sym (take-append-le (k * SNAPSHOT_EVENTS) evs (ev ∷ []) before)) (has.taken k d within)
+
+-- an event more, after which none is taken
+pub none_taken : (B M : ℕ) (o : Start) (evs : List Event) (ev : Event) (ss : List Taken) → HasSnapshots B M o evs ss → ((length evs + 1) % SNAPSHOT_EVENTS ≡ 0 → ⊥)
+    → HasSnapshots B M o (evs ++ ev ∷ []) ss
+none_taken B M o evs ev ss has between = record {
+  count = let longer = length-append evs (ev ∷ []) in omega (arith, has.count, longer, between);
+  taken = λ k d within. still_taken B M o evs ev ss k d has within;
+}
+
+-- an event more, after which one is taken
+pub one_taken : (B M : ℕ) (o : Start) (evs : List Event) (ev : Event) (ss : List Taken) (t : History) (s : Taken) → HasSnapshots B M o evs ss → (length evs + 1) % SNAPSHOT_EVENTS ≡ 0
+    → Run B M o (evs ++ ev ∷ []) t → IsTakenAt B M t s → HasSnapshots B M o (evs ++ ev ∷ []) (ss ++ s ∷ [])
+one_taken B M o evs ev ss t s has due ran taken =
+    let longer : length (evs ++ ev ∷ []) ≡ length evs + 1 = length-append evs (ev ∷ []) in
+    let one_more : length (ss ++ s ∷ []) ≡ length ss + 1 = length-append ss (s ∷ []) in
+    record { count = omega (arith, has.count, longer, one_more, due); taken = λ k d within. at k d longer one_more within (cases_lt k (length ss)) }
+  where
+    at : (k : ℕ) (d : Taken) → length (evs ++ ev ∷ []) ≡ length evs + 1 → length (ss ++ s ∷ []) ≡ length ss + 1 → k < length (ss ++ s ∷ []) → (k < length ss) ⊎ (length ss ≤ k)
+        → IsTakenAfter B M o (take (k * SNAPSHOT_EVENTS) (evs ++ ev ∷ [])) (get_or (ss ++ s ∷ []) k d)
+    at k d longer one_more within (inl old) = rw (get_or_append_left ss (s ∷ []) d k old) (still_taken B M o evs ev ss k d has old)
+    at k d longer one_more within (inr new) =
+        let last : length ss ≡ k = omega (arith, one_more, within, new) in
+        let all : length (evs ++ ev ∷ []) ≤ k * SNAPSHOT_EVENTS = omega (arith, has.count, longer, last, due) in
+        rw (get_or_push ss s d k last) (rw (take_all (k * SNAPSHOT_EVENTS) (evs ++ ev ∷ []) all) (t, ran, taken))
+
+-- fewer events, with the snapshots that were taken by then
+pub cut_to : (B M : ℕ) (o : Start) (evs : List Event) (ss : List Taken) (n : ℕ) → HasSnapshots B M o evs ss → n ≤ length evs
+    → HasSnapshots B M o (take n evs) (take (n / SNAPSHOT_EVENTS + 1) ss)
+cut_to B M o evs ss n has within =
+    let few : length (take n evs) ≡ n = length-take-le n evs within in
+    let held : length (take (n / SNAPSHOT_EVENTS + 1) ss) ≡ n / SNAPSHOT_EVENTS + 1 = length-take-le (n / SNAPSHOT_EVENTS + 1) ss (omega (arith, has.count, within)) in
+    record { count = held ∙ ap (λ (m : ℕ). m / SNAPSHOT_EVENTS + 1) (sym few); taken = λ k d below. at k d (omega (arith, held, below)) }
+  where
+    at : (k : ℕ) (d : Taken) → k < n / SNAPSHOT_EVENTS + 1 → IsTakenAfter B M o (take (k * SNAPSHOT_EVENTS) (take n evs)) (get_or (take (n / SNAPSHOT_EVENTS + 1) ss) k d)
+    at k d below =
+        rw (get_or-take (n / SNAPSHOT_EVENTS + 1) ss k d below)
+        (rw (take-take (k * SNAPSHOT_EVENTS) n evs (omega (arith, below))) (has.taken k d (omega (arith, has.count, within, below))))
+
+-- ---- the nearest one
+
+-- what was taken after the first events is of the front of what all of them make
+pub nearest_of : (B M : ℕ) (p : Past) (ss : List Taken) (place : ℕ) (evs rest : List Event) (s : Taken) → Run B M p.opening p.events p.history
+    → HasSnapshots B M p.opening p.events ss → place ≤ length p.events → evs ≡ take place p.events → slice_get ss (length evs / SNAPSHOT_EVENTS) ≡ Some s
+    → rest ≡ drop (snapshot_before (length evs)) evs → IsNearest B M p place s rest
+nearest_of B M p ss place evs rest s ran has within cut is since =
+    let count : length evs ≡ place = ap length cut ∙ length-take-le place p.events within in
+    let k : ℕ = place / SNAPSHOT_EVENTS in
+    let first : List Event = take (snapshot_before place) p.events in
+    let others : List Event = drop (snapshot_before place) p.events in
+    let here : slice_get ss k ≡ Some s = ap (λ (n : ℕ). slice_get ss (n / SNAPSHOT_EVENTS)) (sym count) ∙ is in
+    let after : IsTakenAfter B M p.opening first s =
+    subst (IsTakenAfter B M p.opening first) (get_or_from_slice_get ss k s s here) (has.taken k s (slice_get_within ss k s here)) in
+    let whole : Run B M p.opening (first ++ others) p.history =
+    subst (λ (es : List Event). Run B M p.opening es p.history) (sym (take-append-drop (snapshot_before place) p.events)) ran in
+    let front : up_to s.count p.history ≡ after.0 =
+    ap (λ (n : ℕ). up_to n p.history) after.2.count ∙ run_front B M _ first others p.history after.0 whole after.1 in
+    let left : length (drop (snapshot_before (length evs)) evs) ≡ length evs - snapshot_before (length evs) = length-drop (snapshot_before (length evs)) evs in
+    record {
+      ran = subst (λ (t : History). Run B M p.opening first t) (sym front) after.1;
+      taken = subst (λ (t : History). IsTakenAt B M t s) (sym front) after.2;
+      events = since ∙ ap (λ (n : ℕ). drop (snapshot_before n) evs) count ∙ ap (drop (snapshot_before place)) cut;
+      few = omega (arith, ap length since, left);
+    }
+
+-- one of those that are left
+pub get_front : (m : ℕ) (ss : List Taken) (k : ℕ) (s : Taken) → slice_get (take m ss) k ≡ Some s → slice_get ss k ≡ Some s
+get_front zero ss k s is = cc
+get_front (suc m) [] k s is = cc
+get_front (suc m) (x ∷ ss) zero s is = is
+get_front (suc m) (x ∷ ss) (suc k) s is = get_front m ss k s is
+
+-- the events since the nearest snapshot, run from there, make what all up to the place make
+pub run_from_nearest : (B M : ℕ) (p : Past) (place : ℕ) (s : Taken) (rest : List Event) (new : History) → IsNearest B M p place s rest
+    → RunFrom B M (up_to s.count p.history) rest new → Run B M p.opening (take place p.events) new
+run_from_nearest B M p place s rest new near run =
+    let n : ℕ = snapshot_before place in
+    let front : take n p.events ≡ take n (take place p.events) = sym (take-take n place p.events (omega arith)) in
+    let whole : take n p.events ++ rest ≡ take place p.events =
+    ap (λ (es : List Event). es ++ rest) front ∙ ap (λ (es : List Event). take n (take place p.events) ++ es) near.events
+    ∙ take-append-drop n (take place p.events) in
+    subst (λ (es : List Event). Run B M p.opening es new) whole (RunFrom-append B M _ (take n p.events) (up_to s.count p.history) rest new near.ran run)

@@ -1,0 +1,180 @@
+-- What is read as a test's heading, and the words of a text in one line.
+use Rattle.std.proofs.Common.{◌≡◌, ◌↔◌, ℕ, false, List, [], ◌∷◌, ◌++◌, length, Option, Some, None, Result, Ok, Err, refl, sym, ap, subst, ◌∙◌, append-nil, append_assoc, arith}
+use Rattle.std.specs.Prelude.{IfOk, ◌==◌, nat_lt, codes, unwrap_or}
+use Rattle.std.specs.List.{filter, flat_map, join_with_byte, slice_index_or}
+use Rattle.std.proofs.lemmas.Bool.{ne_eqb}
+use Rattle.texts.specs.declared.pieces.Separators.TheVariants.{Gaps}
+use Rattle.texts.specs.Pieces.{is_blank, pieces, pieces_after}
+use Rattle.texts.specs.Cutting.{before, after, is_byte, without_front, tokens, NonePass}
+use Rattle.texts.specs.Results.{Gives}
+use Rattle.texts.proofs.CuttingLaws.{before_stop, after_stop}
+use Rattle.texts.proofs.ResultLaws.{bind_ok, ok_is}
+use Rattle.texts.proofs.TokenLaws.{filter_kept, first_is, tokens_cut}
+use Rattle.litmus_tokens.specs.Cleaning.{cleaned_text}
+use Rattle.litmus_tokens.proofs.CommentLaws.{is_cleaned, only_cleaned}
+use Rattle.litmus_reader.specs.declared.faults.LitmusFault.{LitmusFault}
+use Rattle.litmus_reader.specs.declared.marks.Mark.TheVariants as mark
+use Rattle.litmus_reader.specs.Marks.{before_line, from_line}
+use Rattle.litmus_reader.specs.Header.{behind_header, behind_brace}
+use Rattle.litmus_reader.specs.Init.{behind_init}
+use Rattle.litmus_reader.specs.Layout.{IsVisible, IsHeader, IsLaidOut}
+use Rattle.litmus_reader.specs.Reading.{Content}
+use Rattle.litmus_reader.specs.Grammar.{IsContent}
+use Rattle.litmus_reader.specs.Headings.{HeadingOf, in_one_line, with_word, IsHeading, first_line, name_in, condition_of, heading_in, heading_at}
+use Rattle.litmus_reader.proofs.ShapeLaws.{cut_only, front_of, visible_matches, first_only}
+use Rattle.litmus_reader.proofs.LayoutLaws.{layout_found, layout_only}
+
+-- ---- words in one line
+
+-- the words so far in one line, and those that follow
+abbrev pub carried : List ℕ → List (List ℕ) → List ℕ
+carried [] words = join_with_byte 32 words
+carried (c ∷ line) words = (c ∷ line) ++ flat_map (λ word. 32 ∷ word) words
+
+joined : (word : List ℕ) (words : List (List ℕ)) → join_with_byte 32 (word ∷ words) ≡ word ++ flat_map (λ next. 32 ∷ next) words
+joined word [] = sym (append-nil word)
+joined word (next ∷ words) = ap (λ (ys : List ℕ). word ++ 32 ∷ ys) (joined next words)
+
+abbrev kept : List (List ℕ) → List (List ℕ)
+kept pieces = filter (λ piece. nat_lt 0 (length piece)) pieces
+
+-- a further piece, which is a word or nothing
+carried_word : (line piece : List ℕ) (pieces : List (List ℕ)) → carried (with_word line piece) (kept pieces) ≡ carried line (kept (piece ∷ pieces))
+carried_word [] [] pieces = refl
+carried_word [] (c ∷ piece) pieces = rw (filter_kept (c ∷ piece) pieces (omega arith)) (sym (joined (c ∷ piece) (kept pieces)))
+carried_word (b ∷ line) [] pieces = rw (ne_eqb (length (b ∷ line)) 0 (λ none. omega (arith, none)), append-nil line) refl
+carried_word (b ∷ line) (c ∷ piece) pieces =
+    let some : (length (b ∷ line) == 0) ≡ false = ne_eqb (length (b ∷ line)) 0 (λ none. omega (arith, none)) in
+    let more : (length (c ∷ piece) == 0) ≡ false = ne_eqb (length (c ∷ piece)) 0 (λ none. omega (arith, none)) in
+    rw (some, more, filter_kept (c ∷ piece) pieces (omega arith))
+    (ap (λ (ys : List ℕ). b ∷ ys) (append_assoc line (32 ∷ c ∷ piece) (flat_map (λ next. 32 ∷ next) (kept pieces))))
+
+pub carried_turn : (line piece new bytes whole : List ℕ) (after : Option (List ℕ)) → new ≡ with_word line piece
+    → pieces Gaps bytes ≡ piece ∷ pieces_after Gaps after
+    → carried line (kept (pieces Gaps bytes)) ≡ whole → carried new (kept (pieces_after Gaps after)) ≡ whole
+carried_turn line piece new bytes whole after is cut so_far =
+    ap (λ (ys : List ℕ). carried ys (kept (pieces_after Gaps after))) is ∙ carried_word line piece (pieces_after Gaps after)
+    ∙ ap (λ (ps : List (List ℕ)). carried line (kept ps)) (sym cut) ∙ so_far
+
+pub carried_all : (line : List ℕ) → carried line [] ≡ line
+carried_all [] = refl
+carried_all (c ∷ line) = append-nil (c ∷ line)
+
+-- ---- the name
+
+-- the header line's tokens
+pub header_tokens : (line : List ℕ) → IsHeader line → (name : List ℕ) × (others : List (List ℕ)) × (tokens line ≡ codes "RISCV" ∷ name ∷ others)
+header_tokens line (blanks, gap, rest, b, c, are, apart, solid, whole) =
+    let word : List ℕ = codes "RISCV" ++ b ∷ (gap ++ c ∷ rest) in
+    let plain : NonePass is_blank (codes "RISCV") = (refl, (refl, (refl, (refl, (refl, tt))))) in
+    let front : word ≡ without_front line = sym (ap without_front whole ∙ front_of blanks 82 (codes "ISCV" ++ b ∷ (gap ++ c ∷ rest)) are refl) in
+    let first = first_is line word (codes "RISCV") (Some (gap ++ c ∷ rest)) front (omega arith)
+    (sym (before_stop is_blank (codes "RISCV") b (gap ++ c ∷ rest) plain apart.0))
+    (sym (after_stop is_blank (codes "RISCV") b (gap ++ c ∷ rest) plain apart.0)) in
+    let second = first_is (gap ++ c ∷ rest) (c ∷ rest) (before is_blank (c ∷ rest)) (after is_blank (c ∷ rest))
+    (sym (front_of gap c rest apart.1 solid)) (omega arith) refl refl in
+    let name = before is_blank (c ∷ rest) in
+    let behind = unwrap_or (after is_blank (c ∷ rest)) [] in (
+      name,
+      tokens behind,
+      tokens_cut line (codes "RISCV") (gap ++ c ∷ rest) first
+          ∙ ap (λ (ts : List (List ℕ)). codes "RISCV" ∷ ts) (tokens_cut (gap ++ c ∷ rest) name behind second),
+    )
+
+-- the line that is read as the header
+header_read : (text init table asked : List ℕ) (laid : IsLaidOut text init table asked) → first_line (from_line mark.Visible text) ≡ laid.header
+header_read text init table asked laid =
+    let from = first_only mark.Visible IsVisible visible_matches text laid.blank_lines laid.headed laid.begins in
+    rw from.1 (cut_only laid.headed laid.header laid.below laid.first).0
+
+name_read : (text init table asked : List ℕ) (laid : IsLaidOut text init table asked) (name : List ℕ) (others : List (List ℕ))
+    → tokens laid.header ≡ codes "RISCV" ∷ name ∷ others → name_in text ≡ name
+name_read text init table asked laid name others e = rw (header_read text init table asked laid, e) refl
+
+-- ---- the heading
+
+abbrev heading : (name condition : List ℕ) → HeadingOf
+heading name condition = record { name = name; condition = condition }
+
+record Asking (from : Option (List ℕ)) (condition : List ℕ) : Type 0 where
+  asked : List ℕ
+  begins : from ≡ Some asked
+  is : condition ≡ in_one_line asked
+
+asking : (from : Option (List ℕ)) (condition : List ℕ) → condition_of from ≡ Ok condition → Asking from condition
+asking None condition e = absurd cc
+asking (Some asked) condition e = record { asked = asked; begins = refl; is = sym (ok_is LitmusFault (in_one_line asked) condition e) }
+
+some_behind : (from : Option (List ℕ)) (rest : List ℕ) → behind_init from ≡ Ok rest → from ≡ Some rest
+some_behind None rest e = absurd cc
+some_behind (Some text) rest e = ap (λ (t : List ℕ). Some t) (ok_is LitmusFault text rest e)
+
+pub heading_found : (text : List ℕ) (is : HeadingOf) → heading_at text ≡ Ok is → IsHeading text is
+unfolding heading_at heading_in
+heading_found text is e =
+    let clean = cleaned_text text in
+    let first = bind_ok (behind_header clean) _ is e in
+    let second = bind_ok (behind_brace first.0) _ is first.2 in
+    let third = bind_ok (behind_init (after (is_byte 125) second.0)) _ is second.2 in
+    let fourth = bind_ok (condition_of (from_line mark.Condition third.0)) _ is third.2 in
+    let asks = asking (from_line mark.Condition third.0) fourth.0 fourth.1 in
+    let closed = some_behind (after (is_byte 125) second.0) third.0 third.1 in
+    let laid = layout_found clean first.0 second.0 third.0 asks.asked first.1 second.1 closed asks.begins in
+    let named = header_tokens laid.header laid.named in
+    let same : heading (name_in clean) fourth.0 ≡ is = ok_is LitmusFault (heading (name_in clean) fourth.0) is fourth.2 in
+    let name : named.0 ≡ is.name =
+    sym (name_read clean _ _ asks.asked laid named.0 named.1 named.2) ∙ ap (λ (h : HeadingOf). h.name) same in
+    record {
+      clean = clean;
+      init = before (is_byte 125) second.0;
+      table = before_line mark.Condition third.0;
+      asked = asks.asked;
+      others = named.1;
+      cleaned = is_cleaned text;
+      laid_out = laid;
+      named = named.2 ∙ ap (λ (w : List ℕ). codes "RISCV" ∷ w ∷ named.1) name;
+      asks = sym (ap (λ (h : HeadingOf). h.condition) same) ∙ asks.is;
+    }
+
+pub heading_only : (text : List ℕ) (is : HeadingOf) → IsHeading text is → heading_at text ≡ Ok is
+unfolding heading_at heading_in
+heading_only text is h =
+    let clean : cleaned_text text ≡ h.clean = only_cleaned text h.clean h.cleaned in
+    let laying = layout_only h.clean h.init h.table h.asked h.laid_out in
+    let name = name_read h.clean h.init h.table h.asked h.laid_out is.name h.others h.named in
+    rw (clean, laying.headed, laying.braced, laying.closed, laying.asks, name, ← h.asks) refl
+
+-- what a reader answers
+pub found_heading : {X E : Type 0} (fault_of : E → Option LitmusFault) (view : X → HeadingOf) (text : List ℕ) (result : Result X E)
+    → Gives fault_of view result (heading_at text) → IfOk result (λ x. IsHeading text (view x))
+found_heading fault_of view text (Ok x) gives = heading_found text (view x) gives
+found_heading fault_of view text (Err e) gives = tt
+
+pub only_heading : {X E : Type 0} (fault_of : E → Option LitmusFault) (view : X → HeadingOf) (text : List ℕ) (is : HeadingOf) (result : Result X E)
+    → Gives fault_of view result (heading_at text) → IsHeading text is → Gives fault_of view result (Ok is)
+only_heading fault_of view text is result gives h =
+    subst (λ (answer : Result HeadingOf LitmusFault). Gives fault_of view result answer) (heading_only text is h) gives
+
+pub one_heading : (text : List ℕ) (a b : HeadingOf) → IsHeading text a → IsHeading text b → a ≡ b
+one_heading text a b first second = ok_is LitmusFault a b (sym (heading_only text a first) ∙ heading_only text b second)
+
+-- a text with a test has a heading
+pub test_headed : (text : List ℕ) (content : Content) → IsContent text content → (is : HeadingOf) × IsHeading text is
+test_headed text content c =
+    let named = header_tokens c.laid_out.header c.laid_out.named in (
+      heading named.0 (in_one_line c.asked),
+      record {
+        clean = c.clean;
+        init = c.init;
+        table = c.table;
+        asked = c.asked;
+        others = named.1;
+        cleaned = c.cleaned;
+        laid_out = c.laid_out;
+        named = named.2;
+        asks = refl;
+      },
+    )
+
+pub headed_exactly : (text : List ℕ) (is : HeadingOf) → (heading_at text ≡ Ok is) ↔ IsHeading text is
+headed_exactly text is = (heading_found text is, heading_only text is)

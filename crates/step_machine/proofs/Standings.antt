@@ -1,0 +1,180 @@
+-- A sound machine stays sound, whatever the event.
+use Rattle.std.proofs.Common.{◌≡◌, ℕ, ◌-◌, ◌≤◌, List, [], length, get_or, Option, Some, None, refl, sym, ◌∙◌, ap, subst, arith}
+use Rattle.std.specs.Prelude.{map, option_map, All}
+use Rattle.std.specs.List.{slice_get}
+use Rattle.std.proofs.lemmas.List.{length-map}
+use Rattle.std.proofs.lemmas.Option.{slice_get_within, slice_get-get_or, get_or_from_slice_get, slice_get-map}
+use Rattle.hart.specs.State.{HartState, HartView}
+use Rattle.hart.specs.Steps.{stepped}
+use Rattle.hart.specs.declared.need.Report.{Report}
+use Rattle.step_machine.specs.declared.events.Event.{Event}
+use Rattle.step_machine.specs.declared.events.Entry.{Entry}
+use Rattle.step_machine.specs.declared.events.Entry.TheVariants as entry
+use Rattle.step_machine.specs.declared.events.Outcome.{Outcome}
+use Rattle.step_machine.specs.declared.events.Outcome.TheVariants as outcome
+use Rattle.step_machine.specs.History.{Start, History, unrun, FitsIn}
+use Rattle.step_machine.specs.Entries.{reported}
+use Rattle.step_machine.specs.Runs.{Happens}
+use Rattle.step_machine.specs.inner.Stored.{Stored, FitStored}
+use Rattle.step_machine.specs.inner.Config.{Config, Fit, AllHaveRoom, SameButRoom, without_room, beginning, step_at, after_entry, after_outcome, entries_after, outcome_of, opened_config}
+use Rattle.step_machine.specs.inner.Representation.{view_state, Holds, Represents, IsMachineAt}
+use Rattle.step_machine.proofs.Carried.{carried}
+use Rattle.step_machine.proofs.Fitting.{length-step_at}
+use Rattle.step_machine.proofs.Happening.{history_after, outcome_of-happens}
+use Rattle.step_machine.proofs.Opens.{fit_opened, tied_opened}
+use Rattle.step_machine.proofs.Rooms.{written_at_place, same-length}
+use Rattle.step_machine.proofs.Running.{kept-unrun, kept_after}
+use Rattle.step_machine.proofs.Stays.{first_same}
+
+-- room is no part of what a history says
+
+without_room_at : (c : Config) (h : ℕ) → option_map without_room (slice_get c.harts h) ≡ slice_get (map without_room c.harts) h
+without_room_at c h = sym (slice_get-map without_room c.harts h)
+
+same_without_room : (c d : Config) (h : ℕ) → SameButRoom c d → option_map without_room (slice_get d.harts h) ≡ option_map without_room (slice_get c.harts h)
+same_without_room c d h same = without_room_at d h ∙ ap (λ (ts : List (HartState × List Report)). slice_get ts h) same.harts ∙ sym (without_room_at c h)
+
+same_states : (so to : Option HartView) → option_map without_room so ≡ option_map without_room to → option_map view_state so ≡ option_map view_state to
+same_states None None is = refl
+same_states None (Some y) is = cc
+same_states (Some x) None is = cc
+same_states (Some x) (Some y) is = let both : without_room x ≡ without_room y = cc in ap (λ (p : HartState × List Report). Some p.0) both
+
+-- what is so of a hart is so of another that looks the same
+same_at : {X : Type 0} (f : HartView → X) (P : X → Type 0) (so : Option HartView) (v : HartView) → option_map f so ≡ Some (f v) → ((w : HartView) → so ≡ Some w → P (f w)) → P (f v)
+same_at f P None v is all = cc
+same_at f P (Some x) v is all = let both : f x ≡ f v = cc in subst P both (all x refl)
+
+pub tied_same : (M : ℕ) (t : History) (c d : Config) → Represents M t c → SameButRoom c d → Represents M t d
+tied_same M t c d tied same = record {
+  states = λ h. same_states (slice_get d.harts h) (slice_get c.harts h) (same_without_room c d h same) ∙ tied.states h;
+  firsts = λ h. first_same c.harts d.harts h same.firsts ∙ tied.firsts h;
+  reports = λ h v is. same_at without_room (λ p. p.1 ≡ reported h t.entries) (slice_get c.harts h) v (sym (same_without_room c d h same) ∙ ap (option_map without_room) is) (tied.reports h);
+  holds = subst (Holds M t) (sym same.stored) tied.holds;
+}
+
+-- room after a step
+
+step_room : (hs : List HartView) (h v n : ℕ) (so : Option HartView) → slice_get hs h ≡ so → AllHaveRoom n hs → AllHaveRoom (n - 1) (step_at hs h v so)
+step_room hs h v n None is all = λ k w got. (let some : n ≤ w.room = all k w got in omega arith)
+step_room hs h v n (Some x) is all = λ k w got.
+    (let here : n ≤ x.room = all h x is in
+    let stepped_room : n - 1 ≤ (stepped x v).room = omega arith in
+    written_at_place (λ (y : HartView). n - 1 ≤ y.room) hs h k (stepped x v) w (slice_get_within hs h x is) stepped_room
+    (λ y other. (let some : n ≤ y.room = all k y other in omega arith)) got)
+
+less_room : (hs : List HartView) (n : ℕ) → AllHaveRoom n hs → AllHaveRoom (n - 1) hs
+less_room hs n all h v is = let some : n ≤ v.room = all h v is in omega arith
+
+entry_room : (c : Config) (e : Entry) (n : ℕ) → AllHaveRoom n c.harts → AllHaveRoom (n - 1) (after_entry c e).harts
+entry_room c (entry.Inner h) n all = step_room c.harts h 0 n (slice_get c.harts h) refl all
+entry_room c (entry.Load h a width v) n all = step_room c.harts h v n (slice_get c.harts h) refl all
+entry_room c (entry.Store h a width v) n all = step_room c.harts h 0 n (slice_get c.harts h) refl all
+entry_room c (entry.Amo h a old new) n all = step_room c.harts h old n (slice_get c.harts h) refl all
+entry_room c (entry.Fence h full) n all = step_room c.harts h 0 n (slice_get c.harts h) refl all
+entry_room c (entry.Next h w) n all = step_room c.harts h 0 n (slice_get c.harts h) refl all
+entry_room c (entry.Took h i w) n all = step_room c.harts h 0 n (slice_get c.harts h) refl all
+entry_room c (entry.Closed h i) n all = step_room c.harts h 0 n (slice_get c.harts h) refl all
+entry_room c (entry.Ended h) n all = step_room c.harts h 0 n (slice_get c.harts h) refl all
+entry_room c (entry.Stopped h why) n all = step_room c.harts h 0 n (slice_get c.harts h) refl all
+entry_room c (entry.Land h) n all = less_room c.harts n all
+
+entry_count : (c : Config) (e : Entry) → length (after_entry c e).harts ≡ length c.harts
+entry_count c (entry.Inner h) = length-step_at c.harts h 0 (slice_get c.harts h)
+entry_count c (entry.Load h a width v) = length-step_at c.harts h v (slice_get c.harts h)
+entry_count c (entry.Store h a width v) = length-step_at c.harts h 0 (slice_get c.harts h)
+entry_count c (entry.Amo h a old new) = length-step_at c.harts h old (slice_get c.harts h)
+entry_count c (entry.Fence h full) = length-step_at c.harts h 0 (slice_get c.harts h)
+entry_count c (entry.Next h w) = length-step_at c.harts h 0 (slice_get c.harts h)
+entry_count c (entry.Took h i w) = length-step_at c.harts h 0 (slice_get c.harts h)
+entry_count c (entry.Closed h i) = length-step_at c.harts h 0 (slice_get c.harts h)
+entry_count c (entry.Ended h) = length-step_at c.harts h 0 (slice_get c.harts h)
+entry_count c (entry.Stopped h why) = length-step_at c.harts h 0 (slice_get c.harts h)
+entry_count c (entry.Land h) = refl
+
+-- openings
+
+pub sound_opened : (B M : ℕ) (o : Start) → FitsIn M o → IsMachineAt B M (unrun o) (opened_config M o) 0
+sound_opened B M o fits = record {
+  fits = fits;
+  kept = kept-unrun B M o;
+  tied = tied_opened M o;
+  fit = fit_opened M o fits;
+  count = length-map o.harts _;
+  room = λ h v is. omega arith;
+}
+
+-- a machine with other room is as fit, and as sound
+
+pub hart_at : (P : HartView → Type 0) (hs : List HartView) → All P hs → (h : ℕ) (v : HartView) → slice_get hs h ≡ Some v → P v
+hart_at P hs all h v is = subst P (get_or_from_slice_get hs h v v is) (all h v (slice_get_within hs h v is))
+
+words_of : (M : ℕ) (c : Config) → Fit M c → (h : ℕ) (v : HartView) → slice_get c.harts h ≡ Some v → v.state.words ≡ M
+words_of M c fit = hart_at (λ v. v.state.words ≡ M) c.harts fit.harts
+
+pub fit_same : (M : ℕ) (c d : Config) → Fit M c → SameButRoom c d → Fit M d
+fit_same M c d fit same = record {
+  buffers = ap (λ (s : Stored). length s.buffers) same.stored ∙ fit.buffers ∙ sym (same-length c d same);
+  harts = λ h x lt. (let here : slice_get d.harts h ≡ Some (get_or d.harts h x) = slice_get-get_or d.harts h x lt in
+      same_at without_room (λ p. p.0.words ≡ M) (slice_get c.harts h) (get_or d.harts h x) (sym (same_without_room c d h same) ∙ ap (option_map without_room) here) (words_of M c fit h));
+  firsts = λ h x lt. (let here : slice_get d.harts h ≡ Some (get_or d.harts h x) = slice_get-get_or d.harts h x lt in
+      same_at beginning (λ s. s.words ≡ M) (slice_get c.harts h) (get_or d.harts h x) (sym (first_same c.harts d.harts h same.firsts) ∙ ap (option_map beginning) here)
+      (hart_at (λ v. v.first.words ≡ M) c.harts fit.firsts h));
+  stored = subst (FitStored M) (sym same.stored) fit.stored;
+}
+
+pub sound_same : (B M n m : ℕ) (t : History) (c d : Config) → IsMachineAt B M t c n → SameButRoom c d → AllHaveRoom m d.harts → IsMachineAt B M t d m
+sound_same B M n m t c d sound same room = record {
+  fits = sound.fits;
+  kept = sound.kept;
+  tied = tied_same M t c d sound.tied same;
+  fit = fit_same M c d sound.fit same;
+  count = same-length c d same ∙ sound.count;
+  room = room;
+}
+
+-- steps
+
+pub sound_happens : (B M n : ℕ) (t : History) (c : Config) (ev : Event) → IsMachineAt B M t c n → Happens B M t ev (outcome_of B c ev) (history_after t (outcome_of B c ev))
+sound_happens B M n t c ev sound = outcome_of-happens B M t c ev (record { kept = sound.kept; tied = sound.tied }) (words_of M c sound.fit)
+
+still : (B M n : ℕ) (t : History) (c : Config) → IsMachineAt B M t c n → IsMachineAt B M t c (n - 1)
+still B M n t c sound = record { fits = sound.fits; kept = sound.kept; tied = sound.tied; fit = sound.fit; count = sound.count; room = less_room c.harts n sound.room }
+
+sound_outcome : (B M n : ℕ) (t : History) (c : Config) (ev : Event) (o : Outcome) → IsMachineAt B M t c n → Happens B M t ev o (history_after t o) → Fit M (after_outcome c o) → IsMachineAt B M (history_after t o) (after_outcome c o) (n - 1)
+sound_outcome B M n t c ev (outcome.Did e) sound adds fit = record {
+  fits = sound.fits;
+  kept = kept_after B M t e sound.kept adds.follows;
+  tied = carried B M t c e sound.kept sound.tied sound.fit adds.follows;
+  fit = fit;
+  count = entry_count c e ∙ sound.count;
+  room = entry_room c e n sound.room;
+}
+sound_outcome B M n t c ev outcome.Waited sound idles fit = still B M n t c sound
+sound_outcome B M n t c ev outcome.NothingToLand sound idles fit = still B M n t c sound
+sound_outcome B M n t c ev outcome.Over sound idles fit = still B M n t c sound
+sound_outcome B M n t c ev outcome.NoHart sound idles fit = still B M n t c sound
+
+pub sound_held : (B M : ℕ) (o : Start) (es : List Entry) (c : Config) → FitsIn M o → es ≡ [] → c ≡ opened_config M o → IsMachineAt B M (record { opening = o; entries = es }) c 0
+sound_held B M o es c fits none is =
+    subst (λ (k : Config). IsMachineAt B M (record { opening = o; entries = es }) k 0) (sym is)
+    (subst (λ (xs : List Entry). IsMachineAt B M (record { opening = o; entries = xs }) (opened_config M o) 0) (sym none) (sound_opened B M o fits))
+
+-- the same entries and the same machine except for room
+pub sound_moved : (B M n m : ℕ) (o : Start) (es moved : List Entry) (c d : Config) → IsMachineAt B M (record { opening = o; entries = es }) c n → moved ≡ es → SameButRoom c d → AllHaveRoom m d.harts → IsMachineAt B M (record { opening = o; entries = moved }) d m
+sound_moved B M n m o es moved c d sound is same room =
+    subst (λ (xs : List Entry). IsMachineAt B M (record { opening = o; entries = xs }) d m) (sym is) (sound_same B M n m (record { opening = o; entries = es }) c d sound same room)
+
+-- a step of a sound machine, and what it leaves
+pub happens_stepped : (B M n : ℕ) (t : History) (c : Config) (ev : Event) (o : Outcome) (es : List Entry) → IsMachineAt B M t c n → o ≡ outcome_of B c ev → es ≡ entries_after t.entries o → Happens B M t ev o (record { opening = t.opening; entries = es })
+happens_stepped B M n t c ev o es sound is added =
+    subst (λ (xs : List Entry). Happens B M t ev o (record { opening = t.opening; entries = xs })) (sym added)
+    (subst (λ (p : Outcome). Happens B M t ev p (history_after t p)) (sym is) (sound_happens B M n t c ev sound))
+
+pub sound_stepped : (B M n : ℕ) (t : History) (c d : Config) (ev : Event) (o : Outcome) (es : List Entry) → IsMachineAt B M t c n → o ≡ outcome_of B c ev → d ≡ after_outcome c o → Fit M d → es ≡ entries_after t.entries o → IsMachineAt B M (record { opening = t.opening; entries = es }) d (n - 1)
+sound_stepped B M n t c d ev o es sound is after fit added =
+    subst (λ (k : Config). IsMachineAt B M (record { opening = t.opening; entries = es }) k (n - 1)) (sym after)
+    (subst (λ (xs : List Entry). IsMachineAt B M (record { opening = t.opening; entries = xs }) (after_outcome c o) (n - 1)) (sym added)
+    (sound_outcome B M n t c ev o sound
+    (subst (λ (p : Outcome). Happens B M t ev p (history_after t p)) (sym is) (sound_happens B M n t c ev sound))
+    (subst (Fit M) after fit)))

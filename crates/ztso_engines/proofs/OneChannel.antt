@@ -1,0 +1,253 @@
+-- What answers `channel` is one answer.
+use Rattle.std.proofs.Common.{◌≡◌, ℕ, zero, suc, ◌%◌, ◌≤◌, ◌<◌, ◌⊎◌, inl, inr, Bool, false, List, [], ◌∷◌, All, length, take, Result, Ok, Err, refl, sym, ap, ap₂, ◌∙◌, subst, arith}
+use Rattle.std.specs.List.{flat_map, slice_index_or}
+use Rattle.std.specs.Prelude.{slice_index}
+use Rattle.std.proofs.lemmas.Bool.{cases_lt, cases_eq}
+use Rattle.std.proofs.lemmas.List.{get_or-take, length-take-le}
+use Rattle.step_machine.specs.History.{History, unrun}
+use Rattle.step_machine.specs.Entries.{reported}
+use Rattle.step_machine.specs.declared.events.Event.{Event}
+use Rattle.step_machine.proofs.Running.{run-one}
+use Rattle.poll_close.specs.Layout.{Layout, block_size, opening_at}
+use Rattle.poll_close.specs.Laws.{AreWords, Ring, AcceptedAt}
+use Rattle.poll_close.specs.Refusals.{HasRing, HasPlace, FitsAt, IsBeyond, RefusesAt, ZeroAt, ZeroWordAt}
+use Rattle.poll_close.specs.declared.faults.Refused.TheVariants as refused
+use Rattle.poll_close.specs.declared.faults.RefusedAt.{RefusedAt}
+use Rattle.poll_close.specs.declared.faults.RefusedAt.TheVariants as why
+use Rattle.engine_parts.specs.declared.fault.Fault.TheVariants as fault
+use Rattle.engine_parts.specs.declared.fault.Position.{Position}
+use Rattle.engine_parts.specs.declared.fault.Position.TheVariants.{Nowhere, Word}
+use Rattle.engine_parts.specs.declared.fault.Refusal.{Refusal}
+use Rattle.engine_parts.specs.Engines.{Output, Accepted, AreAlike, judged}
+use Rattle.engine_parts.specs.Schedules.{events_of}
+use Rattle.engine_parts.proofs.Judging.{accepted_judged}
+use Rattle.recorder.proofs.HeadLaws.{one_plain}
+use Rattle.ztso_engines.specs.Lists.{SaysLists, lists_at}
+use Rattle.ztso_engines.specs.Channels.{HasNoChannel, IsUnfilled, IsChannelAnswer, IsDelivery, IsNoLists, report_line, fault_from}
+use Rattle.ztso_engines.specs.Channels as channels
+use Rattle.ztso_engines.proofs.ListTexts.{lists_read, one_lists}
+use Rattle.ztso_engines.proofs.OneAnswer.{same_output, one_refusal, schedule_or_refusal}
+
+lists_or_refusal : (input : List ℕ) (lists : List (List ℕ)) (r : Refusal) → Accepted SaysLists input lists → IsNoLists input r → ⊥
+lists_or_refusal input lists r is refused =
+    let read : judged lists_at input ≡ Ok lists = accepted_judged lists_at SaysLists input lists (lists_read input lists) is in
+    absurd cc
+
+-- ---- the first word that is 0
+
+neither_before : (i m : ℕ) → (i < m → ⊥) → (m < i → ⊥) → i ≡ m
+neither_before i m early late = at (cases_lt i m) (cases_lt m i)
+  where
+    at : (i < m) ⊎ (m ≤ i) → (m < i) ⊎ (i ≤ m) → i ≡ m
+    at (inl less) other = absurd (early less)
+    at (inr ge) (inl less) = absurd (late less)
+    at (inr ge) (inr le) = omega (arith, ge, le)
+
+none_before : (ws : List ℕ) (j n : ℕ) → ZeroAt ws j → ZeroAt ws n → j < n → ⊥
+none_before ws j n first other less =
+    let long : j < length (take n ws) = omega (arith, length-take-le n ws (omega (arith, other.within)), less) in
+    (other.first j 0 long).1 (get_or-take n ws j 0 less ∙ first.zero)
+
+no_list_before : (lists : List (List ℕ)) (i j m n : ℕ) → ZeroWordAt lists i j → ZeroWordAt lists m n → i < m → ⊥
+no_list_before lists i j m n first other less =
+    let long : i < length (take m lists) = omega (arith, length-take-le m lists (omega (arith, other.within)), less) in
+    let words : AreWords (slice_index_or lists i []) = subst AreWords (get_or-take m lists i [] less) (other.first i [] long) in
+    (words j 0 first.zero.within).1 first.zero.zero
+
+one_zero : (lists : List (List ℕ)) (i j m n : ℕ) → ZeroWordAt lists i j → ZeroWordAt lists m n → (i ≡ m) × (j ≡ n)
+one_zero lists i j m n first other =
+    let lists_same : m ≡ i = neither_before m i (no_list_before lists m n i j other first) (no_list_before lists i j m n first other) in
+    let there : ZeroAt (slice_index_or lists i []) n = subst (λ (k : ℕ). ZeroAt (slice_index_or lists k []) n) lists_same other.zero in
+    let places_same : j ≡ n = neither_before j n (none_before _ j n first.zero there) (none_before _ n j there first.zero) in
+    (sym lists_same, places_same)
+
+-- ---- the first reason
+
+-- the numbers of the refusals, in the order of what is asked
+abbrev numbers : List ℕ
+numbers = 17 ∷ 18 ∷ 19 ∷ 41 ∷ 42 ∷ 43 ∷ 20 ∷ 16 ∷ []
+
+module _ (ring : Ring) (M : ℕ) (l : Layout) (lists : List (List ℕ)) where
+  -- what is asked of lists and a layout
+  abbrev Asked : ℕ → Type 0
+  Asked zero = 1 ≤ length lists
+  Asked (suc zero) = length lists ≤ 63
+  Asked (suc (suc zero)) = ring.least ≤ l.size
+  Asked (suc (suc (suc zero))) = l.base % 4 ≡ 0
+  Asked (suc (suc (suc (suc zero)))) = l.stride % 4 ≡ 0
+  Asked (suc (suc (suc (suc (suc zero))))) = block_size l.size ≤ l.stride
+  Asked (suc (suc (suc (suc (suc (suc zero)))))) = FitsAt M (length lists) l
+  Asked (suc (suc (suc (suc (suc (suc (suc k))))))) = All AreWords lists
+
+  -- the first so many of these hold
+  abbrev Passes : ℕ → Type 0
+  Passes zero = Unit {0}
+  Passes (suc k) = Passes k × Asked k
+
+  earlier : (k turn : ℕ) → k < turn → Passes turn → Asked k
+  earlier k zero less passes = absurd (omega (arith, less))
+  earlier k (suc turn) less passes = elim (cases_eq k turn) [
+    | inl same ↦ subst Asked (sym same) passes.1
+    | inr other ↦ earlier k turn (omega (arith, less, other)) passes.0
+  ]
+
+  ring_passes : HasRing ring lists l.size → Passes 3
+  ring_passes has = (((tt, has.some_sender), has.senders), has.size)
+
+  place_passes : HasPlace ring lists l → Passes 6
+  place_passes has = (((ring_passes has.has_ring, has.base), has.stride), has.room)
+
+  all_pass : AcceptedAt ring M lists l → Passes 8
+  all_pass is = (
+    (
+      place_passes (record { has_ring = record { some_sender = is.some_sender; senders = is.senders; size = is.size }; base = is.base; stride = is.stride; room = is.room }),
+      record { ends = is.ends; fits = is.fits; opens = is.opens },
+    ),
+    is.words,
+  )
+
+  too_far : FitsAt M (length lists) l → IsBeyond M (length lists) l → ⊥
+  too_far is (inl ends) = omega (arith, is.ends, ends)
+  too_far is (inr (inl fits)) = omega (arith, is.fits, fits)
+  too_far is (inr (inr opens)) = omega (arith, is.opens, opens)
+
+  no_zero : (i j : ℕ) → All AreWords lists → ZeroWordAt lists i j → ⊥
+  no_zero i j words found = (words i [] found.within j 0 found.zero.within).1 found.zero.zero
+
+  -- the first of these that doesn't hold, and the refusal for it
+  record Stops (r : Refusal) : Type 0 where
+    turn : ℕ
+    known : turn < 8
+    passes : Passes turn
+    fails : Asked turn → ⊥
+    number : r.number ≡ slice_index numbers turn
+    plain : (turn ≡ 7 → ⊥) → r.place ≡ Nowhere
+    last : turn ≡ 7 → (i : ℕ) × (j : ℕ) × ZeroWordAt lists i j × (r.place ≡ Word i j)
+
+  stops_at : (turn : ℕ) (r : Refusal) → turn < 7 → Passes turn → (Asked turn → ⊥)
+      → fault.Refused (record { number = slice_index numbers turn; place = Nowhere }) ≡ fault.Refused r → Stops r
+  stops_at turn r less passes fails told =
+      let is : record { number = slice_index numbers turn; place = Nowhere } ≡ r = cc in
+      record {
+        turn = turn;
+        known = omega (arith, less);
+        passes = passes;
+        fails = fails;
+        number = ap (λ (x : Refusal). x.number) (sym is);
+        plain = λ other. ap (λ (x : Refusal). x.place) (sym is);
+        last = λ at. absurd (omega (arith, less, at));
+      }
+
+  stops : (because : RefusedAt) (r : Refusal) → IsUnfilled because → RefusesAt ring M lists l because → fault_from because ≡ fault.Refused r → Stops r
+  stops (why.Lists refused.NoMemory) r unfilled refuses told = absurd cc
+  stops (why.Lists refused.NoSenders) r unfilled refuses told = stops_at 0 r (omega arith) tt (λ some. omega (arith, some, refuses)) told
+  stops (why.Lists refused.TooManySenders) r unfilled refuses told =
+      stops_at 1 r (omega arith) (tt, omega (arith, refuses)) (λ few. omega (arith, few, refuses)) told
+  stops (why.Lists refused.RingTooSmall) r unfilled refuses told =
+      stops_at 2 r (omega arith) ((tt, refuses.0), refuses.1) (λ large. omega (arith, large, refuses.2)) told
+  stops why.UnevenBase r unfilled refuses told = stops_at 3 r (omega arith) (ring_passes refuses.0) refuses.1 told
+  stops why.UnevenStride r unfilled refuses told = stops_at 4 r (omega arith) (ring_passes refuses.0, refuses.1) refuses.2 told
+  stops why.BlocksMeet r unfilled refuses told =
+      stops_at 5 r (omega arith) ((ring_passes refuses.0, refuses.1), refuses.2) (λ room. omega (arith, room, refuses.3)) told
+  stops (why.Lists refused.DoesNotFit) r unfilled refuses told = stops_at 6 r (omega arith) (place_passes refuses.0) (λ fits. too_far fits refuses.1) told
+  stops (why.FilledBlock word) r unfilled refuses told = absurd unfilled
+  stops (why.Lists (refused.ZeroWord sender word)) r unfilled refuses told =
+      let is : record { number = 16; place = Word sender word } ≡ r = cc in
+      record {
+        turn = 7;
+        known = omega arith;
+        passes = (place_passes refuses.0, refuses.1);
+        fails = λ words. no_zero sender word words refuses.3;
+        number = ap (λ (x : Refusal). x.number) (sym is);
+        plain = λ other. absurd (other refl);
+        last = λ at. (sender, word, refuses.3, ap (λ (x : Refusal). x.place) (sym is));
+      }
+
+  no_stop : (r : Refusal) → AcceptedAt ring M lists l → Stops r → ⊥
+  no_stop r is stop = stop.fails (earlier stop.turn 8 stop.known (all_pass is))
+
+  one_stop : (r s : Refusal) → Stops r → Stops s → r ≡ s
+  one_stop r s first other = ap₂ (λ (n : ℕ) (p : Position). record { number = n; place = p }) numbers_same places_same
+    where
+      same : first.turn ≡ other.turn
+      same = neither_before first.turn other.turn
+          (λ less. first.fails (earlier first.turn other.turn less other.passes))
+          (λ less. other.fails (earlier other.turn first.turn less first.passes))
+
+      numbers_same : r.number ≡ s.number
+      numbers_same = first.number ∙ ap (slice_index numbers) same ∙ sym other.number
+
+      places_same : r.place ≡ s.place
+      places_same = elim (cases_eq first.turn 7) [
+        | inl end ↦
+            let at = first.last end in
+            let there = other.last (sym same ∙ end) in
+            let found = one_zero lists at.0 at.1 there.0 there.1 at.2 there.2 in
+            at.3 ∙ ap₂ Word found.0 found.1 ∙ sym there.3
+        | inr early ↦ first.plain early ∙ sym (other.plain (λ end. early (same ∙ end)))
+      ]
+
+stopped : (ring : Ring) (M : ℕ) (l : Layout) (lists words : List (List ℕ)) (r : Refusal) → words ≡ lists → HasNoChannel ring M l words r → Stops ring M l lists r
+stopped ring M l lists words r same none =
+    subst (λ (ls : List (List ℕ)). Stops ring M l ls r) same (stops ring M l words none.why r none.unfilled none.refuses none.is_fault)
+
+-- ---- the answer
+
+module _ (ring : Ring) (B M : ℕ) (l : Layout) (finish : Bool) (schedule input : List ℕ) where
+  abbrev IsAnswer : Result Output Refusal → Type 0
+  IsAnswer = IsChannelAnswer ring B M l finish schedule input
+
+  delivered_or_refused : (a : Output) (s : Refusal) → IsAnswer (Ok a) → IsAnswer (Err s) → ⊥
+  delivered_or_refused a s (channels.IsChannelAnswer.delivered events lists given is said tells) (channels.IsChannelAnswer.no_schedule r none) =
+      schedule_or_refusal schedule events s is none
+  delivered_or_refused a s (channels.IsChannelAnswer.delivered events lists given is said tells) (channels.IsChannelAnswer.no_lists others r also none) =
+      lists_or_refusal input lists s said none
+  delivered_or_refused a s (channels.IsChannelAnswer.delivered events lists given is said tells) (channels.IsChannelAnswer.no_channel others words r also says none) =
+      no_stop ring M l lists s tells.within (stopped ring M l lists words s (one_lists input words lists says.value_is said.value_is) none)
+
+  one_refused : (r s : Refusal) → IsAnswer (Err r) → IsAnswer (Err s) → r ≡ s
+  one_refused r s (channels.IsChannelAnswer.no_schedule x none) (channels.IsChannelAnswer.no_schedule y other) = one_refusal (judged events_of schedule) r s none other
+  one_refused r s (channels.IsChannelAnswer.no_schedule x none) (channels.IsChannelAnswer.no_lists events y is more) =
+      absurd (schedule_or_refusal schedule events r is none)
+  one_refused r s (channels.IsChannelAnswer.no_schedule x none) (channels.IsChannelAnswer.no_channel events lists y is said more) =
+      absurd (schedule_or_refusal schedule events r is none)
+  one_refused r s (channels.IsChannelAnswer.no_lists events x is more) (channels.IsChannelAnswer.no_schedule y none) =
+      absurd (schedule_or_refusal schedule events s is none)
+  one_refused r s (channels.IsChannelAnswer.no_channel events lists x is said more) (channels.IsChannelAnswer.no_schedule y none) =
+      absurd (schedule_or_refusal schedule events s is none)
+  one_refused r s (channels.IsChannelAnswer.no_lists events x is none) (channels.IsChannelAnswer.no_lists others y also other) =
+      one_refusal (judged lists_at input) r s none other
+  one_refused r s (channels.IsChannelAnswer.no_lists events x is none) (channels.IsChannelAnswer.no_channel others words y also says more) =
+      absurd (lists_or_refusal input words r says none)
+  one_refused r s (channels.IsChannelAnswer.no_channel events lists x is said more) (channels.IsChannelAnswer.no_lists others y also none) =
+      absurd (lists_or_refusal input lists s said none)
+  one_refused r s (channels.IsChannelAnswer.no_channel events lists x is said none) (channels.IsChannelAnswer.no_channel others words y also says other) =
+      one_stop ring M l lists r s (stopped ring M l lists lists r refl none)
+      (stopped ring M l lists words s (one_lists input words lists says.value_is said.value_is) other)
+
+  pub alike_channel : (a b : Result Output Refusal) → IsAnswer a → IsAnswer b → AreAlike a b
+  alike_channel (Ok a) (Ok b) is other = tt
+  alike_channel (Ok a) (Err s) is other = delivered_or_refused a s is other
+  alike_channel (Err r) (Ok b) is other = delivered_or_refused b r other is
+  alike_channel (Err r) (Err s) is other = one_refused r s is other
+
+module _ (ring : Ring) (B M : ℕ) (l : Layout) (schedule input : List ℕ) where
+  abbrev IsUnfinished : Result Output Refusal → Type 0
+  IsUnfinished = IsChannelAnswer ring B M l false schedule input
+
+  one_delivery : (events : List Event) (lists : List (List ℕ)) (a b : Output)
+      → IsDelivery ring B M l false events lists a → IsDelivery ring B M l false events lists b → a ≡ b
+  one_delivery events lists a b is other =
+      let histories : is.delivers.history ≡ other.delivers.history = run-one B M (unrun (opening_at ring.sender ring.receiver lists l)) events
+      is.delivers.history other.delivers.history is.delivers.run other.delivers.run in
+      same_output a b (is.text
+      ∙ ap (flat_map report_line) (is.delivers.answer ∙ ap (λ (h : History). reported 0 h.entries) histories ∙ sym other.delivers.answer) ∙ sym other.text)
+
+  pub one_channel : (a b : Result Output Refusal) → IsUnfinished a → IsUnfinished b → a ≡ b
+  one_channel (Ok a) (Ok b) (channels.IsChannelAnswer.delivered events lists given is said tells) (channels.IsChannelAnswer.delivered others words answer also says other) =
+      ap (λ (out : Output). Ok out) (one_delivery events lists a b tells
+      (subst (λ (evs : List Event). IsDelivery ring B M l false evs lists b) (one_plain schedule others events also.value_is is.value_is)
+      (subst (λ (ls : List (List ℕ)). IsDelivery ring B M l false others ls b) (one_lists input words lists says.value_is said.value_is) other)))
+  one_channel (Ok a) (Err s) is other = absurd (delivered_or_refused ring B M l false schedule input a s is other)
+  one_channel (Err r) (Ok b) is other = absurd (delivered_or_refused ring B M l false schedule input b r other is)
+  one_channel (Err r) (Err s) is other = ap (λ (x : Refusal). Err x) (one_refused ring B M l false schedule input r s is other)
