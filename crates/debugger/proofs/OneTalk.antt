@@ -7,7 +7,7 @@ use Rattle.step_machine.specs.declared.events.Event.{Event}
 use Rattle.step_machine.specs.declared.events.Outcome.{Outcome}
 use Rattle.step_machine.proofs.Running.{happens-one, run-one}
 use Rattle.std.specs.Str.Lines.{lines}
-use Rattle.litmus.specs.Questions.{Question}
+use Rattle.litmus.specs.LitmusTests.{LitmusTest}
 use Rattle.debugger.specs.declared.debug.command.Command.{Command}
 use Rattle.debugger.specs.declared.debug.command.Command.TheVariants as command
 use Rattle.debugger.specs.declared.walk.Source.{Source}
@@ -138,5 +138,5 @@ one_talk B M (line ∷ ls) old points s t a b =
         e.5 ∙ ap (λ (text : List ℕ). text ++ e.3) here.0 ∙ ap (λ (later : List ℕ). f.0 ++ later) behind ∙ sym f.5
 
 -- of a test, its events and a user's lines
-pub one_talk_of : (B M : ℕ) (input : List ℕ) (question : Question) (events : List Event) (a b : Output) → IsTalk B M (Some input) question events a → IsTalk B M (Some input) question events b → a ≡ b
+pub one_talk_of : (B M : ℕ) (input : List ℕ) (question : LitmusTest) (events : List Event) (a b : Output) → IsTalk B M (Some input) question events a → IsTalk B M (Some input) question events b → a ≡ b
 one_talk_of B M input question events a b is other = let same = one_talk B M (lines input) (set_out question.opening events) [] a.0 b.0 is other in λ i. (same i, tt)

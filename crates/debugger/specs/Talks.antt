@@ -3,7 +3,7 @@ use Rattle.std.specs.Prelude.{ℕ, ◌≡◌, Bool, true, false, List, [], ◌�
 use Rattle.std.specs.Str.Lines.{lines}
 use Rattle.std.specs.Io.KnownBytes.{Appends}
 use Rattle.step_machine.specs.declared.events.Event.{Event}
-use Rattle.litmus.specs.Questions.{Question}
+use Rattle.litmus.specs.LitmusTests.{LitmusTest}
 use Rattle.debugger.specs.declared.debug.command.Command.{Command}
 use Rattle.debugger.specs.declared.debug.command.Command.TheVariants as command
 use Rattle.engine_parts.specs.declared.fault.Fault.{Fault}
@@ -60,7 +60,7 @@ OnStopped (Err (Refused refusal)) P = Unit {0}
 OnStopped (Ok x) P = Unit {0}
 
 -- what the user's lines print at a test's opening; there is no other value
-abbrev pub IsTalk : (B M : ℕ) → (input : Option (List ℕ)) → Question → List Event → (answer : Output) → Type 0
+abbrev pub IsTalk : (B M : ℕ) → (input : Option (List ℕ)) → LitmusTest → List Event → (answer : Output) → Type 0
 IsTalk B M input question events answer = Prints B M input (set_out question.opening events) [] answer.0
 
 -- What answers a test, a schedule and the user's lines. The test is judged first.

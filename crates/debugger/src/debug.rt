@@ -8,7 +8,7 @@ ghost use Rattle.engine_parts.specs.Histories.{ByBoth};
 ghost use Rattle.debugger.specs.Talks.{EndsAloud, IsDebugAnswer, IsDebugFront, OnRefused, OnStopped};
 ghost use Rattle.engine_parts.specs.inner.Making.{Finds};
 ghost use Rattle.debugger.specs.inner.Talking.{IsSetOut};
-ghost use Rattle.litmus.specs.declared.question.TheConstants.{MAX_LOCATIONS};
+ghost use Rattle.litmus.specs.declared.litmus_test.TheConstants.{MAX_LOCATIONS};
 
 use crate::debug::talk::talk;
 use crate::walk::Walk;

@@ -7,7 +7,7 @@ use Rattle.texts.specs.declared.errors.AtLine.{AtLine}
 use Rattle.texts.specs.declared.errors.TextError.{TextError}
 use Rattle.texts.specs.declared.errors.TextError.TheVariants as error
 use Rattle.litmus_reader.specs.Faults.{fault_of, fault_number}
-use Rattle.litmus.specs.Questions.{Question}
+use Rattle.litmus.specs.LitmusTests.{LitmusTest}
 use Rattle.litmus_reader.specs.Reading.{Content, content_of, test_at}
 use Rattle.engine_parts.specs.declared.fault.Fault.{Fault}
 use Rattle.engine_parts.specs.declared.fault.Refusal.{Refusal}
@@ -34,7 +34,7 @@ test_or_none input line other test refusal e f =
     well_or_refused (test_at input) line other test refusal well.2 (sym (judged_text (test_of other) input well.0 well.1) ∙ f)
 
 -- so what reads such an input answers no test
-pub no_test_no_answer : (known : Option (List ℕ)) (input : Vec ℕ) (result : Result Question Fault) → OfInput known (λ bytes. input.items ≡ bytes) → (line : ℕ) × Answers content_of result (judged (test_of line) input.items) → HasNoTest known → IsErr result
+pub no_test_no_answer : (known : Option (List ℕ)) (input : Vec ℕ) (result : Result LitmusTest Fault) → OfInput known (λ bytes. input.items ≡ bytes) → (line : ℕ) × Answers content_of result (judged (test_of line) input.items) → HasNoTest known → IsErr result
 no_test_no_answer known input (Err fault) is answers none = refl
 no_test_no_answer (Some bytes) input (Ok q) is answers none = absurd (test_or_none bytes answers.0 none.1.0 (content_of q) none.0 (rw is at answers.1) none.1.1)
 no_test_no_answer None input (Ok q) is answers none = absurd none

@@ -11,7 +11,7 @@ use Rattle.step_machine.specs.Entries.{is_land}
 use Rattle.step_machine.specs.Legal.{IsOfHarts}
 use Rattle.step_machine.specs.Runs.{event_of}
 use Rattle.recorder.specs.Schedule.{OfHarts, hart_of}
-use Rattle.litmus.specs.Questions.{Question}
+use Rattle.litmus.specs.LitmusTests.{LitmusTest}
 use Rattle.litmus_reader.specs.Grammar.{IsTestOf}
 use Rattle.engine_parts.specs.declared.fault.Fault.{Fault}
 use Rattle.engine_parts.specs.declared.fault.Fault.TheVariants.{ReadFailed, WriteFailed, NoMemory, Refused}
@@ -37,9 +37,9 @@ of_64 o evs es each of few =
     (All-map (λ (ev : Event). hart_of ev < 64) event_of es
     (All-weaker (IsOfHarts o) (λ (e : Entry). hart_of (event_of e) < 64) (λ e lt. (let same : hart_of (event_of e) ≡ entries.hart_of e = event_hart e in omega arith)) es of))
 
-module _ {X A : Type 0} (IsAnswer : Question → Result A Refusal → Type 0) (view : X → A) (known : Option (List ℕ)) where
+module _ {X A : Type 0} (IsAnswer : LitmusTest → Result A Refusal → Type 0) (view : X → A) (known : Option (List ℕ)) where
   -- what answers the test that was read
-  pub by_test : (question : Question) (result : Result X Fault) → OfInput known (λ bytes. Accepted IsTestOf bytes question) → AnswersAs (IsAnswer question) view result → FindsBy (ByTest IsAnswer) view known result
+  pub by_test : (question : LitmusTest) (result : Result X Fault) → OfInput known (λ bytes. Accepted IsTestOf bytes question) → AnswersAs (IsAnswer question) view result → FindsBy (ByTest IsAnswer) view known result
   by_test question (Ok x) read answers = weaker known _ _ (λ bytes accepted. of_test question _ accepted answers) read
   by_test question (Err (Refused r)) read answers = weaker known _ _ (λ bytes accepted. of_test question _ accepted answers) read
   by_test question (Err NoMemory) read answers = tt
@@ -47,7 +47,7 @@ module _ {X A : Type 0} (IsAnswer : Question → Result A Refusal → Type 0) (v
   by_test question (Err WriteFailed) read answers = answers
 
   -- no test was read
-  pub by_no_test : {Y : Type 0} (seen : Y → Question) (result : Result X Fault) (fault : Fault) → result ≡ Err fault → FindsBy IsReadAsTest seen known (Err fault) → FindsBy (ByTest IsAnswer) view known result
+  pub by_no_test : {Y : Type 0} (seen : Y → LitmusTest) (result : Result X Fault) (fault : Fault) → result ≡ Err fault → FindsBy IsReadAsTest seen known (Err fault) → FindsBy (ByTest IsAnswer) view known result
   by_no_test seen result (Refused r) is read = rw is (weaker known _ _ (λ bytes bad. no_test r bad) read)
   by_no_test seen result NoMemory is read = rw is tt
   by_no_test seen result ReadFailed is read = rw is tt

@@ -3,7 +3,7 @@ use Rattle.std.specs.Prelude.{ℕ, ◌≡◌, List, Result, Ok, Err}
 use Rattle.step_machine.specs.History.{Start, History}
 use Rattle.step_machine.specs.Runs.{Run}
 use Rattle.step_machine.specs.declared.events.Event.{Event}
-use Rattle.litmus.specs.Questions.{Question}
+use Rattle.litmus.specs.LitmusTests.{LitmusTest}
 use Rattle.litmus_reader.specs.Grammar.{IsTestOf}
 use Rattle.recorder.specs.Schedule.{IsPlainOf}
 use Rattle.recorder.specs.Records.{Step, events_in}
@@ -22,20 +22,20 @@ use Rattle.engine_parts.specs.Schedules.{IsNoSchedule, IsNeitherVersion}
 
 -- This holds of the history that the events make of the test's opening, over store buffers of B pairs
 -- and a memory of M words.
-pub record IsOfRun {A : Type 0} (B M : ℕ) (IsAnswer : Question → History → A → Type 0) (question : Question) (events : List Event) (answer : A) : Type 0 where
+pub record IsOfRun {A : Type 0} (B M : ℕ) (IsAnswer : LitmusTest → History → A → Type 0) (question : LitmusTest) (events : List Event) (answer : A) : Type 0 where
   pub history : History
   pub ran : Run B M question.opening events history
   pub answers : IsAnswer question history answer
 
 -- What answers a litmus text and a schedule, where this holds of their test and events. The test is
 -- judged first.
-pub data ByBoth {A : Type 0} (IsAnswer : Question → List Event → A → Type 0) (file schedule : List ℕ) : Result A Refusal → Type 0 where
+pub data ByBoth {A : Type 0} (IsAnswer : LitmusTest → List Event → A → Type 0) (file schedule : List ℕ) : Result A Refusal → Type 0 where
   no_test : (refusal : Refusal) → IsNoTest file refusal → ByBoth IsAnswer file schedule (Err refusal)
-  no_schedule : (question : Question) (refusal : Refusal) → Accepted IsTestOf file question → IsNoSchedule schedule refusal → ByBoth IsAnswer file schedule (Err refusal)
-  ran : (question : Question) (events : List Event) (answer : A) → Accepted IsTestOf file question → Accepted IsPlainOf schedule events → IsAnswer question events answer → ByBoth IsAnswer file schedule (Ok answer)
+  no_schedule : (question : LitmusTest) (refusal : Refusal) → Accepted IsTestOf file question → IsNoSchedule schedule refusal → ByBoth IsAnswer file schedule (Err refusal)
+  ran : (question : LitmusTest) (events : List Event) (answer : A) → Accepted IsTestOf file question → Accepted IsPlainOf schedule events → IsAnswer question events answer → ByBoth IsAnswer file schedule (Ok answer)
 
 -- the same where it holds of their history
-abbrev pub ByRun : {A : Type 0} → (B M : ℕ) → (Question → History → A → Type 0) → (file schedule : List ℕ) → Result A Refusal → Type 0
+abbrev pub ByRun : {A : Type 0} → (B M : ℕ) → (LitmusTest → History → A → Type 0) → (file schedule : List ℕ) → Result A Refusal → Type 0
 ByRun B M IsAnswer = ByBoth (IsOfRun B M IsAnswer)
 
 -- ---- schedules of either version
@@ -64,7 +64,7 @@ Records B M opening said (Err refusal) = Runs B M opening said (Err refusal)
 
 -- What answers a litmus text and a schedule of either version, where this holds of their test, of what the
 -- schedule says and of the answer. The test is judged first, then the schedule's text.
-pub data BySchedule {A : Type 0} (IsAnswer : Question → Said → Result A Refusal → Type 0) (file schedule : List ℕ) : Result A Refusal → Type 0 where
+pub data BySchedule {A : Type 0} (IsAnswer : LitmusTest → Said → Result A Refusal → Type 0) (file schedule : List ℕ) : Result A Refusal → Type 0 where
   no_test : (refusal : Refusal) → IsNoTest file refusal → BySchedule IsAnswer file schedule (Err refusal)
-  no_schedule : (question : Question) (refusal : Refusal) → Accepted IsTestOf file question → IsNeitherVersion schedule refusal → BySchedule IsAnswer file schedule (Err refusal)
-  both : (question : Question) (said : Said) (answer : Result A Refusal) → Accepted IsTestOf file question → Accepted Says schedule said → IsAnswer question said answer → BySchedule IsAnswer file schedule answer
+  no_schedule : (question : LitmusTest) (refusal : Refusal) → Accepted IsTestOf file question → IsNeitherVersion schedule refusal → BySchedule IsAnswer file schedule (Err refusal)
+  both : (question : LitmusTest) (said : Said) (answer : Result A Refusal) → Accepted IsTestOf file question → Accepted Says schedule said → IsAnswer question said answer → BySchedule IsAnswer file schedule answer

@@ -1,7 +1,7 @@
 -- Inputs that are litmus texts.
 use Rattle.std.specs.Prelude.{ℕ, ◌≡◌, List, Option, IsSomeAnd, Result, Err}
 use Rattle.texts.specs.Results.{map_err}
-use Rattle.litmus.specs.Questions.{Question}
+use Rattle.litmus.specs.LitmusTests.{LitmusTest}
 use Rattle.litmus_reader.specs.declared.faults.LitmusFault.{LitmusFault}
 use Rattle.litmus_reader.specs.Faults.{fault_number}
 use Rattle.litmus_reader.specs.Reading.{Content, test_at}
@@ -27,6 +27,6 @@ abbrev pub HasNoTest : (input : Option (List ℕ)) → Type 0
 HasNoTest input = IsSomeAnd input (λ bytes. (refusal : Refusal) × IsNoTest bytes refusal)
 
 -- What answers an input that is to be a test.
-pub data ByTest {A : Type 0} (IsAnswer : Question → Result A Refusal → Type 0) (input : List ℕ) : Result A Refusal → Type 0 where
+pub data ByTest {A : Type 0} (IsAnswer : LitmusTest → Result A Refusal → Type 0) (input : List ℕ) : Result A Refusal → Type 0 where
   no_test : (refusal : Refusal) → IsNoTest input refusal → ByTest IsAnswer input (Err refusal)
-  of_test : (question : Question) (answer : Result A Refusal) → Accepted IsTestOf input question → IsAnswer question answer → ByTest IsAnswer input answer
+  of_test : (question : LitmusTest) (answer : Result A Refusal) → Accepted IsTestOf input question → IsAnswer question answer → ByTest IsAnswer input answer

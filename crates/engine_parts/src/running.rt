@@ -13,7 +13,7 @@ ghost use Rattle.engine_parts.specs.Histories.{ByRun, Records, Runs, fault_of_ch
 ghost use Rattle.engine_parts.specs.declared.fault.Refusal.{Refusal};
 ghost use Rattle.engine_parts.specs.inner.Making.{Finds};
 ghost use Rattle.engine_parts.specs.inner.Inputs.{IsItself};
-ghost use Rattle.litmus.specs.declared.question.TheConstants.{MAX_LOCATIONS};
+ghost use Rattle.litmus.specs.declared.litmus_test.TheConstants.{MAX_LOCATIONS};
 
 use crate::fault::{DIFFERS, Fault, Position};
 use crate::litmus_text::read_test;

@@ -8,7 +8,7 @@ use Rattle.litmus.specs.declared.symbols.Step.{Step}
 use Rattle.litmus.specs.declared.symbols.Step.TheVariants as step
 use Rattle.litmus.specs.Formulas.{Formula, is, negation, both, either, truth, places}
 use Rattle.litmus.specs.Steps.{steps_of}
-use Rattle.litmus.specs.Questions.{IsThere}
+use Rattle.litmus.specs.LitmusTests.{IsThere}
 use Rattle.litmus.specs.inner.Running.{done, all_done, asked_by, AsksThere}
 
 -- the steps that are skipped change nothing

@@ -7,7 +7,7 @@ use Rattle.litmus.specs.declared.symbols.Place.{Place}
 use Rattle.litmus.specs.declared.symbols.Place.TheVariants as place
 use Rattle.litmus.specs.declared.symbols.Step.{Step}
 use Rattle.litmus.specs.declared.symbols.Step.TheVariants as step
-use Rattle.litmus.specs.Questions.{IsThere, is_same, firsts}
+use Rattle.litmus.specs.LitmusTests.{IsThere, is_same, firsts}
 use Rattle.litmus.specs.inner.Running.{asked_by, AsksThere}
 use Rattle.litmus.proofs.RunLaws.{asked_by-AsksThere}
 use Rattle.litmus.specs.inner.Seen.{index_of, is_seen, after_place, after_seen, left_to_see}

@@ -3,6 +3,6 @@ pub mod Grammar
 pub mod Steps
 pub mod Drafting
 pub mod Faults
-pub mod Questions
+pub mod LitmusTests
 pub mod Verdicts
 pub mod inner

@@ -11,7 +11,7 @@ use Rattle.litmus.specs.declared.verdict.Quantifier.TheVariants.{Exists, NotExis
 use Rattle.litmus.specs.declared.verdict.Verdict.{Verdict}
 use Rattle.litmus.specs.declared.verdict.Verdict.TheVariants.{Holds, Fails, Unfinished}
 use Rattle.litmus.specs.Formulas.{truth}
-use Rattle.litmus.specs.Questions.{Question}
+use Rattle.litmus.specs.LitmusTests.{LitmusTest}
 
 -- the hart has ended, and all its stores have landed
 abbrev pub HasFinished : ℕ → History → ℕ → Type 0
@@ -33,7 +33,7 @@ is_asked_for NotExists true_there = not true_there
 is_asked_for ForAll true_there = true_there
 
 -- the test's answer to a history
-abbrev pub IsVerdict : ℕ → Question → History → Verdict → Type 0
+abbrev pub IsVerdict : ℕ → LitmusTest → History → Verdict → Type 0
 IsVerdict M q t Holds = IsFinished M t × (is_asked_for q.quantifier (truth (final_value M t) q.condition) ≡ true)
 IsVerdict M q t Fails = IsFinished M t × (is_asked_for q.quantifier (truth (final_value M t) q.condition) ≡ false)
 IsVerdict M q t Unfinished = IsFinished M t → ⊥

@@ -2,7 +2,7 @@
 
 ghost use Rattle.std.specs.Prelude.{◌≡◌, ◌↔◌, IsTrue, All};
 ghost use Rattle.litmus.specs.Formulas.{places};
-ghost use Rattle.litmus.specs.Questions.{IsThere};
+ghost use Rattle.litmus.specs.LitmusTests.{IsThere};
 ghost use Rattle.litmus.specs.inner.Running.{AsksThere};
 ghost use Rattle.litmus.specs.Steps.{steps_of, formula_of};
 

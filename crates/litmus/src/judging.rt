@@ -2,7 +2,7 @@
 
 ghost use Rattle.std.specs.Prelude.{◌≡◌, ◌↔◌, ◌<◌, IsTrue, IfOk, OnOk, All, true, length, map};
 ghost use Rattle.litmus.specs.Formulas.{truth, places};
-ghost use Rattle.litmus.specs.Questions.{IsThere};
+ghost use Rattle.litmus.specs.LitmusTests.{IsThere};
 ghost use Rattle.litmus.specs.inner.Running.{done, all_done, AsksThere};
 ghost use Rattle.litmus.specs.Verdicts.{HasFinished, IsFinished, final_value, is_asked_for as asked_for};
 

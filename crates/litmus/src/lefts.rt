@@ -1,10 +1,10 @@
 //! The places that a condition asks for, each once.
 
 ghost use Rattle.std.specs.Prelude.{◌≡◌, ◌+◌, ◌<◌, ◌++◌, IfOk, OnOk, All, true, false, length, replicate, slice_set};
-ghost use Rattle.litmus.specs.Questions.{IsThere, firsts};
+ghost use Rattle.litmus.specs.LitmusTests.{IsThere, firsts};
 ghost use Rattle.litmus.specs.inner.Running.{AsksThere, asked_by};
 ghost use Rattle.litmus.specs.inner.Seen.{index_of as place_index, unless_seen, after_place, after_seen};
-ghost use Rattle.litmus.specs.declared.question.TheConstants.{MAX_LOCATIONS};
+ghost use Rattle.litmus.specs.declared.litmus_test.TheConstants.{MAX_LOCATIONS};
 ghost use Rattle.step_machine.specs.declared.opening.TheConstants.{MAX_HARTS};
 
 use crate::symbols::{Place, Step};

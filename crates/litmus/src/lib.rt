@@ -14,12 +14,12 @@ mod draft;
 mod judging;
 pub mod laws;
 mod lefts;
-mod question;
+mod litmus_test;
 mod symbols;
 mod verdict;
 
 pub use condition::Condition;
 pub use draft::{ConditionDraft, ConditionError};
-pub use question::{MAX_LOCATIONS, Test};
+pub use litmus_test::{MAX_LOCATIONS, Test};
 pub use symbols::{Place, Symbol};
 pub use verdict::{Quantifier, Verdict};

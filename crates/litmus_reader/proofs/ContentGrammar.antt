@@ -5,7 +5,7 @@ use Rattle.std.proofs.lemmas.List.{length-map}
 use Rattle.texts.specs.Cutting.{before, after, is_byte}
 use Rattle.texts.proofs.ResultLaws.{bind_ok, ok_is}
 use Rattle.litmus_tokens.specs.Cleaning.{cleaned_text}
-use Rattle.litmus_tokens.specs.Settings.{Put}
+use Rattle.litmus_tokens.specs.Settings.{Equation}
 use Rattle.litmus_tokens.proofs.CommentLaws.{is_cleaned, only_cleaned}
 use Rattle.litmus_reader.specs.declared.faults.LitmusFault.{LitmusFault}
 use Rattle.litmus_reader.specs.declared.marks.Mark.TheVariants as mark
@@ -20,7 +20,7 @@ use Rattle.litmus_reader.specs.Condition.{Condition, condition_in, condition_at}
 use Rattle.litmus_reader.specs.Reading.{HartContent, Content, with_registers, content, content_below, content_behind, content_at, test_at}
 use Rattle.litmus_reader.specs.Openings.{names_in, each_once, AreRegisters, AreFirstWords, IsHartThere}
 use Rattle.litmus_reader.specs.Columns.{Cells, IsTable}
-use Rattle.litmus_reader.specs.Asked.{atoms_in, AreKnown}
+use Rattle.litmus_reader.specs.ConditionGrammar.{atoms_in, AreKnown}
 use Rattle.litmus_reader.specs.Grammar.{AreHarts, IsContent}
 use Rattle.litmus_reader.proofs.MeetLaws.{fewer}
 use Rattle.litmus_reader.proofs.ShapeLaws.{parts_found, parts_only}
@@ -28,17 +28,17 @@ use Rattle.litmus_reader.proofs.LayoutLaws.{layout_found, layout_only}
 use Rattle.litmus_reader.proofs.ItemLaws.{items_found, items_only}
 use Rattle.litmus_reader.proofs.FirstValueLaws.{values_found, values_only, registers_later, words_later, registers_one, words_one}
 use Rattle.litmus_reader.proofs.ColumnLaws.{AreCodes, table_found, table_only}
-use Rattle.litmus_reader.proofs.AskedLaws.{asked_found, asked_only}
+use Rattle.litmus_reader.proofs.ConditionLaws.{asked_found, asked_only}
 use Rattle.texts.specs.declared.pieces.Separators.TheVariants.{Byte}
 
 -- ---- harts: their code beside their registers
 
 -- the registers of all harts from this one on
-abbrev AreAllRegisters : Names → List Put → (hart : ℕ) → List (List ℕ) → Type 0
+abbrev AreAllRegisters : Names → List Equation → (hart : ℕ) → List (List ℕ) → Type 0
 AreAllRegisters names puts hart [] = Unit {0}
 AreAllRegisters names puts hart (first ∷ others) = AreRegisters names puts hart first × AreAllRegisters names puts (hart + 1) others
 
-all_registers : (names : Names) (puts : List Put) (hart : ℕ) (registers : List (List ℕ)) → ((i : ℕ) → i < length registers → AreRegisters names puts (hart + i) (slice_index_or registers i [])) → AreAllRegisters names puts hart registers
+all_registers : (names : Names) (puts : List Equation) (hart : ℕ) (registers : List (List ℕ)) → ((i : ℕ) → i < length registers → AreRegisters names puts (hart + i) (slice_index_or registers i [])) → AreAllRegisters names puts hart registers
 all_registers names puts hart [] each = tt
 all_registers names puts hart (first ∷ others) each =
     let here : hart + 0 ≡ hart = omega arith in
@@ -47,10 +47,10 @@ all_registers names puts hart (first ∷ others) each =
       all_registers names puts (hart + 1) others (λ i less. let there : hart + suc i ≡ hart + 1 + i = omega arith in subst (λ (h : ℕ). AreRegisters names puts h (slice_index_or others i [])) there (each (suc i) (omega (arith, less)))),
     )
 
-from_first : (names : Names) (puts : List Put) (registers : List (List ℕ)) → ((i : ℕ) → i < length registers → AreRegisters names puts i (slice_index_or registers i [])) → AreAllRegisters names puts 0 registers
+from_first : (names : Names) (puts : List Equation) (registers : List (List ℕ)) → ((i : ℕ) → i < length registers → AreRegisters names puts i (slice_index_or registers i [])) → AreAllRegisters names puts 0 registers
 from_first names puts registers each = all_registers names puts 0 registers (λ i less. let same : i ≡ 0 + i = omega arith in subst (λ (h : ℕ). AreRegisters names puts h (slice_index_or registers i [])) same (each i less))
 
-harts_found : (names : Names) (puts : List Put) (rows : List Cells) (hart : ℕ) (codes : List Code) (registers : List (List ℕ)) → AreCodes rows hart codes → AreAllRegisters names puts hart registers → AreHarts names puts rows hart (with_registers codes registers)
+harts_found : (names : Names) (puts : List Equation) (rows : List Cells) (hart : ℕ) (codes : List Code) (registers : List (List ℕ)) → AreCodes rows hart codes → AreAllRegisters names puts hart registers → AreHarts names puts rows hart (with_registers codes registers)
 harts_found names puts rows hart [] registers are all = tt
 harts_found names puts rows hart (code ∷ codes) [] are all = tt
 harts_found names puts rows hart (code ∷ codes) (first ∷ registers) are all = (are.0, all.0, refl, harts_found names puts rows (hart + 1) codes registers are.1 all.1)
@@ -63,14 +63,14 @@ length-with (code ∷ codes) (first ∷ registers) same = ap suc (length-with co
 abbrev code_of : HartContent → Code
 code_of hart = hart.code
 
-codes_found : (names : Names) (puts : List Put) (rows : List Cells) (hart : ℕ) (harts : List HartContent) → AreHarts names puts rows hart harts → AreCodes rows hart (map code_of harts)
+codes_found : (names : Names) (puts : List Equation) (rows : List Cells) (hart : ℕ) (harts : List HartContent) → AreHarts names puts rows hart harts → AreCodes rows hart (map code_of harts)
 codes_found names puts rows hart [] are = tt
 codes_found names puts rows hart (first ∷ others) are = (are.0, codes_found names puts rows (hart + 1) others are.3)
 
 one_hart : (first : HartContent) (registers : List ℕ) → first.inbox ≡ [] → first.registers ≡ registers → record { code = first.code; registers = registers; inbox = [] } ≡ first
 one_hart first registers empty same = rw (← empty, ← same) refl
 
-harts_only : (ms : Names) (puts : List Put) (rows : List Cells) (hart : ℕ) (harts : List HartContent) (registers : List (List ℕ)) → length registers ≡ length harts → AreHarts (each_once ms) puts rows hart harts → AreAllRegisters (each_once ms) puts hart registers → with_registers (map code_of harts) registers ≡ harts
+harts_only : (ms : Names) (puts : List Equation) (rows : List Cells) (hart : ℕ) (harts : List HartContent) (registers : List (List ℕ)) → length registers ≡ length harts → AreHarts (each_once ms) puts rows hart harts → AreAllRegisters (each_once ms) puts hart registers → with_registers (map code_of harts) registers ≡ harts
 harts_only ms puts rows hart [] registers same are all = refl
 harts_only ms puts rows hart (first ∷ others) [] same are all = absurd (omega (arith, same))
 harts_only ms puts rows hart (first ∷ others) (next ∷ registers) same are all =

@@ -10,7 +10,7 @@ use Rattle.rv_decode.specs.Meaning.{meaning}
 use Rattle.step_machine.specs.History.{IsShort}
 use Rattle.litmus.specs.declared.verdict.Quantifier.{Quantifier}
 use Rattle.litmus.specs.Formulas.{Formula, places}
-use Rattle.litmus.specs.Questions.{Question, IsThere, IsTest, question_of}
+use Rattle.litmus.specs.LitmusTests.{LitmusTest, IsThere, IsTest, question_of}
 use Rattle.litmus_reader.specs.Locations.{Names}
 use Rattle.litmus_reader.specs.Table.{instructions_of, IsPlainCode, ArePlain, AreShort}
 use Rattle.litmus_reader.specs.Values.{starts_of}
@@ -54,10 +54,10 @@ content_record harts words names quantifier f = record { harts = harts; words = 
 pub same_content : (first second : List HartContent) (words others : List ℕ) (names same : Names) (quantifier : Quantifier) (f : Formula) → first ≡ second → words ≡ others → names ≡ same → content_record first words names quantifier f ≡ content_record second others same quantifier f
 same_content first second words others names same quantifier f a b e = rw (a, b, e) refl
 
-pub made_content : (result : Result Question AllocError) (q : Question) (told : Content) → IfOk result (λ test. test ≡ q) → content_of q ≡ told → IfOk result (λ test. content_of test ≡ told)
+pub made_content : (result : Result LitmusTest AllocError) (q : LitmusTest) (told : Content) → IfOk result (λ test. test ≡ q) → content_of q ≡ told → IfOk result (λ test. content_of test ≡ told)
 made_content (Ok test) q told is same = ap content_of is ∙ same
 made_content (Err e) q told is same = tt
 
-pub made_plain : (result : Result Question AllocError) (q : Question) → IfOk result (λ test. test ≡ q) → All HasPlainCode q.opening.harts → IfOk result (λ test. All HasPlainCode test.opening.harts)
-made_plain (Ok test) q is plain = subst (λ (t : Question). All HasPlainCode t.opening.harts) (sym is) plain
+pub made_plain : (result : Result LitmusTest AllocError) (q : LitmusTest) → IfOk result (λ test. test ≡ q) → All HasPlainCode q.opening.harts → IfOk result (λ test. All HasPlainCode test.opening.harts)
+made_plain (Ok test) q is plain = subst (λ (t : LitmusTest). All HasPlainCode t.opening.harts) (sym is) plain
 made_plain (Err e) q is plain = tt

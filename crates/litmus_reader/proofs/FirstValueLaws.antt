@@ -7,7 +7,7 @@ use Rattle.std.proofs.lemmas.List.{length-append, get_or_append_left, get_or-app
 use Rattle.std.proofs.lemmas.List.Elements.{All-cons, All-nil, All-head, All-tail, filter-append}
 use Rattle.texts.proofs.ResultLaws.{bind_ok, ok_is}
 use Rattle.rv_decode.specs.declared.instruction.Reg.{Reg}
-use Rattle.litmus_tokens.specs.Settings.{Value, Put}
+use Rattle.litmus_tokens.specs.Settings.{Value, Equation}
 use Rattle.litmus_tokens.specs.Settings.NamedPlace.{in_register, at_location}
 use Rattle.litmus_reader.specs.declared.faults.LitmusFault.{LitmusFault}
 use Rattle.litmus_reader.specs.declared.init.Target.{Target}
@@ -150,7 +150,7 @@ shaped_left harts locations (Word index) value values more shaped left =
       words = ap length left.1 ∙ length-set values.words index value ∙ shaped.words;
     }
 
-register_told : (names : Names) (put : Put) (item : InitItem) (values more : Values) (harts locations hart n : ℕ) → IsShaped harts locations values → IsSettingOf names put item → Left item.target item.value values more → hart < harts → 1 ≤ n → n < 32 → IsValueOr names (if is_register hart n put.0 then Some put.1 else None) (at_register values hart n) (at_register more hart n)
+register_told : (names : Names) (put : Equation) (item : InitItem) (values more : Values) (harts locations hart n : ℕ) → IsShaped harts locations values → IsSettingOf names put item → Left item.target item.value values more → hart < harts → 1 ≤ n → n < 32 → IsValueOr names (if is_register hart n put.0 then Some put.1 else None) (at_register values hart n) (at_register more hart n)
 register_told names (in_register other register, value) item values more harts locations hart n shaped setting left here some few =
     let is : Left (Register other register) item.value values more = subst (λ (target : Target). Left target item.value values more) setting.0 left in
     subst (λ (rs : List (List ℕ)). IsValueOr names (if (other == hart) && (register.number == n) then Some value else None) (at_register values hart n) (slice_index_or (slice_index_or rs hart []) n 0)) (sym is.1)
@@ -159,7 +159,7 @@ register_told names (at_location name, value) item values more harts locations h
     let is : Left (Word setting.0.0) item.value values more = subst (λ (target : Target). Left target item.value values more) setting.0.2 left in
     ap (λ (rs : List (List ℕ)). slice_index_or (slice_index_or rs hart []) n 0) is.0
 
-word_told : (ms : Names) (put : Put) (item : InitItem) (values more : Values) (index : ℕ) (name : List ℕ) → length values.words ≡ length (each_once ms) → IsSettingOf (each_once ms) put item → Left item.target item.value values more → IsAt (each_once ms) name index → IsValueOr (each_once ms) (if is_location name put.0 then Some put.1 else None) (at_word values index) (at_word more index)
+word_told : (ms : Names) (put : Equation) (item : InitItem) (values more : Values) (index : ℕ) (name : List ℕ) → length values.words ≡ length (each_once ms) → IsSettingOf (each_once ms) put item → Left item.target item.value values more → IsAt (each_once ms) name index → IsValueOr (each_once ms) (if is_location name put.0 then Some put.1 else None) (at_word values index) (at_word more index)
 word_told ms (in_register other register, value) item values more index name count setting left at =
     let is : Left (Register other register) item.value values more = subst (λ (target : Target). Left target item.value values more) setting.0 left in
     ap (λ (words : List ℕ). slice_index_or words index 0) is.2
@@ -178,7 +178,7 @@ word_told ms (at_location other, value) item values more index name count settin
     is : Left (Word setting.0.0) item.value values more
     is = subst (λ (target : Target). Left target item.value values more) setting.0.2 left
 
-hart_there : (names : Names) (put : Put) (item : InitItem) (values more : Values) (harts : ℕ) → length values.registers ≡ harts → IsSettingOf names put item → Left item.target item.value values more → IsHartThere harts put
+hart_there : (names : Names) (put : Equation) (item : InitItem) (values more : Values) (harts : ℕ) → length values.registers ≡ harts → IsSettingOf names put item → Left item.target item.value values more → IsHartThere harts put
 hart_there names (in_register hart register, value) item values more harts count setting left =
     let is : Left (Register hart register) item.value values more = subst (λ (target : Target). Left target item.value values more) setting.0 left in
     subst (λ (n : ℕ). hart < n) count is.0
@@ -186,13 +186,13 @@ hart_there names (at_location name, value) item values more harts count setting 
 
 -- ---- all items
 
-record ArePut (ms : Names) (puts : List Put) (harts : ℕ) (values out : Values) : Type 0 where
+record ArePut (ms : Names) (puts : List Equation) (harts : ℕ) (values out : Values) : Type 0 where
   shaped : IsShaped harts (length (each_once ms)) out
   there : All (IsHartThere harts) puts
   registers : (hart n : ℕ) → hart < harts → 1 ≤ n → n < 32 → IsValueOr (each_once ms) (last_put (is_register hart n) puts) (at_register values hart n) (at_register out hart n)
   words : (index : ℕ) (name : List ℕ) → IsAt (each_once ms) name index → IsValueOr (each_once ms) (last_put (is_location name) puts) (at_word values index) (at_word out index)
 
-all_put : (ms : Names) (puts : List Put) (items : List InitItem) (harts : ℕ) (values out : Values) → IsShaped harts (length (each_once ms)) values → AreSettings (each_once ms) puts items → items_put values items ≡ Ok out → ArePut ms puts harts values out
+all_put : (ms : Names) (puts : List Equation) (items : List InitItem) (harts : ℕ) (values out : Values) → IsShaped harts (length (each_once ms)) values → AreSettings (each_once ms) puts items → items_put values items ≡ Ok out → ArePut ms puts harts values out
 all_put ms [] [] harts values out shaped settings e =
     let same : values ≡ out = ok_is LitmusFault values out e in
     subst (ArePut ms [] harts values) same
@@ -218,7 +218,7 @@ all_put ms (put ∷ puts) (item ∷ items) harts values out shaped settings e =
           later_wins (each_once ms) (last_put (is_location name) puts) _ (at_word values index) (at_word more index) (at_word out index) (next.words index name at) (word_told ms put item values more index name shaped.words settings.0 left at);
     }
 
-pub values_found : (harts : ℕ) (puts : List Put) (settings : InitItems) (values : Values) → settings.names ≡ each_once (names_in puts) → AreSettings settings.names puts settings.items → values_at harts settings ≡ Ok values → All (IsHartThere harts) puts × (length values.registers ≡ harts) × ((hart : ℕ) → hart < harts → AreRegisters settings.names puts hart (slice_index_or values.registers hart [])) × AreFirstWords settings.names puts values.words
+pub values_found : (harts : ℕ) (puts : List Equation) (settings : InitItems) (values : Values) → settings.names ≡ each_once (names_in puts) → AreSettings settings.names puts settings.items → values_at harts settings ≡ Ok values → All (IsHartThere harts) puts × (length values.registers ≡ harts) × ((hart : ℕ) → hart < harts → AreRegisters settings.names puts hart (slice_index_or values.registers hart [])) × AreFirstWords settings.names puts values.words
 unfolding values_at
 values_found harts puts settings values same items e =
     let ms = names_in puts in
@@ -246,14 +246,14 @@ put_at_hart hart register value values harts count here =
     let changed = with_register register.number value (slice_index_or values.registers hart []) in
     (record values { registers = slice_set values.registers hart changed }, rw (lt-ltb hart (length values.registers) (omega (arith, count, here))) refl, length-set values.registers hart changed ∙ count)
 
-item_there : (names : Names) (put : Put) (item : InitItem) (values : Values) (harts : ℕ) → length values.registers ≡ harts → IsSettingOf names put item → IsHartThere harts put → (more : Values) × (item_put values item ≡ Ok more) × (length more.registers ≡ harts)
+item_there : (names : Names) (put : Equation) (item : InitItem) (values : Values) (harts : ℕ) → length values.registers ≡ harts → IsSettingOf names put item → IsHartThere harts put → (more : Values) × (item_put values item ≡ Ok more) × (length more.registers ≡ harts)
 unfolding item_put
 item_there names (in_register hart register, value) item values harts count setting there =
     subst (λ (target : Target). (more : Values) × (put_at target item.value values ≡ Ok more) × (length more.registers ≡ harts)) (sym setting.0) (put_at_hart hart register item.value values harts count there)
 item_there names (at_location name, value) item values harts count setting there =
     subst (λ (target : Target). (more : Values) × (put_at target item.value values ≡ Ok more) × (length more.registers ≡ harts)) (sym setting.0.2) (record values { words = slice_set values.words setting.0.0 item.value }, refl, count)
 
-all_there : (names : Names) (puts : List Put) (items : List InitItem) (values : Values) (harts : ℕ) → length values.registers ≡ harts → AreSettings names puts items → All (IsHartThere harts) puts → (out : Values) × (items_put values items ≡ Ok out)
+all_there : (names : Names) (puts : List Equation) (items : List InitItem) (values : Values) (harts : ℕ) → length values.registers ≡ harts → AreSettings names puts items → All (IsHartThere harts) puts → (out : Values) × (items_put values items ≡ Ok out)
 all_there names [] [] values harts count settings there = (values, refl)
 all_there names [] (item ∷ items) values harts count settings there = absurd settings
 all_there names (put ∷ puts) [] values harts count settings there = absurd settings
@@ -262,7 +262,7 @@ all_there names (put ∷ puts) (item ∷ items) values harts count settings ther
     let rest = all_there names puts items first.0 harts first.2 settings.1 (All-tail (IsHartThere harts) put puts there) in
     (rest.0, rw first.1 rest.1)
 
-pub values_only : (harts : ℕ) (puts : List Put) (settings : InitItems) → settings.names ≡ each_once (names_in puts) → AreSettings settings.names puts settings.items → All (IsHartThere harts) puts → (values : Values) × (values_at harts settings ≡ Ok values)
+pub values_only : (harts : ℕ) (puts : List Equation) (settings : InitItems) → settings.names ≡ each_once (names_in puts) → AreSettings settings.names puts settings.items → All (IsHartThere harts) puts → (values : Values) × (values_at harts settings ≡ Ok values)
 unfolding values_at
 values_only harts puts settings same items there = all_there settings.names puts settings.items (zeros harts (length settings.names)) harts (length-replicate harts (replicate {A = ℕ} 32 0)) items there
 
@@ -272,7 +272,7 @@ first_later : (ms more : Names) (put : Option Value) (word : ℕ) → IsFirstVal
 first_later ms more None word first = first
 first_later ms more (Some value) word first = worth_later ms more value word first
 
-pub registers_later : (ms more : Names) (puts : List Put) (hart : ℕ) (registers : List ℕ) → AreRegisters (each_once ms) puts hart registers → AreRegisters (each_once (ms ++ more)) puts hart registers
+pub registers_later : (ms more : Names) (puts : List Equation) (hart : ℕ) (registers : List ℕ) → AreRegisters (each_once ms) puts hart registers → AreRegisters (each_once (ms ++ more)) puts hart registers
 registers_later ms more puts hart registers are = record {
   count = are.count;
   zero = are.zero;
@@ -283,12 +283,12 @@ has_behind : (xs ys : Names) (name : List ℕ) → has ys name ≡ true → has 
 has_behind [] ys name is = is
 has_behind (x ∷ xs) ys name is = or_right (bytes_eq x name) (has (xs ++ ys) name) (has_behind xs ys name is)
 
-has_put : (put : Put) (others : Names) (name : List ℕ) → is_location name put.0 ≡ true → has (name_of_place put.0 ++ others) name ≡ true
+has_put : (put : Equation) (others : Names) (name : List ℕ) → is_location name put.0 ≡ true → has (name_of_place put.0 ++ others) name ≡ true
 has_put (in_register hart register, value) others name is = absurd (false≢true is)
 has_put (at_location other, value) others name is = or_left (bytes_eq other name) (has others name) is
 
 -- where an item puts a value, its name is one of the items'
-has_last : (puts : List Put) (name : List ℕ) (value : Value) → last_put (is_location name) puts ≡ Some value → has (names_in puts) name ≡ true
+has_last : (puts : List Equation) (name : List ℕ) (value : Value) → last_put (is_location name) puts ≡ Some value → has (names_in puts) name ≡ true
 has_last [] name value e = absurd cc
 has_last (put ∷ puts) name value e = go (has_last puts name) (last_put (is_location name) puts) refl e
   where
@@ -316,7 +316,7 @@ at_met (m ∷ ms) name is = elim (cases_Bool (bytes_eq m name)) [
     without : Names
     without = filter (λ other. not (bytes_eq m other)) (each_once ms)
 
-pub words_later : (puts : List Put) (more : Names) (words : List ℕ) → AreFirstWords (each_once (names_in puts)) puts words → AreFirstWords (each_once (names_in puts ++ more)) puts (padded (length (each_once (names_in puts ++ more))) words)
+pub words_later : (puts : List Equation) (more : Names) (words : List ℕ) → AreFirstWords (each_once (names_in puts)) puts words → AreFirstWords (each_once (names_in puts ++ more)) puts (padded (length (each_once (names_in puts ++ more))) words)
 words_later puts more words are = record {
   count = length-append words (replicate (length all - length words) 0) ∙ (rw (length-replicate {A = ℕ} (length all - length words) 0) (omega (arith, are.count, fewer (names_in puts) more)));
   values = λ index name at. elim (cases_lt index (length words)) [
@@ -354,14 +354,14 @@ one_first : (ms : Names) (put : Option Value) (v w : ℕ) → IsFirstValue (each
 one_first ms None v w one other = one ∙ sym other
 one_first ms (Some value) v w one other = one_worth ms value v w one other
 
-pub registers_one : (ms : Names) (puts : List Put) (hart : ℕ) (a b : List ℕ) → AreRegisters (each_once ms) puts hart a → AreRegisters (each_once ms) puts hart b → a ≡ b
+pub registers_one : (ms : Names) (puts : List Equation) (hart : ℕ) (a b : List ℕ) → AreRegisters (each_once ms) puts hart a → AreRegisters (each_once ms) puts hart b → a ≡ b
 registers_one ms puts hart a b one other = ext_get_or 0 a b (one.count ∙ sym other.count) go
   where
     go : (i : ℕ) → i < length a → get_or a i 0 ≡ get_or b i 0
     go zero within = one.zero ∙ sym other.zero
     go (suc i) within = one_first ms (last_put (is_register hart (suc i)) puts) (get_or a (suc i) 0) (get_or b (suc i) 0) (one.others (suc i) (omega arith) (omega (arith, one.count))) (other.others (suc i) (omega arith) (omega (arith, one.count)))
 
-pub words_one : (ms : Names) (puts : List Put) (a b : List ℕ) → AreFirstWords (each_once ms) puts a → AreFirstWords (each_once ms) puts b → a ≡ b
+pub words_one : (ms : Names) (puts : List Equation) (a b : List ℕ) → AreFirstWords (each_once ms) puts a → AreFirstWords (each_once ms) puts b → a ≡ b
 words_one ms puts a b one other = ext_get_or 0 a b (one.count ∙ sym other.count) go
   where
     go : (i : ℕ) → i < length a → get_or a i 0 ≡ get_or b i 0

@@ -1,7 +1,7 @@
 -- The locations in settings have the shapes of names.
 use Rattle.std.proofs.Common.{◌≡◌, ℕ, Bool, true, false, List, [], ◌∷◌, Option, Some, None, refl, sym, subst, inl, inr}
 use Rattle.std.specs.Prelude.{◌==◌, if◌then◌else◌}
-use Rattle.litmus_tokens.specs.Settings.{NamedPlace, Value, Put, IsNamedPlace, IsValue, IsSetting, IsDeclared, IsItem}
+use Rattle.litmus_tokens.specs.Settings.{NamedPlace, Value, Equation, IsNamedPlace, IsValue, IsSetting, IsDeclared, IsItem}
 use Rattle.litmus_tokens.specs.Settings.NamedPlace.{in_register, at_location}
 use Rattle.litmus_tokens.specs.Settings.Value.{number, address_of}
 use Rattle.litmus_tokens.specs.Reading.{setting_at}
@@ -24,10 +24,10 @@ declared_names : (text : List ℕ) (place : NamedPlace) → IsDeclared text plac
 declared_names text (in_register hart register) is = tt
 declared_names text (at_location name) is = is.4
 
-setting_names : (text : List ℕ) (put : Put) → IsSetting text put → HasNames put
+setting_names : (text : List ℕ) (put : Equation) → IsSetting text put → HasNames put
 setting_names text put is = (place_names is.0 put.0 is.3, value_names is.1 put.1 is.4)
 
-item_names : (text : List ℕ) (put : Put) → IsItem text put → HasNames put
+item_names : (text : List ℕ) (put : Equation) → IsItem text put → HasNames put
 item_names text put is = elim is [
   | inl setting ↦ setting_names text put setting
   | inr other ↦ elim other [
@@ -36,10 +36,10 @@ item_names text put is = elim is [
   ]
 ]
 
-pub item_location : (text : List ℕ) (put : Put) → IsItem text put → HasLocation put.0
+pub item_location : (text : List ℕ) (put : Equation) → IsItem text put → HasLocation put.0
 item_location text put is = (item_names text put is).0
 
-pub item_value : (text : List ℕ) (put : Put) → IsItem text put → HasName put.1
+pub item_value : (text : List ℕ) (put : Equation) → IsItem text put → HasName put.1
 item_value text put is = (item_names text put is).1
 
 -- ---- tokens
@@ -57,7 +57,7 @@ paired_named : (token : Token) (second : ℕ) (text : List ℕ) → TokenHasName
 paired_named token second [] names = tt
 paired_named token second (c ∷ rest) names = either_named (c == second) (begins token rest) no_token names tt
 
-atom_named : (o : Option Put) (rest : List ℕ) → ((put : Put) → o ≡ Some put → HasNames put) → Named (atom_from o rest)
+atom_named : (o : Option Equation) (rest : List ℕ) → ((put : Equation) → o ≡ Some put → HasNames put) → Named (atom_from o rest)
 atom_named None rest names = tt
 atom_named (Some put) rest names = names put refl
 

@@ -8,8 +8,8 @@ use Rattle.texts.proofs.ResultLaws.{ok_is}
 use Rattle.step_machine.specs.History.{HartStart}
 use Rattle.litmus.specs.declared.verdict.Quantifier.{Quantifier}
 use Rattle.litmus.specs.Formulas.{Formula}
-use Rattle.litmus.specs.Questions.{Question, question_of}
-use Rattle.litmus_tokens.specs.Settings.{Put}
+use Rattle.litmus.specs.LitmusTests.{LitmusTest, question_of}
+use Rattle.litmus_tokens.specs.Settings.{Equation}
 use Rattle.litmus_reader.specs.declared.faults.LitmusFault.{LitmusFault}
 use Rattle.texts.specs.declared.errors.AtLine.{AtLine}
 use Rattle.texts.specs.declared.errors.TextError.{TextError}
@@ -34,7 +34,7 @@ same_start a b code same =
     rw (code, registers, inbox) refl
 
 -- harts of the same instructions have the same words
-same_harts : (names : Names) (puts : List Put) (rows : List Cells) (hart : ℕ) (xs ys : List HartStart) → AreHarts names puts rows hart (map hart_content xs) → All HasPlainCode xs → All HasPlainCode ys → map hart_content xs ≡ map hart_content ys → xs ≡ ys
+same_harts : (names : Names) (puts : List Equation) (rows : List Cells) (hart : ℕ) (xs ys : List HartStart) → AreHarts names puts rows hart (map hart_content xs) → All HasPlainCode xs → All HasPlainCode ys → map hart_content xs ≡ map hart_content ys → xs ≡ ys
 same_harts names puts rows hart [] [] are p q same = refl
 same_harts names puts rows hart [] (y ∷ ys) are p q same = absurd cc
 same_harts names puts rows hart (x ∷ xs) [] are p q same = absurd cc
@@ -49,7 +49,7 @@ same_harts names puts rows hart (x ∷ xs) (y ∷ ys) are p q same =
 same_question : (xs ys : List HartStart) (words others : List ℕ) (names more : Names) (q r : Quantifier) (f g : Formula) → xs ≡ ys → words ≡ others → names ≡ more → q ≡ r → f ≡ g → question_of xs words names q f ≡ question_of ys others more r g
 same_question xs ys words others names more q r f g a b c d e = rw (a, b, c, d, e) refl
 
-pub one_test : (text : List ℕ) (a b : Question) → IsTestOf text a → IsTestOf text b → a ≡ b
+pub one_test : (text : List ℕ) (a b : LitmusTest) → IsTestOf text a → IsTestOf text b → a ≡ b
 unfolding IsTestOf
 one_test text a b first second =
     let same = one_content text (content_of a) (content_of b) first.0 second.0 in
@@ -60,14 +60,14 @@ one_test text a b first second =
 
 -- ---- what `read` answers
 
-pub found_test : (text : List ℕ) (result : Result Question (TextError (AtLine LitmusFault))) → Gives fault_of content_of result (test_at text) → IfOk result (λ test. All HasPlainCode test.opening.harts) → IfOk result (IsTestOf text)
+pub found_test : (text : List ℕ) (result : Result LitmusTest (TextError (AtLine LitmusFault))) → Gives fault_of content_of result (test_at text) → IfOk result (λ test. All HasPlainCode test.opening.harts) → IfOk result (IsTestOf text)
 unfolding IsTestOf
 found_test text (Ok test) e plain = (content_found text (content_of test) e, plain)
 found_test text (Err error) e plain = tt
 
-pub only_test : (text : List ℕ) (question : Question) (result : Result Question (TextError (AtLine LitmusFault))) → Gives fault_of content_of result (test_at text) → IfOk result (λ test. All HasPlainCode test.opening.harts) → IsTestOf text question → Gives fault_of (λ (test : Question). test) result (Ok question)
+pub only_test : (text : List ℕ) (question : LitmusTest) (result : Result LitmusTest (TextError (AtLine LitmusFault))) → Gives fault_of content_of result (test_at text) → IfOk result (λ test. All HasPlainCode test.opening.harts) → IsTestOf text question → Gives fault_of (λ (test : LitmusTest). test) result (Ok question)
 unfolding IsTestOf
-only_test text question (Ok test) e plain is = ap (λ (t : Question). Ok t) (one_test text question test is (found_test text (Ok test) e plain))
+only_test text question (Ok test) e plain is = ap (λ (t : LitmusTest). Ok t) (one_test text question test is (found_test text (Ok test) e plain))
 only_test text question (Err NoMemory) e plain is = tt
 only_test text question (Err (Refused refusal)) e plain is = absurd (let read = content_only text (content_of question) is.0 in cc)
 

@@ -13,12 +13,12 @@ use Rattle.litmus.specs.Formulas.{Formula, places}
 use Rattle.litmus.specs.Grammar.{Level, operand, conjunction, disjunction, Stands}
 use Rattle.litmus.specs.Grammar.Stands.{atom, negated, enclosed, one_operand, joined, one_conjunction, parted}
 use Rattle.litmus.specs.Drafting.{Stage, stage_after, with_symbol, or_misplaced, symbol_added, finished}
-use Rattle.litmus.specs.Questions.{IsThere}
+use Rattle.litmus.specs.LitmusTests.{IsThere}
 use Rattle.litmus.proofs.FrontLaws.{finished_found}
 use Rattle.litmus_tokens.specs.Settings as setting
 use Rattle.litmus_tokens.specs.Tokens as token
 use Rattle.litmus_tokens.specs.Tokens.{Tokens, tokens_of}
-use Rattle.litmus_reader.specs.declared.condition.Question.{Question}
+use Rattle.litmus_reader.specs.declared.condition.LitmusTest.{LitmusTest}
 use Rattle.litmus_reader.specs.declared.faults.LitmusFault.{LitmusFault}
 use Rattle.texts.specs.declared.errors.TextError.{TextError}
 use Rattle.litmus_reader.specs.declared.refusals.AtLeft.{AtLeft}
@@ -27,7 +27,7 @@ use Rattle.litmus_reader.specs.Faults.{fault_in}
 use Rattle.litmus_reader.specs.Marks.{before_line, from_line}
 use Rattle.litmus_reader.specs.Locations.{Names, index_from, met, value_met}
 use Rattle.litmus_reader.specs.Locations as locations
-use Rattle.litmus_reader.specs.Condition.{Quantified, Asked, Condition, quantifier_in, place_met, atom_met, token_met, as_condition, tokens_told, none_unread, behind_quantifier, condition_in, condition_of}
+use Rattle.litmus_reader.specs.Condition.{Quantified, ConditionSoFar, Condition, quantifier_in, place_met, atom_met, token_met, as_condition, tokens_told, none_unread, behind_quantifier, condition_in, condition_of}
 
 -- ---- symbols whose places are there
 
@@ -139,7 +139,7 @@ place_there harts names (setting.NamedPlace.at_location name) = after_ok (Met na
 abbrev TokenMet : ℕ → Names → (Symbol × Names) → Type 0
 TokenMet harts names found = TokenThere harts (length found.1) found.0 × (length names ≤ length found.1)
 
-atom_there : (harts : ℕ) (names : Names) (put : setting.Put) → IfOk (atom_met harts names put) (TokenMet harts names)
+atom_there : (harts : ℕ) (names : Names) (put : setting.Equation) → IfOk (atom_met harts names put) (TokenMet harts names)
 unfolding atom_met
 atom_there harts names put = after_ok (PlaceMet harts names) (TokenMet harts names) (place_met harts names put.0) _ (place_there harts names put.0) (λ asked here. after_ok (Kept asked.1) (TokenMet harts names) (value_met asked.1 put.1) _ (value_kept asked.1 put.1) (λ value kept. (place_more harts (length asked.1) (length value.1) asked.0 kept here.0, omega (arith, kept, here.1))))
 
@@ -154,7 +154,7 @@ token_there harts names token.Token.closing = (tt, omega arith)
 
 -- ---- all tokens of a condition
 
-abbrev Fine : (harts : ℕ) → Names → Asked → Type 0
+abbrev Fine : (harts : ℕ) → Names → ConditionSoFar → Type 0
 Fine harts names asked = AllThere harts (length asked.1) asked.0 × (length names ≤ length asked.1)
 
 pushed : (harts n : ℕ) (words : List Symbol) (t : Symbol) (o : Option Stage) → AllThere harts n words → TokenThere harts n t → IfOk (as_condition (or_misplaced (with_symbol words t o))) (λ more. AllThere harts n more)
@@ -165,7 +165,7 @@ symbol_there : (harts n : ℕ) (words : List Symbol) (t : Symbol) → AllThere h
 unfolding symbol_added
 symbol_there harts n words t there last = pushed harts n words t (stage_after (words ++ t ∷ [])) there last
 
-tokens_there : (harts : ℕ) (names : Names) (so_far : Asked) (words : Tokens) → Fine harts names so_far → IfOk (tokens_told harts so_far words) (Fine harts names)
+tokens_there : (harts : ℕ) (names : Names) (so_far : ConditionSoFar) (words : Tokens) → Fine harts names so_far → IfOk (tokens_told harts so_far words) (Fine harts names)
 tokens_there harts names so_far token.Tokens.ended fine = fine
 tokens_there harts names so_far token.Tokens.broken fine = tt
 tokens_there harts names so_far (token.Tokens.goes_on first others) fine =
@@ -199,10 +199,10 @@ condition_there harts names text = behind_there harts names text (quantifier_in 
 told_there_of : (harts : ℕ) (names : Names) (text : List ℕ) (asked : Condition) → condition_in harts names text ≡ Ok asked → AsksThere harts names asked
 told_there_of harts names text asked read = let P : Result Condition LitmusFault → Type 0 = λ r. IfOk r (AsksThere harts names) in subst P read (condition_there harts names text)
 
-pub answered_there : (harts : ℕ) (old new : Names) (text : List ℕ) (result : Result Question (TextError AtLeft)) → Gives fault_in (condition_of new) result (condition_in harts old text) → IfOk result (λ asked. All (IsThere harts (length new)) (places asked.condition))
+pub answered_there : (harts : ℕ) (old new : Names) (text : List ℕ) (result : Result LitmusTest (TextError AtLeft)) → Gives fault_in (condition_of new) result (condition_in harts old text) → IfOk result (λ asked. All (IsThere harts (length new)) (places asked.condition))
 answered_there harts old new text (Ok asked) read = (told_there_of harts old text (condition_of new asked) read).0
 answered_there harts old new text (Err e) read = tt
 
-pub answered_more : (harts : ℕ) (old new : Names) (text : List ℕ) (result : Result Question (TextError AtLeft)) → Gives fault_in (condition_of new) result (condition_in harts old text) → IfOk result (λ asked. length old ≤ length new)
+pub answered_more : (harts : ℕ) (old new : Names) (text : List ℕ) (result : Result LitmusTest (TextError AtLeft)) → Gives fault_in (condition_of new) result (condition_in harts old text) → IfOk result (λ asked. length old ≤ length new)
 answered_more harts old new text (Ok asked) read = (told_there_of harts old text (condition_of new asked) read).1
 answered_more harts old new text (Err e) read = tt

@@ -14,7 +14,7 @@ use Rattle.litmus_tokens.specs.Settings as setting
 use Rattle.litmus_tokens.specs.Tokens as token
 use Rattle.litmus_tokens.specs.Tokens.{Tokens, tokens_of}
 use Rattle.litmus_reader.specs.declared.condition.Quantified as code
-use Rattle.litmus_reader.specs.declared.condition.Question as question
+use Rattle.litmus_reader.specs.declared.condition.LitmusTest as question
 use Rattle.litmus_reader.specs.declared.faults.LitmusFault.{LitmusFault}
 use Rattle.litmus_reader.specs.declared.faults.LitmusFault.TheVariants.{BadCondition}
 use Rattle.litmus_reader.specs.declared.marks.Mark.TheVariants.{Unread}
@@ -43,7 +43,7 @@ place_met harts names (setting.NamedPlace.at_location name) = do
   found ← met names name
   Ok (place.Word (4 * found.0), found.1)
 
-unfoldable pub atom_met : (harts : ℕ) → Names → setting.Put → Result (Symbol × Names) LitmusFault
+unfoldable pub atom_met : (harts : ℕ) → Names → setting.Equation → Result (Symbol × Names) LitmusFault
 atom_met harts names put = do
   asked ← place_met harts names put.0
   value ← value_met asked.1 put.1
@@ -63,11 +63,11 @@ abbrev pub as_condition : {A : Type 0} → Result A (Unit {0}) → Result A Litm
 as_condition result = map_err (λ misplaced. BadCondition) result
 
 -- the symbols so far, and the names in them and in the init part
-abbrev pub Asked : Type 0
-Asked = List Symbol × Names
+abbrev pub ConditionSoFar : Type 0
+ConditionSoFar = List Symbol × Names
 
 -- all tokens of a text, after those so far
-abbrev pub tokens_told : (harts : ℕ) → Asked → Tokens → Result Asked LitmusFault
+abbrev pub tokens_told : (harts : ℕ) → ConditionSoFar → Tokens → Result ConditionSoFar LitmusFault
 tokens_told harts so_far token.Tokens.ended = Ok so_far
 tokens_told harts so_far token.Tokens.broken = Err BadCondition
 tokens_told harts so_far (token.Tokens.goes_on first others) = do
@@ -109,7 +109,7 @@ abbrev pub quantified_of : Option code.Quantified → Option Quantified
 quantified_of None = None
 quantified_of (Some quantified) = Some (quantified.quantifier, quantified.tokens.now)
 
-abbrev pub condition_of : Names → question.Question → Condition
+abbrev pub condition_of : Names → question.LitmusTest → Condition
 condition_of names asked = record { quantifier = asked.quantifier; formula = asked.condition; names = names }
 
 -- the locations in a token have the shapes of names

@@ -3,10 +3,10 @@ use Rattle.std.specs.Prelude.{◌≡◌, ℕ, ◌+◌, ◌≤◌, List, [], ◌�
 use Rattle.step_machine.specs.History.{HartStart}
 use Rattle.litmus.specs.declared.symbols.Symbol as known
 use Rattle.litmus.specs.Grammar.{IsConditionOf}
-use Rattle.litmus.specs.Questions.{Question}
-use Rattle.litmus.specs.declared.question.TheConstants.{MAX_LOCATIONS}
+use Rattle.litmus.specs.LitmusTests.{LitmusTest}
+use Rattle.litmus.specs.declared.litmus_test.TheConstants.{MAX_LOCATIONS}
 use Rattle.litmus_tokens.specs.Cleaning.{IsCleaned}
-use Rattle.litmus_tokens.specs.Settings.{Put}
+use Rattle.litmus_tokens.specs.Settings.{Equation}
 use Rattle.litmus_tokens.specs.Tokens.{Token}
 use Rattle.litmus_reader.specs.Locations.{Names}
 use Rattle.litmus_reader.specs.Table.{IsPlainCode}
@@ -14,11 +14,11 @@ use Rattle.litmus_reader.specs.Shapes.{AreParts}
 use Rattle.litmus_reader.specs.Layout.{IsLaidOut}
 use Rattle.litmus_reader.specs.Openings.{AreItems, names_in, each_once, AreRegisters, AreFirstWords, IsHartThere}
 use Rattle.litmus_reader.specs.Columns.{Cells, IsTable, column_of, IsColumnCode}
-use Rattle.litmus_reader.specs.Asked.{IsQuestion, atoms_in, AreKnown}
+use Rattle.litmus_reader.specs.ConditionGrammar.{IsQuestion, atoms_in, AreKnown}
 use Rattle.litmus_reader.specs.Reading.{HartContent, Content, content_of}
 
 -- each hart has its column's code and the registers that the items put; the first one is this hart
-abbrev pub AreHarts : Names → List Put → List Cells → (hart : ℕ) → List HartContent → Type 0
+abbrev pub AreHarts : Names → List Equation → List Cells → (hart : ℕ) → List HartContent → Type 0
 AreHarts names puts rows hart [] = Unit {0}
 AreHarts names puts rows hart (first ∷ others) = IsColumnCode (column_of hart rows) first.code × AreRegisters names puts hart first.registers × (first.inbox ≡ []) × AreHarts names puts rows (hart + 1) others
 
@@ -29,7 +29,7 @@ pub record IsContent (text : List ℕ) (content : Content) : Type 0 where
   pub table : List ℕ
   pub asked : List ℕ
   pub parts : List (List ℕ)
-  pub puts : List Put
+  pub puts : List Equation
   pub rows : List Cells
   pub tokens : List Token
   pub known : List known.Symbol
@@ -52,5 +52,5 @@ abbrev pub HasPlainCode : HartStart → Type 0
 HasPlainCode hart = IsPlainCode hart.code
 
 -- the text's test
-unfoldable pub IsTestOf : List ℕ → Question → Type 0
+unfoldable pub IsTestOf : List ℕ → LitmusTest → Type 0
 IsTestOf text question = IsContent text (content_of question) × All HasPlainCode question.opening.harts

@@ -3,7 +3,7 @@ use Rattle.std.specs.Prelude.{ℕ, List, [], ◌∷◌, ◌++◌, map, Option, N
 use Rattle.std.specs.List.{list_all}
 use Rattle.texts.specs.Results.{◌>>=◌}
 use Rattle.texts.specs.Pieces.{is_gap, pieces}
-use Rattle.litmus_tokens.specs.Settings.{NamedPlace, Put}
+use Rattle.litmus_tokens.specs.Settings.{NamedPlace, Equation}
 use Rattle.litmus_tokens.specs.Settings.NamedPlace.{in_register, at_location}
 use Rattle.litmus_tokens.specs.Reading.{item_at}
 use Rattle.litmus_reader.specs.declared.faults.LitmusFault.{LitmusFault}
@@ -43,7 +43,7 @@ target_met names (at_location name) = do
   Ok (Word found.0, found.1)
 
 -- the items with one more
-unfoldable pub item_told : InitItems → Option Put → Result InitItems LitmusFault
+unfoldable pub item_told : InitItems → Option Equation → Result InitItems LitmusFault
 item_told so_far None = Err BadInit
 item_told so_far (Some put) = do
   target ← target_met so_far.names put.0

@@ -13,6 +13,6 @@ pub mod Shapes
 pub mod Layout
 pub mod Openings
 pub mod Columns
-pub mod Asked
+pub mod ConditionGrammar
 pub mod Grammar
 pub mod Headings

@@ -3,12 +3,12 @@ use Rattle.std.specs.Prelude.{ℕ, IsTrue, ◌+◌, ◌*◌, nat_lt, List, [], �
 use Rattle.std.specs.Str.{bytes_eq}
 use Rattle.texts.specs.Results.{◌>>=◌}
 use Rattle.litmus_tokens.specs.Names.{is_name}
-use Rattle.litmus_tokens.specs.Settings.{NamedPlace, Value, Put}
+use Rattle.litmus_tokens.specs.Settings.{NamedPlace, Value, Equation}
 use Rattle.litmus_tokens.specs.Settings.NamedPlace.{in_register, at_location}
 use Rattle.litmus_tokens.specs.Settings.Value.{number, address_of}
 use Rattle.litmus_reader.specs.declared.faults.LitmusFault.{LitmusFault}
 use Rattle.litmus_reader.specs.declared.faults.LitmusFault.TheVariants.{TooMany}
-use Rattle.litmus.specs.declared.question.TheConstants.{MAX_LOCATIONS}
+use Rattle.litmus.specs.declared.litmus_test.TheConstants.{MAX_LOCATIONS}
 
 abbrev pub Names : Type 0
 Names = List (List ℕ)
@@ -35,7 +35,7 @@ abbrev pub HasName : Value → Type 0
 HasName (number n) = Unit {0}
 HasName (address_of name) = IsTrue (is_name name)
 
-abbrev pub HasNames : Put → Type 0
+abbrev pub HasNames : Equation → Type 0
 HasNames put = HasLocation put.0 × HasName put.1
 
 -- the value that is put; the word of a location has the address of 4 times its index

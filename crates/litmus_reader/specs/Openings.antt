@@ -2,7 +2,7 @@
 use Rattle.std.specs.Prelude.{◌≡◌, ℕ, ◌*◌, ◌<◌, ◌≤◌, ◌==◌, ◌&&◌, Bool, false, not, List, [], ◌∷◌, ◌++◌, length, filter, Option, Some, None, if◌then◌else◌}
 use Rattle.std.specs.List.{slice_index_or}
 use Rattle.std.specs.Str.{bytes_eq}
-use Rattle.litmus_tokens.specs.Settings.{NamedPlace, Value, Put, IsItem}
+use Rattle.litmus_tokens.specs.Settings.{NamedPlace, Value, Equation, IsItem}
 use Rattle.litmus_tokens.specs.Settings.NamedPlace.{in_register, at_location}
 use Rattle.litmus_tokens.specs.Settings.Value.{number, address_of}
 use Rattle.texts.specs.Pieces.{is_gap}
@@ -10,10 +10,10 @@ use Rattle.texts.specs.Cutting.{AllPass}
 use Rattle.litmus_reader.specs.Locations.{Names}
 
 -- The items that stand between `;`; blanks and line ends alone are none.
-pub data AreItems : List (List ℕ) → List Put → Type 0 where
+pub data AreItems : List (List ℕ) → List Equation → Type 0 where
   none : AreItems [] []
-  empty : (part : List ℕ) (parts : List (List ℕ)) (puts : List Put) → AllPass is_gap part → AreItems parts puts → AreItems (part ∷ parts) puts
-  item : (part : List ℕ) (parts : List (List ℕ)) (put : Put) (puts : List Put) → IsItem part put → AreItems parts puts → AreItems (part ∷ parts) (put ∷ puts)
+  empty : (part : List ℕ) (parts : List (List ℕ)) (puts : List Equation) → AllPass is_gap part → AreItems parts puts → AreItems (part ∷ parts) puts
+  item : (part : List ℕ) (parts : List (List ℕ)) (put : Equation) (puts : List Equation) → IsItem part put → AreItems parts puts → AreItems (part ∷ parts) (put ∷ puts)
 
 -- ---- locations
 
@@ -26,7 +26,7 @@ name_of_value (number n) = []
 name_of_value (address_of name) = name ∷ []
 
 -- the names that stand in these, from the left
-abbrev pub names_in : List Put → Names
+abbrev pub names_in : List Equation → Names
 names_in [] = []
 names_in (put ∷ puts) = name_of_place put.0 ++ (name_of_value put.1 ++ names_in puts)
 
@@ -51,7 +51,7 @@ or_else None other = other
 or_else (Some value) other = Some value
 
 -- what the last of the items that put something there puts there
-abbrev pub last_put : (NamedPlace → Bool) → List Put → Option Value
+abbrev pub last_put : (NamedPlace → Bool) → List Equation → Option Value
 last_put is_there [] = None
 last_put is_there (put ∷ puts) = or_else (last_put is_there puts) (if is_there put.0 then Some put.1 else None)
 
@@ -69,17 +69,17 @@ IsFirstValue names None word = word ≡ 0
 IsFirstValue names (Some value) word = IsWorth names value word
 
 -- the hart's registers x0 to x31; x0 stays 0
-pub record AreRegisters (names : Names) (puts : List Put) (hart : ℕ) (registers : List ℕ) : Type 0 where
+pub record AreRegisters (names : Names) (puts : List Equation) (hart : ℕ) (registers : List ℕ) : Type 0 where
   pub count : length registers ≡ 32
   pub zero : slice_index_or registers 0 0 ≡ 0
   pub others : (n : ℕ) → 1 ≤ n → n < 32 → IsFirstValue names (last_put (is_register hart n) puts) (slice_index_or registers n 0)
 
 -- a word for each location
-pub record AreFirstWords (names : Names) (puts : List Put) (words : List ℕ) : Type 0 where
+pub record AreFirstWords (names : Names) (puts : List Equation) (words : List ℕ) : Type 0 where
   pub count : length words ≡ length names
   pub values : (index : ℕ) (name : List ℕ) → IsAt names name index → IsFirstValue names (last_put (is_location name) puts) (slice_index_or words index 0)
 
 -- an item for a register names a hart of the table
-abbrev pub IsHartThere : (harts : ℕ) → Put → Type 0
+abbrev pub IsHartThere : (harts : ℕ) → Equation → Type 0
 IsHartThere harts (in_register hart register, value) = hart < harts
 IsHartThere harts (at_location name, value) = Unit {0}

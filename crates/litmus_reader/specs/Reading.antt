@@ -7,7 +7,7 @@ use Rattle.rv_decode.specs.Meaning.{meaning}
 use Rattle.step_machine.specs.History.{HartStart}
 use Rattle.litmus.specs.declared.verdict.Quantifier.{Quantifier}
 use Rattle.litmus.specs.Formulas.{Formula}
-use Rattle.litmus.specs.Questions.{Question}
+use Rattle.litmus.specs.LitmusTests.{LitmusTest}
 use Rattle.litmus_tokens.specs.Cleaning.{cleaned_text}
 use Rattle.litmus_reader.specs.declared.faults.LitmusFault.{LitmusFault}
 use Rattle.litmus_reader.specs.declared.marks.Mark.TheVariants as mark
@@ -36,7 +36,7 @@ pub record Content : Type 0 where
 abbrev pub hart_content : HartStart → HartContent
 hart_content hart = record { code = map meaning hart.code; registers = hart.registers; inbox = hart.inbox }
 
-abbrev pub content_of : Question → Content
+abbrev pub content_of : LitmusTest → Content
 content_of question = record { harts = map hart_content question.opening.harts; words = question.opening.words; names = question.names; quantifier = question.quantifier; condition = question.condition }
 
 -- each hart's code with its registers; nothing is in an inbox

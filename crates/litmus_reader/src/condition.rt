@@ -4,7 +4,7 @@ ghost use Rattle.std.specs.Prelude.{◌≡◌, ◌≤◌, List, [], length, All,
 ghost use Rattle.std.specs.Result.{IfErr};
 ghost use Rattle.texts.specs.Results.{Gives};
 ghost use Rattle.litmus.specs.Formulas.{Formula, places};
-ghost use Rattle.litmus.specs.Questions.{IsThere};
+ghost use Rattle.litmus.specs.LitmusTests.{IsThere};
 ghost use Rattle.litmus.specs.Drafting.{symbol_added, finished};
 ghost use Rattle.litmus.specs.declared.symbols.Symbol.{Symbol};
 ghost use Rattle.litmus_tokens.specs.Settings.{place_of as place_put, put_of};
@@ -175,7 +175,7 @@ fn finish(draft: ConditionDraft) -> Result<Condition, Refusal>
 
 /// What a test asks at the end.
 #[derive(Drop)]
-pub struct Question {
+pub struct LitmusTest {
     pub quantifier: Quantifier,
     pub condition: Condition,
 }
@@ -187,7 +187,7 @@ fn question_in(
     text: &[u8],
     harts: usize,
     locations: &mut Locations,
-) -> Result<Question, Refusal>
+) -> Result<LitmusTest, Refusal>
     requires { harts ≤ MAX_HARTS }
     ensures { Gives fault_in (condition_of locations.new) result (condition_in harts locations.old text.now) }
 {
@@ -201,7 +201,7 @@ fn question_in(
         return Err(LitmusFault::BadCondition.at(rest.len()));
     }
     let condition = finish(draft)?;
-    Ok(Question {
+    Ok(LitmusTest {
         quantifier,
         condition,
     })
@@ -215,7 +215,7 @@ pub fn read_condition(
     text: &[u8],
     harts: usize,
     locations: &mut Locations,
-) -> Result<Question, Refusal>
+) -> Result<LitmusTest, Refusal>
     requires { harts ≤ MAX_HARTS }
     ensures exact { Gives fault_in (condition_of locations.new) result (condition_in harts locations.old text.now) }
     ensures there { IfOk result (λ asked. All (IsThere harts (length locations.new)) (places asked.condition)) }

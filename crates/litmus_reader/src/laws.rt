@@ -2,7 +2,7 @@
 
 ghost use Rattle.std.specs.Prelude.{◌≡◌, ◌↔◌, ℕ, List, Ok};
 ghost use Rattle.std.specs.Result.{IsErr};
-ghost use Rattle.litmus.specs.Questions.{Question};
+ghost use Rattle.litmus.specs.LitmusTests.{LitmusTest};
 ghost use Rattle.litmus_reader.specs.Reading.{Content, test_at};
 ghost use Rattle.litmus_reader.specs.Grammar.{IsContent, IsTestOf};
 ghost use Rattle.litmus_reader.specs.Headings.{HeadingOf, IsHeading, heading_at};
@@ -10,7 +10,7 @@ ghost use Rattle.litmus_reader.specs.Headings.{HeadingOf, IsHeading, heading_at}
 /// A text stands for one test at most, the words of its code among it. It does nothing.
 pub fn one_test()
     ensures contents { (text : List ℕ) (a b : Content) → IsContent text a → IsContent text b → a ≡ b }
-    ensures tests { (text : List ℕ) (a b : Question) → IsTestOf text a → IsTestOf text b → a ≡ b }
+    ensures tests { (text : List ℕ) (a b : LitmusTest) → IsTestOf text a → IsTestOf text b → a ≡ b }
 {}
 
 /// Reading a text from the top answers what it stands for, and names a fault exactly where it stands

@@ -3,7 +3,7 @@
 //! The contract: [`read`] answers the test that the text stands for, or the kind of the first fault in
 //! reading order. Which text stands for which test is defined by cases in `specs/Grammar.antt`, on the
 //! shapes of texts (`Shapes`), the layout (`Layout`), the init part (`Openings`), the table (`Columns`)
-//! and the condition (`Asked`); a text has one test at most ([`laws::one_test`]), its code the one plain
+//! and the condition (`ConditionGrammar`); a text has one test at most ([`laws::one_test`]), its code the one plain
 //! word of each instruction. Which fault is the first one is defined by the reading from the top, a function
 //! of the text (`Reading`), part by part: `Header`, `Init`, `Rows`, `Table`, `Values`, `Condition`; it
 //! names a fault exactly where the text has no test ([`laws::refused_without_value`]). Both stand on the

@@ -7,7 +7,7 @@ ghost use Rattle.texts.specs.Results.{Gives};
 ghost use Rattle.litmus_reader.specs.Faults.{fault_in};
 ghost use Rattle.litmus_tokens.specs.Names.{is_name, goes_on_name};
 ghost use Rattle.litmus_reader.specs.Locations.{index_from, met};
-ghost use Rattle.litmus.specs.declared.question.TheConstants.{MAX_LOCATIONS};
+ghost use Rattle.litmus.specs.declared.litmus_test.TheConstants.{MAX_LOCATIONS};
 
 use crate::faults::LitmusFault;
 use crate::refusals::Refusal;

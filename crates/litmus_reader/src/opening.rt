@@ -6,7 +6,7 @@ ghost use Rattle.litmus_reader.specs.Faults.{fault_in};
 ghost use Rattle.litmus_reader.specs.Init.{item_of};
 ghost use Rattle.litmus_reader.specs.Values.{values_in, zeros, item_put, items_put, starts_of};
 ghost use Rattle.step_machine.specs.declared.opening.TheConstants.{MAX_HARTS};
-ghost use Rattle.litmus.specs.declared.question.TheConstants.{MAX_LOCATIONS};
+ghost use Rattle.litmus.specs.declared.litmus_test.TheConstants.{MAX_LOCATIONS};
 
 use crate::faults::LitmusFault;
 use crate::init::{Item, Target};

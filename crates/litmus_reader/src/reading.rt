@@ -3,7 +3,7 @@
 ghost use Rattle.std.specs.Prelude.{◌≡◌, ◌≤◌, length, vec_len, Ok, IfOk, All};
 ghost use Rattle.std.specs.Option.{option_copied};
 ghost use Rattle.texts.specs.Results.{Gives};
-ghost use Rattle.litmus.specs.Questions.{Question as Asked, IsThere, IsTest};
+ghost use Rattle.litmus.specs.LitmusTests.{LitmusTest, IsThere, IsTest};
 ghost use Rattle.litmus.specs.Formulas.{places};
 ghost use Rattle.litmus_reader.specs.Faults.{fault_of, fault_in};
 ghost use Rattle.litmus_reader.specs.Init.{items_of};
@@ -14,7 +14,7 @@ ghost use Rattle.litmus_reader.specs.Reading.{content_of, content, content_below
 ghost use Rattle.litmus_reader.specs.Grammar.{HasPlainCode, IsTestOf};
 ghost use Rattle.step_machine.specs.declared.opening.TheConstants.{MAX_HARTS};
 
-use crate::condition::{Question, read_condition};
+use crate::condition::{LitmusTest, read_condition};
 use crate::faults::{LitmusError, LitmusFault};
 use crate::header::{behind_brace, behind_header};
 use crate::init::{Init, read_items};
@@ -34,7 +34,7 @@ fn assemble(
     codes: Vec<Vec<u32>>,
     values: Values,
     locations: Locations,
-    asked: Question,
+    asked: LitmusTest,
 ) -> Result<Test, AllocError>
     requires some { 1 ≤ vec_len codes }
     requires few { vec_len codes ≤ MAX_HARTS }
@@ -53,7 +53,7 @@ fn assemble(
     let more = locations.count() - words.len();
     pad(&mut words, more)?;
     let harts = harts_of(alloc, codes, &registers)?;
-    let Question {
+    let LitmusTest {
         quantifier,
         condition,
     } = asked;
@@ -140,7 +140,7 @@ fn cleaned_test(alloc: Global, text: &[u8]) -> Result<Test, LitmusError>
 #[tactic(auto, using(crate::proofs::TestGrammar::found_test, crate::proofs::TestGrammar::only_test))]
 pub fn read(alloc: Global, text: &str) -> Result<Test, LitmusError>
     ensures found { IfOk result (IsTestOf text.now) }
-    ensures only { (question : Asked) → IsTestOf text.now question → Gives fault_of (λ (test : Asked). test) result (Ok question) }
+    ensures only { (question : LitmusTest) → IsTestOf text.now question → Gives fault_of (λ (test : LitmusTest). test) result (Ok question) }
     ensures exact { Gives fault_of content_of result (test_at text.now) }
     ensures fits { IfOk result IsTest }
 {

@@ -5,7 +5,7 @@ ghost use Rattle.texts.specs.Results.{Gives};
 ghost use Rattle.litmus_tokens.specs.Settings.{value_of as value_put};
 ghost use Rattle.litmus_reader.specs.Faults.{fault_in};
 ghost use Rattle.litmus_reader.specs.Locations.{HasName, value_met};
-ghost use Rattle.litmus.specs.declared.question.TheConstants.{MAX_LOCATIONS};
+ghost use Rattle.litmus.specs.declared.litmus_test.TheConstants.{MAX_LOCATIONS};
 
 use crate::locations::Locations;
 use crate::refusals::Refusal;

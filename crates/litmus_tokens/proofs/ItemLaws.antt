@@ -9,7 +9,7 @@ use Rattle.texts.specs.Cutting.{NonePass, before, after, is_byte, stripped}
 use Rattle.texts.proofs.CuttingLaws.{before_none, after_none, before_stop, after_stop, cut_byte, uncut}
 use Rattle.texts.specs.Pieces.{is_gap}
 use Rattle.litmus_tokens.specs.Names.{core, goes_on_name}
-use Rattle.litmus_tokens.specs.Settings.{NamedPlace, Value, Put, IsNamedPlace, IsDeclared, IsItem}
+use Rattle.litmus_tokens.specs.Settings.{NamedPlace, Value, Equation, IsNamedPlace, IsDeclared, IsItem}
 use Rattle.litmus_tokens.specs.Settings.NamedPlace.{in_register, at_location}
 use Rattle.litmus_tokens.specs.Settings.Value.{number}
 use Rattle.litmus_tokens.specs.Reading.{value_in, inside, place_in, begins_with_gap, behind_int, declared_in, place_or, item_place_in, item_round, item_at}
@@ -90,7 +90,7 @@ item_place_found : (left : List ℕ) (place : NamedPlace) (declared : Option Nam
 item_place_found left place None is e = inl (place_found left place e)
 item_place_found left place (Some other) is e = inr (declared_found left place (is ∙ e))
 
-pub item_found : (text : List ℕ) (put : Put) → item_at text ≡ Some put → IsItem text put
+pub item_found : (text : List ℕ) (put : Equation) → item_at text ≡ Some put → IsItem text put
 unfolding item_at item_place_in
 item_found text put e = go (after (is_byte 61) text) refl e
   where
@@ -116,7 +116,7 @@ undeclared left place (Some other) is at =
     let some = place_read left place at in
     absurd cc
 
-pub item_read : (text : List ℕ) (put : Put) → IsItem text put → item_at text ≡ Some put
+pub item_read : (text : List ℕ) (put : Equation) → IsItem text put → item_at text ≡ Some put
 unfolding item_at item_place_in
 item_read text put (inl (left, right, is, place, value)) =
     let free = place_free 61 refl refl refl refl refl left put.0 place in
@@ -130,6 +130,6 @@ item_read text put (inr (inr (declared, zero_is))) =
 
 -- ---- what the reader answers
 
-pub found_item : (text : List ℕ) (o : Option Put) → o ≡ item_at text → IfSome o (IsItem text)
+pub found_item : (text : List ℕ) (o : Option Equation) → o ≡ item_at text → IfSome o (IsItem text)
 found_item text None e = tt
 found_item text (Some put) e = item_found text put (sym e)

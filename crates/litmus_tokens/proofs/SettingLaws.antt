@@ -13,7 +13,7 @@ use Rattle.texts.specs.Numbers.{number_of}
 use Rattle.texts.proofs.NumberLaws.{capped_value-said, says_number}
 use Rattle.texts.specs.Pieces.{is_gap}
 use Rattle.litmus_tokens.specs.Names.{core, begins_name, goes_on_name, is_spelled, is_not, is_name, word_in}
-use Rattle.litmus_tokens.specs.Settings.{NamedPlace, Value, Put, IsValue, IsNamedPlace, IsSetting}
+use Rattle.litmus_tokens.specs.Settings.{NamedPlace, Value, Equation, IsValue, IsNamedPlace, IsSetting}
 use Rattle.litmus_tokens.specs.Settings.NamedPlace.{in_register, at_location}
 use Rattle.litmus_tokens.specs.Settings.Value.{number, address_of}
 use Rattle.litmus_tokens.specs.Reading.{value_from, value_in, register_from, named, closed, location_in, place_round, place_in, put_from, setting_round, setting_at}
@@ -129,17 +129,17 @@ place_read text (at_location name) (is, inr (inner, whole, same)) =
 
 -- ---- settings
 
-pub put_is : (a b : Put) → Some a ≡ Some b → a ≡ b
+pub put_is : (a b : Equation) → Some a ≡ Some b → a ≡ b
 put_is a b e = cc
 
-pub put_from_found : (place : Option NamedPlace) (value : Option Value) (put : Put) → put_from place value ≡ Some put → (place ≡ Some put.0) × (value ≡ Some put.1)
+pub put_from_found : (place : Option NamedPlace) (value : Option Value) (put : Equation) → put_from place value ≡ Some put → (place ≡ Some put.0) × (value ≡ Some put.1)
 put_from_found None value put e = absurd cc
 put_from_found (Some place) None put e = absurd cc
 put_from_found (Some place) (Some value) put e =
     let same : (place, value) ≡ put = put_is (place, value) put e in
-    (ap (λ (p : Put). Some p.0) same, ap (λ (p : Put). Some p.1) same)
+    (ap (λ (p : Equation). Some p.0) same, ap (λ (p : Equation). Some p.1) same)
 
-pub setting_found : (text : List ℕ) (put : Put) → setting_at text ≡ Some put → IsSetting text put
+pub setting_found : (text : List ℕ) (put : Equation) → setting_at text ≡ Some put → IsSetting text put
 unfolding setting_at
 setting_found text put e = go (after (is_byte 61) text) refl e
   where
@@ -149,7 +149,7 @@ setting_found text put e = go (after (is_byte 61) text) refl e
         let told = put_from_found (place_in (before (is_byte 61) text)) (value_in right) put h in
         (before (is_byte 61) text, right, cut_byte 61 text right some, place_found (before (is_byte 61) text) put.0 told.0, value_found right put.1 told.1)
 
-pub setting_read : (text : List ℕ) (put : Put) → IsSetting text put → setting_at text ≡ Some put
+pub setting_read : (text : List ℕ) (put : Equation) → IsSetting text put → setting_at text ≡ Some put
 unfolding setting_at
 setting_read text put (left, right, is, place, value) =
     let free = place_free 61 refl refl refl refl refl left put.0 place in
@@ -157,6 +157,6 @@ setting_read text put (left, right, is, place, value) =
 
 -- ---- what the reader answers
 
-pub found_setting : (text : List ℕ) (o : Option Put) → o ≡ setting_at text → IfSome o (IsSetting text)
+pub found_setting : (text : List ℕ) (o : Option Equation) → o ≡ setting_at text → IfSome o (IsSetting text)
 found_setting text None e = tt
 found_setting text (Some put) e = setting_found text put (sym e)

@@ -8,7 +8,7 @@ use Rattle.std.proofs.lemmas.Slice.Eq.{starts_is}
 use Rattle.texts.specs.Cutting.{before, AllPass, NonePass, from_first, without_leading}
 use Rattle.texts.proofs.TrimLaws.{leading_all, leading_past, leading_split, leading_first, leading_gone}
 use Rattle.texts.specs.Pieces.{is_gap}
-use Rattle.litmus_tokens.specs.Settings.{Put, IsSetting}
+use Rattle.litmus_tokens.specs.Settings.{Equation, IsSetting}
 use Rattle.litmus_tokens.specs.Reading.{setting_at}
 use Rattle.litmus_tokens.specs.Tokens.{Token, Beginning, Tokens, is_mark, ends_name, behind_not, paired, atom_from, negation_or, unmarked, begun, beginning_of, tokens_from, tokens_of, EndsAtom, Spells, AreTokens, listed}
 use Rattle.litmus_tokens.specs.Tokens.Token.{atom, negation, conjunction, disjunction, opening, closing}
@@ -75,7 +75,7 @@ begun_plain c rest plain = rw (plain.open_none, plain.close_none, plain.tilde_no
 -- ---- what is spelled is read
 
 -- an atom, where it is known to be one
-atom_read : (first : ℕ) (others rest : List ℕ) (put : Put) → NonePass is_mark (first ∷ others) → EndsAtom rest → behind_not (first ∷ (others ++ rest)) ≡ None → IsSetting (first ∷ others) put → unmarked (first ∷ (others ++ rest)) ≡ begins (atom put) rest
+atom_read : (first : ℕ) (others rest : List ℕ) (put : Equation) → NonePass is_mark (first ∷ others) → EndsAtom rest → behind_not (first ∷ (others ++ rest)) ≡ None → IsSetting (first ∷ others) put → unmarked (first ∷ (others ++ rest)) ≡ begins (atom put) rest
 unfolding unmarked
 atom_read first others rest put none ends no_name is =
     rw (no_name, before_mark (first ∷ others) rest none ends, from_mark (first ∷ others) rest none ends, setting_read (first ∷ others) put is) refl
@@ -151,7 +151,7 @@ not_front text rest e = go (starts_with nat_eq text (codes "not") && ends_name (
         subst (λ (r : List ℕ). (text ≡ codes "not" ++ r) × (ends_name r ≡ true)) same (cut, parts.1)
     go false isnt = (let never = rw isnt at e in absurd cc)
 
-atom_found : (c : ℕ) (behind : List ℕ) (token : Token) (rest : List ℕ) (put : Option Put) → is_gap c ≡ false → is_mark c ≡ false → behind_not (c ∷ behind) ≡ None → setting_at (c ∷ before is_mark behind) ≡ put → atom_from put (from_first is_mark behind) ≡ begins token rest → Spelled (c ∷ behind) token rest
+atom_found : (c : ℕ) (behind : List ℕ) (token : Token) (rest : List ℕ) (put : Option Equation) → is_gap c ≡ false → is_mark c ≡ false → behind_not (c ∷ behind) ≡ None → setting_at (c ∷ before is_mark behind) ≡ put → atom_from put (from_first is_mark behind) ≡ begins token rest → Spelled (c ∷ behind) token rest
 atom_found c behind token rest None solid plain no_name is e = absurd cc
 atom_found c behind token rest (Some put) solid plain no_name is e =
     let cut = stretch behind in
@@ -205,7 +205,7 @@ paired_some one second (d ∷ more) e = go (d == second) refl
     go true is = (let never = rw is at e in absurd cc)
     go false isnt = (let never = rw isnt at e in absurd cc)
 
-told_some : (name : Option (List ℕ)) (put : Option Put) (rest : List ℕ) → negation_or name (atom_from put rest) ≡ nothing → ⊥
+told_some : (name : Option (List ℕ)) (put : Option Equation) (rest : List ℕ) → negation_or name (atom_from put rest) ≡ nothing → ⊥
 told_some (Some more) put rest e = absurd cc
 told_some None None rest e = absurd cc
 told_some None (Some put) rest e = absurd cc

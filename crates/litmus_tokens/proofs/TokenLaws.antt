@@ -3,7 +3,7 @@ use Rattle.std.proofs.Common.{◌≡◌, ℕ, suc, zero, ◌<◌, ◌≤◌, ◌
 use Rattle.std.specs.Prelude.{nat_eq, codes}
 use Rattle.std.specs.List.{starts_with}
 use Rattle.texts.specs.Cutting.{before, fails, from_first, without_leading}
-use Rattle.litmus_tokens.specs.Settings.{Put}
+use Rattle.litmus_tokens.specs.Settings.{Equation}
 use Rattle.litmus_tokens.specs.Reading.{setting_at}
 use Rattle.litmus_tokens.specs.Tokens.{Token, Beginning, Tokens, is_mark, ends_name, behind_not, paired, atom_from, negation_or, unmarked, begun, beginning_of, tokens_from, tokens_within, tokens_of, LeavesLess}
 use Rattle.litmus_tokens.specs.Tokens.Beginning.{nothing, begins, no_token}
@@ -22,7 +22,7 @@ not_or_less c rest other less = go (starts_with nat_eq (c ∷ rest) (codes "not"
     go true is = rw is (omega (arith, length-drop 3 (c ∷ rest)))
     go false isnt = rw isnt less
 
-atom_less : (c : ℕ) (rest : List ℕ) (put : Option Put) → is_mark c ≡ false → LeavesLess (c ∷ rest) (atom_from put (from_first is_mark (c ∷ rest)))
+atom_less : (c : ℕ) (rest : List ℕ) (put : Option Equation) → is_mark c ≡ false → LeavesLess (c ∷ rest) (atom_from put (from_first is_mark (c ∷ rest)))
 atom_less c rest None other = tt
 atom_less c rest (Some put) other = rw other (omega (arith, length-from_first is_mark rest))
 

@@ -7,7 +7,7 @@ use Rattle.texts.specs.Numbers.{number_of}
 use Rattle.texts.specs.Cutting.{before, after, is_byte}
 use Rattle.texts.specs.Pieces.{is_gap}
 use Rattle.litmus_tokens.specs.Names.{core, is_name, word_in}
-use Rattle.litmus_tokens.specs.Settings.{NamedPlace, Value, Put}
+use Rattle.litmus_tokens.specs.Settings.{NamedPlace, Value, Equation}
 use Rattle.litmus_tokens.specs.Settings.NamedPlace.{in_register, at_location}
 use Rattle.litmus_tokens.specs.Settings.Value.{number, address_of}
 
@@ -53,16 +53,16 @@ place_in text = place_round (before (is_byte 58) text) (after (is_byte 58) text)
 
 -- ---- settings
 
-abbrev pub put_from : Option NamedPlace → Option Value → Option Put
+abbrev pub put_from : Option NamedPlace → Option Value → Option Equation
 put_from None value = None
 put_from (Some place) None = None
 put_from (Some place) (Some value) = Some (place, value)
 
-abbrev pub setting_round : List ℕ → Option (List ℕ) → Option Put
+abbrev pub setting_round : List ℕ → Option (List ℕ) → Option Equation
 setting_round left None = None
 setting_round left (Some right) = put_from (place_in left) (value_in right)
 
-unfoldable pub setting_at : List ℕ → Option Put
+unfoldable pub setting_at : List ℕ → Option Equation
 setting_at text = setting_round (before (is_byte 61) text) (after (is_byte 61) text)
 
 -- ---- items
@@ -85,10 +85,10 @@ place_or (Some place) other = Some place
 unfoldable pub item_place_in : List ℕ → Option NamedPlace
 item_place_in text = place_or (declared_in text) (place_in text)
 
-abbrev pub item_round : List ℕ → Option (List ℕ) → Option Put
+abbrev pub item_round : List ℕ → Option (List ℕ) → Option Equation
 item_round text None = put_from (declared_in text) (Some (number 0))
 item_round left (Some right) = put_from (item_place_in left) (value_in right)
 
 -- the text before the `=`, if it has one, and the value after it
-unfoldable pub item_at : List ℕ → Option Put
+unfoldable pub item_at : List ℕ → Option Equation
 item_at text = item_round (before (is_byte 61) text) (after (is_byte 61) text)

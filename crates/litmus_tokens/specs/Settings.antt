@@ -22,8 +22,8 @@ pub data Value : Type 0 where
   address_of : List ℕ → Value
 
 -- which value is put where
-abbrev pub Put : Type 0
-Put = NamedPlace × Value
+abbrev pub Equation : Type 0
+Equation = NamedPlace × Value
 
 -- ---- the grammar; blanks and LFs stand round each part
 
@@ -37,7 +37,7 @@ IsNamedPlace text (in_register hart register) = (digits name : List ℕ) × (n :
 IsNamedPlace text (at_location name) = IsTrue (is_name name) × ((core text ≡ name) ⊎ ((inner : List ℕ) × (core text ≡ 91 ∷ (inner ++ 93 ∷ [])) × (core inner ≡ name)))
 
 -- The text puts a value: a place, `=` (61), and the value.
-abbrev pub IsSetting : List ℕ → Put → Type 0
+abbrev pub IsSetting : List ℕ → Equation → Type 0
 IsSetting text put = (left right : List ℕ) × (text ≡ left ++ 61 ∷ right) × IsNamedPlace left put.0 × IsValue right put.1
 
 -- `int` and a name, with a gap between them
@@ -46,7 +46,7 @@ IsDeclared text (in_register hart register) = ⊥
 IsDeclared text (at_location name) = (gap : ℕ) × (rest : List ℕ) × (core text ≡ codes "int" ++ gap ∷ rest) × IsTrue (is_gap gap) × IsTrue (is_name name) × (core rest ≡ name)
 
 -- The item puts a value: a setting, or one of a declared location, which gets 0 where no value is given.
-abbrev pub IsItem : List ℕ → Put → Type 0
+abbrev pub IsItem : List ℕ → Equation → Type 0
 IsItem text put = IsSetting text put ⊎ (((left right : List ℕ) × (text ≡ left ++ 61 ∷ right) × IsDeclared left put.0 × IsValue right put.1) ⊎ (IsDeclared text put.0 × (put.1 ≡ number 0)))
 
 -- ---- what the code's values stand for
@@ -59,9 +59,9 @@ abbrev pub value_of : Worth → Value
 value_of (Number n) = number n
 value_of (Address name) = address_of name.now
 
-abbrev pub put_of : Setting → Put
+abbrev pub put_of : Setting → Equation
 put_of setting = (place_of setting.spot, value_of setting.worth)
 
-abbrev pub puts : Option Setting → Option Put
+abbrev pub puts : Option Setting → Option Equation
 puts None = None
 puts (Some setting) = Some (put_of setting)

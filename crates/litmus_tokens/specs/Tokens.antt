@@ -4,7 +4,7 @@ use Rattle.std.specs.List.{starts_with}
 use Rattle.texts.specs.Cutting.{before, AllPass, NonePass, from_first, without_leading}
 use Rattle.texts.specs.Pieces.{is_gap}
 use Rattle.litmus_tokens.specs.Names.{goes_on_name}
-use Rattle.litmus_tokens.specs.Settings.{Put, IsSetting, put_of}
+use Rattle.litmus_tokens.specs.Settings.{Equation, IsSetting, put_of}
 use Rattle.litmus_tokens.specs.Reading.{setting_at}
 use Rattle.litmus_tokens.specs.declared.tokens.Token as coded
 use Rattle.litmus_tokens.specs.declared.tokens.Token.TheVariants as code
@@ -13,7 +13,7 @@ use Rattle.litmus_tokens.specs.declared.tokens.Front.TheVariants as front
 
 -- an atom, `~` or `not`, `/\`, `\/`, `(` and `)`
 pub data Token : Type 0 where
-  atom : Put → Token
+  atom : Equation → Token
   negation : Token
   conjunction : Token
   disjunction : Token
@@ -49,7 +49,7 @@ abbrev pub paired : Token → ℕ → List ℕ → Beginning
 paired token second [] = no_token
 paired token second (c ∷ rest) = if c == second then begins token rest else no_token
 
-abbrev pub atom_from : Option Put → List ℕ → Beginning
+abbrev pub atom_from : Option Equation → List ℕ → Beginning
 atom_from None rest = no_token
 atom_from (Some put) rest = begins (atom put) rest
 
@@ -125,7 +125,7 @@ pub data Spells : Token → (bytes rest : List ℕ) → Type 0 where
   named_not : (rest : List ℕ) → ends_name rest ≡ true → Spells negation (codes "not") rest
   both : (rest : List ℕ) → Spells conjunction (47 ∷ 92 ∷ []) rest
   either : (rest : List ℕ) → Spells disjunction (92 ∷ 47 ∷ []) rest
-  says : (first : ℕ) (others rest : List ℕ) (put : Put) → is_gap first ≡ false → NonePass is_mark (first ∷ others) → EndsAtom rest → behind_not (first ∷ (others ++ rest)) ≡ None → IsSetting (first ∷ others) put → Spells (atom put) (first ∷ others) rest
+  says : (first : ℕ) (others rest : List ℕ) (put : Equation) → is_gap first ≡ false → NonePass is_mark (first ∷ others) → EndsAtom rest → behind_not (first ∷ (others ++ rest)) ≡ None → IsSetting (first ∷ others) put → Spells (atom put) (first ∷ others) rest
 
 -- The text is these tokens, with gaps before, between and after them.
 pub data AreTokens : List ℕ → List Token → Type 0 where

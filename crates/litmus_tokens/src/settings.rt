@@ -3,7 +3,7 @@
 ghost use Rattle.std.specs.Prelude.{◌≡◌, Some, IfSome, option_map};
 ghost use Rattle.std.specs.Option.{option_copied};
 ghost use Rattle.litmus_tokens.specs.Names.{core};
-ghost use Rattle.litmus_tokens.specs.Settings.{Put, IsSetting, IsItem, place_of, value_of, puts};
+ghost use Rattle.litmus_tokens.specs.Settings.{Equation, IsSetting, IsItem, place_of, value_of, puts};
 ghost use Rattle.litmus_tokens.specs.Reading.{value_in, named, location_in, register_from, place_in, put_from, setting_at, begins_with_gap, behind_int, declared_in, item_place_in, item_at};
 
 use crate::names::{is_name, word_in};
@@ -129,7 +129,7 @@ fn setting_of(text: &[u8]) -> Option<Setting<'_>>
 /// cleaned one: a CR is no blank.
 pub fn setting_in(text: &[u8]) -> Option<Setting<'_>>
     ensures found { IfSome (puts result) (IsSetting text.now) }
-    ensures only { (put : Put) → IsSetting text.now put → puts result ≡ Some put }
+    ensures only { (put : Equation) → IsSetting text.now put → puts result ≡ Some put }
     ensures exact { puts result ≡ setting_at text.now }
 {
     setting_of(text)
@@ -194,7 +194,7 @@ fn item_of(text: &[u8]) -> Option<Setting<'_>>
 /// A blank or LF follows the `int` there, so `int=5` puts 5 at the location `int`.
 pub fn item_in(text: &[u8]) -> Option<Setting<'_>>
     ensures found { IfSome (puts result) (IsItem text.now) }
-    ensures only { (put : Put) → IsItem text.now put → puts result ≡ Some put }
+    ensures only { (put : Equation) → IsItem text.now put → puts result ≡ Some put }
     ensures exact { puts result ≡ item_at text.now }
 {
     item_of(text)

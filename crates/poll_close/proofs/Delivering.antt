@@ -7,7 +7,7 @@ use Rattle.step_machine.specs.declared.events.Event.{Event}
 use Rattle.step_machine.specs.declared.events.Outcome.{Outcome}
 use Rattle.step_machine.specs.History.{Start, History, FitsIn, IsShort, unrun}
 use Rattle.step_machine.specs.Entries.{reported}
-use Rattle.step_machine.specs.Legal.{Kept}
+use Rattle.step_machine.specs.Legal.{WellFormed}
 use Rattle.step_machine.specs.Runs.{Happens, Run, RunFrom}
 use Rattle.step_machine.proofs.Running.{shape_of, kept-happens, kept-unrun}
 use Rattle.poll_close.specs.Layout.{Layout, opening_at, senders_from}
@@ -17,16 +17,16 @@ use Rattle.poll_close.specs.Delivery.{Delivers}
 -- what has been known of a history since its opening
 pub record Known (ring : Ring) (means : Meaning) (B M : ℕ) (lists : List (List ℕ)) (S : Layout) (t : History) : Type 0 where
   pub opening : t.opening ≡ opening_at ring.sender ring.receiver lists S
-  pub kept : Kept B M t
+  pub kept : WellFormed B M t
   pub meant : means B M lists S t
 
 module _ (ring : Ring) (means : Meaning) (keeps : Keeps ring means) (B M : ℕ) (lists : List (List ℕ)) (S : Layout) (accepted : AcceptedAt ring M lists S) where
   pub known-happens : (t : History) (ev : Event) (o : Outcome) (new : History) → Known ring means B M lists S t → Happens B M t ev o new → Known ring means B M lists S new
   unfolding Keeps
   known-happens t ev o new known h =
-      let kept : Kept B M new = kept-happens B M t ev o new known.kept h in
+      let kept : WellFormed B M new = kept-happens B M t ev o new known.kept h in
       elim (shape_of B M t ev o new h) [
-        | inl a ↦ subst (Known ring means B M lists S) (sym a.2.after) (record { opening = known.opening; kept = subst (Kept B M) a.2.after kept; meant = keeps B M lists S t a.0 accepted known.opening known.kept a.2.follows known.meant })
+        | inl a ↦ subst (Known ring means B M lists S) (sym a.2.after) (record { opening = known.opening; kept = subst (WellFormed B M) a.2.after kept; meant = keeps B M lists S t a.0 accepted known.opening known.kept a.2.follows known.meant })
         | inr i ↦ subst (Known ring means B M lists S) (sym i.after) known
       ]
 

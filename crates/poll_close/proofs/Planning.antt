@@ -10,7 +10,7 @@ use Rattle.step_machine.specs.declared.events.Outcome.{Outcome}
 use Rattle.std.proofs.lemmas.List.{length-map, length-drop}
 use Rattle.step_machine.specs.History.{HartStart, Start, History, unrun, with_entry}
 use Rattle.step_machine.specs.Entries.{hart_of, is_land, pending, reported, store_of, land_of}
-use Rattle.step_machine.specs.Legal.{Kept}
+use Rattle.step_machine.specs.Legal.{WellFormed}
 use Rattle.step_machine.specs.Runs.{Happens, Run, RunFrom, IsOwnRun, event_of}
 use Rattle.step_machine.proofs.Running.{shape_of, RunFrom-more, run-one}
 use Rattle.step_machine.proofs.Follows.{land_follows}
@@ -102,7 +102,7 @@ pub record Less (t new : History) (h : ℕ) : Type 0 where
   pub after : new ≡ with_entry t (entry.Land h)
 
 -- a hart with a pending store lands it
-pub lands_one : (B M : ℕ) (t : History) (h : ℕ) (o : Outcome) (new : History) → Kept B M t → h < length t.opening.harts → 0 < length (pending h t.entries) → Happens B M t (event.Land h) o new → Less t new h
+pub lands_one : (B M : ℕ) (t : History) (h : ℕ) (o : Outcome) (new : History) → WellFormed B M t → h < length t.opening.harts → 0 < length (pending h t.entries) → Happens B M t (event.Land h) o new → Less t new h
 lands_one B M t h o new kept hart some hap =
     elim (shape_of B M t (event.Land h) o new hap) [
       | inl a ↦
@@ -152,7 +152,7 @@ pub record Stepped (left : History → ℕ) (t new : History) (h : ℕ) : Type 0
   pub others : (k : ℕ) → k ≢ h → pending k new.entries ≡ pending k t.entries
 
 -- the chosen hart acts
-pub acts_one : (B M : ℕ) (left : History → ℕ) (t : History) (h : ℕ) (o : Outcome) (new : History) → Kept B M t → AllLanded t → Nearer B M left t h → Happens B M t (event.Act h) o new → Stepped left t new h
+pub acts_one : (B M : ℕ) (left : History → ℕ) (t : History) (h : ℕ) (o : Outcome) (new : History) → WellFormed B M t → AllLanded t → Nearer B M left t h → Happens B M t (event.Act h) o new → Stepped left t new h
 acts_one B M left t h o new kept none near hap =
     elim (shape_of B M t (event.Act h) o new hap) [
       | inl a ↦

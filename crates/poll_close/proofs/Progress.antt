@@ -22,7 +22,7 @@ use Rattle.step_machine.specs.History.{Start, History, with_entry}
 use Rattle.step_machine.specs.Entries.{pending, read, reported}
 use Rattle.step_machine.specs.WordReads.{OpensWithWords, word_in_memory}
 use Rattle.step_machine.specs.Paths.{entry_of, value_of, state_of}
-use Rattle.step_machine.specs.Legal.{Kept}
+use Rattle.step_machine.specs.Legal.{WellFormed}
 use Rattle.step_machine.specs.Runs.{IsFor, CanFollow, NoEntry}
 use Rattle.step_machine.proofs.Appended.{reported-last}
 use Rattle.step_machine.proofs.Stays.{states_land}
@@ -78,7 +78,7 @@ no_wait B ws (need.Report r) some none wait = wait
 no_wait B ws need.Exit some none wait = wait
 no_wait B ws (need.Stop why) some none wait = wait
 
-pub can_act : (B M : ℕ) (t : History) (h : ℕ) (s : HartState) → Kept B M t → state_of M t h ≡ Some s → s.status ≡ status.Running → 1 ≤ B → pending h t.entries ≡ [] → NoEntry B M t (event.Act h) → ⊥
+pub can_act : (B M : ℕ) (t : History) (h : ℕ) (s : HartState) → WellFormed B M t → state_of M t h ≡ Some s → s.status ≡ status.Running → 1 ≤ B → pending h t.entries ≡ [] → NoEntry B M t (event.Act h) → ⊥
 can_act B M t h s kept is running some none never =
     elim (decide B t.opening t.entries h (need_of s)) [
       | inl can ↦ (let d = does B M t h s kept is running (need_of s) can.0 refl can.1 in never (entry_of h (need_of s) can.0) d.for_event d.follows)
@@ -110,7 +110,7 @@ not_ready false b off on = cc
 is_equal : (a b : ℕ) → (a == b) ≡ true → a ≡ b
 is_equal a b same = grind (arith, nat_tests)
 
-module _ (m : BlockMeaning) (laws : BlockLaws m) (least : ℕ) (some_least : 1 ≤ least) (prog : BlockProgress m least) (B M : ℕ) (S : Layout) (lists : List (List ℕ)) (t : History) (some : 1 ≤ B) (accepted : AcceptedAt (ring_by m laws least some_least) M lists S) (opening : t.opening ≡ opening_at m.sender.code (receiver_of m.middle) lists S) (kept : Kept B M t) (ch : Channel m M S lists t) (landed : AllLanded t) (open_yet : is_done t ≡ false) where
+module _ (m : BlockMeaning) (laws : BlockLaws m) (least : ℕ) (some_least : 1 ≤ least) (prog : BlockProgress m least) (B M : ℕ) (S : Layout) (lists : List (List ℕ)) (t : History) (some : 1 ≤ B) (accepted : AcceptedAt (ring_by m laws least some_least) M lists S) (opening : t.opening ≡ opening_at m.sender.code (receiver_of m.middle) lists S) (kept : WellFormed B M t) (ch : Channel m M S lists t) (landed : AllLanded t) (open_yet : is_done t ≡ false) where
   abbrev p : Pace
   p = pace_of m
 

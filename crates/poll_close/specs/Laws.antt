@@ -3,7 +3,7 @@ use Rattle.std.specs.Prelude.{ℕ, ◌≡◌, ◌≢◌, ◌+◌, ◌*◌, ◌%�
 use Rattle.step_machine.specs.declared.events.Entry.{Entry}
 use Rattle.step_machine.specs.History.{History, unrun, with_entry}
 use Rattle.step_machine.specs.Entries.{reported}
-use Rattle.step_machine.specs.Legal.{Kept}
+use Rattle.step_machine.specs.Legal.{WellFormed}
 use Rattle.step_machine.specs.Runs.{CanFollow}
 use Rattle.poll_close.specs.Layout.{block_size, Layout, base_of, end_of, opening_at}
 use Rattle.poll_close.specs.Reports.{Clean}
@@ -70,10 +70,10 @@ unfoldable pub Opens : Ring → Meaning → Type 0
 Opens ring means = (B M : ℕ) (lists : List (List ℕ)) (l : Layout) → AcceptedAt ring M lists l → means B M lists l (unrun (opening_at ring.sender ring.receiver lists l))
 
 unfoldable pub Keeps : Ring → Meaning → Type 0
-Keeps ring means = (B M : ℕ) (lists : List (List ℕ)) (l : Layout) (t : History) (e : Entry) → AcceptedAt ring M lists l → t.opening ≡ opening_at ring.sender ring.receiver lists l → Kept B M t → CanFollow B M t e → means B M lists l t → means B M lists l (with_entry t e)
+Keeps ring means = (B M : ℕ) (lists : List (List ℕ)) (l : Layout) (t : History) (e : Entry) → AcceptedAt ring M lists l → t.opening ≡ opening_at ring.sender ring.receiver lists l → WellFormed B M t → CanFollow B M t e → means B M lists l t → means B M lists l (with_entry t e)
 
 abbrev pub Cleans : Ring → Meaning → Type 0
-Cleans ring means = (B M : ℕ) (lists : List (List ℕ)) (l : Layout) (t : History) → AcceptedAt ring M lists l → t.opening ≡ opening_at ring.sender ring.receiver lists l → Kept B M t → means B M lists l t → Clean (reported 0 t.entries) lists
+Cleans ring means = (B M : ℕ) (lists : List (List ℕ)) (l : Layout) (t : History) → AcceptedAt ring M lists l → t.opening ≡ opening_at ring.sender ring.receiver lists l → WellFormed B M t → means B M lists l t → Clean (reported 0 t.entries) lists
 
 -- tables that fit a hart
 abbrev pub AreShort : Ring → Type 0

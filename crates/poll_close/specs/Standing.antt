@@ -1,7 +1,7 @@
 -- A channel's history, whatever ran: where it opened, and that the ring's meaning holds of it.
 use Rattle.std.specs.Prelude.{ℕ, ◌≡◌, List, drop, map}
 use Rattle.step_machine.specs.History.{HartStart, Start, History}
-use Rattle.step_machine.specs.Legal.{Kept}
+use Rattle.step_machine.specs.Legal.{WellFormed}
 use Rattle.poll_close.specs.Layout.{Layout, opening_at}
 use Rattle.poll_close.specs.Laws.{Ring, Meaning, AcceptedAt}
 
@@ -18,5 +18,5 @@ pub record IsOpeningOf (ring : Ring) (M : ℕ) (o : Start) : Type 0 where
 
 pub record Stands (ring : Ring) (means : Meaning) (B M : ℕ) (t : History) : Type 0 where
   pub opens : IsOpeningOf ring M t.opening
-  pub kept : Kept B M t
+  pub kept : WellFormed B M t
   pub meant : means B M opens.lists opens.layout t

@@ -3,7 +3,7 @@ use Rattle.std.specs.Prelude.{ℕ, ◌≡◌, ◌+◌, ◌<◌, List, [], ◌∷
 use Rattle.step_machine.specs.declared.events.Event.{Event}
 use Rattle.step_machine.specs.History.{History}
 use Rattle.step_machine.specs.Runs.{Run}
-use Rattle.litmus.specs.Questions.{Question, left_sides}
+use Rattle.litmus.specs.LitmusTests.{LitmusTest, left_sides}
 use Rattle.litmus.specs.Verdicts.{IsFinished, final_value}
 use Rattle.shrink.specs.declared.faults.ShrinkError.{ShrinkError}
 use Rattle.shrink.specs.declared.faults.ShrinkError.TheVariants.{NoMemory, NotFinished}
@@ -15,7 +15,7 @@ pub data IsPartOf : List Event → List Event → Type 0 where
   without_first : (ev : Event) (part whole : List Event) → IsPartOf part whole → IsPartOf part (ev ∷ whole)
 
 -- the run of the events from the test's opening is finished, and leaves the left sides with these values
-pub record EndsWith (B M : ℕ) (q : Question) (events : List Event) (last : List ℕ) : Type 0 where
+pub record EndsWith (B M : ℕ) (q : LitmusTest) (events : List Event) (last : List ℕ) : Type 0 where
   pub history : History
   pub run : Run B M q.opening events history
   pub finished : IsFinished M history
@@ -26,7 +26,7 @@ abbrev pub without : (from count : ℕ) → List Event → List Event
 without from count events = take from events ++ drop (from + count) events
 
 -- the answer is a part of the given events and ends as they do; without any one event it doesn't
-pub record IsShrunk (B M : ℕ) (q : Question) (given answer : List Event) : Type 0 where
+pub record IsShrunk (B M : ℕ) (q : LitmusTest) (given answer : List Event) : Type 0 where
   pub last : List ℕ
   pub given_ends : EndsWith B M q given last
   pub part : IsPartOf answer given
@@ -39,7 +39,7 @@ RefusesRun M history NoMemory = Unit {0}
 RefusesRun M history NotFinished = IsFinished M history → ⊥
 
 -- the same of the run of the given events
-abbrev pub Refuses : (B M : ℕ) → Question → List Event → ShrinkError → Type 0
+abbrev pub Refuses : (B M : ℕ) → LitmusTest → List Event → ShrinkError → Type 0
 Refuses B M q given why = (t : History) → Run B M q.opening given t → RefusesRun M t why
 
 -- the number by which texts name a refusal

@@ -3,7 +3,7 @@
 ghost use Rattle.std.specs.Prelude.{◌≡◌, ◌≤◌, List, length, IfOk, IfErr, map};
 ghost use Rattle.step_machine.specs.Runs.{Run, event_of};
 ghost use Rattle.step_machine.specs.declared.events.Event.{Event};
-ghost use Rattle.litmus.specs.declared.question.TheConstants.{MAX_LOCATIONS};
+ghost use Rattle.litmus.specs.declared.litmus_test.TheConstants.{MAX_LOCATIONS};
 ghost use Rattle.shrink.specs.Shrinking.{IsShrunk, Refuses, RefusesRun};
 
 use crate::faults::ShrinkError;

@@ -24,7 +24,7 @@ use Rattle.step_machine.specs.declared.events.Outcome.TheVariants as outcome
 use Rattle.step_machine.specs.History.{Start, History, unrun, with_entry}
 use Rattle.step_machine.specs.Entries.{hart_of, is_land, pending, write_of, read}
 use Rattle.step_machine.specs.Paths.{entry_of, value_of, CanMake, state_of}
-use Rattle.step_machine.specs.Legal.{Allowed, Kept}
+use Rattle.step_machine.specs.Legal.{Allowed, WellFormed}
 use Rattle.step_machine.specs.Runs.{CanFollow, Happens, RunFrom, Run, idle_of, idle_in}
 use Rattle.step_machine.proofs.Follows.{act_only, follows}
 use Rattle.step_machine.proofs.Running.{kept-happens, kept-unrun}
@@ -102,7 +102,7 @@ decide B o es h need.Exit = inl (0, tt)
 decide B o es h (need.Stop why) = inl (0, tt)
 
 -- A running hart of a kept history. For each need: what it does, and when it waits.
-module _ (B M : ℕ) (t : History) (h : ℕ) (s : HartState) (kept : Kept B M t) (is : state_of M t h ≡ Some s) (running : s.status ≡ status.Running) where
+module _ (B M : ℕ) (t : History) (h : ℕ) (s : HartState) (kept : WellFormed B M t) (is : state_of M t h ≡ Some s) (running : s.status ≡ status.Running) where
   pub does : (n : Need) (v : ℕ) → need_of s ≡ n → Allowed B t.opening t.entries (entry_of h n v) → Happens B M t (event.Act h) (outcome.Did (entry_of h n v)) (with_entry t (entry_of h n v))
   does n v needs allowed =
       let within : h < length t.opening.harts = state_of-hart M t h s is in
@@ -170,7 +170,7 @@ module _ (B M : ℕ) (t : History) (h : ℕ) (s : HartState) (kept : Kept B M t)
       at (inr wait) = wait
 
 -- a landing writes the hart's oldest pending store
-pub land_happens : (B M : ℕ) (t : History) (h : ℕ) (s : HartState) (w : Write) (ws : List Write) → Kept B M t → state_of M t h ≡ Some s → pending h t.entries ≡ w ∷ ws → Happens B M t (event.Land h) (outcome.Did (entry.Land h)) (with_entry t (entry.Land h))
+pub land_happens : (B M : ℕ) (t : History) (h : ℕ) (s : HartState) (w : Write) (ws : List Write) → WellFormed B M t → state_of M t h ≡ Some s → pending h t.entries ≡ w ∷ ws → Happens B M t (event.Land h) (outcome.Did (entry.Land h)) (with_entry t (entry.Land h))
 land_happens B M t h s w ws kept is some = some_land B M t h s (w ∷ ws) kept is (sym some)
 
 pub landing_writes : (h : ℕ) (es : List Entry) (w : Write) (ws : List Write) → pending h es ≡ w ∷ ws → write_of es (entry.Land h) ≡ w ∷ []
@@ -181,7 +181,7 @@ landing_writes h es w ws some = ap (take 1) some
 abbrev pub Happening : ℕ → ℕ → History → Event → Type 0
 Happening B M t ev = (o : Outcome) × (new : History) × Happens B M t ev o new
 
-acts : (B M : ℕ) (t : History) (h : ℕ) (s : HartState) (st : Status) → Kept B M t → state_of M t h ≡ Some s → s.status ≡ st → Happening B M t (event.Act h)
+acts : (B M : ℕ) (t : History) (h : ℕ) (s : HartState) (st : Status) → WellFormed B M t → state_of M t h ≡ Some s → s.status ≡ st → Happening B M t (event.Act h)
 acts B M t h s status.Running kept is run =
     elim (decide B t.opening t.entries h (need_of s)) [
       | inl can ↦ (outcome.Did (entry_of h (need_of s) can.0), with_entry t (entry_of h (need_of s) can.0), does B M t h s kept is run (need_of s) can.0 refl can.1)
@@ -198,10 +198,10 @@ state_or M t h = at (state_of M t h) refl
     at None none = inr none
     at (Some s) is = inl (s, is)
 
-lands : (B M : ℕ) (t : History) (h : ℕ) (s : HartState) (ps : List Write) → Kept B M t → state_of M t h ≡ Some s → ps ≡ pending h t.entries → Happening B M t (event.Land h)
+lands : (B M : ℕ) (t : History) (h : ℕ) (s : HartState) (ps : List Write) → WellFormed B M t → state_of M t h ≡ Some s → ps ≡ pending h t.entries → Happening B M t (event.Land h)
 lands B M t h s ps kept is same = (land_in ps h (is_over s.status), history_after t (land_in ps h (is_over s.status)), some_land B M t h s ps kept is same)
 
-pub happens_some : (B M : ℕ) (t : History) (ev : Event) → Kept B M t → Happening B M t ev
+pub happens_some : (B M : ℕ) (t : History) (ev : Event) → WellFormed B M t → Happening B M t ev
 happens_some B M t (event.Act h) kept =
     elim (state_or M t h) [
       | inl there ↦ acts B M t h there.0 there.0.status kept there.1 refl
@@ -213,7 +213,7 @@ happens_some B M t (event.Land h) kept =
       | inr none ↦ (outcome.NoHart, t, record { none = λ d for_d f. none-no_hart B M t h d none (ap hart_of for_d) f; why = sym (ap (λ so. idle_of so outcome.NothingToLand) none); after = refl })
     ]
 
-pub run_from_some : (B M : ℕ) (t : History) (evs : List Event) → Kept B M t → (new : History) × RunFrom B M t evs new
+pub run_from_some : (B M : ℕ) (t : History) (evs : List Event) → WellFormed B M t → (new : History) × RunFrom B M t evs new
 run_from_some B M t [] kept = (t, refl)
 run_from_some B M t (ev ∷ evs) kept =
     let one : Happening B M t ev = happens_some B M t ev kept in

@@ -15,7 +15,7 @@ use Rattle.step_machine.specs.declared.events.Outcome.TheVariants as outcome
 use Rattle.step_machine.specs.History.{HartStart, History, with_entry}
 use Rattle.step_machine.specs.Entries.{hart_of, own, pending}
 use Rattle.step_machine.specs.Paths.{entry_of, value_of, CanMake, state_of, Path}
-use Rattle.step_machine.specs.Legal.{Allowed, Kept}
+use Rattle.step_machine.specs.Legal.{Allowed, WellFormed}
 use Rattle.step_machine.specs.Banks.{is_over}
 use Rattle.step_machine.specs.Runs.{CanFollow, NoEntry, idle_of, idle_in, Happens}
 use Rattle.step_machine.specs.Ranges.{IsInRange}
@@ -32,7 +32,7 @@ history_after t o = record { opening = t.opening; entries = entries_after t.entr
 
 -- what is known of a machine between two steps
 pub record Stands (B M : ℕ) (t : History) (c : Config) : Type 0 where
-  pub kept : Kept B M t
+  pub kept : WellFormed B M t
   pub tied : Represents M t c
 
 pub no_hart : {X Y : Type 0} (f : X → Y) (o : Option X) → option_map f o ≡ None → o ≡ None
@@ -52,7 +52,7 @@ state_of-hart M t h s is = within (slice_get t.opening.harts h) refl is
     within None e none = cc
     within (Some x) e some = slice_get_within t.opening.harts h x e
 
-running_happens : (B M : ℕ) (t : History) (h : ℕ) (s : HartState) (o : Outcome) → Kept B M t → state_of M t h ≡ Some s → s.status ≡ status.Running → Decided B t h (need_of s) o → Happens B M t (event.Act h) o (history_after t o)
+running_happens : (B M : ℕ) (t : History) (h : ℕ) (s : HartState) (o : Outcome) → WellFormed B M t → state_of M t h ≡ Some s → s.status ≡ status.Running → Decided B t h (need_of s) o → Happens B M t (event.Act h) o (history_after t o)
 running_happens B M t h s (outcome.Did e) kept is run d =
     let path : Path M t h = kept.paths h (state_of-hart M t h s is) in
     let can : CanMake s e = record { running = run; made = d.2.made ∙ ap (λ k. entry_of k (need_of s) (value_of e)) (sym d.0) } in
@@ -83,7 +83,7 @@ over_happens B M t h s is over idles =
       after = refl;
     }
 
-status_happens : (B M : ℕ) (t : History) (h : ℕ) (s : HartState) (st : Status) (o : Outcome) → Kept B M t → state_of M t h ≡ Some s → s.status ≡ st → Decided B t h (need_of s) o → Happens B M t (event.Act h) (act_in st o) (history_after t (act_in st o))
+status_happens : (B M : ℕ) (t : History) (h : ℕ) (s : HartState) (st : Status) (o : Outcome) → WellFormed B M t → state_of M t h ≡ Some s → s.status ≡ st → Decided B t h (need_of s) o → Happens B M t (event.Act h) (act_in st o) (history_after t (act_in st o))
 status_happens B M t h s status.Running o kept is run d = running_happens B M t h s o kept is run d
 status_happens B M t h s status.Ended o kept is run d = over_happens B M t h s is (λ r. cc) (ap (λ x. idle_in x outcome.Waited) run)
 status_happens B M t h s (status.Stopped why) o kept is run d = over_happens B M t h s is (λ r. cc) (ap (λ x. idle_in x outcome.Waited) run)
@@ -115,7 +115,7 @@ idle_land B M t h s (status.Stopped why) is run empty =
     record { none = land_none B M t h empty; why = sym (ap (λ o. idle_of o outcome.NothingToLand) is ∙ ap (λ x. idle_in x outcome.NothingToLand) run); after = refl }
 
 -- a landing where this is pending
-pub some_land : (B M : ℕ) (t : History) (h : ℕ) (s : HartState) (ps : List Write) → Kept B M t → state_of M t h ≡ Some s → ps ≡ pending h t.entries → Happens B M t (event.Land h) (land_in ps h (is_over s.status)) (history_after t (land_in ps h (is_over s.status)))
+pub some_land : (B M : ℕ) (t : History) (h : ℕ) (s : HartState) (ps : List Write) → WellFormed B M t → state_of M t h ≡ Some s → ps ≡ pending h t.entries → Happens B M t (event.Land h) (land_in ps h (is_over s.status)) (history_after t (land_in ps h (is_over s.status)))
 some_land B M t h s [] kept is ps = idle_land B M t h s s.status is refl (sym ps)
 some_land B M t h s (p ∷ ps) kept is e =
     let count : length (p ∷ ps) ≡ length (pending h t.entries) = ap length e in

@@ -17,7 +17,7 @@ use Rattle.step_machine.specs.declared.events.Outcome.TheVariants as outcome
 use Rattle.step_machine.specs.History.{HartStart, Start, History, history_of, Progress, with_entry}
 use Rattle.step_machine.specs.Entries.{hart_of, is_land, own}
 use Rattle.step_machine.specs.Paths.{entry_of, value_of, CanMake, after_entries, opens_as, state_of, PathOf}
-use Rattle.step_machine.specs.Legal.{Allowed, IsOfHarts, Kept}
+use Rattle.step_machine.specs.Legal.{Allowed, IsOfHarts, WellFormed}
 use Rattle.step_machine.specs.Runs.{CanFollow, Adds, RunFrom, event_of, IsOwnRun}
 use Rattle.step_machine.specs.inner.Config.{Config}
 use Rattle.step_machine.specs.inner.Representation.{IsMachineAt}
@@ -34,7 +34,7 @@ of_harts_front o [] fs all = All-nil (IsOfHarts o)
 of_harts_front o (e ∷ es) fs all = All-cons (IsOfHarts o) e es (All-head (IsOfHarts o) e (es ++ fs) all) (of_harts_front o es fs (All-tail (IsOfHarts o) e (es ++ fs) all))
 
 -- the front of a kept history is kept
-pub kept-front : (B M : ℕ) (o : Start) (es fs : List Entry) → Kept B M (history_of o (es ++ fs)) → Kept B M (history_of o es)
+pub kept-front : (B M : ℕ) (o : Start) (es fs : List Entry) → WellFormed B M (history_of o (es ++ fs)) → WellFormed B M (history_of o es)
 kept-front B M o es fs kept = record {
   legal = LegalAfter-front B o [] es fs kept.legal;
   paths = λ h within. path_front M (slice_get o.harts h) (own h es) (own h fs) (subst (PathOf M (slice_get o.harts h)) (own-append h es fs) (kept.paths h within));
@@ -88,11 +88,11 @@ added B M t e f = at (is_land e) refl
     at true is = record { for_event = landing e is; follows = f; only = λ d for_d g. for_d ∙ sym (landing e is); after = refl }
     at false is = record { for_event = (refl, is); follows = f; only = λ d for_d g. only_act B M t (hart_of e) e d (hart_follows B M t e f) refl is f for_d.0 for_d.1 g; after = refl }
 
-run_on : (B M : ℕ) (o : Start) (before es : List Entry) → Kept B M (history_of o (before ++ es)) → RunFrom B M (history_of o before) (map event_of es) (history_of o (before ++ es))
+run_on : (B M : ℕ) (o : Start) (before es : List Entry) → WellFormed B M (history_of o (before ++ es)) → RunFrom B M (history_of o before) (map event_of es) (history_of o (before ++ es))
 run_on B M o before [] kept = ap (history_of o) (append-nil before)
 run_on B M o before (e ∷ es) kept =
-    let longer : Kept B M (history_of o ((before ++ e ∷ []) ++ es)) = subst (λ (xs : List Entry). Kept B M (history_of o xs)) (sym (append_assoc before (e ∷ []) es)) kept in
-    let here : Kept B M (history_of o (before ++ e ∷ [])) = kept-front B M o (before ++ e ∷ []) es longer in
+    let longer : WellFormed B M (history_of o ((before ++ e ∷ []) ++ es)) = subst (λ (xs : List Entry). WellFormed B M (history_of o xs)) (sym (append_assoc before (e ∷ []) es)) kept in
+    let here : WellFormed B M (history_of o (before ++ e ∷ [])) = kept-front B M o (before ++ e ∷ []) es longer in
     let rest : RunFrom B M (history_of o (before ++ e ∷ [])) (map event_of es) (history_of o ((before ++ e ∷ []) ++ es)) = run_on B M o (before ++ e ∷ []) es longer in (
       outcome.Did e,
       history_of o (before ++ e ∷ []),
@@ -104,7 +104,7 @@ run_on B M o before (e ∷ es) kept =
     last_of_harts o [] e all = All-head (IsOfHarts o) e [] all
     last_of_harts o (d ∷ before) e all = last_of_harts o before e (All-tail (IsOfHarts o) d (before ++ e ∷ []) all)
 
-pub own_run : (B M : ℕ) (t : History) → Kept B M t → IsOwnRun B M t
+pub own_run : (B M : ℕ) (t : History) → WellFormed B M t → IsOwnRun B M t
 own_run B M t kept = run_on B M t.opening [] t.entries kept
 
 -- what a sound machine did, as it is seen, is the run of its own entries' events

@@ -14,7 +14,7 @@ use Rattle.step_machine.specs.declared.events.Outcome.TheVariants as outcome
 use Rattle.step_machine.specs.History.{HartStart, Start, History, unrun, with_entry}
 use Rattle.step_machine.specs.Entries.{hart_of, is_land, is_own, own}
 use Rattle.step_machine.specs.Paths.{PathOf, Path}
-use Rattle.step_machine.specs.Legal.{IsOfHarts, Kept}
+use Rattle.step_machine.specs.Legal.{IsOfHarts, WellFormed}
 use Rattle.step_machine.specs.Runs.{CanFollow, Adds, Idles, Happens, RunFrom, Run}
 use Rattle.step_machine.proofs.Follows.{Path-other}
 
@@ -41,7 +41,7 @@ hart_follows B M t e f = at (slice_get t.opening.harts (hart_of e)) refl f.path
     at None none p = absurd p
     at (Some x) is p = slice_get_within t.opening.harts (hart_of e) x is
 
-pub kept_after : (B M : ℕ) (t : History) (e : Entry) → Kept B M t → CanFollow B M t e → Kept B M (with_entry t e)
+pub kept_after : (B M : ℕ) (t : History) (e : Entry) → WellFormed B M t → CanFollow B M t e → WellFormed B M (with_entry t e)
 kept_after B M t e kept f = record {
   legal = f.legal;
   paths = λ k within. at k within (is_own k e) refl;
@@ -52,14 +52,14 @@ kept_after B M t e kept f = record {
     at k within true mine = subst (λ (j : ℕ). Path M (with_entry t e) j) (own_hart k e mine) f.path
     at k within false other = Path-other M t k e other (kept.paths k within)
 
-pub kept-happens : (B M : ℕ) (t : History) (ev : Event) (o : Outcome) (new : History) → Kept B M t → Happens B M t ev o new → Kept B M new
+pub kept-happens : (B M : ℕ) (t : History) (ev : Event) (o : Outcome) (new : History) → WellFormed B M t → Happens B M t ev o new → WellFormed B M new
 kept-happens B M t ev o new kept h =
     elim (shape_of B M t ev o new h) [
-      | inl a ↦ subst (Kept B M) (sym a.2.after) (kept_after B M t a.0 kept a.2.follows)
-      | inr i ↦ subst (Kept B M) (sym i.after) kept
+      | inl a ↦ subst (WellFormed B M) (sym a.2.after) (kept_after B M t a.0 kept a.2.follows)
+      | inr i ↦ subst (WellFormed B M) (sym i.after) kept
     ]
 
-pub kept-unrun : (B M : ℕ) (o : Start) → Kept B M (unrun o)
+pub kept-unrun : (B M : ℕ) (o : Start) → WellFormed B M (unrun o)
 kept-unrun B M o = record { legal = tt; paths = λ h within. at h within (slice_get o.harts h) refl; of_harts = All-nil (IsOfHarts o) }
   where
     at : (h : ℕ) → h < length o.harts → (so : Option HartStart) → slice_get o.harts h ≡ so → PathOf M so []
@@ -68,12 +68,12 @@ kept-unrun B M o = record { legal = tt; paths = λ h within. at h within (slice_
         cc
     at h within (Some x) is = tt
 
-pub kept-run : (B M : ℕ) (t : History) (evs : List Event) (new : History) → Kept B M t → RunFrom B M t evs new → Kept B M new
-kept-run B M t [] new kept run = subst (Kept B M) (sym run) kept
+pub kept-run : (B M : ℕ) (t : History) (evs : List Event) (new : History) → WellFormed B M t → RunFrom B M t evs new → WellFormed B M new
+kept-run B M t [] new kept run = subst (WellFormed B M) (sym run) kept
 kept-run B M t (ev ∷ evs) new kept run = kept-run B M run.1 evs new (kept-happens B M t ev run.0 run.1 kept run.2) run.3
 
 -- what each event keeps, each run keeps, the histories between being kept too: for the crates above
-pub run_induction : (B M : ℕ) (P : History → Type 0) → ((t : History) (ev : Event) (o : Outcome) (new : History) → Kept B M t → P t → Happens B M t ev o new → P new) → (t : History) (evs : List Event) (new : History) → Kept B M t → P t → RunFrom B M t evs new → P new
+pub run_induction : (B M : ℕ) (P : History → Type 0) → ((t : History) (ev : Event) (o : Outcome) (new : History) → WellFormed B M t → P t → Happens B M t ev o new → P new) → (t : History) (evs : List Event) (new : History) → WellFormed B M t → P t → RunFrom B M t evs new → P new
 run_induction B M P step t [] new kept holds run = subst P (sym run) holds
 run_induction B M P step t (ev ∷ evs) new kept holds run =
     run_induction B M P step run.1 evs new (kept-happens B M t ev run.0 run.1 kept run.2) (step t ev run.0 run.1 kept holds run.2) run.3

@@ -34,7 +34,7 @@ abbrev pub IsOfHarts : Start → Entry → Type 0
 IsOfHarts o e = hart_of e < length o.harts
 
 -- a history that is legal, in which every hart keeps a path and every entry is of a hart
-pub record Kept (B M : ℕ) (t : History) : Type 0 where
+pub record WellFormed (B M : ℕ) (t : History) : Type 0 where
   pub legal : Legal B t
   pub paths : (h : ℕ) → h < length t.opening.harts → Path M t h
   pub of_harts : All (IsOfHarts t.opening) t.entries

@@ -4,7 +4,7 @@ ghost use Rattle.std.specs.Prelude.{◌≡◌, ◌<◌, ◌%◌, ◌↔◌, ℕ,
 ghost use Rattle.std.specs.List.{slice_get};
 ghost use Rattle.step_machine.specs.History.{Start, History, history_of, unrun};
 ghost use Rattle.step_machine.specs.Entries.{landed, landed_by_count, memory_word, own, pending, read};
-ghost use Rattle.step_machine.specs.Legal.{IsOfHarts, Kept, Legal};
+ghost use Rattle.step_machine.specs.Legal.{IsOfHarts, WellFormed, Legal};
 ghost use Rattle.step_machine.specs.Paths.{PathOf};
 ghost use Rattle.step_machine.specs.MemoryEntries.{memory_of};
 ghost use Rattle.step_machine.specs.Placing.{diary_of, placed, IsMemory, Parts};
@@ -22,10 +22,10 @@ ghost use Rattle.step_machine.specs.declared.events.Outcome.{Outcome};
 pub fn laws_of_runs()
     ensures exists { (B M : ℕ) (o : Start) (evs : List Event) → (t : History) × Run B M o evs t }
     ensures one { (B M : ℕ) (o : Start) (evs : List Event) (t u : History) → Run B M o evs t → Run B M o evs u → t ≡ u }
-    ensures kept { (B M : ℕ) (o : Start) (evs : List Event) (t : History) → Run B M o evs t → Kept B M t }
+    ensures kept { (B M : ℕ) (o : Start) (evs : List Event) (t : History) → Run B M o evs t → WellFormed B M t }
     ensures opening { (B M : ℕ) (o : Start) (evs : List Event) (t : History) → Run B M o evs t → t.opening ≡ o }
     ensures harts { (B M : ℕ) (o : Start) (evs : List Event) (t : History) → Run B M o evs t → All (IsOfHarts o) t.entries }
-    ensures own { (B M : ℕ) (t : History) → Kept B M t → IsOwnRun B M t }
+    ensures own { (B M : ℕ) (t : History) → WellFormed B M t → IsOwnRun B M t }
     ensures induction { (B M : ℕ) (holds : History → Bool) (o : Start) → IsTrue (holds (unrun o)) → ((t : History) (ev : Event) (out : Outcome) (new : History) → IsTrue (holds t) → Happens B M t ev out new → IsTrue (holds new)) → (evs : List Event) (t : History) → Run B M o evs t → IsTrue (holds t) }
     ensures landings { (B : ℕ) (t : History) → Legal B t → landed t.entries ≡ landed_by_count t.entries }
     ensures word_reads { (o : Start) (es : List Entry) (h a : ℕ) → OpensWithWords o → AllWriteWords es → a % 4 ≡ 0 → read o es h a 4 ≡ word_read o es h a }
@@ -45,5 +45,5 @@ pub fn laws_of_placing()
     ensures words { (B : ℕ) (o p : Start) (es : List Entry) → o.words ≡ p.words → Legal B (history_of o es) → Legal B (history_of p es) }
     ensures own { (ds : List (List Entry)) (us : List Entry) → Parts ds us → (h : ℕ) → own h (placed ds us) ≡ diary_of ds h }
     ensures memory { (ds : List (List Entry)) (us : List Entry) → All IsMemory us → Parts ds us → memory_of (placed ds us) ≡ us }
-    ensures kept { (B M : ℕ) (o : Start) (ds : List (List Entry)) (us : List Entry) → length ds ≡ length o.harts → All IsMemory us → Legal B (history_of o us) → Parts ds us → ((h : ℕ) → h < length o.harts → PathOf M (slice_get o.harts h) (diary_of ds h)) → Kept B M (history_of o (placed ds us)) }
+    ensures kept { (B M : ℕ) (o : Start) (ds : List (List Entry)) (us : List Entry) → length ds ≡ length o.harts → All IsMemory us → Legal B (history_of o us) → Parts ds us → ((h : ℕ) → h < length o.harts → PathOf M (slice_get o.harts h) (diary_of ds h)) → WellFormed B M (history_of o (placed ds us)) }
 {}

@@ -44,7 +44,7 @@ impl<const B: usize, const M: usize> Machine<B, M> {
     ghost use Rattle.step_machine.specs.Entries.{pending, reported, memory_word};
     ghost use Rattle.step_machine.specs.Standing.{StandsAt};
     ghost use Rattle.step_machine.specs.Paths.{IsStatus, IsPc, IsRegister};
-    ghost use Rattle.step_machine.specs.Legal.{IsOfHarts, Kept};
+    ghost use Rattle.step_machine.specs.Legal.{IsOfHarts, WellFormed};
     ghost use Rattle.step_machine.specs.Runs.{Happens, RunFrom, IsOwnRun};
 
     /// A machine at its opening.
@@ -174,7 +174,7 @@ impl<const B: usize, const M: usize> Machine<B, M> {
     /// What was done since the opening, oldest first. It is the run of its own entries' events.
     pub fn entries(&self) -> &[Entry]
         ensures value { result.now ≡ self.now.history.entries }
-        ensures kept { Kept B M self.now.history }
+        ensures kept { WellFormed B M self.now.history }
         ensures own { IsOwnRun B M self.now.history }
         ensures harts { All (IsOfHarts self.now.history.opening) self.now.history.entries }
     {
@@ -184,7 +184,7 @@ impl<const B: usize, const M: usize> Machine<B, M> {
     /// A copy of the history.
     pub fn trace(&self, alloc: Global) -> Result<Trace, AllocError>
         ensures value { IfOk result (λ t. t ≡ self.now.history) }
-        ensures kept { Kept B M self.now.history }
+        ensures kept { WellFormed B M self.now.history }
         ensures own { IsOwnRun B M self.now.history }
         ensures harts { All (IsOfHarts self.now.history.opening) self.now.history.entries }
     {

@@ -12,7 +12,7 @@ use Rattle.step_machine.specs.History.{History, unrun}
 use Rattle.step_machine.specs.Runs.{Run}
 use Rattle.step_machine.specs.declared.events.Event.{Event}
 use Rattle.step_machine.proofs.Running.{run-one}
-use Rattle.litmus.specs.Questions.{Question, left_sides}
+use Rattle.litmus.specs.LitmusTests.{LitmusTest, left_sides}
 use Rattle.litmus.specs.Verdicts.{IsVerdict, final_value}
 use Rattle.litmus.specs.declared.verdict.Verdict.{Verdict}
 use Rattle.litmus.specs.declared.verdict.Verdict.TheVariants.{Holds, Fails, Unfinished}
@@ -22,7 +22,7 @@ use Rattle.tries.proofs.Rows.{same_itself}
 
 -- ---- one verdict
 
-pub one_verdict : (M : ℕ) (q : Question) (t : History) (v w : Verdict) → IsVerdict M q t v → IsVerdict M q t w → v ≡ w
+pub one_verdict : (M : ℕ) (q : LitmusTest) (t : History) (v w : Verdict) → IsVerdict M q t v → IsVerdict M q t w → v ≡ w
 one_verdict M q t Holds Holds h k = refl
 one_verdict M q t Holds Fails h k = absurd (let a = h.1 in let b = k.1 in cc)
 one_verdict M q t Holds Unfinished h k = absurd (k h.0)
@@ -38,7 +38,7 @@ one_verdict M q t Unfinished Unfinished h k = refl
 trial_of : (events : List Event) (verdict : Verdict) (values : List ℕ) → Trial
 trial_of events verdict values = record { events = events; verdict = verdict; values = values }
 
-one_trial : (B M : ℕ) (q : Question) (s t : Trial) → IsTrial B M q s → IsTrial B M q t → s.events ≡ t.events → s ≡ t
+one_trial : (B M : ℕ) (q : LitmusTest) (s t : Trial) → IsTrial B M q s → IsTrial B M q t → s.events ≡ t.events → s ≡ t
 unfolding trial_of
 one_trial B M q s t is other events =
     let histories : is.history ≡ other.history = run-one B M (unrun q.opening) s.events is.history other.history is.ran (subst (λ (evs : List Event). Run B M q.opening evs other.history) (sym events) other.ran) in
@@ -48,7 +48,7 @@ one_trial B M q s t is other events =
     ∙ ap (λ (v : Verdict). trial_of t.events v s.values) verdicts
     ∙ ap (λ (xs : List ℕ). trial_of t.events t.verdict xs) values
 
-one_list : (B M : ℕ) (q : Question) (ss ts : List Trial) → All (IsTrial B M q) ss → All (IsTrial B M q) ts → map (λ (t : Trial). t.events) ss ≡ map (λ (t : Trial). t.events) ts → ss ≡ ts
+one_list : (B M : ℕ) (q : LitmusTest) (ss ts : List Trial) → All (IsTrial B M q) ss → All (IsTrial B M q) ts → map (λ (t : Trial). t.events) ss ≡ map (λ (t : Trial). t.events) ts → ss ≡ ts
 one_list B M q [] [] are others same = refl
 one_list B M q [] (t ∷ ts) are others same = absurd cc
 one_list B M q (s ∷ ss) [] are others same = absurd cc
@@ -123,7 +123,7 @@ one_outcomes trials xs ys is other = one_ascending xs ys is.ascending other.asce
 
 -- ---- one text
 
-pub one_try : (B M : ℕ) (stream : Stream) (runs size : ℕ) (q : Question) (a b : List ℕ × Bool) → IsTried B M stream runs size q a → IsTried B M stream runs size q b → a ≡ b
+pub one_try : (B M : ℕ) (stream : Stream) (runs size : ℕ) (q : LitmusTest) (a b : List ℕ × Bool) → IsTried B M stream runs size q a → IsTried B M stream runs size q b → a ≡ b
 one_try B M stream runs size q a b is other =
     let trials : is.trials ≡ other.trials = one_list B M q is.trials other.trials is.are.ran other.are.ran (is.are.schedules ∙ sym other.are.schedules) in
     let outcomes : is.outcomes ≡ other.outcomes = one_outcomes is.trials is.outcomes other.outcomes is.shown (subst (λ (ts : List Trial). AreOutcomes ts other.outcomes) (sym trials) other.shown) in

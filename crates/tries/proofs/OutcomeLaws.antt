@@ -11,7 +11,7 @@ use Rattle.std.specs.Global.{Vec}
 use Rattle.std.specs.String.{string_bytes}
 use Rattle.std.proofs.lemmas.List.Elements.{All-tail}
 use Rattle.rand_core.specs.Stream.{Stream}
-use Rattle.litmus.specs.Questions.{Question}
+use Rattle.litmus.specs.LitmusTests.{LitmusTest}
 use Rattle.litmus.specs.declared.verdict.Quantifier.{Quantifier}
 use Rattle.litmus.specs.declared.verdict.Quantifier.TheVariants.{Exists, NotExists, ForAll}
 use Rattle.tries.specs.declared.trials.tally.Row.{Row}
@@ -103,7 +103,7 @@ text_told : (n m : ℕ) (text other : List ℕ) → counted_one n text ≡ count
 unfolding counted_one
 text_told n m text other e = ap (λ (o : Option Counted). (unwrap_or o (0, [])).1) e
 
-line_seen : (question : Question) (outcome : List ℕ) (o : Option Trial) (n count : ℕ) (schedule : List ℕ) → option_map (λ (first : Trial). (n, schedule_text first.events)) o ≡ counted_one count schedule
+line_seen : (question : LitmusTest) (outcome : List ℕ) (o : Option Trial) (n count : ℕ) (schedule : List ℕ) → option_map (λ (first : Trial). (n, schedule_text first.events)) o ≡ counted_one count schedule
     → line_of question outcome count schedule ≡ line_of question outcome n (first_schedule_text o)
 unfolding counted_one
 line_seen question outcome None n count schedule e = absurd cc
@@ -111,12 +111,12 @@ line_seen question outcome (Some first) n count schedule e =
     ap (λ (k : ℕ). line_of question outcome k schedule) (sym (count_told n count (schedule_text first.events) schedule e))
     ∙ ap (λ (text : List ℕ). line_of question outcome n text) (sym (text_told n count (schedule_text first.events) schedule e))
 
-line_is : (question : Question) (trials : List Trial) (tally : Tally) (key : Vec ℕ) (row : Row) → IsTallyOf trials tally → lookup (is_key key.items) tally.rows.entries ≡ Some row → row_line question (key, row) ≡ outcome_line question trials key.items
+line_is : (question : LitmusTest) (trials : List Trial) (tally : Tally) (key : Vec ℕ) (row : Row) → IsTallyOf trials tally → lookup (is_key key.items) tally.rows.entries ≡ Some row → row_line question (key, row) ≡ outcome_line question trials key.items
 unfolding counted_of seen_of counted_one
 line_is question trials tally key row is found =
     line_seen question key.items (find (gave key.items) trials) (count_by (gave key.items) trials) row.count (string_bytes row.schedule) (sym (is.rows key.items) ∙ ap (option_map counted_by) found)
 
-lines_are : (question : Question) (trials : List Trial) (tally : Tally) (rows : Rows) → IsTallyOf trials tally → All (λ e. lookup (is_key e.0.items) tally.rows.entries ≡ Some e.1) rows
+lines_are : (question : LitmusTest) (trials : List Trial) (tally : Tally) (rows : Rows) → IsTallyOf trials tally → All (λ e. lookup (is_key e.0.items) tally.rows.entries ≡ Some e.1) rows
     → flat_map (row_line question) rows ≡ flat_map (outcome_line question trials) (outcomes_of rows)
 lines_are question trials tally [] is found = refl
 lines_are question trials tally (e ∷ rows) is found =
@@ -130,7 +130,7 @@ good_is Exists trials = refl
 good_is NotExists trials = refl
 good_is ForAll trials = refl
 
-pub tried : (B M : ℕ) (stream : Stream) (runs size : ℕ) (question : Question) (trials : List Trial) (tally : Tally) (text : List ℕ) (good : Bool) → AreTrials B M question stream runs size trials → IsTallyOf trials tally
+pub tried : (B M : ℕ) (stream : Stream) (runs size : ℕ) (question : LitmusTest) (trials : List Trial) (tally : Tally) (text : List ℕ) (good : Bool) → AreTrials B M question stream runs size trials → IsTallyOf trials tally
     → IsStrictlySortedBy order (map (λ e. e.0) tally.rows.entries) → AreFound tally.rows.entries → text ≡ flat_map (row_line question) tally.rows.entries ++ unfinished_line tally.unfinished
     → good ≡ good_by question.quantifier tally.some_hold tally.some_fail → IsTried B M stream runs size question (text, good)
 tried B M stream runs size question trials tally text good are is sorted found written judged = record {

@@ -6,7 +6,7 @@ use Rattle.std.proofs.lemmas.List.FromFn.{map-range_with_len_more}
 use Rattle.std.proofs.lemmas.List.Elements.{All-append, All-cons, All-nil}
 use Rattle.rand_core.specs.Stream.{Stream, next_u32}
 use Rattle.step_machine.specs.declared.events.Event.{Event}
-use Rattle.litmus.specs.Questions.{Question}
+use Rattle.litmus.specs.LitmusTests.{LitmusTest}
 use Rattle.recorder.specs.Drawing.{left_after}
 use Rattle.tries.specs.Trials.{Trial, IsTrial, schedule_drawn, AreTrials}
 
@@ -25,11 +25,11 @@ left_more size number first before after was drawn =
     drawn ∙ ap (left_after size) was ∙ left_after-sum size (number * size) first ∙ ap (λ (n : ℕ). left_after n first) more
 
 -- no run
-pub no_trials : (B M : ℕ) (question : Question) (stream : Stream) (size : ℕ) → AreTrials B M question stream 0 size []
+pub no_trials : (B M : ℕ) (question : LitmusTest) (stream : Stream) (size : ℕ) → AreTrials B M question stream 0 size []
 no_trials B M question stream size = record { schedules = refl; ran = All-nil (IsTrial B M question) }
 
 -- and one run more
-pub trials_more : (B M : ℕ) (question : Question) (stream : Stream) (number size : ℕ) (trials : List Trial) (trial : Trial) → AreTrials B M question stream number size trials
+pub trials_more : (B M : ℕ) (question : LitmusTest) (stream : Stream) (number size : ℕ) (trials : List Trial) (trial : Trial) → AreTrials B M question stream number size trials
     → trial.events ≡ schedule_drawn (length question.opening.harts) size stream number → IsTrial B M question trial → AreTrials B M question stream (number + 1) size (trials ++ trial ∷ [])
 trials_more B M question stream number size trials trial are drawn is =
     let same : 0 + number ≡ number = omega arith in

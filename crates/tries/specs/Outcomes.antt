@@ -8,7 +8,7 @@ use Rattle.std.specs.Cmp.Lexicographic.{slice_cmp}
 use Rattle.std.specs.Fmt.{decimal}
 use Rattle.rand_core.specs.Stream.{Stream}
 use Rattle.step_machine.specs.declared.events.Event.{Event}
-use Rattle.litmus.specs.Questions.{Question, left_sides}
+use Rattle.litmus.specs.LitmusTests.{LitmusTest, left_sides}
 use Rattle.litmus.specs.declared.symbols.Place.{Place}
 use Rattle.litmus.specs.declared.symbols.Place.TheVariants as place
 use Rattle.recorder.specs.Writing.{tokens_of}
@@ -35,11 +35,11 @@ first_schedule_text None = []
 first_schedule_text (Some trial) = schedule_text trial.events
 
 -- a line: how many runs, the values of the left sides, and a schedule
-abbrev pub line_of : Question → (outcome : List ℕ) → (count : ℕ) → (schedule : List ℕ) → List ℕ
+abbrev pub line_of : LitmusTest → (outcome : List ℕ) → (count : ℕ) → (schedule : List ℕ) → List ℕ
 line_of question outcome count schedule = decimal count ++ flat_map (value_text question.names) (zip (left_sides question.condition) outcome) ++ codes " ;" ++ schedule ++ 10 ∷ []
 
 -- the line of an outcome, with how many runs gave it and the schedule of the first run that did
-abbrev pub outcome_line : Question → List Trial → (outcome : List ℕ) → List ℕ
+abbrev pub outcome_line : LitmusTest → List Trial → (outcome : List ℕ) → List ℕ
 outcome_line question trials outcome = line_of question outcome (count_by (gave outcome) trials) (first_schedule_text (find (gave outcome) trials))
 
 abbrev pub unfinished_line : (count : ℕ) → List ℕ
@@ -56,7 +56,7 @@ pub record AreOutcomes (trials : List Trial) (outcomes : List (List ℕ)) : Type
 
 -- the text of so many runs of a test, over store buffers of B pairs and a memory of M words, and
 -- whether they show what the test asks
-pub record IsTried (B M : ℕ) (stream : Stream) (runs size : ℕ) (question : Question) (answer : List ℕ × Bool) : Type 0 where
+pub record IsTried (B M : ℕ) (stream : Stream) (runs size : ℕ) (question : LitmusTest) (answer : List ℕ × Bool) : Type 0 where
   pub trials : List Trial
   pub are : AreTrials B M question stream runs size trials
   pub outcomes : List (List ℕ)
@@ -64,7 +64,7 @@ pub record IsTried (B M : ℕ) (stream : Stream) (runs size : ℕ) (question : Q
   pub text : answer.0 ≡ flat_map (outcome_line question trials) outcomes ++ unfinished_line (unfinished trials)
   pub good : answer.1 ≡ are_good question.quantifier trials
 
-abbrev pub IsTriedOf : (B M : ℕ) → Stream → (runs size : ℕ) → Question → Result (List ℕ × Bool) Refusal → Type 0
+abbrev pub IsTriedOf : (B M : ℕ) → Stream → (runs size : ℕ) → LitmusTest → Result (List ℕ × Bool) Refusal → Type 0
 IsTriedOf B M stream runs size question (Ok answer) = IsTried B M stream runs size question answer
 IsTriedOf B M stream runs size question (Err refusal) = ⊥
 

@@ -6,7 +6,7 @@ use Rattle.rand_core.specs.Stream.{Stream}
 use Rattle.step_machine.specs.History.{History}
 use Rattle.step_machine.specs.Runs.{Run}
 use Rattle.step_machine.specs.declared.events.Event.{Event}
-use Rattle.litmus.specs.Questions.{Question, left_sides}
+use Rattle.litmus.specs.LitmusTests.{LitmusTest, left_sides}
 use Rattle.litmus.specs.Verdicts.{IsVerdict, final_value}
 use Rattle.litmus.specs.declared.verdict.Quantifier.{Quantifier}
 use Rattle.litmus.specs.declared.verdict.Quantifier.TheVariants.{Exists, NotExists, ForAll}
@@ -21,7 +21,7 @@ pub record Trial : Type 0 where
   pub values : List ℕ
 
 -- the schedule leads there from the test's opening, over store buffers of B pairs and a memory of M words
-pub record IsTrial (B M : ℕ) (question : Question) (trial : Trial) : Type 0 where
+pub record IsTrial (B M : ℕ) (question : LitmusTest) (trial : Trial) : Type 0 where
   pub history : History
   pub ran : Run B M question.opening trial.events history
   pub judged : IsVerdict M question history trial.verdict
@@ -33,7 +33,7 @@ abbrev pub schedule_drawn : (harts size : ℕ) → Stream → (number : ℕ) →
 schedule_drawn harts size stream number = map (drawn harts) (words size (left_after (number * size) stream))
 
 -- so many runs, from the schedules that the generator's stream draws one after the other
-pub record AreTrials (B M : ℕ) (question : Question) (stream : Stream) (runs size : ℕ) (trials : List Trial) : Type 0 where
+pub record AreTrials (B M : ℕ) (question : LitmusTest) (stream : Stream) (runs size : ℕ) (trials : List Trial) : Type 0 where
   pub schedules : map (λ t. t.events) trials ≡ map (schedule_drawn (length question.opening.harts) size stream) (range_with_len 0 runs)
   pub ran : All (IsTrial B M question) trials
 

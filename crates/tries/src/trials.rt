@@ -6,7 +6,7 @@ ghost use Rattle.tries.specs.Outcomes.{IsTried, IsTryAnswer};
 ghost use Rattle.engine_parts.specs.inner.Making.{FindsBy, text_and_value};
 ghost use Rattle.tries.specs.inner.Tallies.{good_by};
 ghost use Rattle.recorder.specs.Drawing.{left_after};
-ghost use Rattle.litmus.specs.declared.question.TheConstants.{MAX_LOCATIONS};
+ghost use Rattle.litmus.specs.declared.litmus_test.TheConstants.{MAX_LOCATIONS};
 
 use crate::trials::outcomes::tally_text;
 use crate::trials::spreading::tally_by_jobs;

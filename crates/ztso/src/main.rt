@@ -11,15 +11,15 @@
 mod command_line;
 mod failure;
 mod job;
-mod late_input;
-mod prompting;
+mod lazy_input;
+mod prompt_reader;
 mod work;
 
 use command_line::job_of;
 use failure::Failure;
 use job::Task;
-use late_input::LateInput;
-use prompting::Prompting;
+use lazy_input::LazyInput;
+use prompt_reader::PromptReader;
 use std::io::IsTerminal;
 use std::process::ExitCode;
 use std::rt::{Env, Files};
@@ -48,7 +48,7 @@ where
     let arguments = env::args(rt).map_err(Failure::of_arguments)?;
     let words: Vec<String> = arguments.collect(rt.alloc())?;
     let job = job_of(rt.alloc(), &words)?;
-    let mut first = LateInput::new(rt, Some(job.first));
+    let mut first = LazyInput::new(rt, Some(job.first));
     let mut writer = io::writer(rt);
     let status = match job.task {
         Task::Alone(errand) => do_errand(
@@ -56,8 +56,8 @@ where
             rt.alloc(),
             errand,
             &mut first,
-            &mut LateInput::new(rt, job.second),
-            &mut Prompting::new(rt),
+            &mut LazyInput::new(rt, job.second),
+            &mut PromptReader::new(rt),
             &mut writer,
         )?,
         Task::Threads { turns, capacity } => {

@@ -17,7 +17,7 @@ use Rattle.recorder.specs.Schedule.{IsPlainOf}
 use Rattle.recorder.specs.Reading.{plain_at}
 use Rattle.texts.proofs.FormatLaws.{settled_only}
 use Rattle.recorder.proofs.HeadLaws.{plain_settles, one_plain}
-use Rattle.litmus.specs.Questions.{Question}
+use Rattle.litmus.specs.LitmusTests.{LitmusTest}
 use Rattle.litmus.specs.Verdicts.{IsVerdict}
 use Rattle.litmus.specs.declared.verdict.Verdict.{Verdict}
 use Rattle.litmus_reader.specs.declared.faults.LitmusFault.{LitmusFault}
@@ -105,7 +105,7 @@ one_asm input (Err r) (Err s) refused other = ap (λ (x : Refusal). Err x) (one_
 
 -- ---- what is answered by a test
 
-test_or_refusal : (input : List ℕ) (q : Question) (r : Refusal) → Accepted IsTestOf input q → IsNoTest input r → ⊥
+test_or_refusal : (input : List ℕ) (q : LitmusTest) (r : Refusal) → Accepted IsTestOf input q → IsNoTest input r → ⊥
 unfolding test_of IsTestOf
 test_or_refusal input q r is (line, refused) =
     let read : test_at input ≡ Ok (content_of q) = (read_exactly input (content_of q)).1 is.value_is.0 in
@@ -127,10 +127,10 @@ one_number : (input : List ℕ) (r s : Refusal) → IsNoTest input r → IsNoTes
 unfolding test_of
 one_number input r s (line, e) (other, f) = numbers_of (ltb 1048576 (length input)) (is_utf8 input) (test_at input) line other r s e f
 
-module _ {A : Type 0} (IsAnswer : Question → Result A Refusal → Type 0)
-    (one : (q : Question) (a b : Result A Refusal) → IsAnswer q a → IsAnswer q b → AreOneAnswer a b) (input : List ℕ) where
-  same_test : (q p : Question) (a b : Result A Refusal) → Accepted IsTestOf input q → Accepted IsTestOf input p → IsAnswer q a → IsAnswer p b → AreOneAnswer a b
-  same_test q p a b is also told other = one q a b told (subst (λ (x : Question). IsAnswer x b) (one_test input p q also.value_is is.value_is) other)
+module _ {A : Type 0} (IsAnswer : LitmusTest → Result A Refusal → Type 0)
+    (one : (q : LitmusTest) (a b : Result A Refusal) → IsAnswer q a → IsAnswer q b → AreOneAnswer a b) (input : List ℕ) where
+  same_test : (q p : LitmusTest) (a b : Result A Refusal) → Accepted IsTestOf input q → Accepted IsTestOf input p → IsAnswer q a → IsAnswer p b → AreOneAnswer a b
+  same_test q p a b is also told other = one q a b told (subst (λ (x : LitmusTest). IsAnswer x b) (one_test input p q also.value_is is.value_is) other)
 
   one_by_test : (a b : Result A Refusal) → ByTest IsAnswer input a → ByTest IsAnswer input b → AreOneAnswer a b
   one_by_test a b (tests.ByTest.no_test r none) (tests.ByTest.no_test s other) = one_number input r s none other
@@ -146,7 +146,7 @@ schedule_or_refusal input events r is refused =
     let read : judged events_of input ≡ Ok events = judged_text events_of input is.few is.text ∙ (let found = settled_only (IsPlainOf input) (plain_at input) events (plain_settles input) is.value_is in rw found refl) in
     absurd cc
 
-module _ {A : Type 0} (IsAnswer : Question → List Event → A → Type 0) (one : (q : Question) (events : List Event) (a b : A) → IsAnswer q events a → IsAnswer q events b → a ≡ b) (file schedule : List ℕ) where
+module _ {A : Type 0} (IsAnswer : LitmusTest → List Event → A → Type 0) (one : (q : LitmusTest) (events : List Event) (a b : A) → IsAnswer q events a → IsAnswer q events b → a ≡ b) (file schedule : List ℕ) where
   one_by_both : (a b : Result A Refusal) → ByBoth IsAnswer file schedule a → ByBoth IsAnswer file schedule b → AreOneAnswer a b
   one_by_both a b (histories.ByBoth.no_test r none) (histories.ByBoth.no_test s other) = one_number file r s none other
   one_by_both a b (histories.ByBoth.no_test r none) (histories.ByBoth.no_schedule q s is bad) = absurd (test_or_refusal file q r is none)
@@ -158,19 +158,19 @@ module _ {A : Type 0} (IsAnswer : Question → List Event → A → Type 0) (one
   one_by_both a b (histories.ByBoth.ran q events given is said told) (histories.ByBoth.no_schedule p s also bad) = absurd (schedule_or_refusal schedule events s said bad)
   one_by_both a b (histories.ByBoth.ran q events given is said told) (histories.ByBoth.ran p others other also says tells) =
       one q events given other told
-      (subst (λ (x : Question). IsAnswer x events other) (one_test file p q also.value_is is.value_is)
+      (subst (λ (x : LitmusTest). IsAnswer x events other) (one_test file p q also.value_is is.value_is)
       (subst (λ (evs : List Event). IsAnswer p evs other) (one_plain schedule others events says.value_is said.value_is) tells))
 
 -- ---- `run`, `replay` and `debug`
 
-one_judged : (B M : ℕ) (q : Question) (events : List Event) (a b : List ℕ × Verdict) → IsOfRun B M (IsJudged M) q events a → IsOfRun B M (IsJudged M) q events b → a ≡ b
+one_judged : (B M : ℕ) (q : LitmusTest) (events : List Event) (a b : List ℕ × Verdict) → IsOfRun B M (IsJudged M) q events a → IsOfRun B M (IsJudged M) q events b → a ≡ b
 one_judged B M q events a b is other =
     let histories : is.history ≡ other.history = run-one B M (unrun q.opening) events is.history other.history is.ran other.ran in
     let verdicts : a.1 ≡ b.1 = one_verdict M q is.history a.1 b.1 is.answers.verdict (subst (λ (h : History). IsVerdict M q h b.1) (sym histories) other.answers.verdict) in
     let texts : a.0 ≡ b.0 = is.answers.is_shown ∙ ap (λ (h : History). shown M h ++ verdict_line a.1) histories ∙ ap (λ (v : Verdict). shown M other.history ++ verdict_line v) verdicts ∙ sym other.answers.is_shown in
     λ i. (texts i, verdicts i)
 
-one_replayed : (B M : ℕ) (q : Question) (events : List Event) (a b : Output) → IsOfRun B M IsReplay q events a → IsOfRun B M IsReplay q events b → a ≡ b
+one_replayed : (B M : ℕ) (q : LitmusTest) (events : List Event) (a b : Output) → IsOfRun B M IsReplay q events a → IsOfRun B M IsReplay q events b → a ≡ b
 one_replayed B M q events a b is other =
     let histories : is.history ≡ other.history = run-one B M (unrun q.opening) events is.history other.history is.ran other.ran in
     same_output a b (is.answers ∙ ap (λ (h : History). flat_map entry_line h.entries) histories ∙ sym other.answers)
@@ -186,7 +186,7 @@ one_debug B M input = one_by_both (IsTalk B M (Some input)) (one_talk_of B M inp
 
 -- ---- `try`
 
-one_tried_of : (B M : ℕ) (stream : Stream) (runs size : ℕ) (q : Question) (a b : Result (List ℕ × Bool) Refusal) → IsTriedOf B M stream runs size q a → IsTriedOf B M stream runs size q b → AreOneAnswer a b
+one_tried_of : (B M : ℕ) (stream : Stream) (runs size : ℕ) (q : LitmusTest) (a b : Result (List ℕ × Bool) Refusal) → IsTriedOf B M stream runs size q a → IsTriedOf B M stream runs size q b → AreOneAnswer a b
 one_tried_of B M stream runs size q (Ok a) (Ok b) is other = one_try B M stream runs size q a b is other
 one_tried_of B M stream runs size q (Ok a) (Err s) is none = absurd none
 one_tried_of B M stream runs size q (Err r) b none other = absurd none

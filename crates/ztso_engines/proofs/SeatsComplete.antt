@@ -6,7 +6,7 @@ use Rattle.std.proofs.lemmas.Bool.Decides.{nat_tests}
 use Rattle.std.proofs.lemmas.List.Folds.{list_any-append}
 use Rattle.std.proofs.lemmas.List.Sums.{sum_by-append}
 use Rattle.step_machine.specs.History.{Start}
-use Rattle.litmus.specs.Questions.{Question}
+use Rattle.litmus.specs.LitmusTests.{LitmusTest}
 use Rattle.hart_threads.specs.Seats.{SeatView, acting_seat, landing_seat, seats_below, seats_of}
 use Rattle.hart_threads.specs.Missing.{is_missing, sits_at, acts_for, lands_for}
 use Rattle.hart_threads.specs.Returns.{Fails, IsLost}
@@ -74,7 +74,7 @@ seats_complete M o n h = at (cases_lt h n)
     at (inr ge) = rw (past h n ge) (sitting M o n h ge)
 
 -- what a run on threads refuses where all seats are there
-pub threads_refused : (B M n : ℕ) (q : Question) (o : Start) (seats : List SeatView) (e : Fault) → seats ≡ seats_of M o → o ≡ q.opening → Fails B M n o seats e → AnswersAs (IsThreadsGiven B M n q) text_and_value (Err (fault_of_threads e))
+pub threads_refused : (B M n : ℕ) (q : LitmusTest) (o : Start) (seats : List SeatView) (e : Fault) → seats ≡ seats_of M o → o ≡ q.opening → Fails B M n o seats e → AnswersAs (IsThreadsGiven B M n q) text_and_value (Err (fault_of_threads e))
 threads_refused B M n q o seats fault.NoMemory is opening fails = tt
 threads_refused B M n q o seats fault.NoThread is opening fails = (refl, inr (inr (inl refl)))
 threads_refused B M n q o seats (fault.Missing h) is opening (inl first) =

@@ -2,14 +2,14 @@
 use Rattle.std.specs.Prelude.{ℕ, ◌≡◌, List, Result}
 use Rattle.std.specs.List.{flat_map}
 use Rattle.step_machine.specs.History.{History}
-use Rattle.litmus.specs.Questions.{Question}
+use Rattle.litmus.specs.LitmusTests.{LitmusTest}
 use Rattle.engine_parts.specs.declared.fault.Refusal.{Refusal}
 use Rattle.recorder.specs.Outcomes.{entry_line}
 use Rattle.engine_parts.specs.Histories.{ByRun}
 use Rattle.engine_parts.specs.Engines.{Output}
 
 -- the lines of a history's entries
-abbrev pub IsReplay : Question → History → (answer : Output) → Type 0
+abbrev pub IsReplay : LitmusTest → History → (answer : Output) → Type 0
 IsReplay question history answer = answer.0 ≡ flat_map entry_line history.entries
 
 -- what answers a litmus text and a schedule

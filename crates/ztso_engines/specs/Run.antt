@@ -1,7 +1,7 @@
 -- The command `run`: the state text of a test's run, and the verdict on it.
 use Rattle.std.specs.Prelude.{ℕ, ◌≡◌, List, [], ◌∷◌, ◌++◌, Result, codes}
 use Rattle.step_machine.specs.History.{History}
-use Rattle.litmus.specs.Questions.{Question}
+use Rattle.litmus.specs.LitmusTests.{LitmusTest}
 use Rattle.litmus.specs.Verdicts.{IsVerdict}
 use Rattle.litmus.specs.declared.verdict.Verdict.{Verdict}
 use Rattle.litmus.specs.declared.verdict.Verdict.TheVariants.{Holds, Fails, Unfinished}
@@ -15,7 +15,7 @@ verdict_line Fails = codes "Fails" ++ 10 ∷ []
 verdict_line Unfinished = codes "Unfinished" ++ 10 ∷ []
 
 -- the state text of a test's history over a memory of M words, and the verdict on it
-pub record IsJudged (M : ℕ) (question : Question) (history : History) (answer : List ℕ × Verdict) : Type 0 where
+pub record IsJudged (M : ℕ) (question : LitmusTest) (history : History) (answer : List ℕ × Verdict) : Type 0 where
   pub verdict : IsVerdict M question history answer.1
   pub is_shown : answer.0 ≡ shown M history ++ verdict_line answer.1
 

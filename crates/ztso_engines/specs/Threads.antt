@@ -4,7 +4,7 @@ use Rattle.std.specs.Prelude.{ℕ, ◌≡◌, ◌≤◌, ◌<◌, ◌⊎◌, Lis
 use Rattle.step_machine.specs.History.{History}
 use Rattle.step_machine.specs.Runs.{Run, event_of}
 use Rattle.step_machine.specs.declared.events.Event.{Event}
-use Rattle.litmus.specs.Questions.{Question}
+use Rattle.litmus.specs.LitmusTests.{LitmusTest}
 use Rattle.litmus.specs.declared.verdict.Verdict.{Verdict}
 use Rattle.recorder.specs.Writing.{canon}
 use Rattle.recorder.specs.declared.reading.TheConstants.{MAX_EVENTS}
@@ -30,7 +30,7 @@ fault_of_threads (thread.Mismatch h es) = Refused (record { number = 32; place =
 -- a run of the test's opening, one event an entry, over store buffers of B pairs and a memory of M
 -- words, by harts and landers that got on for n turns and made no more: its schedule, then its state text
 -- and its verdict
-pub record IsThreadsRun (B M n : ℕ) (question : Question) (answer : List ℕ × Verdict) : Type 0 where
+pub record IsThreadsRun (B M n : ℕ) (question : LitmusTest) (answer : List ℕ × Verdict) : Type 0 where
   pub events : List Event
   pub few : length events ≤ MAX_EVENTS
   pub history : History
@@ -43,7 +43,7 @@ pub record IsThreadsRun (B M n : ℕ) (question : Question) (answer : List ℕ �
   pub written : answer.0 ≡ canon events ++ state
 
 -- a run of the test's opening, one event an entry, that is too long to be written
-pub record IsTooLong (B M : ℕ) (question : Question) : Type 0 where
+pub record IsTooLong (B M : ℕ) (question : LitmusTest) : Type 0 where
   pub events : List Event
   pub history : History
   pub ran : Run B M question.opening events history
@@ -51,18 +51,18 @@ pub record IsTooLong (B M : ℕ) (question : Question) : Type 0 where
   pub many : MAX_EVENTS < length events
 
 -- the bank has lost a hart, though the threads made a run
-abbrev pub HasLost : ℕ → ℕ → ℕ → Question → Type 0
+abbrev pub HasLost : ℕ → ℕ → ℕ → LitmusTest → Type 0
 HasLost B M n question = (h : ℕ) × IsLost B M n question.opening (seats_of M question.opening) h
 
 -- the refusals of threads that have all their seats, and that of a run which is too long
-abbrev pub RefusesThreads : (B M n : ℕ) → Question → ℕ → Type 0
+abbrev pub RefusesThreads : (B M n : ℕ) → LitmusTest → ℕ → Type 0
 RefusesThreads B M n question number =
     (number ≡ 32)
     ⊎ ((number ≡ 33) × HasLost B M n question
     ⊎ ((number ≡ 35)
     ⊎ ((number ≡ 37) × IsTooLong B M question)))
 
-abbrev pub IsThreadsGiven : ℕ → ℕ → ℕ → Question → Result (List ℕ × Verdict) Refusal → Type 0
+abbrev pub IsThreadsGiven : ℕ → ℕ → ℕ → LitmusTest → Result (List ℕ × Verdict) Refusal → Type 0
 IsThreadsGiven B M n question (Ok answer) = IsThreadsRun B M n question answer
 IsThreadsGiven B M n question (Err refusal) = (refusal.place ≡ Nowhere) × RefusesThreads B M n question refusal.number
 

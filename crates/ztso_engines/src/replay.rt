@@ -8,7 +8,7 @@ ghost use Rattle.engine_parts.specs.Tests.{HasNoTest};
 ghost use Rattle.recorder.specs.Outcomes.{entry_line};
 ghost use Rattle.ztso_engines.specs.Replay.{IsReplayAnswer};
 ghost use Rattle.engine_parts.specs.inner.Making.{Finds, text_and_value};
-ghost use Rattle.litmus.specs.declared.question.TheConstants.{MAX_LOCATIONS};
+ghost use Rattle.litmus.specs.declared.litmus_test.TheConstants.{MAX_LOCATIONS};
 
 use engine_parts::fault::Fault;
 use engine_parts::output::end_with;

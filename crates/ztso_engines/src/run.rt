@@ -6,7 +6,7 @@ ghost use Rattle.engine_parts.specs.Engines.{AnswersBoth, EndsByBoth};
 ghost use Rattle.engine_parts.specs.Tests.{HasNoTest};
 ghost use Rattle.ztso_engines.specs.Run.{verdict_line, IsJudged, IsRunAnswer};
 ghost use Rattle.engine_parts.specs.inner.Making.{Finds, text_and_value};
-ghost use Rattle.litmus.specs.declared.question.TheConstants.{MAX_LOCATIONS};
+ghost use Rattle.litmus.specs.declared.litmus_test.TheConstants.{MAX_LOCATIONS};
 
 use engine_parts::fault::Fault;
 use engine_parts::output::end_with;

@@ -9,7 +9,7 @@ ghost use Rattle.engine_parts.specs.Faults.{AnswersAs};
 ghost use Rattle.ztso_engines.specs.Threads.{fault_of_threads, IsThreadsGiven, IsThreadsAnswer};
 ghost use Rattle.engine_parts.specs.inner.Making.{FindsBy, text_and_value};
 ghost use Rattle.step_machine.specs.declared.opening.TheConstants.{MAX_HARTS};
-ghost use Rattle.litmus.specs.declared.question.TheConstants.{MAX_LOCATIONS};
+ghost use Rattle.litmus.specs.declared.litmus_test.TheConstants.{MAX_LOCATIONS};
 
 use crate::run::judged_text;
 use engine_parts::fault::{Fault, Position, TOO_LARGE};

@@ -4,7 +4,7 @@ use Rattle.step_machine.specs.History.{History}
 use Rattle.step_machine.specs.declared.events.Event.{Event}
 use Rattle.recorder.specs.Schedule.{IsPlainOf}
 use Rattle.recorder.specs.Versions.{Said, Says}
-use Rattle.litmus.specs.Questions.{Question}
+use Rattle.litmus.specs.LitmusTests.{LitmusTest}
 use Rattle.litmus_reader.specs.Grammar.{IsTestOf}
 use Rattle.engine_parts.specs.declared.fault.Refusal.{Refusal}
 use Rattle.engine_parts.specs.Engines.{Accepted, judged}
@@ -12,7 +12,7 @@ use Rattle.engine_parts.specs.Tests.{IsNoTest}
 use Rattle.engine_parts.specs.Schedules.{events_of, IsNeitherVersion}
 
 -- the input's test, or why it has none
-abbrev pub IsReadAsTest : List ℕ → Result Question Refusal → Type 0
+abbrev pub IsReadAsTest : List ℕ → Result LitmusTest Refusal → Type 0
 IsReadAsTest input (Ok question) = Accepted IsTestOf input question
 IsReadAsTest input (Err refusal) = IsNoTest input refusal
 
@@ -27,5 +27,5 @@ IsReadAsEither input (Ok said) = Accepted Says input said
 IsReadAsEither input (Err refusal) = IsNeitherVersion input refusal
 
 -- a test with its history, told as they are
-abbrev pub IsItself : Question → History → Question × History → Type 0
+abbrev pub IsItself : LitmusTest → History → LitmusTest × History → Type 0
 IsItself question history made = made ≡ (question, history)

@@ -3,7 +3,7 @@ use Rattle.std.specs.Prelude.{ℕ, ◌==◌, Bool, not, zero, suc, List, [], ◌
 use Rattle.litmus.specs.declared.symbols.Place.{Place}
 use Rattle.litmus.specs.declared.symbols.Step.{Step}
 use Rattle.litmus.specs.declared.symbols.Step.TheVariants as step
-use Rattle.litmus.specs.Questions.{IsThere}
+use Rattle.litmus.specs.LitmusTests.{IsThere}
 
 -- the truth value after a step, and how many steps it skips
 abbrev pub done : (Place → ℕ) → Step → Bool → Bool × ℕ

@@ -4,7 +4,7 @@ use Rattle.litmus.specs.declared.symbols.Place.{Place}
 use Rattle.litmus.specs.declared.symbols.Place.TheVariants as place
 use Rattle.litmus.specs.declared.symbols.Step.{Step}
 use Rattle.litmus.specs.declared.symbols.Step.TheVariants as step
-use Rattle.litmus.specs.Questions.{firsts}
+use Rattle.litmus.specs.LitmusTests.{firsts}
 use Rattle.litmus.specs.inner.Running.{asked_by}
 
 abbrev pub index_of : Place → ℕ

@@ -5,7 +5,7 @@ use Rattle.memory.specs.Words.{opened_words}
 use Rattle.memory.specs.Writes.{WritesInWord, byte_of}
 use Rattle.hart.specs.State.{HartState, HartView}
 use Rattle.step_machine.specs.History.{History, FitsIn}
-use Rattle.step_machine.specs.Legal.{Kept}
+use Rattle.step_machine.specs.Legal.{WellFormed}
 use Rattle.step_machine.specs.Entries.{pending, landed, memory_byte, reported}
 use Rattle.step_machine.specs.Paths.{opens_as, state_of}
 use Rattle.step_machine.specs.inner.Stored.{Stored, buffer_of}
@@ -31,7 +31,7 @@ pub record Represents (M : ℕ) (t : History) (c : Config) : Type 0 where
 -- a history that is kept, and a machine that holds what it says, with room for n more steps
 pub record IsMachineAt (B M : ℕ) (t : History) (c : Config) (n : ℕ) : Type 0 where
   pub fits : FitsIn M t.opening
-  pub kept : Kept B M t
+  pub kept : WellFormed B M t
   pub tied : Represents M t c
   pub fit : Fit M c
   pub count : length c.harts ≡ length t.opening.harts

@@ -5,7 +5,7 @@ use Rattle.std.specs.declared.alloc.AllocError.{AllocError}
 use Rattle.std.specs.Ordering.{is_eq, nat_cmp}
 use Rattle.std.specs.Cmp.Lexicographic.{slice_cmp}
 use Rattle.rand_core.specs.Stream.{Stream}
-use Rattle.litmus.specs.Questions.{Question}
+use Rattle.litmus.specs.LitmusTests.{LitmusTest}
 use Rattle.recorder.specs.Drawing.{left_after}
 use Rattle.tries.specs.declared.trials.tally.Row.{Row}
 use Rattle.tries.specs.declared.trials.tally.Tally.{Tally}
@@ -35,7 +35,7 @@ pub record Merges (old later new : Tally) : Type 0 where
 pub record Source : Type 0 where
   pub B : ℕ
   pub M : ℕ
-  pub question : Question
+  pub question : LitmusTest
   pub stream : Stream
   pub size : ℕ
 

@@ -8,7 +8,7 @@ use Rattle.std.specs.Map.{lookup}
 use Rattle.std.specs.Global.{Vec}
 use Rattle.std.specs.String.{string_bytes}
 use Rattle.step_machine.specs.declared.events.Event.{Event}
-use Rattle.litmus.specs.Questions.{Question}
+use Rattle.litmus.specs.LitmusTests.{LitmusTest}
 use Rattle.litmus.specs.declared.verdict.Quantifier.{Quantifier}
 use Rattle.litmus.specs.declared.verdict.Quantifier.TheVariants.{Exists, NotExists, ForAll}
 use Rattle.tries.specs.declared.trials.tally.Row.{Row}
@@ -67,7 +67,7 @@ order x y = slice_cmp nat_cmp x.items y.items
 abbrev pub AreFound : List (Vec ℕ × Row) → Type 0
 AreFound rows = All (λ entry. lookup (is_key entry.0.items) rows ≡ Some entry.1) rows
 
-abbrev pub row_line : Question → Vec ℕ × Row → List ℕ
+abbrev pub row_line : LitmusTest → Vec ℕ × Row → List ℕ
 row_line question entry = line_of question entry.0.items entry.1.count (string_bytes entry.1.schedule)
 
 -- whether runs are good of which some hold, or some fail

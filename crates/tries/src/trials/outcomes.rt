@@ -4,7 +4,7 @@ ghost use Rattle.std.specs.Prelude.{◌≡◌, ◌++◌, ◌/◌, ◌<◌, lengt
 ghost use Rattle.std.specs.List.{flat_map};
 ghost use Rattle.std.specs.String.{string_bytes};
 ghost use Rattle.std.specs.BTreeMap.{IsOrdered};
-ghost use Rattle.litmus.specs.Questions.{IsThere, left_sides};
+ghost use Rattle.litmus.specs.LitmusTests.{IsThere, left_sides};
 ghost use Rattle.tries.specs.Outcomes.{place_text, value_text, line_of, unfinished_line};
 ghost use Rattle.tries.specs.inner.Tallies.{row_line, order, AreFound};
 

@@ -4,7 +4,7 @@ ghost use Rattle.std.specs.Prelude.{◌≡◌, ◌≤◌, ◌<◌, ◌+◌, ℕ,
 ghost use Rattle.tries.specs.inner.Merging.{first_of, IsTallyFrom};
 ghost use Rattle.tries.specs.Trials.{Trial, AreTrials};
 ghost use Rattle.tries.specs.inner.Tallies.{IsTallyOf};
-ghost use Rattle.litmus.specs.declared.question.TheConstants.{MAX_LOCATIONS};
+ghost use Rattle.litmus.specs.declared.litmus_test.TheConstants.{MAX_LOCATIONS};
 
 use crate::trials::drawing::tally_of;
 use crate::trials::tally::Tally;

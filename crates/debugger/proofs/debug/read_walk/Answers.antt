@@ -1,7 +1,7 @@
 use Rattle.std.proofs.Common.{List}
 use Rattle.std.proofs.lemmas.Result.{err_from_is_err_and}
 use Rattle.step_machine.specs.declared.events.Event.{Event}
-use Rattle.litmus.specs.Questions.{Question}
+use Rattle.litmus.specs.LitmusTests.{LitmusTest}
 use Rattle.debugger.specs.inner.Talking.{IsSetOut}
 use Rattle.engine_parts.proofs.HistoryLaws.{both_read, test_fault, schedule_fault}
 use Rattle.debugger.proofs.debug.read_walk.Goals as goal
@@ -9,7 +9,7 @@ use Rattle.debugger.proofs.debug.read_walk.Goals as goal
 pub returns-in_err-test-clause-walk : goal.returns-in_err-test-clause-walk
 returns-in_err-test-clause-walk g c =
     let p = err_from_is_err_and c.from_residual.result c.from_residual.ensures.1 in
-    test_fault _ _ IsSetOut _ (λ (q : Question). q) c.from_residual.result c.in_err-test.field-0.0 (rw p.2 at p.1) c.in_err-test.ensures.test
+    test_fault _ _ IsSetOut _ (λ (q : LitmusTest). q) c.from_residual.result c.in_err-test.field-0.0 (rw p.2 at p.1) c.in_err-test.ensures.test
 
 pub returns-in_err-events-clause-walk : goal.returns-in_err-events-clause-walk
 returns-in_err-events-clause-walk g c =

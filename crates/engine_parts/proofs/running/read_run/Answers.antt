@@ -1,7 +1,7 @@
 use Rattle.std.proofs.Common.{List}
 use Rattle.std.proofs.lemmas.Result.{err_from_is_err_and}
 use Rattle.step_machine.specs.declared.events.Event.{Event}
-use Rattle.litmus.specs.Questions.{Question}
+use Rattle.litmus.specs.LitmusTests.{LitmusTest}
 use Rattle.engine_parts.specs.Histories.{IsOfRun}
 use Rattle.engine_parts.specs.inner.Inputs.{IsItself}
 use Rattle.engine_parts.proofs.HistoryLaws.{run_found, test_fault, schedule_fault}
@@ -10,7 +10,7 @@ use Rattle.engine_parts.proofs.running.read_run.Goals as goal
 pub returns-in_err-test-clause-run : goal.returns-in_err-test-clause-run
 returns-in_err-test-clause-run g c =
     let p = err_from_is_err_and c.from_residual.result c.from_residual.ensures.1 in
-    test_fault _ _ (IsOfRun g.row.B g.row.M IsItself) _ (λ (q : Question). q) c.from_residual.result c.in_err-test.field-0.0 (rw p.2 at p.1) c.in_err-test.ensures.test
+    test_fault _ _ (IsOfRun g.row.B g.row.M IsItself) _ (λ (q : LitmusTest). q) c.from_residual.result c.in_err-test.field-0.0 (rw p.2 at p.1) c.in_err-test.ensures.test
 
 pub returns-in_err-events-clause-run : goal.returns-in_err-events-clause-run
 returns-in_err-events-clause-run g c =

@@ -4,7 +4,7 @@ use Rattle.std.specs.Prelude.{All, IfOk, MatchOption, Result, Ok, Err}
 use Rattle.std.proofs.lemmas.Bool.{MatchBool-at_true}
 use Rattle.step_machine.specs.declared.events.Entry.{Entry}
 use Rattle.step_machine.specs.History.{history_of}
-use Rattle.step_machine.specs.Legal.{Kept}
+use Rattle.step_machine.specs.Legal.{WellFormed}
 use Rattle.step_machine.specs.Placing.{placed}
 use Rattle.hart_threads.specs.Parts.{HasPart, Merge}
 use Rattle.hart_threads.specs.Diaries.{diaries_of}
@@ -30,7 +30,7 @@ returns g c =
     let whole : c.in_ok-entries.entries.items ≡ placed (diaries_in c.args.opening.now c.args.seats.now) c.args.memory.now =
     c.in_ok-entries.ensures ∙ ap (λ (ds : List (List Entry)). placed ds us) (c.in_ok-diaries.ensures ∙ ap (λ n. diaries_of n seats) c.harts_of.ensures) in
     for_each _ _ _ _
-    (λ not_kept all. not_kept (subst (λ (es : List Entry). Kept g.row.B g.row.M (history_of o es)) (sym whole)
+    (λ not_kept all. not_kept (subst (λ (es : List Entry). WellFormed g.row.B g.row.M (history_of o es)) (sym whole)
     (whole_kept g.row.B g.row.M o us seats known all c.requires.legal)))
     (λ made is. (is.0, subst (λ (es : List Entry). Merge (length o.harts) es seats) (sym (is.1 ∙ whole)) (merged o us seats known)))
     c.record_of.result c.record_of.ensures

@@ -1,4 +1,4 @@
-use Rattle.litmus.specs.Questions.{firsts}
+use Rattle.litmus.specs.LitmusTests.{firsts}
 use Rattle.litmus.specs.inner.Running.{asked_by}
 use Rattle.litmus.proofs.SeenLaws.{none_seen_yet, next_seen}
 use Rattle.litmus.proofs.lefts.first_places.Goals as goal

@@ -1,5 +1,5 @@
 use Rattle.std.proofs.Common.{◌≡◌, ◌++◌, drop, length}
-use Rattle.litmus.specs.Questions.{firsts}
+use Rattle.litmus.specs.LitmusTests.{firsts}
 use Rattle.litmus.specs.inner.Running.{asked_by}
 use Rattle.litmus.specs.inner.Seen.{left_to_see}
 use Rattle.litmus.proofs.lefts.first_places.Given as goal

@@ -1,6 +1,6 @@
 use Rattle.std.proofs.Common.{Ok, ◌*◌}
 use Rattle.std.proofs.lemmas.Result.{err_from_is_err_and}
-use Rattle.litmus.specs.Questions.{Question}
+use Rattle.litmus.specs.LitmusTests.{LitmusTest}
 use Rattle.recorder.specs.Drawing.{left_after}
 use Rattle.tries.specs.Outcomes.{IsTriedOf}
 use Rattle.engine_parts.specs.inner.Making.{text_and_value}
@@ -11,7 +11,7 @@ pub returns-in_err-test : goal.returns-in_err-test
 returns-in_err-test g c =
     let stream = left_after (c.args.runs.skip * c.args.runs.length) (g.G.Rng.stream c.args.generator.now) in
     let p = err_from_is_err_and c.from_residual.result c.from_residual.ensures.1 in
-    by_no_test (IsTriedOf g.row.B g.row.M stream c.args.runs.number c.args.runs.length) text_and_value _ (λ (q : Question). q) c.from_residual.result
+    by_no_test (IsTriedOf g.row.B g.row.M stream c.args.runs.number c.args.runs.length) text_and_value _ (λ (q : LitmusTest). q) c.from_residual.result
     c.in_err-test.field-0.0 (rw p.2 at p.1) c.in_err-test.ensures.test
 
 pub returns : goal.returns

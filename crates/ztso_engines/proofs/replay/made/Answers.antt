@@ -3,7 +3,7 @@ use Rattle.std.specs.List.{flat_map}
 use Rattle.std.specs.String.{string_bytes}
 use Rattle.std.proofs.lemmas.Result.{err_from_is_err_and}
 use Rattle.step_machine.specs.History.{Progress}
-use Rattle.litmus.specs.Questions.{Question}
+use Rattle.litmus.specs.LitmusTests.{LitmusTest}
 use Rattle.recorder.specs.Outcomes.{entry_line}
 use Rattle.ztso_engines.specs.Replay.{IsReplay}
 use Rattle.engine_parts.specs.Histories.{IsOfRun}
@@ -18,4 +18,4 @@ returns-clause-made g c = answers_of_run g.row.B g.row.M _ _ IsReplay c.in_ok-ma
 pub returns-in_err-machine-clause-made : goal.returns-in_err-machine-clause-made
 returns-in_err-machine-clause-made g c =
     let p = err_from_is_err_and c.from_residual.result c.from_residual.ensures.1 in
-    run_fault _ _ (IsOfRun g.row.B g.row.M IsItself) (IsOfRun g.row.B g.row.M IsReplay) text_and_value (λ (run : Question × Progress). (run.0, run.1.history)) c.from_residual.result c.in_err-machine.field-0.0 (rw p.2 at p.1) c.in_err-machine.ensures.run
+    run_fault _ _ (IsOfRun g.row.B g.row.M IsItself) (IsOfRun g.row.B g.row.M IsReplay) text_and_value (λ (run : LitmusTest × Progress). (run.0, run.1.history)) c.from_residual.result c.in_err-machine.field-0.0 (rw p.2 at p.1) c.in_err-machine.ensures.run

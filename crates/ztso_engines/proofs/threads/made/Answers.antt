@@ -1,5 +1,5 @@
 use Rattle.std.proofs.lemmas.Result.{err_from_is_err_and}
-use Rattle.litmus.specs.Questions.{Question}
+use Rattle.litmus.specs.LitmusTests.{LitmusTest}
 use Rattle.ztso_engines.specs.Threads.{IsThreadsGiven}
 use Rattle.engine_parts.specs.inner.Making.{text_and_value}
 use Rattle.engine_parts.proofs.ThreadRuns.{by_test, by_no_test}
@@ -11,4 +11,4 @@ returns g c = by_test (IsThreadsGiven g.row.B g.row.M c.args.turns) _ _ c.in_ok-
 pub returns-in_err-test : goal.returns-in_err-test
 returns-in_err-test g c =
     let p = err_from_is_err_and c.from_residual.result c.from_residual.ensures.1 in
-    by_no_test (IsThreadsGiven g.row.B g.row.M c.args.turns) text_and_value _ (λ (q : Question). q) c.from_residual.result c.in_err-test.field-0.0 (rw p.2 at p.1) c.in_err-test.ensures.test
+    by_no_test (IsThreadsGiven g.row.B g.row.M c.args.turns) text_and_value _ (λ (q : LitmusTest). q) c.from_residual.result c.in_err-test.field-0.0 (rw p.2 at p.1) c.in_err-test.ensures.test

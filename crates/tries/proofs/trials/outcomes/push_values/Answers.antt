@@ -1,7 +1,7 @@
 use Rattle.std.proofs.Common.{length}
 use Rattle.std.proofs.lemmas.List.Elements.{All-rest}
 use Rattle.std.proofs.lemmas.Slice.Zip.{Zip-more, either_empty_from_Zip}
-use Rattle.litmus.specs.Questions.{IsThere}
+use Rattle.litmus.specs.LitmusTests.{IsThere}
 use Rattle.tries.specs.Outcomes.{value_text}
 use Rattle.tries.proofs.OutcomeLines.{pair_written, pairs_written}
 use Rattle.tries.proofs.trials.outcomes.push_values.Goals as goal

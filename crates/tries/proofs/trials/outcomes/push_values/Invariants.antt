@@ -3,7 +3,7 @@ use Rattle.std.specs.List.{flat_map}
 use Rattle.std.specs.String.{string_bytes}
 use Rattle.std.specs.Slice.Iter.{iter_rest}
 use Rattle.std.specs.Iterator.Adapters.{zip_first, zip_second}
-use Rattle.litmus.specs.Questions.{IsThere, left_sides}
+use Rattle.litmus.specs.LitmusTests.{IsThere, left_sides}
 use Rattle.tries.specs.Outcomes.{value_text}
 use Rattle.tries.proofs.trials.outcomes.push_values.Given as goal
 

@@ -28,11 +28,11 @@ pub struct Test {
 impl Model for Test {
     ghost use Rattle.std.specs.Prelude.{◌≡◌, map};
     ghost use Rattle.std.specs.String.{string_bytes};
-    ghost use Rattle.litmus.specs.Questions.{Question, IsTest, left_sides};
+    ghost use Rattle.litmus.specs.LitmusTests.{LitmusTest, IsTest, left_sides};
     ghost use Rattle.std.specs.Coded.{codes};
     ghost use Rattle.litmus.specs.inner.Codes.{formula_code};
 
-    ghost Value = { Question };
+    ghost Value = { LitmusTest };
 
     ghost coded = { Prim.hlevel (codes, formula_code) };
 
@@ -44,7 +44,7 @@ impl Model for Test {
 impl Test {
     ghost use Rattle.hart.specs.State.{HartState};
     ghost use Rattle.step_machine.specs.History.{Start};
-    ghost use Rattle.litmus.specs.Questions.{IsTest, IsThere, question_of, left_sides, Question};
+    ghost use Rattle.litmus.specs.LitmusTests.{IsTest, IsThere, question_of, left_sides, LitmusTest};
     ghost use Rattle.litmus.specs.Verdicts.{IsVerdict, final_value};
     ghost use Rattle.litmus.specs.declared.verdict.Quantifier.TheVariants.{Exists};
 

@@ -5,10 +5,10 @@ use Rattle.litmus.specs.declared.symbols.Place.{Place}
 use Rattle.litmus.specs.declared.symbols.Place.TheVariants as place
 use Rattle.litmus.specs.declared.verdict.Quantifier.{Quantifier}
 use Rattle.litmus.specs.Formulas.{Formula, places}
-use Rattle.litmus.specs.declared.question.TheConstants.{MAX_LOCATIONS}
+use Rattle.litmus.specs.declared.litmus_test.TheConstants.{MAX_LOCATIONS}
 
 -- the names are those of the locations, whose words stand at 0, 4, 8 and on
-pub record Question : Type 0 where
+pub record LitmusTest : Type 0 where
   pub opening : Start
   pub names : List (List ℕ)
   pub quantifier : Quantifier
@@ -21,7 +21,7 @@ IsThere harts locations (place.Word a) = (a % 4 ≡ 0) × (a < 4 * locations)
 
 -- the limits of a test: those of its opening, at most 1,024 locations, and a condition that asks for
 -- places which are there
-pub record IsTest (q : Question) : Type 0 where
+pub record IsTest (q : LitmusTest) : Type 0 where
   pub opening : FitsIn MAX_LOCATIONS q.opening
   pub names : length q.names ≤ MAX_LOCATIONS
   pub places : All (IsThere (length q.opening.harts) (length q.names)) (places q.condition)
@@ -41,5 +41,5 @@ firsts (p ∷ others) = p ∷ filter (λ q. not (is_same p q)) (firsts others)
 abbrev pub left_sides : Formula → List Place
 left_sides f = firsts (places f)
 
-abbrev pub question_of : List HartStart → List ℕ → List (List ℕ) → Quantifier → Formula → Question
+abbrev pub question_of : List HartStart → List ℕ → List (List ℕ) → Quantifier → Formula → LitmusTest
 question_of harts words names quantifier condition = record { opening = record { harts = harts; words = words }; names = names; quantifier = quantifier; condition = condition }

@@ -8,7 +8,7 @@ use Rattle.litmus.specs.declared.symbols.Place.TheVariants as place
 use Rattle.litmus.specs.declared.symbols.Symbol.{Symbol}
 use Rattle.litmus.specs.declared.symbols.Symbol.TheVariants as symbol
 use Rattle.litmus_tokens.specs.Settings as setting
-use Rattle.litmus_tokens.specs.Settings.{Put}
+use Rattle.litmus_tokens.specs.Settings.{Equation}
 use Rattle.litmus_tokens.specs.Tokens as token
 use Rattle.litmus_tokens.specs.Tokens.{AreTokens}
 use Rattle.litmus_reader.specs.Locations.{Names}
@@ -26,7 +26,7 @@ abbrev pub IsQuestion : List ℕ → Quantifier → List token.Token → Type 0
 IsQuestion text quantifier tokens = (blanks rest : List ℕ) × AreBlanks blanks × (text ≡ blanks ++ (token_for quantifier ++ rest)) × AreTokens rest tokens × NoneBegins BeginsUnread text
 
 -- the atoms among the tokens
-abbrev pub atoms_in : List token.Token → List Put
+abbrev pub atoms_in : List token.Token → List Equation
 atoms_in [] = []
 atoms_in (token.Token.atom put ∷ tokens) = put ∷ atoms_in tokens
 atoms_in (token.Token.negation ∷ tokens) = atoms_in tokens

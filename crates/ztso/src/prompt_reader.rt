@@ -12,20 +12,20 @@ const HINT: &str = "s: next event, g: go on, u K: back, r H: registers, q: end; 
 /// Standard input as a user's commands. It is opened at the first read. Where it is a terminal, a line on
 /// standard error then names the commands, and a prompt there asks for each line.
 #[derive(Drop)]
-pub struct Prompting<'a, R: Input + Eprint> {
+pub struct PromptReader<'a, R: Input + Eprint> {
     rt: &'a R,
     reader: Option<R::Reader>,
     /// Whether the next byte begins a line.
     begins: bool,
 }
 
-impl<'a, R: Input + Eprint> Prompting<'a, R> {
+impl<'a, R: Input + Eprint> PromptReader<'a, R> {
     /// Nothing was read yet.
-    pub fn new(rt: &'a R) -> Prompting<'a, R>
+    pub fn new(rt: &'a R) -> PromptReader<'a, R>
         ensures unopened { result.reader ≡ None }
         ensures begins { result.begins ≡ true }
     {
-        Prompting {
+        PromptReader {
             rt,
             reader: None,
             begins: true,
@@ -33,7 +33,7 @@ impl<'a, R: Input + Eprint> Prompting<'a, R> {
     }
 }
 
-impl<'a, R: Input + Eprint> Read for Prompting<'a, R>
+impl<'a, R: Input + Eprint> Read for PromptReader<'a, R>
 where
     R::Reader: IsTerminal,
 {

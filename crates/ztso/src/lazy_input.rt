@@ -11,7 +11,7 @@ use std::{fs, io};
 /// file that can't be opened is a failed read. A file is closed at its end: where standard input is closed
 /// the file has its descriptor, and a later read of standard input must not find the file.
 #[derive(Drop)]
-pub struct LateInput<'a, R: Files + StandardInput> {
+pub struct LazyInput<'a, R: Files + StandardInput> {
     rt: &'a R,
     input: Option<Input<'a>>,
     opened: Option<Opened<R>>,
@@ -24,13 +24,13 @@ enum Opened<R: Files + StandardInput> {
     Ended,
 }
 
-impl<'a, R: Files + StandardInput> LateInput<'a, R> {
+impl<'a, R: Files + StandardInput> LazyInput<'a, R> {
     /// This input, not opened yet. Where there is none each read fails.
-    pub fn new(rt: &'a R, input: Option<Input<'a>>) -> LateInput<'a, R>
+    pub fn new(rt: &'a R, input: Option<Input<'a>>) -> LazyInput<'a, R>
         ensures input { result.input ≡ input.entry }
         ensures unopened { result.opened ≡ None }
     {
-        LateInput {
+        LazyInput {
             rt,
             input,
             opened: None,
@@ -38,7 +38,7 @@ impl<'a, R: Files + StandardInput> LateInput<'a, R> {
     }
 }
 
-impl<'a, R: Files + StandardInput> Read for LateInput<'a, R> {
+impl<'a, R: Files + StandardInput> Read for LazyInput<'a, R> {
     fn read(&mut self, buf: &mut [u8]) -> io::Result<usize> {
         if self.opened.is_none() {
             let input = self.input.ok_or(ErrorKind::NotFound)?;

@@ -28,11 +28,11 @@ use Rattle.litmus_reader.specs.declared.faults.LitmusFault.TheVariants.{BadCondi
 use Rattle.litmus_reader.specs.declared.marks.Mark.TheVariants.{Unread}
 use Rattle.litmus_reader.specs.Marks.{has_token, before_line, from_line}
 use Rattle.litmus_reader.specs.Locations.{Names, met, value_met}
-use Rattle.litmus_reader.specs.Condition.{Quantified, Asked, Condition, quantifier_of, quantifier_in, place_met, atom_met, token_met, as_condition, tokens_told, none_unread, behind_quantifier, condition_in}
+use Rattle.litmus_reader.specs.Condition.{Quantified, ConditionSoFar, Condition, quantifier_of, quantifier_in, place_met, atom_met, token_met, as_condition, tokens_told, none_unread, behind_quantifier, condition_in}
 use Rattle.litmus_reader.specs.Shapes.{NoneBegins}
 use Rattle.litmus_reader.specs.Layout.{BeginsUnread}
 use Rattle.litmus_reader.specs.Openings.{names_in, name_of_place, name_of_value, each_once, IsWorth}
-use Rattle.litmus_reader.specs.Asked.{token_for, IsQuestion, atoms_in, IsPlaceOf, IsKnown, AreKnown}
+use Rattle.litmus_reader.specs.ConditionGrammar.{token_for, IsQuestion, atoms_in, IsPlaceOf, IsKnown, AreKnown}
 use Rattle.litmus_reader.proofs.ShapeLaws.{unread_matches, nowhere_found, nowhere_only, token_cut}
 use Rattle.litmus_reader.proofs.MeetLaws.{fewer, at_later, one_index, met_found, met_only, value_found, value_only, worth_later, one_worth}
 use Rattle.texts.specs.Pieces.{is_blank}
@@ -138,10 +138,10 @@ record TokenFound (harts : ℕ) (ms : Names) (first : token.Token) (found : Symb
   few : length found.1 ≤ 1024
   known : IsKnown harts found.1 first found.0
 
-both_names : (ms : Names) (put : setting.Put) → (ms ++ name_of_place put.0) ++ name_of_value put.1 ≡ ms ++ names_of (token.Token.atom put)
+both_names : (ms : Names) (put : setting.Equation) → (ms ++ name_of_place put.0) ++ name_of_value put.1 ≡ ms ++ names_of (token.Token.atom put)
 both_names ms put = append_assoc ms (name_of_place put.0) (name_of_value put.1) ∙ ap (λ (ns : Names). ms ++ (name_of_place put.0 ++ ns)) (sym (append-nil (name_of_value put.1)))
 
-atom_found : (harts : ℕ) (ms : Names) (put : setting.Put) (found : Symbol × Names) → length (each_once ms) ≤ 1024 → atom_met harts (each_once ms) put ≡ Ok found → TokenFound harts ms (token.Token.atom put) found
+atom_found : (harts : ℕ) (ms : Names) (put : setting.Equation) (found : Symbol × Names) → length (each_once ms) ≤ 1024 → atom_met harts (each_once ms) put ≡ Ok found → TokenFound harts ms (token.Token.atom put) found
 unfolding atom_met
 atom_found harts ms put found few e =
     let here = ms ++ name_of_place put.0 in
@@ -182,7 +182,7 @@ known_later harts ms more token.Token.disjunction known is = is
 known_later harts ms more token.Token.opening known is = is
 known_later harts ms more token.Token.closing known is = is
 
-atom_only : (harts : ℕ) (ms more : Names) (put : setting.Put) (at : Place) (value : ℕ) → length (each_once (ms ++ names_of (token.Token.atom put))) ≤ 1024 → IsPlaceOf harts (each_once ((ms ++ names_of (token.Token.atom put)) ++ more)) put.0 at → IsWorth (each_once ((ms ++ names_of (token.Token.atom put)) ++ more)) put.1 value → atom_met harts (each_once ms) put ≡ Ok (symbol.Is at value, each_once (ms ++ names_of (token.Token.atom put)))
+atom_only : (harts : ℕ) (ms more : Names) (put : setting.Equation) (at : Place) (value : ℕ) → length (each_once (ms ++ names_of (token.Token.atom put))) ≤ 1024 → IsPlaceOf harts (each_once ((ms ++ names_of (token.Token.atom put)) ++ more)) put.0 at → IsWorth (each_once ((ms ++ names_of (token.Token.atom put)) ++ more)) put.1 value → atom_met harts (each_once ms) put ≡ Ok (symbol.Is at value, each_once (ms ++ names_of (token.Token.atom put)))
 unfolding atom_met
 atom_only harts ms more put at value few is worth =
     let here = ms ++ name_of_place put.0 in
@@ -219,7 +219,7 @@ names-more token.Token.closing words = refl
 names-behind : (ms : Names) (first : token.Token) (words : List token.Token) → (ms ++ names_of first) ++ names_in (atoms_in words) ≡ ms ++ names_in (atoms_in (first ∷ words))
 names-behind ms first words = append_assoc ms (names_of first) (names_in (atoms_in words)) ∙ ap (λ (ns : Names). ms ++ ns) (sym (names-more first words))
 
-record TokensFound (harts : ℕ) (ms : Names) (so_far : List Symbol) (text : Tokens) (asked : Asked) : Type 0 where
+record TokensFound (harts : ℕ) (ms : Names) (so_far : List Symbol) (text : Tokens) (asked : ConditionSoFar) : Type 0 where
   words : List token.Token
   known : List Symbol
   whole : text ≡ listed words
@@ -228,7 +228,7 @@ record TokensFound (harts : ℕ) (ms : Names) (so_far : List Symbol) (text : Tok
   few : length asked.1 ≤ 1024
   all : AreKnown harts asked.1 words known
 
-token_taken : (harts : ℕ) (ms : Names) (so_far more : List Symbol) (first : token.Token) (others : Tokens) (asked : Asked) (known : Symbol) → so_far ++ known ∷ [] ≡ more → IsKnown harts (each_once (ms ++ names_of first)) first known → TokensFound harts (ms ++ names_of first) more others asked → TokensFound harts ms so_far (token.Tokens.goes_on first others) asked
+token_taken : (harts : ℕ) (ms : Names) (so_far more : List Symbol) (first : token.Token) (others : Tokens) (asked : ConditionSoFar) (known : Symbol) → so_far ++ known ∷ [] ≡ more → IsKnown harts (each_once (ms ++ names_of first)) first known → TokensFound harts (ms ++ names_of first) more others asked → TokensFound harts ms so_far (token.Tokens.goes_on first others) asked
 token_taken harts ms so_far more first others asked known taken is rest =
     record {
       words = first ∷ rest.words;
@@ -240,7 +240,7 @@ token_taken harts ms so_far more first others asked known taken is rest =
       all = (known, rest.known, refl, subst (λ (names : Names). IsKnown harts names first known) (sym rest.names) (known_later harts (ms ++ names_of first) (names_in (atoms_in rest.words)) first known is), rest.all);
     }
 
-tokens_found : (harts : ℕ) (ms : Names) (so_far : List Symbol) (text : Tokens) (asked : Asked) → length (each_once ms) ≤ 1024 → tokens_told harts (so_far, each_once ms) text ≡ Ok asked → TokensFound harts ms so_far text asked
+tokens_found : (harts : ℕ) (ms : Names) (so_far : List Symbol) (text : Tokens) (asked : ConditionSoFar) → length (each_once ms) ≤ 1024 → tokens_told harts (so_far, each_once ms) text ≡ Ok asked → TokensFound harts ms so_far text asked
 tokens_found harts ms so_far token.Tokens.ended asked few e =
     subst (TokensFound harts ms so_far token.Tokens.ended) (ok_is LitmusFault (so_far, each_once ms) asked e)
     (record { words = []; known = []; whole = refl; behind = sym (append-nil so_far); names = ap each_once (sym (append-nil ms)); few = few; all = refl })
@@ -283,7 +283,7 @@ asked_so quantifier formula names = Ok (record { quantifier = quantifier; formul
 abbrev pub IsAsked : (harts : ℕ) → Names → List ℕ → Condition → Type 0
 IsAsked harts ms text condition = (words : List token.Token) × (known : List Symbol) × IsQuestion text condition.quantifier words × (condition.names ≡ each_once (ms ++ names_in (atoms_in words))) × (length condition.names ≤ 1024) × AreKnown harts condition.names words known × IsConditionOf known condition.formula
 
-finished_asked : (harts : ℕ) (ms : Names) (text : List ℕ) (quantified : Quantified) (asked : Asked) (condition : Condition) → IsQuantified text quantified → NoneBegins BeginsUnread text → TokensFound harts ms [] (tokens_of quantified.1) asked → (as_condition (finished asked.0) >>= λ formula. asked_so quantified.0 formula asked.1) ≡ Ok condition → IsAsked harts ms text condition
+finished_asked : (harts : ℕ) (ms : Names) (text : List ℕ) (quantified : Quantified) (asked : ConditionSoFar) (condition : Condition) → IsQuantified text quantified → NoneBegins BeginsUnread text → TokensFound harts ms [] (tokens_of quantified.1) asked → (as_condition (finished asked.0) >>= λ formula. asked_so quantified.0 formula asked.1) ≡ Ok condition → IsAsked harts ms text condition
 finished_asked harts ms text quantified asked condition front none walk e =
     let formula = bind_ok (as_condition (finished asked.0)) (λ formula. asked_so quantified.0 formula asked.1) condition e in
     let spelled : AreTokens quantified.1 walk.words = are_tokens walk.words quantified.1 walk.whole in
