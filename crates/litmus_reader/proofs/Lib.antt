@@ -11,7 +11,7 @@ pub mod ItemLaws
 pub mod FirstValueLaws
 pub mod RowGrammar
 pub mod ColumnLaws
-pub mod ConditionGrammarLaws
+pub mod ConditionLaws
 pub mod PlainWords
 pub mod ContentGrammar
 pub mod TestGrammar
