@@ -14,7 +14,6 @@ use Rattle.engine_parts.specs.Histories.BySchedule.{no_test, no_schedule, both}
 use Rattle.engine_parts.specs.inner.Making.{Finds, FindsBy}
 use Rattle.engine_parts.specs.inner.Inputs.{IsReadAsTest, IsReadAsEither}
 use Rattle.engine_parts.proofs.Endings.{weaker}
-use Rattle.engine_parts.proofs.HistoryLaws.{weaker_both}
 
 -- what is asked of both, in other words
 pub by_schedule_as : {A C : Type 0} (P : LitmusTest → Said → Result A Refusal → Type 0) (Q : LitmusTest → Said → Result C Refusal → Type 0) (refusal : Refusal)
@@ -31,6 +30,11 @@ stopped_as P Q view seen ReadFailed more answers = answers
 stopped_as P Q view seen WriteFailed more answers = answers
 
 module _ (first second : Option (List ℕ)) where
+  -- what answers both, by their bytes
+  pub weaker_both : {A C : Type 0} (P : List ℕ → List ℕ → A → Type 0) (Q : List ℕ → List ℕ → C → Type 0) (a : A) (c : C)
+      → ((file schedule : List ℕ) → P file schedule a → Q file schedule c) → AnswersBoth P first second a → AnswersBoth Q first second c
+  weaker_both P Q a c more = weaker first _ _ (λ file. weaker second _ _ (more file))
+
   module _ {A : Type 0} (IsAnswer : LitmusTest → Said → Result A Refusal → Type 0) where
     abbrev Answers : Result A Refusal → Type 0
     Answers = AnswersBoth (BySchedule IsAnswer) first second
