@@ -79,7 +79,7 @@ module _ (first second : Option (List ℕ)) where
   -- a fault on the way to an answer, where each refusal of the one is one of the other
   pub fault_as : {A C X Y : Type 0} (P : LitmusTest → Said → Result A Refusal → Type 0) (Q : LitmusTest → Said → Result C Refusal → Type 0) (seen : X → C) (view : Y → A) (result : Result X Fault) (fault : Fault)
       → ((question : LitmusTest) (said : Said) (refusal : Refusal) → P question said (Err refusal) → Q question said (Err refusal)) → result ≡ Err fault → Finds (AnswersBoth (BySchedule P) first second) view (Err fault) → Finds (AnswersBoth (BySchedule Q) first second) seen result
-  fault_as P Q seen view result (Refused r) more is finds = rw is (weaker_both first second (BySchedule P) (BySchedule Q) (Err r) (Err r) (by_schedule_as P Q r (λ question said. more question said r)) finds)
+  fault_as P Q seen view result (Refused r) more is finds = rw is (weaker_both (BySchedule P) (BySchedule Q) (Err r) (Err r) (by_schedule_as P Q r (λ question said. more question said r)) finds)
   fault_as P Q seen view result NoMemory more is finds = rw is tt
   fault_as P Q seen view result ReadFailed more is finds = rw is tt
   fault_as P Q seen view result WriteFailed more is finds = rw is finds
