@@ -3,7 +3,7 @@ use Rattle.std.proofs.Common.{ℕ, ◌+◌, ◌≡◌, refl, ◌∙◌, arith, l
 use Rattle.std.proofs.Math.Nat.{zero-mod}
 use Rattle.poll_close.specs.Laws.{AreShort, Opens, Keeps, Cleans, Goes, Stays}
 use Rattle.poll_close.specs.Invariant.Blocks.{Block, slot}
-use Rattle.poll_close.specs.Invariant.SenderState.{Written}
+use Rattle.poll_close.specs.Invariant.SenderState.{SenderRegisters}
 use Rattle.poll_close.proofs.Blocks.{IsBlock, Within, word_of, slot_of}
 use Rattle.poll_close.proofs.BlockLaws.{BlockLaws, Begins, opens_with}
 use Rattle.poll_close.proofs.Outlines.{Right, sends}
@@ -24,7 +24,7 @@ use Rattle.poll_close.specs.Invariant.Outlines.{Reasons}
 abbrev nothing : Numbers
 nothing = record {
   sender = record { asked = 0; stored = 0; marked = 0; seen = 0 };
-  receiver = record { nulls = 0; tails = 0; done = 0; took = 0; shut = 0; seen = 0; mark = 0 };
+  receiver = record { nulls = 0; tails = 0; done = 0; took = 0; closings = 0; seen = 0; mark = 0 };
   landed = record { slots = 0; mark = 0; nulls = 0; tails = 0; done = 0 };
 }
 
@@ -40,7 +40,7 @@ begins k is = record {
   tails = refl;
   dones = refl;
   took = refl;
-  shut = refl;
+  closings = refl;
 }
 
 words_same : (k : Block) (n : Landed) (word new : ℕ → ℕ) → IsBlock k → ((a : ℕ) → Within k a → new a ≡ word a) → Words k n word → Words k n new
@@ -53,7 +53,7 @@ words_same k n word new is same w = record {
 }
 
 -- the reason of each row of the sender's outline
-pub reasons : (k : Block) (n : Numbers) (word : ℕ → ℕ) (v : ℕ) (r : Written) → IsBlock k → Ordered k n → Words k n.landed word → Reasons (Right fastforward_blocks fastforward_sender k n word v r) sender.rows
+pub reasons : (k : Block) (n : Numbers) (word : ℕ → ℕ) (v : ℕ) (r : SenderRegisters) → IsBlock k → Ordered k n → Words k n.landed word → Reasons (Right fastforward_blocks fastforward_sender k n word v r) sender.rows
 reasons k n word v r is order words = (row.right_00 k n word v r is order words, (row.right_04 k n word v r is order words, (row.right_08 k n word v r is order words, (row.right_0C k n word v r is order words, (row.right_10 k n word v r is order words, (row.right_14 k n word v r is order words, (row.right_18 k n word v r is order words, (row.right_1C k n word v r is order words, (row.right_20 k n word v r is order words, (row.right_24 k n word v r is order words, (row.right_28 k n word v r is order words, (row.right_2C k n word v r is order words, (row.right_30 k n word v r is order words, (row.right_34 k n word v r is order words, (row.right_38 k n word v r is order words, tt)))))))))))))))
 
 pub fastforward_laws : BlockLaws fastforward_blocks

@@ -7,9 +7,9 @@ use Rattle.std.proofs.lemmas.Bool.Decides.{nat_tests}
 use Rattle.rv_decode.specs.Meaning.{meaning}
 use Rattle.rv_decode.specs.declared.instruction.Instr.{Instr}
 use Rattle.hart.proofs.Instructions.{IsAt}
-use Rattle.poll_close.specs.Paces.{runs}
+use Rattle.poll_close.specs.Rankings.{runs}
 use Rattle.poll_close.specs.Invariant.Blocks.{Block, offset, slot}
-use Rattle.poll_close.specs.Invariant.ReceiverState.{Noted, whole_of, receiver_of, receiving}
+use Rattle.poll_close.specs.Invariant.ReceiverState.{ReceiverRegisters, whole_of, receiver_of, receiving}
 use Rattle.poll_close.proofs.Lines.{loads, stores, at_line, sum_line, load_line, store_line, same_jumps, other_goes_on}
 use Rattle.poll_close.proofs.Blocks.{IsBlock, offset_low, word_of, word_from, slot_of, slot_at}
 use Rattle.poll_close.proofs.BlockLaws.{found_in, Changes, Right_at}
@@ -27,7 +27,7 @@ decoded : map meaning (middle.at_14 ∷ middle.at_18 ∷ middle.at_1C ∷ middle
 unfolding meaning
 decoded = refl
 
-module _ (k : Block) (i count : ℕ) (n : Numbers) (word : ℕ → ℕ) (r : Noted) (v : ℕ) (is : IsBlock k) (order : Ordered k n) (words : Words k n.landed word) where
+module _ (k : Block) (i count : ℕ) (n : Numbers) (word : ℕ → ℕ) (r : ReceiverRegisters) (v : ℕ) (is : IsBlock k) (order : Ordered k n) (words : Words k n.landed word) where
   -- line j of these five
   at : (j : ℕ) {instr : Instr} → slice_get (map Some (take 5 (drop 5 receiver_lines))) j ≡ Some (Some instr) → slice_get (map meaning (receiver_of middle)) (j + 5) ≡ slice_get (map meaning (middle.at_14 ∷ middle.at_18 ∷ middle.at_1C ∷ middle.at_20 ∷ middle.at_24 ∷ [])) j → IsAt (receiving middle (whole_of k count) (4 * (j + 5)) r) instr
   at j found same = at_line (receiving middle (whole_of k count) (4 * (j + 5)) r) (j + 5) refl (same ∙ ap (λ xs. slice_get xs j) decoded ∙ found)

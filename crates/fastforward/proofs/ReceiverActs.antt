@@ -23,7 +23,7 @@ module _ (k : Block) (n : Numbers) (order : Ordered k n) where
     unread = joins (slot k.size k.base n.receiver.tails, 0) (n.receiver.nulls + 1 + n.receiver.tails + n.receiver.done) (omega arith) (store_null k.size k.base k.list n.receiver.tails (taken n.receiver) (omega (arith, more, order.seen_slots, order.slots_landed, order.stored_all)) (omega (arith, level, on)));
   }
 
-  pub stores_tail : Filled n.receiver → n.receiver.done ≡ 0 → Stepped fastforward_blocks k n ((k.base + 8, offset k (n.receiver.tails + 1)) ∷ []) (n.receiver.tails + 1) n.receiver.done n.receiver.took n.receiver.shut
+  pub stores_tail : Filled n.receiver → n.receiver.done ≡ 0 → Stepped fastforward_blocks k n ((k.base + 8, offset k (n.receiver.tails + 1)) ∷ []) (n.receiver.tails + 1) n.receiver.done n.receiver.took n.receiver.closings
   stores_tail filled on = record {
     after = record n.receiver { tails = n.receiver.tails + 1; mark = n.landed.mark };
     changes = record {
@@ -34,11 +34,11 @@ module _ (k : Block) (n : Numbers) (order : Ordered k n) where
     tails = refl;
     dones = refl;
     took = refl;
-    shut = refl;
+    closings = refl;
     mark = refl;
   }
 
-  pub stores_done : Level n.receiver → n.receiver.tails ≡ length k.list → n.receiver.done ≡ 0 → Stepped fastforward_blocks k n ((k.base + 12, 1) ∷ []) n.receiver.tails 1 n.receiver.took n.receiver.shut
+  pub stores_done : Level n.receiver → n.receiver.tails ≡ length k.list → n.receiver.done ≡ 0 → Stepped fastforward_blocks k n ((k.base + 12, 1) ∷ []) n.receiver.tails 1 n.receiver.took n.receiver.closings
   stores_done level all on = record {
     after = record n.receiver { done = 1; mark = n.landed.mark };
     changes = record {
@@ -49,18 +49,18 @@ module _ (k : Block) (n : Numbers) (order : Ordered k n) where
     tails = refl;
     dones = refl;
     took = refl;
-    shut = refl;
+    closings = refl;
     mark = refl;
   }
 
   pub reported : (words closed : ℕ) → Level n.receiver → closed ≤ n.receiver.done → Stepped fastforward_blocks k n [] n.receiver.tails n.receiver.done words closed
   reported words closed level known = record {
-    after = record n.receiver { took = words; shut = closed; mark = n.landed.mark };
+    after = record n.receiver { took = words; closings = closed; mark = n.landed.mark };
     changes = record { order = omega arith; unread = append-nil (unread_of k n.receiver n.landed) };
     level = level;
     tails = refl;
     dones = refl;
     took = refl;
-    shut = refl;
+    closings = refl;
     mark = refl;
   }

@@ -2,8 +2,8 @@
 use Rattle.std.specs.Prelude.{ℕ, ◌+◌, ◌==◌, Bool, not, ◌&&◌, slice_index, ◌<◌}
 use Rattle.hart.specs.State.{HartState}
 use Rattle.poll_close.specs.Laws.{Ring, Meaning}
-use Rattle.poll_close.specs.Paces.{Pace}
-use Rattle.poll_close.specs.Invariant.BlockMeaning.{BlockMeaning, pace_of}
+use Rattle.poll_close.specs.Rankings.{Ranking}
+use Rattle.poll_close.specs.Invariant.BlockMeaning.{BlockMeaning, ranking_of}
 use Rattle.poll_close.specs.Invariant.Channels.{means_by}
 use Rattle.fastforward.specs.Listing.{sender_code, receiver_code}
 use Rattle.fastforward.specs.Invariant.Numbers.{Taken, Landed, Ordered, Words, pending_of, unread_of}
@@ -26,7 +26,7 @@ fastforward_blocks = record {
   tails = λ n. n.tails;
   dones = λ n. n.done;
   took = λ n. n.took;
-  shut = λ n. n.shut;
+  closings = λ n. n.closings;
   seen_mark = λ n. n.mark;
   marks = λ n. n.mark;
   Ordered = Ordered;
@@ -44,5 +44,5 @@ fastforward_blocks = record {
 abbrev pub fastforward_means : Meaning
 fastforward_means = means_by fastforward_blocks
 
-abbrev pub fastforward_pace : Pace
-fastforward_pace = pace_of fastforward_blocks
+abbrev pub fastforward_ranking : Ranking
+fastforward_ranking = ranking_of fastforward_blocks

@@ -53,9 +53,9 @@ impl RingKind for FastForward {
 }
 
 impl<const B: usize, const M: usize> Finish<B, M> for FastForward {
-    ghost use Rattle.fastforward.specs.FastForward.{fastforward_pace};
+    ghost use Rattle.fastforward.specs.FastForward.{fastforward_ranking};
 
-    ghost pace = { fastforward_pace };
+    ghost ranking = { fastforward_ranking };
 
     fn is_ready(machine: &Machine<B, M>, hart: u32) -> bool {
         match machine.status(hart) {
@@ -67,8 +67,8 @@ impl<const B: usize, const M: usize> Finish<B, M> for FastForward {
         }
     }
 
-    #[tactic(auto, using(crate::proofs::Nearing::fastforward_nears))]
-    fn nears() {}
+    #[tactic(auto, using(crate::proofs::Falling::fastforward_falls))]
+    fn falls() {}
 }
 
 /// Each word of the ring's tables means its line's instruction. It does nothing.

@@ -5,7 +5,7 @@ use Rattle.std.proofs.Math.Nat.{zero-mod}
 use Rattle.poll_close.specs.Laws.{AreShort, Opens, Keeps, Cleans, Goes, Stays}
 use Rattle.poll_close.specs.Invariant.Blocks.{Block, offset, slot, window}
 use Rattle.poll_close.proofs.Windows.{window_made}
-use Rattle.poll_close.specs.Invariant.SenderState.{Written}
+use Rattle.poll_close.specs.Invariant.SenderState.{SenderRegisters}
 use Rattle.poll_close.proofs.Blocks.{IsBlock, Within, base_word, word_of, slot_of}
 use Rattle.poll_close.proofs.BlockLaws.{BlockLaws, Begins, Stepped, opens_with}
 use Rattle.poll_close.proofs.Outlines.{Right, sends}
@@ -26,7 +26,7 @@ use Rattle.poll_close.specs.Invariant.Outlines.{Reasons}
 abbrev nothing : Numbers
 nothing = record {
   sender = record { asked = 0; stored = 0; headed = 0; marked = 0; seen = 0 };
-  receiver = record { tails = 0; done = 0; took = 0; shut = 0; seen = 0; mark = 0 };
+  receiver = record { tails = 0; done = 0; took = 0; closings = 0; seen = 0; mark = 0 };
   landed = record { slots = 0; heads = 0; mark = 0; tails = 0; done = 0 };
 }
 
@@ -42,7 +42,7 @@ begins k is = record {
   tails = refl;
   dones = refl;
   took = refl;
-  shut = refl;
+  closings = refl;
 }
 
 words_same : (k : Block) (n : Landed) (word new : ℕ → ℕ) → IsBlock k → ((a : ℕ) → Within k a → new a ≡ word a) → Words k n word → Words k n new
@@ -60,7 +60,7 @@ module _ (k : Block) (n : Numbers) (order : Ordered k n) where
   joins : (x : ℕ × ℕ) (t : ℕ) → t ≡ suc (taken n.receiver) → slice_get (receiver_stores k.size k.base k.list) (taken n.receiver) ≡ Some x → unread_of k n.receiver n.landed ++ x ∷ [] ≡ window (receiver_stores k.size k.base k.list) (freed n.landed) t
   joins x t next store = rw next (window_made (receiver_stores k.size k.base k.list) (freed n.landed) (taken n.receiver) x (omega (arith, order.tails_landed, order.done_landed)) store)
 
-  stores_tail : n.receiver.tails < n.receiver.seen → n.receiver.done ≡ 0 → Stepped lamport_blocks k n ((k.base + 8, offset k (n.receiver.tails + 1)) ∷ []) (n.receiver.tails + 1) n.receiver.done n.receiver.took n.receiver.shut
+  stores_tail : n.receiver.tails < n.receiver.seen → n.receiver.done ≡ 0 → Stepped lamport_blocks k n ((k.base + 8, offset k (n.receiver.tails + 1)) ∷ []) (n.receiver.tails + 1) n.receiver.done n.receiver.took n.receiver.closings
   stores_tail more on = record {
     after = record n.receiver { tails = n.receiver.tails + 1; mark = n.landed.mark };
     changes = record {
@@ -71,11 +71,11 @@ module _ (k : Block) (n : Numbers) (order : Ordered k n) where
     tails = refl;
     dones = refl;
     took = refl;
-    shut = refl;
+    closings = refl;
     mark = refl;
   }
 
-  stores_done : n.receiver.tails ≡ length k.list → n.receiver.done ≡ 0 → Stepped lamport_blocks k n ((k.base + 12, 1) ∷ []) n.receiver.tails 1 n.receiver.took n.receiver.shut
+  stores_done : n.receiver.tails ≡ length k.list → n.receiver.done ≡ 0 → Stepped lamport_blocks k n ((k.base + 12, 1) ∷ []) n.receiver.tails 1 n.receiver.took n.receiver.closings
   stores_done all on = record {
     after = record n.receiver { done = 1; mark = n.landed.mark };
     changes = record {
@@ -86,24 +86,24 @@ module _ (k : Block) (n : Numbers) (order : Ordered k n) where
     tails = refl;
     dones = refl;
     took = refl;
-    shut = refl;
+    closings = refl;
     mark = refl;
   }
 
   reported : (words closed : ℕ) → closed ≤ n.receiver.done → Stepped lamport_blocks k n [] n.receiver.tails n.receiver.done words closed
   reported words closed known = record {
-    after = record n.receiver { took = words; shut = closed; mark = n.landed.mark };
+    after = record n.receiver { took = words; closings = closed; mark = n.landed.mark };
     changes = record { order = omega arith; unread = append-nil (unread_of k n.receiver n.landed) };
     level = tt;
     tails = refl;
     dones = refl;
     took = refl;
-    shut = refl;
+    closings = refl;
     mark = refl;
   }
 
 -- the reason of each row of the sender's outline
-pub reasons : (k : Block) (n : Numbers) (word : ℕ → ℕ) (v : ℕ) (r : Written) → IsBlock k → Ordered k n → Words k n.landed word → Reasons (Right lamport_blocks lamport_sender k n word v r) sender.rows
+pub reasons : (k : Block) (n : Numbers) (word : ℕ → ℕ) (v : ℕ) (r : SenderRegisters) → IsBlock k → Ordered k n → Words k n.landed word → Reasons (Right lamport_blocks lamport_sender k n word v r) sender.rows
 reasons k n word v r is order words = (row.right_00 k n word v r is order words, (row.right_04 k n word v r is order words, (row.right_08 k n word v r is order words, (row.right_0C k n word v r is order words, (row.right_10 k n word v r is order words, (row.right_14 k n word v r is order words, (row.right_18 k n word v r is order words, (row.right_1C k n word v r is order words, (row.right_20 k n word v r is order words, (row.right_24 k n word v r is order words, (row.right_28 k n word v r is order words, (row.right_2C k n word v r is order words, (row.right_30 k n word v r is order words, (row.right_34 k n word v r is order words, (row.right_38 k n word v r is order words, (row.right_3C k n word v r is order words, (row.right_40 k n word v r is order words, tt)))))))))))))))))
 
 pub lamport_laws : BlockLaws lamport_blocks

@@ -5,4 +5,4 @@ pub mod ReceiverReads
 pub mod Sender
 pub mod Receiver
 pub mod LamportLaws
-pub mod Nearing
+pub mod Falling

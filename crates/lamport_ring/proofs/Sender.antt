@@ -9,7 +9,7 @@ use Rattle.rv_decode.specs.declared.instruction.Instr.{Instr}
 use Rattle.hart.specs.declared.need.Need.TheVariants as need
 use Rattle.hart.proofs.Instructions.{IsAt, exit_need, exit_after}
 use Rattle.poll_close.specs.Invariant.Blocks.{Block, offset, slot, window, slot_store}
-use Rattle.poll_close.specs.Invariant.SenderState.{Written, fixed, running}
+use Rattle.poll_close.specs.Invariant.SenderState.{SenderRegisters, fixed, running}
 use Rattle.poll_close.proofs.Lines.{loads, stores, word_plus, add_line, sum_line, load_line, store_line, jump_line, same_jumps, other_goes_on, other_jumps, same_goes_on}
 use Rattle.poll_close.proofs.SenderLines.{line_04-word, line_04-none}
 use Rattle.poll_close.proofs.Modulo.{offset_step, offset_wrap}
@@ -38,7 +38,7 @@ tail_found k n word words =
 abbrev pub lamport_sender : Sender lamport_blocks
 lamport_sender = record { lines = sender_lines; decoded = sender-decoded }
 
-module _ (k : Block) (n : Numbers) (word : ℕ → ℕ) (v : ℕ) (r : Written) (is : IsBlock k) (order : Ordered k n) (words : Words k n.landed word) where
+module _ (k : Block) (n : Numbers) (word : ℕ → ℕ) (v : ℕ) (r : SenderRegisters) (is : IsBlock k) (order : Ordered k n) (words : Words k n.landed word) where
   -- a store joins those that are pending
   joins : (x : ℕ × ℕ) (later : ℕ) → later ≡ suc (sent n.sender) → slice_get (sender_stores k.size k.base k.list) (sent n.sender) ≡ Some x → pending_of k n.sender n.landed ++ x ∷ [] ≡ window (sender_stores k.size k.base k.list) (gone n.landed) later
   joins x later next store = rw next (window_made (sender_stores k.size k.base k.list) (gone n.landed) (sent n.sender) x (omega (arith, order.slots_landed, order.heads_landed, order.mark_landed)) store)

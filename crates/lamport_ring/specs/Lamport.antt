@@ -2,8 +2,8 @@
 use Rattle.std.specs.Prelude.{ℕ, ◌+◌, ◌==◌, Bool, ◌&&◌, slice_index, ◌<◌}
 use Rattle.hart.specs.State.{HartState}
 use Rattle.poll_close.specs.Laws.{Ring, Meaning}
-use Rattle.poll_close.specs.Paces.{Pace}
-use Rattle.poll_close.specs.Invariant.BlockMeaning.{BlockMeaning, pace_of}
+use Rattle.poll_close.specs.Rankings.{Ranking}
+use Rattle.poll_close.specs.Invariant.BlockMeaning.{BlockMeaning, ranking_of}
 use Rattle.poll_close.specs.Invariant.Channels.{means_by}
 use Rattle.lamport_ring.specs.Listing.{sender_code, receiver_code}
 use Rattle.lamport_ring.specs.Invariant.Numbers.{Taken, Landed, Ordered, Words, pending_of, unread_of}
@@ -27,7 +27,7 @@ lamport_blocks = record {
   tails = λ n. n.tails;
   dones = λ n. n.done;
   took = λ n. n.took;
-  shut = λ n. n.shut;
+  closings = λ n. n.closings;
   seen_mark = λ n. n.mark;
   marks = λ n. n.mark;
   Ordered = Ordered;
@@ -45,5 +45,5 @@ lamport_blocks = record {
 abbrev pub lamport_means : Meaning
 lamport_means = means_by lamport_blocks
 
-abbrev pub lamport_pace : Pace
-lamport_pace = pace_of lamport_blocks
+abbrev pub lamport_ranking : Ranking
+lamport_ranking = ranking_of lamport_blocks

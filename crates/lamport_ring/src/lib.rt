@@ -54,9 +54,9 @@ impl RingKind for Lamport {
 }
 
 impl<const B: usize, const M: usize> Finish<B, M> for Lamport {
-    ghost use Rattle.lamport_ring.specs.Lamport.{lamport_pace};
+    ghost use Rattle.lamport_ring.specs.Lamport.{lamport_ranking};
 
-    ghost pace = { lamport_pace };
+    ghost ranking = { lamport_ranking };
 
     fn is_ready(machine: &Machine<B, M>, hart: u32) -> bool {
         match machine.status(hart) {
@@ -69,8 +69,8 @@ impl<const B: usize, const M: usize> Finish<B, M> for Lamport {
         }
     }
 
-    #[tactic(auto, using(crate::proofs::Nearing::lamport_nears))]
-    fn nears() {}
+    #[tactic(auto, using(crate::proofs::Falling::lamport_falls))]
+    fn falls() {}
 }
 
 /// Each word of the ring's tables means its line's instruction. It does nothing.

@@ -10,11 +10,11 @@ use Rattle.hart.specs.declared.need.Report.{Report}
 use Rattle.hart.specs.declared.need.Report.TheVariants as report
 use Rattle.poll_close.specs.Reports.{taken}
 use Rattle.poll_close.specs.Plans.{is_closed}
-use Rattle.poll_close.specs.Paces.{runs, some_open, far_of}
+use Rattle.poll_close.specs.Rankings.{runs, some_open, receiver_rank}
 use Rattle.poll_close.specs.Invariant.Outlines.{Standing, Reasons}
 use Rattle.poll_close.specs.Invariant.Blocks.{Block, offset}
-use Rattle.poll_close.specs.Invariant.ReceiverState.{Noted, whole_of, receives, due}
-use Rattle.poll_close.specs.Invariant.BlockMeaning.{BlockMeaning, Count, unsent_of, unread_of, Quiet, ReceiverRow, ReceiverIs, opened_rows, pace_of}
+use Rattle.poll_close.specs.Invariant.ReceiverState.{ReceiverRegisters, whole_of, receives, closings_due}
+use Rattle.poll_close.specs.Invariant.BlockMeaning.{BlockMeaning, Count, unsent_of, unread_of, AllReported, ReceiverRow, ReceiverIs, opened_rows, ranking_of}
 use Rattle.poll_close.proofs.Acts.{stored_by, said_by, IsNoAmo}
 use Rattle.poll_close.proofs.Lines.{loads}
 use Rattle.poll_close.proofs.Windows.{Each, newest_to}
@@ -52,37 +52,37 @@ pub record Lands (m : BlockMeaning) (k : Block) (n : Count m) (new : ℕ → ℕ
 -- what is reported, by the numbers before and after
 abbrev pub Says : (m : BlockMeaning) → Block → ℕ → m.Receiver → m.Receiver → List Report → Type 0
 Says m k i n after rs =
-    ((rs ≡ []) × (m.took after ≡ m.took n) × (m.shut after ≡ m.shut n))
-    ⊎ (((rs ≡ report.Took i (slice_index k.list (m.took n)) ∷ []) × (m.took after ≡ m.took n + 1) × (m.shut after ≡ m.shut n) × (m.took n < length k.list) × (m.shut n ≡ 0))
-    ⊎ ((rs ≡ report.Closed i ∷ []) × (m.took after ≡ m.took n) × (m.shut after ≡ 1) × (m.took n ≡ length k.list) × (m.shut n ≡ 0)))
+    ((rs ≡ []) × (m.took after ≡ m.took n) × (m.closings after ≡ m.closings n))
+    ⊎ (((rs ≡ report.Took i (slice_index k.list (m.took n)) ∷ []) × (m.took after ≡ m.took n + 1) × (m.closings after ≡ m.closings n) × (m.took n < length k.list) × (m.closings n ≡ 0))
+    ⊎ ((rs ≡ report.Closed i ∷ []) × (m.took after ≡ m.took n) × (m.closings after ≡ 1) × (m.took n ≡ length k.list) × (m.closings n ≡ 0)))
 
 -- the receiver comes to a block: its own assertion there is that all is quiet
-pub record Comes (m : BlockMeaning) (k : Block) (count : ℕ) (there : ℕ) (n : m.Receiver) (r : Noted) : Type 0 where
+pub record Comes (m : BlockMeaning) (k : Block) (count : ℕ) (there : ℕ) (n : m.Receiver) (r : ReceiverRegisters) : Type 0 where
   pub block : ℕ
   pub known : block < count
-  pub quiet : Quiet m n
+  pub quiet : AllReported m n
   pub here : there ≡ 0x08
   pub index : r.x22 ≡ block
   pub base : r.x8 ≡ k.first + block * k.stride
 
 -- what is known of the block that it visits where every sender waits or has ended, by the reports and states
-pub record Idle (m : BlockMeaning) (k : Block) (i count here : ℕ) (n : Count m) (r : Noted) (rs : List Report) (states : ℕ → Option HartState) : Type 0 where
+pub record Idle (m : BlockMeaning) (k : Block) (i count here : ℕ) (n : Count m) (r : ReceiverRegisters) (rs : List Report) (states : ℕ → Option HartState) : Type 0 where
   pub took : r.x22 ≡ i → m.took n.receiver ≡ m.tails n.receiver → length (taken rs r.x22) ≡ m.took n.receiver
-  pub shut : r.x22 ≡ i → m.shut n.receiver ≢ 0 → is_closed rs r.x22 ≡ true
+  pub closings : r.x22 ≡ i → m.closings n.receiver ≢ 0 → is_closed rs r.x22 ≡ true
   pub marked : r.x22 ≡ i → not (runs (states (r.x22 + 1))) ≡ true → m.marks n.landed ≡ 1
   pub ready : r.x22 ≡ i → not (runs (states (r.x22 + 1))) ≡ false → m.Ready k n
   -- some sender is owed
   pub open_yet : some_open rs 0 count ≡ true
-  pub owing : due here < r.x20
+  pub owing : closings_due here < r.x20
 
-abbrev pub Nearer : (m : BlockMeaning) → Block → ℕ → ℕ → ℕ → ℕ → Count m → Noted → Noted → Type 0
-Nearer m k i count here there n r noted = (rs : List Report) (states : ℕ → Option HartState) → Idle m k i count here n r rs states → far_of (pace_of m) count k.size rs states (receives m.middle (whole_of k count) there noted) < far_of (pace_of m) count k.size rs states (receives m.middle (whole_of k count) here r)
+abbrev pub Nearer : (m : BlockMeaning) → Block → ℕ → ℕ → ℕ → ℕ → Count m → ReceiverRegisters → ReceiverRegisters → Type 0
+Nearer m k i count here there n r noted = (rs : List Report) (states : ℕ → Option HartState) → Idle m k i count here n r rs states → receiver_rank (ranking_of m) count k.size rs states (receives m.middle (whole_of k count) there noted) < receiver_rank (ranking_of m) count k.size rs states (receives m.middle (whole_of k count) here r)
 
 -- one act of the receiver, which visits or visited this block, and read v
-pub record Receives (m : BlockMeaning) (k : Block) (i count : ℕ) (here : ℕ) (n : Count m) (r : Noted) (v : ℕ) : Type 0 where
+pub record Receives (m : BlockMeaning) (k : Block) (i count : ℕ) (here : ℕ) (n : Count m) (r : ReceiverRegisters) (v : ℕ) : Type 0 where
   pub wanted : Need
   pub there : ℕ
-  pub noted : Noted
+  pub noted : ReceiverRegisters
   pub after : m.Receiver
   pub plain : IsNoAmo (IsWordOf k) wanted
   pub wants : need_of (receives m.middle (whole_of k count) here r) ≡ wanted
@@ -91,26 +91,26 @@ pub record Receives (m : BlockMeaning) (k : Block) (i count : ℕ) (here : ℕ) 
   pub holds : ReceiverIs m k i there after noted ⊎ Comes m k count there after noted
   pub says : Says m k i n.receiver after (said_by wanted)
   -- what it does to the receiver's count
-  pub counts : noted.x20 + m.shut after + due here ≡ r.x20 + m.shut n.receiver + due there
+  pub counts : noted.x20 + m.closings after + closings_due here ≡ r.x20 + m.closings n.receiver + closings_due there
   -- where every sender waits or has ended, it comes nearer to its next report
   pub nearer : said_by wanted ≡ [] → Nearer m k i count here there n r noted
 
 -- what a load at this place reads in the block
-abbrev pub Finds : (m : BlockMeaning) → Block → ℕ → ℕ → Count m → (ℕ → ℕ) → Noted → ℕ → Type 0
+abbrev pub Finds : (m : BlockMeaning) → Block → ℕ → ℕ → Count m → (ℕ → ℕ) → ReceiverRegisters → ℕ → Type 0
 Finds m k count here n word r v = (a : ℕ) → IsWordOf k a → need_of (receives m.middle (whole_of k count) here r) ≡ loads a → v ≡ seen_at m k n word a
 
 -- it runs, and v is what a load reads; nor is its count wrong
-pub record Runs (m : BlockMeaning) (k : Block) (count here : ℕ) (n : Count m) (word : ℕ → ℕ) (r : Noted) (v : ℕ) : Type 0 where
+pub record Runs (m : BlockMeaning) (k : Block) (count here : ℕ) (n : Count m) (word : ℕ → ℕ) (r : ReceiverRegisters) (v : ℕ) : Type 0 where
   pub runs : (receives m.middle (whole_of k count) here r).status ≡ status.Running
   pub find : Finds m k count here n word r v
-  pub owed : due here ≤ r.x20
+  pub owed : closings_due here ≤ r.x20
   pub small : r.x20 ≤ 64
 
 -- the reason why a row is right: from what holds there the receiver goes on as the rows say
-abbrev pub Right : (m : BlockMeaning) → Block → ℕ → ℕ → Count m → (ℕ → ℕ) → Noted → ℕ → ReceiverRow m → Type 0
+abbrev pub Right : (m : BlockMeaning) → Block → ℕ → ℕ → Count m → (ℕ → ℕ) → ReceiverRegisters → ℕ → ReceiverRow m → Type 0
 Right m k i count n word r v row = row.holds k i n.receiver r → Runs m k count row.at n word r v → Receives m k i count row.at n r v
 
-abbrev pub Right_at : (m : BlockMeaning) → Block → ℕ → ℕ → Count m → (ℕ → ℕ) → Noted → ℕ → ℕ → Type 0
+abbrev pub Right_at : (m : BlockMeaning) → Block → ℕ → ℕ → Count m → (ℕ → ℕ) → ReceiverRegisters → ℕ → ℕ → Type 0
 Right_at m k i count n word r v here = ReceiverIs m k i here n.receiver r → Runs m k count here n word r v → Receives m k i count here n r v
 
 -- the receiver stored a tail or a done word, or reported: its own numbers after it, which note the mark
@@ -122,7 +122,7 @@ pub record Stepped (m : BlockMeaning) (k : Block) (n : Count m) (stored : List (
   pub tails : m.tails after ≡ tail
   pub dones : m.dones after ≡ done
   pub took : m.took after ≡ word
-  pub shut : m.shut after ≡ close
+  pub closings : m.closings after ≡ close
   pub mark : m.seen_mark after ≡ m.marks n.landed
 
 -- the state in which the sender of a block opens
@@ -141,14 +141,14 @@ pub record Begins (m : BlockMeaning) (k : Block) (first : HartState) : Type 0 wh
   pub tails : m.tails none.receiver ≡ 0
   pub dones : m.dones none.receiver ≡ 0
   pub took : m.took none.receiver ≡ 0
-  pub shut : m.shut none.receiver ≡ 0
+  pub closings : m.closings none.receiver ≡ 0
 
 pub record BlockLaws (m : BlockMeaning) : Type 0 where
   -- the opening
   pub begins : (k : Block) → IsBlock k → Begins m k (opens_with m.sender.code k)
   -- bounds of the numbers
   pub tails_all : (k : Block) (n : Count m) → m.Ordered k n → m.tails n.receiver ≤ length k.list
-  pub shut_done : (k : Block) (n : Count m) → m.Ordered k n → m.shut n.receiver ≤ m.dones n.receiver
+  pub shut_done : (k : Block) (n : Count m) → m.Ordered k n → m.closings n.receiver ≤ m.dones n.receiver
   pub dones_one : (k : Block) (n : Count m) → m.Ordered k n → m.dones n.receiver ≤ 1
   pub marks_one : (k : Block) (n : Count m) → m.Ordered k n → m.marks n.landed ≤ 1
   pub filled_more : (k : Block) (n : Count m) → m.Ordered k n → m.Filled n.receiver → m.tails n.receiver < length k.list
@@ -165,9 +165,9 @@ pub record BlockLaws (m : BlockMeaning) : Type 0 where
   -- the receiver's front and end
   pub sees_done : (k : Block) (n : Count m) (word : ℕ → ℕ) → m.Ordered k n → m.Words k n.landed word → seen_at m k n word (k.base + 12) ≡ m.dones n.receiver
   pub sees_mark : (k : Block) (n : Count m) (word : ℕ → ℕ) → m.Ordered k n → m.Words k n.landed word → seen_at m k n word (k.base + 4) ≡ m.marks n.landed
-  pub stores_tail : (k : Block) (n : Count m) → m.Ordered k n → m.Filled n.receiver → m.dones n.receiver ≡ 0 → Stepped m k n ((k.base + 8, offset k (m.tails n.receiver + 1)) ∷ []) (m.tails n.receiver + 1) (m.dones n.receiver) (m.took n.receiver) (m.shut n.receiver)
-  pub stores_done : (k : Block) (n : Count m) → m.Ordered k n → m.Level n.receiver → m.tails n.receiver ≡ length k.list → m.dones n.receiver ≡ 0 → Stepped m k n ((k.base + 12, 1) ∷ []) (m.tails n.receiver) 1 (m.took n.receiver) (m.shut n.receiver)
-  pub reports : (k : Block) (n : Count m) (took shut : ℕ) → m.Ordered k n → m.Level n.receiver → shut ≤ m.dones n.receiver → Stepped m k n [] (m.tails n.receiver) (m.dones n.receiver) took shut
+  pub stores_tail : (k : Block) (n : Count m) → m.Ordered k n → m.Filled n.receiver → m.dones n.receiver ≡ 0 → Stepped m k n ((k.base + 8, offset k (m.tails n.receiver + 1)) ∷ []) (m.tails n.receiver + 1) (m.dones n.receiver) (m.took n.receiver) (m.closings n.receiver)
+  pub stores_done : (k : Block) (n : Count m) → m.Ordered k n → m.Level n.receiver → m.tails n.receiver ≡ length k.list → m.dones n.receiver ≡ 0 → Stepped m k n ((k.base + 12, 1) ∷ []) (m.tails n.receiver) 1 (m.took n.receiver) (m.closings n.receiver)
+  pub reports : (k : Block) (n : Count m) (took closings : ℕ) → m.Ordered k n → m.Level n.receiver → closings ≤ m.dones n.receiver → Stepped m k n [] (m.tails n.receiver) (m.dones n.receiver) took closings
   -- the receiver's lines between: the first, and the ring's rows
-  pub moves_14 : (k : Block) (i count : ℕ) (n : Count m) (word : ℕ → ℕ) (r : Noted) (v : ℕ) → IsBlock k → m.Ordered k n → m.Words k n.landed word → Right_at m k i count n word r v 0x14
-  pub moves : (k : Block) (i count : ℕ) (n : Count m) (word : ℕ → ℕ) (r : Noted) (v : ℕ) → IsBlock k → m.Ordered k n → m.Words k n.landed word → Reasons (Right m k i count n word r v) (opened_rows m m.rows)
+  pub moves_14 : (k : Block) (i count : ℕ) (n : Count m) (word : ℕ → ℕ) (r : ReceiverRegisters) (v : ℕ) → IsBlock k → m.Ordered k n → m.Words k n.landed word → Right_at m k i count n word r v 0x14
+  pub moves : (k : Block) (i count : ℕ) (n : Count m) (word : ℕ → ℕ) (r : ReceiverRegisters) (v : ℕ) → IsBlock k → m.Ordered k n → m.Words k n.landed word → Reasons (Right m k i count n word r v) (opened_rows m m.rows)

@@ -27,8 +27,8 @@ use Rattle.poll_close.specs.Going.{GoesOn, AllGoOn}
 use Rattle.poll_close.specs.Touching.{Touches, AllTouch}
 use Rattle.poll_close.specs.Invariant.Blocks.{block_of, as_writes}
 use Rattle.poll_close.specs.Invariant.ReceiverState.{receiver_of}
-use Rattle.poll_close.specs.Invariant.BlockMeaning.{BlockMeaning, Count, Quiet}
-use Rattle.poll_close.specs.Invariant.Channels.{BlockPart, ReportsOf, shuts, Channel, means_by}
+use Rattle.poll_close.specs.Invariant.BlockMeaning.{BlockMeaning, Count, AllReported}
+use Rattle.poll_close.specs.Invariant.Channels.{BlockPart, ReportsOf, all_closings, Channel, means_by}
 use Rattle.poll_close.proofs.Blocks.{IsBlock, Within}
 use Rattle.poll_close.proofs.Dense.{rows_before}
 use Rattle.poll_close.proofs.BlockLaws.{BlockLaws, Begins, opens_with}
@@ -131,13 +131,13 @@ module _ (m : BlockMeaning) (laws : BlockLaws m) (least : ℕ) (some : 1 ≤ lea
         at (inl less) = all i less
         at (inr more) = absurd (omega arith)
 
-    quiet : (i : ℕ) → i < length lists → Quiet m (none i).receiver
-    quiet = each (λ i n. Quiet m n.receiver) (λ i within. (let b = begun i within in record { words = b.took ∙ sym b.tails; closed = b.shut ∙ sym b.dones; level = b.level }))
+    quiet : (i : ℕ) → i < length lists → AllReported m (none i).receiver
+    quiet = each (λ i n. AllReported m n.receiver) (λ i within. (let b = begun i within in record { words = b.took ∙ sym b.tails; closed = b.closings ∙ sym b.dones; level = b.level }))
 
-    none_shut : (count : ℕ) → count ≤ length lists → count + shuts m none count ≡ count + 0
+    none_shut : (count : ℕ) → count ≤ length lists → count + all_closings m none count ≡ count + 0
     none_shut zero less = refl
     none_shut (suc i) less =
-        let last : m.shut (none i).receiver ≡ 0 = each (λ j n. m.shut n.receiver ≡ 0) (λ j within. (begun j within).shut) i (omega arith) in
+        let last : m.closings (none i).receiver ≡ 0 = each (λ j n. m.closings n.receiver ≡ 0) (λ j within. (begun j within).closings) i (omega arith) in
         omega (arith, last, none_shut i (omega arith))
 
     zero_there : (i : ℕ) (within : i < length lists) (a : ℕ) → Within (block_of M S lists i) a → slice_index S.words (a / 4) ≡ 0
@@ -168,10 +168,10 @@ module _ (m : BlockMeaning) (laws : BlockLaws m) (least : ℕ) (some : 1 ≤ lea
         count = none_shut (length lists) (omega arith);
       };
       reports = record {
-        senders = each (λ j n. ReportsOf [] j (slice_index_or lists j []) (m.took n.receiver) (m.shut n.receiver)) (λ j within. (let b = begun j within in record {
+        senders = each (λ j n. ReportsOf [] j (slice_index_or lists j []) (m.took n.receiver) (m.closings n.receiver)) (λ j within. (let b = begun j within in record {
           words = ap (λ c. take c (slice_index_or lists j [])) (sym b.took);
           closed = λ k is. cc;
-          said = λ is. absurd (omega (arith, b.shut, is));
+          said = λ is. absurd (omega (arith, b.closings, is));
         }));
         clean = clean-none lists;
       };

@@ -76,10 +76,10 @@ pub taken_other : (rs : List Report) (i : ℕ) (y : Report) → sender_of y ≢ 
 taken_other rs i (report.Took j w) differ = taken-took rs j w i ∙ (let off : (j == i) ≡ false = grind (arith, nat_tests) in rw off (append-nil (taken rs i)))
 taken_other rs i (report.Closed j) differ = taken-closed rs j i
 
-pub told_other : (rs : List Report) (i : ℕ) (list : List ℕ) (took shut : ℕ) (x : Report) → sender_of x ≢ i → ReportsOf rs i list took shut → ReportsOf (rs ++ x ∷ []) i list took shut
-told_other rs i list took shut x other told = record { words = taken_other rs i x other ∙ told.words; closed = closed; said = λ is. (let old = told.said is in (old.0, get_front rs (x ∷ []) old.0 (report.Closed i) old.1)) }
+pub told_other : (rs : List Report) (i : ℕ) (list : List ℕ) (took closings : ℕ) (x : Report) → sender_of x ≢ i → ReportsOf rs i list took closings → ReportsOf (rs ++ x ∷ []) i list took closings
+told_other rs i list took closings x other told = record { words = taken_other rs i x other ∙ told.words; closed = closed; said = λ is. (let old = told.said is in (old.0, get_front rs (x ∷ []) old.0 (report.Closed i) old.1)) }
   where
-    closed : (k : ℕ) → slice_get (rs ++ x ∷ []) k ≡ Some (report.Closed i) → shut ≡ 1
+    closed : (k : ℕ) → slice_get (rs ++ x ∷ []) k ≡ Some (report.Closed i) → closings ≡ 1
     closed k is =
         elim (get_last rs x (report.Closed i) k is) [
           | inl a ↦ told.closed k a.1
@@ -87,14 +87,14 @@ told_other rs i list took shut x other told = record { words = taken_other rs i 
         ]
 
 -- a word of the sender's own
-pub told_took : (rs : List Report) (i : ℕ) (list : List ℕ) (took shut : ℕ) → took < length list → ReportsOf rs i list took shut → ReportsOf (rs ++ report.Took i (slice_index list took) ∷ []) i list (took + 1) shut
-told_took rs i list took shut less told = record {
+pub told_took : (rs : List Report) (i : ℕ) (list : List ℕ) (took closings : ℕ) → took < length list → ReportsOf rs i list took closings → ReportsOf (rs ++ report.Took i (slice_index list took) ∷ []) i list (took + 1) closings
+told_took rs i list took closings less told = record {
   words = taken-took rs i (slice_index list took) i ∙ (let on : (i == i) ≡ true = eq-eqb i i refl in rw on (ap (λ ys. ys ++ slice_index list took ∷ []) told.words ∙ sym (take_more list took 0 less)));
   closed = closed;
   said = λ is. (let old = told.said is in (old.0, get_front rs (report.Took i (slice_index list took) ∷ []) old.0 (report.Closed i) old.1));
 }
   where
-    closed : (k : ℕ) → slice_get (rs ++ report.Took i (slice_index list took) ∷ []) k ≡ Some (report.Closed i) → shut ≡ 1
+    closed : (k : ℕ) → slice_get (rs ++ report.Took i (slice_index list took) ∷ []) k ≡ Some (report.Closed i) → closings ≡ 1
     closed k is =
         elim (get_last rs (report.Took i (slice_index list took)) (report.Closed i) k is) [
           | inl a ↦ told.closed k a.1
@@ -102,8 +102,8 @@ told_took rs i list took shut less told = record {
         ]
 
 -- its closing
-pub told_closed : (rs : List Report) (i : ℕ) (list : List ℕ) (took shut : ℕ) → ReportsOf rs i list took shut → ReportsOf (rs ++ report.Closed i ∷ []) i list took 1
-told_closed rs i list took shut told = record { words = taken-closed rs i i ∙ told.words; closed = λ k is. refl; said = λ is. (length rs, get_end rs (report.Closed i)) }
+pub told_closed : (rs : List Report) (i : ℕ) (list : List ℕ) (took closings : ℕ) → ReportsOf rs i list took closings → ReportsOf (rs ++ report.Closed i ∷ []) i list took 1
+told_closed rs i list took closings told = record { words = taken-closed rs i i ∙ told.words; closed = λ k is. refl; said = λ is. (length rs, get_end rs (report.Closed i)) }
 
 pub prefix_take : (list : List ℕ) (xs : List ℕ) (n : ℕ) → xs ≡ take n list → IsPrefixOf xs list
 prefix_take list xs n is = (drop n list, ap (λ ys. ys ++ drop n list) is ∙ take-append-drop n list)

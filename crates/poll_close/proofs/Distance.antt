@@ -8,7 +8,7 @@ use Rattle.hart.specs.State.{HartState}
 use Rattle.hart.specs.Steps.{need_of, advanced}
 use Rattle.hart.specs.declared.status.Status.TheVariants as status
 use Rattle.hart.specs.declared.need.Report.{Report}
-use Rattle.poll_close.specs.Paces.{Around, some_open, rest_from, runs}
+use Rattle.poll_close.specs.Rankings.{Around, some_open, rest_from, runs}
 use Rattle.poll_close.specs.Plans.{is_closed}
 use Rattle.poll_close.specs.Invariant.Blocks.{Block}
 use Rattle.poll_close.specs.Invariant.Outlines.{Row, Standing, rank_in, left_of}

@@ -12,9 +12,9 @@ use Rattle.hart.specs.declared.status.Status.TheVariants as status
 use Rattle.hart.specs.declared.need.Need.{Need}
 use Rattle.hart.specs.declared.need.Need.TheVariants as need
 use Rattle.hart.proofs.Instructions.{IsAt}
-use Rattle.poll_close.specs.Paces.{runs}
+use Rattle.poll_close.specs.Rankings.{runs}
 use Rattle.poll_close.specs.Invariant.Blocks.{Block}
-use Rattle.poll_close.specs.Invariant.SenderState.{Written, fixed, running, ended}
+use Rattle.poll_close.specs.Invariant.SenderState.{SenderRegisters, fixed, running, ended}
 use Rattle.poll_close.specs.Invariant.BlockMeaning.{BlockMeaning, Count, unsent_of}
 use Rattle.poll_close.specs.Invariant.Outlines.{Row, SenderRow, Reasons, Outline, either, stands, HoldsIn, Holds, Standing, left_of}
 use Rattle.poll_close.proofs.Acts.{stored_by, IsNoAmo}
@@ -36,7 +36,7 @@ found holds Goal (row ∷ rows) reasons here h = by_test (row.at == here) refl h
     by_test false other h rest = rest h
 
 -- where it has ended, and where it runs
-module _ (o : Outline) (k : Block) (here : ℕ) (n : o.Own) (r : Written) where
+module _ (o : Outline) (k : Block) (here : ℕ) (n : o.Own) (r : SenderRegisters) where
   abbrev inbox : List ℕ
   inbox = drop (o.asked n) k.list
 
@@ -74,7 +74,7 @@ module _ (o : Outline) (k : Block) (n : o.Own) (s : HartState) (st : Standing o 
   pub has_ended : runs (Some s) ≡ false → o.done k n
   has_ended off = at (st.place == o.over) refl st.holds
     where
-      at : (b : Bool) → (st.place == o.over) ≡ b → either b (o.done k n) (HoldsIn (λ (H : Block → o.Own → Written → Type 0). H k n st.written) o.rows st.place) → o.done k n
+      at : (b : Bool) → (st.place == o.over) ≡ b → either b (o.done k n) (HoldsIn (λ (H : Block → o.Own → SenderRegisters → Type 0). H k n st.written) o.rows st.place) → o.done k n
       at true over h = h
       at false on h = let bad : false ≡ true = sym off ∙ ap (λ (z : HartState). runs (Some z)) (st.is ∙ at_run o k st.place n st.written on) in cc
 
@@ -83,7 +83,7 @@ pub record Sender (m : BlockMeaning) : Type 0 where
   pub lines : List Instr
   pub decoded : map meaning m.sender.code ≡ map Some lines
 
-module _ (m : BlockMeaning) (g : Sender m) (k : Block) (n : Count m) (word : ℕ → ℕ) (v : ℕ) (r : Written) where
+module _ (m : BlockMeaning) (g : Sender m) (k : Block) (n : Count m) (word : ℕ → ℕ) (v : ℕ) (r : SenderRegisters) where
   abbrev now : ℕ → HartState
   now here = stands m.sender k here n.sender r
 
@@ -95,7 +95,7 @@ module _ (m : BlockMeaning) (g : Sender m) (k : Block) (n : Count m) (word : ℕ
   abbrev pub Free : ℕ → Type 0
   Free here = (unsent_of m k n ≡ []) × (m.waits (now here) word ≡ false)
 
-  abbrev pub Nearer : ℕ → ℕ → m.sender.Own → Written → Type 0
+  abbrev pub Nearer : ℕ → ℕ → m.sender.Own → SenderRegisters → Type 0
   Nearer here there made written = left_of m.sender (stands m.sender k there made written) < left_of m.sender (now here)
 
   -- one act at this offset: what it wants, where it goes on, and what its own numbers are then
@@ -103,7 +103,7 @@ module _ (m : BlockMeaning) (g : Sender m) (k : Block) (n : Count m) (word : ℕ
     pub wanted : Need
     pub there : ℕ
     pub made : m.sender.Own
-    pub written : Written
+    pub written : SenderRegisters
     pub plain : IsNoAmo (IsWordOf k) wanted
     pub wants : need_of (now here) ≡ wanted
     pub leaves : advanced (now here) v ≡ stands m.sender k there made written
@@ -121,10 +121,10 @@ module _ (m : BlockMeaning) (g : Sender m) (k : Block) (n : Count m) (word : ℕ
 
   -- an act by a line; and by one that changes no number
   abbrev pub GoesBy : ℕ → Type 0
-  GoesBy here = (there : ℕ) (wanted : Need) (made : m.sender.Own) (written : ℕ → Written) → IsNoAmo (IsWordOf k) wanted → Line (now here) wanted (λ w. stands m.sender k there made (written w)) → m.Ordered k (record n { sender = made }) → unsent_of m k n ++ stored_by wanted ≡ m.unsent k made n.landed → Holds m.sender there k made (written v) → (Free here → Nearer here there made (written v)) → Finds here → Goes here
+  GoesBy here = (there : ℕ) (wanted : Need) (made : m.sender.Own) (written : ℕ → SenderRegisters) → IsNoAmo (IsWordOf k) wanted → Line (now here) wanted (λ w. stands m.sender k there made (written w)) → m.Ordered k (record n { sender = made }) → unsent_of m k n ++ stored_by wanted ≡ m.unsent k made n.landed → Holds m.sender there k made (written v) → (Free here → Nearer here there made (written v)) → Finds here → Goes here
 
   abbrev pub Still : ℕ → Type 0
-  Still here = (there : ℕ) (written : Written) → Line (now here) need.Inner (λ w. stands m.sender k there n.sender written) → Holds m.sender there k n.sender written → Nearer here there n.sender written → Finds here → Goes here
+  Still here = (there : ℕ) (written : SenderRegisters) → Line (now here) need.Inner (λ w. stands m.sender k there n.sender written) → Holds m.sender there k n.sender written → Nearer here there n.sender written → Finds here → Goes here
 
   pub goes : (here : ℕ) → GoesBy here
   goes here there wanted made written plain line order unsent holds nearer find = record { wanted = wanted; there = there; made = made; written = written v; plain = plain; wants = line.wants; leaves = line.leaves v; order = order; unsent = unsent; holds = holds; nearer = nearer }
@@ -133,7 +133,7 @@ module _ (m : BlockMeaning) (g : Sender m) (k : Block) (n : Count m) (word : ℕ
   still order here there written line holds nearer = goes here there need.Inner n.sender (λ w. written) tt line order (append-nil (unsent_of m k n)) holds (λ free. nearer)
 
   -- where the line at this offset is that instruction
-  pub at_in : (q : Written) (inbox : List ℕ) (j : ℕ) {i : Instr} → slice_get (map Some g.lines) j ≡ Some (Some i) → IsAt (running m.sender.code (fixed k) (4 * j) q inbox) i
+  pub at_in : (q : SenderRegisters) (inbox : List ℕ) (j : ℕ) {i : Instr} → slice_get (map Some g.lines) j ≡ Some (Some i) → IsAt (running m.sender.code (fixed k) (4 * j) q inbox) i
   at_in q inbox j found = at_line (running m.sender.code (fixed k) (4 * j) q inbox) j refl (ap (λ xs. slice_get xs j) g.decoded ∙ found)
 
   pub at : (j : ℕ) {i : Instr} → slice_get (map Some g.lines) j ≡ Some (Some i) → IsAt (running m.sender.code (fixed k) (4 * j) r (drop (m.sender.asked n.sender) k.list)) i
@@ -142,12 +142,12 @@ module _ (m : BlockMeaning) (g : Sender m) (k : Block) (n : Count m) (word : ℕ
   right : Reasons Right m.sender.rows → (here : ℕ) → (now here).status ≡ status.Running → Right_at here
   right reasons here running h find = by_test (here == m.sender.over) refl h
     where
-      by_test : (b : Bool) → (here == m.sender.over) ≡ b → either b (m.sender.done k n.sender) (HoldsIn (λ (H : Block → m.sender.Own → Written → Type 0). H k n.sender r) m.sender.rows here) → Goes here
+      by_test : (b : Bool) → (here == m.sender.over) ≡ b → either b (m.sender.done k n.sender) (HoldsIn (λ (H : Block → m.sender.Own → SenderRegisters → Type 0). H k n.sender r) m.sender.rows here) → Goes here
       by_test true over h = let bad : status.Ended ≡ status.Running = sym (ap (λ (s : HartState). s.status) (at_end m.sender k here n.sender r over)) ∙ running in cc
-      by_test false on h = found (λ (H : Block → m.sender.Own → Written → Type 0). H k n.sender r) (λ j. Finds j → Goes j) m.sender.rows reasons here h find
+      by_test false on h = found (λ (H : Block → m.sender.Own → SenderRegisters → Type 0). H k n.sender r) (λ j. Finds j → Goes j) m.sender.rows reasons here h find
 
 -- so its acts keep the block's meaning, and bring it nearer to its end, as the laws of a block ask
-module _ (m : BlockMeaning) (g : Sender m) (reasons : (k : Block) (n : Count m) (word : ℕ → ℕ) (v : ℕ) (r : Written) → IsBlock k → m.Ordered k n → m.Words k n.landed word → Reasons (Right m g k n word v r) m.sender.rows) (k : Block) (n : Count m) (s : HartState) (word : ℕ → ℕ) (v : ℕ) (is : IsBlock k) (order : m.Ordered k n) (words : m.Words k n.landed word) (st : Standing m.sender k n.sender s) (running : s.status ≡ status.Running) where
+module _ (m : BlockMeaning) (g : Sender m) (reasons : (k : Block) (n : Count m) (word : ℕ → ℕ) (v : ℕ) (r : SenderRegisters) → IsBlock k → m.Ordered k n → m.Words k n.landed word → Reasons (Right m g k n word v r) m.sender.rows) (k : Block) (n : Count m) (s : HartState) (word : ℕ → ℕ) (v : ℕ) (is : IsBlock k) (order : m.Ordered k n) (words : m.Words k n.landed word) (st : Standing m.sender k n.sender s) (running : s.status ≡ status.Running) where
   act : ((a : ℕ) → IsWordOf k a → need_of s ≡ loads a → v ≡ found_in (unsent_of m k n) word a) → Goes m g k n word v st.written st.place
   act find = right m g k n word v st.written (reasons k n word v st.written is order words) st.place (subst (λ (z : HartState). z.status ≡ status.Running) st.is running) st.holds (λ a inside wants. find a inside (ap need_of st.is ∙ wants))
 

@@ -32,7 +32,7 @@ use Rattle.poll_close.proofs.Standing.{inboxes, stands-opens, stands-happens, st
 use Rattle.poll_close.specs.Layout.{Layout, dense, opening_at, opening_of}
 use Rattle.poll_close.specs.Delivery.{DeliversWhole}
 use Rattle.poll_close.proofs.CleanReports.{closed_whole}
-use Rattle.poll_close.specs.Paces.{Nearer, Nears}
+use Rattle.poll_close.specs.Rankings.{Nearer, Decreases}
 use Rattle.poll_close.specs.Plans.{AllLanded, Finished, Finishes, CanFinish, is_closed, all_closed, ends_in_word, is_word, is_done, senders_of}
 
 pub record Planned (ring : Ring) (means : Meaning) (B M : ℕ) (start : History) (evs : List Event) (t : History) : Type 0 where
@@ -63,7 +63,7 @@ open_one rs n i less open_yet = at (all_closed rs n) refl
   where
     at : (b : Bool) → all_closed rs n ≡ b → all_closed rs n ≡ false
     at false is = is
-    at true is = let shut : is_closed rs i ≡ true = each_closed rs n is i less in cc
+    at true is = let closings : is_closed rs i ≡ true = each_closed rs n is i less in cc
 
 pub finished : (ring : Ring) (means : Meaning) (B M : ℕ) (t : History) → Cleans ring means → Stands ring means B M t → is_done t ≡ true → Finished t
 finished ring means B M t cleans s done = record {
@@ -187,10 +187,10 @@ pub record Turned (ring : Ring) (means : Meaning) (B M : ℕ) (left : History �
   pub stepped : Stepped left t new h
   pub same : length new.opening.harts ≡ length t.opening.harts
 
-pub turned : (ring : Ring) (means : Meaning) (left next : ℕ → History → ℕ) (B M : ℕ) (start : History) (evs : List Event) (t : History) (h : ℕ) (o : Outcome) (new : History) → Nears ring means left next → Keeps ring means → 1 ≤ B → Planned ring means B M start evs t → AllLanded t → is_done t ≡ false → h ≡ next M t → Happens B M t (event.Act h) o new → Turned ring means B M (left M) start (evs ++ event.Act h ∷ []) t new h
-unfolding Nears
-turned ring means left next B M start evs t h o new nears keeps some p all open_yet chosen hap =
-    let near : Nearer B M (left M) t h = subst (Nearer B M (left M) t) (sym chosen) (nears B M t some p.stands all open_yet) in
+pub turned : (ring : Ring) (means : Meaning) (left next : ℕ → History → ℕ) (B M : ℕ) (start : History) (evs : List Event) (t : History) (h : ℕ) (o : Outcome) (new : History) → Decreases ring means left next → Keeps ring means → 1 ≤ B → Planned ring means B M start evs t → AllLanded t → is_done t ≡ false → h ≡ next M t → Happens B M t (event.Act h) o new → Turned ring means B M (left M) start (evs ++ event.Act h ∷ []) t new h
+unfolding Decreases
+turned ring means left next B M start evs t h o new falls keeps some p all open_yet chosen hap =
+    let near : Nearer B M (left M) t h = subst (Nearer B M (left M) t) (sym chosen) (falls B M t some p.stands all open_yet) in
     let after : Planned ring means B M start (evs ++ event.Act h ∷ []) new = planned-more ring means B M start evs t (event.Act h) o new keeps p hap in
     record {
       hart = omega (arith, near.hart, after.harts, p.harts);
@@ -275,11 +275,11 @@ open_where_word ring means B M t cleans s word = at (is_done t) refl
     at true is =
         let last = word_last (reported 0 t.entries) word in
         let within : last.1 < senders_of t = omega (arith, senders-count t, clean.known last.0 (report.Took last.1 last.2) last.4) in
-        let shut = closed_at (reported 0 t.entries) last.1 (each_closed (reported 0 t.entries) (senders_of t) is last.1 within) in
-        let below : shut.0 < length (reported 0 t.entries) = get_below (reported 0 t.entries) shut.0 (report.Closed last.1) shut.1 in
-        elim (cases_eq shut.0 last.0) [
-          | inl same ↦ let both : Some (report.Closed last.1) ≡ Some (report.Took last.1 last.2) = sym shut.1 ∙ ap (slice_get (reported 0 t.entries)) same ∙ last.4 in cc
-          | inr other ↦ absurd (clean.no_more last.1 shut.0 last.0 (report.Took last.1 last.2) (omega (arith, below, last.3, other)) shut.1 last.4 refl)
+        let closings = closed_at (reported 0 t.entries) last.1 (each_closed (reported 0 t.entries) (senders_of t) is last.1 within) in
+        let below : closings.0 < length (reported 0 t.entries) = get_below (reported 0 t.entries) closings.0 (report.Closed last.1) closings.1 in
+        elim (cases_eq closings.0 last.0) [
+          | inl same ↦ let both : Some (report.Closed last.1) ≡ Some (report.Took last.1 last.2) = sym closings.1 ∙ ap (slice_get (reported 0 t.entries)) same ∙ last.4 in cc
+          | inr other ↦ absurd (clean.no_more last.1 closings.0 last.0 (report.Took last.1 last.2) (omega (arith, below, last.3, other)) closings.1 last.4 refl)
         ]
 
 -- the reports after the events and the plan
@@ -330,7 +330,7 @@ done_or : (b : Bool) → (b ≡ true) ⊎ (b ≡ false)
 done_or true = inl refl
 done_or false = inr refl
 
-module _ (ring : Ring) (means : Meaning) (left next : ℕ → History → ℕ) (keeps : Keeps ring means) (cleans : Cleans ring means) (nears : Nears ring means left next) (B M : ℕ) (some : 1 ≤ B) (start : History) where
+module _ (ring : Ring) (means : Meaning) (left next : ℕ → History → ℕ) (keeps : Keeps ring means) (cleans : Cleans ring means) (falls : Decreases ring means left next) (B M : ℕ) (some : 1 ≤ B) (start : History) where
   abbrev Reached : (History → Type 0) → Type 0
   Reached P = (evs : List Event) × (t : History) × Planned ring means B M start evs t × P t
 
@@ -357,7 +357,7 @@ module _ (ring : Ring) (means : Meaning) (left next : ℕ → History → ℕ) (
   turn_one : (evs : List Event) (t : History) → Planned ring means B M start evs t → AllLanded t → is_done t ≡ false → (more : List Event) × (u : History) × Over ring means B M (left M) start more t u
   turn_one evs t p all open_yet =
       let hap = happens_some B M t (event.Act (next M t)) p.stands.kept in
-      let turn : Turned ring means B M (left M) start (evs ++ event.Act (next M t) ∷ []) t hap.1 (next M t) = turned ring means left next B M start evs t (next M t) hap.0 hap.1 nears keeps some p all open_yet refl hap.2 in
+      let turn : Turned ring means B M (left M) start (evs ++ event.Act (next M t) ∷ []) t hap.1 (next M t) = turned ring means left next B M start evs t (next M t) hap.0 hap.1 falls keeps some p all open_yet refl hap.2 in
       elim (cases_lt 0 (length (pending (next M t) hap.1.entries))) [
         | inl more ↦
             let land = happens_some B M hap.1 (event.Land (next M t)) turn.planned.stands.kept in
@@ -387,9 +387,9 @@ module _ (ring : Ring) (means : Meaning) (left next : ℕ → History → ℕ) (
       record { events = end.0; finishes = planned-done ring means B M start end.0 end.1 cleans end.2 end.3 }
 
 -- so from every state that events lead to
-pub run_can_finish : (ring : Ring) (means : Meaning) (left next : ℕ → History → ℕ) → Opens ring means → Keeps ring means → Cleans ring means → Nears ring means left next → (B M : ℕ) (lists : List (List ℕ)) (S : Layout) (evs : List Event) (t : History) → 1 ≤ B → AcceptedAt ring M lists S → Run B M (opening_at ring.sender ring.receiver lists S) evs t → CanFinish B M t
-run_can_finish ring means left next opens keeps cleans nears B M lists S evs t some accepted run =
-    can_finish ring means left next keeps cleans nears B M some t (stands-run ring means B M (unrun (opening_at ring.sender ring.receiver lists S)) evs t keeps (stands-opens ring means B M lists S (unrun (opening_at ring.sender ring.receiver lists S)) opens accepted refl) run)
+pub run_can_finish : (ring : Ring) (means : Meaning) (left next : ℕ → History → ℕ) → Opens ring means → Keeps ring means → Cleans ring means → Decreases ring means left next → (B M : ℕ) (lists : List (List ℕ)) (S : Layout) (evs : List Event) (t : History) → 1 ≤ B → AcceptedAt ring M lists S → Run B M (opening_at ring.sender ring.receiver lists S) evs t → CanFinish B M t
+run_can_finish ring means left next opens keeps cleans falls B M lists S evs t some accepted run =
+    can_finish ring means left next keeps cleans falls B M some t (stands-run ring means B M (unrun (opening_at ring.sender ring.receiver lists S)) evs t keeps (stands-opens ring means B M lists S (unrun (opening_at ring.sender ring.receiver lists S)) opens accepted refl) run)
 
-pub dense_can_finish : (ring : Ring) (means : Meaning) (left next : ℕ → History → ℕ) → Opens ring means → Keeps ring means → Cleans ring means → Nears ring means left next → (B M : ℕ) (lists : List (List ℕ)) (S : ℕ) (evs : List Event) (t : History) → 1 ≤ B → Accepted ring M lists S → Run B M (opening_of ring.sender ring.receiver lists S) evs t → CanFinish B M t
-dense_can_finish ring means left next opens keeps cleans nears B M lists S evs t some accepted run = run_can_finish ring means left next opens keeps cleans nears B M lists (dense S) evs t some (dense-accepted ring M lists S accepted) run
+pub dense_can_finish : (ring : Ring) (means : Meaning) (left next : ℕ → History → ℕ) → Opens ring means → Keeps ring means → Cleans ring means → Decreases ring means left next → (B M : ℕ) (lists : List (List ℕ)) (S : ℕ) (evs : List Event) (t : History) → 1 ≤ B → Accepted ring M lists S → Run B M (opening_of ring.sender ring.receiver lists S) evs t → CanFinish B M t
+dense_can_finish ring means left next opens keeps cleans falls B M lists S evs t some accepted run = run_can_finish ring means left next opens keeps cleans falls B M lists (dense S) evs t some (dense-accepted ring M lists S accepted) run

@@ -31,11 +31,11 @@ use Rattle.poll_close.specs.Layout.{Layout, opening_at}
 use Rattle.poll_close.specs.Reports.{taken, sender_of, Clean}
 use Rattle.poll_close.specs.Laws.{AcceptedAt, Keeps}
 use Rattle.poll_close.specs.Standing.{lists_of}
-use Rattle.poll_close.specs.Paces.{Pace, Around, around, Nearer, Nears, some_open, visited_by, is_running, runs, far_of, far_if, left_in, left_by, ring_size, ready_if, is_ready, next_of, next_by}
+use Rattle.poll_close.specs.Rankings.{Ranking, Around, around, Nearer, Decreases, some_open, visited_by, is_running, runs, receiver_rank, receiver_rank_if, rank_by_states, rank_of, ring_size, ready_if, is_ready, next_of, next_by}
 use Rattle.poll_close.specs.Plans.{AllLanded, is_closed, is_done, senders_of}
 use Rattle.poll_close.specs.Invariant.Blocks.{Block, block_of, as_writes, to_block}
-use Rattle.poll_close.specs.Invariant.ReceiverState.{Noted, whole_of, receiver_of, receiving, received, receives, due}
-use Rattle.poll_close.specs.Invariant.BlockMeaning.{BlockMeaning, unsent_of, unread_of, ReceiverIs, rows_of, pace_of}
+use Rattle.poll_close.specs.Invariant.ReceiverState.{ReceiverRegisters, whole_of, receiver_of, receiving, received, receives, closings_due}
+use Rattle.poll_close.specs.Invariant.BlockMeaning.{BlockMeaning, unsent_of, unread_of, ReceiverIs, rows_of, ranking_of}
 use Rattle.poll_close.specs.Invariant.Channels.{Channel, means_by}
 use Rattle.poll_close.proofs.Acts.{Acted, acted, said_by}
 use Rattle.poll_close.proofs.Blocks.{IsBlock}
@@ -47,7 +47,7 @@ use Rattle.poll_close.proofs.Delivering.{senders-length}
 use Rattle.poll_close.proofs.Standing.{inboxes}
 use Rattle.poll_close.proofs.ChannelLaws.{blocks, ring_by, keeps}
 use Rattle.poll_close.proofs.Distance.{BlockProgress, rank_short}
-use Rattle.poll_close.proofs.Shares.{share_same, share_acts, sum_falls, far_falls, left_same, far_small, closed_from, closed_other, report_falls, open_from, some_from, shuts_less}
+use Rattle.poll_close.proofs.Shares.{share_same, share_acts, sum_falls, receiver_rank_falls, rank_same, receiver_rank_small, closed_from, closed_other, report_falls, open_from, some_from, shuts_less}
 use Rattle.std.proofs.lemmas.Bool.Decides.{nat_tests}
 
 -- which hart comes next
@@ -111,8 +111,8 @@ is_equal : (a b : ℕ) → (a == b) ≡ true → a ≡ b
 is_equal a b same = grind (arith, nat_tests)
 
 module _ (m : BlockMeaning) (laws : BlockLaws m) (least : ℕ) (some_least : 1 ≤ least) (prog : BlockProgress m least) (B M : ℕ) (S : Layout) (lists : List (List ℕ)) (t : History) (some : 1 ≤ B) (accepted : AcceptedAt (ring_by m laws least some_least) M lists S) (opening : t.opening ≡ opening_at m.sender.code (receiver_of m.middle) lists S) (kept : WellFormed B M t) (ch : Channel m M S lists t) (landed : AllLanded t) (open_yet : is_done t ≡ false) where
-  abbrev p : Pace
-  p = pace_of m
+  abbrev p : Ranking
+  p = ranking_of m
 
   are : (i : ℕ) → i < length lists → IsBlock (block_of M S lists i)
   are = blocks (ring_by m laws least some_least) M S lists some_least accepted
@@ -145,18 +145,18 @@ module _ (m : BlockMeaning) (laws : BlockLaws m) (least : ℕ) (some_least : 1 �
   unread j within = no_writes (unread_of m (block_of M S lists j) (ch.numbers j)) (sym (ch.parts j within).theirs ∙ ap (to_block (block_of M S lists j)) (quiet_buffer 0 (omega arith)))
 
   -- what is left, over the lists and the ring size of the channel
-  left_is : (new : History) → new.opening ≡ t.opening → left_by p M new ≡ left_in p (length lists) S.size lists (reported 0 new.entries) (λ h. state_of M new h)
-  left_is new same =
+  rank_is : (new : History) → new.opening ≡ t.opening → rank_of p M new ≡ rank_by_states p (length lists) S.size lists (reported 0 new.entries) (λ h. state_of M new h)
+  rank_is new same =
       let n : senders_of new ≡ length lists = ap (λ (o : Start). length o.harts - 1) same ∙ senders in
       let s : ring_size new.opening ≡ S.size = ap ring_size same ∙ size_is in
       let l : lists_of new.opening ≡ lists = ap lists_of same ∙ lists_is in
       rw (n, s, l) refl
 
-  left_falls : (new : History) → new.opening ≡ t.opening → left_in p (length lists) S.size lists (reported 0 new.entries) (λ h. state_of M new h) < left_in p (length lists) S.size lists rs (λ h. state_of M t h) → left_by p M new < left_by p M t
-  left_falls new same less = rw (left_is new same, left_is t refl) less
+  rank_falls : (new : History) → new.opening ≡ t.opening → rank_by_states p (length lists) S.size lists (reported 0 new.entries) (λ h. state_of M new h) < rank_by_states p (length lists) S.size lists rs (λ h. state_of M t h) → rank_of p M new < rank_of p M t
+  rank_falls new same less = rw (rank_is new same, rank_is t refl) less
 
-  pub landing : (u : History) (h : ℕ) → left_by p M (with_entry u (entry.Land h)) ≡ left_by p M u
-  landing u h = left_same p (senders_of u) (ring_size u.opening) (lists_of u.opening) (reported 0 u.entries) (reported 0 (with_entry u (entry.Land h)).entries) (λ k. state_of M u k) (λ k. state_of M (with_entry u (entry.Land h)) k) (reported-last 0 u.entries (entry.Land h) ∙ append-nil (reported 0 u.entries)) (λ k. states_land M u h k)
+  pub landing : (u : History) (h : ℕ) → rank_of p M (with_entry u (entry.Land h)) ≡ rank_of p M u
+  landing u h = rank_same p (senders_of u) (ring_size u.opening) (lists_of u.opening) (reported 0 u.entries) (reported 0 (with_entry u (entry.Land h)).entries) (λ k. state_of M u k) (λ k. state_of M (with_entry u (entry.Land h)) k) (reported-last 0 u.entries (entry.Land h) ∙ append-nil (reported 0 u.entries)) (λ k. states_land M u h k)
 
   abbrev receiver_block : Block
   receiver_block = block_of M S lists ch.receiver.block
@@ -178,19 +178,19 @@ module _ (m : BlockMeaning) (laws : BlockLaws m) (least : ℕ) (some_least : 1 �
     act_found : (a : ℕ) → a % 4 ≡ 0 → read t.opening t.entries (j + 1) a 4 ≡ word_in_memory t.opening t.entries a
     act_found a aligned = read_is t (j + 1) a opens_words ch.written aligned ∙ ap (λ ws. unwrap_or (newest_word a None ws) (word_in_memory t.opening t.entries a)) (quiet_buffer (j + 1) (omega arith))
 
-    sender_falls : (e : Entry) → IsFor (event.Act (j + 1)) e → CanFollow B M t e → left_by p M (with_entry t e) < left_by p M t
+    sender_falls : (e : Entry) → IsFor (event.Act (j + 1)) e → CanFollow B M t e → rank_of p M (with_entry t e) < rank_of p M t
     sender_falls e for_event can =
         let a : Acted M t (with_entry t e) (j + 1) s (value_of e) = acted _ B M t (j + 1) s e kept.legal (ch.parts j within).sender.state can for_event.0 for_event.1 (sender_plain m laws M (block_of M S lists j) j t t (ch.numbers j) (are j within) (ch.parts j within)) in
         let less : p.sender (advanced s (value_of e)) < p.sender s = prog.nearer (block_of M S lists j) (ch.numbers j) s (word_in_memory t.opening t.entries) (value_of e) (are j within) (ch.parts j within).order (ch.parts j within).words (ch.parts j within).sender.holds running (unsent j within) (unread j within) (λ b inside wants. a.loaded b wants ∙ act_found b inside.aligned) (not_true (p.waits s (word_in_memory t.opening t.entries)) is_on.1) in
         let said : reported 0 (with_entry t e).entries ≡ rs = a.others 0 (omega arith) in
-        left_falls (with_entry t e) refl
+        rank_falls (with_entry t e) refl
         (sum_falls p (length lists) S.size lists rs (reported 0 (with_entry t e).entries) (λ h. state_of M t h) (λ h. state_of M (with_entry t e) h) j within
         (λ i below other. share_same p (length lists) S.size lists rs (reported 0 (with_entry t e).entries) (λ h. state_of M t h) (λ h. state_of M (with_entry t e) h) i (ap (λ ys. taken ys i) said) (ap (λ ys. is_closed ys i) said) (a.states (i + 1) (λ same. other (omega arith))))
         (share_acts p (length lists) S.size lists rs (reported 0 (with_entry t e).entries) (λ h. state_of M t h) (λ h. state_of M (with_entry t e) h) j s (advanced s (value_of e)) said (ch.parts j within).sender.state a.state less)
-        (far_small p (length lists) S.size lists near (reported 0 (with_entry t e).entries) (λ h. state_of M (with_entry t e) h) (receives m.middle (whole_of receiver_block (length lists)) ch.receiver.place ch.receiver.noted) (a.states 0 (omega arith) ∙ ch.receiver.state)))
+        (receiver_rank_small p (length lists) S.size lists near (reported 0 (with_entry t e).entries) (λ h. state_of M (with_entry t e) h) (receives m.middle (whole_of receiver_block (length lists)) ch.receiver.place ch.receiver.noted) (a.states 0 (omega arith) ∙ ch.receiver.state)))
 
-    pub sender_nears : Nearer B M (left_by p M) t (j + 1)
-    sender_nears = record {
+    pub sender_decreases : Nearer B M (rank_of p M) t (j + 1)
+    sender_decreases = record {
       hart = omega (arith, harts, within);
       acts = can_act B M t (j + 1) s kept (ch.parts j within).sender.state running some (quiet_buffer (j + 1) (omega arith));
       alone = sender_falls;
@@ -204,23 +204,23 @@ module _ (m : BlockMeaning) (laws : BlockLaws m) (least : ℕ) (some_least : 1 �
   some_is_open : some_open rs 0 (length lists) ≡ true
   some_is_open = some_from rs 0 (length lists) some_one.0 some_one.1 (ap (is_closed rs) (let same : 0 + some_one.0 ≡ some_one.0 = omega arith in same) ∙ some_one.2)
 
-  each_shut : (j : ℕ) → j < length lists → m.shut (ch.numbers j).receiver ≤ 1
+  each_shut : (j : ℕ) → j < length lists → m.closings (ch.numbers j).receiver ≤ 1
   each_shut j less = omega (arith, laws.shut_done (block_of M S lists j) (ch.numbers j) (ch.parts j less).order, laws.dones_one (block_of M S lists j) (ch.numbers j) (ch.parts j less).order)
 
   -- who is reported closed is noted so, and the other way round
-  shut_said : (j : ℕ) → j < length lists → m.shut (ch.numbers j).receiver ≢ 0 → is_closed rs j ≡ true
-  shut_said j less shut =
-      let old = (ch.reports.senders j less).said (omega (arith, shut, each_shut j less)) in
+  shut_said : (j : ℕ) → j < length lists → m.closings (ch.numbers j).receiver ≢ 0 → is_closed rs j ≡ true
+  shut_said j less closings =
+      let old = (ch.reports.senders j less).said (omega (arith, closings, each_shut j less)) in
       closed_from rs old.0 j old.1
 
-  owing : due ch.receiver.place < ch.receiver.noted.x20
+  owing : closings_due ch.receiver.place < ch.receiver.noted.x20
   owing =
-      let none : m.shut (ch.numbers some_one.0).receiver ≡ 0 = at (cases_eq (m.shut (ch.numbers some_one.0).receiver) 0) in
+      let none : m.closings (ch.numbers some_one.0).receiver ≡ 0 = at (cases_eq (m.closings (ch.numbers some_one.0).receiver) 0) in
       omega (arith, ch.receiver.count, shuts_less m ch.numbers (length lists) some_one.0 each_shut some_one.1 none)
     where
-      at : (m.shut (ch.numbers some_one.0).receiver ≡ 0) ⊎ (m.shut (ch.numbers some_one.0).receiver ≢ 0) → m.shut (ch.numbers some_one.0).receiver ≡ 0
+      at : (m.closings (ch.numbers some_one.0).receiver ≡ 0) ⊎ (m.closings (ch.numbers some_one.0).receiver ≢ 0) → m.closings (ch.numbers some_one.0).receiver ≡ 0
       at (inl none) = none
-      at (inr shut) = let bad : is_closed rs some_one.0 ≡ true = shut_said some_one.0 some_one.1 shut in let good : is_closed rs some_one.0 ≡ false = some_one.2 in cc
+      at (inr closings) = let bad : is_closed rs some_one.0 ≡ true = shut_said some_one.0 some_one.1 closings in let good : is_closed rs some_one.0 ≡ false = some_one.2 in cc
 
   took_is : (j : ℕ) (less : j < length lists) → m.took (ch.numbers j).receiver ≡ m.tails (ch.numbers j).receiver → length (taken rs j) ≡ m.took (ch.numbers j).receiver
   took_is j less same =
@@ -234,7 +234,7 @@ module _ (m : BlockMeaning) (laws : BlockLaws m) (least : ℕ) (some_least : 1 �
     abbrev b : ℕ
     b = ch.receiver.block
 
-    abbrev r : Noted
+    abbrev r : ReceiverRegisters
     r = ch.receiver.noted
 
     abbrev st : HartState
@@ -269,14 +269,14 @@ module _ (m : BlockMeaning) (laws : BlockLaws m) (least : ℕ) (some_least : 1 �
     idle_at : Idle m receiver_block b (length lists) ch.receiver.place (ch.numbers b) r rs (λ h. state_of M t h)
     idle_at = record {
       took = λ index same. ap (λ j. length (taken rs j)) index ∙ took_is b ch.receiver.known same;
-      shut = λ index shut. ap (is_closed rs) index ∙ shut_said b ch.receiver.known shut;
+      closings = λ index closings. ap (is_closed rs) index ∙ shut_said b ch.receiver.known closings;
       marked = λ index ended. marked (ap (λ j. runs (state_of M t (j + 1))) (sym index) ∙ not_true (runs (state_of M t (r.x22 + 1))) ended);
       ready = λ index on. ready (ap (λ j. runs (state_of M t (j + 1))) (sym index) ∙ not_false (runs (state_of M t (r.x22 + 1))) on);
       open_yet = some_is_open;
       owing = owing;
     }
 
-    receiver_falls : (e : Entry) → IsFor (event.Act 0) e → CanFollow B M t e → left_by p M (with_entry t e) < left_by p M t
+    receiver_falls : (e : Entry) → IsFor (event.Act 0) e → CanFollow B M t e → rank_of p M (with_entry t e) < rank_of p M t
     unfolding Keeps
     receiver_falls e for_event can = by_says v_says
       where
@@ -292,48 +292,48 @@ module _ (m : BlockMeaning) (laws : BlockLaws m) (least : ℕ) (some_least : 1 �
         after : Channel m M S lists (with_entry t e)
         after = keeps m laws least some_least B M lists S t e accepted opening kept can ch
 
-        silent : said_by (need_of st) ≡ [] → left_by p M (with_entry t e) < left_by p M t
+        silent : said_by (need_of st) ≡ [] → rank_of p M (with_entry t e) < rank_of p M t
         silent none =
             let said : reported 0 (with_entry t e).entries ≡ rs = a.reports ∙ ap (λ ys. rs ++ ys) none ∙ append-nil rs in
-            let less : far_of p (length lists) S.size rs (λ h. state_of M t h) (advanced st (value_of e)) < far_of p (length lists) S.size rs (λ h. state_of M t h) st = subst (λ (z : HartState). far_of p (length lists) S.size rs (λ h. state_of M t h) z < far_of p (length lists) S.size rs (λ h. state_of M t h) st) (sym move.leaves) (move.nearer (sym (ap said_by move.wants) ∙ none) rs (λ h. state_of M t h) idle_at) in
-            left_falls (with_entry t e) refl (far_falls p (length lists) S.size lists rs (reported 0 (with_entry t e).entries) (λ h. state_of M t h) (λ h. state_of M (with_entry t e) h) said (λ i below. a.states (i + 1) (omega arith)) (moved (advanced st (value_of e)) a.state less))
+            let less : receiver_rank p (length lists) S.size rs (λ h. state_of M t h) (advanced st (value_of e)) < receiver_rank p (length lists) S.size rs (λ h. state_of M t h) st = subst (λ (z : HartState). receiver_rank p (length lists) S.size rs (λ h. state_of M t h) z < receiver_rank p (length lists) S.size rs (λ h. state_of M t h) st) (sym move.leaves) (move.nearer (sym (ap said_by move.wants) ∙ none) rs (λ h. state_of M t h) idle_at) in
+            rank_falls (with_entry t e) refl (receiver_rank_falls p (length lists) S.size lists rs (reported 0 (with_entry t e).entries) (λ h. state_of M t h) (λ h. state_of M (with_entry t e) h) said (λ i below. a.states (i + 1) (omega arith)) (moved (advanced st (value_of e)) a.state less))
           where
-            moved : (next : HartState) → state_of M (with_entry t e) 0 ≡ Some next → far_of p (length lists) S.size rs (λ h. state_of M t h) next < far_of p (length lists) S.size rs (λ h. state_of M t h) st → far_if p (length lists) S.size rs (λ h. state_of M (with_entry t e) h) (state_of M (with_entry t e) 0) < far_if p (length lists) S.size rs (λ h. state_of M t h) (state_of M t 0)
-            moved next is less = rw (is, ch.receiver.state) (subst (λ o. p.receiver (around (length lists) S.size rs o (visited_by next)) next < far_of p (length lists) S.size rs (λ h. state_of M t h) st) (sym (a.states (visited_by next + 1) (omega arith))) less)
+            moved : (next : HartState) → state_of M (with_entry t e) 0 ≡ Some next → receiver_rank p (length lists) S.size rs (λ h. state_of M t h) next < receiver_rank p (length lists) S.size rs (λ h. state_of M t h) st → receiver_rank_if p (length lists) S.size rs (λ h. state_of M (with_entry t e) h) (state_of M (with_entry t e) 0) < receiver_rank_if p (length lists) S.size rs (λ h. state_of M t h) (state_of M t 0)
+            moved next is less = rw (is, ch.receiver.state) (subst (λ o. p.receiver (around (length lists) S.size rs o (visited_by next)) next < receiver_rank p (length lists) S.size rs (λ h. state_of M t h) st) (sym (a.states (visited_by next + 1) (omega arith))) less)
 
-        tells : (x : Report) → said_by (need_of st) ≡ x ∷ [] → sender_of x ≡ b → left_by p M (with_entry t e) < left_by p M t
+        tells : (x : Report) → said_by (need_of st) ≡ x ∷ [] → sender_of x ≡ b → rank_of p M (with_entry t e) < rank_of p M t
         tells x one from =
             let said : reported 0 (with_entry t e).entries ≡ rs ++ x ∷ [] = a.reports ∙ ap (λ ys. rs ++ ys) one in
-            left_falls (with_entry t e) refl
-            (subst (λ (ys : List Report). left_in p (length lists) S.size lists ys (λ h. state_of M (with_entry t e) h) < left_in p (length lists) S.size lists rs (λ h. state_of M t h)) (sym said)
+            rank_falls (with_entry t e) refl
+            (subst (λ (ys : List Report). rank_by_states p (length lists) S.size lists ys (λ h. state_of M (with_entry t e) h) < rank_by_states p (length lists) S.size lists rs (λ h. state_of M t h)) (sym said)
             (sum_falls p (length lists) S.size lists rs (rs ++ x ∷ []) (λ h. state_of M t h) (λ h. state_of M (with_entry t e) h) b ch.receiver.known
             (λ i below other. share_same p (length lists) S.size lists rs (rs ++ x ∷ []) (λ h. state_of M t h) (λ h. state_of M (with_entry t e) h) i (taken_other rs i x (λ same. other (sym same ∙ from))) (closed_other rs x i (λ same. other (sym same ∙ from))) (a.states (i + 1) (omega arith)))
             (report_falls p lists rs (λ h. state_of M t h) (λ h. state_of M (with_entry t e) h) b (a.states (b + 1) (omega arith)) x from (subst (λ (ys : List Report). Clean ys lists) said after.reports.clean))
-            (far_small p (length lists) S.size lists near (rs ++ x ∷ []) (λ h. state_of M (with_entry t e) h) (receives m.middle (whole_of (block_of M S lists after.receiver.block) (length lists)) after.receiver.place after.receiver.noted) after.receiver.state)))
+            (receiver_rank_small p (length lists) S.size lists near (rs ++ x ∷ []) (λ h. state_of M (with_entry t e) h) (receives m.middle (whole_of (block_of M S lists after.receiver.block) (length lists)) after.receiver.place after.receiver.noted) after.receiver.state)))
 
         v_says : Says m receiver_block b (ch.numbers b).receiver move.after (said_by (need_of st))
         v_says = subst (λ (w : Need). Says m receiver_block b (ch.numbers b).receiver move.after (said_by w)) (sym move.wants) move.says
 
-        by_says : Says m receiver_block b (ch.numbers b).receiver move.after (said_by (need_of st)) → left_by p M (with_entry t e) < left_by p M t
+        by_says : Says m receiver_block b (ch.numbers b).receiver move.after (said_by (need_of st)) → rank_of p M (with_entry t e) < rank_of p M t
         by_says (inl none) = silent none.0
         by_says (inr (inl word)) = tells (report.Took b (slice_index receiver_block.list (m.took (ch.numbers b).receiver))) word.0 refl
         by_says (inr (inr closing)) = tells (report.Closed b) closing.0 refl
 
-    pub receiver_nears : Nearer B M (left_by p M) t 0
-    receiver_nears = record {
+    pub receiver_decreases : Nearer B M (rank_of p M) t 0
+    receiver_decreases = record {
       hart = omega (arith, harts);
       acts = can_act B M t 0 st kept ch.receiver.state running_st some (quiet_buffer 0 (omega arith));
       alone = receiver_falls;
       landed = λ u. landing u 0;
     }
 
-  pub hart_nears : Nearer B M (left_by p M) t (next_by p M t)
-  hart_nears =
+  pub hart_decreases : Nearer B M (rank_of p M) t (next_by p M t)
+  hart_decreases =
       elim (next_is (is_ready p M t) (senders_of t)) [
-        | inl none ↦ subst (Nearer B M (left_by p M) t) (sym none.0) (receiver_nears (λ i less. none.1 i (omega (arith, senders, less))))
-        | inr ready ↦ subst (Nearer B M (left_by p M) t) (sym ready.2) (sender_nears ready.0 (omega (arith, senders, ready.1)) ready.3)
+        | inl none ↦ subst (Nearer B M (rank_of p M) t) (sym none.0) (receiver_decreases (λ i less. none.1 i (omega (arith, senders, less))))
+        | inr ready ↦ subst (Nearer B M (rank_of p M) t) (sym ready.2) (sender_decreases ready.0 (omega (arith, senders, ready.1)) ready.3)
       ]
 
-pub nears : (m : BlockMeaning) (laws : BlockLaws m) (least : ℕ) (some_least : 1 ≤ least) → BlockProgress m least → Nears (ring_by m laws least some_least) (means_by m) (left_by (pace_of m)) (next_by (pace_of m))
-unfolding Nears
-nears m laws least some_least prog B M t some stands landed open_yet = hart_nears m laws least some_least prog B M stands.opens.layout stands.opens.lists t some stands.opens.accepted stands.opens.opening stands.kept stands.meant landed open_yet
+pub falls : (m : BlockMeaning) (laws : BlockLaws m) (least : ℕ) (some_least : 1 ≤ least) → BlockProgress m least → Decreases (ring_by m laws least some_least) (means_by m) (rank_of (ranking_of m)) (next_by (ranking_of m))
+unfolding Decreases
+falls m laws least some_least prog B M t some stands landed open_yet = hart_decreases m laws least some_least prog B M stands.opens.layout stands.opens.lists t some stands.opens.accepted stands.opens.opening stands.kept stands.meant landed open_yet

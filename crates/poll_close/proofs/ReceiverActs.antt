@@ -26,9 +26,9 @@ use Rattle.poll_close.specs.Reports.{taken, sender_of, IsPrefixOf}
 use Rattle.poll_close.specs.Going.{GoesOn}
 use Rattle.poll_close.specs.Touching.{Touches}
 use Rattle.poll_close.specs.Invariant.Blocks.{block_of, as_write, as_writes, to_block}
-use Rattle.poll_close.specs.Invariant.ReceiverState.{Noted, whole_of, receives, due}
-use Rattle.poll_close.specs.Invariant.BlockMeaning.{BlockMeaning, Count, unread_of, Quiet, ReceiverIs}
-use Rattle.poll_close.specs.Invariant.Channels.{BlockPart, ReceiverPart, ReportsOf, ReportPart, shuts}
+use Rattle.poll_close.specs.Invariant.ReceiverState.{ReceiverRegisters, whole_of, receives, closings_due}
+use Rattle.poll_close.specs.Invariant.BlockMeaning.{BlockMeaning, Count, unread_of, AllReported, ReceiverIs}
+use Rattle.poll_close.specs.Invariant.Channels.{BlockPart, ReceiverPart, ReportsOf, ReportPart, all_closings}
 use Rattle.poll_close.proofs.Acts.{Acted, Plain, acted, going, stored_by, said_by}
 use Rattle.poll_close.proofs.Windows.{get_end}
 use Rattle.poll_close.proofs.Blocks.{IsBlock, Within, IsWordOf, word_end, IsStore, IsStore-whole, newest-as_writes, apart, to_block-stored, to_block-elsewhere, newest-to_block, put, put_same, put_other}
@@ -50,21 +50,21 @@ stored_cases (need.Report r) = inl refl
 stored_cases need.Exit = inl refl
 stored_cases (need.Stop why) = inl refl
 
-pub shuts_put : (m : BlockMeaning) (f : ℕ → Count m) (j : ℕ) (n : Count m) (count : ℕ) → j < count → shuts m (put f j n) count + m.shut (f j).receiver ≡ shuts m f count + m.shut n.receiver
+pub shuts_put : (m : BlockMeaning) (f : ℕ → Count m) (j : ℕ) (n : Count m) (count : ℕ) → j < count → all_closings m (put f j n) count + m.closings (f j).receiver ≡ all_closings m f count + m.closings n.receiver
 shuts_put m f j n zero less = absurd (omega arith)
 shuts_put m f j n (suc i) less =
     elim (cases_eq i j) [
       | inl same ↦
-          let last : m.shut (put f j n i).receiver ≡ m.shut n.receiver = ap (λ z. m.shut (put f j n z).receiver) same ∙ ap (λ (z : Count m). m.shut z.receiver) (put_same f j n) in
-          let was : m.shut (f i).receiver ≡ m.shut (f j).receiver = ap (λ z. m.shut (f z).receiver) same in
-          let rest : shuts m (put f j n) i ≡ shuts m f i = shuts_same m f (put f j n) i (λ h below. ap (λ (z : Count m). m.shut z.receiver) (put_other f j n h (λ is. absurd (omega (arith, is, same, below))))) in
+          let last : m.closings (put f j n i).receiver ≡ m.closings n.receiver = ap (λ z. m.closings (put f j n z).receiver) same ∙ ap (λ (z : Count m). m.closings z.receiver) (put_same f j n) in
+          let was : m.closings (f i).receiver ≡ m.closings (f j).receiver = ap (λ z. m.closings (f z).receiver) same in
+          let rest : all_closings m (put f j n) i ≡ all_closings m f i = shuts_same m f (put f j n) i (λ h below. ap (λ (z : Count m). m.closings z.receiver) (put_other f j n h (λ is. absurd (omega (arith, is, same, below))))) in
           omega (arith, last, was, rest)
       | inr other ↦
-          let last : m.shut (put f j n i).receiver ≡ m.shut (f i).receiver = ap (λ (z : Count m). m.shut z.receiver) (put_other f j n i other) in
+          let last : m.closings (put f j n i).receiver ≡ m.closings (f i).receiver = ap (λ (z : Count m). m.closings z.receiver) (put_other f j n i other) in
           omega (arith, last, shuts_put m f j n i (omega (arith, other, less)))
     ]
 
-pub shuts_most : (m : BlockMeaning) (f : ℕ → Count m) (count : ℕ) → ((j : ℕ) → j < count → m.shut (f j).receiver ≤ 1) → shuts m f count ≤ count
+pub shuts_most : (m : BlockMeaning) (f : ℕ → Count m) (count : ℕ) → ((j : ℕ) → j < count → m.closings (f j).receiver ≤ 1) → all_closings m f count ≤ count
 shuts_most m f zero each = omega arith
 shuts_most m f (suc i) each = omega (arith, each i (omega arith), shuts_most m f i (λ j less. each j (omega arith)))
 
@@ -77,24 +77,24 @@ pub record Received (m : BlockMeaning) (M : ℕ) (S : Layout) (lists : List (Lis
 
 -- what is reported, where the receiver visits a block
 module _ (m : BlockMeaning) (M : ℕ) (S : Layout) (lists : List (List ℕ)) (f : ℕ → Count m) (b : ℕ) (known : b < length lists) (rs : List Report) (told : ReportPart m lists rs f) where
-  told_put : (now : List Report) (n : Count m) → ReportsOf now b (slice_index_or lists b []) (m.took n.receiver) (m.shut n.receiver) → ((j : ℕ) → j < length lists → j ≢ b → ReportsOf now j (slice_index_or lists j []) (m.took (f j).receiver) (m.shut (f j).receiver)) → (j : ℕ) → j < length lists → ReportsOf now j (slice_index_or lists j []) (m.took (put f b n j).receiver) (m.shut (put f b n j).receiver)
+  told_put : (now : List Report) (n : Count m) → ReportsOf now b (slice_index_or lists b []) (m.took n.receiver) (m.closings n.receiver) → ((j : ℕ) → j < length lists → j ≢ b → ReportsOf now j (slice_index_or lists j []) (m.took (f j).receiver) (m.closings (f j).receiver)) → (j : ℕ) → j < length lists → ReportsOf now j (slice_index_or lists j []) (m.took (put f b n j).receiver) (m.closings (put f b n j).receiver)
   told_put now n one others j within =
       elim (cases_eq j b) [
         | inl same ↦
-            let P : ℕ → Count m → Type 0 = λ i c. ReportsOf now i (slice_index_or lists i []) (m.took c.receiver) (m.shut c.receiver) in
+            let P : ℕ → Count m → Type 0 = λ i c. ReportsOf now i (slice_index_or lists i []) (m.took c.receiver) (m.closings c.receiver) in
             subst (λ (c : Count m). P j c) (sym (ap (put f b n) same ∙ put_same f b n)) (subst (λ (i : ℕ). P i n) (sym same) one)
-        | inr other ↦ subst (λ (c : Count m). ReportsOf now j (slice_index_or lists j []) (m.took c.receiver) (m.shut c.receiver)) (sym (put_other f b n j other)) (others j within other)
+        | inr other ↦ subst (λ (c : Count m). ReportsOf now j (slice_index_or lists j []) (m.took c.receiver) (m.closings c.receiver)) (sym (put_other f b n j other)) (others j within other)
       ]
 
   -- one report of the visited sender
-  one_said : (x : Report) (n : Count m) → sender_of x ≡ b → m.shut (f b).receiver ≡ 0 → ReportsOf (rs ++ x ∷ []) b (slice_index_or lists b []) (m.took n.receiver) (m.shut n.receiver) → ((i : ℕ) → x ≡ report.Closed i → taken rs i ≡ slice_index_or lists i []) → ReportPart m lists (rs ++ x ∷ []) (put f b n)
+  one_said : (x : Report) (n : Count m) → sender_of x ≡ b → m.closings (f b).receiver ≡ 0 → ReportsOf (rs ++ x ∷ []) b (slice_index_or lists b []) (m.took n.receiver) (m.closings n.receiver) → ((i : ℕ) → x ≡ report.Closed i → taken rs i ≡ slice_index_or lists i []) → ReportPart m lists (rs ++ x ∷ []) (put f b n)
   one_said x n from open_yet new all = record {
-    senders = told_put (rs ++ x ∷ []) n new (λ j within other. told_other rs j (slice_index_or lists j []) (m.took (f j).receiver) (m.shut (f j).receiver) x (λ same. other (sym same ∙ from)) (told.senders j within));
+    senders = told_put (rs ++ x ∷ []) n new (λ j within other. told_other rs j (slice_index_or lists j []) (m.took (f j).receiver) (m.closings (f j).receiver) x (λ same. other (sym same ∙ from)) (told.senders j within));
     clean = clean_more rs lists x told.clean (subst (λ (j : ℕ). j < length lists) (sym from) known) unclosed prefix all;
   }
     where
       unclosed : (j : ℕ) → slice_get rs j ≡ Some (report.Closed (sender_of x)) → ⊥
-      unclosed j is = let shut : m.shut (f b).receiver ≡ 1 = (told.senders b known).closed j (is ∙ ap (λ z. Some (report.Closed z)) from) in omega (arith, open_yet)
+      unclosed j is = let closings : m.closings (f b).receiver ≡ 1 = (told.senders b known).closed j (is ∙ ap (λ z. Some (report.Closed z)) from) in omega (arith, open_yet)
 
       prefix : (i : ℕ) → IsPrefixOf (taken (rs ++ x ∷ []) i) (slice_index_or lists i [])
       prefix i =
@@ -110,18 +110,18 @@ module _ (m : BlockMeaning) (M : ℕ) (S : Layout) (lists : List (List ℕ)) (f 
   })
   said_reports said n (inr (inl word)) = subst (λ (ys : List Report). ReportPart m lists (rs ++ ys) (put f b n)) (sym word.0)
       (one_said (report.Took b (slice_index (slice_index_or lists b []) (m.took (f b).receiver))) n refl word.4
-      (rw (word.1, word.2) (told_took rs b (slice_index_or lists b []) (m.took (f b).receiver) (m.shut (f b).receiver) word.3 (told.senders b known)))
+      (rw (word.1, word.2) (told_took rs b (slice_index_or lists b []) (m.took (f b).receiver) (m.closings (f b).receiver) word.3 (told.senders b known)))
       (λ i is. cc))
   said_reports said n (inr (inr closing)) = subst (λ (ys : List Report). ReportPart m lists (rs ++ ys) (put f b n)) (sym closing.0)
       (one_said (report.Closed b) n refl closing.4
-      (rw (closing.1, closing.2) (told_closed rs b (slice_index_or lists b []) (m.took (f b).receiver) (m.shut (f b).receiver) (told.senders b known)))
+      (rw (closing.1, closing.2) (told_closed rs b (slice_index_or lists b []) (m.took (f b).receiver) (m.closings (f b).receiver) (told.senders b known)))
       (λ i is. subst (λ (j : ℕ). taken rs j ≡ slice_index_or lists j []) (ap sender_of is) ((told.senders b known).words ∙ ap (λ c. take c (slice_index_or lists b [])) closing.3 ∙ take-length (slice_index_or lists b []))))
 
 module _ (m : BlockMeaning) (laws : BlockLaws m) (B M : ℕ) (S : Layout) (lists : List (List ℕ)) (are : (i : ℕ) → i < length lists → IsBlock (block_of M S lists i)) (few : length lists ≤ 63) (t : History) (f : ℕ → Count m) (legal : Legal B t) (opens : OpensWithWords t.opening) (written : AllWriteWords t.entries) (parts : (i : ℕ) → i < length lists → BlockPart m (block_of M S lists i) M i t (f i)) (part : ReceiverPart m M S lists t f) (told : ReportPart m lists (reported 0 t.entries) f) where
-  pub each_shut : (j : ℕ) → j < length lists → m.shut (f j).receiver ≤ 1
+  pub each_shut : (j : ℕ) → j < length lists → m.closings (f j).receiver ≤ 1
   each_shut j within = omega (arith, laws.shut_done (block_of M S lists j) (f j) (parts j within).order, laws.dones_one (block_of M S lists j) (f j) (parts j within).order)
 
-  due_one : (here : ℕ) → due here ≤ 1
+  due_one : (here : ℕ) → closings_due here ≤ 1
   due_one here = at (here == 0x60)
     where
       at : (b : Bool) → (if b then 1 else 0) ≤ 1
@@ -131,7 +131,7 @@ module _ (m : BlockMeaning) (laws : BlockLaws m) (B M : ℕ) (S : Layout) (lists
   pub small : part.noted.x20 ≤ 64
   small = omega (arith, few, due_one part.place, part.count)
 
-  count_after : (n : Count m) (noted : Noted) (there : ℕ) → noted.x20 + m.shut n.receiver + due part.place ≡ part.noted.x20 + m.shut (f part.block).receiver + due there → noted.x20 + shuts m (put f part.block n) (length lists) ≡ length lists + due there
+  count_after : (n : Count m) (noted : ReceiverRegisters) (there : ℕ) → noted.x20 + m.closings n.receiver + closings_due part.place ≡ part.noted.x20 + m.closings (f part.block).receiver + closings_due there → noted.x20 + all_closings m (put f part.block n) (length lists) ≡ length lists + closings_due there
   count_after n noted there counts = omega (arith, part.count, shuts_put m f part.block n (length lists) part.known)
 
   pub moves_by : (v : ℕ) → (receives m.middle (whole_of (block_of M S lists part.block) (length lists)) part.place part.noted).status ≡ status.Running → Finds m (block_of M S lists part.block) (length lists) part.place (f part.block) (word_in_memory t.opening t.entries) part.noted v → Receives m (block_of M S lists part.block) part.block (length lists) part.place (f part.block) part.noted v
@@ -156,11 +156,11 @@ module _ (m : BlockMeaning) (laws : BlockLaws m) (B M : ℕ) (S : Layout) (lists
       (λ a word. record { block = part.block; known = part.known; own = inl refl; from = word.within.from; below = word_end (block_of M S lists part.block) (are part.block part.known) a word })
 
   -- all are quiet once the visited block is
-  all_quiet : (n : Count m) → Quiet m n.receiver → (j : ℕ) → j < length lists → Quiet m (put f part.block n j).receiver
+  all_quiet : (n : Count m) → AllReported m n.receiver → (j : ℕ) → j < length lists → AllReported m (put f part.block n j).receiver
   all_quiet n quiet j within =
       elim (cases_eq j part.block) [
-        | inl same ↦ subst (λ (z : Count m). Quiet m z.receiver) (sym (ap (put f part.block n) same ∙ put_same f part.block n)) quiet
-        | inr other ↦ subst (λ (z : Count m). Quiet m z.receiver) (sym (put_other f part.block n j other)) (part.others j within other)
+        | inl same ↦ subst (λ (z : Count m). AllReported m z.receiver) (sym (ap (put f part.block n) same ∙ put_same f part.block n)) quiet
+        | inr other ↦ subst (λ (z : Count m). AllReported m z.receiver) (sym (put_other f part.block n j other)) (part.others j within other)
       ]
 
   -- what the act found in the visited block
@@ -207,7 +207,7 @@ module _ (m : BlockMeaning) (laws : BlockLaws m) (B M : ℕ) (S : Layout) (lists
       known = part.known;
       state = a.state ∙ ap Some r.leaves;
       holds = subst (λ (z : Count m). ReceiverIs m (block_of M S lists part.block) part.block r.there z.receiver r.noted) (sym (put_same f part.block n)) stays;
-      others = λ j within other. subst (λ (z : Count m). Quiet m z.receiver) (sym (put_other f part.block n j other)) (part.others j within other);
+      others = λ j within other. subst (λ (z : Count m). AllReported m z.receiver) (sym (put_other f part.block n j other)) (part.others j within other);
       count = count_after n r.noted r.there r.counts;
     }
     came (inr comes) = record {

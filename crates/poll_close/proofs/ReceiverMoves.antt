@@ -16,7 +16,7 @@ use Rattle.hart.specs.declared.need.Need.{Need}
 use Rattle.hart.specs.declared.need.Need.TheVariants as need
 use Rattle.hart.proofs.Instructions.{IsAt, took_need, took_after, closed_need, closed_after, exit_need, exit_after}
 use Rattle.poll_close.specs.Invariant.Blocks.{Block, offset}
-use Rattle.poll_close.specs.Invariant.ReceiverState.{Middle, Noted, whole_of, receiver_of, receiving, receives, due}
+use Rattle.poll_close.specs.Invariant.ReceiverState.{Middle, ReceiverRegisters, whole_of, receiver_of, receiving, receives, closings_due}
 use Rattle.poll_close.specs.Invariant.BlockMeaning.{BlockMeaning, Count, unread_of, ReceiverIs, Flag, rows_of}
 use Rattle.poll_close.proofs.Acts.{stored_by, said_by, IsNoAmo}
 use Rattle.poll_close.proofs.Lines.{Line, loads, at_line, stores, word_plus, word_minus, add_line, sum_line, load_line, store_line, jump_line, same_jumps, other_goes_on, other_jumps, same_goes_on}
@@ -26,7 +26,7 @@ use Rattle.std.proofs.lemmas.Bool.Decides.{nat_tests}
 use Rattle.std.proofs.lemmas.Nat.{row_fits}
 use Rattle.hart.specs.declared.status.Status.TheVariants as status
 use Rattle.hart.specs.declared.need.Report.TheVariants as report
-use Rattle.poll_close.specs.Paces.{rest_from, runs}
+use Rattle.poll_close.specs.Rankings.{rest_from, runs}
 use Rattle.poll_close.specs.Plans.{is_closed}
 use Rattle.poll_close.proofs.Modulo.{offset_step, offset_wrap}
 use Rattle.poll_close.proofs.Blocks.{IsBlock, IsWordOf, offset_low, word_of, word_from}
@@ -74,12 +74,12 @@ decoded : (m : Middle) → map meaning (receiver_of m) ≡ lines_of m
 unfolding meaning
 decoded m = refl
 
-module _ (m : BlockMeaning) (k : Block) (i count : ℕ) (n : Count m) (order : m.Ordered k n) (r : Noted) (v : ℕ) where
-  abbrev pub now : ℕ → Noted → HartState
+module _ (m : BlockMeaning) (k : Block) (i count : ℕ) (n : Count m) (order : m.Ordered k n) (r : ReceiverRegisters) (v : ℕ) where
+  abbrev pub now : ℕ → ReceiverRegisters → HartState
   now here noted = receives m.middle (whole_of k count) here noted
 
-  abbrev pub Counts : ℕ → ℕ → Noted → m.Receiver → Type 0
-  Counts here there noted after = noted.x20 + m.shut after + due here ≡ r.x20 + m.shut n.receiver + due there
+  abbrev pub Counts : ℕ → ℕ → ReceiverRegisters → m.Receiver → Type 0
+  Counts here there noted after = noted.x20 + m.closings after + closings_due here ≡ r.x20 + m.closings n.receiver + closings_due there
 
   -- where the line is that instruction
   pub at : (j : ℕ) {instr : Instr} → slice_get (lines_of m.middle) j ≡ Some (Some instr) → IsAt (receiving m.middle (whole_of k count) (4 * j) r) instr
@@ -89,15 +89,15 @@ module _ (m : BlockMeaning) (k : Block) (i count : ℕ) (n : Count m) (order : m
   unchanged = record { order = order; unread = append-nil (unread_of m k n) }
 
   -- an act by a line
-  pub acts : (here there : ℕ) (wanted : Need) (noted : ℕ → Noted) (after : m.Receiver) → IsNoAmo (IsWordOf k) wanted → Line (now here r) wanted (λ w. now there (noted w)) → Changes m k n after (stored_by wanted) → ReceiverIs m k i there after (noted v) ⊎ Comes m k count there after (noted v) → Says m k i n.receiver after (said_by wanted) → Counts here there (noted v) after → (said_by wanted ≡ [] → Nearer m k i count here there n r (noted v)) → Receives m k i count here n r v
+  pub acts : (here there : ℕ) (wanted : Need) (noted : ℕ → ReceiverRegisters) (after : m.Receiver) → IsNoAmo (IsWordOf k) wanted → Line (now here r) wanted (λ w. now there (noted w)) → Changes m k n after (stored_by wanted) → ReceiverIs m k i there after (noted v) ⊎ Comes m k count there after (noted v) → Says m k i n.receiver after (said_by wanted) → Counts here there (noted v) after → (said_by wanted ≡ [] → Nearer m k i count here there n r (noted v)) → Receives m k i count here n r v
   acts here there wanted noted after plain line changes holds says counts nearer = record { wanted = wanted; there = there; noted = noted v; after = after; plain = plain; wants = line.wants; leaves = line.leaves v; changes = changes; holds = holds; says = says; counts = counts; nearer = nearer }
 
   -- one inside itself
-  pub still : (here there : ℕ) (noted : Noted) → Counts here there noted n.receiver → Line (now here r) need.Inner (λ w. now there noted) → ReceiverIs m k i there n.receiver noted → Nearer m k i count here there n r noted → Receives m k i count here n r v
+  pub still : (here there : ℕ) (noted : ReceiverRegisters) → Counts here there noted n.receiver → Line (now here r) need.Inner (λ w. now there noted) → ReceiverIs m k i there n.receiver noted → Nearer m k i count here there n r noted → Receives m k i count here n r v
   still here there noted counts line holds nearer = acts here there need.Inner (λ w. noted) n.receiver tt line unchanged (inl holds) (inl (refl, refl, refl)) counts (λ none. nearer)
 
   -- a load
-  pub reads : (here there a : ℕ) (noted : ℕ → Noted) → Counts here there (noted v) n.receiver → IsWordOf k a → Line (now here r) (loads a) (λ w. now there (noted w)) → ReceiverIs m k i there n.receiver (noted v) → Nearer m k i count here there n r (noted v) → Receives m k i count here n r v
+  pub reads : (here there a : ℕ) (noted : ℕ → ReceiverRegisters) → Counts here there (noted v) n.receiver → IsWordOf k a → Line (now here r) (loads a) (λ w. now there (noted w)) → ReceiverIs m k i there n.receiver (noted v) → Nearer m k i count here there n r (noted v) → Receives m k i count here n r v
   reads here there a noted counts word line holds nearer = acts here there (loads a) noted n.receiver (tt, word) line unchanged (inl holds) (inl (refl, refl, refl)) counts (λ none. nearer)
 
   module _ (laws : BlockLaws m) (is : IsBlock k) (base : k.base ≡ k.first + i * k.stride) (known : i < count) (few : count ≤ 63) (word_at : ℕ → ℕ) (words : m.Words k n.landed word_at) where
@@ -131,7 +131,7 @@ module _ (m : BlockMeaning) (k : Block) (i count : ℕ) (n : Count m) (order : m
           | inl none ↦ still 0x0C 0x10 r refl (same_goes_on (at 3 refl) none) (record { visits = h.1; quiet = h.0; open_yet = sym h.2 ∙ none })
               (λ rs states idle. flags 0 16 20 21 false (is_closed rs r.x22) (omega arith) (far_off rs count (r.x22 + 1)) (λ on. cc))
           | inr some ↦ still 0x0C 0x68 r refl (other_jumps (at 3 refl) some refl) (h.0, h.1)
-              (λ rs states idle. flags 10 16 20 21 true (is_closed rs r.x22) (omega arith) (far_off rs count (r.x22 + 1)) (λ on. idle.shut h.1.index (λ zero_is. some (h.2 ∙ sym h.0.closed ∙ zero_is))))
+              (λ rs states idle. flags 10 16 20 21 true (is_closed rs r.x22) (omega arith) (far_off rs count (r.x22 + 1)) (λ on. idle.closings h.1.index (λ zero_is. some (h.2 ∙ sym h.0.closed ∙ zero_is))))
         ]
 
     -- it notes the mark that it reads
@@ -139,10 +139,10 @@ module _ (m : BlockMeaning) (k : Block) (i count : ℕ) (n : Count m) (order : m
     right_10 h z =
         let line = load_line (at 4 refl) (omega (arith, is.even, h.visits.base)) refl (omega (arith, is.inside, is.some_slot, h.visits.base)) is.small in
         let read : v ≡ m.marks n.landed = z.find (k.base + 4) (word_of k is 4 (omega arith) refl) (line.wants ∙ ap (λ b. loads (b + 4)) h.visits.base) ∙ laws.sees_mark k n word_at order words in
-        let made = laws.reports k n (m.took o) (m.shut o) order h.quiet.level (laws.shut_done k n order) in
+        let made = laws.reports k n (m.took o) (m.closings o) order h.quiet.level (laws.shut_done k n order) in
         acts 0x10 0x14 (loads (r.x8 + 4)) (λ w. record r { x30 = w }) made.after (tt, word_from k is r.x8 4 h.visits.base (omega arith) refl) line made.changes
-        (inl (record { visits = h.visits; quiet = record { words = made.took ∙ h.quiet.words ∙ sym made.tails; closed = made.shut ∙ h.quiet.closed ∙ sym made.dones; level = made.level }; open_yet = made.dones ∙ h.open_yet }, flag read made.after made.mark (cases_eq (m.marks n.landed) 0)))
-        (inl (refl, made.took, made.shut)) (ap (λ j. r.x20 + j + 0) made.shut)
+        (inl (record { visits = h.visits; quiet = record { words = made.took ∙ h.quiet.words ∙ sym made.tails; closed = made.closings ∙ h.quiet.closed ∙ sym made.dones; level = made.level }; open_yet = made.dones ∙ h.open_yet }, flag read made.after made.mark (cases_eq (m.marks n.landed) 0)))
+        (inl (refl, made.took, made.closings)) (ap (λ j. r.x20 + j + 0) made.closings)
         (λ none rs states idle. (let fresh = not_stale v (not (runs (states (r.x22 + 1)))) (λ ended. read ∙ idle.marked h.visits.index ended) in
         flags 16 17 19 20 ((v == 0) && not (runs (states (r.x22 + 1)))) false (omega arith) (far_off rs count (r.x22 + 1)) (λ on. sym fresh ∙ on)))
       where
@@ -176,11 +176,11 @@ module _ (m : BlockMeaning) (k : Block) (i count : ℕ) (n : Count m) (order : m
           visits = h.0.visits;
           level = made.level;
           ahead = made.tails ∙ ap (λ j. j + 1) (sym h.0.ahead) ∙ ap (λ j. j + 1) (sym made.took);
-          closed = made.shut ∙ h.0.closed ∙ sym made.dones;
+          closed = made.closings ∙ h.0.closed ∙ sym made.dones;
           open_yet = made.dones ∙ h.0.open_yet;
           word = h.0.word ∙ ap (slice_index k.list) (sym h.0.ahead ∙ sym made.took);
         }))
-        (inl (refl, made.took, made.shut)) (ap (λ j. r.x20 + j + 0) made.shut) (λ none rs states idle. omega arith)
+        (inl (refl, made.took, made.closings)) (ap (λ j. r.x20 + j + 0) made.closings) (λ none rs states idle. omega arith)
 
     right_38 : Right_here 0x38  -- addi x10,x22,0
     right_38 h z = still 0x38 0x3C (record r { x10 = r.x22 }) refl (add_line (at 14 refl) (word_plus r.x22 0 (omega (arith, h.visits.index, known, few)) ∙ add-zero r.x22)) (h, h.visits.index) (λ rs states idle. omega arith)
@@ -190,11 +190,11 @@ module _ (m : BlockMeaning) (k : Block) (i count : ℕ) (n : Count m) (order : m
 
     right_40 : Right_here 0x40  -- ecall
     right_40 h z =
-        let made = laws.reports k n (m.took o + 1) (m.shut o) order h.0.level (laws.shut_done k n order) in
+        let made = laws.reports k n (m.took o + 1) (m.closings o) order h.0.level (laws.shut_done k n order) in
         acts 0x40 0x44 (need.Report (report.Took r.x10 r.x11)) (λ w. r) made.after tt (record { wants = took_need (at 16 refl) h.2; leaves = λ w. took_after (at 16 refl) h.2 w }) made.changes
-        (inl (record { words = made.took ∙ sym h.0.ahead ∙ sym made.tails; closed = made.shut ∙ h.0.closed ∙ sym made.dones; level = made.level }, h.0.visits))
-        (inr (inl (rw (h.1, h.0.word) refl, made.took, made.shut, omega (arith, h.0.ahead, laws.tails_all k n order), h.0.closed ∙ h.0.open_yet)))
-        (ap (λ j. r.x20 + j + 0) made.shut) (λ none rs states idle. cc)
+        (inl (record { words = made.took ∙ sym h.0.ahead ∙ sym made.tails; closed = made.closings ∙ h.0.closed ∙ sym made.dones; level = made.level }, h.0.visits))
+        (inr (inl (rw (h.1, h.0.word) refl, made.took, made.closings, omega (arith, h.0.ahead, laws.tails_all k n order), h.0.closed ∙ h.0.open_yet)))
+        (ap (λ j. r.x20 + j + 0) made.closings) (λ none rs states idle. cc)
 
     right_44 : Right_here 0x44  -- jal x0,step
     right_44 h z = still 0x44 0x68 r refl (jump_line (at 17 refl) refl) h (λ rs states idle. omega arith)
@@ -221,8 +221,8 @@ module _ (m : BlockMeaning) (k : Block) (i count : ℕ) (n : Count m) (order : m
         let made = laws.stores_done k n order h.0.quiet.level h.1 h.0.open_yet in
         acts 0x50 0x54 (stores (r.x8 + 12) r.x5) (λ w. r) made.after (tt, word_from k is r.x8 12 h.0.visits.base (omega arith) refl) line
         (subst (λ (x : ℕ × ℕ). Changes m k n made.after (x ∷ [])) (ap (λ b. (b + 12, 1)) (sym h.0.visits.base) ∙ ap (λ j. (r.x8 + 12, j)) (sym h.2)) made.changes)
-        (inl (record { visits = h.0.visits; level = made.level; words = made.took ∙ h.0.quiet.words ∙ sym made.tails; all = made.tails ∙ h.1; done = made.dones; unsaid = made.shut ∙ h.0.quiet.closed ∙ h.0.open_yet }))
-        (inl (refl, made.took, made.shut)) (ap (λ j. r.x20 + j + 0) made.shut) (λ none rs states idle. omega arith)
+        (inl (record { visits = h.0.visits; level = made.level; words = made.took ∙ h.0.quiet.words ∙ sym made.tails; all = made.tails ∙ h.1; done = made.dones; unsaid = made.closings ∙ h.0.quiet.closed ∙ h.0.open_yet }))
+        (inl (refl, made.took, made.closings)) (ap (λ j. r.x20 + j + 0) made.closings) (λ none rs states idle. omega arith)
 
     right_54 : Right_here 0x54  -- addi x10,x22,0
     right_54 h z = still 0x54 0x58 (record r { x10 = r.x22 }) refl (add_line (at 21 refl) (word_plus r.x22 0 (omega (arith, h.visits.index, known, few)) ∙ add-zero r.x22)) (h, h.visits.index) (λ rs states idle. omega arith)
@@ -234,9 +234,9 @@ module _ (m : BlockMeaning) (k : Block) (i count : ℕ) (n : Count m) (order : m
     right_5C h z =
         let made = laws.reports k n (m.took o) 1 order h.0.level (omega (arith, h.0.done)) in
         acts 0x5C 0x60 (need.Report (report.Closed r.x10)) (λ w. r) made.after tt (record { wants = closed_need (at 23 refl) h.2; leaves = λ w. closed_after (at 23 refl) h.2 w }) made.changes
-        (inl (record { words = made.took ∙ h.0.words ∙ sym made.tails; closed = made.shut ∙ sym h.0.done ∙ sym made.dones; level = made.level }, h.0.visits))
-        (inr (inr (rw h.1 refl, made.took, made.shut, h.0.words ∙ h.0.all, h.0.unsaid)))
-        (omega (arith, h.0.unsaid, made.shut)) (λ none rs states idle. cc)
+        (inl (record { words = made.took ∙ h.0.words ∙ sym made.tails; closed = made.closings ∙ sym h.0.done ∙ sym made.dones; level = made.level }, h.0.visits))
+        (inr (inr (rw h.1 refl, made.took, made.closings, h.0.words ∙ h.0.all, h.0.unsaid)))
+        (omega (arith, h.0.unsaid, made.closings)) (λ none rs states idle. cc)
 
     right_60 : Right_here 0x60  -- addi x20,x20,-1
     right_60 h z =
@@ -307,5 +307,5 @@ module _ (m : BlockMeaning) (k : Block) (i count : ℕ) (n : Count m) (order : m
         let last = also right_68 (also right_6C (also right_70 (also right_74 (also right_78 (also right_7C (also right_80 (laws.moves k i count n word_at r v is order words))))))) in
         let close = also right_48 (also right_4C (also right_50 (also right_54 (also right_58 (also right_5C (also right_60 (also right_64 last))))))) in
         let take = also right_28 (also right_2C (also right_30 (also right_34 (also right_38 (also right_3C (also right_40 (also right_44 close))))))) in
-        found (λ (H : Block → ℕ → m.Receiver → Noted → Type 0). H k i o r) (λ at. Runs m k count at n word_at r v → Receives m k i count at n r v) (rows_of m)
+        found (λ (H : Block → ℕ → m.Receiver → ReceiverRegisters → Type 0). H k i o r) (λ at. Runs m k count at n word_at r v → Receives m k i count at n r v) (rows_of m)
         (also right_00 (also right_04 (also right_08 (also right_0C (also right_10 (also (laws.moves_14 k i count n word_at r v is order words) take)))))) here h

@@ -8,12 +8,12 @@ use Rattle.hart.specs.State.{HartState}
 use Rattle.hart.specs.declared.status.Status.TheVariants as status
 use Rattle.hart.specs.declared.need.Need.TheVariants as need
 use Rattle.hart.proofs.Instructions.{IsAt, next_need, next_after}
-use Rattle.poll_close.specs.Invariant.SenderState.{Written, Fixed, file, running}
+use Rattle.poll_close.specs.Invariant.SenderState.{SenderRegisters, SenderConstants, file, running}
 use Rattle.poll_close.proofs.Lines.{Line}
 
-module _ (code : List ℕ) (long : 2 < length code) (f : Fixed) (r : Written) where
+module _ (code : List ℕ) (long : 2 < length code) (f : SenderConstants) (r : SenderRegisters) where
   -- a pc inside the code leaves it running
-  abbrev settles : ℕ → Written → List ℕ → Bool → HartState
+  abbrev settles : ℕ → SenderRegisters → List ℕ → Bool → HartState
   settles pc q inbox over = record { code = code; words = f.words; registers = file f q; pc = pc; inbox = inbox; status = if over then status.Ended else status.Running }
 
   inside_8 : (8 == 4 * length code) ≡ false

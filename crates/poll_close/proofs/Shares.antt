@@ -10,10 +10,10 @@ use Rattle.hart.specs.State.{HartState}
 use Rattle.hart.specs.declared.need.Report.{Report}
 use Rattle.hart.specs.declared.need.Report.TheVariants as report
 use Rattle.poll_close.specs.Reports.{taken, sender_of, Clean}
-use Rattle.poll_close.specs.Paces.{Pace, some_open, rest_from, visited_by, far_of, far_if, sender_if, one_if, share, total, round, left_in, Around, around}
+use Rattle.poll_close.specs.Rankings.{Ranking, some_open, rest_from, visited_by, receiver_rank, receiver_rank_if, sender_if, one_if, share, total, round, rank_by_states, Around, around}
 use Rattle.poll_close.specs.Plans.{is_closed, all_closed}
 use Rattle.poll_close.specs.Invariant.BlockMeaning.{BlockMeaning, Count}
-use Rattle.poll_close.specs.Invariant.Channels.{shuts}
+use Rattle.poll_close.specs.Invariant.Channels.{all_closings}
 use Rattle.poll_close.proofs.Windows.{get_end}
 use Rattle.poll_close.proofs.CleanReports.{taken-took, taken-closed, get_front}
 use Rattle.poll_close.proofs.ReceiverActs.{shuts_most}
@@ -36,7 +36,7 @@ total_less f g (suc i) j less same fall =
     ]
 
 -- what is left, by what an act changes of it
-module _ (p : Pace) (n size : ℕ) (lists : List (List ℕ)) where
+module _ (p : Ranking) (n size : ℕ) (lists : List (List ℕ)) where
   pub share_same : (rs new : List Report) (states after : ℕ → Option HartState) (i : ℕ) → taken new i ≡ taken rs i → is_closed new i ≡ is_closed rs i → after (i + 1) ≡ states (i + 1) → share p lists new after i ≡ share p lists rs states i
   share_same rs new states after i words closed state = rw (words, closed, state) refl
 
@@ -44,39 +44,39 @@ module _ (p : Pace) (n size : ℕ) (lists : List (List ℕ)) where
   pub share_acts : (rs new : List Report) (states after : ℕ → Option HartState) (i : ℕ) (s next : HartState) → new ≡ rs → states (i + 1) ≡ Some s → after (i + 1) ≡ Some next → p.sender next < p.sender s → share p lists new after i < share p lists rs states i
   share_acts rs new states after i s next said state new_state less = rw (said, state, new_state) (omega arith)
 
-  pub sum_falls : (rs new : List Report) (states after : ℕ → Option HartState) (j : ℕ) → j < n → ((i : ℕ) → i < n → i ≢ j → share p lists new after i ≡ share p lists rs states i) → share p lists new after j < share p lists rs states j → far_if p n size new after (after 0) < round n → left_in p n size lists new after < left_in p n size lists rs states
+  pub sum_falls : (rs new : List Report) (states after : ℕ → Option HartState) (j : ℕ) → j < n → ((i : ℕ) → i < n → i ≢ j → share p lists new after i ≡ share p lists rs states i) → share p lists new after j < share p lists rs states j → receiver_rank_if p n size new after (after 0) < round n → rank_by_states p n size lists new after < rank_by_states p n size lists rs states
   sum_falls rs new states after j within same fall near =
       let a : ℕ = total (share p lists new after) n in
       let b : ℕ = total (share p lists rs states) n in
       let less : total (share p lists new after) n < total (share p lists rs states) n = total_less (share p lists rs states) (share p lists new after) n j within same fall in
-      added (total (share p lists new after) n) (total (share p lists rs states) n) (far_if p n size new after (after 0)) (far_if p n size rs states (states 0)) less near
+      added (total (share p lists new after) n) (total (share p lists rs states) n) (receiver_rank_if p n size new after (after 0)) (receiver_rank_if p n size rs states (states 0)) less near
     where
       added : (a b c d : ℕ) → a < b → c < round n → a * round n + c < b * round n + d
       added a b c d less near = let fits : a * round n + round n ≤ b * round n = row_fits a (round n) b (round n) less (omega arith) in omega (arith, fits, near)
 
-  pub far_falls : (rs new : List Report) (states after : ℕ → Option HartState) → new ≡ rs → ((i : ℕ) → i < n → after (i + 1) ≡ states (i + 1)) → far_if p n size rs after (after 0) < far_if p n size rs states (states 0) → left_in p n size lists new after < left_in p n size lists rs states
-  far_falls rs new states after said state fall =
-      rw said (added (total (share p lists rs after) n) (total (share p lists rs states) n) (far_if p n size rs after (after 0)) (far_if p n size rs states (states 0)) (total_same (share p lists rs states) (share p lists rs after) n (λ i less. share_same rs rs states after i refl refl (state i less))) fall)
+  pub receiver_rank_falls : (rs new : List Report) (states after : ℕ → Option HartState) → new ≡ rs → ((i : ℕ) → i < n → after (i + 1) ≡ states (i + 1)) → receiver_rank_if p n size rs after (after 0) < receiver_rank_if p n size rs states (states 0) → rank_by_states p n size lists new after < rank_by_states p n size lists rs states
+  receiver_rank_falls rs new states after said state fall =
+      rw said (added (total (share p lists rs after) n) (total (share p lists rs states) n) (receiver_rank_if p n size rs after (after 0)) (receiver_rank_if p n size rs states (states 0)) (total_same (share p lists rs states) (share p lists rs after) n (λ i less. share_same rs rs states after i refl refl (state i less))) fall)
     where
       added : (a b c d : ℕ) → a ≡ b → c < d → a * round n + c < b * round n + d
       added a b c d same less = rw same (omega arith)
 
-  far_same : (rs : List Report) (states after : ℕ → Option HartState) (o : Option HartState) → ((h : ℕ) → after h ≡ states h) → far_if p n size rs after o ≡ far_if p n size rs states o
-  far_same rs states after None same = refl
-  far_same rs states after (Some s) same = ap (λ o. p.receiver (around n size rs o (visited_by s)) s) (same (visited_by s + 1))
+  receiver_rank_same : (rs : List Report) (states after : ℕ → Option HartState) (o : Option HartState) → ((h : ℕ) → after h ≡ states h) → receiver_rank_if p n size rs after o ≡ receiver_rank_if p n size rs states o
+  receiver_rank_same rs states after None same = refl
+  receiver_rank_same rs states after (Some s) same = ap (λ o. p.receiver (around n size rs o (visited_by s)) s) (same (visited_by s + 1))
 
-  pub left_same : (rs new : List Report) (states after : ℕ → Option HartState) → new ≡ rs → ((h : ℕ) → after h ≡ states h) → left_in p n size lists new after ≡ left_in p n size lists rs states
-  left_same rs new states after said same =
-      rw said (both (total (share p lists rs after) n) (total (share p lists rs states) n) (far_if p n size rs after (after 0)) (far_if p n size rs states (states 0)) (total_same (share p lists rs states) (share p lists rs after) n (λ i less. share_same rs rs states after i refl refl (same (i + 1)))) (far_same rs states after (after 0) same ∙ ap (far_if p n size rs states) (same 0)))
+  pub rank_same : (rs new : List Report) (states after : ℕ → Option HartState) → new ≡ rs → ((h : ℕ) → after h ≡ states h) → rank_by_states p n size lists new after ≡ rank_by_states p n size lists rs states
+  rank_same rs new states after said same =
+      rw said (both (total (share p lists rs after) n) (total (share p lists rs states) n) (receiver_rank_if p n size rs after (after 0)) (receiver_rank_if p n size rs states (states 0)) (total_same (share p lists rs states) (share p lists rs after) n (λ i less. share_same rs rs states after i refl refl (same (i + 1)))) (receiver_rank_same rs states after (after 0) same ∙ ap (receiver_rank_if p n size rs states) (same 0)))
     where
       both : (a b c d : ℕ) → a ≡ b → c ≡ d → a * round n + c ≡ b * round n + d
       both a b c d one two = rw (one, two) refl
 
   -- it is never further away than a round
-  pub far_small : ((a : Around) (s : HartState) → p.receiver a s ≤ 22 + a.rest + a.start) → (rs : List Report) (states : ℕ → Option HartState) (s : HartState) → states 0 ≡ Some s → far_if p n size rs states (states 0) < round n
-  far_small most rs states s is =
+  pub receiver_rank_small : ((a : Around) (s : HartState) → p.receiver a s ≤ 22 + a.rest + a.start) → (rs : List Report) (states : ℕ → Option HartState) (s : HartState) → states 0 ≡ Some s → receiver_rank_if p n size rs states (states 0) < round n
+  receiver_rank_small most rs states s is =
       let b : ℕ = visited_by s in
-      rw is (bound (far_of p n size rs states s) (rest_from rs n (b + 1)) (rest_from rs n 0) (most (around n size rs (states (b + 1)) b) s) (not_far rs n (b + 1)) (not_far rs n 0))
+      rw is (bound (receiver_rank p n size rs states s) (rest_from rs n (b + 1)) (rest_from rs n 0) (most (around n size rs (states (b + 1)) b) s) (not_far rs n (b + 1)) (not_far rs n 0))
     where
       bound : (d rest start : ℕ) → d ≤ 22 + rest + start → rest ≤ 40 * n + 40 * (n + 2) → start ≤ 40 * n + 40 * (n + 2) → d < round n
       bound d rest start most one two = omega arith
@@ -114,7 +114,7 @@ closed_other rs (report.Took j w) i other = closed_more rs (report.Took j w) i �
 closed_other rs (report.Closed j) i other = closed_more rs (report.Closed j) i ∙ (let off : (j == i) ≡ false = grind (arith, nat_tests) in rw off (or_false (is_closed rs i)))
 
 -- one report of a sender more, and less is left of it
-module _ (p : Pace) (lists : List (List ℕ)) (rs : List Report) (states after : ℕ → Option HartState) (j : ℕ) (same : after (j + 1) ≡ states (j + 1)) where
+module _ (p : Ranking) (lists : List (List ℕ)) (rs : List Report) (states after : ℕ → Option HartState) (j : ℕ) (same : after (j + 1) ≡ states (j + 1)) where
   bound : (xs : List Report) → Clean xs lists → length (taken xs j) ≤ length (slice_index_or lists j [])
   bound xs clean = let all : length (taken xs j) + length (clean.in_order j).0 ≡ length (slice_index_or lists j []) = sym (length-append (taken xs j) (clean.in_order j).0) ∙ ap length (clean.in_order j).1 in omega (arith, all)
 
@@ -168,12 +168,12 @@ some_from rs j (suc n) (suc i) less is = at (is_closed rs j) (some_from rs (suc 
     at true e = e
     at false e = refl
 
-pub shuts_less : (m : BlockMeaning) (f : ℕ → Count m) (count i : ℕ) → ((j : ℕ) → j < count → m.shut (f j).receiver ≤ 1) → i < count → m.shut (f i).receiver ≡ 0 → shuts m f count < count
+pub shuts_less : (m : BlockMeaning) (f : ℕ → Count m) (count i : ℕ) → ((j : ℕ) → j < count → m.closings (f j).receiver ≤ 1) → i < count → m.closings (f i).receiver ≡ 0 → all_closings m f count < count
 shuts_less m f zero i each less none = absurd (omega arith)
 shuts_less m f (suc c) i each less none =
     elim (cases_eq i c) [
       | inl same ↦
-          let last : m.shut (f c).receiver ≡ 0 = ap (λ z. m.shut (f z).receiver) (sym same) ∙ none in
+          let last : m.closings (f c).receiver ≡ 0 = ap (λ z. m.closings (f z).receiver) (sym same) ∙ none in
           omega (arith, last, shuts_most m f c (λ j below. each j (omega arith)))
       | inr other ↦ omega (arith, each c (omega arith), shuts_less m f c i (λ j below. each j (omega arith)) (omega (arith, other, less)) none)
     ]

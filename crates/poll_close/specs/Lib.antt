@@ -8,6 +8,6 @@ pub mod Means
 pub mod Delivery
 pub mod Refusals
 pub mod Standing
-pub mod Paces
+pub mod Rankings
 pub mod Plans
 pub mod Invariant

@@ -178,5 +178,5 @@ pub fn laws_of_plans<K: Finish<B, M>, const B: usize, const M: usize>()
     ensures running_at { (capacity memory : ℕ) (lists : List (List ℕ)) (l : Layout) (events : List Event) (t : History) → 1 ≤ capacity → AcceptedAt K.RingKind.ring memory lists l → Run capacity memory (opening_at K.RingKind.ring.sender K.RingKind.ring.receiver lists l) events t → CanFinish capacity memory t }
 {
     K::laws();
-    K::nears();
+    K::falls();
 }

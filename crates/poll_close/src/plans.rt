@@ -3,7 +3,7 @@
 ghost use Rattle.std.specs.Prelude.{◌≡◌, ◌≤◌, ◌<◌, ◌-◌, ℕ, Bool, List, [], true, length, IfOk};
 ghost use Rattle.hart.specs.declared.need.Report.{Report};
 ghost use Rattle.poll_close.specs.Standing.{Stands};
-ghost use Rattle.poll_close.specs.Paces.{next_by, is_ready};
+ghost use Rattle.poll_close.specs.Rankings.{next_by, is_ready};
 ghost use Rattle.poll_close.specs.Plans.{Finishes, is_closed, all_closed, ends_in_word, is_word, is_done};
 
 use crate::kind::RingKind;
@@ -15,22 +15,22 @@ use step_machine::{Event, Machine};
 pub trait Finish<const B: usize, const M: usize>: RingKind {
     ghost use Rattle.std.specs.Prelude.{◌≡◌, ◌≤◌, ◌<◌, length};
     ghost use Rattle.poll_close.specs.Standing.{Stands};
-    ghost use Rattle.poll_close.specs.Paces.{Pace, Nears, left_by, next_by, is_ready};
+    ghost use Rattle.poll_close.specs.Rankings.{Ranking, Decreases, rank_of, next_by, is_ready};
 
     /// How far its harts are from their ends, and when they wait, as a definition.
-    ghost pace: { Pace };
+    ghost ranking: { Ranking };
 
     /// Whether this hart is a sender that runs and does not wait for the receiver.
     fn is_ready(machine: &Machine<B, M>, hart: u32) -> bool
         requires stands { Stands Self.ring Self.meaning B M machine.now.history }
         requires sender { 1 ≤ hart }
         requires hart { hart < length machine.now.history.opening.harts }
-        ensures { result ≡ is_ready pace M machine.now.history hart };
+        ensures { result ≡ is_ready ranking M machine.now.history hart };
 
     /// The law: where nothing is pending and some sender is not reported closed, the hart that comes
     /// next can act, and less is left after its act and its store's landing. It does nothing.
-    fn nears()
-        ensures { Nears Self.ring Self.meaning (left_by pace) (next_by pace) };
+    fn falls()
+        ensures { Decreases Self.ring Self.meaning (rank_of ranking) (next_by ranking) };
 }
 
 /// Whether this sender is reported closed.
@@ -100,7 +100,7 @@ fn is_finished<K: Finish<B, M>, const B: usize, const M: usize>(machine: &Machin
 /// Which hart acts next, where nothing is pending: a sender that does not wait, or the receiver.
 fn next_hart<K: Finish<B, M>, const B: usize, const M: usize>(machine: &Machine<B, M>) -> u32
     requires stands { Stands K.RingKind.ring K.RingKind.meaning B M machine.now.history }
-    ensures { result ≡ next_by K.pace M machine.now.history }
+    ensures { result ≡ next_by K.ranking M machine.now.history }
 {
     let mut next = 0;
     for hart in 1..machine.harts() {
@@ -123,7 +123,7 @@ pub fn plan_of<K: Finish<B, M>, const B: usize, const M: usize>(
     ensures none { IfOk result (λ plan. is_done machine.entry.history ≡ true → plan.items ≡ []) }
 {
     K::laws();
-    K::nears();
+    K::falls();
     let mut plan = Vec::new(alloc);
     if is_finished::<K, B, M>(&machine) {
         return Ok(plan);

@@ -4,7 +4,7 @@ use Rattle.std.specs.Prelude.{slice_index}
 use Rattle.poll_close.specs.Invariant.Blocks.{Block, offset}
 use Rattle.poll_close.specs.Invariant.Outlines.{Row}
 use Rattle.poll_close.specs.Invariant.BlockMeaning.{Way, Near, Visit, between}
-use Rattle.poll_close.specs.Invariant.ReceiverState.{Middle, Noted}
+use Rattle.poll_close.specs.Invariant.ReceiverState.{Middle, ReceiverRegisters}
 use Rattle.fastforward.specs.Invariant.Numbers.{Taken}
 
 abbrev pub middle : Middle
@@ -31,7 +31,7 @@ abbrev pub Empty : Block → Taken → ℕ → ℕ → Type 0
 Empty k n x11 x30 = (x11 ≡ 0) × ((x30 ≡ 0) ⊎ (n.tails ≡ length k.list))
 
 -- this visit may find nothing: its sender has ended, and the mark was not read; or nothing was found
-abbrev pub rows : List (Row Way (Block → Taken → Noted → Type 0))
+abbrev pub rows : List (Row Way (Block → Taken → ReceiverRegisters → Type 0))
 rows =
     between 0x18 (Visit (λ a x. (slice_index x 30 == 0) && a.ended) 15 18) (λ k n r. Flagged n r.x30 × (r.x7 ≡ offset k n.tails)) ∷  -- add x28,x8,x7
     between 0x1C (Visit (λ a x. (slice_index x 30 == 0) && a.ended) 14 17) (λ k n r. Flagged n r.x30 × (r.x7 ≡ offset k n.tails) × (r.x28 ≡ k.base + r.x7)) ∷  -- lw x11,16(x28)

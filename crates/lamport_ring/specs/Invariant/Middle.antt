@@ -4,7 +4,7 @@ use Rattle.std.specs.Prelude.{slice_index}
 use Rattle.poll_close.specs.Invariant.Blocks.{Block, offset}
 use Rattle.poll_close.specs.Invariant.Outlines.{Row}
 use Rattle.poll_close.specs.Invariant.BlockMeaning.{Way, Near, Visit, between}
-use Rattle.poll_close.specs.Invariant.ReceiverState.{Middle, Noted}
+use Rattle.poll_close.specs.Invariant.ReceiverState.{Middle, ReceiverRegisters}
 use Rattle.lamport_ring.specs.Invariant.Numbers.{Taken}
 
 abbrev pub middle : Middle
@@ -20,7 +20,7 @@ abbrev pub More : Taken → Type 0
 More n = n.tails < n.seen
 
 -- this visit may find nothing: the mark was not read, and the head that was read is the tail
-abbrev pub rows : List (Row Way (Block → Taken → Noted → Type 0))
+abbrev pub rows : List (Row Way (Block → Taken → ReceiverRegisters → Type 0))
 rows =
     between 0x18 (Visit (λ a x. (slice_index x 30 == 0) && (slice_index x 6 == 4 * (a.took % a.size))) 15 18) (λ k n r. Headed k n r.x6 r.x30) ∷  -- lw x7,8(x8)
     between 0x1C (Visit (λ a x. (slice_index x 30 == 0) && (slice_index x 6 == slice_index x 7)) 14 17) (λ k n r. Headed k n r.x6 r.x30 × (r.x7 ≡ offset k n.tails)) ∷  -- beq x6,x7,empty

@@ -20,7 +20,7 @@ pub record Taken : Type 0 where
   pub tails : ℕ
   pub done : ℕ
   pub took : ℕ
-  pub shut : ℕ
+  pub closings : ℕ
   pub seen : ℕ
   pub mark : ℕ
 
@@ -66,7 +66,7 @@ pub record Ordered (k : Block) (n : Numbers) : Type 0 where
   pub mark_landed : n.landed.mark ≤ n.sender.marked
   pub marked_all : 0 < n.sender.marked → n.sender.headed ≡ length k.list
   pub mark_all : 0 < n.landed.mark → n.landed.heads ≡ length k.list
-  pub shut_done : n.receiver.shut ≤ n.receiver.done
+  pub shut_done : n.receiver.closings ≤ n.receiver.done
   pub done_one : n.receiver.done ≤ 1
   pub done_landed : n.landed.done ≤ n.receiver.done
   pub done_all : 0 < n.receiver.done → n.receiver.tails ≡ length k.list

@@ -3,10 +3,10 @@
 use Rattle.std.proofs.Common.{ℕ, ◌+◌, ◌*◌, ◌≡◌, ◌⊎◌, ◌==◌, Bool, ◌&&◌, if◌then◌else◌, List, [], ◌∷◌, length}
 use Rattle.std.specs.Prelude.{slice_index}
 use Rattle.hart.specs.State.{HartState}
-use Rattle.poll_close.specs.Paces.{Around, Pace}
+use Rattle.poll_close.specs.Rankings.{Around, Ranking}
 use Rattle.poll_close.specs.Invariant.Blocks.{Block, offset}
 use Rattle.poll_close.specs.Invariant.Outlines.{Row, Outline, HoldsIn, rank_in, left_of}
-use Rattle.poll_close.specs.Invariant.ReceiverState.{Middle, Noted}
+use Rattle.poll_close.specs.Invariant.ReceiverState.{Middle, ReceiverRegisters}
 
 -- the receiver's way from a line to its next report: n steps (Near); n to the end of this block, then the rest of
 -- the round (Round); n to the end of the round, then a whole one (Over). A Visit may find nothing though a word is
@@ -40,7 +40,7 @@ pub record BlockMeaning : Type 1 where
   pub tails : Receiver → ℕ
   pub dones : Receiver → ℕ
   pub took : Receiver → ℕ
-  pub shut : Receiver → ℕ
+  pub closings : Receiver → ℕ
   pub seen_mark : Receiver → ℕ
   -- the closed marks that landed
   pub marks : Landed → ℕ
@@ -55,7 +55,7 @@ pub record BlockMeaning : Type 1 where
   pub Filled : Receiver → Type 0
   -- the receiver's five words between, and its rows at the last four of them
   pub middle : Middle
-  pub rows : List (Row Way (Block → Receiver → Noted → Type 0))
+  pub rows : List (Row Way (Block → Receiver → ReceiverRegisters → Type 0))
   -- the sender waits until the receiver acts; then a word is there for the receiver
   pub waits : HartState → (ℕ → ℕ) → Bool
   pub Ready : Block → Numbers sender.Own Receiver Landed → Type 0
@@ -70,9 +70,9 @@ abbrev pub unread_of : (m : BlockMeaning) → Block → Count m → List (ℕ ×
 unread_of m k n = m.unread k n.receiver n.landed
 
 -- outside of a report, all that was taken and closed is reported
-pub record Quiet (m : BlockMeaning) (n : m.Receiver) : Type 0 where
+pub record AllReported (m : BlockMeaning) (n : m.Receiver) : Type 0 where
   pub words : m.took n ≡ m.tails n
-  pub closed : m.shut n ≡ m.dones n
+  pub closed : m.closings n ≡ m.dones n
   pub level : m.Level n
 
 pub record Visits (k : Block) (i x8 x22 : ℕ) : Type 0 where
@@ -82,7 +82,7 @@ pub record Visits (k : Block) (i x8 x22 : ℕ) : Type 0 where
 -- it visits a block that is not done
 pub record Opened (m : BlockMeaning) (k : Block) (i : ℕ) (n : m.Receiver) (x8 x22 : ℕ) : Type 0 where
   pub visits : Visits k i x8 x22
-  pub quiet : Quiet m n
+  pub quiet : AllReported m n
   pub open_yet : m.dones n ≡ 0
 
 -- it has seen the mark where it read one
@@ -93,7 +93,7 @@ Flag m n x30 = (x30 ≡ 0) ⊎ ((x30 ≡ 1) × (m.seen_mark n ≡ 1))
 pub record Has (m : BlockMeaning) (k : Block) (i : ℕ) (n : m.Receiver) (x8 x22 x11 : ℕ) : Type 0 where
   pub visits : Visits k i x8 x22
   pub ahead : m.took n ≡ m.tails n
-  pub closed : m.shut n ≡ m.dones n
+  pub closed : m.closings n ≡ m.dones n
   pub open_yet : m.dones n ≡ 0
   pub filled : m.Filled n
   pub word : x11 ≡ slice_index k.list (m.tails n)
@@ -103,7 +103,7 @@ pub record Taking (m : BlockMeaning) (k : Block) (i : ℕ) (n : m.Receiver) (x8 
   pub visits : Visits k i x8 x22
   pub level : m.Level n
   pub ahead : m.tails n ≡ m.took n + 1
-  pub closed : m.shut n ≡ m.dones n
+  pub closed : m.closings n ≡ m.dones n
   pub open_yet : m.dones n ≡ 0
   pub word : x11 ≡ slice_index k.list (m.took n)
 
@@ -114,28 +114,28 @@ pub record Closing (m : BlockMeaning) (k : Block) (i : ℕ) (n : m.Receiver) (x8
   pub words : m.took n ≡ m.tails n
   pub all : m.tails n ≡ length k.list
   pub done : m.dones n ≡ 1
-  pub unsaid : m.shut n ≡ 0
+  pub unsaid : m.closings n ≡ 0
 
 abbrev pub ReceiverRow : BlockMeaning → Type 1
-ReceiverRow m = Row Way (Block → ℕ → m.Receiver → Noted → Type 0)
+ReceiverRow m = Row Way (Block → ℕ → m.Receiver → ReceiverRegisters → Type 0)
 
-abbrev pub line : {Own : Type 0} → ℕ → Way → (Block → ℕ → Own → Noted → Type 0) → Row Way (Block → ℕ → Own → Noted → Type 0)
+abbrev pub line : {Own : Type 0} → ℕ → Way → (Block → ℕ → Own → ReceiverRegisters → Type 0) → Row Way (Block → ℕ → Own → ReceiverRegisters → Type 0)
 line at rank holds = record { at = at; rank = rank; holds = holds }
 
 -- the ring's own rows: it visits a block that is not done
-abbrev pub between : {Own : Type 0} → ℕ → Way → (Block → Own → Noted → Type 0) → Row Way (Block → Own → Noted → Type 0)
+abbrev pub between : {Own : Type 0} → ℕ → Way → (Block → Own → ReceiverRegisters → Type 0) → Row Way (Block → Own → ReceiverRegisters → Type 0)
 between at rank holds = record { at = at; rank = rank; holds = holds }
 
-abbrev pub opened_rows : (m : BlockMeaning) → List (Row Way (Block → m.Receiver → Noted → Type 0)) → List (ReceiverRow m)
+abbrev pub opened_rows : (m : BlockMeaning) → List (Row Way (Block → m.Receiver → ReceiverRegisters → Type 0)) → List (ReceiverRow m)
 opened_rows m [] = []
 opened_rows m (row ∷ rows) = record { at = row.at; rank = row.rank; holds = λ k i n r. Opened m k i n r.x8 r.x22 × row.holds k n r } ∷ opened_rows m rows
 
 abbrev pub rows_of : (m : BlockMeaning) → List (ReceiverRow m)
 rows_of m =
-    line 0x00 (Over 2) (λ k i n r. Quiet m n) ∷  -- round: addi x8,x21,0
-    line 0x04 (Over 1) (λ k i n r. Quiet m n × (r.x8 ≡ k.first)) ∷  -- addi x22,x0,0
-    line 0x08 (Visit (λ a x. a.shut) 17 22) (λ k i n r. Quiet m n × Visits k i r.x8 r.x22) ∷  -- visit: lw x5,12(x8)
-    line 0x0C (Visit (λ a x. a.shut) 16 21) (λ k i n r. Quiet m n × Visits k i r.x8 r.x22 × (r.x5 ≡ m.dones n)) ∷  -- bne x5,x0,step
+    line 0x00 (Over 2) (λ k i n r. AllReported m n) ∷  -- round: addi x8,x21,0
+    line 0x04 (Over 1) (λ k i n r. AllReported m n × (r.x8 ≡ k.first)) ∷  -- addi x22,x0,0
+    line 0x08 (Visit (λ a x. a.closed) 17 22) (λ k i n r. AllReported m n × Visits k i r.x8 r.x22) ∷  -- visit: lw x5,12(x8)
+    line 0x0C (Visit (λ a x. a.closed) 16 21) (λ k i n r. AllReported m n × Visits k i r.x8 r.x22 × (r.x5 ≡ m.dones n)) ∷  -- bne x5,x0,step
     line 0x10 (Near 20) (λ k i n r. Opened m k i n r.x8 r.x22) ∷  -- lw x30,4(x8)
     line 0x14 (Visit (λ a x. (slice_index x 30 == 0) && a.ended) 16 19) (λ k i n r. Opened m k i n r.x8 r.x22 × Flag m n r.x30) ∷  -- the ring's first line
     line 0x28 (Near 13) (λ k i n r. Has m k i n r.x8 r.x22 r.x11 × (r.x7 ≡ offset k (m.tails n))) ∷  -- addi x7,x7,4
@@ -145,27 +145,27 @@ rows_of m =
     line 0x38 (Near 9) (λ k i n r. Taking m k i n r.x8 r.x22 r.x11) ∷  -- addi x10,x22,0
     line 0x3C (Near 8) (λ k i n r. Taking m k i n r.x8 r.x22 r.x11 × (r.x10 ≡ i)) ∷  -- addi x17,x0,2
     line 0x40 (Near 7) (λ k i n r. Taking m k i n r.x8 r.x22 r.x11 × (r.x10 ≡ i) × (r.x17 ≡ 2)) ∷  -- ecall
-    line 0x44 (Round 11) (λ k i n r. Quiet m n × Visits k i r.x8 r.x22) ∷  -- jal x0,step
+    line 0x44 (Round 11) (λ k i n r. AllReported m n × Visits k i r.x8 r.x22) ∷  -- jal x0,step
     line 0x48 (Visit (λ a x. slice_index x 30 == 0) 11 14) (λ k i n r. Opened m k i n r.x8 r.x22 × ((r.x30 ≡ 0) ⊎ (m.tails n ≡ length k.list))) ∷  -- empty: beq x30,x0,step
     line 0x4C (Near 13) (λ k i n r. Opened m k i n r.x8 r.x22 × (m.tails n ≡ length k.list)) ∷  -- addi x5,x0,1
     line 0x50 (Near 12) (λ k i n r. Opened m k i n r.x8 r.x22 × (m.tails n ≡ length k.list) × (r.x5 ≡ 1)) ∷  -- sw x5,12(x8)
     line 0x54 (Near 11) (λ k i n r. Closing m k i n r.x8 r.x22) ∷  -- addi x10,x22,0
     line 0x58 (Near 10) (λ k i n r. Closing m k i n r.x8 r.x22 × (r.x10 ≡ i)) ∷  -- addi x17,x0,3
     line 0x5C (Near 9) (λ k i n r. Closing m k i n r.x8 r.x22 × (r.x10 ≡ i) × (r.x17 ≡ 3)) ∷  -- ecall
-    line 0x60 (Round 12) (λ k i n r. Quiet m n × Visits k i r.x8 r.x22) ∷  -- addi x20,x20,-1
-    line 0x64 (Round 11) (λ k i n r. Quiet m n × Visits k i r.x8 r.x22) ∷  -- beq x20,x0,quit
-    line 0x68 (Round 10) (λ k i n r. Quiet m n × Visits k i r.x8 r.x22) ∷  -- step: add x8,x8,x18
-    line 0x6C (Round 9) (λ k i n r. Quiet m n × (r.x22 ≡ i) × (r.x8 ≡ k.base + k.stride)) ∷  -- addi x22,x22,1
-    line 0x70 (Round 8) (λ k i n r. Quiet m n × (r.x22 ≡ i + 1) × (r.x8 ≡ k.base + k.stride)) ∷  -- bne x8,x19,visit
-    line 0x74 (Over 3) (λ k i n r. Quiet m n) ∷  -- jal x0,round
-    line 0x78 (Near 2) (λ k i n r. Quiet m n × (r.x20 ≡ 0)) ∷  -- quit: addi x17,x0,93
-    line 0x7C (Near 1) (λ k i n r. Quiet m n × (r.x17 ≡ 93) × (r.x20 ≡ 0)) ∷  -- ecall
-    line 0x80 (Near 0) (λ k i n r. Quiet m n × (r.x20 ≡ 0)) ∷
+    line 0x60 (Round 12) (λ k i n r. AllReported m n × Visits k i r.x8 r.x22) ∷  -- addi x20,x20,-1
+    line 0x64 (Round 11) (λ k i n r. AllReported m n × Visits k i r.x8 r.x22) ∷  -- beq x20,x0,quit
+    line 0x68 (Round 10) (λ k i n r. AllReported m n × Visits k i r.x8 r.x22) ∷  -- step: add x8,x8,x18
+    line 0x6C (Round 9) (λ k i n r. AllReported m n × (r.x22 ≡ i) × (r.x8 ≡ k.base + k.stride)) ∷  -- addi x22,x22,1
+    line 0x70 (Round 8) (λ k i n r. AllReported m n × (r.x22 ≡ i + 1) × (r.x8 ≡ k.base + k.stride)) ∷  -- bne x8,x19,visit
+    line 0x74 (Over 3) (λ k i n r. AllReported m n) ∷  -- jal x0,round
+    line 0x78 (Near 2) (λ k i n r. AllReported m n × (r.x20 ≡ 0)) ∷  -- quit: addi x17,x0,93
+    line 0x7C (Near 1) (λ k i n r. AllReported m n × (r.x17 ≡ 93) × (r.x20 ≡ 0)) ∷  -- ecall
+    line 0x80 (Near 0) (λ k i n r. AllReported m n × (r.x20 ≡ 0)) ∷
     opened_rows m m.rows
 
 -- what holds at an offset, and how far its harts are from their ends
-abbrev pub ReceiverIs : (m : BlockMeaning) → Block → ℕ → ℕ → m.Receiver → Noted → Type 0
-ReceiverIs m k i here n r = HoldsIn (λ (H : Block → ℕ → m.Receiver → Noted → Type 0). H k i n r) (rows_of m) here
+abbrev pub ReceiverIs : (m : BlockMeaning) → Block → ℕ → ℕ → m.Receiver → ReceiverRegisters → Type 0
+ReceiverIs m k i here n r = HoldsIn (λ (H : Block → ℕ → m.Receiver → ReceiverRegisters → Type 0). H k i n r) (rows_of m) here
 
-abbrev pub pace_of : BlockMeaning → Pace
-pace_of m = record { sender = left_of m.sender; waits = m.waits; receiver = λ a s. rank_in (length_of a s.registers) (rows_of m) s.pc }
+abbrev pub ranking_of : BlockMeaning → Ranking
+ranking_of m = record { sender = left_of m.sender; waits = m.waits; receiver = λ a s. rank_in (length_of a s.registers) (rows_of m) s.pc }

@@ -15,8 +15,8 @@ use Rattle.poll_close.specs.Going.{AllGoOn}
 use Rattle.poll_close.specs.Touching.{AllTouch}
 use Rattle.poll_close.specs.Invariant.Outlines.{Standing}
 use Rattle.poll_close.specs.Invariant.Blocks.{Block, block_of, as_writes, to_block}
-use Rattle.poll_close.specs.Invariant.ReceiverState.{Noted, whole_of, receives, due}
-use Rattle.poll_close.specs.Invariant.BlockMeaning.{BlockMeaning, Count, unsent_of, unread_of, Quiet, ReceiverIs}
+use Rattle.poll_close.specs.Invariant.ReceiverState.{ReceiverRegisters, whole_of, receives, closings_due}
+use Rattle.poll_close.specs.Invariant.BlockMeaning.{BlockMeaning, Count, unsent_of, unread_of, AllReported, ReceiverIs}
 
 -- the sender of a block, which is hart h
 pub record SenderPart (m : BlockMeaning) (k : Block) (M h : ℕ) (t : History) (n : Count m) : Type 0 where
@@ -32,30 +32,30 @@ pub record BlockPart (m : BlockMeaning) (k : Block) (M i : ℕ) (t : History) (n
   pub words : m.Words k n.landed (word_in_memory t.opening t.entries)
 
 -- how many senders are reported closed
-abbrev pub shuts : (m : BlockMeaning) → (ℕ → Count m) → ℕ → ℕ
-shuts m f zero = 0
-shuts m f (suc i) = m.shut (f i).receiver + shuts m f i
+abbrev pub all_closings : (m : BlockMeaning) → (ℕ → Count m) → ℕ → ℕ
+all_closings m f zero = 0
+all_closings m f (suc i) = m.closings (f i).receiver + all_closings m f i
 
 -- where the receiver stands, and what holds of the block that it visits or visited last
 pub record ReceiverPart (m : BlockMeaning) (M : ℕ) (S : Layout) (lists : List (List ℕ)) (t : History) (f : ℕ → Count m) : Type 0 where
   pub place : ℕ
-  pub noted : Noted
+  pub noted : ReceiverRegisters
   pub block : ℕ
   pub known : block < length lists
   pub state : state_of M t 0 ≡ Some (receives m.middle (whole_of (block_of M S lists block) (length lists)) place noted)
   pub holds : ReceiverIs m (block_of M S lists block) block place (f block).receiver noted
-  pub others : (j : ℕ) → j < length lists → j ≢ block → Quiet m (f j).receiver
+  pub others : (j : ℕ) → j < length lists → j ≢ block → AllReported m (f j).receiver
   -- the receiver's count and the closed senders make all
-  pub count : noted.x20 + shuts m f (length lists) ≡ length lists + due place
+  pub count : noted.x20 + all_closings m f (length lists) ≡ length lists + closings_due place
 
 -- what is reported of sender i
-pub record ReportsOf (rs : List Report) (i : ℕ) (list : List ℕ) (took shut : ℕ) : Type 0 where
+pub record ReportsOf (rs : List Report) (i : ℕ) (list : List ℕ) (took closings : ℕ) : Type 0 where
   pub words : taken rs i ≡ take took list
-  pub closed : (k : ℕ) → slice_get rs k ≡ Some (report.Closed i) → shut ≡ 1
-  pub said : shut ≡ 1 → (k : ℕ) × (slice_get rs k ≡ Some (report.Closed i))
+  pub closed : (k : ℕ) → slice_get rs k ≡ Some (report.Closed i) → closings ≡ 1
+  pub said : closings ≡ 1 → (k : ℕ) × (slice_get rs k ≡ Some (report.Closed i))
 
 pub record ReportPart (m : BlockMeaning) (lists : List (List ℕ)) (rs : List Report) (f : ℕ → Count m) : Type 0 where
-  pub senders : (j : ℕ) → j < length lists → ReportsOf rs j (slice_index_or lists j []) (m.took (f j).receiver) (m.shut (f j).receiver)
+  pub senders : (j : ℕ) → j < length lists → ReportsOf rs j (slice_index_or lists j []) (m.took (f j).receiver) (m.closings (f j).receiver)
   pub clean : Clean rs lists
 
 pub record Channel (m : BlockMeaning) (M : ℕ) (S : Layout) (lists : List (List ℕ)) (t : History) : Type 0 where

@@ -2,9 +2,9 @@
 -- what holds there.
 use Rattle.std.specs.Prelude.{ℕ, ◌≡◌, ◌+◌, ◌-◌, ◌*◌, ◌==◌, Bool, true, false, if◌then◌else◌, List, [], ◌∷◌, length, drop}
 use Rattle.hart.specs.State.{HartState}
-use Rattle.poll_close.specs.Paces.{is_running}
+use Rattle.poll_close.specs.Rankings.{is_running}
 use Rattle.poll_close.specs.Invariant.Blocks.{Block}
-use Rattle.poll_close.specs.Invariant.SenderState.{Written, fixed, running, ended}
+use Rattle.poll_close.specs.Invariant.SenderState.{SenderRegisters, fixed, running, ended}
 
 -- the line at this offset: how far from the end, and what holds there
 pub record Row (Rank : Type 0) (Held : Type 1) : Type 1 where
@@ -14,7 +14,7 @@ pub record Row (Rank : Type 0) (Held : Type 1) : Type 1 where
 
 -- a sender's: by the registers, and of the sender's own numbers and the registers that it writes
 abbrev pub SenderRow : Type 0 → Type 1
-SenderRow Own = Row (List ℕ → ℕ) (Block → Own → Written → Type 0)
+SenderRow Own = Row (List ℕ → ℕ) (Block → Own → SenderRegisters → Type 0)
 
 pub record Outline : Type 1 where
   -- the numbers of a block that are the sender's own: no one else's act and no landing changes them
@@ -27,11 +27,11 @@ pub record Outline : Type 1 where
   pub over : ℕ
   pub done : Block → Own → Type 0
 
-abbrev pub row : {Own : Type 0} → ℕ → (List ℕ → ℕ) → (Block → Own → Written → Type 0) → SenderRow Own
+abbrev pub row : {Own : Type 0} → ℕ → (List ℕ → ℕ) → (Block → Own → SenderRegisters → Type 0) → SenderRow Own
 row at rank holds = record { at = at; rank = rank; holds = holds }
 
 -- the state at an offset
-abbrev pub stands : (o : Outline) → Block → ℕ → o.Own → Written → HartState
+abbrev pub stands : (o : Outline) → Block → ℕ → o.Own → SenderRegisters → HartState
 stands o k here n r = if here == o.over then ended o.code (fixed k) (here - 4) r (drop (o.asked n) k.list) else running o.code (fixed k) here r (drop (o.asked n) k.list)
 
 -- what holds at an offset
@@ -52,13 +52,13 @@ abbrev pub Reasons : {Rank : Type 0} {Held : Type 1} → (Row Rank Held → Type
 Reasons P [] = Unit {0}
 Reasons P (row ∷ rows) = P row × Reasons P rows
 
-abbrev pub Holds : (o : Outline) → ℕ → Block → o.Own → Written → Type 0
-Holds o here k n r = either (here == o.over) (o.done k n) (HoldsIn (λ (H : Block → o.Own → Written → Type 0). H k n r) o.rows here)
+abbrev pub Holds : (o : Outline) → ℕ → Block → o.Own → SenderRegisters → Type 0
+Holds o here k n r = either (here == o.over) (o.done k n) (HoldsIn (λ (H : Block → o.Own → SenderRegisters → Type 0). H k n r) o.rows here)
 
 -- the sender may be in this state
 pub record Standing (o : Outline) (k : Block) (n : o.Own) (s : HartState) : Type 0 where
   pub place : ℕ
-  pub written : Written
+  pub written : SenderRegisters
   pub is : s ≡ stands o k place n written
   pub holds : Holds o place k n written
 

@@ -2,7 +2,7 @@ use Rattle.std.proofs.Common.{lit<, lit≤, arith, ◌≡◌, ◌+◌, ◌^◌, 
 use Rattle.std.proofs.lemmas.Bool.Decides.{nat_tests}
 use Rattle.poll_close.proofs.Standing.{sender_at}
 use Rattle.fastforward.specs.FastForward.{fastforward, fastforward_blocks}
-use Rattle.fastforward.proofs.Nearing.{address, ready_is}
+use Rattle.fastforward.proofs.Falling.{address, ready_is}
 use Rattle.fastforward.proofs.FastForwardFinish.is_ready.Goals as goal
 
 pub overflow_add-register : goal.overflow_add-register

@@ -1,6 +1,6 @@
 use Rattle.std.proofs.Common.{◌≡◌, true, false, [], ◌∷◌, ◌++◌, lit<, sym, ◌∙◌, ap, subst, arith}
 use Rattle.step_machine.specs.declared.events.Event.TheVariants as event
-use Rattle.poll_close.specs.Paces.{left_by, next_by}
+use Rattle.poll_close.specs.Rankings.{rank_of, next_by}
 use Rattle.poll_close.specs.Plans.{is_done}
 use Rattle.poll_close.proofs.Planning.{Planned, planned-none, planned-more, planned-done, lands_one, turned, turn_over, turn_quiet, some_left, none_left, landed_more}
 use Rattle.poll_close.proofs.plans.plan_of.Goals as goal
@@ -26,30 +26,30 @@ loop-hart-preserved g c = (c.loop-machine.invariant.0, landed_more c.loop-machin
 
 pub pending-requires-in-loop-machine-2 : goal.pending-requires-in-loop-machine-2
 pending-requires-in-loop-machine-2 g c =
-    let turn = turned g.K.RingKind.ring g.K.RingKind.meaning (left_by g.K.Finish.pace) (next_by g.K.Finish.pace) g.row.B g.row.M c.args.machine.history c.loop-machine-2.plan.items c.loop-machine-2.machine.history c.next_hart-next.result c.in_ok-step-2.field-0 c.step-in-loop-machine-2.new.self.history c.nears.ensures c.laws.ensures.keeps c.requires.some_capacity c.loop-machine-2.invariant.0 c.loop-machine-2.invariant.1 (sym c.is_finished-in-loop-machine-2.ensures ∙ c.loop-machine-2-test.true) c.next_hart-next.ensures c.in_ok-step-2.ensures.happens in
+    let turn = turned g.K.RingKind.ring g.K.RingKind.meaning (rank_of g.K.Finish.ranking) (next_by g.K.Finish.ranking) g.row.B g.row.M c.args.machine.history c.loop-machine-2.plan.items c.loop-machine-2.machine.history c.next_hart-next.result c.in_ok-step-2.field-0 c.step-in-loop-machine-2.new.self.history c.falls.ensures c.laws.ensures.keeps c.requires.some_capacity c.loop-machine-2.invariant.0 c.loop-machine-2.invariant.1 (sym c.is_finished-in-loop-machine-2.ensures ∙ c.loop-machine-2-test.true) c.next_hart-next.ensures c.in_ok-step-2.ensures.happens in
     (lit< tt, turn.hart)
 
 pub loop-machine-2-smaller-in-Continue-branch-6 : goal.loop-machine-2-smaller-in-Continue-branch-6
 loop-machine-2-smaller-in-Continue-branch-6 g c =
-    let turn = turned g.K.RingKind.ring g.K.RingKind.meaning (left_by g.K.Finish.pace) (next_by g.K.Finish.pace) g.row.B g.row.M c.args.machine.history c.loop-machine-2.plan.items c.loop-machine-2.machine.history c.next_hart-next.result c.in_ok-step-2.field-0 c.step-in-loop-machine-2.new.self.history c.nears.ensures c.laws.ensures.keeps c.requires.some_capacity c.loop-machine-2.invariant.0 c.loop-machine-2.invariant.1 (sym c.is_finished-in-loop-machine-2.ensures ∙ c.loop-machine-2-test.true) c.next_hart-next.ensures c.in_ok-step-2.ensures.happens in
-    let over = turn_over g.K.RingKind.ring g.K.RingKind.meaning (left_by g.K.Finish.pace) g.row.B g.row.M c.args.machine.history _ c.loop-machine-2.machine.history c.step-in-loop-machine-2.new.self.history c.next_hart-next.result c.in_ok-step-3.field-0 c.step-then-not-is_empty.new.self.history c.laws.ensures.keeps c.loop-machine-2.invariant.1 turn (some_left c.pending-in-loop-machine-2.ensures c.is_empty-in-loop-machine-2.ensures c.if-not-is_empty.true) c.in_ok-step-3.ensures.happens in
+    let turn = turned g.K.RingKind.ring g.K.RingKind.meaning (rank_of g.K.Finish.ranking) (next_by g.K.Finish.ranking) g.row.B g.row.M c.args.machine.history c.loop-machine-2.plan.items c.loop-machine-2.machine.history c.next_hart-next.result c.in_ok-step-2.field-0 c.step-in-loop-machine-2.new.self.history c.falls.ensures c.laws.ensures.keeps c.requires.some_capacity c.loop-machine-2.invariant.0 c.loop-machine-2.invariant.1 (sym c.is_finished-in-loop-machine-2.ensures ∙ c.loop-machine-2-test.true) c.next_hart-next.ensures c.in_ok-step-2.ensures.happens in
+    let over = turn_over g.K.RingKind.ring g.K.RingKind.meaning (rank_of g.K.Finish.ranking) g.row.B g.row.M c.args.machine.history _ c.loop-machine-2.machine.history c.step-in-loop-machine-2.new.self.history c.next_hart-next.result c.in_ok-step-3.field-0 c.step-then-not-is_empty.new.self.history c.laws.ensures.keeps c.loop-machine-2.invariant.1 turn (some_left c.pending-in-loop-machine-2.ensures c.is_empty-in-loop-machine-2.ensures c.if-not-is_empty.true) c.in_ok-step-3.ensures.happens in
     over.less
 
 pub loop-machine-2-preserved-in-Continue-branch-6 : goal.loop-machine-2-preserved-in-Continue-branch-6
 loop-machine-2-preserved-in-Continue-branch-6 g c =
-    let turn = turned g.K.RingKind.ring g.K.RingKind.meaning (left_by g.K.Finish.pace) (next_by g.K.Finish.pace) g.row.B g.row.M c.args.machine.history c.loop-machine-2.plan.items c.loop-machine-2.machine.history c.next_hart-next.result c.in_ok-step-2.field-0 c.step-in-loop-machine-2.new.self.history c.nears.ensures c.laws.ensures.keeps c.requires.some_capacity c.loop-machine-2.invariant.0 c.loop-machine-2.invariant.1 (sym c.is_finished-in-loop-machine-2.ensures ∙ c.loop-machine-2-test.true) c.next_hart-next.ensures c.in_ok-step-2.ensures.happens in
-    let over = turn_over g.K.RingKind.ring g.K.RingKind.meaning (left_by g.K.Finish.pace) g.row.B g.row.M c.args.machine.history _ c.loop-machine-2.machine.history c.step-in-loop-machine-2.new.self.history c.next_hart-next.result c.in_ok-step-3.field-0 c.step-then-not-is_empty.new.self.history c.laws.ensures.keeps c.loop-machine-2.invariant.1 turn (some_left c.pending-in-loop-machine-2.ensures c.is_empty-in-loop-machine-2.ensures c.if-not-is_empty.true) c.in_ok-step-3.ensures.happens in
+    let turn = turned g.K.RingKind.ring g.K.RingKind.meaning (rank_of g.K.Finish.ranking) (next_by g.K.Finish.ranking) g.row.B g.row.M c.args.machine.history c.loop-machine-2.plan.items c.loop-machine-2.machine.history c.next_hart-next.result c.in_ok-step-2.field-0 c.step-in-loop-machine-2.new.self.history c.falls.ensures c.laws.ensures.keeps c.requires.some_capacity c.loop-machine-2.invariant.0 c.loop-machine-2.invariant.1 (sym c.is_finished-in-loop-machine-2.ensures ∙ c.loop-machine-2-test.true) c.next_hart-next.ensures c.in_ok-step-2.ensures.happens in
+    let over = turn_over g.K.RingKind.ring g.K.RingKind.meaning (rank_of g.K.Finish.ranking) g.row.B g.row.M c.args.machine.history _ c.loop-machine-2.machine.history c.step-in-loop-machine-2.new.self.history c.next_hart-next.result c.in_ok-step-3.field-0 c.step-then-not-is_empty.new.self.history c.laws.ensures.keeps c.loop-machine-2.invariant.1 turn (some_left c.pending-in-loop-machine-2.ensures c.is_empty-in-loop-machine-2.ensures c.if-not-is_empty.true) c.in_ok-step-3.ensures.happens in
     (subst (λ evs. Planned g.K.RingKind.ring g.K.RingKind.meaning g.row.B g.row.M c.args.machine.history evs c.step-then-not-is_empty.new.self.history) (sym (c.in_ok-push-3.ensures.items ∙ ap (λ evs. evs ++ event.Land c.next_hart-next.result ∷ []) c.in_ok-push-2.ensures.items)) over.planned, over.all)
 
 pub loop-machine-2-smaller : goal.loop-machine-2-smaller
 loop-machine-2-smaller g c =
-    let turn = turned g.K.RingKind.ring g.K.RingKind.meaning (left_by g.K.Finish.pace) (next_by g.K.Finish.pace) g.row.B g.row.M c.args.machine.history c.loop-machine-2.plan.items c.loop-machine-2.machine.history c.next_hart-next.result c.in_ok-step-2.field-0 c.step-in-loop-machine-2.new.self.history c.nears.ensures c.laws.ensures.keeps c.requires.some_capacity c.loop-machine-2.invariant.0 c.loop-machine-2.invariant.1 (sym c.is_finished-in-loop-machine-2.ensures ∙ c.loop-machine-2-test.true) c.next_hart-next.ensures c.in_ok-step-2.ensures.happens in
+    let turn = turned g.K.RingKind.ring g.K.RingKind.meaning (rank_of g.K.Finish.ranking) (next_by g.K.Finish.ranking) g.row.B g.row.M c.args.machine.history c.loop-machine-2.plan.items c.loop-machine-2.machine.history c.next_hart-next.result c.in_ok-step-2.field-0 c.step-in-loop-machine-2.new.self.history c.falls.ensures c.laws.ensures.keeps c.requires.some_capacity c.loop-machine-2.invariant.0 c.loop-machine-2.invariant.1 (sym c.is_finished-in-loop-machine-2.ensures ∙ c.loop-machine-2-test.true) c.next_hart-next.ensures c.in_ok-step-2.ensures.happens in
     turn.stepped.less
 
 pub loop-machine-2-preserved : goal.loop-machine-2-preserved
 loop-machine-2-preserved g c =
-    let turn = turned g.K.RingKind.ring g.K.RingKind.meaning (left_by g.K.Finish.pace) (next_by g.K.Finish.pace) g.row.B g.row.M c.args.machine.history c.loop-machine-2.plan.items c.loop-machine-2.machine.history c.next_hart-next.result c.in_ok-step-2.field-0 c.step-in-loop-machine-2.new.self.history c.nears.ensures c.laws.ensures.keeps c.requires.some_capacity c.loop-machine-2.invariant.0 c.loop-machine-2.invariant.1 (sym c.is_finished-in-loop-machine-2.ensures ∙ c.loop-machine-2-test.true) c.next_hart-next.ensures c.in_ok-step-2.ensures.happens in
-    let over = turn_quiet g.K.RingKind.ring g.K.RingKind.meaning (left_by g.K.Finish.pace) g.row.B g.row.M c.args.machine.history _ c.loop-machine-2.machine.history c.step-in-loop-machine-2.new.self.history c.next_hart-next.result c.loop-machine-2.invariant.1 turn (none_left c.pending-in-loop-machine-2.ensures c.is_empty-in-loop-machine-2.ensures c.if-not-is_empty.false) in
+    let turn = turned g.K.RingKind.ring g.K.RingKind.meaning (rank_of g.K.Finish.ranking) (next_by g.K.Finish.ranking) g.row.B g.row.M c.args.machine.history c.loop-machine-2.plan.items c.loop-machine-2.machine.history c.next_hart-next.result c.in_ok-step-2.field-0 c.step-in-loop-machine-2.new.self.history c.falls.ensures c.laws.ensures.keeps c.requires.some_capacity c.loop-machine-2.invariant.0 c.loop-machine-2.invariant.1 (sym c.is_finished-in-loop-machine-2.ensures ∙ c.loop-machine-2-test.true) c.next_hart-next.ensures c.in_ok-step-2.ensures.happens in
+    let over = turn_quiet g.K.RingKind.ring g.K.RingKind.meaning (rank_of g.K.Finish.ranking) g.row.B g.row.M c.args.machine.history _ c.loop-machine-2.machine.history c.step-in-loop-machine-2.new.self.history c.next_hart-next.result c.loop-machine-2.invariant.1 turn (none_left c.pending-in-loop-machine-2.ensures c.is_empty-in-loop-machine-2.ensures c.if-not-is_empty.false) in
     (subst (λ evs. Planned g.K.RingKind.ring g.K.RingKind.meaning g.row.B g.row.M c.args.machine.history evs c.step-in-loop-machine-2.new.self.history) (sym c.in_ok-push-2.ensures.items) over.planned, over.all)
 
 pub returns-then-is_finished-clause-finishes : goal.returns-then-is_finished-clause-finishes

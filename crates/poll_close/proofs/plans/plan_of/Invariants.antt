@@ -1,6 +1,6 @@
 use Rattle.std.proofs.Common.{◌≡◌, ◌<◌, ℕ, [], length}
 use Rattle.step_machine.specs.Entries.{pending}
-use Rattle.poll_close.specs.Paces.{left_by}
+use Rattle.poll_close.specs.Rankings.{rank_of}
 use Rattle.poll_close.specs.Plans.{AllLanded}
 use Rattle.poll_close.proofs.Planning.{Planned}
 use Rattle.poll_close.proofs.plans.plan_of.Given as goal
@@ -18,4 +18,4 @@ abbrev pub invariant-loop-machine-2 : goal.invariant-loop-machine-2
 invariant-loop-machine-2 g l = Planned g.K.RingKind.ring g.K.RingKind.meaning g.row.B g.row.M l.fn.machine.history l.plan.items l.machine.history × AllLanded l.machine.history
 
 abbrev pub decreases-loop-machine-2 : goal.decreases-loop-machine-2
-decreases-loop-machine-2 g l = left_by g.K.Finish.pace g.row.M l.machine.history
+decreases-loop-machine-2 g l = rank_of g.K.Finish.ranking g.row.M l.machine.history

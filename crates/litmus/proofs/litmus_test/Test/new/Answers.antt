@@ -1,5 +1,5 @@
 use Rattle.litmus.proofs.TestLaws.{steps_there, left_sides-steps}
-use Rattle.litmus.proofs.question.Test.new.Goals as goal
+use Rattle.litmus.proofs.litmus_test.Test.new.Goals as goal
 
 pub first_places-requires : goal.first_places-requires
 first_places-requires c = steps_there _ c.steps.result.now c.requires c.steps.ensures

@@ -10,17 +10,17 @@ use Rattle.step_machine.specs.History.{History}
 use Rattle.step_machine.specs.Entries.{memory_word}
 use Rattle.step_machine.specs.Paths.{state_of}
 use Rattle.step_machine.specs.WordReads.{word_in_memory}
-use Rattle.poll_close.specs.Paces.{Nears, runs, left_by, next_by, ready_if, is_ready}
+use Rattle.poll_close.specs.Rankings.{Decreases, runs, rank_of, next_by, ready_if, is_ready}
 use Rattle.poll_close.specs.Invariant.Blocks.{Block, slot, slot_store, tail_store}
-use Rattle.poll_close.specs.Invariant.SenderState.{Written}
+use Rattle.poll_close.specs.Invariant.SenderState.{SenderRegisters}
 use Rattle.poll_close.specs.Invariant.Outlines.{stands, Holds, Standing}
 use Rattle.poll_close.proofs.Windows.{none_left, singles_length, pairs_length}
 use Rattle.poll_close.proofs.Blocks.{IsBlock, offset_low}
 use Rattle.poll_close.proofs.Outlines.{stands_at, has_ended, nearer}
 use Rattle.poll_close.proofs.Distance.{BlockProgress}
-use Rattle.poll_close.proofs.Progress.{nears}
+use Rattle.poll_close.proofs.Progress.{falls}
 use Rattle.poll_close.proofs.Standing.{Sender, value_is}
-use Rattle.fastforward.specs.FastForward.{fastforward, fastforward_blocks, fastforward_means, waits, fastforward_pace}
+use Rattle.fastforward.specs.FastForward.{fastforward, fastforward_blocks, fastforward_means, waits, fastforward_ranking}
 use Rattle.fastforward.specs.Invariant.Stores.{null_store, sender_stores, receiver_stores}
 use Rattle.fastforward.specs.Invariant.Numbers.{Numbers, sent, gone, taken, freed, Ordered, Words, pending_of, unread_of}
 use Rattle.fastforward.specs.Invariant.Sender.{Marked, sender}
@@ -44,7 +44,7 @@ ready : (k : Block) (n : Numbers) (s : HartState) (word : ℕ → ℕ) → IsBlo
 ready k n s word is one order words st running none empty wait =
     let test = and_parts (s.pc == 0x10) (not (word (slice_index s.registers 28 + 16) == 0)) wait in
     let at = at_10 k n s st (let on : (s.pc == 0x10) ≡ true = test.0 in grind (arith, nat_tests)) in
-    let r : Written = st.written in
+    let r : SenderRegisters = st.written in
     let place : slice_index s.registers 28 + 16 ≡ slot k.size k.base n.sender.stored = ap (λ (z : HartState). slice_index z.registers 28 + 16) at.0 ∙ (let same : r.x28 + 16 ≡ slot k.size k.base n.sender.stored = omega (arith, at.1.0.index, at.1.1) in same) in
     let some : word (slice_index s.registers 28 + 16) ≢ 0 = let off : not (word (slice_index s.registers 28 + 16) == 0) ≡ true = test.1 in grind (arith, nat_tests) in
     elim (cases_eq n.sender.stored (n.landed.nulls + k.size)) [
@@ -65,8 +65,8 @@ fastforward_progress = record {
   marked = marked;
 }
 
-pub fastforward_nears : Nears fastforward fastforward_means (left_by fastforward_pace) (next_by fastforward_pace)
-fastforward_nears = nears fastforward_blocks fastforward_laws 1 (lit≤ tt) fastforward_progress
+pub fastforward_falls : Decreases fastforward fastforward_means (rank_of fastforward_ranking) (next_by fastforward_ranking)
+fastforward_falls = falls fastforward_blocks fastforward_laws 1 (lit≤ tt) fastforward_progress
 
 -- the address of its slot
 pub address : (M : ℕ) (t : History) (h : ℕ) (d : Sender fastforward_blocks M t h) (pc v : ℕ) → option_map (λ (s : HartState). s.pc) (state_of M t h) ≡ Some pc → pc ≡ 0x10 → option_map (λ (s : HartState). slice_index s.registers 28) (state_of M t h) ≡ Some v → (v + 16 < 2 ^ 32) × ((v + 16) % 4 ≡ 0) × (v + 16 < 4 * M)
@@ -76,14 +76,14 @@ address M t h d pc v pc_at ten v_at =
     let low = offset_low d.block d.is d.numbers.sender.stored in
     (omega (arith, same, at.1.1, at.1.0.index, low, d.is.inside, d.is.small), omega (arith, same, at.1.1, at.1.0.index, d.is.even), omega (arith, same, at.1.1, at.1.0.index, low, d.is.inside, d.words))
 
-ready_of : (word : ℕ → ℕ) (o : Option HartState) (s : HartState) (w : ℕ) → o ≡ Some s → s.status ≡ status.Running → s.pc ≡ 0x10 → w ≡ word (slice_index s.registers 28 + 16) → (w == 0) ≡ ready_if fastforward_pace word o
+ready_of : (word : ℕ → ℕ) (o : Option HartState) (s : HartState) (w : ℕ) → o ≡ Some s → s.status ≡ status.Running → s.pc ≡ 0x10 → w ≡ word (slice_index s.registers 28 + 16) → (w == 0) ≡ ready_if fastforward_ranking word o
 ready_of word o s w is run at one = rw (is, run, at, one) (twice (word (slice_index s.registers 28 + 16) == 0))
   where
     twice : (b : Bool) → b ≡ not (not b)
     twice true = refl
     twice false = refl
 
-pub ready_is : (M : ℕ) (t : History) (h : ℕ) (d : Sender fastforward_blocks M t h) (stat : Status) (pc a w : ℕ) → option_map (λ (s : HartState). s.status) (state_of M t h) ≡ Some stat → stat ≡ status.Running → option_map (λ (s : HartState). s.pc) (state_of M t h) ≡ Some pc → pc ≡ 0x10 → option_map (λ (s : HartState). slice_index s.registers 28) (state_of M t h) ≡ Some a → w ≡ memory_word t.opening t.entries (a + 16) → (w == 0) ≡ is_ready fastforward_pace M t h
+pub ready_is : (M : ℕ) (t : History) (h : ℕ) (d : Sender fastforward_blocks M t h) (stat : Status) (pc a w : ℕ) → option_map (λ (s : HartState). s.status) (state_of M t h) ≡ Some stat → stat ≡ status.Running → option_map (λ (s : HartState). s.pc) (state_of M t h) ≡ Some pc → pc ≡ 0x10 → option_map (λ (s : HartState). slice_index s.registers 28) (state_of M t h) ≡ Some a → w ≡ memory_word t.opening t.entries (a + 16) → (w == 0) ≡ is_ready fastforward_ranking M t h
 ready_is M t h d stat pc a w stat_at run pc_at at a_at w_is =
     let place : a ≡ slice_index d.state.registers 28 = value_is (λ (s : HartState). slice_index s.registers 28) (state_of M t h) d.state a d.at a_at in
     ready_of (word_in_memory t.opening t.entries) (state_of M t h) d.state w d.at

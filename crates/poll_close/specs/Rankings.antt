@@ -25,7 +25,7 @@ use Rattle.poll_close.specs.Plans.{is_closed, is_done, senders_of, AllLanded}
 pub record Around : Type 0 where
   pub took : ℕ
   pub size : ℕ
-  pub shut : Bool
+  pub closed : Bool
   pub ended : Bool
   pub rest : ℕ
   pub start : ℕ
@@ -33,7 +33,7 @@ pub record Around : Type 0 where
 -- What a ring shows of its harts, by their states: how far a sender is from its end; whether it waits, by the
 -- words of memory, until the receiver acts; and how far the receiver is from its next report, where every
 -- sender waits or has ended.
-pub record Pace : Type 0 where
+pub record Ranking : Type 0 where
   pub sender : HartState → ℕ
   pub waits : HartState → (ℕ → ℕ) → Bool
   pub receiver : Around → HartState → ℕ
@@ -62,16 +62,16 @@ runs (Some s) = is_running s.status
 
 -- the receiver's distance, by the reports and the harts' states
 abbrev pub around : ℕ → ℕ → List Report → Option HartState → ℕ → Around
-around n size rs sender i = record { took = length (taken rs i); size = size; shut = is_closed rs i; ended = not (runs sender); rest = rest_from rs n (i + 1); start = rest_from rs n 0 }
+around n size rs sender i = record { took = length (taken rs i); size = size; closed = is_closed rs i; ended = not (runs sender); rest = rest_from rs n (i + 1); start = rest_from rs n 0 }
 
-abbrev pub far_of : Pace → ℕ → ℕ → List Report → (ℕ → Option HartState) → HartState → ℕ
-far_of p n size rs states s = p.receiver (around n size rs (states (visited_by s + 1)) (visited_by s)) s
+abbrev pub receiver_rank : Ranking → ℕ → ℕ → List Report → (ℕ → Option HartState) → HartState → ℕ
+receiver_rank p n size rs states s = p.receiver (around n size rs (states (visited_by s + 1)) (visited_by s)) s
 
-abbrev pub far_if : Pace → ℕ → ℕ → List Report → (ℕ → Option HartState) → Option HartState → ℕ
-far_if p n size rs states None = 0
-far_if p n size rs states (Some s) = far_of p n size rs states s
+abbrev pub receiver_rank_if : Ranking → ℕ → ℕ → List Report → (ℕ → Option HartState) → Option HartState → ℕ
+receiver_rank_if p n size rs states None = 0
+receiver_rank_if p n size rs states (Some s) = receiver_rank p n size rs states s
 
-abbrev pub sender_if : Pace → Option HartState → ℕ
+abbrev pub sender_if : Ranking → Option HartState → ℕ
 sender_if p None = 0
 sender_if p (Some s) = p.sender s
 
@@ -80,7 +80,7 @@ one_if true = 1
 one_if false = 0
 
 -- what is left of one sender: the reports still to come of it, and its own way to its end
-abbrev pub share : Pace → List (List ℕ) → List Report → (ℕ → Option HartState) → ℕ → ℕ
+abbrev pub share : Ranking → List (List ℕ) → List Report → (ℕ → Option HartState) → ℕ → ℕ
 share p lists rs states i = (length (slice_index_or lists i []) + 1 - (length (taken rs i) + one_if (is_closed rs i))) + sender_if p (states (i + 1))
 
 abbrev pub total : (ℕ → ℕ) → ℕ → ℕ
@@ -91,8 +91,8 @@ total f (suc i) = f i + total f i
 abbrev pub round : ℕ → ℕ
 round n = 200 * (n + 1)
 
-abbrev pub left_in : Pace → ℕ → ℕ → List (List ℕ) → List Report → (ℕ → Option HartState) → ℕ
-left_in p n size lists rs states = total (share p lists rs states) n * round n + far_if p n size rs states (states 0)
+abbrev pub rank_by_states : Ranking → ℕ → ℕ → List (List ℕ) → List Report → (ℕ → Option HartState) → ℕ
+rank_by_states p n size lists rs states = total (share p lists rs states) n * round n + receiver_rank_if p n size rs states (states 0)
 
 abbrev pub ring_bytes : List HartStart → ℕ
 ring_bytes [] = 0
@@ -102,15 +102,15 @@ abbrev pub ring_size : Start → ℕ
 ring_size o = ring_bytes o.harts / 4
 
 -- how much is left, by states and reports alone
-abbrev pub left_by : Pace → ℕ → History → ℕ
-left_by p M t = left_in p (senders_of t) (ring_size t.opening) (lists_of t.opening) (reported 0 t.entries) (λ h. state_of M t h)
+abbrev pub rank_of : Ranking → ℕ → History → ℕ
+rank_of p M t = rank_by_states p (senders_of t) (ring_size t.opening) (lists_of t.opening) (reported 0 t.entries) (λ h. state_of M t h)
 
 -- hart h is a sender that runs and does not wait
-abbrev pub ready_if : Pace → (ℕ → ℕ) → Option HartState → Bool
+abbrev pub ready_if : Ranking → (ℕ → ℕ) → Option HartState → Bool
 ready_if p word None = false
 ready_if p word (Some s) = is_running s.status && not (p.waits s word)
 
-abbrev pub is_ready : Pace → ℕ → History → ℕ → Bool
+abbrev pub is_ready : Ranking → ℕ → History → ℕ → Bool
 is_ready p M t h = ready_if p (word_in_memory t.opening t.entries) (state_of M t h)
 
 -- the last of the first so many senders that is ready, or the receiver
@@ -118,7 +118,7 @@ abbrev pub next_of : (ℕ → Bool) → ℕ → ℕ
 next_of ready zero = 0
 next_of ready (suc i) = if ready (suc i) then suc i else next_of ready i
 
-abbrev pub next_by : Pace → ℕ → History → ℕ
+abbrev pub next_by : Ranking → ℕ → History → ℕ
 next_by p M t = next_of (is_ready p M t) (senders_of t)
 
 -- the hart can act, and with its act, and the landing of what it stores, less is left
@@ -128,5 +128,5 @@ pub record Nearer (B M : ℕ) (left : History → ℕ) (t : History) (h : ℕ) :
   pub alone : (e : Entry) → IsFor (event.Act h) e → CanFollow B M t e → left (with_entry t e) < left t
   pub landed : (u : History) → left (with_entry u (entry.Land h)) ≡ left u
 
-unfoldable pub Nears : Ring → Meaning → (ℕ → History → ℕ) → (ℕ → History → ℕ) → Type 0
-Nears ring means left next = (B M : ℕ) (t : History) → 1 ≤ B → Stands ring means B M t → AllLanded t → is_done t ≡ false → Nearer B M (left M) t (next M t)
+unfoldable pub Decreases : Ring → Meaning → (ℕ → History → ℕ) → (ℕ → History → ℕ) → Type 0
+Decreases ring means left next = (B M : ℕ) (t : History) → 1 ≤ B → Stands ring means B M t → AllLanded t → is_done t ≡ false → Nearer B M (left M) t (next M t)

@@ -10,7 +10,7 @@ use Rattle.step_machine.specs.History.{History}
 use Rattle.step_machine.specs.Entries.{memory_word}
 use Rattle.step_machine.specs.Paths.{state_of}
 use Rattle.step_machine.specs.WordReads.{word_in_memory}
-use Rattle.poll_close.specs.Paces.{Nears, runs, left_by, next_by, ready_if, is_ready}
+use Rattle.poll_close.specs.Rankings.{Decreases, runs, rank_of, next_by, ready_if, is_ready}
 use Rattle.poll_close.specs.Invariant.Blocks.{Block, slot_store, tail_store}
 use Rattle.poll_close.specs.Invariant.Outlines.{Standing}
 use Rattle.poll_close.proofs.Modulo.{same_offset}
@@ -18,9 +18,9 @@ use Rattle.poll_close.proofs.Windows.{none_left, singles_length, pairs_length}
 use Rattle.poll_close.proofs.Blocks.{IsBlock}
 use Rattle.poll_close.proofs.Outlines.{base_is, stands_at, has_ended, nearer}
 use Rattle.poll_close.proofs.Distance.{BlockProgress}
-use Rattle.poll_close.proofs.Progress.{nears}
+use Rattle.poll_close.proofs.Progress.{falls}
 use Rattle.poll_close.proofs.Standing.{Sender, value_is}
-use Rattle.lamport_ring.specs.Lamport.{lamport, lamport_blocks, lamport_means, waits, lamport_pace}
+use Rattle.lamport_ring.specs.Lamport.{lamport, lamport_blocks, lamport_means, waits, lamport_ranking}
 use Rattle.lamport_ring.specs.Invariant.Stores.{head_store, sender_stores, receiver_stores}
 use Rattle.lamport_ring.specs.Invariant.Numbers.{Numbers, sent, gone, Ordered, Words, pending_of, unread_of, taken, freed}
 use Rattle.lamport_ring.specs.Invariant.Sender.{Marked, sender}
@@ -63,8 +63,8 @@ lamport_progress = record {
   marked = marked;
 }
 
-pub lamport_nears : Nears lamport lamport_means (left_by lamport_pace) (next_by lamport_pace)
-lamport_nears = nears lamport_blocks lamport_laws 2 (lit≤ tt) lamport_progress
+pub lamport_falls : Decreases lamport lamport_means (rank_of lamport_ranking) (next_by lamport_ranking)
+lamport_falls = falls lamport_blocks lamport_laws 2 (lit≤ tt) lamport_progress
 
 -- the tail's address
 pub address : (M : ℕ) (t : History) (h : ℕ) (d : Sender lamport_blocks M t h) (v : ℕ) → option_map (λ (s : HartState). slice_index s.registers 8) (state_of M t h) ≡ Some v → (v + 8 < 2 ^ 32) × ((v + 8) % 4 ≡ 0) × (v + 8 < 4 * M)
@@ -72,10 +72,10 @@ address M t h d v at =
     let same : v ≡ d.block.base = value_is (λ (s : HartState). slice_index s.registers 8) (state_of M t h) d.state v d.at at ∙ base_is sender d.block d.numbers.sender d.state d.stands in
     (omega (arith, same, d.is.inside, d.is.small, d.is.some_slot), omega (arith, same, d.is.even), omega (arith, same, d.is.inside, d.words, d.is.some_slot))
 
-ready_of : (word : ℕ → ℕ) (o : Option HartState) (s : HartState) (w x : ℕ) → o ≡ Some s → s.status ≡ status.Running → s.pc ≡ 0x18 → w ≡ word (slice_index s.registers 8 + 8) → x ≡ slice_index s.registers 6 → not (w == x) ≡ ready_if lamport_pace word o
+ready_of : (word : ℕ → ℕ) (o : Option HartState) (s : HartState) (w x : ℕ) → o ≡ Some s → s.status ≡ status.Running → s.pc ≡ 0x18 → w ≡ word (slice_index s.registers 8 + 8) → x ≡ slice_index s.registers 6 → not (w == x) ≡ ready_if lamport_ranking word o
 ready_of word o s w x is run at one two = rw (is, run, at, one, two) refl
 
-pub ready_is : (M : ℕ) (t : History) (h : ℕ) (d : Sender lamport_blocks M t h) (stat : Status) (pc a w x : ℕ) → option_map (λ (s : HartState). s.status) (state_of M t h) ≡ Some stat → stat ≡ status.Running → option_map (λ (s : HartState). s.pc) (state_of M t h) ≡ Some pc → pc ≡ 0x18 → option_map (λ (s : HartState). slice_index s.registers 8) (state_of M t h) ≡ Some a → w ≡ memory_word t.opening t.entries (a + 8) → option_map (λ (s : HartState). slice_index s.registers 6) (state_of M t h) ≡ Some x → not (w == x) ≡ is_ready lamport_pace M t h
+pub ready_is : (M : ℕ) (t : History) (h : ℕ) (d : Sender lamport_blocks M t h) (stat : Status) (pc a w x : ℕ) → option_map (λ (s : HartState). s.status) (state_of M t h) ≡ Some stat → stat ≡ status.Running → option_map (λ (s : HartState). s.pc) (state_of M t h) ≡ Some pc → pc ≡ 0x18 → option_map (λ (s : HartState). slice_index s.registers 8) (state_of M t h) ≡ Some a → w ≡ memory_word t.opening t.entries (a + 8) → option_map (λ (s : HartState). slice_index s.registers 6) (state_of M t h) ≡ Some x → not (w == x) ≡ is_ready lamport_ranking M t h
 ready_is M t h d stat pc a w x stat_at run pc_at at a_at w_is x_at =
     let place : a ≡ slice_index d.state.registers 8 = value_is (λ (s : HartState). slice_index s.registers 8) (state_of M t h) d.state a d.at a_at in
     ready_of (word_in_memory t.opening t.entries) (state_of M t h) d.state w x d.at
