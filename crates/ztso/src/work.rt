@@ -1,11 +1,11 @@
 //! Which engine does a job.
 
-ghost use Rattle.std.specs.Prelude.{◌≡◌, ◌≤◌, ◌*◌, false};
+ghost use Rattle.std.specs.Prelude.{◌≡◌, ◌≤◌, ◌*◌, [], false};
 ghost use Rattle.ztso.specs.declared.work.TheConstants.{WORDS};
 ghost use Rattle.ztso.specs.Work.{LeavesCommands, reads_commands, DoesErrand, DoesThreads, DoesWork, Given, LeavesSecond, LeavesSecondOf, WithStatus, done_status, drawn_from, ended_with, tables_of, tried_status, verdict_status};
 ghost use Rattle.recorder.specs.Drawing.{left_after};
 ghost use Rattle.ztso_engines.specs.Asm.{IsAsmAnswer};
-ghost use Rattle.poll_close.specs.Layout.{dense};
+ghost use Rattle.poll_close.specs.Places.{layout_of};
 ghost use Rattle.ztso_engines.specs.Channels.{IsChannelAnswer};
 ghost use Rattle.ztso_engines.specs.Dis.{IsDisAnswer};
 ghost use Rattle.engine_parts.specs.Engines.{AnswersBoth, Ends, EndsBy, EndsByBoth, OfInput};
@@ -201,12 +201,12 @@ fn try_test<const B: usize, F: Read, W: Write, T: Threads + Sync, P: Progress>(
     after_try(try_drawn::<B, _, _, _, _>(rt, alloc, seed, runs, file, progress, writer))
 }
 
-/// Runs a channel over lists of words by a schedule, through rings of this kind, and then by a plan if it
-/// is to be finished.
+/// Runs a channel over lists of words by a schedule, through rings of this kind at this place, and then by a
+/// plan if it is to be finished.
 fn run_rings<const B: usize, S: Read, L: Read, W: Write>(
     alloc: Global,
     ring: Ring,
-    slots: u32,
+    place: Place,
     finish: bool,
     schedule: &mut S,
     lists: &mut L,
@@ -214,14 +214,9 @@ fn run_rings<const B: usize, S: Read, L: Read, W: Write>(
 ) -> Result<(), Fault>
     requires some_capacity { 1 ≤ B }
     requires capacity { B ≤ 64 }
-    ensures ends { EndsByBoth (IsChannelAnswer (tables_of ring) B WORDS (dense slots) finish) result (S.remaining schedule.old) (L.remaining lists.old) W.contents writer.old writer.new }
+    ensures ends { EndsByBoth (IsChannelAnswer (tables_of ring) B WORDS (layout_of place []) finish) result (S.remaining schedule.old) (L.remaining lists.old) W.contents writer.old writer.new }
     ensures unread { HasNoSchedule (S.remaining schedule.old) → lists.new ≡ lists.old }
 {
-    let place = Place {
-        ring: slots,
-        base: 0,
-        stride: None,
-    };
     match ring {
         Ring::Lamport => channel_engine::<Lamport, B, WORDS, _, _, _>(
             alloc, place, finish, schedule, lists, writer,
@@ -236,7 +231,7 @@ fn run_rings<const B: usize, S: Read, L: Read, W: Write>(
 fn run_channel<const B: usize, S: Read, L: Read, W: Write>(
     alloc: Global,
     ring: Ring,
-    slots: u32,
+    place: Place,
     finish: bool,
     schedule: &mut S,
     lists: &mut L,
@@ -244,10 +239,10 @@ fn run_channel<const B: usize, S: Read, L: Read, W: Write>(
 ) -> Result<u8, Fault>
     requires some_capacity { 1 ≤ B }
     requires capacity { B ≤ 64 }
-    ensures ends { Ends (WithStatus done_status (AnswersBoth (IsChannelAnswer (tables_of ring) B WORDS (dense slots) finish) (S.remaining schedule.old) (L.remaining lists.old))) result W.contents writer.old writer.new }
+    ensures ends { Ends (WithStatus done_status (AnswersBoth (IsChannelAnswer (tables_of ring) B WORDS (layout_of place []) finish) (S.remaining schedule.old) (L.remaining lists.old))) result W.contents writer.old writer.new }
     ensures unread { HasNoSchedule (S.remaining schedule.old) → lists.new ≡ lists.old }
 {
-    after(run_rings::<B, _, _, _>(alloc, ring, slots, finish, schedule, lists, writer))
+    after(run_rings::<B, _, _, _>(alloc, ring, place, finish, schedule, lists, writer))
 }
 
 /// Does the work with a machine whose harts' buffers hold `B` stores.
@@ -285,9 +280,9 @@ fn do_work<
         }
         Work::Channel {
             ring,
-            slots,
+            place,
             finish,
-        } => run_channel::<B, _, _, _>(alloc, ring, slots, finish, first, second, writer),
+        } => run_channel::<B, _, _, _>(alloc, ring, place, finish, first, second, writer),
     }
 }
 
