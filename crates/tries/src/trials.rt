@@ -51,13 +51,7 @@ fn is_good(test: &Test, tally: &Tally) -> bool
 }
 
 /// The text of a test's runs, and whether they show what it asks.
-fn answer<
-    const B: usize,
-    const M: usize,
-    G: Jump + Sync + Drop,
-    T: Threads + Sync,
-    P: Progress,
->(
+fn answer<const B: usize, const M: usize, G: Jump + Sync + Drop, T: Threads + Sync, P: Progress>(
     rt: &T,
     alloc: Global,
     test: &Test,

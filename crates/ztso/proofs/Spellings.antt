@@ -395,7 +395,7 @@ spelled_of name rest (Alone (Machine (Try seed runs) capacity)) wanted (file, s,
     (try_told file s n l skip.text jobs.text to.tail to.text
     ∙ tried_says file s n l _ _ seed runs capacity _ seed_is.1 skip.says runs_are.1 events_are.1 jobs.says to.says ∙ ap (λ (w : Wanted). Some w) (sym wants))
 spelled_of name rest (Alone (Machine (Channel ring place finish) capacity)) wanted
-(number, schedule, first, second, third, options, is, slots_are, s, base_is, stride_is, finishes, asks, wants) =
+    (number, schedule, first, second, third, options, is, slots_are, s, base_is, stride_is, finishes, asks, wants) =
     let to = capacity_spelled capacity options asks in
     let end = tail_of to.tail to.text in
     let base = number_spelled (codes "--base") (codes "0") 0 0 4294967295 place.base first no_base base_is in

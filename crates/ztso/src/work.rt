@@ -246,15 +246,7 @@ fn run_channel<const B: usize, S: Read, L: Read, W: Write>(
 }
 
 /// Does the work with a machine whose harts' buffers hold `B` stores.
-fn do_work<
-    const B: usize,
-    F: Read,
-    S: Read,
-    C: Read,
-    W: Write,
-    T: Threads + Sync,
-    P: Progress,
->(
+fn do_work<const B: usize, F: Read, S: Read, C: Read, W: Write, T: Threads + Sync, P: Progress>(
     rt: &T,
     alloc: Global,
     work: Work,
