@@ -10,12 +10,12 @@ use Rattle.engine_parts.specs.Faults.{AnswersAs}
 use Rattle.engine_parts.specs.Histories.{AnswersRun, ByRun, Runs}
 use Rattle.engine_parts.specs.Histories.BySchedule.{both}
 use Rattle.engine_parts.specs.inner.Making.{Finds}
-use Rattle.engine_parts.specs.inner.Inputs.{IsReadAsTest, IsReadAsEither, IsItself}
+use Rattle.engine_parts.specs.inner.Inputs.{IsReadAsTest, IsReadAsSchedule, IsItself}
 use Rattle.engine_parts.proofs.ScheduleLaws.{both_read, fault_as, made_of_both, stopped_as, weaker_both}
 
 module _ (B M : ℕ) (first second : Option (List ℕ)) where
   module _ (question : LitmusTest) (said : Said) (test : OfInput first (λ bytes. IsReadAsTest bytes (Ok question)))
-      (schedule : OfInput second (λ bytes. IsReadAsEither bytes (Ok said))) where
+      (schedule : OfInput second (λ bytes. IsReadAsSchedule bytes (Ok said))) where
     -- both were read and run
     pub run_found : (history : History) → Runs B M question.opening said (Ok history) → AnswersBoth (ByRun B M IsItself) first second (Ok (question, history))
     run_found history run =

@@ -17,7 +17,7 @@ use Rattle.engine_parts.specs.declared.fault.Refusal.{Refusal}
 use Rattle.engine_parts.specs.declared.fault.Position.TheVariants.{Event as AtEvent}
 use Rattle.engine_parts.specs.Engines.{Accepted}
 use Rattle.engine_parts.specs.Tests.{IsNoTest}
-use Rattle.engine_parts.specs.Schedules.{IsNeitherVersion}
+use Rattle.engine_parts.specs.Schedules.{IsNoSchedule}
 
 -- ---- what a schedule makes
 
@@ -49,12 +49,13 @@ Records B M opening said (Err refusal) = Runs B M opening said (Err refusal)
 -- schedule says and of the answer. The test is judged first, then the schedule's text.
 pub data BySchedule {A : Type 0} (IsAnswer : LitmusTest → Said → Result A Refusal → Type 0) (file schedule : List ℕ) : Result A Refusal → Type 0 where
   no_test : (refusal : Refusal) → IsNoTest file refusal → BySchedule IsAnswer file schedule (Err refusal)
-  no_schedule : (question : LitmusTest) (refusal : Refusal) → Accepted IsTestOf file question → IsNeitherVersion schedule refusal → BySchedule IsAnswer file schedule (Err refusal)
+  no_schedule : (question : LitmusTest) (refusal : Refusal) → Accepted IsTestOf file question → IsNoSchedule schedule refusal → BySchedule IsAnswer file schedule (Err refusal)
   both : (question : LitmusTest) (said : Said) (answer : Result A Refusal) → Accepted IsTestOf file question → Accepted Says schedule said → IsAnswer question said answer → BySchedule IsAnswer file schedule answer
 
 -- This holds of the history that the schedule makes of the test's opening, over store buffers of B pairs
 -- and a memory of M words.
-pub record IsOfRun {A : Type 0} (B M : ℕ) (IsAnswer : LitmusTest → History → A → Type 0) (question : LitmusTest) (said : Said) (answer : A) : Type 0 where
+pub record IsOfRun {A : Type 0} (B M : ℕ) (IsAnswer : LitmusTest → History → A → Type 0)
+    (question : LitmusTest) (said : Said) (answer : A) : Type 0 where
   pub history : History
   pub ran : Runs B M question.opening said (Ok history)
   pub answers : IsAnswer question history answer

@@ -25,7 +25,7 @@ use std::io::Read;
 use step_machine::{Event, Machine, Outcome};
 
 /// Why a record isn't replayed, as a fault.
-fn check_fault(error: CheckError) -> Fault
+pub fn check_fault(error: CheckError) -> Fault
     ensures { result ≡ fault_of_check error }
 {
     match error {

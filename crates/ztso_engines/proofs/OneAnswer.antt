@@ -13,8 +13,7 @@ use Rattle.assembler.specs.Faults.{Refusal as AsmRefusal}
 use Rattle.assembler.specs.Program.{IsCode}
 use Rattle.assembler.proofs.OneCode.{refused_without_program}
 use Rattle.assembler.proofs.OneCode as assembler
-use Rattle.recorder.specs.Schedule.{IsPlainOf}
-use Rattle.recorder.specs.Reading.{plain_at}
+use Rattle.recorder.specs.Records.{record_text}
 use Rattle.recorder.specs.Versions.{Said, Says, events_said, said_at}
 use Rattle.texts.proofs.FormatLaws.{settled_only}
 use Rattle.recorder.proofs.HeadLaws.{plain_settles, one_said, said_settles}
@@ -32,7 +31,7 @@ use Rattle.engine_parts.specs.Engines.{Output, Accepted, AreOneAnswer, judged}
 use Rattle.engine_parts.specs.Faults.{too_large, not_text}
 use Rattle.engine_parts.specs.Tests.{ByTest, IsNoTest, refused_test, test_of}
 use Rattle.engine_parts.specs.Tests as tests
-use Rattle.engine_parts.specs.Schedules.{IsNoSchedule, IsNeitherVersion, events_of, schedule_of}
+use Rattle.engine_parts.specs.Schedules.{IsNoSchedule, schedule_of}
 use Rattle.ztso_engines.specs.Asm.{IsAsmAnswer, asm_at, hex_line, refused_program}
 use Rattle.ztso_engines.specs.Scenario.{Scenario, opening_of}
 use Rattle.ztso_engines.specs.StepsText.{Tells}
@@ -44,6 +43,7 @@ use Rattle.recorder.specs.Outcomes.{entry_line}
 use Rattle.engine_parts.specs.Histories.{AnswersEvents, AnswersRun, BySchedule}
 use Rattle.engine_parts.specs.Histories as histories
 use Rattle.ztso_engines.specs.Run.{IsJudged, IsRunAnswer, verdict_line}
+use Rattle.ztso_engines.specs.Move.{IsMoved, IsMoveAnswer}
 use Rattle.ztso_engines.specs.Replay.{IsReplay, IsReplayAnswer}
 use Rattle.debugger.specs.Talks.{IsDebugAnswer, IsTalk}
 use Rattle.tries.specs.Outcomes.{IsTriedOf, IsTryAnswer}
@@ -52,7 +52,7 @@ use Rattle.ztso_engines.proofs.Telling.{text_read, one_told}
 use Rattle.ztso_engines.proofs.CodeTexts.{code_read, one_code}
 use Rattle.tries.proofs.OneText.{one_try, one_verdict}
 use Rattle.debugger.proofs.OneTalk.{one_talk_of}
-use Rattle.engine_parts.proofs.RunLaws.{one_run as one_run_of}
+use Rattle.engine_parts.proofs.RunLaws.{one_record, one_run as one_run_of}
 use Rattle.engine_parts.proofs.TestTexts.{test_or_none}
 
 pub same_output : (a b : Output) → a.0 ≡ b.0 → a ≡ b
@@ -142,13 +142,7 @@ module _ {A : Type 0} (IsAnswer : LitmusTest → Result A Refusal → Type 0)
 
 -- ---- and by a schedule
 
-pub schedule_or_refusal : (input : List ℕ) (events : List Event) (r : Refusal) → Accepted IsPlainOf input events → IsNoSchedule input r → ⊥
-unfolding events_of
-schedule_or_refusal input events r is refused =
-    let read : judged events_of input ≡ Ok events = judged_text events_of input is.few is.text ∙ (let found = settled_only (IsPlainOf input) (plain_at input) events (plain_settles input) is.value_is in rw found refl) in
-    absurd cc
-
-pub said_or_refusal : (input : List ℕ) (said : Said) (r : Refusal) → Accepted Says input said → IsNeitherVersion input r → ⊥
+pub said_or_refusal : (input : List ℕ) (said : Said) (r : Refusal) → Accepted Says input said → IsNoSchedule input r → ⊥
 unfolding schedule_of
 said_or_refusal input said r is refused =
     let found = settled_only (Says input) (said_at input) said (said_settles input) is.value_is in
@@ -179,7 +173,7 @@ module _ {A : Type 0} (IsAnswer : LitmusTest → Said → Result A Refusal → T
   one_by_schedule a b (histories.BySchedule.both q said given is reads told) (histories.BySchedule.both p others other also says tells) =
       one_of_both q p said others a b is also reads says told tells
 
--- ---- `run`, `replay` and `debug`
+-- ---- `run`, `replay`, `move` and `debug`
 
 -- answers that are the same are one answer
 alike : {A : Type 0} (a b : Result A Refusal) → a ≡ b → AreOneAnswer a b
@@ -189,8 +183,10 @@ alike (Err r) (Ok b) e = absurd cc
 alike (Err r) (Err s) e = ap (λ (x : Refusal). x.number) (let same : r ≡ s = cc in same)
 
 -- what is one of a history is one of a test and a schedule
-module _ {A : Type 0} (B M : ℕ) (IsAnswer : LitmusTest → History → A → Type 0) (one : (q : LitmusTest) (t : History) (a b : A) → IsAnswer q t a → IsAnswer q t b → a ≡ b) where
-  one_of_history : (q : LitmusTest) (said : Said) (a b : Result A Refusal) → AnswersRun B M IsAnswer q said a → AnswersRun B M IsAnswer q said b → AreOneAnswer a b
+module _ {A : Type 0} (B M : ℕ) (IsAnswer : LitmusTest → History → A → Type 0)
+    (one : (q : LitmusTest) (t : History) (a b : A) → IsAnswer q t a → IsAnswer q t b → a ≡ b) where
+  one_of_history : (q : LitmusTest) (said : Said) (a b : Result A Refusal)
+      → AnswersRun B M IsAnswer q said a → AnswersRun B M IsAnswer q said b → AreOneAnswer a b
   one_of_history q said (Ok a) (Ok b) is other =
       let histories = one_run_of B M q.opening said (Ok is.history) (Ok other.history) is.ran other.ran in
       let same : other.history ≡ is.history = cc in
@@ -214,11 +210,24 @@ one_talked B M input q said (Ok a) (Ok b) is other = one_talk_of B M input q (ev
 one_talked B M input q said (Ok a) (Err s) is none = absurd none
 one_talked B M input q said (Err r) b none other = absurd none
 
+one_moved : (B M : ℕ) (q : LitmusTest) (said : Said) (a b : Result Output Refusal) → IsMoved B M q said a → IsMoved B M q said b → AreOneAnswer a b
+one_moved B M q said (Ok a) (Ok b) (steps, records, is) (others, also, other) =
+    let records_same = one_record B M q.opening said (Ok steps) (Ok others) records also in
+    let same : steps ≡ others = cc in
+    same_output a b (is ∙ ap record_text same ∙ sym other)
+one_moved B M q said (Ok a) (Err s) (steps, records, is) differs = alike _ _ (one_record B M q.opening said (Ok steps) (Err s) records differs)
+one_moved B M q said (Err r) (Ok b) differs (steps, records, is) = alike _ _ (one_record B M q.opening said (Err r) (Ok steps) differs records)
+one_moved B M q said (Err r) (Err s) differs other = alike _ _ (one_record B M q.opening said (Err r) (Err s) differs other)
+
 pub one_run : (B M : ℕ) (file schedule : List ℕ) (a b : Result (List ℕ × Verdict) Refusal) → IsRunAnswer B M file schedule a → IsRunAnswer B M file schedule b → AreOneAnswer a b
 one_run B M = one_by_schedule (AnswersRun B M (IsJudged M)) (one_of_history B M (IsJudged M) (one_judged M))
 
 pub one_replay : (B M : ℕ) (file schedule : List ℕ) (a b : Result Output Refusal) → IsReplayAnswer B M file schedule a → IsReplayAnswer B M file schedule b → AreOneAnswer a b
 one_replay B M = one_by_schedule (AnswersRun B M IsReplay) (one_of_history B M IsReplay one_replayed)
+
+pub one_move : (B M : ℕ) (file schedule : List ℕ) (a b : Result Output Refusal)
+    → IsMoveAnswer B M file schedule a → IsMoveAnswer B M file schedule b → AreOneAnswer a b
+one_move B M = one_by_schedule (IsMoved B M) (one_moved B M)
 
 pub one_debug : (B M : ℕ) (input file schedule : List ℕ) (a b : Result Output Refusal)
     → IsDebugAnswer B M (Some input) file schedule a → IsDebugAnswer B M (Some input) file schedule b → AreOneAnswer a b

@@ -8,8 +8,8 @@ use Rattle.ztso_engines.proofs.run.made.Goals as goal
 
 pub returns-clause-made : goal.returns-clause-made
 returns-clause-made g c =
-    answers_of_run g.row.B g.row.M _ _ (IsJudged g.row.M) c.in_ok-test.test c.in_ok-test.machine.history (text_and_value c.in_ok-told.told) c.in_ok-test.ensures.run
-    c.in_ok-told.ensures
+    answers_of_run g.row.B g.row.M _ _ (IsJudged g.row.M) c.in_ok-test.test c.in_ok-test.machine.history (text_and_value c.in_ok-told.told)
+    c.in_ok-test.ensures.run c.in_ok-told.ensures
 
 pub returns-in_err-test-clause-made : goal.returns-in_err-test-clause-made
 returns-in_err-test-clause-made g c =
