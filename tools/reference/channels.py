@@ -7,7 +7,7 @@ from pathlib import Path
 import assembly
 import litmus
 from digits import of_digits
-from faults import at_line, refused
+from faults import DIFFERS, at_event, at_line, refused
 from machine import MEMORY, RUNNING, Machine, word_at
 from words import lines
 
@@ -99,6 +99,7 @@ class Channel:
         name, *parts = outcome.split()
         if entry and name in ("took", "closed"):
             self.reports.append(" ".join([name, *parts[1:]]))
+        return outcome
 
     def land(self, hart):
         """All that is pending there."""
@@ -128,12 +129,13 @@ class Channel:
             self.land(hart)
 
 
-def reports(kind, slots, words, events, capacity, finish=False, place=DENSE):
-    """The receiver's reports in the run of these events, and of the plan behind them if the channel is to
-    be finished."""
-    channel = Channel(kind, slots, words, capacity, place)
-    for event in events:
-        channel.run(event)
+def reports(kind, slots, words, steps, capacity, finish=False, where=DENSE):
+    """The receiver's reports in the run of these events, and of the plan after them if the channel is to
+    be finished. A record is refused where an outcome isn't the run's."""
+    channel = Channel(kind, slots, words, capacity, where)
+    for place, (event, said) in enumerate(steps):
+        if said not in (channel.run(event), None):
+            raise at_event(DIFFERS, place)
     if finish:
         channel.finish()
     return channel.reports
