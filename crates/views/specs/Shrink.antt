@@ -48,3 +48,10 @@ IsShrink B M question said (Err refusal) = IsNotShrunk B M question said refusal
 -- what answers a litmus text and a schedule
 abbrev pub IsShrinkAnswer : (B M : ℕ) → (file schedule : List ℕ) → Result Output Refusal → Type 0
 IsShrinkAnswer B M = BySchedule (IsShrink B M)
+
+-- Two answers are both outputs, or refusals of one number.
+abbrev pub AreOfOneKind : {A : Type 0} → Result A Refusal → Result A Refusal → Type 0
+AreOfOneKind (Ok a) (Ok b) = Unit {0}
+AreOfOneKind (Ok a) (Err s) = ⊥
+AreOfOneKind (Err r) (Ok b) = ⊥
+AreOfOneKind (Err r) (Err s) = r.number ≡ s.number

@@ -7,4 +7,4 @@
 #![tactic(auto)]
 
 pub mod laws;
-pub mod shrink;
+pub mod shrinking;

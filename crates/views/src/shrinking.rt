@@ -1,10 +1,7 @@
 //! The command `shrink`: a litmus text and a schedule in, a schedule with the same outcome out, from which
 //! nothing can be left out.
 
-ghost use Rattle.std.specs.Prelude.{◌≡◌, ◌≤◌, List, length};
-ghost use Rattle.std.specs.Result.{AnswersOf};
-ghost use Rattle.step_machine.specs.Runs.{Run};
-ghost use Rattle.step_machine.specs.declared.events.Event.{Event};
+ghost use Rattle.std.specs.Prelude.{◌≡◌, ◌≤◌, length};
 ghost use Rattle.recorder.specs.Schedule.{OfHarts};
 ghost use Rattle.recorder.specs.Versions.{events_said, said_of};
 ghost use Rattle.recorder.specs.declared.reading.TheConstants.{MAX_EVENTS};
