@@ -54,11 +54,12 @@ said_or_refusal input said r is refused =
 one_refusal : {V : Type 0} (judgement : Result V Refusal) (r s : Refusal) → judgement ≡ Err r → judgement ≡ Err s → r ≡ s
 one_refusal judgement r s e f = cc
 
-module _ {A : Type 0} (Alike : Result A Refusal → Result A Refusal → Type 0) (refusals : (r s : Refusal) → r.number ≡ s.number → Alike (Err r) (Err s))
-    (IsAnswer : LitmusTest → Said → Result A Refusal → Type 0) (alike : (q : LitmusTest) (said : Said) (a b : Result A Refusal) → IsAnswer q said a → IsAnswer q said b → Alike a b)
+module _ {A : Type 0} (Alike : Result A Refusal → Result A Refusal → Type 0)
+    (refusals : (r s : Refusal) → r.number ≡ s.number → Alike (Err r) (Err s)) (IsAnswer : LitmusTest → Said → Result A Refusal → Type 0)
+    (alike : (q : LitmusTest) (said : Said) (a b : Result A Refusal) → IsAnswer q said a → IsAnswer q said b → Alike a b)
     (file schedule : List ℕ) where
-  alike_of_values : (q p : LitmusTest) (said other : Said) (a b : Result A Refusal) → Accepted IsTestOf file q → Accepted IsTestOf file p → Accepted Says schedule said → Accepted Says schedule other
-      → IsAnswer q said a → IsAnswer p other b → Alike a b
+  alike_of_values : (q p : LitmusTest) (said other : Said) (a b : Result A Refusal) → Accepted IsTestOf file q → Accepted IsTestOf file p
+      → Accepted Says schedule said → Accepted Says schedule other → IsAnswer q said a → IsAnswer p other b → Alike a b
   alike_of_values q p said other a b is also reads says answers tells =
       alike q said a b answers
       (subst (λ (x : LitmusTest). IsAnswer x said b) (one_test file p q also.value_is is.value_is)
@@ -74,4 +75,5 @@ module _ {A : Type 0} (Alike : Result A Refusal → Result A Refusal → Type 0)
   alike_by_schedule a b (no_schedule q r is bad) (both p said given also reads told) = absurd (said_or_refusal schedule said r reads bad)
   alike_by_schedule a b (both q said given is reads told) (no_test s none) = absurd (test_or_refusal file q s is none)
   alike_by_schedule a b (both q said given is reads told) (no_schedule p s also bad) = absurd (said_or_refusal schedule said s reads bad)
-  alike_by_schedule a b (both q said given is reads told) (both p others other also says tells) = alike_of_values q p said others a b is also reads says told tells
+  alike_by_schedule a b (both q said given is reads told) (both p others other also says tells) =
+      alike_of_values q p said others a b is also reads says told tells

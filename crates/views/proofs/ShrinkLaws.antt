@@ -1,5 +1,5 @@
 -- What answers a test and a schedule, by the schedule's run.
-use Rattle.std.proofs.Common.{◌≡◌, ℕ, List, Result, Ok, Err, refl, sym, ap, subst}
+use Rattle.std.proofs.Common.{◌≡◌, ℕ, Result, Ok, Err, refl, ap, subst}
 use Rattle.step_machine.specs.History.{Start, History, unrun}
 use Rattle.step_machine.specs.Runs.{Run}
 use Rattle.step_machine.proofs.Running.{run-one}
@@ -16,7 +16,7 @@ use Rattle.engine_parts.specs.Engines.{Output, AreAlike}
 use Rattle.engine_parts.specs.Faults.{AnswersAs}
 use Rattle.engine_parts.specs.Histories.{Runs}
 use Rattle.engine_parts.proofs.RunLaws.{one_run}
-use Rattle.views.specs.Shrink.{AreOfOneKind, IsNotShrunk, IsShrink, IsShrinkOf, differs, fault_of_shrink, not_finished, unfinished}
+use Rattle.views.specs.Shrink.{AreOfOneKind, IsNotShrunk, IsShrink, IsShrinkOf, differs, fault_of_shrink, unfinished}
 
 -- a schedule's run is the run of its events
 pub runs_events : (B M : ℕ) (o : Start) (said : Said) (t : History) → Runs B M o said (Ok t) → Run B M o (events_said said) t
@@ -25,8 +25,8 @@ runs_events B M o (recorded steps) t ran = record_runs B M o steps t ran
 
 module _ (B M : ℕ) (q : LitmusTest) (said : Said) where
   -- why the run isn't shrunk is why the schedule isn't
-  pub not_shrunk : {X : Type 0} (view : X → Output) (t : History) (why : ShrinkError) (fault : Fault) → Runs B M q.opening said (Ok t) → RefusesRun M t why → fault ≡ fault_of_shrink why
-      → AnswersAs (IsShrink B M q said) view (Err fault)
+  pub not_shrunk : {X : Type 0} (view : X → Output) (t : History) (why : ShrinkError) (fault : Fault) → Runs B M q.opening said (Ok t)
+      → RefusesRun M t why → fault ≡ fault_of_shrink why → AnswersAs (IsShrink B M q said) view (Err fault)
   not_shrunk view t error.NoMemory fault ran unended is = rw is tt
   not_shrunk view t error.NotFinished fault ran unended is = rw is (unfinished t ran unended)
 
@@ -44,7 +44,8 @@ module _ (B M : ℕ) (q : LitmusTest) (said : Said) where
   shrunk_or_not answer r is (differs s differ) = runs_or_differs is.history s is.ran differ
   shrunk_or_not answer r is (unfinished t ran unended) =
       let ends = is.shrunk.given_ends in
-      unended (subst (λ (u : History). IsFinished M u) (run-one B M (unrun q.opening) (events_said said) ends.history t ends.run (runs_events B M q.opening said t ran)) ends.finished)
+      let same = run-one B M (unrun q.opening) (events_said said) ends.history t ends.run (runs_events B M q.opening said t ran) in
+      unended (subst (IsFinished M) same ends.finished)
 
   one_reason : (r s : Refusal) → IsNotShrunk B M q said r → IsNotShrunk B M q said s → r ≡ s
   one_reason r s (differs x differ) (differs y other) = one_difference x y differ other

@@ -6,7 +6,7 @@ use Rattle.litmus.specs.LitmusTests.{LitmusTest}
 use Rattle.litmus.specs.Verdicts.{IsFinished}
 use Rattle.recorder.specs.Versions.{Said, events_said}
 use Rattle.recorder.specs.Writing.{canon}
-use Rattle.shrink.specs.Shrinking.{IsShrunk, fault_number}
+use Rattle.shrink.specs.Shrinking.{IsShrunk}
 use Rattle.shrink.specs.declared.faults.ShrinkError.{ShrinkError}
 use Rattle.shrink.specs.declared.faults.ShrinkError.TheVariants as error
 use Rattle.engine_parts.specs.declared.fault.Fault.{Fault}
@@ -38,7 +38,8 @@ pub record IsShrinkOf (B M : ℕ) (question : LitmusTest) (said : Said) (answer 
 -- or a store is pending.
 pub data IsNotShrunk (B M : ℕ) (question : LitmusTest) (said : Said) : Refusal → Type 0 where
   differs : (refusal : Refusal) → Runs B M question.opening said (Err refusal) → IsNotShrunk B M question said refusal
-  unfinished : (history : History) → Runs B M question.opening said (Ok history) → (IsFinished M history → ⊥) → IsNotShrunk B M question said not_finished
+  unfinished : (history : History) → Runs B M question.opening said (Ok history) → (IsFinished M history → ⊥)
+      → IsNotShrunk B M question said not_finished
 
 -- what answers a test and what a schedule says
 abbrev pub IsShrink : (B M : ℕ) → LitmusTest → Said → Result Output Refusal → Type 0

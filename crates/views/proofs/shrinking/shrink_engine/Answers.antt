@@ -5,5 +5,5 @@ use Rattle.views.proofs.shrinking.shrink_engine.Goals as goal
 
 pub returns-clause-ends : goal.returns-clause-ends
 returns-clause-ends g c =
-    ended (AnswersBoth (IsShrinkAnswer g.row.B g.row.M) (g.F.Read.remaining c.args.file.now) (g.S.Read.remaining c.args.schedule.now)) _ c.made.result c.end_with.result
-    g.W.Write.contents _ _ c.made.ensures.made c.end_with.ensures
+    ended (AnswersBoth (IsShrinkAnswer g.row.B g.row.M) (g.F.Read.remaining c.args.file.now) (g.S.Read.remaining c.args.schedule.now)) _
+    c.made.result c.end_with.result g.W.Write.contents _ _ c.made.ensures.made c.end_with.ensures
