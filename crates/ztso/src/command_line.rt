@@ -188,7 +188,7 @@ fn channel_in(options: &ArgMatches<'_>) -> Option<Work>
 
 /// The number of 32 bits, if one is said; none where that is no such number.
 fn number_if_said(text: Option<&str>) -> Option<Option<u32>>
-    ensures { result ≡ number_if_said (option_map (λ said. said.now) text) }
+    ensures { result ≡ number_if_said (option_map (λ said. said.now) text.entry) }
 {
     match text {
         Some(said) => Some(Some(count_of(said, 0, u32::MAX)?)),
