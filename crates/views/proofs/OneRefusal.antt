@@ -16,7 +16,7 @@ use Rattle.engine_parts.specs.declared.fault.Refusal.{Refusal}
 use Rattle.engine_parts.specs.Engines.{Accepted, judged}
 use Rattle.engine_parts.specs.Faults.{too_large, not_text}
 use Rattle.engine_parts.specs.Tests.{IsNoTest, refused_test, test_of}
-use Rattle.engine_parts.specs.Schedules.{IsNeitherVersion, schedule_of}
+use Rattle.engine_parts.specs.Schedules.{IsNoSchedule, schedule_of}
 use Rattle.engine_parts.specs.Histories.{BySchedule}
 use Rattle.engine_parts.specs.Histories.BySchedule.{no_test, no_schedule, both}
 use Rattle.engine_parts.proofs.Judging.{judged_text}
@@ -44,7 +44,7 @@ one_number : (input : List ℕ) (r s : Refusal) → IsNoTest input r → IsNoTes
 unfolding test_of
 one_number input r s (line, e) (other, f) = numbers_of (ltb 1048576 (length input)) (is_utf8 input) (test_at input) line other r s e f
 
-said_or_refusal : (input : List ℕ) (said : Said) (r : Refusal) → Accepted Says input said → IsNeitherVersion input r → ⊥
+said_or_refusal : (input : List ℕ) (said : Said) (r : Refusal) → Accepted Says input said → IsNoSchedule input r → ⊥
 unfolding schedule_of
 said_or_refusal input said r is refused =
     let found = settled_only (Says input) (said_at input) said (said_settles input) is.value_is in
