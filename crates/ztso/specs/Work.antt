@@ -16,6 +16,7 @@ use Rattle.ztso_engines.specs.Steps.{IsStepsAnswer}
 use Rattle.engine_parts.specs.Tests.{HasNoTest}
 use Rattle.ztso_engines.specs.Run.{IsRunAnswer}
 use Rattle.ztso_engines.specs.Move.{IsMoveAnswer}
+use Rattle.views.specs.Shrink.{IsShrinkAnswer}
 use Rattle.ztso_engines.specs.Replay.{IsReplayAnswer}
 use Rattle.debugger.specs.Talks.{EndsAloud, IsDebugAnswer}
 use Rattle.tries.specs.Outcomes.{IsTryAnswer}
@@ -33,7 +34,7 @@ use Rattle.ztso.specs.declared.job.Ring.TheVariants.{Lamport, FastForward}
 use Rattle.ztso.specs.declared.job.Errand.{Errand}
 use Rattle.ztso.specs.declared.job.Errand.TheVariants.{Asm, Dis, Machine}
 use Rattle.ztso.specs.declared.job.Work.{Work}
-use Rattle.ztso.specs.declared.job.Work.TheVariants.{Steps, Run, Replay, Move, Debug, Try, Channel}
+use Rattle.ztso.specs.declared.job.Work.TheVariants.{Steps, Run, Replay, Move, Shrink, Debug, Try, Channel}
 use Rattle.ztso.specs.declared.work.TheConstants.{WORDS}
 
 -- how many stores a buffer of this capacity holds
@@ -101,6 +102,7 @@ IsAnswerOf B Steps given = WithStatusBy done_status (IsStepsAnswer B WORDS) give
 IsAnswerOf B Run given = WithStatusByBoth verdict_status (IsRunAnswer B WORDS) given
 IsAnswerOf B Replay given = WithStatusByBoth done_status (IsReplayAnswer B WORDS) given
 IsAnswerOf B Move given = WithStatusByBoth done_status (IsMoveAnswer B WORDS) given
+IsAnswerOf B Shrink given = WithStatusByBoth done_status (IsShrinkAnswer B WORDS) given
 IsAnswerOf B Debug given = WithStatusByBoth done_status (IsDebugAnswer B WORDS given.commands) given
 IsAnswerOf B (Try seed runs) given =
     WithStatusBy tried_status (IsTryAnswer B WORDS (left_after (runs.skip * runs.length) (drawn_from seed)) runs.number runs.length) given
@@ -114,6 +116,7 @@ DoesWork B Steps result given contents old new = Ends (IsAnswerOf B Steps given)
 DoesWork B Run result given contents old new = Ends (IsAnswerOf B Run given) result contents old new
 DoesWork B Replay result given contents old new = Ends (IsAnswerOf B Replay given) result contents old new
 DoesWork B Move result given contents old new = Ends (IsAnswerOf B Move given) result contents old new
+DoesWork B Shrink result given contents old new = Ends (IsAnswerOf B Shrink given) result contents old new
 DoesWork B Debug result given contents old new = EndsAloud (IsAnswerOf B Debug given) result contents old new
 DoesWork B (Try seed runs) result given contents old new = Ends (IsAnswerOf B (Try seed runs) given) result contents old new
 DoesWork B (Channel ring place finish) result given contents old new = Ends (IsAnswerOf B (Channel ring place finish) given) result contents old new
@@ -137,6 +140,7 @@ LeavesSecondOf Steps first = Unit {0}
 LeavesSecondOf Run first = HasNoTest first
 LeavesSecondOf Replay first = HasNoTest first
 LeavesSecondOf Move first = HasNoTest first
+LeavesSecondOf Shrink first = HasNoTest first
 LeavesSecondOf Debug first = HasNoTest first
 LeavesSecondOf (Try seed runs) first = Unit {0}
 LeavesSecondOf (Channel ring place finish) first = HasNoSchedule first
@@ -154,6 +158,7 @@ reads_commands Steps = false
 reads_commands Run = false
 reads_commands Replay = false
 reads_commands Move = false
+reads_commands Shrink = false
 reads_commands Debug = true
 reads_commands (Try seed runs) = false
 reads_commands (Channel ring place finish) = false

@@ -67,6 +67,9 @@ fn job_in<'a>(matches: &ArgMatches<'a>) -> Option<Job<'a>>
             on_file_and_schedule(options, machine_in(options, Some(Work::Replay)))
         }
         ("move", options) => on_file_and_schedule(options, machine_in(options, Some(Work::Move))),
+        ("shrink", options) => {
+            on_file_and_schedule(options, machine_in(options, Some(Work::Shrink)))
+        }
         ("debug", options) => on_file_and_schedule(options, machine_in(options, Some(Work::Debug))),
         ("try", options) => on_file(options, machine_in(options, try_in(options))),
         ("channel", options) => {
