@@ -5,3 +5,7 @@ pub mod TagLaws
 pub mod LaneLaws
 pub mod Apart
 pub mod CellLaws
+pub mod PlaceLaws
+pub mod SceneLaws
+pub mod LineLaws
+pub mod FootLaws

@@ -6,3 +6,7 @@ pub mod Tags
 pub mod Lanes
 pub mod Pictures
 pub mod RowTexts
+pub mod Places
+pub mod Scenes
+pub mod Lines
+pub mod Layout

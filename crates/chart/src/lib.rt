@@ -1,4 +1,4 @@
-//! The picture of a run: its rows, where what they read came from, and what they say.
+//! The picture of a run: its rows, where what they read came from, what they say, and its text.
 //!
 //! The contract: [`rows_of`] answers a row for each entry of a run, with the source of each byte that it
 //! read (`specs/Sources.antt`) and, for a landing, the row of the store that landed; [`laws_of_sources`]
@@ -7,20 +7,26 @@
 //! entry did and what it leaves in memory (`specs/Sayings.antt`), and [`tags`] its sources
 //! (`specs/Tags.antt`); [`row_texts::row_texts`] lists all of them by rows. [`lanes`] gives each pending store the lane in which its line stands
 //! (`specs/Lanes.antt`); [`laws_of_lanes`] states that no two lines at one row have one lane.
-//! [`pictures`] is a picture as a value, and [`text::text`] writes it (`specs/Pictures.antt`); no picture is
-//! made of rows yet.
+//! [`charts::layout`] makes a picture of a run's entries, and [`charts::chart_text`] its text
+//! (`specs/Layout.antt`, over `specs/Places.antt`, `specs/Scenes.antt` and `specs/Lines.antt`). [`pictures`]
+//! is a picture as a value, and [`text::text`] writes it (`specs/Pictures.antt`).
 //! This crate runs no machine: it reads entries alone.
 
 #![tactic(auto)]
 
+pub mod charts;
 pub mod lanes;
 pub mod laws;
+mod layout;
 pub mod naming;
 pub mod pictures;
+mod places;
 pub mod row_texts;
 mod rows;
 pub mod saying;
+mod scenes;
 mod sources;
+mod strokes;
 pub mod tags;
 pub mod text;
 

@@ -54,7 +54,7 @@ fn memory_of(
 }
 
 /// The texts of a row of these entries.
-fn row_text(
+pub(crate) fn row_text(
     alloc: Global,
     names: &[String],
     entries: &[Entry],

@@ -1,0 +1,137 @@
+-- A run's picture: the first form that is narrow enough, and the last one where none is.
+use Rattle.std.specs.Prelude.{ℕ, zero, suc, ◌+◌, ◌*◌, min, nat_le, if◌then◌else◌, Bool, true, false, List, [], ◌∷◌, ◌++◌, length, map, codes, Option, None, Some}
+use Rattle.std.specs.List.{slice_get}
+use Rattle.std.specs.Fmt.{decimal}
+use Rattle.step_machine.specs.declared.events.Entry.{Entry}
+use Rattle.chart.specs.declared.sources.RowWrite.{RowWrite}
+use Rattle.chart.specs.declared.scenes.Form.{Form}
+use Rattle.chart.specs.Names.{part_text}
+use Rattle.chart.specs.Sources.{pending_by_row}
+use Rattle.chart.specs.Lanes.{held_at_end}
+use Rattle.chart.specs.Pictures.{LineOf, PictureOf, picture_text}
+use Rattle.chart.specs.Places.{memory_cell}
+use Rattle.chart.specs.Scenes.{SceneOf, scene_of, kept_cells, lanes_in, shape_of, places_of}
+use Rattle.chart.specs.Lines.{row_lines, open_lines, heads_line}
+
+-- a left side of the condition, with its last value
+pub record LastValueOf : Type 0 where
+  pub left : List ℕ
+  pub value : ℕ
+
+-- what is known of a run beside its entries: the test's name, how many harts it has, the locations' names,
+-- the instruction of each entry, the last values, the verdict and the condition
+pub record AboutOf : Type 0 where
+  pub name : List ℕ
+  pub harts : ℕ
+  pub names : List (List ℕ)
+  pub instructions : List (List ℕ)
+  pub values : List LastValueOf
+  pub verdict : List ℕ
+  pub condition : List ℕ
+
+-- ---- below the lines
+
+-- `never landed: P0 x := 1 [1]`
+abbrev pub pending_line : AboutOf → (h : ℕ) → RowWrite → List ℕ
+pending_line about h w =
+    codes "never landed: P" ++ decimal h ++ codes " " ++ part_text about.names w.write.addr w.write.width
+    ++ codes " := " ++ decimal w.write.value ++ codes " [" ++ decimal (w.row + 1) ++ codes "]"
+
+abbrev pub pending_text : AboutOf → (h : ℕ) → Option RowWrite → List ℕ
+pending_text about h None = []
+pending_text about h (Some w) = pending_line about h w
+
+-- the lines of the first n of a hart's pending stores
+abbrev pub first_pending : AboutOf → (h : ℕ) → List RowWrite → ℕ → List (List ℕ)
+first_pending about h ws zero = []
+first_pending about h ws (suc n) = first_pending about h ws n ++ pending_text about h (slice_get ws n) ∷ []
+
+abbrev pub pending_of_hart : AboutOf → (h : ℕ) → List RowWrite → List (List ℕ)
+pending_of_hart about h ws = first_pending about h ws (length ws)
+
+-- of the first n harts
+abbrev pub pending_lines : AboutOf → List Entry → ℕ → List (List ℕ)
+pending_lines about es zero = []
+pending_lines about es (suc n) = pending_lines about es n ++ pending_of_hart about n (pending_by_row n es)
+
+-- `last value: 0:x7 = 0`
+abbrev pub value_text : List ℕ → ℕ → List ℕ
+value_text left value = codes "last value: " ++ left ++ codes " = " ++ decimal value
+
+abbrev pub value_line : LastValueOf → List ℕ
+value_line v = value_text v.left v.value
+
+-- `Holds: exists (0:x7=0 /\\ 1:x7=0)`
+abbrev pub verdict_text : (verdict condition : List ℕ) → List ℕ
+verdict_text verdict condition = verdict ++ codes ": " ++ condition
+
+abbrev pub verdict_line : AboutOf → List ℕ
+verdict_line about = verdict_text about.verdict about.condition
+
+abbrev pub head_of : AboutOf → List (List ℕ)
+head_of about = about.name ∷ []
+
+abbrev pub pending_of_run : AboutOf → List Entry → List (List ℕ)
+pending_of_run about es = pending_lines about es about.harts
+
+abbrev pub foot_of : AboutOf → List Entry → List (List ℕ)
+foot_of about es = pending_of_run about es ++ map value_line about.values ++ verdict_line about ∷ []
+
+-- ---- forms
+
+-- a column for each hart, with instructions and without; one column for all; and what needs the least room
+abbrev pub wide : Form
+wide = record { listed = false; instructions = true; lanes = 6; stores = true }
+
+abbrev pub brief : Form
+brief = record { listed = false; instructions = false; lanes = 6; stores = true }
+
+abbrev pub listed : Form
+listed = record { listed = true; instructions = true; lanes = 6; stores = true }
+
+abbrev pub brief_listed : Form
+brief_listed = record { listed = true; instructions = false; lanes = 6; stores = true }
+
+abbrev pub narrowest : Form
+narrowest = record { listed = true; instructions = false; lanes = 0; stores = false }
+
+abbrev pub width_of : Form → SceneOf → ℕ
+width_of form scene = memory_cell (places_of form scene) + kept_cells form scene
+
+-- the cells of a line for so many harts
+abbrev pub limit : ℕ → ℕ
+limit harts = if nat_le harts 2 then 100 else min (20 + 40 * harts) 200
+
+-- the form, or another one where it is too wide
+abbrev pub form_or : SceneOf → (most : ℕ) → (form other : Form) → Form
+form_or scene most form other = if nat_le (width_of form scene) most then form else other
+
+abbrev pub form_of : SceneOf → (most : ℕ) → Form
+form_of scene most =
+    form_or scene most wide (form_or scene most brief (form_or scene most listed (form_or scene most brief_listed narrowest)))
+
+-- ---- the picture
+
+abbrev pub body_of : Form → SceneOf → List LineOf
+body_of form scene =
+    row_lines form scene (places_of form scene) (lanes_in form scene)
+    ++ open_lines (places_of form scene) (held_at_end (shape_of form) scene.rows)
+
+abbrev pub picture_in : Form → SceneOf → (head foot : List (List ℕ)) → PictureOf
+picture_in form scene head foot = record {
+  head = head;
+  heads = heads_line (places_of form scene);
+  body = body_of form scene;
+  foot = foot;
+  width = width_of form scene;
+}
+
+abbrev pub picture_of : (harts : ℕ) → SceneOf → (head foot : List (List ℕ)) → PictureOf
+picture_of harts scene head foot = picture_in (form_of scene (limit harts)) scene head foot
+
+-- the picture of a run with these entries
+abbrev pub layout : AboutOf → List Entry → PictureOf
+layout about es = picture_of about.harts (scene_of about.names about.instructions es about.harts) (head_of about) (foot_of about es)
+
+abbrev pub chart_text : AboutOf → List Entry → List ℕ
+chart_text about es = picture_text (layout about es)

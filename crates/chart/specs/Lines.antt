@@ -1,0 +1,135 @@
+-- The lines of a picture: what stands in a row, and which strokes. A pending store's line goes from its
+-- row to a lane, down in it, and from there to memory in the row of its landing. Lines downwards are
+-- written over lines across, so that each can be followed.
+use Rattle.std.specs.Prelude.{ℕ, zero, suc, ◌+◌, ◌-◌, ◌==◌, min, if◌then◌else◌, Bool, true, false}
+use Rattle.std.specs.Prelude.{List, [], ◌∷◌, ◌++◌, length, map, codes, Option, None, Some, option_map}
+use Rattle.std.specs.List.{slice_get, flat_map, list_any}
+use Rattle.std.specs.Fmt.{decimal}
+use Rattle.step_machine.specs.declared.events.Entry.{Entry}
+use Rattle.step_machine.specs.declared.events.Entry.TheVariants as entry
+use Rattle.step_machine.specs.Entries.{hart_of}
+use Rattle.chart.specs.declared.lanes.Held.{Held}
+use Rattle.chart.specs.declared.sources.Source.{Source}
+use Rattle.chart.specs.declared.sources.Source.TheVariants.{Own, Memory, Opening}
+use Rattle.chart.specs.declared.pictures.Sign.{Sign}
+use Rattle.chart.specs.declared.pictures.Sign.TheVariants.{Flat, Double, Down, Bend, Lands, From, To, Joins, Cut, Open}
+use Rattle.chart.specs.declared.pictures.Stroke.{Stroke}
+use Rattle.chart.specs.declared.scenes.Form.{Form}
+use Rattle.chart.specs.Rows.{RowOf}
+use Rattle.chart.specs.Lanes.{LanedOf, column_of}
+use Rattle.chart.specs.Pictures.{MarkOf, LineOf}
+use Rattle.chart.specs.Places.{PlacesOf, begins, lane_cell, memory_cell}
+use Rattle.chart.specs.Scenes.{SceneOf, said_at, kept_at, hart_name, shape_of}
+
+-- ---- strokes
+
+-- one cell, and the cells from one on and before another
+abbrev pub sign_at : Sign → (cell column : ℕ) → Stroke
+sign_at sign cell column = record { sign = sign; at = cell; count = 1; hart = column }
+
+abbrev pub across : Sign → (from to column : ℕ) → Stroke
+across sign from to column = record { sign = sign; at = from; count = to - from; hart = column }
+
+-- a store's line, from behind its text to its lane; without a lane it is cut
+abbrev pub store_strokes : (column behind : ℕ) → (lane : Option ℕ) → List Stroke
+store_strokes column behind None = sign_at Cut (behind + 1) column ∷ []
+store_strokes column behind (Some lane) = across Flat (behind + 1) lane column ∷ sign_at Bend lane column ∷ []
+
+-- a landing's line, from its lane to memory
+abbrev pub land_strokes : (column memory : ℕ) → (lane : Option ℕ) → List Stroke
+land_strokes column memory None = sign_at Cut (memory - 3) column ∷ sign_at To (memory - 2) column ∷ []
+land_strokes column memory (Some lane) = across Flat (lane + 1) (memory - 2) column ∷ sign_at Lands lane column ∷ sign_at To (memory - 2) column ∷ []
+
+-- an AMO's, between its text and memory
+abbrev pub amo_strokes : (column behind memory : ℕ) → List Stroke
+amo_strokes column behind memory = sign_at From (behind + 1) column ∷ across Double (behind + 2) (memory - 2) column ∷ sign_at To (memory - 2) column ∷ []
+
+abbrev pub own_strokes : (column behind memory : ℕ) → (lane : Option ℕ) → Entry → List Stroke
+own_strokes column behind memory lane (entry.Store h a width v) = store_strokes column behind lane
+own_strokes column behind memory lane (entry.Land h) = land_strokes column memory lane
+own_strokes column behind memory lane (entry.Amo h a old new) = amo_strokes column behind memory
+own_strokes column behind memory lane other = []
+
+-- whether a source is the pending store of this row
+abbrev pub is_own : ℕ → Source → Bool
+is_own row (Own other) = other == row
+is_own row (Memory other) = false
+is_own row Opening = false
+
+abbrev pub is_read : List Source → Held → Bool
+is_read sources h = list_any (is_own h.row) sources
+
+-- the line of what a row reads from a pending store
+abbrev pub read_strokes : PlacesOf → List Source → (column behind : ℕ) → Held → List Stroke
+read_strokes p sources column behind h =
+    if is_read sources h then sign_at From (behind + 1) column ∷ across Flat (behind + 2) (lane_cell p h) column ∷ [] else []
+
+-- a pending store's line in a row that it passes, with an `o` where the row reads it
+abbrev pub passing_stroke : PlacesOf → List Source → Held → Stroke
+passing_stroke p sources h = sign_at (if is_read sources h then Joins else Down) (lane_cell p h) h.column
+
+abbrev pub row_strokes : PlacesOf → (column behind : ℕ) → RowOf → LanedOf → List Stroke
+row_strokes p column behind r l =
+    own_strokes column behind (memory_cell p) (option_map (lane_cell p) l.own) r.entry
+    ++ flat_map (read_strokes p r.sources column behind) l.passing
+    ++ map (passing_stroke p r.sources) l.passing
+
+-- ---- lines
+
+abbrev pub text_at : (cell : ℕ) → Bool → List ℕ → MarkOf
+text_at cell loud text = record { at = cell; loud = loud; text = text }
+
+-- rows count from 1, and their numbers end before cell 5
+abbrev pub number_mark : ℕ → MarkOf
+number_mark i = text_at (5 - length (decimal (i + 1))) false (decimal (i + 1))
+
+-- the line of row i, in this column, with what it says there and in memory
+abbrev pub row_line : PlacesOf → (i column : ℕ) → (said kept : List ℕ) → RowOf → LanedOf → LineOf
+row_line p i column said kept r l = record {
+  marks = number_mark i ∷ text_at (begins p column) true said ∷ text_at (memory_cell p) true kept ∷ [];
+  strokes = row_strokes p column (begins p column + min (length said) 255) r l;
+}
+
+abbrev pub empty_line : LineOf
+empty_line = record { marks = []; strokes = [] }
+
+abbrev pub line_with : Form → SceneOf → PlacesOf → ℕ → RowOf → LanedOf → LineOf
+line_with form scene p i r l = row_line p i (column_of (shape_of form) (hart_of r.entry)) (said_at form scene i) (kept_at form scene i) r l
+
+abbrev pub laned_line : Form → SceneOf → PlacesOf → ℕ → RowOf → Option LanedOf → LineOf
+laned_line form scene p i r None = empty_line
+laned_line form scene p i r (Some l) = line_with form scene p i r l
+
+abbrev pub line_in : Form → SceneOf → PlacesOf → List LanedOf → ℕ → Option RowOf → LineOf
+line_in form scene p lanes i None = empty_line
+line_in form scene p lanes i (Some r) = laned_line form scene p i r (slice_get lanes i)
+
+abbrev pub line_at : Form → SceneOf → PlacesOf → List LanedOf → ℕ → LineOf
+line_at form scene p lanes i = line_in form scene p lanes i (slice_get scene.rows i)
+
+-- the lines of the first n rows
+abbrev pub lines_of : Form → SceneOf → PlacesOf → List LanedOf → ℕ → List LineOf
+lines_of form scene p lanes zero = []
+lines_of form scene p lanes (suc n) = lines_of form scene p lanes n ++ line_at form scene p lanes n ∷ []
+
+abbrev pub row_lines : Form → SceneOf → PlacesOf → List LanedOf → List LineOf
+row_lines form scene p lanes = lines_of form scene p lanes (length scene.rows)
+
+abbrev pub open_stroke : PlacesOf → Held → Stroke
+open_stroke p h = sign_at Open (lane_cell p h) h.column
+
+abbrev pub open_lines : PlacesOf → List Held → List LineOf
+open_lines p [] = []
+open_lines p (h ∷ hs) = record { marks = []; strokes = map (open_stroke p) (h ∷ hs) } ∷ []
+
+abbrev pub head_mark : PlacesOf → ℕ → MarkOf
+head_mark p h = text_at (begins p h) true (hart_name h)
+
+abbrev pub named_marks : PlacesOf → List MarkOf
+named_marks p = map (head_mark p) p.shown
+
+abbrev pub hart_marks : PlacesOf → List MarkOf
+hart_marks p = if p.listed then text_at 7 true (codes "harts") ∷ [] else named_marks p
+
+abbrev pub heads_line : PlacesOf → LineOf
+heads_line p = record { marks = hart_marks p ++ text_at (memory_cell p) true (codes "memory") ∷ []; strokes = [] }

@@ -1,0 +1,103 @@
+//! Where the columns, lanes and texts of a picture stand.
+
+ghost use Rattle.std.specs.Prelude.{◌≡◌, ◌<◌, ◌≤◌, ◌^◌, ◌*◌, min, nat_lt};
+ghost use Rattle.std.specs.List.{count_by};
+ghost use Rattle.chart.specs.Places.{rank, columns, pitch, begins, lane_cell, memory_cell};
+
+use crate::lanes::Held;
+use std::marker::Model;
+
+/// Whether all harts share one column, the harts that have one otherwise, the cells of a column's text,
+/// and how many lanes it has.
+#[derive(Drop)]
+pub struct Places {
+    pub listed: bool,
+    pub shown: Vec<u32>,
+    pub text: u8,
+    pub lanes: u8,
+}
+
+impl Model for Places {
+    ghost use Rattle.chart.specs.Places.{PlacesOf};
+
+    ghost Value = { PlacesOf };
+
+    ghost view = { λ p. record { listed = p.listed; shown = p.shown.items; text = p.text; lanes = p.lanes } };
+}
+
+/// A number of cells or columns, at most 255.
+pub(crate) fn capped(count: usize) -> u8
+    ensures { result ≡ min count 255 }
+{
+    count.min(255) as u8
+}
+
+/// How many of these harts have a lower number.
+fn below(shown: &[u32], column: u32) -> usize
+    ensures { result ≡ count_by (λ other. nat_lt other column) shown.now }
+{
+    shown.iter().filter(|other| **other < column).count()
+}
+
+/// A column's first cell, where so many stand to its left.
+#[tactic(auto, using(crate::proofs::PlaceLaws::product_most))]
+fn columns_on(rank: u8, pitch: u16) -> u32
+    ensures value { result ≡ rank * pitch }
+    ensures most { result < 2 ^ 24 }
+{
+    u32::from(rank) * u32::from(pitch)
+}
+
+impl Places {
+    fn rank(&self, column: u32) -> u8
+        ensures { result ≡ rank self.now column }
+    {
+        if self.listed {
+            0
+        } else {
+            capped(below(&self.shown, column))
+        }
+    }
+
+    fn columns(&self) -> u8
+        ensures { result ≡ columns self.now }
+    {
+        if self.listed {
+            1
+        } else {
+            capped(self.shown.len())
+        }
+    }
+
+    /// From one column's first cell to the next one's.
+    fn pitch(&self) -> u16
+        ensures { result ≡ pitch self.now }
+    {
+        u16::from(self.text) + 2 * u16::from(self.lanes) + 4
+    }
+
+    /// A column's first cell.
+    pub(crate) fn begins(&self, column: u32) -> u32
+        ensures value { result ≡ begins self.now column }
+        ensures most { result < 2 ^ 25 }
+    {
+        7 + columns_on(self.rank(column), self.pitch())
+    }
+
+    /// The cell of a lane.
+    pub(crate) fn lane_cell(&self, held: Held) -> u32
+        ensures value { result ≡ lane_cell self.now held }
+        ensures most { result < 2 ^ 26 }
+    {
+        let lanes = usize::from(self.lanes).saturating_sub(held.lane) as u32;
+        self.begins(held.column) + u32::from(self.text) + 2 * lanes
+    }
+
+    /// Memory's first cell.
+    pub(crate) fn memory_cell(&self) -> u32
+        ensures value { result ≡ memory_cell self.now }
+        ensures most { result < 2 ^ 25 }
+    {
+        9 + columns_on(self.columns(), self.pitch())
+    }
+}
