@@ -1,4 +1,4 @@
-//! Tests of `hart_threads`, and of channels over both rings.
+//! Tests of `hart_threads`, of channels over both rings, and of calls that are refused memory.
 //!
 //! Without its tests this crate is empty: it promises nothing, and no crate uses it.
 
@@ -6,5 +6,7 @@
 
 #[cfg(test)]
 mod of_hart_threads;
+#[cfg(test)]
+mod of_memory;
 #[cfg(test)]
 mod of_rings;
