@@ -11,7 +11,7 @@ _ztso() {
     debug) options='--buffer' ;;
     try) options='--buffer --seed --runs --length --skip --jobs' ;;
     threads) options='--buffer --turns' ;;
-    channel) options='--buffer --finish' ;;
+    channel) options='--buffer --base --stride --finish' ;;
     steps) options='--buffer' ;;
     esac
     if [[ $word == -* ]]; then

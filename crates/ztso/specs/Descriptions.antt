@@ -11,6 +11,13 @@ option_or name value = record (new_rule name) {
   defaults = value ∷ [];
 }
 
+-- `--name VALUE`, which may be left out
+abbrev pub option_said : Text → Rule
+option_said name = record (new_rule name) {
+  long = Some name;
+  action = Some Set;
+}
+
 -- `--buffer B`, and 4 where it isn't said
 abbrev pub buffer_option : Rule
 buffer_option = option_or (codes "buffer") (codes "4")
@@ -57,11 +64,12 @@ flag name = record (new_rule name) {
   action = Some SetTrue;
 }
 
--- `channel KIND RING SCHEDULE [--finish] [--buffer B]`
+-- `channel KIND RING SCHEDULE [--base A] [--stride T] [--finish] [--buffer B]`
 abbrev pub channel_command : App
 channel_command =
-    with_rule (with_rule (with_rule (with_rule (with_rule (new_app (codes "channel")) (word_wanted (codes "kind")))
-    (word_wanted (codes "ring"))) (word_wanted (codes "schedule"))) (flag (codes "finish"))) buffer_option
+    with_rule (with_rule (with_rule (with_rule (with_rule (with_rule (with_rule (new_app (codes "channel")) (word_wanted (codes "kind")))
+    (word_wanted (codes "ring"))) (word_wanted (codes "schedule"))) (option_or (codes "base") (codes "0"))) (option_said (codes "stride")))
+    (flag (codes "finish"))) buffer_option
 
 -- `threads FILE [--turns T] [--buffer B]`
 abbrev pub threads_command : App

@@ -1,5 +1,5 @@
 -- How a job ends.
-use Rattle.std.specs.Prelude.{ℕ, ◌≡◌, ◌*◌, Bool, true, false, List, Option, Result, Ok, Err}
+use Rattle.std.specs.Prelude.{ℕ, ◌≡◌, ◌*◌, Bool, true, false, List, [], Option, Result, Ok, Err}
 use Rattle.rand_core.specs.Stream.{Stream}
 use Rattle.rand_core.specs.Steps.{stream_of, steps_u32}
 use Rattle.rand_core.specs.Pcg32Seed.{pcg32_seed}
@@ -19,7 +19,7 @@ use Rattle.ztso_engines.specs.Replay.{IsReplayAnswer}
 use Rattle.debugger.specs.Talks.{EndsAloud, IsDebugAnswer}
 use Rattle.tries.specs.Outcomes.{IsTryAnswer}
 use Rattle.engine_parts.specs.Schedules.{HasNoSchedule}
-use Rattle.poll_close.specs.Layout.{dense}
+use Rattle.poll_close.specs.Places.{layout_of}
 use Rattle.ztso_engines.specs.Channels.{IsChannelAnswer}
 use Rattle.ztso_engines.specs.Threads.{IsThreadsAnswer}
 use Rattle.poll_close.specs.Laws.{Ring as RingTables}
@@ -102,7 +102,7 @@ IsAnswerOf B Replay given = WithStatusByBoth done_status (IsReplayAnswer B WORDS
 IsAnswerOf B Debug given = WithStatusByBoth done_status (IsDebugAnswer B WORDS given.commands) given
 IsAnswerOf B (Try seed runs) given =
     WithStatusBy tried_status (IsTryAnswer B WORDS (left_after (runs.skip * runs.length) (drawn_from seed)) runs.number runs.length) given
-IsAnswerOf B (Channel ring slots finish) given = WithStatusByBoth done_status (IsChannelAnswer (tables_of ring) B WORDS (dense slots) finish) given
+IsAnswerOf B (Channel ring place finish) given = WithStatusByBoth done_status (IsChannelAnswer (tables_of ring) B WORDS (layout_of place []) finish) given
 
 -- What was written and the exit status answer the inputs, or the refusal does and nothing was written.
 -- Where a read failed or memory ran out nothing was written; where a write failed nothing is said of it.
@@ -113,7 +113,7 @@ DoesWork B Run result given contents old new = Ends (IsAnswerOf B Run given) res
 DoesWork B Replay result given contents old new = Ends (IsAnswerOf B Replay given) result contents old new
 DoesWork B Debug result given contents old new = EndsAloud (IsAnswerOf B Debug given) result contents old new
 DoesWork B (Try seed runs) result given contents old new = Ends (IsAnswerOf B (Try seed runs) given) result contents old new
-DoesWork B (Channel ring slots finish) result given contents old new = Ends (IsAnswerOf B (Channel ring slots finish) given) result contents old new
+DoesWork B (Channel ring place finish) result given contents old new = Ends (IsAnswerOf B (Channel ring place finish) given) result contents old new
 
 abbrev pub DoesErrand : {W : Type 0} → Errand → Result ℕ Fault → Given → (contents : W → Option (List ℕ)) → (old new : W) → Type 0
 DoesErrand Asm result given contents old new = Ends (WithStatusBy done_status IsAsmAnswer given) result contents old new
@@ -135,7 +135,7 @@ LeavesSecondOf Run first = HasNoTest first
 LeavesSecondOf Replay first = HasNoTest first
 LeavesSecondOf Debug first = HasNoTest first
 LeavesSecondOf (Try seed runs) first = Unit {0}
-LeavesSecondOf (Channel ring slots finish) first = HasNoSchedule first
+LeavesSecondOf (Channel ring place finish) first = HasNoSchedule first
 
 abbrev pub LeavesSecond : Errand → (first : Option (List ℕ)) → Type 0
 LeavesSecond Asm first = Unit {0}
@@ -151,7 +151,7 @@ reads_commands Run = false
 reads_commands Replay = false
 reads_commands Debug = true
 reads_commands (Try seed runs) = false
-reads_commands (Channel ring slots finish) = false
+reads_commands (Channel ring place finish) = false
 
 abbrev pub LeavesCommands : Errand → Type 0
 LeavesCommands Asm = Unit {0}

@@ -1,5 +1,6 @@
 //! What a command line can ask for.
 
+use poll_close::Place;
 use tries::trials::Runs;
 
 /// How many stores a hart's buffer holds.
@@ -42,11 +43,11 @@ pub enum Work {
         seed: u64,
         runs: Runs,
     },
-    /// To run a channel over lists of words by a schedule, through rings of this kind with so many slots,
-    /// and to `finish` it by a plan.
+    /// To run a channel over lists of words by a schedule, through rings of this kind at this place, and to
+    /// `finish` it by a plan.
     Channel {
         ring: Ring,
-        slots: u32,
+        place: Place,
         finish: bool,
     },
 }

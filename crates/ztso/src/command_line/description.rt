@@ -3,7 +3,7 @@
 ghost use Rattle.std.specs.Prelude.{◌≡◌, ◌∷◌, [], false, IfOk, codes};
 ghost use Rattle.clap.specs.Words.{app_of, rule_of};
 ghost use Rattle.clap.specs.declared.builder.command.Command.TheViews.{out-Command as fields_of};
-ghost use Rattle.ztso.specs.Descriptions.{asm_command, buffer_option, channel_command, dis_command, flag, option_or, option_wanted, schedule_command, steps_command, threads_command, try_command, with_commands, word_wanted, ztso_command};
+ghost use Rattle.ztso.specs.Descriptions.{asm_command, buffer_option, channel_command, dis_command, flag, option_or, option_said, option_wanted, schedule_command, steps_command, threads_command, try_command, with_commands, word_wanted, ztso_command};
 
 use clap::{Arg, ArgAction, Command};
 use std::alloc::{AllocError, Global};
@@ -17,6 +17,14 @@ fn option_or<'a>(alloc: Global, name: &'a str, value: &'a str) -> Arg<'a>
         .long(name)
         .action(ArgAction::Set)
         .default_value(value)
+}
+
+/// `--name` with a value, which may be left out.
+fn option_said<'a>(alloc: Global, name: &'a str) -> Arg<'a>
+    ensures rule { rule_of result ≡ option_said name.entry.now }
+    ensures local { result.global ≡ false }
+{
+    Arg::new(alloc, name).long(name).action(ArgAction::Set)
 }
 
 fn buffer_option<'a>(alloc: Global) -> Arg<'a>
@@ -90,7 +98,9 @@ fn channel_command<'a>(alloc: Global) -> Result<Command<'a>, AllocError>
     let with_kind = Command::new(alloc, "channel").arg(word_wanted(alloc, "kind"))?;
     let with_ring = with_kind.arg(word_wanted(alloc, "ring"))?;
     let with_schedule = with_ring.arg(word_wanted(alloc, "schedule"))?;
-    let with_finish = with_schedule.arg(flag(alloc, "finish"))?;
+    let with_base = with_schedule.arg(option_or(alloc, "base", "0"))?;
+    let with_stride = with_base.arg(option_said(alloc, "stride"))?;
+    let with_finish = with_stride.arg(flag(alloc, "finish"))?;
     with_finish.arg(buffer_option(alloc))
 }
 
