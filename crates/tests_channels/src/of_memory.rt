@@ -18,8 +18,8 @@ use std::sync::Wait;
 use std::test::Fail;
 use step_machine::{Bank, Entry, Event, HartOpening, Machine, Opening, Outcome};
 
-/// What a call returns, where its memory is refused the second time that it is made. The state is the same
-/// before and after the refusal, which `$refusal` matches.
+/// What a call returns. Where it is refused memory, the error matches `$refusal`, the state is what it was
+/// before, and the call is made again.
 macro_rules! again {
     ($rt:expr, $name:literal, $state:expr, $call:expr) => {
         again!($rt, $name, $state, $call, AllocError)
@@ -128,6 +128,7 @@ fn a_machine_goes_on_with_a_run(rt: HostRuntime) -> Result<(), Fail> {
     let mut machine = again!(&rt, "open", (), machine(&rt));
     if let Err((done, _)) = machine.run(&EVENTS) {
         println!(&rt; "again run")?;
+        assert!(rt; [INNER, STORE, LAND, LOAD].starts_with(machine.entries()));
         assert!(rt; done <= EVENTS.len());
         machine.run(&EVENTS[done..]).map_err(|error| error.1)?;
     }
@@ -135,7 +136,7 @@ fn a_machine_goes_on_with_a_run(rt: HostRuntime) -> Result<(), Fail> {
     Ok(())
 }
 
-/// No machine holds the first room that is asked for. Within the second one no event is refused.
+/// The first room is more than any memory holds. Within the second one no event is refused.
 #[test]
 fn a_machine_reserves(rt: HostRuntime) -> Result<(), Fail> {
     let mut machine = again!(&rt, "open", (), machine(&rt));
@@ -316,7 +317,7 @@ fn a_channel_steps(rt: HostRuntime) -> Result<(), Fail> {
     Ok(())
 }
 
-/// As a machine's: the first room is in no machine, and the second is for all events.
+/// As a machine does. The second room is for all events.
 #[test]
 fn a_channel_reserves(rt: HostRuntime) -> Result<(), Fail> {
     let mut channel = again!(&rt, "channel", (), channel(rt.alloc()), Refused::NoMemory);
