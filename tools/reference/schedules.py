@@ -120,4 +120,5 @@ def written(events):
 def record_written(steps):
     """The canonical text of events with their outcomes."""
     runs = [(step, len(list(run))) for step, run in groupby(steps)]
-    return "".join(f"{line}\n" for line in (RECORD_LINE, *(f"{tokens([event] * count)} {said}" for (event, said), count in runs)))
+    lines = [f"{tokens([event] * count)} {said}" for (event, said), count in runs]
+    return "".join(f"{line}\n" for line in (RECORD_LINE, *lines))

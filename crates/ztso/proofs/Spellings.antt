@@ -17,7 +17,7 @@ use Rattle.ztso.specs.declared.job.Job.{Job}
 use Rattle.ztso.specs.declared.job.Errand.TheVariants.{Asm, Dis, Machine}
 use Rattle.ztso.specs.declared.job.Task.TheVariants.{Alone, Threads}
 use Rattle.ztso.specs.declared.job.Work.{Work}
-use Rattle.ztso.specs.declared.job.Work.TheVariants.{Steps, Run, Replay, Debug, Try, Channel}
+use Rattle.ztso.specs.declared.job.Work.TheVariants.{Steps, Run, Replay, Move, Shrink, Debug, Try, Channel}
 use Rattle.poll_close.specs.declared.place.Place.{Place}
 use Rattle.tries.specs.declared.trials.Runs.{Runs}
 use Rattle.ztso.specs.Jobs.{Wanted, one_input, two_inputs}
@@ -151,27 +151,35 @@ steps_says : (capacity : Capacity) (found : Option Capacity) → found ≡ Some 
     → on_standard_of (machine_of found (Some Steps)) ≡ Some (one_input (Alone (Machine Steps capacity)) Standard)
 steps_says capacity found a = rw a refl
 
--- ---- `run`, `replay` and `debug`
+-- ---- `run`, `replay`, `move`, `shrink` and `debug`
 
 data OnFiles : Type 0 where
   running : OnFiles
   replaying : OnFiles
+  moving : OnFiles
+  shrinking : OnFiles
   debugging : OnFiles
 
 abbrev command_of : OnFiles → Text
 command_of running = codes "run"
 command_of replaying = codes "replay"
+command_of moving = codes "move"
+command_of shrinking = codes "shrink"
 command_of debugging = codes "debug"
 
 abbrev work_of : OnFiles → Work
 work_of running = Run
 work_of replaying = Replay
+work_of moving = Move
+work_of shrinking = Shrink
 work_of debugging = Debug
 
 on_files_is_command : (command : OnFiles) → IsCommand (command_of command)
 unfolding clap_on_literals
 on_files_is_command running = (refl, refl)
 on_files_is_command replaying = (refl, refl)
+on_files_is_command moving = (refl, refl)
+on_files_is_command shrinking = (refl, refl)
 on_files_is_command debugging = (refl, refl)
 
 on_files_told : (command : OnFiles) (file schedule : Text) (tail : Tail) (t : Text)
@@ -183,6 +191,12 @@ on_files_told running file schedule equals t = refl
 on_files_told replaying file schedule none t = refl
 on_files_told replaying file schedule blank t = refl
 on_files_told replaying file schedule equals t = refl
+on_files_told moving file schedule none t = refl
+on_files_told moving file schedule blank t = refl
+on_files_told moving file schedule equals t = refl
+on_files_told shrinking file schedule none t = refl
+on_files_told shrinking file schedule blank t = refl
+on_files_told shrinking file schedule equals t = refl
 on_files_told debugging file schedule none t = refl
 on_files_told debugging file schedule blank t = refl
 on_files_told debugging file schedule equals t = refl
@@ -381,6 +395,8 @@ spelled_of name rest (Alone (Machine Steps capacity)) wanted (options, is, asks,
     (steps_told to.tail to.text ∙ steps_says capacity _ to.says ∙ ap (λ (w : Wanted). Some w) (sym wants))
 spelled_of name rest (Alone (Machine Run capacity)) wanted spelling = of_files name rest running capacity wanted spelling
 spelled_of name rest (Alone (Machine Replay capacity)) wanted spelling = of_files name rest replaying capacity wanted spelling
+spelled_of name rest (Alone (Machine Move capacity)) wanted spelling = of_files name rest moving capacity wanted spelling
+spelled_of name rest (Alone (Machine Shrink capacity)) wanted spelling = of_files name rest shrinking capacity wanted spelling
 spelled_of name rest (Alone (Machine Debug capacity)) wanted spelling = of_files name rest debugging capacity wanted spelling
 spelled_of name rest (Alone (Machine (Try seed runs) capacity)) wanted (file, s, n, l, first, second, options, is, f, seed_is, runs_are, events_are, skips, jobs_are, asks, wants) =
     let to = capacity_spelled capacity options asks in

@@ -16,7 +16,7 @@ use Rattle.ztso.specs.declared.job.Errand.TheVariants.{Asm, Dis, Machine}
 use Rattle.ztso.specs.declared.job.Task.{Task}
 use Rattle.ztso.specs.declared.job.Task.TheVariants.{Alone, Threads}
 use Rattle.ztso.specs.declared.job.Work.{Work}
-use Rattle.ztso.specs.declared.job.Work.TheVariants.{Steps, Run, Replay, Debug, Try, Channel}
+use Rattle.ztso.specs.declared.job.Work.TheVariants.{Steps, Run, Replay, Move, Shrink, Debug, Try, Channel}
 use Rattle.ztso.specs.Jobs.{Input, Wanted, one_input, two_inputs, wanted_by}
 use Rattle.ztso.specs.Jobs.Input.{Standard, File}
 use Rattle.ztso.specs.Numbers.{number_within}
@@ -135,10 +135,12 @@ job_in p =
     else (if bytes_eq p.0 (codes "dis") then on_standard (Some (Alone Dis))
     else (if bytes_eq p.0 (codes "run") then on_file_and_schedule p.1 (machine_in p.1 (Some Run))
     else (if bytes_eq p.0 (codes "replay") then on_file_and_schedule p.1 (machine_in p.1 (Some Replay))
+    else (if bytes_eq p.0 (codes "move") then on_file_and_schedule p.1 (machine_in p.1 (Some Move))
+    else (if bytes_eq p.0 (codes "shrink") then on_file_and_schedule p.1 (machine_in p.1 (Some Shrink))
     else (if bytes_eq p.0 (codes "debug") then on_file_and_schedule p.1 (machine_in p.1 (Some Debug))
     else (if bytes_eq p.0 (codes "try") then on_file p.1 (machine_in p.1 (try_in p.1))
     else (if bytes_eq p.0 (codes "channel") then on_schedule_and_standard p.1 (machine_in p.1 (channel_in p.1))
-    else (if bytes_eq p.0 (codes "threads") then on_file p.1 (threads_in p.1) else None))))))))
+    else (if bytes_eq p.0 (codes "threads") then on_file p.1 (threads_in p.1) else None))))))))))
 
 abbrev pub job_without : Kinds → Option (Text × List Row) → Option Wanted
 job_without [] found = option_and_then job_in found

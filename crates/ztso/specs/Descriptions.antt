@@ -45,7 +45,7 @@ asm_command = new_app (codes "asm")
 abbrev pub dis_command : App
 dis_command = new_app (codes "dis")
 
--- `run FILE SCHEDULE [--buffer B]`, and so `replay` and `debug`
+-- `run FILE SCHEDULE [--buffer B]`, and so `replay`, `move`, `shrink` and `debug`
 abbrev pub schedule_command : Text → App
 schedule_command name =
     with_rule (with_rule (with_rule (new_app name) (word_wanted (codes "file"))) (word_wanted (codes "schedule"))) buffer_option
@@ -82,4 +82,5 @@ with_commands app (command ∷ commands) = with_commands (with_subcommand app co
 
 abbrev pub ztso_command : App
 ztso_command = with_commands (new_app (codes "ztso"))
-    (steps_command ∷ asm_command ∷ dis_command ∷ schedule_command (codes "run") ∷ schedule_command (codes "replay") ∷ schedule_command (codes "debug") ∷ try_command ∷ channel_command ∷ threads_command ∷ [])
+    (steps_command ∷ asm_command ∷ dis_command ∷ schedule_command (codes "run") ∷ schedule_command (codes "replay") ∷ schedule_command (codes "move")
+    ∷ schedule_command (codes "shrink") ∷ schedule_command (codes "debug") ∷ try_command ∷ channel_command ∷ threads_command ∷ [])

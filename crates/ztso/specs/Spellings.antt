@@ -9,7 +9,7 @@ use Rattle.ztso.specs.declared.job.Task.{Task}
 use Rattle.ztso.specs.declared.job.Errand.TheVariants.{Asm, Dis, Machine}
 use Rattle.ztso.specs.declared.job.Task.TheVariants.{Alone, Threads}
 use Rattle.ztso.specs.declared.job.Work.{Work}
-use Rattle.ztso.specs.declared.job.Work.TheVariants.{Steps, Run, Replay, Debug, Try, Channel}
+use Rattle.ztso.specs.declared.job.Work.TheVariants.{Steps, Run, Replay, Move, Shrink, Debug, Try, Channel}
 use Rattle.recorder.specs.declared.reading.TheConstants.{MAX_EVENTS}
 use Rattle.ztso.specs.Jobs.{Wanted, one_input, two_inputs}
 use Rattle.ztso.specs.Jobs.Input.{Standard, File}
@@ -93,6 +93,8 @@ IsSpellingOf (Alone (Machine Steps capacity)) wanted words =
     × (wanted ≡ one_input (Alone (Machine Steps capacity)) Standard)
 IsSpellingOf (Alone (Machine Run capacity)) wanted words = IsOnFiles (codes "run") Run capacity wanted words
 IsSpellingOf (Alone (Machine Replay capacity)) wanted words = IsOnFiles (codes "replay") Replay capacity wanted words
+IsSpellingOf (Alone (Machine Move capacity)) wanted words = IsOnFiles (codes "move") Move capacity wanted words
+IsSpellingOf (Alone (Machine Shrink capacity)) wanted words = IsOnFiles (codes "shrink") Shrink capacity wanted words
 IsSpellingOf (Alone (Machine Debug capacity)) wanted words = IsOnFiles (codes "debug") Debug capacity wanted words
 IsSpellingOf (Alone (Machine (Try seed runs) capacity)) wanted words =
     (file s n l : Text) × (first second options : List Text)

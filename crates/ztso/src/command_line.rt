@@ -66,6 +66,10 @@ fn job_in<'a>(matches: &ArgMatches<'a>) -> Option<Job<'a>>
         ("replay", options) => {
             on_file_and_schedule(options, machine_in(options, Some(Work::Replay)))
         }
+        ("move", options) => on_file_and_schedule(options, machine_in(options, Some(Work::Move))),
+        ("shrink", options) => {
+            on_file_and_schedule(options, machine_in(options, Some(Work::Shrink)))
+        }
         ("debug", options) => on_file_and_schedule(options, machine_in(options, Some(Work::Debug))),
         ("try", options) => on_file(options, machine_in(options, try_in(options))),
         ("channel", options) => {
@@ -187,7 +191,7 @@ fn channel_in(options: &ArgMatches<'_>) -> Option<Work>
 
 /// The number of 32 bits, if one is said; none where that is no such number.
 fn number_if_said(text: Option<&str>) -> Option<Option<u32>>
-    ensures { result ≡ number_if_said (option_map (λ said. said.now) text) }
+    ensures { result ≡ number_if_said (option_map (λ said. said.now) text.entry) }
 {
     match text {
         Some(said) => Some(Some(count_of(said, 0, u32::MAX)?)),

@@ -36,6 +36,10 @@ pub enum Work {
     Run,
     /// To tell each event's outcome in a run of a litmus test by a schedule.
     Replay,
+    /// To write a schedule's text of version 2, with each event's outcome in a run of a litmus test.
+    Move,
+    /// To leave out of a schedule what its outcome of a litmus test doesn't need.
+    Shrink,
     /// To walk along a schedule's run of a litmus test, at the commands on standard input.
     Debug,
     /// To make these runs of a litmus test, by schedules that are drawn from a generator of this seed.

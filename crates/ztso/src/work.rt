@@ -9,8 +9,10 @@ ghost use Rattle.poll_close.specs.Places.{layout_of};
 ghost use Rattle.ztso_engines.specs.Channels.{IsChannelAnswer};
 ghost use Rattle.ztso_engines.specs.Dis.{IsDisAnswer};
 ghost use Rattle.engine_parts.specs.Engines.{AnswersBoth, Ends, EndsBy, EndsByBoth, OfInput};
+ghost use Rattle.ztso_engines.specs.Move.{IsMoveAnswer};
 ghost use Rattle.ztso_engines.specs.Replay.{IsReplayAnswer};
 ghost use Rattle.ztso_engines.specs.Run.{IsRunAnswer};
+ghost use Rattle.views.specs.Shrink.{IsShrinkAnswer};
 ghost use Rattle.engine_parts.specs.Schedules.{HasNoSchedule};
 ghost use Rattle.ztso_engines.specs.Steps.{IsStepsAnswer};
 ghost use Rattle.debugger.specs.Talks.{EndsAloud, IsDebugAnswer};
@@ -33,9 +35,11 @@ use std::sync::Wait;
 use std::thread::Threads;
 use tries::progress::Progress;
 use tries::trials::{Runs, try_engine};
+use views::shrinking::shrink_engine;
 use ztso_engines::asm::asm_engine;
 use ztso_engines::channel::channel_engine;
 use ztso_engines::dis::dis_engine;
+use ztso_engines::moving::move_engine;
 use ztso_engines::replay::replay_engine;
 use ztso_engines::run::run_engine;
 use ztso_engines::steps::steps_engine;
@@ -129,6 +133,36 @@ fn replay_test<const B: usize, F: Read, S: Read, W: Write>(
     ensures unread { HasNoTest (F.remaining file.old) → schedule.new ≡ schedule.old }
 {
     after(replay_engine::<B, WORDS, _, _, _>(alloc, file, schedule, writer))
+}
+
+/// Writes a schedule's text of version 2, with each event's outcome in a run of a test.
+fn move_schedule<const B: usize, F: Read, S: Read, W: Write>(
+    alloc: Global,
+    file: &mut F,
+    schedule: &mut S,
+    writer: &mut W,
+) -> Result<u8, Fault>
+    requires some_capacity { 1 ≤ B }
+    requires capacity { B ≤ 64 }
+    ensures ends { Ends (WithStatus done_status (AnswersBoth (IsMoveAnswer B WORDS) (F.remaining file.old) (S.remaining schedule.old))) result W.contents writer.old writer.new }
+    ensures unread { HasNoTest (F.remaining file.old) → schedule.new ≡ schedule.old }
+{
+    after(move_engine::<B, WORDS, _, _, _>(alloc, file, schedule, writer))
+}
+
+/// Leaves out of a schedule what its outcome of a test doesn't need.
+fn shrink_schedule<const B: usize, F: Read, S: Read, W: Write>(
+    alloc: Global,
+    file: &mut F,
+    schedule: &mut S,
+    writer: &mut W,
+) -> Result<u8, Fault>
+    requires some_capacity { 1 ≤ B }
+    requires capacity { B ≤ 64 }
+    ensures ends { Ends (WithStatus done_status (AnswersBoth (IsShrinkAnswer B WORDS) (F.remaining file.old) (S.remaining schedule.old))) result W.contents writer.old writer.new }
+    ensures unread { HasNoTest (F.remaining file.old) → schedule.new ≡ schedule.old }
+{
+    after(shrink_engine::<B, WORDS, _, _, _>(alloc, file, schedule, writer))
 }
 
 /// Walks along a schedule's run at a user's commands.
@@ -266,6 +300,8 @@ fn do_work<const B: usize, F: Read, S: Read, C: Read, W: Write, T: Threads + Syn
         Work::Steps => run_steps::<B, _, _>(alloc, first, writer),
         Work::Run => run_test::<B, _, _, _>(alloc, first, second, writer),
         Work::Replay => replay_test::<B, _, _, _>(alloc, first, second, writer),
+        Work::Move => move_schedule::<B, _, _, _>(alloc, first, second, writer),
+        Work::Shrink => shrink_schedule::<B, _, _, _>(alloc, first, second, writer),
         Work::Debug => debug_test::<B, _, _, _, _>(alloc, first, second, commands, writer),
         Work::Try { seed, runs } => {
             try_test::<B, _, _, _, _>(rt, alloc, seed, runs, first, progress, writer)

@@ -67,9 +67,9 @@ module _ (ring : Ring) (B M : ℕ) (place : Place) (lists : List (List ℕ)) whe
   pub differs : (steps : List Step) (o : Start) (error : CheckError) (fault : Fault) → o ≡ opening_over ring (layout_of place []) lists
       → AcceptedAt ring M lists (layout_of place []) → fault ≡ fault_of_check error → Differs (DiffersAt B M o steps) error
       → AnswersAs (Checks ring B M (layout_of place []) (recorded steps) lists) (λ (x : Unit {0}). x) (Err fault)
-  differs steps o check.NoMemory fault is within told differs = rw told tt
-  differs steps o (check.Differs event) fault is within told differs =
-      rw told (inr (record { within = within; differs = (event, subst (λ (s : Start). DiffersAt B M s steps event) is differs, refl) }))
+  differs steps o check.NoMemory fault is within told other = rw told tt
+  differs steps o (check.Differs event) fault is within told other =
+      rw told (inr (record { within = within; differs = (event, subst (λ (s : Start). DiffersAt B M s steps event) is other, refl) }))
 
   -- what is reported comes of a run, in which a record was checked
   ran : (finish : Bool) (o : Start) (said : Said) (reports : List Report) → IsChecked B M o said → Reported finish B M o lists (events_said said) reports
@@ -148,9 +148,10 @@ module _ (ring : Ring) (B M : ℕ) (place : Place) (finish : Bool) (first second
         at ReadFailed finds = tt
         at WriteFailed finds = finds
 
-    pub reports_fault : {Y : Type 0} (view : Y → List Report) (said : Said) (lists : List (List ℕ)) → ReadsSchedule said → ReadsLists lists
-        → AnswersAs (Reports ring B M (layout_of place []) finish said lists) view (Err fault) → Finds Answers seen result
-    reports_fault view said lists schedule input answers = rw is (at fault answers)
+    pub reports_fault : {Y : Type 0} (view : Y → List Report) (said : Said) (lists given : List (List ℕ)) → ReadsSchedule said → ReadsLists lists
+        → given ≡ lists → AnswersAs (Reports ring B M (layout_of place []) finish said given) view (Err fault) → Finds Answers seen result
+    reports_fault view said lists given schedule input same answers =
+        rw is (at fault (subst (λ (ls : List (List ℕ)). AnswersAs (Reports ring B M (layout_of place []) finish said ls) view (Err fault)) same answers))
       where
         at : (f : Fault) → AnswersAs (Reports ring B M (layout_of place []) finish said lists) view (Err f) → Finds {X = X} Answers seen (Err f)
         at (Refused r) none = answers_unreported said lists r schedule input none

@@ -25,7 +25,7 @@ use Rattle.engine_parts.proofs.RunLaws.{one_run}
 use Rattle.recorder.proofs.HeadLaws.{one_said}
 use Rattle.ztso_engines.specs.Lists.{SaysLists, lists_at}
 use Rattle.ztso_engines.specs.Channels.{HasNoChannel, IsUnfilled, IsChannelAnswer, IsDelivery, IsNoLists, IsUnreported, fault_from, opening_over, report_line}
-use Rattle.ztso_engines.specs.Channels.IsChannelAnswer as answer
+use Rattle.ztso_engines.specs.Channels.IsChannelAnswer.{no_schedule, no_lists, unreported, delivered}
 use Rattle.ztso_engines.proofs.ListTexts.{lists_read, one_lists}
 use Rattle.ztso_engines.proofs.OneAnswer.{same_output, one_refusal, said_or_refusal}
 
@@ -229,23 +229,23 @@ module _ (ring : Ring) (B M : ℕ) (l : Layout) (finish : Bool) (schedule input 
   IsAnswer = IsChannelAnswer ring B M l finish schedule input
 
   delivered_or_refused : (a : Output) (s : Refusal) → IsAnswer (Ok a) → IsAnswer (Err s) → ⊥
-  delivered_or_refused a s (answer.delivered said lists given is reads tells) (answer.no_schedule r none) = said_or_refusal schedule said s is none
-  delivered_or_refused a s (answer.delivered said lists given is reads tells) (answer.no_lists also r other none) =
+  delivered_or_refused a s (delivered said lists given is reads tells) (no_schedule r none) = said_or_refusal schedule said s is none
+  delivered_or_refused a s (delivered said lists given is reads tells) (no_lists also r other none) =
       lists_or_refusal input lists s reads none
-  delivered_or_refused a s (answer.delivered said lists given is reads tells) (answer.unreported also words r other says none) =
+  delivered_or_refused a s (delivered said lists given is reads tells) (unreported also words r other says none) =
       no_reason ring B M l said lists finish a s tells
       (read_again (λ x ls. IsUnreported ring B M l x ls s) schedule input said also lists words is other reads says none)
 
   one_refused : (r s : Refusal) → IsAnswer (Err r) → IsAnswer (Err s) → r ≡ s
-  one_refused r s (answer.no_schedule x none) (answer.no_schedule y other) = one_refusal (judged schedule_of schedule) r s none other
-  one_refused r s (answer.no_schedule x none) (answer.no_lists said y is more) = absurd (said_or_refusal schedule said r is none)
-  one_refused r s (answer.no_schedule x none) (answer.unreported said lists y is reads more) = absurd (said_or_refusal schedule said r is none)
-  one_refused r s (answer.no_lists said x is more) (answer.no_schedule y none) = absurd (said_or_refusal schedule said s is none)
-  one_refused r s (answer.unreported said lists x is reads more) (answer.no_schedule y none) = absurd (said_or_refusal schedule said s is none)
-  one_refused r s (answer.no_lists said x is none) (answer.no_lists also y other more) = one_refusal (judged lists_at input) r s none more
-  one_refused r s (answer.no_lists said x is none) (answer.unreported also words y other says more) = absurd (lists_or_refusal input words r says none)
-  one_refused r s (answer.unreported said lists x is reads more) (answer.no_lists also y other none) = absurd (lists_or_refusal input lists s reads none)
-  one_refused r s (answer.unreported said lists x is reads none) (answer.unreported also words y other says more) =
+  one_refused r s (no_schedule x none) (no_schedule y other) = one_refusal (judged schedule_of schedule) r s none other
+  one_refused r s (no_schedule x none) (no_lists said y is more) = absurd (said_or_refusal schedule said r is none)
+  one_refused r s (no_schedule x none) (unreported said lists y is reads more) = absurd (said_or_refusal schedule said r is none)
+  one_refused r s (no_lists said x is more) (no_schedule y none) = absurd (said_or_refusal schedule said s is none)
+  one_refused r s (unreported said lists x is reads more) (no_schedule y none) = absurd (said_or_refusal schedule said s is none)
+  one_refused r s (no_lists said x is none) (no_lists also y other more) = one_refusal (judged lists_at input) r s none more
+  one_refused r s (no_lists said x is none) (unreported also words y other says more) = absurd (lists_or_refusal input words r says none)
+  one_refused r s (unreported said lists x is reads more) (no_lists also y other none) = absurd (lists_or_refusal input lists s reads none)
+  one_refused r s (unreported said lists x is reads none) (unreported also words y other says more) =
       one_reason ring B M l said lists r s none
       (read_again (λ t ls. IsUnreported ring B M l t ls s) schedule input said also lists words is other reads says more)
 
@@ -270,7 +270,7 @@ module _ (ring : Ring) (B M : ℕ) (l : Layout) (schedule input : List ℕ) wher
       ∙ ap (flat_map report_line) (first.answer ∙ ap (λ (h : History). reported 0 h.entries) histories ∙ sym second.answer) ∙ sym other.text)
 
   pub one_channel : (a b : Result Output Refusal) → IsUnfinished a → IsUnfinished b → a ≡ b
-  one_channel (Ok a) (Ok b) (answer.delivered said lists given is reads tells) (answer.delivered also words other says told more) =
+  one_channel (Ok a) (Ok b) (delivered said lists given is reads tells) (delivered also words other says told more) =
       ap (λ (out : Output). Ok out) (one_delivery said lists a b tells
       (read_again (λ t ls. IsDelivery ring B M l false t ls b) schedule input said also lists words is says reads told more))
   one_channel (Ok a) (Err s) is other = absurd (delivered_or_refused ring B M l false schedule input a s is other)

@@ -1,6 +1,6 @@
 //! The command `move`: a litmus text and a schedule in, the schedule's text of version 2 out.
 
-ghost use Rattle.std.specs.Prelude.{◌≤◌};
+ghost use Rattle.std.specs.Prelude.{◌≡◌, ◌≤◌};
 ghost use Rattle.engine_parts.specs.Engines.{AnswersBoth, EndsByBoth};
 ghost use Rattle.engine_parts.specs.Tests.{HasNoTest};
 ghost use Rattle.ztso_engines.specs.Move.{IsMoveAnswer};

@@ -125,19 +125,23 @@ fn with_input_commands<'a>(alloc: Global, command: Command<'a>) -> Result<Comman
     with_asm.subcommand(dis)
 }
 
-/// The command with those on a litmus text and a schedule: `run`, `replay` and `debug`.
+/// The command with those on a litmus text and a schedule: `run`, `replay`, `move`, `shrink` and `debug`.
 fn with_schedule_commands<'a>(
     alloc: Global,
     command: Command<'a>,
 ) -> Result<Command<'a>, AllocError>
-    ensures { IfOk result (λ whole. app_of whole ≡ with_commands (app_of command.entry) (schedule_command (codes "run") ∷ schedule_command (codes "replay") ∷ schedule_command (codes "debug") ∷ [])) }
+    ensures { IfOk result (λ whole. app_of whole ≡ with_commands (app_of command.entry) (schedule_command (codes "run") ∷ schedule_command (codes "replay") ∷ schedule_command (codes "move") ∷ schedule_command (codes "shrink") ∷ schedule_command (codes "debug") ∷ [])) }
 {
     let run = schedule_command(alloc, "run")?;
     let with_run = command.subcommand(run)?;
     let replay = schedule_command(alloc, "replay")?;
     let with_replay = with_run.subcommand(replay)?;
+    let moving = schedule_command(alloc, "move")?;
+    let with_move = with_replay.subcommand(moving)?;
+    let shrink = schedule_command(alloc, "shrink")?;
+    let with_shrink = with_move.subcommand(shrink)?;
     let debug = schedule_command(alloc, "debug")?;
-    with_replay.subcommand(debug)
+    with_shrink.subcommand(debug)
 }
 
 /// The command with those that have options of their own: `try`, `channel` and `threads`.

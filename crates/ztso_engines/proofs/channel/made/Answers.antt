@@ -27,8 +27,8 @@ pub returns-in_err-reports-clause-made : goal.returns-in_err-reports-clause-made
 returns-in_err-reports-clause-made g c =
     let p = err_from_is_err_and c.from_residual-in_err-reports.result c.from_residual-in_err-reports.ensures.1 in
     reports_fault g.K.RingKind.ring g.row.B g.row.M c.args.place c.args.finish _ _ _ c.from_residual-in_err-reports.result c.in_err-reports.field-0.0
-    (rw p.2 at p.1) (λ (reports : Vec Report). reports.items) (said_of c.in_ok-said.said) (map (λ (list : Vec ℕ). list.items) c.in_ok-lists.lists.items)
-    c.in_ok-said.ensures.schedule c.in_ok-lists.ensures (rw c.deref.ensures.value at c.in_err-reports.ensures)
+    (rw p.2 at p.1) (λ (reports : Vec Report). reports.items) (said_of c.in_ok-said.said) (map (λ (list : Vec ℕ). list.items) c.in_ok-lists.lists.items) _
+    c.in_ok-said.ensures.schedule c.in_ok-lists.ensures (ap (map (λ (list : Vec ℕ). list.items)) c.deref.ensures.value) c.in_err-reports.ensures
 
 pub returns-clause-made : goal.returns-clause-made
 returns-clause-made g c =

@@ -11,7 +11,8 @@ returns-clause-shape c =
     let with_base = c.in_ok-with_base.ensures.shape c.option_or.ensures.local ∙ ap₂ with_rule with_schedule c.option_or.ensures.rule in
     let with_stride = c.in_ok-with_stride.ensures.shape c.option_said.ensures.local ∙ ap₂ with_rule with_base c.option_said.ensures.rule in
     let with_finish = c.in_ok-with_finish.ensures.shape c.flag.ensures.local ∙ ap₂ with_rule with_stride c.flag.ensures.rule in
-    IfOk-weaker c.arg-7.result _ _ (λ command added. added.shape c.buffer_option.ensures.local ∙ ap₂ with_rule with_finish c.buffer_option.ensures.rule) c.arg-7.ensures
+    IfOk-weaker c.arg-7.result _ _
+    (λ command added. added.shape c.buffer_option.ensures.local ∙ ap₂ with_rule with_finish c.buffer_option.ensures.rule) c.arg-7.ensures
 
 pub returns-clause-local : goal.returns-clause-local
 returns-clause-local c =
