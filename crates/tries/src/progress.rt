@@ -2,7 +2,7 @@
 
 ghost use Rattle.std.specs.Prelude.{◌≡◌, None};
 
-/// What is told of the runs while they are made: they come in rounds, with a report after each.
+/// What is reported of runs while they are made. They come in rounds, with a report after each.
 ///
 /// What the runs show depends on none of it.
 pub trait Progress {
@@ -10,7 +10,7 @@ pub trait Progress {
     /// at least one run, and at most those that are left.
     fn next_round(&mut self, left: u32) -> u32;
 
-    /// `done` of all `runs` are made, and showed so many outcomes.
+    /// `done` of all `runs` are made, and showed this many outcomes.
     fn report(&mut self, done: u32, runs: u32, outcomes: usize);
 
     /// No report follows: all runs are made, or memory ran out.

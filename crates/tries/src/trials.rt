@@ -117,7 +117,7 @@ fn made<
 /// it, the values of the condition's left sides, and the schedule of the first of these runs; and then
 /// how many runs did not finish. It answers whether the runs show what the test asks: with `exists` a
 /// run that holds, else no run that fails. The answer depends neither on the jobs nor on the progress,
-/// which is told how far the runs are, and that they ended.
+/// which learns how far the runs are, and that they ended.
 ///
 /// The input is refused as `run` refuses it, and then nothing was written.
 pub fn try_engine<

@@ -67,7 +67,7 @@ impl<'a, R: Clock + Eprint> Progress for ProgressLine<'a, R> {
     }
 }
 
-/// How many runs last a second where so many took so many milliseconds: at least one, and at most
+/// How many runs last a second where `runs` of them took `milliseconds`: at least one, and at most
 /// [`MOST_GROWTH`] times as many.
 fn for_a_second(runs: u32, milliseconds: u128) -> u32
     ensures { result ≡ max 1 (min (runs * 1000 / max 1 milliseconds) (min 4294967295 (runs * MOST_GROWTH))) }
