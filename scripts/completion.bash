@@ -2,16 +2,18 @@
 _ztso() {
     local word=${COMP_WORDS[COMP_CWORD]} command=${COMP_WORDS[1]} options=
     if ((COMP_CWORD == 1)); then
-        COMPREPLY=($(compgen -W 'run replay debug try threads channel steps asm dis' -- "$word"))
+        COMPREPLY=($(compgen -W 'run replay move shrink debug try threads channel steps asm dis' -- "$word"))
         return
     fi
     case $command in
     run) options='--buffer' ;;
     replay) options='--buffer' ;;
+    move) options='--buffer' ;;
+    shrink) options='--buffer' ;;
     debug) options='--buffer' ;;
     try) options='--buffer --seed --runs --length --skip --jobs' ;;
     threads) options='--buffer --turns' ;;
-    channel) options='--buffer --finish' ;;
+    channel) options='--buffer --base --stride --finish' ;;
     steps) options='--buffer' ;;
     esac
     if [[ $word == -* ]]; then

@@ -49,6 +49,8 @@ class Case:
     memory: Optional[int] = None
     each_allocation: Optional[str] = None
     typed: Optional[str] = None
+    # where standard error is a pseudoterminal: the last text that was written there and is wiped at the end
+    wiped: Optional[bytes] = None
     copied: List[str] = field(default_factory=list)
     files: Dict[str, Pieces] = field(default_factory=dict)
     stdin: Stream = field(default_factory=Stream)
@@ -90,8 +92,8 @@ class Case:
 
 def substance(case):
     """All of a case except its comments, its standard error and its place."""
-    return (case.words, case.status, case.memory, case.each_allocation, case.typed, case.copied, case.files,
-            case.stdin, case.stdout, case.like)
+    return (case.words, case.status, case.memory, case.each_allocation, case.typed, case.wiped, case.copied,
+            case.files, case.stdin, case.stdout, case.like)
 
 
 def lines_in(pieces):
@@ -161,6 +163,8 @@ class Reader:
                 raise self.refused(f"{case.name} is run by a shell, whose allocations aren't to be refused")
             if case.typed and (case.stdin.device or case.stdout.device):
                 raise self.refused(f"{case.name} has no text that is typed, or no pipe for the answers")
+            if case.wiped is not None and (case.typed or case.each_allocation is not None or case.needs_shell()):
+                raise self.refused(f"{case.name} has another way of running than with standard error at a terminal")
         return found
 
     def opened(self, name, before):
@@ -193,6 +197,8 @@ class Reader:
             case.each_allocation = rest
         elif head == "typed" and rest in TYPED:
             case.typed = rest
+        elif head == "wiped" and rest:
+            case.wiped = escapes.read_line(rest).removesuffix(b"\n")
         elif head == "copy" and rest:
             case.copied += rest.split(" ")
         elif head == "file" and rest.endswith(":"):
@@ -285,6 +291,8 @@ def given(case):
         yield f"each-allocation {case.each_allocation}".rstrip()
     if case.typed:
         yield f"typed {case.typed}"
+    if case.wiped is not None:
+        yield f"wiped {escapes.shown(case.wiped)}"
     if case.copied:
         yield " ".join(["copy", *case.copied])
     for name, pieces in case.files.items():

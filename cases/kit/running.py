@@ -5,7 +5,7 @@ import subprocess
 import tempfile
 from pathlib import Path
 
-from . import typing_in
+from . import terminal, typing_in
 
 SECONDS = 60
 # status, standard error and standard output where memory ran out
@@ -120,22 +120,34 @@ def run_in(program, case, inside, variables):
         environment = {**os.environ, **variables} if variables else None
         return typing_in.run(case.typed, case.stdin.content(), command(program, case), inside, environment, SECONDS)
     given, taken = device(case.stdin, os.O_RDONLY), device(case.stdout, os.O_WRONLY)
+    options = {
+        **({"stdin": subprocess.DEVNULL if given is None else given} if case.stdin.device
+           else {"input": case.stdin.content()}),
+        "stdout": subprocess.PIPE if taken is None else taken,
+        "cwd": inside,
+        "timeout": SECONDS,
+        "env": {**os.environ, **variables} if variables else None,
+    }
     try:
-        done = subprocess.run(
-            command(program, case),
-            **({"stdin": subprocess.DEVNULL if given is None else given} if case.stdin.device
-               else {"input": case.stdin.content()}),
-            stdout=subprocess.PIPE if taken is None else taken,
-            stderr=subprocess.PIPE,
-            cwd=inside,
-            timeout=SECONDS,
-            env={**os.environ, **variables} if variables else None,
-        )
+        if case.wiped is None:
+            done = subprocess.run(command(program, case), stderr=subprocess.PIPE, **options)
+            errors = done.stderr
+        else:
+            done, written = terminal.run(command(program, case), **options)
+            errors = remaining(written, case.wiped)
     finally:
         for opened in (given, taken):
             if opened is not None:
                 os.close(opened)
-    return done.returncode, done.stderr, done.stdout or b""
+    return done.returncode, errors, done.stdout or b""
+
+
+def remaining(written, wiped):
+    """What a terminal shows of what was written to it, where the last text that is gone is as wanted."""
+    shown, gone = terminal.shown(written)
+    if gone != wiped:
+        raise Wrong(f"the last text that was wiped at the terminal: {gone}, wanted {wiped}")
+    return shown
 
 
 def without_memory(program, case, folder, refuser, first, step):

@@ -7,12 +7,15 @@ from pathlib import Path
 import assembly
 import litmus
 from digits import of_digits
-from faults import at_line, refused
+from faults import DIFFERS, at_event, at_line, refused
 from machine import MEMORY, RUNNING, Machine, word_at
 from words import lines
 
 PAGE = Path(__file__).resolve().parent.parent.parent / "docs/channels.md"
 LINE, ZERO_WORD, NO_SENDERS, TOO_MANY, TOO_SMALL, NO_ROOM = 34, 16, 17, 18, 19, 20
+UNEVEN_BASE, UNEVEN_STRIDE, BLOCKS_MEET = 41, 42, 43
+# a place is where block 0 begins, and how far apart the blocks begin, None if one follows the other
+DENSE = 0, None
 HEADING = {"lamport": "## Lamport's ring", "fastforward": "## FastForward"}
 LEAST = {"lamport": 2, "fastforward": 1}
 SENDERS = 63
@@ -50,25 +53,34 @@ def assembled(program):
     return [assembly.placed(instruction, at, labels) for at, (_, (instruction,)) in enumerate(statements)]
 
 
-def opened(kind, slots, words):
+def opened(kind, slots, words, place=DENSE):
     """The channel's opening, as a test that asks nothing."""
     size = 16 + 4 * slots
+    base, stride = place
+    apart = size if stride is None else stride
+    end = base + len(words) * apart
     if not words:
         raise refused(NO_SENDERS)
     if len(words) > SENDERS:
         raise refused(TOO_MANY)
     if slots < LEAST[kind]:
         raise refused(TOO_SMALL)
-    if len(words) * size > MEMORY:
+    if base % 4:
+        raise refused(UNEVEN_BASE)
+    if apart % 4:
+        raise refused(UNEVEN_STRIDE)
+    if apart < size:
+        raise refused(BLOCKS_MEET)
+    if end - apart + size > MEMORY or end >= 1 << 32:
         raise refused(NO_ROOM)
     for sender, list_ in enumerate(words):
         if 0 in list_:
             raise refused(ZERO_WORD, f" at sender {sender} place {list_.index(0)}")
     sender, receiver = listings(kind)
     channel = litmus.Test(codes=[receiver] + [sender] * len(words))
-    channel.registers = {(0, 9): 4 * slots, (0, 18): size, (0, 19): len(words) * size, (0, 20): len(words)}
+    channel.registers = {(0, 9): 4 * slots, (0, 18): apart, (0, 19): end, (0, 20): len(words), (0, 21): base}
     for i, list_ in enumerate(words):
-        channel.registers |= {(i + 1, 8): i * size, (i + 1, 9): 4 * slots}
+        channel.registers |= {(i + 1, 8): base + i * apart, (i + 1, 9): 4 * slots}
         channel.inboxes[i + 1] = list_
     return channel
 
@@ -76,8 +88,8 @@ def opened(kind, slots, words):
 class Channel:
     """A channel as it runs: its state, the events that ran and the receiver's reports, as lines."""
 
-    def __init__(self, kind, slots, words, capacity):
-        self.machine = Machine(opened(kind, slots, words), capacity)
+    def __init__(self, kind, slots, words, capacity, place=DENSE):
+        self.machine = Machine(opened(kind, slots, words, place), capacity)
         self.state = self.machine.opening
         self.kind, self.events, self.reports = kind, [], []
 
@@ -87,6 +99,7 @@ class Channel:
         name, *parts = outcome.split()
         if entry and name in ("took", "closed"):
             self.reports.append(" ".join([name, *parts[1:]]))
+        return outcome
 
     def land(self, hart):
         """All that is pending there."""
@@ -116,12 +129,13 @@ class Channel:
             self.land(hart)
 
 
-def reports(kind, slots, words, events, capacity, finish=False):
-    """The receiver's reports in the run of these events, and of the plan behind them if the channel is to
-    be finished."""
-    channel = Channel(kind, slots, words, capacity)
-    for event in events:
-        channel.run(event)
+def reports(kind, slots, words, steps, capacity, finish=False, where=DENSE):
+    """The receiver's reports in the run of these events, and of the plan after them if the channel is to
+    be finished. A record is refused where an outcome isn't the run's."""
+    channel = Channel(kind, slots, words, capacity, where)
+    for place, (event, said) in enumerate(steps):
+        if said not in (channel.run(event), None):
+            raise at_event(DIFFERS, place)
     if finish:
         channel.finish()
     return channel.reports

@@ -2,7 +2,7 @@
 
 HEADER, INIT, TABLE, INSTRUCTION, CONDITION, MANY = 21, 22, 23, 24, 25, 26
 HEAD, TOKEN, HART, COUNT, TRUNCATED = 27, 28, 29, 30, 31
-NO_TEXT, TOO_LARGE = 36, 37
+NO_TEXT, TOO_LARGE, DIFFERS, OUTCOME, NOT_FINISHED = 36, 37, 38, 39, 40
 
 
 class Fault(Exception):
@@ -22,6 +22,10 @@ def at_line(number, line):
 
 def at_byte(number, byte):
     return refused(number, f" at byte {byte}")
+
+
+def at_event(number, event):
+    return refused(number, f" at event {event}")
 
 
 def bad_command_line():

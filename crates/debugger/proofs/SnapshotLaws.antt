@@ -57,13 +57,6 @@ run_front B M t evs more new mid run first =
 
 -- ---- the snapshots
 
--- of the opening
-pub opened_with : (B M : ℕ) (o : Start) (t : History) (s : Taken) → Run B M o [] t → IsTakenAt B M t s → HasSnapshots B M o [] (s ∷ [])
-opened_with B M o t s ran taken = record { count = refl; taken = at }
-  where
-    at : (k : ℕ) (d : Taken) → k < 1 → IsTakenAfter B M o (take (k * SNAPSHOT_EVENTS) []) (get_or (s ∷ []) k d)
-    at k d within = let first : k ≡ 0 = omega arith in rw first (t, ran, taken)
-
 -- an event more leaves those that were taken
 still_taken : (B M : ℕ) (o : Start) (evs : List Event) (ev : Event) (ss : List Taken) (k : ℕ) (d : Taken) → HasSnapshots B M o evs ss → k < length ss
     → IsTakenAfter B M o (take (k * SNAPSHOT_EVENTS) (evs ++ ev ∷ [])) (get_or ss k d)

@@ -20,9 +20,9 @@ use Rattle.debugger.specs.Talks.{AnswersLine, EndsAloud, IsDebugAnswer, IsDebugF
 use Rattle.engine_parts.specs.inner.Making.{Finds, IsEndOf, text_and_value}
 use Rattle.debugger.specs.inner.Talking.{IsFailure, IsSetOut}
 use Rattle.engine_parts.specs.Engines.{AnswersBoth}
-use Rattle.engine_parts.specs.Histories.{ByBoth}
-use Rattle.engine_parts.specs.Histories.ByBoth.{ran}
-use Rattle.engine_parts.proofs.HistoryLaws.{still_refused, weaker_both}
+use Rattle.engine_parts.specs.Histories.{AnswersEvents, ByEvents}
+use Rattle.engine_parts.specs.Histories.BySchedule.{both}
+use Rattle.engine_parts.proofs.ScheduleLaws.{by_schedule_as, weaker_both}
 
 -- ---- the first line of an input, which ends through its first LF
 
@@ -197,34 +197,34 @@ fails result fault is failed = rw is failed
 
 module _ (B M : ℕ) (first second input : Option (List ℕ)) {W : Type 0} (contents : W → Option (List ℕ)) where
   -- a talk that is over ends the command
-  pub talked : (result : Result (Unit {0}) Fault) (walk : Way) (old new : W) → AnswersBoth (ByBoth IsSetOut) first second (Ok walk) → OnOk result ((out : List ℕ) × Appends (contents old) (contents new) out × Prints B M input walk [] out) → IfErr result IsFailure
+  pub talked : (result : Result (Unit {0}) Fault) (walk : Way) (old new : W) → AnswersBoth (ByEvents IsSetOut) first second (Ok walk) → OnOk result ((out : List ℕ) × Appends (contents old) (contents new) out × Prints B M input walk [] out) → IfErr result IsFailure
       → EndsAloud (AnswersBoth (IsDebugAnswer B M input) first second) result contents old new
-  talked (Ok x) walk old new set told failed = (told.0, weaker_both first second (ByBoth IsSetOut) (IsDebugAnswer B M input) (Ok walk) (Ok (told.0, x)) more set, told.1)
+  talked (Ok x) walk old new set told failed = (told.0, weaker_both first second (ByEvents IsSetOut) (IsDebugAnswer B M input) (Ok walk) (Ok (told.0, x)) more set, told.1)
     where
-      more : (file schedule : List ℕ) → ByBoth IsSetOut file schedule (Ok walk) → IsDebugAnswer B M input file schedule (Ok (told.0, x))
-      more file schedule (ran question events known test read set) = ran question events (told.0, x) test read (subst (λ (w : Way). Prints B M input w [] told.0) set told.2)
+      more : (file schedule : List ℕ) → ByEvents IsSetOut file schedule (Ok walk) → IsDebugAnswer B M input file schedule (Ok (told.0, x))
+      more file schedule (both question said known test read set) = both question said (Ok (told.0, x)) test read (subst (λ (w : Way). Prints B M input w [] told.0) set told.2)
   talked (Err (Refused refusal)) walk old new set told failed = absurd failed
   talked (Err ReadFailed) walk old new set told failed = tt
   talked (Err WriteFailed) walk old new set told failed = tt
   talked (Err NoMemory) walk old new set told failed = tt
 
   -- and so does a fault before it begins
-  pub not_begun : {X : Type 0} (view : X → Way) (result : Result (Unit {0}) Fault) (fault : Fault) (old : W) → result ≡ Err fault → Finds (AnswersBoth (ByBoth IsSetOut) first second) view (Err fault) → EndsAloud (AnswersBoth (IsDebugAnswer B M input) first second) result contents old old
-  not_begun view result (Refused refusal) old is finds = rw is (weaker_both first second (ByBoth IsSetOut) (IsDebugAnswer B M input) (Err refusal) (Err refusal) (still_refused IsSetOut (IsTalk B M input) refusal) finds, refl)
+  pub not_begun : {X : Type 0} (view : X → Way) (result : Result (Unit {0}) Fault) (fault : Fault) (old : W) → result ≡ Err fault → Finds (AnswersBoth (ByEvents IsSetOut) first second) view (Err fault) → EndsAloud (AnswersBoth (IsDebugAnswer B M input) first second) result contents old old
+  not_begun view result (Refused refusal) old is finds = rw is (weaker_both first second (ByEvents IsSetOut) (IsDebugAnswer B M input) (Err refusal) (Err refusal) (by_schedule_as (AnswersEvents IsSetOut) (AnswersEvents (IsTalk B M input)) refusal (λ question said none. none)) finds, refl)
   not_begun view result ReadFailed old is finds = rw is tt
   not_begun view result WriteFailed old is finds = rw is tt
   not_begun view result NoMemory old is finds = rw is tt
 
   -- what a talk that stops has written
-  pub left_begun : (result : Result (Unit {0}) Fault) (walk : Way) (old new : W) → AnswersBoth (ByBoth IsSetOut) first second (Ok walk) → OnStopped result ((out : List ℕ) × Appends (contents old) (contents new) out × PrintsFront B M input walk [] out)
+  pub left_begun : (result : Result (Unit {0}) Fault) (walk : Way) (old new : W) → AnswersBoth (ByEvents IsSetOut) first second (Ok walk) → OnStopped result ((out : List ℕ) × Appends (contents old) (contents new) out × PrintsFront B M input walk [] out)
       → OnStopped result ((out : List ℕ) × Appends (contents old) (contents new) out × ((out ≡ []) ⊎ AnswersBoth (IsDebugFront B M input) first second (Ok (out, tt))))
   left_begun result walk old new set told = at result told
     where
-      more : (out : List ℕ) → PrintsFront B M input walk [] out → (file schedule : List ℕ) → ByBoth IsSetOut file schedule (Ok walk) → IsDebugFront B M input file schedule (Ok (out, tt))
-      more out prints file schedule (ran question events known test read set) = ran question events (out, tt) test read (subst (λ (w : Way). PrintsFront B M input w [] out) set prints)
+      more : (out : List ℕ) → PrintsFront B M input walk [] out → (file schedule : List ℕ) → ByEvents IsSetOut file schedule (Ok walk) → IsDebugFront B M input file schedule (Ok (out, tt))
+      more out prints file schedule (both question said known test read set) = both question said (Ok (out, tt)) test read (subst (λ (w : Way). PrintsFront B M input w [] out) set prints)
 
       told_of : (out : List ℕ) × Appends (contents old) (contents new) out × PrintsFront B M input walk [] out → (out : List ℕ) × Appends (contents old) (contents new) out × ((out ≡ []) ⊎ AnswersBoth (IsDebugFront B M input) first second (Ok (out, tt)))
-      told_of (out, appends, prints) = (out, appends, inr (weaker_both first second (ByBoth IsSetOut) (IsDebugFront B M input) (Ok walk) (Ok (out, tt)) (more out prints) set))
+      told_of (out, appends, prints) = (out, appends, inr (weaker_both first second (ByEvents IsSetOut) (IsDebugFront B M input) (Ok walk) (Ok (out, tt)) (more out prints) set))
 
       at : (r : Result (Unit {0}) Fault) → OnStopped r ((out : List ℕ) × Appends (contents old) (contents new) out × PrintsFront B M input walk [] out) → OnStopped r ((out : List ℕ) × Appends (contents old) (contents new) out × ((out ≡ []) ⊎ AnswersBoth (IsDebugFront B M input) first second (Ok (out, tt))))
       at (Ok x) t = tt

@@ -1,5 +1,5 @@
 -- Walks: what came from the schedule is the schedule's up to its place.
-use Rattle.std.proofs.Common.{◌≡◌, ℕ, zero, suc, ◌+◌, ◌-◌, ◌≤◌, ◌<◌, List, [], ◌∷◌, ◌++◌, length, take, drop, min, get_or, Some, refl, sym, ap, ◌∙◌, arith, length-append}
+use Rattle.std.proofs.Common.{◌≡◌, ℕ, zero, suc, ◌+◌, ◌-◌, ◌≤◌, ◌<◌, List, [], ◌∷◌, ◌++◌, length, take, drop, min, get_or, Some, refl, sym, ap, ◌∙◌, arith, length-append, length-drop, take_all}
 use Rattle.std.specs.List.{slice_get}
 use Rattle.std.proofs.lemmas.List.{take_more, take-take, length-take, append-nil}
 use Rattle.std.proofs.lemmas.List.Sums.{sum_by-append, sum_by-take-drop}
@@ -62,6 +62,15 @@ kept_strayed w past ev kept events = record {
   done = ap (of_schedule (w.sources ++ User ∷ [])) events ∙ of_schedule-append w.sources (User ∷ []) w.past.events (ev ∷ []) kept.each
       ∙ ap (λ (xs : List Event). xs ++ []) kept.done ∙ append-nil (take w.place w.schedule);
 }
+
+-- what the sources count that are dropped, as a slice has them
+pub undone_of : (xs : List Source) (given : List Source) (left undone : ℕ) → given ≡ xs → undone ≡ scheduled (take (length given - left) (drop left given)) → undone ≡ scheduled (drop left xs)
+undone_of xs given left undone same is =
+    is ∙ ap scheduled (take_all (length given - left) (drop left given) (omega (arith, length-drop left given))) ∙ ap (λ (ys : List Source). scheduled (drop left ys)) same
+
+-- and the schedule's place without them
+pub place_left : (w : Way) (left undone : ℕ) → IsKept w → undone ≡ scheduled (drop left w.sources) → (undone ≤ w.place) × (w.place - undone ≡ scheduled (take left w.sources))
+place_left w left undone kept is = let split = scheduled-split left w.sources in (omega (arith, is, split, kept.place), omega (arith, is, split, kept.place))
 
 -- the last k events were undone, and so many are left
 pub kept_back : (B M : ℕ) (w : Way) (past : Past) (k left : ℕ) → IsKept w → GoesBack B M w.past k past → left ≡ length w.sources - k → IsKept (record { past = past; schedule = w.schedule; sources = take left w.sources; place = scheduled (take left w.sources) })

@@ -10,7 +10,7 @@ use Rattle.engine_parts.specs.declared.fault.Fault.{Fault}
 use Rattle.engine_parts.specs.declared.fault.Fault.TheVariants.{ReadFailed, WriteFailed, NoMemory, Refused}
 use Rattle.engine_parts.specs.declared.fault.Refusal.{Refusal}
 use Rattle.texts.specs.Cutting.{tokens}
-use Rattle.engine_parts.specs.Histories.{ByBoth}
+use Rattle.engine_parts.specs.Histories.{ByEvents}
 use Rattle.debugger.specs.Walks.{Way, set_out}
 use Rattle.debugger.specs.Commands.{asked}
 use Rattle.debugger.specs.DebugText.{unknown_line}
@@ -63,13 +63,14 @@ OnStopped (Ok x) P = Unit {0}
 abbrev pub IsTalk : (B M : ℕ) → (input : Option (List ℕ)) → LitmusTest → List Event → (answer : Output) → Type 0
 IsTalk B M input question events answer = Prints B M input (set_out question.opening events) [] answer.0
 
--- What answers a test, a schedule and the user's lines. The test is judged first.
+-- What answers a test, a schedule of either version and the user's lines. The test is judged first. A walk
+-- goes along the schedule's events; what a record says of their outcomes isn't checked.
 abbrev pub IsDebugAnswer : (B M : ℕ) → (input : Option (List ℕ)) → (file schedule : List ℕ) → Result Output Refusal → Type 0
-IsDebugAnswer B M input = ByBoth (IsTalk B M input)
+IsDebugAnswer B M input = ByEvents (IsTalk B M input)
 
 -- What the first of the user's lines print, for a test and a schedule that are read.
 abbrev pub IsDebugFront : (B M : ℕ) → (input : Option (List ℕ)) → (file schedule : List ℕ) → Result Output Refusal → Type 0
-IsDebugFront B M input = ByBoth (λ question events answer. PrintsFront B M input (set_out question.opening events) [] answer.0)
+IsDebugFront B M input = ByEvents (λ question events answer. PrintsFront B M input (set_out question.opening events) [] answer.0)
 
 -- How an engine ends that writes as it reads: it wrote an output that is an answer together with what it
 -- returned, or a refusal is the answer and nothing was written. Where a read or a write failed or memory

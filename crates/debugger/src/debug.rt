@@ -4,7 +4,7 @@ ghost use Rattle.std.specs.Prelude.{◌≡◌, ◌≤◌, ◌⊎◌, ℕ, List, 
 ghost use Rattle.std.specs.Io.KnownBytes.{Appends};
 ghost use Rattle.engine_parts.specs.Engines.{AnswersBoth};
 ghost use Rattle.engine_parts.specs.Tests.{HasNoTest};
-ghost use Rattle.engine_parts.specs.Histories.{ByBoth};
+ghost use Rattle.engine_parts.specs.Histories.{ByEvents};
 ghost use Rattle.debugger.specs.Talks.{EndsAloud, IsDebugAnswer, IsDebugFront, OnRefused, OnStopped};
 ghost use Rattle.engine_parts.specs.inner.Making.{Finds};
 ghost use Rattle.debugger.specs.inner.Talking.{IsSetOut};
@@ -14,7 +14,7 @@ use crate::debug::talk::talk;
 use crate::walk::Walk;
 use engine_parts::fault::Fault;
 use engine_parts::litmus_text::read_test;
-use engine_parts::schedule::read_events;
+use engine_parts::schedule::read_schedule;
 use std::alloc::Global;
 use std::io::{BufRead, Read, Write};
 
@@ -25,8 +25,8 @@ mod lines;
 mod looking;
 mod talk;
 
-/// A walk at the opening of the test that a litmus text stands for, along a schedule. The schedule is
-/// read behind an accepted test only.
+/// A walk at the opening of the test that a litmus text stands for, along a schedule's events. The schedule
+/// is read after an accepted test only.
 fn read_walk<const B: usize, const M: usize, F: Read, S: Read>(
     alloc: Global,
     file: &mut F,
@@ -36,12 +36,13 @@ fn read_walk<const B: usize, const M: usize, F: Read, S: Read>(
     requires capacity { B ≤ 64 }
     requires words { MAX_LOCATIONS ≤ M }
     requires size { M ≤ 65536 }
-    ensures walk { Finds (AnswersBoth (ByBoth IsSetOut) (F.remaining file.old) (S.remaining schedule.old)) (λ walk. walk) result }
+    ensures walk { Finds (AnswersBoth (ByEvents IsSetOut) (F.remaining file.old) (S.remaining schedule.old)) (λ walk. walk) result }
     ensures unread { HasNoTest (F.remaining file.old) → schedule.new ≡ schedule.old }
 {
     let test = read_test(alloc, file)?;
-    let events = read_events(alloc, schedule)?;
+    let said = read_schedule(alloc, schedule)?;
     let opening = test.opening(alloc)?;
+    let events = said.into_events(alloc)?;
     let walk = Walk::open(alloc, opening, events)?;
     Ok(walk)
 }
@@ -50,8 +51,11 @@ fn read_walk<const B: usize, const M: usize, F: Read, S: Read>(
 /// each, each as soon as it is read: docs/formats.md has them. The machine has store buffers of `B`
 /// pairs and `M` words of memory.
 ///
-/// The first two inputs are refused as `run` refuses them, before the first command
-/// is read and with nothing written. A schedule behind a refused litmus text is not read. Commands are
+/// The walk goes along the events of a schedule of either version. What a record says of their outcomes is
+/// not checked: each step prints the run's.
+///
+/// The first two texts are refused as `run` refuses them, before the first command
+/// is read and with nothing written. After a refused litmus text the schedule is not read. Commands are
 /// never refused, and their number and length have no limit. After a failed read or write, or where
 /// memory runs out, what was answered before stays written.
 pub fn debug_engine<const B: usize, const M: usize, F: Read, S: Read, C: BufRead, W: Write>(

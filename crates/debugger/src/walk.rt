@@ -126,16 +126,17 @@ impl<const B: usize, const M: usize> Walk<B, M> {
             session,
             schedule,
             mut sources,
-            place: _,
+            place,
         } = self;
         let session = session.back(k)?;
-        sources.truncate(sources.len().saturating_sub(k));
-        let place = scheduled_in(&sources);
+        let left = sources.len().saturating_sub(k);
+        let undone = scheduled_in(&sources[left..]);
+        sources.truncate(left);
         Ok(Walk {
             session,
             schedule,
             sources,
-            place,
+            place: place - undone,
         })
     }
 }

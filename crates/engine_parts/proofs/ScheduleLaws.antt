@@ -12,9 +12,8 @@ use Rattle.engine_parts.specs.Tests.{IsNoTest}
 use Rattle.engine_parts.specs.Histories.{BySchedule}
 use Rattle.engine_parts.specs.Histories.BySchedule.{no_test, no_schedule, both}
 use Rattle.engine_parts.specs.inner.Making.{Finds, FindsBy}
-use Rattle.engine_parts.specs.inner.Inputs.{IsReadAsTest, IsReadAsEither}
+use Rattle.engine_parts.specs.inner.Inputs.{IsReadAsTest, IsReadAsSchedule}
 use Rattle.engine_parts.proofs.Endings.{weaker}
-use Rattle.engine_parts.proofs.HistoryLaws.{weaker_both}
 
 -- what is asked of both, in other words
 pub by_schedule_as : {A C : Type 0} (P : LitmusTest → Said → Result A Refusal → Type 0) (Q : LitmusTest → Said → Result C Refusal → Type 0) (refusal : Refusal)
@@ -31,12 +30,17 @@ stopped_as P Q view seen ReadFailed more answers = answers
 stopped_as P Q view seen WriteFailed more answers = answers
 
 module _ (first second : Option (List ℕ)) where
+  -- what answers both, by their bytes
+  pub weaker_both : {A C : Type 0} (P : List ℕ → List ℕ → A → Type 0) (Q : List ℕ → List ℕ → C → Type 0) (a : A) (c : C)
+      → ((file schedule : List ℕ) → P file schedule a → Q file schedule c) → AnswersBoth P first second a → AnswersBoth Q first second c
+  weaker_both P Q a c more = weaker first _ _ (λ file. weaker second _ _ (more file))
+
   module _ {A : Type 0} (IsAnswer : LitmusTest → Said → Result A Refusal → Type 0) where
     abbrev Answers : Result A Refusal → Type 0
     Answers = AnswersBoth (BySchedule IsAnswer) first second
 
     -- both were read
-    pub both_read : (question : LitmusTest) (said : Said) (answer : Result A Refusal) → OfInput first (λ bytes. IsReadAsTest bytes (Ok question)) → OfInput second (λ bytes. IsReadAsEither bytes (Ok said)) → IsAnswer question said answer → Answers answer
+    pub both_read : (question : LitmusTest) (said : Said) (answer : Result A Refusal) → OfInput first (λ bytes. IsReadAsTest bytes (Ok question)) → OfInput second (λ bytes. IsReadAsSchedule bytes (Ok said)) → IsAnswer question said answer → Answers answer
     both_read question said answer test schedule told = weaker first _ _ (λ file is. weaker second _ _ (λ text says. both question said answer is says told) schedule) test
 
     -- the first was refused
@@ -48,7 +52,7 @@ module _ (first second : Option (List ℕ)) where
         any (Some text) file bad = no_test refusal bad
 
     -- the second was
-    second_refused : (question : LitmusTest) (refusal : Refusal) → OfInput first (λ bytes. IsReadAsTest bytes (Ok question)) → OfInput second (λ bytes. IsReadAsEither bytes (Err refusal)) → Answers (Err refusal)
+    second_refused : (question : LitmusTest) (refusal : Refusal) → OfInput first (λ bytes. IsReadAsTest bytes (Ok question)) → OfInput second (λ bytes. IsReadAsSchedule bytes (Err refusal)) → Answers (Err refusal)
     second_refused question refusal test none = weaker first _ _ (λ file is. weaker second _ _ (λ text bad. no_schedule question refusal is bad) none) test
 
     -- a fault in reading the first or the second, or in what is made of them
@@ -59,13 +63,13 @@ module _ (first second : Option (List ℕ)) where
       test_fault view ReadFailed is finds = rw is tt
       test_fault view WriteFailed is finds = rw is finds
 
-      pub schedule_fault : {Y : Type 0} (view : Y → Said) (question : LitmusTest) (fault : Fault) → result ≡ Err fault → OfInput first (λ bytes. IsReadAsTest bytes (Ok question)) → FindsBy IsReadAsEither view second (Err fault) → Finds Answers seen result
+      pub schedule_fault : {Y : Type 0} (view : Y → Said) (question : LitmusTest) (fault : Fault) → result ≡ Err fault → OfInput first (λ bytes. IsReadAsTest bytes (Ok question)) → FindsBy IsReadAsSchedule view second (Err fault) → Finds Answers seen result
       schedule_fault view question (Refused r) is test finds = rw is (second_refused question r test finds)
       schedule_fault view question NoMemory is test finds = rw is tt
       schedule_fault view question ReadFailed is test finds = rw is tt
       schedule_fault view question WriteFailed is test finds = rw is finds
 
-      pub made_of_both : (question : LitmusTest) (said : Said) → OfInput first (λ bytes. IsReadAsTest bytes (Ok question)) → OfInput second (λ bytes. IsReadAsEither bytes (Ok said)) → (made : Result X Fault) → result ≡ made → AnswersAs (IsAnswer question said) seen made → Finds Answers seen result
+      pub made_of_both : (question : LitmusTest) (said : Said) → OfInput first (λ bytes. IsReadAsTest bytes (Ok question)) → OfInput second (λ bytes. IsReadAsSchedule bytes (Ok said)) → (made : Result X Fault) → result ≡ made → AnswersAs (IsAnswer question said) seen made → Finds Answers seen result
       made_of_both question said test schedule (Ok x) is answers = rw is (both_read question said (Ok (seen x)) test schedule answers)
       made_of_both question said test schedule (Err (Refused r)) is answers = rw is (both_read question said (Err r) test schedule answers)
       made_of_both question said test schedule (Err NoMemory) is answers = rw is tt
@@ -75,7 +79,7 @@ module _ (first second : Option (List ℕ)) where
   -- a fault on the way to an answer, where each refusal of the one is one of the other
   pub fault_as : {A C X Y : Type 0} (P : LitmusTest → Said → Result A Refusal → Type 0) (Q : LitmusTest → Said → Result C Refusal → Type 0) (seen : X → C) (view : Y → A) (result : Result X Fault) (fault : Fault)
       → ((question : LitmusTest) (said : Said) (refusal : Refusal) → P question said (Err refusal) → Q question said (Err refusal)) → result ≡ Err fault → Finds (AnswersBoth (BySchedule P) first second) view (Err fault) → Finds (AnswersBoth (BySchedule Q) first second) seen result
-  fault_as P Q seen view result (Refused r) more is finds = rw is (weaker_both first second (BySchedule P) (BySchedule Q) (Err r) (Err r) (by_schedule_as P Q r (λ question said. more question said r)) finds)
+  fault_as P Q seen view result (Refused r) more is finds = rw is (weaker_both (BySchedule P) (BySchedule Q) (Err r) (Err r) (by_schedule_as P Q r (λ question said. more question said r)) finds)
   fault_as P Q seen view result NoMemory more is finds = rw is tt
   fault_as P Q seen view result ReadFailed more is finds = rw is tt
   fault_as P Q seen view result WriteFailed more is finds = rw is finds

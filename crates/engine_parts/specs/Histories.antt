@@ -1,11 +1,10 @@
--- What answers a litmus text and a schedule, by the history that they make.
+-- What answers a litmus text and a schedule of either version: what is asked of both, and what of their history.
 use Rattle.std.specs.Prelude.{ℕ, ◌≡◌, List, Result, Ok, Err}
 use Rattle.step_machine.specs.History.{Start, History}
 use Rattle.step_machine.specs.Runs.{Run}
 use Rattle.step_machine.specs.declared.events.Event.{Event}
 use Rattle.litmus.specs.LitmusTests.{LitmusTest}
 use Rattle.litmus_reader.specs.Grammar.{IsTestOf}
-use Rattle.recorder.specs.Schedule.{IsPlainOf}
 use Rattle.recorder.specs.Records.{Step, events_in}
 use Rattle.recorder.specs.Versions.{Said, Says, events_said}
 use Rattle.recorder.specs.Versions.Said.{plain, recorded}
@@ -18,27 +17,9 @@ use Rattle.engine_parts.specs.declared.fault.Refusal.{Refusal}
 use Rattle.engine_parts.specs.declared.fault.Position.TheVariants.{Event as AtEvent}
 use Rattle.engine_parts.specs.Engines.{Accepted}
 use Rattle.engine_parts.specs.Tests.{IsNoTest}
-use Rattle.engine_parts.specs.Schedules.{IsNoSchedule, IsNeitherVersion}
+use Rattle.engine_parts.specs.Schedules.{IsNoSchedule}
 
--- This holds of the history that the events make of the test's opening, over store buffers of B pairs
--- and a memory of M words.
-pub record IsOfRun {A : Type 0} (B M : ℕ) (IsAnswer : LitmusTest → History → A → Type 0) (question : LitmusTest) (events : List Event) (answer : A) : Type 0 where
-  pub history : History
-  pub ran : Run B M question.opening events history
-  pub answers : IsAnswer question history answer
-
--- What answers a litmus text and a schedule, where this holds of their test and events. The test is
--- judged first.
-pub data ByBoth {A : Type 0} (IsAnswer : LitmusTest → List Event → A → Type 0) (file schedule : List ℕ) : Result A Refusal → Type 0 where
-  no_test : (refusal : Refusal) → IsNoTest file refusal → ByBoth IsAnswer file schedule (Err refusal)
-  no_schedule : (question : LitmusTest) (refusal : Refusal) → Accepted IsTestOf file question → IsNoSchedule schedule refusal → ByBoth IsAnswer file schedule (Err refusal)
-  ran : (question : LitmusTest) (events : List Event) (answer : A) → Accepted IsTestOf file question → Accepted IsPlainOf schedule events → IsAnswer question events answer → ByBoth IsAnswer file schedule (Ok answer)
-
--- the same where it holds of their history
-abbrev pub ByRun : {A : Type 0} → (B M : ℕ) → (LitmusTest → History → A → Type 0) → (file schedule : List ℕ) → Result A Refusal → Type 0
-ByRun B M IsAnswer = ByBoth (IsOfRun B M IsAnswer)
-
--- ---- schedules of either version
+-- ---- what a schedule makes
 
 -- a record that differs is refused at the first event whose outcome isn't the run's, counted from 0
 abbrev pub differing : (event : ℕ) → Refusal
@@ -62,9 +43,37 @@ abbrev pub Records : (B M : ℕ) → Start → Said → Result (List Step) Refus
 Records B M opening said (Ok steps) = (events_in steps ≡ events_said said) × ((history : History) × Runs B M opening said (Ok history) × IsRunRecord B M opening steps history)
 Records B M opening said (Err refusal) = Runs B M opening said (Err refusal)
 
+-- ---- what answers both
+
 -- What answers a litmus text and a schedule of either version, where this holds of their test, of what the
 -- schedule says and of the answer. The test is judged first, then the schedule's text.
 pub data BySchedule {A : Type 0} (IsAnswer : LitmusTest → Said → Result A Refusal → Type 0) (file schedule : List ℕ) : Result A Refusal → Type 0 where
   no_test : (refusal : Refusal) → IsNoTest file refusal → BySchedule IsAnswer file schedule (Err refusal)
-  no_schedule : (question : LitmusTest) (refusal : Refusal) → Accepted IsTestOf file question → IsNeitherVersion schedule refusal → BySchedule IsAnswer file schedule (Err refusal)
+  no_schedule : (question : LitmusTest) (refusal : Refusal) → Accepted IsTestOf file question → IsNoSchedule schedule refusal → BySchedule IsAnswer file schedule (Err refusal)
   both : (question : LitmusTest) (said : Said) (answer : Result A Refusal) → Accepted IsTestOf file question → Accepted Says schedule said → IsAnswer question said answer → BySchedule IsAnswer file schedule answer
+
+-- This holds of the history that the schedule makes of the test's opening, over store buffers of B pairs
+-- and a memory of M words.
+pub record IsOfRun {A : Type 0} (B M : ℕ) (IsAnswer : LitmusTest → History → A → Type 0)
+    (question : LitmusTest) (said : Said) (answer : A) : Type 0 where
+  pub history : History
+  pub ran : Runs B M question.opening said (Ok history)
+  pub answers : IsAnswer question history answer
+
+-- the same of an answer that a record may be refused with
+abbrev pub AnswersRun : {A : Type 0} → (B M : ℕ) → (LitmusTest → History → A → Type 0) → LitmusTest → Said → Result A Refusal → Type 0
+AnswersRun B M IsAnswer question said (Ok answer) = IsOfRun B M IsAnswer question said answer
+AnswersRun B M IsAnswer question said (Err refusal) = Runs B M question.opening said (Err refusal)
+
+-- what answers both, where this holds of their history
+abbrev pub ByRun : {A : Type 0} → (B M : ℕ) → (LitmusTest → History → A → Type 0) → (file schedule : List ℕ) → Result A Refusal → Type 0
+ByRun B M IsAnswer = BySchedule (AnswersRun B M IsAnswer)
+
+-- This holds of the schedule's events, whatever a record says of their outcomes: no record is refused.
+abbrev pub AnswersEvents : {A : Type 0} → (LitmusTest → List Event → A → Type 0) → LitmusTest → Said → Result A Refusal → Type 0
+AnswersEvents IsAnswer question said (Ok answer) = IsAnswer question (events_said said) answer
+AnswersEvents IsAnswer question said (Err refusal) = ⊥
+
+-- what answers both, where this holds of their events
+abbrev pub ByEvents : {A : Type 0} → (LitmusTest → List Event → A → Type 0) → (file schedule : List ℕ) → Result A Refusal → Type 0
+ByEvents IsAnswer = BySchedule (AnswersEvents IsAnswer)

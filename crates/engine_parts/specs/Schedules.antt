@@ -1,10 +1,8 @@
--- Inputs that are schedules.
+-- Inputs that are schedules, of either version.
 use Rattle.std.specs.Prelude.{ℕ, ◌≡◌, List, Option, IsSomeAnd, Result, Err}
 use Rattle.texts.specs.Results.{map_err}
-use Rattle.step_machine.specs.declared.events.Event.{Event}
 use Rattle.recorder.specs.declared.faults.AtByte.{AtByte}
 use Rattle.recorder.specs.Faults.{fault_number}
-use Rattle.recorder.specs.Reading.{plain_at}
 use Rattle.recorder.specs.Versions.{Said, said_at}
 use Rattle.engine_parts.specs.declared.fault.Refusal.{Refusal}
 use Rattle.engine_parts.specs.declared.fault.Position.TheVariants.{Byte}
@@ -17,28 +15,14 @@ refused_at_byte refusal = record { number = fault_number refusal.fault; place = 
 abbrev pub refused_schedule : {V : Type 0} → Result V AtByte → Result V Refusal
 refused_schedule result = map_err refused_at_byte result
 
--- the events of a schedule, or its refusal
-unfoldable pub events_of : List ℕ → Result (List Event) Refusal
-events_of text = refused_schedule (plain_at text)
+-- what a schedule says, or its refusal
+unfoldable pub schedule_of : List ℕ → Result Said Refusal
+schedule_of text = refused_schedule (said_at text)
 
 -- The input is no schedule, for this reason.
 abbrev pub IsNoSchedule : List ℕ → Refusal → Type 0
-IsNoSchedule input refusal = judged events_of input ≡ Err refusal
+IsNoSchedule input refusal = judged schedule_of input ≡ Err refusal
 
 -- a reader's bytes are known, and refused as a schedule
 abbrev pub HasNoSchedule : (input : Option (List ℕ)) → Type 0
 HasNoSchedule input = IsSomeAnd input (λ bytes. (refusal : Refusal) × IsNoSchedule bytes refusal)
-
--- ---- either version
-
--- what a schedule of either version says, or its refusal
-unfoldable pub schedule_of : List ℕ → Result Said Refusal
-schedule_of text = refused_schedule (said_at text)
-
--- The input is a schedule of neither version, for this reason.
-abbrev pub IsNeitherVersion : List ℕ → Refusal → Type 0
-IsNeitherVersion input refusal = judged schedule_of input ≡ Err refusal
-
--- a reader's bytes are known, and refused as a schedule of either version
-abbrev pub HasNeitherVersion : (input : Option (List ℕ)) → Type 0
-HasNeitherVersion input = IsSomeAnd input (λ bytes. (refusal : Refusal) × IsNeitherVersion bytes refusal)

@@ -17,34 +17,15 @@ ghost use Rattle.litmus.specs.declared.litmus_test.TheConstants.{MAX_LOCATIONS};
 
 use crate::fault::{DIFFERS, Fault, Position};
 use crate::litmus_text::read_test;
-use crate::schedule::read_events;
+use crate::schedule::read_schedule;
 use litmus::Test;
 use recorder::{CheckError, Schedule, record, replay, replay_checked};
 use std::alloc::{AllocError, Global};
 use std::io::Read;
 use step_machine::{Event, Machine, Outcome};
 
-/// The machine that these events make of the test's opening: one that the test can judge.
-fn machine_after<const B: usize, const M: usize>(
-    alloc: Global,
-    test: &Test,
-    events: &[Event],
-) -> Result<Machine<B, M>, AllocError>
-    requires some_capacity { 1 ≤ B }
-    requires capacity { B ≤ 64 }
-    requires words { MAX_LOCATIONS ≤ M }
-    requires size { M ≤ 65536 }
-    ensures ran { IfOk result (λ machine. Run B M test.now.opening events.now machine.history) }
-    ensures harts { IfOk result (λ machine. length machine.history.opening.harts ≡ length test.now.opening.harts) }
-    ensures names { IfOk result (λ _. length test.now.names ≤ M) }
-{
-    let opening = test.opening(alloc)?;
-    let machine = replay(alloc, opening, events)?;
-    Ok(machine)
-}
-
 /// Why a record isn't replayed, as a fault.
-fn check_fault(error: CheckError) -> Fault
+pub fn check_fault(error: CheckError) -> Fault
     ensures { result ≡ fault_of_check error }
 {
     match error {
@@ -107,8 +88,8 @@ pub fn record_of_schedule<const B: usize, const M: usize>(
     }
 }
 
-/// The test that a litmus text stands for, and the machine that a schedule makes of its opening. The
-/// schedule is read behind an accepted test only.
+/// The test that a litmus text stands for, and the machine that a schedule of either version makes of its
+/// opening, as [`machine_of_schedule`] makes it. The schedule is read after an accepted test only.
 pub fn read_run<const B: usize, const M: usize, F: Read, S: Read>(
     alloc: Global,
     file: &mut F,
@@ -124,8 +105,8 @@ pub fn read_run<const B: usize, const M: usize, F: Read, S: Read>(
     ensures unread { HasNoTest (F.remaining file.old) → schedule.new ≡ schedule.old }
 {
     let test = read_test(alloc, file)?;
-    let events = read_events(alloc, schedule)?;
-    let machine = machine_after::<B, M>(alloc, &test, &events)?;
+    let said = read_schedule(alloc, schedule)?;
+    let machine = machine_of_schedule::<B, M>(alloc, &test, said)?;
     Ok((test, machine))
 }
 

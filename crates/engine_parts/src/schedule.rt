@@ -1,21 +1,19 @@
 //! Inputs that are schedules.
 
 ghost use Rattle.std.specs.Prelude.{◌≡◌, ◌≤◌, IfOk, IsErr, vec_len};
-ghost use Rattle.recorder.specs.Schedule.{IsPlainOf};
 ghost use Rattle.recorder.specs.Versions.{Says, said_of};
 ghost use Rattle.engine_parts.specs.Faults.{Answers, fault_for};
 ghost use Rattle.engine_parts.specs.Engines.{Accepted, judged};
-ghost use Rattle.engine_parts.specs.Schedules.{refused_at_byte, events_of as events_said, schedule_of as schedule_said, HasNoSchedule, HasNeitherVersion};
+ghost use Rattle.engine_parts.specs.Schedules.{refused_at_byte, schedule_of as schedule_said, HasNoSchedule};
 ghost use Rattle.engine_parts.specs.inner.Making.{FindsBy};
-ghost use Rattle.engine_parts.specs.inner.Inputs.{IsReadAsSchedule, IsReadAsEither};
+ghost use Rattle.engine_parts.specs.inner.Inputs.{IsReadAsSchedule};
 ghost use Rattle.engine_parts.specs.declared.input.TheConstants.{INPUT_BYTES};
 
 use crate::fault::{Fault, Position};
 use crate::input::{read_input, text_of};
-use recorder::{AtByte, Schedule, ScheduleError, read_either, read_plain};
+use recorder::{AtByte, Schedule, ScheduleError, read_either};
 use std::alloc::Global;
 use std::io::Read;
-use step_machine::Event;
 use texts::Numbered;
 
 impl From<ScheduleError> for Fault {
@@ -29,37 +27,6 @@ impl From<ScheduleError> for Fault {
             }
         }
     }
-}
-
-/// The events of a text.
-#[tactic(auto, unfolding(crate::specs::Schedules::events_of))]
-fn events_of_text(alloc: Global, text: &str) -> Result<Vec<Event>, Fault>
-    ensures found { IfOk result (λ events. IsPlainOf text.now events.items) }
-    ensures exact { Answers (λ events. events.items) result (events_said text.now) }
-{
-    match read_plain(alloc, text) {
-        Ok(events) => Ok(events),
-        Err(error) => Err(Fault::from(error)),
-    }
-}
-
-/// The events of an input, which is let go.
-#[tactic(auto, using(crate::proofs::Judging::judged_text, crate::proofs::Judging::judged_no_text))]
-fn events_of_input(alloc: Global, input: Vec<u8>) -> Result<Vec<Event>, Fault>
-    requires { vec_len input ≤ INPUT_BYTES }
-    ensures found { IfOk result (λ events. Accepted IsPlainOf input.items events.items) }
-    ensures exact { Answers (λ events. events.items) result (judged events_said input.items) }
-{
-    events_of_text(alloc, text_of(&input)?)
-}
-
-/// The events of the schedule that a reader gives.
-pub fn read_events<R: Read>(alloc: Global, reader: &mut R) -> Result<Vec<Event>, Fault>
-    ensures events { FindsBy IsReadAsSchedule (λ events. events.items) (R.remaining reader.old) result }
-    ensures refused { HasNoSchedule (R.remaining reader.old) → IsErr result }
-{
-    let input = read_input(alloc, reader)?;
-    events_of_input(alloc, input)
 }
 
 /// What a text says as a schedule of either version.
@@ -86,8 +53,8 @@ fn schedule_of_input(alloc: Global, input: Vec<u8>) -> Result<Schedule, Fault>
 
 /// The schedule of either version that a reader gives. A record's outcomes are not checked here.
 pub fn read_schedule<R: Read>(alloc: Global, reader: &mut R) -> Result<Schedule, Fault>
-    ensures schedule { FindsBy IsReadAsEither said_of (R.remaining reader.old) result }
-    ensures refused { HasNeitherVersion (R.remaining reader.old) → IsErr result }
+    ensures schedule { FindsBy IsReadAsSchedule said_of (R.remaining reader.old) result }
+    ensures refused { HasNoSchedule (R.remaining reader.old) → IsErr result }
 {
     let input = read_input(alloc, reader)?;
     schedule_of_input(alloc, input)

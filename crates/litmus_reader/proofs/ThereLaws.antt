@@ -18,7 +18,7 @@ use Rattle.litmus.proofs.FrontLaws.{finished_found}
 use Rattle.litmus_tokens.specs.Settings as setting
 use Rattle.litmus_tokens.specs.Tokens as token
 use Rattle.litmus_tokens.specs.Tokens.{Tokens, tokens_of}
-use Rattle.litmus_reader.specs.declared.condition.LitmusTest.{LitmusTest}
+use Rattle.litmus_reader.specs.declared.condition.Question.{Question}
 use Rattle.litmus_reader.specs.declared.faults.LitmusFault.{LitmusFault}
 use Rattle.texts.specs.declared.errors.TextError.{TextError}
 use Rattle.litmus_reader.specs.declared.refusals.AtLeft.{AtLeft}
@@ -199,10 +199,10 @@ condition_there harts names text = behind_there harts names text (quantifier_in 
 told_there_of : (harts : ℕ) (names : Names) (text : List ℕ) (asked : Condition) → condition_in harts names text ≡ Ok asked → AsksThere harts names asked
 told_there_of harts names text asked read = let P : Result Condition LitmusFault → Type 0 = λ r. IfOk r (AsksThere harts names) in subst P read (condition_there harts names text)
 
-pub answered_there : (harts : ℕ) (old new : Names) (text : List ℕ) (result : Result LitmusTest (TextError AtLeft)) → Gives fault_in (condition_of new) result (condition_in harts old text) → IfOk result (λ asked. All (IsThere harts (length new)) (places asked.condition))
+pub answered_there : (harts : ℕ) (old new : Names) (text : List ℕ) (result : Result Question (TextError AtLeft)) → Gives fault_in (condition_of new) result (condition_in harts old text) → IfOk result (λ asked. All (IsThere harts (length new)) (places asked.condition))
 answered_there harts old new text (Ok asked) read = (told_there_of harts old text (condition_of new asked) read).0
 answered_there harts old new text (Err e) read = tt
 
-pub answered_more : (harts : ℕ) (old new : Names) (text : List ℕ) (result : Result LitmusTest (TextError AtLeft)) → Gives fault_in (condition_of new) result (condition_in harts old text) → IfOk result (λ asked. length old ≤ length new)
+pub answered_more : (harts : ℕ) (old new : Names) (text : List ℕ) (result : Result Question (TextError AtLeft)) → Gives fault_in (condition_of new) result (condition_in harts old text) → IfOk result (λ asked. length old ≤ length new)
 answered_more harts old new text (Ok asked) read = (told_there_of harts old text (condition_of new asked) read).1
 answered_more harts old new text (Err e) read = tt

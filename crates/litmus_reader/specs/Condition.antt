@@ -14,7 +14,7 @@ use Rattle.litmus_tokens.specs.Settings as setting
 use Rattle.litmus_tokens.specs.Tokens as token
 use Rattle.litmus_tokens.specs.Tokens.{Tokens, tokens_of}
 use Rattle.litmus_reader.specs.declared.condition.Quantified as code
-use Rattle.litmus_reader.specs.declared.condition.LitmusTest as question
+use Rattle.litmus_reader.specs.declared.condition.Question as question
 use Rattle.litmus_reader.specs.declared.faults.LitmusFault.{LitmusFault}
 use Rattle.litmus_reader.specs.declared.faults.LitmusFault.TheVariants.{BadCondition}
 use Rattle.litmus_reader.specs.declared.marks.Mark.TheVariants.{Unread}
@@ -109,7 +109,7 @@ abbrev pub quantified_of : Option code.Quantified → Option Quantified
 quantified_of None = None
 quantified_of (Some quantified) = Some (quantified.quantifier, quantified.tokens.now)
 
-abbrev pub condition_of : Names → question.LitmusTest → Condition
+abbrev pub condition_of : Names → question.Question → Condition
 condition_of names asked = record { quantifier = asked.quantifier; formula = asked.condition; names = names }
 
 -- the locations in a token have the shapes of names

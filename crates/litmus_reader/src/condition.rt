@@ -175,7 +175,7 @@ fn finish(draft: ConditionDraft) -> Result<Condition, Refusal>
 
 /// What a test asks at the end.
 #[derive(Drop)]
-pub struct LitmusTest {
+pub struct Question {
     pub quantifier: Quantifier,
     pub condition: Condition,
 }
@@ -187,7 +187,7 @@ fn question_in(
     text: &[u8],
     harts: usize,
     locations: &mut Locations,
-) -> Result<LitmusTest, Refusal>
+) -> Result<Question, Refusal>
     requires { harts ≤ MAX_HARTS }
     ensures { Gives fault_in (condition_of locations.new) result (condition_in harts locations.old text.now) }
 {
@@ -201,7 +201,7 @@ fn question_in(
         return Err(LitmusFault::BadCondition.at(rest.len()));
     }
     let condition = finish(draft)?;
-    Ok(LitmusTest {
+    Ok(Question {
         quantifier,
         condition,
     })
@@ -215,7 +215,7 @@ pub fn read_condition(
     text: &[u8],
     harts: usize,
     locations: &mut Locations,
-) -> Result<LitmusTest, Refusal>
+) -> Result<Question, Refusal>
     requires { harts ≤ MAX_HARTS }
     ensures exact { Gives fault_in (condition_of locations.new) result (condition_in harts locations.old text.now) }
     ensures there { IfOk result (λ asked. All (IsThere harts (length locations.new)) (places asked.condition)) }

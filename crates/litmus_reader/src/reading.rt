@@ -14,7 +14,7 @@ ghost use Rattle.litmus_reader.specs.Reading.{content_of, content, content_below
 ghost use Rattle.litmus_reader.specs.Grammar.{HasPlainCode, IsTestOf};
 ghost use Rattle.step_machine.specs.declared.opening.TheConstants.{MAX_HARTS};
 
-use crate::condition::{LitmusTest, read_condition};
+use crate::condition::{Question, read_condition};
 use crate::faults::{LitmusError, LitmusFault};
 use crate::header::{behind_brace, behind_header};
 use crate::init::{Init, read_items};
@@ -34,7 +34,7 @@ fn assemble(
     codes: Vec<Vec<u32>>,
     values: Values,
     locations: Locations,
-    asked: LitmusTest,
+    asked: Question,
 ) -> Result<Test, AllocError>
     requires some { 1 ≤ vec_len codes }
     requires few { vec_len codes ≤ MAX_HARTS }
@@ -53,7 +53,7 @@ fn assemble(
     let more = locations.count() - words.len();
     pad(&mut words, more)?;
     let harts = harts_of(alloc, codes, &registers)?;
-    let LitmusTest {
+    let Question {
         quantifier,
         condition,
     } = asked;

@@ -141,7 +141,20 @@ module _ (source : Source) where
         tallied = none;
       }
 
-  -- the runs before a job, and the job's own
+  -- the runs of a round, which the generator draws after those before it
+  pub from_round : (before round : ℕ) (there : Stream) (tally : Tally) → there ≡ left_after (before * source.size) source.stream
+      → (trials : List Trial) × AreTrials source.B source.M source.question there round source.size trials × IsTallyOf trials tally
+      → IsTallyFrom source before (before + round) tally
+  from_round before round there tally drawn is =
+      let own : round ≡ (before + round) - before = omega arith in
+      record {
+        trials = is.0;
+        are = subst (λ (n : ℕ). AreRunsFrom source before n is.0) own
+            (subst (λ (s : Stream). AreTrials source.B source.M source.question s round source.size is.0) drawn is.1);
+        tallied = is.2;
+      }
+
+  -- the runs before a job or a round, and its own
   module _ (before end : ℕ) (old later : Tally) (le : before ≤ end) (first : IsTallyFrom source 0 before old) (second : IsTallyFrom source before end later) where
     abbrev both : List Trial
     both = first.trials ++ second.trials

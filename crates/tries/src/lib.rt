@@ -1,9 +1,10 @@
 //! Many runs of a test by drawn schedules, and the table of their outcomes.
 //!
 //! The contract: what `try_engine` writes is what a relation says of the runs that the generator's words
-//! draw, however they were spread over threads (`IsTryAnswer` of `specs/Outcomes.antt`). It has no tests:
-//! the cases of the program run it.
+//! draw, however they were spread over threads (`IsTryAnswer` of `specs/Outcomes.antt`). What it reports
+//! through [`progress::Progress`] no clause says. It has no tests: the cases of the program run it.
 
 #![tactic(auto)]
 
+pub mod progress;
 pub mod trials;

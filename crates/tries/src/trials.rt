@@ -8,8 +8,9 @@ ghost use Rattle.tries.specs.inner.Tallies.{good_by};
 ghost use Rattle.recorder.specs.Drawing.{left_after};
 ghost use Rattle.litmus.specs.declared.litmus_test.TheConstants.{MAX_LOCATIONS};
 
+use crate::progress::Progress;
 use crate::trials::outcomes::tally_text;
-use crate::trials::spreading::tally_by_jobs;
+use crate::trials::spreading::tally_in_rounds;
 use crate::trials::tally::Tally;
 use engine_parts::fault::Fault;
 use engine_parts::litmus_text::read_test;
@@ -50,12 +51,13 @@ fn is_good(test: &Test, tally: &Tally) -> bool
 }
 
 /// The text of a test's runs, and whether they show what it asks.
-fn answer<const B: usize, const M: usize, G: Jump + Sync + Drop, T: Threads + Sync>(
+fn answer<const B: usize, const M: usize, G: Jump + Sync + Drop, T: Threads + Sync, P: Progress>(
     rt: &T,
     alloc: Global,
     test: &Test,
     generator: &G,
     runs: Runs,
+    progress: &mut P,
 ) -> Result<(String, bool), AllocError>
     requires some_capacity { 1 ≤ B }
     requires capacity { B ≤ 64 }
@@ -70,19 +72,31 @@ fn answer<const B: usize, const M: usize, G: Jump + Sync + Drop, T: Threads + Sy
         jobs,
         ..
     } = runs;
-    let tally = tally_by_jobs::<B, M, G, T>(rt, alloc, test, &start, number, length, jobs)?;
+    let tallied = tally_in_rounds::<B, M, G, T, P>(
+        rt, alloc, test, &start, number, length, jobs, progress,
+    );
+    progress.end();
+    let tally = tallied?;
     let text = tally_text(alloc, test, &tally)?;
     Ok((text, is_good(test, &tally)))
 }
 
 /// What is to be written for the input that the reader gives, and whether the runs show what its test
 /// asks.
-fn made<const B: usize, const M: usize, R: Read, G: Jump + Sync + Drop, T: Threads + Sync>(
+fn made<
+    const B: usize,
+    const M: usize,
+    R: Read,
+    G: Jump + Sync + Drop,
+    T: Threads + Sync,
+    P: Progress,
+>(
     rt: &T,
     alloc: Global,
     file: &mut R,
     generator: &G,
     runs: Runs,
+    progress: &mut P,
 ) -> Result<(String, bool), Fault>
     requires some_capacity { 1 ≤ B }
     requires capacity { B ≤ 64 }
@@ -91,7 +105,7 @@ fn made<const B: usize, const M: usize, R: Read, G: Jump + Sync + Drop, T: Threa
     ensures { FindsBy (IsTryAnswer B M (left_after (runs.skip * runs.length) (G.Rng.stream generator.now)) runs.number runs.length) text_and_value (R.remaining file.old) result }
 {
     let test = read_test(alloc, file)?;
-    let told = answer::<B, M, G, T>(rt, alloc, &test, generator, runs)?;
+    let told = answer::<B, M, G, T, P>(rt, alloc, &test, generator, runs, progress)?;
     Ok(told)
 }
 
@@ -102,7 +116,8 @@ fn made<const B: usize, const M: usize, R: Read, G: Jump + Sync + Drop, T: Threa
 /// It writes a line for each outcome of the finished runs, ascending by the values: how many runs gave
 /// it, the values of the condition's left sides, and the schedule of the first of these runs; and then
 /// how many runs did not finish. It answers whether the runs show what the test asks: with `exists` a
-/// run that holds, else no run that fails. The answer doesn't depend on the jobs.
+/// run that holds, else no run that fails. The answer depends neither on the jobs nor on the progress,
+/// which learns how far the runs are, and that they ended.
 ///
 /// The input is refused as `run` refuses it, and then nothing was written.
 pub fn try_engine<
@@ -112,12 +127,14 @@ pub fn try_engine<
     G: Jump + Sync + Drop,
     W: Write,
     T: Threads + Sync,
+    P: Progress,
 >(
     rt: &T,
     alloc: Global,
     file: &mut R,
     generator: &G,
     runs: Runs,
+    progress: &mut P,
     writer: &mut W,
 ) -> Result<bool, Fault>
     requires some_capacity { 1 ≤ B }
@@ -127,7 +144,7 @@ pub fn try_engine<
     ensures { EndsBy (IsTryAnswer B M (left_after (runs.skip * runs.length) (G.Rng.stream generator.now)) runs.number runs.length) result (R.remaining file.old) W.contents writer.old writer.new }
 {
     end_with(
-        made::<B, M, R, G, T>(rt, alloc, file, generator, runs),
+        made::<B, M, R, G, T, P>(rt, alloc, file, generator, runs, progress),
         writer,
     )
 }

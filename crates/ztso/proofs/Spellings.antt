@@ -1,12 +1,12 @@
 -- Each way of writing a job says that job.
 use Rattle.std.proofs.Common.{◌≡◌, ℕ, Bool, true, false, List, [], ◌∷◌, ◌++◌, map, Option, Some, None, refl, codes, ap, ap₂, sym, inl, inr, ◌∙◌, arith}
-use Rattle.std.specs.Prelude.{Result}
+use Rattle.std.specs.Prelude.{Result, option_map}
 use Rattle.clap.specs.Words.{Text}
 use Rattle.clap.proofs.OnLiterals.{clap_on_literals}
 use Rattle.ztso.proofs.Pieces.{Piece, plain, other, text_in, ArePlain, IsCommand, said, pieces_fault, by_pieces}
-use Rattle.ztso.specs.CommandLines.{Answers, capacity_said, job_said, ring_said, ◌>>=◌}
+use Rattle.ztso.specs.CommandLines.{Answers, capacity_said, job_said, number_if_said, ring_said, ◌>>=◌}
 use Rattle.ztso.specs.Numbers.{number_within}
-use Rattle.ztso.specs.Spellings.{AsksFor, AsksForNumber, AsksToFinish, IsOnFiles, IsSpelling, IsSpellingOf, IsWord, name_of, text_of}
+use Rattle.ztso.specs.Spellings.{AsksFor, AsksForNumber, AsksForStride, AsksToFinish, IsOnFiles, IsSpelling, IsSpellingOf, IsWord, name_of, text_of}
 use Rattle.ztso.specs.declared.job.Ring.{Ring}
 use Rattle.ztso.specs.declared.job.Ring.TheVariants.{Lamport, FastForward}
 use Rattle.ztso.specs.declared.job.Task.{Task}
@@ -17,7 +17,8 @@ use Rattle.ztso.specs.declared.job.Job.{Job}
 use Rattle.ztso.specs.declared.job.Errand.TheVariants.{Asm, Dis, Machine}
 use Rattle.ztso.specs.declared.job.Task.TheVariants.{Alone, Threads}
 use Rattle.ztso.specs.declared.job.Work.{Work}
-use Rattle.ztso.specs.declared.job.Work.TheVariants.{Steps, Run, Replay, Debug, Try, Channel}
+use Rattle.ztso.specs.declared.job.Work.TheVariants.{Steps, Run, Replay, Move, Shrink, Debug, Try, Channel}
+use Rattle.poll_close.specs.declared.place.Place.{Place}
 use Rattle.tries.specs.declared.trials.Runs.{Runs}
 use Rattle.ztso.specs.Jobs.{Wanted, one_input, two_inputs}
 use Rattle.ztso.specs.Jobs.Input.{Standard, File}
@@ -92,26 +93,39 @@ abbrev text_or : Text → Option Text → Text
 text_or usual None = usual
 text_or usual (Some said) = said
 
-record NumberSpelled (option usual : Text) (least most number : ℕ) (words : List Text) : Type 0 where
+-- how an option's words are pieces, where its text, if it is given, says what is wanted
+record OptionSpelled (option : Text) (words : List Text) (Says : Option Text → Type 0) : Type 0 where
   text : Option Text
-  says : number_within least most (text_or usual text) ≡ Some number
+  says : Says text
   are : (tail : List Piece) → ArePlain tail → ArePlain (number_pieces option text tail)
   is : (options : List Text) (tail : List Piece) → options ≡ map text_in tail → words ++ options ≡ map text_in (number_pieces option text tail)
 
-number_spelled : (option usual : Text) (default least most number : ℕ) (words : List Text) → number_within least most usual ≡ Some default
-    → AsksForNumber option default least most number words → NumberSpelled option usual least most number words
-number_spelled option usual default least most number words usually (inl silent) = record {
+left_out : (option : Text) (words : List Text) (Says : Option Text → Type 0) → words ≡ [] → Says None → OptionSpelled option words Says
+left_out option words Says silent says = record {
   text = None;
-  says = usually ∙ ap (λ (n : ℕ). Some n) (sym silent.1);
+  says = says;
   are = λ tail plains. plains;
-  is = λ options tail same. ap₂ (λ (a b : List Text). a ++ b) silent.0 same;
+  is = λ options tail same. ap₂ (λ (a b : List Text). a ++ b) silent same;
 }
-number_spelled option usual default least most number words usually (inr (said, words_are, says)) = record {
+
+given : (option said : Text) (words : List Text) (Says : Option Text → Type 0) → words ≡ option ∷ said ∷ [] → IsWord said → Says (Some said)
+    → OptionSpelled option words Says
+given option said words Says words_are word says = record {
   text = Some said;
-  says = says.1;
-  are = λ tail plains. (says.0, plains);
+  says = says;
+  are = λ tail plains. (word, plains);
   is = λ options tail same. ap₂ (λ (a b : List Text). a ++ b) words_are same;
 }
+
+abbrev NumberSpelled : (option usual : Text) (least most number : ℕ) (words : List Text) → Type 0
+NumberSpelled option usual least most number words = OptionSpelled option words (λ text. number_within least most (text_or usual text) ≡ Some number)
+
+number_spelled : (option usual : Text) (default least most number : ℕ) (words : List Text) → number_within least most usual ≡ Some default
+    → AsksForNumber option default least most number words → NumberSpelled option usual least most number words
+number_spelled option usual default least most number words usually (inl silent) =
+    left_out option words _ silent.0 (usually ∙ ap (λ (n : ℕ). Some n) (sym silent.1))
+number_spelled option usual default least most number words usually (inr (said, words_are, says)) =
+    given option said words _ words_are says.0 says.1
 
 -- ---- `asm`, `dis` and `steps`
 
@@ -137,27 +151,35 @@ steps_says : (capacity : Capacity) (found : Option Capacity) → found ≡ Some 
     → on_standard_of (machine_of found (Some Steps)) ≡ Some (one_input (Alone (Machine Steps capacity)) Standard)
 steps_says capacity found a = rw a refl
 
--- ---- `run`, `replay` and `debug`
+-- ---- `run`, `replay`, `move`, `shrink` and `debug`
 
 data OnFiles : Type 0 where
   running : OnFiles
   replaying : OnFiles
+  moving : OnFiles
+  shrinking : OnFiles
   debugging : OnFiles
 
 abbrev command_of : OnFiles → Text
 command_of running = codes "run"
 command_of replaying = codes "replay"
+command_of moving = codes "move"
+command_of shrinking = codes "shrink"
 command_of debugging = codes "debug"
 
 abbrev work_of : OnFiles → Work
 work_of running = Run
 work_of replaying = Replay
+work_of moving = Move
+work_of shrinking = Shrink
 work_of debugging = Debug
 
 on_files_is_command : (command : OnFiles) → IsCommand (command_of command)
 unfolding clap_on_literals
 on_files_is_command running = (refl, refl)
 on_files_is_command replaying = (refl, refl)
+on_files_is_command moving = (refl, refl)
+on_files_is_command shrinking = (refl, refl)
 on_files_is_command debugging = (refl, refl)
 
 on_files_told : (command : OnFiles) (file schedule : Text) (tail : Tail) (t : Text)
@@ -169,6 +191,12 @@ on_files_told running file schedule equals t = refl
 on_files_told replaying file schedule none t = refl
 on_files_told replaying file schedule blank t = refl
 on_files_told replaying file schedule equals t = refl
+on_files_told moving file schedule none t = refl
+on_files_told moving file schedule blank t = refl
+on_files_told moving file schedule equals t = refl
+on_files_told shrinking file schedule none t = refl
+on_files_told shrinking file schedule blank t = refl
+on_files_told shrinking file schedule equals t = refl
 on_files_told debugging file schedule none t = refl
 on_files_told debugging file schedule blank t = refl
 on_files_told debugging file schedule equals t = refl
@@ -258,26 +286,64 @@ kind_says : (ring : Ring) → ring_said (name_of ring) ≡ Some ring
 kind_says Lamport = refl
 kind_says FastForward = refl
 
-abbrev carried : (kind number schedule : Text) (finish : Bool) → Option Capacity → Option Wanted
-carried kind number schedule finish found = on_schedule_of schedule (machine_of found (do
+abbrev carried : (kind number schedule base : Text) (stride : Option Text) (finish : Bool) → Option Capacity → Option Wanted
+carried kind number schedule base stride finish found = on_schedule_of schedule (machine_of found (do
   ring ← ring_said kind
   slots ← number_within 0 4294967295 number
-  Some (Channel ring slots finish)))
+  start ← number_within 0 4294967295 base
+  apart ← number_if_said stride
+  Some (Channel ring (record { ring = slots; base = start; stride = apart }) finish)))
 
-carried_says : (ring : Ring) (kind number schedule : Text) (slots : ℕ) (finish : Bool) (capacity : Capacity) (found : Option Capacity)
-    → ring_said kind ≡ Some ring → number_within 0 4294967295 number ≡ Some slots → found ≡ Some capacity
-    → carried kind number schedule finish found ≡ Some (two_inputs (Alone (Machine (Channel ring slots finish) capacity)) (File schedule) Standard)
-carried_says ring kind number schedule slots finish capacity found a b c = rw (a, b, c) refl
+carried_says : (ring : Ring) (place : Place) (kind number schedule base : Text) (stride : Option Text) (finish : Bool)
+    (capacity : Capacity) (found : Option Capacity)
+    → ring_said kind ≡ Some ring → number_within 0 4294967295 number ≡ Some place.ring → number_within 0 4294967295 base ≡ Some place.base
+    → number_if_said stride ≡ Some place.stride → found ≡ Some capacity
+    → carried kind number schedule base stride finish found ≡ Some (two_inputs (Alone (Machine (Channel ring place finish) capacity)) (File schedule) Standard)
+carried_says ring place kind number schedule base stride finish capacity found a b c d e = rw (a, b, c, d, e) refl
 
-channel_told : (kind number schedule : Text) (finish : Bool) (tail : Tail) (t : Text)
-    → said (codes "channel") (channel_pieces kind number schedule (finish_pieces finish (tail_of tail t))) ≡ carried kind number schedule finish (capacity_at tail t)
+abbrev place_pieces : (base stride : Option Text) → List Piece → List Piece
+place_pieces base stride tail = number_pieces (codes "--base") base (number_pieces (codes "--stride") stride tail)
+
+channel_told : (kind number schedule : Text) (base stride : Option Text) (finish : Bool) (tail : Tail) (t : Text)
+    → said (codes "channel") (channel_pieces kind number schedule (place_pieces base stride (finish_pieces finish (tail_of tail t))))
+    ≡ carried kind number schedule (text_or (codes "0") base) stride finish (capacity_at tail t)
 unfolding clap_on_literals pieces_fault
-channel_told kind number schedule false none t = refl
-channel_told kind number schedule false blank t = refl
-channel_told kind number schedule false equals t = refl
-channel_told kind number schedule true none t = refl
-channel_told kind number schedule true blank t = refl
-channel_told kind number schedule true equals t = refl
+channel_told kind number schedule None None false none t = refl
+channel_told kind number schedule None None false blank t = refl
+channel_told kind number schedule None None false equals t = refl
+channel_told kind number schedule None None true none t = refl
+channel_told kind number schedule None None true blank t = refl
+channel_told kind number schedule None None true equals t = refl
+channel_told kind number schedule None (Some s) false none t = refl
+channel_told kind number schedule None (Some s) false blank t = refl
+channel_told kind number schedule None (Some s) false equals t = refl
+channel_told kind number schedule None (Some s) true none t = refl
+channel_told kind number schedule None (Some s) true blank t = refl
+channel_told kind number schedule None (Some s) true equals t = refl
+channel_told kind number schedule (Some b) None false none t = refl
+channel_told kind number schedule (Some b) None false blank t = refl
+channel_told kind number schedule (Some b) None false equals t = refl
+channel_told kind number schedule (Some b) None true none t = refl
+channel_told kind number schedule (Some b) None true blank t = refl
+channel_told kind number schedule (Some b) None true equals t = refl
+channel_told kind number schedule (Some b) (Some s) false none t = refl
+channel_told kind number schedule (Some b) (Some s) false blank t = refl
+channel_told kind number schedule (Some b) (Some s) false equals t = refl
+channel_told kind number schedule (Some b) (Some s) true none t = refl
+channel_told kind number schedule (Some b) (Some s) true blank t = refl
+channel_told kind number schedule (Some b) (Some s) true equals t = refl
+
+no_base : number_within 0 4294967295 (codes "0") ≡ Some 0
+unfolding number_within
+no_base = refl
+
+abbrev StrideSpelled : (stride : Option ℕ) (words : List Text) → Type 0
+StrideSpelled stride words = OptionSpelled (codes "--stride") words (λ text. number_if_said text ≡ Some stride)
+
+stride_spelled : (stride : Option ℕ) (words : List Text) → AsksForStride stride words → StrideSpelled stride words
+stride_spelled None words silent = left_out (codes "--stride") words _ silent refl
+stride_spelled (Some stride) words (said, words_are, says) =
+    given (codes "--stride") said words _ words_are says.0 (ap (λ (found : Option ℕ). option_map (λ (n : ℕ). Some n) found) says.1)
 
 finish_plain : (finish : Bool) (tail : List Piece) → ArePlain tail → ArePlain (finish_pieces finish tail)
 finish_plain false tail are = are
@@ -329,6 +395,8 @@ spelled_of name rest (Alone (Machine Steps capacity)) wanted (options, is, asks,
     (steps_told to.tail to.text ∙ steps_says capacity _ to.says ∙ ap (λ (w : Wanted). Some w) (sym wants))
 spelled_of name rest (Alone (Machine Run capacity)) wanted spelling = of_files name rest running capacity wanted spelling
 spelled_of name rest (Alone (Machine Replay capacity)) wanted spelling = of_files name rest replaying capacity wanted spelling
+spelled_of name rest (Alone (Machine Move capacity)) wanted spelling = of_files name rest moving capacity wanted spelling
+spelled_of name rest (Alone (Machine Shrink capacity)) wanted spelling = of_files name rest shrinking capacity wanted spelling
 spelled_of name rest (Alone (Machine Debug capacity)) wanted spelling = of_files name rest debugging capacity wanted spelling
 spelled_of name rest (Alone (Machine (Try seed runs) capacity)) wanted (file, s, n, l, first, second, options, is, f, seed_is, runs_are, events_are, skips, jobs_are, asks, wants) =
     let to = capacity_spelled capacity options asks in
@@ -342,12 +410,22 @@ spelled_of name rest (Alone (Machine (Try seed runs) capacity)) wanted (file, s,
     (skip.is (second ++ options) with_jobs (jobs.is options end to.is)))
     (try_told file s n l skip.text jobs.text to.tail to.text
     ∙ tried_says file s n l _ _ seed runs capacity _ seed_is.1 skip.says runs_are.1 events_are.1 jobs.says to.says ∙ ap (λ (w : Wanted). Some w) (sym wants))
-spelled_of name rest (Alone (Machine (Channel ring slots finish) capacity)) wanted (number, schedule, first, options, is, slots_are, s, finishes, asks, wants) =
+spelled_of name rest (Alone (Machine (Channel ring place finish) capacity)) wanted
+    (number, schedule, first, second, third, options, is, slots_are, s, base_is, stride_is, finishes, asks, wants) =
     let to = capacity_spelled capacity options asks in
-    let tail = tail_of to.tail to.text in
-    by_pieces name (codes "channel") (channel_pieces (name_of ring) number schedule (finish_pieces finish tail)) rest wanted channel_is_command (kind_is_word ring, (slots_are.0, (s, finish_plain finish tail to.are)))
-    (is ∙ ap (λ (o : List Text). codes "channel" ∷ name_of ring ∷ number ∷ schedule ∷ o) (finish_texts finish first options tail finishes to.is))
-    (channel_told (name_of ring) number schedule finish to.tail to.text ∙ carried_says ring (name_of ring) number schedule slots finish capacity _ (kind_says ring) slots_are.1 to.says ∙ ap (λ (w : Wanted). Some w) (sym wants))
+    let end = tail_of to.tail to.text in
+    let base = number_spelled (codes "--base") (codes "0") 0 0 4294967295 place.base first no_base base_is in
+    let stride = stride_spelled place.stride second stride_is in
+    let with_finish = finish_pieces finish end in
+    let with_stride = number_pieces (codes "--stride") stride.text with_finish in
+    by_pieces name (codes "channel") (channel_pieces (name_of ring) number schedule (place_pieces base.text stride.text with_finish)) rest wanted
+    channel_is_command
+    (kind_is_word ring, (slots_are.0, (s, base.are with_stride (stride.are with_finish (finish_plain finish end to.are)))))
+    (is ∙ ap (λ (o : List Text). codes "channel" ∷ name_of ring ∷ number ∷ schedule ∷ o)
+    (base.is (second ++ (third ++ options)) with_stride (stride.is (third ++ options) with_finish (finish_texts finish third options end finishes to.is))))
+    (channel_told (name_of ring) number schedule base.text stride.text finish to.tail to.text
+    ∙ carried_says ring place (name_of ring) number schedule _ _ finish capacity _ (kind_says ring) slots_are.1 base.says stride.says to.says
+    ∙ ap (λ (w : Wanted). Some w) (sym wants))
 spelled_of name rest (Threads turns capacity) wanted (file, first, options, is, f, turns_are, asks, wants) =
     let to = capacity_spelled capacity options asks in
     let number = number_spelled (codes "--turns") (codes "100000") 100000 0 10000000 turns first most_turns turns_are in

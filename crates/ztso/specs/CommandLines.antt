@@ -1,5 +1,5 @@
 -- The job that words ask for.
-use Rattle.std.specs.Prelude.{◌≡◌, ◌⊎◌, Bool, List, [], ◌∷◌, Option, Some, None, Result, Ok, Err, codes, if◌then◌else◌, option_and_then}
+use Rattle.std.specs.Prelude.{ℕ, ◌≡◌, ◌⊎◌, Bool, List, [], ◌∷◌, Option, Some, None, Result, Ok, Err, codes, if◌then◌else◌, option_and_then, option_map}
 use Rattle.std.specs.Str.{bytes_eq}
 use Rattle.clap.specs.Words.{Kinds, Row, Text, fault_of, first_of, subcommand_of}
 use Rattle.recorder.specs.declared.reading.TheConstants.{MAX_EVENTS}
@@ -16,7 +16,7 @@ use Rattle.ztso.specs.declared.job.Errand.TheVariants.{Asm, Dis, Machine}
 use Rattle.ztso.specs.declared.job.Task.{Task}
 use Rattle.ztso.specs.declared.job.Task.TheVariants.{Alone, Threads}
 use Rattle.ztso.specs.declared.job.Work.{Work}
-use Rattle.ztso.specs.declared.job.Work.TheVariants.{Steps, Run, Replay, Debug, Try, Channel}
+use Rattle.ztso.specs.declared.job.Work.TheVariants.{Steps, Run, Replay, Move, Shrink, Debug, Try, Channel}
 use Rattle.ztso.specs.Jobs.{Input, Wanted, one_input, two_inputs, wanted_by}
 use Rattle.ztso.specs.Jobs.Input.{Standard, File}
 use Rattle.ztso.specs.Numbers.{number_within}
@@ -56,15 +56,23 @@ ring_said text =
 abbrev pub flag_said : Text → Bool
 flag_said text = bytes_eq text (codes "true")
 
--- the ring of `channel`, from its words, and whether it is to be finished
+-- a number of 32 bits, if one is said; none where that is no such number
+abbrev pub number_if_said : Option Text → Option (Option ℕ)
+number_if_said None = Some None
+number_if_said (Some text) = option_map (λ (number : ℕ). Some number) (number_within 0 4294967295 text)
+
+-- the ring of `channel`, from its words, its place, and whether it is to be finished
 abbrev pub channel_in : List Row → Option Work
 channel_in options = do
   kind ← first_of (codes "kind") options
   ring ← ring_said kind
   slots_text ← first_of (codes "ring") options
   slots ← number_within 0 4294967295 slots_text
+  base_text ← first_of (codes "base") options
+  base ← number_within 0 4294967295 base_text
+  stride ← number_if_said (first_of (codes "stride") options)
   finish ← first_of (codes "finish") options
-  Some (Channel ring slots (flag_said finish))
+  Some (Channel ring (record { ring = slots; base = base; stride = stride }) (flag_said finish))
 
 -- the capacity that the options ask for
 abbrev pub capacity_in : List Row → Option Capacity
@@ -127,10 +135,12 @@ job_in p =
     else (if bytes_eq p.0 (codes "dis") then on_standard (Some (Alone Dis))
     else (if bytes_eq p.0 (codes "run") then on_file_and_schedule p.1 (machine_in p.1 (Some Run))
     else (if bytes_eq p.0 (codes "replay") then on_file_and_schedule p.1 (machine_in p.1 (Some Replay))
+    else (if bytes_eq p.0 (codes "move") then on_file_and_schedule p.1 (machine_in p.1 (Some Move))
+    else (if bytes_eq p.0 (codes "shrink") then on_file_and_schedule p.1 (machine_in p.1 (Some Shrink))
     else (if bytes_eq p.0 (codes "debug") then on_file_and_schedule p.1 (machine_in p.1 (Some Debug))
     else (if bytes_eq p.0 (codes "try") then on_file p.1 (machine_in p.1 (try_in p.1))
     else (if bytes_eq p.0 (codes "channel") then on_schedule_and_standard p.1 (machine_in p.1 (channel_in p.1))
-    else (if bytes_eq p.0 (codes "threads") then on_file p.1 (threads_in p.1) else None))))))))
+    else (if bytes_eq p.0 (codes "threads") then on_file p.1 (threads_in p.1) else None))))))))))
 
 abbrev pub job_without : Kinds → Option (Text × List Row) → Option Wanted
 job_without [] found = option_and_then job_in found

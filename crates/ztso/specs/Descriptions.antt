@@ -11,6 +11,13 @@ option_or name value = record (new_rule name) {
   defaults = value ∷ [];
 }
 
+-- `--name VALUE`, which may be left out
+abbrev pub option_said : Text → Rule
+option_said name = record (new_rule name) {
+  long = Some name;
+  action = Some Set;
+}
+
 -- `--buffer B`, and 4 where it isn't said
 abbrev pub buffer_option : Rule
 buffer_option = option_or (codes "buffer") (codes "4")
@@ -38,7 +45,7 @@ asm_command = new_app (codes "asm")
 abbrev pub dis_command : App
 dis_command = new_app (codes "dis")
 
--- `run FILE SCHEDULE [--buffer B]`, and so `replay` and `debug`
+-- `run FILE SCHEDULE [--buffer B]`, and so `replay`, `move`, `shrink` and `debug`
 abbrev pub schedule_command : Text → App
 schedule_command name =
     with_rule (with_rule (with_rule (new_app name) (word_wanted (codes "file"))) (word_wanted (codes "schedule"))) buffer_option
@@ -57,11 +64,12 @@ flag name = record (new_rule name) {
   action = Some SetTrue;
 }
 
--- `channel KIND RING SCHEDULE [--finish] [--buffer B]`
+-- `channel KIND RING SCHEDULE [--base A] [--stride T] [--finish] [--buffer B]`
 abbrev pub channel_command : App
 channel_command =
-    with_rule (with_rule (with_rule (with_rule (with_rule (new_app (codes "channel")) (word_wanted (codes "kind")))
-    (word_wanted (codes "ring"))) (word_wanted (codes "schedule"))) (flag (codes "finish"))) buffer_option
+    with_rule (with_rule (with_rule (with_rule (with_rule (with_rule (with_rule (new_app (codes "channel")) (word_wanted (codes "kind")))
+    (word_wanted (codes "ring"))) (word_wanted (codes "schedule"))) (option_or (codes "base") (codes "0"))) (option_said (codes "stride")))
+    (flag (codes "finish"))) buffer_option
 
 -- `threads FILE [--turns T] [--buffer B]`
 abbrev pub threads_command : App
@@ -74,4 +82,5 @@ with_commands app (command ∷ commands) = with_commands (with_subcommand app co
 
 abbrev pub ztso_command : App
 ztso_command = with_commands (new_app (codes "ztso"))
-    (steps_command ∷ asm_command ∷ dis_command ∷ schedule_command (codes "run") ∷ schedule_command (codes "replay") ∷ schedule_command (codes "debug") ∷ try_command ∷ channel_command ∷ threads_command ∷ [])
+    (steps_command ∷ asm_command ∷ dis_command ∷ schedule_command (codes "run") ∷ schedule_command (codes "replay") ∷ schedule_command (codes "move")
+    ∷ schedule_command (codes "shrink") ∷ schedule_command (codes "debug") ∷ try_command ∷ channel_command ∷ threads_command ∷ [])

@@ -1,5 +1,5 @@
 -- How a job is written.
-use Rattle.std.specs.Prelude.{ℕ, ◌≡◌, ◌≢◌, ◌⊎◌, ◌++◌, Bool, true, false, List, [], ◌∷◌, Some, codes}
+use Rattle.std.specs.Prelude.{ℕ, ◌≡◌, ◌≢◌, ◌⊎◌, ◌++◌, Bool, true, false, List, [], ◌∷◌, Option, Some, None, codes}
 use Rattle.clap.specs.Words.{Text}
 use Rattle.ztso.specs.declared.job.Capacity.{Capacity}
 use Rattle.ztso.specs.declared.job.Capacity.TheVariants.{One, Two, Four, Sixteen}
@@ -9,7 +9,7 @@ use Rattle.ztso.specs.declared.job.Task.{Task}
 use Rattle.ztso.specs.declared.job.Errand.TheVariants.{Asm, Dis, Machine}
 use Rattle.ztso.specs.declared.job.Task.TheVariants.{Alone, Threads}
 use Rattle.ztso.specs.declared.job.Work.{Work}
-use Rattle.ztso.specs.declared.job.Work.TheVariants.{Steps, Run, Replay, Debug, Try, Channel}
+use Rattle.ztso.specs.declared.job.Work.TheVariants.{Steps, Run, Replay, Move, Shrink, Debug, Try, Channel}
 use Rattle.recorder.specs.declared.reading.TheConstants.{MAX_EVENTS}
 use Rattle.ztso.specs.Jobs.{Wanted, one_input, two_inputs}
 use Rattle.ztso.specs.Jobs.Input.{Standard, File}
@@ -61,6 +61,15 @@ AsksForJobs jobs words = AsksForNumber (codes "--jobs") 1 1 64 jobs words
 abbrev pub AsksForTurns : ℕ → List Text → Type 0
 AsksForTurns turns words = AsksForNumber (codes "--turns") 100000 0 10000000 turns words
 
+-- the base of a channel's blocks, address 0 where nothing is said
+abbrev pub AsksForBase : ℕ → List Text → Type 0
+AsksForBase base words = AsksForNumber (codes "--base") 0 0 4294967295 base words
+
+-- nothing, or a stride of a channel's blocks
+abbrev pub AsksForStride : Option ℕ → List Text → Type 0
+AsksForStride None words = words ≡ []
+AsksForStride (Some stride) words = (said : Text) × (words ≡ codes "--stride" ∷ said ∷ []) × SaysNumber 0 4294967295 stride said
+
 -- nothing, or `--finish`
 abbrev pub AsksToFinish : Bool → List Text → Type 0
 AsksToFinish false words = words ≡ []
@@ -74,8 +83,8 @@ IsOnFiles command work capacity wanted words =
     × (wanted ≡ two_inputs (Alone (Machine work capacity)) (File file) (File schedule))
 
 -- The words after the program's name that ask for this task, by the task: the table's rows. Options may
--- also stand in other places, and those of `try` and `threads` be written with an equals sign, which isn't
--- said here.
+-- also stand in other places, and those with a number be written with an equals sign, which isn't said
+-- here.
 abbrev pub IsSpellingOf : Task → Wanted → List Text → Type 0
 IsSpellingOf (Alone Asm) wanted words = (words ≡ codes "asm" ∷ []) × (wanted ≡ one_input (Alone Asm) Standard)
 IsSpellingOf (Alone Dis) wanted words = (words ≡ codes "dis" ∷ []) × (wanted ≡ one_input (Alone Dis) Standard)
@@ -84,6 +93,8 @@ IsSpellingOf (Alone (Machine Steps capacity)) wanted words =
     × (wanted ≡ one_input (Alone (Machine Steps capacity)) Standard)
 IsSpellingOf (Alone (Machine Run capacity)) wanted words = IsOnFiles (codes "run") Run capacity wanted words
 IsSpellingOf (Alone (Machine Replay capacity)) wanted words = IsOnFiles (codes "replay") Replay capacity wanted words
+IsSpellingOf (Alone (Machine Move capacity)) wanted words = IsOnFiles (codes "move") Move capacity wanted words
+IsSpellingOf (Alone (Machine Shrink capacity)) wanted words = IsOnFiles (codes "shrink") Shrink capacity wanted words
 IsSpellingOf (Alone (Machine Debug capacity)) wanted words = IsOnFiles (codes "debug") Debug capacity wanted words
 IsSpellingOf (Alone (Machine (Try seed runs) capacity)) wanted words =
     (file s n l : Text) × (first second options : List Text)
@@ -91,10 +102,12 @@ IsSpellingOf (Alone (Machine (Try seed runs) capacity)) wanted words =
     × IsWord file × SaysNumber 0 18446744073709551615 seed s × SaysNumber 1 100000 runs.number n × SaysNumber 0 MAX_EVENTS runs.length l
     × AsksToSkip runs.skip first × AsksForJobs runs.jobs second × AsksFor capacity options
     × (wanted ≡ one_input (Alone (Machine (Try seed runs) capacity)) (File file))
-IsSpellingOf (Alone (Machine (Channel ring slots finish) capacity)) wanted words =
-    (said schedule : Text) × (first options : List Text) × (words ≡ codes "channel" ∷ name_of ring ∷ said ∷ schedule ∷ (first ++ options))
-    × SaysNumber 0 4294967295 slots said × IsWord schedule × AsksToFinish finish first × AsksFor capacity options
-    × (wanted ≡ two_inputs (Alone (Machine (Channel ring slots finish) capacity)) (File schedule) Standard)
+IsSpellingOf (Alone (Machine (Channel ring place finish) capacity)) wanted words =
+    (said schedule : Text) × (first second third options : List Text)
+    × (words ≡ codes "channel" ∷ name_of ring ∷ said ∷ schedule ∷ (first ++ (second ++ (third ++ options))))
+    × SaysNumber 0 4294967295 place.ring said × IsWord schedule
+    × AsksForBase place.base first × AsksForStride place.stride second × AsksToFinish finish third × AsksFor capacity options
+    × (wanted ≡ two_inputs (Alone (Machine (Channel ring place finish) capacity)) (File schedule) Standard)
 IsSpellingOf (Threads turns capacity) wanted words =
     (file : Text) × (first options : List Text) × (words ≡ codes "threads" ∷ file ∷ (first ++ options))
     × IsWord file × AsksForTurns turns first × AsksFor capacity options

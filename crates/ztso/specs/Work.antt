@@ -1,5 +1,5 @@
 -- How a job ends.
-use Rattle.std.specs.Prelude.{ℕ, ◌≡◌, ◌*◌, Bool, true, false, List, Option, Result, Ok, Err}
+use Rattle.std.specs.Prelude.{ℕ, ◌≡◌, ◌*◌, Bool, true, false, List, [], Option, Result, Ok, Err}
 use Rattle.rand_core.specs.Stream.{Stream}
 use Rattle.rand_core.specs.Steps.{stream_of, steps_u32}
 use Rattle.rand_core.specs.Pcg32Seed.{pcg32_seed}
@@ -15,11 +15,13 @@ use Rattle.ztso_engines.specs.Dis.{IsDisAnswer}
 use Rattle.ztso_engines.specs.Steps.{IsStepsAnswer}
 use Rattle.engine_parts.specs.Tests.{HasNoTest}
 use Rattle.ztso_engines.specs.Run.{IsRunAnswer}
+use Rattle.ztso_engines.specs.Move.{IsMoveAnswer}
+use Rattle.views.specs.Shrink.{IsShrinkAnswer}
 use Rattle.ztso_engines.specs.Replay.{IsReplayAnswer}
 use Rattle.debugger.specs.Talks.{EndsAloud, IsDebugAnswer}
 use Rattle.tries.specs.Outcomes.{IsTryAnswer}
 use Rattle.engine_parts.specs.Schedules.{HasNoSchedule}
-use Rattle.poll_close.specs.Layout.{dense}
+use Rattle.poll_close.specs.Places.{layout_of}
 use Rattle.ztso_engines.specs.Channels.{IsChannelAnswer}
 use Rattle.ztso_engines.specs.Threads.{IsThreadsAnswer}
 use Rattle.poll_close.specs.Laws.{Ring as RingTables}
@@ -32,7 +34,7 @@ use Rattle.ztso.specs.declared.job.Ring.TheVariants.{Lamport, FastForward}
 use Rattle.ztso.specs.declared.job.Errand.{Errand}
 use Rattle.ztso.specs.declared.job.Errand.TheVariants.{Asm, Dis, Machine}
 use Rattle.ztso.specs.declared.job.Work.{Work}
-use Rattle.ztso.specs.declared.job.Work.TheVariants.{Steps, Run, Replay, Debug, Try, Channel}
+use Rattle.ztso.specs.declared.job.Work.TheVariants.{Steps, Run, Replay, Move, Shrink, Debug, Try, Channel}
 use Rattle.ztso.specs.declared.work.TheConstants.{WORDS}
 
 -- how many stores a buffer of this capacity holds
@@ -99,10 +101,12 @@ abbrev pub IsAnswerOf : (B : ℕ) → Work → Given → Answer → Type 0
 IsAnswerOf B Steps given = WithStatusBy done_status (IsStepsAnswer B WORDS) given
 IsAnswerOf B Run given = WithStatusByBoth verdict_status (IsRunAnswer B WORDS) given
 IsAnswerOf B Replay given = WithStatusByBoth done_status (IsReplayAnswer B WORDS) given
+IsAnswerOf B Move given = WithStatusByBoth done_status (IsMoveAnswer B WORDS) given
+IsAnswerOf B Shrink given = WithStatusByBoth done_status (IsShrinkAnswer B WORDS) given
 IsAnswerOf B Debug given = WithStatusByBoth done_status (IsDebugAnswer B WORDS given.commands) given
 IsAnswerOf B (Try seed runs) given =
     WithStatusBy tried_status (IsTryAnswer B WORDS (left_after (runs.skip * runs.length) (drawn_from seed)) runs.number runs.length) given
-IsAnswerOf B (Channel ring slots finish) given = WithStatusByBoth done_status (IsChannelAnswer (tables_of ring) B WORDS (dense slots) finish) given
+IsAnswerOf B (Channel ring place finish) given = WithStatusByBoth done_status (IsChannelAnswer (tables_of ring) B WORDS (layout_of place []) finish) given
 
 -- What was written and the exit status answer the inputs, or the refusal does and nothing was written.
 -- Where a read failed or memory ran out nothing was written; where a write failed nothing is said of it.
@@ -111,9 +115,11 @@ abbrev pub DoesWork : {W : Type 0} → (B : ℕ) → Work → Result ℕ Fault �
 DoesWork B Steps result given contents old new = Ends (IsAnswerOf B Steps given) result contents old new
 DoesWork B Run result given contents old new = Ends (IsAnswerOf B Run given) result contents old new
 DoesWork B Replay result given contents old new = Ends (IsAnswerOf B Replay given) result contents old new
+DoesWork B Move result given contents old new = Ends (IsAnswerOf B Move given) result contents old new
+DoesWork B Shrink result given contents old new = Ends (IsAnswerOf B Shrink given) result contents old new
 DoesWork B Debug result given contents old new = EndsAloud (IsAnswerOf B Debug given) result contents old new
 DoesWork B (Try seed runs) result given contents old new = Ends (IsAnswerOf B (Try seed runs) given) result contents old new
-DoesWork B (Channel ring slots finish) result given contents old new = Ends (IsAnswerOf B (Channel ring slots finish) given) result contents old new
+DoesWork B (Channel ring place finish) result given contents old new = Ends (IsAnswerOf B (Channel ring place finish) given) result contents old new
 
 abbrev pub DoesErrand : {W : Type 0} → Errand → Result ℕ Fault → Given → (contents : W → Option (List ℕ)) → (old new : W) → Type 0
 DoesErrand Asm result given contents old new = Ends (WithStatusBy done_status IsAsmAnswer given) result contents old new
@@ -133,9 +139,11 @@ abbrev pub LeavesSecondOf : Work → (first : Option (List ℕ)) → Type 0
 LeavesSecondOf Steps first = Unit {0}
 LeavesSecondOf Run first = HasNoTest first
 LeavesSecondOf Replay first = HasNoTest first
+LeavesSecondOf Move first = HasNoTest first
+LeavesSecondOf Shrink first = HasNoTest first
 LeavesSecondOf Debug first = HasNoTest first
 LeavesSecondOf (Try seed runs) first = Unit {0}
-LeavesSecondOf (Channel ring slots finish) first = HasNoSchedule first
+LeavesSecondOf (Channel ring place finish) first = HasNoSchedule first
 
 abbrev pub LeavesSecond : Errand → (first : Option (List ℕ)) → Type 0
 LeavesSecond Asm first = Unit {0}
@@ -149,9 +157,11 @@ abbrev pub reads_commands : Work → Bool
 reads_commands Steps = false
 reads_commands Run = false
 reads_commands Replay = false
+reads_commands Move = false
+reads_commands Shrink = false
 reads_commands Debug = true
 reads_commands (Try seed runs) = false
-reads_commands (Channel ring slots finish) = false
+reads_commands (Channel ring place finish) = false
 
 abbrev pub LeavesCommands : Errand → Type 0
 LeavesCommands Asm = Unit {0}

@@ -2,7 +2,7 @@
 
 ghost use Rattle.std.specs.Prelude.{◌≡◌, ◌∷◌, ℕ, List, IfOk, map, option_and_then, option_map};
 ghost use Rattle.clap.specs.Words.{FailsBy, fault_of, first_of, found_of, rows_of, subcommand_of, subcommand_rows_of};
-ghost use Rattle.ztso.specs.CommandLines.{Answers, capacity_said, job_in, channel_in, flag_said, job_said, machine_in, on_file, on_file_and_schedule, on_schedule_and_standard, on_standard, ring_said, threads_in, try_in};
+ghost use Rattle.ztso.specs.CommandLines.{Answers, capacity_said, job_in, channel_in, flag_said, job_said, number_if_said, machine_in, on_file, on_file_and_schedule, on_schedule_and_standard, on_standard, ring_said, threads_in, try_in};
 ghost use Rattle.ztso.specs.Descriptions.{ztso_command};
 ghost use Rattle.ztso.specs.Spellings.{IsSpelling};
 ghost use Rattle.ztso.specs.Jobs.{Wanted, wanted_by};
@@ -12,6 +12,7 @@ use crate::job::{Capacity, Errand, Input, Job, Ring, Task, Work};
 use clap::ArgMatches;
 use description::ztso_command;
 use numbers::{count_of, number_of};
+use poll_close::Place;
 use recorder::MAX_EVENTS;
 use std::alloc::Global;
 use std::convert::AsStr;
@@ -64,6 +65,10 @@ fn job_in<'a>(matches: &ArgMatches<'a>) -> Option<Job<'a>>
         ("run", options) => on_file_and_schedule(options, machine_in(options, Some(Work::Run))),
         ("replay", options) => {
             on_file_and_schedule(options, machine_in(options, Some(Work::Replay)))
+        }
+        ("move", options) => on_file_and_schedule(options, machine_in(options, Some(Work::Move))),
+        ("shrink", options) => {
+            on_file_and_schedule(options, machine_in(options, Some(Work::Shrink)))
         }
         ("debug", options) => on_file_and_schedule(options, machine_in(options, Some(Work::Debug))),
         ("try", options) => on_file(options, machine_in(options, try_in(options))),
@@ -169,12 +174,29 @@ fn channel_in(options: &ArgMatches<'_>) -> Option<Work>
 {
     let ring = ring_of(word_in(options, "kind")?)?;
     let slots = count_of(word_in(options, "ring")?, 0, u32::MAX)?;
+    let base = count_of(word_in(options, "base")?, 0, u32::MAX)?;
+    let stride = number_if_said(word_in(options, "stride"))?;
     let finish = flag_of(word_in(options, "finish")?);
+    let place = Place {
+        ring: slots,
+        base,
+        stride,
+    };
     Some(Work::Channel {
         ring,
-        slots,
+        place,
         finish,
     })
+}
+
+/// The number of 32 bits, if one is said; none where that is no such number.
+fn number_if_said(text: Option<&str>) -> Option<Option<u32>>
+    ensures { result ≡ number_if_said (option_map (λ said. said.now) text.entry) }
+{
+    match text {
+        Some(said) => Some(Some(count_of(said, 0, u32::MAX)?)),
+        None => Some(None),
+    }
 }
 
 /// Whether a flag with this value is given.

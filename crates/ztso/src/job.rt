@@ -1,5 +1,6 @@
 //! What a command line can ask for.
 
+use poll_close::Place;
 use tries::trials::Runs;
 
 /// How many stores a hart's buffer holds.
@@ -35,6 +36,10 @@ pub enum Work {
     Run,
     /// To tell each event's outcome in a run of a litmus test by a schedule.
     Replay,
+    /// To write a schedule's text of version 2, with each event's outcome in a run of a litmus test.
+    Move,
+    /// To leave out of a schedule what its outcome of a litmus test doesn't need.
+    Shrink,
     /// To walk along a schedule's run of a litmus test, at the commands on standard input.
     Debug,
     /// To make these runs of a litmus test, by schedules that are drawn from a generator of this seed.
@@ -42,11 +47,11 @@ pub enum Work {
         seed: u64,
         runs: Runs,
     },
-    /// To run a channel over lists of words by a schedule, through rings of this kind with so many slots,
-    /// and to `finish` it by a plan.
+    /// To run a channel over lists of words by a schedule, through rings of this kind at this place, and to
+    /// `finish` it by a plan.
     Channel {
         ring: Ring,
-        slots: u32,
+        place: Place,
         finish: bool,
     },
 }

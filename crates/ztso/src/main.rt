@@ -12,6 +12,7 @@ mod command_line;
 mod failure;
 mod job;
 mod lazy_input;
+mod progress_line;
 mod prompt_reader;
 mod work;
 
@@ -19,6 +20,7 @@ use command_line::job_of;
 use failure::Failure;
 use job::Task;
 use lazy_input::LazyInput;
+use progress_line::ProgressLine;
 use prompt_reader::PromptReader;
 use std::io::IsTerminal;
 use std::process::ExitCode;
@@ -26,10 +28,13 @@ use std::rt::{Env, Files};
 use std::sync::Wait;
 use std::thread::Threads;
 use std::{env, io};
+use tries::progress::Progress;
 use work::{do_errand, do_threads};
 
 fn main(rt: HostRuntime) -> ExitCode {
-    match run(&rt) {
+    let line = ProgressLine::new(&rt);
+    let mut progress = rt.stderr().is_terminal().then_some(line);
+    match run(&rt, &mut progress) {
         Ok(status) => ExitCode::from(status),
         Err(failure) => {
             let _ = eprintln!(rt; "ztso: {failure}");
@@ -39,8 +44,8 @@ fn main(rt: HostRuntime) -> ExitCode {
 }
 
 /// Does the job that the command line asks for, and answers the exit status. It may wait where that job
-/// runs on threads.
-fn run<R>(rt: &R) -> Result<u8, Failure>
+/// runs on threads. The progress gets the reports of `try`.
+fn run<R, P: Progress>(rt: &R, progress: &mut P) -> Result<u8, Failure>
 where
     R: Env + Files + Input + Print + Eprint + AllocGlobal + Threads + Wait + Sync,
     R::Reader: IsTerminal,
@@ -58,6 +63,7 @@ where
             &mut first,
             &mut LazyInput::new(rt, job.second),
             &mut PromptReader::new(rt),
+            progress,
             &mut writer,
         )?,
         Task::Threads { turns, capacity } => {

@@ -1,16 +1,18 @@
 //! Which engine does a job.
 
-ghost use Rattle.std.specs.Prelude.{◌≡◌, ◌≤◌, ◌*◌, false};
+ghost use Rattle.std.specs.Prelude.{◌≡◌, ◌≤◌, ◌*◌, [], false};
 ghost use Rattle.ztso.specs.declared.work.TheConstants.{WORDS};
 ghost use Rattle.ztso.specs.Work.{LeavesCommands, reads_commands, DoesErrand, DoesThreads, DoesWork, Given, LeavesSecond, LeavesSecondOf, WithStatus, done_status, drawn_from, ended_with, tables_of, tried_status, verdict_status};
 ghost use Rattle.recorder.specs.Drawing.{left_after};
 ghost use Rattle.ztso_engines.specs.Asm.{IsAsmAnswer};
-ghost use Rattle.poll_close.specs.Layout.{dense};
+ghost use Rattle.poll_close.specs.Places.{layout_of};
 ghost use Rattle.ztso_engines.specs.Channels.{IsChannelAnswer};
 ghost use Rattle.ztso_engines.specs.Dis.{IsDisAnswer};
 ghost use Rattle.engine_parts.specs.Engines.{AnswersBoth, Ends, EndsBy, EndsByBoth, OfInput};
+ghost use Rattle.ztso_engines.specs.Move.{IsMoveAnswer};
 ghost use Rattle.ztso_engines.specs.Replay.{IsReplayAnswer};
 ghost use Rattle.ztso_engines.specs.Run.{IsRunAnswer};
+ghost use Rattle.views.specs.Shrink.{IsShrinkAnswer};
 ghost use Rattle.engine_parts.specs.Schedules.{HasNoSchedule};
 ghost use Rattle.ztso_engines.specs.Steps.{IsStepsAnswer};
 ghost use Rattle.debugger.specs.Talks.{EndsAloud, IsDebugAnswer};
@@ -31,10 +33,13 @@ use std::alloc::Global;
 use std::io::{BufReader, Read, Write};
 use std::sync::Wait;
 use std::thread::Threads;
+use tries::progress::Progress;
 use tries::trials::{Runs, try_engine};
+use views::shrinking::shrink_engine;
 use ztso_engines::asm::asm_engine;
 use ztso_engines::channel::channel_engine;
 use ztso_engines::dis::dis_engine;
+use ztso_engines::moving::move_engine;
 use ztso_engines::replay::replay_engine;
 use ztso_engines::run::run_engine;
 use ztso_engines::steps::steps_engine;
@@ -130,6 +135,36 @@ fn replay_test<const B: usize, F: Read, S: Read, W: Write>(
     after(replay_engine::<B, WORDS, _, _, _>(alloc, file, schedule, writer))
 }
 
+/// Writes a schedule's text of version 2, with each event's outcome in a run of a test.
+fn move_schedule<const B: usize, F: Read, S: Read, W: Write>(
+    alloc: Global,
+    file: &mut F,
+    schedule: &mut S,
+    writer: &mut W,
+) -> Result<u8, Fault>
+    requires some_capacity { 1 ≤ B }
+    requires capacity { B ≤ 64 }
+    ensures ends { Ends (WithStatus done_status (AnswersBoth (IsMoveAnswer B WORDS) (F.remaining file.old) (S.remaining schedule.old))) result W.contents writer.old writer.new }
+    ensures unread { HasNoTest (F.remaining file.old) → schedule.new ≡ schedule.old }
+{
+    after(move_engine::<B, WORDS, _, _, _>(alloc, file, schedule, writer))
+}
+
+/// Leaves out of a schedule what its outcome of a test doesn't need.
+fn shrink_schedule<const B: usize, F: Read, S: Read, W: Write>(
+    alloc: Global,
+    file: &mut F,
+    schedule: &mut S,
+    writer: &mut W,
+) -> Result<u8, Fault>
+    requires some_capacity { 1 ≤ B }
+    requires capacity { B ≤ 64 }
+    ensures ends { Ends (WithStatus done_status (AnswersBoth (IsShrinkAnswer B WORDS) (F.remaining file.old) (S.remaining schedule.old))) result W.contents writer.old writer.new }
+    ensures unread { HasNoTest (F.remaining file.old) → schedule.new ≡ schedule.old }
+{
+    after(shrink_engine::<B, WORDS, _, _, _>(alloc, file, schedule, writer))
+}
+
 /// Walks along a schedule's run at a user's commands.
 fn debug<const B: usize, F: Read, S: Read, C: Read, W: Write>(
     alloc: Global,
@@ -166,12 +201,13 @@ fn debug_test<const B: usize, F: Read, S: Read, C: Read, W: Write>(
 }
 
 /// Runs a test by schedules that are drawn from a generator of this seed.
-fn try_drawn<const B: usize, F: Read, W: Write, T: Threads + Sync>(
+fn try_drawn<const B: usize, F: Read, W: Write, T: Threads + Sync, P: Progress>(
     rt: &T,
     alloc: Global,
     seed: u64,
     runs: Runs,
     file: &mut F,
+    progress: &mut P,
     writer: &mut W,
 ) -> Result<bool, Fault>
     requires some_capacity { 1 ≤ B }
@@ -179,31 +215,32 @@ fn try_drawn<const B: usize, F: Read, W: Write, T: Threads + Sync>(
     ensures { EndsBy (IsTryAnswer B WORDS (left_after (runs.skip * runs.length) (drawn_from seed)) runs.number runs.length) result (F.remaining file.old) W.contents writer.old writer.new }
 {
     let generator = Lcg64Xsh32::seed_from_u64(seed);
-    try_engine::<B, WORDS, _, _, _, _>(rt, alloc, file, &generator, runs, writer)
+    try_engine::<B, WORDS, _, _, _, _, _>(rt, alloc, file, &generator, runs, progress, writer)
 }
 
 /// Tries a test.
-fn try_test<const B: usize, F: Read, W: Write, T: Threads + Sync>(
+fn try_test<const B: usize, F: Read, W: Write, T: Threads + Sync, P: Progress>(
     rt: &T,
     alloc: Global,
     seed: u64,
     runs: Runs,
     file: &mut F,
+    progress: &mut P,
     writer: &mut W,
 ) -> Result<u8, Fault>
     requires some_capacity { 1 ≤ B }
     requires capacity { B ≤ 64 }
     ensures { Ends (WithStatus tried_status (λ answer. OfInput (F.remaining file.old) (λ bytes. IsTryAnswer B WORDS (left_after (runs.skip * runs.length) (drawn_from seed)) runs.number runs.length bytes answer))) result W.contents writer.old writer.new }
 {
-    after_try(try_drawn::<B, _, _, _>(rt, alloc, seed, runs, file, writer))
+    after_try(try_drawn::<B, _, _, _, _>(rt, alloc, seed, runs, file, progress, writer))
 }
 
-/// Runs a channel over lists of words by a schedule, through rings of this kind, and then by a plan if it
-/// is to be finished.
+/// Runs a channel over lists of words by a schedule, through rings of this kind at this place, and then by a
+/// plan if it is to be finished.
 fn run_rings<const B: usize, S: Read, L: Read, W: Write>(
     alloc: Global,
     ring: Ring,
-    slots: u32,
+    place: Place,
     finish: bool,
     schedule: &mut S,
     lists: &mut L,
@@ -211,14 +248,9 @@ fn run_rings<const B: usize, S: Read, L: Read, W: Write>(
 ) -> Result<(), Fault>
     requires some_capacity { 1 ≤ B }
     requires capacity { B ≤ 64 }
-    ensures ends { EndsByBoth (IsChannelAnswer (tables_of ring) B WORDS (dense slots) finish) result (S.remaining schedule.old) (L.remaining lists.old) W.contents writer.old writer.new }
+    ensures ends { EndsByBoth (IsChannelAnswer (tables_of ring) B WORDS (layout_of place []) finish) result (S.remaining schedule.old) (L.remaining lists.old) W.contents writer.old writer.new }
     ensures unread { HasNoSchedule (S.remaining schedule.old) → lists.new ≡ lists.old }
 {
-    let place = Place {
-        ring: slots,
-        base: 0,
-        stride: None,
-    };
     match ring {
         Ring::Lamport => channel_engine::<Lamport, B, WORDS, _, _, _>(
             alloc, place, finish, schedule, lists, writer,
@@ -233,7 +265,7 @@ fn run_rings<const B: usize, S: Read, L: Read, W: Write>(
 fn run_channel<const B: usize, S: Read, L: Read, W: Write>(
     alloc: Global,
     ring: Ring,
-    slots: u32,
+    place: Place,
     finish: bool,
     schedule: &mut S,
     lists: &mut L,
@@ -241,20 +273,21 @@ fn run_channel<const B: usize, S: Read, L: Read, W: Write>(
 ) -> Result<u8, Fault>
     requires some_capacity { 1 ≤ B }
     requires capacity { B ≤ 64 }
-    ensures ends { Ends (WithStatus done_status (AnswersBoth (IsChannelAnswer (tables_of ring) B WORDS (dense slots) finish) (S.remaining schedule.old) (L.remaining lists.old))) result W.contents writer.old writer.new }
+    ensures ends { Ends (WithStatus done_status (AnswersBoth (IsChannelAnswer (tables_of ring) B WORDS (layout_of place []) finish) (S.remaining schedule.old) (L.remaining lists.old))) result W.contents writer.old writer.new }
     ensures unread { HasNoSchedule (S.remaining schedule.old) → lists.new ≡ lists.old }
 {
-    after(run_rings::<B, _, _, _>(alloc, ring, slots, finish, schedule, lists, writer))
+    after(run_rings::<B, _, _, _>(alloc, ring, place, finish, schedule, lists, writer))
 }
 
 /// Does the work with a machine whose harts' buffers hold `B` stores.
-fn do_work<const B: usize, F: Read, S: Read, C: Read, W: Write, T: Threads + Sync>(
+fn do_work<const B: usize, F: Read, S: Read, C: Read, W: Write, T: Threads + Sync, P: Progress>(
     rt: &T,
     alloc: Global,
     work: Work,
     first: &mut F,
     second: &mut S,
     commands: &mut C,
+    progress: &mut P,
     writer: &mut W,
 ) -> Result<u8, Fault>
     requires some_capacity { 1 ≤ B }
@@ -267,13 +300,17 @@ fn do_work<const B: usize, F: Read, S: Read, C: Read, W: Write, T: Threads + Syn
         Work::Steps => run_steps::<B, _, _>(alloc, first, writer),
         Work::Run => run_test::<B, _, _, _>(alloc, first, second, writer),
         Work::Replay => replay_test::<B, _, _, _>(alloc, first, second, writer),
+        Work::Move => move_schedule::<B, _, _, _>(alloc, first, second, writer),
+        Work::Shrink => shrink_schedule::<B, _, _, _>(alloc, first, second, writer),
         Work::Debug => debug_test::<B, _, _, _, _>(alloc, first, second, commands, writer),
-        Work::Try { seed, runs } => { try_test::<B, _, _, _>(rt, alloc, seed, runs, first, writer) }
+        Work::Try { seed, runs } => {
+            try_test::<B, _, _, _, _>(rt, alloc, seed, runs, first, progress, writer)
+        }
         Work::Channel {
             ring,
-            slots,
+            place,
             finish,
-        } => run_channel::<B, _, _, _>(alloc, ring, slots, finish, first, second, writer),
+        } => run_channel::<B, _, _, _>(alloc, ring, place, finish, first, second, writer),
     }
 }
 
@@ -283,14 +320,16 @@ fn do_work<const B: usize, F: Read, S: Read, C: Read, W: Write, T: Threads + Syn
 ///
 /// `first` is what the errand reads first, and `second` what it reads behind that, if it has two inputs and
 /// the first one was accepted. `commands` is what a user types to the debugger, which writes as it reads.
-/// The jobs of runs that are tried are threads; it has no leave to wait for anything else.
-pub fn do_errand<F: Read, S: Read, C: Read, W: Write, T: Threads + Sync>(
+/// `progress` gets the reports of runs that are tried. Their jobs are threads; it has no leave to wait for
+/// anything else.
+pub fn do_errand<F: Read, S: Read, C: Read, W: Write, T: Threads + Sync, P: Progress>(
     rt: &T,
     alloc: Global,
     errand: Errand,
     first: &mut F,
     second: &mut S,
     commands: &mut C,
+    progress: &mut P,
     writer: &mut W,
 ) -> Result<u8, Fault>
     ensures does { DoesErrand errand result (record { first = F.remaining first.old; second = S.remaining second.old; commands = C.remaining commands.old }) W.contents writer.old writer.new }
@@ -301,17 +340,17 @@ pub fn do_errand<F: Read, S: Read, C: Read, W: Write, T: Threads + Sync>(
         Errand::Asm => assemble(alloc, first, writer),
         Errand::Dis => disassemble(alloc, first, writer),
         Errand::Machine { work, capacity } => match capacity {
-            Capacity::One => do_work::<1, _, _, _, _, _>(
-                rt, alloc, work, first, second, commands, writer,
+            Capacity::One => do_work::<1, _, _, _, _, _, _>(
+                rt, alloc, work, first, second, commands, progress, writer,
             ),
-            Capacity::Two => do_work::<2, _, _, _, _, _>(
-                rt, alloc, work, first, second, commands, writer,
+            Capacity::Two => do_work::<2, _, _, _, _, _, _>(
+                rt, alloc, work, first, second, commands, progress, writer,
             ),
-            Capacity::Four => do_work::<4, _, _, _, _, _>(
-                rt, alloc, work, first, second, commands, writer,
+            Capacity::Four => do_work::<4, _, _, _, _, _, _>(
+                rt, alloc, work, first, second, commands, progress, writer,
             ),
-            Capacity::Sixteen => do_work::<16, _, _, _, _, _>(
-                rt, alloc, work, first, second, commands, writer,
+            Capacity::Sixteen => do_work::<16, _, _, _, _, _, _>(
+                rt, alloc, work, first, second, commands, progress, writer,
             ),
         },
     }

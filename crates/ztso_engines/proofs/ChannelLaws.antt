@@ -1,8 +1,17 @@
 -- What answers a schedule and lists of words.
-use Rattle.std.proofs.Common.{◌≡◌, ◌⊎◌, inl, inr, ℕ, Bool, List, [], refl, sym, subst, ◌∙◌, Result, Ok, Err}
+use Rattle.std.proofs.Common.{◌≡◌, ◌⊎◌, inl, inr, ℕ, Bool, true, false, List, [], refl, sym, subst, ◌∙◌, Result, Ok, Err}
 use Rattle.std.specs.Prelude.{Option, Some, None}
+use Rattle.hart.specs.declared.need.Report.{Report}
+use Rattle.step_machine.specs.History.{Start, History}
 use Rattle.step_machine.specs.declared.events.Event.{Event}
-use Rattle.poll_close.specs.Laws.{Ring}
+use Rattle.recorder.specs.Versions.{Said, events_said}
+use Rattle.recorder.specs.Versions.Said.{plain, recorded}
+use Rattle.recorder.specs.declared.replaying.CheckError.{CheckError}
+use Rattle.recorder.specs.declared.replaying.CheckError.TheVariants as check
+use Rattle.recorder.specs.Replaying.{DiffersAt, Differs}
+use Rattle.recorder.specs.Records.{Step}
+use Rattle.poll_close.specs.Layout.{Layout}
+use Rattle.poll_close.specs.Laws.{AcceptedAt, Ring}
 use Rattle.poll_close.specs.Places.{layout_of}
 use Rattle.poll_close.specs.Refusals.{RefusesAt}
 use Rattle.poll_close.specs.declared.faults.Refused.TheVariants as refused
@@ -13,13 +22,71 @@ use Rattle.engine_parts.specs.declared.fault.Fault.{Fault}
 use Rattle.engine_parts.specs.declared.fault.Fault.TheVariants.{ReadFailed, WriteFailed, NoMemory, Refused}
 use Rattle.engine_parts.specs.declared.fault.Refusal.{Refusal}
 use Rattle.engine_parts.specs.Engines.{Output, OfInput, AnswersBoth}
+use Rattle.engine_parts.specs.Faults.{AnswersAs}
+use Rattle.engine_parts.specs.Histories.{Runs, differing, fault_of_check}
 use Rattle.engine_parts.specs.Schedules.{IsNoSchedule}
-use Rattle.ztso_engines.specs.Channels.{fault_from, IsUnfilled, HasNoChannel, IsDelivery, IsChannelAnswer}
-use Rattle.ztso_engines.specs.Channels.IsChannelAnswer.{no_schedule, no_lists, no_channel, delivered}
+use Rattle.ztso_engines.specs.Channels.{fault_from, IsUnfilled, IsDelivery, IsOtherRun, IsReported, IsUnreported, IsChannelAnswer, Reported, opening_over}
+use Rattle.ztso_engines.specs.Channels.IsChannelAnswer.{no_schedule, no_lists, unreported, delivered}
 use Rattle.engine_parts.specs.inner.Making.{Finds, FindsBy}
 use Rattle.engine_parts.specs.inner.Inputs.{IsReadAsSchedule}
 use Rattle.ztso_engines.specs.inner.Inputs.{IsReadAsLists}
+use Rattle.ztso_engines.specs.inner.Reporting.{Checks, IsChecked, Reports}
 use Rattle.engine_parts.proofs.Endings.{weaker}
+
+-- ---- what a schedule and lists give
+
+module _ (ring : Ring) (B M : ℕ) (place : Place) (lists : List (List ℕ)) where
+  -- a reason is want of memory, or one that a fault of the input has
+  told_as : (because : RefusedAt) → RefusesAt ring M lists (layout_of place []) because
+      → (fault_from because ≡ NoMemory) ⊎ ((r : Refusal) × (fault_from because ≡ Refused r) × IsUnfilled because)
+  told_as (why.Lists refused.NoMemory) refuses = inl refl
+  told_as (why.Lists (refused.ZeroWord sender word)) refuses = inr (_, refl, tt)
+  told_as (why.Lists refused.NoSenders) refuses = inr (_, refl, tt)
+  told_as (why.Lists refused.TooManySenders) refuses = inr (_, refl, tt)
+  told_as (why.Lists refused.RingTooSmall) refuses = inr (_, refl, tt)
+  told_as (why.Lists refused.DoesNotFit) refuses = inr (_, refl, tt)
+  told_as why.UnevenBase refuses = inr (_, refl, tt)
+  told_as why.UnevenStride refuses = inr (_, refl, tt)
+  told_as why.BlocksMeet refuses = inr (_, refl, tt)
+  told_as (why.FilledBlock word) refuses = absurd (refuses.2.filled refl)
+
+  -- where there is no channel, whatever is asked of an answer that may be such a refusal
+  pub no_channel : {X Y : Type 0} (IsAnswer : Result Y Refusal → Type 0) (view : X → Y) (said : Said)
+      → ((refusal : Refusal) → IsUnreported ring B M (layout_of place []) said lists refusal → IsAnswer (Err refusal))
+      → (because : RefusedAt) (fault : Fault) → fault ≡ fault_from because → RefusesAt ring M lists (layout_of place []) because
+      → AnswersAs IsAnswer view (Err fault)
+  no_channel {X = X} IsAnswer view said refuse because fault told refuses =
+      elim (told_as because refuses) [
+        | inl none ↦ subst (λ (f : Fault). AnswersAs {X = X} IsAnswer view (Err f)) (sym (told ∙ none)) tt
+        | inr is ↦
+            subst (λ (f : Fault). AnswersAs {X = X} IsAnswer view (Err f)) (sym (told ∙ is.1))
+            (refuse is.0 (inl (record { why = because; unfilled = is.2; refuses = refuses; is_fault = is.1 })))
+      ]
+
+  -- where a record differs
+  pub differs : (steps : List Step) (o : Start) (error : CheckError) (fault : Fault) → o ≡ opening_over ring (layout_of place []) lists
+      → AcceptedAt ring M lists (layout_of place []) → fault ≡ fault_of_check error → Differs (DiffersAt B M o steps) error
+      → AnswersAs (Checks ring B M (layout_of place []) (recorded steps) lists) (λ (x : Unit {0}). x) (Err fault)
+  differs steps o check.NoMemory fault is within told other = rw told tt
+  differs steps o (check.Differs event) fault is within told other =
+      rw told (inr (record { within = within; differs = (event, subst (λ (s : Start). DiffersAt B M s steps event) is other, refl) }))
+
+  -- what is reported comes of a run, in which a record was checked
+  ran : (finish : Bool) (o : Start) (said : Said) (reports : List Report) → IsChecked B M o said → Reported finish B M o lists (events_said said) reports
+      → (history : History) × Runs B M o said (Ok history)
+  ran false o (plain events) reports checked is = (is.history, is.run)
+  ran true o (plain events) reports checked is = (is.middle, is.run)
+  ran finish o (recorded steps) reports checked is = checked
+
+  pub all_reported : (finish : Bool) (said : Said) (events : List Event) (reports : List Report) → events ≡ events_said said
+      → IsChecked B M (opening_over ring (layout_of place []) lists) said → AcceptedAt ring M lists (layout_of place [])
+      → Reported finish B M (opening_over ring (layout_of place []) lists) lists events reports
+      → IsReported ring B M (layout_of place []) finish said lists reports
+  all_reported finish said events reports same checked within is =
+      let delivers = subst (λ (evs : List Event). Reported finish B M (opening_over ring (layout_of place []) lists) lists evs reports) same is in
+      record { within = within; ran = ran finish _ said reports checked delivers; delivers = delivers }
+
+-- ---- what answers both
 
 module _ (ring : Ring) (B M : ℕ) (place : Place) (finish : Bool) (first second : Option (List ℕ)) where
   abbrev IsAnswer : List ℕ → List ℕ → Result Output Refusal → Type 0
@@ -28,17 +95,23 @@ module _ (ring : Ring) (B M : ℕ) (place : Place) (finish : Bool) (first second
   abbrev Answers : Result Output Refusal → Type 0
   Answers = AnswersBoth IsAnswer first second
 
-  abbrev ReadsEvents : List Event → Type 0
-  ReadsEvents events = OfInput first (λ bytes. IsReadAsSchedule bytes (Ok events))
+  abbrev ReadsSchedule : Said → Type 0
+  ReadsSchedule said = OfInput first (λ bytes. IsReadAsSchedule bytes (Ok said))
 
   abbrev ReadsLists : List (List ℕ) → Type 0
   ReadsLists lists = OfInput second (λ bytes. IsReadAsLists bytes (Ok lists))
 
-  -- both were read, and the lists are a channel's
-  pub answers_delivered : (events : List Event) (lists : List (List ℕ)) (answer : Output) → ReadsEvents events → ReadsLists lists
-      → IsDelivery ring B M (layout_of place []) finish events lists answer → Answers (Ok answer)
-  answers_delivered events lists answer schedule input is =
-      weaker first _ _ (λ text said. weaker second _ _ (λ words told. delivered events lists answer said told is) input) schedule
+  -- both were read, and there are reports
+  pub answers_delivered : (said : Said) (lists : List (List ℕ)) (answer : Output) → ReadsSchedule said → ReadsLists lists
+      → IsDelivery ring B M (layout_of place []) finish said lists answer → Answers (Ok answer)
+  answers_delivered said lists answer schedule input is =
+      weaker first _ _ (λ text says. weaker second _ _ (λ words told. delivered said lists answer says told is) input) schedule
+
+  -- or there are none
+  answers_unreported : (said : Said) (lists : List (List ℕ)) (refusal : Refusal) → ReadsSchedule said → ReadsLists lists
+      → IsUnreported ring B M (layout_of place []) said lists refusal → Answers (Err refusal)
+  answers_unreported said lists refusal schedule input none =
+      weaker first _ _ (λ text says. weaker second _ _ (λ words told. unreported said lists refusal says told none) input) schedule
 
   -- the schedule is refused, whatever the second input is
   answers_no_schedule : (refusal : Refusal) → OfInput first (λ bytes. IsNoSchedule bytes refusal) → Answers (Err refusal)
@@ -48,53 +121,40 @@ module _ (ring : Ring) (B M : ℕ) (place : Place) (finish : Bool) (first second
       any None text bad = ([], no_schedule refusal bad)
       any (Some words) text bad = no_schedule refusal bad
 
-  answers_no_lists : (events : List Event) (refusal : Refusal) → ReadsEvents events → OfInput second (λ bytes. IsReadAsLists bytes (Err refusal))
+  answers_no_lists : (said : Said) (refusal : Refusal) → ReadsSchedule said → OfInput second (λ bytes. IsReadAsLists bytes (Err refusal))
       → Answers (Err refusal)
-  answers_no_lists events refusal schedule none =
-      weaker first _ _ (λ text said. weaker second _ _ (λ words bad. no_lists events refusal said bad) none) schedule
-
-  answers_no_channel : (events : List Event) (lists : List (List ℕ)) (refusal : Refusal) → ReadsEvents events → ReadsLists lists
-      → HasNoChannel ring M (layout_of place []) lists refusal → Answers (Err refusal)
-  answers_no_channel events lists refusal schedule input none =
-      weaker first _ _ (λ text said. weaker second _ _ (λ words told. no_channel events lists refusal said told none) input) schedule
+  answers_no_lists said refusal schedule none =
+      weaker first _ _ (λ text says. weaker second _ _ (λ words bad. no_lists said refusal says bad) none) schedule
 
   -- ---- faults on the way
 
-  pub schedule_fault : {X Y : Type 0} (seen : X → Output) (view : Y → List Event) (result : Result X Fault) (fault : Fault)
-      → result ≡ Err fault → FindsBy IsReadAsSchedule view first (Err fault) → Finds Answers seen result
-  schedule_fault seen view result (Refused r) is finds = rw is (answers_no_schedule r finds)
-  schedule_fault seen view result NoMemory is finds = rw is tt
-  schedule_fault seen view result ReadFailed is finds = rw is tt
-  schedule_fault seen view result WriteFailed is finds = rw is finds
+  module _ {X : Type 0} (seen : X → Output) (result : Result X Fault) (fault : Fault) (is : result ≡ Err fault) where
+    pub schedule_fault : {Y : Type 0} (view : Y → Said) → FindsBy IsReadAsSchedule view first (Err fault) → Finds Answers seen result
+    schedule_fault view finds = rw is (at fault finds)
+      where
+        at : (f : Fault) → FindsBy IsReadAsSchedule view first (Err f) → Finds {X = X} Answers seen (Err f)
+        at (Refused r) finds = answers_no_schedule r finds
+        at NoMemory finds = tt
+        at ReadFailed finds = tt
+        at WriteFailed finds = finds
 
-  pub lists_fault : {X Y : Type 0} (seen : X → Output) (view : Y → List (List ℕ)) (events : List Event) (result : Result X Fault) (fault : Fault)
-      → result ≡ Err fault → ReadsEvents events → FindsBy IsReadAsLists view second (Err fault) → Finds Answers seen result
-  lists_fault seen view events result (Refused r) is schedule finds = rw is (answers_no_lists events r schedule finds)
-  lists_fault seen view events result NoMemory is schedule finds = rw is tt
-  lists_fault seen view events result ReadFailed is schedule finds = rw is tt
-  lists_fault seen view events result WriteFailed is schedule finds = rw is finds
+    pub lists_fault : {Y : Type 0} (view : Y → List (List ℕ)) (said : Said) → ReadsSchedule said → FindsBy IsReadAsLists view second (Err fault)
+        → Finds Answers seen result
+    lists_fault view said schedule finds = rw is (at fault finds)
+      where
+        at : (f : Fault) → FindsBy IsReadAsLists view second (Err f) → Finds {X = X} Answers seen (Err f)
+        at (Refused r) finds = answers_no_lists said r schedule finds
+        at NoMemory finds = tt
+        at ReadFailed finds = tt
+        at WriteFailed finds = finds
 
-  -- a reason is want of memory, or one that a fault of the input has
-  told_as : (lists : List (List ℕ)) (because : RefusedAt) → RefusesAt ring M lists (layout_of place []) because
-      → (fault_from because ≡ NoMemory) ⊎ ((r : Refusal) × (fault_from because ≡ Refused r) × IsUnfilled because)
-  told_as lists (why.Lists refused.NoMemory) refuses = inl refl
-  told_as lists (why.Lists (refused.ZeroWord sender word)) refuses = inr (_, refl, tt)
-  told_as lists (why.Lists refused.NoSenders) refuses = inr (_, refl, tt)
-  told_as lists (why.Lists refused.TooManySenders) refuses = inr (_, refl, tt)
-  told_as lists (why.Lists refused.RingTooSmall) refuses = inr (_, refl, tt)
-  told_as lists (why.Lists refused.DoesNotFit) refuses = inr (_, refl, tt)
-  told_as lists why.UnevenBase refuses = inr (_, refl, tt)
-  told_as lists why.UnevenStride refuses = inr (_, refl, tt)
-  told_as lists why.BlocksMeet refuses = inr (_, refl, tt)
-  told_as lists (why.FilledBlock word) refuses = absurd (refuses.2.filled refl)
-
-  pub channel_fault : {X : Type 0} (seen : X → Output) (events : List Event) (lists : List (List ℕ)) (because : RefusedAt) (fault : Fault)
-      → fault ≡ fault_from because → ReadsEvents events → ReadsLists lists → RefusesAt ring M lists (layout_of place []) because
-      → Finds {X = X} Answers seen (Err fault)
-  channel_fault {X = X} seen events lists because fault told schedule input refuses =
-      elim (told_as lists because refuses) [
-        | inl none ↦ subst (λ (f : Fault). Finds {X = X} Answers seen (Err f)) (sym (told ∙ none)) tt
-        | inr is ↦
-            subst (λ (f : Fault). Finds {X = X} Answers seen (Err f)) (sym (told ∙ is.1))
-            (answers_no_channel events lists is.0 schedule input (record { why = because; unfilled = is.2; refuses = refuses; is_fault = is.1 }))
-      ]
+    pub reports_fault : {Y : Type 0} (view : Y → List Report) (said : Said) (lists given : List (List ℕ)) → ReadsSchedule said → ReadsLists lists
+        → given ≡ lists → AnswersAs (Reports ring B M (layout_of place []) finish said given) view (Err fault) → Finds Answers seen result
+    reports_fault view said lists given schedule input same answers =
+        rw is (at fault (subst (λ (ls : List (List ℕ)). AnswersAs (Reports ring B M (layout_of place []) finish said ls) view (Err fault)) same answers))
+      where
+        at : (f : Fault) → AnswersAs (Reports ring B M (layout_of place []) finish said lists) view (Err f) → Finds {X = X} Answers seen (Err f)
+        at (Refused r) none = answers_unreported said lists r schedule input none
+        at NoMemory answers = tt
+        at ReadFailed answers = absurd answers
+        at WriteFailed answers = absurd answers

@@ -13,10 +13,10 @@ use Rattle.assembler.specs.Faults.{Refusal as AsmRefusal}
 use Rattle.assembler.specs.Program.{IsCode}
 use Rattle.assembler.proofs.OneCode.{refused_without_program}
 use Rattle.assembler.proofs.OneCode as assembler
-use Rattle.recorder.specs.Schedule.{IsPlainOf}
-use Rattle.recorder.specs.Reading.{plain_at}
+use Rattle.recorder.specs.Records.{record_text}
+use Rattle.recorder.specs.Versions.{Said, Says, events_said, said_at}
 use Rattle.texts.proofs.FormatLaws.{settled_only}
-use Rattle.recorder.proofs.HeadLaws.{plain_settles, one_plain}
+use Rattle.recorder.proofs.HeadLaws.{plain_settles, one_said, said_settles}
 use Rattle.litmus.specs.LitmusTests.{LitmusTest}
 use Rattle.litmus.specs.Verdicts.{IsVerdict}
 use Rattle.litmus.specs.declared.verdict.Verdict.{Verdict}
@@ -31,7 +31,7 @@ use Rattle.engine_parts.specs.Engines.{Output, Accepted, AreOneAnswer, judged}
 use Rattle.engine_parts.specs.Faults.{too_large, not_text}
 use Rattle.engine_parts.specs.Tests.{ByTest, IsNoTest, refused_test, test_of}
 use Rattle.engine_parts.specs.Tests as tests
-use Rattle.engine_parts.specs.Schedules.{IsNoSchedule, events_of}
+use Rattle.engine_parts.specs.Schedules.{IsNoSchedule, schedule_of}
 use Rattle.ztso_engines.specs.Asm.{IsAsmAnswer, asm_at, hex_line, refused_program}
 use Rattle.ztso_engines.specs.Scenario.{Scenario, opening_of}
 use Rattle.ztso_engines.specs.StepsText.{Tells}
@@ -40,9 +40,10 @@ use Rattle.engine_parts.specs.StateText.{shown}
 use Rattle.ztso_engines.specs.Steps.{IsStateText, IsStepsAnswer}
 use Rattle.ztso_engines.specs.Dis.{SaysCode, dis_at, instr_line, IsDisAnswer}
 use Rattle.recorder.specs.Outcomes.{entry_line}
-use Rattle.engine_parts.specs.Histories.{ByBoth, IsOfRun}
+use Rattle.engine_parts.specs.Histories.{AnswersEvents, AnswersRun, BySchedule}
 use Rattle.engine_parts.specs.Histories as histories
 use Rattle.ztso_engines.specs.Run.{IsJudged, IsRunAnswer, verdict_line}
+use Rattle.ztso_engines.specs.Move.{IsMoved, IsMoveAnswer}
 use Rattle.ztso_engines.specs.Replay.{IsReplay, IsReplayAnswer}
 use Rattle.debugger.specs.Talks.{IsDebugAnswer, IsTalk}
 use Rattle.tries.specs.Outcomes.{IsTriedOf, IsTryAnswer}
@@ -51,6 +52,7 @@ use Rattle.ztso_engines.proofs.Telling.{text_read, one_told}
 use Rattle.ztso_engines.proofs.CodeTexts.{code_read, one_code}
 use Rattle.tries.proofs.OneText.{one_try, one_verdict}
 use Rattle.debugger.proofs.OneTalk.{one_talk_of}
+use Rattle.engine_parts.proofs.RunLaws.{one_record, one_run as one_run_of}
 use Rattle.engine_parts.proofs.TestTexts.{test_or_none}
 
 pub same_output : (a b : Output) → a.0 ≡ b.0 → a ≡ b
@@ -140,49 +142,96 @@ module _ {A : Type 0} (IsAnswer : LitmusTest → Result A Refusal → Type 0)
 
 -- ---- and by a schedule
 
-pub schedule_or_refusal : (input : List ℕ) (events : List Event) (r : Refusal) → Accepted IsPlainOf input events → IsNoSchedule input r → ⊥
-unfolding events_of
-schedule_or_refusal input events r is refused =
-    let read : judged events_of input ≡ Ok events = judged_text events_of input is.few is.text ∙ (let found = settled_only (IsPlainOf input) (plain_at input) events (plain_settles input) is.value_is in rw found refl) in
+pub said_or_refusal : (input : List ℕ) (said : Said) (r : Refusal) → Accepted Says input said → IsNoSchedule input r → ⊥
+unfolding schedule_of
+said_or_refusal input said r is refused =
+    let found = settled_only (Says input) (said_at input) said (said_settles input) is.value_is in
+    let read : judged schedule_of input ≡ Ok said = judged_text schedule_of input is.few is.text ∙ (rw found refl) in
     absurd cc
 
-module _ {A : Type 0} (IsAnswer : LitmusTest → List Event → A → Type 0) (one : (q : LitmusTest) (events : List Event) (a b : A) → IsAnswer q events a → IsAnswer q events b → a ≡ b) (file schedule : List ℕ) where
-  one_by_both : (a b : Result A Refusal) → ByBoth IsAnswer file schedule a → ByBoth IsAnswer file schedule b → AreOneAnswer a b
-  one_by_both a b (histories.ByBoth.no_test r none) (histories.ByBoth.no_test s other) = one_number file r s none other
-  one_by_both a b (histories.ByBoth.no_test r none) (histories.ByBoth.no_schedule q s is bad) = absurd (test_or_refusal file q r is none)
-  one_by_both a b (histories.ByBoth.no_test r none) (histories.ByBoth.ran q events given is said told) = absurd (test_or_refusal file q r is none)
-  one_by_both a b (histories.ByBoth.no_schedule q r is bad) (histories.ByBoth.no_test s none) = absurd (test_or_refusal file q s is none)
-  one_by_both a b (histories.ByBoth.no_schedule q r is bad) (histories.ByBoth.no_schedule p s also other) = ap (λ (x : Refusal). x.number) (one_refusal (judged events_of schedule) r s bad other)
-  one_by_both a b (histories.ByBoth.no_schedule q r is bad) (histories.ByBoth.ran p events given also said told) = absurd (schedule_or_refusal schedule events r said bad)
-  one_by_both a b (histories.ByBoth.ran q events given is said told) (histories.ByBoth.no_test s none) = absurd (test_or_refusal file q s is none)
-  one_by_both a b (histories.ByBoth.ran q events given is said told) (histories.ByBoth.no_schedule p s also bad) = absurd (schedule_or_refusal schedule events s said bad)
-  one_by_both a b (histories.ByBoth.ran q events given is said told) (histories.ByBoth.ran p others other also says tells) =
-      one q events given other told
-      (subst (λ (x : LitmusTest). IsAnswer x events other) (one_test file p q also.value_is is.value_is)
-      (subst (λ (evs : List Event). IsAnswer p evs other) (one_plain schedule others events says.value_is said.value_is) tells))
+module _ {A : Type 0} (IsAnswer : LitmusTest → Said → Result A Refusal → Type 0)
+    (one : (q : LitmusTest) (said : Said) (a b : Result A Refusal) → IsAnswer q said a → IsAnswer q said b → AreOneAnswer a b) (file schedule : List ℕ) where
+  one_of_both : (q p : LitmusTest) (said other : Said) (a b : Result A Refusal) → Accepted IsTestOf file q → Accepted IsTestOf file p
+      → Accepted Says schedule said → Accepted Says schedule other → IsAnswer q said a → IsAnswer p other b → AreOneAnswer a b
+  one_of_both q p said other a b is also reads says answers tells =
+      one q said a b answers
+      (subst (λ (x : LitmusTest). IsAnswer x said b) (one_test file p q also.value_is is.value_is)
+      (subst (λ (x : Said). IsAnswer p x b) (one_said schedule other said says.value_is reads.value_is) tells))
 
--- ---- `run`, `replay` and `debug`
+  one_by_schedule : (a b : Result A Refusal) → BySchedule IsAnswer file schedule a → BySchedule IsAnswer file schedule b → AreOneAnswer a b
+  one_by_schedule a b (histories.BySchedule.no_test r none) (histories.BySchedule.no_test s other) = one_number file r s none other
+  one_by_schedule a b (histories.BySchedule.no_test r none) (histories.BySchedule.no_schedule q s is bad) = absurd (test_or_refusal file q r is none)
+  one_by_schedule a b (histories.BySchedule.no_test r none) (histories.BySchedule.both q said given is reads told) = absurd (test_or_refusal file q r is none)
+  one_by_schedule a b (histories.BySchedule.no_schedule q r is bad) (histories.BySchedule.no_test s none) = absurd (test_or_refusal file q s is none)
+  one_by_schedule a b (histories.BySchedule.no_schedule q r is bad) (histories.BySchedule.no_schedule p s also other) =
+      ap (λ (x : Refusal). x.number) (one_refusal (judged schedule_of schedule) r s bad other)
+  one_by_schedule a b (histories.BySchedule.no_schedule q r is bad) (histories.BySchedule.both p said given also reads told) =
+      absurd (said_or_refusal schedule said r reads bad)
+  one_by_schedule a b (histories.BySchedule.both q said given is reads told) (histories.BySchedule.no_test s none) = absurd (test_or_refusal file q s is none)
+  one_by_schedule a b (histories.BySchedule.both q said given is reads told) (histories.BySchedule.no_schedule p s also bad) =
+      absurd (said_or_refusal schedule said s reads bad)
+  one_by_schedule a b (histories.BySchedule.both q said given is reads told) (histories.BySchedule.both p others other also says tells) =
+      one_of_both q p said others a b is also reads says told tells
 
-one_judged : (B M : ℕ) (q : LitmusTest) (events : List Event) (a b : List ℕ × Verdict) → IsOfRun B M (IsJudged M) q events a → IsOfRun B M (IsJudged M) q events b → a ≡ b
-one_judged B M q events a b is other =
-    let histories : is.history ≡ other.history = run-one B M (unrun q.opening) events is.history other.history is.ran other.ran in
-    let verdicts : a.1 ≡ b.1 = one_verdict M q is.history a.1 b.1 is.answers.verdict (subst (λ (h : History). IsVerdict M q h b.1) (sym histories) other.answers.verdict) in
-    let texts : a.0 ≡ b.0 = is.answers.is_shown ∙ ap (λ (h : History). shown M h ++ verdict_line a.1) histories ∙ ap (λ (v : Verdict). shown M other.history ++ verdict_line v) verdicts ∙ sym other.answers.is_shown in
+-- ---- `run`, `replay`, `move` and `debug`
+
+-- answers that are the same are one answer
+alike : {A : Type 0} (a b : Result A Refusal) → a ≡ b → AreOneAnswer a b
+alike (Ok a) (Ok b) e = cc
+alike (Ok a) (Err s) e = absurd cc
+alike (Err r) (Ok b) e = absurd cc
+alike (Err r) (Err s) e = ap (λ (x : Refusal). x.number) (let same : r ≡ s = cc in same)
+
+-- what is one of a history is one of a test and a schedule
+module _ {A : Type 0} (B M : ℕ) (IsAnswer : LitmusTest → History → A → Type 0)
+    (one : (q : LitmusTest) (t : History) (a b : A) → IsAnswer q t a → IsAnswer q t b → a ≡ b) where
+  one_of_history : (q : LitmusTest) (said : Said) (a b : Result A Refusal)
+      → AnswersRun B M IsAnswer q said a → AnswersRun B M IsAnswer q said b → AreOneAnswer a b
+  one_of_history q said (Ok a) (Ok b) is other =
+      let histories = one_run_of B M q.opening said (Ok is.history) (Ok other.history) is.ran other.ran in
+      let same : other.history ≡ is.history = cc in
+      one q is.history a b is.answers (subst (λ (t : History). IsAnswer q t b) same other.answers)
+  one_of_history q said (Ok a) (Err s) is differs = alike _ _ (one_run_of B M q.opening said (Ok is.history) (Err s) is.ran differs)
+  one_of_history q said (Err r) (Ok b) differs is = alike _ _ (one_run_of B M q.opening said (Err r) (Ok is.history) differs is.ran)
+  one_of_history q said (Err r) (Err s) differs other = alike _ _ (one_run_of B M q.opening said (Err r) (Err s) differs other)
+
+one_judged : (M : ℕ) (q : LitmusTest) (t : History) (a b : List ℕ × Verdict) → IsJudged M q t a → IsJudged M q t b → a ≡ b
+one_judged M q t a b is other =
+    let verdicts : a.1 ≡ b.1 = one_verdict M q t a.1 b.1 is.verdict other.verdict in
+    let texts : a.0 ≡ b.0 = is.is_shown ∙ ap (λ (v : Verdict). shown M t ++ verdict_line v) verdicts ∙ sym other.is_shown in
     λ i. (texts i, verdicts i)
 
-one_replayed : (B M : ℕ) (q : LitmusTest) (events : List Event) (a b : Output) → IsOfRun B M IsReplay q events a → IsOfRun B M IsReplay q events b → a ≡ b
-one_replayed B M q events a b is other =
-    let histories : is.history ≡ other.history = run-one B M (unrun q.opening) events is.history other.history is.ran other.ran in
-    same_output a b (is.answers ∙ ap (λ (h : History). flat_map entry_line h.entries) histories ∙ sym other.answers)
+one_replayed : (q : LitmusTest) (t : History) (a b : Output) → IsReplay q t a → IsReplay q t b → a ≡ b
+one_replayed q t a b is other = same_output a b (is ∙ sym other)
+
+one_talked : (B M : ℕ) (input : List ℕ) (q : LitmusTest) (said : Said) (a b : Result Output Refusal)
+    → AnswersEvents (IsTalk B M (Some input)) q said a → AnswersEvents (IsTalk B M (Some input)) q said b → AreOneAnswer a b
+one_talked B M input q said (Ok a) (Ok b) is other = one_talk_of B M input q (events_said said) a b is other
+one_talked B M input q said (Ok a) (Err s) is none = absurd none
+one_talked B M input q said (Err r) b none other = absurd none
+
+one_moved : (B M : ℕ) (q : LitmusTest) (said : Said) (a b : Result Output Refusal) → IsMoved B M q said a → IsMoved B M q said b → AreOneAnswer a b
+one_moved B M q said (Ok a) (Ok b) (steps, records, is) (others, also, other) =
+    let records_same = one_record B M q.opening said (Ok steps) (Ok others) records also in
+    let same : steps ≡ others = cc in
+    same_output a b (is ∙ ap record_text same ∙ sym other)
+one_moved B M q said (Ok a) (Err s) (steps, records, is) differs = alike _ _ (one_record B M q.opening said (Ok steps) (Err s) records differs)
+one_moved B M q said (Err r) (Ok b) differs (steps, records, is) = alike _ _ (one_record B M q.opening said (Err r) (Ok steps) differs records)
+one_moved B M q said (Err r) (Err s) differs other = alike _ _ (one_record B M q.opening said (Err r) (Err s) differs other)
 
 pub one_run : (B M : ℕ) (file schedule : List ℕ) (a b : Result (List ℕ × Verdict) Refusal) → IsRunAnswer B M file schedule a → IsRunAnswer B M file schedule b → AreOneAnswer a b
-one_run B M = one_by_both (IsOfRun B M (IsJudged M)) (one_judged B M)
+one_run B M = one_by_schedule (AnswersRun B M (IsJudged M)) (one_of_history B M (IsJudged M) (one_judged M))
 
 pub one_replay : (B M : ℕ) (file schedule : List ℕ) (a b : Result Output Refusal) → IsReplayAnswer B M file schedule a → IsReplayAnswer B M file schedule b → AreOneAnswer a b
-one_replay B M = one_by_both (IsOfRun B M IsReplay) (one_replayed B M)
+one_replay B M = one_by_schedule (AnswersRun B M IsReplay) (one_of_history B M IsReplay one_replayed)
 
-pub one_debug : (B M : ℕ) (input file schedule : List ℕ) (a b : Result Output Refusal) → IsDebugAnswer B M (Some input) file schedule a → IsDebugAnswer B M (Some input) file schedule b → AreOneAnswer a b
-one_debug B M input = one_by_both (IsTalk B M (Some input)) (one_talk_of B M input)
+pub one_move : (B M : ℕ) (file schedule : List ℕ) (a b : Result Output Refusal)
+    → IsMoveAnswer B M file schedule a → IsMoveAnswer B M file schedule b → AreOneAnswer a b
+one_move B M = one_by_schedule (IsMoved B M) (one_moved B M)
+
+pub one_debug : (B M : ℕ) (input file schedule : List ℕ) (a b : Result Output Refusal)
+    → IsDebugAnswer B M (Some input) file schedule a → IsDebugAnswer B M (Some input) file schedule b → AreOneAnswer a b
+one_debug B M input = one_by_schedule (AnswersEvents (IsTalk B M (Some input))) (one_talked B M input)
 
 -- ---- `try`
 

@@ -6,9 +6,9 @@ use Rattle.std.proofs.lemmas.Bool.{cases_lt, cases_eq}
 use Rattle.std.proofs.lemmas.List.{get_or-take, length-take-le}
 use Rattle.step_machine.specs.History.{History, unrun}
 use Rattle.step_machine.specs.Entries.{reported}
-use Rattle.step_machine.specs.declared.events.Event.{Event}
 use Rattle.step_machine.proofs.Running.{run-one}
-use Rattle.poll_close.specs.Layout.{Layout, block_size, opening_at}
+use Rattle.recorder.specs.Versions.{Said, Says, events_said}
+use Rattle.poll_close.specs.Layout.{Layout, block_size}
 use Rattle.poll_close.specs.Laws.{AreWords, Ring, AcceptedAt}
 use Rattle.poll_close.specs.Refusals.{HasRing, HasPlace, FitsAt, IsBeyond, RefusesAt, ZeroAt, ZeroWordAt}
 use Rattle.poll_close.specs.declared.faults.Refused.TheVariants as refused
@@ -19,19 +19,23 @@ use Rattle.engine_parts.specs.declared.fault.Position.{Position}
 use Rattle.engine_parts.specs.declared.fault.Position.TheVariants.{Nowhere, Word}
 use Rattle.engine_parts.specs.declared.fault.Refusal.{Refusal}
 use Rattle.engine_parts.specs.Engines.{Output, Accepted, AreAlike, judged}
-use Rattle.engine_parts.specs.Schedules.{events_of}
+use Rattle.engine_parts.specs.Schedules.{schedule_of}
 use Rattle.engine_parts.proofs.Judging.{accepted_judged}
-use Rattle.recorder.proofs.HeadLaws.{one_plain}
+use Rattle.engine_parts.proofs.RunLaws.{one_run}
+use Rattle.recorder.proofs.HeadLaws.{one_said}
 use Rattle.ztso_engines.specs.Lists.{SaysLists, lists_at}
-use Rattle.ztso_engines.specs.Channels.{HasNoChannel, IsUnfilled, IsChannelAnswer, IsDelivery, IsNoLists, report_line, fault_from}
-use Rattle.ztso_engines.specs.Channels as channels
+use Rattle.ztso_engines.specs.Channels.{HasNoChannel, IsUnfilled, IsChannelAnswer, IsDelivery, IsNoLists, IsUnreported, fault_from, opening_over, report_line}
+use Rattle.ztso_engines.specs.Channels.IsChannelAnswer.{no_schedule, no_lists, unreported, delivered}
 use Rattle.ztso_engines.proofs.ListTexts.{lists_read, one_lists}
-use Rattle.ztso_engines.proofs.OneAnswer.{same_output, one_refusal, schedule_or_refusal}
+use Rattle.ztso_engines.proofs.OneAnswer.{same_output, one_refusal, said_or_refusal}
 
 lists_or_refusal : (input : List ℕ) (lists : List (List ℕ)) (r : Refusal) → Accepted SaysLists input lists → IsNoLists input r → ⊥
 lists_or_refusal input lists r is refused =
     let read : judged lists_at input ≡ Ok lists = accepted_judged lists_at SaysLists input lists (lists_read input lists) is in
     absurd cc
+
+abbrev refused_run : Refusal → Result History Refusal
+refused_run r = Err r
 
 -- ---- the first word that is 0
 
@@ -187,43 +191,63 @@ module _ (ring : Ring) (M : ℕ) (l : Layout) (lists : List (List ℕ)) where
         | inr early ↦ first.plain early ∙ sym (other.plain (λ end. early (same ∙ end)))
       ]
 
-stopped : (ring : Ring) (M : ℕ) (l : Layout) (lists words : List (List ℕ)) (r : Refusal) → words ≡ lists → HasNoChannel ring M l words r → Stops ring M l lists r
-stopped ring M l lists words r same none =
-    subst (λ (ls : List (List ℕ)). Stops ring M l ls r) same (stops ring M l words none.why r none.unfilled none.refuses none.is_fault)
-
 -- ---- the answer
+
+module _ (ring : Ring) (B M : ℕ) (l : Layout) (said : Said) (lists : List (List ℕ)) where
+  stopped : (r : Refusal) → HasNoChannel ring M l lists r → Stops ring M l lists r
+  stopped r none = stops ring M l lists none.why r none.unfilled none.refuses none.is_fault
+
+  abbrev IsReason : Refusal → Type 0
+  IsReason = IsUnreported ring B M l said lists
+
+  -- the lists and the place are judged first, and then a record
+  one_reason : (r s : Refusal) → IsReason r → IsReason s → r ≡ s
+  one_reason r s (inl none) (inl other) = one_stop ring M l lists r s (stopped r none) (stopped s other)
+  one_reason r s (inl none) (inr other) = absurd (no_stop ring M l lists r other.within (stopped r none))
+  one_reason r s (inr other) (inl none) = absurd (no_stop ring M l lists s other.within (stopped s none))
+  one_reason r s (inr first) (inr other) =
+      let same : refused_run r ≡ refused_run s = one_run B M (opening_over ring l lists) said (Err r) (Err s) first.differs other.differs in
+      cc
+
+  no_reason : (finish : Bool) (a : Output) (r : Refusal) → IsDelivery ring B M l finish said lists a → IsReason r → ⊥
+  no_reason finish a r is (inl none) = no_stop ring M l lists r is.is_reported.within (stopped r none)
+  no_reason finish a r is (inr other) =
+      let ran = is.is_reported.ran in
+      let same : Ok ran.0 ≡ refused_run r = one_run B M (opening_over ring l lists) said (Ok ran.0) (Err r) ran.1 other.differs in
+      cc
+
+-- a text has one value
+module _ (P : Said → List (List ℕ) → Type 0) (schedule input : List ℕ) where
+  read_again : (said also : Said) (lists words : List (List ℕ)) → Accepted Says schedule said → Accepted Says schedule also
+      → Accepted SaysLists input lists → Accepted SaysLists input words → P also words → P said lists
+  read_again said also lists words is other tells told p =
+      subst (λ (s : Said). P s lists) (one_said schedule also said other.value_is is.value_is)
+      (subst (λ (ls : List (List ℕ)). P also ls) (one_lists input words lists told.value_is tells.value_is) p)
 
 module _ (ring : Ring) (B M : ℕ) (l : Layout) (finish : Bool) (schedule input : List ℕ) where
   abbrev IsAnswer : Result Output Refusal → Type 0
   IsAnswer = IsChannelAnswer ring B M l finish schedule input
 
   delivered_or_refused : (a : Output) (s : Refusal) → IsAnswer (Ok a) → IsAnswer (Err s) → ⊥
-  delivered_or_refused a s (channels.IsChannelAnswer.delivered events lists given is said tells) (channels.IsChannelAnswer.no_schedule r none) =
-      schedule_or_refusal schedule events s is none
-  delivered_or_refused a s (channels.IsChannelAnswer.delivered events lists given is said tells) (channels.IsChannelAnswer.no_lists others r also none) =
-      lists_or_refusal input lists s said none
-  delivered_or_refused a s (channels.IsChannelAnswer.delivered events lists given is said tells) (channels.IsChannelAnswer.no_channel others words r also says none) =
-      no_stop ring M l lists s tells.within (stopped ring M l lists words s (one_lists input words lists says.value_is said.value_is) none)
+  delivered_or_refused a s (delivered said lists given is reads tells) (no_schedule r none) = said_or_refusal schedule said s is none
+  delivered_or_refused a s (delivered said lists given is reads tells) (no_lists also r other none) =
+      lists_or_refusal input lists s reads none
+  delivered_or_refused a s (delivered said lists given is reads tells) (unreported also words r other says none) =
+      no_reason ring B M l said lists finish a s tells
+      (read_again (λ x ls. IsUnreported ring B M l x ls s) schedule input said also lists words is other reads says none)
 
   one_refused : (r s : Refusal) → IsAnswer (Err r) → IsAnswer (Err s) → r ≡ s
-  one_refused r s (channels.IsChannelAnswer.no_schedule x none) (channels.IsChannelAnswer.no_schedule y other) = one_refusal (judged events_of schedule) r s none other
-  one_refused r s (channels.IsChannelAnswer.no_schedule x none) (channels.IsChannelAnswer.no_lists events y is more) =
-      absurd (schedule_or_refusal schedule events r is none)
-  one_refused r s (channels.IsChannelAnswer.no_schedule x none) (channels.IsChannelAnswer.no_channel events lists y is said more) =
-      absurd (schedule_or_refusal schedule events r is none)
-  one_refused r s (channels.IsChannelAnswer.no_lists events x is more) (channels.IsChannelAnswer.no_schedule y none) =
-      absurd (schedule_or_refusal schedule events s is none)
-  one_refused r s (channels.IsChannelAnswer.no_channel events lists x is said more) (channels.IsChannelAnswer.no_schedule y none) =
-      absurd (schedule_or_refusal schedule events s is none)
-  one_refused r s (channels.IsChannelAnswer.no_lists events x is none) (channels.IsChannelAnswer.no_lists others y also other) =
-      one_refusal (judged lists_at input) r s none other
-  one_refused r s (channels.IsChannelAnswer.no_lists events x is none) (channels.IsChannelAnswer.no_channel others words y also says more) =
-      absurd (lists_or_refusal input words r says none)
-  one_refused r s (channels.IsChannelAnswer.no_channel events lists x is said more) (channels.IsChannelAnswer.no_lists others y also none) =
-      absurd (lists_or_refusal input lists s said none)
-  one_refused r s (channels.IsChannelAnswer.no_channel events lists x is said none) (channels.IsChannelAnswer.no_channel others words y also says other) =
-      one_stop ring M l lists r s (stopped ring M l lists lists r refl none)
-      (stopped ring M l lists words s (one_lists input words lists says.value_is said.value_is) other)
+  one_refused r s (no_schedule x none) (no_schedule y other) = one_refusal (judged schedule_of schedule) r s none other
+  one_refused r s (no_schedule x none) (no_lists said y is more) = absurd (said_or_refusal schedule said r is none)
+  one_refused r s (no_schedule x none) (unreported said lists y is reads more) = absurd (said_or_refusal schedule said r is none)
+  one_refused r s (no_lists said x is more) (no_schedule y none) = absurd (said_or_refusal schedule said s is none)
+  one_refused r s (unreported said lists x is reads more) (no_schedule y none) = absurd (said_or_refusal schedule said s is none)
+  one_refused r s (no_lists said x is none) (no_lists also y other more) = one_refusal (judged lists_at input) r s none more
+  one_refused r s (no_lists said x is none) (unreported also words y other says more) = absurd (lists_or_refusal input words r says none)
+  one_refused r s (unreported said lists x is reads more) (no_lists also y other none) = absurd (lists_or_refusal input lists s reads none)
+  one_refused r s (unreported said lists x is reads none) (unreported also words y other says more) =
+      one_reason ring B M l said lists r s none
+      (read_again (λ t ls. IsUnreported ring B M l t ls s) schedule input said also lists words is other reads says more)
 
   pub alike_channel : (a b : Result Output Refusal) → IsAnswer a → IsAnswer b → AreAlike a b
   alike_channel (Ok a) (Ok b) is other = tt
@@ -235,19 +259,20 @@ module _ (ring : Ring) (B M : ℕ) (l : Layout) (schedule input : List ℕ) wher
   abbrev IsUnfinished : Result Output Refusal → Type 0
   IsUnfinished = IsChannelAnswer ring B M l false schedule input
 
-  one_delivery : (events : List Event) (lists : List (List ℕ)) (a b : Output)
-      → IsDelivery ring B M l false events lists a → IsDelivery ring B M l false events lists b → a ≡ b
-  one_delivery events lists a b is other =
-      let histories : is.delivers.history ≡ other.delivers.history = run-one B M (unrun (opening_at ring.sender ring.receiver lists l)) events
-      is.delivers.history other.delivers.history is.delivers.run other.delivers.run in
+  one_delivery : (said : Said) (lists : List (List ℕ)) (a b : Output)
+      → IsDelivery ring B M l false said lists a → IsDelivery ring B M l false said lists b → a ≡ b
+  one_delivery said lists a b is other =
+      let first = is.is_reported.delivers in
+      let second = other.is_reported.delivers in
+      let histories : first.history ≡ second.history = run-one B M (unrun (opening_over ring l lists)) (events_said said)
+      first.history second.history first.run second.run in
       same_output a b (is.text
-      ∙ ap (flat_map report_line) (is.delivers.answer ∙ ap (λ (h : History). reported 0 h.entries) histories ∙ sym other.delivers.answer) ∙ sym other.text)
+      ∙ ap (flat_map report_line) (first.answer ∙ ap (λ (h : History). reported 0 h.entries) histories ∙ sym second.answer) ∙ sym other.text)
 
   pub one_channel : (a b : Result Output Refusal) → IsUnfinished a → IsUnfinished b → a ≡ b
-  one_channel (Ok a) (Ok b) (channels.IsChannelAnswer.delivered events lists given is said tells) (channels.IsChannelAnswer.delivered others words answer also says other) =
-      ap (λ (out : Output). Ok out) (one_delivery events lists a b tells
-      (subst (λ (evs : List Event). IsDelivery ring B M l false evs lists b) (one_plain schedule others events also.value_is is.value_is)
-      (subst (λ (ls : List (List ℕ)). IsDelivery ring B M l false others ls b) (one_lists input words lists says.value_is said.value_is) other)))
+  one_channel (Ok a) (Ok b) (delivered said lists given is reads tells) (delivered also words other says told more) =
+      ap (λ (out : Output). Ok out) (one_delivery said lists a b tells
+      (read_again (λ t ls. IsDelivery ring B M l false t ls b) schedule input said also lists words is says reads told more))
   one_channel (Ok a) (Err s) is other = absurd (delivered_or_refused ring B M l false schedule input a s is other)
   one_channel (Err r) (Ok b) is other = absurd (delivered_or_refused ring B M l false schedule input b r other is)
   one_channel (Err r) (Err s) is other = ap (λ (x : Refusal). Err x) (one_refused ring B M l false schedule input r s is other)

@@ -1,12 +1,12 @@
 -- The command `channel`: a schedule and the senders' lists in, what the receiver reports out.
-use Rattle.std.specs.Prelude.{ℕ, ◌≡◌, Bool, true, false, List, [], ◌∷◌, ◌++◌, Result, Ok, Err, codes}
+use Rattle.std.specs.Prelude.{ℕ, ◌≡◌, ◌⊎◌, Bool, true, false, List, [], ◌∷◌, ◌++◌, Result, Ok, Err, codes}
 use Rattle.std.specs.Fmt.{decimal}
 use Rattle.std.specs.List.{flat_map}
 use Rattle.hart.specs.declared.need.Report.{Report}
 use Rattle.hart.specs.declared.need.Report.TheVariants as report
 use Rattle.step_machine.specs.declared.events.Event.{Event}
-use Rattle.step_machine.specs.History.{Start}
-use Rattle.recorder.specs.Schedule.{IsPlainOf}
+use Rattle.step_machine.specs.History.{Start, History}
+use Rattle.recorder.specs.Versions.{Said, Says, events_said}
 use Rattle.poll_close.specs.Layout.{Layout, opening_at}
 use Rattle.poll_close.specs.Laws.{Ring, AcceptedAt as IsWithin}
 use Rattle.poll_close.specs.Delivery.{Delivers, DeliversWhole}
@@ -20,6 +20,7 @@ use Rattle.engine_parts.specs.declared.fault.Position.TheVariants as place
 use Rattle.engine_parts.specs.declared.fault.Refusal.{Refusal}
 use Rattle.engine_parts.specs.Engines.{Output, Accepted, judged}
 use Rattle.engine_parts.specs.Schedules.{IsNoSchedule}
+use Rattle.engine_parts.specs.Histories.{Runs}
 use Rattle.ztso_engines.specs.Lists.{SaysLists, lists_at}
 
 -- the line of a report
@@ -33,12 +34,21 @@ abbrev pub Reported : (finish : Bool) → (B M : ℕ) → Start → List (List �
 Reported false B M opening lists events reports = Delivers B M opening lists events reports
 Reported true B M opening lists events reports = DeliversWhole B M opening lists events reports
 
--- The receiver reports this in the run of the events over these lists: lists and a layout within the limits,
--- whose reports are clean, a line each.
-pub record IsDelivery (ring : Ring) (B M : ℕ) (l : Layout) (finish : Bool) (events : List Event) (lists : List (List ℕ)) (answer : Output) : Type 0 where
+-- the opening over these lists
+abbrev pub opening_over : Ring → Layout → List (List ℕ) → Start
+opening_over ring l lists = opening_at ring.sender ring.receiver lists l
+
+-- The receiver reports this in the run of what the schedule says over these lists: lists and a layout within
+-- the limits, whose reports are clean. A record's outcomes are the run's.
+pub record IsReported (ring : Ring) (B M : ℕ) (l : Layout) (finish : Bool) (said : Said) (lists : List (List ℕ)) (reports : List Report) : Type 0 where
   pub within : IsWithin ring M lists l
+  pub ran : (history : History) × Runs B M (opening_over ring l lists) said (Ok history)
+  pub delivers : Reported finish B M (opening_over ring l lists) lists (events_said said) reports
+
+-- the same, with the reports a line each
+pub record IsDelivery (ring : Ring) (B M : ℕ) (l : Layout) (finish : Bool) (said : Said) (lists : List (List ℕ)) (answer : Output) : Type 0 where
   pub reports : List Report
-  pub delivers : Reported finish B M (opening_at ring.sender ring.receiver lists l) lists events reports
+  pub is_reported : IsReported ring B M l finish said lists reports
   pub text : answer.0 ≡ flat_map report_line reports
 
 -- why there is no channel, as a fault; a word that is 0 has its place
@@ -59,16 +69,26 @@ pub record HasNoChannel (ring : Ring) (M : ℕ) (l : Layout) (lists : List (List
   pub refuses : RefusesAt ring M lists l why
   pub is_fault : fault_from why ≡ fault.Refused refusal
 
+-- There is a channel over these lists, and a record is refused at the first event whose outcome isn't the run's.
+pub record IsOtherRun (ring : Ring) (B M : ℕ) (l : Layout) (said : Said) (lists : List (List ℕ)) (refusal : Refusal) : Type 0 where
+  pub within : IsWithin ring M lists l
+  pub differs : Runs B M (opening_over ring l lists) said (Err refusal)
+
+-- why nothing is reported
+abbrev pub IsUnreported : (ring : Ring) (B M : ℕ) (l : Layout) (said : Said) (lists : List (List ℕ)) → Refusal → Type 0
+IsUnreported ring B M l said lists refusal = HasNoChannel ring M l lists refusal ⊎ IsOtherRun ring B M l said lists refusal
+
 -- The input says no lists, for this reason.
 abbrev pub IsNoLists : List ℕ → Refusal → Type 0
 IsNoLists input refusal = judged lists_at input ≡ Err refusal
 
--- What answers a schedule and lists. The schedule is judged first, then the text of lists, then the lists and the place.
+-- What answers a schedule of either version and lists. The schedule is judged first, then the text of lists,
+-- then the lists and the place, and then a record.
 pub data IsChannelAnswer (ring : Ring) (B M : ℕ) (l : Layout) (finish : Bool) (schedule input : List ℕ) : Result Output Refusal → Type 0 where
   no_schedule : (refusal : Refusal) → IsNoSchedule schedule refusal → IsChannelAnswer ring B M l finish schedule input (Err refusal)
-  no_lists : (events : List Event) (refusal : Refusal) → Accepted IsPlainOf schedule events → IsNoLists input refusal
+  no_lists : (said : Said) (refusal : Refusal) → Accepted Says schedule said → IsNoLists input refusal
       → IsChannelAnswer ring B M l finish schedule input (Err refusal)
-  no_channel : (events : List Event) (lists : List (List ℕ)) (refusal : Refusal) → Accepted IsPlainOf schedule events → Accepted SaysLists input lists
-      → HasNoChannel ring M l lists refusal → IsChannelAnswer ring B M l finish schedule input (Err refusal)
-  delivered : (events : List Event) (lists : List (List ℕ)) (answer : Output) → Accepted IsPlainOf schedule events → Accepted SaysLists input lists
-      → IsDelivery ring B M l finish events lists answer → IsChannelAnswer ring B M l finish schedule input (Ok answer)
+  unreported : (said : Said) (lists : List (List ℕ)) (refusal : Refusal) → Accepted Says schedule said → Accepted SaysLists input lists
+      → IsUnreported ring B M l said lists refusal → IsChannelAnswer ring B M l finish schedule input (Err refusal)
+  delivered : (said : Said) (lists : List (List ℕ)) (answer : Output) → Accepted Says schedule said → Accepted SaysLists input lists
+      → IsDelivery ring B M l finish said lists answer → IsChannelAnswer ring B M l finish schedule input (Ok answer)

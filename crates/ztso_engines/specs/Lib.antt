@@ -7,6 +7,7 @@ pub mod Asm
 pub mod Dis
 pub mod Run
 pub mod Replay
+pub mod Move
 pub mod inner
 pub mod Lists
 pub mod Channels

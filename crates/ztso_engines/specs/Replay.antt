@@ -12,6 +12,7 @@ use Rattle.engine_parts.specs.Engines.{Output}
 abbrev pub IsReplay : LitmusTest → History → (answer : Output) → Type 0
 IsReplay question history answer = answer.0 ≡ flat_map entry_line history.entries
 
--- what answers a litmus text and a schedule
+-- What answers a litmus text and a schedule of either version. A record is refused at the first event whose
+-- outcome isn't the run's.
 abbrev pub IsReplayAnswer : (B M : ℕ) → (file schedule : List ℕ) → Result Output Refusal → Type 0
 IsReplayAnswer B M = ByRun B M IsReplay

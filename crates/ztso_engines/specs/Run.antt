@@ -19,6 +19,7 @@ pub record IsJudged (M : ℕ) (question : LitmusTest) (history : History) (answe
   pub verdict : IsVerdict M question history answer.1
   pub is_shown : answer.0 ≡ shown M history ++ verdict_line answer.1
 
--- what answers a litmus text and a schedule
+-- What answers a litmus text and a schedule of either version. A record is refused at the first event whose
+-- outcome isn't the run's.
 abbrev pub IsRunAnswer : (B M : ℕ) → (file schedule : List ℕ) → Result (List ℕ × Verdict) Refusal → Type 0
 IsRunAnswer B M = ByRun B M (IsJudged M)

@@ -1,2 +1,3 @@
 -- What serves the proofs alone, where a private contract names it.
 pub mod Inputs
+pub mod Reporting

@@ -4,24 +4,32 @@ ghost use Rattle.std.specs.Prelude.{◌≡◌, ◌≤◌, ◌++◌, [], IfErr, I
 ghost use Rattle.std.specs.List.{flat_map};
 ghost use Rattle.std.specs.String.{string_bytes};
 ghost use Rattle.engine_parts.specs.Engines.{AnswersBoth, EndsByBoth};
+ghost use Rattle.engine_parts.specs.Faults.{AnswersAs};
 ghost use Rattle.poll_close.specs.Layout.{opening_at};
 ghost use Rattle.poll_close.specs.Laws.{AcceptedAt};
 ghost use Rattle.poll_close.specs.Places.{layout_of};
 ghost use Rattle.poll_close.specs.Refusals.{RefusesAt};
+ghost use Rattle.recorder.specs.Versions.{said_of};
+ghost use Rattle.recorder.specs.Versions.Said.{recorded};
 ghost use Rattle.ztso_engines.specs.Channels.{report_line, fault_from, Reported, IsChannelAnswer};
 ghost use Rattle.engine_parts.specs.Schedules.{HasNoSchedule};
 ghost use Rattle.engine_parts.specs.inner.Making.{Finds, text_and_value};
+ghost use Rattle.ztso_engines.specs.inner.Reporting.{Checks, Reports};
 
 use crate::lists::read_lists;
 use engine_parts::fault::{Fault, Position};
 use engine_parts::output::end_with;
-use engine_parts::schedule::read_events;
+use engine_parts::running::check_fault;
+use engine_parts::schedule::read_schedule;
 use hart::need::Report;
 use poll_close::plans::Finish;
-use poll_close::{Place, Refused, RefusedAt, deliver_at, deliver_whole_at};
+use poll_close::{
+    Place, Refused, RefusedAt, RingKind, deliver_at, deliver_whole_at, laws_of_channels, opening_at,
+};
+use recorder::{Schedule, replay_checked};
 use std::alloc::{AllocError, Global};
 use std::io::{Read, Write};
-use step_machine::Event;
+use step_machine::{Event, Outcome};
 
 /// Why there is no channel, as a fault.
 fn channel_fault(why: RefusedAt) -> Fault
@@ -59,7 +67,7 @@ fn reports_text(alloc: Global, reports: &[Report]) -> Result<String, AllocError>
 
 /// What the receiver reports when these events run, and then a plan if the channel is to be finished. All
 /// memory opens as 0.
-fn reports_of<K: Finish<B, M>, const B: usize, const M: usize>(
+fn reports_of_events<K: Finish<B, M>, const B: usize, const M: usize>(
     alloc: Global,
     place: Place,
     finish: bool,
@@ -81,6 +89,74 @@ fn reports_of<K: Finish<B, M>, const B: usize, const M: usize>(
     }
 }
 
+/// Runs a record from the opening over these lists. It is refused at the first event whose outcome isn't
+/// the run's.
+fn check_record<K: RingKind, const B: usize, const M: usize>(
+    alloc: Global,
+    place: Place,
+    lists: &[Vec<u32>],
+    steps: &[(Event, Outcome)],
+) -> Result<(), Fault>
+    requires some_capacity { 1 ≤ B }
+    requires capacity { B ≤ 64 }
+    requires some_word { 1 ≤ M }
+    requires size { M ≤ 65536 }
+    ensures { AnswersAs (Checks K.ring B M (layout_of place []) (recorded steps.now) (map (λ v. v.items) lists.now)) (λ x. x) result }
+{
+    laws_of_channels::<K>();
+    let opening = match opening_at::<K>(alloc, lists, place, &[], M) {
+        Ok(opening) => opening,
+        Err(why) => return Err(channel_fault(why)),
+    };
+    match replay_checked::<B, M>(alloc, opening, steps) {
+        Ok(_) => Ok(()),
+        Err(error) => Err(check_fault(error)),
+    }
+}
+
+/// Runs a schedule from the opening over these lists if it is a record, as [`check_record`]. There is nothing
+/// to check of events alone.
+fn check<K: RingKind, const B: usize, const M: usize>(
+    alloc: Global,
+    place: Place,
+    lists: &[Vec<u32>],
+    said: &Schedule,
+) -> Result<(), Fault>
+    requires some_capacity { 1 ≤ B }
+    requires capacity { B ≤ 64 }
+    requires some_word { 1 ≤ M }
+    requires size { M ≤ 65536 }
+    ensures { AnswersAs (Checks K.ring B M (layout_of place []) (said_of said.now) (map (λ v. v.items) lists.now)) (λ x. x) result }
+{
+    match said {
+        Schedule::Plain(_) => Ok(()),
+        Schedule::Record(steps) => check_record::<K, B, M>(alloc, place, lists, steps),
+    }
+}
+
+/// What the receiver reports when a schedule runs, and then a plan if the channel is to be finished. A
+/// record is checked first.
+fn reports_of<K: Finish<B, M>, const B: usize, const M: usize>(
+    alloc: Global,
+    place: Place,
+    finish: bool,
+    lists: &[Vec<u32>],
+    said: Schedule,
+) -> Result<Vec<Report>, Fault>
+    requires some_capacity { 1 ≤ B }
+    requires capacity { B ≤ 64 }
+    requires some_word { 1 ≤ M }
+    requires size { M ≤ 65536 }
+    ensures { AnswersAs (Reports K.RingKind.ring B M (layout_of place []) finish (said_of said) (map (λ v. v.items) lists.now)) (λ r. r.items) result }
+{
+    check::<K, B, M>(alloc, place, lists, &said)?;
+    let events = said.into_events(alloc)?;
+    match reports_of_events::<K, B, M>(alloc, place, finish, lists, &events) {
+        Ok(reports) => Ok(reports),
+        Err(why) => Err(channel_fault(why)),
+    }
+}
+
 /// What is to be written for the inputs that the readers give.
 fn made<K: Finish<B, M>, const B: usize, const M: usize, S: Read, L: Read>(
     alloc: Global,
@@ -96,18 +172,15 @@ fn made<K: Finish<B, M>, const B: usize, const M: usize, S: Read, L: Read>(
     ensures made { Finds (AnswersBoth (IsChannelAnswer K.RingKind.ring B M (layout_of place []) finish) (S.remaining schedule.old) (L.remaining input.old)) text_and_value result }
     ensures unread { HasNoSchedule (S.remaining schedule.old) → input.new ≡ input.old }
 {
-    let events = read_events(alloc, schedule)?;
+    let said = read_schedule(alloc, schedule)?;
     let lists = read_lists(alloc, input)?;
-    let reports = match reports_of::<K, B, M>(alloc, place, finish, &lists, &events) {
-        Ok(reports) => reports,
-        Err(why) => return Err(channel_fault(why)),
-    };
+    let reports = reports_of::<K, B, M>(alloc, place, finish, &lists, said)?;
     let text = reports_text(alloc, &reports)?;
     Ok((text, ()))
 }
 
-/// Reads a schedule and then the senders' lists, each to its end: a line of words in decimal, parted by
-/// spaces, for each sender. Runs the schedule's events from the opening of a channel of kind `K` with
+/// Reads a schedule of either version and then the senders' lists, each to its end: a line of words in
+/// decimal, parted by spaces, for each sender. Runs the schedule's events from the opening of a channel of kind `K` with
 /// these lists at a place, with store buffers of `B` pairs and `M` words of memory that open as 0, and writes
 /// what the receiver reports, `took I W` or `closed I` on a line each. Whatever the schedule is, these
 /// reports are clean.
@@ -119,7 +192,8 @@ fn made<K: Finish<B, M>, const B: usize, const M: usize, S: Read, L: Read>(
 /// An input of lists is refused as too large ([`engine_parts::fault::TOO_LARGE`]), as no text
 /// ([`engine_parts::fault::NOT_TEXT`]), else at its first line that holds anything but such words
 /// ([`engine_parts::fault::BAD_LINE`]). Lists are refused by the numbers of [`poll_close::RefusedAt`], but never for a
-/// filled block. Then nothing was written.
+/// filled block. At last a schedule of version 2 is refused by [`engine_parts::fault::DIFFERS`] at the first
+/// event whose outcome isn't the run's. Then nothing was written.
 pub fn channel_engine<K: Finish<B, M>, const B: usize, const M: usize, S: Read, L: Read, W: Write>(
     alloc: Global,
     place: Place,

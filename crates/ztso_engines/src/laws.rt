@@ -17,6 +17,7 @@ ghost use Rattle.ztso_engines.specs.Dis.{SaysCode, dis_at, IsDisAnswer};
 ghost use Rattle.ztso_engines.specs.Lists.{SaysLists, lists_at};
 ghost use Rattle.ztso_engines.specs.Run.{IsRunAnswer};
 ghost use Rattle.ztso_engines.specs.Replay.{IsReplayAnswer};
+ghost use Rattle.ztso_engines.specs.Move.{IsMoveAnswer};
 ghost use Rattle.debugger.specs.Talks.{IsDebugAnswer};
 ghost use Rattle.tries.specs.Outcomes.{IsTryAnswer};
 ghost use Rattle.ztso_engines.specs.Channels.{IsChannelAnswer};
@@ -57,6 +58,7 @@ pub fn one_answer()
     ensures dis { (input : List ℕ) (a b : Result Output Refusal) → IsDisAnswer input a → IsDisAnswer input b → a ≡ b }
     ensures run { (B M : ℕ) (file schedule : List ℕ) (a b : Result (List ℕ × Verdict) Refusal) → IsRunAnswer B M file schedule a → IsRunAnswer B M file schedule b → AreOneAnswer a b }
     ensures replay { (B M : ℕ) (file schedule : List ℕ) (a b : Result Output Refusal) → IsReplayAnswer B M file schedule a → IsReplayAnswer B M file schedule b → AreOneAnswer a b }
+    ensures moved { (B M : ℕ) (file schedule : List ℕ) (a b : Result Output Refusal) → IsMoveAnswer B M file schedule a → IsMoveAnswer B M file schedule b → AreOneAnswer a b }
     ensures debug { (B M : ℕ) (input file schedule : List ℕ) (a b : Result Output Refusal) → IsDebugAnswer B M (Some input) file schedule a → IsDebugAnswer B M (Some input) file schedule b → AreOneAnswer a b }
     ensures trials { (B M : ℕ) (stream : Stream) (runs size : ℕ) (file : List ℕ) (a b : Result (List ℕ × Bool) Refusal) → IsTryAnswer B M stream runs size file a → IsTryAnswer B M stream runs size file b → AreOneAnswer a b }
     ensures channel { (ring : Ring) (B M : ℕ) (l : Layout) (schedule input : List ℕ) (a b : Result Output Refusal) → IsChannelAnswer ring B M l false schedule input a → IsChannelAnswer ring B M l false schedule input b → a ≡ b }

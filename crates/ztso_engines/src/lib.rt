@@ -12,6 +12,7 @@ mod code;
 pub mod dis;
 pub mod laws;
 mod lists;
+pub mod moving;
 pub mod replay;
 pub mod run;
 pub mod steps;

@@ -47,12 +47,12 @@ fn made<const B: usize, const M: usize, F: Read, S: Read>(
     Ok((text, ()))
 }
 
-/// Reads a litmus text and then a schedule, each to its end, runs the schedule from the test's opening
-/// with store buffers of `B` pairs and `M` words of memory, and writes each entry of the history on a
-/// line. Events that did nothing have no line.
+/// Reads a litmus text and then a schedule of either version, each to its end, runs the schedule from the
+/// test's opening with store buffers of `B` pairs and `M` words of memory, and writes each entry of the
+/// history on a line. Events that did nothing have no line.
 ///
-/// Inputs are refused as [`crate::run::run_engine`] refuses them, and then nothing was written. A
-/// schedule behind a refused litmus text is not read.
+/// Inputs are refused as [`crate::run::run_engine`] refuses them, and then nothing was written. After a
+/// refused litmus text the schedule is not read.
 pub fn replay_engine<const B: usize, const M: usize, F: Read, S: Read, W: Write>(
     alloc: Global,
     file: &mut F,

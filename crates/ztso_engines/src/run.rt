@@ -62,14 +62,16 @@ fn made<const B: usize, const M: usize, F: Read, S: Read>(
     Ok(told)
 }
 
-/// Reads a litmus text and then a schedule, each to its end, runs the schedule from the test's opening
-/// with store buffers of `B` pairs and `M` words of memory, writes the state text and the verdict on a
-/// line, and answers the verdict.
+/// Reads a litmus text and then a schedule of either version, each to its end, runs the schedule from the
+/// test's opening with store buffers of `B` pairs and `M` words of memory, writes the state text and the
+/// verdict on a line, and answers the verdict.
 ///
 /// Each input is refused as too large ([`engine_parts::fault::TOO_LARGE`]), else as no text
 /// ([`engine_parts::fault::NOT_TEXT`]), else as [`litmus_reader::read`] says, at the line, or as
-/// [`recorder::read_schedule`] says, at the byte; then nothing was written. A schedule behind a refused
-/// litmus text is not read. A memory of 1,024 words has room for each test's locations.
+/// [`recorder::read_either`] says, at the byte. A schedule of version 2 is refused last, by
+/// [`engine_parts::fault::DIFFERS`] at the first event whose outcome isn't the run's. Then nothing was
+/// written. After a refused litmus text the schedule is not read. A memory of 1,024 words has room for each
+/// test's locations.
 pub fn run_engine<const B: usize, const M: usize, F: Read, S: Read, W: Write>(
     alloc: Global,
     file: &mut F,

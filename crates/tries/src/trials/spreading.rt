@@ -1,4 +1,4 @@
-//! The runs of a test spread over jobs, each in a thread of its own.
+//! The runs of a test in rounds, each spread over jobs, and each job in a thread of its own.
 
 ghost use Rattle.std.specs.Prelude.{◌≡◌, ◌≤◌, ◌<◌, ◌+◌, ℕ, List, slice_index_or, IfOk, vec_len};
 ghost use Rattle.tries.specs.inner.Merging.{first_of, IsTallyFrom};
@@ -6,6 +6,7 @@ ghost use Rattle.tries.specs.Trials.{Trial, AreTrials};
 ghost use Rattle.tries.specs.inner.Tallies.{IsTallyOf};
 ghost use Rattle.litmus.specs.declared.litmus_test.TheConstants.{MAX_LOCATIONS};
 
+use crate::progress::Progress;
 use crate::trials::drawing::tally_of;
 use crate::trials::tally::Tally;
 use jumping::Jump;
@@ -80,7 +81,7 @@ fn tallies_of<const B: usize, const M: usize, G: Jump + Sync + Drop, T: Threads 
 /// The tally of so many runs, each by `length` events, spread over `jobs` threads; no job is one. What is
 /// tallied doesn't depend on the jobs. A machine, a schedule and a tally of each job take memory, however
 /// many the runs are.
-pub fn tally_by_jobs<const B: usize, const M: usize, G: Jump + Sync + Drop, T: Threads + Sync>(
+fn tally_by_jobs<const B: usize, const M: usize, G: Jump + Sync + Drop, T: Threads + Sync>(
     rt: &T,
     alloc: Global,
     test: &Test,
@@ -100,6 +101,43 @@ pub fn tally_by_jobs<const B: usize, const M: usize, G: Jump + Sync + Drop, T: T
     let mut whole = Tally::new(alloc);
     for tally in tallies {
         whole.take_in(tally?)?;
+    }
+    Ok(whole)
+}
+
+/// The tally of so many runs, made in rounds of as many runs as the progress wants, which gets a report
+/// after each. What is tallied depends neither on the rounds nor on the jobs.
+pub fn tally_in_rounds<
+    const B: usize,
+    const M: usize,
+    G: Jump + Sync + Drop,
+    T: Threads + Sync,
+    P: Progress,
+>(
+    rt: &T,
+    alloc: Global,
+    test: &Test,
+    generator: &G,
+    runs: u32,
+    length: u32,
+    jobs: u32,
+    progress: &mut P,
+) -> Result<Tally, AllocError>
+    requires some_capacity { 1 ≤ B }
+    requires capacity { B ≤ 64 }
+    requires words { MAX_LOCATIONS ≤ M }
+    requires size { M ≤ 65536 }
+    ensures { IfOk result (λ tally. (trials : List Trial) × AreTrials B M test.now (G.Rng.stream generator.now) runs length trials × IsTallyOf trials tally) }
+{
+    let mut whole = Tally::new(alloc);
+    let mut done = 0;
+    while done < runs {
+        let round = progress.next_round(runs - done).clamp(1, runs - done);
+        let there = generator.ahead(u64::from(done), length)?;
+        let tally = tally_by_jobs::<B, M, G, T>(rt, alloc, test, &there, round, length, jobs)?;
+        whole.take_in(tally)?;
+        done += round;
+        progress.report(done, runs, whole.rows.len());
     }
     Ok(whole)
 }

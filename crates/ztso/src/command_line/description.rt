@@ -3,7 +3,7 @@
 ghost use Rattle.std.specs.Prelude.{◌≡◌, ◌∷◌, [], false, IfOk, codes};
 ghost use Rattle.clap.specs.Words.{app_of, rule_of};
 ghost use Rattle.clap.specs.declared.builder.command.Command.TheViews.{out-Command as fields_of};
-ghost use Rattle.ztso.specs.Descriptions.{asm_command, buffer_option, channel_command, dis_command, flag, option_or, option_wanted, schedule_command, steps_command, threads_command, try_command, with_commands, word_wanted, ztso_command};
+ghost use Rattle.ztso.specs.Descriptions.{asm_command, buffer_option, channel_command, dis_command, flag, option_or, option_said, option_wanted, schedule_command, steps_command, threads_command, try_command, with_commands, word_wanted, ztso_command};
 
 use clap::{Arg, ArgAction, Command};
 use std::alloc::{AllocError, Global};
@@ -17,6 +17,14 @@ fn option_or<'a>(alloc: Global, name: &'a str, value: &'a str) -> Arg<'a>
         .long(name)
         .action(ArgAction::Set)
         .default_value(value)
+}
+
+/// `--name` with a value, which may be left out.
+fn option_said<'a>(alloc: Global, name: &'a str) -> Arg<'a>
+    ensures rule { rule_of result ≡ option_said name.entry.now }
+    ensures local { result.global ≡ false }
+{
+    Arg::new(alloc, name).long(name).action(ArgAction::Set)
 }
 
 fn buffer_option<'a>(alloc: Global) -> Arg<'a>
@@ -90,7 +98,9 @@ fn channel_command<'a>(alloc: Global) -> Result<Command<'a>, AllocError>
     let with_kind = Command::new(alloc, "channel").arg(word_wanted(alloc, "kind"))?;
     let with_ring = with_kind.arg(word_wanted(alloc, "ring"))?;
     let with_schedule = with_ring.arg(word_wanted(alloc, "schedule"))?;
-    let with_finish = with_schedule.arg(flag(alloc, "finish"))?;
+    let with_base = with_schedule.arg(option_or(alloc, "base", "0"))?;
+    let with_stride = with_base.arg(option_said(alloc, "stride"))?;
+    let with_finish = with_stride.arg(flag(alloc, "finish"))?;
     with_finish.arg(buffer_option(alloc))
 }
 
@@ -115,19 +125,23 @@ fn with_input_commands<'a>(alloc: Global, command: Command<'a>) -> Result<Comman
     with_asm.subcommand(dis)
 }
 
-/// The command with those on a litmus text and a schedule: `run`, `replay` and `debug`.
+/// The command with those on a litmus text and a schedule: `run`, `replay`, `move`, `shrink` and `debug`.
 fn with_schedule_commands<'a>(
     alloc: Global,
     command: Command<'a>,
 ) -> Result<Command<'a>, AllocError>
-    ensures { IfOk result (λ whole. app_of whole ≡ with_commands (app_of command.entry) (schedule_command (codes "run") ∷ schedule_command (codes "replay") ∷ schedule_command (codes "debug") ∷ [])) }
+    ensures { IfOk result (λ whole. app_of whole ≡ with_commands (app_of command.entry) (schedule_command (codes "run") ∷ schedule_command (codes "replay") ∷ schedule_command (codes "move") ∷ schedule_command (codes "shrink") ∷ schedule_command (codes "debug") ∷ [])) }
 {
     let run = schedule_command(alloc, "run")?;
     let with_run = command.subcommand(run)?;
     let replay = schedule_command(alloc, "replay")?;
     let with_replay = with_run.subcommand(replay)?;
+    let moving = schedule_command(alloc, "move")?;
+    let with_move = with_replay.subcommand(moving)?;
+    let shrink = schedule_command(alloc, "shrink")?;
+    let with_shrink = with_move.subcommand(shrink)?;
     let debug = schedule_command(alloc, "debug")?;
-    with_replay.subcommand(debug)
+    with_shrink.subcommand(debug)
 }
 
 /// The command with those that have options of their own: `try`, `channel` and `threads`.

@@ -18,6 +18,9 @@ returns-clause-run c = one.one_run
 pub returns-clause-replay : goal.returns-clause-replay
 returns-clause-replay c = one.one_replay
 
+pub returns-clause-moved : goal.returns-clause-moved
+returns-clause-moved c = one.one_move
+
 pub returns-clause-debug : goal.returns-clause-debug
 returns-clause-debug c = one.one_debug
 

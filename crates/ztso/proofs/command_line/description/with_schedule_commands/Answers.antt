@@ -8,4 +8,8 @@ returns c =
     let top : App → Shape = λ app. app.top in
     let with_run = c.in_ok-with_run.ensures.shape c.in_ok-run.ensures.local ∙ ap (with_subcommand (app_of c.args.command)) (ap top c.in_ok-run.ensures.shape) in
     let with_replay = c.in_ok-with_replay.ensures.shape c.in_ok-replay.ensures.local ∙ ap₂ with_subcommand with_run (ap top c.in_ok-replay.ensures.shape) in
-    IfOk-weaker c.subcommand-3.result _ _ (λ command added. added.shape c.in_ok-debug.ensures.local ∙ ap₂ with_subcommand with_replay (ap top c.in_ok-debug.ensures.shape)) c.subcommand-3.ensures
+    let with_move = c.in_ok-with_move.ensures.shape c.in_ok-moving.ensures.local ∙ ap₂ with_subcommand with_replay (ap top c.in_ok-moving.ensures.shape) in
+    let with_shrink = c.in_ok-with_shrink.ensures.shape c.in_ok-shrink.ensures.local ∙ ap₂ with_subcommand with_move (ap top c.in_ok-shrink.ensures.shape) in
+    IfOk-weaker c.subcommand-5.result _ _
+    (λ command added. added.shape c.in_ok-debug.ensures.local ∙ ap₂ with_subcommand with_shrink (ap top c.in_ok-debug.ensures.shape))
+    c.subcommand-5.ensures

@@ -9,5 +9,8 @@ pub returns : goal.returns
 returns c =
     let adding : List App → App → App = λ commands app. with_commands app commands in
     let on_input = c.in_ok-on_input.ensures ∙ ap (adding (steps_command ∷ asm_command ∷ dis_command ∷ [])) c.new.ensures.app in
-    let on_schedules = c.in_ok-on_schedules.ensures ∙ ap (adding (schedule_command (codes "run") ∷ schedule_command (codes "replay") ∷ schedule_command (codes "debug") ∷ [])) on_input in
-    IfOk-weaker c.with_option_commands.result _ _ (λ command added. added ∙ ap (adding (try_command ∷ channel_command ∷ threads_command ∷ [])) on_schedules) c.with_option_commands.ensures
+    let schedule_commands : List App = schedule_command (codes "run") ∷ schedule_command (codes "replay") ∷ schedule_command (codes "move")
+    ∷ schedule_command (codes "shrink") ∷ schedule_command (codes "debug") ∷ [] in
+    let on_schedules = c.in_ok-on_schedules.ensures ∙ ap (adding schedule_commands) on_input in
+    IfOk-weaker c.with_option_commands.result _ _
+    (λ command added. added ∙ ap (adding (try_command ∷ channel_command ∷ threads_command ∷ [])) on_schedules) c.with_option_commands.ensures

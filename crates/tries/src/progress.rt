@@ -1,0 +1,42 @@
+//! How far the runs of a test are, for whoever waits for them.
+
+ghost use Rattle.std.specs.Prelude.{◌≡◌, None};
+
+/// What is reported of runs while they are made. They come in rounds, with a report after each.
+///
+/// What the runs show depends on none of it.
+pub trait Progress {
+    /// How many of the runs that are left are made before the next report. Any answer is taken: a round has
+    /// at least one run, and at most those that are left.
+    fn next_round(&mut self, left: u32) -> u32;
+
+    /// `done` of all `runs` are made, and showed this many outcomes.
+    fn report(&mut self, done: u32, runs: u32, outcomes: usize);
+
+    /// No report follows: all runs are made, or memory ran out.
+    fn end(&mut self);
+}
+
+/// With `None` all runs are one round, and nobody gets the report.
+impl<P: Progress> Progress for Option<P> {
+    fn next_round(&mut self, left: u32) -> u32
+        ensures whole { self.old ≡ None → result ≡ left }
+    {
+        match self {
+            Some(progress) => progress.next_round(left),
+            None => left,
+        }
+    }
+
+    fn report(&mut self, done: u32, runs: u32, outcomes: usize) {
+        if let Some(progress) = self {
+            progress.report(done, runs, outcomes);
+        }
+    }
+
+    fn end(&mut self) {
+        if let Some(progress) = self {
+            progress.end();
+        }
+    }
+}

@@ -1,0 +1,3 @@
+pub mod PartLimits
+pub mod ShrinkLaws
+pub mod OneRefusal

@@ -1,0 +1,17 @@
+//! Laws of what the command answers.
+
+ghost use Rattle.std.specs.Prelude.{ℕ, List, Result};
+ghost use Rattle.litmus.specs.LitmusTests.{LitmusTest};
+ghost use Rattle.recorder.specs.Versions.{Said};
+ghost use Rattle.engine_parts.specs.declared.fault.Refusal.{Refusal};
+ghost use Rattle.engine_parts.specs.Engines.{Output, AreAlike};
+ghost use Rattle.views.specs.Shrink.{AreOfOneKind, IsShrink, IsShrinkAnswer};
+
+/// Two answers to one input are both schedules, or refusals of one number: a run is refused exactly where
+/// its record differs or where it isn't finished. Which of the schedules from which nothing can be left out
+/// is written, isn't said. Of a test and a schedule that are read the refusal is one with its place; of a
+/// refused litmus text it isn't said on which line its first fault stands. It does nothing.
+pub fn shrinks_alike()
+    ensures run { (B M : ℕ) (question : LitmusTest) (said : Said) (a b : Result Output Refusal) → IsShrink B M question said a → IsShrink B M question said b → AreAlike a b }
+    ensures inputs { (B M : ℕ) (file schedule : List ℕ) (a b : Result Output Refusal) → IsShrinkAnswer B M file schedule a → IsShrinkAnswer B M file schedule b → AreOfOneKind a b }
+{}

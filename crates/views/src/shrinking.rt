@@ -1,0 +1,105 @@
+//! The command `shrink`: a litmus text and a schedule in, a schedule with the same outcome out, from which
+//! nothing can be left out.
+
+ghost use Rattle.std.specs.Prelude.{◌≡◌, ◌≤◌, length};
+ghost use Rattle.recorder.specs.Schedule.{OfHarts};
+ghost use Rattle.recorder.specs.Versions.{events_said, said_of};
+ghost use Rattle.recorder.specs.declared.reading.TheConstants.{MAX_EVENTS};
+ghost use Rattle.engine_parts.specs.Engines.{AnswersBoth, EndsByBoth};
+ghost use Rattle.engine_parts.specs.Faults.{AnswersAs};
+ghost use Rattle.engine_parts.specs.Tests.{HasNoTest};
+ghost use Rattle.engine_parts.specs.inner.Making.{Finds, text_and_value};
+ghost use Rattle.views.specs.Shrink.{IsShrink, IsShrinkAnswer, fault_of_shrink};
+ghost use Rattle.litmus.specs.declared.litmus_test.TheConstants.{MAX_LOCATIONS};
+
+use engine_parts::fault::{Fault, Position};
+use engine_parts::litmus_text::read_test;
+use engine_parts::output::end_with;
+use engine_parts::running::machine_of_schedule;
+use engine_parts::schedule::read_schedule;
+use litmus::Test;
+use recorder::{Schedule, write_schedule};
+use shrink::{ShrinkError, shrink_run};
+use std::alloc::Global;
+use std::io::{Read, Write};
+
+/// Why a run isn't shrunk, as a fault.
+fn shrink_fault(error: ShrinkError) -> Fault
+    ensures { result ≡ fault_of_shrink error }
+{
+    match error {
+        ShrinkError::NoMemory => Fault::NoMemory,
+        ShrinkError::NotFinished => Fault::refused(error.number(), Position::Nowhere),
+    }
+}
+
+/// The shortened schedule of a test's schedule, as a text.
+fn shrunk_text<const B: usize, const M: usize>(
+    alloc: Global,
+    test: &Test,
+    schedule: Schedule,
+) -> Result<(String, ()), Fault>
+    requires some_capacity { 1 ≤ B }
+    requires capacity { B ≤ 64 }
+    requires words { MAX_LOCATIONS ≤ M }
+    requires size { M ≤ 65536 }
+    requires harts { OfHarts (events_said (said_of schedule)) }
+    requires few { length (events_said (said_of schedule)) ≤ MAX_EVENTS }
+    ensures { AnswersAs (IsShrink B M test.now (said_of schedule)) text_and_value result }
+{
+    let machine = machine_of_schedule::<B, M>(alloc, test, schedule)?;
+    match shrink_run(alloc, test, machine) {
+        Ok(events) => {
+            let text = write_schedule(alloc, &events)?;
+            Ok((text, ()))
+        }
+        Err(error) => Err(shrink_fault(error)),
+    }
+}
+
+/// What is to be written for the inputs that the readers give.
+fn made<const B: usize, const M: usize, F: Read, S: Read>(
+    alloc: Global,
+    file: &mut F,
+    schedule: &mut S,
+) -> Result<(String, ()), Fault>
+    requires some_capacity { 1 ≤ B }
+    requires capacity { B ≤ 64 }
+    requires words { MAX_LOCATIONS ≤ M }
+    requires size { M ≤ 65536 }
+    ensures made { Finds (AnswersBoth (IsShrinkAnswer B M) (F.remaining file.old) (S.remaining schedule.old)) text_and_value result }
+    ensures unread { HasNoTest (F.remaining file.old) → schedule.new ≡ schedule.old }
+{
+    let test = read_test(alloc, file)?;
+    let said = read_schedule(alloc, schedule)?;
+    shrunk_text::<B, M>(alloc, &test, said)
+}
+
+/// Reads a litmus text and then a schedule of either version, each to its end, runs the schedule from the
+/// test's opening with store buffers of `B` pairs and `M` words of memory, leaves events out until each
+/// one that is left is needed for the run's outcome, and writes the canonical schedule of these.
+///
+/// The outcome is that the run is finished and leaves the condition's left sides with their values. Which
+/// events are left depends on the order in which they are tried ([`shrink::shrink_run`]).
+///
+/// Inputs are refused as too large ([`engine_parts::fault::TOO_LARGE`]), else as no text
+/// ([`engine_parts::fault::NOT_TEXT`]), else as [`litmus_reader::read`] says, at the line, or as
+/// [`recorder::read_either`] says, at the byte; a record is refused where it differs from its run
+/// ([`engine_parts::fault::DIFFERS`]), and a run that isn't finished as a whole
+/// ([`shrink::ShrinkError::NotFinished`]). Then nothing was written. A schedule after a refused litmus text
+/// is not read. A memory of 1,024 words has room for each test's locations.
+pub fn shrink_engine<const B: usize, const M: usize, F: Read, S: Read, W: Write>(
+    alloc: Global,
+    file: &mut F,
+    schedule: &mut S,
+    writer: &mut W,
+) -> Result<(), Fault>
+    requires some_capacity { 1 ≤ B }
+    requires capacity { B ≤ 64 }
+    requires words { MAX_LOCATIONS ≤ M }
+    requires size { M ≤ 65536 }
+    ensures ends { EndsByBoth (IsShrinkAnswer B M) result (F.remaining file.old) (S.remaining schedule.old) W.contents writer.old writer.new }
+    ensures unread { HasNoTest (F.remaining file.old) → schedule.new ≡ schedule.old }
+{
+    end_with(made::<B, M, F, S>(alloc, file, schedule), writer)
+}

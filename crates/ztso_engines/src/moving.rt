@@ -1,0 +1,59 @@
+//! The command `move`: a litmus text and a schedule in, the schedule's text of version 2 out.
+
+ghost use Rattle.std.specs.Prelude.{◌≡◌, ◌≤◌};
+ghost use Rattle.engine_parts.specs.Engines.{AnswersBoth, EndsByBoth};
+ghost use Rattle.engine_parts.specs.Tests.{HasNoTest};
+ghost use Rattle.ztso_engines.specs.Move.{IsMoveAnswer};
+ghost use Rattle.engine_parts.specs.inner.Making.{Finds, text_and_value};
+ghost use Rattle.litmus.specs.declared.litmus_test.TheConstants.{MAX_LOCATIONS};
+
+use engine_parts::fault::Fault;
+use engine_parts::litmus_text::read_test;
+use engine_parts::output::end_with;
+use engine_parts::running::record_of_schedule;
+use engine_parts::schedule::read_schedule;
+use recorder::write_record;
+use std::alloc::Global;
+use std::io::{Read, Write};
+
+/// What is to be written for the inputs that the readers give.
+fn made<const B: usize, const M: usize, F: Read, S: Read>(
+    alloc: Global,
+    file: &mut F,
+    schedule: &mut S,
+) -> Result<(String, ()), Fault>
+    requires some_capacity { 1 ≤ B }
+    requires capacity { B ≤ 64 }
+    requires words { MAX_LOCATIONS ≤ M }
+    requires size { M ≤ 65536 }
+    ensures made { Finds (AnswersBoth (IsMoveAnswer B M) (F.remaining file.old) (S.remaining schedule.old)) text_and_value result }
+    ensures unread { HasNoTest (F.remaining file.old) → schedule.new ≡ schedule.old }
+{
+    let test = read_test(alloc, file)?;
+    let said = read_schedule(alloc, schedule)?;
+    let steps = record_of_schedule::<B, M>(alloc, &test, said)?;
+    let text = write_record(alloc, &steps)?;
+    Ok((text, ()))
+}
+
+/// Reads a litmus text and then a schedule of either version, each to its end, runs the schedule from the
+/// test's opening with store buffers of `B` pairs and `M` words of memory, and writes its text of version 2:
+/// its events, each with its outcome in the run.
+///
+/// Inputs are refused as [`crate::run::run_engine`] refuses them, a schedule of version 2 also where an
+/// outcome isn't the run's; then nothing was written. After a refused litmus text the schedule is not read.
+pub fn move_engine<const B: usize, const M: usize, F: Read, S: Read, W: Write>(
+    alloc: Global,
+    file: &mut F,
+    schedule: &mut S,
+    writer: &mut W,
+) -> Result<(), Fault>
+    requires some_capacity { 1 ≤ B }
+    requires capacity { B ≤ 64 }
+    requires words { MAX_LOCATIONS ≤ M }
+    requires size { M ≤ 65536 }
+    ensures ends { EndsByBoth (IsMoveAnswer B M) result (F.remaining file.old) (S.remaining schedule.old) W.contents writer.old writer.new }
+    ensures unread { HasNoTest (F.remaining file.old) → schedule.new ≡ schedule.old }
+{
+    end_with(made::<B, M, F, S>(alloc, file, schedule), writer)
+}
