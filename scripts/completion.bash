@@ -2,7 +2,7 @@
 _ztso() {
     local word=${COMP_WORDS[COMP_CWORD]} command=${COMP_WORDS[1]} options=
     if ((COMP_CWORD == 1)); then
-        COMPREPLY=($(compgen -W 'run replay move shrink debug try threads channel steps asm dis' -- "$word"))
+        COMPREPLY=($(compgen -W 'run replay move shrink chart debug try threads channel steps asm dis' -- "$word"))
         return
     fi
     case $command in
@@ -10,6 +10,7 @@ _ztso() {
     replay) options='--buffer' ;;
     move) options='--buffer' ;;
     shrink) options='--buffer' ;;
+    chart) options='--buffer --svg' ;;
     debug) options='--buffer' ;;
     try) options='--buffer --seed --runs --length --skip --jobs' ;;
     threads) options='--buffer --turns' ;;

@@ -8,6 +8,8 @@ ROOT = Path(__file__).resolve().parent.parent.parent
 HEADING = {"lamport": "## Lamport's ring", "fastforward": "## FastForward"}
 CRATE = {"lamport": "lamport_ring", "fastforward": "fastforward"}
 ROLES = ("sender", "receiver")
+# the words that all receivers share
+RECEIVER = ROOT / "crates/poll_close/src/listing.rt"
 
 
 class NoSuchPart(Exception):
@@ -33,9 +35,14 @@ def program(assembly, name):
 
 
 def table(source, name):
-    """The words of a constant table."""
-    words = re.search(rf"^const {name}: \[u32; \d+\] = \[(.*?)\];", source, re.DOTALL | re.MULTILINE)[1]
-    return [int(word, 16) for word in re.findall("0x[0-9A-F]{8}", words)]
+    """The words of a constant table. A receiver's may be those that all receivers share round the ring's own."""
+    value = re.search(rf"^const {name}: \[u32; \d+\] = ((?:receiver!)?\[.*?\]);", source, re.DOTALL | re.MULTILINE)[1]
+    words = re.findall("0x[0-9A-F]{8}", value)
+    if value.startswith("receiver!"):
+        body = RECEIVER.read_text().split("=> {")[1]
+        places = iter(words)
+        words = [next(places) if word[0] == "$" else word for word in re.findall(r"0x[0-9A-F]{8}|\$\w+", body)]
+    return [int(word, 16) for word in words]
 
 
 def source_of(kind):

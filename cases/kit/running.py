@@ -59,14 +59,19 @@ class Wrong(Exception):
 
 def refuser_in(folder):
     """Compiles the refuser of allocations, and answers its path, or None where there is no compiler."""
-    source, refuser = Path(folder, "refuser.c"), Path(folder, "refuser.so")
-    source.write_text(REFUSER)
+    return preloaded(folder, "refuser", REFUSER)
+
+
+def preloaded(folder, name, text):
+    """Compiles what is put before the C library, and answers its path, or None where there is no compiler."""
+    source, library = Path(folder, f"{name}.c"), Path(folder, f"{name}.so")
+    source.write_text(text)
     try:
-        subprocess.run(["cc", "-shared", "-fPIC", "-o", refuser, source, "-ldl"], check=True,
+        subprocess.run(["cc", "-shared", "-fPIC", "-o", library, source, "-ldl"], check=True,
                        stdout=subprocess.DEVNULL, stderr=subprocess.DEVNULL)
     except (OSError, subprocess.CalledProcessError):
         return None
-    return refuser
+    return library
 
 
 def shell_front(case):

@@ -1,17 +1,60 @@
 """Streams and files that fail, come a byte at a time, or change while they are read."""
 
+import errno
 import os
 import subprocess
 import threading
 import time
 from pathlib import Path
 
+from kit import running
+
 from . import examples
 from .runs import READ_FAILED, SECONDS, WRITE_FAILED, brief
 
 KINDS = ["read failed", "write failed", "byte by byte", "closed while it wrote", "past a limit of a file",
-         "grown and cut", "standard error closed"]
+         "grown and cut", "standard error closed", "nth read failed", "nth write failed", "interrupted", "short calls"]
 FIFO = "fifo"
+
+# Put before the C library, it answers the nth call of `read`, or of `write` to standard output, with an error, and
+# leaves a file where it came to that call; or, where no number is given, it moves one byte a call.
+FAILING = r"""
+#define _GNU_SOURCE
+#include <dlfcn.h>
+#include <errno.h>
+#include <fcntl.h>
+#include <stdlib.h>
+#include <string.h>
+#include <unistd.h>
+
+static int fails(const char *name, size_t *count) {
+    static long left = -1;
+    if (strcmp(getenv("FAILING_CALL"), name)) return 0;
+    if (left < 0) left = atol(getenv("FAILING_NUMBER"));
+    if (left == 0) {
+        if (!atol(getenv("FAILING_NUMBER")) && *count > 1) *count = 1;
+        return 0;
+    }
+    if (--left > 0) return 0;
+    close(open(getenv("FAILURE_SEEN"), O_WRONLY | O_CREAT, 0600));
+    errno = atol(getenv("FAILING_ERROR"));
+    return 1;
+}
+
+ssize_t read(int file, void *bytes, size_t count) {
+    static ssize_t (*next)(int, void *, size_t);
+    if (!next) next = (ssize_t (*)(int, void *, size_t))dlsym(RTLD_NEXT, "read");
+    return fails("read", &count) ? -1 : next(file, bytes, count);
+}
+
+ssize_t write(int file, const void *bytes, size_t count) {
+    static ssize_t (*next)(int, const void *, size_t);
+    if (!next) next = (ssize_t (*)(int, const void *, size_t))dlsym(RTLD_NEXT, "write");
+    return file == 1 && fails("write", &count) ? -1 : next(file, bytes, count);
+}
+
+ssize_t __write(int file, const void *bytes, size_t count) { return write(file, bytes, count); }
+"""
 
 
 def commands(short):
@@ -77,6 +120,31 @@ def failed_writes(runs, words, stdin, own):
         # a pipe that is closed late takes a short output
         right = answer == WRITE_FAILED or "|" in way and answer == own[:2]
         runs.hold("write failed", right, answer, words, stdin, name)
+
+
+def failing_calls(runs, words, stdin, own, failing):
+    """Each read and each write fails in turn; each is interrupted in turn, and made again; all of them move one byte."""
+    seen = Path(runs.folder, "failure")
+    for call, answer in (("read", READ_FAILED[:2]), ("write", WRITE_FAILED)):
+        def came_of(number, error):
+            return runs.run(words, stdin, {"LD_PRELOAD": str(failing), "FAILING_CALL": call, "FAILURE_SEEN": str(seen),
+                                           "FAILING_NUMBER": str(number), "FAILING_ERROR": str(error)})
+
+        came = came_of(0, 0)
+        runs.hold("short calls", came == own, brief(came), words, stdin, f"each {call} of one byte")
+        for error in (errno.EIO, errno.EINTR):
+            for number in range(1, 2000):
+                came = came_of(number, error)
+                if not seen.exists():
+                    break
+                seen.unlink()
+                # only the debugger writes before it has read all
+                begun = own[2].startswith(came[2]) and (call == "write" or words[0] == "debug" or not came[2])
+                if error == errno.EINTR:
+                    kind, right = "interrupted", came == own
+                else:
+                    kind, right = f"nth {call} failed", came[:2] == answer and begun
+                runs.hold(kind, right, brief(came), words, stdin, f"{call} {number}, errno {error}")
 
 
 def cut_pipe(runs, words, stdin, own):
@@ -166,12 +234,17 @@ def changing_file(runs, rounds):
 def part(runs):
     os.mkfifo(FIFO)
     rows = commands(runs.short)
+    failing = running.preloaded(runs.folder, "failing", FAILING)
+    if failing is None:
+        runs.hold("nth read failed", False, "cc can't compile what fails a call", [])
     for words, stdin, files in rows:
         runs.put(files)
         own = runs.compare("byte by byte", words, stdin)
         failed_reads(runs, words, stdin)
         failed_writes(runs, words, stdin, own)
         byte_by_byte(runs, words, stdin, own)
+        if failing:
+            failing_calls(runs, words, stdin, own, failing)
         if own[2]:
             cut_pipe(runs, words, stdin, own)
             limited_file(runs, words, stdin, own)

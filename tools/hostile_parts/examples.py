@@ -66,6 +66,41 @@ c: ebreak # the end
  ret
 """
 WORDS = b"FE029EE3 00000000\n00532023\tfff28293\r\n1821a0af 0330000f\n 8330000f\n"
+# a schedule of version 2 of store buffering, with counts, blanks and all line ends, and one of a channel without words
+RECORD = b"""ztso-schedule 2\r
+a0 store 0 0 1
+ a1\tstore  01 4 1
+
+a0*001 load 0 4 0\r
+a1 load 1 0 0
+l0 land 0
+l1 land 1
+a0*1000 over 0
+a63 nohart 63
+"""
+CHANNEL_RECORD = b"""ztso-schedule 2
+a1 inner 1
+a1 next 1 end
+a1*2 inner 1
+a1 store 1 4 1
+a1 inner 1
+a1 ended 1
+l1 land 1
+a0*2 inner 0
+a0 load 0 12 0
+a0 inner 0
+a0 load 0 4 1
+a0 load 0 0 0
+a0 load 0 8 0
+a0*3 inner 0
+a0 store 0 12 1
+a0*2 inner 0
+a0 closed 0 0
+a0*3 inner 0
+a0 ended 0
+"""
+# more events than the outcome needs
+LONG = b"ztso-schedule 1\nl0*3 a1 a0*2 a1*3 a0 l1*2 a1 l0 a1 l0 a1 l0 a1 l0\n"
 STEPS = b"""hart 00532023 00042383\r
 hart 0002a303 00000073
 
@@ -93,7 +128,8 @@ def sessions():
                     files[shown[1]] = text_of(answer)
                 elif made:
                     files[made[2]] = f"{made[1]}\n".encode()
-                elif "./ztso" in command and not command.startswith("./ztso debug"):
+                # the page shows bad.record without a command
+                elif "./ztso" in command and not command.startswith("./ztso debug") and "bad.record" not in command:
                     faults = [line for line in answer if line.startswith("ztso: ")]
                     yield command, files, (text_of(faults), text_of(line for line in answer if line not in faults))
     blocks = pages.blocks((ROOT / "docs/debugging.md").read_text())
@@ -114,12 +150,24 @@ def kinds():
     yield ["replay", SB, WITNESS, "--buffer", "1"], b"", {}
     yield ["replay", TICKET, "some.schedule"], b"", {
         "some.schedule": b"ztso-schedule 1\n" + b"a0 a1 l0 a1*2 l1 " * 60}
+    for command in ("move", "run", "replay", "shrink"):
+        yield [command, SB, "record.schedule"], b"", {"record.schedule": RECORD}
+    yield ["move", SB, WITNESS], b"", {}
+    yield ["move", TICKET, "some.schedule", "--buffer", "1"], b"", {}
+    yield ["shrink", SB, "long.schedule"], b"", {"long.schedule": LONG}
+    yield ["shrink", TICKET, str(sorted(ROOT.glob("litmus/mutual-exclusion/ticket/*.schedule"))[0])], b"", {}
+    yield ["chart", SB, WITNESS], b"", {}
+    yield ["chart", TICKET, "some.schedule", "--buffer", "1"], b"", {
+        "some.schedule": b"ztso-schedule 1\n" + b"a0 a1 l0 a1*2 l1 " * 60}
+    yield ["try", TICKET, "--seed", "7", "--runs", "40", "--length", "60", "--skip", "5", "--jobs", "3"], b"", {}
     for test in (SB, TICKET, "litmus/own-reads/n6.litmus"):
         yield ["try", test, "--seed", "7", "--runs", "40", "--length", "60"], b"", {}
     for kind in ("lamport", "fastforward"):
         yield ["channel", kind, "3", "examples/two-senders.schedule"], LISTS, {}
         yield ["channel", kind, "3", "none.schedule", "--finish"], LISTS, none
         yield ["channel", kind, "2", "none.schedule", "--finish", "--buffer", "1"], b"1 2 3\n\n4\n" * 3, none
+    yield ["channel", "lamport", "3", "examples/two-senders.schedule", "--base", "64", "--stride", "40"], LISTS, {}
+    yield ["channel", "lamport", "2", "record.schedule"], b"\n", {"record.schedule": CHANNEL_RECORD}
     yield ["debug", SB, WITNESS], COMMANDS, {}
     yield from ((["debug", SB, WITNESS], line + b"\n", {}) for line in sorted(set(COMMANDS.splitlines())))
     yield ["asm"], FORMS, {}

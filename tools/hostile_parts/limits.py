@@ -7,6 +7,7 @@ from .runs import BAD_COMMAND_LINE, refused
 INPUT, EVENTS, CODE = 1_048_576, 1_048_576, 4096
 NONE = b"ztso-schedule 1\n"
 SB = str(ROOT / "litmus/store-buffering/sb.litmus")
+KINDS = ["litmus", "schedules", "records", "shrink", "steps", "asm", "dis", "debug", "channels", "options"]
 # slots of a ring at the least
 LEAST = {"lamport": 2, "fastforward": 1}
 
@@ -51,6 +52,32 @@ def schedules():
         yield NONE + text, wanted
 
 
+def records():
+    """Schedules of version 2, whose first two lines are the acts of the first hart."""
+    acts = b"ztso-schedule 2\na0 store 0 0 1\na0 load 0 4 0\n"
+    head = len(acts)
+    for text, wanted in [
+            (b"a0*1048574 over 0", None), (b"a0*1048575 over 0", refused(30, f" at byte {head}")),
+            (b"a0*1048574 over 0\nl0 land 0", refused(30, f" at byte {head + 18}")),
+            (b"a0*1048573 over 0\nl0 land 0", None), (b"a0*0 over 0", refused(30, f" at byte {head}")),
+            (b"a0*1048574 waited 0", refused(38, " at event 2")),
+            (b"a63 nohart 63", None), (b"a64 nohart 64", refused(29, f" at byte {head}")),
+            (b"a0 load 0 4 4294967295", refused(38, " at event 2")),
+            (b"a0 load 0 4 4294967296", refused(39, f" at byte {head}")),
+            (b"a0 stopped 0 8", refused(38, " at event 2")), (b"a0 stopped 0 15", refused(38, " at event 2")),
+            (b"a0 stopped 0 7", refused(39, f" at byte {head}")), (b"a0 stopped 0 16", refused(39, f" at byte {head}")),
+            (b" " * (INPUT - head), None), (b" " * (INPUT - head + 1), refused(37))]:
+        yield acts + text, wanted
+
+
+def finished():
+    """Schedules of the largest size whose run is finished, or not."""
+    for text, wanted in [
+            (b"a0*524288 a1*524286 l0 l1", None), (b"a0*524288 a1*524287 l0", refused(40)),
+            (b"a0*524288 a1*524287 l0 l1", refused(30, " at byte 39"))]:
+        yield NONE + text, wanted
+
+
 def inputs():
     """Commands that read standard input alone."""
     nop = b"00000013 "
@@ -90,6 +117,15 @@ def channels(runs):
             most = (16384 // senders - 16) // 4
             for slots, wanted in ((most, None), (most + 1, refused(20))):
                 yield ["channel", kind, str(slots), "schedule", "--finish"], b"7\n" * senders, wanted
+    # the two blocks of two slots have 24 of the 16,384 bytes each
+    for words, wanted in [
+            (["--base", "16336"], None), (["--base", "16340"], refused(20)), (["--base", "1"], refused(41)),
+            (["--base", "4294967292"], refused(20)), (["--base", "4294967296"], BAD_COMMAND_LINE),
+            (["--stride", "24"], None), (["--stride", "20"], refused(43)), (["--stride", "25"], refused(42)),
+            (["--stride", "16360"], None), (["--stride", "16364"], refused(20)), (["--stride", "0"], refused(43)),
+            (["--stride", "4294967292"], refused(20)), (["--stride", "4294967296"], BAD_COMMAND_LINE),
+            (["--base", "4", "--stride", "16356"], None), (["--base", "8", "--stride", "16356"], refused(20))]:
+        yield ["channel", "lamport", "2", "schedule", *words, "--finish"], b"7\n8\n", wanted
     for more, wanted in ((0, None), (1, refused(37))):
         yield ["channel", "lamport", "2", "schedule"], b"7\n" + b" " * (INPUT - 2 + more), wanted
     for text, wanted in ((b"4294967295", None), (b"4294967296", refused(34, " at line 1"))):
@@ -103,6 +139,8 @@ def options(short):
             ("--seed", [("0", None), (str(2**64 - 1), None), (str(2**64), BAD_COMMAND_LINE), ("-1", BAD_COMMAND_LINE)]),
             ("--runs", [("1", None), ("100000", None), ("0", BAD_COMMAND_LINE), ("100001", BAD_COMMAND_LINE)]),
             ("--length", [("0", None), ("1048576", None), ("1048577", BAD_COMMAND_LINE)]),
+            ("--skip", [("0", None), (str(2**64 - 1), None), (str(2**64), BAD_COMMAND_LINE)]),
+            ("--jobs", [("1", None), ("64", None), ("0", BAD_COMMAND_LINE), ("65", BAD_COMMAND_LINE)]),
             ("--buffer", [("1", None), ("16", None), ("0", BAD_COMMAND_LINE), ("3", BAD_COMMAND_LINE),
                           ("17", BAD_COMMAND_LINE), ("32", BAD_COMMAND_LINE)])]:
         for value, wanted in values:
@@ -132,10 +170,17 @@ def part(runs):
     for text, wanted in schedules():
         runs.put({"text": text})
         hold(runs, "schedules", ["replay", SB, "text"], b"", wanted)
+    for text, wanted in records():
+        runs.put({"text": text})
+        for command in ("replay", "move"):
+            hold(runs, "records", [command, SB, "text"], b"", wanted)
+    for text, wanted in finished():
+        runs.put({"text": text})
+        hold(runs, "shrink", ["shrink", SB, "text"], b"", wanted)
     for words, stdin, wanted in inputs():
         hold(runs, words[0], words, stdin, wanted)
     for words, stdin, wanted in channels(runs):
         hold(runs, "channels", words, stdin, wanted)
     for words, wanted in options(runs.short):
         hold(runs, "options", words, b"", wanted)
-    runs.counts("limits", ["litmus", "schedules", "steps", "asm", "dis", "debug", "channels", "options"])
+    runs.counts("limits", KINDS)

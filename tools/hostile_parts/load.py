@@ -8,15 +8,18 @@ from pathlib import Path
 
 import litmus
 from machine import Machine, state_text, verdict
-from schedules import read as read_schedule
+from schedules import read as read_schedule, record_written
 
 from . import ROOT
-from .runs import brief
+from .runs import brief, refused
 
 DRAWN = runpy.run_path(str(ROOT / "tools/drawn-channels"))
 HARTS, BUFFER, EVENTS = 64, 16, 1_048_576
+CAPACITY = ["--buffer", str(BUFFER)]
 MINUTE = 60
-KINDS = ["steps", "run", "replay", "channel", "debug"]
+# the largest input that is read
+INPUT = 1_048_576
+KINDS = ["steps", "run", "replay", "move", "channel", "debug"]
 
 
 def cost(runs, words, stdin):
@@ -38,45 +41,62 @@ def hold(runs, words, stdin, wanted, note=""):
     print(f"  {words[0]}{note}: {seconds:.1f} s, peak {peak / 2**20:.0f} MiB, output {len(came[2])} bytes", flush=True)
 
 
-def events(runs, harts, count):
+def events(runs, harts, count, landings=(1, 4, 16)):
     """The tokens of drawn events, of which each comes some times."""
     tokens, left = [], count
     while left:
         # a loop of four instructions has a store in each
         letter = runs.draw.choice("al")
-        times = min(left, runs.draw.choice((1, 3, 16, 60) if letter == "a" else (1, 4, 16)))
+        times = min(left, runs.draw.choice((1, 3, 16, 60) if letter == "a" else landings))
         tokens.append((letter, runs.draw.randrange(harts), times))
         left -= times
     return " ".join(f"{letter}{hart}*{times}" for letter, hart, times in tokens).encode()
 
 
 def machine_loads(runs, count):
-    """A loop of stores, loads and sums on each hart, by steps, run and replay."""
+    """A loop of stores, loads and sums on each hart, by steps, run, replay and move."""
     # sw x5,0(x6); lw x7,0(x8); addi x5,x5,1; jal x0,-12
     cells = ["L: sw x5,0(x6)", "lw x7,0(x8)", "addi x5,x5,1", "j L"]
     names = " | ".join(f"P{hart}" for hart in range(HARTS))
     items = "".join(f"{hart}:x6={4 * (hart % 8)}; {hart}:x8={4 * (hart % 5)};\n" for hart in range(HARTS))
     rows = "".join(" " + " | ".join([cell] * HARTS) + " ;\n" for cell in cells)
     text = f"RISCV LOAD\n{{\n{items}}}\n{names} ;\n{rows}exists (0:x5=0)\n".encode()
-    drawn = events(runs, HARTS, count)
-    schedule = b"ztso-schedule 1\n" + drawn + b"\n"
     steps = "hart 00532023 00042383 00128293 ff5ff06f\n" * HARTS + "".join(
         f"reg {hart} 6 {4 * (hart % 8)}\nreg {hart} 8 {4 * (hart % 5)}\n" for hart in range(HARTS))
-    runs.put({"load.litmus": text, "load.schedule": schedule})
-    test = litmus.read(text.decode())
+    runs.put({"load.litmus": text})
+    # most landings of the second draw find no store, so that its record is no larger than an input may be
+    for landings in ((1, 4, 16), (1, 3000)):
+        drawn = events(runs, HARTS, count, landings)
+        answers = answers_of(litmus.read(text.decode()), drawn)
+        hold(runs, ["steps", *CAPACITY], steps.encode() + b"steps " + drawn + b"\n", answers["steps"])
+        runs.put({"load.schedule": b"ztso-schedule 1\n" + drawn + b"\n"})
+        held_of_schedule(runs, answers, "")
+        record = answers["move"][2]
+        runs.put({"load.schedule": record})
+        if len(record) > INPUT:
+            answers = dict.fromkeys(answers, refused(37))
+        held_of_schedule(runs, answers, " of what move wrote")
+
+
+def held_of_schedule(runs, answers, note):
+    for command in ("run", "replay", "move"):
+        hold(runs, [command, "load.litmus", "load.schedule", *CAPACITY], b"", answers[command], note)
+
+
+def answers_of(test, drawn):
+    """What each command has to answer for drawn events."""
     machine = Machine(test, BUFFER)
-    state, lines = machine.opening, []
-    for event in read_schedule(schedule.decode()):
+    state, done, lines = machine.opening, [], []
+    for event in read_schedule(f"ztso-schedule 1\n{drawn.decode()}"):
         outcome, entry, state = machine.step(state, event)
+        done.append((event, outcome))
         if entry:
             lines.append(outcome)
     last = state_text(state)
-    buffer = ["--buffer", str(BUFFER)]
-    hold(runs, ["steps", *buffer], steps.encode() + b"steps " + drawn + b"\n", (0, b"", last.encode()))
-    hold(runs, ["run", "load.litmus", "load.schedule", *buffer], b"",
-         (1, b"", f"{last}{verdict(test, state)}\n".encode()))
-    hold(runs, ["replay", "load.litmus", "load.schedule", *buffer], b"",
-         (0, b"", "".join(f"{line}\n" for line in lines).encode()))
+    return {"steps": (0, b"", last.encode()),
+            "run": (1, b"", f"{last}{verdict(test, state)}\n".encode()),
+            "replay": (0, b"", "".join(f"{line}\n" for line in lines).encode()),
+            "move": (0, b"", record_written(done).encode())}
 
 
 def channel_load(runs, count):
@@ -91,7 +111,7 @@ def channel_load(runs, count):
         left -= times
     runs.put({"load.schedule": b"ztso-schedule 1\n" + " ".join(drawn).encode()})
     for kind, slots in (("lamport", "2"), ("fastforward", "61")):
-        words = ["channel", kind, slots, "load.schedule", "--buffer", str(BUFFER)]
+        words = ["channel", kind, slots, "load.schedule", *CAPACITY]
         before = None
         for flags in ([], ["--finish"]):
             came, seconds, peak = cost(runs, words + flags, stdin)

@@ -49,8 +49,11 @@ def judged(runs, came, own, words):
         return "no thread", True
     if "debug" in words and came[:2] == NO_MEMORY[:2]:
         return "answers of their own until memory ran out", own[2].startswith(came[2])
-    right = runs.is_answer_of_threads(words, came) if own is None else came == own
-    return "own answers", right
+    if own is not None:
+        return "own answers", came == own
+    # where turns aren't few, a run is unfinished only if a thread without memory ended as one that was cut off
+    cut_off = "--turns" not in words and came[2].endswith(b"Unfinished\n")
+    return "own answers", runs.is_answer_of_threads(words, came) and not cut_off
 
 
 def part(runs):

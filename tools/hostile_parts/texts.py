@@ -27,6 +27,11 @@ def grammars():
     yield "schedules", read("examples/two-senders.schedule"), ["channel", "lamport", "3", "text"], examples.LISTS
     text = b"ztso-schedule 1\r\na0*1000\ta1 l063*03\r\nl1\n"
     yield "schedules", text, ["channel", "fastforward", "3", "text"], b"7\n"
+    for command in ("replay", "move", "run"):
+        yield "records", examples.RECORD, [command, str(ROOT / examples.SB), "text"], None
+    yield "records", examples.CHANNEL_RECORD, ["channel", "lamport", "2", "text"], b"\n"
+    for text in (examples.LONG, examples.RECORD):
+        yield "shrunk", text, ["shrink", str(ROOT / examples.SB), "text"], None
     for text in (read("examples/store-buffering.steps"), examples.STEPS):
         yield "steps", text, ["steps"], text
     schedule = str(ROOT / "examples/two-senders.schedule")
@@ -44,7 +49,7 @@ def grammars():
         yield "debugger lines", text, ["debug", *files], text
 
 
-NAMES = ["litmus", "schedules", "steps", "lists", "assembly", "words", "debugger lines"]
+NAMES = ["litmus", "schedules", "records", "shrunk", "steps", "lists", "assembly", "words", "debugger lines"]
 
 
 def hold(runs, grammar, text, words, stdin):

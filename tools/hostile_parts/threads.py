@@ -26,31 +26,32 @@ def answer(runs, program, words, limit, value, user=None):
     return done.returncode, done.stderr, done.stdout
 
 
-def judged(runs, words, came, begins):
-    """The kind of an answer, and whether it may be."""
-    if came == NO_THREAD:
+def judged(runs, words, came, begins, own):
+    """The kind of an answer, and whether it may be. `threads` has no answer that is known before. The jobs of `try`
+    go on in the caller's thread."""
+    if came == NO_THREAD and own is None:
         return "no thread", True
     if came == NO_MEMORY:
         return "no memory", True
     if not begins and came[0] == 127:
         return "didn't begin", True
-    return "own answers", runs.is_answer_of_threads(words, came)
+    return "own answers", runs.is_answer_of_threads(words, came) if own is None else came == own
 
 
-def few_processes(runs, program, words, most):
+def few_processes(runs, program, words, most, own=None):
     """Another user's processes: the program's own thread is one."""
     user = pwd.getpwnam(USER).pw_uid
     for value in range(1, most):
         came = answer(runs, program, words, resource.RLIMIT_NPROC, value, user)
-        runs.hold(*judged(runs, words, came, True), brief(came), words, b"", f"{value} processes")
+        runs.hold(*judged(runs, words, came, True, own), brief(came), words, b"", f"{value} processes")
 
 
-def little_room(runs, program, words, sizes):
+def little_room(runs, program, words, sizes, own=None):
     """An address space of so many bytes. Where the C library has no room, the program doesn't begin."""
     for size in sizes:
         begins = answer(runs, program, ["dis"], resource.RLIMIT_AS, size)[0] == 0
         came = answer(runs, program, words, resource.RLIMIT_AS, size)
-        runs.hold(*judged(runs, words, came, begins), brief(came), words, b"", f"{size} bytes of address space")
+        runs.hold(*judged(runs, words, came, begins, own), brief(came), words, b"", f"{size} bytes of address space")
 
 
 def part(runs):
@@ -73,4 +74,9 @@ def part(runs):
         little_room(runs, program, words, range(2 * MIB, 64 * MIB, step * (2 if harts > 2 else 1)))
     little_room(runs, program, ["threads", "wide.litmus", "--turns", "50"],
                 range(64 * MIB, 1500 * MIB, 4 * MIB * wide_step))
+    words = ["try", "sb-copy.litmus", "--seed", "1", "--runs", "2000", "--length", "20", "--jobs", "16"]
+    own = runs.compare("own answers", words)
+    if os.geteuid() == 0:
+        few_processes(runs, program, words, 20, own)
+    little_room(runs, program, words, range(2 * MIB, 256 * MIB, step * 4), own)
     runs.counts("threads" if os.geteuid() == 0 else "threads, without a limit of processes, which needs root", KINDS)

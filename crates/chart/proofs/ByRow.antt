@@ -1,5 +1,7 @@
 -- Writes with their rows are the writes, and each row named has made its write.
-use Rattle.std.proofs.Common.{◌≡◌, ℕ, suc, ◌+◌, ◌-◌, ◌<◌, ◌==◌, min, get_or, Bool, true, false, if◌then◌else◌, List, [], ◌∷◌, ◌++◌, length, take, drop, map, Option, Some, None, All, refl, sym, ◌∙◌, ap, subst, arith, append_assoc, append-nil}
+use Rattle.std.proofs.Common.{◌≡◌, ℕ, suc, ◌+◌, ◌-◌, ◌<◌, ◌==◌, min, get_or, Bool, true, false, if◌then◌else◌, List, []}
+use Rattle.std.proofs.Common.{◌∷◌, ◌++◌, length, take, drop, map, Option, Some, None, All, refl, sym, ◌∙◌, ap, subst}
+use Rattle.std.proofs.Common.{arith, append_assoc, append-nil}
 use Rattle.std.specs.Prelude.{option_map, option_to_list, IfSome}
 use Rattle.std.specs.Int.{byte_at}
 use Rattle.std.specs.List.{slice_get}
@@ -26,14 +28,17 @@ writes-at_row n (w ∷ ws) = ap (λ (vs : List Write). w ∷ vs) (writes-at_row 
 
 writes-stores : (h n : ℕ) (es : List Entry) → writes (stores_by_row h n es) ≡ stores h es
 writes-stores h n [] = refl
-writes-stores h n (e ∷ es) = map-append write_in (at_row n (store_of h e)) (stores_by_row h (n + 1) es) ∙ rw (writes-at_row n (store_of h e), writes-stores h (n + 1) es) refl
+writes-stores h n (e ∷ es) = map-append write_in (at_row n (store_of h e)) (stores_by_row h (n + 1) es)
+    ∙ rw (writes-at_row n (store_of h e), writes-stores h (n + 1) es) refl
 
 pub writes-pending : (h : ℕ) (es : List Entry) → writes (pending_by_row h es) ≡ pending h es
 writes-pending h es = sym (drop-map write_in (lands h es) (stores_by_row h 0 es)) ∙ ap (λ (ws : List Write). drop (lands h es) ws) (writes-stores h 0 es)
 
 writes-landed_after : (before : List Entry) (n : ℕ) (es : List Entry) → writes (landed_by_row_after before n es) ≡ landed_after before es
 writes-landed_after before n [] = refl
-writes-landed_after before n (e ∷ es) = map-append write_in (at_row n (write_of before e)) (landed_by_row_after (before ++ e ∷ []) (n + 1) es) ∙ rw (writes-at_row n (write_of before e), writes-landed_after (before ++ e ∷ []) (n + 1) es) refl
+writes-landed_after before n (e ∷ es) =
+    map-append write_in (at_row n (write_of before e)) (landed_by_row_after (before ++ e ∷ []) (n + 1) es)
+    ∙ rw (writes-at_row n (write_of before e), writes-landed_after (before ++ e ∷ []) (n + 1) es) refl
 
 pub writes-landed : (es : List Entry) → writes (landed_by_row es) ≡ landed es
 writes-landed es = writes-landed_after [] 0 es
@@ -43,10 +48,13 @@ writes-landed es = writes-landed_after [] 0 es
 abbrev pub byte_by : ℕ → RowWrite → ℕ
 byte_by a w = byte_at (a - w.write.addr) w.write.value
 
-pub newest-bytes : (a : ℕ) (found : Option RowWrite) (ws : List RowWrite) → newest_of a (option_map (byte_by a) found) (writes ws) ≡ option_map (byte_by a) (newest_from a found ws)
+pub newest-bytes : (a : ℕ) (found : Option RowWrite) (ws : List RowWrite)
+    → newest_of a (option_map (byte_by a) found) (writes ws) ≡ option_map (byte_by a) (newest_from a found ws)
 newest-bytes a found [] = refl
 newest-bytes a found (w ∷ ws) =
-    elim (covers w.write a) as (λ b. newest_of a (if b then Some (byte_by a w) else option_map (byte_by a) found) (writes ws) ≡ option_map (byte_by a) (newest_from a (if b then Some w else found) ws))
+    elim (covers w.write a) as
+    (λ b. newest_of a (if b then Some (byte_by a w) else option_map (byte_by a) found) (writes ws)
+    ≡ option_map (byte_by a) (newest_from a (if b then Some w else found) ws))
     [ true ↦ newest-bytes a (Some w) ws | false ↦ newest-bytes a found ws ]
 
 pub newest-is : (P : RowWrite → Type 0) (a : ℕ) (found : Option RowWrite) (ws : List RowWrite) → IfSome found P → All P ws → IfSome (newest_from a found ws) P
@@ -66,7 +74,8 @@ entries_before [] e es = refl
 entries_before (b ∷ before) e es = ap (λ (bs : List Entry). b ∷ bs) (entries_before before e es)
 
 -- a list of one write at most
-one_stored : (P : RowWrite → Type 0) (n : ℕ) (b : Bool) (x : Access) → ((w : Write) → stored_by b x ≡ w ∷ [] → P (record { row = n; write = w })) → All P (at_row n (stored_by b x))
+one_stored : (P : RowWrite → Type 0) (n : ℕ) (b : Bool) (x : Access)
+    → ((w : Write) → stored_by b x ≡ w ∷ [] → P (record { row = n; write = w })) → All P (at_row n (stored_by b x))
 one_stored P n true (store w) holds = All-cons P (record { row = n; write = w }) [] (holds w refl) (All-nil P)
 one_stored P n false (store w) holds = All-nil P
 one_stored P n b nothing holds = All-nil P
@@ -75,12 +84,17 @@ one_stored P n b (exchange a old new) holds = All-nil P
 one_stored P n b (fence full) holds = All-nil P
 one_stored P n b land holds = All-nil P
 
-one_oldest : (P : RowWrite → Type 0) (n : ℕ) (ws : List Write) → ((w : Write) → take 1 ws ≡ w ∷ [] → P (record { row = n; write = w })) → All P (at_row n (take 1 ws))
+one_oldest : (P : RowWrite → Type 0) (n : ℕ) (ws : List Write)
+    → ((w : Write) → take 1 ws ≡ w ∷ [] → P (record { row = n; write = w })) → All P (at_row n (take 1 ws))
 one_oldest P n [] holds = All-nil P
 one_oldest P n (w ∷ ws) holds = All-cons P (record { row = n; write = w }) [] (holds w refl) (All-nil P)
 
-one_written : (P : RowWrite → Type 0) (n : ℕ) (ws : List Write) (x : Access) → ((w : Write) → written_by (take 1 ws) x ≡ w ∷ [] → P (record { row = n; write = w })) → All P (at_row n (written_by (take 1 ws) x))
-one_written P n ws (exchange a old new) holds = All-cons P (record { row = n; write = record { addr = a; width = 4; value = new } }) [] (holds (record { addr = a; width = 4; value = new }) refl) (All-nil P)
+one_written : (P : RowWrite → Type 0) (n : ℕ) (ws : List Write) (x : Access)
+    → ((w : Write) → written_by (take 1 ws) x ≡ w ∷ [] → P (record { row = n; write = w }))
+    → All P (at_row n (written_by (take 1 ws) x))
+one_written P n ws (exchange a old new) holds =
+    All-cons P (record { row = n; write = record { addr = a; width = 4; value = new } }) []
+    (holds (record { addr = a; width = 4; value = new }) refl) (All-nil P)
 one_written P n ws land holds = one_oldest P n ws holds
 one_written P n ws nothing holds = All-nil P
 one_written P n ws (load a width v) holds = All-nil P
@@ -99,14 +113,19 @@ stored_from h before [] n here = All-nil (HasStored h (before ++ []))
 stored_from h before (e ∷ es) n here =
     All-append (HasStored h (before ++ e ∷ es)) (at_row n (store_of h e)) (stores_by_row h (n + 1) es)
     (one_stored (HasStored h (before ++ e ∷ es)) n (hart_of e == h) (access_of e) (λ w is. rw (here, entry_there before e es) is))
-    (subst (λ (whole : List Entry). All (HasStored h whole) (stores_by_row h (n + 1) es)) (append_assoc before (e ∷ []) es) (stored_from h (before ++ e ∷ []) es (n + 1) (rw (here, length-append before (e ∷ [])) refl)))
+    (subst (λ (whole : List Entry). All (HasStored h whole) (stores_by_row h (n + 1) es))
+    (append_assoc before (e ∷ []) es)
+    (stored_from h (before ++ e ∷ []) es (n + 1) (rw (here, length-append before (e ∷ [])) refl)))
 
 written_from : (before es : List Entry) (n : ℕ) → n ≡ length before → All (HasWritten (before ++ es)) (landed_by_row_after before n es)
 written_from before [] n here = All-nil (HasWritten (before ++ []))
 written_from before (e ∷ es) n here =
     All-append (HasWritten (before ++ e ∷ es)) (at_row n (write_of before e)) (landed_by_row_after (before ++ e ∷ []) (n + 1) es)
-    (one_written (HasWritten (before ++ e ∷ es)) n (pending (hart_of e) before) (access_of e) (λ w is. rw (here, entry_there before e es, entries_before before e es) is))
-    (subst (λ (whole : List Entry). All (HasWritten whole) (landed_by_row_after (before ++ e ∷ []) (n + 1) es)) (append_assoc before (e ∷ []) es) (written_from (before ++ e ∷ []) es (n + 1) (rw (here, length-append before (e ∷ [])) refl)))
+    (one_written (HasWritten (before ++ e ∷ es)) n (pending (hart_of e) before) (access_of e)
+    (λ w is. rw (here, entry_there before e es, entries_before before e es) is))
+    (subst (λ (whole : List Entry). All (HasWritten whole) (landed_by_row_after (before ++ e ∷ []) (n + 1) es))
+    (append_assoc before (e ∷ []) es)
+    (written_from (before ++ e ∷ []) es (n + 1) (rw (here, length-append before (e ∷ [])) refl)))
 
 pub pending_stored : (h : ℕ) (es : List Entry) → All (HasStored h es) (pending_by_row h es)
 pending_stored h es = All-drop (HasStored h es) (lands h es) (stores_by_row h 0 es) (stored_from h [] es 0 refl)
@@ -116,34 +135,37 @@ landed_written es = written_from [] es 0 refl
 
 -- ---- one more entry, and one more write
 
-pub at_row-append : (n : ℕ) (v w : List Write) → at_row n (v ++ w) ≡ at_row n v ++ at_row n w
-at_row-append n [] w = refl
-at_row-append n (x ∷ v) w = ap (λ (vs : List RowWrite). record { row = n; write = x } ∷ vs) (at_row-append n v w)
-
-pub stores_by_row-last : (h n : ℕ) (es : List Entry) (e : Entry) → stores_by_row h n (es ++ e ∷ []) ≡ stores_by_row h n es ++ at_row (n + length es) (store_of h e)
+pub stores_by_row-last : (h n : ℕ) (es : List Entry) (e : Entry)
+    → stores_by_row h n (es ++ e ∷ []) ≡ stores_by_row h n es ++ at_row (n + length es) (store_of h e)
 stores_by_row-last h n [] e = let here : n + 0 ≡ n = omega arith in rw here (append-nil (at_row n (store_of h e)))
 stores_by_row-last h n (x ∷ es) e =
     let there : n + 1 + length es ≡ n + suc (length es) = omega arith in
     ap (λ (ws : List RowWrite). at_row n (store_of h x) ++ ws) (stores_by_row-last h (n + 1) es e)
     ∙ rw there (sym (append_assoc (at_row n (store_of h x)) (stores_by_row h (n + 1) es) (at_row (n + suc (length es)) (store_of h e))))
 
-landed_after-last : (before : List Entry) (n : ℕ) (es : List Entry) (e : Entry) → landed_by_row_after before n (es ++ e ∷ []) ≡ landed_by_row_after before n es ++ at_row (n + length es) (write_of (before ++ es) e)
+landed_after-last : (before : List Entry) (n : ℕ) (es : List Entry) (e : Entry)
+    → landed_by_row_after before n (es ++ e ∷ []) ≡ landed_by_row_after before n es
+    ++ at_row (n + length es) (write_of (before ++ es) e)
 landed_after-last before n [] e = let here : n + 0 ≡ n = omega arith in rw (here, append-nil before) (append-nil (at_row n (write_of before e)))
 landed_after-last before n (x ∷ es) e =
     let there : n + 1 + length es ≡ n + suc (length es) = omega arith in
     ap (λ (ws : List RowWrite). at_row n (write_of before x) ++ ws) (landed_after-last (before ++ x ∷ []) (n + 1) es e)
-    ∙ rw (there, append_assoc before (x ∷ []) es) (sym (append_assoc (at_row n (write_of before x)) (landed_by_row_after (before ++ x ∷ []) (n + 1) es) (at_row (n + suc (length es)) (write_of (before ++ x ∷ es) e))))
+    ∙ rw (there, append_assoc before (x ∷ []) es)
+    (sym (append_assoc (at_row n (write_of before x)) (landed_by_row_after (before ++ x ∷ []) (n + 1) es)
+    (at_row (n + suc (length es)) (write_of (before ++ x ∷ es) e))))
 
 pub landed_by_row-last : (es : List Entry) (e : Entry) → landed_by_row (es ++ e ∷ []) ≡ landed_by_row es ++ at_row (length es) (write_of es e)
 landed_by_row-last es e = let here : 0 + length es ≡ length es = omega arith in rw (← here) (landed_after-last [] 0 es e)
 
 -- the same of the front of a list
-pub stores_next : (h i : ℕ) (es : List Entry) (d : Entry) → i < length es → stores_by_row h 0 (take (i + 1) es) ≡ stores_by_row h 0 (take i es) ++ at_row i (store_of h (get_or es i d))
+pub stores_next : (h i : ℕ) (es : List Entry) (d : Entry) → i < length es
+    → stores_by_row h 0 (take (i + 1) es) ≡ stores_by_row h 0 (take i es) ++ at_row i (store_of h (get_or es i d))
 stores_next h i es d within =
     let so_far : 0 + length (take i es) ≡ i = omega (arith, length-take i es, within) in
     rw (take_more es i d within, stores_by_row-last h 0 (take i es) (get_or es i d), so_far) refl
 
-pub landed_next : (i : ℕ) (es : List Entry) (d : Entry) → i < length es → landed_by_row (take (i + 1) es) ≡ landed_by_row (take i es) ++ at_row i (write_of (take i es) (get_or es i d))
+pub landed_next : (i : ℕ) (es : List Entry) (d : Entry) → i < length es
+    → landed_by_row (take (i + 1) es) ≡ landed_by_row (take i es) ++ at_row i (write_of (take i es) (get_or es i d))
 landed_next i es d within =
     let so_far : length (take i es) ≡ i = omega (arith, length-take i es, within) in
     rw (take_more es i d within, landed_by_row-last (take i es) (get_or es i d), so_far) refl
@@ -151,11 +173,14 @@ landed_next i es d within =
 pub lands_next : (h i : ℕ) (es : List Entry) (d : Entry) → i < length es → lands h (take (i + 1) es) ≡ lands h (take i es) + lands h (get_or es i d ∷ [])
 lands_next h i es d within = rw (take_more es i d within) (lands-append h (take i es) (get_or es i d ∷ []))
 
-newest_from-last : (a : ℕ) (found : Option RowWrite) (ws : List RowWrite) (w : RowWrite) → newest_from a found (ws ++ w ∷ []) ≡ (if covers w.write a then Some w else newest_from a found ws)
+newest_from-last : (a : ℕ) (found : Option RowWrite) (ws : List RowWrite) (w : RowWrite)
+    → newest_from a found (ws ++ w ∷ []) ≡ (if covers w.write a then Some w else newest_from a found ws)
 newest_from-last a found [] w = refl
 newest_from-last a found (x ∷ ws) w = newest_from-last a (if covers x.write a then Some x else found) ws w
 
-pub newest_next : (a i : ℕ) (ws : List RowWrite) (d : RowWrite) → i < length ws → newest_from a None (take (i + 1) ws) ≡ (if covers (get_or ws i d).write a then Some (get_or ws i d) else newest_from a None (take i ws))
+pub newest_next : (a i : ℕ) (ws : List RowWrite) (d : RowWrite) → i < length ws
+    → newest_from a None (take (i + 1) ws)
+    ≡ (if covers (get_or ws i d).write a then Some (get_or ws i d) else newest_from a None (take i ws))
 newest_next a i ws d within = rw (take_more ws i d within) (newest_from-last a None (take i ws) (get_or ws i d))
 
 -- the oldest of a list, with its row and without

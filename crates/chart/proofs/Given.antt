@@ -19,7 +19,10 @@ use Rattle.chart.proofs.ByRow.{writes, byte_by, HasStored, HasWritten, writes-pe
 newest_row : (a : ℕ) (ws : List RowWrite) (plain : List Write) → writes ws ≡ plain → newest_of a None plain ≡ option_map (byte_by a) (newest a ws)
 newest_row a ws plain same = ap (λ (vs : List Write). newest_of a None vs) (sym same) ∙ newest-bytes a None ws
 
-given_by : (o : Start) (es : List Entry) (h a : ℕ) (own memory : Option RowWrite) → IfSome own (HasStored h es) → IfSome memory (HasWritten es) → unwrap_or (option_map (byte_by a) own) (unwrap_or (option_map (byte_by a) memory) (opening_byte o a)) ≡ byte_from o es h a (named own memory)
+given_by : (o : Start) (es : List Entry) (h a : ℕ) (own memory : Option RowWrite) → IfSome own (HasStored h es)
+    → IfSome memory (HasWritten es)
+    → unwrap_or (option_map (byte_by a) own) (unwrap_or (option_map (byte_by a) memory) (opening_byte o a))
+    ≡ byte_from o es h a (named own memory)
 given_by o es h a (Some w) memory stored written = rw stored refl
 given_by o es h a None (Some w) stored written = rw written refl
 given_by o es h a None None stored written = refl
@@ -28,24 +31,35 @@ given_by o es h a None None stored written = refl
 pub byte_given : (o : Start) (es : List Entry) (h a : ℕ) → read_byte o es h a ≡ byte_from o es h a (source_of es h a)
 byte_given o es h a =
     rw (newest_row a (pending_by_row h es) (pending h es) (writes-pending h es), newest_row a (landed_by_row es) (landed es) (writes-landed es))
-    (given_by o es h a (newest a (pending_by_row h es)) (newest a (landed_by_row es)) (newest-is (HasStored h es) a None (pending_by_row h es) tt (pending_stored h es)) (newest-is (HasWritten es) a None (landed_by_row es) tt (landed_written es)))
+    (given_by o es h a (newest a (pending_by_row h es)) (newest a (landed_by_row es))
+    (newest-is (HasStored h es) a None (pending_by_row h es) tt (pending_stored h es))
+    (newest-is (HasWritten es) a None (landed_by_row es) tt (landed_written es)))
 
 pub read_given : (o : Start) (es : List Entry) (h a width : ℕ) → read o es h a width ≡ joined (λ i. byte_from o es h (a + i) (source_of es h (a + i))) width
-read_given o es h a width = joined-same (λ i. read_byte o es h (a + i)) (λ i. byte_from o es h (a + i) (source_of es h (a + i))) width (λ i below. byte_given o es h (a + i))
+read_given o es h a width = joined-same (λ i. read_byte o es h (a + i))
+    (λ i. byte_from o es h (a + i) (source_of es h (a + i))) width (λ i below. byte_given o es h (a + i))
 
-pub load_given : (B : ℕ) (o : Start) (before : List Entry) (h a width v : ℕ) → Allowed B o before (entry.Load h a width v) → v ≡ joined (λ i. byte_from o before h (a + i) (source_of before h (a + i))) width
+pub load_given : (B : ℕ) (o : Start) (before : List Entry) (h a width v : ℕ)
+    → Allowed B o before (entry.Load h a width v)
+    → v ≡ joined (λ i. byte_from o before h (a + i) (source_of before h (a + i))) width
 load_given B o before h a width v may = may ∙ read_given o before h a width
 
-pub amo_given : (B : ℕ) (o : Start) (before : List Entry) (h a old new : ℕ) → Allowed B o before (entry.Amo h a old new) → old ≡ joined (λ i. byte_from o before h (a + i) (source_of before h (a + i))) 4
+pub amo_given : (B : ℕ) (o : Start) (before : List Entry) (h a old new : ℕ)
+    → Allowed B o before (entry.Amo h a old new)
+    → old ≡ joined (λ i. byte_from o before h (a + i) (source_of before h (a + i))) 4
 amo_given B o before h a old new may = may.1 ∙ read_given o before h a 4
 
 -- the oldest of some pending stores, where there is one
-oldest_joined : (h : ℕ) (before : List Entry) (ws : List RowWrite) → All (HasStored h before) ws → 0 < length (writes ws) → (row : ℕ) × (row_of (slice_get ws 0) ≡ Some row) × (take 1 (writes ws) ≡ stored_at h before row)
+oldest_joined : (h : ℕ) (before : List Entry) (ws : List RowWrite) → All (HasStored h before) ws
+    → 0 < length (writes ws)
+    → (row : ℕ) × (row_of (slice_get ws 0) ≡ Some row) × (take 1 (writes ws) ≡ stored_at h before row)
 oldest_joined h before [] all some = absurd (omega (arith, some))
 oldest_joined h before (w ∷ ws) all some = (w.row, refl, sym (All-head (HasStored h before) w ws all))
 
 -- a landing writes what its own hart stored in the row that it is joined to
-pub landing_joined : (B : ℕ) (o : Start) (before : List Entry) (h : ℕ) → Allowed B o before (entry.Land h) → (row : ℕ) × (landed_store before (entry.Land h) ≡ Some row) × (write_of before (entry.Land h) ≡ stored_at h before row)
+pub landing_joined : (B : ℕ) (o : Start) (before : List Entry) (h : ℕ) → Allowed B o before (entry.Land h)
+    → (row : ℕ) × (landed_store before (entry.Land h) ≡ Some row)
+    × (write_of before (entry.Land h) ≡ stored_at h before row)
 landing_joined B o before h may =
     let same = writes-pending h before in
     let joined_row = oldest_joined h before (pending_by_row h before) (pending_stored h before) (subst (λ (ws : List Write). 0 < length ws) (sym same) may) in

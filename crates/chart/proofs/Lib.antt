@@ -9,3 +9,4 @@ pub mod PlaceLaws
 pub mod SceneLaws
 pub mod LineLaws
 pub mod FootLaws
+pub mod SvgLaws

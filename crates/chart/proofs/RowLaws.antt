@@ -6,9 +6,11 @@ use Rattle.chart.specs.Rows.{RowOf, row_after, rows_after, rows_of}
 
 rows_after-last : (before es : List Entry) (e : Entry) → rows_after before (es ++ e ∷ []) ≡ rows_after before es ++ row_after (before ++ es) e ∷ []
 rows_after-last before [] e = rw (append-nil before) refl
-rows_after-last before (x ∷ es) e = ap (λ (rows : List RowOf). row_after before x ∷ rows) (rows_after-last (before ++ x ∷ []) es e ∙ rw (append_assoc before (x ∷ []) es) refl)
+rows_after-last before (x ∷ es) e = ap (λ (rows : List RowOf). row_after before x ∷ rows)
+    (rows_after-last (before ++ x ∷ []) es e ∙ rw (append_assoc before (x ∷ []) es) refl)
 
-pub rows_next : (i : ℕ) (es : List Entry) (d : Entry) → i < length es → rows_of (take (i + 1) es) ≡ rows_of (take i es) ++ row_after (take i es) (get_or es i d) ∷ []
+pub rows_next : (i : ℕ) (es : List Entry) (d : Entry) → i < length es
+    → rows_of (take (i + 1) es) ≡ rows_of (take i es) ++ row_after (take i es) (get_or es i d) ∷ []
 rows_next i es d within = rw (take_more es i d within) (rows_after-last [] (take i es) (get_or es i d))
 
 entries_after : (before es : List Entry) → map (λ (r : RowOf). r.entry) (rows_after before es) ≡ es

@@ -10,3 +10,4 @@ pub mod Places
 pub mod Scenes
 pub mod Lines
 pub mod Layout
+pub mod Svg

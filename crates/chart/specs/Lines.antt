@@ -12,7 +12,7 @@ use Rattle.chart.specs.declared.lanes.Held.{Held}
 use Rattle.chart.specs.declared.sources.Source.{Source}
 use Rattle.chart.specs.declared.sources.Source.TheVariants.{Own, Memory, Opening}
 use Rattle.chart.specs.declared.pictures.Sign.{Sign}
-use Rattle.chart.specs.declared.pictures.Sign.TheVariants.{Flat, Double, Down, Bend, Lands, From, To, Joins, Cut, Open}
+use Rattle.chart.specs.declared.pictures.Sign.TheVariants.{Flat, Double, Reads, Down, Bend, Lands, From, Reader, To, Joins, Cut, Open}
 use Rattle.chart.specs.declared.pictures.Stroke.{Stroke}
 use Rattle.chart.specs.declared.scenes.Form.{Form}
 use Rattle.chart.specs.Rows.{RowOf}
@@ -62,7 +62,7 @@ is_read sources h = list_any (is_own h.row) sources
 -- the line of what a row reads from a pending store
 abbrev pub read_strokes : PlacesOf → List Source → (column behind : ℕ) → Held → List Stroke
 read_strokes p sources column behind h =
-    if is_read sources h then sign_at From (behind + 1) column ∷ across Flat (behind + 2) (lane_cell p h) column ∷ [] else []
+    if is_read sources h then sign_at Reader (behind + 1) column ∷ across Reads (behind + 2) (lane_cell p h) column ∷ [] else []
 
 -- a pending store's line in a row that it passes, with an `o` where the row reads it
 abbrev pub passing_stroke : PlacesOf → List Source → Held → Stroke

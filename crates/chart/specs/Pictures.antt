@@ -4,7 +4,7 @@ use Rattle.std.specs.Prelude.{ℕ, zero, suc, ◌-◌, ◌==◌, ◌&&◌, nat_l
 use Rattle.std.specs.Prelude.{Bool, List, [], ◌∷◌, ◌++◌, map, Option, None, unwrap_or}
 use Rattle.std.specs.List.{slice_get, flat_map}
 use Rattle.chart.specs.declared.pictures.Sign.{Sign}
-use Rattle.chart.specs.declared.pictures.Sign.TheVariants.{Flat, Double, Down, Bend, Lands, From, To, Joins, Cut, Open}
+use Rattle.chart.specs.declared.pictures.Sign.TheVariants.{Flat, Double, Reads, Down, Bend, Lands, From, Reader, To, Joins, Cut, Open}
 use Rattle.chart.specs.declared.pictures.Stroke.{Stroke}
 
 pub record MarkOf : Type 0 where
@@ -30,10 +30,12 @@ pub record PictureOf : Type 0 where
 abbrev pub sign_byte : Sign → ℕ
 sign_byte Flat = 45
 sign_byte Double = 61
+sign_byte Reads = 45
 sign_byte Down = 124
 sign_byte Bend = 46
 sign_byte Lands = 39
 sign_byte From = 60
+sign_byte Reader = 60
 sign_byte To = 62
 sign_byte Joins = 111
 sign_byte Cut = 126

@@ -4,6 +4,7 @@ ghost use Rattle.std.specs.Prelude.{◌≡◌, ◌++◌, map, IfOk, OnOk};
 ghost use Rattle.std.specs.List.{slice_get};
 ghost use Rattle.std.specs.String.{string_bytes};
 ghost use Rattle.chart.specs.Sources.{pending_by_row as pending_of_rows};
+ghost use Rattle.chart.specs.Svg.{chart_svg as svg_of_chart};
 ghost use Rattle.chart.specs.Layout.{pending_line as line_of_pending, pending_text, pending_of_hart, pending_of_run, value_text, value_line as line_of_value, verdict_text, verdict_line as line_of_verdict, head_of, foot_of, layout as layout_of_run, chart_text as text_of_chart};
 
 use crate::layout::picture_of;
@@ -11,6 +12,7 @@ use crate::naming::push_part;
 use crate::pictures::Picture;
 use crate::scenes::scene_of_run;
 use crate::sources::{RowWrite, pending_by_row};
+use crate::svg::svg;
 use crate::text::text;
 use std::alloc::{AllocError, Global};
 use std::marker::Model;
@@ -208,4 +210,13 @@ pub fn chart_text(alloc: Global, about: About, entries: &[Entry]) -> Result<Stri
 {
     let picture = layout(alloc, about, entries)?;
     text(alloc, &picture)
+}
+
+/// The picture of a run with these entries, in SVG 1.1: ASCII alone, with no script, link or font of its own.
+pub fn chart_svg(alloc: Global, about: About, entries: &[Entry]) -> Result<String, AllocError>
+    ensures { IfOk result (λ text. string_bytes text ≡ svg_of_chart about entries.now) }
+{
+    let harts = about.harts;
+    let drawn = layout(alloc, about, entries)?;
+    svg(alloc, harts, entries.len(), &drawn)
 }

@@ -12,14 +12,18 @@ pub enum Sign {
     Flat,
     /// The horizontal line of an AMO.
     Double,
+    /// The horizontal line of a load, from a pending store that it reads.
+    Reads,
     /// A pending store, downwards.
     Down,
     /// Where a store's line turns down.
     Bend,
     /// Where a landing's line turns to memory.
     Lands,
-    /// The head of an arrow at a row's text.
+    /// The head of an AMO's arrow at its text.
     From,
+    /// The head of a load's arrow at its text.
+    Reader,
     /// The head of an arrow at memory.
     To,
     /// Where a load's line joins the store that it reads.
@@ -101,10 +105,12 @@ impl Sign {
         match self {
             Sign::Flat => b'-',
             Sign::Double => b'=',
+            Sign::Reads => b'-',
             Sign::Down => b'|',
             Sign::Bend => b'.',
             Sign::Lands => b'\'',
             Sign::From => b'<',
+            Sign::Reader => b'<',
             Sign::To => b'>',
             Sign::Joins => b'o',
             Sign::Cut => b'~',

@@ -131,8 +131,8 @@ fn push_read(
 {
     if is_read(sources, held) {
         let lane = places.lane_cell(held) as usize;
-        out.push(sign_at(Sign::From, behind as usize + 1, column))?;
-        out.push(across(Sign::Flat, behind as usize + 2, lane, column))?;
+        out.push(sign_at(Sign::Reader, behind as usize + 1, column))?;
+        out.push(across(Sign::Reads, behind as usize + 2, lane, column))?;
     }
     Ok(())
 }

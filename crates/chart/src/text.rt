@@ -51,7 +51,7 @@ fn marked(marks: &[Mark], cell: usize, stroke: u8) -> u8
     found
 }
 
-fn shown(byte: u8) -> u8
+pub(crate) fn shown(byte: u8) -> u8
     ensures value { result ≡ shown_byte byte }
     ensures ascii { result < 128 }
 {
@@ -89,7 +89,7 @@ fn end_of(line: &Line, width: usize) -> usize
     end
 }
 
-fn push_byte(out: &mut String, byte: u8) -> Result<(), AllocError>
+pub(crate) fn push_byte(out: &mut String, byte: u8) -> Result<(), AllocError>
     requires { byte < 128 }
     ensures { OnOk result (string_bytes out.new ≡ string_bytes out.old ++ byte ∷ []) }
 {
@@ -122,7 +122,8 @@ fn push_lines(out: &mut String, lines: &[Line], width: usize) -> Result<(), Allo
     Ok(())
 }
 
-fn push_shown(out: &mut String, bytes: &[u8]) -> Result<(), AllocError>
+/// Some bytes as pictures show them: one that isn't a blank or a sign of ASCII is `?`.
+pub fn push_shown(out: &mut String, bytes: &[u8]) -> Result<(), AllocError>
     ensures { OnOk result (string_bytes out.new ≡ string_bytes out.old ++ map shown_byte bytes.now) }
 {
     for byte in bytes {

@@ -3,8 +3,8 @@ use Rattle.std.proofs.Common.{◌≡◌, ℕ, zero, suc, ◌+◌, Bool, false, L
 use Rattle.std.specs.Prelude.{MatchOption}
 use Rattle.std.specs.List.{slice_get}
 use Rattle.step_machine.specs.declared.events.Event.{Event}
-use Rattle.debugger.specs.declared.walk.Source.TheVariants.{Schedule}
-use Rattle.debugger.specs.Walks.{Way}
+use Rattle.debugger.specs.declared.debugger.Source.TheVariants.{Schedule}
+use Rattle.debugger.specs.DebuggerStates.{DebuggerState}
 use Rattle.debugger.specs.DebugText.{end_line, break_line}
 use Rattle.debugger.specs.Debugging.{stop_before, Does, DoesAll}
 
@@ -30,16 +30,16 @@ on_some None P Q x e q = cc
 on_some (Some y) P Q x e q = let same : x ≡ y = cc in subst Q same q
 
 -- the schedule is at its end
-pub runs_out : (B M : ℕ) (points : List (ℕ × ℕ)) (first : Bool) (old : Way) → slice_get old.schedule old.place ≡ None → DoesAll B M points (drop old.place old.schedule) first old end_line old
+pub runs_out : (B M : ℕ) (points : List (ℕ × ℕ)) (first : Bool) (old : DebuggerState) → slice_get old.schedule old.place ≡ None → DoesAll B M points (drop old.place old.schedule) first old end_line old
 runs_out B M points first old e = subst (λ (evs : List Event). DoesAll B M points evs first old end_line old) (sym (drop_past old.schedule old.place e)) (refl, refl)
 
 -- the next event finds its hart at a breakpoint
-pub held_up : (B M : ℕ) (points : List (ℕ × ℕ)) (first : Bool) (old : Way) (ev : Event) (point : ℕ × ℕ) → slice_get old.schedule old.place ≡ Some ev → stop_before M points first old.past.history ev ≡ Some point → DoesAll B M points (drop old.place old.schedule) first old (break_line point.0 point.1) old
+pub held_up : (B M : ℕ) (points : List (ℕ × ℕ)) (first : Bool) (old : DebuggerState) (ev : Event) (point : ℕ × ℕ) → slice_get old.schedule old.place ≡ Some ev → stop_before M points first old.past.history ev ≡ Some point → DoesAll B M points (drop old.place old.schedule) first old (break_line point.0 point.1) old
 held_up B M points first old ev point e stop =
     subst (λ (evs : List Event). DoesAll B M points evs first old (break_line point.0 point.1) old) (sym (drop_at old.schedule old.place ev e)) (on_some (stop_before M points first old.past.history ev) _ _ point stop (refl, refl))
 
 -- the next event is done, and then those behind it
-pub runs_more : (B M : ℕ) (points : List (ℕ × ℕ)) (first : Bool) (old : Way) (ev : Event) (line : List ℕ) (mid : Way) (later : List ℕ) (new : Way) → slice_get old.schedule old.place ≡ Some ev → stop_before M points first old.past.history ev ≡ None → Does B M old ev Schedule line mid
+pub runs_more : (B M : ℕ) (points : List (ℕ × ℕ)) (first : Bool) (old : DebuggerState) (ev : Event) (line : List ℕ) (mid : DebuggerState) (later : List ℕ) (new : DebuggerState) → slice_get old.schedule old.place ≡ Some ev → stop_before M points first old.past.history ev ≡ None → Does B M old ev Schedule line mid
     → DoesAll B M points (drop mid.place mid.schedule) false mid later new → DoesAll B M points (drop old.place old.schedule) first old (line ++ later) new
 runs_more B M points first old ev line mid later new e stop does then =
     let behind : drop mid.place mid.schedule ≡ drop (old.place + 1) old.schedule = ap (drop mid.place) does.1.schedule ∙ ap (λ (n : ℕ). drop n old.schedule) does.1.place in

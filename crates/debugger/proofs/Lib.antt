@@ -1,6 +1,6 @@
 pub mod SessionLaws
 pub mod SnapshotLaws
-pub mod WalkLaws
+pub mod DebuggerLaws
 pub mod DebugLaws
-pub mod TalkLaws
-pub mod OneTalk
+pub mod TranscriptLaws
+pub mod OneTranscript

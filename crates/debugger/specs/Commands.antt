@@ -7,17 +7,17 @@ use Rattle.debugger.specs.declared.debug.command.Command.{Command}
 use Rattle.debugger.specs.declared.debug.command.Command.TheVariants.{Step, Go, Give, Break, Hart, Pending, Word, Back, Count, Quit}
 
 -- what a letter asks for by itself
-abbrev pub asked_alone : List ℕ → Option Command
-asked_alone name =
+abbrev pub command_alone : List ℕ → Option Command
+command_alone name =
     if bytes_eq name (codes "s") then Some Step else
     (if bytes_eq name (codes "g") then Some Go else
     (if bytes_eq name (codes "t") then Some Count else
     (if bytes_eq name (codes "q") then Some Quit else None)))
 
--- What a letter asks for with a number. How far to go back is told by 2^32 at most, and the other
+-- What a letter asks for with a number. How far to go back is a number up to 2^32, and the other
 -- numbers are below that.
-abbrev pub asked_with_one : (name number : List ℕ) → Option Command
-asked_with_one name number =
+abbrev pub command_with_one : (name number : List ℕ) → Option Command
+command_with_one name number =
     if bytes_eq name (codes "a") then option_map (λ hart. Give (Act hart)) (word_of number) else
     (if bytes_eq name (codes "l") then option_map (λ hart. Give (Land hart)) (word_of number) else
     (if bytes_eq name (codes "r") then option_map Hart (word_of number) else
@@ -26,14 +26,14 @@ asked_with_one name number =
     (if bytes_eq name (codes "u") then option_map Back (number_of number) else None)))))
 
 -- what a letter asks for with two numbers
-abbrev pub asked_with_two : (name first second : List ℕ) → Option Command
-asked_with_two name first second =
+abbrev pub command_with_two : (name first second : List ℕ) → Option Command
+command_with_two name first second =
     if bytes_eq name (codes "b") then option_and_then (λ hart. option_map (Break hart) (word_of second)) (word_of first) else None
 
 -- what the words of a line ask for, if that is anything
-abbrev pub asked : List (List ℕ) → Option Command
-asked [] = None
-asked (name ∷ []) = asked_alone name
-asked (name ∷ number ∷ []) = asked_with_one name number
-asked (name ∷ first ∷ second ∷ []) = asked_with_two name first second
-asked (name ∷ first ∷ second ∷ third ∷ others) = None
+abbrev pub command_in : List (List ℕ) → Option Command
+command_in [] = None
+command_in (name ∷ []) = command_alone name
+command_in (name ∷ number ∷ []) = command_with_one name number
+command_in (name ∷ first ∷ second ∷ []) = command_with_two name first second
+command_in (name ∷ first ∷ second ∷ third ∷ others) = None

@@ -10,9 +10,9 @@ use Rattle.step_machine.specs.declared.events.Event.TheVariants as event
 use Rattle.step_machine.specs.declared.events.Outcome.{Outcome}
 use Rattle.debugger.specs.declared.debug.command.Command.{Command}
 use Rattle.debugger.specs.declared.debug.command.Command.TheVariants as command
-use Rattle.debugger.specs.declared.walk.Source.{Source}
-use Rattle.debugger.specs.declared.walk.Source.TheVariants.{Schedule, User}
-use Rattle.debugger.specs.Walks.{Way, Walks, WalksBack}
+use Rattle.debugger.specs.declared.debugger.Source.{Source}
+use Rattle.debugger.specs.declared.debugger.Source.TheVariants.{Schedule, User}
+use Rattle.debugger.specs.DebuggerStates.{DebuggerState, TakesEvent, GoesBackBy}
 use Rattle.engine_parts.specs.StateText.{hart_shown}
 use Rattle.recorder.specs.Outcomes.{outcome_line}
 use Rattle.debugger.specs.DebugText.{end_line, break_line, number_line, store_lines, unknown_line}
@@ -58,30 +58,30 @@ word_answer M t addr = if (addr % 4 == 0) && nat_lt (addr / 4) M then number_lin
 
 -- ---- what is done
 
--- one event, and its outcome is told
-abbrev pub Does : (B M : ℕ) (old : Way) → Event → Source → (text : List ℕ) (new : Way) → Type 0
-Does B M old ev source text new = (outcome : Outcome) × Walks B M old ev source outcome new × (text ≡ outcome_line ev outcome)
+-- one event, and its outcome is printed
+abbrev pub Does : (B M : ℕ) (old : DebuggerState) → Event → Source → (text : List ℕ) (new : DebuggerState) → Type 0
+Does B M old ev source text new = (outcome : Outcome) × TakesEvent B M old ev source outcome new × (text ≡ outcome_line ev outcome)
 
--- the schedule's next event, or it is told that there is none
-abbrev pub DoesNext : (B M : ℕ) (old : Way) (text : List ℕ) (new : Way) → Type 0
+-- the schedule's next event, or the line that there is none
+abbrev pub DoesNext : (B M : ℕ) (old : DebuggerState) (text : List ℕ) (new : DebuggerState) → Type 0
 DoesNext B M old text new = MatchOption (slice_get old.schedule old.place) ((text ≡ end_line) × (new ≡ old)) (λ ev. Does B M old ev Schedule text new)
 
 -- The schedule's events from here on, which are these: to its end, or to the next one, other than the
 -- first, that finds its hart at a breakpoint.
-abbrev pub DoesAll : (B M : ℕ) → List (ℕ × ℕ) → List Event → (first : Bool) (old : Way) (text : List ℕ) (new : Way) → Type 0
+abbrev pub DoesAll : (B M : ℕ) → List (ℕ × ℕ) → List Event → (first : Bool) (old : DebuggerState) (text : List ℕ) (new : DebuggerState) → Type 0
 DoesAll B M points [] first old text new = (text ≡ end_line) × (new ≡ old)
 DoesAll B M points (ev ∷ evs) first old text new = MatchOption (stop_before M points first old.past.history ev)
-    ((line : List ℕ) × (mid : Way) × (later : List ℕ) × Does B M old ev Schedule line mid × (text ≡ line ++ later) × DoesAll B M points evs false mid later new)
+    ((line : List ℕ) × (mid : DebuggerState) × (later : List ℕ) × Does B M old ev Schedule line mid × (text ≡ line ++ later) × DoesAll B M points evs false mid later new)
     (λ point. (text ≡ break_line point.0 point.1) × (new ≡ old))
 
 -- ---- a command
 
 -- what is only looked at changes nothing
-abbrev pub Looks : (shown : List ℕ) → (old : Way) (text : List ℕ) (new : Way) → Type 0
+abbrev pub Looks : (shown : List ℕ) → (old : DebuggerState) (text : List ℕ) (new : DebuggerState) → Type 0
 Looks shown old text new = (text ≡ shown) × (new ≡ old)
 
--- the command prints this text, and leads from a walk and breakpoints to others
-abbrev pub Answers : (B M : ℕ) → Command → (old new : Way) (points others : List (ℕ × ℕ)) (text : List ℕ) → Type 0
+-- the command prints this text, and leads from a debugger and breakpoints to others
+abbrev pub Answers : (B M : ℕ) → Command → (old new : DebuggerState) (points others : List (ℕ × ℕ)) (text : List ℕ) → Type 0
 Answers B M command.Step old new points others text = DoesNext B M old text new × (others ≡ points)
 Answers B M command.Go old new points others text = DoesAll B M points (drop old.place old.schedule) true old text new × (others ≡ points)
 Answers B M (command.Give ev) old new points others text = Does B M old ev User text new × (others ≡ points)
@@ -89,6 +89,6 @@ Answers B M (command.Break hart pc) old new points others text = Breaks old.past
 Answers B M (command.Hart hart) old new points others text = Looks (hart_answer M old.past.history hart) old text new × (others ≡ points)
 Answers B M (command.Pending hart) old new points others text = Looks (pending_answer old.past.history hart) old text new × (others ≡ points)
 Answers B M (command.Word addr) old new points others text = Looks (word_answer M old.past.history addr) old text new × (others ≡ points)
-Answers B M (command.Back k) old new points others text = WalksBack B M old k new × (text ≡ []) × (others ≡ points)
+Answers B M (command.Back k) old new points others text = GoesBackBy B M old k new × (text ≡ []) × (others ≡ points)
 Answers B M command.Count old new points others text = Looks (number_line (length old.past.events)) old text new × (others ≡ points)
 Answers B M command.Quit old new points others text = Looks [] old text new × (others ≡ points)

@@ -1,8 +1,8 @@
 pub mod Sessions
 pub mod Nearest
-pub mod Walks
+pub mod DebuggerStates
 pub mod Commands
 pub mod DebugText
 pub mod Debugging
-pub mod Talks
+pub mod Transcripts
 pub mod inner

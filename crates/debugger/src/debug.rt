@@ -1,17 +1,17 @@
-//! The command `debug`: a walk along a schedule's run of a litmus test, at a user's commands.
+//! The command `debug`: along a schedule's run of a litmus test, at a user's commands.
 
 ghost use Rattle.std.specs.Prelude.{◌≡◌, ◌≤◌, ◌⊎◌, ℕ, List, [], Ok};
 ghost use Rattle.std.specs.Io.KnownBytes.{Appends};
 ghost use Rattle.engine_parts.specs.Engines.{AnswersBoth};
 ghost use Rattle.engine_parts.specs.Tests.{HasNoTest};
 ghost use Rattle.engine_parts.specs.Histories.{ByEvents};
-ghost use Rattle.debugger.specs.Talks.{EndsAloud, IsDebugAnswer, IsDebugFront, OnRefused, OnStopped};
+ghost use Rattle.debugger.specs.Transcripts.{EndsInteractive, IsDebugAnswer, IsDebugFront, OnRefused, OnStopped};
 ghost use Rattle.engine_parts.specs.inner.Making.{Finds};
-ghost use Rattle.debugger.specs.inner.Talking.{IsSetOut};
+ghost use Rattle.debugger.specs.inner.Failures.{IsAtStart};
 ghost use Rattle.litmus.specs.declared.litmus_test.TheConstants.{MAX_LOCATIONS};
 
-use crate::debug::talk::talk;
-use crate::walk::Walk;
+use crate::debug::conversation::converse;
+use crate::debugger::Debugger;
 use engine_parts::fault::Fault;
 use engine_parts::litmus_text::read_test;
 use engine_parts::schedule::read_schedule;
@@ -21,37 +21,37 @@ use std::io::{BufRead, Read, Write};
 mod answers;
 mod breakpoints;
 mod command;
+mod conversation;
 mod lines;
 mod looking;
-mod talk;
 
-/// A walk at the opening of the test that a litmus text stands for, along a schedule's events. The schedule
+/// A debugger at the opening of the test that a litmus text stands for, along a schedule's events. The schedule
 /// is read after an accepted test only.
-fn read_walk<const B: usize, const M: usize, F: Read, S: Read>(
+fn open_debugger<const B: usize, const M: usize, F: Read, S: Read>(
     alloc: Global,
     file: &mut F,
     schedule: &mut S,
-) -> Result<Walk<B, M>, Fault>
+) -> Result<Debugger<B, M>, Fault>
     requires some_capacity { 1 ≤ B }
     requires capacity { B ≤ 64 }
     requires words { MAX_LOCATIONS ≤ M }
     requires size { M ≤ 65536 }
-    ensures walk { Finds (AnswersBoth (ByEvents IsSetOut) (F.remaining file.old) (S.remaining schedule.old)) (λ walk. walk) result }
+    ensures debugger { Finds (AnswersBoth (ByEvents IsAtStart) (F.remaining file.old) (S.remaining schedule.old)) (λ debugger. debugger) result }
     ensures unread { HasNoTest (F.remaining file.old) → schedule.new ≡ schedule.old }
 {
     let test = read_test(alloc, file)?;
     let said = read_schedule(alloc, schedule)?;
     let opening = test.opening(alloc)?;
     let events = said.into_events(alloc)?;
-    let walk = Walk::open(alloc, opening, events)?;
-    Ok(walk)
+    let debugger = Debugger::open(alloc, opening, events)?;
+    Ok(debugger)
 }
 
 /// Reads a litmus text and then a schedule, each to its end, and then answers a user's commands, a line
 /// each, each as soon as it is read: docs/formats.md has them. The machine has store buffers of `B`
 /// pairs and `M` words of memory.
 ///
-/// The walk goes along the events of a schedule of either version. What a record says of their outcomes is
+/// The debugger goes along the events of a schedule of either version. What a record says of their outcomes is
 /// not checked: each step prints the run's.
 ///
 /// The first two texts are refused as `run` refuses them, before the first command
@@ -69,7 +69,7 @@ pub fn debug_engine<const B: usize, const M: usize, F: Read, S: Read, C: BufRead
     requires capacity { B ≤ 64 }
     requires words { MAX_LOCATIONS ≤ M }
     requires size { M ≤ 65536 }
-    ensures ends { EndsAloud (AnswersBoth (IsDebugAnswer B M (C.remaining commands.old)) (F.remaining file.old) (S.remaining schedule.old)) result W.contents writer.old writer.new }
+    ensures ends { EndsInteractive (AnswersBoth (IsDebugAnswer B M (C.remaining commands.old)) (F.remaining file.old) (S.remaining schedule.old)) result W.contents writer.old writer.new }
     ensures unread { HasNoTest (F.remaining file.old) → schedule.new ≡ schedule.old }
     ensures unasked { OnRefused result (commands.new ≡ commands.old) }
 
@@ -77,6 +77,6 @@ pub fn debug_engine<const B: usize, const M: usize, F: Read, S: Read, C: BufRead
     ensures left { OnStopped result ((out : List ℕ) × Appends (W.contents writer.old) (W.contents writer.new) out
         × ((out ≡ []) ⊎ AnswersBoth (IsDebugFront B M (C.remaining commands.old)) (F.remaining file.old) (S.remaining schedule.old) (Ok (out, tt)))) }
 {
-    let walk = read_walk::<B, M, F, S>(alloc, file, schedule)?;
-    talk(alloc, walk, commands, writer)
+    let debugger = open_debugger::<B, M, F, S>(alloc, file, schedule)?;
+    converse(alloc, debugger, commands, writer)
 }

@@ -29,7 +29,8 @@ pub one_added : (old mid new shown more line : List ℕ) → mid ≡ old ++ show
 one_added old mid new shown more line before added is =
     added ∙ ap (λ (xs : List ℕ). xs ++ line) before ∙ append_assoc old shown line ∙ ap (λ (xs : List ℕ). old ++ xs) (sym is)
 
--- two parts, the second of which may fail
-pub two_added : {E : Type 0} (r : Result (Unit {0}) E) (old mid new first second both : List ℕ) → mid ≡ old ++ first → OnOk r (new ≡ mid ++ second) → both ≡ first ++ second → OnOk r (new ≡ old ++ both)
-two_added (Ok x) old mid new first second both before added is = one_added old mid new first both second before added is
-two_added (Err e) old mid new first second both before added is = tt
+-- two parts, the second of which may fail, for each x of which this holds
+pub two_added : {E X : Type 0} (Of : X → Type 0) (r : Result (Unit {0}) E) (old mid new first : List ℕ) (second both : X → List ℕ) → mid ≡ old ++ first
+    → OnOk r ((x : X) → Of x → new ≡ mid ++ second x) → ((x : X) → Of x → both x ≡ first ++ second x) → OnOk r ((x : X) → Of x → new ≡ old ++ both x)
+two_added Of (Ok done) old mid new first second both before added is = λ x of. one_added old mid new first (both x) (second x) before (added x of) (is x of)
+two_added Of (Err e) old mid new first second both before added is = tt

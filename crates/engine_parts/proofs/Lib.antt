@@ -2,10 +2,10 @@ pub mod Counted
 pub mod StateLines
 pub mod Judging
 pub mod Endings
-pub mod HistoryLaws
 pub mod LineFaulted
 pub mod TestTexts
 pub mod ScheduleTexts
 pub mod ThreadRuns
 pub mod RunLaws
 pub mod ScheduleLaws
+pub mod OneInput

@@ -1,5 +1,5 @@
 -- What answers a litmus text and a schedule of either version, from what was read and made of them.
-use Rattle.std.proofs.Common.{◌≡◌, ℕ, List, [], Result, Ok, Err}
+use Rattle.std.proofs.Common.{◌≡◌, ℕ, List, [], Result, Ok, Err, subst}
 use Rattle.std.specs.Prelude.{Option, Some, None}
 use Rattle.litmus.specs.LitmusTests.{LitmusTest}
 use Rattle.recorder.specs.Versions.{Said}
@@ -12,7 +12,7 @@ use Rattle.engine_parts.specs.Tests.{IsNoTest}
 use Rattle.engine_parts.specs.Histories.{BySchedule}
 use Rattle.engine_parts.specs.Histories.BySchedule.{no_test, no_schedule, both}
 use Rattle.engine_parts.specs.inner.Making.{Finds, FindsBy}
-use Rattle.engine_parts.specs.inner.Inputs.{IsReadAsTest, IsReadAsSchedule}
+use Rattle.engine_parts.specs.inner.Inputs.{IsReadAsTest, IsReadAsSchedule, AreRead, test_and_said}
 use Rattle.engine_parts.proofs.Endings.{weaker}
 
 -- what is asked of both, in other words
@@ -28,6 +28,11 @@ stopped_as P Q view seen (Refused r) more answers = more r answers
 stopped_as P Q view seen NoMemory more answers = tt
 stopped_as P Q view seen ReadFailed more answers = answers
 stopped_as P Q view seen WriteFailed more answers = answers
+
+-- the same of a result that hands the fault on
+pub stopped_by : {A C X Y : Type 0} (P : Result A Refusal → Type 0) (Q : Result C Refusal → Type 0) (view : X → A) (seen : Y → C) (result : Result Y Fault) (fault : Fault)
+    → ((refusal : Refusal) → P (Err refusal) → Q (Err refusal)) → result ≡ Err fault → AnswersAs P view (Err fault) → AnswersAs Q seen result
+stopped_by P Q view seen result fault more is answers = rw is (stopped_as P Q view seen fault more answers)
 
 module _ (first second : Option (List ℕ)) where
   -- what answers both, by their bytes
@@ -76,10 +81,27 @@ module _ (first second : Option (List ℕ)) where
       made_of_both question said test schedule (Err ReadFailed) is answers = absurd answers
       made_of_both question said test schedule (Err WriteFailed) is answers = absurd answers
 
-  -- a fault on the way to an answer, where each refusal of the one is one of the other
-  pub fault_as : {A C X Y : Type 0} (P : LitmusTest → Said → Result A Refusal → Type 0) (Q : LitmusTest → Said → Result C Refusal → Type 0) (seen : X → C) (view : Y → A) (result : Result X Fault) (fault : Fault)
-      → ((question : LitmusTest) (said : Said) (refusal : Refusal) → P question said (Err refusal) → Q question said (Err refusal)) → result ≡ Err fault → Finds (AnswersBoth (BySchedule P) first second) view (Err fault) → Finds (AnswersBoth (BySchedule Q) first second) seen result
-  fault_as P Q seen view result (Refused r) more is finds = rw is (weaker_both (BySchedule P) (BySchedule Q) (Err r) (Err r) (by_schedule_as P Q r (λ question said. more question said r)) finds)
-  fault_as P Q seen view result NoMemory more is finds = rw is tt
-  fault_as P Q seen view result ReadFailed more is finds = rw is tt
-  fault_as P Q seen view result WriteFailed more is finds = rw is finds
+  -- what is made of what was read answers both
+  module _ {A X : Type 0} (IsAnswer : LitmusTest → Said → Result A Refusal → Type 0) (seen : X → A) (result : Result X Fault) where
+    answered : (question : LitmusTest) (said : Said) (answer : Result A Refusal) → IsAnswer question said answer
+        → AnswersBoth (BySchedule AreRead) first second (Ok (question, said)) → AnswersBoth (BySchedule IsAnswer) first second answer
+    answered question said answer told = weaker_both (BySchedule AreRead) (BySchedule IsAnswer) (Ok (question, said)) answer more
+      where
+        more : (file schedule : List ℕ) → BySchedule AreRead file schedule (Ok (question, said)) → BySchedule IsAnswer file schedule answer
+        more file schedule (both asked told_said given test says is) =
+            both asked told_said answer test says (subst (λ (read : LitmusTest × Said). IsAnswer read.0 read.1 answer) is told)
+
+    pub made_of_read : (question : LitmusTest) (said : Said) (made : Result X Fault) → result ≡ made
+        → AnswersBoth (BySchedule AreRead) first second (Ok (question, said)) → AnswersAs (IsAnswer question said) seen made → Finds (AnswersBoth (BySchedule IsAnswer) first second) seen result
+    made_of_read question said (Ok x) is read answers = rw is (answered question said (Ok (seen x)) answers read)
+    made_of_read question said (Err (Refused r)) is read answers = rw is (answered question said (Err r) answers read)
+    made_of_read question said (Err NoMemory) is read answers = rw is tt
+    made_of_read question said (Err ReadFailed) is read answers = absurd answers
+    made_of_read question said (Err WriteFailed) is read answers = absurd answers
+
+    -- and so does a fault in reading them
+    pub read_fault : (fault : Fault) → result ≡ Err fault → Finds (AnswersBoth (BySchedule AreRead) first second) test_and_said (Err fault) → Finds (AnswersBoth (BySchedule IsAnswer) first second) seen result
+    read_fault (Refused r) is finds = rw is (weaker_both (BySchedule AreRead) (BySchedule IsAnswer) (Err r) (Err r) (by_schedule_as AreRead IsAnswer r (λ question said never. absurd never)) finds)
+    read_fault NoMemory is finds = rw is tt
+    read_fault ReadFailed is finds = rw is tt
+    read_fault WriteFailed is finds = rw is finds

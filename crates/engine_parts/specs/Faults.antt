@@ -41,6 +41,11 @@ AnswersAs IsAnswer view (Err NoMemory) = Unit {0}
 AnswersAs IsAnswer view (Err ReadFailed) = ⊥
 AnswersAs IsAnswer view (Err WriteFailed) = ⊥
 
+-- The same of what stands in this relation to an answer.
+abbrev pub AnswersBy : {X Y : Type 0} → (Result Y Refusal → Type 0) → (Y → X → Type 0) → Result X Fault → Type 0
+AnswersBy {Y = Y} IsAnswer IsOf (Ok x) = (y : Y) × IsAnswer (Ok y) × IsOf y x
+AnswersBy IsAnswer IsOf (Err fault) = AnswersAs IsAnswer (λ y. y) (Err fault)
+
 -- and is this answer
 abbrev pub Answers : {X Y : Type 0} → (X → Y) → Result X Fault → Result Y Refusal → Type 0
 Answers view result answer = AnswersAs (λ given. answer ≡ given) view result

@@ -1,28 +1,27 @@
 //! A test's runs.
 
-ghost use Rattle.std.specs.Prelude.{◌≡◌, ◌≤◌, ℕ, List, Result, length, IfOk, OnOk};
+ghost use Rattle.std.specs.Prelude.{◌≡◌, ◌≤◌, ℕ, List, Result, length, IfOk};
 ghost use Rattle.step_machine.specs.History.{Start, History};
-ghost use Rattle.step_machine.specs.Runs.{Run};
-ghost use Rattle.step_machine.specs.declared.opening.TheConstants.{MAX_HARTS};
+ghost use Rattle.step_machine.specs.Standing.{StandsAt};
 ghost use Rattle.recorder.specs.Records.{Step};
 ghost use Rattle.recorder.specs.Versions.{Said, said_of};
 ghost use Rattle.engine_parts.specs.Engines.{AnswersBoth};
-ghost use Rattle.engine_parts.specs.Faults.{AnswersAs};
+ghost use Rattle.engine_parts.specs.Faults.{AnswersAs, AnswersBy};
 ghost use Rattle.engine_parts.specs.Tests.{HasNoTest};
-ghost use Rattle.engine_parts.specs.Histories.{ByRun, Records, Runs, fault_of_check};
+ghost use Rattle.engine_parts.specs.Histories.{BySchedule, Records, Runs, fault_of_check};
 ghost use Rattle.engine_parts.specs.declared.fault.Refusal.{Refusal};
 ghost use Rattle.engine_parts.specs.inner.Making.{Finds};
-ghost use Rattle.engine_parts.specs.inner.Inputs.{IsItself};
+ghost use Rattle.engine_parts.specs.inner.Inputs.{AreRead, test_and_said};
 ghost use Rattle.litmus.specs.declared.litmus_test.TheConstants.{MAX_LOCATIONS};
 
 use crate::fault::{DIFFERS, Fault, Position};
 use crate::litmus_text::read_test;
 use crate::schedule::read_schedule;
 use litmus::Test;
-use recorder::{CheckError, Schedule, record, replay, replay_checked};
-use std::alloc::{AllocError, Global};
+use recorder::{CheckError, Schedule, check_record, record, replay, replay_checked, replay_state};
+use std::alloc::Global;
 use std::io::Read;
-use step_machine::{Event, Machine, Outcome};
+use step_machine::{Event, Machine, MachineState, Outcome};
 
 /// Why a record isn't replayed, as a fault.
 pub fn check_fault(error: CheckError) -> Fault
@@ -62,6 +61,32 @@ pub fn machine_of_schedule<const B: usize, const M: usize>(
     }
 }
 
+/// The same machine without its history.
+pub fn state_of_schedule<const B: usize, const M: usize>(
+    alloc: Global,
+    test: &Test,
+    schedule: Schedule,
+) -> Result<MachineState<B, M>, Fault>
+    requires capacity { B ≤ 64 }
+    requires words { MAX_LOCATIONS ≤ M }
+    requires size { M ≤ 65536 }
+    ensures ran { AnswersBy (Runs B M test.now.opening (said_of schedule)) (StandsAt B M) result }
+    ensures harts { IfOk result (λ machine. length machine.harts ≡ length test.now.opening.harts) }
+    ensures names { IfOk result (λ _. length test.now.names ≤ M) }
+{
+    let opening = test.opening(alloc)?;
+    match schedule {
+        Schedule::Plain(events) => match replay_state(alloc, &opening, &events) {
+            Ok(machine) => Ok(machine),
+            Err(_) => Err(Fault::NoMemory),
+        },
+        Schedule::Record(steps) => match check_record(alloc, &opening, &steps) {
+            Ok(machine) => Ok(machine),
+            Err(error) => Err(check_fault(error)),
+        },
+    }
+}
+
 /// The record of a test's run by a schedule of either version: its events, each with its outcome. A record
 /// is checked, as [`machine_of_schedule`] checks it.
 pub fn record_of_schedule<const B: usize, const M: usize>(
@@ -69,7 +94,6 @@ pub fn record_of_schedule<const B: usize, const M: usize>(
     test: &Test,
     schedule: Schedule,
 ) -> Result<Vec<(Event, Outcome)>, Fault>
-    requires some_capacity { 1 ≤ B }
     requires capacity { B ≤ 64 }
     requires words { MAX_LOCATIONS ≤ M }
     requires size { M ≤ 65536 }
@@ -81,67 +105,26 @@ pub fn record_of_schedule<const B: usize, const M: usize>(
             Ok(steps) => Ok(steps),
             Err(_) => Err(Fault::NoMemory),
         },
-        Schedule::Record(steps) => match replay_checked::<B, M>(alloc, opening, &steps) {
+        Schedule::Record(steps) => match check_record::<B, M>(alloc, &opening, &steps) {
             Ok(_) => Ok(steps),
             Err(error) => Err(check_fault(error)),
         },
     }
 }
 
-/// The test that a litmus text stands for, and the machine that a schedule of either version makes of its
-/// opening, as [`machine_of_schedule`] makes it. The schedule is read after an accepted test only.
-pub fn read_run<const B: usize, const M: usize, F: Read, S: Read>(
+/// The test that a litmus text stands for, and what a schedule of either version says. The schedule is read
+/// after an accepted test only, and its outcomes are not checked here.
+pub fn read_both<F: Read, S: Read>(
     alloc: Global,
     file: &mut F,
     schedule: &mut S,
-) -> Result<(Test, Machine<B, M>), Fault>
-    requires some_capacity { 1 ≤ B }
-    requires capacity { B ≤ 64 }
-    requires words { MAX_LOCATIONS ≤ M }
-    requires size { M ≤ 65536 }
-    ensures run { Finds (AnswersBoth (ByRun B M IsItself) (F.remaining file.old) (S.remaining schedule.old)) (λ run. (run.0, run.1.history)) result }
-    ensures harts { IfOk result (λ run. length run.1.history.opening.harts ≡ length run.0.opening.harts) }
-    ensures names { IfOk result (λ run. length run.0.names ≤ M) }
+) -> Result<(Test, Schedule), Fault>
+    ensures read { Finds (AnswersBoth (BySchedule AreRead) (F.remaining file.old) (S.remaining schedule.old)) test_and_said result }
     ensures unread { HasNoTest (F.remaining file.old) → schedule.new ≡ schedule.old }
 {
     let test = read_test(alloc, file)?;
     let said = read_schedule(alloc, schedule)?;
-    let machine = machine_of_schedule::<B, M>(alloc, &test, said)?;
-    Ok((test, machine))
-}
-
-/// The machine at the test's opening, for runs that begin anew.
-pub fn machine_of<const B: usize, const M: usize>(
-    alloc: Global,
-    test: &Test,
-) -> Result<Machine<B, M>, AllocError>
-    requires some_capacity { 1 ≤ B }
-    requires capacity { B ≤ 64 }
-    requires words { MAX_LOCATIONS ≤ M }
-    requires size { M ≤ 65536 }
-    ensures opening { IfOk result (λ machine. machine.history.opening ≡ test.now.opening) }
-    ensures some_hart { IfOk result (λ machine. 1 ≤ length machine.history.opening.harts) }
-    ensures most_harts { IfOk result (λ machine. length machine.history.opening.harts ≤ MAX_HARTS) }
-    ensures names { IfOk result (λ _. length test.now.names ≤ M) }
-{
-    let opening = test.opening(alloc)?;
-    let machine = Machine::open(alloc, opening)?;
-    Ok(machine)
-}
-
-/// Runs these events from the machine's opening, whatever it did before, in the room that it has.
-pub fn run_anew<const B: usize, const M: usize>(
-    machine: &mut Machine<B, M>,
-    events: &[Event],
-) -> Result<(), AllocError>
-    ensures ran { OnOk result (Run B M machine.old.history.opening events.now machine.new.history) }
-    ensures opening { machine.new.history.opening ≡ machine.old.history.opening }
-{
-    machine.restart();
-    match machine.run(events) {
-        Ok(()) => Ok(()),
-        Err((_, error)) => Err(error),
-    }
+    Ok((test, said))
 }
 
 /// Running a schedule from an opening gives one history, or one event that differs first; noting its

@@ -3,11 +3,12 @@
 ghost use Rattle.std.specs.Prelude.{◌≡◌, ◌++◌, ◌<◌, ◌≤◌, ℕ, length, OnOk, IfOk};
 ghost use Rattle.std.specs.String.{string_bytes};
 ghost use Rattle.step_machine.specs.Paths.{state_of};
+ghost use Rattle.step_machine.specs.Standing.{OfEach};
 ghost use Rattle.engine_parts.specs.StateText.{status_text, hart_line, register_line, word_line, registers_shown, hart_shown, harts_shown, words_shown, shown};
 
 use hart::status::Status;
 use std::alloc::{AllocError, Global};
-use step_machine::Machine;
+use step_machine::MachineState;
 
 /// A hart has x0 and so many registers in all.
 const REGISTERS: u8 = 32;
@@ -58,12 +59,12 @@ fn push_word_line(out: &mut String, addr: u32, word: u32) -> Result<(), AllocErr
 /// The lines of a hart's registers.
 fn push_registers<const B: usize, const M: usize>(
     out: &mut String,
-    machine: &Machine<B, M>,
+    machine: &MachineState<B, M>,
     hart: u32,
 ) -> Result<(), AllocError>
-    requires { hart < length machine.now.history.opening.harts }
-    ensures { OnOk result (string_bytes out.new ≡
-        string_bytes out.old ++ registers_shown (state_of M machine.now.history hart) 32) }
+    requires { hart < length machine.now.harts }
+    ensures { OnOk result (OfEach B M machine.now (λ t. string_bytes out.new ≡
+        string_bytes out.old ++ registers_shown (state_of M t hart) 32)) }
 {
     for number in 0..REGISTERS {
         push_register_line(out, number, machine.register(hart, number))?;
@@ -74,11 +75,12 @@ fn push_registers<const B: usize, const M: usize>(
 /// The lines of a hart.
 pub fn push_hart<const B: usize, const M: usize>(
     out: &mut String,
-    machine: &Machine<B, M>,
+    machine: &MachineState<B, M>,
     hart: u32,
 ) -> Result<(), AllocError>
-    requires { hart < length machine.now.history.opening.harts }
-    ensures { OnOk result (string_bytes out.new ≡ string_bytes out.old ++ hart_shown M machine.now.history hart) }
+    requires { hart < length machine.now.harts }
+    ensures { OnOk result (OfEach B M machine.now (λ t. string_bytes out.new ≡
+        string_bytes out.old ++ hart_shown M t hart)) }
 {
     let pending = machine.pending(hart).len();
     push_hart_line(out, hart, machine.status(hart), machine.pc(hart), pending)?;
@@ -88,10 +90,10 @@ pub fn push_hart<const B: usize, const M: usize>(
 /// The lines of all harts.
 fn push_harts<const B: usize, const M: usize>(
     out: &mut String,
-    machine: &Machine<B, M>,
+    machine: &MachineState<B, M>,
 ) -> Result<(), AllocError>
-    ensures { OnOk result (string_bytes out.new ≡
-        string_bytes out.old ++ harts_shown M machine.now.history (length machine.now.history.opening.harts)) }
+    ensures { OnOk result (OfEach B M machine.now (λ t. string_bytes out.new ≡
+        string_bytes out.old ++ harts_shown M t (length t.opening.harts))) }
 {
     for hart in 0..machine.harts() {
         push_hart(out, machine, hart)?;
@@ -102,10 +104,11 @@ fn push_harts<const B: usize, const M: usize>(
 /// The lines of all words.
 fn push_words<const B: usize, const M: usize>(
     out: &mut String,
-    machine: &Machine<B, M>,
+    machine: &MachineState<B, M>,
 ) -> Result<(), AllocError>
     requires { M ≤ 65536 }
-    ensures { OnOk result (string_bytes out.new ≡ string_bytes out.old ++ words_shown machine.now.history M) }
+    ensures { OnOk result (OfEach B M machine.now (λ t. string_bytes out.new ≡
+        string_bytes out.old ++ words_shown t M)) }
 {
     for place in 0..M as u32 {
         push_word_line(out, 4 * place, machine.word(4 * place))?;
@@ -117,10 +120,10 @@ fn push_words<const B: usize, const M: usize>(
 #[tactic(auto, unfolding(crate::specs::StateText::shown))]
 pub fn state_text<const B: usize, const M: usize>(
     alloc: Global,
-    machine: &Machine<B, M>,
+    machine: &MachineState<B, M>,
 ) -> Result<String, AllocError>
     requires { M ≤ 65536 }
-    ensures { IfOk result (λ text. string_bytes text ≡ shown M machine.now.history) }
+    ensures { IfOk result (λ text. OfEach B M machine.now (λ t. string_bytes text ≡ shown M t)) }
 {
     let mut out = String::new(alloc);
     push_harts(&mut out, machine)?;

@@ -1,5 +1,6 @@
 -- What a plan needs of one block of FastForward.
-use Rattle.std.proofs.Common.{ℕ, ◌+◌, ◌*◌, ◌%◌, ◌^◌, ◌<◌, ◌≤◌, ◌≡◌, ◌≢◌, ◌==◌, inl, inr, Bool, true, false, not, [], Option, Some, refl, sym, ◌∙◌, ap, arith, lit≤}
+use Rattle.std.proofs.Common.{ℕ, ◌+◌, ◌*◌, ◌%◌, ◌^◌, ◌<◌, ◌≤◌, ◌≡◌, ◌≢◌, ◌==◌, inl, inr, Bool, true, false, not, []}
+use Rattle.std.proofs.Common.{Option, Some, refl, sym, ◌∙◌, ap, arith, lit≤}
 use Rattle.std.specs.Prelude.{slice_index, option_map}
 use Rattle.std.proofs.lemmas.Bool.{cases_eq, and_parts}
 use Rattle.std.proofs.lemmas.Bool.Decides.{nat_tests}
@@ -30,29 +31,60 @@ use Rattle.fastforward.proofs.FastForwardLaws.{fastforward_laws, reasons}
 -- where nothing is pending all that was stored has landed
 module _ (k : Block) (n : Numbers) (order : Ordered k n) where
   pub all_sent : pending_of k n.sender n.landed ≡ [] → sent n.sender ≤ gone n.landed
-  all_sent none = none_left (sender_stores k.size k.base k.list) (gone n.landed) (sent n.sender) none (omega (arith, singles_length (slot_store k.size k.base) (k.base + 4, 1) k.list, order.stored_all, order.marked_one))
+  all_sent none = none_left (sender_stores k.size k.base k.list) (gone n.landed) (sent n.sender) none
+      (omega (arith, singles_length (slot_store k.size k.base) (k.base + 4, 1) k.list, order.stored_all, order.marked_one))
 
   pub all_read : unread_of k n.receiver n.landed ≡ [] → taken n.receiver ≤ freed n.landed
-  all_read none = none_left (receiver_stores k.size k.base k.list) (freed n.landed) (taken n.receiver) none (omega (arith, pairs_length (null_store k.size k.base) (tail_store k.size k.base) (k.base + 12, 1) k.list, order.tails_nulls, order.nulls_slots, order.slots_landed, order.stored_all, order.done_one))
+  all_read none = none_left (receiver_stores k.size k.base k.list) (freed n.landed) (taken n.receiver) none (omega (
+    arith,
+    pairs_length (null_store k.size k.base) (tail_store k.size k.base) (k.base + 12, 1) k.list,
+    order.tails_nulls,
+    order.nulls_slots,
+    order.slots_landed,
+    order.stored_all,
+    order.done_one,
+  ))
 
 -- about to read its slot
-at_10 : (k : Block) (n : Numbers) (s : HartState) → (st : Standing sender k n.sender s) → s.pc ≡ 0x10 → (s ≡ stands sender k 0x10 n.sender st.written) × Holds sender 0x10 k n.sender st.written
+at_10 : (k : Block) (n : Numbers) (s : HartState) → (st : Standing sender k n.sender s) → s.pc ≡ 0x10
+    → (s ≡ stands sender k 0x10 n.sender st.written) × Holds sender 0x10 k n.sender st.written
 at_10 k n s st is = stands_at sender k n.sender s st 0x10 is (omega arith) (omega arith)
 
 -- a slot that is not empty when all has landed holds a word that the receiver has not taken
-ready : (k : Block) (n : Numbers) (s : HartState) (word : ℕ → ℕ) → IsBlock k → 1 ≤ k.size → Ordered k n → Words k n.landed word → Standing sender k n.sender s → s.status ≡ status.Running → pending_of k n.sender n.landed ≡ [] → unread_of k n.receiver n.landed ≡ [] → waits s word ≡ true → n.receiver.tails < n.landed.slots
+ready : (k : Block) (n : Numbers) (s : HartState) (word : ℕ → ℕ) → IsBlock k → 1 ≤ k.size → Ordered k n
+    → Words k n.landed word → Standing sender k n.sender s → s.status ≡ status.Running
+    → pending_of k n.sender n.landed ≡ [] → unread_of k n.receiver n.landed ≡ [] → waits s word ≡ true
+    → n.receiver.tails < n.landed.slots
 ready k n s word is one order words st running none empty wait =
     let test = and_parts (s.pc == 0x10) (not (word (slice_index s.registers 28 + 16) == 0)) wait in
     let at = at_10 k n s st (let on : (s.pc == 0x10) ≡ true = test.0 in grind (arith, nat_tests)) in
     let r : SenderRegisters = st.written in
-    let place : slice_index s.registers 28 + 16 ≡ slot k.size k.base n.sender.stored = ap (λ (z : HartState). slice_index z.registers 28 + 16) at.0 ∙ (let same : r.x28 + 16 ≡ slot k.size k.base n.sender.stored = omega (arith, at.1.0.index, at.1.1) in same) in
-    let some : word (slice_index s.registers 28 + 16) ≢ 0 = let off : not (word (slice_index s.registers 28 + 16) == 0) ≡ true = test.1 in grind (arith, nat_tests) in
+    let place : slice_index s.registers 28 + 16 ≡ slot k.size k.base n.sender.stored =
+    ap (λ (z : HartState). slice_index z.registers 28 + 16) at.0
+    ∙ (let same : r.x28 + 16 ≡ slot k.size k.base n.sender.stored = omega (arith, at.1.0.index, at.1.1) in same) in
+    let some : word (slice_index s.registers 28 + 16) ≢ 0 =
+    let off : not (word (slice_index s.registers 28 + 16) == 0) ≡ true = test.1 in
+    grind (arith, nat_tests) in
     elim (cases_eq n.sender.stored (n.landed.nulls + k.size)) [
-      | inl full ↦ omega (arith, full, is.some_slot, all_sent k n order none, all_read k n order empty, at.1.0.unmarked, order.slots_landed, order.mark_landed, order.nulls_landed, order.tails_landed, order.done_landed, order.tails_nulls)
+      | inl full ↦ omega (
+        arith,
+        full,
+        is.some_slot,
+        all_sent k n order none,
+        all_read k n order empty,
+        at.1.0.unmarked,
+        order.slots_landed,
+        order.mark_landed,
+        order.nulls_landed,
+        order.tails_landed,
+        order.done_landed,
+        order.tails_nulls,
+      )
       | inr free ↦ absurd (some (ap word place ∙ words.empty n.sender.stored (omega (arith, order.slots_landed)) (omega (arith, free, order.room))))
     ]
 
-marked : (k : Block) (n : Numbers) (s : HartState) → IsBlock k → Ordered k n → Standing sender k n.sender s → runs (Some s) ≡ false → pending_of k n.sender n.landed ≡ [] → n.landed.mark ≡ 1
+marked : (k : Block) (n : Numbers) (s : HartState) → IsBlock k → Ordered k n → Standing sender k n.sender s
+    → runs (Some s) ≡ false → pending_of k n.sender n.landed ≡ [] → n.landed.mark ≡ 1
 marked k n s is order st off none =
     let h : Marked k n.sender = has_ended sender k n.sender s st off in
     omega (arith, h.mark, all_sent k n order none, order.slots_landed, order.mark_landed)
@@ -60,7 +92,8 @@ marked k n s is order st off none =
 pub fastforward_progress : BlockProgress fastforward_blocks 1
 fastforward_progress = record {
   short = refl;
-  nearer = λ k n s word v is order words st running none empty find on. nearer fastforward_blocks fastforward_sender reasons k n s word v is order words st running none find on;
+  nearer = λ k n s word v is order words st running none empty find on.
+      nearer fastforward_blocks fastforward_sender reasons k n s word v is order words st running none find on;
   ready = ready;
   marked = marked;
 }
@@ -69,21 +102,33 @@ pub fastforward_falls : Decreases fastforward fastforward_means (rank_of fastfor
 fastforward_falls = falls fastforward_blocks fastforward_laws 1 (lit≤ tt) fastforward_progress
 
 -- the address of its slot
-pub address : (M : ℕ) (t : History) (h : ℕ) (d : Sender fastforward_blocks M t h) (pc v : ℕ) → option_map (λ (s : HartState). s.pc) (state_of M t h) ≡ Some pc → pc ≡ 0x10 → option_map (λ (s : HartState). slice_index s.registers 28) (state_of M t h) ≡ Some v → (v + 16 < 2 ^ 32) × ((v + 16) % 4 ≡ 0) × (v + 16 < 4 * M)
+pub address : (M : ℕ) (t : History) (h : ℕ) (d : Sender fastforward_blocks M t h) (pc v : ℕ)
+    → option_map (λ (s : HartState). s.pc) (state_of M t h) ≡ Some pc → pc ≡ 0x10
+    → option_map (λ (s : HartState). slice_index s.registers 28) (state_of M t h) ≡ Some v
+    → (v + 16 < 2 ^ 32) × ((v + 16) % 4 ≡ 0) × (v + 16 < 4 * M)
 address M t h d pc v pc_at ten v_at =
     let at = at_10 d.block d.numbers d.state d.stands (sym (value_is (λ (s : HartState). s.pc) (state_of M t h) d.state pc d.at pc_at) ∙ ten) in
-    let same : v ≡ d.stands.written.x28 = value_is (λ (s : HartState). slice_index s.registers 28) (state_of M t h) d.state v d.at v_at ∙ ap (λ (s : HartState). slice_index s.registers 28) at.0 in
-    let low = offset_low d.block d.is d.numbers.sender.stored in
-    (omega (arith, same, at.1.1, at.1.0.index, low, d.is.inside, d.is.small), omega (arith, same, at.1.1, at.1.0.index, d.is.even), omega (arith, same, at.1.1, at.1.0.index, low, d.is.inside, d.words))
+    let same : v ≡ d.stands.written.x28 = value_is (λ (s : HartState). slice_index s.registers 28) (state_of M t h)
+    d.state v d.at v_at ∙ ap (λ (s : HartState). slice_index s.registers 28) at.0 in
+    let low = offset_low d.block d.is d.numbers.sender.stored in (
+      omega (arith, same, at.1.1, at.1.0.index, low, d.is.inside, d.is.small),
+      omega (arith, same, at.1.1, at.1.0.index, d.is.even),
+      omega (arith, same, at.1.1, at.1.0.index, low, d.is.inside, d.words),
+    )
 
-ready_of : (word : ℕ → ℕ) (o : Option HartState) (s : HartState) (w : ℕ) → o ≡ Some s → s.status ≡ status.Running → s.pc ≡ 0x10 → w ≡ word (slice_index s.registers 28 + 16) → (w == 0) ≡ ready_if fastforward_ranking word o
+ready_of : (word : ℕ → ℕ) (o : Option HartState) (s : HartState) (w : ℕ) → o ≡ Some s → s.status ≡ status.Running
+    → s.pc ≡ 0x10 → w ≡ word (slice_index s.registers 28 + 16) → (w == 0) ≡ ready_if fastforward_ranking word o
 ready_of word o s w is run at one = rw (is, run, at, one) (twice (word (slice_index s.registers 28 + 16) == 0))
   where
     twice : (b : Bool) → b ≡ not (not b)
     twice true = refl
     twice false = refl
 
-pub ready_is : (M : ℕ) (t : History) (h : ℕ) (d : Sender fastforward_blocks M t h) (stat : Status) (pc a w : ℕ) → option_map (λ (s : HartState). s.status) (state_of M t h) ≡ Some stat → stat ≡ status.Running → option_map (λ (s : HartState). s.pc) (state_of M t h) ≡ Some pc → pc ≡ 0x10 → option_map (λ (s : HartState). slice_index s.registers 28) (state_of M t h) ≡ Some a → w ≡ memory_word t.opening t.entries (a + 16) → (w == 0) ≡ is_ready fastforward_ranking M t h
+pub ready_is : (M : ℕ) (t : History) (h : ℕ) (d : Sender fastforward_blocks M t h) (stat : Status) (pc a w : ℕ)
+    → option_map (λ (s : HartState). s.status) (state_of M t h) ≡ Some stat → stat ≡ status.Running
+    → option_map (λ (s : HartState). s.pc) (state_of M t h) ≡ Some pc → pc ≡ 0x10
+    → option_map (λ (s : HartState). slice_index s.registers 28) (state_of M t h) ≡ Some a
+    → w ≡ memory_word t.opening t.entries (a + 16) → (w == 0) ≡ is_ready fastforward_ranking M t h
 ready_is M t h d stat pc a w stat_at run pc_at at a_at w_is =
     let place : a ≡ slice_index d.state.registers 28 = value_is (λ (s : HartState). slice_index s.registers 28) (state_of M t h) d.state a d.at a_at in
     ready_of (word_in_memory t.opening t.entries) (state_of M t h) d.state w d.at

@@ -6,12 +6,13 @@ use Rattle.poll_close.specs.Invariant.Blocks.{Block, slot}
 use Rattle.poll_close.specs.Invariant.SenderState.{SenderRegisters}
 use Rattle.poll_close.proofs.Blocks.{IsBlock, Within, word_of, slot_of}
 use Rattle.poll_close.proofs.BlockLaws.{BlockLaws, Begins, opens_with}
-use Rattle.poll_close.proofs.Outlines.{Right, sends}
+use Rattle.poll_close.proofs.Outlines.{Right, also, sends}
 use Rattle.poll_close.proofs.ChannelLaws.{opens, keeps, cleans, goes, stays}
 use Rattle.fastforward.specs.Listing.{sender_code}
 use Rattle.fastforward.specs.FastForward.{fastforward, fastforward_blocks, fastforward_means}
 use Rattle.fastforward.specs.Invariant.Numbers.{Numbers, Landed, sent, gone, taken, freed, Ordered, Words}
 use Rattle.fastforward.specs.Invariant.Sender.{sender}
+use Rattle.fastforward.proofs.Means.{receiver-decoded}
 use Rattle.fastforward.proofs.Stores.{sender_stores_are, receiver_stores_are}
 use Rattle.fastforward.proofs.Landings.{sender_lands, receiver_lands}
 use Rattle.fastforward.proofs.Sender.{fastforward_sender}
@@ -33,7 +34,12 @@ begins k is = record {
   none = nothing;
   order = omega (arith, is.some_slot);
   words = record { mark = refl; tail = omega (arith, zero-mod k.size); done = refl; full = λ j from below. omega arith; empty = λ j from below. refl };
-  stands = record { place = 0x00; written = record { x5 = 0; x6 = 0; x7 = 0; x10 = 0; x11 = 0; x17 = 0; x28 = 0 }; is = refl; holds = (record { taken = refl; unmarked = refl }, omega (arith, zero-mod k.size)) };
+  stands = record {
+    place = 0x00;
+    written = record { x5 = 0; x6 = 0; x7 = 0; x10 = 0; x11 = 0; x17 = 0; x28 = 0 };
+    is = refl;
+    holds = (record { taken = refl; unmarked = refl }, omega (arith, zero-mod k.size));
+  };
   unsent = refl;
   unread = refl;
   level = refl;
@@ -53,11 +59,28 @@ words_same k n word new is same w = record {
 }
 
 -- the reason of each row of the sender's outline
-pub reasons : (k : Block) (n : Numbers) (word : ℕ → ℕ) (v : ℕ) (r : SenderRegisters) → IsBlock k → Ordered k n → Words k n.landed word → Reasons (Right fastforward_blocks fastforward_sender k n word v r) sender.rows
-reasons k n word v r is order words = (row.right_00 k n word v r is order words, (row.right_04 k n word v r is order words, (row.right_08 k n word v r is order words, (row.right_0C k n word v r is order words, (row.right_10 k n word v r is order words, (row.right_14 k n word v r is order words, (row.right_18 k n word v r is order words, (row.right_1C k n word v r is order words, (row.right_20 k n word v r is order words, (row.right_24 k n word v r is order words, (row.right_28 k n word v r is order words, (row.right_2C k n word v r is order words, (row.right_30 k n word v r is order words, (row.right_34 k n word v r is order words, (row.right_38 k n word v r is order words, tt)))))))))))))))
+pub reasons : (k : Block) (n : Numbers) (word : ℕ → ℕ) (v : ℕ) (r : SenderRegisters) → IsBlock k → Ordered k n
+    → Words k n.landed word → Reasons (Right fastforward_blocks fastforward_sender k n word v r) sender.rows
+reasons k n word v r is order words =
+    also (row.right_00 k n word v r is order words)
+    (also (row.right_04 k n word v r is order words)
+    (also (row.right_08 k n word v r is order words)
+    (also (row.right_0C k n word v r is order words)
+    (also (row.right_10 k n word v r is order words)
+    (also (row.right_14 k n word v r is order words)
+    (also (row.right_18 k n word v r is order words)
+    (also (row.right_1C k n word v r is order words)
+    (also (row.right_20 k n word v r is order words)
+    (also (row.right_24 k n word v r is order words)
+    (also (row.right_28 k n word v r is order words)
+    (also (row.right_2C k n word v r is order words)
+    (also (row.right_30 k n word v r is order words)
+    (also (row.right_34 k n word v r is order words)
+    (also (row.right_38 k n word v r is order words) tt))))))))))))))
 
 pub fastforward_laws : BlockLaws fastforward_blocks
 fastforward_laws = record {
+  decodes = receiver-decoded;
   begins = begins;
   tails_all = λ k n order. omega (arith, order.tails_nulls, order.nulls_slots, order.slots_landed, order.stored_all);
   shut_done = λ k n order. order.shut_done;
@@ -76,7 +99,11 @@ fastforward_laws = record {
   stores_done = λ k n order level all on. stores_done k n order level all on;
   reports = λ k n words closed order level known. reported k n order words closed level known;
   moves_14 = λ k i count n word r v is order words. between.right_14 k i count n word r v is order words;
-  moves = λ k i count n word r v is order words. (between.right_18 k i count n word r v is order words, (between.right_1C k i count n word r v is order words, (between.right_20 k i count n word r v is order words, (between.right_24 k i count n word r v is order words, tt))));
+  moves = λ k i count n word r v is order words.
+      also (between.right_18 k i count n word r v is order words)
+      (also (between.right_1C k i count n word r v is order words)
+      (also (between.right_20 k i count n word r v is order words)
+      (also (between.right_24 k i count n word r v is order words) tt)));
 }
 
 pub fastforward_short : AreShort fastforward

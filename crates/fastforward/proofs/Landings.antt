@@ -15,7 +15,11 @@ use Rattle.fastforward.proofs.Stores.{slots_apart, slot_again, store_word, store
 
 -- a store of the sender
 module _ (k : Block) (is : IsBlock k) (n : Numbers) (order : Ordered k n) (word new : ℕ → ℕ) (words : Words k n.landed word) where
-  word_lands : n.landed.slots < n.sender.stored → IsWrite word new (slot k.size k.base n.landed.slots, slice_index k.list n.landed.slots) → Lands fastforward_blocks k n new (window (sender_stores k.size k.base k.list) (suc (gone n.landed)) (sent n.sender)) (unread_of k n.receiver n.landed)
+  word_lands : n.landed.slots < n.sender.stored
+      → IsWrite word new (slot k.size k.base n.landed.slots, slice_index k.list n.landed.slots)
+      → Lands fastforward_blocks k n new
+      (window (sender_stores k.size k.base k.list) (suc (gone n.landed)) (sent n.sender))
+      (unread_of k n.receiver n.landed)
   word_lands some write =
       record {
         after = record n.landed { slots = n.landed.slots + 1 };
@@ -25,7 +29,10 @@ module _ (k : Block) (is : IsBlock k) (n : Numbers) (order : Ordered k n) (word 
           tail = miss word new at w write (k.base + 8) (omega arith) ∙ words.tail;
           done = miss word new at w write (k.base + 12) (omega arith) ∙ words.done;
           full = λ j from below. full j from below (cases_eq j n.landed.slots);
-          empty = λ j from below. miss word new at w write (slot k.size k.base j) (slots_apart k.size k.base n.landed.slots j is.some_slot (omega (arith, from)) (omega (arith, below, order.nulls_landed, order.nulls_slots))) ∙ words.empty j (omega (arith, from)) below;
+          empty = λ j from below. miss word new at w write (slot k.size k.base j)
+              (slots_apart k.size k.base n.landed.slots j is.some_slot (omega (arith, from))
+              (omega (arith, below, order.nulls_landed, order.nulls_slots)))
+              ∙ words.empty j (omega (arith, from)) below;
         };
         unsent = ap (λ i. window (sender_stores k.size k.base k.list) i (sent n.sender)) {x = suc (gone n.landed)} (omega arith);
         unread = refl;
@@ -37,11 +44,17 @@ module _ (k : Block) (is : IsBlock k) (n : Numbers) (order : Ordered k n) (word 
       w : ℕ
       w = slice_index k.list n.landed.slots
 
-      full : (j : ℕ) → n.landed.nulls ≤ j → j < n.landed.slots + 1 → (j ≡ n.landed.slots) ⊎ (j ≢ n.landed.slots) → new (slot k.size k.base j) ≡ slice_index k.list j
+      full : (j : ℕ) → n.landed.nulls ≤ j → j < n.landed.slots + 1 → (j ≡ n.landed.slots) ⊎ (j ≢ n.landed.slots)
+          → new (slot k.size k.base j) ≡ slice_index k.list j
       full j from below (inl same) = hit word new at w write (slot k.size k.base j) (ap (slot k.size k.base) (sym same)) ∙ ap (slice_index k.list) (sym same)
-      full j from below (inr other) = miss word new at w write (slot k.size k.base j) (λ same. slots_apart k.size k.base j n.landed.slots is.some_slot (omega (arith, below, other)) (omega (arith, from, some, order.room)) (sym same)) ∙ words.full j from (omega (arith, below, other))
+      full j from below (inr other) = miss word new at w write (slot k.size k.base j)
+          (λ same. slots_apart k.size k.base j n.landed.slots is.some_slot (omega (arith, below, other))
+          (omega (arith, from, some, order.room)) (sym same)) ∙ words.full j from (omega (arith, below, other))
 
-  mark_lands : n.landed.slots ≡ length k.list → n.landed.mark < n.sender.marked → IsWrite word new (k.base + 4, 1) → Lands fastforward_blocks k n new (window (sender_stores k.size k.base k.list) (suc (gone n.landed)) (sent n.sender)) (unread_of k n.receiver n.landed)
+  mark_lands : n.landed.slots ≡ length k.list → n.landed.mark < n.sender.marked → IsWrite word new (k.base + 4, 1)
+      → Lands fastforward_blocks k n new
+      (window (sender_stores k.size k.base k.list) (suc (gone n.landed)) (sent n.sender))
+      (unread_of k n.receiver n.landed)
   mark_lands all some write =
       record {
         after = record n.landed { mark = n.landed.mark + 1 };
@@ -61,14 +74,20 @@ module _ (k : Block) (is : IsBlock k) (n : Numbers) (order : Ordered k n) (word 
       one = omega (arith, some, order.marked_one)
 
   -- whichever of its stores is the oldest pending one, it lands
-  pub sender_lands : (x : ℕ × ℕ) (rest : List (ℕ × ℕ)) → pending_of k n.sender n.landed ≡ x ∷ rest → IsWrite word new x → Lands fastforward_blocks k n new rest (unread_of k n.receiver n.landed)
+  pub sender_lands : (x : ℕ × ℕ) (rest : List (ℕ × ℕ)) → pending_of k n.sender n.landed ≡ x ∷ rest
+      → IsWrite word new x → Lands fastforward_blocks k n new rest (unread_of k n.receiver n.landed)
   sender_lands x rest first write = at (cases_lt n.landed.slots (length k.list))
     where
       more : gone n.landed < sent n.sender
       more = some_in (sender_stores k.size k.base k.list) (gone n.landed) (sent n.sender) x rest first
 
-      with : (y : ℕ × ℕ) → slice_get (sender_stores k.size k.base k.list) (gone n.landed) ≡ Some y → (IsWrite word new y → Lands fastforward_blocks k n new (window (sender_stores k.size k.base k.list) (suc (gone n.landed)) (sent n.sender)) (unread_of k n.receiver n.landed)) → Lands fastforward_blocks k n new rest (unread_of k n.receiver n.landed)
-      with y at lands = oldest_lands (λ ps. Lands fastforward_blocks k n new ps (unread_of k n.receiver n.landed)) (IsWrite word new) (sender_stores k.size k.base k.list) (gone n.landed) (sent n.sender) x y rest first write at lands
+      with : (y : ℕ × ℕ) → slice_get (sender_stores k.size k.base k.list) (gone n.landed) ≡ Some y
+          → (IsWrite word new y → Lands fastforward_blocks k n new
+          (window (sender_stores k.size k.base k.list) (suc (gone n.landed)) (sent n.sender))
+          (unread_of k n.receiver n.landed)) → Lands fastforward_blocks k n new rest (unread_of k n.receiver n.landed)
+      with y at lands =
+          oldest_lands (λ ps. Lands fastforward_blocks k n new ps (unread_of k n.receiver n.landed)) (IsWrite word new)
+          (sender_stores k.size k.base k.list) (gone n.landed) (sent n.sender) x y rest first write at lands
 
       unmarked : n.landed.slots < length k.list → n.landed.mark ≡ 0
       unmarked some = grind (arith, order.mark_all)
@@ -77,7 +96,9 @@ module _ (k : Block) (is : IsBlock k) (n : Numbers) (order : Ordered k n) (word 
       room some = grind (arith, more, order.marked_all, order.mark_all, order.slots_landed, order.marked_one)
 
       at : (n.landed.slots < length k.list) ⊎ (length k.list ≤ n.landed.slots) → Lands fastforward_blocks k n new rest (unread_of k n.receiver n.landed)
-      at (inl some) = with (slot k.size k.base n.landed.slots, slice_index k.list n.landed.slots) (store_word k.size k.base k.list n.landed.slots (gone n.landed) some (omega (arith, unmarked some))) (λ w. word_lands (room some) w)
+      at (inl some) = with (slot k.size k.base n.landed.slots, slice_index k.list n.landed.slots)
+          (store_word k.size k.base k.list n.landed.slots (gone n.landed) some (omega (arith, unmarked some)))
+          (λ w. word_lands (room some) w)
       at (inr all) =
           let full : n.landed.slots ≡ length k.list = omega (arith, all, order.slots_landed, order.stored_all) in
           let waits : n.landed.mark < n.sender.marked = omega (arith, more, full, order.stored_all) in
@@ -85,7 +106,10 @@ module _ (k : Block) (is : IsBlock k) (n : Numbers) (order : Ordered k n) (word 
 
 -- a store of the receiver to the block
 module _ (k : Block) (is : IsBlock k) (n : Numbers) (order : Ordered k n) (word new : ℕ → ℕ) (words : Words k n.landed word) where
-  null_lands : n.landed.nulls ≡ n.landed.tails → n.landed.nulls < n.receiver.nulls → IsWrite word new (slot k.size k.base n.landed.nulls, 0) → Lands fastforward_blocks k n new (pending_of k n.sender n.landed) (window (receiver_stores k.size k.base k.list) (suc (freed n.landed)) (taken n.receiver))
+  null_lands : n.landed.nulls ≡ n.landed.tails → n.landed.nulls < n.receiver.nulls
+      → IsWrite word new (slot k.size k.base n.landed.nulls, 0)
+      → Lands fastforward_blocks k n new (pending_of k n.sender n.landed)
+      (window (receiver_stores k.size k.base k.list) (suc (freed n.landed)) (taken n.receiver))
   null_lands even some write =
       record {
         after = record n.landed { nulls = n.landed.nulls + 1 };
@@ -94,7 +118,9 @@ module _ (k : Block) (is : IsBlock k) (n : Numbers) (order : Ordered k n) (word 
           mark = miss word new at 0 write (k.base + 4) (omega arith) ∙ words.mark;
           tail = miss word new at 0 write (k.base + 8) (omega arith) ∙ words.tail;
           done = miss word new at 0 write (k.base + 12) (omega arith) ∙ words.done;
-          full = λ j from below. miss word new at 0 write (slot k.size k.base j) (slots_apart k.size k.base n.landed.nulls j is.some_slot (omega (arith, from)) (omega (arith, below, order.slots_landed, order.room))) ∙ words.full j (omega (arith, from)) below;
+          full = λ j from below. miss word new at 0 write (slot k.size k.base j)
+              (slots_apart k.size k.base n.landed.nulls j is.some_slot (omega (arith, from))
+              (omega (arith, below, order.slots_landed, order.room))) ∙ words.full j (omega (arith, from)) below;
           empty = λ j from below. empty j from below (cases_eq j (n.landed.nulls + k.size));
         };
         unsent = refl;
@@ -104,11 +130,18 @@ module _ (k : Block) (is : IsBlock k) (n : Numbers) (order : Ordered k n) (word 
       at : ℕ
       at = slot k.size k.base n.landed.nulls
 
-      empty : (j : ℕ) → n.landed.slots ≤ j → j < n.landed.nulls + 1 + k.size → (j ≡ n.landed.nulls + k.size) ⊎ (j ≢ n.landed.nulls + k.size) → new (slot k.size k.base j) ≡ 0
-      empty j from below (inl round) = hit word new at 0 write (slot k.size k.base j) (sym (ap (slot k.size k.base) round ∙ slot_again k.size k.base n.landed.nulls))
-      empty j from below (inr other) = miss word new at 0 write (slot k.size k.base j) (slots_apart k.size k.base n.landed.nulls j is.some_slot (omega (arith, from, some, order.nulls_slots)) (omega (arith, below, other))) ∙ words.empty j from (omega (arith, below, other))
+      empty : (j : ℕ) → n.landed.slots ≤ j → j < n.landed.nulls + 1 + k.size
+          → (j ≡ n.landed.nulls + k.size) ⊎ (j ≢ n.landed.nulls + k.size) → new (slot k.size k.base j) ≡ 0
+      empty j from below (inl round) = hit word new at 0 write (slot k.size k.base j)
+          (sym (ap (slot k.size k.base) round ∙ slot_again k.size k.base n.landed.nulls))
+      empty j from below (inr other) = miss word new at 0 write (slot k.size k.base j)
+          (slots_apart k.size k.base n.landed.nulls j is.some_slot (omega (arith, from, some, order.nulls_slots))
+          (omega (arith, below, other))) ∙ words.empty j from (omega (arith, below, other))
 
-  tail_lands : n.landed.nulls ≡ n.landed.tails + 1 → n.landed.tails < n.receiver.tails → IsWrite word new (k.base + 8, offset k (n.landed.tails + 1)) → Lands fastforward_blocks k n new (pending_of k n.sender n.landed) (window (receiver_stores k.size k.base k.list) (suc (freed n.landed)) (taken n.receiver))
+  tail_lands : n.landed.nulls ≡ n.landed.tails + 1 → n.landed.tails < n.receiver.tails
+      → IsWrite word new (k.base + 8, offset k (n.landed.tails + 1))
+      → Lands fastforward_blocks k n new (pending_of k n.sender n.landed)
+      (window (receiver_stores k.size k.base k.list) (suc (freed n.landed)) (taken n.receiver))
   tail_lands odd some write =
       record {
         after = record n.landed { tails = n.landed.tails + 1 };
@@ -127,7 +160,9 @@ module _ (k : Block) (is : IsBlock k) (n : Numbers) (order : Ordered k n) (word 
       w : ℕ
       w = offset k (n.landed.tails + 1)
 
-  done_lands : n.landed.tails ≡ length k.list → n.landed.done < n.receiver.done → IsWrite word new (k.base + 12, 1) → Lands fastforward_blocks k n new (pending_of k n.sender n.landed) (window (receiver_stores k.size k.base k.list) (suc (freed n.landed)) (taken n.receiver))
+  done_lands : n.landed.tails ≡ length k.list → n.landed.done < n.receiver.done → IsWrite word new (k.base + 12, 1)
+      → Lands fastforward_blocks k n new (pending_of k n.sender n.landed)
+      (window (receiver_stores k.size k.base k.list) (suc (freed n.landed)) (taken n.receiver))
   done_lands all some write =
       record {
         after = record n.landed { done = n.landed.done + 1 };
@@ -147,14 +182,20 @@ module _ (k : Block) (is : IsBlock k) (n : Numbers) (order : Ordered k n) (word 
       one = omega (arith, some, order.done_one)
 
   -- whichever of its stores to the block is the oldest pending one, it lands
-  pub receiver_lands : (x : ℕ × ℕ) (rest : List (ℕ × ℕ)) → unread_of k n.receiver n.landed ≡ x ∷ rest → IsWrite word new x → Lands fastforward_blocks k n new (pending_of k n.sender n.landed) rest
+  pub receiver_lands : (x : ℕ × ℕ) (rest : List (ℕ × ℕ)) → unread_of k n.receiver n.landed ≡ x ∷ rest
+      → IsWrite word new x → Lands fastforward_blocks k n new (pending_of k n.sender n.landed) rest
   receiver_lands x rest first write = at (cases_eq n.landed.nulls n.landed.tails) (cases_lt n.landed.nulls (length k.list))
     where
       more : freed n.landed < taken n.receiver
       more = some_in (receiver_stores k.size k.base k.list) (freed n.landed) (taken n.receiver) x rest first
 
-      with : (y : ℕ × ℕ) → slice_get (receiver_stores k.size k.base k.list) (freed n.landed) ≡ Some y → (IsWrite word new y → Lands fastforward_blocks k n new (pending_of k n.sender n.landed) (window (receiver_stores k.size k.base k.list) (suc (freed n.landed)) (taken n.receiver))) → Lands fastforward_blocks k n new (pending_of k n.sender n.landed) rest
-      with y at lands = oldest_lands (λ ps. Lands fastforward_blocks k n new (pending_of k n.sender n.landed) ps) (IsWrite word new) (receiver_stores k.size k.base k.list) (freed n.landed) (taken n.receiver) x y rest first write at lands
+      with : (y : ℕ × ℕ) → slice_get (receiver_stores k.size k.base k.list) (freed n.landed) ≡ Some y
+          → (IsWrite word new y → Lands fastforward_blocks k n new (pending_of k n.sender n.landed)
+          (window (receiver_stores k.size k.base k.list) (suc (freed n.landed)) (taken n.receiver)))
+          → Lands fastforward_blocks k n new (pending_of k n.sender n.landed) rest
+      with y at lands =
+          oldest_lands (λ ps. Lands fastforward_blocks k n new (pending_of k n.sender n.landed) ps) (IsWrite word new)
+          (receiver_stores k.size k.base k.list) (freed n.landed) (taken n.receiver) x y rest first write at lands
 
       nulls_all : n.receiver.nulls ≤ length k.list
       nulls_all = omega (arith, order.nulls_slots, order.slots_landed, order.stored_all)
@@ -166,21 +207,34 @@ module _ (k : Block) (is : IsBlock k) (n : Numbers) (order : Ordered k n) (word 
       not_last : n.receiver.tails < length k.list → n.receiver.done ≡ 0
       not_last some = grind (arith, order.done_all)
 
-      null_waits : n.landed.nulls ≡ n.landed.tails → n.landed.nulls < length k.list → (n.landed.nulls < n.receiver.nulls) ⊎ (n.receiver.nulls ≤ n.landed.nulls) → n.landed.nulls < n.receiver.nulls
+      null_waits : n.landed.nulls ≡ n.landed.tails → n.landed.nulls < length k.list
+          → (n.landed.nulls < n.receiver.nulls) ⊎ (n.receiver.nulls ≤ n.landed.nulls)
+          → n.landed.nulls < n.receiver.nulls
       null_waits even some (inl less) = less
       null_waits even some (inr none) = absurd (omega (arith, more, even, none, not_last (omega (arith, some, none, order.tails_nulls)), order.tails_nulls))
 
-      tail_waits : n.landed.nulls ≡ n.landed.tails + 1 → (n.landed.tails < n.receiver.tails) ⊎ (n.receiver.tails ≤ n.landed.tails) → n.landed.tails < n.receiver.tails
+      tail_waits : n.landed.nulls ≡ n.landed.tails + 1
+          → (n.landed.tails < n.receiver.tails) ⊎ (n.receiver.tails ≤ n.landed.tails)
+          → n.landed.tails < n.receiver.tails
       tail_waits odd (inl less) = less
       tail_waits odd (inr none) = absurd (omega (arith, more, odd, none, not_last (omega (arith, odd, none, order.nulls_landed, nulls_all)), order.nulls_tails))
 
-      at : (n.landed.nulls ≡ n.landed.tails) ⊎ (n.landed.nulls ≢ n.landed.tails) → (n.landed.nulls < length k.list) ⊎ (length k.list ≤ n.landed.nulls) → Lands fastforward_blocks k n new (pending_of k n.sender n.landed) rest
-      at (inl even) (inl some) = with (slot k.size k.base n.landed.nulls, 0) (store_null k.size k.base k.list n.landed.nulls (freed n.landed) some (omega (arith, even, not_done (omega (arith, even, some))))) (λ w. null_lands even (null_waits even some (cases_lt n.landed.nulls n.receiver.nulls)) w)
+      at : (n.landed.nulls ≡ n.landed.tails) ⊎ (n.landed.nulls ≢ n.landed.tails)
+          → (n.landed.nulls < length k.list) ⊎ (length k.list ≤ n.landed.nulls)
+          → Lands fastforward_blocks k n new (pending_of k n.sender n.landed) rest
+      at (inl even) (inl some) = with (slot k.size k.base n.landed.nulls, 0)
+          (store_null k.size k.base k.list n.landed.nulls (freed n.landed) some
+          (omega (arith, even, not_done (omega (arith, even, some)))))
+          (λ w. null_lands even (null_waits even some (cases_lt n.landed.nulls n.receiver.nulls)) w)
       at (inl even) (inr all) =
           let tails : n.landed.tails ≡ length k.list = omega (arith, even, all, order.nulls_landed, nulls_all) in
           let waits : n.landed.done < n.receiver.done = omega (arith, more, even, tails, nulls_all, order.tails_nulls) in
-          with (k.base + 12, 1) (store_done k.size k.base k.list (freed n.landed) (omega (arith, even, tails, waits, order.done_one))) (λ w. done_lands tails waits w)
+          with (k.base + 12, 1)
+          (store_done k.size k.base k.list (freed n.landed) (omega (arith, even, tails, waits, order.done_one)))
+          (λ w. done_lands tails waits w)
       at (inr other) ln =
           let odd : n.landed.nulls ≡ n.landed.tails + 1 = omega (arith, other, order.tail_after, order.null_before) in
           let some : n.landed.tails < length k.list = omega (arith, odd, order.nulls_landed, nulls_all) in
-          with (k.base + 8, offset k (n.landed.tails + 1)) (store_tail k.size k.base k.list n.landed.tails (freed n.landed) some (omega (arith, odd, not_done some))) (λ w. tail_lands odd (tail_waits odd (cases_lt n.landed.tails n.receiver.tails)) w)
+          with (k.base + 8, offset k (n.landed.tails + 1))
+          (store_tail k.size k.base k.list n.landed.tails (freed n.landed) some (omega (arith, odd, not_done some)))
+          (λ w. tail_lands odd (tail_waits odd (cases_lt n.landed.tails n.receiver.tails)) w)

@@ -1,6 +1,7 @@
 -- Why each row of the sender's outline is right: from its assertion, the act there leads to the next row's.
-use Rattle.std.proofs.Common.{ℕ, suc, ◌+◌, ◌*◌, ◌<◌, ◌≤◌, ◌≡◌, ◌≢◌, ◌==◌, ◌⊎◌, inl, inr, true, false, [], ◌∷◌, ◌++◌, length, drop, length-drop, Some, None, refl, sym, ◌∙◌, ap, subst, arith, append-nil, lit<}
-use Rattle.std.specs.Prelude.{slice_index, unwrap_or, map}
+use Rattle.std.proofs.Common.{ℕ, suc, ◌+◌, ◌*◌, ◌<◌, ◌≤◌, ◌≡◌, ◌≢◌, ◌==◌, ◌⊎◌, inl, inr, true, false, [], ◌∷◌, ◌++◌}
+use Rattle.std.proofs.Common.{length, drop, length-drop, Some, None, refl, sym, ◌∙◌, ap, subst, arith, append-nil, lit<}
+use Rattle.std.specs.Prelude.{slice_index, map}
 use Rattle.std.specs.List.{slice_get}
 use Rattle.std.proofs.lemmas.Bool.{cases_lt, cases_eq}
 use Rattle.std.proofs.lemmas.Bool.Decides.{nat_tests}
@@ -9,10 +10,12 @@ use Rattle.hart.specs.declared.need.Need.TheVariants as need
 use Rattle.hart.proofs.Instructions.{IsAt, exit_need, exit_after}
 use Rattle.poll_close.specs.Invariant.Blocks.{Block, offset, slot, window}
 use Rattle.poll_close.specs.Invariant.SenderState.{SenderRegisters, fixed, running}
-use Rattle.poll_close.proofs.Lines.{loads, stores, word_plus, add_line, sum_line, load_line, store_line, jump_line, same_jumps, other_goes_on, other_jumps, same_goes_on}
+use Rattle.poll_close.proofs.Lines.{loads, stores, word_plus, add_line, sum_line, load_line, store_line, jump_line}
+use Rattle.poll_close.proofs.Lines.{same_jumps, other_goes_on, other_jumps, same_goes_on}
 use Rattle.poll_close.proofs.SenderLines.{line_04-word, line_04-none}
 use Rattle.poll_close.proofs.Modulo.{offset_step, offset_wrap}
-use Rattle.poll_close.proofs.Windows.{newest_none, Each-range, newest_at, window_made}
+use Rattle.poll_close.proofs.Windows.{window_made}
+use Rattle.poll_close.proofs.Found.{in_memory, newest_found}
 use Rattle.poll_close.proofs.Blocks.{IsBlock, IsWordOf, offset_low, word_of, slot_of, slot_at}
 use Rattle.poll_close.proofs.BlockLaws.{found_in}
 use Rattle.poll_close.proofs.Outlines.{Sender}
@@ -27,7 +30,9 @@ use Rattle.fastforward.proofs.Stores.{slots_apart, slot_again, store_word, store
 
 module _ (k : Block) (is : IsBlock k) (n : Numbers) (order : Ordered k n) (word : ℕ → ℕ) (words : Words k n.landed word) where
   -- a slot whose null is not in memory holds the word of a round before: in memory, or pending
-  full_slot : n.sender.marked ≡ 0 → n.sender.stored < length k.list → n.sender.stored ≡ n.landed.nulls + k.size → found_in (pending_of k n.sender n.landed) word (slot k.size k.base n.sender.stored) ≡ slice_index k.list n.landed.nulls
+  full_slot : n.sender.marked ≡ 0 → n.sender.stored < length k.list → n.sender.stored ≡ n.landed.nulls + k.size
+      → found_in (pending_of k n.sender n.landed) word (slot k.size k.base n.sender.stored)
+      ≡ slice_index k.list n.landed.nulls
   full_slot unmarked more round = at (cases_eq n.landed.slots n.landed.nulls)
     where
       place : ℕ
@@ -43,18 +48,28 @@ module _ (k : Block) (is : IsBlock k) (n : Numbers) (order : Ordered k n) (word 
       elsewhere : (t : ℕ) (x : ℕ × ℕ) → n.landed.nulls < t → t < sent n.sender → slice_get (sender_stores k.size k.base k.list) t ≡ Some x → x.0 ≢ place
       elsewhere t x above below got same =
           let before : t < n.sender.stored = omega (arith, below, unmarked) in
-          slots_apart k.size k.base t n.sender.stored is.some_slot before (omega (arith, above, round)) (sym (word_at k.size k.base k.list t x got (omega (arith, before, more))) ∙ same)
+          slots_apart k.size k.base t n.sender.stored is.some_slot before (omega (arith, above, round))
+          (sym (word_at k.size k.base k.list t x got (omega (arith, before, more))) ∙ same)
 
-      at : (n.landed.slots ≡ n.landed.nulls) ⊎ (n.landed.slots ≢ n.landed.nulls) → found_in (pending_of k n.sender n.landed) word place ≡ slice_index k.list n.landed.nulls
+      at : (n.landed.slots ≡ n.landed.nulls) ⊎ (n.landed.slots ≢ n.landed.nulls)
+          → found_in (pending_of k n.sender n.landed) word place ≡ slice_index k.list n.landed.nulls
       at (inl none) =
-          let store : slice_get (sender_stores k.size k.base k.list) n.landed.nulls ≡ Some (place, slice_index k.list n.landed.nulls) = store_word k.size k.base k.list n.landed.nulls n.landed.nulls (omega (arith, more, round)) refl ∙ ap (λ a. Some (a, slice_index k.list n.landed.nulls)) (sym here) in
-          ap (λ o. unwrap_or o (word place)) (newest_at (sender_stores k.size k.base k.list) (gone n.landed) n.landed.nulls (sent n.sender) place (slice_index k.list n.landed.nulls) (omega (arith, none, first)) (omega (arith, round, is.some_slot)) store elsewhere)
+          let store : slice_get (sender_stores k.size k.base k.list) n.landed.nulls
+          ≡ Some (place, slice_index k.list n.landed.nulls) =
+          store_word k.size k.base k.list n.landed.nulls n.landed.nulls (omega (arith, more, round)) refl
+          ∙ ap (λ a. Some (a, slice_index k.list n.landed.nulls)) (sym here) in
+          newest_found (sender_stores k.size k.base k.list) (gone n.landed) (sent n.sender) word place
+          (slice_index k.list n.landed.nulls) n.landed.nulls (omega (arith, none, first)) (omega (arith, round, is.some_slot))
+          store elsewhere
       at (inr some) =
-          ap (λ o. unwrap_or o (word place)) (newest_none place None (pending_of k n.sender n.landed) (Each-range (λ x. x.0 ≢ place) (sender_stores k.size k.base k.list) (gone n.landed) (sent n.sender) (λ t x from below got. elsewhere t x (omega (arith, from, first, some, order.nulls_landed, order.nulls_slots)) below got)))
+          in_memory (sender_stores k.size k.base k.list) (gone n.landed) (sent n.sender) word place
+          (λ t x from below got. elsewhere t x (omega (arith, from, first, some, order.nulls_landed, order.nulls_slots)) below got)
           ∙ ap word here ∙ words.full n.landed.nulls (omega arith) (omega (arith, some, order.nulls_landed, order.nulls_slots))
 
   -- so where it reads 0 the slot is free, since no word is 0
-  found_free : (v : ℕ) → n.sender.marked ≡ 0 → n.sender.stored < length k.list → v ≡ found_in (pending_of k n.sender n.landed) word (slot k.size k.base n.sender.stored) → v ≡ 0 → n.sender.stored + 1 ≤ n.landed.nulls + k.size
+  found_free : (v : ℕ) → n.sender.marked ≡ 0 → n.sender.stored < length k.list
+      → v ≡ found_in (pending_of k n.sender n.landed) word (slot k.size k.base n.sender.stored) → v ≡ 0
+      → n.sender.stored + 1 ≤ n.landed.nulls + k.size
   found_free v unmarked more read zero_is =
       elim (cases_eq n.sender.stored (n.landed.nulls + k.size)) [
         | inl round ↦ absurd (is.full n.landed.nulls (omega (arith, more, round)) (sym (full_slot unmarked more round) ∙ sym read ∙ zero_is))
@@ -66,8 +81,12 @@ fastforward_sender = record { lines = sender_lines; decoded = sender-decoded }
 
 module _ (k : Block) (n : Numbers) (word : ℕ → ℕ) (v : ℕ) (r : SenderRegisters) (is : IsBlock k) (order : Ordered k n) (words : Words k n.landed word) where
   -- a store joins those that are pending
-  joins : (x : ℕ × ℕ) (later : ℕ) → later ≡ suc (sent n.sender) → slice_get (sender_stores k.size k.base k.list) (sent n.sender) ≡ Some x → pending_of k n.sender n.landed ++ x ∷ [] ≡ window (sender_stores k.size k.base k.list) (gone n.landed) later
-  joins x later next store = rw next (window_made (sender_stores k.size k.base k.list) (gone n.landed) (sent n.sender) x (omega (arith, order.slots_landed, order.mark_landed)) store)
+  joins : (x : ℕ × ℕ) (later : ℕ) → later ≡ suc (sent n.sender)
+      → slice_get (sender_stores k.size k.base k.list) (sent n.sender) ≡ Some x
+      → pending_of k n.sender n.landed ++ x ∷ [] ≡ window (sender_stores k.size k.base k.list) (gone n.landed) later
+  joins x later next store =
+      rw next (window_made (sender_stores k.size k.base k.list) (gone n.landed) (sent n.sender) x
+      (omega (arith, order.slots_landed, order.mark_landed)) store)
 
   at : (j : ℕ) {i : Instr} → slice_get (map Some sender_lines) j ≡ Some (Some i) → IsAt (running sender_code (fixed k) (4 * j) r (drop n.sender.asked k.list)) i
   at j found = outline.at fastforward_blocks fastforward_sender k n word v r j found
@@ -92,11 +111,17 @@ module _ (k : Block) (n : Numbers) (word : ℕ → ℕ) (v : ℕ) (r : SenderReg
             let made : Sent = record n.sender { asked = suc n.sender.asked } in
             let before : length (drop n.sender.asked k.list) ≡ _ = length-drop n.sender.asked k.list in
             let after : length (drop (suc n.sender.asked) k.list) ≡ _ = length-drop (suc n.sender.asked) k.list in
-            goes 0x08 (need.Next (Some w)) made (λ u. record r { x10 = w; x11 = 1 }) tt (line_04-word sender_code (lit< tt) (fixed k) r (λ inbox. outline.at_in fastforward_blocks fastforward_sender k n word v r r inbox 1 refl) h.2 k.list n.sender.asked (omega (arith, h.0.taken))) (omega arith) (append-nil (pending_of k n.sender n.landed))
+            goes 0x08 (need.Next (Some w)) made (λ u. record r { x10 = w; x11 = 1 }) tt
+            (line_04-word sender_code (lit< tt) (fixed k) r
+            (λ inbox. outline.at_in fastforward_blocks fastforward_sender k n word v r r inbox 1 refl) h.2 k.list
+            n.sender.asked (omega (arith, h.0.taken))) (omega arith) (append-nil (pending_of k n.sender n.landed))
             (record { unmarked = h.0.unmarked; index = h.1; answer = inl (refl, omega (arith, h.0.taken), more, ap (slice_index k.list) h.0.taken) })
             (λ free. omega (arith, before, after, more, h.0.taken))
         | inr all ↦
-            goes 0x08 (need.Next None) n.sender (λ u. record r { x11 = 0 }) tt (line_04-none sender_code (lit< tt) (fixed k) r (λ inbox. outline.at_in fastforward_blocks fastforward_sender k n word v r r inbox 1 refl) h.2 k.list n.sender.asked (omega (arith, h.0.taken))) order (append-nil (pending_of k n.sender n.landed))
+            goes 0x08 (need.Next None) n.sender (λ u. record r { x11 = 0 }) tt
+            (line_04-none sender_code (lit< tt) (fixed k) r
+            (λ inbox. outline.at_in fastforward_blocks fastforward_sender k n word v r r inbox 1 refl) h.2 k.list
+            n.sender.asked (omega (arith, h.0.taken))) order (append-nil (pending_of k n.sender n.landed))
             (record { unmarked = h.0.unmarked; index = h.1; answer = inr (refl, h.0.taken, omega (arith, all, order.stored_all)) })
             (λ free. omega arith)
       ]
@@ -104,51 +129,81 @@ module _ (k : Block) (n : Numbers) (word : ℕ → ℕ) (v : ℕ) (r : SenderReg
   pub right_08 : Right_at 0x08  -- beq x11,x0,done
   right_08 h =
       elim h.answer [
-        | inl some ↦ still 0x0C r (other_goes_on (at 2 refl) (omega (arith, some.0))) (record { taken = some.1; unmarked = h.unmarked; within = some.2; word = some.3; index = h.index }) (omega (arith, some.0))
+        | inl some ↦ still 0x0C r (other_goes_on (at 2 refl) (omega (arith, some.0)))
+            (record { taken = some.1; unmarked = h.unmarked; within = some.2; word = some.3; index = h.index })
+            (omega (arith, some.0))
         | inr all ↦ still 0x2C r (same_jumps (at 2 refl) all.0 refl) (record { taken = all.1; unmarked = h.unmarked }, all.2) (omega (arith, all.0))
       ]
 
   pub right_0C : Right_at 0x0C  -- add x28,x8,x5
-  right_0C h = still 0x10 (record r { x28 = k.base + r.x5 }) (sum_line (at 3 refl) (omega (arith, is.inside, is.small, h.index, offset_low k is n.sender.stored))) (h, refl) (omega arith)
+  right_0C h = still 0x10 (record r { x28 = k.base + r.x5 })
+      (sum_line (at 3 refl) (omega (arith, is.inside, is.small, h.index, offset_low k is n.sender.stored))) (h, refl)
+      (omega arith)
 
   -- where it reads 0 its slot is free, and it reads 0 where it doesn't wait
   pub right_10 : Right_at 0x10  -- test: lw x7,16(x28)
   right_10 h find =
       let place : r.x28 + 16 ≡ slot k.size k.base n.sender.stored = omega (arith, h.1, h.0.index) in
-      let line = load_line (at 4 refl) (omega (arith, is.even, h.0.index, h.1)) refl (omega (arith, is.inside, h.0.index, h.1, offset_low k is n.sender.stored)) is.small in
-      let read : v ≡ found_in (pending_of k n.sender n.landed) word (r.x28 + 16) = find (r.x28 + 16) (subst (IsWordOf k) (sym place) (slot_of k is n.sender.stored)) line.wants in
-      goes 0x14 (loads (r.x28 + 16)) (record n.sender { seen = n.landed.nulls }) (λ u. record r { x7 = u }) (tt, slot_at k is (r.x28 + 16) n.sender.stored place) line (omega arith) (append-nil (pending_of k n.sender n.landed))
-      (record { taken = h.0.taken; unmarked = h.0.unmarked; within = h.0.within; word = h.0.word; index = h.0.index }, h.1, found_free k is n order word words v h.0.unmarked h.0.within (read ∙ ap (found_in (pending_of k n.sender n.landed) word) place))
-      (λ free. let zero_is : (v == 0) ≡ true = ap (λ w. w == 0) (read ∙ ap (λ ps. found_in ps word (r.x28 + 16)) free.0) ∙ not_false (word (r.x28 + 16) == 0) free.1 in rw zero_is (omega arith))
+      let line = load_line (at 4 refl) (omega (arith, is.even, h.0.index, h.1)) refl
+      (omega (arith, is.inside, h.0.index, h.1, offset_low k is n.sender.stored)) is.small in
+      let read : v ≡ found_in (pending_of k n.sender n.landed) word (r.x28 + 16) =
+      find (r.x28 + 16) (subst (IsWordOf k) (sym place) (slot_of k is n.sender.stored)) line.wants in
+      goes 0x14 (loads (r.x28 + 16)) (record n.sender { seen = n.landed.nulls }) (λ u. record r { x7 = u })
+      (tt, slot_at k is (r.x28 + 16) n.sender.stored place) line (omega arith)
+      (append-nil (pending_of k n.sender n.landed)) (
+        record { taken = h.0.taken; unmarked = h.0.unmarked; within = h.0.within; word = h.0.word; index = h.0.index },
+        h.1,
+        found_free k is n order word words v h.0.unmarked h.0.within
+            (read ∙ ap (found_in (pending_of k n.sender n.landed) word) place),
+      )
+      (λ free. let zero_is : (v == 0) ≡ true = ap (λ w. w == 0)
+      (read ∙ ap (λ ps. found_in ps word (r.x28 + 16)) free.0) ∙ not_false (word (r.x28 + 16) == 0) free.1 in
+      rw zero_is (omega arith))
       find
 
   pub right_14 : Right_at 0x14  -- bne x7,x0,test
   right_14 h =
       elim (cases_eq r.x7 0) [
-        | inl zero_is ↦ still 0x18 r (same_goes_on (at 5 refl) zero_is) (h.0, h.1, h.2 zero_is) (let on : (r.x7 == 0) ≡ true = grind (arith, nat_tests) in rw on (omega arith))
-        | inr some ↦ still 0x10 r (other_jumps (at 5 refl) some refl) (h.0, h.1) (let off : (r.x7 == 0) ≡ false = grind (arith, nat_tests) in rw off (omega arith))
+        | inl zero_is ↦ still 0x18 r (same_goes_on (at 5 refl) zero_is) (h.0, h.1, h.2 zero_is)
+            (let on : (r.x7 == 0) ≡ true = grind (arith, nat_tests) in rw on (omega arith))
+        | inr some ↦ still 0x10 r (other_jumps (at 5 refl) some refl) (h.0, h.1)
+            (let off : (r.x7 == 0) ≡ false = grind (arith, nat_tests) in rw off (omega arith))
       ]
 
   pub right_18 : Right_at 0x18  -- sw x10,16(x28)
   right_18 h =
       let place : slot k.size k.base n.sender.stored ≡ r.x28 + 16 = omega (arith, h.1, h.0.index) in
-      let store : slice_get (sender_stores k.size k.base k.list) (sent n.sender) ≡ Some (r.x28 + 16, r.x10) = store_word k.size k.base k.list n.sender.stored (sent n.sender) h.0.within (omega (arith, h.0.unmarked)) ∙ rw (place, h.0.word) refl in
-      goes 0x1C (stores (r.x28 + 16) r.x10) (record n.sender { stored = n.sender.stored + 1 }) (λ u. r) (tt, slot_at k is (r.x28 + 16) n.sender.stored (sym place)) (store_line (at 6 refl) (omega (arith, is.even, h.0.index, h.1)) refl (omega (arith, is.inside, h.0.index, h.1, offset_low k is n.sender.stored)) is.small) (omega (arith, h.0.unmarked, h.0.within, h.2)) (joins (r.x28 + 16, r.x10) (n.sender.stored + 1 + n.sender.marked) (omega arith) store)
+      let store : slice_get (sender_stores k.size k.base k.list) (sent n.sender) ≡ Some (r.x28 + 16, r.x10) =
+      store_word k.size k.base k.list n.sender.stored (sent n.sender) h.0.within (omega (arith, h.0.unmarked))
+      ∙ rw (place, h.0.word) refl in
+      goes 0x1C (stores (r.x28 + 16) r.x10) (record n.sender { stored = n.sender.stored + 1 }) (λ u. r)
+      (tt, slot_at k is (r.x28 + 16) n.sender.stored (sym place))
+      (store_line (at 6 refl) (omega (arith, is.even, h.0.index, h.1)) refl
+      (omega (arith, is.inside, h.0.index, h.1, offset_low k is n.sender.stored)) is.small)
+      (omega (arith, h.0.unmarked, h.0.within, h.2))
+      (joins (r.x28 + 16, r.x10) (n.sender.stored + 1 + n.sender.marked) (omega arith) store)
       (record { between = record { taken = h.0.taken; unmarked = h.0.unmarked }; last = n.sender.stored; next = refl }, h.0.index)
       (λ free. omega arith)
 
   pub right_1C : Right_at 0x1C  -- addi x5,x5,4
-  right_1C h = still 0x20 (record r { x5 = r.x5 + 4 }) (add_line (at 7 refl) (word_plus r.x5 4 (omega (arith, is.inside, is.wide, h.1, offset_low k is h.0.last)))) (h.0, ap (λ o. o + 4) h.1) (omega arith)
+  right_1C h = still 0x20 (record r { x5 = r.x5 + 4 })
+      (add_line (at 7 refl) (word_plus r.x5 4 (omega (arith, is.inside, is.wide, h.1, offset_low k is h.0.last))))
+      (h.0, ap (λ o. o + 4) h.1) (omega arith)
 
   pub right_20 : Right_at 0x20  -- bne x5,x9,next
   right_20 h =
       elim (cases_eq r.x5 (4 * k.size)) [
         | inl same ↦ still 0x24 r (same_goes_on (at 8 refl) same) (h.0, sym h.1 ∙ same) (omega arith)
-        | inr other ↦ still 0x00 r (other_jumps (at 8 refl) other refl) (h.0.between, h.1 ∙ offset_step k.size h.0.last is.some_slot (λ full. other (h.1 ∙ full)) ∙ ap (offset k) (sym h.0.next)) (omega arith)
+        | inr other ↦ still 0x00 r (other_jumps (at 8 refl) other refl) (
+          h.0.between,
+          h.1 ∙ offset_step k.size h.0.last is.some_slot (λ full. other (h.1 ∙ full))
+              ∙ ap (offset k) (sym h.0.next),
+        ) (omega arith)
       ]
 
   pub right_24 : Right_at 0x24  -- addi x5,x0,0
-  right_24 h = still 0x28 (record r { x5 = 0 }) (add_line (at 9 refl) (word_plus 0 0 (lit< tt))) (h.0.between, sym (offset_wrap k.size h.0.last is.some_slot h.1) ∙ ap (offset k) (sym h.0.next)) (omega arith)
+  right_24 h = still 0x28 (record r { x5 = 0 }) (add_line (at 9 refl) (word_plus 0 0 (lit< tt)))
+      (h.0.between, sym (offset_wrap k.size h.0.last is.some_slot h.1) ∙ ap (offset k) (sym h.0.next)) (omega arith)
 
   pub right_28 : Right_at 0x28  -- jal x0,next
   right_28 h = still 0x00 r (jump_line (at 10 refl) refl) h (omega arith)
@@ -158,8 +213,12 @@ module _ (k : Block) (n : Numbers) (word : ℕ → ℕ) (v : ℕ) (r : SenderReg
 
   pub right_30 : Right_at 0x30  -- sw x6,4(x8)
   right_30 h =
-      let store : slice_get (sender_stores k.size k.base k.list) (sent n.sender) ≡ Some (k.base + 4, r.x6) = store_mark k.size k.base k.list (sent n.sender) (omega (arith, h.0.unmarked, h.1)) ∙ rw h.2 refl in
-      goes 0x34 (stores (k.base + 4) r.x6) (record n.sender { marked = 1 }) (λ u. r) (tt, word_of k is 4 (omega arith) refl) (store_line (at 12 refl) is.even refl (omega (arith, is.inside, is.some_slot)) is.small) (omega (arith, h.1)) (joins (k.base + 4, r.x6) (n.sender.stored + 1) (omega (arith, h.0.unmarked)) store)
+      let store : slice_get (sender_stores k.size k.base k.list) (sent n.sender) ≡ Some (k.base + 4, r.x6) =
+      store_mark k.size k.base k.list (sent n.sender) (omega (arith, h.0.unmarked, h.1)) ∙ rw h.2 refl in
+      goes 0x34 (stores (k.base + 4) r.x6) (record n.sender { marked = 1 }) (λ u. r)
+      (tt, word_of k is 4 (omega arith) refl)
+      (store_line (at 12 refl) is.even refl (omega (arith, is.inside, is.some_slot)) is.small) (omega (arith, h.1))
+      (joins (k.base + 4, r.x6) (n.sender.stored + 1) (omega (arith, h.0.unmarked)) store)
       (record { taken = h.0.taken ∙ h.1; all = h.1; mark = refl })
       (λ free. omega arith)
 
@@ -167,4 +226,6 @@ module _ (k : Block) (n : Numbers) (word : ℕ → ℕ) (v : ℕ) (r : SenderReg
   right_34 h = still 0x38 (record r { x17 = 93 }) (add_line (at 13 refl) (word_plus 0 93 (lit< tt))) (h, refl) (omega arith)
 
   pub right_38 : Right_at 0x38  -- ecall
-  right_38 h = goes 0x3C need.Exit n.sender (λ u. r) tt (record { wants = exit_need (at 14 refl) h.1; leaves = λ w. exit_after (at 14 refl) h.1 w }) order (append-nil (pending_of k n.sender n.landed)) h.0 (λ free. omega arith)
+  right_38 h = goes 0x3C need.Exit n.sender (λ u. r) tt
+      (record { wants = exit_need (at 14 refl) h.1; leaves = λ w. exit_after (at 14 refl) h.1 w }) order
+      (append-nil (pending_of k n.sender n.landed)) h.0 (λ free. omega arith)

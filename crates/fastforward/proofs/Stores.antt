@@ -39,7 +39,8 @@ module _ (S b : ℕ) (ws : List ℕ) where
   store_done n at = pair_last (null_store S b) (tail_store S b) (b + 12, 1) ws n at
 
   -- the address of store n: the tail, the done word, or the slot of the word of which it is the null
-  pub place_at : (n : ℕ) (x : ℕ × ℕ) → slice_get (receiver_stores S b ws) n ≡ Some x → (x.0 ≡ b + 8) ⊎ (((x.0 ≡ b + 12) × (n ≡ 2 * length ws)) ⊎ ((t : ℕ) × (n ≡ 2 * t) × (x.0 ≡ slot S b t)))
+  pub place_at : (n : ℕ) (x : ℕ × ℕ) → slice_get (receiver_stores S b ws) n ≡ Some x
+      → (x.0 ≡ b + 8) ⊎ (((x.0 ≡ b + 12) × (n ≡ 2 * length ws)) ⊎ ((t : ℕ) × (n ≡ 2 * t) × (x.0 ≡ slot S b t)))
   place_at n x is =
       elim (pair_is (null_store S b) (tail_store S b) (b + 12, 1) ws n x is) [
         | inl null ↦ inr (inr (null.0, null.2, ap (λ (y : ℕ × ℕ). y.0) null.3))
@@ -49,7 +50,14 @@ module _ (S b : ℕ) (ws : List ℕ) where
 
 module _ (k : Block) (is : IsBlock k) where
   pub sender_stores_are : (i n : ℕ) → Each (IsStore k) (window (sender_stores k.size k.base k.list) i n)
-  sender_stores_are i n = Each-window (IsStore k) (sender_stores k.size k.base k.list) i n (singles_each (IsStore k) (slot_store k.size k.base) (k.base + 4, 1) k.list (λ j less. record { place = slot_of k is j; word = is.words j less }) (record { place = word_of k is 4 (omega arith) refl; word = omega arith }))
+  sender_stores_are i n = Each-window (IsStore k) (sender_stores k.size k.base k.list) i n
+      (singles_each (IsStore k) (slot_store k.size k.base) (k.base + 4, 1) k.list
+      (λ j less. record { place = slot_of k is j; word = is.words j less })
+      (record { place = word_of k is 4 (omega arith) refl; word = omega arith }))
 
   pub receiver_stores_are : (i n : ℕ) → Each (IsStore k) (window (receiver_stores k.size k.base k.list) i n)
-  receiver_stores_are i n = Each-window (IsStore k) (receiver_stores k.size k.base k.list) i n (pairs_each (IsStore k) (null_store k.size k.base) (tail_store k.size k.base) (k.base + 12, 1) k.list (λ j less. (record { place = slot_of k is j; word = omega arith }, record { place = word_of k is 8 (omega arith) refl; word = offset_small k is (j + 1) })) (record { place = word_of k is 12 (omega arith) refl; word = omega arith }))
+  receiver_stores_are i n = Each-window (IsStore k) (receiver_stores k.size k.base k.list) i n
+      (pairs_each (IsStore k) (null_store k.size k.base) (tail_store k.size k.base) (k.base + 12, 1) k.list (λ j less. (
+        record { place = slot_of k is j; word = omega arith },
+        record { place = word_of k is 8 (omega arith) refl; word = offset_small k is (j + 1) },
+      )) (record { place = word_of k is 12 (omega arith) refl; word = omega arith }))

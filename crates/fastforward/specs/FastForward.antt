@@ -5,10 +5,10 @@ use Rattle.poll_close.specs.Laws.{Ring, Meaning}
 use Rattle.poll_close.specs.Rankings.{Ranking}
 use Rattle.poll_close.specs.Invariant.BlockMeaning.{BlockMeaning, ranking_of}
 use Rattle.poll_close.specs.Invariant.Channels.{means_by}
-use Rattle.fastforward.specs.Listing.{sender_code, receiver_code}
+use Rattle.fastforward.specs.Listing.{sender_code, receiver_code, middle}
 use Rattle.fastforward.specs.Invariant.Numbers.{Taken, Landed, Ordered, Words, pending_of, unread_of}
 use Rattle.fastforward.specs.Invariant.Sender.{sender}
-use Rattle.fastforward.specs.Invariant.Middle.{middle, Level, Filled, rows}
+use Rattle.fastforward.specs.Invariant.Middle.{Level, Filled, rows}
 
 -- the slots themselves say what is free, so one is enough
 abbrev pub fastforward : Ring

@@ -1,5 +1,4 @@
 pub mod Needs
 pub mod Advances
 pub mod Instructions
-pub mod Sums
 pub mod PutBack

@@ -54,19 +54,12 @@ pub record Joined {A B : Type 0} (R : A → B → Type 0) (whole out : List A) (
   pub split : whole ≡ front ++ out
   pub zip : AllZip R front came
 
-pub joined_none : {A B : Type 0} (R : A → B → Type 0) (whole out : List A) (came : List B) → out ≡ whole → came ≡ [] → Joined R whole out came
-joined_none R whole out came all none = record { front = []; split = sym all; zip = subst (AllZip R []) (sym none) tt }
-
 pub joined_more : {A B : Type 0} (R : A → B → Type 0) (whole out later : List A) (came grown : List B) (x : A) (y : B) → Joined R whole out came → out ≡ x ∷ later → R x y → grown ≡ came ++ y ∷ [] → Joined R whole later grown
 joined_more {A = A} {B = B} R whole out later came grown x y joined next here is = record {
   front = joined.front ++ x ∷ [];
   split = joined.split ∙ ap (λ (xs : List A). joined.front ++ xs) next ∙ sym (append_assoc joined.front (x ∷ []) later);
   zip = subst (AllZip R (joined.front ++ x ∷ [])) (sym is) (all_zipped_more R joined.front came x y joined.zip here);
 }
-
-pub joined_all : {A B : Type 0} (R : A → B → Type 0) (whole out : List A) (came : List B) → Joined R whole out came → out ≡ [] → AllZip R whole came
-joined_all {A = A} R whole out came joined none =
-    subst (λ (xs : List A). AllZip R xs came) (sym (joined.split ∙ ap (λ (xs : List A). joined.front ++ xs) none ∙ append-nil joined.front)) joined.zip
 
 -- ---- roles
 

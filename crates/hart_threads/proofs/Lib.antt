@@ -8,4 +8,5 @@ pub mod GettingOn
 pub mod Replays
 pub mod SeatsBelow
 pub mod Fresh
+pub mod OverChannels
 pub mod Returning

@@ -4,9 +4,10 @@ use Rattle.step_machine.specs.declared.events.Entry.{Entry}
 use Rattle.step_machine.specs.History.{Start, history_of}
 use Rattle.step_machine.specs.Legal.{Legal}
 use Rattle.step_machine.specs.Placing.{IsMemory}
-use Rattle.poll_close.specs.Layout.{opening_of}
-use Rattle.poll_close.specs.Laws.{Ring, Accepted}
+use Rattle.poll_close.specs.Layout.{Layout}
+use Rattle.poll_close.specs.Laws.{Ring, opening_of, opening_over, Accepted, AcceptedAt}
 use Rattle.poll_close.specs.Refusals as refusals
+use Rattle.poll_close.specs.declared.faults.Refused.TheVariants.{NoMemory}
 use Rattle.hart_threads.specs.Seats.{SeatView, seats_of}
 use Rattle.hart_threads.specs.Missing.{is_missing, IsFirst, IsComplete}
 use Rattle.hart_threads.specs.Parts.{part_of, Belongs}
@@ -16,6 +17,8 @@ use Rattle.hart_threads.specs.declared.fault.Fault.{Fault}
 use Rattle.hart_threads.specs.declared.fault.Fault.TheVariants as fault
 use Rattle.hart_threads.specs.declared.fault.ChannelFault.{ChannelFault}
 use Rattle.hart_threads.specs.declared.fault.ChannelFault.TheVariants as channel
+use Rattle.hart_threads.specs.declared.fault.ChannelFaultAt.{ChannelFaultAt}
+use Rattle.hart_threads.specs.declared.fault.ChannelFaultAt.TheVariants as channel_at
 
 -- the seat's diary is a beginning of its part of the entries, which has at most n entries more
 pub record GrowsInto (n : ℕ) (es : List Entry) (s : SeatView) : Type 0 where
@@ -59,11 +62,20 @@ Fails B M n o given (fault.Mismatch h es) = IsMismatched B M n o given h es.item
 
 -- ---- a channel on threads
 
--- the opening of a channel over these lists, with rings of S slots
-abbrev pub channel_over : Ring → List (List ℕ) → ℕ → Start
-channel_over ring lists S = opening_of ring.sender ring.receiver lists S
+-- why threads over an opening, with seats that have done nothing, give no record and no reports after n turns
+-- or less
+abbrev pub RecordFails : ℕ → ℕ → ℕ → Start → ChannelFault → Type 0
+RecordFails B M n o (channel.Lists refused) = refused ≡ NoMemory
+RecordFails B M n o (channel.Threads fault) = Fails B M n o (seats_of M o) fault
 
--- why a channel on threads delivers nothing after n turns or less, with seats that have done nothing
+-- why a channel over these lists, with rings of S slots, delivers nothing
 abbrev pub ChannelFails : Ring → ℕ → ℕ → ℕ → List (List ℕ) → ℕ → ChannelFault → Type 0
 ChannelFails ring B M n lists S (channel.Lists refused) = refusals.Refuses ring M lists S refused
-ChannelFails ring B M n lists S (channel.Threads fault) = Accepted ring M lists S × Fails B M n (channel_over ring lists S) (seats_of M (channel_over ring lists S)) fault
+ChannelFails ring B M n lists S (channel.Threads fault) =
+    Accepted ring M lists S × Fails B M n (opening_of ring lists S) (seats_of M (opening_of ring lists S)) fault
+
+-- and why one in a layout does
+abbrev pub ChannelFailsAt : Ring → ℕ → ℕ → ℕ → List (List ℕ) → Layout → ChannelFaultAt → Type 0
+ChannelFailsAt ring B M n lists l (channel_at.Place refused) = refusals.RefusesAt ring M lists l refused
+ChannelFailsAt ring B M n lists l (channel_at.Threads fault) =
+    AcceptedAt ring M lists l × Fails B M n (opening_over ring lists l) (seats_of M (opening_over ring lists l)) fault

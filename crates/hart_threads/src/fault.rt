@@ -1,13 +1,14 @@
 //! Why threads give no record.
 
 ghost use Rattle.std.specs.Prelude.{◌≡◌};
-ghost use Rattle.hart_threads.specs.Faults.{fault_of};
+ghost use Rattle.hart_threads.specs.Faults.{fault_of, channel_fault_at};
 ghost use Rattle.hart_threads.specs.declared.fault.Fault.TheVariants.{NoMemory};
 ghost use Rattle.hart_threads.specs.declared.fault.ChannelFault.TheVariants.{Lists, Threads};
+ghost use Rattle.hart_threads.specs.declared.fault.ChannelFaultAt.TheVariants.{Place};
 ghost use Rattle.poll_close.specs.declared.faults.Refused.TheVariants.{NoMemory as NoMemoryToOpen};
 
 use crate::record::Gather;
-use poll_close::Refused;
+use poll_close::{Refused, RefusedAt};
 use std::alloc::AllocError;
 use step_machine::Entry;
 use thiserror::Error;
@@ -110,5 +111,49 @@ impl From<Fault> for ChannelFault {
 
     fn from(error: Fault) -> ChannelFault {
         ChannelFault::Threads(error)
+    }
+}
+
+/// Why a channel at a place on threads delivers nothing. Each has the number by which texts name it.
+#[derive(Debug, Drop, Error)]
+pub enum ChannelFaultAt {
+    /// There is no such channel, or no memory for it and for what it reports.
+    #[error(transparent)]
+    Place(RefusedAt),
+    /// Its threads gave no record.
+    #[error(transparent)]
+    Threads(Fault),
+}
+
+impl ChannelFaultAt {
+    ghost use Rattle.hart_threads.specs.Faults.{channel_number_at};
+
+    /// The number by which texts name the fault, 0 where memory ran out.
+    pub fn number(&self) -> u8
+        ensures { result ≡ channel_number_at self.now }
+    {
+        match self {
+            ChannelFaultAt::Place(refused) => refused.number(),
+            ChannelFaultAt::Threads(fault) => fault.number(),
+        }
+    }
+}
+
+impl From<RefusedAt> for ChannelFaultAt {
+    ghost from_gives = { λ refused e. e ≡ Place refused };
+
+    fn from(error: RefusedAt) -> ChannelFaultAt {
+        ChannelFaultAt::Place(error)
+    }
+}
+
+impl From<ChannelFault> for ChannelFaultAt {
+    ghost from_gives = { λ fault e. e ≡ channel_fault_at fault };
+
+    fn from(error: ChannelFault) -> ChannelFaultAt {
+        match error {
+            ChannelFault::Lists(refused) => ChannelFaultAt::Place(RefusedAt::Lists(refused)),
+            ChannelFault::Threads(fault) => ChannelFaultAt::Threads(fault),
+        }
     }
 }

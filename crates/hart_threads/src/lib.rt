@@ -6,8 +6,8 @@
 //! and answers a [`Record`]: a run of the opening, one event an entry, of which each diary is its seat's part
 //! (`IsRecord` and `Merge` of `specs/`). [`run_harts`] does so with a thread for each seat: whatever the
 //! threads do, a record is a run of the model, no thread makes more than its turns, and under an open gate
-//! each hart gets on (`IsMerged`, `AllGetOn`). [`deliver_threads`] runs a channel so, over any ring, and what
-//! its receiver reports is clean.
+//! each hart gets on (`IsMerged`, `AllGetOn`). [`deliver_threads`] runs a channel so, over any ring, and
+//! [`deliver_threads_at`] one anywhere in memory: what its receiver reports is clean.
 //!
 //! A call that may wait for a lock or a thread asks for `Wait`; of those nothing says that they return.
 //! Nothing is claimed of fairness, of the order in which threads get the lock, or of time. This crate
@@ -18,6 +18,7 @@
 mod acting;
 pub mod channels;
 mod diary;
+mod ended;
 pub mod fault;
 pub mod gate;
 pub mod gather;
@@ -31,8 +32,8 @@ pub mod seat;
 pub mod shared;
 mod turns;
 
-pub use channels::deliver_threads;
-pub use fault::{ChannelFault, Fault};
+pub use channels::{deliver_threads, deliver_threads_at};
+pub use fault::{ChannelFault, ChannelFaultAt, Fault};
 pub use gate::{Gate, Open};
 pub use harts::run_harts;
 pub use local::Local;

@@ -1,8 +1,8 @@
 //! What one thread does with its seat.
 
-ghost use Rattle.std.specs.Prelude.{◌≡◌, ◌<◌, ◌+◌, ◌-◌, ◌^◌, true, false, IfOk, IsSomeAnd};
-ghost use Rattle.hart_threads.specs.Seats.{Answers, Notes, state_in};
-ghost use Rattle.hart_threads.specs.inner.Threads.{Continues, GotOn, IsEnding, Ran, WhereDone, ending_of, last_answer, no_calls};
+ghost use Rattle.std.specs.Prelude.{◌≡◌, ◌<◌, ◌≤◌, ◌+◌, ◌-◌, ◌^◌, true, false, IfOk, IfSome, IsSomeAnd};
+ghost use Rattle.hart_threads.specs.Seats.{SeatView, Answers, Notes, state_in};
+ghost use Rattle.hart_threads.specs.inner.Threads.{Continues, EndsBy, GotOn, IsEnding, Ran, WhereDone, ending_of, last_answer, no_calls};
 ghost use Rattle.hart_threads.specs.declared.turns.Ending.TheVariants.{HeldBack};
 
 use crate::gate::Gate;
@@ -14,6 +14,12 @@ use std::alloc::AllocError;
 use std::sync::Wait;
 use std::thread;
 use step_machine::Outcome;
+
+/// How many calls a lander makes under one lock once its hart's thread has ended.
+const CALLS_AT_ONCE: u32 = 1024;
+
+/// How often a lander yields at most after a call that found nothing to land.
+const MOST_YIELDS: u32 = 16;
 
 /// How a thread ended: held back by its gate; at its hart's end; after its turns; since the bank has no such
 /// hart; or for want of memory.
@@ -78,7 +84,9 @@ pub(crate) fn turns_of<G: Gate, R: Wait, const B: usize, const M: usize>(
     ensures { Ran (G.is_open gate.now) turns held.entry.seat result.1 result.0.seat }
 {
     let ended = if held.seat.acts() {
-        acting_turns(rt, shared, &mut held.seat, gate, turns)
+        let ended = acting_turns(rt, shared, &mut held.seat, gate, turns);
+        shared.ended.note(held.seat.hart());
+        ended
     } else {
         landing_turns(rt, shared, &mut held.seat, turns)
     };
@@ -133,7 +141,9 @@ fn turn<R: Wait, const B: usize, const M: usize>(
     }
 }
 
-/// Lands the hart's stores until it is over and has none, or the turns are done.
+/// Lands the hart's stores until it is over and has none, or the turns are done. After a call that found
+/// nothing the lander waits longer each time, so that it takes neither the lock nor its own turns from a hart
+/// that goes on. Once the hart's thread has ended no store comes, and the lander no longer waits.
 fn landing_turns<R: Wait, const B: usize, const M: usize>(
     rt: &R,
     shared: &Shared<B, M>,
@@ -146,12 +156,57 @@ fn landing_turns<R: Wait, const B: usize, const M: usize>(
     ensures free { result.0 ≡ HeldBack → ⊥ }
 {
     let mut calls = Calls::none();
+    let mut yields: u32 = 1;
     while calls.made < turns {
-        let answer = shared.land(rt, seat);
-        if let Some(ending) = calls.count(answer) {
+        let ended = shared.ended.has(seat.hart());
+        let most = if ended { CALLS_AT_ONCE } else { 1 };
+        let left = most.min(turns - calls.made);
+        if let Some(ending) = land_calls(rt, shared, seat, left, &mut calls) {
             return (ending, calls);
         }
-        thread::yield_now();
+        yields = match calls.last {
+            Some(Outcome::NothingToLand) if !ended => MOST_YIELDS.min(2 * yields),
+            _ => 1,
+        };
+        yield_times(yields);
     }
     (Ending::TurnsDone, calls)
+}
+
+/// Up to `most` calls as [`Shared::land`] does them, under one lock, until one lands a store. How the thread
+/// ends by the last of them, if it does.
+fn land_calls<R: Wait, const B: usize, const M: usize>(
+    rt: &R,
+    shared: &Shared<B, M>,
+    seat: &mut Seat<M>,
+    most: u32,
+    calls: &mut Calls,
+) -> Option<Ending>
+    requires lands { seat.old.acts ≡ false }
+    requires some { 0 < most }
+    requires room { calls.old.made + most < 2 ^ 32 }
+    ensures lands { seat.new.acts ≡ false }
+    ensures some { calls.old.made < calls.new.made }
+    ensures most { calls.new.made ≤ calls.old.made + most }
+    ensures on { (s : SeatView) → Continues calls.old.made s seat.old → Continues calls.new.made s seat.new }
+    ensures ends { IfSome result (λ e. EndsBy e calls.new.last) }
+{
+    let mut locked = shared.bank.lock(rt);
+    let bank = &mut *locked;
+    let end = calls.made + most;
+    while calls.made < end {
+        let answer = seat.land_on(bank);
+        let ending = calls.count(answer);
+        if ending.is_some() || calls.last != Some(Outcome::NothingToLand) {
+            return ending;
+        }
+    }
+    None
+}
+
+/// Lets other threads run.
+fn yield_times(count: u32) {
+    for _ in 0..count {
+        thread::yield_now();
+    }
 }

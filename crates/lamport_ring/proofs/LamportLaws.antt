@@ -8,13 +8,14 @@ use Rattle.poll_close.proofs.Windows.{window_made}
 use Rattle.poll_close.specs.Invariant.SenderState.{SenderRegisters}
 use Rattle.poll_close.proofs.Blocks.{IsBlock, Within, base_word, word_of, slot_of}
 use Rattle.poll_close.proofs.BlockLaws.{BlockLaws, Begins, Stepped, opens_with}
-use Rattle.poll_close.proofs.Outlines.{Right, sends}
+use Rattle.poll_close.proofs.Outlines.{Right, also, sends}
 use Rattle.poll_close.proofs.ChannelLaws.{opens, keeps, cleans, goes, stays}
 use Rattle.lamport_ring.specs.Listing.{sender_code}
 use Rattle.lamport_ring.specs.Lamport.{lamport, lamport_blocks, lamport_means}
 use Rattle.lamport_ring.specs.Invariant.Stores.{receiver_stores}
 use Rattle.lamport_ring.specs.Invariant.Numbers.{Numbers, Landed, sent, gone, taken, freed, Ordered, Words, unread_of}
 use Rattle.lamport_ring.specs.Invariant.Sender.{sender}
+use Rattle.lamport_ring.proofs.Means.{receiver-decoded}
 use Rattle.lamport_ring.proofs.Stores.{store_tail, store_done, sender_stores_are, receiver_stores_are}
 use Rattle.lamport_ring.proofs.Landings.{sender_lands, receiver_lands}
 use Rattle.lamport_ring.proofs.ReceiverReads.{seen_mark, seen_done}
@@ -34,8 +35,19 @@ begins : (k : Block) → IsBlock k → Begins lamport_blocks k (opens_with sende
 begins k is = record {
   none = nothing;
   order = omega (arith, is.some_slot);
-  words = record { head = omega (arith, zero-mod k.size); mark = refl; tail = omega (arith, zero-mod k.size); done = refl; slots = λ j from below. omega arith };
-  stands = record { place = 0x00; written = record { x5 = 0; x6 = 0; x7 = 0; x10 = 0; x11 = 0; x17 = 0; x28 = 0 }; is = refl; holds = (record { taken = refl; heads = refl; unmarked = refl }, omega (arith, zero-mod k.size)) };
+  words = record {
+    head = omega (arith, zero-mod k.size);
+    mark = refl;
+    tail = omega (arith, zero-mod k.size);
+    done = refl;
+    slots = λ j from below. omega arith;
+  };
+  stands = record {
+    place = 0x00;
+    written = record { x5 = 0; x6 = 0; x7 = 0; x10 = 0; x11 = 0; x17 = 0; x28 = 0 };
+    is = refl;
+    holds = (record { taken = refl; heads = refl; unmarked = refl }, omega (arith, zero-mod k.size));
+  };
   unsent = refl;
   unread = refl;
   level = tt;
@@ -57,15 +69,25 @@ words_same k n word new is same w = record {
 -- the receiver's own numbers grow
 module _ (k : Block) (n : Numbers) (order : Ordered k n) where
   -- a store joins those to the block
-  joins : (x : ℕ × ℕ) (t : ℕ) → t ≡ suc (taken n.receiver) → slice_get (receiver_stores k.size k.base k.list) (taken n.receiver) ≡ Some x → unread_of k n.receiver n.landed ++ x ∷ [] ≡ window (receiver_stores k.size k.base k.list) (freed n.landed) t
-  joins x t next store = rw next (window_made (receiver_stores k.size k.base k.list) (freed n.landed) (taken n.receiver) x (omega (arith, order.tails_landed, order.done_landed)) store)
+  joins : (x : ℕ × ℕ) (t : ℕ) → t ≡ suc (taken n.receiver)
+      → slice_get (receiver_stores k.size k.base k.list) (taken n.receiver) ≡ Some x
+      → unread_of k n.receiver n.landed ++ x ∷ [] ≡ window (receiver_stores k.size k.base k.list) (freed n.landed) t
+  joins x t next store =
+      rw next (window_made (receiver_stores k.size k.base k.list) (freed n.landed) (taken n.receiver) x
+      (omega (arith, order.tails_landed, order.done_landed)) store)
 
-  stores_tail : n.receiver.tails < n.receiver.seen → n.receiver.done ≡ 0 → Stepped lamport_blocks k n ((k.base + 8, offset k (n.receiver.tails + 1)) ∷ []) (n.receiver.tails + 1) n.receiver.done n.receiver.took n.receiver.closings
+  stores_tail : n.receiver.tails < n.receiver.seen → n.receiver.done ≡ 0
+      → Stepped lamport_blocks k n ((k.base + 8, offset k (n.receiver.tails + 1)) ∷ []) (n.receiver.tails + 1)
+      n.receiver.done n.receiver.took n.receiver.closings
   stores_tail more on = record {
     after = record n.receiver { tails = n.receiver.tails + 1; mark = n.landed.mark };
     changes = record {
       order = omega (arith, more, on);
-      unread = joins (k.base + 8, offset k (n.receiver.tails + 1)) (n.receiver.tails + 1 + n.receiver.done) (omega arith) (store_tail k.size k.base k.list n.receiver.tails (taken n.receiver) (omega (arith, more, order.seen_heads, order.heads_slots, order.slots_landed, order.stored_all)) (omega (arith, on)));
+      unread =
+          joins (k.base + 8, offset k (n.receiver.tails + 1)) (n.receiver.tails + 1 + n.receiver.done) (omega arith)
+          (store_tail k.size k.base k.list n.receiver.tails (taken n.receiver)
+          (omega (arith, more, order.seen_heads, order.heads_slots, order.slots_landed, order.stored_all))
+          (omega (arith, on)));
     };
     level = tt;
     tails = refl;
@@ -75,7 +97,8 @@ module _ (k : Block) (n : Numbers) (order : Ordered k n) where
     mark = refl;
   }
 
-  stores_done : n.receiver.tails ≡ length k.list → n.receiver.done ≡ 0 → Stepped lamport_blocks k n ((k.base + 12, 1) ∷ []) n.receiver.tails 1 n.receiver.took n.receiver.closings
+  stores_done : n.receiver.tails ≡ length k.list → n.receiver.done ≡ 0
+      → Stepped lamport_blocks k n ((k.base + 12, 1) ∷ []) n.receiver.tails 1 n.receiver.took n.receiver.closings
   stores_done all on = record {
     after = record n.receiver { done = 1; mark = n.landed.mark };
     changes = record {
@@ -103,11 +126,30 @@ module _ (k : Block) (n : Numbers) (order : Ordered k n) where
   }
 
 -- the reason of each row of the sender's outline
-pub reasons : (k : Block) (n : Numbers) (word : ℕ → ℕ) (v : ℕ) (r : SenderRegisters) → IsBlock k → Ordered k n → Words k n.landed word → Reasons (Right lamport_blocks lamport_sender k n word v r) sender.rows
-reasons k n word v r is order words = (row.right_00 k n word v r is order words, (row.right_04 k n word v r is order words, (row.right_08 k n word v r is order words, (row.right_0C k n word v r is order words, (row.right_10 k n word v r is order words, (row.right_14 k n word v r is order words, (row.right_18 k n word v r is order words, (row.right_1C k n word v r is order words, (row.right_20 k n word v r is order words, (row.right_24 k n word v r is order words, (row.right_28 k n word v r is order words, (row.right_2C k n word v r is order words, (row.right_30 k n word v r is order words, (row.right_34 k n word v r is order words, (row.right_38 k n word v r is order words, (row.right_3C k n word v r is order words, (row.right_40 k n word v r is order words, tt)))))))))))))))))
+pub reasons : (k : Block) (n : Numbers) (word : ℕ → ℕ) (v : ℕ) (r : SenderRegisters) → IsBlock k → Ordered k n
+    → Words k n.landed word → Reasons (Right lamport_blocks lamport_sender k n word v r) sender.rows
+reasons k n word v r is order words =
+    also (row.right_00 k n word v r is order words)
+    (also (row.right_04 k n word v r is order words)
+    (also (row.right_08 k n word v r is order words)
+    (also (row.right_0C k n word v r is order words)
+    (also (row.right_10 k n word v r is order words)
+    (also (row.right_14 k n word v r is order words)
+    (also (row.right_18 k n word v r is order words)
+    (also (row.right_1C k n word v r is order words)
+    (also (row.right_20 k n word v r is order words)
+    (also (row.right_24 k n word v r is order words)
+    (also (row.right_28 k n word v r is order words)
+    (also (row.right_2C k n word v r is order words)
+    (also (row.right_30 k n word v r is order words)
+    (also (row.right_34 k n word v r is order words)
+    (also (row.right_38 k n word v r is order words)
+    (also (row.right_3C k n word v r is order words)
+    (also (row.right_40 k n word v r is order words) tt))))))))))))))))
 
 pub lamport_laws : BlockLaws lamport_blocks
 lamport_laws = record {
+  decodes = receiver-decoded;
   begins = begins;
   tails_all = λ k n order. omega (arith, order.tails_seen, order.seen_heads, order.heads_slots, order.slots_landed, order.stored_all);
   shut_done = λ k n order. order.shut_done;
@@ -126,7 +168,11 @@ lamport_laws = record {
   stores_done = λ k n order level all on. stores_done k n order all on;
   reports = λ k n words closed order level known. reported k n order words closed known;
   moves_14 = λ k i count n word r v is order words. between.right_14 k i count n word r v is order words;
-  moves = λ k i count n word r v is order words. (between.right_18 k i count n word r v is order words, (between.right_1C k i count n word r v is order words, (between.right_20 k i count n word r v is order words, (between.right_24 k i count n word r v is order words, tt))));
+  moves = λ k i count n word r v is order words.
+      also (between.right_18 k i count n word r v is order words)
+      (also (between.right_1C k i count n word r v is order words)
+      (also (between.right_20 k i count n word r v is order words)
+      (also (between.right_24 k i count n word r v is order words) tt)));
 }
 
 pub lamport_short : AreShort lamport

@@ -4,23 +4,21 @@ use Rattle.std.specs.Prelude.{slice_index}
 use Rattle.std.specs.List.{slice_get}
 use Rattle.std.proofs.lemmas.Bool.{cases_lt, cases_eq}
 use Rattle.poll_close.proofs.Modulo.{mod_apart}
-use Rattle.poll_close.specs.Invariant.Blocks.{window}
 use Rattle.poll_close.proofs.Windows.{some_in, oldest_lands}
 use Rattle.poll_close.proofs.Writes.{IsWrite, hit, miss}
-use Rattle.poll_close.specs.Invariant.Blocks.{slot}
-use Rattle.lamport_ring.specs.Invariant.Stores.{sender_stores}
-use Rattle.lamport_ring.proofs.Stores.{store_slot, store_head, store_mark}
-use Rattle.lamport_ring.specs.Invariant.Stores.{receiver_stores}
-use Rattle.lamport_ring.proofs.Stores.{store_tail, store_done}
-use Rattle.poll_close.specs.Invariant.Blocks.{Block, offset}
-use Rattle.lamport_ring.specs.Invariant.Numbers.{Numbers, sent, gone, Ordered, pending_of, freed, taken}
+use Rattle.lamport_ring.specs.Invariant.Stores.{sender_stores, receiver_stores}
+use Rattle.lamport_ring.proofs.Stores.{store_slot, store_head, store_mark, store_tail, store_done}
+use Rattle.poll_close.specs.Invariant.Blocks.{Block, offset, slot, window}
+use Rattle.lamport_ring.specs.Invariant.Numbers.{Numbers, sent, gone, freed, taken, Ordered, Words, pending_of, unread_of}
 use Rattle.poll_close.proofs.Blocks.{IsBlock}
 use Rattle.poll_close.proofs.BlockLaws.{Lands}
 use Rattle.lamport_ring.specs.Lamport.{lamport_blocks}
-use Rattle.lamport_ring.specs.Invariant.Numbers.{Words, unread_of}
 
 module _ (k : Block) (is : IsBlock k) (n : Numbers) (order : Ordered k n) (word new : ℕ → ℕ) (words : Words k n.landed word) where
-  slot_lands : n.landed.slots ≡ n.landed.heads → n.landed.heads < length k.list → gone n.landed < sent n.sender → IsWrite word new (slot k.size k.base n.landed.slots, slice_index k.list n.landed.slots) → Lands lamport_blocks k n new (window (sender_stores k.size k.base k.list) (suc (gone n.landed)) (sent n.sender)) (unread_of k n.receiver n.landed)
+  slot_lands : n.landed.slots ≡ n.landed.heads → n.landed.heads < length k.list → gone n.landed < sent n.sender
+      → IsWrite word new (slot k.size k.base n.landed.slots, slice_index k.list n.landed.slots)
+      → Lands lamport_blocks k n new (window (sender_stores k.size k.base k.list) (suc (gone n.landed)) (sent n.sender))
+      (unread_of k n.receiver n.landed)
   slot_lands even more some write =
       record {
         after = record n.landed { slots = n.landed.slots + 1 };
@@ -50,11 +48,15 @@ module _ (k : Block) (is : IsBlock k) (n : Numbers) (order : Ordered k n) (word 
           elim (cases_eq j n.landed.slots) [
             | inl same ↦ hit word new at w write (slot k.size k.base j) (ap (slot k.size k.base) (sym same)) ∙ ap (slice_index k.list) (sym same)
             | inr other ↦
-                let apart : j % k.size ≢ n.landed.slots % k.size = mod_apart k.size j n.landed.slots (omega (arith, is.some_slot)) (omega arith) (omega (arith, room, order.room)) in
+                let apart : j % k.size ≢ n.landed.slots % k.size = mod_apart k.size j n.landed.slots
+                (omega (arith, is.some_slot)) (omega arith) (omega (arith, room, order.room)) in
                 miss word new at w write (slot k.size k.base j) (λ same. apart (omega arith)) ∙ words.slots j from (omega arith)
           ]
 
-  head_lands : n.landed.slots ≡ n.landed.heads + 1 → gone n.landed < sent n.sender → IsWrite word new (k.base, offset k (n.landed.heads + 1)) → Lands lamport_blocks k n new (window (sender_stores k.size k.base k.list) (suc (gone n.landed)) (sent n.sender)) (unread_of k n.receiver n.landed)
+  head_lands : n.landed.slots ≡ n.landed.heads + 1 → gone n.landed < sent n.sender
+      → IsWrite word new (k.base, offset k (n.landed.heads + 1))
+      → Lands lamport_blocks k n new (window (sender_stores k.size k.base k.list) (suc (gone n.landed)) (sent n.sender))
+      (unread_of k n.receiver n.landed)
   head_lands odd more write =
       record {
         after = record n.landed { heads = n.landed.heads + 1 };
@@ -74,9 +76,21 @@ module _ (k : Block) (is : IsBlock k) (n : Numbers) (order : Ordered k n) (word 
       w = offset k (n.landed.heads + 1)
 
       room : n.landed.heads < n.sender.headed
-      room = grind (arith, order.marked_all, order.slots_landed, order.heads_landed, order.headed_stored, order.stored_headed, order.stored_all, order.mark_landed, order.marked_one)
+      room = grind (
+        arith,
+        order.marked_all,
+        order.slots_landed,
+        order.heads_landed,
+        order.headed_stored,
+        order.stored_headed,
+        order.stored_all,
+        order.mark_landed,
+        order.marked_one,
+      )
 
-  mark_lands : n.landed.heads ≡ length k.list → gone n.landed < sent n.sender → IsWrite word new (k.base + 4, 1) → Lands lamport_blocks k n new (window (sender_stores k.size k.base k.list) (suc (gone n.landed)) (sent n.sender)) (unread_of k n.receiver n.landed)
+  mark_lands : n.landed.heads ≡ length k.list → gone n.landed < sent n.sender → IsWrite word new (k.base + 4, 1)
+      → Lands lamport_blocks k n new (window (sender_stores k.size k.base k.list) (suc (gone n.landed)) (sent n.sender))
+      (unread_of k n.receiver n.landed)
   mark_lands all more write =
       record {
         after = record n.landed { mark = n.landed.mark + 1 };
@@ -93,12 +107,15 @@ module _ (k : Block) (is : IsBlock k) (n : Numbers) (order : Ordered k n) (word 
       }
     where
       room : n.landed.mark < n.sender.marked
-      room = grind (arith, order.heads_slots, order.slots_landed, order.heads_landed, order.headed_stored, order.stored_all, order.mark_landed, order.marked_one)
+      room =
+          grind (arith, order.heads_slots, order.slots_landed, order.heads_landed, order.headed_stored, order.stored_all, order.mark_landed, order.marked_one)
 
       one : 1 ≡ n.landed.mark + 1
       one = omega (arith, room, order.marked_one)
 
-  tail_lands : n.landed.tails < n.receiver.tails → IsWrite word new (k.base + 8, offset k (n.landed.tails + 1)) → Lands lamport_blocks k n new (pending_of k n.sender n.landed) (window (receiver_stores k.size k.base k.list) (suc (freed n.landed)) (taken n.receiver))
+  tail_lands : n.landed.tails < n.receiver.tails → IsWrite word new (k.base + 8, offset k (n.landed.tails + 1))
+      → Lands lamport_blocks k n new (pending_of k n.sender n.landed)
+      (window (receiver_stores k.size k.base k.list) (suc (freed n.landed)) (taken n.receiver))
   tail_lands more write =
       record {
         after = record n.landed { tails = n.landed.tails + 1 };
@@ -117,7 +134,9 @@ module _ (k : Block) (is : IsBlock k) (n : Numbers) (order : Ordered k n) (word 
       w : ℕ
       w = offset k (n.landed.tails + 1)
 
-  done_lands : n.landed.tails ≡ length k.list → n.landed.done < n.receiver.done → IsWrite word new (k.base + 12, 1) → Lands lamport_blocks k n new (pending_of k n.sender n.landed) (window (receiver_stores k.size k.base k.list) (suc (freed n.landed)) (taken n.receiver))
+  done_lands : n.landed.tails ≡ length k.list → n.landed.done < n.receiver.done → IsWrite word new (k.base + 12, 1)
+      → Lands lamport_blocks k n new (pending_of k n.sender n.landed)
+      (window (receiver_stores k.size k.base k.list) (suc (freed n.landed)) (taken n.receiver))
   done_lands all more write =
       record {
         after = record n.landed { done = n.landed.done + 1 };
@@ -137,34 +156,64 @@ module _ (k : Block) (is : IsBlock k) (n : Numbers) (order : Ordered k n) (word 
       one = omega (arith, more, order.done_one)
 
   -- whichever of the sender's stores is the oldest pending one, it lands
-  pub sender_lands : (x : ℕ × ℕ) (rest : List (ℕ × ℕ)) → pending_of k n.sender n.landed ≡ x ∷ rest → IsWrite word new x → Lands lamport_blocks k n new rest (unread_of k n.receiver n.landed)
+  pub sender_lands : (x : ℕ × ℕ) (rest : List (ℕ × ℕ)) → pending_of k n.sender n.landed ≡ x ∷ rest
+      → IsWrite word new x → Lands lamport_blocks k n new rest (unread_of k n.receiver n.landed)
   sender_lands x rest first write = at (cases_lt n.landed.heads (length k.list)) (cases_eq n.landed.slots n.landed.heads)
     where
       more : gone n.landed < sent n.sender
       more = some_in (sender_stores k.size k.base k.list) (gone n.landed) (sent n.sender) x rest first
 
-      with : (y : ℕ × ℕ) → slice_get (sender_stores k.size k.base k.list) (gone n.landed) ≡ Some y → (IsWrite word new y → Lands lamport_blocks k n new (window (sender_stores k.size k.base k.list) (suc (gone n.landed)) (sent n.sender)) (unread_of k n.receiver n.landed)) → Lands lamport_blocks k n new rest (unread_of k n.receiver n.landed)
-      with y at lands = oldest_lands (λ ps. Lands lamport_blocks k n new ps (unread_of k n.receiver n.landed)) (IsWrite word new) (sender_stores k.size k.base k.list) (gone n.landed) (sent n.sender) x y rest first write at lands
+      with : (y : ℕ × ℕ) → slice_get (sender_stores k.size k.base k.list) (gone n.landed) ≡ Some y
+          → (IsWrite word new y → Lands lamport_blocks k n new
+          (window (sender_stores k.size k.base k.list) (suc (gone n.landed)) (sent n.sender))
+          (unread_of k n.receiver n.landed)) → Lands lamport_blocks k n new rest (unread_of k n.receiver n.landed)
+      with y at lands =
+          oldest_lands (λ ps. Lands lamport_blocks k n new ps (unread_of k n.receiver n.landed)) (IsWrite word new)
+          (sender_stores k.size k.base k.list) (gone n.landed) (sent n.sender) x y rest first write at lands
 
       unmarked : n.landed.heads < length k.list → n.landed.mark ≡ 0
       unmarked some = grind (arith, order.mark_all)
 
-      at : (n.landed.heads < length k.list) ⊎ (length k.list ≤ n.landed.heads) → (n.landed.slots ≡ n.landed.heads) ⊎ (n.landed.slots ≢ n.landed.heads) → Lands lamport_blocks k n new rest (unread_of k n.receiver n.landed)
-      at (inl some) (inl even) = with (slot k.size k.base n.landed.slots, slice_index k.list n.landed.slots) (store_slot k.size k.base k.list n.landed.slots (gone n.landed) (omega arith) (omega (arith, unmarked some))) (λ w. slot_lands even some more w)
-      at (inl some) (inr odd) = with (k.base, offset k (n.landed.heads + 1)) (store_head k.size k.base k.list n.landed.heads (gone n.landed) some (omega (arith, unmarked some, order.heads_slots, order.slots_heads))) (λ w. head_lands (omega (arith, order.heads_slots, order.slots_heads)) more w)
-      at (inr all) ls = with (k.base + 4, 1) (store_mark k.size k.base k.list (gone n.landed) (mark_next all)) (λ w. mark_lands (omega (arith, order.heads_slots, order.slots_landed, order.stored_all)) more w)
+      at : (n.landed.heads < length k.list) ⊎ (length k.list ≤ n.landed.heads)
+          → (n.landed.slots ≡ n.landed.heads) ⊎ (n.landed.slots ≢ n.landed.heads)
+          → Lands lamport_blocks k n new rest (unread_of k n.receiver n.landed)
+      at (inl some) (inl even) = with (slot k.size k.base n.landed.slots, slice_index k.list n.landed.slots)
+          (store_slot k.size k.base k.list n.landed.slots (gone n.landed) (omega arith) (omega (arith, unmarked some)))
+          (λ w. slot_lands even some more w)
+      at (inl some) (inr odd) = with (k.base, offset k (n.landed.heads + 1))
+          (store_head k.size k.base k.list n.landed.heads (gone n.landed) some
+          (omega (arith, unmarked some, order.heads_slots, order.slots_heads)))
+          (λ w. head_lands (omega (arith, order.heads_slots, order.slots_heads)) more w)
+      at (inr all) ls = with (k.base + 4, 1) (store_mark k.size k.base k.list (gone n.landed) (mark_next all))
+          (λ w. mark_lands (omega (arith, order.heads_slots, order.slots_landed, order.stored_all)) more w)
         where
           mark_next : length k.list ≤ n.landed.heads → gone n.landed ≡ 2 * length k.list
-          mark_next full = grind (arith, more, order.heads_slots, order.slots_landed, order.stored_all, order.heads_landed, order.headed_stored, order.mark_landed, order.marked_one)
+          mark_next full = grind (
+            arith,
+            more,
+            order.heads_slots,
+            order.slots_landed,
+            order.stored_all,
+            order.heads_landed,
+            order.headed_stored,
+            order.mark_landed,
+            order.marked_one,
+          )
 
-  pub receiver_lands : (x : ℕ × ℕ) (rest : List (ℕ × ℕ)) → unread_of k n.receiver n.landed ≡ x ∷ rest → IsWrite word new x → Lands lamport_blocks k n new (pending_of k n.sender n.landed) rest
+  pub receiver_lands : (x : ℕ × ℕ) (rest : List (ℕ × ℕ)) → unread_of k n.receiver n.landed ≡ x ∷ rest
+      → IsWrite word new x → Lands lamport_blocks k n new (pending_of k n.sender n.landed) rest
   receiver_lands x rest first write = at (cases_lt n.landed.tails n.receiver.tails)
     where
       more : freed n.landed < taken n.receiver
       more = some_in (receiver_stores k.size k.base k.list) (freed n.landed) (taken n.receiver) x rest first
 
-      with : (y : ℕ × ℕ) → slice_get (receiver_stores k.size k.base k.list) (freed n.landed) ≡ Some y → (IsWrite word new y → Lands lamport_blocks k n new (pending_of k n.sender n.landed) (window (receiver_stores k.size k.base k.list) (suc (freed n.landed)) (taken n.receiver))) → Lands lamport_blocks k n new (pending_of k n.sender n.landed) rest
-      with y at lands = oldest_lands (λ ps. Lands lamport_blocks k n new (pending_of k n.sender n.landed) ps) (IsWrite word new) (receiver_stores k.size k.base k.list) (freed n.landed) (taken n.receiver) x y rest first write at lands
+      with : (y : ℕ × ℕ) → slice_get (receiver_stores k.size k.base k.list) (freed n.landed) ≡ Some y
+          → (IsWrite word new y → Lands lamport_blocks k n new (pending_of k n.sender n.landed)
+          (window (receiver_stores k.size k.base k.list) (suc (freed n.landed)) (taken n.receiver)))
+          → Lands lamport_blocks k n new (pending_of k n.sender n.landed) rest
+      with y at lands =
+          oldest_lands (λ ps. Lands lamport_blocks k n new (pending_of k n.sender n.landed) ps) (IsWrite word new)
+          (receiver_stores k.size k.base k.list) (freed n.landed) (taken n.receiver) x y rest first write at lands
 
       within : n.receiver.tails ≤ length k.list
       within = omega (arith, order.tails_seen, order.seen_heads, order.heads_slots, order.slots_landed, order.stored_all)
@@ -173,9 +222,13 @@ module _ (k : Block) (is : IsBlock k) (n : Numbers) (order : Ordered k n) (word 
       not_done some = grind (arith, order.all_landed, within)
 
       at : (n.landed.tails < n.receiver.tails) ⊎ (n.receiver.tails ≤ n.landed.tails) → Lands lamport_blocks k n new (pending_of k n.sender n.landed) rest
-      at (inl some) = with (k.base + 8, offset k (n.landed.tails + 1)) (store_tail k.size k.base k.list n.landed.tails (freed n.landed) (omega (arith, within)) (omega (arith, not_done some))) (λ w. tail_lands some w)
+      at (inl some) = with (k.base + 8, offset k (n.landed.tails + 1))
+          (store_tail k.size k.base k.list n.landed.tails (freed n.landed) (omega (arith, within))
+          (omega (arith, not_done some))) (λ w. tail_lands some w)
       at (inr none) =
           let same : n.landed.tails ≡ n.receiver.tails = omega (arith, order.tails_landed) in
           let some : 0 < n.receiver.done = omega (arith, more) in
           let all : n.receiver.tails ≡ length k.list = order.done_all some in
-          with (k.base + 12, 1) (store_done k.size k.base k.list (freed n.landed) (omega (arith, more, order.done_one))) (λ w. done_lands (omega arith) (omega (arith, more)) w)
+          with (k.base + 12, 1)
+          (store_done k.size k.base k.list (freed n.landed) (omega (arith, more, order.done_one)))
+          (λ w. done_lands (omega arith) (omega (arith, more)) w)

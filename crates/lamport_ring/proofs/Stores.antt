@@ -25,7 +25,14 @@ module _ (S b : ℕ) (ws : List ℕ) where
 
 module _ (k : Block) (is : IsBlock k) where
   pub sender_stores_are : (i n : ℕ) → Each (IsStore k) (window (sender_stores k.size k.base k.list) i n)
-  sender_stores_are i n = Each-window (IsStore k) (sender_stores k.size k.base k.list) i n (pairs_each (IsStore k) (slot_store k.size k.base) (head_store k.size k.base) (k.base + 4, 1) k.list (λ j less. (record { place = slot_of k is j; word = is.words j less }, record { place = base_word k is; word = offset_small k is (j + 1) })) (record { place = word_of k is 4 (omega arith) refl; word = omega arith }))
+  sender_stores_are i n = Each-window (IsStore k) (sender_stores k.size k.base k.list) i n
+      (pairs_each (IsStore k) (slot_store k.size k.base) (head_store k.size k.base) (k.base + 4, 1) k.list (λ j less. (
+        record { place = slot_of k is j; word = is.words j less },
+        record { place = base_word k is; word = offset_small k is (j + 1) },
+      )) (record { place = word_of k is 4 (omega arith) refl; word = omega arith }))
 
   pub receiver_stores_are : (i n : ℕ) → Each (IsStore k) (window (receiver_stores k.size k.base k.list) i n)
-  receiver_stores_are i n = Each-window (IsStore k) (receiver_stores k.size k.base k.list) i n (singles_each (IsStore k) (tail_store k.size k.base) (k.base + 12, 1) k.list (λ j less. record { place = word_of k is 8 (omega arith) refl; word = offset_small k is (j + 1) }) (record { place = word_of k is 12 (omega arith) refl; word = omega arith }))
+  receiver_stores_are i n = Each-window (IsStore k) (receiver_stores k.size k.base k.list) i n
+      (singles_each (IsStore k) (tail_store k.size k.base) (k.base + 12, 1) k.list
+      (λ j less. record { place = word_of k is 8 (omega arith) refl; word = offset_small k is (j + 1) })
+      (record { place = word_of k is 12 (omega arith) refl; word = omega arith }))

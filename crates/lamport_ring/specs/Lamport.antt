@@ -5,10 +5,10 @@ use Rattle.poll_close.specs.Laws.{Ring, Meaning}
 use Rattle.poll_close.specs.Rankings.{Ranking}
 use Rattle.poll_close.specs.Invariant.BlockMeaning.{BlockMeaning, ranking_of}
 use Rattle.poll_close.specs.Invariant.Channels.{means_by}
-use Rattle.lamport_ring.specs.Listing.{sender_code, receiver_code}
+use Rattle.lamport_ring.specs.Listing.{sender_code, receiver_code, middle}
 use Rattle.lamport_ring.specs.Invariant.Numbers.{Taken, Landed, Ordered, Words, pending_of, unread_of}
 use Rattle.lamport_ring.specs.Invariant.Sender.{sender}
-use Rattle.lamport_ring.specs.Invariant.Middle.{middle, More, rows}
+use Rattle.lamport_ring.specs.Invariant.Middle.{More, rows}
 
 -- one slot stays free, so a ring has at least two
 abbrev pub lamport : Ring

@@ -1,4 +1,4 @@
--- The listings of Lamport's ring: the tables of words, and the instructions that stand for their lines.
+-- The listings of Lamport's ring: the sender's, and the receiver's five lines of its own. The tables are their words.
 use Rattle.std.specs.Prelude.{ℕ, pos, negsuc, List, [], ◌∷◌}
 use Rattle.rv_decode.specs.Meaning.{reg_of}
 use Rattle.rv_decode.specs.declared.instruction.BranchOp.TheVariants as branch
@@ -8,66 +8,46 @@ use Rattle.rv_decode.specs.declared.instruction.LoadOp.TheVariants as load
 use Rattle.rv_decode.specs.declared.instruction.StoreOp.TheVariants as store
 use Rattle.rv_decode.specs.declared.instruction.Instr.{Instr}
 use Rattle.rv_decode.specs.declared.instruction.Instr.TheVariants.{Jal, Branch, Load, Store, Immediate, Register, Ecall}
+use Rattle.poll_close.specs.Listing.{Listed, line, words_of, lines_of, Middle, receiver_with}
+
+abbrev pub sender_listing : List Listed
+sender_listing =
+    line 0x00100893 (Immediate immediate.Add (reg_of 17) (reg_of 0) (pos 1)) ∷  -- 00 next: addi x17,x0,1
+    line 0x00000073 Ecall ∷  -- 04 ecall
+    line 0x02058663 (Branch branch.Equal (reg_of 11) (reg_of 0) (pos 44)) ∷  -- 08 beq x11,x0,done
+    line 0x00428313 (Immediate immediate.Add (reg_of 6) (reg_of 5) (pos 4)) ∷  -- 0C addi x6,x5,4
+    line 0x00931463 (Branch branch.NotEqual (reg_of 6) (reg_of 9) (pos 8)) ∷  -- 10 bne x6,x9,test
+    line 0x00000313 (Immediate immediate.Add (reg_of 6) (reg_of 0) (pos 0)) ∷  -- 14 addi x6,x0,0
+    line 0x00842383 (Load load.Word (reg_of 7) (reg_of 8) (pos 8)) ∷  -- 18 test: lw x7,8(x8)
+    line 0xFE638EE3 (Branch branch.Equal (reg_of 7) (reg_of 6) (negsuc 3)) ∷  -- 1C beq x7,x6,test
+    line 0x00540E33 (Register register.Add (reg_of 28) (reg_of 8) (reg_of 5)) ∷  -- 20 add x28,x8,x5
+    line 0x00AE2823 (Store store.Word (reg_of 28) (reg_of 10) (pos 16)) ∷  -- 24 sw x10,16(x28)
+    line 0x00642023 (Store store.Word (reg_of 8) (reg_of 6) (pos 0)) ∷  -- 28 sw x6,0(x8)
+    line 0x00030293 (Immediate immediate.Add (reg_of 5) (reg_of 6) (pos 0)) ∷  -- 2C addi x5,x6,0
+    line 0xFD1FF06F (Jal (reg_of 0) (negsuc 47)) ∷  -- 30 jal x0,next
+    line 0x00100313 (Immediate immediate.Add (reg_of 6) (reg_of 0) (pos 1)) ∷  -- 34 done: addi x6,x0,1
+    line 0x00642223 (Store store.Word (reg_of 8) (reg_of 6) (pos 4)) ∷  -- 38 sw x6,4(x8)
+    line 0x05D00893 (Immediate immediate.Add (reg_of 17) (reg_of 0) (pos 93)) ∷  -- 3C addi x17,x0,93
+    line 0x00000073 Ecall ∷  -- 40 ecall
+    []
+
+abbrev pub middle : Middle
+middle = record {
+  at_14 = line 0x00042303 (Load load.Word (reg_of 6) (reg_of 8) (pos 0));  -- lw x6,0(x8)
+  at_18 = line 0x00842383 (Load load.Word (reg_of 7) (reg_of 8) (pos 8));  -- lw x7,8(x8)
+  at_1C = line 0x02730663 (Branch branch.Equal (reg_of 6) (reg_of 7) (pos 44));  -- beq x6,x7,empty
+  at_20 = line 0x00740E33 (Register register.Add (reg_of 28) (reg_of 8) (reg_of 7));  -- add x28,x8,x7
+  at_24 = line 0x010E2583 (Load load.Word (reg_of 11) (reg_of 28) (pos 16));  -- lw x11,16(x28)
+}
 
 abbrev pub sender_code : List ℕ
-sender_code = 0x00100893 ∷ 0x00000073 ∷ 0x02058663 ∷ 0x00428313 ∷ 0x00931463 ∷ 0x00000313 ∷ 0x00842383 ∷ 0xFE638EE3 ∷ 0x00540E33 ∷ 0x00AE2823 ∷ 0x00642023 ∷ 0x00030293 ∷ 0xFD1FF06F ∷ 0x00100313 ∷ 0x00642223 ∷ 0x05D00893 ∷ 0x00000073 ∷ []
+sender_code = words_of sender_listing
 
 abbrev pub sender_lines : List Instr
-sender_lines =
-    Immediate immediate.Add (reg_of 17) (reg_of 0) (pos 1) ∷  -- 00 addi x17,x0,1
-    Ecall ∷  -- 04 ecall
-    Branch branch.Equal (reg_of 11) (reg_of 0) (pos 44) ∷  -- 08 beq x11,x0,done
-    Immediate immediate.Add (reg_of 6) (reg_of 5) (pos 4) ∷  -- 0C addi x6,x5,4
-    Branch branch.NotEqual (reg_of 6) (reg_of 9) (pos 8) ∷  -- 10 bne x6,x9,test
-    Immediate immediate.Add (reg_of 6) (reg_of 0) (pos 0) ∷  -- 14 addi x6,x0,0
-    Load load.Word (reg_of 7) (reg_of 8) (pos 8) ∷  -- 18 lw x7,8(x8)
-    Branch branch.Equal (reg_of 7) (reg_of 6) (negsuc 3) ∷  -- 1C beq x7,x6,test
-    Register register.Add (reg_of 28) (reg_of 8) (reg_of 5) ∷  -- 20 add x28,x8,x5
-    Store store.Word (reg_of 28) (reg_of 10) (pos 16) ∷  -- 24 sw x10,16(x28)
-    Store store.Word (reg_of 8) (reg_of 6) (pos 0) ∷  -- 28 sw x6,0(x8)
-    Immediate immediate.Add (reg_of 5) (reg_of 6) (pos 0) ∷  -- 2C addi x5,x6,0
-    Jal (reg_of 0) (negsuc 47) ∷  -- 30 jal x0,next
-    Immediate immediate.Add (reg_of 6) (reg_of 0) (pos 1) ∷  -- 34 addi x6,x0,1
-    Store store.Word (reg_of 8) (reg_of 6) (pos 4) ∷  -- 38 sw x6,4(x8)
-    Immediate immediate.Add (reg_of 17) (reg_of 0) (pos 93) ∷  -- 3C addi x17,x0,93
-    Ecall ∷  -- 40 ecall
-    []
+sender_lines = lines_of sender_listing
 
 abbrev pub receiver_code : List ℕ
-receiver_code = 0x000A8413 ∷ 0x00000B13 ∷ 0x00C42283 ∷ 0x04029E63 ∷ 0x00442F03 ∷ 0x00042303 ∷ 0x00842383 ∷ 0x02730663 ∷ 0x00740E33 ∷ 0x010E2583 ∷ 0x00438393 ∷ 0x00939463 ∷ 0x00000393 ∷ 0x00742423 ∷ 0x000B0513 ∷ 0x00200893 ∷ 0x00000073 ∷ 0x0240006F ∷ 0x020F0063 ∷ 0x00100293 ∷ 0x00542623 ∷ 0x000B0513 ∷ 0x00300893 ∷ 0x00000073 ∷ 0xFFFA0A13 ∷ 0x000A0A63 ∷ 0x01240433 ∷ 0x001B0B13 ∷ 0xF9341CE3 ∷ 0xF8DFF06F ∷ 0x05D00893 ∷ 0x00000073 ∷ []
+receiver_code = words_of (receiver_with middle)
 
 abbrev pub receiver_lines : List Instr
-receiver_lines =
-    Immediate immediate.Add (reg_of 8) (reg_of 21) (pos 0) ∷  -- 00 addi x8,x21,0
-    Immediate immediate.Add (reg_of 22) (reg_of 0) (pos 0) ∷  -- 04 addi x22,x0,0
-    Load load.Word (reg_of 5) (reg_of 8) (pos 12) ∷  -- 08 lw x5,12(x8)
-    Branch branch.NotEqual (reg_of 5) (reg_of 0) (pos 92) ∷  -- 0C bne x5,x0,step
-    Load load.Word (reg_of 30) (reg_of 8) (pos 4) ∷  -- 10 lw x30,4(x8)
-    Load load.Word (reg_of 6) (reg_of 8) (pos 0) ∷  -- 14 lw x6,0(x8)
-    Load load.Word (reg_of 7) (reg_of 8) (pos 8) ∷  -- 18 lw x7,8(x8)
-    Branch branch.Equal (reg_of 6) (reg_of 7) (pos 44) ∷  -- 1C beq x6,x7,empty
-    Register register.Add (reg_of 28) (reg_of 8) (reg_of 7) ∷  -- 20 add x28,x8,x7
-    Load load.Word (reg_of 11) (reg_of 28) (pos 16) ∷  -- 24 lw x11,16(x28)
-    Immediate immediate.Add (reg_of 7) (reg_of 7) (pos 4) ∷  -- 28 addi x7,x7,4
-    Branch branch.NotEqual (reg_of 7) (reg_of 9) (pos 8) ∷  -- 2C bne x7,x9,keep
-    Immediate immediate.Add (reg_of 7) (reg_of 0) (pos 0) ∷  -- 30 addi x7,x0,0
-    Store store.Word (reg_of 8) (reg_of 7) (pos 8) ∷  -- 34 sw x7,8(x8)
-    Immediate immediate.Add (reg_of 10) (reg_of 22) (pos 0) ∷  -- 38 addi x10,x22,0
-    Immediate immediate.Add (reg_of 17) (reg_of 0) (pos 2) ∷  -- 3C addi x17,x0,2
-    Ecall ∷  -- 40 ecall
-    Jal (reg_of 0) (pos 36) ∷  -- 44 jal x0,step
-    Branch branch.Equal (reg_of 30) (reg_of 0) (pos 32) ∷  -- 48 beq x30,x0,step
-    Immediate immediate.Add (reg_of 5) (reg_of 0) (pos 1) ∷  -- 4C addi x5,x0,1
-    Store store.Word (reg_of 8) (reg_of 5) (pos 12) ∷  -- 50 sw x5,12(x8)
-    Immediate immediate.Add (reg_of 10) (reg_of 22) (pos 0) ∷  -- 54 addi x10,x22,0
-    Immediate immediate.Add (reg_of 17) (reg_of 0) (pos 3) ∷  -- 58 addi x17,x0,3
-    Ecall ∷  -- 5C ecall
-    Immediate immediate.Add (reg_of 20) (reg_of 20) (negsuc 0) ∷  -- 60 addi x20,x20,-1
-    Branch branch.Equal (reg_of 20) (reg_of 0) (pos 20) ∷  -- 64 beq x20,x0,quit
-    Register register.Add (reg_of 8) (reg_of 8) (reg_of 18) ∷  -- 68 add x8,x8,x18
-    Immediate immediate.Add (reg_of 22) (reg_of 22) (pos 1) ∷  -- 6C addi x22,x22,1
-    Branch branch.NotEqual (reg_of 8) (reg_of 19) (negsuc 103) ∷  -- 70 bne x8,x19,visit
-    Jal (reg_of 0) (negsuc 115) ∷  -- 74 jal x0,round
-    Immediate immediate.Add (reg_of 17) (reg_of 0) (pos 93) ∷  -- 78 addi x17,x0,93
-    Ecall ∷  -- 7C ecall
-    []
+receiver_lines = lines_of (receiver_with middle)

@@ -9,7 +9,7 @@ ghost use Rattle.lamport_ring.specs.Lamport.{lamport};
 ghost use Rattle.poll_close.specs.Means.{AllMean};
 
 use hart::status::Status;
-use poll_close::{Finish, RingKind};
+use poll_close::{Finish, RingKind, receiver};
 use step_machine::Machine;
 
 /// The words of the sender's listing.
@@ -20,12 +20,7 @@ const SENDER: [u32; 17] = [
 ];
 
 /// The words of the receiver's listing.
-const RECEIVER: [u32; 32] = [
-    0x000A8413, 0x00000B13, 0x00C42283, 0x04029E63, 0x00442F03, 0x00042303, 0x00842383, 0x02730663,
-    0x00740E33, 0x010E2583, 0x00438393, 0x00939463, 0x00000393, 0x00742423, 0x000B0513, 0x00200893,
-    0x00000073, 0x0240006F, 0x020F0063, 0x00100293, 0x00542623, 0x000B0513, 0x00300893, 0x00000073,
-    0xFFFA0A13, 0x000A0A63, 0x01240433, 0x001B0B13, 0xF9341CE3, 0xF8DFF06F, 0x05D00893, 0x00000073,
-];
+const RECEIVER: [u32; 32] = receiver![0x00042303, 0x00842383, 0x02730663, 0x00740E33, 0x010E2583];
 
 /// Lamport's ring.
 pub struct Lamport;

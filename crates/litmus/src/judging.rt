@@ -1,6 +1,7 @@
 //! What a machine's last registers and words say of a condition.
 
 ghost use Rattle.std.specs.Prelude.{◌≡◌, ◌↔◌, ◌<◌, IsTrue, IfOk, OnOk, All, true, length, map};
+ghost use Rattle.step_machine.specs.Standing.{OfEach};
 ghost use Rattle.litmus.specs.Formulas.{truth, places};
 ghost use Rattle.litmus.specs.LitmusTests.{IsThere};
 ghost use Rattle.litmus.specs.inner.Running.{done, all_done, AsksThere};
@@ -11,7 +12,7 @@ use crate::symbols::{Place, Step};
 use crate::verdict::Quantifier;
 use hart::status::Status;
 use std::alloc::{AllocError, Global};
-use step_machine::Machine;
+use step_machine::MachineState;
 
 /// Whether the outcome is one that the test asks for, where the condition is so in it.
 pub(crate) fn is_asked_for(quantifier: Quantifier, is_true: bool) -> bool
@@ -23,16 +24,16 @@ pub(crate) fn is_asked_for(quantifier: Quantifier, is_true: bool) -> bool
     }
 }
 
-fn has_finished<const B: usize, const M: usize>(machine: &Machine<B, M>, hart: u32) -> bool
-    requires { hart < length machine.now.history.opening.harts }
-    ensures { IsTrue result ↔ HasFinished M machine.now.history hart }
+fn has_finished<const B: usize, const M: usize>(machine: &MachineState<B, M>, hart: u32) -> bool
+    requires { hart < length machine.now.harts }
+    ensures { OfEach B M machine.now (λ t. IsTrue result ↔ HasFinished M t hart) }
 {
     machine.status(hart) == Status::Ended && machine.pending(hart).is_empty()
 }
 
 /// Whether each hart has ended, and all its stores have landed.
-pub(crate) fn is_finished<const B: usize, const M: usize>(machine: &Machine<B, M>) -> bool
-    ensures { IsTrue result ↔ IsFinished M machine.now.history }
+pub(crate) fn is_finished<const B: usize, const M: usize>(machine: &MachineState<B, M>) -> bool
+    ensures { OfEach B M machine.now (λ t. IsTrue result ↔ IsFinished M t) }
 {
     for hart in 0..machine.harts() {
         if !has_finished(machine, hart) {
@@ -42,9 +43,9 @@ pub(crate) fn is_finished<const B: usize, const M: usize>(machine: &Machine<B, M
     true
 }
 
-fn value_at<const B: usize, const M: usize>(place: Place, machine: &Machine<B, M>) -> u32
-    requires { IsThere (length machine.now.history.opening.harts) M place }
-    ensures { result ≡ final_value M machine.now.history place }
+fn value_at<const B: usize, const M: usize>(place: Place, machine: &MachineState<B, M>) -> u32
+    requires { IsThere (length machine.now.harts) M place }
+    ensures { OfEach B M machine.now (λ t. result ≡ final_value M t place) }
 {
     match place {
         Place::Register { hart, number } => machine.register(hart, number),
@@ -56,10 +57,10 @@ fn value_at<const B: usize, const M: usize>(place: Place, machine: &Machine<B, M
 pub(crate) fn values_of<const B: usize, const M: usize>(
     alloc: Global,
     places: &[Place],
-    machine: &Machine<B, M>,
+    machine: &MachineState<B, M>,
 ) -> Result<Vec<u32>, AllocError>
-    requires { All (IsThere (length machine.now.history.opening.harts) M) places.now }
-    ensures { IfOk result (λ values. values.items ≡ map (final_value M machine.now.history) places.now) }
+    requires { All (IsThere (length machine.now.harts) M) places.now }
+    ensures { IfOk result (λ values. OfEach B M machine.now (λ t. values.items ≡ map (final_value M t) places.now)) }
 {
     let mut values = Vec::new(alloc);
     put_values(&mut values, places, machine)?;
@@ -70,10 +71,10 @@ pub(crate) fn values_of<const B: usize, const M: usize>(
 pub(crate) fn put_values<const B: usize, const M: usize>(
     values: &mut Vec<u32>,
     places: &[Place],
-    machine: &Machine<B, M>,
+    machine: &MachineState<B, M>,
 ) -> Result<(), AllocError>
-    requires { All (IsThere (length machine.now.history.opening.harts) M) places.now }
-    ensures { OnOk result (values.new.items ≡ map (final_value M machine.now.history) places.now) }
+    requires { All (IsThere (length machine.now.harts) M) places.now }
+    ensures { OnOk result (OfEach B M machine.now (λ t. values.new.items ≡ map (final_value M t) places.now)) }
 {
     values.clear();
     for place in places {
@@ -86,10 +87,10 @@ pub(crate) fn put_values<const B: usize, const M: usize>(
 fn after_step<const B: usize, const M: usize>(
     step: Step,
     so_far: bool,
-    machine: &Machine<B, M>,
+    machine: &MachineState<B, M>,
 ) -> (bool, usize)
-    requires { AsksThere (length machine.now.history.opening.harts) M step }
-    ensures { result ≡ done (final_value M machine.now.history) step so_far }
+    requires { AsksThere (length machine.now.harts) M step }
+    ensures { OfEach B M machine.now (λ t. result ≡ done (final_value M t) step so_far) }
 {
     match step {
         Step::Is { place, value } => (value_at(place, machine) == value, 0),
@@ -99,9 +100,9 @@ fn after_step<const B: usize, const M: usize>(
     }
 }
 
-fn run_steps<const B: usize, const M: usize>(steps: &[Step], machine: &Machine<B, M>) -> bool
-    requires { All (AsksThere (length machine.now.history.opening.harts) M) steps.now }
-    ensures { result ≡ all_done (final_value M machine.now.history) true 0 steps.now }
+fn run_steps<const B: usize, const M: usize>(steps: &[Step], machine: &MachineState<B, M>) -> bool
+    requires { All (AsksThere (length machine.now.harts) M) steps.now }
+    ensures { OfEach B M machine.now (λ t. result ≡ all_done (final_value M t) true 0 steps.now) }
 {
     let mut so_far = true;
     let mut skip = 0;
@@ -118,10 +119,10 @@ fn run_steps<const B: usize, const M: usize>(steps: &[Step], machine: &Machine<B
 /// Whether the condition is true of the last registers and words.
 pub(crate) fn is_true<const B: usize, const M: usize>(
     condition: &Condition,
-    machine: &Machine<B, M>,
+    machine: &MachineState<B, M>,
 ) -> bool
-    requires { All (IsThere (length machine.now.history.opening.harts) M) (places condition.now) }
-    ensures { result ≡ truth (final_value M machine.now.history) condition.now }
+    requires { All (IsThere (length machine.now.harts) M) (places condition.now) }
+    ensures { OfEach B M machine.now (λ t. result ≡ truth (final_value M t) condition.now) }
 {
     run_steps(condition.steps(), machine)
 }

@@ -10,7 +10,7 @@ use crate::symbols::Place;
 use crate::verdict::{Quantifier, Verdict};
 use std::alloc::{AllocError, Global};
 use std::marker::Model;
-use step_machine::{HartOpening, Machine, Opening};
+use step_machine::{HartOpening, MachineState, Opening};
 
 /// How many locations a test may have.
 pub const MAX_LOCATIONS: usize = 1024;
@@ -44,6 +44,7 @@ impl Model for Test {
 impl Test {
     ghost use Rattle.hart.specs.State.{HartState};
     ghost use Rattle.step_machine.specs.History.{Start};
+    ghost use Rattle.step_machine.specs.Standing.{OfEach};
     ghost use Rattle.litmus.specs.LitmusTests.{IsTest, IsThere, question_of, left_sides, LitmusTest};
     ghost use Rattle.litmus.specs.Verdicts.{IsVerdict, final_value};
     ghost use Rattle.litmus.specs.declared.verdict.Quantifier.TheVariants.{Exists};
@@ -105,11 +106,11 @@ impl Test {
     pub fn values<const B: usize, const M: usize>(
         &self,
         alloc: Global,
-        machine: &Machine<B, M>,
+        machine: &MachineState<B, M>,
     ) -> Result<Vec<u32>, AllocError>
-        requires harts { length machine.now.history.opening.harts ≡ length self.now.opening.harts }
+        requires harts { length machine.now.harts ≡ length self.now.opening.harts }
         requires words { length self.now.names ≤ M }
-        ensures { IfOk result (λ values. values.items ≡ map (final_value M machine.now.history) (left_sides self.now.condition)) }
+        ensures { IfOk result (λ values. OfEach B M machine.now (λ t. values.items ≡ map (final_value M t) (left_sides self.now.condition))) }
     {
         values_of(alloc, &self.lefts, machine)
     }
@@ -118,21 +119,21 @@ impl Test {
     pub fn put_values<const B: usize, const M: usize>(
         &self,
         values: &mut Vec<u32>,
-        machine: &Machine<B, M>,
+        machine: &MachineState<B, M>,
     ) -> Result<(), AllocError>
-        requires harts { length machine.now.history.opening.harts ≡ length self.now.opening.harts }
+        requires harts { length machine.now.harts ≡ length self.now.opening.harts }
         requires words { length self.now.names ≤ M }
-        ensures { OnOk result (values.new.items ≡ map (final_value M machine.now.history) (left_sides self.now.condition)) }
+        ensures { OnOk result (OfEach B M machine.now (λ t. values.new.items ≡ map (final_value M t) (left_sides self.now.condition))) }
     {
         put_values(values, &self.lefts, machine)
     }
 
     /// What the test says of a machine. It takes no memory.
     #[tactic(auto, using(crate::proofs::TestLaws::condition_there))]
-    pub fn verdict<const B: usize, const M: usize>(&self, machine: &Machine<B, M>) -> Verdict
-        requires harts { length machine.now.history.opening.harts ≡ length self.now.opening.harts }
+    pub fn verdict<const B: usize, const M: usize>(&self, machine: &MachineState<B, M>) -> Verdict
+        requires harts { length machine.now.harts ≡ length self.now.opening.harts }
         requires words { length self.now.names ≤ M }
-        ensures { IsVerdict M self.now machine.now.history result }
+        ensures { OfEach B M machine.now (λ t. IsVerdict M self.now t result) }
     {
         if !is_finished(machine) {
             return Verdict::Unfinished;

@@ -12,7 +12,7 @@ use Rattle.assembler.specs.Drafts.{Line, words_of, drafted, all_drafted, finishe
 use Rattle.assembler.specs.Program.{AreLines, EachOnce}
 use Rattle.assembler.proofs.ProgramGrammar.{all_found, all_only, finished_found, finished_only, none_above}
 use Rattle.litmus_reader.specs.declared.faults.LitmusFault.{LitmusFault}
-use Rattle.litmus_reader.specs.Table.{Column, Code, as_instr, in_limit, cell_told, cells_told, row_told, line_told, lines_told, table_from, table_at, codes_of}
+use Rattle.litmus_reader.specs.Table.{Column, Code, as_instr, in_limit, cell_added, cells_added, row_added, line_added, lines_added, table_from, table_at, codes_of}
 use Rattle.litmus_reader.specs.declared.marks.Mark.TheVariants as mark
 use Rattle.litmus_reader.specs.Marks.{before_line, from_line}
 use Rattle.texts.specs.Pieces.{pieces, pieces_after}
@@ -37,12 +37,12 @@ words_of-append (line ∷ above) below = let rest = words_of-append above below 
 -- a column's words are no fewer with more cells
 words_grow : (above : Column) (texts : List (List ℕ)) (all : Column) → all_drafted above texts ≡ Ok all → words_of above ≤ words_of all
 words_grow above texts all e =
-    let told = all_found above texts all e in
-    let sum : words_of all ≡ words_of above + words_of told.below = ap words_of told.whole ∙ words_of-append above told.below in
+    let shown = all_found above texts all e in
+    let sum : words_of all ≡ words_of above + words_of shown.below = ap words_of shown.whole ∙ words_of-append above shown.below in
     omega (arith, sum)
 
-cell_found : (column : Column) (cell : List ℕ) (more : Column) → cell_told column cell ≡ Ok more → drafted column cell ≡ Ok more
-unfolding cell_told
+cell_found : (column : Column) (cell : List ℕ) (more : Column) → cell_added column cell ≡ Ok more → drafted column cell ≡ Ok more
+unfolding cell_added
 cell_found column cell more e =
     let step = bind_ok (as_instr (drafted column cell)) in_limit more e in
     as_instr_ok (drafted column cell) more (step.1 ∙ ap Ok (within step.0 step.2))
@@ -53,8 +53,8 @@ cell_found column cell more e =
       | inr few ↦ ok_is LitmusFault made more (rw few at f)
     ]
 
-cell_only : (column : Column) (cell : List ℕ) (more : Column) → drafted column cell ≡ Ok more → words_of more ≤ 4096 → cell_told column cell ≡ Ok more
-unfolding cell_told
+cell_only : (column : Column) (cell : List ℕ) (more : Column) → drafted column cell ≡ Ok more → words_of more ≤ 4096 → cell_added column cell ≡ Ok more
+unfolding cell_added
 cell_only column cell more e few = rw (e, le-ltb 4096 (words_of more) few) refl
 
 -- ---- all columns
@@ -89,12 +89,12 @@ ends_count rows hart [] ends are = ap length are
 ends_count rows hart (column ∷ columns) ends are = ap length are.2 ∙ ap suc (ends_count rows (hart + 1) columns are.1 are.4)
 
 -- a row more at the top
-ends_more : (rows : List Cells) (cells : Cells) (hart : ℕ) (columns : List Column) (here : Cells) (more ends : List Column) → AreFrom hart cells here → length here ≡ length columns → cells_told columns here ≡ Ok more → AreEnds rows hart more ends → AreEnds (cells ∷ rows) hart columns ends
+ends_more : (rows : List Cells) (cells : Cells) (hart : ℕ) (columns : List Column) (here : Cells) (more ends : List Column) → AreFrom hart cells here → length here ≡ length columns → cells_added columns here ≡ Ok more → AreEnds rows hart more ends → AreEnds (cells ∷ rows) hart columns ends
 ends_more rows cells hart [] here more ends at count e are = subst (λ (m : List Column). AreEnds rows hart m ends) (sym (ok_is LitmusFault [] more e)) are
 ends_more rows cells hart (column ∷ columns) [] more ends at count e are = absurd (omega (arith, count))
 ends_more rows cells hart (column ∷ columns) (cell ∷ here) more ends at count e are =
-    let step = bind_ok (cell_told column cell) (λ (m : Column). cells_told columns here >>= λ (others : List Column). Ok (m ∷ others)) more e in
-    let rest = bind_ok (cells_told columns here) (λ (others : List Column). Ok (step.0 ∷ others)) more step.2 in
+    let step = bind_ok (cell_added column cell) (λ (m : Column). cells_added columns here >>= λ (others : List Column). Ok (m ∷ others)) more e in
+    let rest = bind_ok (cells_added columns here) (λ (others : List Column). Ok (step.0 ∷ others)) more step.2 in
     let below = subst (λ (m : List Column). AreEnds rows hart m ends) (sym (ok_is LitmusFault (step.0 ∷ rest.0) more rest.2)) are in (
       below.0,
       below.1,
@@ -103,20 +103,20 @@ ends_more rows cells hart (column ∷ columns) (cell ∷ here) more ends at coun
       ends_more rows cells (hart + 1) columns here rest.0 below.1 (from_next hart cells cell here at) (omega (arith, count)) rest.1 below.4,
     )
 
-cells_found : (rows : List Cells) (cells : Cells) (columns more ends : List Column) → length cells ≡ length columns → cells_told columns cells ≡ Ok more → AreEnds rows 0 more ends → AreEnds (cells ∷ rows) 0 columns ends
+cells_found : (rows : List Cells) (cells : Cells) (columns more ends : List Column) → length cells ≡ length columns → cells_added columns cells ≡ Ok more → AreEnds rows 0 more ends → AreEnds (cells ∷ rows) 0 columns ends
 cells_found rows cells columns more ends count e are = ends_more rows cells 0 columns cells more ends (from_start cells) count e are
 
-cells_count : (columns : List Column) (cells : Cells) (more : List Column) → length cells ≡ length columns → cells_told columns cells ≡ Ok more → length more ≡ length columns
+cells_count : (columns : List Column) (cells : Cells) (more : List Column) → length cells ≡ length columns → cells_added columns cells ≡ Ok more → length more ≡ length columns
 cells_count columns cells more count e = ends_count (cells ∷ []) 0 columns more (cells_found [] cells columns more more count e (ends_none 0 more))
 
 -- the columns with their first cells
 record Fronts (rows : List Cells) (hart : ℕ) (columns : List Column) (here : Cells) (ends : List Column) : Type 0 where
   more : List Column
-  told : cells_told columns here ≡ Ok more
+  shown : cells_added columns here ≡ Ok more
   below : AreEnds rows hart more ends
 
 fronts : (rows : List Cells) (cells : Cells) (hart : ℕ) (columns : List Column) (here : Cells) (ends : List Column) → AreFrom hart cells here → length here ≡ length columns → AreEnds (cells ∷ rows) hart columns ends → AreFew ends → Fronts rows hart columns here ends
-fronts rows cells hart [] here ends at count are few = record { more = []; told = refl; below = are }
+fronts rows cells hart [] here ends at count are few = record { more = []; shown = refl; below = are }
 fronts rows cells hart (column ∷ columns) [] ends at count are few = absurd (omega (arith, count))
 fronts rows cells hart (column ∷ columns) (cell ∷ here) ends at count are few =
     let fewer = subst AreFew are.2 few in
@@ -126,20 +126,20 @@ fronts rows cells hart (column ∷ columns) (cell ∷ here) ends at count are fe
     let rest = fronts rows cells (hart + 1) columns here are.1 (from_next hart cells cell here at) (omega (arith, count)) are.4 fewer.1 in
     record {
       more = step.0 ∷ rest.more;
-      told = rw (cell_only column cell step.0 step.1 (omega (arith, grow, fewer.0)), rest.told) refl;
+      shown = rw (cell_only column cell step.0 step.1 (omega (arith, grow, fewer.0)), rest.shown) refl;
       below = (are.0, are.1, are.2, step.2, rest.below);
     }
 
-record CellsTold (rows : List Cells) (cells : Cells) (columns ends : List Column) : Type 0 where
+record CellsAdded (rows : List Cells) (cells : Cells) (columns ends : List Column) : Type 0 where
   more : List Column
-  told : cells_told columns cells ≡ Ok more
+  shown : cells_added columns cells ≡ Ok more
   count : length more ≡ length columns
   below : AreEnds rows 0 more ends
 
-cells_only : (rows : List Cells) (cells : Cells) (columns ends : List Column) → length cells ≡ length columns → AreEnds (cells ∷ rows) 0 columns ends → AreFew ends → CellsTold rows cells columns ends
+cells_only : (rows : List Cells) (cells : Cells) (columns ends : List Column) → length cells ≡ length columns → AreEnds (cells ∷ rows) 0 columns ends → AreFew ends → CellsAdded rows cells columns ends
 cells_only rows cells columns ends count are few =
     let front = fronts rows cells 0 columns cells ends (from_start cells) count are few in
-    record { more = front.more; told = front.told; count = cells_count columns cells front.more count front.told; below = front.below }
+    record { more = front.more; shown = front.shown; count = cells_count columns cells front.more count front.shown; below = front.below }
 
 -- ---- instructions
 
@@ -171,10 +171,10 @@ record Ends (rows : List Cells) (hart : ℕ) (codes : List Code) : Type 0 where
   ends : List Column
   are : AreEnds rows hart (replicate (length codes) []) ends
   few : AreFew ends
-  told : codes_of ends ≡ Ok codes
+  shown : codes_of ends ≡ Ok codes
 
 codes_only : (rows : List Cells) (hart : ℕ) (codes : List Code) → AreCodes rows hart codes → Ends rows hart codes
-codes_only rows hart [] are = record { ends = []; are = refl; few = tt; told = refl }
+codes_only rows hart [] are = record { ends = []; are = refl; few = tt; shown = refl }
 codes_only rows hart (code ∷ codes) are =
     let rest = codes_only rows (hart + 1) codes are.1 in
     let is = are.0 in
@@ -182,7 +182,7 @@ codes_only rows hart (code ∷ codes) are =
       ends = is.0 ∷ rest.ends;
       are = (is.0, rest.ends, refl, all_only [] (column_of hart rows) is.0 is.2 is.3.once (none_above is.0), rest.are);
       few = (is.3.few, rest.few);
-      told = rw (finished_only is.0 is.1 is.3, rest.told) (ap (λ (c : Code). Ok (c ∷ codes)) (sym is.4));
+      shown = rw (finished_only is.0 is.1 is.3, rest.shown) (ap (λ (c : Code). Ok (c ∷ codes)) (sym is.4));
     }
 
 -- ---- the rows below the first
@@ -191,24 +191,24 @@ record IsLineOf (columns : List Column) (line : List ℕ) (more : List Column) :
   cells : Cells
   is : IsRow line cells
   count : length cells ≡ length columns
-  told : cells_told columns cells ≡ Ok more
+  shown : cells_added columns cells ≡ Ok more
 
-line_found : (columns : List Column) (line : List ℕ) (more : List Column) → line_told columns line ≡ Ok more → (AreBlanks line × (columns ≡ more)) ⊎ IsLineOf columns line more
-unfolding line_told
+line_found : (columns : List Column) (line : List ℕ) (more : List Column) → line_added columns line ≡ Ok more → (AreBlanks line × (columns ≡ more)) ⊎ IsLineOf columns line more
+unfolding line_added
 line_found columns line more e = elim (cases_Bool (is_blank_line line)) [
   | inl empty ↦ inl (blank_found line empty, ok_is LitmusFault columns more (rw empty at e))
   | inr solid ↦ inr (go (row_in line) refl (rw solid at e))
 ]
   where
-    go : (o : Option (List ℕ)) → row_in line ≡ o → row_told columns o ≡ Ok more → IsLineOf columns line more
+    go : (o : Option (List ℕ)) → row_in line ≡ o → row_added columns o ≡ Ok more → IsLineOf columns line more
     go None no_row f = absurd cc
     go (Some cells) read f = elim (cases_Bool (length (cells_of cells) == length columns)) [
-      | inl same ↦ record { cells = cells_of cells; is = row_found line cells read; count = eqb-true (length (cells_of cells)) (length columns) same; told = rw same at f }
+      | inl same ↦ record { cells = cells_of cells; is = row_found line cells read; count = eqb-true (length (cells_of cells)) (length columns) same; shown = rw same at f }
       | inr other ↦ absurd (let g = rw other at f in cc)
     ]
 
-line_only : (columns : List Column) (line : List ℕ) (cells : Cells) → IsRow line cells → length cells ≡ length columns → line_told columns line ≡ cells_told columns cells
-unfolding line_told
+line_only : (columns : List Column) (line : List ℕ) (cells : Cells) → IsRow line cells → length cells ≡ length columns → line_added columns line ≡ cells_added columns cells
+unfolding line_added
 line_only columns line cells is count =
     let read = row_only line cells is in
     rw (read.solid, read.read, read.parted, eq-eqb (length cells) (length columns) count) refl
@@ -218,10 +218,10 @@ record Rows (columns : List Column) (lines : List (List ℕ)) (ends : List Colum
   are : AreRows (length columns) lines rows
   ended : AreEnds rows 0 columns ends
 
-lines_found : (columns : List Column) (lines : List (List ℕ)) (ends : List Column) → lines_told columns lines ≡ Ok ends → Rows columns lines ends
+lines_found : (columns : List Column) (lines : List (List ℕ)) (ends : List Column) → lines_added columns lines ≡ Ok ends → Rows columns lines ends
 lines_found columns [] ends e = record { rows = []; are = none; ended = subst (λ (es : List Column). AreEnds [] 0 columns es) (ok_is LitmusFault columns ends e) (ends_none 0 columns) }
 lines_found columns (line ∷ lines) ends e =
-    let step = bind_ok (line_told columns line) (λ (more : List Column). lines_told more lines) ends e in
+    let step = bind_ok (line_added columns line) (λ (more : List Column). lines_added more lines) ends e in
     let rest = lines_found step.0 lines ends step.2 in
     elim (line_found columns line step.0 step.1) [
       | inl empty ↦ record {
@@ -231,8 +231,8 @@ lines_found columns (line ∷ lines) ends e =
       }
       | inr first ↦ record {
         rows = first.cells ∷ rest.rows;
-        are = row line lines first.cells rest.rows first.is first.count (subst (λ (n : ℕ). AreRows n lines rest.rows) (cells_count columns first.cells step.0 first.count first.told) rest.are);
-        ended = cells_found rest.rows first.cells columns step.0 ends first.count first.told rest.ended;
+        are = row line lines first.cells rest.rows first.is first.count (subst (λ (n : ℕ). AreRows n lines rest.rows) (cells_count columns first.cells step.0 first.count first.shown) rest.are);
+        ended = cells_found rest.rows first.cells columns step.0 ends first.count first.shown rest.ended;
       }
     ]
 
@@ -240,24 +240,24 @@ ends_of_none : (hart : ℕ) (columns ends : List Column) → AreEnds [] hart col
 ends_of_none hart [] ends are = sym are
 ends_of_none hart (column ∷ columns) ends are = rw (are.2, ok_is Refusal column are.0 are.3, ends_of_none (hart + 1) columns are.1 are.4) refl
 
-lines_only : (harts : ℕ) (columns : List Column) (lines : List (List ℕ)) (rows : List Cells) (ends : List Column) → length columns ≡ harts → AreRows harts lines rows → AreEnds rows 0 columns ends → AreFew ends → lines_told columns lines ≡ Ok ends
-unfolding line_told
+lines_only : (harts : ℕ) (columns : List Column) (lines : List (List ℕ)) (rows : List Cells) (ends : List Column) → length columns ≡ harts → AreRows harts lines rows → AreEnds rows 0 columns ends → AreFew ends → lines_added columns lines ≡ Ok ends
+unfolding line_added
 lines_only harts columns lines rows ends count none are few = ap Ok (ends_of_none 0 columns ends are)
 lines_only harts columns lines rows ends count (blank line below others empty written) are few = rw (blank_only line empty) (lines_only harts columns below others ends count written are few)
 lines_only harts columns lines rows ends count (row line below cells others is full written) are few =
     let same : length cells ≡ length columns = full ∙ sym count in
     let front = cells_only others cells columns ends same are few in
-    line_first columns front.more line below ends (line_only columns line cells is same ∙ front.told)
+    line_first columns front.more line below ends (line_only columns line cells is same ∙ front.shown)
     (lines_only harts front.more below others ends (front.count ∙ count) written front.below few)
   where
-    line_first : (columns more : List Column) (line : List ℕ) (below : List (List ℕ)) (ends : List Column) → line_told columns line ≡ Ok more → lines_told more below ≡ Ok ends → lines_told columns (line ∷ below) ≡ Ok ends
+    line_first : (columns more : List Column) (line : List ℕ) (below : List (List ℕ)) (ends : List Column) → line_added columns line ≡ Ok more → lines_added more below ≡ Ok ends → lines_added columns (line ∷ below) ≡ Ok ends
     line_first columns more line below ends first rest = rw first rest
 
 -- ---- the table
 
 -- where nothing follows the first row, nothing is read
-below_same : (columns : List Column) (o : Option (List ℕ)) → lines_told columns (pieces (Byte 10) (unwrap_or o [])) ≡ lines_told columns (pieces_after (Byte 10) o)
-unfolding line_told
+below_same : (columns : List Column) (o : Option (List ℕ)) → lines_added columns (pieces (Byte 10) (unwrap_or o [])) ≡ lines_added columns (pieces_after (Byte 10) o)
+unfolding line_added
 below_same columns None = refl
 below_same columns (Some rest) = refl
 
@@ -269,7 +269,7 @@ table_found table columns codes e done = go (from_line mark.Visible table) refl 
     go None nowhere f = absurd cc
     go (Some from) at f =
         let below = unwrap_or (after (is_byte 10) from) [] in
-        let step = bind_ok (harts_in (before (is_byte 10) from)) (λ (harts : ℕ). lines_told (replicate harts []) (pieces_after (Byte 10) (after (is_byte 10) from))) columns f in
+        let step = bind_ok (harts_in (before (is_byte 10) from)) (λ (harts : ℕ). lines_added (replicate harts []) (pieces_after (Byte 10) (after (is_byte 10) from))) columns f in
         let first = first_row_found (before (is_byte 10) from) step.0 step.1 in
         let lines = lines_found (replicate step.0 []) (pieces (Byte 10) below) columns (below_same (replicate step.0 []) (after (is_byte 10) from) ∙ step.2) in
         let coded = codes_found lines.rows 0 step.0 columns codes lines.ended done in (
@@ -301,6 +301,6 @@ table_only table rows codes is are =
     let cut = cut_only is.from is.first is.below is.cut in
     let first = first_row_only is.first (length codes) (record { names = is.names; row = is.row; named = is.named; counted = is.counted; few = is.few }) in
     let lines = lines_only (length codes) (replicate (length codes) []) is.lines rows coded.ends (length-replicate (length codes) []) is.written coded.are coded.few in
-    let told : lines_told (replicate (length codes) []) (pieces (Byte 10) is.below) ≡ Ok coded.ends = rw (parts_only 10 is.below is.lines is.parted) lines in
-    let below = sym (below_same (replicate (length codes) []) (after (is_byte 10) is.from)) ∙ rw cut.1 told in
-    (coded.ends, rw (begun.1, cut.0, first) below, coded.told)
+    let shown : lines_added (replicate (length codes) []) (pieces (Byte 10) is.below) ≡ Ok coded.ends = rw (parts_only 10 is.below is.lines is.parted) lines in
+    let below = sym (below_same (replicate (length codes) []) (after (is_byte 10) is.from)) ∙ rw cut.1 shown in
+    (coded.ends, rw (begun.1, cut.0, first) below, coded.shown)

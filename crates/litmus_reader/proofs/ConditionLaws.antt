@@ -27,14 +27,14 @@ use Rattle.litmus_reader.specs.declared.faults.LitmusFault.{LitmusFault}
 use Rattle.litmus_reader.specs.declared.faults.LitmusFault.TheVariants.{BadCondition}
 use Rattle.litmus_reader.specs.declared.marks.Mark.TheVariants.{Unread}
 use Rattle.litmus_reader.specs.Marks.{has_token, before_line, from_line}
-use Rattle.litmus_reader.specs.Locations.{Names, met, value_met}
-use Rattle.litmus_reader.specs.Condition.{Quantified, ConditionSoFar, Condition, quantifier_of, quantifier_in, place_met, atom_met, token_met, as_condition, tokens_told, none_unread, behind_quantifier, condition_in}
+use Rattle.litmus_reader.specs.Locations.{Names, resolved, value_resolved}
+use Rattle.litmus_reader.specs.Condition.{Quantified, ConditionSoFar, Condition, quantifier_of, quantifier_in, place_resolved, atom_resolved, token_resolved, as_condition, tokens_added, none_unread, behind_quantifier, condition_in}
 use Rattle.litmus_reader.specs.Shapes.{NoneBegins}
 use Rattle.litmus_reader.specs.Layout.{BeginsUnread}
 use Rattle.litmus_reader.specs.Openings.{names_in, name_of_place, name_of_value, each_once, IsWorth}
-use Rattle.litmus_reader.specs.ConditionGrammar.{token_for, IsQuestion, atoms_in, IsPlaceOf, IsKnown, AreKnown}
+use Rattle.litmus_reader.specs.ConditionGrammar.{token_for, IsFinalCondition, atoms_in, IsPlaceOf, IsKnown, AreKnown}
 use Rattle.litmus_reader.proofs.ShapeLaws.{unread_matches, nowhere_found, nowhere_only, token_cut}
-use Rattle.litmus_reader.proofs.MeetLaws.{fewer, at_later, one_index, met_found, met_only, value_found, value_only, worth_later, one_worth}
+use Rattle.litmus_reader.proofs.FirstAppearances.{fewer, at_later, one_index, resolved_found, resolved_only, value_found, value_only, worth_later, one_worth}
 use Rattle.texts.specs.Pieces.{is_blank}
 
 -- ---- the quantifier
@@ -49,9 +49,9 @@ quantifier_cut line quantified e = go (has_token (codes "exists") line) refl (ha
     is q rest cut same = subst (λ (one : Quantified). line ≡ token_for one.0 ++ one.1) same cut
 
     go : (a : Bool) → has_token (codes "exists") line ≡ a → (b : Bool) → has_token (codes "~exists") line ≡ b → (c : Bool) → has_token (codes "forall") line ≡ c → line ≡ token_for quantified.0 ++ quantified.1
-    go true e1 b e2 c e3 = (let told = rw e1 at e in is Exists (drop 6 line) (token_cut (codes "exists") line e1) cc)
-    go false e1 true e2 c e3 = (let told = rw (e1, e2) at e in is NotExists (drop 7 line) (token_cut (codes "~exists") line e2) cc)
-    go false e1 false e2 true e3 = (let told = rw (e1, e2, e3) at e in is ForAll (drop 6 line) (token_cut (codes "forall") line e3) cc)
+    go true e1 b e2 c e3 = (let shown = rw e1 at e in is Exists (drop 6 line) (token_cut (codes "exists") line e1) cc)
+    go false e1 true e2 c e3 = (let shown = rw (e1, e2) at e in is NotExists (drop 7 line) (token_cut (codes "~exists") line e2) cc)
+    go false e1 false e2 true e3 = (let shown = rw (e1, e2, e3) at e in is ForAll (drop 6 line) (token_cut (codes "forall") line e3) cc)
     go false e1 false e2 false e3 = (let never = rw (e1, e2, e3) at e in absurd cc)
 
 quantifier_found : (text : List ℕ) (quantified : Quantified) → quantifier_in text ≡ Some quantified → IsQuantified text quantified
@@ -90,7 +90,7 @@ finished_ok : (words : List Symbol) (formula : Formula) → as_condition (finish
 finished_ok words formula e = go (finished words) refl
   where
     go : (r : Result Formula (Unit {0})) → finished words ≡ r → finished words ≡ Ok formula
-    go (Ok other) is = (let told = rw is at e in is ∙ cc)
+    go (Ok other) is = (let shown = rw is at e in is ∙ cc)
     go (Err misplaced) is = (let never = rw is at e in absurd cc)
 
 -- ---- the places that atoms look at
@@ -98,10 +98,10 @@ finished_ok words formula e = go (finished words) refl
 abbrev names_of : token.Token → Names
 names_of first = names_in (atoms_in (first ∷ []))
 
-record PlaceFound (harts : ℕ) (ms : Names) (asked : setting.NamedPlace) (found : Place × Names) : Type 0 where
-  names : found.1 ≡ each_once (ms ++ name_of_place asked)
+record PlaceFound (harts : ℕ) (ms : Names) (spot : setting.NamedPlace) (found : Place × Names) : Type 0 where
+  names : found.1 ≡ each_once (ms ++ name_of_place spot)
   few : length found.1 ≤ 1024
-  at : IsPlaceOf harts found.1 asked found.0
+  at : IsPlaceOf harts found.1 spot found.0
 
 register_found : (harts hart : ℕ) (ms : Names) (register : Reg) (b : Bool) (found : Place × Names) → nat_lt hart harts ≡ b → length (each_once ms) ≤ 1024 → (if b then Ok (place.Register hart register.number, each_once ms) else Err BadCondition) ≡ Ok found → PlaceFound harts ms (setting.NamedPlace.in_register hart register) found
 register_found harts hart ms register true found within few e =
@@ -109,27 +109,27 @@ register_found harts hart ms register true found within few e =
     subst (PlaceFound harts ms (setting.NamedPlace.in_register hart register)) same (record { names = ap each_once (sym (append-nil ms)); few = few; at = (ltb-true hart harts within, refl) })
 register_found harts hart ms register false found within few e = absurd cc
 
-place_found : (harts : ℕ) (ms : Names) (asked : setting.NamedPlace) (found : Place × Names) → length (each_once ms) ≤ 1024 → place_met harts (each_once ms) asked ≡ Ok found → PlaceFound harts ms asked found
-unfolding place_met
+place_found : (harts : ℕ) (ms : Names) (spot : setting.NamedPlace) (found : Place × Names) → length (each_once ms) ≤ 1024 → place_resolved harts (each_once ms) spot ≡ Ok found → PlaceFound harts ms spot found
+unfolding place_resolved
 place_found harts ms (setting.NamedPlace.in_register hart register) found few e = register_found harts hart ms register (nat_lt hart harts) found refl few e
 place_found harts ms (setting.NamedPlace.at_location name) found few e =
-    let first = bind_ok (met (each_once ms) name) (λ one. Ok (place.Word (4 * one.0), one.1)) found e in
-    let told = met_found ms name first.0 first.1 in
+    let first = bind_ok (resolved (each_once ms) name) (λ one. Ok (place.Word (4 * one.0), one.1)) found e in
+    let shown = resolved_found ms name first.0 first.1 in
     subst (PlaceFound harts ms (setting.NamedPlace.at_location name)) (ok_is LitmusFault (place.Word (4 * first.0.0), first.0.1) found first.2)
-    (record { names = told.0; few = told.2 few; at = (first.0.0, told.1, refl) })
+    (record { names = shown.0; few = shown.2 few; at = (first.0.0, shown.1, refl) })
 
-place_later : (harts : ℕ) (ms more : Names) (asked : setting.NamedPlace) (at : Place) → IsPlaceOf harts (each_once ms) asked at → IsPlaceOf harts (each_once (ms ++ more)) asked at
+place_later : (harts : ℕ) (ms more : Names) (spot : setting.NamedPlace) (at : Place) → IsPlaceOf harts (each_once ms) spot at → IsPlaceOf harts (each_once (ms ++ more)) spot at
 place_later harts ms more (setting.NamedPlace.in_register hart register) at is = is
 place_later harts ms more (setting.NamedPlace.at_location name) at is = (is.0, at_later ms more name is.0 is.1, is.2)
 
 -- the names may be followed by others, of what comes later
-place_only : (harts : ℕ) (ms more : Names) (asked : setting.NamedPlace) (at : Place) → length (each_once (ms ++ name_of_place asked)) ≤ 1024 → IsPlaceOf harts (each_once ((ms ++ name_of_place asked) ++ more)) asked at → place_met harts (each_once ms) asked ≡ Ok (at, each_once (ms ++ name_of_place asked))
-unfolding place_met
+place_only : (harts : ℕ) (ms more : Names) (spot : setting.NamedPlace) (at : Place) → length (each_once (ms ++ name_of_place spot)) ≤ 1024 → IsPlaceOf harts (each_once ((ms ++ name_of_place spot) ++ more)) spot at → place_resolved harts (each_once ms) spot ≡ Ok (at, each_once (ms ++ name_of_place spot))
+unfolding place_resolved
 place_only harts ms more (setting.NamedPlace.in_register hart register) at few is = rw (lt-ltb hart harts is.0, append-nil ms) (ap (λ (p : Place). Ok (p, each_once ms)) (sym is.1))
 place_only harts ms more (setting.NamedPlace.at_location name) at few is =
-    let told = met_only ms name few in
-    let same : told.0 ≡ is.0 = one_index ((ms ++ name ∷ []) ++ more) name told.0 is.0 (at_later (ms ++ name ∷ []) more name told.0 told.2) is.1 in
-    rw told.1 (ap (λ (p : Place). Ok (p, each_once (ms ++ name ∷ []))) (ap (λ (index : ℕ). place.Word (4 * index)) same ∙ sym is.2))
+    let shown = resolved_only ms name few in
+    let same : shown.0 ≡ is.0 = one_index ((ms ++ name ∷ []) ++ more) name shown.0 is.0 (at_later (ms ++ name ∷ []) more name shown.0 shown.2) is.1 in
+    rw shown.1 (ap (λ (p : Place). Ok (p, each_once (ms ++ name ∷ []))) (ap (λ (index : ℕ). place.Word (4 * index)) same ∙ sym is.2))
 
 -- ---- the tokens, each with its place known
 
@@ -138,24 +138,24 @@ record TokenFound (harts : ℕ) (ms : Names) (first : token.Token) (found : Symb
   few : length found.1 ≤ 1024
   known : IsKnown harts found.1 first found.0
 
-both_names : (ms : Names) (put : setting.Equation) → (ms ++ name_of_place put.0) ++ name_of_value put.1 ≡ ms ++ names_of (token.Token.atom put)
-both_names ms put = append_assoc ms (name_of_place put.0) (name_of_value put.1) ∙ ap (λ (ns : Names). ms ++ (name_of_place put.0 ++ ns)) (sym (append-nil (name_of_value put.1)))
+both_names : (ms : Names) (equation : setting.Equation) → (ms ++ name_of_place equation.0) ++ name_of_value equation.1 ≡ ms ++ names_of (token.Token.atom equation)
+both_names ms equation = append_assoc ms (name_of_place equation.0) (name_of_value equation.1) ∙ ap (λ (ns : Names). ms ++ (name_of_place equation.0 ++ ns)) (sym (append-nil (name_of_value equation.1)))
 
-atom_found : (harts : ℕ) (ms : Names) (put : setting.Equation) (found : Symbol × Names) → length (each_once ms) ≤ 1024 → atom_met harts (each_once ms) put ≡ Ok found → TokenFound harts ms (token.Token.atom put) found
-unfolding atom_met
-atom_found harts ms put found few e =
-    let here = ms ++ name_of_place put.0 in
-    let asked = bind_ok (place_met harts (each_once ms) put.0) (λ asked. value_met asked.1 put.1 >>= λ value. Ok (symbol.Is asked.0 value.0, value.1)) found e in
-    let at = place_found harts ms put.0 asked.0 few asked.1 in
-    let value = bind_ok (value_met asked.0.1 put.1) (λ value. Ok (symbol.Is asked.0.0 value.0, value.1)) found asked.2 in
-    let worth = value_found here put.1 value.0 (subst (λ (names : Names). value_met names put.1 ≡ Ok value.0) at.names value.1) in
-    let at_here : IsPlaceOf harts (each_once here) put.0 asked.0.0 = subst (λ (names : Names). IsPlaceOf harts names put.0 asked.0.0) at.names at.at in
-    let at_end : IsPlaceOf harts value.0.1 put.0 asked.0.0 = subst (λ (names : Names). IsPlaceOf harts names put.0 asked.0.0) (sym worth.0) (place_later harts here (name_of_value put.1) put.0 asked.0.0 at_here) in
-    subst (TokenFound harts ms (token.Token.atom put)) (ok_is LitmusFault (symbol.Is asked.0.0 value.0.0, value.0.1) found value.2)
+atom_found : (harts : ℕ) (ms : Names) (equation : setting.Equation) (found : Symbol × Names) → length (each_once ms) ≤ 1024 → atom_resolved harts (each_once ms) equation ≡ Ok found → TokenFound harts ms (token.Token.atom equation) found
+unfolding atom_resolved
+atom_found harts ms equation found few e =
+    let here = ms ++ name_of_place equation.0 in
+    let spot = bind_ok (place_resolved harts (each_once ms) equation.0) (λ spot. value_resolved spot.1 equation.1 >>= λ value. Ok (symbol.Is spot.0 value.0, value.1)) found e in
+    let at = place_found harts ms equation.0 spot.0 few spot.1 in
+    let value = bind_ok (value_resolved spot.0.1 equation.1) (λ value. Ok (symbol.Is spot.0.0 value.0, value.1)) found spot.2 in
+    let worth = value_found here equation.1 value.0 (subst (λ (names : Names). value_resolved names equation.1 ≡ Ok value.0) at.names value.1) in
+    let at_here : IsPlaceOf harts (each_once here) equation.0 spot.0.0 = subst (λ (names : Names). IsPlaceOf harts names equation.0 spot.0.0) at.names at.at in
+    let at_end : IsPlaceOf harts value.0.1 equation.0 spot.0.0 = subst (λ (names : Names). IsPlaceOf harts names equation.0 spot.0.0) (sym worth.0) (place_later harts here (name_of_value equation.1) equation.0 spot.0.0 at_here) in
+    subst (TokenFound harts ms (token.Token.atom equation)) (ok_is LitmusFault (symbol.Is spot.0.0 value.0.0, value.0.1) found value.2)
     (record {
-      names = worth.0 ∙ ap each_once (both_names ms put);
+      names = worth.0 ∙ ap each_once (both_names ms equation);
       few = worth.2 (subst (λ (names : Names). length names ≤ 1024) at.names at.few);
-      known = (asked.0.0, value.0.0, at_end, worth.1, refl);
+      known = (spot.0.0, value.0.0, at_end, worth.1, refl);
     })
 
 abbrev answered : Symbol → Names → Result (Symbol × Names) LitmusFault
@@ -165,9 +165,9 @@ plain_found : (harts : ℕ) (ms : Names) (first : token.Token) (known : Symbol) 
 plain_found harts ms first known found none is few e =
     subst (TokenFound harts ms first) (ok_is LitmusFault (known, each_once ms) found e) (record { names = ap each_once (sym (none ∙ append-nil ms)); few = few; known = is (each_once ms) })
 
-token_found : (harts : ℕ) (ms : Names) (first : token.Token) (found : Symbol × Names) → length (each_once ms) ≤ 1024 → token_met harts (each_once ms) first ≡ Ok found → TokenFound harts ms first found
-unfolding token_met
-token_found harts ms (token.Token.atom put) found few e = atom_found harts ms put found few e
+token_found : (harts : ℕ) (ms : Names) (first : token.Token) (found : Symbol × Names) → length (each_once ms) ≤ 1024 → token_resolved harts (each_once ms) first ≡ Ok found → TokenFound harts ms first found
+unfolding token_resolved
+token_found harts ms (token.Token.atom equation) found few e = atom_found harts ms equation found few e
 token_found harts ms token.Token.negation found few e = plain_found harts ms token.Token.negation symbol.Not found refl (λ names. refl) few e
 token_found harts ms token.Token.conjunction found few e = plain_found harts ms token.Token.conjunction symbol.And found refl (λ names. refl) few e
 token_found harts ms token.Token.disjunction found few e = plain_found harts ms token.Token.disjunction symbol.Or found refl (λ names. refl) few e
@@ -175,31 +175,31 @@ token_found harts ms token.Token.opening found few e = plain_found harts ms toke
 token_found harts ms token.Token.closing found few e = plain_found harts ms token.Token.closing symbol.Close found refl (λ names. refl) few e
 
 known_later : (harts : ℕ) (ms more : Names) (first : token.Token) (known : Symbol) → IsKnown harts (each_once ms) first known → IsKnown harts (each_once (ms ++ more)) first known
-known_later harts ms more (token.Token.atom put) known is = (is.0, is.1, place_later harts ms more put.0 is.0 is.2, worth_later ms more put.1 is.1 is.3, is.4)
+known_later harts ms more (token.Token.atom equation) known is = (is.0, is.1, place_later harts ms more equation.0 is.0 is.2, worth_later ms more equation.1 is.1 is.3, is.4)
 known_later harts ms more token.Token.negation known is = is
 known_later harts ms more token.Token.conjunction known is = is
 known_later harts ms more token.Token.disjunction known is = is
 known_later harts ms more token.Token.opening known is = is
 known_later harts ms more token.Token.closing known is = is
 
-atom_only : (harts : ℕ) (ms more : Names) (put : setting.Equation) (at : Place) (value : ℕ) → length (each_once (ms ++ names_of (token.Token.atom put))) ≤ 1024 → IsPlaceOf harts (each_once ((ms ++ names_of (token.Token.atom put)) ++ more)) put.0 at → IsWorth (each_once ((ms ++ names_of (token.Token.atom put)) ++ more)) put.1 value → atom_met harts (each_once ms) put ≡ Ok (symbol.Is at value, each_once (ms ++ names_of (token.Token.atom put)))
-unfolding atom_met
-atom_only harts ms more put at value few is worth =
-    let here = ms ++ name_of_place put.0 in
-    let split = both_names ms put in
-    let few_here : length (each_once (here ++ name_of_value put.1)) ≤ 1024 = rw split few in
-    let behind : (ms ++ names_of (token.Token.atom put)) ++ more ≡ here ++ (name_of_value put.1 ++ more) = ap (λ (ns : Names). ns ++ more) (sym split) ∙ append_assoc here (name_of_value put.1) more in
-    let placed = place_only harts ms (name_of_value put.1 ++ more) put.0 at (omega (arith, fewer here (name_of_value put.1), few_here)) (subst (λ (ns : Names). IsPlaceOf harts (each_once ns) put.0 at) behind is) in
-    let told = value_only here put.1 few_here in
-    let same : told.0 ≡ value = one_worth ((here ++ name_of_value put.1) ++ more) put.1 told.0 value (worth_later (here ++ name_of_value put.1) more put.1 told.0 told.2) (subst (λ (ns : Names). IsWorth (each_once (ns ++ more)) put.1 value) (sym split) worth) in
-    rw (placed, told.1) (ap (λ (ns : Names). Ok (symbol.Is at told.0, each_once ns)) split ∙ ap (λ (w : ℕ). Ok (symbol.Is at w, each_once (ms ++ names_of (token.Token.atom put)))) same)
+atom_only : (harts : ℕ) (ms more : Names) (equation : setting.Equation) (at : Place) (value : ℕ) → length (each_once (ms ++ names_of (token.Token.atom equation))) ≤ 1024 → IsPlaceOf harts (each_once ((ms ++ names_of (token.Token.atom equation)) ++ more)) equation.0 at → IsWorth (each_once ((ms ++ names_of (token.Token.atom equation)) ++ more)) equation.1 value → atom_resolved harts (each_once ms) equation ≡ Ok (symbol.Is at value, each_once (ms ++ names_of (token.Token.atom equation)))
+unfolding atom_resolved
+atom_only harts ms more equation at value few is worth =
+    let here = ms ++ name_of_place equation.0 in
+    let split = both_names ms equation in
+    let few_here : length (each_once (here ++ name_of_value equation.1)) ≤ 1024 = rw split few in
+    let behind : (ms ++ names_of (token.Token.atom equation)) ++ more ≡ here ++ (name_of_value equation.1 ++ more) = ap (λ (ns : Names). ns ++ more) (sym split) ∙ append_assoc here (name_of_value equation.1) more in
+    let placed = place_only harts ms (name_of_value equation.1 ++ more) equation.0 at (omega (arith, fewer here (name_of_value equation.1), few_here)) (subst (λ (ns : Names). IsPlaceOf harts (each_once ns) equation.0 at) behind is) in
+    let shown = value_only here equation.1 few_here in
+    let same : shown.0 ≡ value = one_worth ((here ++ name_of_value equation.1) ++ more) equation.1 shown.0 value (worth_later (here ++ name_of_value equation.1) more equation.1 shown.0 shown.2) (subst (λ (ns : Names). IsWorth (each_once (ns ++ more)) equation.1 value) (sym split) worth) in
+    rw (placed, shown.1) (ap (λ (ns : Names). Ok (symbol.Is at shown.0, each_once ns)) split ∙ ap (λ (w : ℕ). Ok (symbol.Is at w, each_once (ms ++ names_of (token.Token.atom equation)))) same)
 
 plain_only : (ms : Names) (known : Symbol) (is : Symbol) → is ≡ known → answered known (each_once ms) ≡ answered is (each_once (ms ++ []))
 plain_only ms known is same = rw (append-nil ms) (ap (λ (t : Symbol). Ok (t, each_once ms)) (sym same))
 
-token_only : (harts : ℕ) (ms more : Names) (first : token.Token) (known : Symbol) → length (each_once (ms ++ names_of first)) ≤ 1024 → IsKnown harts (each_once ((ms ++ names_of first) ++ more)) first known → token_met harts (each_once ms) first ≡ Ok (known, each_once (ms ++ names_of first))
-unfolding token_met
-token_only harts ms more (token.Token.atom put) known few is = atom_only harts ms more put is.0 is.1 few is.2 is.3 ∙ ap (λ (t : Symbol). Ok (t, each_once (ms ++ names_of (token.Token.atom put)))) (sym is.4)
+token_only : (harts : ℕ) (ms more : Names) (first : token.Token) (known : Symbol) → length (each_once (ms ++ names_of first)) ≤ 1024 → IsKnown harts (each_once ((ms ++ names_of first) ++ more)) first known → token_resolved harts (each_once ms) first ≡ Ok (known, each_once (ms ++ names_of first))
+unfolding token_resolved
+token_only harts ms more (token.Token.atom equation) known few is = atom_only harts ms more equation is.0 is.1 few is.2 is.3 ∙ ap (λ (t : Symbol). Ok (t, each_once (ms ++ names_of (token.Token.atom equation)))) (sym is.4)
 token_only harts ms more token.Token.negation known few is = plain_only ms symbol.Not known is
 token_only harts ms more token.Token.conjunction known few is = plain_only ms symbol.And known is
 token_only harts ms more token.Token.disjunction known few is = plain_only ms symbol.Or known is
@@ -209,7 +209,7 @@ token_only harts ms more token.Token.closing known few is = plain_only ms symbol
 -- ---- all words
 
 names-more : (first : token.Token) (words : List token.Token) → names_in (atoms_in (first ∷ words)) ≡ names_of first ++ names_in (atoms_in words)
-names-more (token.Token.atom put) words = sym (append_assoc (name_of_place put.0) (name_of_value put.1 ++ []) (names_in (atoms_in words)) ∙ ap (λ (ns : Names). name_of_place put.0 ++ ns) (append_assoc (name_of_value put.1) [] (names_in (atoms_in words))))
+names-more (token.Token.atom equation) words = sym (append_assoc (name_of_place equation.0) (name_of_value equation.1 ++ []) (names_in (atoms_in words)) ∙ ap (λ (ns : Names). name_of_place equation.0 ++ ns) (append_assoc (name_of_value equation.1) [] (names_in (atoms_in words))))
 names-more token.Token.negation words = refl
 names-more token.Token.conjunction words = refl
 names-more token.Token.disjunction words = refl
@@ -219,17 +219,17 @@ names-more token.Token.closing words = refl
 names-behind : (ms : Names) (first : token.Token) (words : List token.Token) → (ms ++ names_of first) ++ names_in (atoms_in words) ≡ ms ++ names_in (atoms_in (first ∷ words))
 names-behind ms first words = append_assoc ms (names_of first) (names_in (atoms_in words)) ∙ ap (λ (ns : Names). ms ++ ns) (sym (names-more first words))
 
-record TokensFound (harts : ℕ) (ms : Names) (so_far : List Symbol) (text : Tokens) (asked : ConditionSoFar) : Type 0 where
+record TokensFound (harts : ℕ) (ms : Names) (so_far : List Symbol) (text : Tokens) (gathered : ConditionSoFar) : Type 0 where
   words : List token.Token
   known : List Symbol
   whole : text ≡ listed words
-  behind : asked.0 ≡ so_far ++ known
-  names : asked.1 ≡ each_once (ms ++ names_in (atoms_in words))
-  few : length asked.1 ≤ 1024
-  all : AreKnown harts asked.1 words known
+  behind : gathered.0 ≡ so_far ++ known
+  names : gathered.1 ≡ each_once (ms ++ names_in (atoms_in words))
+  few : length gathered.1 ≤ 1024
+  all : AreKnown harts gathered.1 words known
 
-token_taken : (harts : ℕ) (ms : Names) (so_far more : List Symbol) (first : token.Token) (others : Tokens) (asked : ConditionSoFar) (known : Symbol) → so_far ++ known ∷ [] ≡ more → IsKnown harts (each_once (ms ++ names_of first)) first known → TokensFound harts (ms ++ names_of first) more others asked → TokensFound harts ms so_far (token.Tokens.goes_on first others) asked
-token_taken harts ms so_far more first others asked known taken is rest =
+token_taken : (harts : ℕ) (ms : Names) (so_far more : List Symbol) (first : token.Token) (others : Tokens) (gathered : ConditionSoFar) (known : Symbol) → so_far ++ known ∷ [] ≡ more → IsKnown harts (each_once (ms ++ names_of first)) first known → TokensFound harts (ms ++ names_of first) more others gathered → TokensFound harts ms so_far (token.Tokens.goes_on first others) gathered
+token_taken harts ms so_far more first others gathered known taken is rest =
     record {
       words = first ∷ rest.words;
       known = known ∷ rest.known;
@@ -240,20 +240,20 @@ token_taken harts ms so_far more first others asked known taken is rest =
       all = (known, rest.known, refl, subst (λ (names : Names). IsKnown harts names first known) (sym rest.names) (known_later harts (ms ++ names_of first) (names_in (atoms_in rest.words)) first known is), rest.all);
     }
 
-tokens_found : (harts : ℕ) (ms : Names) (so_far : List Symbol) (text : Tokens) (asked : ConditionSoFar) → length (each_once ms) ≤ 1024 → tokens_told harts (so_far, each_once ms) text ≡ Ok asked → TokensFound harts ms so_far text asked
-tokens_found harts ms so_far token.Tokens.ended asked few e =
-    subst (TokensFound harts ms so_far token.Tokens.ended) (ok_is LitmusFault (so_far, each_once ms) asked e)
+tokens_found : (harts : ℕ) (ms : Names) (so_far : List Symbol) (text : Tokens) (gathered : ConditionSoFar) → length (each_once ms) ≤ 1024 → tokens_added harts (so_far, each_once ms) text ≡ Ok gathered → TokensFound harts ms so_far text gathered
+tokens_found harts ms so_far token.Tokens.ended gathered few e =
+    subst (TokensFound harts ms so_far token.Tokens.ended) (ok_is LitmusFault (so_far, each_once ms) gathered e)
     (record { words = []; known = []; whole = refl; behind = sym (append-nil so_far); names = ap each_once (sym (append-nil ms)); few = few; all = refl })
-tokens_found harts ms so_far token.Tokens.broken asked few e = absurd cc
-tokens_found harts ms so_far (token.Tokens.goes_on first others) asked few e =
-    let known = bind_ok (token_met harts (each_once ms) first) (λ known. as_condition (symbol_added so_far known.0) >>= λ more. tokens_told harts (more, known.1) others) asked e in
-    let more = bind_ok (as_condition (symbol_added so_far known.0.0)) (λ more. tokens_told harts (more, known.0.1) others) asked known.2 in
+tokens_found harts ms so_far token.Tokens.broken gathered few e = absurd cc
+tokens_found harts ms so_far (token.Tokens.goes_on first others) gathered few e =
+    let known = bind_ok (token_resolved harts (each_once ms) first) (λ known. as_condition (symbol_added so_far known.0) >>= λ more. tokens_added harts (more, known.1) others) gathered e in
+    let more = bind_ok (as_condition (symbol_added so_far known.0.0)) (λ more. tokens_added harts (more, known.0.1) others) gathered known.2 in
     let one = token_found harts ms first known.0 few known.1 in
-    token_taken harts ms so_far more.0 first others asked known.0.0 (symbol_found so_far known.0.0 more.0 more.1)
+    token_taken harts ms so_far more.0 first others gathered known.0.0 (symbol_found so_far known.0.0 more.0 more.1)
     (subst (λ (names : Names). IsKnown harts names first known.0.0) one.names one.known)
-    (tokens_found harts (ms ++ names_of first) more.0 others asked (subst (λ (names : Names). length names ≤ 1024) one.names one.few) (subst (λ (names : Names). tokens_told harts (more.0, names) others ≡ Ok asked) one.names more.2))
+    (tokens_found harts (ms ++ names_of first) more.0 others gathered (subst (λ (names : Names). length names ≤ 1024) one.names one.few) (subst (λ (names : Names). tokens_added harts (more.0, names) others ≡ Ok gathered) one.names more.2))
 
-tokens_only : (harts : ℕ) (ms : Names) (so_far : List Symbol) (words : List token.Token) (known : List Symbol) (formula : Formula) → length (each_once (ms ++ names_in (atoms_in words))) ≤ 1024 → AreKnown harts (each_once (ms ++ names_in (atoms_in words))) words known → IsConditionOf (so_far ++ known) formula → tokens_told harts (so_far, each_once ms) (listed words) ≡ Ok (so_far ++ known, each_once (ms ++ names_in (atoms_in words)))
+tokens_only : (harts : ℕ) (ms : Names) (so_far : List Symbol) (words : List token.Token) (known : List Symbol) (formula : Formula) → length (each_once (ms ++ names_in (atoms_in words))) ≤ 1024 → AreKnown harts (each_once (ms ++ names_in (atoms_in words))) words known → IsConditionOf (so_far ++ known) formula → tokens_added harts (so_far, each_once ms) (listed words) ≡ Ok (so_far ++ known, each_once (ms ++ names_in (atoms_in words)))
 tokens_only harts ms so_far [] known formula few all stands = rw (append-nil ms) (ap (λ (ws : List Symbol). Ok (ws, each_once ms)) (sym (append-nil so_far) ∙ ap (λ (ws : List Symbol). so_far ++ ws) (sym all)))
 tokens_only harts ms so_far (first ∷ words) known formula few all stands =
     let here = ms ++ names_of first in
@@ -276,39 +276,39 @@ none_unread_found : (o : Option (List ℕ)) (end : Unit {0}) → none_unread o �
 none_unread_found None end e = refl
 none_unread_found (Some rest) end e = absurd cc
 
-abbrev asked_so : Quantifier → Formula → Names → Result Condition LitmusFault
-asked_so quantifier formula names = Ok (record { quantifier = quantifier; formula = formula; names = names })
+abbrev condition_so : Quantifier → Formula → Names → Result Condition LitmusFault
+condition_so quantifier formula names = Ok (record { quantifier = quantifier; formula = formula; names = names })
 
 -- what is read of a condition, where the names of the init part are these
-abbrev pub IsAsked : (harts : ℕ) → Names → List ℕ → Condition → Type 0
-IsAsked harts ms text condition = (words : List token.Token) × (known : List Symbol) × IsQuestion text condition.quantifier words × (condition.names ≡ each_once (ms ++ names_in (atoms_in words))) × (length condition.names ≤ 1024) × AreKnown harts condition.names words known × IsConditionOf known condition.formula
+abbrev pub IsConditionFound : (harts : ℕ) → Names → List ℕ → Condition → Type 0
+IsConditionFound harts ms text condition = (words : List token.Token) × (known : List Symbol) × IsFinalCondition text condition.quantifier words × (condition.names ≡ each_once (ms ++ names_in (atoms_in words))) × (length condition.names ≤ 1024) × AreKnown harts condition.names words known × IsConditionOf known condition.formula
 
-finished_asked : (harts : ℕ) (ms : Names) (text : List ℕ) (quantified : Quantified) (asked : ConditionSoFar) (condition : Condition) → IsQuantified text quantified → NoneBegins BeginsUnread text → TokensFound harts ms [] (tokens_of quantified.1) asked → (as_condition (finished asked.0) >>= λ formula. asked_so quantified.0 formula asked.1) ≡ Ok condition → IsAsked harts ms text condition
-finished_asked harts ms text quantified asked condition front none walk e =
-    let formula = bind_ok (as_condition (finished asked.0)) (λ formula. asked_so quantified.0 formula asked.1) condition e in
+finished_condition : (harts : ℕ) (ms : Names) (text : List ℕ) (quantified : Quantified) (gathered : ConditionSoFar) (condition : Condition) → IsQuantified text quantified → NoneBegins BeginsUnread text → TokensFound harts ms [] (tokens_of quantified.1) gathered → (as_condition (finished gathered.0) >>= λ formula. condition_so quantified.0 formula gathered.1) ≡ Ok condition → IsConditionFound harts ms text condition
+finished_condition harts ms text quantified gathered condition front none walk e =
+    let formula = bind_ok (as_condition (finished gathered.0)) (λ formula. condition_so quantified.0 formula gathered.1) condition e in
     let spelled : AreTokens quantified.1 walk.words = are_tokens walk.words quantified.1 walk.whole in
-    let stands : IsConditionOf walk.known formula.0 = finished_found walk.known formula.0 (subst (λ (ws : List Symbol). finished ws ≡ Ok formula.0) walk.behind (finished_ok asked.0 formula.0 formula.1)) in
-    subst (IsAsked harts ms text) (ok_is LitmusFault (record { quantifier = quantified.0; formula = formula.0; names = asked.1 }) condition formula.2)
+    let stands : IsConditionOf walk.known formula.0 = finished_found walk.known formula.0 (subst (λ (ws : List Symbol). finished ws ≡ Ok formula.0) walk.behind (finished_ok gathered.0 formula.0 formula.1)) in
+    subst (IsConditionFound harts ms text) (ok_is LitmusFault (record { quantifier = quantified.0; formula = formula.0; names = gathered.1 }) condition formula.2)
     (walk.words, walk.known, (front.0, quantified.1, front.1, front.2, spelled, none), walk.names, walk.few, walk.all, stands)
 
 -- what is read is what the text asks
-pub asked_found : (harts : ℕ) (ms : Names) (text : List ℕ) (condition : Condition) → length (each_once ms) ≤ 1024 → condition_in harts (each_once ms) text ≡ Ok condition → IsAsked harts ms text condition
+pub condition_found : (harts : ℕ) (ms : Names) (text : List ℕ) (condition : Condition) → length (each_once ms) ≤ 1024 → condition_in harts (each_once ms) text ≡ Ok condition → IsConditionFound harts ms text condition
 unfolding condition_in
-asked_found harts ms text condition few e = go (quantifier_in (before_line Unread text)) refl e
+condition_found harts ms text condition few e = go (quantifier_in (before_line Unread text)) refl e
   where
-    go : (o : Option Quantified) → quantifier_in (before_line Unread text) ≡ o → behind_quantifier harts (each_once ms) text o ≡ Ok condition → IsAsked harts ms text condition
-    go None first told = absurd cc
-    go (Some quantified) first told =
-        let asked = bind_ok (tokens_told harts ([], each_once ms) (tokens_of quantified.1)) (λ asked. none_unread (from_line Unread text) >>= λ end. as_condition (finished asked.0) >>= λ formula. asked_so quantified.0 formula asked.1) condition told in
-        let end = bind_ok (none_unread (from_line Unread text)) (λ end. as_condition (finished asked.0.0) >>= λ formula. asked_so quantified.0 formula asked.0.1) condition asked.2 in
+    go : (o : Option Quantified) → quantifier_in (before_line Unread text) ≡ o → behind_quantifier harts (each_once ms) text o ≡ Ok condition → IsConditionFound harts ms text condition
+    go None first shown = absurd cc
+    go (Some quantified) first shown =
+        let gathered = bind_ok (tokens_added harts ([], each_once ms) (tokens_of quantified.1)) (λ gathered. none_unread (from_line Unread text) >>= λ end. as_condition (finished gathered.0) >>= λ formula. condition_so quantified.0 formula gathered.1) condition shown in
+        let end = bind_ok (none_unread (from_line Unread text)) (λ end. as_condition (finished gathered.0.0) >>= λ formula. condition_so quantified.0 formula gathered.0.1) condition gathered.2 in
         let none = nowhere_found Unread BeginsUnread unread_matches text (none_unread_found (from_line Unread text) end.0 end.1) in
         let whole : before_line Unread text ≡ text = (nowhere_only Unread BeginsUnread unread_matches text none).0 in
-        finished_asked harts ms text quantified asked.0 condition (quantifier_found text quantified (ap quantifier_in (sym whole) ∙ first)) none (tokens_found harts ms [] (tokens_of quantified.1) asked.0 few asked.1) end.2
+        finished_condition harts ms text quantified gathered.0 condition (quantifier_found text quantified (ap quantifier_in (sym whole) ∙ first)) none (tokens_found harts ms [] (tokens_of quantified.1) gathered.0 few gathered.1) end.2
 
 -- what the text asks is read
-pub asked_only : (harts : ℕ) (ms : Names) (text : List ℕ) (quantifier : Quantifier) (words : List token.Token) (known : List Symbol) (formula : Formula) → IsQuestion text quantifier words → length (each_once (ms ++ names_in (atoms_in words))) ≤ 1024 → AreKnown harts (each_once (ms ++ names_in (atoms_in words))) words known → IsConditionOf known formula → condition_in harts (each_once ms) text ≡ Ok (record { quantifier = quantifier; formula = formula; names = each_once (ms ++ names_in (atoms_in words)) })
+pub condition_only : (harts : ℕ) (ms : Names) (text : List ℕ) (quantifier : Quantifier) (words : List token.Token) (known : List Symbol) (formula : Formula) → IsFinalCondition text quantifier words → length (each_once (ms ++ names_in (atoms_in words))) ≤ 1024 → AreKnown harts (each_once (ms ++ names_in (atoms_in words))) words known → IsConditionOf known formula → condition_in harts (each_once ms) text ≡ Ok (record { quantifier = quantifier; formula = formula; names = each_once (ms ++ names_in (atoms_in words)) })
 unfolding condition_in
-asked_only harts ms text quantifier words known formula (blanks, rest, all, whole, spelled, none) few are stands =
+condition_only harts ms text quantifier words known formula (blanks, rest, all, whole, spelled, none) few are stands =
     let lines = nowhere_only Unread BeginsUnread unread_matches text none in
     let first : quantifier_in (before_line Unread text) ≡ Some (quantifier, rest) = ap quantifier_in (lines.0 ∙ whole) ∙ quantifier_only blanks rest quantifier all in
     rw (first, tokens_are rest words spelled, tokens_only harts ms [] words known formula few are stands, lines.1, finished_only known formula stands) refl

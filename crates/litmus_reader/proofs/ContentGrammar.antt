@@ -13,7 +13,7 @@ use Rattle.litmus_reader.specs.Marks.{before_line, from_line}
 use Rattle.litmus_reader.specs.Header.{behind_header, behind_brace}
 use Rattle.texts.specs.Pieces.{pieces}
 use Rattle.litmus_reader.specs.Locations.{Names}
-use Rattle.litmus_reader.specs.Init.{InitItems, items_at, behind_init, no_items, pieces_told}
+use Rattle.litmus_reader.specs.Init.{InitItems, items_at, behind_init, no_items, pieces_added}
 use Rattle.litmus_reader.specs.Table.{Code, Column, table_at, codes_of}
 use Rattle.litmus_reader.specs.Values.{Values, values_at, padded}
 use Rattle.litmus_reader.specs.Condition.{Condition, condition_in, condition_at}
@@ -22,38 +22,38 @@ use Rattle.litmus_reader.specs.Openings.{names_in, each_once, AreRegisters, AreF
 use Rattle.litmus_reader.specs.Columns.{Cells, IsTable}
 use Rattle.litmus_reader.specs.ConditionGrammar.{atoms_in, AreKnown}
 use Rattle.litmus_reader.specs.Grammar.{AreHarts, IsContent}
-use Rattle.litmus_reader.proofs.MeetLaws.{fewer}
+use Rattle.litmus_reader.proofs.FirstAppearances.{fewer}
 use Rattle.litmus_reader.proofs.ShapeLaws.{parts_found, parts_only}
 use Rattle.litmus_reader.proofs.LayoutLaws.{layout_found, layout_only}
 use Rattle.litmus_reader.proofs.ItemLaws.{items_found, items_only}
 use Rattle.litmus_reader.proofs.FirstValueLaws.{values_found, values_only, registers_later, words_later, registers_one, words_one}
 use Rattle.litmus_reader.proofs.ColumnLaws.{AreCodes, table_found, table_only}
-use Rattle.litmus_reader.proofs.ConditionLaws.{asked_found, asked_only}
+use Rattle.litmus_reader.proofs.ConditionLaws.{condition_found, condition_only}
 use Rattle.texts.specs.declared.pieces.Separators.TheVariants.{Byte}
 
 -- ---- harts: their code beside their registers
 
 -- the registers of all harts from this one on
 abbrev AreAllRegisters : Names → List Equation → (hart : ℕ) → List (List ℕ) → Type 0
-AreAllRegisters names puts hart [] = Unit {0}
-AreAllRegisters names puts hart (first ∷ others) = AreRegisters names puts hart first × AreAllRegisters names puts (hart + 1) others
+AreAllRegisters names equations hart [] = Unit {0}
+AreAllRegisters names equations hart (first ∷ others) = AreRegisters names equations hart first × AreAllRegisters names equations (hart + 1) others
 
-all_registers : (names : Names) (puts : List Equation) (hart : ℕ) (registers : List (List ℕ)) → ((i : ℕ) → i < length registers → AreRegisters names puts (hart + i) (slice_index_or registers i [])) → AreAllRegisters names puts hart registers
-all_registers names puts hart [] each = tt
-all_registers names puts hart (first ∷ others) each =
+all_registers : (names : Names) (equations : List Equation) (hart : ℕ) (registers : List (List ℕ)) → ((i : ℕ) → i < length registers → AreRegisters names equations (hart + i) (slice_index_or registers i [])) → AreAllRegisters names equations hart registers
+all_registers names equations hart [] each = tt
+all_registers names equations hart (first ∷ others) each =
     let here : hart + 0 ≡ hart = omega arith in
-    let P : ℕ → ℕ → Type 0 = λ h i. AreRegisters names puts h (slice_index_or (first ∷ others) i []) in (
-      subst (λ (h : ℕ). AreRegisters names puts h first) here (each 0 (omega arith)),
-      all_registers names puts (hart + 1) others (λ i less. let there : hart + suc i ≡ hart + 1 + i = omega arith in subst (λ (h : ℕ). AreRegisters names puts h (slice_index_or others i [])) there (each (suc i) (omega (arith, less)))),
+    let P : ℕ → ℕ → Type 0 = λ h i. AreRegisters names equations h (slice_index_or (first ∷ others) i []) in (
+      subst (λ (h : ℕ). AreRegisters names equations h first) here (each 0 (omega arith)),
+      all_registers names equations (hart + 1) others (λ i less. let there : hart + suc i ≡ hart + 1 + i = omega arith in subst (λ (h : ℕ). AreRegisters names equations h (slice_index_or others i [])) there (each (suc i) (omega (arith, less)))),
     )
 
-from_first : (names : Names) (puts : List Equation) (registers : List (List ℕ)) → ((i : ℕ) → i < length registers → AreRegisters names puts i (slice_index_or registers i [])) → AreAllRegisters names puts 0 registers
-from_first names puts registers each = all_registers names puts 0 registers (λ i less. let same : i ≡ 0 + i = omega arith in subst (λ (h : ℕ). AreRegisters names puts h (slice_index_or registers i [])) same (each i less))
+from_first : (names : Names) (equations : List Equation) (registers : List (List ℕ)) → ((i : ℕ) → i < length registers → AreRegisters names equations i (slice_index_or registers i [])) → AreAllRegisters names equations 0 registers
+from_first names equations registers each = all_registers names equations 0 registers (λ i less. let same : i ≡ 0 + i = omega arith in subst (λ (h : ℕ). AreRegisters names equations h (slice_index_or registers i [])) same (each i less))
 
-harts_found : (names : Names) (puts : List Equation) (rows : List Cells) (hart : ℕ) (codes : List Code) (registers : List (List ℕ)) → AreCodes rows hart codes → AreAllRegisters names puts hart registers → AreHarts names puts rows hart (with_registers codes registers)
-harts_found names puts rows hart [] registers are all = tt
-harts_found names puts rows hart (code ∷ codes) [] are all = tt
-harts_found names puts rows hart (code ∷ codes) (first ∷ registers) are all = (are.0, all.0, refl, harts_found names puts rows (hart + 1) codes registers are.1 all.1)
+harts_found : (names : Names) (equations : List Equation) (rows : List Cells) (hart : ℕ) (codes : List Code) (registers : List (List ℕ)) → AreCodes rows hart codes → AreAllRegisters names equations hart registers → AreHarts names equations rows hart (with_registers codes registers)
+harts_found names equations rows hart [] registers are all = tt
+harts_found names equations rows hart (code ∷ codes) [] are all = tt
+harts_found names equations rows hart (code ∷ codes) (first ∷ registers) are all = (are.0, all.0, refl, harts_found names equations rows (hart + 1) codes registers are.1 all.1)
 
 length-with : (codes : List Code) (registers : List (List ℕ)) → length registers ≡ length codes → length (with_registers codes registers) ≡ length codes
 length-with [] registers same = refl
@@ -63,19 +63,19 @@ length-with (code ∷ codes) (first ∷ registers) same = ap suc (length-with co
 abbrev code_of : HartContent → Code
 code_of hart = hart.code
 
-codes_found : (names : Names) (puts : List Equation) (rows : List Cells) (hart : ℕ) (harts : List HartContent) → AreHarts names puts rows hart harts → AreCodes rows hart (map code_of harts)
-codes_found names puts rows hart [] are = tt
-codes_found names puts rows hart (first ∷ others) are = (are.0, codes_found names puts rows (hart + 1) others are.3)
+codes_found : (names : Names) (equations : List Equation) (rows : List Cells) (hart : ℕ) (harts : List HartContent) → AreHarts names equations rows hart harts → AreCodes rows hart (map code_of harts)
+codes_found names equations rows hart [] are = tt
+codes_found names equations rows hart (first ∷ others) are = (are.0, codes_found names equations rows (hart + 1) others are.3)
 
 one_hart : (first : HartContent) (registers : List ℕ) → first.inbox ≡ [] → first.registers ≡ registers → record { code = first.code; registers = registers; inbox = [] } ≡ first
 one_hart first registers empty same = rw (← empty, ← same) refl
 
-harts_only : (ms : Names) (puts : List Equation) (rows : List Cells) (hart : ℕ) (harts : List HartContent) (registers : List (List ℕ)) → length registers ≡ length harts → AreHarts (each_once ms) puts rows hart harts → AreAllRegisters (each_once ms) puts hart registers → with_registers (map code_of harts) registers ≡ harts
-harts_only ms puts rows hart [] registers same are all = refl
-harts_only ms puts rows hart (first ∷ others) [] same are all = absurd (omega (arith, same))
-harts_only ms puts rows hart (first ∷ others) (next ∷ registers) same are all =
-    rw (one_hart first next are.2 (registers_one ms puts hart first.registers next are.1 all.0)) (
-    ap (λ (hs : List HartContent). first ∷ hs) (harts_only ms puts rows (hart + 1) others registers (omega (arith, same)) are.3 all.1))
+harts_only : (ms : Names) (equations : List Equation) (rows : List Cells) (hart : ℕ) (harts : List HartContent) (registers : List (List ℕ)) → length registers ≡ length harts → AreHarts (each_once ms) equations rows hart harts → AreAllRegisters (each_once ms) equations hart registers → with_registers (map code_of harts) registers ≡ harts
+harts_only ms equations rows hart [] registers same are all = refl
+harts_only ms equations rows hart (first ∷ others) [] same are all = absurd (omega (arith, same))
+harts_only ms equations rows hart (first ∷ others) (next ∷ registers) same are all =
+    rw (one_hart first next are.2 (registers_one ms equations hart first.registers next are.1 all.0)) (
+    ap (λ (hs : List HartContent). first ∷ hs) (harts_only ms equations rows (hart + 1) others registers (omega (arith, same)) are.3 all.1))
 
 -- ---- the whole, from its reading
 
@@ -98,7 +98,7 @@ asking harts names (Some text) condition e = record { text = text; begins = refl
 record Below (settings : InitItems) (codes : List Code) (o : Option (List ℕ)) (whole : Content) : Type 0 where
   values : Values
   condition : Condition
-  put : values_at (length codes) settings ≡ Ok values
+  equation : values_at (length codes) settings ≡ Ok values
   asks : condition_at (length codes) settings.names o ≡ Ok condition
   is : content codes values condition ≡ whole
 
@@ -107,7 +107,7 @@ unfolding content_below
 below_of settings codes o whole e =
     let first = bind_ok (values_at (length codes) settings) _ whole e in
     let second = bind_ok (condition_at (length codes) settings.names o) _ whole first.2 in
-    record { values = first.0; condition = second.0; put = first.1; asks = second.1; is = ok_is LitmusFault (content codes first.0 second.0) whole second.2 }
+    record { values = first.0; condition = second.0; equation = first.1; asks = second.1; is = ok_is LitmusFault (content codes first.0 second.0) whole second.2 }
 
 record Behind (settings : InitItems) (text : List ℕ) (whole : Content) : Type 0 where
   columns : List Column
@@ -130,7 +130,7 @@ record Read (text : List ℕ) (whole : Content) : Type 0 where
   rest : List ℕ
   headed : behind_header text ≡ Ok below
   braced : behind_brace below ≡ Ok inner
-  items : pieces_told no_items (pieces (Byte 59) (before (is_byte 125) inner)) ≡ Ok settings
+  items : pieces_added no_items (pieces (Byte 59) (before (is_byte 125) inner)) ≡ Ok settings
   closed : after (is_byte 125) inner ≡ Some rest
   behind : Behind settings rest whole
 
@@ -152,39 +152,39 @@ content_found text whole e =
     let harts = length behind.codes in
     let asking = asking harts read.settings.names (from_line mark.Condition read.rest) below.condition below.asks in
     let items = items_found (pieces (Byte 59) (before (is_byte 125) read.inner)) read.settings read.items in
-    let puts = items.0 in
-    let few : length (each_once (names_in puts)) ≤ 1024 = subst (λ (names : Names). length names ≤ 1024) items.2 items.3 in
+    let equations = items.0 in
+    let few : length (each_once (names_in equations)) ≤ 1024 = subst (λ (names : Names). length names ≤ 1024) items.2 items.3 in
     let table = table_found (before_line mark.Condition read.rest) behind.columns behind.codes behind.rows behind.placed in
-    let first = values_found harts puts read.settings below.values items.2 items.4 below.put in
-    let asked = asked_found harts (names_in puts) asking.text below.condition few (subst (λ (names : Names). condition_in harts names asking.text ≡ Ok below.condition) items.2 asking.reads) in
-    let more = names_in (atoms_in asked.0) in
-    let names : below.condition.names ≡ each_once (names_in puts ++ more) = asked.3 in
+    let first = values_found harts equations read.settings below.values items.2 items.4 below.equation in
+    let condition_text = condition_found harts (names_in equations) asking.text below.condition few (subst (λ (names : Names). condition_in harts names asking.text ≡ Ok below.condition) items.2 asking.reads) in
+    let more = names_in (atoms_in condition_text.0) in
+    let names : below.condition.names ≡ each_once (names_in equations ++ more) = condition_text.3 in
     let count : length (with_registers behind.codes below.values.registers) ≡ harts = length-with behind.codes below.values.registers first.1 in
-    let registers : AreAllRegisters below.condition.names puts 0 below.values.registers = subst (λ (ns : Names). AreAllRegisters ns puts 0 below.values.registers) (sym names) (from_first (each_once (names_in puts ++ more)) puts below.values.registers (λ i less. registers_later (names_in puts) more puts i (slice_index_or below.values.registers i []) (subst (λ (ns : Names). AreRegisters ns puts i (slice_index_or below.values.registers i [])) items.2 (first.2 i (omega (arith, less, first.1)))))) in
-    let words : AreFirstWords below.condition.names puts (padded (length below.condition.names) below.values.words) = subst (λ (ns : Names). AreFirstWords ns puts (padded (length ns) below.values.words)) (sym names) (words_later puts more below.values.words (subst (λ (ns : Names). AreFirstWords ns puts below.values.words) items.2 first.3)) in
+    let registers : AreAllRegisters below.condition.names equations 0 below.values.registers = subst (λ (ns : Names). AreAllRegisters ns equations 0 below.values.registers) (sym names) (from_first (each_once (names_in equations ++ more)) equations below.values.registers (λ i less. registers_later (names_in equations) more equations i (slice_index_or below.values.registers i []) (subst (λ (ns : Names). AreRegisters ns equations i (slice_index_or below.values.registers i [])) items.2 (first.2 i (omega (arith, less, first.1)))))) in
+    let words : AreFirstWords below.condition.names equations (padded (length below.condition.names) below.values.words) = subst (λ (ns : Names). AreFirstWords ns equations (padded (length ns) below.values.words)) (sym names) (words_later equations more below.values.words (subst (λ (ns : Names). AreFirstWords ns equations below.values.words) items.2 first.3)) in
     subst (IsContent text) below.is (record {
       clean = cleaned_text text;
       init = before (is_byte 125) read.inner;
       table = before_line mark.Condition read.rest;
-      asked = asking.text;
+      condition_text = asking.text;
       parts = pieces (Byte 59) (before (is_byte 125) read.inner);
-      puts = puts;
+      equations = equations;
       rows = table.0;
-      tokens = asked.0;
-      known = asked.1;
+      tokens = condition_text.0;
+      known = condition_text.1;
       cleaned = is_cleaned text;
       laid_out = layout_found (cleaned_text text) read.below read.inner read.rest asking.text read.headed read.braced read.closed asking.begins;
       parted = parts_found 59 (before (is_byte 125) read.inner);
       items = items.1;
       tabled = subst (λ (n : ℕ). IsTable (before_line mark.Condition read.rest) n table.0) (sym count) table.1;
-      harts = harts_found below.condition.names puts table.0 0 behind.codes below.values.registers table.2 registers;
-      there = subst (λ (n : ℕ). All (IsHartThere n) puts) (sym count) first.0;
-      question = asked.2;
+      harts = harts_found below.condition.names equations table.0 0 behind.codes below.values.registers table.2 registers;
+      there = subst (λ (n : ℕ). All (IsHartThere n) equations) (sym count) first.0;
+      quantified = condition_text.2;
       named = names;
-      few = asked.4;
+      few = condition_text.4;
       first_words = words;
-      all_known = subst (λ (n : ℕ). AreKnown n below.condition.names asked.0 asked.1) (sym count) asked.5;
-      condition = asked.6;
+      all_known = subst (λ (n : ℕ). AreKnown n below.condition.names condition_text.0 condition_text.1) (sym count) condition_text.5;
+      condition = condition_text.6;
     })
 
 -- ---- and back
@@ -194,21 +194,21 @@ unfolding test_at content_at content_behind content_below items_at
 content_only text whole is =
     let harts = length whole.harts in
     let more = names_in (atoms_in is.tokens) in
-    let all = names_in is.puts ++ more in
+    let all = names_in is.equations ++ more in
     let clean : cleaned_text text ≡ is.clean = only_cleaned text is.clean is.cleaned in
-    let laying = layout_only is.clean is.init is.table is.asked is.laid_out in
+    let laying = layout_only is.clean is.init is.table is.condition_text is.laid_out in
     let total : length (each_once all) ≤ 1024 = subst (λ (names : Names). length names ≤ 1024) is.named is.few in
-    let front : length (each_once (names_in is.puts)) ≤ 1024 = omega (arith, total, fewer (names_in is.puts) more) in
-    let items = items_only is.parts is.puts is.items front in
+    let front : length (each_once (names_in is.equations)) ≤ 1024 = omega (arith, total, fewer (names_in is.equations) more) in
+    let items = items_only is.parts is.equations is.items front in
     let settings = items.0 in
     let codes = map code_of whole.harts in
     let count : length codes ≡ harts = length-map whole.harts code_of in
-    let table = table_only is.table is.rows codes (subst (λ (n : ℕ). IsTable is.table n is.rows) (sym count) is.tabled) (codes_found whole.names is.puts is.rows 0 whole.harts is.harts) in
-    let put = values_only harts is.puts settings items.2 items.3 is.there in
-    let values = put.0 in
-    let first = values_found harts is.puts settings values items.2 items.3 put.1 in
-    let registers : AreAllRegisters (each_once all) is.puts 0 values.registers = from_first (each_once all) is.puts values.registers (λ i less. registers_later (names_in is.puts) more is.puts i (slice_index_or values.registers i []) (subst (λ (ns : Names). AreRegisters ns is.puts i (slice_index_or values.registers i [])) items.2 (first.2 i (omega (arith, less, first.1))))) in
-    let same_harts : with_registers codes values.registers ≡ whole.harts = harts_only all is.puts is.rows 0 whole.harts values.registers first.1 (subst (λ (ns : Names). AreHarts ns is.puts is.rows 0 whole.harts) is.named is.harts) registers in
-    let same_words : padded (length (each_once all)) values.words ≡ whole.words = words_one all is.puts _ whole.words (words_later is.puts more values.words (subst (λ (ns : Names). AreFirstWords ns is.puts values.words) items.2 first.3)) (subst (λ (ns : Names). AreFirstWords ns is.puts whole.words) is.named is.first_words) in
-    let asks : condition_in harts settings.names is.asked ≡ Ok (record { quantifier = whole.quantifier; formula = whole.condition; names = each_once all }) = subst (λ (ns : Names). condition_in harts ns is.asked ≡ Ok (record { quantifier = whole.quantifier; formula = whole.condition; names = each_once all })) (sym items.2) (asked_only harts (names_in is.puts) is.asked whole.quantifier is.tokens is.known whole.condition is.question total (subst (λ (ns : Names). AreKnown harts ns is.tokens is.known) is.named is.all_known) is.condition) in
-    rw (clean, laying.headed, laying.braced, laying.opened, parts_only 59 is.init is.parts is.parted, items.1, laying.closed, laying.above, table.1, table.2, count, put.1, laying.asks, asks, same_harts, same_words, ← is.named) refl
+    let table = table_only is.table is.rows codes (subst (λ (n : ℕ). IsTable is.table n is.rows) (sym count) is.tabled) (codes_found whole.names is.equations is.rows 0 whole.harts is.harts) in
+    let equation = values_only harts is.equations settings items.2 items.3 is.there in
+    let values = equation.0 in
+    let first = values_found harts is.equations settings values items.2 items.3 equation.1 in
+    let registers : AreAllRegisters (each_once all) is.equations 0 values.registers = from_first (each_once all) is.equations values.registers (λ i less. registers_later (names_in is.equations) more is.equations i (slice_index_or values.registers i []) (subst (λ (ns : Names). AreRegisters ns is.equations i (slice_index_or values.registers i [])) items.2 (first.2 i (omega (arith, less, first.1))))) in
+    let same_harts : with_registers codes values.registers ≡ whole.harts = harts_only all is.equations is.rows 0 whole.harts values.registers first.1 (subst (λ (ns : Names). AreHarts ns is.equations is.rows 0 whole.harts) is.named is.harts) registers in
+    let same_words : padded (length (each_once all)) values.words ≡ whole.words = words_one all is.equations _ whole.words (words_later is.equations more values.words (subst (λ (ns : Names). AreFirstWords ns is.equations values.words) items.2 first.3)) (subst (λ (ns : Names). AreFirstWords ns is.equations whole.words) is.named is.first_words) in
+    let asks : condition_in harts settings.names is.condition_text ≡ Ok (record { quantifier = whole.quantifier; formula = whole.condition; names = each_once all }) = subst (λ (ns : Names). condition_in harts ns is.condition_text ≡ Ok (record { quantifier = whole.quantifier; formula = whole.condition; names = each_once all })) (sym items.2) (condition_only harts (names_in is.equations) is.condition_text whole.quantifier is.tokens is.known whole.condition is.quantified total (subst (λ (ns : Names). AreKnown harts ns is.tokens is.known) is.named is.all_known) is.condition) in
+    rw (clean, laying.headed, laying.braced, laying.opened, parts_only 59 is.init is.parts is.parted, items.1, laying.closed, laying.above, table.1, table.2, count, equation.1, laying.asks, asks, same_harts, same_words, ← is.named) refl

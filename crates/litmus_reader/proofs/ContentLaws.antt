@@ -54,9 +54,9 @@ content_record harts words names quantifier f = record { harts = harts; words = 
 pub same_content : (first second : List HartContent) (words others : List ℕ) (names same : Names) (quantifier : Quantifier) (f : Formula) → first ≡ second → words ≡ others → names ≡ same → content_record first words names quantifier f ≡ content_record second others same quantifier f
 same_content first second words others names same quantifier f a b e = rw (a, b, e) refl
 
-pub made_content : (result : Result LitmusTest AllocError) (q : LitmusTest) (told : Content) → IfOk result (λ test. test ≡ q) → content_of q ≡ told → IfOk result (λ test. content_of test ≡ told)
-made_content (Ok test) q told is same = ap content_of is ∙ same
-made_content (Err e) q told is same = tt
+pub made_content : (result : Result LitmusTest AllocError) (q : LitmusTest) (shown : Content) → IfOk result (λ test. test ≡ q) → content_of q ≡ shown → IfOk result (λ test. content_of test ≡ shown)
+made_content (Ok test) q shown is same = ap content_of is ∙ same
+made_content (Err e) q shown is same = tt
 
 pub made_plain : (result : Result LitmusTest AllocError) (q : LitmusTest) → IfOk result (λ test. test ≡ q) → All HasPlainCode q.opening.harts → IfOk result (λ test. All HasPlainCode test.opening.harts)
 made_plain (Ok test) q is plain = subst (λ (t : LitmusTest). All HasPlainCode t.opening.harts) (sym is) plain

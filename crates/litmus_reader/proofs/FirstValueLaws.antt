@@ -16,7 +16,7 @@ use Rattle.litmus_reader.specs.Locations.{Names}
 use Rattle.litmus_reader.specs.Init.{InitItem, InitItems}
 use Rattle.litmus_reader.specs.Values.{Values, zeros, with_register, put_at, item_put, items_put, values_at, padded}
 use Rattle.litmus_reader.specs.Openings.{IsAt, IsWorth, each_once, name_of_place, name_of_value, names_in, or_else, last_put, is_register, is_location, IsFirstValue, AreRegisters, AreFirstWords, IsHartThere}
-use Rattle.litmus_reader.proofs.MeetLaws.{has, at_later, one_index, one_name, fewer, at_some, at_below, worth_later, one_worth}
+use Rattle.litmus_reader.proofs.FirstAppearances.{has, at_later, one_index, one_name, fewer, at_some, at_below, worth_later, one_worth}
 use Rattle.litmus_reader.proofs.ItemLaws.{IsSettingOf, AreSettings}
 
 -- ---- registers and words of as many harts and locations
@@ -85,19 +85,19 @@ later_wins : (names : Names) (later this : Option Value) (start between word : �
 later_wins names None this start between word same before = subst (IsValueOr names this start) (sym same) before
 later_wins names (Some value) this start between word worth before = worth
 
-first_value : (names : Names) (put : Option Value) (start word : ℕ) → start ≡ 0 → IsValueOr names put start word → IsFirstValue names put word
+first_value : (names : Names) (equation : Option Value) (start word : ℕ) → start ≡ 0 → IsValueOr names equation start word → IsFirstValue names equation word
 first_value names None start word none same = same ∙ none
 first_value names (Some value) start word none worth = worth
 
 -- a register after an item for one
-register_put : (names : Names) (put : Value) (registers : List (List ℕ)) (hart other number value n : ℕ) → IsWorth names put value → hart < length registers → n < length (slice_index_or registers hart []) → 1 ≤ n → IsValueOr names (if (other == hart) && (number == n) then Some put else None) (slice_index_or (slice_index_or registers hart []) n 0) (slice_index_or (slice_index_or (slice_set registers other (with_register number value (slice_index_or registers other []))) hart []) n 0)
-register_put names put registers hart other number value n worth here few some = elim (cases_eq other hart) [
+register_put : (names : Names) (equation : Value) (registers : List (List ℕ)) (hart other number value n : ℕ) → IsWorth names equation value → hart < length registers → n < length (slice_index_or registers hart []) → 1 ≤ n → IsValueOr names (if (other == hart) && (number == n) then Some equation else None) (slice_index_or (slice_index_or registers hart []) n 0) (slice_index_or (slice_index_or (slice_set registers other (with_register number value (slice_index_or registers other []))) hart []) n 0)
+register_put names equation registers hart other number value n worth here few some = elim (cases_eq other hart) [
   | inl same ↦ elim (cases_eq number n) [
     | inl this ↦ (
         let e : (other == hart) ≡ true = eq-eqb other hart same in
         let f : (number == n) ≡ true = eq-eqb number n this in
         let is = ap (λ (xs : List ℕ). slice_index_or xs n 0) (there same) ∙ ap (λ (k : ℕ). slice_index_or (with_register k value (slice_index_or registers hart [])) n 0) this ∙ with_same n value (slice_index_or registers hart []) some few in
-        rw (e, f) (subst (IsWorth names put) (sym is) worth))
+        rw (e, f) (subst (IsWorth names equation) (sym is) worth))
     | inr differs ↦ (
         let e : (other == hart) ≡ true = eq-eqb other hart same in
         let f : (number == n) ≡ false = ne_eqb number n differs in
@@ -121,7 +121,7 @@ left_by (Register hart register) value values more e = go (nat_lt hart (length v
   where
     go : (b : Bool) → nat_lt hart (length values.registers) ≡ b → Left (Register hart register) value values more
     go true is =
-        let told = rw is at e in
+        let shown = rw is at e in
         let same : record values { registers = slice_set values.registers hart (with_register register.number value (slice_index_or values.registers hart [])) } ≡ more = cc in
         (ltb-true hart (length values.registers) is, ap (λ (v : Values). v.registers) (sym same), ap (λ (v : Values). v.words) (sym same))
     go false isnt = (let never = rw isnt at e in absurd cc)
@@ -150,26 +150,26 @@ shaped_left harts locations (Word index) value values more shaped left =
       words = ap length left.1 ∙ length-set values.words index value ∙ shaped.words;
     }
 
-register_told : (names : Names) (put : Equation) (item : InitItem) (values more : Values) (harts locations hart n : ℕ) → IsShaped harts locations values → IsSettingOf names put item → Left item.target item.value values more → hart < harts → 1 ≤ n → n < 32 → IsValueOr names (if is_register hart n put.0 then Some put.1 else None) (at_register values hart n) (at_register more hart n)
-register_told names (in_register other register, value) item values more harts locations hart n shaped setting left here some few =
+register_added : (names : Names) (equation : Equation) (item : InitItem) (values more : Values) (harts locations hart n : ℕ) → IsShaped harts locations values → IsSettingOf names equation item → Left item.target item.value values more → hart < harts → 1 ≤ n → n < 32 → IsValueOr names (if is_register hart n equation.0 then Some equation.1 else None) (at_register values hart n) (at_register more hart n)
+register_added names (in_register other register, value) item values more harts locations hart n shaped setting left here some few =
     let is : Left (Register other register) item.value values more = subst (λ (target : Target). Left target item.value values more) setting.0 left in
     subst (λ (rs : List (List ℕ)). IsValueOr names (if (other == hart) && (register.number == n) then Some value else None) (at_register values hart n) (slice_index_or (slice_index_or rs hart []) n 0)) (sym is.1)
     (register_put names value values.registers hart other register.number item.value n setting.1 (omega (arith, shaped.all, here)) (omega (arith, shaped.counts hart here, few)) some)
-register_told names (at_location name, value) item values more harts locations hart n shaped setting left here some few =
+register_added names (at_location name, value) item values more harts locations hart n shaped setting left here some few =
     let is : Left (Word setting.0.0) item.value values more = subst (λ (target : Target). Left target item.value values more) setting.0.2 left in
     ap (λ (rs : List (List ℕ)). slice_index_or (slice_index_or rs hart []) n 0) is.0
 
-word_told : (ms : Names) (put : Equation) (item : InitItem) (values more : Values) (index : ℕ) (name : List ℕ) → length values.words ≡ length (each_once ms) → IsSettingOf (each_once ms) put item → Left item.target item.value values more → IsAt (each_once ms) name index → IsValueOr (each_once ms) (if is_location name put.0 then Some put.1 else None) (at_word values index) (at_word more index)
-word_told ms (in_register other register, value) item values more index name count setting left at =
+word_added : (ms : Names) (equation : Equation) (item : InitItem) (values more : Values) (index : ℕ) (name : List ℕ) → length values.words ≡ length (each_once ms) → IsSettingOf (each_once ms) equation item → Left item.target item.value values more → IsAt (each_once ms) name index → IsValueOr (each_once ms) (if is_location name equation.0 then Some equation.1 else None) (at_word values index) (at_word more index)
+word_added ms (in_register other register, value) item values more index name count setting left at =
     let is : Left (Register other register) item.value values more = subst (λ (target : Target). Left target item.value values more) setting.0 left in
     ap (λ (words : List ℕ). slice_index_or words index 0) is.2
-word_told ms (at_location other, value) item values more index name count setting left at = elim (cases_Bool (bytes_eq other name)) [
+word_added ms (at_location other, value) item values more index name count setting left at = elim (cases_Bool (bytes_eq other name)) [
   | inl same ↦ (
       let named : other ≡ name = (bytes_eq-Decides other name).0 same in
       let here : setting.0.0 ≡ index = one_index ms name setting.0.0 index (subst (λ (n : List ℕ). IsAt (each_once ms) n setting.0.0) named setting.0.1) at in
       let within = at_below (each_once ms) name index at in
-      let put = ap (λ (words : List ℕ). slice_index_or words index 0) is.1 ∙ ap (λ (k : ℕ). slice_index_or (slice_set values.words k item.value) index 0) here ∙ get_or-set_same values.words index item.value 0 (omega (arith, count, within)) in
-      rw same (subst (IsWorth (each_once ms) value) (sym put) setting.1))
+      let equation = ap (λ (words : List ℕ). slice_index_or words index 0) is.1 ∙ ap (λ (k : ℕ). slice_index_or (slice_set values.words k item.value) index 0) here ∙ get_or-set_same values.words index item.value 0 (omega (arith, count, within)) in
+      rw same (subst (IsWorth (each_once ms) value) (sym equation) setting.1))
   | inr differs ↦ (
       let apart : index ≡ setting.0.0 → ⊥ = λ here. absurd (both_ways (bytes_eq other name) differs ((bytes_eq-Decides other name).1 (one_name ms other name index (subst (IsAt (each_once ms) other) (sym here) setting.0.1) at))) in
       rw differs (ap (λ (words : List ℕ). slice_index_or words index 0) is.1 ∙ get_or-set_other values.words setting.0.0 index item.value 0 apart))
@@ -178,7 +178,7 @@ word_told ms (at_location other, value) item values more index name count settin
     is : Left (Word setting.0.0) item.value values more
     is = subst (λ (target : Target). Left target item.value values more) setting.0.2 left
 
-hart_there : (names : Names) (put : Equation) (item : InitItem) (values more : Values) (harts : ℕ) → length values.registers ≡ harts → IsSettingOf names put item → Left item.target item.value values more → IsHartThere harts put
+hart_there : (names : Names) (equation : Equation) (item : InitItem) (values more : Values) (harts : ℕ) → length values.registers ≡ harts → IsSettingOf names equation item → Left item.target item.value values more → IsHartThere harts equation
 hart_there names (in_register hart register, value) item values more harts count setting left =
     let is : Left (Register hart register) item.value values more = subst (λ (target : Target). Left target item.value values more) setting.0 left in
     subst (λ (n : ℕ). hart < n) count is.0
@@ -186,16 +186,16 @@ hart_there names (at_location name, value) item values more harts count setting 
 
 -- ---- all items
 
-record ArePut (ms : Names) (puts : List Equation) (harts : ℕ) (values out : Values) : Type 0 where
+record AreSet (ms : Names) (equations : List Equation) (harts : ℕ) (values out : Values) : Type 0 where
   shaped : IsShaped harts (length (each_once ms)) out
-  there : All (IsHartThere harts) puts
-  registers : (hart n : ℕ) → hart < harts → 1 ≤ n → n < 32 → IsValueOr (each_once ms) (last_put (is_register hart n) puts) (at_register values hart n) (at_register out hart n)
-  words : (index : ℕ) (name : List ℕ) → IsAt (each_once ms) name index → IsValueOr (each_once ms) (last_put (is_location name) puts) (at_word values index) (at_word out index)
+  there : All (IsHartThere harts) equations
+  registers : (hart n : ℕ) → hart < harts → 1 ≤ n → n < 32 → IsValueOr (each_once ms) (last_put (is_register hart n) equations) (at_register values hart n) (at_register out hart n)
+  words : (index : ℕ) (name : List ℕ) → IsAt (each_once ms) name index → IsValueOr (each_once ms) (last_put (is_location name) equations) (at_word values index) (at_word out index)
 
-all_put : (ms : Names) (puts : List Equation) (items : List InitItem) (harts : ℕ) (values out : Values) → IsShaped harts (length (each_once ms)) values → AreSettings (each_once ms) puts items → items_put values items ≡ Ok out → ArePut ms puts harts values out
+all_put : (ms : Names) (equations : List Equation) (items : List InitItem) (harts : ℕ) (values out : Values) → IsShaped harts (length (each_once ms)) values → AreSettings (each_once ms) equations items → items_put values items ≡ Ok out → AreSet ms equations harts values out
 all_put ms [] [] harts values out shaped settings e =
     let same : values ≡ out = ok_is LitmusFault values out e in
-    subst (ArePut ms [] harts values) same
+    subst (AreSet ms [] harts values) same
     (record {
       shaped = shaped;
       there = All-nil (IsHartThere harts);
@@ -203,39 +203,39 @@ all_put ms [] [] harts values out shaped settings e =
       words = λ index name at. refl;
     })
 all_put ms [] (item ∷ items) harts values out shaped settings e = absurd settings
-all_put ms (put ∷ puts) [] harts values out shaped settings e = absurd settings
-all_put ms (put ∷ puts) (item ∷ items) harts values out shaped settings e =
+all_put ms (equation ∷ equations) [] harts values out shaped settings e = absurd settings
+all_put ms (equation ∷ equations) (item ∷ items) harts values out shaped settings e =
     let step = bind_ok (item_put values item) (λ (more : Values). items_put more items) out e in
     let more = step.0 in
     let left = left_put item values more step.1 in
-    let next = all_put ms puts items harts more out (shaped_left harts (length (each_once ms)) item.target item.value values more shaped left) settings.1 step.2 in
+    let next = all_put ms equations items harts more out (shaped_left harts (length (each_once ms)) item.target item.value values more shaped left) settings.1 step.2 in
     record {
       shaped = next.shaped;
-      there = All-cons (IsHartThere harts) put puts (hart_there (each_once ms) put item values more harts shaped.all settings.0 left) next.there;
+      there = All-cons (IsHartThere harts) equation equations (hart_there (each_once ms) equation item values more harts shaped.all settings.0 left) next.there;
       registers = λ hart n here some few.
-          later_wins (each_once ms) (last_put (is_register hart n) puts) _ (at_register values hart n) (at_register more hart n) (at_register out hart n) (next.registers hart n here some few) (register_told (each_once ms) put item values more harts (length (each_once ms)) hart n shaped settings.0 left here some few);
+          later_wins (each_once ms) (last_put (is_register hart n) equations) _ (at_register values hart n) (at_register more hart n) (at_register out hart n) (next.registers hart n here some few) (register_added (each_once ms) equation item values more harts (length (each_once ms)) hart n shaped settings.0 left here some few);
       words = λ index name at.
-          later_wins (each_once ms) (last_put (is_location name) puts) _ (at_word values index) (at_word more index) (at_word out index) (next.words index name at) (word_told ms put item values more index name shaped.words settings.0 left at);
+          later_wins (each_once ms) (last_put (is_location name) equations) _ (at_word values index) (at_word more index) (at_word out index) (next.words index name at) (word_added ms equation item values more index name shaped.words settings.0 left at);
     }
 
-pub values_found : (harts : ℕ) (puts : List Equation) (settings : InitItems) (values : Values) → settings.names ≡ each_once (names_in puts) → AreSettings settings.names puts settings.items → values_at harts settings ≡ Ok values → All (IsHartThere harts) puts × (length values.registers ≡ harts) × ((hart : ℕ) → hart < harts → AreRegisters settings.names puts hart (slice_index_or values.registers hart [])) × AreFirstWords settings.names puts values.words
+pub values_found : (harts : ℕ) (equations : List Equation) (settings : InitItems) (values : Values) → settings.names ≡ each_once (names_in equations) → AreSettings settings.names equations settings.items → values_at harts settings ≡ Ok values → All (IsHartThere harts) equations × (length values.registers ≡ harts) × ((hart : ℕ) → hart < harts → AreRegisters settings.names equations hart (slice_index_or values.registers hart [])) × AreFirstWords settings.names equations values.words
 unfolding values_at
-values_found harts puts settings values same items e =
-    let ms = names_in puts in
-    let here = subst (λ (names : Names). AreSettings names puts settings.items) same items in
+values_found harts equations settings values same items e =
+    let ms = names_in equations in
+    let here = subst (λ (names : Names). AreSettings names equations settings.items) same items in
     let begun = subst (λ (names : Names). items_put (zeros harts (length names)) settings.items ≡ Ok values) same e in
     let start = zeros harts (length (each_once ms)) in
-    let put = all_put ms puts settings.items harts start values (zeros_shaped harts (length (each_once ms))) here begun in (
-      put.there,
-      put.shaped.all,
-      λ hart within. subst (λ (names : Names). AreRegisters names puts hart (slice_index_or values.registers hart [])) (sym same) (record {
-        count = put.shaped.counts hart within;
-        zero = put.shaped.zeros hart within;
-        others = λ n some few. first_value (each_once ms) (last_put (is_register hart n) puts) (at_register start hart n) (at_register values hart n) (zeros_at harts (length (each_once ms)) hart n within few) (put.registers hart n within some few);
+    let equation = all_put ms equations settings.items harts start values (zeros_shaped harts (length (each_once ms))) here begun in (
+      equation.there,
+      equation.shaped.all,
+      λ hart within. subst (λ (names : Names). AreRegisters names equations hart (slice_index_or values.registers hart [])) (sym same) (record {
+        count = equation.shaped.counts hart within;
+        zero = equation.shaped.zeros hart within;
+        others = λ n some few. first_value (each_once ms) (last_put (is_register hart n) equations) (at_register start hart n) (at_register values hart n) (zeros_at harts (length (each_once ms)) hart n within few) (equation.registers hart n within some few);
       }),
-      subst (λ (names : Names). AreFirstWords names puts values.words) (sym same) (record {
-        count = put.shaped.words;
-        values = λ index name at. first_value (each_once ms) (last_put (is_location name) puts) (at_word start index) (at_word values index) (get_or-replicate (length (each_once ms)) index 0 0 (at_below (each_once ms) name index at)) (put.words index name at);
+      subst (λ (names : Names). AreFirstWords names equations values.words) (sym same) (record {
+        count = equation.shaped.words;
+        values = λ index name at. first_value (each_once ms) (last_put (is_location name) equations) (at_word start index) (at_word values index) (get_or-replicate (length (each_once ms)) index 0 0 (at_below (each_once ms) name index at)) (equation.words index name at);
       }),
     )
 
@@ -246,68 +246,68 @@ put_at_hart hart register value values harts count here =
     let changed = with_register register.number value (slice_index_or values.registers hart []) in
     (record values { registers = slice_set values.registers hart changed }, rw (lt-ltb hart (length values.registers) (omega (arith, count, here))) refl, length-set values.registers hart changed ∙ count)
 
-item_there : (names : Names) (put : Equation) (item : InitItem) (values : Values) (harts : ℕ) → length values.registers ≡ harts → IsSettingOf names put item → IsHartThere harts put → (more : Values) × (item_put values item ≡ Ok more) × (length more.registers ≡ harts)
+item_there : (names : Names) (equation : Equation) (item : InitItem) (values : Values) (harts : ℕ) → length values.registers ≡ harts → IsSettingOf names equation item → IsHartThere harts equation → (more : Values) × (item_put values item ≡ Ok more) × (length more.registers ≡ harts)
 unfolding item_put
 item_there names (in_register hart register, value) item values harts count setting there =
     subst (λ (target : Target). (more : Values) × (put_at target item.value values ≡ Ok more) × (length more.registers ≡ harts)) (sym setting.0) (put_at_hart hart register item.value values harts count there)
 item_there names (at_location name, value) item values harts count setting there =
     subst (λ (target : Target). (more : Values) × (put_at target item.value values ≡ Ok more) × (length more.registers ≡ harts)) (sym setting.0.2) (record values { words = slice_set values.words setting.0.0 item.value }, refl, count)
 
-all_there : (names : Names) (puts : List Equation) (items : List InitItem) (values : Values) (harts : ℕ) → length values.registers ≡ harts → AreSettings names puts items → All (IsHartThere harts) puts → (out : Values) × (items_put values items ≡ Ok out)
+all_there : (names : Names) (equations : List Equation) (items : List InitItem) (values : Values) (harts : ℕ) → length values.registers ≡ harts → AreSettings names equations items → All (IsHartThere harts) equations → (out : Values) × (items_put values items ≡ Ok out)
 all_there names [] [] values harts count settings there = (values, refl)
 all_there names [] (item ∷ items) values harts count settings there = absurd settings
-all_there names (put ∷ puts) [] values harts count settings there = absurd settings
-all_there names (put ∷ puts) (item ∷ items) values harts count settings there =
-    let first = item_there names put item values harts count settings.0 (All-head (IsHartThere harts) put puts there) in
-    let rest = all_there names puts items first.0 harts first.2 settings.1 (All-tail (IsHartThere harts) put puts there) in
+all_there names (equation ∷ equations) [] values harts count settings there = absurd settings
+all_there names (equation ∷ equations) (item ∷ items) values harts count settings there =
+    let first = item_there names equation item values harts count settings.0 (All-head (IsHartThere harts) equation equations there) in
+    let rest = all_there names equations items first.0 harts first.2 settings.1 (All-tail (IsHartThere harts) equation equations there) in
     (rest.0, rw first.1 rest.1)
 
-pub values_only : (harts : ℕ) (puts : List Equation) (settings : InitItems) → settings.names ≡ each_once (names_in puts) → AreSettings settings.names puts settings.items → All (IsHartThere harts) puts → (values : Values) × (values_at harts settings ≡ Ok values)
+pub values_only : (harts : ℕ) (equations : List Equation) (settings : InitItems) → settings.names ≡ each_once (names_in equations) → AreSettings settings.names equations settings.items → All (IsHartThere harts) equations → (values : Values) × (values_at harts settings ≡ Ok values)
 unfolding values_at
-values_only harts puts settings same items there = all_there settings.names puts settings.items (zeros harts (length settings.names)) harts (length-replicate harts (replicate {A = ℕ} 32 0)) items there
+values_only harts equations settings same items there = all_there settings.names equations settings.items (zeros harts (length settings.names)) harts (length-replicate harts (replicate {A = ℕ} 32 0)) items there
 
 -- ---- more names change nothing
 
-first_later : (ms more : Names) (put : Option Value) (word : ℕ) → IsFirstValue (each_once ms) put word → IsFirstValue (each_once (ms ++ more)) put word
+first_later : (ms more : Names) (equation : Option Value) (word : ℕ) → IsFirstValue (each_once ms) equation word → IsFirstValue (each_once (ms ++ more)) equation word
 first_later ms more None word first = first
 first_later ms more (Some value) word first = worth_later ms more value word first
 
-pub registers_later : (ms more : Names) (puts : List Equation) (hart : ℕ) (registers : List ℕ) → AreRegisters (each_once ms) puts hart registers → AreRegisters (each_once (ms ++ more)) puts hart registers
-registers_later ms more puts hart registers are = record {
+pub registers_later : (ms more : Names) (equations : List Equation) (hart : ℕ) (registers : List ℕ) → AreRegisters (each_once ms) equations hart registers → AreRegisters (each_once (ms ++ more)) equations hart registers
+registers_later ms more equations hart registers are = record {
   count = are.count;
   zero = are.zero;
-  others = λ n some few. first_later ms more (last_put (is_register hart n) puts) (slice_index_or registers n 0) (are.others n some few);
+  others = λ n some few. first_later ms more (last_put (is_register hart n) equations) (slice_index_or registers n 0) (are.others n some few);
 }
 
 has_behind : (xs ys : Names) (name : List ℕ) → has ys name ≡ true → has (xs ++ ys) name ≡ true
 has_behind [] ys name is = is
 has_behind (x ∷ xs) ys name is = or_right (bytes_eq x name) (has (xs ++ ys) name) (has_behind xs ys name is)
 
-has_put : (put : Equation) (others : Names) (name : List ℕ) → is_location name put.0 ≡ true → has (name_of_place put.0 ++ others) name ≡ true
+has_put : (equation : Equation) (others : Names) (name : List ℕ) → is_location name equation.0 ≡ true → has (name_of_place equation.0 ++ others) name ≡ true
 has_put (in_register hart register, value) others name is = absurd (false≢true is)
 has_put (at_location other, value) others name is = or_left (bytes_eq other name) (has others name) is
 
 -- where an item puts a value, its name is one of the items'
-has_last : (puts : List Equation) (name : List ℕ) (value : Value) → last_put (is_location name) puts ≡ Some value → has (names_in puts) name ≡ true
+has_last : (equations : List Equation) (name : List ℕ) (value : Value) → last_put (is_location name) equations ≡ Some value → has (names_in equations) name ≡ true
 has_last [] name value e = absurd cc
-has_last (put ∷ puts) name value e = go (has_last puts name) (last_put (is_location name) puts) refl e
+has_last (equation ∷ equations) name value e = go (has_last equations name) (last_put (is_location name) equations) refl e
   where
-    go : ((later : Value) → last_put (is_location name) puts ≡ Some later → has (names_in puts) name ≡ true) → (later : Option Value) → last_put (is_location name) puts ≡ later → or_else later (if is_location name put.0 then Some put.1 else None) ≡ Some value → has (names_in (put ∷ puts)) name ≡ true
-    go behind (Some later) is told = has_behind (name_of_place put.0) (name_of_value put.1 ++ names_in puts) name (has_behind (name_of_value put.1) (names_in puts) name (behind later is))
-    go behind None is told = elim (cases_Bool (is_location name put.0)) [
-      | inl here ↦ has_put put (name_of_value put.1 ++ names_in puts) name here
-      | inr other ↦ absurd (let never = rw other at told in cc)
+    go : ((later : Value) → last_put (is_location name) equations ≡ Some later → has (names_in equations) name ≡ true) → (later : Option Value) → last_put (is_location name) equations ≡ later → or_else later (if is_location name equation.0 then Some equation.1 else None) ≡ Some value → has (names_in (equation ∷ equations)) name ≡ true
+    go behind (Some later) is shown = has_behind (name_of_place equation.0) (name_of_value equation.1 ++ names_in equations) name (has_behind (name_of_value equation.1) (names_in equations) name (behind later is))
+    go behind None is shown = elim (cases_Bool (is_location name equation.0)) [
+      | inl here ↦ has_put equation (name_of_value equation.1 ++ names_in equations) name here
+      | inr other ↦ absurd (let never = rw other at shown in cc)
     ]
 
--- a name that is met has an index
-at_met : (ms : Names) (name : List ℕ) → has ms name ≡ true → (index : ℕ) × IsAt (each_once ms) name index
-at_met [] name is = absurd (false≢true is)
-at_met (m ∷ ms) name is = elim (cases_Bool (bytes_eq m name)) [
+-- a name that appeared has an index
+at_resolved : (ms : Names) (name : List ℕ) → has ms name ≡ true → (index : ℕ) × IsAt (each_once ms) name index
+at_resolved [] name is = absurd (false≢true is)
+at_resolved (m ∷ ms) name is = elim (cases_Bool (bytes_eq m name)) [
   | inl same ↦ (
       let named : m ≡ name = (bytes_eq-Decides m name).0 same in
       (0, ([], without, ap (λ (first : List ℕ). first ∷ without) named, refl)))
   | inr differs ↦ (
-      let rest = at_met ms name (rw differs at is) in
+      let rest = at_resolved ms name (rw differs at is) in
       let kept : filter (λ other. not (bytes_eq m other)) (name ∷ rest.1.1) ≡ name ∷ filter (λ other. not (bytes_eq m other)) rest.1.1 = rw differs refl in
       let whole = ap (filter (λ other. not (bytes_eq m other))) rest.1.2 ∙ filter-append (λ other. not (bytes_eq m other)) rest.1.0 (name ∷ rest.1.1) ∙ ap (λ (xs : Names). filter (λ other. not (bytes_eq m other)) rest.1.0 ++ xs) kept in
       (suc (length (filter (λ other. not (bytes_eq m other)) rest.1.0)), (m ∷ filter (λ other. not (bytes_eq m other)) rest.1.0, filter (λ other. not (bytes_eq m other)) rest.1.1, ap (λ (xs : Names). m ∷ xs) whole, refl)))
@@ -316,9 +316,9 @@ at_met (m ∷ ms) name is = elim (cases_Bool (bytes_eq m name)) [
     without : Names
     without = filter (λ other. not (bytes_eq m other)) (each_once ms)
 
-pub words_later : (puts : List Equation) (more : Names) (words : List ℕ) → AreFirstWords (each_once (names_in puts)) puts words → AreFirstWords (each_once (names_in puts ++ more)) puts (padded (length (each_once (names_in puts ++ more))) words)
-words_later puts more words are = record {
-  count = length-append words (replicate (length all - length words) 0) ∙ (rw (length-replicate {A = ℕ} (length all - length words) 0) (omega (arith, are.count, fewer (names_in puts) more)));
+pub words_later : (equations : List Equation) (more : Names) (words : List ℕ) → AreFirstWords (each_once (names_in equations)) equations words → AreFirstWords (each_once (names_in equations ++ more)) equations (padded (length (each_once (names_in equations ++ more))) words)
+words_later equations more words are = record {
+  count = length-append words (replicate (length all - length words) 0) ∙ (rw (length-replicate {A = ℕ} (length all - length words) 0) (omega (arith, are.count, fewer (names_in equations) more)));
   values = λ index name at. elim (cases_lt index (length words)) [
     | inl within ↦ old index name at within
     | inr behind ↦ new index name at behind
@@ -326,45 +326,45 @@ words_later puts more words are = record {
 }
   where
     all : Names
-    all = each_once (names_in puts ++ more)
+    all = each_once (names_in equations ++ more)
 
-    old : (index : ℕ) (name : List ℕ) → IsAt all name index → index < length words → IsFirstValue all (last_put (is_location name) puts) (slice_index_or (padded (length all) words) index 0)
+    old : (index : ℕ) (name : List ℕ) → IsAt all name index → index < length words → IsFirstValue all (last_put (is_location name) equations) (slice_index_or (padded (length all) words) index 0)
     old index name at within =
-        let small = at_some (names_in puts) index (omega (arith, are.count)) in
-        let same = one_name (names_in puts ++ more) small.0 name index (at_later (names_in puts) more small.0 index small.1) at in
-        let first = are.values index name (subst (λ (n : List ℕ). IsAt (each_once (names_in puts)) n index) same small.1) in
-        subst (IsFirstValue all (last_put (is_location name) puts)) (sym (get_or_append_left words (replicate (length all - length words) 0) 0 index within)) (first_later (names_in puts) more (last_put (is_location name) puts) (slice_index_or words index 0) first)
+        let small = at_some (names_in equations) index (omega (arith, are.count)) in
+        let same = one_name (names_in equations ++ more) small.0 name index (at_later (names_in equations) more small.0 index small.1) at in
+        let first = are.values index name (subst (λ (n : List ℕ). IsAt (each_once (names_in equations)) n index) same small.1) in
+        subst (IsFirstValue all (last_put (is_location name) equations)) (sym (get_or_append_left words (replicate (length all - length words) 0) 0 index within)) (first_later (names_in equations) more (last_put (is_location name) equations) (slice_index_or words index 0) first)
 
-    new : (index : ℕ) (name : List ℕ) → IsAt all name index → length words ≤ index → IsFirstValue all (last_put (is_location name) puts) (slice_index_or (padded (length all) words) index 0)
-    new index name at behind = go (last_put (is_location name) puts) refl
+    new : (index : ℕ) (name : List ℕ) → IsAt all name index → length words ≤ index → IsFirstValue all (last_put (is_location name) equations) (slice_index_or (padded (length all) words) index 0)
+    new index name at behind = go (last_put (is_location name) equations) refl
       where
-        go : (put : Option Value) → last_put (is_location name) puts ≡ put → IsFirstValue all put (slice_index_or (padded (length all) words) index 0)
+        go : (equation : Option Value) → last_put (is_location name) equations ≡ equation → IsFirstValue all equation (slice_index_or (padded (length all) words) index 0)
         go None is =
             let within = at_below all name index at in
             get_or-append_right words (replicate (length all - length words) 0) (length words) index 0 refl behind ∙ get_or-replicate (length all - length words) (index - length words) 0 0 (omega arith)
         go (Some value) is =
-            let here = at_met (names_in puts) name (has_last puts name value is) in
-            let same = one_index (names_in puts ++ more) name here.0 index (at_later (names_in puts) more name here.0 here.1) at in
-            let within = at_below (each_once (names_in puts)) name here.0 here.1 in
+            let here = at_resolved (names_in equations) name (has_last equations name value is) in
+            let same = one_index (names_in equations ++ more) name here.0 index (at_later (names_in equations) more name here.0 here.1) at in
+            let within = at_below (each_once (names_in equations)) name here.0 here.1 in
             absurd (omega (arith, same, within, behind, are.count))
 
 -- ---- at most one list of first values
 
-one_first : (ms : Names) (put : Option Value) (v w : ℕ) → IsFirstValue (each_once ms) put v → IsFirstValue (each_once ms) put w → v ≡ w
+one_first : (ms : Names) (equation : Option Value) (v w : ℕ) → IsFirstValue (each_once ms) equation v → IsFirstValue (each_once ms) equation w → v ≡ w
 one_first ms None v w one other = one ∙ sym other
 one_first ms (Some value) v w one other = one_worth ms value v w one other
 
-pub registers_one : (ms : Names) (puts : List Equation) (hart : ℕ) (a b : List ℕ) → AreRegisters (each_once ms) puts hart a → AreRegisters (each_once ms) puts hart b → a ≡ b
-registers_one ms puts hart a b one other = ext_get_or 0 a b (one.count ∙ sym other.count) go
+pub registers_one : (ms : Names) (equations : List Equation) (hart : ℕ) (a b : List ℕ) → AreRegisters (each_once ms) equations hart a → AreRegisters (each_once ms) equations hart b → a ≡ b
+registers_one ms equations hart a b one other = ext_get_or 0 a b (one.count ∙ sym other.count) go
   where
     go : (i : ℕ) → i < length a → get_or a i 0 ≡ get_or b i 0
     go zero within = one.zero ∙ sym other.zero
-    go (suc i) within = one_first ms (last_put (is_register hart (suc i)) puts) (get_or a (suc i) 0) (get_or b (suc i) 0) (one.others (suc i) (omega arith) (omega (arith, one.count))) (other.others (suc i) (omega arith) (omega (arith, one.count)))
+    go (suc i) within = one_first ms (last_put (is_register hart (suc i)) equations) (get_or a (suc i) 0) (get_or b (suc i) 0) (one.others (suc i) (omega arith) (omega (arith, one.count))) (other.others (suc i) (omega arith) (omega (arith, one.count)))
 
-pub words_one : (ms : Names) (puts : List Equation) (a b : List ℕ) → AreFirstWords (each_once ms) puts a → AreFirstWords (each_once ms) puts b → a ≡ b
-words_one ms puts a b one other = ext_get_or 0 a b (one.count ∙ sym other.count) go
+pub words_one : (ms : Names) (equations : List Equation) (a b : List ℕ) → AreFirstWords (each_once ms) equations a → AreFirstWords (each_once ms) equations b → a ≡ b
+words_one ms equations a b one other = ext_get_or 0 a b (one.count ∙ sym other.count) go
   where
     go : (i : ℕ) → i < length a → get_or a i 0 ≡ get_or b i 0
     go i within =
         let named = at_some ms i (omega (arith, one.count)) in
-        one_first ms (last_put (is_location named.0) puts) (get_or a i 0) (get_or b i 0) (one.values i named.0 named.1) (other.values i named.0 named.1)
+        one_first ms (last_put (is_location named.0) equations) (get_or a i 0) (get_or b i 0) (one.values i named.0 named.1) (other.values i named.0 named.1)

@@ -82,14 +82,14 @@ header_tokens line (blanks, gap, rest, b, c, are, apart, solid, whole) =
     )
 
 -- the line that is read as the header
-header_read : (text init table asked : List ℕ) (laid : IsLaidOut text init table asked) → first_line (from_line mark.Visible text) ≡ laid.header
-header_read text init table asked laid =
+header_read : (text init table condition_text : List ℕ) (laid : IsLaidOut text init table condition_text) → first_line (from_line mark.Visible text) ≡ laid.header
+header_read text init table condition_text laid =
     let from = first_only mark.Visible IsVisible visible_matches text laid.blank_lines laid.headed laid.begins in
     rw from.1 (cut_only laid.headed laid.header laid.below laid.first).0
 
-name_read : (text init table asked : List ℕ) (laid : IsLaidOut text init table asked) (name : List ℕ) (others : List (List ℕ))
+name_read : (text init table condition_text : List ℕ) (laid : IsLaidOut text init table condition_text) (name : List ℕ) (others : List (List ℕ))
     → tokens laid.header ≡ codes "RISCV" ∷ name ∷ others → name_in text ≡ name
-name_read text init table asked laid name others e = rw (header_read text init table asked laid, e) refl
+name_read text init table condition_text laid name others e = rw (header_read text init table condition_text laid, e) refl
 
 -- ---- the heading
 
@@ -97,13 +97,13 @@ abbrev heading : (name condition : List ℕ) → HeadingOf
 heading name condition = record { name = name; condition = condition }
 
 record Asking (from : Option (List ℕ)) (condition : List ℕ) : Type 0 where
-  asked : List ℕ
-  begins : from ≡ Some asked
-  is : condition ≡ in_one_line asked
+  condition_text : List ℕ
+  begins : from ≡ Some condition_text
+  is : condition ≡ in_one_line condition_text
 
 asking : (from : Option (List ℕ)) (condition : List ℕ) → condition_of from ≡ Ok condition → Asking from condition
 asking None condition e = absurd cc
-asking (Some asked) condition e = record { asked = asked; begins = refl; is = sym (ok_is LitmusFault (in_one_line asked) condition e) }
+asking (Some condition_text) condition e = record { condition_text = condition_text; begins = refl; is = sym (ok_is LitmusFault (in_one_line condition_text) condition e) }
 
 some_behind : (from : Option (List ℕ)) (rest : List ℕ) → behind_init from ≡ Ok rest → from ≡ Some rest
 some_behind None rest e = absurd cc
@@ -119,16 +119,16 @@ heading_found text is e =
     let fourth = bind_ok (condition_of (from_line mark.Condition third.0)) _ is third.2 in
     let asks = asking (from_line mark.Condition third.0) fourth.0 fourth.1 in
     let closed = some_behind (after (is_byte 125) second.0) third.0 third.1 in
-    let laid = layout_found clean first.0 second.0 third.0 asks.asked first.1 second.1 closed asks.begins in
+    let laid = layout_found clean first.0 second.0 third.0 asks.condition_text first.1 second.1 closed asks.begins in
     let named = header_tokens laid.header laid.named in
     let same : heading (name_in clean) fourth.0 ≡ is = ok_is LitmusFault (heading (name_in clean) fourth.0) is fourth.2 in
     let name : named.0 ≡ is.name =
-    sym (name_read clean _ _ asks.asked laid named.0 named.1 named.2) ∙ ap (λ (h : HeadingOf). h.name) same in
+    sym (name_read clean _ _ asks.condition_text laid named.0 named.1 named.2) ∙ ap (λ (h : HeadingOf). h.name) same in
     record {
       clean = clean;
       init = before (is_byte 125) second.0;
       table = before_line mark.Condition third.0;
-      asked = asks.asked;
+      condition_text = asks.condition_text;
       others = named.1;
       cleaned = is_cleaned text;
       laid_out = laid;
@@ -140,8 +140,8 @@ pub heading_only : (text : List ℕ) (is : HeadingOf) → IsHeading text is → 
 unfolding heading_at heading_in
 heading_only text is h =
     let clean : cleaned_text text ≡ h.clean = only_cleaned text h.clean h.cleaned in
-    let laying = layout_only h.clean h.init h.table h.asked h.laid_out in
-    let name = name_read h.clean h.init h.table h.asked h.laid_out is.name h.others h.named in
+    let laying = layout_only h.clean h.init h.table h.condition_text h.laid_out in
+    let name = name_read h.clean h.init h.table h.condition_text h.laid_out is.name h.others h.named in
     rw (clean, laying.headed, laying.braced, laying.closed, laying.asks, name, ← h.asks) refl
 
 -- what a reader answers
@@ -162,12 +162,12 @@ one_heading text a b first second = ok_is LitmusFault a b (sym (heading_only tex
 pub test_headed : (text : List ℕ) (content : Content) → IsContent text content → (is : HeadingOf) × IsHeading text is
 test_headed text content c =
     let named = header_tokens c.laid_out.header c.laid_out.named in (
-      heading named.0 (in_one_line c.asked),
+      heading named.0 (in_one_line c.condition_text),
       record {
         clean = c.clean;
         init = c.init;
         table = c.table;
-        asked = c.asked;
+        condition_text = c.condition_text;
         others = named.1;
         cleaned = c.cleaned;
         laid_out = c.laid_out;

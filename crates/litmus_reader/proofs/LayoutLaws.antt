@@ -74,7 +74,7 @@ headed_found text below e = go (from_line mark.Visible text) refl e
     go : (o : Option (List ℕ)) → from_line mark.Visible text ≡ o → behind_line o ≡ Ok below → Headed text below
     go None first f = absurd cc
     go (Some headed) first f = elim (cases_Bool (is_header (before (is_byte 10) headed))) [
-      | inl named ↦ record { headed = headed; first = first; named = named; behind = (let told = rw named at f in cc) }
+      | inl named ↦ record { headed = headed; first = first; named = named; behind = (let shown = rw named at f in cc) }
       | inr other ↦ (let never = rw other at f in absurd cc)
     ]
 
@@ -105,7 +105,7 @@ braced_found text inner e = go (from_line mark.Brace text) refl e
         let opens = first_found mark.Brace (BeginsWith (codes "{")) brace_matches text braced first in
         let begun = first_begins (BeginsWith (codes "{")) text (before_line mark.Brace text) braced opens in
         let front : without_front braced ≡ 123 ∷ begun.1 = ap without_front begun.3 ∙ front_of begun.0 123 begun.1 begun.2 refl in
-        let told = rw front at f in
+        let shown = rw front at f in
         let same : begun.1 ≡ inner = cc in
         record { braced = braced; blanks = begun.0; first = first; opens = opens; indented = begun.2; whole = begun.3 ∙ ap (λ (ys : List ℕ). begun.0 ++ 123 ∷ ys) same }
 
@@ -117,8 +117,8 @@ braced_only text unread_lines braced blanks inner opens indented whole =
 
 -- ---- the layout
 
-pub layout_found : (text below inner rest asked : List ℕ) → behind_header text ≡ Ok below → behind_brace below ≡ Ok inner → after (is_byte 125) inner ≡ Some rest → from_line mark.Condition rest ≡ Some asked → IsLaidOut text (before (is_byte 125) inner) (before_line mark.Condition rest) asked
-layout_found text below inner rest asked header brace closes asks =
+pub layout_found : (text below inner rest condition_text : List ℕ) → behind_header text ≡ Ok below → behind_brace below ≡ Ok inner → after (is_byte 125) inner ≡ Some rest → from_line mark.Condition rest ≡ Some condition_text → IsLaidOut text (before (is_byte 125) inner) (before_line mark.Condition rest) condition_text
+layout_found text below inner rest condition_text header brace closes asks =
     let h = headed_found text below header in
     let b = braced_found below inner brace in
     record {
@@ -137,10 +137,10 @@ layout_found text below inner rest asked header brace closes asks =
       indented = b.indented;
       closed = has_none 125 (before (is_byte 125) inner) (before_passes_not (is_byte 125) inner);
       between = b.whole ∙ ap (λ (ys : List ℕ). b.blanks ++ 123 ∷ ys) (cut_byte 125 inner rest closes);
-      asks = first_found mark.Condition BeginsCondition condition_matches rest asked asks;
+      asks = first_found mark.Condition BeginsCondition condition_matches rest condition_text asks;
     }
 
-pub record Laying (text init table asked : List ℕ) : Type 0 where
+pub record Laying (text init table condition_text : List ℕ) : Type 0 where
   pub below : List ℕ
   pub inner : List ℕ
   pub rest : List ℕ
@@ -149,12 +149,12 @@ pub record Laying (text init table asked : List ℕ) : Type 0 where
   pub opened : before (is_byte 125) inner ≡ init
   pub closed : after (is_byte 125) inner ≡ Some rest
   pub above : before_line mark.Condition rest ≡ table
-  pub asks : from_line mark.Condition rest ≡ Some asked
+  pub asks : from_line mark.Condition rest ≡ Some condition_text
 
-pub layout_only : (text init table asked : List ℕ) → IsLaidOut text init table asked → Laying text init table asked
-layout_only text init table asked is =
+pub layout_only : (text init table condition_text : List ℕ) → IsLaidOut text init table condition_text → Laying text init table condition_text
+layout_only text init table condition_text is =
     let passes = none_passes 125 init is.closed in
-    let condition = first_only mark.Condition BeginsCondition condition_matches is.behind table asked is.asks in
+    let condition = first_only mark.Condition BeginsCondition condition_matches is.behind table condition_text is.asks in
     record {
       below = is.below;
       inner = init ++ 125 ∷ is.behind;

@@ -4,7 +4,7 @@ pub mod TableLaws
 pub mod NameLaws
 pub mod ThereLaws
 pub mod ContentLaws
-pub mod MeetLaws
+pub mod FirstAppearances
 pub mod ShapeLaws
 pub mod LayoutLaws
 pub mod ItemLaws

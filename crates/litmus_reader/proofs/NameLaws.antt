@@ -24,23 +24,23 @@ declared_names : (text : List ℕ) (place : NamedPlace) → IsDeclared text plac
 declared_names text (in_register hart register) is = tt
 declared_names text (at_location name) is = is.4
 
-setting_names : (text : List ℕ) (put : Equation) → IsSetting text put → HasNames put
-setting_names text put is = (place_names is.0 put.0 is.3, value_names is.1 put.1 is.4)
+setting_names : (text : List ℕ) (equation : Equation) → IsSetting text equation → HasNames equation
+setting_names text equation is = (place_names is.0 equation.0 is.3, value_names is.1 equation.1 is.4)
 
-item_names : (text : List ℕ) (put : Equation) → IsItem text put → HasNames put
-item_names text put is = elim is [
-  | inl setting ↦ setting_names text put setting
+item_names : (text : List ℕ) (equation : Equation) → IsItem text equation → HasNames equation
+item_names text equation is = elim is [
+  | inl setting ↦ setting_names text equation setting
   | inr other ↦ elim other [
-    | inl valued ↦ (declared_names valued.0 put.0 valued.3, value_names valued.1 put.1 valued.4)
-    | inr declared ↦ (declared_names text put.0 declared.0, subst (λ (value : Value). HasName value) (sym declared.1) tt)
+    | inl valued ↦ (declared_names valued.0 equation.0 valued.3, value_names valued.1 equation.1 valued.4)
+    | inr declared ↦ (declared_names text equation.0 declared.0, subst (λ (value : Value). HasName value) (sym declared.1) tt)
   ]
 ]
 
-pub item_location : (text : List ℕ) (put : Equation) → IsItem text put → HasLocation put.0
-item_location text put is = (item_names text put is).0
+pub item_location : (text : List ℕ) (equation : Equation) → IsItem text equation → HasLocation equation.0
+item_location text equation is = (item_names text equation is).0
 
-pub item_value : (text : List ℕ) (put : Equation) → IsItem text put → HasName put.1
-item_value text put is = (item_names text put is).1
+pub item_value : (text : List ℕ) (equation : Equation) → IsItem text equation → HasName equation.1
+item_value text equation is = (item_names text equation is).1
 
 -- ---- tokens
 
@@ -57,9 +57,9 @@ paired_named : (token : Token) (second : ℕ) (text : List ℕ) → TokenHasName
 paired_named token second [] names = tt
 paired_named token second (c ∷ rest) names = either_named (c == second) (begins token rest) no_token names tt
 
-atom_named : (o : Option Equation) (rest : List ℕ) → ((put : Equation) → o ≡ Some put → HasNames put) → Named (atom_from o rest)
+atom_named : (o : Option Equation) (rest : List ℕ) → ((equation : Equation) → o ≡ Some equation → HasNames equation) → Named (atom_from o rest)
 atom_named None rest names = tt
-atom_named (Some put) rest names = names put refl
+atom_named (Some equation) rest names = names equation refl
 
 not_named : (o : Option (List ℕ)) (other : Beginning) → Named other → Named (negation_or o other)
 not_named None other names = names
@@ -67,7 +67,7 @@ not_named (Some rest) other names = tt
 
 unmarked_named : (text : List ℕ) → Named (unmarked text)
 unfolding unmarked
-unmarked_named text = not_named (behind_not text) _ (atom_named (setting_at (before is_mark text)) (from_first is_mark text) (λ put is. setting_names (before is_mark text) put (setting_found (before is_mark text) put is)))
+unmarked_named text = not_named (behind_not text) _ (atom_named (setting_at (before is_mark text)) (from_first is_mark text) (λ equation is. setting_names (before is_mark text) equation (setting_found (before is_mark text) equation is)))
 
 begun_named : (text : List ℕ) → Named (begun text)
 unfolding begun

@@ -137,8 +137,8 @@ begun_by word text = has_token word (without_front text)
 abbrev exists_or_not : List ℕ → Bool
 exists_or_not text = begun_by (codes "exists") text || begun_by (codes "~exists") text
 
-asked_found : (text : List ℕ) → is_condition (without_front text) ≡ true → BeginsCondition text
-asked_found text h = elim (or_cases (exists_or_not text) (begun_by (codes "forall") text) h) [
+condition_found : (text : List ℕ) → is_condition (without_front text) ≡ true → BeginsCondition text
+condition_found text h = elim (or_cases (exists_or_not text) (begun_by (codes "forall") text) h) [
   | inl other ↦ elim (or_cases (begun_by (codes "exists") text) (begun_by (codes "~exists") text) other) [
     | inl exists ↦ inl (word_found (codes "exists") text exists)
     | inr never ↦ inr (inl (word_found (codes "~exists") text never))
@@ -156,7 +156,7 @@ pub condition_matches : Matches mark.Condition BeginsCondition
 unfolding begins
 condition_matches = record {
   found = λ text h. elim (or_cases (is_condition (without_front text)) (is_unread (without_front text)) h) [
-    | inl asks ↦ asked_found text asks
+    | inl asks ↦ condition_found text asks
     | inr unread ↦ inr (inr (inr (unread_found text unread)))
   ];
   only = λ text is. elim is [

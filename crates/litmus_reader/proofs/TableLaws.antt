@@ -108,14 +108,14 @@ codes_short : (columns : List Column) → AllShort (length columns) (codes_of co
 codes_short [] = (refl, tt)
 codes_short (column ∷ columns) = joined_short (length columns) (as_instr (finished column)) (codes_of columns) (instr_short (finished column) (finished_short column)) (codes_short columns)
 
-told_short : (columns : List Column) (codes : List Code) → codes_of columns ≡ Ok codes → (length codes ≡ length columns) × AreShort codes
-told_short columns codes told = let P : Result (List Code) LitmusFault → Type 0 = λ r. AllShort (length columns) r in subst P told (codes_short columns)
+answer_short : (columns : List Column) (codes : List Code) → codes_of columns ≡ Ok codes → (length codes ≡ length columns) × AreShort codes
+answer_short columns codes shown = let P : Result (List Code) LitmusFault → Type 0 = λ r. AllShort (length columns) r in subst P shown (codes_short columns)
 
 -- what is answered of the harts' words
 pub answered_count : (columns : List Column) (result : Result (Vec (Vec ℕ Global) Global) (TextError AtLeft)) → Gives fault_in instructions result (codes_of columns) → IfOk result (λ words. length words.items ≡ length columns)
-answered_count columns (Ok words) told = let counted = (told_short columns (instructions words) told).0 in simp length-map at counted
-answered_count columns (Err e) told = tt
+answered_count columns (Ok words) shown = let counted = (answer_short columns (instructions words) shown).0 in simp length-map at counted
+answered_count columns (Err e) shown = tt
 
 pub answered_short : (columns : List Column) (result : Result (Vec (Vec ℕ Global) Global) (TextError AtLeft)) → Gives fault_in instructions result (codes_of columns) → IfOk result (λ words. AreShort (instructions words))
-answered_short columns (Ok words) told = (told_short columns (instructions words) told).1
-answered_short columns (Err e) told = tt
+answered_short columns (Ok words) shown = (answer_short columns (instructions words) shown).1
+answered_short columns (Err e) shown = tt

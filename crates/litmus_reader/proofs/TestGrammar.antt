@@ -34,28 +34,28 @@ same_start a b code same =
     rw (code, registers, inbox) refl
 
 -- harts of the same instructions have the same words
-same_harts : (names : Names) (puts : List Equation) (rows : List Cells) (hart : ℕ) (xs ys : List HartStart) → AreHarts names puts rows hart (map hart_content xs) → All HasPlainCode xs → All HasPlainCode ys → map hart_content xs ≡ map hart_content ys → xs ≡ ys
-same_harts names puts rows hart [] [] are p q same = refl
-same_harts names puts rows hart [] (y ∷ ys) are p q same = absurd cc
-same_harts names puts rows hart (x ∷ xs) [] are p q same = absurd cc
-same_harts names puts rows hart (x ∷ xs) (y ∷ ys) are p q same =
+same_harts : (names : Names) (equations : List Equation) (rows : List Cells) (hart : ℕ) (xs ys : List HartStart) → AreHarts names equations rows hart (map hart_content xs) → All HasPlainCode xs → All HasPlainCode ys → map hart_content xs ≡ map hart_content ys → xs ≡ ys
+same_harts names equations rows hart [] [] are p q same = refl
+same_harts names equations rows hart [] (y ∷ ys) are p q same = absurd cc
+same_harts names equations rows hart (x ∷ xs) [] are p q same = absurd cc
+same_harts names equations rows hart (x ∷ xs) (y ∷ ys) are p q same =
     let first : hart_content x ≡ hart_content y = cc in
     let rest : map hart_content xs ≡ map hart_content ys = cc in
     let instrs = are.0.1 in
     let meant = are.0.4 in
     let code = one_code x.code y.code instrs (All-head HasPlainCode x xs p) (All-head HasPlainCode y ys q) meant (sym (ap (λ (h : HartContent). h.code) first) ∙ meant) in
-    rw (same_start x y code first, same_harts names puts rows (hart + 1) xs ys are.3 (All-tail HasPlainCode x xs p) (All-tail HasPlainCode y ys q) rest) refl
+    rw (same_start x y code first, same_harts names equations rows (hart + 1) xs ys are.3 (All-tail HasPlainCode x xs p) (All-tail HasPlainCode y ys q) rest) refl
 
-same_question : (xs ys : List HartStart) (words others : List ℕ) (names more : Names) (q r : Quantifier) (f g : Formula) → xs ≡ ys → words ≡ others → names ≡ more → q ≡ r → f ≡ g → question_of xs words names q f ≡ question_of ys others more r g
-same_question xs ys words others names more q r f g a b c d e = rw (a, b, c, d, e) refl
+same_test : (xs ys : List HartStart) (words others : List ℕ) (names more : Names) (q r : Quantifier) (f g : Formula) → xs ≡ ys → words ≡ others → names ≡ more → q ≡ r → f ≡ g → question_of xs words names q f ≡ question_of ys others more r g
+same_test xs ys words others names more q r f g a b c d e = rw (a, b, c, d, e) refl
 
 pub one_test : (text : List ℕ) (a b : LitmusTest) → IsTestOf text a → IsTestOf text b → a ≡ b
 unfolding IsTestOf
 one_test text a b first second =
     let same = one_content text (content_of a) (content_of b) first.0 second.0 in
     let is = first.0 in
-    let harts = same_harts a.names is.puts is.rows 0 a.opening.harts b.opening.harts is.harts first.1 second.1 (ap (λ (c : Content). c.harts) same) in
-    same_question a.opening.harts b.opening.harts a.opening.words b.opening.words a.names b.names a.quantifier b.quantifier a.condition b.condition harts
+    let harts = same_harts a.names is.equations is.rows 0 a.opening.harts b.opening.harts is.harts first.1 second.1 (ap (λ (c : Content). c.harts) same) in
+    same_test a.opening.harts b.opening.harts a.opening.words b.opening.words a.names b.names a.quantifier b.quantifier a.condition b.condition harts
     (ap (λ (c : Content). c.words) same) (ap (λ (c : Content). c.names) same) (ap (λ (c : Content). c.quantifier) same) (ap (λ (c : Content). c.condition) same)
 
 -- ---- what `read` answers
@@ -65,11 +65,11 @@ unfolding IsTestOf
 found_test text (Ok test) e plain = (content_found text (content_of test) e, plain)
 found_test text (Err error) e plain = tt
 
-pub only_test : (text : List ℕ) (question : LitmusTest) (result : Result LitmusTest (TextError (AtLine LitmusFault))) → Gives fault_of content_of result (test_at text) → IfOk result (λ test. All HasPlainCode test.opening.harts) → IsTestOf text question → Gives fault_of (λ (test : LitmusTest). test) result (Ok question)
+pub only_test : (text : List ℕ) (whole : LitmusTest) (result : Result LitmusTest (TextError (AtLine LitmusFault))) → Gives fault_of content_of result (test_at text) → IfOk result (λ test. All HasPlainCode test.opening.harts) → IsTestOf text whole → Gives fault_of (λ (test : LitmusTest). test) result (Ok whole)
 unfolding IsTestOf
-only_test text question (Ok test) e plain is = ap (λ (t : LitmusTest). Ok t) (one_test text question test is (found_test text (Ok test) e plain))
-only_test text question (Err NoMemory) e plain is = tt
-only_test text question (Err (Refused refusal)) e plain is = absurd (let read = content_only text (content_of question) is.0 in cc)
+only_test text whole (Ok test) e plain is = ap (λ (t : LitmusTest). Ok t) (one_test text whole test is (found_test text (Ok test) e plain))
+only_test text whole (Err NoMemory) e plain is = tt
+only_test text whole (Err (Refused refusal)) e plain is = absurd (let read = content_only text (content_of whole) is.0 in cc)
 
 -- ---- read, or refused
 

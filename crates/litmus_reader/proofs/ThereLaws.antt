@@ -18,16 +18,16 @@ use Rattle.litmus.proofs.FrontLaws.{finished_found}
 use Rattle.litmus_tokens.specs.Settings as setting
 use Rattle.litmus_tokens.specs.Tokens as token
 use Rattle.litmus_tokens.specs.Tokens.{Tokens, tokens_of}
-use Rattle.litmus_reader.specs.declared.condition.Question.{Question}
+use Rattle.litmus_reader.specs.declared.condition.FinalCondition.{FinalCondition}
 use Rattle.litmus_reader.specs.declared.faults.LitmusFault.{LitmusFault}
 use Rattle.texts.specs.declared.errors.TextError.{TextError}
 use Rattle.litmus_reader.specs.declared.refusals.AtLeft.{AtLeft}
 use Rattle.litmus_reader.specs.declared.marks.Mark.TheVariants.{Unread}
 use Rattle.litmus_reader.specs.Faults.{fault_in}
 use Rattle.litmus_reader.specs.Marks.{before_line, from_line}
-use Rattle.litmus_reader.specs.Locations.{Names, index_from, met, value_met}
+use Rattle.litmus_reader.specs.Locations.{Names, index_from, resolved, value_resolved}
 use Rattle.litmus_reader.specs.Locations as locations
-use Rattle.litmus_reader.specs.Condition.{Quantified, ConditionSoFar, Condition, quantifier_in, place_met, atom_met, token_met, as_condition, tokens_told, none_unread, behind_quantifier, condition_in, condition_of}
+use Rattle.litmus_reader.specs.Condition.{Quantified, ConditionSoFar, Condition, quantifier_in, place_resolved, atom_resolved, token_resolved, as_condition, tokens_added, none_unread, behind_quantifier, condition_in, condition_of}
 
 -- ---- symbols whose places are there
 
@@ -101,51 +101,51 @@ index_within n at [] name few = tt
 index_within n at (other ∷ others) name few = within_if n at (bytes_eq other name) (index_from (at + 1) others name) (omega arith) (index_within n (at + 1) others name (omega arith))
 
 -- the location is among the names, which are no fewer than before
-abbrev pub Met : Names → (ℕ × Names) → Type 0
-Met names found = (found.0 < length found.1) × (length names ≤ length found.1)
+abbrev pub Resolved : Names → (ℕ × Names) → Type 0
+Resolved names found = (found.0 < length found.1) × (length names ≤ length found.1)
 
-new_met : (names : Names) (name : List ℕ) (b : Bool) (e : LitmusFault) → IfOk (if b then Ok (length names, names ++ name ∷ []) else Err e) (Met names)
-new_met names name true e = (omega (arith, length-append names (name ∷ [])), omega (arith, length-append names (name ∷ [])))
-new_met names name false e = tt
+new_resolved : (names : Names) (name : List ℕ) (b : Bool) (e : LitmusFault) → IfOk (if b then Ok (length names, names ++ name ∷ []) else Err e) (Resolved names)
+new_resolved names name true e = (omega (arith, length-append names (name ∷ [])), omega (arith, length-append names (name ∷ [])))
+new_resolved names name false e = tt
 
-joined_met : (names : Names) (name : List ℕ) (o : Option ℕ) → Within (length names) o → IfOk (locations.joined names name o) (Met names)
-joined_met names name None within = new_met names name (nat_lt (length names) 1024) _
-joined_met names name (Some i) within = (within, omega arith)
+joined_resolved : (names : Names) (name : List ℕ) (o : Option ℕ) → Within (length names) o → IfOk (locations.joined names name o) (Resolved names)
+joined_resolved names name None within = new_resolved names name (nat_lt (length names) 1024) _
+joined_resolved names name (Some i) within = (within, omega arith)
 
-met_there : (names : Names) (name : List ℕ) → IfOk (met names name) (Met names)
-unfolding met
-met_there names name = joined_met names name (index_from 0 names name) (index_within (length names) 0 names name (omega arith))
+resolved_there : (names : Names) (name : List ℕ) → IfOk (resolved names name) (Resolved names)
+unfolding resolved
+resolved_there names name = joined_resolved names name (index_from 0 names name) (index_within (length names) 0 names name (omega arith))
 
 abbrev Kept : Names → (ℕ × Names) → Type 0
 Kept names found = length names ≤ length found.1
 
-value_kept : (names : Names) (v : setting.Value) → IfOk (value_met names v) (Kept names)
-unfolding value_met
+value_kept : (names : Names) (v : setting.Value) → IfOk (value_resolved names v) (Kept names)
+unfolding value_resolved
 value_kept names (setting.Value.number n) = omega arith
-value_kept names (setting.Value.address_of name) = after_ok (Met names) (Kept names) (met names name) _ (met_there names name) (λ found there. there.1)
+value_kept names (setting.Value.address_of name) = after_ok (Resolved names) (Kept names) (resolved names name) _ (resolved_there names name) (λ found there. there.1)
 
-abbrev PlaceMet : ℕ → Names → (Place × Names) → Type 0
-PlaceMet harts names found = IsThere harts (length found.1) found.0 × (length names ≤ length found.1)
+abbrev PlaceResolved : ℕ → Names → (Place × Names) → Type 0
+PlaceResolved harts names found = IsThere harts (length found.1) found.0 × (length names ≤ length found.1)
 
-register_met : (harts hart : ℕ) (names : Names) (register : Reg) (b : Bool) (e : LitmusFault) → nat_lt hart harts ≡ b → IfOk (if b then Ok (place.Register hart register.number, names) else Err e) (PlaceMet harts names)
-register_met harts hart names register true e within = ((ltb-true hart harts within, register.below_32), omega arith)
-register_met harts hart names register false e within = tt
+register_resolved : (harts hart : ℕ) (names : Names) (register : Reg) (b : Bool) (e : LitmusFault) → nat_lt hart harts ≡ b → IfOk (if b then Ok (place.Register hart register.number, names) else Err e) (PlaceResolved harts names)
+register_resolved harts hart names register true e within = ((ltb-true hart harts within, register.below_32), omega arith)
+register_resolved harts hart names register false e within = tt
 
-place_there : (harts : ℕ) (names : Names) (p : setting.NamedPlace) → IfOk (place_met harts names p) (PlaceMet harts names)
-unfolding place_met
-place_there harts names (setting.NamedPlace.in_register hart register) = register_met harts hart names register (nat_lt hart harts) _ refl
-place_there harts names (setting.NamedPlace.at_location name) = after_ok (Met names) (PlaceMet harts names) (met names name) _ (met_there names name) (λ found there. ((omega arith, omega (arith, there.0)), there.1))
+place_there : (harts : ℕ) (names : Names) (p : setting.NamedPlace) → IfOk (place_resolved harts names p) (PlaceResolved harts names)
+unfolding place_resolved
+place_there harts names (setting.NamedPlace.in_register hart register) = register_resolved harts hart names register (nat_lt hart harts) _ refl
+place_there harts names (setting.NamedPlace.at_location name) = after_ok (Resolved names) (PlaceResolved harts names) (resolved names name) _ (resolved_there names name) (λ found there. ((omega arith, omega (arith, there.0)), there.1))
 
-abbrev TokenMet : ℕ → Names → (Symbol × Names) → Type 0
-TokenMet harts names found = TokenThere harts (length found.1) found.0 × (length names ≤ length found.1)
+abbrev TokenResolved : ℕ → Names → (Symbol × Names) → Type 0
+TokenResolved harts names found = TokenThere harts (length found.1) found.0 × (length names ≤ length found.1)
 
-atom_there : (harts : ℕ) (names : Names) (put : setting.Equation) → IfOk (atom_met harts names put) (TokenMet harts names)
-unfolding atom_met
-atom_there harts names put = after_ok (PlaceMet harts names) (TokenMet harts names) (place_met harts names put.0) _ (place_there harts names put.0) (λ asked here. after_ok (Kept asked.1) (TokenMet harts names) (value_met asked.1 put.1) _ (value_kept asked.1 put.1) (λ value kept. (place_more harts (length asked.1) (length value.1) asked.0 kept here.0, omega (arith, kept, here.1))))
+atom_there : (harts : ℕ) (names : Names) (equation : setting.Equation) → IfOk (atom_resolved harts names equation) (TokenResolved harts names)
+unfolding atom_resolved
+atom_there harts names equation = after_ok (PlaceResolved harts names) (TokenResolved harts names) (place_resolved harts names equation.0) _ (place_there harts names equation.0) (λ spot here. after_ok (Kept spot.1) (TokenResolved harts names) (value_resolved spot.1 equation.1) _ (value_kept spot.1 equation.1) (λ value kept. (place_more harts (length spot.1) (length value.1) spot.0 kept here.0, omega (arith, kept, here.1))))
 
-token_there : (harts : ℕ) (names : Names) (t : token.Token) → IfOk (token_met harts names t) (TokenMet harts names)
-unfolding token_met
-token_there harts names (token.Token.atom put) = atom_there harts names put
+token_there : (harts : ℕ) (names : Names) (t : token.Token) → IfOk (token_resolved harts names t) (TokenResolved harts names)
+unfolding token_resolved
+token_there harts names (token.Token.atom equation) = atom_there harts names equation
 token_there harts names token.Token.negation = (tt, omega arith)
 token_there harts names token.Token.conjunction = (tt, omega arith)
 token_there harts names token.Token.disjunction = (tt, omega arith)
@@ -155,7 +155,7 @@ token_there harts names token.Token.closing = (tt, omega arith)
 -- ---- all tokens of a condition
 
 abbrev Fine : (harts : ℕ) → Names → ConditionSoFar → Type 0
-Fine harts names asked = AllThere harts (length asked.1) asked.0 × (length names ≤ length asked.1)
+Fine harts names gathered = AllThere harts (length gathered.1) gathered.0 × (length names ≤ length gathered.1)
 
 pushed : (harts n : ℕ) (words : List Symbol) (t : Symbol) (o : Option Stage) → AllThere harts n words → TokenThere harts n t → IfOk (as_condition (or_misplaced (with_symbol words t o))) (λ more. AllThere harts n more)
 pushed harts n words t None there last = tt
@@ -165,17 +165,17 @@ symbol_there : (harts n : ℕ) (words : List Symbol) (t : Symbol) → AllThere h
 unfolding symbol_added
 symbol_there harts n words t there last = pushed harts n words t (stage_after (words ++ t ∷ [])) there last
 
-tokens_there : (harts : ℕ) (names : Names) (so_far : ConditionSoFar) (words : Tokens) → Fine harts names so_far → IfOk (tokens_told harts so_far words) (Fine harts names)
+tokens_there : (harts : ℕ) (names : Names) (so_far : ConditionSoFar) (words : Tokens) → Fine harts names so_far → IfOk (tokens_added harts so_far words) (Fine harts names)
 tokens_there harts names so_far token.Tokens.ended fine = fine
 tokens_there harts names so_far token.Tokens.broken fine = tt
 tokens_there harts names so_far (token.Tokens.goes_on first others) fine =
-    after_ok (TokenMet harts so_far.1) (Fine harts names) (token_met harts so_far.1 first) _ (token_there harts so_far.1 first) (λ known here.
+    after_ok (TokenResolved harts so_far.1) (Fine harts names) (token_resolved harts so_far.1 first) _ (token_there harts so_far.1 first) (λ known here.
     after_ok (λ more. AllThere harts (length known.1) more) (Fine harts names) (as_condition (symbol_added so_far.0 known.0)) _
     (symbol_there harts (length known.1) so_far.0 known.0 (all_more harts (length so_far.1) (length known.1) so_far.0 here.1 fine.0) here.0)
     (λ more there. tokens_there harts names (more, known.1) others (there, omega (arith, here.1, fine.1))))
 
 abbrev pub AsksThere : (harts : ℕ) → Names → Condition → Type 0
-AsksThere harts names asked = All (IsThere harts (length asked.names)) (places asked.formula) × (length names ≤ length asked.names)
+AsksThere harts names condition = All (IsThere harts (length condition.names)) (places condition.formula) × (length names ≤ length condition.names)
 
 finished_there : (harts n : ℕ) (words : List Symbol) (r : Result Formula (Unit {0})) → finished words ≡ r → AllThere harts n words → IfOk (as_condition r) (λ f. All (IsThere harts n) (places f))
 finished_there harts n words (Ok f) done there = formula_there harts n disjunction words f (finished_found words f done) there
@@ -184,9 +184,9 @@ finished_there harts n words (Err misplaced) done there = tt
 behind_there : (harts : ℕ) (names : Names) (text : List ℕ) (o : Option Quantified) → IfOk (behind_quantifier harts names text o) (AsksThere harts names)
 behind_there harts names text None = tt
 behind_there harts names text (Some quantified) =
-    after_ok (Fine harts names) (AsksThere harts names) (tokens_told harts ([], names) (tokens_of quantified.1)) _ (tokens_there harts names ([], names) (tokens_of quantified.1) (tt, omega arith)) (λ asked fine.
+    after_ok (Fine harts names) (AsksThere harts names) (tokens_added harts ([], names) (tokens_of quantified.1)) _ (tokens_there harts names ([], names) (tokens_of quantified.1) (tt, omega arith)) (λ gathered fine.
     after_ok (λ _. Unit {0}) (AsksThere harts names) (none_unread (from_line Unread text)) _ (none_fine (from_line Unread text)) (λ end _.
-    after_ok (λ f. All (IsThere harts (length asked.1)) (places f)) (AsksThere harts names) (as_condition (finished asked.0)) _ (finished_there harts (length asked.1) asked.0 (finished asked.0) refl fine.0) (λ f there. (there, fine.1))))
+    after_ok (λ f. All (IsThere harts (length gathered.1)) (places f)) (AsksThere harts names) (as_condition (finished gathered.0)) _ (finished_there harts (length gathered.1) gathered.0 (finished gathered.0) refl fine.0) (λ f there. (there, fine.1))))
   where
     none_fine : (o : Option (List ℕ)) → IfOk (none_unread o) (λ _. Unit {0})
     none_fine None = tt
@@ -196,13 +196,13 @@ condition_there : (harts : ℕ) (names : Names) (text : List ℕ) → IfOk (cond
 unfolding condition_in
 condition_there harts names text = behind_there harts names text (quantifier_in (before_line Unread text))
 
-told_there_of : (harts : ℕ) (names : Names) (text : List ℕ) (asked : Condition) → condition_in harts names text ≡ Ok asked → AsksThere harts names asked
-told_there_of harts names text asked read = let P : Result Condition LitmusFault → Type 0 = λ r. IfOk r (AsksThere harts names) in subst P read (condition_there harts names text)
+there_of : (harts : ℕ) (names : Names) (text : List ℕ) (condition : Condition) → condition_in harts names text ≡ Ok condition → AsksThere harts names condition
+there_of harts names text condition read = let P : Result Condition LitmusFault → Type 0 = λ r. IfOk r (AsksThere harts names) in subst P read (condition_there harts names text)
 
-pub answered_there : (harts : ℕ) (old new : Names) (text : List ℕ) (result : Result Question (TextError AtLeft)) → Gives fault_in (condition_of new) result (condition_in harts old text) → IfOk result (λ asked. All (IsThere harts (length new)) (places asked.condition))
-answered_there harts old new text (Ok asked) read = (told_there_of harts old text (condition_of new asked) read).0
+pub answered_there : (harts : ℕ) (old new : Names) (text : List ℕ) (result : Result FinalCondition (TextError AtLeft)) → Gives fault_in (condition_of new) result (condition_in harts old text) → IfOk result (λ condition. All (IsThere harts (length new)) (places condition.condition))
+answered_there harts old new text (Ok condition) read = (there_of harts old text (condition_of new condition) read).0
 answered_there harts old new text (Err e) read = tt
 
-pub answered_more : (harts : ℕ) (old new : Names) (text : List ℕ) (result : Result Question (TextError AtLeft)) → Gives fault_in (condition_of new) result (condition_in harts old text) → IfOk result (λ asked. length old ≤ length new)
-answered_more harts old new text (Ok asked) read = (told_there_of harts old text (condition_of new asked) read).1
+pub answered_more : (harts : ℕ) (old new : Names) (text : List ℕ) (result : Result FinalCondition (TextError AtLeft)) → Gives fault_in (condition_of new) result (condition_in harts old text) → IfOk result (λ condition. length old ≤ length new)
+answered_more harts old new text (Ok condition) read = (there_of harts old text (condition_of new condition) read).1
 answered_more harts old new text (Err e) read = tt

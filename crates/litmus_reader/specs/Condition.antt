@@ -14,12 +14,12 @@ use Rattle.litmus_tokens.specs.Settings as setting
 use Rattle.litmus_tokens.specs.Tokens as token
 use Rattle.litmus_tokens.specs.Tokens.{Tokens, tokens_of}
 use Rattle.litmus_reader.specs.declared.condition.Quantified as code
-use Rattle.litmus_reader.specs.declared.condition.Question as question
+use Rattle.litmus_reader.specs.declared.condition.FinalCondition as final_condition
 use Rattle.litmus_reader.specs.declared.faults.LitmusFault.{LitmusFault}
 use Rattle.litmus_reader.specs.declared.faults.LitmusFault.TheVariants.{BadCondition}
 use Rattle.litmus_reader.specs.declared.marks.Mark.TheVariants.{Unread}
 use Rattle.litmus_reader.specs.Marks.{has_token, before_line, from_line}
-use Rattle.litmus_reader.specs.Locations.{Names, met, value_met, HasNames}
+use Rattle.litmus_reader.specs.Locations.{Names, resolved, value_resolved, HasNames}
 
 -- the quantifier and what follows it
 abbrev pub Quantified : Type 0
@@ -37,26 +37,26 @@ unfoldable pub quantifier_in : List ℕ → Option Quantified
 quantifier_in text = quantifier_of (without_front text)
 
 -- the place that an atom asks for; its hart has to be there
-unfoldable pub place_met : (harts : ℕ) → Names → setting.NamedPlace → Result (Place × Names) LitmusFault
-place_met harts names (setting.NamedPlace.in_register hart register) = if nat_lt hart harts then Ok (place.Register hart register.number, names) else Err BadCondition
-place_met harts names (setting.NamedPlace.at_location name) = do
-  found ← met names name
+unfoldable pub place_resolved : (harts : ℕ) → Names → setting.NamedPlace → Result (Place × Names) LitmusFault
+place_resolved harts names (setting.NamedPlace.in_register hart register) = if nat_lt hart harts then Ok (place.Register hart register.number, names) else Err BadCondition
+place_resolved harts names (setting.NamedPlace.at_location name) = do
+  found ← resolved names name
   Ok (place.Word (4 * found.0), found.1)
 
-unfoldable pub atom_met : (harts : ℕ) → Names → setting.Equation → Result (Symbol × Names) LitmusFault
-atom_met harts names put = do
-  asked ← place_met harts names put.0
-  value ← value_met asked.1 put.1
-  Ok (symbol.Is asked.0 value.0, value.1)
+unfoldable pub atom_resolved : (harts : ℕ) → Names → setting.Equation → Result (Symbol × Names) LitmusFault
+atom_resolved harts names equation = do
+  spot ← place_resolved harts names equation.0
+  value ← value_resolved spot.1 equation.1
+  Ok (symbol.Is spot.0 value.0, value.1)
 
 -- the token with its place known, a symbol
-unfoldable pub token_met : (harts : ℕ) → Names → token.Token → Result (Symbol × Names) LitmusFault
-token_met harts names (token.Token.atom put) = atom_met harts names put
-token_met harts names token.Token.negation = Ok (symbol.Not, names)
-token_met harts names token.Token.conjunction = Ok (symbol.And, names)
-token_met harts names token.Token.disjunction = Ok (symbol.Or, names)
-token_met harts names token.Token.opening = Ok (symbol.Open, names)
-token_met harts names token.Token.closing = Ok (symbol.Close, names)
+unfoldable pub token_resolved : (harts : ℕ) → Names → token.Token → Result (Symbol × Names) LitmusFault
+token_resolved harts names (token.Token.atom equation) = atom_resolved harts names equation
+token_resolved harts names token.Token.negation = Ok (symbol.Not, names)
+token_resolved harts names token.Token.conjunction = Ok (symbol.And, names)
+token_resolved harts names token.Token.disjunction = Ok (symbol.Or, names)
+token_resolved harts names token.Token.opening = Ok (symbol.Open, names)
+token_resolved harts names token.Token.closing = Ok (symbol.Close, names)
 
 -- what the condition's own reader refuses
 abbrev pub as_condition : {A : Type 0} → Result A (Unit {0}) → Result A LitmusFault
@@ -67,13 +67,13 @@ abbrev pub ConditionSoFar : Type 0
 ConditionSoFar = List Symbol × Names
 
 -- all tokens of a text, after those so far
-abbrev pub tokens_told : (harts : ℕ) → ConditionSoFar → Tokens → Result ConditionSoFar LitmusFault
-tokens_told harts so_far token.Tokens.ended = Ok so_far
-tokens_told harts so_far token.Tokens.broken = Err BadCondition
-tokens_told harts so_far (token.Tokens.goes_on first others) = do
-  known ← token_met harts so_far.1 first
+abbrev pub tokens_added : (harts : ℕ) → ConditionSoFar → Tokens → Result ConditionSoFar LitmusFault
+tokens_added harts so_far token.Tokens.ended = Ok so_far
+tokens_added harts so_far token.Tokens.broken = Err BadCondition
+tokens_added harts so_far (token.Tokens.goes_on first others) = do
+  known ← token_resolved harts so_far.1 first
   more ← as_condition (symbol_added so_far.0 known.0)
-  tokens_told harts (more, known.1) others
+  tokens_added harts (more, known.1) others
 
 abbrev pub none_unread : Option (List ℕ) → Result (Unit {0}) LitmusFault
 none_unread None = Ok tt
@@ -88,10 +88,10 @@ pub record Condition : Type 0 where
 abbrev pub behind_quantifier : (harts : ℕ) → Names → List ℕ → Option Quantified → Result Condition LitmusFault
 behind_quantifier harts names text None = Err BadCondition
 behind_quantifier harts names text (Some quantified) = do
-  asked ← tokens_told harts ([], names) (tokens_of quantified.1)
+  gathered ← tokens_added harts ([], names) (tokens_of quantified.1)
   end ← none_unread (from_line Unread text)
-  formula ← as_condition (finished asked.0)
-  Ok (record { quantifier = quantified.0; formula = formula; names = asked.1 })
+  formula ← as_condition (finished gathered.0)
+  Ok (record { quantifier = quantified.0; formula = formula; names = gathered.1 })
 
 -- the condition in a text, where the init part has these names; no line of it may be one of a part that
 -- isn't read
@@ -109,12 +109,12 @@ abbrev pub quantified_of : Option code.Quantified → Option Quantified
 quantified_of None = None
 quantified_of (Some quantified) = Some (quantified.quantifier, quantified.tokens.now)
 
-abbrev pub condition_of : Names → question.Question → Condition
-condition_of names asked = record { quantifier = asked.quantifier; formula = asked.condition; names = names }
+abbrev pub condition_of : Names → final_condition.FinalCondition → Condition
+condition_of names final = record { quantifier = final.quantifier; formula = final.condition; names = names }
 
 -- the locations in a token have the shapes of names
 abbrev pub TokenHasNames : token.Token → Type 0
-TokenHasNames (token.Token.atom put) = HasNames put
+TokenHasNames (token.Token.atom equation) = HasNames equation
 TokenHasNames token.Token.negation = Unit {0}
 TokenHasNames token.Token.conjunction = Unit {0}
 TokenHasNames token.Token.disjunction = Unit {0}

@@ -22,13 +22,13 @@ token_for NotExists = codes "~exists"
 token_for ForAll = codes "forall"
 
 -- the quantifier, and tokens up to the text's end; none of its lines is one of a part that isn't read
-abbrev pub IsQuestion : List ℕ → Quantifier → List token.Token → Type 0
-IsQuestion text quantifier tokens = (blanks rest : List ℕ) × AreBlanks blanks × (text ≡ blanks ++ (token_for quantifier ++ rest)) × AreTokens rest tokens × NoneBegins BeginsUnread text
+abbrev pub IsFinalCondition : List ℕ → Quantifier → List token.Token → Type 0
+IsFinalCondition text quantifier tokens = (blanks rest : List ℕ) × AreBlanks blanks × (text ≡ blanks ++ (token_for quantifier ++ rest)) × AreTokens rest tokens × NoneBegins BeginsUnread text
 
 -- the atoms among the tokens
 abbrev pub atoms_in : List token.Token → List Equation
 atoms_in [] = []
-atoms_in (token.Token.atom put ∷ tokens) = put ∷ atoms_in tokens
+atoms_in (token.Token.atom equation ∷ tokens) = equation ∷ atoms_in tokens
 atoms_in (token.Token.negation ∷ tokens) = atoms_in tokens
 atoms_in (token.Token.conjunction ∷ tokens) = atoms_in tokens
 atoms_in (token.Token.disjunction ∷ tokens) = atoms_in tokens
@@ -42,7 +42,7 @@ IsPlaceOf harts names (setting.NamedPlace.at_location name) at = (index : ℕ) �
 
 -- the token, with places and numbers for names
 abbrev pub IsKnown : (harts : ℕ) → Names → token.Token → Symbol → Type 0
-IsKnown harts names (token.Token.atom put) known = (at : Place) × (value : ℕ) × IsPlaceOf harts names put.0 at × IsWorth names put.1 value × (known ≡ symbol.Is at value)
+IsKnown harts names (token.Token.atom equation) known = (at : Place) × (value : ℕ) × IsPlaceOf harts names equation.0 at × IsWorth names equation.1 value × (known ≡ symbol.Is at value)
 IsKnown harts names token.Token.negation known = known ≡ symbol.Not
 IsKnown harts names token.Token.conjunction known = known ≡ symbol.And
 IsKnown harts names token.Token.disjunction known = known ≡ symbol.Or

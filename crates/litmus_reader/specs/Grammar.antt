@@ -14,36 +14,36 @@ use Rattle.litmus_reader.specs.Shapes.{AreParts}
 use Rattle.litmus_reader.specs.Layout.{IsLaidOut}
 use Rattle.litmus_reader.specs.Openings.{AreItems, names_in, each_once, AreRegisters, AreFirstWords, IsHartThere}
 use Rattle.litmus_reader.specs.Columns.{Cells, IsTable, column_of, IsColumnCode}
-use Rattle.litmus_reader.specs.ConditionGrammar.{IsQuestion, atoms_in, AreKnown}
+use Rattle.litmus_reader.specs.ConditionGrammar.{IsFinalCondition, atoms_in, AreKnown}
 use Rattle.litmus_reader.specs.Reading.{HartContent, Content, content_of}
 
 -- each hart has its column's code and the registers that the items put; the first one is this hart
 abbrev pub AreHarts : Names → List Equation → List Cells → (hart : ℕ) → List HartContent → Type 0
-AreHarts names puts rows hart [] = Unit {0}
-AreHarts names puts rows hart (first ∷ others) = IsColumnCode (column_of hart rows) first.code × AreRegisters names puts hart first.registers × (first.inbox ≡ []) × AreHarts names puts rows (hart + 1) others
+AreHarts names equations rows hart [] = Unit {0}
+AreHarts names equations rows hart (first ∷ others) = IsColumnCode (column_of hart rows) first.code × AreRegisters names equations hart first.registers × (first.inbox ≡ []) × AreHarts names equations rows (hart + 1) others
 
 -- A test's locations are those of its init part and its condition, in order of first appearance.
 pub record IsContent (text : List ℕ) (content : Content) : Type 0 where
   pub clean : List ℕ
   pub init : List ℕ
   pub table : List ℕ
-  pub asked : List ℕ
+  pub condition_text : List ℕ
   pub parts : List (List ℕ)
-  pub puts : List Equation
+  pub equations : List Equation
   pub rows : List Cells
   pub tokens : List Token
   pub known : List known.Symbol
   pub cleaned : IsCleaned text clean
-  pub laid_out : IsLaidOut clean init table asked
+  pub laid_out : IsLaidOut clean init table condition_text
   pub parted : AreParts 59 init parts
-  pub items : AreItems parts puts
+  pub items : AreItems parts equations
   pub tabled : IsTable table (length content.harts) rows
-  pub harts : AreHarts content.names puts rows 0 content.harts
-  pub there : All (IsHartThere (length content.harts)) puts
-  pub question : IsQuestion asked content.quantifier tokens
-  pub named : content.names ≡ each_once (names_in puts ++ names_in (atoms_in tokens))
+  pub harts : AreHarts content.names equations rows 0 content.harts
+  pub there : All (IsHartThere (length content.harts)) equations
+  pub quantified : IsFinalCondition condition_text content.quantifier tokens
+  pub named : content.names ≡ each_once (names_in equations ++ names_in (atoms_in tokens))
   pub few : length content.names ≤ MAX_LOCATIONS
-  pub first_words : AreFirstWords content.names puts content.words
+  pub first_words : AreFirstWords content.names equations content.words
   pub all_known : AreKnown (length content.harts) content.names tokens known
   pub condition : IsConditionOf known content.condition
 
@@ -53,4 +53,4 @@ HasPlainCode hart = IsPlainCode hart.code
 
 -- the text's test
 unfoldable pub IsTestOf : List ℕ → LitmusTest → Type 0
-IsTestOf text question = IsContent text (content_of question) × All HasPlainCode question.opening.harts
+IsTestOf text test = IsContent text (content_of test) × All HasPlainCode test.opening.harts

@@ -33,12 +33,12 @@ pub record IsHeading (text : List ℕ) (heading : HeadingOf) : Type 0 where
   pub clean : List ℕ
   pub init : List ℕ
   pub table : List ℕ
-  pub asked : List ℕ
+  pub condition_text : List ℕ
   pub others : List (List ℕ)
   pub cleaned : IsCleaned text clean
-  pub laid_out : IsLaidOut clean init table asked
+  pub laid_out : IsLaidOut clean init table condition_text
   pub named : tokens laid_out.header ≡ codes "RISCV" ∷ heading.name ∷ others
-  pub asks : heading.condition ≡ in_one_line asked
+  pub asks : heading.condition ≡ in_one_line condition_text
 
 -- ---- the reading
 

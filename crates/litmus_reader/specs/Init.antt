@@ -12,7 +12,7 @@ use Rattle.litmus_reader.specs.declared.init.Item.{Item}
 use Rattle.litmus_reader.specs.declared.init.Init.{Init}
 use Rattle.litmus_reader.specs.declared.init.Target.{Target}
 use Rattle.litmus_reader.specs.declared.init.Target.TheVariants.{Register, Word}
-use Rattle.litmus_reader.specs.Locations.{Names, met, value_met}
+use Rattle.litmus_reader.specs.Locations.{Names, resolved, value_resolved}
 use Rattle.texts.specs.declared.pieces.Separators.TheVariants.{Byte}
 
 -- an item: where it puts which value
@@ -36,33 +36,33 @@ abbrev pub items_of : Init → InitItems
 items_of init = record { items = map item_of init.items.items; names = init.locations }
 
 -- where an item puts its value, with a location given by its index
-unfoldable pub target_met : Names → NamedPlace → Result (Target × Names) LitmusFault
-target_met names (in_register hart register) = Ok (Register hart register, names)
-target_met names (at_location name) = do
-  found ← met names name
+unfoldable pub target_resolved : Names → NamedPlace → Result (Target × Names) LitmusFault
+target_resolved names (in_register hart register) = Ok (Register hart register, names)
+target_resolved names (at_location name) = do
+  found ← resolved names name
   Ok (Word found.0, found.1)
 
 -- the items with one more
-unfoldable pub item_told : InitItems → Option Equation → Result InitItems LitmusFault
-item_told so_far None = Err BadInit
-item_told so_far (Some put) = do
-  target ← target_met so_far.names put.0
-  value ← value_met target.1 put.1
+unfoldable pub item_added : InitItems → Option Equation → Result InitItems LitmusFault
+item_added so_far None = Err BadInit
+item_added so_far (Some equation) = do
+  target ← target_resolved so_far.names equation.0
+  value ← value_resolved target.1 equation.1
   Ok (record { items = so_far.items ++ (record { target = target.0; value = value.0 }) ∷ []; names = value.1 })
 
 -- an item, or nothing, between two `;`
-unfoldable pub piece_told : InitItems → List ℕ → Result InitItems LitmusFault
-piece_told so_far piece = if list_all is_gap piece then Ok so_far else item_told so_far (item_at piece)
+unfoldable pub piece_added : InitItems → List ℕ → Result InitItems LitmusFault
+piece_added so_far piece = if list_all is_gap piece then Ok so_far else item_added so_far (item_at piece)
 
-abbrev pub pieces_told : InitItems → List (List ℕ) → Result InitItems LitmusFault
-pieces_told so_far [] = Ok so_far
-pieces_told so_far (piece ∷ pieces) = do
-  more ← piece_told so_far piece
-  pieces_told more pieces
+abbrev pub pieces_added : InitItems → List (List ℕ) → Result InitItems LitmusFault
+pieces_added so_far [] = Ok so_far
+pieces_added so_far (piece ∷ pieces) = do
+  more ← piece_added so_far piece
+  pieces_added more pieces
 
 -- the items of a text
 unfoldable pub items_at : List ℕ → Result InitItems LitmusFault
-items_at text = pieces_told no_items (pieces (Byte 59) text)
+items_at text = pieces_added no_items (pieces (Byte 59) text)
 
 -- what follows the init part; its `}` may be missing
 abbrev pub behind_init : Option (List ℕ) → Result (List ℕ) LitmusFault

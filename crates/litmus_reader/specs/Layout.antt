@@ -30,7 +30,7 @@ abbrev pub IsHeader : List ℕ → Type 0
 IsHeader line = (blanks gap rest : List ℕ) × (b c : ℕ) × AreBlanks blanks × AreBlanks (b ∷ gap) × (is_blank c ≡ false) × (line ≡ blanks ++ (codes "RISCV" ++ b ∷ (gap ++ c ∷ rest)))
 
 -- `{` is 123 and `}` is 125; what stands after the `}` belongs to the table.
-pub record IsLaidOut (text init table asked : List ℕ) : Type 0 where
+pub record IsLaidOut (text init table condition_text : List ℕ) : Type 0 where
   pub blank_lines : List ℕ
   pub headed : List ℕ
   pub header : List ℕ
@@ -46,4 +46,4 @@ pub record IsLaidOut (text init table asked : List ℕ) : Type 0 where
   pub indented : AreBlanks blanks
   pub closed : HasNo 125 init
   pub between : braced ≡ blanks ++ 123 ∷ (init ++ 125 ∷ behind)
-  pub asks : IsFirst BeginsCondition behind table asked
+  pub asks : IsFirst BeginsCondition behind table condition_text

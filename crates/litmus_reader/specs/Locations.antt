@@ -23,8 +23,8 @@ joined names name (Some index) = Ok (index, names)
 joined names name None = if nat_lt (length names) MAX_LOCATIONS then Ok (length names, names ++ name ∷ []) else Err TooMany
 
 -- the index of the location of this name, which joins the others where it is new
-unfoldable pub met : Names → List ℕ → Result (ℕ × Names) LitmusFault
-met names name = joined names name (index_from 0 names name)
+unfoldable pub resolved : Names → List ℕ → Result (ℕ × Names) LitmusFault
+resolved names name = joined names name (index_from 0 names name)
 
 -- a location in it has the shape of a name
 abbrev pub HasLocation : NamedPlace → Type 0
@@ -36,11 +36,11 @@ HasName (number n) = Unit {0}
 HasName (address_of name) = IsTrue (is_name name)
 
 abbrev pub HasNames : Equation → Type 0
-HasNames put = HasLocation put.0 × HasName put.1
+HasNames equation = HasLocation equation.0 × HasName equation.1
 
 -- the value that is put; the word of a location has the address of 4 times its index
-unfoldable pub value_met : Names → Value → Result (ℕ × Names) LitmusFault
-value_met names (number n) = Ok (n, names)
-value_met names (address_of name) = do
-  found ← met names name
+unfoldable pub value_resolved : Names → Value → Result (ℕ × Names) LitmusFault
+value_resolved names (number n) = Ok (n, names)
+value_resolved names (address_of name) = do
+  found ← resolved names name
   Ok (4 * found.0, found.1)

@@ -12,8 +12,8 @@ use Rattle.litmus_reader.specs.Locations.{Names}
 -- The items that stand between `;`; blanks and line ends alone are none.
 pub data AreItems : List (List ℕ) → List Equation → Type 0 where
   none : AreItems [] []
-  empty : (part : List ℕ) (parts : List (List ℕ)) (puts : List Equation) → AllPass is_gap part → AreItems parts puts → AreItems (part ∷ parts) puts
-  item : (part : List ℕ) (parts : List (List ℕ)) (put : Equation) (puts : List Equation) → IsItem part put → AreItems parts puts → AreItems (part ∷ parts) (put ∷ puts)
+  empty : (part : List ℕ) (parts : List (List ℕ)) (equations : List Equation) → AllPass is_gap part → AreItems parts equations → AreItems (part ∷ parts) equations
+  item : (part : List ℕ) (parts : List (List ℕ)) (equation : Equation) (equations : List Equation) → IsItem part equation → AreItems parts equations → AreItems (part ∷ parts) (equation ∷ equations)
 
 -- ---- locations
 
@@ -28,7 +28,7 @@ name_of_value (address_of name) = name ∷ []
 -- the names that stand in these, from the left
 abbrev pub names_in : List Equation → Names
 names_in [] = []
-names_in (put ∷ puts) = name_of_place put.0 ++ (name_of_value put.1 ++ names_in puts)
+names_in (equation ∷ equations) = name_of_place equation.0 ++ (name_of_value equation.1 ++ names_in equations)
 
 -- each name once, in order of first appearance
 abbrev pub each_once : Names → Names
@@ -53,7 +53,7 @@ or_else (Some value) other = Some value
 -- what the last of the items that put something there puts there
 abbrev pub last_put : (NamedPlace → Bool) → List Equation → Option Value
 last_put is_there [] = None
-last_put is_there (put ∷ puts) = or_else (last_put is_there puts) (if is_there put.0 then Some put.1 else None)
+last_put is_there (equation ∷ equations) = or_else (last_put is_there equations) (if is_there equation.0 then Some equation.1 else None)
 
 abbrev pub is_register : (hart n : ℕ) → NamedPlace → Bool
 is_register hart n (in_register other register) = (other == hart) && (register.number == n)
@@ -69,15 +69,15 @@ IsFirstValue names None word = word ≡ 0
 IsFirstValue names (Some value) word = IsWorth names value word
 
 -- the hart's registers x0 to x31; x0 stays 0
-pub record AreRegisters (names : Names) (puts : List Equation) (hart : ℕ) (registers : List ℕ) : Type 0 where
+pub record AreRegisters (names : Names) (equations : List Equation) (hart : ℕ) (registers : List ℕ) : Type 0 where
   pub count : length registers ≡ 32
   pub zero : slice_index_or registers 0 0 ≡ 0
-  pub others : (n : ℕ) → 1 ≤ n → n < 32 → IsFirstValue names (last_put (is_register hart n) puts) (slice_index_or registers n 0)
+  pub others : (n : ℕ) → 1 ≤ n → n < 32 → IsFirstValue names (last_put (is_register hart n) equations) (slice_index_or registers n 0)
 
 -- a word for each location
-pub record AreFirstWords (names : Names) (puts : List Equation) (words : List ℕ) : Type 0 where
+pub record AreFirstWords (names : Names) (equations : List Equation) (words : List ℕ) : Type 0 where
   pub count : length words ≡ length names
-  pub values : (index : ℕ) (name : List ℕ) → IsAt names name index → IsFirstValue names (last_put (is_location name) puts) (slice_index_or words index 0)
+  pub values : (index : ℕ) (name : List ℕ) → IsAt names name index → IsFirstValue names (last_put (is_location name) equations) (slice_index_or words index 0)
 
 -- an item for a register names a hart of the table
 abbrev pub IsHartThere : (harts : ℕ) → Equation → Type 0

@@ -37,7 +37,7 @@ abbrev pub hart_content : HartStart → HartContent
 hart_content hart = record { code = map meaning hart.code; registers = hart.registers; inbox = hart.inbox }
 
 abbrev pub content_of : LitmusTest → Content
-content_of question = record { harts = map hart_content question.opening.harts; words = question.opening.words; names = question.names; quantifier = question.quantifier; condition = question.condition }
+content_of test = record { harts = map hart_content test.opening.harts; words = test.opening.words; names = test.names; quantifier = test.quantifier; condition = test.condition }
 
 -- each hart's code with its registers; nothing is in an inbox
 abbrev pub with_registers : List Code → List (List ℕ) → List HartContent
@@ -46,14 +46,14 @@ with_registers (code ∷ codes) [] = []
 with_registers (code ∷ codes) (first ∷ registers) = (record { code = code; registers = first; inbox = [] }) ∷ with_registers codes registers
 
 abbrev pub content : List Code → Values → Condition → Content
-content codes values asked = record { harts = with_registers codes values.registers; words = padded (length asked.names) values.words; names = asked.names; quantifier = asked.quantifier; condition = asked.formula }
+content codes values condition = record { harts = with_registers codes values.registers; words = padded (length condition.names) values.words; names = condition.names; quantifier = condition.quantifier; condition = condition.formula }
 
 -- the test whose table has this code, with the condition from its first line on
 unfoldable pub content_below : InitItems → List Code → Option (List ℕ) → Result Content LitmusFault
 content_below settings codes condition = do
   values ← values_at (length codes) settings
-  asked ← condition_at (length codes) settings.names condition
-  Ok (content codes values asked)
+  condition_text ← condition_at (length codes) settings.names condition
+  Ok (content codes values condition_text)
 
 -- the test with this init part, with what stands after it: the table and the condition
 unfoldable pub content_behind : InitItems → List ℕ → Result Content LitmusFault

@@ -29,39 +29,39 @@ abbrev pub in_limit : Column → Result Column LitmusFault
 in_limit column = if nat_lt MAX_CODE (words_of column) then Err TooMany else Ok column
 
 -- a column with one more cell
-unfoldable pub cell_told : Column → List ℕ → Result Column LitmusFault
-cell_told column cell = do
+unfoldable pub cell_added : Column → List ℕ → Result Column LitmusFault
+cell_added column cell = do
   more ← as_instr (drafted column cell)
   in_limit more
 
 -- the columns with a cell more each, from the left
-abbrev pub cells_told : List Column → List (List ℕ) → Result (List Column) LitmusFault
-cells_told [] cells = Ok []
-cells_told (column ∷ columns) [] = Ok (column ∷ columns)
-cells_told (column ∷ columns) (cell ∷ cells) = do
-  more ← cell_told column cell
-  others ← cells_told columns cells
+abbrev pub cells_added : List Column → List (List ℕ) → Result (List Column) LitmusFault
+cells_added [] cells = Ok []
+cells_added (column ∷ columns) [] = Ok (column ∷ columns)
+cells_added (column ∷ columns) (cell ∷ cells) = do
+  more ← cell_added column cell
+  others ← cells_added columns cells
   Ok (more ∷ others)
 
-abbrev pub row_told : List Column → Option (List ℕ) → Result (List Column) LitmusFault
-row_told columns None = Err BadTable
-row_told columns (Some row) = if length (cells_of row) == length columns then cells_told columns (cells_of row) else Err BadTable
+abbrev pub row_added : List Column → Option (List ℕ) → Result (List Column) LitmusFault
+row_added columns None = Err BadTable
+row_added columns (Some row) = if length (cells_of row) == length columns then cells_added columns (cells_of row) else Err BadTable
 
 -- the columns with a row more, or with none in a blank line
-unfoldable pub line_told : List Column → List ℕ → Result (List Column) LitmusFault
-line_told columns line = if is_blank_line line then Ok columns else row_told columns (row_in line)
+unfoldable pub line_added : List Column → List ℕ → Result (List Column) LitmusFault
+line_added columns line = if is_blank_line line then Ok columns else row_added columns (row_in line)
 
-abbrev pub lines_told : List Column → List (List ℕ) → Result (List Column) LitmusFault
-lines_told columns [] = Ok columns
-lines_told columns (line ∷ lines) = do
-  more ← line_told columns line
-  lines_told more lines
+abbrev pub lines_added : List Column → List (List ℕ) → Result (List Column) LitmusFault
+lines_added columns [] = Ok columns
+lines_added columns (line ∷ lines) = do
+  more ← line_added columns line
+  lines_added more lines
 
 abbrev pub table_from : Option (List ℕ) → Result (List Column) LitmusFault
 table_from None = Err BadTable
 table_from (Some text) = do
   harts ← harts_in (before (is_byte 10) text)
-  lines_told (replicate harts []) (pieces_after (Byte 10) (after (is_byte 10) text))
+  lines_added (replicate harts []) (pieces_after (Byte 10) (after (is_byte 10) text))
 
 -- the columns of a table, whose first row is the first line that isn't blank
 unfoldable pub table_at : List ℕ → Result (List Column) LitmusFault

@@ -7,13 +7,13 @@ ghost use Rattle.litmus.specs.Formulas.{Formula, places};
 ghost use Rattle.litmus.specs.LitmusTests.{IsThere};
 ghost use Rattle.litmus.specs.Drafting.{symbol_added, finished};
 ghost use Rattle.litmus.specs.declared.symbols.Symbol.{Symbol};
-ghost use Rattle.litmus_tokens.specs.Settings.{place_of as place_put, put_of};
-ghost use Rattle.litmus_tokens.specs.Tokens.{token_of as token_put, tokens_of};
+ghost use Rattle.litmus_tokens.specs.Settings.{place_of as named_place_of, equation_of};
+ghost use Rattle.litmus_tokens.specs.Tokens.{token_of as named_token_of, tokens_of};
 ghost use Rattle.litmus_reader.specs.declared.faults.LitmusFault.TheVariants.{BadCondition};
 ghost use Rattle.texts.specs.declared.errors.TextError.TheVariants.{Refused};
 ghost use Rattle.litmus_reader.specs.Faults.{fault_in};
 ghost use Rattle.litmus_reader.specs.Locations.{HasLocation, HasNames};
-ghost use Rattle.litmus_reader.specs.Condition.{Quantified, quantified_of, quantifier_in, place_met, atom_met, token_met, TokenHasNames, as_condition, tokens_told, condition_in, condition_of};
+ghost use Rattle.litmus_reader.specs.Condition.{Quantified, quantified_of, quantifier_in, place_resolved, atom_resolved, token_resolved, TokenHasNames, as_condition, tokens_added, condition_in, condition_of};
 ghost use Rattle.step_machine.specs.declared.opening.TheConstants.{MAX_HARTS};
 
 use crate::faults::LitmusFault;
@@ -57,16 +57,16 @@ fn quantifier_in(text: &[u8]) -> Option<Quantified<'_>>
 }
 
 /// The place that an atom asks for, which has to be there. A new location joins the others.
-#[tactic(auto, unfolding(crate::specs::Condition::place_met))]
+#[tactic(auto, unfolding(crate::specs::Condition::place_resolved))]
 fn place_of(
     locations: &mut Locations,
     spot: Spot<'_>,
     harts: usize,
     left: usize,
 ) -> Result<Place, Refusal>
-    requires named { HasLocation (place_put spot) }
+    requires named { HasLocation (named_place_of spot) }
     requires few { harts ≤ MAX_HARTS }
-    ensures { Gives fault_in (λ place. (place, locations.new)) result (place_met harts locations.old (place_put spot.entry)) }
+    ensures { Gives fault_in (λ place. (place, locations.new)) result (place_resolved harts locations.old (named_place_of spot.entry)) }
 {
     match spot {
         Spot::Register { hart, register } if hart < harts as u64 => Ok(Place::Register {
@@ -84,16 +84,16 @@ fn place_of(
 }
 
 /// The atom with its place known.
-#[tactic(auto, unfolding(crate::specs::Condition::atom_met))]
+#[tactic(auto, unfolding(crate::specs::Condition::atom_resolved))]
 fn atom_of(
     locations: &mut Locations,
     setting: Setting<'_>,
     harts: usize,
     left: usize,
 ) -> Result<Symbol, Refusal>
-    requires named { HasNames (put_of setting) }
+    requires named { HasNames (equation_of setting) }
     requires few { harts ≤ MAX_HARTS }
-    ensures { Gives fault_in (λ token. (token, locations.new)) result (atom_met harts locations.old (put_of setting.entry)) }
+    ensures { Gives fault_in (λ token. (token, locations.new)) result (atom_resolved harts locations.old (equation_of setting.entry)) }
 {
     let place = place_of(locations, setting.spot, harts, left)?;
     let value = value_of(locations, setting.worth, left)?;
@@ -101,16 +101,16 @@ fn atom_of(
 }
 
 /// The token with its place known, a symbol.
-#[tactic(auto, unfolding(crate::specs::Condition::token_met))]
+#[tactic(auto, unfolding(crate::specs::Condition::token_resolved))]
 fn token_of(
     locations: &mut Locations,
     token: Token<'_>,
     harts: usize,
     left: usize,
 ) -> Result<Symbol, Refusal>
-    requires named { TokenHasNames (token_put token) }
+    requires named { TokenHasNames (named_token_of token) }
     requires few { harts ≤ MAX_HARTS }
-    ensures { Gives fault_in (λ symbol. (symbol, locations.new)) result (token_met harts locations.old (token_put token.entry)) }
+    ensures { Gives fault_in (λ symbol. (symbol, locations.new)) result (token_resolved harts locations.old (named_token_of token.entry)) }
 {
     match token {
         Token::Is(setting) => atom_of(locations, setting, harts, left),
@@ -143,7 +143,7 @@ fn read_tokens(
     behind: usize,
 ) -> Result<ConditionDraft, Refusal>
     requires { harts ≤ MAX_HARTS }
-    ensures { Gives fault_in (λ (symbols : List Symbol). (symbols, locations.new)) result (tokens_told harts ([], locations.old) (tokens_of text.now)) }
+    ensures { Gives fault_in (λ (symbols : List Symbol). (symbols, locations.new)) result (tokens_added harts ([], locations.old) (tokens_of text.now)) }
 {
     let mut draft = ConditionDraft::new(alloc);
     let mut rest = text;
@@ -175,19 +175,19 @@ fn finish(draft: ConditionDraft) -> Result<Condition, Refusal>
 
 /// What a test asks at the end.
 #[derive(Drop)]
-pub struct Question {
+pub struct FinalCondition {
     pub quantifier: Quantifier,
     pub condition: Condition,
 }
 
 /// The condition in this text, as [`read_condition`] says.
 #[tactic(auto, unfolding(crate::specs::Condition::condition_in))]
-fn question_in(
+fn final_condition_in(
     alloc: Global,
     text: &[u8],
     harts: usize,
     locations: &mut Locations,
-) -> Result<Question, Refusal>
+) -> Result<FinalCondition, Refusal>
     requires { harts ≤ MAX_HARTS }
     ensures { Gives fault_in (condition_of locations.new) result (condition_in harts locations.old text.now) }
 {
@@ -201,7 +201,7 @@ fn question_in(
         return Err(LitmusFault::BadCondition.at(rest.len()));
     }
     let condition = finish(draft)?;
-    Ok(Question {
+    Ok(FinalCondition {
         quantifier,
         condition,
     })
@@ -215,11 +215,11 @@ pub fn read_condition(
     text: &[u8],
     harts: usize,
     locations: &mut Locations,
-) -> Result<Question, Refusal>
+) -> Result<FinalCondition, Refusal>
     requires { harts ≤ MAX_HARTS }
     ensures exact { Gives fault_in (condition_of locations.new) result (condition_in harts locations.old text.now) }
-    ensures there { IfOk result (λ asked. All (IsThere harts (length locations.new)) (places asked.condition)) }
-    ensures more { IfOk result (λ asked. length locations.old ≤ length locations.new) }
+    ensures there { IfOk result (λ final_condition. All (IsThere harts (length locations.new)) (places final_condition.condition)) }
+    ensures more { IfOk result (λ final_condition. length locations.old ≤ length locations.new) }
 {
-    question_in(alloc, text, harts, locations)
+    final_condition_in(alloc, text, harts, locations)
 }

@@ -93,12 +93,12 @@ fn heading_in(alloc: Global, text: &[u8]) -> Result<Heading, Refusal>
     let Some(rest) = cut_at(inner, b'}').1 else {
         return Err(LitmusFault::BadInit.at_end());
     };
-    let Some(asked) = cut_at_line(Mark::Condition, rest).1 else {
+    let Some(condition_text) = cut_at_line(Mark::Condition, rest).1 else {
         return Err(LitmusFault::BadCondition.at_end());
     };
     let mut name = Vec::new(alloc);
     name.extend_from_slice(name_in(text))?;
-    let condition = in_one_line(alloc, asked)?;
+    let condition = in_one_line(alloc, condition_text)?;
     Ok(Heading { name, condition })
 }
 

@@ -5,7 +5,7 @@ ghost use Rattle.texts.specs.Results.{Gives};
 ghost use Rattle.litmus_tokens.specs.Settings.{place_of};
 ghost use Rattle.litmus_reader.specs.Faults.{fault_in};
 ghost use Rattle.litmus_reader.specs.Locations.{HasLocation};
-ghost use Rattle.litmus_reader.specs.Init.{no_items, target_met, piece_told, items_at, items_of};
+ghost use Rattle.litmus_reader.specs.Init.{no_items, target_resolved, piece_added, items_at, items_of};
 
 use crate::faults::LitmusFault;
 use crate::locations::Locations;
@@ -43,10 +43,10 @@ pub struct Init {
 }
 
 /// Where the item puts its value. A new location joins the others.
-#[tactic(auto, unfolding(crate::specs::Init::target_met))]
+#[tactic(auto, unfolding(crate::specs::Init::target_resolved))]
 fn target_of(locations: &mut Locations, spot: Spot<'_>, left: usize) -> Result<Target, Refusal>
     requires { HasLocation (place_of spot) }
-    ensures { Gives fault_in (λ target. (target, locations.new)) result (target_met locations.old (place_of spot.entry)) }
+    ensures { Gives fault_in (λ target. (target, locations.new)) result (target_resolved locations.old (place_of spot.entry)) }
 {
     match spot {
         Spot::Register { hart, register } => Ok(Target::Register { hart, register }),
@@ -69,9 +69,9 @@ impl Init {
     }
 
     /// Reads what stands between two semicolons, which is an item or nothing.
-    #[tactic(auto, using(crate::proofs::NameLaws::item_location, crate::proofs::NameLaws::item_value), unfolding(crate::specs::Init::piece_told, crate::specs::Init::item_told))]
+    #[tactic(auto, using(crate::proofs::NameLaws::item_location, crate::proofs::NameLaws::item_value), unfolding(crate::specs::Init::piece_added, crate::specs::Init::item_added))]
     fn read(&mut self, piece: &[u8], left: usize) -> Result<(), Refusal>
-        ensures { Gives fault_in (λ _. items_of self.new) result (piece_told (items_of self.old) piece.now) }
+        ensures { Gives fault_in (λ _. items_of self.new) result (piece_added (items_of self.old) piece.now) }
     {
         if is_all(Separators::Gaps, piece) {
             return Ok(());

@@ -6,7 +6,7 @@ ghost use Rattle.std.specs.String.{string_bytes};
 ghost use Rattle.texts.specs.Results.{Gives};
 ghost use Rattle.litmus_reader.specs.Faults.{fault_in};
 ghost use Rattle.litmus_tokens.specs.Names.{is_name, goes_on_name};
-ghost use Rattle.litmus_reader.specs.Locations.{index_from, met};
+ghost use Rattle.litmus_reader.specs.Locations.{index_from, resolved};
 ghost use Rattle.litmus.specs.declared.litmus_test.TheConstants.{MAX_LOCATIONS};
 
 use crate::faults::LitmusFault;
@@ -75,10 +75,10 @@ impl Locations {
 
     /// The index of this location, which joins the others where it is new. `TooMany` is met where so
     /// many bytes of the text are left.
-    #[tactic(auto, unfolding(crate::specs::Locations::met))]
+    #[tactic(auto, unfolding(crate::specs::Locations::resolved))]
     pub fn index_of(&mut self, name: &[u8], left: usize) -> Result<usize, Refusal>
         requires { IsTrue (is_name name.now) }
-        ensures exact { Gives fault_in (λ index. (index, self.new)) result (met self.old name.now) }
+        ensures exact { Gives fault_in (λ index. (index, self.new)) result (resolved self.old name.now) }
         ensures small { IfOk result (λ index. index < MAX_LOCATIONS) }
     {
         if let Some(index) = self.find(name) {

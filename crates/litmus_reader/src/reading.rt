@@ -14,7 +14,7 @@ ghost use Rattle.litmus_reader.specs.Reading.{content_of, content, content_below
 ghost use Rattle.litmus_reader.specs.Grammar.{HasPlainCode, IsTestOf};
 ghost use Rattle.step_machine.specs.declared.opening.TheConstants.{MAX_HARTS};
 
-use crate::condition::{Question, read_condition};
+use crate::condition::{FinalCondition, read_condition};
 use crate::faults::{LitmusError, LitmusFault};
 use crate::header::{behind_brace, behind_header};
 use crate::init::{Init, read_items};
@@ -34,7 +34,7 @@ fn assemble(
     codes: Vec<Vec<u32>>,
     values: Values,
     locations: Locations,
-    asked: Question,
+    final_condition: FinalCondition,
 ) -> Result<Test, AllocError>
     requires some { 1 ≤ vec_len codes }
     requires few { vec_len codes ≤ MAX_HARTS }
@@ -42,8 +42,8 @@ fn assemble(
     requires plain { ArePlain codes.items }
     requires harts { vec_len values.registers ≡ vec_len codes }
     requires words { vec_len values.words ≤ length locations }
-    requires there { All (IsThere (vec_len codes) (length locations)) (places asked.condition) }
-    ensures exact { IfOk result (λ test. content_of test ≡ content (instructions codes) (values_in values) (condition_of locations asked)) }
+    requires there { All (IsThere (vec_len codes) (length locations)) (places final_condition.condition) }
+    ensures exact { IfOk result (λ test. content_of test ≡ content (instructions codes) (values_in values) (condition_of locations final_condition)) }
     ensures plain { IfOk result (λ test. All HasPlainCode test.opening.harts) }
 {
     let Values {
@@ -53,10 +53,10 @@ fn assemble(
     let more = locations.count() - words.len();
     pad(&mut words, more)?;
     let harts = harts_of(alloc, codes, &registers)?;
-    let Question {
+    let FinalCondition {
         quantifier,
         condition,
-    } = asked;
+    } = final_condition;
     let names = locations.into_names();
     Test::new(alloc, harts, words, names, quantifier, condition)
 }
@@ -85,8 +85,8 @@ fn test_below(
     let Some(text) = condition else {
         return Err(LitmusFault::BadCondition.at_end());
     };
-    let asked = read_condition(alloc, text, harts, &mut locations)?;
-    Ok(assemble(alloc, codes, values, locations, asked)?)
+    let final_condition = read_condition(alloc, text, harts, &mut locations)?;
+    Ok(assemble(alloc, codes, values, locations, final_condition)?)
 }
 
 /// The test with this init part, with what stands after it.
@@ -140,7 +140,7 @@ fn cleaned_test(alloc: Global, text: &[u8]) -> Result<Test, LitmusError>
 #[tactic(auto, using(crate::proofs::TestGrammar::found_test, crate::proofs::TestGrammar::only_test))]
 pub fn read(alloc: Global, text: &str) -> Result<Test, LitmusError>
     ensures found { IfOk result (IsTestOf text.now) }
-    ensures only { (question : LitmusTest) → IsTestOf text.now question → Gives fault_of (λ (test : LitmusTest). test) result (Ok question) }
+    ensures only { (test : LitmusTest) → IsTestOf text.now test → Gives fault_of (λ (test : LitmusTest). test) result (Ok test) }
     ensures exact { Gives fault_of content_of result (test_at text.now) }
     ensures fits { IfOk result IsTest }
 {

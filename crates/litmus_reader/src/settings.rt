@@ -2,9 +2,9 @@
 
 ghost use Rattle.std.specs.Prelude.{◌≡◌, ◌*◌, ◌<◌};
 ghost use Rattle.texts.specs.Results.{Gives};
-ghost use Rattle.litmus_tokens.specs.Settings.{value_of as value_put};
+ghost use Rattle.litmus_tokens.specs.Settings.{value_of as named_value_of};
 ghost use Rattle.litmus_reader.specs.Faults.{fault_in};
-ghost use Rattle.litmus_reader.specs.Locations.{HasName, value_met};
+ghost use Rattle.litmus_reader.specs.Locations.{HasName, value_resolved};
 ghost use Rattle.litmus.specs.declared.litmus_test.TheConstants.{MAX_LOCATIONS};
 
 use crate::locations::Locations;
@@ -21,10 +21,10 @@ pub fn address_of(index: usize) -> u32
 
 /// The value that is put. A new location joins the others; one too many is met where `left` bytes of
 /// the text are left.
-#[tactic(auto, unfolding(crate::specs::Locations::value_met))]
+#[tactic(auto, unfolding(crate::specs::Locations::value_resolved))]
 pub fn value_of(locations: &mut Locations, worth: Worth<'_>, left: usize) -> Result<u32, Refusal>
-    requires { HasName (value_put worth) }
-    ensures { Gives fault_in (λ value. (value, locations.new)) result (value_met locations.old (value_put worth.entry)) }
+    requires { HasName (named_value_of worth) }
+    ensures { Gives fault_in (λ value. (value, locations.new)) result (value_resolved locations.old (named_value_of worth.entry)) }
 {
     match worth {
         Worth::Number(number) => Ok(number),

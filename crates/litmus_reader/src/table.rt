@@ -7,7 +7,7 @@ ghost use Rattle.litmus_reader.specs.Faults.{fault_in};
 ghost use Rattle.texts.specs.Pieces.{pieces_after};
 ghost use Rattle.litmus_reader.specs.Rows.{cells_of};
 ghost use Rattle.litmus_reader.specs.Lines.{earlier, left_at_row};
-ghost use Rattle.litmus_reader.specs.Table.{Column, cell_told, cells_told, line_told, lines_told, table_at, codes_of, instructions, ArePlain, AreShort};
+ghost use Rattle.litmus_reader.specs.Table.{Column, cell_added, cells_added, line_added, lines_added, table_at, codes_of, instructions, ArePlain, AreShort};
 ghost use Rattle.texts.specs.declared.pieces.Separators.TheVariants.{Byte};
 ghost use Rattle.step_machine.specs.declared.opening.TheConstants.{MAX_HARTS};
 
@@ -35,9 +35,9 @@ impl Model for Table {
 }
 
 /// Gives a hart the statement in its cell, which may be none.
-#[tactic(auto, unfolding(crate::specs::Table::cell_told))]
+#[tactic(auto, unfolding(crate::specs::Table::cell_added))]
 fn tell(column: &mut Draft, cell: &[u8], left: usize) -> Result<(), Refusal>
-    ensures { Gives fault_in (λ _. column.new) result (cell_told column.old cell.now) }
+    ensures { Gives fault_in (λ _. column.new) result (cell_added column.old cell.now) }
 {
     match column.read(cell) {
         Ok(()) => {}
@@ -70,7 +70,7 @@ impl Table {
     /// Gives the harts the statements in the row's cells, from the left.
     fn tell_cells(&mut self, row: &[u8], left: usize) -> Result<(), Refusal>
         requires { length (cells_of row.now) ≡ length self.old }
-        ensures exact { Gives fault_in (λ _. self.new) result (cells_told self.old (cells_of row.now)) }
+        ensures exact { Gives fault_in (λ _. self.new) result (cells_added self.old (cells_of row.now)) }
         ensures same { length self.new ≡ length self.old }
     {
         let mut hart = 0;
@@ -85,9 +85,9 @@ impl Table {
     }
 
     /// Reads a row, or nothing in a blank line. Its shape is judged before its cells.
-    #[tactic(auto, unfolding(crate::specs::Table::line_told))]
+    #[tactic(auto, unfolding(crate::specs::Table::line_added))]
     fn read(&mut self, line: &[u8], left: usize) -> Result<(), Refusal>
-        ensures exact { Gives fault_in (λ _. self.new) result (line_told self.old line.now) }
+        ensures exact { Gives fault_in (λ _. self.new) result (line_added self.old line.now) }
         ensures same { length self.new ≡ length self.old }
     {
         if is_blank_line(line) {
@@ -101,7 +101,7 @@ impl Table {
 
     /// Reads the rows after the first one, which `behind` bytes follow.
     fn read_rows(&mut self, rows: Option<&[u8]>, behind: usize) -> Result<(), Refusal>
-        ensures exact { Gives fault_in (λ _. self.new) result (lines_told self.old (pieces_after (Byte 10) (option_copied rows.entry))) }
+        ensures exact { Gives fault_in (λ _. self.new) result (lines_added self.old (pieces_after (Byte 10) (option_copied rows.entry))) }
         ensures same { length self.new ≡ length self.old }
     {
         let mut rest = rows;

@@ -14,7 +14,7 @@ use Rattle.litmus_tokens.specs.Settings.NamedPlace.{in_register, at_location}
 use Rattle.litmus_tokens.specs.Settings.Value.{number}
 use Rattle.litmus_tokens.specs.Reading.{value_in, inside, place_in, begins_with_gap, behind_int, declared_in, place_or, item_place_in, item_round, item_at}
 use Rattle.litmus_tokens.proofs.Bytes.{other_byte, name_bytes, none_round, none_round_name}
-use Rattle.litmus_tokens.proofs.SettingLaws.{value_found, value_read, named_found, place_found, place_read, place_free, put_from_found}
+use Rattle.litmus_tokens.proofs.SettingLaws.{value_found, value_read, named_found, place_found, place_read, place_free, equation_from_found}
 
 -- ---- declarations
 
@@ -37,7 +37,7 @@ int_front text rest e = go (starts_with nat_eq text (codes "int") && begins_with
   where
     go : (t : Bool) → (starts_with nat_eq text (codes "int") && begins_with_gap (drop 3 text)) ≡ t → (text ≡ codes "int" ++ rest) × (begins_with_gap rest ≡ true)
     go true is =
-        let told = rw is at e in
+        let shown = rw is at e in
         let same : drop 3 text ≡ rest = cc in
         let both = and_parts (starts_with nat_eq text (codes "int")) (begins_with_gap (drop 3 text)) is in
         let cut = (starts_is Decides-eqb text (codes "int") (starts_with nat_eq text (codes "int")) refl).0 both.0 in
@@ -90,21 +90,21 @@ item_place_found : (left : List ℕ) (place : NamedPlace) (declared : Option Nam
 item_place_found left place None is e = inl (place_found left place e)
 item_place_found left place (Some other) is e = inr (declared_found left place (is ∙ e))
 
-pub item_found : (text : List ℕ) (put : Equation) → item_at text ≡ Some put → IsItem text put
+pub item_found : (text : List ℕ) (equation : Equation) → item_at text ≡ Some equation → IsItem text equation
 unfolding item_at item_place_in
-item_found text put e = go (after (is_byte 61) text) refl e
+item_found text equation e = go (after (is_byte 61) text) refl e
   where
-    go : (behind : Option (List ℕ)) → after (is_byte 61) text ≡ behind → item_round (before (is_byte 61) text) behind ≡ Some put → IsItem text put
+    go : (behind : Option (List ℕ)) → after (is_byte 61) text ≡ behind → item_round (before (is_byte 61) text) behind ≡ Some equation → IsItem text equation
     go None none h =
-        let told = put_from_found (declared_in (before (is_byte 61) text)) (Some (number 0)) put h in
+        let shown = equation_from_found (declared_in (before (is_byte 61) text)) (Some (number 0)) equation h in
         let whole = uncut (is_byte 61) text none in
-        inr (inr (declared_found text put.0 (rw whole at told.0), cc))
+        inr (inr (declared_found text equation.0 (rw whole at shown.0), cc))
     go (Some right) some h =
         let left = before (is_byte 61) text in
-        let told = put_from_found (item_place_in left) (value_in right) put h in
+        let shown = equation_from_found (item_place_in left) (value_in right) equation h in
         let whole = cut_byte 61 text right some in
-        let value = value_found right put.1 told.1 in
-        elim (item_place_found left put.0 (declared_in left) refl told.0) [
+        let value = value_found right equation.1 shown.1 in
+        elim (item_place_found left equation.0 (declared_in left) refl shown.0) [
           | inl place ↦ inl (left, right, whole, place, value)
           | inr declared ↦ inr (inl (left, right, whole, declared, value))
         ]
@@ -116,20 +116,20 @@ undeclared left place (Some other) is at =
     let some = place_read left place at in
     absurd cc
 
-pub item_read : (text : List ℕ) (put : Equation) → IsItem text put → item_at text ≡ Some put
+pub item_read : (text : List ℕ) (equation : Equation) → IsItem text equation → item_at text ≡ Some equation
 unfolding item_at item_place_in
-item_read text put (inl (left, right, is, place, value)) =
-    let free = place_free 61 refl refl refl refl refl left put.0 place in
-    rw is (rw (before_stop (is_byte 61) left 61 right free refl, after_stop (is_byte 61) left 61 right free refl, undeclared left put.0 (declared_in left) refl place, value_read right put.1 value) refl)
-item_read text put (inr (inl (left, right, is, declared, value))) =
-    let free = declared_free 61 refl refl left put.0 declared in
-    rw is (rw (before_stop (is_byte 61) left 61 right free refl, after_stop (is_byte 61) left 61 right free refl, declared_read left put.0 declared, value_read right put.1 value) refl)
-item_read text put (inr (inr (declared, zero_is))) =
-    let free = declared_free 61 refl refl text put.0 declared in
-    rw (before_none (is_byte 61) text free, after_none (is_byte 61) text free, declared_read text put.0 declared) (ap (λ (v : Value). Some (put.0, v)) (sym zero_is))
+item_read text equation (inl (left, right, is, place, value)) =
+    let free = place_free 61 refl refl refl refl refl left equation.0 place in
+    rw is (rw (before_stop (is_byte 61) left 61 right free refl, after_stop (is_byte 61) left 61 right free refl, undeclared left equation.0 (declared_in left) refl place, value_read right equation.1 value) refl)
+item_read text equation (inr (inl (left, right, is, declared, value))) =
+    let free = declared_free 61 refl refl left equation.0 declared in
+    rw is (rw (before_stop (is_byte 61) left 61 right free refl, after_stop (is_byte 61) left 61 right free refl, declared_read left equation.0 declared, value_read right equation.1 value) refl)
+item_read text equation (inr (inr (declared, zero_is))) =
+    let free = declared_free 61 refl refl text equation.0 declared in
+    rw (before_none (is_byte 61) text free, after_none (is_byte 61) text free, declared_read text equation.0 declared) (ap (λ (v : Value). Some (equation.0, v)) (sym zero_is))
 
 -- ---- what the reader answers
 
 pub found_item : (text : List ℕ) (o : Option Equation) → o ≡ item_at text → IfSome o (IsItem text)
 found_item text None e = tt
-found_item text (Some put) e = item_found text put (sym e)
+found_item text (Some equation) e = item_found text equation (sym e)

@@ -16,15 +16,15 @@ use Rattle.litmus_tokens.specs.Names.{core, begins_name, goes_on_name, is_spelle
 use Rattle.litmus_tokens.specs.Settings.{NamedPlace, Value, Equation, IsValue, IsNamedPlace, IsSetting}
 use Rattle.litmus_tokens.specs.Settings.NamedPlace.{in_register, at_location}
 use Rattle.litmus_tokens.specs.Settings.Value.{number, address_of}
-use Rattle.litmus_tokens.specs.Reading.{value_from, value_in, register_from, named, closed, location_in, place_round, place_in, put_from, setting_round, setting_at}
+use Rattle.litmus_tokens.specs.Reading.{value_from, value_in, register_from, named, closed, location_in, place_round, place_in, equation_from, setting_round, setting_at}
 use Rattle.litmus_tokens.proofs.Bytes.{other_byte, name_bytes, digit_bytes, register_bytes, none_round, none_round_name}
 use Rattle.litmus_tokens.proofs.NumberTexts.{word_found, number_word, number_no_name}
 
 -- ---- values
 
-number_told : (text : List ℕ) (m : Option ℕ) (v : Value) → word_in (core text) ≡ m → value_from m ≡ Some v → IsValue text v
-number_told text None v is e = absurd cc
-number_told text (Some n) v is e =
+number_shown : (text : List ℕ) (m : Option ℕ) (v : Value) → word_in (core text) ≡ m → value_from m ≡ Some v → IsValue text v
+number_shown text None v is e = absurd cc
+number_shown text (Some n) v is e =
     let same : number n ≡ v = cc in
     subst (IsValue text) same (word_found (core text) n is)
 
@@ -34,10 +34,10 @@ value_found text v e = go (is_name (core text)) refl
   where
     go : (t : Bool) → is_name (core text) ≡ t → IsValue text v
     go true name =
-        let told = rw name at e in
+        let shown = rw name at e in
         let same : address_of (core text) ≡ v = cc in
         subst (IsValue text) same (name, refl)
-    go false other = number_told text (word_in (core text)) v refl (rw other at e)
+    go false other = number_shown text (word_in (core text)) v refl (rw other at e)
 
 pub value_read : (text : List ℕ) (v : Value) → IsValue text v → value_in text ≡ Some v
 unfolding value_in
@@ -50,7 +50,7 @@ pub named_found : (name : List ℕ) (place : NamedPlace) → named name ≡ Some
 named_found name place e = go (is_name name) refl
   where
     go : (t : Bool) → is_name name ≡ t → (is_name name ≡ true) × (at_location name ≡ place)
-    go true is = (let told = rw is at e in (is, cc))
+    go true is = (let shown = rw is at e in (is, cc))
     go false isnt = (let never = rw isnt at e in absurd cc)
 
 location_found : (text solid : List ℕ) (place : NamedPlace) → core text ≡ solid → location_in solid ≡ Some place → IsNamedPlace text place
@@ -94,7 +94,7 @@ place_found text place e = go (after (is_byte 58) text) refl e
 
 -- a byte that stands in no name, bracket or gap, nor between a hart and a register, stands in no place
 pub place_free : (b : ℕ) → goes_on_name b ≡ false → is_gap b ≡ false → is_byte b 58 ≡ false → is_byte b 91 ≡ false → is_byte b 93 ≡ false → (text : List ℕ) (place : NamedPlace) → IsNamedPlace text place → NonePass (is_byte b) text
-place_free b no_name no_gap no_colon no_open no_close text (in_register hart register) (digits, name, n, is, says, told, known) =
+place_free b no_name no_gap no_colon no_open no_close text (in_register hart register) (digits, name, n, is, says, shown, known) =
     rw is (none-append (is_byte b) digits (58 ∷ name)
     (none_round_name b no_name no_gap digits (core digits) refl (digit_bytes (core digits) says.0.1))
     (no_colon, none_round_name b no_name no_gap name (core name) refl (register_bytes (core name) register known)))
@@ -117,9 +117,9 @@ bracketed inner name is same =
 
 pub place_read : (text : List ℕ) (place : NamedPlace) → IsNamedPlace text place → place_in text ≡ Some place
 unfolding place_in
-place_read text (in_register hart register) (digits, name, n, is, says, told, known) =
+place_read text (in_register hart register) (digits, name, n, is, says, shown, known) =
     let free = none_round_name 58 refl refl digits (core digits) refl (digit_bytes (core digits) says.0.1) in
-    rw is (rw (before_stop (is_byte 58) digits 58 name free refl, after_stop (is_byte 58) digits 58 name free refl, says_number (core digits) n says, known, told) refl)
+    rw is (rw (before_stop (is_byte 58) digits 58 name free refl, after_stop (is_byte 58) digits 58 name free refl, says_number (core digits) n says, known, shown) refl)
 place_read text (at_location name) (is, inl same) =
     let free = none_round_name 58 refl refl text name same (name_bytes name is) in
     rw (before_none (is_byte 58) text free, after_none (is_byte 58) text free, same) (location_named name is)
@@ -129,34 +129,34 @@ place_read text (at_location name) (is, inr (inner, whole, same)) =
 
 -- ---- settings
 
-pub put_is : (a b : Equation) → Some a ≡ Some b → a ≡ b
-put_is a b e = cc
+pub equation_is : (a b : Equation) → Some a ≡ Some b → a ≡ b
+equation_is a b e = cc
 
-pub put_from_found : (place : Option NamedPlace) (value : Option Value) (put : Equation) → put_from place value ≡ Some put → (place ≡ Some put.0) × (value ≡ Some put.1)
-put_from_found None value put e = absurd cc
-put_from_found (Some place) None put e = absurd cc
-put_from_found (Some place) (Some value) put e =
-    let same : (place, value) ≡ put = put_is (place, value) put e in
+pub equation_from_found : (place : Option NamedPlace) (value : Option Value) (equation : Equation) → equation_from place value ≡ Some equation → (place ≡ Some equation.0) × (value ≡ Some equation.1)
+equation_from_found None value equation e = absurd cc
+equation_from_found (Some place) None equation e = absurd cc
+equation_from_found (Some place) (Some value) equation e =
+    let same : (place, value) ≡ equation = equation_is (place, value) equation e in
     (ap (λ (p : Equation). Some p.0) same, ap (λ (p : Equation). Some p.1) same)
 
-pub setting_found : (text : List ℕ) (put : Equation) → setting_at text ≡ Some put → IsSetting text put
+pub setting_found : (text : List ℕ) (equation : Equation) → setting_at text ≡ Some equation → IsSetting text equation
 unfolding setting_at
-setting_found text put e = go (after (is_byte 61) text) refl e
+setting_found text equation e = go (after (is_byte 61) text) refl e
   where
-    go : (behind : Option (List ℕ)) → after (is_byte 61) text ≡ behind → setting_round (before (is_byte 61) text) behind ≡ Some put → IsSetting text put
+    go : (behind : Option (List ℕ)) → after (is_byte 61) text ≡ behind → setting_round (before (is_byte 61) text) behind ≡ Some equation → IsSetting text equation
     go None none h = absurd cc
     go (Some right) some h =
-        let told = put_from_found (place_in (before (is_byte 61) text)) (value_in right) put h in
-        (before (is_byte 61) text, right, cut_byte 61 text right some, place_found (before (is_byte 61) text) put.0 told.0, value_found right put.1 told.1)
+        let shown = equation_from_found (place_in (before (is_byte 61) text)) (value_in right) equation h in
+        (before (is_byte 61) text, right, cut_byte 61 text right some, place_found (before (is_byte 61) text) equation.0 shown.0, value_found right equation.1 shown.1)
 
-pub setting_read : (text : List ℕ) (put : Equation) → IsSetting text put → setting_at text ≡ Some put
+pub setting_read : (text : List ℕ) (equation : Equation) → IsSetting text equation → setting_at text ≡ Some equation
 unfolding setting_at
-setting_read text put (left, right, is, place, value) =
-    let free = place_free 61 refl refl refl refl refl left put.0 place in
-    rw is (rw (before_stop (is_byte 61) left 61 right free refl, after_stop (is_byte 61) left 61 right free refl, place_read left put.0 place, value_read right put.1 value) refl)
+setting_read text equation (left, right, is, place, value) =
+    let free = place_free 61 refl refl refl refl refl left equation.0 place in
+    rw is (rw (before_stop (is_byte 61) left 61 right free refl, after_stop (is_byte 61) left 61 right free refl, place_read left equation.0 place, value_read right equation.1 value) refl)
 
 -- ---- what the reader answers
 
 pub found_setting : (text : List ℕ) (o : Option Equation) → o ≡ setting_at text → IfSome o (IsSetting text)
 found_setting text None e = tt
-found_setting text (Some put) e = setting_found text put (sym e)
+found_setting text (Some equation) e = setting_found text equation (sym e)

@@ -75,10 +75,10 @@ begun_plain c rest plain = rw (plain.open_none, plain.close_none, plain.tilde_no
 -- ---- what is spelled is read
 
 -- an atom, where it is known to be one
-atom_read : (first : ℕ) (others rest : List ℕ) (put : Equation) → NonePass is_mark (first ∷ others) → EndsAtom rest → behind_not (first ∷ (others ++ rest)) ≡ None → IsSetting (first ∷ others) put → unmarked (first ∷ (others ++ rest)) ≡ begins (atom put) rest
+atom_read : (first : ℕ) (others rest : List ℕ) (equation : Equation) → NonePass is_mark (first ∷ others) → EndsAtom rest → behind_not (first ∷ (others ++ rest)) ≡ None → IsSetting (first ∷ others) equation → unmarked (first ∷ (others ++ rest)) ≡ begins (atom equation) rest
 unfolding unmarked
-atom_read first others rest put none ends no_name is =
-    rw (no_name, before_mark (first ∷ others) rest none ends, from_mark (first ∷ others) rest none ends, setting_read (first ∷ others) put is) refl
+atom_read first others rest equation none ends no_name is =
+    rw (no_name, before_mark (first ∷ others) rest none ends, from_mark (first ∷ others) rest none ends, setting_read (first ∷ others) equation is) refl
 
 spelled_begun : (token : Token) (bytes rest : List ℕ) → Spells token bytes rest → beginning_of (bytes ++ rest) ≡ begins token rest
 unfolding beginning_of begun unmarked behind_not
@@ -88,10 +88,10 @@ spelled_begun token bytes rest (tilde more) = refl
 spelled_begun token bytes rest (named_not more ends) = rw ends refl
 spelled_begun token bytes rest (both more) = refl
 spelled_begun token bytes rest (either more) = refl
-spelled_begun token bytes rest (says first others more put solid none ends no_name is) =
+spelled_begun token bytes rest (says first others more equation solid none ends no_name is) =
     ap begun (at_solid first (others ++ more) solid)
     ∙ begun_plain first (others ++ more) (plain_is first none.0)
-    ∙ atom_read first others more put none ends no_name is
+    ∙ atom_read first others more equation none ends no_name is
 
 beginning_behind : (gaps text : List ℕ) → AllPass is_gap gaps → beginning_of (gaps ++ text) ≡ beginning_of text
 unfolding beginning_of
@@ -127,10 +127,10 @@ paired_found c second (d ∷ more) one token rest spells e = go (d == second) re
   where
     go : (b : Bool) → (d == second) ≡ b → Spelled (c ∷ d ∷ more) token rest
     go true is =
-        let told = rw is at e in
+        let shown = rw is at e in
         let same = eqb-true d second is in
-        let whole : c ∷ d ∷ more ≡ (c ∷ second ∷ []) ++ rest = (let r = begins_rest one token more rest told in cc) in
-        record { bytes = c ∷ second ∷ []; whole = whole; spells = subst (λ (t : Token). Spells t (c ∷ second ∷ []) rest) (begins_token one token more rest told) (spells rest) }
+        let whole : c ∷ d ∷ more ≡ (c ∷ second ∷ []) ++ rest = (let r = begins_rest one token more rest shown in cc) in
+        record { bytes = c ∷ second ∷ []; whole = whole; spells = subst (λ (t : Token). Spells t (c ∷ second ∷ []) rest) (begins_token one token more rest shown) (spells rest) }
     go false isnt = (let never = rw isnt at e in absurd cc)
 
 one_found : (c d : ℕ) (behind : List ℕ) (one token : Token) (rest : List ℕ) → c ≡ d → ((more : List ℕ) → Spells one (d ∷ []) more) → begins one behind ≡ begins token rest → Spelled (c ∷ behind) token rest
@@ -144,22 +144,22 @@ not_front text rest e = go (starts_with nat_eq text (codes "not") && ends_name (
   where
     go : (t : Bool) → (starts_with nat_eq text (codes "not") && ends_name (drop 3 text)) ≡ t → (text ≡ codes "not" ++ rest) × (ends_name rest ≡ true)
     go true is =
-        let told = rw is at e in
+        let shown = rw is at e in
         let same : drop 3 text ≡ rest = cc in
         let parts = and_parts (starts_with nat_eq text (codes "not")) (ends_name (drop 3 text)) is in
         let cut = (starts_is Decides-eqb text (codes "not") (starts_with nat_eq text (codes "not")) refl).0 parts.0 in
         subst (λ (r : List ℕ). (text ≡ codes "not" ++ r) × (ends_name r ≡ true)) same (cut, parts.1)
     go false isnt = (let never = rw isnt at e in absurd cc)
 
-atom_found : (c : ℕ) (behind : List ℕ) (token : Token) (rest : List ℕ) (put : Option Equation) → is_gap c ≡ false → is_mark c ≡ false → behind_not (c ∷ behind) ≡ None → setting_at (c ∷ before is_mark behind) ≡ put → atom_from put (from_first is_mark behind) ≡ begins token rest → Spelled (c ∷ behind) token rest
+atom_found : (c : ℕ) (behind : List ℕ) (token : Token) (rest : List ℕ) (equation : Option Equation) → is_gap c ≡ false → is_mark c ≡ false → behind_not (c ∷ behind) ≡ None → setting_at (c ∷ before is_mark behind) ≡ equation → atom_from equation (from_first is_mark behind) ≡ begins token rest → Spelled (c ∷ behind) token rest
 atom_found c behind token rest None solid plain no_name is e = absurd cc
-atom_found c behind token rest (Some put) solid plain no_name is e =
+atom_found c behind token rest (Some equation) solid plain no_name is e =
     let cut = stretch behind in
-    let same = begins_rest (atom put) token (from_first is_mark behind) rest e in
+    let same = begins_rest (atom equation) token (from_first is_mark behind) rest e in
     let whole : c ∷ behind ≡ (c ∷ before is_mark behind) ++ from_first is_mark behind = ap (λ (ys : List ℕ). c ∷ ys) cut.whole in
-    let spells = says c (before is_mark behind) (from_first is_mark behind) put solid (plain, cut.none) cut.ends (subst (λ (ys : List ℕ). behind_not (c ∷ ys) ≡ None) cut.whole no_name) (setting_found (c ∷ before is_mark behind) put is) in
+    let spells = says c (before is_mark behind) (from_first is_mark behind) equation solid (plain, cut.none) cut.ends (subst (λ (ys : List ℕ). behind_not (c ∷ ys) ≡ None) cut.whole no_name) (setting_found (c ∷ before is_mark behind) equation is) in
     subst (λ (r : List ℕ). Spelled (c ∷ behind) token r) same
-    (subst (λ (t : Token). Spelled (c ∷ behind) t (from_first is_mark behind)) (begins_token (atom put) token (from_first is_mark behind) rest e)
+    (subst (λ (t : Token). Spelled (c ∷ behind) t (from_first is_mark behind)) (begins_token (atom equation) token (from_first is_mark behind) rest e)
     (record { bytes = c ∷ before is_mark behind; whole = whole; spells = spells }))
 
 unmarked_found : (c : ℕ) (behind : List ℕ) (token : Token) (rest : List ℕ) → is_gap c ≡ false → is_mark c ≡ false → unmarked (c ∷ behind) ≡ begins token rest → Spelled (c ∷ behind) token rest
@@ -169,11 +169,11 @@ unmarked_found c behind token rest solid plain e = go (behind_not (c ∷ behind)
     go : (o : Option (List ℕ)) → behind_not (c ∷ behind) ≡ o → Spelled (c ∷ behind) token rest
     go None no_name = atom_found c behind token rest (setting_at (c ∷ before is_mark behind)) solid plain no_name refl (rw (no_name, plain) at e)
     go (Some more) name =
-        let told = rw name at e in
+        let shown = rw name at e in
         let front = not_front (c ∷ behind) more name in
-        let same = begins_rest negation token more rest told in
+        let same = begins_rest negation token more rest shown in
         subst (λ (r : List ℕ). Spelled (c ∷ behind) token r) same
-        (subst (λ (t : Token). Spelled (c ∷ behind) t more) (begins_token negation token more rest told)
+        (subst (λ (t : Token). Spelled (c ∷ behind) t more) (begins_token negation token more rest shown)
         (record { bytes = codes "not"; whole = front.0; spells = named_not more front.1 }))
 
 begun_found : (c : ℕ) (behind : List ℕ) (token : Token) (rest : List ℕ) → is_gap c ≡ false → begun (c ∷ behind) ≡ begins token rest → Spelled (c ∷ behind) token rest
@@ -205,14 +205,14 @@ paired_some one second (d ∷ more) e = go (d == second) refl
     go true is = (let never = rw is at e in absurd cc)
     go false isnt = (let never = rw isnt at e in absurd cc)
 
-told_some : (name : Option (List ℕ)) (put : Option Equation) (rest : List ℕ) → negation_or name (atom_from put rest) ≡ nothing → ⊥
-told_some (Some more) put rest e = absurd cc
-told_some None None rest e = absurd cc
-told_some None (Some put) rest e = absurd cc
+shown_some : (name : Option (List ℕ)) (equation : Option Equation) (rest : List ℕ) → negation_or name (atom_from equation rest) ≡ nothing → ⊥
+shown_some (Some more) equation rest e = absurd cc
+shown_some None None rest e = absurd cc
+shown_some None (Some equation) rest e = absurd cc
 
 unmarked_some : (text : List ℕ) → unmarked text ≡ nothing → ⊥
 unfolding unmarked
-unmarked_some text e = told_some (behind_not text) (setting_at (before is_mark text)) (from_first is_mark text) e
+unmarked_some text e = shown_some (behind_not text) (setting_at (before is_mark text)) (from_first is_mark text) e
 
 begun_nothing : (solid : List ℕ) → begun solid ≡ nothing → solid ≡ []
 unfolding begun
@@ -232,15 +232,15 @@ unfolding beginning_of
 are_tokens [] text e = go (beginning_of text) refl (sym (tokens_cut text) ∙ e)
   where
     go : (b : Beginning) → beginning_of text ≡ b → tokens_from tokens_of b ≡ ended → AreTokens text []
-    go nothing is told = no_more text (leading_gone is_gap text (begun_nothing (without_leading is_gap text) is))
-    go (begins token rest) is told = absurd cc
-    go no_token is told = absurd cc
+    go nothing is shown = no_more text (leading_gone is_gap text (begun_nothing (without_leading is_gap text) is))
+    go (begins token rest) is shown = absurd cc
+    go no_token is shown = absurd cc
 are_tokens (token ∷ tokens) text e = go (are_tokens tokens) (beginning_of text) refl (sym (tokens_cut text) ∙ e)
   where
     go : ((rest : List ℕ) → tokens_of rest ≡ listed tokens → AreTokens rest tokens) → (b : Beginning) → beginning_of text ≡ b → tokens_from tokens_of b ≡ goes_on token (listed tokens) → AreTokens text (token ∷ tokens)
-    go others nothing is told = absurd cc
-    go others (begins first rest) is told =
+    go others nothing is shown = absurd cc
+    go others (begins first rest) is shown =
         let same : first ≡ token = cc in
         let rest_is : tokens_of rest ≡ listed tokens = cc in
         token_found text (without_leading is_gap text) token rest tokens refl (is ∙ ap (λ (t : Token). begins t rest) same) (others rest rest_is)
-    go others no_token is told = absurd cc
+    go others no_token is shown = absurd cc

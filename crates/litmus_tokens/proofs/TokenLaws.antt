@@ -22,9 +22,9 @@ not_or_less c rest other less = go (starts_with nat_eq (c ∷ rest) (codes "not"
     go true is = rw is (omega (arith, length-drop 3 (c ∷ rest)))
     go false isnt = rw isnt less
 
-atom_less : (c : ℕ) (rest : List ℕ) (put : Option Equation) → is_mark c ≡ false → LeavesLess (c ∷ rest) (atom_from put (from_first is_mark (c ∷ rest)))
+atom_less : (c : ℕ) (rest : List ℕ) (equation : Option Equation) → is_mark c ≡ false → LeavesLess (c ∷ rest) (atom_from equation (from_first is_mark (c ∷ rest)))
 atom_less c rest None other = tt
-atom_less c rest (Some put) other = rw other (omega (arith, length-from_first is_mark rest))
+atom_less c rest (Some equation) other = rw other (omega (arith, length-from_first is_mark rest))
 
 unmarked_less : (c : ℕ) (rest : List ℕ) → is_mark c ≡ false → LeavesLess (c ∷ rest) (unmarked (c ∷ rest))
 unfolding unmarked

@@ -53,14 +53,14 @@ place_in text = place_round (before (is_byte 58) text) (after (is_byte 58) text)
 
 -- ---- settings
 
-abbrev pub put_from : Option NamedPlace → Option Value → Option Equation
-put_from None value = None
-put_from (Some place) None = None
-put_from (Some place) (Some value) = Some (place, value)
+abbrev pub equation_from : Option NamedPlace → Option Value → Option Equation
+equation_from None value = None
+equation_from (Some place) None = None
+equation_from (Some place) (Some value) = Some (place, value)
 
 abbrev pub setting_round : List ℕ → Option (List ℕ) → Option Equation
 setting_round left None = None
-setting_round left (Some right) = put_from (place_in left) (value_in right)
+setting_round left (Some right) = equation_from (place_in left) (value_in right)
 
 unfoldable pub setting_at : List ℕ → Option Equation
 setting_at text = setting_round (before (is_byte 61) text) (after (is_byte 61) text)
@@ -86,8 +86,8 @@ unfoldable pub item_place_in : List ℕ → Option NamedPlace
 item_place_in text = place_or (declared_in text) (place_in text)
 
 abbrev pub item_round : List ℕ → Option (List ℕ) → Option Equation
-item_round text None = put_from (declared_in text) (Some (number 0))
-item_round left (Some right) = put_from (item_place_in left) (value_in right)
+item_round text None = equation_from (declared_in text) (Some (number 0))
+item_round left (Some right) = equation_from (item_place_in left) (value_in right)
 
 -- the text before the `=`, if it has one, and the value after it
 unfoldable pub item_at : List ℕ → Option Equation

@@ -38,7 +38,7 @@ IsNamedPlace text (at_location name) = IsTrue (is_name name) × ((core text ≡ 
 
 -- The text puts a value: a place, `=` (61), and the value.
 abbrev pub IsSetting : List ℕ → Equation → Type 0
-IsSetting text put = (left right : List ℕ) × (text ≡ left ++ 61 ∷ right) × IsNamedPlace left put.0 × IsValue right put.1
+IsSetting text equation = (left right : List ℕ) × (text ≡ left ++ 61 ∷ right) × IsNamedPlace left equation.0 × IsValue right equation.1
 
 -- `int` and a name, with a gap between them
 abbrev pub IsDeclared : List ℕ → NamedPlace → Type 0
@@ -47,7 +47,7 @@ IsDeclared text (at_location name) = (gap : ℕ) × (rest : List ℕ) × (core t
 
 -- The item puts a value: a setting, or one of a declared location, which gets 0 where no value is given.
 abbrev pub IsItem : List ℕ → Equation → Type 0
-IsItem text put = IsSetting text put ⊎ (((left right : List ℕ) × (text ≡ left ++ 61 ∷ right) × IsDeclared left put.0 × IsValue right put.1) ⊎ (IsDeclared text put.0 × (put.1 ≡ number 0)))
+IsItem text equation = IsSetting text equation ⊎ (((left right : List ℕ) × (text ≡ left ++ 61 ∷ right) × IsDeclared left equation.0 × IsValue right equation.1) ⊎ (IsDeclared text equation.0 × (equation.1 ≡ number 0)))
 
 -- ---- what the code's values stand for
 
@@ -59,9 +59,9 @@ abbrev pub value_of : Worth → Value
 value_of (Number n) = number n
 value_of (Address name) = address_of name.now
 
-abbrev pub put_of : Setting → Equation
-put_of setting = (place_of setting.spot, value_of setting.worth)
+abbrev pub equation_of : Setting → Equation
+equation_of setting = (place_of setting.spot, value_of setting.worth)
 
-abbrev pub puts : Option Setting → Option Equation
-puts None = None
-puts (Some setting) = Some (put_of setting)
+abbrev pub equations : Option Setting → Option Equation
+equations None = None
+equations (Some setting) = Some (equation_of setting)

@@ -4,7 +4,7 @@ use Rattle.std.specs.List.{starts_with}
 use Rattle.texts.specs.Cutting.{before, AllPass, NonePass, from_first, without_leading}
 use Rattle.texts.specs.Pieces.{is_gap}
 use Rattle.litmus_tokens.specs.Names.{goes_on_name}
-use Rattle.litmus_tokens.specs.Settings.{Equation, IsSetting, put_of}
+use Rattle.litmus_tokens.specs.Settings.{Equation, IsSetting, equation_of}
 use Rattle.litmus_tokens.specs.Reading.{setting_at}
 use Rattle.litmus_tokens.specs.declared.tokens.Token as coded
 use Rattle.litmus_tokens.specs.declared.tokens.Token.TheVariants as code
@@ -51,7 +51,7 @@ paired token second (c ∷ rest) = if c == second then begins token rest else no
 
 abbrev pub atom_from : Option Equation → List ℕ → Beginning
 atom_from None rest = no_token
-atom_from (Some put) rest = begins (atom put) rest
+atom_from (Some equation) rest = begins (atom equation) rest
 
 abbrev pub negation_or : Option (List ℕ) → Beginning → Beginning
 negation_or None other = other
@@ -98,7 +98,7 @@ LeavesLess text no_token = Unit {0}
 -- ---- what the code's values stand for
 
 abbrev pub token_of : coded.Token → Token
-token_of (code.Is setting) = atom (put_of setting)
+token_of (code.Is setting) = atom (equation_of setting)
 token_of code.Not = negation
 token_of code.And = conjunction
 token_of code.Or = disjunction
@@ -125,7 +125,7 @@ pub data Spells : Token → (bytes rest : List ℕ) → Type 0 where
   named_not : (rest : List ℕ) → ends_name rest ≡ true → Spells negation (codes "not") rest
   both : (rest : List ℕ) → Spells conjunction (47 ∷ 92 ∷ []) rest
   either : (rest : List ℕ) → Spells disjunction (92 ∷ 47 ∷ []) rest
-  says : (first : ℕ) (others rest : List ℕ) (put : Equation) → is_gap first ≡ false → NonePass is_mark (first ∷ others) → EndsAtom rest → behind_not (first ∷ (others ++ rest)) ≡ None → IsSetting (first ∷ others) put → Spells (atom put) (first ∷ others) rest
+  says : (first : ℕ) (others rest : List ℕ) (equation : Equation) → is_gap first ≡ false → NonePass is_mark (first ∷ others) → EndsAtom rest → behind_not (first ∷ (others ++ rest)) ≡ None → IsSetting (first ∷ others) equation → Spells (atom equation) (first ∷ others) rest
 
 -- The text is these tokens, with gaps before, between and after them.
 pub data AreTokens : List ℕ → List Token → Type 0 where

@@ -3,8 +3,8 @@
 ghost use Rattle.std.specs.Prelude.{◌≡◌, Some, IfSome, option_map};
 ghost use Rattle.std.specs.Option.{option_copied};
 ghost use Rattle.litmus_tokens.specs.Names.{core};
-ghost use Rattle.litmus_tokens.specs.Settings.{Equation, IsSetting, IsItem, place_of, value_of, puts};
-ghost use Rattle.litmus_tokens.specs.Reading.{value_in, named, location_in, register_from, place_in, put_from, setting_at, begins_with_gap, behind_int, declared_in, item_place_in, item_at};
+ghost use Rattle.litmus_tokens.specs.Settings.{Equation, IsSetting, IsItem, place_of, value_of, equations};
+ghost use Rattle.litmus_tokens.specs.Reading.{value_in, named, location_in, register_from, place_in, equation_from, setting_at, begins_with_gap, behind_int, declared_in, item_place_in, item_at};
 
 use crate::names::{is_name, word_in};
 use rv_decode::{Reg, register_named};
@@ -103,7 +103,7 @@ fn spot_in(text: &[u8]) -> Option<Spot<'_>>
 }
 
 fn put<'a>(spot: Option<Spot<'a>>, worth: Option<Worth<'a>>) -> Option<Setting<'a>>
-    ensures { puts result ≡ put_from (option_map place_of spot.entry) (option_map value_of worth.entry) }
+    ensures { equations result ≡ equation_from (option_map place_of spot.entry) (option_map value_of worth.entry) }
 {
     match (spot, worth) {
         (Some(spot), Some(worth)) => Some(Setting { spot, worth }),
@@ -113,7 +113,7 @@ fn put<'a>(spot: Option<Spot<'a>>, worth: Option<Worth<'a>>) -> Option<Setting<'
 
 #[tactic(auto, unfolding(crate::specs::Reading::setting_at))]
 fn setting_of(text: &[u8]) -> Option<Setting<'_>>
-    ensures { puts result ≡ setting_at text.now }
+    ensures { equations result ≡ setting_at text.now }
 {
     let (left, right) = cut_at(text, b'=');
     match right {
@@ -128,9 +128,9 @@ fn setting_of(text: &[u8]) -> Option<Setting<'_>>
 /// Blanks and LFs may stand round the whole and round `:`, `=` and a name in brackets. The text is a
 /// cleaned one: a CR is no blank.
 pub fn setting_in(text: &[u8]) -> Option<Setting<'_>>
-    ensures found { IfSome (puts result) (IsSetting text.now) }
-    ensures only { (put : Equation) → IsSetting text.now put → puts result ≡ Some put }
-    ensures exact { puts result ≡ setting_at text.now }
+    ensures found { IfSome (equations result) (IsSetting text.now) }
+    ensures only { (equation : Equation) → IsSetting text.now equation → equations result ≡ Some equation }
+    ensures exact { equations result ≡ setting_at text.now }
 {
     setting_of(text)
 }
@@ -179,7 +179,7 @@ fn item_spot_in(text: &[u8]) -> Option<Spot<'_>>
 
 #[tactic(auto, unfolding(crate::specs::Reading::item_at))]
 fn item_of(text: &[u8]) -> Option<Setting<'_>>
-    ensures { puts result ≡ item_at text.now }
+    ensures { equations result ≡ item_at text.now }
 {
     let (left, right) = cut_at(text, b'=');
     match right {
@@ -193,9 +193,9 @@ fn item_of(text: &[u8]) -> Option<Setting<'_>>
 ///
 /// A blank or LF follows the `int` there, so `int=5` puts 5 at the location `int`.
 pub fn item_in(text: &[u8]) -> Option<Setting<'_>>
-    ensures found { IfSome (puts result) (IsItem text.now) }
-    ensures only { (put : Equation) → IsItem text.now put → puts result ≡ Some put }
-    ensures exact { puts result ≡ item_at text.now }
+    ensures found { IfSome (equations result) (IsItem text.now) }
+    ensures only { (equation : Equation) → IsItem text.now equation → equations result ≡ Some equation }
+    ensures exact { equations result ≡ item_at text.now }
 {
     item_of(text)
 }

@@ -1,6 +1,7 @@
 -- What one entry changes of all that is read off a history: an act by its hart's need, a landing by
 -- the store that lands. All rings go by these two records and by nothing else of the machine.
-use Rattle.std.proofs.Common.{ℕ, ◌<◌, ◌≡◌, ◌≢◌, ◌==◌, Bool, true, false, List, [], ◌∷◌, ◌++◌, length, take, drop, Some, if◌then◌else◌, refl, sym, ◌∙◌, ap, subst, arith, eq-eqb, append-nil}
+use Rattle.std.proofs.Common.{ℕ, ◌<◌, ◌≡◌, ◌≢◌, ◌==◌, Bool, true, false, List, [], ◌∷◌, ◌++◌, length, take, drop, Some}
+use Rattle.std.proofs.Common.{if◌then◌else◌, refl, sym, ◌∙◌, ap, subst, arith, eq-eqb, append-nil}
 use Rattle.std.specs.Prelude.{option_map}
 use Rattle.std.proofs.lemmas.Bool.Decides.{nat_tests}
 use Rattle.hart.specs.State.{HartState}
@@ -87,7 +88,12 @@ seen P h k true es need.Inner v is plain = record { stores = refl; says = refl; 
 seen P h k false es need.Inner v is plain = record { stores = refl; says = refl; lands = refl; writes = refl }
 seen P h k true es (need.Load a width) v is plain = record { stores = refl; says = refl; lands = refl; writes = refl }
 seen P h k false es (need.Load a width) v is plain = record { stores = refl; says = refl; lands = refl; writes = refl }
-seen P h k true es (need.Store a width w) v is plain = record { stores = rw is (ap (λ z. write a z w ∷ []) (whole_width width (width == 4) refl plain.0)); says = refl; lands = refl; writes = refl }
+seen P h k true es (need.Store a width w) v is plain = record {
+  stores = rw is (ap (λ z. write a z w ∷ []) (whole_width width (width == 4) refl plain.0));
+  says = refl;
+  lands = refl;
+  writes = refl;
+}
 seen P h k false es (need.Store a width w) v is plain = record { stores = rw is refl; says = refl; lands = refl; writes = refl }
 seen P h k same es (need.Amo a op rs2) v is plain = absurd plain
 seen P h k true es (need.Fence full) v is plain = record { stores = refl; says = refl; lands = refl; writes = refl }
@@ -129,10 +135,12 @@ touches P l k h need.Exit v plain reach = tt
 touches P l k h (need.Stop why) v plain reach = absurd plain
 
 -- and what it writes, if it writes, is a whole word
-writes_word : (P : ℕ → Type 0) (h : ℕ) (n : Need) (v : ℕ) → IsNoAmo P n → ((x : ℕ × ℕ) → stored_by n ≡ x ∷ [] → IsWholeWord (as_write x)) → WritesWord (access_of (entry_of h n v))
+writes_word : (P : ℕ → Type 0) (h : ℕ) (n : Need) (v : ℕ) → IsNoAmo P n
+    → ((x : ℕ × ℕ) → stored_by n ≡ x ∷ [] → IsWholeWord (as_write x)) → WritesWord (access_of (entry_of h n v))
 writes_word P h need.Inner v plain whole = tt
 writes_word P h (need.Load a width) v plain whole = tt
-writes_word P h (need.Store a width w) v plain whole = subst (λ (z : ℕ). IsWholeWord (write a z w)) (sym (whole_width width (width == 4) refl plain.0)) (whole (a, w) refl)
+writes_word P h (need.Store a width w) v plain whole =
+    subst (λ (z : ℕ). IsWholeWord (write a z w)) (sym (whole_width width (width == 4) refl plain.0)) (whole (a, w) refl)
 writes_word P h (need.Amo a op rs2) v plain whole = absurd plain
 writes_word P h (need.Fence full) v plain whole = tt
 writes_word P h (need.Next w) v plain whole = tt
@@ -146,13 +154,17 @@ pub record Plain (P : ℕ → Type 0) (n : Need) : Type 0 where
   pub no_amo : IsNoAmo P n
   pub whole : (x : ℕ × ℕ) → stored_by n ≡ x ∷ [] → IsWholeWord (as_write x)
 
-pub going : (P : ℕ → Type 0) (l : Layout) (n : ℕ) (B M : ℕ) (t : History) (h : ℕ) (s : HartState) (e : Entry) → state_of M t h ≡ Some s → CanFollow B M t e → hart_of e ≡ h → is_land e ≡ false → (s.status ≡ status.Running → Plain P (need_of s)) → ((a : ℕ) → P a → StaysWithin l n h a 4) → GoesOn e × WritesWord (access_of e) × Touches l n e
+pub going : (P : ℕ → Type 0) (l : Layout) (n : ℕ) (B M : ℕ) (t : History) (h : ℕ) (s : HartState) (e : Entry)
+    → state_of M t h ≡ Some s → CanFollow B M t e → hart_of e ≡ h → is_land e ≡ false
+    → (s.status ≡ status.Running → Plain P (need_of s)) → ((a : ℕ) → P a → StaysWithin l n h a 4)
+    → GoesOn e × WritesWord (access_of e) × Touches l n e
 going P l n B M t h s e is can mine act plain reach =
     let both : CanMake s e × Allowed B t.opening t.entries e = act_only B M t h s e mine act is can in
     let p : Plain P (need_of s) = plain both.0.running in (
       subst GoesOn (sym both.0.made) (goes_on P (hart_of e) (need_of s) (value_of e) p.no_amo),
       subst (λ (d : Entry). WritesWord (access_of d)) (sym both.0.made) (writes_word P (hart_of e) (need_of s) (value_of e) p.no_amo p.whole),
-      subst (Touches l n) (sym both.0.made) (touches P l n (hart_of e) (need_of s) (value_of e) p.no_amo (λ a there. subst (λ (j : ℕ). StaysWithin l n j a 4) (sym mine) (reach a there))),
+      subst (Touches l n) (sym both.0.made) (touches P l n (hart_of e) (need_of s) (value_of e) p.no_amo
+          (λ a there. subst (λ (j : ℕ). StaysWithin l n j a 4) (sym mine) (reach a there))),
     )
 
 -- what a load read
@@ -171,21 +183,29 @@ pub record Acted (M : ℕ) (t new : History) (h : ℕ) (s : HartState) (v : ℕ)
   pub others : (k : ℕ) → k ≢ h → reported k new.entries ≡ reported k t.entries
   pub loaded : (a : ℕ) → need_of s ≡ loads a → v ≡ read t.opening t.entries h a 4
 
-pub acted : (P : ℕ → Type 0) (B M : ℕ) (t : History) (h : ℕ) (s : HartState) (e : Entry) → Legal B t → state_of M t h ≡ Some s → CanFollow B M t e → hart_of e ≡ h → is_land e ≡ false → (s.status ≡ status.Running → Plain P (need_of s)) → Acted M t (with_entry t e) h s (value_of e)
+pub acted : (P : ℕ → Type 0) (B M : ℕ) (t : History) (h : ℕ) (s : HartState) (e : Entry) → Legal B t
+    → state_of M t h ≡ Some s → CanFollow B M t e → hart_of e ≡ h → is_land e ≡ false
+    → (s.status ≡ status.Running → Plain P (need_of s)) → Acted M t (with_entry t e) h s (value_of e)
 acted P B M t h s e legal is can mine act no_amo =
     let both : CanMake s e × Allowed B t.opening t.entries e = act_only B M t h s e mine act is can in
     let plain : IsNoAmo P (need_of s) = (no_amo both.0.running).no_amo in
     let made : e ≡ entry_of h (need_of s) (value_of e) = subst (λ (j : ℕ). e ≡ entry_of j (need_of s) (value_of e)) mine both.0.made in
-    let me : Seen h h true t.entries (need_of s) e = subst (λ (d : Entry). Seen h h true t.entries (need_of s) d) (sym made) (seen P h h true t.entries (need_of s) (value_of e) (eq-eqb h h refl) plain) in
+    let me : Seen h h true t.entries (need_of s) e = subst (λ (d : Entry). Seen h h true t.entries (need_of s) d)
+    (sym made) (seen P h h true t.entries (need_of s) (value_of e) (eq-eqb h h refl) plain) in
     record {
       running = both.0.running;
       state = state_of-mine M t h e mine act ∙ ap (option_map (λ z. advanced z (value_of e))) is;
       states = λ k other. state_of-other M t k e (not_mine k (λ same. other (same ∙ mine)));
-      buffer = pending-last h t.entries e (balanced B t h legal) ∙ ap (λ j. drop j (pending h t.entries ++ store_of h e)) me.lands ∙ ap (λ ps. pending h t.entries ++ ps) me.stores;
-      buffers = λ k other. pending-last k t.entries e (balanced B t k legal) ∙ ap (λ j. drop j (pending k t.entries ++ store_of k e)) (them plain made k other).lands ∙ ap (λ ps. pending k t.entries ++ ps) (them plain made k other).stores ∙ append-nil (pending k t.entries);
+      buffer = pending-last h t.entries e (balanced B t h legal)
+          ∙ ap (λ j. drop j (pending h t.entries ++ store_of h e)) me.lands
+          ∙ ap (λ ps. pending h t.entries ++ ps) me.stores;
+      buffers = λ k other. pending-last k t.entries e (balanced B t k legal)
+          ∙ ap (λ j. drop j (pending k t.entries ++ store_of k e)) (them plain made k other).lands
+          ∙ ap (λ ps. pending k t.entries ++ ps) (them plain made k other).stores ∙ append-nil (pending k t.entries);
       memory = λ a. word_in_memory-other t.opening t.entries e a me.writes;
       reports = reported-last h t.entries e ∙ ap (λ rs. reported h t.entries ++ rs) me.says;
-      others = λ k other. reported-last k t.entries e ∙ ap (λ rs. reported k t.entries ++ rs) (them plain made k other).says ∙ append-nil (reported k t.entries);
+      others = λ k other. reported-last k t.entries e
+          ∙ ap (λ rs. reported k t.entries ++ rs) (them plain made k other).says ∙ append-nil (reported k t.entries);
       loaded = λ a wants. reads_by B t h a (value_of e) (subst (Allowed B t.opening t.entries) (made ∙ ap (λ n. entry_of h n (value_of e)) wants) both.1);
     }
   where
@@ -193,7 +213,9 @@ acted P B M t h s e legal is can mine act no_amo =
     not_mine k other = let off : (hart_of e == k) ≡ false = grind (arith, nat_tests) in rw off refl
 
     them : IsNoAmo P (need_of s) → e ≡ entry_of h (need_of s) (value_of e) → (k : ℕ) → k ≢ h → Seen h k false t.entries (need_of s) e
-    them plain made k other = let off : (h == k) ≡ false = grind (arith, nat_tests) in subst (λ (d : Entry). Seen h k false t.entries (need_of s) d) (sym made) (seen P h k false t.entries (need_of s) (value_of e) off plain)
+    them plain made k other = let off : (h == k) ≡ false = grind (arith, nat_tests) in
+        subst (λ (d : Entry). Seen h k false t.entries (need_of s) d) (sym made)
+        (seen P h k false t.entries (need_of s) (value_of e) off plain)
 
 -- hart h's oldest pending store x reached memory
 pub record Landed (M : ℕ) (t new : History) (h : ℕ) (w : Write) (rest : List Write) : Type 0 where
@@ -208,7 +230,8 @@ some_first : (ws : List Write) → 0 < length ws → (w : Write) × (rest : List
 some_first [] some = absurd (omega arith)
 some_first (w ∷ ws) some = (w, ws, refl)
 
-pub landed : (B M : ℕ) (t : History) (h : ℕ) → Legal B t → CanFollow B M t (entry.Land h) → (w : Write) × (rest : List Write) × Landed M t (with_entry t (entry.Land h)) h w rest
+pub landed : (B M : ℕ) (t : History) (h : ℕ) → Legal B t → CanFollow B M t (entry.Land h)
+    → (w : Write) × (rest : List Write) × Landed M t (with_entry t (entry.Land h)) h w rest
 landed B M t h legal can =
     let some = some_first (pending h t.entries) (Legal-last B t (entry.Land h) can.legal) in (
       some.0,

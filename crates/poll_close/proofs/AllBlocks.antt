@@ -1,5 +1,6 @@
 -- What a sender's act, and the landing of any store, make of all blocks.
-use Rattle.std.proofs.Common.{ℕ, ◌+◌, ◌%◌, ◌<◌, ◌≡◌, ◌≢◌, ◌==◌, ◌⊎◌, inl, inr, Bool, true, false, List, ◌∷◌, ◌++◌, length, None, if◌then◌else◌, refl, sym, ◌∙◌, ap, subst, arith}
+use Rattle.std.proofs.Common.{ℕ, ◌+◌, ◌%◌, ◌<◌, ◌≡◌, ◌≢◌, ◌==◌, ◌⊎◌, inl, inr, Bool, true, false, List, ◌∷◌, ◌++◌}
+use Rattle.std.proofs.Common.{length, None, if◌then◌else◌, refl, sym, ◌∙◌, ap, subst, arith}
 use Rattle.std.specs.Prelude.{unwrap_or}
 use Rattle.std.specs.List.{slice_get}
 use Rattle.std.proofs.lemmas.Bool.{cases_eq}
@@ -47,7 +48,9 @@ would_read seen need.Exit = 0
 would_read seen (need.Stop why) = 0
 
 -- a hart finds what its pending stores and memory hold, by words
-pub read_is : (t : History) (h a : ℕ) → OpensWithWords t.opening → AllWriteWords t.entries → a % 4 ≡ 0 → read t.opening t.entries h a 4 ≡ unwrap_or (newest_word a None (pending h t.entries)) (word_in_memory t.opening t.entries a)
+pub read_is : (t : History) (h a : ℕ) → OpensWithWords t.opening → AllWriteWords t.entries → a % 4 ≡ 0
+    → read t.opening t.entries h a 4
+    ≡ unwrap_or (newest_word a None (pending h t.entries)) (word_in_memory t.opening t.entries a)
 read_is t h a opens written aligned = read-word t.opening t.entries h a opens written aligned
 
 -- all that a block's statement sees is as it was
@@ -61,7 +64,8 @@ pub record Untouched (M : ℕ) (k : Block) (i : ℕ) (t new : History) : Type 0 
 abbrev pub Grown : (m : BlockMeaning) → ℕ → Block → ℕ → History → Count m → Type 0
 Grown m M k i new n = (after : Count m) × BlockPart m k M i new after × (after.receiver ≡ n.receiver)
 
-module _ (m : BlockMeaning) (laws : BlockLaws m) (M : ℕ) (k : Block) (i : ℕ) (t new : History) (n : Count m) (is : IsBlock k) (part : BlockPart m k M i t n) where
+module _ (m : BlockMeaning) (laws : BlockLaws m) (M : ℕ) (k : Block) (i : ℕ) (t new : History) (n : Count m)
+    (is : IsBlock k) (part : BlockPart m k M i t n) where
   pub untouched : Untouched M k i t new → BlockPart m k M i new n
   untouched u = record {
     order = part.order;
@@ -71,7 +75,9 @@ module _ (m : BlockMeaning) (laws : BlockLaws m) (M : ℕ) (k : Block) (i : ℕ)
   }
 
   -- a store landed
-  pub lands_part : (mine theirs : List (ℕ × ℕ)) → Lands m k n (word_in_memory new.opening new.entries) mine theirs → pending (i + 1) new.entries ≡ as_writes mine → to_block k (pending 0 new.entries) ≡ as_writes theirs → state_of M new (i + 1) ≡ state_of M t (i + 1) → Grown m M k i new n
+  pub lands_part : (mine theirs : List (ℕ × ℕ)) → Lands m k n (word_in_memory new.opening new.entries) mine theirs
+      → pending (i + 1) new.entries ≡ as_writes mine → to_block k (pending 0 new.entries) ≡ as_writes theirs
+      → state_of M new (i + 1) ≡ state_of M t (i + 1) → Grown m M k i new n
   lands_part mine theirs l my their state = (
     record n { landed = l.after },
     record {
@@ -87,23 +93,36 @@ module _ (m : BlockMeaning) (laws : BlockLaws m) (M : ℕ) (k : Block) (i : ℕ)
   pub sender_plain : part.sender.stands.status ≡ status.Running → Plain (IsWordOf k) (need_of part.sender.stands)
   sender_plain runs =
       let seen : ℕ → ℕ = found_in (unsent_of m k n) (word_in_memory t.opening t.entries) in
-      let sent : Sends m k n part.sender.stands (would_read seen (need_of part.sender.stands)) = laws.sends k n part.sender.stands (word_in_memory t.opening t.entries) (would_read seen (need_of part.sender.stands)) is part.order part.words part.sender.holds runs (λ a within wants. ap (would_read seen) wants) in
+      let sent : Sends m k n part.sender.stands (would_read seen (need_of part.sender.stands)) = laws.sends k n
+      part.sender.stands (word_in_memory t.opening t.entries) (would_read seen (need_of part.sender.stands)) is
+      part.order part.words part.sender.holds runs (λ a within wants. ap (would_read seen) wants) in
       record {
         no_amo = sent.plain;
-        whole = λ x one. IsStore-whole k x (laws.unsent_are k (record n { sender = sent.after }) is sent.order (length (unsent_of m k n)) x (ap (λ ps. slice_get ps (length (unsent_of m k n))) (sym sent.unsent ∙ ap (λ ps. unsent_of m k n ++ ps) one) ∙ get_end (unsent_of m k n) x));
+        whole = λ x one. IsStore-whole k x
+            (laws.unsent_are k (record n { sender = sent.after }) is sent.order (length (unsent_of m k n)) x
+            (ap (λ ps. slice_get ps (length (unsent_of m k n)))
+            (sym sent.unsent ∙ ap (λ ps. unsent_of m k n ++ ps) one) ∙ get_end (unsent_of m k n) x));
       }
 
   -- the sender acted
   pub acts_part : (v : ℕ) → OpensWithWords t.opening → AllWriteWords t.entries → Acted M t new (i + 1) part.sender.stands v → Grown m M k i new n
   acts_part v opens written a =
       let s : HartState = part.sender.stands in
-      let sent : Sends m k n s v = laws.sends k n s (word_in_memory t.opening t.entries) v is part.order part.words part.sender.holds a.running (λ b word wants. a.loaded b wants ∙ found b word.aligned) in (
+      let sent : Sends m k n s v = laws.sends k n s (word_in_memory t.opening t.entries) v is part.order part.words
+      part.sender.holds a.running (λ b word wants. a.loaded b wants ∙ found b word.aligned) in (
         record n { sender = sent.after },
         record {
           order = sent.order;
-          sender = record { stands = advanced s v; state = a.state; holds = sent.stands; buffer = a.buffer ∙ ap (λ ws. ws ++ as_writes (stored_by (need_of s))) part.sender.buffer ∙ sym (map-append as_write (unsent_of m k n) (stored_by (need_of s))) ∙ ap as_writes sent.unsent };
+          sender = record {
+            stands = advanced s v;
+            state = a.state;
+            holds = sent.stands;
+            buffer = a.buffer ∙ ap (λ ws. ws ++ as_writes (stored_by (need_of s))) part.sender.buffer
+                ∙ sym (map-append as_write (unsent_of m k n) (stored_by (need_of s))) ∙ ap as_writes sent.unsent;
+          };
           theirs = ap (to_block k) (a.buffers 0 (omega arith)) ∙ part.theirs;
-          words = laws.words_same k n.landed (word_in_memory t.opening t.entries) (word_in_memory new.opening new.entries) is (λ b within. a.memory b) part.words;
+          words = laws.words_same k n.landed (word_in_memory t.opening t.entries)
+              (word_in_memory new.opening new.entries) is (λ b within. a.memory b) part.words;
         },
         refl,
       )
@@ -124,17 +143,23 @@ pub record BlocksAfter (m : BlockMeaning) (M : ℕ) (S : Layout) (lists : List (
   pub parts : (i : ℕ) → i < length lists → BlockPart m (block_of M S lists i) M i new (numbers i)
   pub same : (i : ℕ) → i < length lists → (numbers i).receiver ≡ (f i).receiver
 
-module _ (m : BlockMeaning) (laws : BlockLaws m) (B M : ℕ) (S : Layout) (lists : List (List ℕ)) (are : (i : ℕ) → i < length lists → IsBlock (block_of M S lists i)) (t : History) (f : ℕ → Count m) (legal : Legal B t) (opens : OpensWithWords t.opening) (written : AllWriteWords t.entries) (parts : (i : ℕ) → i < length lists → BlockPart m (block_of M S lists i) M i t (f i)) where
+module _ (m : BlockMeaning) (laws : BlockLaws m) (B M : ℕ) (S : Layout) (lists : List (List ℕ))
+    (are : (i : ℕ) → i < length lists → IsBlock (block_of M S lists i)) (t : History) (f : ℕ → Count m)
+    (legal : Legal B t) (opens : OpensWithWords t.opening) (written : AllWriteWords t.entries)
+    (parts : (i : ℕ) → i < length lists → BlockPart m (block_of M S lists i) M i t (f i)) where
   abbrev Now : History → ℕ → Type 0
   Now new i = Grown m M (block_of M S lists i) i new (f i)
 
   all_now : (new : History) → ((i : ℕ) → i < length lists → Now new i) → BlocksAfter m M S lists new f
   all_now new each =
-      let g = choose (Count m) (λ i n. BlockPart m (block_of M S lists i) M i new n × (n.receiver ≡ (f i).receiver)) (f 0) (length lists) (λ i less. (let one : Now new i = each i less in (one.0, (one.1, one.2)))) in
+      let g = choose (Count m) (λ i n. BlockPart m (block_of M S lists i) M i new n × (n.receiver ≡ (f i).receiver))
+      (f 0) (length lists) (λ i less. (let one : Now new i = each i less in (one.0, (one.1, one.2)))) in
       record { numbers = g.0; parts = λ i less. (g.1 i less).0; same = λ i less. (g.1 i less).1 }
 
   -- one block has new numbers, and all others are untouched
-  one_changed : (new : History) (j : ℕ) → Now new j → ((i : ℕ) → i < length lists → i ≢ j → Untouched M (block_of M S lists i) i t new) → BlocksAfter m M S lists new f
+  one_changed : (new : History) (j : ℕ) → Now new j
+      → ((i : ℕ) → i < length lists → i ≢ j → Untouched M (block_of M S lists i) i t new)
+      → BlocksAfter m M S lists new f
   one_changed new j mine others = all_now new (λ i less. at i less (cases_eq i j))
     where
       at : (i : ℕ) → i < length lists → (i ≡ j) ⊎ (i ≢ j) → Now new i
@@ -142,16 +167,22 @@ module _ (m : BlockMeaning) (laws : BlockLaws m) (B M : ℕ) (S : Layout) (lists
       at i less (inr other) = (f i, untouched m laws M (block_of M S lists i) i t new (f i) (are i less) (parts i less) (others i less other), refl)
 
   -- a sender acts
-  pub sender_goes_on : (j : ℕ) (within : j < length lists) (e : Entry) → CanFollow B M t e → hart_of e ≡ j + 1 → is_land e ≡ false → GoesOn e × WritesWord (access_of e) × Touches S (length lists) e
+  pub sender_goes_on : (j : ℕ) (within : j < length lists) (e : Entry) → CanFollow B M t e → hart_of e ≡ j + 1
+      → is_land e ≡ false → GoesOn e × WritesWord (access_of e) × Touches S (length lists) e
   sender_goes_on j within e can mine alone =
       going _ S (length lists) B M t (j + 1) (parts j within).sender.stands e (parts j within).sender.state can mine alone
       (sender_plain m laws M (block_of M S lists j) j t t (f j) (are j within) (parts j within))
       (λ a word. record { block = j; known = within; own = inr refl; from = word.within.from; below = word_end (block_of M S lists j) (are j within) a word })
 
-  pub sender_acts : (j : ℕ) (within : j < length lists) (e : Entry) → CanFollow B M t e → hart_of e ≡ j + 1 → is_land e ≡ false → BlocksAfter m M S lists (with_entry t e) f
+  pub sender_acts : (j : ℕ) (within : j < length lists) (e : Entry) → CanFollow B M t e → hart_of e ≡ j + 1
+      → is_land e ≡ false → BlocksAfter m M S lists (with_entry t e) f
   sender_acts j within e can mine alone =
-      let a : Acted M t (with_entry t e) (j + 1) (parts j within).sender.stands (value_of e) = acted _ B M t (j + 1) (parts j within).sender.stands e legal (parts j within).sender.state can mine alone (sender_plain m laws M (block_of M S lists j) j t t (f j) (are j within) (parts j within)) in
-      one_changed (with_entry t e) j (acts_part m laws M (block_of M S lists j) j t (with_entry t e) (f j) (are j within) (parts j within) (value_of e) opens written a) (λ i less other. record {
+      let a : Acted M t (with_entry t e) (j + 1) (parts j within).sender.stands (value_of e) =
+      acted _ B M t (j + 1) (parts j within).sender.stands e legal (parts j within).sender.state can mine alone
+      (sender_plain m laws M (block_of M S lists j) j t t (f j) (are j within) (parts j within)) in
+      one_changed (with_entry t e) j
+      (acts_part m laws M (block_of M S lists j) j t (with_entry t e) (f j) (are j within) (parts j within)
+      (value_of e) opens written a) (λ i less other. record {
         state = a.states (i + 1) (λ same. other (omega arith));
         buffer = a.buffers (i + 1) (λ same. other (omega arith));
         theirs = ap (to_block (block_of M S lists i)) (a.buffers 0 (omega arith));
@@ -159,7 +190,8 @@ module _ (m : BlockMeaning) (laws : BlockLaws m) (B M : ℕ) (S : Layout) (lists
       })
 
   -- one of a sender's stores lands
-  pub sender_store_lands : (j : ℕ) (within : j < length lists) → CanFollow B M t (entry.Land (j + 1)) → BlocksAfter m M S lists (with_entry t (entry.Land (j + 1))) f
+  pub sender_store_lands : (j : ℕ) (within : j < length lists) → CanFollow B M t (entry.Land (j + 1))
+      → BlocksAfter m M S lists (with_entry t (entry.Land (j + 1))) f
   sender_store_lands j within can =
       let l = landed B M t (j + 1) legal can in
       at l.0 l.1 l.2 (first-as_writes (unsent_of m (block_of M S lists j) (f j)) l.0 l.1 (sym (parts j within).sender.buffer ∙ l.2.first))
@@ -171,19 +203,32 @@ module _ (m : BlockMeaning) (laws : BlockLaws m) (B M : ℕ) (S : Layout) (lists
             | inr differ ↦ grind (arith, nat_tests)
           ]
 
-      at : (w : Write) (rest : List Write) → Landed M t (with_entry t (entry.Land (j + 1))) (j + 1) w rest → (x : ℕ × ℕ) × (more : List (ℕ × ℕ)) × (unsent_of m (block_of M S lists j) (f j) ≡ x ∷ more) × (w ≡ as_write x) × (rest ≡ as_writes more) → BlocksAfter m M S lists (with_entry t (entry.Land (j + 1))) f
+      at : (w : Write) (rest : List Write) → Landed M t (with_entry t (entry.Land (j + 1))) (j + 1) w rest
+          → (x : ℕ × ℕ) × (more : List (ℕ × ℕ)) × (unsent_of m (block_of M S lists j) (f j) ≡ x ∷ more)
+          × (w ≡ as_write x) × (rest ≡ as_writes more) → BlocksAfter m M S lists (with_entry t (entry.Land (j + 1))) f
       at w rest l oldest =
           let x : ℕ × ℕ = oldest.0 in
-          let inside : Within (block_of M S lists j) x.0 = (laws.unsent_are (block_of M S lists j) (f j) (are j within) (parts j within).order 0 x (ap (λ ps. slice_get ps 0) oldest.2)).place.within in
+          let inside : Within (block_of M S lists j) x.0 =
+          (laws.unsent_are (block_of M S lists j) (f j) (are j within) (parts j within).order 0 x
+          (ap (λ ps. slice_get ps 0) oldest.2)).place.within in
           one_changed (with_entry t (entry.Land (j + 1))) j
-          (lands_part m laws M (block_of M S lists j) j t (with_entry t (entry.Land (j + 1))) (f j) (are j within) (parts j within) oldest.1 (unread_of m (block_of M S lists j) (f j))
-          (laws.sender_lands (block_of M S lists j) (f j) (word_in_memory t.opening t.entries) (word_in_memory (with_entry t (entry.Land (j + 1))).opening (with_entry t (entry.Land (j + 1))).entries) x oldest.1 (are j within) (parts j within).order (parts j within).words oldest.2 (writes (word_in_memory t.opening t.entries) (word_in_memory (with_entry t (entry.Land (j + 1))).opening (with_entry t (entry.Land (j + 1))).entries) w x oldest.3 l.memory))
+          (lands_part m laws M (block_of M S lists j) j t (with_entry t (entry.Land (j + 1))) (f j) (are j within)
+          (parts j within) oldest.1 (unread_of m (block_of M S lists j) (f j))
+          (laws.sender_lands (block_of M S lists j) (f j) (word_in_memory t.opening t.entries)
+          (word_in_memory (with_entry t (entry.Land (j + 1))).opening (with_entry t (entry.Land (j + 1))).entries)
+          x oldest.1 (are j within) (parts j within).order (parts j within).words oldest.2
+          (writes (word_in_memory t.opening t.entries)
+          (word_in_memory (with_entry t (entry.Land (j + 1))).opening (with_entry t (entry.Land (j + 1))).entries)
+          w x oldest.3 l.memory))
           (l.buffer ∙ oldest.4) (ap (to_block (block_of M S lists j)) (l.buffers 0 (omega arith)) ∙ (parts j within).theirs) (l.states (j + 1)))
           (λ i less other. record {
             state = l.states (i + 1);
             buffer = l.buffers (i + 1) (λ same. other (omega arith));
             theirs = ap (to_block (block_of M S lists i)) (l.buffers 0 (omega arith));
-            memory = λ a here. writes (word_in_memory t.opening t.entries) (word_in_memory (with_entry t (entry.Land (j + 1))).opening (with_entry t (entry.Land (j + 1))).entries) w x oldest.3 l.memory a ∙ (let off : (x.0 == a) ≡ false = missed x i a other here inside in rw off refl);
+            memory = λ a here. writes (word_in_memory t.opening t.entries)
+                (word_in_memory (with_entry t (entry.Land (j + 1))).opening (with_entry t (entry.Land (j + 1))).entries)
+                w x oldest.3 l.memory a
+                ∙ (let off : (x.0 == a) ≡ false = missed x i a other here inside in rw off refl);
           })
 
   -- one of the receiver's stores lands, in whichever block it is
@@ -192,16 +237,32 @@ module _ (m : BlockMeaning) (laws : BlockLaws m) (B M : ℕ) (S : Layout) (lists
       let l = landed B M t 0 legal can in
       all_now (with_entry t (entry.Land 0)) (λ i less. at i less l.0 l.1 l.2 (is_within (block_of M S lists i) l.0.addr) refl)
     where
-      visited : (i : ℕ) (less : i < length lists) (w : Write) (rest : List Write) → Landed M t (with_entry t (entry.Land 0)) 0 w rest → (x : ℕ × ℕ) × (more : List (ℕ × ℕ)) × (unread_of m (block_of M S lists i) (f i) ≡ x ∷ more) × (w ≡ as_write x) × (to_block (block_of M S lists i) rest ≡ as_writes more) → Now (with_entry t (entry.Land 0)) i
+      visited : (i : ℕ) (less : i < length lists) (w : Write) (rest : List Write)
+          → Landed M t (with_entry t (entry.Land 0)) 0 w rest
+          → (x : ℕ × ℕ) × (more : List (ℕ × ℕ)) × (unread_of m (block_of M S lists i) (f i) ≡ x ∷ more)
+          × (w ≡ as_write x) × (to_block (block_of M S lists i) rest ≡ as_writes more)
+          → Now (with_entry t (entry.Land 0)) i
       visited i less w rest l oldest =
-          lands_part m laws M (block_of M S lists i) i t (with_entry t (entry.Land 0)) (f i) (are i less) (parts i less) (unsent_of m (block_of M S lists i) (f i)) oldest.1
-          (laws.receiver_lands (block_of M S lists i) (f i) (word_in_memory t.opening t.entries) (word_in_memory (with_entry t (entry.Land 0)).opening (with_entry t (entry.Land 0)).entries) oldest.0 oldest.1 (are i less) (parts i less).order (parts i less).words oldest.2 (writes (word_in_memory t.opening t.entries) (word_in_memory (with_entry t (entry.Land 0)).opening (with_entry t (entry.Land 0)).entries) w oldest.0 oldest.3 l.memory))
+          lands_part m laws M (block_of M S lists i) i t (with_entry t (entry.Land 0)) (f i) (are i less)
+          (parts i less) (unsent_of m (block_of M S lists i) (f i)) oldest.1
+          (laws.receiver_lands (block_of M S lists i) (f i) (word_in_memory t.opening t.entries)
+          (word_in_memory (with_entry t (entry.Land 0)).opening (with_entry t (entry.Land 0)).entries) oldest.0
+          oldest.1 (are i less) (parts i less).order (parts i less).words oldest.2
+          (writes (word_in_memory t.opening t.entries)
+          (word_in_memory (with_entry t (entry.Land 0)).opening (with_entry t (entry.Land 0)).entries) w oldest.0
+          oldest.3 l.memory))
           (l.buffers (i + 1) (omega arith) ∙ (parts i less).sender.buffer) (ap (to_block (block_of M S lists i)) l.buffer ∙ oldest.4) (l.states (i + 1))
 
-      at : (i : ℕ) → i < length lists → (w : Write) (rest : List Write) → Landed M t (with_entry t (entry.Land 0)) 0 w rest → (b : Bool) → is_within (block_of M S lists i) w.addr ≡ b → Now (with_entry t (entry.Land 0)) i
+      at : (i : ℕ) → i < length lists → (w : Write) (rest : List Write)
+          → Landed M t (with_entry t (entry.Land 0)) 0 w rest → (b : Bool) → is_within (block_of M S lists i) w.addr ≡ b
+          → Now (with_entry t (entry.Land 0)) i
       at i less w rest l true on =
-          let first : to_block (block_of M S lists i) (pending 0 t.entries) ≡ w ∷ to_block (block_of M S lists i) rest = ap (to_block (block_of M S lists i)) l.first ∙ rw on refl in
-          visited i less w rest l (first-as_writes (unread_of m (block_of M S lists i) (f i)) w (to_block (block_of M S lists i) rest) (sym (parts i less).theirs ∙ first))
+          let first : to_block (block_of M S lists i) (pending 0 t.entries) ≡ w
+          ∷ to_block (block_of M S lists i) rest =
+          ap (to_block (block_of M S lists i)) l.first ∙ rw on refl in
+          visited i less w rest l
+          (first-as_writes (unread_of m (block_of M S lists i) (f i)) w (to_block (block_of M S lists i) rest)
+          (sym (parts i less).theirs ∙ first))
       at i less w rest l false off = (
         f i,
         untouched m laws M (block_of M S lists i) i t (with_entry t (entry.Land 0)) (f i) (are i less) (parts i less) (record {

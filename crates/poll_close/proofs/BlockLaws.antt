@@ -1,19 +1,21 @@
 -- What a ring has to prove of one block. Nothing here speaks of a history or of another block: a
 -- sender is its state, memory a function from addresses to words.
-use Rattle.std.proofs.Common.{ℕ, ◌+◌, ◌*◌, ◌<◌, ◌≤◌, ◌≡◌, ◌≢◌, ◌⊎◌, true, false, not, List, [], ◌∷◌, ◌++◌, length, Option, None}
-use Rattle.std.specs.Prelude.{slice_index, unwrap_or}
+use Rattle.std.proofs.Common.{ℕ, ◌+◌, ◌*◌, ◌<◌, ◌≤◌, ◌≡◌, ◌≢◌, ◌⊎◌, true, false, not, List, [], ◌∷◌, ◌++◌, length, Option, Some, None}
+use Rattle.std.specs.Prelude.{slice_index, unwrap_or, map}
+use Rattle.rv_decode.specs.Meaning.{meaning}
 use Rattle.hart.specs.State.{HartState}
 use Rattle.hart.specs.Steps.{need_of, advanced, first_state}
 use Rattle.hart.specs.declared.status.Status.TheVariants as status
 use Rattle.hart.specs.declared.need.Need.{Need}
 use Rattle.hart.specs.declared.need.Report.{Report}
 use Rattle.hart.specs.declared.need.Report.TheVariants as report
+use Rattle.poll_close.specs.Listing.{Middle, lines_of, receiver_with}
 use Rattle.poll_close.specs.Reports.{taken}
 use Rattle.poll_close.specs.Plans.{is_closed}
 use Rattle.poll_close.specs.Rankings.{runs, some_open, receiver_rank}
 use Rattle.poll_close.specs.Invariant.Outlines.{Standing, Reasons}
 use Rattle.poll_close.specs.Invariant.Blocks.{Block, offset}
-use Rattle.poll_close.specs.Invariant.ReceiverState.{ReceiverRegisters, whole_of, receives, closings_due}
+use Rattle.poll_close.specs.Invariant.ReceiverState.{ReceiverRegisters, receiver_of, whole_of, receives, closings_due}
 use Rattle.poll_close.specs.Invariant.BlockMeaning.{BlockMeaning, Count, unsent_of, unread_of, AllReported, ReceiverRow, ReceiverIs, opened_rows, ranking_of}
 use Rattle.poll_close.proofs.Acts.{stored_by, said_by, IsNoAmo}
 use Rattle.poll_close.proofs.Lines.{loads}
@@ -53,7 +55,8 @@ pub record Lands (m : BlockMeaning) (k : Block) (n : Count m) (new : ℕ → ℕ
 abbrev pub Says : (m : BlockMeaning) → Block → ℕ → m.Receiver → m.Receiver → List Report → Type 0
 Says m k i n after rs =
     ((rs ≡ []) × (m.took after ≡ m.took n) × (m.closings after ≡ m.closings n))
-    ⊎ (((rs ≡ report.Took i (slice_index k.list (m.took n)) ∷ []) × (m.took after ≡ m.took n + 1) × (m.closings after ≡ m.closings n) × (m.took n < length k.list) × (m.closings n ≡ 0))
+    ⊎ (((rs ≡ report.Took i (slice_index k.list (m.took n)) ∷ []) × (m.took after ≡ m.took n + 1)
+    × (m.closings after ≡ m.closings n) × (m.took n < length k.list) × (m.closings n ≡ 0))
     ⊎ ((rs ≡ report.Closed i ∷ []) × (m.took after ≡ m.took n) × (m.closings after ≡ 1) × (m.took n ≡ length k.list) × (m.closings n ≡ 0)))
 
 -- the receiver comes to a block: its own assertion there is that all is quiet
@@ -66,7 +69,8 @@ pub record Comes (m : BlockMeaning) (k : Block) (count : ℕ) (there : ℕ) (n :
   pub base : r.x8 ≡ k.first + block * k.stride
 
 -- what is known of the block that it visits where every sender waits or has ended, by the reports and states
-pub record Idle (m : BlockMeaning) (k : Block) (i count here : ℕ) (n : Count m) (r : ReceiverRegisters) (rs : List Report) (states : ℕ → Option HartState) : Type 0 where
+pub record Idle (m : BlockMeaning) (k : Block) (i count here : ℕ) (n : Count m) (r : ReceiverRegisters)
+    (rs : List Report) (states : ℕ → Option HartState) : Type 0 where
   pub took : r.x22 ≡ i → m.took n.receiver ≡ m.tails n.receiver → length (taken rs r.x22) ≡ m.took n.receiver
   pub closings : r.x22 ≡ i → m.closings n.receiver ≢ 0 → is_closed rs r.x22 ≡ true
   pub marked : r.x22 ≡ i → not (runs (states (r.x22 + 1))) ≡ true → m.marks n.landed ≡ 1
@@ -76,7 +80,10 @@ pub record Idle (m : BlockMeaning) (k : Block) (i count here : ℕ) (n : Count m
   pub owing : closings_due here < r.x20
 
 abbrev pub Nearer : (m : BlockMeaning) → Block → ℕ → ℕ → ℕ → ℕ → Count m → ReceiverRegisters → ReceiverRegisters → Type 0
-Nearer m k i count here there n r noted = (rs : List Report) (states : ℕ → Option HartState) → Idle m k i count here n r rs states → receiver_rank (ranking_of m) count k.size rs states (receives m.middle (whole_of k count) there noted) < receiver_rank (ranking_of m) count k.size rs states (receives m.middle (whole_of k count) here r)
+Nearer m k i count here there n r noted =
+    (rs : List Report) (states : ℕ → Option HartState) → Idle m k i count here n r rs states
+    → receiver_rank (ranking_of m) count k.size rs states (receives m.middle (whole_of k count) there noted)
+    < receiver_rank (ranking_of m) count k.size rs states (receives m.middle (whole_of k count) here r)
 
 -- one act of the receiver, which visits or visited this block, and read v
 pub record Receives (m : BlockMeaning) (k : Block) (i count : ℕ) (here : ℕ) (n : Count m) (r : ReceiverRegisters) (v : ℕ) : Type 0 where
@@ -127,7 +134,9 @@ pub record Stepped (m : BlockMeaning) (k : Block) (n : Count m) (stored : List (
 
 -- the state in which the sender of a block opens
 abbrev pub opens_with : List ℕ → Block → HartState
-opens_with code k = first_state code (0 ∷ 0 ∷ 0 ∷ 0 ∷ 0 ∷ 0 ∷ 0 ∷ 0 ∷ k.base ∷ 4 * k.size ∷ 0 ∷ 0 ∷ 0 ∷ 0 ∷ 0 ∷ 0 ∷ 0 ∷ 0 ∷ 0 ∷ 0 ∷ 0 ∷ 0 ∷ 0 ∷ 0 ∷ 0 ∷ 0 ∷ 0 ∷ 0 ∷ 0 ∷ 0 ∷ 0 ∷ 0 ∷ []) k.list k.words
+opens_with code k = first_state code
+    (0 ∷ 0 ∷ 0 ∷ 0 ∷ 0 ∷ 0 ∷ 0 ∷ 0 ∷ k.base ∷ 4 * k.size ∷ 0 ∷ 0 ∷ 0 ∷ 0 ∷ 0 ∷ 0 ∷ 0 ∷ 0 ∷ 0 ∷ 0 ∷ 0 ∷ 0 ∷ 0 ∷ 0 ∷ 0 ∷ 0
+    ∷ 0 ∷ 0 ∷ 0 ∷ 0 ∷ 0 ∷ 0 ∷ []) k.list k.words
 
 -- the numbers with which a block opens
 pub record Begins (m : BlockMeaning) (k : Block) (first : HartState) : Type 0 where
@@ -143,7 +152,12 @@ pub record Begins (m : BlockMeaning) (k : Block) (first : HartState) : Type 0 wh
   pub took : m.took none.receiver ≡ 0
   pub closings : m.closings none.receiver ≡ 0
 
+-- the decoder finds the listing's lines in the words of the receiver
+abbrev pub Decodes : Middle → Type 0
+Decodes m = map meaning (receiver_of m) ≡ map Some (lines_of (receiver_with m))
+
 pub record BlockLaws (m : BlockMeaning) : Type 0 where
+  pub decodes : Decodes m.middle
   -- the opening
   pub begins : (k : Block) → IsBlock k → Begins m k (opens_with m.sender.code k)
   -- bounds of the numbers
@@ -158,16 +172,29 @@ pub record BlockLaws (m : BlockMeaning) : Type 0 where
   -- the words speak of this block's addresses alone
   pub words_same : (k : Block) (n : m.Landed) (word new : ℕ → ℕ) → IsBlock k → ((a : ℕ) → Within k a → new a ≡ word a) → m.Words k n word → m.Words k n new
   -- the sender acts
-  pub sends : (k : Block) (n : Count m) (s : HartState) (word : ℕ → ℕ) (v : ℕ) → IsBlock k → m.Ordered k n → m.Words k n.landed word → Standing m.sender k n.sender s → s.status ≡ status.Running → ((a : ℕ) → IsWordOf k a → need_of s ≡ loads a → v ≡ found_in (unsent_of m k n) word a) → Sends m k n s v
+  pub sends : (k : Block) (n : Count m) (s : HartState) (word : ℕ → ℕ) (v : ℕ) → IsBlock k → m.Ordered k n
+      → m.Words k n.landed word → Standing m.sender k n.sender s → s.status ≡ status.Running
+      → ((a : ℕ) → IsWordOf k a → need_of s ≡ loads a → v ≡ found_in (unsent_of m k n) word a) → Sends m k n s v
   -- the oldest pending store lands
-  pub sender_lands : (k : Block) (n : Count m) (word new : ℕ → ℕ) (x : ℕ × ℕ) (rest : List (ℕ × ℕ)) → IsBlock k → m.Ordered k n → m.Words k n.landed word → unsent_of m k n ≡ x ∷ rest → IsWrite word new x → Lands m k n new rest (unread_of m k n)
-  pub receiver_lands : (k : Block) (n : Count m) (word new : ℕ → ℕ) (x : ℕ × ℕ) (rest : List (ℕ × ℕ)) → IsBlock k → m.Ordered k n → m.Words k n.landed word → unread_of m k n ≡ x ∷ rest → IsWrite word new x → Lands m k n new (unsent_of m k n) rest
+  pub sender_lands : (k : Block) (n : Count m) (word new : ℕ → ℕ) (x : ℕ × ℕ) (rest : List (ℕ × ℕ)) → IsBlock k
+      → m.Ordered k n → m.Words k n.landed word → unsent_of m k n ≡ x ∷ rest → IsWrite word new x
+      → Lands m k n new rest (unread_of m k n)
+  pub receiver_lands : (k : Block) (n : Count m) (word new : ℕ → ℕ) (x : ℕ × ℕ) (rest : List (ℕ × ℕ)) → IsBlock k
+      → m.Ordered k n → m.Words k n.landed word → unread_of m k n ≡ x ∷ rest → IsWrite word new x
+      → Lands m k n new (unsent_of m k n) rest
   -- the receiver's front and end
   pub sees_done : (k : Block) (n : Count m) (word : ℕ → ℕ) → m.Ordered k n → m.Words k n.landed word → seen_at m k n word (k.base + 12) ≡ m.dones n.receiver
   pub sees_mark : (k : Block) (n : Count m) (word : ℕ → ℕ) → m.Ordered k n → m.Words k n.landed word → seen_at m k n word (k.base + 4) ≡ m.marks n.landed
-  pub stores_tail : (k : Block) (n : Count m) → m.Ordered k n → m.Filled n.receiver → m.dones n.receiver ≡ 0 → Stepped m k n ((k.base + 8, offset k (m.tails n.receiver + 1)) ∷ []) (m.tails n.receiver + 1) (m.dones n.receiver) (m.took n.receiver) (m.closings n.receiver)
-  pub stores_done : (k : Block) (n : Count m) → m.Ordered k n → m.Level n.receiver → m.tails n.receiver ≡ length k.list → m.dones n.receiver ≡ 0 → Stepped m k n ((k.base + 12, 1) ∷ []) (m.tails n.receiver) 1 (m.took n.receiver) (m.closings n.receiver)
-  pub reports : (k : Block) (n : Count m) (took closings : ℕ) → m.Ordered k n → m.Level n.receiver → closings ≤ m.dones n.receiver → Stepped m k n [] (m.tails n.receiver) (m.dones n.receiver) took closings
+  pub stores_tail : (k : Block) (n : Count m) → m.Ordered k n → m.Filled n.receiver → m.dones n.receiver ≡ 0
+      → Stepped m k n ((k.base + 8, offset k (m.tails n.receiver + 1)) ∷ []) (m.tails n.receiver + 1)
+      (m.dones n.receiver) (m.took n.receiver) (m.closings n.receiver)
+  pub stores_done : (k : Block) (n : Count m) → m.Ordered k n → m.Level n.receiver
+      → m.tails n.receiver ≡ length k.list → m.dones n.receiver ≡ 0
+      → Stepped m k n ((k.base + 12, 1) ∷ []) (m.tails n.receiver) 1 (m.took n.receiver) (m.closings n.receiver)
+  pub reports : (k : Block) (n : Count m) (took closings : ℕ) → m.Ordered k n → m.Level n.receiver
+      → closings ≤ m.dones n.receiver → Stepped m k n [] (m.tails n.receiver) (m.dones n.receiver) took closings
   -- the receiver's lines between: the first, and the ring's rows
-  pub moves_14 : (k : Block) (i count : ℕ) (n : Count m) (word : ℕ → ℕ) (r : ReceiverRegisters) (v : ℕ) → IsBlock k → m.Ordered k n → m.Words k n.landed word → Right_at m k i count n word r v 0x14
-  pub moves : (k : Block) (i count : ℕ) (n : Count m) (word : ℕ → ℕ) (r : ReceiverRegisters) (v : ℕ) → IsBlock k → m.Ordered k n → m.Words k n.landed word → Reasons (Right m k i count n word r v) (opened_rows m m.rows)
+  pub moves_14 : (k : Block) (i count : ℕ) (n : Count m) (word : ℕ → ℕ) (r : ReceiverRegisters) (v : ℕ) → IsBlock k
+      → m.Ordered k n → m.Words k n.landed word → Right_at m k i count n word r v 0x14
+  pub moves : (k : Block) (i count : ℕ) (n : Count m) (word : ℕ → ℕ) (r : ReceiverRegisters) (v : ℕ) → IsBlock k
+      → m.Ordered k n → m.Words k n.landed word → Reasons (Right m k i count n word r v) (opened_rows m m.rows)

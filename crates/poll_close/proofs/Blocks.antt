@@ -1,5 +1,7 @@
 -- Blocks don't meet: an address in one is in no other, so what concerns one leaves the others.
-use Rattle.std.proofs.Common.{ℕ, ◌+◌, ◌*◌, ◌%◌, ◌^◌, ◌<◌, ◌≤◌, ◌≡◌, ◌≢◌, ◌==◌, ◌⊎◌, inl, inr, Bool, true, false, if◌then◌else◌, List, [], ◌∷◌, ◌++◌, length, Option, Some, refl, sym, ◌∙◌, ap, subst, arith, append-nil, eq-eqb}
+use Rattle.std.proofs.Common.{ℕ, ◌+◌, ◌*◌, ◌%◌, ◌^◌, ◌<◌, ◌≤◌, ◌≡◌, ◌≢◌, ◌==◌, ◌⊎◌, inl, inr, Bool, true, false}
+use Rattle.std.proofs.Common.{if◌then◌else◌, List, [], ◌∷◌, ◌++◌, length, Option, Some, refl, sym, ◌∙◌, ap, subst}
+use Rattle.std.proofs.Common.{arith, append-nil, eq-eqb}
 use Rattle.std.specs.Prelude.{slice_index}
 use Rattle.std.proofs.lemmas.List.Elements.{filter-append}
 use Rattle.std.proofs.lemmas.Bool.{cases_lt, cases_eq}
@@ -70,12 +72,14 @@ within_true k a h = grind (arith, nat_tests, h.from, h.below)
 pub within_from : (k : Block) (a : ℕ) → is_within k a ≡ true → Within k a
 within_from k a h = record { from = grind (arith, nat_tests); below = grind (arith, nat_tests) }
 
-apart_below : (M : ℕ) (S : Layout) (lists : List (List ℕ)) (i j a : ℕ) → block_size S.size ≤ S.stride → i < j → Within (block_of M S lists i) a → Within (block_of M S lists j) a → ⊥
+apart_below : (M : ℕ) (S : Layout) (lists : List (List ℕ)) (i j a : ℕ) → block_size S.size ≤ S.stride → i < j
+    → Within (block_of M S lists i) a → Within (block_of M S lists j) a → ⊥
 apart_below M S lists i j a room less h g =
     let far : i * S.stride + S.stride ≤ j * S.stride = row_fits i S.stride j S.stride less (omega arith) in
     omega (arith, room, h.below, g.from)
 
-pub apart : (M : ℕ) (S : Layout) (lists : List (List ℕ)) (i j a : ℕ) → block_size S.size ≤ S.stride → i ≢ j → Within (block_of M S lists i) a → Within (block_of M S lists j) a → ⊥
+pub apart : (M : ℕ) (S : Layout) (lists : List (List ℕ)) (i j a : ℕ) → block_size S.size ≤ S.stride → i ≢ j
+    → Within (block_of M S lists i) a → Within (block_of M S lists j) a → ⊥
 apart M S lists i j a room other h g =
     elim (cases_lt i j) [
       | inl less ↦ apart_below M S lists i j a room less h g
@@ -89,11 +93,14 @@ to_block-one : (k : Block) (ws : List Write) (w : Write) → is_within k w.addr 
 to_block-one k ws w on = filter-append (is_to k) ws (w ∷ []) ∙ ap (λ b. to_block k ws ++ (if b then w ∷ [] else [])) on
 
 -- at most one store is made: within the block it joins the block's part, and no other's
-pub to_block-stored : (k : Block) (ws : List Write) (qs : List (ℕ × ℕ)) → (qs ≡ []) ⊎ ((x : ℕ × ℕ) × (qs ≡ x ∷ [])) → ((x : ℕ × ℕ) → qs ≡ x ∷ [] → Within k x.0) → to_block k (ws ++ as_writes qs) ≡ to_block k ws ++ as_writes qs
+pub to_block-stored : (k : Block) (ws : List Write) (qs : List (ℕ × ℕ)) → (qs ≡ []) ⊎ ((x : ℕ × ℕ) × (qs ≡ x ∷ []))
+    → ((x : ℕ × ℕ) → qs ≡ x ∷ [] → Within k x.0) → to_block k (ws ++ as_writes qs) ≡ to_block k ws ++ as_writes qs
 to_block-stored k ws qs (inl none) inside = rw none (ap (to_block k) (append-nil ws) ∙ sym (append-nil (to_block k ws)))
 to_block-stored k ws qs (inr one) inside = rw one.1 (to_block-one k ws (as_write one.0) (within_true k one.0.0 (inside one.0 one.1)))
 
-pub to_block-elsewhere : (k : Block) (ws : List Write) (qs : List (ℕ × ℕ)) → (qs ≡ []) ⊎ ((x : ℕ × ℕ) × (qs ≡ x ∷ [])) → ((x : ℕ × ℕ) → qs ≡ x ∷ [] → Within k x.0 → ⊥) → to_block k (ws ++ as_writes qs) ≡ to_block k ws
+pub to_block-elsewhere : (k : Block) (ws : List Write) (qs : List (ℕ × ℕ))
+    → (qs ≡ []) ⊎ ((x : ℕ × ℕ) × (qs ≡ x ∷ [])) → ((x : ℕ × ℕ) → qs ≡ x ∷ [] → Within k x.0 → ⊥)
+    → to_block k (ws ++ as_writes qs) ≡ to_block k ws
 to_block-elsewhere k ws qs (inl none) outside = rw none (ap (to_block k) (append-nil ws))
 to_block-elsewhere k ws qs (inr one) outside = rw one.1 (to_block-none k ws (as_write one.0) (off (is_within k one.0.0) refl))
   where
@@ -108,7 +115,9 @@ outside_differs k a b h off =
       | inr other ↦ grind (arith, nat_tests)
     ]
 
-newest_first : (k : Block) (a : ℕ) (found : Option ℕ) (w : Write) (ws : List Write) → Within k a → (b : Bool) → is_within k w.addr ≡ b → ((f : Option ℕ) → newest_word a f (to_block k ws) ≡ newest_word a f ws) → newest_word a found (to_block k (w ∷ ws)) ≡ newest_word a found (w ∷ ws)
+newest_first : (k : Block) (a : ℕ) (found : Option ℕ) (w : Write) (ws : List Write) → Within k a → (b : Bool)
+    → is_within k w.addr ≡ b → ((f : Option ℕ) → newest_word a f (to_block k ws) ≡ newest_word a f ws)
+    → newest_word a found (to_block k (w ∷ ws)) ≡ newest_word a found (w ∷ ws)
 newest_first k a found w ws h true on more = rw on (more (if w.addr == a then Some w.value else found))
 newest_first k a found w ws h false off more = let other : (w.addr == a) ≡ false = outside_differs k a w.addr h off in rw (off, other) (more found)
 
@@ -123,7 +132,8 @@ newest-as_writes a found [] = refl
 newest-as_writes a found (x ∷ xs) = newest-as_writes a (if x.0 == a then Some x.1 else found) xs
 
 -- the oldest write is that of the oldest store
-pub first-as_writes : (xs : List (ℕ × ℕ)) (w : Write) (ws : List Write) → as_writes xs ≡ w ∷ ws → (x : ℕ × ℕ) × (rest : List (ℕ × ℕ)) × (xs ≡ x ∷ rest) × (w ≡ as_write x) × (ws ≡ as_writes rest)
+pub first-as_writes : (xs : List (ℕ × ℕ)) (w : Write) (ws : List Write) → as_writes xs ≡ w ∷ ws
+    → (x : ℕ × ℕ) × (rest : List (ℕ × ℕ)) × (xs ≡ x ∷ rest) × (w ≡ as_write x) × (ws ≡ as_writes rest)
 first-as_writes [] w ws is = cc
 first-as_writes (x ∷ xs) w ws is = (x, xs, refl, (let same : w ≡ as_write x = cc in same), (let more : ws ≡ as_writes xs = cc in more))
 
@@ -131,7 +141,8 @@ pub IsStore-whole : (k : Block) (x : ℕ × ℕ) → IsStore k x → IsWholeWord
 IsStore-whole k x is = record { whole = refl; aligned = is.place.aligned; small = is.word }
 
 -- numbers may be chosen block by block
-pub choose : (N : Type 0) (P : ℕ → N → Type 0) (none : N) (count : ℕ) → ((i : ℕ) → i < count → (n : N) × P i n) → (f : ℕ → N) × ((i : ℕ) → i < count → P i (f i))
+pub choose : (N : Type 0) (P : ℕ → N → Type 0) (none : N) (count : ℕ) → ((i : ℕ) → i < count → (n : N) × P i n)
+    → (f : ℕ → N) × ((i : ℕ) → i < count → P i (f i))
 choose N P none count each = (f, holds)
   where
     pick : (i : ℕ) → (i < count) ⊎ (count ≤ i) → N

@@ -1,6 +1,7 @@
 -- From the laws of one block to the laws of a ring: the opening has the meaning, every entry keeps it,
 -- it gives clean reports, and no hart is stopped.
-use Rattle.std.proofs.Common.{ℕ, zero, suc, ◌+◌, ◌-◌, ◌*◌, ◌<◌, ◌≤◌, ◌≡◌, ◌==◌, ◌⊎◌, inl, inr, false, List, [], ◌∷◌, ◌++◌, length, take, Some, refl, sym, ◌∙◌, ap, subst, arith, append-nil, add-one}
+use Rattle.std.proofs.Common.{ℕ, zero, suc, ◌+◌, ◌-◌, ◌*◌, ◌<◌, ◌≤◌, ◌≡◌, ◌==◌, ◌⊎◌, inl, inr, false, List, [], ◌∷◌}
+use Rattle.std.proofs.Common.{◌++◌, length, take, Some, refl, sym, ◌∙◌, ap, subst, arith, append-nil, add-one}
 use Rattle.std.specs.Prelude.{◌/◌, option_map, slice_index}
 use Rattle.std.specs.List.{slice_get, slice_index_or}
 use Rattle.std.proofs.lemmas.Bool.{cases_lt}
@@ -38,7 +39,8 @@ use Rattle.poll_close.proofs.ReceiverActs.{Received, receiver_goes_on, receiver_
 use Rattle.poll_close.proofs.Delivering.{senders-length}
 
 -- the blocks of an accepted opening
-pub blocks : (ring : Ring) (M : ℕ) (S : Layout) (lists : List (List ℕ)) → 1 ≤ ring.least → AcceptedAt ring M lists S → (i : ℕ) → i < length lists → IsBlock (block_of M S lists i)
+pub blocks : (ring : Ring) (M : ℕ) (S : Layout) (lists : List (List ℕ)) → 1 ≤ ring.least → AcceptedAt ring M lists S
+    → (i : ℕ) → i < length lists → IsBlock (block_of M S lists i)
 blocks ring M S lists some accepted i within =
     let step : S.stride ≡ S.stride / 4 * 4 = omega (arith, accepted.stride) in
     let bytes : i * S.stride ≡ i * (S.stride / 4) * 4 = ap (λ n. i * n) step ∙ sym (mul_assoc i (S.stride / 4) 4) in
@@ -58,12 +60,16 @@ blocks ring M S lists some accepted i within =
       full = λ j less. (words j 0 less).1;
     }
 
-sender_start : (code : List ℕ) (S : Layout) (j i : ℕ) (lists : List (List ℕ)) → i < length lists → slice_get (senders_from code S j lists) i ≡ Some (record { code = code; registers = sender_registers S (j + i); inbox = slice_index_or lists i [] })
+sender_start : (code : List ℕ) (S : Layout) (j i : ℕ) (lists : List (List ℕ)) → i < length lists
+    → slice_get (senders_from code S j lists) i
+    ≡ Some (record { code = code; registers = sender_registers S (j + i); inbox = slice_index_or lists i [] })
 sender_start code S j i [] within = absurd (omega arith)
 sender_start code S j zero (ws ∷ lists) within = let same : j + 0 ≡ j = omega arith in rw same refl
-sender_start code S j (suc i) (ws ∷ lists) within = let same : j + suc i ≡ j + 1 + i = omega arith in rw same (sender_start code S (j + 1) i lists (omega arith))
+sender_start code S j (suc i) (ws ∷ lists) within = let same : j + suc i ≡ j + 1 + i = omega arith in
+    rw same (sender_start code S (j + 1) i lists (omega arith))
 
-start_state : (code receiver : List ℕ) (M : ℕ) (S : Layout) (lists : List (List ℕ)) (i : ℕ) → i < length lists → state_of M (unrun (opening_at code receiver lists S)) (i + 1) ≡ Some (opens_with code (block_of M S lists i))
+start_state : (code receiver : List ℕ) (M : ℕ) (S : Layout) (lists : List (List ℕ)) (i : ℕ) → i < length lists
+    → state_of M (unrun (opening_at code receiver lists S)) (i + 1) ≡ Some (opens_with code (block_of M S lists i))
 start_state code receiver M S lists i within =
     let start : HartStart = record { code = code; registers = sender_registers S i; inbox = slice_index_or lists i [] } in
     let same : 0 + i ≡ i = omega arith in
@@ -90,7 +96,8 @@ act_or_land (entry.Land h) = inr (h, refl)
 not_zero : (h j : ℕ) → h ≡ suc j → (h == 0) ≡ false
 not_zero h j is = grind (arith, nat_tests)
 
-is_hart : (code receiver : List ℕ) (B M : ℕ) (S : Layout) (lists : List (List ℕ)) (t : History) (e : Entry) → t.opening ≡ opening_at code receiver lists S → CanFollow B M t e → hart_of e < suc (length lists)
+is_hart : (code receiver : List ℕ) (B M : ℕ) (S : Layout) (lists : List (List ℕ)) (t : History) (e : Entry)
+    → t.opening ≡ opening_at code receiver lists S → CanFollow B M t e → hart_of e < suc (length lists)
 is_hart code receiver B M S lists t e is can =
     elim (cases_lt (hart_of e) (suc (length lists))) [
       | inl less ↦ less
@@ -99,7 +106,9 @@ is_hart code receiver B M S lists t e is can =
           absurd (Path-hart M (with_entry t e) (hart_of e) can.path (slice_get_past t.opening.harts (hart_of e) (omega arith)))
     ]
 
-all_more : (P : Entry → Type 0) (es : List Entry) (e : Entry) → ((j : ℕ) (d : Entry) → slice_get es j ≡ Some d → P d) → P e → (j : ℕ) (d : Entry) → slice_get (es ++ e ∷ []) j ≡ Some d → P d
+all_more : (P : Entry → Type 0) (es : List Entry) (e : Entry)
+    → ((j : ℕ) (d : Entry) → slice_get es j ≡ Some d → P d) → P e → (j : ℕ) (d : Entry)
+    → slice_get (es ++ e ∷ []) j ≡ Some d → P d
 all_more P [] e all one zero d is = subst P (let same : e ≡ d = cc in same) one
 all_more P [] e all one (suc j) d is = cc
 all_more P (x ∷ es) e all one zero d is = all 0 d is
@@ -132,7 +141,8 @@ module _ (m : BlockMeaning) (laws : BlockLaws m) (least : ℕ) (some : 1 ≤ lea
         at (inr more) = absurd (omega arith)
 
     quiet : (i : ℕ) → i < length lists → AllReported m (none i).receiver
-    quiet = each (λ i n. AllReported m n.receiver) (λ i within. (let b = begun i within in record { words = b.took ∙ sym b.tails; closed = b.closings ∙ sym b.dones; level = b.level }))
+    quiet = each (λ i n. AllReported m n.receiver) (λ i within. (let b = begun i within in
+        record { words = b.took ∙ sym b.tails; closed = b.closings ∙ sym b.dones; level = b.level }))
 
     none_shut : (count : ℕ) → count ≤ length lists → count + all_closings m none count ≡ count + 0
     none_shut zero less = refl
@@ -146,12 +156,20 @@ module _ (m : BlockMeaning) (laws : BlockLaws m) (least : ℕ) (some : 1 ≤ lea
         accepted.empty.empty (a / 4) (record { block = i; known = within; from = omega (arith, is.even, here.from); below = omega (arith, here.below) })
 
     part : (i : ℕ) → i < length lists → BlockPart m (block_of M S lists i) M i (unrun (opening_at m.sender.code (receiver_of m.middle) lists S)) (none i)
-    part = each (λ i n. BlockPart m (block_of M S lists i) M i (unrun (opening_at m.sender.code (receiver_of m.middle) lists S)) n) (λ i within. (let b = begun i within in record {
-      order = b.order;
-      sender = record { stands = opens_with m.sender.code (block_of M S lists i); state = start_state m.sender.code (receiver_of m.middle) M S lists i within; holds = b.stands; buffer = ap as_writes (sym b.unsent) };
-      theirs = ap as_writes (sym b.unread);
-      words = laws.words_same (block_of M S lists i) b.none.landed (λ a. 0) (λ a. slice_index S.words (a / 4)) (blocks ring_by M S lists some accepted i within) (λ a here. zero_there i within a here) b.words;
-    }))
+    part = each (λ i n.
+        BlockPart m (block_of M S lists i) M i (unrun (opening_at m.sender.code (receiver_of m.middle) lists S)) n)
+        (λ i within. (let b = begun i within in record {
+          order = b.order;
+          sender = record {
+            stands = opens_with m.sender.code (block_of M S lists i);
+            state = start_state m.sender.code (receiver_of m.middle) M S lists i within;
+            holds = b.stands;
+            buffer = ap as_writes (sym b.unsent);
+          };
+          theirs = ap as_writes (sym b.unread);
+          words = laws.words_same (block_of M S lists i) b.none.landed (λ a. 0) (λ a. slice_index S.words (a / 4))
+              (blocks ring_by M S lists some accepted i within) (λ a here. zero_there i within a here) b.words;
+        }))
 
     opened : Channel m M S lists (unrun (opening_at m.sender.code (receiver_of m.middle) lists S))
     opened = record {
@@ -168,11 +186,13 @@ module _ (m : BlockMeaning) (laws : BlockLaws m) (least : ℕ) (some : 1 ≤ lea
         count = none_shut (length lists) (omega arith);
       };
       reports = record {
-        senders = each (λ j n. ReportsOf [] j (slice_index_or lists j []) (m.took n.receiver) (m.closings n.receiver)) (λ j within. (let b = begun j within in record {
-          words = ap (λ c. take c (slice_index_or lists j [])) (sym b.took);
-          closed = λ k is. cc;
-          said = λ is. absurd (omega (arith, b.closings, is));
-        }));
+        senders =
+            each (λ j n. ReportsOf [] j (slice_index_or lists j []) (m.took n.receiver) (m.closings n.receiver))
+            (λ j within. (let b = begun j within in record {
+              words = ap (λ c. take c (slice_index_or lists j [])) (sym b.took);
+              closed = λ k is. cc;
+              said = λ is. absurd (omega (arith, b.closings, is));
+            }));
         clean = clean-none lists;
       };
       unstopped = λ j e is. cc;
@@ -198,7 +218,9 @@ module _ (m : BlockMeaning) (laws : BlockLaws m) (least : ℕ) (some : 1 ≤ lea
       opens_words : (u : History) → u.opening ≡ opening_at m.sender.code (receiver_of m.middle) lists S → OpensWithWords u.opening
       opens_words u same = subst OpensWithWords (sym same) accepted.empty.small
 
-      go_on : (new : History) → state_of M new 0 ≡ state_of M t 0 → reported 0 new.entries ≡ reported 0 t.entries → BlocksAfter m M S lists new ch.numbers → AllGoOn new.entries → AllTouch S (length lists) new.entries → AllWriteWords new.entries → Channel m M S lists new
+      go_on : (new : History) → state_of M new 0 ≡ state_of M t 0 → reported 0 new.entries ≡ reported 0 t.entries
+          → BlocksAfter m M S lists new ch.numbers → AllGoOn new.entries → AllTouch S (length lists) new.entries
+          → AllWriteWords new.entries → Channel m M S lists new
       go_on new state said b all reached words = record {
         unstopped = all;
         touched = reached;
@@ -211,29 +233,57 @@ module _ (m : BlockMeaning) (laws : BlockLaws m) (least : ℕ) (some : 1 ≤ lea
 
       acts : (h : ℕ) → hart_of e ≡ h → is_land e ≡ false → Channel m M S lists (with_entry t e)
       acts zero mine act =
-          let plain : GoesOn e × WritesWord (access_of e) × Touches S (length lists) e = receiver_goes_on m laws B M S lists (blocks ring_by M S lists some accepted) accepted.senders t ch.numbers kept.legal (opens_words t is) ch.written ch.parts ch.receiver ch.reports e can mine act in
-          let r : Received m M S lists (with_entry t e) = receiver_acts m laws B M S lists (blocks ring_by M S lists some accepted) accepted.senders t ch.numbers kept.legal (opens_words t is) ch.written ch.parts ch.receiver ch.reports e can mine act in
-          record { numbers = r.numbers; parts = r.parts; receiver = r.receiver; reports = r.reports; unstopped = all_more GoesOn t.entries e ch.unstopped plain.0; touched = all_more (Touches S (length lists)) t.entries e ch.touched plain.2; written = one_more t.entries e ch.written plain.1 }
+          let plain : GoesOn e × WritesWord (access_of e) × Touches S (length lists) e =
+          receiver_goes_on m laws B M S lists (blocks ring_by M S lists some accepted) accepted.senders t ch.numbers
+          kept.legal (opens_words t is) ch.written ch.parts ch.receiver ch.reports e can mine act in
+          let r : Received m M S lists (with_entry t e) =
+          receiver_acts m laws B M S lists (blocks ring_by M S lists some accepted) accepted.senders t ch.numbers
+          kept.legal (opens_words t is) ch.written ch.parts ch.receiver ch.reports e can mine act in
+          record {
+            numbers = r.numbers;
+            parts = r.parts;
+            receiver = r.receiver;
+            reports = r.reports;
+            unstopped = all_more GoesOn t.entries e ch.unstopped plain.0;
+            touched = all_more (Touches S (length lists)) t.entries e ch.touched plain.2;
+            written = one_more t.entries e ch.written plain.1;
+          }
       acts (suc j) mine act =
           let within : j < length lists = omega (arith, is_hart m.sender.code (receiver_of m.middle) B M S lists t e is can, mine) in
           let other : (hart_of e == 0) ≡ false = not_zero (hart_of e) j mine in
-          let plain : GoesOn e × WritesWord (access_of e) × Touches S (length lists) e = sender_goes_on m laws B M S lists (blocks ring_by M S lists some accepted) t ch.numbers kept.legal (opens_words t is) ch.written ch.parts j within e can (mine ∙ sym (add-one j)) act in
-          go_on (with_entry t e) (state_of-other M t 0 e (rw other refl)) (reported-last 0 t.entries e ∙ ap (λ rs. reported 0 t.entries ++ rs) (report_of-other 0 e other) ∙ append-nil (reported 0 t.entries))
-          (sender_acts m laws B M S lists (blocks ring_by M S lists some accepted) t ch.numbers kept.legal (opens_words t is) ch.written ch.parts j within e can (mine ∙ sym (add-one j)) act)
-          (all_more GoesOn t.entries e ch.unstopped plain.0) (all_more (Touches S (length lists)) t.entries e ch.touched plain.2) (one_more t.entries e ch.written plain.1)
+          let plain : GoesOn e × WritesWord (access_of e) × Touches S (length lists) e =
+          sender_goes_on m laws B M S lists (blocks ring_by M S lists some accepted) t ch.numbers kept.legal
+          (opens_words t is) ch.written ch.parts j within e can (mine ∙ sym (add-one j)) act in
+          go_on (with_entry t e) (state_of-other M t 0 e (rw other refl))
+          (reported-last 0 t.entries e ∙ ap (λ rs. reported 0 t.entries ++ rs) (report_of-other 0 e other)
+          ∙ append-nil (reported 0 t.entries))
+          (sender_acts m laws B M S lists (blocks ring_by M S lists some accepted) t ch.numbers kept.legal
+          (opens_words t is) ch.written ch.parts j within e can (mine ∙ sym (add-one j)) act)
+          (all_more GoesOn t.entries e ch.unstopped plain.0)
+          (all_more (Touches S (length lists)) t.entries e ch.touched plain.2)
+          (one_more t.entries e ch.written plain.1)
 
       lands : (h : ℕ) → e ≡ entry.Land h → (g : ℕ) → h ≡ g → Channel m M S lists (with_entry t e)
       lands h land zero same =
           let is_0 : e ≡ entry.Land 0 = land ∙ ap entry.Land same in
           subst (λ (d : Entry). Channel m M S lists (with_entry t d)) (sym is_0)
           (go_on (with_entry t (entry.Land 0)) (states_land M t 0 0) (reported-last 0 t.entries (entry.Land 0) ∙ append-nil (reported 0 t.entries))
-          (receiver_store_lands m laws B M S lists (blocks ring_by M S lists some accepted) t ch.numbers kept.legal (opens_words t is) ch.written ch.parts (subst (CanFollow B M t) is_0 can)) (all_more GoesOn t.entries (entry.Land 0) ch.unstopped tt) (all_more (Touches S (length lists)) t.entries (entry.Land 0) ch.touched tt) (one_more t.entries (entry.Land 0) ch.written tt))
+          (receiver_store_lands m laws B M S lists (blocks ring_by M S lists some accepted) t ch.numbers kept.legal
+          (opens_words t is) ch.written ch.parts
+          (subst (CanFollow B M t) is_0 can)) (all_more GoesOn t.entries (entry.Land 0) ch.unstopped tt)
+          (all_more (Touches S (length lists)) t.entries (entry.Land 0) ch.touched tt)
+          (one_more t.entries (entry.Land 0) ch.written tt))
       lands h land (suc j) same =
           let is_j : e ≡ entry.Land (j + 1) = land ∙ ap entry.Land (same ∙ sym (add-one j)) in
           let within : j < length lists = omega (arith, is_hart m.sender.code (receiver_of m.middle) B M S lists t e is can, ap hart_of is_j) in
           subst (λ (d : Entry). Channel m M S lists (with_entry t d)) (sym is_j)
-          (go_on (with_entry t (entry.Land (j + 1))) (states_land M t (j + 1) 0) (reported-last 0 t.entries (entry.Land (j + 1)) ∙ append-nil (reported 0 t.entries))
-          (sender_store_lands m laws B M S lists (blocks ring_by M S lists some accepted) t ch.numbers kept.legal (opens_words t is) ch.written ch.parts j within (subst (CanFollow B M t) is_j can)) (all_more GoesOn t.entries (entry.Land (j + 1)) ch.unstopped tt) (all_more (Touches S (length lists)) t.entries (entry.Land (j + 1)) ch.touched tt) (one_more t.entries (entry.Land (j + 1)) ch.written tt))
+          (go_on (with_entry t (entry.Land (j + 1))) (states_land M t (j + 1) 0)
+          (reported-last 0 t.entries (entry.Land (j + 1)) ∙ append-nil (reported 0 t.entries))
+          (sender_store_lands m laws B M S lists (blocks ring_by M S lists some accepted) t ch.numbers kept.legal
+          (opens_words t is) ch.written ch.parts j within
+          (subst (CanFollow B M t) is_j can)) (all_more GoesOn t.entries (entry.Land (j + 1)) ch.unstopped tt)
+          (all_more (Touches S (length lists)) t.entries (entry.Land (j + 1)) ch.touched tt)
+          (one_more t.entries (entry.Land (j + 1)) ch.written tt))
 
   pub cleans : Cleans ring_by (means_by m)
   cleans B M lists S t accepted is kept ch = ch.reports.clean

@@ -1,5 +1,7 @@
 -- One report more keeps reports clean.
-use Rattle.std.proofs.Common.{ℕ, zero, suc, ◌+◌, ◌<◌, ◌≡◌, ◌≢◌, ◌==◌, ◌⊎◌, inl, inr, Bool, true, false, if◌then◌else◌, List, [], ◌∷◌, ◌++◌, length, take, drop, Some, refl, sym, ◌∙◌, ap, subst, arith, append-nil, length-append, eq-eqb}
+use Rattle.std.proofs.Common.{ℕ, zero, suc, ◌+◌, ◌<◌, ◌≡◌, ◌≢◌, ◌==◌, ◌⊎◌, inl, inr, Bool, true, false, if◌then◌else◌}
+use Rattle.std.proofs.Common.{List, [], ◌∷◌, ◌++◌, length, take, drop, Some, refl, sym, ◌∙◌, ap, subst, arith}
+use Rattle.std.proofs.Common.{append-nil, length-append, eq-eqb}
 use Rattle.std.specs.Prelude.{slice_index}
 use Rattle.std.specs.List.{slice_get, slice_index_or}
 use Rattle.std.proofs.lemmas.Bool.Decides.{nat_tests}
@@ -11,7 +13,8 @@ use Rattle.poll_close.specs.Reports.{taken, sender_of, IsPrefixOf, Clean}
 use Rattle.poll_close.specs.Invariant.Channels.{ReportsOf}
 use Rattle.poll_close.proofs.Windows.{get_end}
 
-get_last : (xs : List Report) (x y : Report) (k : ℕ) → slice_get (xs ++ x ∷ []) k ≡ Some y → ((k < length xs) × (slice_get xs k ≡ Some y)) ⊎ ((k ≡ length xs) × (x ≡ y))
+get_last : (xs : List Report) (x y : Report) (k : ℕ) → slice_get (xs ++ x ∷ []) k ≡ Some y
+    → ((k < length xs) × (slice_get xs k ≡ Some y)) ⊎ ((k ≡ length xs) × (x ≡ y))
 get_last [] x y zero is = inr (refl, (let same : x ≡ y = cc in same))
 get_last [] x y (suc k) is = cc
 get_last (z ∷ xs) x y zero is = inl (omega arith, is)
@@ -30,7 +33,10 @@ taken-append : (xs ys : List Report) (i : ℕ) → taken (xs ++ ys) i ≡ taken 
 taken-append [] ys i = refl
 taken-append (report.Took j w ∷ xs) ys i = took_append j w xs ys i (j == i) refl (taken-append xs ys i)
   where
-    took_append : (j w : ℕ) (xs ys : List Report) (i : ℕ) (b : Bool) → (j == i) ≡ b → taken (xs ++ ys) i ≡ taken xs i ++ taken ys i → (if b then w ∷ taken (xs ++ ys) i else taken (xs ++ ys) i) ≡ (if b then w ∷ taken xs i else taken xs i) ++ taken ys i
+    took_append : (j w : ℕ) (xs ys : List Report) (i : ℕ) (b : Bool) → (j == i) ≡ b
+        → taken (xs ++ ys) i ≡ taken xs i ++ taken ys i
+        → (if b then w ∷ taken (xs ++ ys) i else taken (xs ++ ys) i) ≡ (if b then w ∷ taken xs i else taken xs i)
+        ++ taken ys i
     took_append j w xs ys i true is more = ap (λ zs. w ∷ zs) more
     took_append j w xs ys i false is more = more
 taken-append (report.Closed j ∷ xs) ys i = taken-append xs ys i
@@ -41,7 +47,10 @@ taken-took rs j w i = taken-append rs (report.Took j w ∷ []) i
 pub taken-closed : (rs : List Report) (j i : ℕ) → taken (rs ++ report.Closed j ∷ []) i ≡ taken rs i
 taken-closed rs j i = taken-append rs (report.Closed j ∷ []) i ∙ append-nil (taken rs i)
 
-pub clean_more : (rs : List Report) (lists : List (List ℕ)) (x : Report) → Clean rs lists → sender_of x < length lists → ((k : ℕ) → slice_get rs k ≡ Some (report.Closed (sender_of x)) → ⊥) → ((i : ℕ) → IsPrefixOf (taken (rs ++ x ∷ []) i) (slice_index_or lists i [])) → ((i : ℕ) → x ≡ report.Closed i → taken rs i ≡ slice_index_or lists i []) → Clean (rs ++ x ∷ []) lists
+pub clean_more : (rs : List Report) (lists : List (List ℕ)) (x : Report) → Clean rs lists
+    → sender_of x < length lists → ((k : ℕ) → slice_get rs k ≡ Some (report.Closed (sender_of x)) → ⊥)
+    → ((i : ℕ) → IsPrefixOf (taken (rs ++ x ∷ []) i) (slice_index_or lists i []))
+    → ((i : ℕ) → x ≡ report.Closed i → taken rs i ≡ slice_index_or lists i []) → Clean (rs ++ x ∷ []) lists
 clean_more rs lists x clean known unclosed prefix all = record { in_order = prefix; whole = whole; no_more = no_more; known = knows }
   where
     whole : (i k : ℕ) → slice_get (rs ++ x ∷ []) k ≡ Some (report.Closed i) → taken (take k (rs ++ x ∷ [])) i ≡ slice_index_or lists i []
@@ -76,8 +85,13 @@ pub taken_other : (rs : List Report) (i : ℕ) (y : Report) → sender_of y ≢ 
 taken_other rs i (report.Took j w) differ = taken-took rs j w i ∙ (let off : (j == i) ≡ false = grind (arith, nat_tests) in rw off (append-nil (taken rs i)))
 taken_other rs i (report.Closed j) differ = taken-closed rs j i
 
-pub told_other : (rs : List Report) (i : ℕ) (list : List ℕ) (took closings : ℕ) (x : Report) → sender_of x ≢ i → ReportsOf rs i list took closings → ReportsOf (rs ++ x ∷ []) i list took closings
-told_other rs i list took closings x other told = record { words = taken_other rs i x other ∙ told.words; closed = closed; said = λ is. (let old = told.said is in (old.0, get_front rs (x ∷ []) old.0 (report.Closed i) old.1)) }
+pub told_other : (rs : List Report) (i : ℕ) (list : List ℕ) (took closings : ℕ) (x : Report) → sender_of x ≢ i
+    → ReportsOf rs i list took closings → ReportsOf (rs ++ x ∷ []) i list took closings
+told_other rs i list took closings x other told = record {
+  words = taken_other rs i x other ∙ told.words;
+  closed = closed;
+  said = λ is. (let old = told.said is in (old.0, get_front rs (x ∷ []) old.0 (report.Closed i) old.1));
+}
   where
     closed : (k : ℕ) → slice_get (rs ++ x ∷ []) k ≡ Some (report.Closed i) → closings ≡ 1
     closed k is =
@@ -87,9 +101,12 @@ told_other rs i list took closings x other told = record { words = taken_other r
         ]
 
 -- a word of the sender's own
-pub told_took : (rs : List Report) (i : ℕ) (list : List ℕ) (took closings : ℕ) → took < length list → ReportsOf rs i list took closings → ReportsOf (rs ++ report.Took i (slice_index list took) ∷ []) i list (took + 1) closings
+pub told_took : (rs : List Report) (i : ℕ) (list : List ℕ) (took closings : ℕ) → took < length list
+    → ReportsOf rs i list took closings
+    → ReportsOf (rs ++ report.Took i (slice_index list took) ∷ []) i list (took + 1) closings
 told_took rs i list took closings less told = record {
-  words = taken-took rs i (slice_index list took) i ∙ (let on : (i == i) ≡ true = eq-eqb i i refl in rw on (ap (λ ys. ys ++ slice_index list took ∷ []) told.words ∙ sym (take_more list took 0 less)));
+  words = taken-took rs i (slice_index list took) i ∙ (let on : (i == i) ≡ true = eq-eqb i i refl in
+      rw on (ap (λ ys. ys ++ slice_index list took ∷ []) told.words ∙ sym (take_more list took 0 less)));
   closed = closed;
   said = λ is. (let old = told.said is in (old.0, get_front rs (report.Took i (slice_index list took) ∷ []) old.0 (report.Closed i) old.1));
 }
@@ -102,8 +119,13 @@ told_took rs i list took closings less told = record {
         ]
 
 -- its closing
-pub told_closed : (rs : List Report) (i : ℕ) (list : List ℕ) (took closings : ℕ) → ReportsOf rs i list took closings → ReportsOf (rs ++ report.Closed i ∷ []) i list took 1
-told_closed rs i list took closings told = record { words = taken-closed rs i i ∙ told.words; closed = λ k is. refl; said = λ is. (length rs, get_end rs (report.Closed i)) }
+pub told_closed : (rs : List Report) (i : ℕ) (list : List ℕ) (took closings : ℕ) → ReportsOf rs i list took closings
+    → ReportsOf (rs ++ report.Closed i ∷ []) i list took 1
+told_closed rs i list took closings told = record {
+  words = taken-closed rs i i ∙ told.words;
+  closed = λ k is. refl;
+  said = λ is. (length rs, get_end rs (report.Closed i));
+}
 
 pub prefix_take : (list : List ℕ) (xs : List ℕ) (n : ℕ) → xs ≡ take n list → IsPrefixOf xs list
 prefix_take list xs n is = (drop n list, ap (λ ys. ys ++ drop n list) is ∙ take-append-drop n list)
@@ -113,10 +135,13 @@ nothing_left [] none = refl
 nothing_left (x ∷ xs) none = absurd (omega arith)
 
 -- of a sender that is reported closed the whole list is taken
-pub closed_whole : (rs : List Report) (lists : List (List ℕ)) (i k : ℕ) → Clean rs lists → slice_get rs k ≡ Some (report.Closed i) → taken rs i ≡ slice_index_or lists i []
+pub closed_whole : (rs : List Report) (lists : List (List ℕ)) (i k : ℕ) → Clean rs lists
+    → slice_get rs k ≡ Some (report.Closed i) → taken rs i ≡ slice_index_or lists i []
 closed_whole rs lists i k clean is =
-    let split : taken rs i ≡ taken (take k rs) i ++ taken (drop k rs) i = ap (λ ys. taken ys i) (sym (take-append-drop k rs)) ∙ taken-append (take k rs) (drop k rs) i in
-    let first : length (taken rs i) ≡ length (taken (take k rs) i) + length (taken (drop k rs) i) = ap length split ∙ length-append (taken (take k rs) i) (taken (drop k rs) i) in
+    let split : taken rs i ≡ taken (take k rs) i ++ taken (drop k rs) i =
+    ap (λ ys. taken ys i) (sym (take-append-drop k rs)) ∙ taken-append (take k rs) (drop k rs) i in
+    let first : length (taken rs i) ≡ length (taken (take k rs) i) + length (taken (drop k rs) i) =
+    ap length split ∙ length-append (taken (take k rs) i) (taken (drop k rs) i) in
     let whole : length (taken (take k rs) i) ≡ length (slice_index_or lists i []) = ap length (clean.whole i k is) in
     let rest : List ℕ = (clean.in_order i).0 in
     let all : length (taken rs i) + length rest ≡ length (slice_index_or lists i []) = sym (length-append (taken rs i) rest) ∙ ap length (clean.in_order i).1 in

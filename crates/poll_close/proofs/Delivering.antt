@@ -10,23 +10,28 @@ use Rattle.step_machine.specs.Entries.{reported}
 use Rattle.step_machine.specs.Legal.{WellFormed}
 use Rattle.step_machine.specs.Runs.{Happens, Run, RunFrom}
 use Rattle.step_machine.proofs.Running.{shape_of, kept-happens, kept-unrun}
-use Rattle.poll_close.specs.Layout.{Layout, opening_at, senders_from}
-use Rattle.poll_close.specs.Laws.{Ring, Meaning, AcceptedAt, AreShort, Opens, Keeps, Cleans}
+use Rattle.poll_close.specs.Layout.{Layout, senders_from}
+use Rattle.poll_close.specs.Laws.{Ring, opening_over, Meaning, AcceptedAt, AreShort, Opens, Keeps, Cleans}
 use Rattle.poll_close.specs.Delivery.{Delivers}
 
 -- what has been known of a history since its opening
 pub record Known (ring : Ring) (means : Meaning) (B M : ℕ) (lists : List (List ℕ)) (S : Layout) (t : History) : Type 0 where
-  pub opening : t.opening ≡ opening_at ring.sender ring.receiver lists S
+  pub opening : t.opening ≡ opening_over ring lists S
   pub kept : WellFormed B M t
   pub meant : means B M lists S t
 
 module _ (ring : Ring) (means : Meaning) (keeps : Keeps ring means) (B M : ℕ) (lists : List (List ℕ)) (S : Layout) (accepted : AcceptedAt ring M lists S) where
-  pub known-happens : (t : History) (ev : Event) (o : Outcome) (new : History) → Known ring means B M lists S t → Happens B M t ev o new → Known ring means B M lists S new
+  pub known-happens : (t : History) (ev : Event) (o : Outcome) (new : History) → Known ring means B M lists S t
+      → Happens B M t ev o new → Known ring means B M lists S new
   unfolding Keeps
   known-happens t ev o new known h =
       let kept : WellFormed B M new = kept-happens B M t ev o new known.kept h in
       elim (shape_of B M t ev o new h) [
-        | inl a ↦ subst (Known ring means B M lists S) (sym a.2.after) (record { opening = known.opening; kept = subst (WellFormed B M) a.2.after kept; meant = keeps B M lists S t a.0 accepted known.opening known.kept a.2.follows known.meant })
+        | inl a ↦ subst (Known ring means B M lists S) (sym a.2.after) (record {
+          opening = known.opening;
+          kept = subst (WellFormed B M) a.2.after kept;
+          meant = keeps B M lists S t a.0 accepted known.opening known.kept a.2.follows known.meant;
+        })
         | inr i ↦ subst (Known ring means B M lists S) (sym i.after) known
       ]
 
@@ -34,16 +39,25 @@ module _ (ring : Ring) (means : Meaning) (keeps : Keeps ring means) (B M : ℕ) 
   known-run t [] new known run = subst (Known ring means B M lists S) (sym run) known
   known-run t (ev ∷ evs) new known run = known-run run.1 evs new (known-happens t ev run.0 run.1 known run.2) run.3
 
-pub run-known : (ring : Ring) (means : Meaning) (B M : ℕ) (lists : List (List ℕ)) (S : Layout) (evs : List Event) (t : History) → Opens ring means → Keeps ring means → AcceptedAt ring M lists S → Run B M (opening_at ring.sender ring.receiver lists S) evs t → Known ring means B M lists S t
+pub run-known : (ring : Ring) (means : Meaning) (B M : ℕ) (lists : List (List ℕ)) (S : Layout) (evs : List Event)
+    (t : History) → Opens ring means → Keeps ring means → AcceptedAt ring M lists S
+    → Run B M (opening_over ring lists S) evs t → Known ring means B M lists S t
 unfolding Opens
 run-known ring means B M lists S evs t opens keeps accepted run =
-    let o : Start = opening_at ring.sender ring.receiver lists S in
+    let o : Start = opening_over ring lists S in
     known-run ring means keeps B M lists S accepted (unrun o) evs t (record { opening = refl; kept = kept-unrun B M o; meant = opens B M lists S accepted }) run
 
-pub delivers : (ring : Ring) (means : Meaning) (B M : ℕ) (lists : List (List ℕ)) (S : Layout) (evs : List Event) (t : History) (o : Start) (reports : List Report) → Opens ring means → Keeps ring means → Cleans ring means → AcceptedAt ring M lists S → o ≡ opening_at ring.sender ring.receiver lists S → Run B M o evs t → reports ≡ reported 0 t.entries → Delivers B M o lists evs reports
+pub delivers : (ring : Ring) (means : Meaning) (B M : ℕ) (lists : List (List ℕ)) (S : Layout) (evs : List Event)
+    (t : History) (o : Start) (reports : List Report) → Opens ring means → Keeps ring means → Cleans ring means
+    → AcceptedAt ring M lists S → o ≡ opening_over ring lists S → Run B M o evs t → reports ≡ reported 0 t.entries
+    → Delivers B M o lists evs reports
 unfolding Opens
 delivers ring means B M lists S evs t o reports opens keeps cleans accepted is run answer =
-    let first : Known ring means B M lists S (unrun o) = record { opening = is; kept = kept-unrun B M o; meant = subst (λ (p : Start). means B M lists S (unrun p)) (sym is) (opens B M lists S accepted) } in
+    let first : Known ring means B M lists S (unrun o) = record {
+      opening = is;
+      kept = kept-unrun B M o;
+      meant = subst (λ (p : Start). means B M lists S (unrun p)) (sym is) (opens B M lists S accepted);
+    } in
     let last : Known ring means B M lists S t = known-run ring means keeps B M lists S accepted (unrun o) evs t first run in
     record { history = t; run = run; answer = answer; clean = rw answer (cleans B M lists S t accepted last.opening last.kept last.meant) }
 
@@ -55,7 +69,8 @@ pub senders-length : (code : List ℕ) (S : Layout) (i : ℕ) (lists : List (Lis
 senders-length code S i [] = refl
 senders-length code S i (ws ∷ lists) = ap (λ n. suc n) (senders-length code S (i + 1) lists)
 
-pub channel-fits : (ring : Ring) (M : ℕ) (lists : List (List ℕ)) (S : Layout) (o : Start) → AreShort ring → AcceptedAt ring M lists S → o ≡ opening_at ring.sender ring.receiver lists S → FitsIn M o
+pub channel-fits : (ring : Ring) (M : ℕ) (lists : List (List ℕ)) (S : Layout) (o : Start) → AreShort ring
+    → AcceptedAt ring M lists S → o ≡ opening_over ring lists S → FitsIn M o
 channel-fits ring M lists S o short accepted is =
     subst (FitsIn M) (sym is) (record {
       some_hart = omega arith;
@@ -69,5 +84,6 @@ pub if_ok : {A E : Type 0} (P Q : A → Type 0) → ((a : A) → P a → Q a) �
 if_ok P Q more (Ok a) h = more a h
 if_ok P Q more (Err e) h = tt
 
-pub delivers-as : (B M : ℕ) (o p : Start) (lists : List (List ℕ)) (evs : List Event) (reports : List Report) → o ≡ p → Delivers B M o lists evs reports → Delivers B M p lists evs reports
+pub delivers-as : (B M : ℕ) (o p : Start) (lists : List (List ℕ)) (evs : List Event) (reports : List Report) → o ≡ p
+    → Delivers B M o lists evs reports → Delivers B M p lists evs reports
 delivers-as B M o p lists evs reports is d = subst (λ (q : Start). Delivers B M q lists evs reports) is d

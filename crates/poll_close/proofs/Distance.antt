@@ -1,6 +1,7 @@
 -- How far the receiver is from its next report: the lemmas by which each line's reason shows that it comes nearer,
 -- and what a ring shows of one block for the plan.
-use Rattle.std.proofs.Common.{ℕ, suc, ◌+◌, ◌-◌, ◌*◌, ◌<◌, ◌≤◌, ◌≡◌, ◌==◌, inl, inr, Bool, true, false, not, ◌&&◌, ◌||◌, if◌then◌else◌, List, [], ◌∷◌, Some, refl, sym, ◌∙◌, ap, arith, add-one}
+use Rattle.std.proofs.Common.{ℕ, suc, ◌+◌, ◌-◌, ◌*◌, ◌<◌, ◌≤◌, ◌≡◌, ◌==◌, inl, inr, Bool, true, false, not, ◌&&◌, ◌||◌}
+use Rattle.std.proofs.Common.{if◌then◌else◌, List, [], ◌∷◌, Some, refl, sym, ◌∙◌, ap, arith, add-one}
 use Rattle.std.specs.Prelude.{nat_lt}
 use Rattle.std.proofs.lemmas.Bool.{cases_lt, and_parts}
 use Rattle.std.proofs.lemmas.Bool.Decides.{nat_tests}
@@ -48,7 +49,8 @@ module _ (a : Around) (x : List ℕ) where
       both : (is_short row.rank ≡ true) × (are_short rows ≡ true)
       both = and_parts (is_short row.rank) (are_short rows) short
 
-      at : (b : Bool) → rank_in (length_of a x) rows here ≤ 22 + a.rest + a.start → (if b then length_of a x row.rank else rank_in (length_of a x) rows here) ≤ 22 + a.rest + a.start
+      at : (b : Bool) → rank_in (length_of a x) rows here ≤ 22 + a.rest + a.start
+          → (if b then length_of a x row.rank else rank_in (length_of a x) rows here) ≤ 22 + a.rest + a.start
       at true later = length_short row.rank both.0
       at false later = later
 
@@ -57,12 +59,19 @@ pub record BlockProgress (m : BlockMeaning) (least : ℕ) : Type 0 where
   pub short : are_short (opened_rows m m.rows) ≡ true
   -- with nothing pending, an act of a sender that does not wait brings it nearer to its end; one that
   -- waits has a word ready; one that has ended has its mark landed
-  pub nearer : (k : Block) (n : Count m) (s : HartState) (word : ℕ → ℕ) (v : ℕ) → IsBlock k → m.Ordered k n → m.Words k n.landed word → Standing m.sender k n.sender s → s.status ≡ status.Running → unsent_of m k n ≡ [] → unread_of m k n ≡ [] → ((a : ℕ) → IsWordOf k a → need_of s ≡ loads a → v ≡ word a) → m.waits s word ≡ false → left_of m.sender (advanced s v) < left_of m.sender s
-  pub ready : (k : Block) (n : Count m) (s : HartState) (word : ℕ → ℕ) → IsBlock k → least ≤ k.size → m.Ordered k n → m.Words k n.landed word → Standing m.sender k n.sender s → s.status ≡ status.Running → unsent_of m k n ≡ [] → unread_of m k n ≡ [] → m.waits s word ≡ true → m.Ready k n
-  pub marked : (k : Block) (n : Count m) (s : HartState) → IsBlock k → m.Ordered k n → Standing m.sender k n.sender s → runs (Some s) ≡ false → unsent_of m k n ≡ [] → m.marks n.landed ≡ 1
+  pub nearer : (k : Block) (n : Count m) (s : HartState) (word : ℕ → ℕ) (v : ℕ) → IsBlock k → m.Ordered k n
+      → m.Words k n.landed word → Standing m.sender k n.sender s → s.status ≡ status.Running → unsent_of m k n ≡ []
+      → unread_of m k n ≡ [] → ((a : ℕ) → IsWordOf k a → need_of s ≡ loads a → v ≡ word a) → m.waits s word ≡ false
+      → left_of m.sender (advanced s v) < left_of m.sender s
+  pub ready : (k : Block) (n : Count m) (s : HartState) (word : ℕ → ℕ) → IsBlock k → least ≤ k.size → m.Ordered k n
+      → m.Words k n.landed word → Standing m.sender k n.sender s → s.status ≡ status.Running → unsent_of m k n ≡ []
+      → unread_of m k n ≡ [] → m.waits s word ≡ true → m.Ready k n
+  pub marked : (k : Block) (n : Count m) (s : HartState) → IsBlock k → m.Ordered k n
+      → Standing m.sender k n.sender s → runs (Some s) ≡ false → unsent_of m k n ≡ [] → m.marks n.landed ≡ 1
 
 -- from a visit that may find nothing to one that may so too, or that finds something
-pub flags : {rest : ℕ} (a b c d : ℕ) (new old : Bool) → (a < b) × (c < d) × (c ≤ 40) → 40 ≤ rest → (new ≡ true → old ≡ true) → (if new then a + rest else c) < (if old then b + rest else d)
+pub flags : {rest : ℕ} (a b c d : ℕ) (new old : Bool) → (a < b) × (c < d) × (c ≤ 40) → 40 ≤ rest
+    → (new ≡ true → old ≡ true) → (if new then a + rest else c) < (if old then b + rest else d)
 flags a b c d true true less off same = omega arith
 flags a b c d true false less off same = let bad : false ≡ true = same refl in cc
 flags a b c d false true less off same = omega arith
@@ -101,7 +110,9 @@ module _ (rs : List Report) (n : ℕ) where
     where
       at : (c : ℕ) → n - (j + 1) ≡ c → n - j ≡ suc c → (b : Bool) → is_closed rs j ≡ b → (if b then 17 + rest_from rs n (j + 1) else 22) < 1 + rest_from rs n j
       at c one two true is =
-          let same : some_open rs j (n - j) ≡ some_open rs (j + 1) (n - (j + 1)) = ap (some_open rs j) two ∙ ap (λ b. not b || some_open rs (suc j) c) is ∙ ap (λ i. some_open rs i c) (sym (add-one j)) ∙ ap (some_open rs (j + 1)) (sym one) in
+          let same : some_open rs j (n - j) ≡ some_open rs (j + 1) (n - (j + 1)) =
+          ap (some_open rs j) two ∙ ap (λ b. not b || some_open rs (suc j) c) is
+          ∙ ap (λ i. some_open rs i c) (sym (add-one j)) ∙ ap (some_open rs (j + 1)) (sym one) in
           let wraps : wrap (some_open rs j (n - j)) ≡ wrap (some_open rs (j + 1) (n - (j + 1))) = ap wrap same in
           omega (arith, wraps, one, two)
       at c one two false is = omega (arith, far_off j)

@@ -6,6 +6,7 @@ pub mod Windows
 pub mod Writes
 pub mod Blocks
 pub mod BlockLaws
+pub mod Found
 pub mod Outlines
 pub mod ReceiverMoves
 pub mod ReceiverStays

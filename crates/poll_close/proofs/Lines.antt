@@ -1,5 +1,6 @@
 -- One line of a program: what a hart wants there, and the state that it leaves.
-use Rattle.std.proofs.Common.{ℕ, ℤ, pos, negsuc, zero, suc, ◌+◌, ◌*◌, ◌/◌, ◌%◌, ◌^◌, ◌<◌, ◌≤◌, ◌≡◌, ◌≢◌, ◌==◌, ◌+ℤ◌, true, false, not, List, [], ◌∷◌, length, Some, refl, add-zero, ◌∙◌, ap, arith}
+use Rattle.std.proofs.Common.{ℕ, ℤ, pos, negsuc, zero, suc, ◌+◌, ◌*◌, ◌/◌, ◌%◌, ◌^◌, ◌<◌, ◌≤◌, ◌≡◌, ◌≢◌, ◌==◌, ◌+ℤ◌}
+use Rattle.std.proofs.Common.{true, false, not, List, [], ◌∷◌, length, Some, refl, add-zero, ◌∙◌, ap, arith}
 use Rattle.std.specs.Prelude.{map, slice_index}
 use Rattle.std.specs.List.{slice_get}
 use Rattle.std.proofs.lemmas.Int.{ints}
@@ -19,7 +20,9 @@ use Rattle.hart.specs.declared.need.Need.{Need}
 use Rattle.hart.specs.declared.need.Need.TheVariants as need
 use Rattle.hart.specs.Effects.{read, written, next_pc, address, word}
 use Rattle.hart.specs.Steps.{need_of, advanced, settled}
-use Rattle.hart.proofs.Instructions.{IsAt, load_need, load_after, store_need, store_after, immediate_need, immediate_after, branch_on_need, branch_on_after, branch_taken_need, branch_taken_after, register_need, register_after, jal_need, jal_after}
+use Rattle.hart.proofs.Instructions.{IsAt, load_need, load_after, store_need, store_after, immediate_need}
+use Rattle.hart.proofs.Instructions.{immediate_after, branch_on_need, branch_on_after, branch_taken_need}
+use Rattle.hart.proofs.Instructions.{branch_taken_after, register_need, register_after, jal_need, jal_after}
 use Rattle.poll_close.specs.Means.{AllMean}
 
 -- a state, what it wants, and the state that it leaves when it reads v
@@ -47,7 +50,10 @@ pub all_mean : (ws : List ℕ) (is : List Instr) → map meaning ws ≡ map Some
 all_mean [] [] e = tt
 all_mean [] (i ∷ is) e = cc
 all_mean (w ∷ ws) [] e = cc
-all_mean (w ∷ ws) (i ∷ is) e = ((meaning_iff w i).0 (let first : meaning w ≡ Some i = cc in first), all_mean ws is (let rest : map meaning ws ≡ map Some is = cc in rest))
+all_mean (w ∷ ws) (i ∷ is) e = (
+  (meaning_iff w i).0 (let first : meaning w ≡ Some i = cc in first),
+  all_mean ws is (let rest : map meaning ws ≡ map Some is = cc in rest),
+)
 
 -- and such a table has line j at 4 * j
 
@@ -70,22 +76,29 @@ goes_to s pc = settled (record s { pc = pc })
 abbrev pub leaves_in : HartState → Reg → ℕ → HartState
 leaves_in s rd n = settled (record s { registers = written s.registers rd n; pc = next_pc s.pc })
 
-pub add_line : {s : HartState} {rd rs : Reg} {k : ℤ} {n : ℕ} → IsAt s (Immediate immediate.Add rd rs k) → word (pos (read s.registers rs) +ℤ k) ≡ n → Line s need.Inner (λ v. leaves_in s rd n)
+pub add_line : {s : HartState} {rd rs : Reg} {k : ℤ} {n : ℕ} → IsAt s (Immediate immediate.Add rd rs k)
+    → word (pos (read s.registers rs) +ℤ k) ≡ n → Line s need.Inner (λ v. leaves_in s rd n)
 add_line {s} {rd} {rs} {k} {n} at is = record { wants = immediate_need at; leaves = λ v. immediate_after at v ∙ ap (leaves_in s rd) is }
 
-pub sum_line : {s : HartState} {rd a b : Reg} → IsAt s (Register register.Add rd a b) → read s.registers a + read s.registers b < 2 ^ 32 → Line s need.Inner (λ v. leaves_in s rd (read s.registers a + read s.registers b))
+pub sum_line : {s : HartState} {rd a b : Reg} → IsAt s (Register register.Add rd a b)
+    → read s.registers a + read s.registers b < 2 ^ 32
+    → Line s need.Inner (λ v. leaves_in s rd (read s.registers a + read s.registers b))
 sum_line {s} {rd} {a} {b} at small =
     let sum : (read s.registers a + read s.registers b) % 2 ^ 32 ≡ read s.registers a + read s.registers b = omega arith in
     record { wants = register_need at; leaves = λ v. register_after at v ∙ ap (leaves_in s rd) sum }
 
-pub load_line : {s : HartState} {rd rs : Reg} {k : ℕ} → IsAt s (Load load.Word rd rs (pos k)) → read s.registers rs % 4 ≡ 0 → k % 4 ≡ 0 → read s.registers rs + k < 4 * s.words → 4 * s.words ≤ 2 ^ 32 → Line s (loads (read s.registers rs + k)) (λ v. leaves_in s rd v)
+pub load_line : {s : HartState} {rd rs : Reg} {k : ℕ} → IsAt s (Load load.Word rd rs (pos k))
+    → read s.registers rs % 4 ≡ 0 → k % 4 ≡ 0 → read s.registers rs + k < 4 * s.words → 4 * s.words ≤ 2 ^ 32
+    → Line s (loads (read s.registers rs + k)) (λ v. leaves_in s rd v)
 load_line {s} {rd} {rs} {k} at even whole below small =
     let place : word (pos (read s.registers rs) +ℤ pos k) ≡ read s.registers rs + k = word_plus (read s.registers rs) k (omega arith) in
     let aligned : word (pos (read s.registers rs) +ℤ pos k) % 4 ≡ 0 = omega arith in
     let inside : word (pos (read s.registers rs) +ℤ pos k) < 4 * s.words = omega arith in
     record { wants = load_need at aligned inside ∙ ap loads place; leaves = λ v. load_after at aligned inside v }
 
-pub store_line : {s : HartState} {rs from : Reg} {k : ℕ} → IsAt s (Store store.Word rs from (pos k)) → read s.registers rs % 4 ≡ 0 → k % 4 ≡ 0 → read s.registers rs + k < 4 * s.words → 4 * s.words ≤ 2 ^ 32 → Line s (stores (read s.registers rs + k) (read s.registers from)) (λ v. goes_to s (next_pc s.pc))
+pub store_line : {s : HartState} {rs from : Reg} {k : ℕ} → IsAt s (Store store.Word rs from (pos k))
+    → read s.registers rs % 4 ≡ 0 → k % 4 ≡ 0 → read s.registers rs + k < 4 * s.words → 4 * s.words ≤ 2 ^ 32
+    → Line s (stores (read s.registers rs + k) (read s.registers from)) (λ v. goes_to s (next_pc s.pc))
 store_line {s} {rs} {from} {k} at even whole below small =
     let place : word (pos (read s.registers rs) +ℤ pos k) ≡ read s.registers rs + k = word_plus (read s.registers rs) k (omega arith) in
     let aligned : word (pos (read s.registers rs) +ℤ pos k) % 4 ≡ 0 = omega arith in
@@ -96,7 +109,8 @@ pub jump_line : {s : HartState} {k : ℤ} → IsAt s (Jal (reg_of 0) k) → addr
 jump_line at aligned = record { wants = jal_need at aligned; leaves = λ v. jal_after at aligned v }
 
 module _ {s : HartState} {a b : Reg} {k : ℤ} where
-  pub same_jumps : IsAt s (Branch branch.Equal a b k) → read s.registers a ≡ read s.registers b → address s.pc k % 4 ≡ 0 → Line s need.Inner (λ v. goes_to s (address s.pc k))
+  pub same_jumps : IsAt s (Branch branch.Equal a b k) → read s.registers a ≡ read s.registers b
+      → address s.pc k % 4 ≡ 0 → Line s need.Inner (λ v. goes_to s (address s.pc k))
   same_jumps at known aligned =
       let test : (read s.registers a == read s.registers b) ≡ true = grind (arith, nat_tests) in
       record { wants = branch_taken_need at test aligned; leaves = λ v. branch_taken_after at test aligned v ∙ rw test refl }
@@ -106,7 +120,8 @@ module _ {s : HartState} {a b : Reg} {k : ℤ} where
       let test : (read s.registers a == read s.registers b) ≡ false = grind (arith, nat_tests) in
       record { wants = branch_on_need at test; leaves = λ v. branch_on_after at test v ∙ rw test refl }
 
-  pub other_jumps : IsAt s (Branch branch.NotEqual a b k) → read s.registers a ≢ read s.registers b → address s.pc k % 4 ≡ 0 → Line s need.Inner (λ v. goes_to s (address s.pc k))
+  pub other_jumps : IsAt s (Branch branch.NotEqual a b k) → read s.registers a ≢ read s.registers b
+      → address s.pc k % 4 ≡ 0 → Line s need.Inner (λ v. goes_to s (address s.pc k))
   other_jumps at known aligned =
       let test : (read s.registers a == read s.registers b) ≡ false = grind (arith, nat_tests) in
       record { wants = branch_taken_need at (ap not test) aligned; leaves = λ v. branch_taken_after at (ap not test) aligned v ∙ rw test refl }

@@ -1,6 +1,7 @@
 -- A sender whose outline is right keeps its block's meaning: from each row's assertion, whatever it reads,
 -- its act leads to the row where it goes on, and nearer to its end where it doesn't wait.
-use Rattle.std.proofs.Common.{ℕ, ◌≡◌, ◌≢◌, ◌+◌, ◌-◌, ◌*◌, ◌<◌, ◌≤◌, ◌==◌, Bool, true, false, List, [], ◌∷◌, ◌++◌, drop, Some, if◌then◌else◌, refl, sym, ◌∙◌, ap, subst, arith, append-nil}
+use Rattle.std.proofs.Common.{ℕ, ◌≡◌, ◌≢◌, ◌+◌, ◌-◌, ◌*◌, ◌<◌, ◌≤◌, ◌==◌, Bool, true, false, List, [], ◌∷◌, ◌++◌, drop}
+use Rattle.std.proofs.Common.{Some, if◌then◌else◌, refl, sym, ◌∙◌, ap, subst, arith, append-nil}
 use Rattle.std.specs.Prelude.{slice_index, map}
 use Rattle.std.specs.List.{slice_get}
 use Rattle.std.proofs.lemmas.Bool.Decides.{nat_tests}
@@ -27,7 +28,9 @@ abbrev pub also : {A B : Type 0} → A → B → A × B
 also a b = (a, b)
 
 -- where each row is right, what is wanted follows at any offset from what holds there
-pub found : {Rank : Type 0} {Held : Type 1} (holds : Held → Type 0) (Goal : ℕ → Type 0) (rows : List (Row Rank Held)) → Reasons (λ (row : Row Rank Held). holds row.holds → Goal row.at) rows → (here : ℕ) → HoldsIn holds rows here → Goal here
+pub found : {Rank : Type 0} {Held : Type 1} (holds : Held → Type 0) (Goal : ℕ → Type 0)
+    (rows : List (Row Rank Held)) → Reasons (λ (row : Row Rank Held). holds row.holds → Goal row.at) rows → (here : ℕ)
+    → HoldsIn holds rows here → Goal here
 found holds Goal [] reasons here h = absurd h
 found holds Goal (row ∷ rows) reasons here h = by_test (row.at == here) refl h (λ later. found holds Goal rows reasons.1 here later)
   where
@@ -40,7 +43,8 @@ module _ (o : Outline) (k : Block) (here : ℕ) (n : o.Own) (r : SenderRegisters
   abbrev inbox : List ℕ
   inbox = drop (o.asked n) k.list
 
-  by : (b : Bool) → (here == o.over) ≡ b → stands o k here n r ≡ (if b then ended o.code (fixed k) (here - 4) r inbox else running o.code (fixed k) here r inbox)
+  by : (b : Bool) → (here == o.over) ≡ b → stands o k here n r
+      ≡ (if b then ended o.code (fixed k) (here - 4) r inbox else running o.code (fixed k) here r inbox)
   by b is = ap (λ c. if c then ended o.code (fixed k) (here - 4) r inbox else running o.code (fixed k) here r inbox) is
 
   at_end : (here == o.over) ≡ true → stands o k here n r ≡ ended o.code (fixed k) (here - 4) r inbox
@@ -74,7 +78,8 @@ module _ (o : Outline) (k : Block) (n : o.Own) (s : HartState) (st : Standing o 
   pub has_ended : runs (Some s) ≡ false → o.done k n
   has_ended off = at (st.place == o.over) refl st.holds
     where
-      at : (b : Bool) → (st.place == o.over) ≡ b → either b (o.done k n) (HoldsIn (λ (H : Block → o.Own → SenderRegisters → Type 0). H k n st.written) o.rows st.place) → o.done k n
+      at : (b : Bool) → (st.place == o.over) ≡ b → either b (o.done k n)
+          (HoldsIn (λ (H : Block → o.Own → SenderRegisters → Type 0). H k n st.written) o.rows st.place) → o.done k n
       at true over h = h
       at false on h = let bad : false ≡ true = sym off ∙ ap (λ (z : HartState). runs (Some z)) (st.is ∙ at_run o k st.place n st.written on) in cc
 
@@ -121,35 +126,68 @@ module _ (m : BlockMeaning) (g : Sender m) (k : Block) (n : Count m) (word : ℕ
 
   -- an act by a line; and by one that changes no number
   abbrev pub GoesBy : ℕ → Type 0
-  GoesBy here = (there : ℕ) (wanted : Need) (made : m.sender.Own) (written : ℕ → SenderRegisters) → IsNoAmo (IsWordOf k) wanted → Line (now here) wanted (λ w. stands m.sender k there made (written w)) → m.Ordered k (record n { sender = made }) → unsent_of m k n ++ stored_by wanted ≡ m.unsent k made n.landed → Holds m.sender there k made (written v) → (Free here → Nearer here there made (written v)) → Finds here → Goes here
+  GoesBy here = (there : ℕ) (wanted : Need) (made : m.sender.Own) (written : ℕ → SenderRegisters)
+      → IsNoAmo (IsWordOf k) wanted → Line (now here) wanted (λ w. stands m.sender k there made (written w))
+      → m.Ordered k (record n { sender = made }) → unsent_of m k n ++ stored_by wanted ≡ m.unsent k made n.landed
+      → Holds m.sender there k made (written v) → (Free here → Nearer here there made (written v)) → Finds here
+      → Goes here
 
   abbrev pub Still : ℕ → Type 0
-  Still here = (there : ℕ) (written : SenderRegisters) → Line (now here) need.Inner (λ w. stands m.sender k there n.sender written) → Holds m.sender there k n.sender written → Nearer here there n.sender written → Finds here → Goes here
+  Still here = (there : ℕ) (written : SenderRegisters)
+      → Line (now here) need.Inner (λ w. stands m.sender k there n.sender written)
+      → Holds m.sender there k n.sender written → Nearer here there n.sender written → Finds here → Goes here
 
   pub goes : (here : ℕ) → GoesBy here
-  goes here there wanted made written plain line order unsent holds nearer find = record { wanted = wanted; there = there; made = made; written = written v; plain = plain; wants = line.wants; leaves = line.leaves v; order = order; unsent = unsent; holds = holds; nearer = nearer }
+  goes here there wanted made written plain line order unsent holds nearer find = record {
+    wanted = wanted;
+    there = there;
+    made = made;
+    written = written v;
+    plain = plain;
+    wants = line.wants;
+    leaves = line.leaves v;
+    order = order;
+    unsent = unsent;
+    holds = holds;
+    nearer = nearer;
+  }
 
   pub still : m.Ordered k n → (here : ℕ) → Still here
-  still order here there written line holds nearer = goes here there need.Inner n.sender (λ w. written) tt line order (append-nil (unsent_of m k n)) holds (λ free. nearer)
+  still order here there written line holds nearer = goes here there need.Inner n.sender (λ w. written) tt line
+      order (append-nil (unsent_of m k n)) holds (λ free. nearer)
 
   -- where the line at this offset is that instruction
-  pub at_in : (q : SenderRegisters) (inbox : List ℕ) (j : ℕ) {i : Instr} → slice_get (map Some g.lines) j ≡ Some (Some i) → IsAt (running m.sender.code (fixed k) (4 * j) q inbox) i
+  pub at_in : (q : SenderRegisters) (inbox : List ℕ) (j : ℕ) {i : Instr}
+      → slice_get (map Some g.lines) j ≡ Some (Some i) → IsAt (running m.sender.code (fixed k) (4 * j) q inbox) i
   at_in q inbox j found = at_line (running m.sender.code (fixed k) (4 * j) q inbox) j refl (ap (λ xs. slice_get xs j) g.decoded ∙ found)
 
-  pub at : (j : ℕ) {i : Instr} → slice_get (map Some g.lines) j ≡ Some (Some i) → IsAt (running m.sender.code (fixed k) (4 * j) r (drop (m.sender.asked n.sender) k.list)) i
+  pub at : (j : ℕ) {i : Instr} → slice_get (map Some g.lines) j ≡ Some (Some i)
+      → IsAt (running m.sender.code (fixed k) (4 * j) r (drop (m.sender.asked n.sender) k.list)) i
   at j found = at_in r (drop (m.sender.asked n.sender) k.list) j found
 
   right : Reasons Right m.sender.rows → (here : ℕ) → (now here).status ≡ status.Running → Right_at here
   right reasons here running h find = by_test (here == m.sender.over) refl h
     where
-      by_test : (b : Bool) → (here == m.sender.over) ≡ b → either b (m.sender.done k n.sender) (HoldsIn (λ (H : Block → m.sender.Own → SenderRegisters → Type 0). H k n.sender r) m.sender.rows here) → Goes here
-      by_test true over h = let bad : status.Ended ≡ status.Running = sym (ap (λ (s : HartState). s.status) (at_end m.sender k here n.sender r over)) ∙ running in cc
-      by_test false on h = found (λ (H : Block → m.sender.Own → SenderRegisters → Type 0). H k n.sender r) (λ j. Finds j → Goes j) m.sender.rows reasons here h find
+      by_test : (b : Bool) → (here == m.sender.over) ≡ b → either b (m.sender.done k n.sender)
+          (HoldsIn (λ (H : Block → m.sender.Own → SenderRegisters → Type 0). H k n.sender r) m.sender.rows here)
+          → Goes here
+      by_test true over h =
+          let bad : status.Ended ≡ status.Running =
+          sym (ap (λ (s : HartState). s.status) (at_end m.sender k here n.sender r over)) ∙ running in
+          cc
+      by_test false on h = found (λ (H : Block → m.sender.Own → SenderRegisters → Type 0). H k n.sender r)
+          (λ j. Finds j → Goes j) m.sender.rows reasons here h find
 
 -- so its acts keep the block's meaning, and bring it nearer to its end, as the laws of a block ask
-module _ (m : BlockMeaning) (g : Sender m) (reasons : (k : Block) (n : Count m) (word : ℕ → ℕ) (v : ℕ) (r : SenderRegisters) → IsBlock k → m.Ordered k n → m.Words k n.landed word → Reasons (Right m g k n word v r) m.sender.rows) (k : Block) (n : Count m) (s : HartState) (word : ℕ → ℕ) (v : ℕ) (is : IsBlock k) (order : m.Ordered k n) (words : m.Words k n.landed word) (st : Standing m.sender k n.sender s) (running : s.status ≡ status.Running) where
+module _ (m : BlockMeaning) (g : Sender m)
+    (reasons : (k : Block) (n : Count m) (word : ℕ → ℕ) (v : ℕ) (r : SenderRegisters) → IsBlock k → m.Ordered k n
+    → m.Words k n.landed word → Reasons (Right m g k n word v r) m.sender.rows) (k : Block) (n : Count m)
+    (s : HartState) (word : ℕ → ℕ) (v : ℕ) (is : IsBlock k) (order : m.Ordered k n) (words : m.Words k n.landed word)
+    (st : Standing m.sender k n.sender s) (running : s.status ≡ status.Running) where
   act : ((a : ℕ) → IsWordOf k a → need_of s ≡ loads a → v ≡ found_in (unsent_of m k n) word a) → Goes m g k n word v st.written st.place
-  act find = right m g k n word v st.written (reasons k n word v st.written is order words) st.place (subst (λ (z : HartState). z.status ≡ status.Running) st.is running) st.holds (λ a inside wants. find a inside (ap need_of st.is ∙ wants))
+  act find = right m g k n word v st.written (reasons k n word v st.written is order words) st.place
+      (subst (λ (z : HartState). z.status ≡ status.Running) st.is running) st.holds
+      (λ a inside wants. find a inside (ap need_of st.is ∙ wants))
 
   pub sends : ((a : ℕ) → IsWordOf k a → need_of s ≡ loads a → v ≡ found_in (unsent_of m k n) word a) → Sends m k n s v
   sends find =
@@ -163,8 +201,11 @@ module _ (m : BlockMeaning) (g : Sender m) (reasons : (k : Block) (n : Count m) 
         unsent = ap (λ w. unsent_of m k n ++ stored_by w) wants ∙ a.unsent;
       }
 
-  pub nearer : unsent_of m k n ≡ [] → ((a : ℕ) → IsWordOf k a → need_of s ≡ loads a → v ≡ word a) → m.waits s word ≡ false → left_of m.sender (advanced s v) < left_of m.sender s
+  pub nearer : unsent_of m k n ≡ [] → ((a : ℕ) → IsWordOf k a → need_of s ≡ loads a → v ≡ word a)
+      → m.waits s word ≡ false → left_of m.sender (advanced s v) < left_of m.sender s
   nearer none find on =
       let a : Goes m g k n word v st.written st.place = act (λ a inside wants. find a inside wants ∙ sym (ap (λ ps. found_in ps word a) none)) in
-      let less : left_of m.sender (stands m.sender k a.there a.made a.written) < left_of m.sender (stands m.sender k st.place n.sender st.written) = a.nearer (none, subst (λ (z : HartState). m.waits z word ≡ false) st.is on) in
+      let less : left_of m.sender (stands m.sender k a.there a.made a.written)
+      < left_of m.sender (stands m.sender k st.place n.sender st.written) =
+      a.nearer (none, subst (λ (z : HartState). m.waits z word ≡ false) st.is on) in
       rw (st.is, a.leaves) less

@@ -1,5 +1,7 @@
 -- What each step of the plan's loop keeps.
-use Rattle.std.proofs.Common.{◌≡◌, ◌≢◌, ℕ, zero, suc, ◌+◌, ◌-◌, ◌==◌, not, ◌≤◌, ◌<◌, inl, inr, ◌⊎◌, Bool, true, false, if◌then◌else◌, ◌||◌, ◌&&◌, Some, None, List, [], ◌∷◌, ◌++◌, length, drop, refl, sym, ◌∙◌, ap, subst, arith}
+use Rattle.std.proofs.Common.{◌≡◌, ◌≢◌, ℕ, zero, suc, ◌+◌, ◌-◌, ◌==◌, not, ◌≤◌, ◌<◌, inl, inr, ◌⊎◌, Bool, true, false}
+use Rattle.std.proofs.Common.{if◌then◌else◌, ◌||◌, ◌&&◌, Some, None, List, [], ◌∷◌, ◌++◌, length, drop, refl, sym, ◌∙◌}
+use Rattle.std.proofs.Common.{ap, subst, arith}
 use Rattle.std.proofs.lemmas.Bool.{cases_eq, cases_lt}
 use Rattle.std.proofs.lemmas.Bool.Decides.{nat_tests}
 use Rattle.step_machine.specs.declared.events.Event.{Event}
@@ -24,12 +26,12 @@ use Rattle.hart.specs.declared.need.Report.{Report}
 use Rattle.hart.specs.declared.need.Report.TheVariants as report
 use Rattle.std.specs.Prelude.{map}
 use Rattle.std.specs.List.{slice_get, slice_index_or}
-use Rattle.poll_close.specs.Laws.{Ring, Meaning, Accepted, AcceptedAt, Opens, Keeps, Cleans}
+use Rattle.poll_close.specs.Laws.{Ring, opening_over, opening_of, Meaning, Accepted, AcceptedAt, Opens, Keeps, Cleans}
 use Rattle.poll_close.specs.Reports.{taken, Clean}
 use Rattle.poll_close.specs.Standing.{Stands, lists_of}
 use Rattle.poll_close.proofs.Dense.{dense-accepted}
 use Rattle.poll_close.proofs.Standing.{inboxes, stands-opens, stands-happens, stands-run, stands-clean}
-use Rattle.poll_close.specs.Layout.{Layout, dense, opening_at, opening_of}
+use Rattle.poll_close.specs.Layout.{Layout, dense, opening_at}
 use Rattle.poll_close.specs.Delivery.{DeliversWhole}
 use Rattle.poll_close.proofs.CleanReports.{closed_whole}
 use Rattle.poll_close.specs.Rankings.{Nearer, Decreases}
@@ -45,7 +47,9 @@ closed_at [] i is = cc
 closed_at (report.Took j w ∷ rs) i is = let more = closed_at rs i is in (suc more.0, more.1)
 closed_at (report.Closed j ∷ rs) i is = at (j == i) refl is (closed_at rs i)
   where
-    at : (b : Bool) → (j == i) ≡ b → (b || is_closed rs i) ≡ true → (is_closed rs i ≡ true → (k : ℕ) × (slice_get rs k ≡ Some (report.Closed i))) → (k : ℕ) × (slice_get (report.Closed j ∷ rs) k ≡ Some (report.Closed i))
+    at : (b : Bool) → (j == i) ≡ b → (b || is_closed rs i) ≡ true
+        → (is_closed rs i ≡ true → (k : ℕ) × (slice_get rs k ≡ Some (report.Closed i)))
+        → (k : ℕ) × (slice_get (report.Closed j ∷ rs) k ≡ Some (report.Closed i))
     at true same on later = (0, ap (λ z. Some (report.Closed z)) (let one : j ≡ i = grind (arith, nat_tests) in one))
     at false other on later = let more = later on in (suc more.0, more.1)
 
@@ -53,7 +57,8 @@ pub each_closed : (rs : List Report) (n : ℕ) → all_closed rs n ≡ true → 
 each_closed rs zero all i less = absurd (omega arith)
 each_closed rs (suc n) all i less = at (is_closed rs n) refl all (cases_eq i n) (λ both below. each_closed rs n both i below)
   where
-    at : (b : Bool) → is_closed rs n ≡ b → (b && all_closed rs n) ≡ true → (i ≡ n) ⊎ (i ≢ n) → (all_closed rs n ≡ true → i < n → is_closed rs i ≡ true) → is_closed rs i ≡ true
+    at : (b : Bool) → is_closed rs n ≡ b → (b && all_closed rs n) ≡ true → (i ≡ n) ⊎ (i ≢ n)
+        → (all_closed rs n ≡ true → i < n → is_closed rs i ≡ true) → is_closed rs i ≡ true
     at true is both (inl same) more = ap (is_closed rs) same ∙ is
     at true is both (inr other) more = more both (omega (arith, other, less))
     at false is both any more = cc
@@ -68,7 +73,9 @@ open_one rs n i less open_yet = at (all_closed rs n) refl
 pub finished : (ring : Ring) (means : Meaning) (B M : ℕ) (t : History) → Cleans ring means → Stands ring means B M t → is_done t ≡ true → Finished t
 finished ring means B M t cleans s done = record {
   closed = each_closed (reported 0 t.entries) (senders_of t) done;
-  whole = λ i less. (let at = closed_at (reported 0 t.entries) i (each_closed (reported 0 t.entries) (senders_of t) done i less) in closed_whole (reported 0 t.entries) (lists_of t.opening) i at.0 (stands-clean ring means B M t cleans s) at.1);
+  whole = λ i less.
+      (let at = closed_at (reported 0 t.entries) i (each_closed (reported 0 t.entries) (senders_of t) done i less) in
+      closed_whole (reported 0 t.entries) (lists_of t.opening) i at.0 (stands-clean ring means B M t cleans s) at.1);
 }
 
 module _ (ring : Ring) (means : Meaning) (B M : ℕ) where
@@ -82,14 +89,17 @@ module _ (ring : Ring) (means : Meaning) (B M : ℕ) where
         | inr i ↦ ap (λ (u : History). length u.opening.harts) i.after
       ]
 
-  pub planned-more : (start : History) (evs : List Event) (t : History) (ev : Event) (o : Outcome) (new : History) → Keeps ring means → Planned ring means B M start evs t → Happens B M t ev o new → Planned ring means B M start (evs ++ ev ∷ []) new
+  pub planned-more : (start : History) (evs : List Event) (t : History) (ev : Event) (o : Outcome) (new : History)
+      → Keeps ring means → Planned ring means B M start evs t → Happens B M t ev o new
+      → Planned ring means B M start (evs ++ ev ∷ []) new
   planned-more start evs t ev o new keeps p h = record {
     run = RunFrom-more B M start evs t ev o new p.run h;
     stands = stands-happens ring means B M t ev o new keeps p.stands h;
     harts = same_harts t ev o new h ∙ p.harts;
   }
 
-  pub planned-done : (start : History) (evs : List Event) (t : History) → Cleans ring means → Planned ring means B M start evs t → is_done t ≡ true → Finishes B M start evs
+  pub planned-done : (start : History) (evs : List Event) (t : History) → Cleans ring means
+      → Planned ring means B M start evs t → is_done t ≡ true → Finishes B M start evs
   planned-done start evs t cleans p done = record { history = t; run = p.run; finished = finished ring means B M t cleans p.stands done }
 
 drop_one : (ps : List Write) → 0 < length ps → length (drop 1 ps) < length ps
@@ -102,13 +112,15 @@ pub record Less (t new : History) (h : ℕ) : Type 0 where
   pub after : new ≡ with_entry t (entry.Land h)
 
 -- a hart with a pending store lands it
-pub lands_one : (B M : ℕ) (t : History) (h : ℕ) (o : Outcome) (new : History) → WellFormed B M t → h < length t.opening.harts → 0 < length (pending h t.entries) → Happens B M t (event.Land h) o new → Less t new h
+pub lands_one : (B M : ℕ) (t : History) (h : ℕ) (o : Outcome) (new : History) → WellFormed B M t
+    → h < length t.opening.harts → 0 < length (pending h t.entries) → Happens B M t (event.Land h) o new → Less t new h
 lands_one B M t h o new kept hart some hap =
     elim (shape_of B M t (event.Land h) o new hap) [
       | inl a ↦
           let is : new ≡ with_entry t (entry.Land h) = a.2.after ∙ ap (with_entry t) a.2.for_event in
           subst (λ (u : History). Less t u h) (sym is) (record {
-            fewer = subst (λ (ps : List Write). length ps < length (pending h t.entries)) (sym (pending-land B t h kept.legal)) (drop_one (pending h t.entries) some);
+            fewer = subst (λ (ps : List Write). length ps < length (pending h t.entries))
+                (sym (pending-land B t h kept.legal)) (drop_one (pending h t.entries) some);
             others = λ k other. pending-other B t k (entry.Land h) kept.legal refl (land_of-other h k other);
             after = refl;
           })
@@ -152,15 +164,21 @@ pub record Stepped (left : History → ℕ) (t new : History) (h : ℕ) : Type 0
   pub others : (k : ℕ) → k ≢ h → pending k new.entries ≡ pending k t.entries
 
 -- the chosen hart acts
-pub acts_one : (B M : ℕ) (left : History → ℕ) (t : History) (h : ℕ) (o : Outcome) (new : History) → WellFormed B M t → AllLanded t → Nearer B M left t h → Happens B M t (event.Act h) o new → Stepped left t new h
+pub acts_one : (B M : ℕ) (left : History → ℕ) (t : History) (h : ℕ) (o : Outcome) (new : History) → WellFormed B M t
+    → AllLanded t → Nearer B M left t h → Happens B M t (event.Act h) o new → Stepped left t new h
 acts_one B M left t h o new kept none near hap =
     elim (shape_of B M t (event.Act h) o new hap) [
       | inl a ↦
           subst (λ (u : History). Stepped left t u h) (sym a.2.after) (record {
             less = near.alone a.0 a.2.for_event a.2.follows;
             landing = near.landed (with_entry t a.0);
-            few = subst (λ (ps : List Write). length ps ≤ 1) (sym (pending-last h t.entries a.0 (balanced B t h kept.legal) ∙ ap (λ ps. drop (land_of h a.0) (ps ++ store_of h a.0)) (none h near.hart))) (few h a.0 a.2.for_event.1);
-            others = λ k other. (let out = elsewhere k a.0 a.2.for_event.1 (λ same. other (same ∙ a.2.for_event.0)) in pending-other B t k a.0 kept.legal out.0 out.1);
+            few = subst (λ (ps : List Write). length ps ≤ 1)
+                (sym (pending-last h t.entries a.0 (balanced B t h kept.legal)
+                ∙ ap (λ ps. drop (land_of h a.0) (ps ++ store_of h a.0)) (none h near.hart)))
+                (few h a.0 a.2.for_event.1);
+            others =
+                λ k other. (let out = elsewhere k a.0 a.2.for_event.1 (λ same. other (same ∙ a.2.for_event.0)) in
+                pending-other B t k a.0 kept.legal out.0 out.1);
           })
       | inr i ↦ absurd (near.acts i.none)
     ]
@@ -169,7 +187,8 @@ pub no_length : (ps : List Write) → length ps < 1 → ps ≡ []
 no_length [] less = refl
 no_length (p ∷ ps) less = absurd (omega arith)
 
-pub all_again : (t new : History) (h : ℕ) → length new.opening.harts ≡ length t.opening.harts → AllLanded t → ((k : ℕ) → k ≢ h → pending k new.entries ≡ pending k t.entries) → pending h new.entries ≡ [] → AllLanded new
+pub all_again : (t new : History) (h : ℕ) → length new.opening.harts ≡ length t.opening.harts → AllLanded t
+    → ((k : ℕ) → k ≢ h → pending k new.entries ≡ pending k t.entries) → pending h new.entries ≡ [] → AllLanded new
 all_again t new h harts all others none k within =
     elim (cases_eq k h) [
       | inl same ↦ ap (λ j. pending j new.entries) same ∙ none
@@ -187,7 +206,10 @@ pub record Turned (ring : Ring) (means : Meaning) (B M : ℕ) (left : History �
   pub stepped : Stepped left t new h
   pub same : length new.opening.harts ≡ length t.opening.harts
 
-pub turned : (ring : Ring) (means : Meaning) (left next : ℕ → History → ℕ) (B M : ℕ) (start : History) (evs : List Event) (t : History) (h : ℕ) (o : Outcome) (new : History) → Decreases ring means left next → Keeps ring means → 1 ≤ B → Planned ring means B M start evs t → AllLanded t → is_done t ≡ false → h ≡ next M t → Happens B M t (event.Act h) o new → Turned ring means B M (left M) start (evs ++ event.Act h ∷ []) t new h
+pub turned : (ring : Ring) (means : Meaning) (left next : ℕ → History → ℕ) (B M : ℕ) (start : History)
+    (evs : List Event) (t : History) (h : ℕ) (o : Outcome) (new : History) → Decreases ring means left next
+    → Keeps ring means → 1 ≤ B → Planned ring means B M start evs t → AllLanded t → is_done t ≡ false → h ≡ next M t
+    → Happens B M t (event.Act h) o new → Turned ring means B M (left M) start (evs ++ event.Act h ∷ []) t new h
 unfolding Decreases
 turned ring means left next B M start evs t h o new falls keeps some p all open_yet chosen hap =
     let near : Nearer B M (left M) t h = subst (Nearer B M (left M) t) (sym chosen) (falls B M t some p.stands all open_yet) in
@@ -205,18 +227,26 @@ pub record Over (ring : Ring) (means : Meaning) (B M : ℕ) (left : History → 
   pub planned : Planned ring means B M start evs new
   pub all : AllLanded new
 
-pub turn_over : (ring : Ring) (means : Meaning) (left : ℕ → History → ℕ) (B M : ℕ) (start : History) (evs : List Event) (t mid : History) (h : ℕ) (o : Outcome) (new : History) → Keeps ring means → AllLanded t → Turned ring means B M (left M) start evs t mid h → 0 < length (pending h mid.entries) → Happens B M mid (event.Land h) o new → Over ring means B M (left M) start (evs ++ event.Land h ∷ []) t new
+pub turn_over : (ring : Ring) (means : Meaning) (left : ℕ → History → ℕ) (B M : ℕ) (start : History)
+    (evs : List Event) (t mid : History) (h : ℕ) (o : Outcome) (new : History) → Keeps ring means → AllLanded t
+    → Turned ring means B M (left M) start evs t mid h → 0 < length (pending h mid.entries)
+    → Happens B M mid (event.Land h) o new → Over ring means B M (left M) start (evs ++ event.Land h ∷ []) t new
 turn_over ring means left B M start evs t mid h o new keeps all turn some hap =
     let l : Less mid new h = lands_one B M mid h o new turn.planned.stands.kept turn.hart some hap in
-    let after : Planned ring means B M start (evs ++ event.Land h ∷ []) new = planned-more ring means B M start evs mid (event.Land h) o new keeps turn.planned hap in
+    let after : Planned ring means B M start (evs ++ event.Land h ∷ []) new =
+    planned-more ring means B M start evs mid (event.Land h) o new keeps turn.planned hap in
     let still : left M new ≡ left M mid = ap (left M) l.after ∙ turn.stepped.landing in
     record {
       less = omega (arith, still, turn.stepped.less);
       planned = after;
-      all = all_again t new h (after.harts ∙ sym turn.planned.harts ∙ turn.same) all (λ k other. l.others k other ∙ turn.stepped.others k other) (no_length (pending h new.entries) (omega (arith, l.fewer, turn.stepped.few)));
+      all = all_again t new h (after.harts ∙ sym turn.planned.harts ∙ turn.same) all
+          (λ k other. l.others k other ∙ turn.stepped.others k other)
+          (no_length (pending h new.entries) (omega (arith, l.fewer, turn.stepped.few)));
     }
 
-pub turn_quiet : (ring : Ring) (means : Meaning) (left : ℕ → History → ℕ) (B M : ℕ) (start : History) (evs : List Event) (t mid : History) (h : ℕ) → AllLanded t → Turned ring means B M (left M) start evs t mid h → length (pending h mid.entries) < 1 → Over ring means B M (left M) start evs t mid
+pub turn_quiet : (ring : Ring) (means : Meaning) (left : ℕ → History → ℕ) (B M : ℕ) (start : History)
+    (evs : List Event) (t mid : History) (h : ℕ) → AllLanded t → Turned ring means B M (left M) start evs t mid h
+    → length (pending h mid.entries) < 1 → Over ring means B M (left M) start evs t mid
 turn_quiet ring means left B M start evs t mid h all turn none = record {
   less = turn.stepped.less;
   planned = turn.planned;
@@ -224,8 +254,11 @@ turn_quiet ring means left B M start evs t mid h all turn none = record {
 }
 
 -- what ran the events of a history's own entries is that history
-pub same_run : (B M : ℕ) (t new : History) (o : Start) (evs : List Event) → IsOwnRun B M t → o ≡ t.opening → evs ≡ map event_of t.entries → RunFrom B M (unrun o) evs new → new ≡ t
-same_run B M t new o evs own opening events run = run-one B M (unrun t.opening) (map event_of t.entries) new t (subst (λ (es : List Event). RunFrom B M (unrun t.opening) es new) events (subst (λ (p : Start). RunFrom B M (unrun p) evs new) opening run)) own
+pub same_run : (B M : ℕ) (t new : History) (o : Start) (evs : List Event) → IsOwnRun B M t → o ≡ t.opening
+    → evs ≡ map event_of t.entries → RunFrom B M (unrun o) evs new → new ≡ t
+same_run B M t new o evs own opening events run = run-one B M (unrun t.opening) (map event_of t.entries) new t
+    (subst (λ (es : List Event). RunFrom B M (unrun t.opening) es new) events
+    (subst (λ (p : Start). RunFrom B M (unrun p) evs new) opening run)) own
 
 -- the last report, if there is one, tells whether the reports end in a word
 last_at : (rs : List Report) (k : ℕ) (x : Report) → suc k ≡ length rs → slice_get rs k ≡ Some x → ends_in_word rs ≡ is_word x
@@ -254,7 +287,13 @@ word_last : (rs : List Report) → ends_in_word rs ≡ true → (k : ℕ) × (i 
 word_last [] is = cc
 word_last (report.Took j w ∷ []) is = (0, j, w, refl, refl)
 word_last (report.Closed j ∷ []) is = cc
-word_last (r ∷ s ∷ rs) is = let more = word_last (s ∷ rs) is in (suc more.0, more.1, more.2, (let longer : suc more.0 + 1 ≡ length (r ∷ s ∷ rs) = omega (arith, more.3) in longer), more.4)
+word_last (r ∷ s ∷ rs) is = let more = word_last (s ∷ rs) is in (
+  suc more.0,
+  more.1,
+  more.2,
+  (let longer : suc more.0 + 1 ≡ length (r ∷ s ∷ rs) = omega (arith, more.3) in longer),
+  more.4,
+)
 
 get_below : (rs : List Report) (k : ℕ) (x : Report) → slice_get rs k ≡ Some x → k < length rs
 get_below [] k x is = cc
@@ -264,7 +303,8 @@ get_below (r ∷ rs) (suc k) x is = let less : k < length rs = get_below rs k x 
 senders-count : (t : History) → length (lists_of t.opening) ≡ senders_of t
 senders-count t = length-map (drop 1 t.opening.harts) (λ (h : HartStart). h.inbox) ∙ length-drop 1 t.opening.harts
 
-pub open_where_word : (ring : Ring) (means : Meaning) (B M : ℕ) (t : History) → Cleans ring means → Stands ring means B M t → ends_in_word (reported 0 t.entries) ≡ true → is_done t ≡ false
+pub open_where_word : (ring : Ring) (means : Meaning) (B M : ℕ) (t : History) → Cleans ring means
+    → Stands ring means B M t → ends_in_word (reported 0 t.entries) ≡ true → is_done t ≡ false
 open_where_word ring means B M t cleans s word = at (is_done t) refl
   where
     clean : Clean (reported 0 t.entries) (lists_of t.opening)
@@ -278,7 +318,9 @@ open_where_word ring means B M t cleans s word = at (is_done t) refl
         let closings = closed_at (reported 0 t.entries) last.1 (each_closed (reported 0 t.entries) (senders_of t) is last.1 within) in
         let below : closings.0 < length (reported 0 t.entries) = get_below (reported 0 t.entries) closings.0 (report.Closed last.1) closings.1 in
         elim (cases_eq closings.0 last.0) [
-          | inl same ↦ let both : Some (report.Closed last.1) ≡ Some (report.Took last.1 last.2) = sym closings.1 ∙ ap (slice_get (reported 0 t.entries)) same ∙ last.4 in cc
+          | inl same ↦ let both : Some (report.Closed last.1) ≡ Some (report.Took last.1 last.2) =
+              sym closings.1 ∙ ap (slice_get (reported 0 t.entries)) same ∙ last.4 in
+              cc
           | inr other ↦ absurd (clean.no_more last.1 closings.0 last.0 (report.Took last.1 last.2) (omega (arith, below, last.3, other)) closings.1 last.4 refl)
         ]
 
@@ -330,66 +372,94 @@ done_or : (b : Bool) → (b ≡ true) ⊎ (b ≡ false)
 done_or true = inl refl
 done_or false = inr refl
 
-module _ (ring : Ring) (means : Meaning) (left next : ℕ → History → ℕ) (keeps : Keeps ring means) (cleans : Cleans ring means) (falls : Decreases ring means left next) (B M : ℕ) (some : 1 ≤ B) (start : History) where
-  abbrev Reached : (History → Type 0) → Type 0
-  Reached P = (evs : List Event) × (t : History) × Planned ring means B M start evs t × P t
+module _ (ring : Ring) (means : Meaning) (left next : ℕ → History → ℕ) (keeps : Keeps ring means)
+    (cleans : Cleans ring means) (falls : Decreases ring means left next) (B M : ℕ) (some : 1 ≤ B) (start : History)
+  where
+    abbrev Reached : (History → Type 0) → Type 0
+    Reached P = (evs : List Event) × (t : History) × Planned ring means B M start evs t × P t
 
-  -- all that is pending of hart h lands, which is so many stores at most
-  land_hart : (h room : ℕ) → h < length start.opening.harts → (evs : List Event) (t : History) → Planned ring means B M start evs t → ((k : ℕ) → k < h → pending k t.entries ≡ []) → length (pending h t.entries) ≤ room → Reached (λ u. (k : ℕ) → k < h + 1 → pending k u.entries ≡ [])
-  land_hart h zero hart evs t p before few = (evs, t, p, landed_more t.entries h before (omega (arith, few)))
-  land_hart h (suc room) hart evs t p before few =
-      elim (cases_lt 0 (length (pending h t.entries))) [
-        | inl more ↦
-            let hap = happens_some B M t (event.Land h) p.stands.kept in
-            let less : Less t hap.1 h = lands_one B M t h hap.0 hap.1 p.stands.kept (omega (arith, p.harts, hart)) more hap.2 in
-            land_hart h room hart (evs ++ event.Land h ∷ []) hap.1 (planned-more ring means B M start evs t (event.Land h) hap.0 hap.1 keeps p hap.2) (λ k below. less.others k (omega (arith, below)) ∙ before k below) (omega (arith, less.fewer, few))
-        | inr none ↦ (evs, t, p, landed_more t.entries h before (omega (arith, none)))
-      ]
+    -- all that is pending of hart h lands, which is so many stores at most
+    land_hart : (h room : ℕ) → h < length start.opening.harts → (evs : List Event) (t : History)
+        → Planned ring means B M start evs t → ((k : ℕ) → k < h → pending k t.entries ≡ [])
+        → length (pending h t.entries) ≤ room → Reached (λ u. (k : ℕ) → k < h + 1 → pending k u.entries ≡ [])
+    land_hart h zero hart evs t p before few = (evs, t, p, landed_more t.entries h before (omega (arith, few)))
+    land_hart h (suc room) hart evs t p before few =
+        elim (cases_lt 0 (length (pending h t.entries))) [
+          | inl more ↦
+              let hap = happens_some B M t (event.Land h) p.stands.kept in
+              let less : Less t hap.1 h = lands_one B M t h hap.0 hap.1 p.stands.kept (omega (arith, p.harts, hart)) more hap.2 in
+              land_hart h room hart (evs ++ event.Land h ∷ []) hap.1
+              (planned-more ring means B M start evs t (event.Land h) hap.0 hap.1 keeps p hap.2)
+              (λ k below. less.others k (omega (arith, below)) ∙ before k below) (omega (arith, less.fewer, few))
+          | inr none ↦ (evs, t, p, landed_more t.entries h before (omega (arith, none)))
+        ]
 
-  land_all : Stands ring means B M start → (m : ℕ) → m ≤ length start.opening.harts → Reached (λ u. (k : ℕ) → k < m → pending k u.entries ≡ [])
-  land_all stands zero less = ([], start, planned-none ring means B M start stands, λ k below. absurd (omega (arith, below)))
-  land_all stands (suc m) less =
-      let most = land_all stands m (omega (arith, less)) in
-      let all = land_hart m (length (pending m most.1.entries)) (omega (arith, less)) most.0 most.1 most.2 most.3 (omega arith) in
-      (all.0, all.1, all.2, λ k below. all.3 k (omega (arith, below)))
+    land_all : Stands ring means B M start → (m : ℕ) → m ≤ length start.opening.harts → Reached (λ u. (k : ℕ) → k < m → pending k u.entries ≡ [])
+    land_all stands zero less = ([], start, planned-none ring means B M start stands, λ k below. absurd (omega (arith, below)))
+    land_all stands (suc m) less =
+        let most = land_all stands m (omega (arith, less)) in
+        let all = land_hart m (length (pending m most.1.entries)) (omega (arith, less)) most.0 most.1 most.2 most.3 (omega arith) in
+        (all.0, all.1, all.2, λ k below. all.3 k (omega (arith, below)))
 
-  -- the hart that comes next acts, and its store lands
-  turn_one : (evs : List Event) (t : History) → Planned ring means B M start evs t → AllLanded t → is_done t ≡ false → (more : List Event) × (u : History) × Over ring means B M (left M) start more t u
-  turn_one evs t p all open_yet =
-      let hap = happens_some B M t (event.Act (next M t)) p.stands.kept in
-      let turn : Turned ring means B M (left M) start (evs ++ event.Act (next M t) ∷ []) t hap.1 (next M t) = turned ring means left next B M start evs t (next M t) hap.0 hap.1 falls keeps some p all open_yet refl hap.2 in
-      elim (cases_lt 0 (length (pending (next M t) hap.1.entries))) [
-        | inl more ↦
-            let land = happens_some B M hap.1 (event.Land (next M t)) turn.planned.stands.kept in
-            ((evs ++ event.Act (next M t) ∷ []) ++ event.Land (next M t) ∷ [], land.1, turn_over ring means left B M start (evs ++ event.Act (next M t) ∷ []) t hap.1 (next M t) land.0 land.1 keeps all turn more land.2)
-        | inr none ↦ (evs ++ event.Act (next M t) ∷ [], hap.1, turn_quiet ring means left B M start (evs ++ event.Act (next M t) ∷ []) t hap.1 (next M t) all turn (omega (arith, none)))
-      ]
+    -- the hart that comes next acts, and its store lands
+    turn_one : (evs : List Event) (t : History) → Planned ring means B M start evs t → AllLanded t → is_done t ≡ false
+        → (more : List Event) × (u : History) × Over ring means B M (left M) start more t u
+    turn_one evs t p all open_yet =
+        let hap = happens_some B M t (event.Act (next M t)) p.stands.kept in
+        let turn : Turned ring means B M (left M) start (evs ++ event.Act (next M t) ∷ []) t hap.1 (next M t) =
+        turned ring means left next B M start evs t (next M t) hap.0 hap.1 falls keeps some p all open_yet refl hap.2
+        in
+        elim (cases_lt 0 (length (pending (next M t) hap.1.entries))) [
+          | inl more ↦
+              let land = happens_some B M hap.1 (event.Land (next M t)) turn.planned.stands.kept in (
+                (evs ++ event.Act (next M t) ∷ []) ++ event.Land (next M t) ∷ [],
+                land.1,
+                turn_over ring means left B M start (evs ++ event.Act (next M t) ∷ []) t hap.1 (next M t) land.0
+                    land.1 keeps all turn more land.2,
+              )
+          | inr none ↦ (
+            evs ++ event.Act (next M t) ∷ [],
+            hap.1,
+            turn_quiet ring means left B M start (evs ++ event.Act (next M t) ∷ []) t hap.1 (next M t) all turn
+                (omega (arith, none)),
+          )
+        ]
 
-  -- and so on, where so much is left at most
-  turns : (most : ℕ) (evs : List Event) (t : History) → Planned ring means B M start evs t → AllLanded t → left M t ≤ most → Reached (λ u. is_done u ≡ true)
-  turns zero evs t p all few =
-      elim (done_or (is_done t)) [
-        | inl done ↦ (evs, t, p, done)
-        | inr open_yet ↦ absurd (omega (arith, (turn_one evs t p all open_yet).2.less, few))
-      ]
-  turns (suc most) evs t p all few =
-      elim (done_or (is_done t)) [
-        | inl done ↦ (evs, t, p, done)
-        | inr open_yet ↦
-            let one = turn_one evs t p all open_yet in
-            turns most one.0 one.1 one.2.planned one.2.all (omega (arith, one.2.less, few))
-      ]
+    -- and so on, where so much is left at most
+    turns : (most : ℕ) (evs : List Event) (t : History) → Planned ring means B M start evs t → AllLanded t → left M t ≤ most → Reached (λ u. is_done u ≡ true)
+    turns zero evs t p all few =
+        elim (done_or (is_done t)) [
+          | inl done ↦ (evs, t, p, done)
+          | inr open_yet ↦ absurd (omega (arith, (turn_one evs t p all open_yet).2.less, few))
+        ]
+    turns (suc most) evs t p all few =
+        elim (done_or (is_done t)) [
+          | inl done ↦ (evs, t, p, done)
+          | inr open_yet ↦
+              let one = turn_one evs t p all open_yet in
+              turns most one.0 one.1 one.2.planned one.2.all (omega (arith, one.2.less, few))
+        ]
 
-  pub can_finish : Stands ring means B M start → CanFinish B M start
-  can_finish stands =
-      let quiet = land_all stands (length start.opening.harts) (omega arith) in
-      let end = turns (left M quiet.1) quiet.0 quiet.1 quiet.2 (λ k below. quiet.3 k (omega (arith, quiet.2.harts, below))) (omega arith) in
-      record { events = end.0; finishes = planned-done ring means B M start end.0 end.1 cleans end.2 end.3 }
+    pub can_finish : Stands ring means B M start → CanFinish B M start
+    can_finish stands =
+        let quiet = land_all stands (length start.opening.harts) (omega arith) in
+        let end = turns (left M quiet.1) quiet.0 quiet.1 quiet.2 (λ k below. quiet.3 k (omega (arith, quiet.2.harts, below))) (omega arith) in
+        record { events = end.0; finishes = planned-done ring means B M start end.0 end.1 cleans end.2 end.3 }
 
 -- so from every state that events lead to
-pub run_can_finish : (ring : Ring) (means : Meaning) (left next : ℕ → History → ℕ) → Opens ring means → Keeps ring means → Cleans ring means → Decreases ring means left next → (B M : ℕ) (lists : List (List ℕ)) (S : Layout) (evs : List Event) (t : History) → 1 ≤ B → AcceptedAt ring M lists S → Run B M (opening_at ring.sender ring.receiver lists S) evs t → CanFinish B M t
+pub run_can_finish : (ring : Ring) (means : Meaning) (left next : ℕ → History → ℕ) → Opens ring means
+    → Keeps ring means → Cleans ring means → Decreases ring means left next
+    → (B M : ℕ) (lists : List (List ℕ)) (S : Layout) (evs : List Event) (t : History) → 1 ≤ B
+    → AcceptedAt ring M lists S → Run B M (opening_over ring lists S) evs t → CanFinish B M t
 run_can_finish ring means left next opens keeps cleans falls B M lists S evs t some accepted run =
-    can_finish ring means left next keeps cleans falls B M some t (stands-run ring means B M (unrun (opening_at ring.sender ring.receiver lists S)) evs t keeps (stands-opens ring means B M lists S (unrun (opening_at ring.sender ring.receiver lists S)) opens accepted refl) run)
+    can_finish ring means left next keeps cleans falls B M some t
+    (stands-run ring means B M (unrun (opening_over ring lists S)) evs t keeps
+    (stands-opens ring means B M lists S (unrun (opening_over ring lists S)) opens accepted refl) run)
 
-pub dense_can_finish : (ring : Ring) (means : Meaning) (left next : ℕ → History → ℕ) → Opens ring means → Keeps ring means → Cleans ring means → Decreases ring means left next → (B M : ℕ) (lists : List (List ℕ)) (S : ℕ) (evs : List Event) (t : History) → 1 ≤ B → Accepted ring M lists S → Run B M (opening_of ring.sender ring.receiver lists S) evs t → CanFinish B M t
-dense_can_finish ring means left next opens keeps cleans falls B M lists S evs t some accepted run = run_can_finish ring means left next opens keeps cleans falls B M lists (dense S) evs t some (dense-accepted ring M lists S accepted) run
+pub dense_can_finish : (ring : Ring) (means : Meaning) (left next : ℕ → History → ℕ) → Opens ring means
+    → Keeps ring means → Cleans ring means → Decreases ring means left next
+    → (B M : ℕ) (lists : List (List ℕ)) (S : ℕ) (evs : List Event) (t : History) → 1 ≤ B → Accepted ring M lists S
+    → Run B M (opening_of ring lists S) evs t → CanFinish B M t
+dense_can_finish ring means left next opens keeps cleans falls B M lists S evs t some accepted run =
+    run_can_finish ring means left next opens keeps cleans falls B M lists (dense S) evs t some
+    (dense-accepted ring M lists S accepted) run

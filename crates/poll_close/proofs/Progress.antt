@@ -1,6 +1,8 @@
 -- From what a ring shows of one block to the law of the plan: where nothing is pending and some sender is
 -- not reported closed, the hart that comes next can act, and less is left after its act.
-use Rattle.std.proofs.Common.{◌==◌, ℕ, zero, suc, ◌+◌, ◌-◌, ◌%◌, ◌<◌, ◌≤◌, ◌≡◌, ◌≢◌, ◌⊎◌, inl, inr, Bool, true, false, not, ◌&&◌, if◌then◌else◌, List, [], ◌∷◌, ◌++◌, length, take, min, length-take, Some, None, refl, sym, ◌∙◌, ap, subst, arith, add-one, append-nil, lit<}
+use Rattle.std.proofs.Common.{◌==◌, ℕ, zero, suc, ◌+◌, ◌-◌, ◌%◌, ◌<◌, ◌≤◌, ◌≡◌, ◌≢◌, ◌⊎◌, inl, inr, Bool, true, false}
+use Rattle.std.proofs.Common.{not, ◌&&◌, if◌then◌else◌, List, [], ◌∷◌, ◌++◌, length, take, min, length-take, Some, None}
+use Rattle.std.proofs.Common.{refl, sym, ◌∙◌, ap, subst, arith, add-one, append-nil, lit<}
 use Rattle.std.specs.Prelude.{slice_index, unwrap_or}
 use Rattle.std.specs.List.{slice_index_or}
 use Rattle.std.proofs.lemmas.Bool.{cases_eq, and_parts}
@@ -31,7 +33,9 @@ use Rattle.poll_close.specs.Layout.{Layout, opening_at}
 use Rattle.poll_close.specs.Reports.{taken, sender_of, Clean}
 use Rattle.poll_close.specs.Laws.{AcceptedAt, Keeps}
 use Rattle.poll_close.specs.Standing.{lists_of}
-use Rattle.poll_close.specs.Rankings.{Ranking, Around, around, Nearer, Decreases, some_open, visited_by, is_running, runs, receiver_rank, receiver_rank_if, rank_by_states, rank_of, ring_size, ready_if, is_ready, next_of, next_by}
+use Rattle.poll_close.specs.Rankings.{Ranking, Around, around, Nearer, Decreases, some_open, visited_by, is_running}
+use Rattle.poll_close.specs.Rankings.{runs, receiver_rank, receiver_rank_if, rank_by_states, rank_of, ring_size}
+use Rattle.poll_close.specs.Rankings.{ready_if, is_ready, next_of, next_by}
 use Rattle.poll_close.specs.Plans.{AllLanded, is_closed, is_done, senders_of}
 use Rattle.poll_close.specs.Invariant.Blocks.{Block, block_of, as_writes, to_block}
 use Rattle.poll_close.specs.Invariant.ReceiverState.{ReceiverRegisters, whole_of, receiver_of, receiving, received, receives, closings_due}
@@ -47,15 +51,21 @@ use Rattle.poll_close.proofs.Delivering.{senders-length}
 use Rattle.poll_close.proofs.Standing.{inboxes}
 use Rattle.poll_close.proofs.ChannelLaws.{blocks, ring_by, keeps}
 use Rattle.poll_close.proofs.Distance.{BlockProgress, rank_short}
-use Rattle.poll_close.proofs.Shares.{share_same, share_acts, sum_falls, receiver_rank_falls, rank_same, receiver_rank_small, closed_from, closed_other, report_falls, open_from, some_from, shuts_less}
+use Rattle.poll_close.proofs.Shares.{share_same, share_acts, sum_falls, receiver_rank_falls, rank_same}
+use Rattle.poll_close.proofs.Shares.{receiver_rank_small, closed_from, closed_other, report_falls, open_from, some_from}
+use Rattle.poll_close.proofs.Shares.{shuts_less}
 use Rattle.std.proofs.lemmas.Bool.Decides.{nat_tests}
 
 -- which hart comes next
-pub next_is : (ready : ℕ → Bool) (n : ℕ) → ((next_of ready n ≡ 0) × ((i : ℕ) → i < n → ready (i + 1) ≡ false)) ⊎ ((j : ℕ) × (j < n) × (next_of ready n ≡ j + 1) × (ready (j + 1) ≡ true))
+pub next_is : (ready : ℕ → Bool) (n : ℕ) → ((next_of ready n ≡ 0) × ((i : ℕ) → i < n → ready (i + 1) ≡ false))
+    ⊎ ((j : ℕ) × (j < n) × (next_of ready n ≡ j + 1) × (ready (j + 1) ≡ true))
 next_is ready zero = inl (refl, λ i less. absurd (omega arith))
 next_is ready (suc n) = at (ready (suc n)) refl (next_is ready n)
   where
-    at : (b : Bool) → ready (suc n) ≡ b → ((next_of ready n ≡ 0) × ((i : ℕ) → i < n → ready (i + 1) ≡ false)) ⊎ ((j : ℕ) × (j < n) × (next_of ready n ≡ j + 1) × (ready (j + 1) ≡ true)) → (((if b then suc n else next_of ready n) ≡ 0) × ((i : ℕ) → i < suc n → ready (i + 1) ≡ false)) ⊎ ((j : ℕ) × (j < suc n) × ((if b then suc n else next_of ready n) ≡ j + 1) × (ready (j + 1) ≡ true))
+    at : (b : Bool) → ready (suc n) ≡ b → ((next_of ready n ≡ 0) × ((i : ℕ) → i < n → ready (i + 1) ≡ false))
+        ⊎ ((j : ℕ) × (j < n) × (next_of ready n ≡ j + 1) × (ready (j + 1) ≡ true))
+        → (((if b then suc n else next_of ready n) ≡ 0) × ((i : ℕ) → i < suc n → ready (i + 1) ≡ false))
+        ⊎ ((j : ℕ) × (j < suc n) × ((if b then suc n else next_of ready n) ≡ j + 1) × (ready (j + 1) ≡ true))
     at true is below = inr (n, omega arith, sym (add-one n), ap ready (add-one n) ∙ is)
     at false is (inl none) = inl (
       none.0,
@@ -78,7 +88,8 @@ no_wait B ws (need.Report r) some none wait = wait
 no_wait B ws need.Exit some none wait = wait
 no_wait B ws (need.Stop why) some none wait = wait
 
-pub can_act : (B M : ℕ) (t : History) (h : ℕ) (s : HartState) → WellFormed B M t → state_of M t h ≡ Some s → s.status ≡ status.Running → 1 ≤ B → pending h t.entries ≡ [] → NoEntry B M t (event.Act h) → ⊥
+pub can_act : (B M : ℕ) (t : History) (h : ℕ) (s : HartState) → WellFormed B M t → state_of M t h ≡ Some s
+    → s.status ≡ status.Running → 1 ≤ B → pending h t.entries ≡ [] → NoEntry B M t (event.Act h) → ⊥
 can_act B M t h s kept is running some none never =
     elim (decide B t.opening t.entries h (need_of s)) [
       | inl can ↦ (let d = does B M t h s kept is running (need_of s) can.0 refl can.1 in never (entry_of h (need_of s) can.0) d.for_event d.follows)
@@ -110,7 +121,11 @@ not_ready false b off on = cc
 is_equal : (a b : ℕ) → (a == b) ≡ true → a ≡ b
 is_equal a b same = grind (arith, nat_tests)
 
-module _ (m : BlockMeaning) (laws : BlockLaws m) (least : ℕ) (some_least : 1 ≤ least) (prog : BlockProgress m least) (B M : ℕ) (S : Layout) (lists : List (List ℕ)) (t : History) (some : 1 ≤ B) (accepted : AcceptedAt (ring_by m laws least some_least) M lists S) (opening : t.opening ≡ opening_at m.sender.code (receiver_of m.middle) lists S) (kept : WellFormed B M t) (ch : Channel m M S lists t) (landed : AllLanded t) (open_yet : is_done t ≡ false) where
+module _ (m : BlockMeaning) (laws : BlockLaws m) (least : ℕ) (some_least : 1 ≤ least) (prog : BlockProgress m least)
+    (B M : ℕ) (S : Layout) (lists : List (List ℕ)) (t : History) (some : 1 ≤ B)
+    (accepted : AcceptedAt (ring_by m laws least some_least) M lists S)
+    (opening : t.opening ≡ opening_at m.sender.code (receiver_of m.middle) lists S) (kept : WellFormed B M t)
+    (ch : Channel m M S lists t) (landed : AllLanded t) (open_yet : is_done t ≡ false) where
   abbrev p : Ranking
   p = ranking_of m
 
@@ -142,21 +157,28 @@ module _ (m : BlockMeaning) (laws : BlockLaws m) (least : ℕ) (some_least : 1 �
   unsent j within = no_writes (unsent_of m (block_of M S lists j) (ch.numbers j)) (sym (ch.parts j within).sender.buffer ∙ quiet_buffer (j + 1) (omega arith))
 
   unread : (j : ℕ) (within : j < length lists) → unread_of m (block_of M S lists j) (ch.numbers j) ≡ []
-  unread j within = no_writes (unread_of m (block_of M S lists j) (ch.numbers j)) (sym (ch.parts j within).theirs ∙ ap (to_block (block_of M S lists j)) (quiet_buffer 0 (omega arith)))
+  unread j within = no_writes (unread_of m (block_of M S lists j) (ch.numbers j))
+      (sym (ch.parts j within).theirs ∙ ap (to_block (block_of M S lists j)) (quiet_buffer 0 (omega arith)))
 
   -- what is left, over the lists and the ring size of the channel
-  rank_is : (new : History) → new.opening ≡ t.opening → rank_of p M new ≡ rank_by_states p (length lists) S.size lists (reported 0 new.entries) (λ h. state_of M new h)
+  rank_is : (new : History) → new.opening ≡ t.opening
+      → rank_of p M new ≡ rank_by_states p (length lists) S.size lists (reported 0 new.entries) (λ h. state_of M new h)
   rank_is new same =
       let n : senders_of new ≡ length lists = ap (λ (o : Start). length o.harts - 1) same ∙ senders in
       let s : ring_size new.opening ≡ S.size = ap ring_size same ∙ size_is in
       let l : lists_of new.opening ≡ lists = ap lists_of same ∙ lists_is in
       rw (n, s, l) refl
 
-  rank_falls : (new : History) → new.opening ≡ t.opening → rank_by_states p (length lists) S.size lists (reported 0 new.entries) (λ h. state_of M new h) < rank_by_states p (length lists) S.size lists rs (λ h. state_of M t h) → rank_of p M new < rank_of p M t
+  rank_falls : (new : History) → new.opening ≡ t.opening
+      → rank_by_states p (length lists) S.size lists (reported 0 new.entries) (λ h. state_of M new h)
+      < rank_by_states p (length lists) S.size lists rs (λ h. state_of M t h) → rank_of p M new < rank_of p M t
   rank_falls new same less = rw (rank_is new same, rank_is t refl) less
 
   pub landing : (u : History) (h : ℕ) → rank_of p M (with_entry u (entry.Land h)) ≡ rank_of p M u
-  landing u h = rank_same p (senders_of u) (ring_size u.opening) (lists_of u.opening) (reported 0 u.entries) (reported 0 (with_entry u (entry.Land h)).entries) (λ k. state_of M u k) (λ k. state_of M (with_entry u (entry.Land h)) k) (reported-last 0 u.entries (entry.Land h) ∙ append-nil (reported 0 u.entries)) (λ k. states_land M u h k)
+  landing u h = rank_same p (senders_of u) (ring_size u.opening) (lists_of u.opening) (reported 0 u.entries)
+      (reported 0 (with_entry u (entry.Land h)).entries) (λ k. state_of M u k)
+      (λ k. state_of M (with_entry u (entry.Land h)) k)
+      (reported-last 0 u.entries (entry.Land h) ∙ append-nil (reported 0 u.entries)) (λ k. states_land M u h k)
 
   abbrev receiver_block : Block
   receiver_block = block_of M S lists ch.receiver.block
@@ -170,24 +192,40 @@ module _ (m : BlockMeaning) (laws : BlockLaws m) (least : ℕ) (some_least : 1 �
     s = (ch.parts j within).sender.stands
 
     is_on : (is_running s.status ≡ true) × (not (p.waits s (word_in_memory t.opening t.entries)) ≡ true)
-    is_on = and_parts (is_running s.status) (not (p.waits s (word_in_memory t.opening t.entries))) (sym (ap (ready_if p (word_in_memory t.opening t.entries)) (ch.parts j within).sender.state) ∙ on)
+    is_on = and_parts (is_running s.status) (not (p.waits s (word_in_memory t.opening t.entries)))
+        (sym (ap (ready_if p (word_in_memory t.opening t.entries)) (ch.parts j within).sender.state) ∙ on)
 
     running : s.status ≡ status.Running
     running = running_is s.status is_on.0
 
     act_found : (a : ℕ) → a % 4 ≡ 0 → read t.opening t.entries (j + 1) a 4 ≡ word_in_memory t.opening t.entries a
-    act_found a aligned = read_is t (j + 1) a opens_words ch.written aligned ∙ ap (λ ws. unwrap_or (newest_word a None ws) (word_in_memory t.opening t.entries a)) (quiet_buffer (j + 1) (omega arith))
+    act_found a aligned = read_is t (j + 1) a opens_words ch.written aligned
+        ∙ ap (λ ws. unwrap_or (newest_word a None ws) (word_in_memory t.opening t.entries a))
+        (quiet_buffer (j + 1) (omega arith))
 
     sender_falls : (e : Entry) → IsFor (event.Act (j + 1)) e → CanFollow B M t e → rank_of p M (with_entry t e) < rank_of p M t
     sender_falls e for_event can =
-        let a : Acted M t (with_entry t e) (j + 1) s (value_of e) = acted _ B M t (j + 1) s e kept.legal (ch.parts j within).sender.state can for_event.0 for_event.1 (sender_plain m laws M (block_of M S lists j) j t t (ch.numbers j) (are j within) (ch.parts j within)) in
-        let less : p.sender (advanced s (value_of e)) < p.sender s = prog.nearer (block_of M S lists j) (ch.numbers j) s (word_in_memory t.opening t.entries) (value_of e) (are j within) (ch.parts j within).order (ch.parts j within).words (ch.parts j within).sender.holds running (unsent j within) (unread j within) (λ b inside wants. a.loaded b wants ∙ act_found b inside.aligned) (not_true (p.waits s (word_in_memory t.opening t.entries)) is_on.1) in
+        let a : Acted M t (with_entry t e) (j + 1) s (value_of e) =
+        acted _ B M t (j + 1) s e kept.legal (ch.parts j within).sender.state can for_event.0 for_event.1
+        (sender_plain m laws M (block_of M S lists j) j t t (ch.numbers j) (are j within) (ch.parts j within)) in
+        let less : p.sender (advanced s (value_of e)) < p.sender s =
+        prog.nearer (block_of M S lists j) (ch.numbers j) s (word_in_memory t.opening t.entries) (value_of e)
+        (are j within) (ch.parts j within).order (ch.parts j within).words (ch.parts j within).sender.holds running
+        (unsent j within) (unread j within) (λ b inside wants. a.loaded b wants ∙ act_found b inside.aligned)
+        (not_true (p.waits s (word_in_memory t.opening t.entries)) is_on.1) in
         let said : reported 0 (with_entry t e).entries ≡ rs = a.others 0 (omega arith) in
         rank_falls (with_entry t e) refl
         (sum_falls p (length lists) S.size lists rs (reported 0 (with_entry t e).entries) (λ h. state_of M t h) (λ h. state_of M (with_entry t e) h) j within
-        (λ i below other. share_same p (length lists) S.size lists rs (reported 0 (with_entry t e).entries) (λ h. state_of M t h) (λ h. state_of M (with_entry t e) h) i (ap (λ ys. taken ys i) said) (ap (λ ys. is_closed ys i) said) (a.states (i + 1) (λ same. other (omega arith))))
-        (share_acts p (length lists) S.size lists rs (reported 0 (with_entry t e).entries) (λ h. state_of M t h) (λ h. state_of M (with_entry t e) h) j s (advanced s (value_of e)) said (ch.parts j within).sender.state a.state less)
-        (receiver_rank_small p (length lists) S.size lists near (reported 0 (with_entry t e).entries) (λ h. state_of M (with_entry t e) h) (receives m.middle (whole_of receiver_block (length lists)) ch.receiver.place ch.receiver.noted) (a.states 0 (omega arith) ∙ ch.receiver.state)))
+        (λ i below other. share_same p (length lists) S.size lists rs (reported 0 (with_entry t e).entries)
+        (λ h. state_of M t h) (λ h. state_of M (with_entry t e) h) i (ap (λ ys. taken ys i) said)
+        (ap (λ ys. is_closed ys i) said) (a.states (i + 1) (λ same. other (omega arith))))
+        (share_acts p (length lists) S.size lists rs (reported 0 (with_entry t e).entries) (λ h. state_of M t h)
+        (λ h. state_of M (with_entry t e) h) j s (advanced s (value_of e)) said (ch.parts j within).sender.state
+        a.state less)
+        (receiver_rank_small p (length lists) S.size lists near (reported 0 (with_entry t e).entries)
+        (λ h. state_of M (with_entry t e) h)
+        (receives m.middle (whole_of receiver_block (length lists)) ch.receiver.place
+        ch.receiver.noted) (a.states 0 (omega arith) ∙ ch.receiver.state)))
 
     pub sender_decreases : Nearer B M (rank_of p M) t (j + 1)
     sender_decreases = record {
@@ -202,10 +240,15 @@ module _ (m : BlockMeaning) (laws : BlockLaws m) (least : ℕ) (some_least : 1 �
   some_one = subst (λ (n : ℕ). (i : ℕ) × (i < n) × (is_closed rs i ≡ false)) senders (open_from rs (senders_of t) open_yet)
 
   some_is_open : some_open rs 0 (length lists) ≡ true
-  some_is_open = some_from rs 0 (length lists) some_one.0 some_one.1 (ap (is_closed rs) (let same : 0 + some_one.0 ≡ some_one.0 = omega arith in same) ∙ some_one.2)
+  some_is_open = some_from rs 0 (length lists) some_one.0 some_one.1
+      (ap (is_closed rs) (let same : 0 + some_one.0 ≡ some_one.0 = omega arith in same) ∙ some_one.2)
 
   each_shut : (j : ℕ) → j < length lists → m.closings (ch.numbers j).receiver ≤ 1
-  each_shut j less = omega (arith, laws.shut_done (block_of M S lists j) (ch.numbers j) (ch.parts j less).order, laws.dones_one (block_of M S lists j) (ch.numbers j) (ch.parts j less).order)
+  each_shut j less = omega (
+    arith,
+    laws.shut_done (block_of M S lists j) (ch.numbers j) (ch.parts j less).order,
+    laws.dones_one (block_of M S lists j) (ch.numbers j) (ch.parts j less).order,
+  )
 
   -- who is reported closed is noted so, and the other way round
   shut_said : (j : ℕ) → j < length lists → m.closings (ch.numbers j).receiver ≢ 0 → is_closed rs j ≡ true
@@ -218,15 +261,22 @@ module _ (m : BlockMeaning) (laws : BlockLaws m) (least : ℕ) (some_least : 1 �
       let none : m.closings (ch.numbers some_one.0).receiver ≡ 0 = at (cases_eq (m.closings (ch.numbers some_one.0).receiver) 0) in
       omega (arith, ch.receiver.count, shuts_less m ch.numbers (length lists) some_one.0 each_shut some_one.1 none)
     where
-      at : (m.closings (ch.numbers some_one.0).receiver ≡ 0) ⊎ (m.closings (ch.numbers some_one.0).receiver ≢ 0) → m.closings (ch.numbers some_one.0).receiver ≡ 0
+      at : (m.closings (ch.numbers some_one.0).receiver ≡ 0) ⊎ (m.closings (ch.numbers some_one.0).receiver ≢ 0)
+          → m.closings (ch.numbers some_one.0).receiver ≡ 0
       at (inl none) = none
-      at (inr closings) = let bad : is_closed rs some_one.0 ≡ true = shut_said some_one.0 some_one.1 closings in let good : is_closed rs some_one.0 ≡ false = some_one.2 in cc
+      at (inr closings) = let bad : is_closed rs some_one.0 ≡ true = shut_said some_one.0 some_one.1 closings in
+          let good : is_closed rs some_one.0 ≡ false = some_one.2 in cc
 
-  took_is : (j : ℕ) (less : j < length lists) → m.took (ch.numbers j).receiver ≡ m.tails (ch.numbers j).receiver → length (taken rs j) ≡ m.took (ch.numbers j).receiver
+  took_is : (j : ℕ) (less : j < length lists) → m.took (ch.numbers j).receiver ≡ m.tails (ch.numbers j).receiver
+      → length (taken rs j) ≡ m.took (ch.numbers j).receiver
   took_is j less same =
-      let words : length (taken rs j) ≡ length (take (m.took (ch.numbers j).receiver) (slice_index_or lists j [])) = ap length (ch.reports.senders j less).words in
-      let long : length (take (m.took (ch.numbers j).receiver) (slice_index_or lists j [])) ≡ min (m.took (ch.numbers j).receiver) (length (slice_index_or lists j [])) = length-take (m.took (ch.numbers j).receiver) (slice_index_or lists j []) in
-      let most : m.tails (ch.numbers j).receiver ≤ length (slice_index_or lists j []) = laws.tails_all (block_of M S lists j) (ch.numbers j) (ch.parts j less).order in
+      let words : length (taken rs j) ≡ length (take (m.took (ch.numbers j).receiver) (slice_index_or lists j [])) =
+      ap length (ch.reports.senders j less).words in
+      let long : length (take (m.took (ch.numbers j).receiver) (slice_index_or lists j []))
+      ≡ min (m.took (ch.numbers j).receiver) (length (slice_index_or lists j [])) =
+      length-take (m.took (ch.numbers j).receiver) (slice_index_or lists j []) in
+      let most : m.tails (ch.numbers j).receiver ≤ length (slice_index_or lists j []) =
+      laws.tails_all (block_of M S lists j) (ch.numbers j) (ch.parts j less).order in
       omega (arith, words, long, same, most)
 
   -- the receiver, where every sender waits or has ended
@@ -247,22 +297,34 @@ module _ (m : BlockMeaning) (laws : BlockLaws m) (least : ℕ) (some_least : 1 �
     runs_is = ap runs (ch.parts b ch.receiver.known).sender.state
 
     marked : runs (state_of M t (b + 1)) ≡ false → m.marks (ch.numbers b).landed ≡ 1
-    marked off = prog.marked receiver_block (ch.numbers b) sender (are b ch.receiver.known) (ch.parts b ch.receiver.known).order (ch.parts b ch.receiver.known).sender.holds (sym runs_is ∙ off) (unsent b ch.receiver.known)
+    marked off =
+        prog.marked receiver_block (ch.numbers b) sender (are b ch.receiver.known) (ch.parts b ch.receiver.known).order
+        (ch.parts b ch.receiver.known).sender.holds (sym runs_is ∙ off) (unsent b ch.receiver.known)
 
     ready : runs (state_of M t (b + 1)) ≡ true → m.Ready receiver_block (ch.numbers b)
     ready on =
         let run : is_running sender.status ≡ true = sym runs_is ∙ on in
-        let waiting : p.waits sender (word_in_memory t.opening t.entries) ≡ true = not_ready (is_running sender.status) (p.waits sender (word_in_memory t.opening t.entries)) (sym (ap (ready_if p (word_in_memory t.opening t.entries)) (ch.parts b ch.receiver.known).sender.state) ∙ idle b ch.receiver.known) run in
-        prog.ready receiver_block (ch.numbers b) sender (word_in_memory t.opening t.entries) (are b ch.receiver.known) accepted.size (ch.parts b ch.receiver.known).order (ch.parts b ch.receiver.known).words (ch.parts b ch.receiver.known).sender.holds (running_is sender.status run) (unsent b ch.receiver.known) (unread b ch.receiver.known) waiting
+        let waiting : p.waits sender (word_in_memory t.opening t.entries) ≡ true =
+        not_ready (is_running sender.status) (p.waits sender (word_in_memory t.opening t.entries))
+        (sym (ap (ready_if p (word_in_memory t.opening t.entries)) (ch.parts b ch.receiver.known).sender.state)
+        ∙ idle b ch.receiver.known) run in
+        prog.ready receiver_block (ch.numbers b) sender (word_in_memory t.opening t.entries)
+        (are b ch.receiver.known) accepted.size (ch.parts b ch.receiver.known).order
+        (ch.parts b ch.receiver.known).words (ch.parts b ch.receiver.known).sender.holds
+        (running_is sender.status run) (unsent b ch.receiver.known) (unread b ch.receiver.known) waiting
 
     -- it has not ended, since some sender is owed
     running_st : st.status ≡ status.Running
     running_st = at (ch.receiver.place == 0x80) refl
       where
-        at : (b : Bool) → (ch.receiver.place == 0x80) ≡ b → (if b then received m.middle (whole_of receiver_block (length lists)) r else receiving m.middle (whole_of receiver_block (length lists)) ch.receiver.place r).status ≡ status.Running
+        at : (b : Bool) → (ch.receiver.place == 0x80) ≡ b
+            → (if b then received m.middle (whole_of receiver_block (length lists)) r
+            else receiving m.middle (whole_of receiver_block (length lists)) ch.receiver.place r).status
+            ≡ status.Running
         at true over =
             let end : ch.receiver.place ≡ 0x80 = is_equal ch.receiver.place 0x80 over in
-            let h : ReceiverIs m receiver_block b 0x80 (ch.numbers b).receiver r = subst (λ (here : ℕ). ReceiverIs m receiver_block b here (ch.numbers b).receiver r) end ch.receiver.holds in
+            let h : ReceiverIs m receiver_block b 0x80 (ch.numbers b).receiver r = subst
+            (λ (here : ℕ). ReceiverIs m receiver_block b here (ch.numbers b).receiver r) end ch.receiver.holds in
             absurd (omega (arith, owing, h.1))
         at false on = refl
 
@@ -281,13 +343,18 @@ module _ (m : BlockMeaning) (laws : BlockLaws m) (least : ℕ) (some_least : 1 �
     receiver_falls e for_event can = by_says v_says
       where
         a : Acted M t (with_entry t e) 0 st (value_of e)
-        a = acted _ B M t 0 st e kept.legal ch.receiver.state can for_event.0 for_event.1 (plain_by m laws B M S lists are accepted.senders t ch.numbers kept.legal opens_words ch.written ch.parts ch.receiver ch.reports)
+        a = acted _ B M t 0 st e kept.legal ch.receiver.state can for_event.0 for_event.1
+            (plain_by m laws B M S lists are accepted.senders t ch.numbers kept.legal opens_words ch.written ch.parts
+            ch.receiver ch.reports)
 
         find : Finds m receiver_block (length lists) ch.receiver.place (ch.numbers b) (word_in_memory t.opening t.entries) r (value_of e)
-        find x inside wants = a.loaded x wants ∙ found m laws B M S lists are accepted.senders t ch.numbers kept.legal opens_words ch.written ch.parts ch.receiver ch.reports x inside
+        find x inside wants = a.loaded x wants
+            ∙ found m laws B M S lists are accepted.senders t ch.numbers kept.legal opens_words ch.written ch.parts
+            ch.receiver ch.reports x inside
 
         move : Receives m receiver_block b (length lists) ch.receiver.place (ch.numbers b) r (value_of e)
-        move = moves_by m laws B M S lists are accepted.senders t ch.numbers kept.legal opens_words ch.written ch.parts ch.receiver ch.reports (value_of e) a.running find
+        move = moves_by m laws B M S lists are accepted.senders t ch.numbers kept.legal opens_words ch.written
+            ch.parts ch.receiver ch.reports (value_of e) a.running find
 
         after : Channel m M S lists (with_entry t e)
         after = keeps m laws least some_least B M lists S t e accepted opening kept can ch
@@ -295,21 +362,47 @@ module _ (m : BlockMeaning) (laws : BlockLaws m) (least : ℕ) (some_least : 1 �
         silent : said_by (need_of st) ≡ [] → rank_of p M (with_entry t e) < rank_of p M t
         silent none =
             let said : reported 0 (with_entry t e).entries ≡ rs = a.reports ∙ ap (λ ys. rs ++ ys) none ∙ append-nil rs in
-            let less : receiver_rank p (length lists) S.size rs (λ h. state_of M t h) (advanced st (value_of e)) < receiver_rank p (length lists) S.size rs (λ h. state_of M t h) st = subst (λ (z : HartState). receiver_rank p (length lists) S.size rs (λ h. state_of M t h) z < receiver_rank p (length lists) S.size rs (λ h. state_of M t h) st) (sym move.leaves) (move.nearer (sym (ap said_by move.wants) ∙ none) rs (λ h. state_of M t h) idle_at) in
-            rank_falls (with_entry t e) refl (receiver_rank_falls p (length lists) S.size lists rs (reported 0 (with_entry t e).entries) (λ h. state_of M t h) (λ h. state_of M (with_entry t e) h) said (λ i below. a.states (i + 1) (omega arith)) (moved (advanced st (value_of e)) a.state less))
+            let less : receiver_rank p (length lists) S.size rs (λ h. state_of M t h) (advanced st (value_of e))
+            < receiver_rank p (length lists) S.size rs (λ h. state_of M t h) st =
+            subst (λ (z : HartState). receiver_rank p (length lists) S.size rs (λ h. state_of M t h) z
+            < receiver_rank p (length lists) S.size rs (λ h. state_of M t h) st) (sym move.leaves)
+            (move.nearer (sym (ap said_by move.wants) ∙ none) rs (λ h. state_of M t h) idle_at) in
+            rank_falls (with_entry t e) refl
+            (receiver_rank_falls p (length lists) S.size lists rs (reported 0 (with_entry t e).entries)
+            (λ h. state_of M t h) (λ h. state_of M (with_entry t e) h) said
+            (λ i below. a.states (i + 1) (omega arith)) (moved (advanced st (value_of e)) a.state less))
           where
-            moved : (next : HartState) → state_of M (with_entry t e) 0 ≡ Some next → receiver_rank p (length lists) S.size rs (λ h. state_of M t h) next < receiver_rank p (length lists) S.size rs (λ h. state_of M t h) st → receiver_rank_if p (length lists) S.size rs (λ h. state_of M (with_entry t e) h) (state_of M (with_entry t e) 0) < receiver_rank_if p (length lists) S.size rs (λ h. state_of M t h) (state_of M t 0)
-            moved next is less = rw (is, ch.receiver.state) (subst (λ o. p.receiver (around (length lists) S.size rs o (visited_by next)) next < receiver_rank p (length lists) S.size rs (λ h. state_of M t h) st) (sym (a.states (visited_by next + 1) (omega arith))) less)
+            moved : (next : HartState) → state_of M (with_entry t e) 0 ≡ Some next
+                → receiver_rank p (length lists) S.size rs (λ h. state_of M t h) next
+                < receiver_rank p (length lists) S.size rs (λ h. state_of M t h) st
+                → receiver_rank_if p (length lists) S.size rs (λ h. state_of M (with_entry t e) h)
+                (state_of M (with_entry t e) 0)
+                < receiver_rank_if p (length lists) S.size rs (λ h. state_of M t h) (state_of M t 0)
+            moved next is less = rw (is, ch.receiver.state)
+                (subst (λ o. p.receiver (around (length lists) S.size rs o (visited_by next)) next
+                < receiver_rank p (length lists) S.size rs (λ h. state_of M t h) st)
+                (sym (a.states (visited_by next + 1) (omega arith))) less)
 
         tells : (x : Report) → said_by (need_of st) ≡ x ∷ [] → sender_of x ≡ b → rank_of p M (with_entry t e) < rank_of p M t
         tells x one from =
             let said : reported 0 (with_entry t e).entries ≡ rs ++ x ∷ [] = a.reports ∙ ap (λ ys. rs ++ ys) one in
             rank_falls (with_entry t e) refl
-            (subst (λ (ys : List Report). rank_by_states p (length lists) S.size lists ys (λ h. state_of M (with_entry t e) h) < rank_by_states p (length lists) S.size lists rs (λ h. state_of M t h)) (sym said)
+            (subst (λ (ys : List Report).
+            rank_by_states p (length lists) S.size lists ys (λ h. state_of M (with_entry t e) h)
+            < rank_by_states p (length lists) S.size lists rs (λ h. state_of M t h)) (sym said)
             (sum_falls p (length lists) S.size lists rs (rs ++ x ∷ []) (λ h. state_of M t h) (λ h. state_of M (with_entry t e) h) b ch.receiver.known
-            (λ i below other. share_same p (length lists) S.size lists rs (rs ++ x ∷ []) (λ h. state_of M t h) (λ h. state_of M (with_entry t e) h) i (taken_other rs i x (λ same. other (sym same ∙ from))) (closed_other rs x i (λ same. other (sym same ∙ from))) (a.states (i + 1) (omega arith)))
-            (report_falls p lists rs (λ h. state_of M t h) (λ h. state_of M (with_entry t e) h) b (a.states (b + 1) (omega arith)) x from (subst (λ (ys : List Report). Clean ys lists) said after.reports.clean))
-            (receiver_rank_small p (length lists) S.size lists near (rs ++ x ∷ []) (λ h. state_of M (with_entry t e) h) (receives m.middle (whole_of (block_of M S lists after.receiver.block) (length lists)) after.receiver.place after.receiver.noted) after.receiver.state)))
+            (λ i below other. share_same p (length lists) S.size lists rs (rs ++ x ∷ []) (λ h. state_of M t h)
+            (λ h. state_of M (with_entry t e) h) i (taken_other rs i x (λ same. other (sym same ∙ from)))
+            (closed_other rs x i (λ same. other (sym same ∙ from))) (a.states (i + 1) (omega arith)))
+            (report_falls p lists rs (λ h. state_of M t h) (λ h. state_of M (with_entry t e) h) b
+            (a.states (b + 1) (omega arith)) x from
+            (subst (λ (ys : List Report). Clean ys lists) said after.reports.clean))
+            (receiver_rank_small p (length lists) S.size lists near (rs ++ x ∷ [])
+            (λ h. state_of M (with_entry t e) h)
+            (receives m.middle (whole_of
+            (block_of M S lists after.receiver.block)
+            (length lists)) after.receiver.place
+            after.receiver.noted) after.receiver.state)))
 
         v_says : Says m receiver_block b (ch.numbers b).receiver move.after (said_by (need_of st))
         v_says = subst (λ (w : Need). Says m receiver_block b (ch.numbers b).receiver move.after (said_by w)) (sym move.wants) move.says
@@ -334,6 +427,9 @@ module _ (m : BlockMeaning) (laws : BlockLaws m) (least : ℕ) (some_least : 1 �
         | inr ready ↦ subst (Nearer B M (rank_of p M) t) (sym ready.2) (sender_decreases ready.0 (omega (arith, senders, ready.1)) ready.3)
       ]
 
-pub falls : (m : BlockMeaning) (laws : BlockLaws m) (least : ℕ) (some_least : 1 ≤ least) → BlockProgress m least → Decreases (ring_by m laws least some_least) (means_by m) (rank_of (ranking_of m)) (next_by (ranking_of m))
+pub falls : (m : BlockMeaning) (laws : BlockLaws m) (least : ℕ) (some_least : 1 ≤ least) → BlockProgress m least
+    → Decreases (ring_by m laws least some_least) (means_by m) (rank_of (ranking_of m)) (next_by (ranking_of m))
 unfolding Decreases
-falls m laws least some_least prog B M t some stands landed open_yet = hart_decreases m laws least some_least prog B M stands.opens.layout stands.opens.lists t some stands.opens.accepted stands.opens.opening stands.kept stands.meant landed open_yet
+falls m laws least some_least prog B M t some stands landed open_yet =
+    hart_decreases m laws least some_least prog B M stands.opens.layout stands.opens.lists t some stands.opens.accepted
+    stands.opens.opening stands.kept stands.meant landed open_yet

@@ -1,5 +1,7 @@
 -- An act of the receiver, over the whole channel.
-use Rattle.std.proofs.Common.{ℕ, ◌==◌, Bool, true, if◌then◌else◌, zero, suc, ◌+◌, ◌<◌, ◌≤◌, ◌≡◌, ◌≢◌, ◌⊎◌, inl, inr, false, List, [], ◌∷◌, ◌++◌, length, take, Some, None, refl, sym, ◌∙◌, ap, subst, arith, append-nil}
+use Rattle.std.proofs.Common.{ℕ, ◌==◌, Bool, true, if◌then◌else◌, zero, suc, ◌+◌, ◌<◌, ◌≤◌, ◌≡◌, ◌≢◌, ◌⊎◌, inl, inr}
+use Rattle.std.proofs.Common.{false, List, [], ◌∷◌, ◌++◌, length, take, Some, None, refl, sym, ◌∙◌, ap, subst, arith}
+use Rattle.std.proofs.Common.{append-nil}
 use Rattle.std.specs.Prelude.{slice_index, unwrap_or}
 use Rattle.std.specs.List.{slice_get, slice_index_or}
 use Rattle.std.proofs.lemmas.Bool.{cases_eq}
@@ -31,7 +33,9 @@ use Rattle.poll_close.specs.Invariant.BlockMeaning.{BlockMeaning, Count, unread_
 use Rattle.poll_close.specs.Invariant.Channels.{BlockPart, ReceiverPart, ReportsOf, ReportPart, all_closings}
 use Rattle.poll_close.proofs.Acts.{Acted, Plain, acted, going, stored_by, said_by}
 use Rattle.poll_close.proofs.Windows.{get_end}
-use Rattle.poll_close.proofs.Blocks.{IsBlock, Within, IsWordOf, word_end, IsStore, IsStore-whole, newest-as_writes, apart, to_block-stored, to_block-elsewhere, newest-to_block, put, put_same, put_other}
+use Rattle.poll_close.proofs.Blocks.{IsBlock, Within, IsWordOf, word_end, IsStore, IsStore-whole, newest-as_writes}
+use Rattle.poll_close.proofs.Blocks.{apart, to_block-stored, to_block-elsewhere, newest-to_block, put, put_same}
+use Rattle.poll_close.proofs.Blocks.{put_other}
 use Rattle.poll_close.proofs.BlockLaws.{BlockLaws, seen_at, Says, Comes, Receives, Finds}
 use Rattle.poll_close.proofs.ReceiverMoves.{receives_on}
 use Rattle.poll_close.proofs.ReceiverStays.{shuts_same}
@@ -50,14 +54,19 @@ stored_cases (need.Report r) = inl refl
 stored_cases need.Exit = inl refl
 stored_cases (need.Stop why) = inl refl
 
-pub shuts_put : (m : BlockMeaning) (f : ℕ → Count m) (j : ℕ) (n : Count m) (count : ℕ) → j < count → all_closings m (put f j n) count + m.closings (f j).receiver ≡ all_closings m f count + m.closings n.receiver
+pub shuts_put : (m : BlockMeaning) (f : ℕ → Count m) (j : ℕ) (n : Count m) (count : ℕ) → j < count
+    → all_closings m (put f j n) count + m.closings (f j).receiver ≡ all_closings m f count + m.closings n.receiver
 shuts_put m f j n zero less = absurd (omega arith)
 shuts_put m f j n (suc i) less =
     elim (cases_eq i j) [
       | inl same ↦
-          let last : m.closings (put f j n i).receiver ≡ m.closings n.receiver = ap (λ z. m.closings (put f j n z).receiver) same ∙ ap (λ (z : Count m). m.closings z.receiver) (put_same f j n) in
+          let last : m.closings (put f j n i).receiver ≡ m.closings n.receiver =
+          ap (λ z. m.closings (put f j n z).receiver) same
+          ∙ ap (λ (z : Count m). m.closings z.receiver) (put_same f j n) in
           let was : m.closings (f i).receiver ≡ m.closings (f j).receiver = ap (λ z. m.closings (f z).receiver) same in
-          let rest : all_closings m (put f j n) i ≡ all_closings m f i = shuts_same m f (put f j n) i (λ h below. ap (λ (z : Count m). m.closings z.receiver) (put_other f j n h (λ is. absurd (omega (arith, is, same, below))))) in
+          let rest : all_closings m (put f j n) i ≡ all_closings m f i =
+          shuts_same m f (put f j n) i (λ h below. ap (λ (z : Count m). m.closings z.receiver)
+          (put_other f j n h (λ is. absurd (omega (arith, is, same, below))))) in
           omega (arith, last, was, rest)
       | inr other ↦
           let last : m.closings (put f j n i).receiver ≡ m.closings (f i).receiver = ap (λ (z : Count m). m.closings z.receiver) (put_other f j n i other) in
@@ -76,34 +85,54 @@ pub record Received (m : BlockMeaning) (M : ℕ) (S : Layout) (lists : List (Lis
   pub reports : ReportPart m lists (reported 0 new.entries) numbers
 
 -- what is reported, where the receiver visits a block
-module _ (m : BlockMeaning) (M : ℕ) (S : Layout) (lists : List (List ℕ)) (f : ℕ → Count m) (b : ℕ) (known : b < length lists) (rs : List Report) (told : ReportPart m lists rs f) where
-  told_put : (now : List Report) (n : Count m) → ReportsOf now b (slice_index_or lists b []) (m.took n.receiver) (m.closings n.receiver) → ((j : ℕ) → j < length lists → j ≢ b → ReportsOf now j (slice_index_or lists j []) (m.took (f j).receiver) (m.closings (f j).receiver)) → (j : ℕ) → j < length lists → ReportsOf now j (slice_index_or lists j []) (m.took (put f b n j).receiver) (m.closings (put f b n j).receiver)
+module _ (m : BlockMeaning) (M : ℕ) (S : Layout) (lists : List (List ℕ)) (f : ℕ → Count m) (b : ℕ)
+    (known : b < length lists) (rs : List Report) (told : ReportPart m lists rs f) where
+  told_put : (now : List Report) (n : Count m)
+      → ReportsOf now b (slice_index_or lists b []) (m.took n.receiver) (m.closings n.receiver)
+      → ((j : ℕ) → j < length lists → j ≢ b
+      → ReportsOf now j (slice_index_or lists j []) (m.took (f j).receiver) (m.closings (f j).receiver)) → (j : ℕ)
+      → j < length lists
+      → ReportsOf now j (slice_index_or lists j []) (m.took (put f b n j).receiver) (m.closings (put f b n j).receiver)
   told_put now n one others j within =
       elim (cases_eq j b) [
         | inl same ↦
             let P : ℕ → Count m → Type 0 = λ i c. ReportsOf now i (slice_index_or lists i []) (m.took c.receiver) (m.closings c.receiver) in
             subst (λ (c : Count m). P j c) (sym (ap (put f b n) same ∙ put_same f b n)) (subst (λ (i : ℕ). P i n) (sym same) one)
-        | inr other ↦ subst (λ (c : Count m). ReportsOf now j (slice_index_or lists j []) (m.took c.receiver) (m.closings c.receiver)) (sym (put_other f b n j other)) (others j within other)
+        | inr other ↦ subst
+            (λ (c : Count m). ReportsOf now j (slice_index_or lists j []) (m.took c.receiver) (m.closings c.receiver))
+            (sym (put_other f b n j other)) (others j within other)
       ]
 
   -- one report of the visited sender
-  one_said : (x : Report) (n : Count m) → sender_of x ≡ b → m.closings (f b).receiver ≡ 0 → ReportsOf (rs ++ x ∷ []) b (slice_index_or lists b []) (m.took n.receiver) (m.closings n.receiver) → ((i : ℕ) → x ≡ report.Closed i → taken rs i ≡ slice_index_or lists i []) → ReportPart m lists (rs ++ x ∷ []) (put f b n)
+  one_said : (x : Report) (n : Count m) → sender_of x ≡ b → m.closings (f b).receiver ≡ 0
+      → ReportsOf (rs ++ x ∷ []) b (slice_index_or lists b []) (m.took n.receiver) (m.closings n.receiver)
+      → ((i : ℕ) → x ≡ report.Closed i → taken rs i ≡ slice_index_or lists i [])
+      → ReportPart m lists (rs ++ x ∷ []) (put f b n)
   one_said x n from open_yet new all = record {
-    senders = told_put (rs ++ x ∷ []) n new (λ j within other. told_other rs j (slice_index_or lists j []) (m.took (f j).receiver) (m.closings (f j).receiver) x (λ same. other (sym same ∙ from)) (told.senders j within));
+    senders = told_put (rs ++ x ∷ []) n new
+        (λ j within other. told_other rs j (slice_index_or lists j []) (m.took (f j).receiver)
+        (m.closings (f j).receiver) x (λ same. other (sym same ∙ from)) (told.senders j within));
     clean = clean_more rs lists x told.clean (subst (λ (j : ℕ). j < length lists) (sym from) known) unclosed prefix all;
   }
     where
       unclosed : (j : ℕ) → slice_get rs j ≡ Some (report.Closed (sender_of x)) → ⊥
-      unclosed j is = let closings : m.closings (f b).receiver ≡ 1 = (told.senders b known).closed j (is ∙ ap (λ z. Some (report.Closed z)) from) in omega (arith, open_yet)
+      unclosed j is =
+          let closings : m.closings (f b).receiver ≡ 1 =
+          (told.senders b known).closed j (is ∙ ap (λ z. Some (report.Closed z)) from) in
+          omega (arith, open_yet)
 
       prefix : (i : ℕ) → IsPrefixOf (taken (rs ++ x ∷ []) i) (slice_index_or lists i [])
       prefix i =
           elim (cases_eq i b) [
-            | inl same ↦ subst (λ (j : ℕ). IsPrefixOf (taken (rs ++ x ∷ []) j) (slice_index_or lists j [])) (sym same) (prefix_take (slice_index_or lists b []) (taken (rs ++ x ∷ []) b) (m.took n.receiver) new.words)
-            | inr other ↦ subst (λ (ys : List ℕ). IsPrefixOf ys (slice_index_or lists i [])) (sym (taken_other rs i x (λ same. other (sym same ∙ from)))) (told.clean.in_order i)
+            | inl same ↦
+                subst (λ (j : ℕ). IsPrefixOf (taken (rs ++ x ∷ []) j) (slice_index_or lists j [])) (sym same)
+                (prefix_take (slice_index_or lists b []) (taken (rs ++ x ∷ []) b) (m.took n.receiver) new.words)
+            | inr other ↦ subst (λ (ys : List ℕ). IsPrefixOf ys (slice_index_or lists i []))
+                (sym (taken_other rs i x (λ same. other (sym same ∙ from)))) (told.clean.in_order i)
           ]
 
-  pub said_reports : (said : List Report) (n : Count m) → Says m (block_of M S lists b) b (f b).receiver n.receiver said → ReportPart m lists (rs ++ said) (put f b n)
+  pub said_reports : (said : List Report) (n : Count m)
+      → Says m (block_of M S lists b) b (f b).receiver n.receiver said → ReportPart m lists (rs ++ said) (put f b n)
   said_reports said n (inl none) = subst (λ (ys : List Report). ReportPart m lists ys (put f b n)) (sym (ap (λ ys. rs ++ ys) none.0 ∙ append-nil rs)) (record {
     clean = told.clean;
     senders = told_put rs n (rw (none.1, none.2) (told.senders b known)) (λ j within other. told.senders j within);
@@ -115,11 +144,18 @@ module _ (m : BlockMeaning) (M : ℕ) (S : Layout) (lists : List (List ℕ)) (f 
   said_reports said n (inr (inr closing)) = subst (λ (ys : List Report). ReportPart m lists (rs ++ ys) (put f b n)) (sym closing.0)
       (one_said (report.Closed b) n refl closing.4
       (rw (closing.1, closing.2) (told_closed rs b (slice_index_or lists b []) (m.took (f b).receiver) (m.closings (f b).receiver) (told.senders b known)))
-      (λ i is. subst (λ (j : ℕ). taken rs j ≡ slice_index_or lists j []) (ap sender_of is) ((told.senders b known).words ∙ ap (λ c. take c (slice_index_or lists b [])) closing.3 ∙ take-length (slice_index_or lists b []))))
+      (λ i is. subst (λ (j : ℕ). taken rs j ≡ slice_index_or lists j []) (ap sender_of is)
+      ((told.senders b known).words ∙ ap (λ c. take c (slice_index_or lists b [])) closing.3
+      ∙ take-length (slice_index_or lists b []))))
 
-module _ (m : BlockMeaning) (laws : BlockLaws m) (B M : ℕ) (S : Layout) (lists : List (List ℕ)) (are : (i : ℕ) → i < length lists → IsBlock (block_of M S lists i)) (few : length lists ≤ 63) (t : History) (f : ℕ → Count m) (legal : Legal B t) (opens : OpensWithWords t.opening) (written : AllWriteWords t.entries) (parts : (i : ℕ) → i < length lists → BlockPart m (block_of M S lists i) M i t (f i)) (part : ReceiverPart m M S lists t f) (told : ReportPart m lists (reported 0 t.entries) f) where
+module _ (m : BlockMeaning) (laws : BlockLaws m) (B M : ℕ) (S : Layout) (lists : List (List ℕ))
+    (are : (i : ℕ) → i < length lists → IsBlock (block_of M S lists i)) (few : length lists ≤ 63) (t : History)
+    (f : ℕ → Count m) (legal : Legal B t) (opens : OpensWithWords t.opening) (written : AllWriteWords t.entries)
+    (parts : (i : ℕ) → i < length lists → BlockPart m (block_of M S lists i) M i t (f i))
+    (part : ReceiverPart m M S lists t f) (told : ReportPart m lists (reported 0 t.entries) f) where
   pub each_shut : (j : ℕ) → j < length lists → m.closings (f j).receiver ≤ 1
-  each_shut j within = omega (arith, laws.shut_done (block_of M S lists j) (f j) (parts j within).order, laws.dones_one (block_of M S lists j) (f j) (parts j within).order)
+  each_shut j within =
+      omega (arith, laws.shut_done (block_of M S lists j) (f j) (parts j within).order, laws.dones_one (block_of M S lists j) (f j) (parts j within).order)
 
   due_one : (here : ℕ) → closings_due here ≤ 1
   due_one here = at (here == 0x60)
@@ -131,29 +167,64 @@ module _ (m : BlockMeaning) (laws : BlockLaws m) (B M : ℕ) (S : Layout) (lists
   pub small : part.noted.x20 ≤ 64
   small = omega (arith, few, due_one part.place, part.count)
 
-  count_after : (n : Count m) (noted : ReceiverRegisters) (there : ℕ) → noted.x20 + m.closings n.receiver + closings_due part.place ≡ part.noted.x20 + m.closings (f part.block).receiver + closings_due there → noted.x20 + all_closings m (put f part.block n) (length lists) ≡ length lists + closings_due there
+  count_after : (n : Count m) (noted : ReceiverRegisters) (there : ℕ)
+      → noted.x20 + m.closings n.receiver + closings_due part.place
+      ≡ part.noted.x20 + m.closings (f part.block).receiver + closings_due there
+      → noted.x20 + all_closings m (put f part.block n) (length lists) ≡ length lists + closings_due there
   count_after n noted there counts = omega (arith, part.count, shuts_put m f part.block n (length lists) part.known)
 
-  pub moves_by : (v : ℕ) → (receives m.middle (whole_of (block_of M S lists part.block) (length lists)) part.place part.noted).status ≡ status.Running → Finds m (block_of M S lists part.block) (length lists) part.place (f part.block) (word_in_memory t.opening t.entries) part.noted v → Receives m (block_of M S lists part.block) part.block (length lists) part.place (f part.block) part.noted v
+  pub moves_by : (v : ℕ)
+      → (receives m.middle (whole_of (block_of M S lists part.block) (length lists)) part.place part.noted).status
+      ≡ status.Running
+      → Finds m (block_of M S lists part.block) (length lists) part.place (f part.block)
+      (word_in_memory t.opening t.entries) part.noted v
+      → Receives m (block_of M S lists part.block) part.block (length lists) part.place (f part.block) part.noted v
   moves_by v runs find =
-      receives_on m (block_of M S lists part.block) part.block (length lists) (f part.block) (parts part.block part.known).order part.noted v laws (are part.block part.known) refl part.known few (word_in_memory t.opening t.entries) (parts part.block part.known).words part.place part.holds
+      receives_on m (block_of M S lists part.block) part.block (length lists) (f part.block)
+      (parts part.block part.known).order part.noted v laws (are part.block part.known) refl part.known few
+      (word_in_memory t.opening t.entries) (parts part.block part.known).words part.place part.holds
       (record { runs = runs; find = find; owed = omega (arith, part.count, shuts_most m f (length lists) each_shut); small = small })
 
   -- what it stores goes to the visited block
-  stored_is : (v : ℕ) (r : Receives m (block_of M S lists part.block) part.block (length lists) part.place (f part.block) part.noted v) (x : ℕ × ℕ) → stored_by r.wanted ≡ x ∷ [] → IsStore (block_of M S lists part.block) x
-  stored_is v r x one = laws.unread_are (block_of M S lists part.block) (record (f part.block) { receiver = r.after }) (are part.block part.known) r.changes.order (length (unread_of m (block_of M S lists part.block) (f part.block))) x (ap (λ ps. slice_get ps (length (unread_of m (block_of M S lists part.block) (f part.block)))) (sym r.changes.unread ∙ ap (λ ps. unread_of m (block_of M S lists part.block) (f part.block) ++ ps) one) ∙ get_end (unread_of m (block_of M S lists part.block) (f part.block)) x)
+  stored_is : (v : ℕ)
+      (r : Receives m (block_of M S lists part.block) part.block (length lists) part.place (f part.block) part.noted v)
+      (x : ℕ × ℕ) → stored_by r.wanted ≡ x ∷ [] → IsStore (block_of M S lists part.block) x
+  stored_is v r x one = laws.unread_are (block_of M S lists part.block)
+      (record (f part.block) { receiver = r.after }) (are part.block part.known) r.changes.order
+      (length (unread_of m (block_of M S lists part.block) (f part.block))) x
+      (ap (λ ps. slice_get ps (length (unread_of m (block_of M S lists part.block) (f part.block))))
+      (sym r.changes.unread ∙ ap (λ ps. unread_of m (block_of M S lists part.block) (f part.block) ++ ps) one)
+      ∙ get_end (unread_of m (block_of M S lists part.block) (f part.block)) x)
 
-  pub plain_by : (receives m.middle (whole_of (block_of M S lists part.block) (length lists)) part.place part.noted).status ≡ status.Running → Plain (IsWordOf (block_of M S lists part.block)) (need_of (receives m.middle (whole_of (block_of M S lists part.block) (length lists)) part.place part.noted))
+  pub plain_by :
+      (receives m.middle (whole_of (block_of M S lists part.block) (length lists)) part.place part.noted).status
+      ≡ status.Running
+      → Plain (IsWordOf (block_of M S lists part.block))
+      (need_of (receives m.middle (whole_of (block_of M S lists part.block) (length lists)) part.place part.noted))
   plain_by runs =
       let seen : ℕ → ℕ = seen_at m (block_of M S lists part.block) (f part.block) (word_in_memory t.opening t.entries) in
       let v : ℕ = would_read seen (need_of (receives m.middle (whole_of (block_of M S lists part.block) (length lists)) part.place part.noted)) in
-      let r : Receives m (block_of M S lists part.block) part.block (length lists) part.place (f part.block) part.noted v = moves_by v runs (λ a inside wants. ap (would_read seen) wants) in
-      subst (Plain (IsWordOf (block_of M S lists part.block))) (sym r.wants) (record { no_amo = r.plain; whole = λ x one. IsStore-whole (block_of M S lists part.block) x (stored_is v r x one) })
+      let r : Receives m (block_of M S lists part.block) part.block (length lists) part.place (f part.block)
+      part.noted v =
+      moves_by v runs (λ a inside wants. ap (would_read seen) wants) in
+      subst (Plain (IsWordOf (block_of M S lists part.block))) (sym r.wants) (record {
+        no_amo =
+            r.plain;
+        whole = λ x one. IsStore-whole (block_of M S lists part.block) x (stored_is v r x one);
+      })
 
   pub receiver_goes_on : (e : Entry) → CanFollow B M t e → hart_of e ≡ 0 → is_land e ≡ false → GoesOn e × WritesWord (access_of e) × Touches S (length lists) e
   receiver_goes_on e can mine alone =
-      going _ S (length lists) B M t 0 (receives m.middle (whole_of (block_of M S lists part.block) (length lists)) part.place part.noted) e part.state can mine alone plain_by
-      (λ a word. record { block = part.block; known = part.known; own = inl refl; from = word.within.from; below = word_end (block_of M S lists part.block) (are part.block part.known) a word })
+      going _ S (length lists) B M t 0
+      (receives m.middle (whole_of (block_of M S lists part.block) (length lists)) part.place part.noted) e
+      part.state can mine alone plain_by
+      (λ a word. record {
+        block = part.block;
+        known = part.known;
+        own = inl refl;
+        from = word.within.from;
+        below = word_end (block_of M S lists part.block) (are part.block part.known) a word;
+      })
 
   -- all are quiet once the visited block is
   all_quiet : (n : Count m) → AllReported m n.receiver → (j : ℕ) → j < length lists → AllReported m (put f part.block n j).receiver
@@ -164,70 +235,107 @@ module _ (m : BlockMeaning) (laws : BlockLaws m) (B M : ℕ) (S : Layout) (lists
       ]
 
   -- what the act found in the visited block
-  pub found : (b : ℕ) → IsWordOf (block_of M S lists part.block) b → read t.opening t.entries 0 b 4 ≡ seen_at m (block_of M S lists part.block) (f part.block) (word_in_memory t.opening t.entries) b
+  pub found : (b : ℕ) → IsWordOf (block_of M S lists part.block) b → read t.opening t.entries 0 b 4
+      ≡ seen_at m (block_of M S lists part.block) (f part.block) (word_in_memory t.opening t.entries) b
   found b word =
       read_is t 0 b opens written word.aligned
-      ∙ ap (λ o. unwrap_or o (word_in_memory t.opening t.entries b)) (sym (newest-to_block (block_of M S lists part.block) b None (pending 0 t.entries) word.within))
+      ∙ ap (λ o. unwrap_or o (word_in_memory t.opening t.entries b))
+      (sym (newest-to_block (block_of M S lists part.block) b None (pending 0 t.entries) word.within))
       ∙ ap (λ ws. unwrap_or (newest_word b None ws) (word_in_memory t.opening t.entries b)) (parts part.block part.known).theirs
       ∙ ap (λ o. unwrap_or o (word_in_memory t.opening t.entries b)) (newest-as_writes b None (unread_of m (block_of M S lists part.block) (f part.block)))
 
-  module _ (new : History) (v : ℕ) (a : Acted M t new 0 (receives m.middle (whole_of (block_of M S lists part.block) (length lists)) part.place part.noted) v) (r : Receives m (block_of M S lists part.block) part.block (length lists) part.place (f part.block) part.noted v) where
-    abbrev n : Count m
-    n = record (f part.block) { receiver = r.after }
+  module _ (new : History) (v : ℕ) (a : Acted M t new 0
+      (receives m.middle (whole_of (block_of M S lists part.block) (length lists)) part.place part.noted) v)
+      (r : Receives m (block_of M S lists part.block) part.block (length lists) part.place (f part.block) part.noted v)
+    where
+      abbrev n : Count m
+      n = record (f part.block) { receiver = r.after }
 
-    inside : (x : ℕ × ℕ) → stored_by r.wanted ≡ x ∷ [] → Within (block_of M S lists part.block) x.0
-    inside x one = (stored_is v r x one).place.within
+      inside : (x : ℕ × ℕ) → stored_by r.wanted ≡ x ∷ [] → Within (block_of M S lists part.block) x.0
+      inside x one = (stored_is v r x one).place.within
 
-    visited : BlockPart m (block_of M S lists part.block) M part.block new n
-    visited =
-        let old : BlockPart m (block_of M S lists part.block) M part.block t (f part.block) = parts part.block part.known in
-        record {
-          order = r.changes.order;
-          sender = record { stands = old.sender.stands; state = a.states (part.block + 1) (λ zero_is. omega arith) ∙ old.sender.state; holds = old.sender.holds; buffer = a.buffers (part.block + 1) (λ zero_is. omega arith) ∙ old.sender.buffer };
-          theirs = ap (to_block (block_of M S lists part.block)) (a.buffer ∙ ap (λ w. pending 0 t.entries ++ as_writes (stored_by w)) r.wants) ∙ to_block-stored (block_of M S lists part.block) (pending 0 t.entries) (stored_by r.wanted) (stored_cases r.wanted) inside ∙ ap (λ ws. ws ++ as_writes (stored_by r.wanted)) old.theirs ∙ sym (map-append as_write (unread_of m (block_of M S lists part.block) (f part.block)) (stored_by r.wanted)) ∙ ap as_writes r.changes.unread;
-          words = laws.words_same (block_of M S lists part.block) (f part.block).landed (word_in_memory t.opening t.entries) (word_in_memory new.opening new.entries) (are part.block part.known) (λ x here. a.memory x) old.words;
-        }
+      visited : BlockPart m (block_of M S lists part.block) M part.block new n
+      visited =
+          let old : BlockPart m (block_of M S lists part.block) M part.block t (f part.block) = parts part.block part.known in
+          record {
+            order = r.changes.order;
+            sender = record {
+              stands = old.sender.stands;
+              state = a.states (part.block + 1) (λ zero_is. omega arith) ∙ old.sender.state;
+              holds = old.sender.holds;
+              buffer = a.buffers (part.block + 1) (λ zero_is. omega arith) ∙ old.sender.buffer;
+            };
+            theirs = ap (to_block (block_of M S lists part.block))
+                (a.buffer ∙ ap (λ w. pending 0 t.entries ++ as_writes (stored_by w)) r.wants)
+                ∙ to_block-stored (block_of M S lists part.block) (pending 0 t.entries) (stored_by r.wanted)
+                (stored_cases r.wanted) inside ∙ ap (λ ws. ws ++ as_writes (stored_by r.wanted)) old.theirs
+                ∙ sym
+                (map-append as_write (unread_of m (block_of M S lists part.block) (f part.block)) (stored_by r.wanted))
+                ∙ ap as_writes r.changes.unread;
+            words =
+                laws.words_same (block_of M S lists part.block) (f part.block).landed (word_in_memory t.opening t.entries)
+                (word_in_memory new.opening new.entries) (are part.block part.known) (λ x here. a.memory x) old.words;
+          }
 
-    each : (i : ℕ) → i < length lists → (i ≡ part.block) ⊎ (i ≢ part.block) → BlockPart m (block_of M S lists i) M i new (put f part.block n i)
-    each i within (inl same) =
-        subst (λ (z : Count m). BlockPart m (block_of M S lists i) M i new z) (sym (ap (put f part.block n) same ∙ put_same f part.block n)) (subst (λ (z : ℕ). BlockPart m (block_of M S lists z) M z new n) (sym same) visited)
-    each i within (inr other) =
-        subst (λ (z : Count m). BlockPart m (block_of M S lists i) M i new z) (sym (put_other f part.block n i other)) (untouched m laws M (block_of M S lists i) i t new (f i) (are i within) (parts i within) (record {
-          state = a.states (i + 1) (λ zero_is. omega arith);
-          buffer = a.buffers (i + 1) (λ zero_is. omega arith);
-          theirs = ap (to_block (block_of M S lists i)) (a.buffer ∙ ap (λ w. pending 0 t.entries ++ as_writes (stored_by w)) r.wants) ∙ to_block-elsewhere (block_of M S lists i) (pending 0 t.entries) (stored_by r.wanted) (stored_cases r.wanted) (λ x one here. apart M S lists i part.block x.0 (are part.block part.known).room other here (inside x one));
-          memory = λ x here. a.memory x;
-        }))
+      each : (i : ℕ) → i < length lists → (i ≡ part.block) ⊎ (i ≢ part.block) → BlockPart m (block_of M S lists i) M i new (put f part.block n i)
+      each i within (inl same) =
+          subst (λ (z : Count m). BlockPart m (block_of M S lists i) M i new z)
+          (sym (ap (put f part.block n) same ∙ put_same f part.block n))
+          (subst (λ (z : ℕ). BlockPart m (block_of M S lists z) M z new n) (sym same) visited)
+      each i within (inr other) =
+          subst (λ (z : Count m). BlockPart m (block_of M S lists i) M i new z)
+          (sym (put_other f part.block n i other))
+          (untouched m laws M (block_of M S lists i) i t new (f i) (are i within) (parts i within) (record {
+            state = a.states (i + 1) (λ zero_is. omega arith);
+            buffer = a.buffers (i + 1) (λ zero_is. omega arith);
+            theirs = ap (to_block (block_of M S lists i))
+                (a.buffer ∙ ap (λ w. pending 0 t.entries ++ as_writes (stored_by w)) r.wants)
+                ∙ to_block-elsewhere (block_of M S lists i) (pending 0 t.entries) (stored_by r.wanted)
+                (stored_cases r.wanted)
+                (λ x one here. apart M S lists i part.block x.0 (are part.block part.known).room other here (inside x one));
+            memory = λ x here. a.memory x;
+          }))
 
-    came : ReceiverIs m (block_of M S lists part.block) part.block r.there r.after r.noted ⊎ Comes m (block_of M S lists part.block) (length lists) r.there r.after r.noted → ReceiverPart m M S lists new (put f part.block n)
-    came (inl stays) = record {
-      place = r.there;
-      noted = r.noted;
-      block = part.block;
-      known = part.known;
-      state = a.state ∙ ap Some r.leaves;
-      holds = subst (λ (z : Count m). ReceiverIs m (block_of M S lists part.block) part.block r.there z.receiver r.noted) (sym (put_same f part.block n)) stays;
-      others = λ j within other. subst (λ (z : Count m). AllReported m z.receiver) (sym (put_other f part.block n j other)) (part.others j within other);
-      count = count_after n r.noted r.there r.counts;
-    }
-    came (inr comes) = record {
-      place = r.there;
-      noted = r.noted;
-      block = comes.block;
-      known = comes.known;
-      state = a.state ∙ ap Some r.leaves;
-      holds = subst (λ (p : ℕ). ReceiverIs m (block_of M S lists comes.block) comes.block p (put f part.block n comes.block).receiver r.noted) (sym comes.here) (all_quiet n comes.quiet comes.block comes.known, record { base = comes.base; index = comes.index });
-      others = λ j within other. all_quiet n comes.quiet j within;
-      count = count_after n r.noted r.there r.counts;
-    }
+      came : ReceiverIs m (block_of M S lists part.block) part.block r.there r.after r.noted
+          ⊎ Comes m (block_of M S lists part.block) (length lists) r.there r.after r.noted
+          → ReceiverPart m M S lists new (put f part.block n)
+      came (inl stays) = record {
+        place = r.there;
+        noted = r.noted;
+        block = part.block;
+        known = part.known;
+        state = a.state ∙ ap Some r.leaves;
+        holds =
+            subst (λ (z : Count m). ReceiverIs m (block_of M S lists part.block) part.block r.there z.receiver r.noted)
+            (sym (put_same f part.block n)) stays;
+        others = λ j within other.
+            subst (λ (z : Count m). AllReported m z.receiver) (sym (put_other f part.block n j other))
+            (part.others j within other);
+        count = count_after n r.noted r.there r.counts;
+      }
+      came (inr comes) = record {
+        place = r.there;
+        noted = r.noted;
+        block = comes.block;
+        known = comes.known;
+        state = a.state ∙ ap Some r.leaves;
+        holds = subst (λ (p : ℕ).
+            ReceiverIs m (block_of M S lists comes.block) comes.block p (put f part.block n comes.block).receiver r.noted)
+            (sym comes.here)
+            (all_quiet n comes.quiet comes.block comes.known, record { base = comes.base; index = comes.index });
+        others = λ j within other. all_quiet n comes.quiet j within;
+        count = count_after n r.noted r.there r.counts;
+      }
 
-    received : Received m M S lists new
-    received = record {
-      numbers = put f part.block n;
-      parts = λ i within. each i within (cases_eq i part.block);
-      receiver = came r.holds;
-      reports = subst (λ (rs : List Report). ReportPart m lists rs (put f part.block n)) (sym (a.reports ∙ ap (λ w. reported 0 t.entries ++ said_by w) r.wants)) (said_reports m M S lists f part.block part.known (reported 0 t.entries) told (said_by r.wanted) n r.says);
-    }
+      received : Received m M S lists new
+      received = record {
+        numbers = put f part.block n;
+        parts = λ i within. each i within (cases_eq i part.block);
+        receiver = came r.holds;
+        reports = subst (λ (rs : List Report). ReportPart m lists rs (put f part.block n))
+            (sym (a.reports ∙ ap (λ w. reported 0 t.entries ++ said_by w) r.wants))
+            (said_reports m M S lists f part.block part.known (reported 0 t.entries) told (said_by r.wanted) n r.says);
+      }
 
   pub receiver_acts : (e : Entry) → CanFollow B M t e → hart_of e ≡ 0 → is_land e ≡ false → Received m M S lists (with_entry t e)
   receiver_acts e can mine alone =

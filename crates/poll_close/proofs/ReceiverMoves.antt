@@ -1,26 +1,23 @@
 -- The reasons of the receiver's rows, whatever the ring: from what holds at each line to what holds where it goes
 -- on, and nearer to its next report.
-use Rattle.std.proofs.Common.{ℕ, pos, negsuc, ◌+◌, ◌*◌, ◌≡◌, ◌⊎◌, inl, List, [], ◌∷◌, Option, Some, refl, ◌∙◌, ap, append-nil, ◌-◌, ◌<◌, ◌≤◌, ◌≢◌, ◌==◌, inr, true, false, not, ◌&&◌, length, sym, subst, add-zero, arith, lit<}
+use Rattle.std.proofs.Common.{ℕ, pos, negsuc, ◌+◌, ◌*◌, ◌≡◌, ◌⊎◌, inl, List, [], ◌∷◌, Option, Some, refl, ◌∙◌, ap}
+use Rattle.std.proofs.Common.{append-nil, ◌-◌, ◌<◌, ◌≤◌, ◌≢◌, ◌==◌, inr, true, false, not, ◌&&◌, length, sym, subst}
+use Rattle.std.proofs.Common.{add-zero, arith, lit<}
 use Rattle.std.specs.Prelude.{map, slice_index}
 use Rattle.std.specs.List.{slice_get}
-use Rattle.rv_decode.specs.Meaning.{meaning, reg_of}
-use Rattle.rv_decode.specs.declared.instruction.BranchOp.TheVariants as branch
-use Rattle.rv_decode.specs.declared.instruction.ImmediateOp.TheVariants as immediate
-use Rattle.rv_decode.specs.declared.instruction.RegisterOp.TheVariants as register
-use Rattle.rv_decode.specs.declared.instruction.LoadOp.TheVariants as load
-use Rattle.rv_decode.specs.declared.instruction.StoreOp.TheVariants as store
 use Rattle.rv_decode.specs.declared.instruction.Instr.{Instr}
-use Rattle.rv_decode.specs.declared.instruction.Instr.TheVariants.{Jal, Branch, Load, Store, Immediate, Register, Ecall}
 use Rattle.hart.specs.State.{HartState}
 use Rattle.hart.specs.declared.need.Need.{Need}
 use Rattle.hart.specs.declared.need.Need.TheVariants as need
 use Rattle.hart.proofs.Instructions.{IsAt, took_need, took_after, closed_need, closed_after, exit_need, exit_after}
+use Rattle.poll_close.specs.Listing.{Middle, lines_of, receiver_with}
 use Rattle.poll_close.specs.Invariant.Blocks.{Block, offset}
-use Rattle.poll_close.specs.Invariant.ReceiverState.{Middle, ReceiverRegisters, whole_of, receiver_of, receiving, receives, closings_due}
+use Rattle.poll_close.specs.Invariant.ReceiverState.{ReceiverRegisters, ReceiverConstants, whole_of, receiving, receives, closings_due}
 use Rattle.poll_close.specs.Invariant.BlockMeaning.{BlockMeaning, Count, unread_of, ReceiverIs, Flag, rows_of}
 use Rattle.poll_close.proofs.Acts.{stored_by, said_by, IsNoAmo}
-use Rattle.poll_close.proofs.Lines.{Line, loads, at_line, stores, word_plus, word_minus, add_line, sum_line, load_line, store_line, jump_line, same_jumps, other_goes_on, other_jumps, same_goes_on}
-use Rattle.poll_close.proofs.BlockLaws.{Changes, Comes, Says, Nearer, Receives, BlockLaws, Runs, Right_at}
+use Rattle.poll_close.proofs.Lines.{Line, loads, at_line, stores, word_plus, word_minus, add_line, sum_line, load_line}
+use Rattle.poll_close.proofs.Lines.{store_line, jump_line, same_jumps, other_goes_on, other_jumps, same_goes_on}
+use Rattle.poll_close.proofs.BlockLaws.{Changes, Comes, Says, Nearer, Receives, Decodes, BlockLaws, Runs, Right_at}
 use Rattle.std.proofs.lemmas.Bool.{cases_eq, cases_lt}
 use Rattle.std.proofs.lemmas.Bool.Decides.{nat_tests}
 use Rattle.std.proofs.lemmas.Nat.{row_fits}
@@ -33,46 +30,10 @@ use Rattle.poll_close.proofs.Blocks.{IsBlock, IsWordOf, offset_low, word_of, wor
 use Rattle.poll_close.proofs.Outlines.{also, found}
 use Rattle.poll_close.proofs.Distance.{flags, not_stale, far_off, arrives, wraps}
 
--- what the decoder finds: its own lines, whatever the middle
-abbrev lines_of : Middle → List (Option Instr)
-lines_of m =
-    Some (Immediate immediate.Add (reg_of 8) (reg_of 21) (pos 0)) ∷
-    Some (Immediate immediate.Add (reg_of 22) (reg_of 0) (pos 0)) ∷
-    Some (Load load.Word (reg_of 5) (reg_of 8) (pos 12)) ∷
-    Some (Branch branch.NotEqual (reg_of 5) (reg_of 0) (pos 92)) ∷
-    Some (Load load.Word (reg_of 30) (reg_of 8) (pos 4)) ∷
-    meaning m.at_14 ∷
-    meaning m.at_18 ∷
-    meaning m.at_1C ∷
-    meaning m.at_20 ∷
-    meaning m.at_24 ∷
-    Some (Immediate immediate.Add (reg_of 7) (reg_of 7) (pos 4)) ∷
-    Some (Branch branch.NotEqual (reg_of 7) (reg_of 9) (pos 8)) ∷
-    Some (Immediate immediate.Add (reg_of 7) (reg_of 0) (pos 0)) ∷
-    Some (Store store.Word (reg_of 8) (reg_of 7) (pos 8)) ∷
-    Some (Immediate immediate.Add (reg_of 10) (reg_of 22) (pos 0)) ∷
-    Some (Immediate immediate.Add (reg_of 17) (reg_of 0) (pos 2)) ∷
-    Some Ecall ∷
-    Some (Jal (reg_of 0) (pos 36)) ∷
-    Some (Branch branch.Equal (reg_of 30) (reg_of 0) (pos 32)) ∷
-    Some (Immediate immediate.Add (reg_of 5) (reg_of 0) (pos 1)) ∷
-    Some (Store store.Word (reg_of 8) (reg_of 5) (pos 12)) ∷
-    Some (Immediate immediate.Add (reg_of 10) (reg_of 22) (pos 0)) ∷
-    Some (Immediate immediate.Add (reg_of 17) (reg_of 0) (pos 3)) ∷
-    Some Ecall ∷
-    Some (Immediate immediate.Add (reg_of 20) (reg_of 20) (negsuc 0)) ∷
-    Some (Branch branch.Equal (reg_of 20) (reg_of 0) (pos 20)) ∷
-    Some (Register register.Add (reg_of 8) (reg_of 8) (reg_of 18)) ∷
-    Some (Immediate immediate.Add (reg_of 22) (reg_of 22) (pos 1)) ∷
-    Some (Branch branch.NotEqual (reg_of 8) (reg_of 19) (negsuc 103)) ∷
-    Some (Jal (reg_of 0) (negsuc 115)) ∷
-    Some (Immediate immediate.Add (reg_of 17) (reg_of 0) (pos 93)) ∷
-    Some Ecall ∷
-    []
-
-decoded : (m : Middle) → map meaning (receiver_of m) ≡ lines_of m
-unfolding meaning
-decoded m = refl
+-- where a line is that instruction, whatever the ring's own lines
+pub at_of : (m : Middle) → Decodes m → (c : ReceiverConstants) (r : ReceiverRegisters) (j : ℕ) {instr : Instr}
+    → slice_get (map Some (lines_of (receiver_with m))) j ≡ Some (Some instr) → IsAt (receiving m c (4 * j) r) instr
+at_of m decodes c r j is = at_line (receiving m c (4 * j) r) j refl (ap (λ xs. slice_get xs j) decodes ∙ is)
 
 module _ (m : BlockMeaning) (k : Block) (i count : ℕ) (n : Count m) (order : m.Ordered k n) (r : ReceiverRegisters) (v : ℕ) where
   abbrev pub now : ℕ → ReceiverRegisters → HartState
@@ -81,34 +42,62 @@ module _ (m : BlockMeaning) (k : Block) (i count : ℕ) (n : Count m) (order : m
   abbrev pub Counts : ℕ → ℕ → ReceiverRegisters → m.Receiver → Type 0
   Counts here there noted after = noted.x20 + m.closings after + closings_due here ≡ r.x20 + m.closings n.receiver + closings_due there
 
-  -- where the line is that instruction
-  pub at : (j : ℕ) {instr : Instr} → slice_get (lines_of m.middle) j ≡ Some (Some instr) → IsAt (receiving m.middle (whole_of k count) (4 * j) r) instr
-  at j is = at_line (receiving m.middle (whole_of k count) (4 * j) r) j refl (ap (λ xs. slice_get xs j) (decoded m.middle) ∙ is)
-
   pub unchanged : Changes m k n n.receiver []
   unchanged = record { order = order; unread = append-nil (unread_of m k n) }
 
   -- an act by a line
-  pub acts : (here there : ℕ) (wanted : Need) (noted : ℕ → ReceiverRegisters) (after : m.Receiver) → IsNoAmo (IsWordOf k) wanted → Line (now here r) wanted (λ w. now there (noted w)) → Changes m k n after (stored_by wanted) → ReceiverIs m k i there after (noted v) ⊎ Comes m k count there after (noted v) → Says m k i n.receiver after (said_by wanted) → Counts here there (noted v) after → (said_by wanted ≡ [] → Nearer m k i count here there n r (noted v)) → Receives m k i count here n r v
-  acts here there wanted noted after plain line changes holds says counts nearer = record { wanted = wanted; there = there; noted = noted v; after = after; plain = plain; wants = line.wants; leaves = line.leaves v; changes = changes; holds = holds; says = says; counts = counts; nearer = nearer }
+  pub acts : (here there : ℕ) (wanted : Need) (noted : ℕ → ReceiverRegisters) (after : m.Receiver)
+      → IsNoAmo (IsWordOf k) wanted → Line (now here r) wanted (λ w. now there (noted w))
+      → Changes m k n after (stored_by wanted)
+      → ReceiverIs m k i there after (noted v) ⊎ Comes m k count there after (noted v)
+      → Says m k i n.receiver after (said_by wanted) → Counts here there (noted v) after
+      → (said_by wanted ≡ [] → Nearer m k i count here there n r (noted v)) → Receives m k i count here n r v
+  acts here there wanted noted after plain line changes holds says counts nearer = record {
+    wanted = wanted;
+    there = there;
+    noted = noted v;
+    after = after;
+    plain = plain;
+    wants = line.wants;
+    leaves = line.leaves v;
+    changes = changes;
+    holds = holds;
+    says = says;
+    counts = counts;
+    nearer = nearer;
+  }
 
   -- one inside itself
-  pub still : (here there : ℕ) (noted : ReceiverRegisters) → Counts here there noted n.receiver → Line (now here r) need.Inner (λ w. now there noted) → ReceiverIs m k i there n.receiver noted → Nearer m k i count here there n r noted → Receives m k i count here n r v
-  still here there noted counts line holds nearer = acts here there need.Inner (λ w. noted) n.receiver tt line unchanged (inl holds) (inl (refl, refl, refl)) counts (λ none. nearer)
+  pub still : (here there : ℕ) (noted : ReceiverRegisters) → Counts here there noted n.receiver
+      → Line (now here r) need.Inner (λ w. now there noted) → ReceiverIs m k i there n.receiver noted
+      → Nearer m k i count here there n r noted → Receives m k i count here n r v
+  still here there noted counts line holds nearer = acts here there need.Inner (λ w. noted) n.receiver tt line
+      unchanged (inl holds) (inl (refl, refl, refl)) counts (λ none. nearer)
 
   -- a load
-  pub reads : (here there a : ℕ) (noted : ℕ → ReceiverRegisters) → Counts here there (noted v) n.receiver → IsWordOf k a → Line (now here r) (loads a) (λ w. now there (noted w)) → ReceiverIs m k i there n.receiver (noted v) → Nearer m k i count here there n r (noted v) → Receives m k i count here n r v
-  reads here there a noted counts word line holds nearer = acts here there (loads a) noted n.receiver (tt, word) line unchanged (inl holds) (inl (refl, refl, refl)) counts (λ none. nearer)
+  pub reads : (here there a : ℕ) (noted : ℕ → ReceiverRegisters) → Counts here there (noted v) n.receiver
+      → IsWordOf k a → Line (now here r) (loads a) (λ w. now there (noted w))
+      → ReceiverIs m k i there n.receiver (noted v) → Nearer m k i count here there n r (noted v)
+      → Receives m k i count here n r v
+  reads here there a noted counts word line holds nearer = acts here there (loads a) noted n.receiver (tt, word)
+      line unchanged (inl holds) (inl (refl, refl, refl)) counts (λ none. nearer)
 
-  module _ (laws : BlockLaws m) (is : IsBlock k) (base : k.base ≡ k.first + i * k.stride) (known : i < count) (few : count ≤ 63) (word_at : ℕ → ℕ) (words : m.Words k n.landed word_at) where
+  module _ (laws : BlockLaws m) (is : IsBlock k) (base : k.base ≡ k.first + i * k.stride) (known : i < count)
+      (few : count ≤ 63) (word_at : ℕ → ℕ) (words : m.Words k n.landed word_at) where
     abbrev Right_here : ℕ → Type 0
     Right_here here = Right_at m k i count n word_at r v here
 
     abbrev o : m.Receiver
     o = n.receiver
 
+    at : (j : ℕ) {instr : Instr} → slice_get (map Some (lines_of (receiver_with m.middle))) j ≡ Some (Some instr)
+        → IsAt (receiving m.middle (whole_of k count) (4 * j) r) instr
+    at j is = at_of m.middle laws.decodes (whole_of k count) r j is
+
     right_00 : Right_here 0x00  -- round: addi x8,x21,0
-    right_00 h z = still 0x00 0x04 (record r { x8 = k.first }) refl (add_line (at 0 refl) (word_plus k.first 0 (omega (arith, is.first, is.next)) ∙ add-zero k.first)) (h, refl) (λ rs states idle. omega arith)
+    right_00 h z = still 0x00 0x04 (record r { x8 = k.first }) refl
+        (add_line (at 0 refl) (word_plus k.first 0 (omega (arith, is.first, is.next)) ∙ add-zero k.first)) (h, refl)
+        (λ rs states idle. omega arith)
 
     right_04 : Right_here 0x04  -- addi x22,x0,0
     right_04 h z =
@@ -131,17 +120,31 @@ module _ (m : BlockMeaning) (k : Block) (i count : ℕ) (n : Count m) (order : m
           | inl none ↦ still 0x0C 0x10 r refl (same_goes_on (at 3 refl) none) (record { visits = h.1; quiet = h.0; open_yet = sym h.2 ∙ none })
               (λ rs states idle. flags 0 16 20 21 false (is_closed rs r.x22) (omega arith) (far_off rs count (r.x22 + 1)) (λ on. cc))
           | inr some ↦ still 0x0C 0x68 r refl (other_jumps (at 3 refl) some refl) (h.0, h.1)
-              (λ rs states idle. flags 10 16 20 21 true (is_closed rs r.x22) (omega arith) (far_off rs count (r.x22 + 1)) (λ on. idle.closings h.1.index (λ zero_is. some (h.2 ∙ sym h.0.closed ∙ zero_is))))
+              (λ rs states idle.
+              flags 10 16 20 21 true (is_closed rs r.x22) (omega arith) (far_off rs count (r.x22 + 1))
+              (λ on. idle.closings h.1.index (λ zero_is. some (h.2 ∙ sym h.0.closed ∙ zero_is))))
         ]
 
     -- it notes the mark that it reads
     right_10 : Right_here 0x10  -- lw x30,4(x8)
     right_10 h z =
         let line = load_line (at 4 refl) (omega (arith, is.even, h.visits.base)) refl (omega (arith, is.inside, is.some_slot, h.visits.base)) is.small in
-        let read : v ≡ m.marks n.landed = z.find (k.base + 4) (word_of k is 4 (omega arith) refl) (line.wants ∙ ap (λ b. loads (b + 4)) h.visits.base) ∙ laws.sees_mark k n word_at order words in
+        let read : v ≡ m.marks n.landed = z.find (k.base + 4) (word_of k is 4 (omega arith) refl)
+        (line.wants ∙ ap (λ b. loads (b + 4)) h.visits.base) ∙ laws.sees_mark k n word_at order words in
         let made = laws.reports k n (m.took o) (m.closings o) order h.quiet.level (laws.shut_done k n order) in
         acts 0x10 0x14 (loads (r.x8 + 4)) (λ w. record r { x30 = w }) made.after (tt, word_from k is r.x8 4 h.visits.base (omega arith) refl) line made.changes
-        (inl (record { visits = h.visits; quiet = record { words = made.took ∙ h.quiet.words ∙ sym made.tails; closed = made.closings ∙ h.quiet.closed ∙ sym made.dones; level = made.level }; open_yet = made.dones ∙ h.open_yet }, flag read made.after made.mark (cases_eq (m.marks n.landed) 0)))
+        (inl (
+          record {
+            visits = h.visits;
+            quiet = record {
+              words = made.took ∙ h.quiet.words ∙ sym made.tails;
+              closed = made.closings ∙ h.quiet.closed ∙ sym made.dones;
+              level = made.level;
+            };
+            open_yet = made.dones ∙ h.open_yet;
+          },
+          flag read made.after made.mark (cases_eq (m.marks n.landed) 0),
+        ))
         (inl (refl, made.took, made.closings)) (ap (λ j. r.x20 + j + 0) made.closings)
         (λ none rs states idle. (let fresh = not_stale v (not (runs (states (r.x22 + 1)))) (λ ended. read ∙ idle.marked h.visits.index ended) in
         flags 16 17 19 20 ((v == 0) && not (runs (states (r.x22 + 1)))) false (omega arith) (far_off rs count (r.x22 + 1)) (λ on. sym fresh ∙ on)))
@@ -152,7 +155,8 @@ module _ (m : BlockMeaning) (k : Block) (i count : ℕ) (n : Count m) (order : m
 
     right_28 : Right_here 0x28  -- addi x7,x7,4
     right_28 h z =
-        still 0x28 0x2C (record r { x7 = r.x7 + 4 }) refl (add_line (at 10 refl) (word_plus r.x7 4 (omega (arith, is.inside, is.small, h.1, offset_low k is (m.tails o)))))
+        still 0x28 0x2C (record r { x7 = r.x7 + 4 }) refl (add_line (at 10 refl)
+        (word_plus r.x7 4 (omega (arith, is.inside, is.small, h.1, offset_low k is (m.tails o)))))
         (h.0, (let same : r.x7 + 4 ≡ offset k (m.tails o) + 4 = omega (arith, h.1) in same))
         (λ rs states idle. omega arith)
 
@@ -160,18 +164,23 @@ module _ (m : BlockMeaning) (k : Block) (i count : ℕ) (n : Count m) (order : m
     right_2C h z =
         elim (cases_eq r.x7 (4 * k.size)) [
           | inl same ↦ still 0x2C 0x30 r refl (same_goes_on (at 11 refl) same) (h.0, sym h.1 ∙ same) (λ rs states idle. omega arith)
-          | inr other ↦ still 0x2C 0x34 r refl (other_jumps (at 11 refl) other refl) (h.0, h.1 ∙ offset_step k.size (m.tails o) (omega (arith, is.some_slot)) (λ full. other (h.1 ∙ full))) (λ rs states idle. omega arith)
+          | inr other ↦ still 0x2C 0x34 r refl (other_jumps (at 11 refl) other refl)
+              (h.0, h.1 ∙ offset_step k.size (m.tails o) (omega (arith, is.some_slot)) (λ full. other (h.1 ∙ full)))
+              (λ rs states idle. omega arith)
         ]
 
     right_30 : Right_here 0x30  -- addi x7,x0,0
-    right_30 h z = still 0x30 0x34 (record r { x7 = 0 }) refl (add_line (at 12 refl) (word_plus 0 0 (lit< tt))) (h.0, sym (offset_wrap k.size (m.tails o) (omega (arith, is.some_slot)) h.1)) (λ rs states idle. omega arith)
+    right_30 h z = still 0x30 0x34 (record r { x7 = 0 }) refl (add_line (at 12 refl) (word_plus 0 0 (lit< tt)))
+        (h.0, sym (offset_wrap k.size (m.tails o) (omega (arith, is.some_slot)) h.1)) (λ rs states idle. omega arith)
 
     right_34 : Right_here 0x34  -- keep: sw x7,8(x8)
     right_34 h z =
         let line = store_line (at 13 refl) (omega (arith, is.even, h.0.visits.base)) refl (omega (arith, is.inside, is.some_slot, h.0.visits.base)) is.small in
         let made = laws.stores_tail k n order h.0.filled h.0.open_yet in
         acts 0x34 0x38 (stores (r.x8 + 8) r.x7) (λ w. r) made.after (tt, word_from k is r.x8 8 h.0.visits.base (omega arith) refl) line
-        (subst (λ (x : ℕ × ℕ). Changes m k n made.after (x ∷ [])) (ap (λ b. (b + 8, offset k (m.tails o + 1))) (sym h.0.visits.base) ∙ ap (λ j. (r.x8 + 8, j)) (sym h.1)) made.changes)
+        (subst (λ (x : ℕ × ℕ). Changes m k n made.after (x ∷ []))
+        (ap (λ b. (b + 8, offset k (m.tails o + 1))) (sym h.0.visits.base) ∙ ap (λ j. (r.x8 + 8, j)) (sym h.1))
+        made.changes)
         (inl (record {
           visits = h.0.visits;
           level = made.level;
@@ -183,16 +192,27 @@ module _ (m : BlockMeaning) (k : Block) (i count : ℕ) (n : Count m) (order : m
         (inl (refl, made.took, made.closings)) (ap (λ j. r.x20 + j + 0) made.closings) (λ none rs states idle. omega arith)
 
     right_38 : Right_here 0x38  -- addi x10,x22,0
-    right_38 h z = still 0x38 0x3C (record r { x10 = r.x22 }) refl (add_line (at 14 refl) (word_plus r.x22 0 (omega (arith, h.visits.index, known, few)) ∙ add-zero r.x22)) (h, h.visits.index) (λ rs states idle. omega arith)
+    right_38 h z = still 0x38 0x3C (record r { x10 = r.x22 }) refl
+        (add_line (at 14 refl) (word_plus r.x22 0 (omega (arith, h.visits.index, known, few)) ∙ add-zero r.x22))
+        (h, h.visits.index) (λ rs states idle. omega arith)
 
     right_3C : Right_here 0x3C  -- addi x17,x0,2
-    right_3C h z = still 0x3C 0x40 (record r { x17 = 2 }) refl (add_line (at 15 refl) (word_plus 0 2 (lit< tt))) (h.0, h.1, refl) (λ rs states idle. omega arith)
+    right_3C h z = still 0x3C 0x40 (record r { x17 = 2 }) refl (add_line (at 15 refl) (word_plus 0 2 (lit< tt)))
+        (h.0, h.1, refl) (λ rs states idle. omega arith)
 
     right_40 : Right_here 0x40  -- ecall
     right_40 h z =
         let made = laws.reports k n (m.took o + 1) (m.closings o) order h.0.level (laws.shut_done k n order) in
-        acts 0x40 0x44 (need.Report (report.Took r.x10 r.x11)) (λ w. r) made.after tt (record { wants = took_need (at 16 refl) h.2; leaves = λ w. took_after (at 16 refl) h.2 w }) made.changes
-        (inl (record { words = made.took ∙ sym h.0.ahead ∙ sym made.tails; closed = made.closings ∙ h.0.closed ∙ sym made.dones; level = made.level }, h.0.visits))
+        acts 0x40 0x44 (need.Report (report.Took r.x10 r.x11)) (λ w. r) made.after tt
+        (record { wants = took_need (at 16 refl) h.2; leaves = λ w. took_after (at 16 refl) h.2 w }) made.changes
+        (inl (
+          record {
+            words = made.took ∙ sym h.0.ahead ∙ sym made.tails;
+            closed = made.closings ∙ h.0.closed ∙ sym made.dones;
+            level = made.level;
+          },
+          h.0.visits,
+        ))
         (inr (inl (rw (h.1, h.0.word) refl, made.took, made.closings, omega (arith, h.0.ahead, laws.tails_all k n order), h.0.closed ∙ h.0.open_yet)))
         (ap (λ j. r.x20 + j + 0) made.closings) (λ none rs states idle. cc)
 
@@ -220,28 +240,50 @@ module _ (m : BlockMeaning) (k : Block) (i count : ℕ) (n : Count m) (order : m
         let line = store_line (at 20 refl) (omega (arith, is.even, h.0.visits.base)) refl (omega (arith, is.inside, is.some_slot, h.0.visits.base)) is.small in
         let made = laws.stores_done k n order h.0.quiet.level h.1 h.0.open_yet in
         acts 0x50 0x54 (stores (r.x8 + 12) r.x5) (λ w. r) made.after (tt, word_from k is r.x8 12 h.0.visits.base (omega arith) refl) line
-        (subst (λ (x : ℕ × ℕ). Changes m k n made.after (x ∷ [])) (ap (λ b. (b + 12, 1)) (sym h.0.visits.base) ∙ ap (λ j. (r.x8 + 12, j)) (sym h.2)) made.changes)
-        (inl (record { visits = h.0.visits; level = made.level; words = made.took ∙ h.0.quiet.words ∙ sym made.tails; all = made.tails ∙ h.1; done = made.dones; unsaid = made.closings ∙ h.0.quiet.closed ∙ h.0.open_yet }))
+        (subst (λ (x : ℕ × ℕ). Changes m k n made.after (x ∷ []))
+        (ap (λ b. (b + 12, 1)) (sym h.0.visits.base) ∙ ap (λ j. (r.x8 + 12, j)) (sym h.2)) made.changes)
+        (inl (record {
+          visits = h.0.visits;
+          level = made.level;
+          words = made.took ∙ h.0.quiet.words ∙ sym made.tails;
+          all = made.tails ∙ h.1;
+          done = made.dones;
+          unsaid = made.closings ∙ h.0.quiet.closed ∙ h.0.open_yet;
+        }))
         (inl (refl, made.took, made.closings)) (ap (λ j. r.x20 + j + 0) made.closings) (λ none rs states idle. omega arith)
 
     right_54 : Right_here 0x54  -- addi x10,x22,0
-    right_54 h z = still 0x54 0x58 (record r { x10 = r.x22 }) refl (add_line (at 21 refl) (word_plus r.x22 0 (omega (arith, h.visits.index, known, few)) ∙ add-zero r.x22)) (h, h.visits.index) (λ rs states idle. omega arith)
+    right_54 h z = still 0x54 0x58 (record r { x10 = r.x22 }) refl
+        (add_line (at 21 refl) (word_plus r.x22 0 (omega (arith, h.visits.index, known, few)) ∙ add-zero r.x22))
+        (h, h.visits.index) (λ rs states idle. omega arith)
 
     right_58 : Right_here 0x58  -- addi x17,x0,3
-    right_58 h z = still 0x58 0x5C (record r { x17 = 3 }) refl (add_line (at 22 refl) (word_plus 0 3 (lit< tt))) (h.0, h.1, refl) (λ rs states idle. omega arith)
+    right_58 h z = still 0x58 0x5C (record r { x17 = 3 }) refl (add_line (at 22 refl) (word_plus 0 3 (lit< tt)))
+        (h.0, h.1, refl) (λ rs states idle. omega arith)
 
     right_5C : Right_here 0x5C  -- ecall
     right_5C h z =
         let made = laws.reports k n (m.took o) 1 order h.0.level (omega (arith, h.0.done)) in
-        acts 0x5C 0x60 (need.Report (report.Closed r.x10)) (λ w. r) made.after tt (record { wants = closed_need (at 23 refl) h.2; leaves = λ w. closed_after (at 23 refl) h.2 w }) made.changes
-        (inl (record { words = made.took ∙ h.0.words ∙ sym made.tails; closed = made.closings ∙ sym h.0.done ∙ sym made.dones; level = made.level }, h.0.visits))
+        acts 0x5C 0x60 (need.Report (report.Closed r.x10)) (λ w. r) made.after tt
+        (record { wants = closed_need (at 23 refl) h.2; leaves = λ w. closed_after (at 23 refl) h.2 w })
+        made.changes
+        (inl (
+          record {
+            words = made.took ∙ h.0.words ∙ sym made.tails;
+            closed = made.closings ∙ sym h.0.done ∙ sym made.dones;
+            level = made.level;
+          },
+          h.0.visits,
+        ))
         (inr (inr (rw h.1 refl, made.took, made.closings, h.0.words ∙ h.0.all, h.0.unsaid)))
         (omega (arith, h.0.unsaid, made.closings)) (λ none rs states idle. cc)
 
     right_60 : Right_here 0x60  -- addi x20,x20,-1
     right_60 h z =
         let one : r.x20 ≡ r.x20 - 1 + 1 = omega (arith, z.owed) in
-        still 0x60 0x64 (record r { x20 = r.x20 - 1 }) (omega (arith, one)) (add_line (at 24 refl) (word_minus r.x20 (r.x20 - 1) one (omega (arith, one, z.small)))) (h.0, h.1) (λ rs states idle. omega arith)
+        still 0x60 0x64 (record r { x20 = r.x20 - 1 }) (omega (arith, one))
+        (add_line (at 24 refl) (word_minus r.x20 (r.x20 - 1) one (omega (arith, one, z.small)))) (h.0, h.1)
+        (λ rs states idle. omega arith)
 
     right_64 : Right_here 0x64  -- beq x20,x0,quit
     right_64 h z =
@@ -260,17 +302,23 @@ module _ (m : BlockMeaning) (k : Block) (i count : ℕ) (n : Count m) (order : m
     right_6C h z =
         still 0x6C 0x70 (record r { x22 = r.x22 + 1 }) refl (add_line (at 27 refl) (word_plus r.x22 1 (omega (arith, h.1, known, few))))
         (h.0, (let same : r.x22 + 1 ≡ i + 1 = omega (arith, h.1) in same), h.2)
-        (λ rs states idle. (let rest : rest_from rs count (r.x22 + 1 - 1 + 1) ≡ rest_from rs count (r.x22 + 1) = ap (λ j. rest_from rs count (j + 1)) {x = r.x22 + 1 - 1} (omega arith) in omega (arith, rest)))
+        (λ rs states idle. (let rest : rest_from rs count (r.x22 + 1 - 1 + 1) ≡ rest_from rs count (r.x22 + 1) =
+        ap (λ j. rest_from rs count (j + 1)) {x = r.x22 + 1 - 1} (omega arith) in
+        omega (arith, rest)))
 
     right_70 : Right_here 0x70  -- bne x8,x19,visit
     right_70 h z =
         elim (cases_eq r.x8 (k.first + count * k.stride)) [
           | inl same ↦ still 0x70 0x74 r refl (same_goes_on (at 28 refl) same) h.0
-              (λ rs states idle. (let over : rest_from rs count (r.x22 - 1 + 1) ≡ rest_from rs count count = ap (rest_from rs count) {x = r.x22 - 1 + 1} (omega (arith, at_end same, h.1)) in omega (arith, over, wraps rs count idle.open_yet)))
+              (λ rs states idle. (let over : rest_from rs count (r.x22 - 1 + 1) ≡ rest_from rs count count =
+              ap (rest_from rs count) {x = r.x22 - 1 + 1} (omega (arith, at_end same, h.1)) in
+              omega (arith, over, wraps rs count idle.open_yet)))
           | inr other ↦ acts 0x70 0x08 need.Inner (λ w. r) o tt (other_jumps (at 28 refl) other refl) unchanged
               (inr (record { block = i + 1; known = more other (cases_eq (i + 1) count); quiet = h.0; here = refl; index = h.1; base = h.2 ∙ next }))
               (inl (refl, refl, refl)) refl
-              (λ none rs states idle. (let rest : rest_from rs count (r.x22 - 1 + 1) ≡ rest_from rs count r.x22 = ap (rest_from rs count) {x = r.x22 - 1 + 1} (omega (arith, h.1)) in omega (arith, rest, arrives rs count r.x22 (omega (arith, h.1, more other (cases_eq (i + 1) count))))))
+              (λ none rs states idle. (let rest : rest_from rs count (r.x22 - 1 + 1) ≡ rest_from rs count r.x22 =
+              ap (rest_from rs count) {x = r.x22 - 1 + 1} (omega (arith, h.1)) in
+              omega (arith, rest, arrives rs count r.x22 (omega (arith, h.1, more other (cases_eq (i + 1) count))))))
         ]
       where
         next : k.base + k.stride ≡ k.first + (i + 1) * k.stride
@@ -279,7 +327,9 @@ module _ (m : BlockMeaning) (k : Block) (i count : ℕ) (n : Count m) (order : m
         at_end : r.x8 ≡ k.first + count * k.stride → i + 1 ≡ count
         at_end same =
             elim (cases_lt (i + 1) count) [
-              | inl less ↦ let below : (i + 1) * k.stride + k.stride ≤ count * k.stride = row_fits (i + 1) k.stride count k.stride less (omega arith) in absurd (omega (arith, below, same, h.2, next, is.room))
+              | inl less ↦ let below : (i + 1) * k.stride + k.stride ≤ count * k.stride =
+                  row_fits (i + 1) k.stride count k.stride less (omega arith) in
+                  absurd (omega (arith, below, same, h.2, next, is.room))
               | inr past ↦ omega (arith, known)
             ]
 
@@ -291,7 +341,8 @@ module _ (m : BlockMeaning) (k : Block) (i count : ℕ) (n : Count m) (order : m
     right_74 h z = still 0x74 0x00 r refl (jump_line (at 29 refl) refl) h (λ rs states idle. omega arith)
 
     right_78 : Right_here 0x78  -- quit: addi x17,x0,93
-    right_78 h z = still 0x78 0x7C (record r { x17 = 93 }) refl (add_line (at 30 refl) (word_plus 0 93 (lit< tt))) (h.0, refl, h.1) (λ rs states idle. omega arith)
+    right_78 h z = still 0x78 0x7C (record r { x17 = 93 }) refl (add_line (at 30 refl) (word_plus 0 93 (lit< tt)))
+        (h.0, refl, h.1) (λ rs states idle. omega arith)
 
     right_7C : Right_here 0x7C  -- ecall
     right_7C h z =
@@ -304,8 +355,11 @@ module _ (m : BlockMeaning) (k : Block) (i count : ℕ) (n : Count m) (order : m
     -- wherever it runs, it moves, by what it finds in the block that it visits
     pub receives_on : (here : ℕ) → Right_here here
     receives_on here h =
-        let last = also right_68 (also right_6C (also right_70 (also right_74 (also right_78 (also right_7C (also right_80 (laws.moves k i count n word_at r v is order words))))))) in
+        let last = also right_68 (also right_6C (also right_70 (also right_74
+        (also right_78 (also right_7C (also right_80 (laws.moves k i count n word_at r v is order words))))))) in
         let close = also right_48 (also right_4C (also right_50 (also right_54 (also right_58 (also right_5C (also right_60 (also right_64 last))))))) in
         let take = also right_28 (also right_2C (also right_30 (also right_34 (also right_38 (also right_3C (also right_40 (also right_44 close))))))) in
-        found (λ (H : Block → ℕ → m.Receiver → ReceiverRegisters → Type 0). H k i o r) (λ at. Runs m k count at n word_at r v → Receives m k i count at n r v) (rows_of m)
-        (also right_00 (also right_04 (also right_08 (also right_0C (also right_10 (also (laws.moves_14 k i count n word_at r v is order words) take)))))) here h
+        found (λ (H : Block → ℕ → m.Receiver → ReceiverRegisters → Type 0). H k i o r)
+        (λ at. Runs m k count at n word_at r v → Receives m k i count at n r v) (rows_of m)
+        (also right_00 (also right_04 (also right_08
+        (also right_0C (also right_10 (also (laws.moves_14 k i count n word_at r v is order words) take)))))) here h

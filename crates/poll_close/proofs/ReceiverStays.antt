@@ -12,7 +12,9 @@ use Rattle.poll_close.specs.Invariant.Channels.{ReceiverPart, ReportsOf, ReportP
 use Rattle.poll_close.proofs.AllBlocks.{BlocksAfter}
 
 -- sums over all senders
-pub shuts_same : (m : BlockMeaning) (f g : ℕ → Count m) (count : ℕ) → ((i : ℕ) → i < count → m.closings (g i).receiver ≡ m.closings (f i).receiver) → all_closings m g count ≡ all_closings m f count
+pub shuts_same : (m : BlockMeaning) (f g : ℕ → Count m) (count : ℕ)
+    → ((i : ℕ) → i < count → m.closings (g i).receiver ≡ m.closings (f i).receiver)
+    → all_closings m g count ≡ all_closings m f count
 shuts_same m f g zero same = refl
 shuts_same m f g (suc i) same =
     let last : m.closings (g i).receiver ≡ m.closings (f i).receiver = same i (omega arith) in
@@ -28,13 +30,22 @@ module _ (m : BlockMeaning) (M : ℕ) (S : Layout) (lists : List (List ℕ)) (t 
     block = part.block;
     known = part.known;
     state = same ∙ part.state;
-    holds = subst (λ (o : m.Receiver). ReceiverIs m (block_of M S lists part.block) part.block part.place o part.noted) (sym (after.same part.block part.known)) part.holds;
+    holds =
+        subst (λ (o : m.Receiver). ReceiverIs m (block_of M S lists part.block) part.block part.place o part.noted)
+        (sym (after.same part.block part.known)) part.holds;
     others = λ j within other. subst (AllReported m) (sym (after.same j within)) (part.others j within other);
-    count = (let same : all_closings m after.numbers (length lists) ≡ all_closings m f (length lists) = shuts_same m f after.numbers (length lists) (λ j within. ap m.closings (after.same j within)) in omega (arith, same, part.count));
+    count = (let same : all_closings m after.numbers (length lists) ≡ all_closings m f (length lists) =
+        shuts_same m f after.numbers (length lists) (λ j within. ap m.closings (after.same j within)) in
+        omega (arith, same, part.count));
   }
 
   pub reports_stay : (rs now : List Report) → now ≡ rs → ReportPart m lists rs f → ReportPart m lists now after.numbers
   reports_stay rs now same part = record {
-    senders = λ j within. subst (λ (o : m.Receiver). ReportsOf now j (slice_index_or lists j []) (m.took o) (m.closings o)) (sym (after.same j within)) (subst (λ (ys : List Report). ReportsOf ys j (slice_index_or lists j []) (m.took (f j).receiver) (m.closings (f j).receiver)) (sym same) (part.senders j within));
+    senders =
+        λ j within. subst (λ (o : m.Receiver). ReportsOf now j (slice_index_or lists j []) (m.took o) (m.closings o))
+        (sym (after.same j within))
+        (subst (λ (ys : List Report).
+        ReportsOf ys j (slice_index_or lists j []) (m.took (f j).receiver) (m.closings (f j).receiver)) (sym same)
+        (part.senders j within));
     clean = subst (λ (ys : List Report). Clean ys lists) (sym same) part.clean;
   }

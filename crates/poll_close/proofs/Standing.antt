@@ -1,6 +1,7 @@
 -- A channel stands at its opening, and goes on standing over every event; and what is known then of a
 -- sender's hart.
-use Rattle.std.proofs.Common.{◌≡◌, ℕ, ◌+◌, ◌<◌, Result, Ok, Err, List, [], ◌∷◌, length, take, map, refl, sym, ◌∙◌, ap, subst, arith, suc, ◌-◌, ◌%◌, ◌≤◌, Option, Some}
+use Rattle.std.proofs.Common.{◌≡◌, ℕ, ◌+◌, ◌<◌, Result, Ok, Err, List, [], ◌∷◌, length, take, map, refl, sym, ◌∙◌, ap}
+use Rattle.std.proofs.Common.{subst, arith, suc, ◌-◌, ◌%◌, ◌≤◌, Option, Some}
 use Rattle.std.specs.Prelude.{IfOk, IfErr, OnOk, OnErr, option_map}
 use Rattle.hart.specs.declared.need.Report.{Report}
 use Rattle.step_machine.specs.declared.events.Event.{Event}
@@ -9,8 +10,8 @@ use Rattle.step_machine.specs.History.{HartStart, Start, History, Progress, unru
 use Rattle.step_machine.specs.Entries.{reported, memory_word}
 use Rattle.step_machine.specs.Runs.{Happens, RunFrom}
 use Rattle.step_machine.proofs.Running.{kept-unrun}
-use Rattle.poll_close.specs.Layout.{Layout, opening_at, senders_from}
-use Rattle.poll_close.specs.Laws.{Ring, Meaning, AcceptedAt, Opens, Keeps, Cleans, Goes}
+use Rattle.poll_close.specs.Layout.{Layout, senders_from}
+use Rattle.poll_close.specs.Laws.{Ring, opening_over, Meaning, AcceptedAt, Opens, Keeps, Cleans, Goes}
 use Rattle.poll_close.specs.Going.{AllGoOn}
 use Rattle.poll_close.specs.Reports.{Clean}
 use Rattle.poll_close.specs.Standing.{Stands, lists_of}
@@ -31,11 +32,12 @@ inboxes code S i [] = refl
 inboxes code S i (ws ∷ lists) = ap (λ rest. ws ∷ rest) (inboxes code S (i + 1) lists)
 
 module _ (ring : Ring) (means : Meaning) (B M : ℕ) where
-  pub stands-opens : (lists : List (List ℕ)) (S : Layout) (t : History) → Opens ring means → AcceptedAt ring M lists S → t ≡ unrun (opening_at ring.sender ring.receiver lists S) → Stands ring means B M t
+  pub stands-opens : (lists : List (List ℕ)) (S : Layout) (t : History) → Opens ring means
+      → AcceptedAt ring M lists S → t ≡ unrun (opening_over ring lists S) → Stands ring means B M t
   unfolding Opens
   stands-opens lists S t opens accepted is = subst (Stands ring means B M) (sym is) (record {
     opens = record { lists = lists; layout = S; accepted = accepted; opening = refl };
-    kept = kept-unrun B M (opening_at ring.sender ring.receiver lists S);
+    kept = kept-unrun B M (opening_over ring lists S);
     meant = opens B M lists S accepted;
   })
 
@@ -45,11 +47,15 @@ module _ (ring : Ring) (means : Meaning) (B M : ℕ) where
   again : (lists : List (List ℕ)) (S : Layout) (t : History) → AcceptedAt ring M lists S → Known ring means B M lists S t → Stands ring means B M t
   again lists S t accepted k = record { opens = record { lists = lists; layout = S; accepted = accepted; opening = k.opening }; kept = k.kept; meant = k.meant }
 
-  pub stands-happens : (t : History) (ev : Event) (o : Outcome) (new : History) → Keeps ring means → Stands ring means B M t → Happens B M t ev o new → Stands ring means B M new
-  stands-happens t ev o new keeps s happens = again s.opens.lists s.opens.layout new s.opens.accepted (known-happens ring means keeps B M s.opens.lists s.opens.layout s.opens.accepted t ev o new (known t s) happens)
+  pub stands-happens : (t : History) (ev : Event) (o : Outcome) (new : History) → Keeps ring means
+      → Stands ring means B M t → Happens B M t ev o new → Stands ring means B M new
+  stands-happens t ev o new keeps s happens = again s.opens.lists s.opens.layout new s.opens.accepted
+      (known-happens ring means keeps B M s.opens.lists s.opens.layout s.opens.accepted t ev o new (known t s) happens)
 
-  pub stands-run : (t : History) (evs : List Event) (new : History) → Keeps ring means → Stands ring means B M t → RunFrom B M t evs new → Stands ring means B M new
-  stands-run t evs new keeps s run = again s.opens.lists s.opens.layout new s.opens.accepted (known-run ring means keeps B M s.opens.lists s.opens.layout s.opens.accepted t evs new (known t s) run)
+  pub stands-run : (t : History) (evs : List Event) (new : History) → Keeps ring means → Stands ring means B M t
+      → RunFrom B M t evs new → Stands ring means B M new
+  stands-run t evs new keeps s run = again s.opens.lists s.opens.layout new s.opens.accepted
+      (known-run ring means keeps B M s.opens.lists s.opens.layout s.opens.accepted t evs new (known t s) run)
 
   pub stands-clean : (t : History) → Cleans ring means → Stands ring means B M t → Clean (reported 0 t.entries) (lists_of t.opening)
   stands-clean t cleans s =
@@ -60,19 +66,27 @@ module _ (ring : Ring) (means : Meaning) (B M : ℕ) where
   stands-goes t goes s = goes B M s.opens.lists s.opens.layout t s.opens.accepted s.meant
 
   pub stands-receiver : (t : History) → Stands ring means B M t → 0 < length t.opening.harts
-  stands-receiver t s = let count : length t.opening.harts ≡ length (opening_at ring.sender ring.receiver s.opens.lists s.opens.layout).harts = ap (λ (o : Start). length o.harts) s.opens.opening in omega (arith, count)
+  stands-receiver t s =
+      let count : length t.opening.harts ≡ length (opening_over ring s.opens.lists s.opens.layout).harts =
+      ap (λ (o : Start). length o.harts) s.opens.opening in
+      omega (arith, count)
 
   -- one event, and a list of events, as a machine answers them
-  pub stands-step : {E : Type 0} (old new : Progress) (ev : Event) (r : Result Outcome E) → Keeps ring means → Stands ring means B M old.history → IfOk r (λ o. Happens B M old.history ev o new.history) → OnErr r (new ≡ old) → Stands ring means B M new.history
+  pub stands-step : {E : Type 0} (old new : Progress) (ev : Event) (r : Result Outcome E) → Keeps ring means
+      → Stands ring means B M old.history → IfOk r (λ o. Happens B M old.history ev o new.history) → OnErr r (new ≡ old)
+      → Stands ring means B M new.history
   stands-step old new ev (Ok o) keeps s happens same = stands-happens old.history ev o new.history keeps s happens
   stands-step old new ev (Err e) keeps s happens same = subst (λ (p : Progress). Stands ring means B M p.history) (sym same) s
 
-  pub stands-ran : {A E : Type 0} (old new : Progress) (evs : List Event) (r : Result A (ℕ × E)) → Keeps ring means → Stands ring means B M old.history → OnOk r (RunFrom B M old.history evs new.history) → IfErr r (λ e. RunFrom B M old.history (take e.0 evs) new.history) → Stands ring means B M new.history
+  pub stands-ran : {A E : Type 0} (old new : Progress) (evs : List Event) (r : Result A (ℕ × E)) → Keeps ring means
+      → Stands ring means B M old.history → OnOk r (RunFrom B M old.history evs new.history)
+      → IfErr r (λ e. RunFrom B M old.history (take e.0 evs) new.history) → Stands ring means B M new.history
   stands-ran old new evs (Ok o) keeps s ran failed = stands-run old.history evs new.history keeps s ran
   stands-ran old new evs (Err e) keeps s ran failed = stands-run old.history (take e.0 evs) new.history keeps s failed
 
   -- what its holder sees is clean
-  pub clean-seen : (p q : Progress) (rs : List Report) → p ≡ q → rs ≡ reported 0 p.history.entries → Cleans ring means → Stands ring means B M p.history → Clean rs (lists_of q.history.opening)
+  pub clean-seen : (p q : Progress) (rs : List Report) → p ≡ q → rs ≡ reported 0 p.history.entries
+      → Cleans ring means → Stands ring means B M p.history → Clean rs (lists_of q.history.opening)
   clean-seen p q rs view is cleans s = subst (λ (z : Progress). Clean rs (lists_of z.history.opening)) view (rw is (stands-clean p.history cleans s))
 
 -- ---- a sender's hart, where a plan asks whether it is ready
@@ -87,9 +101,11 @@ pub record Sender (m : BlockMeaning) (M : ℕ) (t : History) (h : ℕ) : Type 0 
   pub stands : Standing m.sender block numbers.sender state
   pub memory : (a : ℕ) → a % 4 ≡ 0 → memory_word t.opening t.entries a ≡ word_in_memory t.opening t.entries a
 
-pub sender_at : (m : BlockMeaning) (ring : Ring) → 1 ≤ ring.least → (B M : ℕ) (t : History) (h : ℕ) → Stands ring (means_by m) B M t → 1 ≤ h → h < length t.opening.harts → Sender m M t h
+pub sender_at : (m : BlockMeaning) (ring : Ring) → 1 ≤ ring.least → (B M : ℕ) (t : History) (h : ℕ)
+    → Stands ring (means_by m) B M t → 1 ≤ h → h < length t.opening.harts → Sender m M t h
 sender_at m ring some_slot B M t h st some less =
-    let harts : length t.opening.harts ≡ suc (length st.opens.lists) = ap (λ (o : Start). length o.harts) st.opens.opening ∙ ap (λ n. suc n) (senders-length ring.sender st.opens.layout 0 st.opens.lists) in
+    let harts : length t.opening.harts ≡ suc (length st.opens.lists) = ap (λ (o : Start). length o.harts)
+    st.opens.opening ∙ ap (λ n. suc n) (senders-length ring.sender st.opens.layout 0 st.opens.lists) in
     let within : h - 1 < length st.opens.lists = omega (arith, harts, less, some) in
     let same : h - 1 + 1 ≡ h = omega (arith, some) in
     let part = st.meant.parts (h - 1) within in
@@ -101,7 +117,8 @@ sender_at m ring some_slot B M t h st some less =
       state = part.sender.stands;
       at = ap (state_of M t) (sym same) ∙ part.sender.state;
       stands = part.sender.holds;
-      memory = λ a aligned. memory-word t.opening t.entries a (subst OpensWithWords (sym st.opens.opening) st.opens.accepted.empty.small) st.meant.written aligned;
+      memory = λ a aligned. memory-word t.opening t.entries a
+          (subst OpensWithWords (sym st.opens.opening) st.opens.accepted.empty.small) st.meant.written aligned;
     }
 
 -- what is read off its state

@@ -1,6 +1,8 @@
 -- The stores by a list's words, and parts of one fixed list of stores: the ones that are made and have
 -- not landed.
-use Rattle.std.proofs.Common.{ℕ, zero, suc, ◌-◌, ◌<◌, ◌≤◌, ◌≡◌, ◌≢◌, ◌==◌, true, false, if◌then◌else◌, List, [], ◌∷◌, ◌++◌, length, take, length-drop, length-take, min, Option, Some, None, refl, sym, ◌∙◌, ap, subst, arith, eq-eqb, ◌+◌, ◌*◌, ◌⊎◌, inl, inr}
+use Rattle.std.proofs.Common.{ℕ, zero, suc, ◌-◌, ◌<◌, ◌≤◌, ◌≡◌, ◌≢◌, ◌==◌, true, false, if◌then◌else◌, List, [], ◌∷◌}
+use Rattle.std.proofs.Common.{◌++◌, length, take, length-drop, length-take, min, Option, Some, None, refl, sym, ◌∙◌, ap}
+use Rattle.std.proofs.Common.{subst, arith, eq-eqb, ◌+◌, ◌*◌, ◌⊎◌, inl, inr}
 use Rattle.std.specs.List.{slice_get}
 use Rattle.std.proofs.Math.ListN.{drop_of_length-le}
 use Rattle.std.proofs.lemmas.Bool.Decides.{nat_tests}
@@ -24,7 +26,8 @@ window_first (y ∷ ys) (suc k) zero x less is = absurd (omega arith)
 window_first (y ∷ ys) (suc k) (suc n) x less is = window_first ys k n x (omega arith) is
 
 -- the head of a window is the store of its number
-pub first_is : (xs : List (ℕ × ℕ)) (i j : ℕ) (x y : ℕ × ℕ) (rest : List (ℕ × ℕ)) → i < j → slice_get xs i ≡ Some y → window xs i j ≡ x ∷ rest → (x ≡ y) × (rest ≡ window xs (suc i) j)
+pub first_is : (xs : List (ℕ × ℕ)) (i j : ℕ) (x y : ℕ × ℕ) (rest : List (ℕ × ℕ)) → i < j → slice_get xs i ≡ Some y
+    → window xs i j ≡ x ∷ rest → (x ≡ y) × (rest ≡ window xs (suc i) j)
 first_is xs i j x y rest less at is =
     let split : window xs i j ≡ y ∷ window xs (suc i) j = window_first xs i j y less at in
     let same : x ∷ rest ≡ y ∷ window xs (suc i) j = sym is ∙ split in
@@ -39,7 +42,9 @@ some_in xs i j x rest is =
     omega arith
 
 -- whatever the landing of the oldest store of a window gives, the landing of its first element gives
-pub oldest_lands : (P : List (ℕ × ℕ) → Type 0) (Lands : ℕ × ℕ → Type 0) (xs : List (ℕ × ℕ)) (i j : ℕ) (x y : ℕ × ℕ) (rest : List (ℕ × ℕ)) → window xs i j ≡ x ∷ rest → Lands x → slice_get xs i ≡ Some y → (Lands y → P (window xs (suc i) j)) → P rest
+pub oldest_lands : (P : List (ℕ × ℕ) → Type 0) (Lands : ℕ × ℕ → Type 0) (xs : List (ℕ × ℕ)) (i j : ℕ) (x y : ℕ × ℕ)
+    (rest : List (ℕ × ℕ)) → window xs i j ≡ x ∷ rest → Lands x → slice_get xs i ≡ Some y
+    → (Lands y → P (window xs (suc i) j)) → P rest
 oldest_lands P Lands xs i j x y rest first lands at gives =
     let both = first_is xs i j x y rest (some_in xs i j x rest first) at first in
     subst P (sym both.1) (gives (subst Lands both.0 lands))
@@ -99,16 +104,19 @@ newest_made xs i j a v less at =
     ∙ (let same : (a == a) ≡ true = eq-eqb a a refl in rw same refl)
 
 -- what holds of the stores of these numbers holds of those of the window
-pub Each-range : (P : ℕ × ℕ → Type 0) (xs : List (ℕ × ℕ)) (i j : ℕ) → ((t : ℕ) (x : ℕ × ℕ) → i ≤ t → t < j → slice_get xs t ≡ Some x → P x) → Each P (window xs i j)
+pub Each-range : (P : ℕ × ℕ → Type 0) (xs : List (ℕ × ℕ)) (i j : ℕ)
+    → ((t : ℕ) (x : ℕ × ℕ) → i ≤ t → t < j → slice_get xs t ≡ Some x → P x) → Each P (window xs i j)
 Each-range P [] zero zero each t x is = cc
 Each-range P [] zero (suc j) each t x is = cc
 Each-range P [] (suc i) zero each t x is = cc
 Each-range P [] (suc i) (suc j) each t x is = cc
 Each-range P (y ∷ ys) zero zero each t x is = cc
 Each-range P (y ∷ ys) zero (suc j) each zero x is = each 0 x (omega arith) (omega arith) is
-Each-range P (y ∷ ys) zero (suc j) each (suc t) x is = Each-range P ys zero j (λ s z from below at. each (suc s) z (omega arith) (omega (arith, below)) at) t x is
+Each-range P (y ∷ ys) zero (suc j) each (suc t) x is =
+    Each-range P ys zero j (λ s z from below at. each (suc s) z (omega arith) (omega (arith, below)) at) t x is
 Each-range P (y ∷ ys) (suc i) zero each t x is = cc
-Each-range P (y ∷ ys) (suc i) (suc j) each t x is = Each-range P ys i j (λ s z from below at. each (suc s) z (omega (arith, from)) (omega (arith, below)) at) t x is
+Each-range P (y ∷ ys) (suc i) (suc j) each t x is =
+    Each-range P ys i j (λ s z from below at. each (suc s) z (omega (arith, from)) (omega (arith, below)) at) t x is
 
 window_split : (xs : List (ℕ × ℕ)) (i m j : ℕ) → i ≤ m → m ≤ j → window xs i j ≡ window xs i m ++ window xs m j
 window_split [] zero zero zero a b = refl
@@ -126,7 +134,9 @@ window_split (y ∷ ys) (suc i) (suc m) zero a b = absurd (omega arith)
 window_split (y ∷ ys) (suc i) (suc m) (suc j) a b = window_split ys i m j (omega arith) (omega arith)
 
 -- the newest to an address is store s, where none after it goes there
-pub newest_at : (xs : List (ℕ × ℕ)) (i s j a v : ℕ) → i ≤ s → s < j → slice_get xs s ≡ Some (a, v) → ((t : ℕ) (x : ℕ × ℕ) → s < t → t < j → slice_get xs t ≡ Some x → x.0 ≢ a) → newest_to a None (window xs i j) ≡ Some v
+pub newest_at : (xs : List (ℕ × ℕ)) (i s j a v : ℕ) → i ≤ s → s < j → slice_get xs s ≡ Some (a, v)
+    → ((t : ℕ) (x : ℕ × ℕ) → s < t → t < j → slice_get xs t ≡ Some x → x.0 ≢ a)
+    → newest_to a None (window xs i j) ≡ Some v
 newest_at xs i s j a v from below is none =
     ap (newest_to a None) (window_split xs i (suc s) j (omega arith) (omega arith))
     ∙ newest_to-append a None (window xs i (suc s)) (window xs (suc s) j)
@@ -135,7 +145,8 @@ newest_at xs i s j a v from below is none =
 
 -- ---- the stores by a list's words: which one stands at a number
 
-pub single_at : (each : ℕ → ℕ → ℕ × ℕ) (last : ℕ × ℕ) (ws : List ℕ) (k n : ℕ) → k < length ws → n ≡ k → slice_get (singles each last ws) n ≡ Some (each k (slice_index ws k))
+pub single_at : (each : ℕ → ℕ → ℕ × ℕ) (last : ℕ × ℕ) (ws : List ℕ) (k n : ℕ) → k < length ws → n ≡ k
+    → slice_get (singles each last ws) n ≡ Some (each k (slice_index ws k))
 single_at each last (w ∷ ws) zero zero less at = refl
 single_at each last (w ∷ ws) (suc k) (suc n) less at = single_at (λ j v. each (suc j) v) last ws k n (omega arith) (omega arith)
 single_at each last ws k n less at = absurd (omega arith)
@@ -145,12 +156,14 @@ single_last each last [] zero at = refl
 single_last each last (w ∷ ws) (suc n) at = single_last (λ j v. each (suc j) v) last ws n (omega arith)
 single_last each last ws n at = absurd (omega arith)
 
-pub first_at : (f g : ℕ → ℕ → ℕ × ℕ) (last : ℕ × ℕ) (ws : List ℕ) (k n : ℕ) → k < length ws → n ≡ 2 * k → slice_get (pairs f g last ws) n ≡ Some (f k (slice_index ws k))
+pub first_at : (f g : ℕ → ℕ → ℕ × ℕ) (last : ℕ × ℕ) (ws : List ℕ) (k n : ℕ) → k < length ws → n ≡ 2 * k
+    → slice_get (pairs f g last ws) n ≡ Some (f k (slice_index ws k))
 first_at f g last (w ∷ ws) zero zero less at = refl
 first_at f g last (w ∷ ws) (suc k) (suc (suc n)) less at = first_at (λ j v. f (suc j) v) (λ j v. g (suc j) v) last ws k n (omega arith) (omega arith)
 first_at f g last ws k n less at = absurd (omega arith)
 
-pub second_at : (f g : ℕ → ℕ → ℕ × ℕ) (last : ℕ × ℕ) (ws : List ℕ) (k n : ℕ) → k < length ws → n ≡ 2 * k + 1 → slice_get (pairs f g last ws) n ≡ Some (g k (slice_index ws k))
+pub second_at : (f g : ℕ → ℕ → ℕ × ℕ) (last : ℕ × ℕ) (ws : List ℕ) (k n : ℕ) → k < length ws → n ≡ 2 * k + 1
+    → slice_get (pairs f g last ws) n ≡ Some (g k (slice_index ws k))
 second_at f g last (w ∷ ws) zero (suc zero) less at = refl
 second_at f g last (w ∷ ws) (suc k) (suc (suc n)) less at = second_at (λ j v. f (suc j) v) (λ j v. g (suc j) v) last ws k n (omega arith) (omega arith)
 second_at f g last ws k n less at = absurd (omega arith)
@@ -172,7 +185,8 @@ pairs_length f g last (w ∷ ws) = omega (arith, pairs_length (λ j v. f (suc j)
 abbrev pub OfWord : (ℕ → ℕ → ℕ × ℕ) → (ℕ → ℕ) → List ℕ → ℕ → ℕ × ℕ → Type 0
 OfWord each place ws n x = (k : ℕ) × (k < length ws) × (n ≡ place k) × (x ≡ each k (slice_index ws k))
 
-pub single_is : (each : ℕ → ℕ → ℕ × ℕ) (last : ℕ × ℕ) (ws : List ℕ) (n : ℕ) (x : ℕ × ℕ) → slice_get (singles each last ws) n ≡ Some x → OfWord each (λ k. k) ws n x ⊎ ((n ≡ length ws) × (x ≡ last))
+pub single_is : (each : ℕ → ℕ → ℕ × ℕ) (last : ℕ × ℕ) (ws : List ℕ) (n : ℕ) (x : ℕ × ℕ)
+    → slice_get (singles each last ws) n ≡ Some x → OfWord each (λ k. k) ws n x ⊎ ((n ≡ length ws) × (x ≡ last))
 single_is each last [] zero x is = inr (refl, let same : x ≡ last = cc in same)
 single_is each last [] (suc n) x is = cc
 single_is each last (w ∷ ws) zero x is = inl (0, omega arith, refl, let same : x ≡ each 0 w = cc in same)
@@ -182,7 +196,9 @@ single_is each last (w ∷ ws) (suc n) x is =
       | inr over ↦ inr (omega (arith, over.0), over.1)
     ]
 
-pub pair_is : (f g : ℕ → ℕ → ℕ × ℕ) (last : ℕ × ℕ) (ws : List ℕ) (n : ℕ) (x : ℕ × ℕ) → slice_get (pairs f g last ws) n ≡ Some x → OfWord f (λ k. 2 * k) ws n x ⊎ (OfWord g (λ k. 2 * k + 1) ws n x ⊎ ((n ≡ 2 * length ws) × (x ≡ last)))
+pub pair_is : (f g : ℕ → ℕ → ℕ × ℕ) (last : ℕ × ℕ) (ws : List ℕ) (n : ℕ) (x : ℕ × ℕ)
+    → slice_get (pairs f g last ws) n ≡ Some x
+    → OfWord f (λ k. 2 * k) ws n x ⊎ (OfWord g (λ k. 2 * k + 1) ws n x ⊎ ((n ≡ 2 * length ws) × (x ≡ last)))
 pair_is f g last [] zero x is = inr (inr (refl, let same : x ≡ last = cc in same))
 pair_is f g last [] (suc n) x is = cc
 pair_is f g last (w ∷ ws) zero x is = inl (0, omega arith, refl, let same : x ≡ f 0 w = cc in same)
@@ -195,14 +211,17 @@ pair_is f g last (w ∷ ws) (suc (suc n)) x is =
     ]
 
 -- what holds of each of them
-pub singles_each : (P : ℕ × ℕ → Type 0) (each : ℕ → ℕ → ℕ × ℕ) (last : ℕ × ℕ) (ws : List ℕ) → ((k : ℕ) → k < length ws → P (each k (slice_index ws k))) → P last → Each P (singles each last ws)
+pub singles_each : (P : ℕ × ℕ → Type 0) (each : ℕ → ℕ → ℕ × ℕ) (last : ℕ × ℕ) (ws : List ℕ)
+    → ((k : ℕ) → k < length ws → P (each k (slice_index ws k))) → P last → Each P (singles each last ws)
 singles_each P each last ws all end n x is =
     elim (single_is each last ws n x is) [
       | inl of ↦ subst P (sym of.3) (all of.0 of.1)
       | inr over ↦ subst P (sym over.1) end
     ]
 
-pub pairs_each : (P : ℕ × ℕ → Type 0) (f g : ℕ → ℕ → ℕ × ℕ) (last : ℕ × ℕ) (ws : List ℕ) → ((k : ℕ) → k < length ws → P (f k (slice_index ws k)) × P (g k (slice_index ws k))) → P last → Each P (pairs f g last ws)
+pub pairs_each : (P : ℕ × ℕ → Type 0) (f g : ℕ → ℕ → ℕ × ℕ) (last : ℕ × ℕ) (ws : List ℕ)
+    → ((k : ℕ) → k < length ws → P (f k (slice_index ws k)) × P (g k (slice_index ws k))) → P last
+    → Each P (pairs f g last ws)
 pairs_each P f g last ws all end n x is =
     elim (pair_is f g last ws n x is) [
       | inl of ↦ subst P (sym of.3) (all of.0 of.1).0

@@ -6,6 +6,8 @@ use Rattle.step_machine.specs.declared.events.Event.{Event}
 use Rattle.step_machine.specs.History.{Start, History}
 use Rattle.step_machine.specs.Entries.{reported}
 use Rattle.step_machine.specs.Runs.{Run, RunFrom}
+use Rattle.poll_close.specs.Layout.{Layout}
+use Rattle.poll_close.specs.Laws.{Ring, opening_over}
 use Rattle.poll_close.specs.Reports.{taken, Clean}
 use Rattle.poll_close.specs.Plans.{is_closed, is_done}
 
@@ -29,3 +31,10 @@ pub record DeliversWhole (B M : ℕ) (o : Start) (lists : List (List ℕ)) (even
   pub clean : Clean reports lists
   pub closed : (i : ℕ) → i < length lists → is_closed reports i ≡ true
   pub whole : (i : ℕ) → i < length lists → taken reports i ≡ slice_index_or lists i []
+
+-- the same of a channel of this kind in a layout: the lists are those of its opening
+abbrev pub DeliversOver : Ring → ℕ → ℕ → List (List ℕ) → Layout → List Event → List Report → Type 0
+DeliversOver ring B M lists l events reports = Delivers B M (opening_over ring lists l) lists events reports
+
+abbrev pub DeliversWholeOver : Ring → ℕ → ℕ → List (List ℕ) → Layout → List Event → List Report → Type 0
+DeliversWholeOver ring B M lists l events reports = DeliversWhole B M (opening_over ring lists l) lists events reports

@@ -1,11 +1,11 @@
 -- What a ring's meaning has to be: the opening has it, every event keeps it, it gives clean reports.
 use Rattle.std.specs.Prelude.{ℕ, ◌≡◌, ◌≢◌, ◌+◌, ◌*◌, ◌%◌, ◌^◌, ◌≤◌, ◌<◌, List, All, length, slice_index}
 use Rattle.step_machine.specs.declared.events.Entry.{Entry}
-use Rattle.step_machine.specs.History.{History, unrun, with_entry}
+use Rattle.step_machine.specs.History.{Start, History, unrun, with_entry}
 use Rattle.step_machine.specs.Entries.{reported}
 use Rattle.step_machine.specs.Legal.{WellFormed}
 use Rattle.step_machine.specs.Runs.{CanFollow}
-use Rattle.poll_close.specs.Layout.{block_size, Layout, base_of, end_of, opening_at}
+use Rattle.poll_close.specs.Layout.{block_size, Layout, dense, base_of, end_of, opening_at}
 use Rattle.poll_close.specs.Reports.{Clean}
 use Rattle.poll_close.specs.Going.{AllGoOn}
 use Rattle.poll_close.specs.Touching.{AllTouch}
@@ -16,6 +16,14 @@ pub record Ring : Type 0 where
   pub sender : List ℕ
   pub receiver : List ℕ
   pub least : ℕ
+
+-- the opening of a channel of this kind over these lists, in a layout
+abbrev pub opening_over : Ring → List (List ℕ) → Layout → Start
+opening_over ring lists l = opening_at ring.sender ring.receiver lists l
+
+-- and in the dense one, with rings of S slots
+abbrev pub opening_of : Ring → List (List ℕ) → ℕ → Start
+opening_of ring lists S = opening_over ring lists (dense S)
 
 abbrev pub AreWords : List ℕ → Type 0
 AreWords ws = All (λ w. (w < 2 ^ 32) × (w ≢ 0)) ws
@@ -67,13 +75,18 @@ abbrev pub Meaning : Type 1
 Meaning = ℕ → ℕ → List (List ℕ) → Layout → History → Type 0
 
 unfoldable pub Opens : Ring → Meaning → Type 0
-Opens ring means = (B M : ℕ) (lists : List (List ℕ)) (l : Layout) → AcceptedAt ring M lists l → means B M lists l (unrun (opening_at ring.sender ring.receiver lists l))
+Opens ring means = (B M : ℕ) (lists : List (List ℕ)) (l : Layout) → AcceptedAt ring M lists l
+    → means B M lists l (unrun (opening_over ring lists l))
 
 unfoldable pub Keeps : Ring → Meaning → Type 0
-Keeps ring means = (B M : ℕ) (lists : List (List ℕ)) (l : Layout) (t : History) (e : Entry) → AcceptedAt ring M lists l → t.opening ≡ opening_at ring.sender ring.receiver lists l → WellFormed B M t → CanFollow B M t e → means B M lists l t → means B M lists l (with_entry t e)
+Keeps ring means = (B M : ℕ) (lists : List (List ℕ)) (l : Layout) (t : History) (e : Entry)
+    → AcceptedAt ring M lists l → t.opening ≡ opening_over ring lists l → WellFormed B M t
+    → CanFollow B M t e → means B M lists l t → means B M lists l (with_entry t e)
 
 abbrev pub Cleans : Ring → Meaning → Type 0
-Cleans ring means = (B M : ℕ) (lists : List (List ℕ)) (l : Layout) (t : History) → AcceptedAt ring M lists l → t.opening ≡ opening_at ring.sender ring.receiver lists l → WellFormed B M t → means B M lists l t → Clean (reported 0 t.entries) lists
+Cleans ring means = (B M : ℕ) (lists : List (List ℕ)) (l : Layout) (t : History) → AcceptedAt ring M lists l
+    → t.opening ≡ opening_over ring lists l → WellFormed B M t → means B M lists l t
+    → Clean (reported 0 t.entries) lists
 
 -- tables that fit a hart
 abbrev pub AreShort : Ring → Type 0
@@ -85,4 +98,5 @@ Goes ring means = (B M : ℕ) (lists : List (List ℕ)) (l : Layout) (t : Histor
 
 -- and each touches its blocks alone
 abbrev pub Stays : Ring → Meaning → Type 0
-Stays ring means = (B M : ℕ) (lists : List (List ℕ)) (l : Layout) (t : History) → AcceptedAt ring M lists l → means B M lists l t → AllTouch l (length lists) t.entries
+Stays ring means = (B M : ℕ) (lists : List (List ℕ)) (l : Layout) (t : History) → AcceptedAt ring M lists l
+    → means B M lists l t → AllTouch l (length lists) t.entries

@@ -5,6 +5,7 @@ pub mod Going
 pub mod Touching
 pub mod Laws
 pub mod Means
+pub mod Listing
 pub mod Delivery
 pub mod Refusals
 pub mod Standing

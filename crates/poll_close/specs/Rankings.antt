@@ -1,6 +1,7 @@
 -- How far a channel is from its end: what the law of `Finish` speaks of. It serves the proof that a plan
 -- ends; what a plan does is told in Plans.
-use Rattle.std.specs.Prelude.{ℕ, ◌≡◌, ◌+◌, ◌-◌, ◌*◌, ◌/◌, ◌≤◌, ◌<◌, ◌==◌, true, false, Bool, ◌&&◌, ◌||◌, not, if◌then◌else◌, List, [], ◌∷◌, length, Option, Some, None, zero, suc, slice_index}
+use Rattle.std.specs.Prelude.{ℕ, ◌≡◌, ◌+◌, ◌-◌, ◌*◌, ◌/◌, ◌≤◌, ◌<◌, ◌==◌, true, false, Bool, ◌&&◌, ◌||◌, not}
+use Rattle.std.specs.Prelude.{if◌then◌else◌, List, [], ◌∷◌, length, Option, Some, None, zero, suc, slice_index}
 use Rattle.std.specs.List.{slice_index_or}
 use Rattle.hart.specs.State.{HartState}
 use Rattle.hart.specs.declared.status.Status.{Status}
@@ -62,7 +63,14 @@ runs (Some s) = is_running s.status
 
 -- the receiver's distance, by the reports and the harts' states
 abbrev pub around : ℕ → ℕ → List Report → Option HartState → ℕ → Around
-around n size rs sender i = record { took = length (taken rs i); size = size; closed = is_closed rs i; ended = not (runs sender); rest = rest_from rs n (i + 1); start = rest_from rs n 0 }
+around n size rs sender i = record {
+  took = length (taken rs i);
+  size = size;
+  closed = is_closed rs i;
+  ended = not (runs sender);
+  rest = rest_from rs n (i + 1);
+  start = rest_from rs n 0;
+}
 
 abbrev pub receiver_rank : Ranking → ℕ → ℕ → List Report → (ℕ → Option HartState) → HartState → ℕ
 receiver_rank p n size rs states s = p.receiver (around n size rs (states (visited_by s + 1)) (visited_by s)) s

@@ -82,5 +82,6 @@ RefusesAt ring M lists l UnevenStride = HasRing ring lists l.size × (l.base % 4
 RefusesAt ring M lists l BlocksMeet = HasRing ring lists l.size × (l.base % 4 ≡ 0) × (l.stride % 4 ≡ 0) × (l.stride < block_size l.size)
 RefusesAt ring M lists l (Lists DoesNotFit) = HasPlace ring lists l × IsBeyond M (length lists) l
 RefusesAt ring M lists l (FilledBlock word) = HasPlace ring lists l × FitsAt M (length lists) l × FilledAt l (length lists) word
-RefusesAt ring M lists l (Lists (ZeroWord sender place)) = HasPlace ring lists l × FitsAt M (length lists) l × OpensEmpty l (length lists) × ZeroWordAt lists sender place
+RefusesAt ring M lists l (Lists (ZeroWord sender place)) =
+    HasPlace ring lists l × FitsAt M (length lists) l × OpensEmpty l (length lists) × ZeroWordAt lists sender place
 RefusesAt ring M lists l (Lists NoMemory) = AcceptedAt ring M lists l

@@ -2,8 +2,8 @@
 use Rattle.std.specs.Prelude.{ℕ, ◌≡◌, List, drop, map}
 use Rattle.step_machine.specs.History.{HartStart, Start, History}
 use Rattle.step_machine.specs.Legal.{WellFormed}
-use Rattle.poll_close.specs.Layout.{Layout, opening_at}
-use Rattle.poll_close.specs.Laws.{Ring, Meaning, AcceptedAt}
+use Rattle.poll_close.specs.Layout.{Layout}
+use Rattle.poll_close.specs.Laws.{Ring, opening_over, Meaning, AcceptedAt}
 
 -- the lists that an opening's senders were given
 abbrev pub lists_of : Start → List (List ℕ)
@@ -14,7 +14,7 @@ pub record IsOpeningOf (ring : Ring) (M : ℕ) (o : Start) : Type 0 where
   pub lists : List (List ℕ)
   pub layout : Layout
   pub accepted : AcceptedAt ring M lists layout
-  pub opening : o ≡ opening_at ring.sender ring.receiver lists layout
+  pub opening : o ≡ opening_over ring lists layout
 
 pub record Stands (ring : Ring) (means : Meaning) (B M : ℕ) (t : History) : Type 0 where
   pub opens : IsOpeningOf ring M t.opening

@@ -2,8 +2,7 @@
 
 ghost use Rattle.std.specs.Prelude.{◌≡◌, ◌≤◌, ◌<◌, ◌+◌, ℕ, List, IsOk, IfOk, IfErr, OnOk, OnErr, map, take, length};
 ghost use Rattle.step_machine.specs.Runs.{event_of};
-ghost use Rattle.poll_close.specs.Layout.{opening_of, opening_at};
-ghost use Rattle.poll_close.specs.Laws.{Accepted, AcceptedAt};
+ghost use Rattle.poll_close.specs.Laws.{Accepted, AcceptedAt, opening_of, opening_over};
 ghost use Rattle.poll_close.specs.Places.{layout_of};
 ghost use Rattle.poll_close.specs.Refusals.{Refuses, RefusesAt};
 
@@ -16,7 +15,7 @@ use hart::need::Report;
 use std::alloc::{AllocError, Global};
 use std::marker::{Model, PhantomData};
 use step_machine::laws::laws_of_runs;
-use step_machine::{Entry, Event, Machine, Outcome, Trace};
+use step_machine::{Entries, Event, Machine, Outcome, Trace};
 
 /// A channel of a kind of ring, over harts with store buffers of `B` pairs and a memory of `M` words. A
 /// contract sees its machine: the history, which stands as the ring's laws say, and for how many more
@@ -53,7 +52,7 @@ impl<K: RingKind, const B: usize, const M: usize> Channel<K, B, M> {
         requires capacity { B ≤ 64 }
         requires some_word { 1 ≤ M }
         requires memory { M ≤ 65536 }
-        ensures value { IfOk result (λ c. c.history ≡ unrun (opening_of K.ring.sender K.ring.receiver (map (λ v. v.items) lists.now) ring)) }
+        ensures value { IfOk result (λ c. c.history ≡ unrun (opening_of K.ring (map (λ v. v.items) lists.now) ring)) }
         ensures accepted { OnOk result (Accepted K.ring M (map (λ v. v.items) lists.now) ring) }
         ensures refused { IfErr result (λ e. Refuses K.ring M (map (λ v. v.items) lists.now) ring e) }
     {
@@ -78,7 +77,7 @@ impl<K: RingKind, const B: usize, const M: usize> Channel<K, B, M> {
         requires capacity { B ≤ 64 }
         requires some_word { 1 ≤ M }
         requires memory { M ≤ 65536 }
-        ensures value { IfOk result (λ c. c.history ≡ unrun (opening_at K.ring.sender K.ring.receiver (map (λ v. v.items) lists.now) (layout_of place words.now))) }
+        ensures value { IfOk result (λ c. c.history ≡ unrun (opening_over K.ring (map (λ v. v.items) lists.now) (layout_of place words.now))) }
         ensures accepted { OnOk result (AcceptedAt K.ring M (map (λ v. v.items) lists.now) (layout_of place words.now)) }
         ensures refused { IfErr result (λ e. RefusesAt K.ring M (map (λ v. v.items) lists.now) (layout_of place words.now) e) }
     {
@@ -166,10 +165,10 @@ impl<K: Finish<B, M>, const B: usize, const M: usize> Channel<K, B, M> {
 }
 
 /// The entries' events.
-fn events_of(alloc: Global, entries: &[Entry]) -> Result<Vec<Event>, AllocError>
-    ensures { IfOk result (λ v. v.items ≡ map event_of entries.now) }
+fn events_of(alloc: Global, entries: Entries<'_>) -> Result<Vec<Event>, AllocError>
+    ensures { IfOk result (λ v. v.items ≡ map event_of entries.entry) }
 {
-    entries.iter().map(|entry| entry.event()).collect(alloc)
+    entries.map(|entry| entry.event()).collect(alloc)
 }
 
 /// A second machine with the same history.

@@ -5,14 +5,14 @@ ghost use Rattle.step_machine.specs.History.{History, FitsIn, unrun};
 ghost use Rattle.step_machine.specs.Entries.{reported};
 ghost use Rattle.step_machine.specs.Runs.{Run};
 ghost use Rattle.step_machine.specs.declared.events.Event.{Event};
-ghost use Rattle.poll_close.specs.Layout.{Layout, opening_of, opening_at};
-ghost use Rattle.poll_close.specs.Laws.{Accepted, AcceptedAt};
+ghost use Rattle.poll_close.specs.Layout.{Layout, dense};
+ghost use Rattle.poll_close.specs.Laws.{Accepted, AcceptedAt, opening_of, opening_over};
 ghost use Rattle.poll_close.specs.Places.{layout_of};
 ghost use Rattle.poll_close.specs.Refusals.{Refuses, RefusesAt};
 ghost use Rattle.poll_close.specs.Reports.{Clean};
 ghost use Rattle.poll_close.specs.Going.{AllGoOn};
 ghost use Rattle.poll_close.specs.Touching.{AllTouch};
-ghost use Rattle.poll_close.specs.Delivery.{Delivers, DeliversWhole};
+ghost use Rattle.poll_close.specs.Delivery.{Delivers, DeliversOver, DeliversWhole, DeliversWholeOver};
 ghost use Rattle.poll_close.specs.Standing.{Stands, lists_of};
 ghost use Rattle.poll_close.specs.Plans.{CanFinish};
 
@@ -37,7 +37,7 @@ fn reports_of<K: RingKind, const B: usize, const M: usize>(
     requires capacity { B ≤ 64 }
     requires some_word { 1 ≤ M }
     requires memory { M ≤ 65536 }
-    requires opens { (l : Layout) × AcceptedAt K.ring M (map (λ v. v.items) lists.now) l × (opening ≡ opening_at K.ring.sender K.ring.receiver (map (λ v. v.items) lists.now) l) }
+    requires opens { (l : Layout) × AcceptedAt K.ring M (map (λ v. v.items) lists.now) l × (opening ≡ opening_over K.ring (map (λ v. v.items) lists.now) l) }
     ensures { IfOk result (λ r. Delivers B M opening (map (λ v. v.items) lists.now) events.now r.items) }
 {
     K::laws();
@@ -61,7 +61,7 @@ pub fn deliver<K: RingKind, const B: usize, const M: usize>(
     requires capacity { B ≤ 64 }
     requires some_word { 1 ≤ M }
     requires memory { M ≤ 65536 }
-    ensures delivers { IfOk result (λ r. Delivers B M (opening_of K.ring.sender K.ring.receiver (map (λ v. v.items) lists.now) ring) (map (λ v. v.items) lists.now) events.now r.items) }
+    ensures delivers { IfOk result (λ r. DeliversOver K.ring B M (map (λ v. v.items) lists.now) (dense ring) events.now r.items) }
     ensures accepted { OnOk result (Accepted K.ring M (map (λ v. v.items) lists.now) ring) }
     ensures refused { IfErr result (λ e. Refuses K.ring M (map (λ v. v.items) lists.now) ring e) }
 {
@@ -82,7 +82,7 @@ pub fn deliver_at<K: RingKind, const B: usize, const M: usize>(
     requires capacity { B ≤ 64 }
     requires some_word { 1 ≤ M }
     requires memory { M ≤ 65536 }
-    ensures delivers { IfOk result (λ r. Delivers B M (opening_at K.ring.sender K.ring.receiver (map (λ v. v.items) lists.now) (layout_of place words.now)) (map (λ v. v.items) lists.now) events.now r.items) }
+    ensures delivers { IfOk result (λ r. DeliversOver K.ring B M (map (λ v. v.items) lists.now) (layout_of place words.now) events.now r.items) }
     ensures accepted { OnOk result (AcceptedAt K.ring M (map (λ v. v.items) lists.now) (layout_of place words.now)) }
     ensures refused { IfErr result (λ e. RefusesAt K.ring M (map (λ v. v.items) lists.now) (layout_of place words.now) e) }
 {
@@ -123,7 +123,7 @@ pub fn deliver_whole<K: Finish<B, M>, const B: usize, const M: usize>(
     requires capacity { B ≤ 64 }
     requires some_word { 1 ≤ M }
     requires memory { M ≤ 65536 }
-    ensures whole { IfOk result (λ r. DeliversWhole B M (opening_of K.RingKind.ring.sender K.RingKind.ring.receiver (map (λ v. v.items) lists.now) ring) (map (λ v. v.items) lists.now) events.now r.items) }
+    ensures whole { IfOk result (λ r. DeliversWholeOver K.RingKind.ring B M (map (λ v. v.items) lists.now) (dense ring) events.now r.items) }
     ensures accepted { OnOk result (Accepted K.RingKind.ring M (map (λ v. v.items) lists.now) ring) }
     ensures refused { IfErr result (λ e. Refuses K.RingKind.ring M (map (λ v. v.items) lists.now) ring e) }
 {
@@ -144,7 +144,7 @@ pub fn deliver_whole_at<K: Finish<B, M>, const B: usize, const M: usize>(
     requires capacity { B ≤ 64 }
     requires some_word { 1 ≤ M }
     requires memory { M ≤ 65536 }
-    ensures whole { IfOk result (λ r. DeliversWhole B M (opening_at K.RingKind.ring.sender K.RingKind.ring.receiver (map (λ v. v.items) lists.now) (layout_of place words.now)) (map (λ v. v.items) lists.now) events.now r.items) }
+    ensures whole { IfOk result (λ r. DeliversWholeOver K.RingKind.ring B M (map (λ v. v.items) lists.now) (layout_of place words.now) events.now r.items) }
     ensures accepted { OnOk result (AcceptedAt K.RingKind.ring M (map (λ v. v.items) lists.now) (layout_of place words.now)) }
     ensures refused { IfErr result (λ e. RefusesAt K.RingKind.ring M (map (λ v. v.items) lists.now) (layout_of place words.now) e) }
 {
@@ -156,15 +156,15 @@ pub fn deliver_whole_at<K: Finish<B, M>, const B: usize, const M: usize>(
 /// receiver reports is clean, no hart is stopped, and each hart touches its blocks alone, whatever made
 /// the events. It does nothing.
 pub fn laws_of_channels<K: RingKind>()
-    ensures fits { (M : ℕ) (lists : List (List ℕ)) (S : ℕ) → Accepted K.ring M lists S → FitsIn M (opening_of K.ring.sender K.ring.receiver lists S) }
-    ensures clean { (B M : ℕ) (lists : List (List ℕ)) (S : ℕ) (events : List Event) (t : History) → Accepted K.ring M lists S → Run B M (opening_of K.ring.sender K.ring.receiver lists S) events t → Clean (reported 0 t.entries) lists }
-    ensures stands { (B M : ℕ) (lists : List (List ℕ)) (S : ℕ) (events : List Event) (t : History) → Accepted K.ring M lists S → Run B M (opening_of K.ring.sender K.ring.receiver lists S) events t → Stands K.ring K.meaning B M t }
-    ensures goes { (B M : ℕ) (lists : List (List ℕ)) (S : ℕ) (events : List Event) (t : History) → Accepted K.ring M lists S → Run B M (opening_of K.ring.sender K.ring.receiver lists S) events t → AllGoOn t.entries }
-    ensures fits_at { (M : ℕ) (lists : List (List ℕ)) (l : Layout) → AcceptedAt K.ring M lists l → FitsIn M (opening_at K.ring.sender K.ring.receiver lists l) }
-    ensures clean_at { (B M : ℕ) (lists : List (List ℕ)) (l : Layout) (events : List Event) (t : History) → AcceptedAt K.ring M lists l → Run B M (opening_at K.ring.sender K.ring.receiver lists l) events t → Clean (reported 0 t.entries) lists }
-    ensures stands_at { (B M : ℕ) (lists : List (List ℕ)) (l : Layout) (events : List Event) (t : History) → AcceptedAt K.ring M lists l → Run B M (opening_at K.ring.sender K.ring.receiver lists l) events t → Stands K.ring K.meaning B M t }
-    ensures goes_at { (B M : ℕ) (lists : List (List ℕ)) (l : Layout) (events : List Event) (t : History) → AcceptedAt K.ring M lists l → Run B M (opening_at K.ring.sender K.ring.receiver lists l) events t → AllGoOn t.entries }
-    ensures touches { (B M : ℕ) (lists : List (List ℕ)) (l : Layout) (events : List Event) (t : History) → AcceptedAt K.ring M lists l → Run B M (opening_at K.ring.sender K.ring.receiver lists l) events t → AllTouch l (length lists) t.entries }
+    ensures fits { (M : ℕ) (lists : List (List ℕ)) (S : ℕ) → Accepted K.ring M lists S → FitsIn M (opening_of K.ring lists S) }
+    ensures clean { (B M : ℕ) (lists : List (List ℕ)) (S : ℕ) (events : List Event) (t : History) → Accepted K.ring M lists S → Run B M (opening_of K.ring lists S) events t → Clean (reported 0 t.entries) lists }
+    ensures stands { (B M : ℕ) (lists : List (List ℕ)) (S : ℕ) (events : List Event) (t : History) → Accepted K.ring M lists S → Run B M (opening_of K.ring lists S) events t → Stands K.ring K.meaning B M t }
+    ensures goes { (B M : ℕ) (lists : List (List ℕ)) (S : ℕ) (events : List Event) (t : History) → Accepted K.ring M lists S → Run B M (opening_of K.ring lists S) events t → AllGoOn t.entries }
+    ensures fits_at { (M : ℕ) (lists : List (List ℕ)) (l : Layout) → AcceptedAt K.ring M lists l → FitsIn M (opening_over K.ring lists l) }
+    ensures clean_at { (B M : ℕ) (lists : List (List ℕ)) (l : Layout) (events : List Event) (t : History) → AcceptedAt K.ring M lists l → Run B M (opening_over K.ring lists l) events t → Clean (reported 0 t.entries) lists }
+    ensures stands_at { (B M : ℕ) (lists : List (List ℕ)) (l : Layout) (events : List Event) (t : History) → AcceptedAt K.ring M lists l → Run B M (opening_over K.ring lists l) events t → Stands K.ring K.meaning B M t }
+    ensures goes_at { (B M : ℕ) (lists : List (List ℕ)) (l : Layout) (events : List Event) (t : History) → AcceptedAt K.ring M lists l → Run B M (opening_over K.ring lists l) events t → AllGoOn t.entries }
+    ensures touches { (B M : ℕ) (lists : List (List ℕ)) (l : Layout) (events : List Event) (t : History) → AcceptedAt K.ring M lists l → Run B M (opening_over K.ring lists l) events t → AllTouch l (length lists) t.entries }
 {
     K::laws();
 }
@@ -174,8 +174,8 @@ pub fn laws_of_channels<K: RingKind>()
 #[tactic(auto, using(crate::proofs::Planning::can_finish, crate::proofs::Planning::run_can_finish, crate::proofs::Planning::dense_can_finish))]
 pub fn laws_of_plans<K: Finish<B, M>, const B: usize, const M: usize>()
     ensures standing { (capacity memory : ℕ) (t : History) → 1 ≤ capacity → Stands K.RingKind.ring K.RingKind.meaning capacity memory t → CanFinish capacity memory t }
-    ensures running { (capacity memory : ℕ) (lists : List (List ℕ)) (S : ℕ) (events : List Event) (t : History) → 1 ≤ capacity → Accepted K.RingKind.ring memory lists S → Run capacity memory (opening_of K.RingKind.ring.sender K.RingKind.ring.receiver lists S) events t → CanFinish capacity memory t }
-    ensures running_at { (capacity memory : ℕ) (lists : List (List ℕ)) (l : Layout) (events : List Event) (t : History) → 1 ≤ capacity → AcceptedAt K.RingKind.ring memory lists l → Run capacity memory (opening_at K.RingKind.ring.sender K.RingKind.ring.receiver lists l) events t → CanFinish capacity memory t }
+    ensures running { (capacity memory : ℕ) (lists : List (List ℕ)) (S : ℕ) (events : List Event) (t : History) → 1 ≤ capacity → Accepted K.RingKind.ring memory lists S → Run capacity memory (opening_of K.RingKind.ring lists S) events t → CanFinish capacity memory t }
+    ensures running_at { (capacity memory : ℕ) (lists : List (List ℕ)) (l : Layout) (events : List Event) (t : History) → 1 ≤ capacity → AcceptedAt K.RingKind.ring memory lists l → Run capacity memory (opening_over K.RingKind.ring lists l) events t → CanFinish capacity memory t }
 {
     K::laws();
     K::falls();

@@ -8,6 +8,7 @@ pub mod channel;
 pub mod delivery;
 pub mod faults;
 pub mod kind;
+pub mod listing;
 pub mod openings;
 pub mod place;
 pub mod plans;

@@ -1,8 +1,8 @@
 //! The opening of a channel, and when there is none.
 
 ghost use Rattle.std.specs.Prelude.{◌≡◌, ◌≤◌, ◌<◌, ◌*◌, ◌+◌, ◌^◌, ℕ, List, All, IfOk, IfErr, OnOk, IsOk, MatchOption, map, length, true, false, []};
-ghost use Rattle.poll_close.specs.Layout.{opening_of, opening_at, senders_from, sender_registers, base_of, block_size};
-ghost use Rattle.poll_close.specs.Laws.{Accepted, AcceptedAt, AreWords, IsInBlocks, OpensEmpty};
+ghost use Rattle.poll_close.specs.Layout.{senders_from, sender_registers, base_of, block_size};
+ghost use Rattle.poll_close.specs.Laws.{Accepted, AcceptedAt, AreWords, IsInBlocks, OpensEmpty, opening_of, opening_over};
 ghost use Rattle.poll_close.specs.Places.{layout_of, stride_or_dense};
 ghost use Rattle.poll_close.specs.Refusals.{Refuses, RefusesAt, FitsAt, IsBeyond, FilledAt, ZeroAt, ZeroWordAt};
 
@@ -113,7 +113,7 @@ fn lay_out<K: RingKind>(
     requires few { length lists.now < 2 ^ 32 }
     requires ends { base_of (layout_of place words.now) (length lists.now) < 2 ^ 32 }
     requires slots { 4 * place.ring < 2 ^ 32 }
-    ensures { IfOk result (λ o. o ≡ opening_at K.ring.sender K.ring.receiver (map (λ v. v.items) lists.now) (layout_of place words.now)) }
+    ensures { IfOk result (λ o. o ≡ opening_over K.ring (map (λ v. v.items) lists.now) (layout_of place words.now)) }
 {
     let stride = place.stride_or_dense();
     let mut registers = [0; 32];
@@ -146,7 +146,7 @@ pub fn opening<K: RingKind>(
 ) -> Result<Opening, Refused>
     requires memory { m ≤ 65536 }
     ensures accepted { OnOk result (Accepted K.ring m (map (λ v. v.items) lists.now) ring) }
-    ensures value { IfOk result (λ o. o ≡ opening_of K.ring.sender K.ring.receiver (map (λ v. v.items) lists.now) ring) }
+    ensures value { IfOk result (λ o. o ≡ opening_of K.ring (map (λ v. v.items) lists.now) ring) }
     ensures refused { IfErr result (λ e. Refuses K.ring m (map (λ v. v.items) lists.now) ring e) }
 {
     judge::<K>(lists, ring, m)?;
@@ -257,7 +257,7 @@ pub fn opening_at<K: RingKind>(
 ) -> Result<Opening, RefusedAt>
     requires memory { m ≤ 65536 }
     ensures accepted { OnOk result (AcceptedAt K.ring m (map (λ v. v.items) lists.now) (layout_of place words.now)) }
-    ensures value { IfOk result (λ o. o ≡ opening_at K.ring.sender K.ring.receiver (map (λ v. v.items) lists.now) (layout_of place words.now)) }
+    ensures value { IfOk result (λ o. o ≡ opening_over K.ring (map (λ v. v.items) lists.now) (layout_of place words.now)) }
     ensures refused { IfErr result (λ e. RefusesAt K.ring m (map (λ v. v.items) lists.now) (layout_of place words.now) e) }
 {
     judge_at::<K>(lists, place, words, m)?;

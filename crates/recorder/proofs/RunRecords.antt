@@ -1,7 +1,8 @@
 -- Records of runs, one more step at a time, and checks of them.
-use Rattle.std.proofs.Common.{◌≡◌, ℕ, zero, suc, ◌+◌, ◌<◌, List, [], ◌∷◌, ◌++◌, length, take, get_or, Some, refl, sym, ap, subst, ◌∙◌}
+use Rattle.std.proofs.Common.{◌≡◌, ◌≢◌, ℕ, zero, suc, ◌+◌, ◌<◌, List, [], ◌∷◌, ◌++◌, length, take, get_or, Some, refl, sym, ap, subst, ◌∙◌}
 use Rattle.std.specs.List.{slice_get}
 use Rattle.std.proofs.lemmas.List.{take_more}
+use Rattle.std.proofs.lemmas.Option.{slice_get-get_or}
 use Rattle.step_machine.specs.History.{Start, History, unrun}
 use Rattle.step_machine.specs.Runs.{Happens, RunFrom, Run}
 use Rattle.step_machine.specs.declared.events.Event.{Event}
@@ -27,6 +28,20 @@ record_more B M t steps i d mid new within is happens = subst (λ (front : List 
 
 pub checked_more : (B M : ℕ) (t : History) (steps : List Step) (i : ℕ) (d : Step) (mid : History) (o : Outcome) (new : History) → i < length steps → RecordFrom B M t (take i steps) mid → Happens B M mid (get_or steps i d).0 o new → o ≡ (get_or steps i d).1 → RecordFrom B M t (take (i + 1) steps) new
 checked_more B M t steps i d mid o new within is happens same = record_more B M t steps i d mid new within is (subst (λ (p : Outcome). Happens B M mid (get_or steps i d).0 p new) same happens)
+
+-- or the next has another outcome than it says
+pub differs_here : (B M : ℕ) (o : Start) (steps : List Step) (i : ℕ) (d : Step) (mid : History) (out : Outcome) (new : History) → i < length steps
+    → IsRunRecord B M o (take i steps) mid → Happens B M mid (get_or steps i d).0 out new → out ≢ (get_or steps i d).1 → DiffersAt B M o steps i
+differs_here B M o steps i d mid out new within is happens other = record {
+  before = mid;
+  is_record = is;
+  step = get_or steps i d;
+  stands = slice_get-get_or steps i d within;
+  outcome = out;
+  after = new;
+  happens = happens;
+  other = other;
+}
 
 -- ---- the events of a record
 

@@ -24,6 +24,7 @@ pub mod outcomes;
 pub mod reading;
 pub mod records;
 pub mod replaying;
+pub mod running;
 mod tokens;
 pub mod versions;
 pub mod writing;
@@ -37,6 +38,7 @@ pub use laws::{
 pub use outcomes::{push_entry_line, push_outcome_line};
 pub use reading::{MAX_EVENTS, push_tokens_of, read_plain, read_tokens};
 pub use records::{read_record, write_record};
-pub use replaying::{CheckError, record, replay, replay_checked};
+pub use replaying::{CheckError, replay, replay_checked};
+pub use running::{check_record, record, replay_state};
 pub use versions::{Schedule, read_either, read_schedule};
 pub use writing::{push_tokens, write_schedule};

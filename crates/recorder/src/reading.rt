@@ -134,6 +134,19 @@ fn tokens_behind(alloc: Global, text: &[u8], before: usize) -> Result<Vec<Event>
     tokens_within(alloc, text, 0, room)
 }
 
+/// Appends the events of a list, or nothing where memory runs out. The list isn't copied where no event
+/// stands before it.
+fn push_list(events: &mut Vec<Event>, list: Vec<Event>) -> Result<(), AllocError>
+    ensures ok { OnOk result (events.new.items ≡ events.old.items ++ list.items) }
+    ensures err { OnErr result (events.new.items ≡ events.old.items) }
+{
+    if events.is_empty() {
+        *events = list;
+        return Ok(());
+    }
+    events.extend_from_slice(&list)
+}
+
 /// Appends the events for which the tokens of a further text stand; at an `Err` the events stay as
 /// they were.
 ///
@@ -146,6 +159,6 @@ pub fn push_tokens_of(events: &mut Vec<Event>, text: &[u8]) -> Result<(), Schedu
     ensures exact { Pushes events.old.items events.new.items result (tokens_after (vec_len events.old) text.now) }
 {
     let read = tokens_behind(*events.allocator(), text, events.len())?;
-    events.extend_from_slice(&read)?;
+    push_list(events, read)?;
     Ok(())
 }

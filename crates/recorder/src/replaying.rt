@@ -1,9 +1,8 @@
-//! Replaying schedules, and records of runs.
+//! Replaying schedules, and checking records as they are replayed.
 
 ghost use Rattle.std.specs.Prelude.{◌≡◌, ◌≤◌, ◌↔◌, IsTrue, IfOk, IfErr};
-ghost use Rattle.step_machine.specs.History.{History, FitsIn};
+ghost use Rattle.step_machine.specs.History.{FitsIn};
 ghost use Rattle.step_machine.specs.Runs.{Run};
-ghost use Rattle.recorder.specs.Records.{events_in};
 ghost use Rattle.recorder.specs.Outcomes.{is_same_outcome};
 ghost use Rattle.recorder.specs.Replaying.{IsRunRecord, DiffersAt, Differs as SaysDiffers};
 
@@ -30,29 +29,6 @@ pub fn replay<const B: usize, const M: usize>(
         Ok(()) => Ok(machine),
         Err((_, error)) => Err(error),
     }
-}
-
-/// The record of the run of these events from the opening: each event, in order, with its outcome.
-pub fn record<const B: usize, const M: usize>(
-    alloc: Global,
-    opening: Opening,
-    events: &[Event],
-) -> Result<Vec<(Event, Outcome)>, AllocError>
-    requires some_capacity { 1 ≤ B }
-    requires capacity { B ≤ 64 }
-    requires some_word { 1 ≤ M }
-    requires size { M ≤ 65536 }
-    requires fits { FitsIn M opening }
-    ensures events { IfOk result (λ steps. events_in steps.items ≡ events.now) }
-    ensures outcomes { IfOk result (λ steps. (history : History) × IsRunRecord B M opening steps.items history) }
-{
-    let mut machine = Machine::<B, M>::open(alloc, opening)?;
-    let mut steps = Vec::new(alloc);
-    for event in events {
-        let outcome = machine.step(*event)?;
-        steps.push((*event, outcome))?;
-    }
-    Ok(steps)
 }
 
 /// Why a record is not replayed.

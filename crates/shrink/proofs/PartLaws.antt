@@ -52,7 +52,8 @@ idle_first ev evs t mid new same added = record {
   part = without_first ev (map event_of added.es) evs added.part;
 }
 
-added_first : (B M : ℕ) (t mid new : History) (ev : Event) (evs : List Event) (o : Outcome) → Happens B M t ev o mid → Added mid evs new → Added t (ev ∷ evs) new
+added_first : (B M : ℕ) (t mid new : History) (ev : Event) (evs : List Event) (o : Outcome) → Happens B M t ev o mid
+    → Added mid evs new → Added t (ev ∷ evs) new
 added_first B M t mid new ev evs (outcome.Did e) happens added = record {
   es = e ∷ added.es;
   after = added.after ∙ ap (λ (u : History). u.entries ++ added.es) happens.after ∙ append_assoc t.entries (e ∷ []) added.es;

@@ -31,10 +31,13 @@ pass_start Ends old size ends = record {
 }
 
 pub length-without : (from count : ℕ) (es : List Event) → from + count ≤ length es → length (without from count es) + count ≡ length es
-length-without from count es within = omega (arith, within, length-append (take from es) (drop (from + count) es), length-take from es, length-drop (from + count) es)
+length-without from count es within =
+    omega (arith, within, length-append (take from es) (drop (from + count) es), length-take from es, length-drop (from + count) es)
 
 -- the piece goes
-pub pass_without : (Ends : List Event → Type 0) (old now left : List Event) (size from count : ℕ) (gone : Bool) → Passing Ends old now size from gone → 1 ≤ count → from + count ≤ length now → left ≡ without from count now → Ends left → Passing Ends old left size from true
+pub pass_without : (Ends : List Event → Type 0) (old now left : List Event) (size from count : ℕ) (gone : Bool)
+    → Passing Ends old now size from gone → 1 ≤ count → from + count ≤ length now → left ≡ without from count now
+    → Ends left → Passing Ends old left size from true
 pass_without Ends old now left size from count gone pass some within is ends = record {
   ends = ends;
   part = rw is (part_of_part (without from count now) now old (part_without from count now) pass.part);
@@ -56,7 +59,9 @@ without-min from size es within =
     rw same (ap (λ (rest : List Event). take from es ++ rest) (drop_min (from + size) es))
 
 -- the piece stays
-pub pass_beyond : (Ends : List Event → Type 0) (old now left : List Event) (size from count : ℕ) (gone : Bool) → Passing Ends old now size from gone → from < length now → count ≡ min size (length now - from) → left ≡ without from count now → (Ends left → ⊥) → Passing Ends old now size (from + count) gone
+pub pass_beyond : (Ends : List Event → Type 0) (old now left : List Event) (size from count : ℕ) (gone : Bool)
+    → Passing Ends old now size from gone → from < length now → count ≡ min size (length now - from)
+    → left ≡ without from count now → (Ends left → ⊥) → Passing Ends old now size (from + count) gone
 pass_beyond Ends old now left size from count gone pass within cut is stays = record {
   ends = pass.ends;
   part = pass.part;
@@ -83,7 +88,9 @@ pass_beyond Ends old now left size from count gone pass within cut is stays = re
             ]
 
 -- at the end each piece of a pass in which nothing went was tried
-pub pass_end : (Ends : List Event → Type 0) (old now : List Event) (size from : ℕ) → Passing Ends old now size from false → length now ≤ from → (k : ℕ) → k * size < length now → Ends (without (k * size) size now) → ⊥
+pub pass_end : (Ends : List Event → Type 0) (old now : List Event) (size from : ℕ)
+    → Passing Ends old now size from false → length now ≤ from → (k : ℕ) → k * size < length now
+    → Ends (without (k * size) size now) → ⊥
 pass_end Ends old now size from pass past k within = before.none k below
   where
     before : NoneBefore Ends now size from
@@ -93,5 +100,7 @@ pass_end Ends old now size from pass past k within = before.none k below
     below = lt_of_mul-lt-mul_right size (omega (arith, before.there, past, within))
 
 -- pieces of one event are single events
-pub single_events : (Ends : List Event → Type 0) (es : List Event) → ((k : ℕ) → k * 1 < length es → Ends (without (k * 1) 1 es) → ⊥) → (i : ℕ) → i < length es → Ends (without i 1 es) → ⊥
+pub single_events : (Ends : List Event → Type 0) (es : List Event)
+    → ((k : ℕ) → k * 1 < length es → Ends (without (k * 1) 1 es) → ⊥) → (i : ℕ) → i < length es → Ends (without i 1 es)
+    → ⊥
 single_events Ends es none i within = let one : i * 1 ≡ i = omega arith in subst (λ (k : ℕ). k < length es → Ends (without k 1 es) → ⊥) one (none i) within

@@ -60,7 +60,8 @@ fn leave_out_pieces<const B: usize, const M: usize>(
     Ok(went)
 }
 
-/// Leaves out pieces of half the events, and then of half that size, down to two events.
+/// Leaves out pieces of half the events, of half that size and so on, while a piece has two events or more.
+/// Sizes are rounded down: the last one is 2 or 3, and of fewer than four events no piece is tried.
 fn halve_pieces<const B: usize, const M: usize>(
     alloc: Global,
     test: &Test,

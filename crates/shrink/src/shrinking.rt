@@ -12,17 +12,13 @@ use crate::trying::{is_finished, run_again};
 use litmus::Test;
 use std::alloc::{AllocError, Global};
 use step_machine::laws::laws_of_runs;
-use step_machine::{Entry, Event, Machine};
+use step_machine::{Entries, Event, Machine};
 
 /// The events by which these entries came about.
-fn events_of(alloc: Global, entries: &[Entry]) -> Result<Vec<Event>, AllocError>
-    ensures { IfOk result (λ events. events.items ≡ map event_of entries.now) }
+fn events_of(alloc: Global, entries: Entries<'_>) -> Result<Vec<Event>, AllocError>
+    ensures { IfOk result (λ events. events.items ≡ map event_of entries.entry) }
 {
-    let mut events = Vec::with_capacity(alloc, entries.len())?;
-    for entry in entries {
-        events.push(entry.event())?;
-    }
-    Ok(events)
+    entries.map(|entry| entry.event()).collect(alloc)
 }
 
 /// Leaves events out of a test's run, until each one that is left is needed for the outcome: for a run
@@ -44,7 +40,7 @@ pub fn shrink_run<const B: usize, const M: usize>(
     if !is_finished(test, &machine) {
         return Err(ShrinkError::NotFinished);
     }
-    let last = test.values(alloc, &machine)?;
+    let last = test.values(alloc, machine.machine_state())?;
     let mut left = events_of(alloc, machine.entries())?;
     let mut again = machine;
     leave_out(alloc, test, &mut again, &last, &mut left)?;

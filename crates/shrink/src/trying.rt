@@ -34,7 +34,7 @@ pub(crate) fn is_finished<const B: usize, const M: usize>(
     requires names { length test.now.names ≤ M }
     ensures { IsTrue result ↔ IsFinished M machine.now.history }
 {
-    match test.verdict(machine) {
+    match test.verdict(machine.machine_state()) {
         Verdict::Holds => true,
         Verdict::Fails => true,
         Verdict::Unfinished => false,
@@ -65,6 +65,6 @@ pub(crate) fn ends_with<const B: usize, const M: usize>(
     if !is_finished(test, machine) {
         return Ok(false);
     }
-    let values = test.values(alloc, machine)?;
+    let values = test.values(alloc, machine.machine_state())?;
     Ok(are_same(&values, last))
 }

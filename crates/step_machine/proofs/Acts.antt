@@ -173,9 +173,6 @@ module _ (B M : ℕ) (t : History) (h : ℕ) (s : HartState) (kept : WellFormed 
 pub land_happens : (B M : ℕ) (t : History) (h : ℕ) (s : HartState) (w : Write) (ws : List Write) → WellFormed B M t → state_of M t h ≡ Some s → pending h t.entries ≡ w ∷ ws → Happens B M t (event.Land h) (outcome.Did (entry.Land h)) (with_entry t (entry.Land h))
 land_happens B M t h s w ws kept is some = some_land B M t h s (w ∷ ws) kept is (sym some)
 
-pub landing_writes : (h : ℕ) (es : List Entry) (w : Write) (ws : List Write) → pending h es ≡ w ∷ ws → write_of es (entry.Land h) ≡ w ∷ []
-landing_writes h es w ws some = ap (take 1) some
-
 -- some outcome of an event
 
 abbrev pub Happening : ℕ → ℕ → History → Event → Type 0

@@ -55,10 +55,6 @@ ready_in_place M c h x n within is running next room fit =
       subst (IsInRange M) (sym next) (need_of-in_range M x.state words),
     )
 
--- other buffers and words that fit, for as many harts
-pub fit_served : (M : ℕ) (c : Config) (s : Stored) → Fit M c → length s.buffers ≡ length c.stored.buffers → FitStored M s → Fit M (record c { stored = s })
-fit_served M c s fit count stored = record { buffers = count ∙ fit.buffers; harts = fit.harts; firsts = fit.firsts; stored = stored }
-
 -- a landing leaves the harts
 pub land_leaves : (c : Config) (s : Stored) (o : Outcome) (ps : List Write) (h : ℕ) (over : Bool) → o ≡ land_in ps h over → s ≡ stored_after_outcome c.stored o → record c { stored = s } ≡ after_outcome c o
 land_leaves c s o ps h over is after = ap (λ (x : Stored). record c { stored = x }) after ∙ rw is (at ps over)
@@ -67,11 +63,6 @@ land_leaves c s o ps h over is after = ap (λ (x : Stored). record c { stored = 
     at [] true = refl
     at [] false = refl
     at (q ∷ qs) b = refl
-
--- a landing of a hart that is over or goes on
-pub land_outcome-over : (c : Config) (h : ℕ) (x : HartView) (over : Bool) → h < length c.harts → x ≡ get_or c.harts h x → over ≡ is_over x.state.status → land_in (buffer_of c.stored h) h over ≡ land_outcome c h (slice_get c.harts h)
-land_outcome-over c h x over within is is_so =
-    ap (land_in (buffer_of c.stored h) h) is_so ∙ sym (ap (land_outcome c h) (slice_get_read c.harts (length c.harts) h x refl within is))
 
 -- an act of a hart in this status
 pub act_outcome-status : (B : ℕ) (c : Config) (h : ℕ) (x : HartView) (st : Status) → h < length c.harts → x ≡ get_or c.harts h x → x.state.status ≡ st → act_outcome B c h (slice_get c.harts h) ≡ act_in st (outcome_for B c.stored h (need_of x.state))

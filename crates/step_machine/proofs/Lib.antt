@@ -22,3 +22,4 @@ pub mod Placing
 pub mod Banking
 pub mod Changed
 pub mod Snapshots
+pub mod Unpacked

@@ -218,10 +218,6 @@ in_words_write es e w is here small =
 pub memory_byte-other : (o : Start) (es : List Entry) (e : Entry) (a : ℕ) → write_of es e ≡ [] → memory_byte o (es ++ e ∷ []) a ≡ memory_byte o es a
 memory_byte-other o es e a none = ap (λ ws. unwrap_or (newest_of a None ws) (opening_byte o a)) (landed-last es e ∙ ap (λ ws. landed es ++ ws) none ∙ append-nil (landed es))
 
--- so it leaves every word (for proofs about further programs)
-pub memory_word-other : (o : Start) (es : List Entry) (e : Entry) (a : ℕ) → write_of es e ≡ [] → memory_word o (es ++ e ∷ []) a ≡ memory_word o es a
-memory_word-other o es e a none = joined-same (λ i. memory_byte o (es ++ e ∷ []) (a + i)) (λ i. memory_byte o es (a + i)) 4 (λ i lt. memory_byte-other o es e (a + i) none)
-
 -- an entry that writes changes the bytes that its write covers
 pub memory_byte-write : (o : Start) (es : List Entry) (e : Entry) (w : Write) (a : ℕ) → write_of es e ≡ w ∷ [] → memory_byte o (es ++ e ∷ []) a ≡ byte_after w a (memory_byte o es a)
 memory_byte-write o es e w a is =

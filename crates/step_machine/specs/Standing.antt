@@ -11,18 +11,22 @@ use Rattle.step_machine.specs.declared.events.Outcome.{Outcome}
 abbrev pub StandsAt : ℕ → ℕ → History → Config → Type 0
 StandsAt B M t c = IsMachineAt B M t c 0
 
+-- this holds of each history at whose end it stands
+abbrev pub OfEach : ℕ → ℕ → Config → (History → Type 0) → Type 0
+OfEach B M c Holds = (t : History) → StandsAt B M t c → Holds t
+
 -- an event with this outcome: it makes a history of each, at whose end the machine then stands
 abbrev pub MovesBy : ℕ → ℕ → Event → Outcome → Config → Config → Type 0
-MovesBy B M ev o old new = (t : History) → StandsAt B M t old → (u : History) × Happens B M t ev o u × StandsAt B M u new
+MovesBy B M ev o old new = OfEach B M old (λ t. (u : History) × Happens B M t ev o u × StandsAt B M u new)
 
 -- these events, one after the other
 abbrev pub RunsBy : ℕ → ℕ → List Event → Config → Config → Type 0
-RunsBy B M evs old new = (t : History) → StandsAt B M t old → (u : History) × RunFrom B M t evs u × StandsAt B M u new
+RunsBy B M evs old new = OfEach B M old (λ t. (u : History) × RunFrom B M t evs u × StandsAt B M u new)
 
 -- no event
 abbrev pub StaysPut : ℕ → ℕ → Config → Config → Type 0
-StaysPut B M old new = (t : History) → StandsAt B M t old → StandsAt B M t new
+StaysPut B M old new = OfEach B M old (λ t. StandsAt B M t new)
 
 -- back to where the history began
 abbrev pub BeginsAnew : ℕ → ℕ → Config → Config → Type 0
-BeginsAnew B M old new = (t : History) → StandsAt B M t old → StandsAt B M (unrun t.opening) new
+BeginsAnew B M old new = OfEach B M old (λ t. StandsAt B M (unrun t.opening) new)

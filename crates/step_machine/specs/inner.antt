@@ -5,3 +5,4 @@ pub mod Restored
 pub mod Opened
 pub mod Representation
 pub mod Banking
+pub mod Packed

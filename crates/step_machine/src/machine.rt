@@ -1,14 +1,15 @@
 //! The machine: an opening, the entries since, and what the harts, buffers and memory hold by now.
 
-ghost use Rattle.std.specs.Prelude.{◌≡◌, ◌+◌, ◌≤◌, ◌<◌, ℕ, List, All, length, take, IfOk, IfErr, IsOk, IsErr, OnOk, OnErr, vec_len, vec_capacity};
+ghost use Rattle.std.specs.Prelude.{◌≡◌, ◌+◌, ◌≤◌, ◌<◌, ℕ, List, All, length, take, IfOk, IfErr, IsOk, IsErr, OnOk, OnErr};
 ghost use Rattle.hart.specs.State.{HartState};
 ghost use Rattle.memory.specs.Words.{IsAddress};
 ghost use Rattle.step_machine.specs.inner.Config.{AllHaveRoom, HasRoom, SameButRoom, entries_after};
 ghost use Rattle.step_machine.specs.declared.opening.TheConstants.{MAX_HARTS};
 
-use crate::events::{Entry, Event, Outcome};
+use crate::events::{Event, Outcome};
 use crate::machine_state::MachineState;
 use crate::opening::{Opening, Trace};
+use crate::packed::{Entries, PackedEntries};
 use crate::snapshot::Snapshot;
 use hart::need::Report;
 use hart::status::Status;
@@ -21,21 +22,21 @@ use std::marker::Model;
 #[derive(Drop)]
 pub struct Machine<const B: usize, const M: usize> {
     opening: Opening,
-    entries: Vec<Entry>,
+    entries: PackedEntries,
     machine_state: MachineState<B, M>,
     room: usize,
 }
 
 impl<const B: usize, const M: usize> Model for Machine<B, M> {
-    ghost use Rattle.std.specs.Prelude.{◌+◌, ◌≤◌, vec_len, vec_capacity};
+    ghost use Rattle.std.specs.Prelude.{◌≤◌};
     ghost use Rattle.step_machine.specs.History.{Progress};
     ghost use Rattle.step_machine.specs.inner.Representation.{IsMachineAt};
 
     ghost Value = { Progress };
 
-    ghost view = { λ m. record { history = record { opening = m.opening; entries = m.entries.items }; room = m.room } };
+    ghost view = { λ m. record { history = record { opening = m.opening; entries = m.entries.entries }; room = m.room } };
 
-    ghost invariant = { λ m. IsMachineAt B M (record { opening = m.opening; entries = m.entries.items }) m.machine_state m.room × (m.room + vec_len m.entries ≤ vec_capacity m.entries) };
+    ghost invariant = { λ m. IsMachineAt B M (record { opening = m.opening; entries = m.entries.entries }) m.machine_state m.room × (m.room ≤ m.entries.room) };
 }
 
 impl<const B: usize, const M: usize> Machine<B, M> {
@@ -59,7 +60,7 @@ impl<const B: usize, const M: usize> Machine<B, M> {
         let machine_state = MachineState::opened(alloc, &opening)?;
         Ok(Machine {
             opening,
-            entries: Vec::new(alloc),
+            entries: PackedEntries::new(alloc),
             machine_state,
             room: 0,
         })
@@ -125,7 +126,7 @@ impl<const B: usize, const M: usize> Machine<B, M> {
     pub fn snapshot(&self) -> Result<Snapshot<B, M>, AllocError>
         ensures { IfOk result (IsTakenAt B M self.now.history) }
     {
-        let alloc = *self.entries.allocator();
+        let alloc = *self.opening.words.allocator();
         let snapshot = self.machine_state.save(alloc, self.entries.len() as u128)?;
         Ok(snapshot)
     }
@@ -137,7 +138,7 @@ impl<const B: usize, const M: usize> Machine<B, M> {
         ensures { self.new ≡ record self.old { history = up_to snapshot.now.count self.old.history } }
     {
         self.machine_state.restore(snapshot);
-        self.entries.truncate(snapshot.entries as usize);
+        self.entries.truncate(snapshot.entries);
     }
 
     /// Makes room for `n` steps. Neither outcome changes the history.
@@ -171,14 +172,15 @@ impl<const B: usize, const M: usize> Machine<B, M> {
         &self.opening
     }
 
-    /// What was done since the opening, oldest first. It is the run of its own entries' events.
-    pub fn entries(&self) -> &[Entry]
-        ensures value { result.now ≡ self.now.history.entries }
+    /// What was done since the opening, oldest first, one after the other. It is the run of its own entries'
+    /// events.
+    pub fn entries(&self) -> Entries<'_>
+        ensures value { result ≡ self.now.history.entries }
         ensures kept { WellFormed B M self.now.history }
         ensures own { IsOwnRun B M self.now.history }
         ensures harts { All (IsOfHarts self.now.history.opening) self.now.history.entries }
     {
-        &self.entries
+        self.entries.iter()
     }
 
     /// A copy of the history.
@@ -189,7 +191,7 @@ impl<const B: usize, const M: usize> Machine<B, M> {
         ensures harts { All (IsOfHarts self.now.history.opening) self.now.history.entries }
     {
         let opening = self.opening.copy(alloc)?;
-        let entries = Vec::from_slice(alloc, &self.entries)?;
+        let entries = self.entries.iter().collect(alloc)?;
         Ok(Trace { opening, entries })
     }
 
@@ -207,7 +209,7 @@ impl<const B: usize, const M: usize> Machine<B, M> {
         requires { hart < length self.now.history.opening.harts }
         ensures { IsStatus M self.now.history hart result }
     {
-        self.machine_state.hart(hart).status()
+        self.machine_state.status(hart)
     }
 
     /// The address in bytes of the hart's next instruction.
@@ -215,7 +217,7 @@ impl<const B: usize, const M: usize> Machine<B, M> {
         requires { hart < length self.now.history.opening.harts }
         ensures { IsPc M self.now.history hart result }
     {
-        self.machine_state.hart(hart).pc()
+        self.machine_state.pc(hart)
     }
 
     /// The word in the hart's register x`number`.
@@ -224,7 +226,7 @@ impl<const B: usize, const M: usize> Machine<B, M> {
         requires number { number < 32 }
         ensures { IsRegister M self.now.history hart number result }
     {
-        self.machine_state.hart(hart).register(number)
+        self.machine_state.register(hart, number)
     }
 
     /// The hart's reports, oldest first.
@@ -232,7 +234,7 @@ impl<const B: usize, const M: usize> Machine<B, M> {
         requires { hart < length self.now.history.opening.harts }
         ensures { result.now ≡ reported hart self.now.history.entries }
     {
-        self.machine_state.hart(hart).reports()
+        self.machine_state.reports(hart)
     }
 
     /// The hart's pending stores, oldest first.
@@ -240,7 +242,7 @@ impl<const B: usize, const M: usize> Machine<B, M> {
         requires { hart < length self.now.history.opening.harts }
         ensures { result.now ≡ pending hart self.now.history.entries }
     {
-        self.machine_state.buffer(hart)
+        self.machine_state.pending(hart)
     }
 
     /// The word of memory at an address, a multiple of 4 below 4 times `M`.
@@ -248,27 +250,26 @@ impl<const B: usize, const M: usize> Machine<B, M> {
         requires { IsAddress M addr }
         ensures { result ≡ memory_word self.now.history.opening self.now.history.entries addr }
     {
-        self.machine_state.held_word(addr)
+        self.machine_state.word(addr)
     }
 }
 
 /// Makes room for one more entry and for a step of the hart that the event lets act, where none of
 /// either is reserved.
 fn make_room<const B: usize, const M: usize>(
-    entries: &mut Vec<Entry>,
+    entries: &mut PackedEntries,
     machine_state: &mut MachineState<B, M>,
     room: usize,
     event: Event,
 ) -> Result<(), AllocError>
     requires harts { AllHaveRoom room machine_state.old.harts }
-    requires entries { room + vec_len entries.old ≤ vec_capacity entries.old }
-    ensures items { entries.new.items ≡ entries.old.items }
-    ensures len { vec_len entries.new ≡ vec_len entries.old }
-    ensures grown { vec_capacity entries.old ≤ vec_capacity entries.new }
+    requires entries { room ≤ entries.old.room }
+    ensures items { entries.new.entries ≡ entries.old.entries }
+    ensures grown { entries.old.room ≤ entries.new.room }
     ensures same { SameButRoom machine_state.old machine_state.new }
     ensures harts { AllHaveRoom room machine_state.new.harts }
     ensures hart { OnOk result (HasRoom machine_state.new.harts event) }
-    ensures space { OnOk result (vec_len entries.new < vec_capacity entries.new) }
+    ensures space { OnOk result (0 < entries.new.room) }
     ensures reserved { 0 < room → IsOk result }
 {
     if room == 0 {
@@ -279,13 +280,13 @@ fn make_room<const B: usize, const M: usize>(
 }
 
 /// Adds the entry of an outcome that has one.
-pub(crate) fn add_entry(entries: &mut Vec<Entry>, outcome: Outcome)
-    requires { vec_len entries.old < vec_capacity entries.old }
-    ensures items { entries.new.items ≡ entries_after entries.old.items outcome }
-    ensures len { vec_len entries.new ≤ vec_len entries.old + 1 }
-    ensures kept { vec_capacity entries.new ≡ vec_capacity entries.old }
+#[inline(always)]
+pub(crate) fn add_entry(entries: &mut PackedEntries, outcome: Outcome)
+    requires { 0 < entries.old.room }
+    ensures items { entries.new.entries ≡ entries_after entries.old.entries outcome }
+    ensures room { entries.old.room ≤ entries.new.room + 1 }
 {
     if let Outcome::Did(entry) = outcome {
-        entries.push_reserved(entry);
+        entries.push(entry);
     }
 }

@@ -1,16 +1,17 @@
 //! A machine that keeps no history. What it holds is what some history says, and a contract speaks of each
 //! history of which this is so.
 
-ghost use Rattle.std.specs.Prelude.{◌≡◌, ◌≤◌, ◌<◌, length, take, IfOk, IfErr, OnOk, OnErr};
+ghost use Rattle.std.specs.Prelude.{◌≡◌, ◌≤◌, ◌<◌, length, min, take, IfOk, IfErr, OnOk, OnErr};
 ghost use Rattle.memory.specs.Words.{IsAddress};
-ghost use Rattle.step_machine.specs.History.{History, FitsIn, unrun};
+ghost use Rattle.step_machine.specs.History.{FitsIn, unrun};
 ghost use Rattle.step_machine.specs.Entries.{pending, reported, memory_word};
 ghost use Rattle.step_machine.specs.Paths.{IsStatus, IsPc, IsRegister};
-ghost use Rattle.step_machine.specs.Standing.{StandsAt, MovesBy, RunsBy, StaysPut, BeginsAnew};
+ghost use Rattle.step_machine.specs.Standing.{StandsAt, OfEach, MovesBy, RunsBy, StaysPut, BeginsAnew};
+ghost use Rattle.step_machine.specs.declared.opening.TheConstants.{MAX_HARTS};
 
 use crate::events::{Event, Outcome};
 use crate::machine_state::MachineState;
-use crate::opening::Opening;
+use crate::opening::{MAX_HARTS, Opening};
 use hart::need::Report;
 use hart::status::Status;
 use memory::writes::Write;
@@ -60,18 +61,20 @@ impl<const B: usize, const M: usize> MachineState<B, M> {
         self.put_back();
     }
 
-    /// How many harts there are.
-    pub fn harts(&self) -> usize
-        ensures value { result ≡ length self.now.harts }
-        ensures opening { (t : History) → StandsAt B M t self.now → result ≡ length t.opening.harts }
+    /// How many harts there are. No opening has more than [`MAX_HARTS`].
+    pub fn harts(&self) -> u32
+        ensures value { result ≡ min (length self.now.harts) MAX_HARTS }
+        ensures within { result ≤ length self.now.harts }
+        ensures most { result ≤ MAX_HARTS }
+        ensures opening { OfEach B M self.now (λ t. result ≡ length t.opening.harts) }
     {
-        self.count()
+        self.count().min(MAX_HARTS) as u32
     }
 
     /// Whether the hart goes on.
     pub fn status(&self, hart: u32) -> Status
         requires { hart < length self.now.harts }
-        ensures { (t : History) → StandsAt B M t self.now → IsStatus M t hart result }
+        ensures { OfEach B M self.now (λ t. IsStatus M t hart result) }
     {
         self.hart(hart).status()
     }
@@ -79,7 +82,7 @@ impl<const B: usize, const M: usize> MachineState<B, M> {
     /// The address in bytes of the hart's next instruction.
     pub fn pc(&self, hart: u32) -> u32
         requires { hart < length self.now.harts }
-        ensures { (t : History) → StandsAt B M t self.now → IsPc M t hart result }
+        ensures { OfEach B M self.now (λ t. IsPc M t hart result) }
     {
         self.hart(hart).pc()
     }
@@ -88,7 +91,7 @@ impl<const B: usize, const M: usize> MachineState<B, M> {
     pub fn register(&self, hart: u32, number: u8) -> u32
         requires hart { hart < length self.now.harts }
         requires number { number < 32 }
-        ensures { (t : History) → StandsAt B M t self.now → IsRegister M t hart number result }
+        ensures { OfEach B M self.now (λ t. IsRegister M t hart number result) }
     {
         self.hart(hart).register(number)
     }
@@ -96,7 +99,7 @@ impl<const B: usize, const M: usize> MachineState<B, M> {
     /// The hart's reports, oldest first.
     pub fn reports(&self, hart: u32) -> &[Report]
         requires { hart < length self.now.harts }
-        ensures { (t : History) → StandsAt B M t self.now → result.now ≡ reported hart t.entries }
+        ensures { OfEach B M self.now (λ t. result.now ≡ reported hart t.entries) }
     {
         self.hart(hart).reports()
     }
@@ -104,7 +107,7 @@ impl<const B: usize, const M: usize> MachineState<B, M> {
     /// The hart's pending stores, oldest first.
     pub fn pending(&self, hart: u32) -> &[Write]
         requires { hart < length self.now.harts }
-        ensures { (t : History) → StandsAt B M t self.now → result.now ≡ pending hart t.entries }
+        ensures { OfEach B M self.now (λ t. result.now ≡ pending hart t.entries) }
     {
         self.buffer(hart)
     }
@@ -112,7 +115,7 @@ impl<const B: usize, const M: usize> MachineState<B, M> {
     /// The word of memory at an address, a multiple of 4 below 4 times `M`.
     pub fn word(&self, addr: u32) -> u32
         requires { IsAddress M addr }
-        ensures { (t : History) → StandsAt B M t self.now → result ≡ memory_word t.opening t.entries addr }
+        ensures { OfEach B M self.now (λ t. result ≡ memory_word t.opening t.entries addr) }
     {
         self.held_word(addr)
     }

@@ -87,8 +87,10 @@ fn is_replayed(rt: &(impl Abort + AllocGlobal), record: &Record<4, 16>) {
     assert!(rt; opening.fits(16));
     let mut machine = Machine::<4, 16>::open(rt.alloc(), opening).expect(rt, "memory");
     machine.run(&record.events).expect(rt, "memory");
-    assert!(rt; machine.entries() == record.trace.entries.as_slice());
-    assert!(rt; record.machine.entries() == record.trace.entries.as_slice());
+    let again = machine.trace(rt.alloc()).expect(rt, "memory");
+    assert!(rt; again.entries.as_slice() == record.trace.entries.as_slice());
+    let held = record.machine.trace(rt.alloc()).expect(rt, "memory");
+    assert!(rt; held.entries.as_slice() == record.trace.entries.as_slice());
 }
 
 #[test]
@@ -200,7 +202,8 @@ fn work_without_the_lock_is_put_back(rt: HostRuntime) {
         record.trace.entries.as_slice(),
         [load, inner, store].as_slice()
     );
-    assert!(rt; record.machine.entries() == record.trace.entries.as_slice());
+    let held = record.machine.trace(rt.alloc()).expect(&rt, "memory");
+    assert!(rt; held.entries.as_slice() == record.trace.entries.as_slice());
 }
 
 /// One hart, with 7 in x5, the address 0 in x6 and this code.

@@ -7,7 +7,7 @@ use crate::of_hart_threads::Thrice;
 use assembler::assemble;
 use fastforward::FastForward;
 use hart::{Report, Status};
-use hart_threads::{Open, deliver_threads};
+use hart_threads::{Open, deliver_threads, deliver_threads_at};
 use lamport_ring::Lamport;
 use poll_close::{
     Channel, Place, Refused, RefusedAt, RingKind, deliver, deliver_at, deliver_whole_at, opening_at,
@@ -382,6 +382,51 @@ fn threads_deliver_what_their_events_deliver(rt: HostRuntime) -> Result<(), Fail
     let (record, reports) = answer.expect(&rt, "a record");
     assert_eq!(rt; record.machine.harts(), 2);
     assert_eq!(rt; record.machine.status(1), Status::Ended);
+    let again = deliver::<Lamport, 4, 4096>(rt.alloc(), &lists, 2, &record.events)?;
+    assert_eq!(rt; reports.as_slice(), again.as_slice());
+    Ok(())
+}
+
+/// The same of a channel that lies among other words.
+#[test]
+fn threads_deliver_among_other_words(rt: HostRuntime) -> Result<(), Fail> {
+    let lists = one_list(rt.alloc(), &[9])?;
+    let words = words_around(rt.alloc(), 300)?;
+    let answer = deliver_threads_at::<Lamport, 4, 4096, Open, HostRuntime>(
+        &rt,
+        rt.alloc(),
+        &lists,
+        ELSEWHERE,
+        &words,
+        &Open,
+        1000,
+    );
+    let (record, reports) = answer.expect(&rt, "a record");
+    assert_eq!(rt; record.machine.harts(), 2);
+    assert_eq!(rt; record.machine.status(1), Status::Ended);
+    let events = &record.events;
+    let again = deliver_at::<Lamport, 4, 4096>(rt.alloc(), &lists, ELSEWHERE, &words, events)?;
+    assert_eq!(rt; reports.as_slice(), again.as_slice());
+    Ok(())
+}
+
+/// 128 threads: the most that a channel has.
+#[test]
+fn sixty_three_senders_deliver_on_threads(rt: HostRuntime) -> Result<(), Fail> {
+    let mut lists = Vec::new(rt.alloc());
+    for word in 1..64 {
+        lists.push(Vec::from_slice(rt.alloc(), &[word, 64, word])?)?;
+    }
+    let answer = deliver_threads::<Lamport, 4, 4096, Open, HostRuntime>(
+        &rt,
+        rt.alloc(),
+        &lists,
+        2,
+        &Open,
+        10_000,
+    );
+    let (record, reports) = answer.expect(&rt, "a record");
+    assert_eq!(rt; record.machine.harts(), 64);
     let again = deliver::<Lamport, 4, 4096>(rt.alloc(), &lists, 2, &record.events)?;
     assert_eq!(rt; reports.as_slice(), again.as_slice());
     Ok(())

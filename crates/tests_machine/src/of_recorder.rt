@@ -68,6 +68,9 @@ fn store_buffering_is_replayed(rt: HostRuntime) -> Result<(), Fail> {
     let opening = store_buffering(rt.alloc())?;
     assert!(rt; opening.fits(2));
     let machine = replay::<4, 2>(rt.alloc(), opening, &BOTH_READ_0)?;
-    assert_eq!(rt; machine.entries(), both_read_0().as_slice());
+    assert_eq!(rt;
+        machine.trace(rt.alloc())?.entries.as_slice(),
+        both_read_0().as_slice()
+    );
     Ok(())
 }

@@ -23,7 +23,7 @@ fn a_run_is_recorded_and_checked(rt: HostRuntime) -> Result<(), Fail> {
     let opening = store_buffering(rt.alloc())?;
     assert!(rt; opening.fits(2));
     let machine = replay_checked::<4, 2>(rt.alloc(), opening, &again)?;
-    assert_eq!(rt; machine.entries().len(), 6);
+    assert_eq!(rt; machine.trace(rt.alloc())?.entries.len(), 6);
     Ok(())
 }
 
@@ -35,7 +35,7 @@ fn another_outcome_is_found(rt: HostRuntime) -> Result<(), Fail> {
     assert!(rt; opening.fits(2));
     match replay_checked::<4, 2>(rt.alloc(), opening, &steps) {
         Err(error) => assert_eq!(rt; error, CheckError::Differs { event: 2 }),
-        Ok(machine) => assert_eq!(rt; machine.entries().len(), 0),
+        Ok(machine) => assert_eq!(rt; machine.trace(rt.alloc())?.entries.len(), 0),
     }
     Ok(())
 }

@@ -40,7 +40,10 @@ fn steps_within_reserved_room_succeed(rt: HostRuntime) -> Result<(), Fail> {
     let mut machine = machine_at::<4>(&rt, store_buffering(rt.alloc())?)?;
     machine.reserve(6)?;
     machine.run(&BOTH_READ_0).unwrap();
-    assert_eq!(rt; machine.entries(), both_read_0().as_slice());
+    assert_eq!(rt;
+        machine.trace(rt.alloc())?.entries.as_slice(),
+        both_read_0().as_slice()
+    );
     Ok(())
 }
 
@@ -97,7 +100,7 @@ fn a_restarted_machine_runs_anew(rt: HostRuntime) -> Result<(), Fail> {
         assert_eq!(rt; (machine.word(0), machine.word(4)), (7, 1));
         machine.restart();
         assert_eq!(rt; (machine.word(0), machine.word(4)), (6, 9));
-        assert_eq!(rt; machine.entries().len(), 0);
+        assert_eq!(rt; machine.trace(rt.alloc())?.entries.len(), 0);
     }
     Ok(())
 }

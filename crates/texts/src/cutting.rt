@@ -9,6 +9,7 @@ ghost use Rattle.texts.specs.Cutting.{before, after, is_byte, without_leading, w
 use crate::pieces::Separators;
 
 /// The place of the first separator.
+#[inline(always)]
 fn separator_in(separators: Separators, text: &[u8]) -> Option<usize>
     ensures { result ≡ position (separates separators) text.now }
 {
@@ -16,6 +17,7 @@ fn separator_in(separators: Separators, text: &[u8]) -> Option<usize>
 }
 
 /// The place of the first byte that is no separator.
+#[inline(always)]
 fn other_in(separators: Separators, text: &[u8]) -> Option<usize>
     ensures { result ≡ position (λ byte. not (separates separators byte)) text.now }
 {
@@ -23,6 +25,7 @@ fn other_in(separators: Separators, text: &[u8]) -> Option<usize>
 }
 
 /// What stands before the first separator, and what follows it, if there is one.
+#[inline(always)]
 #[tactic(auto, using(std::proofs::lemmas::List::take_rest, crate::proofs::CuttingLaws::before_found, crate::proofs::CuttingLaws::after_found, crate::proofs::CuttingLaws::before_missing, crate::proofs::CuttingLaws::after_missing))]
 pub fn cut_at_any(separators: Separators, text: &[u8]) -> (&[u8], Option<&[u8]>)
     ensures front { result.0.now ≡ before (separates separators) text.now }
@@ -36,6 +39,7 @@ pub fn cut_at_any(separators: Separators, text: &[u8]) -> (&[u8], Option<&[u8]>)
 }
 
 /// What stands before the first such byte, and what follows it, if there is one.
+#[inline(always)]
 pub fn cut_at(text: &[u8], byte: u8) -> (&[u8], Option<&[u8]>)
     ensures front { result.0.now ≡ before (is_byte byte) text.now }
     ensures back { option_copied result.1 ≡ after (is_byte byte) text.now }
@@ -51,6 +55,7 @@ pub fn is_all(separators: Separators, text: &[u8]) -> bool
 }
 
 /// The text without the separators at its front.
+#[inline(always)]
 #[tactic(auto, using(std::proofs::lemmas::List::take_rest, crate::proofs::CuttingLaws::from_found, crate::proofs::CuttingLaws::from_missing))]
 pub fn without_leading(separators: Separators, text: &[u8]) -> &[u8]
     ensures { result.now ≡ without_leading (separates separators) text.now }

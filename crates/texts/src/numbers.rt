@@ -12,6 +12,7 @@ use std::alloc::AllocError;
 pub const NUMBER_CAP: u64 = 1 << 32;
 
 /// The number that one or more digits of the radix say, capped at [`NUMBER_CAP`]; `None` for other bytes.
+#[inline(always)]
 fn number_in(radix: u32, bytes: &[u8]) -> Option<u64>
     requires least { 2 ≤ radix }
     requires most { radix ≤ 36 }

@@ -23,6 +23,7 @@ pub enum Separators {
 
 impl Separators {
     /// Whether the byte parts two pieces.
+    #[inline(always)]
     pub fn contain(self, byte: u8) -> bool
         ensures { result ≡ separates self byte }
     {

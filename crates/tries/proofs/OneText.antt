@@ -60,7 +60,7 @@ one_list B M q (s ∷ ss) (t ∷ ts) are others same =
 
 -- ---- one ascending list of the same elements
 
--- an element of the list, told by recursion
+-- an element of the list, by recursion
 Among : List ℕ → List (List ℕ) → Type 0
 Among x [] = ⊥
 Among x (y ∷ ys) = (x ≡ y) ⊎ Among x ys

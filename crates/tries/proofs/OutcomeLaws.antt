@@ -95,33 +95,33 @@ are_outcomes trials tally is sorted = record {
 counted_one : (n : ℕ) (text : List ℕ) → Option Counted
 counted_one n text = Some (n, text)
 
-count_told : (n m : ℕ) (text other : List ℕ) → counted_one n text ≡ counted_one m other → n ≡ m
+same_count : (n m : ℕ) (text other : List ℕ) → counted_one n text ≡ counted_one m other → n ≡ m
 unfolding counted_one
-count_told n m text other e = ap (λ (o : Option Counted). (unwrap_or o (0, [])).0) e
+same_count n m text other e = ap (λ (o : Option Counted). (unwrap_or o (0, [])).0) e
 
-text_told : (n m : ℕ) (text other : List ℕ) → counted_one n text ≡ counted_one m other → text ≡ other
+same_text : (n m : ℕ) (text other : List ℕ) → counted_one n text ≡ counted_one m other → text ≡ other
 unfolding counted_one
-text_told n m text other e = ap (λ (o : Option Counted). (unwrap_or o (0, [])).1) e
+same_text n m text other e = ap (λ (o : Option Counted). (unwrap_or o (0, [])).1) e
 
-line_seen : (question : LitmusTest) (outcome : List ℕ) (o : Option Trial) (n count : ℕ) (schedule : List ℕ) → option_map (λ (first : Trial). (n, schedule_text first.events)) o ≡ counted_one count schedule
-    → line_of question outcome count schedule ≡ line_of question outcome n (first_schedule_text o)
+line_seen : (test : LitmusTest) (outcome : List ℕ) (o : Option Trial) (n count : ℕ) (schedule : List ℕ) → option_map (λ (first : Trial). (n, schedule_text first.events)) o ≡ counted_one count schedule
+    → line_of test outcome count schedule ≡ line_of test outcome n (first_schedule_text o)
 unfolding counted_one
-line_seen question outcome None n count schedule e = absurd cc
-line_seen question outcome (Some first) n count schedule e =
-    ap (λ (k : ℕ). line_of question outcome k schedule) (sym (count_told n count (schedule_text first.events) schedule e))
-    ∙ ap (λ (text : List ℕ). line_of question outcome n text) (sym (text_told n count (schedule_text first.events) schedule e))
+line_seen test outcome None n count schedule e = absurd cc
+line_seen test outcome (Some first) n count schedule e =
+    ap (λ (k : ℕ). line_of test outcome k schedule) (sym (same_count n count (schedule_text first.events) schedule e))
+    ∙ ap (λ (text : List ℕ). line_of test outcome n text) (sym (same_text n count (schedule_text first.events) schedule e))
 
-line_is : (question : LitmusTest) (trials : List Trial) (tally : Tally) (key : Vec ℕ) (row : Row) → IsTallyOf trials tally → lookup (is_key key.items) tally.rows.entries ≡ Some row → row_line question (key, row) ≡ outcome_line question trials key.items
+line_is : (test : LitmusTest) (trials : List Trial) (tally : Tally) (key : Vec ℕ) (row : Row) → IsTallyOf trials tally → lookup (is_key key.items) tally.rows.entries ≡ Some row → row_line test (key, row) ≡ outcome_line test trials key.items
 unfolding counted_of seen_of counted_one
-line_is question trials tally key row is found =
-    line_seen question key.items (find (gave key.items) trials) (count_by (gave key.items) trials) row.count (string_bytes row.schedule) (sym (is.rows key.items) ∙ ap (option_map counted_by) found)
+line_is test trials tally key row is found =
+    line_seen test key.items (find (gave key.items) trials) (count_by (gave key.items) trials) row.count (string_bytes row.schedule) (sym (is.rows key.items) ∙ ap (option_map counted_by) found)
 
-lines_are : (question : LitmusTest) (trials : List Trial) (tally : Tally) (rows : Rows) → IsTallyOf trials tally → All (λ e. lookup (is_key e.0.items) tally.rows.entries ≡ Some e.1) rows
-    → flat_map (row_line question) rows ≡ flat_map (outcome_line question trials) (outcomes_of rows)
-lines_are question trials tally [] is found = refl
-lines_are question trials tally (e ∷ rows) is found =
-    ap (λ (line : List ℕ). line ++ flat_map (row_line question) rows) (line_is question trials tally e.0 e.1 is (found 0 e (omega arith)))
-    ∙ ap (λ (lines : List ℕ). outcome_line question trials e.0.items ++ lines) (lines_are question trials tally rows is (All-tail (λ (d : Vec ℕ × Row). lookup (is_key d.0.items) tally.rows.entries ≡ Some d.1) e rows found))
+lines_are : (test : LitmusTest) (trials : List Trial) (tally : Tally) (rows : Rows) → IsTallyOf trials tally → All (λ e. lookup (is_key e.0.items) tally.rows.entries ≡ Some e.1) rows
+    → flat_map (row_line test) rows ≡ flat_map (outcome_line test trials) (outcomes_of rows)
+lines_are test trials tally [] is found = refl
+lines_are test trials tally (e ∷ rows) is found =
+    ap (λ (line : List ℕ). line ++ flat_map (row_line test) rows) (line_is test trials tally e.0 e.1 is (found 0 e (omega arith)))
+    ∙ ap (λ (lines : List ℕ). outcome_line test trials e.0.items ++ lines) (lines_are test trials tally rows is (All-tail (λ (d : Vec ℕ × Row). lookup (is_key d.0.items) tally.rows.entries ≡ Some d.1) e rows found))
 
 -- ---- the whole
 
@@ -130,19 +130,19 @@ good_is Exists trials = refl
 good_is NotExists trials = refl
 good_is ForAll trials = refl
 
-pub tried : (B M : ℕ) (stream : Stream) (runs size : ℕ) (question : LitmusTest) (trials : List Trial) (tally : Tally) (text : List ℕ) (good : Bool) → AreTrials B M question stream runs size trials → IsTallyOf trials tally
-    → IsStrictlySortedBy order (map (λ e. e.0) tally.rows.entries) → AreFound tally.rows.entries → text ≡ flat_map (row_line question) tally.rows.entries ++ unfinished_line tally.unfinished
-    → good ≡ good_by question.quantifier tally.some_hold tally.some_fail → IsTried B M stream runs size question (text, good)
-tried B M stream runs size question trials tally text good are is sorted found written judged = record {
+pub tried : (B M : ℕ) (stream : Stream) (runs size : ℕ) (test : LitmusTest) (trials : List Trial) (tally : Tally) (text : List ℕ) (good : Bool) → AreTrials B M test stream runs size trials → IsTallyOf trials tally
+    → IsStrictlySortedBy order (map (λ e. e.0) tally.rows.entries) → AreFound tally.rows.entries → text ≡ flat_map (row_line test) tally.rows.entries ++ unfinished_line tally.unfinished
+    → good ≡ good_by test.quantifier tally.some_hold tally.some_fail → IsTried B M stream runs size test (text, good)
+tried B M stream runs size test trials tally text good are is sorted found written judged = record {
   trials = trials;
   are = are;
   outcomes = outcomes_of tally.rows.entries;
   shown = are_outcomes trials tally is sorted;
   text = written
-      ∙ ap (λ (lines : List ℕ). lines ++ unfinished_line tally.unfinished) (lines_are question trials tally tally.rows.entries is found)
-      ∙ ap (λ (n : ℕ). flat_map (outcome_line question trials) (outcomes_of tally.rows.entries) ++ unfinished_line n) is.unfinished_are;
+      ∙ ap (λ (lines : List ℕ). lines ++ unfinished_line tally.unfinished) (lines_are test trials tally tally.rows.entries is found)
+      ∙ ap (λ (n : ℕ). flat_map (outcome_line test trials) (outcomes_of tally.rows.entries) ++ unfinished_line n) is.unfinished_are;
   good = judged
-      ∙ ap (λ (b : Bool). good_by question.quantifier b tally.some_fail) is.holds
-      ∙ ap (λ (b : Bool). good_by question.quantifier (list_any (λ (t : Trial). is_holds t.verdict) trials) b) is.fails
-      ∙ good_is question.quantifier trials;
+      ∙ ap (λ (b : Bool). good_by test.quantifier b tally.some_fail) is.holds
+      ∙ ap (λ (b : Bool). good_by test.quantifier (list_any (λ (t : Trial). is_holds t.verdict) trials) b) is.fails
+      ∙ good_is test.quantifier trials;
 }

@@ -96,8 +96,8 @@ counted_first events old key row none first = λ other. ap (option_map counted_b
         rw (← here) (ap Some first)
     by other false apart = refl
 
--- the row that is found is one of which something is told
-pub found_row : (Small : ℕ → Type 0) (rows : List (Vec ℕ × Row)) (outcome : List ℕ) (found : Option Row) → found ≡ lookup (is_key outcome) rows → IfSome (counted_of rows outcome) (λ told. Small told.0) → IfSome found (λ row. Small row.count)
+-- the row that is found is one that something is counted of
+pub found_row : (Small : ℕ → Type 0) (rows : List (Vec ℕ × Row)) (outcome : List ℕ) (found : Option Row) → found ≡ lookup (is_key outcome) rows → IfSome (counted_of rows outcome) (λ seen. Small seen.0) → IfSome found (λ row. Small row.count)
 unfolding counted_of
 found_row Small rows outcome None is small = tt
 found_row Small rows outcome (Some row) is small = rw (← is) at small
@@ -142,9 +142,9 @@ none_later key other (e ∷ rest) same later =
     subst (λ (k : List ℕ). is_eq (slice_cmp nat_cmp k e.0.items) ≡ false) (sym (same_is other key.items same)) (ap is_eq later.0) in
     ap (λ (b : Bool). cond b (Some e.1) (lookup (is_key other) rest)) apart ∙ none_later key other rest same later.1
 
-both_none : (told : Option Counted) → counted_both told None ≡ told
+both_none : (seen : Option Counted) → counted_both seen None ≡ seen
 both_none None = refl
-both_none (Some told) = refl
+both_none (Some seen) = refl
 
 -- what is counted and what is left to count are together what both say
 abbrev pub IsLeft : (now left : List (Vec ℕ × Row)) → (both : List ℕ → Option Counted) → Type 0
@@ -156,20 +156,20 @@ pub row_taken : (key : Vec ℕ) (later : Row) (left rest now new : List (Vec ℕ
 unfolding counted_of
 row_taken key later left rest now new both is sorted counts so_far other = by (is_key other key) refl
   where
-    told : Option Counted
-    told = counted_of now other
+    seen : Option Counted
+    seen = counted_of now other
 
     taken : Bool → Option Counted
-    taken b = counted_both told (option_map counted_by (cond b (Some later) (lookup (is_key other) rest)))
+    taken b = counted_both seen (option_map counted_by (cond b (Some later) (lookup (is_key other) rest)))
 
     shown : taken (is_key other key) ≡ both other
-    shown = subst (λ (rows : List (Vec ℕ × Row)). counted_both told (option_map counted_by (lookup (is_key other) rows)) ≡ both other) is (so_far other)
+    shown = subst (λ (rows : List (Vec ℕ × Row)). counted_both seen (option_map counted_by (lookup (is_key other) rows)) ≡ both other) is (so_far other)
 
     ordered : IsStrictlySortedBy order (key ∷ keys_of rest)
     ordered = subst (λ (rows : List (Vec ℕ × Row)). IsStrictlySortedBy order (keys_of rows)) is sorted
 
     counted : Bool → Option Counted
-    counted b = cond b (counted_both told (Some (counted_by later))) told
+    counted b = cond b (counted_both seen (Some (counted_by later))) seen
 
     by : (b : Bool) → is_key other key ≡ b → counted_both (counted_of new other) (counted_of rest other) ≡ both other
     by true same =
@@ -182,7 +182,7 @@ row_taken key later left rest now new both is sorted counts so_far other = by (i
 -- no count grows past what both maps say together
 pub row_few : (key : Vec ℕ) (later : Row) (left rest now : List (Vec ℕ × Row)) (both : Option Counted) (most : ℕ) → left ≡ (key, later) ∷ rest
     → counted_both (counted_of now key.items) (counted_of left key.items) ≡ both
-    → IfSome {T = Counted} both (λ told. told.0 < most) → IfSome {T = Counted} (counted_of now key.items) (λ told. told.0 + later.count < most)
+    → IfSome {T = Counted} both (λ seen. seen.0 < most) → IfSome {T = Counted} (counted_of now key.items) (λ seen. seen.0 + later.count < most)
 unfolding counted_of
 row_few key later left rest now both most is so_far few = at (counted_of now key.items) shown
   where
@@ -194,9 +194,9 @@ row_few key later left rest now both most is so_far few = at (counted_of now key
         sym (ap taken (same_itself key.items))
         ∙ subst (λ (rows : List (Vec ℕ × Row)). counted_both (counted_of now key.items) (option_map counted_by (lookup (is_key key.items) rows)) ≡ both) is so_far
 
-    at : (o : Option Counted) → counted_both o (Some (counted_by later)) ≡ both → IfSome {T = Counted} o (λ told. told.0 + later.count < most)
+    at : (o : Option Counted) → counted_both o (Some (counted_by later)) ≡ both → IfSome {T = Counted} o (λ seen. seen.0 + later.count < most)
     at None e = tt
-    at (Some told) e = subst (λ (b : Option Counted). IfSome {T = Counted} b (λ t. t.0 < most)) (sym e) few
+    at (Some seen) e = subst (λ (b : Option Counted). IfSome {T = Counted} b (λ t. t.0 < most)) (sym e) few
 
 -- no row is left
 pub rows_done : (left now : List (Vec ℕ × Row)) (both : List ℕ → Option Counted) → left ≡ [] → IsLeft now left both

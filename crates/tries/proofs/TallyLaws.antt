@@ -40,22 +40,22 @@ none_counted {X} p (x ∷ xs) e = by (p x) refl e (none_counted p xs)
     by true is none rest = absurd cc
     by false is none rest = let e = sum_by-cons (λ y. cond (p y) 1 0) x xs ∙ ap (λ (c : Bool). cond c 1 0 + count_by p xs) is in omega (arith, e, rest none)
 
--- ---- what is told of an outcome
+-- ---- what is counted of an outcome
 
-told_once_more : (trial : Trial) (b : Bool) (o : Option Trial) (n : ℕ) → (o ≡ None → n ≡ 0)
+counted_once_more : (trial : Trial) (b : Bool) (o : Option Trial) (n : ℕ) → (o ≡ None → n ≡ 0)
     → option_map (λ (first : Trial). (n + cond b 1 0, schedule_text first.events)) (option_or o (cond b (Some trial) None))
     ≡ cond b (Some (counted_more trial.events (option_map (λ (first : Trial). (n, schedule_text first.events)) o))) (option_map (λ (first : Trial). (n, schedule_text first.events)) o)
-told_once_more trial true None n none = ap (λ (k : ℕ). Some (k + 1, schedule_text trial.events)) (none refl)
-told_once_more trial true (Some first) n none = refl
-told_once_more trial false None n none = refl
-told_once_more trial false (Some first) n none = let same : n + 0 ≡ n = omega arith in ap (λ (k : ℕ). Some (k, schedule_text first.events)) same
+counted_once_more trial true None n none = ap (λ (k : ℕ). Some (k + 1, schedule_text trial.events)) (none refl)
+counted_once_more trial true (Some first) n none = refl
+counted_once_more trial false None n none = refl
+counted_once_more trial false (Some first) n none = let same : n + 0 ≡ n = omega arith in ap (λ (k : ℕ). Some (k, schedule_text first.events)) same
 
 seen_more : (trials : List Trial) (trial : Trial) (outcome : List ℕ) → seen_of (trials ++ trial ∷ []) outcome ≡ cond (gave outcome trial) (Some (counted_more trial.events (seen_of trials outcome))) (seen_of trials outcome)
 unfolding seen_of
 seen_more trials trial outcome =
     ap (λ (n : ℕ). option_map (λ (first : Trial). (n, schedule_text first.events)) (find (gave outcome) (trials ++ trial ∷ []))) (count_more (gave outcome) trials trial)
     ∙ ap (λ (o : Option Trial). option_map (λ (first : Trial). (count_by (gave outcome) trials + cond (gave outcome trial) 1 0, schedule_text first.events)) o) (find-append (gave outcome) trials (trial ∷ []))
-    ∙ told_once_more trial (gave outcome trial) (find (gave outcome) trials) (count_by (gave outcome) trials) (none_counted (gave outcome) trials)
+    ∙ counted_once_more trial (gave outcome trial) (find (gave outcome) trials) (count_by (gave outcome) trials) (none_counted (gave outcome) trials)
 
 -- one more run makes a tally of one more
 pub tally_more : (trials : List Trial) (trial : Trial) (old new : Tally) → IsTallyOf trials old → Tallies trial old new → IsTallyOf (trials ++ trial ∷ []) new
@@ -71,26 +71,26 @@ tally_more trials trial old new tally more = record {
     unfinished_more false is = let e = count_more (λ (t : Trial). not (is_finished t.verdict)) trials trial ∙ ap (λ (c : Bool). unfinished trials + cond (not c) 1 0) is in omega (arith, e, tally.unfinished_are)
 
 -- no count is above the number of runs
-pub seen_few : (trials : List Trial) (outcome : List ℕ) (most : ℕ) → length trials < most → IfSome {T = Counted} (seen_of trials outcome) (λ told. told.0 < most)
+pub seen_few : (trials : List Trial) (outcome : List ℕ) (most : ℕ) → length trials < most → IfSome {T = Counted} (seen_of trials outcome) (λ seen. seen.0 < most)
 unfolding seen_of
 seen_few trials outcome most few = by (find (gave outcome) trials)
   where
-    by : (o : Option Trial) → IfSome {T = Counted} (option_map (λ (first : Trial). (count_by (gave outcome) trials, schedule_text first.events)) o) (λ told. told.0 < most)
+    by : (o : Option Trial) → IfSome {T = Counted} (option_map (λ (first : Trial). (count_by (gave outcome) trials, schedule_text first.events)) o) (λ seen. seen.0 < most)
     by None = tt
     by (Some first) = omega (arith, count_by-le-length (gave outcome) trials, few)
 
-pub told_few : (trials : List Trial) (tally : Tally) (most : ℕ) → IsTallyOf trials tally → length trials < most → (outcome : List ℕ) → IfSome {T = Counted} (counted_of tally.rows.entries outcome) (λ told. told.0 < most)
-told_few trials tally most is few outcome = rw (is.rows outcome) (seen_few trials outcome most few)
+pub counted_few : (trials : List Trial) (tally : Tally) (most : ℕ) → IsTallyOf trials tally → length trials < most → (outcome : List ℕ) → IfSome {T = Counted} (counted_of tally.rows.entries outcome) (λ seen. seen.0 < most)
+counted_few trials tally most is few outcome = rw (is.rows outcome) (seen_few trials outcome most few)
 
 pub unfinished_few : (trials : List Trial) (tally : Tally) (most : ℕ) → IsTallyOf trials tally → length trials < most → tally.unfinished < most
 unfinished_few trials tally most is few = omega (arith, is.unfinished_are, count_by-le-length (λ (t : Trial). not (is_finished t.verdict)) trials, few)
 
 -- ---- the steps of a tally
 
--- of no run nothing is told
-pub nothing_told : (tally : Tally) → tally.rows.entries ≡ [] → tally.unfinished ≡ 0 → tally.some_hold ≡ false → tally.some_fail ≡ false → IsTallyOf [] tally
+-- of no run nothing is counted
+pub nothing_counted : (tally : Tally) → tally.rows.entries ≡ [] → tally.unfinished ≡ 0 → tally.some_hold ≡ false → tally.some_fail ≡ false → IsTallyOf [] tally
 unfolding counted_of seen_of
-nothing_told tally rows none holds fails = record { rows = λ outcome. rw rows refl; unfinished_are = none; holds = holds; fails = fails }
+nothing_counted tally rows none holds fails = record { rows = λ outcome. rw rows refl; unfinished_are = none; holds = holds; fails = fails }
 
 -- an outcome's test, as the rows' keys and as the runs do it
 gave_by_key : (finished : Bool) → finished ≡ true → (outcome values : List ℕ) → (finished && bytes_eq outcome values) ≡ is_eq (slice_cmp nat_cmp outcome values)

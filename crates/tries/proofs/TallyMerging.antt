@@ -22,23 +22,23 @@ use Rattle.tries.specs.inner.Merging.{counted_both, first_of, AreRunsFrom, AreTa
 use Rattle.tries.proofs.TrialLaws.{left_after-sum, no_trials}
 use Rattle.tries.proofs.TallyLaws.{none_counted, seen_few}
 
--- ---- what is told of an outcome
+-- ---- what is counted of an outcome
 
-abbrev told_by : ℕ → Option Trial → Option Counted
-told_by n o = option_map (λ (first : Trial). (n, schedule_text first.events)) o
+abbrev counted_from : ℕ → Option Trial → Option Counted
+counted_from n o = option_map (λ (first : Trial). (n, schedule_text first.events)) o
 
-told_of_both : (o p : Option Trial) (n m : ℕ) → (o ≡ None → n ≡ 0) → (p ≡ None → m ≡ 0) → told_by (n + m) (option_or o p) ≡ counted_both (told_by n o) (told_by m p)
-told_of_both None None n m none also = refl
-told_of_both None (Some first) n m none also = let same : n + m ≡ m = omega (arith, none refl) in ap (λ (k : ℕ). told_by k (Some first)) same
-told_of_both (Some first) None n m none also = let same : n + m ≡ n = omega (arith, also refl) in ap (λ (k : ℕ). told_by k (Some first)) same
-told_of_both (Some first) (Some other) n m none also = refl
+counted_of_both : (o p : Option Trial) (n m : ℕ) → (o ≡ None → n ≡ 0) → (p ≡ None → m ≡ 0) → counted_from (n + m) (option_or o p) ≡ counted_both (counted_from n o) (counted_from m p)
+counted_of_both None None n m none also = refl
+counted_of_both None (Some first) n m none also = let same : n + m ≡ m = omega (arith, none refl) in ap (λ (k : ℕ). counted_from k (Some first)) same
+counted_of_both (Some first) None n m none also = let same : n + m ≡ n = omega (arith, also refl) in ap (λ (k : ℕ). counted_from k (Some first)) same
+counted_of_both (Some first) (Some other) n m none also = refl
 
 seen_both : (front back : List Trial) (outcome : List ℕ) → seen_of (front ++ back) outcome ≡ counted_both (seen_of front outcome) (seen_of back outcome)
 unfolding seen_of
 seen_both front back outcome =
-    ap (λ (n : ℕ). told_by n (find (gave outcome) (front ++ back))) (sum_by-append (λ y. cond (gave outcome y) 1 0) front back)
-    ∙ ap (told_by (count_by (gave outcome) front + count_by (gave outcome) back)) (find-append (gave outcome) front back)
-    ∙ told_of_both (find (gave outcome) front) (find (gave outcome) back) _ _ (none_counted (gave outcome) front) (none_counted (gave outcome) back)
+    ap (λ (n : ℕ). counted_from n (find (gave outcome) (front ++ back))) (sum_by-append (λ y. cond (gave outcome y) 1 0) front back)
+    ∙ ap (counted_from (count_by (gave outcome) front + count_by (gave outcome) back)) (find-append (gave outcome) front back)
+    ∙ counted_of_both (find (gave outcome) front) (find (gave outcome) back) _ _ (none_counted (gave outcome) front) (none_counted (gave outcome) back)
 
 -- two flags, each of one part, are one of all
 any_both : (p : Trial → Bool) (front back : List Trial) (old later new : Bool) → new ≡ (old || later) → old ≡ list_any p front → later ≡ list_any p back
@@ -96,22 +96,22 @@ at_start size stream = let none : 0 * size ≡ 0 = omega arith in ap (λ (n : �
 module _ (source : Source) where
   -- all runs, from the first on
   abbrev AreRuns : (runs : ℕ) → List Trial → Type 0
-  AreRuns runs trials = AreTrials source.B source.M source.question source.stream runs source.size trials
+  AreRuns runs trials = AreTrials source.B source.M source.test source.stream runs source.size trials
 
   abbrev IsRun : Trial → Type 0
-  IsRun trial = IsTrial source.B source.M source.question trial
+  IsRun trial = IsTrial source.B source.M source.test trial
 
   -- runs, and those that the generator draws after them
   runs_both : (before number : ℕ) (front back : List Trial) → AreRuns before front → AreRunsFrom source before number back → AreRuns (before + number) (front ++ back)
   runs_both before number front back first second =
-      let drawing = schedule_drawn (length source.question.opening.harts) source.size source.stream in
-      let later = schedule_drawn (length source.question.opening.harts) source.size (left_after (before * source.size) source.stream) in
+      let drawing = schedule_drawn (length source.test.opening.harts) source.size source.stream in
+      let later = schedule_drawn (length source.test.opening.harts) source.size (left_after (before * source.size) source.stream) in
       record {
         schedules =
             map-append (λ (t : Trial). t.events) front back
             ∙ ap (λ (xs : List (List Event)). xs ++ map (λ (t : Trial). t.events) back) first.schedules
             ∙ ap (λ (xs : List (List Event)). map drawing (range_with_len 0 before) ++ xs) second.schedules
-            ∙ sym (numbered_both drawing later before number (drawn_later (length source.question.opening.harts) source.size source.stream before));
+            ∙ sym (numbered_both drawing later before number (drawn_later (length source.test.opening.harts) source.size source.stream before));
         ran = All-append IsRun front back first.ran second.ran;
       }
 
@@ -120,13 +120,13 @@ module _ (source : Source) where
   first_are runs tally is =
       let all : runs - 0 ≡ runs = omega arith in
       subst (λ (n : ℕ). AreRuns n is.trials) all
-      (subst (λ (s : Stream). AreTrials source.B source.M source.question s (runs - 0) source.size is.trials) (at_start source.size source.stream) is.are)
+      (subst (λ (s : Stream). AreTrials source.B source.M source.test s (runs - 0) source.size is.trials) (at_start source.size source.stream) is.are)
 
   are_first : (runs : ℕ) (trials : List Trial) → AreRuns runs trials → AreRunsFrom source 0 (runs - 0) trials
   are_first runs trials are =
       let all : runs ≡ runs - 0 = omega arith in
       subst (λ (n : ℕ). AreRunsFrom source 0 n trials) all
-      (subst (λ (s : Stream). AreTrials source.B source.M source.question s runs source.size trials) (sym (at_start source.size source.stream)) are)
+      (subst (λ (s : Stream). AreTrials source.B source.M source.test s runs source.size trials) (sym (at_start source.size source.stream)) are)
 
   pub from_all : (runs : ℕ) (tally : Tally) → IsTallyFrom source 0 runs tally → (trials : List Trial) × AreRuns runs trials × IsTallyOf trials tally
   from_all runs tally is = (is.trials, first_are runs tally is, is.tallied)
@@ -137,20 +137,20 @@ module _ (source : Source) where
       let zero_runs : 0 ≡ first_of runs jobs 0 = search rules in
       record {
         trials = [];
-        are = are_first (first_of runs jobs 0) [] (subst (λ (n : ℕ). AreRuns n []) zero_runs (no_trials source.B source.M source.question source.stream source.size));
+        are = are_first (first_of runs jobs 0) [] (subst (λ (n : ℕ). AreRuns n []) zero_runs (no_trials source.B source.M source.test source.stream source.size));
         tallied = none;
       }
 
   -- the runs of a round, which the generator draws after those before it
   pub from_round : (before round : ℕ) (there : Stream) (tally : Tally) → there ≡ left_after (before * source.size) source.stream
-      → (trials : List Trial) × AreTrials source.B source.M source.question there round source.size trials × IsTallyOf trials tally
+      → (trials : List Trial) × AreTrials source.B source.M source.test there round source.size trials × IsTallyOf trials tally
       → IsTallyFrom source before (before + round) tally
   from_round before round there tally drawn is =
       let own : round ≡ (before + round) - before = omega arith in
       record {
         trials = is.0;
         are = subst (λ (n : ℕ). AreRunsFrom source before n is.0) own
-            (subst (λ (s : Stream). AreTrials source.B source.M source.question s round source.size is.0) drawn is.1);
+            (subst (λ (s : Stream). AreTrials source.B source.M source.test s round source.size is.0) drawn is.1);
         tallied = is.2;
       }
 
@@ -174,11 +174,11 @@ module _ (source : Source) where
     both_long : length both ≡ end
     both_long =
         sym (length-map both (λ (t : Trial). t.events)) ∙ ap (λ (xs : List (List Event)). length xs) both_are.schedules
-        ∙ length-map-range_with_len (schedule_drawn (length source.question.opening.harts) source.size source.stream) 0 end
+        ∙ length-map-range_with_len (schedule_drawn (length source.test.opening.harts) source.size source.stream) 0 end
 
     -- no count is above the number of all runs
     pub both_few : (most : ℕ) → end < most → (outcome : List ℕ)
-        → IfSome {T = Counted} (counted_both (counted_of old.rows.entries outcome) (counted_of later.rows.entries outcome)) (λ told. told.0 < most)
+        → IfSome {T = Counted} (counted_both (counted_of old.rows.entries outcome) (counted_of later.rows.entries outcome)) (λ seen. seen.0 < most)
     both_few most few outcome =
         rw (first.tallied.rows outcome, second.tallied.rows outcome, ← seen_both first.trials second.trials outcome)
         (seen_few both outcome most (omega (arith, both_long, few)))

@@ -25,19 +25,19 @@ left_more size number first before after was drawn =
     drawn ∙ ap (left_after size) was ∙ left_after-sum size (number * size) first ∙ ap (λ (n : ℕ). left_after n first) more
 
 -- no run
-pub no_trials : (B M : ℕ) (question : LitmusTest) (stream : Stream) (size : ℕ) → AreTrials B M question stream 0 size []
-no_trials B M question stream size = record { schedules = refl; ran = All-nil (IsTrial B M question) }
+pub no_trials : (B M : ℕ) (test : LitmusTest) (stream : Stream) (size : ℕ) → AreTrials B M test stream 0 size []
+no_trials B M test stream size = record { schedules = refl; ran = All-nil (IsTrial B M test) }
 
 -- and one run more
-pub trials_more : (B M : ℕ) (question : LitmusTest) (stream : Stream) (number size : ℕ) (trials : List Trial) (trial : Trial) → AreTrials B M question stream number size trials
-    → trial.events ≡ schedule_drawn (length question.opening.harts) size stream number → IsTrial B M question trial → AreTrials B M question stream (number + 1) size (trials ++ trial ∷ [])
-trials_more B M question stream number size trials trial are drawn is =
+pub trials_more : (B M : ℕ) (test : LitmusTest) (stream : Stream) (number size : ℕ) (trials : List Trial) (trial : Trial) → AreTrials B M test stream number size trials
+    → trial.events ≡ schedule_drawn (length test.opening.harts) size stream number → IsTrial B M test trial → AreTrials B M test stream (number + 1) size (trials ++ trial ∷ [])
+trials_more B M test stream number size trials trial are drawn is =
     let same : 0 + number ≡ number = omega arith in
     record {
       schedules =
           map-append (λ (t : Trial). t.events) trials (trial ∷ [])
           ∙ ap (λ (front : List (List Event)). front ++ trial.events ∷ []) are.schedules
-          ∙ ap (λ (events : List Event). map (schedule_drawn (length question.opening.harts) size stream) (range_with_len 0 number) ++ events ∷ []) drawn
-          ∙ sym (map-range_with_len_more (schedule_drawn (length question.opening.harts) size stream) 0 number number same);
-      ran = All-append (IsTrial B M question) trials (trial ∷ []) are.ran (All-cons (IsTrial B M question) trial [] is (All-nil (IsTrial B M question)));
+          ∙ ap (λ (events : List Event). map (schedule_drawn (length test.opening.harts) size stream) (range_with_len 0 number) ++ events ∷ []) drawn
+          ∙ sym (map-range_with_len_more (schedule_drawn (length test.opening.harts) size stream) 0 number number same);
+      ran = All-append (IsTrial B M test) trials (trial ∷ []) are.ran (All-cons (IsTrial B M test) trial [] is (All-nil (IsTrial B M test)));
     }

@@ -36,11 +36,11 @@ first_schedule_text (Some trial) = schedule_text trial.events
 
 -- a line: how many runs, the values of the left sides, and a schedule
 abbrev pub line_of : LitmusTest → (outcome : List ℕ) → (count : ℕ) → (schedule : List ℕ) → List ℕ
-line_of question outcome count schedule = decimal count ++ flat_map (value_text question.names) (zip (left_sides question.condition) outcome) ++ codes " ;" ++ schedule ++ 10 ∷ []
+line_of test outcome count schedule = decimal count ++ flat_map (value_text test.names) (zip (left_sides test.condition) outcome) ++ codes " ;" ++ schedule ++ 10 ∷ []
 
 -- the line of an outcome, with how many runs gave it and the schedule of the first run that did
 abbrev pub outcome_line : LitmusTest → List Trial → (outcome : List ℕ) → List ℕ
-outcome_line question trials outcome = line_of question outcome (count_by (gave outcome) trials) (first_schedule_text (find (gave outcome) trials))
+outcome_line test trials outcome = line_of test outcome (count_by (gave outcome) trials) (first_schedule_text (find (gave outcome) trials))
 
 abbrev pub unfinished_line : (count : ℕ) → List ℕ
 unfinished_line count = codes "unfinished " ++ decimal count ++ 10 ∷ []
@@ -56,17 +56,17 @@ pub record AreOutcomes (trials : List Trial) (outcomes : List (List ℕ)) : Type
 
 -- the text of so many runs of a test, over store buffers of B pairs and a memory of M words, and
 -- whether they show what the test asks
-pub record IsTried (B M : ℕ) (stream : Stream) (runs size : ℕ) (question : LitmusTest) (answer : List ℕ × Bool) : Type 0 where
+pub record IsTried (B M : ℕ) (stream : Stream) (runs size : ℕ) (test : LitmusTest) (answer : List ℕ × Bool) : Type 0 where
   pub trials : List Trial
-  pub are : AreTrials B M question stream runs size trials
+  pub are : AreTrials B M test stream runs size trials
   pub outcomes : List (List ℕ)
   pub shown : AreOutcomes trials outcomes
-  pub text : answer.0 ≡ flat_map (outcome_line question trials) outcomes ++ unfinished_line (unfinished trials)
-  pub good : answer.1 ≡ are_good question.quantifier trials
+  pub text : answer.0 ≡ flat_map (outcome_line test trials) outcomes ++ unfinished_line (unfinished trials)
+  pub good : answer.1 ≡ are_good test.quantifier trials
 
 abbrev pub IsTriedOf : (B M : ℕ) → Stream → (runs size : ℕ) → LitmusTest → Result (List ℕ × Bool) Refusal → Type 0
-IsTriedOf B M stream runs size question (Ok answer) = IsTried B M stream runs size question answer
-IsTriedOf B M stream runs size question (Err refusal) = ⊥
+IsTriedOf B M stream runs size test (Ok answer) = IsTried B M stream runs size test answer
+IsTriedOf B M stream runs size test (Err refusal) = ⊥
 
 -- what answers a test, where the generator gives this stream
 abbrev pub IsTryAnswer : (B M : ℕ) → Stream → (runs size : ℕ) → (file : List ℕ) → Result (List ℕ × Bool) Refusal → Type 0

@@ -21,11 +21,11 @@ pub record Trial : Type 0 where
   pub values : List ℕ
 
 -- the schedule leads there from the test's opening, over store buffers of B pairs and a memory of M words
-pub record IsTrial (B M : ℕ) (question : LitmusTest) (trial : Trial) : Type 0 where
+pub record IsTrial (B M : ℕ) (test : LitmusTest) (trial : Trial) : Type 0 where
   pub history : History
-  pub ran : Run B M question.opening trial.events history
-  pub judged : IsVerdict M question history trial.verdict
-  pub read : trial.values ≡ map (final_value M history) (left_sides question.condition)
+  pub ran : Run B M test.opening trial.events history
+  pub judged : IsVerdict M test history trial.verdict
+  pub read : trial.values ≡ map (final_value M history) (left_sides test.condition)
 
 -- The schedule of this number, from 0. Each has so many events and takes so many words of the
 -- generator's stream, behind those of the schedules before it.
@@ -33,9 +33,9 @@ abbrev pub schedule_drawn : (harts size : ℕ) → Stream → (number : ℕ) →
 schedule_drawn harts size stream number = map (drawn harts) (words size (left_after (number * size) stream))
 
 -- so many runs, from the schedules that the generator's stream draws one after the other
-pub record AreTrials (B M : ℕ) (question : LitmusTest) (stream : Stream) (runs size : ℕ) (trials : List Trial) : Type 0 where
-  pub schedules : map (λ t. t.events) trials ≡ map (schedule_drawn (length question.opening.harts) size stream) (range_with_len 0 runs)
-  pub ran : All (IsTrial B M question) trials
+pub record AreTrials (B M : ℕ) (test : LitmusTest) (stream : Stream) (runs size : ℕ) (trials : List Trial) : Type 0 where
+  pub schedules : map (λ t. t.events) trials ≡ map (schedule_drawn (length test.opening.harts) size stream) (range_with_len 0 runs)
+  pub ran : All (IsTrial B M test) trials
 
 -- a run is finished where there is a verdict on its outcome
 abbrev pub is_finished : Verdict → Bool

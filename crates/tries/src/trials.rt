@@ -63,7 +63,7 @@ fn answer<const B: usize, const M: usize, G: Jump + Sync + Drop, T: Threads + Sy
     requires capacity { B ≤ 64 }
     requires words { MAX_LOCATIONS ≤ M }
     requires size { M ≤ 65536 }
-    ensures { IfOk result (λ told. IsTried B M (left_after (runs.skip * runs.length) (G.Rng.stream generator.now)) runs.number runs.length test.now (text_and_value told)) }
+    ensures { IfOk result (λ answered. IsTried B M (left_after (runs.skip * runs.length) (G.Rng.stream generator.now)) runs.number runs.length test.now (text_and_value answered)) }
 {
     let start = generator.ahead(runs.skip, runs.length)?;
     let Runs {
@@ -105,8 +105,8 @@ fn made<
     ensures { FindsBy (IsTryAnswer B M (left_after (runs.skip * runs.length) (G.Rng.stream generator.now)) runs.number runs.length) text_and_value (R.remaining file.old) result }
 {
     let test = read_test(alloc, file)?;
-    let told = answer::<B, M, G, T, P>(rt, alloc, &test, generator, runs, progress)?;
-    Ok(told)
+    let answered = answer::<B, M, G, T, P>(rt, alloc, &test, generator, runs, progress)?;
+    Ok(answered)
 }
 
 /// Reads a litmus text to its end, and runs the test `runs.number` times from its opening with store

@@ -1,3 +1,5 @@
 pub mod PartLimits
 pub mod ShrinkLaws
-pub mod OneRefusal
+pub mod HeadedLaws
+pub mod FrontRuns
+pub mod ChartLaws

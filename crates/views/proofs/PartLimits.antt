@@ -38,7 +38,7 @@ said_few text (plain events) is = is.3.1
 said_few text (recorded steps) is = omega (arith, length-map steps (λ (step : Step). step.0), is.3.1)
 
 -- what holds of an input that is known or not holds of some bytes
-some_bytes : (known : Option (List ℕ)) (P : List ℕ → Type 0) → OfInput known P → (bytes : List ℕ) × P bytes
+pub some_bytes : (known : Option (List ℕ)) (P : List ℕ → Type 0) → OfInput known P → (bytes : List ℕ) × P bytes
 some_bytes None P is = is
 some_bytes (Some bytes) P is = (bytes, is)
 

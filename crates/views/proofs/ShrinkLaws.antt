@@ -33,10 +33,10 @@ module _ (B M : ℕ) (q : LitmusTest) (said : Said) where
   abbrev refused : Refusal → Result History Refusal
   refused r = Err r
 
-  runs_or_differs : (t : History) (r : Refusal) → Runs B M q.opening said (Ok t) → Runs B M q.opening said (Err r) → ⊥
+  pub runs_or_differs : (t : History) (r : Refusal) → Runs B M q.opening said (Ok t) → Runs B M q.opening said (Err r) → ⊥
   runs_or_differs t r ran differ = let same : Ok t ≡ refused r = one_run B M q.opening said (Ok t) (Err r) ran differ in cc
 
-  one_difference : (r s : Refusal) → Runs B M q.opening said (Err r) → Runs B M q.opening said (Err s) → r ≡ s
+  pub one_difference : (r s : Refusal) → Runs B M q.opening said (Err r) → Runs B M q.opening said (Err s) → r ≡ s
   one_difference r s differ other = let same : refused r ≡ refused s = one_run B M q.opening said (Err r) (Err s) differ other in cc
 
   -- what is shrunk isn't refused, since its run is finished

@@ -1,1 +1,4 @@
 pub mod Shrink
+pub mod About
+pub mod Chart
+pub mod inner

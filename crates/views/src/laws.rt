@@ -1,10 +1,11 @@
-//! Laws of what the command answers.
+//! Laws of what the commands answer.
 
 ghost use Rattle.std.specs.Prelude.{ℕ, List, Result};
 ghost use Rattle.litmus.specs.LitmusTests.{LitmusTest};
 ghost use Rattle.recorder.specs.Versions.{Said};
 ghost use Rattle.engine_parts.specs.declared.fault.Refusal.{Refusal};
-ghost use Rattle.engine_parts.specs.Engines.{Output, AreAlike};
+ghost use Rattle.engine_parts.specs.Engines.{Output, AreAlike, AreOneAnswer};
+ghost use Rattle.views.specs.Chart.{Drawing, IsChartAnswer};
 ghost use Rattle.views.specs.Shrink.{AreOfOneKind, IsShrink, IsShrinkAnswer};
 
 /// Two answers to one input are both schedules, or refusals of one number: a run is refused exactly where
@@ -14,4 +15,10 @@ ghost use Rattle.views.specs.Shrink.{AreOfOneKind, IsShrink, IsShrinkAnswer};
 pub fn shrinks_alike()
     ensures run { (B M : ℕ) (question : LitmusTest) (said : Said) (a b : Result Output Refusal) → IsShrink B M question said a → IsShrink B M question said b → AreAlike a b }
     ensures inputs { (B M : ℕ) (file schedule : List ℕ) (a b : Result Output Refusal) → IsShrinkAnswer B M file schedule a → IsShrinkAnswer B M file schedule b → AreOfOneKind a b }
+{}
+
+/// Two charts of one input are one text, or refusals of one number. Of a refused litmus text it isn't said
+/// on which line its first fault stands. It does nothing.
+pub fn one_chart()
+    ensures { (B M : ℕ) (draws : Drawing) (file schedule : List ℕ) (a b : Result Output Refusal) → IsChartAnswer B M draws file schedule a → IsChartAnswer B M draws file schedule b → AreOneAnswer a b }
 {}

@@ -1,10 +1,13 @@
-//! What a run comes down to, for people who look at it: the engine of the command `shrink`.
+//! Runs for people who look at them: the engines of the commands `shrink` and `chart`.
 //!
-//! The contract: the engine's clause states what it writes for what its readers give, byte for byte, and
+//! The contract: each engine's clause states what it writes for what its readers give, byte for byte, and
 //! what each fault means (`Ends` of `engine_parts/specs/Engines.antt`). This crate knows no command line,
-//! opens no file and names no standard stream. It has no tests: the cases of the program run its engine.
+//! opens no file and names no standard stream. It has no tests: the cases of the program run its engines.
 
 #![tactic(auto)]
 
+mod about;
+pub mod charting;
+mod heading;
 pub mod laws;
 pub mod shrinking;

@@ -5,7 +5,7 @@ use Rattle.engine_parts.specs.declared.fault.Fault.{Fault}
 use Rattle.engine_parts.specs.declared.fault.Fault.TheVariants.{ReadFailed, WriteFailed, NoMemory, Refused}
 use Rattle.engine_parts.specs.declared.fault.Refusal.{Refusal}
 use Rattle.engine_parts.specs.Engines.{Ends}
-use Rattle.debugger.specs.Talks.{EndsAloud}
+use Rattle.debugger.specs.Transcripts.{EndsInteractive}
 use Rattle.ztso.specs.Work.{WithStatus, ended_with}
 
 answered : {V W : Type 0} (status : V → ℕ) (IsAnswer : Result (List ℕ × V) Refusal → Type 0) (r : Result V Fault) (contents : W → Option (List ℕ)) (old new : W)
@@ -16,18 +16,18 @@ answered status IsAnswer (Err ReadFailed) contents old new h = h
 answered status IsAnswer (Err NoMemory) contents old new h = h
 answered status IsAnswer (Err WriteFailed) contents old new (answer, is) = ((answer.0, status answer.1), (answer.1, refl, is))
 
-pub ends_told : {V W : Type 0} (status : V → ℕ) (IsAnswer : Result (List ℕ × V) Refusal → Type 0) (r : Result V Fault) (contents : W → Option (List ℕ)) (old new : W)
+pub ends_with_status : {V W : Type 0} (status : V → ℕ) (IsAnswer : Result (List ℕ × V) Refusal → Type 0) (r : Result V Fault) (contents : W → Option (List ℕ)) (old new : W)
     → Ends IsAnswer r contents old new → (s : Result ℕ Fault) → s ≡ ended_with status r → Ends (WithStatus status IsAnswer) s contents old new
-ends_told status IsAnswer r contents old new h s is = rw is (answered status IsAnswer r contents old new h)
+ends_with_status status IsAnswer r contents old new h s is = rw is (answered status IsAnswer r contents old new h)
 
-told_aloud : {V W : Type 0} (status : V → ℕ) (IsAnswer : Result (List ℕ × V) Refusal → Type 0) (r : Result V Fault) (contents : W → Option (List ℕ)) (old new : W)
-    → EndsAloud IsAnswer r contents old new → EndsAloud (WithStatus status IsAnswer) (ended_with status r) contents old new
-told_aloud status IsAnswer (Ok v) contents old new (out, answers, appends) = (out, (v, refl, answers), appends)
-told_aloud status IsAnswer (Err (Refused refusal)) contents old new h = h
-told_aloud status IsAnswer (Err ReadFailed) contents old new h = h
-told_aloud status IsAnswer (Err NoMemory) contents old new h = h
-told_aloud status IsAnswer (Err WriteFailed) contents old new h = h
+interactive_with_status : {V W : Type 0} (status : V → ℕ) (IsAnswer : Result (List ℕ × V) Refusal → Type 0) (r : Result V Fault) (contents : W → Option (List ℕ)) (old new : W)
+    → EndsInteractive IsAnswer r contents old new → EndsInteractive (WithStatus status IsAnswer) (ended_with status r) contents old new
+interactive_with_status status IsAnswer (Ok v) contents old new (out, answers, appends) = (out, (v, refl, answers), appends)
+interactive_with_status status IsAnswer (Err (Refused refusal)) contents old new h = h
+interactive_with_status status IsAnswer (Err ReadFailed) contents old new h = h
+interactive_with_status status IsAnswer (Err NoMemory) contents old new h = h
+interactive_with_status status IsAnswer (Err WriteFailed) contents old new h = h
 
-pub ends_aloud : {V W : Type 0} (status : V → ℕ) (IsAnswer : Result (List ℕ × V) Refusal → Type 0) (r : Result V Fault) (contents : W → Option (List ℕ)) (old new : W)
-    → EndsAloud IsAnswer r contents old new → (s : Result ℕ Fault) → s ≡ ended_with status r → EndsAloud (WithStatus status IsAnswer) s contents old new
-ends_aloud status IsAnswer r contents old new h s is = rw is (told_aloud status IsAnswer r contents old new h)
+pub ends_interactive : {V W : Type 0} (status : V → ℕ) (IsAnswer : Result (List ℕ × V) Refusal → Type 0) (r : Result V Fault) (contents : W → Option (List ℕ)) (old new : W)
+    → EndsInteractive IsAnswer r contents old new → (s : Result ℕ Fault) → s ≡ ended_with status r → EndsInteractive (WithStatus status IsAnswer) s contents old new
+ends_interactive status IsAnswer r contents old new h s is = rw is (interactive_with_status status IsAnswer r contents old new h)

@@ -25,13 +25,13 @@ is_free_ztso = refl
 
 failed : (kinds : Kinds) (found : Option (Text × List Row)) (error : Error) → HasKind kinds error
     → (r : Result Job Failure) → IsErrAnd r (IsFailureFor (kind_of error ≡ OutOfMemory)) → Answers (job_without kinds found) r
-failed kinds found error has (Ok job) told = absurd told
+failed kinds found error has (Ok job) fails = absurd fails
 failed kinds found error has (Err failure) (inl memory) = inl memory.1
 failed kinds found error (inl memory) (Err failure) (inr other) = absurd (other.0 memory)
 failed [] found error (inr among) (Err failure) (inr other) = absurd among
 failed (kind ∷ kinds) found error (inr among) (Err failure) (inr other) = inr (other.1, refl)
 
--- a parse that fails is told as its kind wants
+-- a parse that fails ends as its kind says
 pub answers_failed : (words : List Text) (error : Error) → HasKind (fault_of ztso_command words) error
     → (r : Result Job Failure) → IsErrAnd r (IsFailureFor (kind_of error ≡ OutOfMemory)) → Answers (job_said words) r
 unfolding job_said

@@ -1,5 +1,5 @@
 -- What is said by words of which some are known to be no options. The walk over them asks nothing more of
--- such a word, so it is told without a case for each.
+-- such a word, so no case for each is needed.
 use Rattle.std.proofs.Common.{◌≡◌, ℕ, Bool, true, false, None, ◌==◌, List, [], ◌∷◌, ◌++◌, map, Option, Some, refl, ap, ap₂, sym, ◌∙◌, append-nil, append_assoc}
 use Rattle.std.specs.Prelude.{if◌then◌else◌, is_some, find, fold, option_map}
 use Rattle.std.specs.Option.{option_map_or}
@@ -28,7 +28,7 @@ no_flag (c ∷ word) h = go (c == 45) refl
 
 -- ---- words one by one
 
--- Of a word that is no option the walk asks nothing more. So it is told by pieces: words that are no
+-- Of a word that is no option the walk asks nothing more. So it is stated by pieces: words that are no
 -- options, and other words.
 pub data Piece : Type 0 where
   plain : Text → Piece

@@ -6,19 +6,22 @@ use Rattle.clap.proofs.OnLiterals.{clap_on_literals}
 use Rattle.ztso.proofs.Pieces.{Piece, plain, other, text_in, ArePlain, IsCommand, said, pieces_fault, by_pieces}
 use Rattle.ztso.specs.CommandLines.{Answers, capacity_said, job_said, number_if_said, ring_said, ◌>>=◌}
 use Rattle.ztso.specs.Numbers.{number_within}
-use Rattle.ztso.specs.Spellings.{AsksFor, AsksForNumber, AsksForStride, AsksToFinish, IsOnFiles, IsSpelling, IsSpellingOf, IsWord, name_of, text_of}
+use Rattle.ztso.specs.Spellings.{AsksFor, AsksForNumber, AsksForStride, AsksForStyle, AsksToFinish, IsOnFiles, IsSpelling, IsSpellingOf, IsWord, name_of, text_of}
 use Rattle.ztso.specs.declared.job.Ring.{Ring}
 use Rattle.ztso.specs.declared.job.Ring.TheVariants.{Lamport, FastForward}
-use Rattle.ztso.specs.declared.job.Task.{Task}
+use Rattle.ztso.specs.declared.job.Command.{Command}
 use Rattle.ztso.specs.declared.failure.Failure.{Failure}
 use Rattle.ztso.specs.declared.job.Capacity.{Capacity}
 use Rattle.ztso.specs.declared.job.Capacity.TheVariants.{One, Two, Four, Sixteen}
 use Rattle.ztso.specs.declared.job.Job.{Job}
-use Rattle.ztso.specs.declared.job.Errand.TheVariants.{Asm, Dis, Machine}
-use Rattle.ztso.specs.declared.job.Task.TheVariants.{Alone, Threads}
-use Rattle.ztso.specs.declared.job.Work.{Work}
-use Rattle.ztso.specs.declared.job.Work.TheVariants.{Steps, Run, Replay, Move, Shrink, Debug, Try, Channel}
+use Rattle.ztso.specs.declared.job.PlainCommand.TheVariants.{Asm, Dis, Machine}
+use Rattle.ztso.specs.declared.job.Command.TheVariants.{Alone, Threads}
+use Rattle.ztso.specs.declared.job.MachineCommand.{MachineCommand}
+use Rattle.ztso.specs.declared.job.MachineCommand.TheVariants.{Steps, Run, Replay, Move, Shrink, Chart, Debug, Try, Channel}
 use Rattle.poll_close.specs.declared.place.Place.{Place}
+use Rattle.views.specs.declared.charting.Style.{Style}
+use Rattle.views.specs.declared.charting.Style.TheVariants.{Svg}
+use Rattle.views.specs.declared.charting.Style.TheVariants as style
 use Rattle.tries.specs.declared.trials.Runs.{Runs}
 use Rattle.ztso.specs.Jobs.{Wanted, one_input, two_inputs}
 use Rattle.ztso.specs.Jobs.Input.{Standard, File}
@@ -66,20 +69,20 @@ capacity_spelled capacity options (inl default) = record { tail = none; text = [
 capacity_spelled capacity options (inr (inl is)) = record { tail = blank; text = text_of capacity; is = is; says = text_says capacity; are = (text_is_word capacity, tt) }
 capacity_spelled capacity options (inr (inr is)) = record { tail = equals; text = text_of capacity; is = is; says = text_says capacity; are = tt }
 
-abbrev machine_of : Option Capacity → Option Work → Option Task
-machine_of found work = work >>= (λ w. found >>= (λ capacity. Some (Alone (Machine w capacity))))
+abbrev machine_of : Option Capacity → Option MachineCommand → Option Command
+machine_of found command = command >>= (λ w. found >>= (λ capacity. Some (Alone (Machine w capacity))))
 
-abbrev on_file_of : Text → Option Task → Option Wanted
-on_file_of file task = task >>= (λ wanted. Some (one_input wanted (File file)))
+abbrev on_file_of : Text → Option Command → Option Wanted
+on_file_of file command = command >>= (λ wanted. Some (one_input wanted (File file)))
 
-abbrev on_schedule_of : Text → Option Task → Option Wanted
-on_schedule_of schedule task = task >>= (λ wanted. Some (two_inputs wanted (File schedule) Standard))
+abbrev on_schedule_of : Text → Option Command → Option Wanted
+on_schedule_of schedule command = command >>= (λ wanted. Some (two_inputs wanted (File schedule) Standard))
 
-abbrev on_files_of : (file schedule : Text) → Option Task → Option Wanted
-on_files_of file schedule task = task >>= (λ wanted. Some (two_inputs wanted (File file) (File schedule)))
+abbrev on_files_of : (file schedule : Text) → Option Command → Option Wanted
+on_files_of file schedule command = command >>= (λ wanted. Some (two_inputs wanted (File file) (File schedule)))
 
-abbrev on_standard_of : Option Task → Option Wanted
-on_standard_of task = task >>= (λ wanted. Some (one_input wanted Standard))
+abbrev on_standard_of : Option Command → Option Wanted
+on_standard_of command = command >>= (λ wanted. Some (one_input wanted Standard))
 
 -- ---- an option with a number
 
@@ -141,11 +144,11 @@ steps_is_command : IsCommand (codes "steps")
 unfolding clap_on_literals
 steps_is_command = (refl, refl)
 
-steps_told : (tail : Tail) (t : Text) → said (codes "steps") (tail_of tail t) ≡ on_standard_of (machine_of (capacity_at tail t) (Some Steps))
+steps_read : (tail : Tail) (t : Text) → said (codes "steps") (tail_of tail t) ≡ on_standard_of (machine_of (capacity_at tail t) (Some Steps))
 unfolding clap_on_literals pieces_fault
-steps_told none t = refl
-steps_told blank t = refl
-steps_told equals t = refl
+steps_read none t = refl
+steps_read blank t = refl
+steps_read equals t = refl
 
 steps_says : (capacity : Capacity) (found : Option Capacity) → found ≡ Some capacity
     → on_standard_of (machine_of found (Some Steps)) ≡ Some (one_input (Alone (Machine Steps capacity)) Standard)
@@ -167,12 +170,12 @@ command_of moving = codes "move"
 command_of shrinking = codes "shrink"
 command_of debugging = codes "debug"
 
-abbrev work_of : OnFiles → Work
-work_of running = Run
-work_of replaying = Replay
-work_of moving = Move
-work_of shrinking = Shrink
-work_of debugging = Debug
+abbrev machine_command_of : OnFiles → MachineCommand
+machine_command_of running = Run
+machine_command_of replaying = Replay
+machine_command_of moving = Move
+machine_command_of shrinking = Shrink
+machine_command_of debugging = Debug
 
 on_files_is_command : (command : OnFiles) → IsCommand (command_of command)
 unfolding clap_on_literals
@@ -182,36 +185,67 @@ on_files_is_command moving = (refl, refl)
 on_files_is_command shrinking = (refl, refl)
 on_files_is_command debugging = (refl, refl)
 
-on_files_told : (command : OnFiles) (file schedule : Text) (tail : Tail) (t : Text)
-    → said (command_of command) (plain file ∷ plain schedule ∷ tail_of tail t) ≡ on_files_of file schedule (machine_of (capacity_at tail t) (Some (work_of command)))
+on_files_read : (command : OnFiles) (file schedule : Text) (tail : Tail) (t : Text)
+    → said (command_of command) (plain file ∷ plain schedule ∷ tail_of tail t) ≡ on_files_of file schedule (machine_of (capacity_at tail t) (Some (machine_command_of command)))
 unfolding clap_on_literals pieces_fault
-on_files_told running file schedule none t = refl
-on_files_told running file schedule blank t = refl
-on_files_told running file schedule equals t = refl
-on_files_told replaying file schedule none t = refl
-on_files_told replaying file schedule blank t = refl
-on_files_told replaying file schedule equals t = refl
-on_files_told moving file schedule none t = refl
-on_files_told moving file schedule blank t = refl
-on_files_told moving file schedule equals t = refl
-on_files_told shrinking file schedule none t = refl
-on_files_told shrinking file schedule blank t = refl
-on_files_told shrinking file schedule equals t = refl
-on_files_told debugging file schedule none t = refl
-on_files_told debugging file schedule blank t = refl
-on_files_told debugging file schedule equals t = refl
+on_files_read running file schedule none t = refl
+on_files_read running file schedule blank t = refl
+on_files_read running file schedule equals t = refl
+on_files_read replaying file schedule none t = refl
+on_files_read replaying file schedule blank t = refl
+on_files_read replaying file schedule equals t = refl
+on_files_read moving file schedule none t = refl
+on_files_read moving file schedule blank t = refl
+on_files_read moving file schedule equals t = refl
+on_files_read shrinking file schedule none t = refl
+on_files_read shrinking file schedule blank t = refl
+on_files_read shrinking file schedule equals t = refl
+on_files_read debugging file schedule none t = refl
+on_files_read debugging file schedule blank t = refl
+on_files_read debugging file schedule equals t = refl
 
-on_files_says : (work : Work) (file schedule : Text) (capacity : Capacity) (found : Option Capacity) → found ≡ Some capacity
-    → on_files_of file schedule (machine_of found (Some work)) ≡ Some (two_inputs (Alone (Machine work capacity)) (File file) (File schedule))
-on_files_says work file schedule capacity found a = rw a refl
+on_files_says : (command : MachineCommand) (file schedule : Text) (capacity : Capacity) (found : Option Capacity) → found ≡ Some capacity
+    → on_files_of file schedule (machine_of found (Some command)) ≡ Some (two_inputs (Alone (Machine command capacity)) (File file) (File schedule))
+on_files_says command file schedule capacity found a = rw a refl
 
 of_files : (name : Text) (rest : List Text) (command : OnFiles) (capacity : Capacity) (wanted : Wanted)
-    → IsOnFiles (command_of command) (work_of command) capacity wanted rest → job_said (name ∷ rest) ≡ Some wanted
+    → IsOnFiles (command_of command) (machine_command_of command) capacity wanted rest → job_said (name ∷ rest) ≡ Some wanted
 of_files name rest command capacity wanted (file, schedule, options, is, f, s, asks, wants) =
     let to = capacity_spelled capacity options asks in
     by_pieces name (command_of command) (plain file ∷ plain schedule ∷ tail_of to.tail to.text) rest wanted (on_files_is_command command) (f, (s, to.are))
     (is ∙ ap (λ (o : List Text). command_of command ∷ file ∷ schedule ∷ o) to.is)
-    (on_files_told command file schedule to.tail to.text ∙ on_files_says (work_of command) file schedule capacity _ to.says ∙ ap (λ (w : Wanted). Some w) (sym wants))
+    (on_files_read command file schedule to.tail to.text ∙ on_files_says (machine_command_of command) file schedule capacity _ to.says ∙ ap (λ (w : Wanted). Some w) (sym wants))
+
+-- ---- `chart`
+
+-- what stands for the style, before the capacity
+abbrev style_pieces : Style → List Piece → List Piece
+style_pieces style.Text tail = tail
+style_pieces Svg tail = other (codes "--svg") ∷ tail
+
+chart_is_command : IsCommand (codes "chart")
+unfolding clap_on_literals
+chart_is_command = (refl, refl)
+
+chart_read : (file schedule : Text) (drawn : Style) (tail : Tail) (t : Text)
+    → said (codes "chart") (plain file ∷ plain schedule ∷ style_pieces drawn (tail_of tail t))
+    ≡ on_files_of file schedule (machine_of (capacity_at tail t) (Some (Chart drawn)))
+unfolding clap_on_literals pieces_fault
+chart_read file schedule style.Text none t = refl
+chart_read file schedule style.Text blank t = refl
+chart_read file schedule style.Text equals t = refl
+chart_read file schedule Svg none t = refl
+chart_read file schedule Svg blank t = refl
+chart_read file schedule Svg equals t = refl
+
+style_plain : (drawn : Style) (tail : List Piece) → ArePlain tail → ArePlain (style_pieces drawn tail)
+style_plain style.Text tail are = are
+style_plain Svg tail are = are
+
+style_texts : (drawn : Style) (first options : List Text) (tail : List Piece) → AsksForStyle drawn first → options ≡ map text_in tail
+    → first ++ options ≡ map text_in (style_pieces drawn tail)
+style_texts style.Text first options tail asks is = ap₂ (λ (a b : List Text). a ++ b) asks is
+style_texts Svg first options tail asks is = ap₂ (λ (a b : List Text). a ++ b) asks is
 
 -- ---- `try`
 
@@ -239,22 +273,22 @@ tried_says : (file s n l k j : Text) (seed : ℕ) (runs : Runs) (capacity : Capa
     → tried file s n l k j found ≡ Some (one_input (Alone (Machine (Try seed runs) capacity)) (File file))
 tried_says file s n l k j seed runs capacity found a b c d e f = rw (a, b, c, d, e, f) refl
 
-try_told : (file s n l : Text) (skip jobs : Option Text) (tail : Tail) (t : Text)
+try_read : (file s n l : Text) (skip jobs : Option Text) (tail : Tail) (t : Text)
     → said (codes "try") (try_pieces file s n l (number_pieces (codes "--skip") skip (number_pieces (codes "--jobs") jobs (tail_of tail t))))
     ≡ tried file s n l (text_or (codes "0") skip) (text_or (codes "1") jobs) (capacity_at tail t)
 unfolding clap_on_literals pieces_fault
-try_told file s n l None None none t = refl
-try_told file s n l None None blank t = refl
-try_told file s n l None None equals t = refl
-try_told file s n l None (Some j) none t = refl
-try_told file s n l None (Some j) blank t = refl
-try_told file s n l None (Some j) equals t = refl
-try_told file s n l (Some k) None none t = refl
-try_told file s n l (Some k) None blank t = refl
-try_told file s n l (Some k) None equals t = refl
-try_told file s n l (Some k) (Some j) none t = refl
-try_told file s n l (Some k) (Some j) blank t = refl
-try_told file s n l (Some k) (Some j) equals t = refl
+try_read file s n l None None none t = refl
+try_read file s n l None None blank t = refl
+try_read file s n l None None equals t = refl
+try_read file s n l None (Some j) none t = refl
+try_read file s n l None (Some j) blank t = refl
+try_read file s n l None (Some j) equals t = refl
+try_read file s n l (Some k) None none t = refl
+try_read file s n l (Some k) None blank t = refl
+try_read file s n l (Some k) None equals t = refl
+try_read file s n l (Some k) (Some j) none t = refl
+try_read file s n l (Some k) (Some j) blank t = refl
+try_read file s n l (Some k) (Some j) equals t = refl
 
 no_skip : number_within 0 18446744073709551615 (codes "0") ≡ Some 0
 unfolding number_within
@@ -304,34 +338,34 @@ carried_says ring place kind number schedule base stride finish capacity found a
 abbrev place_pieces : (base stride : Option Text) → List Piece → List Piece
 place_pieces base stride tail = number_pieces (codes "--base") base (number_pieces (codes "--stride") stride tail)
 
-channel_told : (kind number schedule : Text) (base stride : Option Text) (finish : Bool) (tail : Tail) (t : Text)
+channel_read : (kind number schedule : Text) (base stride : Option Text) (finish : Bool) (tail : Tail) (t : Text)
     → said (codes "channel") (channel_pieces kind number schedule (place_pieces base stride (finish_pieces finish (tail_of tail t))))
     ≡ carried kind number schedule (text_or (codes "0") base) stride finish (capacity_at tail t)
 unfolding clap_on_literals pieces_fault
-channel_told kind number schedule None None false none t = refl
-channel_told kind number schedule None None false blank t = refl
-channel_told kind number schedule None None false equals t = refl
-channel_told kind number schedule None None true none t = refl
-channel_told kind number schedule None None true blank t = refl
-channel_told kind number schedule None None true equals t = refl
-channel_told kind number schedule None (Some s) false none t = refl
-channel_told kind number schedule None (Some s) false blank t = refl
-channel_told kind number schedule None (Some s) false equals t = refl
-channel_told kind number schedule None (Some s) true none t = refl
-channel_told kind number schedule None (Some s) true blank t = refl
-channel_told kind number schedule None (Some s) true equals t = refl
-channel_told kind number schedule (Some b) None false none t = refl
-channel_told kind number schedule (Some b) None false blank t = refl
-channel_told kind number schedule (Some b) None false equals t = refl
-channel_told kind number schedule (Some b) None true none t = refl
-channel_told kind number schedule (Some b) None true blank t = refl
-channel_told kind number schedule (Some b) None true equals t = refl
-channel_told kind number schedule (Some b) (Some s) false none t = refl
-channel_told kind number schedule (Some b) (Some s) false blank t = refl
-channel_told kind number schedule (Some b) (Some s) false equals t = refl
-channel_told kind number schedule (Some b) (Some s) true none t = refl
-channel_told kind number schedule (Some b) (Some s) true blank t = refl
-channel_told kind number schedule (Some b) (Some s) true equals t = refl
+channel_read kind number schedule None None false none t = refl
+channel_read kind number schedule None None false blank t = refl
+channel_read kind number schedule None None false equals t = refl
+channel_read kind number schedule None None true none t = refl
+channel_read kind number schedule None None true blank t = refl
+channel_read kind number schedule None None true equals t = refl
+channel_read kind number schedule None (Some s) false none t = refl
+channel_read kind number schedule None (Some s) false blank t = refl
+channel_read kind number schedule None (Some s) false equals t = refl
+channel_read kind number schedule None (Some s) true none t = refl
+channel_read kind number schedule None (Some s) true blank t = refl
+channel_read kind number schedule None (Some s) true equals t = refl
+channel_read kind number schedule (Some b) None false none t = refl
+channel_read kind number schedule (Some b) None false blank t = refl
+channel_read kind number schedule (Some b) None false equals t = refl
+channel_read kind number schedule (Some b) None true none t = refl
+channel_read kind number schedule (Some b) None true blank t = refl
+channel_read kind number schedule (Some b) None true equals t = refl
+channel_read kind number schedule (Some b) (Some s) false none t = refl
+channel_read kind number schedule (Some b) (Some s) false blank t = refl
+channel_read kind number schedule (Some b) (Some s) false equals t = refl
+channel_read kind number schedule (Some b) (Some s) true none t = refl
+channel_read kind number schedule (Some b) (Some s) true blank t = refl
+channel_read kind number schedule (Some b) (Some s) true equals t = refl
 
 no_base : number_within 0 4294967295 (codes "0") ≡ Some 0
 unfolding number_within
@@ -369,34 +403,41 @@ threaded_says : (file : Text) (turns : ℕ) (capacity : Capacity) (count : Optio
     → count ≡ Some turns → found ≡ Some capacity → threaded file count found ≡ Some (one_input (Threads turns capacity) (File file))
 threaded_says file turns capacity count found a b = rw (a, b) refl
 
-threads_told : (file : Text) (turns : Option Text) (tail : Tail) (t : Text)
+threads_read : (file : Text) (turns : Option Text) (tail : Tail) (t : Text)
     → said (codes "threads") (plain file ∷ number_pieces (codes "--turns") turns (tail_of tail t))
     ≡ threaded file (number_within 0 10000000 (text_or (codes "100000") turns)) (capacity_at tail t)
 unfolding clap_on_literals pieces_fault
-threads_told file None none t = refl
-threads_told file None blank t = refl
-threads_told file None equals t = refl
-threads_told file (Some number) none t = refl
-threads_told file (Some number) blank t = refl
-threads_told file (Some number) equals t = refl
+threads_read file None none t = refl
+threads_read file None blank t = refl
+threads_read file None equals t = refl
+threads_read file (Some number) none t = refl
+threads_read file (Some number) blank t = refl
+threads_read file (Some number) equals t = refl
 
 most_turns : number_within 0 10000000 (codes "100000") ≡ Some 100000
 unfolding number_within
 most_turns = refl
 
--- ---- each task
+-- ---- each command
 
-spelled_of : (name : Text) (rest : List Text) (task : Task) (wanted : Wanted) → IsSpellingOf task wanted rest → job_said (name ∷ rest) ≡ Some wanted
+spelled_of : (name : Text) (rest : List Text) (command : Command) (wanted : Wanted) → IsSpellingOf command wanted rest → job_said (name ∷ rest) ≡ Some wanted
 spelled_of name rest (Alone Asm) wanted (is, wants) = ap (λ (words : List Text). job_said (name ∷ words)) is ∙ of_asm name ∙ ap (λ (w : Wanted). Some w) (sym wants)
 spelled_of name rest (Alone Dis) wanted (is, wants) = ap (λ (words : List Text). job_said (name ∷ words)) is ∙ of_dis name ∙ ap (λ (w : Wanted). Some w) (sym wants)
 spelled_of name rest (Alone (Machine Steps capacity)) wanted (options, is, asks, wants) =
     let to = capacity_spelled capacity options asks in
     by_pieces name (codes "steps") (tail_of to.tail to.text) rest wanted steps_is_command to.are (is ∙ ap (λ (o : List Text). codes "steps" ∷ o) to.is)
-    (steps_told to.tail to.text ∙ steps_says capacity _ to.says ∙ ap (λ (w : Wanted). Some w) (sym wants))
+    (steps_read to.tail to.text ∙ steps_says capacity _ to.says ∙ ap (λ (w : Wanted). Some w) (sym wants))
 spelled_of name rest (Alone (Machine Run capacity)) wanted spelling = of_files name rest running capacity wanted spelling
 spelled_of name rest (Alone (Machine Replay capacity)) wanted spelling = of_files name rest replaying capacity wanted spelling
 spelled_of name rest (Alone (Machine Move capacity)) wanted spelling = of_files name rest moving capacity wanted spelling
 spelled_of name rest (Alone (Machine Shrink capacity)) wanted spelling = of_files name rest shrinking capacity wanted spelling
+spelled_of name rest (Alone (Machine (Chart drawn) capacity)) wanted (file, schedule, first, options, is, f, s, draws, asks, wants) =
+    let to = capacity_spelled capacity options asks in
+    let end = tail_of to.tail to.text in
+    by_pieces name (codes "chart") (plain file ∷ plain schedule ∷ style_pieces drawn end) rest wanted chart_is_command
+    (f, (s, style_plain drawn end to.are))
+    (is ∙ ap (λ (o : List Text). codes "chart" ∷ file ∷ schedule ∷ o) (style_texts drawn first options end draws to.is))
+    (chart_read file schedule drawn to.tail to.text ∙ on_files_says (Chart drawn) file schedule capacity _ to.says ∙ ap (λ (w : Wanted). Some w) (sym wants))
 spelled_of name rest (Alone (Machine Debug capacity)) wanted spelling = of_files name rest debugging capacity wanted spelling
 spelled_of name rest (Alone (Machine (Try seed runs) capacity)) wanted (file, s, n, l, first, second, options, is, f, seed_is, runs_are, events_are, skips, jobs_are, asks, wants) =
     let to = capacity_spelled capacity options asks in
@@ -408,7 +449,7 @@ spelled_of name rest (Alone (Machine (Try seed runs) capacity)) wanted (file, s,
     (f, (seed_is.0, (runs_are.0, (events_are.0, skip.are with_jobs (jobs.are end to.are)))))
     (is ∙ ap (λ (o : List Text). codes "try" ∷ file ∷ codes "--seed" ∷ s ∷ codes "--runs" ∷ n ∷ codes "--length" ∷ l ∷ o)
     (skip.is (second ++ options) with_jobs (jobs.is options end to.is)))
-    (try_told file s n l skip.text jobs.text to.tail to.text
+    (try_read file s n l skip.text jobs.text to.tail to.text
     ∙ tried_says file s n l _ _ seed runs capacity _ seed_is.1 skip.says runs_are.1 events_are.1 jobs.says to.says ∙ ap (λ (w : Wanted). Some w) (sym wants))
 spelled_of name rest (Alone (Machine (Channel ring place finish) capacity)) wanted
     (number, schedule, first, second, third, options, is, slots_are, s, base_is, stride_is, finishes, asks, wants) =
@@ -423,7 +464,7 @@ spelled_of name rest (Alone (Machine (Channel ring place finish) capacity)) want
     (kind_is_word ring, (slots_are.0, (s, base.are with_stride (stride.are with_finish (finish_plain finish end to.are)))))
     (is ∙ ap (λ (o : List Text). codes "channel" ∷ name_of ring ∷ number ∷ schedule ∷ o)
     (base.is (second ++ (third ++ options)) with_stride (stride.is (third ++ options) with_finish (finish_texts finish third options end finishes to.is))))
-    (channel_told (name_of ring) number schedule base.text stride.text finish to.tail to.text
+    (channel_read (name_of ring) number schedule base.text stride.text finish to.tail to.text
     ∙ carried_says ring place (name_of ring) number schedule _ _ finish capacity _ (kind_says ring) slots_are.1 base.says stride.says to.says
     ∙ ap (λ (w : Wanted). Some w) (sym wants))
 spelled_of name rest (Threads turns capacity) wanted (file, first, options, is, f, turns_are, asks, wants) =
@@ -432,11 +473,11 @@ spelled_of name rest (Threads turns capacity) wanted (file, first, options, is, 
     let end = tail_of to.tail to.text in
     by_pieces name (codes "threads") (plain file ∷ number_pieces (codes "--turns") number.text end) rest wanted threads_is_command (f, number.are end to.are)
     (is ∙ ap (λ (o : List Text). codes "threads" ∷ file ∷ o) (number.is options end to.is))
-    (threads_told file number.text to.tail to.text ∙ threaded_says file turns capacity _ _ number.says to.says ∙ ap (λ (w : Wanted). Some w) (sym wants))
+    (threads_read file number.text to.tail to.text ∙ threaded_says file turns capacity _ _ number.says to.says ∙ ap (λ (w : Wanted). Some w) (sym wants))
 
 pub job_said-spelling : (name : Text) (rest : List Text) (wanted : Wanted) → IsSpelling wanted rest
     → job_said (name ∷ rest) ≡ Some wanted
-job_said-spelling name rest wanted spelling = spelled_of name rest wanted.task wanted spelling
+job_said-spelling name rest wanted spelling = spelled_of name rest wanted.command wanted spelling
 
 -- so it is answered by that job
 pub answers_spelled : (words : List Text) (r : Result Job Failure) → Answers (job_said words) r

@@ -12,11 +12,14 @@ use Rattle.ztso.specs.declared.job.Job.{Job}
 use Rattle.ztso.specs.Descriptions.{ztso_command}
 use Rattle.ztso.specs.declared.job.Ring.{Ring}
 use Rattle.ztso.specs.declared.job.Ring.TheVariants.{Lamport, FastForward}
-use Rattle.ztso.specs.declared.job.Errand.TheVariants.{Asm, Dis, Machine}
-use Rattle.ztso.specs.declared.job.Task.{Task}
-use Rattle.ztso.specs.declared.job.Task.TheVariants.{Alone, Threads}
-use Rattle.ztso.specs.declared.job.Work.{Work}
-use Rattle.ztso.specs.declared.job.Work.TheVariants.{Steps, Run, Replay, Move, Shrink, Debug, Try, Channel}
+use Rattle.ztso.specs.declared.job.PlainCommand.TheVariants.{Asm, Dis, Machine}
+use Rattle.ztso.specs.declared.job.Command.{Command}
+use Rattle.ztso.specs.declared.job.Command.TheVariants.{Alone, Threads}
+use Rattle.ztso.specs.declared.job.MachineCommand.{MachineCommand}
+use Rattle.views.specs.declared.charting.Style.{Style}
+use Rattle.views.specs.declared.charting.Style.TheVariants.{Svg}
+use Rattle.views.specs.declared.charting.Style.TheVariants as style
+use Rattle.ztso.specs.declared.job.MachineCommand.TheVariants.{Steps, Run, Replay, Move, Shrink, Chart, Debug, Try, Channel}
 use Rattle.ztso.specs.Jobs.{Input, Wanted, one_input, two_inputs, wanted_by}
 use Rattle.ztso.specs.Jobs.Input.{Standard, File}
 use Rattle.ztso.specs.Numbers.{number_within}
@@ -33,7 +36,7 @@ capacity_said text =
     else (if bytes_eq text (codes "16") then Some Sixteen else None)))
 
 -- the numbers of `try`, from its options
-abbrev pub try_in : List Row → Option Work
+abbrev pub try_in : List Row → Option MachineCommand
 try_in options = do
   seed_text ← first_of (codes "seed") options
   seed ← number_within 0 18446744073709551615 seed_text
@@ -61,8 +64,17 @@ abbrev pub number_if_said : Option Text → Option (Option ℕ)
 number_if_said None = Some None
 number_if_said (Some text) = option_map (λ (number : ℕ). Some number) (number_within 0 4294967295 text)
 
+-- how `chart` draws, by its flag
+abbrev pub style_said : Text → Style
+style_said text = if flag_said text then Svg else style.Text
+
+abbrev pub chart_in : List Row → Option MachineCommand
+chart_in options = do
+  svg ← first_of (codes "svg") options
+  Some (Chart (style_said svg))
+
 -- the ring of `channel`, from its words, its place, and whether it is to be finished
-abbrev pub channel_in : List Row → Option Work
+abbrev pub channel_in : List Row → Option MachineCommand
 channel_in options = do
   kind ← first_of (codes "kind") options
   ring ← ring_said kind
@@ -78,15 +90,15 @@ channel_in options = do
 abbrev pub capacity_in : List Row → Option Capacity
 capacity_in options = first_of (codes "buffer") options >>= capacity_said
 
--- the work with a machine of this capacity
-abbrev pub machine_in : List Row → Option Work → Option Task
+-- this command on a machine of this capacity
+abbrev pub machine_in : List Row → Option MachineCommand → Option Command
 machine_in options found = do
-  work ← found
+  command ← found
   capacity ← capacity_in options
-  Some (Alone (Machine work capacity))
+  Some (Alone (Machine command capacity))
 
 -- the run on threads, from its options
-abbrev pub threads_in : List Row → Option Task
+abbrev pub threads_in : List Row → Option Command
 threads_in options = do
   turns_text ← first_of (codes "turns") options
   turns ← number_within 0 10000000 turns_text
@@ -99,33 +111,33 @@ file_in id options = do
   path ← first_of id options
   Some (File path)
 
--- a task on the file `file`
-abbrev pub on_file : List Row → Option Task → Option Wanted
+-- a command on the file `file`
+abbrev pub on_file : List Row → Option Command → Option Wanted
 on_file options found = do
-  task ← found
+  command ← found
   file ← file_in (codes "file") options
-  Some (one_input task file)
+  Some (one_input command file)
 
--- a task on the files `file` and `schedule`
-abbrev pub on_file_and_schedule : List Row → Option Task → Option Wanted
+-- a command on the files `file` and `schedule`
+abbrev pub on_file_and_schedule : List Row → Option Command → Option Wanted
 on_file_and_schedule options found = do
-  task ← found
+  command ← found
   file ← file_in (codes "file") options
   schedule ← file_in (codes "schedule") options
-  Some (two_inputs task file schedule)
+  Some (two_inputs command file schedule)
 
--- a task on the file `schedule`, and then on standard input
-abbrev pub on_schedule_and_standard : List Row → Option Task → Option Wanted
+-- a command on the file `schedule`, and then on standard input
+abbrev pub on_schedule_and_standard : List Row → Option Command → Option Wanted
 on_schedule_and_standard options found = do
-  task ← found
+  command ← found
   schedule ← file_in (codes "schedule") options
-  Some (two_inputs task schedule Standard)
+  Some (two_inputs command schedule Standard)
 
--- a task on standard input
-abbrev pub on_standard : Option Task → Option Wanted
+-- a command on standard input
+abbrev pub on_standard : Option Command → Option Wanted
 on_standard found = do
-  task ← found
-  Some (one_input task Standard)
+  command ← found
+  Some (one_input command Standard)
 
 -- The table of commands: what each asks for, by its options and words.
 abbrev pub job_in : Text × List Row → Option Wanted
@@ -137,10 +149,11 @@ job_in p =
     else (if bytes_eq p.0 (codes "replay") then on_file_and_schedule p.1 (machine_in p.1 (Some Replay))
     else (if bytes_eq p.0 (codes "move") then on_file_and_schedule p.1 (machine_in p.1 (Some Move))
     else (if bytes_eq p.0 (codes "shrink") then on_file_and_schedule p.1 (machine_in p.1 (Some Shrink))
+    else (if bytes_eq p.0 (codes "chart") then on_file_and_schedule p.1 (machine_in p.1 (chart_in p.1))
     else (if bytes_eq p.0 (codes "debug") then on_file_and_schedule p.1 (machine_in p.1 (Some Debug))
     else (if bytes_eq p.0 (codes "try") then on_file p.1 (machine_in p.1 (try_in p.1))
     else (if bytes_eq p.0 (codes "channel") then on_schedule_and_standard p.1 (machine_in p.1 (channel_in p.1))
-    else (if bytes_eq p.0 (codes "threads") then on_file p.1 (threads_in p.1) else None))))))))))
+    else (if bytes_eq p.0 (codes "threads") then on_file p.1 (threads_in p.1) else None)))))))))))
 
 abbrev pub job_without : Kinds → Option (Text × List Row) → Option Wanted
 job_without [] found = option_and_then job_in found

@@ -64,6 +64,12 @@ flag name = record (new_rule name) {
   action = Some SetTrue;
 }
 
+-- `chart FILE SCHEDULE [--svg] [--buffer B]`
+abbrev pub chart_command : App
+chart_command =
+    with_rule (with_rule (with_rule (with_rule (new_app (codes "chart")) (word_wanted (codes "file"))) (word_wanted (codes "schedule")))
+    (flag (codes "svg"))) buffer_option
+
 -- `channel KIND RING SCHEDULE [--base A] [--stride T] [--finish] [--buffer B]`
 abbrev pub channel_command : App
 channel_command =
@@ -83,4 +89,4 @@ with_commands app (command ∷ commands) = with_commands (with_subcommand app co
 abbrev pub ztso_command : App
 ztso_command = with_commands (new_app (codes "ztso"))
     (steps_command ∷ asm_command ∷ dis_command ∷ schedule_command (codes "run") ∷ schedule_command (codes "replay") ∷ schedule_command (codes "move")
-    ∷ schedule_command (codes "shrink") ∷ schedule_command (codes "debug") ∷ try_command ∷ channel_command ∷ threads_command ∷ [])
+    ∷ schedule_command (codes "shrink") ∷ chart_command ∷ schedule_command (codes "debug") ∷ try_command ∷ channel_command ∷ threads_command ∷ [])

@@ -10,7 +10,7 @@ abbrev pub status_of : Failure → ℕ
 status_of BadCommandLine = 2
 status_of (Engine fault) = fault_status_of fault
 
--- want of memory is told as such, and every other error as a bad command line
+-- want of memory is reported as such, and every other error as a bad command line
 abbrev pub IsFailureFor : Type 0 → Failure → Type 0
 IsFailureFor WantOfMemory failure = (WantOfMemory × (failure ≡ Engine NoMemory))
     ⊎ ((WantOfMemory → ⊥) × (failure ≡ BadCommandLine))

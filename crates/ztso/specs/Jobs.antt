@@ -3,24 +3,24 @@ use Rattle.std.specs.Prelude.{ℕ, List, Option, Some, None, option_map}
 use Rattle.ztso.specs.declared.job.Input.{Input as JobInput}
 use Rattle.ztso.specs.declared.job.Input.TheVariants as input
 use Rattle.ztso.specs.declared.job.Job.{Job}
-use Rattle.ztso.specs.declared.job.Task.{Task}
+use Rattle.ztso.specs.declared.job.Command.{Command}
 
 -- where an input comes from: standard input, or the file of this path
 pub data Input : Type 0 where
   Standard : Input
   File : (path : List ℕ) → Input
 
--- a task, and its inputs in the order in which they are read
+-- a command, and its inputs in the order in which they are read
 pub record Wanted : Type 0 where
-  pub task : Task
+  pub command : Command
   pub first : Input
   pub second : Option Input
 
-abbrev pub one_input : Task → Input → Wanted
-one_input task first = record { task = task; first = first; second = None }
+abbrev pub one_input : Command → Input → Wanted
+one_input command first = record { command = command; first = first; second = None }
 
-abbrev pub two_inputs : Task → (first second : Input) → Wanted
-two_inputs task first second = record { task = task; first = first; second = Some second }
+abbrev pub two_inputs : Command → (first second : Input) → Wanted
+two_inputs command first second = record { command = command; first = first; second = Some second }
 
 abbrev pub input_by : JobInput → Input
 input_by input.Standard = Standard
@@ -28,4 +28,4 @@ input_by (input.File path) = File path.now
 
 -- what a job asks for
 abbrev pub wanted_by : Job → Wanted
-wanted_by job = record { task = job.task; first = input_by job.first; second = option_map input_by job.second }
+wanted_by job = record { command = job.command; first = input_by job.first; second = option_map input_by job.second }

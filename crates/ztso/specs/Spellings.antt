@@ -5,11 +5,14 @@ use Rattle.ztso.specs.declared.job.Capacity.{Capacity}
 use Rattle.ztso.specs.declared.job.Capacity.TheVariants.{One, Two, Four, Sixteen}
 use Rattle.ztso.specs.declared.job.Ring.{Ring}
 use Rattle.ztso.specs.declared.job.Ring.TheVariants.{Lamport, FastForward}
-use Rattle.ztso.specs.declared.job.Task.{Task}
-use Rattle.ztso.specs.declared.job.Errand.TheVariants.{Asm, Dis, Machine}
-use Rattle.ztso.specs.declared.job.Task.TheVariants.{Alone, Threads}
-use Rattle.ztso.specs.declared.job.Work.{Work}
-use Rattle.ztso.specs.declared.job.Work.TheVariants.{Steps, Run, Replay, Move, Shrink, Debug, Try, Channel}
+use Rattle.ztso.specs.declared.job.Command.{Command}
+use Rattle.ztso.specs.declared.job.PlainCommand.TheVariants.{Asm, Dis, Machine}
+use Rattle.ztso.specs.declared.job.Command.TheVariants.{Alone, Threads}
+use Rattle.ztso.specs.declared.job.MachineCommand.{MachineCommand}
+use Rattle.views.specs.declared.charting.Style.{Style}
+use Rattle.views.specs.declared.charting.Style.TheVariants.{Svg}
+use Rattle.views.specs.declared.charting.Style.TheVariants as style
+use Rattle.ztso.specs.declared.job.MachineCommand.TheVariants.{Steps, Run, Replay, Move, Shrink, Chart, Debug, Try, Channel}
 use Rattle.recorder.specs.declared.reading.TheConstants.{MAX_EVENTS}
 use Rattle.ztso.specs.Jobs.{Wanted, one_input, two_inputs}
 use Rattle.ztso.specs.Jobs.Input.{Standard, File}
@@ -75,17 +78,22 @@ abbrev pub AsksToFinish : Bool → List Text → Type 0
 AsksToFinish false words = words ≡ []
 AsksToFinish true words = words ≡ codes "--finish" ∷ []
 
--- a command on two files
-abbrev pub IsOnFiles : (command : Text) → Work → Capacity → Wanted → List Text → Type 0
-IsOnFiles command work capacity wanted words =
-    (file schedule : Text) × (options : List Text) × (words ≡ command ∷ file ∷ schedule ∷ options)
-    × IsWord file × IsWord schedule × AsksFor capacity options
-    × (wanted ≡ two_inputs (Alone (Machine work capacity)) (File file) (File schedule))
+-- nothing, or `--svg`
+abbrev pub AsksForStyle : Style → List Text → Type 0
+AsksForStyle style.Text words = words ≡ []
+AsksForStyle Svg words = words ≡ codes "--svg" ∷ []
 
--- The words after the program's name that ask for this task, by the task: the table's rows. Options may
+-- a command on two files
+abbrev pub IsOnFiles : (name : Text) → MachineCommand → Capacity → Wanted → List Text → Type 0
+IsOnFiles name command capacity wanted words =
+    (file schedule : Text) × (options : List Text) × (words ≡ name ∷ file ∷ schedule ∷ options)
+    × IsWord file × IsWord schedule × AsksFor capacity options
+    × (wanted ≡ two_inputs (Alone (Machine command capacity)) (File file) (File schedule))
+
+-- The words after the program's name that ask for this command, by the command: the table's rows. Options may
 -- also stand in other places, and those with a number be written with an equals sign, which isn't said
 -- here.
-abbrev pub IsSpellingOf : Task → Wanted → List Text → Type 0
+abbrev pub IsSpellingOf : Command → Wanted → List Text → Type 0
 IsSpellingOf (Alone Asm) wanted words = (words ≡ codes "asm" ∷ []) × (wanted ≡ one_input (Alone Asm) Standard)
 IsSpellingOf (Alone Dis) wanted words = (words ≡ codes "dis" ∷ []) × (wanted ≡ one_input (Alone Dis) Standard)
 IsSpellingOf (Alone (Machine Steps capacity)) wanted words =
@@ -95,6 +103,10 @@ IsSpellingOf (Alone (Machine Run capacity)) wanted words = IsOnFiles (codes "run
 IsSpellingOf (Alone (Machine Replay capacity)) wanted words = IsOnFiles (codes "replay") Replay capacity wanted words
 IsSpellingOf (Alone (Machine Move capacity)) wanted words = IsOnFiles (codes "move") Move capacity wanted words
 IsSpellingOf (Alone (Machine Shrink capacity)) wanted words = IsOnFiles (codes "shrink") Shrink capacity wanted words
+IsSpellingOf (Alone (Machine (Chart style) capacity)) wanted words =
+    (file schedule : Text) × (first options : List Text) × (words ≡ codes "chart" ∷ file ∷ schedule ∷ (first ++ options))
+    × IsWord file × IsWord schedule × AsksForStyle style first × AsksFor capacity options
+    × (wanted ≡ two_inputs (Alone (Machine (Chart style) capacity)) (File file) (File schedule))
 IsSpellingOf (Alone (Machine Debug capacity)) wanted words = IsOnFiles (codes "debug") Debug capacity wanted words
 IsSpellingOf (Alone (Machine (Try seed runs) capacity)) wanted words =
     (file s n l : Text) × (first second options : List Text)
@@ -114,4 +126,4 @@ IsSpellingOf (Threads turns capacity) wanted words =
     × (wanted ≡ one_input (Threads turns capacity) (File file))
 
 abbrev pub IsSpelling : Wanted → List Text → Type 0
-IsSpelling wanted words = IsSpellingOf wanted.task wanted words
+IsSpelling wanted words = IsSpellingOf wanted.command wanted words

@@ -16,9 +16,10 @@ use Rattle.ztso_engines.specs.Steps.{IsStepsAnswer}
 use Rattle.engine_parts.specs.Tests.{HasNoTest}
 use Rattle.ztso_engines.specs.Run.{IsRunAnswer}
 use Rattle.ztso_engines.specs.Move.{IsMoveAnswer}
+use Rattle.views.specs.Chart.{IsChartAnswer, drawing}
 use Rattle.views.specs.Shrink.{IsShrinkAnswer}
 use Rattle.ztso_engines.specs.Replay.{IsReplayAnswer}
-use Rattle.debugger.specs.Talks.{EndsAloud, IsDebugAnswer}
+use Rattle.debugger.specs.Transcripts.{EndsInteractive, IsDebugAnswer}
 use Rattle.tries.specs.Outcomes.{IsTryAnswer}
 use Rattle.engine_parts.specs.Schedules.{HasNoSchedule}
 use Rattle.poll_close.specs.Places.{layout_of}
@@ -31,10 +32,10 @@ use Rattle.ztso.specs.declared.job.Capacity.{Capacity}
 use Rattle.ztso.specs.declared.job.Capacity.TheVariants.{One, Two, Four, Sixteen}
 use Rattle.ztso.specs.declared.job.Ring.{Ring}
 use Rattle.ztso.specs.declared.job.Ring.TheVariants.{Lamport, FastForward}
-use Rattle.ztso.specs.declared.job.Errand.{Errand}
-use Rattle.ztso.specs.declared.job.Errand.TheVariants.{Asm, Dis, Machine}
-use Rattle.ztso.specs.declared.job.Work.{Work}
-use Rattle.ztso.specs.declared.job.Work.TheVariants.{Steps, Run, Replay, Move, Shrink, Debug, Try, Channel}
+use Rattle.ztso.specs.declared.job.PlainCommand.{PlainCommand}
+use Rattle.ztso.specs.declared.job.PlainCommand.TheVariants.{Asm, Dis, Machine}
+use Rattle.ztso.specs.declared.job.MachineCommand.{MachineCommand}
+use Rattle.ztso.specs.declared.job.MachineCommand.TheVariants.{Steps, Run, Replay, Move, Shrink, Chart, Debug, Try, Channel}
 use Rattle.ztso.specs.declared.work.TheConstants.{WORDS}
 
 -- how many stores a buffer of this capacity holds
@@ -96,13 +97,14 @@ WithStatusBy status IsAnswer given = WithStatus status (λ answer. OfInput given
 abbrev pub WithStatusByBoth : {V : Type 0} → (V → ℕ) → (List ℕ → List ℕ → Result (List ℕ × V) Refusal → Type 0) → Given → Answer → Type 0
 WithStatusByBoth status IsAnswer given = WithStatus status (AnswersBoth IsAnswer given.first given.second)
 
--- The table of work with a machine, over buffers of B stores and a memory of 4,096 words.
-abbrev pub IsAnswerOf : (B : ℕ) → Work → Given → Answer → Type 0
+-- The table of commands on a machine, over buffers of B stores and a memory of 4,096 words.
+abbrev pub IsAnswerOf : (B : ℕ) → MachineCommand → Given → Answer → Type 0
 IsAnswerOf B Steps given = WithStatusBy done_status (IsStepsAnswer B WORDS) given
 IsAnswerOf B Run given = WithStatusByBoth verdict_status (IsRunAnswer B WORDS) given
 IsAnswerOf B Replay given = WithStatusByBoth done_status (IsReplayAnswer B WORDS) given
 IsAnswerOf B Move given = WithStatusByBoth done_status (IsMoveAnswer B WORDS) given
 IsAnswerOf B Shrink given = WithStatusByBoth done_status (IsShrinkAnswer B WORDS) given
+IsAnswerOf B (Chart style) given = WithStatusByBoth done_status (IsChartAnswer B WORDS (drawing style)) given
 IsAnswerOf B Debug given = WithStatusByBoth done_status (IsDebugAnswer B WORDS given.commands) given
 IsAnswerOf B (Try seed runs) given =
     WithStatusBy tried_status (IsTryAnswer B WORDS (left_after (runs.skip * runs.length) (drawn_from seed)) runs.number runs.length) given
@@ -111,20 +113,21 @@ IsAnswerOf B (Channel ring place finish) given = WithStatusByBoth done_status (I
 -- What was written and the exit status answer the inputs, or the refusal does and nothing was written.
 -- Where a read failed or memory ran out nothing was written; where a write failed nothing is said of it.
 -- The debugger writes as it reads, so there nothing is said of what was written in these three cases.
-abbrev pub DoesWork : {W : Type 0} → (B : ℕ) → Work → Result ℕ Fault → Given → (contents : W → Option (List ℕ)) → (old new : W) → Type 0
-DoesWork B Steps result given contents old new = Ends (IsAnswerOf B Steps given) result contents old new
-DoesWork B Run result given contents old new = Ends (IsAnswerOf B Run given) result contents old new
-DoesWork B Replay result given contents old new = Ends (IsAnswerOf B Replay given) result contents old new
-DoesWork B Move result given contents old new = Ends (IsAnswerOf B Move given) result contents old new
-DoesWork B Shrink result given contents old new = Ends (IsAnswerOf B Shrink given) result contents old new
-DoesWork B Debug result given contents old new = EndsAloud (IsAnswerOf B Debug given) result contents old new
-DoesWork B (Try seed runs) result given contents old new = Ends (IsAnswerOf B (Try seed runs) given) result contents old new
-DoesWork B (Channel ring place finish) result given contents old new = Ends (IsAnswerOf B (Channel ring place finish) given) result contents old new
+abbrev pub DoesMachine : {W : Type 0} → (B : ℕ) → MachineCommand → Result ℕ Fault → Given → (contents : W → Option (List ℕ)) → (old new : W) → Type 0
+DoesMachine B Steps result given contents old new = Ends (IsAnswerOf B Steps given) result contents old new
+DoesMachine B Run result given contents old new = Ends (IsAnswerOf B Run given) result contents old new
+DoesMachine B Replay result given contents old new = Ends (IsAnswerOf B Replay given) result contents old new
+DoesMachine B Move result given contents old new = Ends (IsAnswerOf B Move given) result contents old new
+DoesMachine B Shrink result given contents old new = Ends (IsAnswerOf B Shrink given) result contents old new
+DoesMachine B (Chart style) result given contents old new = Ends (IsAnswerOf B (Chart style) given) result contents old new
+DoesMachine B Debug result given contents old new = EndsInteractive (IsAnswerOf B Debug given) result contents old new
+DoesMachine B (Try seed runs) result given contents old new = Ends (IsAnswerOf B (Try seed runs) given) result contents old new
+DoesMachine B (Channel ring place finish) result given contents old new = Ends (IsAnswerOf B (Channel ring place finish) given) result contents old new
 
-abbrev pub DoesErrand : {W : Type 0} → Errand → Result ℕ Fault → Given → (contents : W → Option (List ℕ)) → (old new : W) → Type 0
-DoesErrand Asm result given contents old new = Ends (WithStatusBy done_status IsAsmAnswer given) result contents old new
-DoesErrand Dis result given contents old new = Ends (WithStatusBy done_status IsDisAnswer given) result contents old new
-DoesErrand (Machine work capacity) result given contents old new = DoesWork (stores_of capacity) work result given contents old new
+abbrev pub DoesPlain : {W : Type 0} → PlainCommand → Result ℕ Fault → Given → (contents : W → Option (List ℕ)) → (old new : W) → Type 0
+DoesPlain Asm result given contents old new = Ends (WithStatusBy done_status IsAsmAnswer given) result contents old new
+DoesPlain Dis result given contents old new = Ends (WithStatusBy done_status IsDisAnswer given) result contents old new
+DoesPlain (Machine command capacity) result given contents old new = DoesMachine (stores_of capacity) command result given contents old new
 
 -- the same of a run of a litmus test on threads, with n turns each and buffers of this capacity, by the
 -- file that was read
@@ -135,35 +138,37 @@ DoesThreads n capacity result file contents old new = Ends (WithStatus verdict_s
 
 -- A first input with which the second is left unread: any, where there is only one; else one that is
 -- known, and refused.
-abbrev pub LeavesSecondOf : Work → (first : Option (List ℕ)) → Type 0
+abbrev pub LeavesSecondOf : MachineCommand → (first : Option (List ℕ)) → Type 0
 LeavesSecondOf Steps first = Unit {0}
 LeavesSecondOf Run first = HasNoTest first
 LeavesSecondOf Replay first = HasNoTest first
 LeavesSecondOf Move first = HasNoTest first
 LeavesSecondOf Shrink first = HasNoTest first
+LeavesSecondOf (Chart style) first = HasNoTest first
 LeavesSecondOf Debug first = HasNoTest first
 LeavesSecondOf (Try seed runs) first = Unit {0}
 LeavesSecondOf (Channel ring place finish) first = HasNoSchedule first
 
-abbrev pub LeavesSecond : Errand → (first : Option (List ℕ)) → Type 0
+abbrev pub LeavesSecond : PlainCommand → (first : Option (List ℕ)) → Type 0
 LeavesSecond Asm first = Unit {0}
 LeavesSecond Dis first = Unit {0}
-LeavesSecond (Machine work capacity) first = LeavesSecondOf work first
+LeavesSecond (Machine command capacity) first = LeavesSecondOf command first
 
 -- ---- what a user's commands are left
 
 -- the debugger's alone are read
-abbrev pub reads_commands : Work → Bool
+abbrev pub reads_commands : MachineCommand → Bool
 reads_commands Steps = false
 reads_commands Run = false
 reads_commands Replay = false
 reads_commands Move = false
 reads_commands Shrink = false
+reads_commands (Chart style) = false
 reads_commands Debug = true
 reads_commands (Try seed runs) = false
 reads_commands (Channel ring place finish) = false
 
-abbrev pub LeavesCommands : Errand → Type 0
+abbrev pub LeavesCommands : PlainCommand → Type 0
 LeavesCommands Asm = Unit {0}
 LeavesCommands Dis = Unit {0}
-LeavesCommands (Machine work capacity) = reads_commands work ≡ false
+LeavesCommands (Machine command capacity) = reads_commands command ≡ false

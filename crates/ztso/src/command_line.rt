@@ -2,13 +2,13 @@
 
 ghost use Rattle.std.specs.Prelude.{◌≡◌, ◌∷◌, ℕ, List, IfOk, map, option_and_then, option_map};
 ghost use Rattle.clap.specs.Words.{FailsBy, fault_of, first_of, found_of, rows_of, subcommand_of, subcommand_rows_of};
-ghost use Rattle.ztso.specs.CommandLines.{Answers, capacity_said, job_in, channel_in, flag_said, job_said, number_if_said, machine_in, on_file, on_file_and_schedule, on_schedule_and_standard, on_standard, ring_said, threads_in, try_in};
+ghost use Rattle.ztso.specs.CommandLines.{Answers, capacity_said, job_in, channel_in, chart_in, flag_said, style_said, job_said, number_if_said, machine_in, on_file, on_file_and_schedule, on_schedule_and_standard, on_standard, ring_said, threads_in, try_in};
 ghost use Rattle.ztso.specs.Descriptions.{ztso_command};
 ghost use Rattle.ztso.specs.Spellings.{IsSpelling};
 ghost use Rattle.ztso.specs.Jobs.{Wanted, wanted_by};
 
 use crate::failure::Failure;
-use crate::job::{Capacity, Errand, Input, Job, Ring, Task, Work};
+use crate::job::{Capacity, Command, Input, Job, MachineCommand, PlainCommand, Ring};
 use clap::ArgMatches;
 use description::ztso_command;
 use numbers::{count_of, number_of};
@@ -17,6 +17,7 @@ use recorder::MAX_EVENTS;
 use std::alloc::Global;
 use std::convert::AsStr;
 use tries::trials::Runs;
+use views::charting::Style;
 
 mod description;
 mod numbers;
@@ -59,18 +60,28 @@ fn job_in<'a>(matches: &ArgMatches<'a>) -> Option<Job<'a>>
     ensures { option_map wanted_by result ≡ option_and_then job_in (subcommand_rows_of matches.now) }
 {
     match matches.subcommand()? {
-        ("steps", options) => on_standard(machine_in(options, Some(Work::Steps))),
-        ("asm", _) => on_standard(Some(Task::Alone(Errand::Asm))),
-        ("dis", _) => on_standard(Some(Task::Alone(Errand::Dis))),
-        ("run", options) => on_file_and_schedule(options, machine_in(options, Some(Work::Run))),
+        ("steps", options) => on_standard(machine_in(options, Some(MachineCommand::Steps))),
+        ("asm", _) => on_standard(Some(Command::Alone(PlainCommand::Asm))),
+        ("dis", _) => on_standard(Some(Command::Alone(PlainCommand::Dis))),
+        ("run", options) => on_file_and_schedule(
+            options,
+            machine_in(options, Some(MachineCommand::Run)),
+        ),
         ("replay", options) => {
-            on_file_and_schedule(options, machine_in(options, Some(Work::Replay)))
+            on_file_and_schedule(options, machine_in(options, Some(MachineCommand::Replay)))
         }
-        ("move", options) => on_file_and_schedule(options, machine_in(options, Some(Work::Move))),
+        ("move", options) => on_file_and_schedule(
+            options,
+            machine_in(options, Some(MachineCommand::Move)),
+        ),
         ("shrink", options) => {
-            on_file_and_schedule(options, machine_in(options, Some(Work::Shrink)))
+            on_file_and_schedule(options, machine_in(options, Some(MachineCommand::Shrink)))
         }
-        ("debug", options) => on_file_and_schedule(options, machine_in(options, Some(Work::Debug))),
+        ("chart", options) => on_file_and_schedule(options, machine_in(options, chart_in(options))),
+        ("debug", options) => on_file_and_schedule(
+            options,
+            machine_in(options, Some(MachineCommand::Debug)),
+        ),
         ("try", options) => on_file(options, machine_in(options, try_in(options))),
         ("channel", options) => {
             on_schedule_and_standard(options, machine_in(options, channel_in(options)))
@@ -80,78 +91,81 @@ fn job_in<'a>(matches: &ArgMatches<'a>) -> Option<Job<'a>>
     }
 }
 
-/// The task, if there is one, on standard input.
-fn on_standard<'a>(task: Option<Task>) -> Option<Job<'a>>
-    ensures { option_map wanted_by result ≡ on_standard task }
+/// The command, if there is one, on standard input.
+fn on_standard<'a>(command: Option<Command>) -> Option<Job<'a>>
+    ensures { option_map wanted_by result ≡ on_standard command }
 {
-    let task = task?;
+    let command = command?;
     Some(Job {
-        task,
+        command,
         first: Input::Standard,
         second: None,
     })
 }
 
-/// The task, if there is one, on the file `file`.
-fn on_file<'a>(options: &ArgMatches<'a>, task: Option<Task>) -> Option<Job<'a>>
-    ensures { option_map wanted_by result ≡ on_file (rows_of (found_of options.now)) task }
+/// The command, if there is one, on the file `file`.
+fn on_file<'a>(options: &ArgMatches<'a>, command: Option<Command>) -> Option<Job<'a>>
+    ensures { option_map wanted_by result ≡ on_file (rows_of (found_of options.now)) command }
 {
-    let task = task?;
+    let command = command?;
     let file = word_in(options, "file")?;
     Some(Job {
-        task,
+        command,
         first: Input::File(file),
         second: None,
     })
 }
 
-/// The task, if there is one, on the files `file` and `schedule`.
-fn on_file_and_schedule<'a>(options: &ArgMatches<'a>, task: Option<Task>) -> Option<Job<'a>>
-    ensures { option_map wanted_by result ≡ on_file_and_schedule (rows_of (found_of options.now)) task }
+/// The command, if there is one, on the files `file` and `schedule`.
+fn on_file_and_schedule<'a>(options: &ArgMatches<'a>, command: Option<Command>) -> Option<Job<'a>>
+    ensures { option_map wanted_by result ≡ on_file_and_schedule (rows_of (found_of options.now)) command }
 {
-    let task = task?;
+    let command = command?;
     let file = word_in(options, "file")?;
     let schedule = word_in(options, "schedule")?;
     Some(Job {
-        task,
+        command,
         first: Input::File(file),
         second: Some(Input::File(schedule)),
     })
 }
 
-/// The task, if there is one, on the file `schedule`, and then on standard input.
-fn on_schedule_and_standard<'a>(options: &ArgMatches<'a>, task: Option<Task>) -> Option<Job<'a>>
-    ensures { option_map wanted_by result ≡ on_schedule_and_standard (rows_of (found_of options.now)) task }
+/// The command, if there is one, on the file `schedule`, and then on standard input.
+fn on_schedule_and_standard<'a>(
+    options: &ArgMatches<'a>,
+    command: Option<Command>,
+) -> Option<Job<'a>>
+    ensures { option_map wanted_by result ≡ on_schedule_and_standard (rows_of (found_of options.now)) command }
 {
-    let task = task?;
+    let command = command?;
     let schedule = word_in(options, "schedule")?;
     Some(Job {
-        task,
+        command,
         first: Input::File(schedule),
         second: Some(Input::Standard),
     })
 }
 
-/// The work, if there is some, with a machine of the capacity that the options ask for.
-fn machine_in(options: &ArgMatches<'_>, work: Option<Work>) -> Option<Task>
-    ensures { result ≡ machine_in (rows_of (found_of options.now)) work }
+/// The command, if there is one, on a machine of the capacity that the options ask for.
+fn machine_in(options: &ArgMatches<'_>, command: Option<MachineCommand>) -> Option<Command>
+    ensures { result ≡ machine_in (rows_of (found_of options.now)) command }
 {
-    let work = work?;
+    let command = command?;
     let capacity = capacity_of(word_in(options, "buffer")?)?;
-    Some(Task::Alone(Errand::Machine { work, capacity }))
+    Some(Command::Alone(PlainCommand::Machine { command, capacity }))
 }
 
 /// The run on threads that `threads` is to make.
-fn threads_in(options: &ArgMatches<'_>) -> Option<Task>
+fn threads_in(options: &ArgMatches<'_>) -> Option<Command>
     ensures { result ≡ threads_in (rows_of (found_of options.now)) }
 {
     let turns = count_of(word_in(options, "turns")?, 0, MOST_TURNS)?;
     let capacity = capacity_of(word_in(options, "buffer")?)?;
-    Some(Task::Threads { turns, capacity })
+    Some(Command::Threads { turns, capacity })
 }
 
 /// The runs that `try` is to make.
-fn try_in(options: &ArgMatches<'_>) -> Option<Work>
+fn try_in(options: &ArgMatches<'_>) -> Option<MachineCommand>
     ensures { result ≡ try_in (rows_of (found_of options.now)) }
 {
     let seed = number_of(word_in(options, "seed")?)?;
@@ -165,11 +179,29 @@ fn try_in(options: &ArgMatches<'_>) -> Option<Work>
         length,
         jobs,
     };
-    Some(Work::Try { seed, runs })
+    Some(MachineCommand::Try { seed, runs })
+}
+
+/// The picture that is to be drawn.
+fn chart_in(options: &ArgMatches<'_>) -> Option<MachineCommand>
+    ensures { result ≡ chart_in (rows_of (found_of options.now)) }
+{
+    let style = style_of(word_in(options, "svg")?);
+    Some(MachineCommand::Chart { style })
+}
+
+fn style_of(text: &str) -> Style
+    ensures { result ≡ style_said text.now }
+{
+    if flag_of(text) {
+        Style::Svg
+    } else {
+        Style::Text
+    }
 }
 
 /// The channel that is to run.
-fn channel_in(options: &ArgMatches<'_>) -> Option<Work>
+fn channel_in(options: &ArgMatches<'_>) -> Option<MachineCommand>
     ensures { result ≡ channel_in (rows_of (found_of options.now)) }
 {
     let ring = ring_of(word_in(options, "kind")?)?;
@@ -182,7 +214,7 @@ fn channel_in(options: &ArgMatches<'_>) -> Option<Work>
         base,
         stride,
     };
-    Some(Work::Channel {
+    Some(MachineCommand::Channel {
         ring,
         place,
         finish,

@@ -19,7 +19,7 @@ use thiserror::Error;
 /// standard error.
 #[derive(Clone, Copy, Debug, PartialEq, Eq, Error)]
 pub enum Failure {
-    /// The words ask for no job. It is told the same where they ask for help.
+    /// The words ask for no job. Words that ask for help end in the same way.
     #[error("bad command line")]
     BadCommandLine,
     /// The job's engine failed, or there was no memory to read the command line.

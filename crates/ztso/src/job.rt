@@ -2,6 +2,7 @@
 
 use poll_close::Place;
 use tries::trials::Runs;
+use views::charting::Style;
 
 /// How many stores a hart's buffer holds.
 #[derive(Clone, Copy)]
@@ -29,7 +30,7 @@ pub enum Ring {
 
 /// What is done with a machine.
 #[derive(Clone, Copy)]
-pub enum Work {
+pub enum MachineCommand {
     /// To run the machine that a steps text describes.
     Steps,
     /// To run a litmus test by a schedule, and to judge it.
@@ -40,6 +41,10 @@ pub enum Work {
     Move,
     /// To leave out of a schedule what its outcome of a litmus test doesn't need.
     Shrink,
+    /// To draw a litmus test's run by a schedule, as text or as SVG.
+    Chart {
+        style: Style,
+    },
     /// To walk along a schedule's run of a litmus test, at the commands on standard input.
     Debug,
     /// To make these runs of a litmus test, by schedules that are drawn from a generator of this seed.
@@ -58,30 +63,33 @@ pub enum Work {
 
 /// What one thread does, which waits for no other.
 #[derive(Clone, Copy)]
-pub enum Errand {
+pub enum PlainCommand {
     /// To make words of assembly.
     Asm,
     /// To name the instructions of words.
     Dis,
-    /// To work with a machine whose harts have buffers of this capacity.
-    Machine { work: Work, capacity: Capacity },
+    /// To do this on a machine whose harts have buffers of this capacity.
+    Machine {
+        command: MachineCommand,
+        capacity: Capacity,
+    },
 }
 
 /// What is to be done.
 #[derive(Clone, Copy)]
-pub enum Task {
-    /// An errand of the program's own thread.
-    Alone(Errand),
+pub enum Command {
+    /// A command of the program's own thread.
+    Alone(PlainCommand),
     /// To run a litmus test with a thread for each hart and each lander, each of which makes at most
     /// `turns` calls. The harts have buffers of this capacity.
     Threads { turns: u32, capacity: Capacity },
 }
 
-/// What a command line asks for: a task, and its inputs in the order in which they are read.
+/// What a command line asks for: a command, and its inputs in the order in which they are read.
 #[derive(Clone, Copy)]
 pub struct Job<'a> {
-    pub task: Task,
+    pub command: Command,
     pub first: Input<'a>,
-    /// `None` for a task with one input.
+    /// `None` for a command with one input.
     pub second: Option<Input<'a>>,
 }

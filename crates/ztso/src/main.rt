@@ -1,6 +1,6 @@
 //! The program `ztso`: its command line, and the streams and files for the engine that a job wants.
 //!
-//! The contract: [`command_line::job_of`] says which words ask for which job, [`work::do_errand`] and
+//! The contract: [`command_line::job_of`] says which words ask for which job, [`work::do_plain`] and
 //! [`work::do_threads`] which engine does it with what capacity and with which exit status, and
 //! [`failure::Failure`] the exit status of each failure. This crate knows no text, no instruction and no
 //! machine. Only the command `threads` may wait, for the lock and for its threads: [`work::do_threads`]
@@ -18,7 +18,7 @@ mod work;
 
 use command_line::job_of;
 use failure::Failure;
-use job::Task;
+use job::Command;
 use lazy_input::LazyInput;
 use progress_line::ProgressLine;
 use prompt_reader::PromptReader;
@@ -29,7 +29,7 @@ use std::sync::Wait;
 use std::thread::Threads;
 use std::{env, io};
 use tries::progress::Progress;
-use work::{do_errand, do_threads};
+use work::{do_plain, do_threads};
 
 fn main(rt: HostRuntime) -> ExitCode {
     let line = ProgressLine::new(&rt);
@@ -55,18 +55,18 @@ where
     let job = job_of(rt.alloc(), &words)?;
     let mut first = LazyInput::new(rt, Some(job.first));
     let mut writer = io::writer(rt);
-    let status = match job.task {
-        Task::Alone(errand) => do_errand(
+    let status = match job.command {
+        Command::Alone(command) => do_plain(
             rt,
             rt.alloc(),
-            errand,
+            command,
             &mut first,
             &mut LazyInput::new(rt, job.second),
             &mut PromptReader::new(rt),
             progress,
             &mut writer,
         )?,
-        Task::Threads { turns, capacity } => {
+        Command::Threads { turns, capacity } => {
             do_threads(rt, rt.alloc(), turns, capacity, &mut first, &mut writer)?
         }
     };

@@ -2,7 +2,7 @@
 
 ghost use Rattle.std.specs.Prelude.{◌≡◌, ◌≤◌, ◌*◌, [], false};
 ghost use Rattle.ztso.specs.declared.work.TheConstants.{WORDS};
-ghost use Rattle.ztso.specs.Work.{LeavesCommands, reads_commands, DoesErrand, DoesThreads, DoesWork, Given, LeavesSecond, LeavesSecondOf, WithStatus, done_status, drawn_from, ended_with, tables_of, tried_status, verdict_status};
+ghost use Rattle.ztso.specs.Work.{LeavesCommands, reads_commands, DoesPlain, DoesThreads, DoesMachine, Given, LeavesSecond, LeavesSecondOf, WithStatus, done_status, drawn_from, ended_with, tables_of, tried_status, verdict_status};
 ghost use Rattle.recorder.specs.Drawing.{left_after};
 ghost use Rattle.ztso_engines.specs.Asm.{IsAsmAnswer};
 ghost use Rattle.poll_close.specs.Places.{layout_of};
@@ -12,15 +12,16 @@ ghost use Rattle.engine_parts.specs.Engines.{AnswersBoth, Ends, EndsBy, EndsByBo
 ghost use Rattle.ztso_engines.specs.Move.{IsMoveAnswer};
 ghost use Rattle.ztso_engines.specs.Replay.{IsReplayAnswer};
 ghost use Rattle.ztso_engines.specs.Run.{IsRunAnswer};
+ghost use Rattle.views.specs.Chart.{IsChartAnswer, drawing};
 ghost use Rattle.views.specs.Shrink.{IsShrinkAnswer};
 ghost use Rattle.engine_parts.specs.Schedules.{HasNoSchedule};
 ghost use Rattle.ztso_engines.specs.Steps.{IsStepsAnswer};
-ghost use Rattle.debugger.specs.Talks.{EndsAloud, IsDebugAnswer};
+ghost use Rattle.debugger.specs.Transcripts.{EndsInteractive, IsDebugAnswer};
 ghost use Rattle.engine_parts.specs.Tests.{HasNoTest};
 ghost use Rattle.tries.specs.Outcomes.{IsTryAnswer};
 ghost use Rattle.ztso_engines.specs.Threads.{IsThreadsAnswer};
 
-use crate::job::{Capacity, Errand, Ring, Work};
+use crate::job::{Capacity, MachineCommand, PlainCommand, Ring};
 use debugger::debug::debug_engine;
 use engine_parts::fault::Fault;
 use fastforward::FastForward;
@@ -35,6 +36,7 @@ use std::sync::Wait;
 use std::thread::Threads;
 use tries::progress::Progress;
 use tries::trials::{Runs, try_engine};
+use views::charting::{Style, chart_engine};
 use views::shrinking::shrink_engine;
 use ztso_engines::asm::asm_engine;
 use ztso_engines::channel::channel_engine;
@@ -165,6 +167,22 @@ fn shrink_schedule<const B: usize, F: Read, S: Read, W: Write>(
     after(shrink_engine::<B, WORDS, _, _, _>(alloc, file, schedule, writer))
 }
 
+/// Draws a run of a test by a schedule.
+fn chart_test<const B: usize, F: Read, S: Read, W: Write>(
+    alloc: Global,
+    style: Style,
+    file: &mut F,
+    schedule: &mut S,
+    writer: &mut W,
+) -> Result<u8, Fault>
+    requires some_capacity { 1 ≤ B }
+    requires capacity { B ≤ 64 }
+    ensures ends { Ends (WithStatus done_status (AnswersBoth (IsChartAnswer B WORDS (drawing style)) (F.remaining file.old) (S.remaining schedule.old))) result W.contents writer.old writer.new }
+    ensures unread { HasNoTest (F.remaining file.old) → schedule.new ≡ schedule.old }
+{
+    after(chart_engine::<B, WORDS, _, _, _>(alloc, style, file, schedule, writer))
+}
+
 /// Walks along a schedule's run at a user's commands.
 fn debug<const B: usize, F: Read, S: Read, C: Read, W: Write>(
     alloc: Global,
@@ -175,7 +193,7 @@ fn debug<const B: usize, F: Read, S: Read, C: Read, W: Write>(
 ) -> Result<(), Fault>
     requires some_capacity { 1 ≤ B }
     requires capacity { B ≤ 64 }
-    ensures ends { EndsAloud (AnswersBoth (IsDebugAnswer B WORDS (C.remaining commands.old)) (F.remaining file.old) (S.remaining schedule.old)) result W.contents writer.old writer.new }
+    ensures ends { EndsInteractive (AnswersBoth (IsDebugAnswer B WORDS (C.remaining commands.old)) (F.remaining file.old) (S.remaining schedule.old)) result W.contents writer.old writer.new }
     ensures unread { HasNoTest (F.remaining file.old) → schedule.new ≡ schedule.old }
 {
     let Ok(mut commands) = BufReader::new(alloc, commands) else {
@@ -194,7 +212,7 @@ fn debug_test<const B: usize, F: Read, S: Read, C: Read, W: Write>(
 ) -> Result<u8, Fault>
     requires some_capacity { 1 ≤ B }
     requires capacity { B ≤ 64 }
-    ensures ends { EndsAloud (WithStatus done_status (AnswersBoth (IsDebugAnswer B WORDS (C.remaining commands.old)) (F.remaining file.old) (S.remaining schedule.old))) result W.contents writer.old writer.new }
+    ensures ends { EndsInteractive (WithStatus done_status (AnswersBoth (IsDebugAnswer B WORDS (C.remaining commands.old)) (F.remaining file.old) (S.remaining schedule.old))) result W.contents writer.old writer.new }
     ensures unread { HasNoTest (F.remaining file.old) → schedule.new ≡ schedule.old }
 {
     after(debug::<B, F, S, C, W>(alloc, file, schedule, commands, writer))
@@ -279,11 +297,11 @@ fn run_channel<const B: usize, S: Read, L: Read, W: Write>(
     after(run_rings::<B, _, _, _>(alloc, ring, place, finish, schedule, lists, writer))
 }
 
-/// Does the work with a machine whose harts' buffers hold `B` stores.
-fn do_work<const B: usize, F: Read, S: Read, C: Read, W: Write, T: Threads + Sync, P: Progress>(
+/// Does a command on a machine whose harts' buffers hold `B` stores.
+fn do_machine<const B: usize, F: Read, S: Read, C: Read, W: Write, T: Threads + Sync, P: Progress>(
     rt: &T,
     alloc: Global,
-    work: Work,
+    command: MachineCommand,
     first: &mut F,
     second: &mut S,
     commands: &mut C,
@@ -292,21 +310,26 @@ fn do_work<const B: usize, F: Read, S: Read, C: Read, W: Write, T: Threads + Syn
 ) -> Result<u8, Fault>
     requires some_capacity { 1 ≤ B }
     requires capacity { B ≤ 64 }
-    ensures does { DoesWork B work result (record { first = F.remaining first.old; second = S.remaining second.old; commands = C.remaining commands.old }) W.contents writer.old writer.new }
-    ensures unread { LeavesSecondOf work (F.remaining first.old) → second.new ≡ second.old }
-    ensures unasked { reads_commands work ≡ false → commands.new ≡ commands.old }
+    ensures does { DoesMachine B command result (record { first = F.remaining first.old; second = S.remaining second.old; commands = C.remaining commands.old }) W.contents writer.old writer.new }
+    ensures unread { LeavesSecondOf command (F.remaining first.old) → second.new ≡ second.old }
+    ensures unasked { reads_commands command ≡ false → commands.new ≡ commands.old }
 {
-    match work {
-        Work::Steps => run_steps::<B, _, _>(alloc, first, writer),
-        Work::Run => run_test::<B, _, _, _>(alloc, first, second, writer),
-        Work::Replay => replay_test::<B, _, _, _>(alloc, first, second, writer),
-        Work::Move => move_schedule::<B, _, _, _>(alloc, first, second, writer),
-        Work::Shrink => shrink_schedule::<B, _, _, _>(alloc, first, second, writer),
-        Work::Debug => debug_test::<B, _, _, _, _>(alloc, first, second, commands, writer),
-        Work::Try { seed, runs } => {
+    match command {
+        MachineCommand::Steps => run_steps::<B, _, _>(alloc, first, writer),
+        MachineCommand::Run => run_test::<B, _, _, _>(alloc, first, second, writer),
+        MachineCommand::Replay => replay_test::<B, _, _, _>(alloc, first, second, writer),
+        MachineCommand::Move => move_schedule::<B, _, _, _>(alloc, first, second, writer),
+        MachineCommand::Shrink => shrink_schedule::<B, _, _, _>(alloc, first, second, writer),
+        MachineCommand::Chart { style } => chart_test::<B, _, _, _>(
+            alloc, style, first, second, writer,
+        ),
+        MachineCommand::Debug => debug_test::<B, _, _, _, _>(
+            alloc, first, second, commands, writer,
+        ),
+        MachineCommand::Try { seed, runs } => {
             try_test::<B, _, _, _, _>(rt, alloc, seed, runs, first, progress, writer)
         }
-        Work::Channel {
+        MachineCommand::Channel {
             ring,
             place,
             finish,
@@ -314,43 +337,43 @@ fn do_work<const B: usize, F: Read, S: Read, C: Read, W: Write, T: Threads + Syn
     }
 }
 
-/// Does the errand: reads its inputs, and then writes what it answers. It answers the exit status: 0, but 1
+/// Does the command: reads its inputs, and then writes what it answers. It answers the exit status: 0, but 1
 /// where the verdict is that the test fails or is unfinished, or the runs that were tried don't show what
 /// the test asks.
 ///
-/// `first` is what the errand reads first, and `second` what it reads behind that, if it has two inputs and
+/// `first` is what the command reads first, and `second` what it reads behind that, if it has two inputs and
 /// the first one was accepted. `commands` is what a user types to the debugger, which writes as it reads.
 /// `progress` gets the reports of runs that are tried. Their jobs are threads; it has no leave to wait for
 /// anything else.
-pub fn do_errand<F: Read, S: Read, C: Read, W: Write, T: Threads + Sync, P: Progress>(
+pub fn do_plain<F: Read, S: Read, C: Read, W: Write, T: Threads + Sync, P: Progress>(
     rt: &T,
     alloc: Global,
-    errand: Errand,
+    command: PlainCommand,
     first: &mut F,
     second: &mut S,
     commands: &mut C,
     progress: &mut P,
     writer: &mut W,
 ) -> Result<u8, Fault>
-    ensures does { DoesErrand errand result (record { first = F.remaining first.old; second = S.remaining second.old; commands = C.remaining commands.old }) W.contents writer.old writer.new }
-    ensures unread { LeavesSecond errand (F.remaining first.old) → second.new ≡ second.old }
-    ensures unasked { LeavesCommands errand → commands.new ≡ commands.old }
+    ensures does { DoesPlain command result (record { first = F.remaining first.old; second = S.remaining second.old; commands = C.remaining commands.old }) W.contents writer.old writer.new }
+    ensures unread { LeavesSecond command (F.remaining first.old) → second.new ≡ second.old }
+    ensures unasked { LeavesCommands command → commands.new ≡ commands.old }
 {
-    match errand {
-        Errand::Asm => assemble(alloc, first, writer),
-        Errand::Dis => disassemble(alloc, first, writer),
-        Errand::Machine { work, capacity } => match capacity {
-            Capacity::One => do_work::<1, _, _, _, _, _, _>(
-                rt, alloc, work, first, second, commands, progress, writer,
+    match command {
+        PlainCommand::Asm => assemble(alloc, first, writer),
+        PlainCommand::Dis => disassemble(alloc, first, writer),
+        PlainCommand::Machine { command, capacity } => match capacity {
+            Capacity::One => do_machine::<1, _, _, _, _, _, _>(
+                rt, alloc, command, first, second, commands, progress, writer,
             ),
-            Capacity::Two => do_work::<2, _, _, _, _, _, _>(
-                rt, alloc, work, first, second, commands, progress, writer,
+            Capacity::Two => do_machine::<2, _, _, _, _, _, _>(
+                rt, alloc, command, first, second, commands, progress, writer,
             ),
-            Capacity::Four => do_work::<4, _, _, _, _, _, _>(
-                rt, alloc, work, first, second, commands, progress, writer,
+            Capacity::Four => do_machine::<4, _, _, _, _, _, _>(
+                rt, alloc, command, first, second, commands, progress, writer,
             ),
-            Capacity::Sixteen => do_work::<16, _, _, _, _, _, _>(
-                rt, alloc, work, first, second, commands, progress, writer,
+            Capacity::Sixteen => do_machine::<16, _, _, _, _, _, _>(
+                rt, alloc, command, first, second, commands, progress, writer,
             ),
         },
     }

@@ -27,7 +27,7 @@ use Rattle.ztso_engines.specs.Lists.{SaysLists, lists_at}
 use Rattle.ztso_engines.specs.Channels.{HasNoChannel, IsUnfilled, IsChannelAnswer, IsDelivery, IsNoLists, IsUnreported, fault_from, opening_over, report_line}
 use Rattle.ztso_engines.specs.Channels.IsChannelAnswer.{no_schedule, no_lists, unreported, delivered}
 use Rattle.ztso_engines.proofs.ListTexts.{lists_read, one_lists}
-use Rattle.ztso_engines.proofs.OneAnswer.{same_output, one_refusal, said_or_refusal}
+use Rattle.engine_parts.proofs.OneInput.{same_output, one_refusal, said_or_refusal}
 
 lists_or_refusal : (input : List ℕ) (lists : List (List ℕ)) (r : Refusal) → Accepted SaysLists input lists → IsNoLists input r → ⊥
 lists_or_refusal input lists r is refused =

@@ -18,7 +18,7 @@ ghost use Rattle.ztso_engines.specs.Lists.{SaysLists, lists_at};
 ghost use Rattle.ztso_engines.specs.Run.{IsRunAnswer};
 ghost use Rattle.ztso_engines.specs.Replay.{IsReplayAnswer};
 ghost use Rattle.ztso_engines.specs.Move.{IsMoveAnswer};
-ghost use Rattle.debugger.specs.Talks.{IsDebugAnswer};
+ghost use Rattle.debugger.specs.Transcripts.{IsDebugAnswer};
 ghost use Rattle.tries.specs.Outcomes.{IsTryAnswer};
 ghost use Rattle.ztso_engines.specs.Channels.{IsChannelAnswer};
 

@@ -1,20 +1,37 @@
 //! The command `move`: a litmus text and a schedule in, the schedule's text of version 2 out.
 
 ghost use Rattle.std.specs.Prelude.{◌≡◌, ◌≤◌};
+ghost use Rattle.recorder.specs.Versions.{said_of};
 ghost use Rattle.engine_parts.specs.Engines.{AnswersBoth, EndsByBoth};
+ghost use Rattle.engine_parts.specs.Faults.{AnswersAs};
 ghost use Rattle.engine_parts.specs.Tests.{HasNoTest};
-ghost use Rattle.ztso_engines.specs.Move.{IsMoveAnswer};
+ghost use Rattle.ztso_engines.specs.Move.{IsMoved, IsMoveAnswer};
 ghost use Rattle.engine_parts.specs.inner.Making.{Finds, text_and_value};
 ghost use Rattle.litmus.specs.declared.litmus_test.TheConstants.{MAX_LOCATIONS};
 
 use engine_parts::fault::Fault;
-use engine_parts::litmus_text::read_test;
 use engine_parts::output::end_with;
-use engine_parts::running::record_of_schedule;
-use engine_parts::schedule::read_schedule;
-use recorder::write_record;
+use engine_parts::running::{read_both, record_of_schedule};
+use litmus::Test;
+use recorder::{Schedule, write_record};
 use std::alloc::Global;
 use std::io::{Read, Write};
+
+/// What is to be written for a test and a schedule.
+fn answer<const B: usize, const M: usize>(
+    alloc: Global,
+    test: &Test,
+    said: Schedule,
+) -> Result<(String, ()), Fault>
+    requires capacity { B ≤ 64 }
+    requires words { MAX_LOCATIONS ≤ M }
+    requires size { M ≤ 65536 }
+    ensures { AnswersAs (IsMoved B M test.now (said_of said)) text_and_value result }
+{
+    let steps = record_of_schedule::<B, M>(alloc, test, said)?;
+    let text = write_record(alloc, &steps)?;
+    Ok((text, ()))
+}
 
 /// What is to be written for the inputs that the readers give.
 fn made<const B: usize, const M: usize, F: Read, S: Read>(
@@ -29,11 +46,8 @@ fn made<const B: usize, const M: usize, F: Read, S: Read>(
     ensures made { Finds (AnswersBoth (IsMoveAnswer B M) (F.remaining file.old) (S.remaining schedule.old)) text_and_value result }
     ensures unread { HasNoTest (F.remaining file.old) → schedule.new ≡ schedule.old }
 {
-    let test = read_test(alloc, file)?;
-    let said = read_schedule(alloc, schedule)?;
-    let steps = record_of_schedule::<B, M>(alloc, &test, said)?;
-    let text = write_record(alloc, &steps)?;
-    Ok((text, ()))
+    let (test, said) = read_both(alloc, file, schedule)?;
+    answer::<B, M>(alloc, &test, said)
 }
 
 /// Reads a litmus text and then a schedule of either version, each to its end, runs the schedule from the

@@ -3,30 +3,51 @@
 ghost use Rattle.std.specs.Prelude.{◌≡◌, ◌≤◌, IfOk};
 ghost use Rattle.std.specs.List.{flat_map};
 ghost use Rattle.std.specs.String.{string_bytes};
+ghost use Rattle.recorder.specs.Versions.{said_of};
 ghost use Rattle.engine_parts.specs.Engines.{AnswersBoth, EndsByBoth};
+ghost use Rattle.engine_parts.specs.Faults.{AnswersAs};
+ghost use Rattle.engine_parts.specs.Histories.{AnswersRun};
 ghost use Rattle.engine_parts.specs.Tests.{HasNoTest};
 ghost use Rattle.recorder.specs.Outcomes.{entry_line};
-ghost use Rattle.ztso_engines.specs.Replay.{IsReplayAnswer};
+ghost use Rattle.ztso_engines.specs.Replay.{IsReplay, IsReplayAnswer};
 ghost use Rattle.engine_parts.specs.inner.Making.{Finds, text_and_value};
 ghost use Rattle.litmus.specs.declared.litmus_test.TheConstants.{MAX_LOCATIONS};
 
 use engine_parts::fault::Fault;
 use engine_parts::output::end_with;
-use engine_parts::running::read_run;
-use recorder::push_entry_line;
+use engine_parts::running::{machine_of_schedule, read_both};
+use litmus::Test;
+use recorder::{Schedule, push_entry_line};
 use std::alloc::{AllocError, Global};
 use std::io::{Read, Write};
-use step_machine::Entry;
+use step_machine::Entries;
 
 /// The lines of all entries.
-fn entries_text(alloc: Global, entries: &[Entry]) -> Result<String, AllocError>
-    ensures { IfOk result (λ text. string_bytes text ≡ flat_map entry_line entries.now) }
+fn entries_text(alloc: Global, entries: Entries<'_>) -> Result<String, AllocError>
+    ensures { IfOk result (λ text. string_bytes text ≡ flat_map entry_line entries.entry) }
 {
     let mut text = String::new(alloc);
     for entry in entries {
-        push_entry_line(&mut text, *entry)?;
+        push_entry_line(&mut text, entry)?;
     }
     Ok(text)
+}
+
+/// What is to be written for a test and a schedule.
+fn answer<const B: usize, const M: usize>(
+    alloc: Global,
+    test: &Test,
+    said: Schedule,
+) -> Result<(String, ()), Fault>
+    requires some_capacity { 1 ≤ B }
+    requires capacity { B ≤ 64 }
+    requires words { MAX_LOCATIONS ≤ M }
+    requires size { M ≤ 65536 }
+    ensures { AnswersAs (AnswersRun B M IsReplay test.now (said_of said)) text_and_value result }
+{
+    let machine = machine_of_schedule::<B, M>(alloc, test, said)?;
+    let text = entries_text(alloc, machine.entries())?;
+    Ok((text, ()))
 }
 
 /// What is to be written for the inputs that the readers give.
@@ -42,9 +63,8 @@ fn made<const B: usize, const M: usize, F: Read, S: Read>(
     ensures made { Finds (AnswersBoth (IsReplayAnswer B M) (F.remaining file.old) (S.remaining schedule.old)) text_and_value result }
     ensures unread { HasNoTest (F.remaining file.old) → schedule.new ≡ schedule.old }
 {
-    let (_, machine) = read_run::<B, M, F, S>(alloc, file, schedule)?;
-    let text = entries_text(alloc, machine.entries())?;
-    Ok((text, ()))
+    let (test, said) = read_both(alloc, file, schedule)?;
+    answer::<B, M>(alloc, &test, said)
 }
 
 /// Reads a litmus text and then a schedule of either version, each to its end, runs the schedule from the

@@ -2,7 +2,11 @@
 
 ghost use Rattle.std.specs.Prelude.{◌≡◌, ◌≤◌, ◌++◌, length, IfOk, OnOk};
 ghost use Rattle.std.specs.String.{string_bytes};
+ghost use Rattle.step_machine.specs.Standing.{OfEach};
+ghost use Rattle.recorder.specs.Versions.{said_of};
 ghost use Rattle.engine_parts.specs.Engines.{AnswersBoth, EndsByBoth};
+ghost use Rattle.engine_parts.specs.Faults.{AnswersAs};
+ghost use Rattle.engine_parts.specs.Histories.{AnswersRun};
 ghost use Rattle.engine_parts.specs.Tests.{HasNoTest};
 ghost use Rattle.ztso_engines.specs.Run.{verdict_line, IsJudged, IsRunAnswer};
 ghost use Rattle.engine_parts.specs.inner.Making.{Finds, text_and_value};
@@ -10,12 +14,13 @@ ghost use Rattle.litmus.specs.declared.litmus_test.TheConstants.{MAX_LOCATIONS};
 
 use engine_parts::fault::Fault;
 use engine_parts::output::end_with;
-use engine_parts::running::read_run;
+use engine_parts::running::{read_both, state_of_schedule};
 use engine_parts::state_text::state_text;
 use litmus::{Test, Verdict};
+use recorder::Schedule;
 use std::alloc::{AllocError, Global};
 use std::io::{Read, Write};
-use step_machine::Machine;
+use step_machine::MachineState;
 
 fn push_verdict(out: &mut String, verdict: Verdict) -> Result<(), AllocError>
     ensures { OnOk result (string_bytes out.new ≡ string_bytes out.old ++ verdict_line verdict) }
@@ -31,17 +36,33 @@ fn push_verdict(out: &mut String, verdict: Verdict) -> Result<(), AllocError>
 pub(crate) fn judged_text<const B: usize, const M: usize>(
     alloc: Global,
     test: &Test,
-    machine: &Machine<B, M>,
+    machine: &MachineState<B, M>,
 ) -> Result<(String, Verdict), AllocError>
-    requires harts { length machine.now.history.opening.harts ≡ length test.now.opening.harts }
+    requires harts { length machine.now.harts ≡ length test.now.opening.harts }
     requires names { length test.now.names ≤ M }
     requires size { M ≤ 65536 }
-    ensures { IfOk result (λ told. IsJudged M test.now machine.now.history (text_and_value told)) }
+    ensures { IfOk result (λ told. OfEach B M machine.now (λ t. IsJudged M test.now t (text_and_value told))) }
 {
     let verdict = test.verdict(machine);
     let mut text = state_text(alloc, machine)?;
     push_verdict(&mut text, verdict)?;
     Ok((text, verdict))
+}
+
+/// What is to be written for a test and a schedule, and the verdict.
+fn answer<const B: usize, const M: usize>(
+    alloc: Global,
+    test: &Test,
+    said: Schedule,
+) -> Result<(String, Verdict), Fault>
+    requires capacity { B ≤ 64 }
+    requires words { MAX_LOCATIONS ≤ M }
+    requires size { M ≤ 65536 }
+    ensures { AnswersAs (AnswersRun B M (IsJudged M) test.now (said_of said)) text_and_value result }
+{
+    let machine = state_of_schedule::<B, M>(alloc, test, said)?;
+    let told = judged_text(alloc, test, &machine)?;
+    Ok(told)
 }
 
 /// What is to be written for the inputs that the readers give, and the verdict.
@@ -57,9 +78,8 @@ fn made<const B: usize, const M: usize, F: Read, S: Read>(
     ensures made { Finds (AnswersBoth (IsRunAnswer B M) (F.remaining file.old) (S.remaining schedule.old)) text_and_value result }
     ensures unread { HasNoTest (F.remaining file.old) → schedule.new ≡ schedule.old }
 {
-    let (test, machine) = read_run::<B, M, F, S>(alloc, file, schedule)?;
-    let told = judged_text(alloc, &test, &machine)?;
-    Ok(told)
+    let (test, said) = read_both(alloc, file, schedule)?;
+    answer::<B, M>(alloc, &test, said)
 }
 
 /// Reads a litmus text and then a schedule of either version, each to its end, runs the schedule from the

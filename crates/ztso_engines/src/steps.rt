@@ -1,8 +1,9 @@
 //! The command `steps`: a steps text in, the state text of its run out.
 
 ghost use Rattle.std.specs.Prelude.{◌≡◌, ◌≤◌, length, IfOk, MatchResult, vec_len};
-ghost use Rattle.step_machine.specs.History.{FitsIn};
+ghost use Rattle.step_machine.specs.History.{History, FitsIn};
 ghost use Rattle.step_machine.specs.Runs.{Run};
+ghost use Rattle.step_machine.specs.Standing.{StandsAt};
 ghost use Rattle.engine_parts.specs.Faults.{Answers, AnswersAs};
 ghost use Rattle.engine_parts.specs.Engines.{EndsBy, judged};
 ghost use Rattle.ztso_engines.specs.Scenario.{scenario_of, opening_of};
@@ -18,7 +19,7 @@ use engine_parts::output::end_with;
 use engine_parts::state_text::state_text;
 use std::alloc::Global;
 use std::io::{Read, Write};
-use step_machine::{Machine, Opening};
+use step_machine::{MachineState, Opening};
 
 mod line;
 mod script;
@@ -32,24 +33,26 @@ fn script_of_input<const M: usize>(alloc: Global, input: &[u8]) -> Result<Script
     read_script::<M>(alloc, text_of(input)?)
 }
 
-/// The machine behind the run of a script.
+/// The machine after the run of a script, without its history.
 fn machine_after<const B: usize, const M: usize>(
     alloc: Global,
     script: Script,
-) -> Result<Machine<B, M>, Fault>
+) -> Result<MachineState<B, M>, Fault>
     requires some_capacity { 1 ≤ B }
     requires capacity { B ≤ 64 }
     requires some_word { 1 ≤ M }
     requires size { M ≤ 65536 }
     requires fits { FitsIn M (opening_of (scenario_of script)) }
-    ensures { MatchResult result (λ machine. Run B M (opening_of (scenario_of script)) (scenario_of script).events machine.history) (λ fault. fault ≡ Fault.NoMemory) }
+    ensures { MatchResult result
+        (λ machine. (t : History) × Run B M (opening_of (scenario_of script)) (scenario_of script).events t × StandsAt B M t machine)
+        (λ fault. fault ≡ Fault.NoMemory) }
 {
     let Script {
         harts,
         words,
         events,
     } = script;
-    let mut machine = Machine::<B, M>::open(alloc, Opening { harts, words })?;
+    let mut machine = MachineState::<B, M>::open(alloc, &Opening { harts, words })?;
     match machine.run(&events) {
         Ok(()) => Ok(machine),
         Err(_) => Err(Fault::NoMemory),

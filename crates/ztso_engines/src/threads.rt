@@ -53,7 +53,7 @@ fn record_text<const B: usize, const M: usize>(
     }
     laws_of_runs();
     let mut text = write_schedule(alloc, &made.events)?;
-    let judged = judged_text(alloc, test, &made.machine)?;
+    let judged = judged_text(alloc, test, made.machine.machine_state())?;
     text.push_str(&judged.0)?;
     Ok((text, judged.1))
 }

@@ -2,7 +2,7 @@
 
 ghost use Rattle.std.specs.Prelude.{◌≡◌};
 ghost use Rattle.texts.specs.Cutting.{tokens};
-ghost use Rattle.debugger.specs.Commands.{asked, asked_alone, asked_with_one, asked_with_two};
+ghost use Rattle.debugger.specs.Commands.{command_in, command_alone, command_with_one, command_with_two};
 
 use step_machine::Event;
 use texts::{first_token, number, word};
@@ -31,8 +31,8 @@ pub enum Command {
     Quit,
 }
 
-fn asked_alone(name: &[u8]) -> Option<Command>
-    ensures { result ≡ asked_alone name.now }
+fn command_alone(name: &[u8]) -> Option<Command>
+    ensures { result ≡ command_alone name.now }
 {
     match name {
         b"s" => Some(Command::Step),
@@ -43,8 +43,8 @@ fn asked_alone(name: &[u8]) -> Option<Command>
     }
 }
 
-fn asked_with_one(name: &[u8], digits: &[u8]) -> Option<Command>
-    ensures { result ≡ asked_with_one name.now digits.now }
+fn command_with_one(name: &[u8], digits: &[u8]) -> Option<Command>
+    ensures { result ≡ command_with_one name.now digits.now }
 {
     match name {
         b"a" => Some(Command::Give(Event::Act(word(digits)?))),
@@ -57,8 +57,8 @@ fn asked_with_one(name: &[u8], digits: &[u8]) -> Option<Command>
     }
 }
 
-fn asked_with_two(name: &[u8], first: &[u8], second: &[u8]) -> Option<Command>
-    ensures { result ≡ asked_with_two name.now first.now second.now }
+fn command_with_two(name: &[u8], first: &[u8], second: &[u8]) -> Option<Command>
+    ensures { result ≡ command_with_two name.now first.now second.now }
 {
     match name {
         b"b" => Some(Command::Break(word(first)?, word(second)?)),
@@ -68,17 +68,17 @@ fn asked_with_two(name: &[u8], first: &[u8], second: &[u8]) -> Option<Command>
 
 /// What a line asks for; `None` where it asks for nothing.
 pub fn command_of(line: &[u8]) -> Option<Command>
-    ensures { result ≡ asked (tokens line.now) }
+    ensures { result ≡ command_in (tokens line.now) }
 {
     let (name, rest) = first_token(line)?;
     let Some((first, rest)) = first_token(rest) else {
-        return asked_alone(name);
+        return command_alone(name);
     };
     let Some((second, rest)) = first_token(rest) else {
-        return asked_with_one(name, first);
+        return command_with_one(name, first);
     };
     match first_token(rest) {
-        None => asked_with_two(name, first, second),
+        None => command_with_two(name, first, second),
         Some(_) => None,
     }
 }

@@ -18,7 +18,7 @@ pub fn push_hart_answer<const B: usize, const M: usize>(
     ensures { OnOk result (string_bytes out.new ≡ string_bytes out.old ++ hart_answer M machine.now.history hart) }
 {
     if hart < machine.harts() {
-        push_hart(out, machine, hart)
+        push_hart(out, machine.machine_state(), hart)
     } else {
         push_unknown_line(out)
     }

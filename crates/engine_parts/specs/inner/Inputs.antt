@@ -1,7 +1,7 @@
 -- What inputs are read as: litmus texts and schedules.
 use Rattle.std.specs.Prelude.{ℕ, ◌≡◌, List, Result, Ok, Err}
-use Rattle.step_machine.specs.History.{History}
-use Rattle.recorder.specs.Versions.{Said, Says}
+use Rattle.recorder.specs.declared.versions.Schedule.{Schedule}
+use Rattle.recorder.specs.Versions.{Said, said_of, Says}
 use Rattle.litmus.specs.LitmusTests.{LitmusTest}
 use Rattle.litmus_reader.specs.Grammar.{IsTestOf}
 use Rattle.engine_parts.specs.declared.fault.Refusal.{Refusal}
@@ -19,6 +19,10 @@ abbrev pub IsReadAsSchedule : List ℕ → Result Said Refusal → Type 0
 IsReadAsSchedule input (Ok said) = Accepted Says input said
 IsReadAsSchedule input (Err refusal) = IsNoSchedule input refusal
 
--- a test with its history, told as they are
-abbrev pub IsItself : LitmusTest → History → LitmusTest × History → Type 0
-IsItself question history made = made ≡ (question, history)
+-- a test and a schedule, as they were read
+abbrev pub AreRead : LitmusTest → Said → Result (LitmusTest × Said) Refusal → Type 0
+AreRead question said (Ok read) = read ≡ (question, said)
+AreRead question said (Err refusal) = ⊥
+
+abbrev pub test_and_said : LitmusTest × Schedule → LitmusTest × Said
+test_and_said read = (read.0, said_of read.1)

@@ -1,14 +1,11 @@
--- The receiver's five lines between, and its rows at the last four.
+-- The receiver's rows at the last four of its lines between.
 use Rattle.std.proofs.Common.{ℕ, ◌+◌, ◌<◌, ◌≡◌, ◌==◌, ◌⊎◌, ◌&&◌, List, [], ◌∷◌, length}
 use Rattle.std.specs.Prelude.{slice_index}
 use Rattle.poll_close.specs.Invariant.Blocks.{Block, offset}
 use Rattle.poll_close.specs.Invariant.Outlines.{Row}
 use Rattle.poll_close.specs.Invariant.BlockMeaning.{Way, Near, Visit, between}
-use Rattle.poll_close.specs.Invariant.ReceiverState.{Middle, ReceiverRegisters}
+use Rattle.poll_close.specs.Invariant.ReceiverState.{ReceiverRegisters}
 use Rattle.fastforward.specs.Invariant.Numbers.{Taken}
-
-abbrev pub middle : Middle
-middle = record { at_14 = 0x00842383; at_18 = 0x00740E33; at_1C = 0x010E2583; at_20 = 0x02058463; at_24 = 0x000E2823 }
 
 -- each null has its tail
 abbrev pub Level : Taken → Type 0
@@ -34,7 +31,9 @@ Empty k n x11 x30 = (x11 ≡ 0) × ((x30 ≡ 0) ⊎ (n.tails ≡ length k.list))
 abbrev pub rows : List (Row Way (Block → Taken → ReceiverRegisters → Type 0))
 rows =
     between 0x18 (Visit (λ a x. (slice_index x 30 == 0) && a.ended) 15 18) (λ k n r. Flagged n r.x30 × (r.x7 ≡ offset k n.tails)) ∷  -- add x28,x8,x7
-    between 0x1C (Visit (λ a x. (slice_index x 30 == 0) && a.ended) 14 17) (λ k n r. Flagged n r.x30 × (r.x7 ≡ offset k n.tails) × (r.x28 ≡ k.base + r.x7)) ∷  -- lw x11,16(x28)
-    between 0x20 (Visit (λ a x. (slice_index x 30 == 0) && (slice_index x 11 == 0)) 13 16) (λ k n r. (Empty k n r.x11 r.x30 ⊎ Loaded k n r.x11) × (r.x7 ≡ offset k n.tails) × (r.x28 ≡ k.base + r.x7)) ∷  -- beq x11,x0,empty
+    between 0x1C (Visit (λ a x. (slice_index x 30 == 0) && a.ended) 14 17)
+    (λ k n r. Flagged n r.x30 × (r.x7 ≡ offset k n.tails) × (r.x28 ≡ k.base + r.x7)) ∷  -- lw x11,16(x28)
+    between 0x20 (Visit (λ a x. (slice_index x 30 == 0) && (slice_index x 11 == 0)) 13 16)
+    (λ k n r. (Empty k n r.x11 r.x30 ⊎ Loaded k n r.x11) × (r.x7 ≡ offset k n.tails) × (r.x28 ≡ k.base + r.x7)) ∷  -- beq x11,x0,empty
     between 0x24 (Near 15) (λ k n r. Loaded k n r.x11 × (r.x7 ≡ offset k n.tails) × (r.x28 ≡ k.base + r.x7)) ∷  -- sw x0,16(x28)
     []

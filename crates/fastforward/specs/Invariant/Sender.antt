@@ -23,7 +23,9 @@ pub record Holds (k : Block) (n : Sent) (x5 x10 : ℕ) : Type 0 where
 pub record Asked (k : Block) (n : Sent) (x5 x10 x11 : ℕ) : Type 0 where
   pub unmarked : n.marked ≡ 0
   pub index : x5 ≡ offset k n.stored
-  pub answer : ((x11 ≡ 1) × (n.asked ≡ n.stored + 1) × (n.stored < length k.list) × (x10 ≡ slice_index k.list n.stored)) ⊎ ((x11 ≡ 0) × (n.asked ≡ n.stored) × (n.stored ≡ length k.list))
+  pub answer :
+      ((x11 ≡ 1) × (n.asked ≡ n.stored + 1) × (n.stored < length k.list) × (x10 ≡ slice_index k.list n.stored))
+      ⊎ ((x11 ≡ 0) × (n.asked ≡ n.stored) × (n.stored ≡ length k.list))
 
 -- the next word's slot is free: it has seen the null of the word that stood there before
 abbrev pub Free : Block → Sent → Type 0
@@ -54,7 +56,8 @@ sender = record {
       row 0x08 (λ x. 5 + 12 * slice_index x 11) (λ k n r. Asked k n r.x5 r.x10 r.x11) ∷  -- beq x11,x0,done
       row 0x0C (λ x. 16) (λ k n r. Holds k n r.x5 r.x10) ∷  -- add x28,x8,x5
       row 0x10 (λ x. 15) (λ k n r. Holds k n r.x5 r.x10 × (r.x28 ≡ k.base + r.x5)) ∷  -- test: lw x7,16(x28)
-      row 0x14 (λ x. if slice_index x 7 == 0 then 14 else 16) (λ k n r. Holds k n r.x5 r.x10 × (r.x28 ≡ k.base + r.x5) × (r.x7 ≡ 0 → Free k n)) ∷  -- bne x7,x0,test
+      row 0x14 (λ x. if slice_index x 7 == 0 then 14 else 16)
+      (λ k n r. Holds k n r.x5 r.x10 × (r.x28 ≡ k.base + r.x5) × (r.x7 ≡ 0 → Free k n)) ∷  -- bne x7,x0,test
       row 0x18 (λ x. 13) (λ k n r. Holds k n r.x5 r.x10 × (r.x28 ≡ k.base + r.x5) × Free k n) ∷  -- sw x10,16(x28)
       row 0x1C (λ x. 12) (λ k n r. (s : Stored k n) × (r.x5 ≡ offset k s.last)) ∷  -- addi x5,x5,4
       row 0x20 (λ x. 11) (λ k n r. (s : Stored k n) × (r.x5 ≡ offset k s.last + 4)) ∷  -- bne x5,x9,next

@@ -38,6 +38,14 @@ IsEnding n ending.TurnsDone calls = calls.made ≡ n
 IsEnding n ending.NoHart calls = calls.last ≡ Some outcome.NoHart
 IsEnding n ending.NoMemory calls = calls.last ≡ None
 
+-- a thread that no gate holds back ends so by its last call
+abbrev pub EndsBy : Ending → Option Outcome → Type 0
+EndsBy ending.HeldBack last = ⊥
+EndsBy ending.Over last = last ≡ Some outcome.Over
+EndsBy ending.TurnsDone last = ⊥
+EndsBy ending.NoHart last = last ≡ Some outcome.NoHart
+EndsBy ending.NoMemory last = last ≡ None
+
 -- ---- the seat
 
 -- t is the seat s with at most n entries more in its diary

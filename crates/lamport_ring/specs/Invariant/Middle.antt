@@ -1,14 +1,11 @@
--- The receiver's five lines between, and its rows at the last four.
+-- The receiver's rows at the last four of its lines between.
 use Rattle.std.proofs.Common.{ℕ, ◌+◌, ◌*◌, ◌%◌, ◌<◌, ◌≡◌, ◌==◌, ◌⊎◌, ◌&&◌, List, [], ◌∷◌, length}
 use Rattle.std.specs.Prelude.{slice_index}
 use Rattle.poll_close.specs.Invariant.Blocks.{Block, offset}
 use Rattle.poll_close.specs.Invariant.Outlines.{Row}
 use Rattle.poll_close.specs.Invariant.BlockMeaning.{Way, Near, Visit, between}
-use Rattle.poll_close.specs.Invariant.ReceiverState.{Middle, ReceiverRegisters}
+use Rattle.poll_close.specs.Invariant.ReceiverState.{ReceiverRegisters}
 use Rattle.lamport_ring.specs.Invariant.Numbers.{Taken}
-
-abbrev pub middle : Middle
-middle = record { at_14 = 0x00042303; at_18 = 0x00842383; at_1C = 0x02730663; at_20 = 0x00740E33; at_24 = 0x010E2583 }
 
 -- the head that it read, the last one where the mark was there
 pub record Headed (k : Block) (n : Taken) (x6 x30 : ℕ) : Type 0 where
@@ -23,7 +20,8 @@ More n = n.tails < n.seen
 abbrev pub rows : List (Row Way (Block → Taken → ReceiverRegisters → Type 0))
 rows =
     between 0x18 (Visit (λ a x. (slice_index x 30 == 0) && (slice_index x 6 == 4 * (a.took % a.size))) 15 18) (λ k n r. Headed k n r.x6 r.x30) ∷  -- lw x7,8(x8)
-    between 0x1C (Visit (λ a x. (slice_index x 30 == 0) && (slice_index x 6 == slice_index x 7)) 14 17) (λ k n r. Headed k n r.x6 r.x30 × (r.x7 ≡ offset k n.tails)) ∷  -- beq x6,x7,empty
+    between 0x1C (Visit (λ a x. (slice_index x 30 == 0) && (slice_index x 6 == slice_index x 7)) 14 17)
+    (λ k n r. Headed k n r.x6 r.x30 × (r.x7 ≡ offset k n.tails)) ∷  -- beq x6,x7,empty
     between 0x20 (Near 16) (λ k n r. More n × (r.x7 ≡ offset k n.tails)) ∷  -- add x28,x8,x7
     between 0x24 (Near 15) (λ k n r. More n × (r.x7 ≡ offset k n.tails) × (r.x28 ≡ k.base + r.x7)) ∷  -- lw x11,16(x28)
     []

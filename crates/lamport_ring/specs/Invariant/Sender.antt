@@ -26,7 +26,9 @@ pub record Asked (k : Block) (n : Sent) (x5 x10 x11 : ℕ) : Type 0 where
   pub heads : n.headed ≡ n.stored
   pub unmarked : n.marked ≡ 0
   pub index : x5 ≡ offset k n.stored
-  pub answer : ((x11 ≡ 1) × (n.asked ≡ n.stored + 1) × (n.stored < length k.list) × (x10 ≡ slice_index k.list n.stored)) ⊎ ((x11 ≡ 0) × (n.asked ≡ n.stored) × (n.stored ≡ length k.list))
+  pub answer :
+      ((x11 ≡ 1) × (n.asked ≡ n.stored + 1) × (n.stored < length k.list) × (x10 ≡ slice_index k.list n.stored))
+      ⊎ ((x11 ≡ 0) × (n.asked ≡ n.stored) × (n.stored ≡ length k.list))
 
 -- the tail that was read
 pub record HasRead (k : Block) (n : Sent) (x7 : ℕ) : Type 0 where
@@ -64,7 +66,8 @@ sender = record {
       row 0x10 (λ x. 18) (λ k n r. Holds k n r.x5 r.x10 × (r.x6 ≡ r.x5 + 4)) ∷  -- bne x6,x9,test
       row 0x14 (λ x. 17) (λ k n r. Holds k n r.x5 r.x10 × (r.x5 + 4 ≡ 4 * k.size)) ∷  -- addi x6,x0,0
       row 0x18 (λ x. 15) (λ k n r. Holds k n r.x5 r.x10 × (r.x6 ≡ offset k (n.stored + 1))) ∷  -- test: lw x7,8(x8)
-      row 0x1C (λ x. if slice_index x 7 == slice_index x 6 then 16 else 14) (λ k n r. Holds k n r.x5 r.x10 × (r.x6 ≡ offset k (n.stored + 1)) × HasRead k n r.x7) ∷  -- beq x7,x6,test
+      row 0x1C (λ x. if slice_index x 7 == slice_index x 6 then 16 else 14)
+      (λ k n r. Holds k n r.x5 r.x10 × (r.x6 ≡ offset k (n.stored + 1)) × HasRead k n r.x7) ∷  -- beq x7,x6,test
       row 0x20 (λ x. 13) (λ k n r. Holds k n r.x5 r.x10 × (r.x6 ≡ offset k (n.stored + 1)) × Room k n) ∷  -- add x28,x8,x5
       row 0x24 (λ x. 12) (λ k n r. Holds k n r.x5 r.x10 × (r.x6 ≡ offset k (n.stored + 1)) × Room k n × (r.x28 ≡ k.base + r.x5)) ∷  -- sw x10,16(x28)
       row 0x28 (λ x. 11) (λ k n r. Stored k n r.x6) ∷  -- sw x6,0(x8)

@@ -3,10 +3,11 @@
 use Rattle.std.proofs.Common.{ℕ, ◌+◌, ◌*◌, ◌≡◌, ◌⊎◌, ◌==◌, Bool, ◌&&◌, if◌then◌else◌, List, [], ◌∷◌, length}
 use Rattle.std.specs.Prelude.{slice_index}
 use Rattle.hart.specs.State.{HartState}
+use Rattle.poll_close.specs.Listing.{Middle}
 use Rattle.poll_close.specs.Rankings.{Around, Ranking}
 use Rattle.poll_close.specs.Invariant.Blocks.{Block, offset}
 use Rattle.poll_close.specs.Invariant.Outlines.{Row, Outline, HoldsIn, rank_in, left_of}
-use Rattle.poll_close.specs.Invariant.ReceiverState.{Middle, ReceiverRegisters}
+use Rattle.poll_close.specs.Invariant.ReceiverState.{ReceiverRegisters}
 
 -- the receiver's way from a line to its next report: n steps (Near); n to the end of this block, then the rest of
 -- the round (Round); n to the end of the round, then a whole one (Over). A Visit may find nothing though a word is
@@ -53,7 +54,7 @@ pub record BlockMeaning : Type 1 where
   -- the receiver has no step of its own half done; it has taken a word out of its slot
   pub Level : Receiver → Type 0
   pub Filled : Receiver → Type 0
-  -- the receiver's five words between, and its rows at the last four of them
+  -- the receiver's five lines between, and its rows at the last four of them
   pub middle : Middle
   pub rows : List (Row Way (Block → Receiver → ReceiverRegisters → Type 0))
   -- the sender waits until the receiver acts; then a word is there for the receiver
@@ -146,7 +147,8 @@ rows_of m =
     line 0x3C (Near 8) (λ k i n r. Taking m k i n r.x8 r.x22 r.x11 × (r.x10 ≡ i)) ∷  -- addi x17,x0,2
     line 0x40 (Near 7) (λ k i n r. Taking m k i n r.x8 r.x22 r.x11 × (r.x10 ≡ i) × (r.x17 ≡ 2)) ∷  -- ecall
     line 0x44 (Round 11) (λ k i n r. AllReported m n × Visits k i r.x8 r.x22) ∷  -- jal x0,step
-    line 0x48 (Visit (λ a x. slice_index x 30 == 0) 11 14) (λ k i n r. Opened m k i n r.x8 r.x22 × ((r.x30 ≡ 0) ⊎ (m.tails n ≡ length k.list))) ∷  -- empty: beq x30,x0,step
+    line 0x48 (Visit (λ a x. slice_index x 30 == 0) 11 14)
+    (λ k i n r. Opened m k i n r.x8 r.x22 × ((r.x30 ≡ 0) ⊎ (m.tails n ≡ length k.list))) ∷  -- empty: beq x30,x0,step
     line 0x4C (Near 13) (λ k i n r. Opened m k i n r.x8 r.x22 × (m.tails n ≡ length k.list)) ∷  -- addi x5,x0,1
     line 0x50 (Near 12) (λ k i n r. Opened m k i n r.x8 r.x22 × (m.tails n ≡ length k.list) × (r.x5 ≡ 1)) ∷  -- sw x5,12(x8)
     line 0x54 (Near 11) (λ k i n r. Closing m k i n r.x8 r.x22) ∷  -- addi x10,x22,0

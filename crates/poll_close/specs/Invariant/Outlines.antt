@@ -32,7 +32,8 @@ row at rank holds = record { at = at; rank = rank; holds = holds }
 
 -- the state at an offset
 abbrev pub stands : (o : Outline) → Block → ℕ → o.Own → SenderRegisters → HartState
-stands o k here n r = if here == o.over then ended o.code (fixed k) (here - 4) r (drop (o.asked n) k.list) else running o.code (fixed k) here r (drop (o.asked n) k.list)
+stands o k here n r = if here == o.over then ended o.code (fixed k) (here - 4) r (drop (o.asked n) k.list)
+    else running o.code (fixed k) here r (drop (o.asked n) k.list)
 
 -- what holds at an offset
 abbrev pub either : Bool → Type 0 → Type 0 → Type 0

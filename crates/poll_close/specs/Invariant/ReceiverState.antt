@@ -1,20 +1,12 @@
--- The receiver's states: its registers as one list, of which the program writes eleven. Its code is a
--- front and an end that all rings share, and five words between that are the ring's own.
+-- The receiver's states, over its code: its registers as one list, of which the program writes eleven.
 use Rattle.std.specs.Prelude.{ℕ, ◌+◌, ◌*◌, ◌==◌, if◌then◌else◌, List, [], ◌∷◌}
 use Rattle.hart.specs.State.{HartState}
 use Rattle.hart.specs.declared.status.Status.TheVariants as status
+use Rattle.poll_close.specs.Listing.{Middle, words_of, receiver_with}
 use Rattle.poll_close.specs.Invariant.Blocks.{Block}
 
--- the words from 14 to 24
-pub record Middle : Type 0 where
-  pub at_14 : ℕ
-  pub at_18 : ℕ
-  pub at_1C : ℕ
-  pub at_20 : ℕ
-  pub at_24 : ℕ
-
 abbrev pub receiver_of : Middle → List ℕ
-receiver_of m = 0x000A8413 ∷ 0x00000B13 ∷ 0x00C42283 ∷ 0x04029E63 ∷ 0x00442F03 ∷ m.at_14 ∷ m.at_18 ∷ m.at_1C ∷ m.at_20 ∷ m.at_24 ∷ 0x00438393 ∷ 0x00939463 ∷ 0x00000393 ∷ 0x00742423 ∷ 0x000B0513 ∷ 0x00200893 ∷ 0x00000073 ∷ 0x0240006F ∷ 0x020F0063 ∷ 0x00100293 ∷ 0x00542623 ∷ 0x000B0513 ∷ 0x00300893 ∷ 0x00000073 ∷ 0xFFFA0A13 ∷ 0x000A0A63 ∷ 0x01240433 ∷ 0x001B0B13 ∷ 0xF9341CE3 ∷ 0xF8DFF06F ∷ 0x05D00893 ∷ 0x00000073 ∷ []
+receiver_of m = words_of (receiver_with m)
 
 -- the registers that the program writes
 pub record ReceiverRegisters : Type 0 where
@@ -39,7 +31,8 @@ pub record ReceiverConstants : Type 0 where
   pub first : ℕ
 
 abbrev pub receiver_file : ReceiverConstants → ReceiverRegisters → List ℕ
-receiver_file f r = 0 ∷ 0 ∷ 0 ∷ 0 ∷ 0 ∷ r.x5 ∷ r.x6 ∷ r.x7 ∷ r.x8 ∷ f.bytes ∷ r.x10 ∷ r.x11 ∷ 0 ∷ 0 ∷ 0 ∷ 0 ∷ 0 ∷ r.x17 ∷ f.stride ∷ f.end ∷ r.x20 ∷ f.first ∷ r.x22 ∷ 0 ∷ 0 ∷ 0 ∷ 0 ∷ 0 ∷ r.x28 ∷ 0 ∷ r.x30 ∷ 0 ∷ []
+receiver_file f r = 0 ∷ 0 ∷ 0 ∷ 0 ∷ 0 ∷ r.x5 ∷ r.x6 ∷ r.x7 ∷ r.x8 ∷ f.bytes ∷ r.x10 ∷ r.x11 ∷ 0 ∷ 0 ∷ 0 ∷ 0 ∷ 0
+    ∷ r.x17 ∷ f.stride ∷ f.end ∷ r.x20 ∷ f.first ∷ r.x22 ∷ 0 ∷ 0 ∷ 0 ∷ 0 ∷ 0 ∷ r.x28 ∷ 0 ∷ r.x30 ∷ 0 ∷ []
 
 abbrev pub receiving : Middle → ReceiverConstants → ℕ → ReceiverRegisters → HartState
 receiving m f pc r = record { code = receiver_of m; words = f.words; registers = receiver_file f r; pc = pc; inbox = []; status = status.Running }

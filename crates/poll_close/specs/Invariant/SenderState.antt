@@ -24,7 +24,8 @@ abbrev pub fixed : Block → SenderConstants
 fixed k = record { words = k.words; base = k.base; bytes = 4 * k.size }
 
 abbrev pub file : SenderConstants → SenderRegisters → List ℕ
-file f r = 0 ∷ 0 ∷ 0 ∷ 0 ∷ 0 ∷ r.x5 ∷ r.x6 ∷ r.x7 ∷ f.base ∷ f.bytes ∷ r.x10 ∷ r.x11 ∷ 0 ∷ 0 ∷ 0 ∷ 0 ∷ 0 ∷ r.x17 ∷ 0 ∷ 0 ∷ 0 ∷ 0 ∷ 0 ∷ 0 ∷ 0 ∷ 0 ∷ 0 ∷ 0 ∷ r.x28 ∷ 0 ∷ 0 ∷ 0 ∷ []
+file f r = 0 ∷ 0 ∷ 0 ∷ 0 ∷ 0 ∷ r.x5 ∷ r.x6 ∷ r.x7 ∷ f.base ∷ f.bytes ∷ r.x10 ∷ r.x11 ∷ 0 ∷ 0 ∷ 0 ∷ 0 ∷ 0 ∷ r.x17 ∷ 0
+    ∷ 0 ∷ 0 ∷ 0 ∷ 0 ∷ 0 ∷ 0 ∷ 0 ∷ 0 ∷ 0 ∷ r.x28 ∷ 0 ∷ 0 ∷ 0 ∷ []
 
 abbrev pub running : List ℕ → SenderConstants → ℕ → SenderRegisters → List ℕ → HartState
 running code f pc r inbox = record { code = code; words = f.words; registers = file f r; pc = pc; inbox = inbox; status = status.Running }

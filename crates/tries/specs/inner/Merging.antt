@@ -15,8 +15,8 @@ use Rattle.tries.specs.inner.Tallies.{Counted, counted_by, counted_of, IsTallyOf
 -- what both tell of an outcome: the counts together, and the schedule of the first that has one
 abbrev pub counted_both : Option Counted → Option Counted → Option Counted
 counted_both None later = later
-counted_both (Some told) None = Some told
-counted_both (Some told) (Some later) = Some (told.0 + later.0, told.1)
+counted_both (Some seen) None = Some seen
+counted_both (Some seen) (Some later) = Some (seen.0 + later.0, seen.1)
 
 -- the runs of a later row were counted after those of its outcome
 abbrev pub CountsRow : (outcome : List ℕ) → Row → (old new : List (Vec ℕ × Row)) → Type 0
@@ -35,14 +35,14 @@ pub record Merges (old later new : Tally) : Type 0 where
 pub record Source : Type 0 where
   pub B : ℕ
   pub M : ℕ
-  pub question : LitmusTest
+  pub test : LitmusTest
   pub stream : Stream
   pub size : ℕ
 
 -- so many runs, from the one of this number on
 abbrev pub AreRunsFrom : Source → (first number : ℕ) → List Trial → Type 0
 AreRunsFrom source first number trials =
-    AreTrials source.B source.M source.question (left_after (first * source.size) source.stream) number source.size trials
+    AreTrials source.B source.M source.test (left_after (first * source.size) source.stream) number source.size trials
 
 -- the tally of the runs from one number up to another
 pub record IsTallyFrom (source : Source) (first end : ℕ) (tally : Tally) : Type 0 where

@@ -16,7 +16,7 @@ use Rattle.tries.specs.declared.trials.tally.Tally.{Tally}
 use Rattle.tries.specs.Trials.{Trial, is_finished, is_holds, is_fails, gave}
 use Rattle.tries.specs.Outcomes.{schedule_text, line_of, unfinished}
 
--- what is told of an outcome: how many runs gave it, and the first one's schedule as text
+-- what is counted of an outcome: how many runs gave it, and the first one's schedule as text
 abbrev pub Counted : Type 0
 Counted = ℕ × List ℕ
 
@@ -30,10 +30,10 @@ is_key outcome key = is_eq (slice_cmp nat_cmp outcome key.items)
 unfoldable pub counted_of : List (Vec ℕ × Row) → (outcome : List ℕ) → Option Counted
 counted_of rows outcome = option_map counted_by (lookup (is_key outcome) rows)
 
--- what is told once one more run gave the outcome
+-- the same after one more run that gave the outcome
 abbrev pub counted_more : List Event → Option Counted → Counted
 counted_more events None = (1, schedule_text events)
-counted_more events (Some told) = (told.0 + 1, told.1)
+counted_more events (Some seen) = (seen.0 + 1, seen.1)
 
 -- what some runs tell of an outcome
 unfoldable pub seen_of : List Trial → (outcome : List ℕ) → Option Counted
@@ -68,7 +68,7 @@ abbrev pub AreFound : List (Vec ℕ × Row) → Type 0
 AreFound rows = All (λ entry. lookup (is_key entry.0.items) rows ≡ Some entry.1) rows
 
 abbrev pub row_line : LitmusTest → Vec ℕ × Row → List ℕ
-row_line question entry = line_of question entry.0.items entry.1.count (string_bytes entry.1.schedule)
+row_line test entry = line_of test entry.0.items entry.1.count (string_bytes entry.1.schedule)
 
 -- whether runs are good of which some hold, or some fail
 abbrev pub good_by : Quantifier → (some_hold some_fail : Bool) → Bool

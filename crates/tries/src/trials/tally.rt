@@ -2,18 +2,20 @@
 
 ghost use Rattle.std.specs.Prelude.{◌≡◌, ◌+◌, ◌<◌, ◌≤◌, ℕ, List, [], ◌∷◌, length, IfOk, IfSome, OnOk};
 ghost use Rattle.std.specs.String.{string_bytes};
+ghost use Rattle.step_machine.specs.History.{History, Start};
 ghost use Rattle.step_machine.specs.Runs.{Run};
+ghost use Rattle.step_machine.specs.Standing.{StandsAt};
 ghost use Rattle.tries.specs.Trials.{Trial, IsTrial};
 ghost use Rattle.tries.specs.Outcomes.{schedule_text as text_of_schedule};
+ghost use Rattle.tries.specs.inner.Openings.{StandsFrom};
 ghost use Rattle.tries.specs.inner.Tallies.{counted_of, Counts, IsTallyOf, Tallies};
 ghost use Rattle.tries.specs.inner.Merging.{counted_both, CountsRow, Merges};
 
-use engine_parts::running::run_anew;
 use litmus::{Test, Verdict};
 use recorder::push_tokens;
 use std::alloc::{AllocError, Global};
 use std::collections::BTreeMap;
-use step_machine::{Event, Machine};
+use step_machine::{Event, MachineState};
 
 /// What the runs with one outcome showed.
 #[derive(Drop)]
@@ -24,7 +26,7 @@ pub struct Row {
     pub schedule: String,
 }
 
-/// The rows by their outcomes, and what else is told of the runs.
+/// The rows by their outcomes, and what else is known of the runs.
 #[derive(Drop)]
 pub struct Tally {
     pub rows: BTreeMap<Vec<u32>, Row>,
@@ -53,7 +55,7 @@ fn count_outcome(
     outcome: &[u32],
     events: &[Event],
 ) -> Result<(), AllocError>
-    requires { IfSome (counted_of rows.old.entries outcome.now) (λ told. told.0 < 4294967295) }
+    requires { IfSome (counted_of rows.old.entries outcome.now) (λ seen. seen.0 < 4294967295) }
     ensures { OnOk result (Counts outcome.now events.now rows.old.entries rows.new.entries) }
 {
     match rows.get_mut(outcome) {
@@ -73,7 +75,7 @@ fn count_row(
     outcome: Vec<u32>,
     later: Row,
 ) -> Result<(), AllocError>
-    requires { IfSome (counted_of rows.old.entries outcome.items) (λ told. told.0 + later.count < 4294967296) }
+    requires { IfSome (counted_of rows.old.entries outcome.items) (λ seen. seen.0 + later.count < 4294967296) }
     ensures { OnOk result (CountsRow outcome.items later rows.old.entries rows.new.entries) }
 {
     match rows.get_mut(outcome.as_slice()) {
@@ -85,10 +87,24 @@ fn count_row(
     Ok(())
 }
 
+/// Runs these events from the machine's opening, whatever it did before.
+fn run_anew<const B: usize, const M: usize>(
+    machine: &mut MachineState<B, M>,
+    events: &[Event],
+) -> Result<(), AllocError>
+    ensures { OnOk result ((o : Start) → StandsFrom B M o machine.old → (u : History) × Run B M o events.now u × StandsAt B M u machine.new × (u.opening ≡ o)) }
+{
+    machine.restart();
+    match machine.run(events) {
+        Ok(()) => Ok(()),
+        Err((_, error)) => Err(error),
+    }
+}
+
 impl Tally {
     /// Takes in the runs of a later tally, after its own.
     pub fn take_in(&mut self, later: Tally) -> Result<(), AllocError>
-        requires counts { (outcome : List ℕ) → IfSome (counted_both (counted_of self.old.rows.entries outcome) (counted_of later.rows.entries outcome)) (λ told. told.0 < 4294967296) }
+        requires counts { (outcome : List ℕ) → IfSome (counted_both (counted_of self.old.rows.entries outcome) (counted_of later.rows.entries outcome)) (λ seen. seen.0 < 4294967296) }
         requires unfinished { self.old.unfinished + later.unfinished < 4294967296 }
         ensures { OnOk result (Merges self.old later self.new) }
     {
@@ -121,7 +137,7 @@ impl Tally {
         verdict: Verdict,
         values: &[u32],
     ) -> Result<(), AllocError>
-        requires counts { (outcome : List ℕ) → IfSome (counted_of self.old.rows.entries outcome) (λ told. told.0 < 4294967295) }
+        requires counts { (outcome : List ℕ) → IfSome (counted_of self.old.rows.entries outcome) (λ seen. seen.0 < 4294967295) }
         requires unfinished { self.old.unfinished < 4294967295 }
         ensures { OnOk result (Tallies (record { events = events.now; verdict = verdict; values = values.now }) self.old self.new) }
     {
@@ -147,16 +163,16 @@ impl Tally {
         &mut self,
         alloc: Global,
         test: &Test,
-        machine: &mut Machine<B, M>,
+        machine: &mut MachineState<B, M>,
         events: &[Event],
         values: &mut Vec<u32>,
     ) -> Result<(), AllocError>
-        requires opening { machine.old.history.opening ≡ test.now.opening }
+        requires stands { StandsFrom B M test.now.opening machine.old }
         requires names { length test.now.names ≤ M }
-        requires counts { (outcome : List ℕ) → IfSome (counted_of self.old.rows.entries outcome) (λ told. told.0 < 4294967295) }
+        requires counts { (outcome : List ℕ) → IfSome (counted_of self.old.rows.entries outcome) (λ seen. seen.0 < 4294967295) }
         requires unfinished { self.old.unfinished < 4294967295 }
         ensures trial { OnOk result ((trial : Trial) × (trial.events ≡ events.now) × IsTrial B M test.now trial × Tallies trial self.old self.new) }
-        ensures opening { machine.new.history.opening ≡ machine.old.history.opening }
+        ensures stands { OnOk result (StandsFrom B M test.now.opening machine.new) }
     {
         run_anew(machine, events)?;
         let verdict = test.verdict(machine);

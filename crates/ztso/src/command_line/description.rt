@@ -3,7 +3,7 @@
 ghost use Rattle.std.specs.Prelude.{◌≡◌, ◌∷◌, [], false, IfOk, codes};
 ghost use Rattle.clap.specs.Words.{app_of, rule_of};
 ghost use Rattle.clap.specs.declared.builder.command.Command.TheViews.{out-Command as fields_of};
-ghost use Rattle.ztso.specs.Descriptions.{asm_command, buffer_option, channel_command, dis_command, flag, option_or, option_said, option_wanted, schedule_command, steps_command, threads_command, try_command, with_commands, word_wanted, ztso_command};
+ghost use Rattle.ztso.specs.Descriptions.{asm_command, buffer_option, channel_command, chart_command, dis_command, flag, option_or, option_said, option_wanted, schedule_command, steps_command, threads_command, try_command, with_commands, word_wanted, ztso_command};
 
 use clap::{Arg, ArgAction, Command};
 use std::alloc::{AllocError, Global};
@@ -113,6 +113,17 @@ fn threads_command<'a>(alloc: Global) -> Result<Command<'a>, AllocError>
     with_turns.arg(buffer_option(alloc))
 }
 
+/// `chart`, with its flag.
+fn chart_command<'a>(alloc: Global) -> Result<Command<'a>, AllocError>
+    ensures shape { IfOk result (λ command. app_of command ≡ chart_command) }
+    ensures local { IfOk result (λ command. (fields_of command).has_globals ≡ false) }
+{
+    let with_file = Command::new(alloc, "chart").arg(word_wanted(alloc, "file"))?;
+    let with_schedule = with_file.arg(word_wanted(alloc, "schedule"))?;
+    let with_svg = with_schedule.arg(flag(alloc, "svg"))?;
+    with_svg.arg(buffer_option(alloc))
+}
+
 /// The command with those on standard input alone: `steps`, `asm` and `dis`.
 fn with_input_commands<'a>(alloc: Global, command: Command<'a>) -> Result<Command<'a>, AllocError>
     ensures { IfOk result (λ whole. app_of whole ≡ with_commands (app_of command.entry) (steps_command ∷ asm_command ∷ dis_command ∷ [])) }
@@ -125,12 +136,13 @@ fn with_input_commands<'a>(alloc: Global, command: Command<'a>) -> Result<Comman
     with_asm.subcommand(dis)
 }
 
-/// The command with those on a litmus text and a schedule: `run`, `replay`, `move`, `shrink` and `debug`.
+/// The command with those on a litmus text and a schedule: `run`, `replay`, `move`, `shrink`,
+/// `chart` and `debug`.
 fn with_schedule_commands<'a>(
     alloc: Global,
     command: Command<'a>,
 ) -> Result<Command<'a>, AllocError>
-    ensures { IfOk result (λ whole. app_of whole ≡ with_commands (app_of command.entry) (schedule_command (codes "run") ∷ schedule_command (codes "replay") ∷ schedule_command (codes "move") ∷ schedule_command (codes "shrink") ∷ schedule_command (codes "debug") ∷ [])) }
+    ensures { IfOk result (λ whole. app_of whole ≡ with_commands (app_of command.entry) (schedule_command (codes "run") ∷ schedule_command (codes "replay") ∷ schedule_command (codes "move") ∷ schedule_command (codes "shrink") ∷ chart_command ∷ schedule_command (codes "debug") ∷ [])) }
 {
     let run = schedule_command(alloc, "run")?;
     let with_run = command.subcommand(run)?;
@@ -140,8 +152,10 @@ fn with_schedule_commands<'a>(
     let with_move = with_replay.subcommand(moving)?;
     let shrink = schedule_command(alloc, "shrink")?;
     let with_shrink = with_move.subcommand(shrink)?;
+    let chart = chart_command(alloc)?;
+    let with_chart = with_shrink.subcommand(chart)?;
     let debug = schedule_command(alloc, "debug")?;
-    with_shrink.subcommand(debug)
+    with_chart.subcommand(debug)
 }
 
 /// The command with those that have options of their own: `try`, `channel` and `threads`.

@@ -4,7 +4,9 @@ use Rattle.engine_parts.proofs.StateLines.{registers_shown_none, registers_shown
 use Rattle.engine_parts.proofs.state_text.push_registers.Goals as goal
 
 pub loop-number-init : goal.loop-number-init
-loop-number-init g c = none_added _ _ (registers_shown_none (state_of g.row.M c.args.machine.now.history c.args.hart))
+loop-number-init g c = λ t stands. none_added _ _ (registers_shown_none (state_of g.row.M t c.args.hart))
 
 pub loop-number-preserved : goal.loop-number-preserved
-loop-number-preserved g c = one_added _ _ _ _ _ _ c.loop-number.invariant c.in_ok-push_register_line.ensures (registers_shown_more (state_of g.row.M c.args.machine.now.history c.args.hart) c.loop-number.number c.register.result c.register.ensures)
+loop-number-preserved g c = λ t stands.
+    (one_added _ _ _ _ _ _ (c.loop-number.invariant t stands) c.in_ok-push_register_line.ensures
+    (registers_shown_more (state_of g.row.M t c.args.hart) c.loop-number.number c.register.result (c.register.ensures t stands)))

@@ -15,7 +15,8 @@ returns-then-not-are_same g c = λ kept.
     let events = c.deref-2.ensures.value ∙ c.in_ok-events.ensures ∙ ap (map event_of) c.deref.ensures.value in
     let one = run-one g.row.B g.row.M (unrun c.args.opening.now) c.deref-2.result.now c.in_ok-machine.machine.history whole c.in_ok-machine.ensures
     (subst (λ (evs : List Event). Run g.row.B g.row.M c.args.opening.now evs whole) (sym events) (own_run g.row.B g.row.M whole kept)) in
-    c.if-not-are_same.ensures (c.entries.ensures.value ∙ ap (λ (t : History). t.entries) one ∙ sym c.deref-3.ensures.value)
+    c.if-not-are_same.ensures (c.deref-3.ensures.value ∙ c.in_ok-made.ensures ∙ c.entries.ensures.value
+    ∙ ap (λ (t : History). t.entries) one ∙ sym c.deref-4.ensures.value)
 
 -- a history by its parts
 is_history : (t : History) (o : Start) (es : List Entry) → t.opening ≡ o → t.entries ≡ es → t ≡ history_of o es
@@ -27,7 +28,8 @@ returns g c =
     let run = subst (λ (evs : List Event). Run g.row.B g.row.M c.args.opening.now evs c.in_ok-machine.machine.history)
     c.deref-2.ensures.value c.in_ok-machine.ensures in
     let opening = opening_kept g.row.B g.row.M c.args.opening.now c.deref-2.result.now c.in_ok-machine.machine.history c.in_ok-machine.ensures in
-    let entries = sym c.entries.ensures.value ∙ c.if-not-are_same.ensures ∙ c.deref-3.ensures.value in
+    let entries = sym c.entries.ensures.value ∙ sym c.in_ok-made.ensures ∙ sym c.deref-3.ensures.value
+    ∙ c.if-not-are_same.ensures ∙ c.deref-4.ensures.value in
     let stands = is_history c.in_ok-machine.machine.history c.in_ok-opening.opening c.args.entries.items (opening ∙ sym c.in_ok-opening.ensures) entries in (
       record {
         opening = c.in_ok-opening.ensures;

@@ -14,9 +14,9 @@ pub loop-at-preserved : goal.loop-at-preserved
 loop-at-preserved c =
     let text = c.args.text.now in
     let next = c.copied.ensures ∙ is_first text (c.loop-at.at + 1) c.get.result c.get.ensures.lookup.3 in
-    let told = rw next at c.turned-written.ensures in
+    let shown = rw next at c.turned-written.ensures in
     let turn = one_turn c.loop-at.part text c.loop-at.at c.loop-at-test.true in
-    rw (c.in_ok-push.ensures.items, told, append_assoc) (rw turn at c.loop-at.invariant)
+    rw (c.in_ok-push.ensures.items, shown, append_assoc) (rw turn at c.loop-at.invariant)
 
 pub returns : goal.returns
 unfolding cleaned_from

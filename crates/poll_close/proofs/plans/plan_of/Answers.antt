@@ -2,7 +2,8 @@ use Rattle.std.proofs.Common.{◌≡◌, true, false, [], ◌∷◌, ◌++◌, l
 use Rattle.step_machine.specs.declared.events.Event.TheVariants as event
 use Rattle.poll_close.specs.Rankings.{rank_of, next_by}
 use Rattle.poll_close.specs.Plans.{is_done}
-use Rattle.poll_close.proofs.Planning.{Planned, planned-none, planned-more, planned-done, lands_one, turned, turn_over, turn_quiet, some_left, none_left, landed_more}
+use Rattle.poll_close.proofs.Planning.{Planned, planned-none, planned-more, planned-done, lands_one, turned, turn_over}
+use Rattle.poll_close.proofs.Planning.{turn_quiet, some_left, none_left, landed_more}
 use Rattle.poll_close.proofs.plans.plan_of.Goals as goal
 
 pub is_finished-requires-in-loop-machine-2 : goal.is_finished-requires-in-loop-machine-2
@@ -11,52 +12,123 @@ is_finished-requires-in-loop-machine-2 g c = (lit< tt, c.loop-machine-2.invarian
 pub loop-machine-smaller : goal.loop-machine-smaller
 loop-machine-smaller g c =
     let p = c.loop-machine.invariant.0 in
-    (lands_one g.row.B g.row.M c.loop-machine.machine.history c.loop-hart.hart c.in_ok-step.field-0 c.step.new.self.history p.stands.kept (omega (arith, p.harts, c.harts-hart-end.ensures, c.loop-hart-test.true)) (some_left c.pending.ensures c.is_empty.ensures c.loop-machine-test.true) c.in_ok-step.ensures.happens).fewer
+    (lands_one g.row.B g.row.M c.loop-machine.machine.history c.loop-hart.hart c.in_ok-step.field-0
+    c.step.new.self.history p.stands.kept (omega (arith, p.harts, c.harts-hart-end.ensures, c.loop-hart-test.true))
+    (some_left c.pending.ensures c.is_empty.ensures c.loop-machine-test.true) c.in_ok-step.ensures.happens).fewer
 
 pub loop-machine-preserved : goal.loop-machine-preserved
 loop-machine-preserved g c =
     let p = c.loop-machine.invariant.0 in
-    let less = lands_one g.row.B g.row.M c.loop-machine.machine.history c.loop-hart.hart c.in_ok-step.field-0 c.step.new.self.history p.stands.kept (omega (arith, p.harts, c.harts-hart-end.ensures, c.loop-hart-test.true)) (some_left c.pending.ensures c.is_empty.ensures c.loop-machine-test.true) c.in_ok-step.ensures.happens in (
-      subst (λ evs. Planned g.K.RingKind.ring g.K.RingKind.meaning g.row.B g.row.M c.args.machine.history evs c.step.new.self.history) (sym c.in_ok-push.ensures.items) (planned-more g.K.RingKind.ring g.K.RingKind.meaning g.row.B g.row.M c.args.machine.history c.loop-machine.plan.items c.loop-machine.machine.history _ c.in_ok-step.field-0 c.step.new.self.history c.laws.ensures.keeps p c.in_ok-step.ensures.happens),
+    let less = lands_one g.row.B g.row.M c.loop-machine.machine.history c.loop-hart.hart c.in_ok-step.field-0
+    c.step.new.self.history p.stands.kept (omega (arith, p.harts, c.harts-hart-end.ensures, c.loop-hart-test.true))
+    (some_left c.pending.ensures c.is_empty.ensures c.loop-machine-test.true) c.in_ok-step.ensures.happens in (
+      subst (λ evs. Planned g.K.RingKind.ring g.K.RingKind.meaning g.row.B g.row.M c.args.machine.history evs
+          c.step.new.self.history) (sym c.in_ok-push.ensures.items)
+          (planned-more g.K.RingKind.ring g.K.RingKind.meaning g.row.B g.row.M c.args.machine.history
+          c.loop-machine.plan.items c.loop-machine.machine.history _ c.in_ok-step.field-0 c.step.new.self.history
+          c.laws.ensures.keeps p c.in_ok-step.ensures.happens),
       λ k below. less.others k (omega arith) ∙ c.loop-machine.invariant.1 k below,
     )
 
 pub loop-hart-preserved : goal.loop-hart-preserved
-loop-hart-preserved g c = (c.loop-machine.invariant.0, landed_more c.loop-machine.machine.history.entries c.loop-hart.hart c.loop-machine.invariant.1 (none_left c.pending.ensures c.is_empty.ensures c.loop-machine-test.false))
+loop-hart-preserved g c = (
+  c.loop-machine.invariant.0,
+  landed_more c.loop-machine.machine.history.entries c.loop-hart.hart c.loop-machine.invariant.1
+      (none_left c.pending.ensures c.is_empty.ensures c.loop-machine-test.false),
+)
 
 pub pending-requires-in-loop-machine-2 : goal.pending-requires-in-loop-machine-2
 pending-requires-in-loop-machine-2 g c =
-    let turn = turned g.K.RingKind.ring g.K.RingKind.meaning (rank_of g.K.Finish.ranking) (next_by g.K.Finish.ranking) g.row.B g.row.M c.args.machine.history c.loop-machine-2.plan.items c.loop-machine-2.machine.history c.next_hart-next.result c.in_ok-step-2.field-0 c.step-in-loop-machine-2.new.self.history c.falls.ensures c.laws.ensures.keeps c.requires.some_capacity c.loop-machine-2.invariant.0 c.loop-machine-2.invariant.1 (sym c.is_finished-in-loop-machine-2.ensures ∙ c.loop-machine-2-test.true) c.next_hart-next.ensures c.in_ok-step-2.ensures.happens in
+    let turn =
+    turned g.K.RingKind.ring g.K.RingKind.meaning (rank_of g.K.Finish.ranking) (next_by g.K.Finish.ranking) g.row.B
+    g.row.M c.args.machine.history c.loop-machine-2.plan.items c.loop-machine-2.machine.history
+    c.next_hart-next.result c.in_ok-step-2.field-0 c.step-in-loop-machine-2.new.self.history c.falls.ensures
+    c.laws.ensures.keeps c.requires.some_capacity c.loop-machine-2.invariant.0 c.loop-machine-2.invariant.1
+    (sym c.is_finished-in-loop-machine-2.ensures ∙ c.loop-machine-2-test.true) c.next_hart-next.ensures
+    c.in_ok-step-2.ensures.happens in
     (lit< tt, turn.hart)
 
 pub loop-machine-2-smaller-in-Continue-branch-6 : goal.loop-machine-2-smaller-in-Continue-branch-6
 loop-machine-2-smaller-in-Continue-branch-6 g c =
-    let turn = turned g.K.RingKind.ring g.K.RingKind.meaning (rank_of g.K.Finish.ranking) (next_by g.K.Finish.ranking) g.row.B g.row.M c.args.machine.history c.loop-machine-2.plan.items c.loop-machine-2.machine.history c.next_hart-next.result c.in_ok-step-2.field-0 c.step-in-loop-machine-2.new.self.history c.falls.ensures c.laws.ensures.keeps c.requires.some_capacity c.loop-machine-2.invariant.0 c.loop-machine-2.invariant.1 (sym c.is_finished-in-loop-machine-2.ensures ∙ c.loop-machine-2-test.true) c.next_hart-next.ensures c.in_ok-step-2.ensures.happens in
-    let over = turn_over g.K.RingKind.ring g.K.RingKind.meaning (rank_of g.K.Finish.ranking) g.row.B g.row.M c.args.machine.history _ c.loop-machine-2.machine.history c.step-in-loop-machine-2.new.self.history c.next_hart-next.result c.in_ok-step-3.field-0 c.step-then-not-is_empty.new.self.history c.laws.ensures.keeps c.loop-machine-2.invariant.1 turn (some_left c.pending-in-loop-machine-2.ensures c.is_empty-in-loop-machine-2.ensures c.if-not-is_empty.true) c.in_ok-step-3.ensures.happens in
+    let turn =
+    turned g.K.RingKind.ring g.K.RingKind.meaning (rank_of g.K.Finish.ranking) (next_by g.K.Finish.ranking) g.row.B
+    g.row.M c.args.machine.history c.loop-machine-2.plan.items c.loop-machine-2.machine.history
+    c.next_hart-next.result c.in_ok-step-2.field-0 c.step-in-loop-machine-2.new.self.history c.falls.ensures
+    c.laws.ensures.keeps c.requires.some_capacity c.loop-machine-2.invariant.0 c.loop-machine-2.invariant.1
+    (sym c.is_finished-in-loop-machine-2.ensures ∙ c.loop-machine-2-test.true) c.next_hart-next.ensures
+    c.in_ok-step-2.ensures.happens in
+    let over = turn_over g.K.RingKind.ring g.K.RingKind.meaning (rank_of g.K.Finish.ranking) g.row.B g.row.M
+    c.args.machine.history _ c.loop-machine-2.machine.history c.step-in-loop-machine-2.new.self.history
+    c.next_hart-next.result c.in_ok-step-3.field-0 c.step-then-not-is_empty.new.self.history c.laws.ensures.keeps
+    c.loop-machine-2.invariant.1 turn
+    (some_left c.pending-in-loop-machine-2.ensures c.is_empty-in-loop-machine-2.ensures c.if-not-is_empty.true)
+    c.in_ok-step-3.ensures.happens in
     over.less
 
 pub loop-machine-2-preserved-in-Continue-branch-6 : goal.loop-machine-2-preserved-in-Continue-branch-6
 loop-machine-2-preserved-in-Continue-branch-6 g c =
-    let turn = turned g.K.RingKind.ring g.K.RingKind.meaning (rank_of g.K.Finish.ranking) (next_by g.K.Finish.ranking) g.row.B g.row.M c.args.machine.history c.loop-machine-2.plan.items c.loop-machine-2.machine.history c.next_hart-next.result c.in_ok-step-2.field-0 c.step-in-loop-machine-2.new.self.history c.falls.ensures c.laws.ensures.keeps c.requires.some_capacity c.loop-machine-2.invariant.0 c.loop-machine-2.invariant.1 (sym c.is_finished-in-loop-machine-2.ensures ∙ c.loop-machine-2-test.true) c.next_hart-next.ensures c.in_ok-step-2.ensures.happens in
-    let over = turn_over g.K.RingKind.ring g.K.RingKind.meaning (rank_of g.K.Finish.ranking) g.row.B g.row.M c.args.machine.history _ c.loop-machine-2.machine.history c.step-in-loop-machine-2.new.self.history c.next_hart-next.result c.in_ok-step-3.field-0 c.step-then-not-is_empty.new.self.history c.laws.ensures.keeps c.loop-machine-2.invariant.1 turn (some_left c.pending-in-loop-machine-2.ensures c.is_empty-in-loop-machine-2.ensures c.if-not-is_empty.true) c.in_ok-step-3.ensures.happens in
-    (subst (λ evs. Planned g.K.RingKind.ring g.K.RingKind.meaning g.row.B g.row.M c.args.machine.history evs c.step-then-not-is_empty.new.self.history) (sym (c.in_ok-push-3.ensures.items ∙ ap (λ evs. evs ++ event.Land c.next_hart-next.result ∷ []) c.in_ok-push-2.ensures.items)) over.planned, over.all)
+    let turn =
+    turned g.K.RingKind.ring g.K.RingKind.meaning (rank_of g.K.Finish.ranking) (next_by g.K.Finish.ranking) g.row.B
+    g.row.M c.args.machine.history c.loop-machine-2.plan.items c.loop-machine-2.machine.history
+    c.next_hart-next.result c.in_ok-step-2.field-0 c.step-in-loop-machine-2.new.self.history c.falls.ensures
+    c.laws.ensures.keeps c.requires.some_capacity c.loop-machine-2.invariant.0 c.loop-machine-2.invariant.1
+    (sym c.is_finished-in-loop-machine-2.ensures ∙ c.loop-machine-2-test.true) c.next_hart-next.ensures
+    c.in_ok-step-2.ensures.happens in
+    let over = turn_over g.K.RingKind.ring g.K.RingKind.meaning (rank_of g.K.Finish.ranking) g.row.B g.row.M
+    c.args.machine.history _ c.loop-machine-2.machine.history c.step-in-loop-machine-2.new.self.history
+    c.next_hart-next.result c.in_ok-step-3.field-0 c.step-then-not-is_empty.new.self.history c.laws.ensures.keeps
+    c.loop-machine-2.invariant.1 turn
+    (some_left c.pending-in-loop-machine-2.ensures c.is_empty-in-loop-machine-2.ensures c.if-not-is_empty.true)
+    c.in_ok-step-3.ensures.happens in (
+      subst (λ evs. Planned g.K.RingKind.ring g.K.RingKind.meaning g.row.B g.row.M c.args.machine.history evs
+          c.step-then-not-is_empty.new.self.history)
+          (sym (c.in_ok-push-3.ensures.items
+          ∙ ap (λ evs. evs ++ event.Land c.next_hart-next.result ∷ []) c.in_ok-push-2.ensures.items)) over.planned,
+      over.all,
+    )
 
 pub loop-machine-2-smaller : goal.loop-machine-2-smaller
 loop-machine-2-smaller g c =
-    let turn = turned g.K.RingKind.ring g.K.RingKind.meaning (rank_of g.K.Finish.ranking) (next_by g.K.Finish.ranking) g.row.B g.row.M c.args.machine.history c.loop-machine-2.plan.items c.loop-machine-2.machine.history c.next_hart-next.result c.in_ok-step-2.field-0 c.step-in-loop-machine-2.new.self.history c.falls.ensures c.laws.ensures.keeps c.requires.some_capacity c.loop-machine-2.invariant.0 c.loop-machine-2.invariant.1 (sym c.is_finished-in-loop-machine-2.ensures ∙ c.loop-machine-2-test.true) c.next_hart-next.ensures c.in_ok-step-2.ensures.happens in
+    let turn =
+    turned g.K.RingKind.ring g.K.RingKind.meaning (rank_of g.K.Finish.ranking) (next_by g.K.Finish.ranking) g.row.B
+    g.row.M c.args.machine.history c.loop-machine-2.plan.items c.loop-machine-2.machine.history
+    c.next_hart-next.result c.in_ok-step-2.field-0 c.step-in-loop-machine-2.new.self.history c.falls.ensures
+    c.laws.ensures.keeps c.requires.some_capacity c.loop-machine-2.invariant.0 c.loop-machine-2.invariant.1
+    (sym c.is_finished-in-loop-machine-2.ensures ∙ c.loop-machine-2-test.true) c.next_hart-next.ensures
+    c.in_ok-step-2.ensures.happens in
     turn.stepped.less
 
 pub loop-machine-2-preserved : goal.loop-machine-2-preserved
 loop-machine-2-preserved g c =
-    let turn = turned g.K.RingKind.ring g.K.RingKind.meaning (rank_of g.K.Finish.ranking) (next_by g.K.Finish.ranking) g.row.B g.row.M c.args.machine.history c.loop-machine-2.plan.items c.loop-machine-2.machine.history c.next_hart-next.result c.in_ok-step-2.field-0 c.step-in-loop-machine-2.new.self.history c.falls.ensures c.laws.ensures.keeps c.requires.some_capacity c.loop-machine-2.invariant.0 c.loop-machine-2.invariant.1 (sym c.is_finished-in-loop-machine-2.ensures ∙ c.loop-machine-2-test.true) c.next_hart-next.ensures c.in_ok-step-2.ensures.happens in
-    let over = turn_quiet g.K.RingKind.ring g.K.RingKind.meaning (rank_of g.K.Finish.ranking) g.row.B g.row.M c.args.machine.history _ c.loop-machine-2.machine.history c.step-in-loop-machine-2.new.self.history c.next_hart-next.result c.loop-machine-2.invariant.1 turn (none_left c.pending-in-loop-machine-2.ensures c.is_empty-in-loop-machine-2.ensures c.if-not-is_empty.false) in
-    (subst (λ evs. Planned g.K.RingKind.ring g.K.RingKind.meaning g.row.B g.row.M c.args.machine.history evs c.step-in-loop-machine-2.new.self.history) (sym c.in_ok-push-2.ensures.items) over.planned, over.all)
+    let turn =
+    turned g.K.RingKind.ring g.K.RingKind.meaning (rank_of g.K.Finish.ranking) (next_by g.K.Finish.ranking) g.row.B
+    g.row.M c.args.machine.history c.loop-machine-2.plan.items c.loop-machine-2.machine.history
+    c.next_hart-next.result c.in_ok-step-2.field-0 c.step-in-loop-machine-2.new.self.history c.falls.ensures
+    c.laws.ensures.keeps c.requires.some_capacity c.loop-machine-2.invariant.0 c.loop-machine-2.invariant.1
+    (sym c.is_finished-in-loop-machine-2.ensures ∙ c.loop-machine-2-test.true) c.next_hart-next.ensures
+    c.in_ok-step-2.ensures.happens in
+    let over = turn_quiet g.K.RingKind.ring g.K.RingKind.meaning (rank_of g.K.Finish.ranking) g.row.B g.row.M
+    c.args.machine.history _ c.loop-machine-2.machine.history c.step-in-loop-machine-2.new.self.history
+    c.next_hart-next.result c.loop-machine-2.invariant.1 turn
+    (none_left c.pending-in-loop-machine-2.ensures c.is_empty-in-loop-machine-2.ensures c.if-not-is_empty.false) in (
+      subst (λ evs. Planned g.K.RingKind.ring g.K.RingKind.meaning g.row.B g.row.M c.args.machine.history evs
+          c.step-in-loop-machine-2.new.self.history) (sym c.in_ok-push-2.ensures.items) over.planned,
+      over.all,
+    )
 
 pub returns-then-is_finished-clause-finishes : goal.returns-then-is_finished-clause-finishes
-returns-then-is_finished-clause-finishes g c = planned-done g.K.RingKind.ring g.K.RingKind.meaning g.row.B g.row.M c.args.machine.history c.new-plan.result.items c.args.machine.history c.laws.ensures.cleans (subst (λ evs. Planned g.K.RingKind.ring g.K.RingKind.meaning g.row.B g.row.M c.args.machine.history evs c.args.machine.history) (sym c.new-plan.ensures.items) (planned-none g.K.RingKind.ring g.K.RingKind.meaning g.row.B g.row.M c.args.machine.history c.requires.stands)) (sym c.is_finished.ensures ∙ c.if-is_finished.true)
+returns-then-is_finished-clause-finishes g c = planned-done g.K.RingKind.ring g.K.RingKind.meaning g.row.B g.row.M
+    c.args.machine.history c.new-plan.result.items c.args.machine.history c.laws.ensures.cleans
+    (subst (λ evs.
+    Planned g.K.RingKind.ring g.K.RingKind.meaning g.row.B g.row.M c.args.machine.history evs c.args.machine.history)
+    (sym c.new-plan.ensures.items)
+    (planned-none g.K.RingKind.ring g.K.RingKind.meaning g.row.B g.row.M c.args.machine.history c.requires.stands))
+    (sym c.is_finished.ensures ∙ c.if-is_finished.true)
 
 pub returns : goal.returns
 returns g c = record {
-  finishes = planned-done g.K.RingKind.ring g.K.RingKind.meaning g.row.B g.row.M c.args.machine.history c.loop-machine-2.plan.items c.loop-machine-2.machine.history c.laws.ensures.cleans c.loop-machine-2.invariant.0 (let done : is_done c.loop-machine-2.machine.history ≡ true = cc in done);
+  finishes = planned-done g.K.RingKind.ring g.K.RingKind.meaning g.row.B g.row.M c.args.machine.history
+      c.loop-machine-2.plan.items c.loop-machine-2.machine.history c.laws.ensures.cleans c.loop-machine-2.invariant.0
+      (let done : is_done c.loop-machine-2.machine.history ≡ true = cc in done);
   none = λ done. (let bad : true ≡ false = sym done ∙ sym c.is_finished.ensures ∙ c.if-is_finished.false in cc);
 }

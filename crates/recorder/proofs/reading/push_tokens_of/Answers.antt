@@ -1,6 +1,5 @@
-use Rattle.std.proofs.Common.{◌++◌, List, vec_len, Ok, ap, ◌∙◌}
+use Rattle.std.proofs.Common.{vec_len, Ok}
 use Rattle.std.proofs.lemmas.Result.{err_from_is_err_and}
-use Rattle.step_machine.specs.declared.events.Event.{Event}
 use Rattle.recorder.specs.Reading.{Pushes, tokens_after}
 use Rattle.recorder.proofs.TextLaws.{tokens_after-IsTokensOf, only_pushed, pushes_refused}
 use Rattle.recorder.proofs.reading.push_tokens_of.Goals as goal
@@ -14,12 +13,10 @@ returns-in_err-read-clause-only c read is few =
     only_pushed (vec_len c.args.events.now) c.args.text.now old old read c.from_residual.result refused is few
 
 pub returns-clause-found : goal.returns-clause-found
-returns-clause-found c =
-    let appended = c.in_ok-extend_from_slice.ensures.items ∙ ap (λ (list : List Event). c.args.events.now.items ++ list) c.deref.ensures.value in
-    (c.in_ok-read.read.items, tokens_after-IsTokensOf c.len.result c.args.text.now c.in_ok-read.read.items c.in_ok-read.ensures, appended)
+returns-clause-found c = (c.in_ok-read.read.items, tokens_after-IsTokensOf c.len.result c.args.text.now c.in_ok-read.read.items c.in_ok-read.ensures, c.in_ok-push_list.ensures.ok)
 
 pub returns-clause-only : goal.returns-clause-only
 returns-clause-only c read is few =
-    let appended = c.in_ok-extend_from_slice.ensures.items ∙ ap (λ (list : List Event). c.args.events.now.items ++ list) c.deref.ensures.value in
-    let pushed : Pushes c.args.events.now.items c.extend_from_slice.new.self.items (Ok tt) (tokens_after (vec_len c.args.events.now) c.args.text.now) = (c.in_ok-read.read.items, rw c.len.ensures at c.in_ok-read.ensures, appended) in
-    only_pushed (vec_len c.args.events.now) c.args.text.now c.args.events.now.items c.extend_from_slice.new.self.items read (Ok tt) pushed is few
+    let pushed : Pushes c.args.events.now.items c.push_list.new.events.items (Ok tt) (tokens_after (vec_len c.args.events.now) c.args.text.now) =
+    (c.in_ok-read.read.items, rw c.len.ensures at c.in_ok-read.ensures, c.in_ok-push_list.ensures.ok) in
+    only_pushed (vec_len c.args.events.now) c.args.text.now c.args.events.now.items c.push_list.new.events.items read (Ok tt) pushed is few

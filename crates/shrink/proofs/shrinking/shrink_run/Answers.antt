@@ -13,5 +13,9 @@ returns-clause-shrunk g c given run =
     let ran = subst (λ (o : Start). Run g.row.B g.row.M o given c.args.machine.history) (sym c.requires.opening) run in
     let last = rw c.deref.ensures.value at c.in_ok-leave_out.ensures.ends in
     let minimal = rw c.deref.ensures.value at c.in_ok-leave_out.ensures.minimal in
-    shrunk_of_run g.row.B g.row.M c.args.test.now c.args.machine.history.opening given c.in_ok-left.left.items c.leave_out.new.events.items c.args.machine.history
-    c.in_ok-last.last.items c.requires.opening (subst (λ (o : Start). Run g.row.B g.row.M o given c.args.machine.history) (sym c.requires.opening) run) (c.is_finished.ensures.0 cc) c.in_ok-last.ensures own c.in_ok-leave_out.ensures.part last minimal
+    shrunk_of_run g.row.B g.row.M c.args.test.now c.args.machine.history.opening given c.in_ok-left.left.items
+    c.leave_out.new.events.items c.args.machine.history
+    c.in_ok-last.last.items c.requires.opening
+    ran
+    (c.is_finished.ensures.0 cc) (c.in_ok-last.ensures c.args.machine.history c.machine_state.ensures.stands) own
+    c.in_ok-leave_out.ensures.part last minimal

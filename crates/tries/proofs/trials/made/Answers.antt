@@ -17,5 +17,5 @@ returns-in_err-test g c =
 pub returns : goal.returns
 returns g c =
     let stream = left_after (c.args.runs.skip * c.args.runs.length) (g.G.Rng.stream c.args.generator.now) in
-    by_test (IsTriedOf g.row.B g.row.M stream c.args.runs.number c.args.runs.length) text_and_value _ c.in_ok-test.test (Ok c.in_ok-told.told)
-    c.in_ok-test.ensures.test c.in_ok-told.ensures
+    by_test (IsTriedOf g.row.B g.row.M stream c.args.runs.number c.args.runs.length) text_and_value _ c.in_ok-test.test (Ok c.in_ok-answered.answered)
+    c.in_ok-test.ensures.test c.in_ok-answered.ensures

@@ -4,7 +4,7 @@ use Rattle.recorder.specs.Versions.{Said}
 use Rattle.engine_parts.specs.declared.fault.Refusal.{Refusal}
 use Rattle.engine_parts.specs.Engines.{Output}
 use Rattle.views.specs.Shrink.{AreOfOneKind, IsShrink}
-use Rattle.views.proofs.OneRefusal.{alike_by_schedule}
+use Rattle.engine_parts.proofs.OneInput.{alike_by_schedule}
 use Rattle.views.proofs.ShrinkLaws.{alike_run, of_one_kind}
 use Rattle.views.proofs.laws.shrinks_alike.Goals as goal
 

@@ -1,11 +1,11 @@
 use Rattle.engine_parts.specs.Engines.{AnswersBoth}
 use Rattle.views.specs.Shrink.{IsShrinkAnswer}
 use Rattle.ztso.specs.Work.{done_status}
-use Rattle.ztso.proofs.Endings.{ends_told}
+use Rattle.ztso.proofs.Endings.{ends_with_status}
 use Rattle.ztso.proofs.work.shrink_schedule.Goals as goal
 
 pub returns-clause-ends : goal.returns-clause-ends
 returns-clause-ends g c =
-    ends_told done_status (AnswersBoth (IsShrinkAnswer g.row.B 4096) (g.F.Read.remaining c.args.file.now) (g.S.Read.remaining c.args.schedule.now))
+    ends_with_status done_status (AnswersBoth (IsShrinkAnswer g.row.B 4096) (g.F.Read.remaining c.args.file.now) (g.S.Read.remaining c.args.schedule.now))
     c.shrink_engine.result g.W.Write.contents c.args.writer.now c.shrink_engine.new.writer
     c.shrink_engine.ensures.ends c.after.result c.after.ensures

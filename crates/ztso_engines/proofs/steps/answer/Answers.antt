@@ -10,5 +10,5 @@ returns g c =
     let told = scenario_of c.in_ok-script.script in (
       told,
       accepted_well (script_at g.row.M) (Tells g.row.M) c.args.input.items told (text_told g.row.M c.args.input.items told) (rw c.deref.ensures.value at c.in_ok-script.ensures.exact),
-      record { history = c.in_ok-machine.machine.history; ran = c.in_ok-machine.ensures; is_shown = c.in_ok-text.ensures },
+      (let stood = c.in_ok-machine.ensures in record { history = stood.0; ran = stood.1; is_shown = c.in_ok-text.ensures stood.0 stood.2 }),
     )

@@ -26,6 +26,6 @@ returns g c n at_most get_on =
       at_most = at_most;
       get_on = get_on;
       state = string_bytes told.0;
-      judged = subst (λ (t : History). IsJudged g.row.M c.args.test.now t (string_bytes told.0, told.1)) c.requires.runs.stands c.in_ok-judged.ensures;
+      judged = subst (λ (t : History). IsJudged g.row.M c.args.test.now t (string_bytes told.0, told.1)) c.requires.runs.stands (c.in_ok-judged.ensures _ c.machine_state.ensures.stands);
       written = joined _ _ _ _ _ c.in_ok-push_str.ensures.bytes (c.in_ok-text.ensures.canonical ∙ ap canon c.deref.ensures.value) c.deref-2.ensures;
     }

@@ -3,7 +3,7 @@ use Rattle.std.specs.Option.{option_copied}
 use Rattle.texts.specs.Pieces.{bytes_left, pieces_after}
 use Rattle.assembler.specs.Drafts.{onto}
 use Rattle.litmus_reader.specs.Rows.{cells_of}
-use Rattle.litmus_reader.specs.Table.{cells_told}
+use Rattle.litmus_reader.specs.Table.{cells_added}
 use Rattle.litmus_reader.proofs.table.Table.tell_cells.Given as goal
 use Rattle.texts.specs.declared.pieces.Separators.TheVariants.{Byte}
 
@@ -11,7 +11,7 @@ abbrev pub invariant-loop-rest : goal.invariant-loop-rest
 invariant-loop-rest l = record {
   count : l.hart + length (pieces_after (Byte 124) (option_copied l.rest)) ≡ vec_len l.self-inside.columns;
   same : vec_len l.self-inside.columns ≡ length l.fn.self;
-  so_far : onto (take l.hart l.self-inside.columns.items) (cells_told (drop l.hart l.self-inside.columns.items) (pieces_after (Byte 124) (option_copied l.rest))) ≡ cells_told l.fn.self (cells_of l.row);
+  so_far : onto (take l.hart l.self-inside.columns.items) (cells_added (drop l.hart l.self-inside.columns.items) (pieces_after (Byte 124) (option_copied l.rest))) ≡ cells_added l.fn.self (cells_of l.row);
 }
 
 abbrev pub decreases-loop-rest : goal.decreases-loop-rest

@@ -8,7 +8,7 @@ use Rattle.step_machine.proofs.bank.Bank.open.Goals as goal
 
 pub invariant_of-result : goal.invariant_of-result
 invariant_of-result g c =
-    let view : BankView = record { first = c.in_ok-first.first.items; entries = c.new.result.items; over = c.in_ok-over.over.items } in
+    let view : BankView = record { first = c.in_ok-first.first.items; entries = c.new.result.entries; over = c.in_ok-over.over.items } in
     let is : view ≡ opened_bank c.args.opening.now = grind (arith, common_steps) in
     let holds : c.in_ok-stores.stores ≡ opened_stored g.row.M c.args.opening.now.words (length c.args.opening.now.harts) = grind (arith, common_steps) in
     sound_opening g.row.B g.row.M c.args.opening.now view c.in_ok-stores.stores c.requires.fits is holds

@@ -10,7 +10,7 @@ pub restore-requires : goal.restore-requires
 restore-requires g c =
     let s : Taken = c.args.snapshot.now in
     let o : Start = c.self.inside.opening in
-    let es : List Entry = c.self.inside.entries.items in
+    let es : List Entry = c.self.inside.entries.entries in
     let taken : IsTakenAt g.row.B g.row.M (up_to s.count (history_of o es)) s =
     subst (λ (p : Progress). IsTakenAt g.row.B g.row.M (up_to s.count p.history) s) (sym c.self.view_is) c.requires in
     let harts = within_back g.row.B g.row.M c.self.inside.room (history_of o es) c.self.inside.machine_state s c.self.invariant.0 taken in
@@ -21,10 +21,10 @@ pub invariant_of-self : goal.invariant_of-self
 invariant_of-self g c =
     let s : Taken = c.args.snapshot.now in
     let o : Start = c.self.inside.opening in
-    let es : List Entry = c.self.inside.entries.items in
+    let es : List Entry = c.self.inside.entries.entries in
     let taken : IsTakenAt g.row.B g.row.M (up_to s.count (history_of o es)) s =
     subst (λ (p : Progress). IsTakenAt g.row.B g.row.M (up_to s.count p.history) s) (sym c.self.view_is) c.requires in
-    let cut : c.truncate.new.self.items ≡ take s.count es = c.truncate.ensures.items ∙ ap (λ (x : Taken). take x.count es) c.snapshot.view_is in (
-      sound_put_to g.row.B g.row.M c.self.inside.room o es c.truncate.new.self.items c.self.inside.machine_state c.restore.new.self s c.self.invariant.0 taken cut c.restore.ensures,
+    let cut : c.truncate.new.self.entries ≡ take s.count es = c.truncate.ensures.entries ∙ ap (λ (x : Taken). take x.count es) c.snapshot.view_is in (
+      sound_put_to g.row.B g.row.M c.self.inside.room o es c.truncate.new.self.entries c.self.inside.machine_state c.restore.new.self s c.self.invariant.0 taken cut c.restore.ensures,
       omega arith,
     )

@@ -10,7 +10,7 @@ pub loop-tally-init : goal.loop-tally-init
 loop-tally-init g c =
     let jobs = c.max-jobs.result in
     let some : 1 ≤ jobs = search rules in
-    let source : Source = record { B = g.row.B; M = g.row.M; question = c.args.test.now; stream = g.G.Rng.stream c.args.generator.now; size = c.args.length } in (
+    let source : Source = record { B = g.row.B; M = g.row.M; test = c.args.test.now; stream = g.G.Rng.stream c.args.generator.now; size = c.args.length } in (
       0,
       search rules,
       jobs_all source c.args.runs jobs c.in_ok-tallies.tallies.items _ c.into_iter-tally-iterator.ensures.into_iter_gives.0 (search rules) c.in_ok-tallies.ensures.each,
@@ -19,7 +19,7 @@ loop-tally-init g c =
 
 pub take_in-requires-clause-counts : goal.take_in-requires-clause-counts
 take_in-requires-clause-counts g c =
-    let source : Source = record { B = g.row.B; M = g.row.M; question = c.args.test.now; stream = g.G.Rng.stream c.args.generator.now; size = c.args.length } in
+    let source : Source = record { B = g.row.B; M = g.row.M; test = c.args.test.now; stream = g.G.Rng.stream c.args.generator.now; size = c.args.length } in
     let runs = c.args.runs in
     let jobs = c.max-jobs.result in
     let some : 1 ≤ jobs = search rules in
@@ -33,7 +33,7 @@ take_in-requires-clause-counts g c =
 
 pub take_in-requires-clause-unfinished : goal.take_in-requires-clause-unfinished
 take_in-requires-clause-unfinished g c =
-    let source : Source = record { B = g.row.B; M = g.row.M; question = c.args.test.now; stream = g.G.Rng.stream c.args.generator.now; size = c.args.length } in
+    let source : Source = record { B = g.row.B; M = g.row.M; test = c.args.test.now; stream = g.G.Rng.stream c.args.generator.now; size = c.args.length } in
     let runs = c.args.runs in
     let jobs = c.max-jobs.result in
     let some : 1 ≤ jobs = search rules in
@@ -47,7 +47,7 @@ take_in-requires-clause-unfinished g c =
 
 pub loop-tally-preserved : goal.loop-tally-preserved
 loop-tally-preserved g c =
-    let source : Source = record { B = g.row.B; M = g.row.M; question = c.args.test.now; stream = g.G.Rng.stream c.args.generator.now; size = c.args.length } in
+    let source : Source = record { B = g.row.B; M = g.row.M; test = c.args.test.now; stream = g.G.Rng.stream c.args.generator.now; size = c.args.length } in
     let runs = c.args.runs in
     let jobs = c.max-jobs.result in
     let some : 1 ≤ jobs = search rules in
@@ -64,7 +64,7 @@ loop-tally-preserved g c =
 
 pub returns : goal.returns
 returns g c =
-    let source : Source = record { B = g.row.B; M = g.row.M; question = c.args.test.now; stream = g.G.Rng.stream c.args.generator.now; size = c.args.length } in
+    let source : Source = record { B = g.row.B; M = g.row.M; test = c.args.test.now; stream = g.G.Rng.stream c.args.generator.now; size = c.args.length } in
     let some : 1 ≤ c.max-jobs.result = search rules in
     let all = all_placed c.args.runs c.max-jobs.result c.loop-tally.invariant.0 some (search rules) in
     from_all source c.args.runs c.loop-tally.whole (subst (λ (n : ℕ). IsTallyFrom source 0 n c.loop-tally.whole) all c.loop-tally.invariant.3)

@@ -5,7 +5,7 @@ use Rattle.tries.proofs.trials.spreading.tally_in_rounds.Goals as goal
 
 pub loop-done-init : goal.loop-done-init
 loop-done-init g c =
-    let source : Source = record { B = g.row.B; M = g.row.M; question = c.args.test.now; stream = g.G.Rng.stream c.args.generator.now; size = c.args.length } in
+    let source : Source = record { B = g.row.B; M = g.row.M; test = c.args.test.now; stream = g.G.Rng.stream c.args.generator.now; size = c.args.length } in
     record {
       few = search rules;
       so_far = from_none source 0 1 c.new-whole.result c.new-whole.ensures (lit≤ tt);
@@ -13,7 +13,7 @@ loop-done-init g c =
 
 pub take_in-requires-clause-counts : goal.take_in-requires-clause-counts
 take_in-requires-clause-counts g c =
-    let source : Source = record { B = g.row.B; M = g.row.M; question = c.args.test.now; stream = g.G.Rng.stream c.args.generator.now; size = c.args.length } in
+    let source : Source = record { B = g.row.B; M = g.row.M; test = c.args.test.now; stream = g.G.Rng.stream c.args.generator.now; size = c.args.length } in
     let done = c.loop-done.done in
     let round = c.clamp-round.result in
     let same : c.from.result ≡ done = search rules in
@@ -24,7 +24,7 @@ take_in-requires-clause-counts g c =
 
 pub take_in-requires-clause-unfinished : goal.take_in-requires-clause-unfinished
 take_in-requires-clause-unfinished g c =
-    let source : Source = record { B = g.row.B; M = g.row.M; question = c.args.test.now; stream = g.G.Rng.stream c.args.generator.now; size = c.args.length } in
+    let source : Source = record { B = g.row.B; M = g.row.M; test = c.args.test.now; stream = g.G.Rng.stream c.args.generator.now; size = c.args.length } in
     let done = c.loop-done.done in
     let round = c.clamp-round.result in
     let same : c.from.result ≡ done = search rules in
@@ -35,7 +35,7 @@ take_in-requires-clause-unfinished g c =
 
 pub loop-done-preserved : goal.loop-done-preserved
 loop-done-preserved g c =
-    let source : Source = record { B = g.row.B; M = g.row.M; question = c.args.test.now; stream = g.G.Rng.stream c.args.generator.now; size = c.args.length } in
+    let source : Source = record { B = g.row.B; M = g.row.M; test = c.args.test.now; stream = g.G.Rng.stream c.args.generator.now; size = c.args.length } in
     let done = c.loop-done.done in
     let round = c.clamp-round.result in
     let same : c.from.result ≡ done = search rules in
@@ -48,6 +48,6 @@ loop-done-preserved g c =
 
 pub returns : goal.returns
 returns g c =
-    let source : Source = record { B = g.row.B; M = g.row.M; question = c.args.test.now; stream = g.G.Rng.stream c.args.generator.now; size = c.args.length } in
+    let source : Source = record { B = g.row.B; M = g.row.M; test = c.args.test.now; stream = g.G.Rng.stream c.args.generator.now; size = c.args.length } in
     let all : c.loop-done.done ≡ c.args.runs = search rules in
     from_all source c.args.runs c.loop-done.whole (subst (λ (n : ℕ). IsTallyFrom source 0 n c.loop-done.whole) all c.loop-done.invariant.so_far)

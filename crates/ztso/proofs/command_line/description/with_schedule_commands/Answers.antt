@@ -10,6 +10,7 @@ returns c =
     let with_replay = c.in_ok-with_replay.ensures.shape c.in_ok-replay.ensures.local ∙ ap₂ with_subcommand with_run (ap top c.in_ok-replay.ensures.shape) in
     let with_move = c.in_ok-with_move.ensures.shape c.in_ok-moving.ensures.local ∙ ap₂ with_subcommand with_replay (ap top c.in_ok-moving.ensures.shape) in
     let with_shrink = c.in_ok-with_shrink.ensures.shape c.in_ok-shrink.ensures.local ∙ ap₂ with_subcommand with_move (ap top c.in_ok-shrink.ensures.shape) in
-    IfOk-weaker c.subcommand-5.result _ _
-    (λ command added. added.shape c.in_ok-debug.ensures.local ∙ ap₂ with_subcommand with_shrink (ap top c.in_ok-debug.ensures.shape))
-    c.subcommand-5.ensures
+    let with_chart = c.in_ok-with_chart.ensures.shape c.in_ok-chart.ensures.local ∙ ap₂ with_subcommand with_shrink (ap top c.in_ok-chart.ensures.shape) in
+    IfOk-weaker c.subcommand-6.result _ _
+    (λ command added. added.shape c.in_ok-debug.ensures.local ∙ ap₂ with_subcommand with_chart (ap top c.in_ok-debug.ensures.shape))
+    c.subcommand-6.ensures

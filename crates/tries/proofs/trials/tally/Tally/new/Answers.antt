@@ -1,6 +1,6 @@
 use Rattle.std.proofs.Common.{refl}
-use Rattle.tries.proofs.TallyLaws.{nothing_told}
+use Rattle.tries.proofs.TallyLaws.{nothing_counted}
 use Rattle.tries.proofs.trials.tally.Tally.new.Goals as goal
 
 pub returns : goal.returns
-returns c = nothing_told _ c.new.ensures.empty refl refl refl
+returns c = nothing_counted _ c.new.ensures.empty refl refl refl

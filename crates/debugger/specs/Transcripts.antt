@@ -1,0 +1,91 @@
+-- The command `debug`: what a user's lines print in turn.
+use Rattle.std.specs.Prelude.{ℕ, ◌≡◌, Bool, true, false, List, [], ◌∷◌, ◌++◌, Option, None, Some, MatchOption, MatchBool, Result, Ok, Err}
+use Rattle.std.specs.Str.Lines.{lines}
+use Rattle.std.specs.Io.KnownBytes.{Appends}
+use Rattle.step_machine.specs.declared.events.Event.{Event}
+use Rattle.litmus.specs.LitmusTests.{LitmusTest}
+use Rattle.debugger.specs.declared.debug.command.Command.{Command}
+use Rattle.debugger.specs.declared.debug.command.Command.TheVariants as command
+use Rattle.engine_parts.specs.declared.fault.Fault.{Fault}
+use Rattle.engine_parts.specs.declared.fault.Fault.TheVariants.{ReadFailed, WriteFailed, NoMemory, Refused}
+use Rattle.engine_parts.specs.declared.fault.Refusal.{Refusal}
+use Rattle.texts.specs.Cutting.{tokens}
+use Rattle.engine_parts.specs.Histories.{ByEvents}
+use Rattle.debugger.specs.DebuggerStates.{DebuggerState, at_start}
+use Rattle.debugger.specs.Commands.{command_in}
+use Rattle.debugger.specs.DebugText.{unknown_line}
+use Rattle.debugger.specs.Debugging.{Answers}
+use Rattle.engine_parts.specs.Engines.{Output}
+
+-- whether a line ends the transcript
+abbrev pub quits : Option Command → Bool
+quits None = false
+quits (Some command.Step) = false
+quits (Some command.Go) = false
+quits (Some (command.Give event)) = false
+quits (Some (command.Break hart pc)) = false
+quits (Some (command.Hart hart)) = false
+quits (Some (command.Pending hart)) = false
+quits (Some (command.Word addr)) = false
+quits (Some (command.Back k)) = false
+quits (Some command.Count) = false
+quits (Some command.Quit) = true
+
+-- the line prints this text, and leads from a debugger and breakpoints to others
+abbrev pub AnswersLine : (B M : ℕ) → (line : List ℕ) → (old new : DebuggerState) (points others : List (ℕ × ℕ)) (text : List ℕ) → Type 0
+AnswersLine B M line old new points others text = MatchOption (command_in (tokens line)) ((text ≡ unknown_line) × (new ≡ old) × (others ≡ points)) (λ said. Answers B M said old new points others text)
+
+-- these lines print this, up to the one that ends the transcript
+abbrev pub Transcript : (B M : ℕ) → List (List ℕ) → DebuggerState → (points : List (ℕ × ℕ)) → (out : List ℕ) → Type 0
+Transcript B M [] old points out = out ≡ []
+Transcript B M (line ∷ others) old points out = MatchBool (quits (command_in (tokens line))) (out ≡ [])
+    ((text : List ℕ) × (new : DebuggerState) × (left : List (ℕ × ℕ)) × (later : List ℕ) × AnswersLine B M line old new points left text × (out ≡ text ++ later) × Transcript B M others new left later)
+
+-- what the user's lines print from here on: those of the bytes that are known, or else some lines
+abbrev pub Prints : (B M : ℕ) → (input : Option (List ℕ)) → DebuggerState → (points : List (ℕ × ℕ)) → (out : List ℕ) → Type 0
+Prints B M None debugger points out = (typed : List (List ℕ)) × Transcript B M typed debugger points out
+Prints B M (Some bytes) debugger points out = Transcript B M (lines bytes) debugger points out
+
+-- what the first of the user's lines print from here on
+abbrev pub PrintsFront : (B M : ℕ) → (input : Option (List ℕ)) → DebuggerState → (points : List (ℕ × ℕ)) → (out : List ℕ) → Type 0
+PrintsFront B M None debugger points out = (done : List (List ℕ)) × Transcript B M done debugger points out
+PrintsFront B M (Some bytes) debugger points out = (done : List (List ℕ)) × (rest : List (List ℕ)) × (lines bytes ≡ done ++ rest) × Transcript B M done debugger points out
+
+-- this holds where a read failed or memory ran out
+abbrev pub OnStopped : {V : Type 0} → Result V Fault → Type 0 → Type 0
+OnStopped (Err ReadFailed) P = P
+OnStopped (Err NoMemory) P = P
+OnStopped (Err WriteFailed) P = Unit {0}
+OnStopped (Err (Refused refusal)) P = Unit {0}
+OnStopped (Ok x) P = Unit {0}
+
+-- what the user's lines print at a test's opening; there is no other value
+abbrev pub IsTranscript : (B M : ℕ) → (input : Option (List ℕ)) → LitmusTest → List Event → (answer : Output) → Type 0
+IsTranscript B M input test events answer = Prints B M input (at_start test.opening events) [] answer.0
+
+-- What answers a test, a schedule of either version and the user's lines. The test is judged first. A debugger
+-- goes along the schedule's events; what a record says of their outcomes isn't checked.
+abbrev pub IsDebugAnswer : (B M : ℕ) → (input : Option (List ℕ)) → (file schedule : List ℕ) → Result Output Refusal → Type 0
+IsDebugAnswer B M input = ByEvents (IsTranscript B M input)
+
+-- What the first of the user's lines print, for a test and a schedule that are read.
+abbrev pub IsDebugFront : (B M : ℕ) → (input : Option (List ℕ)) → (file schedule : List ℕ) → Result Output Refusal → Type 0
+IsDebugFront B M input = ByEvents (λ test events answer. PrintsFront B M input (at_start test.opening events) [] answer.0)
+
+-- How an engine ends that writes as it reads: it wrote an output that is an answer together with what it
+-- returned, or a refusal is the answer and nothing was written. Where a read or a write failed or memory
+-- ran out nothing is said.
+abbrev pub EndsInteractive : {V W : Type 0} → (Result (List ℕ × V) Refusal → Type 0) → Result V Fault → (contents : W → Option (List ℕ)) → (old new : W) → Type 0
+EndsInteractive IsAnswer (Ok v) contents old new = (out : List ℕ) × IsAnswer (Ok (out, v)) × Appends (contents old) (contents new) out
+EndsInteractive IsAnswer (Err (Refused refusal)) contents old new = IsAnswer (Err refusal) × (new ≡ old)
+EndsInteractive IsAnswer (Err ReadFailed) contents old new = Unit {0}
+EndsInteractive IsAnswer (Err WriteFailed) contents old new = Unit {0}
+EndsInteractive IsAnswer (Err NoMemory) contents old new = Unit {0}
+
+-- this holds where an input was refused
+abbrev pub OnRefused : Result (Unit {0}) Fault → Type 0 → Type 0
+OnRefused (Ok x) P = Unit {0}
+OnRefused (Err (Refused refusal)) P = P
+OnRefused (Err ReadFailed) P = Unit {0}
+OnRefused (Err WriteFailed) P = Unit {0}
+OnRefused (Err NoMemory) P = Unit {0}

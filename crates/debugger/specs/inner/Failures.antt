@@ -1,0 +1,18 @@
+-- How the debugger begins, and how a part of it fails.
+use Rattle.std.specs.Prelude.{◌≡◌, List}
+use Rattle.step_machine.specs.declared.events.Event.{Event}
+use Rattle.litmus.specs.LitmusTests.{LitmusTest}
+use Rattle.debugger.specs.DebuggerStates.{DebuggerState, at_start}
+use Rattle.engine_parts.specs.declared.fault.Fault.{Fault}
+use Rattle.engine_parts.specs.declared.fault.Fault.TheVariants.{ReadFailed, WriteFailed, NoMemory, Refused}
+
+-- not by a refusal
+abbrev pub IsFailure : Fault → Type 0
+IsFailure (Refused refusal) = ⊥
+IsFailure ReadFailed = Unit {0}
+IsFailure WriteFailed = Unit {0}
+IsFailure NoMemory = Unit {0}
+
+-- a debugger at a test's opening, along these events
+abbrev pub IsAtStart : LitmusTest → List Event → DebuggerState → Type 0
+IsAtStart test events debugger = debugger ≡ at_start test.opening events

@@ -1,0 +1,28 @@
+use Rattle.std.proofs.Common.{◌≡◌, ◌+◌, [], ◌∷◌, ◌++◌, refl, sym, ◌∙◌, ap, arith, append-nil}
+use Rattle.step_machine.specs.declared.packed.Head.TheVariants as head
+use Rattle.step_machine.specs.inner.Packed.{Packing}
+use Rattle.step_machine.proofs.Unpacked.{added_to}
+use Rattle.step_machine.proofs.packed.PackedEntries.add_plain.Goals as goal
+
+pub invariant_of-self : goal.invariant_of-self
+invariant_of-self c =
+    let room : c.self.inside.room ≡ c.args.self.now.room = ap (λ (p : Packing). p.room) c.self.view_is in
+    let a = added_to c.self.inside.heads.items c.push_reserved.new.self.items head.Plain c.self.inside.numbers.items
+    c.self.inside.numbers.items [] c.self.inside.plain.items c.push_reserved-2.new.self.items (c.args.entry ∷ [])
+    c.push_reserved.ensures.items (sym (append-nil c.self.inside.numbers.items)) c.push_reserved-2.ensures.items
+    c.self.invariant.0 refl refl refl in (
+      a.balanced,
+      omega (arith, a.count, c.self.invariant.1),
+      omega (arith, room),
+      omega (arith, room),
+      omega (arith, room),
+      omega (arith, room),
+    )
+
+pub returns-clause-entries : goal.returns-clause-entries
+returns-clause-entries c =
+    let a = added_to c.self.inside.heads.items c.push_reserved.new.self.items head.Plain c.self.inside.numbers.items
+    c.self.inside.numbers.items [] c.self.inside.plain.items c.push_reserved-2.new.self.items (c.args.entry ∷ [])
+    c.push_reserved.ensures.items (sym (append-nil c.self.inside.numbers.items)) c.push_reserved-2.ensures.items
+    c.self.invariant.0 refl refl refl in
+    a.entries ∙ ap (λ (p : Packing). p.entries ++ c.args.entry ∷ []) c.self.view_is

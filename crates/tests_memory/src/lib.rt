@@ -1,0 +1,29 @@
+//! Tests of calls that are refused memory and then have it: nothing that was there is lost, and the second call
+//! gives the answer of its row.
+//!
+//! By itself a run refuses only what no machine holds. `tools/hostile calls` runs the tests with each of their
+//! allocations refused in turn. Without its tests this crate is empty: it promises nothing, and no crate uses it.
+
+#![tactic(auto)]
+
+/// What a call returns, or where it is refused memory what it returns the second time.
+#[cfg(test)]
+macro_rules! again {
+    ($rt:expr, $call:expr) => {
+        match $call {
+            Ok(value) => value,
+            Err(_) => $call.expect($rt, "memory at the second call"),
+        }
+    };
+}
+
+#[cfg(test)]
+mod given;
+#[cfg(test)]
+mod of_channels;
+#[cfg(test)]
+mod of_lists;
+#[cfg(test)]
+mod of_machines;
+#[cfg(test)]
+mod of_seats;

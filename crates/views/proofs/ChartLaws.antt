@@ -1,0 +1,91 @@
+-- A test's chart is one text, or one refusal.
+use Rattle.std.proofs.Common.{◌≡◌, ℕ, ◌<◌, ◌≤◌, List, length, Result, Ok, Err, refl, sym, ap, ◌∙◌, subst, arith}
+use Rattle.step_machine.specs.declared.events.Entry.{Entry}
+use Rattle.step_machine.specs.History.{History}
+use Rattle.litmus.specs.LitmusTests.{LitmusTest}
+use Rattle.litmus.specs.Verdicts.{IsVerdict}
+use Rattle.litmus.specs.declared.verdict.Verdict.{Verdict}
+use Rattle.litmus.specs.declared.verdict.Verdict.TheVariants.{Holds, Fails, Unfinished}
+use Rattle.litmus_reader.specs.Headings.{HeadingOf}
+use Rattle.litmus_reader.proofs.HeadingLaws.{one_heading}
+use Rattle.recorder.specs.Versions.{Said}
+use Rattle.chart.specs.Layout.{AboutOf}
+use Rattle.engine_parts.specs.declared.fault.Fault.{Fault}
+use Rattle.engine_parts.specs.declared.fault.Fault.TheVariants.{Refused}
+use Rattle.engine_parts.specs.declared.fault.Refusal.{Refusal}
+use Rattle.engine_parts.specs.Engines.{Output, AreOneAnswer}
+use Rattle.engine_parts.specs.Faults.{AnswersAs, too_large}
+use Rattle.engine_parts.specs.Histories.{Runs}
+use Rattle.engine_parts.proofs.RunLaws.{one_run}
+use Rattle.views.specs.About.{IsAbout, about_of}
+use Rattle.views.specs.Chart.{Drawing, IsChartOf, IsNotCharted, differs, too_long, IsChart, Headed, IsChartAnswer}
+use Rattle.engine_parts.proofs.OneInput.{alike_by_schedule}
+use Rattle.views.proofs.ShrinkLaws.{runs_or_differs, one_difference}
+
+one_verdict : (M : ℕ) (q : LitmusTest) (t : History) (v w : Verdict) → IsVerdict M q t v → IsVerdict M q t w → v ≡ w
+one_verdict M q t Holds Holds h k = refl
+one_verdict M q t Holds Fails h k = absurd (let a = h.1 in let b = k.1 in cc)
+one_verdict M q t Holds Unfinished h k = absurd (k h.0)
+one_verdict M q t Fails Holds h k = absurd (let a = h.1 in let b = k.1 in cc)
+one_verdict M q t Fails Fails h k = refl
+one_verdict M q t Fails Unfinished h k = absurd (k h.0)
+one_verdict M q t Unfinished Holds h k = absurd (h k.0)
+one_verdict M q t Unfinished Fails h k = absurd (h k.0)
+one_verdict M q t Unfinished Unfinished h k = refl
+
+one_about : (M : ℕ) (q : LitmusTest) (heading : HeadingOf) (t : History) (a b : AboutOf)
+    → IsAbout M q heading t a → IsAbout M q heading t b → a ≡ b
+one_about M q heading t a b (v, is, made) (w, other, also) =
+    made ∙ ap (about_of M q heading t) (one_verdict M q t v w is other) ∙ sym also
+
+module _ (B M : ℕ) (draws : Drawing) (heading : HeadingOf) (q : LitmusTest) (said : Said) where
+  -- a run of too many entries is refused
+  pub too_many : {X : Type 0} (view : X → Output) (t : History) (entries : List Entry) (fault : Fault)
+      → Runs B M q.opening said (Ok t) → entries ≡ t.entries → 10000 < length entries → fault ≡ Refused too_large
+      → AnswersAs (IsChart B M draws heading q said) view (Err fault)
+  too_many view t entries fault ran are many is = rw is (too_long t ran (subst (λ (es : List Entry). 10000 < length es) are many))
+
+  one_history : (t u : History) → Runs B M q.opening said (Ok t) → Runs B M q.opening said (Ok u) → t ≡ u
+  one_history t u ran also = let same = one_run B M q.opening said (Ok t) (Ok u) ran also in cc
+
+  one_picture : (a b : Output) → IsChartOf B M draws heading q said a → IsChartOf B M draws heading q said b → a ≡ b
+  one_picture a b is other =
+      let same : is.history ≡ other.history = one_history is.history other.history is.ran other.ran in
+      let about : is.about ≡ other.about =
+      one_about M q heading other.history is.about other.about
+      (subst (λ (t : History). IsAbout M q heading t is.about) same is.is_about) other.is_about in
+      let texts : a.0 ≡ b.0 =
+      is.drawn ∙ ap (λ (x : AboutOf). draws x is.history.entries) about
+      ∙ ap (λ (t : History). draws other.about t.entries) same ∙ sym other.drawn in
+      λ i. (texts i, tt)
+
+  drawn_or_not : (a : Output) (r : Refusal) → IsChartOf B M draws heading q said a → IsNotCharted B M q said r → ⊥
+  drawn_or_not a r is (differs s differ) = runs_or_differs B M q said is.history s is.ran differ
+  drawn_or_not a r is (too_long t ran many) =
+      let few = subst (λ (u : History). length u.entries ≤ 10000) (one_history is.history t is.ran ran) is.few in
+      omega (arith, few, many)
+
+  one_reason : (r s : Refusal) → IsNotCharted B M q said r → IsNotCharted B M q said s → r ≡ s
+  one_reason r s (differs x differ) (differs y other) = one_difference B M q said x y differ other
+  one_reason r s (differs x differ) (too_long t ran many) = absurd (runs_or_differs B M q said t x ran differ)
+  one_reason r s (too_long t ran many) (differs y other) = absurd (runs_or_differs B M q said t y ran other)
+  one_reason r s (too_long t ran many) (too_long u also more) = refl
+
+  one_answer : (a b : Result Output Refusal) → IsChart B M draws heading q said a → IsChart B M draws heading q said b
+      → AreOneAnswer a b
+  one_answer (Ok a) (Ok b) is other = one_picture a b is other
+  one_answer (Ok a) (Err s) is refusal = absurd (drawn_or_not a s is refusal)
+  one_answer (Err r) (Ok b) refusal is = absurd (drawn_or_not b r is refusal)
+  one_answer (Err r) (Err s) first other = ap (λ (x : Refusal). x.number) (one_reason r s first other)
+
+pub one_chart : (B M : ℕ) (draws : Drawing) (file schedule : List ℕ) (a b : Result Output Refusal)
+    → IsChartAnswer B M draws file schedule a → IsChartAnswer B M draws file schedule b → AreOneAnswer a b
+one_chart B M draws file schedule =
+    alike_by_schedule AreOneAnswer (λ (r s : Refusal) (e : r.number ≡ s.number). e)
+    (Headed (IsChart B M draws) file) one file schedule
+  where
+    one : (q : LitmusTest) (said : Said) (a b : Result Output Refusal) → Headed (IsChart B M draws) file q said a
+        → Headed (IsChart B M draws) file q said b → AreOneAnswer a b
+    one q said a b (heading, is, tells) (other, also, told) =
+        one_answer B M draws heading q said a b tells
+        (subst (λ (h : HeadingOf). IsChart B M draws h q said b) (one_heading file other heading also is) told)

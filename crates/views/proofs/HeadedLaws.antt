@@ -1,0 +1,97 @@
+-- Inputs that are litmus texts, read with their headings, and what answers them beside a schedule.
+use Rattle.std.proofs.Common.{◌≡◌, ℕ, List, length, Result, Ok, Err, refl}
+use Rattle.std.specs.Prelude.{Option, Some, None, IsErr}
+use Rattle.std.specs.Global.{Vec}
+use Rattle.litmus.specs.LitmusTests.{LitmusTest}
+use Rattle.litmus_reader.specs.Grammar.{IsTestOf}
+use Rattle.litmus_reader.specs.Headings.{HeadingOf}
+use Rattle.litmus_reader.specs.Reading.{Content}
+use Rattle.recorder.specs.Versions.{Said}
+use Rattle.engine_parts.specs.declared.fault.Fault.{Fault}
+use Rattle.engine_parts.specs.declared.fault.Fault.TheVariants.{ReadFailed, WriteFailed, NoMemory, Refused}
+use Rattle.engine_parts.specs.declared.fault.Refusal.{Refusal}
+use Rattle.engine_parts.specs.Engines.{OfInput, AnswersBoth, judged}
+use Rattle.engine_parts.specs.Faults.{Answers, AnswersAs}
+use Rattle.engine_parts.specs.Tests.{test_of, HasNoTest}
+use Rattle.engine_parts.specs.Histories.{BySchedule}
+use Rattle.engine_parts.specs.Histories.BySchedule.{no_test, no_schedule, both}
+use Rattle.engine_parts.specs.inner.Making.{Finds, FindsBy}
+use Rattle.engine_parts.specs.inner.Inputs.{IsReadAsTest, IsReadAsSchedule}
+use Rattle.engine_parts.proofs.Endings.{weaker}
+use Rattle.engine_parts.proofs.ScheduleLaws.{weaker_both}
+use Rattle.engine_parts.proofs.TestTexts.{test_or_none}
+use Rattle.views.specs.Chart.{ByHeading}
+use Rattle.views.specs.inner.Headings.{IsReadAsHeaded}
+use Rattle.views.proofs.PartLimits.{some_bytes}
+
+-- what reads an input without a test answers none, whatever it answers beside
+pub no_test_no_answer : {X : Type 0} (view : X → Content) (known : Option (List ℕ)) (input : Vec ℕ)
+    (result : Result X Fault) → OfInput known (λ bytes. input.items ≡ bytes)
+    → (line : ℕ) × Answers view result (judged (test_of line) input.items) → HasNoTest known → IsErr result
+no_test_no_answer view known input (Err fault) is answers none = refl
+no_test_no_answer view (Some bytes) input (Ok x) is answers none =
+    absurd (test_or_none bytes answers.0 none.1.0 (view x) none.0 (rw is at answers.1) none.1.1)
+no_test_no_answer view None input (Ok x) is answers none = absurd none
+
+module _ (known : Option (List ℕ)) where
+  -- a fault in reading a test with its heading is one in reading the test
+  pub no_heading : {X : Type 0} (view : X → LitmusTest × HeadingOf) (fault : Fault)
+      → FindsBy IsReadAsHeaded view known (Err fault) → FindsBy IsReadAsTest (λ (q : LitmusTest). q) known (Err fault)
+  no_heading view (Refused r) finds = finds
+  no_heading view NoMemory finds = tt
+  no_heading view ReadFailed finds = tt
+  no_heading view WriteFailed finds = finds
+
+  module _ (question : LitmusTest) (heading : HeadingOf)
+      (read : OfInput known (λ bytes. IsReadAsHeaded bytes (Ok (question, heading)))) where
+    pub test_read : OfInput known (λ bytes. IsReadAsTest bytes (Ok question))
+    test_read = weaker known _ _ (λ bytes is. is.0) read
+
+    -- a test that was read has a word for each of its locations
+    pub words_named : length question.opening.words ≡ length question.names
+    unfolding IsTestOf
+    words_named = let text = some_bytes known _ read in text.1.0.value_is.0.first_words.count
+
+-- nothing answers what is read
+abbrev pub Nothing : {A : Type 0} → LitmusTest → Said → Result A Refusal → Type 0
+Nothing question said answer = ⊥
+
+module _ {A : Type 0} (IsAnswer : HeadingOf → LitmusTest → Said → Result A Refusal → Type 0) where
+  -- so what then answers both was refused before
+  unread_as : (file schedule : List ℕ) (answer : Result A Refusal) → BySchedule Nothing file schedule answer
+      → ByHeading IsAnswer file schedule answer
+  unread_as file schedule answer (no_test r bad) = no_test r bad
+  unread_as file schedule answer (no_schedule q r test bad) = no_schedule q r test bad
+  unread_as file schedule answer (both q said a test read told) = absurd told
+
+  module _ (first second : Option (List ℕ)) {X : Type 0} (seen : X → A) where
+    refused_as : (answer : Result A Refusal) → AnswersBoth (BySchedule Nothing) first second answer
+        → AnswersBoth (ByHeading IsAnswer) first second answer
+    refused_as answer =
+        weaker_both first second (BySchedule Nothing) (ByHeading IsAnswer) answer answer (λ file text. unread_as file text answer)
+
+    pub unread : (result : Result X Fault) → Finds (AnswersBoth (BySchedule Nothing) first second) seen result
+        → Finds (AnswersBoth (ByHeading IsAnswer) first second) seen result
+    unread (Ok x) finds = refused_as (Ok (seen x)) finds
+    unread (Err (Refused r)) finds = refused_as (Err r) finds
+    unread (Err NoMemory) finds = tt
+    unread (Err ReadFailed) finds = tt
+    unread (Err WriteFailed) finds = finds
+
+    -- both were read
+    module _ (question : LitmusTest) (heading : HeadingOf) (said : Said)
+        (test : OfInput first (λ bytes. IsReadAsHeaded bytes (Ok (question, heading))))
+        (schedule : OfInput second (λ bytes. IsReadAsSchedule bytes (Ok said))) where
+      both_read : (answer : Result A Refusal) → IsAnswer heading question said answer
+          → AnswersBoth (ByHeading IsAnswer) first second answer
+      both_read answer told =
+          weaker first _ _ (λ file is. weaker second _ _
+          (λ text says. both question said answer is.0 says (heading, is.1, told)) schedule) test
+
+      pub made_of_both : (made : Result X Fault) → AnswersAs (IsAnswer heading question said) seen made
+          → Finds (AnswersBoth (ByHeading IsAnswer) first second) seen made
+      made_of_both (Ok x) answers = both_read (Ok (seen x)) answers
+      made_of_both (Err (Refused r)) answers = both_read (Err r) answers
+      made_of_both (Err NoMemory) answers = tt
+      made_of_both (Err ReadFailed) answers = absurd answers
+      made_of_both (Err WriteFailed) answers = absurd answers

@@ -1,0 +1,115 @@
+//! The command `chart`: a litmus text and a schedule in, a picture of the run out.
+
+ghost use Rattle.std.specs.Prelude.{◌≡◌, ◌≤◌, IfOk, length};
+ghost use Rattle.std.specs.String.{string_bytes};
+ghost use Rattle.recorder.specs.Versions.{said_of};
+ghost use Rattle.litmus_reader.specs.Headings.{heading_of};
+ghost use Rattle.engine_parts.specs.Engines.{AnswersBoth, EndsByBoth};
+ghost use Rattle.engine_parts.specs.Faults.{AnswersAs};
+ghost use Rattle.engine_parts.specs.Tests.{HasNoTest};
+ghost use Rattle.engine_parts.specs.inner.Making.{Finds, text_and_value};
+ghost use Rattle.views.specs.Chart.{IsChart, IsChartAnswer, drawing};
+ghost use Rattle.litmus.specs.declared.litmus_test.TheConstants.{MAX_LOCATIONS};
+
+use crate::about::about_run;
+use crate::heading::read_headed;
+use chart::charts::{About, chart_svg, chart_text};
+use engine_parts::fault::{Fault, Position, TOO_LARGE};
+use engine_parts::output::end_with;
+use engine_parts::running::machine_of_schedule;
+use engine_parts::schedule::read_schedule;
+use litmus::Test;
+use litmus_reader::Heading;
+use recorder::Schedule;
+use std::alloc::{AllocError, Global};
+use std::io::{Read, Write};
+use step_machine::Entry;
+
+/// The most entries of a run that is drawn.
+pub const MAX_ROWS: usize = 10_000;
+
+/// How a run is drawn.
+#[derive(Clone, Copy, Debug, PartialEq, Eq)]
+pub enum Style {
+    Text,
+    Svg,
+}
+
+/// The picture of a run with these entries.
+fn drawn(alloc: Global, style: Style, about: About, entries: &[Entry]) -> Result<String, AllocError>
+    ensures { IfOk result (λ text. string_bytes text ≡ drawing style about entries.now) }
+{
+    match style {
+        Style::Text => chart_text(alloc, about, entries),
+        Style::Svg => chart_svg(alloc, about, entries),
+    }
+}
+
+/// The picture of a test's run by a schedule.
+fn picture<const B: usize, const M: usize>(
+    alloc: Global,
+    style: Style,
+    test: &Test,
+    heading: &Heading,
+    schedule: Schedule,
+) -> Result<(String, ()), Fault>
+    requires some_capacity { 1 ≤ B }
+    requires capacity { B ≤ 64 }
+    requires words { MAX_LOCATIONS ≤ M }
+    requires size { M ≤ 65536 }
+    requires locations { length test.now.opening.words ≡ length test.now.names }
+    ensures { AnswersAs (IsChart B M (drawing style) (heading_of heading.now) test.now (said_of schedule)) text_and_value result }
+{
+    let mut machine = machine_of_schedule::<B, M>(alloc, test, schedule)?;
+    let entries = machine.entries().into_vec(alloc)?;
+    if entries.len() > MAX_ROWS {
+        return Err(Fault::refused(TOO_LARGE, Position::Nowhere));
+    }
+    let about = about_run(alloc, test, heading, &mut machine, &entries)?;
+    let text = drawn(alloc, style, about, &entries)?;
+    Ok((text, ()))
+}
+
+/// What is to be written for the inputs that the readers give.
+fn made<const B: usize, const M: usize, F: Read, S: Read>(
+    alloc: Global,
+    style: Style,
+    file: &mut F,
+    schedule: &mut S,
+) -> Result<(String, ()), Fault>
+    requires some_capacity { 1 ≤ B }
+    requires capacity { B ≤ 64 }
+    requires words { MAX_LOCATIONS ≤ M }
+    requires size { M ≤ 65536 }
+    ensures made { Finds (AnswersBoth (IsChartAnswer B M (drawing style)) (F.remaining file.old) (S.remaining schedule.old)) text_and_value result }
+    ensures unread { HasNoTest (F.remaining file.old) → schedule.new ≡ schedule.old }
+{
+    let (test, heading) = read_headed(alloc, file)?;
+    let said = read_schedule(alloc, schedule)?;
+    picture::<B, M>(alloc, style, &test, &heading, said)
+}
+
+/// Reads a litmus text and then a schedule of either version, each to its end, runs the schedule from the
+/// test's opening with store buffers of `B` pairs and `M` words of memory, and writes a picture of the run:
+/// a row for each entry, below the test's name and above the last values and the verdict.
+///
+/// Inputs are refused as [`crate::shrinking::shrink_engine`] refuses them, except that a run needn't be
+/// finished. A run of more than [`MAX_ROWS`] entries is refused as too large
+/// ([`engine_parts::fault::TOO_LARGE`]). Then nothing was written. A schedule after a refused litmus text
+/// is not read. A memory of 1,024 words has room for each test's locations.
+pub fn chart_engine<const B: usize, const M: usize, F: Read, S: Read, W: Write>(
+    alloc: Global,
+    style: Style,
+    file: &mut F,
+    schedule: &mut S,
+    writer: &mut W,
+) -> Result<(), Fault>
+    requires some_capacity { 1 ≤ B }
+    requires capacity { B ≤ 64 }
+    requires words { MAX_LOCATIONS ≤ M }
+    requires size { M ≤ 65536 }
+    ensures ends { EndsByBoth (IsChartAnswer B M (drawing style)) result (F.remaining file.old) (S.remaining schedule.old) W.contents writer.old writer.new }
+    ensures unread { HasNoTest (F.remaining file.old) → schedule.new ≡ schedule.old }
+{
+    end_with(made::<B, M, F, S>(alloc, style, file, schedule), writer)
+}

@@ -1,5 +1,0 @@
-use Rattle.std.proofs.Common.{rules}
-use Rattle.ztso.proofs.work.do_work.Goals as goal
-
-pub returns-in-Debug-clause-does : goal.returns-in-Debug-clause-does
-returns-in-Debug-clause-does g c = rw c.in-Debug.is (search rules)
