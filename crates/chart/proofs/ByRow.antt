@@ -191,7 +191,7 @@ oldest_written h es = rw (← writes-pending h es) (at (pending_by_row h es))
     at [] = refl
     at (w ∷ ws) = refl
 
--- what is left of a list of stores where so many are left out from the front
+-- what is left of a list of stores without its first n
 pub left_over : (n m : ℕ) (ws all : List RowWrite) → ws ≡ all → m ≡ min n (length ws) → take (length ws - m) (drop m ws) ≡ drop n all
 left_over n m ws all same cut =
     rw (cut, drop_min n ws)

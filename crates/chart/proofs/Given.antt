@@ -15,7 +15,7 @@ use Rattle.chart.specs.declared.sources.RowWrite.{RowWrite}
 use Rattle.chart.specs.Sources.{pending_by_row, landed_by_row, newest, named, source_of, row_of, landed_store, stored_at, byte_from}
 use Rattle.chart.proofs.ByRow.{writes, byte_by, HasStored, HasWritten, writes-pending, writes-landed, newest-bytes, newest-is, pending_stored, landed_written}
 
--- the newest write to cover a byte, where it is told by the rows
+-- the newest write to cover a byte, where the rows have it
 newest_row : (a : ℕ) (ws : List RowWrite) (plain : List Write) → writes ws ≡ plain → newest_of a None plain ≡ option_map (byte_by a) (newest a ws)
 newest_row a ws plain same = ap (λ (vs : List Write). newest_of a None vs) (sym same) ∙ newest-bytes a None ws
 

@@ -99,7 +99,7 @@ narrowest = record { listed = true; instructions = false; lanes = 0; stores = fa
 abbrev pub width_of : Form → SceneOf → ℕ
 width_of form scene = memory_cell (places_of form scene) + kept_cells form scene
 
--- the cells of a line for so many harts
+-- the most cells of a line for this number of harts
 abbrev pub limit : ℕ → ℕ
 limit harts = if nat_le harts 2 then 100 else min (20 + 40 * harts) 200
 

@@ -17,6 +17,6 @@ named_word (Some name) a = if nat_lt LONGEST_NAME (length name) then address_tex
 abbrev pub word_text : List (List ℕ) → ℕ → List ℕ
 word_text names a = named_word (slice_get names (a / 4)) (a / 4 * 4)
 
--- so many bytes from address a on: a whole word by its name, else with the offset in its word
+-- `width` bytes from address a on: a whole word by its name, else with the offset in its word
 abbrev pub part_text : List (List ℕ) → (a width : ℕ) → List ℕ
 part_text names a width = if width == 4 then word_text names a else word_text names a ++ codes "+" ++ decimal (a % 4)

@@ -28,7 +28,7 @@ abbrev pub next_text : Option ℕ → List ℕ
 next_text None = codes "next end"
 next_text (Some w) = codes "next " ++ decimal w
 
--- `x = 1`: so many bytes from address a on have this value
+-- `x = 1`: `width` bytes from address a on have this value
 abbrev pub holds_text : List (List ℕ) → (a width v : ℕ) → List ℕ
 holds_text names a width v = part_text names a width ++ codes " = " ++ decimal v
 

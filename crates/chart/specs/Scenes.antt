@@ -50,12 +50,12 @@ hart_name h = codes "P" ++ decimal h
 abbrev pub caller : Form → ℕ → List ℕ
 caller form h = if form.listed then hart_name h else []
 
-abbrev pub told : Form → List ℕ → List ℕ
-told form instruction = if form.instructions then instruction else []
+abbrev pub shown_instruction : Form → List ℕ → List ℕ
+shown_instruction form instruction = if form.instructions then instruction else []
 
 -- `P0  sw x5,0(x6)  x := 1` or `lw x7,0(x8)  y = 0 [init]`
 abbrev pub said : Form → (instruction : List ℕ) → RowTextOf → List ℕ
-said form instruction t = beside (codes " ") (beside (codes "  ") (beside (codes "  ") (caller form t.hart) (told form instruction)) t.effect) t.tag
+said form instruction t = beside (codes " ") (beside (codes "  ") (beside (codes "  ") (caller form t.hart) (shown_instruction form instruction)) t.effect) t.tag
 
 -- a landing in memory names the row of its store: `x = 1 [1]`
 abbrev pub of_row : Form → Option ℕ → List ℕ

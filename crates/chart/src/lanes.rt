@@ -54,7 +54,7 @@ fn is_held(held: &[Held], column: u32, lane: usize) -> bool
         .any(|other| other.column == column && other.lane == lane)
 }
 
-/// The lowest of so many lanes that nobody holds.
+/// The lowest of `lanes` lanes that nobody holds.
 #[tactic(auto, using(crate::proofs::LaneLaws::first_free_more, crate::proofs::LaneLaws::first_free_here, crate::proofs::LaneLaws::first_free_all))]
 fn first_free(held: &[Held], column: u32, lanes: usize) -> Option<usize>
     ensures { result ≡ first_free held.now column 0 lanes }

@@ -212,7 +212,7 @@ fn width_of(alloc: Global, form: Form, scene: &Scene) -> Result<u32, AllocError>
     Ok(places.memory_cell() + u32::from(widest_kept(alloc, form, scene)?))
 }
 
-/// The cells of a line for so many harts.
+/// The most cells of a line for `harts` harts.
 fn limit(harts: u32) -> u64
     ensures { result ≡ limit_of harts }
 {
@@ -303,7 +303,7 @@ fn picture_in(
     })
 }
 
-/// The picture of a run of so many harts, with the lines above and below it.
+/// The picture of a run of `harts` harts, with the lines above and below it.
 pub(crate) fn picture_of(
     alloc: Global,
     harts: u32,

@@ -39,7 +39,7 @@ fn below(shown: &[u32], column: u32) -> usize
     shown.iter().filter(|other| **other < column).count()
 }
 
-/// A column's first cell, where so many stand to its left.
+/// A column's first cell, where `rank` columns stand to its left.
 #[tactic(auto, using(crate::proofs::PlaceLaws::product_most))]
 fn columns_on(rank: u8, pitch: u16) -> u32
     ensures value { result ≡ rank * pitch }

@@ -2,7 +2,7 @@
 
 ghost use Rattle.std.specs.Prelude.{◌≡◌, ◌==◌, ◌++◌, ◌≤◌, ◌∷◌, [], if◌then◌else◌, length, codes, map, IfOk, OnOk};
 ghost use Rattle.std.specs.String.{string_bytes};
-ghost use Rattle.chart.specs.Scenes.{has_entry, is_shown as has_column, shown_harts as harts_with_columns, scene_of, beside, caller, told, said as said_by, of_row, instruction_at as instruction_of, said_at as said_of_row, kept_at as kept_of_row, said_cells, kept_cells, lanes_in, lanes_to, lanes_at as lanes_of_line, used_after, shape_of, places_of as places_in};
+ghost use Rattle.chart.specs.Scenes.{has_entry, is_shown as has_column, shown_harts as harts_with_columns, scene_of, beside, caller, shown_instruction, said as said_by, of_row, instruction_at as instruction_of, said_at as said_of_row, kept_at as kept_of_row, said_cells, kept_cells, lanes_in, lanes_to, lanes_at as lanes_of_line, used_after, shape_of, places_of as places_in};
 
 use crate::lanes::{Held, Laned, Shape};
 use crate::places::{Places, capped};
@@ -80,7 +80,7 @@ fn shown_harts(alloc: Global, entries: &[Entry], harts: u32) -> Result<Vec<u32>,
     Ok(shown)
 }
 
-/// The rows of a run of so many harts.
+/// The rows of a run of `harts` harts.
 pub(crate) fn scene_of_run(
     alloc: Global,
     names: Vec<String>,
@@ -123,8 +123,8 @@ fn caller_of(alloc: Global, form: Form, hart: u32) -> Result<String, AllocError>
     }
 }
 
-fn push_told(out: &mut String, form: Form, instruction: &str) -> Result<(), AllocError>
-    ensures { OnOk result (string_bytes out.new ≡ beside (codes "  ") (string_bytes out.old) (told form instruction.now)) }
+fn push_instruction(out: &mut String, form: Form, instruction: &str) -> Result<(), AllocError>
+    ensures { OnOk result (string_bytes out.new ≡ beside (codes "  ") (string_bytes out.old) (shown_instruction form instruction.now)) }
 {
     if form.instructions {
         push_beside(out, "  ", instruction)
@@ -138,7 +138,7 @@ fn said(alloc: Global, form: Form, instruction: &str, text: &RowText) -> Result<
     ensures { IfOk result (λ out. string_bytes out ≡ said_by form instruction.now text.now) }
 {
     let mut out = caller_of(alloc, form, text.hart)?;
-    push_told(&mut out, form, instruction)?;
+    push_instruction(&mut out, form, instruction)?;
     push_beside(&mut out, "  ", &text.effect)?;
     push_beside(&mut out, " ", &text.tag)?;
     Ok(out)

@@ -73,7 +73,7 @@ undone_of xs given left undone same is =
 pub place_left : (w : DebuggerState) (left undone : ℕ) → IsKept w → undone ≡ scheduled (drop left w.sources) → (undone ≤ w.place) × (w.place - undone ≡ scheduled (take left w.sources))
 place_left w left undone kept is = let split = scheduled-split left w.sources in (omega (arith, is, split, kept.place), omega (arith, is, split, kept.place))
 
--- the last k events were undone, and so many are left
+-- the last k events were undone, and `left` remain
 pub kept_back : (B M : ℕ) (w : DebuggerState) (past : Past) (k left : ℕ) → IsKept w → GoesBack B M w.past k past → left ≡ length w.sources - k → IsKept (record { past = past; schedule = w.schedule; sources = take left w.sources; place = scheduled (take left w.sources) })
 kept_back B M w past k left kept back is =
     let split = scheduled-split left w.sources in

@@ -18,9 +18,9 @@ use Rattle.engine_parts.specs.inner.Making.{Finds, FindsBy, IsEndOf}
 some_longer : (n : ℕ) → (bytes : List ℕ) × (n < length bytes)
 some_longer n = (replicate (n + 1) 0, omega (arith, length-replicate {A = ℕ} (n + 1) 0))
 
-pub too_large_told : (known : Option (List ℕ)) (fault : Fault) → fault ≡ Refused too_large → IfSome known (λ bytes. 1048576 < length bytes) → OfInput known (λ bytes. IsInput bytes (Err fault))
-too_large_told None fault is many = let large = some_longer 1048576 in (large.0, rw is (refl, large.1))
-too_large_told (Some bytes) fault is many = rw is (refl, many)
+pub too_large_found : (known : Option (List ℕ)) (fault : Fault) → fault ≡ Refused too_large → IfSome known (λ bytes. 1048576 < length bytes) → OfInput known (λ bytes. IsInput bytes (Err fault))
+too_large_found None fault is many = let large = some_longer 1048576 in (large.0, rw is (refl, large.1))
+too_large_found (Some bytes) fault is many = rw is (refl, many)
 
 -- what was read and this chunk are too many
 pub too_many : (known left after : Option (List ℕ)) (before chunk : List ℕ) (count : ℕ) → Consumes known left before → Consumes left after (take count chunk) → count ≤ length chunk → 1048576 < length before + count → IfSome known (λ bytes. 1048576 < length bytes)
@@ -54,7 +54,7 @@ module _ {X Y : Type 0} (IsAnswer : List ℕ → Result Y Refusal → Type 0) (v
 
   -- nothing was read
   pub found_unread : (fault : Fault) → OfInput known (λ bytes. IsInput bytes (Err fault)) → ((bytes : List ℕ) → 1048576 < length bytes → IsAnswer bytes (Err too_large)) → FindsBy IsAnswer view known (Err fault)
-  found_unread (Refused r) is large = weaker known _ _ (λ bytes told. subst (λ (s : Refusal). IsAnswer bytes (Err s)) (sym told.0) (large bytes told.1)) is
+  found_unread (Refused r) is large = weaker known _ _ (λ bytes why. subst (λ (s : Refusal). IsAnswer bytes (Err s)) (sym why.0) (large bytes why.1)) is
   found_unread NoMemory is large = tt
   found_unread ReadFailed is large = tt
   found_unread WriteFailed is large = no_write known is

@@ -18,5 +18,5 @@ abbrev RefusedAs : {X Y : Type 0} → (X → Y) → Fault → Result Y Refusal �
 RefusedAs {X = X} view fault answer = Answers {X = X} view (Err fault) answer
 
 pub refused_at_line : {X Y : Type 0} (view : X → Y) (number : ℕ) (fault : TextError ℕ) (made : Fault) (answer : Result Y ℕ) → made ≡ fault_at number fault → IfSome (refusal_of fault) (λ n. answer ≡ Err n) → RefusedAs view made (at_line number answer)
-refused_at_line view number NoMemory made answer is told = rw is tt
-refused_at_line view number (Refused n) made answer is told = rw (is, told) refl
+refused_at_line view number NoMemory made answer is holds = rw is tt
+refused_at_line view number (Refused n) made answer is holds = rw (is, holds) refl

@@ -67,10 +67,10 @@ module _ {A : Type 0} (Alike : Result A Refusal → Result A Refusal → Type 0)
     (alike : (q : LitmusTest) (a b : Result A Refusal) → IsAnswer q a → IsAnswer q b → Alike a b) (input : List ℕ) where
   pub alike_by_test : (a b : Result A Refusal) → ByTest IsAnswer input a → ByTest IsAnswer input b → Alike a b
   alike_by_test a b (tests.ByTest.no_test r none) (tests.ByTest.no_test s other) = refusals r s (one_number input r s none other)
-  alike_by_test a b (tests.ByTest.no_test r none) (tests.ByTest.of_test q given is told) = absurd (test_or_refusal input q r is none)
-  alike_by_test a b (tests.ByTest.of_test q given is told) (tests.ByTest.no_test s none) = absurd (test_or_refusal input q s is none)
-  alike_by_test a b (tests.ByTest.of_test q given is told) (tests.ByTest.of_test p other also tells) =
-      alike q a b told (subst (λ (x : LitmusTest). IsAnswer x b) (one_test input p q also.value_is is.value_is) tells)
+  alike_by_test a b (tests.ByTest.no_test r none) (tests.ByTest.of_test q given is holds) = absurd (test_or_refusal input q r is none)
+  alike_by_test a b (tests.ByTest.of_test q given is holds) (tests.ByTest.no_test s none) = absurd (test_or_refusal input q s is none)
+  alike_by_test a b (tests.ByTest.of_test q given is holds) (tests.ByTest.of_test p other also tells) =
+      alike q a b holds (subst (λ (x : LitmusTest). IsAnswer x b) (one_test input p q also.value_is is.value_is) tells)
 
 -- ---- and by a schedule
 
@@ -88,15 +88,15 @@ module _ {A : Type 0} (Alike : Result A Refusal → Result A Refusal → Type 0)
   pub alike_by_schedule : (a b : Result A Refusal) → BySchedule IsAnswer file schedule a → BySchedule IsAnswer file schedule b → Alike a b
   alike_by_schedule a b (no_test r none) (no_test s other) = refusals r s (one_number file r s none other)
   alike_by_schedule a b (no_test r none) (no_schedule q s is bad) = absurd (test_or_refusal file q r is none)
-  alike_by_schedule a b (no_test r none) (both q said given is reads told) = absurd (test_or_refusal file q r is none)
+  alike_by_schedule a b (no_test r none) (both q said given is reads holds) = absurd (test_or_refusal file q r is none)
   alike_by_schedule a b (no_schedule q r is bad) (no_test s none) = absurd (test_or_refusal file q s is none)
   alike_by_schedule a b (no_schedule q r is bad) (no_schedule p s also other) =
       refusals r s (ap (λ (x : Refusal). x.number) (one_refusal (judged schedule_of schedule) r s bad other))
-  alike_by_schedule a b (no_schedule q r is bad) (both p said given also reads told) = absurd (said_or_refusal schedule said r reads bad)
-  alike_by_schedule a b (both q said given is reads told) (no_test s none) = absurd (test_or_refusal file q s is none)
-  alike_by_schedule a b (both q said given is reads told) (no_schedule p s also bad) = absurd (said_or_refusal schedule said s reads bad)
-  alike_by_schedule a b (both q said given is reads told) (both p others other also says tells) =
-      alike_of_values q p said others a b is also reads says told tells
+  alike_by_schedule a b (no_schedule q r is bad) (both p said given also reads holds) = absurd (said_or_refusal schedule said r reads bad)
+  alike_by_schedule a b (both q said given is reads holds) (no_test s none) = absurd (test_or_refusal file q s is none)
+  alike_by_schedule a b (both q said given is reads holds) (no_schedule p s also bad) = absurd (said_or_refusal schedule said s reads bad)
+  alike_by_schedule a b (both q said given is reads holds) (both p others other also says tells) =
+      alike_of_values q p said others a b is also reads says holds tells
 
 -- ---- and by a history
 

@@ -39,12 +39,12 @@ of_64 o evs es each of few =
 
 module _ {X A : Type 0} (IsAnswer : LitmusTest → Result A Refusal → Type 0) (view : X → A) (known : Option (List ℕ)) where
   -- what answers the test that was read
-  pub by_test : (question : LitmusTest) (result : Result X Fault) → OfInput known (λ bytes. Accepted IsTestOf bytes question) → AnswersAs (IsAnswer question) view result → FindsBy (ByTest IsAnswer) view known result
-  by_test question (Ok x) read answers = weaker known _ _ (λ bytes accepted. of_test question _ accepted answers) read
-  by_test question (Err (Refused r)) read answers = weaker known _ _ (λ bytes accepted. of_test question _ accepted answers) read
-  by_test question (Err NoMemory) read answers = tt
-  by_test question (Err ReadFailed) read answers = tt
-  by_test question (Err WriteFailed) read answers = answers
+  pub by_test : (test : LitmusTest) (result : Result X Fault) → OfInput known (λ bytes. Accepted IsTestOf bytes test) → AnswersAs (IsAnswer test) view result → FindsBy (ByTest IsAnswer) view known result
+  by_test test (Ok x) read answers = weaker known _ _ (λ bytes accepted. of_test test _ accepted answers) read
+  by_test test (Err (Refused r)) read answers = weaker known _ _ (λ bytes accepted. of_test test _ accepted answers) read
+  by_test test (Err NoMemory) read answers = tt
+  by_test test (Err ReadFailed) read answers = tt
+  by_test test (Err WriteFailed) read answers = answers
 
   -- no test was read
   pub by_no_test : {Y : Type 0} (seen : Y → LitmusTest) (result : Result X Fault) (fault : Fault) → result ≡ Err fault → FindsBy IsReadAsTest seen known (Err fault) → FindsBy (ByTest IsAnswer) view known result

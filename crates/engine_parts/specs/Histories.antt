@@ -1,4 +1,4 @@
--- What answers a litmus text and a schedule of either version: what is asked of both, and what of their history.
+-- What answers a litmus text and a schedule of either version: what must hold of both, and what of their history.
 use Rattle.std.specs.Prelude.{ℕ, ◌≡◌, List, Result, Ok, Err}
 use Rattle.step_machine.specs.History.{Start, History}
 use Rattle.step_machine.specs.Runs.{Run}
@@ -49,21 +49,21 @@ Records B M opening said (Err refusal) = Runs B M opening said (Err refusal)
 -- schedule says and of the answer. The test is judged first, then the schedule's text.
 pub data BySchedule {A : Type 0} (IsAnswer : LitmusTest → Said → Result A Refusal → Type 0) (file schedule : List ℕ) : Result A Refusal → Type 0 where
   no_test : (refusal : Refusal) → IsNoTest file refusal → BySchedule IsAnswer file schedule (Err refusal)
-  no_schedule : (question : LitmusTest) (refusal : Refusal) → Accepted IsTestOf file question → IsNoSchedule schedule refusal → BySchedule IsAnswer file schedule (Err refusal)
-  both : (question : LitmusTest) (said : Said) (answer : Result A Refusal) → Accepted IsTestOf file question → Accepted Says schedule said → IsAnswer question said answer → BySchedule IsAnswer file schedule answer
+  no_schedule : (test : LitmusTest) (refusal : Refusal) → Accepted IsTestOf file test → IsNoSchedule schedule refusal → BySchedule IsAnswer file schedule (Err refusal)
+  both : (test : LitmusTest) (said : Said) (answer : Result A Refusal) → Accepted IsTestOf file test → Accepted Says schedule said → IsAnswer test said answer → BySchedule IsAnswer file schedule answer
 
 -- This holds of the history that the schedule makes of the test's opening, over store buffers of B pairs
 -- and a memory of M words.
 pub record IsOfRun {A : Type 0} (B M : ℕ) (IsAnswer : LitmusTest → History → A → Type 0)
-    (question : LitmusTest) (said : Said) (answer : A) : Type 0 where
+    (test : LitmusTest) (said : Said) (answer : A) : Type 0 where
   pub history : History
-  pub ran : Runs B M question.opening said (Ok history)
-  pub answers : IsAnswer question history answer
+  pub ran : Runs B M test.opening said (Ok history)
+  pub answers : IsAnswer test history answer
 
 -- the same of an answer that a record may be refused with
 abbrev pub AnswersRun : {A : Type 0} → (B M : ℕ) → (LitmusTest → History → A → Type 0) → LitmusTest → Said → Result A Refusal → Type 0
-AnswersRun B M IsAnswer question said (Ok answer) = IsOfRun B M IsAnswer question said answer
-AnswersRun B M IsAnswer question said (Err refusal) = Runs B M question.opening said (Err refusal)
+AnswersRun B M IsAnswer test said (Ok answer) = IsOfRun B M IsAnswer test said answer
+AnswersRun B M IsAnswer test said (Err refusal) = Runs B M test.opening said (Err refusal)
 
 -- what answers both, where this holds of their history
 abbrev pub ByRun : {A : Type 0} → (B M : ℕ) → (LitmusTest → History → A → Type 0) → (file schedule : List ℕ) → Result A Refusal → Type 0
@@ -71,8 +71,8 @@ ByRun B M IsAnswer = BySchedule (AnswersRun B M IsAnswer)
 
 -- This holds of the schedule's events, whatever a record says of their outcomes: no record is refused.
 abbrev pub AnswersEvents : {A : Type 0} → (LitmusTest → List Event → A → Type 0) → LitmusTest → Said → Result A Refusal → Type 0
-AnswersEvents IsAnswer question said (Ok answer) = IsAnswer question (events_said said) answer
-AnswersEvents IsAnswer question said (Err refusal) = ⊥
+AnswersEvents IsAnswer test said (Ok answer) = IsAnswer test (events_said said) answer
+AnswersEvents IsAnswer test said (Err refusal) = ⊥
 
 -- what answers both, where this holds of their events
 abbrev pub ByEvents : {A : Type 0} → (LitmusTest → List Event → A → Type 0) → (file schedule : List ℕ) → Result A Refusal → Type 0

@@ -33,7 +33,7 @@ unfoldable pub registers_shown : Option HartState → (count : ℕ) → List ℕ
 registers_shown None count = []
 registers_shown (Some s) count = flat_map (λ n. register_line n (slice_index s.registers n)) (range_with_len 0 count)
 
--- the lines of a hart in this state, with so many stores pending
+-- the lines of a hart in this state, with this number of pending stores
 unfoldable pub hart_text : (hart : ℕ) → Option HartState → (pending : ℕ) → List ℕ
 hart_text hart None count = []
 hart_text hart (Some s) count = hart_line hart s.status s.pc count ++ registers_shown (Some s) 32

@@ -29,4 +29,4 @@ HasNoTest input = IsSomeAnd input (λ bytes. (refusal : Refusal) × IsNoTest byt
 -- What answers an input that is to be a test.
 pub data ByTest {A : Type 0} (IsAnswer : LitmusTest → Result A Refusal → Type 0) (input : List ℕ) : Result A Refusal → Type 0 where
   no_test : (refusal : Refusal) → IsNoTest input refusal → ByTest IsAnswer input (Err refusal)
-  of_test : (question : LitmusTest) (answer : Result A Refusal) → Accepted IsTestOf input question → IsAnswer question answer → ByTest IsAnswer input answer
+  of_test : (test : LitmusTest) (answer : Result A Refusal) → Accepted IsTestOf input test → IsAnswer test answer → ByTest IsAnswer input answer

@@ -10,7 +10,7 @@ use hart::status::Status;
 use std::alloc::{AllocError, Global};
 use step_machine::MachineState;
 
-/// A hart has x0 and so many registers in all.
+/// How many registers a hart has, x0 among them.
 const REGISTERS: u8 = 32;
 
 fn push_status(out: &mut String, status: Status) -> Result<(), AllocError>

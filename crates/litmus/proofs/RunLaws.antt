@@ -9,7 +9,7 @@ use Rattle.litmus.specs.declared.symbols.Step.TheVariants as step
 use Rattle.litmus.specs.Formulas.{Formula, is, negation, both, either, truth, places}
 use Rattle.litmus.specs.Steps.{steps_of}
 use Rattle.litmus.specs.LitmusTests.{IsThere}
-use Rattle.litmus.specs.inner.Running.{done, all_done, asked_by, AsksThere}
+use Rattle.litmus.specs.inner.Running.{done, all_done, step_places, AsksThere}
 
 -- the steps that are skipped change nothing
 pub all_done-skipped : (value_of : Place → ℕ) (so_far : Bool) (skipped rest : List Step) → all_done value_of so_far (length skipped) (skipped ++ rest) ≡ all_done value_of so_far 0 rest
@@ -38,29 +38,29 @@ all_done-steps_of value_of (either f g) rest so_far =
     ∙ all_done-steps_of value_of f (step.Or (length (steps_of g)) ∷ (steps_of g ++ rest)) so_far
     ∙ right_of_or value_of g rest (truth value_of f) (λ c. all_done-steps_of value_of g rest c)
 
-pub asked_by-append : (left right : List Step) → asked_by (left ++ right) ≡ asked_by left ++ asked_by right
-asked_by-append [] right = refl
-asked_by-append (step.Is p v ∷ left) right = ap (λ (ps : List Place). p ∷ ps) (asked_by-append left right)
-asked_by-append (step.Not ∷ left) right = asked_by-append left right
-asked_by-append (step.And skip ∷ left) right = asked_by-append left right
-asked_by-append (step.Or skip ∷ left) right = asked_by-append left right
+pub step_places-append : (left right : List Step) → step_places (left ++ right) ≡ step_places left ++ step_places right
+step_places-append [] right = refl
+step_places-append (step.Is p v ∷ left) right = ap (λ (ps : List Place). p ∷ ps) (step_places-append left right)
+step_places-append (step.Not ∷ left) right = step_places-append left right
+step_places-append (step.And skip ∷ left) right = step_places-append left right
+step_places-append (step.Or skip ∷ left) right = step_places-append left right
 
-pub asked_by-steps_of : (f : Formula) → asked_by (steps_of f) ≡ places f
-asked_by-steps_of (is p v) = refl
-asked_by-steps_of (negation f) = asked_by-append (steps_of f) (step.Not ∷ []) ∙ append-nil (asked_by (steps_of f)) ∙ asked_by-steps_of f
-asked_by-steps_of (both f g) = asked_by-append (steps_of f) (step.And (length (steps_of g)) ∷ steps_of g) ∙ ap (λ (ps : List Place). ps ++ asked_by (steps_of g)) (asked_by-steps_of f) ∙ ap (λ (ps : List Place). places f ++ ps) (asked_by-steps_of g)
-asked_by-steps_of (either f g) = asked_by-append (steps_of f) (step.Or (length (steps_of g)) ∷ steps_of g) ∙ ap (λ (ps : List Place). ps ++ asked_by (steps_of g)) (asked_by-steps_of f) ∙ ap (λ (ps : List Place). places f ++ ps) (asked_by-steps_of g)
+pub step_places-steps_of : (f : Formula) → step_places (steps_of f) ≡ places f
+step_places-steps_of (is p v) = refl
+step_places-steps_of (negation f) = step_places-append (steps_of f) (step.Not ∷ []) ∙ append-nil (step_places (steps_of f)) ∙ step_places-steps_of f
+step_places-steps_of (both f g) = step_places-append (steps_of f) (step.And (length (steps_of g)) ∷ steps_of g) ∙ ap (λ (ps : List Place). ps ++ step_places (steps_of g)) (step_places-steps_of f) ∙ ap (λ (ps : List Place). places f ++ ps) (step_places-steps_of g)
+step_places-steps_of (either f g) = step_places-append (steps_of f) (step.Or (length (steps_of g)) ∷ steps_of g) ∙ ap (λ (ps : List Place). ps ++ step_places (steps_of g)) (step_places-steps_of f) ∙ ap (λ (ps : List Place). places f ++ ps) (step_places-steps_of g)
 
 -- steps whose places are there ask for what is there
-pub AsksThere-asked_by : (harts locations : ℕ) (steps : List Step) → All (IsThere harts locations) (asked_by steps) → All (AsksThere harts locations) steps
-AsksThere-asked_by harts locations [] there = All-nil (AsksThere harts locations)
-AsksThere-asked_by harts locations (step.Is p v ∷ rest) there = All-cons (AsksThere harts locations) (step.Is p v) rest (there 0 p (omega arith)) (AsksThere-asked_by harts locations rest (λ k d small. there (suc k) d (omega (arith, small))))
-AsksThere-asked_by harts locations (step.Not ∷ rest) there = All-cons (AsksThere harts locations) step.Not rest tt (AsksThere-asked_by harts locations rest there)
-AsksThere-asked_by harts locations (step.And skip ∷ rest) there = All-cons (AsksThere harts locations) (step.And skip) rest tt (AsksThere-asked_by harts locations rest there)
-AsksThere-asked_by harts locations (step.Or skip ∷ rest) there = All-cons (AsksThere harts locations) (step.Or skip) rest tt (AsksThere-asked_by harts locations rest there)
+pub AsksThere-step_places : (harts locations : ℕ) (steps : List Step) → All (IsThere harts locations) (step_places steps) → All (AsksThere harts locations) steps
+AsksThere-step_places harts locations [] there = All-nil (AsksThere harts locations)
+AsksThere-step_places harts locations (step.Is p v ∷ rest) there = All-cons (AsksThere harts locations) (step.Is p v) rest (there 0 p (omega arith)) (AsksThere-step_places harts locations rest (λ k d small. there (suc k) d (omega (arith, small))))
+AsksThere-step_places harts locations (step.Not ∷ rest) there = All-cons (AsksThere harts locations) step.Not rest tt (AsksThere-step_places harts locations rest there)
+AsksThere-step_places harts locations (step.And skip ∷ rest) there = All-cons (AsksThere harts locations) (step.And skip) rest tt (AsksThere-step_places harts locations rest there)
+AsksThere-step_places harts locations (step.Or skip ∷ rest) there = All-cons (AsksThere harts locations) (step.Or skip) rest tt (AsksThere-step_places harts locations rest there)
 
 pub AsksThere-steps_of : (harts locations : ℕ) (f : Formula) → All (IsThere harts locations) (places f) → All (AsksThere harts locations) (steps_of f)
-AsksThere-steps_of harts locations f there = AsksThere-asked_by harts locations (steps_of f) (subst (λ (ps : List Place). All (IsThere harts locations) ps) (sym (asked_by-steps_of f)) there)
+AsksThere-steps_of harts locations f there = AsksThere-step_places harts locations (steps_of f) (subst (λ (ps : List Place). All (IsThere harts locations) ps) (sym (step_places-steps_of f)) there)
 
 -- a place is there among more harts and locations too
 pub IsThere-more : (harts more_harts locations more : ℕ) (p : Place) → harts ≤ more_harts → locations ≤ more → IsThere harts locations p → IsThere more_harts more p
@@ -88,12 +88,12 @@ all_done-next value_of so_far new_so_far skip new_skip i steps d after small non
     let zero_skip : skip ≡ 0 = omega (arith, none) in
     rw (truth_is, skip_is, after_is, zero_skip) (all_done-does value_of so_far i steps d small)
 
-pub asked_by-AsksThere : (harts locations : ℕ) (steps : List Step) → All (AsksThere harts locations) steps → All (IsThere harts locations) (asked_by steps)
-asked_by-AsksThere harts locations [] all = All-nil (IsThere harts locations)
-asked_by-AsksThere harts locations (step.Is p value ∷ rest) all = All-cons (IsThere harts locations) p (asked_by rest) (All-head (AsksThere harts locations) (step.Is p value) rest all) (asked_by-AsksThere harts locations rest (All-tail (AsksThere harts locations) (step.Is p value) rest all))
-asked_by-AsksThere harts locations (step.Not ∷ rest) all = asked_by-AsksThere harts locations rest (All-tail (AsksThere harts locations) step.Not rest all)
-asked_by-AsksThere harts locations (step.And skip ∷ rest) all = asked_by-AsksThere harts locations rest (All-tail (AsksThere harts locations) (step.And skip) rest all)
-asked_by-AsksThere harts locations (step.Or skip ∷ rest) all = asked_by-AsksThere harts locations rest (All-tail (AsksThere harts locations) (step.Or skip) rest all)
+pub step_places-AsksThere : (harts locations : ℕ) (steps : List Step) → All (AsksThere harts locations) steps → All (IsThere harts locations) (step_places steps)
+step_places-AsksThere harts locations [] all = All-nil (IsThere harts locations)
+step_places-AsksThere harts locations (step.Is p value ∷ rest) all = All-cons (IsThere harts locations) p (step_places rest) (All-head (AsksThere harts locations) (step.Is p value) rest all) (step_places-AsksThere harts locations rest (All-tail (AsksThere harts locations) (step.Is p value) rest all))
+step_places-AsksThere harts locations (step.Not ∷ rest) all = step_places-AsksThere harts locations rest (All-tail (AsksThere harts locations) step.Not rest all)
+step_places-AsksThere harts locations (step.And skip ∷ rest) all = step_places-AsksThere harts locations rest (All-tail (AsksThere harts locations) (step.And skip) rest all)
+step_places-AsksThere harts locations (step.Or skip ∷ rest) all = step_places-AsksThere harts locations rest (All-tail (AsksThere harts locations) (step.Or skip) rest all)
 
 pub steps_of-AsksThere : (harts locations : ℕ) (f : Formula) → All (AsksThere harts locations) (steps_of f) → All (IsThere harts locations) (places f)
-steps_of-AsksThere harts locations f all = subst (λ (ps : List Place). All (IsThere harts locations) ps) (asked_by-steps_of f) (asked_by-AsksThere harts locations (steps_of f) all)
+steps_of-AsksThere harts locations f all = subst (λ (ps : List Place). All (IsThere harts locations) ps) (step_places-steps_of f) (step_places-AsksThere harts locations (steps_of f) all)

@@ -8,8 +8,8 @@ use Rattle.litmus.specs.declared.symbols.Place.TheVariants as place
 use Rattle.litmus.specs.declared.symbols.Step.{Step}
 use Rattle.litmus.specs.declared.symbols.Step.TheVariants as step
 use Rattle.litmus.specs.LitmusTests.{IsThere, is_same, firsts}
-use Rattle.litmus.specs.inner.Running.{asked_by, AsksThere}
-use Rattle.litmus.proofs.RunLaws.{asked_by-AsksThere}
+use Rattle.litmus.specs.inner.Running.{step_places, AsksThere}
+use Rattle.litmus.proofs.RunLaws.{step_places-AsksThere}
 use Rattle.litmus.specs.inner.Seen.{index_of, is_seen, after_place, after_seen, left_to_see}
 
 -- two places that are there have one entry exactly where they are the same
@@ -66,7 +66,7 @@ see-one seen p ps false was len there all = rw was (ap (λ (xs : List Place). p 
 
 -- one step: what it adds, and what is left after it
 pub left_to_see-step : (seen : List Bool) (s : Step) (rest : List Step) → length seen ≡ 3072 → All (AsksThere 64 1024) (s ∷ rest) → left_to_see seen (s ∷ rest) ≡ after_place seen s ++ left_to_see (after_seen seen s) rest
-left_to_see-step seen (step.Is p value) rest len all = see-one seen p (firsts (asked_by rest)) (is_seen seen p) refl len (All-head (AsksThere 64 1024) (step.Is p value) rest all) (firsts-all (IsThere 64 1024) (asked_by rest) (asked_by-AsksThere 64 1024 rest (All-tail (AsksThere 64 1024) (step.Is p value) rest all)))
+left_to_see-step seen (step.Is p value) rest len all = see-one seen p (firsts (step_places rest)) (is_seen seen p) refl len (All-head (AsksThere 64 1024) (step.Is p value) rest all) (firsts-all (IsThere 64 1024) (step_places rest) (step_places-AsksThere 64 1024 rest (All-tail (AsksThere 64 1024) (step.Is p value) rest all)))
 left_to_see-step seen step.Not rest len all = refl
 left_to_see-step seen (step.And skip) rest len all = refl
 left_to_see-step seen (step.Or skip) rest len all = refl
@@ -87,8 +87,8 @@ fresh-none n [] = refl
 fresh-none n (p ∷ ps) = rw (unseen n (index_of p)) (ap (λ (xs : List Place). p ∷ xs) (fresh-none n ps))
 
 -- at the beginning of the loop over the steps, and over one step
-pub all_left : (seen : List Bool) (n : ℕ) (steps : List Step) → seen ≡ replicate n false → left_to_see seen steps ≡ firsts (asked_by steps)
-all_left seen n steps same = rw same (fresh-none n (firsts (asked_by steps)))
+pub all_left : (seen : List Bool) (n : ℕ) (steps : List Step) → seen ≡ replicate n false → left_to_see seen steps ≡ firsts (step_places steps)
+all_left seen n steps same = rw same (fresh-none n (firsts (step_places steps)))
 
 rest-there : (i : ℕ) (steps : List Step) → i < length steps → All (AsksThere 64 1024) steps → (d : Step) → All (AsksThere 64 1024) (get_or steps i d ∷ drop (suc i) steps)
 rest-there i [] small all d = absurd (omega (arith, small))
@@ -106,5 +106,5 @@ next_seen before places seen new_seen new i steps d small all len so_far added m
           ∙ so_far),
     )
 
-pub none_seen_yet : (n : ℕ) (seen : List Bool) (places : List Place) (steps : List Step) → seen ≡ replicate n false → places ≡ [] → (length seen ≡ n) × (places ++ left_to_see seen steps ≡ firsts (asked_by steps))
+pub none_seen_yet : (n : ℕ) (seen : List Bool) (places : List Place) (steps : List Step) → seen ≡ replicate n false → places ≡ [] → (length seen ≡ n) × (places ++ left_to_see seen steps ≡ firsts (step_places steps))
 none_seen_yet n seen places steps same empty = (ap (λ (xs : List Bool). length xs) same ∙ length-replicate n false, rw empty (all_left seen n steps same))

@@ -41,5 +41,5 @@ firsts (p ∷ others) = p ∷ filter (λ q. not (is_same p q)) (firsts others)
 abbrev pub left_sides : Formula → List Place
 left_sides f = firsts (places f)
 
-abbrev pub question_of : List HartStart → List ℕ → List (List ℕ) → Quantifier → Formula → LitmusTest
-question_of harts words names quantifier condition = record { opening = record { harts = harts; words = words }; names = names; quantifier = quantifier; condition = condition }
+abbrev pub litmus_test_of : List HartStart → List ℕ → List (List ℕ) → Quantifier → Formula → LitmusTest
+litmus_test_of harts words names quantifier condition = record { opening = record { harts = harts; words = words }; names = names; quantifier = quantifier; condition = condition }

@@ -27,13 +27,13 @@ final_value M t (place.Register h n) = unwrap_or (option_map (λ s. slice_index 
 final_value M t (place.Word a) = memory_word t.opening t.entries a
 
 -- whether an outcome in which the condition is so is one that the test asks for
-abbrev pub is_asked_for : Quantifier → Bool → Bool
-is_asked_for Exists true_there = true_there
-is_asked_for NotExists true_there = not true_there
-is_asked_for ForAll true_there = true_there
+abbrev pub is_satisfied : Quantifier → Bool → Bool
+is_satisfied Exists true_there = true_there
+is_satisfied NotExists true_there = not true_there
+is_satisfied ForAll true_there = true_there
 
 -- the test's answer to a history
 abbrev pub IsVerdict : ℕ → LitmusTest → History → Verdict → Type 0
-IsVerdict M q t Holds = IsFinished M t × (is_asked_for q.quantifier (truth (final_value M t) q.condition) ≡ true)
-IsVerdict M q t Fails = IsFinished M t × (is_asked_for q.quantifier (truth (final_value M t) q.condition) ≡ false)
+IsVerdict M q t Holds = IsFinished M t × (is_satisfied q.quantifier (truth (final_value M t) q.condition) ≡ true)
+IsVerdict M q t Fails = IsFinished M t × (is_satisfied q.quantifier (truth (final_value M t) q.condition) ≡ false)
 IsVerdict M q t Unfinished = IsFinished M t → ⊥

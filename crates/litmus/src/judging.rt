@@ -5,7 +5,7 @@ ghost use Rattle.step_machine.specs.Standing.{OfEach};
 ghost use Rattle.litmus.specs.Formulas.{truth, places};
 ghost use Rattle.litmus.specs.LitmusTests.{IsThere};
 ghost use Rattle.litmus.specs.inner.Running.{done, all_done, AsksThere};
-ghost use Rattle.litmus.specs.Verdicts.{HasFinished, IsFinished, final_value, is_asked_for as asked_for};
+ghost use Rattle.litmus.specs.Verdicts.{HasFinished, IsFinished, final_value, is_satisfied as satisfied};
 
 use crate::condition::Condition;
 use crate::symbols::{Place, Step};
@@ -15,8 +15,8 @@ use std::alloc::{AllocError, Global};
 use step_machine::MachineState;
 
 /// Whether the outcome is one that the test asks for, where the condition is so in it.
-pub(crate) fn is_asked_for(quantifier: Quantifier, is_true: bool) -> bool
-    ensures { result ≡ asked_for quantifier is_true }
+pub(crate) fn is_satisfied(quantifier: Quantifier, is_true: bool) -> bool
+    ensures { result ≡ satisfied quantifier is_true }
 {
     match quantifier {
         Quantifier::Exists | Quantifier::ForAll => is_true,
@@ -63,12 +63,12 @@ pub(crate) fn values_of<const B: usize, const M: usize>(
     ensures { IfOk result (λ values. OfEach B M machine.now (λ t. values.items ≡ map (final_value M t) places.now)) }
 {
     let mut values = Vec::new(alloc);
-    put_values(&mut values, places, machine)?;
+    values_into(&mut values, places, machine)?;
     Ok(values)
 }
 
 /// The same in the place of what a vector holds.
-pub(crate) fn put_values<const B: usize, const M: usize>(
+pub(crate) fn values_into<const B: usize, const M: usize>(
     values: &mut Vec<u32>,
     places: &[Place],
     machine: &MachineState<B, M>,

@@ -2,7 +2,7 @@
 
 ghost use Rattle.std.specs.Prelude.{◌≡◌, ◌+◌, ◌<◌, ◌++◌, IfOk, OnOk, All, true, false, length, replicate, slice_set};
 ghost use Rattle.litmus.specs.LitmusTests.{IsThere, firsts};
-ghost use Rattle.litmus.specs.inner.Running.{AsksThere, asked_by};
+ghost use Rattle.litmus.specs.inner.Running.{AsksThere, step_places};
 ghost use Rattle.litmus.specs.inner.Seen.{index_of as place_index, unless_seen, after_place, after_seen};
 ghost use Rattle.litmus.specs.declared.litmus_test.TheConstants.{MAX_LOCATIONS};
 ghost use Rattle.step_machine.specs.declared.opening.TheConstants.{MAX_HARTS};
@@ -67,7 +67,7 @@ fn none_seen(alloc: Global) -> Result<Vec<bool>, AllocError>
 /// The places that these steps ask for, each once, in order of first appearance.
 pub(crate) fn first_places(alloc: Global, steps: &[Step]) -> Result<Vec<Place>, AllocError>
     requires { All (AsksThere MAX_HARTS MAX_LOCATIONS) steps.now }
-    ensures { IfOk result (λ places. places.items ≡ firsts (asked_by steps.now)) }
+    ensures { IfOk result (λ places. places.items ≡ firsts (step_places steps.now)) }
 {
     let mut seen = none_seen(alloc)?;
     let mut places = Vec::new(alloc);

@@ -4,7 +4,7 @@ ghost use Rattle.std.specs.Prelude.{◌≡◌, ◌<◌, ◌≤◌, ◌*◌, ◌/
 ghost use Rattle.std.specs.String.{string_bytes};
 
 use crate::condition::Condition;
-use crate::judging::{is_asked_for, is_finished, is_true, put_values, values_of};
+use crate::judging::{is_finished, is_satisfied, is_true, values_into, values_of};
 use crate::lefts::first_places;
 use crate::symbols::Place;
 use crate::verdict::{Quantifier, Verdict};
@@ -45,7 +45,7 @@ impl Test {
     ghost use Rattle.hart.specs.State.{HartState};
     ghost use Rattle.step_machine.specs.History.{Start};
     ghost use Rattle.step_machine.specs.Standing.{OfEach};
-    ghost use Rattle.litmus.specs.LitmusTests.{IsTest, IsThere, question_of, left_sides, LitmusTest};
+    ghost use Rattle.litmus.specs.LitmusTests.{IsTest, IsThere, litmus_test_of, left_sides, LitmusTest};
     ghost use Rattle.litmus.specs.Verdicts.{IsVerdict, final_value};
     ghost use Rattle.litmus.specs.declared.verdict.Quantifier.TheVariants.{Exists};
 
@@ -58,8 +58,8 @@ impl Test {
         quantifier: Quantifier,
         condition: Condition,
     ) -> Result<Test, AllocError>
-        requires { IsTest (question_of harts.items words.items (map string_bytes names.items) quantifier condition) }
-        ensures { IfOk result (λ test. test ≡ question_of harts.items words.items (map string_bytes names.items) quantifier condition) }
+        requires { IsTest (litmus_test_of harts.items words.items (map string_bytes names.items) quantifier condition) }
+        ensures { IfOk result (λ test. test ≡ litmus_test_of harts.items words.items (map string_bytes names.items) quantifier condition) }
     {
         let lefts = first_places(alloc, condition.steps())?;
         Ok(Test {
@@ -116,7 +116,7 @@ impl Test {
     }
 
     /// The same in the place of what a vector holds, so that the room that it has serves again.
-    pub fn put_values<const B: usize, const M: usize>(
+    pub fn values_into<const B: usize, const M: usize>(
         &self,
         values: &mut Vec<u32>,
         machine: &MachineState<B, M>,
@@ -125,7 +125,7 @@ impl Test {
         requires words { length self.now.names ≤ M }
         ensures { OnOk result (OfEach B M machine.now (λ t. values.new.items ≡ map (final_value M t) (left_sides self.now.condition))) }
     {
-        put_values(values, &self.lefts, machine)
+        values_into(values, &self.lefts, machine)
     }
 
     /// What the test says of a machine. It takes no memory.
@@ -138,7 +138,7 @@ impl Test {
         if !is_finished(machine) {
             return Verdict::Unfinished;
         }
-        if is_asked_for(self.quantifier, is_true(&self.condition, machine)) {
+        if is_satisfied(self.quantifier, is_true(&self.condition, machine)) {
             Verdict::Holds
         } else {
             Verdict::Fails

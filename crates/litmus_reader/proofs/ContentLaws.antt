@@ -10,7 +10,7 @@ use Rattle.rv_decode.specs.Meaning.{meaning}
 use Rattle.step_machine.specs.History.{IsShort}
 use Rattle.litmus.specs.declared.verdict.Quantifier.{Quantifier}
 use Rattle.litmus.specs.Formulas.{Formula, places}
-use Rattle.litmus.specs.LitmusTests.{LitmusTest, IsThere, IsTest, question_of}
+use Rattle.litmus.specs.LitmusTests.{LitmusTest, IsThere, IsTest, litmus_test_of}
 use Rattle.litmus_reader.specs.Locations.{Names}
 use Rattle.litmus_reader.specs.Table.{instructions_of, IsPlainCode, ArePlain, AreShort}
 use Rattle.litmus_reader.specs.Values.{starts_of}
@@ -37,7 +37,7 @@ starts_plain [] registers plain = All-nil HasPlainCode
 starts_plain (code ∷ codes) [] plain = All-nil HasPlainCode
 starts_plain (code ∷ codes) (first ∷ registers) plain = All-cons HasPlainCode (record { code = code.items; registers = first; inbox = [] }) (starts_of codes registers) (All-head (λ (v : Vec ℕ Global). IsPlainCode v.items) code codes plain) (starts_plain codes registers (All-tail (λ (v : Vec ℕ Global). IsPlainCode v.items) code codes plain))
 
-pub is_test : (codes : List (Vec ℕ Global)) (registers : List (List ℕ)) (words : List ℕ) (names : Names) (quantifier : Quantifier) (f : Formula) → length registers ≡ length codes → 1 ≤ length codes → length codes ≤ 64 → AreShort (instructions_of codes) → length words ≤ 1024 → length names ≤ 1024 → All (IsThere (length codes) (length names)) (places f) → IsTest (question_of (starts_of codes registers) words names quantifier f)
+pub is_test : (codes : List (Vec ℕ Global)) (registers : List (List ℕ)) (words : List ℕ) (names : Names) (quantifier : Quantifier) (f : Formula) → length registers ≡ length codes → 1 ≤ length codes → length codes ≤ 64 → AreShort (instructions_of codes) → length words ≤ 1024 → length names ≤ 1024 → All (IsThere (length codes) (length names)) (places f) → IsTest (litmus_test_of (starts_of codes registers) words names quantifier f)
 is_test codes registers words names quantifier f same some few short words_few names_few there =
     let count = starts_count codes registers same in
     record {

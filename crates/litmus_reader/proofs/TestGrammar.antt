@@ -8,7 +8,7 @@ use Rattle.texts.proofs.ResultLaws.{ok_is}
 use Rattle.step_machine.specs.History.{HartStart}
 use Rattle.litmus.specs.declared.verdict.Quantifier.{Quantifier}
 use Rattle.litmus.specs.Formulas.{Formula}
-use Rattle.litmus.specs.LitmusTests.{LitmusTest, question_of}
+use Rattle.litmus.specs.LitmusTests.{LitmusTest, litmus_test_of}
 use Rattle.litmus_tokens.specs.Settings.{Equation}
 use Rattle.litmus_reader.specs.declared.faults.LitmusFault.{LitmusFault}
 use Rattle.texts.specs.declared.errors.AtLine.{AtLine}
@@ -46,7 +46,7 @@ same_harts names equations rows hart (x ∷ xs) (y ∷ ys) are p q same =
     let code = one_code x.code y.code instrs (All-head HasPlainCode x xs p) (All-head HasPlainCode y ys q) meant (sym (ap (λ (h : HartContent). h.code) first) ∙ meant) in
     rw (same_start x y code first, same_harts names equations rows (hart + 1) xs ys are.3 (All-tail HasPlainCode x xs p) (All-tail HasPlainCode y ys q) rest) refl
 
-same_test : (xs ys : List HartStart) (words others : List ℕ) (names more : Names) (q r : Quantifier) (f g : Formula) → xs ≡ ys → words ≡ others → names ≡ more → q ≡ r → f ≡ g → question_of xs words names q f ≡ question_of ys others more r g
+same_test : (xs ys : List HartStart) (words others : List ℕ) (names more : Names) (q r : Quantifier) (f g : Formula) → xs ≡ ys → words ≡ others → names ≡ more → q ≡ r → f ≡ g → litmus_test_of xs words names q f ≡ litmus_test_of ys others more r g
 same_test xs ys words others names more q r f g a b c d e = rw (a, b, c, d, e) refl
 
 pub one_test : (text : List ℕ) (a b : LitmusTest) → IsTestOf text a → IsTestOf text b → a ≡ b

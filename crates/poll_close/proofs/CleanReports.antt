@@ -85,44 +85,44 @@ pub taken_other : (rs : List Report) (i : ℕ) (y : Report) → sender_of y ≢ 
 taken_other rs i (report.Took j w) differ = taken-took rs j w i ∙ (let off : (j == i) ≡ false = grind (arith, nat_tests) in rw off (append-nil (taken rs i)))
 taken_other rs i (report.Closed j) differ = taken-closed rs j i
 
-pub told_other : (rs : List Report) (i : ℕ) (list : List ℕ) (took closings : ℕ) (x : Report) → sender_of x ≢ i
+pub reports_other : (rs : List Report) (i : ℕ) (list : List ℕ) (took closings : ℕ) (x : Report) → sender_of x ≢ i
     → ReportsOf rs i list took closings → ReportsOf (rs ++ x ∷ []) i list took closings
-told_other rs i list took closings x other told = record {
-  words = taken_other rs i x other ∙ told.words;
+reports_other rs i list took closings x other reports = record {
+  words = taken_other rs i x other ∙ reports.words;
   closed = closed;
-  said = λ is. (let old = told.said is in (old.0, get_front rs (x ∷ []) old.0 (report.Closed i) old.1));
+  said = λ is. (let old = reports.said is in (old.0, get_front rs (x ∷ []) old.0 (report.Closed i) old.1));
 }
   where
     closed : (k : ℕ) → slice_get (rs ++ x ∷ []) k ≡ Some (report.Closed i) → closings ≡ 1
     closed k is =
         elim (get_last rs x (report.Closed i) k is) [
-          | inl a ↦ told.closed k a.1
+          | inl a ↦ reports.closed k a.1
           | inr b ↦ absurd (other (ap sender_of b.1))
         ]
 
 -- a word of the sender's own
-pub told_took : (rs : List Report) (i : ℕ) (list : List ℕ) (took closings : ℕ) → took < length list
+pub reports_took : (rs : List Report) (i : ℕ) (list : List ℕ) (took closings : ℕ) → took < length list
     → ReportsOf rs i list took closings
     → ReportsOf (rs ++ report.Took i (slice_index list took) ∷ []) i list (took + 1) closings
-told_took rs i list took closings less told = record {
+reports_took rs i list took closings less reports = record {
   words = taken-took rs i (slice_index list took) i ∙ (let on : (i == i) ≡ true = eq-eqb i i refl in
-      rw on (ap (λ ys. ys ++ slice_index list took ∷ []) told.words ∙ sym (take_more list took 0 less)));
+      rw on (ap (λ ys. ys ++ slice_index list took ∷ []) reports.words ∙ sym (take_more list took 0 less)));
   closed = closed;
-  said = λ is. (let old = told.said is in (old.0, get_front rs (report.Took i (slice_index list took) ∷ []) old.0 (report.Closed i) old.1));
+  said = λ is. (let old = reports.said is in (old.0, get_front rs (report.Took i (slice_index list took) ∷ []) old.0 (report.Closed i) old.1));
 }
   where
     closed : (k : ℕ) → slice_get (rs ++ report.Took i (slice_index list took) ∷ []) k ≡ Some (report.Closed i) → closings ≡ 1
     closed k is =
         elim (get_last rs (report.Took i (slice_index list took)) (report.Closed i) k is) [
-          | inl a ↦ told.closed k a.1
+          | inl a ↦ reports.closed k a.1
           | inr b ↦ cc (b.1)
         ]
 
 -- its closing
-pub told_closed : (rs : List Report) (i : ℕ) (list : List ℕ) (took closings : ℕ) → ReportsOf rs i list took closings
+pub reports_closed : (rs : List Report) (i : ℕ) (list : List ℕ) (took closings : ℕ) → ReportsOf rs i list took closings
     → ReportsOf (rs ++ report.Closed i ∷ []) i list took 1
-told_closed rs i list took closings told = record {
-  words = taken-closed rs i i ∙ told.words;
+reports_closed rs i list took closings reports = record {
+  words = taken-closed rs i i ∙ reports.words;
   closed = λ k is. refl;
   said = λ is. (length rs, get_end rs (report.Closed i));
 }

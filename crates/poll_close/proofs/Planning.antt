@@ -378,7 +378,7 @@ module _ (ring : Ring) (means : Meaning) (left next : ℕ → History → ℕ) (
     abbrev Reached : (History → Type 0) → Type 0
     Reached P = (evs : List Event) × (t : History) × Planned ring means B M start evs t × P t
 
-    -- all that is pending of hart h lands, which is so many stores at most
+    -- all that is pending of hart h lands, which is at most B stores
     land_hart : (h room : ℕ) → h < length start.opening.harts → (evs : List Event) (t : History)
         → Planned ring means B M start evs t → ((k : ℕ) → k < h → pending k t.entries ≡ [])
         → length (pending h t.entries) ≤ room → Reached (λ u. (k : ℕ) → k < h + 1 → pending k u.entries ≡ [])

@@ -39,7 +39,7 @@ use Rattle.poll_close.proofs.Blocks.{put_other}
 use Rattle.poll_close.proofs.BlockLaws.{BlockLaws, seen_at, Says, Comes, Receives, Finds}
 use Rattle.poll_close.proofs.ReceiverMoves.{receives_on}
 use Rattle.poll_close.proofs.ReceiverStays.{shuts_same}
-use Rattle.poll_close.proofs.CleanReports.{taken_other, clean_more, told_other, told_took, told_closed, prefix_take}
+use Rattle.poll_close.proofs.CleanReports.{taken_other, clean_more, reports_other, reports_took, reports_closed, prefix_take}
 use Rattle.poll_close.proofs.AllBlocks.{would_read, read_is, untouched}
 
 -- a need stores nothing or one pair
@@ -86,14 +86,14 @@ pub record Received (m : BlockMeaning) (M : ℕ) (S : Layout) (lists : List (Lis
 
 -- what is reported, where the receiver visits a block
 module _ (m : BlockMeaning) (M : ℕ) (S : Layout) (lists : List (List ℕ)) (f : ℕ → Count m) (b : ℕ)
-    (known : b < length lists) (rs : List Report) (told : ReportPart m lists rs f) where
-  told_put : (now : List Report) (n : Count m)
+    (known : b < length lists) (rs : List Report) (reports : ReportPart m lists rs f) where
+  reports_put : (now : List Report) (n : Count m)
       → ReportsOf now b (slice_index_or lists b []) (m.took n.receiver) (m.closings n.receiver)
       → ((j : ℕ) → j < length lists → j ≢ b
       → ReportsOf now j (slice_index_or lists j []) (m.took (f j).receiver) (m.closings (f j).receiver)) → (j : ℕ)
       → j < length lists
       → ReportsOf now j (slice_index_or lists j []) (m.took (put f b n j).receiver) (m.closings (put f b n j).receiver)
-  told_put now n one others j within =
+  reports_put now n one others j within =
       elim (cases_eq j b) [
         | inl same ↦
             let P : ℕ → Count m → Type 0 = λ i c. ReportsOf now i (slice_index_or lists i []) (m.took c.receiver) (m.closings c.receiver) in
@@ -109,16 +109,16 @@ module _ (m : BlockMeaning) (M : ℕ) (S : Layout) (lists : List (List ℕ)) (f 
       → ((i : ℕ) → x ≡ report.Closed i → taken rs i ≡ slice_index_or lists i [])
       → ReportPart m lists (rs ++ x ∷ []) (put f b n)
   one_said x n from open_yet new all = record {
-    senders = told_put (rs ++ x ∷ []) n new
-        (λ j within other. told_other rs j (slice_index_or lists j []) (m.took (f j).receiver)
-        (m.closings (f j).receiver) x (λ same. other (sym same ∙ from)) (told.senders j within));
-    clean = clean_more rs lists x told.clean (subst (λ (j : ℕ). j < length lists) (sym from) known) unclosed prefix all;
+    senders = reports_put (rs ++ x ∷ []) n new
+        (λ j within other. reports_other rs j (slice_index_or lists j []) (m.took (f j).receiver)
+        (m.closings (f j).receiver) x (λ same. other (sym same ∙ from)) (reports.senders j within));
+    clean = clean_more rs lists x reports.clean (subst (λ (j : ℕ). j < length lists) (sym from) known) unclosed prefix all;
   }
     where
       unclosed : (j : ℕ) → slice_get rs j ≡ Some (report.Closed (sender_of x)) → ⊥
       unclosed j is =
           let closings : m.closings (f b).receiver ≡ 1 =
-          (told.senders b known).closed j (is ∙ ap (λ z. Some (report.Closed z)) from) in
+          (reports.senders b known).closed j (is ∙ ap (λ z. Some (report.Closed z)) from) in
           omega (arith, open_yet)
 
       prefix : (i : ℕ) → IsPrefixOf (taken (rs ++ x ∷ []) i) (slice_index_or lists i [])
@@ -128,31 +128,31 @@ module _ (m : BlockMeaning) (M : ℕ) (S : Layout) (lists : List (List ℕ)) (f 
                 subst (λ (j : ℕ). IsPrefixOf (taken (rs ++ x ∷ []) j) (slice_index_or lists j [])) (sym same)
                 (prefix_take (slice_index_or lists b []) (taken (rs ++ x ∷ []) b) (m.took n.receiver) new.words)
             | inr other ↦ subst (λ (ys : List ℕ). IsPrefixOf ys (slice_index_or lists i []))
-                (sym (taken_other rs i x (λ same. other (sym same ∙ from)))) (told.clean.in_order i)
+                (sym (taken_other rs i x (λ same. other (sym same ∙ from)))) (reports.clean.in_order i)
           ]
 
   pub said_reports : (said : List Report) (n : Count m)
       → Says m (block_of M S lists b) b (f b).receiver n.receiver said → ReportPart m lists (rs ++ said) (put f b n)
   said_reports said n (inl none) = subst (λ (ys : List Report). ReportPart m lists ys (put f b n)) (sym (ap (λ ys. rs ++ ys) none.0 ∙ append-nil rs)) (record {
-    clean = told.clean;
-    senders = told_put rs n (rw (none.1, none.2) (told.senders b known)) (λ j within other. told.senders j within);
+    clean = reports.clean;
+    senders = reports_put rs n (rw (none.1, none.2) (reports.senders b known)) (λ j within other. reports.senders j within);
   })
   said_reports said n (inr (inl word)) = subst (λ (ys : List Report). ReportPart m lists (rs ++ ys) (put f b n)) (sym word.0)
       (one_said (report.Took b (slice_index (slice_index_or lists b []) (m.took (f b).receiver))) n refl word.4
-      (rw (word.1, word.2) (told_took rs b (slice_index_or lists b []) (m.took (f b).receiver) (m.closings (f b).receiver) word.3 (told.senders b known)))
+      (rw (word.1, word.2) (reports_took rs b (slice_index_or lists b []) (m.took (f b).receiver) (m.closings (f b).receiver) word.3 (reports.senders b known)))
       (λ i is. cc))
   said_reports said n (inr (inr closing)) = subst (λ (ys : List Report). ReportPart m lists (rs ++ ys) (put f b n)) (sym closing.0)
       (one_said (report.Closed b) n refl closing.4
-      (rw (closing.1, closing.2) (told_closed rs b (slice_index_or lists b []) (m.took (f b).receiver) (m.closings (f b).receiver) (told.senders b known)))
+      (rw (closing.1, closing.2) (reports_closed rs b (slice_index_or lists b []) (m.took (f b).receiver) (m.closings (f b).receiver) (reports.senders b known)))
       (λ i is. subst (λ (j : ℕ). taken rs j ≡ slice_index_or lists j []) (ap sender_of is)
-      ((told.senders b known).words ∙ ap (λ c. take c (slice_index_or lists b [])) closing.3
+      ((reports.senders b known).words ∙ ap (λ c. take c (slice_index_or lists b [])) closing.3
       ∙ take-length (slice_index_or lists b []))))
 
 module _ (m : BlockMeaning) (laws : BlockLaws m) (B M : ℕ) (S : Layout) (lists : List (List ℕ))
     (are : (i : ℕ) → i < length lists → IsBlock (block_of M S lists i)) (few : length lists ≤ 63) (t : History)
     (f : ℕ → Count m) (legal : Legal B t) (opens : OpensWithWords t.opening) (written : AllWriteWords t.entries)
     (parts : (i : ℕ) → i < length lists → BlockPart m (block_of M S lists i) M i t (f i))
-    (part : ReceiverPart m M S lists t f) (told : ReportPart m lists (reported 0 t.entries) f) where
+    (part : ReceiverPart m M S lists t f) (reports : ReportPart m lists (reported 0 t.entries) f) where
   pub each_shut : (j : ℕ) → j < length lists → m.closings (f j).receiver ≤ 1
   each_shut j within =
       omega (arith, laws.shut_done (block_of M S lists j) (f j) (parts j within).order, laws.dones_one (block_of M S lists j) (f j) (parts j within).order)
@@ -334,7 +334,7 @@ module _ (m : BlockMeaning) (laws : BlockLaws m) (B M : ℕ) (S : Layout) (lists
         receiver = came r.holds;
         reports = subst (λ (rs : List Report). ReportPart m lists rs (put f part.block n))
             (sym (a.reports ∙ ap (λ w. reported 0 t.entries ++ said_by w) r.wants))
-            (said_reports m M S lists f part.block part.known (reported 0 t.entries) told (said_by r.wanted) n r.says);
+            (said_reports m M S lists f part.block part.known (reported 0 t.entries) reports (said_by r.wanted) n r.says);
       }
 
   pub receiver_acts : (e : Entry) → CanFollow B M t e → hart_of e ≡ 0 → is_land e ≡ false → Received m M S lists (with_entry t e)

@@ -16,7 +16,7 @@ is_closed [] i = false
 is_closed (report.Took j w ∷ rs) i = is_closed rs i
 is_closed (report.Closed j ∷ rs) i = (j == i) || is_closed rs i
 
--- the first so many senders are
+-- the first i senders are
 abbrev pub all_closed : List Report → ℕ → Bool
 all_closed rs zero = true
 all_closed rs (suc i) = is_closed rs i && all_closed rs i

@@ -1,5 +1,5 @@
 -- How far a channel is from its end: what the law of `Finish` speaks of. It serves the proof that a plan
--- ends; what a plan does is told in Plans.
+-- ends; what a plan does is defined in Plans.
 use Rattle.std.specs.Prelude.{ℕ, ◌≡◌, ◌+◌, ◌-◌, ◌*◌, ◌/◌, ◌≤◌, ◌<◌, ◌==◌, true, false, Bool, ◌&&◌, ◌||◌, not}
 use Rattle.std.specs.Prelude.{if◌then◌else◌, List, [], ◌∷◌, length, Option, Some, None, zero, suc, slice_index}
 use Rattle.std.specs.List.{slice_index_or}
@@ -121,7 +121,7 @@ ready_if p word (Some s) = is_running s.status && not (p.waits s word)
 abbrev pub is_ready : Ranking → ℕ → History → ℕ → Bool
 is_ready p M t h = ready_if p (word_in_memory t.opening t.entries) (state_of M t h)
 
--- the last of the first so many senders that is ready, or the receiver
+-- the last of senders 1 to i that is ready, or the receiver
 abbrev pub next_of : (ℕ → Bool) → ℕ → ℕ
 next_of ready zero = 0
 next_of ready (suc i) = if ready (suc i) then suc i else next_of ready i

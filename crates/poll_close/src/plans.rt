@@ -50,7 +50,7 @@ fn is_reported_closed(reports: &[Report], sender: usize) -> bool
     false
 }
 
-/// Whether the first so many senders are reported closed.
+/// Whether the first `senders` senders are reported closed.
 #[tactic(auto, using(crate::proofs::Planning::open_one))]
 fn are_closed(reports: &[Report], senders: usize) -> bool
     ensures { result ≡ all_closed reports.now senders }

@@ -23,30 +23,30 @@ use Rattle.recorder.specs.declared.faults.AtByte.{AtByte}
 use Rattle.recorder.specs.declared.faults.ScheduleFault.TheVariants.{BadOutcome}
 use Rattle.recorder.specs.Schedule.{hart_of}
 use Rattle.recorder.specs.Reading.{at_byte}
-use Rattle.recorder.specs.Outcomes.{Told, stop_of, stopped, outcome_rows, may_have, told_for, TellOutcome, entry_row, outcome_row, outcome_text, IsWidth, Word, Fits, OutcomeFits, CanBeTold, entry_key, outcome_key, is_same_outcome}
+use Rattle.recorder.specs.Outcomes.{HartOutcome, stop_of, stopped, outcome_rows, may_have, event_outcome, SaysOutcome, entry_row, outcome_row, outcome_text, IsWidth, Word, Fits, OutcomeFits, IsOutcomeOf, entry_key, outcome_key, is_same_outcome}
 
 -- no two rows of the table are filled by the same words
 rows_apart : are_apart outcome_rows ≡ true
 rows_apart = refl
 
-pub no_words : (told : Told) → ¬ IsRowOf outcome_rows [] told
-no_words told = rows_settle (at_byte BadOutcome 0) outcome_rows [] rows_apart told
+pub no_words : (found : HartOutcome) → ¬ IsRowOf outcome_rows [] found
+no_words found = rows_settle (at_byte BadOutcome 0) outcome_rows [] rows_apart found
 
-pub outcome_settles : (fault : AtByte) (event : Event) (words : List (List ℕ)) → Settles (TellOutcome event words) (or_fault fault (told_for event (rows_at outcome_rows words)))
-outcome_settles fault event words = of_told (rows_at outcome_rows words) (rows_settle fault outcome_rows words rows_apart)
+pub outcome_settles : (fault : AtByte) (event : Event) (words : List (List ℕ)) → Settles (SaysOutcome event words) (or_fault fault (event_outcome event (rows_at outcome_rows words)))
+outcome_settles fault event words = of_read (rows_at outcome_rows words) (rows_settle fault outcome_rows words rows_apart)
   where
-    of_told : (read : Option Told) → Settles (IsRowOf outcome_rows words) (or_fault fault read) → Settles (TellOutcome event words) (or_fault fault (told_for event read))
-    of_told None settles = λ outcome tells. settles (hart_of event, outcome) tells.0
-    of_told (Some told) settles = by_test ((told.0 == hart_of event) && may_have event told.1) refl
+    of_read : (read : Option HartOutcome) → Settles (IsRowOf outcome_rows words) (or_fault fault read) → Settles (SaysOutcome event words) (or_fault fault (event_outcome event read))
+    of_read None settles = λ outcome tells. settles (hart_of event, outcome) tells.0
+    of_read (Some found) settles = by_test ((found.0 == hart_of event) && may_have event found.1) refl
       where
-        by_test : (b : Bool) → ((told.0 == hart_of event) && may_have event told.1) ≡ b → Settles (TellOutcome event words) (or_fault fault (cond b (Some told.1) None))
+        by_test : (b : Bool) → ((found.0 == hart_of event) && may_have event found.1) ≡ b → Settles (SaysOutcome event words) (or_fault fault (cond b (Some found.1) None))
         by_test true fits =
-            let both = and_parts (told.0 == hart_of event) (may_have event told.1) fits in
-            ((subst (λ (h : ℕ). IsRowOf outcome_rows words (h, told.1)) (eqb-true told.0 (hart_of event) both.0) settles.0, both.1), λ outcome tells. ap (λ (t : Told). t.1) (settles.1 (hart_of event, outcome) tells.0))
+            let both = and_parts (found.0 == hart_of event) (may_have event found.1) fits in
+            ((subst (λ (h : ℕ). IsRowOf outcome_rows words (h, found.1)) (eqb-true found.0 (hart_of event) both.0) settles.0, both.1), λ outcome tells. ap (λ (t : HartOutcome). t.1) (settles.1 (hart_of event, outcome) tells.0))
         by_test false other = λ outcome tells.
             let same = settles.1 (hart_of event, outcome) tells.0 in
-            let hart : (told.0 == hart_of event) ≡ true = eq-eqb told.0 (hart_of event) (sym (ap (λ (t : Told). t.0) same)) in
-            let may : may_have event told.1 ≡ true = subst (λ (o : Outcome). may_have event o ≡ true) (ap (λ (t : Told). t.1) same) tells.1 in
+            let hart : (found.0 == hart_of event) ≡ true = eq-eqb found.0 (hart_of event) (sym (ap (λ (t : HartOutcome). t.0) same)) in
+            let may : may_have event found.1 ≡ true = subst (λ (o : Outcome). may_have event o ≡ true) (ap (λ (t : HartOutcome). t.1) same) tells.1 in
             absurd (let never : true ≡ false = rw (hart, may) at other in cc)
 
 -- ---- what is written is read again
@@ -103,21 +103,21 @@ outcome_says h NothingToLand hart fits = (inr (inr (inr (inr (inr (inr (inr (inr
 outcome_says h Over hart fits = (inr (inr (inr (inr (inr (inr (inr (inr (inr (inr (inr (inr (inr (inr (inr (inr (inr (inr (inr (inl ((refl, (h, small h hart, refl)))))))))))))))))))))), (solid_by_test (codes "over") refl, (solid h hart, tt)))
 outcome_says h NoHart hart fits = (inr (inr (inr (inr (inr (inr (inr (inr (inr (inr (inr (inr (inr (inr (inr (inr (inr (inr (inr (inr (inl ((refl, (h, small h hart, refl))))))))))))))))))))))), (solid_by_test (codes "nohart") refl, (solid h hart, tt)))
 
-pub outcome_read : (event : Event) (words : List (List ℕ)) (outcome : Outcome) → TellOutcome event words outcome ↔ (told_for event (rows_at outcome_rows words) ≡ Some outcome)
-outcome_read event words outcome = go (told_for event (rows_at outcome_rows words)) (outcome_settles (at_byte BadOutcome 0) event words)
+pub outcome_read : (event : Event) (words : List (List ℕ)) (outcome : Outcome) → SaysOutcome event words outcome ↔ (event_outcome event (rows_at outcome_rows words) ≡ Some outcome)
+outcome_read event words outcome = go (event_outcome event (rows_at outcome_rows words)) (outcome_settles (at_byte BadOutcome 0) event words)
   where
-    go : (told : Option Outcome) → Settles (TellOutcome event words) (or_fault (at_byte BadOutcome 0) told) → TellOutcome event words outcome ↔ (told ≡ Some outcome)
+    go : (found : Option Outcome) → Settles (SaysOutcome event words) (or_fault (at_byte BadOutcome 0) found) → SaysOutcome event words outcome ↔ (found ≡ Some outcome)
     go None settles = (λ tells. absurd (settles outcome tells), λ e. absurd cc)
-    go (Some x) settles = (λ tells. ap (λ (o : Outcome). some o) (sym (settles.1 outcome tells)), λ e. subst (TellOutcome event words) (some_is x outcome e) settles.0)
+    go (Some x) settles = (λ tells. ap (λ (o : Outcome). some o) (sym (settles.1 outcome tells)), λ e. subst (SaysOutcome event words) (some_is x outcome e) settles.0)
 
-pub outcome_again : (event : Event) (outcome : Outcome) → hart_of event < 64 → CanBeTold event outcome → TellOutcome event (tokens (outcome_text (hart_of event) outcome)) outcome
+pub outcome_again : (event : Event) (outcome : Outcome) → hart_of event < 64 → IsOutcomeOf event outcome → SaysOutcome event (tokens (outcome_text (hart_of event) outcome)) outcome
 outcome_again event outcome hart can =
     let said = outcome_says (hart_of event) outcome (omega (arith, hart)) can.0 in
     (subst (λ (words : List (List ℕ)). IsRowOf outcome_rows words (hart_of event, outcome)) (sym (row_again (outcome_row (hart_of event) outcome) said.1)) said.0, can.1)
 
 -- words are read by how many they are, and by the first
-pub told_chain : (name : List ℕ) (words : List (List ℕ)) → rows_at outcome_rows (name ∷ words) ≡ chain_at (of_length (suc (length words)) outcome_rows) name words
-told_chain name words = rows_of_length outcome_rows (name ∷ words) ∙ rows_by_name (of_length (suc (length words)) outcome_rows) name words
+pub outcome_chain : (name : List ℕ) (words : List (List ℕ)) → rows_at outcome_rows (name ∷ words) ≡ chain_at (of_length (suc (length words)) outcome_rows) name words
+outcome_chain name words = rows_of_length outcome_rows (name ∷ words) ∙ rows_by_name (of_length (suc (length words)) outcome_rows) name words
 
 pub end_is_no_number : (word : List ℕ) → bytes_eq word (codes "end") ≡ true → word_of word ≡ None
 unfolding word_of

@@ -59,10 +59,10 @@ entry_line e = row_text (entry_row e) ++ 10 ∷ []
 -- ---- which words say an outcome
 
 -- a hart, and what an event of it was answered
-abbrev pub Told : Type 0
-Told = ℕ × Outcome
+abbrev pub HartOutcome : Type 0
+HartOutcome = ℕ × Outcome
 
-abbrev pub did : ℕ → Entry → Option Told
+abbrev pub did : ℕ → Entry → Option HartOutcome
 did h e = Some (h, Did e)
 
 -- the stop of a number, 8 to 15
@@ -77,11 +77,11 @@ stop_of n =
     (if n == 14 then Some stop.UnknownCall else
     (if n == 15 then Some stop.Break else None)))))))
 
-abbrev pub stopped : ℕ → Option Stop → Option Told
+abbrev pub stopped : ℕ → Option Stop → Option HartOutcome
 stopped h None = None
 stopped h (Some why) = did h (entry.Stopped h why)
 
-abbrev pub outcome_rows : List (Row Told)
+abbrev pub outcome_rows : List (Row HartOutcome)
 outcome_rows =
     record { places = fixed (codes "inner") ∷ any ∷ []; makes = λ h. did h (entry.Inner h) }
     ∷ record { places = fixed (codes "load") ∷ any ∷ any ∷ any ∷ []; makes = λ h a v. did h (entry.Load h a 4 v) }
@@ -123,12 +123,12 @@ may_have (Land h) Over = true
 may_have (Land h) NoHart = true
 
 -- The words say an outcome that the event can have.
-abbrev pub TellOutcome : Event → List (List ℕ) → Outcome → Type 0
-TellOutcome event words outcome = IsRowOf outcome_rows words (hart_of event, outcome) × (may_have event outcome ≡ true)
+abbrev pub SaysOutcome : Event → List (List ℕ) → Outcome → Type 0
+SaysOutcome event words outcome = IsRowOf outcome_rows words (hart_of event, outcome) × (may_have event outcome ≡ true)
 
-abbrev pub told_for : Event → Option Told → Option Outcome
-told_for event None = None
-told_for event (Some told) = if (told.0 == hart_of event) && may_have event told.1 then Some told.1 else None
+abbrev pub event_outcome : Event → Option HartOutcome → Option Outcome
+event_outcome event None = None
+event_outcome event (Some found) = if (found.0 == hart_of event) && may_have event found.1 then Some found.1 else None
 
 -- ---- what can be written
 
@@ -158,8 +158,8 @@ OutcomeFits h (Did e) = Fits h e
 OutcomeFits h outcome = Unit {0}
 
 -- an outcome whose text is read again for the event
-abbrev pub CanBeTold : Event → Outcome → Type 0
-CanBeTold event outcome = OutcomeFits (hart_of event) outcome × (may_have event outcome ≡ true)
+abbrev pub IsOutcomeOf : Event → Outcome → Type 0
+IsOutcomeOf event outcome = OutcomeFits (hart_of event) outcome × (may_have event outcome ≡ true)
 
 -- ---- equal outcomes
 

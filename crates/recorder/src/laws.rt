@@ -12,7 +12,7 @@ ghost use Rattle.step_machine.specs.History.{Start, History};
 ghost use Rattle.step_machine.specs.Runs.{Run};
 ghost use Rattle.recorder.specs.Replaying.{IsRunRecord, DiffersAt};
 ghost use Rattle.recorder.specs.Writing.{is_same, tokens_of};
-ghost use Rattle.recorder.specs.Outcomes.{outcome_rows, outcome_text, told_for, TellOutcome, CanBeTold};
+ghost use Rattle.recorder.specs.Outcomes.{outcome_rows, outcome_text, event_outcome, SaysOutcome, IsOutcomeOf};
 ghost use Rattle.recorder.specs.Records.{Step, events_in, IsRecordOf, record_at};
 ghost use Rattle.recorder.specs.Versions.{Said, Says, said_at};
 ghost use Rattle.recorder.specs.declared.reading.TheConstants.{MAX_EVENTS};
@@ -55,8 +55,8 @@ pub fn tokens_are_read_again()
 /// 4 and of words, says this outcome; words are read as an outcome exactly where they say it. It does
 /// nothing.
 pub fn outcomes_are_read_again()
-    ensures again { (event : Event) (outcome : Outcome) → hart_of event < MAX_HARTS → CanBeTold event outcome → TellOutcome event (tokens (outcome_text (hart_of event) outcome)) outcome }
-    ensures read { (event : Event) (words : List (List ℕ)) (outcome : Outcome) → TellOutcome event words outcome ↔ (told_for event (rows_at outcome_rows words) ≡ Some outcome) }
+    ensures again { (event : Event) (outcome : Outcome) → hart_of event < MAX_HARTS → IsOutcomeOf event outcome → SaysOutcome event (tokens (outcome_text (hart_of event) outcome)) outcome }
+    ensures read { (event : Event) (words : List (List ℕ)) (outcome : Outcome) → SaysOutcome event words outcome ↔ (event_outcome event (rows_at outcome_rows words) ≡ Some outcome) }
 {}
 
 /// A record of a run is the run of its events, and no check of it finds another outcome. It does nothing.

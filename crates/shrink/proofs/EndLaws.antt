@@ -1,4 +1,4 @@
--- How a list of events ends is told by the run that it has.
+-- How a list of events ends depends on its run alone.
 use Rattle.std.proofs.Common.{◌≡◌, ◌↔◌, ◌<◌, ℕ, Bool, IsTrue, List, length, sym, ap, subst, ◌∙◌}
 use Rattle.std.specs.Prelude.{map}
 use Rattle.step_machine.specs.declared.events.Event.{Event}
@@ -26,9 +26,9 @@ pub ends_by_values : (B M : ℕ) (q : LitmusTest) (o : Start) (events : List Eve
     → ((u : History) → Run B M o events t → Run B M o events u → t ≡ u) → IsFinished M t
     → values ≡ map (final_value M t) (left_sides q.condition) → (IsTrue b ↔ (values ≡ last))
     → IsTrue b ↔ EndsWith B M q events last
-ends_by_values B M q o events t last values b same run one finished are told = (
-  (λ yes. run_ends B M q o events t last same run finished (sym (told.0 yes) ∙ are)),
-  (λ ends. told.1 (are ∙ ap (λ (u : History). map (final_value M u) (left_sides q.condition))
+ends_by_values B M q o events t last values b same run one finished are agree = (
+  (λ yes. run_ends B M q o events t last same run finished (sym (agree.0 yes) ∙ are)),
+  (λ ends. agree.1 (are ∙ ap (λ (u : History). map (final_value M u) (left_sides q.condition))
       (one ends.history run (subst (λ (p : Start). Run B M p events ends.history) (sym same) ends.run)) ∙ ends.values)),
 )
 

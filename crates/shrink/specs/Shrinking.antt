@@ -21,7 +21,7 @@ pub record EndsWith (B M : ℕ) (q : LitmusTest) (events : List Event) (last : L
   pub finished : IsFinished M history
   pub values : map (final_value M history) (left_sides q.condition) ≡ last
 
--- the events without so many of them, from this place on
+-- the events without `count` of them, from this place on
 abbrev pub without : (from count : ℕ) → List Event → List Event
 without from count events = take from events ++ drop (from + count) events
 

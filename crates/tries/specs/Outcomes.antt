@@ -54,7 +54,7 @@ pub record AreOutcomes (trials : List Trial) (outcomes : List (List ℕ)) : Type
   pub ascending : IsStrictlySortedBy (slice_cmp nat_cmp) outcomes
   pub all : (outcome : List ℕ) → Contains outcomes outcome ↔ IsTrue (list_any (gave outcome) trials)
 
--- the text of so many runs of a test, over store buffers of B pairs and a memory of M words, and
+-- the text of this number of runs of a test, over store buffers of B pairs and a memory of M words, and
 -- whether they show what the test asks
 pub record IsTried (B M : ℕ) (stream : Stream) (runs size : ℕ) (test : LitmusTest) (answer : List ℕ × Bool) : Type 0 where
   pub trials : List Trial

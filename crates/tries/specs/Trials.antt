@@ -27,12 +27,12 @@ pub record IsTrial (B M : ℕ) (test : LitmusTest) (trial : Trial) : Type 0 wher
   pub judged : IsVerdict M test history trial.verdict
   pub read : trial.values ≡ map (final_value M history) (left_sides test.condition)
 
--- The schedule of this number, from 0. Each has so many events and takes so many words of the
--- generator's stream, behind those of the schedules before it.
+-- The schedule of this number, from 0. Each has `size` events and takes `size` words of the
+-- generator's stream, after those of the schedules before it.
 abbrev pub schedule_drawn : (harts size : ℕ) → Stream → (number : ℕ) → List Event
 schedule_drawn harts size stream number = map (drawn harts) (words size (left_after (number * size) stream))
 
--- so many runs, from the schedules that the generator's stream draws one after the other
+-- this number of runs, from the schedules that the generator's stream draws one after the other
 pub record AreTrials (B M : ℕ) (test : LitmusTest) (stream : Stream) (runs size : ℕ) (trials : List Trial) : Type 0 where
   pub schedules : map (λ t. t.events) trials ≡ map (schedule_drawn (length test.opening.harts) size stream) (range_with_len 0 runs)
   pub ran : All (IsTrial B M test) trials

@@ -86,6 +86,6 @@ one_chart B M draws file schedule =
   where
     one : (q : LitmusTest) (said : Said) (a b : Result Output Refusal) → Headed (IsChart B M draws) file q said a
         → Headed (IsChart B M draws) file q said b → AreOneAnswer a b
-    one q said a b (heading, is, tells) (other, also, told) =
+    one q said a b (heading, is, tells) (other, also, holds) =
         one_answer B M draws heading q said a b tells
-        (subst (λ (h : HeadingOf). IsChart B M draws h q said b) (one_heading file other heading also is) told)
+        (subst (λ (h : HeadingOf). IsChart B M draws h q said b) (one_heading file other heading also is) holds)

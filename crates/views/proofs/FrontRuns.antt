@@ -45,10 +45,10 @@ module _ (B M : ℕ) (o : Start) (es : List Entry) (kept : WellFormed B M (histo
         → map string_bytes texts ≡ map (instruction_at M (history_of o es)) (range_with_len 0 i)
         → string_bytes text ≡ instruction_of M t (get_or es i d)
         → map string_bytes more ≡ map (instruction_at M (history_of o es)) (range_with_len 0 (i + 1))
-    text_more texts more text is before told =
+    text_more texts more text is before holds =
         let front : History = history_of o (take i es) in
         let next : string_bytes text ≡ instruction_at M (history_of o es) i =
-        told ∙ ap (λ (u : History). instruction_of M u (get_or es i d)) here
+        holds ∙ ap (λ (u : History). instruction_of M u (get_or es i d)) here
         ∙ sym (ap (λ (e : Option Entry). instruction_after M front e) (slice_get-get_or es i d within)) in
         ap (map string_bytes) is ∙ map-append string_bytes texts (text ∷ [])
         ∙ ap₂ (λ (xs : List (List ℕ)) (x : List ℕ). xs ++ x ∷ []) before next

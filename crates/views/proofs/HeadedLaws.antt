@@ -42,27 +42,27 @@ module _ (known : Option (List ℕ)) where
   no_heading view ReadFailed finds = tt
   no_heading view WriteFailed finds = finds
 
-  module _ (question : LitmusTest) (heading : HeadingOf)
-      (read : OfInput known (λ bytes. IsReadAsHeaded bytes (Ok (question, heading)))) where
-    pub test_read : OfInput known (λ bytes. IsReadAsTest bytes (Ok question))
+  module _ (test : LitmusTest) (heading : HeadingOf)
+      (read : OfInput known (λ bytes. IsReadAsHeaded bytes (Ok (test, heading)))) where
+    pub test_read : OfInput known (λ bytes. IsReadAsTest bytes (Ok test))
     test_read = weaker known _ _ (λ bytes is. is.0) read
 
     -- a test that was read has a word for each of its locations
-    pub words_named : length question.opening.words ≡ length question.names
+    pub words_named : length test.opening.words ≡ length test.names
     unfolding IsTestOf
     words_named = let text = some_bytes known _ read in text.1.0.value_is.0.first_words.count
 
 -- nothing answers what is read
 abbrev pub Nothing : {A : Type 0} → LitmusTest → Said → Result A Refusal → Type 0
-Nothing question said answer = ⊥
+Nothing test said answer = ⊥
 
 module _ {A : Type 0} (IsAnswer : HeadingOf → LitmusTest → Said → Result A Refusal → Type 0) where
   -- so what then answers both was refused before
   unread_as : (file schedule : List ℕ) (answer : Result A Refusal) → BySchedule Nothing file schedule answer
       → ByHeading IsAnswer file schedule answer
   unread_as file schedule answer (no_test r bad) = no_test r bad
-  unread_as file schedule answer (no_schedule q r test bad) = no_schedule q r test bad
-  unread_as file schedule answer (both q said a test read told) = absurd told
+  unread_as file schedule answer (no_schedule q r is_test bad) = no_schedule q r is_test bad
+  unread_as file schedule answer (both q said a is_test read holds) = absurd holds
 
   module _ (first second : Option (List ℕ)) {X : Type 0} (seen : X → A) where
     refused_as : (answer : Result A Refusal) → AnswersBoth (BySchedule Nothing) first second answer
@@ -79,16 +79,16 @@ module _ {A : Type 0} (IsAnswer : HeadingOf → LitmusTest → Said → Result A
     unread (Err WriteFailed) finds = finds
 
     -- both were read
-    module _ (question : LitmusTest) (heading : HeadingOf) (said : Said)
-        (test : OfInput first (λ bytes. IsReadAsHeaded bytes (Ok (question, heading))))
+    module _ (test : LitmusTest) (heading : HeadingOf) (said : Said)
+        (is_test : OfInput first (λ bytes. IsReadAsHeaded bytes (Ok (test, heading))))
         (schedule : OfInput second (λ bytes. IsReadAsSchedule bytes (Ok said))) where
-      both_read : (answer : Result A Refusal) → IsAnswer heading question said answer
+      both_read : (answer : Result A Refusal) → IsAnswer heading test said answer
           → AnswersBoth (ByHeading IsAnswer) first second answer
-      both_read answer told =
+      both_read answer holds =
           weaker first _ _ (λ file is. weaker second _ _
-          (λ text says. both question said answer is.0 says (heading, is.1, told)) schedule) test
+          (λ text says. both test said answer is.0 says (heading, is.1, holds)) schedule) is_test
 
-      pub made_of_both : (made : Result X Fault) → AnswersAs (IsAnswer heading question said) seen made
+      pub made_of_both : (made : Result X Fault) → AnswersAs (IsAnswer heading test said) seen made
           → Finds (AnswersBoth (ByHeading IsAnswer) first second) seen made
       made_of_both (Ok x) answers = both_read (Ok (seen x)) answers
       made_of_both (Err (Refused r)) answers = both_read (Err r) answers

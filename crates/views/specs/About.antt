@@ -80,15 +80,15 @@ verdict_text Unfinished = codes "Unfinished"
 
 -- what is known of a test with this heading after a history, on which this is the verdict
 abbrev pub about_of : (M : ℕ) → LitmusTest → HeadingOf → History → Verdict → AboutOf
-about_of M question heading t verdict = record {
+about_of M test heading t verdict = record {
   name = map shown heading.name;
   harts = length t.opening.harts;
-  names = question.names;
+  names = test.names;
   instructions = instructions_of M t;
-  values = map (last_value M question.names t) (left_sides question.condition);
+  values = map (last_value M test.names t) (left_sides test.condition);
   verdict = verdict_text verdict;
   condition = map shown heading.condition;
 }
 
 abbrev pub IsAbout : (M : ℕ) → LitmusTest → HeadingOf → History → AboutOf → Type 0
-IsAbout M question heading t about = (verdict : Verdict) × IsVerdict M question t verdict × (about ≡ about_of M question heading t verdict)
+IsAbout M test heading t about = (verdict : Verdict) × IsVerdict M test t verdict × (about ≡ about_of M test heading t verdict)

@@ -25,28 +25,28 @@ drawing Text = chart_text
 drawing Svg = chart_svg
 
 -- the output is the picture of the schedule's run, which has at most MAX_ROWS entries
-pub record IsChartOf (B M : ℕ) (draws : Drawing) (heading : HeadingOf) (question : LitmusTest) (said : Said) (answer : Output) : Type 0 where
+pub record IsChartOf (B M : ℕ) (draws : Drawing) (heading : HeadingOf) (test : LitmusTest) (said : Said) (answer : Output) : Type 0 where
   pub history : History
-  pub ran : Runs B M question.opening said (Ok history)
+  pub ran : Runs B M test.opening said (Ok history)
   pub few : length history.entries ≤ MAX_ROWS
   pub about : AboutOf
-  pub is_about : IsAbout M question heading history about
+  pub is_about : IsAbout M test heading history about
   pub drawn : answer.0 ≡ draws about history.entries
 
 -- Why a run isn't drawn: a record differs from it, or it has too many entries.
-pub data IsNotCharted (B M : ℕ) (question : LitmusTest) (said : Said) : Refusal → Type 0 where
-  differs : (refusal : Refusal) → Runs B M question.opening said (Err refusal) → IsNotCharted B M question said refusal
-  too_long : (history : History) → Runs B M question.opening said (Ok history) → MAX_ROWS < length history.entries
-      → IsNotCharted B M question said too_large
+pub data IsNotCharted (B M : ℕ) (test : LitmusTest) (said : Said) : Refusal → Type 0 where
+  differs : (refusal : Refusal) → Runs B M test.opening said (Err refusal) → IsNotCharted B M test said refusal
+  too_long : (history : History) → Runs B M test.opening said (Ok history) → MAX_ROWS < length history.entries
+      → IsNotCharted B M test said too_large
 
 -- what answers a test with this heading and what a schedule says
 abbrev pub IsChart : (B M : ℕ) → Drawing → HeadingOf → LitmusTest → Said → Result Output Refusal → Type 0
-IsChart B M draws heading question said (Ok answer) = IsChartOf B M draws heading question said answer
-IsChart B M draws heading question said (Err refusal) = IsNotCharted B M question said refusal
+IsChart B M draws heading test said (Ok answer) = IsChartOf B M draws heading test said answer
+IsChart B M draws heading test said (Err refusal) = IsNotCharted B M test said refusal
 
 -- this holds of a text's heading, beside other things
 abbrev pub Headed : {A : Type 0} → (HeadingOf → LitmusTest → Said → A → Type 0) → (file : List ℕ) → LitmusTest → Said → A → Type 0
-Headed IsAnswer file question said answer = (heading : HeadingOf) × IsHeading file heading × IsAnswer heading question said answer
+Headed IsAnswer file test said answer = (heading : HeadingOf) × IsHeading file heading × IsAnswer heading test said answer
 
 -- what answers a litmus text and a schedule, where this holds of the text's heading, its test, what the schedule says and
 -- the answer

@@ -27,24 +27,24 @@ fault_of_shrink error.NotFinished = Refused not_finished
 
 -- The output is the canonical text of a part of the schedule's events, which ends as they do and from
 -- which no single event can be left out. Of a record each outcome is the run's.
-pub record IsShrinkOf (B M : ℕ) (question : LitmusTest) (said : Said) (answer : Output) : Type 0 where
+pub record IsShrinkOf (B M : ℕ) (test : LitmusTest) (said : Said) (answer : Output) : Type 0 where
   pub history : History
-  pub ran : Runs B M question.opening said (Ok history)
+  pub ran : Runs B M test.opening said (Ok history)
   pub events : List Event
-  pub shrunk : IsShrunk B M question (events_said said) events
+  pub shrunk : IsShrunk B M test (events_said said) events
   pub written : answer.0 ≡ canon events
 
 -- Why a schedule isn't shrunk: a record differs from its run, or at the end of the run a hart hasn't ended
 -- or a store is pending.
-pub data IsNotShrunk (B M : ℕ) (question : LitmusTest) (said : Said) : Refusal → Type 0 where
-  differs : (refusal : Refusal) → Runs B M question.opening said (Err refusal) → IsNotShrunk B M question said refusal
-  unfinished : (history : History) → Runs B M question.opening said (Ok history) → (IsFinished M history → ⊥)
-      → IsNotShrunk B M question said not_finished
+pub data IsNotShrunk (B M : ℕ) (test : LitmusTest) (said : Said) : Refusal → Type 0 where
+  differs : (refusal : Refusal) → Runs B M test.opening said (Err refusal) → IsNotShrunk B M test said refusal
+  unfinished : (history : History) → Runs B M test.opening said (Ok history) → (IsFinished M history → ⊥)
+      → IsNotShrunk B M test said not_finished
 
 -- what answers a test and what a schedule says
 abbrev pub IsShrink : (B M : ℕ) → LitmusTest → Said → Result Output Refusal → Type 0
-IsShrink B M question said (Ok answer) = IsShrinkOf B M question said answer
-IsShrink B M question said (Err refusal) = IsNotShrunk B M question said refusal
+IsShrink B M test said (Ok answer) = IsShrinkOf B M test said answer
+IsShrink B M test said (Err refusal) = IsNotShrunk B M test said refusal
 
 -- what answers a litmus text and a schedule
 abbrev pub IsShrinkAnswer : (B M : ℕ) → (file schedule : List ℕ) → Result Output Refusal → Type 0

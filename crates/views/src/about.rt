@@ -101,7 +101,7 @@ fn instructions<const B: usize, const M: usize>(
     Ok(texts)
 }
 
-/// The names of a test's locations, of which there are so many.
+/// The names of a test's locations; `count` is how many.
 fn names_of(alloc: Global, test: &Test, count: usize) -> Result<Vec<String>, AllocError>
     requires all { count ≡ length test.now.names }
     requires few { count ≤ 65536 }

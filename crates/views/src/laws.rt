@@ -13,7 +13,7 @@ ghost use Rattle.views.specs.Shrink.{AreOfOneKind, IsShrink, IsShrinkAnswer};
 /// is written, isn't said. Of a test and a schedule that are read the refusal is one with its place; of a
 /// refused litmus text it isn't said on which line its first fault stands. It does nothing.
 pub fn shrinks_alike()
-    ensures run { (B M : ℕ) (question : LitmusTest) (said : Said) (a b : Result Output Refusal) → IsShrink B M question said a → IsShrink B M question said b → AreAlike a b }
+    ensures run { (B M : ℕ) (test : LitmusTest) (said : Said) (a b : Result Output Refusal) → IsShrink B M test said a → IsShrink B M test said b → AreAlike a b }
     ensures inputs { (B M : ℕ) (file schedule : List ℕ) (a b : Result Output Refusal) → IsShrinkAnswer B M file schedule a → IsShrinkAnswer B M file schedule b → AreOfOneKind a b }
 {}
 

@@ -76,60 +76,60 @@ AreWritten all (g ∷ gs) [] = ⊥
 AreWritten all (g ∷ gs) (p ∷ ps) = ((a : ℕ) → written_at all a g ≡ byte_in p a) × AreWritten all gs ps
 
 pub AreWritten-length : (all : List Entry) (gs : List ℕ) (ps : List Write) → AreWritten all gs ps → length gs ≡ length ps
-AreWritten-length all [] [] told = refl
-AreWritten-length all [] (p ∷ ps) told = absurd told
-AreWritten-length all (g ∷ gs) [] told = absurd told
-AreWritten-length all (g ∷ gs) (p ∷ ps) told = ap suc (AreWritten-length all gs ps told.1)
+AreWritten-length all [] [] written = refl
+AreWritten-length all [] (p ∷ ps) written = absurd written
+AreWritten-length all (g ∷ gs) [] written = absurd written
+AreWritten-length all (g ∷ gs) (p ∷ ps) written = ap suc (AreWritten-length all gs ps written.1)
 
 pub AreWritten-drop : (all : List Entry) (n : ℕ) (gs : List ℕ) (ps : List Write) → AreWritten all gs ps → AreWritten all (drop n gs) (drop n ps)
-AreWritten-drop all zero gs ps told = told
-AreWritten-drop all (suc n) [] [] told = told
-AreWritten-drop all (suc n) [] (p ∷ ps) told = absurd told
-AreWritten-drop all (suc n) (g ∷ gs) [] told = absurd told
-AreWritten-drop all (suc n) (g ∷ gs) (p ∷ ps) told = AreWritten-drop all n gs ps told.1
+AreWritten-drop all zero gs ps written = written
+AreWritten-drop all (suc n) [] [] written = written
+AreWritten-drop all (suc n) [] (p ∷ ps) written = absurd written
+AreWritten-drop all (suc n) (g ∷ gs) [] written = absurd written
+AreWritten-drop all (suc n) (g ∷ gs) (p ∷ ps) written = AreWritten-drop all n gs ps written.1
 
-told_by : (all us : List Entry) (e : Entry) (ws : List Entry) (h : ℕ) (rest : List Entry) → all ≡ us ++ e ∷ ws → (gs : List ℕ) → AreWritten all gs (stores h rest) → AreWritten all (place_of (is_store_of h) (length us) e ++ gs) (store_of h e ++ stores h rest)
-told_by all us e ws h rest split gs told = at e split
+written_before : (all us : List Entry) (e : Entry) (ws : List Entry) (h : ℕ) (rest : List Entry) → all ≡ us ++ e ∷ ws → (gs : List ℕ) → AreWritten all gs (stores h rest) → AreWritten all (place_of (is_store_of h) (length us) e ++ gs) (store_of h e ++ stores h rest)
+written_before all us e ws h rest split gs written = at e split
   where
     at : (d : Entry) → all ≡ us ++ d ∷ ws → AreWritten all (place_of (is_store_of h) (length us) d ++ gs) (store_of h d ++ stores h rest)
-    at (entry.Inner g) here = told
-    at (entry.Load g a width v) here = told
+    at (entry.Inner g) here = written
+    at (entry.Load g a width v) here = written
     at (entry.Store g a width v) here = mine (g == h)
       where
         writes : (b : ℕ) → written_at all b (length us) ≡ byte_in (write a width v) b
         writes b = ap (λ zs. written_at zs b (length us)) here ∙ ap (option_and_then (written_to b)) (entry_here us (entry.Store g a width v) ws)
 
         mine : (b : Bool) → AreWritten all ((if b then length us ∷ [] else []) ++ gs) ((if b then write a width v ∷ [] else []) ++ stores h rest)
-        mine true = (writes, told)
-        mine false = told
-    at (entry.Amo g a old new) here = told
-    at (entry.Fence g full) here = told
-    at (entry.Next g w) here = told
-    at (entry.Took g i w) here = told
-    at (entry.Closed g i) here = told
-    at (entry.Ended g) here = told
-    at (entry.Stopped g why) here = told
-    at (entry.Land g) here = told
+        mine true = (writes, written)
+        mine false = written
+    at (entry.Amo g a old new) here = written
+    at (entry.Fence g full) here = written
+    at (entry.Next g w) here = written
+    at (entry.Took g i w) here = written
+    at (entry.Closed g i) here = written
+    at (entry.Ended g) here = written
+    at (entry.Stopped g why) here = written
+    at (entry.Land g) here = written
 
-pub told_stores : (all us es ws : List Entry) (h : ℕ) → all ≡ us ++ (es ++ ws) → AreWritten all (places_of (is_store_of h) (length us) es) (stores h es)
-told_stores all us [] ws h split = tt
-told_stores all us (e ∷ es) ws h split =
+pub written_stores : (all us es ws : List Entry) (h : ℕ) → all ≡ us ++ (es ++ ws) → AreWritten all (places_of (is_store_of h) (length us) es) (stores h es)
+written_stores all us [] ws h split = tt
+written_stores all us (e ∷ es) ws h split =
     let len : length (us ++ e ∷ []) ≡ suc (length us) = omega (arith, length-append us (e ∷ [])) in
     let rest : AreWritten all (places_of (is_store_of h) (suc (length us)) es) (stores h es)
-    = subst (λ (n : ℕ). AreWritten all (places_of (is_store_of h) n es) (stores h es)) len (told_stores all (us ++ e ∷ []) es ws h (split ∙ sym (append_assoc us (e ∷ []) (es ++ ws)))) in
+    = subst (λ (n : ℕ). AreWritten all (places_of (is_store_of h) n es) (stores h es)) len (written_stores all (us ++ e ∷ []) es ws h (split ∙ sym (append_assoc us (e ∷ []) (es ++ ws)))) in
     subst (λ (zs : List ℕ). AreWritten all zs (store_of h e ++ stores h es)) (sym (places_of-cons (is_store_of h) (length us) e es))
-    (told_by all us e (es ++ ws) h es split (places_of (is_store_of h) (suc (length us)) es) rest)
+    (written_before all us e (es ++ ws) h es split (places_of (is_store_of h) (suc (length us)) es) rest)
 
 -- the front of a legal trace
 
-pub front_told : (es us ws : List Entry) (h : ℕ) → es ≡ us ++ ws → AreWritten es (store_places h us) (stores h us)
-front_told es us ws h split = told_stores es [] us ws h split
+pub front_written : (es us ws : List Entry) (h : ℕ) → es ≡ us ++ ws → AreWritten es (store_places h us) (stores h us)
+front_written es us ws h split = written_stores es [] us ws h split
 
 pub front_balanced : (B : ℕ) (o : Start) (es us ws : List Entry) (h : ℕ) → LegalAfter B o [] es → es ≡ us ++ ws → lands h us ≤ length (store_places h us)
 front_balanced B o es us ws h legal split =
     let front : LegalAfter B o [] us = LegalAfter-front B o [] us ws (subst (λ (zs : List Entry). LegalAfter B o [] zs) split legal) in
     let le : lands h us ≤ length (stores h us) = balanced-after B o [] us h front (omega arith) in
-    let same : length (store_places h us) ≡ length (stores h us) = AreWritten-length es (store_places h us) (stores h us) (front_told es us ws h split) in
+    let same : length (store_places h us) ≡ length (stores h us) = AreWritten-length es (store_places h us) (stores h us) (front_written es us ws h split) in
     omega arith
 
 pub front_stores : (es us ws : List Entry) (h : ℕ) → es ≡ us ++ ws → store_places h es ≡ store_places h us ++ places_of (is_store_of h) (length us) ws
@@ -146,7 +146,7 @@ front_allows B o es us e ws legal split = (LegalAfter-back B o [] us (e ∷ ws) 
 -- where nothing is pending of a hart, its stores have been performed
 pub store_performed : (B : ℕ) (o : Start) (es us ws : List Entry) (h p : ℕ) → LegalAfter B o [] es → es ≡ us ++ ws → pending h us ≡ [] → stores_at es h p ≡ true → p < length us → is_named p (performed_after es [] us) ≡ true
 store_performed B o es us ws h p legal split none own lt =
-    let same : length (store_places h us) ≡ length (stores h us) = AreWritten-length es (store_places h us) (stores h us) (front_told es us ws h split) in
+    let same : length (store_places h us) ≡ length (stores h us) = AreWritten-length es (store_places h us) (stores h us) (front_written es us ws h split) in
     let left : length (drop (lands h us) (stores h us)) ≡ 0 = ap length none in
     let all_landed : length (store_places h us) ≤ lands h us = omega (arith, length-drop (lands h us) (stores h us)) in
     store_in_front es us ws h p split own

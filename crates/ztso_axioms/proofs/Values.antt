@@ -24,7 +24,7 @@ use Rattle.ztso_axioms.proofs.Listing.{times-append, times-none, times-some, nam
 use Rattle.ztso_axioms.proofs.Checked.{once_of, last_written-append}
 use Rattle.ztso_axioms.proofs.Members.{Each, Each-drop, Each-places, filter-every, filter-none, filter-same, filter-both, times-low, or_true}
 use Rattle.ztso_axioms.proofs.Performs.{is_reader, stores_at, reads_at, entry_here, stores_performed, order-stores, order-operations}
-use Rattle.ztso_axioms.proofs.Fronts.{split_entry, at_past, order-front, AreWritten, AreWritten-length, AreWritten-drop, front_told, front_balanced, front_stores, front_allows}
+use Rattle.ztso_axioms.proofs.Fronts.{split_entry, at_past, order-front, AreWritten, AreWritten-length, AreWritten-drop, front_written, front_balanced, front_stores, front_allows}
 use Rattle.ztso_axioms.proofs.Ordered.{performed_order, kind_at, order-once, order-program, read_performed, read_not_yet}
 use Rattle.memory.specs.declared.writes.Write.{Write}
 use Rattle.std.proofs.Math.Nat.{pow-le-pow_right}
@@ -36,25 +36,25 @@ chosen : (b : Bool) (v w : ℕ) (found : Option ℕ) → unwrap_or (if b then So
 chosen true v w found = refl
 chosen false v w found = refl
 
-told_values : (all : List Entry) (a w : ℕ) (found : Option ℕ) (gs : List ℕ) (ps : List Write) → AreWritten all gs ps → last_written all a (unwrap_or found w) gs ≡ unwrap_or (newest_of a found ps) w
-told_values all a w found [] [] told = refl
-told_values all a w found [] (p ∷ ps) told = absurd told
-told_values all a w found (g ∷ gs) [] told = absurd told
-told_values all a w found (g ∷ gs) (p ∷ ps) told =
-    ap (λ so. last_written all a (unwrap_or so (unwrap_or found w)) gs) (told.0 a)
+written_values : (all : List Entry) (a w : ℕ) (found : Option ℕ) (gs : List ℕ) (ps : List Write) → AreWritten all gs ps → last_written all a (unwrap_or found w) gs ≡ unwrap_or (newest_of a found ps) w
+written_values all a w found [] [] written = refl
+written_values all a w found [] (p ∷ ps) written = absurd written
+written_values all a w found (g ∷ gs) [] written = absurd written
+written_values all a w found (g ∷ gs) (p ∷ ps) written =
+    ap (λ so. last_written all a (unwrap_or so (unwrap_or found w)) gs) (written.0 a)
     ∙ ap (λ x. last_written all a x gs) (chosen (covers p a) (byte_at (a - p.addr) p.value) w found)
-    ∙ told_values all a w (if covers p a then Some (byte_at (a - p.addr) p.value) else found) gs ps told.1
+    ∙ written_values all a w (if covers p a then Some (byte_at (a - p.addr) p.value) else found) gs ps written.1
 
 first_of : (xs ys : List ℕ) (k : ℕ) → k < length xs → option_to_list (slice_get (xs ++ ys) k) ≡ take 1 (drop k xs)
 first_of [] ys k lt = absurd (omega arith)
 first_of (x ∷ xs) ys zero lt = refl
 first_of (x ∷ xs) ys (suc k) lt = first_of xs ys k (omega arith)
 
-told_first : (all : List Entry) (gs : List ℕ) (ps : List Write) → AreWritten all gs ps → AreWritten all (take 1 gs) (take 1 ps)
-told_first all [] [] told = tt
-told_first all [] (p ∷ ps) told = absurd told
-told_first all (g ∷ gs) [] told = absurd told
-told_first all (g ∷ gs) (p ∷ ps) told = (told.0, tt)
+written_first : (all : List Entry) (gs : List ℕ) (ps : List Write) → AreWritten all gs ps → AreWritten all (take 1 gs) (take 1 ps)
+written_first all [] [] written = tt
+written_first all [] (p ∷ ps) written = absurd written
+written_first all (g ∷ gs) [] written = absurd written
+written_first all (g ∷ gs) (p ∷ ps) written = (written.0, tt)
 
 -- what one entry performs writes what it writes to memory
 writes_by : (B : ℕ) (o : Start) (all us : List Entry) (e : Entry) (ws : List Entry) (a w : ℕ) (found : Option ℕ) → all ≡ us ++ e ∷ ws → Allowed B o us e → last_written all a (unwrap_or found w) (performed_by all us e) ≡ unwrap_or (newest_of a found (write_of us e)) w
@@ -75,13 +75,13 @@ writes_by B o all us e ws a w found split = at e split
     at (entry.Ended g) here may = refl
     at (entry.Stopped g why) here may = refl
     at (entry.Land g) here may =
-        let told : AreWritten all (store_places g us) (stores g us) = front_told all us (entry.Land g ∷ ws) g here in
-        let same : length (store_places g us) ≡ length (stores g us) = AreWritten-length all (store_places g us) (stores g us) told in
+        let pairs_written : AreWritten all (store_places g us) (stores g us) = front_written all us (entry.Land g ∷ ws) g here in
+        let same : length (store_places g us) ≡ length (stores g us) = AreWritten-length all (store_places g us) (stores g us) pairs_written in
         let some : lands g us < length (store_places g us) = omega (arith, length-drop (lands g us) (stores g us)) in
         ap (λ zs. last_written all a (unwrap_or found w) (option_to_list (slice_get zs (lands g us)))) (front_stores all us (entry.Land g ∷ ws) g here)
         ∙ ap (last_written all a (unwrap_or found w)) (first_of (store_places g us) (places_of (is_store_of g) (length us) (entry.Land g ∷ ws)) (lands g us) some)
-        ∙ told_values all a w found (take 1 (drop (lands g us) (store_places g us))) (take 1 (drop (lands g us) (stores g us)))
-        (told_first all (drop (lands g us) (store_places g us)) (drop (lands g us) (stores g us)) (AreWritten-drop all (lands g us) (store_places g us) (stores g us) told))
+        ∙ written_values all a w found (take 1 (drop (lands g us) (store_places g us))) (take 1 (drop (lands g us) (stores g us)))
+        (written_first all (drop (lands g us) (store_places g us)) (drop (lands g us) (stores g us)) (AreWritten-drop all (lands g us) (store_places g us) (stores g us) pairs_written))
 
 -- what entries perform writes what reaches memory
 writes_after : (B : ℕ) (o : Start) (all us es ws : List Entry) (a w : ℕ) (found : Option ℕ) → all ≡ us ++ (es ++ ws) → LegalAfter B o us es → last_written all a (unwrap_or found w) (performed_after all us es) ≡ unwrap_or (newest_of a found (landed_after us es)) w
@@ -241,8 +241,8 @@ byte_of_read B o es us e ws q a legal split len reader reads =
     ap (last_written es a (opening_byte o a)) (seen_by_read B o es us e ws q legal split len reader reads)
     ∙ last_written-append es a (opening_byte o a) (performed_after es [] us) (drop (lands (hart_at es q) us) (store_places (hart_at es q) us))
     ∙ ap (λ w. last_written es a w (drop (lands (hart_at es q) us) (store_places (hart_at es q) us))) (front_memory B o es us (e ∷ ws) a legal split)
-    ∙ told_values es a (memory_byte o us a) None (drop (lands (hart_at es q) us) (store_places (hart_at es q) us)) (drop (lands (hart_at es q) us) (stores (hart_at es q) us))
-    (AreWritten-drop es (lands (hart_at es q) us) (store_places (hart_at es q) us) (stores (hart_at es q) us) (front_told es us (e ∷ ws) (hart_at es q) split))
+    ∙ written_values es a (memory_byte o us a) None (drop (lands (hart_at es q) us) (store_places (hart_at es q) us)) (drop (lands (hart_at es q) us) (stores (hart_at es q) us))
+    (AreWritten-drop es (lands (hart_at es q) us) (store_places (hart_at es q) us) (stores (hart_at es q) us) (front_written es us (e ∷ ws) (hart_at es q) split))
 
 reads_what : (B : ℕ) (o : Start) (us : List Entry) (e : Entry) (a n v : ℕ) → read_of e ≡ Some (a, n, v) → Allowed B o us e → (is_reader e ≡ true) × (v ≡ read o us (hart_of e) a n)
 reads_what B o us (entry.Inner g) a n v is may = cc

@@ -56,7 +56,7 @@ abbrev pub last_written : List Entry → ℕ → ℕ → List ℕ → ℕ
 last_written es a w [] = w
 last_written es a w (g ∷ gs) = last_written es a (unwrap_or (written_at es a g) w) gs
 
--- the byte that the Load Value Axiom gives the read at q of address a, and the number of so many
+-- the byte that the Load Value Axiom gives the read at q of address a, and the number of `width` bytes from there
 abbrev pub byte_for : Start → List Entry → List ℕ → ℕ → ℕ → ℕ
 byte_for o es gs q a = last_written es a (opening_byte o a) (filter (is_seen es gs q) gs)
 

@@ -162,7 +162,7 @@ fn has_bytes(trace: &Trace, order: &[Op], index: usize, addr: u32, width: u32, v
     is_below(value, width)
 }
 
-/// Whether the number has so many bytes.
+/// Whether the number fits in `width` bytes.
 #[tactic(auto, using(crate::proofs::Values::below_all))]
 fn is_below(value: u32, width: u32) -> bool
     ensures { IsTrue result ↔ (value < 256 ^ width) }

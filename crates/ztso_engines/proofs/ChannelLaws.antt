@@ -37,29 +37,29 @@ use Rattle.engine_parts.proofs.Endings.{weaker}
 
 module _ (ring : Ring) (B M : ℕ) (place : Place) (lists : List (List ℕ)) where
   -- a reason is want of memory, or one that a fault of the input has
-  told_as : (because : RefusedAt) → RefusesAt ring M lists (layout_of place []) because
+  refusal_as : (because : RefusedAt) → RefusesAt ring M lists (layout_of place []) because
       → (fault_from because ≡ NoMemory) ⊎ ((r : Refusal) × (fault_from because ≡ Refused r) × IsUnfilled because)
-  told_as (why.Lists refused.NoMemory) refuses = inl refl
-  told_as (why.Lists (refused.ZeroWord sender word)) refuses = inr (_, refl, tt)
-  told_as (why.Lists refused.NoSenders) refuses = inr (_, refl, tt)
-  told_as (why.Lists refused.TooManySenders) refuses = inr (_, refl, tt)
-  told_as (why.Lists refused.RingTooSmall) refuses = inr (_, refl, tt)
-  told_as (why.Lists refused.DoesNotFit) refuses = inr (_, refl, tt)
-  told_as why.UnevenBase refuses = inr (_, refl, tt)
-  told_as why.UnevenStride refuses = inr (_, refl, tt)
-  told_as why.BlocksMeet refuses = inr (_, refl, tt)
-  told_as (why.FilledBlock word) refuses = absurd (refuses.2.filled refl)
+  refusal_as (why.Lists refused.NoMemory) refuses = inl refl
+  refusal_as (why.Lists (refused.ZeroWord sender word)) refuses = inr (_, refl, tt)
+  refusal_as (why.Lists refused.NoSenders) refuses = inr (_, refl, tt)
+  refusal_as (why.Lists refused.TooManySenders) refuses = inr (_, refl, tt)
+  refusal_as (why.Lists refused.RingTooSmall) refuses = inr (_, refl, tt)
+  refusal_as (why.Lists refused.DoesNotFit) refuses = inr (_, refl, tt)
+  refusal_as why.UnevenBase refuses = inr (_, refl, tt)
+  refusal_as why.UnevenStride refuses = inr (_, refl, tt)
+  refusal_as why.BlocksMeet refuses = inr (_, refl, tt)
+  refusal_as (why.FilledBlock word) refuses = absurd (refuses.2.filled refl)
 
-  -- where there is no channel, whatever is asked of an answer that may be such a refusal
+  -- where there is no channel, whatever must hold of an answer that may be such a refusal
   pub no_channel : {X Y : Type 0} (IsAnswer : Result Y Refusal → Type 0) (view : X → Y) (said : Said)
       → ((refusal : Refusal) → IsUnreported ring B M (layout_of place []) said lists refusal → IsAnswer (Err refusal))
       → (because : RefusedAt) (fault : Fault) → fault ≡ fault_from because → RefusesAt ring M lists (layout_of place []) because
       → AnswersAs IsAnswer view (Err fault)
-  no_channel {X = X} IsAnswer view said refuse because fault told refuses =
-      elim (told_as because refuses) [
-        | inl none ↦ subst (λ (f : Fault). AnswersAs {X = X} IsAnswer view (Err f)) (sym (told ∙ none)) tt
+  no_channel {X = X} IsAnswer view said refuse because fault holds refuses =
+      elim (refusal_as because refuses) [
+        | inl none ↦ subst (λ (f : Fault). AnswersAs {X = X} IsAnswer view (Err f)) (sym (holds ∙ none)) tt
         | inr is ↦
-            subst (λ (f : Fault). AnswersAs {X = X} IsAnswer view (Err f)) (sym (told ∙ is.1))
+            subst (λ (f : Fault). AnswersAs {X = X} IsAnswer view (Err f)) (sym (holds ∙ is.1))
             (refuse is.0 (inl (record { why = because; unfilled = is.2; refuses = refuses; is_fault = is.1 })))
       ]
 
@@ -67,9 +67,9 @@ module _ (ring : Ring) (B M : ℕ) (place : Place) (lists : List (List ℕ)) whe
   pub differs : (steps : List Step) (o : Start) (error : CheckError) (fault : Fault) → o ≡ opening_over ring (layout_of place []) lists
       → AcceptedAt ring M lists (layout_of place []) → fault ≡ fault_of_check error → Differs (DiffersAt B M o steps) error
       → AnswersAs (Checks ring B M (layout_of place []) (recorded steps) lists) (λ (x : Unit {0}). x) (Err fault)
-  differs steps o check.NoMemory fault is within told other = rw told tt
-  differs steps o (check.Differs event) fault is within told other =
-      rw told (inr (record { within = within; differs = (event, subst (λ (s : Start). DiffersAt B M s steps event) is other, refl) }))
+  differs steps o check.NoMemory fault is within holds other = rw holds tt
+  differs steps o (check.Differs event) fault is within holds other =
+      rw holds (inr (record { within = within; differs = (event, subst (λ (s : Start). DiffersAt B M s steps event) is other, refl) }))
 
   -- what is reported comes of a run, in which a record was checked
   ran : (finish : Bool) (o : Start) (said : Said) (reports : List Report) → IsChecked B M o said → Reported finish B M o lists (events_said said) reports
@@ -105,13 +105,13 @@ module _ (ring : Ring) (B M : ℕ) (place : Place) (finish : Bool) (first second
   pub answers_delivered : (said : Said) (lists : List (List ℕ)) (answer : Output) → ReadsSchedule said → ReadsLists lists
       → IsDelivery ring B M (layout_of place []) finish said lists answer → Answers (Ok answer)
   answers_delivered said lists answer schedule input is =
-      weaker first _ _ (λ text says. weaker second _ _ (λ words told. delivered said lists answer says told is) input) schedule
+      weaker first _ _ (λ text says. weaker second _ _ (λ words holds. delivered said lists answer says holds is) input) schedule
 
   -- or there are none
   answers_unreported : (said : Said) (lists : List (List ℕ)) (refusal : Refusal) → ReadsSchedule said → ReadsLists lists
       → IsUnreported ring B M (layout_of place []) said lists refusal → Answers (Err refusal)
   answers_unreported said lists refusal schedule input none =
-      weaker first _ _ (λ text says. weaker second _ _ (λ words told. unreported said lists refusal says told none) input) schedule
+      weaker first _ _ (λ text says. weaker second _ _ (λ words holds. unreported said lists refusal says holds none) input) schedule
 
   -- the schedule is refused, whatever the second input is
   answers_no_schedule : (refusal : Refusal) → OfInput first (λ bytes. IsNoSchedule bytes refusal) → Answers (Err refusal)

@@ -1,7 +1,7 @@
 pub mod Registers
 pub mod NumberWords
 pub mod Lines
-pub mod Telling
+pub mod Describing
 pub mod Limits
 pub mod Answered
 pub mod HexTexts

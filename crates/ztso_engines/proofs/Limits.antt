@@ -6,7 +6,7 @@ use Rattle.std.proofs.lemmas.List.{length-replicate}
 use Rattle.std.proofs.lemmas.List.Elements.{All-from_recursion}
 use Rattle.step_machine.specs.History.{HartStart, FitsIn, IsShort}
 use Rattle.ztso_engines.specs.Scenario.{Scenario, no_scenario, opening_of, fresh, register_set, Statement, hart, reg, word, steps, with_statement, MayCome}
-use Rattle.ztso_engines.specs.StepsText.{LinesTell, Tells}
+use Rattle.ztso_engines.specs.StepsText.{LinesDescribe, Describes}
 
 record Within (M : ℕ) (t : Scenario) : Type 0 where
   harts : length t.harts ≤ 64
@@ -33,18 +33,18 @@ within_stays M t (reg h n v) w fits = record { harts = rw length-register_set w.
 within_stays M t (word a v) w fits = record { harts = w.harts; code = w.code; memory = simp length-set w.memory }
 within_stays M t (steps events) w fits = record { harts = w.harts; code = w.code; memory = w.memory }
 
-within_lines : (M : ℕ) (t : Scenario) (left : List (List ℕ)) (told : Scenario) → Within M t → LinesTell t left told → Within M told
-within_lines M t [] told w tell = rw tell w
-within_lines M t (line ∷ others) told w (inl blank) = within_lines M t others told w blank.1
-within_lines M t (line ∷ others) told w (inr said) = within_lines M (with_statement t said.0) others told (within_stays M t said.0 w said.2) said.3
+within_lines : (M : ℕ) (t : Scenario) (left : List (List ℕ)) (scenario : Scenario) → Within M t → LinesDescribe t left scenario → Within M scenario
+within_lines M t [] scenario w tell = rw tell w
+within_lines M t (line ∷ others) scenario w (inl blank) = within_lines M t others scenario w blank.1
+within_lines M t (line ∷ others) scenario w (inr said) = within_lines M (with_statement t said.0) others scenario (within_stays M t said.0 w said.2) said.3
 
-pub told_fits : (M : ℕ) (text : List ℕ) (told : Scenario) → Tells M text told → FitsIn M (opening_of told)
-told_fits M text told tells =
+pub scenario_fits : (M : ℕ) (text : List ℕ) (scenario : Scenario) → Describes M text scenario → FitsIn M (opening_of scenario)
+scenario_fits M text scenario tells =
     let none : Within M (no_scenario M) = record { harts = omega arith; code = tt; memory = length-replicate M 0 } in
-    let w = within_lines M (no_scenario M) (lines text) told none tells.lines_tell in
+    let w = within_lines M (no_scenario M) (lines text) scenario none tells.lines_describe in
     record {
       some_hart = tells.some_hart;
       harts = w.harts;
-      code = All-from_recursion IsShort told.harts w.code;
+      code = All-from_recursion IsShort scenario.harts w.code;
       words = omega (arith, w.memory);
     }

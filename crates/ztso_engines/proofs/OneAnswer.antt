@@ -34,7 +34,7 @@ use Rattle.engine_parts.specs.Tests as tests
 use Rattle.engine_parts.specs.Schedules.{IsNoSchedule, schedule_of}
 use Rattle.ztso_engines.specs.Asm.{IsAsmAnswer, asm_at, hex_line, refused_program}
 use Rattle.ztso_engines.specs.Scenario.{Scenario, opening_of}
-use Rattle.ztso_engines.specs.StepsText.{Tells}
+use Rattle.ztso_engines.specs.StepsText.{Describes}
 use Rattle.ztso_engines.specs.StepsReading.{script_at}
 use Rattle.engine_parts.specs.StateText.{shown}
 use Rattle.ztso_engines.specs.Steps.{IsStateText, IsStepsAnswer}
@@ -48,7 +48,7 @@ use Rattle.ztso_engines.specs.Replay.{IsReplay, IsReplayAnswer}
 use Rattle.debugger.specs.Transcripts.{IsDebugAnswer, IsTranscript}
 use Rattle.tries.specs.Outcomes.{IsTriedOf, IsTryAnswer}
 use Rattle.engine_parts.proofs.Judging.{accepted_judged, judged_text}
-use Rattle.ztso_engines.proofs.Telling.{text_read, one_told}
+use Rattle.ztso_engines.proofs.Describing.{text_read, one_scenario}
 use Rattle.ztso_engines.proofs.CodeTexts.{code_read, one_code}
 use Rattle.tries.proofs.OneText.{one_try, one_verdict}
 use Rattle.debugger.proofs.OneTranscript.{one_transcript_of}
@@ -57,15 +57,15 @@ use Rattle.engine_parts.proofs.OneInput.{alike_by_schedule, alike_by_test, equal
 
 -- ---- `steps`
 
-one_state : (B M : ℕ) (told : Scenario) (a b : List ℕ) → IsStateText B M told a → IsStateText B M told b → a ≡ b
-one_state B M told a b is other = is.is_shown ∙ ap (shown M) (run-one B M (unrun (opening_of told)) told.events is.history other.history is.ran other.ran) ∙ sym other.is_shown
+one_state : (B M : ℕ) (scenario : Scenario) (a b : List ℕ) → IsStateText B M scenario a → IsStateText B M scenario b → a ≡ b
+one_state B M scenario a b is other = is.is_shown ∙ ap (shown M) (run-one B M (unrun (opening_of scenario)) scenario.events is.history other.history is.ran other.ran) ∙ sym other.is_shown
 
 pub one_steps : (B M : ℕ) (input : List ℕ) (a b : Result Output Refusal) → IsStepsAnswer B M input a → IsStepsAnswer B M input b → a ≡ b
-one_steps B M input (Ok a) (Ok b) (told, is, tells) (said, also, shows) =
-    let same : said ≡ told = one_told M input said told also.value_is is.value_is in
-    ap (λ (out : Output). Ok out) (same_output a b (one_state B M told a.0 b.0 tells (subst (λ (t : Scenario). IsStateText B M t b.0) same shows)))
-one_steps B M input (Ok a) (Err r) (told, is, tells) refused = absurd (let read : judged (script_at M) input ≡ Ok told = accepted_judged (script_at M) (Tells M) input told (text_read M input told) is in cc)
-one_steps B M input (Err r) (Ok a) refused (told, is, tells) = absurd (let read : judged (script_at M) input ≡ Ok told = accepted_judged (script_at M) (Tells M) input told (text_read M input told) is in cc)
+one_steps B M input (Ok a) (Ok b) (scenario, is, tells) (said, also, shows) =
+    let same : said ≡ scenario = one_scenario M input said scenario also.value_is is.value_is in
+    ap (λ (out : Output). Ok out) (same_output a b (one_state B M scenario a.0 b.0 tells (subst (λ (t : Scenario). IsStateText B M t b.0) same shows)))
+one_steps B M input (Ok a) (Err r) (scenario, is, tells) refused = absurd (let read : judged (script_at M) input ≡ Ok scenario = accepted_judged (script_at M) (Describes M) input scenario (text_read M input scenario) is in cc)
+one_steps B M input (Err r) (Ok a) refused (scenario, is, tells) = absurd (let read : judged (script_at M) input ≡ Ok scenario = accepted_judged (script_at M) (Describes M) input scenario (text_read M input scenario) is in cc)
 one_steps B M input (Err r) (Err s) refused other = ap (λ (x : Refusal). Err x) (one_refusal (judged (script_at M) input) r s refused other)
 
 -- ---- `dis`

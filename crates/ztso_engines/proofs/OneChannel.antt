@@ -67,31 +67,31 @@ one_zero lists i j m n first other =
 
 -- ---- the first reason
 
--- the numbers of the refusals, in the order of what is asked
+-- the numbers of the refusals, in the order of their conditions
 abbrev numbers : List ℕ
 numbers = 17 ∷ 18 ∷ 19 ∷ 41 ∷ 42 ∷ 43 ∷ 20 ∷ 16 ∷ []
 
 module _ (ring : Ring) (M : ℕ) (l : Layout) (lists : List (List ℕ)) where
-  -- what is asked of lists and a layout
-  abbrev Asked : ℕ → Type 0
-  Asked zero = 1 ≤ length lists
-  Asked (suc zero) = length lists ≤ 63
-  Asked (suc (suc zero)) = ring.least ≤ l.size
-  Asked (suc (suc (suc zero))) = l.base % 4 ≡ 0
-  Asked (suc (suc (suc (suc zero)))) = l.stride % 4 ≡ 0
-  Asked (suc (suc (suc (suc (suc zero))))) = block_size l.size ≤ l.stride
-  Asked (suc (suc (suc (suc (suc (suc zero)))))) = FitsAt M (length lists) l
-  Asked (suc (suc (suc (suc (suc (suc (suc k))))))) = All AreWords lists
+  -- the conditions on lists and a layout
+  abbrev Condition : ℕ → Type 0
+  Condition zero = 1 ≤ length lists
+  Condition (suc zero) = length lists ≤ 63
+  Condition (suc (suc zero)) = ring.least ≤ l.size
+  Condition (suc (suc (suc zero))) = l.base % 4 ≡ 0
+  Condition (suc (suc (suc (suc zero)))) = l.stride % 4 ≡ 0
+  Condition (suc (suc (suc (suc (suc zero))))) = block_size l.size ≤ l.stride
+  Condition (suc (suc (suc (suc (suc (suc zero)))))) = FitsAt M (length lists) l
+  Condition (suc (suc (suc (suc (suc (suc (suc k))))))) = All AreWords lists
 
-  -- the first so many of these hold
+  -- the first k of these hold
   abbrev Passes : ℕ → Type 0
   Passes zero = Unit {0}
-  Passes (suc k) = Passes k × Asked k
+  Passes (suc k) = Passes k × Condition k
 
-  earlier : (k turn : ℕ) → k < turn → Passes turn → Asked k
+  earlier : (k turn : ℕ) → k < turn → Passes turn → Condition k
   earlier k zero less passes = absurd (omega (arith, less))
   earlier k (suc turn) less passes = elim (cases_eq k turn) [
-    | inl same ↦ subst Asked (sym same) passes.1
+    | inl same ↦ subst Condition (sym same) passes.1
     | inr other ↦ earlier k turn (omega (arith, less, other)) passes.0
   ]
 
@@ -123,14 +123,14 @@ module _ (ring : Ring) (M : ℕ) (l : Layout) (lists : List (List ℕ)) where
     turn : ℕ
     known : turn < 8
     passes : Passes turn
-    fails : Asked turn → ⊥
+    fails : Condition turn → ⊥
     number : r.number ≡ slice_index numbers turn
     plain : (turn ≡ 7 → ⊥) → r.place ≡ Nowhere
     last : turn ≡ 7 → (i : ℕ) × (j : ℕ) × ZeroWordAt lists i j × (r.place ≡ Word i j)
 
-  stops_at : (turn : ℕ) (r : Refusal) → turn < 7 → Passes turn → (Asked turn → ⊥)
+  stops_at : (turn : ℕ) (r : Refusal) → turn < 7 → Passes turn → (Condition turn → ⊥)
       → fault.Refused (record { number = slice_index numbers turn; place = Nowhere }) ≡ fault.Refused r → Stops r
-  stops_at turn r less passes fails told =
+  stops_at turn r less passes fails holds =
       let is : record { number = slice_index numbers turn; place = Nowhere } ≡ r = cc in
       record {
         turn = turn;
@@ -143,19 +143,19 @@ module _ (ring : Ring) (M : ℕ) (l : Layout) (lists : List (List ℕ)) where
       }
 
   stops : (because : RefusedAt) (r : Refusal) → IsUnfilled because → RefusesAt ring M lists l because → fault_from because ≡ fault.Refused r → Stops r
-  stops (why.Lists refused.NoMemory) r unfilled refuses told = absurd cc
-  stops (why.Lists refused.NoSenders) r unfilled refuses told = stops_at 0 r (omega arith) tt (λ some. omega (arith, some, refuses)) told
-  stops (why.Lists refused.TooManySenders) r unfilled refuses told =
-      stops_at 1 r (omega arith) (tt, omega (arith, refuses)) (λ few. omega (arith, few, refuses)) told
-  stops (why.Lists refused.RingTooSmall) r unfilled refuses told =
-      stops_at 2 r (omega arith) ((tt, refuses.0), refuses.1) (λ large. omega (arith, large, refuses.2)) told
-  stops why.UnevenBase r unfilled refuses told = stops_at 3 r (omega arith) (ring_passes refuses.0) refuses.1 told
-  stops why.UnevenStride r unfilled refuses told = stops_at 4 r (omega arith) (ring_passes refuses.0, refuses.1) refuses.2 told
-  stops why.BlocksMeet r unfilled refuses told =
-      stops_at 5 r (omega arith) ((ring_passes refuses.0, refuses.1), refuses.2) (λ room. omega (arith, room, refuses.3)) told
-  stops (why.Lists refused.DoesNotFit) r unfilled refuses told = stops_at 6 r (omega arith) (place_passes refuses.0) (λ fits. too_far fits refuses.1) told
-  stops (why.FilledBlock word) r unfilled refuses told = absurd unfilled
-  stops (why.Lists (refused.ZeroWord sender word)) r unfilled refuses told =
+  stops (why.Lists refused.NoMemory) r unfilled refuses holds = absurd cc
+  stops (why.Lists refused.NoSenders) r unfilled refuses holds = stops_at 0 r (omega arith) tt (λ some. omega (arith, some, refuses)) holds
+  stops (why.Lists refused.TooManySenders) r unfilled refuses holds =
+      stops_at 1 r (omega arith) (tt, omega (arith, refuses)) (λ few. omega (arith, few, refuses)) holds
+  stops (why.Lists refused.RingTooSmall) r unfilled refuses holds =
+      stops_at 2 r (omega arith) ((tt, refuses.0), refuses.1) (λ large. omega (arith, large, refuses.2)) holds
+  stops why.UnevenBase r unfilled refuses holds = stops_at 3 r (omega arith) (ring_passes refuses.0) refuses.1 holds
+  stops why.UnevenStride r unfilled refuses holds = stops_at 4 r (omega arith) (ring_passes refuses.0, refuses.1) refuses.2 holds
+  stops why.BlocksMeet r unfilled refuses holds =
+      stops_at 5 r (omega arith) ((ring_passes refuses.0, refuses.1), refuses.2) (λ room. omega (arith, room, refuses.3)) holds
+  stops (why.Lists refused.DoesNotFit) r unfilled refuses holds = stops_at 6 r (omega arith) (place_passes refuses.0) (λ fits. too_far fits refuses.1) holds
+  stops (why.FilledBlock word) r unfilled refuses holds = absurd unfilled
+  stops (why.Lists (refused.ZeroWord sender word)) r unfilled refuses holds =
       let is : record { number = 16; place = Word sender word } ≡ r = cc in
       record {
         turn = 7;
@@ -220,9 +220,9 @@ module _ (ring : Ring) (B M : ℕ) (l : Layout) (said : Said) (lists : List (Lis
 module _ (P : Said → List (List ℕ) → Type 0) (schedule input : List ℕ) where
   read_again : (said also : Said) (lists words : List (List ℕ)) → Accepted Says schedule said → Accepted Says schedule also
       → Accepted SaysLists input lists → Accepted SaysLists input words → P also words → P said lists
-  read_again said also lists words is other tells told p =
+  read_again said also lists words is other tells holds p =
       subst (λ (s : Said). P s lists) (one_said schedule also said other.value_is is.value_is)
-      (subst (λ (ls : List (List ℕ)). P also ls) (one_lists input words lists told.value_is tells.value_is) p)
+      (subst (λ (ls : List (List ℕ)). P also ls) (one_lists input words lists holds.value_is tells.value_is) p)
 
 module _ (ring : Ring) (B M : ℕ) (l : Layout) (finish : Bool) (schedule input : List ℕ) where
   abbrev IsAnswer : Result Output Refusal → Type 0
@@ -270,9 +270,9 @@ module _ (ring : Ring) (B M : ℕ) (l : Layout) (schedule input : List ℕ) wher
       ∙ ap (flat_map report_line) (first.answer ∙ ap (λ (h : History). reported 0 h.entries) histories ∙ sym second.answer) ∙ sym other.text)
 
   pub one_channel : (a b : Result Output Refusal) → IsUnfinished a → IsUnfinished b → a ≡ b
-  one_channel (Ok a) (Ok b) (delivered said lists given is reads tells) (delivered also words other says told more) =
+  one_channel (Ok a) (Ok b) (delivered said lists given is reads tells) (delivered also words other says holds more) =
       ap (λ (out : Output). Ok out) (one_delivery said lists a b tells
-      (read_again (λ t ls. IsDelivery ring B M l false t ls b) schedule input said also lists words is says reads told more))
+      (read_again (λ t ls. IsDelivery ring B M l false t ls b) schedule input said also lists words is says reads holds more))
   one_channel (Ok a) (Err s) is other = absurd (delivered_or_refused ring B M l false schedule input a s is other)
   one_channel (Err r) (Ok b) is other = absurd (delivered_or_refused ring B M l false schedule input b r other is)
   one_channel (Err r) (Err s) is other = ap (λ (x : Refusal). Err x) (one_refused ring B M l false schedule input r s is other)

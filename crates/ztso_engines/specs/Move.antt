@@ -9,8 +9,8 @@ use Rattle.engine_parts.specs.Histories.{BySchedule, Records}
 
 -- the one text of the record of the schedule's run from the test's opening; a record that differs has none
 abbrev pub IsMoved : (B M : ℕ) → LitmusTest → Said → Result Output Refusal → Type 0
-IsMoved B M question said (Ok answer) = (steps : List Step) × Records B M question.opening said (Ok steps) × (answer.0 ≡ record_text steps)
-IsMoved B M question said (Err refusal) = Records B M question.opening said (Err refusal)
+IsMoved B M test said (Ok answer) = (steps : List Step) × Records B M test.opening said (Ok steps) × (answer.0 ≡ record_text steps)
+IsMoved B M test said (Err refusal) = Records B M test.opening said (Err refusal)
 
 -- What answers a litmus text and a schedule of either version. A record is refused at the first event whose
 -- outcome isn't the run's.

@@ -10,7 +10,7 @@ use Rattle.engine_parts.specs.Engines.{Output}
 
 -- the lines of a history's entries
 abbrev pub IsReplay : LitmusTest → History → (answer : Output) → Type 0
-IsReplay question history answer = answer.0 ≡ flat_map entry_line history.entries
+IsReplay test history answer = answer.0 ≡ flat_map entry_line history.entries
 
 -- What answers a litmus text and a schedule of either version. A record is refused at the first event whose
 -- outcome isn't the run's.

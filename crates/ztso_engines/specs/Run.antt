@@ -15,8 +15,8 @@ verdict_line Fails = codes "Fails" ++ 10 ∷ []
 verdict_line Unfinished = codes "Unfinished" ++ 10 ∷ []
 
 -- the state text of a test's history over a memory of M words, and the verdict on it
-pub record IsJudged (M : ℕ) (question : LitmusTest) (history : History) (answer : List ℕ × Verdict) : Type 0 where
-  pub verdict : IsVerdict M question history answer.1
+pub record IsJudged (M : ℕ) (test : LitmusTest) (history : History) (answer : List ℕ × Verdict) : Type 0 where
+  pub verdict : IsVerdict M test history answer.1
   pub is_shown : answer.0 ≡ shown M history ++ verdict_line answer.1
 
 -- What answers a litmus text and a schedule of either version. A record is refused at the first event whose

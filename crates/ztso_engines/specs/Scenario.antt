@@ -18,7 +18,7 @@ pub record Scenario : Type 0 where
 abbrev pub scenario_of : Script → Scenario
 scenario_of s = record { harts = s.harts.items; words = s.words.items; events = s.events.items }
 
--- nothing is told yet: no hart, M words that are 0, no event
+-- nothing is said yet: no hart, M words that are 0, no event
 abbrev pub no_scenario : ℕ → Scenario
 no_scenario M = record { harts = []; words = replicate M 0; events = [] }
 
@@ -46,7 +46,7 @@ register_set [] h n v = []
 register_set (first ∷ others) zero n v = record first { registers = slice_set first.registers n v } ∷ others
 register_set (first ∷ others) (suc h) n v = first ∷ register_set others h n v
 
--- what is told with one more line; so a later line for the same place wins
+-- the scenario with one more line; so a later line for the same place wins
 abbrev pub with_statement : Scenario → Statement → Scenario
 with_statement t (hart code) = record t { harts = t.harts ++ fresh code ∷ [] }
 with_statement t (reg h n v) = record t { harts = register_set t.harts h n v }

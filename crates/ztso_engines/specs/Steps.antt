@@ -4,7 +4,7 @@ use Rattle.step_machine.specs.History.{History}
 use Rattle.step_machine.specs.Runs.{Run}
 use Rattle.engine_parts.specs.declared.fault.Refusal.{Refusal}
 use Rattle.ztso_engines.specs.Scenario.{Scenario, opening_of}
-use Rattle.ztso_engines.specs.StepsText.{Tells}
+use Rattle.ztso_engines.specs.StepsText.{Describes}
 use Rattle.ztso_engines.specs.StepsReading.{script_at}
 use Rattle.engine_parts.specs.StateText.{shown}
 use Rattle.engine_parts.specs.Engines.{Output, Accepted, judged}
@@ -19,5 +19,5 @@ pub record IsStateText (B M : ℕ) (scenario : Scenario) (out : List ℕ) : Type
 -- What answers an input: the state text of what it tells, where it is a text within the limit that
 -- tells something, else the refusal for its first fault.
 abbrev pub IsStepsAnswer : (B M : ℕ) → List ℕ → Result Output Refusal → Type 0
-IsStepsAnswer B M input (Ok answer) = (scenario : Scenario) × Accepted (Tells M) input scenario × IsStateText B M scenario answer.0
+IsStepsAnswer B M input (Ok answer) = (scenario : Scenario) × Accepted (Describes M) input scenario × IsStateText B M scenario answer.0
 IsStepsAnswer B M input (Err refusal) = judged (script_at M) input ≡ Err refusal

@@ -101,13 +101,13 @@ abbrev pub by_cut : Scenario → Option (List ℕ × List ℕ) → Result Scenar
 by_cut t None = Ok t
 by_cut t (Some cut) = by_keyword t (keyword_named cut.0) cut.1
 
--- what is told behind one more line; a line without a word tells nothing
+-- the scenario after one more line; a line without a word adds nothing
 unfoldable pub after_line : Scenario → List ℕ → Result Scenario ℕ
 after_line t line = by_cut t (first_cut line)
 
 -- ---- a text
 
--- what is told behind these lines, the first of which has this number
+-- the scenario after these lines, the first of which has this number
 unfoldable pub after_lines : Scenario → (number : ℕ) → List (List ℕ) → Result Scenario Refusal
 after_lines t number [] = Ok t
 after_lines t number (line ∷ others) = do

@@ -1,4 +1,4 @@
--- The steps text: which text tells what.
+-- The steps text: which text describes which scenario.
 use Rattle.std.specs.Prelude.{ℕ, ◌≡◌, ◌≤◌, ◌⊎◌, List, [], ◌∷◌, length, Some, codes}
 use Rattle.std.specs.List.{AllZip}
 use Rattle.std.specs.Str.Lines.{lines}
@@ -15,11 +15,11 @@ LineSays line (word a v) = (A V : List ℕ) × (tokens line ≡ codes "word" ∷
 LineSays line (steps events) = (tokens : List ℕ) × (first_cut line ≡ Some (codes "steps", tokens)) × IsTokensOf tokens events
 
 -- From the top, each line says what may come there, or has no word and says nothing.
-abbrev pub LinesTell : Scenario → List (List ℕ) → Scenario → Type 0
-LinesTell before [] scenario = scenario ≡ before
-LinesTell before (line ∷ others) scenario = ((tokens line ≡ []) × LinesTell before others scenario) ⊎ ((s : Statement) × LineSays line s × MayCome before s × LinesTell (with_statement before s) others scenario)
+abbrev pub LinesDescribe : Scenario → List (List ℕ) → Scenario → Type 0
+LinesDescribe before [] scenario = scenario ≡ before
+LinesDescribe before (line ∷ others) scenario = ((tokens line ≡ []) × LinesDescribe before others scenario) ⊎ ((s : Statement) × LineSays line s × MayCome before s × LinesDescribe (with_statement before s) others scenario)
 
--- The text tells this of a machine with M words: its lines do, and there is a hart.
-pub record Tells (M : ℕ) (text : List ℕ) (scenario : Scenario) : Type 0 where
-  pub lines_tell : LinesTell (no_scenario M) (lines text) scenario
+-- The text describes this scenario for a machine with M words: its lines do, and there is a hart.
+pub record Describes (M : ℕ) (text : List ℕ) (scenario : Scenario) : Type 0 where
+  pub lines_describe : LinesDescribe (no_scenario M) (lines text) scenario
   pub some_hart : 1 ≤ length scenario.harts

@@ -30,41 +30,41 @@ fault_of_threads (thread.Mismatch h es) = Refused (record { number = 32; place =
 -- a run of the test's opening, one event an entry, over store buffers of B pairs and a memory of M
 -- words, by harts and landers that got on for n turns and made no more: its schedule, then its state text
 -- and its verdict
-pub record IsThreadsRun (B M n : ℕ) (question : LitmusTest) (answer : List ℕ × Verdict) : Type 0 where
+pub record IsThreadsRun (B M n : ℕ) (test : LitmusTest) (answer : List ℕ × Verdict) : Type 0 where
   pub events : List Event
   pub few : length events ≤ MAX_EVENTS
   pub history : History
-  pub ran : Run B M question.opening events history
+  pub ran : Run B M test.opening events history
   pub each : events ≡ map event_of history.entries
   pub at_most : AtMost n history
   pub get_on : AllGetOn n M history
   pub state : List ℕ
-  pub judged : IsJudged M question history (state, answer.1)
+  pub judged : IsJudged M test history (state, answer.1)
   pub written : answer.0 ≡ canon events ++ state
 
 -- a run of the test's opening, one event an entry, that is too long to be written
-pub record IsTooLong (B M : ℕ) (question : LitmusTest) : Type 0 where
+pub record IsTooLong (B M : ℕ) (test : LitmusTest) : Type 0 where
   pub events : List Event
   pub history : History
-  pub ran : Run B M question.opening events history
+  pub ran : Run B M test.opening events history
   pub each : events ≡ map event_of history.entries
   pub many : MAX_EVENTS < length events
 
 -- the bank has lost a hart, though the threads made a run
 abbrev pub HasLost : ℕ → ℕ → ℕ → LitmusTest → Type 0
-HasLost B M n question = (h : ℕ) × IsLost B M n question.opening (seats_of M question.opening) h
+HasLost B M n test = (h : ℕ) × IsLost B M n test.opening (seats_of M test.opening) h
 
 -- the refusals of threads that have all their seats, and that of a run which is too long
 abbrev pub RefusesThreads : (B M n : ℕ) → LitmusTest → ℕ → Type 0
-RefusesThreads B M n question number =
+RefusesThreads B M n test number =
     (number ≡ 32)
-    ⊎ ((number ≡ 33) × HasLost B M n question
+    ⊎ ((number ≡ 33) × HasLost B M n test
     ⊎ ((number ≡ 35)
-    ⊎ ((number ≡ 37) × IsTooLong B M question)))
+    ⊎ ((number ≡ 37) × IsTooLong B M test)))
 
 abbrev pub IsThreadsGiven : ℕ → ℕ → ℕ → LitmusTest → Result (List ℕ × Verdict) Refusal → Type 0
-IsThreadsGiven B M n question (Ok answer) = IsThreadsRun B M n question answer
-IsThreadsGiven B M n question (Err refusal) = (refusal.place ≡ Nowhere) × RefusesThreads B M n question refusal.number
+IsThreadsGiven B M n test (Ok answer) = IsThreadsRun B M n test answer
+IsThreadsGiven B M n test (Err refusal) = (refusal.place ≡ Nowhere) × RefusesThreads B M n test refusal.number
 
 -- what answers a test after at most n turns of each thread
 abbrev pub IsThreadsAnswer : ℕ → ℕ → ℕ → List ℕ → Result (List ℕ × Verdict) Refusal → Type 0

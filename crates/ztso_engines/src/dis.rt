@@ -7,7 +7,7 @@ ghost use Rattle.rv_decode.specs.Meaning.{meaning};
 ghost use Rattle.engine_parts.specs.Faults.{Answers, AnswersAs};
 ghost use Rattle.engine_parts.specs.Engines.{EndsBy, judged};
 ghost use Rattle.texts.specs.Cutting.{tokens};
-ghost use Rattle.engine_parts.specs.LineFaults.{at_line as told_at};
+ghost use Rattle.engine_parts.specs.LineFaults.{at_line as line_at};
 ghost use Rattle.ztso_engines.specs.Code.{code_at};
 ghost use Rattle.ztso_engines.specs.Dis.{dis_at, meant_text, instr_line, IsDisAnswer};
 ghost use Rattle.engine_parts.specs.inner.Making.{FindsBy, text_and_value};
@@ -26,7 +26,7 @@ use texts::first_line;
 /// The instruction words of the line of this number.
 #[tactic(auto, using(engine_parts::proofs::LineFaulted::refused_at_line))]
 fn code_of_line(alloc: Global, line: &[u8], number: usize) -> Result<Vec<u32>, Fault>
-    ensures { Answers (λ code. code.items) result (told_at number (code_at (tokens line.now))) }
+    ensures { Answers (λ code. code.items) result (line_at number (code_at (tokens line.now))) }
 {
     match code_of(alloc, line) {
         Ok(code) => Ok(code),

@@ -9,7 +9,7 @@ ghost use Rattle.litmus.specs.declared.verdict.Verdict.{Verdict};
 ghost use Rattle.engine_parts.specs.declared.fault.Refusal.{Refusal};
 ghost use Rattle.engine_parts.specs.Engines.{Output, Accepted, AreAlike, AreOneAnswer, judged};
 ghost use Rattle.ztso_engines.specs.Scenario.{Scenario};
-ghost use Rattle.ztso_engines.specs.StepsText.{Tells};
+ghost use Rattle.ztso_engines.specs.StepsText.{Describes};
 ghost use Rattle.ztso_engines.specs.StepsReading.{script_at};
 ghost use Rattle.ztso_engines.specs.Steps.{IsStepsAnswer};
 ghost use Rattle.ztso_engines.specs.Asm.{hex_line, IsAsmAnswer};
@@ -22,12 +22,12 @@ ghost use Rattle.debugger.specs.Transcripts.{IsDebugAnswer};
 ghost use Rattle.tries.specs.Outcomes.{IsTryAnswer};
 ghost use Rattle.ztso_engines.specs.Channels.{IsChannelAnswer};
 
-/// A steps text tells one thing at most, and reading it from the top finds that; an input is not
-/// refused exactly where it is a text within the limit that tells something. It does nothing.
+/// A steps text describes at most one scenario, and reading it from the top finds that; an input is not
+/// refused exactly where it is a text within the limit that describes one. It does nothing.
 pub fn laws_of_steps_texts()
-    ensures read { (M : ℕ) (text : List ℕ) (scenario : Scenario) → (script_at M text ≡ Ok scenario) ↔ Tells M text scenario }
-    ensures judged { (M : ℕ) (input : List ℕ) (scenario : Scenario) → (judged (script_at M) input ≡ Ok scenario) ↔ Accepted (Tells M) input scenario }
-    ensures one { (M : ℕ) (text : List ℕ) (a b : Scenario) → Tells M text a → Tells M text b → a ≡ b }
+    ensures read { (M : ℕ) (text : List ℕ) (scenario : Scenario) → (script_at M text ≡ Ok scenario) ↔ Describes M text scenario }
+    ensures judged { (M : ℕ) (input : List ℕ) (scenario : Scenario) → (judged (script_at M) input ≡ Ok scenario) ↔ Accepted (Describes M) input scenario }
+    ensures one { (M : ℕ) (text : List ℕ) (a b : Scenario) → Describes M text a → Describes M text b → a ≡ b }
 {}
 
 /// A text of words in hex says one code at most, and reading it from the top finds that; an input is

@@ -4,7 +4,7 @@ ghost use Rattle.std.specs.Prelude.{◌≡◌, ◌≤◌, length, map};
 ghost use Rattle.texts.specs.Results.{Gives, refusal_of};
 ghost use Rattle.engine_parts.specs.Faults.{Answers};
 ghost use Rattle.engine_parts.specs.Engines.{judged};
-ghost use Rattle.engine_parts.specs.LineFaults.{at_line as told_at};
+ghost use Rattle.engine_parts.specs.LineFaults.{at_line as line_at};
 ghost use Rattle.ztso_engines.specs.Lists.{list_of as list_said, lists_at};
 ghost use Rattle.engine_parts.specs.inner.Making.{FindsBy};
 ghost use Rattle.ztso_engines.specs.inner.Inputs.{IsReadAsLists};
@@ -36,7 +36,7 @@ fn list_of(alloc: Global, line: &[u8]) -> Result<Vec<u32>, LineFault>
 /// The words of the line of this number.
 #[tactic(auto, using(engine_parts::proofs::LineFaulted::refused_at_line))]
 fn list_of_line(alloc: Global, line: &[u8], number: usize) -> Result<Vec<u32>, Fault>
-    ensures { Answers (λ list. list.items) result (told_at number (list_said line.now)) }
+    ensures { Answers (λ list. list.items) result (line_at number (list_said line.now)) }
 {
     match list_of(alloc, line) {
         Ok(list) => Ok(list),

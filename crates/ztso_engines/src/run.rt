@@ -41,7 +41,7 @@ pub(crate) fn judged_text<const B: usize, const M: usize>(
     requires harts { length machine.now.harts ≡ length test.now.opening.harts }
     requires names { length test.now.names ≤ M }
     requires size { M ≤ 65536 }
-    ensures { IfOk result (λ told. OfEach B M machine.now (λ t. IsJudged M test.now t (text_and_value told))) }
+    ensures { IfOk result (λ answer. OfEach B M machine.now (λ t. IsJudged M test.now t (text_and_value answer))) }
 {
     let verdict = test.verdict(machine);
     let mut text = state_text(alloc, machine)?;
@@ -61,8 +61,8 @@ fn answer<const B: usize, const M: usize>(
     ensures { AnswersAs (AnswersRun B M (IsJudged M) test.now (said_of said)) text_and_value result }
 {
     let machine = state_of_schedule::<B, M>(alloc, test, said)?;
-    let told = judged_text(alloc, test, &machine)?;
-    Ok(told)
+    let judged = judged_text(alloc, test, &machine)?;
+    Ok(judged)
 }
 
 /// What is to be written for the inputs that the readers give, and the verdict.

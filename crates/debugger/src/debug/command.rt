@@ -24,7 +24,7 @@ pub enum Command {
     Pending(u32),
     /// A word of memory.
     Word(u32),
-    /// To go back by so many events.
+    /// To go back by this number of events.
     Back(u64),
     /// How many events were done.
     Count,

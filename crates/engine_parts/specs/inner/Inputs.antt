@@ -11,7 +11,7 @@ use Rattle.engine_parts.specs.Schedules.{IsNoSchedule}
 
 -- the input's test, or why it has none
 abbrev pub IsReadAsTest : List ℕ → Result LitmusTest Refusal → Type 0
-IsReadAsTest input (Ok question) = Accepted IsTestOf input question
+IsReadAsTest input (Ok test) = Accepted IsTestOf input test
 IsReadAsTest input (Err refusal) = IsNoTest input refusal
 
 -- what the input says as a schedule of either version, or why it is none
@@ -21,8 +21,8 @@ IsReadAsSchedule input (Err refusal) = IsNoSchedule input refusal
 
 -- a test and a schedule, as they were read
 abbrev pub AreRead : LitmusTest → Said → Result (LitmusTest × Said) Refusal → Type 0
-AreRead question said (Ok read) = read ≡ (question, said)
-AreRead question said (Err refusal) = ⊥
+AreRead test said (Ok read) = read ≡ (test, said)
+AreRead test said (Err refusal) = ⊥
 
 abbrev pub test_and_said : LitmusTest × Schedule → LitmusTest × Said
 test_and_said read = (read.0, said_of read.1)

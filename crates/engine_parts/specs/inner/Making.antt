@@ -34,4 +34,4 @@ IsEndOf view (Err fault) result contents old new = (result ≡ Err fault) × (ne
 
 -- a text and a value, seen as its bytes and the value
 abbrev pub text_and_value : {V : Type 0} → String Global × V → List ℕ × V
-text_and_value told = (string_bytes told.0, told.1)
+text_and_value parts = (string_bytes parts.0, parts.1)

@@ -25,9 +25,9 @@ AsksThere harts locations (step.And skip) = Unit {0}
 AsksThere harts locations (step.Or skip) = Unit {0}
 
 -- the places that some steps ask for, from the left
-abbrev pub asked_by : List Step → List Place
-asked_by [] = []
-asked_by (step.Is place value ∷ rest) = place ∷ asked_by rest
-asked_by (step.Not ∷ rest) = asked_by rest
-asked_by (step.And skip ∷ rest) = asked_by rest
-asked_by (step.Or skip ∷ rest) = asked_by rest
+abbrev pub step_places : List Step → List Place
+step_places [] = []
+step_places (step.Is place value ∷ rest) = place ∷ step_places rest
+step_places (step.Not ∷ rest) = step_places rest
+step_places (step.And skip ∷ rest) = step_places rest
+step_places (step.Or skip ∷ rest) = step_places rest

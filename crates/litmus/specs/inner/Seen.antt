@@ -5,7 +5,7 @@ use Rattle.litmus.specs.declared.symbols.Place.TheVariants as place
 use Rattle.litmus.specs.declared.symbols.Step.{Step}
 use Rattle.litmus.specs.declared.symbols.Step.TheVariants as step
 use Rattle.litmus.specs.LitmusTests.{firsts}
-use Rattle.litmus.specs.inner.Running.{asked_by}
+use Rattle.litmus.specs.inner.Running.{step_places}
 
 abbrev pub index_of : Place → ℕ
 index_of (place.Register h n) = h * 32 + n
@@ -32,4 +32,4 @@ after_seen seen (step.Or skip) = seen
 
 -- those that are left to be seen first among these steps
 abbrev pub left_to_see : List Bool → List Step → List Place
-left_to_see seen steps = filter (λ p. not (is_seen seen p)) (firsts (asked_by steps))
+left_to_see seen steps = filter (λ p. not (is_seen seen p)) (firsts (step_places steps))

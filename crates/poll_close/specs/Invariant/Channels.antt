@@ -65,7 +65,7 @@ pub record Channel (m : BlockMeaning) (M : ℕ) (S : Layout) (lists : List (List
   pub reports : ReportPart m lists (reported 0 t.entries) numbers
   pub unstopped : AllGoOn t.entries
   pub touched : AllTouch S (length lists) t.entries
-  -- all stores are of whole words, so that reads are told by words
+  -- all stores are of whole words, so that reads are of whole words
   pub written : AllWriteWords t.entries
 
 -- the meaning of a ring, by what it says of one block

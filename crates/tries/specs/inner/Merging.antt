@@ -39,7 +39,7 @@ pub record Source : Type 0 where
   pub stream : Stream
   pub size : ℕ
 
--- so many runs, from the one of this number on
+-- the runs from the one of this number on
 abbrev pub AreRunsFrom : Source → (first number : ℕ) → List Trial → Type 0
 AreRunsFrom source first number trials =
     AreTrials source.B source.M source.test (left_after (first * source.size) source.stream) number source.size trials
@@ -50,7 +50,7 @@ pub record IsTallyFrom (source : Source) (first end : ℕ) (tally : Tally) : Typ
   pub are : AreRunsFrom source first (end - first) trials
   pub tallied : IsTallyOf trials tally
 
--- the first run of a job, of so many jobs; after the last job all runs end
+-- the first run of a job, where there are `jobs` jobs; after the last job all runs end
 abbrev pub first_of : (runs jobs job : ℕ) → ℕ
 first_of runs jobs job = runs * job / jobs
 

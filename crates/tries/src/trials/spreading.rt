@@ -78,7 +78,7 @@ fn tallies_of<const B: usize, const M: usize, G: Jump + Sync + Drop, T: Threads 
     )
 }
 
-/// The tally of so many runs, each by `length` events, spread over `jobs` threads; no job is one. What is
+/// The tally of `runs` runs, each by `length` events, spread over `jobs` threads; no job is one. What is
 /// tallied doesn't depend on the jobs. A machine, a schedule and a tally of each job take memory, however
 /// many the runs are.
 fn tally_by_jobs<const B: usize, const M: usize, G: Jump + Sync + Drop, T: Threads + Sync>(
@@ -105,7 +105,7 @@ fn tally_by_jobs<const B: usize, const M: usize, G: Jump + Sync + Drop, T: Threa
     Ok(whole)
 }
 
-/// The tally of so many runs, made in rounds of as many runs as the progress wants, which gets a report
+/// The tally of `runs` runs, made in rounds of as many runs as the progress wants, which gets a report
 /// after each. What is tallied depends neither on the rounds nor on the jobs.
 pub fn tally_in_rounds<
     const B: usize,

@@ -176,7 +176,7 @@ impl Tally {
     {
         run_anew(machine, events)?;
         let verdict = test.verdict(machine);
-        test.put_values(values, machine)?;
+        test.values_into(values, machine)?;
         self.add(alloc, events, verdict, values)
     }
 }

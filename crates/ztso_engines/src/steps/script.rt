@@ -5,9 +5,9 @@ ghost use Rattle.std.specs.Str.Lines.{lines};
 ghost use Rattle.texts.specs.Results.{Gives, refusal_of};
 ghost use Rattle.step_machine.specs.History.{FitsIn};
 ghost use Rattle.engine_parts.specs.Faults.{Answers};
-ghost use Rattle.engine_parts.specs.LineFaults.{at_line as told_at};
+ghost use Rattle.engine_parts.specs.LineFaults.{at_line as line_at};
 ghost use Rattle.ztso_engines.specs.Scenario.{Scenario, scenario_of, no_scenario, opening_of};
-ghost use Rattle.ztso_engines.specs.StepsText.{Tells};
+ghost use Rattle.ztso_engines.specs.StepsText.{Describes};
 ghost use Rattle.ztso_engines.specs.StepsReading.{after_line, after_lines, script_at};
 
 use crate::steps::line::{Keyword, add_hart, add_steps, keyword_of, set_register, set_word};
@@ -26,7 +26,7 @@ pub struct Script {
 }
 
 impl Script {
-    /// Nothing is told yet of a machine with M words.
+    /// Nothing is said yet of a machine with M words.
     fn new<const M: usize>(alloc: Global) -> Result<Script, AllocError>
         ensures { IfOk result (λ script. scenario_of script ≡ no_scenario M) }
     {
@@ -56,7 +56,7 @@ impl Script {
     /// Follows the line of this number.
     #[tactic(auto, using(engine_parts::proofs::LineFaulted::refused_at_line))]
     fn add_line_at(&mut self, alloc: Global, line: &[u8], number: usize) -> Result<(), Fault>
-        ensures { Answers (λ x. scenario_of self.new) result (told_at number (after_line (scenario_of self.old) line.now)) }
+        ensures { Answers (λ x. scenario_of self.new) result (line_at number (after_line (scenario_of self.old) line.now)) }
     {
         match self.add_line(alloc, line) {
             Ok(()) => Ok(()),
@@ -98,8 +98,8 @@ fn script_of<const M: usize>(alloc: Global, text: &str) -> Result<Script, Fault>
 /// a hart, at no line; tokens behind `steps` are refused as [`recorder::push_tokens_of`] refuses them, at the
 /// line. The first faulty line is answered.
 pub fn read_script<const M: usize>(alloc: Global, text: &str) -> Result<Script, Fault>
-    ensures found { IfOk result (λ script. Tells M text.now (scenario_of script)) }
-    ensures only { (scenario : Scenario) → Tells M text.now scenario → Answers scenario_of result (Ok scenario) }
+    ensures found { IfOk result (λ script. Describes M text.now (scenario_of script)) }
+    ensures only { (scenario : Scenario) → Describes M text.now scenario → Answers scenario_of result (Ok scenario) }
     ensures exact { Answers scenario_of result (script_at M text.now) }
     ensures fits { IfOk result (λ script. FitsIn M (opening_of (scenario_of script))) }
 {

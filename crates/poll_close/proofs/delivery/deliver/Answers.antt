@@ -1,4 +1,4 @@
--- The opening that was made is the one that is told.
+-- The opening that was made is the one that is named.
 use Rattle.poll_close.proofs.Delivering.{delivers-as}
 use Rattle.poll_close.proofs.delivery.deliver.Goals as goal
 

@@ -10,7 +10,7 @@ use Rattle.ztso_engines.proofs.run.answer.Goals as goal
 pub returns : goal.returns
 returns g c =
     let ran = c.in_ok-machine.ensures.ran in
-    record { history = ran.0; ran = ran.1; answers = c.in_ok-told.ensures ran.0 ran.2 }
+    record { history = ran.0; ran = ran.1; answers = c.in_ok-judged.ensures ran.0 ran.2 }
 
 pub returns-in_err-machine : goal.returns-in_err-machine
 returns-in_err-machine g c =

@@ -16,7 +16,7 @@ write_schedule-requires-clause-harts g c =
 pub returns : goal.returns
 returns g c n at_most get_on =
     let made = c.args.made.now in
-    let told = c.in_ok-judged.judged in
+    let parts = c.in_ok-judged.judged in
     record {
       events = made.events.items;
       few = omega (arith, made.events.ok.0);
@@ -25,7 +25,7 @@ returns g c n at_most get_on =
       each = c.requires.runs.each;
       at_most = at_most;
       get_on = get_on;
-      state = string_bytes told.0;
-      judged = subst (λ (t : History). IsJudged g.row.M c.args.test.now t (string_bytes told.0, told.1)) c.requires.runs.stands (c.in_ok-judged.ensures _ c.machine_state.ensures.stands);
+      state = string_bytes parts.0;
+      judged = subst (λ (t : History). IsJudged g.row.M c.args.test.now t (string_bytes parts.0, parts.1)) c.requires.runs.stands (c.in_ok-judged.ensures _ c.machine_state.ensures.stands);
       written = joined _ _ _ _ _ c.in_ok-push_str.ensures.bytes (c.in_ok-text.ensures.canonical ∙ ap canon c.deref.ensures.value) c.deref-2.ensures;
     }

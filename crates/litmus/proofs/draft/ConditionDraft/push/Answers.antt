@@ -29,8 +29,8 @@ pub returns-in-Ok-clause-begins : goal.returns-in-Ok-clause-begins
 returns-in-Ok-clause-begins c = begins_built c.push_reserved.new.self.items c.take.new.self (invariant_of-self-in-Ok c)
 
 misplaced-refused : (symbols : List Symbol) (next : Symbol) (e : ConditionError) → IfSome (fault_of e) (λ fault. symbol_added symbols next ≡ Err fault) → e ≡ Misplaced → ¬ Begins (symbols ++ next ∷ [])
-misplaced-refused symbols next NoMemory told_so same = absurd (cc)
-misplaced-refused symbols next Misplaced told_so same = refused_begins symbols next told_so
+misplaced-refused symbols next NoMemory not_one same = absurd (cc)
+misplaced-refused symbols next Misplaced not_one same = refused_begins symbols next not_one
 
 pub returns-in-Err-clause-misplaced : goal.returns-in-Err-clause-misplaced
 returns-in-Err-clause-misplaced c = λ same. let is : c.in-Err.error ≡ Misplaced = cc in misplaced-refused c.args.self.now c.args.token c.in-Err.error (returns-in-Err-clause-exact c) is

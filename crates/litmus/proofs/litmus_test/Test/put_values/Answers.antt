@@ -1,6 +1,0 @@
-use Rattle.std.proofs.Common.{◌∙◌, lit<, length}
-use Rattle.litmus.proofs.TestLaws.{lefts_there}
-use Rattle.litmus.proofs.litmus_test.Test.put_values.Goals as goal
-
-pub put_values-requires : goal.put_values-requires
-put_values-requires g c = (lit< tt, lefts_there _ c.args.self.now (length c.args.machine.now.harts) g.row.M c.deref.result.now c.self.invariant.0 c.self.view_is c.requires.harts c.requires.words (c.deref.ensures.value ∙ c.self.invariant.1))
