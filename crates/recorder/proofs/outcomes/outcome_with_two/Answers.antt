@@ -4,7 +4,7 @@ use Rattle.std.specs.Str.{bytes_eq}
 use Rattle.texts.specs.Numbers.{word_of}
 use Rattle.texts.proofs.ResultLaws.{some}
 use Rattle.recorder.proofs.OutcomeLaws.{end_is_no_number}
-use Rattle.recorder.proofs.outcomes.told_with_two.Goals as goal
+use Rattle.recorder.proofs.outcomes.outcome_with_two.Goals as goal
 
 pub returns-then-is_named-5 : goal.returns-then-is_named-5
 returns-then-is_named-5 c =
