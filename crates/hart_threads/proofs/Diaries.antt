@@ -1,16 +1,16 @@
 -- A diary against its part of the entries, entry by entry.
-use Rattle.std.proofs.Common.{◌≡◌, ℕ, ◌+◌, ◌<◌, Bool, true, false, cond, eqb, List, [], ◌∷◌, ◌++◌, length, get_or, take, drop, refl, sym, ◌∙◌, ap, arith, append-nil, append_assoc}
-use Rattle.std.specs.Prelude.{MatchBool}
-use Rattle.std.specs.List.{filter}
+use Rattle.std.proofs.Common.{◌≡◌, ℕ, ◌+◌, ◌<◌, Bool, true, false, not, cond, List, [], ◌∷◌, ◌++◌, length, get_or, take, drop, Option, Some, None, refl, sym, ◌∙◌, ap, arith, append-nil, append_assoc}
+use Rattle.std.specs.Prelude.{MatchBool, All, is_some, if◌then◌else◌}
+use Rattle.std.specs.List.{filter, slice_get}
 use Rattle.std.proofs.Math.Seq.{get_or-append_seam, take-length}
-use Rattle.std.proofs.lemmas.Bool.Decides.{nat_tests}
 use Rattle.std.proofs.lemmas.List.{take-append-drop, length-append}
 use Rattle.std.proofs.lemmas.List.Elements.{filter-append, filter_more}
 use Rattle.step_machine.specs.declared.events.Entry.{Entry}
 use Rattle.step_machine.specs.Entries.{own, is_own}
 use Rattle.hart_threads.specs.Seats.{SeatView}
-use Rattle.hart_threads.specs.Parts.{Fits, part_of, landings, is_landing_of}
-use Rattle.hart_threads.specs.inner.Searches.{keeps}
+use Rattle.step_machine.specs.Placing.{IsOwn}
+use Rattle.hart_threads.specs.Parts.{Fits, HasPart, HasPartAs, part_of, landings, is_landing_of}
+use Rattle.hart_threads.specs.inner.Searches.{counted, keeps}
 
 own-filter : (h : ℕ) (es : List Entry) → own h es ≡ filter (is_own h) es
 own-filter h [] = refl
@@ -30,10 +30,19 @@ filter_at p es i d within passes =
     ∙ ap (λ (xs : List Entry). xs ++ filter p (drop (i + 1) es)) (filter_more p es i d within ∙ ap (λ (b : Bool). filter p (take i es) ++ cond b (get_or es i d ∷ []) []) passes)
     ∙ append_assoc (filter p (take i es)) (get_or es i d ∷ []) (filter p (drop (i + 1) es))
 
+none_left : (xs : List Entry) → slice_get xs 0 ≡ None → length xs ≡ 0
+none_left [] is = refl
+none_left (x ∷ xs) is = absurd (cc)
+
+pub first_left : (xs : List Entry) (x : Entry) → slice_get xs 0 ≡ Some x → xs ≡ x ∷ drop 1 xs
+first_left [] x is = absurd (cc)
+first_left (y ∷ xs) x is = cc
+
 -- the diary is at its end and an entry more passes
-pub too_short : (s : SeatView) (es : List Entry) (i : ℕ) (d : Entry) (rest : List Entry) → i < length es → keeps s (get_or es i d) ≡ true → length rest ≡ 0 → s.diary ≡ filter (keeps s) (take i es) ++ rest → Fits es s → ⊥
+pub too_short : (s : SeatView) (es : List Entry) (i : ℕ) (d : Entry) (rest : List Entry) → i < length es → keeps s (get_or es i d) ≡ true → slice_get rest 0 ≡ None → s.diary ≡ filter (keeps s) (take i es) ++ rest → Fits es s → ⊥
 too_short s es i d rest within passes none so_far fits =
     let whole : s.diary ≡ filter (keeps s) (take i es) ++ get_or es i d ∷ filter (keeps s) (drop (i + 1) es) = fits ∙ part-filter s es ∙ filter_at (keeps s) es i d within passes in
+    let nothing : length rest ≡ 0 = none_left rest none in
     let a : length s.diary ≡ length (filter (keeps s) (take i es)) + length rest = ap length so_far ∙ length-append (filter (keeps s) (take i es)) rest in
     let b : length s.diary ≡ length (filter (keeps s) (take i es)) + length (get_or es i d ∷ filter (keeps s) (drop (i + 1) es)) = ap length whole ∙ length-append (filter (keeps s) (take i es)) (get_or es i d ∷ filter (keeps s) (drop (i + 1) es)) in
     omega arith
@@ -47,19 +56,29 @@ another s es i d first later within passes differs so_far fits =
     ∙ ap (λ (xs : List Entry). get_or xs (length (filter (keeps s) (take i es))) d) (sym so_far ∙ whole)
     ∙ get_or-append_seam (filter (keeps s) (take i es)) (get_or es i d) (filter (keeps s) (drop (i + 1) es)) d)
 
-nothing : (xs : List Entry) → length xs ≡ 0 → xs ≡ []
-nothing [] is = refl
-nothing (x ∷ xs) is = absurd (omega arith)
-
-pub at_the_end : (s : SeatView) (es : List Entry) (i : ℕ) (rest : List Entry) (b : Bool) → i ≡ length es → b ≡ eqb (length rest) 0 → s.diary ≡ filter (keeps s) (take i es) ++ rest → MatchBool b (Fits es s) (Fits es s → ⊥)
-at_the_end s es i rest b end empty so_far = at b empty
+pub at_the_end : (s : SeatView) (es : List Entry) (i : ℕ) (rest : List Entry) (o : Option Entry) (b : Bool) → i ≡ length es → o ≡ slice_get rest 0 → is_some o ≡ not b → s.diary ≡ filter (keeps s) (take i es) ++ rest
+    → MatchBool b (Fits es s) (Fits es s → ⊥)
+at_the_end s es i rest o b end first some so_far =
+    at rest b
+    (so_far ∙ ap (λ (xs : List Entry). filter (keeps s) xs ++ rest) (ap (λ (n : ℕ). take n es) end ∙ take-length es) ∙ ap (λ (xs : List Entry). xs ++ rest) (sym (part-filter s es)))
+    (sym (ap is_some first) ∙ some)
   where
-    all : s.diary ≡ part_of s es ++ rest
-    all = so_far ∙ ap (λ (xs : List Entry). filter (keeps s) xs ++ rest) (ap (λ (n : ℕ). take n es) end ∙ take-length es) ∙ ap (λ (xs : List Entry). xs ++ rest) (sym (part-filter s es))
-
-    at : (c : Bool) → c ≡ eqb (length rest) 0 → MatchBool c (Fits es s) (Fits es s → ⊥)
-    at true is = (let none : length rest ≡ 0 = grind (arith, nat_tests) in all ∙ ap (λ (xs : List Entry). part_of s es ++ xs) (nothing rest none) ∙ append-nil (part_of s es))
-    at false is = λ fits. (let more : 0 < length rest = grind (arith, nat_tests) in
-        let a : length s.diary ≡ length (part_of s es) + length rest = ap length all ∙ length-append (part_of s es) rest in
+    at : (xs : List Entry) (c : Bool) → s.diary ≡ part_of s es ++ xs → is_some (slice_get xs 0) ≡ not c → MatchBool c (Fits es s) (Fits es s → ⊥)
+    at [] true all is = all ∙ append-nil (part_of s es)
+    at [] false all is = absurd (cc)
+    at (x ∷ xs) true all is = absurd (cc)
+    at (x ∷ xs) false all is = λ fits. (let a : length s.diary ≡ length (part_of s es) + length (x ∷ xs) = ap length all ∙ length-append (part_of s es) (x ∷ xs) in
         let b : length s.diary ≡ length (part_of s es) = ap length fits in
         omega arith)
+
+-- what counts of a seat's diary decides whether it has its part
+pub part_has : (us : List Entry) (s : SeatView) (b : Bool) → (s.acts ≡ true → All (IsOwn s.hart) s.diary) → MatchBool b (counted s.acts s.diary ≡ part_of s us) (counted s.acts s.diary ≡ part_of s us → ⊥)
+    → MatchBool b (HasPart us s) (HasPart us s → ⊥)
+part_has us s b mine known = at b s.acts mine known
+  where
+    at : (b a : Bool) → (a ≡ true → All (IsOwn s.hart) s.diary) → MatchBool b (counted a s.diary ≡ (if a then own s.hart us else landings s.hart us)) (counted a s.diary ≡ (if a then own s.hart us else landings s.hart us) → ⊥)
+        → MatchBool b (HasPartAs a us s) (HasPartAs a us s → ⊥)
+    at true true mine same = (same, mine refl)
+    at true false mine same = same
+    at false true mine other = λ has. other has.0
+    at false false mine other = other

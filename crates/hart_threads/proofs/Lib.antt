@@ -10,3 +10,4 @@ pub mod SeatsBelow
 pub mod Fresh
 pub mod OverChannels
 pub mod Returning
+pub mod Made

@@ -14,6 +14,7 @@ use Rattle.hart_threads.specs.Parts.{Fits, Merge, IsLeast, landings}
 use Rattle.hart_threads.specs.GettingOn.{GetsOn, AllGetOn, OpensAs}
 use Rattle.hart_threads.specs.GettingOn.GetsOn.{over, goes, waits}
 use Rattle.hart_threads.specs.declared.turns.Ending.{Ending}
+use Rattle.hart_threads.specs.declared.turns.Calls.{Calls}
 use Rattle.hart_threads.specs.declared.turns.Ending.TheVariants as ending
 use Rattle.hart_threads.specs.inner.Threads.{Continues, Ran, WhereDone, GotOn, IsOver, MayHaveWaited}
 use Rattle.hart_threads.specs.Diaries.{acting_diary}
@@ -46,8 +47,8 @@ got_there n s t (inl is_over) = inl is_over
 got_there n s t (inr (inl more)) = inr (inl (omega arith))
 got_there n s t (inr (inr waited)) = inr (inr waited)
 
-went : (unheld : Type 0) (n M : ℕ) (o : Start) (s : SeatView) (e : Ending) (t : SeatView) → unheld → Ran unheld n s e t → OpensAs M o s → (e ≡ ending.NoMemory → ⊥) → (t.acts ≡ true → e ≡ ending.NoHart → ⊥) → Went n M o t
-went unheld n M o s e t is_open ran opens found served acts =
+went : (unheld : Type 0) (n M : ℕ) (o : Start) (s : SeatView) (e : Ending) (c : Calls) (t : SeatView) → unheld → Ran unheld n s e c t → OpensAs M o s → (e ≡ ending.NoMemory → ⊥) → (t.acts ≡ true → e ≡ ending.NoHart → ⊥) → Went n M o t
+went unheld n M o s e c t is_open ran opens found served acts =
     let acted : s.acts ≡ true = sym (ap (λ (v : SeatView). v.acts) ran.on.is) ∙ acts in (
       ap (λ (v : SeatView). v.first) ran.on.is ∙ opens acted ∙ ap (λ k. option_map (opens_as M) (slice_get o.harts k)) (sym (ap (λ (v : SeatView). v.hart) ran.on.is)),
       got_there n s t (where_done e (GotOn n s t) found (served acts) (ran.got_on acted is_open)),
@@ -75,9 +76,9 @@ gets_on n M t h s opens same (inr (inr waited)) = waits (record {
 
 -- ---- all seats
 
-module _ {R : Type 0} (seat : R → SeatView) (ending_of : R → Ending) (unheld : Type 0) (n : ℕ) (given : List SeatView) (back : List R) (ran : AllZip (λ s r. Ran unheld n s (ending_of r) (seat r)) given back) where
+module _ {R : Type 0} (seat : R → SeatView) (ending_of : R → Ending) (calls_of : R → Calls) (unheld : Type 0) (n : ℕ) (given : List SeatView) (back : List R) (ran : AllZip (λ s r. Ran unheld n s (ending_of r) (calls_of r) (seat r)) given back) where
   pub came : AllZip (Continues n) given (map seat back)
-  came = zip_after (λ (s : SeatView) (r : R). Ran unheld n s (ending_of r) (seat r)) (Continues n) seat (λ s r made. made.on) given back ran
+  came = zip_after (λ (s : SeatView) (r : R). Ran unheld n s (ending_of r) (calls_of r) (seat r)) (Continues n) seat (λ s r made. made.on) given back ran
 
   pub all_get_on : (M : ℕ) (o : Start) (t : History) → t.opening ≡ o → unheld → All (OpensAs M o) given → All (λ r. ending_of r ≡ ending.NoMemory → ⊥) back → All (λ r. (seat r).acts ≡ true → ending_of r ≡ ending.NoHart → ⊥) back → Merge (length o.harts) t.entries (map seat back) → AllGetOn n M t
   all_get_on M o t opening is_open opens found served merge h lt = at (its_acting (WentInto n M o t.entries) (length o.harts) h (map seat back) merge.complete low both)
@@ -86,8 +87,8 @@ module _ {R : Type 0} (seat : R → SeatView) (ending_of : R → Ending) (unheld
       low = subst (λ (x : Start). h < length x.harts) opening lt
 
       each : All (λ r. (ending_of r ≡ ending.NoMemory → ⊥) → ((seat r).acts ≡ true → ending_of r ≡ ending.NoHart → ⊥) → Went n M o (seat r)) back
-      each = zip_right (λ (s : SeatView) (r : R). Ran unheld n s (ending_of r) (seat r)) (OpensAs M o) (λ (r : R). (ending_of r ≡ ending.NoMemory → ⊥) → ((seat r).acts ≡ true → ending_of r ≡ ending.NoHart → ⊥) → Went n M o (seat r))
-          (λ s r made opens_so found_so served_so. went unheld n M o s (ending_of r) (seat r) is_open made opens_so found_so served_so) given back ran opens
+      each = zip_right (λ (s : SeatView) (r : R). Ran unheld n s (ending_of r) (calls_of r) (seat r)) (OpensAs M o) (λ (r : R). (ending_of r ≡ ending.NoMemory → ⊥) → ((seat r).acts ≡ true → ending_of r ≡ ending.NoHart → ⊥) → Went n M o (seat r))
+          (λ s r made opens_so found_so served_so. went unheld n M o s (ending_of r) (calls_of r) (seat r) is_open made opens_so found_so served_so) given back ran opens
 
       all_went : All (Went n M o) (map seat back)
       all_went = All-map (Went n M o) seat back (λ k d low. each k d low (found k d low) (served k d low))
@@ -109,6 +110,6 @@ module _ {R : Type 0} (seat : R → SeatView) (ending_of : R → Ending) (unheld
   pub lost_within : (k h : ℕ) (Good Bad : R → Type 0) → IsComplete k given → IsLeast (λ r. (seat r).hart) Good Bad back h → h < k
   lost_within k h Good Bad complete least =
       let within : All (λ (r : R). (seat r).hart < k) back =
-      zip_right (λ (s : SeatView) (r : R). Ran unheld n s (ending_of r) (seat r)) (λ (s : SeatView). s.hart < k) (λ (r : R). (seat r).hart < k)
+      zip_right (λ (s : SeatView) (r : R). Ran unheld n s (ending_of r) (calls_of r) (seat r)) (λ (s : SeatView). s.hart < k) (λ (r : R). (seat r).hart < k)
       (λ s r made low. subst (λ (v : SeatView). v.hart < k) (sym made.on.is) low) given back ran (harts_within k given complete) in
       subst (λ (x : ℕ). x < k) least.bad.2 (All-contains (λ (r : R). (seat r).hart < k) back least.bad.0 within least.bad.1)

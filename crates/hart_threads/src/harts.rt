@@ -36,7 +36,7 @@ struct Pledge<G: Gate, const M: usize> {
 impl<G: Gate, const M: usize> Promise<Returned<M>> for Pledge<G, M> {
     ghost use Rattle.hart_threads.specs.inner.Threads.{Ran};
 
-    ghost kept_by = { λ p r. Ran (G.is_open p.gate.value) p.turns p.given.value.seat r.1 r.0.seat };
+    ghost kept_by = { λ p r. Ran (G.is_open p.gate.value) p.turns p.given.value.seat r.1 r.2 r.0.seat };
 }
 
 /// Starts a thread for each seat, up to one that the system refuses: whether it refused none.
@@ -62,7 +62,7 @@ fn start_all<'s, E, G: Gate + Sync, R: Wait + Sync, const B: usize, const M: usi
             turns,
         };
         let run = move || -> Returned<M>
-            ensures { Ran (G.is_open gate.entry.now) turns held.seat result.1 result.0.seat }
+            ensures { Ran (G.is_open gate.entry.now) turns held.seat result.1 result.2 result.0.seat }
         { turns_of(rt, shared, held, gate, turns) };
         match scope.spawn_with(pledge, run) {
             Ok(handle) => handles.push_reserved(handle),
@@ -81,7 +81,7 @@ fn join_all<G: Gate, R: Threads, const M: usize>(
     requires room { vec_len handles ≤ vec_capacity back }
     requires empty { back.items ≡ [] }
     ensures few { vec_len result ≤ vec_len handles }
-    ensures kept { AllZip (λ h r. Ran (G.is_open h.promise.gate.value) h.promise.turns h.promise.given.value.seat r.1 r.0.seat) handles.items result.items }
+    ensures kept { AllZip (λ h r. Ran (G.is_open h.promise.gate.value) h.promise.turns h.promise.given.value.seat r.1 r.2 r.0.seat) handles.items result.items }
 {
     for handle in handles {
         back.push_reserved(handle.join(rt));
@@ -104,7 +104,7 @@ fn run_all<G: Gate + Sync, R: Threads + Wait + Sync, const B: usize, const M: us
     requires room { vec_len held ≤ vec_capacity handles }
     requires space { vec_len held ≤ vec_capacity back }
     ensures few { vec_len result.0 ≤ vec_len held.entry }
-    ensures ran { result.1 ≡ true → AllZip (λ s r. Ran (G.is_open gate.now) turns s r.1 r.0.seat) (map (λ h. h.seat) held.entry.items) result.0.items }
+    ensures ran { result.1 ≡ true → AllZip (λ s r. Ran (G.is_open gate.now) turns s r.1 r.2 r.0.seat) (map (λ h. h.seat) held.entry.items) result.0.items }
 {
     thread::scope(
         thread::scope_env(),
@@ -112,7 +112,7 @@ fn run_all<G: Gate + Sync, R: Threads + Wait + Sync, const B: usize, const M: us
         |scope| -> (Vec<Returned<M>>, bool)
             requires { (handles.items ≡ []) × (back.items ≡ []) × (vec_len held ≤ vec_capacity handles) × (vec_len held ≤ vec_capacity back) }
             ensures few { vec_len result.0 ≤ vec_len held }
-            ensures ran { result.1 ≡ true → AllZip (λ s r. Ran (G.is_open gate.entry.now) turns s r.1 r.0.seat) (map (λ h. h.seat) held.items) result.0.items }
+            ensures ran { result.1 ≡ true → AllZip (λ s r. Ran (G.is_open gate.entry.now) turns s r.1 r.2 r.0.seat) (map (λ h. h.seat) held.items) result.0.items }
         {
             let (handles, started) = start_all(scope, rt, shared, gate, turns, held, handles);
             (join_all(rt, handles, back), started)

@@ -56,7 +56,7 @@ pub(crate) fn release_all<const M: usize>(
     requires empty { seats.items ≡ [] }
     ensures { result.items ≡ map (λ r. r.0.seat) back.entry.items }
 {
-    for (held, _) in back {
+    for (held, _, _) in back {
         seats.push_reserved(held.release());
     }
     seats

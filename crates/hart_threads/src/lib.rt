@@ -28,6 +28,7 @@ pub mod local;
 mod missing;
 mod placing;
 pub mod record;
+mod rest;
 pub mod seat;
 pub mod shared;
 mod turns;

@@ -32,8 +32,8 @@ pub(crate) enum Ending {
     NoMemory,
 }
 
-/// A thread's seat as it comes back, and how the thread ended.
-pub(crate) type Returned<const M: usize> = (Held<M>, Ending);
+/// A thread's seat as it comes back, how the thread ended, and its calls.
+pub(crate) type Returned<const M: usize> = (Held<M>, Ending, Calls);
 
 /// The calls that a thread has made: how many, and what the last one answered, if it found memory.
 #[derive(Clone, Copy, Debug)]
@@ -81,16 +81,16 @@ pub(crate) fn turns_of<G: Gate, R: Wait, const B: usize, const M: usize>(
     gate: &G,
     turns: u32,
 ) -> Returned<M>
-    ensures { Ran (G.is_open gate.now) turns held.entry.seat result.1 result.0.seat }
+    ensures { Ran (G.is_open gate.now) turns held.entry.seat result.1 result.2 result.0.seat }
 {
-    let ended = if held.seat.acts() {
+    let (ending, calls) = if held.seat.acts() {
         let ended = acting_turns(rt, shared, &mut held.seat, gate, turns);
         shared.ended.note(held.seat.hart());
         ended
     } else {
         landing_turns(rt, shared, &mut held.seat, turns)
     };
-    (held, ended.0)
+    (held, ending, calls)
 }
 
 /// Lets the hart take turns until the gate holds it back, it is over or the turns are done. The gate is asked

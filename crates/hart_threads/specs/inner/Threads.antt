@@ -1,5 +1,5 @@
 -- What a thread makes of its seat, and how it ends.
-use Rattle.std.specs.Prelude.{ℕ, ◌≡◌, ◌+◌, ◌≤◌, ◌⊎◌, true, List, ◌++◌, length, IsSomeAnd, Result, Ok, Err, Option, Some, None}
+use Rattle.std.specs.Prelude.{ℕ, ◌≡◌, ◌+◌, ◌≤◌, ◌⊎◌, true, false, List, ◌++◌, length, IsSomeAnd, Result, Ok, Err, Option, Some, None}
 use Rattle.hart.specs.Steps.{need_of}
 use Rattle.hart.specs.declared.status.Status.TheVariants as status
 use Rattle.step_machine.specs.Banks.{is_over}
@@ -36,7 +36,7 @@ IsEnding n ending.HeldBack calls = calls.made + 1 ≤ n
 IsEnding n ending.Over calls = calls.last ≡ Some outcome.Over
 IsEnding n ending.TurnsDone calls = calls.made ≡ n
 IsEnding n ending.NoHart calls = calls.last ≡ Some outcome.NoHart
-IsEnding n ending.NoMemory calls = calls.last ≡ None
+IsEnding n ending.NoMemory calls = (1 ≤ calls.made) × (calls.last ≡ None)
 
 -- a thread that no gate holds back ends so by its last call
 abbrev pub EndsBy : Ending → Option Outcome → Type 0
@@ -81,7 +81,9 @@ WhereDone ending.TurnsDone P = P
 WhereDone ending.NoHart P = Unit {0}
 WhereDone ending.NoMemory P = Unit {0}
 
--- what n turns make of a seat, where the gate is open if unheld holds
-pub record Ran (unheld : Type 0) (n : ℕ) (s : SeatView) (e : Ending) (t : SeatView) : Type 0 where
+-- what n turns make of a seat, by its calls and how it ended, where the gate is open if unheld holds
+pub record Ran (unheld : Type 0) (n : ℕ) (s : SeatView) (e : Ending) (calls : Calls) (t : SeatView) : Type 0 where
   pub on : Continues n s t
+  pub ends : IsEnding n e calls
+  pub free : s.acts ≡ false → e ≡ ending.HeldBack → ⊥
   pub got_on : s.acts ≡ true → unheld → WhereDone e (GotOn n s t)

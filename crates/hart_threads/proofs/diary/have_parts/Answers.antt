@@ -13,7 +13,7 @@ loop-seat-preserved g c =
     let us = c.args.memory.now in
     let item = c.seat-item.result in
     let here : HasPart c.args.memory.now c.seat-item.result =
-    MatchBool-at_true (HasPart us item) (HasPart us item → ⊥) c.if-not-branch.false c.in_ok-has_part.ensures in
+    MatchBool-at_true (HasPart us item) (HasPart us item → ⊥) c.if-not-has_part.false c.has_part.ensures in
     subst (All (HasPart us)) (sym (take_more c.args.seats.now c.loop-seat.seat-index item c.loop-seat-test.true))
     (All-push (HasPart us) (take c.loop-seat.seat-index c.args.seats.now) (get_or c.args.seats.now c.loop-seat.seat-index item)
     c.loop-seat.invariant (subst (HasPart us) c.seat-item.is here))

@@ -24,7 +24,7 @@ returns g c =
     let us = c.args.memory.now in
     let seats = c.args.seats.now in
     let parts : All (HasPart c.args.memory.now) c.args.seats.now =
-    MatchBool-at_true (All (HasPart us) seats) (All (HasPart us) seats → ⊥) c.if-not-branch.false c.in_ok-have_parts.ensures in
+    MatchBool-at_true (All (HasPart us) seats) (All (HasPart us) seats → ⊥) c.if-not-have_parts.false c.have_parts.ensures in
     let known : ArePuttable c.args.opening.now c.args.memory.now c.args.seats.now =
     record { complete = c.requires.complete; parts = parts; harts = c.requires.harts; memory = c.requires.memory } in
     let whole : c.in_ok-entries.entries.items ≡ placed (diaries_in c.args.opening.now c.args.seats.now) c.args.memory.now =
