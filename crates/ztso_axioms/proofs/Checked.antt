@@ -139,18 +139,10 @@ pub read_op : (es : List Entry) (q : ℕ) (r : ℕ × ℕ × ℕ) → read_at es
 read_op es q r is = at (slice_get es q) is
   where
     at : (so : Option Entry) → option_and_then read_of so ≡ Some r → passes is_operation so ≡ true
-    at None e = cc
-    at (Some (entry.Inner h)) e = cc
     at (Some (entry.Load h a width v)) e = refl
     at (Some (entry.Store h a width v)) e = refl
     at (Some (entry.Amo h a old new)) e = refl
-    at (Some (entry.Fence h full)) e = cc
-    at (Some (entry.Next h w)) e = cc
-    at (Some (entry.Took h i w)) e = cc
-    at (Some (entry.Closed h i)) e = cc
-    at (Some (entry.Ended h)) e = cc
-    at (Some (entry.Stopped h why)) e = cc
-    at (Some (entry.Land h)) e = cc
+    at other e = cc
 
 pub values_from_indices : (o : Start) (es : List Entry) (gs : List ℕ) → NamesEachOnce es gs → ((i : ℕ) → i < length gs → HasLoadValue o es gs (get_or gs i 0)) → (q : ℕ) → HasLoadValue o es gs q
 values_from_indices o es gs n values q a width v is =

@@ -92,8 +92,6 @@ written_before : (all us : List Entry) (e : Entry) (ws : List Entry) (h : ℕ) (
 written_before all us e ws h rest split gs written = at e split
   where
     at : (d : Entry) → all ≡ us ++ d ∷ ws → AreWritten all (place_of (is_store_of h) (length us) d ++ gs) (store_of h d ++ stores h rest)
-    at (entry.Inner g) here = written
-    at (entry.Load g a width v) here = written
     at (entry.Store g a width v) here = mine (g == h)
       where
         writes : (b : ℕ) → written_at all b (length us) ≡ byte_in (write a width v) b
@@ -102,14 +100,7 @@ written_before all us e ws h rest split gs written = at e split
         mine : (b : Bool) → AreWritten all ((if b then length us ∷ [] else []) ++ gs) ((if b then write a width v ∷ [] else []) ++ stores h rest)
         mine true = (writes, written)
         mine false = written
-    at (entry.Amo g a old new) here = written
-    at (entry.Fence g full) here = written
-    at (entry.Next g w) here = written
-    at (entry.Took g i w) here = written
-    at (entry.Closed g i) here = written
-    at (entry.Ended g) here = written
-    at (entry.Stopped g why) here = written
-    at (entry.Land g) here = written
+    at other here = written
 
 pub written_stores : (all us es ws : List Entry) (h : ℕ) → all ≡ us ++ (es ++ ws) → AreWritten all (places_of (is_store_of h) (length us) es) (stores h es)
 written_stores all us [] ws h split = tt
@@ -173,16 +164,8 @@ store_not_yet B o es us ws h q legal split own le =
 
 -- an AMO or a full fence finds nothing pending of its hart
 pub barrier_waits : (B : ℕ) (o : Start) (us : List Entry) (h : ℕ) (e : Entry) → is_barrier h e ≡ true → Allowed B o us e → pending h us ≡ []
-barrier_waits B o us h (entry.Inner g) is may = cc
-barrier_waits B o us h (entry.Load g a width v) is may = cc
-barrier_waits B o us h (entry.Store g a width v) is may = cc
 barrier_waits B o us h (entry.Amo g a old new) is may = subst (λ (k : ℕ). pending k us ≡ []) (eqb-true g h is) may.0
 barrier_waits B o us h (entry.Fence g full) is may =
     let parts : (full ≡ true) × ((g == h) ≡ true) = and_parts full (g == h) is in
     subst (λ (k : ℕ). pending k us ≡ []) (eqb-true g h parts.1) (may parts.0)
-barrier_waits B o us h (entry.Next g w) is may = cc
-barrier_waits B o us h (entry.Took g i w) is may = cc
-barrier_waits B o us h (entry.Closed g i) is may = cc
-barrier_waits B o us h (entry.Ended g) is may = cc
-barrier_waits B o us h (entry.Stopped g why) is may = cc
-barrier_waits B o us h (entry.Land g) is may = cc
+barrier_waits B o us h other is may = cc

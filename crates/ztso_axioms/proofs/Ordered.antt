@@ -27,18 +27,10 @@ pub kind_at : (es : List Entry) (p : ℕ) → is_at is_operation es p ≡ true �
 kind_at es p op = at (slice_get es p) op
   where
     at : (so : Option Entry) → passes is_operation so ≡ true → (passes is_reader so ≡ true) ⊎ (passes (is_store_of (option_map_or hart_of so 0)) so ≡ true)
-    at None e = cc
-    at (Some (entry.Inner h)) e = cc
     at (Some (entry.Load h a width v)) e = inl refl
     at (Some (entry.Store h a width v)) e = inr (eq-eqb h h refl)
     at (Some (entry.Amo h a old new)) e = inl refl
-    at (Some (entry.Fence h full)) e = cc
-    at (Some (entry.Next h w)) e = cc
-    at (Some (entry.Took h i w)) e = cc
-    at (Some (entry.Closed h i)) e = cc
-    at (Some (entry.Ended h)) e = cc
-    at (Some (entry.Stopped h why)) e = cc
-    at (Some (entry.Land h)) e = cc
+    at other e = cc
 
 load_or_amo : (es : List Entry) (q : ℕ) → reads_at es q ≡ true → (is_at is_load es q ≡ true) ⊎ (is_at is_amo es q ≡ true)
 load_or_amo es q reads = at (slice_get es q) reads

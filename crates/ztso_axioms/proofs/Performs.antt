@@ -99,17 +99,10 @@ stores_by all us e ws h split n = at e (at_here (is_store_of h) all us e ws spli
         ∙ still
 
     at : (d : Entry) → stores_at all h (length us) ≡ is_store_of h d → filter (stores_at all h) (performed_by all us d) ++ take n (drop (lands h us + land_of h d) (store_places h all)) ≡ take (land_of h d + n) (drop (lands h us) (store_places h all))
-    at (entry.Inner g) here = still
     at (entry.Load g a width v) here = alone here
-    at (entry.Store g a width v) here = still
     at (entry.Amo g a old new) here = alone here
-    at (entry.Fence g full) here = still
-    at (entry.Next g w) here = still
-    at (entry.Took g i w) here = still
-    at (entry.Closed g i) here = still
-    at (entry.Ended g) here = still
-    at (entry.Stopped g why) here = still
     at (entry.Land g) here = landing g (g == h) refl
+    at other here = still
 
 -- of a hart's stores, those are performed that its landings number
 pub stores_performed : (all us es ws : List Entry) (h : ℕ) → all ≡ us ++ (es ++ ws) → filter (stores_at all h) (performed_after all us es) ≡ take (lands h es) (drop (lands h us) (store_places h all))
@@ -154,17 +147,8 @@ stores_left all h (suc n) lt =
 
 -- a store is no reader, and is an operation
 store_kinds : (h : ℕ) (e : Entry) → is_store_of h e ≡ true → (not (is_reader e) ≡ true) × (is_operation e ≡ true)
-store_kinds h (entry.Inner g) is = cc
-store_kinds h (entry.Load g a width v) is = cc
 store_kinds h (entry.Store g a width v) is = (refl, refl)
-store_kinds h (entry.Amo g a old new) is = cc
-store_kinds h (entry.Fence g full) is = cc
-store_kinds h (entry.Next g w) is = cc
-store_kinds h (entry.Took g i w) is = cc
-store_kinds h (entry.Closed g i) is = cc
-store_kinds h (entry.Ended g) is = cc
-store_kinds h (entry.Stopped g why) is = cc
-store_kinds h (entry.Land g) is = cc
+store_kinds h other is = cc
 
 stores_not_reads : (all : List Entry) (h x : ℕ) → stores_at all h x ≡ true → not (reads_at all x) ≡ true
 stores_not_reads all h x is = at (slice_get all x) is
@@ -187,17 +171,10 @@ reads_by : (all us : List Entry) (e : Entry) (ws : List Entry) → all ≡ us ++
 reads_by all us e ws split = at e (at_here is_reader all us e ws split)
   where
     at : (d : Entry) → reads_at all (length us) ≡ is_reader d → filter (reads_at all) (performed_by all us d) ≡ place_of is_reader (length us) d
-    at (entry.Inner g) here = refl
     at (entry.Load g a width v) here = ap (λ b. if b then length us ∷ [] else []) here
-    at (entry.Store g a width v) here = refl
     at (entry.Amo g a old new) here = ap (λ b. if b then length us ∷ [] else []) here
-    at (entry.Fence g full) here = refl
-    at (entry.Next g w) here = refl
-    at (entry.Took g i w) here = refl
-    at (entry.Closed g i) here = refl
-    at (entry.Ended g) here = refl
-    at (entry.Stopped g why) here = refl
     at (entry.Land g) here = no_reads all g (option_to_list (slice_get (store_places g all) (lands g us))) (Each-get (stores_at all g) (store_places g all) (lands g us) (Each-places (is_store_of g) all))
+    at other here = refl
 
 -- the loads and AMOs are performed at their places
 pub reads_performed : (all us es ws : List Entry) → all ≡ us ++ (es ++ ws) → filter (reads_at all) (performed_after all us es) ≡ places_of is_reader (length us) es
@@ -225,17 +202,10 @@ operations_by all us e ws split = at e (at_here is_operation all us e ws split)
     none = Each-nil (is_at is_operation all)
 
     at : (d : Entry) → is_at is_operation all (length us) ≡ is_operation d → Each (is_at is_operation all) (performed_by all us d)
-    at (entry.Inner g) here = none
     at (entry.Load g a width v) here = Each-one (is_at is_operation all) (length us) here
-    at (entry.Store g a width v) here = none
     at (entry.Amo g a old new) here = Each-one (is_at is_operation all) (length us) here
-    at (entry.Fence g full) here = none
-    at (entry.Next g w) here = none
-    at (entry.Took g i w) here = none
-    at (entry.Closed g i) here = none
-    at (entry.Ended g) here = none
-    at (entry.Stopped g why) here = none
     at (entry.Land g) here = Each-weaker (stores_at all g) (is_at is_operation all) (option_to_list (slice_get (store_places g all) (lands g us))) (stores_are_operations all g) (Each-get (stores_at all g) (store_places g all) (lands g us) (Each-places (is_store_of g) all))
+    at other here = none
 
 pub operations_performed : (all us es ws : List Entry) → all ≡ us ++ (es ++ ws) → Each (is_at is_operation all) (performed_after all us es)
 operations_performed all us [] ws split = Each-nil (is_at is_operation all)

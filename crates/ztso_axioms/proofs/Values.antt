@@ -64,16 +64,8 @@ writes_by B o all us e ws a w found split = at e split
     written d here = ap (λ zs. written_at zs a (length us)) here ∙ ap (option_and_then (written_to a)) (entry_here us d ws)
 
     at : (d : Entry) → all ≡ us ++ d ∷ ws → Allowed B o us d → last_written all a (unwrap_or found w) (performed_by all us d) ≡ unwrap_or (newest_of a found (write_of us d)) w
-    at (entry.Inner g) here may = refl
     at (entry.Load g b width v) here may = ap (λ so. unwrap_or so (unwrap_or found w)) (written (entry.Load g b width v) here)
-    at (entry.Store g b width v) here may = refl
     at (entry.Amo g b old new) here may = ap (λ so. unwrap_or so (unwrap_or found w)) (written (entry.Amo g b old new) here) ∙ chosen (covers (write b 4 new) a) (byte_at (a - b) new) w found
-    at (entry.Fence g full) here may = refl
-    at (entry.Next g x) here may = refl
-    at (entry.Took g i x) here may = refl
-    at (entry.Closed g i) here may = refl
-    at (entry.Ended g) here may = refl
-    at (entry.Stopped g why) here may = refl
     at (entry.Land g) here may =
         let pairs_written : AreWritten all (store_places g us) (stores g us) = front_written all us (entry.Land g ∷ ws) g here in
         let same : length (store_places g us) ≡ length (stores g us) = AreWritten-length all (store_places g us) (stores g us) pairs_written in
@@ -82,6 +74,7 @@ writes_by B o all us e ws a w found split = at e split
         ∙ ap (last_written all a (unwrap_or found w)) (first_of (store_places g us) (places_of (is_store_of g) (length us) (entry.Land g ∷ ws)) (lands g us) some)
         ∙ written_values all a w found (take 1 (drop (lands g us) (store_places g us))) (take 1 (drop (lands g us) (stores g us)))
         (written_first all (drop (lands g us) (store_places g us)) (drop (lands g us) (stores g us)) (AreWritten-drop all (lands g us) (store_places g us) (stores g us) pairs_written))
+    at other here may = refl
 
 -- what entries perform writes what reaches memory
 writes_after : (B : ℕ) (o : Start) (all us es ws : List Entry) (a w : ℕ) (found : Option ℕ) → all ≡ us ++ (es ++ ws) → LegalAfter B o us es → last_written all a (unwrap_or found w) (performed_after all us es) ≡ unwrap_or (newest_of a found (landed_after us es)) w
@@ -117,18 +110,8 @@ sees_own es q x us ws split len out op = at (kind_at es x op)
         ap (λ b. (hart_at es x == hart_at es q) && b) is ∙ off (hart_at es x == hart_at es q) (stores_at es (hart_at es q) x) ∙ ap (λ b. stores_at es (hart_at es q) x && b) (sym is)
 
     writer : (so : Option Entry) → passes (is_store_of (option_map_or hart_of so 0)) so ≡ true → (option_map_or hart_of so 0 == hart_at es q) ≡ passes (is_store_of (hart_at es q)) so
-    writer None own = cc
-    writer (Some (entry.Inner h)) own = cc
-    writer (Some (entry.Load h a width v)) own = cc
     writer (Some (entry.Store h a width v)) own = refl
-    writer (Some (entry.Amo h a old new)) own = cc
-    writer (Some (entry.Fence h full)) own = cc
-    writer (Some (entry.Next h w)) own = cc
-    writer (Some (entry.Took h i w)) own = cc
-    writer (Some (entry.Closed h i)) own = cc
-    writer (Some (entry.Ended h)) own = cc
-    writer (Some (entry.Stopped h why)) own = cc
-    writer (Some (entry.Land h)) own = cc
+    writer other own = cc
 
     at : (reads_at es x ≡ true) ⊎ (stores_at es (hart_at es x) x ≡ true) → in_program_order es x q ≡ (stores_at es (hart_at es q) x && nat_lt x q)
     at (inl reads) = reader reads (nat_lt x q) refl
@@ -177,17 +160,9 @@ pending_places B o es us ws h q legal split len =
 
 -- a read performs itself
 reader_performs : (es us : List Entry) (e : Entry) → is_reader e ≡ true → performed_by es us e ≡ length us ∷ []
-reader_performs es us (entry.Inner g) is = cc
 reader_performs es us (entry.Load g a width v) is = refl
-reader_performs es us (entry.Store g a width v) is = cc
 reader_performs es us (entry.Amo g a old new) is = refl
-reader_performs es us (entry.Fence g full) is = cc
-reader_performs es us (entry.Next g w) is = cc
-reader_performs es us (entry.Took g i w) is = cc
-reader_performs es us (entry.Closed g i) is = cc
-reader_performs es us (entry.Ended g) is = cc
-reader_performs es us (entry.Stopped g why) is = cc
-reader_performs es us (entry.Land g) is = cc
+reader_performs es us other is = cc
 
 -- what stands before a read is what the front performed
 before_read : (es us : List Entry) (e : Entry) (ws : List Entry) (q : ℕ) → es ≡ us ++ e ∷ ws → length us ≡ q → is_reader e ≡ true → reads_at es q ≡ true → before q (performed_order es) ≡ performed_after es [] us
@@ -245,21 +220,13 @@ byte_of_read B o es us e ws q a legal split len reader reads =
     (AreWritten-drop es (lands (hart_at es q) us) (store_places (hart_at es q) us) (stores (hart_at es q) us) (front_written es us (e ∷ ws) (hart_at es q) split))
 
 reads_what : (B : ℕ) (o : Start) (us : List Entry) (e : Entry) (a n v : ℕ) → read_of e ≡ Some (a, n, v) → Allowed B o us e → (is_reader e ≡ true) × (v ≡ read o us (hart_of e) a n)
-reads_what B o us (entry.Inner g) a n v is may = cc
 reads_what B o us (entry.Load g b width w) a n v is may =
     let same : (b, width, w) ≡ (a, n, v) = cc in
     (refl, ap (λ (r : ℕ × ℕ × ℕ). r.2) (sym same) ∙ may ∙ ap (λ (r : ℕ × ℕ × ℕ). read o us g r.0 r.1) same)
-reads_what B o us (entry.Store g b width w) a n v is may = cc
 reads_what B o us (entry.Amo g b old new) a n v is may =
     let same : (b, 4, old) ≡ (a, n, v) = cc in
     (refl, ap (λ (r : ℕ × ℕ × ℕ). r.2) (sym same) ∙ may.1 ∙ ap (λ (r : ℕ × ℕ × ℕ). read o us g r.0 r.1) same)
-reads_what B o us (entry.Fence g full) a n v is may = cc
-reads_what B o us (entry.Next g w) a n v is may = cc
-reads_what B o us (entry.Took g i w) a n v is may = cc
-reads_what B o us (entry.Closed g i) a n v is may = cc
-reads_what B o us (entry.Ended g) a n v is may = cc
-reads_what B o us (entry.Stopped g why) a n v is may = cc
-reads_what B o us (entry.Land g) a n v is may = cc
+reads_what B o us other a n v is may = cc
 
 pub order-values : (B : ℕ) (o : Start) (es : List Entry) → LegalAfter B o [] es → (q : ℕ) → HasLoadValue o es (performed_order es) q
 order-values B o es legal q a width v is = at (slice_get es q) refl is
@@ -296,18 +263,9 @@ byte_in_below w a b small = at (covers w a)
     at false = small
 
 written_below : (a b : ℕ) (so : Option Entry) → b < 256 → unwrap_or (option_and_then (written_to a) so) b < 256
-written_below a b None small = small
 written_below a b (Some (entry.Store h x width v)) small = byte_in_below (write x width v) a b small
 written_below a b (Some (entry.Amo h x old new)) small = byte_in_below (write x 4 new) a b small
-written_below a b (Some (entry.Inner h)) small = small
-written_below a b (Some (entry.Load h x width v)) small = small
-written_below a b (Some (entry.Fence h full)) small = small
-written_below a b (Some (entry.Next h w)) small = small
-written_below a b (Some (entry.Took h i w)) small = small
-written_below a b (Some (entry.Closed h i)) small = small
-written_below a b (Some (entry.Ended h)) small = small
-written_below a b (Some (entry.Stopped h why)) small = small
-written_below a b (Some (entry.Land h)) small = small
+written_below a b other small = small
 
 last_below : (es : List Entry) (a b : ℕ) (gs : List ℕ) → b < 256 → last_written es a b gs < 256
 last_below es a b [] small = small

@@ -122,18 +122,11 @@ lands_more h es i d lt = ap (lands h) (take_more es i d lt) ∙ lands-last h (ta
 
 -- what an entry performs, by the list of landings
 pub performed_by-there : (es : List Entry) (i : ℕ) (e : Entry) (landed : List (Option ℕ)) (stands : Option ℕ) → NamesLandings es (hart_bound es) landed → slice_get es i ≡ Some e → i ≡ length (take i es) → stands ≡ get_or landed i None → performed_by es (take i es) e ≡ option_to_list (performed_there e i stands)
-performed_by-there es i (entry.Inner h) landed stands named is len read = refl
 performed_by-there es i (entry.Load h a width v) landed stands named is len read = ap (λ n. n ∷ []) (sym len)
-performed_by-there es i (entry.Store h a width v) landed stands named is len read = refl
 performed_by-there es i (entry.Amo h a old new) landed stands named is len read = ap (λ n. n ∷ []) (sym len)
-performed_by-there es i (entry.Fence h full) landed stands named is len read = refl
-performed_by-there es i (entry.Next h w) landed stands named is len read = refl
-performed_by-there es i (entry.Took h k w) landed stands named is len read = refl
-performed_by-there es i (entry.Closed h k) landed stands named is len read = refl
-performed_by-there es i (entry.Ended h) landed stands named is len read = refl
-performed_by-there es i (entry.Stopped h why) landed stands named is len read = refl
 performed_by-there es i (entry.Land h) landed stands named is len read =
     ap option_to_list (sym (read ∙ named i h (hart_below es i (entry.Land h) is) is))
+performed_by-there es i other landed stands named is len read = refl
 
 pub performed_more : (es : List Entry) (i : ℕ) (d : Entry) → i < length es → performed_after es [] (take (i + 1) es) ≡ performed_after es [] (take i es) ++ performed_by es (take i es) (get_or es i d)
 performed_more es i d lt = ap (performed_after es []) (take_more es i d lt) ∙ performed-last es (take i es) (get_or es i d)
@@ -191,17 +184,8 @@ land_of-land : (h : ℕ) → land_of h (entry.Land h) ≡ 1
 land_of-land h = ap (λ b. if b then 1 else 0) (eq-eqb h h refl)
 
 land_of-else : (h : ℕ) (e : Entry) → (e ≡ entry.Land h → ⊥) → land_of h e ≡ 0
-land_of-else h (entry.Inner g) ne = refl
-land_of-else h (entry.Load g a width v) ne = refl
-land_of-else h (entry.Store g a width v) ne = refl
-land_of-else h (entry.Amo g a old new) ne = refl
-land_of-else h (entry.Fence g full) ne = refl
-land_of-else h (entry.Next g w) ne = refl
-land_of-else h (entry.Took g i w) ne = refl
-land_of-else h (entry.Closed g i) ne = refl
-land_of-else h (entry.Ended g) ne = refl
-land_of-else h (entry.Stopped g why) ne = refl
 land_of-else h (entry.Land g) ne = ap (λ b. if b then 1 else 0) (ne_eqb g h (λ e. ne (ap entry.Land e)))
+land_of-else h other ne = refl
 
 pub naming_none : (es : List Entry) (h : ℕ) (old : List (Option ℕ)) → length old ≡ length es → Naming es h 0 0 old old
 naming_none es h old len = record { few = omega arith; counted = refl; len = len; added = λ k lt is. absurd (omega arith); others = λ k no. refl }
