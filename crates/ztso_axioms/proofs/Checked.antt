@@ -2,7 +2,7 @@
 use Rattle.std.proofs.Common.{◌≡◌, ℕ, ◌+◌, ◌-◌, ◌≤◌, ◌<◌, Bool, true, false, not, ◌&&◌, ◌||◌, if◌then◌else◌, nat_lt, List, [], ◌∷◌, ◌++◌, length, take, drop, get_or, Option, Some, None, refl, sym, ◌∙◌, ap, subst, arith, length-drop, get_or-drop}
 use Rattle.std.specs.Prelude.{All, filter, unwrap_or, option_and_then}
 use Rattle.std.specs.List.{slice_get}
-use Rattle.std.proofs.lemmas.Bool.{and_parts, ltb-true, ltb-false, lt-ltb, le-ltb}
+use Rattle.std.proofs.lemmas.Bool.{and_parts, ltb-true, ltb-false, lt-ltb, le-ltb, cond_both, false_from_ne_true, true_from_ne_false}
 use Rattle.std.proofs.lemmas.List.{take_rest, get_or_default, get_or_read, drop_more}
 use Rattle.std.proofs.lemmas.List.Elements.{filter-append}
 use Rattle.std.proofs.lemmas.Option.{slice_get_past}
@@ -14,11 +14,7 @@ use Rattle.ztso_axioms.specs.Axioms.{times_named, is_named, is_before, in_progra
 use Rattle.ztso_axioms.proofs.Listing.{Once, times-none, times-some, named-some, named_at, index_of, split_at, is_before-index}
 
 pub once_of : (es : List Entry) (gs : List ℕ) → NamesEachOnce es gs → Once gs
-once_of es gs n = record { once = λ p. at p (is_at is_operation es p) (n p) }
-  where
-    at : (p : ℕ) (b : Bool) → times_named p gs ≡ (if b then 1 else 0) → times_named p gs ≤ 1
-    at p true e = omega arith
-    at p false e = omega arith
+once_of es gs n = record { once = λ p. subst (λ k. k ≤ 1) (sym (n p)) (cond_both (is_at is_operation es p) 1 0 (λ k. k ≤ 1) (λ _. omega arith) (λ _. omega arith)) }
 
 -- an operation is named
 pub named_op : (es : List Entry) (gs : List ℕ) (p : ℕ) → NamesEachOnce es gs → is_at is_operation es p ≡ true → is_named p gs ≡ true
@@ -45,15 +41,11 @@ names_from es gs each within p = at (nat_lt p (length es)) refl
         none past (is_named p gs) refl ∙ ap (λ so. if passes is_operation so then 1 else 0) (sym (slice_get_past es p past))
 
 pub within_from : (es : List Entry) (gs : List ℕ) → NamesEachOnce es gs → All (λ (g : ℕ). g < length es) gs
-within_from es gs n k d lt = at (nat_lt (get_or gs k d) (length es)) refl
-  where
-    at : (b : Bool) → nat_lt (get_or gs k d) (length es) ≡ b → get_or gs k d < length es
-    at true is = ltb-true (get_or gs k d) (length es) is
-    at false is =
-        let past : length es ≤ get_or gs k d = ltb-false (get_or gs k d) (length es) is in
-        let none : times_named (get_or gs k d) gs ≡ 0 = n (get_or gs k d) ∙ ap (λ so. if passes is_operation so then 1 else 0) (slice_get_past es (get_or gs k d) past) in
-        let some : 1 ≤ times_named (get_or gs k d) gs = times-some (get_or gs k d) gs (named_at gs k d lt) in
-        absurd (omega arith)
+within_from es gs n k d lt = ltb-true (get_or gs k d) (length es) (true_from_ne_false _ (λ is.
+    let past : length es ≤ get_or gs k d = ltb-false (get_or gs k d) (length es) is in
+    let none : times_named (get_or gs k d) gs ≡ 0 = n (get_or gs k d) ∙ ap (λ so. if passes is_operation so then 1 else 0) (slice_get_past es (get_or gs k d) past) in
+    let some : 1 ≤ times_named (get_or gs k d) gs = times-some (get_or gs k d) gs (named_at gs k d lt) in
+    omega arith))
 
 preserved_parts : (es : List Entry) (p q : ℕ) → is_preserved es p q ≡ true → (is_at is_operation es p ≡ true) × (is_at is_operation es q ≡ true)
 preserved_parts es p q is =
@@ -86,18 +78,19 @@ keeps_from_indices es gs n none p q is =
         cc
 
 pub indices_from_keeps : (es : List Entry) (gs : List ℕ) (i : ℕ) → NamesEachOnce es gs → KeepsProgramOrder es gs → i < length gs → NoneBelongsBefore es gs i
-indices_from_keeps es gs i n keeps lt k d within = at (is_preserved es (get_or (drop i gs) k d) (get_or gs i 0)) refl
-  where
-    at : (b : Bool) → is_preserved es (get_or (drop i gs) k d) (get_or gs i 0) ≡ b → b ≡ false
-    at false is = refl
-    at true is =
-        let inside : i + k < length gs = omega (arith, length-drop i gs) in
-        let same : get_or (drop i gs) k d ≡ get_or gs (i + k) 0 = get_or-drop i gs k d ∙ get_or_default gs (i + k) d 0 inside in
-        let before_it : is_before gs (get_or (drop i gs) k d) (get_or gs i 0) ≡ true = keeps (get_or (drop i gs) k d) (get_or gs i 0) is in
-        let index : is_before gs (get_or gs (i + k) 0) (get_or gs i 0) ≡ nat_lt (i + k) i = is_before-index gs (i + k) i (once_of es gs n) inside lt in
-        let not_lt : nat_lt (i + k) i ≡ false = le-ltb (i + k) i (omega arith) in
-        let b : is_before gs (get_or gs (i + k) 0) (get_or gs i 0) ≡ true = subst (λ (x : ℕ). is_before gs x (get_or gs i 0) ≡ true) same before_it in
-        cc
+indices_from_keeps es gs i n keeps lt k d within = false_from_ne_true _ (λ is.
+    let inside : i + k < length gs = omega (arith, length-drop i gs) in
+    let same : get_or (drop i gs) k d ≡ get_or gs (i + k) 0 = get_or-drop i gs k d ∙ get_or_default gs (i + k) d 0 inside in
+    let before_it : is_before gs (get_or (drop i gs) k d) (get_or gs i 0) ≡ true = keeps (get_or (drop i gs) k d) (get_or gs i 0) is in
+    let index : is_before gs (get_or gs (i + k) 0) (get_or gs i 0) ≡ nat_lt (i + k) i = is_before-index gs (i + k) i (once_of es gs n) inside lt in
+    let not_lt : nat_lt (i + k) i ≡ false = le-ltb (i + k) i (omega arith) in
+    let b : is_before gs (get_or gs (i + k) 0) (get_or gs i 0) ≡ true = subst (λ (x : ℕ). is_before gs x (get_or gs i 0) ≡ true) same before_it in
+    (cc))
+
+-- one more operation that is not seen, before those of which none is
+pub none_seen_more : (seen : ℕ → Bool) (gs : List ℕ) (j : ℕ) → j < length gs → seen (get_or gs j 0) ≡ false → filter seen (drop (j + 1) gs) ≡ [] → filter seen (drop j gs) ≡ []
+none_seen_more seen gs j lt is none =
+    ap (filter seen) (drop_more gs j 0 lt) ∙ ap (λ b. if b then get_or gs j 0 ∷ filter seen (drop (j + 1) gs) else filter seen (drop (j + 1) gs)) is ∙ none
 
 -- nothing that is seen among these operations writes to the address
 abbrev pub NoneWrites : List Entry → ℕ → (ℕ → Bool) → List ℕ → Type 0

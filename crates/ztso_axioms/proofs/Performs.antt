@@ -1,9 +1,10 @@
 -- What the entries of a trace perform: of each hart its stores in order, as many as it has landings,
 -- and each load and AMO at its place.
-use Rattle.std.proofs.Common.{◌≡◌, ℕ, zero, suc, ◌+◌, ◌≤◌, ◌<◌, ◌==◌, Bool, true, false, not, ◌&&◌, ◌||◌, if◌then◌else◌, nat_lt, List, [], ◌∷◌, ◌++◌, length, take, drop, Option, Some, None, refl, sym, ◌∙◌, ap, arith, append-nil, append_assoc, length-append}
+use Rattle.std.proofs.Common.{◌≡◌, ℕ, zero, suc, ◌+◌, ◌≤◌, ◌<◌, ◌==◌, Bool, true, false, not, ◌||◌, if◌then◌else◌, nat_lt, List, [], ◌∷◌, ◌++◌, length, take, drop, Option, Some, None, refl, sym, ◌∙◌, ap, arith, append-nil, append_assoc, length-append}
 use Rattle.std.specs.Prelude.{filter, option_to_list}
 use Rattle.std.specs.List.{slice_get}
-use Rattle.std.proofs.lemmas.Bool.{eqb-true, eqb-false, ne_eqb, and_parts, ltb-true, ltb-false}
+use Rattle.std.proofs.lemmas.Bool.{eqb-true, eqb-false, ne_eqb, and_parts, and_right, ltb-true, ltb-false}
+use Rattle.std.proofs.Math.Seq.{drop-nil, take-nil}
 use Rattle.std.proofs.lemmas.List.{take-append-drop}
 use Rattle.std.proofs.lemmas.List.Elements.{filter-append}
 use Rattle.step_machine.specs.Entries.{hart_of, land_of, lands}
@@ -34,15 +35,7 @@ at_here test all us e ws split = ap (λ es. passes test (slice_get es (length us
 
 -- take one more
 take_next : (xs : List ℕ) (k n : ℕ) → option_to_list (slice_get xs k) ++ take n (drop (k + 1) xs) ≡ take (1 + n) (drop k xs)
-take_next [] k n = ap (λ zs. take n zs) (drop_nil (k + 1)) ∙ take_nil n ∙ sym (ap (take (1 + n)) (drop_nil k) ∙ take_nil (1 + n))
-  where
-    drop_nil : (m : ℕ) → drop {A = ℕ} m [] ≡ []
-    drop_nil zero = refl
-    drop_nil (suc m) = refl
-
-    take_nil : (m : ℕ) → take {A = ℕ} m [] ≡ []
-    take_nil zero = refl
-    take_nil (suc m) = refl
+take_next [] k n = ap (take n) (drop-nil (k + 1)) ∙ take-nil n ∙ sym (ap (take (1 + n)) (drop-nil k) ∙ take-nil (1 + n))
 take_next (x ∷ xs) zero n = let one : 1 + n ≡ suc n = omega arith in ap (λ m. take m (x ∷ xs)) (sym one)
 take_next (x ∷ xs) (suc k) n = let one : suc k + 1 ≡ suc (k + 1) = omega arith in ap (λ m. option_to_list (slice_get xs k) ++ take n (drop m (x ∷ xs))) one ∙ take_next xs k n
 
@@ -51,12 +44,7 @@ other_hart : (h g : ℕ) (e : Entry) → (g ≡ h → ⊥) → is_store_of g e �
 other_hart h g e ne is =
     let parts : (is_store e ≡ true) × ((hart_of e == g) ≡ true) = and_parts (is_store e) (hart_of e == g) is in
     let mine : hart_of e ≡ g = eqb-true (hart_of e) g parts.1 in
-    let no : (hart_of e == h) ≡ false = ne_eqb (hart_of e) h (λ q. ne (sym mine ∙ q)) in
-    at (is_store e) no
-  where
-    at : (b : Bool) → (hart_of e == h) ≡ false → (b && (hart_of e == h)) ≡ false
-    at true f = f
-    at false f = refl
+    and_right _ _ (ne_eqb (hart_of e) h (λ q. ne (sym mine ∙ q)))
 
 others_not : (all : List Entry) (h g : ℕ) → (g ≡ h → ⊥) → (x : ℕ) → stores_at all g x ≡ true → not (stores_at all h x) ≡ true
 others_not all h g ne x is = at (slice_get all x) is
@@ -234,17 +222,13 @@ order-stores es h =
     ∙ ap (λ zs. zs ++ filter (stores_at es h) (left_below (hart_bound es) es)) (stores_performed es [] es [] h (whole_split es))
     ∙ at (nat_lt h (hart_bound es)) refl
   where
-    take_none : (m : ℕ) → take {A = ℕ} m [] ≡ []
-    take_none zero = refl
-    take_none (suc m) = refl
-
     at : (b : Bool) → nat_lt h (hart_bound es) ≡ b → take (lands h es) (store_places h es) ++ filter (stores_at es h) (left_below (hart_bound es) es) ≡ store_places h es
     at true is = ap (λ zs. take (lands h es) (store_places h es) ++ zs) (stores_left es h (hart_bound es) (ltb-true h (hart_bound es) is)) ∙ take-append-drop (lands h es) (store_places h es)
     at false is =
         let none : store_places h es ≡ [] = stores_past es h (ltb-false h (hart_bound es) is) in
         ap (λ zs. take (lands h es) (store_places h es) ++ zs) (left_past es h (hart_bound es) (ltb-false h (hart_bound es) is))
         ∙ append-nil (take (lands h es) (store_places h es))
-        ∙ ap (take (lands h es)) none ∙ take_none (lands h es) ∙ sym none
+        ∙ ap (take (lands h es)) none ∙ take-nil (lands h es) ∙ sym none
 
 pub order-reads : (es : List Entry) → filter (reads_at es) (performed_after es [] es ++ left_below (hart_bound es) es) ≡ places_of is_reader 0 es
 order-reads es =

@@ -2,7 +2,8 @@
 use Rattle.std.proofs.Common.{◌≡◌, ℕ, zero, suc, ◌+◌, ◌-◌, ◌≤◌, ◌<◌, ◌==◌, Bool, true, false, ◌&&◌, if◌then◌else◌, nat_lt, nat_le, List, [], ◌∷◌, ◌++◌, length, take, drop, get_or, set, Option, Some, None, refl, sym, ◌∙◌, ap, subst, arith, append-nil, length-set, get_or-set_same, get_or-set_other}
 use Rattle.std.specs.Prelude.{All, max, option_to_list, MatchOption}
 use Rattle.std.specs.List.{slice_get}
-use Rattle.std.proofs.lemmas.Bool.{eqb-true, eqb-false, eq-eqb, ne_eqb, ltb-true, ltb-false, leb-true, leb-false}
+use Rattle.std.proofs.lemmas.Bool.{eqb-true, eqb-false, eq-eqb, ne_eqb, and_right, ltb-true, ltb-false, leb-true, leb-false}
+use Rattle.std.proofs.Math.Seq.{drop-nil}
 use Rattle.std.proofs.lemmas.List.{take_more, length-take-le, get_or_read}
 use Rattle.std.proofs.lemmas.List.Elements.{All-push}
 use Rattle.std.proofs.lemmas.Option.{slice_get-get_or, slice_get_within, get_or_from_slice_get}
@@ -39,16 +40,7 @@ no_stores h n [] none = refl
 no_stores h n (e ∷ es) none =
     let other : (hart_of e == h) ≡ false = ne_eqb (hart_of e) h (none 0 e refl) in
     let rest : places_of (is_store_of h) (suc n) es ≡ [] = no_stores h (suc n) es (λ i d is. none (suc i) d is) in
-    let no : (is_store e && (hart_of e == h)) ≡ false = at (is_store e) other in
-    ap (λ b. if b then n ∷ places_of (is_store_of h) (suc n) es else places_of (is_store_of h) (suc n) es) no ∙ rest
-  where
-    at : (b : Bool) → (hart_of e == h) ≡ false → (b && (hart_of e == h)) ≡ false
-    at true f = f
-    at false f = refl
-
-drop-nil : (n : ℕ) → drop {A = ℕ} n [] ≡ []
-drop-nil zero = refl
-drop-nil (suc n) = refl
+    ap (λ b. if b then n ∷ places_of (is_store_of h) (suc n) es else places_of (is_store_of h) (suc n) es) (and_right (is_store e) _ other) ∙ rest
 
 pub left_none : (h : ℕ) (es : List Entry) → ((i : ℕ) (e : Entry) → slice_get es i ≡ Some e → hart_of e ≡ h → ⊥) → left_places h es ≡ []
 left_none h es none = ap (drop (lands h es)) (no_stores h 0 es none) ∙ drop-nil (lands h es)

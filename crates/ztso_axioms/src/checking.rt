@@ -1,6 +1,6 @@
 //! Whether a list is a global memory order that the axioms allow.
 
-ghost use Rattle.std.specs.Prelude.{◌≡◌, ℕ, ◌^◌, ◌<◌, ◌↔◌, IsTrue, true, false, nat_lt, if◌then◌else◌, All, suc, drop, length, slice_index, None};
+ghost use Rattle.std.specs.Prelude.{◌≡◌, ℕ, ◌^◌, ◌<◌, ◌≤◌, ◌↔◌, IsTrue, true, false, nat_lt, if◌then◌else◌, [], All, suc, drop, filter, length, slice_index, None};
 ghost use Rattle.std.specs.List.{list_any};
 ghost use Rattle.step_machine.specs.Entries.{opening_byte};
 ghost use Rattle.ztso_axioms.specs.Operations.{written_at, hart_at};
@@ -154,8 +154,9 @@ fn has_bytes(trace: &Trace, order: &[Op], index: usize, addr: u32, width: u32, v
     requires within { index < length order.now }
     ensures { IsTrue result ↔ (value ≡ value_for trace.now.opening trace.now.entries order.now (slice_index order.now index) addr width) }
 {
+    let end = end_of_seen(&trace.entries, order, index);
     for place in 0..width as usize {
-        if latest_byte(trace, order, index, addr as usize + place) != byte_at(value, place) {
+        if latest_byte(trace, order, index, end, addr as usize + place) != byte_at(value, place) {
             return false;
         }
     }
@@ -176,13 +177,32 @@ fn is_below(value: u32, width: u32) -> bool
     }
 }
 
-/// The byte that the order gives a read of the address by the operation at `index`.
-fn latest_byte(trace: &Trace, order: &[Op], index: usize, addr: usize) -> u8
-    requires once { NamesEachOnce trace.now.entries order.now }
+/// How much of the order holds all stores that the operation at `index` can take its value from: each byte
+/// of a read looks through that part alone.
+fn end_of_seen(entries: &[Entry], order: &[Op], index: usize) -> usize
+    requires once { NamesEachOnce entries.now order.now }
     requires within { index < length order.now }
-    ensures { result ≡ byte_for trace.now.opening trace.now.entries order.now (slice_index order.now index) addr }
+    ensures within { result ≤ length order.now }
+    ensures seen { filter (is_seen entries.now order.now (slice_index order.now index)) (drop result order.now) ≡ [] }
 {
     for place in (0..order.len()).rev() {
+        if sees(entries, order, index, place) {
+            return place + 1;
+        }
+    }
+    0
+}
+
+/// The byte that the order gives a read of the address by the operation at `index`, which sees nothing of
+/// the order from `end` on.
+fn latest_byte(trace: &Trace, order: &[Op], index: usize, end: usize, addr: usize) -> u8
+    requires once { NamesEachOnce trace.now.entries order.now }
+    requires within { index < length order.now }
+    requires end { end ≤ length order.now }
+    requires seen { filter (is_seen trace.now.entries order.now (slice_index order.now index)) (drop end order.now) ≡ [] }
+    ensures { result ≡ byte_for trace.now.opening trace.now.entries order.now (slice_index order.now index) addr }
+{
+    for place in (0..end).rev() {
         if let Some(byte) = byte_seen(&trace.entries, order, index, place, addr) {
             return byte;
         }
