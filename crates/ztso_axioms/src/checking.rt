@@ -2,8 +2,8 @@
 
 ghost use Rattle.std.specs.Prelude.{◌≡◌, ℕ, ◌^◌, ◌<◌, ◌≤◌, ◌↔◌, IsTrue, true, false, nat_lt, if◌then◌else◌, [], All, suc, drop, filter, length, slice_index, None};
 ghost use Rattle.std.specs.List.{list_any};
-ghost use Rattle.step_machine.specs.Entries.{opening_byte};
-ghost use Rattle.ztso_axioms.specs.Operations.{written_at, hart_at};
+ghost use Rattle.step_machine.specs.Entries.{hart_of, opening_byte};
+ghost use Rattle.ztso_axioms.specs.Operations.{is_load, is_at, written_at, hart_at};
 ghost use Rattle.ztso_axioms.specs.Axioms.{times_named, is_barrier, is_fenced, is_preserved, in_program_order, is_seen, byte_for, value_for, NamesEachOnce, KeepsProgramOrder, HasLoadValue, Ztso};
 
 use crate::operation::{
@@ -76,13 +76,25 @@ fn may_precede(entries: &[Entry], op: Op, others: &[Op]) -> bool
     let Some(entry) = entry_at(entries, op) else {
         return true;
     };
-    let barrier = last_barrier(&entries[..place], entry.hart());
+    let barrier = barrier_for(entry, &entries[..place]);
     for other in others {
         if is_kept(entries, *other, op, barrier) {
             return false;
         }
     }
     true
+}
+
+/// For a load the place of its hart's last AMO or full fence among the entries before it, and 0 where there
+/// is none. No other operation passes a store, so for them the place does not matter.
+fn barrier_for(entry: Entry, earlier: &[Entry]) -> usize
+    ensures { IsTrue (is_load entry) → (p : ℕ) → list_any (is_barrier (hart_of entry)) (drop (suc p) earlier.now) ≡ nat_lt p result }
+{
+    if is_plain_load(entry) {
+        last_barrier(earlier, entry.hart())
+    } else {
+        0
+    }
 }
 
 /// The place of the last AMO or full fence of the hart, and 0 where there is none.
@@ -98,10 +110,10 @@ fn last_barrier(entries: &[Entry], hart: u32) -> usize
     last
 }
 
-/// Whether the preserved program order has `first` before `second`, whose hart's last AMO or full fence
-/// before it stands at `barrier`.
+/// Whether the preserved program order has `first` before `second`; if that is a load, its hart's last AMO
+/// or full fence before it stands at `barrier`.
 fn is_kept(entries: &[Entry], first: Op, second: Op, barrier: usize) -> bool
-    requires { is_fenced entries.now (hart_at entries.now second) first second ≡ nat_lt first barrier }
+    requires { IsTrue (is_at is_load entries.now second) → is_fenced entries.now (hart_at entries.now second) first second ≡ nat_lt first barrier }
     ensures { result ≡ is_preserved entries.now first second }
 {
     if !is_earlier(entries, first, second) {
