@@ -22,30 +22,24 @@ named_op es gs p n op =
     let one : times_named p gs ≡ 1 = n p ∙ ap (λ b. if b then 1 else 0) op in
     named-some p gs (omega arith)
 
--- each place of the trace is named as often as it should be, and no other is
-pub names_from : (es : List Entry) (gs : List ℕ) → ((p : ℕ) → p < length es → times_named p gs ≡ (if is_at is_operation es p then 1 else 0)) → All (λ (g : ℕ). g < length es) gs → NamesEachOnce es gs
-names_from es gs each within p = at (nat_lt p (length es)) refl
+-- each operation of the trace is named once, and nothing else is
+pub names_from : (es : List Entry) (gs : List ℕ) → ((p : ℕ) → p < length es → is_at is_operation es p ≡ true → times_named p gs ≡ 1) → All (λ (g : ℕ). is_at is_operation es g ≡ true) gs → NamesEachOnce es gs
+names_from es gs once operations p = at (is_at is_operation es p) refl
   where
-    none : length es ≤ p → (b : Bool) → is_named p gs ≡ b → times_named p gs ≡ 0
-    none past false is = times-none p gs is
-    none past true is =
+    at : (b : Bool) → is_at is_operation es p ≡ b → times_named p gs ≡ (if b then 1 else 0)
+    at true op = once p (ltb-true p (length es) (true_from_ne_false _ (λ past.
+        let none : is_at is_operation es p ≡ false = ap (passes is_operation) (slice_get_past es p (ltb-false p (length es) past)) in
+        (cc)))) op
+    at false none = times-none p gs (false_from_ne_true _ (λ is.
         let there : (i : ℕ) × (i < length gs) × (get_or gs i 0 ≡ p) = index_of p gs is in
-        let lt : get_or gs there.0 0 < length es = within there.0 0 there.1 in
-        let same : get_or gs there.0 0 ≡ p = there.2 in
-        absurd (omega arith)
+        let op : is_at is_operation es p ≡ true = subst (λ (x : ℕ). is_at is_operation es x ≡ true) there.2 (operations there.0 0 there.1) in
+        (cc)))
 
-    at : (b : Bool) → nat_lt p (length es) ≡ b → times_named p gs ≡ (if is_at is_operation es p then 1 else 0)
-    at true is = each p (ltb-true p (length es) is)
-    at false is =
-        let past : length es ≤ p = ltb-false p (length es) is in
-        none past (is_named p gs) refl ∙ ap (λ so. if passes is_operation so then 1 else 0) (sym (slice_get_past es p past))
-
-pub within_from : (es : List Entry) (gs : List ℕ) → NamesEachOnce es gs → All (λ (g : ℕ). g < length es) gs
-within_from es gs n k d lt = ltb-true (get_or gs k d) (length es) (true_from_ne_false _ (λ is.
-    let past : length es ≤ get_or gs k d = ltb-false (get_or gs k d) (length es) is in
-    let none : times_named (get_or gs k d) gs ≡ 0 = n (get_or gs k d) ∙ ap (λ so. if passes is_operation so then 1 else 0) (slice_get_past es (get_or gs k d) past) in
+pub operations_from : (es : List Entry) (gs : List ℕ) → NamesEachOnce es gs → All (λ (g : ℕ). is_at is_operation es g ≡ true) gs
+operations_from es gs n k d lt = true_from_ne_false _ (λ no.
+    let none : times_named (get_or gs k d) gs ≡ 0 = n (get_or gs k d) ∙ ap (λ b. if b then 1 else 0) no in
     let some : 1 ≤ times_named (get_or gs k d) gs = times-some (get_or gs k d) gs (named_at gs k d lt) in
-    omega arith))
+    omega arith)
 
 preserved_parts : (es : List Entry) (p q : ℕ) → is_preserved es p q ≡ true → (is_at is_operation es p ≡ true) × (is_at is_operation es q ≡ true)
 preserved_parts es p q is =

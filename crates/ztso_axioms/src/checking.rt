@@ -3,12 +3,12 @@
 ghost use Rattle.std.specs.Prelude.{◌≡◌, ℕ, ◌^◌, ◌<◌, ◌≤◌, ◌↔◌, IsTrue, true, false, nat_lt, if◌then◌else◌, [], All, suc, drop, filter, length, slice_index, None};
 ghost use Rattle.std.specs.List.{list_any};
 ghost use Rattle.step_machine.specs.Entries.{hart_of, opening_byte};
-ghost use Rattle.ztso_axioms.specs.Operations.{is_load, is_at, written_at, hart_at};
+ghost use Rattle.ztso_axioms.specs.Operations.{is_load, is_operation, is_at, written_at, hart_at};
 ghost use Rattle.ztso_axioms.specs.Axioms.{times_named, is_barrier, is_fenced, is_preserved, in_program_order, is_seen, byte_for, value_for, NamesEachOnce, KeepsProgramOrder, HasLoadValue, Ztso};
 
 use crate::operation::{
-    Op, byte_at, byte_named, entry_at, hart_named, is_memory_operation, is_plain_load,
-    is_plain_store, orders, value_read,
+    Op, byte_at, byte_named, entry_at, hart_named, is_memory_operation, is_operation_named,
+    is_plain_load, is_plain_store, orders, value_read,
 };
 use step_machine::{Entry, Opening, Trace};
 
@@ -28,18 +28,18 @@ fn names_each_once(entries: &[Entry], order: &[Op]) -> bool
     ensures { IsTrue result ↔ NamesEachOnce entries.now order.now }
 {
     for (place, entry) in entries.iter().enumerate() {
-        let wanted = if is_memory_operation(*entry) { 1 } else { 0 };
-        if times(order, place) != wanted {
+        if is_memory_operation(*entry) && times(order, place) != 1 {
             return false;
         }
     }
-    are_below(order, entries.len())
+    names_operations(entries, order)
 }
 
-fn are_below(order: &[Op], len: usize) -> bool
-    ensures { IsTrue result ↔ All (λ p. p < len) order.now }
+/// Whether the list names nothing but operations.
+fn names_operations(entries: &[Entry], order: &[Op]) -> bool
+    ensures { IsTrue result ↔ All (λ p. IsTrue (is_at is_operation entries.now p)) order.now }
 {
-    order.iter().all(|op| op.place < len)
+    order.iter().all(|op| is_operation_named(entries, *op))
 }
 
 /// How often the list names the place.
