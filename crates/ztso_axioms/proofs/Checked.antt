@@ -2,7 +2,7 @@
 use Rattle.std.proofs.Common.{◌≡◌, ℕ, ◌+◌, ◌-◌, ◌≤◌, ◌<◌, Bool, true, false, not, ◌&&◌, ◌||◌, if◌then◌else◌, nat_lt, List, [], ◌∷◌, ◌++◌, length, take, drop, get_or, Option, Some, None, refl, sym, ◌∙◌, ap, subst, arith, length-drop, get_or-drop}
 use Rattle.std.specs.Prelude.{All, filter, unwrap_or, option_and_then}
 use Rattle.std.specs.List.{slice_get}
-use Rattle.std.proofs.lemmas.Bool.{and_parts, ltb-true, ltb-false, lt-ltb, le-ltb}
+use Rattle.std.proofs.lemmas.Bool.{and_parts, ltb-true, ltb-false, lt-ltb, le-ltb, cond_both, false_from_ne_true, true_from_ne_false}
 use Rattle.std.proofs.lemmas.List.{take_rest, get_or_default, get_or_read, drop_more}
 use Rattle.std.proofs.lemmas.List.Elements.{filter-append}
 use Rattle.std.proofs.lemmas.Option.{slice_get_past}
@@ -14,11 +14,7 @@ use Rattle.ztso_axioms.specs.Axioms.{times_named, is_named, is_before, in_progra
 use Rattle.ztso_axioms.proofs.Listing.{Once, times-none, times-some, named-some, named_at, index_of, split_at, is_before-index}
 
 pub once_of : (es : List Entry) (gs : List ℕ) → NamesEachOnce es gs → Once gs
-once_of es gs n = record { once = λ p. at p (is_at is_operation es p) (n p) }
-  where
-    at : (p : ℕ) (b : Bool) → times_named p gs ≡ (if b then 1 else 0) → times_named p gs ≤ 1
-    at p true e = omega arith
-    at p false e = omega arith
+once_of es gs n = record { once = λ p. subst (λ k. k ≤ 1) (sym (n p)) (cond_both (is_at is_operation es p) 1 0 (λ k. k ≤ 1) (λ _. omega arith) (λ _. omega arith)) }
 
 -- an operation is named
 pub named_op : (es : List Entry) (gs : List ℕ) (p : ℕ) → NamesEachOnce es gs → is_at is_operation es p ≡ true → is_named p gs ≡ true
@@ -26,34 +22,24 @@ named_op es gs p n op =
     let one : times_named p gs ≡ 1 = n p ∙ ap (λ b. if b then 1 else 0) op in
     named-some p gs (omega arith)
 
--- each place of the trace is named as often as it should be, and no other is
-pub names_from : (es : List Entry) (gs : List ℕ) → ((p : ℕ) → p < length es → times_named p gs ≡ (if is_at is_operation es p then 1 else 0)) → All (λ (g : ℕ). g < length es) gs → NamesEachOnce es gs
-names_from es gs each within p = at (nat_lt p (length es)) refl
+-- each operation of the trace is named once, and nothing else is
+pub names_from : (es : List Entry) (gs : List ℕ) → ((p : ℕ) → p < length es → is_at is_operation es p ≡ true → times_named p gs ≡ 1) → All (λ (g : ℕ). is_at is_operation es g ≡ true) gs → NamesEachOnce es gs
+names_from es gs once operations p = at (is_at is_operation es p) refl
   where
-    none : length es ≤ p → (b : Bool) → is_named p gs ≡ b → times_named p gs ≡ 0
-    none past false is = times-none p gs is
-    none past true is =
+    at : (b : Bool) → is_at is_operation es p ≡ b → times_named p gs ≡ (if b then 1 else 0)
+    at true op = once p (ltb-true p (length es) (true_from_ne_false _ (λ past.
+        let none : is_at is_operation es p ≡ false = ap (passes is_operation) (slice_get_past es p (ltb-false p (length es) past)) in
+        (cc)))) op
+    at false none = times-none p gs (false_from_ne_true _ (λ is.
         let there : (i : ℕ) × (i < length gs) × (get_or gs i 0 ≡ p) = index_of p gs is in
-        let lt : get_or gs there.0 0 < length es = within there.0 0 there.1 in
-        let same : get_or gs there.0 0 ≡ p = there.2 in
-        absurd (omega arith)
+        let op : is_at is_operation es p ≡ true = subst (λ (x : ℕ). is_at is_operation es x ≡ true) there.2 (operations there.0 0 there.1) in
+        (cc)))
 
-    at : (b : Bool) → nat_lt p (length es) ≡ b → times_named p gs ≡ (if is_at is_operation es p then 1 else 0)
-    at true is = each p (ltb-true p (length es) is)
-    at false is =
-        let past : length es ≤ p = ltb-false p (length es) is in
-        none past (is_named p gs) refl ∙ ap (λ so. if passes is_operation so then 1 else 0) (sym (slice_get_past es p past))
-
-pub within_from : (es : List Entry) (gs : List ℕ) → NamesEachOnce es gs → All (λ (g : ℕ). g < length es) gs
-within_from es gs n k d lt = at (nat_lt (get_or gs k d) (length es)) refl
-  where
-    at : (b : Bool) → nat_lt (get_or gs k d) (length es) ≡ b → get_or gs k d < length es
-    at true is = ltb-true (get_or gs k d) (length es) is
-    at false is =
-        let past : length es ≤ get_or gs k d = ltb-false (get_or gs k d) (length es) is in
-        let none : times_named (get_or gs k d) gs ≡ 0 = n (get_or gs k d) ∙ ap (λ so. if passes is_operation so then 1 else 0) (slice_get_past es (get_or gs k d) past) in
-        let some : 1 ≤ times_named (get_or gs k d) gs = times-some (get_or gs k d) gs (named_at gs k d lt) in
-        absurd (omega arith)
+pub operations_from : (es : List Entry) (gs : List ℕ) → NamesEachOnce es gs → All (λ (g : ℕ). is_at is_operation es g ≡ true) gs
+operations_from es gs n k d lt = true_from_ne_false _ (λ no.
+    let none : times_named (get_or gs k d) gs ≡ 0 = n (get_or gs k d) ∙ ap (λ b. if b then 1 else 0) no in
+    let some : 1 ≤ times_named (get_or gs k d) gs = times-some (get_or gs k d) gs (named_at gs k d lt) in
+    omega arith)
 
 preserved_parts : (es : List Entry) (p q : ℕ) → is_preserved es p q ≡ true → (is_at is_operation es p ≡ true) × (is_at is_operation es q ≡ true)
 preserved_parts es p q is =
@@ -86,18 +72,19 @@ keeps_from_indices es gs n none p q is =
         cc
 
 pub indices_from_keeps : (es : List Entry) (gs : List ℕ) (i : ℕ) → NamesEachOnce es gs → KeepsProgramOrder es gs → i < length gs → NoneBelongsBefore es gs i
-indices_from_keeps es gs i n keeps lt k d within = at (is_preserved es (get_or (drop i gs) k d) (get_or gs i 0)) refl
-  where
-    at : (b : Bool) → is_preserved es (get_or (drop i gs) k d) (get_or gs i 0) ≡ b → b ≡ false
-    at false is = refl
-    at true is =
-        let inside : i + k < length gs = omega (arith, length-drop i gs) in
-        let same : get_or (drop i gs) k d ≡ get_or gs (i + k) 0 = get_or-drop i gs k d ∙ get_or_default gs (i + k) d 0 inside in
-        let before_it : is_before gs (get_or (drop i gs) k d) (get_or gs i 0) ≡ true = keeps (get_or (drop i gs) k d) (get_or gs i 0) is in
-        let index : is_before gs (get_or gs (i + k) 0) (get_or gs i 0) ≡ nat_lt (i + k) i = is_before-index gs (i + k) i (once_of es gs n) inside lt in
-        let not_lt : nat_lt (i + k) i ≡ false = le-ltb (i + k) i (omega arith) in
-        let b : is_before gs (get_or gs (i + k) 0) (get_or gs i 0) ≡ true = subst (λ (x : ℕ). is_before gs x (get_or gs i 0) ≡ true) same before_it in
-        cc
+indices_from_keeps es gs i n keeps lt k d within = false_from_ne_true _ (λ is.
+    let inside : i + k < length gs = omega (arith, length-drop i gs) in
+    let same : get_or (drop i gs) k d ≡ get_or gs (i + k) 0 = get_or-drop i gs k d ∙ get_or_default gs (i + k) d 0 inside in
+    let before_it : is_before gs (get_or (drop i gs) k d) (get_or gs i 0) ≡ true = keeps (get_or (drop i gs) k d) (get_or gs i 0) is in
+    let index : is_before gs (get_or gs (i + k) 0) (get_or gs i 0) ≡ nat_lt (i + k) i = is_before-index gs (i + k) i (once_of es gs n) inside lt in
+    let not_lt : nat_lt (i + k) i ≡ false = le-ltb (i + k) i (omega arith) in
+    let b : is_before gs (get_or gs (i + k) 0) (get_or gs i 0) ≡ true = subst (λ (x : ℕ). is_before gs x (get_or gs i 0) ≡ true) same before_it in
+    (cc))
+
+-- one more operation that is not seen, before those of which none is
+pub none_seen_more : (seen : ℕ → Bool) (gs : List ℕ) (j : ℕ) → j < length gs → seen (get_or gs j 0) ≡ false → filter seen (drop (j + 1) gs) ≡ [] → filter seen (drop j gs) ≡ []
+none_seen_more seen gs j lt is none =
+    ap (filter seen) (drop_more gs j 0 lt) ∙ ap (λ b. if b then get_or gs j 0 ∷ filter seen (drop (j + 1) gs) else filter seen (drop (j + 1) gs)) is ∙ none
 
 -- nothing that is seen among these operations writes to the address
 abbrev pub NoneWrites : List Entry → ℕ → (ℕ → Bool) → List ℕ → Type 0
@@ -139,18 +126,10 @@ pub read_op : (es : List Entry) (q : ℕ) (r : ℕ × ℕ × ℕ) → read_at es
 read_op es q r is = at (slice_get es q) is
   where
     at : (so : Option Entry) → option_and_then read_of so ≡ Some r → passes is_operation so ≡ true
-    at None e = cc
-    at (Some (entry.Inner h)) e = cc
     at (Some (entry.Load h a width v)) e = refl
     at (Some (entry.Store h a width v)) e = refl
     at (Some (entry.Amo h a old new)) e = refl
-    at (Some (entry.Fence h full)) e = cc
-    at (Some (entry.Next h w)) e = cc
-    at (Some (entry.Took h i w)) e = cc
-    at (Some (entry.Closed h i)) e = cc
-    at (Some (entry.Ended h)) e = cc
-    at (Some (entry.Stopped h why)) e = cc
-    at (Some (entry.Land h)) e = cc
+    at other e = cc
 
 pub values_from_indices : (o : Start) (es : List Entry) (gs : List ℕ) → NamesEachOnce es gs → ((i : ℕ) → i < length gs → HasLoadValue o es gs (get_or gs i 0)) → (q : ℕ) → HasLoadValue o es gs q
 values_from_indices o es gs n values q a width v is =

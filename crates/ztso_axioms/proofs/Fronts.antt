@@ -1,8 +1,8 @@
 -- The front of a trace, and what it has performed.
-use Rattle.std.proofs.Common.{◌≡◌, ℕ, zero, suc, ◌≤◌, ◌<◌, ◌==◌, Bool, true, false, ◌||◌, if◌then◌else◌, List, [], ◌∷◌, ◌++◌, length, take, drop, Option, Some, None, refl, sym, ◌∙◌, ap, subst, arith, append_assoc, length-append, length-drop}
+use Rattle.std.proofs.Common.{◌≡◌, ℕ, zero, suc, ◌≤◌, ◌<◌, ◌==◌, Bool, true, false, if◌then◌else◌, List, [], ◌∷◌, ◌++◌, length, take, drop, Option, Some, None, refl, sym, ◌∙◌, ap, subst, arith, append_assoc, length-append, length-drop}
 use Rattle.std.specs.Prelude.{option_and_then}
 use Rattle.std.specs.List.{slice_get}
-use Rattle.std.proofs.lemmas.Bool.{eqb-true, and_parts}
+use Rattle.std.proofs.lemmas.Bool.{eqb-true, and_parts, or_left, false_from_ne_true}
 use Rattle.std.proofs.lemmas.List.{take-append-drop, take-append-le, take_all}
 use Rattle.std.proofs.lemmas.Option.{slice_get_past}
 use Rattle.step_machine.specs.History.{Start}
@@ -71,29 +71,24 @@ store_in_front es us ws h p split own =
 -- each place holds a store of the pair beside it
 abbrev pub AreWritten : List Entry → List ℕ → List Write → Type 0
 AreWritten all [] [] = Unit {0}
-AreWritten all [] (p ∷ ps) = ⊥
-AreWritten all (g ∷ gs) [] = ⊥
 AreWritten all (g ∷ gs) (p ∷ ps) = ((a : ℕ) → written_at all a g ≡ byte_in p a) × AreWritten all gs ps
+AreWritten all gs ps = ⊥
 
 pub AreWritten-length : (all : List Entry) (gs : List ℕ) (ps : List Write) → AreWritten all gs ps → length gs ≡ length ps
 AreWritten-length all [] [] written = refl
-AreWritten-length all [] (p ∷ ps) written = absurd written
-AreWritten-length all (g ∷ gs) [] written = absurd written
 AreWritten-length all (g ∷ gs) (p ∷ ps) written = ap suc (AreWritten-length all gs ps written.1)
+AreWritten-length all gs ps written = absurd written
 
 pub AreWritten-drop : (all : List Entry) (n : ℕ) (gs : List ℕ) (ps : List Write) → AreWritten all gs ps → AreWritten all (drop n gs) (drop n ps)
 AreWritten-drop all zero gs ps written = written
 AreWritten-drop all (suc n) [] [] written = written
-AreWritten-drop all (suc n) [] (p ∷ ps) written = absurd written
-AreWritten-drop all (suc n) (g ∷ gs) [] written = absurd written
 AreWritten-drop all (suc n) (g ∷ gs) (p ∷ ps) written = AreWritten-drop all n gs ps written.1
+AreWritten-drop all (suc n) gs ps written = absurd written
 
 written_before : (all us : List Entry) (e : Entry) (ws : List Entry) (h : ℕ) (rest : List Entry) → all ≡ us ++ e ∷ ws → (gs : List ℕ) → AreWritten all gs (stores h rest) → AreWritten all (place_of (is_store_of h) (length us) e ++ gs) (store_of h e ++ stores h rest)
 written_before all us e ws h rest split gs written = at e split
   where
     at : (d : Entry) → all ≡ us ++ d ∷ ws → AreWritten all (place_of (is_store_of h) (length us) d ++ gs) (store_of h d ++ stores h rest)
-    at (entry.Inner g) here = written
-    at (entry.Load g a width v) here = written
     at (entry.Store g a width v) here = mine (g == h)
       where
         writes : (b : ℕ) → written_at all b (length us) ≡ byte_in (write a width v) b
@@ -102,14 +97,7 @@ written_before all us e ws h rest split gs written = at e split
         mine : (b : Bool) → AreWritten all ((if b then length us ∷ [] else []) ++ gs) ((if b then write a width v ∷ [] else []) ++ stores h rest)
         mine true = (writes, written)
         mine false = written
-    at (entry.Amo g a old new) here = written
-    at (entry.Fence g full) here = written
-    at (entry.Next g w) here = written
-    at (entry.Took g i w) here = written
-    at (entry.Closed g i) here = written
-    at (entry.Ended g) here = written
-    at (entry.Stopped g why) here = written
-    at (entry.Land g) here = written
+    at other here = written
 
 pub written_stores : (all us es ws : List Entry) (h : ℕ) → all ≡ us ++ (es ++ ws) → AreWritten all (places_of (is_store_of h) (length us) es) (stores h es)
 written_stores all us [] ws h split = tt
@@ -160,29 +148,17 @@ pub store_not_yet : (B : ℕ) (o : Start) (es us ws : List Entry) (h q : ℕ) �
 store_not_yet B o es us ws h q legal split own le =
     store_in_front es us ws h q split own
     ∙ ap (is_named q) (front_landed B o es us ws h legal split)
-    ∙ at (is_named q (take (lands h us) (store_places h us))) refl
-  where
-    at : (b : Bool) → is_named q (take (lands h us) (store_places h us)) ≡ b → is_named q (take (lands h us) (store_places h us)) ≡ false
-    at false is = is
-    at true is =
-        let whole : is_named q (store_places h us) ≡ true
-        = ap (is_named q) (sym (take-append-drop (lands h us) (store_places h us))) ∙ named-append q (take (lands h us) (store_places h us)) (drop (lands h us) (store_places h us)) ∙ ap (λ b. b || is_named q (drop (lands h us) (store_places h us))) is in
-        let here : is_at (is_store_of h) us q ≡ true = sym (named-places (is_store_of h) q us) ∙ whole in
-        let past : is_at (is_store_of h) us q ≡ false = at_past (is_store_of h) us q le in
-        cc
+    ∙ false_from_ne_true _ (λ is.
+    let whole : is_named q (store_places h us) ≡ true
+    = ap (is_named q) (sym (take-append-drop (lands h us) (store_places h us))) ∙ named-append q (take (lands h us) (store_places h us)) (drop (lands h us) (store_places h us)) ∙ or_left _ _ is in
+    let here : is_at (is_store_of h) us q ≡ true = sym (named-places (is_store_of h) q us) ∙ whole in
+    let past : is_at (is_store_of h) us q ≡ false = at_past (is_store_of h) us q le in
+    (cc))
 
 -- an AMO or a full fence finds nothing pending of its hart
 pub barrier_waits : (B : ℕ) (o : Start) (us : List Entry) (h : ℕ) (e : Entry) → is_barrier h e ≡ true → Allowed B o us e → pending h us ≡ []
-barrier_waits B o us h (entry.Inner g) is may = cc
-barrier_waits B o us h (entry.Load g a width v) is may = cc
-barrier_waits B o us h (entry.Store g a width v) is may = cc
 barrier_waits B o us h (entry.Amo g a old new) is may = subst (λ (k : ℕ). pending k us ≡ []) (eqb-true g h is) may.0
 barrier_waits B o us h (entry.Fence g full) is may =
     let parts : (full ≡ true) × ((g == h) ≡ true) = and_parts full (g == h) is in
     subst (λ (k : ℕ). pending k us ≡ []) (eqb-true g h parts.1) (may parts.0)
-barrier_waits B o us h (entry.Next g w) is may = cc
-barrier_waits B o us h (entry.Took g i w) is may = cc
-barrier_waits B o us h (entry.Closed g i) is may = cc
-barrier_waits B o us h (entry.Ended g) is may = cc
-barrier_waits B o us h (entry.Stopped g why) is may = cc
-barrier_waits B o us h (entry.Land g) is may = cc
+barrier_waits B o us h other is may = cc

@@ -1,7 +1,8 @@
 -- Lists of places: how often they name one, and what stands before it.
-use Rattle.std.proofs.Common.{◌≡◌, ℕ, zero, suc, ◌+◌, ◌-◌, ◌≤◌, ◌<◌, ◌==◌, Bool, true, false, ◌||◌, if◌then◌else◌, nat_lt, List, [], ◌∷◌, ◌++◌, length, take, drop, get_or, refl, sym, ◌∙◌, ap, subst, arith, zero-add, length-take, length-drop, get_or-take, get_or-drop}
+use Rattle.std.proofs.Common.{◌≡◌, ℕ, suc, ◌+◌, ◌-◌, ◌≤◌, ◌<◌, ◌==◌, Bool, true, false, ◌||◌, if◌then◌else◌, nat_lt, List, [], ◌∷◌, ◌++◌, length, take, drop, get_or, refl, sym, ◌∙◌, ap, subst, arith, length-take, length-drop, get_or-take, get_or-drop}
 use Rattle.std.proofs.lemmas.Bool.{eqb-true, eq-eqb, ne_eqb, ltb-true, ltb-false}
-use Rattle.std.proofs.lemmas.List.{take-append-drop, drop_more, take_more, get_or_read}
+use Rattle.std.proofs.lemmas.List.{take-append-drop, drop_more, take_more, get_or_read, get_or_default}
+use Rattle.std.proofs.lemmas.List.Folds.{list_any-append, list_any_at, Any-from_list_any}
 use Rattle.ztso_axioms.specs.Axioms.{times_named, before, is_named, is_before}
 
 -- no place is named twice
@@ -9,70 +10,41 @@ pub record Once (gs : List ℕ) : Type 0 where
   pub once : (p : ℕ) → times_named p gs ≤ 1
 
 pub times-append : (p : ℕ) (xs ys : List ℕ) → times_named p (xs ++ ys) ≡ times_named p xs + times_named p ys
-times-append p [] ys = sym (zero-add (times_named p ys))
-times-append p (x ∷ xs) ys =
-    let more : times_named p (xs ++ ys) ≡ times_named p xs + times_named p ys = times-append p xs ys in
-    elim (x == p) as (λ b. (if b then suc (times_named p (xs ++ ys)) else times_named p (xs ++ ys)) ≡ (if b then suc (times_named p xs) else times_named p xs) + times_named p ys)
-    [ true ↦ omega arith | false ↦ more ]
+times-append p [] ys = omega arith
+times-append p (x ∷ xs) ys = grind (arith, times-append p xs ys)
 
 pub named-append : (p : ℕ) (xs ys : List ℕ) → is_named p (xs ++ ys) ≡ (is_named p xs || is_named p ys)
-named-append p [] ys = refl
-named-append p (x ∷ xs) ys =
-    let more : is_named p (xs ++ ys) ≡ (is_named p xs || is_named p ys) = named-append p xs ys in
-    elim (x == p) as (λ b. (b || is_named p (xs ++ ys)) ≡ ((b || is_named p xs) || is_named p ys)) [ true ↦ refl | false ↦ more ]
+named-append p xs ys = list_any-append (λ g. g == p) xs ys
 
 pub times-none : (p : ℕ) (xs : List ℕ) → is_named p xs ≡ false → times_named p xs ≡ 0
 times-none p [] none = refl
-times-none p (x ∷ xs) none =
-    let at : (b : Bool) → (b || is_named p xs) ≡ false → (if b then suc (times_named p xs) else times_named p xs) ≡ 0
-    = λ (b : Bool). elim b as (λ c. (c || is_named p xs) ≡ false → (if c then suc (times_named p xs) else times_named p xs) ≡ 0) [ true ↦ λ no. cc | false ↦ times-none p xs ] in
-    at (x == p) none
+times-none p (x ∷ xs) none = grind (arith, times-none p xs)
 
 pub named-none : (p : ℕ) (xs : List ℕ) → times_named p xs ≡ 0 → is_named p xs ≡ false
 named-none p [] none = refl
-named-none p (x ∷ xs) none =
-    let at : (b : Bool) → (if b then suc (times_named p xs) else times_named p xs) ≡ 0 → (b || is_named p xs) ≡ false
-    = λ (b : Bool). elim b as (λ c. (if c then suc (times_named p xs) else times_named p xs) ≡ 0 → (c || is_named p xs) ≡ false) [ true ↦ λ no. absurd (omega arith) | false ↦ named-none p xs ] in
-    at (x == p) none
+named-none p (x ∷ xs) none = grind (arith, named-none p xs)
 
 pub times-some : (p : ℕ) (xs : List ℕ) → is_named p xs ≡ true → 1 ≤ times_named p xs
 times-some p [] some = cc
-times-some p (x ∷ xs) some =
-    let at : (b : Bool) → (b || is_named p xs) ≡ true → 1 ≤ (if b then suc (times_named p xs) else times_named p xs)
-    = λ (b : Bool). elim b as (λ c. (c || is_named p xs) ≡ true → 1 ≤ (if c then suc (times_named p xs) else times_named p xs)) [ true ↦ λ so. omega arith | false ↦ times-some p xs ] in
-    at (x == p) some
+times-some p (x ∷ xs) some = grind (arith, times-some p xs)
 
 pub named-some : (p : ℕ) (xs : List ℕ) → 1 ≤ times_named p xs → is_named p xs ≡ true
-named-some p xs some = at (is_named p xs) refl
-  where
-    at : (b : Bool) → is_named p xs ≡ b → is_named p xs ≡ true
-    at true is = is
-    at false is = let none : times_named p xs ≡ 0 = times-none p xs is in absurd (omega arith)
+named-some p xs some = grind (arith, times-none p xs)
 
 -- a place at an index is named
 pub named_at : (xs : List ℕ) (i d : ℕ) → i < length xs → is_named (get_or xs i d) xs ≡ true
-named_at [] i d lt = absurd (omega arith)
-named_at (x ∷ xs) zero d lt = ap (λ b. b || is_named x xs) (eq-eqb x x refl)
-named_at (x ∷ xs) (suc i) d lt =
-    let more : is_named (get_or xs i d) xs ≡ true = named_at xs i d (omega arith) in
-    elim (x == get_or xs i d) as (λ b. (b || is_named (get_or xs i d) xs) ≡ true) [ true ↦ refl | false ↦ more ]
+named_at xs i d lt = list_any_at (λ g. g == get_or xs i d) xs i d lt (eq-eqb (get_or xs i d) (get_or xs i d) refl)
 
 -- a place that is named stands at an index
 pub index_of : (p : ℕ) (xs : List ℕ) → is_named p xs ≡ true → (i : ℕ) × (i < length xs) × (get_or xs i 0 ≡ p)
-index_of p [] some = cc
-index_of p (x ∷ xs) some = at (x == p) refl some (index_of p xs)
-  where
-    at : (b : Bool) → (x == p) ≡ b → (b || is_named p xs) ≡ true → (is_named p xs ≡ true → (i : ℕ) × (i < length xs) × (get_or xs i 0 ≡ p)) → (i : ℕ) × (i < length (x ∷ xs)) × (get_or (x ∷ xs) i 0 ≡ p)
-    at true is so more = (0, omega arith, eqb-true x p is)
-    at false is so more = let rest : (i : ℕ) × (i < length xs) × (get_or xs i 0 ≡ p) = more so in let lt : rest.0 < length xs = rest.1 in (suc rest.0, omega arith, rest.2)
+index_of p xs some =
+    let found = Any-from_list_any (λ g. g == p) xs some in
+    (found.0, found.2, get_or_default xs found.0 0 found.1 found.2 ∙ found.3 ∙ eqb-true _ _ found.4)
 
 -- what stands before a place that the front does not name
 pub before-at : (q : ℕ) (xs ys : List ℕ) → times_named q xs ≡ 0 → before q (xs ++ q ∷ ys) ≡ xs
 before-at q [] ys none = ap (λ b. if b then [] else q ∷ before q ys) (eq-eqb q q refl)
-before-at q (x ∷ xs) ys none =
-    let at : (b : Bool) → (if b then suc (times_named q xs) else times_named q xs) ≡ 0 → (if b then [] else x ∷ before q (xs ++ q ∷ ys)) ≡ x ∷ xs
-    = λ (b : Bool). elim b as (λ c. (if c then suc (times_named q xs) else times_named q xs) ≡ 0 → (if c then [] else x ∷ before q (xs ++ q ∷ ys)) ≡ x ∷ xs) [ true ↦ λ no. absurd (omega arith) | false ↦ λ no. ap (λ zs. x ∷ zs) (before-at q xs ys no) ] in
-    at (x == q) none
+before-at q (x ∷ xs) ys none = grind (arith, before-at q xs ys)
 
 pub times-self : (q : ℕ) (ys : List ℕ) → times_named q (q ∷ ys) ≡ suc (times_named q ys)
 times-self q ys = ap (λ b. if b then suc (times_named q ys) else times_named q ys) (eq-eqb q q refl)
@@ -92,9 +64,6 @@ before-index gs i o lt =
 pub is_before-index : (gs : List ℕ) (j i : ℕ) → Once gs → j < length gs → i < length gs → is_before gs (get_or gs j 0) (get_or gs i 0) ≡ nat_lt j i
 is_before-index gs j i o lt_j lt_i = ap (is_named (get_or gs j 0)) (before-index gs i o lt_i) ∙ at (nat_lt j i) refl
   where
-    p : ℕ
-    p = get_or gs j 0
-
     at : (b : Bool) → nat_lt j i ≡ b → is_named (get_or gs j 0) (take i gs) ≡ b
     at true is =
         let lt : j < i = ltb-true j i is in

@@ -1,8 +1,8 @@
 -- Which places a list names, and what a filter of it names.
-use Rattle.std.proofs.Common.{◌≡◌, ℕ, zero, suc, ◌+◌, ◌≤◌, ◌<◌, ◌==◌, Bool, true, false, not, ◌&&◌, ◌||◌, if◌then◌else◌, List, [], ◌∷◌, ◌++◌, drop, refl, sym, ◌∙◌, ap, subst, arith, length, append-nil, append_assoc}
+use Rattle.std.proofs.Common.{◌≡◌, ℕ, zero, suc, ◌+◌, ◌<◌, ◌==◌, Bool, true, false, not, ◌&&◌, ◌||◌, if◌then◌else◌, inl, inr, List, [], ◌∷◌, ◌++◌, drop, refl, sym, ◌∙◌, ap, subst, arith, length, append-nil, append_assoc}
 use Rattle.std.specs.Prelude.{filter, option_to_list}
 use Rattle.std.specs.List.{slice_get}
-use Rattle.std.proofs.lemmas.Bool.{eqb-true, eq-eqb, ne_eqb}
+use Rattle.std.proofs.lemmas.Bool.{eqb-true, eq-eqb, ne_eqb, not-true, or_cases, or_left, or_right}
 use Rattle.step_machine.specs.declared.events.Entry.{Entry}
 use Rattle.ztso_axioms.specs.Operations.{is_at}
 use Rattle.ztso_axioms.specs.Axioms.{times_named, before, is_named, is_before}
@@ -15,26 +15,15 @@ use Rattle.step_machine.proofs.Appended.{lands-append}
 abbrev pub Each : (ℕ → Bool) → List ℕ → Type 0
 Each test xs = (x : ℕ) → is_named x xs ≡ true → test x ≡ true
 
-pub or_true : (a b : Bool) → b ≡ true → (a || b) ≡ true
-or_true true b e = refl
-or_true false b e = e
-
-or_left : (a b : Bool) → a ≡ true → (a || b) ≡ true
-or_left true b e = refl
-or_left false b e = cc
-
 pub Each-head : (test : ℕ → Bool) (x : ℕ) (xs : List ℕ) → Each test (x ∷ xs) → test x ≡ true
 Each-head test x xs each = each x (or_left (x == x) (is_named x xs) (eq-eqb x x refl))
 
 pub Each-tail : (test : ℕ → Bool) (x : ℕ) (xs : List ℕ) → Each test (x ∷ xs) → Each test xs
-Each-tail test x xs each y is = each y (or_true (x == y) (is_named y xs) is)
+Each-tail test x xs each y is = each y (or_right (x == y) (is_named y xs) is)
 
 pub Each-append : (test : ℕ → Bool) (xs ys : List ℕ) → Each test xs → Each test ys → Each test (xs ++ ys)
-Each-append test xs ys front back y is = at (is_named y xs) refl (sym (named-append y xs ys) ∙ is)
-  where
-    at : (b : Bool) → is_named y xs ≡ b → (is_named y xs || is_named y ys) ≡ true → test y ≡ true
-    at true here so = front y here
-    at false here so = back y (sym (ap (λ c. c || is_named y ys) here) ∙ so)
+Each-append test xs ys front back y is =
+    elim (or_cases (is_named y xs) (is_named y ys) (sym (named-append y xs ys) ∙ is)) as (λ _. test y ≡ true) [ inl here ↦ front y here | inr here ↦ back y here ]
 
 pub Each-nil : (test : ℕ → Bool) → Each test []
 Each-nil test x is = cc
@@ -67,43 +56,25 @@ filter-every test (x ∷ xs) each = ap (λ b. if b then x ∷ filter test xs els
 
 pub filter-none : (test : ℕ → Bool) (xs : List ℕ) → Each (λ x. not (test x)) xs → filter test xs ≡ []
 filter-none test [] each = refl
-filter-none test (x ∷ xs) each = ap (λ b. if b then x ∷ filter test xs else filter test xs) (not_true (test x) (Each-head (λ y. not (test y)) x xs each)) ∙ filter-none test xs (Each-tail (λ y. not (test y)) x xs each)
-  where
-    not_true : (b : Bool) → not b ≡ true → b ≡ false
-    not_true true e = cc
-    not_true false e = refl
+filter-none test (x ∷ xs) each = ap (λ b. if b then x ∷ filter test xs else filter test xs) (not-true (test x) (Each-head (λ y. not (test y)) x xs each)) ∙ filter-none test xs (Each-tail (λ y. not (test y)) x xs each)
 
 -- two tests that agree at each place that the list names
 pub filter-same : (test other : ℕ → Bool) (xs : List ℕ) → ((x : ℕ) → is_named x xs ≡ true → test x ≡ other x) → filter test xs ≡ filter other xs
 filter-same test other [] agree = refl
 filter-same test other (x ∷ xs) agree =
     ap (λ b. if b then x ∷ filter test xs else filter test xs) (agree x (or_left (x == x) (is_named x xs) (eq-eqb x x refl)))
-    ∙ ap (λ zs. if other x then x ∷ zs else zs) (filter-same test other xs (λ y is. agree y (or_true (x == y) (is_named y xs) is)))
+    ∙ ap (λ zs. if other x then x ∷ zs else zs) (filter-same test other xs (λ y is. agree y (or_right (x == y) (is_named y xs) is)))
 
 pub filter-both : (test other : ℕ → Bool) (xs : List ℕ) → filter (λ x. test x && other x) xs ≡ filter other (filter test xs)
 filter-both test other [] = refl
-filter-both test other (x ∷ xs) =
-    ap (λ zs. if test x && other x then x ∷ zs else zs) (filter-both test other xs)
-    ∙ elim (test x) as (λ b. (if b && other x then x ∷ filter other (filter test xs) else filter other (filter test xs)) ≡ filter other (if b then x ∷ filter test xs else filter test xs)) [ true ↦ refl | false ↦ refl ]
+filter-both test other (x ∷ xs) = grind (arith, filter-both test other xs)
 
 pub times-filter : (test : ℕ → Bool) (p : ℕ) (xs : List ℕ) → test p ≡ true → times_named p (filter test xs) ≡ times_named p xs
 times-filter test p [] pass = refl
-times-filter test p (x ∷ xs) pass = at (test x) refl (x == p) refl (times-filter test p xs pass)
-  where
-    at : (b : Bool) → test x ≡ b → (c : Bool) → (x == p) ≡ c → times_named p (filter test xs) ≡ times_named p xs → times_named p (if b then x ∷ filter test xs else filter test xs) ≡ (if c then suc (times_named p xs) else times_named p xs)
-    at true is true same more = ap (λ c. if c then suc (times_named p (filter test xs)) else times_named p (filter test xs)) same ∙ ap suc more
-    at true is false other more = ap (λ c. if c then suc (times_named p (filter test xs)) else times_named p (filter test xs)) other ∙ more
-    at false is true same more =
-        let no : test p ≡ false = subst (λ (z : ℕ). test z ≡ false) (eqb-true x p same) is in
-        cc
-    at false is false other more = more
+times-filter test p (x ∷ xs) pass = grind (arith, times-filter test p xs pass, eqb-true x p)
 
 pub named-times : (p : ℕ) (xs ys : List ℕ) → times_named p xs ≡ times_named p ys → is_named p xs ≡ is_named p ys
-named-times p xs ys same = at (is_named p ys) refl
-  where
-    at : (b : Bool) → is_named p ys ≡ b → is_named p xs ≡ b
-    at true is = let some : 1 ≤ times_named p ys = times-some p ys is in named-some p xs (omega arith)
-    at false is = named-none p xs (same ∙ times-none p ys is)
+named-times p xs ys same = grind (arith, named-none p xs, times-none p ys, times-some p ys, named-some p xs)
 
 pub named-filter : (test : ℕ → Bool) (p : ℕ) (xs : List ℕ) → test p ≡ true → is_named p (filter test xs) ≡ is_named p xs
 named-filter test p xs pass = named-times p (filter test xs) xs (times-filter test p xs pass)
@@ -111,17 +82,7 @@ named-filter test p xs pass = named-times p (filter test xs) xs (times-filter te
 -- what stands before a place that passes, among those that pass
 pub before-filter : (test : ℕ → Bool) (q : ℕ) (xs : List ℕ) → test q ≡ true → before q (filter test xs) ≡ filter test (before q xs)
 before-filter test q [] pass = refl
-before-filter test q (x ∷ xs) pass = at (test x) refl (x == q) refl (before-filter test q xs pass)
-  where
-    at : (b : Bool) → test x ≡ b → (c : Bool) → (x == q) ≡ c → before q (filter test xs) ≡ filter test (before q xs) → before q (if b then x ∷ filter test xs else filter test xs) ≡ filter test (if c then [] else x ∷ before q xs)
-    at true is true same more = ap (λ c. if c then [] else x ∷ before q (filter test xs)) same
-    at true is false other more =
-        ap (λ c. if c then [] else x ∷ before q (filter test xs)) other ∙ ap (λ zs. x ∷ zs) more
-        ∙ sym (ap (λ b. if b then x ∷ filter test (before q xs) else filter test (before q xs)) is)
-    at false is true same more =
-        let no : test q ≡ false = subst (λ (z : ℕ). test z ≡ false) (eqb-true x q same) is in
-        cc
-    at false is false other more = more ∙ sym (ap (λ b. if b then x ∷ filter test (before q xs) else filter test (before q xs)) is)
+before-filter test q (x ∷ xs) pass = grind (arith, before-filter test q xs pass, eqb-true x q)
 
 pub is_before-filter : (test : ℕ → Bool) (p q : ℕ) (xs : List ℕ) → test p ≡ true → test q ≡ true → is_before (filter test xs) p q ≡ is_before xs p q
 is_before-filter test p q xs pass_p pass_q = ap (is_named p) (before-filter test q xs pass_q) ∙ named-filter test p (before q xs) pass_p
@@ -129,16 +90,7 @@ is_before-filter test p q xs pass_p pass_q = ap (is_named p) (before-filter test
 -- a place that the front names is before one that the front does not name
 pub before-split : (xs ys : List ℕ) (p q : ℕ) → is_named p xs ≡ true → is_named q xs ≡ false → is_before (xs ++ ys) p q ≡ true
 before-split [] ys p q some none = cc
-before-split (x ∷ xs) ys p q some none = at (x == q) none
-    (λ rest. here (x == p) refl some (λ so. before-split xs ys p q so rest))
-  where
-    here : (b : Bool) → (x == p) ≡ b → (b || is_named p xs) ≡ true → (is_named p xs ≡ true → is_before (xs ++ ys) p q ≡ true) → is_named p (x ∷ before q (xs ++ ys)) ≡ true
-    here true same so more = or_left (x == p) (is_named p (before q (xs ++ ys))) same
-    here false other so more = or_true (x == p) (is_named p (before q (xs ++ ys))) (more so)
-
-    at : (c : Bool) → (c || is_named q xs) ≡ false → (is_named q xs ≡ false → is_named p (x ∷ before q (xs ++ ys)) ≡ true) → is_named p (if c then [] else x ∷ before q (xs ++ ys)) ≡ true
-    at true absent more = cc
-    at false absent more = more absent
+before-split (x ∷ xs) ys p q some none = grind (arith, before-split xs ys p q)
 
 -- how often the places that pass are named
 
@@ -147,32 +99,25 @@ times-low test p n [] lt = refl
 times-low test p n (e ∷ es) lt =
     let rest : times_named p (places_of test (suc n) es) ≡ 0 = times-low test p (suc n) es (omega arith) in
     let other : (n == p) ≡ false = ne_eqb n p (λ e. omega arith) in
-    elim (test e) as (λ b. times_named p (if b then n ∷ places_of test (suc n) es else places_of test (suc n) es) ≡ 0)
-    [ true ↦ ap (λ c. if c then suc (times_named p (places_of test (suc n) es)) else times_named p (places_of test (suc n) es)) other ∙ rest | false ↦ rest ]
+    grind (arith, rest, other)
 
 pub times-places : (test : Entry → Bool) (n i : ℕ) (es : List Entry) → times_named (n + i) (places_of test n es) ≡ (if is_at test es i then 1 else 0)
 times-places test n i [] = refl
 times-places test n zero (e ∷ es) =
     let same : (n == (n + 0)) ≡ true = eq-eqb n (n + 0) (omega arith) in
     let rest : times_named (n + 0) (places_of test (suc n) es) ≡ 0 = times-low test (n + 0) (suc n) es (omega arith) in
-    elim (test e) as (λ b. times_named (n + 0) (if b then n ∷ places_of test (suc n) es else places_of test (suc n) es) ≡ (if b then 1 else 0))
-    [ true ↦ ap (λ c. if c then suc (times_named (n + 0) (places_of test (suc n) es)) else times_named (n + 0) (places_of test (suc n) es)) same ∙ ap suc rest | false ↦ rest ]
+    grind (arith, rest, same)
 times-places test n (suc i) (e ∷ es) =
     let other : (n == (n + suc i)) ≡ false = ne_eqb n (n + suc i) (λ e. omega arith) in
     let there : n + suc i ≡ suc n + i = omega arith in
     let rest : times_named (n + suc i) (places_of test (suc n) es) ≡ (if is_at test es i then 1 else 0) = ap (λ k. times_named k (places_of test (suc n) es)) there ∙ times-places test (suc n) i es in
-    elim (test e) as (λ b. times_named (n + suc i) (if b then n ∷ places_of test (suc n) es else places_of test (suc n) es) ≡ (if is_at test es i then 1 else 0))
-    [ true ↦ ap (λ c. if c then suc (times_named (n + suc i) (places_of test (suc n) es)) else times_named (n + suc i) (places_of test (suc n) es)) other ∙ rest | false ↦ rest ]
+    grind (arith, rest, other)
 
 pub times-all_places : (test : Entry → Bool) (p : ℕ) (es : List Entry) → times_named p (places_of test 0 es) ≡ (if is_at test es p then 1 else 0)
 times-all_places test p es = let same : p ≡ 0 + p = omega arith in ap (λ k. times_named k (places_of test 0 es)) same ∙ times-places test 0 p es
 
 pub named-places : (test : Entry → Bool) (p : ℕ) (es : List Entry) → is_named p (places_of test 0 es) ≡ is_at test es p
-named-places test p es = at (is_at test es p) refl
-  where
-    at : (b : Bool) → is_at test es p ≡ b → is_named p (places_of test 0 es) ≡ b
-    at true is = let one : times_named p (places_of test 0 es) ≡ 1 = times-all_places test p es ∙ ap (λ b. if b then 1 else 0) is in named-some p (places_of test 0 es) (omega arith)
-    at false is = named-none p (places_of test 0 es) (times-all_places test p es ∙ ap (λ b. if b then 1 else 0) is)
+named-places test p es = grind (arith, times-all_places test p es, named-some p (places_of test 0 es), named-none p (places_of test 0 es))
 
 pub Each-places : (test : Entry → Bool) (es : List Entry) → Each (is_at test es) (places_of test 0 es)
 Each-places test es x is = sym (named-places test x es) ∙ is

@@ -2,7 +2,7 @@
 use Rattle.std.proofs.Common.{◌≡◌, ℕ, suc, ◌+◌, ◌≤◌, ◌<◌, ◌==◌, Bool, true, false, not, ◌&&◌, ◌||◌, if◌then◌else◌, nat_lt, ◌⊎◌, inl, inr, List, [], ◌∷◌, ◌++◌, length, take, drop, Option, Some, None, refl, sym, ◌∙◌, ap, subst, arith, append_assoc, length-append}
 use Rattle.std.specs.List.{slice_get, list_any}
 use Rattle.std.specs.Option.{option_map_or}
-use Rattle.std.proofs.lemmas.Bool.{eqb-true, eq-eqb, and_parts, ltb-true}
+use Rattle.std.proofs.lemmas.Bool.{eqb-true, eq-eqb, and_parts, or_cases, ltb-true, not-true, not-false}
 use Rattle.std.proofs.lemmas.List.{take-append-drop, length-take-le}
 use Rattle.std.proofs.lemmas.Option.{slice_get_within}
 use Rattle.step_machine.specs.History.{Start}
@@ -27,29 +27,17 @@ pub kind_at : (es : List Entry) (p : ℕ) → is_at is_operation es p ≡ true �
 kind_at es p op = at (slice_get es p) op
   where
     at : (so : Option Entry) → passes is_operation so ≡ true → (passes is_reader so ≡ true) ⊎ (passes (is_store_of (option_map_or hart_of so 0)) so ≡ true)
-    at None e = cc
-    at (Some (entry.Inner h)) e = cc
     at (Some (entry.Load h a width v)) e = inl refl
     at (Some (entry.Store h a width v)) e = inr (eq-eqb h h refl)
     at (Some (entry.Amo h a old new)) e = inl refl
-    at (Some (entry.Fence h full)) e = cc
-    at (Some (entry.Next h w)) e = cc
-    at (Some (entry.Took h i w)) e = cc
-    at (Some (entry.Closed h i)) e = cc
-    at (Some (entry.Ended h)) e = cc
-    at (Some (entry.Stopped h why)) e = cc
-    at (Some (entry.Land h)) e = cc
+    at other e = cc
 
 load_or_amo : (es : List Entry) (q : ℕ) → reads_at es q ≡ true → (is_at is_load es q ≡ true) ⊎ (is_at is_amo es q ≡ true)
 load_or_amo es q reads = at (slice_get es q) reads
   where
     at : (so : Option Entry) → passes is_reader so ≡ true → (passes is_load so ≡ true) ⊎ (passes is_amo so ≡ true)
     at None e = cc
-    at (Some d) e = kind (is_load d) refl e
-      where
-        kind : (b : Bool) → is_load d ≡ b → (b || is_amo d) ≡ true → (is_load d ≡ true) ⊎ (is_amo d ≡ true)
-        kind true is so = inl is
-        kind false is so = inr so
+    at (Some d) e = or_cases (is_load d) (is_amo d) e
 
 store_plain : (es : List Entry) (h p : ℕ) → stores_at es h p ≡ true → is_at is_store es p ≡ true
 store_plain es h p own = at (slice_get es p) own
@@ -154,10 +142,6 @@ by_read B o es p q legal reads kind lt within =
 by_store : (B : ℕ) (o : Start) (es : List Entry) (h p q : ℕ) → LegalAfter B o [] es → stores_at es h p ≡ true → h ≡ hart_at es q → may_pass es p q ≡ false → p < q → q < length es → reads_at es q ≡ true → is_before (performed_order es) p q ≡ true
 by_store B o es h p q legal own hart held lt within reads = at (load_or_amo es q reads)
   where
-    not_false : (b : Bool) → not b ≡ false → b ≡ true
-    not_false true e = refl
-    not_false false e = cc
-
     amo_barrier : (e : Entry) → slice_get es q ≡ Some e → is_amo e ≡ true → is_barrier h e ≡ true
     amo_barrier e here amo =
         let mine : hart_of e ≡ h = sym (hart ∙ ap (λ so. option_map_or hart_of so 0) here) in
@@ -168,7 +152,7 @@ by_store B o es h p q legal own hart held lt within reads = at (load_or_amo es q
     at (inl load) =
         let plain : is_at is_store es p ≡ true = store_plain es h p own in
         let unfenced : not (is_fenced es (hart_at es q) p q) ≡ false = sym (ap (λ b. b && is_at is_load es q && not (is_fenced es (hart_at es q) p q)) plain ∙ ap (λ b. b && not (is_fenced es (hart_at es q) p q)) load) ∙ held in
-        let fenced : is_fenced es (hart_at es q) p q ≡ true = not_false (is_fenced es (hart_at es q) p q) unfenced in
+        let fenced : is_fenced es (hart_at es q) p q ≡ true = not-false (is_fenced es (hart_at es q) p q) unfenced in
         by_fence B o es h p q legal (subst (λ (k : ℕ). is_fenced es k p q ≡ true) (sym hart) fenced) own lt within reads
     at (inr amo) =
         let found : (e : Entry) × (slice_get es q ≡ Some e) × (is_amo e ≡ true) = some_at is_amo es q amo in
@@ -185,12 +169,8 @@ order-program B o es legal p q is =
     let lt : p < q = ltb-true p q order.1 in
     let there : (e : Entry) × (slice_get es q ≡ Some e) × (is_operation e ≡ true) = some_at is_operation es q ops.1 in
     let within : q < length es = slice_get_within es q there.0 there.1 in
-    at hart lt within (not_true (may_pass es p q) a.1) (kind_at es p ops.0) (kind_at es q ops.1)
+    at hart lt within (not-true (may_pass es p q) a.1) (kind_at es p ops.0) (kind_at es q ops.1)
   where
-    not_true : (c : Bool) → not c ≡ true → c ≡ false
-    not_true true e = cc
-    not_true false e = refl
-
     at : hart_at es p ≡ hart_at es q → p < q → q < length es → may_pass es p q ≡ false → (reads_at es p ≡ true) ⊎ (stores_at es (hart_at es p) p ≡ true) → (reads_at es q ≡ true) ⊎ (stores_at es (hart_at es q) q ≡ true) → is_before (performed_order es) p q ≡ true
     at hart lt within held (inl reads) kind = by_read B o es p q legal reads kind lt within
     at hart lt within held (inr own) (inl reads) = by_store B o es (hart_at es p) p q legal own hart held lt within reads

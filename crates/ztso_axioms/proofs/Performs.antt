@@ -1,9 +1,10 @@
 -- What the entries of a trace perform: of each hart its stores in order, as many as it has landings,
 -- and each load and AMO at its place.
-use Rattle.std.proofs.Common.{◌≡◌, ℕ, zero, suc, ◌+◌, ◌≤◌, ◌<◌, ◌==◌, Bool, true, false, not, ◌&&◌, ◌||◌, if◌then◌else◌, nat_lt, List, [], ◌∷◌, ◌++◌, length, take, drop, Option, Some, None, refl, sym, ◌∙◌, ap, arith, append-nil, append_assoc, length-append}
+use Rattle.std.proofs.Common.{◌≡◌, ℕ, zero, suc, ◌+◌, ◌≤◌, ◌<◌, ◌==◌, Bool, true, false, not, ◌||◌, if◌then◌else◌, nat_lt, List, [], ◌∷◌, ◌++◌, length, take, drop, Option, Some, None, refl, sym, ◌∙◌, ap, arith, append-nil, append_assoc, length-append}
 use Rattle.std.specs.Prelude.{filter, option_to_list}
 use Rattle.std.specs.List.{slice_get}
-use Rattle.std.proofs.lemmas.Bool.{eqb-true, eqb-false, ne_eqb, and_parts, ltb-true, ltb-false}
+use Rattle.std.proofs.lemmas.Bool.{eqb-true, eqb-false, ne_eqb, and_parts, and_right, ltb-true, ltb-false}
+use Rattle.std.proofs.Math.Seq.{drop-nil, take-nil}
 use Rattle.std.proofs.lemmas.List.{take-append-drop}
 use Rattle.std.proofs.lemmas.List.Elements.{filter-append}
 use Rattle.step_machine.specs.Entries.{hart_of, land_of, lands}
@@ -34,15 +35,7 @@ at_here test all us e ws split = ap (λ es. passes test (slice_get es (length us
 
 -- take one more
 take_next : (xs : List ℕ) (k n : ℕ) → option_to_list (slice_get xs k) ++ take n (drop (k + 1) xs) ≡ take (1 + n) (drop k xs)
-take_next [] k n = ap (λ zs. take n zs) (drop_nil (k + 1)) ∙ take_nil n ∙ sym (ap (take (1 + n)) (drop_nil k) ∙ take_nil (1 + n))
-  where
-    drop_nil : (m : ℕ) → drop {A = ℕ} m [] ≡ []
-    drop_nil zero = refl
-    drop_nil (suc m) = refl
-
-    take_nil : (m : ℕ) → take {A = ℕ} m [] ≡ []
-    take_nil zero = refl
-    take_nil (suc m) = refl
+take_next [] k n = ap (take n) (drop-nil (k + 1)) ∙ take-nil n ∙ sym (ap (take (1 + n)) (drop-nil k) ∙ take-nil (1 + n))
 take_next (x ∷ xs) zero n = let one : 1 + n ≡ suc n = omega arith in ap (λ m. take m (x ∷ xs)) (sym one)
 take_next (x ∷ xs) (suc k) n = let one : suc k + 1 ≡ suc (k + 1) = omega arith in ap (λ m. option_to_list (slice_get xs k) ++ take n (drop m (x ∷ xs))) one ∙ take_next xs k n
 
@@ -51,12 +44,7 @@ other_hart : (h g : ℕ) (e : Entry) → (g ≡ h → ⊥) → is_store_of g e �
 other_hart h g e ne is =
     let parts : (is_store e ≡ true) × ((hart_of e == g) ≡ true) = and_parts (is_store e) (hart_of e == g) is in
     let mine : hart_of e ≡ g = eqb-true (hart_of e) g parts.1 in
-    let no : (hart_of e == h) ≡ false = ne_eqb (hart_of e) h (λ q. ne (sym mine ∙ q)) in
-    at (is_store e) no
-  where
-    at : (b : Bool) → (hart_of e == h) ≡ false → (b && (hart_of e == h)) ≡ false
-    at true f = f
-    at false f = refl
+    and_right _ _ (ne_eqb (hart_of e) h (λ q. ne (sym mine ∙ q)))
 
 others_not : (all : List Entry) (h g : ℕ) → (g ≡ h → ⊥) → (x : ℕ) → stores_at all g x ≡ true → not (stores_at all h x) ≡ true
 others_not all h g ne x is = at (slice_get all x) is
@@ -99,17 +87,10 @@ stores_by all us e ws h split n = at e (at_here (is_store_of h) all us e ws spli
         ∙ still
 
     at : (d : Entry) → stores_at all h (length us) ≡ is_store_of h d → filter (stores_at all h) (performed_by all us d) ++ take n (drop (lands h us + land_of h d) (store_places h all)) ≡ take (land_of h d + n) (drop (lands h us) (store_places h all))
-    at (entry.Inner g) here = still
     at (entry.Load g a width v) here = alone here
-    at (entry.Store g a width v) here = still
     at (entry.Amo g a old new) here = alone here
-    at (entry.Fence g full) here = still
-    at (entry.Next g w) here = still
-    at (entry.Took g i w) here = still
-    at (entry.Closed g i) here = still
-    at (entry.Ended g) here = still
-    at (entry.Stopped g why) here = still
     at (entry.Land g) here = landing g (g == h) refl
+    at other here = still
 
 -- of a hart's stores, those are performed that its landings number
 pub stores_performed : (all us es ws : List Entry) (h : ℕ) → all ≡ us ++ (es ++ ws) → filter (stores_at all h) (performed_after all us es) ≡ take (lands h es) (drop (lands h us) (store_places h all))
@@ -154,17 +135,8 @@ stores_left all h (suc n) lt =
 
 -- a store is no reader, and is an operation
 store_kinds : (h : ℕ) (e : Entry) → is_store_of h e ≡ true → (not (is_reader e) ≡ true) × (is_operation e ≡ true)
-store_kinds h (entry.Inner g) is = cc
-store_kinds h (entry.Load g a width v) is = cc
 store_kinds h (entry.Store g a width v) is = (refl, refl)
-store_kinds h (entry.Amo g a old new) is = cc
-store_kinds h (entry.Fence g full) is = cc
-store_kinds h (entry.Next g w) is = cc
-store_kinds h (entry.Took g i w) is = cc
-store_kinds h (entry.Closed g i) is = cc
-store_kinds h (entry.Ended g) is = cc
-store_kinds h (entry.Stopped g why) is = cc
-store_kinds h (entry.Land g) is = cc
+store_kinds h other is = cc
 
 stores_not_reads : (all : List Entry) (h x : ℕ) → stores_at all h x ≡ true → not (reads_at all x) ≡ true
 stores_not_reads all h x is = at (slice_get all x) is
@@ -187,17 +159,10 @@ reads_by : (all us : List Entry) (e : Entry) (ws : List Entry) → all ≡ us ++
 reads_by all us e ws split = at e (at_here is_reader all us e ws split)
   where
     at : (d : Entry) → reads_at all (length us) ≡ is_reader d → filter (reads_at all) (performed_by all us d) ≡ place_of is_reader (length us) d
-    at (entry.Inner g) here = refl
     at (entry.Load g a width v) here = ap (λ b. if b then length us ∷ [] else []) here
-    at (entry.Store g a width v) here = refl
     at (entry.Amo g a old new) here = ap (λ b. if b then length us ∷ [] else []) here
-    at (entry.Fence g full) here = refl
-    at (entry.Next g w) here = refl
-    at (entry.Took g i w) here = refl
-    at (entry.Closed g i) here = refl
-    at (entry.Ended g) here = refl
-    at (entry.Stopped g why) here = refl
     at (entry.Land g) here = no_reads all g (option_to_list (slice_get (store_places g all) (lands g us))) (Each-get (stores_at all g) (store_places g all) (lands g us) (Each-places (is_store_of g) all))
+    at other here = refl
 
 -- the loads and AMOs are performed at their places
 pub reads_performed : (all us es ws : List Entry) → all ≡ us ++ (es ++ ws) → filter (reads_at all) (performed_after all us es) ≡ places_of is_reader (length us) es
@@ -225,17 +190,10 @@ operations_by all us e ws split = at e (at_here is_operation all us e ws split)
     none = Each-nil (is_at is_operation all)
 
     at : (d : Entry) → is_at is_operation all (length us) ≡ is_operation d → Each (is_at is_operation all) (performed_by all us d)
-    at (entry.Inner g) here = none
     at (entry.Load g a width v) here = Each-one (is_at is_operation all) (length us) here
-    at (entry.Store g a width v) here = none
     at (entry.Amo g a old new) here = Each-one (is_at is_operation all) (length us) here
-    at (entry.Fence g full) here = none
-    at (entry.Next g w) here = none
-    at (entry.Took g i w) here = none
-    at (entry.Closed g i) here = none
-    at (entry.Ended g) here = none
-    at (entry.Stopped g why) here = none
     at (entry.Land g) here = Each-weaker (stores_at all g) (is_at is_operation all) (option_to_list (slice_get (store_places g all) (lands g us))) (stores_are_operations all g) (Each-get (stores_at all g) (store_places g all) (lands g us) (Each-places (is_store_of g) all))
+    at other here = none
 
 pub operations_performed : (all us es ws : List Entry) → all ≡ us ++ (es ++ ws) → Each (is_at is_operation all) (performed_after all us es)
 operations_performed all us [] ws split = Each-nil (is_at is_operation all)
@@ -264,17 +222,13 @@ order-stores es h =
     ∙ ap (λ zs. zs ++ filter (stores_at es h) (left_below (hart_bound es) es)) (stores_performed es [] es [] h (whole_split es))
     ∙ at (nat_lt h (hart_bound es)) refl
   where
-    take_none : (m : ℕ) → take {A = ℕ} m [] ≡ []
-    take_none zero = refl
-    take_none (suc m) = refl
-
     at : (b : Bool) → nat_lt h (hart_bound es) ≡ b → take (lands h es) (store_places h es) ++ filter (stores_at es h) (left_below (hart_bound es) es) ≡ store_places h es
     at true is = ap (λ zs. take (lands h es) (store_places h es) ++ zs) (stores_left es h (hart_bound es) (ltb-true h (hart_bound es) is)) ∙ take-append-drop (lands h es) (store_places h es)
     at false is =
         let none : store_places h es ≡ [] = stores_past es h (ltb-false h (hart_bound es) is) in
         ap (λ zs. take (lands h es) (store_places h es) ++ zs) (left_past es h (hart_bound es) (ltb-false h (hart_bound es) is))
         ∙ append-nil (take (lands h es) (store_places h es))
-        ∙ ap (take (lands h es)) none ∙ take_none (lands h es) ∙ sym none
+        ∙ ap (take (lands h es)) none ∙ take-nil (lands h es) ∙ sym none
 
 pub order-reads : (es : List Entry) → filter (reads_at es) (performed_after es [] es ++ left_below (hart_bound es) es) ≡ places_of is_reader 0 es
 order-reads es =

@@ -3,7 +3,7 @@ use Rattle.std.proofs.Common.{◌≡◌, ℕ, zero, suc, ◌+◌, ◌-◌, ◌�
 use Rattle.std.specs.Prelude.{filter, option_to_list, option_and_then, slice_index, ◌%◌, ◌/◌}
 use Rattle.std.specs.List.{slice_get}
 use Rattle.std.specs.Option.{option_map_or}
-use Rattle.std.proofs.lemmas.Bool.{ltb-true, ltb-false}
+use Rattle.std.proofs.lemmas.Bool.{ltb-true, ltb-false, cond_both, and_right, or_right, not_from_false, false_from_ne_true, true_from_ne_false}
 use Rattle.std.proofs.lemmas.List.{take-append-drop, length-take-le, drop-append-le, append_cancel_left}
 use Rattle.std.proofs.lemmas.List.Elements.{filter-append}
 use Rattle.std.proofs.lemmas.Option.{slice_get_within}
@@ -22,7 +22,7 @@ use Rattle.ztso_axioms.specs.Axioms.{times_named, before, is_named, in_program_o
 use Rattle.ztso_axioms.specs.Performed.{places_of, is_store_of, store_places, performed_by, performed_after, left_below, hart_bound, order}
 use Rattle.ztso_axioms.proofs.Listing.{times-append, times-none, times-some, named-append, before-at}
 use Rattle.ztso_axioms.proofs.Checked.{once_of, last_written-append}
-use Rattle.ztso_axioms.proofs.Members.{Each, Each-drop, Each-places, filter-every, filter-none, filter-same, filter-both, times-low, or_true}
+use Rattle.ztso_axioms.proofs.Members.{Each, Each-drop, Each-places, filter-every, filter-none, filter-same, filter-both, times-low}
 use Rattle.ztso_axioms.proofs.Performs.{is_reader, stores_at, reads_at, entry_here, stores_performed, order-stores, order-operations}
 use Rattle.ztso_axioms.proofs.Fronts.{split_entry, at_past, order-front, AreWritten, AreWritten-length, AreWritten-drop, front_written, front_balanced, front_stores, front_allows}
 use Rattle.ztso_axioms.proofs.Ordered.{performed_order, kind_at, order-once, order-program, read_performed, read_not_yet}
@@ -38,12 +38,11 @@ chosen false v w found = refl
 
 written_values : (all : List Entry) (a w : ℕ) (found : Option ℕ) (gs : List ℕ) (ps : List Write) → AreWritten all gs ps → last_written all a (unwrap_or found w) gs ≡ unwrap_or (newest_of a found ps) w
 written_values all a w found [] [] written = refl
-written_values all a w found [] (p ∷ ps) written = absurd written
-written_values all a w found (g ∷ gs) [] written = absurd written
 written_values all a w found (g ∷ gs) (p ∷ ps) written =
     ap (λ so. last_written all a (unwrap_or so (unwrap_or found w)) gs) (written.0 a)
     ∙ ap (λ x. last_written all a x gs) (chosen (covers p a) (byte_at (a - p.addr) p.value) w found)
     ∙ written_values all a w (if covers p a then Some (byte_at (a - p.addr) p.value) else found) gs ps written.1
+written_values all a w found gs ps written = absurd written
 
 first_of : (xs ys : List ℕ) (k : ℕ) → k < length xs → option_to_list (slice_get (xs ++ ys) k) ≡ take 1 (drop k xs)
 first_of [] ys k lt = absurd (omega arith)
@@ -52,9 +51,8 @@ first_of (x ∷ xs) ys (suc k) lt = first_of xs ys k (omega arith)
 
 written_first : (all : List Entry) (gs : List ℕ) (ps : List Write) → AreWritten all gs ps → AreWritten all (take 1 gs) (take 1 ps)
 written_first all [] [] written = tt
-written_first all [] (p ∷ ps) written = absurd written
-written_first all (g ∷ gs) [] written = absurd written
 written_first all (g ∷ gs) (p ∷ ps) written = (written.0, tt)
+written_first all gs ps written = absurd written
 
 -- what one entry performs writes what it writes to memory
 writes_by : (B : ℕ) (o : Start) (all us : List Entry) (e : Entry) (ws : List Entry) (a w : ℕ) (found : Option ℕ) → all ≡ us ++ e ∷ ws → Allowed B o us e → last_written all a (unwrap_or found w) (performed_by all us e) ≡ unwrap_or (newest_of a found (write_of us e)) w
@@ -64,16 +62,8 @@ writes_by B o all us e ws a w found split = at e split
     written d here = ap (λ zs. written_at zs a (length us)) here ∙ ap (option_and_then (written_to a)) (entry_here us d ws)
 
     at : (d : Entry) → all ≡ us ++ d ∷ ws → Allowed B o us d → last_written all a (unwrap_or found w) (performed_by all us d) ≡ unwrap_or (newest_of a found (write_of us d)) w
-    at (entry.Inner g) here may = refl
     at (entry.Load g b width v) here may = ap (λ so. unwrap_or so (unwrap_or found w)) (written (entry.Load g b width v) here)
-    at (entry.Store g b width v) here may = refl
     at (entry.Amo g b old new) here may = ap (λ so. unwrap_or so (unwrap_or found w)) (written (entry.Amo g b old new) here) ∙ chosen (covers (write b 4 new) a) (byte_at (a - b) new) w found
-    at (entry.Fence g full) here may = refl
-    at (entry.Next g x) here may = refl
-    at (entry.Took g i x) here may = refl
-    at (entry.Closed g i) here may = refl
-    at (entry.Ended g) here may = refl
-    at (entry.Stopped g why) here may = refl
     at (entry.Land g) here may =
         let pairs_written : AreWritten all (store_places g us) (stores g us) = front_written all us (entry.Land g ∷ ws) g here in
         let same : length (store_places g us) ≡ length (stores g us) = AreWritten-length all (store_places g us) (stores g us) pairs_written in
@@ -82,6 +72,7 @@ writes_by B o all us e ws a w found split = at e split
         ∙ ap (last_written all a (unwrap_or found w)) (first_of (store_places g us) (places_of (is_store_of g) (length us) (entry.Land g ∷ ws)) (lands g us) some)
         ∙ written_values all a w found (take 1 (drop (lands g us) (store_places g us))) (take 1 (drop (lands g us) (stores g us)))
         (written_first all (drop (lands g us) (store_places g us)) (drop (lands g us) (stores g us)) (AreWritten-drop all (lands g us) (store_places g us) (stores g us) pairs_written))
+    at other here may = refl
 
 -- what entries perform writes what reaches memory
 writes_after : (B : ℕ) (o : Start) (all us es ws : List Entry) (a w : ℕ) (found : Option ℕ) → all ≡ us ++ (es ++ ws) → LegalAfter B o us es → last_written all a (unwrap_or found w) (performed_after all us es) ≡ unwrap_or (newest_of a found (landed_after us es)) w
@@ -102,33 +93,17 @@ front_memory B o es us ws a legal split =
 sees_own : (es : List Entry) (q x : ℕ) (us ws : List Entry) → es ≡ us ++ ws → length us ≡ q → is_named x (performed_after es [] us) ≡ false → is_at is_operation es x ≡ true → in_program_order es x q ≡ (stores_at es (hart_at es q) x && nat_lt x q)
 sees_own es q x us ws split len out op = at (kind_at es x op)
   where
-    off : (b c : Bool) → (b && false) ≡ (c && false)
-    off true true = refl
-    off true false = refl
-    off false true = refl
-    off false false = refl
-
     reader : reads_at es x ≡ true → (b : Bool) → nat_lt x q ≡ b → in_program_order es x q ≡ (stores_at es (hart_at es q) x && nat_lt x q)
     reader reads true is =
         let lt : x < q = ltb-true x q is in
         let in_front : is_named x (performed_after es [] us) ≡ true = read_performed es us ws x split reads (omega arith) in
         cc
     reader reads false is =
-        ap (λ b. (hart_at es x == hart_at es q) && b) is ∙ off (hart_at es x == hart_at es q) (stores_at es (hart_at es q) x) ∙ ap (λ b. stores_at es (hart_at es q) x && b) (sym is)
+        ap (λ b. (hart_at es x == hart_at es q) && b) is ∙ and_right (hart_at es x == hart_at es q) false refl ∙ sym (and_right (stores_at es (hart_at es q) x) false refl) ∙ ap (λ b. stores_at es (hart_at es q) x && b) (sym is)
 
     writer : (so : Option Entry) → passes (is_store_of (option_map_or hart_of so 0)) so ≡ true → (option_map_or hart_of so 0 == hart_at es q) ≡ passes (is_store_of (hart_at es q)) so
-    writer None own = cc
-    writer (Some (entry.Inner h)) own = cc
-    writer (Some (entry.Load h a width v)) own = cc
     writer (Some (entry.Store h a width v)) own = refl
-    writer (Some (entry.Amo h a old new)) own = cc
-    writer (Some (entry.Fence h full)) own = cc
-    writer (Some (entry.Next h w)) own = cc
-    writer (Some (entry.Took h i w)) own = cc
-    writer (Some (entry.Closed h i)) own = cc
-    writer (Some (entry.Ended h)) own = cc
-    writer (Some (entry.Stopped h why)) own = cc
-    writer (Some (entry.Land h)) own = cc
+    writer other own = cc
 
     at : (reads_at es x ≡ true) ⊎ (stores_at es (hart_at es x) x ≡ true) → in_program_order es x q ≡ (stores_at es (hart_at es q) x && nat_lt x q)
     at (inl reads) = reader reads (nat_lt x q) refl
@@ -154,40 +129,25 @@ pending_places B o es us ws h q legal split len =
     ∙ ap (λ zs. drop (lands h us) (store_places h us) ++ zs) (filter-none (λ x. nat_lt x q) (places_of (is_store_of h) (length us) ws) late)
     ∙ append-nil (drop (lands h us) (store_places h us))
   where
-    early_at : (x : ℕ) → is_at (is_store_of h) us x ≡ true → (b : Bool) → nat_lt x q ≡ b → b ≡ true
-    early_at x is true lt = refl
-    early_at x is false lt =
-        let le : q ≤ x = ltb-false x q lt in
-        let past : is_at (is_store_of h) us x ≡ false = at_past (is_store_of h) us x (omega arith) in
-        cc
-
     early : Each (λ x. nat_lt x q) (store_places h us)
-    early x named = early_at x (Each-places (is_store_of h) us x named) (nat_lt x q) refl
+    early x named = true_from_ne_false _ (λ lt.
+        let le : q ≤ x = ltb-false x q lt in
+        let here : is_at (is_store_of h) us x ≡ true = Each-places (is_store_of h) us x named in
+        let past : is_at (is_store_of h) us x ≡ false = at_past (is_store_of h) us x (omega arith) in
+        (cc))
 
-    late_at : (x : ℕ) → is_named x (places_of (is_store_of h) (length us) ws) ≡ true → (b : Bool) → nat_lt x q ≡ b → not b ≡ true
-    late_at x named false lt = refl
-    late_at x named true lt =
+    late : Each (λ x. not (nat_lt x q)) (places_of (is_store_of h) (length us) ws)
+    late x named = not_from_false _ (false_from_ne_true _ (λ lt.
         let below : x < q = ltb-true x q lt in
         let none : times_named x (places_of (is_store_of h) (length us) ws) ≡ 0 = times-low (is_store_of h) x (length us) ws (omega arith) in
         let some : 1 ≤ times_named x (places_of (is_store_of h) (length us) ws) = times-some x (places_of (is_store_of h) (length us) ws) named in
-        absurd (omega arith)
-
-    late : Each (λ x. not (nat_lt x q)) (places_of (is_store_of h) (length us) ws)
-    late x named = late_at x named (nat_lt x q) refl
+        omega arith))
 
 -- a read performs itself
 reader_performs : (es us : List Entry) (e : Entry) → is_reader e ≡ true → performed_by es us e ≡ length us ∷ []
-reader_performs es us (entry.Inner g) is = cc
 reader_performs es us (entry.Load g a width v) is = refl
-reader_performs es us (entry.Store g a width v) is = cc
 reader_performs es us (entry.Amo g a old new) is = refl
-reader_performs es us (entry.Fence g full) is = cc
-reader_performs es us (entry.Next g w) is = cc
-reader_performs es us (entry.Took g i w) is = cc
-reader_performs es us (entry.Closed g i) is = cc
-reader_performs es us (entry.Ended g) is = cc
-reader_performs es us (entry.Stopped g why) is = cc
-reader_performs es us (entry.Land g) is = cc
+reader_performs es us other is = cc
 
 -- what stands before a read is what the front performed
 before_read : (es us : List Entry) (e : Entry) (ws : List Entry) (q : ℕ) → es ≡ us ++ e ∷ ws → length us ≡ q → is_reader e ≡ true → reads_at es q ≡ true → before q (performed_order es) ≡ performed_after es [] us
@@ -216,23 +176,22 @@ seen_by_read B o es us e ws q legal split len reader reads =
     front : Each (is_seen es (performed_order es) q) (performed_after es [] us)
     front x named = seen_is x ∙ ap (λ b. b || in_program_order es x q) named
 
-    not_in_front : (x : ℕ) → is_named x (performed_after es us (e ∷ ws) ++ left_below (hart_bound es) es) ≡ true → (b : Bool) → is_named x (performed_after es [] us) ≡ b → is_named x (performed_after es [] us) ≡ false
-    not_in_front x named false is = is
-    not_in_front x named true is =
+    not_in_front : (x : ℕ) → is_named x (performed_after es us (e ∷ ws) ++ left_below (hart_bound es) es) ≡ true → is_named x (performed_after es [] us) ≡ false
+    not_in_front x named = false_from_ne_true _ (λ is.
         let whole : times_named x (performed_order es) ≡ times_named x (performed_after es [] us) + times_named x (performed_after es us (e ∷ ws) ++ left_below (hart_bound es) es)
         = ap (times_named x) (order-front es us (e ∷ ws) split) ∙ times-append x (performed_after es [] us) (performed_after es us (e ∷ ws) ++ left_below (hart_bound es) es) in
         let some : 1 ≤ times_named x (performed_after es [] us) = times-some x (performed_after es [] us) is in
         let more : 1 ≤ times_named x (performed_after es us (e ∷ ws) ++ left_below (hart_bound es) es) = times-some x (performed_after es us (e ∷ ws) ++ left_below (hart_bound es) es) named in
         let few : times_named x (performed_order es) ≤ 1 = (once_of es (performed_order es) (order-once es)).once x in
-        absurd (omega arith)
+        omega arith)
 
     operation : (x : ℕ) → is_named x (performed_after es us (e ∷ ws) ++ left_below (hart_bound es) es) ≡ true → is_at is_operation es x ≡ true
     operation x named =
-        order-operations es x (ap (is_named x) (order-front es us (e ∷ ws) split) ∙ named-append x (performed_after es [] us) (performed_after es us (e ∷ ws) ++ left_below (hart_bound es) es) ∙ or_true (is_named x (performed_after es [] us)) (is_named x (performed_after es us (e ∷ ws) ++ left_below (hart_bound es) es)) named)
+        order-operations es x (ap (is_named x) (order-front es us (e ∷ ws) split) ∙ named-append x (performed_after es [] us) (performed_after es us (e ∷ ws) ++ left_below (hart_bound es) es) ∙ or_right (is_named x (performed_after es [] us)) (is_named x (performed_after es us (e ∷ ws) ++ left_below (hart_bound es) es)) named)
 
     back : (x : ℕ) → is_named x (performed_after es us (e ∷ ws) ++ left_below (hart_bound es) es) ≡ true → is_seen es (performed_order es) q x ≡ (stores_at es (hart_at es q) x && nat_lt x q)
     back x named =
-        let out : is_named x (performed_after es [] us) ≡ false = not_in_front x named (is_named x (performed_after es [] us)) refl in
+        let out : is_named x (performed_after es [] us) ≡ false = not_in_front x named in
         seen_is x ∙ ap (λ b. b || in_program_order es x q) out ∙ sees_own es q x us (e ∷ ws) split len out (operation x named)
 
 -- so each byte is what the store buffers and memory give it
@@ -245,21 +204,13 @@ byte_of_read B o es us e ws q a legal split len reader reads =
     (AreWritten-drop es (lands (hart_at es q) us) (store_places (hart_at es q) us) (stores (hart_at es q) us) (front_written es us (e ∷ ws) (hart_at es q) split))
 
 reads_what : (B : ℕ) (o : Start) (us : List Entry) (e : Entry) (a n v : ℕ) → read_of e ≡ Some (a, n, v) → Allowed B o us e → (is_reader e ≡ true) × (v ≡ read o us (hart_of e) a n)
-reads_what B o us (entry.Inner g) a n v is may = cc
 reads_what B o us (entry.Load g b width w) a n v is may =
     let same : (b, width, w) ≡ (a, n, v) = cc in
     (refl, ap (λ (r : ℕ × ℕ × ℕ). r.2) (sym same) ∙ may ∙ ap (λ (r : ℕ × ℕ × ℕ). read o us g r.0 r.1) same)
-reads_what B o us (entry.Store g b width w) a n v is may = cc
 reads_what B o us (entry.Amo g b old new) a n v is may =
     let same : (b, 4, old) ≡ (a, n, v) = cc in
     (refl, ap (λ (r : ℕ × ℕ × ℕ). r.2) (sym same) ∙ may.1 ∙ ap (λ (r : ℕ × ℕ × ℕ). read o us g r.0 r.1) same)
-reads_what B o us (entry.Fence g full) a n v is may = cc
-reads_what B o us (entry.Next g w) a n v is may = cc
-reads_what B o us (entry.Took g i w) a n v is may = cc
-reads_what B o us (entry.Closed g i) a n v is may = cc
-reads_what B o us (entry.Ended g) a n v is may = cc
-reads_what B o us (entry.Stopped g why) a n v is may = cc
-reads_what B o us (entry.Land g) a n v is may = cc
+reads_what B o us other a n v is may = cc
 
 pub order-values : (B : ℕ) (o : Start) (es : List Entry) → LegalAfter B o [] es → (q : ℕ) → HasLoadValue o es (performed_order es) q
 order-values B o es legal q a width v is = at (slice_get es q) refl is
@@ -289,25 +240,12 @@ legal-ztso B t legal = record {
 -- ---- A read's value against the bytes that the order gives it
 
 byte_in_below : (w : Write) (a b : ℕ) → b < 256 → unwrap_or (byte_in w a) b < 256
-byte_in_below w a b small = at (covers w a)
-  where
-    at : (c : Bool) → unwrap_or (if c then Some (byte_at (a - w.addr) w.value) else None) b < 256
-    at true = byte_below (a - w.addr) w.value
-    at false = small
+byte_in_below w a b small = cond_both (covers w a) _ _ (λ found. unwrap_or found b < 256) (λ _. byte_below (a - w.addr) w.value) (λ _. small)
 
 written_below : (a b : ℕ) (so : Option Entry) → b < 256 → unwrap_or (option_and_then (written_to a) so) b < 256
-written_below a b None small = small
 written_below a b (Some (entry.Store h x width v)) small = byte_in_below (write x width v) a b small
 written_below a b (Some (entry.Amo h x old new)) small = byte_in_below (write x 4 new) a b small
-written_below a b (Some (entry.Inner h)) small = small
-written_below a b (Some (entry.Load h x width v)) small = small
-written_below a b (Some (entry.Fence h full)) small = small
-written_below a b (Some (entry.Next h w)) small = small
-written_below a b (Some (entry.Took h i w)) small = small
-written_below a b (Some (entry.Closed h i)) small = small
-written_below a b (Some (entry.Ended h)) small = small
-written_below a b (Some (entry.Stopped h why)) small = small
-written_below a b (Some (entry.Land h)) small = small
+written_below a b other small = small
 
 last_below : (es : List Entry) (a b : ℕ) (gs : List ℕ) → b < 256 → last_written es a b gs < 256
 last_below es a b [] small = small

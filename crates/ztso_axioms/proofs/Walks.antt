@@ -2,7 +2,8 @@
 use Rattle.std.proofs.Common.{◌≡◌, ℕ, zero, suc, ◌+◌, ◌-◌, ◌≤◌, ◌<◌, ◌==◌, Bool, true, false, ◌&&◌, if◌then◌else◌, nat_lt, nat_le, List, [], ◌∷◌, ◌++◌, length, take, drop, get_or, set, Option, Some, None, refl, sym, ◌∙◌, ap, subst, arith, append-nil, length-set, get_or-set_same, get_or-set_other}
 use Rattle.std.specs.Prelude.{All, max, option_to_list, MatchOption}
 use Rattle.std.specs.List.{slice_get}
-use Rattle.std.proofs.lemmas.Bool.{eqb-true, eqb-false, eq-eqb, ne_eqb, ltb-true, ltb-false, leb-true, leb-false}
+use Rattle.std.proofs.lemmas.Bool.{eqb-true, eqb-false, eq-eqb, ne_eqb, and_right, ltb-true, ltb-false, leb-true, leb-false}
+use Rattle.std.proofs.Math.Seq.{drop-nil}
 use Rattle.std.proofs.lemmas.List.{take_more, length-take-le, get_or_read}
 use Rattle.std.proofs.lemmas.List.Elements.{All-push}
 use Rattle.std.proofs.lemmas.Option.{slice_get-get_or, slice_get_within, get_or_from_slice_get}
@@ -39,16 +40,7 @@ no_stores h n [] none = refl
 no_stores h n (e ∷ es) none =
     let other : (hart_of e == h) ≡ false = ne_eqb (hart_of e) h (none 0 e refl) in
     let rest : places_of (is_store_of h) (suc n) es ≡ [] = no_stores h (suc n) es (λ i d is. none (suc i) d is) in
-    let no : (is_store e && (hart_of e == h)) ≡ false = at (is_store e) other in
-    ap (λ b. if b then n ∷ places_of (is_store_of h) (suc n) es else places_of (is_store_of h) (suc n) es) no ∙ rest
-  where
-    at : (b : Bool) → (hart_of e == h) ≡ false → (b && (hart_of e == h)) ≡ false
-    at true f = f
-    at false f = refl
-
-drop-nil : (n : ℕ) → drop {A = ℕ} n [] ≡ []
-drop-nil zero = refl
-drop-nil (suc n) = refl
+    ap (λ b. if b then n ∷ places_of (is_store_of h) (suc n) es else places_of (is_store_of h) (suc n) es) (and_right (is_store e) _ other) ∙ rest
 
 pub left_none : (h : ℕ) (es : List Entry) → ((i : ℕ) (e : Entry) → slice_get es i ≡ Some e → hart_of e ≡ h → ⊥) → left_places h es ≡ []
 left_none h es none = ap (drop (lands h es)) (no_stores h 0 es none) ∙ drop-nil (lands h es)
@@ -122,18 +114,11 @@ lands_more h es i d lt = ap (lands h) (take_more es i d lt) ∙ lands-last h (ta
 
 -- what an entry performs, by the list of landings
 pub performed_by-there : (es : List Entry) (i : ℕ) (e : Entry) (landed : List (Option ℕ)) (stands : Option ℕ) → NamesLandings es (hart_bound es) landed → slice_get es i ≡ Some e → i ≡ length (take i es) → stands ≡ get_or landed i None → performed_by es (take i es) e ≡ option_to_list (performed_there e i stands)
-performed_by-there es i (entry.Inner h) landed stands named is len read = refl
 performed_by-there es i (entry.Load h a width v) landed stands named is len read = ap (λ n. n ∷ []) (sym len)
-performed_by-there es i (entry.Store h a width v) landed stands named is len read = refl
 performed_by-there es i (entry.Amo h a old new) landed stands named is len read = ap (λ n. n ∷ []) (sym len)
-performed_by-there es i (entry.Fence h full) landed stands named is len read = refl
-performed_by-there es i (entry.Next h w) landed stands named is len read = refl
-performed_by-there es i (entry.Took h k w) landed stands named is len read = refl
-performed_by-there es i (entry.Closed h k) landed stands named is len read = refl
-performed_by-there es i (entry.Ended h) landed stands named is len read = refl
-performed_by-there es i (entry.Stopped h why) landed stands named is len read = refl
 performed_by-there es i (entry.Land h) landed stands named is len read =
     ap option_to_list (sym (read ∙ named i h (hart_below es i (entry.Land h) is) is))
+performed_by-there es i other landed stands named is len read = refl
 
 pub performed_more : (es : List Entry) (i : ℕ) (d : Entry) → i < length es → performed_after es [] (take (i + 1) es) ≡ performed_after es [] (take i es) ++ performed_by es (take i es) (get_or es i d)
 performed_more es i d lt = ap (performed_after es []) (take_more es i d lt) ∙ performed-last es (take i es) (get_or es i d)
@@ -191,17 +176,8 @@ land_of-land : (h : ℕ) → land_of h (entry.Land h) ≡ 1
 land_of-land h = ap (λ b. if b then 1 else 0) (eq-eqb h h refl)
 
 land_of-else : (h : ℕ) (e : Entry) → (e ≡ entry.Land h → ⊥) → land_of h e ≡ 0
-land_of-else h (entry.Inner g) ne = refl
-land_of-else h (entry.Load g a width v) ne = refl
-land_of-else h (entry.Store g a width v) ne = refl
-land_of-else h (entry.Amo g a old new) ne = refl
-land_of-else h (entry.Fence g full) ne = refl
-land_of-else h (entry.Next g w) ne = refl
-land_of-else h (entry.Took g i w) ne = refl
-land_of-else h (entry.Closed g i) ne = refl
-land_of-else h (entry.Ended g) ne = refl
-land_of-else h (entry.Stopped g why) ne = refl
 land_of-else h (entry.Land g) ne = ap (λ b. if b then 1 else 0) (ne_eqb g h (λ e. ne (ap entry.Land e)))
+land_of-else h other ne = refl
 
 pub naming_none : (es : List Entry) (h : ℕ) (old : List (Option ℕ)) → length old ≡ length es → Naming es h 0 0 old old
 naming_none es h old len = record { few = omega arith; counted = refl; len = len; added = λ k lt is. absurd (omega arith); others = λ k no. refl }

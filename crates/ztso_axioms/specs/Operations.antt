@@ -8,51 +8,35 @@ use Rattle.memory.specs.declared.writes.Write.{Write}
 use Rattle.memory.specs.Writes.{write, covers}
 use Rattle.step_machine.specs.Entries.{hart_of}
 use Rattle.step_machine.specs.declared.events.Entry.{Entry}
-use Rattle.step_machine.specs.Access.{Access, nothing, load, store, exchange, fence, land, access_of}
+use Rattle.step_machine.specs.Access.{Access, load, store, exchange, fence, access_of}
 
 -- a plain load; an AMO is none
 abbrev pub loads : Access → Bool
-loads nothing = false
 loads (load a width v) = true
-loads (store w) = false
-loads (exchange a old new) = false
-loads (fence full) = false
-loads land = false
+loads other = false
 
 abbrev pub is_load : Entry → Bool
 is_load e = loads (access_of e)
 
 -- a plain store; an AMO is none
 abbrev pub stores_plainly : Access → Bool
-stores_plainly nothing = false
-stores_plainly (load a width v) = false
 stores_plainly (store w) = true
-stores_plainly (exchange a old new) = false
-stores_plainly (fence full) = false
-stores_plainly land = false
+stores_plainly other = false
 
 abbrev pub is_store : Entry → Bool
 is_store e = stores_plainly (access_of e)
 
 abbrev pub exchanges : Access → Bool
-exchanges nothing = false
-exchanges (load a width v) = false
-exchanges (store w) = false
 exchanges (exchange a old new) = true
-exchanges (fence full) = false
-exchanges land = false
+exchanges other = false
 
 abbrev pub is_amo : Entry → Bool
 is_amo e = exchanges (access_of e)
 
 -- a fence that orders every earlier access before every later one; `fence.tso` is none
 abbrev pub fences : Access → Bool
-fences nothing = false
-fences (load a width v) = false
-fences (store w) = false
-fences (exchange a old new) = false
 fences (fence full) = full
-fences land = false
+fences other = false
 
 abbrev pub is_full_fence : Entry → Bool
 is_full_fence e = fences (access_of e)
@@ -62,12 +46,9 @@ is_operation e = is_load e || is_store e || is_amo e
 
 -- the address, the width and the value that a load reads, or an AMO for its old word
 abbrev pub read_by : Access → Option (ℕ × ℕ × ℕ)
-read_by nothing = None
 read_by (load a width v) = Some (a, width, v)
-read_by (store w) = None
 read_by (exchange a old new) = Some (a, 4, old)
-read_by (fence full) = None
-read_by land = None
+read_by other = None
 
 abbrev pub read_of : Entry → Option (ℕ × ℕ × ℕ)
 read_of e = read_by (access_of e)
@@ -78,12 +59,9 @@ byte_in w a = if covers w a then Some (byte_at (a - w.addr) w.value) else None
 
 -- the byte that a store, or an AMO by its new word, writes to address a
 abbrev pub byte_by : ℕ → Access → Option ℕ
-byte_by a nothing = None
-byte_by a (load b width v) = None
 byte_by a (store w) = byte_in w a
 byte_by a (exchange b old new) = byte_in (write b 4 new) a
-byte_by a (fence full) = None
-byte_by a land = None
+byte_by a other = None
 
 abbrev pub written_to : ℕ → Entry → Option ℕ
 written_to a e = byte_by a (access_of e)

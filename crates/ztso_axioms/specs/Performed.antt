@@ -5,7 +5,7 @@ use Rattle.std.specs.List.{slice_get}
 use Rattle.step_machine.specs.Entries.{hart_of, lands}
 use Rattle.step_machine.specs.History.{History}
 use Rattle.step_machine.specs.declared.events.Entry.{Entry}
-use Rattle.step_machine.specs.Access.{Access, nothing, load, store, exchange, fence, land, access_of}
+use Rattle.step_machine.specs.Access.{Access, load, exchange, land, access_of}
 use Rattle.ztso_axioms.specs.Operations.{is_store}
 
 -- the places of the entries that pass a test, where the entries begin at place n
@@ -22,12 +22,10 @@ store_places h es = places_of (is_store_of h) 0 es
 
 -- what an access at this place performs: a load and an AMO themselves, a landing this store
 abbrev pub performed_at : ℕ → List ℕ → Access → List ℕ
-performed_at place landing nothing = []
 performed_at place landing (load a width v) = place ∷ []
-performed_at place landing (store w) = []
 performed_at place landing (exchange a old new) = place ∷ []
-performed_at place landing (fence full) = []
 performed_at place landing land = landing
+performed_at place landing other = []
 
 -- what an entry performs, after the entries before it: the hart's k-th landing the hart's k-th store
 -- among all entries

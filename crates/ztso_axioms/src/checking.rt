@@ -1,14 +1,14 @@
 //! Whether a list is a global memory order that the axioms allow.
 
-ghost use Rattle.std.specs.Prelude.{◌≡◌, ℕ, ◌^◌, ◌<◌, ◌↔◌, IsTrue, true, false, nat_lt, if◌then◌else◌, All, suc, drop, length, slice_index, None};
+ghost use Rattle.std.specs.Prelude.{◌≡◌, ℕ, ◌^◌, ◌<◌, ◌≤◌, ◌↔◌, IsTrue, true, false, nat_lt, if◌then◌else◌, [], All, suc, drop, filter, length, slice_index, None};
 ghost use Rattle.std.specs.List.{list_any};
-ghost use Rattle.step_machine.specs.Entries.{opening_byte};
-ghost use Rattle.ztso_axioms.specs.Operations.{written_at, hart_at};
+ghost use Rattle.step_machine.specs.Entries.{hart_of, opening_byte};
+ghost use Rattle.ztso_axioms.specs.Operations.{is_load, is_operation, is_at, written_at, hart_at};
 ghost use Rattle.ztso_axioms.specs.Axioms.{times_named, is_barrier, is_fenced, is_preserved, in_program_order, is_seen, byte_for, value_for, NamesEachOnce, KeepsProgramOrder, HasLoadValue, Ztso};
 
 use crate::operation::{
-    Op, byte_at, byte_named, entry_at, hart_named, is_memory_operation, is_plain_load,
-    is_plain_store, orders, value_read,
+    Op, byte_at, byte_named, entry_at, hart_named, is_memory_operation, is_operation_named,
+    is_plain_load, is_plain_store, orders, value_read,
 };
 use step_machine::{Entry, Opening, Trace};
 
@@ -28,18 +28,18 @@ fn names_each_once(entries: &[Entry], order: &[Op]) -> bool
     ensures { IsTrue result ↔ NamesEachOnce entries.now order.now }
 {
     for (place, entry) in entries.iter().enumerate() {
-        let wanted = if is_memory_operation(*entry) { 1 } else { 0 };
-        if times(order, place) != wanted {
+        if is_memory_operation(*entry) && times(order, place) != 1 {
             return false;
         }
     }
-    are_below(order, entries.len())
+    names_operations(entries, order)
 }
 
-fn are_below(order: &[Op], len: usize) -> bool
-    ensures { IsTrue result ↔ All (λ p. p < len) order.now }
+/// Whether the list names nothing but operations.
+fn names_operations(entries: &[Entry], order: &[Op]) -> bool
+    ensures { IsTrue result ↔ All (λ p. IsTrue (is_at is_operation entries.now p)) order.now }
 {
-    order.iter().all(|op| op.place < len)
+    order.iter().all(|op| is_operation_named(entries, *op))
 }
 
 /// How often the list names the place.
@@ -76,13 +76,25 @@ fn may_precede(entries: &[Entry], op: Op, others: &[Op]) -> bool
     let Some(entry) = entry_at(entries, op) else {
         return true;
     };
-    let barrier = last_barrier(&entries[..place], entry.hart());
+    let barrier = barrier_for(entry, &entries[..place]);
     for other in others {
         if is_kept(entries, *other, op, barrier) {
             return false;
         }
     }
     true
+}
+
+/// For a load the place of its hart's last AMO or full fence among the entries before it, and 0 where there
+/// is none. No other operation passes a store, so for them the place does not matter.
+fn barrier_for(entry: Entry, earlier: &[Entry]) -> usize
+    ensures { IsTrue (is_load entry) → (p : ℕ) → list_any (is_barrier (hart_of entry)) (drop (suc p) earlier.now) ≡ nat_lt p result }
+{
+    if is_plain_load(entry) {
+        last_barrier(earlier, entry.hart())
+    } else {
+        0
+    }
 }
 
 /// The place of the last AMO or full fence of the hart, and 0 where there is none.
@@ -98,10 +110,10 @@ fn last_barrier(entries: &[Entry], hart: u32) -> usize
     last
 }
 
-/// Whether the preserved program order has `first` before `second`, whose hart's last AMO or full fence
-/// before it stands at `barrier`.
+/// Whether the preserved program order has `first` before `second`; if that is a load, its hart's last AMO
+/// or full fence before it stands at `barrier`.
 fn is_kept(entries: &[Entry], first: Op, second: Op, barrier: usize) -> bool
-    requires { is_fenced entries.now (hart_at entries.now second) first second ≡ nat_lt first barrier }
+    requires { IsTrue (is_at is_load entries.now second) → is_fenced entries.now (hart_at entries.now second) first second ≡ nat_lt first barrier }
     ensures { result ≡ is_preserved entries.now first second }
 {
     if !is_earlier(entries, first, second) {
@@ -154,8 +166,9 @@ fn has_bytes(trace: &Trace, order: &[Op], index: usize, addr: u32, width: u32, v
     requires within { index < length order.now }
     ensures { IsTrue result ↔ (value ≡ value_for trace.now.opening trace.now.entries order.now (slice_index order.now index) addr width) }
 {
+    let end = end_of_seen(&trace.entries, order, index);
     for place in 0..width as usize {
-        if latest_byte(trace, order, index, addr as usize + place) != byte_at(value, place) {
+        if latest_byte(trace, order, index, end, addr as usize + place) != byte_at(value, place) {
             return false;
         }
     }
@@ -176,13 +189,32 @@ fn is_below(value: u32, width: u32) -> bool
     }
 }
 
-/// The byte that the order gives a read of the address by the operation at `index`.
-fn latest_byte(trace: &Trace, order: &[Op], index: usize, addr: usize) -> u8
-    requires once { NamesEachOnce trace.now.entries order.now }
+/// How much of the order holds all stores that the operation at `index` can take its value from: each byte
+/// of a read looks through that part alone.
+fn end_of_seen(entries: &[Entry], order: &[Op], index: usize) -> usize
+    requires once { NamesEachOnce entries.now order.now }
     requires within { index < length order.now }
-    ensures { result ≡ byte_for trace.now.opening trace.now.entries order.now (slice_index order.now index) addr }
+    ensures within { result ≤ length order.now }
+    ensures seen { filter (is_seen entries.now order.now (slice_index order.now index)) (drop result order.now) ≡ [] }
 {
     for place in (0..order.len()).rev() {
+        if sees(entries, order, index, place) {
+            return place + 1;
+        }
+    }
+    0
+}
+
+/// The byte that the order gives a read of the address by the operation at `index`, which sees nothing of
+/// the order from `end` on.
+fn latest_byte(trace: &Trace, order: &[Op], index: usize, end: usize, addr: usize) -> u8
+    requires once { NamesEachOnce trace.now.entries order.now }
+    requires within { index < length order.now }
+    requires end { end ≤ length order.now }
+    requires seen { filter (is_seen trace.now.entries order.now (slice_index order.now index)) (drop end order.now) ≡ [] }
+    ensures { result ≡ byte_for trace.now.opening trace.now.entries order.now (slice_index order.now index) addr }
+{
+    for place in (0..end).rev() {
         if let Some(byte) = byte_seen(&trace.entries, order, index, place, addr) {
             return byte;
         }

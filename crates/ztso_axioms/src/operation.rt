@@ -2,7 +2,7 @@
 
 ghost use Rattle.std.specs.Prelude.{◌≡◌, ℕ, slice_get};
 ghost use Rattle.std.specs.Int.{byte_at};
-ghost use Rattle.ztso_axioms.specs.Operations.{is_load, is_store, is_operation, read_of, byte_in, written_to, hart_at, written_at};
+ghost use Rattle.ztso_axioms.specs.Operations.{is_load, is_store, is_operation, is_at, read_of, byte_in, written_to, hart_at, written_at};
 ghost use Rattle.ztso_axioms.specs.Axioms.{is_barrier};
 
 use memory::writes::Write;
@@ -129,6 +129,16 @@ pub(crate) fn byte_at(number: u32, place: usize) -> u8
         number.to_le_bytes()[place]
     } else {
         0
+    }
+}
+
+/// Whether the list's entry is a load, a store or an AMO.
+pub(crate) fn is_operation_named(entries: &[Entry], op: Op) -> bool
+    ensures { result ≡ is_at is_operation entries.now op }
+{
+    match entry_at(entries, op) {
+        Some(entry) => is_memory_operation(entry),
+        None => false,
     }
 }
 

@@ -32,14 +32,7 @@ nearer_of n (Some best) h = if nat_le n h && nat_lt h best then Some h else Some
 
 -- what an entry at place p performs, where it performs this store if it is a landing
 abbrev pub performed_there : Entry → ℕ → Option ℕ → Option ℕ
-performed_there (entry.Inner h) p store = None
 performed_there (entry.Load h a width v) p store = Some p
-performed_there (entry.Store h a width v) p store = None
 performed_there (entry.Amo h a old new) p store = Some p
-performed_there (entry.Fence h full) p store = None
-performed_there (entry.Next h w) p store = None
-performed_there (entry.Took h i w) p store = None
-performed_there (entry.Closed h i) p store = None
-performed_there (entry.Ended h) p store = None
-performed_there (entry.Stopped h why) p store = None
 performed_there (entry.Land h) p store = store
+performed_there other p store = None

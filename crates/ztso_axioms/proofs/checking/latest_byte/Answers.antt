@@ -2,7 +2,7 @@ use Rattle.std.proofs.Common.{◌≡◌, ℕ, Bool, ◌+◌, ◌-◌, List, get_
 use Rattle.step_machine.specs.declared.events.Entry.{Entry}
 use Rattle.step_machine.specs.Entries.{opening_byte}
 use Rattle.step_machine.specs.History.{History}
-use Rattle.ztso_axioms.specs.Axioms.{is_seen}
+use Rattle.ztso_axioms.specs.Axioms.{is_seen, last_written}
 use Rattle.ztso_axioms.proofs.Checked.{NoneWrites, written_if, none_more, last_found}
 use Rattle.ztso_axioms.proofs.checking.latest_byte.Goals as goal
 use Rattle.ztso_axioms.proofs.checking.latest_byte.Goals.{After-byte_seen}
@@ -17,6 +17,9 @@ taken c = subst (λ (es : List Entry). written_if es c.args.addr (is_seen es c.a
 
 after : (c : After-byte_seen) → NoneWrites c.args.trace.now.entries c.args.addr (seen_here c) (drop (c.loop-place.place - 1 + 1) c.args.order.now)
 after c = subst (λ k. NoneWrites c.args.trace.now.entries c.args.addr (seen_here c) (drop k c.args.order.now)) (omega arith) c.loop-place.invariant
+
+pub loop-place-init : goal.loop-place-init
+loop-place-init c = λ w. ap (last_written c.args.trace.now.entries c.args.addr w) c.requires.seen
 
 pub returns-in-Some : goal.returns-in-Some
 returns-in-Some c =
