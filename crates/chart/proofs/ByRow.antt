@@ -65,7 +65,7 @@ newest-is P a found (w ∷ ws) was all =
 
 -- ---- each row has made its write
 
-entry_there : (before : List Entry) (e : Entry) (es : List Entry) → slice_get (before ++ e ∷ es) (length before) ≡ Some e
+pub entry_there : (before : List Entry) (e : Entry) (es : List Entry) → slice_get (before ++ e ∷ es) (length before) ≡ Some e
 entry_there [] e es = refl
 entry_there (b ∷ before) e es = entry_there before e es
 

@@ -4,6 +4,9 @@ pub mod RowLaws
 pub mod TagLaws
 pub mod LaneLaws
 pub mod Apart
+pub mod Clear
+pub mod Placed
+pub mod PictureLaws
 pub mod CellLaws
 pub mod PlaceLaws
 pub mod SceneLaws

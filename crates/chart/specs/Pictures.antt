@@ -1,8 +1,8 @@
 -- A picture of a run as a value, and its text. A line has texts, which are marks at their cells, and
 -- strokes; cells count from 0.
-use Rattle.std.specs.Prelude.{ℕ, zero, suc, ◌-◌, ◌==◌, ◌&&◌, nat_lt, nat_le, if◌then◌else◌}
-use Rattle.std.specs.Prelude.{Bool, List, [], ◌∷◌, ◌++◌, map, Option, None, unwrap_or}
-use Rattle.std.specs.List.{slice_get, flat_map}
+use Rattle.std.specs.Prelude.{ℕ, zero, suc, ◌+◌, ◌-◌, ◌==◌, ◌≤◌, ◌&&◌, nat_lt, nat_le, if◌then◌else◌}
+use Rattle.std.specs.Prelude.{Bool, List, [], ◌∷◌, ◌++◌, All, length, map, Option, None, unwrap_or}
+use Rattle.std.specs.List.{slice_get, flat_map, count_by, list_any}
 use Rattle.chart.specs.declared.pictures.Sign.{Sign}
 use Rattle.chart.specs.declared.pictures.Sign.TheVariants.{Flat, Double, Reads, Down, Bend, Lands, From, Reader, To, Joins, Cut, Open}
 use Rattle.chart.specs.declared.pictures.Stroke.{Stroke}
@@ -87,3 +87,19 @@ plain_line text = map shown text ++ 10 ∷ []
 abbrev pub picture_text : PictureOf → List ℕ
 picture_text p =
     flat_map plain_line p.head ++ 10 ∷ [] ++ line_text p.width p.heads ++ flat_map (line_text p.width) p.body ++ 10 ∷ [] ++ flat_map plain_line p.foot
+
+-- ---- the law
+
+abbrev pub stands_in : (cell : ℕ) → MarkOf → Bool
+stands_in cell m = nat_le m.at cell && nat_lt (cell - m.at) (length m.text)
+
+-- how many texts stand in a cell, and one more where a stroke does
+abbrev pub taken_by : (cell : ℕ) → LineOf → ℕ
+taken_by cell line = count_by (stands_in cell) line.marks + (if list_any (λ s. strikes s cell) line.strokes then 1 else 0)
+
+-- no text stands on another text or on a stroke
+abbrev pub IsClear : LineOf → Type 0
+IsClear line = (cell : ℕ) → taken_by cell line ≤ 1
+
+abbrev pub HasShortTexts : LineOf → Type 0
+HasShortTexts line = All (λ m. length m.text ≤ 255) line.marks

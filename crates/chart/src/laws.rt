@@ -1,16 +1,18 @@
 //! Laws of rows and sources, which hold of every list of entries.
 
-ghost use Rattle.std.specs.Prelude.{◌≡◌, ◌+◌, ℕ, All, List, Some, map};
+ghost use Rattle.std.specs.Prelude.{◌≡◌, ◌<◌, ◌≤◌, ◌+◌, ◌^◌, ℕ, All, length, List, Some, map};
 ghost use Rattle.memory.specs.Writes.{joined};
 ghost use Rattle.step_machine.specs.declared.events.Entry.{Entry};
 ghost use Rattle.step_machine.specs.declared.events.Entry.TheVariants as entry;
 ghost use Rattle.step_machine.specs.History.{Start};
-ghost use Rattle.step_machine.specs.Entries.{read, read_byte, write_of};
+ghost use Rattle.step_machine.specs.Entries.{hart_of, read, read_byte, write_of};
 ghost use Rattle.step_machine.specs.Legal.{Allowed};
 ghost use Rattle.chart.specs.Sources.{byte_from, landed_store, source_of, stored_at};
 ghost use Rattle.chart.specs.Rows.{RowOf, rows_of};
 ghost use Rattle.chart.specs.declared.lanes.Shape.{Shape};
 ghost use Rattle.chart.specs.Lanes.{lanes_of, IsApart};
+ghost use Rattle.chart.specs.Pictures.{HasShortTexts, IsClear};
+ghost use Rattle.chart.specs.Layout.{AboutOf, layout};
 
 /// The laws of rows and sources. A byte that a hart reads after some entries is the one that its source
 /// gives, and so the value of a load and the old word of an AMO are what their sources give. A landing
@@ -28,4 +30,10 @@ pub fn laws_of_sources()
 #[tactic(auto, using(crate::proofs::Apart::lanes_apart))]
 pub fn laws_of_lanes()
     ensures { (shape : Shape) (rows : List RowOf) → All IsApart (lanes_of shape rows) }
+{}
+
+/// The law of texts: no text of a row stands on another text or on a line, where no text has more than 255
+/// bytes, there are at most 255 harts, and the rows' numbers have at most seven digits. It does nothing.
+pub fn laws_of_texts()
+    ensures { (about : AboutOf) (es : List Entry) → about.harts ≤ 255 → All (λ e. hart_of e < about.harts) es → length es < 10 ^ 7 → All HasShortTexts (layout about es).body → All IsClear (layout about es).body }
 {}

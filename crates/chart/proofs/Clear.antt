@@ -1,0 +1,255 @@
+-- No text of a picture's row stands on another text or on a stroke.
+use Rattle.std.proofs.Common.{◌≡◌, ℕ, zero, suc, ◌+◌, ◌-◌, ◌*◌, ◌<◌, ◌≤◌, ◌^◌, ◌==◌, min, max, Bool, true, false, cond, if◌then◌else◌}
+use Rattle.std.proofs.Common.{◌⊎◌, inl, inr, List, [], ◌∷◌, ◌++◌, length, map, Option, Some, None, All, refl, sym, ◌∙◌, ap, subst, arith}
+use Rattle.std.specs.Prelude.{nat_lt, nat_le, ◌&&◌, option_map, option_to_list, IfSome}
+use Rattle.std.specs.List.{slice_get, slice_index_or, flat_map, list_any, count_by}
+use Rattle.std.specs.Fmt.{decimal}
+use Rattle.std.proofs.Math.Nat.{mul-le-mul, suc-mul}
+use Rattle.std.proofs.lemmas.Bool.{cases_Bool, cases_eq, cases_lt, ne_eqb, and_parts, leb-true, ltb-true}
+use Rattle.std.proofs.lemmas.Fmt.{length-decimal-le}
+use Rattle.std.proofs.lemmas.List.Concat.{flat_map-cons}
+use Rattle.std.proofs.lemmas.List.Elements.{All-nil, All-cons, All-head, All-tail, All-append, All-map}
+use Rattle.step_machine.specs.declared.events.Entry.{Entry}
+use Rattle.step_machine.specs.declared.events.Entry.TheVariants as entry
+use Rattle.chart.specs.declared.lanes.Held.{Held}
+use Rattle.chart.specs.declared.pictures.Sign.{Sign}
+use Rattle.chart.specs.declared.pictures.Sign.TheVariants.{Flat, Double, Reads, Down, Bend, Lands, From, Reader, To, Joins, Cut}
+use Rattle.chart.specs.declared.pictures.Stroke.{Stroke}
+use Rattle.chart.specs.declared.sources.Source.{Source}
+use Rattle.chart.specs.Rows.{RowOf}
+use Rattle.chart.specs.Lanes.{LanedOf}
+use Rattle.chart.specs.Pictures.{MarkOf, LineOf, strikes, stands_in, taken_by, IsClear}
+use Rattle.chart.specs.Places.{PlacesOf, rank, columns, pitch, begins, lane_cell, memory_cell}
+use Rattle.chart.specs.Lines.{sign_at, across, store_strokes, land_strokes, amo_strokes, own_strokes, is_read, read_strokes, passing_stroke, row_strokes, text_at, number_mark, row_line}
+
+-- ---- cells of strokes
+
+-- right of the rows' numbers, left of memory, and beside a text from one cell on and before another
+abbrev Outside : (from behind memory cell : ℕ) → Type 0
+Outside from behind memory cell = (7 ≤ cell) × (cell < memory) × ((cell < from) ⊎ (behind ≤ cell))
+
+abbrev Avoids : (from behind memory : ℕ) → Stroke → Type 0
+Avoids from behind memory s = (cell : ℕ) → strikes s cell ≡ true → Outside from behind memory cell
+
+pub struck_at : (at count cell : ℕ) → (nat_le at cell && nat_lt (cell - at) count) ≡ true → (at ≤ cell) × (cell < at + count)
+struck_at at count cell is =
+    let both = and_parts (nat_le at cell) (nat_lt (cell - at) count) is in
+    let low : at ≤ cell = leb-true at cell both.0 in
+    let high : cell - at < count = ltb-true (cell - at) count both.1 in
+    (low, omega (low, high, arith))
+
+sign_avoids : (from behind memory : ℕ) (sign : Sign) (cell column : ℕ) → Outside from behind memory cell →
+    Avoids from behind memory (sign_at sign cell column)
+sign_avoids from behind memory sign cell column there other is =
+    let at = struck_at cell 1 other is in
+    let same : cell ≡ other = omega (at.0, at.1, arith) in
+    subst (λ (c : ℕ). Outside from behind memory c) same there
+
+across_avoids : (from behind memory : ℕ) (sign : Sign) (first to column : ℕ) → 7 ≤ first → behind ≤ first → to ≤ memory →
+    Avoids from behind memory (across sign first to column)
+across_avoids from behind memory sign first to column low right high cell is =
+    let at = struck_at first (to - first) cell is in
+    (omega (low, at.0, arith), omega (high, at.0, at.1, arith), inr (omega (right, at.0, arith)))
+
+store_avoids : (from behind memory column : ℕ) (lane : Option ℕ) → 7 ≤ from → from ≤ behind → behind + 6 ≤ memory →
+    IfSome lane (λ l. (behind ≤ l) × (l < memory)) → All (Avoids from behind memory) (store_strokes column behind lane)
+store_avoids from behind memory column None low right high placed =
+    All-cons (Avoids from behind memory) (sign_at Cut (behind + 1) column) []
+    (sign_avoids from behind memory Cut (behind + 1) column (omega (low, right, arith), omega (high, arith), inr (omega arith)))
+    (All-nil (Avoids from behind memory))
+store_avoids from behind memory column (Some lane) low right high placed =
+    All-cons (Avoids from behind memory) (across Flat (behind + 1) lane column) (sign_at Bend lane column ∷ [])
+    (across_avoids from behind memory Flat (behind + 1) lane column (omega (low, right, arith)) (omega arith) (omega (placed.1, arith)))
+    (All-cons (Avoids from behind memory) (sign_at Bend lane column) []
+    (sign_avoids from behind memory Bend lane column (omega (low, right, placed.0, arith), placed.1, inr placed.0))
+    (All-nil (Avoids from behind memory)))
+
+to_memory : (from behind memory column : ℕ) → 7 ≤ from → from ≤ behind → behind + 6 ≤ memory →
+    All (Avoids from behind memory) (sign_at To (memory - 2) column ∷ [])
+to_memory from behind memory column low right high =
+    All-cons (Avoids from behind memory) (sign_at To (memory - 2) column) []
+    (sign_avoids from behind memory To (memory - 2) column (omega (low, right, high, arith), omega (high, arith), inr (omega (high, arith))))
+    (All-nil (Avoids from behind memory))
+
+land_avoids : (from behind memory column : ℕ) (lane : Option ℕ) → 7 ≤ from → from ≤ behind → behind + 6 ≤ memory →
+    IfSome lane (λ l. (behind ≤ l) × (l < memory)) → All (Avoids from behind memory) (land_strokes column memory lane)
+land_avoids from behind memory column None low right high placed =
+    All-cons (Avoids from behind memory) (sign_at Cut (memory - 3) column) (sign_at To (memory - 2) column ∷ [])
+    (sign_avoids from behind memory Cut (memory - 3) column (omega (low, right, high, arith), omega (high, arith), inr (omega (high, arith))))
+    (to_memory from behind memory column low right high)
+land_avoids from behind memory column (Some lane) low right high placed =
+    All-cons (Avoids from behind memory) (across Flat (lane + 1) (memory - 2) column) (sign_at Lands lane column ∷ sign_at To (memory - 2) column ∷ [])
+    (across_avoids from behind memory Flat (lane + 1) (memory - 2) column
+    (omega (low, right, placed.0, arith)) (omega (placed.0, arith)) (omega arith))
+    (All-cons (Avoids from behind memory) (sign_at Lands lane column) (sign_at To (memory - 2) column ∷ [])
+    (sign_avoids from behind memory Lands lane column (omega (low, right, placed.0, arith), placed.1, inr placed.0))
+    (to_memory from behind memory column low right high))
+
+amo_avoids : (from behind memory column : ℕ) → 7 ≤ from → from ≤ behind → behind + 6 ≤ memory →
+    All (Avoids from behind memory) (amo_strokes column behind memory)
+amo_avoids from behind memory column low right high =
+    All-cons (Avoids from behind memory) (sign_at From (behind + 1) column)
+    (across Double (behind + 2) (memory - 2) column ∷ sign_at To (memory - 2) column ∷ [])
+    (sign_avoids from behind memory From (behind + 1) column (omega (low, right, arith), omega (high, arith), inr (omega arith)))
+    (All-cons (Avoids from behind memory) (across Double (behind + 2) (memory - 2) column) (sign_at To (memory - 2) column ∷ [])
+    (across_avoids from behind memory Double (behind + 2) (memory - 2) column (omega (low, right, arith)) (omega arith) (omega arith))
+    (to_memory from behind memory column low right high))
+
+own_avoids : (from behind memory column : ℕ) (lane : Option ℕ) (e : Entry) → 7 ≤ from → from ≤ behind → behind + 6 ≤ memory →
+    IfSome lane (λ l. (behind ≤ l) × (l < memory)) → All (Avoids from behind memory) (own_strokes column behind memory lane e)
+own_avoids from behind memory column lane (entry.Store h a width v) low right high placed = store_avoids from behind memory column lane low right high placed
+own_avoids from behind memory column lane (entry.Land h) low right high placed = land_avoids from behind memory column lane low right high placed
+own_avoids from behind memory column lane (entry.Amo h a old new) low right high placed = amo_avoids from behind memory column low right high
+own_avoids from behind memory column lane other low right high placed = All-nil (Avoids from behind memory)
+
+-- ---- a row
+
+-- whether a pending store's line stands in a column and lane that the picture has
+abbrev pub Placed : PlacesOf → Held → Type 0
+Placed p h = (rank p h.column < columns p) × (h.lane < p.lanes)
+
+read_avoids : (p : PlacesOf) (from behind column : ℕ) (sources : List Source) (h : Held) → 7 ≤ from → from ≤ behind →
+    behind + 6 ≤ memory_cell p → lane_cell p h < memory_cell p →
+    All (Avoids from behind (memory_cell p)) (read_strokes p sources column behind h)
+read_avoids p from behind column sources h low right high placed =
+    let P = Avoids from behind (memory_cell p) in
+    elim (is_read sources h) as
+    (λ b. All P (if b then sign_at Reader (behind + 1) column ∷ across Reads (behind + 2) (lane_cell p h) column ∷ [] else []))
+    [ true ↦
+        All-cons P (sign_at Reader (behind + 1) column) (across Reads (behind + 2) (lane_cell p h) column ∷ [])
+        (sign_avoids from behind (memory_cell p) Reader (behind + 1) column (omega (low, right, arith), omega (high, arith), inr (omega arith)))
+        (All-cons P (across Reads (behind + 2) (lane_cell p h) column) []
+        (across_avoids from behind (memory_cell p) Reads (behind + 2) (lane_cell p h) column
+        (omega (low, right, arith)) (omega arith) (omega (placed, arith))) (All-nil P))
+    | false ↦ All-nil P ]
+
+reads_avoid : (p : PlacesOf) (from behind column : ℕ) (sources : List Source) (hs : List Held) → 7 ≤ from → from ≤ behind →
+    behind + 6 ≤ memory_cell p → All (λ h. Outside from behind (memory_cell p) (lane_cell p h)) hs →
+    All (Avoids from behind (memory_cell p)) (flat_map (read_strokes p sources column behind) hs)
+reads_avoid p from behind column sources [] low right high all = All-nil (Avoids from behind (memory_cell p))
+reads_avoid p from behind column sources (h ∷ hs) low right high all =
+    rw (flat_map-cons (read_strokes p sources column behind) h hs)
+    (All-append (Avoids from behind (memory_cell p)) (read_strokes p sources column behind h) (flat_map (read_strokes p sources column behind) hs)
+    (read_avoids p from behind column sources h low right high (All-head (λ h. Outside from behind (memory_cell p) (lane_cell p h)) h hs all).1)
+    (reads_avoid p from behind column sources hs low right high (All-tail (λ h. Outside from behind (memory_cell p) (lane_cell p h)) h hs all)))
+
+passing_avoid : (p : PlacesOf) (from behind : ℕ) (sources : List Source) (hs : List Held) →
+    All (λ h. Outside from behind (memory_cell p) (lane_cell p h)) hs →
+    All (Avoids from behind (memory_cell p)) (map (passing_stroke p sources) hs)
+passing_avoid p from behind sources [] all = All-nil (Avoids from behind (memory_cell p))
+passing_avoid p from behind sources (h ∷ hs) all =
+    All-cons (Avoids from behind (memory_cell p)) (passing_stroke p sources h) (map (passing_stroke p sources) hs)
+    (sign_avoids from behind (memory_cell p) (if is_read sources h then Joins else Down) (lane_cell p h) h.column
+    (All-head (λ h. Outside from behind (memory_cell p) (lane_cell p h)) h hs all))
+    (passing_avoid p from behind sources hs (All-tail (λ h. Outside from behind (memory_cell p) (lane_cell p h)) h hs all))
+
+any_avoids : (from behind memory cell : ℕ) (ss : List Stroke) → All (Avoids from behind memory) ss →
+    list_any (λ s. strikes s cell) ss ≡ true → Outside from behind memory cell
+any_avoids from behind memory cell [] all is = cc
+any_avoids from behind memory cell (s ∷ ss) all is =
+    elim (cases_Bool (strikes s cell)) [
+      | inl here ↦ All-head (Avoids from behind memory) s ss all cell here
+      | inr other ↦ any_avoids from behind memory cell ss (All-tail (Avoids from behind memory) s ss all) (rw other at is)
+    ]
+
+-- at most one of four, where no two of them are at once
+pub one_of : (a b c d : Bool) → (a ≡ true → b ≡ true → ⊥) → (a ≡ true → c ≡ true → ⊥) → (a ≡ true → d ≡ true → ⊥) → (b ≡ true → c ≡ true → ⊥) →
+    (b ≡ true → d ≡ true → ⊥) → (c ≡ true → d ≡ true → ⊥) →
+    0 + cond a 1 0 + cond b 1 0 + cond c 1 0 + (if d then 1 else 0) ≤ 1
+one_of true true c d ab ac ad bc bd cd = absurd (ab refl refl)
+one_of true false true d ab ac ad bc bd cd = absurd (ac refl refl)
+one_of true false false true ab ac ad bc bd cd = absurd (ad refl refl)
+one_of true false false false ab ac ad bc bd cd = omega arith
+one_of false true true d ab ac ad bc bd cd = absurd (bc refl refl)
+one_of false true false true ab ac ad bc bd cd = absurd (bd refl refl)
+one_of false true false false ab ac ad bc bd cd = omega arith
+one_of false false true true ab ac ad bc bd cd = absurd (cd refl refl)
+one_of false false true false ab ac ad bc bd cd = omega arith
+one_of false false false true ab ac ad bc bd cd = omega arith
+one_of false false false false ab ac ad bc bd cd = omega arith
+
+-- a number that ends before cell 7, a text, one in memory, and strokes beside them
+pub pieces_clear : (number said kept : MarkOf) (ss : List Stroke) → number.at + length number.text ≤ 7 → 7 ≤ said.at →
+    said.at + length said.text ≤ kept.at → All (Avoids said.at (said.at + length said.text) kept.at) ss →
+    IsClear (record { marks = number ∷ said ∷ kept ∷ []; strokes = ss })
+pieces_clear number said kept ss left low right all cell =
+    let n = struck_at number.at (length number.text) cell in
+    let s = struck_at said.at (length said.text) cell in
+    let k = struck_at kept.at (length kept.text) cell in
+    let l = any_avoids said.at (said.at + length said.text) kept.at cell ss all in
+    one_of (stands_in cell number) (stands_in cell said) (stands_in cell kept) (list_any (λ s. strikes s cell) ss)
+    (λ a b. omega ((n a).1, (s b).0, left, low, arith)) (λ a c. omega ((n a).1, (k c).0, left, low, right, arith))
+    (λ a d. omega ((n a).1, (l d).0, left, arith)) (λ b c. omega ((s b).1, (k c).0, right, arith))
+    (λ b d. elim (l d).2 [ inl before ↦ omega (before, (s b).0, arith) | inr after ↦ omega (after, (s b).1, arith) ])
+    (λ c d. omega ((k c).0, (l d).1, arith))
+
+-- ---- cells of lanes
+
+room_left : (a n w : ℕ) → a < n → a * w + w ≤ n * w
+room_left a n w below =
+    let more : suc a ≤ n = omega (below, arith) in
+    let whole : suc a * w ≤ n * w = mul-le-mul more (omega arith) in
+    rw (suc-mul a w) at whole
+
+-- the lane of a column, beside the text of this column or another one
+lane_beside : (w text lanes lane a b n : ℕ) → w ≡ text + 2 * lanes + 4 → a < n → b < n → lane < lanes →
+    Outside (7 + b * w) (7 + b * w + text + 2) (9 + n * w) (7 + a * w + text + 2 * (lanes - lane))
+lane_beside w text lanes lane a b n is first second below =
+    let room : a * w + w ≤ n * w = room_left a n w first in
+    (omega arith, omega (room, is, arith, below), beside (cases_lt a b))
+  where
+    beside : ((a < b) ⊎ (b ≤ a)) → (7 + a * w + text + 2 * (lanes - lane) < 7 + b * w) ⊎ (7 + b * w + text + 2 ≤ 7 + a * w + text + 2 * (lanes - lane))
+    beside (inl left) = let left_room : a * w + w ≤ b * w = room_left a b w left in inl (omega (left_room, is, arith, below))
+    beside (inr right) = let more : b * w ≤ a * w = mul-le-mul right (omega arith) in inr (omega (more, arith, below))
+
+lane_outside : (p : PlacesOf) (column : ℕ) (h : Held) → rank p column < columns p → Placed p h →
+    Outside (begins p column) (begins p column + p.text + 2) (memory_cell p) (lane_cell p h)
+lane_outside p column h shown placed =
+    lane_beside (pitch p) p.text p.lanes h.lane (rank p h.column) (rank p column) (columns p) refl placed.0 shown placed.1
+
+-- ---- a row's line
+
+abbrev pub IsPlacedIn : PlacesOf → (column : ℕ) → LanedOf → Type 0
+IsPlacedIn p column l = IfSome l.own (λ h. Placed p h × (h.column ≡ column)) × All (Placed p) l.passing
+
+own_beside : (p : PlacesOf) (column cells : ℕ) (own : Option Held) → rank p column < columns p → cells ≤ p.text →
+    IfSome own (λ h. Placed p h × (h.column ≡ column)) →
+    IfSome (option_map (lane_cell p) own) (λ l. (begins p column + cells ≤ l) × (l < memory_cell p))
+own_beside p column cells None shown short placed = tt
+own_beside p column cells (Some h) shown short placed =
+    let there = lane_outside p column h shown placed.0 in
+    let here : begins p h.column ≡ begins p column = ap (begins p) placed.1 in
+    (omega (here, short, arith), there.1)
+
+strokes_avoid : (p : PlacesOf) (column cells : ℕ) (r : RowOf) (l : LanedOf) → rank p column < columns p → cells ≤ p.text → IsPlacedIn p column l →
+    All (Avoids (begins p column) (begins p column + cells) (memory_cell p)) (row_strokes p column (begins p column + cells) r l)
+strokes_avoid p column cells r l shown short placed =
+    let from = begins p column in
+    let behind = begins p column + cells in
+    let memory = memory_cell p in
+    let room : rank p column * pitch p + pitch p ≤ columns p * pitch p = room_left (rank p column) (columns p) (pitch p) shown in
+    let low : 7 ≤ from = omega arith in
+    let right : from ≤ behind = omega arith in
+    let high : behind + 6 ≤ memory = omega (room, short, arith) in
+    let P = Avoids from behind memory in
+    let beside : All (λ h. Outside from behind memory (lane_cell p h)) l.passing =
+        (λ k d below. let there = lane_outside p column (slice_index_or l.passing k d) shown (placed.1 k d below) in
+        (there.0, there.1, elim there.2 [ inl before ↦ inl before | inr after ↦ inr (omega (after, short, arith)) ])) in
+    let own = own_strokes column behind memory (option_map (lane_cell p) l.own) r.entry in
+    let reads = flat_map (read_strokes p r.sources column behind) l.passing in
+    All-append P (own ++ reads) (map (passing_stroke p r.sources) l.passing)
+    (All-append P own reads
+    (own_avoids from behind memory column (option_map (lane_cell p) l.own) r.entry low right high (own_beside p column cells l.own shown short placed.0))
+    (reads_avoid p from behind column r.sources l.passing low right high beside))
+    (passing_avoid p from behind r.sources l.passing beside)
+
+pub row_clear : (p : PlacesOf) (i column : ℕ) (said kept : List ℕ) (r : RowOf) (l : LanedOf) → i + 1 < 10 ^ 7 → rank p column < columns p →
+    length said ≤ 255 → length said ≤ p.text → IsPlacedIn p column l → IsClear (row_line p i column said kept r l)
+row_clear p i column said kept r l few shown whole short placed =
+    let cells : min (length said) 255 ≡ length said = omega (whole, arith) in
+    let digits : length (decimal (i + 1)) ≤ 7 = length-decimal-le 7 (i + 1) (omega arith) few (omega (few, arith)) in
+    let room : rank p column * pitch p + pitch p ≤ columns p * pitch p = room_left (rank p column) (columns p) (pitch p) shown in
+    pieces_clear (number_mark i) (text_at (begins p column) true said) (text_at (memory_cell p) true kept)
+    (row_strokes p column (begins p column + min (length said) 255) r l)
+    (omega (digits, arith)) (omega arith) (omega (room, short, arith))
+    (rw cells (strokes_avoid p column (length said) r l shown short placed))

@@ -1,0 +1,264 @@
+-- Each line of a row stands in a column and a lane that the picture has, and a row's own line in its hart's column.
+use Rattle.std.proofs.Common.{◌≡◌, ℕ, zero, suc, ◌+◌, ◌<◌, ◌≤◌, ◌==◌, min, max, get_or, Bool, true, false, not, cond, if◌then◌else◌}
+use Rattle.std.proofs.Common.{inl, inr, List, [], ◌∷◌, ◌++◌, length, Option, Some, None, All, refl, sym, ◌∙◌, ap, subst, arith}
+use Rattle.std.specs.Prelude.{nat_lt, option_to_list, IfSome}
+use Rattle.std.specs.List.{slice_get, slice_index_or, count_by, sum_by}
+use Rattle.std.proofs.lemmas.Bool.{cases_Bool, cases_eq, eq-eqb, eqb-true, ne_eqb, le-ltb}
+use Rattle.std.proofs.lemmas.List.{length-append}
+use Rattle.std.proofs.lemmas.List.Elements.{All-nil, All-cons, All-head, All-tail, All-append, All-filter, All-weaker, All-from_get_or}
+use Rattle.std.proofs.lemmas.List.Folds.{list_any_at}
+use Rattle.std.proofs.lemmas.List.Sums.{sum_by-append, count_by-le-length}
+use Rattle.std.proofs.lemmas.Option.{IfSome_then}
+use Rattle.memory.specs.declared.writes.Write.{Write}
+use Rattle.step_machine.specs.declared.events.Entry.{Entry}
+use Rattle.step_machine.specs.declared.events.Entry.TheVariants as entry
+use Rattle.step_machine.specs.Access.{Access, nothing, load, store, exchange, fence, land, access_of}
+use Rattle.step_machine.specs.Entries.{hart_of, stored_by, store_of}
+use Rattle.chart.specs.declared.lanes.Held.{Held}
+use Rattle.chart.specs.declared.lanes.Shape.{Shape}
+use Rattle.chart.specs.declared.sources.RowWrite.{RowWrite}
+use Rattle.chart.specs.Sources.{pending_by_row, row_of, landed_store, stored_in, stored_at}
+use Rattle.chart.specs.Rows.{RowOf, row_after, rows_after}
+use Rattle.chart.specs.Lanes.{LanedOf, column_of, is_held, first_free, in_lane, held_by, own_line, passing_lines, laned_row, held_after_entry, held_after, lanes_from}
+use Rattle.chart.specs.Places.{PlacesOf, rank, columns}
+use Rattle.chart.specs.Scenes.{is_shown, has_entry, shown_harts, lanes_to, lanes_at, used_after}
+use Rattle.chart.proofs.ByRow.{HasStored, entry_there, pending_stored}
+use Rattle.chart.proofs.Clear.{Placed, IsPlacedIn}
+
+-- ---- what is held
+
+-- the entry of the row is of a hart with this column
+abbrev InItsColumn : Shape → List Entry → Held → Type 0
+InItsColumn shape before h = (e : Entry) × (slice_get before h.row ≡ Some e) × (h.column ≡ column_of shape (hart_of e))
+
+record Kept (p : PlacesOf) (shape : Shape) (before : List Entry) (h : Held) : Type 0 where
+  placed : Placed p h
+  column : InItsColumn shape before h
+
+slice_get-more : (y : Entry) (xs : List Entry) (i : ℕ) (x : Entry) → slice_get xs i ≡ Some x → slice_get (xs ++ y ∷ []) i ≡ Some x
+slice_get-more y [] i x is = cc
+slice_get-more y (z ∷ xs) zero x is = is
+slice_get-more y (z ∷ xs) (suc i) x is = slice_get-more y xs i x is
+
+kept_more : (p : PlacesOf) (shape : Shape) (before : List Entry) (e : Entry) (hs : List Held) → All (Kept p shape before) hs →
+    All (Kept p shape (before ++ e ∷ [])) hs
+kept_more p shape before e = All-weaker (Kept p shape before) (Kept p shape (before ++ e ∷ []))
+    (λ h kept. record { placed = kept.placed; column = (kept.column.0, slice_get-more e before h.row kept.column.0 kept.column.1, kept.column.2) })
+
+all_placed : (p : PlacesOf) (shape : Shape) (before : List Entry) (hs : List Held) → All (Kept p shape before) hs → All (Placed p) hs
+all_placed p shape before = All-weaker (Kept p shape before) (Placed p) (λ h kept. kept.placed)
+
+one_held : (P : Held → Type 0) (o : Option Held) → IfSome o P → All P (option_to_list o)
+one_held P None holds = All-nil P
+one_held P (Some h) holds = All-cons P h [] holds (All-nil P)
+
+-- ---- the line of a store
+
+free_below : (held : List Held) (column k n j : ℕ) → first_free held column k n ≡ Some j → j < k + n
+free_below held column k zero j is = cc
+free_below held column k (suc n) j is =
+    elim (cases_Bool (is_held held column k)) [
+      | inl busy ↦ let rest : j < k + 1 + n = free_below held column (k + 1) n j (rw busy at is) in omega (rest, arith)
+      | inr free ↦ let here : Some k ≡ Some j = rw free at is in let same : k ≡ j = cc in omega (same, arith)
+    ]
+
+record Taken (p : PlacesOf) (row column : ℕ) (h : Held) : Type 0 where
+  placed : Placed p h
+  in_column : h.column ≡ column
+  of_row : h.row ≡ row
+
+in_lane_placed : (p : PlacesOf) (row column most : ℕ) (o : Option ℕ) → rank p column < columns p → most ≤ 254 →
+    lanes_to (in_lane row column o) ≤ p.lanes → ((j : ℕ) → o ≡ Some j → j < most) → IfSome (in_lane row column o) (Taken p row column)
+in_lane_placed p row column most None shown few used free = tt
+in_lane_placed p row column most (Some lane) shown few used free =
+    let below : lane < most = free lane refl in
+    let lanes : min lane 254 + 1 ≤ p.lanes = used in
+    record { placed = (shown, omega (below, few, lanes, arith)); in_column = refl; of_row = refl }
+
+taken_placed : (p : PlacesOf) (shape : Shape) (row column : ℕ) (held : List Held) → rank p column < columns p → shape.lanes ≤ 254 →
+    lanes_to (in_lane row column (first_free held column 0 shape.lanes)) ≤ p.lanes →
+    IfSome (in_lane row column (first_free held column 0 shape.lanes)) (Taken p row column)
+taken_placed p shape row column held shown few used = in_lane_placed p row column shape.lanes (first_free held column 0 shape.lanes) shown few used
+    (λ j is. let below : j < 0 + shape.lanes = free_below held column 0 shape.lanes j is in omega (below, arith))
+
+-- ---- the line of a landing
+
+found_held : (P : Held → Type 0) (row : ℕ) (hs : List Held) → All P hs → IfSome (held_by row hs) (λ h. P h × (h.row ≡ row))
+found_held P row [] all = tt
+found_held P row (x ∷ hs) all =
+    elim (cases_Bool (x.row == row)) [
+      | inl here ↦ rw here (All-head P x hs all, eqb-true x.row row here)
+      | inr other ↦ rw other (found_held P row hs (All-tail P x hs all))
+    ]
+
+not_stored : (x : Access) → stored_by false x ≡ []
+not_stored nothing = refl
+not_stored (load a width v) = refl
+not_stored (store w) = refl
+not_stored (exchange a old new) = refl
+not_stored (fence full) = refl
+not_stored land = refl
+
+hart_stored : (h : ℕ) (e : Entry) (w : Write) → store_of h e ≡ w ∷ [] → hart_of e ≡ h
+hart_stored h e w is =
+    elim (cases_eq (hart_of e) h) [
+      | inl same ↦ same
+      | inr other ↦ let gone = subst (λ (b : Bool). stored_by b (access_of e) ≡ w ∷ []) (ne_eqb (hart_of e) h other) is in
+          let never = sym (not_stored (access_of e)) ∙ gone in cc
+    ]
+
+oldest_stored : (h : ℕ) (before : List Entry) (ws : List RowWrite) (row : ℕ) → All (HasStored h before) ws → row_of (slice_get ws 0) ≡ Some row →
+    (w : Write) × (stored_at h before row ≡ w ∷ [])
+oldest_stored h before [] row all is = cc
+oldest_stored h before (w ∷ ws) row all is =
+    let here : Some w.row ≡ Some row = is in
+    let same : w.row ≡ row = cc in
+    (w.write, subst (λ (n : ℕ). stored_at h before n ≡ w.write ∷ []) same (All-head (HasStored h before) w ws all))
+
+column_same : (shape : Shape) (before : List Entry) (h row : ℕ) (w : Write) (k : Held) → stored_at h before row ≡ w ∷ [] → k.row ≡ row →
+    InItsColumn shape before k → k.column ≡ column_of shape h
+column_same shape before h row w k stored same its =
+    let there : stored_at h before k.row ≡ w ∷ [] = subst (λ (n : ℕ). stored_at h before n ≡ w ∷ []) (sym same) stored in
+    let own : store_of h its.0 ≡ w ∷ [] = subst (λ (o : Option Entry). stored_in h o ≡ w ∷ []) its.1 there in
+    its.2 ∙ ap (column_of shape) (hart_stored h its.0 w own)
+
+landed_placed : (p : PlacesOf) (shape : Shape) (before : List Entry) (h row : ℕ) (held : List Held) →
+    landed_store before (entry.Land h) ≡ Some row → All (Kept p shape before) held →
+    IfSome (held_by row held) (λ k. Placed p k × (k.column ≡ column_of shape h))
+landed_placed p shape before h row held landed all =
+    let stored = oldest_stored h before (pending_by_row h before) row (pending_stored h before) landed in
+    IfSome_then (held_by row held) {P = λ k. Kept p shape before k × (k.row ≡ row)} {Q = λ k. Placed p k × (k.column ≡ column_of shape h)}
+    (found_held (Kept p shape before) row held all)
+    (λ k found. (found.0.placed, column_same shape before h row stored.0 k stored.1 found.1 found.0.column))
+
+-- ---- rows
+
+row_placed : (p : PlacesOf) (shape : Shape) (before : List Entry) (row : ℕ) (held : List Held) (landed : Option ℕ) (e : Entry) →
+    landed_store before e ≡ landed → All (Kept p shape before) held → rank p (column_of shape (hart_of e)) < columns p → shape.lanes ≤ 254 →
+    lanes_to (own_line shape row held landed e) ≤ p.lanes →
+    IfSome (own_line shape row held landed e) (λ h. Placed p h × (h.column ≡ column_of shape (hart_of e))) × All (Placed p) (passing_lines held landed e)
+row_placed p shape before row held landed (entry.Store h a width v) is all shown few used =
+    (IfSome_then (in_lane row (column_of shape h) (first_free held (column_of shape h) 0 shape.lanes))
+    {P = Taken p row (column_of shape h)} {Q = λ k. Placed p k × (k.column ≡ column_of shape h)}
+    (taken_placed p shape row (column_of shape h) held shown few used) (λ k taken. (taken.placed, taken.in_column)),
+    all_placed p shape before held all)
+row_placed p shape before row held None (entry.Land h) is all shown few used = (tt, all_placed p shape before held all)
+row_placed p shape before row held (Some made) (entry.Land h) is all shown few used =
+    (landed_placed p shape before h made held is all,
+    All-filter (λ k. not (k.row == made)) (Placed p) held (all_placed p shape before held all))
+row_placed p shape before row held landed other is all shown few used = (tt, all_placed p shape before held all)
+
+next_kept : (p : PlacesOf) (shape : Shape) (before : List Entry) (row : ℕ) (held : List Held) (landed : Option ℕ) (e : Entry) →
+    row ≡ length before → All (Kept p shape before) held → rank p (column_of shape (hart_of e)) < columns p → shape.lanes ≤ 254 →
+    lanes_to (own_line shape row held landed e) ≤ p.lanes →
+    All (Kept p shape (before ++ e ∷ [])) (held_after_entry shape row held landed e)
+next_kept p shape before row held landed (entry.Store h a width v) here all shown few used =
+    let own = in_lane row (column_of shape h) (first_free held (column_of shape h) 0 shape.lanes) in
+    let P = Kept p shape (before ++ entry.Store h a width v ∷ []) in
+    All-append P held (option_to_list own) (kept_more p shape before (entry.Store h a width v) held all)
+    (one_held P own (IfSome_then own {P = Taken p row (column_of shape h)} {Q = P} (taken_placed p shape row (column_of shape h) held shown few used)
+    (λ k taken. let there : k.row ≡ length before = taken.of_row ∙ here in record {
+      placed = taken.placed;
+      column = (entry.Store h a width v, rw there (entry_there before (entry.Store h a width v) []), taken.in_column);
+    })))
+next_kept p shape before row held None (entry.Land h) here all shown few used = kept_more p shape before (entry.Land h) held all
+next_kept p shape before row held (Some made) (entry.Land h) here all shown few used =
+    All-filter (λ k. not (k.row == made)) (Kept p shape (before ++ entry.Land h ∷ [])) held (kept_more p shape before (entry.Land h) held all)
+next_kept p shape before row held landed other here all shown few used = kept_more p shape before other held all
+
+-- a row with its lines, which stand in columns and lanes of the picture
+abbrev pub RowFits : PlacesOf → Shape → Option RowOf → Option LanedOf → Type 0
+RowFits p shape None l = Unit {0}
+RowFits p shape (Some r) None = Unit {0}
+RowFits p shape (Some r) (Some l) = (rank p (column_of shape (hart_of r.entry)) < columns p) × IsPlacedIn p (column_of shape (hart_of r.entry)) l
+
+abbrev pub HasColumn : PlacesOf → Shape → Entry → Type 0
+HasColumn p shape e = rank p (column_of shape (hart_of e)) < columns p
+
+abbrev pub UsesLanes : PlacesOf → LanedOf → Type 0
+UsesLanes p l = lanes_at l ≤ p.lanes
+
+rows_fit : (p : PlacesOf) (shape : Shape) (before es : List Entry) (held : List Held) (n i : ℕ) → n ≡ length before →
+    All (Kept p shape before) held → All (HasColumn p shape) es → shape.lanes ≤ 254 →
+    All (UsesLanes p) (lanes_from shape n held (rows_after before es)) →
+    RowFits p shape (slice_get (rows_after before es) i) (slice_get (lanes_from shape n held (rows_after before es)) i)
+rows_fit p shape before [] held n i here all shown few used = tt
+rows_fit p shape before (e ∷ es) held n zero here all shown few used =
+    let there = All-head (HasColumn p shape) e es shown in
+    (there, row_placed p shape before n held (landed_store before e) e refl all there few
+    (All-head (UsesLanes p) (laned_row shape n held (row_after before e))
+    (lanes_from shape (n + 1) (held_after shape n held (row_after before e)) (rows_after (before ++ e ∷ []) es)) used))
+rows_fit p shape before (e ∷ es) held n (suc i) here all shown few used =
+    let row = row_after before e in
+    let rest = lanes_from shape (n + 1) (held_after shape n held row) (rows_after (before ++ e ∷ []) es) in
+    let longer : n + 1 ≡ length (before ++ e ∷ []) = omega (here, length-append before (e ∷ []), arith) in
+    rows_fit p shape (before ++ e ∷ []) es (held_after shape n held row) (n + 1) i longer
+    (next_kept p shape before n held (landed_store before e) e here all (All-head (HasColumn p shape) e es shown) few
+    (All-head (UsesLanes p) (laned_row shape n held row) rest used))
+    (All-tail (HasColumn p shape) e es shown) few (All-tail (UsesLanes p) (laned_row shape n held row) rest used)
+
+used_least : (used : ℕ) (ls : List LanedOf) → used ≤ used_after used ls
+used_least used [] = omega arith
+used_least used (l ∷ ls) = let rest : max used (lanes_at l) ≤ used_after (max used (lanes_at l)) ls = used_least (max used (lanes_at l)) ls in omega (rest, arith)
+
+used_all : (used : ℕ) (ls : List LanedOf) → All (λ l. lanes_at l ≤ used_after used ls) ls
+used_all used [] = All-nil (λ l. lanes_at l ≤ used)
+used_all used (l ∷ ls) =
+    let rest : max used (lanes_at l) ≤ used_after (max used (lanes_at l)) ls = used_least (max used (lanes_at l)) ls in
+    All-cons (λ x. lanes_at x ≤ used_after (max used (lanes_at l)) ls) l ls (omega (rest, arith)) (used_all (max used (lanes_at l)) ls)
+
+pub row_fits : (p : PlacesOf) (shape : Shape) (es : List Entry) (i : ℕ) → p.lanes ≡ used_after 0 (lanes_from shape 0 [] (rows_after [] es)) →
+    All (HasColumn p shape) es → shape.lanes ≤ 254 →
+    RowFits p shape (slice_get (rows_after [] es) i) (slice_get (lanes_from shape 0 [] (rows_after [] es)) i)
+row_fits p shape es i lanes shown few =
+    rows_fit p shape [] es [] 0 i refl (All-nil (Kept p shape [])) shown few
+    (subst (λ (n : ℕ). All (λ l. lanes_at l ≤ n) (lanes_from shape 0 [] (rows_after [] es))) (sym lanes) (used_all 0 (lanes_from shape 0 [] (rows_after [] es))))
+
+-- ---- columns
+
+pub shown_few : (es : List Entry) (n : ℕ) → length (shown_harts es n) ≤ n
+shown_few es zero = omega arith
+shown_few es (suc n) =
+    elim (is_shown es n) as (λ b. length (shown_harts es n ++ (if b then n ∷ [] else [])) ≤ suc n) [
+      | true ↦ omega (length-append (shown_harts es n) (n ∷ []), shown_few es n, arith)
+      | false ↦ omega (length-append (shown_harts es n) [], shown_few es n, arith)
+    ]
+
+count_more : (p : ℕ → Bool) (xs ys : List ℕ) → count_by p xs < length xs → count_by p (xs ++ ys) < length (xs ++ ys)
+count_more p xs ys less =
+    let parts : count_by p (xs ++ ys) ≡ count_by p xs + count_by p ys = sum_by-append (λ x. cond (p x) 1 0) xs ys in
+    omega (parts, less, count_by-le-length p ys, length-append xs ys, arith)
+
+count_last : (p : ℕ → Bool) (xs : List ℕ) (x : ℕ) → p x ≡ false → count_by p (xs ++ x ∷ []) < length (xs ++ x ∷ [])
+count_last p xs x fails =
+    let parts : count_by p (xs ++ x ∷ []) ≡ count_by p xs + count_by p (x ∷ []) = sum_by-append (λ y. cond (p y) 1 0) xs (x ∷ []) in
+    let none : count_by p (x ∷ []) ≡ 0 = rw fails refl in
+    omega (parts, none, count_by-le-length p xs, length-append xs (x ∷ []), arith)
+
+ranked : (es : List Entry) (h n : ℕ) → h < n → is_shown es h ≡ true →
+    count_by (λ other. nat_lt other h) (shown_harts es n) < length (shown_harts es n)
+ranked es h zero below is = absurd (omega (below, arith))
+ranked es h (suc n) below is =
+    elim (cases_eq n h) [
+      | inl last ↦ rw (last, is) (count_last (λ other. nat_lt other h) (shown_harts es h) h (le-ltb h h (omega arith)))
+      | inr before ↦ count_more (λ other. nat_lt other h) (shown_harts es n) (if is_shown es n then n ∷ [] else []) (ranked es h n (omega (below, before, arith)) is)
+    ]
+
+column_there : (listed : Bool) (shown : List ℕ) (text lanes most h : ℕ) → length shown ≤ 255 → count_by (λ other. nat_lt other h) shown < length shown →
+    rank (record { listed = listed; shown = shown; text = text; lanes = lanes }) (column_of (record { listed = listed; lanes = most }) h)
+    < columns (record { listed = listed; shown = shown; text = text; lanes = lanes })
+column_there true shown text lanes most h few less = omega arith
+column_there false shown text lanes most h few less = omega (few, less, arith)
+
+is_shown_hart : (es : List Entry) (k : ℕ) (d : Entry) → k < length es → is_shown es (hart_of (get_or es k d)) ≡ true
+is_shown_hart es k d below =
+    let has : has_entry es (hart_of (get_or es k d)) ≡ true =
+        list_any_at (λ e. hart_of e == hart_of (get_or es k d)) es k d below (eq-eqb (hart_of (get_or es k d)) (hart_of (get_or es k d)) refl) in
+    elim (length es == 0) as (λ b. (if b then true else has_entry es (hart_of (get_or es k d))) ≡ true) [ true ↦ refl | false ↦ has ]
+
+pub columns_there : (es : List Entry) (harts : ℕ) (listed : Bool) (text lanes most : ℕ) → harts ≤ 255 → All (λ e. hart_of e < harts) es →
+    All (HasColumn (record { listed = listed; shown = shown_harts es harts; text = text; lanes = lanes }) (record { listed = listed; lanes = most })) es
+columns_there es harts listed text lanes most few below k d within =
+    column_there listed (shown_harts es harts) text lanes most (hart_of (slice_index_or es k d))
+    (omega (shown_few es harts, few, arith))
+    (ranked es (hart_of (slice_index_or es k d)) harts (below k d within) (is_shown_hart es k d within))
