@@ -1,7 +1,7 @@
 -- A hart's act and a landing, by what the hart needs and what is pending: it does what it needs, or
 -- waits at a store, an AMO or a full fence. So every event of a kept history has an outcome. The law of
 -- each need is for the crates above, and for proofs about further programs.
-use Rattle.std.proofs.Common.{inl, inr, ◌⊎◌, ◌≡◌, ◌≢◌, ℕ, ◌<◌, ◌≤◌, Bool, true, false, List, [], ◌∷◌, length, take, Option, Some, None, refl, sym, ◌∙◌, ap, subst, arith}
+use Rattle.std.proofs.Common.{inl, inr, ◌⊎◌, ◌≡◌, ◌≢◌, ℕ, ◌<◌, ◌≤◌, Bool, true, false, List, [], ◌∷◌, length, Option, Some, None, refl, sym, ◌∙◌, ap, subst, arith}
 use Rattle.std.specs.Prelude.{nat_lt, IsTrue}
 use Rattle.std.proofs.lemmas.Bool.Decides.{nat_tests}
 use Rattle.rv_decode.specs.declared.instruction.AmoOp.{AmoOp}
@@ -22,7 +22,7 @@ use Rattle.step_machine.specs.declared.events.Entry.TheVariants as entry
 use Rattle.step_machine.specs.declared.events.Outcome.{Outcome}
 use Rattle.step_machine.specs.declared.events.Outcome.TheVariants as outcome
 use Rattle.step_machine.specs.History.{Start, History, unrun, with_entry}
-use Rattle.step_machine.specs.Entries.{hart_of, is_land, pending, write_of, read}
+use Rattle.step_machine.specs.Entries.{hart_of, is_land, pending, read}
 use Rattle.step_machine.specs.Paths.{entry_of, value_of, CanMake, state_of}
 use Rattle.step_machine.specs.Legal.{Allowed, WellFormed}
 use Rattle.step_machine.specs.Runs.{CanFollow, Happens, RunFrom, Run, idle_of, idle_in}
@@ -35,41 +35,24 @@ use Rattle.step_machine.proofs.OwnRuns.{only_act}
 
 -- the entry by which hart h does what it needs is its own, and holds what it read
 pub own_entry : (h : ℕ) (n : Need) (v : ℕ) → (hart_of (entry_of h n v) ≡ h) × (is_land (entry_of h n v) ≡ false) × (entry_of h n v ≡ entry_of h n (value_of (entry_of h n v)))
-own_entry h need.Inner v = (refl, refl, refl)
-own_entry h (need.Load a width) v = (refl, refl, refl)
-own_entry h (need.Store a width w) v = (refl, refl, refl)
-own_entry h (need.Amo a op rs2) v = (refl, refl, refl)
-own_entry h (need.Fence full) v = (refl, refl, refl)
-own_entry h (need.Next w) v = (refl, refl, refl)
 own_entry h (need.Report (report.Took i w)) v = (refl, refl, refl)
 own_entry h (need.Report (report.Closed i)) v = (refl, refl, refl)
-own_entry h need.Exit v = (refl, refl, refl)
-own_entry h (need.Stop why) v = (refl, refl, refl)
+own_entry h other v = (refl, refl, refl)
 
 -- where this is pending of its hart, such a need has to wait: a store for room, an AMO and a full
 -- fence for an empty buffer; no other need waits
 abbrev pub HasToWait : ℕ → List Write → Need → Type 0
-HasToWait B ws need.Inner = ⊥
-HasToWait B ws (need.Load a width) = ⊥
 HasToWait B ws (need.Store a width v) = B ≤ length ws
 HasToWait B ws (need.Amo a op rs2) = ws ≢ []
 HasToWait B ws (need.Fence full) = IsTrue full × (ws ≢ [])
-HasToWait B ws (need.Next w) = ⊥
-HasToWait B ws (need.Report r) = ⊥
-HasToWait B ws need.Exit = ⊥
-HasToWait B ws (need.Stop why) = ⊥
+HasToWait B ws other = ⊥
 
 -- a need that has to wait can't be done, whatever is read
 pub waiting : (B : ℕ) (o : Start) (es : List Entry) (h : ℕ) (n : Need) → HasToWait B (pending h es) n → (v : ℕ) → Allowed B o es (entry_of h n v) → ⊥
 waiting B o es h (need.Store a width w) full v few = let least : B ≤ length (pending h es) = full in let most : length (pending h es) < B = few in absurd (omega arith)
 waiting B o es h (need.Amo a op rs2) some v may = some may.0
 waiting B o es h (need.Fence full) some v may = some.1 (may some.0)
-waiting B o es h need.Inner some v may = some
-waiting B o es h (need.Load a width) some v may = some
-waiting B o es h (need.Next w) some v may = some
-waiting B o es h (need.Report r) some v may = some
-waiting B o es h need.Exit some v may = some
-waiting B o es h (need.Stop why) some v may = some
+waiting B o es h other some v may = some
 
 nil_or : (ws : List Write) → (ws ≡ []) ⊎ (ws ≢ [])
 nil_or [] = inl refl
@@ -77,7 +60,6 @@ nil_or (w ∷ ws) = inr (λ e. cc)
 
 -- a need can be done, with some number read, or has to wait
 pub decide : (B : ℕ) (o : Start) (es : List Entry) (h : ℕ) (n : Need) → ((v : ℕ) × Allowed B o es (entry_of h n v)) ⊎ HasToWait B (pending h es) n
-decide B o es h need.Inner = inl (0, tt)
 decide B o es h (need.Load a width) = inl (read o es h a width, refl)
 decide B o es h (need.Store a width w) = at (nat_lt (length (pending h es)) B) refl
   where
@@ -95,11 +77,9 @@ decide B o es h (need.Fence true) =
       | inr some ↦ inr (refl, some)
     ]
 decide B o es h (need.Fence false) = inl (0, λ full. absurd cc)
-decide B o es h (need.Next w) = inl (0, tt)
 decide B o es h (need.Report (report.Took i w)) = inl (0, tt)
 decide B o es h (need.Report (report.Closed i)) = inl (0, tt)
-decide B o es h need.Exit = inl (0, tt)
-decide B o es h (need.Stop why) = inl (0, tt)
+decide B o es h other = inl (0, tt)
 
 -- A running hart of a kept history. For each need: what it does, and when it waits.
 module _ (B M : ℕ) (t : History) (h : ℕ) (s : HartState) (kept : WellFormed B M t) (is : state_of M t h ≡ Some s) (running : s.status ≡ status.Running) where

@@ -2,11 +2,11 @@
 use Rattle.std.proofs.Common.{◌≡◌, ℕ, ◌+◌, ◌-◌, ◌≤◌, ◌<◌, ◌==◌, Bool, true, false, if◌then◌else◌, List, [], ◌∷◌, ◌++◌, length, refl, ◌∙◌, ap, subst, arith, length-append, length-drop, append-nil, append_assoc}
 use Rattle.std.proofs.lemmas.Bool.{eqb-true}
 use Rattle.step_machine.specs.declared.events.Entry.{Entry}
-use Rattle.step_machine.specs.Access.{Access, nothing, load, store, exchange, fence, land, access_of}
+use Rattle.step_machine.specs.Access.{Access, land, access_of}
 use Rattle.step_machine.specs.History.{Start, History}
-use Rattle.step_machine.specs.Entries.{hart_of, stored_by, store_of, stores, landed_by, land_of, lands, pending, read}
+use Rattle.step_machine.specs.Entries.{hart_of, stores, landed_by, land_of, lands, pending, read}
 use Rattle.step_machine.specs.Legal.{AllowedBy, Allowed, LegalAfter, Legal}
-use Rattle.step_machine.proofs.Appended.{stores-append, lands-append, pending-last}
+use Rattle.step_machine.proofs.Appended.{stores-append, lands-append}
 
 land_of_allowed : (B : ℕ) (o : Start) (before : List Entry) (h g : ℕ) (b : Bool) → (g == h) ≡ b → 0 < length (pending g before) → (if b then 1 else 0) ≤ length (pending h before)
 land_of_allowed B o before h g true is some =
@@ -20,12 +20,8 @@ pub land_of-allowed : (B : ℕ) (o : Start) (before : List Entry) (h : ℕ) (e :
 land_of-allowed B o before h e a = at (access_of e) a
   where
     at : (x : Access) → AllowedBy B (pending (hart_of e) before) (read o before (hart_of e)) x → landed_by (hart_of e == h) x ≤ length (pending h before)
-    at nothing may = omega arith
-    at (load a width v) may = omega arith
-    at (store w) may = omega arith
-    at (exchange a old new) may = omega arith
-    at (fence full) may = omega arith
     at land may = land_of_allowed B o before h (hart_of e) (hart_of e == h) refl may
+    at other may = omega arith
 
 pub balanced-last : (B : ℕ) (o : Start) (before : List Entry) (h : ℕ) (e : Entry) → Allowed B o before e → lands h before ≤ length (stores h before) → lands h (before ++ e ∷ []) ≤ length (stores h (before ++ e ∷ []))
 balanced-last B o before h e a le =

@@ -41,9 +41,7 @@ need_of-in_range M s words = subst (λ (m : ℕ). IsInRange m (need_of s)) words
 abbrev pub Decided : ℕ → History → ℕ → Need → Outcome → Type 0
 Decided B t h n (outcome.Did e) = (hart_of e ≡ h) × (is_land e ≡ false) × Does B t h n e × ((d : Entry) → Does B t h n d → d ≡ e)
 Decided B t h n outcome.Waited = (d : Entry) → Does B t h n d → ⊥
-Decided B t h n outcome.NothingToLand = ⊥
-Decided B t h n outcome.Over = ⊥
-Decided B t h n outcome.NoHart = ⊥
+Decided B t h n other = ⊥
 
 -- what an act sees of memory and of its own buffer
 pub record Sees (M : ℕ) (t : History) (c : Stored) (h : ℕ) : Type 0 where
@@ -126,13 +124,10 @@ decided_fence B M t c h true false sees is = λ d does.
 
 -- what a running hart's act answers is decided
 pub outcome_for-decided : (B M : ℕ) (t : History) (c : Stored) (h : ℕ) (n : Need) → Sees M t c h → IsInRange M n → Decided B t h n (outcome_for B c h n)
-outcome_for-decided B M t c h need.Inner sees is = alone B t h need.Inner (entry.Inner h) refl refl refl tt (λ d made. made)
 outcome_for-decided B M t c h (need.Load a width) sees is = decided_load B M t c h a width sees is
 outcome_for-decided B M t c h (need.Store a width w) sees is = decided_store B M t c h a width w (nat_lt (length (buffer_of c h)) B) sees refl
 outcome_for-decided B M t c h (need.Amo a op rs2) sees is = decided_amo B M t c h a op rs2 (is_empty (buffer_of c h)) sees is refl
 outcome_for-decided B M t c h (need.Fence full) sees is = decided_fence B M t c h full (is_empty (buffer_of c h)) sees refl
-outcome_for-decided B M t c h (need.Next w) sees is = alone B t h (need.Next w) (entry.Next h w) refl refl refl tt (λ d made. made)
 outcome_for-decided B M t c h (need.Report (report.Took i w)) sees is = alone B t h (need.Report (report.Took i w)) (entry.Took h i w) refl refl refl tt (λ d made. made)
 outcome_for-decided B M t c h (need.Report (report.Closed i)) sees is = alone B t h (need.Report (report.Closed i)) (entry.Closed h i) refl refl refl tt (λ d made. made)
-outcome_for-decided B M t c h need.Exit sees is = alone B t h need.Exit (entry.Ended h) refl refl refl tt (λ d made. made)
-outcome_for-decided B M t c h (need.Stop why) sees is = alone B t h (need.Stop why) (entry.Stopped h why) refl refl refl tt (λ d made. made)
+outcome_for-decided B M t c h other sees is = alone B t h other (entry_of h other 0) refl refl refl tt (λ d made. made)

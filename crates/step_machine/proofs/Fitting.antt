@@ -8,15 +8,14 @@ use Rattle.std.proofs.lemmas.List.Elements.{All-set}
 use Rattle.memory.specs.declared.writes.Write.{Write}
 use Rattle.step_machine.specs.declared.events.Outcome.{Outcome}
 use Rattle.hart.specs.State.{HartView}
-use Rattle.step_machine.specs.Banks.{is_over}
 use Rattle.hart.specs.Steps.{need_of, stepped}
 use Rattle.hart.specs.declared.need.Need.{Need}
 use Rattle.hart.specs.declared.status.Status.{Status}
 use Rattle.hart.specs.declared.status.Status.TheVariants as status
 use Rattle.hart.proofs.Advances.{advanced-words}
 use Rattle.step_machine.specs.Ranges.{IsInRange}
-use Rattle.step_machine.specs.inner.Stored.{Stored, FitStored, stored_after_outcome, buffer_of, land_in, outcome_for}
-use Rattle.step_machine.specs.inner.Config.{after_outcome, Config, land_outcome, step_at, step_hart, Fit, IsNext, IsReady, act_in, act_outcome}
+use Rattle.step_machine.specs.inner.Stored.{Stored, stored_after_outcome, land_in, outcome_for}
+use Rattle.step_machine.specs.inner.Config.{after_outcome, Config, step_at, step_hart, Fit, IsNext, IsReady, act_in, act_outcome}
 use Rattle.step_machine.proofs.Decides.{need_of-in_range}
 
 -- the element x of the list, stepped in its place

@@ -70,9 +70,7 @@ running_happens B M t h s outcome.Waited kept is run d =
       why = sym (ap (λ o. idle_of o outcome.Waited) is ∙ ap (λ st. idle_in st outcome.Waited) run);
       after = refl;
     }
-running_happens B M t h s outcome.NothingToLand kept is run d = absurd d
-running_happens B M t h s outcome.Over kept is run d = absurd d
-running_happens B M t h s outcome.NoHart kept is run d = absurd d
+running_happens B M t h s other kept is run d = absurd d
 
 -- a hart that doesn't run does nothing more
 pub over_happens : (B M : ℕ) (t : History) (h : ℕ) (s : HartState) → state_of M t h ≡ Some s → (s.status ≡ status.Running → ⊥) → idle_in s.status outcome.Waited ≡ outcome.Over → Happens B M t (event.Act h) outcome.Over t
@@ -85,8 +83,7 @@ over_happens B M t h s is over idles =
 
 status_happens : (B M : ℕ) (t : History) (h : ℕ) (s : HartState) (st : Status) (o : Outcome) → WellFormed B M t → state_of M t h ≡ Some s → s.status ≡ st → Decided B t h (need_of s) o → Happens B M t (event.Act h) (act_in st o) (history_after t (act_in st o))
 status_happens B M t h s status.Running o kept is run d = running_happens B M t h s o kept is run d
-status_happens B M t h s status.Ended o kept is run d = over_happens B M t h s is (λ r. cc) (ap (λ x. idle_in x outcome.Waited) run)
-status_happens B M t h s (status.Stopped why) o kept is run d = over_happens B M t h s is (λ r. cc) (ap (λ x. idle_in x outcome.Waited) run)
+status_happens B M t h s other o kept is run d = over_happens B M t h s is (λ r. cc) (ap (λ x. idle_in x outcome.Waited) run)
 
 act_happens : (B M : ℕ) (t : History) (c : Config) (h : ℕ) (so : Option HartView) → Stands B M t c → ((v : HartView) → so ≡ Some v → v.state.words ≡ M) → option_map view_state so ≡ state_of M t h → Happens B M t (event.Act h) (act_outcome B c h so) (history_after t (act_outcome B c h so))
 act_happens B M t c h None stands words is =
@@ -109,9 +106,7 @@ land_none B M t h empty d is f =
 idle_land : (B M : ℕ) (t : History) (h : ℕ) (s : HartState) (st : Status) → state_of M t h ≡ Some s → s.status ≡ st → pending h t.entries ≡ [] → Happens B M t (event.Land h) (land_in [] h (is_over st)) (history_after t (land_in [] h (is_over st)))
 idle_land B M t h s status.Running is run empty =
     record { none = land_none B M t h empty; why = sym (ap (λ o. idle_of o outcome.NothingToLand) is ∙ ap (λ x. idle_in x outcome.NothingToLand) run); after = refl }
-idle_land B M t h s status.Ended is run empty =
-    record { none = land_none B M t h empty; why = sym (ap (λ o. idle_of o outcome.NothingToLand) is ∙ ap (λ x. idle_in x outcome.NothingToLand) run); after = refl }
-idle_land B M t h s (status.Stopped why) is run empty =
+idle_land B M t h s other is run empty =
     record { none = land_none B M t h empty; why = sym (ap (λ o. idle_of o outcome.NothingToLand) is ∙ ap (λ x. idle_in x outcome.NothingToLand) run); after = refl }
 
 -- a landing where this is pending

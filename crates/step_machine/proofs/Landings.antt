@@ -3,7 +3,7 @@ use Rattle.std.proofs.Common.{◌≡◌, ℕ, zero, suc, ◌-◌, ◌<◌, List,
 use Rattle.std.specs.Prelude.{option_to_list}
 use Rattle.std.specs.List.{slice_get}
 use Rattle.step_machine.specs.declared.events.Entry.{Entry}
-use Rattle.step_machine.specs.Access.{Access, nothing, load, store, exchange, fence, land, access_of}
+use Rattle.step_machine.specs.Access.{Access, land, access_of}
 use Rattle.step_machine.specs.History.{Start, History}
 use Rattle.step_machine.specs.Entries.{hart_of, written_by, read, stores, lands, pending, write_of, landed_after, landed, write_by_count, landed_by_count_after, landed_by_count}
 use Rattle.step_machine.specs.Legal.{AllowedBy, Allowed, LegalAfter, Legal}
@@ -20,15 +20,11 @@ write_counted : (B : ℕ) (o : Start) (before : List Entry) (e : Entry) (es : Li
 write_counted B o before e es a = at (access_of e) a
   where
     at : (x : Access) → AllowedBy B (pending (hart_of e) before) (read o before (hart_of e)) x → written_by (take 1 (pending (hart_of e) before)) x ≡ written_by (option_to_list (slice_get (stores (hart_of e) (before ++ e ∷ es)) (lands (hart_of e) before))) x
-    at nothing may = refl
-    at (load a width v) may = refl
-    at (store w) may = refl
-    at (exchange a old new) may = refl
-    at (fence full) may = refl
     at land may =
         let left : length (pending (hart_of e) before) ≡ length (stores (hart_of e) before) - lands (hart_of e) before = length-drop (lands (hart_of e) before) (stores (hart_of e) before) in
         element (stores (hart_of e) before) (stores (hart_of e) (e ∷ es)) (lands (hart_of e) before) (omega arith)
         ∙ ap (λ (ps : List Write). option_to_list (slice_get ps (lands (hart_of e) before))) (sym (stores-append (hart_of e) before (e ∷ es)))
+    at other may = refl
 
 counted_after : (B : ℕ) (o : Start) (before es : List Entry) → LegalAfter B o before es → landed_after before es ≡ landed_by_count_after (before ++ es) before es
 counted_after B o before [] l = refl

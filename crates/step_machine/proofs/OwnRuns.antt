@@ -45,14 +45,9 @@ kept-front B M o es fs kept = record {
 same_done : (B : ℕ) (o : Start) (before : List Entry) (h : ℕ) (n : Need) (v w : ℕ) → Allowed B o before (entry_of h n v) → Allowed B o before (entry_of h n w) → entry_of h n v ≡ entry_of h n w
 same_done B o before h (need.Load a width) v w one two = ap (λ u. entry.Load h a width u) (one ∙ sym two)
 same_done B o before h (need.Amo a op rs2) v w one two = ap (λ u. entry.Amo h a u (updated op u rs2)) (one.1 ∙ sym two.1)
-same_done B o before h need.Inner v w one two = refl
-same_done B o before h (need.Store a width x) v w one two = refl
-same_done B o before h (need.Fence full) v w one two = refl
-same_done B o before h (need.Next x) v w one two = refl
 same_done B o before h (need.Report (report.Took i x)) v w one two = refl
 same_done B o before h (need.Report (report.Closed i)) v w one two = refl
-same_done B o before h need.Exit v w one two = refl
-same_done B o before h (need.Stop why) v w one two = refl
+same_done B o before h other v w one two = refl
 
 -- each of the opening's harts has a state
 pub state_there : (M : ℕ) (t : History) (h : ℕ) → h < length t.opening.harts → (s : HartState) × (state_of M t h ≡ Some s)

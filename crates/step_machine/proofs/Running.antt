@@ -21,10 +21,7 @@ use Rattle.step_machine.proofs.Follows.{Path-other}
 -- an outcome is an entry added, or nothing
 pub shape_of : (B M : ℕ) (t : History) (ev : Event) (o : Outcome) (new : History) → Happens B M t ev o new → ((e : Entry) × (o ≡ outcome.Did e) × Adds B M t ev e new) ⊎ Idles B M t ev o new
 shape_of B M t ev (outcome.Did e) new h = inl (e, refl, h)
-shape_of B M t ev outcome.Waited new h = inr h
-shape_of B M t ev outcome.NothingToLand new h = inr h
-shape_of B M t ev outcome.Over new h = inr h
-shape_of B M t ev outcome.NoHart new h = inr h
+shape_of B M t ev other new h = inr h
 
 own_hart : (k : ℕ) (e : Entry) → is_own k e ≡ true → hart_of e ≡ k
 own_hart k e is = eqb-true (hart_of e) k (left (hart_of e == k) (not (is_land e)) is)

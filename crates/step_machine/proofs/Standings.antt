@@ -13,7 +13,8 @@ use Rattle.step_machine.specs.declared.events.Entry.TheVariants as entry
 use Rattle.step_machine.specs.declared.events.Outcome.{Outcome}
 use Rattle.step_machine.specs.declared.events.Outcome.TheVariants as outcome
 use Rattle.step_machine.specs.History.{Start, History, unrun, FitsIn}
-use Rattle.step_machine.specs.Entries.{reported}
+use Rattle.step_machine.specs.Entries.{hart_of, reported}
+use Rattle.step_machine.specs.Paths.{value_of}
 use Rattle.step_machine.specs.Runs.{Happens}
 use Rattle.step_machine.specs.inner.Stored.{Stored, FitStored}
 use Rattle.step_machine.specs.inner.Config.{Config, Fit, AllHaveRoom, SameButRoom, without_room, beginning, step_at, after_entry, after_outcome, entries_after, outcome_of, opened_config}
@@ -67,30 +68,13 @@ less_room : (hs : List HartView) (n : ℕ) → AllHaveRoom n hs → AllHaveRoom 
 less_room hs n all h v is = let some : n ≤ v.room = all h v is in omega arith
 
 entry_room : (c : Config) (e : Entry) (n : ℕ) → AllHaveRoom n c.harts → AllHaveRoom (n - 1) (after_entry c e).harts
-entry_room c (entry.Inner h) n all = step_room c.harts h 0 n (slice_get c.harts h) refl all
-entry_room c (entry.Load h a width v) n all = step_room c.harts h v n (slice_get c.harts h) refl all
-entry_room c (entry.Store h a width v) n all = step_room c.harts h 0 n (slice_get c.harts h) refl all
-entry_room c (entry.Amo h a old new) n all = step_room c.harts h old n (slice_get c.harts h) refl all
-entry_room c (entry.Fence h full) n all = step_room c.harts h 0 n (slice_get c.harts h) refl all
-entry_room c (entry.Next h w) n all = step_room c.harts h 0 n (slice_get c.harts h) refl all
-entry_room c (entry.Took h i w) n all = step_room c.harts h 0 n (slice_get c.harts h) refl all
-entry_room c (entry.Closed h i) n all = step_room c.harts h 0 n (slice_get c.harts h) refl all
-entry_room c (entry.Ended h) n all = step_room c.harts h 0 n (slice_get c.harts h) refl all
-entry_room c (entry.Stopped h why) n all = step_room c.harts h 0 n (slice_get c.harts h) refl all
 entry_room c (entry.Land h) n all = less_room c.harts n all
+entry_room c other n all =
+    step_room c.harts (hart_of other) (value_of other) n (slice_get c.harts (hart_of other)) refl all
 
 entry_count : (c : Config) (e : Entry) → length (after_entry c e).harts ≡ length c.harts
-entry_count c (entry.Inner h) = length-step_at c.harts h 0 (slice_get c.harts h)
-entry_count c (entry.Load h a width v) = length-step_at c.harts h v (slice_get c.harts h)
-entry_count c (entry.Store h a width v) = length-step_at c.harts h 0 (slice_get c.harts h)
-entry_count c (entry.Amo h a old new) = length-step_at c.harts h old (slice_get c.harts h)
-entry_count c (entry.Fence h full) = length-step_at c.harts h 0 (slice_get c.harts h)
-entry_count c (entry.Next h w) = length-step_at c.harts h 0 (slice_get c.harts h)
-entry_count c (entry.Took h i w) = length-step_at c.harts h 0 (slice_get c.harts h)
-entry_count c (entry.Closed h i) = length-step_at c.harts h 0 (slice_get c.harts h)
-entry_count c (entry.Ended h) = length-step_at c.harts h 0 (slice_get c.harts h)
-entry_count c (entry.Stopped h why) = length-step_at c.harts h 0 (slice_get c.harts h)
 entry_count c (entry.Land h) = refl
+entry_count c other = length-step_at c.harts (hart_of other) (value_of other) (slice_get c.harts (hart_of other))
 
 -- openings
 
@@ -150,10 +134,7 @@ sound_outcome B M n t c ev (outcome.Did e) sound adds fit = record {
   count = entry_count c e ∙ sound.count;
   room = entry_room c e n sound.room;
 }
-sound_outcome B M n t c ev outcome.Waited sound idles fit = still B M n t c sound
-sound_outcome B M n t c ev outcome.NothingToLand sound idles fit = still B M n t c sound
-sound_outcome B M n t c ev outcome.Over sound idles fit = still B M n t c sound
-sound_outcome B M n t c ev outcome.NoHart sound idles fit = still B M n t c sound
+sound_outcome B M n t c ev other sound idles fit = still B M n t c sound
 
 pub sound_held : (B M : ℕ) (o : Start) (es : List Entry) (c : Config) → FitsIn M o → es ≡ [] → c ≡ opened_config M o → IsMachineAt B M (record { opening = o; entries = es }) c 0
 sound_held B M o es c fits none is =

@@ -1,5 +1,5 @@
 -- What the machine holds stays what its history says, over one more entry.
-use Rattle.std.proofs.Common.{◌≡◌, ℕ, zero, suc, ◌+◌, ◌-◌, ◌*◌, ◌<◌, ◌==◌, Bool, true, false, not, ◌&&◌, if◌then◌else◌, List, [], ◌∷◌, ◌++◌, length, drop, set, get_or, Option, Some, None, refl, sym, ◌∙◌, ap, subst, arith, append-nil, get_or-set_same, get_or-set_other}
+use Rattle.std.proofs.Common.{◌≡◌, ℕ, zero, suc, ◌-◌, ◌*◌, ◌<◌, ◌==◌, Bool, true, false, not, ◌&&◌, if◌then◌else◌, List, [], ◌∷◌, ◌++◌, length, drop, set, get_or, Option, Some, None, refl, sym, ◌∙◌, ap, subst, arith, append-nil, get_or-set_same, get_or-set_other}
 use Rattle.std.specs.Prelude.{map, option_map, unwrap_or, All}
 use Rattle.std.proofs.lemmas.List.Elements.{All-nil, All-cons, All-append}
 use Rattle.std.specs.List.{slice_get}
@@ -8,7 +8,6 @@ use Rattle.std.proofs.lemmas.Option.{slice_get_within, slice_get-map, get_or_fro
 use Rattle.std.proofs.Math.Seq.{map-set_same}
 use Rattle.std.specs.Int.{byte_at}
 use Rattle.memory.specs.Writes.{WritesInWord, write, covers, byte_after, newest_of, byte_of}
-use Rattle.memory.proofs.Bytes.{joined-same}
 use Rattle.memory.proofs.MemoryBytes.{byte_of-write}
 use Rattle.hart.specs.State.{HartState, HartView}
 use Rattle.hart.specs.Steps.{need_of, advanced, stepped, reports_after}
@@ -19,7 +18,7 @@ use Rattle.hart.specs.declared.need.Report.TheVariants as report
 use Rattle.step_machine.specs.declared.events.Entry.{Entry}
 use Rattle.step_machine.specs.declared.events.Entry.TheVariants as entry
 use Rattle.step_machine.specs.History.{Start, History, with_entry}
-use Rattle.step_machine.specs.Entries.{hart_of, is_land, is_own, store_of, land_of, report_of, reported, pending, write_of, landed, opening_byte, memory_byte, memory_word}
+use Rattle.step_machine.specs.Entries.{hart_of, is_land, is_own, store_of, land_of, report_of, reported, pending, write_of, landed, opening_byte, memory_byte}
 use Rattle.step_machine.specs.Paths.{entry_of, value_of, opens_as, state_of}
 use Rattle.step_machine.specs.Legal.{Legal}
 use Rattle.step_machine.specs.inner.Stored.{Stored, HasAddress, written}
@@ -110,29 +109,14 @@ if_self : {X : Type 0} (h : ℕ) (x y : X) → (if h == h then x else y) ≡ x
 if_self h x y = ap (λ b. if b then x else y) (eq-eqb h h refl)
 
 pub reports_after-entry : (rs : List Report) (n : Need) (h v : ℕ) → reports_after rs n ≡ rs ++ report_of h (entry_of h n v)
-reports_after-entry rs need.Inner h v = sym (append-nil rs)
-reports_after-entry rs (need.Load a width) h v = sym (append-nil rs)
-reports_after-entry rs (need.Store a width w) h v = sym (append-nil rs)
-reports_after-entry rs (need.Amo a op rs2) h v = sym (append-nil rs)
-reports_after-entry rs (need.Fence full) h v = sym (append-nil rs)
-reports_after-entry rs (need.Next w) h v = sym (append-nil rs)
 reports_after-entry rs (need.Report (report.Took i w)) h v = ap (λ (x : List Report). rs ++ x) (sym (if_self h (report.Took i w ∷ []) []))
 reports_after-entry rs (need.Report (report.Closed i)) h v = ap (λ (x : List Report). rs ++ x) (sym (if_self h (report.Closed i ∷ []) []))
-reports_after-entry rs need.Exit h v = sym (append-nil rs)
-reports_after-entry rs (need.Stop why) h v = sym (append-nil rs)
+reports_after-entry rs other h v = sym (append-nil rs)
 
 pub report_of-other : (k : ℕ) (e : Entry) → (hart_of e == k) ≡ false → report_of k e ≡ []
-report_of-other k (entry.Inner g) ne = refl
-report_of-other k (entry.Load g a width v) ne = refl
-report_of-other k (entry.Store g a width v) ne = refl
-report_of-other k (entry.Amo g a old new) ne = refl
-report_of-other k (entry.Fence g full) ne = refl
-report_of-other k (entry.Next g w) ne = refl
 report_of-other k (entry.Took g i w) ne = ap (λ b. if b then report.Took i w ∷ [] else []) ne
 report_of-other k (entry.Closed g i) ne = ap (λ b. if b then report.Closed i ∷ [] else []) ne
-report_of-other k (entry.Ended g) ne = refl
-report_of-other k (entry.Stopped g why) ne = refl
-report_of-other k (entry.Land g) ne = refl
+report_of-other k other ne = refl
 
 -- the reports after hart h, in state s, made e
 pub reports_stay : (M : ℕ) (t : History) (c : Config) (h : ℕ) (e : Entry) (s : HartState) → Represents M t c → hart_of e ≡ h → state_of M t h ≡ Some s → e ≡ entry_of h (need_of s) (value_of e) → (k : ℕ) (w : HartView) → slice_get (step_hart c h (value_of e)) k ≡ Some w → w.reports ≡ reported k (with_entry t e).entries

@@ -10,7 +10,7 @@ use Rattle.memory.proofs.Bytes.{joined-same}
 use Rattle.memory.proofs.Newest.{newest_word-last}
 use Rattle.memory.proofs.WholeWords.{word_reads}
 use Rattle.step_machine.specs.declared.events.Entry.{Entry}
-use Rattle.step_machine.specs.Access.{Access, nothing, load, store, exchange, fence, land, access_of}
+use Rattle.step_machine.specs.Access.{Access, store, exchange, land, access_of}
 use Rattle.step_machine.specs.History.{Start}
 use Rattle.step_machine.specs.Entries.{hart_of, stored_by, written_by, store_of, stores, lands, pending, write_of, landed_after, landed, opening_byte, memory_byte, memory_word, read_byte, read}
 use Rattle.step_machine.proofs.Appended.{landed-last}
@@ -19,11 +19,7 @@ use Rattle.step_machine.specs.WordReads.{WritesWord, AllWriteWords, OpensWithWor
 store_whole : (b : Bool) (x : Access) → WritesWord x → All IsWholeWord (stored_by b x)
 store_whole true (store w) is = All-cons IsWholeWord w [] is (All-nil IsWholeWord)
 store_whole false (store w) is = All-nil IsWholeWord
-store_whole b nothing is = All-nil IsWholeWord
-store_whole b (load a width v) is = All-nil IsWholeWord
-store_whole b (exchange a old new) is = All-nil IsWholeWord
-store_whole b (fence full) is = All-nil IsWholeWord
-store_whole b land is = All-nil IsWholeWord
+store_whole b other is = All-nil IsWholeWord
 
 pub stores_whole : (h : ℕ) (es : List Entry) → AllWriteWords es → All IsWholeWord (stores h es)
 stores_whole h [] all = All-nil IsWholeWord
@@ -35,10 +31,7 @@ pending_whole h es all = All-drop IsWholeWord (lands h es) (stores h es) (stores
 write_whole : (oldest : List Write) (x : Access) → All IsWholeWord oldest → WritesWord x → All IsWholeWord (written_by oldest x)
 write_whole oldest (exchange a old new) all is = All-cons IsWholeWord (write a 4 new) [] is (All-nil IsWholeWord)
 write_whole oldest land all is = all
-write_whole oldest nothing all is = All-nil IsWholeWord
-write_whole oldest (load a width v) all is = All-nil IsWholeWord
-write_whole oldest (store w) all is = All-nil IsWholeWord
-write_whole oldest (fence full) all is = All-nil IsWholeWord
+write_whole oldest other all is = All-nil IsWholeWord
 
 pub AllWriteWords-append : (es fs : List Entry) → AllWriteWords es → AllWriteWords fs → AllWriteWords (es ++ fs)
 AllWriteWords-append [] fs all more = more

@@ -1,8 +1,8 @@
 //! Entries in few bytes: a head of four bytes for each row of equal entries, and beside the heads the numbers
 //! that don't fit there.
 
-ghost use Rattle.std.specs.Prelude.{◌≡◌, ◌+◌, ◌≤◌, ◌<◌, [], ◌∷◌, ◌++◌, true, false, length, take, ◌-◌, IfOk, IfSome, MatchOption, IsErr, OnOk, OnErr, vec_len, vec_capacity, if◌then◌else◌};
-ghost use Rattle.step_machine.specs.inner.Packed.{IsSingle, IsLonger, entry_of, further_of};
+ghost use Rattle.std.specs.Prelude.{◌≡◌, ◌≢◌, ◌+◌, ◌≤◌, ◌<◌, [], ◌∷◌, ◌++◌, true, false, length, take, ◌-◌, IfOk, MatchOption, IsErr, OnOk, OnErr, vec_len, vec_capacity, if◌then◌else◌};
+ghost use Rattle.step_machine.specs.inner.Packed.{CanGrow, IsSingle, IsLonger, entry_of, further_of};
 
 use crate::events::Entry;
 use std::alloc::{AllocError, Global};
@@ -192,14 +192,20 @@ impl PackedEntries {
             return;
         }
         match entry {
-            Entry::Inner { hart } if hart < 256 => self.add(Head::Inner {
-                hart: hart as u8,
-                further: 0,
-            }),
-            Entry::Land { hart } if hart < 256 => self.add(Head::Land {
-                hart: hart as u8,
-                further: 0,
-            }),
+            Entry::Inner { hart } if hart < 256 => {
+                let head = Head::Inner {
+                    hart: hart as u8,
+                    further: 0,
+                };
+                self.add(head, &[], &[]);
+            }
+            Entry::Land { hart } if hart < 256 => {
+                let head = Head::Land {
+                    hart: hart as u8,
+                    further: 0,
+                };
+                self.add(head, &[], &[]);
+            }
             Entry::Load {
                 hart,
                 addr,
@@ -210,7 +216,7 @@ impl PackedEntries {
                     hart: hart as u8,
                     addr: addr as u16,
                 };
-                self.add_with_number(head, value);
+                self.add(head, &[value], &[]);
             }
             Entry::Store {
                 hart,
@@ -222,7 +228,7 @@ impl PackedEntries {
                     hart: hart as u8,
                     addr: addr as u16,
                 };
-                self.add_with_number(head, value);
+                self.add(head, &[value], &[]);
             }
             Entry::Amo {
                 hart,
@@ -234,26 +240,29 @@ impl PackedEntries {
                     hart: hart as u8,
                     addr: addr as u16,
                 };
-                self.add_with_numbers(head, old, new);
+                self.add(head, &[old, new], &[]);
             }
-            Entry::Fence { hart, full } if hart < 256 => self.add(Head::Fence {
-                hart: hart as u8,
-                full,
-            }),
+            Entry::Fence { hart, full } if hart < 256 => {
+                let head = Head::Fence {
+                    hart: hart as u8,
+                    full,
+                };
+                self.add(head, &[], &[]);
+            }
             Entry::Next {
                 hart,
                 word: Some(word),
             } if hart < 256 => {
-                self.add_with_number(Head::Next { hart: hart as u8 }, word);
+                self.add(Head::Next { hart: hart as u8 }, &[word], &[]);
             }
             Entry::Took { hart, sender, word } if hart < 256 && sender < 65536 => {
                 let head = Head::Took {
                     hart: hart as u8,
                     sender: sender as u16,
                 };
-                self.add_with_number(head, word);
+                self.add(head, &[word], &[]);
             }
-            _ => self.add_plain(entry),
+            _ => self.add(Head::Plain, &[], &[entry]),
         }
     }
 
@@ -281,56 +290,17 @@ impl PackedEntries {
         }
     }
 
-    /// Adds a head that has no numbers.
+    /// Adds a head of one entry, with its numbers and its plain entries.
     #[inline(always)]
-    fn add(&mut self, head: Head)
-        requires single { IsSingle head 0 0 }
+    fn add(&mut self, head: Head, numbers: &[u32], plain: &[Entry])
+        requires single { IsSingle head (length numbers.now) (length plain.now) }
         requires room { 0 < self.old.room }
-        ensures entries { self.new.entries ≡ self.old.entries ++ entry_of head [] [] ∷ [] }
+        ensures entries { self.new.entries ≡ self.old.entries ++ entry_of head numbers.now plain.now ∷ [] }
         ensures room { self.new.room + 1 ≡ self.old.room }
     {
         self.heads.push_reserved(head);
-        self.count += 1;
-        self.room -= 1;
-    }
-
-    /// Adds a head that has a number.
-    #[inline(always)]
-    fn add_with_number(&mut self, head: Head, number: u32)
-        requires single { IsSingle head 1 0 }
-        requires room { 0 < self.old.room }
-        ensures entries { self.new.entries ≡ self.old.entries ++ entry_of head (number ∷ []) [] ∷ [] }
-        ensures room { self.new.room + 1 ≡ self.old.room }
-    {
-        self.heads.push_reserved(head);
-        self.numbers.push_reserved(number);
-        self.count += 1;
-        self.room -= 1;
-    }
-
-    /// Adds a head that has two numbers.
-    #[inline(always)]
-    fn add_with_numbers(&mut self, head: Head, first: u32, second: u32)
-        requires single { IsSingle head 2 0 }
-        requires room { 0 < self.old.room }
-        ensures entries { self.new.entries ≡ self.old.entries ++ entry_of head (first ∷ second ∷ []) [] ∷ [] }
-        ensures room { self.new.room + 1 ≡ self.old.room }
-    {
-        self.heads.push_reserved(head);
-        self.numbers.push_reserved(first);
-        self.numbers.push_reserved(second);
-        self.count += 1;
-        self.room -= 1;
-    }
-
-    /// Adds an entry as it is.
-    fn add_plain(&mut self, entry: Entry)
-        requires { 0 < self.old.room }
-        ensures entries { self.new.entries ≡ self.old.entries ++ entry ∷ [] }
-        ensures room { self.new.room + 1 ≡ self.old.room }
-    {
-        self.heads.push_reserved(Head::Plain);
-        self.plain.push_reserved(entry);
+        extend_reserved(&mut self.numbers, numbers);
+        extend_reserved(&mut self.plain, plain);
         self.count += 1;
         self.room -= 1;
     }
@@ -390,10 +360,23 @@ impl PackedEntries {
     }
 }
 
+/// Adds items for which the list has room.
+#[inline(always)]
+fn extend_reserved<T: Copy>(list: &mut Vec<T>, items: &[T])
+    requires { vec_len list.old + length items.now ≤ vec_capacity list.old }
+    ensures items { list.new.items ≡ list.old.items ++ items.now }
+    ensures len { vec_len list.new ≡ vec_len list.old + length items.now }
+    ensures capacity { vec_capacity list.new ≡ vec_capacity list.old }
+{
+    for item in items {
+        list.push_reserved(*item);
+    }
+}
+
 /// The head with one entry more, if the entry is that of its row and the row may grow.
 #[inline(always)]
 fn lengthened(head: Head, entry: Entry) -> Option<Head>
-    ensures { IfSome result (λ longer. IsLonger head entry longer) }
+    ensures { MatchOption result (CanGrow head → entry_of head [] [] ≢ entry) (λ longer. IsLonger head entry longer) }
 {
     match (head, entry) {
         (Head::Inner { hart, further }, Entry::Inner { hart: number })

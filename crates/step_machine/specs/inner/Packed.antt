@@ -1,7 +1,7 @@
 -- What packed entries stand for. A head is a row of equal entries; its numbers, or the plain entry that it is, are
 -- the first of those that no head before it took.
-use Rattle.std.specs.Prelude.{ℕ, ◌+◌, ◌≡◌, List, [], ◌∷◌, ◌++◌, Some, length, drop, replicate, slice_index}
-use Rattle.std.specs.List.{sum_by}
+use Rattle.std.specs.Prelude.{ℕ, ◌+◌, ◌≡◌, ◌<◌, List, [], ◌∷◌, ◌++◌, Some, length, drop, replicate, slice_index}
+use Rattle.std.specs.List.{sum_by, slice_index_or}
 use Rattle.step_machine.specs.declared.events.Entry.{Entry}
 use Rattle.step_machine.specs.declared.events.Entry.TheVariants as entry
 use Rattle.step_machine.specs.declared.packed.Head.{Head}
@@ -32,10 +32,6 @@ further_of (head.Inner h further) = further
 further_of (head.Land h further) = further
 further_of other = 0
 
-abbrev pub first_plain : List Entry → Entry
-first_plain [] = entry.Inner 0
-first_plain (e ∷ es) = e
-
 -- a head's entry, where these numbers and plain entries begin with its own
 abbrev pub entry_of : Head → List ℕ → List Entry → Entry
 entry_of (head.Inner h further) ns ps = entry.Inner h
@@ -46,7 +42,7 @@ entry_of (head.Amo h a) ns ps = entry.Amo h a (slice_index ns 0) (slice_index ns
 entry_of (head.Fence h full) ns ps = entry.Fence h full
 entry_of (head.Next h) ns ps = entry.Next h (Some (slice_index ns 0))
 entry_of (head.Took h sender) ns ps = entry.Took h sender (slice_index ns 0)
-entry_of head.Plain ns ps = first_plain ps
+entry_of head.Plain ns ps = slice_index_or ps 0 (entry.Inner 0)
 
 -- all its entries
 abbrev pub row_of : Head → List ℕ → List Entry → List Entry
@@ -74,3 +70,9 @@ pub record IsLonger (h : Head) (e : Entry) (longer : Head) : Type 0 where
   pub further : further_of longer ≡ further_of h + 1
   pub first : (ns : List ℕ) (ps : List Entry) → entry_of h ns ps ≡ e
   pub same : (ns : List ℕ) (ps : List Entry) → entry_of longer ns ps ≡ e
+
+-- a row that may have one entry more
+abbrev pub CanGrow : Head → Type 0
+CanGrow (head.Inner h further) = further < 65535
+CanGrow (head.Land h further) = further < 65535
+CanGrow other = ⊥
