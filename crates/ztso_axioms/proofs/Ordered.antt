@@ -14,7 +14,7 @@ use Rattle.ztso_axioms.specs.Operations.{is_load, is_store, is_amo, is_full_fenc
 use Rattle.ztso_axioms.specs.Axioms.{times_named, is_named, is_before, in_program_order, is_barrier, is_fenced, may_pass, NamesEachOnce, KeepsProgramOrder}
 use Rattle.ztso_axioms.specs.Performed.{places_of, is_store_of, store_places, performed_after, left_below, hart_bound}
 use Rattle.ztso_axioms.proofs.Listing.{times-none}
-use Rattle.ztso_axioms.proofs.Members.{times-filter, times-all_places, named-places, before-split, is_before-filter}
+use Rattle.ztso_axioms.proofs.Members.{named_passes, times-filter, times-all_places, named-places, before-split, is_before-filter}
 use Rattle.ztso_axioms.proofs.Performs.{is_reader, stores_at, reads_at, order-stores, order-reads, order-operations}
 use Rattle.ztso_axioms.proofs.Fronts.{some_at, split_entry, at_front, at_past, order-front, read_in_front, front_stores, front_allows, store_performed, store_not_yet, barrier_waits}
 
@@ -57,7 +57,8 @@ order-once es p = at (is_at is_operation es p) refl
         sym (times-filter (stores_at es (hart_at es p)) p (performed_order es) own) ∙ ap (times_named p) (order-stores es (hart_at es p)) ∙ times-all_places (is_store_of (hart_at es p)) p es ∙ ap (λ b. if b then 1 else 0) own
 
     never : is_at is_operation es p ≡ false → (b : Bool) → is_named p (performed_order es) ≡ b → times_named p (performed_order es) ≡ 0
-    never none true named = let op : is_at is_operation es p ≡ true = order-operations es p named in cc
+    never none true named =
+        let op : is_at is_operation es p ≡ true = named_passes (is_at is_operation es) (performed_order es) p (order-operations es) named in cc
     never none false named = times-none p (performed_order es) named
 
     at : (b : Bool) → is_at is_operation es p ≡ b → times_named p (performed_order es) ≡ (if b then 1 else 0)
