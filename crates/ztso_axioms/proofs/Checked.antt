@@ -99,11 +99,7 @@ last_written-append es a w (x ∷ xs) ys = last_written-append es a (unwrap_or (
 
 -- a first operation, after which none writes to the address
 written_first : (es : List Entry) (a w x : ℕ) (seen : ℕ → Bool) (xs : List ℕ) → NoneWrites es a seen xs → last_written es a w (filter seen (x ∷ xs)) ≡ unwrap_or (written_if es a seen x) w
-written_first es a w x seen xs none = at (seen x)
-  where
-    at : (b : Bool) → last_written es a w (if b then x ∷ filter seen xs else filter seen xs) ≡ unwrap_or (if b then written_at es a x else None) w
-    at true = none (unwrap_or (written_at es a x) w)
-    at false = none w
+written_first es a w x seen xs none = grind (arith, none (unwrap_or (written_at es a x) w), none w)
 
 pub none_more : (es : List Entry) (a j : ℕ) (seen : ℕ → Bool) (gs : List ℕ) → j < length gs → written_if es a seen (get_or gs j 0) ≡ None → NoneWrites es a seen (drop (j + 1) gs) → NoneWrites es a seen (drop j gs)
 none_more es a j seen gs lt is none w =

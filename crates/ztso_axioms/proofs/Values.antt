@@ -92,20 +92,20 @@ front_memory B o es us ws a legal split =
 sees_own : (es : List Entry) (q x : ℕ) (us ws : List Entry) → es ≡ us ++ ws → length us ≡ q → is_named x (performed_after es [] us) ≡ false → is_at is_operation es x ≡ true → in_program_order es x q ≡ (stores_at es (hart_at es q) x && nat_lt x q)
 sees_own es q x us ws split len out op = at (kind_at es x op)
   where
-    reader : reads_at es x ≡ true → (b : Bool) → nat_lt x q ≡ b → in_program_order es x q ≡ (stores_at es (hart_at es q) x && nat_lt x q)
-    reader reads true is =
+    reader : reads_at es x ≡ true → in_program_order es x q ≡ (stores_at es (hart_at es q) x && nat_lt x q)
+    reader reads =
+        let later : nat_lt x q ≡ false = false_from_ne_true _ (λ is.
         let lt : x < q = ltb-true x q is in
         let in_front : is_named x (performed_after es [] us) ≡ true = read_performed es us ws x split reads (omega arith) in
-        cc
-    reader reads false is =
-        and_right (hart_at es x == hart_at es q) _ is ∙ sym (and_right (stores_at es (hart_at es q) x) _ is)
+        (cc)) in
+        and_right (hart_at es x == hart_at es q) _ later ∙ sym (and_right (stores_at es (hart_at es q) x) _ later)
 
     writer : (so : Option Entry) → passes (is_store_of (option_map_or hart_of so 0)) so ≡ true → (option_map_or hart_of so 0 == hart_at es q) ≡ passes (is_store_of (hart_at es q)) so
     writer (Some (entry.Store h a width v)) own = refl
     writer other own = cc
 
     at : (reads_at es x ≡ true) ⊎ (stores_at es (hart_at es x) x ≡ true) → in_program_order es x q ≡ (stores_at es (hart_at es q) x && nat_lt x q)
-    at (inl reads) = reader reads (nat_lt x q) refl
+    at (inl reads) = reader reads
     at (inr own) = ap (λ b. b && nat_lt x q) (writer (slice_get es x) own)
 
 -- the stores of a hart that the front has not performed
