@@ -14,7 +14,8 @@ use Rattle.ztso_axioms.specs.Axioms.{times_named, is_named, is_before, in_progra
 use Rattle.ztso_axioms.proofs.Listing.{Once, times-none, times-some, named-some, named_at, index_of, split_at, is_before-index}
 
 pub once_of : (es : List Entry) (gs : List ℕ) → NamesEachOnce es gs → Once gs
-once_of es gs n = record { once = λ p. subst (λ k. k ≤ 1) (sym (n p)) (cond_both (is_at is_operation es p) 1 0 (λ k. k ≤ 1) (λ _. omega arith) (λ _. omega arith)) }
+once_of es gs n =
+    record { once = λ p. subst (λ k. k ≤ 1) (sym (n p)) (cond_both (is_at is_operation es p) 1 0 (λ k. k ≤ 1) (λ _. omega arith) (λ _. omega arith)) }
 
 -- an operation is named
 pub named_op : (es : List Entry) (gs : List ℕ) (p : ℕ) → NamesEachOnce es gs → is_at is_operation es p ≡ true → is_named p gs ≡ true
@@ -23,7 +24,8 @@ named_op es gs p n op =
     named-some p gs (omega arith)
 
 -- each operation of the trace is named once, and nothing else is
-pub names_from : (es : List Entry) (gs : List ℕ) → ((p : ℕ) → p < length es → is_at is_operation es p ≡ true → times_named p gs ≡ 1) → All (λ (g : ℕ). is_at is_operation es g ≡ true) gs → NamesEachOnce es gs
+pub names_from : (es : List Entry) (gs : List ℕ) → ((p : ℕ) → p < length es → is_at is_operation es p ≡ true → times_named p gs ≡ 1)
+    → All (λ (g : ℕ). is_at is_operation es g ≡ true) gs → NamesEachOnce es gs
 names_from es gs once operations p = at (is_at is_operation es p) refl
   where
     at : (b : Bool) → is_at is_operation es p ≡ b → times_named p gs ≡ (if b then 1 else 0)
@@ -57,19 +59,15 @@ keeps_from_indices es gs n none p q is =
     let at_p : (i : ℕ) × (i < length gs) × (get_or gs i 0 ≡ p) = index_of p gs (named_op es gs p n ops.0) in
     let at_q : (i : ℕ) × (i < length gs) × (get_or gs i 0 ≡ q) = index_of q gs (named_op es gs q n ops.1) in
     subst (λ (x : ℕ). is_before gs x q ≡ true) at_p.2 (subst (λ (y : ℕ). is_before gs (get_or gs at_p.0 0) y ≡ true) at_q.2
-    (is_before-index gs at_p.0 at_q.0 (once_of es gs n) at_p.1 at_q.1 ∙ at at_p.0 at_q.0 at_p.1 at_q.1 at_p.2 at_q.2 (nat_lt at_p.0 at_q.0) refl))
+    (is_before-index gs at_p.0 at_q.0 (once_of es gs n) at_p.1 at_q.1 ∙ true_from_ne_false _ (behind at_p.0 at_q.0 at_p.1 at_q.1 at_p.2 at_q.2)))
   where
-    at : (j i : ℕ) → j < length gs → i < length gs → get_or gs j 0 ≡ p → get_or gs i 0 ≡ q → (b : Bool) → nat_lt j i ≡ b → b ≡ true
-    at j i lt_j lt_i is_p is_q true lt = refl
-    at j i lt_j lt_i is_p is_q false lt =
+    behind : (j i : ℕ) → j < length gs → i < length gs → get_or gs j 0 ≡ p → get_or gs i 0 ≡ q → nat_lt j i ≡ false → ⊥
+    behind j i lt_j lt_i is_p is_q lt =
         let le : i ≤ j = ltb-false j i lt in
-        let within : j - i < length (drop i gs) = omega (arith, length-drop i gs) in
         let there : i + (j - i) ≡ j = omega arith in
         let same : get_or (drop i gs) (j - i) 0 ≡ p = get_or-drop i gs (j - i) 0 ∙ ap (λ k. get_or gs k 0) there ∙ is_p in
-        let no : is_preserved es (get_or (drop i gs) (j - i) 0) (get_or gs i 0) ≡ false = none i lt_i (j - i) 0 within in
-        let no_p : is_preserved es p (get_or gs i 0) ≡ false = subst (λ (x : ℕ). is_preserved es x (get_or gs i 0) ≡ false) same no in
-        let no_pq : is_preserved es p q ≡ false = subst (λ (x : ℕ). is_preserved es p x ≡ false) is_q no_p in
-        cc
+        let no : is_preserved es (get_or (drop i gs) (j - i) 0) (get_or gs i 0) ≡ false = none i lt_i (j - i) 0 (omega (arith, length-drop i gs)) in
+        (cc)
 
 pub indices_from_keeps : (es : List Entry) (gs : List ℕ) (i : ℕ) → NamesEachOnce es gs → KeepsProgramOrder es gs → i < length gs → NoneBelongsBefore es gs i
 indices_from_keeps es gs i n keeps lt k d within = false_from_ne_true _ (λ is.
@@ -82,7 +80,8 @@ indices_from_keeps es gs i n keeps lt k d within = false_from_ne_true _ (λ is.
     (cc))
 
 -- one more operation that is not seen, before those of which none is
-pub none_seen_more : (seen : ℕ → Bool) (gs : List ℕ) (j : ℕ) → j < length gs → seen (get_or gs j 0) ≡ false → filter seen (drop (j + 1) gs) ≡ [] → filter seen (drop j gs) ≡ []
+pub none_seen_more : (seen : ℕ → Bool) (gs : List ℕ) (j : ℕ) → j < length gs → seen (get_or gs j 0) ≡ false
+    → filter seen (drop (j + 1) gs) ≡ [] → filter seen (drop j gs) ≡ []
 none_seen_more seen gs j lt is none =
     ap (filter seen) (drop_more gs j 0 lt) ∙ ap (λ b. if b then get_or gs j 0 ∷ filter seen (drop (j + 1) gs) else filter seen (drop (j + 1) gs)) is ∙ none
 
@@ -100,11 +99,7 @@ last_written-append es a w (x ∷ xs) ys = last_written-append es a (unwrap_or (
 
 -- a first operation, after which none writes to the address
 written_first : (es : List Entry) (a w x : ℕ) (seen : ℕ → Bool) (xs : List ℕ) → NoneWrites es a seen xs → last_written es a w (filter seen (x ∷ xs)) ≡ unwrap_or (written_if es a seen x) w
-written_first es a w x seen xs none = at (seen x)
-  where
-    at : (b : Bool) → last_written es a w (if b then x ∷ filter seen xs else filter seen xs) ≡ unwrap_or (if b then written_at es a x else None) w
-    at true = none (unwrap_or (written_at es a x) w)
-    at false = none w
+written_first es a w x seen xs none = grind (arith, none (unwrap_or (written_at es a x) w), none w)
 
 pub none_more : (es : List Entry) (a j : ℕ) (seen : ℕ → Bool) (gs : List ℕ) → j < length gs → written_if es a seen (get_or gs j 0) ≡ None → NoneWrites es a seen (drop (j + 1) gs) → NoneWrites es a seen (drop j gs)
 none_more es a j seen gs lt is none w =

@@ -1,7 +1,7 @@
 -- The front of a trace, and what it has performed.
 use Rattle.std.proofs.Common.{◌≡◌, ℕ, zero, suc, ◌≤◌, ◌<◌, ◌==◌, Bool, true, false, if◌then◌else◌, List, [], ◌∷◌, ◌++◌, length, take, drop, Option, Some, None, refl, sym, ◌∙◌, ap, subst, arith, append_assoc, length-append, length-drop}
 use Rattle.std.specs.Prelude.{option_and_then}
-use Rattle.std.specs.List.{slice_get}
+use Rattle.std.specs.List.{slice_get, AllZip}
 use Rattle.std.proofs.lemmas.Bool.{eqb-true, and_parts, or_left, false_from_ne_true}
 use Rattle.std.proofs.lemmas.List.{take-append-drop, take-append-le, take_all}
 use Rattle.std.proofs.lemmas.Option.{slice_get_past}
@@ -70,9 +70,7 @@ store_in_front es us ws h p split own =
 
 -- each place holds a store of the pair beside it
 abbrev pub AreWritten : List Entry → List ℕ → List Write → Type 0
-AreWritten all [] [] = Unit {0}
-AreWritten all (g ∷ gs) (p ∷ ps) = ((a : ℕ) → written_at all a g ≡ byte_in p a) × AreWritten all gs ps
-AreWritten all gs ps = ⊥
+AreWritten all gs ps = AllZip (λ (g : ℕ) (w : Write). (a : ℕ) → written_at all a g ≡ byte_in w a) gs ps
 
 pub AreWritten-length : (all : List Entry) (gs : List ℕ) (ps : List Write) → AreWritten all gs ps → length gs ≡ length ps
 AreWritten-length all [] [] written = refl
@@ -89,14 +87,11 @@ written_before : (all us : List Entry) (e : Entry) (ws : List Entry) (h : ℕ) (
 written_before all us e ws h rest split gs written = at e split
   where
     at : (d : Entry) → all ≡ us ++ d ∷ ws → AreWritten all (place_of (is_store_of h) (length us) d ++ gs) (store_of h d ++ stores h rest)
-    at (entry.Store g a width v) here = mine (g == h)
-      where
-        writes : (b : ℕ) → written_at all b (length us) ≡ byte_in (write a width v) b
-        writes b = ap (λ zs. written_at zs b (length us)) here ∙ ap (option_and_then (written_to b)) (entry_here us (entry.Store g a width v) ws)
-
-        mine : (b : Bool) → AreWritten all ((if b then length us ∷ [] else []) ++ gs) ((if b then write a width v ∷ [] else []) ++ stores h rest)
-        mine true = (writes, written)
-        mine false = written
+    at (entry.Store g a width v) here =
+        let writes : (b : ℕ) → written_at all b (length us) ≡ byte_in (write a width v) b
+        = λ b. ap (λ zs. written_at zs b (length us)) here ∙ ap (option_and_then (written_to b)) (entry_here us (entry.Store g a width v) ws) in
+        elim (g == h) as (λ b. AreWritten all ((if b then length us ∷ [] else []) ++ gs) ((if b then write a width v ∷ [] else []) ++ stores h rest))
+        [ true ↦ (writes, written) | false ↦ written ]
     at other here = written
 
 pub written_stores : (all us es ws : List Entry) (h : ℕ) → all ≡ us ++ (es ++ ws) → AreWritten all (places_of (is_store_of h) (length us) es) (stores h es)
@@ -150,7 +145,8 @@ store_not_yet B o es us ws h q legal split own le =
     ∙ ap (is_named q) (front_landed B o es us ws h legal split)
     ∙ false_from_ne_true _ (λ is.
     let whole : is_named q (store_places h us) ≡ true
-    = ap (is_named q) (sym (take-append-drop (lands h us) (store_places h us))) ∙ named-append q (take (lands h us) (store_places h us)) (drop (lands h us) (store_places h us)) ∙ or_left _ _ is in
+    = ap (is_named q) (sym (take-append-drop (lands h us) (store_places h us)))
+    ∙ named-append q (take (lands h us) (store_places h us)) (drop (lands h us) (store_places h us)) ∙ or_left _ _ is in
     let here : is_at (is_store_of h) us q ≡ true = sym (named-places (is_store_of h) q us) ∙ whole in
     let past : is_at (is_store_of h) us q ≡ false = at_past (is_store_of h) us q le in
     (cc))

@@ -85,13 +85,7 @@ pub times_more : (p : ℕ) (xs : List ℕ) (i : ℕ) (b : Bool) → i < length x
 times_more p xs i b lt is = ap (times_named p) (take_more xs i 0 lt) ∙ times-append p (take i xs) (get_or xs i 0 ∷ []) ∙ ap (λ c. times_named p (take i xs) + (if c then 1 else 0)) is
 
 pub times_hit : (p : ℕ) (xs : List ℕ) (i t n x : ℕ) → i < length xs → x ≡ get_or xs i x → x ≡ p → t ≡ times_named p (take i xs) → n ≡ t + 1 → n ≡ times_named p (take (i + 1) xs)
-times_hit p xs i t n x lt read is before_it after =
-    let same : get_or xs i 0 ≡ p = sym (get_or_read xs i x lt read 0) ∙ is in
-    after ∙ ap (λ m. m + 1) before_it ∙ sym (times_more p xs i true lt (eq-eqb (get_or xs i 0) p same))
+times_hit p xs i t n x lt read is before_it after = grind (arith, times_more p xs i true lt, get_or_read xs i x lt read 0, eq-eqb (get_or xs i 0) p)
 
 pub times_missed : (p : ℕ) (xs : List ℕ) (i t n x : ℕ) → i < length xs → x ≡ get_or xs i x → (x ≡ p → ⊥) → t ≡ times_named p (take i xs) → n ≡ t → n ≡ times_named p (take (i + 1) xs)
-times_missed p xs i t n x lt read not before_it after =
-    let same : get_or xs i 0 ≡ x = sym (get_or_read xs i x lt read 0) in
-    let more : times_named p (take (i + 1) xs) ≡ times_named p (take i xs) + 0 = times_more p xs i false lt (ne_eqb (get_or xs i 0) p (λ e. not (sym same ∙ e))) in
-    let same_count : times_named p (take i xs) + 0 ≡ times_named p (take i xs) = omega arith in
-    after ∙ before_it ∙ sym same_count ∙ sym more
+times_missed p xs i t n x lt read not before_it after = grind (arith, times_more p xs i false lt, get_or_read xs i x lt read 0, ne_eqb (get_or xs i 0) p)

@@ -1,62 +1,48 @@
 -- Which places a list names, and what a filter of it names.
-use Rattle.std.proofs.Common.{◌≡◌, ℕ, zero, suc, ◌+◌, ◌<◌, ◌==◌, Bool, true, false, not, ◌&&◌, ◌||◌, if◌then◌else◌, inl, inr, List, [], ◌∷◌, ◌++◌, drop, refl, sym, ◌∙◌, ap, subst, arith, length, append-nil, append_assoc}
+use Rattle.std.proofs.Common.{◌≡◌, ℕ, zero, suc, ◌+◌, ◌<◌, ◌==◌, Bool, true, false, not, ◌&&◌, if◌then◌else◌, List, [], ◌∷◌, ◌++◌, get_or, refl, sym, ◌∙◌, ap, subst, arith, length, append-nil, append_assoc}
 use Rattle.std.specs.Prelude.{filter, option_to_list}
-use Rattle.std.specs.List.{slice_get}
-use Rattle.std.proofs.lemmas.Bool.{eqb-true, eq-eqb, ne_eqb, not-true, or_cases, or_left, or_right}
+use Rattle.std.specs.List.{AllPass, slice_get}
+use Rattle.std.proofs.lemmas.Bool.{eqb-true, eq-eqb, ne_eqb, not-true, or_left, or_right}
 use Rattle.step_machine.specs.declared.events.Entry.{Entry}
 use Rattle.ztso_axioms.specs.Operations.{is_at}
 use Rattle.ztso_axioms.specs.Axioms.{times_named, before, is_named, is_before}
 use Rattle.ztso_axioms.specs.Performed.{places_of, performed_by, performed_after}
-use Rattle.ztso_axioms.proofs.Listing.{times-none, named-none, named-some, times-some, named-append}
+use Rattle.ztso_axioms.proofs.Listing.{index_of, named_at, times-none, named-none, named-some, times-some}
 use Rattle.step_machine.specs.Entries.{land_of, lands}
 use Rattle.step_machine.proofs.Appended.{lands-append}
+use Rattle.std.proofs.lemmas.List.Elements.{All-cons, All-head, All-nil, All-tail}
 
--- each place that the list names passes the test
-abbrev pub Each : (ℕ → Bool) → List ℕ → Type 0
-Each test xs = (x : ℕ) → is_named x xs ≡ true → test x ≡ true
+-- the place passes the test
+abbrev pub IsPassed : (ℕ → Bool) → ℕ → Type 0
+IsPassed test x = test x ≡ true
 
-pub Each-head : (test : ℕ → Bool) (x : ℕ) (xs : List ℕ) → Each test (x ∷ xs) → test x ≡ true
-Each-head test x xs each = each x (or_left (x == x) (is_named x xs) (eq-eqb x x refl))
+-- what passes by its name, by its index
+pub passes_by_name : (test : ℕ → Bool) (xs : List ℕ) → ((x : ℕ) → is_named x xs ≡ true → test x ≡ true) → AllPass test xs
+passes_by_name test xs each k d lt = each (get_or xs k d) (named_at xs k d lt)
 
-pub Each-tail : (test : ℕ → Bool) (x : ℕ) (xs : List ℕ) → Each test (x ∷ xs) → Each test xs
-Each-tail test x xs each y is = each y (or_right (x == y) (is_named y xs) is)
+pub named_passes : (test : ℕ → Bool) (xs : List ℕ) (x : ℕ) → AllPass test xs → is_named x xs ≡ true → test x ≡ true
+named_passes test xs x each is =
+    let there : (i : ℕ) × (i < length xs) × (get_or xs i 0 ≡ x) = index_of x xs is in
+    subst (λ (y : ℕ). test y ≡ true) there.2 (each there.0 0 there.1)
 
-pub Each-append : (test : ℕ → Bool) (xs ys : List ℕ) → Each test xs → Each test ys → Each test (xs ++ ys)
-Each-append test xs ys front back y is =
-    elim (or_cases (is_named y xs) (is_named y ys) (sym (named-append y xs ys) ∙ is)) as (λ _. test y ≡ true) [ inl here ↦ front y here | inr here ↦ back y here ]
-
-pub Each-nil : (test : ℕ → Bool) → Each test []
-Each-nil test x is = cc
-
-pub Each-one : (test : ℕ → Bool) (x : ℕ) → test x ≡ true → Each test (x ∷ [])
-Each-one test x pass y is = at (x == y) refl is
-  where
-    at : (b : Bool) → (x == y) ≡ b → (b || false) ≡ true → test y ≡ true
-    at true same so = subst (λ (z : ℕ). test z ≡ true) (eqb-true x y same) pass
-    at false same so = cc
-
-pub Each-weaker : (test other : ℕ → Bool) (xs : List ℕ) → ((x : ℕ) → test x ≡ true → other x ≡ true) → Each test xs → Each other xs
-Each-weaker test other xs gives each x is = gives x (each x is)
-
-pub Each-get : (test : ℕ → Bool) (xs : List ℕ) (k : ℕ) → Each test xs → Each test (option_to_list (slice_get xs k))
-Each-get test [] k each = Each-nil test
-Each-get test (x ∷ xs) zero each = Each-one test x (Each-head test x xs each)
-Each-get test (x ∷ xs) (suc k) each = Each-get test xs k (Each-tail test x xs each)
-
-pub Each-drop : (test : ℕ → Bool) (k : ℕ) (xs : List ℕ) → Each test xs → Each test (drop k xs)
-Each-drop test zero xs each = each
-Each-drop test (suc k) [] each = each
-Each-drop test (suc k) (x ∷ xs) each = Each-drop test k xs (Each-tail test x xs each)
+pub AllPass-get : (test : ℕ → Bool) (xs : List ℕ) (k : ℕ) → AllPass test xs → AllPass test (option_to_list (slice_get xs k))
+AllPass-get test [] k each = each
+AllPass-get test (x ∷ xs) zero each = All-cons (IsPassed test) x [] (All-head (IsPassed test) x xs each) (All-nil (IsPassed test))
+AllPass-get test (x ∷ xs) (suc k) each = AllPass-get test xs k (All-tail (IsPassed test) x xs each)
 
 -- filters
 
-pub filter-every : (test : ℕ → Bool) (xs : List ℕ) → Each test xs → filter test xs ≡ xs
+pub filter-every : (test : ℕ → Bool) (xs : List ℕ) → AllPass test xs → filter test xs ≡ xs
 filter-every test [] each = refl
-filter-every test (x ∷ xs) each = ap (λ b. if b then x ∷ filter test xs else filter test xs) (Each-head test x xs each) ∙ ap (λ zs. x ∷ zs) (filter-every test xs (Each-tail test x xs each))
+filter-every test (x ∷ xs) each =
+    ap (λ b. if b then x ∷ filter test xs else filter test xs) (All-head (IsPassed test) x xs each)
+    ∙ ap (λ zs. x ∷ zs) (filter-every test xs (All-tail (IsPassed test) x xs each))
 
-pub filter-none : (test : ℕ → Bool) (xs : List ℕ) → Each (λ x. not (test x)) xs → filter test xs ≡ []
+pub filter-none : (test : ℕ → Bool) (xs : List ℕ) → AllPass (λ x. not (test x)) xs → filter test xs ≡ []
 filter-none test [] each = refl
-filter-none test (x ∷ xs) each = ap (λ b. if b then x ∷ filter test xs else filter test xs) (not-true (test x) (Each-head (λ y. not (test y)) x xs each)) ∙ filter-none test xs (Each-tail (λ y. not (test y)) x xs each)
+filter-none test (x ∷ xs) each =
+    ap (λ b. if b then x ∷ filter test xs else filter test xs) (not-true (test x) (All-head (IsPassed (λ y. not (test y))) x xs each))
+    ∙ filter-none test xs (All-tail (IsPassed (λ y. not (test y))) x xs each)
 
 -- two tests that agree at each place that the list names
 pub filter-same : (test other : ℕ → Bool) (xs : List ℕ) → ((x : ℕ) → is_named x xs ≡ true → test x ≡ other x) → filter test xs ≡ filter other xs
@@ -119,8 +105,8 @@ times-all_places test p es = let same : p ≡ 0 + p = omega arith in ap (λ k. t
 pub named-places : (test : Entry → Bool) (p : ℕ) (es : List Entry) → is_named p (places_of test 0 es) ≡ is_at test es p
 named-places test p es = grind (arith, times-all_places test p es, named-some p (places_of test 0 es), named-none p (places_of test 0 es))
 
-pub Each-places : (test : Entry → Bool) (es : List Entry) → Each (is_at test es) (places_of test 0 es)
-Each-places test es x is = sym (named-places test x es) ∙ is
+pub AllPass-places : (test : Entry → Bool) (es : List Entry) → AllPass (is_at test es) (places_of test 0 es)
+AllPass-places test es = passes_by_name (is_at test es) (places_of test 0 es) (λ x is. sym (named-places test x es) ∙ is)
 
 -- ---- the places of a hart's stores, and what the entries of a list perform, over one more entry
 

@@ -2,7 +2,7 @@
 use Rattle.std.proofs.Common.{◌≡◌, ℕ, suc, ◌+◌, ◌≤◌, ◌<◌, ◌==◌, Bool, true, false, not, ◌&&◌, ◌||◌, if◌then◌else◌, nat_lt, ◌⊎◌, inl, inr, List, [], ◌∷◌, ◌++◌, length, take, drop, Option, Some, None, refl, sym, ◌∙◌, ap, subst, arith, append_assoc, length-append}
 use Rattle.std.specs.List.{slice_get, list_any}
 use Rattle.std.specs.Option.{option_map_or}
-use Rattle.std.proofs.lemmas.Bool.{eqb-true, eq-eqb, and_parts, or_cases, ltb-true, not-true, not-false}
+use Rattle.std.proofs.lemmas.Bool.{eqb-true, eq-eqb, and_parts, or_cases, ltb-true, not-true, not-false, false_from_ne_true}
 use Rattle.std.proofs.lemmas.List.{take-append-drop, length-take-le}
 use Rattle.std.proofs.lemmas.Option.{slice_get_within}
 use Rattle.step_machine.specs.History.{Start}
@@ -14,7 +14,7 @@ use Rattle.ztso_axioms.specs.Operations.{is_load, is_store, is_amo, is_full_fenc
 use Rattle.ztso_axioms.specs.Axioms.{times_named, is_named, is_before, in_program_order, is_barrier, is_fenced, may_pass, NamesEachOnce, KeepsProgramOrder}
 use Rattle.ztso_axioms.specs.Performed.{places_of, is_store_of, store_places, performed_after, left_below, hart_bound}
 use Rattle.ztso_axioms.proofs.Listing.{times-none}
-use Rattle.ztso_axioms.proofs.Members.{times-filter, times-all_places, named-places, before-split, is_before-filter}
+use Rattle.ztso_axioms.proofs.Members.{named_passes, times-filter, times-all_places, named-places, before-split, is_before-filter}
 use Rattle.ztso_axioms.proofs.Performs.{is_reader, stores_at, reads_at, order-stores, order-reads, order-operations}
 use Rattle.ztso_axioms.proofs.Fronts.{some_at, split_entry, at_front, at_past, order-front, read_in_front, front_stores, front_allows, store_performed, store_not_yet, barrier_waits}
 
@@ -40,11 +40,9 @@ load_or_amo es q reads = at (slice_get es q) reads
     at (Some d) e = or_cases (is_load d) (is_amo d) e
 
 store_plain : (es : List Entry) (h p : ℕ) → stores_at es h p ≡ true → is_at is_store es p ≡ true
-store_plain es h p own = at (slice_get es p) own
-  where
-    at : (so : Option Entry) → passes (is_store_of h) so ≡ true → passes is_store so ≡ true
-    at None e = e
-    at (Some d) e = (and_parts (is_store d) (hart_of d == h) e).0
+store_plain es h p own =
+    let found : (e : Entry) × (slice_get es p ≡ Some e) × (is_store_of h e ≡ true) = some_at (is_store_of h) es p own in
+    ap (passes is_store) found.1 ∙ (and_parts (is_store found.0) (hart_of found.0 == h) found.2).0
 
 -- each operation is named once, and nothing else is
 pub order-once : (es : List Entry) → NamesEachOnce es (performed_order es)
@@ -56,13 +54,11 @@ order-once es p = at (is_at is_operation es p) refl
     once (inr own) =
         sym (times-filter (stores_at es (hart_at es p)) p (performed_order es) own) ∙ ap (times_named p) (order-stores es (hart_at es p)) ∙ times-all_places (is_store_of (hart_at es p)) p es ∙ ap (λ b. if b then 1 else 0) own
 
-    never : is_at is_operation es p ≡ false → (b : Bool) → is_named p (performed_order es) ≡ b → times_named p (performed_order es) ≡ 0
-    never none true named = let op : is_at is_operation es p ≡ true = order-operations es p named in cc
-    never none false named = times-none p (performed_order es) named
-
     at : (b : Bool) → is_at is_operation es p ≡ b → times_named p (performed_order es) ≡ (if b then 1 else 0)
     at true op = once (kind_at es p op)
-    at false none = never none (is_named p (performed_order es)) refl
+    at false none = times-none p (performed_order es) (false_from_ne_true _ (λ named.
+        let op : is_at is_operation es p ≡ true = named_passes (is_at is_operation es) (performed_order es) p (order-operations es) named in
+        (cc)))
 
 -- what the front has performed stands before what it has not
 by_front : (es us ws : List Entry) (p q : ℕ) → es ≡ us ++ ws → is_named p (performed_after es [] us) ≡ true → is_named q (performed_after es [] us) ≡ false → is_before (performed_order es) p q ≡ true

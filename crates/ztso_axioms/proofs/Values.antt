@@ -1,11 +1,11 @@
 -- In the order of performing, a read has the value of the Load Value Axiom.
 use Rattle.std.proofs.Common.{◌≡◌, ℕ, zero, suc, ◌+◌, ◌-◌, ◌≤◌, ◌<◌, ◌==◌, Bool, true, false, not, ◌&&◌, ◌||◌, if◌then◌else◌, nat_lt, ◌⊎◌, inl, inr, List, [], ◌∷◌, ◌++◌, length, take, drop, Option, Some, None, unwrap_or, refl, sym, ◌∙◌, ap, subst, arith, append-nil, append_assoc, length-drop, ◌^◌}
 use Rattle.std.specs.Prelude.{filter, option_to_list, option_and_then, slice_index, ◌%◌, ◌/◌}
-use Rattle.std.specs.List.{slice_get}
+use Rattle.std.specs.List.{AllPass, slice_get}
 use Rattle.std.specs.Option.{option_map_or}
 use Rattle.std.proofs.lemmas.Bool.{ltb-true, ltb-false, cond_both, and_right, or_right, not_from_false, false_from_ne_true, true_from_ne_false}
 use Rattle.std.proofs.lemmas.List.{take-append-drop, length-take-le, drop-append-le, append_cancel_left}
-use Rattle.std.proofs.lemmas.List.Elements.{filter-append}
+use Rattle.std.proofs.lemmas.List.Elements.{All-drop, filter-append}
 use Rattle.std.proofs.lemmas.Option.{slice_get_within}
 use Rattle.std.specs.Int.{byte_at}
 use Rattle.memory.specs.Writes.{write, covers, newest_of}
@@ -22,7 +22,7 @@ use Rattle.ztso_axioms.specs.Axioms.{times_named, before, is_named, in_program_o
 use Rattle.ztso_axioms.specs.Performed.{places_of, is_store_of, store_places, performed_by, performed_after, left_below, hart_bound, order}
 use Rattle.ztso_axioms.proofs.Listing.{times-append, times-none, times-some, named-append, before-at}
 use Rattle.ztso_axioms.proofs.Checked.{once_of, last_written-append}
-use Rattle.ztso_axioms.proofs.Members.{Each, Each-drop, Each-places, filter-every, filter-none, filter-same, filter-both, times-low}
+use Rattle.ztso_axioms.proofs.Members.{IsPassed, passes_by_name, named_passes, AllPass-places, filter-every, filter-none, filter-same, filter-both, times-low}
 use Rattle.ztso_axioms.proofs.Performs.{is_reader, stores_at, reads_at, entry_here, stores_performed, order-stores, order-operations}
 use Rattle.ztso_axioms.proofs.Fronts.{split_entry, at_past, order-front, AreWritten, AreWritten-length, AreWritten-drop, front_written, front_balanced, front_stores, front_allows}
 use Rattle.ztso_axioms.proofs.Ordered.{performed_order, kind_at, order-once, order-program, read_performed, read_not_yet}
@@ -33,8 +33,7 @@ use Rattle.memory.proofs.Joined.{byte_of_joined-any, joined-below, number_of_byt
 -- the last written value, and the newest of the pairs
 
 chosen : (b : Bool) (v w : ℕ) (found : Option ℕ) → unwrap_or (if b then Some v else None) (unwrap_or found w) ≡ unwrap_or (if b then Some v else found) w
-chosen true v w found = refl
-chosen false v w found = refl
+chosen b v w found = grind arith
 
 written_values : (all : List Entry) (a w : ℕ) (found : Option ℕ) (gs : List ℕ) (ps : List Write) → AreWritten all gs ps → last_written all a (unwrap_or found w) gs ≡ unwrap_or (newest_of a found ps) w
 written_values all a w found [] [] written = refl
@@ -93,20 +92,20 @@ front_memory B o es us ws a legal split =
 sees_own : (es : List Entry) (q x : ℕ) (us ws : List Entry) → es ≡ us ++ ws → length us ≡ q → is_named x (performed_after es [] us) ≡ false → is_at is_operation es x ≡ true → in_program_order es x q ≡ (stores_at es (hart_at es q) x && nat_lt x q)
 sees_own es q x us ws split len out op = at (kind_at es x op)
   where
-    reader : reads_at es x ≡ true → (b : Bool) → nat_lt x q ≡ b → in_program_order es x q ≡ (stores_at es (hart_at es q) x && nat_lt x q)
-    reader reads true is =
+    reader : reads_at es x ≡ true → in_program_order es x q ≡ (stores_at es (hart_at es q) x && nat_lt x q)
+    reader reads =
+        let later : nat_lt x q ≡ false = false_from_ne_true _ (λ is.
         let lt : x < q = ltb-true x q is in
         let in_front : is_named x (performed_after es [] us) ≡ true = read_performed es us ws x split reads (omega arith) in
-        cc
-    reader reads false is =
-        ap (λ b. (hart_at es x == hart_at es q) && b) is ∙ and_right (hart_at es x == hart_at es q) false refl ∙ sym (and_right (stores_at es (hart_at es q) x) false refl) ∙ ap (λ b. stores_at es (hart_at es q) x && b) (sym is)
+        (cc)) in
+        and_right (hart_at es x == hart_at es q) _ later ∙ sym (and_right (stores_at es (hart_at es q) x) _ later)
 
     writer : (so : Option Entry) → passes (is_store_of (option_map_or hart_of so 0)) so ≡ true → (option_map_or hart_of so 0 == hart_at es q) ≡ passes (is_store_of (hart_at es q)) so
     writer (Some (entry.Store h a width v)) own = refl
     writer other own = cc
 
     at : (reads_at es x ≡ true) ⊎ (stores_at es (hart_at es x) x ≡ true) → in_program_order es x q ≡ (stores_at es (hart_at es q) x && nat_lt x q)
-    at (inl reads) = reader reads (nat_lt x q) refl
+    at (inl reads) = reader reads
     at (inr own) = ap (λ b. b && nat_lt x q) (writer (slice_get es x) own)
 
 -- the stores of a hart that the front has not performed
@@ -125,23 +124,25 @@ pending_places B o es us ws h q legal split len =
     ap (λ zs. filter (λ x. nat_lt x q) (drop (lands h us) zs)) (front_stores es us ws h split)
     ∙ ap (filter (λ x. nat_lt x q)) (drop-append-le (lands h us) (store_places h us) (places_of (is_store_of h) (length us) ws) (front_balanced B o es us ws h legal split))
     ∙ filter-append (λ x. nat_lt x q) (drop (lands h us) (store_places h us)) (places_of (is_store_of h) (length us) ws)
-    ∙ ap (λ zs. zs ++ filter (λ x. nat_lt x q) (places_of (is_store_of h) (length us) ws)) (filter-every (λ x. nat_lt x q) (drop (lands h us) (store_places h us)) (Each-drop (λ x. nat_lt x q) (lands h us) (store_places h us) early))
+    ∙ ap (λ zs. zs ++ filter (λ x. nat_lt x q) (places_of (is_store_of h) (length us) ws))
+    (filter-every (λ x. nat_lt x q) (drop (lands h us) (store_places h us)) (All-drop (IsPassed (λ y. nat_lt y q)) (lands h us) (store_places h us) early))
     ∙ ap (λ zs. drop (lands h us) (store_places h us) ++ zs) (filter-none (λ x. nat_lt x q) (places_of (is_store_of h) (length us) ws) late)
     ∙ append-nil (drop (lands h us) (store_places h us))
   where
-    early : Each (λ x. nat_lt x q) (store_places h us)
-    early x named = true_from_ne_false _ (λ lt.
+    early : AllPass (λ x. nat_lt x q) (store_places h us)
+    early = passes_by_name (λ x. nat_lt x q) (store_places h us) (λ x named. true_from_ne_false _ (λ lt.
         let le : q ≤ x = ltb-false x q lt in
-        let here : is_at (is_store_of h) us x ≡ true = Each-places (is_store_of h) us x named in
+        let here : is_at (is_store_of h) us x ≡ true
+        = named_passes (is_at (is_store_of h) us) (store_places h us) x (AllPass-places (is_store_of h) us) named in
         let past : is_at (is_store_of h) us x ≡ false = at_past (is_store_of h) us x (omega arith) in
-        (cc))
+        (cc)))
 
-    late : Each (λ x. not (nat_lt x q)) (places_of (is_store_of h) (length us) ws)
-    late x named = not_from_false _ (false_from_ne_true _ (λ lt.
+    late : AllPass (λ x. not (nat_lt x q)) (places_of (is_store_of h) (length us) ws)
+    late = passes_by_name (λ x. not (nat_lt x q)) (places_of (is_store_of h) (length us) ws) (λ x named. not_from_false _ (false_from_ne_true _ (λ lt.
         let below : x < q = ltb-true x q lt in
         let none : times_named x (places_of (is_store_of h) (length us) ws) ≡ 0 = times-low (is_store_of h) x (length us) ws (omega arith) in
         let some : 1 ≤ times_named x (places_of (is_store_of h) (length us) ws) = times-some x (places_of (is_store_of h) (length us) ws) named in
-        omega arith))
+        omega arith)))
 
 -- a read performs itself
 reader_performs : (es us : List Entry) (e : Entry) → is_reader e ≡ true → performed_by es us e ≡ length us ∷ []
@@ -173,8 +174,8 @@ seen_by_read B o es us e ws q legal split len reader reads =
     seen_is : (x : ℕ) → is_seen es (performed_order es) q x ≡ (is_named x (performed_after es [] us) || in_program_order es x q)
     seen_is x = ap (λ gs. is_named x gs || in_program_order es x q) (before_read es us e ws q split len reader reads)
 
-    front : Each (is_seen es (performed_order es) q) (performed_after es [] us)
-    front x named = seen_is x ∙ ap (λ b. b || in_program_order es x q) named
+    front : AllPass (is_seen es (performed_order es) q) (performed_after es [] us)
+    front = passes_by_name (is_seen es (performed_order es) q) (performed_after es [] us) (λ x named. seen_is x ∙ ap (λ b. b || in_program_order es x q) named)
 
     not_in_front : (x : ℕ) → is_named x (performed_after es us (e ∷ ws) ++ left_below (hart_bound es) es) ≡ true → is_named x (performed_after es [] us) ≡ false
     not_in_front x named = false_from_ne_true _ (λ is.
@@ -187,7 +188,10 @@ seen_by_read B o es us e ws q legal split len reader reads =
 
     operation : (x : ℕ) → is_named x (performed_after es us (e ∷ ws) ++ left_below (hart_bound es) es) ≡ true → is_at is_operation es x ≡ true
     operation x named =
-        order-operations es x (ap (is_named x) (order-front es us (e ∷ ws) split) ∙ named-append x (performed_after es [] us) (performed_after es us (e ∷ ws) ++ left_below (hart_bound es) es) ∙ or_right (is_named x (performed_after es [] us)) (is_named x (performed_after es us (e ∷ ws) ++ left_below (hart_bound es) es)) named)
+        named_passes (is_at is_operation es) (performed_order es) x (order-operations es)
+        (ap (is_named x) (order-front es us (e ∷ ws) split)
+        ∙ named-append x (performed_after es [] us) (performed_after es us (e ∷ ws) ++ left_below (hart_bound es) es)
+        ∙ or_right (is_named x (performed_after es [] us)) _ named)
 
     back : (x : ℕ) → is_named x (performed_after es us (e ∷ ws) ++ left_below (hart_bound es) es) ≡ true → is_seen es (performed_order es) q x ≡ (stores_at es (hart_at es q) x && nat_lt x q)
     back x named =

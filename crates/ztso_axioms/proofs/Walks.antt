@@ -2,7 +2,7 @@
 use Rattle.std.proofs.Common.{◌≡◌, ℕ, zero, suc, ◌+◌, ◌-◌, ◌≤◌, ◌<◌, ◌==◌, Bool, true, false, ◌&&◌, if◌then◌else◌, nat_lt, nat_le, List, [], ◌∷◌, ◌++◌, length, take, drop, get_or, set, Option, Some, None, refl, sym, ◌∙◌, ap, subst, arith, append-nil, length-set, get_or-set_same, get_or-set_other}
 use Rattle.std.specs.Prelude.{All, max, option_to_list, MatchOption}
 use Rattle.std.specs.List.{slice_get}
-use Rattle.std.proofs.lemmas.Bool.{eqb-true, eqb-false, eq-eqb, ne_eqb, and_right, ltb-true, ltb-false, leb-true, leb-false}
+use Rattle.std.proofs.lemmas.Bool.{eqb-true, eqb-false, eq-eqb, ne_eqb, and_right, ltb-true, ltb-false, leb-true, leb-false, true_from_ne_false}
 use Rattle.std.proofs.Math.Seq.{drop-nil}
 use Rattle.std.proofs.lemmas.List.{take_more, length-take-le, get_or_read}
 use Rattle.std.proofs.lemmas.List.Elements.{All-push}
@@ -82,13 +82,12 @@ bound_reached es n le all = let ge : hart_bound es ≤ n = hart_bound-le es n (�
 pub names_more : (es : List Entry) (n h : ℕ) (old new : List (Option ℕ)) → IsNextHart es n h → NamesLandings es n old → AddsLandings es h old new → NamesLandings es (h + 1) new
 names_more es n h old new next named adds i g lt is = at (g == h) refl
   where
-    before_n : (b : Bool) → nat_lt g n ≡ b → (g ≡ h → ⊥) → g < n
-    before_n true is_lt ne = ltb-true g n is_lt
-    before_n false is_ge ne =
+    before_n : (g ≡ h → ⊥) → g < n
+    before_n ne = ltb-true g n (true_from_ne_false _ (λ is_ge.
         let le : n ≤ g = ltb-false g n is_ge in
         let least : n ≤ g → h ≤ g = at_entry (λ (d : Entry). n ≤ hart_of d → h ≤ hart_of d) es i (entry.Land g) next.least is in
         let above : h ≤ g = least le in
-        absurd (ne (omega arith))
+        ne (omega arith)))
 
     at : (b : Bool) → (g == h) ≡ b → get_or new i None ≡ landed_at es g i
     at true same =
@@ -96,7 +95,7 @@ names_more es n h old new next named adds i g lt is = at (g == h) refl
         subst (λ (k : ℕ). get_or new i None ≡ landed_at es k i) (sym g_is) (adds.added i (subst (λ (k : ℕ). slice_get es i ≡ Some (entry.Land k)) g_is is))
     at false other =
         let ne : g ≡ h → ⊥ = eqb-false g h other in
-        let below : g < n = before_n (nat_lt g n) refl ne in
+        let below : g < n = before_n ne in
         adds.others i (λ so. ne (cc)) ∙ named i g below is
 
 -- one more entry walked over
@@ -219,14 +218,10 @@ naming_missed es h i count old landed d n lt not_is =
     }
   where
     lt_of : (k : ℕ) → k < i + 1 → slice_get es k ≡ Some (entry.Land h) → k < i
-    lt_of k below is_k = at (nat_lt k i) refl
-      where
-        at : (b : Bool) → nat_lt k i ≡ b → k < i
-        at true is = ltb-true k i is
-        at false is =
-            let ge : i ≤ k = ltb-false k i is in
-            let same : k ≡ i = omega arith in
-            absurd (not_is (get_or_from_slice_get es i (entry.Land h) d (ap (slice_get es) (sym same) ∙ is_k)))
+    lt_of k below is_k = ltb-true k i (true_from_ne_false _ (λ is.
+        let ge : i ≤ k = ltb-false k i is in
+        let same : k ≡ i = omega arith in
+        not_is (get_or_from_slice_get es i (entry.Land h) d (ap (slice_get es) (sym same) ∙ is_k))))
 
 -- what the entries before place i performed, by one more
 pub performed_step : (es : List Entry) (i : ℕ) (d : Entry) (landed : List (Option ℕ)) (stands out : Option ℕ) (ops : List ℕ) → NamesLandings es (hart_bound es) landed → length landed ≡ length es → i < length es → stands ≡ get_or landed i stands → out ≡ performed_there (get_or es i d) i stands → ops ≡ performed_after es [] (take i es) → ops ++ option_to_list out ≡ performed_after es [] (take (i + 1) es)
