@@ -1,14 +1,14 @@
 -- No text of a picture's row stands on another text or on a stroke.
-use Rattle.std.proofs.Common.{◌≡◌, ℕ, zero, suc, ◌+◌, ◌-◌, ◌*◌, ◌<◌, ◌≤◌, ◌^◌, ◌==◌, min, max, Bool, true, false, cond, if◌then◌else◌}
-use Rattle.std.proofs.Common.{◌⊎◌, inl, inr, List, [], ◌∷◌, ◌++◌, length, map, Option, Some, None, All, refl, sym, ◌∙◌, ap, subst, arith}
-use Rattle.std.specs.Prelude.{nat_lt, nat_le, ◌&&◌, option_map, option_to_list, IfSome}
-use Rattle.std.specs.List.{slice_get, slice_index_or, flat_map, list_any, count_by}
+use Rattle.std.proofs.Common.{◌≡◌, ℕ, suc, ◌+◌, ◌-◌, ◌*◌, ◌<◌, ◌≤◌, ◌^◌, min, Bool, true, false, cond, if◌then◌else◌}
+use Rattle.std.proofs.Common.{◌⊎◌, inl, inr, List, [], ◌∷◌, ◌++◌, length, map, Option, Some, None, All, refl, ap, subst, arith}
+use Rattle.std.specs.Prelude.{nat_lt, nat_le, ◌&&◌, option_map, IfSome}
+use Rattle.std.specs.List.{slice_index_or, flat_map, list_any}
 use Rattle.std.specs.Fmt.{decimal}
 use Rattle.std.proofs.Math.Nat.{mul-le-mul, suc-mul}
-use Rattle.std.proofs.lemmas.Bool.{cases_Bool, cases_eq, cases_lt, ne_eqb, and_parts, leb-true, ltb-true}
+use Rattle.std.proofs.lemmas.Bool.{cases_Bool, cases_lt, and_parts, leb-true, ltb-true}
 use Rattle.std.proofs.lemmas.Fmt.{length-decimal-le}
 use Rattle.std.proofs.lemmas.List.Concat.{flat_map-cons}
-use Rattle.std.proofs.lemmas.List.Elements.{All-nil, All-cons, All-head, All-tail, All-append, All-map}
+use Rattle.std.proofs.lemmas.List.Elements.{All-nil, All-cons, All-head, All-tail, All-append}
 use Rattle.step_machine.specs.declared.events.Entry.{Entry}
 use Rattle.step_machine.specs.declared.events.Entry.TheVariants as entry
 use Rattle.chart.specs.declared.lanes.Held.{Held}
@@ -18,9 +18,10 @@ use Rattle.chart.specs.declared.pictures.Stroke.{Stroke}
 use Rattle.chart.specs.declared.sources.Source.{Source}
 use Rattle.chart.specs.Rows.{RowOf}
 use Rattle.chart.specs.Lanes.{LanedOf}
-use Rattle.chart.specs.Pictures.{MarkOf, LineOf, strikes, stands_in, taken_by, IsClear}
+use Rattle.chart.specs.Pictures.{MarkOf, strikes, stands_in, IsClear}
 use Rattle.chart.specs.Places.{PlacesOf, rank, columns, pitch, begins, lane_cell, memory_cell}
-use Rattle.chart.specs.Lines.{sign_at, across, store_strokes, land_strokes, amo_strokes, own_strokes, is_read, read_strokes, passing_stroke, row_strokes, text_at, number_mark, row_line}
+use Rattle.chart.specs.Lines.{sign_at, across, store_strokes, land_strokes, amo_strokes, own_strokes, is_read}
+use Rattle.chart.specs.Lines.{read_strokes, passing_stroke, row_strokes, text_at, number_mark, row_line}
 
 -- ---- cells of strokes
 
@@ -114,14 +115,15 @@ read_avoids : (p : PlacesOf) (from behind column : ℕ) (sources : List Source) 
 read_avoids p from behind column sources h low right high placed =
     let P = Avoids from behind (memory_cell p) in
     elim (is_read sources h) as
-    (λ b. All P (if b then sign_at Reader (behind + 1) column ∷ across Reads (behind + 2) (lane_cell p h) column ∷ [] else []))
-    [ true ↦
-        All-cons P (sign_at Reader (behind + 1) column) (across Reads (behind + 2) (lane_cell p h) column ∷ [])
-        (sign_avoids from behind (memory_cell p) Reader (behind + 1) column (omega (low, right, arith), omega (high, arith), inr (omega arith)))
-        (All-cons P (across Reads (behind + 2) (lane_cell p h) column) []
-        (across_avoids from behind (memory_cell p) Reads (behind + 2) (lane_cell p h) column
-        (omega (low, right, arith)) (omega arith) (omega (placed, arith))) (All-nil P))
-    | false ↦ All-nil P ]
+    (λ b. All P (if b then sign_at Reader (behind + 1) column ∷ across Reads (behind + 2) (lane_cell p h) column ∷ [] else [])) [
+      | true ↦
+          All-cons P (sign_at Reader (behind + 1) column) (across Reads (behind + 2) (lane_cell p h) column ∷ [])
+          (sign_avoids from behind (memory_cell p) Reader (behind + 1) column (omega (low, right, arith), omega (high, arith), inr (omega arith)))
+          (All-cons P (across Reads (behind + 2) (lane_cell p h) column) []
+          (across_avoids from behind (memory_cell p) Reads (behind + 2) (lane_cell p h) column
+          (omega (low, right, arith)) (omega arith) (omega (placed, arith))) (All-nil P))
+      | false ↦ All-nil P
+    ]
 
 reads_avoid : (p : PlacesOf) (from behind column : ℕ) (sources : List Source) (hs : List Held) → 7 ≤ from → from ≤ behind →
     behind + 6 ≤ memory_cell p → All (λ h. Outside from behind (memory_cell p) (lane_cell p h)) hs →
@@ -233,8 +235,8 @@ strokes_avoid p column cells r l shown short placed =
     let high : behind + 6 ≤ memory = omega (room, short, arith) in
     let P = Avoids from behind memory in
     let beside : All (λ h. Outside from behind memory (lane_cell p h)) l.passing =
-        (λ k d below. let there = lane_outside p column (slice_index_or l.passing k d) shown (placed.1 k d below) in
-        (there.0, there.1, elim there.2 [ inl before ↦ inl before | inr after ↦ inr (omega (after, short, arith)) ])) in
+    (λ k d below. let there = lane_outside p column (slice_index_or l.passing k d) shown (placed.1 k d below) in
+    (there.0, there.1, elim there.2 [ inl before ↦ inl before | inr after ↦ inr (omega (after, short, arith)) ])) in
     let own = own_strokes column behind memory (option_map (lane_cell p) l.own) r.entry in
     let reads = flat_map (read_strokes p r.sources column behind) l.passing in
     All-append P (own ++ reads) (map (passing_stroke p r.sources) l.passing)

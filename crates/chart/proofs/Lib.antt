@@ -6,6 +6,7 @@ pub mod LaneLaws
 pub mod Apart
 pub mod Clear
 pub mod Placed
+pub mod HeadLaws
 pub mod PictureLaws
 pub mod CellLaws
 pub mod PlaceLaws

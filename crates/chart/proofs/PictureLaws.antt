@@ -1,7 +1,7 @@
--- No text of a picture's rows stands on another text or on a stroke.
-use Rattle.std.proofs.Common.{◌≡◌, ℕ, zero, suc, ◌+◌, ◌*◌, ◌<◌, ◌≤◌, ◌^◌, min, max, Bool, true, false, if◌then◌else◌}
+-- No text of a picture's rows stands on another text or on a stroke, and no head of a column on another one.
+use Rattle.std.proofs.Common.{◌≡◌, ℕ, zero, suc, ◌+◌, ◌<◌, ◌≤◌, ◌^◌, min, true, false, if◌then◌else◌}
 use Rattle.std.proofs.Common.{inl, inr, List, [], ◌∷◌, ◌++◌, length, map, Option, Some, None, All, refl, sym, ◌∙◌, ap, subst, arith}
-use Rattle.std.specs.Prelude.{nat_le, option_to_list}
+use Rattle.std.specs.Prelude.{nat_le}
 use Rattle.std.specs.List.{slice_get, list_any}
 use Rattle.std.proofs.lemmas.Bool.{cases_eq}
 use Rattle.std.proofs.lemmas.List.{length-append, length-map, get_or_append_left}
@@ -15,11 +15,12 @@ use Rattle.chart.specs.Rows.{RowOf, rows_of}
 use Rattle.chart.specs.Lanes.{LanedOf, column_of, held_at_end}
 use Rattle.chart.specs.Pictures.{MarkOf, LineOf, strikes, IsClear, HasShortTexts}
 use Rattle.chart.specs.Places.{PlacesOf, begins, memory_cell}
-use Rattle.chart.specs.Scenes.{SceneOf, scene_of, shown_harts, said_at, kept_at, widest_said, said_cells, shape_of, lanes_in, places_of, used_after}
-use Rattle.chart.specs.Lines.{text_at, number_mark, row_line, empty_line, laned_line, line_in, line_at, lines_of, open_stroke, open_lines}
+use Rattle.chart.specs.Scenes.{SceneOf, scene_of, said_at, kept_at, widest_said, said_cells, shape_of, lanes_in, places_of, used_after}
+use Rattle.chart.specs.Lines.{text_at, number_mark, laned_line, line_in, line_at, lines_of, open_stroke, open_lines}
 use Rattle.chart.specs.Layout.{AboutOf, layout, limit, width_of, form_or, form_of, body_of, wide, brief, listed, brief_listed, narrowest}
 use Rattle.chart.proofs.Clear.{row_clear}
-use Rattle.chart.proofs.Placed.{RowFits, HasColumn, row_fits, columns_there}
+use Rattle.chart.proofs.Placed.{RowFits, row_fits, columns_there}
+use Rattle.chart.proofs.HeadLaws.{heads_clear}
 use Rattle.chart.proofs.RowLaws.{entries_of_rows}
 
 -- ---- a line
@@ -40,7 +41,7 @@ laned_clear form scene p i r (Some l) few room fits short =
     let column = column_of (shape_of form) (hart_of r.entry) in
     let texts = text_at (begins p column) true said ∷ text_at (memory_cell p) true kept ∷ [] in
     let whole : length said ≤ 255 =
-        All-head IsShort (text_at (begins p column) true said) (text_at (memory_cell p) true kept ∷ []) (All-tail IsShort (number_mark i) texts short) in
+    All-head IsShort (text_at (begins p column) true said) (text_at (memory_cell p) true kept ∷ []) (All-tail IsShort (number_mark i) texts short) in
     row_clear p i column said kept r l few fits.0 whole (omega (room, whole, arith)) fits.1
 
 line_clear : (form : Form) (scene : SceneOf) (p : PlacesOf) (lanes : List LanedOf) (i : ℕ) (ro : Option RowOf) → i + 1 < 10 ^ 7 →
@@ -66,7 +67,7 @@ lines_clear : (form : Form) (scene : SceneOf) (p : PlacesOf) (lanes : List Laned
 lines_clear form scene p lanes zero within few room fits short = All-nil IsClear
 lines_clear form scene p lanes (suc n) within few room fits short =
     let parts = All-pop HasShortTexts (lines_of form scene p lanes n ++ line_at form scene p lanes n ∷ []) (lines_of form scene p lanes n)
-        (Some (line_at form scene p lanes n)) refl short in
+    (Some (line_at form scene p lanes n)) refl short in
     let said : min (length (said_at form scene n)) 255 ≤ said_cells form scene = said_most form scene n (length scene.rows) (omega (within, arith)) in
     All-append IsClear (lines_of form scene p lanes n) (line_at form scene p lanes n ∷ [])
     (lines_clear form scene p lanes n (omega (within, arith)) few room fits parts.0)
@@ -118,3 +119,9 @@ pub picture_clear : (about : AboutOf) (es : List Entry) → about.harts ≤ 255 
 picture_clear about es few below rows short =
     let scene = scene_of about.names about.instructions es about.harts in
     form_clear (form_of scene (limit about.harts)) about.names about.instructions es about.harts (form_lanes scene (limit about.harts)) few below rows short
+
+pub heads_of_picture : (about : AboutOf) (es : List Entry) → about.harts ≤ 255 → IsClear (layout about es).heads
+heads_of_picture about es few =
+    let scene = scene_of about.names about.instructions es about.harts in
+    let form = form_of scene (limit about.harts) in
+    heads_clear es about.harts form.listed (said_cells form scene) (used_after 0 (lanes_in form scene)) few

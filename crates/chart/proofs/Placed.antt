@@ -2,10 +2,10 @@
 use Rattle.std.proofs.Common.{◌≡◌, ℕ, zero, suc, ◌+◌, ◌<◌, ◌≤◌, ◌==◌, min, max, get_or, Bool, true, false, not, cond, if◌then◌else◌}
 use Rattle.std.proofs.Common.{inl, inr, List, [], ◌∷◌, ◌++◌, length, Option, Some, None, All, refl, sym, ◌∙◌, ap, subst, arith}
 use Rattle.std.specs.Prelude.{nat_lt, option_to_list, IfSome}
-use Rattle.std.specs.List.{slice_get, slice_index_or, count_by, sum_by}
+use Rattle.std.specs.List.{slice_get, slice_index_or, count_by}
 use Rattle.std.proofs.lemmas.Bool.{cases_Bool, cases_eq, eq-eqb, eqb-true, ne_eqb, le-ltb}
 use Rattle.std.proofs.lemmas.List.{length-append}
-use Rattle.std.proofs.lemmas.List.Elements.{All-nil, All-cons, All-head, All-tail, All-append, All-filter, All-weaker, All-from_get_or}
+use Rattle.std.proofs.lemmas.List.Elements.{All-nil, All-cons, All-head, All-tail, All-append, All-filter, All-weaker}
 use Rattle.std.proofs.lemmas.List.Folds.{list_any_at}
 use Rattle.std.proofs.lemmas.List.Sums.{sum_by-append, count_by-le-length}
 use Rattle.std.proofs.lemmas.Option.{IfSome_then}
@@ -19,7 +19,8 @@ use Rattle.chart.specs.declared.lanes.Shape.{Shape}
 use Rattle.chart.specs.declared.sources.RowWrite.{RowWrite}
 use Rattle.chart.specs.Sources.{pending_by_row, row_of, landed_store, stored_in, stored_at}
 use Rattle.chart.specs.Rows.{RowOf, row_after, rows_after}
-use Rattle.chart.specs.Lanes.{LanedOf, column_of, is_held, first_free, in_lane, held_by, own_line, passing_lines, laned_row, held_after_entry, held_after, lanes_from}
+use Rattle.chart.specs.Lanes.{LanedOf, column_of, is_held, first_free, in_lane, held_by, own_line, passing_lines}
+use Rattle.chart.specs.Lanes.{laned_row, held_after_entry, held_after, lanes_from}
 use Rattle.chart.specs.Places.{PlacesOf, rank, columns}
 use Rattle.chart.specs.Scenes.{is_shown, has_entry, shown_harts, lanes_to, lanes_at, used_after}
 use Rattle.chart.proofs.ByRow.{HasStored, entry_there, pending_stored}
@@ -137,15 +138,17 @@ row_placed : (p : PlacesOf) (shape : Shape) (before : List Entry) (row : ℕ) (h
     landed_store before e ≡ landed → All (Kept p shape before) held → rank p (column_of shape (hart_of e)) < columns p → shape.lanes ≤ 254 →
     lanes_to (own_line shape row held landed e) ≤ p.lanes →
     IfSome (own_line shape row held landed e) (λ h. Placed p h × (h.column ≡ column_of shape (hart_of e))) × All (Placed p) (passing_lines held landed e)
-row_placed p shape before row held landed (entry.Store h a width v) is all shown few used =
-    (IfSome_then (in_lane row (column_of shape h) (first_free held (column_of shape h) 0 shape.lanes))
-    {P = Taken p row (column_of shape h)} {Q = λ k. Placed p k × (k.column ≡ column_of shape h)}
-    (taken_placed p shape row (column_of shape h) held shown few used) (λ k taken. (taken.placed, taken.in_column)),
-    all_placed p shape before held all)
+row_placed p shape before row held landed (entry.Store h a width v) is all shown few used = (
+  IfSome_then (in_lane row (column_of shape h) (first_free held (column_of shape h) 0 shape.lanes))
+      {P = Taken p row (column_of shape h)} {Q = λ k. Placed p k × (k.column ≡ column_of shape h)}
+      (taken_placed p shape row (column_of shape h) held shown few used) (λ k taken. (taken.placed, taken.in_column)),
+  all_placed p shape before held all,
+)
 row_placed p shape before row held None (entry.Land h) is all shown few used = (tt, all_placed p shape before held all)
-row_placed p shape before row held (Some made) (entry.Land h) is all shown few used =
-    (landed_placed p shape before h made held is all,
-    All-filter (λ k. not (k.row == made)) (Placed p) held (all_placed p shape before held all))
+row_placed p shape before row held (Some made) (entry.Land h) is all shown few used = (
+  landed_placed p shape before h made held is all,
+  All-filter (λ k. not (k.row == made)) (Placed p) held (all_placed p shape before held all),
+)
 row_placed p shape before row held landed other is all shown few used = (tt, all_placed p shape before held all)
 
 next_kept : (p : PlacesOf) (shape : Shape) (before : List Entry) (row : ℕ) (held : List Held) (landed : Option ℕ) (e : Entry) →
@@ -184,10 +187,12 @@ rows_fit : (p : PlacesOf) (shape : Shape) (before es : List Entry) (held : List 
     RowFits p shape (slice_get (rows_after before es) i) (slice_get (lanes_from shape n held (rows_after before es)) i)
 rows_fit p shape before [] held n i here all shown few used = tt
 rows_fit p shape before (e ∷ es) held n zero here all shown few used =
-    let there = All-head (HasColumn p shape) e es shown in
-    (there, row_placed p shape before n held (landed_store before e) e refl all there few
-    (All-head (UsesLanes p) (laned_row shape n held (row_after before e))
-    (lanes_from shape (n + 1) (held_after shape n held (row_after before e)) (rows_after (before ++ e ∷ []) es)) used))
+    let there = All-head (HasColumn p shape) e es shown in (
+      there,
+      row_placed p shape before n held (landed_store before e) e refl all there few
+          (All-head (UsesLanes p) (laned_row shape n held (row_after before e))
+          (lanes_from shape (n + 1) (held_after shape n held (row_after before e)) (rows_after (before ++ e ∷ []) es)) used),
+    )
 rows_fit p shape before (e ∷ es) held n (suc i) here all shown few used =
     let row = row_after before e in
     let rest = lanes_from shape (n + 1) (held_after shape n held row) (rows_after (before ++ e ∷ []) es) in
@@ -199,7 +204,9 @@ rows_fit p shape before (e ∷ es) held n (suc i) here all shown few used =
 
 used_least : (used : ℕ) (ls : List LanedOf) → used ≤ used_after used ls
 used_least used [] = omega arith
-used_least used (l ∷ ls) = let rest : max used (lanes_at l) ≤ used_after (max used (lanes_at l)) ls = used_least (max used (lanes_at l)) ls in omega (rest, arith)
+used_least used (l ∷ ls) =
+    let rest : max used (lanes_at l) ≤ used_after (max used (lanes_at l)) ls = used_least (max used (lanes_at l)) ls in
+    omega (rest, arith)
 
 used_all : (used : ℕ) (ls : List LanedOf) → All (λ l. lanes_at l ≤ used_after used ls) ls
 used_all used [] = All-nil (λ l. lanes_at l ≤ used)
@@ -212,7 +219,8 @@ pub row_fits : (p : PlacesOf) (shape : Shape) (es : List Entry) (i : ℕ) → p.
     RowFits p shape (slice_get (rows_after [] es) i) (slice_get (lanes_from shape 0 [] (rows_after [] es)) i)
 row_fits p shape es i lanes shown few =
     rows_fit p shape [] es [] 0 i refl (All-nil (Kept p shape [])) shown few
-    (subst (λ (n : ℕ). All (λ l. lanes_at l ≤ n) (lanes_from shape 0 [] (rows_after [] es))) (sym lanes) (used_all 0 (lanes_from shape 0 [] (rows_after [] es))))
+    (subst (λ (n : ℕ). All (λ l. lanes_at l ≤ n) (lanes_from shape 0 [] (rows_after [] es))) (sym lanes)
+    (used_all 0 (lanes_from shape 0 [] (rows_after [] es))))
 
 -- ---- columns
 
@@ -241,7 +249,8 @@ ranked es h zero below is = absurd (omega (below, arith))
 ranked es h (suc n) below is =
     elim (cases_eq n h) [
       | inl last ↦ rw (last, is) (count_last (λ other. nat_lt other h) (shown_harts es h) h (le-ltb h h (omega arith)))
-      | inr before ↦ count_more (λ other. nat_lt other h) (shown_harts es n) (if is_shown es n then n ∷ [] else []) (ranked es h n (omega (below, before, arith)) is)
+      | inr before ↦ count_more (λ other. nat_lt other h) (shown_harts es n) (if is_shown es n then n ∷ [] else [])
+          (ranked es h n (omega (below, before, arith)) is)
     ]
 
 column_there : (listed : Bool) (shown : List ℕ) (text lanes most h : ℕ) → length shown ≤ 255 → count_by (λ other. nat_lt other h) shown < length shown →
@@ -253,7 +262,7 @@ column_there false shown text lanes most h few less = omega (few, less, arith)
 is_shown_hart : (es : List Entry) (k : ℕ) (d : Entry) → k < length es → is_shown es (hart_of (get_or es k d)) ≡ true
 is_shown_hart es k d below =
     let has : has_entry es (hart_of (get_or es k d)) ≡ true =
-        list_any_at (λ e. hart_of e == hart_of (get_or es k d)) es k d below (eq-eqb (hart_of (get_or es k d)) (hart_of (get_or es k d)) refl) in
+    list_any_at (λ e. hart_of e == hart_of (get_or es k d)) es k d below (eq-eqb (hart_of (get_or es k d)) (hart_of (get_or es k d)) refl) in
     elim (length es == 0) as (λ b. (if b then true else has_entry es (hart_of (get_or es k d))) ≡ true) [ true ↦ refl | false ↦ has ]
 
 pub columns_there : (es : List Entry) (harts : ℕ) (listed : Bool) (text lanes most : ℕ) → harts ≤ 255 → All (λ e. hart_of e < harts) es →

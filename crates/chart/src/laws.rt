@@ -1,4 +1,4 @@
-//! Laws of rows and sources, which hold of every list of entries.
+//! Laws of rows, sources, lanes and texts, which hold of every list of entries.
 
 ghost use Rattle.std.specs.Prelude.{◌≡◌, ◌<◌, ◌≤◌, ◌+◌, ◌^◌, ℕ, All, length, List, Some, map};
 ghost use Rattle.memory.specs.Writes.{joined};
@@ -32,8 +32,10 @@ pub fn laws_of_lanes()
     ensures { (shape : Shape) (rows : List RowOf) → All IsApart (lanes_of shape rows) }
 {}
 
-/// The law of texts: no text of a row stands on another text or on a line, where no text has more than 255
-/// bytes, there are at most 255 harts, and the rows' numbers have at most seven digits. It does nothing.
+/// The laws of texts: no text of a row stands on another text or on a line, where no text has more than 255
+/// bytes, there are at most 255 harts, and the rows' numbers have at most seven digits; and no head of a
+/// column stands on another one. It does nothing.
 pub fn laws_of_texts()
-    ensures { (about : AboutOf) (es : List Entry) → about.harts ≤ 255 → All (λ e. hart_of e < about.harts) es → length es < 10 ^ 7 → All HasShortTexts (layout about es).body → All IsClear (layout about es).body }
+    ensures rows { (about : AboutOf) (es : List Entry) → about.harts ≤ 255 → All (λ e. hart_of e < about.harts) es → length es < 10 ^ 7 → All HasShortTexts (layout about es).body → All IsClear (layout about es).body }
+    ensures heads { (about : AboutOf) (es : List Entry) → about.harts ≤ 255 → IsClear (layout about es).heads }
 {}

@@ -11,7 +11,8 @@
 //! [`charts::layout`] makes a picture of a run's entries, and [`charts::chart_text`] its text
 //! (`specs/Layout.antt`, over `specs/Places.antt`, `specs/Scenes.antt` and `specs/Lines.antt`). [`pictures`]
 //! is a picture as a value, and [`text::text`] writes it (`specs/Pictures.antt`). [`charts::chart_svg`] writes
-//! the same picture in SVG (`specs/Svg.antt`).
+//! the same picture in SVG (`specs/Svg.antt`). [`laws_of_texts`] states that no text of a row stands on another
+//! text or on a line.
 //! This crate runs no machine: it reads entries alone.
 
 #![tactic(auto)]
@@ -33,6 +34,6 @@ mod svg;
 pub mod tags;
 pub mod text;
 
-pub use laws::{laws_of_lanes, laws_of_sources};
+pub use laws::{laws_of_lanes, laws_of_sources, laws_of_texts};
 pub use rows::{Row, rows_of};
 pub use sources::{RowWrite, Source};
