@@ -15,11 +15,8 @@ module _ (k : Block) (n : Numbers) (order : Ordered k n) where
       ((slot k.size k.base n.receiver.tails, 0) ∷ [])
   stores_null level more on = record {
     order = omega (arith, level, more);
-    stores = (
-      omega arith,
-      store_null k n.receiver.tails (taken n.receiver)
-          (omega (arith, more, order.seen_slots, order.slots_landed, order.stored_all)) (omega (arith, level, on)),
-    );
+    stores = (let within : n.receiver.tails < length k.list = omega (arith, more, order.seen_slots, order.slots_landed, order.stored_all) in
+        (omega arith, store_null k n.receiver.tails (taken n.receiver) within (omega (arith, level, on))));
   }
 
   pub stores_tail : Filled n.receiver → n.receiver.done ≡ 0
@@ -28,11 +25,8 @@ module _ (k : Block) (n : Numbers) (order : Ordered k n) where
   stores_tail filled on = record {
     changes = record {
       order = omega (arith, filled, on);
-      stores = (
-        omega arith,
-        store_tail k n.receiver.tails (taken n.receiver)
-            (omega (arith, filled, order.nulls_slots, order.slots_landed, order.stored_all)) (omega (arith, filled, on)),
-      );
+      stores = (let within : n.receiver.tails < length k.list = omega (arith, filled, order.nulls_slots, order.slots_landed, order.stored_all) in
+          (omega arith, store_tail k n.receiver.tails (taken n.receiver) within (omega (arith, filled, on))));
     };
     level = filled;
   }

@@ -68,11 +68,9 @@ module _ (k : Block) (n : Numbers) (order : Ordered k n) where
   stores_tail more on = record {
     changes = record {
       order = omega (arith, more, on);
-      stores = (
-        omega arith,
-        store_tail k n.receiver.tails (taken n.receiver)
-            (omega (arith, more, order.seen_heads, order.heads_slots, order.slots_landed, order.stored_all)) (omega (arith, on)),
-      );
+      stores = (let within : n.receiver.tails < length k.list =
+          omega (arith, more, order.seen_heads, order.heads_slots, order.slots_landed, order.stored_all) in
+          (omega arith, store_tail k n.receiver.tails (taken n.receiver) within (omega (arith, on))));
     };
     level = tt;
   }

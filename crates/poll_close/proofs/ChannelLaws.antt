@@ -28,8 +28,8 @@ use Rattle.poll_close.specs.Going.{GoesOn, AllGoOn}
 use Rattle.poll_close.specs.Touching.{Touches, AllTouch}
 use Rattle.poll_close.specs.Invariant.Blocks.{block_of, as_writes}
 use Rattle.poll_close.specs.Invariant.ReceiverState.{receiver_of}
-use Rattle.poll_close.specs.Invariant.BlockMeaning.{BlockMeaning, Count, AllReported}
-use Rattle.poll_close.specs.Invariant.Channels.{BlockPart, ReportsOf, all_closings, Channel, means_by}
+use Rattle.poll_close.specs.Invariant.BlockMeaning.{BlockMeaning}
+use Rattle.poll_close.specs.Invariant.Channels.{BlockPart, all_closings, Channel, means_by}
 use Rattle.poll_close.proofs.Blocks.{IsBlock, Within}
 use Rattle.poll_close.proofs.Dense.{rows_before}
 use Rattle.poll_close.proofs.BlockLaws.{BlockLaws, Begins, opens_with}

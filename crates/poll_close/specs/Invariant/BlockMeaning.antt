@@ -25,8 +25,8 @@ length_of a x (Over n) = n + a.start
 length_of a x (Visit stale n other) = if stale a x then n + a.rest else other
 
 -- the receiver's own numbers of a block: the tails and done words that it stored; the words reported of the sender,
--- and whether it is reported closed; what of the sender's had landed when it last read that, and the mark that it
--- read; and what else the ring counts
+-- and whether it is reported closed; how much of the sender's had landed when it last read that, and the mark that
+-- it read; and what else the ring counts
 pub record Taken (Own : Type 0) : Type 0 where
   pub tails : ℕ
   pub done : ℕ
@@ -46,7 +46,7 @@ pub record Numbers (Sender Own Landed : Type 0) : Type 0 where
 pub record BlockMeaning : Type 1 where
   -- the sender's outline, which has its own numbers
   pub sender : Outline
-  -- what it counts of the receiver besides, and of what has landed
+  -- what the ring counts of the receiver besides, and what it counts of landings
   pub Own : Type 0
   pub Landed : Type 0
   -- the closed marks that landed
