@@ -14,6 +14,7 @@ use Rattle.step_machine.specs.WordReads.{word_in_memory}
 use Rattle.poll_close.specs.Rankings.{Decreases, runs, rank_of, next_by, ready_if, is_ready}
 use Rattle.poll_close.specs.Invariant.Blocks.{Block, slot, slot_store, tail_store}
 use Rattle.poll_close.specs.Invariant.SenderState.{SenderRegisters}
+use Rattle.poll_close.specs.Invariant.BlockMeaning.{unsent_of, unread_of}
 use Rattle.poll_close.specs.Invariant.Outlines.{stands, Holds, Standing}
 use Rattle.poll_close.proofs.Windows.{none_left, singles_length, pairs_length}
 use Rattle.poll_close.proofs.Blocks.{IsBlock, offset_low}
@@ -23,21 +24,21 @@ use Rattle.poll_close.proofs.Progress.{falls}
 use Rattle.poll_close.proofs.Standing.{Sender, value_is}
 use Rattle.fastforward.specs.FastForward.{fastforward, fastforward_blocks, fastforward_means, waits, fastforward_ranking}
 use Rattle.fastforward.specs.Invariant.Stores.{null_store, sender_stores, receiver_stores}
-use Rattle.fastforward.specs.Invariant.Numbers.{Numbers, sent, gone, taken, freed, Ordered, Words, pending_of, unread_of}
+use Rattle.fastforward.specs.Invariant.Numbers.{Numbers, sent, gone, taken, freed, nulls, Ordered, Words}
 use Rattle.fastforward.specs.Invariant.Sender.{Marked, sender}
 use Rattle.fastforward.proofs.Sender.{fastforward_sender}
 use Rattle.fastforward.proofs.FastForwardLaws.{fastforward_laws, reasons}
 
 -- where nothing is pending all that was stored has landed
 module _ (k : Block) (n : Numbers) (order : Ordered k n) where
-  pub all_sent : pending_of k n.sender n.landed ≡ [] → sent n.sender ≤ gone n.landed
-  all_sent none = none_left (sender_stores k.size k.base k.list) (gone n.landed) (sent n.sender) none
-      (omega (arith, singles_length (slot_store k.size k.base) (k.base + 4, 1) k.list, order.stored_all, order.marked_one))
+  pub all_sent : unsent_of fastforward_blocks k n ≡ [] → sent n.sender ≤ gone n.landed
+  all_sent none = none_left (sender_stores k) (gone n.landed) (sent n.sender) none
+      (omega (arith, singles_length (slot_store k) (k.base + 4, 1) k.list, order.stored_all, order.marked_one))
 
-  pub all_read : unread_of k n.receiver n.landed ≡ [] → taken n.receiver ≤ freed n.landed
-  all_read none = none_left (receiver_stores k.size k.base k.list) (freed n.landed) (taken n.receiver) none (omega (
+  pub all_read : unread_of fastforward_blocks k n ≡ [] → taken n.receiver ≤ freed n.landed
+  all_read none = none_left (receiver_stores k) (freed n.landed) (taken n.receiver) none (omega (
     arith,
-    pairs_length (null_store k.size k.base) (tail_store k.size k.base) (k.base + 12, 1) k.list,
+    pairs_length (null_store k) (tail_store k) (k.base + 12, 1) k.list,
     order.tails_nulls,
     order.nulls_slots,
     order.slots_landed,
@@ -53,7 +54,7 @@ at_10 k n s st is = stands_at sender k n.sender s st 0x10 is (omega arith) (omeg
 -- a slot that is not empty when all has landed holds a word that the receiver has not taken
 ready : (k : Block) (n : Numbers) (s : HartState) (word : ℕ → ℕ) → IsBlock k → 1 ≤ k.size → Ordered k n
     → Words k n.landed word → Standing sender k n.sender s → s.status ≡ status.Running
-    → pending_of k n.sender n.landed ≡ [] → unread_of k n.receiver n.landed ≡ [] → waits s word ≡ true
+    → unsent_of fastforward_blocks k n ≡ [] → unread_of fastforward_blocks k n ≡ [] → waits s word ≡ true
     → n.receiver.tails < n.landed.slots
 ready k n s word is one order words st running none empty wait =
     let test = and_parts (s.pc == 0x10) (not (word (slice_index s.registers 28 + 16) == 0)) wait in
@@ -84,7 +85,7 @@ ready k n s word is one order words st running none empty wait =
     ]
 
 marked : (k : Block) (n : Numbers) (s : HartState) → IsBlock k → Ordered k n → Standing sender k n.sender s
-    → runs (Some s) ≡ false → pending_of k n.sender n.landed ≡ [] → n.landed.mark ≡ 1
+    → runs (Some s) ≡ false → unsent_of fastforward_blocks k n ≡ [] → n.landed.mark ≡ 1
 marked k n s is order st off none =
     let h : Marked k n.sender = has_ended sender k n.sender s st off in
     omega (arith, h.mark, all_sent k n order none, order.slots_landed, order.mark_landed)

@@ -10,9 +10,9 @@ use Rattle.poll_close.proofs.Outlines.{Right, also, sends}
 use Rattle.poll_close.proofs.ChannelLaws.{opens, keeps, cleans, goes, stays}
 use Rattle.fastforward.specs.Listing.{sender_code}
 use Rattle.fastforward.specs.FastForward.{fastforward, fastforward_blocks, fastforward_means}
-use Rattle.fastforward.specs.Invariant.Numbers.{Numbers, Landed, sent, gone, taken, freed, Ordered, Words}
+use Rattle.fastforward.specs.Invariant.Numbers.{Numbers, Landed, Ordered, Words}
 use Rattle.fastforward.specs.Invariant.Sender.{sender}
-use Rattle.fastforward.proofs.Means.{receiver-decoded}
+use Rattle.fastforward.proofs.Means.{receiver_decoded}
 use Rattle.fastforward.proofs.Stores.{sender_stores_are, receiver_stores_are}
 use Rattle.fastforward.proofs.Landings.{sender_lands, receiver_lands}
 use Rattle.fastforward.proofs.Sender.{fastforward_sender}
@@ -25,13 +25,12 @@ use Rattle.poll_close.specs.Invariant.Outlines.{Reasons}
 abbrev nothing : Numbers
 nothing = record {
   sender = record { asked = 0; stored = 0; marked = 0; seen = 0 };
-  receiver = record { nulls = 0; tails = 0; done = 0; took = 0; closings = 0; seen = 0; mark = 0 };
+  receiver = record { tails = 0; done = 0; took = 0; closings = 0; seen = 0; mark = 0; own = 0 };
   landed = record { slots = 0; mark = 0; nulls = 0; tails = 0; done = 0 };
 }
 
-begins : (k : Block) → IsBlock k → Begins fastforward_blocks k (opens_with sender_code k)
+begins : (k : Block) → IsBlock k → Begins fastforward_blocks nothing k (opens_with sender_code k)
 begins k is = record {
-  none = nothing;
   order = omega (arith, is.some_slot);
   words = record { mark = refl; tail = omega (arith, zero-mod k.size); done = refl; full = λ j from below. omega arith; empty = λ j from below. refl };
   stands = record {
@@ -42,9 +41,7 @@ begins k is = record {
   };
   unsent = refl;
   unread = refl;
-  level = refl;
-  tails = refl;
-  dones = refl;
+  quiet = record { words = refl; closed = refl; level = refl };
   took = refl;
   closings = refl;
 }
@@ -80,19 +77,22 @@ reasons k n word v r is order words =
 
 pub fastforward_laws : BlockLaws fastforward_blocks
 fastforward_laws = record {
-  decodes = receiver-decoded;
+  decodes = receiver_decoded;
+  none = nothing;
   begins = begins;
   tails_all = λ k n order. omega (arith, order.tails_nulls, order.nulls_slots, order.slots_landed, order.stored_all);
   shut_done = λ k n order. order.shut_done;
   dones_one = λ k n order. order.done_one;
   marks_one = λ k n order. omega (arith, order.mark_landed, order.marked_one);
   filled_more = λ k n order filled. omega (arith, filled, order.nulls_slots, order.slots_landed, order.stored_all);
-  unsent_are = λ k n is order. sender_stores_are k is (gone n.landed) (sent n.sender);
-  unread_are = λ k n is order. receiver_stores_are k is (freed n.landed) (taken n.receiver);
+  gone_sent = λ k n order. omega (arith, order.slots_landed, order.mark_landed);
+  freed_taken = λ k n order. omega (arith, order.nulls_landed, order.tails_landed, order.done_landed);
+  sender_stores_are = sender_stores_are;
+  receiver_stores_are = receiver_stores_are;
   words_same = words_same;
   sends = λ k n s word v is order words st running find. sends fastforward_blocks fastforward_sender reasons k n s word v is order words st running find;
-  sender_lands = λ k n word new x rest is order words oldest write. sender_lands k is n order word new words x rest oldest write;
-  receiver_lands = λ k n word new x rest is order words oldest write. receiver_lands k is n order word new words x rest oldest write;
+  sender_lands = λ k n word new x is order words more oldest write. sender_lands k is n order word new words x more oldest write;
+  receiver_lands = λ k n word new x is order words more oldest write. receiver_lands k is n order word new words x more oldest write;
   sees_done = λ k n word order words. seen_done k n word order words;
   sees_mark = λ k n word order words. seen_mark k n word order words;
   stores_tail = λ k n order filled on. stores_tail k n order filled on;

@@ -1,25 +1,22 @@
 -- The words of a block, and its numbers, after a store has landed.
-use Rattle.std.proofs.Common.{ℕ, suc, ◌+◌, ◌<◌, ◌≤◌, ◌≡◌, ◌≢◌, ◌⊎◌, inl, inr, List, ◌∷◌, length, Some, refl, sym, ◌∙◌, ap, arith}
+use Rattle.std.proofs.Common.{ℕ, suc, ◌+◌, ◌<◌, ◌≤◌, ◌≡◌, ◌≢◌, ◌⊎◌, inl, inr, length, Some, refl, sym, ◌∙◌, ap, arith}
 use Rattle.std.specs.Prelude.{slice_index}
 use Rattle.std.specs.List.{slice_get}
 use Rattle.std.proofs.lemmas.Bool.{cases_lt, cases_eq}
-use Rattle.poll_close.specs.Invariant.Blocks.{Block, offset, slot, window}
-use Rattle.poll_close.proofs.Windows.{some_in, oldest_lands}
-use Rattle.poll_close.proofs.Writes.{IsWrite, hit, miss}
+use Rattle.poll_close.specs.Invariant.Blocks.{Block, offset, slot}
+use Rattle.poll_close.proofs.Writes.{IsWrite, hit, miss, same_write}
 use Rattle.poll_close.proofs.Blocks.{IsBlock}
 use Rattle.poll_close.proofs.BlockLaws.{Lands}
 use Rattle.fastforward.specs.FastForward.{fastforward_blocks}
 use Rattle.fastforward.specs.Invariant.Stores.{sender_stores, receiver_stores}
-use Rattle.fastforward.specs.Invariant.Numbers.{Numbers, sent, gone, taken, freed, Ordered, Words, pending_of, unread_of}
+use Rattle.fastforward.specs.Invariant.Numbers.{Numbers, sent, gone, nulls, taken, freed, Ordered, Words}
 use Rattle.fastforward.proofs.Stores.{slots_apart, slot_again, store_word, store_mark, store_null, store_tail, store_done}
 
 -- a store of the sender
 module _ (k : Block) (is : IsBlock k) (n : Numbers) (order : Ordered k n) (word new : ℕ → ℕ) (words : Words k n.landed word) where
   word_lands : n.landed.slots < n.sender.stored
       → IsWrite word new (slot k.size k.base n.landed.slots, slice_index k.list n.landed.slots)
-      → Lands fastforward_blocks k n new
-      (window (sender_stores k.size k.base k.list) (suc (gone n.landed)) (sent n.sender))
-      (unread_of k n.receiver n.landed)
+      → Lands fastforward_blocks k n new (suc (gone n.landed)) (freed n.landed)
   word_lands some write =
       record {
         after = record n.landed { slots = n.landed.slots + 1 };
@@ -34,8 +31,8 @@ module _ (k : Block) (is : IsBlock k) (n : Numbers) (order : Ordered k n) (word 
               (omega (arith, below, order.nulls_landed, order.nulls_slots)))
               ∙ words.empty j (omega (arith, from)) below;
         };
-        unsent = ap (λ i. window (sender_stores k.size k.base k.list) i (sent n.sender)) {x = suc (gone n.landed)} (omega arith);
-        unread = refl;
+        mine = omega arith;
+        theirs = refl;
       }
     where
       at : ℕ
@@ -52,9 +49,7 @@ module _ (k : Block) (is : IsBlock k) (n : Numbers) (order : Ordered k n) (word 
           (omega (arith, from, some, order.room)) (sym same)) ∙ words.full j from (omega (arith, below, other))
 
   mark_lands : n.landed.slots ≡ length k.list → n.landed.mark < n.sender.marked → IsWrite word new (k.base + 4, 1)
-      → Lands fastforward_blocks k n new
-      (window (sender_stores k.size k.base k.list) (suc (gone n.landed)) (sent n.sender))
-      (unread_of k n.receiver n.landed)
+      → Lands fastforward_blocks k n new (suc (gone n.landed)) (freed n.landed)
   mark_lands all some write =
       record {
         after = record n.landed { mark = n.landed.mark + 1 };
@@ -66,28 +61,20 @@ module _ (k : Block) (is : IsBlock k) (n : Numbers) (order : Ordered k n) (word 
           full = λ j from below. miss word new (k.base + 4) 1 write (slot k.size k.base j) (omega arith) ∙ words.full j from below;
           empty = λ j from below. miss word new (k.base + 4) 1 write (slot k.size k.base j) (omega arith) ∙ words.empty j from below;
         };
-        unsent = ap (λ i. window (sender_stores k.size k.base k.list) i (sent n.sender)) {x = suc (gone n.landed)} (omega arith);
-        unread = refl;
+        mine = omega arith;
+        theirs = refl;
       }
     where
       one : 1 ≡ n.landed.mark + 1
       one = omega (arith, some, order.marked_one)
 
   -- whichever of its stores is the oldest pending one, it lands
-  pub sender_lands : (x : ℕ × ℕ) (rest : List (ℕ × ℕ)) → pending_of k n.sender n.landed ≡ x ∷ rest
-      → IsWrite word new x → Lands fastforward_blocks k n new rest (unread_of k n.receiver n.landed)
-  sender_lands x rest first write = at (cases_lt n.landed.slots (length k.list))
+  pub sender_lands : (x : ℕ × ℕ) → gone n.landed < sent n.sender → slice_get (sender_stores k) (gone n.landed) ≡ Some x
+      → IsWrite word new x → Lands fastforward_blocks k n new (suc (gone n.landed)) (freed n.landed)
+  sender_lands x more oldest write = at (cases_lt n.landed.slots (length k.list))
     where
-      more : gone n.landed < sent n.sender
-      more = some_in (sender_stores k.size k.base k.list) (gone n.landed) (sent n.sender) x rest first
-
-      with : (y : ℕ × ℕ) → slice_get (sender_stores k.size k.base k.list) (gone n.landed) ≡ Some y
-          → (IsWrite word new y → Lands fastforward_blocks k n new
-          (window (sender_stores k.size k.base k.list) (suc (gone n.landed)) (sent n.sender))
-          (unread_of k n.receiver n.landed)) → Lands fastforward_blocks k n new rest (unread_of k n.receiver n.landed)
-      with y at lands =
-          oldest_lands (λ ps. Lands fastforward_blocks k n new ps (unread_of k n.receiver n.landed)) (IsWrite word new)
-          (sender_stores k.size k.base k.list) (gone n.landed) (sent n.sender) x y rest first write at lands
+      is_of : (y : ℕ × ℕ) → slice_get (sender_stores k) (gone n.landed) ≡ Some y → IsWrite word new y
+      is_of y at = same_write word new x y (sender_stores k) (gone n.landed) oldest at write
 
       unmarked : n.landed.slots < length k.list → n.landed.mark ≡ 0
       unmarked some = grind (arith, order.mark_all)
@@ -95,21 +82,19 @@ module _ (k : Block) (is : IsBlock k) (n : Numbers) (order : Ordered k n) (word 
       room : n.landed.slots < length k.list → n.landed.slots < n.sender.stored
       room some = grind (arith, more, order.marked_all, order.mark_all, order.slots_landed, order.marked_one)
 
-      at : (n.landed.slots < length k.list) ⊎ (length k.list ≤ n.landed.slots) → Lands fastforward_blocks k n new rest (unread_of k n.receiver n.landed)
-      at (inl some) = with (slot k.size k.base n.landed.slots, slice_index k.list n.landed.slots)
-          (store_word k.size k.base k.list n.landed.slots (gone n.landed) some (omega (arith, unmarked some)))
-          (λ w. word_lands (room some) w)
+      at : (n.landed.slots < length k.list) ⊎ (length k.list ≤ n.landed.slots) → Lands fastforward_blocks k n new (suc (gone n.landed)) (freed n.landed)
+      at (inl some) = word_lands (room some) (is_of (slot k.size k.base n.landed.slots, slice_index k.list n.landed.slots)
+          (store_word k n.landed.slots (gone n.landed) some (omega (arith, unmarked some))))
       at (inr all) =
           let full : n.landed.slots ≡ length k.list = omega (arith, all, order.slots_landed, order.stored_all) in
           let waits : n.landed.mark < n.sender.marked = omega (arith, more, full, order.stored_all) in
-          with (k.base + 4, 1) (store_mark k.size k.base k.list (gone n.landed) (omega (arith, full, waits, order.marked_one))) (λ w. mark_lands full waits w)
+          mark_lands full waits (is_of (k.base + 4, 1) (store_mark k (gone n.landed) (omega (arith, full, waits, order.marked_one))))
 
 -- a store of the receiver to the block
 module _ (k : Block) (is : IsBlock k) (n : Numbers) (order : Ordered k n) (word new : ℕ → ℕ) (words : Words k n.landed word) where
-  null_lands : n.landed.nulls ≡ n.landed.tails → n.landed.nulls < n.receiver.nulls
+  null_lands : n.landed.nulls ≡ n.landed.tails → n.landed.nulls < nulls n.receiver
       → IsWrite word new (slot k.size k.base n.landed.nulls, 0)
-      → Lands fastforward_blocks k n new (pending_of k n.sender n.landed)
-      (window (receiver_stores k.size k.base k.list) (suc (freed n.landed)) (taken n.receiver))
+      → Lands fastforward_blocks k n new (gone n.landed) (suc (freed n.landed))
   null_lands even some write =
       record {
         after = record n.landed { nulls = n.landed.nulls + 1 };
@@ -123,8 +108,8 @@ module _ (k : Block) (is : IsBlock k) (n : Numbers) (order : Ordered k n) (word 
               (omega (arith, below, order.slots_landed, order.room))) ∙ words.full j (omega (arith, from)) below;
           empty = λ j from below. empty j from below (cases_eq j (n.landed.nulls + k.size));
         };
-        unsent = refl;
-        unread = ap (λ i. window (receiver_stores k.size k.base k.list) i (taken n.receiver)) {x = suc (freed n.landed)} (omega arith);
+        mine = refl;
+        theirs = omega arith;
       }
     where
       at : ℕ
@@ -140,8 +125,7 @@ module _ (k : Block) (is : IsBlock k) (n : Numbers) (order : Ordered k n) (word 
 
   tail_lands : n.landed.nulls ≡ n.landed.tails + 1 → n.landed.tails < n.receiver.tails
       → IsWrite word new (k.base + 8, offset k (n.landed.tails + 1))
-      → Lands fastforward_blocks k n new (pending_of k n.sender n.landed)
-      (window (receiver_stores k.size k.base k.list) (suc (freed n.landed)) (taken n.receiver))
+      → Lands fastforward_blocks k n new (gone n.landed) (suc (freed n.landed))
   tail_lands odd some write =
       record {
         after = record n.landed { tails = n.landed.tails + 1 };
@@ -153,16 +137,15 @@ module _ (k : Block) (is : IsBlock k) (n : Numbers) (order : Ordered k n) (word 
           full = λ j from below. miss word new (k.base + 8) w write (slot k.size k.base j) (omega arith) ∙ words.full j from below;
           empty = λ j from below. miss word new (k.base + 8) w write (slot k.size k.base j) (omega arith) ∙ words.empty j from below;
         };
-        unsent = refl;
-        unread = ap (λ i. window (receiver_stores k.size k.base k.list) i (taken n.receiver)) {x = suc (freed n.landed)} (omega arith);
+        mine = refl;
+        theirs = omega arith;
       }
     where
       w : ℕ
       w = offset k (n.landed.tails + 1)
 
   done_lands : n.landed.tails ≡ length k.list → n.landed.done < n.receiver.done → IsWrite word new (k.base + 12, 1)
-      → Lands fastforward_blocks k n new (pending_of k n.sender n.landed)
-      (window (receiver_stores k.size k.base k.list) (suc (freed n.landed)) (taken n.receiver))
+      → Lands fastforward_blocks k n new (gone n.landed) (suc (freed n.landed))
   done_lands all some write =
       record {
         after = record n.landed { done = n.landed.done + 1 };
@@ -174,30 +157,22 @@ module _ (k : Block) (is : IsBlock k) (n : Numbers) (order : Ordered k n) (word 
           full = λ j from below. miss word new (k.base + 12) 1 write (slot k.size k.base j) (omega arith) ∙ words.full j from below;
           empty = λ j from below. miss word new (k.base + 12) 1 write (slot k.size k.base j) (omega arith) ∙ words.empty j from below;
         };
-        unsent = refl;
-        unread = ap (λ i. window (receiver_stores k.size k.base k.list) i (taken n.receiver)) {x = suc (freed n.landed)} (omega arith);
+        mine = refl;
+        theirs = omega arith;
       }
     where
       one : 1 ≡ n.landed.done + 1
       one = omega (arith, some, order.done_one)
 
   -- whichever of its stores to the block is the oldest pending one, it lands
-  pub receiver_lands : (x : ℕ × ℕ) (rest : List (ℕ × ℕ)) → unread_of k n.receiver n.landed ≡ x ∷ rest
-      → IsWrite word new x → Lands fastforward_blocks k n new (pending_of k n.sender n.landed) rest
-  receiver_lands x rest first write = at (cases_eq n.landed.nulls n.landed.tails) (cases_lt n.landed.nulls (length k.list))
+  pub receiver_lands : (x : ℕ × ℕ) → freed n.landed < taken n.receiver → slice_get (receiver_stores k) (freed n.landed) ≡ Some x
+      → IsWrite word new x → Lands fastforward_blocks k n new (gone n.landed) (suc (freed n.landed))
+  receiver_lands x more oldest write = at (cases_eq n.landed.nulls n.landed.tails) (cases_lt n.landed.nulls (length k.list))
     where
-      more : freed n.landed < taken n.receiver
-      more = some_in (receiver_stores k.size k.base k.list) (freed n.landed) (taken n.receiver) x rest first
+      is_of : (y : ℕ × ℕ) → slice_get (receiver_stores k) (freed n.landed) ≡ Some y → IsWrite word new y
+      is_of y at = same_write word new x y (receiver_stores k) (freed n.landed) oldest at write
 
-      with : (y : ℕ × ℕ) → slice_get (receiver_stores k.size k.base k.list) (freed n.landed) ≡ Some y
-          → (IsWrite word new y → Lands fastforward_blocks k n new (pending_of k n.sender n.landed)
-          (window (receiver_stores k.size k.base k.list) (suc (freed n.landed)) (taken n.receiver)))
-          → Lands fastforward_blocks k n new (pending_of k n.sender n.landed) rest
-      with y at lands =
-          oldest_lands (λ ps. Lands fastforward_blocks k n new (pending_of k n.sender n.landed) ps) (IsWrite word new)
-          (receiver_stores k.size k.base k.list) (freed n.landed) (taken n.receiver) x y rest first write at lands
-
-      nulls_all : n.receiver.nulls ≤ length k.list
+      nulls_all : nulls n.receiver ≤ length k.list
       nulls_all = omega (arith, order.nulls_slots, order.slots_landed, order.stored_all)
 
       -- before the last tail has landed there is no done word in memory, nor before the last null is made
@@ -208,8 +183,8 @@ module _ (k : Block) (is : IsBlock k) (n : Numbers) (order : Ordered k n) (word 
       not_last some = grind (arith, order.done_all)
 
       null_waits : n.landed.nulls ≡ n.landed.tails → n.landed.nulls < length k.list
-          → (n.landed.nulls < n.receiver.nulls) ⊎ (n.receiver.nulls ≤ n.landed.nulls)
-          → n.landed.nulls < n.receiver.nulls
+          → (n.landed.nulls < nulls n.receiver) ⊎ (nulls n.receiver ≤ n.landed.nulls)
+          → n.landed.nulls < nulls n.receiver
       null_waits even some (inl less) = less
       null_waits even some (inr none) = absurd (omega (arith, more, even, none, not_last (omega (arith, some, none, order.tails_nulls)), order.tails_nulls))
 
@@ -221,20 +196,17 @@ module _ (k : Block) (is : IsBlock k) (n : Numbers) (order : Ordered k n) (word 
 
       at : (n.landed.nulls ≡ n.landed.tails) ⊎ (n.landed.nulls ≢ n.landed.tails)
           → (n.landed.nulls < length k.list) ⊎ (length k.list ≤ n.landed.nulls)
-          → Lands fastforward_blocks k n new (pending_of k n.sender n.landed) rest
-      at (inl even) (inl some) = with (slot k.size k.base n.landed.nulls, 0)
-          (store_null k.size k.base k.list n.landed.nulls (freed n.landed) some
-          (omega (arith, even, not_done (omega (arith, even, some)))))
-          (λ w. null_lands even (null_waits even some (cases_lt n.landed.nulls n.receiver.nulls)) w)
+          → Lands fastforward_blocks k n new (gone n.landed) (suc (freed n.landed))
+      at (inl even) (inl some) =
+          null_lands even (null_waits even some (cases_lt n.landed.nulls (nulls n.receiver)))
+          (is_of (slot k.size k.base n.landed.nulls, 0)
+          (store_null k n.landed.nulls (freed n.landed) some (omega (arith, even, not_done (omega (arith, even, some))))))
       at (inl even) (inr all) =
           let tails : n.landed.tails ≡ length k.list = omega (arith, even, all, order.nulls_landed, nulls_all) in
           let waits : n.landed.done < n.receiver.done = omega (arith, more, even, tails, nulls_all, order.tails_nulls) in
-          with (k.base + 12, 1)
-          (store_done k.size k.base k.list (freed n.landed) (omega (arith, even, tails, waits, order.done_one)))
-          (λ w. done_lands tails waits w)
+          done_lands tails waits (is_of (k.base + 12, 1) (store_done k (freed n.landed) (omega (arith, even, tails, waits, order.done_one))))
       at (inr other) ln =
           let odd : n.landed.nulls ≡ n.landed.tails + 1 = omega (arith, other, order.tail_after, order.null_before) in
           let some : n.landed.tails < length k.list = omega (arith, odd, order.nulls_landed, nulls_all) in
-          with (k.base + 8, offset k (n.landed.tails + 1))
-          (store_tail k.size k.base k.list n.landed.tails (freed n.landed) some (omega (arith, odd, not_done some)))
-          (λ w. tail_lands odd (tail_waits odd (cases_lt n.landed.tails n.receiver.tails)) w)
+          tail_lands odd (tail_waits odd (cases_lt n.landed.tails n.receiver.tails)) (is_of (k.base + 8, offset k (n.landed.tails + 1))
+          (store_tail k n.landed.tails (freed n.landed) some (omega (arith, odd, not_done some))))

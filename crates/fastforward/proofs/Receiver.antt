@@ -1,6 +1,6 @@
 -- The reasons of the receiver's rows at its five lines between.
 use Rattle.std.proofs.Common.{ℕ, ◌+◌, ◌*◌, ◌<◌, ◌≤◌, ◌≡◌, ◌≢◌, ◌==◌, ◌⊎◌, inl, inr, Bool, true, false, not, ◌&&◌, []}
-use Rattle.std.proofs.Common.{◌∷◌, length, Some, refl, sym, ◌∙◌, ap, subst, arith, append-nil}
+use Rattle.std.proofs.Common.{◌∷◌, length, Some, refl, sym, ◌∙◌, ap, subst, arith}
 use Rattle.std.specs.Prelude.{map}
 use Rattle.std.specs.List.{slice_get}
 use Rattle.std.proofs.lemmas.Bool.{cases_lt, cases_eq, and_parts}
@@ -10,6 +10,7 @@ use Rattle.hart.proofs.Instructions.{IsAt}
 use Rattle.poll_close.specs.Rankings.{runs}
 use Rattle.poll_close.specs.Invariant.Blocks.{Block, offset, slot}
 use Rattle.poll_close.specs.Invariant.ReceiverState.{ReceiverRegisters, whole_of, receiving}
+use Rattle.poll_close.specs.Invariant.BlockMeaning.{Flag, unread_of}
 use Rattle.poll_close.proofs.Lines.{loads, stores, sum_line, load_line, store_line, same_jumps, other_goes_on}
 use Rattle.poll_close.proofs.Blocks.{IsBlock, offset_low, word_of, word_from, slot_of, slot_at}
 use Rattle.poll_close.proofs.BlockLaws.{found_in, Changes, Right_at}
@@ -17,9 +18,9 @@ use Rattle.poll_close.proofs.Distance.{flags, far_off}
 use Rattle.poll_close.proofs.ReceiverMoves as step
 use Rattle.fastforward.specs.Listing.{middle, receiver_lines}
 use Rattle.fastforward.specs.FastForward.{fastforward_blocks}
-use Rattle.fastforward.specs.Invariant.Numbers.{Numbers, Ordered, Words, unread_of}
-use Rattle.fastforward.specs.Invariant.Middle.{Flagged, Loaded, Empty}
-use Rattle.fastforward.proofs.Means.{receiver-decoded}
+use Rattle.fastforward.specs.Invariant.Numbers.{Numbers, nulls, Ordered, Words}
+use Rattle.fastforward.specs.Invariant.Middle.{Loaded, Empty}
+use Rattle.fastforward.proofs.Means.{receiver_decoded}
 use Rattle.fastforward.proofs.ReceiverReads.{seen_tail, seen_word, seen_none}
 use Rattle.fastforward.proofs.ReceiverActs.{stores_null}
 
@@ -27,7 +28,7 @@ module _ (k : Block) (i count : ℕ) (n : Numbers) (word : ℕ → ℕ) (r : Rec
     (order : Ordered k n) (words : Words k n.landed word) where
   at : (j : ℕ) {instr : Instr} → slice_get (map Some receiver_lines) j ≡ Some (Some instr)
       → IsAt (receiving middle (whole_of k count) (4 * j) r) instr
-  at j found = step.at_of middle receiver-decoded (whole_of k count) r j found
+  at j found = step.at_of middle receiver_decoded (whole_of k count) r j found
 
   abbrev Right_here : ℕ → Type 0
   Right_here here = Right_at fastforward_blocks k i count n word r v here
@@ -64,7 +65,7 @@ module _ (k : Block) (i count : ℕ) (n : Numbers) (word : ℕ → ℕ) (r : Rec
       step.acts fastforward_blocks k i count n order r v 0x1C 0x20 (loads (r.x28 + 16)) (λ w. record r { x11 = w })
       (record n.receiver { seen = n.landed.slots })
       (tt, slot_at k is (r.x28 + 16) n.receiver.tails (omega (arith, h.1.1, h.1.2))) line
-      (record { order = omega arith; unread = append-nil (unread_of k n.receiver n.landed) })
+      (record { order = omega arith; stores = refl })
       (inl (
         record {
           visits = h.0.visits;
@@ -78,13 +79,13 @@ module _ (k : Block) (i count : ℕ) (n : Numbers) (word : ℕ → ℕ) (r : Rec
       flags 13 14 16 17 ((r.x30 == 0) && (v == 0)) ((r.x30 == 0) && ended) (omega arith)
       (far_off rs count (r.x22 + 1)) (older read ended (idle.ready h.0.visits.index))))
     where
-      last : n.landed.slots ≤ n.receiver.tails → Flagged n.receiver r.x30 → (r.x30 ≡ 0) ⊎ (n.receiver.tails ≡ length k.list)
+      last : n.landed.slots ≤ n.receiver.tails → Flag n.receiver r.x30 → (r.x30 ≡ 0) ⊎ (n.receiver.tails ≡ length k.list)
       last none (inl unmarked) = inl unmarked
       last none (inr some) =
           let all : n.landed.slots ≡ length k.list = order.mark_all (omega (arith, some.1, order.seen_mark)) in
           inr (omega (arith, all, none, order.tails_nulls, order.nulls_slots))
 
-      seen : v ≡ found_in (unread_of k n.receiver n.landed) word (slot k.size k.base n.receiver.tails)
+      seen : v ≡ found_in (unread_of fastforward_blocks k n) word (slot k.size k.base n.receiver.tails)
           → (n.receiver.tails < n.landed.slots) ⊎ (n.landed.slots ≤ n.receiver.tails)
           → Empty k (record n.receiver { seen = n.landed.slots }) v r.x30
           ⊎ Loaded k (record n.receiver { seen = n.landed.slots }) v
@@ -92,7 +93,7 @@ module _ (k : Block) (i count : ℕ) (n : Numbers) (word : ℕ → ℕ) (r : Rec
       seen read (inr none) = inl (read ∙ seen_none k n word order words is h.0.quiet.level h.0.open_yet none, last none h.1.0)
 
       -- where the sender runs, the word that is ready is found
-      older : v ≡ found_in (unread_of k n.receiver n.landed) word (slot k.size k.base n.receiver.tails)
+      older : v ≡ found_in (unread_of fastforward_blocks k n) word (slot k.size k.base n.receiver.tails)
           → (ended : Bool) → (ended ≡ false → n.receiver.tails < n.landed.slots) → ((r.x30 == 0) && (v == 0)) ≡ true
           → ((r.x30 == 0) && ended) ≡ true
       older read true ready both = rw ((and_parts (r.x30 == 0) (v == 0) both).0) refl
@@ -131,10 +132,10 @@ module _ (k : Block) (i count : ℕ) (n : Numbers) (word : ℕ → ℕ) (r : Rec
       let line = store_line (at 9 refl) (omega (arith, is.even, h.1.1, h.1.2)) refl (omega (arith, is.inside, h.1.1, h.1.2, low)) is.small in
       let place : slot k.size k.base n.receiver.tails ≡ r.x28 + 16 = omega (arith, h.1.1, h.1.2) in
       step.acts fastforward_blocks k i count n order r v 0x24 0x28 (stores (r.x28 + 16) 0) (λ w. r)
-      (record n.receiver { nulls = n.receiver.nulls + 1 })
+      (record n.receiver { own = nulls n.receiver + 1 })
       (tt, slot_at k is (r.x28 + 16) n.receiver.tails (sym place)) line
       (subst
-      (λ (a : ℕ). Changes fastforward_blocks k n (record n.receiver { nulls = n.receiver.nulls + 1 }) ((a, 0) ∷ []))
+      (λ (a : ℕ). Changes fastforward_blocks k n (record n.receiver { own = nulls n.receiver + 1 }) ((a, 0) ∷ []))
       place (stores_null k n order h.0.quiet.level h.1.0.0 h.0.open_yet))
       (inl (
         record {

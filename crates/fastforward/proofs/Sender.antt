@@ -1,6 +1,6 @@
 -- Why each row of the sender's outline is right: from its assertion, the act there leads to the next row's.
-use Rattle.std.proofs.Common.{ℕ, suc, ◌+◌, ◌*◌, ◌<◌, ◌≤◌, ◌≡◌, ◌≢◌, ◌==◌, ◌⊎◌, inl, inr, true, false, [], ◌∷◌, ◌++◌}
-use Rattle.std.proofs.Common.{length, drop, length-drop, Some, None, refl, sym, ◌∙◌, ap, subst, arith, append-nil, lit<}
+use Rattle.std.proofs.Common.{ℕ, suc, ◌+◌, ◌*◌, ◌<◌, ◌≤◌, ◌≡◌, ◌≢◌, ◌==◌, ◌⊎◌, inl, inr, true, false}
+use Rattle.std.proofs.Common.{length, drop, length-drop, Some, None, refl, sym, ◌∙◌, ap, subst, arith, lit<}
 use Rattle.std.specs.Prelude.{slice_index, map}
 use Rattle.std.specs.List.{slice_get}
 use Rattle.std.proofs.lemmas.Bool.{cases_lt, cases_eq}
@@ -8,13 +8,13 @@ use Rattle.std.proofs.lemmas.Bool.Decides.{nat_tests}
 use Rattle.rv_decode.specs.declared.instruction.Instr.{Instr}
 use Rattle.hart.specs.declared.need.Need.TheVariants as need
 use Rattle.hart.proofs.Instructions.{IsAt, exit_need, exit_after}
-use Rattle.poll_close.specs.Invariant.Blocks.{Block, offset, slot, window}
+use Rattle.poll_close.specs.Invariant.Blocks.{Block, offset, slot}
 use Rattle.poll_close.specs.Invariant.SenderState.{SenderRegisters, fixed, running}
+use Rattle.poll_close.specs.Invariant.BlockMeaning.{unsent_of}
 use Rattle.poll_close.proofs.Lines.{loads, stores, word_plus, add_line, sum_line, load_line, store_line, jump_line}
 use Rattle.poll_close.proofs.Lines.{same_jumps, other_goes_on, other_jumps, same_goes_on}
 use Rattle.poll_close.proofs.SenderLines.{line_04-word, line_04-none}
 use Rattle.poll_close.proofs.Modulo.{offset_step, offset_wrap}
-use Rattle.poll_close.proofs.Windows.{window_made}
 use Rattle.poll_close.proofs.Found.{in_memory, newest_found}
 use Rattle.poll_close.proofs.Blocks.{IsBlock, IsWordOf, offset_low, word_of, slot_of, slot_at}
 use Rattle.poll_close.proofs.BlockLaws.{found_in}
@@ -24,14 +24,14 @@ use Rattle.poll_close.proofs.Progress.{not_false}
 use Rattle.fastforward.specs.Listing.{sender_code, sender_lines}
 use Rattle.fastforward.specs.FastForward.{fastforward_blocks}
 use Rattle.fastforward.specs.Invariant.Stores.{sender_stores}
-use Rattle.fastforward.specs.Invariant.Numbers.{Sent, Numbers, sent, gone, Ordered, Words, pending_of}
-use Rattle.fastforward.proofs.Means.{sender-decoded}
+use Rattle.fastforward.specs.Invariant.Numbers.{Sent, Numbers, sent, gone, Ordered, Words}
+use Rattle.fastforward.proofs.Means.{sender_decoded}
 use Rattle.fastforward.proofs.Stores.{slots_apart, slot_again, store_word, store_mark, word_at}
 
 module _ (k : Block) (is : IsBlock k) (n : Numbers) (order : Ordered k n) (word : ℕ → ℕ) (words : Words k n.landed word) where
   -- a slot whose null is not in memory holds the word of a round before: in memory, or pending
   full_slot : n.sender.marked ≡ 0 → n.sender.stored < length k.list → n.sender.stored ≡ n.landed.nulls + k.size
-      → found_in (pending_of k n.sender n.landed) word (slot k.size k.base n.sender.stored)
+      → found_in (unsent_of fastforward_blocks k n) word (slot k.size k.base n.sender.stored)
       ≡ slice_index k.list n.landed.nulls
   full_slot unmarked more round = at (cases_eq n.landed.slots n.landed.nulls)
     where
@@ -45,30 +45,30 @@ module _ (k : Block) (is : IsBlock k) (n : Numbers) (order : Ordered k n) (word 
       first : gone n.landed ≡ n.landed.slots
       first = omega (arith, order.mark_landed, unmarked)
 
-      elsewhere : (t : ℕ) (x : ℕ × ℕ) → n.landed.nulls < t → t < sent n.sender → slice_get (sender_stores k.size k.base k.list) t ≡ Some x → x.0 ≢ place
+      elsewhere : (t : ℕ) (x : ℕ × ℕ) → n.landed.nulls < t → t < sent n.sender → slice_get (sender_stores k) t ≡ Some x → x.0 ≢ place
       elsewhere t x above below got same =
           let before : t < n.sender.stored = omega (arith, below, unmarked) in
           slots_apart k.size k.base t n.sender.stored is.some_slot before (omega (arith, above, round))
-          (sym (word_at k.size k.base k.list t x got (omega (arith, before, more))) ∙ same)
+          (sym (word_at k t x got (omega (arith, before, more))) ∙ same)
 
       at : (n.landed.slots ≡ n.landed.nulls) ⊎ (n.landed.slots ≢ n.landed.nulls)
-          → found_in (pending_of k n.sender n.landed) word place ≡ slice_index k.list n.landed.nulls
+          → found_in (unsent_of fastforward_blocks k n) word place ≡ slice_index k.list n.landed.nulls
       at (inl none) =
-          let store : slice_get (sender_stores k.size k.base k.list) n.landed.nulls
+          let store : slice_get (sender_stores k) n.landed.nulls
           ≡ Some (place, slice_index k.list n.landed.nulls) =
-          store_word k.size k.base k.list n.landed.nulls n.landed.nulls (omega (arith, more, round)) refl
+          store_word k n.landed.nulls n.landed.nulls (omega (arith, more, round)) refl
           ∙ ap (λ a. Some (a, slice_index k.list n.landed.nulls)) (sym here) in
-          newest_found (sender_stores k.size k.base k.list) (gone n.landed) (sent n.sender) word place
+          newest_found (sender_stores k) (gone n.landed) (sent n.sender) word place
           (slice_index k.list n.landed.nulls) n.landed.nulls (omega (arith, none, first)) (omega (arith, round, is.some_slot))
           store elsewhere
       at (inr some) =
-          in_memory (sender_stores k.size k.base k.list) (gone n.landed) (sent n.sender) word place
+          in_memory (sender_stores k) (gone n.landed) (sent n.sender) word place
           (λ t x from below got. elsewhere t x (omega (arith, from, first, some, order.nulls_landed, order.nulls_slots)) below got)
           ∙ ap word here ∙ words.full n.landed.nulls (omega arith) (omega (arith, some, order.nulls_landed, order.nulls_slots))
 
   -- so where it reads 0 the slot is free, since no word is 0
   found_free : (v : ℕ) → n.sender.marked ≡ 0 → n.sender.stored < length k.list
-      → v ≡ found_in (pending_of k n.sender n.landed) word (slot k.size k.base n.sender.stored) → v ≡ 0
+      → v ≡ found_in (unsent_of fastforward_blocks k n) word (slot k.size k.base n.sender.stored) → v ≡ 0
       → n.sender.stored + 1 ≤ n.landed.nulls + k.size
   found_free v unmarked more read zero_is =
       elim (cases_eq n.sender.stored (n.landed.nulls + k.size)) [
@@ -77,17 +77,9 @@ module _ (k : Block) (is : IsBlock k) (n : Numbers) (order : Ordered k n) (word 
       ]
 
 abbrev pub fastforward_sender : Sender fastforward_blocks
-fastforward_sender = record { lines = sender_lines; decoded = sender-decoded }
+fastforward_sender = record { lines = sender_lines; decoded = sender_decoded }
 
 module _ (k : Block) (n : Numbers) (word : ℕ → ℕ) (v : ℕ) (r : SenderRegisters) (is : IsBlock k) (order : Ordered k n) (words : Words k n.landed word) where
-  -- a store joins those that are pending
-  joins : (x : ℕ × ℕ) (later : ℕ) → later ≡ suc (sent n.sender)
-      → slice_get (sender_stores k.size k.base k.list) (sent n.sender) ≡ Some x
-      → pending_of k n.sender n.landed ++ x ∷ [] ≡ window (sender_stores k.size k.base k.list) (gone n.landed) later
-  joins x later next store =
-      rw next (window_made (sender_stores k.size k.base k.list) (gone n.landed) (sent n.sender) x
-      (omega (arith, order.slots_landed, order.mark_landed)) store)
-
   at : (j : ℕ) {i : Instr} → slice_get (map Some sender_lines) j ≡ Some (Some i) → IsAt (running sender_code (fixed k) (4 * j) r (drop n.sender.asked k.list)) i
   at j found = outline.at fastforward_blocks fastforward_sender k n word v r j found
 
@@ -114,14 +106,14 @@ module _ (k : Block) (n : Numbers) (word : ℕ → ℕ) (v : ℕ) (r : SenderReg
             goes 0x08 (need.Next (Some w)) made (λ u. record r { x10 = w; x11 = 1 }) tt
             (line_04-word sender_code (lit< tt) (fixed k) r
             (λ inbox. outline.at_in fastforward_blocks fastforward_sender k n word v r r inbox 1 refl) h.2 k.list
-            n.sender.asked (omega (arith, h.0.taken))) (omega arith) (append-nil (pending_of k n.sender n.landed))
+            n.sender.asked (omega (arith, h.0.taken))) (omega arith) refl
             (record { unmarked = h.0.unmarked; index = h.1; answer = inl (refl, omega (arith, h.0.taken), more, ap (slice_index k.list) h.0.taken) })
             (λ free. omega (arith, before, after, more, h.0.taken))
         | inr all ↦
             goes 0x08 (need.Next None) n.sender (λ u. record r { x11 = 0 }) tt
             (line_04-none sender_code (lit< tt) (fixed k) r
             (λ inbox. outline.at_in fastforward_blocks fastforward_sender k n word v r r inbox 1 refl) h.2 k.list
-            n.sender.asked (omega (arith, h.0.taken))) order (append-nil (pending_of k n.sender n.landed))
+            n.sender.asked (omega (arith, h.0.taken))) order refl
             (record { unmarked = h.0.unmarked; index = h.1; answer = inr (refl, h.0.taken, omega (arith, all, order.stored_all)) })
             (λ free. omega arith)
       ]
@@ -146,15 +138,15 @@ module _ (k : Block) (n : Numbers) (word : ℕ → ℕ) (v : ℕ) (r : SenderReg
       let place : r.x28 + 16 ≡ slot k.size k.base n.sender.stored = omega (arith, h.1, h.0.index) in
       let line = load_line (at 4 refl) (omega (arith, is.even, h.0.index, h.1)) refl
       (omega (arith, is.inside, h.0.index, h.1, offset_low k is n.sender.stored)) is.small in
-      let read : v ≡ found_in (pending_of k n.sender n.landed) word (r.x28 + 16) =
+      let read : v ≡ found_in (unsent_of fastforward_blocks k n) word (r.x28 + 16) =
       find (r.x28 + 16) (subst (IsWordOf k) (sym place) (slot_of k is n.sender.stored)) line.wants in
       goes 0x14 (loads (r.x28 + 16)) (record n.sender { seen = n.landed.nulls }) (λ u. record r { x7 = u })
       (tt, slot_at k is (r.x28 + 16) n.sender.stored place) line (omega arith)
-      (append-nil (pending_of k n.sender n.landed)) (
+      refl (
         record { taken = h.0.taken; unmarked = h.0.unmarked; within = h.0.within; word = h.0.word; index = h.0.index },
         h.1,
         found_free k is n order word words v h.0.unmarked h.0.within
-            (read ∙ ap (found_in (pending_of k n.sender n.landed) word) place),
+            (read ∙ ap (found_in (unsent_of fastforward_blocks k n) word) place),
       )
       (λ free. let zero_is : (v == 0) ≡ true = ap (λ w. w == 0)
       (read ∙ ap (λ ps. found_in ps word (r.x28 + 16)) free.0) ∙ not_false (word (r.x28 + 16) == 0) free.1 in
@@ -173,15 +165,15 @@ module _ (k : Block) (n : Numbers) (word : ℕ → ℕ) (v : ℕ) (r : SenderReg
   pub right_18 : Right_at 0x18  -- sw x10,16(x28)
   right_18 h =
       let place : slot k.size k.base n.sender.stored ≡ r.x28 + 16 = omega (arith, h.1, h.0.index) in
-      let store : slice_get (sender_stores k.size k.base k.list) (sent n.sender) ≡ Some (r.x28 + 16, r.x10) =
-      store_word k.size k.base k.list n.sender.stored (sent n.sender) h.0.within (omega (arith, h.0.unmarked))
+      let store : slice_get (sender_stores k) (sent n.sender) ≡ Some (r.x28 + 16, r.x10) =
+      store_word k n.sender.stored (sent n.sender) h.0.within (omega (arith, h.0.unmarked))
       ∙ rw (place, h.0.word) refl in
       goes 0x1C (stores (r.x28 + 16) r.x10) (record n.sender { stored = n.sender.stored + 1 }) (λ u. r)
       (tt, slot_at k is (r.x28 + 16) n.sender.stored (sym place))
       (store_line (at 6 refl) (omega (arith, is.even, h.0.index, h.1)) refl
       (omega (arith, is.inside, h.0.index, h.1, offset_low k is n.sender.stored)) is.small)
       (omega (arith, h.0.unmarked, h.0.within, h.2))
-      (joins (r.x28 + 16, r.x10) (n.sender.stored + 1 + n.sender.marked) (omega arith) store)
+      (omega arith, store)
       (record { between = record { taken = h.0.taken; unmarked = h.0.unmarked }; last = n.sender.stored; next = refl }, h.0.index)
       (λ free. omega arith)
 
@@ -213,12 +205,12 @@ module _ (k : Block) (n : Numbers) (word : ℕ → ℕ) (v : ℕ) (r : SenderReg
 
   pub right_30 : Right_at 0x30  -- sw x6,4(x8)
   right_30 h =
-      let store : slice_get (sender_stores k.size k.base k.list) (sent n.sender) ≡ Some (k.base + 4, r.x6) =
-      store_mark k.size k.base k.list (sent n.sender) (omega (arith, h.0.unmarked, h.1)) ∙ rw h.2 refl in
+      let store : slice_get (sender_stores k) (sent n.sender) ≡ Some (k.base + 4, r.x6) =
+      store_mark k (sent n.sender) (omega (arith, h.0.unmarked, h.1)) ∙ rw h.2 refl in
       goes 0x34 (stores (k.base + 4) r.x6) (record n.sender { marked = 1 }) (λ u. r)
       (tt, word_of k is 4 (omega arith) refl)
       (store_line (at 12 refl) is.even refl (omega (arith, is.inside, is.some_slot)) is.small) (omega (arith, h.1))
-      (joins (k.base + 4, r.x6) (n.sender.stored + 1) (omega (arith, h.0.unmarked)) store)
+      (omega (arith, h.0.unmarked), store)
       (record { taken = h.0.taken ∙ h.1; all = h.1; mark = refl })
       (λ free. omega arith)
 
@@ -228,4 +220,4 @@ module _ (k : Block) (n : Numbers) (word : ℕ → ℕ) (v : ℕ) (r : SenderReg
   pub right_38 : Right_at 0x38  -- ecall
   right_38 h = goes 0x3C need.Exit n.sender (λ u. r) tt
       (record { wants = exit_need (at 14 refl) h.1; leaves = λ w. exit_after (at 14 refl) h.1 w }) order
-      (append-nil (pending_of k n.sender n.landed)) h.0 (λ free. omega arith)
+      refl h.0 (λ free. omega arith)

@@ -6,7 +6,8 @@ use Rattle.poll_close.specs.Rankings.{Ranking}
 use Rattle.poll_close.specs.Invariant.BlockMeaning.{BlockMeaning, ranking_of}
 use Rattle.poll_close.specs.Invariant.Channels.{means_by}
 use Rattle.fastforward.specs.Listing.{sender_code, receiver_code, middle}
-use Rattle.fastforward.specs.Invariant.Numbers.{Taken, Landed, Ordered, Words, pending_of, unread_of}
+use Rattle.fastforward.specs.Invariant.Stores.{sender_stores, receiver_stores}
+use Rattle.fastforward.specs.Invariant.Numbers.{Landed, sent, gone, taken, freed, Ordered, Words}
 use Rattle.fastforward.specs.Invariant.Sender.{sender}
 use Rattle.fastforward.specs.Invariant.Middle.{Level, Filled, rows}
 
@@ -21,18 +22,17 @@ waits s word = (s.pc == 0x10) && not (word (slice_index s.registers 28 + 16) == 
 abbrev pub fastforward_blocks : BlockMeaning
 fastforward_blocks = record {
   sender = sender;
-  Receiver = Taken;
+  Own = ℕ;
   Landed = Landed;
-  tails = λ n. n.tails;
-  dones = λ n. n.done;
-  took = λ n. n.took;
-  closings = λ n. n.closings;
-  seen_mark = λ n. n.mark;
   marks = λ n. n.mark;
   Ordered = Ordered;
   Words = Words;
-  unsent = pending_of;
-  unread = unread_of;
+  sender_stores = sender_stores;
+  receiver_stores = receiver_stores;
+  sent = sent;
+  gone = gone;
+  taken = taken;
+  freed = freed;
   Level = Level;
   Filled = Filled;
   middle = middle;

@@ -13,6 +13,7 @@ use Rattle.step_machine.specs.WordReads.{word_in_memory}
 use Rattle.poll_close.specs.Rankings.{Decreases, runs, rank_of, next_by, ready_if, is_ready}
 use Rattle.poll_close.specs.Invariant.Blocks.{Block, slot_store, tail_store}
 use Rattle.poll_close.specs.Invariant.Outlines.{Standing}
+use Rattle.poll_close.specs.Invariant.BlockMeaning.{unsent_of, unread_of}
 use Rattle.poll_close.proofs.Modulo.{same_offset}
 use Rattle.poll_close.proofs.Windows.{none_left, singles_length, pairs_length}
 use Rattle.poll_close.proofs.Blocks.{IsBlock}
@@ -22,26 +23,26 @@ use Rattle.poll_close.proofs.Progress.{falls}
 use Rattle.poll_close.proofs.Standing.{Sender, value_is}
 use Rattle.lamport_ring.specs.Lamport.{lamport, lamport_blocks, lamport_means, waits, lamport_ranking}
 use Rattle.lamport_ring.specs.Invariant.Stores.{head_store, sender_stores, receiver_stores}
-use Rattle.lamport_ring.specs.Invariant.Numbers.{Numbers, sent, gone, Ordered, Words, pending_of, unread_of, taken, freed}
+use Rattle.lamport_ring.specs.Invariant.Numbers.{Numbers, sent, gone, Ordered, Words, taken, freed}
 use Rattle.lamport_ring.specs.Invariant.Sender.{Marked, sender}
 use Rattle.lamport_ring.proofs.Sender.{lamport_sender}
 use Rattle.lamport_ring.proofs.LamportLaws.{lamport_laws, reasons}
 
 -- where nothing is pending all that was stored has landed
 module _ (k : Block) (n : Numbers) (order : Ordered k n) where
-  pub all_sent : pending_of k n.sender n.landed ≡ [] → sent n.sender ≤ gone n.landed
-  all_sent none = none_left (sender_stores k.size k.base k.list) (gone n.landed) (sent n.sender) none (omega (
+  pub all_sent : unsent_of lamport_blocks k n ≡ [] → sent n.sender ≤ gone n.landed
+  all_sent none = none_left (sender_stores k) (gone n.landed) (sent n.sender) none (omega (
     arith,
-    pairs_length (slot_store k.size k.base) (head_store k.size k.base) (k.base + 4, 1) k.list,
+    pairs_length (slot_store k) (head_store k) (k.base + 4, 1) k.list,
     order.stored_all,
     order.headed_stored,
     order.marked_one,
   ))
 
-  pub all_read : unread_of k n.receiver n.landed ≡ [] → taken n.receiver ≤ freed n.landed
-  all_read none = none_left (receiver_stores k.size k.base k.list) (freed n.landed) (taken n.receiver) none (omega (
+  pub all_read : unread_of lamport_blocks k n ≡ [] → taken n.receiver ≤ freed n.landed
+  all_read none = none_left (receiver_stores k) (freed n.landed) (taken n.receiver) none (omega (
     arith,
-    singles_length (tail_store k.size k.base) (k.base + 12, 1) k.list,
+    singles_length (tail_store k) (k.base + 12, 1) k.list,
     order.tails_seen,
     order.seen_heads,
     order.heads_slots,
@@ -53,7 +54,7 @@ module _ (k : Block) (n : Numbers) (order : Ordered k n) where
 -- one that waits at a full ring has words there, since a ring has two slots at least
 ready : (k : Block) (n : Numbers) (s : HartState) (word : ℕ → ℕ) → IsBlock k → 2 ≤ k.size → Ordered k n
     → Words k n.landed word → Standing sender k n.sender s → s.status ≡ status.Running
-    → pending_of k n.sender n.landed ≡ [] → unread_of k n.receiver n.landed ≡ [] → waits s word ≡ true
+    → unsent_of lamport_blocks k n ≡ [] → unread_of lamport_blocks k n ≡ [] → waits s word ≡ true
     → n.receiver.tails < n.landed.heads
 ready k n s word is two order words st running none empty wait =
     let test = and_parts (s.pc == 0x18) (word (slice_index s.registers 8 + 8) == slice_index s.registers 6) wait in
@@ -89,7 +90,7 @@ ready k n s word is two order words st running none empty wait =
     ]
 
 marked : (k : Block) (n : Numbers) (s : HartState) → IsBlock k → Ordered k n → Standing sender k n.sender s
-    → runs (Some s) ≡ false → pending_of k n.sender n.landed ≡ [] → n.landed.mark ≡ 1
+    → runs (Some s) ≡ false → unsent_of lamport_blocks k n ≡ [] → n.landed.mark ≡ 1
 marked k n s is order st off none =
     let h : Marked k n.sender = has_ended sender k n.sender s st off in
     omega (arith, h.mark, all_sent k n order none, order.slots_landed, order.heads_landed, order.mark_landed)

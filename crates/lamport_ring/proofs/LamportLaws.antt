@@ -1,10 +1,8 @@
 -- The laws of one block, all together, and so the laws of the ring.
-use Rattle.std.proofs.Common.{ℕ, suc, ◌+◌, ◌<◌, ◌≡◌, length, Some, refl, ◌∙◌, arith, append-nil, lit≤, ◌++◌, ◌∷◌, [], ◌≤◌}
-use Rattle.std.specs.List.{slice_get}
+use Rattle.std.proofs.Common.{ℕ, ◌+◌, ◌<◌, ◌≡◌, length, refl, ◌∙◌, arith, lit≤, ◌∷◌, [], ◌≤◌}
 use Rattle.std.proofs.Math.Nat.{zero-mod}
 use Rattle.poll_close.specs.Laws.{AreShort, Opens, Keeps, Cleans, Goes, Stays}
-use Rattle.poll_close.specs.Invariant.Blocks.{Block, offset, slot, window}
-use Rattle.poll_close.proofs.Windows.{window_made}
+use Rattle.poll_close.specs.Invariant.Blocks.{Block, offset, slot}
 use Rattle.poll_close.specs.Invariant.SenderState.{SenderRegisters}
 use Rattle.poll_close.proofs.Blocks.{IsBlock, Within, base_word, word_of, slot_of}
 use Rattle.poll_close.proofs.BlockLaws.{BlockLaws, Begins, Stepped, opens_with}
@@ -12,10 +10,9 @@ use Rattle.poll_close.proofs.Outlines.{Right, also, sends}
 use Rattle.poll_close.proofs.ChannelLaws.{opens, keeps, cleans, goes, stays}
 use Rattle.lamport_ring.specs.Listing.{sender_code}
 use Rattle.lamport_ring.specs.Lamport.{lamport, lamport_blocks, lamport_means}
-use Rattle.lamport_ring.specs.Invariant.Stores.{receiver_stores}
-use Rattle.lamport_ring.specs.Invariant.Numbers.{Numbers, Landed, sent, gone, taken, freed, Ordered, Words, unread_of}
+use Rattle.lamport_ring.specs.Invariant.Numbers.{Numbers, Landed, taken, Ordered, Words}
 use Rattle.lamport_ring.specs.Invariant.Sender.{sender}
-use Rattle.lamport_ring.proofs.Means.{receiver-decoded}
+use Rattle.lamport_ring.proofs.Means.{receiver_decoded}
 use Rattle.lamport_ring.proofs.Stores.{store_tail, store_done, sender_stores_are, receiver_stores_are}
 use Rattle.lamport_ring.proofs.Landings.{sender_lands, receiver_lands}
 use Rattle.lamport_ring.proofs.ReceiverReads.{seen_mark, seen_done}
@@ -27,13 +24,12 @@ use Rattle.poll_close.specs.Invariant.Outlines.{Reasons}
 abbrev nothing : Numbers
 nothing = record {
   sender = record { asked = 0; stored = 0; headed = 0; marked = 0; seen = 0 };
-  receiver = record { tails = 0; done = 0; took = 0; closings = 0; seen = 0; mark = 0 };
+  receiver = record { tails = 0; done = 0; took = 0; closings = 0; seen = 0; mark = 0; own = tt };
   landed = record { slots = 0; heads = 0; mark = 0; tails = 0; done = 0 };
 }
 
-begins : (k : Block) → IsBlock k → Begins lamport_blocks k (opens_with sender_code k)
+begins : (k : Block) → IsBlock k → Begins lamport_blocks nothing k (opens_with sender_code k)
 begins k is = record {
-  none = nothing;
   order = omega (arith, is.some_slot);
   words = record {
     head = omega (arith, zero-mod k.size);
@@ -50,9 +46,7 @@ begins k is = record {
   };
   unsent = refl;
   unread = refl;
-  level = tt;
-  tails = refl;
-  dones = refl;
+  quiet = record { words = refl; closed = refl; level = tt };
   took = refl;
   closings = refl;
 }
@@ -68,62 +62,32 @@ words_same k n word new is same w = record {
 
 -- the receiver's own numbers grow
 module _ (k : Block) (n : Numbers) (order : Ordered k n) where
-  -- a store joins those to the block
-  joins : (x : ℕ × ℕ) (t : ℕ) → t ≡ suc (taken n.receiver)
-      → slice_get (receiver_stores k.size k.base k.list) (taken n.receiver) ≡ Some x
-      → unread_of k n.receiver n.landed ++ x ∷ [] ≡ window (receiver_stores k.size k.base k.list) (freed n.landed) t
-  joins x t next store =
-      rw next (window_made (receiver_stores k.size k.base k.list) (freed n.landed) (taken n.receiver) x
-      (omega (arith, order.tails_landed, order.done_landed)) store)
-
   stores_tail : n.receiver.tails < n.receiver.seen → n.receiver.done ≡ 0
-      → Stepped lamport_blocks k n ((k.base + 8, offset k (n.receiver.tails + 1)) ∷ []) (n.receiver.tails + 1)
-      n.receiver.done n.receiver.took n.receiver.closings
+      → Stepped lamport_blocks k n (record n.receiver { tails = n.receiver.tails + 1; mark = n.landed.mark })
+      ((k.base + 8, offset k (n.receiver.tails + 1)) ∷ [])
   stores_tail more on = record {
-    after = record n.receiver { tails = n.receiver.tails + 1; mark = n.landed.mark };
     changes = record {
       order = omega (arith, more, on);
-      unread =
-          joins (k.base + 8, offset k (n.receiver.tails + 1)) (n.receiver.tails + 1 + n.receiver.done) (omega arith)
-          (store_tail k.size k.base k.list n.receiver.tails (taken n.receiver)
-          (omega (arith, more, order.seen_heads, order.heads_slots, order.slots_landed, order.stored_all))
-          (omega (arith, on)));
+      stores = (let within : n.receiver.tails < length k.list =
+          omega (arith, more, order.seen_heads, order.heads_slots, order.slots_landed, order.stored_all) in
+          (omega arith, store_tail k n.receiver.tails (taken n.receiver) within (omega (arith, on))));
     };
     level = tt;
-    tails = refl;
-    dones = refl;
-    took = refl;
-    closings = refl;
-    mark = refl;
   }
 
   stores_done : n.receiver.tails ≡ length k.list → n.receiver.done ≡ 0
-      → Stepped lamport_blocks k n ((k.base + 12, 1) ∷ []) n.receiver.tails 1 n.receiver.took n.receiver.closings
+      → Stepped lamport_blocks k n (record n.receiver { done = 1; mark = n.landed.mark }) ((k.base + 12, 1) ∷ [])
   stores_done all on = record {
-    after = record n.receiver { done = 1; mark = n.landed.mark };
     changes = record {
       order = omega (arith, all);
-      unread = joins (k.base + 12, 1) (n.receiver.tails + 1) (omega (arith, on)) (store_done k.size k.base k.list (taken n.receiver) (omega (arith, all, on)));
+      stores = (omega (arith, on), store_done k (taken n.receiver) (omega (arith, all, on)));
     };
     level = tt;
-    tails = refl;
-    dones = refl;
-    took = refl;
-    closings = refl;
-    mark = refl;
   }
 
-  reported : (words closed : ℕ) → closed ≤ n.receiver.done → Stepped lamport_blocks k n [] n.receiver.tails n.receiver.done words closed
-  reported words closed known = record {
-    after = record n.receiver { took = words; closings = closed; mark = n.landed.mark };
-    changes = record { order = omega arith; unread = append-nil (unread_of k n.receiver n.landed) };
-    level = tt;
-    tails = refl;
-    dones = refl;
-    took = refl;
-    closings = refl;
-    mark = refl;
-  }
+  reported : (words closed : ℕ) → closed ≤ n.receiver.done
+      → Stepped lamport_blocks k n (record n.receiver { took = words; closings = closed; mark = n.landed.mark }) []
+  reported words closed known = record { changes = record { order = omega arith; stores = refl }; level = tt }
 
 -- the reason of each row of the sender's outline
 pub reasons : (k : Block) (n : Numbers) (word : ℕ → ℕ) (v : ℕ) (r : SenderRegisters) → IsBlock k → Ordered k n
@@ -149,19 +113,22 @@ reasons k n word v r is order words =
 
 pub lamport_laws : BlockLaws lamport_blocks
 lamport_laws = record {
-  decodes = receiver-decoded;
+  decodes = receiver_decoded;
+  none = nothing;
   begins = begins;
   tails_all = λ k n order. omega (arith, order.tails_seen, order.seen_heads, order.heads_slots, order.slots_landed, order.stored_all);
   shut_done = λ k n order. order.shut_done;
   dones_one = λ k n order. order.done_one;
   marks_one = λ k n order. omega (arith, order.mark_landed, order.marked_one);
   filled_more = λ k n order more. omega (arith, more, order.heads_slots, order.slots_landed, order.stored_all);
-  unsent_are = λ k n is order. sender_stores_are k is (gone n.landed) (sent n.sender);
-  unread_are = λ k n is order. receiver_stores_are k is (freed n.landed) (taken n.receiver);
+  gone_sent = λ k n order. omega (arith, order.slots_landed, order.heads_landed, order.mark_landed);
+  freed_taken = λ k n order. omega (arith, order.tails_landed, order.done_landed);
+  sender_stores_are = sender_stores_are;
+  receiver_stores_are = receiver_stores_are;
   words_same = words_same;
   sends = λ k n s word v is order words st running find. sends lamport_blocks lamport_sender reasons k n s word v is order words st running find;
-  sender_lands = λ k n word new x rest is order words oldest write. sender_lands k is n order word new words x rest oldest write;
-  receiver_lands = λ k n word new x rest is order words oldest write. receiver_lands k is n order word new words x rest oldest write;
+  sender_lands = λ k n word new x is order words more oldest write. sender_lands k is n order word new words x more oldest write;
+  receiver_lands = λ k n word new x is order words more oldest write. receiver_lands k is n order word new words x more oldest write;
   sees_done = λ k n word order words. seen_done k n word order words;
   sees_mark = λ k n word order words. seen_mark k n word order words;
   stores_tail = λ k n order more on. stores_tail k n order more on;

@@ -1,15 +1,14 @@
 -- The words of a block, by its numbers, and what each landing makes of them.
-use Rattle.std.proofs.Common.{ℕ, suc, ◌+◌, ◌*◌, ◌%◌, ◌<◌, ◌≤◌, ◌≡◌, ◌≢◌, ◌⊎◌, inl, inr, List, ◌∷◌, length, Some, refl, sym, ◌∙◌, ap, arith}
+use Rattle.std.proofs.Common.{ℕ, suc, ◌+◌, ◌*◌, ◌%◌, ◌<◌, ◌≤◌, ◌≡◌, ◌≢◌, ◌⊎◌, inl, inr, length, Some, refl, sym, ◌∙◌, ap, arith}
 use Rattle.std.specs.Prelude.{slice_index}
 use Rattle.std.specs.List.{slice_get}
 use Rattle.std.proofs.lemmas.Bool.{cases_lt, cases_eq}
 use Rattle.poll_close.proofs.Modulo.{mod_apart}
-use Rattle.poll_close.proofs.Windows.{some_in, oldest_lands}
-use Rattle.poll_close.proofs.Writes.{IsWrite, hit, miss}
+use Rattle.poll_close.proofs.Writes.{IsWrite, hit, miss, same_write}
 use Rattle.lamport_ring.specs.Invariant.Stores.{sender_stores, receiver_stores}
 use Rattle.lamport_ring.proofs.Stores.{store_slot, store_head, store_mark, store_tail, store_done}
-use Rattle.poll_close.specs.Invariant.Blocks.{Block, offset, slot, window}
-use Rattle.lamport_ring.specs.Invariant.Numbers.{Numbers, sent, gone, freed, taken, Ordered, Words, pending_of, unread_of}
+use Rattle.poll_close.specs.Invariant.Blocks.{Block, offset, slot}
+use Rattle.lamport_ring.specs.Invariant.Numbers.{Numbers, sent, gone, freed, taken, Ordered, Words}
 use Rattle.poll_close.proofs.Blocks.{IsBlock}
 use Rattle.poll_close.proofs.BlockLaws.{Lands}
 use Rattle.lamport_ring.specs.Lamport.{lamport_blocks}
@@ -17,8 +16,7 @@ use Rattle.lamport_ring.specs.Lamport.{lamport_blocks}
 module _ (k : Block) (is : IsBlock k) (n : Numbers) (order : Ordered k n) (word new : ℕ → ℕ) (words : Words k n.landed word) where
   slot_lands : n.landed.slots ≡ n.landed.heads → n.landed.heads < length k.list → gone n.landed < sent n.sender
       → IsWrite word new (slot k.size k.base n.landed.slots, slice_index k.list n.landed.slots)
-      → Lands lamport_blocks k n new (window (sender_stores k.size k.base k.list) (suc (gone n.landed)) (sent n.sender))
-      (unread_of k n.receiver n.landed)
+      → Lands lamport_blocks k n new (suc (gone n.landed)) (freed n.landed)
   slot_lands even more some write =
       record {
         after = record n.landed { slots = n.landed.slots + 1 };
@@ -30,8 +28,8 @@ module _ (k : Block) (is : IsBlock k) (n : Numbers) (order : Ordered k n) (word 
           done = miss word new at w write (k.base + 12) (omega arith) ∙ words.done;
           slots = slots;
         };
-        unsent = ap (λ i. window (sender_stores k.size k.base k.list) i (sent n.sender)) {x = suc (gone n.landed)} (omega arith);
-        unread = refl;
+        mine = omega arith;
+        theirs = refl;
       }
     where
       at : ℕ
@@ -55,8 +53,7 @@ module _ (k : Block) (is : IsBlock k) (n : Numbers) (order : Ordered k n) (word 
 
   head_lands : n.landed.slots ≡ n.landed.heads + 1 → gone n.landed < sent n.sender
       → IsWrite word new (k.base, offset k (n.landed.heads + 1))
-      → Lands lamport_blocks k n new (window (sender_stores k.size k.base k.list) (suc (gone n.landed)) (sent n.sender))
-      (unread_of k n.receiver n.landed)
+      → Lands lamport_blocks k n new (suc (gone n.landed)) (freed n.landed)
   head_lands odd more write =
       record {
         after = record n.landed { heads = n.landed.heads + 1 };
@@ -68,8 +65,8 @@ module _ (k : Block) (is : IsBlock k) (n : Numbers) (order : Ordered k n) (word 
           done = miss word new k.base w write (k.base + 12) (omega arith) ∙ words.done;
           slots = λ j from below. miss word new k.base w write (slot k.size k.base j) (omega arith) ∙ words.slots j from below;
         };
-        unsent = ap (λ i. window (sender_stores k.size k.base k.list) i (sent n.sender)) {x = suc (gone n.landed)} (omega arith);
-        unread = refl;
+        mine = omega arith;
+        theirs = refl;
       }
     where
       w : ℕ
@@ -89,8 +86,7 @@ module _ (k : Block) (is : IsBlock k) (n : Numbers) (order : Ordered k n) (word 
       )
 
   mark_lands : n.landed.heads ≡ length k.list → gone n.landed < sent n.sender → IsWrite word new (k.base + 4, 1)
-      → Lands lamport_blocks k n new (window (sender_stores k.size k.base k.list) (suc (gone n.landed)) (sent n.sender))
-      (unread_of k n.receiver n.landed)
+      → Lands lamport_blocks k n new (suc (gone n.landed)) (freed n.landed)
   mark_lands all more write =
       record {
         after = record n.landed { mark = n.landed.mark + 1 };
@@ -102,8 +98,8 @@ module _ (k : Block) (is : IsBlock k) (n : Numbers) (order : Ordered k n) (word 
           done = miss word new (k.base + 4) 1 write (k.base + 12) (omega arith) ∙ words.done;
           slots = λ j from below. miss word new (k.base + 4) 1 write (slot k.size k.base j) (omega arith) ∙ words.slots j from below;
         };
-        unsent = ap (λ i. window (sender_stores k.size k.base k.list) i (sent n.sender)) {x = suc (gone n.landed)} (omega arith);
-        unread = refl;
+        mine = omega arith;
+        theirs = refl;
       }
     where
       room : n.landed.mark < n.sender.marked
@@ -114,8 +110,7 @@ module _ (k : Block) (is : IsBlock k) (n : Numbers) (order : Ordered k n) (word 
       one = omega (arith, room, order.marked_one)
 
   tail_lands : n.landed.tails < n.receiver.tails → IsWrite word new (k.base + 8, offset k (n.landed.tails + 1))
-      → Lands lamport_blocks k n new (pending_of k n.sender n.landed)
-      (window (receiver_stores k.size k.base k.list) (suc (freed n.landed)) (taken n.receiver))
+      → Lands lamport_blocks k n new (gone n.landed) (suc (freed n.landed))
   tail_lands more write =
       record {
         after = record n.landed { tails = n.landed.tails + 1 };
@@ -127,16 +122,15 @@ module _ (k : Block) (is : IsBlock k) (n : Numbers) (order : Ordered k n) (word 
           done = miss word new (k.base + 8) w write (k.base + 12) (omega arith) ∙ words.done;
           slots = λ j from below. miss word new (k.base + 8) w write (slot k.size k.base j) (omega arith) ∙ words.slots j (omega (arith, from)) below;
         };
-        unsent = refl;
-        unread = ap (λ i. window (receiver_stores k.size k.base k.list) i (taken n.receiver)) {x = suc (freed n.landed)} (omega arith);
+        mine = refl;
+        theirs = omega arith;
       }
     where
       w : ℕ
       w = offset k (n.landed.tails + 1)
 
   done_lands : n.landed.tails ≡ length k.list → n.landed.done < n.receiver.done → IsWrite word new (k.base + 12, 1)
-      → Lands lamport_blocks k n new (pending_of k n.sender n.landed)
-      (window (receiver_stores k.size k.base k.list) (suc (freed n.landed)) (taken n.receiver))
+      → Lands lamport_blocks k n new (gone n.landed) (suc (freed n.landed))
   done_lands all more write =
       record {
         after = record n.landed { done = n.landed.done + 1 };
@@ -148,44 +142,36 @@ module _ (k : Block) (is : IsBlock k) (n : Numbers) (order : Ordered k n) (word 
           done = hit word new (k.base + 12) 1 write (k.base + 12) refl ∙ one;
           slots = λ j from below. miss word new (k.base + 12) 1 write (slot k.size k.base j) (omega arith) ∙ words.slots j from below;
         };
-        unsent = refl;
-        unread = ap (λ i. window (receiver_stores k.size k.base k.list) i (taken n.receiver)) {x = suc (freed n.landed)} (omega arith);
+        mine = refl;
+        theirs = omega arith;
       }
     where
       one : 1 ≡ n.landed.done + 1
       one = omega (arith, more, order.done_one)
 
   -- whichever of the sender's stores is the oldest pending one, it lands
-  pub sender_lands : (x : ℕ × ℕ) (rest : List (ℕ × ℕ)) → pending_of k n.sender n.landed ≡ x ∷ rest
-      → IsWrite word new x → Lands lamport_blocks k n new rest (unread_of k n.receiver n.landed)
-  sender_lands x rest first write = at (cases_lt n.landed.heads (length k.list)) (cases_eq n.landed.slots n.landed.heads)
+  pub sender_lands : (x : ℕ × ℕ) → gone n.landed < sent n.sender → slice_get (sender_stores k) (gone n.landed) ≡ Some x
+      → IsWrite word new x → Lands lamport_blocks k n new (suc (gone n.landed)) (freed n.landed)
+  sender_lands x more oldest write = at (cases_lt n.landed.heads (length k.list)) (cases_eq n.landed.slots n.landed.heads)
     where
-      more : gone n.landed < sent n.sender
-      more = some_in (sender_stores k.size k.base k.list) (gone n.landed) (sent n.sender) x rest first
-
-      with : (y : ℕ × ℕ) → slice_get (sender_stores k.size k.base k.list) (gone n.landed) ≡ Some y
-          → (IsWrite word new y → Lands lamport_blocks k n new
-          (window (sender_stores k.size k.base k.list) (suc (gone n.landed)) (sent n.sender))
-          (unread_of k n.receiver n.landed)) → Lands lamport_blocks k n new rest (unread_of k n.receiver n.landed)
-      with y at lands =
-          oldest_lands (λ ps. Lands lamport_blocks k n new ps (unread_of k n.receiver n.landed)) (IsWrite word new)
-          (sender_stores k.size k.base k.list) (gone n.landed) (sent n.sender) x y rest first write at lands
+      is_of : (y : ℕ × ℕ) → slice_get (sender_stores k) (gone n.landed) ≡ Some y → IsWrite word new y
+      is_of y at = same_write word new x y (sender_stores k) (gone n.landed) oldest at write
 
       unmarked : n.landed.heads < length k.list → n.landed.mark ≡ 0
       unmarked some = grind (arith, order.mark_all)
 
       at : (n.landed.heads < length k.list) ⊎ (length k.list ≤ n.landed.heads)
           → (n.landed.slots ≡ n.landed.heads) ⊎ (n.landed.slots ≢ n.landed.heads)
-          → Lands lamport_blocks k n new rest (unread_of k n.receiver n.landed)
-      at (inl some) (inl even) = with (slot k.size k.base n.landed.slots, slice_index k.list n.landed.slots)
-          (store_slot k.size k.base k.list n.landed.slots (gone n.landed) (omega arith) (omega (arith, unmarked some)))
-          (λ w. slot_lands even some more w)
-      at (inl some) (inr odd) = with (k.base, offset k (n.landed.heads + 1))
-          (store_head k.size k.base k.list n.landed.heads (gone n.landed) some
-          (omega (arith, unmarked some, order.heads_slots, order.slots_heads)))
-          (λ w. head_lands (omega (arith, order.heads_slots, order.slots_heads)) more w)
-      at (inr all) ls = with (k.base + 4, 1) (store_mark k.size k.base k.list (gone n.landed) (mark_next all))
-          (λ w. mark_lands (omega (arith, order.heads_slots, order.slots_landed, order.stored_all)) more w)
+          → Lands lamport_blocks k n new (suc (gone n.landed)) (freed n.landed)
+      at (inl some) (inl even) =
+          slot_lands even some more (is_of (slot k.size k.base n.landed.slots, slice_index k.list n.landed.slots)
+          (store_slot k n.landed.slots (gone n.landed) (omega arith) (omega (arith, unmarked some))))
+      at (inl some) (inr odd) =
+          head_lands (omega (arith, order.heads_slots, order.slots_heads)) more (is_of (k.base, offset k (n.landed.heads + 1))
+          (store_head k n.landed.heads (gone n.landed) some (omega (arith, unmarked some, order.heads_slots, order.slots_heads))))
+      at (inr all) ls =
+          mark_lands (omega (arith, order.heads_slots, order.slots_landed, order.stored_all)) more
+          (is_of (k.base + 4, 1) (store_mark k (gone n.landed) (mark_next all)))
         where
           mark_next : length k.list ≤ n.landed.heads → gone n.landed ≡ 2 * length k.list
           mark_next full = grind (
@@ -200,20 +186,12 @@ module _ (k : Block) (is : IsBlock k) (n : Numbers) (order : Ordered k n) (word 
             order.marked_one,
           )
 
-  pub receiver_lands : (x : ℕ × ℕ) (rest : List (ℕ × ℕ)) → unread_of k n.receiver n.landed ≡ x ∷ rest
-      → IsWrite word new x → Lands lamport_blocks k n new (pending_of k n.sender n.landed) rest
-  receiver_lands x rest first write = at (cases_lt n.landed.tails n.receiver.tails)
+  pub receiver_lands : (x : ℕ × ℕ) → freed n.landed < taken n.receiver → slice_get (receiver_stores k) (freed n.landed) ≡ Some x
+      → IsWrite word new x → Lands lamport_blocks k n new (gone n.landed) (suc (freed n.landed))
+  receiver_lands x more oldest write = at (cases_lt n.landed.tails n.receiver.tails)
     where
-      more : freed n.landed < taken n.receiver
-      more = some_in (receiver_stores k.size k.base k.list) (freed n.landed) (taken n.receiver) x rest first
-
-      with : (y : ℕ × ℕ) → slice_get (receiver_stores k.size k.base k.list) (freed n.landed) ≡ Some y
-          → (IsWrite word new y → Lands lamport_blocks k n new (pending_of k n.sender n.landed)
-          (window (receiver_stores k.size k.base k.list) (suc (freed n.landed)) (taken n.receiver)))
-          → Lands lamport_blocks k n new (pending_of k n.sender n.landed) rest
-      with y at lands =
-          oldest_lands (λ ps. Lands lamport_blocks k n new (pending_of k n.sender n.landed) ps) (IsWrite word new)
-          (receiver_stores k.size k.base k.list) (freed n.landed) (taken n.receiver) x y rest first write at lands
+      is_of : (y : ℕ × ℕ) → slice_get (receiver_stores k) (freed n.landed) ≡ Some y → IsWrite word new y
+      is_of y at = same_write word new x y (receiver_stores k) (freed n.landed) oldest at write
 
       within : n.receiver.tails ≤ length k.list
       within = omega (arith, order.tails_seen, order.seen_heads, order.heads_slots, order.slots_landed, order.stored_all)
@@ -221,14 +199,11 @@ module _ (k : Block) (is : IsBlock k) (n : Numbers) (order : Ordered k n) (word 
       not_done : n.landed.tails < n.receiver.tails → n.landed.done ≡ 0
       not_done some = grind (arith, order.all_landed, within)
 
-      at : (n.landed.tails < n.receiver.tails) ⊎ (n.receiver.tails ≤ n.landed.tails) → Lands lamport_blocks k n new (pending_of k n.sender n.landed) rest
-      at (inl some) = with (k.base + 8, offset k (n.landed.tails + 1))
-          (store_tail k.size k.base k.list n.landed.tails (freed n.landed) (omega (arith, within))
-          (omega (arith, not_done some))) (λ w. tail_lands some w)
+      at : (n.landed.tails < n.receiver.tails) ⊎ (n.receiver.tails ≤ n.landed.tails) → Lands lamport_blocks k n new (gone n.landed) (suc (freed n.landed))
+      at (inl some) = tail_lands some (is_of (k.base + 8, offset k (n.landed.tails + 1))
+          (store_tail k n.landed.tails (freed n.landed) (omega (arith, within)) (omega (arith, not_done some))))
       at (inr none) =
           let same : n.landed.tails ≡ n.receiver.tails = omega (arith, order.tails_landed) in
           let some : 0 < n.receiver.done = omega (arith, more) in
           let all : n.receiver.tails ≡ length k.list = order.done_all some in
-          with (k.base + 12, 1)
-          (store_done k.size k.base k.list (freed n.landed) (omega (arith, more, order.done_one)))
-          (λ w. done_lands (omega arith) (omega (arith, more)) w)
+          done_lands (omega arith) (omega (arith, more)) (is_of (k.base + 12, 1) (store_done k (freed n.landed) (omega (arith, more, order.done_one))))

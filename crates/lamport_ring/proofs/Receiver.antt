@@ -1,6 +1,6 @@
 -- The reasons of the receiver's rows at its five lines between.
-use Rattle.std.proofs.Common.{ℕ, ◌+◌, ◌*◌, ◌%◌, ◌<◌, ◌≡◌, ◌≢◌, ◌==◌, ◌⊎◌, inl, inr, Bool, true, false, not, ◌&&◌, []}
-use Rattle.std.proofs.Common.{◌∷◌, length, Some, refl, sym, ◌∙◌, ap, arith, append-nil}
+use Rattle.std.proofs.Common.{ℕ, ◌+◌, ◌*◌, ◌%◌, ◌<◌, ◌≡◌, ◌≢◌, ◌==◌, ◌⊎◌, inl, inr, Bool, true, false, not, ◌&&◌}
+use Rattle.std.proofs.Common.{length, Some, refl, sym, ◌∙◌, ap, arith}
 use Rattle.std.specs.Prelude.{slice_index, map}
 use Rattle.std.specs.List.{slice_get}
 use Rattle.std.proofs.lemmas.Bool.{cases_eq, and_parts}
@@ -20,15 +20,15 @@ use Rattle.poll_close.proofs.Distance.{flags, far_off}
 use Rattle.poll_close.proofs.ReceiverMoves as step
 use Rattle.lamport_ring.specs.Listing.{middle, receiver_lines}
 use Rattle.lamport_ring.specs.Lamport.{lamport_blocks}
-use Rattle.lamport_ring.specs.Invariant.Numbers.{Numbers, Ordered, Words, unread_of}
-use Rattle.lamport_ring.proofs.Means.{receiver-decoded}
+use Rattle.lamport_ring.specs.Invariant.Numbers.{Numbers, Ordered, Words}
+use Rattle.lamport_ring.proofs.Means.{receiver_decoded}
 use Rattle.lamport_ring.proofs.ReceiverReads.{seen_head, seen_tail, seen_slot}
 
 module _ (k : Block) (i count : ℕ) (n : Numbers) (word : ℕ → ℕ) (r : ReceiverRegisters) (v : ℕ) (is : IsBlock k)
     (order : Ordered k n) (words : Words k n.landed word) where
   at : (j : ℕ) {instr : Instr} → slice_get (map Some receiver_lines) j ≡ Some (Some instr)
       → IsAt (receiving middle (whole_of k count) (4 * j) r) instr
-  at j found = step.at_of middle receiver-decoded (whole_of k count) r j found
+  at j found = step.at_of middle receiver_decoded (whole_of k count) r j found
 
   abbrev Right_here : ℕ → Type 0
   Right_here here = Right_at lamport_blocks k i count n word r v here
@@ -42,7 +42,7 @@ module _ (k : Block) (i count : ℕ) (n : Numbers) (word : ℕ → ℕ) (r : Rec
       ∙ seen_head k n word order words in
       step.acts lamport_blocks k i count n order r v 0x14 0x18 (loads (r.x8 + 0)) (λ w. record r { x6 = w })
       (record n.receiver { seen = n.landed.heads }) (tt, word_from k is r.x8 0 h.0.visits.base (omega arith) refl)
-      line (record { order = omega arith; unread = append-nil (unread_of k n.receiver n.landed) })
+      line (record { order = omega arith; stores = refl })
       (inl (
         record {
           visits = h.0.visits;
@@ -58,7 +58,7 @@ module _ (k : Block) (i count : ℕ) (n : Numbers) (word : ℕ → ℕ) (r : Rec
       (older read took (idle.took h.0.visits.index h.0.quiet.words) ended
       (idle.ready h.0.visits.index))))
     where
-      last : Flag lamport_blocks n.receiver r.x30 → (r.x30 ≡ 0) ⊎ (n.landed.heads ≡ length k.list)
+      last : Flag n.receiver r.x30 → (r.x30 ≡ 0) ⊎ (n.landed.heads ≡ length k.list)
       last (inl none) = inl none
       last (inr some) = inr (order.mark_all (omega (arith, some.1, order.seen_mark)))
 

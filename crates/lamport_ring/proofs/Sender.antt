@@ -1,7 +1,7 @@
 -- Why each row of the sender's outline is right: from its assertion, the act there leads to the next row's.
-use Rattle.std.proofs.Common.{ℕ, suc, ◌+◌, ◌*◌, ◌%◌, ◌≤◌, ◌≡◌, ◌≢◌, ◌==◌, ◌⊎◌, inl, inr, true, false, List, [], ◌∷◌}
-use Rattle.std.proofs.Common.{◌++◌, length, drop, length-drop, Some, None, refl, sym, ◌∙◌, ap, arith, add-zero}
-use Rattle.std.proofs.Common.{append-nil, lit<}
+use Rattle.std.proofs.Common.{ℕ, suc, ◌+◌, ◌*◌, ◌%◌, ◌≤◌, ◌≡◌, ◌≢◌, ◌==◌, ◌⊎◌, inl, inr, true, false}
+use Rattle.std.proofs.Common.{length, drop, length-drop, Some, None, refl, sym, ◌∙◌, ap, arith, add-zero}
+use Rattle.std.proofs.Common.{lit<}
 use Rattle.std.proofs.Math.Nat.{add-mod_right}
 use Rattle.std.specs.Prelude.{slice_index, map}
 use Rattle.std.specs.List.{slice_get}
@@ -10,13 +10,14 @@ use Rattle.std.proofs.lemmas.Bool.Decides.{nat_tests}
 use Rattle.rv_decode.specs.declared.instruction.Instr.{Instr}
 use Rattle.hart.specs.declared.need.Need.TheVariants as need
 use Rattle.hart.proofs.Instructions.{IsAt, exit_need, exit_after}
-use Rattle.poll_close.specs.Invariant.Blocks.{Block, offset, slot, window, slot_store}
+use Rattle.poll_close.specs.Invariant.Blocks.{Block, offset, slot, slot_store}
 use Rattle.poll_close.specs.Invariant.SenderState.{SenderRegisters, fixed, running}
+use Rattle.poll_close.specs.Invariant.BlockMeaning.{unsent_of}
 use Rattle.poll_close.proofs.Lines.{loads, stores, word_plus, add_line, sum_line, load_line, store_line, jump_line}
 use Rattle.poll_close.proofs.Lines.{same_jumps, other_goes_on, other_jumps, same_goes_on}
 use Rattle.poll_close.proofs.SenderLines.{line_04-word, line_04-none}
 use Rattle.poll_close.proofs.Modulo.{offset_step, offset_wrap}
-use Rattle.poll_close.proofs.Windows.{pairs_each, window_made}
+use Rattle.poll_close.proofs.Windows.{pairs_each}
 use Rattle.poll_close.proofs.Found.{in_memory}
 use Rattle.poll_close.proofs.Blocks.{IsBlock, offset_low, word_of, slot_at}
 use Rattle.poll_close.proofs.BlockLaws.{found_in}
@@ -25,30 +26,22 @@ use Rattle.poll_close.proofs.Outlines as outline
 use Rattle.lamport_ring.specs.Listing.{sender_code, sender_lines}
 use Rattle.lamport_ring.specs.Lamport.{lamport_blocks}
 use Rattle.lamport_ring.specs.Invariant.Stores.{head_store, sender_stores}
-use Rattle.lamport_ring.specs.Invariant.Numbers.{Sent, Numbers, sent, gone, Ordered, Words, pending_of}
-use Rattle.lamport_ring.proofs.Means.{sender-decoded}
+use Rattle.lamport_ring.specs.Invariant.Numbers.{Sent, Numbers, sent, gone, Ordered, Words}
+use Rattle.lamport_ring.proofs.Means.{sender_decoded}
 use Rattle.lamport_ring.proofs.Stores.{store_slot, store_head, store_mark}
 
 -- what the sender finds at the tail is the word of memory, since it never stores there
 tail_found : (k : Block) (n : Numbers) (word : ℕ → ℕ) → Words k n.landed word
-    → found_in (pending_of k n.sender n.landed) word (k.base + 8) ≡ offset k n.landed.tails
+    → found_in (unsent_of lamport_blocks k n) word (k.base + 8) ≡ offset k n.landed.tails
 tail_found k n word words =
-    in_memory (sender_stores k.size k.base k.list) (gone n.landed) (sent n.sender) word (k.base + 8)
-    (λ t x from below. pairs_each (λ y. y.0 ≢ k.base + 8) (slot_store k.size k.base) (head_store k.size k.base) (k.base + 4, 1) k.list
+    in_memory (sender_stores k) (gone n.landed) (sent n.sender) word (k.base + 8)
+    (λ t x from below. pairs_each (λ y. y.0 ≢ k.base + 8) (slot_store k) (head_store k) (k.base + 4, 1) k.list
     (λ j less. (λ same. omega arith, λ same. omega arith)) (λ same. omega arith) t x) ∙ words.tail
 
 abbrev pub lamport_sender : Sender lamport_blocks
-lamport_sender = record { lines = sender_lines; decoded = sender-decoded }
+lamport_sender = record { lines = sender_lines; decoded = sender_decoded }
 
 module _ (k : Block) (n : Numbers) (word : ℕ → ℕ) (v : ℕ) (r : SenderRegisters) (is : IsBlock k) (order : Ordered k n) (words : Words k n.landed word) where
-  -- a store joins those that are pending
-  joins : (x : ℕ × ℕ) (later : ℕ) → later ≡ suc (sent n.sender)
-      → slice_get (sender_stores k.size k.base k.list) (sent n.sender) ≡ Some x
-      → pending_of k n.sender n.landed ++ x ∷ [] ≡ window (sender_stores k.size k.base k.list) (gone n.landed) later
-  joins x later next store =
-      rw next (window_made (sender_stores k.size k.base k.list) (gone n.landed) (sent n.sender) x
-      (omega (arith, order.slots_landed, order.heads_landed, order.mark_landed)) store)
-
   at : (j : ℕ) {i : Instr} → slice_get (map Some sender_lines) j ≡ Some (Some i) → IsAt (running sender_code (fixed k) (4 * j) r (drop n.sender.asked k.list)) i
   at j found = outline.at lamport_blocks lamport_sender k n word v r j found
 
@@ -75,7 +68,7 @@ module _ (k : Block) (n : Numbers) (word : ℕ → ℕ) (v : ℕ) (r : SenderReg
             goes 0x08 (need.Next (Some w)) made (λ u. record r { x10 = w; x11 = 1 }) tt
             (line_04-word sender_code (lit< tt) (fixed k) r
             (λ inbox. outline.at_in lamport_blocks lamport_sender k n word v r r inbox 1 refl) h.2 k.list
-            n.sender.asked (omega (arith, h.0.taken))) (omega arith) (append-nil (pending_of k n.sender n.landed))
+            n.sender.asked (omega (arith, h.0.taken))) (omega arith) refl
             (record {
               heads = h.0.heads;
               unmarked = h.0.unmarked;
@@ -87,7 +80,7 @@ module _ (k : Block) (n : Numbers) (word : ℕ → ℕ) (v : ℕ) (r : SenderReg
             goes 0x08 (need.Next None) n.sender (λ u. record r { x11 = 0 }) tt
             (line_04-none sender_code (lit< tt) (fixed k) r
             (λ inbox. outline.at_in lamport_blocks lamport_sender k n word v r r inbox 1 refl) h.2 k.list
-            n.sender.asked (omega (arith, h.0.taken))) order (append-nil (pending_of k n.sender n.landed))
+            n.sender.asked (omega (arith, h.0.taken))) order refl
             (record { heads = h.0.heads; unmarked = h.0.unmarked; index = h.1; answer = inr (refl, h.0.taken, omega (arith, all, order.stored_all)) })
             (λ free. omega arith)
       ]
@@ -135,9 +128,9 @@ module _ (k : Block) (n : Numbers) (word : ℕ → ℕ) (v : ℕ) (r : SenderReg
   pub right_18 : Right_at 0x18  -- test: lw x7,8(x8)
   right_18 h find =
       let line = load_line (at 6 refl) is.even refl (omega (arith, is.inside, is.some_slot)) is.small in
-      let read : v ≡ found_in (pending_of k n.sender n.landed) word (k.base + 8) = find (k.base + 8) (word_of k is 8 (omega arith) refl) line.wants in
+      let read : v ≡ found_in (unsent_of lamport_blocks k n) word (k.base + 8) = find (k.base + 8) (word_of k is 8 (omega arith) refl) line.wants in
       goes 0x1C (loads (k.base + 8)) (record n.sender { seen = n.landed.tails }) (λ u. record r { x7 = u })
-      (tt, word_of k is 8 (omega arith) refl) line (omega arith) (append-nil (pending_of k n.sender n.landed)) (
+      (tt, word_of k is 8 (omega arith) refl) line (omega arith) refl (
         record {
           taken = h.0.taken;
           heads = h.0.heads;
@@ -179,29 +172,27 @@ module _ (k : Block) (n : Numbers) (word : ℕ → ℕ) (v : ℕ) (r : SenderReg
   pub right_24 : Right_at 0x24  -- sw x10,16(x28)
   right_24 h =
       let place : slot k.size k.base n.sender.stored ≡ r.x28 + 16 = omega (arith, h.0.index, h.3) in
-      let store : slice_get (sender_stores k.size k.base k.list) (sent n.sender) ≡ Some (r.x28 + 16, r.x10) =
-      store_slot k.size k.base k.list n.sender.stored (sent n.sender) h.0.within
+      let store : slice_get (sender_stores k) (sent n.sender) ≡ Some (r.x28 + 16, r.x10) =
+      store_slot k n.sender.stored (sent n.sender) h.0.within
       (omega (arith, h.0.heads, h.0.unmarked)) ∙ rw (place, h.0.word) refl in
       goes 0x28 (stores (r.x28 + 16) r.x10) (record n.sender { stored = n.sender.stored + 1 }) (λ u. r)
       (tt, slot_at k is (r.x28 + 16) n.sender.stored (sym place))
       (store_line (at 9 refl) (omega (arith, is.even, h.0.index, h.3)) refl
       (omega (arith, is.inside, h.0.index, h.3, offset_low k is n.sender.stored)) is.small)
       (omega (arith, h.0.heads, h.0.unmarked, h.0.within, h.2))
-      (joins (r.x28 + 16, r.x10) (n.sender.stored + 1 + n.sender.headed + n.sender.marked) (omega arith) store)
-      (record { taken = h.0.taken; heads = omega (arith, h.0.heads); unmarked = h.0.unmarked; next = h.1 })
+      (omega arith, store) (record { taken = h.0.taken; heads = omega (arith, h.0.heads); unmarked = h.0.unmarked; next = h.1 })
       (λ free. omega arith)
 
   pub right_28 : Right_at 0x28  -- sw x6,0(x8)
   right_28 h =
-      let store : slice_get (sender_stores k.size k.base k.list) (sent n.sender) ≡ Some (k.base + 0, r.x6) =
-      store_head k.size k.base k.list n.sender.headed (sent n.sender) (omega (arith, h.heads, order.stored_all))
+      let store : slice_get (sender_stores k) (sent n.sender) ≡ Some (k.base + 0, r.x6) =
+      store_head k n.sender.headed (sent n.sender) (omega (arith, h.heads, order.stored_all))
       (omega (arith, h.heads, h.unmarked)) ∙ ap Some (rw (add-zero k.base, h.next, ← h.heads) refl) in
       goes 0x2C (stores (k.base + 0) r.x6) (record n.sender { headed = n.sender.headed + 1 }) (λ u. r)
       (tt, word_of k is 0 (omega arith) refl)
       (store_line (at 10 refl) is.even refl (omega (arith, is.inside, is.some_slot)) is.small)
       (omega (arith, h.heads))
-      (joins (k.base + 0, r.x6) (n.sender.stored + (n.sender.headed + 1) + n.sender.marked) (omega arith) store)
-      (record { taken = h.taken; heads = h.heads; unmarked = h.unmarked }, h.next)
+      (omega arith, store) (record { taken = h.taken; heads = h.heads; unmarked = h.unmarked }, h.next)
       (λ free. omega arith)
 
   pub right_2C : Right_at 0x2C  -- addi x5,x6,0
@@ -217,13 +208,13 @@ module _ (k : Block) (n : Numbers) (word : ℕ → ℕ) (v : ℕ) (r : SenderReg
 
   pub right_38 : Right_at 0x38  -- sw x6,4(x8)
   right_38 h =
-      let store : slice_get (sender_stores k.size k.base k.list) (sent n.sender) ≡ Some (k.base + 4, r.x6) =
-      store_mark k.size k.base k.list (sent n.sender) (omega (arith, h.0.heads, h.0.unmarked, h.1)) ∙ rw h.2 refl in
+      let store : slice_get (sender_stores k) (sent n.sender) ≡ Some (k.base + 4, r.x6) =
+      store_mark k (sent n.sender) (omega (arith, h.0.heads, h.0.unmarked, h.1)) ∙ rw h.2 refl in
       goes 0x3C (stores (k.base + 4) r.x6) (record n.sender { marked = 1 }) (λ u. r)
       (tt, word_of k is 4 (omega arith) refl)
       (store_line (at 14 refl) is.even refl (omega (arith, is.inside, is.some_slot)) is.small)
       (omega (arith, h.0.heads ∙ h.1))
-      (joins (k.base + 4, r.x6) (n.sender.stored + n.sender.headed + 1) (omega (arith, h.0.unmarked)) store)
+      (omega (arith, h.0.unmarked), store)
       (record { taken = h.0.taken ∙ h.1; heads = h.0.heads ∙ h.1; mark = refl })
       (λ free. omega arith)
 
@@ -233,4 +224,4 @@ module _ (k : Block) (n : Numbers) (word : ℕ → ℕ) (v : ℕ) (r : SenderReg
   pub right_40 : Right_at 0x40  -- ecall
   right_40 h = goes 0x44 need.Exit n.sender (λ u. r) tt
       (record { wants = exit_need (at 16 refl) h.1; leaves = λ w. exit_after (at 16 refl) h.1 w }) order
-      (append-nil (pending_of k n.sender n.landed)) h.0 (λ free. omega arith)
+      refl h.0 (λ free. omega arith)

@@ -1,38 +1,35 @@
 -- The stores of both lists, by their numbers: each is one of a whole word to the block.
-use Rattle.std.proofs.Common.{ℕ, ◌+◌, ◌*◌, ◌%◌, ◌<◌, ◌≡◌, List, length, Some, refl, arith}
+use Rattle.std.proofs.Common.{ℕ, ◌+◌, ◌*◌, ◌<◌, ◌≡◌, length, Some, refl, arith}
 use Rattle.std.specs.Prelude.{slice_index}
 use Rattle.std.specs.List.{slice_get}
-use Rattle.poll_close.specs.Invariant.Blocks.{Block, slot, window, slot_store, tail_store}
-use Rattle.poll_close.proofs.Windows.{Each, Each-window, single_at, single_last, first_at, second_at, pair_last, singles_each, pairs_each}
+use Rattle.poll_close.specs.Invariant.Blocks.{Block, offset, slot, slot_store, tail_store}
+use Rattle.poll_close.proofs.Windows.{Each, single_at, single_last, first_at, second_at, pair_last, singles_each, pairs_each}
 use Rattle.poll_close.proofs.Blocks.{IsBlock, IsStore, offset_small, base_word, word_of, slot_of}
 use Rattle.lamport_ring.specs.Invariant.Stores.{head_store, sender_stores, receiver_stores}
 
-module _ (S b : ℕ) (ws : List ℕ) where
-  pub store_slot : (k n : ℕ) → k < length ws → n ≡ 2 * k → slice_get (sender_stores S b ws) n ≡ Some (slot S b k, slice_index ws k)
-  store_slot k n less at = first_at (slot_store S b) (head_store S b) (b + 4, 1) ws k n less at
+module _ (k : Block) where
+  pub store_slot : (i n : ℕ) → i < length k.list → n ≡ 2 * i → slice_get (sender_stores k) n ≡ Some (slot k.size k.base i, slice_index k.list i)
+  store_slot i n less at = first_at (slot_store k) (head_store k) (k.base + 4, 1) k.list i n less at
 
-  pub store_head : (k n : ℕ) → k < length ws → n ≡ 2 * k + 1 → slice_get (sender_stores S b ws) n ≡ Some (b, 4 * ((k + 1) % S))
-  store_head k n less at = second_at (slot_store S b) (head_store S b) (b + 4, 1) ws k n less at
+  pub store_head : (i n : ℕ) → i < length k.list → n ≡ 2 * i + 1 → slice_get (sender_stores k) n ≡ Some (k.base, offset k (i + 1))
+  store_head i n less at = second_at (slot_store k) (head_store k) (k.base + 4, 1) k.list i n less at
 
-  pub store_mark : (n : ℕ) → n ≡ 2 * length ws → slice_get (sender_stores S b ws) n ≡ Some (b + 4, 1)
-  store_mark n at = pair_last (slot_store S b) (head_store S b) (b + 4, 1) ws n at
+  pub store_mark : (n : ℕ) → n ≡ 2 * length k.list → slice_get (sender_stores k) n ≡ Some (k.base + 4, 1)
+  store_mark n at = pair_last (slot_store k) (head_store k) (k.base + 4, 1) k.list n at
 
-  pub store_tail : (k n : ℕ) → k < length ws → n ≡ k → slice_get (receiver_stores S b ws) n ≡ Some (b + 8, 4 * ((k + 1) % S))
-  store_tail k n less at = single_at (tail_store S b) (b + 12, 1) ws k n less at
+  pub store_tail : (i n : ℕ) → i < length k.list → n ≡ i → slice_get (receiver_stores k) n ≡ Some (k.base + 8, offset k (i + 1))
+  store_tail i n less at = single_at (tail_store k) (k.base + 12, 1) k.list i n less at
 
-  pub store_done : (n : ℕ) → n ≡ length ws → slice_get (receiver_stores S b ws) n ≡ Some (b + 12, 1)
-  store_done n at = single_last (tail_store S b) (b + 12, 1) ws n at
+  pub store_done : (n : ℕ) → n ≡ length k.list → slice_get (receiver_stores k) n ≡ Some (k.base + 12, 1)
+  store_done n at = single_last (tail_store k) (k.base + 12, 1) k.list n at
 
-module _ (k : Block) (is : IsBlock k) where
-  pub sender_stores_are : (i n : ℕ) → Each (IsStore k) (window (sender_stores k.size k.base k.list) i n)
-  sender_stores_are i n = Each-window (IsStore k) (sender_stores k.size k.base k.list) i n
-      (pairs_each (IsStore k) (slot_store k.size k.base) (head_store k.size k.base) (k.base + 4, 1) k.list (λ j less. (
-        record { place = slot_of k is j; word = is.words j less },
-        record { place = base_word k is; word = offset_small k is (j + 1) },
-      )) (record { place = word_of k is 4 (omega arith) refl; word = omega arith }))
+  pub sender_stores_are : IsBlock k → Each (IsStore k) (sender_stores k)
+  sender_stores_are is = pairs_each (IsStore k) (slot_store k) (head_store k) (k.base + 4, 1) k.list (λ j less. (
+    record { place = slot_of k is j; word = is.words j less },
+    record { place = base_word k is; word = offset_small k is (j + 1) },
+  )) (record { place = word_of k is 4 (omega arith) refl; word = omega arith })
 
-  pub receiver_stores_are : (i n : ℕ) → Each (IsStore k) (window (receiver_stores k.size k.base k.list) i n)
-  receiver_stores_are i n = Each-window (IsStore k) (receiver_stores k.size k.base k.list) i n
-      (singles_each (IsStore k) (tail_store k.size k.base) (k.base + 12, 1) k.list
+  pub receiver_stores_are : IsBlock k → Each (IsStore k) (receiver_stores k)
+  receiver_stores_are is = singles_each (IsStore k) (tail_store k) (k.base + 12, 1) k.list
       (λ j less. record { place = word_of k is 8 (omega arith) refl; word = offset_small k is (j + 1) })
-      (record { place = word_of k is 12 (omega arith) refl; word = omega arith }))
+      (record { place = word_of k is 12 (omega arith) refl; word = omega arith })

@@ -6,7 +6,8 @@ use Rattle.poll_close.specs.Rankings.{Ranking}
 use Rattle.poll_close.specs.Invariant.BlockMeaning.{BlockMeaning, ranking_of}
 use Rattle.poll_close.specs.Invariant.Channels.{means_by}
 use Rattle.lamport_ring.specs.Listing.{sender_code, receiver_code, middle}
-use Rattle.lamport_ring.specs.Invariant.Numbers.{Taken, Landed, Ordered, Words, pending_of, unread_of}
+use Rattle.lamport_ring.specs.Invariant.Stores.{sender_stores, receiver_stores}
+use Rattle.lamport_ring.specs.Invariant.Numbers.{Landed, sent, gone, taken, freed, Ordered, Words}
 use Rattle.lamport_ring.specs.Invariant.Sender.{sender}
 use Rattle.lamport_ring.specs.Invariant.Middle.{More, rows}
 
@@ -22,18 +23,17 @@ waits s word = (s.pc == 0x18) && (word (slice_index s.registers 8 + 8) == slice_
 abbrev pub lamport_blocks : BlockMeaning
 lamport_blocks = record {
   sender = sender;
-  Receiver = Taken;
+  Own = Unit {0};
   Landed = Landed;
-  tails = λ n. n.tails;
-  dones = λ n. n.done;
-  took = λ n. n.took;
-  closings = λ n. n.closings;
-  seen_mark = λ n. n.mark;
   marks = λ n. n.mark;
   Ordered = Ordered;
   Words = Words;
-  unsent = pending_of;
-  unread = unread_of;
+  sender_stores = sender_stores;
+  receiver_stores = receiver_stores;
+  sent = sent;
+  gone = gone;
+  taken = taken;
+  freed = freed;
   Level = λ n. Unit {0};
   Filled = More;
   middle = middle;

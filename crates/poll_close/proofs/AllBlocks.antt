@@ -1,8 +1,7 @@
 -- What a sender's act, and the landing of any store, make of all blocks.
-use Rattle.std.proofs.Common.{ℕ, ◌+◌, ◌%◌, ◌<◌, ◌≡◌, ◌≢◌, ◌==◌, ◌⊎◌, inl, inr, Bool, true, false, List, ◌∷◌, ◌++◌}
+use Rattle.std.proofs.Common.{ℕ, suc, ◌+◌, ◌%◌, ◌<◌, ◌≡◌, ◌≢◌, ◌==◌, ◌⊎◌, inl, inr, Bool, true, false, List, ◌∷◌, ◌++◌}
 use Rattle.std.proofs.Common.{length, None, if◌then◌else◌, refl, sym, ◌∙◌, ap, subst, arith}
 use Rattle.std.specs.Prelude.{unwrap_or}
-use Rattle.std.specs.List.{slice_get}
 use Rattle.std.proofs.lemmas.Bool.{cases_eq}
 use Rattle.std.proofs.lemmas.List.{map-append}
 use Rattle.std.proofs.lemmas.Bool.Decides.{nat_tests}
@@ -26,11 +25,11 @@ use Rattle.step_machine.specs.Runs.{CanFollow}
 use Rattle.poll_close.specs.Layout.{Layout}
 use Rattle.poll_close.specs.Going.{GoesOn}
 use Rattle.poll_close.specs.Touching.{Touches}
-use Rattle.poll_close.specs.Invariant.Blocks.{Block, block_of, is_within, as_write, as_writes, to_block}
+use Rattle.poll_close.specs.Invariant.Blocks.{Block, block_of, is_within, as_write, as_writes, to_block, window, AreNext}
 use Rattle.poll_close.specs.Invariant.BlockMeaning.{BlockMeaning, Count, unsent_of, unread_of}
 use Rattle.poll_close.specs.Invariant.Channels.{BlockPart}
 use Rattle.poll_close.proofs.Acts.{Acted, Landed, acted, landed, Plain, going, stored_by}
-use Rattle.poll_close.proofs.Windows.{get_end}
+use Rattle.poll_close.proofs.Windows.{window_made, window_head}
 use Rattle.poll_close.proofs.Writes.{IsWrite}
 use Rattle.poll_close.proofs.Blocks.{IsBlock, Within, IsWordOf, word_end, IsStore-whole, apart, outside_differs, newest-as_writes, first-as_writes, choose}
 use Rattle.poll_close.proofs.BlockLaws.{BlockLaws, found_in, Sends, Lands}
@@ -75,15 +74,16 @@ module _ (m : BlockMeaning) (laws : BlockLaws m) (M : ℕ) (k : Block) (i : ℕ)
   }
 
   -- a store landed
-  pub lands_part : (mine theirs : List (ℕ × ℕ)) → Lands m k n (word_in_memory new.opening new.entries) mine theirs
-      → pending (i + 1) new.entries ≡ as_writes mine → to_block k (pending 0 new.entries) ≡ as_writes theirs
+  pub lands_part : (gone freed : ℕ) → Lands m k n (word_in_memory new.opening new.entries) gone freed
+      → pending (i + 1) new.entries ≡ as_writes (window (m.sender_stores k) gone (m.sent n.sender))
+      → to_block k (pending 0 new.entries) ≡ as_writes (window (m.receiver_stores k) freed (m.taken n.receiver))
       → state_of M new (i + 1) ≡ state_of M t (i + 1) → Grown m M k i new n
-  lands_part mine theirs l my their state = (
+  lands_part gone freed l my their state = (
     record n { landed = l.after },
     record {
       order = l.order;
-      sender = record { stands = part.sender.stands; state = state ∙ part.sender.state; holds = part.sender.holds; buffer = my ∙ ap as_writes l.unsent };
-      theirs = their ∙ ap as_writes l.unread;
+      sender = record { stands = part.sender.stands; state = state ∙ part.sender.state; holds = part.sender.holds; buffer = rw l.mine my };
+      theirs = rw l.theirs their;
       words = l.words;
     },
     refl,
@@ -99,9 +99,8 @@ module _ (m : BlockMeaning) (laws : BlockLaws m) (M : ℕ) (k : Block) (i : ℕ)
       record {
         no_amo = sent.plain;
         whole = λ x one. IsStore-whole k x
-            (laws.unsent_are k (record n { sender = sent.after }) is sent.order (length (unsent_of m k n)) x
-            (ap (λ ps. slice_get ps (length (unsent_of m k n)))
-            (sym sent.unsent ∙ ap (λ ps. unsent_of m k n ++ ps) one) ∙ get_end (unsent_of m k n) x));
+            (laws.sender_stores_are k is (m.sent n.sender) x
+            (subst (AreNext (m.sender_stores k) (m.sent n.sender) (m.sent sent.after)) one sent.stores).1);
       }
 
   -- the sender acted
@@ -118,7 +117,9 @@ module _ (m : BlockMeaning) (laws : BlockLaws m) (M : ℕ) (k : Block) (i : ℕ)
             state = a.state;
             holds = sent.stands;
             buffer = a.buffer ∙ ap (λ ws. ws ++ as_writes (stored_by (need_of s))) part.sender.buffer
-                ∙ sym (map-append as_write (unsent_of m k n) (stored_by (need_of s))) ∙ ap as_writes sent.unsent;
+                ∙ sym (map-append as_write (unsent_of m k n) (stored_by (need_of s)))
+                ∙ ap as_writes (window_made (m.sender_stores k) (m.gone n.landed) (m.sent n.sender)
+                (m.sent sent.after) (stored_by (need_of s)) (laws.gone_sent k n part.order) sent.stores);
           };
           theirs = ap (to_block k) (a.buffers 0 (omega arith)) ∙ part.theirs;
           words = laws.words_same k n.landed (word_in_memory t.opening t.entries)
@@ -208,19 +209,20 @@ module _ (m : BlockMeaning) (laws : BlockLaws m) (B M : ℕ) (S : Layout) (lists
           × (w ≡ as_write x) × (rest ≡ as_writes more) → BlocksAfter m M S lists (with_entry t (entry.Land (j + 1))) f
       at w rest l oldest =
           let x : ℕ × ℕ = oldest.0 in
+          let head = window_head (m.sender_stores (block_of M S lists j)) (m.gone (f j).landed) (m.sent (f j).sender) x oldest.1 oldest.2 in
           let inside : Within (block_of M S lists j) x.0 =
-          (laws.unsent_are (block_of M S lists j) (f j) (are j within) (parts j within).order 0 x
-          (ap (λ ps. slice_get ps 0) oldest.2)).place.within in
+          (laws.sender_stores_are (block_of M S lists j) (are j within) (m.gone (f j).landed) x head.1).place.within in
           one_changed (with_entry t (entry.Land (j + 1))) j
           (lands_part m laws M (block_of M S lists j) j t (with_entry t (entry.Land (j + 1))) (f j) (are j within)
-          (parts j within) oldest.1 (unread_of m (block_of M S lists j) (f j))
+          (parts j within) (suc (m.gone (f j).landed)) (m.freed (f j).landed)
           (laws.sender_lands (block_of M S lists j) (f j) (word_in_memory t.opening t.entries)
           (word_in_memory (with_entry t (entry.Land (j + 1))).opening (with_entry t (entry.Land (j + 1))).entries)
-          x oldest.1 (are j within) (parts j within).order (parts j within).words oldest.2
+          x (are j within) (parts j within).order (parts j within).words head.0 head.1
           (writes (word_in_memory t.opening t.entries)
           (word_in_memory (with_entry t (entry.Land (j + 1))).opening (with_entry t (entry.Land (j + 1))).entries)
           w x oldest.3 l.memory))
-          (l.buffer ∙ oldest.4) (ap (to_block (block_of M S lists j)) (l.buffers 0 (omega arith)) ∙ (parts j within).theirs) (l.states (j + 1)))
+          (l.buffer ∙ oldest.4 ∙ ap as_writes (sym head.2))
+          (ap (to_block (block_of M S lists j)) (l.buffers 0 (omega arith)) ∙ (parts j within).theirs) (l.states (j + 1)))
           (λ i less other. record {
             state = l.states (i + 1);
             buffer = l.buffers (i + 1) (λ same. other (omega arith));
@@ -243,15 +245,17 @@ module _ (m : BlockMeaning) (laws : BlockLaws m) (B M : ℕ) (S : Layout) (lists
           × (w ≡ as_write x) × (to_block (block_of M S lists i) rest ≡ as_writes more)
           → Now (with_entry t (entry.Land 0)) i
       visited i less w rest l oldest =
+          let head = window_head (m.receiver_stores (block_of M S lists i)) (m.freed (f i).landed) (m.taken (f i).receiver) oldest.0 oldest.1 oldest.2 in
           lands_part m laws M (block_of M S lists i) i t (with_entry t (entry.Land 0)) (f i) (are i less)
-          (parts i less) (unsent_of m (block_of M S lists i) (f i)) oldest.1
+          (parts i less) (m.gone (f i).landed) (suc (m.freed (f i).landed))
           (laws.receiver_lands (block_of M S lists i) (f i) (word_in_memory t.opening t.entries)
           (word_in_memory (with_entry t (entry.Land 0)).opening (with_entry t (entry.Land 0)).entries) oldest.0
-          oldest.1 (are i less) (parts i less).order (parts i less).words oldest.2
+          (are i less) (parts i less).order (parts i less).words head.0 head.1
           (writes (word_in_memory t.opening t.entries)
           (word_in_memory (with_entry t (entry.Land 0)).opening (with_entry t (entry.Land 0)).entries) w oldest.0
           oldest.3 l.memory))
-          (l.buffers (i + 1) (omega arith) ∙ (parts i less).sender.buffer) (ap (to_block (block_of M S lists i)) l.buffer ∙ oldest.4) (l.states (i + 1))
+          (l.buffers (i + 1) (omega arith) ∙ (parts i less).sender.buffer)
+          (ap (to_block (block_of M S lists i)) l.buffer ∙ oldest.4 ∙ ap as_writes (sym head.2)) (l.states (i + 1))
 
       at : (i : ℕ) → i < length lists → (w : Write) (rest : List Write)
           → Landed M t (with_entry t (entry.Land 0)) 0 w rest → (b : Bool) → is_within (block_of M S lists i) w.addr ≡ b

@@ -28,8 +28,8 @@ use Rattle.poll_close.specs.Going.{GoesOn, AllGoOn}
 use Rattle.poll_close.specs.Touching.{Touches, AllTouch}
 use Rattle.poll_close.specs.Invariant.Blocks.{block_of, as_writes}
 use Rattle.poll_close.specs.Invariant.ReceiverState.{receiver_of}
-use Rattle.poll_close.specs.Invariant.BlockMeaning.{BlockMeaning, Count, AllReported}
-use Rattle.poll_close.specs.Invariant.Channels.{BlockPart, ReportsOf, all_closings, Channel, means_by}
+use Rattle.poll_close.specs.Invariant.BlockMeaning.{BlockMeaning}
+use Rattle.poll_close.specs.Invariant.Channels.{BlockPart, all_closings, Channel, means_by}
 use Rattle.poll_close.proofs.Blocks.{IsBlock, Within}
 use Rattle.poll_close.proofs.Dense.{rows_before}
 use Rattle.poll_close.proofs.BlockLaws.{BlockLaws, Begins, opens_with}
@@ -122,43 +122,22 @@ module _ (m : BlockMeaning) (laws : BlockLaws m) (least : ℕ) (some : 1 ≤ lea
   ring_by = record { sender = m.sender.code; receiver = receiver_of m.middle; least = least }
 
   module _ (M : ℕ) (S : Layout) (lists : List (List ℕ)) (accepted : AcceptedAt ring_by M lists S) where
-    begun : (i : ℕ) → i < length lists → Begins m (block_of M S lists i) (opens_with m.sender.code (block_of M S lists i))
+    begun : (i : ℕ) → i < length lists → Begins m laws.none (block_of M S lists i) (opens_with m.sender.code (block_of M S lists i))
     begun i within = laws.begins (block_of M S lists i) (blocks ring_by M S lists some accepted i within)
 
-    pick : (i : ℕ) → (i < length lists) ⊎ (length lists ≤ i) → Count m
-    pick i (inl within) = (begun i within).none
-    pick i (inr past) = (begun 0 (omega (arith, accepted.some_sender))).none
-
-    none : ℕ → Count m
-    none i = pick i (cases_lt i (length lists))
-
-    each : (P : ℕ → Count m → Type 0) → ((i : ℕ) (within : i < length lists) → P i (begun i within).none) → (i : ℕ) → i < length lists → P i (none i)
-    unfolding pick begun none
-    each P all i within = at (cases_lt i (length lists))
-      where
-        at : (c : (i < length lists) ⊎ (length lists ≤ i)) → P i (pick i c)
-        at (inl less) = all i less
-        at (inr more) = absurd (omega arith)
-
-    quiet : (i : ℕ) → i < length lists → AllReported m (none i).receiver
-    quiet = each (λ i n. AllReported m n.receiver) (λ i within. (let b = begun i within in
-        record { words = b.took ∙ sym b.tails; closed = b.closings ∙ sym b.dones; level = b.level }))
-
-    none_shut : (count : ℕ) → count ≤ length lists → count + all_closings m none count ≡ count + 0
+    none_shut : (count : ℕ) → count ≤ length lists → count + all_closings m (λ i. laws.none) count ≡ count + 0
     none_shut zero less = refl
-    none_shut (suc i) less =
-        let last : m.closings (none i).receiver ≡ 0 = each (λ j n. m.closings n.receiver ≡ 0) (λ j within. (begun j within).closings) i (omega arith) in
-        omega (arith, last, none_shut i (omega arith))
+    none_shut (suc i) less = omega (arith, (begun i (omega arith)).closings, none_shut i (omega arith))
 
     zero_there : (i : ℕ) (within : i < length lists) (a : ℕ) → Within (block_of M S lists i) a → slice_index S.words (a / 4) ≡ 0
     zero_there i within a here =
         let is : IsBlock (block_of M S lists i) = blocks ring_by M S lists some accepted i within in
         accepted.empty.empty (a / 4) (record { block = i; known = within; from = omega (arith, is.even, here.from); below = omega (arith, here.below) })
 
-    part : (i : ℕ) → i < length lists → BlockPart m (block_of M S lists i) M i (unrun (opening_at m.sender.code (receiver_of m.middle) lists S)) (none i)
-    part = each (λ i n.
-        BlockPart m (block_of M S lists i) M i (unrun (opening_at m.sender.code (receiver_of m.middle) lists S)) n)
-        (λ i within. (let b = begun i within in record {
+    part : (i : ℕ) → i < length lists → BlockPart m (block_of M S lists i) M i (unrun (opening_at m.sender.code (receiver_of m.middle) lists S)) laws.none
+    part i within =
+        let b = begun i within in
+        record {
           order = b.order;
           sender = record {
             stands = opens_with m.sender.code (block_of M S lists i);
@@ -167,13 +146,13 @@ module _ (m : BlockMeaning) (laws : BlockLaws m) (least : ℕ) (some : 1 ≤ lea
             buffer = ap as_writes (sym b.unsent);
           };
           theirs = ap as_writes (sym b.unread);
-          words = laws.words_same (block_of M S lists i) b.none.landed (λ a. 0) (λ a. slice_index S.words (a / 4))
+          words = laws.words_same (block_of M S lists i) laws.none.landed (λ a. 0) (λ a. slice_index S.words (a / 4))
               (blocks ring_by M S lists some accepted i within) (λ a here. zero_there i within a here) b.words;
-        }))
+        }
 
     opened : Channel m M S lists (unrun (opening_at m.sender.code (receiver_of m.middle) lists S))
     opened = record {
-      numbers = none;
+      numbers = λ i. laws.none;
       parts = part;
       receiver = record {
         place = 0x00;
@@ -181,18 +160,16 @@ module _ (m : BlockMeaning) (laws : BlockLaws m) (least : ℕ) (some : 1 ≤ lea
         block = 0;
         known = omega (arith, accepted.some_sender);
         state = refl;
-        holds = quiet 0 (omega (arith, accepted.some_sender));
-        others = λ j within other. quiet j within;
+        holds = (begun 0 (omega (arith, accepted.some_sender))).quiet;
+        others = λ j within other. (begun j within).quiet;
         count = none_shut (length lists) (omega arith);
       };
       reports = record {
-        senders =
-            each (λ j n. ReportsOf [] j (slice_index_or lists j []) (m.took n.receiver) (m.closings n.receiver))
-            (λ j within. (let b = begun j within in record {
-              words = ap (λ c. take c (slice_index_or lists j [])) (sym b.took);
-              closed = λ k is. cc;
-              said = λ is. absurd (omega (arith, b.closings, is));
-            }));
+        senders = λ j within. record {
+          words = ap (λ c. take c (slice_index_or lists j [])) (sym (begun j within).took);
+          closed = λ k is. cc;
+          said = λ is. absurd (omega (arith, (begun j within).closings, is));
+        };
         clean = clean-none lists;
       };
       unstopped = λ j e is. cc;

@@ -1,7 +1,7 @@
 -- A sender whose outline is right keeps its block's meaning: from each row's assertion, whatever it reads,
 -- its act leads to the row where it goes on, and nearer to its end where it doesn't wait.
-use Rattle.std.proofs.Common.{ℕ, ◌≡◌, ◌≢◌, ◌+◌, ◌-◌, ◌*◌, ◌<◌, ◌≤◌, ◌==◌, Bool, true, false, List, [], ◌∷◌, ◌++◌, drop}
-use Rattle.std.proofs.Common.{Some, if◌then◌else◌, refl, sym, ◌∙◌, ap, subst, arith, append-nil}
+use Rattle.std.proofs.Common.{ℕ, ◌≡◌, ◌≢◌, ◌+◌, ◌-◌, ◌*◌, ◌<◌, ◌≤◌, ◌==◌, Bool, true, false, List, [], ◌∷◌, drop}
+use Rattle.std.proofs.Common.{Some, if◌then◌else◌, refl, sym, ◌∙◌, ap, subst, arith}
 use Rattle.std.specs.Prelude.{slice_index, map}
 use Rattle.std.specs.List.{slice_get}
 use Rattle.std.proofs.lemmas.Bool.Decides.{nat_tests}
@@ -14,7 +14,7 @@ use Rattle.hart.specs.declared.need.Need.{Need}
 use Rattle.hart.specs.declared.need.Need.TheVariants as need
 use Rattle.hart.proofs.Instructions.{IsAt}
 use Rattle.poll_close.specs.Rankings.{runs}
-use Rattle.poll_close.specs.Invariant.Blocks.{Block}
+use Rattle.poll_close.specs.Invariant.Blocks.{Block, AreNext}
 use Rattle.poll_close.specs.Invariant.SenderState.{SenderRegisters, fixed, running, ended}
 use Rattle.poll_close.specs.Invariant.BlockMeaning.{BlockMeaning, Count, unsent_of}
 use Rattle.poll_close.specs.Invariant.Outlines.{Row, SenderRow, Reasons, Outline, either, stands, HoldsIn, Holds, Standing, left_of}
@@ -113,7 +113,7 @@ module _ (m : BlockMeaning) (g : Sender m) (k : Block) (n : Count m) (word : ℕ
     pub wants : need_of (now here) ≡ wanted
     pub leaves : advanced (now here) v ≡ stands m.sender k there made written
     pub order : m.Ordered k (record n { sender = made })
-    pub unsent : unsent_of m k n ++ stored_by wanted ≡ m.unsent k made n.landed
+    pub stores : AreNext (m.sender_stores k) (m.sent n.sender) (m.sent made) (stored_by wanted)
     pub holds : Holds m.sender there k made written
     pub nearer : Free here → Nearer here there made written
 
@@ -128,7 +128,7 @@ module _ (m : BlockMeaning) (g : Sender m) (k : Block) (n : Count m) (word : ℕ
   abbrev pub GoesBy : ℕ → Type 0
   GoesBy here = (there : ℕ) (wanted : Need) (made : m.sender.Own) (written : ℕ → SenderRegisters)
       → IsNoAmo (IsWordOf k) wanted → Line (now here) wanted (λ w. stands m.sender k there made (written w))
-      → m.Ordered k (record n { sender = made }) → unsent_of m k n ++ stored_by wanted ≡ m.unsent k made n.landed
+      → m.Ordered k (record n { sender = made }) → AreNext (m.sender_stores k) (m.sent n.sender) (m.sent made) (stored_by wanted)
       → Holds m.sender there k made (written v) → (Free here → Nearer here there made (written v)) → Finds here
       → Goes here
 
@@ -138,7 +138,7 @@ module _ (m : BlockMeaning) (g : Sender m) (k : Block) (n : Count m) (word : ℕ
       → Holds m.sender there k n.sender written → Nearer here there n.sender written → Finds here → Goes here
 
   pub goes : (here : ℕ) → GoesBy here
-  goes here there wanted made written plain line order unsent holds nearer find = record {
+  goes here there wanted made written plain line order stores holds nearer find = record {
     wanted = wanted;
     there = there;
     made = made;
@@ -147,14 +147,14 @@ module _ (m : BlockMeaning) (g : Sender m) (k : Block) (n : Count m) (word : ℕ
     wants = line.wants;
     leaves = line.leaves v;
     order = order;
-    unsent = unsent;
+    stores = stores;
     holds = holds;
     nearer = nearer;
   }
 
   pub still : m.Ordered k n → (here : ℕ) → Still here
   still order here there written line holds nearer = goes here there need.Inner n.sender (λ w. written) tt line
-      order (append-nil (unsent_of m k n)) holds (λ free. nearer)
+      order refl holds (λ free. nearer)
 
   -- where the line at this offset is that instruction
   pub at_in : (q : SenderRegisters) (inbox : List ℕ) (j : ℕ) {i : Instr}
@@ -198,7 +198,7 @@ module _ (m : BlockMeaning) (g : Sender m)
         plain = subst (IsNoAmo (IsWordOf k)) (sym wants) a.plain;
         stands = record { place = a.there; written = a.written; is = ap (λ z. advanced z v) st.is ∙ a.leaves; holds = a.holds };
         order = a.order;
-        unsent = ap (λ w. unsent_of m k n ++ stored_by w) wants ∙ a.unsent;
+        stores = subst (λ w. AreNext (m.sender_stores k) (m.sent n.sender) (m.sent a.made) (stored_by w)) (sym wants) a.stores;
       }
 
   pub nearer : unsent_of m k n ≡ [] → ((a : ℕ) → IsWordOf k a → need_of s ≡ loads a → v ≡ word a)

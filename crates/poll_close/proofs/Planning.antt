@@ -78,29 +78,29 @@ finished ring means B M t cleans s done = record {
       closed_whole (reported 0 t.entries) (lists_of t.opening) i at.0 (stands-clean ring means B M t cleans s) at.1);
 }
 
-module _ (ring : Ring) (means : Meaning) (B M : ℕ) where
-  pub planned-none : (t : History) → Stands ring means B M t → Planned ring means B M t [] t
-  planned-none t stands = record { run = refl; stands = stands; harts = refl }
+same_harts : (B M : ℕ) (t : History) (ev : Event) (o : Outcome) (new : History) → Happens B M t ev o new → length new.opening.harts ≡ length t.opening.harts
+same_harts B M t ev o new h =
+    elim (shape_of B M t ev o new h) [
+      | inl a ↦ ap (λ (u : History). length u.opening.harts) a.2.after
+      | inr i ↦ ap (λ (u : History). length u.opening.harts) i.after
+    ]
 
-  same_harts : (t : History) (ev : Event) (o : Outcome) (new : History) → Happens B M t ev o new → length new.opening.harts ≡ length t.opening.harts
-  same_harts t ev o new h =
-      elim (shape_of B M t ev o new h) [
-        | inl a ↦ ap (λ (u : History). length u.opening.harts) a.2.after
-        | inr i ↦ ap (λ (u : History). length u.opening.harts) i.after
-      ]
+module _ {ring : Ring} {means : Meaning} {B M : ℕ} where
+  pub planned-none : {t : History} → Stands ring means B M t → Planned ring means B M t [] t
+  planned-none stands = record { run = refl; stands = stands; harts = refl }
 
-  pub planned-more : (start : History) (evs : List Event) (t : History) (ev : Event) (o : Outcome) (new : History)
+  pub planned-more : {start : History} {evs : List Event} {t : History} (ev : Event) (o : Outcome) (new : History)
       → Keeps ring means → Planned ring means B M start evs t → Happens B M t ev o new
       → Planned ring means B M start (evs ++ ev ∷ []) new
-  planned-more start evs t ev o new keeps p h = record {
+  planned-more {start} {evs} {t} ev o new keeps p h = record {
     run = RunFrom-more B M start evs t ev o new p.run h;
     stands = stands-happens ring means B M t ev o new keeps p.stands h;
-    harts = same_harts t ev o new h ∙ p.harts;
+    harts = same_harts B M t ev o new h ∙ p.harts;
   }
 
-  pub planned-done : (start : History) (evs : List Event) (t : History) → Cleans ring means
+  pub planned-done : {start : History} {evs : List Event} {t : History} → Cleans ring means
       → Planned ring means B M start evs t → is_done t ≡ true → Finishes B M start evs
-  planned-done start evs t cleans p done = record { history = t; run = p.run; finished = finished ring means B M t cleans p.stands done }
+  planned-done {t = t} cleans p done = record { history = t; run = p.run; finished = finished ring means B M t cleans p.stands done }
 
 drop_one : (ps : List Write) → 0 < length ps → length (drop 1 ps) < length ps
 drop_one [] some = absurd (omega arith)
@@ -206,14 +206,14 @@ pub record Turned (ring : Ring) (means : Meaning) (B M : ℕ) (left : History �
   pub stepped : Stepped left t new h
   pub same : length new.opening.harts ≡ length t.opening.harts
 
-pub turned : (ring : Ring) (means : Meaning) (left next : ℕ → History → ℕ) (B M : ℕ) (start : History)
-    (evs : List Event) (t : History) (h : ℕ) (o : Outcome) (new : History) → Decreases ring means left next
+pub turned : {ring : Ring} {means : Meaning} (left next : ℕ → History → ℕ) {B M : ℕ} {start : History}
+    {evs : List Event} {t : History} (h : ℕ) (o : Outcome) (new : History) → Decreases ring means left next
     → Keeps ring means → 1 ≤ B → Planned ring means B M start evs t → AllLanded t → is_done t ≡ false → h ≡ next M t
     → Happens B M t (event.Act h) o new → Turned ring means B M (left M) start (evs ++ event.Act h ∷ []) t new h
 unfolding Decreases
-turned ring means left next B M start evs t h o new falls keeps some p all open_yet chosen hap =
+turned {ring} {means} left next {B} {M} {start} {evs} {t} h o new falls keeps some p all open_yet chosen hap =
     let near : Nearer B M (left M) t h = subst (Nearer B M (left M) t) (sym chosen) (falls B M t some p.stands all open_yet) in
-    let after : Planned ring means B M start (evs ++ event.Act h ∷ []) new = planned-more ring means B M start evs t (event.Act h) o new keeps p hap in
+    let after : Planned ring means B M start (evs ++ event.Act h ∷ []) new = planned-more (event.Act h) o new keeps p hap in
     record {
       hart = omega (arith, near.hart, after.harts, p.harts);
       planned = after;
@@ -227,15 +227,14 @@ pub record Over (ring : Ring) (means : Meaning) (B M : ℕ) (left : History → 
   pub planned : Planned ring means B M start evs new
   pub all : AllLanded new
 
-pub turn_over : (ring : Ring) (means : Meaning) (left : ℕ → History → ℕ) (B M : ℕ) (start : History)
-    (evs : List Event) (t mid : History) (h : ℕ) (o : Outcome) (new : History) → Keeps ring means → AllLanded t
-    → Turned ring means B M (left M) start evs t mid h → 0 < length (pending h mid.entries)
-    → Happens B M mid (event.Land h) o new → Over ring means B M (left M) start (evs ++ event.Land h ∷ []) t new
-turn_over ring means left B M start evs t mid h o new keeps all turn some hap =
+pub turn_over : {ring : Ring} {means : Meaning} {B M : ℕ} {left : History → ℕ} {start : History}
+    {evs : List Event} {t mid : History} {h : ℕ} (o : Outcome) (new : History) → Keeps ring means → AllLanded t
+    → Turned ring means B M left start evs t mid h → 0 < length (pending h mid.entries)
+    → Happens B M mid (event.Land h) o new → Over ring means B M left start (evs ++ event.Land h ∷ []) t new
+turn_over {ring} {means} {B} {M} {left} {start} {evs} {t} {mid} {h} o new keeps all turn some hap =
     let l : Less mid new h = lands_one B M mid h o new turn.planned.stands.kept turn.hart some hap in
-    let after : Planned ring means B M start (evs ++ event.Land h ∷ []) new =
-    planned-more ring means B M start evs mid (event.Land h) o new keeps turn.planned hap in
-    let still : left M new ≡ left M mid = ap (left M) l.after ∙ turn.stepped.landing in
+    let after : Planned ring means B M start (evs ++ event.Land h ∷ []) new = planned-more (event.Land h) o new keeps turn.planned hap in
+    let still : left new ≡ left mid = ap left l.after ∙ turn.stepped.landing in
     record {
       less = omega (arith, still, turn.stepped.less);
       planned = after;
@@ -244,10 +243,10 @@ turn_over ring means left B M start evs t mid h o new keeps all turn some hap =
           (no_length (pending h new.entries) (omega (arith, l.fewer, turn.stepped.few)));
     }
 
-pub turn_quiet : (ring : Ring) (means : Meaning) (left : ℕ → History → ℕ) (B M : ℕ) (start : History)
-    (evs : List Event) (t mid : History) (h : ℕ) → AllLanded t → Turned ring means B M (left M) start evs t mid h
-    → length (pending h mid.entries) < 1 → Over ring means B M (left M) start evs t mid
-turn_quiet ring means left B M start evs t mid h all turn none = record {
+pub turn_quiet : {ring : Ring} {means : Meaning} {B M : ℕ} {left : History → ℕ} {start : History}
+    {evs : List Event} {t mid : History} {h : ℕ} → AllLanded t → Turned ring means B M left start evs t mid h
+    → length (pending h mid.entries) < 1 → Over ring means B M left start evs t mid
+turn_quiet {t = t} {mid} {h} all turn none = record {
   less = turn.stepped.less;
   planned = turn.planned;
   all = all_again t mid h turn.same all turn.stepped.others (no_length (pending h mid.entries) none);
@@ -389,13 +388,13 @@ module _ (ring : Ring) (means : Meaning) (left next : ℕ → History → ℕ) (
               let hap = happens_some B M t (event.Land h) p.stands.kept in
               let less : Less t hap.1 h = lands_one B M t h hap.0 hap.1 p.stands.kept (omega (arith, p.harts, hart)) more hap.2 in
               land_hart h room hart (evs ++ event.Land h ∷ []) hap.1
-              (planned-more ring means B M start evs t (event.Land h) hap.0 hap.1 keeps p hap.2)
+              (planned-more (event.Land h) hap.0 hap.1 keeps p hap.2)
               (λ k below. less.others k (omega (arith, below)) ∙ before k below) (omega (arith, less.fewer, few))
           | inr none ↦ (evs, t, p, landed_more t.entries h before (omega (arith, none)))
         ]
 
     land_all : Stands ring means B M start → (m : ℕ) → m ≤ length start.opening.harts → Reached (λ u. (k : ℕ) → k < m → pending k u.entries ≡ [])
-    land_all stands zero less = ([], start, planned-none ring means B M start stands, λ k below. absurd (omega (arith, below)))
+    land_all stands zero less = ([], start, planned-none stands, λ k below. absurd (omega (arith, below)))
     land_all stands (suc m) less =
         let most = land_all stands m (omega (arith, less)) in
         let all = land_hart m (length (pending m most.1.entries)) (omega (arith, less)) most.0 most.1 most.2 most.3 (omega arith) in
@@ -406,23 +405,15 @@ module _ (ring : Ring) (means : Meaning) (left next : ℕ → History → ℕ) (
         → (more : List Event) × (u : History) × Over ring means B M (left M) start more t u
     turn_one evs t p all open_yet =
         let hap = happens_some B M t (event.Act (next M t)) p.stands.kept in
-        let turn : Turned ring means B M (left M) start (evs ++ event.Act (next M t) ∷ []) t hap.1 (next M t) =
-        turned ring means left next B M start evs t (next M t) hap.0 hap.1 falls keeps some p all open_yet refl hap.2
-        in
+        let turn = turned left next (next M t) hap.0 hap.1 falls keeps some p all open_yet refl hap.2 in
         elim (cases_lt 0 (length (pending (next M t) hap.1.entries))) [
           | inl more ↦
               let land = happens_some B M hap.1 (event.Land (next M t)) turn.planned.stands.kept in (
                 (evs ++ event.Act (next M t) ∷ []) ++ event.Land (next M t) ∷ [],
                 land.1,
-                turn_over ring means left B M start (evs ++ event.Act (next M t) ∷ []) t hap.1 (next M t) land.0
-                    land.1 keeps all turn more land.2,
+                turn_over land.0 land.1 keeps all turn more land.2,
               )
-          | inr none ↦ (
-            evs ++ event.Act (next M t) ∷ [],
-            hap.1,
-            turn_quiet ring means left B M start (evs ++ event.Act (next M t) ∷ []) t hap.1 (next M t) all turn
-                (omega (arith, none)),
-          )
+          | inr none ↦ (evs ++ event.Act (next M t) ∷ [], hap.1, turn_quiet all turn (omega (arith, none)))
         ]
 
     -- and so on, where so much is left at most
@@ -444,7 +435,7 @@ module _ (ring : Ring) (means : Meaning) (left next : ℕ → History → ℕ) (
     can_finish stands =
         let quiet = land_all stands (length start.opening.harts) (omega arith) in
         let end = turns (left M quiet.1) quiet.0 quiet.1 quiet.2 (λ k below. quiet.3 k (omega (arith, quiet.2.harts, below))) (omega arith) in
-        record { events = end.0; finishes = planned-done ring means B M start end.0 end.1 cleans end.2 end.3 }
+        record { events = end.0; finishes = planned-done cleans end.2 end.3 }
 
 -- so from every state that events lead to
 pub run_can_finish : (ring : Ring) (means : Meaning) (left next : ℕ → History → ℕ) → Opens ring means

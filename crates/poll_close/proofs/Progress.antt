@@ -243,7 +243,7 @@ module _ (m : BlockMeaning) (laws : BlockLaws m) (least : ℕ) (some_least : 1 �
   some_is_open = some_from rs 0 (length lists) some_one.0 some_one.1
       (ap (is_closed rs) (let same : 0 + some_one.0 ≡ some_one.0 = omega arith in same) ∙ some_one.2)
 
-  each_shut : (j : ℕ) → j < length lists → m.closings (ch.numbers j).receiver ≤ 1
+  each_shut : (j : ℕ) → j < length lists → (ch.numbers j).receiver.closings ≤ 1
   each_shut j less = omega (
     arith,
     laws.shut_done (block_of M S lists j) (ch.numbers j) (ch.parts j less).order,
@@ -251,31 +251,31 @@ module _ (m : BlockMeaning) (laws : BlockLaws m) (least : ℕ) (some_least : 1 �
   )
 
   -- who is reported closed is noted so, and the other way round
-  shut_said : (j : ℕ) → j < length lists → m.closings (ch.numbers j).receiver ≢ 0 → is_closed rs j ≡ true
+  shut_said : (j : ℕ) → j < length lists → (ch.numbers j).receiver.closings ≢ 0 → is_closed rs j ≡ true
   shut_said j less closings =
       let old = (ch.reports.senders j less).said (omega (arith, closings, each_shut j less)) in
       closed_from rs old.0 j old.1
 
   owing : closings_due ch.receiver.place < ch.receiver.noted.x20
   owing =
-      let none : m.closings (ch.numbers some_one.0).receiver ≡ 0 = at (cases_eq (m.closings (ch.numbers some_one.0).receiver) 0) in
+      let none : (ch.numbers some_one.0).receiver.closings ≡ 0 = at (cases_eq ((ch.numbers some_one.0).receiver.closings) 0) in
       omega (arith, ch.receiver.count, shuts_less m ch.numbers (length lists) some_one.0 each_shut some_one.1 none)
     where
-      at : (m.closings (ch.numbers some_one.0).receiver ≡ 0) ⊎ (m.closings (ch.numbers some_one.0).receiver ≢ 0)
-          → m.closings (ch.numbers some_one.0).receiver ≡ 0
+      at : ((ch.numbers some_one.0).receiver.closings ≡ 0) ⊎ ((ch.numbers some_one.0).receiver.closings ≢ 0)
+          → (ch.numbers some_one.0).receiver.closings ≡ 0
       at (inl none) = none
       at (inr closings) = let bad : is_closed rs some_one.0 ≡ true = shut_said some_one.0 some_one.1 closings in
           let good : is_closed rs some_one.0 ≡ false = some_one.2 in cc
 
-  took_is : (j : ℕ) (less : j < length lists) → m.took (ch.numbers j).receiver ≡ m.tails (ch.numbers j).receiver
-      → length (taken rs j) ≡ m.took (ch.numbers j).receiver
+  took_is : (j : ℕ) (less : j < length lists) → (ch.numbers j).receiver.took ≡ (ch.numbers j).receiver.tails
+      → length (taken rs j) ≡ (ch.numbers j).receiver.took
   took_is j less same =
-      let words : length (taken rs j) ≡ length (take (m.took (ch.numbers j).receiver) (slice_index_or lists j [])) =
+      let words : length (taken rs j) ≡ length (take ((ch.numbers j).receiver.took) (slice_index_or lists j [])) =
       ap length (ch.reports.senders j less).words in
-      let long : length (take (m.took (ch.numbers j).receiver) (slice_index_or lists j []))
-      ≡ min (m.took (ch.numbers j).receiver) (length (slice_index_or lists j [])) =
-      length-take (m.took (ch.numbers j).receiver) (slice_index_or lists j []) in
-      let most : m.tails (ch.numbers j).receiver ≤ length (slice_index_or lists j []) =
+      let long : length (take ((ch.numbers j).receiver.took) (slice_index_or lists j []))
+      ≡ min ((ch.numbers j).receiver.took) (length (slice_index_or lists j [])) =
+      length-take ((ch.numbers j).receiver.took) (slice_index_or lists j []) in
+      let most : (ch.numbers j).receiver.tails ≤ length (slice_index_or lists j []) =
       laws.tails_all (block_of M S lists j) (ch.numbers j) (ch.parts j less).order in
       omega (arith, words, long, same, most)
 
@@ -409,7 +409,7 @@ module _ (m : BlockMeaning) (laws : BlockLaws m) (least : ℕ) (some_least : 1 �
 
         by_says : Says m receiver_block b (ch.numbers b).receiver move.after (said_by (need_of st)) → rank_of p M (with_entry t e) < rank_of p M t
         by_says (inl none) = silent none.0
-        by_says (inr (inl word)) = tells (report.Took b (slice_index receiver_block.list (m.took (ch.numbers b).receiver))) word.0 refl
+        by_says (inr (inl word)) = tells (report.Took b (slice_index receiver_block.list ((ch.numbers b).receiver.took))) word.0 refl
         by_says (inr (inr closing)) = tells (report.Closed b) closing.0 refl
 
     pub receiver_decreases : Nearer B M (rank_of p M) t 0

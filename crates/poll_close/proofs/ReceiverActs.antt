@@ -27,12 +27,12 @@ use Rattle.poll_close.specs.Layout.{Layout}
 use Rattle.poll_close.specs.Reports.{taken, sender_of, IsPrefixOf}
 use Rattle.poll_close.specs.Going.{GoesOn}
 use Rattle.poll_close.specs.Touching.{Touches}
-use Rattle.poll_close.specs.Invariant.Blocks.{block_of, as_write, as_writes, to_block}
+use Rattle.poll_close.specs.Invariant.Blocks.{block_of, as_write, as_writes, to_block, AreNext}
 use Rattle.poll_close.specs.Invariant.ReceiverState.{ReceiverRegisters, whole_of, receives, closings_due}
 use Rattle.poll_close.specs.Invariant.BlockMeaning.{BlockMeaning, Count, unread_of, AllReported, ReceiverIs}
 use Rattle.poll_close.specs.Invariant.Channels.{BlockPart, ReceiverPart, ReportsOf, ReportPart, all_closings}
 use Rattle.poll_close.proofs.Acts.{Acted, Plain, acted, going, stored_by, said_by}
-use Rattle.poll_close.proofs.Windows.{get_end}
+use Rattle.poll_close.proofs.Windows.{window_made}
 use Rattle.poll_close.proofs.Blocks.{IsBlock, Within, IsWordOf, word_end, IsStore, IsStore-whole, newest-as_writes}
 use Rattle.poll_close.proofs.Blocks.{apart, to_block-stored, to_block-elsewhere, newest-to_block, put, put_same}
 use Rattle.poll_close.proofs.Blocks.{put_other}
@@ -55,25 +55,25 @@ stored_cases need.Exit = inl refl
 stored_cases (need.Stop why) = inl refl
 
 pub shuts_put : (m : BlockMeaning) (f : ℕ → Count m) (j : ℕ) (n : Count m) (count : ℕ) → j < count
-    → all_closings m (put f j n) count + m.closings (f j).receiver ≡ all_closings m f count + m.closings n.receiver
+    → all_closings m (put f j n) count + (f j).receiver.closings ≡ all_closings m f count + n.receiver.closings
 shuts_put m f j n zero less = absurd (omega arith)
 shuts_put m f j n (suc i) less =
     elim (cases_eq i j) [
       | inl same ↦
-          let last : m.closings (put f j n i).receiver ≡ m.closings n.receiver =
-          ap (λ z. m.closings (put f j n z).receiver) same
-          ∙ ap (λ (z : Count m). m.closings z.receiver) (put_same f j n) in
-          let was : m.closings (f i).receiver ≡ m.closings (f j).receiver = ap (λ z. m.closings (f z).receiver) same in
+          let last : (put f j n i).receiver.closings ≡ n.receiver.closings =
+          ap (λ z. (put f j n z).receiver.closings) same
+          ∙ ap (λ (z : Count m). z.receiver.closings) (put_same f j n) in
+          let was : (f i).receiver.closings ≡ (f j).receiver.closings = ap (λ z. (f z).receiver.closings) same in
           let rest : all_closings m (put f j n) i ≡ all_closings m f i =
-          shuts_same m f (put f j n) i (λ h below. ap (λ (z : Count m). m.closings z.receiver)
+          shuts_same m f (put f j n) i (λ h below. ap (λ (z : Count m). z.receiver.closings)
           (put_other f j n h (λ is. absurd (omega (arith, is, same, below))))) in
           omega (arith, last, was, rest)
       | inr other ↦
-          let last : m.closings (put f j n i).receiver ≡ m.closings (f i).receiver = ap (λ (z : Count m). m.closings z.receiver) (put_other f j n i other) in
+          let last : (put f j n i).receiver.closings ≡ (f i).receiver.closings = ap (λ (z : Count m). z.receiver.closings) (put_other f j n i other) in
           omega (arith, last, shuts_put m f j n i (omega (arith, other, less)))
     ]
 
-pub shuts_most : (m : BlockMeaning) (f : ℕ → Count m) (count : ℕ) → ((j : ℕ) → j < count → m.closings (f j).receiver ≤ 1) → all_closings m f count ≤ count
+pub shuts_most : (m : BlockMeaning) (f : ℕ → Count m) (count : ℕ) → ((j : ℕ) → j < count → (f j).receiver.closings ≤ 1) → all_closings m f count ≤ count
 shuts_most m f zero each = omega arith
 shuts_most m f (suc i) each = omega (arith, each i (omega arith), shuts_most m f i (λ j less. each j (omega arith)))
 
@@ -88,36 +88,36 @@ pub record Received (m : BlockMeaning) (M : ℕ) (S : Layout) (lists : List (Lis
 module _ (m : BlockMeaning) (M : ℕ) (S : Layout) (lists : List (List ℕ)) (f : ℕ → Count m) (b : ℕ)
     (known : b < length lists) (rs : List Report) (reports : ReportPart m lists rs f) where
   reports_put : (now : List Report) (n : Count m)
-      → ReportsOf now b (slice_index_or lists b []) (m.took n.receiver) (m.closings n.receiver)
+      → ReportsOf now b (slice_index_or lists b []) n.receiver.took n.receiver.closings
       → ((j : ℕ) → j < length lists → j ≢ b
-      → ReportsOf now j (slice_index_or lists j []) (m.took (f j).receiver) (m.closings (f j).receiver)) → (j : ℕ)
+      → ReportsOf now j (slice_index_or lists j []) ((f j).receiver.took) ((f j).receiver.closings)) → (j : ℕ)
       → j < length lists
-      → ReportsOf now j (slice_index_or lists j []) (m.took (put f b n j).receiver) (m.closings (put f b n j).receiver)
+      → ReportsOf now j (slice_index_or lists j []) ((put f b n j).receiver.took) ((put f b n j).receiver.closings)
   reports_put now n one others j within =
       elim (cases_eq j b) [
         | inl same ↦
-            let P : ℕ → Count m → Type 0 = λ i c. ReportsOf now i (slice_index_or lists i []) (m.took c.receiver) (m.closings c.receiver) in
+            let P : ℕ → Count m → Type 0 = λ i c. ReportsOf now i (slice_index_or lists i []) c.receiver.took c.receiver.closings in
             subst (λ (c : Count m). P j c) (sym (ap (put f b n) same ∙ put_same f b n)) (subst (λ (i : ℕ). P i n) (sym same) one)
         | inr other ↦ subst
-            (λ (c : Count m). ReportsOf now j (slice_index_or lists j []) (m.took c.receiver) (m.closings c.receiver))
+            (λ (c : Count m). ReportsOf now j (slice_index_or lists j []) c.receiver.took c.receiver.closings)
             (sym (put_other f b n j other)) (others j within other)
       ]
 
   -- one report of the visited sender
-  one_said : (x : Report) (n : Count m) → sender_of x ≡ b → m.closings (f b).receiver ≡ 0
-      → ReportsOf (rs ++ x ∷ []) b (slice_index_or lists b []) (m.took n.receiver) (m.closings n.receiver)
+  one_said : (x : Report) (n : Count m) → sender_of x ≡ b → (f b).receiver.closings ≡ 0
+      → ReportsOf (rs ++ x ∷ []) b (slice_index_or lists b []) n.receiver.took n.receiver.closings
       → ((i : ℕ) → x ≡ report.Closed i → taken rs i ≡ slice_index_or lists i [])
       → ReportPart m lists (rs ++ x ∷ []) (put f b n)
   one_said x n from open_yet new all = record {
     senders = reports_put (rs ++ x ∷ []) n new
-        (λ j within other. reports_other rs j (slice_index_or lists j []) (m.took (f j).receiver)
-        (m.closings (f j).receiver) x (λ same. other (sym same ∙ from)) (reports.senders j within));
+        (λ j within other. reports_other rs j (slice_index_or lists j []) ((f j).receiver.took)
+        ((f j).receiver.closings) x (λ same. other (sym same ∙ from)) (reports.senders j within));
     clean = clean_more rs lists x reports.clean (subst (λ (j : ℕ). j < length lists) (sym from) known) unclosed prefix all;
   }
     where
       unclosed : (j : ℕ) → slice_get rs j ≡ Some (report.Closed (sender_of x)) → ⊥
       unclosed j is =
-          let closings : m.closings (f b).receiver ≡ 1 =
+          let closings : (f b).receiver.closings ≡ 1 =
           (reports.senders b known).closed j (is ∙ ap (λ z. Some (report.Closed z)) from) in
           omega (arith, open_yet)
 
@@ -126,7 +126,7 @@ module _ (m : BlockMeaning) (M : ℕ) (S : Layout) (lists : List (List ℕ)) (f 
           elim (cases_eq i b) [
             | inl same ↦
                 subst (λ (j : ℕ). IsPrefixOf (taken (rs ++ x ∷ []) j) (slice_index_or lists j [])) (sym same)
-                (prefix_take (slice_index_or lists b []) (taken (rs ++ x ∷ []) b) (m.took n.receiver) new.words)
+                (prefix_take (slice_index_or lists b []) (taken (rs ++ x ∷ []) b) n.receiver.took new.words)
             | inr other ↦ subst (λ (ys : List ℕ). IsPrefixOf ys (slice_index_or lists i []))
                 (sym (taken_other rs i x (λ same. other (sym same ∙ from)))) (reports.clean.in_order i)
           ]
@@ -138,12 +138,12 @@ module _ (m : BlockMeaning) (M : ℕ) (S : Layout) (lists : List (List ℕ)) (f 
     senders = reports_put rs n (rw (none.1, none.2) (reports.senders b known)) (λ j within other. reports.senders j within);
   })
   said_reports said n (inr (inl word)) = subst (λ (ys : List Report). ReportPart m lists (rs ++ ys) (put f b n)) (sym word.0)
-      (one_said (report.Took b (slice_index (slice_index_or lists b []) (m.took (f b).receiver))) n refl word.4
-      (rw (word.1, word.2) (reports_took rs b (slice_index_or lists b []) (m.took (f b).receiver) (m.closings (f b).receiver) word.3 (reports.senders b known)))
+      (one_said (report.Took b (slice_index (slice_index_or lists b []) ((f b).receiver.took))) n refl word.4
+      (rw (word.1, word.2) (reports_took rs b (slice_index_or lists b []) ((f b).receiver.took) ((f b).receiver.closings) word.3 (reports.senders b known)))
       (λ i is. cc))
   said_reports said n (inr (inr closing)) = subst (λ (ys : List Report). ReportPart m lists (rs ++ ys) (put f b n)) (sym closing.0)
       (one_said (report.Closed b) n refl closing.4
-      (rw (closing.1, closing.2) (reports_closed rs b (slice_index_or lists b []) (m.took (f b).receiver) (m.closings (f b).receiver) (reports.senders b known)))
+      (rw (closing.1, closing.2) (reports_closed rs b (slice_index_or lists b []) ((f b).receiver.took) ((f b).receiver.closings) (reports.senders b known)))
       (λ i is. subst (λ (j : ℕ). taken rs j ≡ slice_index_or lists j []) (ap sender_of is)
       ((reports.senders b known).words ∙ ap (λ c. take c (slice_index_or lists b [])) closing.3
       ∙ take-length (slice_index_or lists b []))))
@@ -153,7 +153,7 @@ module _ (m : BlockMeaning) (laws : BlockLaws m) (B M : ℕ) (S : Layout) (lists
     (f : ℕ → Count m) (legal : Legal B t) (opens : OpensWithWords t.opening) (written : AllWriteWords t.entries)
     (parts : (i : ℕ) → i < length lists → BlockPart m (block_of M S lists i) M i t (f i))
     (part : ReceiverPart m M S lists t f) (reports : ReportPart m lists (reported 0 t.entries) f) where
-  pub each_shut : (j : ℕ) → j < length lists → m.closings (f j).receiver ≤ 1
+  pub each_shut : (j : ℕ) → j < length lists → (f j).receiver.closings ≤ 1
   each_shut j within =
       omega (arith, laws.shut_done (block_of M S lists j) (f j) (parts j within).order, laws.dones_one (block_of M S lists j) (f j) (parts j within).order)
 
@@ -168,8 +168,8 @@ module _ (m : BlockMeaning) (laws : BlockLaws m) (B M : ℕ) (S : Layout) (lists
   small = omega (arith, few, due_one part.place, part.count)
 
   count_after : (n : Count m) (noted : ReceiverRegisters) (there : ℕ)
-      → noted.x20 + m.closings n.receiver + closings_due part.place
-      ≡ part.noted.x20 + m.closings (f part.block).receiver + closings_due there
+      → noted.x20 + n.receiver.closings + closings_due part.place
+      ≡ part.noted.x20 + (f part.block).receiver.closings + closings_due there
       → noted.x20 + all_closings m (put f part.block n) (length lists) ≡ length lists + closings_due there
   count_after n noted there counts = omega (arith, part.count, shuts_put m f part.block n (length lists) part.known)
 
@@ -189,12 +189,9 @@ module _ (m : BlockMeaning) (laws : BlockLaws m) (B M : ℕ) (S : Layout) (lists
   stored_is : (v : ℕ)
       (r : Receives m (block_of M S lists part.block) part.block (length lists) part.place (f part.block) part.noted v)
       (x : ℕ × ℕ) → stored_by r.wanted ≡ x ∷ [] → IsStore (block_of M S lists part.block) x
-  stored_is v r x one = laws.unread_are (block_of M S lists part.block)
-      (record (f part.block) { receiver = r.after }) (are part.block part.known) r.changes.order
-      (length (unread_of m (block_of M S lists part.block) (f part.block))) x
-      (ap (λ ps. slice_get ps (length (unread_of m (block_of M S lists part.block) (f part.block))))
-      (sym r.changes.unread ∙ ap (λ ps. unread_of m (block_of M S lists part.block) (f part.block) ++ ps) one)
-      ∙ get_end (unread_of m (block_of M S lists part.block) (f part.block)) x)
+  stored_is v r x one = laws.receiver_stores_are (block_of M S lists part.block) (are part.block part.known)
+      (m.taken (f part.block).receiver) x
+      (subst (AreNext (m.receiver_stores (block_of M S lists part.block)) (m.taken (f part.block).receiver) (m.taken r.after)) one r.changes.stores).1
 
   pub plain_by :
       (receives m.middle (whole_of (block_of M S lists part.block) (length lists)) part.place part.noted).status
@@ -271,7 +268,9 @@ module _ (m : BlockMeaning) (laws : BlockLaws m) (B M : ℕ) (S : Layout) (lists
                 (stored_cases r.wanted) inside ∙ ap (λ ws. ws ++ as_writes (stored_by r.wanted)) old.theirs
                 ∙ sym
                 (map-append as_write (unread_of m (block_of M S lists part.block) (f part.block)) (stored_by r.wanted))
-                ∙ ap as_writes r.changes.unread;
+                ∙ ap as_writes (window_made (m.receiver_stores (block_of M S lists part.block)) (m.freed (f part.block).landed)
+                (m.taken (f part.block).receiver) (m.taken r.after) (stored_by r.wanted)
+                (laws.freed_taken (block_of M S lists part.block) (f part.block) old.order) r.changes.stores);
             words =
                 laws.words_same (block_of M S lists part.block) (f part.block).landed (word_in_memory t.opening t.entries)
                 (word_in_memory new.opening new.entries) (are part.block part.known) (λ x here. a.memory x) old.words;

@@ -1,7 +1,7 @@
 -- The reasons of the receiver's rows, whatever the ring: from what holds at each line to what holds where it goes
 -- on, and nearer to its next report.
 use Rattle.std.proofs.Common.{ℕ, pos, negsuc, ◌+◌, ◌*◌, ◌≡◌, ◌⊎◌, inl, List, [], ◌∷◌, Option, Some, refl, ◌∙◌, ap}
-use Rattle.std.proofs.Common.{append-nil, ◌-◌, ◌<◌, ◌≤◌, ◌≢◌, ◌==◌, inr, true, false, not, ◌&&◌, length, sym, subst}
+use Rattle.std.proofs.Common.{◌-◌, ◌<◌, ◌≤◌, ◌≢◌, ◌==◌, inr, true, false, not, ◌&&◌, length, sym, subst}
 use Rattle.std.proofs.Common.{add-zero, arith, lit<}
 use Rattle.std.specs.Prelude.{map, slice_index}
 use Rattle.std.specs.List.{slice_get}
@@ -13,7 +13,7 @@ use Rattle.hart.proofs.Instructions.{IsAt, took_need, took_after, closed_need, c
 use Rattle.poll_close.specs.Listing.{Middle, lines_of, receiver_with}
 use Rattle.poll_close.specs.Invariant.Blocks.{Block, offset}
 use Rattle.poll_close.specs.Invariant.ReceiverState.{ReceiverRegisters, ReceiverConstants, whole_of, receiving, receives, closings_due}
-use Rattle.poll_close.specs.Invariant.BlockMeaning.{BlockMeaning, Count, unread_of, ReceiverIs, Flag, rows_of}
+use Rattle.poll_close.specs.Invariant.BlockMeaning.{BlockMeaning, Taken, Count, ReceiverIs, Flag, rows_of}
 use Rattle.poll_close.proofs.Acts.{stored_by, said_by, IsNoAmo}
 use Rattle.poll_close.proofs.Lines.{Line, loads, at_line, stores, word_plus, word_minus, add_line, sum_line, load_line}
 use Rattle.poll_close.proofs.Lines.{store_line, jump_line, same_jumps, other_goes_on, other_jumps, same_goes_on}
@@ -39,14 +39,14 @@ module _ (m : BlockMeaning) (k : Block) (i count : ℕ) (n : Count m) (order : m
   abbrev pub now : ℕ → ReceiverRegisters → HartState
   now here noted = receives m.middle (whole_of k count) here noted
 
-  abbrev pub Counts : ℕ → ℕ → ReceiverRegisters → m.Receiver → Type 0
-  Counts here there noted after = noted.x20 + m.closings after + closings_due here ≡ r.x20 + m.closings n.receiver + closings_due there
+  abbrev pub Counts : ℕ → ℕ → ReceiverRegisters → Taken m.Own → Type 0
+  Counts here there noted after = noted.x20 + after.closings + closings_due here ≡ r.x20 + n.receiver.closings + closings_due there
 
   pub unchanged : Changes m k n n.receiver []
-  unchanged = record { order = order; unread = append-nil (unread_of m k n) }
+  unchanged = record { order = order; stores = refl }
 
   -- an act by a line
-  pub acts : (here there : ℕ) (wanted : Need) (noted : ℕ → ReceiverRegisters) (after : m.Receiver)
+  pub acts : (here there : ℕ) (wanted : Need) (noted : ℕ → ReceiverRegisters) (after : Taken m.Own)
       → IsNoAmo (IsWordOf k) wanted → Line (now here r) wanted (λ w. now there (noted w))
       → Changes m k n after (stored_by wanted)
       → ReceiverIs m k i there after (noted v) ⊎ Comes m k count there after (noted v)
@@ -87,7 +87,7 @@ module _ (m : BlockMeaning) (k : Block) (i count : ℕ) (n : Count m) (order : m
     abbrev Right_here : ℕ → Type 0
     Right_here here = Right_at m k i count n word_at r v here
 
-    abbrev o : m.Receiver
+    abbrev o : Taken m.Own
     o = n.receiver
 
     at : (j : ℕ) {instr : Instr} → slice_get (map Some (lines_of (receiver_with m.middle))) j ≡ Some (Some instr)
@@ -131,33 +131,30 @@ module _ (m : BlockMeaning) (k : Block) (i count : ℕ) (n : Count m) (order : m
         let line = load_line (at 4 refl) (omega (arith, is.even, h.visits.base)) refl (omega (arith, is.inside, is.some_slot, h.visits.base)) is.small in
         let read : v ≡ m.marks n.landed = z.find (k.base + 4) (word_of k is 4 (omega arith) refl)
         (line.wants ∙ ap (λ b. loads (b + 4)) h.visits.base) ∙ laws.sees_mark k n word_at order words in
-        let made = laws.reports k n (m.took o) (m.closings o) order h.quiet.level (laws.shut_done k n order) in
-        acts 0x10 0x14 (loads (r.x8 + 4)) (λ w. record r { x30 = w }) made.after (tt, word_from k is r.x8 4 h.visits.base (omega arith) refl) line made.changes
+        let made = laws.reports k n o.took o.closings order h.quiet.level (laws.shut_done k n order) in
+        acts 0x10 0x14 (loads (r.x8 + 4)) (λ w. record r { x30 = w }) (record o { mark = m.marks n.landed })
+        (tt, word_from k is r.x8 4 h.visits.base (omega arith) refl) line made.changes
         (inl (
           record {
             visits = h.visits;
-            quiet = record {
-              words = made.took ∙ h.quiet.words ∙ sym made.tails;
-              closed = made.closings ∙ h.quiet.closed ∙ sym made.dones;
-              level = made.level;
-            };
-            open_yet = made.dones ∙ h.open_yet;
+            quiet = record { words = h.quiet.words; closed = h.quiet.closed; level = made.level };
+            open_yet = h.open_yet;
           },
-          flag read made.after made.mark (cases_eq (m.marks n.landed) 0),
+          flag read (cases_eq (m.marks n.landed) 0),
         ))
-        (inl (refl, made.took, made.closings)) (ap (λ j. r.x20 + j + 0) made.closings)
+        (inl (refl, refl, refl)) refl
         (λ none rs states idle. (let fresh = not_stale v (not (runs (states (r.x22 + 1)))) (λ ended. read ∙ idle.marked h.visits.index ended) in
         flags 16 17 19 20 ((v == 0) && not (runs (states (r.x22 + 1)))) false (omega arith) (far_off rs count (r.x22 + 1)) (λ on. sym fresh ∙ on)))
       where
-        flag : v ≡ m.marks n.landed → (new : m.Receiver) → m.seen_mark new ≡ m.marks n.landed → (m.marks n.landed ≡ 0) ⊎ (m.marks n.landed ≢ 0) → Flag m new v
-        flag read new mark (inl none) = inl (read ∙ none)
-        flag read new mark (inr some) = let one : m.marks n.landed ≡ 1 = omega (arith, laws.marks_one k n order) in inr (read ∙ one, mark ∙ one)
+        flag : v ≡ m.marks n.landed → (m.marks n.landed ≡ 0) ⊎ (m.marks n.landed ≢ 0) → Flag (record o { mark = m.marks n.landed }) v
+        flag read (inl none) = inl (read ∙ none)
+        flag read (inr some) = let one : m.marks n.landed ≡ 1 = omega (arith, laws.marks_one k n order) in inr (read ∙ one, one)
 
     right_28 : Right_here 0x28  -- addi x7,x7,4
     right_28 h z =
         still 0x28 0x2C (record r { x7 = r.x7 + 4 }) refl (add_line (at 10 refl)
-        (word_plus r.x7 4 (omega (arith, is.inside, is.small, h.1, offset_low k is (m.tails o)))))
-        (h.0, (let same : r.x7 + 4 ≡ offset k (m.tails o) + 4 = omega (arith, h.1) in same))
+        (word_plus r.x7 4 (omega (arith, is.inside, is.small, h.1, offset_low k is o.tails))))
+        (h.0, (let same : r.x7 + 4 ≡ offset k o.tails + 4 = omega (arith, h.1) in same))
         (λ rs states idle. omega arith)
 
     right_2C : Right_here 0x2C  -- bne x7,x9,keep
@@ -165,31 +162,32 @@ module _ (m : BlockMeaning) (k : Block) (i count : ℕ) (n : Count m) (order : m
         elim (cases_eq r.x7 (4 * k.size)) [
           | inl same ↦ still 0x2C 0x30 r refl (same_goes_on (at 11 refl) same) (h.0, sym h.1 ∙ same) (λ rs states idle. omega arith)
           | inr other ↦ still 0x2C 0x34 r refl (other_jumps (at 11 refl) other refl)
-              (h.0, h.1 ∙ offset_step k.size (m.tails o) (omega (arith, is.some_slot)) (λ full. other (h.1 ∙ full)))
+              (h.0, h.1 ∙ offset_step k.size o.tails (omega (arith, is.some_slot)) (λ full. other (h.1 ∙ full)))
               (λ rs states idle. omega arith)
         ]
 
     right_30 : Right_here 0x30  -- addi x7,x0,0
     right_30 h z = still 0x30 0x34 (record r { x7 = 0 }) refl (add_line (at 12 refl) (word_plus 0 0 (lit< tt)))
-        (h.0, sym (offset_wrap k.size (m.tails o) (omega (arith, is.some_slot)) h.1)) (λ rs states idle. omega arith)
+        (h.0, sym (offset_wrap k.size o.tails (omega (arith, is.some_slot)) h.1)) (λ rs states idle. omega arith)
 
     right_34 : Right_here 0x34  -- keep: sw x7,8(x8)
     right_34 h z =
         let line = store_line (at 13 refl) (omega (arith, is.even, h.0.visits.base)) refl (omega (arith, is.inside, is.some_slot, h.0.visits.base)) is.small in
         let made = laws.stores_tail k n order h.0.filled h.0.open_yet in
-        acts 0x34 0x38 (stores (r.x8 + 8) r.x7) (λ w. r) made.after (tt, word_from k is r.x8 8 h.0.visits.base (omega arith) refl) line
-        (subst (λ (x : ℕ × ℕ). Changes m k n made.after (x ∷ []))
-        (ap (λ b. (b + 8, offset k (m.tails o + 1))) (sym h.0.visits.base) ∙ ap (λ j. (r.x8 + 8, j)) (sym h.1))
+        let after : Taken m.Own = record o { tails = o.tails + 1; mark = m.marks n.landed } in
+        acts 0x34 0x38 (stores (r.x8 + 8) r.x7) (λ w. r) after (tt, word_from k is r.x8 8 h.0.visits.base (omega arith) refl) line
+        (subst (λ (x : ℕ × ℕ). Changes m k n after (x ∷ []))
+        (ap (λ b. (b + 8, offset k (o.tails + 1))) (sym h.0.visits.base) ∙ ap (λ j. (r.x8 + 8, j)) (sym h.1))
         made.changes)
         (inl (record {
           visits = h.0.visits;
           level = made.level;
-          ahead = made.tails ∙ ap (λ j. j + 1) (sym h.0.ahead) ∙ ap (λ j. j + 1) (sym made.took);
-          closed = made.closings ∙ h.0.closed ∙ sym made.dones;
-          open_yet = made.dones ∙ h.0.open_yet;
-          word = h.0.word ∙ ap (slice_index k.list) (sym h.0.ahead ∙ sym made.took);
+          ahead = ap (λ j. j + 1) (sym h.0.ahead);
+          closed = h.0.closed;
+          open_yet = h.0.open_yet;
+          word = h.0.word ∙ ap (slice_index k.list) (sym h.0.ahead);
         }))
-        (inl (refl, made.took, made.closings)) (ap (λ j. r.x20 + j + 0) made.closings) (λ none rs states idle. omega arith)
+        (inl (refl, refl, refl)) refl (λ none rs states idle. omega arith)
 
     right_38 : Right_here 0x38  -- addi x10,x22,0
     right_38 h z = still 0x38 0x3C (record r { x10 = r.x22 }) refl
@@ -202,19 +200,12 @@ module _ (m : BlockMeaning) (k : Block) (i count : ℕ) (n : Count m) (order : m
 
     right_40 : Right_here 0x40  -- ecall
     right_40 h z =
-        let made = laws.reports k n (m.took o + 1) (m.closings o) order h.0.level (laws.shut_done k n order) in
-        acts 0x40 0x44 (need.Report (report.Took r.x10 r.x11)) (λ w. r) made.after tt
+        let made = laws.reports k n (o.took + 1) o.closings order h.0.level (laws.shut_done k n order) in
+        acts 0x40 0x44 (need.Report (report.Took r.x10 r.x11)) (λ w. r) (record o { took = o.took + 1; mark = m.marks n.landed }) tt
         (record { wants = took_need (at 16 refl) h.2; leaves = λ w. took_after (at 16 refl) h.2 w }) made.changes
-        (inl (
-          record {
-            words = made.took ∙ sym h.0.ahead ∙ sym made.tails;
-            closed = made.closings ∙ h.0.closed ∙ sym made.dones;
-            level = made.level;
-          },
-          h.0.visits,
-        ))
-        (inr (inl (rw (h.1, h.0.word) refl, made.took, made.closings, omega (arith, h.0.ahead, laws.tails_all k n order), h.0.closed ∙ h.0.open_yet)))
-        (ap (λ j. r.x20 + j + 0) made.closings) (λ none rs states idle. cc)
+        (inl (record { words = sym h.0.ahead; closed = h.0.closed; level = made.level }, h.0.visits))
+        (inr (inl (rw (h.1, h.0.word) refl, refl, refl, omega (arith, h.0.ahead, laws.tails_all k n order), h.0.closed ∙ h.0.open_yet)))
+        refl (λ none rs states idle. cc)
 
     right_44 : Right_here 0x44  -- jal x0,step
     right_44 h z = still 0x44 0x68 r refl (jump_line (at 17 refl) refl) h (λ rs states idle. omega arith)
@@ -228,7 +219,7 @@ module _ (m : BlockMeaning) (k : Block) (i count : ℕ) (n : Count m) (order : m
               (λ rs states idle. flags 0 11 13 14 false (r.x30 == 0) (omega arith) (far_off rs count (r.x22 + 1)) (λ on. cc))
         ]
       where
-        all : r.x30 ≢ 0 → (r.x30 ≡ 0) ⊎ (m.tails o ≡ length k.list) → m.tails o ≡ length k.list
+        all : r.x30 ≢ 0 → (r.x30 ≡ 0) ⊎ (o.tails ≡ length k.list) → o.tails ≡ length k.list
         all some (inl none) = absurd (some none)
         all some (inr whole) = whole
 
@@ -239,18 +230,19 @@ module _ (m : BlockMeaning) (k : Block) (i count : ℕ) (n : Count m) (order : m
     right_50 h z =
         let line = store_line (at 20 refl) (omega (arith, is.even, h.0.visits.base)) refl (omega (arith, is.inside, is.some_slot, h.0.visits.base)) is.small in
         let made = laws.stores_done k n order h.0.quiet.level h.1 h.0.open_yet in
-        acts 0x50 0x54 (stores (r.x8 + 12) r.x5) (λ w. r) made.after (tt, word_from k is r.x8 12 h.0.visits.base (omega arith) refl) line
-        (subst (λ (x : ℕ × ℕ). Changes m k n made.after (x ∷ []))
+        let after : Taken m.Own = record o { done = 1; mark = m.marks n.landed } in
+        acts 0x50 0x54 (stores (r.x8 + 12) r.x5) (λ w. r) after (tt, word_from k is r.x8 12 h.0.visits.base (omega arith) refl) line
+        (subst (λ (x : ℕ × ℕ). Changes m k n after (x ∷ []))
         (ap (λ b. (b + 12, 1)) (sym h.0.visits.base) ∙ ap (λ j. (r.x8 + 12, j)) (sym h.2)) made.changes)
         (inl (record {
           visits = h.0.visits;
           level = made.level;
-          words = made.took ∙ h.0.quiet.words ∙ sym made.tails;
-          all = made.tails ∙ h.1;
-          done = made.dones;
-          unsaid = made.closings ∙ h.0.quiet.closed ∙ h.0.open_yet;
+          words = h.0.quiet.words;
+          all = h.1;
+          done = refl;
+          unsaid = h.0.quiet.closed ∙ h.0.open_yet;
         }))
-        (inl (refl, made.took, made.closings)) (ap (λ j. r.x20 + j + 0) made.closings) (λ none rs states idle. omega arith)
+        (inl (refl, refl, refl)) refl (λ none rs states idle. omega arith)
 
     right_54 : Right_here 0x54  -- addi x10,x22,0
     right_54 h z = still 0x54 0x58 (record r { x10 = r.x22 }) refl
@@ -263,20 +255,12 @@ module _ (m : BlockMeaning) (k : Block) (i count : ℕ) (n : Count m) (order : m
 
     right_5C : Right_here 0x5C  -- ecall
     right_5C h z =
-        let made = laws.reports k n (m.took o) 1 order h.0.level (omega (arith, h.0.done)) in
-        acts 0x5C 0x60 (need.Report (report.Closed r.x10)) (λ w. r) made.after tt
-        (record { wants = closed_need (at 23 refl) h.2; leaves = λ w. closed_after (at 23 refl) h.2 w })
-        made.changes
-        (inl (
-          record {
-            words = made.took ∙ h.0.words ∙ sym made.tails;
-            closed = made.closings ∙ sym h.0.done ∙ sym made.dones;
-            level = made.level;
-          },
-          h.0.visits,
-        ))
-        (inr (inr (rw h.1 refl, made.took, made.closings, h.0.words ∙ h.0.all, h.0.unsaid)))
-        (omega (arith, h.0.unsaid, made.closings)) (λ none rs states idle. cc)
+        let made = laws.reports k n o.took 1 order h.0.level (omega (arith, h.0.done)) in
+        acts 0x5C 0x60 (need.Report (report.Closed r.x10)) (λ w. r) (record o { closings = 1; mark = m.marks n.landed }) tt
+        (record { wants = closed_need (at 23 refl) h.2; leaves = λ w. closed_after (at 23 refl) h.2 w }) made.changes
+        (inl (record { words = h.0.words; closed = sym h.0.done; level = made.level }, h.0.visits))
+        (inr (inr (rw h.1 refl, refl, refl, h.0.words ∙ h.0.all, h.0.unsaid)))
+        (omega (arith, h.0.unsaid)) (λ none rs states idle. cc)
 
     right_60 : Right_here 0x60  -- addi x20,x20,-1
     right_60 h z =
@@ -359,7 +343,7 @@ module _ (m : BlockMeaning) (k : Block) (i count : ℕ) (n : Count m) (order : m
         (also right_78 (also right_7C (also right_80 (laws.moves k i count n word_at r v is order words))))))) in
         let close = also right_48 (also right_4C (also right_50 (also right_54 (also right_58 (also right_5C (also right_60 (also right_64 last))))))) in
         let take = also right_28 (also right_2C (also right_30 (also right_34 (also right_38 (also right_3C (also right_40 (also right_44 close))))))) in
-        found (λ (H : Block → ℕ → m.Receiver → ReceiverRegisters → Type 0). H k i o r)
+        found (λ (H : Block → ℕ → Taken m.Own → ReceiverRegisters → Type 0). H k i o r)
         (λ at. Runs m k count at n word_at r v → Receives m k i count at n r v) (rows_of m)
         (also right_00 (also right_04 (also right_08
         (also right_0C (also right_10 (also (laws.moves_14 k i count n word_at r v is order words) take)))))) here h

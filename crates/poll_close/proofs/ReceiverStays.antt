@@ -7,17 +7,17 @@ use Rattle.step_machine.specs.Paths.{state_of}
 use Rattle.poll_close.specs.Layout.{Layout}
 use Rattle.poll_close.specs.Reports.{Clean}
 use Rattle.poll_close.specs.Invariant.Blocks.{block_of}
-use Rattle.poll_close.specs.Invariant.BlockMeaning.{BlockMeaning, Count, AllReported, ReceiverIs}
+use Rattle.poll_close.specs.Invariant.BlockMeaning.{BlockMeaning, Taken, Count, AllReported, ReceiverIs}
 use Rattle.poll_close.specs.Invariant.Channels.{ReceiverPart, ReportsOf, ReportPart, all_closings}
 use Rattle.poll_close.proofs.AllBlocks.{BlocksAfter}
 
 -- sums over all senders
 pub shuts_same : (m : BlockMeaning) (f g : ℕ → Count m) (count : ℕ)
-    → ((i : ℕ) → i < count → m.closings (g i).receiver ≡ m.closings (f i).receiver)
+    → ((i : ℕ) → i < count → (g i).receiver.closings ≡ (f i).receiver.closings)
     → all_closings m g count ≡ all_closings m f count
 shuts_same m f g zero same = refl
 shuts_same m f g (suc i) same =
-    let last : m.closings (g i).receiver ≡ m.closings (f i).receiver = same i (omega arith) in
+    let last : (g i).receiver.closings ≡ (f i).receiver.closings = same i (omega arith) in
     let more : all_closings m g i ≡ all_closings m f i = shuts_same m f g i (λ j less. same j (omega arith)) in
     omega (arith, last, more)
 
@@ -31,21 +31,21 @@ module _ (m : BlockMeaning) (M : ℕ) (S : Layout) (lists : List (List ℕ)) (t 
     known = part.known;
     state = same ∙ part.state;
     holds =
-        subst (λ (o : m.Receiver). ReceiverIs m (block_of M S lists part.block) part.block part.place o part.noted)
+        subst (λ (o : Taken m.Own). ReceiverIs m (block_of M S lists part.block) part.block part.place o part.noted)
         (sym (after.same part.block part.known)) part.holds;
     others = λ j within other. subst (AllReported m) (sym (after.same j within)) (part.others j within other);
     count = (let same : all_closings m after.numbers (length lists) ≡ all_closings m f (length lists) =
-        shuts_same m f after.numbers (length lists) (λ j within. ap m.closings (after.same j within)) in
+        shuts_same m f after.numbers (length lists) (λ j within. ap (λ (o : Taken m.Own). o.closings) (after.same j within)) in
         omega (arith, same, part.count));
   }
 
   pub reports_stay : (rs now : List Report) → now ≡ rs → ReportPart m lists rs f → ReportPart m lists now after.numbers
   reports_stay rs now same part = record {
     senders =
-        λ j within. subst (λ (o : m.Receiver). ReportsOf now j (slice_index_or lists j []) (m.took o) (m.closings o))
+        λ j within. subst (λ (o : Taken m.Own). ReportsOf now j (slice_index_or lists j []) o.took o.closings)
         (sym (after.same j within))
         (subst (λ (ys : List Report).
-        ReportsOf ys j (slice_index_or lists j []) (m.took (f j).receiver) (m.closings (f j).receiver)) (sym same)
+        ReportsOf ys j (slice_index_or lists j []) ((f j).receiver.took) ((f j).receiver.closings)) (sym same)
         (part.senders j within));
     clean = subst (λ (ys : List Report). Clean ys lists) (sym same) part.clean;
   }

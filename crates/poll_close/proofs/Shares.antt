@@ -226,13 +226,13 @@ some_from rs j (suc n) (suc i) less is = at (is_closed rs j) (some_from rs (suc 
     at false e = refl
 
 pub shuts_less : (m : BlockMeaning) (f : ℕ → Count m) (count i : ℕ)
-    → ((j : ℕ) → j < count → m.closings (f j).receiver ≤ 1) → i < count → m.closings (f i).receiver ≡ 0
+    → ((j : ℕ) → j < count → (f j).receiver.closings ≤ 1) → i < count → (f i).receiver.closings ≡ 0
     → all_closings m f count < count
 shuts_less m f zero i each less none = absurd (omega arith)
 shuts_less m f (suc c) i each less none =
     elim (cases_eq i c) [
       | inl same ↦
-          let last : m.closings (f c).receiver ≡ 0 = ap (λ z. m.closings (f z).receiver) (sym same) ∙ none in
+          let last : (f c).receiver.closings ≡ 0 = ap (λ z. (f z).receiver.closings) (sym same) ∙ none in
           omega (arith, last, shuts_most m f c (λ j below. each j (omega arith)))
       | inr other ↦ omega (arith, each c (omega arith), shuts_less m f c i (λ j below. each j (omega arith)) (omega (arith, other, less)) none)
     ]

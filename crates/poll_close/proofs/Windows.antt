@@ -2,52 +2,37 @@
 -- not landed.
 use Rattle.std.proofs.Common.{ℕ, zero, suc, ◌-◌, ◌<◌, ◌≤◌, ◌≡◌, ◌≢◌, ◌==◌, true, false, if◌then◌else◌, List, [], ◌∷◌}
 use Rattle.std.proofs.Common.{◌++◌, length, take, length-drop, length-take, min, Option, Some, None, refl, sym, ◌∙◌, ap}
-use Rattle.std.proofs.Common.{subst, arith, eq-eqb, ◌+◌, ◌*◌, ◌⊎◌, inl, inr}
+use Rattle.std.proofs.Common.{subst, arith, append-nil, eq-eqb, ◌+◌, ◌*◌, ◌⊎◌, inl, inr}
 use Rattle.std.specs.List.{slice_get}
 use Rattle.std.proofs.Math.ListN.{drop_of_length-le}
 use Rattle.std.proofs.lemmas.Bool.Decides.{nat_tests}
-use Rattle.poll_close.specs.Invariant.Blocks.{window, singles, pairs}
+use Rattle.poll_close.specs.Invariant.Blocks.{window, singles, pairs, AreNext}
 use Rattle.std.specs.Prelude.{slice_index}
 
--- the next store is made
-pub window_made : (xs : List (ℕ × ℕ)) (k n : ℕ) (x : ℕ × ℕ) → k ≤ n → slice_get xs n ≡ Some x → window xs k n ++ x ∷ [] ≡ window xs k (suc n)
-window_made [] k n x less is = cc
-window_made (y ∷ ys) zero zero x less is = let same : y ≡ x = cc in ap (λ z. z ∷ []) (sym same)
-window_made (y ∷ ys) zero (suc n) x less is = ap (λ zs. y ∷ zs) (window_made ys zero n x (omega arith) is)
-window_made (y ∷ ys) (suc k) zero x less is = absurd (omega arith)
-window_made (y ∷ ys) (suc k) (suc n) x less is = window_made ys k n x (omega arith) is
+one_made : (xs : List (ℕ × ℕ)) (k n : ℕ) (x : ℕ × ℕ) → k ≤ n → slice_get xs n ≡ Some x → window xs k n ++ x ∷ [] ≡ window xs k (suc n)
+one_made [] k n x less is = cc
+one_made (y ∷ ys) zero zero x less is = let same : y ≡ x = cc in ap (λ z. z ∷ []) (sym same)
+one_made (y ∷ ys) zero (suc n) x less is = ap (λ zs. y ∷ zs) (one_made ys zero n x (omega arith) is)
+one_made (y ∷ ys) (suc k) zero x less is = absurd (omega arith)
+one_made (y ∷ ys) (suc k) (suc n) x less is = one_made ys k n x (omega arith) is
 
--- the oldest pending store, and the window after it lands
-pub window_first : (xs : List (ℕ × ℕ)) (k n : ℕ) (x : ℕ × ℕ) → k < n → slice_get xs k ≡ Some x → window xs k n ≡ x ∷ window xs (suc k) n
-window_first [] k n x less is = cc
-window_first (y ∷ ys) zero zero x less is = absurd (omega arith)
-window_first (y ∷ ys) zero (suc n) x less is = let same : y ≡ x = cc in ap (λ z. z ∷ take n ys) same
-window_first (y ∷ ys) (suc k) zero x less is = absurd (omega arith)
-window_first (y ∷ ys) (suc k) (suc n) x less is = window_first ys k n x (omega arith) is
+-- the next store is made, or none
+pub window_made : (xs : List (ℕ × ℕ)) (k i j : ℕ) (made : List (ℕ × ℕ)) → k ≤ i → AreNext xs i j made → window xs k i ++ made ≡ window xs k j
+window_made xs k i j [] less next = append-nil (window xs k i) ∙ ap (window xs k) (sym next)
+window_made xs k i j (x ∷ []) less next = one_made xs k i x less next.1 ∙ ap (window xs k) (sym next.0)
+window_made xs k i j (x ∷ y ∷ more) less next = absurd next
 
 -- the head of a window is the store of its number
-pub first_is : (xs : List (ℕ × ℕ)) (i j : ℕ) (x y : ℕ × ℕ) (rest : List (ℕ × ℕ)) → i < j → slice_get xs i ≡ Some y
-    → window xs i j ≡ x ∷ rest → (x ≡ y) × (rest ≡ window xs (suc i) j)
-first_is xs i j x y rest less at is =
-    let split : window xs i j ≡ y ∷ window xs (suc i) j = window_first xs i j y less at in
-    let same : x ∷ rest ≡ y ∷ window xs (suc i) j = sym is ∙ split in
-    (let one : x ≡ y = cc in one, let more : rest ≡ window xs (suc i) j = cc in more)
-
--- a window with a first element has one
-pub some_in : (xs : List (ℕ × ℕ)) (i j : ℕ) (x : ℕ × ℕ) (rest : List (ℕ × ℕ)) → window xs i j ≡ x ∷ rest → i < j
-some_in xs i j x rest is =
-    let long : length (window xs i j) ≡ length (x ∷ rest) = ap length is in
-    let counted : length (window xs i j) ≡ length (take j xs) - i = length-drop i (take j xs) in
-    let front : length (take j xs) ≡ min j (length xs) = length-take j xs in
-    omega arith
-
--- whatever the landing of the oldest store of a window gives, the landing of its first element gives
-pub oldest_lands : (P : List (ℕ × ℕ) → Type 0) (Lands : ℕ × ℕ → Type 0) (xs : List (ℕ × ℕ)) (i j : ℕ) (x y : ℕ × ℕ)
-    (rest : List (ℕ × ℕ)) → window xs i j ≡ x ∷ rest → Lands x → slice_get xs i ≡ Some y
-    → (Lands y → P (window xs (suc i) j)) → P rest
-oldest_lands P Lands xs i j x y rest first lands at gives =
-    let both = first_is xs i j x y rest (some_in xs i j x rest first) at first in
-    subst P (sym both.1) (gives (subst Lands both.0 lands))
+pub window_head : (xs : List (ℕ × ℕ)) (i j : ℕ) (x : ℕ × ℕ) (rest : List (ℕ × ℕ)) → window xs i j ≡ x ∷ rest
+    → (i < j) × (slice_get xs i ≡ Some x) × (window xs (suc i) j ≡ rest)
+window_head [] zero zero x rest is = cc
+window_head [] zero (suc j) x rest is = cc
+window_head [] (suc i) zero x rest is = cc
+window_head [] (suc i) (suc j) x rest is = cc
+window_head (y ∷ ys) zero zero x rest is = cc
+window_head (y ∷ ys) zero (suc j) x rest is = (omega arith, (let same : y ≡ x = cc in ap Some same), (let more : take j ys ≡ rest = cc in more))
+window_head (y ∷ ys) (suc i) zero x rest is = cc
+window_head (y ∷ ys) (suc i) (suc j) x rest is = let more = window_head ys i j x rest is in ((let less : i < j = more.0 in omega arith), more.1, more.2)
 
 pub window_empty : (xs : List (ℕ × ℕ)) (i j : ℕ) → j ≤ i → window xs i j ≡ []
 window_empty xs i j less = drop_of_length-le (take j xs) (let front : length (take j xs) ≡ min j (length xs) = length-take j xs in omega arith)
@@ -60,21 +45,9 @@ none_left xs i j none within =
     let front : length (take j xs) ≡ min j (length xs) = length-take j xs in
     omega arith
 
--- what holds of all stores of the list holds of those of the window
-
+-- what holds of all stores of the list
 abbrev pub Each : (ℕ × ℕ → Type 0) → List (ℕ × ℕ) → Type 0
 Each P xs = (j : ℕ) (x : ℕ × ℕ) → slice_get xs j ≡ Some x → P x
-
-pub Each-window : (P : ℕ × ℕ → Type 0) (xs : List (ℕ × ℕ)) (k n : ℕ) → Each P xs → Each P (window xs k n)
-Each-window P [] zero zero each j x is = cc
-Each-window P [] zero (suc n) each j x is = cc
-Each-window P [] (suc k) zero each j x is = cc
-Each-window P [] (suc k) (suc n) each j x is = cc
-Each-window P (y ∷ ys) zero zero each j x is = cc
-Each-window P (y ∷ ys) zero (suc n) each zero x is = each 0 x is
-Each-window P (y ∷ ys) zero (suc n) each (suc j) x is = Each-window P ys zero n (λ i z at. each (suc i) z at) j x is
-Each-window P (y ∷ ys) (suc k) zero each j x is = cc
-Each-window P (y ∷ ys) (suc k) (suc n) each j x is = Each-window P ys k n (λ i z at. each (suc i) z at) j x is
 
 pub get_end : {X : Type 0} (xs : List X) (x : X) → slice_get (xs ++ x ∷ []) (length xs) ≡ Some x
 get_end [] x = refl
@@ -99,7 +72,7 @@ newest_none a found (x ∷ xs) none =
 -- the newest is the last that was made
 pub newest_made : (xs : List (ℕ × ℕ)) (i j : ℕ) (a v : ℕ) → i ≤ j → slice_get xs j ≡ Some (a, v) → newest_to a None (window xs i (suc j)) ≡ Some v
 newest_made xs i j a v less at =
-    ap (newest_to a None) (sym (window_made xs i j (a, v) less at))
+    ap (newest_to a None) (sym (one_made xs i j (a, v) less at))
     ∙ newest_to-append a None (window xs i j) ((a, v) ∷ [])
     ∙ (let same : (a == a) ≡ true = eq-eqb a a refl in rw same refl)
 

@@ -1,5 +1,6 @@
 -- One word of memory is written.
-use Rattle.std.proofs.Common.{ℕ, ◌≡◌, ◌≢◌, ◌==◌, true, false, if◌then◌else◌, refl, ◌∙◌, arith}
+use Rattle.std.proofs.Common.{ℕ, ◌≡◌, ◌≢◌, ◌==◌, true, false, if◌then◌else◌, List, Some, refl, ◌∙◌, subst, arith}
+use Rattle.std.specs.List.{slice_get}
 use Rattle.std.proofs.lemmas.Bool.Decides.{nat_tests}
 
 abbrev pub IsWrite : (ℕ → ℕ) → (ℕ → ℕ) → ℕ × ℕ → Type 0
@@ -11,3 +12,8 @@ module _ (word new : ℕ → ℕ) (a v : ℕ) (write : IsWrite word new (a, v)) 
 
   pub miss : (b : ℕ) → a ≢ b → new b ≡ word b
   miss b other = let off : (a == b) ≡ false = grind (arith, nat_tests) in write b ∙ rw off refl
+
+-- the store of a number is one
+pub same_write : (word new : ℕ → ℕ) (x y : ℕ × ℕ) (xs : List (ℕ × ℕ)) (i : ℕ) → slice_get xs i ≡ Some x → slice_get xs i ≡ Some y
+    → IsWrite word new x → IsWrite word new y
+same_write word new x y xs i one two write = let same : x ≡ y = cc in subst (IsWrite word new) same write

@@ -1,9 +1,8 @@
 -- The numbers of one block, which say everything of its memory and of both harts' stores to it.
-use Rattle.std.proofs.Common.{ℕ, ◌+◌, ◌<◌, ◌≤◌, ◌≡◌, List, length}
+use Rattle.std.proofs.Common.{ℕ, ◌+◌, ◌<◌, ◌≤◌, ◌≡◌, length}
 use Rattle.std.specs.Prelude.{slice_index}
-use Rattle.poll_close.specs.Invariant.Blocks.{Block, offset, slot, window}
+use Rattle.poll_close.specs.Invariant.Blocks.{Block, offset, slot}
 use Rattle.poll_close.specs.Invariant.BlockMeaning as meaning
-use Rattle.fastforward.specs.Invariant.Stores.{sender_stores, receiver_stores}
 
 -- the sender's own: the words that it got from its inbox; the slots and marks that it stored; the nulls
 -- that had landed when it last read a slot
@@ -13,16 +12,12 @@ pub record Sent : Type 0 where
   pub marked : ℕ
   pub seen : ℕ
 
--- the receiver's own: the nulls, tails and done words that it stored; the words reported of the sender, and
--- whether it is reported closed; the slots that had landed when it last read one, and the mark that it read
-pub record Taken : Type 0 where
-  pub nulls : ℕ
-  pub tails : ℕ
-  pub done : ℕ
-  pub took : ℕ
-  pub closings : ℕ
-  pub seen : ℕ
-  pub mark : ℕ
+-- the receiver's own: what it has seen are slots, and the ring counts the nulls that it stored too
+abbrev pub Taken : Type 0
+Taken = meaning.Taken ℕ
+
+abbrev pub nulls : Taken → ℕ
+nulls n = n.own
 
 -- what has landed
 pub record Landed : Type 0 where
@@ -33,7 +28,7 @@ pub record Landed : Type 0 where
   pub done : ℕ
 
 abbrev pub Numbers : Type 0
-Numbers = meaning.Numbers Sent Taken Landed
+Numbers = meaning.Numbers Sent ℕ Landed
 
 -- each hart's stores, made and landed
 abbrev pub sent : Sent → ℕ
@@ -43,7 +38,7 @@ abbrev pub gone : Landed → ℕ
 gone n = n.slots + n.mark
 
 abbrev pub taken : Taken → ℕ
-taken n = n.nulls + n.tails + n.done
+taken n = nulls n + n.tails + n.done
 
 abbrev pub freed : Landed → ℕ
 freed n = n.nulls + n.tails + n.done
@@ -54,13 +49,13 @@ pub record Ordered (k : Block) (n : Numbers) : Type 0 where
   pub seen_nulls : n.sender.seen ≤ n.landed.nulls
   pub seen_slots : n.receiver.seen ≤ n.landed.slots
   pub seen_mark : n.receiver.mark ≤ n.landed.mark
-  pub nulls_landed : n.landed.nulls ≤ n.receiver.nulls
-  pub nulls_slots : n.receiver.nulls ≤ n.landed.slots
+  pub nulls_landed : n.landed.nulls ≤ nulls n.receiver
+  pub nulls_slots : nulls n.receiver ≤ n.landed.slots
   pub slots_landed : n.landed.slots ≤ n.sender.stored
   pub room : n.sender.stored ≤ n.landed.nulls + k.size
   pub stored_all : n.sender.stored ≤ length k.list
-  pub tails_nulls : n.receiver.tails ≤ n.receiver.nulls
-  pub nulls_tails : n.receiver.nulls ≤ n.receiver.tails + 1
+  pub tails_nulls : n.receiver.tails ≤ nulls n.receiver
+  pub nulls_tails : nulls n.receiver ≤ n.receiver.tails + 1
   pub tail_after : n.landed.tails ≤ n.landed.nulls
   pub null_before : n.landed.nulls ≤ n.landed.tails + 1
   pub tails_landed : n.landed.tails ≤ n.receiver.tails
@@ -73,13 +68,6 @@ pub record Ordered (k : Block) (n : Numbers) : Type 0 where
   pub done_landed : n.landed.done ≤ n.receiver.done
   pub done_all : 0 < n.receiver.done → n.receiver.tails ≡ length k.list
   pub all_landed : 0 < n.landed.done → n.landed.tails ≡ length k.list
-
--- the pending stores of the sender, and those of the receiver to the block
-abbrev pub pending_of : Block → Sent → Landed → List (ℕ × ℕ)
-pending_of k s l = window (sender_stores k.size k.base k.list) (gone l) (sent s)
-
-abbrev pub unread_of : Block → Taken → Landed → List (ℕ × ℕ)
-unread_of k r l = window (receiver_stores k.size k.base k.list) (freed l) (taken r)
 
 -- the words of the block in memory: its slots hold the words that are not emptied, and 0 from there
 -- round to them

@@ -1,9 +1,8 @@
 -- The numbers of one block, which say everything of its memory and of both harts' stores to it.
-use Rattle.std.proofs.Common.{ℕ, ◌+◌, ◌<◌, ◌≤◌, ◌≡◌, List, length}
+use Rattle.std.proofs.Common.{ℕ, ◌+◌, ◌<◌, ◌≤◌, ◌≡◌, length}
 use Rattle.std.specs.Prelude.{slice_index}
-use Rattle.poll_close.specs.Invariant.Blocks.{Block, offset, slot, window}
+use Rattle.poll_close.specs.Invariant.Blocks.{Block, offset, slot}
 use Rattle.poll_close.specs.Invariant.BlockMeaning as meaning
-use Rattle.lamport_ring.specs.Invariant.Stores.{sender_stores, receiver_stores}
 
 -- the sender's own: the words that it got from its inbox; the slots, heads and marks that it stored; the
 -- tails that had landed when it last read one
@@ -14,15 +13,9 @@ pub record Sent : Type 0 where
   pub marked : ℕ
   pub seen : ℕ
 
--- the receiver's own: the tails and done words that it stored; the words reported of the sender, and whether
--- it is reported closed; the heads that had landed when it last read one, and the mark that it read
-pub record Taken : Type 0 where
-  pub tails : ℕ
-  pub done : ℕ
-  pub took : ℕ
-  pub closings : ℕ
-  pub seen : ℕ
-  pub mark : ℕ
+-- the receiver's own: what it has seen are heads
+abbrev pub Taken : Type 0
+Taken = meaning.Taken (Unit {0})
 
 -- what has landed
 pub record Landed : Type 0 where
@@ -33,7 +26,7 @@ pub record Landed : Type 0 where
   pub done : ℕ
 
 abbrev pub Numbers : Type 0
-Numbers = meaning.Numbers Sent Taken Landed
+Numbers = meaning.Numbers Sent (Unit {0}) Landed
 
 -- each hart's stores, made and landed
 abbrev pub sent : Sent → ℕ
@@ -71,13 +64,6 @@ pub record Ordered (k : Block) (n : Numbers) : Type 0 where
   pub done_landed : n.landed.done ≤ n.receiver.done
   pub done_all : 0 < n.receiver.done → n.receiver.tails ≡ length k.list
   pub all_landed : 0 < n.landed.done → n.landed.tails ≡ length k.list
-
--- the pending stores of the sender, and those of the receiver to the block
-abbrev pub pending_of : Block → Sent → Landed → List (ℕ × ℕ)
-pending_of k s l = window (sender_stores k.size k.base k.list) (gone l) (sent s)
-
-abbrev pub unread_of : Block → Taken → Landed → List (ℕ × ℕ)
-unread_of k r l = window (receiver_stores k.size k.base k.list) (freed l) (taken r)
 
 -- the words of the block in memory
 pub record Words (k : Block) (n : Landed) (word : ℕ → ℕ) : Type 0 where

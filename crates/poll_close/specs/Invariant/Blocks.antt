@@ -1,7 +1,7 @@
 -- One sender's block: what never changes of it, its addresses, and the pending stores that go to it.
-use Rattle.std.proofs.Common.{ℕ, suc, ◌+◌, ◌*◌, ◌%◌, Bool, not, ◌&&◌, List, [], ◌∷◌, take, drop}
+use Rattle.std.proofs.Common.{ℕ, suc, ◌+◌, ◌*◌, ◌%◌, ◌≡◌, Bool, not, ◌&&◌, List, [], ◌∷◌, take, drop, Some}
 use Rattle.std.specs.Prelude.{nat_lt, map}
-use Rattle.std.specs.List.{slice_index_or, filter}
+use Rattle.std.specs.List.{slice_get, slice_index_or, filter}
 use Rattle.memory.specs.declared.writes.Write.{Write}
 use Rattle.memory.specs.Writes.{write}
 use Rattle.poll_close.specs.Layout.{block_size, Layout, base_of}
@@ -47,6 +47,12 @@ to_block k ws = filter (is_to k) ws
 abbrev pub window : List (ℕ × ℕ) → ℕ → ℕ → List (ℕ × ℕ)
 window xs k n = drop k (take n xs)
 
+-- these are the next of the list's stores, after the first i: none, or one; then j are made
+abbrev pub AreNext : List (ℕ × ℕ) → ℕ → ℕ → List (ℕ × ℕ) → Type 0
+AreNext xs i j [] = j ≡ i
+AreNext xs i j (x ∷ []) = (j ≡ suc i) × (slice_get xs i ≡ Some x)
+AreNext xs i j (x ∷ y ∷ more) = ⊥
+
 -- the stores by a list's words, one for each word, or two, by its number and the word; and one at the end
 abbrev pub singles : (ℕ → ℕ → ℕ × ℕ) → ℕ × ℕ → List ℕ → List (ℕ × ℕ)
 singles each last [] = last ∷ []
@@ -57,8 +63,8 @@ pairs first second last [] = last ∷ []
 pairs first second last (w ∷ ws) = first 0 w ∷ second 0 w ∷ pairs (λ j v. first (suc j) v) (λ j v. second (suc j) v) last ws
 
 -- word j goes into its slot, and the tail after it says that it is taken
-abbrev pub slot_store : ℕ → ℕ → ℕ → ℕ → ℕ × ℕ
-slot_store S b j w = (slot S b j, w)
+abbrev pub slot_store : Block → ℕ → ℕ → ℕ × ℕ
+slot_store k j w = (slot k.size k.base j, w)
 
-abbrev pub tail_store : ℕ → ℕ → ℕ → ℕ → ℕ × ℕ
-tail_store S b j w = (b + 8, 4 * ((j + 1) % S))
+abbrev pub tail_store : Block → ℕ → ℕ → ℕ × ℕ
+tail_store k j w = (k.base + 8, offset k (j + 1))

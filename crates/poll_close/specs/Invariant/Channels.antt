@@ -34,7 +34,7 @@ pub record BlockPart (m : BlockMeaning) (k : Block) (M i : ℕ) (t : History) (n
 -- how many senders are reported closed
 abbrev pub all_closings : (m : BlockMeaning) → (ℕ → Count m) → ℕ → ℕ
 all_closings m f zero = 0
-all_closings m f (suc i) = m.closings (f i).receiver + all_closings m f i
+all_closings m f (suc i) = (f i).receiver.closings + all_closings m f i
 
 -- where the receiver stands, and what holds of the block that it visits or visited last
 pub record ReceiverPart (m : BlockMeaning) (M : ℕ) (S : Layout) (lists : List (List ℕ)) (t : History) (f : ℕ → Count m) : Type 0 where
@@ -55,7 +55,7 @@ pub record ReportsOf (rs : List Report) (i : ℕ) (list : List ℕ) (took closin
   pub said : closings ≡ 1 → (k : ℕ) × (slice_get rs k ≡ Some (report.Closed i))
 
 pub record ReportPart (m : BlockMeaning) (lists : List (List ℕ)) (rs : List Report) (f : ℕ → Count m) : Type 0 where
-  pub senders : (j : ℕ) → j < length lists → ReportsOf rs j (slice_index_or lists j []) (m.took (f j).receiver) (m.closings (f j).receiver)
+  pub senders : (j : ℕ) → j < length lists → ReportsOf rs j (slice_index_or lists j []) ((f j).receiver.took) ((f j).receiver.closings)
   pub clean : Clean rs lists
 
 pub record Channel (m : BlockMeaning) (M : ℕ) (S : Layout) (lists : List (List ℕ)) (t : History) : Type 0 where

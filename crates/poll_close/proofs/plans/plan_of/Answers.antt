@@ -24,9 +24,7 @@ loop-machine-preserved g c =
     (some_left c.pending.ensures c.is_empty.ensures c.loop-machine-test.true) c.in_ok-step.ensures.happens in (
       subst (λ evs. Planned g.K.RingKind.ring g.K.RingKind.meaning g.row.B g.row.M c.args.machine.history evs
           c.step.new.self.history) (sym c.in_ok-push.ensures.items)
-          (planned-more g.K.RingKind.ring g.K.RingKind.meaning g.row.B g.row.M c.args.machine.history
-          c.loop-machine.plan.items c.loop-machine.machine.history _ c.in_ok-step.field-0 c.step.new.self.history
-          c.laws.ensures.keeps p c.in_ok-step.ensures.happens),
+          (planned-more _ c.in_ok-step.field-0 c.step.new.self.history c.laws.ensures.keeps p c.in_ok-step.ensures.happens),
       λ k below. less.others k (omega arith) ∙ c.loop-machine.invariant.1 k below,
     )
 
@@ -39,45 +37,30 @@ loop-hart-preserved g c = (
 
 pub pending-requires-in-loop-machine-2 : goal.pending-requires-in-loop-machine-2
 pending-requires-in-loop-machine-2 g c =
-    let turn =
-    turned g.K.RingKind.ring g.K.RingKind.meaning (rank_of g.K.Finish.ranking) (next_by g.K.Finish.ranking) g.row.B
-    g.row.M c.args.machine.history c.loop-machine-2.plan.items c.loop-machine-2.machine.history
-    c.next_hart-next.result c.in_ok-step-2.field-0 c.step-in-loop-machine-2.new.self.history c.falls.ensures
-    c.laws.ensures.keeps c.requires.some_capacity c.loop-machine-2.invariant.0 c.loop-machine-2.invariant.1
-    (sym c.is_finished-in-loop-machine-2.ensures ∙ c.loop-machine-2-test.true) c.next_hart-next.ensures
-    c.in_ok-step-2.ensures.happens in
+    let turn = turned (rank_of g.K.Finish.ranking) (next_by g.K.Finish.ranking) c.next_hart-next.result c.in_ok-step-2.field-0
+    c.step-in-loop-machine-2.new.self.history c.falls.ensures c.laws.ensures.keeps c.requires.some_capacity
+    c.loop-machine-2.invariant.0 c.loop-machine-2.invariant.1
+    (sym c.is_finished-in-loop-machine-2.ensures ∙ c.loop-machine-2-test.true) c.next_hart-next.ensures c.in_ok-step-2.ensures.happens in
     (lit< tt, turn.hart)
 
 pub loop-machine-2-smaller-in-Continue-branch-6 : goal.loop-machine-2-smaller-in-Continue-branch-6
 loop-machine-2-smaller-in-Continue-branch-6 g c =
-    let turn =
-    turned g.K.RingKind.ring g.K.RingKind.meaning (rank_of g.K.Finish.ranking) (next_by g.K.Finish.ranking) g.row.B
-    g.row.M c.args.machine.history c.loop-machine-2.plan.items c.loop-machine-2.machine.history
-    c.next_hart-next.result c.in_ok-step-2.field-0 c.step-in-loop-machine-2.new.self.history c.falls.ensures
-    c.laws.ensures.keeps c.requires.some_capacity c.loop-machine-2.invariant.0 c.loop-machine-2.invariant.1
-    (sym c.is_finished-in-loop-machine-2.ensures ∙ c.loop-machine-2-test.true) c.next_hart-next.ensures
-    c.in_ok-step-2.ensures.happens in
-    let over = turn_over g.K.RingKind.ring g.K.RingKind.meaning (rank_of g.K.Finish.ranking) g.row.B g.row.M
-    c.args.machine.history _ c.loop-machine-2.machine.history c.step-in-loop-machine-2.new.self.history
-    c.next_hart-next.result c.in_ok-step-3.field-0 c.step-then-not-is_empty.new.self.history c.laws.ensures.keeps
-    c.loop-machine-2.invariant.1 turn
+    let turn = turned (rank_of g.K.Finish.ranking) (next_by g.K.Finish.ranking) c.next_hart-next.result c.in_ok-step-2.field-0
+    c.step-in-loop-machine-2.new.self.history c.falls.ensures c.laws.ensures.keeps c.requires.some_capacity
+    c.loop-machine-2.invariant.0 c.loop-machine-2.invariant.1
+    (sym c.is_finished-in-loop-machine-2.ensures ∙ c.loop-machine-2-test.true) c.next_hart-next.ensures c.in_ok-step-2.ensures.happens in
+    let over = turn_over c.in_ok-step-3.field-0 c.step-then-not-is_empty.new.self.history c.laws.ensures.keeps c.loop-machine-2.invariant.1 turn
     (some_left c.pending-in-loop-machine-2.ensures c.is_empty-in-loop-machine-2.ensures c.if-not-is_empty.true)
     c.in_ok-step-3.ensures.happens in
     over.less
 
 pub loop-machine-2-preserved-in-Continue-branch-6 : goal.loop-machine-2-preserved-in-Continue-branch-6
 loop-machine-2-preserved-in-Continue-branch-6 g c =
-    let turn =
-    turned g.K.RingKind.ring g.K.RingKind.meaning (rank_of g.K.Finish.ranking) (next_by g.K.Finish.ranking) g.row.B
-    g.row.M c.args.machine.history c.loop-machine-2.plan.items c.loop-machine-2.machine.history
-    c.next_hart-next.result c.in_ok-step-2.field-0 c.step-in-loop-machine-2.new.self.history c.falls.ensures
-    c.laws.ensures.keeps c.requires.some_capacity c.loop-machine-2.invariant.0 c.loop-machine-2.invariant.1
-    (sym c.is_finished-in-loop-machine-2.ensures ∙ c.loop-machine-2-test.true) c.next_hart-next.ensures
-    c.in_ok-step-2.ensures.happens in
-    let over = turn_over g.K.RingKind.ring g.K.RingKind.meaning (rank_of g.K.Finish.ranking) g.row.B g.row.M
-    c.args.machine.history _ c.loop-machine-2.machine.history c.step-in-loop-machine-2.new.self.history
-    c.next_hart-next.result c.in_ok-step-3.field-0 c.step-then-not-is_empty.new.self.history c.laws.ensures.keeps
-    c.loop-machine-2.invariant.1 turn
+    let turn = turned (rank_of g.K.Finish.ranking) (next_by g.K.Finish.ranking) c.next_hart-next.result c.in_ok-step-2.field-0
+    c.step-in-loop-machine-2.new.self.history c.falls.ensures c.laws.ensures.keeps c.requires.some_capacity
+    c.loop-machine-2.invariant.0 c.loop-machine-2.invariant.1
+    (sym c.is_finished-in-loop-machine-2.ensures ∙ c.loop-machine-2-test.true) c.next_hart-next.ensures c.in_ok-step-2.ensures.happens in
+    let over = turn_over c.in_ok-step-3.field-0 c.step-then-not-is_empty.new.self.history c.laws.ensures.keeps c.loop-machine-2.invariant.1 turn
     (some_left c.pending-in-loop-machine-2.ensures c.is_empty-in-loop-machine-2.ensures c.if-not-is_empty.true)
     c.in_ok-step-3.ensures.happens in (
       subst (λ evs. Planned g.K.RingKind.ring g.K.RingKind.meaning g.row.B g.row.M c.args.machine.history evs
@@ -89,27 +72,19 @@ loop-machine-2-preserved-in-Continue-branch-6 g c =
 
 pub loop-machine-2-smaller : goal.loop-machine-2-smaller
 loop-machine-2-smaller g c =
-    let turn =
-    turned g.K.RingKind.ring g.K.RingKind.meaning (rank_of g.K.Finish.ranking) (next_by g.K.Finish.ranking) g.row.B
-    g.row.M c.args.machine.history c.loop-machine-2.plan.items c.loop-machine-2.machine.history
-    c.next_hart-next.result c.in_ok-step-2.field-0 c.step-in-loop-machine-2.new.self.history c.falls.ensures
-    c.laws.ensures.keeps c.requires.some_capacity c.loop-machine-2.invariant.0 c.loop-machine-2.invariant.1
-    (sym c.is_finished-in-loop-machine-2.ensures ∙ c.loop-machine-2-test.true) c.next_hart-next.ensures
-    c.in_ok-step-2.ensures.happens in
+    let turn = turned (rank_of g.K.Finish.ranking) (next_by g.K.Finish.ranking) c.next_hart-next.result c.in_ok-step-2.field-0
+    c.step-in-loop-machine-2.new.self.history c.falls.ensures c.laws.ensures.keeps c.requires.some_capacity
+    c.loop-machine-2.invariant.0 c.loop-machine-2.invariant.1
+    (sym c.is_finished-in-loop-machine-2.ensures ∙ c.loop-machine-2-test.true) c.next_hart-next.ensures c.in_ok-step-2.ensures.happens in
     turn.stepped.less
 
 pub loop-machine-2-preserved : goal.loop-machine-2-preserved
 loop-machine-2-preserved g c =
-    let turn =
-    turned g.K.RingKind.ring g.K.RingKind.meaning (rank_of g.K.Finish.ranking) (next_by g.K.Finish.ranking) g.row.B
-    g.row.M c.args.machine.history c.loop-machine-2.plan.items c.loop-machine-2.machine.history
-    c.next_hart-next.result c.in_ok-step-2.field-0 c.step-in-loop-machine-2.new.self.history c.falls.ensures
-    c.laws.ensures.keeps c.requires.some_capacity c.loop-machine-2.invariant.0 c.loop-machine-2.invariant.1
-    (sym c.is_finished-in-loop-machine-2.ensures ∙ c.loop-machine-2-test.true) c.next_hart-next.ensures
-    c.in_ok-step-2.ensures.happens in
-    let over = turn_quiet g.K.RingKind.ring g.K.RingKind.meaning (rank_of g.K.Finish.ranking) g.row.B g.row.M
-    c.args.machine.history _ c.loop-machine-2.machine.history c.step-in-loop-machine-2.new.self.history
-    c.next_hart-next.result c.loop-machine-2.invariant.1 turn
+    let turn = turned (rank_of g.K.Finish.ranking) (next_by g.K.Finish.ranking) c.next_hart-next.result c.in_ok-step-2.field-0
+    c.step-in-loop-machine-2.new.self.history c.falls.ensures c.laws.ensures.keeps c.requires.some_capacity
+    c.loop-machine-2.invariant.0 c.loop-machine-2.invariant.1
+    (sym c.is_finished-in-loop-machine-2.ensures ∙ c.loop-machine-2-test.true) c.next_hart-next.ensures c.in_ok-step-2.ensures.happens in
+    let over = turn_quiet c.loop-machine-2.invariant.1 turn
     (none_left c.pending-in-loop-machine-2.ensures c.is_empty-in-loop-machine-2.ensures c.if-not-is_empty.false) in (
       subst (λ evs. Planned g.K.RingKind.ring g.K.RingKind.meaning g.row.B g.row.M c.args.machine.history evs
           c.step-in-loop-machine-2.new.self.history) (sym c.in_ok-push-2.ensures.items) over.planned,
@@ -117,18 +92,16 @@ loop-machine-2-preserved g c =
     )
 
 pub returns-then-is_finished-clause-finishes : goal.returns-then-is_finished-clause-finishes
-returns-then-is_finished-clause-finishes g c = planned-done g.K.RingKind.ring g.K.RingKind.meaning g.row.B g.row.M
-    c.args.machine.history c.new-plan.result.items c.args.machine.history c.laws.ensures.cleans
+returns-then-is_finished-clause-finishes g c = planned-done c.laws.ensures.cleans
     (subst (λ evs.
     Planned g.K.RingKind.ring g.K.RingKind.meaning g.row.B g.row.M c.args.machine.history evs c.args.machine.history)
     (sym c.new-plan.ensures.items)
-    (planned-none g.K.RingKind.ring g.K.RingKind.meaning g.row.B g.row.M c.args.machine.history c.requires.stands))
+    (planned-none c.requires.stands))
     (sym c.is_finished.ensures ∙ c.if-is_finished.true)
 
 pub returns : goal.returns
 returns g c = record {
-  finishes = planned-done g.K.RingKind.ring g.K.RingKind.meaning g.row.B g.row.M c.args.machine.history
-      c.loop-machine-2.plan.items c.loop-machine-2.machine.history c.laws.ensures.cleans c.loop-machine-2.invariant.0
+  finishes = planned-done c.laws.ensures.cleans c.loop-machine-2.invariant.0
       (let done : is_done c.loop-machine-2.machine.history ≡ true = cc in done);
   none = λ done. (let bad : true ≡ false = sym done ∙ sym c.is_finished.ensures ∙ c.if-is_finished.false in cc);
 }
