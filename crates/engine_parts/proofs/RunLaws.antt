@@ -1,5 +1,5 @@
 -- Running a schedule gives one thing, and so does noting its outcomes.
-use Rattle.std.proofs.Common.{◌≡◌, ℕ, zero, suc, ◌<◌, ◌≤◌, ◌⊎◌, inl, inr, List, [], ◌∷◌, take, Some, Result, Ok, Err, refl, sym, ap, ap₂, subst, ◌∙◌, arith}
+use Rattle.std.proofs.Common.{◌≡◌, ℕ, zero, suc, ◌<◌, ◌≤◌, ◌⊎◌, inl, inr, List, [], ◌∷◌, take, Result, Ok, Err, refl, sym, ap, ap₂, subst, ◌∙◌, arith}
 use Rattle.std.specs.List.{slice_get}
 use Rattle.std.proofs.lemmas.Bool.{cases_lt}
 use Rattle.step_machine.specs.History.{Start, History, unrun}
@@ -71,14 +71,18 @@ same_outcomes B M t ((event, outcome) ∷ steps) ((again, result) ∷ others) ne
 abbrev refused : Refusal → Result History Refusal
 refused r = Err r
 
-one_refusal : (r s : Refusal) → refused r ≡ refused s → r ≡ s
-one_refusal r s e = cc
+-- a schedule doesn't both run and differ, and differs in one way
+pub runs_or_differs : (B M : ℕ) (o : Start) (said : Said) (t : History) (r : Refusal) → Runs B M o said (Ok t) → Runs B M o said (Err r) → ⊥
+runs_or_differs B M o said t r ran differ = let same : Ok t ≡ refused r = one_run B M o said (Ok t) (Err r) ran differ in cc
+
+pub one_difference : (B M : ℕ) (o : Start) (said : Said) (r s : Refusal) → Runs B M o said (Err r) → Runs B M o said (Err s) → r ≡ s
+one_difference B M o said r s differ other = let same : refused r ≡ refused s = one_run B M o said (Err r) (Err s) differ other in cc
 
 pub one_record : (B M : ℕ) (o : Start) (said : Said) (a b : Result (List Step) Refusal) → Records B M o said a → Records B M o said b → a ≡ b
 one_record B M o said (Ok steps) (Ok others) (events, (t, runs, is)) (more, (u, also, other)) = ap (λ (xs : List Step). Ok xs) (same_outcomes B M (unrun o) steps others t u is other (events ∙ sym more))
-one_record B M o said (Ok steps) (Err r) (events, (t, runs, is)) differs = absurd (let same : Ok t ≡ refused r = one_run B M o said (Ok t) (Err r) runs differs in cc)
-one_record B M o said (Err r) (Ok steps) differs (events, (t, runs, is)) = absurd (let same : Ok t ≡ refused r = one_run B M o said (Ok t) (Err r) runs differs in cc)
-one_record B M o said (Err r) (Err s) first other = ap (λ (x : Refusal). Err x) (one_refusal r s (one_run B M o said (Err r) (Err s) first other))
+one_record B M o said (Ok steps) (Err r) (events, (t, runs, is)) differs = absurd (runs_or_differs B M o said t r runs differs)
+one_record B M o said (Err r) (Ok steps) differs (events, (t, runs, is)) = absurd (runs_or_differs B M o said t r runs differs)
+one_record B M o said (Err r) (Err s) first other = ap (λ (x : Refusal). Err x) (one_difference B M o said r s first other)
 
 -- a schedule's run keeps the opening
 pub opening_stays : (B M : ℕ) (o : Start) (said : Said) (t : History) → Runs B M o said (Ok t) → t.opening ≡ o

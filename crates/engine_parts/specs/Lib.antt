@@ -6,4 +6,5 @@ pub mod Engines
 pub mod Tests
 pub mod Schedules
 pub mod Histories
+pub mod Places
 pub mod inner

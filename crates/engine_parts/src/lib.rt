@@ -11,6 +11,7 @@ pub mod fault;
 pub mod input;
 pub mod litmus_text;
 pub mod output;
+pub mod places;
 pub mod running;
 pub mod schedule;
 pub mod state_text;

@@ -4,7 +4,9 @@ ghost use Rattle.std.specs.Prelude.{◌≡◌, ◌≤◌, ℕ, List, Result, len
 ghost use Rattle.step_machine.specs.History.{Start, History};
 ghost use Rattle.step_machine.specs.Standing.{StandsAt};
 ghost use Rattle.recorder.specs.Records.{Step};
-ghost use Rattle.recorder.specs.Versions.{Said, said_of};
+ghost use Rattle.recorder.specs.Schedule.{OfHarts};
+ghost use Rattle.recorder.specs.Versions.{Said, events_said, said_of};
+ghost use Rattle.recorder.specs.declared.reading.TheConstants.{MAX_EVENTS};
 ghost use Rattle.engine_parts.specs.Engines.{AnswersBoth};
 ghost use Rattle.engine_parts.specs.Faults.{AnswersAs, AnswersBy};
 ghost use Rattle.engine_parts.specs.Tests.{HasNoTest};
@@ -121,6 +123,8 @@ pub fn read_both<F: Read, S: Read>(
 ) -> Result<(Test, Schedule), Fault>
     ensures read { Finds (AnswersBoth (BySchedule AreRead) (F.remaining file.old) (S.remaining schedule.old)) test_and_said result }
     ensures unread { HasNoTest (F.remaining file.old) → schedule.new ≡ schedule.old }
+    ensures harts { IfOk result (λ read. OfHarts (events_said (said_of read.1))) }
+    ensures few { IfOk result (λ read. length (events_said (said_of read.1)) ≤ MAX_EVENTS) }
 {
     let test = read_test(alloc, file)?;
     let said = read_schedule(alloc, schedule)?;

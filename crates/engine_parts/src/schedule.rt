@@ -1,7 +1,9 @@
 //! Inputs that are schedules.
 
-ghost use Rattle.std.specs.Prelude.{◌≡◌, ◌≤◌, IfOk, IsErr, vec_len};
-ghost use Rattle.recorder.specs.Versions.{Says, said_of};
+ghost use Rattle.std.specs.Prelude.{◌≡◌, ◌≤◌, IfOk, IsErr, length, vec_len};
+ghost use Rattle.recorder.specs.Schedule.{OfHarts};
+ghost use Rattle.recorder.specs.Versions.{Says, events_said, said_of};
+ghost use Rattle.recorder.specs.declared.reading.TheConstants.{MAX_EVENTS};
 ghost use Rattle.engine_parts.specs.Faults.{Answers, fault_for};
 ghost use Rattle.engine_parts.specs.Engines.{Accepted, judged};
 ghost use Rattle.engine_parts.specs.Schedules.{refused_at_byte, schedule_of as schedule_said, HasNoSchedule};
@@ -34,6 +36,8 @@ impl From<ScheduleError> for Fault {
 fn schedule_of_text(alloc: Global, text: &str) -> Result<Schedule, Fault>
     ensures found { IfOk result (λ schedule. Says text.now (said_of schedule)) }
     ensures exact { Answers said_of result (schedule_said text.now) }
+    ensures harts { IfOk result (λ schedule. OfHarts (events_said (said_of schedule))) }
+    ensures few { IfOk result (λ schedule. length (events_said (said_of schedule)) ≤ MAX_EVENTS) }
 {
     match read_either(alloc, text) {
         Ok(schedule) => Ok(schedule),
@@ -47,6 +51,8 @@ fn schedule_of_input(alloc: Global, input: Vec<u8>) -> Result<Schedule, Fault>
     requires { vec_len input ≤ INPUT_BYTES }
     ensures found { IfOk result (λ schedule. Accepted Says input.items (said_of schedule)) }
     ensures exact { Answers said_of result (judged schedule_said input.items) }
+    ensures harts { IfOk result (λ schedule. OfHarts (events_said (said_of schedule))) }
+    ensures few { IfOk result (λ schedule. length (events_said (said_of schedule)) ≤ MAX_EVENTS) }
 {
     schedule_of_text(alloc, text_of(&input)?)
 }
@@ -55,6 +61,8 @@ fn schedule_of_input(alloc: Global, input: Vec<u8>) -> Result<Schedule, Fault>
 pub fn read_schedule<R: Read>(alloc: Global, reader: &mut R) -> Result<Schedule, Fault>
     ensures schedule { FindsBy IsReadAsSchedule said_of (R.remaining reader.old) result }
     ensures refused { HasNoSchedule (R.remaining reader.old) → IsErr result }
+    ensures harts { IfOk result (λ schedule. OfHarts (events_said (said_of schedule))) }
+    ensures few { IfOk result (λ schedule. length (events_said (said_of schedule)) ≤ MAX_EVENTS) }
 {
     let input = read_input(alloc, reader)?;
     schedule_of_input(alloc, input)

@@ -72,12 +72,14 @@ fn said_in(alloc: Global, text: &[u8]) -> Result<Schedule, ScheduleError>
 /// Another first line is `BadHead` at byte 0; then the first faulty token or line is answered as
 /// [`crate::read_tokens`] or [`crate::read_record`] answers it, its place counted from the text's first
 /// byte.
-#[tactic(auto, using(crate::proofs::HeadLaws::found_said, crate::proofs::HeadLaws::only_said))]
+#[tactic(auto, using(crate::proofs::HeadLaws::found_said, crate::proofs::HeadLaws::only_said, crate::proofs::HeadLaws::said_harts, crate::proofs::HeadLaws::said_few))]
 pub fn read_either(alloc: Global, text: &str) -> Result<Schedule, ScheduleError>
     ensures found { IfOk result (λ schedule. Says text.now (said_of schedule)) }
     ensures only { (said : Said) → Says text.now said → Gives refusal_of said_of result (Ok said) }
     ensures exact { Gives refusal_of said_of result (said_at text.now) }
     ensures headless { has_head head text.now ≡ false → has_head record_head text.now ≡ false → result ≡ Err (Refused (record { fault = BadHead; place = 0 })) }
+    ensures harts { IfOk result (λ schedule. OfHarts (events_said (said_of schedule))) }
+    ensures few { IfOk result (λ schedule. length (events_said (said_of schedule)) ≤ MAX_EVENTS) }
 {
     said_in(alloc, text.as_bytes())
 }
@@ -88,6 +90,8 @@ pub fn read_either(alloc: Global, text: &str) -> Result<Schedule, ScheduleError>
 fn events_read(alloc: Global, text: &str) -> Result<Vec<Event>, ScheduleError>
     ensures exact { Gives refusal_of (λ events. events.items) result (schedule_at text.now) }
     ensures headless { has_head head text.now ≡ false → has_head record_head text.now ≡ false → result ≡ Err (Refused (record { fault = BadHead; place = 0 })) }
+    ensures harts { IfOk result (λ events. OfHarts events.items) }
+    ensures few { IfOk result (λ events. length events.items ≤ MAX_EVENTS) }
 {
     let schedule = read_either(alloc, text)?;
     let events = schedule.into_events(alloc)?;
@@ -97,7 +101,7 @@ fn events_read(alloc: Global, text: &str) -> Result<Vec<Event>, ScheduleError>
 /// The events of a schedule of either version. What a record says of their outcomes is left out.
 ///
 /// A text is refused as [`read_either`] refuses it.
-#[tactic(auto, using(crate::proofs::HeadLaws::found_schedule, crate::proofs::HeadLaws::only_schedule, crate::proofs::HeadLaws::schedule_harts, crate::proofs::HeadLaws::schedule_few))]
+#[tactic(auto, using(crate::proofs::HeadLaws::found_schedule, crate::proofs::HeadLaws::only_schedule))]
 pub fn read_schedule(alloc: Global, text: &str) -> Result<Vec<Event>, ScheduleError>
     ensures found { IfOk result (λ events. IsScheduleOf text.now events.items) }
     ensures only { (events : List Event) → IsScheduleOf text.now events → Gives refusal_of (λ read. read.items) result (Ok events) }

@@ -2,7 +2,7 @@
 use Rattle.std.proofs.Common.{◌≡◌, ℕ, suc, ◌+◌, ◌-◌, ◌*◌, ◌<◌, ◌≤◌, Bool, true, false, List, ◌++◌, length, refl, ap, subst, arith, take, drop, min, inl, inr}
 use Rattle.std.proofs.lemmas.List.{drop_min}
 use Rattle.std.proofs.lemmas.List.{length-append, length-take, length-drop}
-use Rattle.std.proofs.Math.Nat.{suc-mul, lt_of_mul-lt-mul_right, eq-or-lt_of_le}
+use Rattle.std.proofs.Math.Nat.{suc-mul, eq-or-lt_of_le}
 use Rattle.step_machine.specs.declared.events.Event.{Event}
 use Rattle.shrink.specs.Shrinking.{IsPartOf, without}
 use Rattle.shrink.proofs.PartLaws.{part_whole, part_of_part, part_without}
@@ -86,18 +86,6 @@ pass_beyond Ends old now left size from count gone pass within cut is stays = re
               | inl same ↦ stays (rw (is, cut, without-min from size now (omega (arith, within)), here, ← same) ends)
               | inr less ↦ before.none k less ends
             ]
-
--- at the end each piece of a pass in which nothing went was tried
-pub pass_end : (Ends : List Event → Type 0) (old now : List Event) (size from : ℕ)
-    → Passing Ends old now size from false → length now ≤ from → (k : ℕ) → k * size < length now
-    → Ends (without (k * size) size now) → ⊥
-pass_end Ends old now size from pass past k within = before.none k below
-  where
-    before : NoneBefore Ends now size from
-    before = pass.none_can refl
-
-    below : k < before.pieces
-    below = lt_of_mul-lt-mul_right size (omega (arith, before.there, past, within))
 
 -- pieces of one event are single events
 pub single_events : (Ends : List Event → Type 0) (es : List Event)

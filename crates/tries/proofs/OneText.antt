@@ -15,23 +15,10 @@ use Rattle.step_machine.proofs.Running.{run-one}
 use Rattle.litmus.specs.LitmusTests.{LitmusTest, left_sides}
 use Rattle.litmus.specs.Verdicts.{IsVerdict, final_value}
 use Rattle.litmus.specs.declared.verdict.Verdict.{Verdict}
-use Rattle.litmus.specs.declared.verdict.Verdict.TheVariants.{Holds, Fails, Unfinished}
+use Rattle.litmus.proofs.VerdictLaws.{one_verdict}
 use Rattle.tries.specs.Trials.{Trial, IsTrial, are_good}
 use Rattle.tries.specs.Outcomes.{outcome_line, unfinished_line, unfinished, AreOutcomes, IsTried}
 use Rattle.tries.proofs.Rows.{same_itself}
-
--- ---- one verdict
-
-pub one_verdict : (M : ℕ) (q : LitmusTest) (t : History) (v w : Verdict) → IsVerdict M q t v → IsVerdict M q t w → v ≡ w
-one_verdict M q t Holds Holds h k = refl
-one_verdict M q t Holds Fails h k = absurd (let a = h.1 in let b = k.1 in cc)
-one_verdict M q t Holds Unfinished h k = absurd (k h.0)
-one_verdict M q t Fails Holds h k = absurd (let a = h.1 in let b = k.1 in cc)
-one_verdict M q t Fails Fails h k = refl
-one_verdict M q t Fails Unfinished h k = absurd (k h.0)
-one_verdict M q t Unfinished Holds h k = absurd (h k.0)
-one_verdict M q t Unfinished Fails h k = absurd (h k.0)
-one_verdict M q t Unfinished Unfinished h k = refl
 
 -- ---- one run of each schedule
 

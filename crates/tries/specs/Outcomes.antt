@@ -1,6 +1,6 @@
 -- The command `try`: the outcomes of a test's runs, each with how many runs gave it and the schedule of
 -- the first one, and how many runs did not finish.
-use Rattle.std.specs.Prelude.{ℕ, ◌≡◌, ◌/◌, ◌==◌, ◌↔◌, IsTrue, if◌then◌else◌, Bool, not, List, [], ◌∷◌, ◌++◌, length, zip, find, flat_map, count_by, Contains, slice_index_or, Option, Some, None, Result, Ok, Err, codes}
+use Rattle.std.specs.Prelude.{ℕ, ◌≡◌, ◌==◌, ◌↔◌, IsTrue, if◌then◌else◌, Bool, not, List, [], ◌∷◌, ◌++◌, length, zip, find, flat_map, count_by, Contains, Option, Some, None, Result, Ok, Err, codes}
 use Rattle.std.specs.List.{list_any}
 use Rattle.std.specs.List.Sorted.{IsStrictlySortedBy}
 use Rattle.std.specs.Ordering.{nat_cmp}
@@ -10,16 +10,11 @@ use Rattle.rand_core.specs.Stream.{Stream}
 use Rattle.step_machine.specs.declared.events.Event.{Event}
 use Rattle.litmus.specs.LitmusTests.{LitmusTest, left_sides}
 use Rattle.litmus.specs.declared.symbols.Place.{Place}
-use Rattle.litmus.specs.declared.symbols.Place.TheVariants as place
 use Rattle.recorder.specs.Writing.{tokens_of}
 use Rattle.engine_parts.specs.declared.fault.Refusal.{Refusal}
+use Rattle.engine_parts.specs.Places.{place_text}
 use Rattle.engine_parts.specs.Tests.{ByTest}
 use Rattle.tries.specs.Trials.{Trial, AreTrials, is_finished, gave, are_good}
-
--- a register as `H:xN`, a word as the name of its location
-abbrev pub place_text : (names : List (List ℕ)) → Place → List ℕ
-place_text names (place.Register h n) = decimal h ++ codes ":x" ++ decimal n
-place_text names (place.Word a) = slice_index_or names (a / 4) []
 
 -- ` LEFT=VALUE`, a place and its value
 abbrev pub value_text : (names : List (List ℕ)) → Place × ℕ → List ℕ

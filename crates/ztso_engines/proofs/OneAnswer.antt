@@ -50,7 +50,8 @@ use Rattle.tries.specs.Outcomes.{IsTriedOf, IsTryAnswer}
 use Rattle.engine_parts.proofs.Judging.{accepted_judged, judged_text}
 use Rattle.ztso_engines.proofs.Describing.{text_read, one_scenario}
 use Rattle.ztso_engines.proofs.CodeTexts.{code_read, one_code}
-use Rattle.tries.proofs.OneText.{one_try, one_verdict}
+use Rattle.litmus.proofs.VerdictLaws.{one_verdict}
+use Rattle.tries.proofs.OneText.{one_try}
 use Rattle.debugger.proofs.OneTranscript.{one_transcript_of}
 use Rattle.engine_parts.proofs.RunLaws.{one_record}
 use Rattle.engine_parts.proofs.OneInput.{alike_by_schedule, alike_by_test, equal_alike, one_of_history, one_refusal, same_output}

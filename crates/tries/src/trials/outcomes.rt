@@ -1,26 +1,17 @@
 //! The text of a tally: the outcomes with their counts and schedules.
 
-ghost use Rattle.std.specs.Prelude.{◌≡◌, ◌++◌, ◌/◌, ◌<◌, length, zip, IfOk, OnOk};
+ghost use Rattle.std.specs.Prelude.{◌≡◌, ◌++◌, ◌<◌, length, zip, IfOk, OnOk};
 ghost use Rattle.std.specs.List.{flat_map};
 ghost use Rattle.std.specs.String.{string_bytes};
 ghost use Rattle.std.specs.BTreeMap.{IsOrdered};
 ghost use Rattle.litmus.specs.LitmusTests.{IsThere, left_sides};
-ghost use Rattle.tries.specs.Outcomes.{place_text, value_text, line_of, unfinished_line};
+ghost use Rattle.tries.specs.Outcomes.{value_text, line_of, unfinished_line};
 ghost use Rattle.tries.specs.inner.Tallies.{row_line, order, AreFound};
 
 use crate::trials::tally::{Row, Tally};
+use engine_parts::places::push_place;
 use litmus::{Place, Test};
 use std::alloc::{AllocError, Global};
-
-fn push_place(out: &mut String, test: &Test, place: Place) -> Result<(), AllocError>
-    requires { IsThere (length test.now.opening.harts) (length test.now.names) place }
-    ensures { OnOk result (string_bytes out.new ≡ string_bytes out.old ++ place_text test.now.names place) }
-{
-    match place {
-        Place::Register { hart, number } => write!(out, "{hart}:x{number}"),
-        Place::Word { address } => out.push_str(test.name(address)),
-    }
-}
 
 fn push_value(out: &mut String, test: &Test, place: Place, value: u32) -> Result<(), AllocError>
     requires { IsThere (length test.now.opening.harts) (length test.now.names) place }
