@@ -16,7 +16,7 @@ use Rattle.std.proofs.lemmas.List.Elements.{All-cons, All-head, All-nil, All-tai
 abbrev pub IsPassed : (ℕ → Bool) → ℕ → Type 0
 IsPassed test x = test x ≡ true
 
--- what passes by its name, by its index
+-- each place that the list names passes: for each name, and for each index
 pub passes_by_name : (test : ℕ → Bool) (xs : List ℕ) → ((x : ℕ) → is_named x xs ≡ true → test x ≡ true) → AllPass test xs
 passes_by_name test xs each k d lt = each (get_or xs k d) (named_at xs k d lt)
 

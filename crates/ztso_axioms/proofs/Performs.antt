@@ -68,12 +68,6 @@ left_own all h = All-drop (IsPassed (stores_at all h)) (lands h all) (store_plac
 stores_by : (all us : List Entry) (e : Entry) (ws : List Entry) (h : ℕ) → all ≡ us ++ e ∷ ws → (n : ℕ) → filter (stores_at all h) (performed_by all us e) ++ take n (drop (lands h us + land_of h e) (store_places h all)) ≡ take (land_of h e + n) (drop (lands h us) (store_places h all))
 stores_by all us e ws h split n = at e (at_here (is_store_of h) all us e ws split)
   where
-    S : List ℕ
-    S = store_places h all
-
-    same : (k : ℕ) → k ≡ k + 0
-    same k = omega arith
-
     still : take n (drop (lands h us + 0) (store_places h all)) ≡ take (0 + n) (drop (lands h us) (store_places h all))
     still = let a : lands h us + 0 ≡ lands h us = omega arith in let b : n ≡ 0 + n = omega arith in ap (λ k. take n (drop k (store_places h all))) a ∙ ap (λ m. take m (drop (lands h us) (store_places h all))) b
 
