@@ -8,19 +8,15 @@ use Rattle.std.proofs.Math.Nat.{suc-mul}
 use Rattle.std.proofs.lemmas.Bool.{cases_Bool, cases_eq, lt-ltb, le-ltb}
 use Rattle.std.proofs.lemmas.Fmt.{length-decimal-le}
 use Rattle.std.proofs.lemmas.List.{length-append, map-append}
-use Rattle.std.proofs.lemmas.List.Sums.{sum_by-append}
 use Rattle.step_machine.specs.declared.events.Entry.{Entry}
 use Rattle.chart.specs.Pictures.{stands_in, IsClear}
 use Rattle.chart.specs.Places.{PlacesOf, pitch, begins, memory_cell}
 use Rattle.chart.specs.Scenes.{is_shown, shown_harts, hart_name}
 use Rattle.chart.specs.Lines.{text_at, head_mark, heads_line}
 use Rattle.chart.proofs.Clear.{struck_at, one_of}
-use Rattle.chart.proofs.Placed.{shown_few}
+use Rattle.chart.proofs.Placed.{shown_few, count-append}
 
 -- ---- as many columns stand to the left of a hart's as there are harts shown before it
-
-count-append : {X : Type 0} (p : X → Bool) (xs ys : List X) → count_by p (xs ++ ys) ≡ count_by p xs + count_by p ys
-count-append p xs ys = sum_by-append (λ x. cond (p x) 1 0) xs ys
 
 all_below : (h n : ℕ) (es : List Entry) → n ≤ h → count_by (λ other. nat_lt other h) (shown_harts es n) ≡ length (shown_harts es n)
 all_below h zero es within = refl

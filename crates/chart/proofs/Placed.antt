@@ -232,16 +232,17 @@ shown_few es (suc n) =
       | false ↦ omega (length-append (shown_harts es n) [], shown_few es n, arith)
     ]
 
+pub count-append : {X : Type 0} (p : X → Bool) (xs ys : List X) → count_by p (xs ++ ys) ≡ count_by p xs + count_by p ys
+count-append p xs ys = sum_by-append (λ x. cond (p x) 1 0) xs ys
+
 count_more : (p : ℕ → Bool) (xs ys : List ℕ) → count_by p xs < length xs → count_by p (xs ++ ys) < length (xs ++ ys)
 count_more p xs ys less =
-    let parts : count_by p (xs ++ ys) ≡ count_by p xs + count_by p ys = sum_by-append (λ x. cond (p x) 1 0) xs ys in
-    omega (parts, less, count_by-le-length p ys, length-append xs ys, arith)
+    omega (count-append p xs ys, less, count_by-le-length p ys, length-append xs ys, arith)
 
 count_last : (p : ℕ → Bool) (xs : List ℕ) (x : ℕ) → p x ≡ false → count_by p (xs ++ x ∷ []) < length (xs ++ x ∷ [])
 count_last p xs x fails =
-    let parts : count_by p (xs ++ x ∷ []) ≡ count_by p xs + count_by p (x ∷ []) = sum_by-append (λ y. cond (p y) 1 0) xs (x ∷ []) in
     let none : count_by p (x ∷ []) ≡ 0 = rw fails refl in
-    omega (parts, none, count_by-le-length p xs, length-append xs (x ∷ []), arith)
+    omega (count-append p xs (x ∷ []), none, count_by-le-length p xs, length-append xs (x ∷ []), arith)
 
 ranked : (es : List Entry) (h n : ℕ) → h < n → is_shown es h ≡ true →
     count_by (λ other. nat_lt other h) (shown_harts es n) < length (shown_harts es n)
