@@ -1,5 +1,5 @@
 -- Seats that come back with perhaps more in their diaries, and what is known of them by those given.
-use Rattle.std.proofs.Common.{inl, inr, ◌≡◌, ℕ, ◌+◌, ◌<◌, Bool, true, false, not, ◌&&◌, eqb, cond, List, [], ◌∷◌, ◌++◌, length, get_or, refl, sym, ◌∙◌, ap, subst, append-nil, append_assoc}
+use Rattle.std.proofs.Common.{inl, inr, ◌≡◌, ℕ, ◌+◌, ◌<◌, Bool, true, not, ◌&&◌, eqb, cond, List, [], ◌∷◌, ◌++◌, length, get_or, refl, sym, ◌∙◌, ap, subst, append_assoc}
 use Rattle.std.specs.Prelude.{map, fold, count_by, All}
 use Rattle.std.specs.List.{AllZip, list_any, Contains}
 use Rattle.std.proofs.lemmas.Bool.{cases_lt, eq-eqb, true≢false}

@@ -1,11 +1,9 @@
 -- A record of a channel's opening is a run of it, so that the laws of channels speak of it.
 use Rattle.std.proofs.Common.{◌≡◌, ℕ, List, subst}
-use Rattle.step_machine.specs.declared.events.Event.{Event}
-use Rattle.step_machine.specs.History.{Start, History}
+use Rattle.step_machine.specs.History.{Start}
 use Rattle.step_machine.specs.Runs.{Run}
 use Rattle.poll_close.specs.Layout.{Layout}
 use Rattle.poll_close.specs.Laws.{Ring, opening_of, opening_over, Accepted, AcceptedAt}
-use Rattle.poll_close.specs.Touching.{AllTouch}
 use Rattle.hart_threads.specs.declared.fault.ChannelFault.{ChannelFault}
 use Rattle.hart_threads.specs.declared.fault.ChannelFault.TheVariants as channel
 use Rattle.hart_threads.specs.declared.record.Record.{Record}

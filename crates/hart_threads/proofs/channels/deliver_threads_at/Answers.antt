@@ -1,5 +1,5 @@
 -- A channel that opens is one that the machine takes, and a record of it is one of its runs.
-use Rattle.std.proofs.Common.{◌≡◌, ℕ, List, lit<, sym, subst}
+use Rattle.std.proofs.Common.{List, lit<, sym, subst}
 use Rattle.std.proofs.lemmas.List.{length-map}
 use Rattle.std.proofs.lemmas.Result.{err_from_is_err_and}
 use Rattle.std.specs.Prelude.{map}

@@ -1,5 +1,5 @@
 -- A machine opens for threads, and what they give is said of its opening.
-use Rattle.std.proofs.Common.{◌≡◌, List, lit<, sym, ◌∙◌, ap, subst}
+use Rattle.std.proofs.Common.{List, lit<, sym, ◌∙◌, ap, subst}
 use Rattle.std.proofs.lemmas.Result.{err_from_is_err_and}
 use Rattle.step_machine.specs.History.{Start}
 use Rattle.hart_threads.specs.Seats.{SeatView, seats_of}

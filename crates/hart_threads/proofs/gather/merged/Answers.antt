@@ -1,5 +1,5 @@
 -- Diaries that belong to the memory entries, put together, are a kept history, and each is its part of it.
-use Rattle.std.proofs.Common.{◌≡◌, ℕ, List, length, Option, Some, None, sym, ap, subst, ◌∙◌}
+use Rattle.std.proofs.Common.{◌≡◌, List, length, Option, Some, None, sym, ap, subst, ◌∙◌}
 use Rattle.std.specs.Prelude.{All, IfOk, MatchOption, Result, Ok, Err}
 use Rattle.std.proofs.lemmas.Bool.{MatchBool-at_true}
 use Rattle.step_machine.specs.declared.events.Entry.{Entry}
