@@ -22,17 +22,14 @@ by_schedule_as P Q refusal more file schedule (no_test r bad) = no_test r bad
 by_schedule_as P Q refusal more file schedule (no_schedule test r is_test bad) = no_schedule test r is_test bad
 by_schedule_as P Q refusal more file schedule (both test said answer is_test read holds) = both test said (Err refusal) is_test read (more test said holds)
 
--- a fault, where each refusal that answers one thing answers the other
-pub stopped_as : {A C X Y : Type 0} (P : Result A Refusal → Type 0) (Q : Result C Refusal → Type 0) (view : X → A) (seen : Y → C) (fault : Fault) → ((refusal : Refusal) → P (Err refusal) → Q (Err refusal)) → AnswersAs P view (Err fault) → AnswersAs Q seen (Err fault)
-stopped_as P Q view seen (Refused r) more answers = more r answers
-stopped_as P Q view seen NoMemory more answers = tt
-stopped_as P Q view seen ReadFailed more answers = answers
-stopped_as P Q view seen WriteFailed more answers = answers
-
--- the same of a result that hands the fault on
-pub stopped_by : {A C X Y : Type 0} (P : Result A Refusal → Type 0) (Q : Result C Refusal → Type 0) (view : X → A) (seen : Y → C) (result : Result Y Fault) (fault : Fault)
-    → ((refusal : Refusal) → P (Err refusal) → Q (Err refusal)) → result ≡ Err fault → AnswersAs P view (Err fault) → AnswersAs Q seen result
-stopped_by P Q view seen result fault more is answers = rw is (stopped_as P Q view seen fault more answers)
+-- a result that hands a fault on, where each refusal that answers one thing answers the other
+pub stopped_by : {A C X Y : Type 0} (P : Result A Refusal → Type 0) (Q : Result C Refusal → Type 0) (view : X → A) (seen : Y → C)
+    (result : Result Y Fault) (fault : Fault) → ((refusal : Refusal) → P (Err refusal) → Q (Err refusal)) → result ≡ Err fault
+    → AnswersAs P view (Err fault) → AnswersAs Q seen result
+stopped_by P Q view seen result (Refused r) more is answers = rw is (more r answers)
+stopped_by P Q view seen result NoMemory more is answers = rw is tt
+stopped_by P Q view seen result ReadFailed more is answers = rw is answers
+stopped_by P Q view seen result WriteFailed more is answers = rw is answers
 
 module _ (first second : Option (List ℕ)) where
   -- what answers both, by their bytes
@@ -73,13 +70,6 @@ module _ (first second : Option (List ℕ)) where
       schedule_fault view test NoMemory is is_test finds = rw is tt
       schedule_fault view test ReadFailed is is_test finds = rw is tt
       schedule_fault view test WriteFailed is is_test finds = rw is finds
-
-      pub made_of_both : (test : LitmusTest) (said : Said) → OfInput first (λ bytes. IsReadAsTest bytes (Ok test)) → OfInput second (λ bytes. IsReadAsSchedule bytes (Ok said)) → (made : Result X Fault) → result ≡ made → AnswersAs (IsAnswer test said) seen made → Finds Answers seen result
-      made_of_both test said is_test schedule (Ok x) is answers = rw is (both_read test said (Ok (seen x)) is_test schedule answers)
-      made_of_both test said is_test schedule (Err (Refused r)) is answers = rw is (both_read test said (Err r) is_test schedule answers)
-      made_of_both test said is_test schedule (Err NoMemory) is answers = rw is tt
-      made_of_both test said is_test schedule (Err ReadFailed) is answers = absurd answers
-      made_of_both test said is_test schedule (Err WriteFailed) is answers = absurd answers
 
   -- what is made of what was read answers both
   module _ {A X : Type 0} (IsAnswer : LitmusTest → Said → Result A Refusal → Type 0) (seen : X → A) (result : Result X Fault) where

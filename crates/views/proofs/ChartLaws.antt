@@ -3,9 +3,7 @@ use Rattle.std.proofs.Common.{◌≡◌, ℕ, ◌<◌, ◌≤◌, List, length, 
 use Rattle.step_machine.specs.declared.events.Entry.{Entry}
 use Rattle.step_machine.specs.History.{History}
 use Rattle.litmus.specs.LitmusTests.{LitmusTest}
-use Rattle.litmus.specs.Verdicts.{IsVerdict}
-use Rattle.litmus.specs.declared.verdict.Verdict.{Verdict}
-use Rattle.litmus.specs.declared.verdict.Verdict.TheVariants.{Holds, Fails, Unfinished}
+use Rattle.litmus.proofs.VerdictLaws.{one_verdict}
 use Rattle.litmus_reader.specs.Headings.{HeadingOf}
 use Rattle.litmus_reader.proofs.HeadingLaws.{one_heading}
 use Rattle.recorder.specs.Versions.{Said}
@@ -16,22 +14,10 @@ use Rattle.engine_parts.specs.declared.fault.Refusal.{Refusal}
 use Rattle.engine_parts.specs.Engines.{Output, AreOneAnswer}
 use Rattle.engine_parts.specs.Faults.{AnswersAs, too_large}
 use Rattle.engine_parts.specs.Histories.{Runs}
-use Rattle.engine_parts.proofs.RunLaws.{one_run}
+use Rattle.engine_parts.proofs.RunLaws.{one_difference, one_run, runs_or_differs}
 use Rattle.views.specs.About.{IsAbout, about_of}
 use Rattle.views.specs.Chart.{Drawing, IsChartOf, IsNotCharted, differs, too_long, IsChart, Headed, IsChartAnswer}
 use Rattle.engine_parts.proofs.OneInput.{alike_by_schedule}
-use Rattle.views.proofs.ShrinkLaws.{runs_or_differs, one_difference}
-
-one_verdict : (M : ℕ) (q : LitmusTest) (t : History) (v w : Verdict) → IsVerdict M q t v → IsVerdict M q t w → v ≡ w
-one_verdict M q t Holds Holds h k = refl
-one_verdict M q t Holds Fails h k = absurd (let a = h.1 in let b = k.1 in cc)
-one_verdict M q t Holds Unfinished h k = absurd (k h.0)
-one_verdict M q t Fails Holds h k = absurd (let a = h.1 in let b = k.1 in cc)
-one_verdict M q t Fails Fails h k = refl
-one_verdict M q t Fails Unfinished h k = absurd (k h.0)
-one_verdict M q t Unfinished Holds h k = absurd (h k.0)
-one_verdict M q t Unfinished Fails h k = absurd (h k.0)
-one_verdict M q t Unfinished Unfinished h k = refl
 
 one_about : (M : ℕ) (q : LitmusTest) (heading : HeadingOf) (t : History) (a b : AboutOf)
     → IsAbout M q heading t a → IsAbout M q heading t b → a ≡ b
@@ -60,15 +46,15 @@ module _ (B M : ℕ) (draws : Drawing) (heading : HeadingOf) (q : LitmusTest) (s
       λ i. (texts i, tt)
 
   drawn_or_not : (a : Output) (r : Refusal) → IsChartOf B M draws heading q said a → IsNotCharted B M q said r → ⊥
-  drawn_or_not a r is (differs s differ) = runs_or_differs B M q said is.history s is.ran differ
+  drawn_or_not a r is (differs s differ) = runs_or_differs B M q.opening said is.history s is.ran differ
   drawn_or_not a r is (too_long t ran many) =
       let few = subst (λ (u : History). length u.entries ≤ 10000) (one_history is.history t is.ran ran) is.few in
       omega (arith, few, many)
 
   one_reason : (r s : Refusal) → IsNotCharted B M q said r → IsNotCharted B M q said s → r ≡ s
-  one_reason r s (differs x differ) (differs y other) = one_difference B M q said x y differ other
-  one_reason r s (differs x differ) (too_long t ran many) = absurd (runs_or_differs B M q said t x ran differ)
-  one_reason r s (too_long t ran many) (differs y other) = absurd (runs_or_differs B M q said t y ran other)
+  one_reason r s (differs x differ) (differs y other) = one_difference B M q.opening said x y differ other
+  one_reason r s (differs x differ) (too_long t ran many) = absurd (runs_or_differs B M q.opening said t x ran differ)
+  one_reason r s (too_long t ran many) (differs y other) = absurd (runs_or_differs B M q.opening said t y ran other)
   one_reason r s (too_long t ran many) (too_long u also more) = refl
 
   one_answer : (a b : Result Output Refusal) → IsChart B M draws heading q said a → IsChart B M draws heading q said b

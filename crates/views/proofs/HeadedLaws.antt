@@ -22,7 +22,6 @@ use Rattle.engine_parts.proofs.ScheduleLaws.{weaker_both}
 use Rattle.engine_parts.proofs.TestTexts.{test_or_none}
 use Rattle.views.specs.Chart.{ByHeading}
 use Rattle.views.specs.inner.Headings.{IsReadAsHeaded}
-use Rattle.views.proofs.PartLimits.{some_bytes}
 
 -- what reads an input without a test answers none, whatever it answers beside
 pub no_test_no_answer : {X : Type 0} (view : X → Content) (known : Option (List ℕ)) (input : Vec ℕ)
@@ -32,6 +31,11 @@ no_test_no_answer view known input (Err fault) is answers none = refl
 no_test_no_answer view (Some bytes) input (Ok x) is answers none =
     absurd (test_or_none bytes answers.0 none.1.0 (view x) none.0 (rw is at answers.1) none.1.1)
 no_test_no_answer view None input (Ok x) is answers none = absurd none
+
+-- what holds of an input that is known or not holds of some bytes
+some_bytes : (known : Option (List ℕ)) (P : List ℕ → Type 0) → OfInput known P → (bytes : List ℕ) × P bytes
+some_bytes None P is = is
+some_bytes (Some bytes) P is = (bytes, is)
 
 module _ (known : Option (List ℕ)) where
   -- a fault in reading a test with its heading is one in reading the test

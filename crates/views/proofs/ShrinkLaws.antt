@@ -15,7 +15,7 @@ use Rattle.engine_parts.specs.declared.fault.Refusal.{Refusal}
 use Rattle.engine_parts.specs.Engines.{Output, AreAlike}
 use Rattle.engine_parts.specs.Faults.{AnswersAs}
 use Rattle.engine_parts.specs.Histories.{Runs}
-use Rattle.engine_parts.proofs.RunLaws.{one_run}
+use Rattle.engine_parts.proofs.RunLaws.{one_difference, runs_or_differs}
 use Rattle.views.specs.Shrink.{AreOfOneKind, IsNotShrunk, IsShrink, IsShrinkOf, differs, fault_of_shrink, unfinished}
 
 -- a schedule's run is the run of its events
@@ -30,27 +30,18 @@ module _ (B M : ℕ) (q : LitmusTest) (said : Said) where
   not_shrunk view t error.NoMemory fault ran unended is = rw is tt
   not_shrunk view t error.NotFinished fault ran unended is = rw is (unfinished t ran unended)
 
-  abbrev refused : Refusal → Result History Refusal
-  refused r = Err r
-
-  pub runs_or_differs : (t : History) (r : Refusal) → Runs B M q.opening said (Ok t) → Runs B M q.opening said (Err r) → ⊥
-  runs_or_differs t r ran differ = let same : Ok t ≡ refused r = one_run B M q.opening said (Ok t) (Err r) ran differ in cc
-
-  pub one_difference : (r s : Refusal) → Runs B M q.opening said (Err r) → Runs B M q.opening said (Err s) → r ≡ s
-  one_difference r s differ other = let same : refused r ≡ refused s = one_run B M q.opening said (Err r) (Err s) differ other in cc
-
   -- what is shrunk isn't refused, since its run is finished
   shrunk_or_not : (answer : Output) (r : Refusal) → IsShrinkOf B M q said answer → IsNotShrunk B M q said r → ⊥
-  shrunk_or_not answer r is (differs s differ) = runs_or_differs is.history s is.ran differ
+  shrunk_or_not answer r is (differs s differ) = runs_or_differs B M q.opening said is.history s is.ran differ
   shrunk_or_not answer r is (unfinished t ran unended) =
       let ends = is.shrunk.given_ends in
       let same = run-one B M (unrun q.opening) (events_said said) ends.history t ends.run (runs_events B M q.opening said t ran) in
       unended (subst (IsFinished M) same ends.finished)
 
   one_reason : (r s : Refusal) → IsNotShrunk B M q said r → IsNotShrunk B M q said s → r ≡ s
-  one_reason r s (differs x differ) (differs y other) = one_difference x y differ other
-  one_reason r s (differs x differ) (unfinished t ran unended) = absurd (runs_or_differs t x ran differ)
-  one_reason r s (unfinished t ran unended) (differs y other) = absurd (runs_or_differs t y ran other)
+  one_reason r s (differs x differ) (differs y other) = one_difference B M q.opening said x y differ other
+  one_reason r s (differs x differ) (unfinished t ran unended) = absurd (runs_or_differs B M q.opening said t x ran differ)
+  one_reason r s (unfinished t ran unended) (differs y other) = absurd (runs_or_differs B M q.opening said t y ran other)
   one_reason r s (unfinished t ran unended) (unfinished u also never) = refl
 
 pub alike_run : (B M : ℕ) (q : LitmusTest) (said : Said) (a b : Result Output Refusal) → IsShrink B M q said a → IsShrink B M q said b → AreAlike a b

@@ -1,7 +1,6 @@
 -- What a chart shows of a run beside its entries.
-use Rattle.std.specs.Prelude.{ℕ, ◌≡◌, ◌/◌, if◌then◌else◌, List, [], ◌++◌, length, map, codes, Option, Some, None, option_map}
-use Rattle.std.specs.List.{slice_get, slice_index_or, range_with_len}
-use Rattle.std.specs.Fmt.{decimal}
+use Rattle.std.specs.Prelude.{ℕ, ◌≡◌, ◌/◌, if◌then◌else◌, List, [], length, map, codes, Option, Some, None, option_map}
+use Rattle.std.specs.List.{slice_get, range_with_len}
 use Rattle.rv_decode.specs.Meaning.{meaning}
 use Rattle.rv_decode.specs.declared.instruction.Instr.{Instr}
 use Rattle.assembler.specs.Writing.{text_of}
@@ -10,7 +9,6 @@ use Rattle.step_machine.specs.History.{HartStart, History, up_to}
 use Rattle.step_machine.specs.Entries.{hart_of, is_land}
 use Rattle.step_machine.specs.Paths.{state_of}
 use Rattle.litmus.specs.declared.symbols.Place.{Place}
-use Rattle.litmus.specs.declared.symbols.Place.TheVariants as place
 use Rattle.litmus.specs.declared.verdict.Verdict.{Verdict}
 use Rattle.litmus.specs.declared.verdict.Verdict.TheVariants.{Holds, Fails, Unfinished}
 use Rattle.litmus.specs.LitmusTests.{LitmusTest, left_sides}
@@ -18,6 +16,7 @@ use Rattle.litmus.specs.Verdicts.{IsVerdict, final_value}
 use Rattle.litmus_reader.specs.Headings.{HeadingOf}
 use Rattle.chart.specs.Pictures.{shown}
 use Rattle.chart.specs.Layout.{AboutOf, LastValueOf}
+use Rattle.engine_parts.specs.Places.{place_text}
 
 -- ---- instructions
 
@@ -62,14 +61,9 @@ instructions_of M t = map (instruction_at M t) (range_with_len 0 (length t.entri
 
 -- ---- what the condition asks for
 
--- a left side: a hart's register, or a location's name
-abbrev pub left_text : (names : List (List ℕ)) → Place → List ℕ
-left_text names (place.Register h n) = decimal h ++ codes ":x" ++ decimal n
-left_text names (place.Word a) = slice_index_or names (a / 4) []
-
 -- a left side with its value after a history
 abbrev pub last_value : (M : ℕ) → (names : List (List ℕ)) → History → Place → LastValueOf
-last_value M names t p = record { left = left_text names p; value = final_value M t p }
+last_value M names t p = record { left = place_text names p; value = final_value M t p }
 
 abbrev pub verdict_text : Verdict → List ℕ
 verdict_text Holds = codes "Holds"

@@ -1,6 +1,6 @@
 //! What a chart shows of a run beside its entries.
 
-ghost use Rattle.std.specs.Prelude.{◌≡◌, ◌++◌, ◌∷◌, [], ◌≤◌, ◌<◌, IfOk, OnOk, length, map};
+ghost use Rattle.std.specs.Prelude.{◌≡◌, ◌++◌, ◌≤◌, ◌<◌, IfOk, OnOk, length, map};
 ghost use Rattle.std.specs.List.{slice_get};
 ghost use Rattle.std.specs.String.{string_bytes};
 ghost use Rattle.rv_decode.specs.Meaning.{meaning};
@@ -10,11 +10,13 @@ ghost use Rattle.litmus.specs.LitmusTests.{IsThere, left_sides};
 ghost use Rattle.litmus.specs.Verdicts.{final_value};
 ghost use Rattle.litmus_reader.specs.Headings.{heading_of};
 ghost use Rattle.chart.specs.Pictures.{shown as shown_byte};
-ghost use Rattle.views.specs.About.{IsAbout, instruction_of, instructions_of, last_value as value_of_left, left_text, meant, next_instruction, verdict_text, word_at, word_meant};
+ghost use Rattle.engine_parts.specs.Places.{place_text};
+ghost use Rattle.views.specs.About.{IsAbout, instruction_of, instructions_of, last_value as value_of_left, meant, next_instruction, verdict_text, word_at, word_meant};
 
 use assembler::write_instr;
 use chart::charts::{About, LastValue};
 use chart::text::push_shown;
+use engine_parts::places::push_place;
 use litmus::{Place, Test, Verdict};
 use litmus_reader::Heading;
 use rv_decode::decode;
@@ -114,23 +116,13 @@ fn names_of(alloc: Global, test: &Test, count: usize) -> Result<Vec<String>, All
     Ok(names)
 }
 
-fn push_left(out: &mut String, test: &Test, place: Place) -> Result<(), AllocError>
-    requires { IsThere (length test.now.opening.harts) (length test.now.names) place }
-    ensures { OnOk result (string_bytes out.new ≡ string_bytes out.old ++ left_text test.now.names place) }
-{
-    match place {
-        Place::Register { hart, number } => write!(out, "{hart}:x{number}"),
-        Place::Word { address } => out.push_str(test.name(address)),
-    }
-}
-
 /// A left side of the condition.
 fn left_of(alloc: Global, test: &Test, place: Place) -> Result<String, AllocError>
     requires { IsThere (length test.now.opening.harts) (length test.now.names) place }
-    ensures { IfOk result (λ text. string_bytes text ≡ left_text test.now.names place) }
+    ensures { IfOk result (λ text. string_bytes text ≡ place_text test.now.names place) }
 {
     let mut left = String::new(alloc);
-    push_left(&mut left, test, place)?;
+    push_place(&mut left, test, place)?;
     Ok(left)
 }
 

@@ -13,10 +13,8 @@ ghost use Rattle.views.specs.Shrink.{IsShrink, IsShrinkAnswer, fault_of_shrink};
 ghost use Rattle.litmus.specs.declared.litmus_test.TheConstants.{MAX_LOCATIONS};
 
 use engine_parts::fault::{Fault, Position};
-use engine_parts::litmus_text::read_test;
 use engine_parts::output::end_with;
-use engine_parts::running::machine_of_schedule;
-use engine_parts::schedule::read_schedule;
+use engine_parts::running::{machine_of_schedule, read_both};
 use litmus::Test;
 use recorder::{Schedule, write_schedule};
 use shrink::{ShrinkError, shrink_run};
@@ -70,8 +68,7 @@ fn made<const B: usize, const M: usize, F: Read, S: Read>(
     ensures made { Finds (AnswersBoth (IsShrinkAnswer B M) (F.remaining file.old) (S.remaining schedule.old)) text_and_value result }
     ensures unread { HasNoTest (F.remaining file.old) → schedule.new ≡ schedule.old }
 {
-    let test = read_test(alloc, file)?;
-    let said = read_schedule(alloc, schedule)?;
+    let (test, said) = read_both(alloc, file, schedule)?;
     shrunk_text::<B, M>(alloc, &test, said)
 }
 

@@ -6,7 +6,7 @@ use Rattle.recorder.specs.Versions.{said_of}
 use Rattle.engine_parts.specs.Histories.{Runs}
 use Rattle.engine_parts.specs.inner.Making.{text_and_value}
 use Rattle.engine_parts.proofs.RunLaws.{opening_stays}
-use Rattle.engine_parts.proofs.ScheduleLaws.{stopped_as}
+use Rattle.engine_parts.proofs.ScheduleLaws.{stopped_by}
 use Rattle.views.specs.Chart.{IsChart, differs, drawing}
 use Rattle.views.proofs.ChartLaws.{too_many}
 use Rattle.views.proofs.charting.picture.Goals as goal
@@ -16,10 +16,9 @@ returns-in_err-machine g c =
     let p = err_from_is_err_and c.from_residual.result c.from_residual.ensures.1 in
     let q = c.args.test.now in
     let said = said_of c.args.schedule in
-    let stopped = stopped_as (Runs g.row.B g.row.M q.opening said) (IsChart g.row.B g.row.M (drawing c.args.style) (heading_of c.args.heading.now) q said)
-    (λ (machine : Progress). machine.history) text_and_value c.in_err-machine.field-0.0 (λ refusal differ. differs refusal differ)
-    c.in_err-machine.ensures.ran in
-    rw p.1 (rw p.2 stopped)
+    stopped_by (Runs g.row.B g.row.M q.opening said) (IsChart g.row.B g.row.M (drawing c.args.style) (heading_of c.args.heading.now) q said)
+    (λ (machine : Progress). machine.history) text_and_value c.from_residual.result c.in_err-machine.field-0.0
+    (λ refusal differ. differs refusal differ) (rw p.2 at p.1) c.in_err-machine.ensures.ran
 
 pub returns-then-len-gt-MAX_ROWS : goal.returns-then-len-gt-MAX_ROWS
 returns-then-len-gt-MAX_ROWS g c =

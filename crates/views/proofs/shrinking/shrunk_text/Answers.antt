@@ -6,7 +6,7 @@ use Rattle.recorder.specs.Writing.{canon}
 use Rattle.engine_parts.specs.Histories.{Runs}
 use Rattle.engine_parts.specs.inner.Making.{text_and_value}
 use Rattle.engine_parts.proofs.RunLaws.{opening_stays}
-use Rattle.engine_parts.proofs.ScheduleLaws.{stopped_as}
+use Rattle.engine_parts.proofs.ScheduleLaws.{stopped_by}
 use Rattle.views.specs.Shrink.{IsShrink, differs}
 use Rattle.views.proofs.PartLimits.{part_OfHarts, part_few}
 use Rattle.views.proofs.ShrinkLaws.{not_shrunk, runs_events}
@@ -16,10 +16,9 @@ pub returns-in_err-machine : goal.returns-in_err-machine
 returns-in_err-machine g c =
     let p = err_from_is_err_and c.from_residual.result c.from_residual.ensures.1 in
     let said = said_of c.args.schedule in
-    let stopped = stopped_as (Runs g.row.B g.row.M c.args.test.now.opening said) (IsShrink g.row.B g.row.M c.args.test.now said)
-    (λ (machine : Progress). machine.history) text_and_value c.in_err-machine.field-0.0 (λ refusal differ. differs refusal differ)
-    c.in_err-machine.ensures.ran in
-    rw p.1 (rw p.2 stopped)
+    stopped_by (Runs g.row.B g.row.M c.args.test.now.opening said) (IsShrink g.row.B g.row.M c.args.test.now said)
+    (λ (machine : Progress). machine.history) text_and_value c.from_residual.result c.in_err-machine.field-0.0
+    (λ refusal differ. differs refusal differ) (rw p.2 at p.1) c.in_err-machine.ensures.ran
 
 pub shrink_run-requires : goal.shrink_run-requires
 shrink_run-requires g c =
