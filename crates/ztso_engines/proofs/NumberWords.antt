@@ -1,19 +1,13 @@
 -- Words that say numbers: what is read is what they say, and what they say is read.
-use Rattle.std.proofs.Common.{◌≡◌, ℕ, List, [], ◌∷◌, Option, Some, None, Ok, refl, sym, ap, ◌∙◌}
+use Rattle.std.proofs.Common.{◌≡◌, ℕ, List, [], ◌∷◌, Ok, refl, sym, ap, ◌∙◌}
 use Rattle.std.specs.List.{AllZip}
 use Rattle.texts.specs.Numbers.{SaysWord, IsHexWord, word_of, hex_word_of}
 use Rattle.texts.specs.Results.{◌>>=◌}
 use Rattle.texts.specs.Formats.{Settles}
 use Rattle.texts.proofs.FormatLaws.{settles_as, settles_then, settles_ok, settles_word, settles_each, settles_hex_word}
-use Rattle.texts.proofs.ResultLaws.{ok_is}
 use Rattle.engine_parts.specs.LineFaults.{bad_line, or_bad}
 use Rattle.ztso_engines.specs.Code.{code_at}
 use Rattle.ztso_engines.specs.StepsReading.{number_at, with_no_more, two_numbers, three_numbers}
-
--- a value that is there
-pub or_bad_ok : {A : Type 0} (o : Option A) (x : A) → or_bad o ≡ Ok x → o ≡ Some x
-or_bad_ok {A = A} None x e = absurd cc
-or_bad_ok {A = A} (Some y) x e = ap (λ (z : A). Some z) (ok_is ℕ y x e)
 
 -- ---- instruction words
 
@@ -34,7 +28,8 @@ unfolding number_at
 number_settles [] = λ cut (N, is, says). absurd cc
 number_settles (digits ∷ others) =
     settles_as _ (IsCut (digits ∷ others)) (number_at (digits ∷ others))
-    (settles_then (SaysWord digits) (λ n (cut : Cut). cut ≡ (n, others)) (or_bad (word_of digits)) (λ n. Ok (n, others)) (settles_word bad_line digits) (λ n is. settles_ok ℕ (n, others)))
+    (settles_then (SaysWord digits) (λ n (cut : Cut). cut ≡ (n, others)) (or_bad (word_of digits)) (λ n. Ok (n, others))
+    (settles_word bad_line digits) (λ n is. settles_ok ℕ (n, others)))
     (λ cut (n, says, same). rw same (digits, refl, says))
     (λ cut (N, is, says). let name : digits ≡ N = cc in let rest : others ≡ cut.1 = cc in (cut.0, rw name says, λ i. (cut.0, sym rest i)))
 
@@ -51,9 +46,12 @@ pub two_settles : (text : List (List ℕ)) → Settles (SayTwo text) (two_number
 unfolding two_numbers
 two_settles text =
     settles_as _ (SayTwo text) (two_numbers text)
-    (settles_then (IsCut text) (λ a s. (b : Cut) × IsCut a.1 b × ((b.1 ≡ []) × (s ≡ (a.0, b.0)))) (number_at text) (λ a. number_at a.1 >>= λ b. with_no_more (a.0, b.0) b.1) (number_settles text)
-    (λ a is. settles_then (IsCut a.1) (λ b s. (b.1 ≡ []) × (s ≡ (a.0, b.0))) (number_at a.1) (λ b. with_no_more (a.0, b.0) b.1) (number_settles a.1) (λ b is_b. more_settles (a.0, b.0) b.1)))
-    (λ s (a, (A, is_a, p), (b, (B, is_b, q), (end, same))). rw same (A, B, is_a ∙ ap (λ (r : List (List ℕ)). A ∷ r) (is_b ∙ ap (λ (r : List (List ℕ)). B ∷ r) end), p, q))
+    (settles_then (IsCut text) (λ a s. (b : Cut) × IsCut a.1 b × ((b.1 ≡ []) × (s ≡ (a.0, b.0)))) (number_at text)
+    (λ a. number_at a.1 >>= λ b. with_no_more (a.0, b.0) b.1) (number_settles text)
+    (λ a is. settles_then (IsCut a.1) (λ b s. (b.1 ≡ []) × (s ≡ (a.0, b.0))) (number_at a.1) (λ b. with_no_more (a.0, b.0) b.1)
+    (number_settles a.1) (λ b is_b. more_settles (a.0, b.0) b.1)))
+    (λ s (a, (A, is_a, p), (b, (B, is_b, q), (end, same))).
+    rw same (A, B, is_a ∙ ap (λ (r : List (List ℕ)). A ∷ r) (is_b ∙ ap (λ (r : List (List ℕ)). B ∷ r) end), p, q))
     (λ s (A, B, is, p, q). ((s.0, B ∷ []), (A, is, p), ((s.1, []), (B, refl, q), (refl, refl))))
 
 abbrev pub Three : Type 0
@@ -66,7 +64,9 @@ pub three_settles : (text : List (List ℕ)) → Settles (SayThree text) (three_
 unfolding three_numbers
 three_settles text =
     settles_as _ (SayThree text) (three_numbers text)
-    (settles_then (IsCut text) (λ a (s : Three). (bc : ℕ × ℕ) × SayTwo a.1 bc × (s ≡ (a.0, bc.0, bc.1))) (number_at text) (λ a. two_numbers a.1 >>= λ bc. Ok (a.0, bc.0, bc.1)) (number_settles text)
-    (λ a is. settles_then (SayTwo a.1) (λ bc (s : Three). s ≡ (a.0, bc.0, bc.1)) (two_numbers a.1) (λ bc. Ok (a.0, bc.0, bc.1)) (two_settles a.1) (λ bc both. settles_ok ℕ (a.0, bc.0, bc.1))))
+    (settles_then (IsCut text) (λ a (s : Three). (bc : ℕ × ℕ) × SayTwo a.1 bc × (s ≡ (a.0, bc.0, bc.1))) (number_at text)
+    (λ a. two_numbers a.1 >>= λ bc. Ok (a.0, bc.0, bc.1)) (number_settles text)
+    (λ a is. settles_then (SayTwo a.1) (λ bc (s : Three). s ≡ (a.0, bc.0, bc.1)) (two_numbers a.1) (λ bc. Ok (a.0, bc.0, bc.1))
+    (two_settles a.1) (λ bc both. settles_ok ℕ (a.0, bc.0, bc.1))))
     (λ s (a, (A, is, p), (bc, (B, C, are, q, r), same)). rw same (A, B, C, is ∙ ap (λ (rest : List (List ℕ)). A ∷ rest) are, p, q, r))
     (λ s (A, B, C, is, p, q, r). ((s.0, B ∷ C ∷ []), (A, is, p), ((s.1, s.2), (B, C, refl, q, r), refl)))

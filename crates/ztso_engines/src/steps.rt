@@ -1,9 +1,7 @@
 //! The command `steps`: a steps text in, the state text of its run out.
 
-ghost use Rattle.std.specs.Prelude.{◌≡◌, ◌≤◌, length, IfOk, MatchResult, vec_len};
-ghost use Rattle.step_machine.specs.History.{History, FitsIn};
-ghost use Rattle.step_machine.specs.Runs.{Run};
-ghost use Rattle.step_machine.specs.Standing.{StandsAt};
+ghost use Rattle.std.specs.Prelude.{◌≡◌, ◌≤◌, length, IfOk, vec_len};
+ghost use Rattle.step_machine.specs.History.{FitsIn};
 ghost use Rattle.engine_parts.specs.Faults.{Answers, AnswersAs};
 ghost use Rattle.engine_parts.specs.Engines.{EndsBy, judged};
 ghost use Rattle.ztso_engines.specs.Scenario.{scenario_of, opening_of};
@@ -17,12 +15,14 @@ use engine_parts::fault::Fault;
 use engine_parts::input::{read_input, text_of};
 use engine_parts::output::end_with;
 use engine_parts::state_text::state_text;
+use recorder::replay_state;
 use std::alloc::Global;
 use std::io::{Read, Write};
-use step_machine::{MachineState, Opening};
+use step_machine::Opening;
 
 mod line;
 mod script;
+
 /// What an input tells.
 #[tactic(auto, using(engine_parts::proofs::Judging::judged_text, engine_parts::proofs::Judging::judged_no_text))]
 fn script_of_input<const M: usize>(alloc: Global, input: &[u8]) -> Result<Script, Fault>
@@ -31,32 +31,6 @@ fn script_of_input<const M: usize>(alloc: Global, input: &[u8]) -> Result<Script
     ensures fits { IfOk result (λ script. FitsIn M (opening_of (scenario_of script))) }
 {
     read_script::<M>(alloc, text_of(input)?)
-}
-
-/// The machine after the run of a script, without its history.
-fn machine_after<const B: usize, const M: usize>(
-    alloc: Global,
-    script: Script,
-) -> Result<MachineState<B, M>, Fault>
-    requires some_capacity { 1 ≤ B }
-    requires capacity { B ≤ 64 }
-    requires some_word { 1 ≤ M }
-    requires size { M ≤ 65536 }
-    requires fits { FitsIn M (opening_of (scenario_of script)) }
-    ensures { MatchResult result
-        (λ machine. (t : History) × Run B M (opening_of (scenario_of script)) (scenario_of script).events t × StandsAt B M t machine)
-        (λ fault. fault ≡ Fault.NoMemory) }
-{
-    let Script {
-        harts,
-        words,
-        events,
-    } = script;
-    let mut machine = MachineState::<B, M>::open(alloc, &Opening { harts, words })?;
-    match machine.run(&events) {
-        Ok(()) => Ok(machine),
-        Err(_) => Err(Fault::NoMemory),
-    }
 }
 
 /// The state text behind the run of an input. The input is let go before the run.
@@ -73,7 +47,12 @@ fn answer<const B: usize, const M: usize>(
 {
     let script = script_of_input::<M>(alloc, &input)?;
     drop(input);
-    let machine = machine_after::<B, M>(alloc, script)?;
+    let Script {
+        harts,
+        words,
+        events,
+    } = script;
+    let machine = replay_state::<B, M>(alloc, &Opening { harts, words }, &events)?;
     let text = state_text(alloc, &machine)?;
     Ok((text, ()))
 }

@@ -1,11 +1,12 @@
 //! The command `threads`: a litmus text in; out the schedule of a run that threads made, its state text
 //! and its verdict.
 
-ghost use Rattle.std.specs.Prelude.{ℕ, ◌≡◌, ◌≤◌, length};
+ghost use Rattle.std.specs.Prelude.{ℕ, ◌≡◌, ◌≤◌, ◌⊎◌, IfErr, length};
 ghost use Rattle.hart_threads.specs.GettingOn.{AllGetOn, AtMost};
 ghost use Rattle.hart_threads.specs.Records.{IsRecord};
 ghost use Rattle.engine_parts.specs.Engines.{EndsBy};
-ghost use Rattle.engine_parts.specs.Faults.{AnswersAs};
+ghost use Rattle.engine_parts.specs.Faults.{AnswersAs, too_large};
+ghost use Rattle.engine_parts.specs.declared.fault.Fault.TheVariants.{NoMemory, Refused};
 ghost use Rattle.ztso_engines.specs.Threads.{fault_of_threads, IsThreadsGiven, IsThreadsAnswer};
 ghost use Rattle.engine_parts.specs.inner.Making.{FindsBy, text_and_value};
 ghost use Rattle.step_machine.specs.declared.opening.TheConstants.{MAX_HARTS};
@@ -46,7 +47,8 @@ fn record_text<const B: usize, const M: usize>(
     requires harts { length test.now.opening.harts ≤ MAX_HARTS }
     requires names { length test.now.names ≤ M }
     requires runs { IsRecord B M test.now.opening made.now }
-    ensures { (n : ℕ) → AtMost n made.now.trace → AllGetOn n M made.now.trace → AnswersAs (IsThreadsGiven B M n test.now) text_and_value result }
+    ensures given { (n : ℕ) → AtMost n made.now.trace → AllGetOn n M made.now.trace → AnswersAs (IsThreadsGiven B M n test.now) text_and_value result }
+    ensures refused { IfErr result (λ fault. (fault ≡ NoMemory) ⊎ (fault ≡ Refused too_large)) }
 {
     if made.events.len() > MAX_EVENTS {
         return Err(Fault::refused(TOO_LARGE, Position::Nowhere));

@@ -7,8 +7,11 @@ use Rattle.ztso_engines.proofs.steps.answer.Goals as goal
 
 pub returns : goal.returns
 returns g c =
-    let scenario = scenario_of c.in_ok-script.script in (
+    let scenario = scenario_of c.in_ok-script.script in
+    let stood = c.in_ok-machine.ensures in
+    let ran = rw c.deref-2.ensures.value at stood.1 in (
       scenario,
-      accepted_well (script_at g.row.M) (Describes g.row.M) c.args.input.items scenario (text_sound g.row.M c.args.input.items scenario) (rw c.deref.ensures.value at c.in_ok-script.ensures.exact),
-      (let stood = c.in_ok-machine.ensures in record { history = stood.0; ran = stood.1; is_shown = c.in_ok-text.ensures stood.0 stood.2 }),
+      accepted_well (script_at g.row.M) (Describes g.row.M) c.args.input.items scenario
+          (text_sound g.row.M c.args.input.items scenario) (rw c.deref.ensures.value at c.in_ok-script.ensures.exact),
+      record { history = stood.0; ran = ran; is_shown = c.in_ok-text.ensures stood.0 stood.2 },
     )

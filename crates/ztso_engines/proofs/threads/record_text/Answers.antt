@@ -11,10 +11,11 @@ pub write_schedule-requires-clause-harts : goal.write_schedule-requires-clause-h
 write_schedule-requires-clause-harts g c =
     let made = c.args.made.now in
     subst OfHarts (sym c.deref.ensures.value)
-    (of_64 c.args.test.now.opening made.events.items made.trace.entries c.requires.runs.each (c.laws_of_runs.ensures.harts g.row.B g.row.M _ _ _ c.requires.runs.run) c.requires.harts)
+    (of_64 c.args.test.now.opening made.events.items made.trace.entries c.requires.runs.each
+    (c.laws_of_runs.ensures.harts g.row.B g.row.M _ _ _ c.requires.runs.run) c.requires.harts)
 
-pub returns : goal.returns
-returns g c n at_most get_on =
+pub returns-clause-given : goal.returns-clause-given
+returns-clause-given g c n at_most get_on =
     let made = c.args.made.now in
     let parts = c.in_ok-judged.judged in
     record {
@@ -26,6 +27,7 @@ returns g c n at_most get_on =
       at_most = at_most;
       get_on = get_on;
       state = string_bytes parts.0;
-      judged = subst (λ (t : History). IsJudged g.row.M c.args.test.now t (string_bytes parts.0, parts.1)) c.requires.runs.stands (c.in_ok-judged.ensures _ c.machine_state.ensures.stands);
+      judged = subst (λ (t : History). IsJudged g.row.M c.args.test.now t (string_bytes parts.0, parts.1)) c.requires.runs.stands
+          (c.in_ok-judged.ensures _ c.machine_state.ensures.stands);
       written = joined _ _ _ _ _ c.in_ok-push_str.ensures.bytes (c.in_ok-text.ensures.canonical ∙ ap canon c.deref.ensures.value) c.deref-2.ensures;
     }
