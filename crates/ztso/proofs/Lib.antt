@@ -1,4 +1,5 @@
 pub mod Buffered
+pub mod Described
 pub mod Endings
 pub mod Matches
 pub mod NumberLaws

@@ -1,7 +1,20 @@
 -- The command line, as it is described to clap.
-use Rattle.std.specs.Prelude.{true, List, [], ◌∷◌, Some, codes}
-use Rattle.clap.specs.Words.{App, Rule, Text, new_app, new_rule, with_rule, with_subcommand}
+use Rattle.std.specs.Prelude.{◌≡◌, true, false, List, [], ◌∷◌, Some, codes}
+use Rattle.clap.specs.Words.{App, Rule, Text, app_of, new_app, new_rule, rule_of, with_rule, with_subcommand}
 use Rattle.clap.specs.declared.builder.ArgAction.TheVariants.{Set, SetTrue}
+use Rattle.clap.specs.declared.builder.arg.Arg.{Arg}
+use Rattle.clap.specs.declared.builder.command.Command.{Command}
+use Rattle.clap.specs.declared.builder.command.Command.TheViews.{out-Command as fields_of}
+
+-- The argument has this rule, and belongs to its command alone.
+pub record HasRule (arg : Arg) (rule : Rule) : Type 0 where
+  pub rule_is : rule_of arg ≡ rule
+  pub local : arg.global ≡ false
+
+-- The command is described so, and none of its arguments belongs to its subcommands too.
+pub record IsDescribed (command : Command) (app : App) : Type 0 where
+  pub app_is : app_of command ≡ app
+  pub local : (fields_of command).has_globals ≡ false
 
 -- `--name VALUE`, and this value where it isn't given
 abbrev pub option_or : (name value : Text) → Rule
@@ -34,9 +47,17 @@ option_wanted name = record (new_rule name) {
   required = true;
 }
 
+-- a command with these rules
+abbrev pub with_rules : App → List Rule → App
+with_rules app [] = app
+with_rules app (rule ∷ rules) = with_rules (with_rule app rule) rules
+
 -- `steps [--buffer B]`
+abbrev pub steps_rules : List Rule
+steps_rules = buffer_option ∷ []
+
 abbrev pub steps_command : App
-steps_command = with_rule (new_app (codes "steps")) buffer_option
+steps_command = with_rules (new_app (codes "steps")) steps_rules
 
 -- `asm` and `dis` have no options
 abbrev pub asm_command : App
@@ -46,16 +67,19 @@ abbrev pub dis_command : App
 dis_command = new_app (codes "dis")
 
 -- `run FILE SCHEDULE [--buffer B]`, and so `replay`, `move`, `shrink` and `debug`
+abbrev pub schedule_rules : List Rule
+schedule_rules = word_wanted (codes "file") ∷ word_wanted (codes "schedule") ∷ buffer_option ∷ []
+
 abbrev pub schedule_command : Text → App
-schedule_command name =
-    with_rule (with_rule (with_rule (new_app name) (word_wanted (codes "file"))) (word_wanted (codes "schedule"))) buffer_option
+schedule_command name = with_rules (new_app name) schedule_rules
 
 -- `try FILE --seed S --runs N --length L [--skip K] [--jobs J] [--buffer B]`
+abbrev pub try_rules : List Rule
+try_rules = word_wanted (codes "file") ∷ option_wanted (codes "seed") ∷ option_wanted (codes "runs") ∷ option_wanted (codes "length")
+    ∷ option_or (codes "skip") (codes "0") ∷ option_or (codes "jobs") (codes "1") ∷ buffer_option ∷ []
+
 abbrev pub try_command : App
-try_command =
-    with_rule (with_rule (with_rule (with_rule (with_rule (with_rule (with_rule (new_app (codes "try")) (word_wanted (codes "file")))
-    (option_wanted (codes "seed"))) (option_wanted (codes "runs"))) (option_wanted (codes "length")))
-    (option_or (codes "skip") (codes "0"))) (option_or (codes "jobs") (codes "1"))) buffer_option
+try_command = with_rules (new_app (codes "try")) try_rules
 
 -- `--name`, a flag
 abbrev pub flag : Text → Rule
@@ -65,28 +89,35 @@ flag name = record (new_rule name) {
 }
 
 -- `chart FILE SCHEDULE [--svg] [--buffer B]`
+abbrev pub chart_rules : List Rule
+chart_rules = word_wanted (codes "file") ∷ word_wanted (codes "schedule") ∷ flag (codes "svg") ∷ buffer_option ∷ []
+
 abbrev pub chart_command : App
-chart_command =
-    with_rule (with_rule (with_rule (with_rule (new_app (codes "chart")) (word_wanted (codes "file"))) (word_wanted (codes "schedule")))
-    (flag (codes "svg"))) buffer_option
+chart_command = with_rules (new_app (codes "chart")) chart_rules
 
 -- `channel KIND RING SCHEDULE [--base A] [--stride T] [--finish] [--buffer B]`
+abbrev pub channel_rules : List Rule
+channel_rules = word_wanted (codes "kind") ∷ word_wanted (codes "ring") ∷ word_wanted (codes "schedule")
+    ∷ option_or (codes "base") (codes "0") ∷ option_said (codes "stride") ∷ flag (codes "finish") ∷ buffer_option ∷ []
+
 abbrev pub channel_command : App
-channel_command =
-    with_rule (with_rule (with_rule (with_rule (with_rule (with_rule (with_rule (new_app (codes "channel")) (word_wanted (codes "kind")))
-    (word_wanted (codes "ring"))) (word_wanted (codes "schedule"))) (option_or (codes "base") (codes "0"))) (option_said (codes "stride")))
-    (flag (codes "finish"))) buffer_option
+channel_command = with_rules (new_app (codes "channel")) channel_rules
 
 -- `threads FILE [--turns T] [--buffer B]`
+abbrev pub threads_rules : List Rule
+threads_rules = word_wanted (codes "file") ∷ option_or (codes "turns") (codes "100000") ∷ buffer_option ∷ []
+
 abbrev pub threads_command : App
-threads_command =
-    with_rule (with_rule (with_rule (new_app (codes "threads")) (word_wanted (codes "file"))) (option_or (codes "turns") (codes "100000"))) buffer_option
+threads_command = with_rules (new_app (codes "threads")) threads_rules
 
 abbrev pub with_commands : App → List App → App
 with_commands app [] = app
 with_commands app (command ∷ commands) = with_commands (with_subcommand app command.top) commands
 
+abbrev pub ztso_commands : List App
+ztso_commands =
+    steps_command ∷ asm_command ∷ dis_command ∷ schedule_command (codes "run") ∷ schedule_command (codes "replay") ∷ schedule_command (codes "move")
+    ∷ schedule_command (codes "shrink") ∷ chart_command ∷ schedule_command (codes "debug") ∷ try_command ∷ channel_command ∷ threads_command ∷ []
+
 abbrev pub ztso_command : App
-ztso_command = with_commands (new_app (codes "ztso"))
-    (steps_command ∷ asm_command ∷ dis_command ∷ schedule_command (codes "run") ∷ schedule_command (codes "replay") ∷ schedule_command (codes "move")
-    ∷ schedule_command (codes "shrink") ∷ chart_command ∷ schedule_command (codes "debug") ∷ try_command ∷ channel_command ∷ threads_command ∷ [])
+ztso_command = with_commands (new_app (codes "ztso")) ztso_commands

@@ -6,7 +6,7 @@ use Rattle.rand_core.specs.Pcg32Seed.{pcg32_seed}
 use Rattle.rand_pcg.specs.Pcg.{pcg32, pcg32_of_seed}
 use Rattle.recorder.specs.Drawing.{left_after}
 use Rattle.litmus.specs.declared.verdict.Verdict.{Verdict}
-use Rattle.litmus.specs.declared.verdict.Verdict.TheVariants.{Holds, Fails, Unfinished}
+use Rattle.litmus.specs.declared.verdict.Verdict.TheVariants.{Holds}
 use Rattle.engine_parts.specs.declared.fault.Fault.{Fault}
 use Rattle.engine_parts.specs.declared.fault.Refusal.{Refusal}
 use Rattle.engine_parts.specs.Engines.{AnswersBoth, Ends, OfInput}
@@ -58,8 +58,7 @@ tables_of FastForward = fastforward
 
 abbrev pub verdict_status : Verdict → ℕ
 verdict_status Holds = 0
-verdict_status Fails = 1
-verdict_status Unfinished = 1
+verdict_status other = 1
 
 abbrev pub tried_status : (is_good : Bool) → ℕ
 tried_status true = 0
@@ -110,19 +109,20 @@ IsAnswerOf B (Try seed runs) given =
     WithStatusBy tried_status (IsTryAnswer B WORDS (left_after (runs.skip * runs.length) (drawn_from seed)) runs.number runs.length) given
 IsAnswerOf B (Channel ring place finish) given = WithStatusByBoth done_status (IsChannelAnswer (tables_of ring) B WORDS (layout_of place []) finish) given
 
+-- the debugger's commands alone are read
+abbrev pub reads_commands : MachineCommand → Bool
+reads_commands Debug = true
+reads_commands other = false
+
 -- What was written and the exit status answer the inputs, or the refusal does and nothing was written.
 -- Where a read failed or memory ran out nothing was written; where a write failed nothing is said of it.
--- The debugger writes as it reads, so there nothing is said of what was written in these three cases.
+-- An interactive command writes as it reads, so there nothing is said of what was written in these three cases.
+abbrev pub EndsAs : {W : Type 0} → (is_interactive : Bool) → (Answer → Type 0) → Result ℕ Fault → (contents : W → Option (List ℕ)) → (old new : W) → Type 0
+EndsAs false IsAnswer result contents old new = Ends IsAnswer result contents old new
+EndsAs true IsAnswer result contents old new = EndsInteractive IsAnswer result contents old new
+
 abbrev pub DoesMachine : {W : Type 0} → (B : ℕ) → MachineCommand → Result ℕ Fault → Given → (contents : W → Option (List ℕ)) → (old new : W) → Type 0
-DoesMachine B Steps result given contents old new = Ends (IsAnswerOf B Steps given) result contents old new
-DoesMachine B Run result given contents old new = Ends (IsAnswerOf B Run given) result contents old new
-DoesMachine B Replay result given contents old new = Ends (IsAnswerOf B Replay given) result contents old new
-DoesMachine B Move result given contents old new = Ends (IsAnswerOf B Move given) result contents old new
-DoesMachine B Shrink result given contents old new = Ends (IsAnswerOf B Shrink given) result contents old new
-DoesMachine B (Chart style) result given contents old new = Ends (IsAnswerOf B (Chart style) given) result contents old new
-DoesMachine B Debug result given contents old new = EndsInteractive (IsAnswerOf B Debug given) result contents old new
-DoesMachine B (Try seed runs) result given contents old new = Ends (IsAnswerOf B (Try seed runs) given) result contents old new
-DoesMachine B (Channel ring place finish) result given contents old new = Ends (IsAnswerOf B (Channel ring place finish) given) result contents old new
+DoesMachine B command result given contents old new = EndsAs (reads_commands command) (IsAnswerOf B command given) result contents old new
 
 abbrev pub DoesPlain : {W : Type 0} → PlainCommand → Result ℕ Fault → Given → (contents : W → Option (List ℕ)) → (old new : W) → Type 0
 DoesPlain Asm result given contents old new = Ends (WithStatusBy done_status IsAsmAnswer given) result contents old new
@@ -140,14 +140,9 @@ DoesThreads n capacity result file contents old new = Ends (WithStatus verdict_s
 -- known, and refused.
 abbrev pub LeavesSecondOf : MachineCommand → (first : Option (List ℕ)) → Type 0
 LeavesSecondOf Steps first = Unit {0}
-LeavesSecondOf Run first = HasNoTest first
-LeavesSecondOf Replay first = HasNoTest first
-LeavesSecondOf Move first = HasNoTest first
-LeavesSecondOf Shrink first = HasNoTest first
-LeavesSecondOf (Chart style) first = HasNoTest first
-LeavesSecondOf Debug first = HasNoTest first
 LeavesSecondOf (Try seed runs) first = Unit {0}
 LeavesSecondOf (Channel ring place finish) first = HasNoSchedule first
+LeavesSecondOf other first = HasNoTest first
 
 abbrev pub LeavesSecond : PlainCommand → (first : Option (List ℕ)) → Type 0
 LeavesSecond Asm first = Unit {0}
@@ -155,18 +150,6 @@ LeavesSecond Dis first = Unit {0}
 LeavesSecond (Machine command capacity) first = LeavesSecondOf command first
 
 -- ---- what a user's commands are left
-
--- the debugger's alone are read
-abbrev pub reads_commands : MachineCommand → Bool
-reads_commands Steps = false
-reads_commands Run = false
-reads_commands Replay = false
-reads_commands Move = false
-reads_commands Shrink = false
-reads_commands (Chart style) = false
-reads_commands Debug = true
-reads_commands (Try seed runs) = false
-reads_commands (Channel ring place finish) = false
 
 abbrev pub LeavesCommands : PlainCommand → Type 0
 LeavesCommands Asm = Unit {0}

@@ -8,6 +8,8 @@
 
 #![tactic(auto)]
 
+ghost use Rattle.std.specs.Prelude.{◌≤◌, IfOk};
+
 mod command_line;
 mod failure;
 mod job;
@@ -49,6 +51,7 @@ fn run<R, P: Progress>(rt: &R, progress: &mut P) -> Result<u8, Failure>
 where
     R: Env + Files + Input + Print + Eprint + AllocGlobal + Threads + Wait + Sync,
     R::Reader: IsTerminal,
+    ensures { IfOk result (λ status. status ≤ 1) }
 {
     let arguments = env::args(rt).map_err(Failure::of_arguments)?;
     let words: Vec<String> = arguments.collect(rt.alloc())?;

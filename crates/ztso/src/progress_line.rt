@@ -1,6 +1,6 @@
 //! How far `try` is, on a line of a terminal.
 
-ghost use Rattle.std.specs.Prelude.{◌≡◌, ◌*◌, ◌/◌, max, min, None};
+ghost use Rattle.std.specs.Prelude.{◌≡◌, ◌≤◌, ◌*◌, ◌/◌, max, min, None};
 ghost use Rattle.ztso.specs.declared.progress_line.TheConstants.{FIRST_ROUND, MOST_GROWTH};
 
 use std::rt::Clock;
@@ -41,7 +41,9 @@ impl<'a, R: Clock + Eprint> ProgressLine<'a, R> {
     }
 
     /// How many milliseconds the round took, where the clock could be read.
-    fn milliseconds(&self) -> Option<u128> {
+    fn milliseconds(&self) -> Option<u128>
+        ensures { self.now.begun ≡ None → result ≡ None }
+    {
         let took = self.begun?.elapsed(self.rt).ok()?;
         Some(took.as_millis())
     }
@@ -50,19 +52,25 @@ impl<'a, R: Clock + Eprint> ProgressLine<'a, R> {
 impl<'a, R: Clock + Eprint> Progress for ProgressLine<'a, R> {
     fn next_round(&mut self, _left: u32) -> u32
         ensures round { result ≡ self.old.round }
+        ensures kept { self.new.round ≡ self.old.round }
     {
         self.begun = Instant::now(self.rt).ok();
         self.round
     }
 
-    fn report(&mut self, done: u32, runs: u32, outcomes: usize) {
+    fn report(&mut self, done: u32, runs: u32, outcomes: usize)
+        ensures some { 1 ≤ self.old.round → 1 ≤ self.new.round }
+        ensures growth { self.new.round ≤ max 1 (self.old.round * MOST_GROWTH) }
+    {
         let _ = eprint!(self.rt; "\rruns {done} of {runs}, outcomes {outcomes}");
         if let Some(milliseconds) = self.milliseconds() {
             self.round = for_a_second(self.round, milliseconds);
         }
     }
 
-    fn end(&mut self) {
+    fn end(&mut self)
+        ensures { self.new ≡ self.old }
+    {
         let _ = eprint!(self.rt; "{WIPE}");
     }
 }

@@ -1,21 +1,13 @@
 //! Which engine does a job.
 
-ghost use Rattle.std.specs.Prelude.{◌≡◌, ◌≤◌, ◌*◌, [], false};
+ghost use Rattle.std.specs.Prelude.{◌≡◌, ◌≤◌, ◌*◌, [], false, IfOk};
 ghost use Rattle.ztso.specs.declared.work.TheConstants.{WORDS};
-ghost use Rattle.ztso.specs.Work.{LeavesCommands, reads_commands, DoesPlain, DoesThreads, DoesMachine, Given, LeavesSecond, LeavesSecondOf, WithStatus, done_status, drawn_from, ended_with, tables_of, tried_status, verdict_status};
+ghost use Rattle.ztso.specs.Work.{LeavesCommands, reads_commands, DoesPlain, DoesThreads, DoesMachine, LeavesSecond, LeavesSecondOf, WithStatus, done_status, drawn_from, ended_with, tables_of, tried_status, verdict_status};
 ghost use Rattle.recorder.specs.Drawing.{left_after};
-ghost use Rattle.ztso_engines.specs.Asm.{IsAsmAnswer};
 ghost use Rattle.poll_close.specs.Places.{layout_of};
 ghost use Rattle.ztso_engines.specs.Channels.{IsChannelAnswer};
-ghost use Rattle.ztso_engines.specs.Dis.{IsDisAnswer};
 ghost use Rattle.engine_parts.specs.Engines.{AnswersBoth, Ends, EndsBy, EndsByBoth, OfInput};
-ghost use Rattle.ztso_engines.specs.Move.{IsMoveAnswer};
-ghost use Rattle.ztso_engines.specs.Replay.{IsReplayAnswer};
-ghost use Rattle.ztso_engines.specs.Run.{IsRunAnswer};
-ghost use Rattle.views.specs.Chart.{IsChartAnswer, drawing};
-ghost use Rattle.views.specs.Shrink.{IsShrinkAnswer};
 ghost use Rattle.engine_parts.specs.Schedules.{HasNoSchedule};
-ghost use Rattle.ztso_engines.specs.Steps.{IsStepsAnswer};
 ghost use Rattle.debugger.specs.Transcripts.{EndsInteractive, IsDebugAnswer};
 ghost use Rattle.engine_parts.specs.Tests.{HasNoTest};
 ghost use Rattle.tries.specs.Outcomes.{IsTryAnswer};
@@ -52,7 +44,8 @@ pub const WORDS: usize = 4096;
 
 /// The exit status after a verdict.
 fn after_run(ended: Result<Verdict, Fault>) -> Result<u8, Fault>
-    ensures { result ≡ ended_with verdict_status ended }
+    ensures ended { result ≡ ended_with verdict_status ended }
+    ensures status { IfOk result (λ status. status ≤ 1) }
 {
     match ended? {
         Verdict::Holds => Ok(0),
@@ -63,124 +56,19 @@ fn after_run(ended: Result<Verdict, Fault>) -> Result<u8, Fault>
 
 /// The exit status after runs that show what the test asks, or don't.
 fn after_try(ended: Result<bool, Fault>) -> Result<u8, Fault>
-    ensures { result ≡ ended_with tried_status ended }
+    ensures ended { result ≡ ended_with tried_status ended }
+    ensures status { IfOk result (λ status. status ≤ 1) }
 {
     if ended? { Ok(0) } else { Ok(1) }
 }
 
 /// The exit status of a job that has no other outcome than its output.
 fn after(ended: Result<(), Fault>) -> Result<u8, Fault>
-    ensures { result ≡ ended_with done_status ended }
+    ensures ended { result ≡ ended_with done_status ended }
+    ensures status { IfOk result (λ status. status ≤ 1) }
 {
     ended?;
     Ok(0)
-}
-
-/// Makes words of assembly.
-fn assemble<R: Read, W: Write>(alloc: Global, reader: &mut R, writer: &mut W) -> Result<u8, Fault>
-    ensures { Ends (WithStatus done_status (λ answer. OfInput (R.remaining reader.old) (λ bytes. IsAsmAnswer bytes answer))) result W.contents writer.old writer.new }
-{
-    after(asm_engine(alloc, reader, writer))
-}
-
-/// Names the instructions of words.
-fn disassemble<R: Read, W: Write>(
-    alloc: Global,
-    reader: &mut R,
-    writer: &mut W,
-) -> Result<u8, Fault>
-    ensures { Ends (WithStatus done_status (λ answer. OfInput (R.remaining reader.old) (λ bytes. IsDisAnswer bytes answer))) result W.contents writer.old writer.new }
-{
-    after(dis_engine(alloc, reader, writer))
-}
-
-/// Runs the machine that a steps text describes.
-fn run_steps<const B: usize, R: Read, W: Write>(
-    alloc: Global,
-    reader: &mut R,
-    writer: &mut W,
-) -> Result<u8, Fault>
-    requires some_capacity { 1 ≤ B }
-    requires capacity { B ≤ 64 }
-    ensures { Ends (WithStatus done_status (λ answer. OfInput (R.remaining reader.old) (λ bytes. IsStepsAnswer B WORDS bytes answer))) result W.contents writer.old writer.new }
-{
-    after(steps_engine::<B, WORDS, _, _>(alloc, reader, writer))
-}
-
-/// Runs a test by a schedule, and judges it.
-fn run_test<const B: usize, F: Read, S: Read, W: Write>(
-    alloc: Global,
-    file: &mut F,
-    schedule: &mut S,
-    writer: &mut W,
-) -> Result<u8, Fault>
-    requires some_capacity { 1 ≤ B }
-    requires capacity { B ≤ 64 }
-    ensures ends { Ends (WithStatus verdict_status (AnswersBoth (IsRunAnswer B WORDS) (F.remaining file.old) (S.remaining schedule.old))) result W.contents writer.old writer.new }
-    ensures unread { HasNoTest (F.remaining file.old) → schedule.new ≡ schedule.old }
-{
-    after_run(run_engine::<B, WORDS, _, _, _>(alloc, file, schedule, writer))
-}
-
-/// Tells each event's outcome in a run of a test by a schedule.
-fn replay_test<const B: usize, F: Read, S: Read, W: Write>(
-    alloc: Global,
-    file: &mut F,
-    schedule: &mut S,
-    writer: &mut W,
-) -> Result<u8, Fault>
-    requires some_capacity { 1 ≤ B }
-    requires capacity { B ≤ 64 }
-    ensures ends { Ends (WithStatus done_status (AnswersBoth (IsReplayAnswer B WORDS) (F.remaining file.old) (S.remaining schedule.old))) result W.contents writer.old writer.new }
-    ensures unread { HasNoTest (F.remaining file.old) → schedule.new ≡ schedule.old }
-{
-    after(replay_engine::<B, WORDS, _, _, _>(alloc, file, schedule, writer))
-}
-
-/// Writes a schedule's text of version 2, with each event's outcome in a run of a test.
-fn move_schedule<const B: usize, F: Read, S: Read, W: Write>(
-    alloc: Global,
-    file: &mut F,
-    schedule: &mut S,
-    writer: &mut W,
-) -> Result<u8, Fault>
-    requires some_capacity { 1 ≤ B }
-    requires capacity { B ≤ 64 }
-    ensures ends { Ends (WithStatus done_status (AnswersBoth (IsMoveAnswer B WORDS) (F.remaining file.old) (S.remaining schedule.old))) result W.contents writer.old writer.new }
-    ensures unread { HasNoTest (F.remaining file.old) → schedule.new ≡ schedule.old }
-{
-    after(move_engine::<B, WORDS, _, _, _>(alloc, file, schedule, writer))
-}
-
-/// Leaves out of a schedule what its outcome of a test doesn't need.
-fn shrink_schedule<const B: usize, F: Read, S: Read, W: Write>(
-    alloc: Global,
-    file: &mut F,
-    schedule: &mut S,
-    writer: &mut W,
-) -> Result<u8, Fault>
-    requires some_capacity { 1 ≤ B }
-    requires capacity { B ≤ 64 }
-    ensures ends { Ends (WithStatus done_status (AnswersBoth (IsShrinkAnswer B WORDS) (F.remaining file.old) (S.remaining schedule.old))) result W.contents writer.old writer.new }
-    ensures unread { HasNoTest (F.remaining file.old) → schedule.new ≡ schedule.old }
-{
-    after(shrink_engine::<B, WORDS, _, _, _>(alloc, file, schedule, writer))
-}
-
-/// Draws a run of a test by a schedule.
-fn chart_test<const B: usize, F: Read, S: Read, W: Write>(
-    alloc: Global,
-    style: Style,
-    file: &mut F,
-    schedule: &mut S,
-    writer: &mut W,
-) -> Result<u8, Fault>
-    requires some_capacity { 1 ≤ B }
-    requires capacity { B ≤ 64 }
-    ensures ends { Ends (WithStatus done_status (AnswersBoth (IsChartAnswer B WORDS (drawing style)) (F.remaining file.old) (S.remaining schedule.old))) result W.contents writer.old writer.new }
-    ensures unread { HasNoTest (F.remaining file.old) → schedule.new ≡ schedule.old }
-{
-    after(chart_engine::<B, WORDS, _, _, _>(alloc, style, file, schedule, writer))
 }
 
 /// Walks along a schedule's run at a user's commands.
@@ -202,22 +90,6 @@ fn debug<const B: usize, F: Read, S: Read, C: Read, W: Write>(
     debug_engine::<B, WORDS, _, _, _, _>(alloc, file, schedule, &mut commands, writer)
 }
 
-/// Debugs a test's run by a schedule, at a user's commands.
-fn debug_test<const B: usize, F: Read, S: Read, C: Read, W: Write>(
-    alloc: Global,
-    file: &mut F,
-    schedule: &mut S,
-    commands: &mut C,
-    writer: &mut W,
-) -> Result<u8, Fault>
-    requires some_capacity { 1 ≤ B }
-    requires capacity { B ≤ 64 }
-    ensures ends { EndsInteractive (WithStatus done_status (AnswersBoth (IsDebugAnswer B WORDS (C.remaining commands.old)) (F.remaining file.old) (S.remaining schedule.old))) result W.contents writer.old writer.new }
-    ensures unread { HasNoTest (F.remaining file.old) → schedule.new ≡ schedule.old }
-{
-    after(debug::<B, F, S, C, W>(alloc, file, schedule, commands, writer))
-}
-
 /// Runs a test by schedules that are drawn from a generator of this seed.
 fn try_drawn<const B: usize, F: Read, W: Write, T: Threads + Sync, P: Progress>(
     rt: &T,
@@ -234,23 +106,6 @@ fn try_drawn<const B: usize, F: Read, W: Write, T: Threads + Sync, P: Progress>(
 {
     let generator = Lcg64Xsh32::seed_from_u64(seed);
     try_engine::<B, WORDS, _, _, _, _, _>(rt, alloc, file, &generator, runs, progress, writer)
-}
-
-/// Tries a test.
-fn try_test<const B: usize, F: Read, W: Write, T: Threads + Sync, P: Progress>(
-    rt: &T,
-    alloc: Global,
-    seed: u64,
-    runs: Runs,
-    file: &mut F,
-    progress: &mut P,
-    writer: &mut W,
-) -> Result<u8, Fault>
-    requires some_capacity { 1 ≤ B }
-    requires capacity { B ≤ 64 }
-    ensures { Ends (WithStatus tried_status (λ answer. OfInput (F.remaining file.old) (λ bytes. IsTryAnswer B WORDS (left_after (runs.skip * runs.length) (drawn_from seed)) runs.number runs.length bytes answer))) result W.contents writer.old writer.new }
-{
-    after_try(try_drawn::<B, _, _, _, _>(rt, alloc, seed, runs, file, progress, writer))
 }
 
 /// Runs a channel over lists of words by a schedule, through rings of this kind at this place, and then by a
@@ -279,24 +134,6 @@ fn run_rings<const B: usize, S: Read, L: Read, W: Write>(
     }
 }
 
-/// Runs a channel.
-fn run_channel<const B: usize, S: Read, L: Read, W: Write>(
-    alloc: Global,
-    ring: Ring,
-    place: Place,
-    finish: bool,
-    schedule: &mut S,
-    lists: &mut L,
-    writer: &mut W,
-) -> Result<u8, Fault>
-    requires some_capacity { 1 ≤ B }
-    requires capacity { B ≤ 64 }
-    ensures ends { Ends (WithStatus done_status (AnswersBoth (IsChannelAnswer (tables_of ring) B WORDS (layout_of place []) finish) (S.remaining schedule.old) (L.remaining lists.old))) result W.contents writer.old writer.new }
-    ensures unread { HasNoSchedule (S.remaining schedule.old) → lists.new ≡ lists.old }
-{
-    after(run_rings::<B, _, _, _>(alloc, ring, place, finish, schedule, lists, writer))
-}
-
 /// Does a command on a machine whose harts' buffers hold `B` stores.
 fn do_machine<const B: usize, F: Read, S: Read, C: Read, W: Write, T: Threads + Sync, P: Progress>(
     rt: &T,
@@ -313,27 +150,36 @@ fn do_machine<const B: usize, F: Read, S: Read, C: Read, W: Write, T: Threads + 
     ensures does { DoesMachine B command result (record { first = F.remaining first.old; second = S.remaining second.old; commands = C.remaining commands.old }) W.contents writer.old writer.new }
     ensures unread { LeavesSecondOf command (F.remaining first.old) → second.new ≡ second.old }
     ensures unasked { reads_commands command ≡ false → commands.new ≡ commands.old }
+    ensures status { IfOk result (λ status. status ≤ 1) }
 {
     match command {
-        MachineCommand::Steps => run_steps::<B, _, _>(alloc, first, writer),
-        MachineCommand::Run => run_test::<B, _, _, _>(alloc, first, second, writer),
-        MachineCommand::Replay => replay_test::<B, _, _, _>(alloc, first, second, writer),
-        MachineCommand::Move => move_schedule::<B, _, _, _>(alloc, first, second, writer),
-        MachineCommand::Shrink => shrink_schedule::<B, _, _, _>(alloc, first, second, writer),
-        MachineCommand::Chart { style } => chart_test::<B, _, _, _>(
-            alloc, style, first, second, writer,
-        ),
-        MachineCommand::Debug => debug_test::<B, _, _, _, _>(
-            alloc, first, second, commands, writer,
-        ),
+        MachineCommand::Steps => after(steps_engine::<B, WORDS, _, _>(alloc, first, writer)),
+        MachineCommand::Run => {
+            after_run(run_engine::<B, WORDS, _, _, _>(alloc, first, second, writer))
+        }
+        MachineCommand::Replay => {
+            after(replay_engine::<B, WORDS, _, _, _>(alloc, first, second, writer))
+        }
+        MachineCommand::Move => {
+            after(move_engine::<B, WORDS, _, _, _>(alloc, first, second, writer))
+        }
+        MachineCommand::Shrink => {
+            after(shrink_engine::<B, WORDS, _, _, _>(alloc, first, second, writer))
+        }
+        MachineCommand::Chart { style } => {
+            after(chart_engine::<B, WORDS, _, _, _>(alloc, style, first, second, writer))
+        }
+        MachineCommand::Debug => {
+            after(debug::<B, _, _, _, _>(alloc, first, second, commands, writer))
+        }
         MachineCommand::Try { seed, runs } => {
-            try_test::<B, _, _, _, _>(rt, alloc, seed, runs, first, progress, writer)
+            after_try(try_drawn::<B, _, _, _, _>(rt, alloc, seed, runs, first, progress, writer))
         }
         MachineCommand::Channel {
             ring,
             place,
             finish,
-        } => run_channel::<B, _, _, _>(alloc, ring, place, finish, first, second, writer),
+        } => after(run_rings::<B, _, _, _>(alloc, ring, place, finish, first, second, writer)),
     }
 }
 
@@ -358,10 +204,11 @@ pub fn do_plain<F: Read, S: Read, C: Read, W: Write, T: Threads + Sync, P: Progr
     ensures does { DoesPlain command result (record { first = F.remaining first.old; second = S.remaining second.old; commands = C.remaining commands.old }) W.contents writer.old writer.new }
     ensures unread { LeavesSecond command (F.remaining first.old) → second.new ≡ second.old }
     ensures unasked { LeavesCommands command → commands.new ≡ commands.old }
+    ensures status { IfOk result (λ status. status ≤ 1) }
 {
     match command {
-        PlainCommand::Asm => assemble(alloc, first, writer),
-        PlainCommand::Dis => disassemble(alloc, first, writer),
+        PlainCommand::Asm => after(asm_engine(alloc, first, writer)),
+        PlainCommand::Dis => after(dis_engine(alloc, first, writer)),
         PlainCommand::Machine { command, capacity } => match capacity {
             Capacity::One => do_machine::<1, _, _, _, _, _, _>(
                 rt, alloc, command, first, second, commands, progress, writer,
@@ -390,7 +237,8 @@ pub fn do_threads<F: Read, W: Write, T: Threads + Wait + Sync>(
     file: &mut F,
     writer: &mut W,
 ) -> Result<u8, Fault>
-    ensures { DoesThreads turns capacity result (F.remaining file.old) W.contents writer.old writer.new }
+    ensures does { DoesThreads turns capacity result (F.remaining file.old) W.contents writer.old writer.new }
+    ensures status { IfOk result (λ status. status ≤ 1) }
 {
     match capacity {
         Capacity::One => run_threads::<1, _, _, _>(rt, alloc, turns, file, writer),
@@ -410,7 +258,8 @@ fn run_threads<const B: usize, F: Read, W: Write, T: Threads + Wait + Sync>(
 ) -> Result<u8, Fault>
     requires some_capacity { 1 ≤ B }
     requires capacity { B ≤ 64 }
-    ensures { Ends (WithStatus verdict_status (λ answer. OfInput (F.remaining file.old) (λ bytes. IsThreadsAnswer B WORDS turns bytes answer))) result W.contents writer.old writer.new }
+    ensures ends { Ends (WithStatus verdict_status (λ answer. OfInput (F.remaining file.old) (λ bytes. IsThreadsAnswer B WORDS turns bytes answer))) result W.contents writer.old writer.new }
+    ensures status { IfOk result (λ status. status ≤ 1) }
 {
     after_run(threads_engine::<B, WORDS, _, _, _>(rt, alloc, file, turns, writer))
 }
