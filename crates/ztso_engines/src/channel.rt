@@ -26,7 +26,7 @@ use poll_close::plans::Finish;
 use poll_close::{
     Place, Refused, RefusedAt, RingKind, deliver_at, deliver_whole_at, laws_of_channels, opening_at,
 };
-use recorder::{Schedule, replay_checked};
+use recorder::{Schedule, check_record};
 use std::alloc::{AllocError, Global};
 use std::io::{Read, Write};
 use step_machine::{Event, Outcome};
@@ -91,7 +91,7 @@ fn reports_of_events<K: Finish<B, M>, const B: usize, const M: usize>(
 
 /// Runs a record from the opening over these lists. It is refused at the first event whose outcome isn't
 /// the run's.
-fn check_record<K: RingKind, const B: usize, const M: usize>(
+fn check_steps<K: RingKind, const B: usize, const M: usize>(
     alloc: Global,
     place: Place,
     lists: &[Vec<u32>],
@@ -108,13 +108,13 @@ fn check_record<K: RingKind, const B: usize, const M: usize>(
         Ok(opening) => opening,
         Err(why) => return Err(channel_fault(why)),
     };
-    match replay_checked::<B, M>(alloc, opening, steps) {
+    match check_record::<B, M>(alloc, &opening, steps) {
         Ok(_) => Ok(()),
         Err(error) => Err(check_fault(error)),
     }
 }
 
-/// Runs a schedule from the opening over these lists if it is a record, as [`check_record`]. There is nothing
+/// Runs a schedule from the opening over these lists if it is a record, as [`check_steps`]. There is nothing
 /// to check of events alone.
 fn check<K: RingKind, const B: usize, const M: usize>(
     alloc: Global,
@@ -130,7 +130,7 @@ fn check<K: RingKind, const B: usize, const M: usize>(
 {
     match said {
         Schedule::Plain(_) => Ok(()),
-        Schedule::Record(steps) => check_record::<K, B, M>(alloc, place, lists, steps),
+        Schedule::Record(steps) => check_steps::<K, B, M>(alloc, place, lists, steps),
     }
 }
 
