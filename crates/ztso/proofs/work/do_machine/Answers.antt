@@ -73,7 +73,8 @@ returns-in-Try-clause-does g c = rw c.in-Try.is
 
 pub returns-in-Channel-clause-does : goal.returns-in-Channel-clause-does
 returns-in-Channel-clause-does g c = rw c.in-Channel.is
-    (ends_with_status done_status (AnswersBoth (IsChannelAnswer (tables_of c.in-Channel.ring) g.row.B 4096 (layout_of c.in-Channel.place []) c.in-Channel.finish)
+    (ends_with_status done_status (AnswersBoth
+    (IsChannelAnswer (tables_of c.in-Channel.ring) g.row.B 4096 (layout_of c.in-Channel.place []) c.in-Channel.finish)
     (g.F.Read.remaining c.args.first.now) (g.S.Read.remaining c.args.second.now))
     c.run_rings.result g.W.Write.contents c.args.writer.now c.run_rings.new.writer c.run_rings.ensures.ends
     c.after-in-Channel.result c.after-in-Channel.ensures.ended)
