@@ -17,6 +17,7 @@ pub(crate) const fn field(word: u32, low: u32, width: u32) -> u32
 }
 
 /// The bits of `high` with the `width` bits of `low` after them.
+#[tactic(auto, using(crate::proofs::Bits::or_after_shl))]
 pub(crate) const fn join(high: u32, width: u32, low: u32) -> u32
     requires width { width < 32 }
     requires low { low < 2 ^ width }
