@@ -6,6 +6,7 @@ ghost use Rattle.litmus.specs.Formulas.{Formula, places};
 ghost use Rattle.litmus.specs.Grammar.{IsConditionOf, places_in};
 
 /// The symbols of a condition stand for one formula. It does nothing.
+#[tactic(auto, using(crate::proofs::GrammarLaws::finished_only))]
 pub fn one_formula()
     ensures { (symbols : List Symbol) → (f g : Formula) → IsConditionOf symbols f → IsConditionOf symbols g → f ≡ g }
 {}

@@ -22,6 +22,7 @@ pub fn row_in<'a, T: Copy>(
 }
 
 /// The number in the table's first row with this name.
+#[tactic(auto, using(crate::proofs::TableLaws::row_found, crate::proofs::TableLaws::row_missing))]
 pub fn number_in(table: &[(&'static str, u8)], text: &[u8]) -> Option<u8>
     ensures { result ≡ row_of (λ row. row.0.now) (λ row. row.1) table.now text.now }
 {
