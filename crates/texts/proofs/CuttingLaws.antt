@@ -95,9 +95,6 @@ cut_whole p (x ∷ xs) ys e = grind (arith, cut_whole p xs ys)
 pub cut_byte : (byte : ℕ) (xs ys : List ℕ) → after (is_byte byte) xs ≡ Some ys → xs ≡ before (is_byte byte) xs ++ byte ∷ ys
 cut_byte byte xs ys e = let cut = cut_whole (is_byte byte) xs ys e in subst (λ (c : ℕ). xs ≡ before (is_byte byte) xs ++ c ∷ ys) (eqb-true cut.0 byte cut.1) cut.2
 
-abbrev nothing : Option (List ℕ)
-nothing = None
-
 pub uncut : (p : ℕ → Bool) (xs : List ℕ) → after p xs ≡ None → before p xs ≡ xs
 uncut p [] e = refl
 uncut p (x ∷ xs) e = grind (arith, uncut p xs)
