@@ -17,8 +17,9 @@ use Rattle.rv_decode.specs.declared.instruction.Reg.{Reg}
 use Rattle.assembler.specs.declared.faults.AsmFault.{AsmFault}
 use Rattle.assembler.specs.Names.{is_name, begins_name, goes_on_name}
 use Rattle.assembler.specs.Operands.{register_in, Target, bytes, label, is_even, is_reached, in_reach, IsReached, target_in, closed, opened, base_in, or_zero, offset_in, address_in}
-use Rattle.assembler.specs.Spelled.{IsMagnitude, IsNumber, IsRegister, IsOffset, IsAddress, IsTarget}
-use Rattle.assembler.specs.Spelled.IsMagnitude.{decimal, hex}
+use Rattle.texts.specs.Numbers.{IsMagnitude}
+use Rattle.texts.specs.Numbers.IsMagnitude.{decimal, hex}
+use Rattle.assembler.specs.Spelled.{IsNumber, IsRegister, IsOffset, IsAddress, IsTarget}
 use Rattle.assembler.specs.Spelled.IsNumber.{plain, negative}
 use Rattle.assembler.proofs.Rows.{all_below, below_all}
 use Rattle.texts.proofs.CuttingLaws.{before_stop, after_stop, cut_byte}

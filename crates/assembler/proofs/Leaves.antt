@@ -8,8 +8,9 @@ use Rattle.std.proofs.lemmas.Bool.{and_parts, and_right, or_parts, cases_Bool, e
 use Rattle.std.proofs.lemmas.Int.{ints}
 use Rattle.texts.specs.Pieces.{is_blank}
 use Rattle.texts.specs.Cutting.{trimmed, NonePass}
-use Rattle.texts.specs.Numbers.{capped, is_hex, magnitude_of, is_negative, integer_of}
-use Rattle.texts.proofs.NumberLaws.{hex_text, no_hex, negative_text, number_said, says_number, hex_number_said, says_hex_number}
+use Rattle.texts.specs.Numbers.{IsMagnitude, magnitude_of, is_negative, integer_of}
+use Rattle.texts.specs.Numbers.IsMagnitude.{decimal, hex}
+use Rattle.texts.proofs.NumberLaws.{magnitude_found, magnitude_only, negative_text}
 use Rattle.texts.proofs.ResultLaws.{guard_ok, ok_is, bind_ok}
 use Rattle.rv_decode.specs.Meaning.{reg_of}
 use Rattle.rv_decode.proofs.Meanings.{reg_of_number}
@@ -20,8 +21,7 @@ use Rattle.rv_decode.specs.Registers.{register_names, register_named}
 use Rattle.assembler.specs.Sets.{set_names, set_named}
 use Rattle.assembler.specs.Names.{goes_on_name}
 use Rattle.assembler.specs.Operands.{register_in, known_register, in_range, number_in, natural_in, set_in}
-use Rattle.assembler.specs.Spelled.{IsMagnitude, IsNumber, IsNumberFrom, IsNumberUpTo, IsRegister, IsSet}
-use Rattle.assembler.specs.Spelled.IsMagnitude.{decimal, hex}
+use Rattle.assembler.specs.Spelled.{IsNumber, IsNumberFrom, IsNumberUpTo, IsRegister, IsSet}
 use Rattle.assembler.specs.Spelled.IsNumber.{plain, negative}
 use Rattle.rv_decode.proofs.TableLaws.{row_below}
 use Rattle.texts.proofs.TrimLaws.{stripped_none}
@@ -167,18 +167,6 @@ digits_word radix most [] h = refl
 digits_word radix most (c ∷ digits) h = rw (digit_word c (omega (arith, h.0)), digits_word radix most digits h.1) refl
 
 -- ---- magnitudes
-
-pub magnitude_found : (t : List ℕ) (n : ℕ) → magnitude_of t ≡ Some n → n < 2 ^ 32 → IsMagnitude t n
-unfolding magnitude_of
-magnitude_found t n e small = elim (cases_Bool (is_hex t)) [
-  | inl is ↦ subst (λ (s : List ℕ). IsMagnitude s n) (sym (hex_text t is)) (hex (drop 2 t) n (hex_number_said (drop 2 t) n (rw is at e) small))
-  | inr other ↦ decimal t n (number_said t n (rw other at e) small)
-]
-
-magnitude_only : (t : List ℕ) (n : ℕ) → IsMagnitude t n → n < 2 ^ 32 → magnitude_of t ≡ Some n
-unfolding magnitude_of
-magnitude_only t n (decimal digits m says) small = (let same : capped m ≡ m = omega arith in rw (no_hex digits says.0.1) (says_number digits m says ∙ ap Some same))
-magnitude_only t n (hex digits m says) small = (let same : capped m ≡ m = omega arith in rw (lt-ltb 1 (length (48 ∷ 120 ∷ digits)) (omega arith)) (says_hex_number digits m says ∙ ap Some same))
 
 magnitude_word : (t : List ℕ) (n : ℕ) → IsMagnitude t n → list_all is_word_byte t ≡ true
 magnitude_word t n (decimal digits m says) = digits_word 10 (omega arith) digits says.0.1

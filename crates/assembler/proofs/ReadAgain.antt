@@ -12,7 +12,7 @@ use Rattle.rv_decode.specs.declared.instruction.Reg.{Reg}
 use Rattle.rv_decode.specs.Registers.{register_names}
 use Rattle.assembler.specs.Sets.{set_names}
 use Rattle.assembler.specs.Spelled.{IsNumber, IsNumberFrom, IsNumberUpTo, IsRegister, IsSet, IsAddress}
-use Rattle.assembler.specs.Spelled.IsMagnitude.{decimal as in_decimal}
+use Rattle.texts.specs.Numbers.IsMagnitude.{decimal as in_decimal}
 use Rattle.assembler.specs.Spelled.IsNumber.{plain, negative}
 use Rattle.assembler.specs.Writing.{register_text, address_text, set_text}
 use Rattle.assembler.proofs.Rows.{all_below, below_all, found_in, member_of_row}

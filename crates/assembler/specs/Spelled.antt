@@ -1,7 +1,7 @@
 -- How the parts of a statement are spelled, each a relation between a text and what it says.
 use Rattle.std.specs.Prelude.{◌≡◌, ℕ, ℤ, pos, negsuc, neg_ℤ, ◌≤◌, ◌≤ℤ◌, ◌<ℤ◌, true, ◌⊎◌, List, [], ◌∷◌, ◌++◌}
 use Rattle.std.specs.List.{Contains}
-use Rattle.texts.specs.Numbers.{Says, SaysInHex}
+use Rattle.texts.specs.Numbers.{IsMagnitude}
 use Rattle.rv_decode.specs.Fits.{IsEven}
 use Rattle.rv_decode.specs.declared.instruction.Reg.{Reg}
 use Rattle.rv_decode.specs.Registers.{register_names}
@@ -18,12 +18,7 @@ pub data AreListed : List ℕ → List (List ℕ) → Type 0 where
 
 -- ---- numbers
 
--- decimal digits, or `0x` (48 and 120) and hex digits
-pub data IsMagnitude : List ℕ → ℕ → Type 0 where
-  decimal : (digits : List ℕ) (n : ℕ) → Says digits n → IsMagnitude digits n
-  hex : (digits : List ℕ) (n : ℕ) → SaysInHex digits n → IsMagnitude (48 ∷ 120 ∷ digits) n
-
--- with a `-` (45) in front, or none
+-- a magnitude, with a `-` (45) in front or none
 pub data IsNumber : List ℕ → ℤ → Type 0 where
   plain : (text : List ℕ) (n : ℕ) → IsMagnitude text n → IsNumber text (pos n)
   negative : (text : List ℕ) (n : ℕ) → IsMagnitude text n → IsNumber (45 ∷ text) (neg_ℤ (pos n))

@@ -1,37 +1,22 @@
 -- The numbers that are read are those that stand there, and no name is one.
-use Rattle.std.proofs.Common.{◌≡◌, ℕ, suc, zero, ◌-◌, ◌%◌, ◌^◌, ◌<◌, ◌≤◌, Bool, true, false, ◌==◌, List, [], ◌∷◌, length, drop, Option, Some, None, refl, sym, ap, subst, ◌∙◌, inl, inr, arith}
+use Rattle.std.proofs.Common.{◌≡◌, ℕ, suc, zero, ◌-◌, ◌%◌, ◌^◌, ◌<◌, ◌≤◌, Bool, true, false, ◌==◌, List, [], ◌∷◌, length, drop, Option, Some, None, refl, sym, ap, subst, ◌∙◌, arith}
 use Rattle.std.specs.Prelude.{pos, neg_ℤ, nat_lt, option_map}
 use Rattle.std.proofs.lemmas.Bool.{and_right, ltb-true, lt-ltb, ne_eqb}
-use Rattle.texts.specs.Numbers.{capped, is_hex, is_negative, magnitude_of, integer_of}
-use Rattle.texts.proofs.NumberLaws.{hex_text, no_hex, negative_text, number_said, says_number, hex_number_said, says_hex_number}
-use Rattle.litmus_tokens.specs.Names.{is_name, Counts, IsNumber, word_from, word_read, word_in}
+use Rattle.texts.specs.Numbers.{IsMagnitude, is_negative, magnitude_of, integer_of}
+use Rattle.texts.specs.Numbers.IsMagnitude.{decimal, hex}
+use Rattle.texts.proofs.NumberLaws.{magnitude_found, magnitude_only, negative_text}
+use Rattle.litmus_tokens.specs.Names.{is_name, IsNumber, word_from, word_read, word_in}
 use Rattle.litmus_tokens.specs.Names.IsNumber.{plain, negated}
 use Rattle.litmus_tokens.proofs.Bytes.{digit_begins_none}
 
 -- ---- without a sign
 
-magnitude_counts : (text : List ℕ) (n : ℕ) → magnitude_of text ≡ Some n → n < 2 ^ 32 → Counts text n
-unfolding magnitude_of
-magnitude_counts text n e small = go (is_hex text) refl
-  where
-    go : (b : Bool) → is_hex text ≡ b → Counts text n
-    go true hex = inr (drop 2 text, hex_text text hex, hex_number_said (drop 2 text) n (rw hex at e) small)
-    go false other = inl (number_said text n (rw other at e) small)
-
-counts_magnitude : (text : List ℕ) (n : ℕ) → Counts text n → n < 2 ^ 32 → magnitude_of text ≡ Some n
-unfolding magnitude_of
-counts_magnitude text n (inl says) small = let same : capped n ≡ n = omega arith in rw (no_hex text says.0.1, says_number text n says, same) refl
-counts_magnitude text n (inr (digits, is, says)) small =
-    let same : capped n ≡ n = omega arith in
-    let long = lt-ltb 1 (suc (suc (length digits))) (omega arith) in
-    rw is (rw (long, says_hex_number digits n says, same) refl)
-
-counts_plain : (text : List ℕ) (n : ℕ) → Counts text n → (is_negative text ≡ false) × (is_name text ≡ false)
-counts_plain [] n (inl says) = (refl, refl)
-counts_plain (a ∷ text) n (inl says) =
+magnitude_plain : (text : List ℕ) (n : ℕ) → IsMagnitude text n → (is_negative text ≡ false) × (is_name text ≡ false)
+magnitude_plain text n (decimal [] m says) = (refl, refl)
+magnitude_plain text n (decimal (a ∷ digits) m says) =
     let range : (48 ≤ a) × (a < 58) = grind (arith, says.0.1.0) in
-    (and_right (nat_lt 0 (length (a ∷ text))) (a == 45) (ne_eqb a 45 (λ same. omega arith)), rw (digit_begins_none a says.0.1.0) refl)
-counts_plain text n (inr (digits, is, says)) = rw is (and_right (nat_lt 0 (suc (suc (length digits)))) false refl, refl)
+    (and_right (nat_lt 0 (length (a ∷ digits))) (a == 45) (ne_eqb a 45 (λ same. omega arith)), rw (digit_begins_none a says.0.1.0) refl)
+magnitude_plain text n (hex digits m says) = (and_right (nat_lt 0 (suc (suc (length digits)))) false refl, refl)
 
 -- ---- with a sign
 
@@ -62,7 +47,7 @@ plain_found text w (Some n) is e = go (nat_lt n (2 ^ 32)) refl
     go true x =
         let small = ltb-true n (2 ^ 32) x in
         let same = some_is n w (rw x at e) in
-        subst (λ (v : ℕ). IsNumber text v) same (plain text n (magnitude_counts text n is small) small)
+        subst (λ (v : ℕ). IsNumber text v) same (plain text n (magnitude_found text n is small) small)
     go false x = (let never = rw x at e in absurd cc)
 
 negated_found : (digits : List ℕ) (w : ℕ) (m : Option ℕ) → magnitude_of digits ≡ m → word_read (option_map (λ n. neg_ℤ (pos n)) m) ≡ Some w → IsNumber (45 ∷ digits) w
@@ -70,7 +55,7 @@ negated_found digits w None is e = absurd cc
 negated_found digits w (Some n) is e =
     let le = above_least n w e in
     let same = some_is ((2 ^ 32 - n) % 2 ^ 32) w (sym (below_zero n le) ∙ e) in
-    subst (λ (v : ℕ). IsNumber (45 ∷ digits) v) same (negated digits n (magnitude_counts digits n is (omega arith)) le)
+    subst (λ (v : ℕ). IsNumber (45 ∷ digits) v) same (negated digits n (magnitude_found digits n is (omega arith)) le)
 
 pub word_found : (text : List ℕ) (w : ℕ) → word_in text ≡ Some w → IsNumber text w
 unfolding word_in integer_of
@@ -82,9 +67,9 @@ word_found text w e = go (is_negative text) refl
 
 pub number_word : (text : List ℕ) (w : ℕ) → IsNumber text w → word_in text ≡ Some w
 unfolding word_in integer_of
-number_word text w (plain digits n counts small) = rw ((counts_plain digits n counts).0, counts_magnitude digits n counts small) (rw (lt-ltb n (2 ^ 32) small) refl)
-number_word text w (negated digits n counts le) = let some = lt-ltb 0 (suc (length digits)) (omega arith) in rw (some, counts_magnitude digits n counts (omega arith)) (below_zero n le)
+number_word text w (plain digits n is small) = rw ((magnitude_plain digits n is).0, magnitude_only digits n is small) (rw (lt-ltb n (2 ^ 32) small) refl)
+number_word text w (negated digits n is le) = let some = lt-ltb 0 (suc (length digits)) (omega arith) in rw (some, magnitude_only digits n is (omega arith)) (below_zero n le)
 
 pub number_no_name : (text : List ℕ) (w : ℕ) → IsNumber text w → is_name text ≡ false
-number_no_name text w (plain digits n counts small) = (counts_plain digits n counts).1
-number_no_name text w (negated digits n counts le) = refl
+number_no_name text w (plain digits n is small) = (magnitude_plain digits n is).1
+number_no_name text w (negated digits n is le) = refl

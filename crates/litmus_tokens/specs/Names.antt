@@ -1,10 +1,10 @@
 -- Names and numbers.
-use Rattle.std.specs.Prelude.{◌≡◌, ℕ, ◌-◌, ◌<◌, ◌≤◌, ◌^◌, ◌%◌, ◌==◌, ℤ, pos, negsuc, Bool, false, not, ◌&&◌, ◌||◌, nat_lt, nat_eq, List, [], ◌∷◌, length, codes, Option, None, Some, if◌then◌else◌, ◌⊎◌}
+use Rattle.std.specs.Prelude.{ℕ, ◌-◌, ◌<◌, ◌≤◌, ◌^◌, ◌%◌, ◌==◌, ℤ, pos, negsuc, Bool, false, not, ◌&&◌, ◌||◌, nat_lt, nat_eq, List, [], ◌∷◌, length, codes, Option, None, Some, if◌then◌else◌}
 use Rattle.std.specs.List.{list_all, starts_with}
 use Rattle.texts.specs.Letters.{is_letter, is_digit}
 use Rattle.texts.specs.Pieces.{is_gap}
 use Rattle.texts.specs.Cutting.{stripped}
-use Rattle.texts.specs.Numbers.{Says, SaysInHex, integer_of}
+use Rattle.texts.specs.Numbers.{IsMagnitude, integer_of}
 
 -- What is left of a text without the blanks and LFs round it. A CR that ends a line is a space in a
 -- cleaned text, and another one is no blank.
@@ -32,14 +32,10 @@ is_name text = is_spelled text && not (is_not text)
 
 -- ---- numbers
 
--- decimal digits, or `0x` (48, 120) and hex digits
-abbrev pub Counts : List ℕ → ℕ → Type 0
-Counts text n = Says text n ⊎ ((digits : List ℕ) × (text ≡ 48 ∷ 120 ∷ digits) × SaysInHex digits n)
-
 -- A number's text and the word for which it stands, which is the number modulo 2^32; `-` is 45.
 pub data IsNumber : List ℕ → ℕ → Type 0 where
-  plain : (digits : List ℕ) (n : ℕ) → Counts digits n → n < 2 ^ 32 → IsNumber digits n
-  negated : (digits : List ℕ) (n : ℕ) → Counts digits n → n ≤ 2 ^ 31 → IsNumber (45 ∷ digits) ((2 ^ 32 - n) % 2 ^ 32)
+  plain : (digits : List ℕ) (n : ℕ) → IsMagnitude digits n → n < 2 ^ 32 → IsNumber digits n
+  negated : (digits : List ℕ) (n : ℕ) → IsMagnitude digits n → n ≤ 2 ^ 31 → IsNumber (45 ∷ digits) ((2 ^ 32 - n) % 2 ^ 32)
 
 -- ---- numbers, as they are read
 

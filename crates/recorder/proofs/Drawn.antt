@@ -22,12 +22,12 @@ drawn-more harts [] word = refl
 drawn-more harts (c ∷ front) word = ap (λ (rest : List Event). drawn harts c ∷ rest) (drawn-more harts front word)
 
 -- one more word was given
-pub left-more : (i word : ℕ) (first before after : Stream) → before ≡ left_after i first → (word, after) ≡ next_u32 before → after ≡ left_after (i + 1) first
-left-more i word first before after was given =
+pub left_more : (i word : ℕ) (first before after : Stream) → before ≡ left_after i first → (word, after) ≡ next_u32 before → after ≡ left_after (i + 1) first
+left_more i word first before after was given =
     ap (λ (p : ℕ × Stream). p.1) given ∙ ap (λ (s : Stream). (next_u32 s).1) was ∙ sym (left_after-suc i first) ∙ ap (λ (k : ℕ). left_after k first) (sym (add-one i))
 
-pub words-more : (harts i word : ℕ) (first before after : Stream) (old new : List Event) → old ≡ map (drawn harts) (words i first) → before ≡ left_after i first → (word, after) ≡ next_u32 before → new ≡ old ++ drawn harts word ∷ [] → new ≡ map (drawn harts) (words (i + 1) first)
-words-more harts i word first before after old new so_far was given pushed =
+pub words_more : (harts i word : ℕ) (first before after : Stream) (old new : List Event) → old ≡ map (drawn harts) (words i first) → before ≡ left_after i first → (word, after) ≡ next_u32 before → new ≡ old ++ drawn harts word ∷ [] → new ≡ map (drawn harts) (words (i + 1) first)
+words_more harts i word first before after old new so_far was given pushed =
     let here : word ≡ (next_u32 (left_after i first)).0 = ap (λ (p : ℕ × Stream). p.0) given ∙ ap (λ (s : Stream). (next_u32 s).0) was in
     pushed
     ∙ ap (λ (front : List Event). front ++ drawn harts word ∷ []) so_far
@@ -39,11 +39,8 @@ words-more harts i word first before after old new so_far was given pushed =
 -- ---- what was drawn is of these harts
 
 drawn-hart : (harts word : ℕ) → 1 ≤ harts → hart_of (drawn harts word) < harts
-drawn-hart harts word some = elim (cases_lt (word % (2 * harts)) harts) [
-  | inl act ↦ rw (lt-ltb (word % (2 * harts)) harts act) act
-  | inr land ↦ rw (le-ltb (word % (2 * harts)) harts land) (omega arith)
-]
+drawn-hart harts word some = grind (arith, lt-ltb, le-ltb)
 
-pub drawn-OfHarts : (harts : ℕ) (front : List ℕ) → 1 ≤ harts → harts ≤ 64 → OfHarts (map (drawn harts) front)
-drawn-OfHarts harts [] some most = All-nil (λ (e : Event). hart_of e < 64)
-drawn-OfHarts harts (word ∷ front) some most = All-cons (λ (e : Event). hart_of e < 64) (drawn harts word) (map (drawn harts) front) (omega (arith, drawn-hart harts word some)) (drawn-OfHarts harts front some most)
+pub drawn_harts : (harts : ℕ) (front : List ℕ) → 1 ≤ harts → harts ≤ 64 → OfHarts (map (drawn harts) front)
+drawn_harts harts [] some most = All-nil (λ (e : Event). hart_of e < 64)
+drawn_harts harts (word ∷ front) some most = All-cons (λ (e : Event). hart_of e < 64) (drawn harts word) (map (drawn harts) front) (omega (arith, drawn-hart harts word some)) (drawn_harts harts front some most)

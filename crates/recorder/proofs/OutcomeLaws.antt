@@ -1,5 +1,5 @@
 -- The texts of outcomes: what is read of words, against what they say, and what is written, read again.
-use Rattle.std.proofs.Common.{◌≡◌, ◌↔◌, inl, inr, ℕ, ◌<◌, ◌==◌, Bool, true, false, cond, ◌&&◌, List, [], ◌∷◌, length, map, suc, Option, Some, None, refl, sym, ap, subst, ◌∙◌, arith}
+use Rattle.std.proofs.Common.{◌≡◌, ◌↔◌, inl, inr, ℕ, ◌<◌, ◌==◌, Bool, true, false, cond, ◌&&◌, List, [], ◌∷◌, length, map, suc, Option, Some, None, refl, sym, ap, subst, ◌∙◌, arith, rules}
 use Rattle.std.specs.Prelude.{codes, Decides, if◌then◌else◌}
 use Rattle.std.specs.Fmt.{decimal}
 use Rattle.std.specs.Str.{bytes_eq}
@@ -23,7 +23,7 @@ use Rattle.recorder.specs.declared.faults.AtByte.{AtByte}
 use Rattle.recorder.specs.declared.faults.ScheduleFault.TheVariants.{BadOutcome}
 use Rattle.recorder.specs.Schedule.{hart_of}
 use Rattle.recorder.specs.Reading.{at_byte}
-use Rattle.recorder.specs.Outcomes.{HartOutcome, stop_of, stopped, outcome_rows, may_have, event_outcome, SaysOutcome, entry_row, outcome_row, outcome_text, IsWidth, Word, Fits, OutcomeFits, IsOutcomeOf, entry_key, outcome_key, is_same_outcome}
+use Rattle.recorder.specs.Outcomes.{HartOutcome, stop_of, stopped, outcome_rows, may_have, event_outcome, SaysOutcome, entry_row, outcome_row, outcome_text, IsWidth, Word, Fits, OutcomeFits, IsOutcomeOf, is_same_outcome}
 
 -- no two rows of the table are filled by the same words
 rows_apart : are_apart outcome_rows ≡ true
@@ -62,14 +62,7 @@ solid : (n : ℕ) → Word n → Solid (decimal n)
 solid n is = decimal_solid n (omega (arith, is))
 
 stop_again : (why : Stop) → (stop_of (stop_number why) ≡ Some why) × Word (stop_number why)
-stop_again stop.Illegal = (refl, omega arith)
-stop_again stop.Misaligned = (refl, omega arith)
-stop_again stop.SubWord = (refl, omega arith)
-stop_again stop.OutOfRange = (refl, omega arith)
-stop_again stop.MisalignedJump = (refl, omega arith)
-stop_again stop.NoCode = (refl, omega arith)
-stop_again stop.UnknownCall = (refl, omega arith)
-stop_again stop.Break = (refl, omega arith)
+stop_again why = grind arith
 
 load_says : (h a width v : ℕ) → Word h → IsWidth width → Word a → Word v → IsSaid h (Did (entry.Load h a width v)) (entry_row (entry.Load h a width v))
 load_says h a width v hart (inl (inl is)) a' v' = rw is (inr (inr (inl ((refl, (h, small h hart, (a, small a a', (v, small v v', refl))))))), (solid_by_test (codes "load1") refl, (solid h hart, (solid a a', (solid v v', tt)))))
@@ -111,9 +104,7 @@ outcome_read event words outcome = go (event_outcome event (rows_at outcome_rows
     go (Some x) settles = (λ tells. ap (λ (o : Outcome). some o) (sym (settles.1 outcome tells)), λ e. subst (SaysOutcome event words) (some_is x outcome e) settles.0)
 
 pub outcome_again : (event : Event) (outcome : Outcome) → hart_of event < 64 → IsOutcomeOf event outcome → SaysOutcome event (tokens (outcome_text (hart_of event) outcome)) outcome
-outcome_again event outcome hart can =
-    let said = outcome_says (hart_of event) outcome (omega (arith, hart)) can.0 in
-    (subst (λ (words : List (List ℕ)). IsRowOf outcome_rows words (hart_of event, outcome)) (sym (row_again (outcome_row (hart_of event) outcome) said.1)) said.0, can.1)
+outcome_again event outcome hart can = grind (arith, outcome_says, row_again)
 
 -- words are read by how many they are, and by the first
 pub outcome_chain : (name : List ℕ) (words : List (List ℕ)) → rows_at outcome_rows (name ∷ words) ≡ chain_at (of_length (suc (length words)) outcome_rows) name words
@@ -125,59 +116,5 @@ end_is_no_number word e = let is : word ≡ codes "end" = (bytes_eq-Decides word
 
 -- ---- equal outcomes
 
--- the outcome whose numbers these are
-abbrev one_number : ℕ → ℕ → Outcome
-one_number kind h =
-    if kind == 0 then Did (entry.Inner h) else
-    (if kind == 4 then Did (entry.Fence h true) else
-    (if kind == 5 then Did (entry.Fence h false) else
-    (if kind == 7 then Did (entry.Next h None) else
-    (if kind == 10 then Did (entry.Ended h) else Did (entry.Land h)))))
-
-abbrev stopped_at : ℕ → Option Stop → Outcome
-stopped_at h None = Waited
-stopped_at h (Some why) = Did (entry.Stopped h why)
-
-abbrev two_numbers : ℕ → ℕ → ℕ → Outcome
-two_numbers kind h n = if kind == 6 then Did (entry.Next h (Some n)) else (if kind == 9 then Did (entry.Closed h n) else stopped_at h (stop_of n))
-
-abbrev four_numbers : ℕ → ℕ → ℕ → ℕ → ℕ → Outcome
-four_numbers kind h a b c = if kind == 1 then Did (entry.Load h a b c) else (if kind == 2 then Did (entry.Store h a b c) else Did (entry.Amo h a b c))
-
-abbrev no_number : ℕ → Outcome
-no_number kind = if kind == 13 then Waited else (if kind == 14 then NothingToLand else (if kind == 15 then Over else NoHart))
-
-abbrev from_key : List ℕ → Outcome
-from_key [] = Waited
-from_key (kind ∷ []) = no_number kind
-from_key (kind ∷ h ∷ []) = one_number kind h
-from_key (kind ∷ h ∷ n ∷ []) = two_numbers kind h n
-from_key (kind ∷ h ∷ i ∷ w ∷ []) = Did (entry.Took h i w)
-from_key (kind ∷ h ∷ a ∷ b ∷ c ∷ more) = four_numbers kind h a b c
-
-entry_again : (e : Entry) → from_key (entry_key e) ≡ Did e
-entry_again (entry.Inner h) = refl
-entry_again (entry.Load h a width v) = refl
-entry_again (entry.Store h a width v) = refl
-entry_again (entry.Amo h a old new) = refl
-entry_again (entry.Fence h true) = refl
-entry_again (entry.Fence h false) = refl
-entry_again (entry.Next h (Some w)) = refl
-entry_again (entry.Next h None) = refl
-entry_again (entry.Took h i w) = refl
-entry_again (entry.Closed h i) = refl
-entry_again (entry.Ended h) = refl
-entry_again (entry.Stopped h why) = ap (stopped_at h) (stop_again why).0
-entry_again (entry.Land h) = refl
-
-key_again : (o : Outcome) → from_key (outcome_key o) ≡ o
-key_again (Did e) = entry_again e
-key_again Waited = refl
-key_again NothingToLand = refl
-key_again Over = refl
-key_again NoHart = refl
-
 pub decides_outcomes : (a b : Outcome) → Decides (is_same_outcome a b) (a ≡ b)
-decides_outcomes a b =
-    let keys = bytes_eq-Decides (outcome_key a) (outcome_key b) in
-    (λ e. sym (key_again a) ∙ ap from_key (keys.0 e) ∙ key_again b, λ same. keys.1 (ap outcome_key same))
+decides_outcomes a b = search rules

@@ -1,5 +1,5 @@
 -- What the writer writes is a schedule of its events.
-use Rattle.std.proofs.Common.{◌≡◌, ℕ, ◌+◌, ◌^◌, ◌<◌, ◌≤◌, Bool, true, false, List, [], ◌∷◌, ◌++◌, length, replicate, refl, sym, ap, subst, inl, inr, append_assoc, length-append, arith}
+use Rattle.std.proofs.Common.{◌≡◌, ℕ, ◌+◌, ◌^◌, ◌<◌, ◌≤◌, Bool, true, false, List, [], ◌∷◌, ◌++◌, length, replicate, refl, sym, ap, subst, ◌∙◌, inl, inr, append_assoc, length-append, arith}
 use Rattle.std.specs.List.{AllByRecursion}
 use Rattle.std.specs.Fmt.{decimal}
 use Rattle.std.proofs.lemmas.Bool.{cases_lt, lt-ltb, le-ltb, ne_eqb}
@@ -42,15 +42,10 @@ abbrev parts : ℕ → Bool
 parts byte = separates BlanksAndLineEnds byte
 
 parts_none : (c : ℕ) → 33 ≤ c → parts c ≡ false
-parts_none c high =
-    rw (ne_eqb c 32 (λ e. omega (arith, e)), ne_eqb c 9 (λ e. omega (arith, e)), ne_eqb c 13 (λ e. omega (arith, e)), ne_eqb c 10 (λ e. omega (arith, e))) refl
+parts_none c high = grind (arith, ne_eqb)
 
 behind_letter : (event : Event) (rest : List ℕ) → NonePass is_low rest → Solid (letter event ∷ rest)
-behind_letter (Act hart) rest none = (omega arith, (refl, none))
-behind_letter (Land hart) rest none = (omega arith, (refl, none))
-
-says : (n : ℕ) → n < 2 ^ 64 → Says (decimal n) n
-says n small = decimal_is_IsNumeral n small
+behind_letter event rest none = grind arith
 
 token-more : (run : Run Event) → 1 < run.1 → token_of run ≡ letter run.0 ∷ (decimal (hart_of run.0) ++ 42 ∷ decimal run.1)
 token-more run more = rw (lt-ltb 1 run.1 more) refl
@@ -66,14 +61,14 @@ pub token_fits : (run : Run Event) → IsFit run → run.1 < 2 ^ 64 → IsToken 
 token_fits run fit small = elim (cases_lt 1 run.1) [ inl more ↦ subst (IsToken run) (sym (token-more run more)) (repeats more) | inr one ↦ subst (IsToken run) (sym (token-one run one)) (comes_once one) ]
   where
     hart : Says (decimal (hart_of run.0)) (hart_of run.0)
-    hart = says (hart_of run.0) (omega (arith, fit.0))
+    hart = decimal_is_IsNumeral (hart_of run.0) (omega (arith, fit.0))
 
     printed : NonePass is_low (decimal (hart_of run.0))
     printed = (decimal_solid (hart_of run.0) (omega (arith, fit.0))).1
 
     repeats : 1 < run.1 → IsToken run (letter run.0 ∷ (decimal (hart_of run.0) ++ 42 ∷ decimal run.1))
     repeats more =
-        (repeated (decimal (hart_of run.0)) (decimal run.1) run.1 hart (says run.1 small), behind_letter run.0 (decimal (hart_of run.0) ++ 42 ∷ decimal run.1) (none-append is_low (decimal (hart_of run.0)) (42 ∷ decimal run.1) printed (refl, (decimal_solid run.1 small).1)))
+        (repeated (decimal (hart_of run.0)) (decimal run.1) run.1 hart (decimal_is_IsNumeral run.1 small), behind_letter run.0 (decimal (hart_of run.0) ++ 42 ∷ decimal run.1) (none-append is_low (decimal (hart_of run.0)) (42 ∷ decimal run.1) printed (refl, (decimal_solid run.1 small).1)))
 
     comes_once : run.1 ≤ 1 → IsToken run (letter run.0 ∷ decimal (hart_of run.0))
     comes_once one =
@@ -82,60 +77,47 @@ token_fits run fit small = elim (cases_lt 1 run.1) [ inl more ↦ subst (IsToken
 
 -- ---- the tokens of runs stand for their events
 
-run_stands : (run : Run Event) (behind : ℕ) (rest : List ℕ) (events : List Event) → IsFit run → run.1 < 2 ^ 64 → parts behind ≡ true → Stand IsPieceOf (pieces BlanksAndLineEnds rest) events → Stand IsPieceOf (pieces BlanksAndLineEnds (token_of run ++ behind ∷ rest)) (replicate run.1 run.0 ++ events)
-run_stands run behind rest events fit small part stand =
-    let token = token_fits run fit small in
-    subst (λ (all : List (List ℕ)). Stand IsPieceOf all (replicate run.1 run.0 ++ events)) (sym (split_stop parts (token_of run) behind rest (none_of parts parts_none (token_of run) token.1.1) part))
-    (replicate run.1 run.0, events, (run.0, run.1, token.0, fit.0, fit.1, refl), refl, stand)
+-- a text ends with nothing, or with a separator: what follows its last token is tail, which stands for no event
+module _ (end : List ℕ) (tail : List (List ℕ)) (none : Stand IsPieceOf tail []) (ends : (word : List ℕ) → NonePass parts word → pieces BlanksAndLineEnds (word ++ end) ≡ word ∷ tail) where
+  text_stands : (runs : List (Run Event)) → AreFit runs → length (expanded runs) ≤ 1048576 → Stand IsPieceOf (pieces BlanksAndLineEnds (text_of runs ++ end)) (expanded runs)
+  text_stands [] fit few = rw (ends [] tt) ([], [], refl, refl, none)
+  text_stands (run ∷ []) fit few =
+      let token = token_fits run fit.0 (omega (arith, length-append (replicate run.1 run.0) [], length-replicate run.1 run.0)) in
+      subst (λ (ps : List (List ℕ)). Stand IsPieceOf ps (expanded (run ∷ []))) (sym (ends (token_of run) (none_of parts parts_none (token_of run) token.1.1)))
+      (replicate run.1 run.0, [], (run.0, run.1, token.0, fit.0.0, fit.0.1, refl), refl, none)
+  text_stands (run ∷ next ∷ runs) fit few =
+      let total : length (expanded (run ∷ next ∷ runs)) ≡ run.1 + length (expanded (next ∷ runs)) = omega (arith, length-append (replicate run.1 run.0) (expanded (next ∷ runs)), length-replicate run.1 run.0) in
+      let token = token_fits run fit.0 (omega arith) in
+      let rest = text_of (next ∷ runs) ++ end in
+      let first = split_stop parts (token_of run) 32 rest (none_of parts parts_none (token_of run) token.1.1) refl in
+      subst (λ (ps : List (List ℕ)). Stand IsPieceOf ps (expanded (run ∷ next ∷ runs))) (sym (ap (pieces BlanksAndLineEnds) (append_assoc (token_of run) (32 ∷ text_of (next ∷ runs)) end) ∙ first))
+      (replicate run.1 run.0, expanded (next ∷ runs), (run.0, run.1, token.0, fit.0.0, fit.0.1, refl), refl, text_stands (next ∷ runs) fit.1 (omega arith))
 
--- after the last separator, or where there is no text, there is an empty piece
+  events_again : (events : List Event) → OfHarts events → length events ≤ 1048576 → IsTokensOf (tokens_of events ++ end) events
+  unfolding tokens_of
+  events_again events harts few =
+      let same = expanded-runs_of is_same decides events in
+      let stand = text_stands (runs_of is_same events) (AreFit-runs_of events harts) (rw same few) in
+      (subst (Stand IsPieceOf (pieces BlanksAndLineEnds (text_of (runs_of is_same events) ++ end))) same stand, few)
+
+-- an empty piece, as after the last separator, or where there is no text
 empty_stands : Stand IsPieceOf ([] ∷ []) []
 empty_stands = ([], [], refl, refl, refl)
 
-text_stands : (runs : List (Run Event)) → AreFit runs → length (expanded runs) ≤ 1048576 → Stand IsPieceOf (pieces BlanksAndLineEnds (text_of runs ++ 10 ∷ [])) (expanded runs)
-text_stands [] fit few = ([], [], refl, refl, empty_stands)
-text_stands (run ∷ []) fit few =
-    let small : run.1 < 2 ^ 64 = omega (arith, length-append (replicate run.1 run.0) [], length-replicate run.1 run.0) in
-    run_stands run 10 [] [] fit.0 small refl empty_stands
-text_stands (run ∷ next ∷ runs) fit few =
-    let total : length (expanded (run ∷ next ∷ runs)) ≡ run.1 + length (expanded (next ∷ runs)) = omega (arith, length-append (replicate run.1 run.0) (expanded (next ∷ runs)), length-replicate run.1 run.0) in
-    let later = text_stands (next ∷ runs) fit.1 (omega arith) in
-    subst (λ (text : List ℕ). Stand IsPieceOf (pieces BlanksAndLineEnds text) (expanded (run ∷ next ∷ runs))) (sym (append_assoc (token_of run) (32 ∷ text_of (next ∷ runs)) (10 ∷ [])))
-    (run_stands run 32 (text_of (next ∷ runs) ++ 10 ∷ []) (expanded (next ∷ runs)) fit.0 (omega arith) refl later)
-
 -- The tokens that are written for some events, and a line end, stand for these events.
 pub tokens_again : (events : List Event) → OfHarts events → length events ≤ 1048576 → IsTokensOf (tokens_of events ++ 10 ∷ []) events
-unfolding tokens_of
-tokens_again events harts few =
-    let same = expanded-runs_of is_same decides events in
-    let stand = text_stands (runs_of is_same events) (AreFit-runs_of events harts) (rw same few) in
-    (subst (Stand IsPieceOf (pieces BlanksAndLineEnds (text_of (runs_of is_same events) ++ 10 ∷ []))) same stand, few)
+tokens_again events harts few = events_again (10 ∷ []) ([] ∷ []) empty_stands (λ word none. split_stop parts word 10 [] none refl) events harts few
 
--- ---- the tokens alone
-
-alone_stands : (runs : List (Run Event)) → AreFit runs → length (expanded runs) ≤ 1048576 → Stand IsPieceOf (pieces BlanksAndLineEnds (text_of runs)) (expanded runs)
-alone_stands [] fit few = empty_stands
-alone_stands (run ∷ []) fit few =
-    let small : run.1 < 2 ^ 64 = omega (arith, length-append (replicate run.1 run.0) [], length-replicate run.1 run.0) in
-    let token = token_fits run fit.0 small in
-    subst (λ (all : List (List ℕ)). Stand IsPieceOf all (replicate run.1 run.0 ++ [])) (sym (split_none parts (token_of run) (none_of parts parts_none (token_of run) token.1.1)))
-    (replicate run.1 run.0, [], (run.0, run.1, token.0, fit.0.0, fit.0.1, refl), refl, refl)
-alone_stands (run ∷ next ∷ runs) fit few =
-    let total : length (expanded (run ∷ next ∷ runs)) ≡ run.1 + length (expanded (next ∷ runs)) = omega (arith, length-append (replicate run.1 run.0) (expanded (next ∷ runs)), length-replicate run.1 run.0) in
-    run_stands run 32 (text_of (next ∷ runs)) (expanded (next ∷ runs)) fit.0 (omega arith) refl (alone_stands (next ∷ runs) fit.1 (omega arith))
-
+-- And so do the tokens alone.
 pub tokens_alone : (events : List Event) → OfHarts events → length events ≤ 1048576 → IsTokensOf (tokens_of events) events
-unfolding tokens_of
 tokens_alone events harts few =
-    let same = expanded-runs_of is_same decides events in
-    let stand = alone_stands (runs_of is_same events) (AreFit-runs_of events harts) (rw same few) in
-    (subst (Stand IsPieceOf (pieces BlanksAndLineEnds (text_of (runs_of is_same events)))) same stand, few)
+    subst (λ (text : List ℕ). IsTokensOf text events) (append-nil (tokens_of events))
+    (events_again [] [] refl (λ word none. rw (append-nil word) (split_none parts word none)) events harts few)
 
 -- ---- with the head line
 
 pub ends_by_lf : (rest : List ℕ) → EndsLine (10 ∷ rest)
-ends_by_lf [] = refl
-ends_by_lf (c ∷ rest) = inl refl
+ends_by_lf rest = grind arith
 
 pub canon_again : (events : List Event) → OfHarts events → length events ≤ 1048576 → IsPlainOf (canon events) events
 unfolding canon
@@ -146,15 +128,13 @@ canon_again (event ∷ events) harts few =
 
 -- ---- what the writer has written
 
-pub canon-none : (events : List Event) → length events ≡ 0 → canon events ≡ head ++ 10 ∷ []
+pub canon_none : (events : List Event) → length events ≡ 0 → canon events ≡ head ++ 10 ∷ []
 unfolding canon
-canon-none [] none = refl
-canon-none (event ∷ events) none = absurd (omega arith)
+canon_none events none = grind arith
 
-pub canon-some : (events : List Event) → (length events ≡ 0 → ⊥) → canon events ≡ head ++ 10 ∷ (tokens_of events ++ 10 ∷ [])
+pub canon_some : (events : List Event) → (length events ≡ 0 → ⊥) → canon events ≡ head ++ 10 ∷ (tokens_of events ++ 10 ∷ [])
 unfolding canon
-canon-some [] some = absurd (some refl)
-canon-some (event ∷ events) some = refl
+canon_some events some = grind arith
 
 pub written_again : (text : List ℕ) (events : List Event) → OfHarts events → length events ≤ 1048576 → text ≡ canon events → IsScheduleOf text events
 written_again text events harts few is = (plain events, subst (λ (t : List ℕ). IsPlainOf t events) (sym is) (canon_again events harts few), refl)

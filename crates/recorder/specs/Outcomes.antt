@@ -10,6 +10,7 @@ use Rattle.step_machine.specs.declared.events.Entry.{Entry}
 use Rattle.step_machine.specs.declared.events.Entry.TheVariants as entry
 use Rattle.step_machine.specs.declared.events.Outcome.{Outcome}
 use Rattle.step_machine.specs.declared.events.Outcome.TheVariants.{Did, Waited, NothingToLand, Over, NoHart}
+use Rattle.step_machine.specs.contracts.events.OutcomePartialEq.TheImpl as outcome_eq
 use Rattle.step_machine.specs.Entries.{is_land}
 use Rattle.texts.specs.Rows.{Row, fixed, any, IsRowOf, Written, plain, number, row_text}
 use Rattle.recorder.specs.Schedule.{hart_of}
@@ -163,28 +164,6 @@ IsOutcomeOf event outcome = OutcomeFits (hart_of event) outcome × (may_have eve
 
 -- ---- equal outcomes
 
--- an outcome as numbers: a number for its kind, and then its own
-abbrev pub entry_key : Entry → List ℕ
-entry_key (entry.Inner h) = 0 ∷ h ∷ []
-entry_key (entry.Load h a width v) = 1 ∷ h ∷ a ∷ width ∷ v ∷ []
-entry_key (entry.Store h a width v) = 2 ∷ h ∷ a ∷ width ∷ v ∷ []
-entry_key (entry.Amo h a old new) = 3 ∷ h ∷ a ∷ old ∷ new ∷ []
-entry_key (entry.Fence h true) = 4 ∷ h ∷ []
-entry_key (entry.Fence h false) = 5 ∷ h ∷ []
-entry_key (entry.Next h (Some w)) = 6 ∷ h ∷ w ∷ []
-entry_key (entry.Next h None) = 7 ∷ h ∷ []
-entry_key (entry.Took h i w) = 8 ∷ h ∷ i ∷ w ∷ []
-entry_key (entry.Closed h i) = 9 ∷ h ∷ i ∷ []
-entry_key (entry.Ended h) = 10 ∷ h ∷ []
-entry_key (entry.Stopped h why) = 11 ∷ h ∷ stop_number why ∷ []
-entry_key (entry.Land h) = 12 ∷ h ∷ []
-
-abbrev pub outcome_key : Outcome → List ℕ
-outcome_key (Did e) = entry_key e
-outcome_key Waited = 13 ∷ []
-outcome_key NothingToLand = 14 ∷ []
-outcome_key Over = 15 ∷ []
-outcome_key NoHart = 16 ∷ []
-
+-- the test of the derived `==`, which holds of equal outcomes alone
 abbrev pub is_same_outcome : Outcome → Outcome → Bool
-is_same_outcome a b = bytes_eq (outcome_key a) (outcome_key b)
+is_same_outcome = (outcome_eq.ghosts).eq

@@ -3,13 +3,12 @@ use Rattle.std.specs.Prelude.{◌≡◌, ℕ, if◌then◌else◌, List, Result,
 use Rattle.step_machine.specs.declared.events.Event.{Event}
 use Rattle.texts.specs.Results.{◌>>=◌}
 use Rattle.recorder.specs.declared.faults.AtByte.{AtByte}
-use Rattle.recorder.specs.declared.faults.ScheduleFault.TheVariants.{BadHead}
 use Rattle.recorder.specs.declared.reading.TheConstants.{MAX_EVENTS}
 use Rattle.recorder.specs.declared.versions.Schedule.{Schedule}
 use Rattle.recorder.specs.declared.versions.Schedule.TheVariants.{Plain, Record}
 use Rattle.recorder.specs.Schedule.{IsPlainOf}
-use Rattle.recorder.specs.Reading.{at_byte, head, has_head, tokens_from}
-use Rattle.recorder.specs.Records.{Step, events_in, IsRecordOf, record_head, records_from}
+use Rattle.recorder.specs.Reading.{head, has_head, tokens_from}
+use Rattle.recorder.specs.Records.{Step, events_in, IsRecordOf, record_at}
 
 -- what a schedule says: events alone, or each with its outcome
 pub data Said : Type 0 where
@@ -37,7 +36,7 @@ IsScheduleOf text events = (said : Said) × Says text said × (events ≡ events
 -- ---- the reading
 
 unfoldable pub said_at : List ℕ → Result Said AtByte
-said_at text = if has_head head text then (tokens_from 15 MAX_EVENTS text >>= λ events. Ok (plain events)) else (if has_head record_head text then (records_from 15 text >>= λ steps. Ok (recorded steps)) else Err (at_byte BadHead 0))
+said_at text = if has_head head text then (tokens_from 15 MAX_EVENTS text >>= λ events. Ok (plain events)) else (record_at text >>= λ steps. Ok (recorded steps))
 
 unfoldable pub schedule_at : List ℕ → Result (List Event) AtByte
 schedule_at text = do

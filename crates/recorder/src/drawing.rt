@@ -74,6 +74,7 @@ pub fn draw<R: Rng>(
 }
 
 #[inline(always)]
+#[tactic(auto, unfolding(crate::specs::Drawing::words, crate::specs::Drawing::left_after))]
 fn put<R: Rng>(
     events: &mut Vec<Event>,
     generator: &mut R,

@@ -30,6 +30,7 @@ pub fn one_value()
 /// Reading a text from the left names a fault exactly where its tokens stand for no events, or where it
 /// is no schedule or no record; after other events, where there is no room for those that it stands for. It does
 /// nothing.
+#[tactic(auto, using(crate::proofs::HeadLaws::refused_tokens, crate::proofs::HeadLaws::refused_further, crate::proofs::HeadLaws::refused_said))]
 pub fn refused_without_value()
     ensures tokens { (text : List ℕ) → IsErr (tokens_at MAX_EVENTS text) ↔ ((events : List Event) → ¬ IsTokensOf text events) }
     ensures further { (before : ℕ) (text : List ℕ) → before ≤ MAX_EVENTS → IsErr (tokens_after before text) ↔ ((events : List Event) → IsTokensOf text events → ¬ (before + length events ≤ MAX_EVENTS)) }

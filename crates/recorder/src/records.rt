@@ -85,7 +85,7 @@ fn line_in(part: &[u8], is_ended: bool) -> &[u8]
 }
 
 /// The steps of the lines that a text has from the byte `start` on.
-pub(crate) fn lines_within(
+fn lines_within(
     alloc: Global,
     text: &[u8],
     start: usize,
@@ -108,7 +108,7 @@ pub(crate) fn lines_within(
 
 /// The steps of the record that stands in these bytes.
 #[tactic(auto, unfolding(crate::specs::Records::record_at))]
-fn record_in(alloc: Global, text: &[u8]) -> Result<Vec<(Event, Outcome)>, ScheduleError>
+pub(crate) fn record_in(alloc: Global, text: &[u8]) -> Result<Vec<(Event, Outcome)>, ScheduleError>
     ensures exact { Gives refusal_of (λ steps. steps.items) result (record_at text.now) }
     ensures headless { has_head record_head text.now ≡ false → result ≡ Err (Refused (record { fault = BadHead; place = 0 })) }
 {

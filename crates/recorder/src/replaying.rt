@@ -62,6 +62,7 @@ pub(crate) fn are_same_outcomes(outcome: Outcome, other: Outcome) -> bool
 /// The machine that the events of a record make of the opening, one after the other, where each has the
 /// outcome that the record says. Else the first whose outcome is another one is answered by its place,
 /// and the machine is given up.
+#[tactic(auto, using(crate::proofs::RunRecords::checked_more))]
 pub fn replay_checked<const B: usize, const M: usize>(
     alloc: Global,
     opening: Opening,

@@ -10,10 +10,10 @@ ghost use Rattle.recorder.specs.Reading.{head, has_head};
 ghost use Rattle.recorder.specs.Records.{events_in, record_head};
 ghost use Rattle.recorder.specs.Versions.{Said, said_of, events_said, Says, said_at, schedule_at, IsScheduleOf};
 
-use crate::faults::{ScheduleError, ScheduleFault};
-use crate::heads::{HEAD, RECORD_HEAD, has_head};
+use crate::faults::ScheduleError;
+use crate::heads::{HEAD, has_head};
 use crate::reading::{MAX_EVENTS, tokens_within};
-use crate::records::lines_within;
+use crate::records::record_in;
 use std::alloc::{AllocError, Global};
 use step_machine::{Event, Outcome};
 
@@ -27,6 +27,7 @@ pub enum Schedule {
 }
 
 /// The events of a record.
+#[tactic(auto, using(crate::proofs::RunRecords::events_more))]
 fn events_of(alloc: Global, steps: &[(Event, Outcome)]) -> Result<Vec<Event>, AllocError>
     ensures { IfOk result (λ events. events.items ≡ events_in steps.now) }
 {
@@ -59,11 +60,8 @@ fn said_in(alloc: Global, text: &[u8]) -> Result<Schedule, ScheduleError>
         let events = tokens_within(alloc, text, HEAD.len(), MAX_EVENTS)?;
         return Ok(Schedule::Plain(events));
     }
-    if has_head(RECORD_HEAD, text) {
-        let steps = lines_within(alloc, text, RECORD_HEAD.len())?;
-        return Ok(Schedule::Record(steps));
-    }
-    Err(ScheduleFault::BadHead.at(0))
+    let steps = record_in(alloc, text)?;
+    Ok(Schedule::Record(steps))
 }
 
 /// What a schedule of either version says: `ztso-schedule 1` as its first line, ended by LF, CR LF or

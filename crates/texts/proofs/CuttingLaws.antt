@@ -1,5 +1,5 @@
 -- Texts cut at bytes: what stands before the first byte that passes, after it, and from it on.
-use Rattle.std.proofs.Common.{◌≡◌, ℕ, suc, ◌+◌, ◌%◌, ◌^◌, ◌<◌, ◌≤◌, Bool, true, false, List, [], ◌∷◌, ◌++◌, length, take, drop, Option, Some, None, refl, ap, subst, ◌∙◌, inl, inr, arith}
+use Rattle.std.proofs.Common.{◌≡◌, ℕ, suc, ◌+◌, ◌%◌, ◌^◌, ◌<◌, ◌≤◌, Bool, true, false, List, [], ◌∷◌, ◌++◌, length, take, drop, Option, Some, None, refl, ap, subst, ◌∙◌, inl, inr, add-one, arith}
 use Rattle.std.specs.Prelude.{position}
 use Rattle.std.specs.List.{position_or_len, slice_split}
 use Rattle.std.specs.Fmt.{decimal}
@@ -22,27 +22,15 @@ before_is p (x ∷ xs) = elim (cases_Bool (p x)) [
 
 after_is : (p : ℕ → Bool) (xs : List ℕ) → position_or_len p xs < length xs → after p xs ≡ Some (drop (position_or_len p xs + 1) xs)
 after_is p [] lt = absurd (omega arith)
-after_is p (x ∷ xs) lt = elim (cases_Bool (p x)) [
-  | inl passes ↦ rw passes refl
-  | inr fails ↦ (
-      let less : 1 + position_or_len p xs < length (x ∷ xs) = rw fails at lt in
-      let e : 1 + position_or_len p xs + 1 ≡ suc (position_or_len p xs + 1) = omega arith in
-      rw (fails, e) (after_is p xs (omega arith)))
-]
+after_is p (x ∷ xs) lt = grind (arith, add-one, after_is p xs)
 
 before_whole : (p : ℕ → Bool) (xs : List ℕ) → length xs ≤ position_or_len p xs → before p xs ≡ xs
 before_whole p [] le = refl
-before_whole p (x ∷ xs) le = elim (cases_Bool (p x)) [
-  | inl passes ↦ (let no_room : length (x ∷ xs) ≤ 0 = rw passes at le in absurd (omega arith))
-  | inr fails ↦ (let more : length (x ∷ xs) ≤ 1 + position_or_len p xs = rw fails at le in rw fails (ap (λ ys. x ∷ ys) (before_whole p xs (omega arith))))
-]
+before_whole p (x ∷ xs) le = grind (arith, before_whole p xs)
 
 after_past : (p : ℕ → Bool) (xs : List ℕ) → length xs ≤ position_or_len p xs → after p xs ≡ None
 after_past p [] le = refl
-after_past p (x ∷ xs) le = elim (cases_Bool (p x)) [
-  | inl passes ↦ (let no_room : length (x ∷ xs) ≤ 0 = rw passes at le in absurd (omega arith))
-  | inr fails ↦ (let more : length (x ∷ xs) ≤ 1 + position_or_len p xs = rw fails at le in rw fails (after_past p xs (omega arith)))
-]
+after_past p (x ∷ xs) le = grind (arith, after_past p xs)
 
 from_is : (p : ℕ → Bool) (xs : List ℕ) → from_first p xs ≡ drop (position_or_len p xs) xs
 from_is p [] = refl
@@ -71,10 +59,7 @@ from_missing p xs e = from_is p xs ∙ drop_all (position_or_len p xs) xs (posit
 
 pub length-from_first : (p : ℕ → Bool) (xs : List ℕ) → length (from_first p xs) ≤ length xs
 length-from_first p [] = omega arith
-length-from_first p (x ∷ xs) = elim (cases_Bool (p x)) [
-  | inl passes ↦ rw passes (omega arith)
-  | inr fails ↦ rw fails (omega (arith, length-from_first p xs))
-]
+length-from_first p (x ∷ xs) = grind (arith, length-from_first p xs)
 
 -- ---- where no byte passes, and at the first that does
 
@@ -100,31 +85,19 @@ after_stop p (x ∷ xs) c ys h stop = rw h.0 (after_stop p xs c ys h.1 stop)
 
 pub before_passes_not : (p : ℕ → Bool) (xs : List ℕ) → NonePass p (before p xs)
 before_passes_not p [] = tt
-before_passes_not p (x ∷ xs) = elim (cases_Bool (p x)) [
-  | inl stop ↦ rw stop tt
-  | inr on ↦ rw on (on, before_passes_not p xs)
-]
+before_passes_not p (x ∷ xs) = grind (arith, before_passes_not p xs)
 
 -- a text that is cut at a byte
 pub cut_whole : (p : ℕ → Bool) (xs ys : List ℕ) → after p xs ≡ Some ys → (c : ℕ) × (p c ≡ true) × (xs ≡ before p xs ++ c ∷ ys)
 cut_whole p [] ys e = absurd cc
-cut_whole p (x ∷ xs) ys e = elim (cases_Bool (p x)) [
-  | inl stop ↦ (x, stop, (let f : Some xs ≡ Some ys = rw stop at e in let same : xs ≡ ys = cc in rw stop (ap (λ zs. x ∷ zs) same)))
-  | inr on ↦ (let rest = cut_whole p xs ys (rw on at e) in (rest.0, rest.1, rw on (ap (λ zs. x ∷ zs) rest.2)))
-]
+cut_whole p (x ∷ xs) ys e = grind (arith, cut_whole p xs ys)
 
 pub cut_byte : (byte : ℕ) (xs ys : List ℕ) → after (is_byte byte) xs ≡ Some ys → xs ≡ before (is_byte byte) xs ++ byte ∷ ys
 cut_byte byte xs ys e = let cut = cut_whole (is_byte byte) xs ys e in subst (λ (c : ℕ). xs ≡ before (is_byte byte) xs ++ c ∷ ys) (eqb-true cut.0 byte cut.1) cut.2
 
-abbrev nothing : Option (List ℕ)
-nothing = None
-
 pub uncut : (p : ℕ → Bool) (xs : List ℕ) → after p xs ≡ None → before p xs ≡ xs
 uncut p [] e = refl
-uncut p (x ∷ xs) e = elim (cases_Bool (p x)) [
-  | inl stop ↦ absurd (let f : Some xs ≡ nothing = rw stop at e in cc)
-  | inr on ↦ rw on (ap (λ zs. x ∷ zs) (uncut p xs (rw on at e)))
-]
+uncut p (x ∷ xs) e = grind (arith, uncut p xs)
 
 -- ---- a text that is split at bytes, from its first part on
 
@@ -135,10 +108,7 @@ split_behind p (Some text) = slice_split p text
 
 pub split_cut : (p : ℕ → Bool) (text : List ℕ) → slice_split p text ≡ before p text ∷ split_behind p (after p text)
 split_cut p [] = refl
-split_cut p (x ∷ xs) = elim (cases_Bool (p x)) [
-  | inl passes ↦ rw passes refl
-  | inr fails ↦ rw (fails, split_cut p xs) refl
-]
+split_cut p (x ∷ xs) = grind (arith, split_cut p xs)
 
 pub split_none : (p : ℕ → Bool) (xs : List ℕ) → NonePass p xs → slice_split p xs ≡ xs ∷ []
 split_none p xs h = split_cut p xs ∙ rw (before_none p xs h, after_none p xs h) refl

@@ -1,5 +1,5 @@
 -- The runs of a list are the longest ones, and a text of them is written one element at a time.
-use Rattle.std.proofs.Common.{◌≡◌, ◌≢◌, ℕ, zero, suc, ◌+◌, ◌<◌, ◌≤◌, Bool, true, false, List, [], ◌∷◌, ◌++◌, length, drop, replicate, get_or, Option, Some, None, refl, sym, ap, subst, ◌∙◌, append_assoc, add-one, drop-cons, arith}
+use Rattle.std.proofs.Common.{◌≡◌, ◌≢◌, ℕ, zero, suc, ◌+◌, ◌<◌, ◌≤◌, Bool, true, false, List, [], ◌∷◌, ◌++◌, length, drop, replicate, get_or, Some, refl, sym, ap, ◌∙◌, append_assoc, add-one, drop-cons, arith}
 use Rattle.std.specs.Prelude.{Decides}
 use Rattle.std.specs.List.{slice_get, AllByRecursion}
 use Rattle.std.proofs.lemmas.Bool.Decides.{not_from_Decides}
@@ -30,17 +30,7 @@ module _ {E : Type 0} (same : E → E → Bool) (decides : (a b : E) → Decides
   -- ---- no two could be one
 
   AreLongest-joined : (run : Run E) (runs : List (Run E)) → 0 < run.1 → AreLongest runs → AreLongest (joined same run runs)
-  AreLongest-joined run [] some longest = some
-  AreLongest-joined run (next ∷ []) some longest = go (same run.0 next.0) refl
-    where
-      go : (b : Bool) → same run.0 next.0 ≡ b → AreLongest (joined same run (next ∷ []))
-      go true is = rw is (omega arith)
-      go false isnt = rw isnt (some, not_from_Decides (same run.0 next.0) (decides run.0 next.0) isnt, longest)
-  AreLongest-joined run (next ∷ third ∷ runs) some longest = go (same run.0 next.0) refl
-    where
-      go : (b : Bool) → same run.0 next.0 ≡ b → AreLongest (joined same run (next ∷ third ∷ runs))
-      go true is = rw is (omega arith, subst (λ (e : E). e ≢ third.0) (sym ((decides run.0 next.0).0 is)) longest.1, longest.2)
-      go false isnt = rw isnt (some, not_from_Decides (same run.0 next.0) (decides run.0 next.0) isnt, longest)
+  AreLongest-joined run runs some longest = grind (arith, not_from_Decides)
 
   pub AreLongest-runs_of : (elements : List E) → AreLongest (runs_of same elements)
   unfolding runs_of
@@ -50,11 +40,7 @@ module _ {E : Type 0} (same : E → E → Bool) (decides : (a b : E) → Decides
   -- ---- and there are no other longest ones
 
   same_or_not : (a b : E) → a ≢ b → same a b ≡ false
-  same_or_not a b other = go (same a b) refl
-    where
-      go : (c : Bool) → same a b ≡ c → same a b ≡ false
-      go true is = absurd (other ((decides a b).0 is))
-      go false isnt = isnt
+  same_or_not a b other = grind arith
 
   -- a run in front of runs that begin with another element
   abbrev Differs : E → List (Run E) → Type 0
@@ -63,15 +49,8 @@ module _ {E : Type 0} (same : E → E → Bool) (decides : (a b : E) → Decides
 
   runs_of-run : (e : E) (times : ℕ) (elements : List E) → Differs e (runs_of same elements) → runs_of same (replicate (suc times) e ++ elements) ≡ (e, suc times) ∷ runs_of same elements
   unfolding runs_of
-  runs_of-run e zero elements differs = last (runs_of same elements) differs
-    where
-      last : (runs : List (Run E)) → Differs e runs → joined same (e, 1) runs ≡ (e, 1) ∷ runs
-      last [] d = refl
-      last (next ∷ runs) d = rw (same_or_not e next.0 d) refl
-  runs_of-run e (suc times) elements differs = ap (joined same (e, 1)) (runs_of-run e times elements differs) ∙ more
-    where
-      more : joined same (e, 1) ((e, suc times) ∷ runs_of same elements) ≡ (e, suc (suc times)) ∷ runs_of same elements
-      more = let sum : 1 + suc times ≡ suc (suc times) = omega arith in rw ((decides e e).1 refl, sum) refl
+  runs_of-run e zero elements differs = grind (arith, same_or_not)
+  runs_of-run e (suc times) elements differs = grind (arith, runs_of-run e times elements differs)
 
   pub runs_of-expanded : (runs : List (Run E)) → AreLongest runs → runs_of same (expanded runs) ≡ runs
   unfolding runs_of
@@ -79,19 +58,12 @@ module _ {E : Type 0} (same : E → E → Bool) (decides : (a b : E) → Decides
   runs_of-expanded ((e, zero) ∷ []) longest = absurd (omega arith)
   runs_of-expanded ((e, suc times) ∷ []) longest = runs_of-run e times [] tt
   runs_of-expanded ((e, zero) ∷ next ∷ runs) longest = absurd (omega (arith, longest.0))
-  runs_of-expanded ((e, suc times) ∷ next ∷ runs) longest =
-      let rest = runs_of-expanded (next ∷ runs) longest.2 in
-      runs_of-run e times (expanded (next ∷ runs)) (subst (Differs e) (sym rest) longest.1) ∙ ap (λ (others : List (Run E)). (e, suc times) ∷ others) rest
+  runs_of-expanded ((e, suc times) ∷ next ∷ runs) longest = grind (arith, runs_of-run, runs_of-expanded (next ∷ runs) longest.2)
 
   -- ---- what holds of each element holds of each run
 
   all-joined : (P : Run E → Type 0) → ((e : E) (m n : ℕ) → P (e, m) → P (e, m + n)) → (run : Run E) (runs : List (Run E)) → P run → AllByRecursion P runs → AllByRecursion P (joined same run runs)
-  all-joined P longer run [] holds all = (holds, tt)
-  all-joined P longer run (next ∷ runs) holds all = go (same run.0 next.0) refl
-    where
-      go : (b : Bool) → same run.0 next.0 ≡ b → AllByRecursion P (joined same run (next ∷ runs))
-      go true is = rw is (longer run.0 run.1 next.1 holds, all.1)
-      go false isnt = rw isnt (holds, all)
+  all-joined P longer run h3 holds all = grind arith
 
   pub all-runs_of : (P : E → Type 0) (elements : List E) → AllByRecursion P elements → AllByRecursion (λ (run : Run E). P run.0 × (0 < run.1)) (runs_of same elements)
   unfolding runs_of
@@ -103,26 +75,11 @@ module _ {E : Type 0} (same : E → E → Bool) (decides : (a b : E) → Decides
   module _ (text_of : List (Run E) → List ℕ) (write : Run E → List ℕ) (writes : (run next : Run E) (runs : List (Run E)) → text_of (run ∷ next ∷ runs) ≡ write run ++ text_of (next ∷ runs)) where
     -- an element that goes on with a run
     joined-same : (e next : E) (times : ℕ) (runs : List (Run E)) → same e next ≡ true → joined same (e, times) (joined same (next, 1) runs) ≡ joined same (e, times + 1) runs
-    joined-same e next times [] is = rw is refl
-    joined-same e next times (first ∷ runs) is = go (same next first.0) refl
-      where
-        go : (b : Bool) → same next first.0 ≡ b → joined same (e, times) (joined same (next, 1) (first ∷ runs)) ≡ joined same (e, times + 1) (first ∷ runs)
-        go true goes =
-            let goes' : same e first.0 ≡ true = subst (λ (x : E). same x first.0 ≡ true) (sym ((decides e next).0 is)) goes in
-            let sum : times + (1 + first.1) ≡ times + 1 + first.1 = omega arith in
-            rw (goes, goes', is, sum) refl
-        go false isnt =
-            let isnt' : same e first.0 ≡ false = subst (λ (x : E). same x first.0 ≡ false) (sym ((decides e next).0 is)) isnt in
-            rw (isnt, isnt', is) refl
+    joined-same e next times runs is = grind arith
 
     -- an element that ends it
     text-other : (e next : E) (times : ℕ) (runs : List (Run E)) → same e next ≡ false → text_of (joined same (e, times) (joined same (next, 1) runs)) ≡ write (e, times) ++ text_of (joined same (next, 1) runs)
-    text-other e next times [] other = rw other (writes (e, times) (next, 1) [])
-    text-other e next times (first ∷ runs) other = go (same next first.0) refl
-      where
-        go : (b : Bool) → same next first.0 ≡ b → text_of (joined same (e, times) (joined same (next, 1) (first ∷ runs))) ≡ write (e, times) ++ text_of (joined same (next, 1) (first ∷ runs))
-        go true is = rw (is, other) (writes (e, times) (next, 1 + first.1) runs)
-        go false isnt = rw (isnt, other) (writes (e, times) (next, 1) (first ∷ runs))
+    text-other e next times runs other = grind arith
 
     -- what is still to be written: the run that goes on, and the runs of the rest
     abbrev pub to_write : E → ℕ → List E → List ℕ
@@ -143,9 +100,7 @@ module _ {E : Type 0} (same : E → E → Bool) (decides : (a b : E) → Decides
     pub write-start : (e : E) (elements : List E) → slice_get elements 0 ≡ Some e → to_write e 0 elements ≡ text_of (runs_of same elements)
     unfolding runs_of
     write-start e [] first = absurd cc
-    write-start e (next ∷ elements) first =
-        let alike : next ≡ e = some_is next e first in
-        ap text_of (joined-same e next 0 (runs_of same elements) ((decides e next).1 (sym alike)) ∙ ap (λ (x : E). joined same (x, 1) (runs_of same elements)) (sym alike))
+    write-start e (next ∷ elements) first = grind (arith, some_is, joined-same)
 
     -- the element goes on with the run
     pub turn-same : (e d : E) (times i : ℕ) (elements : List E) (text whole : List ℕ) → i < length elements → same e (get_or elements i d) ≡ true → text ++ to_write e times (drop i elements) ≡ whole → text ++ to_write e (times + 1) (drop (i + 1) elements) ≡ whole
@@ -153,11 +108,7 @@ module _ {E : Type 0} (same : E → E → Bool) (decides : (a b : E) → Decides
 
     -- the element ends it
     pub turn-other : (e d : E) (times i : ℕ) (elements : List E) (text new whole : List ℕ) → i < length elements → same e (get_or elements i d) ≡ false → text ++ to_write e times (drop i elements) ≡ whole → new ≡ text ++ write (e, times) → new ++ to_write (get_or elements i d) 1 (drop (i + 1) elements) ≡ whole
-    turn-other e d times i elements text new whole within other so_far written =
-        ap (λ (front : List ℕ). front ++ to_write (get_or elements i d) 1 (drop (i + 1) elements)) written
-        ∙ append_assoc text (write (e, times)) (to_write (get_or elements i d) 1 (drop (i + 1) elements))
-        ∙ ap (λ (rest : List ℕ). text ++ rest) (sym (write-other e d times i elements within other))
-        ∙ so_far
+    turn-other e d times i elements text new whole within other so_far written = grind (arith, append_assoc, write-other)
 
     -- after the last turn
     pub turns-end : (e : E) (times n : ℕ) (elements : List E) (text new whole : List ℕ) → length elements ≤ n → text ++ to_write e times (drop n elements) ≡ whole → new ≡ text ++ text_of ((e, times) ∷ []) → new ≡ whole

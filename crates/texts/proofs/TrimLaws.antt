@@ -1,5 +1,5 @@
 -- Bytes round a text, and the text without them.
-use Rattle.std.proofs.Common.{◌≡◌, ℕ, suc, zero, ◌+◌, ◌-◌, ◌<◌, ◌≤◌, Bool, true, false, List, [], ◌∷◌, ◌++◌, length, take, get_or, refl, sym, ap, subst, ◌∙◌, inl, inr, append_assoc, arith}
+use Rattle.std.proofs.Common.{◌≡◌, ℕ, suc, zero, ◌+◌, ◌-◌, ◌<◌, ◌≤◌, Bool, true, false, List, [], ◌∷◌, ◌++◌, length, take, get_or, refl, sym, ap, ◌∙◌, inl, inr, append_assoc, arith}
 use Rattle.std.proofs.lemmas.Bool.{cases_Bool}
 use Rattle.texts.specs.Cutting.{without_leading, without_trailing, onto_kept, stripped, AllPass, NonePass, IsPaddedBy}
 
@@ -9,36 +9,23 @@ use Rattle.texts.specs.Cutting.{without_leading, without_trailing, onto_kept, st
 end_less : (p : ℕ → Bool) (xs : List ℕ) (i : ℕ) → i < length xs → p (get_or xs i 0) ≡ true → without_trailing p (take (i + 1) xs) ≡ without_trailing p (take i xs)
 end_less p [] i lt passes = absurd (omega arith)
 end_less p (x ∷ xs) zero lt passes = rw passes refl
-end_less p (x ∷ xs) (suc i) lt passes =
-    let e : suc i + 1 ≡ suc (i + 1) = omega arith in
-    rw e (ap (onto_kept p x) (end_less p xs i (omega arith) passes))
+end_less p (x ∷ xs) (suc i) lt passes = grind (arith, end_less p xs i)
 
 pub onto_some : (p : ℕ → Bool) (x : ℕ) (ys : List ℕ) → 0 < length ys → onto_kept p x ys ≡ x ∷ ys
-onto_some p x [] some = absurd (omega arith)
-onto_some p x (y ∷ ys) some = refl
+onto_some p x ys some = grind arith
 
 -- and any other byte stays, with all before it
 end_kept : (p : ℕ → Bool) (xs : List ℕ) (i : ℕ) → i < length xs → p (get_or xs i 0) ≡ false → without_trailing p (take (i + 1) xs) ≡ take (i + 1) xs
 end_kept p [] i lt fails = absurd (omega arith)
 end_kept p (x ∷ xs) zero lt fails = rw fails refl
-end_kept p (x ∷ xs) (suc i) lt fails =
-    let e : suc i + 1 ≡ suc (i + 1) = omega arith in
-    rw e (ap (onto_kept p x) (end_kept p xs i (omega arith) fails) ∙ onto_some p x (take (i + 1) xs) (some xs i (omega arith)))
-  where
-    some : (xs : List ℕ) (i : ℕ) → i < length xs → 0 < length (take (i + 1) xs)
-    some [] i lt = absurd (omega arith)
-    some (y ∷ ys) i lt = let e : i + 1 ≡ suc i = omega arith in rw e (omega arith)
+end_kept p (x ∷ xs) (suc i) lt fails = grind (arith, onto_some, end_kept p xs i)
 
 -- the same, seen from after the byte
 pub end_step : (p : ℕ → Bool) (xs : List ℕ) (e : ℕ) → 0 < e → e ≤ length xs → p (get_or xs (e - 1) 0) ≡ true → without_trailing p (take (e - 1) xs) ≡ without_trailing p (take e xs)
-end_step p xs e some le passes =
-    let back : e - 1 + 1 ≡ e = omega arith in
-    subst (λ (k : ℕ). without_trailing p (take (e - 1) xs) ≡ without_trailing p (take k xs)) back (sym (end_less p xs (e - 1) (omega arith) passes))
+end_step p xs e some le passes = grind (arith, end_less)
 
 pub end_stop : (p : ℕ → Bool) (xs : List ℕ) (e : ℕ) → 0 < e → e ≤ length xs → p (get_or xs (e - 1) 0) ≡ false → take e xs ≡ without_trailing p (take e xs)
-end_stop p xs e some le fails =
-    let back : e - 1 + 1 ≡ e = omega arith in
-    subst (λ (k : ℕ). take k xs ≡ without_trailing p (take k xs)) back (sym (end_kept p xs (e - 1) (omega arith) fails))
+end_stop p xs e some le fails = grind (arith, end_kept)
 
 -- ---- where no byte passes
 
@@ -94,10 +81,7 @@ trailing_past p (x ∷ xs) back h = ap (onto_kept p x) (trailing_past p xs back 
 pub stripped_back : (p : ℕ → Bool) (xs back : List ℕ) → AllPass p back → stripped p (xs ++ back) ≡ stripped p xs
 unfolding stripped
 stripped_back p [] back h = rw (leading_all p back h) refl
-stripped_back p (x ∷ xs) back h = elim (cases_Bool (p x)) [
-  | inl passes ↦ rw passes (stripped_back p xs back h)
-  | inr fails ↦ rw fails (trailing_past p (x ∷ xs) back h)
-]
+stripped_back p (x ∷ xs) back h = grind (arith, trailing_past, stripped_back p xs back h)
 
 stripped_front : (p : ℕ → Bool) (front xs : List ℕ) → AllPass p front → stripped p (front ++ xs) ≡ stripped p xs
 unfolding stripped
@@ -122,17 +106,11 @@ leading_split p (x ∷ xs) = elim (cases_Bool (p x)) [
 -- the first byte that is left doesn't pass, and where none is left all pass
 pub leading_first : (p : ℕ → Bool) (text : List ℕ) (c : ℕ) (rest : List ℕ) → without_leading p text ≡ c ∷ rest → p c ≡ false
 leading_first p [] c rest e = absurd cc
-leading_first p (x ∷ xs) c rest e = elim (cases_Bool (p x)) [
-  | inl passes ↦ leading_first p xs c rest (rw passes at e)
-  | inr fails ↦ (let f : x ∷ xs ≡ c ∷ rest = rw fails at e in let same : x ≡ c = cc in subst (λ (y : ℕ). p y ≡ false) same fails)
-]
+leading_first p (x ∷ xs) c rest e = grind (arith, leading_first p xs c rest)
 
 pub leading_gone : (p : ℕ → Bool) (text : List ℕ) → without_leading p text ≡ [] → AllPass p text
 leading_gone p [] e = tt
-leading_gone p (x ∷ xs) e = elim (cases_Bool (p x)) [
-  | inl passes ↦ (passes, leading_gone p xs (rw passes at e))
-  | inr fails ↦ (let f : x ∷ xs ≡ [] = rw fails at e in absurd cc)
-]
+leading_gone p (x ∷ xs) e = grind (arith, leading_gone p xs)
 
 pub trailing_split : (p : ℕ → Bool) (xs : List ℕ) → (back : List ℕ) × AllPass p back × (xs ≡ without_trailing p xs ++ back)
 trailing_split p [] = ([], tt, refl)
@@ -151,8 +129,7 @@ padded_stripped p text =
     (front.0, back.0, front.1, back.1, front.2 ∙ ap (λ ys. front.0 ++ ys) back.2)
 
 pub padded_twice : (p : ℕ → Bool) (core mid text : List ℕ) → IsPaddedBy p core mid → IsPaddedBy p mid text → IsPaddedBy p core text
-padded_twice p core mid text h k =
-    (k.0 ++ h.0, h.1 ++ k.1, all-append p k.0 h.0 k.2 h.2, all-append p h.1 k.1 h.3 k.3, k.4 ∙ rw h.4 (simp append_assoc refl))
+padded_twice p core mid text h k = grind (arith, all-append, append_assoc)
 
 pub stripped_trailing : (p : ℕ → Bool) (part : List ℕ) → stripped p (without_trailing p part) ≡ stripped p part
 stripped_trailing p part = let split = trailing_split p part in sym (stripped_back p (without_trailing p part) split.0 split.1) ∙ ap (stripped p) (sym split.2)

@@ -12,6 +12,11 @@ Says digits n = IsNumeral 10 digits × (digits_value 10 digits ≡ n)
 abbrev pub SaysInHex : List ℕ → ℕ → Type 0
 SaysInHex digits n = IsNumeral 16 digits × (digits_value 16 digits ≡ n)
 
+-- Decimal digits, or `0x` (48 and 120) and hex digits, say n.
+pub data IsMagnitude : List ℕ → ℕ → Type 0 where
+  decimal : (digits : List ℕ) (n : ℕ) → Says digits n → IsMagnitude digits n
+  hex : (digits : List ℕ) (n : ℕ) → SaysInHex digits n → IsMagnitude (48 ∷ 120 ∷ digits) n
+
 -- Eight hex digits say the word n.
 abbrev pub IsHexWord : List ℕ → ℕ → Type 0
 IsHexWord digits n = (length digits ≡ 8) × SaysInHex digits n

@@ -66,6 +66,7 @@ pub fn without_leading(separators: Separators, text: &[u8]) -> &[u8]
     }
 }
 
+#[tactic(auto, using(crate::proofs::TrimLaws::end_step, crate::proofs::TrimLaws::end_stop))]
 fn without_trailing(separators: Separators, text: &[u8]) -> &[u8]
     ensures { result.now ≡ without_trailing (separates separators) text.now }
 {
@@ -99,6 +100,7 @@ pub fn trimmed(text: &[u8]) -> &[u8]
 }
 
 /// The first token of a line, and what follows the blank after it; `None` where there is no token.
+#[tactic(auto, using(crate::proofs::TokenLaws::first_none, crate::proofs::TokenLaws::tokens_uncut))]
 pub fn first_token(line: &[u8]) -> Option<(&[u8], &[u8])>
     ensures cut { MatchOption result (first_cut line.now ≡ None) (λ cut. first_cut line.now ≡ Some (cut.0.now, cut.1.now)) }
     ensures tokens { MatchOption result (tokens line.now ≡ []) (λ cut. tokens line.now ≡ cut.0.now ∷ tokens cut.1.now) }

@@ -13,6 +13,7 @@ pub const NUMBER_CAP: u64 = 1 << 32;
 
 /// The number that one or more digits of the radix say, capped at [`NUMBER_CAP`]; `None` for other bytes.
 #[inline(always)]
+#[tactic(auto, using(crate::proofs::NumberLaws::other_digit, crate::proofs::NumberLaws::read_digit, crate::proofs::NumberLaws::all_digits_more, crate::proofs::NumberLaws::value_more, crate::proofs::NumberLaws::capped_value_empty, crate::proofs::NumberLaws::capped_value_other))]
 fn number_in(radix: u32, bytes: &[u8]) -> Option<u64>
     requires least { 2 ≤ radix }
     requires most { radix ≤ 36 }

@@ -2,14 +2,8 @@ use Rattle.std.proofs.Common.{◌<◌, ◌≤◌, Some, None, length, rules, ari
 use Rattle.texts.specs.Pieces.{is_blank}
 use Rattle.texts.specs.Cutting.{fails}
 use Rattle.texts.proofs.CuttingLaws.{length-from_first}
-use Rattle.texts.proofs.TokenLaws.{first_is, first_none, tokens_cut, tokens_uncut}
+use Rattle.texts.proofs.TokenLaws.{first_is, tokens_cut}
 use Rattle.texts.proofs.cutting.first_token.Goals as goal
-
-pub returns-then-is_empty-clause-cut : goal.returns-then-is_empty-clause-cut
-returns-then-is_empty-clause-cut c = first_none c.args.line.now c.without_front-line.result.now c.without_front-line.ensures (search rules)
-
-pub returns-then-is_empty-clause-tokens : goal.returns-then-is_empty-clause-tokens
-returns-then-is_empty-clause-tokens c = tokens_uncut c.args.line.now (returns-then-is_empty-clause-cut c)
 
 pub returns-in-Some-clause-cut : goal.returns-in-Some-clause-cut
 returns-in-Some-clause-cut c =
