@@ -1,12 +1,11 @@
 -- The texts of outcomes: what is read of words, against what they say, and what is written, read again.
 use Rattle.std.proofs.Common.{◌≡◌, ◌↔◌, inl, inr, ℕ, ◌<◌, ◌==◌, Bool, true, false, cond, ◌&&◌, List, [], ◌∷◌, length, map, suc, Option, Some, None, refl, sym, ap, subst, ◌∙◌, arith, rules}
-use Rattle.std.specs.Prelude.{codes, Decides, if◌then◌else◌}
+use Rattle.std.specs.Prelude.{codes, Decides}
 use Rattle.std.specs.Fmt.{decimal}
 use Rattle.std.specs.Str.{bytes_eq}
 use Rattle.std.proofs.lemmas.Bool.{and_parts, eqb-true, eq-eqb}
 use Rattle.std.proofs.lemmas.Slice.Eq.{bytes_eq-Decides}
 use Rattle.hart.specs.declared.status.Stop.{Stop}
-use Rattle.hart.specs.declared.status.Stop.TheVariants as stop
 use Rattle.hart.specs.Steps.{stop_number}
 use Rattle.step_machine.specs.declared.events.Event.{Event}
 use Rattle.step_machine.specs.declared.events.Entry.{Entry}

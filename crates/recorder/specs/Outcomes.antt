@@ -1,6 +1,5 @@
 -- The texts of outcomes: what is written of one, and which words say one.
 use Rattle.std.specs.Prelude.{◌≡◌, ◌⊎◌, ℕ, ◌<◌, ◌^◌, ◌==◌, Bool, true, false, not, ◌&&◌, if◌then◌else◌, List, [], ◌∷◌, ◌++◌, Option, Some, None, codes}
-use Rattle.std.specs.Str.{bytes_eq}
 use Rattle.hart.specs.declared.status.Stop.{Stop}
 use Rattle.hart.specs.declared.status.Stop.TheVariants as stop
 use Rattle.hart.specs.Steps.{stop_number}

@@ -1,5 +1,5 @@
 -- Schedules of both versions: events alone, or a record, which says each event's outcome too.
-use Rattle.std.specs.Prelude.{◌≡◌, ℕ, if◌then◌else◌, List, Result, Ok, Err}
+use Rattle.std.specs.Prelude.{◌≡◌, ℕ, if◌then◌else◌, List, Result, Ok}
 use Rattle.step_machine.specs.declared.events.Event.{Event}
 use Rattle.texts.specs.Results.{◌>>=◌}
 use Rattle.recorder.specs.declared.faults.AtByte.{AtByte}
