@@ -35,9 +35,7 @@ use Rattle.step_machine.proofs.OwnRuns.{only_act}
 
 -- the entry by which hart h does what it needs is its own, and holds what it read
 pub own_entry : (h : ℕ) (n : Need) (v : ℕ) → (hart_of (entry_of h n v) ≡ h) × (is_land (entry_of h n v) ≡ false) × (entry_of h n v ≡ entry_of h n (value_of (entry_of h n v)))
-own_entry h (need.Report (report.Took i w)) v = (refl, refl, refl)
-own_entry h (need.Report (report.Closed i)) v = (refl, refl, refl)
-own_entry h other v = (refl, refl, refl)
+own_entry h n v = grind arith
 
 -- where this is pending of its hart, such a need has to wait: a store for room, an AMO and a full
 -- fence for an empty buffer; no other need waits
@@ -49,10 +47,7 @@ HasToWait B ws other = ⊥
 
 -- a need that has to wait can't be done, whatever is read
 pub waiting : (B : ℕ) (o : Start) (es : List Entry) (h : ℕ) (n : Need) → HasToWait B (pending h es) n → (v : ℕ) → Allowed B o es (entry_of h n v) → ⊥
-waiting B o es h (need.Store a width w) full v few = let least : B ≤ length (pending h es) = full in let most : length (pending h es) < B = few in absurd (omega arith)
-waiting B o es h (need.Amo a op rs2) some v may = some may.0
-waiting B o es h (need.Fence full) some v may = some.1 (may some.0)
-waiting B o es h other some v may = some
+waiting B o es h n full v few = grind arith
 
 nil_or : (ws : List Write) → (ws ≡ []) ⊎ (ws ≢ [])
 nil_or [] = inl refl
@@ -61,11 +56,7 @@ nil_or (w ∷ ws) = inr (λ e. cc)
 -- a need can be done, with some number read, or has to wait
 pub decide : (B : ℕ) (o : Start) (es : List Entry) (h : ℕ) (n : Need) → ((v : ℕ) × Allowed B o es (entry_of h n v)) ⊎ HasToWait B (pending h es) n
 decide B o es h (need.Load a width) = inl (read o es h a width, refl)
-decide B o es h (need.Store a width w) = at (nat_lt (length (pending h es)) B) refl
-  where
-    at : (b : Bool) → nat_lt (length (pending h es)) B ≡ b → ((v : ℕ) × (length (pending h es) < B)) ⊎ (B ≤ length (pending h es))
-    at true is = inl (0, grind (arith, nat_tests))
-    at false is = inr (grind (arith, nat_tests))
+decide B o es h (need.Store a width w) = grind (arith, nat_tests)
 decide B o es h (need.Amo a op rs2) =
     elim (nil_or (pending h es)) [
       | inl none ↦ inl (read o es h a 4, (none, refl))
@@ -169,11 +160,7 @@ acts B M t h s (status.Stopped why) kept is run = (outcome.Over, t, over_happens
 
 -- the state of a hart, if it is one
 pub state_or : (M : ℕ) (t : History) (h : ℕ) → ((s : HartState) × (state_of M t h ≡ Some s)) ⊎ (state_of M t h ≡ None)
-state_or M t h = at (state_of M t h) refl
-  where
-    at : (so : Option HartState) → state_of M t h ≡ so → ((s : HartState) × (state_of M t h ≡ Some s)) ⊎ (state_of M t h ≡ None)
-    at None none = inr none
-    at (Some s) is = inl (s, is)
+state_or M t h = grind arith
 
 lands : (B M : ℕ) (t : History) (h : ℕ) (s : HartState) (ps : List Write) → WellFormed B M t → state_of M t h ≡ Some s → ps ≡ pending h t.entries → Happening B M t (event.Land h)
 lands B M t h s ps kept is same = (land_in ps h (is_over s.status), history_after t (land_in ps h (is_over s.status)), some_land B M t h s ps kept is same)

@@ -12,9 +12,7 @@ use Rattle.step_machine.specs.Legal.{LegalAfter}
 
 pub own-append : (h : ℕ) (es fs : List Entry) → own h (es ++ fs) ≡ own h es ++ own h fs
 own-append h [] fs = refl
-own-append h (e ∷ es) fs =
-    elim (is_own h e) as (λ b. (if b then e ∷ own h (es ++ fs) else own h (es ++ fs)) ≡ (if b then e ∷ own h es else own h es) ++ own h fs)
-    [ true ↦ ap (λ t. e ∷ t) (own-append h es fs) | false ↦ own-append h es fs ]
+own-append h (e ∷ es) fs = grind (arith, own-append h es fs)
 
 pub stores-append : (h : ℕ) (es fs : List Entry) → stores h (es ++ fs) ≡ stores h es ++ stores h fs
 stores-append h [] fs = refl
@@ -33,10 +31,7 @@ reported-last h es e = reported-append h es (e ∷ []) ∙ ap (λ t. reported h 
 
 pub landed_after-append : (before es fs : List Entry) → landed_after before (es ++ fs) ≡ landed_after before es ++ landed_after (before ++ es) fs
 landed_after-append before [] fs = ap (λ b. landed_after b fs) (sym (append-nil before))
-landed_after-append before (e ∷ es) fs =
-    ap (λ t. write_of before e ++ t) (landed_after-append (before ++ e ∷ []) es fs)
-    ∙ ap (λ b. write_of before e ++ (landed_after (before ++ e ∷ []) es ++ landed_after b fs)) (append_assoc before (e ∷ []) es)
-    ∙ sym (append_assoc (write_of before e) (landed_after (before ++ e ∷ []) es) (landed_after (before ++ e ∷ es) fs))
+landed_after-append before (e ∷ es) fs = grind (arith, append_assoc, landed_after-append (before ++ e ∷ []) es fs)
 
 pub landed-last : (es : List Entry) (e : Entry) → landed (es ++ e ∷ []) ≡ landed es ++ write_of es e
 landed-last es e = landed_after-append [] es (e ∷ []) ∙ ap (λ t. landed es ++ t) (append-nil (write_of es e))
@@ -72,11 +67,4 @@ LegalAfter-back B o before (e ∷ es) fs l = rw (← append_assoc before (e ∷ 
 
 -- the hart's pending stores after one more entry
 pub pending-last : (h : ℕ) (es : List Entry) (e : Entry) → lands h es ≤ length (stores h es) → pending h (es ++ e ∷ []) ≡ drop (land_of h e) (pending h es ++ store_of h e)
-pending-last h es e le =
-    let whole : stores h (es ++ e ∷ []) ≡ stores h es ++ store_of h e = stores-append h es (e ∷ []) ∙ ap (λ t. stores h es ++ t) (append-nil (store_of h e)) in
-    let one : lands h (e ∷ []) ≡ land_of h e = omega arith in
-    let count : lands h (es ++ e ∷ []) ≡ lands h es + land_of h e = lands-append h es (e ∷ []) ∙ ap (λ n. lands h es + n) one in
-    ap (λ n. drop n (stores h (es ++ e ∷ []))) count
-    ∙ ap (λ t. drop (lands h es + land_of h e) t) whole
-    ∙ sym (drop-drop (land_of h e) (lands h es) (stores h es ++ store_of h e))
-    ∙ ap (λ t. drop (land_of h e) t) (drop-append-le (lands h es) (stores h es) (store_of h e) le)
+pending-last h es e le = grind (arith, stores-append, append-nil, lands-append, drop-drop, drop-append-le)

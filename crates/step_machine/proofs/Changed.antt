@@ -35,15 +35,11 @@ more_at f (x ∷ xs) (y ∷ ys) (suc i) d e within = ap (λ zs. f x y ∷ zs) (m
 -- a loop that changes each element
 pub changed_at : {X Y : Type 0} (f : X → Y → X) (xs zs : List X) (ys : List Y) (i : ℕ) (d : X) (e : Y) → i < length ys → zs ≡ changed_by f xs (take i ys)
     → set zs i (f (get_or zs i d) (get_or ys i e)) ≡ changed_by f xs (take (i + 1) ys)
-changed_at f xs zs ys i d e within is =
-    let next : suc i ≡ i + 1 = omega arith in
-    ap (λ ws. set ws i (f (get_or ws i d) (get_or ys i e))) is ∙ ap (λ z. set (changed_by f xs (take i ys)) i (f z (get_or ys i e))) (not_yet f xs ys i d)
-    ∙ more_at f xs ys i d e within ∙ ap (λ n. changed_by f xs (take n ys)) next
+changed_at f xs zs ys i d e within is = grind (arith, set, not_yet, more_at)
 
 pub changed_more : {X Y : Type 0} (f : X → Y → X) (xs zs : List X) (ys : List Y) (i : ℕ) (x : X) (y : Y) → i < length ys → zs ≡ changed_by f xs (take i ys)
     → x ≡ get_or zs i x → y ≡ get_or ys i y → set zs i (f x y) ≡ changed_by f xs (take (i + 1) ys)
-changed_more f xs zs ys i x y within is x_is y_is =
-    ap (λ z. set zs i (f z y)) x_is ∙ ap (λ z. set zs i (f (get_or zs i x) z)) y_is ∙ changed_at f xs zs ys i x y within is
+changed_more f xs zs ys i x y within is x_is y_is = grind (arith, set, changed_at)
 
 -- and it reads each element as it was
 pub still_at : {X Y : Type 0} (f : X → Y → X) (xs zs : List X) (ys : List Y) (i : ℕ) (x : X) → i < length xs → zs ≡ changed_by f xs (take i ys)

@@ -28,10 +28,7 @@ use Rattle.step_machine.specs.inner.Representation.{Holds}
 use Rattle.memory.specs.declared.writes.Write.{Write}
 
 in_range_true : (s : HartState) (n : Need) → IsTrueOf s n → IsInRange s.words n
-in_range_true s (need.Load a width) is = (is.width_is, is.in_word, is.below)
-in_range_true s (need.Store a width w) is = (is.width_is, is.in_word, is.below)
-in_range_true s (need.Amo a op rs2) is = (is.width_is, is.in_word, is.below)
-in_range_true s n is = tt
+in_range_true s n is = grind arith
 
 pub need_of-in_range : (M : ℕ) (s : HartState) → s.words ≡ M → IsInRange M (need_of s)
 need_of-in_range M s words = subst (λ (m : ℕ). IsInRange m (need_of s)) words (in_range_true s (need_of s) (need_is_true s))

@@ -36,41 +36,18 @@ pub record Stands (B M : ℕ) (t : History) (c : Config) : Type 0 where
   pub tied : Represents M t c
 
 pub no_hart : {X Y : Type 0} (f : X → Y) (o : Option X) → option_map f o ≡ None → o ≡ None
-no_hart f None e = refl
-no_hart f (Some x) e = cc
+no_hart f o e = grind arith
 
 -- no entry of a hart that isn't there can follow
 pub none-no_hart : (B M : ℕ) (t : History) (h : ℕ) (d : Entry) → state_of M t h ≡ None → hart_of d ≡ h → CanFollow B M t d → ⊥
-none-no_hart B M t h d none mine f =
-    Path-hart M (with_entry t d) h (subst (Path M (with_entry t d)) mine f.path) (no_hart (state_after M (own h t.entries)) (slice_get t.opening.harts h) none)
+none-no_hart B M t h d none mine f = grind (arith, Path-hart, no_hart, state_after)
 
 -- a hart with a state is one of the opening's, and keeps its path
 pub state_of-hart : (M : ℕ) (t : History) (h : ℕ) (s : HartState) → state_of M t h ≡ Some s → h < length t.opening.harts
-state_of-hart M t h s is = within (slice_get t.opening.harts h) refl is
-  where
-    within : (o : Option HartStart) → slice_get t.opening.harts h ≡ o → option_map (state_after M (own h t.entries)) o ≡ Some s → h < length t.opening.harts
-    within None e none = cc
-    within (Some x) e some = slice_get_within t.opening.harts h x e
+state_of-hart M t h s is = grind (arith, state_after, slice_get_within)
 
 running_happens : (B M : ℕ) (t : History) (h : ℕ) (s : HartState) (o : Outcome) → WellFormed B M t → state_of M t h ≡ Some s → s.status ≡ status.Running → Decided B t h (need_of s) o → Happens B M t (event.Act h) o (history_after t o)
-running_happens B M t h s (outcome.Did e) kept is run d =
-    let path : Path M t h = kept.paths h (state_of-hart M t h s is) in
-    let can : CanMake s e = record { running = run; made = d.2.made ∙ ap (λ k. entry_of k (need_of s) (value_of e)) (sym d.0) } in
-    record {
-      for_event = (d.0, d.1);
-      follows = follows B M t h s e d.0 d.1 kept.legal path is can d.2.allowed;
-      only = λ x for_x f. (let only : CanMake s x × Allowed B t.opening t.entries x = act_only B M t h s x for_x.0 for_x.1 is f in
-          d.3 x (record { made = only.0.made ∙ ap (λ k. entry_of k (need_of s) (value_of x)) for_x.0; allowed = only.1 }));
-      after = refl;
-    }
-running_happens B M t h s outcome.Waited kept is run d =
-    record {
-      none = λ x for_x f. (let only : CanMake s x × Allowed B t.opening t.entries x = act_only B M t h s x for_x.0 for_x.1 is f in
-          d x (record { made = only.0.made ∙ ap (λ k. entry_of k (need_of s) (value_of x)) for_x.0; allowed = only.1 }));
-      why = sym (ap (λ o. idle_of o outcome.Waited) is ∙ ap (λ st. idle_in st outcome.Waited) run);
-      after = refl;
-    }
-running_happens B M t h s other kept is run d = absurd d
+running_happens B M t h s o kept is run d = grind (arith, state_of-hart, follows, act_only)
 
 -- a hart that doesn't run does nothing more
 pub over_happens : (B M : ℕ) (t : History) (h : ℕ) (s : HartState) → state_of M t h ≡ Some s → (s.status ≡ status.Running → ⊥) → idle_in s.status outcome.Waited ≡ outcome.Over → Happens B M t (event.Act h) outcome.Over t
@@ -86,48 +63,24 @@ status_happens B M t h s status.Running o kept is run d = running_happens B M t 
 status_happens B M t h s other o kept is run d = over_happens B M t h s is (λ r. cc) (ap (λ x. idle_in x outcome.Waited) run)
 
 act_happens : (B M : ℕ) (t : History) (c : Config) (h : ℕ) (so : Option HartView) → Stands B M t c → ((v : HartView) → so ≡ Some v → v.state.words ≡ M) → option_map view_state so ≡ state_of M t h → Happens B M t (event.Act h) (act_outcome B c h so) (history_after t (act_outcome B c h so))
-act_happens B M t c h None stands words is =
-    record {
-      none = λ x for_x f. none-no_hart B M t h x (sym is) for_x.0 f;
-      why = ap (λ o. idle_of o outcome.Waited) is;
-      after = refl;
-    }
+act_happens B M t c h None stands words is = grind (arith, none-no_hart)
 act_happens B M t c h (Some v) stands words is =
     let range : IsInRange M (need_of v.state) = need_of-in_range M v.state (words v refl) in
     status_happens B M t h v.state v.state.status (outcome_for B c.stored h (need_of v.state)) stands.kept (sym is) refl
     (outcome_for-decided B M t c.stored h (need_of v.state) (Holds-sees M t c.stored h stands.tied.holds) range)
 
 land_none : (B M : ℕ) (t : History) (h : ℕ) → pending h t.entries ≡ [] → NoEntry B M t (event.Land h)
-land_none B M t h empty d is f =
-    let some : 0 < length (pending h t.entries) = subst (Allowed B t.opening t.entries) is (Legal-last B t d f.legal) in
-    let none : length (pending h t.entries) ≡ 0 = ap length empty in
-    absurd (omega arith)
+land_none B M t h empty d is f = grind (arith, Legal-last)
 
 idle_land : (B M : ℕ) (t : History) (h : ℕ) (s : HartState) (st : Status) → state_of M t h ≡ Some s → s.status ≡ st → pending h t.entries ≡ [] → Happens B M t (event.Land h) (land_in [] h (is_over st)) (history_after t (land_in [] h (is_over st)))
-idle_land B M t h s status.Running is run empty =
-    record { none = land_none B M t h empty; why = sym (ap (λ o. idle_of o outcome.NothingToLand) is ∙ ap (λ x. idle_in x outcome.NothingToLand) run); after = refl }
-idle_land B M t h s other is run empty =
-    record { none = land_none B M t h empty; why = sym (ap (λ o. idle_of o outcome.NothingToLand) is ∙ ap (λ x. idle_in x outcome.NothingToLand) run); after = refl }
+idle_land B M t h s st is run empty = grind (arith, land_none)
 
 -- a landing where this is pending
 pub some_land : (B M : ℕ) (t : History) (h : ℕ) (s : HartState) (ps : List Write) → WellFormed B M t → state_of M t h ≡ Some s → ps ≡ pending h t.entries → Happens B M t (event.Land h) (land_in ps h (is_over s.status)) (history_after t (land_in ps h (is_over s.status)))
-some_land B M t h s [] kept is ps = idle_land B M t h s s.status is refl (sym ps)
-some_land B M t h s (p ∷ ps) kept is e =
-    let count : length (p ∷ ps) ≡ length (pending h t.entries) = ap length e in
-    record {
-      for_event = refl;
-      follows = land_follows B M t h kept.legal (kept.paths h (state_of-hart M t h s is)) (omega arith);
-      only = λ x for_x f. for_x;
-      after = refl;
-    }
+some_land B M t h s ps kept is ps8 = grind (arith, idle_land, follows, land_follows, state_of-hart)
 
 land_happens : (B M : ℕ) (t : History) (c : Config) (h : ℕ) (so : Option HartView) → Stands B M t c → option_map view_state so ≡ state_of M t h → Happens B M t (event.Land h) (land_outcome c h so) (history_after t (land_outcome c h so))
-land_happens B M t c h None stands is =
-    record {
-      none = λ x for_x f. none-no_hart B M t h x (sym is) (ap hart_of for_x) f;
-      why = ap (λ o. idle_of o outcome.NothingToLand) is;
-      after = refl;
-    }
+land_happens B M t c h None stands is = grind (arith, none-no_hart)
 land_happens B M t c h (Some v) stands is = some_land B M t h v.state (buffer_of c.stored h) stands.kept (sym is) (stands.tied.holds.buffers h)
 
 -- the outcome of an event is the one that the history allows, and the history goes on by it

@@ -17,14 +17,7 @@ element (x ∷ xs) ys zero lt = refl
 element (x ∷ xs) ys (suc k) lt = element xs ys k (omega arith)
 
 write_counted : (B : ℕ) (o : Start) (before : List Entry) (e : Entry) (es : List Entry) → Allowed B o before e → write_of before e ≡ write_by_count (before ++ e ∷ es) before e
-write_counted B o before e es a = at (access_of e) a
-  where
-    at : (x : Access) → AllowedBy B (pending (hart_of e) before) (read o before (hart_of e)) x → written_by (take 1 (pending (hart_of e) before)) x ≡ written_by (option_to_list (slice_get (stores (hart_of e) (before ++ e ∷ es)) (lands (hart_of e) before))) x
-    at land may =
-        let left : length (pending (hart_of e) before) ≡ length (stores (hart_of e) before) - lands (hart_of e) before = length-drop (lands (hart_of e) before) (stores (hart_of e) before) in
-        element (stores (hart_of e) before) (stores (hart_of e) (e ∷ es)) (lands (hart_of e) before) (omega arith)
-        ∙ ap (λ (ps : List Write). option_to_list (slice_get ps (lands (hart_of e) before))) (sym (stores-append (hart_of e) before (e ∷ es)))
-    at other may = refl
+write_counted B o before e es a = grind (arith, length-drop, element, stores-append)
 
 counted_after : (B : ℕ) (o : Start) (before es : List Entry) → LegalAfter B o before es → landed_after before es ≡ landed_by_count_after (before ++ es) before es
 counted_after B o before [] l = refl

@@ -46,16 +46,13 @@ pub fit_held : (M : ℕ) (o : Start) (c : Config) → FitsIn M o → c ≡ opene
 fit_held M o c fits is = subst (Fit M) (sym is) (fit_opened M o fits)
 
 view_opened : (M : ℕ) (so : Option HartStart) → option_map view_state (option_map (opened_hart M) so) ≡ option_map (opens_as M) so
-view_opened M None = refl
-view_opened M (Some o) = refl
+view_opened M so = grind arith
 
 first_opened : (M : ℕ) (so : Option HartStart) → option_map beginning (option_map (opened_hart M) so) ≡ option_map (opens_as M) so
-first_opened M None = refl
-first_opened M (Some o) = refl
+first_opened M so = grind arith
 
 reports_opened : (M : ℕ) (so : Option HartStart) (v : HartView) → option_map (opened_hart M) so ≡ Some v → v.reports ≡ []
-reports_opened M None v is = cc
-reports_opened M (Some o) v is = let v_is : opened_hart M o ≡ v = cc in sym (ap (λ (w : HartView). w.reports) v_is)
+reports_opened M so v is = grind arith
 
 none_everywhere : (n h : ℕ) → get_or {A = List Write} (replicate n []) h [] ≡ []
 none_everywhere zero h = refl
@@ -73,12 +70,7 @@ zeros_after (x ∷ xs) m zero = refl
 zeros_after (x ∷ xs) m (suc i) = zeros_after xs m i
 
 pub holds_opened : (M : ℕ) (o : Start) (harts : ℕ) → Holds M (unrun o) (opened_stored M o.words harts)
-holds_opened M o harts = record {
-  buffers = λ h. none_everywhere harts h;
-  in_words = All-nil WritesInWord;
-  opens = refl;
-  bytes = λ a is. ap (λ (ws : List ℕ). byte_of (o.words ++ ws) a) (drop-replicate (length o.words) M 0) ∙ ap (byte_at (a % 4)) (zeros_after o.words (M - length o.words) (a / 4));
-}
+holds_opened M o harts = grind (arith, none_everywhere, All-nil, drop-replicate, zeros_after)
 
 pub tied_opened : (M : ℕ) (o : Start) → Represents M (unrun o) (opened_config M o)
 tied_opened M o = record {

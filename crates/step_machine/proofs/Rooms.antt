@@ -25,15 +25,7 @@ same_roomy c h n = record { harts = same_in without_room (λ m v. refl) c.harts 
 
 -- a hart written at h: what a test says of it and of the others
 pub written_at_place : (P : HartView → Type 0) (hs : List HartView) (h k : ℕ) (x v : HartView) → h < length hs → P x → ((w : HartView) → slice_get hs k ≡ Some w → P w) → slice_get (set hs h x) k ≡ Some v → P v
-written_at_place P hs h k x v within here others is = at (k == h) refl
-  where
-    at : (b : Bool) → (k == h) ≡ b → P v
-    at true same =
-        let k_is : k ≡ h = eqb-true k h same in
-        let got : Some x ≡ Some v = sym (slice_get-set_same hs h x within) ∙ subst (λ (j : ℕ). slice_get (set hs h x) j ≡ Some v) k_is is in
-        let x_is : x ≡ v = cc in
-        subst P x_is here
-    at false other = others v (sym (slice_get-set_other hs h k x (eqb-false k h other)) ∙ is)
+written_at_place P hs h k x v within here others is = grind (arith, eqb-true, slice_get-set_same, set, slice_get-set_other, eqb-false)
 
 more_in : (hs : List HartView) (h n r : ℕ) (so : Option HartView) → slice_get hs h ≡ so → AllHaveRoom r hs → AllHaveRoom r (roomy_in hs h n so)
 more_in hs h n r None is all = all
@@ -46,11 +38,7 @@ pub more_roomy : (hs : List HartView) (h n r : ℕ) → AllHaveRoom r hs → All
 more_roomy hs h n r all = more_in hs h n r (slice_get hs h) refl all
 
 has_in : (hs : List HartView) (h n : ℕ) (v : HartView) (so : Option HartView) → slice_get hs h ≡ so → slice_get (roomy_in hs h n so) h ≡ Some v → n ≤ v.room
-has_in hs h n v None is got = let none : None ≡ Some v = sym is ∙ got in cc
-has_in hs h n v (Some x) is got =
-    let some : Some (roomy n x) ≡ Some v = sym (slice_get-set_same hs h (roomy n x) (slice_get_within hs h x is)) ∙ got in
-    let v_is : roomy n x ≡ v = cc in
-    subst (λ (w : HartView). n ≤ w.room) v_is (omega arith)
+has_in hs h n v so is got = grind (arith, slice_get-set_same, slice_get_within)
 
 -- the harts before the i-th have room for n steps
 abbrev pub RoomBelow : ℕ → ℕ → List HartView → Type 0
@@ -62,13 +50,7 @@ below_in hs i n (Some x) is below = λ k v lt got.
     written_at_place (λ (w : HartView). n ≤ w.room) hs i k (roomy n x) v (slice_get_within hs i x is) (omega arith) (λ w here. below k w lt here) got
 
 pub room_below_more : (hs : List HartView) (i n : ℕ) → RoomBelow i n hs → RoomBelow (i + 1) n (roomy_at hs i n)
-room_below_more hs i n below k v lt got = at (k == i) refl
-  where
-    at : (b : Bool) → (k == i) ≡ b → n ≤ v.room
-    at true same = has_in hs i n v (slice_get hs i) refl (subst (λ (j : ℕ). slice_get (roomy_at hs i n) j ≡ Some v) (eqb-true k i same) got)
-    at false other =
-        let ne : k ≡ i → ⊥ = eqb-false k i other in
-        below_in hs i n (slice_get hs i) refl below k v (omega arith) got
+room_below_more hs i n below k v lt got = grind (arith, has_in, eqb-true, eqb-false, below_in)
 
 pub room_below_next : (c d : Config) (i n : ℕ) → d ≡ record c { harts = roomy_at c.harts i n } → RoomBelow i n c.harts → RoomBelow (i + 1) n d.harts
 room_below_next c d i n is below = subst (λ (k : Config). RoomBelow (i + 1) n k.harts) (sym is) (room_below_more c.harts i n below)

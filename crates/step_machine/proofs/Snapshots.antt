@@ -50,15 +50,12 @@ saved_next (w ∷ hs) (y ∷ ss) (suc i) v x are is saved = (are.0, saved_next h
 
 pub saved_more : (hs : List HartView) (ss rs : List SavedHart) (i : ℕ) (v : HartView) (x : SavedHart) → AreSaved (take i hs) ss → i < length hs
     → v ≡ get_or hs i v → IsSavedOf v x → rs ≡ ss ++ x ∷ [] → AreSaved (take (i + 1) hs) rs
-saved_more hs ss rs i v x are within v_is saved more =
-    let next : suc i ≡ i + 1 = omega arith in
-    subst (AreSaved (take (i + 1) hs)) (sym more) (subst (λ (n : ℕ). AreSaved (take n hs) (ss ++ x ∷ [])) next (saved_next hs ss i v x are (slice_get_read hs (length hs) i v refl within v_is) saved))
+saved_more hs ss rs i v x are within v_is saved more = grind (arith, saved_next, slice_get_read)
 
 -- ---- a hart has gone on since
 
 same_first : (so to : Option HartView) (v w : HartView) → option_map beginning so ≡ option_map beginning to → so ≡ Some v → to ≡ Some w → v.first ≡ w.first
-same_first so to v w same is_v is_w =
-    let both : Some v.first ≡ Some w.first = sym (ap (option_map beginning) is_v) ∙ same ∙ ap (option_map beginning) is_w in cc
+same_first so to v w same is_v is_w = grind arith
 
 same_code : (M k : ℕ) (t : History) (h : ℕ) (so : Option HartStart) (r s : HartState) → slice_get t.opening.harts h ≡ so → state_of M t h ≡ Some r
     → state_of M (up_to k t) h ≡ Some s → r.code ≡ s.code
@@ -94,16 +91,11 @@ same_restored f (v ∷ hs) (w ∷ ws) (x ∷ ss) are count same =
     ∙ ap (λ ys. f w ∷ ys) (same_restored f hs ws ss are.1 (omega arith) (λ h r s y. same (suc h) r s y))
 
 same_seen : (v w : HartView) (x : SavedHart) → IsSavedOf w x → HasGoneOn w v → without_room (put_back v x) ≡ without_room w
-same_seen v w x saved on =
-    ap (λ (s : HartState). (s, (put_back v x).reports)) (state_again w v x saved on)
-    ∙ ap (λ (rs : List Report). (w.state, rs)) (reports_again w v x saved on)
+same_seen v w x saved on = grind (arith, state_again, reports_again)
 
 same_stored : (s : Taken) (a b : Stored) → a.first ≡ b.first → s.buffers ≡ b.buffers → s.words ++ drop (length s.words) b.first ≡ b.words
     → restored_stored s.buffers s.words a ≡ b
-same_stored s a b first buffers words =
-    ap (λ (f : List ℕ). record { buffers = s.buffers; words = s.words ++ drop (length s.words) f; first = f }) first
-    ∙ ap (λ (bs : List (List Write)). record { buffers = bs; words = s.words ++ drop (length s.words) b.first; first = b.first }) buffers
-    ∙ ap (λ (ws : List ℕ). record { buffers = b.buffers; words = ws; first = b.first }) words
+same_stored s a b first buffers words = grind arith
 
 same_again : (B M n k : ℕ) (t : History) (c d : Config) (s : Taken) → IsMachineAt B M t c n → IsMachineAt B M (up_to k t) d 0 → IsSavedFrom M d s
     → SameButRoom d (restored_config s c)
@@ -161,14 +153,7 @@ pending_back B M t s taken = subst (All (λ (ps : List Write). All (HasAddress M
 
 pub fit_stored_back : (M : ℕ) (bs : List (List Write)) (ws : List ℕ) (s : Stored) → FitStored M s → length ws ≤ M
     → All (λ (ps : List Write). All (HasAddress M) ps) bs → FitStored M (restored_stored bs ws s)
-fit_stored_back M bs ws s fit few pending = record {
-  words = (let joined : length (ws ++ drop (length ws) s.first) ≡ length ws + length (drop (length ws) s.first) = length-append ws (drop (length ws) s.first) in
-      let left : length (drop (length ws) s.first) ≡ length s.first - length ws = length-drop (length ws) s.first in
-      let all : length s.first ≡ M = fit.first in
-      omega arith);
-  first = fit.first;
-  pending = pending;
-}
+fit_stored_back M bs ws s fit few pending = grind (arith, length-append, length-drop)
 
 pub fit_back : (M : ℕ) (c : Config) (s : Taken) → Fit M c → length s.buffers ≡ length c.stored.buffers → length s.words ≤ M
     → All (λ (ps : List Write). All (HasAddress M) ps) s.buffers → Fit M (restored_config s c)

@@ -36,15 +36,11 @@ same_without_room : (c d : Config) (h : ℕ) → SameButRoom c d → option_map 
 same_without_room c d h same = without_room_at d h ∙ ap (λ (ts : List (HartState × List Report)). slice_get ts h) same.harts ∙ sym (without_room_at c h)
 
 same_states : (so to : Option HartView) → option_map without_room so ≡ option_map without_room to → option_map view_state so ≡ option_map view_state to
-same_states None None is = refl
-same_states None (Some y) is = cc
-same_states (Some x) None is = cc
-same_states (Some x) (Some y) is = let both : without_room x ≡ without_room y = cc in ap (λ (p : HartState × List Report). Some p.0) both
+same_states so to is = grind arith
 
 -- what is so of a hart is so of another that looks the same
 same_at : {X : Type 0} (f : HartView → X) (P : X → Type 0) (so : Option HartView) (v : HartView) → option_map f so ≡ Some (f v) → ((w : HartView) → so ≡ Some w → P (f w)) → P (f v)
-same_at f P None v is all = cc
-same_at f P (Some x) v is all = let both : f x ≡ f v = cc in subst P both (all x refl)
+same_at f P so v is all = grind arith
 
 pub tied_same : (M : ℕ) (t : History) (c d : Config) → Represents M t c → SameButRoom c d → Represents M t d
 tied_same M t c d tied same = record {
@@ -68,13 +64,10 @@ less_room : (hs : List HartView) (n : ℕ) → AllHaveRoom n hs → AllHaveRoom 
 less_room hs n all h v is = let some : n ≤ v.room = all h v is in omega arith
 
 entry_room : (c : Config) (e : Entry) (n : ℕ) → AllHaveRoom n c.harts → AllHaveRoom (n - 1) (after_entry c e).harts
-entry_room c (entry.Land h) n all = less_room c.harts n all
-entry_room c other n all =
-    step_room c.harts (hart_of other) (value_of other) n (slice_get c.harts (hart_of other)) refl all
+entry_room c e n all = grind (arith, less_room, step_room)
 
 entry_count : (c : Config) (e : Entry) → length (after_entry c e).harts ≡ length c.harts
-entry_count c (entry.Land h) = refl
-entry_count c other = length-step_at c.harts (hart_of other) (value_of other) (slice_get c.harts (hart_of other))
+entry_count c e = grind (arith, length-step_at)
 
 -- openings
 
@@ -108,14 +101,7 @@ fit_same M c d fit same = record {
 }
 
 pub sound_same : (B M n m : ℕ) (t : History) (c d : Config) → IsMachineAt B M t c n → SameButRoom c d → AllHaveRoom m d.harts → IsMachineAt B M t d m
-sound_same B M n m t c d sound same room = record {
-  fits = sound.fits;
-  kept = sound.kept;
-  tied = tied_same M t c d sound.tied same;
-  fit = fit_same M c d sound.fit same;
-  count = same-length c d same ∙ sound.count;
-  room = room;
-}
+sound_same B M n m t c d sound same room = grind (arith, tied_same, fit_same, same-length)
 
 -- steps
 
@@ -126,15 +112,7 @@ still : (B M n : ℕ) (t : History) (c : Config) → IsMachineAt B M t c n → I
 still B M n t c sound = record { fits = sound.fits; kept = sound.kept; tied = sound.tied; fit = sound.fit; count = sound.count; room = less_room c.harts n sound.room }
 
 sound_outcome : (B M n : ℕ) (t : History) (c : Config) (ev : Event) (o : Outcome) → IsMachineAt B M t c n → Happens B M t ev o (history_after t o) → Fit M (after_outcome c o) → IsMachineAt B M (history_after t o) (after_outcome c o) (n - 1)
-sound_outcome B M n t c ev (outcome.Did e) sound adds fit = record {
-  fits = sound.fits;
-  kept = kept_after B M t e sound.kept adds.follows;
-  tied = carried B M t c e sound.kept sound.tied sound.fit adds.follows;
-  fit = fit;
-  count = entry_count c e ∙ sound.count;
-  room = entry_room c e n sound.room;
-}
-sound_outcome B M n t c ev other sound idles fit = still B M n t c sound
+sound_outcome B M n t c ev o sound adds fit = grind (arith, kept_after, carried, entry_count, entry_room, still)
 
 pub sound_held : (B M : ℕ) (o : Start) (es : List Entry) (c : Config) → FitsIn M o → es ≡ [] → c ≡ opened_config M o → IsMachineAt B M (record { opening = o; entries = es }) c 0
 sound_held B M o es c fits none is =

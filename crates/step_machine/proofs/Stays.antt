@@ -47,44 +47,24 @@ slice_get-set_other (x ∷ xs) (suc i) (suc k) y ne = slice_get-set_other xs i k
 -- the harts after one of them stepped
 
 step_at-same : (hs : List HartView) (h v : ℕ) (so : Option HartView) → slice_get hs h ≡ so → slice_get (step_at hs h v so) h ≡ option_map (λ (x : HartView). stepped x v) so
-step_at-same hs h v None is = is
-step_at-same hs h v (Some x) is = slice_get-set_same hs h (stepped x v) (slice_get_within hs h x is)
+step_at-same hs h v so is = grind (arith, slice_get-set_same, slice_get_within)
 
 step_at-other : (hs : List HartView) (h v k : ℕ) (so : Option HartView) → (k ≡ h → ⊥) → slice_get (step_at hs h v so) k ≡ slice_get hs k
-step_at-other hs h v k None ne = refl
-step_at-other hs h v k (Some x) ne = slice_get-set_other hs h k (stepped x v) ne
+step_at-other hs h v k so ne = grind (arith, slice_get-set_other)
 
 map_stepped : (v : ℕ) (so : Option HartView) → option_map view_state (option_map (λ (x : HartView). stepped x v) so) ≡ option_map (λ (s : HartState). advanced s v) (option_map view_state so)
-map_stepped v None = refl
-map_stepped v (Some x) = refl
+map_stepped v so = grind arith
 
 own_is : (h k : ℕ) (e : Entry) (b : Bool) → hart_of e ≡ h → (h == k) ≡ b → is_own k e ≡ (b && not (is_land e))
 own_is h k e b mine is = let at : (hart_of e == k) ≡ b = subst (λ (g : ℕ). (g == k) ≡ b) (sym mine) is in ap (λ c. c && not (is_land e)) at
 
 -- the states after hart h made an entry e of its own and its list of harts stepped at h by what e read
 pub states_stay : (M : ℕ) (t : History) (c : Config) (h : ℕ) (e : Entry) → Represents M t c → hart_of e ≡ h → is_land e ≡ false → (k : ℕ) → option_map view_state (slice_get (step_hart c h (value_of e)) k) ≡ state_of M (with_entry t e) k
-states_stay M t c h e tied mine act k = at (k == h) refl
-  where
-    at : (b : Bool) → (k == h) ≡ b → option_map view_state (slice_get (step_hart c h (value_of e)) k) ≡ state_of M (with_entry t e) k
-    at true is =
-        let same : k ≡ h = eqb-true k h is in
-        subst (λ (j : ℕ). option_map view_state (slice_get (step_hart c h (value_of e)) j) ≡ state_of M (with_entry t e) j) (sym same)
-        (ap (option_map view_state) (step_at-same c.harts h (value_of e) (slice_get c.harts h) refl)
-        ∙ map_stepped (value_of e) (slice_get c.harts h)
-        ∙ ap (option_map (advance_by e)) (tied.states h)
-        ∙ sym (state_of-mine M t h e mine act))
-    at false is =
-        let ne : k ≡ h → ⊥ = eqb-false k h is in
-        let other : is_own k e ≡ false = own_is h k e false mine (ne_eqb h k (λ q. ne (sym q))) in
-        ap (option_map view_state) (step_at-other c.harts h (value_of e) k (slice_get c.harts h) ne) ∙ tied.states k ∙ sym (state_of-other M t k e other)
+states_stay M t c h e tied mine act k = grind (arith, eqb-true, step_at-same, map_stepped, advance_by, state_of-mine, eqb-false, own_is, ne_eqb, step_at-other, state_of-other)
 
 -- a landing leaves every hart's state
 pub states_land : (M : ℕ) (t : History) (h k : ℕ) → state_of M (with_entry t (entry.Land h)) k ≡ state_of M t k
-states_land M t h k = state_of-other M t k (entry.Land h) (own_is h k (entry.Land h) (h == k) refl refl ∙ and_no (h == k))
-  where
-    and_no : (b : Bool) → b && false ≡ false
-    and_no true = refl
-    and_no false = refl
+states_land M t h k = grind (arith, state_of-other, own_is)
 
 -- where the harts opened
 
@@ -109,54 +89,20 @@ if_self : {X : Type 0} (h : ℕ) (x y : X) → (if h == h then x else y) ≡ x
 if_self h x y = ap (λ b. if b then x else y) (eq-eqb h h refl)
 
 pub reports_after-entry : (rs : List Report) (n : Need) (h v : ℕ) → reports_after rs n ≡ rs ++ report_of h (entry_of h n v)
-reports_after-entry rs (need.Report (report.Took i w)) h v = ap (λ (x : List Report). rs ++ x) (sym (if_self h (report.Took i w ∷ []) []))
-reports_after-entry rs (need.Report (report.Closed i)) h v = ap (λ (x : List Report). rs ++ x) (sym (if_self h (report.Closed i ∷ []) []))
-reports_after-entry rs other h v = sym (append-nil rs)
+reports_after-entry rs n h v = grind (arith, if_self, append-nil)
 
 pub report_of-other : (k : ℕ) (e : Entry) → (hart_of e == k) ≡ false → report_of k e ≡ []
-report_of-other k (entry.Took g i w) ne = ap (λ b. if b then report.Took i w ∷ [] else []) ne
-report_of-other k (entry.Closed g i) ne = ap (λ b. if b then report.Closed i ∷ [] else []) ne
-report_of-other k other ne = refl
+report_of-other k e ne = grind arith
 
 -- the reports after hart h, in state s, made e
 pub reports_stay : (M : ℕ) (t : History) (c : Config) (h : ℕ) (e : Entry) (s : HartState) → Represents M t c → hart_of e ≡ h → state_of M t h ≡ Some s → e ≡ entry_of h (need_of s) (value_of e) → (k : ℕ) (w : HartView) → slice_get (step_hart c h (value_of e)) k ≡ Some w → w.reports ≡ reported k (with_entry t e).entries
-reports_stay M t c h e s tied mine is made k w here = at (k == h) refl
-  where
-    mine_at : (so : Option HartView) → slice_get c.harts h ≡ so → slice_get (step_hart c h (value_of e)) h ≡ Some w → w.reports ≡ reported h (t.entries ++ e ∷ [])
-    mine_at None none some = let got : slice_get (step_hart c h (value_of e)) h ≡ None = step_at-same c.harts h (value_of e) (slice_get c.harts h) refl ∙ ap (option_map (λ (x : HartView). stepped x (value_of e))) none in cc
-    mine_at (Some x) found some =
-        let got : slice_get (step_hart c h (value_of e)) h ≡ Some (stepped x (value_of e)) = step_at-same c.harts h (value_of e) (slice_get c.harts h) refl ∙ ap (option_map (λ (y : HartView). stepped y (value_of e))) found in
-        let stepped_is : w ≡ stepped x (value_of e) = cc in
-        let state_is : Some x.state ≡ Some s = sym (ap (option_map view_state) found) ∙ tied.states h ∙ is in
-        let state : x.state ≡ s = cc in
-        ap (λ (y : HartView). y.reports) stepped_is
-        ∙ reports_after-entry x.reports (need_of x.state) h (value_of e)
-        ∙ ap (λ (r : HartState). x.reports ++ report_of h (entry_of h (need_of r) (value_of e))) state
-        ∙ ap (λ (d : Entry). x.reports ++ report_of h d) (sym made)
-        ∙ ap (λ (rs : List Report). rs ++ report_of h e) (tied.reports h x found)
-        ∙ sym (reported-last h t.entries e)
-
-    at : (b : Bool) → (k == h) ≡ b → w.reports ≡ reported k (t.entries ++ e ∷ [])
-    at true same =
-        let k_is : k ≡ h = eqb-true k h same in
-        subst (λ (j : ℕ). w.reports ≡ reported j (t.entries ++ e ∷ [])) (sym k_is) (mine_at (slice_get c.harts h) refl (subst (λ (j : ℕ). slice_get (step_hart c h (value_of e)) j ≡ Some w) k_is here))
-    at false other =
-        let ne : k ≡ h → ⊥ = eqb-false k h other in
-        let none : report_of k e ≡ [] = report_of-other k e (subst (λ (g : ℕ). (g == k) ≡ false) (sym mine) (ne_eqb h k (λ q. ne (sym q)))) in
-        tied.reports k w (sym (step_at-other c.harts h (value_of e) k (slice_get c.harts h) ne) ∙ here)
-        ∙ sym (append-nil (reported k t.entries))
-        ∙ ap (λ (rs : List Report). reported k t.entries ++ rs) (sym none)
-        ∙ sym (reported-last k t.entries e)
+reports_stay M t c h e s tied mine is made k w here = grind (arith, step_at-same, reports_after-entry, reported-last, eqb-true, eqb-false, report_of-other, ne_eqb, step_at-other, append-nil)
 
 -- buffers
 
 -- an entry that neither stores nor lands leaves what is pending
 pub pending-other : (B : ℕ) (t : History) (k : ℕ) (e : Entry) → Legal B t → store_of k e ≡ [] → land_of k e ≡ 0 → pending k (t.entries ++ e ∷ []) ≡ pending k t.entries
-pending-other B t k e legal no_store no_land =
-    pending-last k t.entries e (balanced B t k legal)
-    ∙ ap (λ n. drop n (pending k t.entries ++ store_of k e)) no_land
-    ∙ ap (λ ps. pending k t.entries ++ ps) no_store
-    ∙ append-nil (pending k t.entries)
+pending-other B t k e legal no_store no_land = grind (arith, pending-last, balanced, append-nil)
 
 -- a store joins what is pending of its hart at the end
 pub pending-store : (B : ℕ) (t : History) (h a width v : ℕ) → Legal B t → pending h (t.entries ++ entry.Store h a width v ∷ []) ≡ pending h t.entries ++ write a width v ∷ []
@@ -164,10 +110,7 @@ pending-store B t h a width v legal = pending-last h t.entries (entry.Store h a 
 
 -- a landing takes the first of what is pending of its hart
 pub pending-land : (B : ℕ) (t : History) (h : ℕ) → Legal B t → pending h (t.entries ++ entry.Land h ∷ []) ≡ drop 1 (pending h t.entries)
-pending-land B t h legal =
-    pending-last h t.entries (entry.Land h) (balanced B t h legal)
-    ∙ ap (λ n. drop n (pending h t.entries ++ [])) (if_self h 1 0)
-    ∙ ap (drop 1) (append-nil (pending h t.entries))
+pending-land B t h legal = grind (arith, pending-last, balanced, if_self, append-nil)
 
 pub store_of-other : (h k a width v : ℕ) → (k ≡ h → ⊥) → store_of k (entry.Store h a width v) ≡ []
 store_of-other h k a width v ne = ap (λ b. if b then write a width v ∷ [] else []) (ne_eqb h k (λ q. ne (sym q)))
@@ -177,15 +120,7 @@ land_of-other h k ne = ap (λ b. if b then 1 else 0) (ne_eqb h k (λ q. ne (sym 
 
 -- a buffer written at h is what is pending, where it is so at h, and the others stay
 pub buffers_stay : (M : ℕ) (t : History) (c : Stored) (h : ℕ) (ps : List Write) (e : Entry) → Holds M t c → h < length c.buffers → ps ≡ pending h (t.entries ++ e ∷ []) → ((k : ℕ) → (k ≡ h → ⊥) → pending k (t.entries ++ e ∷ []) ≡ pending k t.entries) → (k : ℕ) → get_or (set c.buffers h ps) k [] ≡ pending k (t.entries ++ e ∷ [])
-buffers_stay M t c h ps e tied within here others k = at (k == h) refl
-  where
-    at : (b : Bool) → (k == h) ≡ b → get_or (set c.buffers h ps) k [] ≡ pending k (t.entries ++ e ∷ [])
-    at true same =
-        let k_is : k ≡ h = eqb-true k h same in
-        subst (λ (j : ℕ). get_or (set c.buffers h ps) j [] ≡ pending j (t.entries ++ e ∷ [])) (sym k_is) (get_or-set_same c.buffers h ps [] within ∙ here)
-    at false other =
-        let ne : k ≡ h → ⊥ = eqb-false k h other in
-        get_or-set_other c.buffers h k ps [] ne ∙ tied.buffers k ∙ sym (others k ne)
+buffers_stay M t c h ps e tied within here others k = grind (arith, set, eqb-true, get_or-set_same, eqb-false, get_or-set_other)
 
 -- what landed
 
@@ -204,19 +139,8 @@ memory_byte-other o es e a none = ap (λ ws. unwrap_or (newest_of a None ws) (op
 
 -- an entry that writes changes the bytes that its write covers
 pub memory_byte-write : (o : Start) (es : List Entry) (e : Entry) (w : Write) (a : ℕ) → write_of es e ≡ w ∷ [] → memory_byte o (es ++ e ∷ []) a ≡ byte_after w a (memory_byte o es a)
-memory_byte-write o es e w a is =
-    ap (λ ws. unwrap_or (newest_of a None ws) (opening_byte o a)) (landed-last es e ∙ ap (λ ws. landed es ++ ws) is)
-    ∙ ap (λ b. unwrap_or b (opening_byte o a)) (newest_of-append a None (landed es) (w ∷ []))
-    ∙ chosen (covers w a)
-  where
-    chosen : (b : Bool) → unwrap_or (if b then Some (byte_at (a - w.addr) w.value) else newest_of a None (landed es)) (opening_byte o a) ≡ (if b then byte_at (a - w.addr) w.value else memory_byte o es a)
-    chosen true = refl
-    chosen false = refl
+memory_byte-write o es e w a is = grind (arith, landed-last, newest_of-append)
 
 -- words after a write say what memory says after it
 pub bytes_stay : (M : ℕ) (t : History) (c : Stored) (e : Entry) (w : Write) → Holds M t c → length c.words ≡ M → HasAddress M w → write_of t.entries e ≡ w ∷ [] → (a : ℕ) → a < 4 * M → byte_of (written w c.words) a ≡ memory_byte t.opening (t.entries ++ e ∷ []) a
-bytes_stay M t c e w tied count place is a below =
-    let within : w.addr < 4 * M = place.1 in
-    byte_of-write c.words w a place.0 (omega arith)
-    ∙ ap (byte_after w a) (tied.bytes a below)
-    ∙ sym (memory_byte-write t.opening t.entries e w a is)
+bytes_stay M t c e w tied count place is a below = grind (arith, byte_of-write, memory_byte-write)

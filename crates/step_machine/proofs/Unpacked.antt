@@ -13,19 +13,11 @@ use Rattle.step_machine.specs.inner.Packed.{IsBalanced, IsSingle, IsLonger, numb
 -- a head's entry stays where more numbers and plain entries come after its own
 entry_stays : (h : Head) (ns ms : List ℕ) (ps qs : List Entry) → numbers_of h ≤ length ns → plain_of h ≤ length ps
     → entry_of h (ns ++ ms) (ps ++ qs) ≡ entry_of h ns ps
-entry_stays (head.Load h a) ns ms ps qs n p = rw (get_or-append ns ms 0 0 (omega arith))
-entry_stays (head.Store h a) ns ms ps qs n p = rw (get_or-append ns ms 0 0 (omega arith))
-entry_stays (head.Amo h a) ns ms ps qs n p =
-    rw (get_or-append ns ms 0 0 (omega arith), get_or-append ns ms 0 1 (omega arith))
-entry_stays (head.Next h) ns ms ps qs n p = rw (get_or-append ns ms 0 0 (omega arith))
-entry_stays (head.Took h sender) ns ms ps qs n p = rw (get_or-append ns ms 0 0 (omega arith))
-entry_stays head.Plain ns ms ps qs n p = get_or-append ps qs (entry.Inner 0) 0 (omega arith)
-entry_stays other ns ms ps qs n p = refl
+entry_stays h ns ms ps qs n p = grind (arith, get_or-append)
 
 unpacked_push : (hs : List Head) (ns ms : List ℕ) (ps qs : List Entry) (h : Head) → IsBalanced hs ns ps
     → unpacked (hs ++ h ∷ []) (ns ++ ms) (ps ++ qs) ≡ unpacked hs ns ps ++ row_of h ms qs
-unpacked_push [] ns ms ps qs h b =
-    rw (nil_from_length ns (sym b.numbers), nil_from_length ps (sym b.plain)) (append-nil (row_of h ms qs))
+unpacked_push [] ns ms ps qs h b = grind (arith, nil_from_length, append-nil)
 unpacked_push (g ∷ hs) ns ms ps qs h b =
     let n : numbers_of g ≤ length ns = omega (arith, b.numbers, sum_by-cons numbers_of g hs) in
     let p : plain_of g ≤ length ps = omega (arith, b.plain, sum_by-cons plain_of g hs) in
@@ -90,30 +82,18 @@ dropped_to {hs} {ns} {ps} h n p b ha nm pm single ln lp =
 
 longer_row : (h : Head) (e : Entry) (l : Head) (ns : List ℕ) (ps : List Entry) → IsLonger h e l
     → row_of l ns ps ≡ row_of h ns ps ++ e ∷ []
-longer_row h e l ns ps is =
-    ap₂ (λ x k. x ∷ replicate k x) (is.same ns ps) is.further
-    ∙ ap (λ es. e ∷ es) (sym (replicate_more (further_of h) e))
-    ∙ ap (λ x. (x ∷ replicate (further_of h) x) ++ e ∷ []) (sym (is.first ns ps))
+longer_row h e l ns ps is = grind (arith, ap₂, replicate_more)
 
 longer_last : (hs : List Head) (h : Head) (e : Entry) (l : Head) (ns : List ℕ) (ps : List Entry) → IsLonger h e l
     → unpacked (hs ++ l ∷ []) ns ps ≡ unpacked (hs ++ h ∷ []) ns ps ++ e ∷ []
-longer_last [] h e l ns ps is =
-    append-nil (row_of l ns ps) ∙ longer_row h e l ns ps is ∙ ap (λ es. es ++ e ∷ []) (sym (append-nil (row_of h ns ps)))
-longer_last (g ∷ hs) h e l ns ps is =
-    let rest : List Entry = unpacked (hs ++ h ∷ []) (drop (numbers_of g) ns) (drop (plain_of g) ps) in
-    ap (λ es. row_of g ns ps ++ es) (longer_last hs h e l (drop (numbers_of g) ns) (drop (plain_of g) ps) is)
-    ∙ sym (append_assoc (row_of g ns ps) rest (e ∷ []))
+longer_last [] h e l ns ps is = grind (arith, append-nil, longer_row)
+longer_last (g ∷ hs) h e l ns ps is = grind (arith, append_assoc, longer_last hs h e l)
 
 -- a head that takes as many numbers and plain entries in another's place
 balanced_instead : {all more : List Head} {ns : List ℕ} {ps : List Entry} (hs : List Head) (g h : Head)
     → all ≡ hs ++ g ∷ [] → more ≡ hs ++ h ∷ [] → numbers_of h ≡ numbers_of g → plain_of h ≡ plain_of g
     → IsBalanced all ns ps → IsBalanced more ns ps
-balanced_instead {ns} {ps} hs g h ha hm n p b =
-    let c : IsBalanced (hs ++ g ∷ []) ns ps = subst (λ gs. IsBalanced gs ns ps) ha b in
-    rw hm (record {
-      numbers = omega (arith, c.numbers, sum_by_push numbers_of hs g, sum_by_push numbers_of hs h, n);
-      plain = omega (arith, c.plain, sum_by_push plain_of hs g, sum_by_push plain_of hs h, p);
-    })
+balanced_instead hs g h ha hm n p b = grind (arith, sum_by_push)
 
 -- with a longer last row
 pub lengthened_to : {all more : List Head} {h l : Head} {e : Entry} {ns : List ℕ} {ps : List Entry} (hs : List Head)

@@ -17,9 +17,7 @@ use Rattle.step_machine.proofs.Appended.{landed-last}
 use Rattle.step_machine.specs.WordReads.{WritesWord, AllWriteWords, OpensWithWords, word_in_memory, word_read}
 
 store_whole : (b : Bool) (x : Access) → WritesWord x → All IsWholeWord (stored_by b x)
-store_whole true (store w) is = All-cons IsWholeWord w [] is (All-nil IsWholeWord)
-store_whole false (store w) is = All-nil IsWholeWord
-store_whole b other is = All-nil IsWholeWord
+store_whole b x is = grind (arith, All-cons, All-nil)
 
 pub stores_whole : (h : ℕ) (es : List Entry) → AllWriteWords es → All IsWholeWord (stores h es)
 stores_whole h [] all = All-nil IsWholeWord
@@ -29,9 +27,7 @@ pub pending_whole : (h : ℕ) (es : List Entry) → AllWriteWords es → All IsW
 pending_whole h es all = All-drop IsWholeWord (lands h es) (stores h es) (stores_whole h es all)
 
 write_whole : (oldest : List Write) (x : Access) → All IsWholeWord oldest → WritesWord x → All IsWholeWord (written_by oldest x)
-write_whole oldest (exchange a old new) all is = All-cons IsWholeWord (write a 4 new) [] is (All-nil IsWholeWord)
-write_whole oldest land all is = all
-write_whole oldest other all is = All-nil IsWholeWord
+write_whole oldest x all is = grind (arith, All-cons, All-nil)
 
 pub AllWriteWords-append : (es fs : List Entry) → AllWriteWords es → AllWriteWords fs → AllWriteWords (es ++ fs)
 AllWriteWords-append [] fs all more = more
@@ -48,17 +44,11 @@ landed_whole es all = landed_after_whole [] es tt all
 
 -- a byte of the opening, of the word around it
 opening_at : (o : Start) (a i : ℕ) → a % 4 ≡ 0 → i < 4 → opening_byte o (a + i) ≡ byte_at i (slice_index o.words (a / 4))
-opening_at o a i aligned lt =
-    let word : (a + i) / 4 ≡ a / 4 = omega arith in
-    let byte : (a + i) % 4 ≡ i = omega arith in
-    ap (λ q. byte_at ((a + i) % 4) (slice_index o.words q)) word ∙ ap (λ j. byte_at j (slice_index o.words (a / 4))) byte
+opening_at o a i aligned lt = grind arith
 
 -- what a hart reads by bytes is the word
 pub read-word : (o : Start) (es : List Entry) (h a : ℕ) → OpensWithWords o → AllWriteWords es → a % 4 ≡ 0 → read o es h a 4 ≡ word_read o es h a
-read-word o es h a opens all aligned =
-    joined-same (λ i. read_byte o es h (a + i)) (λ i. unwrap_or (newest_of (a + i) None (pending h es)) (unwrap_or (newest_of (a + i) None (landed es)) (byte_at i (slice_index o.words (a / 4))))) 4
-    (λ i lt. ap (λ b. unwrap_or (newest_of (a + i) None (pending h es)) (unwrap_or (newest_of (a + i) None (landed es)) b)) (opening_at o a i aligned lt))
-    ∙ word_reads a (slice_index o.words (a / 4)) (landed es) (pending h es) aligned (opens (a / 4)) (landed_whole es all) (pending_whole h es all)
+read-word o es h a opens all aligned = grind (arith, joined-same, opening_at, word_reads, landed_whole, pending_whole)
 
 -- and so is the word of memory
 pub memory-word : (o : Start) (es : List Entry) (a : ℕ) → OpensWithWords o → AllWriteWords es → a % 4 ≡ 0 → memory_word o es a ≡ word_in_memory o es a
@@ -73,11 +63,4 @@ pub word_in_memory-other : (o : Start) (es : List Entry) (e : Entry) (a : ℕ) �
 word_in_memory-other o es e a none = ap (λ ws. unwrap_or (newest_word a None ws) (slice_index o.words (a / 4))) (landed-last es e ∙ ap (λ ws. landed es ++ ws) none ∙ append-nil (landed es))
 
 pub word_in_memory-write : (o : Start) (es : List Entry) (e : Entry) (w : Write) (a : ℕ) → write_of es e ≡ w ∷ [] → word_in_memory o (es ++ e ∷ []) a ≡ (if w.addr == a then w.value else word_in_memory o es a)
-word_in_memory-write o es e w a is =
-    ap (λ ws. unwrap_or (newest_word a None ws) (slice_index o.words (a / 4))) (landed-last es e ∙ ap (λ ws. landed es ++ ws) is)
-    ∙ ap (λ v. unwrap_or v (slice_index o.words (a / 4))) (newest_word-last a None (landed es) w)
-    ∙ chosen (w.addr == a)
-  where
-    chosen : (b : Bool) → unwrap_or (if b then Some w.value else newest_word a None (landed es)) (slice_index o.words (a / 4)) ≡ (if b then w.value else word_in_memory o es a)
-    chosen true = refl
-    chosen false = refl
+word_in_memory-write o es e w a is = grind (arith, landed-last, newest_word-last)
