@@ -1,5 +1,5 @@
 -- No text of a picture's row stands on another text or on a stroke.
-use Rattle.std.proofs.Common.{◌≡◌, ℕ, suc, ◌+◌, ◌-◌, ◌*◌, ◌<◌, ◌≤◌, ◌^◌, min, Bool, true, false, cond, if◌then◌else◌}
+use Rattle.std.proofs.Common.{◌≡◌, ℕ, suc, ◌+◌, ◌-◌, ◌*◌, ◌<◌, ◌≤◌, ◌^◌, Bool, true, false, cond, if◌then◌else◌}
 use Rattle.std.proofs.Common.{◌⊎◌, inl, inr, List, [], ◌∷◌, ◌++◌, length, map, Option, Some, None, All, refl, ap, subst, arith}
 use Rattle.std.specs.Prelude.{nat_lt, nat_le, ◌&&◌, option_map, IfSome}
 use Rattle.std.specs.List.{slice_index_or, flat_map, list_any}
@@ -246,12 +246,11 @@ strokes_avoid p column cells r l shown short placed =
     (passing_avoid p from behind r.sources l.passing beside)
 
 pub row_clear : (p : PlacesOf) (i column : ℕ) (said kept : List ℕ) (r : RowOf) (l : LanedOf) → i + 1 < 10 ^ 7 → rank p column < columns p →
-    length said ≤ 255 → length said ≤ p.text → IsPlacedIn p column l → IsClear (row_line p i column said kept r l)
-row_clear p i column said kept r l few shown whole short placed =
-    let cells : min (length said) 255 ≡ length said = omega (whole, arith) in
+    length said ≤ p.text → IsPlacedIn p column l → IsClear (row_line p i column said kept r l)
+row_clear p i column said kept r l few shown short placed =
     let digits : length (decimal (i + 1)) ≤ 7 = length-decimal-le 7 (i + 1) (omega arith) few (omega (few, arith)) in
     let room : rank p column * pitch p + pitch p ≤ columns p * pitch p = room_left (rank p column) (columns p) (pitch p) shown in
     pieces_clear (number_mark i) (text_at (begins p column) true said) (text_at (memory_cell p) true kept)
-    (row_strokes p column (begins p column + min (length said) 255) r l)
+    (row_strokes p column (begins p column + length said) r l)
     (omega (digits, arith)) (omega arith) (omega (room, short, arith))
-    (rw cells (strokes_avoid p column (length said) r l shown short placed))
+    (strokes_avoid p column (length said) r l shown short placed)

@@ -115,7 +115,7 @@ heads_apart es harts text lanes (suc n) cell within few =
       | false ↦ rw (append-nil xs) rest
     ]
 
--- the heads and that of memory, which stands behind the columns
+-- the heads and that of memory, which stands to the right of the columns
 with_memory : (es : List Entry) (harts text lanes cell : ℕ) → harts ≤ 255 →
     count_by (stands_in cell) (map (head_mark (apart es harts text lanes)) (shown_harts es harts)
     ++ text_at (memory_cell (apart es harts text lanes)) true (codes "memory") ∷ []) + 0 ≤ 1

@@ -1,7 +1,7 @@
 -- The lines of a picture: what stands in a row, and which strokes. A pending store's line goes from its
 -- row to a lane, down in it, and from there to memory in the row of its landing. Lines downwards are
 -- written over lines across, so that each can be followed.
-use Rattle.std.specs.Prelude.{ℕ, zero, suc, ◌+◌, ◌-◌, ◌==◌, min, if◌then◌else◌, Bool, true, false}
+use Rattle.std.specs.Prelude.{ℕ, zero, suc, ◌+◌, ◌-◌, ◌==◌, if◌then◌else◌, Bool, true, false}
 use Rattle.std.specs.Prelude.{List, [], ◌∷◌, ◌++◌, length, map, codes, Option, None, Some, option_map}
 use Rattle.std.specs.List.{slice_get, flat_map, list_any}
 use Rattle.std.specs.Fmt.{decimal}
@@ -30,7 +30,7 @@ sign_at sign cell column = record { sign = sign; at = cell; count = 1; hart = co
 abbrev pub across : Sign → (from to column : ℕ) → Stroke
 across sign from to column = record { sign = sign; at = from; count = to - from; hart = column }
 
--- a store's line, from behind its text to its lane; without a lane it is cut
+-- a store's line, from the end of its text to its lane; without a lane it is cut
 abbrev pub store_strokes : (column behind : ℕ) → (lane : Option ℕ) → List Stroke
 store_strokes column behind None = sign_at Cut (behind + 1) column ∷ []
 store_strokes column behind (Some lane) = across Flat (behind + 1) lane column ∷ sign_at Bend lane column ∷ []
@@ -87,7 +87,7 @@ number_mark i = text_at (5 - length (decimal (i + 1))) false (decimal (i + 1))
 abbrev pub row_line : PlacesOf → (i column : ℕ) → (said kept : List ℕ) → RowOf → LanedOf → LineOf
 row_line p i column said kept r l = record {
   marks = number_mark i ∷ text_at (begins p column) true said ∷ text_at (memory_cell p) true kept ∷ [];
-  strokes = row_strokes p column (begins p column + min (length said) 255) r l;
+  strokes = row_strokes p column (begins p column + length said) r l;
 }
 
 abbrev pub empty_line : LineOf

@@ -1,14 +1,15 @@
 //! The lines of a picture, and the picture.
 
-ghost use Rattle.std.specs.Prelude.{◌≡◌, ◌++◌, true, map, nat_le, length, IfOk, OnOk};
+ghost use Rattle.std.specs.Prelude.{◌≡◌, ◌≤◌, ◌++◌, true, map, nat_le, length, IfOk, OnOk};
 ghost use Rattle.std.specs.List.{slice_get};
 ghost use Rattle.std.specs.String.{string_bytes};
+ghost use Rattle.chart.specs.declared.scenes.TheConstants.{LONGEST_TEXT};
 ghost use Rattle.chart.specs.Lines.{text_at, number_mark as mark_of_number, row_line as line_of_row, empty_line, line_with, laned_line, line_at, row_lines as lines_of_rows, open_stroke, open_lines, head_mark, hart_marks, heads_line as line_of_heads};
 ghost use Rattle.chart.specs.Layout.{width_of as width_in, limit as limit_of, form_of as form_for, picture_in as picture_in_form, picture_of as picture_of_scene};
 
 use crate::lanes::{Held, Laned, held_at_end, lanes_of};
 use crate::pictures::{Line, Mark, Picture, Sign, Stroke};
-use crate::places::{Places, capped};
+use crate::places::Places;
 use crate::rows::Row;
 use crate::scenes::{Form, Scene, kept_at, places_of, said_at, widest_kept};
 use crate::strokes::{row_strokes, sign_at};
@@ -43,10 +44,11 @@ fn row_line(
     row: &Row,
     laned: &Laned,
 ) -> Result<Line, AllocError>
+    requires { length (string_bytes said) ≤ LONGEST_TEXT }
     ensures { IfOk result (λ line. line ≡ line_of_row places.now i column (string_bytes said) (string_bytes kept) row.now laned.now) }
 {
     let begins = places.begins(column);
-    let behind = begins + u32::from(capped(said.len()));
+    let behind = begins + said.len() as u32;
     let strokes = row_strokes(alloc, places, column, behind, row, laned)?;
     let mut marks = Vec::new(alloc);
     marks.push(number_mark(alloc, i)?)?;
