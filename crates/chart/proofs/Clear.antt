@@ -15,6 +15,7 @@ use Rattle.chart.specs.declared.lanes.Held.{Held}
 use Rattle.chart.specs.declared.pictures.Sign.{Sign}
 use Rattle.chart.specs.declared.pictures.Sign.TheVariants.{Flat, Double, Reads, Down, Bend, Lands, From, Reader, To, Joins, Cut}
 use Rattle.chart.specs.declared.pictures.Stroke.{Stroke}
+use Rattle.chart.specs.declared.pictures.Weight.TheVariants.{Loud}
 use Rattle.chart.specs.declared.sources.Source.{Source}
 use Rattle.chart.specs.Rows.{RowOf}
 use Rattle.chart.specs.Lanes.{LanedOf}
@@ -250,7 +251,7 @@ pub row_clear : (p : PlacesOf) (i column : ℕ) (said kept : List ℕ) (r : RowO
 row_clear p i column said kept r l few shown short placed =
     let digits : length (decimal (i + 1)) ≤ 7 = length-decimal-le 7 (i + 1) (omega arith) few (omega (few, arith)) in
     let room : rank p column * pitch p + pitch p ≤ columns p * pitch p = room_left (rank p column) (columns p) (pitch p) shown in
-    pieces_clear (number_mark i) (text_at (begins p column) true said) (text_at (memory_cell p) true kept)
+    pieces_clear (number_mark i) (text_at (begins p column) Loud said) (text_at (memory_cell p) Loud kept)
     (row_strokes p column (begins p column + length said) r l)
     (omega (digits, arith)) (omega arith) (omega (room, short, arith))
     (strokes_avoid p column (length said) r l shown short placed)

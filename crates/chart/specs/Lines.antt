@@ -14,6 +14,8 @@ use Rattle.chart.specs.declared.sources.Source.TheVariants.{Own, Memory, Opening
 use Rattle.chart.specs.declared.pictures.Sign.{Sign}
 use Rattle.chart.specs.declared.pictures.Sign.TheVariants.{Flat, Double, Reads, Down, Bend, Lands, From, Reader, To, Joins, Cut, Open}
 use Rattle.chart.specs.declared.pictures.Stroke.{Stroke}
+use Rattle.chart.specs.declared.pictures.Weight.{Weight}
+use Rattle.chart.specs.declared.pictures.Weight.TheVariants.{Quiet, Loud, Bold}
 use Rattle.chart.specs.declared.scenes.Form.{Form}
 use Rattle.chart.specs.Rows.{RowOf}
 use Rattle.chart.specs.Lanes.{LanedOf, column_of}
@@ -76,17 +78,17 @@ row_strokes p column behind r l =
 
 -- ---- lines
 
-abbrev pub text_at : (cell : ℕ) → Bool → List ℕ → MarkOf
-text_at cell loud text = record { at = cell; loud = loud; text = text }
+abbrev pub text_at : (cell : ℕ) → Weight → List ℕ → MarkOf
+text_at cell weight text = record { at = cell; weight = weight; text = text }
 
 -- rows count from 1, and their numbers end before cell 5
 abbrev pub number_mark : ℕ → MarkOf
-number_mark i = text_at (5 - length (decimal (i + 1))) false (decimal (i + 1))
+number_mark i = text_at (5 - length (decimal (i + 1))) Quiet (decimal (i + 1))
 
 -- the line of row i, in this column, with what it says there and in memory
 abbrev pub row_line : PlacesOf → (i column : ℕ) → (said kept : List ℕ) → RowOf → LanedOf → LineOf
 row_line p i column said kept r l = record {
-  marks = number_mark i ∷ text_at (begins p column) true said ∷ text_at (memory_cell p) true kept ∷ [];
+  marks = number_mark i ∷ text_at (begins p column) Loud said ∷ text_at (memory_cell p) Loud kept ∷ [];
   strokes = row_strokes p column (begins p column + length said) r l;
 }
 
@@ -123,13 +125,13 @@ open_lines p [] = []
 open_lines p (h ∷ hs) = record { marks = []; strokes = map (open_stroke p) (h ∷ hs) } ∷ []
 
 abbrev pub head_mark : PlacesOf → ℕ → MarkOf
-head_mark p h = text_at (begins p h) true (hart_name h)
+head_mark p h = text_at (begins p h) Bold (hart_name h)
 
 abbrev pub named_marks : PlacesOf → List MarkOf
 named_marks p = map (head_mark p) p.shown
 
 abbrev pub hart_marks : PlacesOf → List MarkOf
-hart_marks p = if p.listed then text_at 7 true (codes "harts") ∷ [] else named_marks p
+hart_marks p = if p.listed then text_at 7 Bold (codes "harts") ∷ [] else named_marks p
 
 abbrev pub heads_line : PlacesOf → LineOf
-heads_line p = record { marks = hart_marks p ++ text_at (memory_cell p) true (codes "memory") ∷ []; strokes = [] }
+heads_line p = record { marks = hart_marks p ++ text_at (memory_cell p) Bold (codes "memory") ∷ []; strokes = [] }

@@ -6,10 +6,11 @@ use Rattle.std.specs.List.{slice_get, flat_map, count_by, list_any}
 use Rattle.chart.specs.declared.pictures.Sign.{Sign}
 use Rattle.chart.specs.declared.pictures.Sign.TheVariants.{Flat, Double, Reads, Down, Bend, Lands, From, Reader, To, Joins, Cut, Open}
 use Rattle.chart.specs.declared.pictures.Stroke.{Stroke}
+use Rattle.chart.specs.declared.pictures.Weight.{Weight}
 
 pub record MarkOf : Type 0 where
   pub at : ℕ
-  pub loud : Bool
+  pub weight : Weight
   pub text : List ℕ
 
 pub record LineOf : Type 0 where
