@@ -127,11 +127,8 @@ open_lines p (h ∷ hs) = record { marks = []; strokes = map (open_stroke p) (h 
 abbrev pub head_mark : PlacesOf → ℕ → MarkOf
 head_mark p h = text_at (begins p h) Bold (hart_name h)
 
-abbrev pub named_marks : PlacesOf → List MarkOf
-named_marks p = map (head_mark p) p.shown
-
 abbrev pub hart_marks : PlacesOf → List MarkOf
-hart_marks p = if p.listed then text_at 7 Bold (codes "harts") ∷ [] else named_marks p
+hart_marks p = if p.listed then text_at 7 Bold (codes "harts") ∷ [] else map (head_mark p) p.shown
 
 abbrev pub heads_line : PlacesOf → LineOf
 heads_line p = record { marks = hart_marks p ++ text_at (memory_cell p) Bold (codes "memory") ∷ []; strokes = [] }

@@ -69,9 +69,6 @@ abbrev pub of_row : Form → Option ℕ → List ℕ
 of_row form None = []
 of_row form (Some row) = if form.stores then codes " [" ++ decimal (row + 1) ++ codes "]" else []
 
-abbrev pub kept : Form → Option ℕ → List ℕ → List ℕ
-kept form landed memory = shortened (memory ++ of_row form landed)
-
 -- the instruction of row i, if there is one
 abbrev pub instruction_at : SceneOf → ℕ → List ℕ
 instruction_at scene i = unwrap_or (slice_get scene.instructions i) []
@@ -85,7 +82,7 @@ said_at form scene i = said_in form scene i (slice_get scene.rows i)
 
 abbrev pub kept_in : Form → SceneOf → Option RowOf → List ℕ
 kept_in form scene None = []
-kept_in form scene (Some r) = kept form r.landed (row_text scene.names scene.entries r).memory
+kept_in form scene (Some r) = shortened ((row_text scene.names scene.entries r).memory ++ of_row form r.landed)
 
 abbrev pub kept_at : Form → SceneOf → ℕ → List ℕ
 kept_at form scene i = kept_in form scene (slice_get scene.rows i)

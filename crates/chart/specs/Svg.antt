@@ -193,18 +193,15 @@ grouped line inside = group_start line ++ inside ++ codes "</g>\n"
 unfoldable pub rule_svg : PictureOf → List ℕ
 rule_svg p = codes "<path class='rule' d='M16 33h" ++ decimal (8 * p.width) ++ codes "'/>\n"
 
--- the heads of the columns, and a line below them
-abbrev pub heads_svg : PictureOf → List ℕ
-heads_svg p = flat_map (mark_svg 0) p.heads.marks ++ rule_svg p
-
 abbrev pub texts_svg : (class : List ℕ) → List (List ℕ) → List ℕ
 texts_svg class texts = by_line (text_svg class 0) 0 texts
 
 abbrev pub lines_svg : List LineOf → List ℕ
 lines_svg lines = by_line line_svg 0 lines
 
+-- the heads of the columns, and a line below them
 abbrev pub heads_group : PictureOf → List ℕ
-heads_group p = grouped (length p.head + 1) (heads_svg p)
+heads_group p = grouped (length p.head + 1) (flat_map (mark_svg 0) p.heads.marks ++ rule_svg p)
 
 abbrev pub body_group : PictureOf → List ℕ
 body_group p = grouped (length p.head + 2) (lines_svg p.body)

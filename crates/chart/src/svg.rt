@@ -3,7 +3,7 @@
 ghost use Rattle.std.specs.Prelude.{◌≡◌, ◌++◌, ◌+◌, ◌<◌, ◌^◌, map, IfOk, OnOk};
 ghost use Rattle.std.specs.List.{flat_map};
 ghost use Rattle.std.specs.String.{string_bytes};
-ghost use Rattle.chart.specs.Svg.{x_of as x_of_cell, y_of as y_of_line, baseline as baseline_of, escaped, text_open, text_place, text_svg, weight_class, mark_svg, path_svg, hart_class as class_with_hart, hart_path, level_path as level_path_of, level_svg, hart_level, open_svg, below_by_sign, above_by_sign, stroke_svg, line_svg, widest as widest_of, width_svg, height_svg, said_line, style_svg, size_svg, root_start, root_svg, title_start, title_svg, counts_svg, desc_svg, back_start, back_svg, group_start, rule_svg, heads_group, body_group, foot_group, texts_svg, lines_svg, front_svg, inside_svg, picture_svg};
+ghost use Rattle.chart.specs.Svg.{x_of as x_of_cell, y_of as y_of_line, baseline as baseline_of, escaped, text_open, text_place, text_svg, weight_class, mark_svg, path_svg, hart_class as class_with_hart, hart_path, level_path as level_path_of, level_svg, hart_level, open_svg, above_by_sign, stroke_svg, line_svg, widest as widest_of, width_svg, height_svg, said_line, style_svg, size_svg, root_start, root_svg, title_start, title_svg, counts_svg, desc_svg, back_start, back_svg, group_start, rule_svg, heads_group, body_group, foot_group, texts_svg, lines_svg, front_svg, inside_svg, picture_svg};
 
 use crate::pictures::{Line, Mark, Picture, Sign, Stroke, Weight};
 use crate::text::{push_byte, shown};
@@ -200,21 +200,6 @@ fn push_open(alloc: Global, out: &mut String, line: usize, stroke: Stroke) -> Re
     push_hart(alloc, out, "head", line, stroke, "m4 5l-5 -10h10z")
 }
 
-/// What of a stroke stands below all other strokes of its line.
-fn push_below(
-    alloc: Global,
-    out: &mut String,
-    line: usize,
-    stroke: Stroke,
-) -> Result<(), AllocError>
-    ensures { OnOk result (string_bytes out.new ≡ string_bytes out.old ++ below_by_sign stroke.sign line stroke) }
-{
-    match stroke.sign {
-        Sign::Down | Sign::Joins => push_hart(alloc, out, "line", line, stroke, "m4 -11v22"),
-        _ => Ok(()),
-    }
-}
-
 fn push_above(
     alloc: Global,
     out: &mut String,
@@ -252,7 +237,10 @@ fn push_stroke(
     ensures { OnOk result (string_bytes out.new ≡ string_bytes out.old ++ stroke_svg layer line stroke) }
 {
     match layer {
-        Layer::Below => push_below(alloc, out, line, stroke),
+        Layer::Below => match stroke.sign {
+            Sign::Down | Sign::Joins => push_hart(alloc, out, "line", line, stroke, "m4 -11v22"),
+            _ => Ok(()),
+        },
         Layer::Above => push_above(alloc, out, line, stroke),
     }
 }
