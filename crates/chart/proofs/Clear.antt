@@ -63,25 +63,25 @@ own_avoids from behind memory column None (entry.Store h a width v) low right hi
     (sign_avoids from behind memory Cut (behind + 1) column (omega (low, right, arith), omega (high, arith), inr (omega arith)), tt)
 own_avoids from behind memory column (Some lane) (entry.Store h a width v) low right high placed = (
   across_avoids from behind memory Flat (behind + 1) lane column (omega (low, right, arith)) (omega arith) (omega (placed.1, arith)),
-  sign_avoids from behind memory Bend lane column (omega (low, right, placed.0, arith), placed.1, inr placed.0),
-  tt,
+  (sign_avoids from behind memory Bend lane column (omega (low, right, placed.0, arith), placed.1, inr placed.0), tt),
 )
 own_avoids from behind memory column None (entry.Land h) low right high placed = (
   sign_avoids from behind memory Cut (memory - 3) column (omega (low, right, high, arith), omega (high, arith), inr (omega (high, arith))),
-  to_memory from behind memory column low right high,
-  tt,
+  (to_memory from behind memory column low right high, tt),
 )
 own_avoids from behind memory column (Some lane) (entry.Land h) low right high placed = (
   across_avoids from behind memory Flat (lane + 1) (memory - 2) column (omega (low, right, placed.0, arith)) (omega (placed.0, arith)) (omega arith),
-  sign_avoids from behind memory Lands lane column (omega (low, right, placed.0, arith), placed.1, inr placed.0),
-  to_memory from behind memory column low right high,
-  tt,
+  (
+    sign_avoids from behind memory Lands lane column (omega (low, right, placed.0, arith), placed.1, inr placed.0),
+    (to_memory from behind memory column low right high, tt),
+  ),
 )
 own_avoids from behind memory column lane (entry.Amo h a old new) low right high placed = (
   sign_avoids from behind memory From (behind + 1) column (omega (low, right, arith), omega (high, arith), inr (omega arith)),
-  across_avoids from behind memory Double (behind + 2) (memory - 2) column (omega (low, right, arith)) (omega arith) (omega arith),
-  to_memory from behind memory column low right high,
-  tt,
+  (
+    across_avoids from behind memory Double (behind + 2) (memory - 2) column (omega (low, right, arith)) (omega arith) (omega arith),
+    (to_memory from behind memory column low right high, tt),
+  ),
 )
 own_avoids from behind memory column lane other low right high placed = tt
 
@@ -99,9 +99,11 @@ read_avoids p from behind column sources h low right high placed =
     (if b then sign_at Reader (behind + 1) column ∷ across Reads (behind + 2) (lane_cell p h) column ∷ [] else [])) [
       | true ↦ (
         sign_avoids from behind (memory_cell p) Reader (behind + 1) column (omega (low, right, arith), omega (high, arith), inr (omega arith)),
-        across_avoids from behind (memory_cell p) Reads (behind + 2) (lane_cell p h) column
-            (omega (low, right, arith)) (omega arith) (omega (placed, arith)),
-        tt,
+        (
+          across_avoids from behind (memory_cell p) Reads (behind + 2) (lane_cell p h) column
+              (omega (low, right, arith)) (omega arith) (omega (placed, arith)),
+          tt,
+        ),
       )
       | false ↦ tt
     ]
