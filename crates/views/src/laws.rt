@@ -30,7 +30,6 @@ pub fn one_chart()
 
 /// In the chart of a text's test no text of a row stands on another text or on a line, and no head of a column
 /// on another head. It does nothing.
-#[tactic(auto, using(crate::proofs::ChartLaws::clear_chart))]
 pub fn charts_are_clear()
     ensures { (B M : ℕ) (draws : Drawing) (file : List ℕ) (heading : HeadingOf) (test : LitmusTest) (said : Said) (answer : Output) → IsTestOf file test → (chart : IsChartOf B M draws heading test said answer) → All IsClear (layout chart.about chart.history.entries).body × IsClear (layout chart.about chart.history.entries).heads }
 {}
