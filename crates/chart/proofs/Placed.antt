@@ -19,7 +19,7 @@ use Rattle.chart.specs.declared.lanes.Shape.{Shape}
 use Rattle.chart.specs.declared.sources.RowWrite.{RowWrite}
 use Rattle.chart.specs.Sources.{pending_by_row, row_of, landed_store, stored_in, stored_at}
 use Rattle.chart.specs.Rows.{RowOf, row_after, rows_after}
-use Rattle.chart.specs.Lanes.{LanedOf, column_of, is_held, first_free, in_lane, held_by, own_line, passing_lines}
+use Rattle.chart.specs.Lanes.{LanedOf, column_of, first_free, in_lane, held_by, own_line, passing_lines}
 use Rattle.chart.specs.Lanes.{laned_row, held_after_entry, held_after, lanes_from}
 use Rattle.chart.specs.Places.{PlacesOf, rank, columns}
 use Rattle.chart.specs.Scenes.{is_shown, has_entry, shown_harts, lanes_to, lanes_at, used_after}

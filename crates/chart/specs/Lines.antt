@@ -1,7 +1,7 @@
 -- The lines of a picture: what stands in a row, and which strokes. A pending store's line goes from its
 -- row to a lane, down in it, and from there to memory in the row of its landing. Lines downwards are
 -- written over lines across, so that each can be followed.
-use Rattle.std.specs.Prelude.{ℕ, zero, suc, ◌+◌, ◌-◌, ◌==◌, if◌then◌else◌, Bool, true, false}
+use Rattle.std.specs.Prelude.{ℕ, zero, suc, ◌+◌, ◌-◌, ◌==◌, if◌then◌else◌, Bool, false}
 use Rattle.std.specs.Prelude.{List, [], ◌∷◌, ◌++◌, length, map, codes, Option, None, Some, option_map}
 use Rattle.std.specs.List.{slice_get, flat_map, list_any}
 use Rattle.std.specs.Fmt.{decimal}
