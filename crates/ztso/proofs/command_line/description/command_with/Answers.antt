@@ -3,4 +3,5 @@ use Rattle.ztso.proofs.Described.{with_args}
 use Rattle.ztso.proofs.command_line.description.command_with.Goals as goal
 
 pub returns : goal.returns
-returns c = λ rules all. IfOk-weaker c.args-2.result _ _ (λ command added. with_args c.new_command.result command _ _ rules c.new_command.ensures all added) c.args-2.ensures
+returns c = λ rules all.
+    IfOk-weaker c.args-2.result _ _ (λ command added. with_args c.new_command.result command _ _ rules c.new_command.ensures all added) c.args-2.ensures
