@@ -25,14 +25,24 @@ closes-finishes [] here f = (disjunction_of here f, refl)
 closes-finishes (g ∷ around) here f = closes-finishes around (record g { negations = 0 }) (negated_by g.negations (disjunction_of here f))
 
 rest-finishes : (stage : Stage) → (g : Formula) × (or_misplaced (formula_at (all_taken (Some stage) (rest_at stage))) ≡ Ok g)
-rest-finishes stage = grind (arith, closes-finishes)
+rest-finishes (awaits around here) = closes-finishes around (record here { negations = 0 }) (negated_by here.negations (is (place.Word 0) 0))
+rest-finishes (has around here f) = closes-finishes around here f
 
 pub begins_at : (symbols : List Symbol) (stage : Stage) → stage_after symbols ≡ Some stage → Begins symbols
 unfolding finished stage_after
-begins_at symbols stage same = grind (arith, rest-finishes, finished_found, all_taken-append)
+begins_at symbols stage same =
+    let ends : (g : Formula) × (or_misplaced (formula_at (all_taken (Some stage) (rest_at stage))) ≡ Ok g) = rest-finishes stage in (
+      rest_at stage,
+      ends.0,
+      finished_found (symbols ++ rest_at stage) ends.0
+          (ap (λ (o : Option Stage). or_misplaced (formula_at o)) (all_taken-append (Some (awaits [] empty_group)) symbols (rest_at stage))
+          ∙ ap (λ (o : Option Stage). or_misplaced (formula_at (all_taken o (rest_at stage)))) same
+          ∙ ends.1),
+    )
 
 begins-some : (symbols : List Symbol) (o : Option Stage) (b : Build) → stage_after symbols ≡ o → build_at o ≡ Some b → Begins symbols
-begins-some symbols o b same built = grind (arith, begins_at)
+begins-some symbols None b same built = absurd (cc)
+begins-some symbols (Some stage) b same built = begins_at symbols stage same
 
 pub begins_built : (symbols : List Symbol) (b : Build) → build_at (stage_after symbols) ≡ Some b → Begins symbols
 begins_built symbols b built = begins-some symbols (stage_after symbols) b refl built
@@ -43,10 +53,18 @@ all_taken-none (w ∷ symbols) = all_taken-none symbols
 
 pub begins_taken : (symbols : List Symbol) → stage_after symbols ≡ None → ¬ Begins symbols
 unfolding finished stage_after
-begins_taken symbols nowhere = grind (arith, finished_only, all_taken-append, all_taken-none)
+begins_taken symbols nowhere = λ begun.
+    let read : finished (symbols ++ begun.0) ≡ Ok begun.1 = finished_only (symbols ++ begun.0) begun.1 begun.2 in
+    let refused : finished (symbols ++ begun.0) ≡ Err tt =
+    ap (λ (o : Option Stage). or_misplaced (formula_at o))
+    (all_taken-append (Some (awaits [] empty_group)) symbols begun.0
+    ∙ ap (λ (o : Option Stage). all_taken o begun.0) nowhere
+    ∙ all_taken-none begun.0) in
+    absurd (cc)
 
 refused-none : (symbols : List Symbol) (next : Symbol) (o : Option Stage) → or_misplaced (with_symbol symbols next o) ≡ Err tt → o ≡ None
-refused-none symbols next o refused = grind arith
+refused-none symbols next None refused = refl
+refused-none symbols next (Some stage) refused = absurd (cc)
 
 pub refused_begins : (symbols : List Symbol) (next : Symbol) → symbol_added symbols next ≡ Err tt → ¬ Begins (symbols ++ next ∷ [])
 unfolding symbol_added

@@ -40,13 +40,37 @@ abbrev stage_with : List Group → Group → List Symbol → Formula → Option 
 stage_with around here rest f = all_taken (Some (has around (record here { negations = 0 }) f)) rest
 
 reads-enclosed : (symbols rest : List Symbol) (f : Formula) (around : List Group) (here : Group) → ReadsDisjunction (here ∷ around) symbols (symbol.Close ∷ rest) f → goes_on around here ((symbol.Open ∷ (symbols ++ symbol.Close ∷ [])) ++ rest) ≡ all_taken (Some (completed around here f)) rest
-reads-enclosed symbols rest f around here inner = grind (arith, append_assoc, path, same)
+reads-enclosed symbols rest f around here inner =
+    ap (λ (ws : List Symbol). goes_on (here ∷ around) empty_group ws) (append_assoc symbols (symbol.Close ∷ []) rest)
+    ∙ inner.path
+    ∙ ap (λ (g : Formula). all_taken (Some (completed around here g)) rest) inner.same
 
 reads-joined : (left right rest : List Symbol) (f g : Formula) (around : List Group) (d : Option Formula) → ReadsConjunction around d left (symbol.And ∷ (right ++ rest)) f → ((here : Group) → goes_on around here (right ++ rest) ≡ all_taken (Some (completed around here g)) rest) → ReadsConjunction around d (left ++ symbol.And ∷ right) rest (both f g)
-reads-joined left right rest f g around d before after = grind (arith, front, last, same, path, append_assoc)
+reads-joined left right rest f g around d before after =
+    record {
+      front = Some (conjoined before.front before.last);
+      last = g;
+      same = ap (λ (h : Formula). both h g) before.same;
+      path =
+          ap (λ (ws : List Symbol). goes_on around (group d None) ws) (append_assoc left (symbol.And ∷ right) rest)
+          ∙ before.path
+          ∙ after (group d (Some (conjoined before.front before.last)));
+    }
 
 reads-parted : (left right rest : List Symbol) (f g : Formula) (around : List Group) → ReadsDisjunction around left (symbol.Or ∷ (right ++ rest)) f → ((d : Option Formula) → ReadsConjunction around d right rest g) → ReadsDisjunction around (left ++ symbol.Or ∷ right) rest (either f g)
-reads-parted left right rest f g around before after = grind (arith, disjuncts, conjuncts, last, front, same, path, append_assoc)
+reads-parted left right rest f g around before after =
+    let whole : Formula = disjoined before.disjuncts (conjoined before.conjuncts before.last) in
+    let right_side : ReadsConjunction around (Some whole) right rest g = after (Some whole) in
+    record {
+      disjuncts = Some whole;
+      conjuncts = right_side.front;
+      last = right_side.last;
+      same = ap (λ (h : Formula). either h (conjoined right_side.front right_side.last)) before.same ∙ ap (λ (h : Formula). either f h) right_side.same;
+      path =
+          ap (λ (ws : List Symbol). goes_on around empty_group ws) (append_assoc left (symbol.Or ∷ right) rest)
+          ∙ before.path
+          ∙ right_side.path;
+    }
 
 reads : (level : Level) (symbols : List Symbol) (f : Formula) → Stands level symbols f → Reads level symbols f
 reads operand symbols f (atom place value) = λ around here rest. refl
@@ -60,4 +84,8 @@ reads disjunction symbols f (parted left right g h stands_left stands_right) = �
 -- a condition's symbols are read as its formula
 pub finished_only : (symbols : List Symbol) (f : Formula) → IsConditionOf symbols f → finished symbols ≡ Ok f
 unfolding finished stage_after
-finished_only symbols f stands = grind (arith, reads, append-nil, path, same)
+finished_only symbols f stands =
+    let r : ReadsDisjunction [] symbols [] f = reads disjunction symbols f stands [] [] in
+    ap (λ (ws : List Symbol). or_misplaced (formula_at (goes_on [] empty_group ws))) (sym (append-nil symbols))
+    ∙ ap (λ (o : Option Stage). or_misplaced (formula_at o)) r.path
+    ∙ ap (λ (g : Formula). or_misplaced (Some g)) r.same
