@@ -39,7 +39,9 @@ of_64 o evs es each of few =
 module _ {X A : Type 0} (IsAnswer : LitmusTest → Result A Refusal → Type 0) (view : X → A) (known : Option (List ℕ)) where
   -- what answers the test that was read
   pub by_test : (test : LitmusTest) (result : Result X Fault) → OfInput known (λ bytes. Accepted IsTestOf bytes test) → AnswersAs (IsAnswer test) view result → FindsBy (ByTest IsAnswer) view known result
-  by_test test result read = answered_by (IsAnswer test) _ view result (λ answer holds. weaker known _ _ (λ bytes accepted. of_test test answer accepted holds) read)
+  by_test test result read =
+      answered_by (IsAnswer test) (λ answer. OfInput known (λ bytes. ByTest IsAnswer bytes answer)) view result
+      (λ answer holds. weaker known _ (λ bytes. ByTest IsAnswer bytes answer) (λ bytes accepted. of_test test answer accepted holds) read)
 
   -- no test was read
   pub by_no_test : {Y : Type 0} (seen : Y → LitmusTest) (result : Result X Fault) (fault : Fault) → result ≡ Err fault → FindsBy IsReadAsTest seen known (Err fault) → FindsBy (ByTest IsAnswer) view known result
