@@ -44,8 +44,10 @@ module _ (M : ℕ) (o : Start) (h : ℕ) where
   unfolding is_missing
   seats_complete n = elim (cases_Bool (ltb h n)) [
     | inl less ↦
-        let acts : count_by (acts_for h) (seats_below M o n) ≡ 1 = rw less at one_seat (acts_for h) (λ k. (one_of_each k _ refl).0) n in
-        let lands : count_by (lands_for h) (seats_below M o n) ≡ 1 = rw less at one_seat (lands_for h) (λ k. (one_of_each k _ refl).1) n in
+        let acts : count_by (acts_for h) (seats_below M o n) ≡ 1 =
+        one_seat (acts_for h) (λ k. (one_of_each k _ refl).0) n ∙ ap (λ (b : Bool). cond b 1 0) less in
+        let lands : count_by (lands_for h) (seats_below M o n) ≡ 1 =
+        one_seat (lands_for h) (λ k. (one_of_each k _ refl).1) n ∙ ap (λ (b : Bool). cond b 1 0) less in
         rw (less, acts, lands) refl
     | inr more ↦ rw more (sitting n (ltb-false h n more))
   ]
