@@ -12,6 +12,7 @@ from machine import outcome, verdict
 STOPS = {8: " Illegal", 9: " Misaligned", 11: " OutOfRange", 12: " MisalignedJump", 13: " NoCode",
          14: " UnknownCall", 15: " Break"}
 LONGEST_NAME = 8
+LONGEST_TEXT = 255
 MOST_ROWS = 10_000
 # whether all harts share a column, instructions are shown, how many lanes, and landings name their store's row
 FORMS = [(False, True, 6, True), (False, False, 6, True), (True, True, 6, True), (True, False, 6, True),
@@ -105,15 +106,19 @@ def beside(gap, *texts):
     return gap.join(filter(None, texts))
 
 
+def shortened(text):
+    return text if len(text) <= LONGEST_TEXT else "..."
+
+
 class Picture:
     """The rows in one form: their texts, their lanes and where all of it stands."""
 
     def __init__(self, rows, harts, form):
         self.listed, instructions, self.most, stores = form
         self.rows = rows
-        self.said = [beside(" ", beside("  ", f"P{r.hart}" if self.listed else "", r.instruction if instructions else "", r.effect), r.tag)
-                     for r in rows]
-        self.kept = [r.memory + (f" [{r.landed + 1}]" if stores and r.landed is not None else "") for r in rows]
+        effects = [beside("  ", f"P{r.hart}" if self.listed else "", r.instruction if instructions else "", r.effect) for r in rows]
+        self.said = [shortened(beside(" ", effect, r.tag)) for effect, r in zip(effects, rows)]
+        self.kept = [shortened(r.memory + (f" [{r.landed + 1}]" if stores and r.landed is not None else "")) for r in rows]
         self.shown = [h for h in range(harts) if not rows or any(r.hart == h for r in rows)]
         self.lane()
         self.text = max(map(len, self.said), default=0)

@@ -1,5 +1,5 @@
 -- No two lines that stand at one row have one lane.
-use Rattle.std.proofs.Common.{◌≡◌, ℕ, zero, suc, ◌+◌, ◌==◌, true, false, not, if◌then◌else◌, List, [], ◌∷◌}
+use Rattle.std.proofs.Common.{◌≡◌, ℕ, ◌+◌, ◌==◌, true, false, not, if◌then◌else◌, List, [], ◌∷◌}
 use Rattle.std.proofs.Common.{◌++◌, Option, Some, None, All, refl, sym, ◌∙◌, subst, inl, inr, eq-eqb, append-nil}
 use Rattle.std.specs.Prelude.{option_to_list}
 use Rattle.std.proofs.lemmas.Bool.{cases_Bool, cases_eq, ne_eqb, or_parts, or_from}
@@ -12,6 +12,7 @@ use Rattle.chart.specs.declared.lanes.Shape.{Shape}
 use Rattle.chart.specs.Rows.{RowOf}
 use Rattle.chart.specs.Lanes.{column_of, holds, is_held, first_free, in_lane, held_by, others, own_line}
 use Rattle.chart.specs.Lanes.{passing_lines, held_after_entry, laned_row, held_after, lanes_from, lanes_of, AreApart, IsApart}
+use Rattle.chart.proofs.LaneLaws.{first_free_is}
 
 eqb-swap : (a b : ℕ) → (a == b) ≡ (b == a)
 eqb-swap a b = elim (cases_eq a b) [ inl e ↦ eq-eqb a b e ∙ sym (eq-eqb b a (sym e)) | inr n ↦ ne_eqb a b n ∙ sym (ne_eqb b a (λ e. n (sym e))) ]
@@ -43,14 +44,6 @@ apart_last (x ∷ hs) h apart free =
       list_any-append (holds x.column x.lane) hs (h ∷ []) ∙ or_from (is_held hs x.column x.lane) (is_held (h ∷ []) x.column x.lane) apart.0 new,
       apart_last hs h apart.1 parts.1,
     )
-
-free_first : (held : List Held) (column k n j : ℕ) → first_free held column k n ≡ Some j → is_held held column j ≡ false
-free_first held column k zero j is = cc
-free_first held column k (suc n) j is =
-    elim (cases_Bool (is_held held column k)) [
-      | inl busy ↦ free_first held column (k + 1) n j (rw busy at is)
-      | inr free ↦ let here : Some k ≡ Some j = rw free at is in let same : k ≡ j = cc in subst (λ (i : ℕ). is_held held column i ≡ false) same free
-    ]
 
 apart_in_lane : (row column : ℕ) (held : List Held) (o : Option ℕ) → AreApart held → ((j : ℕ) → o ≡ Some j → is_held held column j ≡ false) →
     AreApart (held ++ option_to_list (in_lane row column o))
@@ -96,7 +89,8 @@ landed_apart row held (Some h) is apart = (found_apart row held h is apart, apar
 row_apart : (shape : Shape) (row : ℕ) (held : List Held) (landed : Option ℕ) (e : Entry) → AreApart held →
     AreApart (option_to_list (own_line shape row held landed e) ++ passing_lines held landed e)
 row_apart shape row held landed (entry.Store h a width v) apart =
-    in_lane_apart row (column_of shape h) held (first_free held (column_of shape h) 0 shape.lanes) apart (free_first held (column_of shape h) 0 shape.lanes)
+    in_lane_apart row (column_of shape h) held (first_free held (column_of shape h) 0 shape.lanes) apart
+    (λ j is. (first_free_is held (column_of shape h) 0 shape.lanes j is).1)
 row_apart shape row held None (entry.Land h) apart = apart
 row_apart shape row held (Some store) (entry.Land h) apart = landed_apart store held (held_by store held) refl apart
 row_apart shape row held landed other apart = apart
@@ -104,7 +98,8 @@ row_apart shape row held landed other apart = apart
 next_apart : (shape : Shape) (row : ℕ) (held : List Held) (landed : Option ℕ) (e : Entry) → AreApart held →
     AreApart (held_after_entry shape row held landed e)
 next_apart shape row held landed (entry.Store h a width v) apart =
-    apart_in_lane row (column_of shape h) held (first_free held (column_of shape h) 0 shape.lanes) apart (free_first held (column_of shape h) 0 shape.lanes)
+    apart_in_lane row (column_of shape h) held (first_free held (column_of shape h) 0 shape.lanes) apart
+    (λ j is. (first_free_is held (column_of shape h) 0 shape.lanes j is).1)
 next_apart shape row held None (entry.Land h) apart = apart
 next_apart shape row held (Some store) (entry.Land h) apart = apart_others store held apart
 next_apart shape row held landed other apart = apart

@@ -1,26 +1,27 @@
 -- No text of a picture's row stands on another text or on a stroke.
-use Rattle.std.proofs.Common.{◌≡◌, ℕ, suc, ◌+◌, ◌-◌, ◌*◌, ◌<◌, ◌≤◌, ◌^◌, min, Bool, true, false, cond, if◌then◌else◌}
+use Rattle.std.proofs.Common.{◌≡◌, ℕ, suc, ◌+◌, ◌-◌, ◌*◌, ◌<◌, ◌≤◌, ◌^◌, Bool, true, false, cond, if◌then◌else◌}
 use Rattle.std.proofs.Common.{◌⊎◌, inl, inr, List, [], ◌∷◌, ◌++◌, length, map, Option, Some, None, All, refl, ap, subst, arith}
 use Rattle.std.specs.Prelude.{nat_lt, nat_le, ◌&&◌, option_map, IfSome}
-use Rattle.std.specs.List.{slice_index_or, flat_map, list_any}
+use Rattle.std.specs.List.{slice_index_or, flat_map, list_any, AllByRecursion}
 use Rattle.std.specs.Fmt.{decimal}
 use Rattle.std.proofs.Math.Nat.{mul-le-mul, suc-mul}
 use Rattle.std.proofs.lemmas.Bool.{cases_Bool, cases_lt, and_parts, leb-true, ltb-true}
 use Rattle.std.proofs.lemmas.Fmt.{length-decimal-le}
 use Rattle.std.proofs.lemmas.List.Concat.{flat_map-cons}
-use Rattle.std.proofs.lemmas.List.Elements.{All-nil, All-cons, All-head, All-tail, All-append}
+use Rattle.std.proofs.lemmas.List.Elements.{All-nil, All-cons, All-head, All-tail, All-append, All-from_recursion}
 use Rattle.step_machine.specs.declared.events.Entry.{Entry}
 use Rattle.step_machine.specs.declared.events.Entry.TheVariants as entry
 use Rattle.chart.specs.declared.lanes.Held.{Held}
 use Rattle.chart.specs.declared.pictures.Sign.{Sign}
 use Rattle.chart.specs.declared.pictures.Sign.TheVariants.{Flat, Double, Reads, Down, Bend, Lands, From, Reader, To, Joins, Cut}
 use Rattle.chart.specs.declared.pictures.Stroke.{Stroke}
+use Rattle.chart.specs.declared.pictures.Weight.TheVariants.{Loud}
 use Rattle.chart.specs.declared.sources.Source.{Source}
 use Rattle.chart.specs.Rows.{RowOf}
 use Rattle.chart.specs.Lanes.{LanedOf}
 use Rattle.chart.specs.Pictures.{MarkOf, strikes, stands_in, IsClear}
 use Rattle.chart.specs.Places.{PlacesOf, rank, columns, pitch, begins, lane_cell, memory_cell}
-use Rattle.chart.specs.Lines.{sign_at, across, store_strokes, land_strokes, amo_strokes, own_strokes, is_read}
+use Rattle.chart.specs.Lines.{sign_at, across, own_strokes, is_read}
 use Rattle.chart.specs.Lines.{read_strokes, passing_stroke, row_strokes, text_at, number_mark, row_line}
 
 -- ---- cells of strokes
@@ -52,56 +53,37 @@ across_avoids from behind memory sign first to column low right high cell is =
     let at = struck_at first (to - first) cell is in
     (omega (low, at.0, arith), omega (high, at.0, at.1, arith), inr (omega (right, at.0, arith)))
 
-store_avoids : (from behind memory column : ℕ) (lane : Option ℕ) → 7 ≤ from → from ≤ behind → behind + 6 ≤ memory →
-    IfSome lane (λ l. (behind ≤ l) × (l < memory)) → All (Avoids from behind memory) (store_strokes column behind lane)
-store_avoids from behind memory column None low right high placed =
-    All-cons (Avoids from behind memory) (sign_at Cut (behind + 1) column) []
-    (sign_avoids from behind memory Cut (behind + 1) column (omega (low, right, arith), omega (high, arith), inr (omega arith)))
-    (All-nil (Avoids from behind memory))
-store_avoids from behind memory column (Some lane) low right high placed =
-    All-cons (Avoids from behind memory) (across Flat (behind + 1) lane column) (sign_at Bend lane column ∷ [])
-    (across_avoids from behind memory Flat (behind + 1) lane column (omega (low, right, arith)) (omega arith) (omega (placed.1, arith)))
-    (All-cons (Avoids from behind memory) (sign_at Bend lane column) []
-    (sign_avoids from behind memory Bend lane column (omega (low, right, placed.0, arith), placed.1, inr placed.0))
-    (All-nil (Avoids from behind memory)))
-
-to_memory : (from behind memory column : ℕ) → 7 ≤ from → from ≤ behind → behind + 6 ≤ memory →
-    All (Avoids from behind memory) (sign_at To (memory - 2) column ∷ [])
+to_memory : (from behind memory column : ℕ) → 7 ≤ from → from ≤ behind → behind + 6 ≤ memory → Avoids from behind memory (sign_at To (memory - 2) column)
 to_memory from behind memory column low right high =
-    All-cons (Avoids from behind memory) (sign_at To (memory - 2) column) []
-    (sign_avoids from behind memory To (memory - 2) column (omega (low, right, high, arith), omega (high, arith), inr (omega (high, arith))))
-    (All-nil (Avoids from behind memory))
-
-land_avoids : (from behind memory column : ℕ) (lane : Option ℕ) → 7 ≤ from → from ≤ behind → behind + 6 ≤ memory →
-    IfSome lane (λ l. (behind ≤ l) × (l < memory)) → All (Avoids from behind memory) (land_strokes column memory lane)
-land_avoids from behind memory column None low right high placed =
-    All-cons (Avoids from behind memory) (sign_at Cut (memory - 3) column) (sign_at To (memory - 2) column ∷ [])
-    (sign_avoids from behind memory Cut (memory - 3) column (omega (low, right, high, arith), omega (high, arith), inr (omega (high, arith))))
-    (to_memory from behind memory column low right high)
-land_avoids from behind memory column (Some lane) low right high placed =
-    All-cons (Avoids from behind memory) (across Flat (lane + 1) (memory - 2) column) (sign_at Lands lane column ∷ sign_at To (memory - 2) column ∷ [])
-    (across_avoids from behind memory Flat (lane + 1) (memory - 2) column
-    (omega (low, right, placed.0, arith)) (omega (placed.0, arith)) (omega arith))
-    (All-cons (Avoids from behind memory) (sign_at Lands lane column) (sign_at To (memory - 2) column ∷ [])
-    (sign_avoids from behind memory Lands lane column (omega (low, right, placed.0, arith), placed.1, inr placed.0))
-    (to_memory from behind memory column low right high))
-
-amo_avoids : (from behind memory column : ℕ) → 7 ≤ from → from ≤ behind → behind + 6 ≤ memory →
-    All (Avoids from behind memory) (amo_strokes column behind memory)
-amo_avoids from behind memory column low right high =
-    All-cons (Avoids from behind memory) (sign_at From (behind + 1) column)
-    (across Double (behind + 2) (memory - 2) column ∷ sign_at To (memory - 2) column ∷ [])
-    (sign_avoids from behind memory From (behind + 1) column (omega (low, right, arith), omega (high, arith), inr (omega arith)))
-    (All-cons (Avoids from behind memory) (across Double (behind + 2) (memory - 2) column) (sign_at To (memory - 2) column ∷ [])
-    (across_avoids from behind memory Double (behind + 2) (memory - 2) column (omega (low, right, arith)) (omega arith) (omega arith))
-    (to_memory from behind memory column low right high))
+    sign_avoids from behind memory To (memory - 2) column (omega (low, right, high, arith), omega (high, arith), inr (omega (high, arith)))
 
 own_avoids : (from behind memory column : ℕ) (lane : Option ℕ) (e : Entry) → 7 ≤ from → from ≤ behind → behind + 6 ≤ memory →
-    IfSome lane (λ l. (behind ≤ l) × (l < memory)) → All (Avoids from behind memory) (own_strokes column behind memory lane e)
-own_avoids from behind memory column lane (entry.Store h a width v) low right high placed = store_avoids from behind memory column lane low right high placed
-own_avoids from behind memory column lane (entry.Land h) low right high placed = land_avoids from behind memory column lane low right high placed
-own_avoids from behind memory column lane (entry.Amo h a old new) low right high placed = amo_avoids from behind memory column low right high
-own_avoids from behind memory column lane other low right high placed = All-nil (Avoids from behind memory)
+    IfSome lane (λ l. (behind ≤ l) × (l < memory)) → AllByRecursion (Avoids from behind memory) (own_strokes column behind memory lane e)
+own_avoids from behind memory column None (entry.Store h a width v) low right high placed =
+    (sign_avoids from behind memory Cut (behind + 1) column (omega (low, right, arith), omega (high, arith), inr (omega arith)), tt)
+own_avoids from behind memory column (Some lane) (entry.Store h a width v) low right high placed = (
+  across_avoids from behind memory Flat (behind + 1) lane column (omega (low, right, arith)) (omega arith) (omega (placed.1, arith)),
+  (sign_avoids from behind memory Bend lane column (omega (low, right, placed.0, arith), placed.1, inr placed.0), tt),
+)
+own_avoids from behind memory column None (entry.Land h) low right high placed = (
+  sign_avoids from behind memory Cut (memory - 3) column (omega (low, right, high, arith), omega (high, arith), inr (omega (high, arith))),
+  (to_memory from behind memory column low right high, tt),
+)
+own_avoids from behind memory column (Some lane) (entry.Land h) low right high placed = (
+  across_avoids from behind memory Flat (lane + 1) (memory - 2) column (omega (low, right, placed.0, arith)) (omega (placed.0, arith)) (omega arith),
+  (
+    sign_avoids from behind memory Lands lane column (omega (low, right, placed.0, arith), placed.1, inr placed.0),
+    (to_memory from behind memory column low right high, tt),
+  ),
+)
+own_avoids from behind memory column lane (entry.Amo h a old new) low right high placed = (
+  sign_avoids from behind memory From (behind + 1) column (omega (low, right, arith), omega (high, arith), inr (omega arith)),
+  (
+    across_avoids from behind memory Double (behind + 2) (memory - 2) column (omega (low, right, arith)) (omega arith) (omega arith),
+    (to_memory from behind memory column low right high, tt),
+  ),
+)
+own_avoids from behind memory column lane other low right high placed = tt
 
 -- ---- a row
 
@@ -111,18 +93,19 @@ Placed p h = (rank p h.column < columns p) × (h.lane < p.lanes)
 
 read_avoids : (p : PlacesOf) (from behind column : ℕ) (sources : List Source) (h : Held) → 7 ≤ from → from ≤ behind →
     behind + 6 ≤ memory_cell p → lane_cell p h < memory_cell p →
-    All (Avoids from behind (memory_cell p)) (read_strokes p sources column behind h)
+    AllByRecursion (Avoids from behind (memory_cell p)) (read_strokes p sources column behind h)
 read_avoids p from behind column sources h low right high placed =
-    let P = Avoids from behind (memory_cell p) in
-    elim (is_read sources h) as
-    (λ b. All P (if b then sign_at Reader (behind + 1) column ∷ across Reads (behind + 2) (lane_cell p h) column ∷ [] else [])) [
-      | true ↦
-          All-cons P (sign_at Reader (behind + 1) column) (across Reads (behind + 2) (lane_cell p h) column ∷ [])
-          (sign_avoids from behind (memory_cell p) Reader (behind + 1) column (omega (low, right, arith), omega (high, arith), inr (omega arith)))
-          (All-cons P (across Reads (behind + 2) (lane_cell p h) column) []
-          (across_avoids from behind (memory_cell p) Reads (behind + 2) (lane_cell p h) column
-          (omega (low, right, arith)) (omega arith) (omega (placed, arith))) (All-nil P))
-      | false ↦ All-nil P
+    elim (is_read sources h) as (λ b. AllByRecursion (Avoids from behind (memory_cell p))
+    (if b then sign_at Reader (behind + 1) column ∷ across Reads (behind + 2) (lane_cell p h) column ∷ [] else [])) [
+      | true ↦ (
+        sign_avoids from behind (memory_cell p) Reader (behind + 1) column (omega (low, right, arith), omega (high, arith), inr (omega arith)),
+        (
+          across_avoids from behind (memory_cell p) Reads (behind + 2) (lane_cell p h) column
+              (omega (low, right, arith)) (omega arith) (omega (placed, arith)),
+          tt,
+        ),
+      )
+      | false ↦ tt
     ]
 
 reads_avoid : (p : PlacesOf) (from behind column : ℕ) (sources : List Source) (hs : List Held) → 7 ≤ from → from ≤ behind →
@@ -132,7 +115,8 @@ reads_avoid p from behind column sources [] low right high all = All-nil (Avoids
 reads_avoid p from behind column sources (h ∷ hs) low right high all =
     rw (flat_map-cons (read_strokes p sources column behind) h hs)
     (All-append (Avoids from behind (memory_cell p)) (read_strokes p sources column behind h) (flat_map (read_strokes p sources column behind) hs)
-    (read_avoids p from behind column sources h low right high (All-head (λ h. Outside from behind (memory_cell p) (lane_cell p h)) h hs all).1)
+    (All-from_recursion (Avoids from behind (memory_cell p)) (read_strokes p sources column behind h)
+    (read_avoids p from behind column sources h low right high (All-head (λ h. Outside from behind (memory_cell p) (lane_cell p h)) h hs all).1))
     (reads_avoid p from behind column sources hs low right high (All-tail (λ h. Outside from behind (memory_cell p) (lane_cell p h)) h hs all)))
 
 passing_avoid : (p : PlacesOf) (from behind : ℕ) (sources : List Source) (hs : List Held) →
@@ -241,17 +225,17 @@ strokes_avoid p column cells r l shown short placed =
     let reads = flat_map (read_strokes p r.sources column behind) l.passing in
     All-append P (own ++ reads) (map (passing_stroke p r.sources) l.passing)
     (All-append P own reads
-    (own_avoids from behind memory column (option_map (lane_cell p) l.own) r.entry low right high (own_beside p column cells l.own shown short placed.0))
+    (All-from_recursion P own (own_avoids from behind memory column (option_map (lane_cell p) l.own) r.entry low right high
+    (own_beside p column cells l.own shown short placed.0)))
     (reads_avoid p from behind column r.sources l.passing low right high beside))
     (passing_avoid p from behind r.sources l.passing beside)
 
 pub row_clear : (p : PlacesOf) (i column : ℕ) (said kept : List ℕ) (r : RowOf) (l : LanedOf) → i + 1 < 10 ^ 7 → rank p column < columns p →
-    length said ≤ 255 → length said ≤ p.text → IsPlacedIn p column l → IsClear (row_line p i column said kept r l)
-row_clear p i column said kept r l few shown whole short placed =
-    let cells : min (length said) 255 ≡ length said = omega (whole, arith) in
+    length said ≤ p.text → IsPlacedIn p column l → IsClear (row_line p i column said kept r l)
+row_clear p i column said kept r l few shown short placed =
     let digits : length (decimal (i + 1)) ≤ 7 = length-decimal-le 7 (i + 1) (omega arith) few (omega (few, arith)) in
     let room : rank p column * pitch p + pitch p ≤ columns p * pitch p = room_left (rank p column) (columns p) (pitch p) shown in
-    pieces_clear (number_mark i) (text_at (begins p column) true said) (text_at (memory_cell p) true kept)
-    (row_strokes p column (begins p column + min (length said) 255) r l)
+    pieces_clear (number_mark i) (text_at (begins p column) Loud said) (text_at (memory_cell p) Loud kept)
+    (row_strokes p column (begins p column + length said) r l)
     (omega (digits, arith)) (omega arith) (omega (room, short, arith))
-    (rw cells (strokes_avoid p column (length said) r l shown short placed))
+    (strokes_avoid p column (length said) r l shown short placed)

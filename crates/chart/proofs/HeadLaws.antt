@@ -9,6 +9,7 @@ use Rattle.std.proofs.lemmas.Bool.{cases_Bool, cases_eq, lt-ltb, le-ltb}
 use Rattle.std.proofs.lemmas.Fmt.{length-decimal-le}
 use Rattle.std.proofs.lemmas.List.{length-append, map-append}
 use Rattle.step_machine.specs.declared.events.Entry.{Entry}
+use Rattle.chart.specs.declared.pictures.Weight.TheVariants.{Bold}
 use Rattle.chart.specs.Pictures.{stands_in, IsClear}
 use Rattle.chart.specs.Places.{PlacesOf, pitch, begins, memory_cell}
 use Rattle.chart.specs.Scenes.{is_shown, shown_harts, hart_name}
@@ -115,14 +116,14 @@ heads_apart es harts text lanes (suc n) cell within few =
       | false ↦ rw (append-nil xs) rest
     ]
 
--- the heads and that of memory, which stands behind the columns
+-- the heads and that of memory, which stands to the right of the columns
 with_memory : (es : List Entry) (harts text lanes cell : ℕ) → harts ≤ 255 →
     count_by (stands_in cell) (map (head_mark (apart es harts text lanes)) (shown_harts es harts)
-    ++ text_at (memory_cell (apart es harts text lanes)) true (codes "memory") ∷ []) + 0 ≤ 1
+    ++ text_at (memory_cell (apart es harts text lanes)) Bold (codes "memory") ∷ []) + 0 ≤ 1
 with_memory es harts text lanes cell few =
     let p = apart es harts text lanes in
     let heads = map (head_mark p) (shown_harts es harts) in
-    let memory = text_at (memory_cell p) true (codes "memory") in
+    let memory = text_at (memory_cell p) Bold (codes "memory") in
     let before = heads_apart es harts text lanes harts cell (omega arith) few in
     let parts : count_by (stands_in cell) (heads ++ memory ∷ []) ≡ count_by (stands_in cell) heads + count_by (stands_in cell) (memory ∷ []) =
     count-append (stands_in cell) heads (memory ∷ []) in
@@ -146,9 +147,9 @@ heads_clear es harts true text lanes few cell =
     let p : PlacesOf = record { listed = true; shown = shown_harts es harts; text = text; lanes = lanes } in
     let all = struck_at 7 5 cell in
     let memory = struck_at (memory_cell p) 6 cell in
-    let one : 0 + cond (stands_in cell (text_at 7 true (codes "harts"))) 1 0 + cond
-    (stands_in cell (text_at (memory_cell p) true (codes "memory"))) 1 0 + 0 + 0 ≤ 1 =
-    one_of (stands_in cell (text_at 7 true (codes "harts"))) (stands_in cell (text_at (memory_cell p) true (codes "memory"))) false false
+    let one : 0 + cond (stands_in cell (text_at 7 Bold (codes "harts"))) 1 0 + cond
+    (stands_in cell (text_at (memory_cell p) Bold (codes "memory"))) 1 0 + 0 + 0 ≤ 1 =
+    one_of (stands_in cell (text_at 7 Bold (codes "harts"))) (stands_in cell (text_at (memory_cell p) Bold (codes "memory"))) false false
     (λ a b. omega ((all a).1, (memory b).0, arith)) (λ a c. cc) (λ a d. cc) (λ b c. cc) (λ b d. cc) (λ c d. cc) in
     omega (one, arith)
 heads_clear es harts false text lanes few cell = with_memory es harts text lanes cell few

@@ -1,6 +1,7 @@
--- Lanes of one more row, and that no two lines at one row have one lane.
+-- Lanes of one more row, and which lane is free.
 use Rattle.std.proofs.Common.{◌≡◌, ℕ, zero, suc, ◌+◌, ◌-◌, ◌<◌, ◌==◌, true, false, if◌then◌else◌, List, []}
-use Rattle.std.proofs.Common.{◌∷◌, ◌++◌, length, take, drop, get_or, Some, None, refl, sym, ap, ◌∙◌, arith}
+use Rattle.std.proofs.Common.{◌∷◌, ◌++◌, length, take, drop, get_or, Some, None, inl, inr, refl, sym, ap, ◌∙◌, subst, arith}
+use Rattle.std.proofs.lemmas.Bool.{cases_Bool}
 use Rattle.std.proofs.lemmas.List.{take_more, length-take}
 use Rattle.std.proofs.Math.Seq.{drop-cons}
 use Rattle.chart.specs.declared.lanes.Held.{Held}
@@ -34,6 +35,18 @@ held_by_more row i hs d within is = sym (ap (held_by row) (drop_step hs i d with
 pub held_by_here : (row i : ℕ) (hs : List Held) (d : Held) → i < length hs → ((get_or hs i d).row == row) ≡ true →
     held_by row (drop i hs) ≡ Some (get_or hs i d)
 held_by_here row i hs d within is = ap (held_by row) (drop-cons hs i d within) ∙ rw is refl
+
+-- the first free lane is one of those that were looked at, and nobody holds it
+pub first_free_is : (held : List Held) (column k n j : ℕ) → first_free held column k n ≡ Some j → (j < k + n) × (is_held held column j ≡ false)
+first_free_is held column k zero j is = cc
+first_free_is held column k (suc n) j is =
+    elim (cases_Bool (is_held held column k)) [
+      | inl busy ↦ let rest = first_free_is held column (k + 1) n j (rw busy at is) in (omega (rest.0, arith), rest.1)
+      | inr free ↦
+          let here : Some k ≡ Some j = rw free at is in
+          let same : k ≡ j = cc in
+          (omega (same, arith), subst (λ (i : ℕ). is_held held column i ≡ false) same free)
+    ]
 
 -- ---- one more row
 

@@ -1,11 +1,11 @@
 -- No text of a picture's rows stands on another text or on a stroke, and no head of a column on another one.
-use Rattle.std.proofs.Common.{◌≡◌, ℕ, zero, suc, ◌+◌, ◌<◌, ◌≤◌, ◌^◌, min, true, false, if◌then◌else◌}
-use Rattle.std.proofs.Common.{inl, inr, List, [], ◌∷◌, ◌++◌, length, map, Option, Some, None, All, refl, sym, ◌∙◌, ap, subst, arith}
+use Rattle.std.proofs.Common.{◌≡◌, ℕ, zero, suc, ◌+◌, ◌<◌, ◌≤◌, ◌^◌, true, false, if◌then◌else◌}
+use Rattle.std.proofs.Common.{inl, inr, List, [], ◌∷◌, length, map, Option, Some, None, All, refl, sym, ◌∙◌, ap, arith}
 use Rattle.std.specs.Prelude.{nat_le}
 use Rattle.std.specs.List.{slice_get, list_any}
 use Rattle.std.proofs.lemmas.Bool.{cases_eq}
-use Rattle.std.proofs.lemmas.List.{length-append, length-map, get_or_append_left}
-use Rattle.std.proofs.lemmas.List.Elements.{All-nil, All-cons, All-head, All-tail, All-append, All-pop}
+use Rattle.std.proofs.lemmas.List.{length-map}
+use Rattle.std.proofs.lemmas.List.Elements.{All-nil, All-cons, All-append}
 use Rattle.step_machine.specs.declared.events.Entry.{Entry}
 use Rattle.step_machine.specs.Entries.{hart_of}
 use Rattle.chart.specs.declared.lanes.Held.{Held}
@@ -13,10 +13,10 @@ use Rattle.chart.specs.declared.pictures.Stroke.{Stroke}
 use Rattle.chart.specs.declared.scenes.Form.{Form}
 use Rattle.chart.specs.Rows.{RowOf, rows_of}
 use Rattle.chart.specs.Lanes.{LanedOf, column_of, held_at_end}
-use Rattle.chart.specs.Pictures.{MarkOf, LineOf, strikes, IsClear, HasShortTexts}
-use Rattle.chart.specs.Places.{PlacesOf, begins, memory_cell}
+use Rattle.chart.specs.Pictures.{strikes, IsClear}
+use Rattle.chart.specs.Places.{PlacesOf}
 use Rattle.chart.specs.Scenes.{SceneOf, scene_of, said_at, kept_at, widest_said, said_cells, shape_of, lanes_in, places_of, used_after}
-use Rattle.chart.specs.Lines.{text_at, number_mark, laned_line, line_in, line_at, lines_of, open_stroke, open_lines}
+use Rattle.chart.specs.Lines.{laned_line, line_in, line_at, lines_of, open_stroke, open_lines}
 use Rattle.chart.specs.Layout.{AboutOf, layout, limit, width_of, form_or, form_of, body_of, wide, brief, listed, brief_listed, narrowest}
 use Rattle.chart.proofs.Clear.{row_clear}
 use Rattle.chart.proofs.Placed.{RowFits, row_fits, columns_there}
@@ -28,61 +28,44 @@ use Rattle.chart.proofs.RowLaws.{entries_of_rows}
 no_texts : (ss : List Stroke) → IsClear (record { marks = []; strokes = ss })
 no_texts ss cell = elim (list_any (λ s. strikes s cell) ss) as (λ b. 0 + (if b then 1 else 0) ≤ 1) [ true ↦ omega arith | false ↦ omega arith ]
 
-abbrev IsShort : MarkOf → Type 0
-IsShort m = length m.text ≤ 255
-
 laned_clear : (form : Form) (scene : SceneOf) (p : PlacesOf) (i : ℕ) (r : RowOf) (lo : Option LanedOf) → i + 1 < 10 ^ 7 →
-    min (length (said_at form scene i)) 255 ≤ p.text → RowFits p (shape_of form) (Some r) lo → HasShortTexts (laned_line form scene p i r lo) →
-    IsClear (laned_line form scene p i r lo)
-laned_clear form scene p i r None few room fits short = no_texts []
-laned_clear form scene p i r (Some l) few room fits short =
-    let said = said_at form scene i in
-    let kept = kept_at form scene i in
-    let column = column_of (shape_of form) (hart_of r.entry) in
-    let texts = text_at (begins p column) true said ∷ text_at (memory_cell p) true kept ∷ [] in
-    let whole : length said ≤ 255 =
-    All-head IsShort (text_at (begins p column) true said) (text_at (memory_cell p) true kept ∷ []) (All-tail IsShort (number_mark i) texts short) in
-    row_clear p i column said kept r l few fits.0 whole (omega (room, whole, arith)) fits.1
+    length (said_at form scene i) ≤ p.text → RowFits p (shape_of form) (Some r) lo → IsClear (laned_line form scene p i r lo)
+laned_clear form scene p i r None few room fits = no_texts []
+laned_clear form scene p i r (Some l) few room fits =
+    row_clear p i (column_of (shape_of form) (hart_of r.entry)) (said_at form scene i) (kept_at form scene i) r l few fits.0 room fits.1
 
 line_clear : (form : Form) (scene : SceneOf) (p : PlacesOf) (lanes : List LanedOf) (i : ℕ) (ro : Option RowOf) → i + 1 < 10 ^ 7 →
-    min (length (said_at form scene i)) 255 ≤ p.text → RowFits p (shape_of form) ro (slice_get lanes i) → HasShortTexts (line_in form scene p lanes i ro) →
-    IsClear (line_in form scene p lanes i ro)
-line_clear form scene p lanes i None few room fits short = no_texts []
-line_clear form scene p lanes i (Some r) few room fits short = laned_clear form scene p i r (slice_get lanes i) few room fits short
+    length (said_at form scene i) ≤ p.text → RowFits p (shape_of form) ro (slice_get lanes i) → IsClear (line_in form scene p lanes i ro)
+line_clear form scene p lanes i None few room fits = no_texts []
+line_clear form scene p lanes i (Some r) few room fits = laned_clear form scene p i r (slice_get lanes i) few room fits
 
 -- ---- all lines
 
-said_most : (form : Form) (scene : SceneOf) (i n : ℕ) → i < n → min (length (said_at form scene i)) 255 ≤ widest_said form scene n
+said_most : (form : Form) (scene : SceneOf) (i n : ℕ) → i < n → length (said_at form scene i) ≤ widest_said form scene n
 said_most form scene i zero below = absurd (omega (below, arith))
 said_most form scene i (suc n) below =
     elim (cases_eq n i) [
       | inl last ↦ rw last (omega arith)
-      | inr before ↦ let rest : min (length (said_at form scene i)) 255 ≤ widest_said form scene n = said_most form scene i n (omega (below, before, arith)) in
+      | inr before ↦ let rest : length (said_at form scene i) ≤ widest_said form scene n = said_most form scene i n (omega (below, before, arith)) in
           omega (rest, arith)
     ]
 
 lines_clear : (form : Form) (scene : SceneOf) (p : PlacesOf) (lanes : List LanedOf) (n : ℕ) → n ≤ length scene.rows → length scene.rows < 10 ^ 7 →
     p.text ≡ said_cells form scene → ((i : ℕ) → RowFits p (shape_of form) (slice_get scene.rows i) (slice_get lanes i)) →
-    All HasShortTexts (lines_of form scene p lanes n) → All IsClear (lines_of form scene p lanes n)
-lines_clear form scene p lanes zero within few room fits short = All-nil IsClear
-lines_clear form scene p lanes (suc n) within few room fits short =
-    let parts = All-pop HasShortTexts (lines_of form scene p lanes n ++ line_at form scene p lanes n ∷ []) (lines_of form scene p lanes n)
-    (Some (line_at form scene p lanes n)) refl short in
-    let said : min (length (said_at form scene n)) 255 ≤ said_cells form scene = said_most form scene n (length scene.rows) (omega (within, arith)) in
+    All IsClear (lines_of form scene p lanes n)
+lines_clear form scene p lanes zero within few room fits = All-nil IsClear
+lines_clear form scene p lanes (suc n) within few room fits =
+    let said : length (said_at form scene n) ≤ said_cells form scene = said_most form scene n (length scene.rows) (omega (within, arith)) in
     All-append IsClear (lines_of form scene p lanes n) (line_at form scene p lanes n ∷ [])
-    (lines_clear form scene p lanes n (omega (within, arith)) few room fits parts.0)
+    (lines_clear form scene p lanes n (omega (within, arith)) few room fits)
     (All-cons IsClear (line_at form scene p lanes n) []
-    (line_clear form scene p lanes n (slice_get scene.rows n) (omega (within, few, arith)) (omega (said, room, arith)) (fits n) parts.1)
+    (line_clear form scene p lanes n (slice_get scene.rows n) (omega (within, few, arith)) (omega (said, room, arith)) (fits n))
     (All-nil IsClear))
 
 open_clear : (p : PlacesOf) (hs : List Held) → All IsClear (open_lines p hs)
 open_clear p [] = All-nil IsClear
 open_clear p (h ∷ hs) =
     All-cons IsClear (record { marks = []; strokes = map (open_stroke p) (h ∷ hs) }) [] (no_texts (map (open_stroke p) (h ∷ hs))) (All-nil IsClear)
-
-front_short : (ls more : List LineOf) → All HasShortTexts (ls ++ more) → All HasShortTexts ls
-front_short ls more short k d below =
-    subst HasShortTexts (get_or_append_left ls more d k below) (short k d (omega (below, length-append ls more, arith)))
 
 -- ---- the picture
 
@@ -101,24 +84,22 @@ rows_count : (es : List Entry) → length (rows_of es) ≡ length es
 rows_count es = sym (length-map (rows_of es) (λ (r : RowOf). r.entry)) ∙ ap (λ (fs : List Entry). length fs) (entries_of_rows es)
 
 form_clear : (form : Form) (names instructions : List (List ℕ)) (es : List Entry) (harts : ℕ) → form.lanes ≤ 6 → harts ≤ 255 →
-    All (λ e. hart_of e < harts) es → length es < 10 ^ 7 →
-    All HasShortTexts (body_of form (scene_of names instructions es harts)) → All IsClear (body_of form (scene_of names instructions es harts))
-form_clear form names instructions es harts lanes few below rows short =
+    All (λ e. hart_of e < harts) es → length es < 10 ^ 7 → All IsClear (body_of form (scene_of names instructions es harts))
+form_clear form names instructions es harts lanes few below rows =
     let scene = scene_of names instructions es harts in
     let p = places_of form scene in
     let count : length (rows_of es) ≡ length es = rows_count es in
     All-append IsClear (lines_of form scene p (lanes_in form scene) (length scene.rows)) (open_lines p (held_at_end (shape_of form) scene.rows))
     (lines_clear form scene p (lanes_in form scene) (length scene.rows) (omega arith) (omega (count, rows, arith)) refl
     (λ i. row_fits p (shape_of form) es i refl
-    (columns_there es harts form.listed (said_cells form scene) (used_after 0 (lanes_in form scene)) form.lanes few below) (omega (lanes, arith)))
-    (front_short (lines_of form scene p (lanes_in form scene) (length scene.rows)) (open_lines p (held_at_end (shape_of form) scene.rows)) short))
+    (columns_there es harts form.listed (said_cells form scene) (used_after 0 (lanes_in form scene)) form.lanes few below) (omega (lanes, arith))))
     (open_clear p (held_at_end (shape_of form) scene.rows))
 
 pub picture_clear : (about : AboutOf) (es : List Entry) → about.harts ≤ 255 → All (λ e. hart_of e < about.harts) es → length es < 10 ^ 7 →
-    All HasShortTexts (layout about es).body → All IsClear (layout about es).body
-picture_clear about es few below rows short =
+    All IsClear (layout about es).body
+picture_clear about es few below rows =
     let scene = scene_of about.names about.instructions es about.harts in
-    form_clear (form_of scene (limit about.harts)) about.names about.instructions es about.harts (form_lanes scene (limit about.harts)) few below rows short
+    form_clear (form_of scene (limit about.harts)) about.names about.instructions es about.harts (form_lanes scene (limit about.harts)) few below rows
 
 pub heads_of_picture : (about : AboutOf) (es : List Entry) → about.harts ≤ 255 → IsClear (layout about es).heads
 heads_of_picture about es few =

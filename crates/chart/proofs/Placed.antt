@@ -19,12 +19,13 @@ use Rattle.chart.specs.declared.lanes.Shape.{Shape}
 use Rattle.chart.specs.declared.sources.RowWrite.{RowWrite}
 use Rattle.chart.specs.Sources.{pending_by_row, row_of, landed_store, stored_in, stored_at}
 use Rattle.chart.specs.Rows.{RowOf, row_after, rows_after}
-use Rattle.chart.specs.Lanes.{LanedOf, column_of, is_held, first_free, in_lane, held_by, own_line, passing_lines}
+use Rattle.chart.specs.Lanes.{LanedOf, column_of, first_free, in_lane, held_by, own_line, passing_lines}
 use Rattle.chart.specs.Lanes.{laned_row, held_after_entry, held_after, lanes_from}
 use Rattle.chart.specs.Places.{PlacesOf, rank, columns}
 use Rattle.chart.specs.Scenes.{is_shown, has_entry, shown_harts, lanes_to, lanes_at, used_after}
 use Rattle.chart.proofs.ByRow.{HasStored, entry_there, pending_stored}
 use Rattle.chart.proofs.Clear.{Placed, IsPlacedIn}
+use Rattle.chart.proofs.LaneLaws.{first_free_is}
 
 -- ---- what is held
 
@@ -55,14 +56,6 @@ one_held P (Some h) holds = All-cons P h [] holds (All-nil P)
 
 -- ---- the line of a store
 
-free_below : (held : List Held) (column k n j : ℕ) → first_free held column k n ≡ Some j → j < k + n
-free_below held column k zero j is = cc
-free_below held column k (suc n) j is =
-    elim (cases_Bool (is_held held column k)) [
-      | inl busy ↦ let rest : j < k + 1 + n = free_below held column (k + 1) n j (rw busy at is) in omega (rest, arith)
-      | inr free ↦ let here : Some k ≡ Some j = rw free at is in let same : k ≡ j = cc in omega (same, arith)
-    ]
-
 record Taken (p : PlacesOf) (row column : ℕ) (h : Held) : Type 0 where
   placed : Placed p h
   in_column : h.column ≡ column
@@ -80,7 +73,7 @@ taken_placed : (p : PlacesOf) (shape : Shape) (row column : ℕ) (held : List He
     lanes_to (in_lane row column (first_free held column 0 shape.lanes)) ≤ p.lanes →
     IfSome (in_lane row column (first_free held column 0 shape.lanes)) (Taken p row column)
 taken_placed p shape row column held shown few used = in_lane_placed p row column shape.lanes (first_free held column 0 shape.lanes) shown few used
-    (λ j is. let below : j < 0 + shape.lanes = free_below held column 0 shape.lanes j is in omega (below, arith))
+    (λ j is. let free = first_free_is held column 0 shape.lanes j is in omega (free.0, arith))
 
 -- ---- the line of a landing
 

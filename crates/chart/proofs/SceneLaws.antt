@@ -1,5 +1,5 @@
 -- One more hart, one more row and one more line.
-use Rattle.std.proofs.Common.{◌≡◌, ℕ, suc, ◌+◌, ◌<◌, if◌then◌else◌, List, [], ◌∷◌, ◌++◌, length, take, get_or, min, max, refl, arith}
+use Rattle.std.proofs.Common.{◌≡◌, ℕ, suc, ◌+◌, ◌<◌, if◌then◌else◌, List, [], ◌∷◌, ◌++◌, length, take, get_or, max, refl, arith}
 use Rattle.std.proofs.lemmas.List.{take_more}
 use Rattle.step_machine.specs.declared.events.Entry.{Entry}
 use Rattle.chart.specs.declared.scenes.Form.{Form}
@@ -10,11 +10,11 @@ pub harts_more : (es : List Entry) (n : ℕ) → shown_harts es (n + 1) ≡ show
 harts_more es n = let more : n + 1 ≡ suc n = omega arith in rw more refl
 
 pub said_more : (form : Form) (scene : SceneOf) (n : ℕ) →
-    widest_said form scene (n + 1) ≡ max (widest_said form scene n) (min (length (said_at form scene n)) 255)
+    widest_said form scene (n + 1) ≡ max (widest_said form scene n) (length (said_at form scene n))
 said_more form scene n = let more : n + 1 ≡ suc n = omega arith in rw more refl
 
 pub kept_more : (form : Form) (scene : SceneOf) (n : ℕ) →
-    widest_kept form scene (n + 1) ≡ max (widest_kept form scene n) (min (length (kept_at form scene n)) 255)
+    widest_kept form scene (n + 1) ≡ max (widest_kept form scene n) (length (kept_at form scene n))
 kept_more form scene n = let more : n + 1 ≡ suc n = omega arith in rw more refl
 
 used_after-last : (used : ℕ) (ls : List LanedOf) (l : LanedOf) → used_after used (ls ++ l ∷ []) ≡ max (used_after used ls) (lanes_at l)

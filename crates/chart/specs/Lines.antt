@@ -1,7 +1,7 @@
 -- The lines of a picture: what stands in a row, and which strokes. A pending store's line goes from its
 -- row to a lane, down in it, and from there to memory in the row of its landing. Lines downwards are
 -- written over lines across, so that each can be followed.
-use Rattle.std.specs.Prelude.{ℕ, zero, suc, ◌+◌, ◌-◌, ◌==◌, min, if◌then◌else◌, Bool, true, false}
+use Rattle.std.specs.Prelude.{ℕ, zero, suc, ◌+◌, ◌-◌, ◌==◌, if◌then◌else◌, Bool, false}
 use Rattle.std.specs.Prelude.{List, [], ◌∷◌, ◌++◌, length, map, codes, Option, None, Some, option_map}
 use Rattle.std.specs.List.{slice_get, flat_map, list_any}
 use Rattle.std.specs.Fmt.{decimal}
@@ -14,6 +14,8 @@ use Rattle.chart.specs.declared.sources.Source.TheVariants.{Own, Memory, Opening
 use Rattle.chart.specs.declared.pictures.Sign.{Sign}
 use Rattle.chart.specs.declared.pictures.Sign.TheVariants.{Flat, Double, Reads, Down, Bend, Lands, From, Reader, To, Joins, Cut, Open}
 use Rattle.chart.specs.declared.pictures.Stroke.{Stroke}
+use Rattle.chart.specs.declared.pictures.Weight.{Weight}
+use Rattle.chart.specs.declared.pictures.Weight.TheVariants.{Quiet, Loud, Bold}
 use Rattle.chart.specs.declared.scenes.Form.{Form}
 use Rattle.chart.specs.Rows.{RowOf}
 use Rattle.chart.specs.Lanes.{LanedOf, column_of}
@@ -30,7 +32,7 @@ sign_at sign cell column = record { sign = sign; at = cell; count = 1; hart = co
 abbrev pub across : Sign → (from to column : ℕ) → Stroke
 across sign from to column = record { sign = sign; at = from; count = to - from; hart = column }
 
--- a store's line, from behind its text to its lane; without a lane it is cut
+-- a store's line, from the end of its text to its lane; without a lane it is cut
 abbrev pub store_strokes : (column behind : ℕ) → (lane : Option ℕ) → List Stroke
 store_strokes column behind None = sign_at Cut (behind + 1) column ∷ []
 store_strokes column behind (Some lane) = across Flat (behind + 1) lane column ∷ sign_at Bend lane column ∷ []
@@ -76,18 +78,18 @@ row_strokes p column behind r l =
 
 -- ---- lines
 
-abbrev pub text_at : (cell : ℕ) → Bool → List ℕ → MarkOf
-text_at cell loud text = record { at = cell; loud = loud; text = text }
+abbrev pub text_at : (cell : ℕ) → Weight → List ℕ → MarkOf
+text_at cell weight text = record { at = cell; weight = weight; text = text }
 
 -- rows count from 1, and their numbers end before cell 5
 abbrev pub number_mark : ℕ → MarkOf
-number_mark i = text_at (5 - length (decimal (i + 1))) false (decimal (i + 1))
+number_mark i = text_at (5 - length (decimal (i + 1))) Quiet (decimal (i + 1))
 
 -- the line of row i, in this column, with what it says there and in memory
 abbrev pub row_line : PlacesOf → (i column : ℕ) → (said kept : List ℕ) → RowOf → LanedOf → LineOf
 row_line p i column said kept r l = record {
-  marks = number_mark i ∷ text_at (begins p column) true said ∷ text_at (memory_cell p) true kept ∷ [];
-  strokes = row_strokes p column (begins p column + min (length said) 255) r l;
+  marks = number_mark i ∷ text_at (begins p column) Loud said ∷ text_at (memory_cell p) Loud kept ∷ [];
+  strokes = row_strokes p column (begins p column + length said) r l;
 }
 
 abbrev pub empty_line : LineOf
@@ -123,13 +125,10 @@ open_lines p [] = []
 open_lines p (h ∷ hs) = record { marks = []; strokes = map (open_stroke p) (h ∷ hs) } ∷ []
 
 abbrev pub head_mark : PlacesOf → ℕ → MarkOf
-head_mark p h = text_at (begins p h) true (hart_name h)
-
-abbrev pub named_marks : PlacesOf → List MarkOf
-named_marks p = map (head_mark p) p.shown
+head_mark p h = text_at (begins p h) Bold (hart_name h)
 
 abbrev pub hart_marks : PlacesOf → List MarkOf
-hart_marks p = if p.listed then text_at 7 true (codes "harts") ∷ [] else named_marks p
+hart_marks p = if p.listed then text_at 7 Bold (codes "harts") ∷ [] else map (head_mark p) p.shown
 
 abbrev pub heads_line : PlacesOf → LineOf
-heads_line p = record { marks = hart_marks p ++ text_at (memory_cell p) true (codes "memory") ∷ []; strokes = [] }
+heads_line p = record { marks = hart_marks p ++ text_at (memory_cell p) Bold (codes "memory") ∷ []; strokes = [] }

@@ -1,15 +1,16 @@
 -- A picture of a run as a value, and its text. A line has texts, which are marks at their cells, and
 -- strokes; cells count from 0.
 use Rattle.std.specs.Prelude.{ℕ, zero, suc, ◌+◌, ◌-◌, ◌==◌, ◌≤◌, ◌&&◌, nat_lt, nat_le, if◌then◌else◌}
-use Rattle.std.specs.Prelude.{Bool, List, [], ◌∷◌, ◌++◌, All, length, map, Option, None, unwrap_or}
+use Rattle.std.specs.Prelude.{Bool, List, [], ◌∷◌, ◌++◌, length, map, Option, None, unwrap_or}
 use Rattle.std.specs.List.{slice_get, flat_map, count_by, list_any}
 use Rattle.chart.specs.declared.pictures.Sign.{Sign}
 use Rattle.chart.specs.declared.pictures.Sign.TheVariants.{Flat, Double, Reads, Down, Bend, Lands, From, Reader, To, Joins, Cut, Open}
 use Rattle.chart.specs.declared.pictures.Stroke.{Stroke}
+use Rattle.chart.specs.declared.pictures.Weight.{Weight}
 
 pub record MarkOf : Type 0 where
   pub at : ℕ
-  pub loud : Bool
+  pub weight : Weight
   pub text : List ℕ
 
 pub record LineOf : Type 0 where
@@ -67,7 +68,7 @@ cell_of line cell = shown (marked cell (struck cell 32 line.strokes) line.marks)
 
 -- ---- the text
 
--- behind the last of the line's first n cells that isn't blank
+-- the end of what isn't blank in the line's first n cells
 abbrev pub end_of : LineOf → ℕ → ℕ
 end_of line zero = 0
 end_of line (suc n) = if cell_of line n == 32 then end_of line n else suc n
@@ -100,6 +101,3 @@ taken_by cell line = count_by (stands_in cell) line.marks + (if list_any (λ s. 
 -- no text stands on another text or on a stroke
 abbrev pub IsClear : LineOf → Type 0
 IsClear line = (cell : ℕ) → taken_by cell line ≤ 1
-
-abbrev pub HasShortTexts : LineOf → Type 0
-HasShortTexts line = All (λ m. length m.text ≤ 255) line.marks

@@ -1,5 +1,6 @@
 -- What a picture is drawn of: a run's rows, and what they say in a form of it.
-use Rattle.std.specs.Prelude.{ℕ, zero, suc, ◌+◌, ◌==◌, min, max, if◌then◌else◌, Bool, true, List, [], ◌∷◌, ◌++◌, length, codes, Option, None, Some, unwrap_or}
+use Rattle.std.specs.Prelude.{ℕ, zero, suc, ◌+◌, ◌==◌, nat_lt, min, max, if◌then◌else◌, Bool, true}
+use Rattle.std.specs.Prelude.{List, [], ◌∷◌, ◌++◌, length, codes, Option, None, Some, unwrap_or}
 use Rattle.std.specs.List.{slice_get, list_any}
 use Rattle.std.specs.Fmt.{decimal}
 use Rattle.step_machine.specs.declared.events.Entry.{Entry}
@@ -7,6 +8,7 @@ use Rattle.step_machine.specs.Entries.{hart_of}
 use Rattle.chart.specs.declared.lanes.Held.{Held}
 use Rattle.chart.specs.declared.lanes.Shape.{Shape}
 use Rattle.chart.specs.declared.scenes.Form.{Form}
+use Rattle.chart.specs.declared.scenes.TheConstants.{LONGEST_TEXT}
 use Rattle.chart.specs.Rows.{RowOf, rows_of}
 use Rattle.chart.specs.RowTexts.{RowTextOf, row_text}
 use Rattle.chart.specs.Lanes.{LanedOf, lanes_of}
@@ -53,17 +55,19 @@ caller form h = if form.listed then hart_name h else []
 abbrev pub shown_instruction : Form → List ℕ → List ℕ
 shown_instruction form instruction = if form.instructions then instruction else []
 
+-- a text, or `...` where it is too long
+unfoldable pub shortened : List ℕ → List ℕ
+shortened text = if nat_lt LONGEST_TEXT (length text) then codes "..." else text
+
 -- `P0  sw x5,0(x6)  x := 1` or `lw x7,0(x8)  y = 0 [init]`
 abbrev pub said : Form → (instruction : List ℕ) → RowTextOf → List ℕ
-said form instruction t = beside (codes " ") (beside (codes "  ") (beside (codes "  ") (caller form t.hart) (shown_instruction form instruction)) t.effect) t.tag
+said form instruction t =
+    shortened (beside (codes " ") (beside (codes "  ") (beside (codes "  ") (caller form t.hart) (shown_instruction form instruction)) t.effect) t.tag)
 
 -- a landing in memory names the row of its store: `x = 1 [1]`
 abbrev pub of_row : Form → Option ℕ → List ℕ
 of_row form None = []
 of_row form (Some row) = if form.stores then codes " [" ++ decimal (row + 1) ++ codes "]" else []
-
-abbrev pub kept : Form → Option ℕ → List ℕ → List ℕ
-kept form landed memory = memory ++ of_row form landed
 
 -- the instruction of row i, if there is one
 abbrev pub instruction_at : SceneOf → ℕ → List ℕ
@@ -78,7 +82,7 @@ said_at form scene i = said_in form scene i (slice_get scene.rows i)
 
 abbrev pub kept_in : Form → SceneOf → Option RowOf → List ℕ
 kept_in form scene None = []
-kept_in form scene (Some r) = kept form r.landed (row_text scene.names scene.entries r).memory
+kept_in form scene (Some r) = shortened ((row_text scene.names scene.entries r).memory ++ of_row form r.landed)
 
 abbrev pub kept_at : Form → SceneOf → ℕ → List ℕ
 kept_at form scene i = kept_in form scene (slice_get scene.rows i)
@@ -88,11 +92,11 @@ kept_at form scene i = kept_in form scene (slice_get scene.rows i)
 -- the most cells that one of the first n rows takes
 abbrev pub widest_said : Form → SceneOf → ℕ → ℕ
 widest_said form scene zero = 0
-widest_said form scene (suc n) = max (widest_said form scene n) (min (length (said_at form scene n)) 255)
+widest_said form scene (suc n) = max (widest_said form scene n) (length (said_at form scene n))
 
 abbrev pub widest_kept : Form → SceneOf → ℕ → ℕ
 widest_kept form scene zero = 6
-widest_kept form scene (suc n) = max (widest_kept form scene n) (min (length (kept_at form scene n)) 255)
+widest_kept form scene (suc n) = max (widest_kept form scene n) (length (kept_at form scene n))
 
 abbrev pub said_cells : Form → SceneOf → ℕ
 said_cells form scene = widest_said form scene (length scene.rows)

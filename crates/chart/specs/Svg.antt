@@ -8,6 +8,10 @@ use Rattle.chart.specs.declared.pictures.Sign.{Sign}
 use Rattle.chart.specs.declared.pictures.Sign.TheVariants.{Flat, Double, Reads, Down, Bend, Lands, From, Reader}
 use Rattle.chart.specs.declared.pictures.Sign.TheVariants.{To, Joins, Cut, Open}
 use Rattle.chart.specs.declared.pictures.Stroke.{Stroke}
+use Rattle.chart.specs.declared.pictures.Weight.{Weight}
+use Rattle.chart.specs.declared.pictures.Weight.TheVariants.{Quiet, Loud, Bold}
+use Rattle.chart.specs.declared.svg.Layer.{Layer}
+use Rattle.chart.specs.declared.svg.Layer.TheVariants.{Below, Above}
 use Rattle.chart.specs.Pictures.{MarkOf, LineOf, PictureOf, shown}
 use Rattle.chart.specs.Layout.{AboutOf, layout}
 
@@ -50,11 +54,13 @@ text_svg class cell line text =
     if length text == 0 then []
     else text_open ++ text_place class cell line (length text) ++ flat_map escaped text ++ codes "</text>\n"
 
-abbrev pub loudness : MarkOf → List ℕ
-loudness m = if m.loud then codes "loud" else codes "quiet"
+abbrev pub weight_class : Weight → List ℕ
+weight_class Quiet = codes "quiet"
+weight_class Loud = codes "loud"
+weight_class Bold = codes "bold"
 
 abbrev pub mark_svg : (line : ℕ) → MarkOf → List ℕ
-mark_svg line m = text_svg (loudness m) m.at line m.text
+mark_svg line m = text_svg (weight_class m.weight) m.at line m.text
 
 -- ---- strokes
 
@@ -94,9 +100,6 @@ below_by_sign Down line s = upright line s
 below_by_sign Joins line s = upright line s
 below_by_sign other line s = []
 
-abbrev pub below_svg : (line : ℕ) → Stroke → List ℕ
-below_svg line s = below_by_sign s.sign line s
-
 -- lines across have gaps, corners are round, stores' and AMOs' heads and the dots of loads are filled
 abbrev pub above_by_sign : Sign → (line : ℕ) → Stroke → List ℕ
 above_by_sign Flat line s = hart_level (codes "line") line s
@@ -112,12 +115,13 @@ above_by_sign Joins line s = hart_path (codes "head") line s (codes "a4 4 0 1 0 
 above_by_sign Cut line s = hart_path (codes "line") line s (codes "h8m-4 -5v10")
 above_by_sign Open line s = open_svg line s
 
-abbrev pub above_svg : (line : ℕ) → Stroke → List ℕ
-above_svg line s = above_by_sign s.sign line s
+abbrev pub stroke_svg : Layer → (line : ℕ) → Stroke → List ℕ
+stroke_svg Below line s = below_by_sign s.sign line s
+stroke_svg Above line s = above_by_sign s.sign line s
 
 abbrev pub line_svg : (line : ℕ) → LineOf → List ℕ
 line_svg line l =
-    flat_map (below_svg line) l.strokes ++ flat_map (above_svg line) l.strokes ++ flat_map (mark_svg line) l.marks
+    flat_map (stroke_svg Below line) l.strokes ++ flat_map (stroke_svg Above line) l.strokes ++ flat_map (mark_svg line) l.marks
 
 -- ---- the whole
 
@@ -186,15 +190,8 @@ group_start line = codes "<g transform='translate(0 " ++ decimal (22 * line) ++ 
 unfoldable pub grouped : (line : ℕ) → List ℕ → List ℕ
 grouped line inside = group_start line ++ inside ++ codes "</g>\n"
 
-abbrev pub head_svg : MarkOf → List ℕ
-head_svg m = text_svg (codes "bold") m.at 0 m.text
-
 unfoldable pub rule_svg : PictureOf → List ℕ
 rule_svg p = codes "<path class='rule' d='M16 33h" ++ decimal (8 * p.width) ++ codes "'/>\n"
-
--- the heads of the columns, and a line below them
-abbrev pub heads_svg : PictureOf → List ℕ
-heads_svg p = flat_map head_svg p.heads.marks ++ rule_svg p
 
 abbrev pub texts_svg : (class : List ℕ) → List (List ℕ) → List ℕ
 texts_svg class texts = by_line (text_svg class 0) 0 texts
@@ -202,8 +199,9 @@ texts_svg class texts = by_line (text_svg class 0) 0 texts
 abbrev pub lines_svg : List LineOf → List ℕ
 lines_svg lines = by_line line_svg 0 lines
 
+-- the heads of the columns, and a line below them
 abbrev pub heads_group : PictureOf → List ℕ
-heads_group p = grouped (length p.head + 1) (heads_svg p)
+heads_group p = grouped (length p.head + 1) (flat_map (mark_svg 0) p.heads.marks ++ rule_svg p)
 
 abbrev pub body_group : PictureOf → List ℕ
 body_group p = grouped (length p.head + 2) (lines_svg p.body)

@@ -11,7 +11,7 @@ ghost use Rattle.chart.specs.Sources.{byte_from, landed_store, source_of, stored
 ghost use Rattle.chart.specs.Rows.{RowOf, rows_of};
 ghost use Rattle.chart.specs.declared.lanes.Shape.{Shape};
 ghost use Rattle.chart.specs.Lanes.{lanes_of, IsApart};
-ghost use Rattle.chart.specs.Pictures.{HasShortTexts, IsClear};
+ghost use Rattle.chart.specs.Pictures.{IsClear};
 ghost use Rattle.chart.specs.Layout.{AboutOf, layout};
 
 /// The laws of rows and sources. A byte that a hart reads after some entries is the one that its source
@@ -32,10 +32,10 @@ pub fn laws_of_lanes()
     ensures { (shape : Shape) (rows : List RowOf) → All IsApart (lanes_of shape rows) }
 {}
 
-/// The laws of texts: no text of a row stands on another text or on a line, where no text has more than 255
-/// bytes, there are at most 255 harts, and the rows' numbers have at most seven digits; and no head of a
-/// column stands on another one. It does nothing.
+/// The laws of texts: no text of a row stands on another text or on a line, where there are at most 255 harts
+/// and the rows' numbers have at most seven digits; and no head of a column stands on another one. It does
+/// nothing.
 pub fn laws_of_texts()
-    ensures rows { (about : AboutOf) (es : List Entry) → about.harts ≤ 255 → All (λ e. hart_of e < about.harts) es → length es < 10 ^ 7 → All HasShortTexts (layout about es).body → All IsClear (layout about es).body }
+    ensures rows { (about : AboutOf) (es : List Entry) → about.harts ≤ 255 → All (λ e. hart_of e < about.harts) es → length es < 10 ^ 7 → All IsClear (layout about es).body }
     ensures heads { (about : AboutOf) (es : List Entry) → about.harts ≤ 255 → IsClear (layout about es).heads }
 {}

@@ -1,25 +1,27 @@
 //! The lines of a picture, and the picture.
 
-ghost use Rattle.std.specs.Prelude.{◌≡◌, ◌++◌, true, map, nat_le, length, IfOk, OnOk};
+ghost use Rattle.std.specs.Prelude.{◌≡◌, ◌≤◌, ◌++◌, map, nat_le, length, IfOk, OnOk};
 ghost use Rattle.std.specs.List.{slice_get};
 ghost use Rattle.std.specs.String.{string_bytes};
+ghost use Rattle.chart.specs.declared.scenes.TheConstants.{LONGEST_TEXT};
+ghost use Rattle.chart.specs.declared.pictures.Weight.TheVariants.{Bold};
 ghost use Rattle.chart.specs.Lines.{text_at, number_mark as mark_of_number, row_line as line_of_row, empty_line, line_with, laned_line, line_at, row_lines as lines_of_rows, open_stroke, open_lines, head_mark, hart_marks, heads_line as line_of_heads};
 ghost use Rattle.chart.specs.Layout.{width_of as width_in, limit as limit_of, form_of as form_for, picture_in as picture_in_form, picture_of as picture_of_scene};
 
 use crate::lanes::{Held, Laned, held_at_end, lanes_of};
-use crate::pictures::{Line, Mark, Picture, Sign, Stroke};
-use crate::places::{Places, capped};
+use crate::pictures::{Line, Mark, Picture, Sign, Stroke, Weight};
+use crate::places::Places;
 use crate::rows::Row;
 use crate::scenes::{Form, Scene, kept_at, places_of, said_at, widest_kept};
 use crate::strokes::{row_strokes, sign_at};
 use std::alloc::{AllocError, Global};
 
-fn text_at(cell: usize, loud: bool, text: String) -> Mark
-    ensures { result ≡ text_at cell loud (string_bytes text) }
+fn text_at(cell: usize, weight: Weight, text: String) -> Mark
+    ensures { result ≡ text_at cell weight (string_bytes text) }
 {
     Mark {
         at: cell,
-        loud,
+        weight,
         text,
     }
 }
@@ -29,7 +31,7 @@ fn number_mark(alloc: Global, row: usize) -> Result<Mark, AllocError>
 {
     let row = row as u128 + 1;
     let number = format!(in alloc; "{row}")?;
-    Ok(text_at(5usize.saturating_sub(number.len()), false, number))
+    Ok(text_at(5usize.saturating_sub(number.len()), Weight::Quiet, number))
 }
 
 /// The line of a row, with what it says in its column and in memory.
@@ -43,15 +45,16 @@ fn row_line(
     row: &Row,
     laned: &Laned,
 ) -> Result<Line, AllocError>
+    requires { length (string_bytes said) ≤ LONGEST_TEXT }
     ensures { IfOk result (λ line. line ≡ line_of_row places.now i column (string_bytes said) (string_bytes kept) row.now laned.now) }
 {
     let begins = places.begins(column);
-    let behind = begins + u32::from(capped(said.len()));
+    let behind = begins + said.len() as u32;
     let strokes = row_strokes(alloc, places, column, behind, row, laned)?;
     let mut marks = Vec::new(alloc);
     marks.push(number_mark(alloc, i)?)?;
-    marks.push(text_at(begins as usize, true, said))?;
-    marks.push(text_at(places.memory_cell() as usize, true, kept))?;
+    marks.push(text_at(begins as usize, Weight::Loud, said))?;
+    marks.push(text_at(places.memory_cell() as usize, Weight::Loud, kept))?;
     Ok(Line { marks, strokes })
 }
 
@@ -164,7 +167,7 @@ fn head_mark(alloc: Global, places: &Places, hart: u32) -> Result<Mark, AllocErr
     ensures { IfOk result (λ mark. mark ≡ head_mark places.now hart) }
 {
     let name = format!(in alloc; "P{hart}")?;
-    Ok(text_at(places.begins(hart) as usize, true, name))
+    Ok(text_at(places.begins(hart) as usize, Weight::Bold, name))
 }
 
 fn head_marks(alloc: Global, places: &Places, harts: &[u32]) -> Result<Vec<Mark>, AllocError>
@@ -177,10 +180,10 @@ fn head_marks(alloc: Global, places: &Places, harts: &[u32]) -> Result<Vec<Mark>
     Ok(marks)
 }
 
-fn one_mark(alloc: Global, cell: usize, text: &str) -> Result<Mark, AllocError>
-    ensures { IfOk result (λ mark. mark ≡ text_at cell true text.now) }
+fn one_head(alloc: Global, cell: usize, text: &str) -> Result<Mark, AllocError>
+    ensures { IfOk result (λ mark. mark ≡ text_at cell Bold text.now) }
 {
-    Ok(text_at(cell, true, text.to_string(alloc)?))
+    Ok(text_at(cell, Weight::Bold, text.to_string(alloc)?))
 }
 
 fn hart_marks(alloc: Global, places: &Places) -> Result<Vec<Mark>, AllocError>
@@ -190,7 +193,7 @@ fn hart_marks(alloc: Global, places: &Places) -> Result<Vec<Mark>, AllocError>
         return head_marks(alloc, places, &places.shown);
     }
     let mut marks = Vec::new(alloc);
-    marks.push(one_mark(alloc, 7, "harts")?)?;
+    marks.push(one_head(alloc, 7, "harts")?)?;
     Ok(marks)
 }
 
@@ -199,7 +202,7 @@ fn heads_line(alloc: Global, places: &Places) -> Result<Line, AllocError>
     ensures { IfOk result (λ line. line ≡ line_of_heads places.now) }
 {
     let mut marks = hart_marks(alloc, places)?;
-    marks.push(one_mark(alloc, places.memory_cell() as usize, "memory")?)?;
+    marks.push(one_head(alloc, places.memory_cell() as usize, "memory")?)?;
     let strokes = Vec::new(alloc);
     Ok(Line { marks, strokes })
 }

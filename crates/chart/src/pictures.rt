@@ -44,11 +44,20 @@ pub struct Stroke {
     pub hart: u32,
 }
 
-/// A text of a line, from a cell on. What is said is loud; numbers of rows, instructions and tags are not.
+/// How a text is written: the numbers of rows are quiet, what rows say is loud, and the heads of columns are
+/// bold.
+#[derive(Clone, Copy, Debug, PartialEq, Eq)]
+pub enum Weight {
+    Quiet,
+    Loud,
+    Bold,
+}
+
+/// A text of a line, from a cell on.
 #[derive(Debug, Drop)]
 pub struct Mark {
     pub at: usize,
-    pub loud: bool,
+    pub weight: Weight,
     pub text: String,
 }
 
@@ -58,7 +67,7 @@ impl Model for Mark {
 
     ghost Value = { MarkOf };
 
-    ghost view = { λ m. record { at = m.at; loud = m.loud; text = string_bytes m.text } };
+    ghost view = { λ m. record { at = m.at; weight = m.weight; text = string_bytes m.text } };
 }
 
 /// A line of a picture: its texts and its strokes.

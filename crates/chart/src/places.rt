@@ -25,8 +25,8 @@ impl Model for Places {
     ghost view = { λ p. record { listed = p.listed; shown = p.shown.items; text = p.text; lanes = p.lanes } };
 }
 
-/// A number of cells or columns, at most 255.
-pub(crate) fn capped(count: usize) -> u8
+/// A number of columns, at most 255.
+fn capped(count: usize) -> u8
     ensures { result ≡ min count 255 }
 {
     count.min(255) as u8

@@ -1,16 +1,20 @@
 //! What a picture is drawn of: a run's rows, and what they say in a form of it.
 
-ghost use Rattle.std.specs.Prelude.{◌≡◌, ◌==◌, ◌++◌, ◌≤◌, ◌∷◌, [], if◌then◌else◌, length, codes, map, IfOk, OnOk};
+ghost use Rattle.std.specs.Prelude.{◌≡◌, ◌≤◌, ◌==◌, ◌++◌, ◌∷◌, [], if◌then◌else◌, length, codes, map, IfOk, OnOk};
 ghost use Rattle.std.specs.String.{string_bytes};
-ghost use Rattle.chart.specs.Scenes.{has_entry, is_shown as has_column, shown_harts as harts_with_columns, scene_of, beside, caller, shown_instruction, said as said_by, of_row, instruction_at as instruction_of, said_at as said_of_row, kept_at as kept_of_row, said_cells, kept_cells, lanes_in, lanes_to, lanes_at as lanes_of_line, used_after, shape_of, places_of as places_in};
+ghost use Rattle.chart.specs.declared.scenes.TheConstants.{LONGEST_TEXT};
+ghost use Rattle.chart.specs.Scenes.{has_entry, is_shown as has_column, shown_harts as harts_with_columns, scene_of, beside, caller, shown_instruction, shortened as short_text, said as said_by, of_row, instruction_at as instruction_of, said_at as said_of_row, kept_at as kept_of_row, said_cells, kept_cells, lanes_in, lanes_to, lanes_at as lanes_of_line, used_after, shape_of, places_of as places_in};
 
 use crate::lanes::{Held, Laned, Shape};
-use crate::places::{Places, capped};
+use crate::places::Places;
 use crate::row_texts::{RowText, row_text};
 use crate::rows::{Row, rows_of};
 use std::alloc::{AllocError, Global};
 use std::marker::Model;
 use step_machine::Entry;
+
+/// A longer text of a row gives way to three dots, so that widths stay small.
+pub const LONGEST_TEXT: usize = 255;
 
 /// A form of a picture: whether all harts share one column, whether rows tell their instructions, how many
 /// lanes a column has at most, and whether landings name the rows of their stores.
@@ -133,15 +137,29 @@ fn push_instruction(out: &mut String, form: Form, instruction: &str) -> Result<(
     }
 }
 
+/// A text, or three dots where it is too long.
+#[tactic(auto, unfolding(crate::specs::Scenes::shortened))]
+fn shortened(alloc: Global, text: String) -> Result<String, AllocError>
+    ensures value { IfOk result (λ out. string_bytes out ≡ short_text (string_bytes text)) }
+    ensures short { IfOk result (λ out. length (string_bytes out) ≤ LONGEST_TEXT) }
+{
+    if text.len() > LONGEST_TEXT {
+        "...".to_string(alloc)
+    } else {
+        Ok(text)
+    }
+}
+
 /// What a row says in its hart's column.
 fn said(alloc: Global, form: Form, instruction: &str, text: &RowText) -> Result<String, AllocError>
-    ensures { IfOk result (λ out. string_bytes out ≡ said_by form instruction.now text.now) }
+    ensures value { IfOk result (λ out. string_bytes out ≡ said_by form instruction.now text.now) }
+    ensures short { IfOk result (λ out. length (string_bytes out) ≤ LONGEST_TEXT) }
 {
     let mut out = caller_of(alloc, form, text.hart)?;
     push_instruction(&mut out, form, instruction)?;
     push_beside(&mut out, "  ", &text.effect)?;
     push_beside(&mut out, " ", &text.tag)?;
-    Ok(out)
+    shortened(alloc, out)
 }
 
 fn push_of_row(out: &mut String, form: Form, landed: Option<usize>) -> Result<(), AllocError>
@@ -175,7 +193,8 @@ pub(crate) fn said_at(
     scene: &Scene,
     i: usize,
 ) -> Result<String, AllocError>
-    ensures { IfOk result (λ out. string_bytes out ≡ said_of_row form scene.now i) }
+    ensures value { IfOk result (λ out. string_bytes out ≡ said_of_row form scene.now i) }
+    ensures short { IfOk result (λ out. length (string_bytes out) ≤ LONGEST_TEXT) }
 {
     match scene.rows.get(i) {
         Some(row) => {
@@ -193,13 +212,14 @@ pub(crate) fn kept_at(
     scene: &Scene,
     i: usize,
 ) -> Result<String, AllocError>
-    ensures { IfOk result (λ out. string_bytes out ≡ kept_of_row form scene.now i) }
+    ensures value { IfOk result (λ out. string_bytes out ≡ kept_of_row form scene.now i) }
+    ensures short { IfOk result (λ out. length (string_bytes out) ≤ LONGEST_TEXT) }
 {
     match scene.rows.get(i) {
         Some(row) => {
             let mut text = row_text(alloc, &scene.names, &scene.entries, row)?;
             push_of_row(&mut text.memory, form, row.landed)?;
-            Ok(text.memory)
+            shortened(alloc, text.memory)
         }
         None => Ok(String::new(alloc)),
     }
@@ -212,7 +232,7 @@ fn widest_said(alloc: Global, form: Form, scene: &Scene) -> Result<u8, AllocErro
     let mut widest: u8 = 0;
     for i in 0..scene.rows.len() {
         let said = said_at(alloc, form, scene, i)?;
-        widest = widest.max(capped(said.len()));
+        widest = widest.max(said.len() as u8);
     }
     Ok(widest)
 }
@@ -224,7 +244,7 @@ pub(crate) fn widest_kept(alloc: Global, form: Form, scene: &Scene) -> Result<u8
     let mut widest: u8 = 6;
     for i in 0..scene.rows.len() {
         let kept = kept_at(alloc, form, scene, i)?;
-        widest = widest.max(capped(kept.len()));
+        widest = widest.max(kept.len() as u8);
     }
     Ok(widest)
 }

@@ -3,11 +3,18 @@
 ghost use Rattle.std.specs.Prelude.{◌≡◌, ◌++◌, ◌+◌, ◌<◌, ◌^◌, map, IfOk, OnOk};
 ghost use Rattle.std.specs.List.{flat_map};
 ghost use Rattle.std.specs.String.{string_bytes};
-ghost use Rattle.chart.specs.Svg.{x_of as x_of_cell, y_of as y_of_line, baseline as baseline_of, escaped, text_open, text_place, text_svg, loudness as loudness_of, mark_svg, path_svg, hart_class as class_with_hart, hart_path, level_path as level_path_of, level_svg, hart_level, open_svg, below_svg, above_svg, line_svg, widest as widest_of, width_svg, height_svg, said_line, style_svg, size_svg, root_start, root_svg, title_start, title_svg, counts_svg, desc_svg, back_start, back_svg, group_start, head_svg, rule_svg, heads_group, body_group, foot_group, texts_svg, lines_svg, front_svg, inside_svg, picture_svg};
+ghost use Rattle.chart.specs.Svg.{x_of as x_of_cell, y_of as y_of_line, baseline as baseline_of, escaped, text_open, text_place, text_svg, weight_class, mark_svg, path_svg, hart_class as class_with_hart, hart_path, level_path as level_path_of, level_svg, hart_level, open_svg, above_by_sign, stroke_svg, line_svg, widest as widest_of, width_svg, height_svg, said_line, style_svg, size_svg, root_start, root_svg, title_start, title_svg, counts_svg, desc_svg, back_start, back_svg, group_start, rule_svg, heads_group, body_group, foot_group, texts_svg, lines_svg, front_svg, inside_svg, picture_svg};
 
-use crate::pictures::{Line, Mark, Picture, Sign, Stroke};
+use crate::pictures::{Line, Mark, Picture, Sign, Stroke, Weight};
 use crate::text::{push_byte, shown};
 use std::alloc::{AllocError, Global};
+
+/// What of a line's strokes is drawn: what all others of the line cover, or the rest.
+#[derive(Clone, Copy)]
+pub enum Layer {
+    Below,
+    Above,
+}
 
 /// Where a cell begins.
 fn x_of(cell: usize) -> u128
@@ -92,16 +99,20 @@ fn push_text(
     out.push_str("</text>\n")
 }
 
-fn loudness(mark: &Mark) -> &'static str
-    ensures { result.now ≡ loudness_of mark.now }
+fn class_of(weight: Weight) -> &'static str
+    ensures { result.now ≡ weight_class weight }
 {
-    if mark.loud { "loud" } else { "quiet" }
+    match weight {
+        Weight::Quiet => "quiet",
+        Weight::Loud => "loud",
+        Weight::Bold => "bold",
+    }
 }
 
 fn push_mark(out: &mut String, line: usize, mark: &Mark) -> Result<(), AllocError>
     ensures { OnOk result (string_bytes out.new ≡ string_bytes out.old ++ mark_svg line mark.now) }
 {
-    push_text(out, loudness(mark), mark.at, line, &mark.text)
+    push_text(out, class_of(mark.weight), mark.at, line, &mark.text)
 }
 
 /// A path that begins at the left end of a stroke, in the middle of its line.
@@ -189,28 +200,13 @@ fn push_open(alloc: Global, out: &mut String, line: usize, stroke: Stroke) -> Re
     push_hart(alloc, out, "head", line, stroke, "m4 5l-5 -10h10z")
 }
 
-/// What of a stroke stands below all other strokes of its line.
-fn push_below(
-    alloc: Global,
-    out: &mut String,
-    line: usize,
-    stroke: Stroke,
-) -> Result<(), AllocError>
-    ensures { OnOk result (string_bytes out.new ≡ string_bytes out.old ++ below_svg line stroke) }
-{
-    match stroke.sign {
-        Sign::Down | Sign::Joins => push_hart(alloc, out, "line", line, stroke, "m4 -11v22"),
-        _ => Ok(()),
-    }
-}
-
 fn push_above(
     alloc: Global,
     out: &mut String,
     line: usize,
     stroke: Stroke,
 ) -> Result<(), AllocError>
-    ensures { OnOk result (string_bytes out.new ≡ string_bytes out.old ++ above_svg line stroke) }
+    ensures { OnOk result (string_bytes out.new ≡ string_bytes out.old ++ above_by_sign stroke.sign line stroke) }
 {
     match stroke.sign {
         Sign::Flat => push_hart_level(alloc, out, "line", line, stroke),
@@ -231,30 +227,35 @@ fn push_above(
     }
 }
 
-fn push_all_below(
+fn push_stroke(
     alloc: Global,
     out: &mut String,
+    layer: Layer,
     line: usize,
-    strokes: &[Stroke],
+    stroke: Stroke,
 ) -> Result<(), AllocError>
-    ensures { OnOk result (string_bytes out.new ≡ string_bytes out.old ++ flat_map (below_svg line) strokes.now) }
+    ensures { OnOk result (string_bytes out.new ≡ string_bytes out.old ++ stroke_svg layer line stroke) }
 {
-    for stroke in strokes {
-        push_below(alloc, out, line, *stroke)?;
+    match layer {
+        Layer::Below => match stroke.sign {
+            Sign::Down | Sign::Joins => push_hart(alloc, out, "line", line, stroke, "m4 -11v22"),
+            _ => Ok(()),
+        },
+        Layer::Above => push_above(alloc, out, line, stroke),
     }
-    Ok(())
 }
 
-fn push_all_above(
+fn push_strokes(
     alloc: Global,
     out: &mut String,
+    layer: Layer,
     line: usize,
     strokes: &[Stroke],
 ) -> Result<(), AllocError>
-    ensures { OnOk result (string_bytes out.new ≡ string_bytes out.old ++ flat_map (above_svg line) strokes.now) }
+    ensures { OnOk result (string_bytes out.new ≡ string_bytes out.old ++ flat_map (stroke_svg layer line) strokes.now) }
 {
     for stroke in strokes {
-        push_above(alloc, out, line, *stroke)?;
+        push_stroke(alloc, out, layer, line, *stroke)?;
     }
     Ok(())
 }
@@ -271,8 +272,8 @@ fn push_marks(out: &mut String, line: usize, marks: &[Mark]) -> Result<(), Alloc
 fn push_line(alloc: Global, out: &mut String, line: usize, of: &Line) -> Result<(), AllocError>
     ensures { OnOk result (string_bytes out.new ≡ string_bytes out.old ++ line_svg line of.now) }
 {
-    push_all_below(alloc, out, line, &of.strokes)?;
-    push_all_above(alloc, out, line, &of.strokes)?;
+    push_strokes(alloc, out, Layer::Below, line, &of.strokes)?;
+    push_strokes(alloc, out, Layer::Above, line, &of.strokes)?;
     push_marks(out, line, &of.marks)
 }
 
@@ -454,21 +455,6 @@ fn push_group(out: &mut String, line: u128) -> Result<(), AllocError>
     write!(out, "<g transform='translate(0 {y})'>\n")
 }
 
-fn push_head(out: &mut String, mark: &Mark) -> Result<(), AllocError>
-    ensures { OnOk result (string_bytes out.new ≡ string_bytes out.old ++ head_svg mark.now) }
-{
-    push_text(out, "bold", mark.at, 0, &mark.text)
-}
-
-fn push_all_heads(out: &mut String, marks: &[Mark]) -> Result<(), AllocError>
-    ensures { OnOk result (string_bytes out.new ≡ string_bytes out.old ++ flat_map head_svg marks.now) }
-{
-    for mark in marks {
-        push_head(out, mark)?;
-    }
-    Ok(())
-}
-
 #[tactic(auto, unfolding(crate::specs::Svg::rule_svg))]
 fn push_rule(out: &mut String, picture: &Picture) -> Result<(), AllocError>
     ensures { OnOk result (string_bytes out.new ≡ string_bytes out.old ++ rule_svg picture.now) }
@@ -483,7 +469,7 @@ fn push_heads(out: &mut String, picture: &Picture) -> Result<(), AllocError>
     ensures { OnOk result (string_bytes out.new ≡ string_bytes out.old ++ heads_group picture.now) }
 {
     push_group(out, picture.head.len() as u128 + 1)?;
-    push_all_heads(out, &picture.heads.marks)?;
+    push_marks(out, 0, &picture.heads.marks)?;
     push_rule(out, picture)?;
     out.push_str("</g>\n")
 }

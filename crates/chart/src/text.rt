@@ -77,7 +77,7 @@ fn end_after(line: &Line, cell: usize, end: usize) -> usize
     }
 }
 
-/// Behind the last of the line's first cells that isn't blank.
+/// The end of what isn't blank in the line's first cells.
 #[tactic(auto, using(crate::proofs::CellLaws::end_more))]
 fn end_of(line: &Line, width: usize) -> usize
     ensures { result ≡ end_of_line line.now width }

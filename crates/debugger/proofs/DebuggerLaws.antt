@@ -69,29 +69,35 @@ pub undone_of : (xs : List Source) (given : List Source) (left undone : ℕ) →
 undone_of xs given left undone same is =
     is ∙ ap scheduled (take_all (length given - left) (drop left given) (omega (arith, length-drop left given))) ∙ ap (λ (ys : List Source). scheduled (drop left ys)) same
 
--- and the schedule's place without them
-pub place_left : (w : DebuggerState) (left undone : ℕ) → IsKept w → undone ≡ scheduled (drop left w.sources) → (undone ≤ w.place) × (w.place - undone ≡ scheduled (take left w.sources))
-place_left w left undone kept is = let split = scheduled-split left w.sources in (omega (arith, is, split, kept.place), omega (arith, is, split, kept.place))
+-- and the schedule's place has at least so many before it
+pub undone_within : (w : DebuggerState) (left undone : ℕ) → IsKept w → undone ≡ scheduled (drop left w.sources) → undone ≤ w.place
+undone_within w left undone kept is = omega (arith, is, scheduled-split left w.sources, kept.place)
+
+-- what is left of a debugger where a session went back
+abbrev pub left_of : (w : DebuggerState) (past : Past) (left undone : ℕ) → DebuggerState
+left_of w past left undone = record { past = past; schedule = w.schedule; sources = take left w.sources; place = w.place - undone }
 
 -- the last k events were undone, and `left` remain
-pub kept_back : (B M : ℕ) (w : DebuggerState) (past : Past) (k left : ℕ) → IsKept w → GoesBack B M w.past k past → left ≡ length w.sources - k → IsKept (record { past = past; schedule = w.schedule; sources = take left w.sources; place = scheduled (take left w.sources) })
-kept_back B M w past k left kept back is =
+pub gone_back : (B M : ℕ) (w : DebuggerState) (past : Past) (k left undone : ℕ) → IsKept w → GoesBack B M w.past k past → left ≡ length w.sources - k
+    → undone ≡ scheduled (drop left w.sources) → IsKept (left_of w past left undone) × GoesBackBy B M w k (left_of w past left undone)
+gone_back B M w past k left undone kept back is gone =
     let split = scheduled-split left w.sources in
     let below : scheduled (take left w.sources) ≤ w.place = omega (arith, split, kept.place) in
+    let place : w.place - undone ≡ scheduled (take left w.sources) = omega (arith, gone, split, kept.place) in
     let same : length w.past.events - k ≡ left = ap (λ (n : ℕ). n - k) (sym kept.each) ∙ sym is in
-    let events : past.events ≡ take left w.past.events = back.events ∙ ap (λ (n : ℕ). take n w.past.events) same in
-    record {
-      each = length-take left w.sources ∙ ap (min left) kept.each ∙ sym (ap length events ∙ length-take left w.past.events);
-      place = refl;
-      within = omega (arith, below, kept.within);
-      done = ap (of_schedule (take left w.sources)) events ∙ of_schedule-take left w.sources w.past.events kept.each
-          ∙ ap (take (scheduled (take left w.sources))) kept.done ∙ take-take (scheduled (take left w.sources)) w.place w.schedule below;
-    }
-
-pub gone_back_by : (B M : ℕ) (w : DebuggerState) (past : Past) (k left : ℕ) → IsKept w → GoesBack B M w.past k past → left ≡ length w.sources - k → GoesBackBy B M w k (record { past = past; schedule = w.schedule; sources = take left w.sources; place = scheduled (take left w.sources) })
-gone_back_by B M w past k left kept back is = record {
-  past = back;
-  schedule = refl;
-  sources = ap (λ (n : ℕ). take n w.sources) is;
-  place = ap (λ (n : ℕ). scheduled (take left w.sources) + scheduled (drop n w.sources)) (sym is) ∙ scheduled-split left w.sources ∙ sym kept.place;
-}
+    let events : past.events ≡ take left w.past.events = back.events ∙ ap (λ (n : ℕ). take n w.past.events) same in (
+      record {
+        each = length-take left w.sources ∙ ap (min left) kept.each ∙ sym (ap length events ∙ length-take left w.past.events);
+        place = place;
+        within = omega (arith, below, kept.within);
+        done = ap (of_schedule (take left w.sources)) events ∙ of_schedule-take left w.sources w.past.events kept.each
+            ∙ ap (take (scheduled (take left w.sources))) kept.done ∙ take-take (scheduled (take left w.sources)) w.place w.schedule below
+            ∙ ap (λ (n : ℕ). take n w.schedule) (sym place);
+      },
+      record {
+        past = back;
+        schedule = refl;
+        sources = ap (λ (n : ℕ). take n w.sources) is;
+        place = rw (← is) (omega (arith, gone, split, kept.place));
+      },
+    )

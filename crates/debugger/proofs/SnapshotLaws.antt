@@ -13,7 +13,7 @@ use Rattle.step_machine.specs.History.{Start, History, history_of, up_to}
 use Rattle.step_machine.specs.Runs.{Happens, RunFrom, Run}
 use Rattle.step_machine.specs.Snapshots.{Taken, IsTakenAt}
 use Rattle.step_machine.proofs.Running.{shape_of, run-one, RunFrom-append}
-use Rattle.debugger.specs.Sessions.{Past}
+use Rattle.debugger.specs.Sessions.{Past, GoesBack}
 use Rattle.debugger.specs.Nearest.{snapshot_before, IsNearest}
 use Rattle.debugger.specs.inner.SnapshotsHeld.{IsTakenAfter, HasSnapshots}
 use Rattle.debugger.specs.declared.session.TheConstants.{SNAPSHOT_EVENTS}
@@ -89,7 +89,7 @@ one_taken B M o evs ev ss t s has due ran taken =
         rw (get_or_push ss s d k last) (rw (take_all (k * SNAPSHOT_EVENTS) (evs ++ ev ∷ []) all) (t, ran, taken))
 
 -- fewer events, with the snapshots that were taken by then
-pub cut_to : (B M : ℕ) (o : Start) (evs : List Event) (ss : List Taken) (n : ℕ) → HasSnapshots B M o evs ss → n ≤ length evs
+cut_to : (B M : ℕ) (o : Start) (evs : List Event) (ss : List Taken) (n : ℕ) → HasSnapshots B M o evs ss → n ≤ length evs
     → HasSnapshots B M o (take n evs) (take (n / SNAPSHOT_EVENTS + 1) ss)
 cut_to B M o evs ss n has within =
     let few : length (take n evs) ≡ n = length-take-le n evs within in
@@ -128,14 +128,14 @@ nearest_of B M p ss place evs rest s ran has within cut is since =
     }
 
 -- one of those that are left
-pub get_front : (m : ℕ) (ss : List Taken) (k : ℕ) (s : Taken) → slice_get (take m ss) k ≡ Some s → slice_get ss k ≡ Some s
+get_front : (m : ℕ) (ss : List Taken) (k : ℕ) (s : Taken) → slice_get (take m ss) k ≡ Some s → slice_get ss k ≡ Some s
 get_front zero ss k s is = cc
 get_front (suc m) [] k s is = cc
 get_front (suc m) (x ∷ ss) zero s is = is
 get_front (suc m) (x ∷ ss) (suc k) s is = get_front m ss k s is
 
 -- the events since the nearest snapshot, run from there, make what all up to the place make
-pub run_from_nearest : (B M : ℕ) (p : Past) (place : ℕ) (s : Taken) (rest : List Event) (new : History) → IsNearest B M p place s rest
+run_from_nearest : (B M : ℕ) (p : Past) (place : ℕ) (s : Taken) (rest : List Event) (new : History) → IsNearest B M p place s rest
     → RunFrom B M (up_to s.count p.history) rest new → Run B M p.opening (take place p.events) new
 run_from_nearest B M p place s rest new near run =
     let n : ℕ = snapshot_before place in
@@ -144,3 +144,30 @@ run_from_nearest B M p place s rest new near run =
     ap (λ (es : List Event). es ++ rest) front ∙ ap (λ (es : List Event). take n (take place p.events) ++ es) near.events
     ∙ take-append-drop n (take place p.events) in
     subst (λ (es : List Event). Run B M p.opening es new) whole (RunFrom-append B M _ (take n p.events) (up_to s.count p.history) rest new near.ran run)
+
+-- ---- a session that goes back
+
+-- of what it was given, the first n events stay
+module _ (B M : ℕ) (t : History) (evs : List Event) (ss : List Taken) (k n : ℕ) (count : n ≡ length evs - k) (ran : Run B M t.opening evs t)
+    (has : HasSnapshots B M t.opening evs ss) where
+  abbrev past : Past
+  past = record { opening = t.opening; events = evs; history = t }
+
+  -- the latest of the snapshots that stay is the nearest one
+  pub nearest_left : (m : ℕ) (left rest : List Event) (s : Taken) → left ≡ take n evs → slice_get (take m ss) (length left / SNAPSHOT_EVENTS) ≡ Some s
+      → rest ≡ drop (snapshot_before (length left)) left → IsNearest B M past n s rest
+  nearest_left m left rest s is at since = nearest_of B M past ss n left rest s ran has (omega arith) is (get_front m ss _ s at) since
+
+  -- a machine that was put back to it, and run from there
+  pub went_back : (s : Taken) (rest : List Event) (from new : History) → IsNearest B M past n s rest → from ≡ up_to s.count t
+      → RunFrom B M from rest new → new.opening ≡ from.opening
+      → GoesBack B M past k (record { opening = new.opening; events = take n evs; history = new })
+      × Run B M new.opening (take n evs) new × HasSnapshots B M new.opening (take n evs) (take (n / SNAPSHOT_EVENTS + 1) ss)
+  went_back s rest from new near same run kept =
+      let again : Run B M t.opening (take n evs) new = run_from_nearest B M past n s rest new near (subst (λ (u : History). RunFrom B M u rest new) same run) in
+      let opening : new.opening ≡ t.opening = kept ∙ ap (λ (u : History). u.opening) same in
+      let held : HasSnapshots B M t.opening (take n evs) (take (n / SNAPSHOT_EVENTS + 1) ss) = cut_to B M t.opening evs ss n has (omega arith) in (
+        record { opening = opening; events = ap (λ (m : ℕ). take m evs) count; ran = subst (λ (m : ℕ). Run B M t.opening (take m evs) new) count again },
+        subst (λ (o : Start). Run B M o (take n evs) new) (sym opening) again,
+        subst (λ (o : Start). HasSnapshots B M o (take n evs) (take (n / SNAPSHOT_EVENTS + 1) ss)) (sym opening) held,
+      )

@@ -12,14 +12,17 @@ use Rattle.std.proofs.lemmas.List.{append-nil, append_assoc, take_all, drop_all,
 use Rattle.texts.proofs.PieceLaws.{position_is, position_past, lines_found, lines_whole}
 use Rattle.texts.specs.Cutting.{tokens}
 use Rattle.litmus_reader.specs.Marks.{is_line_feed}
-use Rattle.debugger.specs.DebuggerStates.{DebuggerState}
+use Rattle.litmus.specs.LitmusTests.{LitmusTest}
+use Rattle.step_machine.specs.declared.events.Event.{Event}
+use Rattle.recorder.specs.Versions.{events_said}
+use Rattle.debugger.specs.DebuggerStates.{DebuggerState, at_start}
 use Rattle.debugger.specs.Commands.{command_in}
 use Rattle.engine_parts.specs.declared.fault.Fault.{Fault}
 use Rattle.engine_parts.specs.declared.fault.Fault.TheVariants.{ReadFailed, WriteFailed, NoMemory, Refused}
 use Rattle.debugger.specs.Transcripts.{AnswersLine, EndsInteractive, IsDebugAnswer, IsDebugFront, IsTranscript, OnRefused, OnStopped, Prints, PrintsFront, Transcript, quits}
 use Rattle.engine_parts.specs.inner.Making.{Finds, IsEndOf, text_and_value}
 use Rattle.debugger.specs.inner.Failures.{IsFailure, IsAtStart}
-use Rattle.engine_parts.specs.Engines.{AnswersBoth}
+use Rattle.engine_parts.specs.Engines.{AnswersBoth, Output}
 use Rattle.engine_parts.specs.Histories.{AnswersEvents, ByEvents}
 use Rattle.engine_parts.specs.Histories.BySchedule.{both}
 use Rattle.engine_parts.proofs.ScheduleLaws.{by_schedule_as, weaker_both}
@@ -77,7 +80,23 @@ no_byte (byte ∷ bytes) e = elim (cases_Bool (is_line_feed byte)) [
   | inr other ↦ (let f : byte ∷ take_through 10 bytes ≡ [] = rw other at e in cc)
 ]
 
--- ---- a transcript, where the input is known
+-- ---- what a writer holds, where that is known
+
+pub appends_nothing : (known : Option (List ℕ)) → Appends known known []
+appends_nothing None = tt
+appends_nothing (Some xs) = sym (append-nil xs)
+
+appends_more : (old mid new : Option (List ℕ)) (xs ys : List ℕ) → Appends old mid xs → Appends mid new ys → Appends old new (xs ++ ys)
+appends_more None mid new xs ys a b = tt
+appends_more (Some o) None new xs ys a b = absurd a
+appends_more (Some o) (Some m) None xs ys a b = b
+appends_more (Some o) (Some m) (Some n) xs ys a b = b ∙ ap (λ (zs : List ℕ). zs ++ ys) a ∙ append_assoc o xs ys
+
+-- the writer has got an output of which this holds
+abbrev pub Printed : (old new : Option (List ℕ)) → (List ℕ → Type 0) → Type 0
+Printed old new Holds = (out : List ℕ) × Appends old new out × Holds out
+
+-- ---- a conversation, line by line
 
 on_true : (b : Bool) (P Q : Type 0) → b ≡ true → P → MatchBool b P Q
 on_true true P Q e p = p
@@ -87,82 +106,103 @@ on_false : (b : Bool) (P Q : Type 0) → b ≡ false → Q → MatchBool b P Q
 on_false true P Q e q = cc
 on_false false P Q e q = q
 
--- nothing was left to read
-pub prints_none : (B M : ℕ) (input : Option (List ℕ)) (read : List ℕ) (debugger : DebuggerState) (points : List (ℕ × ℕ)) → IfSome input (λ bytes. read ≡ take_through 10 bytes) → read ≡ [] → Prints B M input debugger points []
-prints_none B M None read debugger points is none = ([], refl)
-prints_none B M (Some bytes) read debugger points is none = subst (λ (xs : List ℕ). Transcript B M (lines xs) debugger points []) (sym (no_byte bytes (sym is ∙ none))) refl
+-- where the input is known, its lines are these and then those that are left of it
+abbrev AreDone : (input left : Option (List ℕ)) → List (List ℕ) → Type 0
+AreDone None left done = Unit {0}
+AreDone (Some bytes) None done = ⊥
+AreDone (Some bytes) (Some rest) done = lines bytes ≡ done ++ lines rest
 
--- the line that was read ends the transcript
-pub prints_no_more : (B M : ℕ) (input : Option (List ℕ)) (read line : List ℕ) (none : List (List ℕ)) (debugger : DebuggerState) (points : List (ℕ × ℕ)) → IfSome input (λ bytes. read ≡ take_through 10 bytes) → lines read ≡ line ∷ none → quits (command_in (tokens line)) ≡ true → Prints B M input debugger points []
-prints_no_more B M None read line none debugger points is reads_line quit = (line ∷ [], on_true (quits (command_in (tokens line))) _ _ quit refl)
-prints_no_more B M (Some bytes) read line none debugger points is reads_line quit =
-    let first : lines bytes ≡ line ∷ lines (drop_through 10 bytes) = first_line_of bytes line none (ap lines (sym is) ∙ reads_line) in
-    subst (λ (ls : List (List ℕ)). Transcript B M ls debugger points []) (sym first) (on_true (quits (command_in (tokens line))) _ _ quit refl)
+-- Some lines of the input were answered, and the writer has got what they print. They led from one debugger
+-- to another: what any lines print there comes after it.
+pub record Talked (B M : ℕ) (input left old new : Option (List ℕ)) (start now : DebuggerState) (points : List (ℕ × ℕ)) : Type 0 where
+  done : List (List ℕ)
+  so_far : List ℕ
+  are_done : AreDone input left done
+  appends : Appends old new so_far
+  leads : (more : List (List ℕ)) (later : List ℕ) → Transcript B M more now points later → Transcript B M (done ++ more) start [] (so_far ++ later)
 
-some_lines : (B M : ℕ) (input : Option (List ℕ)) (debugger : DebuggerState) (points : List (ℕ × ℕ)) (out : List ℕ) → Prints B M input debugger points out → (typed : List (List ℕ)) × Transcript B M typed debugger points out
-some_lines B M None debugger points out prints = prints
-some_lines B M (Some bytes) debugger points out prints = (lines bytes, prints)
+pub talked_nothing : (B M : ℕ) (input known : Option (List ℕ)) (start : DebuggerState) → Talked B M input input known known start start []
+talked_nothing B M input known start = record {
+  done = [];
+  so_far = [];
+  are_done = none_done input;
+  appends = appends_nothing known;
+  leads = λ more later talks. talks;
+}
+  where
+    none_done : (input : Option (List ℕ)) → AreDone input input []
+    none_done None = tt
+    none_done (Some bytes) = refl
 
--- the line that was read is answered, and then those behind it
-pub prints_more : (B M : ℕ) (input next : Option (List ℕ)) (read line : List ℕ) (none : List (List ℕ)) (old new : DebuggerState) (points left : List (ℕ × ℕ)) (text later : List ℕ) → IfSome input (λ bytes. read ≡ take_through 10 bytes) → DropsThrough input next 10 → lines read ≡ line ∷ none
-    → quits (command_in (tokens line)) ≡ false → AnswersLine B M line old new points left text → Prints B M next new left later → Prints B M input old points (text ++ later)
-prints_more B M None next read line none old new points left text later is drops reads_line quit answers prints =
-    let typed = some_lines B M next new left later prints in
-    (line ∷ typed.0, on_false (quits (command_in (tokens line))) _ _ quit (text, new, left, later, answers, refl, typed.1))
-prints_more B M (Some bytes) next read line none old new points left text later is drops reads_line quit answers prints =
-    let first : lines bytes ≡ line ∷ lines (drop_through 10 bytes) = first_line_of bytes line none (ap lines (sym is) ∙ reads_line) in
-    let rest : Transcript B M (lines (drop_through 10 bytes)) new left later = subst (λ (n : Option (List ℕ)). Prints B M n new left later) drops prints in
-    subst (λ (ls : List (List ℕ)). Transcript B M ls old points (text ++ later)) (sym first) (on_false (quits (command_in (tokens line))) _ _ quit (text, new, left, later, answers, refl, rest))
+module _ {B M : ℕ} {input left old new : Option (List ℕ)} {start now : DebuggerState} {points : List (ℕ × ℕ)}
+    (t : Talked B M input left old new start now points) where
+  -- the lines that are left print no more
+  ends : (more : List (List ℕ)) → IfSome left (λ rest. lines rest ≡ more) → Transcript B M more now points [] → Printed old new (Prints B M input start [])
+  ends more are talks = (t.so_far ++ [], rw append-nil t.appends, at input left t.are_done are)
+    where
+      at : (input left : Option (List ℕ)) → AreDone input left t.done → IfSome left (λ rest. lines rest ≡ more) → Prints B M input start [] (t.so_far ++ [])
+      at None left done are = (t.done ++ more, t.leads more [] talks)
+      at (Some bytes) None done are = absurd done
+      at (Some bytes) (Some rest) done are = rw (done, are) (t.leads more [] talks)
 
--- ---- what the first lines print
+  -- nothing was left to read
+  pub talked_out : (read : List ℕ) → IfSome left (λ bytes. read ≡ take_through 10 bytes) → read ≡ [] → Printed old new (Prints B M input start [])
+  talked_out read is none = ends [] (at left is) refl
+    where
+      at : (left : Option (List ℕ)) → IfSome left (λ bytes. read ≡ take_through 10 bytes) → IfSome left (λ rest. lines rest ≡ [])
+      at None is = tt
+      at (Some bytes) is = ap lines (no_byte bytes (sym is ∙ none))
 
-pub front_none : (B M : ℕ) (input : Option (List ℕ)) (debugger : DebuggerState) (points : List (ℕ × ℕ)) → PrintsFront B M input debugger points []
-front_none B M None debugger points = ([], refl)
-front_none B M (Some bytes) debugger points = ([], lines bytes, refl, refl)
+  -- what the lines print that were answered
+  pub talked_so_far : Printed old new (PrintsFront B M input start [])
+  talked_so_far = (t.so_far ++ [], rw append-nil t.appends, at input left t.are_done)
+    where
+      at : (input left : Option (List ℕ)) → AreDone input left t.done → PrintsFront B M input start [] (t.so_far ++ [])
+      at None left done = (t.done ++ [], t.leads [] [] refl)
+      at (Some bytes) None done = absurd done
+      at (Some bytes) (Some rest) done = (t.done ++ [], lines rest, rw append-nil done, t.leads [] [] refl)
 
-some_front : (B M : ℕ) (input : Option (List ℕ)) (debugger : DebuggerState) (points : List (ℕ × ℕ)) (out : List ℕ) → PrintsFront B M input debugger points out → (typed : List (List ℕ)) × Transcript B M typed debugger points out
-some_front B M None debugger points out prints = prints
-some_front B M (Some bytes) debugger points out (done, rest, is, talks) = (done, talks)
+  -- ---- a line that was read
 
-pub front_more : (B M : ℕ) (input next : Option (List ℕ)) (read line : List ℕ) (none : List (List ℕ)) (old new : DebuggerState) (points left : List (ℕ × ℕ)) (text later : List ℕ) → IfSome input (λ bytes. read ≡ take_through 10 bytes) → DropsThrough input next 10 → lines read ≡ line ∷ none
-    → quits (command_in (tokens line)) ≡ false → AnswersLine B M line old new points left text → PrintsFront B M next new left later → PrintsFront B M input old points (text ++ later)
-front_more B M None next read line none old new points left text later is drops reads_line quit answers prints =
-    let typed = some_front B M next new left later prints in
-    (line ∷ typed.0, on_false (quits (command_in (tokens line))) _ _ quit (text, new, left, later, answers, refl, typed.1))
-front_more B M (Some bytes) next read line none old new points left text later is drops reads_line quit answers prints =
-    let first : lines bytes ≡ line ∷ lines (drop_through 10 bytes) = first_line_of bytes line none (ap lines (sym is) ∙ reads_line) in
-    let front : PrintsFront B M (Some (drop_through 10 bytes)) new left later = subst (λ (n : Option (List ℕ)). PrintsFront B M n new left later) drops prints in
-    (line ∷ front.0, front.1, first ∙ ap (λ (ls : List (List ℕ)). line ∷ ls) front.2, on_false (quits (command_in (tokens line))) _ _ quit (text, new, left, later, answers, refl, front.3))
+  module _ (read line : List ℕ) (none : List (List ℕ)) (is : IfSome left (λ bytes. read ≡ take_through 10 bytes)) (says : lines read ≡ line ∷ none) where
+    -- it ends the transcript
+    pub talked_enough : quits (command_in (tokens line)) ≡ true → Printed old new (Prints B M input start [])
+    talked_enough quit = let here = at left is in ends (line ∷ here.0) here.1 (on_true (quits (command_in (tokens line))) _ _ quit refl)
+      where
+        at : (left : Option (List ℕ)) → IfSome left (λ bytes. read ≡ take_through 10 bytes) → (others : List (List ℕ)) × IfSome left (λ rest. lines rest ≡ line ∷ others)
+        at None is = ([], tt)
+        at (Some bytes) is = (lines (drop_through 10 bytes), first_line_of bytes line none (ap lines (sym is) ∙ says))
 
--- what was printed by then is what the first lines print
-pub left_so_far : (B M : ℕ) (input : Option (List ℕ)) (debugger : DebuggerState) (so_far : List ℕ) (old new : Option (List ℕ)) → Appends old new so_far → PrintsFront B M input debugger [] (so_far ++ []) → (out : List ℕ) × Appends old new out × PrintsFront B M input debugger [] out
-left_so_far B M input debugger so_far old new appends prints = (so_far, appends, subst (λ (out : List ℕ). PrintsFront B M input debugger [] out) (append-nil so_far) prints)
+    -- it is answered, and the writer has got what it prints
+    pub talked_on : (next newer : Option (List ℕ)) (then : DebuggerState) (others : List (ℕ × ℕ)) (text : List ℕ) → DropsThrough left next 10
+        → quits (command_in (tokens line)) ≡ false → AnswersLine B M line now then points others text → Appends new newer text
+        → Talked B M input next old newer start then others
+    talked_on next newer then others text drops goes answers appends = record {
+      done = t.done ++ line ∷ [];
+      so_far = t.so_far ++ text;
+      are_done = at input left t.are_done is drops;
+      appends = appends_more old new newer t.so_far text t.appends appends;
+      leads = λ more later talks. rw (append_assoc t.done (line ∷ []) more, append_assoc t.so_far text later)
+          (t.leads (line ∷ more) (text ++ later) (on_false (quits (command_in (tokens line))) _ _ goes (text, then, others, later, answers, refl, talks)));
+    }
+      where
+        at : (input left : Option (List ℕ)) → AreDone input left t.done → IfSome left (λ bytes. read ≡ take_through 10 bytes) → DropsThrough left next 10
+            → AreDone input next (t.done ++ line ∷ [])
+        at None left done is drops = tt
+        at (Some bytes) None done is drops = absurd done
+        at (Some bytes) (Some rest) done is drops =
+            rw drops (done ∙ ap (λ (ls : List (List ℕ)). t.done ++ ls) (first_line_of rest line none (ap lines (sym is) ∙ says))
+            ∙ sym (append_assoc t.done (line ∷ []) (lines (drop_through 10 rest))))
 
 pub stopped : {V : Type 0} (result : Result V Fault) (P : Type 0) → P → OnStopped result P
-stopped (Ok x) P p = tt
 stopped (Err ReadFailed) P p = p
 stopped (Err NoMemory) P p = p
-stopped (Err WriteFailed) P p = tt
-stopped (Err (Refused r)) P p = tt
+stopped other P p = tt
 
 -- a write that failed is no stop
 pub write_stops : {W : Type 0} (made : String Global × Unit {0}) (result : Result (Unit {0}) Fault) (fault : Fault) (contents : W → Option (List ℕ)) (old new : W) (P : Type 0) → result ≡ Err fault → IsEndOf text_and_value (Ok made) (Err fault) contents old new → OnStopped result P
-write_stops made result ReadFailed contents old new P is end = absurd end
 write_stops made result WriteFailed contents old new P is end = rw is tt
-write_stops made result NoMemory contents old new P is end = absurd end
-write_stops made result (Refused refusal) contents old new P is end = absurd end
-
--- ---- what a writer holds, where that is known
-
-pub appends_nothing : (known : Option (List ℕ)) → Appends known known []
-appends_nothing None = tt
-appends_nothing (Some xs) = sym (append-nil xs)
-
-pub appends_more : (old mid new : Option (List ℕ)) (xs ys : List ℕ) → Appends old mid xs → Appends mid new ys → Appends old new (xs ++ ys)
-appends_more None mid new xs ys a b = tt
-appends_more (Some o) None new xs ys a b = absurd a
-appends_more (Some o) (Some m) None xs ys a b = b
-appends_more (Some o) (Some m) (Some n) xs ys a b = b ∙ ap (λ (zs : List ℕ). zs ++ ys) a ∙ append_assoc o xs ys
+write_stops made result other contents old new P is end = absurd end
 
 -- ---- what a transcript was, once it is over
 
@@ -178,16 +218,10 @@ no_line read (byte ∷ text) is none = absurd (some_line byte text none)
         at (Some i) found = let e = lines_found (byte ∷ text) i found in cc
         at None whole = let e = lines_whole (byte ∷ text) whole (omega arith) in cc
 
--- what was printed by then is all
-pub printed_so_far : (B M : ℕ) (input : Option (List ℕ)) (debugger : DebuggerState) (so_far : List ℕ) (old new : Option (List ℕ)) → Appends old new so_far → Prints B M input debugger [] (so_far ++ []) → (out : List ℕ) × Appends old new out × Prints B M input debugger [] out
-printed_so_far B M input debugger so_far old new appends prints = (so_far, appends, subst (λ (out : List ℕ). Prints B M input debugger [] out) (append-nil so_far) prints)
-
 -- a write that failed is no refusal
 pub failed_end : {W : Type 0} (made : String Global × Unit {0}) (fault : Fault) (contents : W → Option (List ℕ)) (old new : W) → IsEndOf text_and_value (Ok made) (Err fault) contents old new → IsFailure fault
-failed_end made ReadFailed contents old new end = tt
-failed_end made WriteFailed contents old new end = tt
-failed_end made NoMemory contents old new end = tt
 failed_end made (Refused refusal) contents old new end = end
+failed_end made other contents old new end = tt
 
 -- a result that is such a fault
 pub fails : (result : Result (Unit {0}) Fault) (fault : Fault) → result ≡ Err fault → IsFailure fault → IfErr result IsFailure
@@ -196,51 +230,63 @@ fails result fault is failed = rw is failed
 -- ---- the whole command
 
 module _ (B M : ℕ) (first second input : Option (List ℕ)) {W : Type 0} (contents : W → Option (List ℕ)) where
-  -- a transcript that is over ends the command
-  pub transcribed : (result : Result (Unit {0}) Fault) (debugger : DebuggerState) (old new : W) → AnswersBoth (ByEvents IsAtStart) first second (Ok debugger) → OnOk result ((out : List ℕ) × Appends (contents old) (contents new) out × Prints B M input debugger [] out) → IfErr result IsFailure
-      → EndsInteractive (AnswersBoth (IsDebugAnswer B M input) first second) result contents old new
-  transcribed (Ok x) debugger old new set printed failed = (printed.0, weaker_both first second (ByEvents IsAtStart) (IsDebugAnswer B M input) (Ok debugger) (Ok (printed.0, x)) more set, printed.1)
+  abbrev Ends : Result (Unit {0}) Fault → (old new : W) → Type 0
+  Ends result old new = EndsInteractive (AnswersBoth (IsDebugAnswer B M input) first second) result contents old new
+
+  -- a debugger stands at the opening of what the readers give
+  abbrev Opens : DebuggerState → Type 0
+  Opens debugger = AnswersBoth (ByEvents IsAtStart) first second (Ok debugger)
+
+  -- what holds of the debugger that is opened answers the inputs
+  opened : (P : LitmusTest → List Event → Output → Type 0) (debugger : DebuggerState) (answer : Output)
+      → ((test : LitmusTest) (events : List Event) → debugger ≡ at_start test.opening events → P test events answer)
+      → Opens debugger → AnswersBoth (ByEvents P) first second (Ok answer)
+  opened P debugger answer holds = weaker_both first second (ByEvents IsAtStart) (ByEvents P) (Ok debugger) (Ok answer) more
     where
-      more : (file schedule : List ℕ) → ByEvents IsAtStart file schedule (Ok debugger) → IsDebugAnswer B M input file schedule (Ok (printed.0, x))
-      more file schedule (both test said known is_test read set) = both test said (Ok (printed.0, x)) is_test read (subst (λ (w : DebuggerState). Prints B M input w [] printed.0) set printed.2)
-  transcribed (Err (Refused refusal)) debugger old new set printed failed = absurd failed
-  transcribed (Err ReadFailed) debugger old new set printed failed = tt
-  transcribed (Err WriteFailed) debugger old new set printed failed = tt
-  transcribed (Err NoMemory) debugger old new set printed failed = tt
+      more : (file schedule : List ℕ) → ByEvents IsAtStart file schedule (Ok debugger) → ByEvents P file schedule (Ok answer)
+      more file schedule (both test said known is_test read set) = both test said (Ok answer) is_test read (holds test (events_said said) set)
+
+  -- a transcript that is over ends the command
+  pub transcribed : (result : Result (Unit {0}) Fault) (debugger : DebuggerState) (old new : W) → Opens debugger
+      → OnOk result (Printed (contents old) (contents new) (Prints B M input debugger [])) → IfErr result IsFailure → Ends result old new
+  transcribed (Ok x) debugger old new opens (out, appends, prints) failed =
+      (out, opened (IsTranscript B M input) debugger (out, x) (λ test events set. subst (λ (w : DebuggerState). Prints B M input w [] out) set prints) opens, appends)
+  transcribed (Err (Refused refusal)) debugger old new opens printed failed = absurd failed
+  transcribed other debugger old new opens printed failed = tt
 
   -- and so does a fault before it begins
-  pub not_begun : {X : Type 0} (view : X → DebuggerState) (result : Result (Unit {0}) Fault) (fault : Fault) (old : W) → result ≡ Err fault → Finds (AnswersBoth (ByEvents IsAtStart) first second) view (Err fault) → EndsInteractive (AnswersBoth (IsDebugAnswer B M input) first second) result contents old old
-  not_begun view result (Refused refusal) old is finds = rw is (weaker_both first second (ByEvents IsAtStart) (IsDebugAnswer B M input) (Err refusal) (Err refusal) (by_schedule_as (AnswersEvents IsAtStart) (AnswersEvents (IsTranscript B M input)) refusal (λ test said none. none)) finds, refl)
-  not_begun view result ReadFailed old is finds = rw is tt
-  not_begun view result WriteFailed old is finds = rw is tt
-  not_begun view result NoMemory old is finds = rw is tt
+  pub not_begun : {X : Type 0} (view : X → DebuggerState) (result : Result (Unit {0}) Fault) (fault : Fault) (old : W) → result ≡ Err fault
+      → Finds (AnswersBoth (ByEvents IsAtStart) first second) view (Err fault) → Ends result old old
+  not_begun view result (Refused refusal) old is finds =
+      rw is (
+        weaker_both first second (ByEvents IsAtStart) (IsDebugAnswer B M input) (Err refusal) (Err refusal)
+            (by_schedule_as (AnswersEvents IsAtStart) (AnswersEvents (IsTranscript B M input)) refusal (λ test said none. none)) finds,
+        refl,
+      )
+  not_begun view result other old is finds = rw is tt
 
-  -- what a transcript that stops has written
-  pub left_begun : (result : Result (Unit {0}) Fault) (debugger : DebuggerState) (old new : W) → AnswersBoth (ByEvents IsAtStart) first second (Ok debugger) → OnStopped result ((out : List ℕ) × Appends (contents old) (contents new) out × PrintsFront B M input debugger [] out)
-      → OnStopped result ((out : List ℕ) × Appends (contents old) (contents new) out × ((out ≡ []) ⊎ AnswersBoth (IsDebugFront B M input) first second (Ok (out, tt))))
-  left_begun result debugger old new set printed = at result printed
-    where
-      more : (out : List ℕ) → PrintsFront B M input debugger [] out → (file schedule : List ℕ) → ByEvents IsAtStart file schedule (Ok debugger) → IsDebugFront B M input file schedule (Ok (out, tt))
-      more out prints file schedule (both test said known is_test read set) = both test said (Ok (out, tt)) is_test read (subst (λ (w : DebuggerState). PrintsFront B M input w [] out) set prints)
+  -- what was written where it stops: nothing, or what the first lines print
+  abbrev Left : (old new : W) → Type 0
+  Left old new = Printed (contents old) (contents new) (λ out. (out ≡ []) ⊎ AnswersBoth (IsDebugFront B M input) first second (Ok (out, tt)))
 
-      printed_of : (out : List ℕ) × Appends (contents old) (contents new) out × PrintsFront B M input debugger [] out → (out : List ℕ) × Appends (contents old) (contents new) out × ((out ≡ []) ⊎ AnswersBoth (IsDebugFront B M input) first second (Ok (out, tt)))
-      printed_of (out, appends, prints) = (out, appends, inr (weaker_both first second (ByEvents IsAtStart) (IsDebugFront B M input) (Ok debugger) (Ok (out, tt)) (more out prints) set))
+  left_of : (debugger : DebuggerState) (old new : W) → Opens debugger → Printed (contents old) (contents new) (PrintsFront B M input debugger []) → Left old new
+  left_of debugger old new opens (out, appends, prints) = (
+    out,
+    appends,
+    inr (opened (λ test events answer. PrintsFront B M input (at_start test.opening events) [] answer.0) debugger (out, tt)
+        (λ test events set. subst (λ (w : DebuggerState). PrintsFront B M input w [] out) set prints) opens),
+  )
 
-      at : (r : Result (Unit {0}) Fault) → OnStopped r ((out : List ℕ) × Appends (contents old) (contents new) out × PrintsFront B M input debugger [] out) → OnStopped r ((out : List ℕ) × Appends (contents old) (contents new) out × ((out ≡ []) ⊎ AnswersBoth (IsDebugFront B M input) first second (Ok (out, tt))))
-      at (Ok x) t = tt
-      at (Err ReadFailed) t = printed_of t
-      at (Err NoMemory) t = printed_of t
-      at (Err WriteFailed) t = tt
-      at (Err (Refused r)) t = tt
+  pub left_begun : (result : Result (Unit {0}) Fault) (debugger : DebuggerState) (old new : W) → Opens debugger
+      → OnStopped result (Printed (contents old) (contents new) (PrintsFront B M input debugger [])) → OnStopped result (Left old new)
+  left_begun (Err ReadFailed) debugger old new opens printed = left_of debugger old new opens printed
+  left_begun (Err NoMemory) debugger old new opens printed = left_of debugger old new opens printed
+  left_begun other debugger old new opens printed = tt
 
-  -- nothing was written before it began
-  pub left_nothing : (result : Result (Unit {0}) Fault) (old : W) → OnStopped result ((out : List ℕ) × Appends (contents old) (contents old) out × ((out ≡ []) ⊎ AnswersBoth (IsDebugFront B M input) first second (Ok (out, tt))))
+  pub left_nothing : (result : Result (Unit {0}) Fault) (old : W) → OnStopped result (Left old old)
   left_nothing result old = stopped result _ ([], appends_nothing (contents old), inl refl)
 
 -- answering lines refuses nothing
 pub not_refused : (result : Result (Unit {0}) Fault) (P : Type 0) → IfErr result IsFailure → OnRefused result P
-not_refused (Ok x) P failed = tt
 not_refused (Err (Refused refusal)) P failed = absurd failed
-not_refused (Err ReadFailed) P failed = tt
-not_refused (Err WriteFailed) P failed = tt
-not_refused (Err NoMemory) P failed = tt
+not_refused other P failed = tt

@@ -32,8 +32,7 @@ command_with_two name first second =
 
 -- what the words of a line ask for, if that is anything
 abbrev pub command_in : List (List ℕ) → Option Command
-command_in [] = None
 command_in (name ∷ []) = command_alone name
 command_in (name ∷ number ∷ []) = command_with_one name number
 command_in (name ∷ first ∷ second ∷ []) = command_with_two name first second
-command_in (name ∷ first ∷ second ∷ third ∷ others) = None
+command_in others = None

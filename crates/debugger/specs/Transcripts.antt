@@ -7,7 +7,7 @@ use Rattle.litmus.specs.LitmusTests.{LitmusTest}
 use Rattle.debugger.specs.declared.debug.command.Command.{Command}
 use Rattle.debugger.specs.declared.debug.command.Command.TheVariants as command
 use Rattle.engine_parts.specs.declared.fault.Fault.{Fault}
-use Rattle.engine_parts.specs.declared.fault.Fault.TheVariants.{ReadFailed, WriteFailed, NoMemory, Refused}
+use Rattle.engine_parts.specs.declared.fault.Fault.TheVariants.{ReadFailed, NoMemory, Refused}
 use Rattle.engine_parts.specs.declared.fault.Refusal.{Refusal}
 use Rattle.texts.specs.Cutting.{tokens}
 use Rattle.engine_parts.specs.Histories.{ByEvents}
@@ -19,17 +19,8 @@ use Rattle.engine_parts.specs.Engines.{Output}
 
 -- whether a line ends the transcript
 abbrev pub quits : Option Command → Bool
-quits None = false
-quits (Some command.Step) = false
-quits (Some command.Go) = false
-quits (Some (command.Give event)) = false
-quits (Some (command.Break hart pc)) = false
-quits (Some (command.Hart hart)) = false
-quits (Some (command.Pending hart)) = false
-quits (Some (command.Word addr)) = false
-quits (Some (command.Back k)) = false
-quits (Some command.Count) = false
 quits (Some command.Quit) = true
+quits other = false
 
 -- the line prints this text, and leads from a debugger and breakpoints to others
 abbrev pub AnswersLine : (B M : ℕ) → (line : List ℕ) → (old new : DebuggerState) (points others : List (ℕ × ℕ)) (text : List ℕ) → Type 0
@@ -55,9 +46,7 @@ PrintsFront B M (Some bytes) debugger points out = (done : List (List ℕ)) × (
 abbrev pub OnStopped : {V : Type 0} → Result V Fault → Type 0 → Type 0
 OnStopped (Err ReadFailed) P = P
 OnStopped (Err NoMemory) P = P
-OnStopped (Err WriteFailed) P = Unit {0}
-OnStopped (Err (Refused refusal)) P = Unit {0}
-OnStopped (Ok x) P = Unit {0}
+OnStopped other P = Unit {0}
 
 -- what the user's lines print at a test's opening; there is no other value
 abbrev pub IsTranscript : (B M : ℕ) → (input : Option (List ℕ)) → LitmusTest → List Event → (answer : Output) → Type 0
@@ -78,14 +67,9 @@ IsDebugFront B M input = ByEvents (λ test events answer. PrintsFront B M input 
 abbrev pub EndsInteractive : {V W : Type 0} → (Result (List ℕ × V) Refusal → Type 0) → Result V Fault → (contents : W → Option (List ℕ)) → (old new : W) → Type 0
 EndsInteractive IsAnswer (Ok v) contents old new = (out : List ℕ) × IsAnswer (Ok (out, v)) × Appends (contents old) (contents new) out
 EndsInteractive IsAnswer (Err (Refused refusal)) contents old new = IsAnswer (Err refusal) × (new ≡ old)
-EndsInteractive IsAnswer (Err ReadFailed) contents old new = Unit {0}
-EndsInteractive IsAnswer (Err WriteFailed) contents old new = Unit {0}
-EndsInteractive IsAnswer (Err NoMemory) contents old new = Unit {0}
+EndsInteractive IsAnswer failed contents old new = Unit {0}
 
 -- this holds where an input was refused
 abbrev pub OnRefused : Result (Unit {0}) Fault → Type 0 → Type 0
-OnRefused (Ok x) P = Unit {0}
 OnRefused (Err (Refused refusal)) P = P
-OnRefused (Err ReadFailed) P = Unit {0}
-OnRefused (Err WriteFailed) P = Unit {0}
-OnRefused (Err NoMemory) P = Unit {0}
+OnRefused other P = Unit {0}

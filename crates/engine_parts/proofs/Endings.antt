@@ -1,9 +1,10 @@
 -- How an engine ends, from what it made of its inputs.
-use Rattle.std.proofs.Common.{◌≡◌, ℕ, ◌+◌, ◌<◌, ◌≤◌, List, length, take, Result, Ok, Err, refl, sym, ap, subst, arith, length-append, length-take}
-use Rattle.std.specs.Prelude.{Option, Some, None, IfSome, replicate}
+use Rattle.std.proofs.Common.{◌≡◌, ℕ, ◌+◌, ◌<◌, ◌≤◌, List, length, take, Result, Ok, Err, refl, sym, ap, ◌∙◌, subst, arith, length-append, length-take}
+use Rattle.std.specs.Prelude.{Option, Some, None, IfSome, IsErrAnd, replicate}
 use Rattle.std.specs.Global.{Vec}
 use Rattle.std.specs.Io.KnownBytes.{Consumes}
 use Rattle.std.proofs.lemmas.List.{length-replicate}
+use Rattle.std.proofs.lemmas.Result.{err_from_is_err_and}
 use Rattle.engine_parts.specs.declared.fault.Fault.{Fault}
 use Rattle.engine_parts.specs.declared.fault.Fault.TheVariants.{ReadFailed, WriteFailed, NoMemory, Refused}
 use Rattle.engine_parts.specs.declared.fault.Refusal.{Refusal}
@@ -43,21 +44,37 @@ no_write (Some bytes) is = is
 
 -- ---- an input, and what answers it
 
+-- what `?` makes of a fault is that fault
+pub is_handed : {T : Type 0} (result : Result T Fault) (fault : Fault) → IsErrAnd result (λ e. e ≡ fault) → result ≡ Err fault
+is_handed result fault is = let (e, failed, same) = err_from_is_err_and result is in failed ∙ ap (λ (f : Fault). Err f) same
+
+-- what reads nothing answers, and so does what has read, where each answer of the one is one of the other
+pub answered_by : {A X : Type 0} (P Q : Result A Refusal → Type 0) (view : X → A) (result : Result X Fault)
+    → ((answer : Result A Refusal) → P answer → Q answer) → AnswersAs P view result → Finds Q view result
+answered_by P Q view (Ok x) more answers = more (Ok (view x)) answers
+answered_by P Q view (Err (Refused r)) more answers = more (Err r) answers
+answered_by P Q view (Err WriteFailed) more answers = answers
+answered_by P Q view failed more answers = tt
+
+-- a fault that is handed on, where each refusal that answers one thing answers the other
+pub handed_on : {A C X Y : Type 0} (P : Result A Refusal → Type 0) (Q : Result C Refusal → Type 0) (view : X → A) (seen : Y → C)
+    (result : Result Y Fault) (fault : Fault) → ((refusal : Refusal) → P (Err refusal) → Q (Err refusal)) → result ≡ Err fault
+    → Finds P view (Err fault) → Finds Q seen result
+handed_on P Q view seen result (Refused r) more is finds = rw is (more r finds)
+handed_on P Q view seen result WriteFailed more is finds = absurd finds
+handed_on P Q view seen result other more is finds = rw is tt
+
 module _ {X Y : Type 0} (IsAnswer : List ℕ → Result Y Refusal → Type 0) (view : X → Y) (known : Option (List ℕ)) where
   -- what answers the input that was read
   pub found_by : (input : Vec ℕ) (result : Result X Fault) → OfInput known (λ bytes. input.items ≡ bytes) → AnswersAs (IsAnswer input.items) view result → FindsBy IsAnswer view known result
-  found_by input (Ok x) is answers = weaker known _ _ (λ bytes e. subst (λ (xs : List ℕ). IsAnswer xs (Ok (view x))) e answers) is
-  found_by input (Err (Refused r)) is answers = weaker known _ _ (λ bytes e. subst (λ (xs : List ℕ). IsAnswer xs (Err r)) e answers) is
-  found_by input (Err NoMemory) is answers = tt
-  found_by input (Err ReadFailed) is answers = tt
-  found_by input (Err WriteFailed) is answers = answers
+  found_by input result is = answered_by (IsAnswer input.items) _ view result
+      (λ answer holds. weaker known _ _ (λ bytes e. subst (λ (xs : List ℕ). IsAnswer xs answer) e holds) is)
 
   -- nothing was read
   pub found_unread : (fault : Fault) → OfInput known (λ bytes. IsInput bytes (Err fault)) → ((bytes : List ℕ) → 1048576 < length bytes → IsAnswer bytes (Err too_large)) → FindsBy IsAnswer view known (Err fault)
   found_unread (Refused r) is large = weaker known _ _ (λ bytes why. subst (λ (s : Refusal). IsAnswer bytes (Err s)) (sym why.0) (large bytes why.1)) is
-  found_unread NoMemory is large = tt
-  found_unread ReadFailed is large = tt
   found_unread WriteFailed is large = no_write known is
+  found_unread other is large = tt
 
 -- ---- the end
 
@@ -65,9 +82,7 @@ pub ended : {X V W : Type 0} (IsAnswer : Result (List ℕ × V) Refusal → Type
     → Finds IsAnswer view made → IsEndOf view made result contents old new → Ends IsAnswer result contents old new
 ended IsAnswer view (Ok x) (Ok v) contents old new finds end = ((view x).0, subst (λ w. IsAnswer (Ok ((view x).0, w))) (sym end.0) finds, end.1)
 ended IsAnswer view (Ok x) (Err WriteFailed) contents old new finds end = (view x, finds)
-ended IsAnswer view (Ok x) (Err ReadFailed) contents old new finds end = absurd end
-ended IsAnswer view (Ok x) (Err NoMemory) contents old new finds end = absurd end
-ended IsAnswer view (Ok x) (Err (Refused r)) contents old new finds end = absurd end
+ended IsAnswer view (Ok x) failed contents old new finds end = absurd end
 ended IsAnswer view (Err (Refused r)) result contents old new finds end = rw end.0 (finds, end.1)
 ended IsAnswer view (Err ReadFailed) result contents old new finds end = rw end.0 end.1
 ended IsAnswer view (Err NoMemory) result contents old new finds end = rw end.0 end.1

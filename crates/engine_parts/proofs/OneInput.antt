@@ -14,14 +14,14 @@ use Rattle.litmus_reader.specs.Reading.{Content, content_of, test_at}
 use Rattle.litmus_reader.proofs.TestGrammar.{one_test, read_exactly}
 use Rattle.engine_parts.specs.declared.fault.Position.TheVariants.{Line}
 use Rattle.engine_parts.specs.declared.fault.Refusal.{Refusal}
-use Rattle.engine_parts.specs.Engines.{Output, Accepted, AreOneAnswer, judged}
+use Rattle.engine_parts.specs.Engines.{Output, Accepted, AreOneAnswer, ByValue, judged}
 use Rattle.engine_parts.specs.Faults.{too_large, not_text}
 use Rattle.engine_parts.specs.Tests.{ByTest, IsNoTest, refused_test, test_of}
 use Rattle.engine_parts.specs.Tests as tests
 use Rattle.engine_parts.specs.Schedules.{IsNoSchedule, schedule_of}
 use Rattle.engine_parts.specs.Histories.{AnswersRun, BySchedule}
 use Rattle.engine_parts.specs.Histories.BySchedule.{no_test, no_schedule, both}
-use Rattle.engine_parts.proofs.Judging.{judged_text}
+use Rattle.engine_parts.proofs.Judging.{accepted_judged, judged_text}
 use Rattle.engine_parts.proofs.RunLaws.{one_run}
 use Rattle.engine_parts.proofs.TestTexts.{test_or_none}
 
@@ -50,15 +50,30 @@ one_number : (input : List ℕ) (r s : Refusal) → IsNoTest input r → IsNoTes
 unfolding test_of
 one_number input r s (line, e) (other, f) = numbers_of (ltb 1048576 (length input)) (is_utf8 input) (test_at input) line other r s e f
 
+-- an input doesn't have a value and a refusal
+pub value_or_refusal : {V : Type 0} (value_at : List ℕ → Result V Refusal) (IsValue : List ℕ → V → Type 0) (input : List ℕ) (v : V) (r : Refusal)
+    → (IsValue input v → value_at input ≡ Ok v) → Accepted IsValue input v → judged value_at input ≡ Err r → ⊥
+value_or_refusal value_at IsValue input v r only is refused = let read : judged value_at input ≡ Ok v = accepted_judged value_at IsValue input v only is in cc
+
 pub said_or_refusal : (input : List ℕ) (said : Said) (r : Refusal) → Accepted Says input said → IsNoSchedule input r → ⊥
 unfolding schedule_of
-said_or_refusal input said r is refused =
-    let found = settled_only (Says input) (said_at input) said (said_settles input) is.value_is in
-    let read : judged schedule_of input ≡ Ok said = judged_text schedule_of input is.few is.text ∙ (rw found refl) in
-    absurd cc
+said_or_refusal input said r =
+    value_or_refusal schedule_of Says input said r (λ says. let found = settled_only (Says input) (said_at input) said (said_settles input) says in rw found refl)
 
 pub one_refusal : {V : Type 0} (judgement : Result V Refusal) (r s : Refusal) → judgement ≡ Err r → judgement ≡ Err s → r ≡ s
 one_refusal judgement r s e f = cc
+
+-- ---- what is answered by a value
+
+module _ {V W : Type 0} (IsValue : List ℕ → V → Type 0) (value_at : List ℕ → Result W Refusal) (Makes : V → Output → Type 0) (input : List ℕ)
+    (one : (v w : V) → IsValue input v → IsValue input w → v ≡ w) (never : (v : V) (r : Refusal) → Accepted IsValue input v → judged value_at input ≡ Err r → ⊥)
+    (same : (v : V) (a b : Output) → Makes v a → Makes v b → a ≡ b) where
+  pub one_by_value : (a b : Result Output Refusal) → ByValue IsValue value_at Makes input a → ByValue IsValue value_at Makes input b → a ≡ b
+  one_by_value (Ok a) (Ok b) (v, is, makes) (w, also, other) =
+      ap (λ (out : Output). Ok out) (same v a b makes (subst (λ (x : V). Makes x b) (one w v also.value_is is.value_is) other))
+  one_by_value (Ok a) (Err r) (v, is, makes) refused = absurd (never v r is refused)
+  one_by_value (Err r) (Ok a) refused (v, is, makes) = absurd (never v r is refused)
+  one_by_value (Err r) (Err s) refused other = ap (λ (x : Refusal). Err x) (one_refusal (judged value_at input) r s refused other)
 
 -- ---- what is answered by a test
 

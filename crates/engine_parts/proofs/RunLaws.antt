@@ -1,7 +1,6 @@
 -- Running a schedule gives one thing, and so does noting its outcomes.
-use Rattle.std.proofs.Common.{◌≡◌, ℕ, zero, suc, ◌<◌, ◌≤◌, ◌⊎◌, inl, inr, List, [], ◌∷◌, take, Result, Ok, Err, refl, sym, ap, ap₂, subst, ◌∙◌, arith}
+use Rattle.std.proofs.Common.{◌≡◌, ℕ, zero, suc, ◌<◌, ◌≤◌, ◌⊎◌, List, [], ◌∷◌, take, Result, Ok, Err, refl, sym, ap, ap₂, subst, ◌∙◌, arith}
 use Rattle.std.specs.List.{slice_get}
-use Rattle.std.proofs.lemmas.Bool.{cases_lt}
 use Rattle.step_machine.specs.History.{Start, History, unrun}
 use Rattle.step_machine.specs.Runs.{Happens, Run}
 use Rattle.step_machine.specs.declared.events.Event.{Event}
@@ -40,12 +39,7 @@ module _ (B M : ℕ) (o : Start) (steps : List Step) where
 
   -- so there is one place where a record differs first
   pub one_place : (i j : ℕ) → DiffersAt B M o steps i → DiffersAt B M o steps j → i ≡ j
-  one_place i j first other = at (cases_lt i j) (cases_lt j i)
-    where
-      at : (i < j) ⊎ (j ≤ i) → (j < i) ⊎ (i ≤ j) → i ≡ j
-      at (inl less) any = absurd (not_before i j first other less)
-      at (inr ge) (inl less) = absurd (not_before j i other first less)
-      at (inr ge) (inr le) = omega (arith, ge, le)
+  one_place i j first other = omega (arith, not_before i j first other, not_before j i other first)
 
 pub one_run : (B M : ℕ) (o : Start) (said : Said) (a b : Result History Refusal) → Runs B M o said a → Runs B M o said b → a ≡ b
 one_run B M o (plain events) (Ok t) (Ok u) is other = ap (λ (h : History). Ok h) (run-one B M (unrun o) events t u is other)

@@ -4,7 +4,7 @@ use Rattle.std.specs.Prelude.{Option, Some, None}
 use Rattle.litmus.specs.LitmusTests.{LitmusTest}
 use Rattle.recorder.specs.Versions.{Said}
 use Rattle.engine_parts.specs.declared.fault.Fault.{Fault}
-use Rattle.engine_parts.specs.declared.fault.Fault.TheVariants.{ReadFailed, WriteFailed, NoMemory, Refused}
+use Rattle.engine_parts.specs.declared.fault.Fault.TheVariants.{Refused}
 use Rattle.engine_parts.specs.declared.fault.Refusal.{Refusal}
 use Rattle.engine_parts.specs.Engines.{OfInput, AnswersBoth}
 use Rattle.engine_parts.specs.Faults.{AnswersAs}
@@ -13,7 +13,7 @@ use Rattle.engine_parts.specs.Histories.{BySchedule}
 use Rattle.engine_parts.specs.Histories.BySchedule.{no_test, no_schedule, both}
 use Rattle.engine_parts.specs.inner.Making.{Finds, FindsBy}
 use Rattle.engine_parts.specs.inner.Inputs.{IsReadAsTest, IsReadAsSchedule, AreRead, test_and_said}
-use Rattle.engine_parts.proofs.Endings.{weaker}
+use Rattle.engine_parts.proofs.Endings.{answered_by, handed_on, weaker}
 
 -- what is given_test of both, in other words
 pub by_schedule_as : {A C : Type 0} (P : LitmusTest → Said → Result A Refusal → Type 0) (Q : LitmusTest → Said → Result C Refusal → Type 0) (refusal : Refusal)
@@ -27,9 +27,7 @@ pub stopped_by : {A C X Y : Type 0} (P : Result A Refusal → Type 0) (Q : Resul
     (result : Result Y Fault) (fault : Fault) → ((refusal : Refusal) → P (Err refusal) → Q (Err refusal)) → result ≡ Err fault
     → AnswersAs P view (Err fault) → AnswersAs Q seen result
 stopped_by P Q view seen result (Refused r) more is answers = rw is (more r answers)
-stopped_by P Q view seen result NoMemory more is answers = rw is tt
-stopped_by P Q view seen result ReadFailed more is answers = rw is answers
-stopped_by P Q view seen result WriteFailed more is answers = rw is answers
+stopped_by P Q view seen result other more is answers = rw is answers
 
 module _ (first second : Option (List ℕ)) where
   -- what answers both, by their bytes
@@ -60,16 +58,11 @@ module _ (first second : Option (List ℕ)) where
     -- a fault in reading the first or the second, or in what is made of them
     module _ {X : Type 0} (seen : X → A) (result : Result X Fault) where
       pub test_fault : {Y : Type 0} (view : Y → LitmusTest) (fault : Fault) → result ≡ Err fault → FindsBy IsReadAsTest view first (Err fault) → Finds Answers seen result
-      test_fault view (Refused r) is finds = rw is (first_refused r finds)
-      test_fault view NoMemory is finds = rw is tt
-      test_fault view ReadFailed is finds = rw is tt
-      test_fault view WriteFailed is finds = rw is finds
+      test_fault view fault = handed_on (λ (a : Result LitmusTest Refusal). OfInput first (λ bytes. IsReadAsTest bytes a)) Answers view seen result fault first_refused
 
       pub schedule_fault : {Y : Type 0} (view : Y → Said) (test : LitmusTest) (fault : Fault) → result ≡ Err fault → OfInput first (λ bytes. IsReadAsTest bytes (Ok test)) → FindsBy IsReadAsSchedule view second (Err fault) → Finds Answers seen result
-      schedule_fault view test (Refused r) is is_test finds = rw is (second_refused test r is_test finds)
-      schedule_fault view test NoMemory is is_test finds = rw is tt
-      schedule_fault view test ReadFailed is is_test finds = rw is tt
-      schedule_fault view test WriteFailed is is_test finds = rw is finds
+      schedule_fault view test fault is is_test =
+          handed_on (λ (a : Result Said Refusal). OfInput second (λ bytes. IsReadAsSchedule bytes a)) Answers view seen result fault (λ r. second_refused test r is_test) is
 
   -- what is made of what was read answers both
   module _ {A X : Type 0} (IsAnswer : LitmusTest → Said → Result A Refusal → Type 0) (seen : X → A) (result : Result X Fault) where
@@ -83,15 +76,10 @@ module _ (first second : Option (List ℕ)) where
 
     pub made_of_read : (test : LitmusTest) (said : Said) (made : Result X Fault) → result ≡ made
         → AnswersBoth (BySchedule AreRead) first second (Ok (test, said)) → AnswersAs (IsAnswer test said) seen made → Finds (AnswersBoth (BySchedule IsAnswer) first second) seen result
-    made_of_read test said (Ok x) is read answers = rw is (answered test said (Ok (seen x)) answers read)
-    made_of_read test said (Err (Refused r)) is read answers = rw is (answered test said (Err r) answers read)
-    made_of_read test said (Err NoMemory) is read answers = rw is tt
-    made_of_read test said (Err ReadFailed) is read answers = absurd answers
-    made_of_read test said (Err WriteFailed) is read answers = absurd answers
+    made_of_read test said made is read answers = rw is (answered_by (IsAnswer test said) _ seen made (λ answer holds. answered test said answer holds read) answers)
 
     -- and so does a fault in reading them
     pub read_fault : (fault : Fault) → result ≡ Err fault → Finds (AnswersBoth (BySchedule AreRead) first second) test_and_said (Err fault) → Finds (AnswersBoth (BySchedule IsAnswer) first second) seen result
-    read_fault (Refused r) is finds = rw is (weaker_both (BySchedule AreRead) (BySchedule IsAnswer) (Err r) (Err r) (by_schedule_as AreRead IsAnswer r (λ test said never. absurd never)) finds)
-    read_fault NoMemory is finds = rw is tt
-    read_fault ReadFailed is finds = rw is tt
-    read_fault WriteFailed is finds = rw is finds
+    read_fault fault =
+        handed_on (AnswersBoth (BySchedule AreRead) first second) (AnswersBoth (BySchedule IsAnswer) first second) test_and_said seen result fault
+        (λ r. weaker_both (BySchedule AreRead) (BySchedule IsAnswer) (Err r) (Err r) (by_schedule_as AreRead IsAnswer r (λ test said never. absurd never)))

@@ -1,5 +1,5 @@
 -- What threads made is a schedule of harts below 64, and what answers its test answers the input.
-use Rattle.std.proofs.Common.{◌≡◌, ℕ, ◌<◌, ◌≤◌, Bool, true, false, cond, List, ◌++◌, length, refl, sym, subst, arith, Result, Ok, Err}
+use Rattle.std.proofs.Common.{◌≡◌, ℕ, ◌<◌, ◌≤◌, Bool, true, false, cond, List, ◌++◌, length, refl, sym, subst, arith, Result, Err}
 use Rattle.std.specs.Prelude.{map, All, Option}
 use Rattle.std.proofs.lemmas.List.Elements.{All-map, All-weaker}
 use Rattle.step_machine.specs.declared.events.Event.{Event}
@@ -14,7 +14,6 @@ use Rattle.recorder.specs.Schedule.{OfHarts, hart_of}
 use Rattle.litmus.specs.LitmusTests.{LitmusTest}
 use Rattle.litmus_reader.specs.Grammar.{IsTestOf}
 use Rattle.engine_parts.specs.declared.fault.Fault.{Fault}
-use Rattle.engine_parts.specs.declared.fault.Fault.TheVariants.{ReadFailed, WriteFailed, NoMemory, Refused}
 use Rattle.engine_parts.specs.declared.fault.Refusal.{Refusal}
 use Rattle.engine_parts.specs.Faults.{AnswersAs}
 use Rattle.engine_parts.specs.Engines.{Accepted, OfInput}
@@ -22,7 +21,7 @@ use Rattle.engine_parts.specs.Tests.{ByTest}
 use Rattle.engine_parts.specs.Tests.ByTest.{no_test, of_test}
 use Rattle.engine_parts.specs.inner.Making.{FindsBy}
 use Rattle.engine_parts.specs.inner.Inputs.{IsReadAsTest}
-use Rattle.engine_parts.proofs.Endings.{weaker}
+use Rattle.engine_parts.proofs.Endings.{answered_by, handed_on, weaker}
 
 event_hart : (e : Entry) → hart_of (event_of e) ≡ entries.hart_of e
 event_hart e = at (is_land e)
@@ -40,18 +39,15 @@ of_64 o evs es each of few =
 module _ {X A : Type 0} (IsAnswer : LitmusTest → Result A Refusal → Type 0) (view : X → A) (known : Option (List ℕ)) where
   -- what answers the test that was read
   pub by_test : (test : LitmusTest) (result : Result X Fault) → OfInput known (λ bytes. Accepted IsTestOf bytes test) → AnswersAs (IsAnswer test) view result → FindsBy (ByTest IsAnswer) view known result
-  by_test test (Ok x) read answers = weaker known _ _ (λ bytes accepted. of_test test _ accepted answers) read
-  by_test test (Err (Refused r)) read answers = weaker known _ _ (λ bytes accepted. of_test test _ accepted answers) read
-  by_test test (Err NoMemory) read answers = tt
-  by_test test (Err ReadFailed) read answers = tt
-  by_test test (Err WriteFailed) read answers = answers
+  by_test test result read =
+      answered_by (IsAnswer test) (λ answer. OfInput known (λ bytes. ByTest IsAnswer bytes answer)) view result
+      (λ answer holds. weaker known _ (λ bytes. ByTest IsAnswer bytes answer) (λ bytes accepted. of_test test answer accepted holds) read)
 
   -- no test was read
   pub by_no_test : {Y : Type 0} (seen : Y → LitmusTest) (result : Result X Fault) (fault : Fault) → result ≡ Err fault → FindsBy IsReadAsTest seen known (Err fault) → FindsBy (ByTest IsAnswer) view known result
-  by_no_test seen result (Refused r) is read = rw is (weaker known _ _ (λ bytes bad. no_test r bad) read)
-  by_no_test seen result NoMemory is read = rw is tt
-  by_no_test seen result ReadFailed is read = rw is tt
-  by_no_test seen result WriteFailed is read = rw is read
+  by_no_test seen result fault =
+      handed_on (λ (a : Result LitmusTest Refusal). OfInput known (λ bytes. IsReadAsTest bytes a)) (λ answer. OfInput known (λ bytes. ByTest IsAnswer bytes answer)) seen view
+      result fault (λ r. weaker known _ _ (λ bytes bad. no_test r bad))
 
 pub joined : (all text more a b : List ℕ) → all ≡ text ++ more → text ≡ a → more ≡ b → all ≡ a ++ b
 joined all text more a b p q r = cc

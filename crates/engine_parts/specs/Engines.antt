@@ -22,6 +22,12 @@ pub record Accepted {V : Type 0} (IsValue : List ℕ → V → Type 0) (input : 
 abbrev pub judged : {V : Type 0} → (List ℕ → Result V Refusal) → List ℕ → Result V Refusal
 judged value_at input = if nat_lt INPUT_BYTES (length input) then Err too_large else (if is_utf8 input then value_at input else Err not_text)
 
+-- What answers an input: what this value of it makes, where it is a text within the limit that has one, else
+-- the refusal for its first fault.
+abbrev pub ByValue : {V W : Type 0} → (IsValue : List ℕ → V → Type 0) → (value_at : List ℕ → Result W Refusal) → (V → Output → Type 0) → List ℕ → Result Output Refusal → Type 0
+ByValue {V = V} IsValue value_at Makes input (Ok answer) = (value : V) × Accepted IsValue input value × Makes value answer
+ByValue IsValue value_at Makes input (Err refusal) = judged value_at input ≡ Err refusal
+
 -- this holds of a reader's bytes, or of some bytes where the reader doesn't tell its own
 abbrev pub OfInput : Option (List ℕ) → (List ℕ → Type 0) → Type 0
 OfInput None Holds = (bytes : List ℕ) × Holds bytes

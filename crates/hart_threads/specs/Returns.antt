@@ -1,17 +1,19 @@
 -- What running harts on threads answers, by the seats that were given.
-use Rattle.std.specs.Prelude.{ℕ, ◌≡◌, ◌≤◌, ◌<◌, ◌⊎◌, List, ◌++◌, length, All}
+use Rattle.std.specs.Prelude.{ℕ, ◌≡◌, ◌≤◌, ◌<◌, ◌⊎◌, List, ◌++◌, length, All, IsSomeAnd}
 use Rattle.step_machine.specs.declared.events.Entry.{Entry}
 use Rattle.step_machine.specs.History.{Start, history_of}
 use Rattle.step_machine.specs.Legal.{Legal}
+use Rattle.step_machine.specs.Paths.{state_of}
 use Rattle.step_machine.specs.Placing.{IsMemory}
 use Rattle.poll_close.specs.Layout.{Layout}
 use Rattle.poll_close.specs.Laws.{Ring, opening_of, opening_over, Accepted, AcceptedAt}
 use Rattle.poll_close.specs.Refusals as refusals
 use Rattle.poll_close.specs.declared.faults.Refused.TheVariants.{NoMemory}
-use Rattle.hart_threads.specs.Seats.{SeatView, seats_of}
+use Rattle.hart_threads.specs.Seats.{SeatView, AsksBank, seats_of}
 use Rattle.hart_threads.specs.Missing.{is_missing, IsFirst, IsComplete}
 use Rattle.hart_threads.specs.Parts.{part_of, Belongs}
 use Rattle.hart_threads.specs.Records.{IsRecord}
+use Rattle.hart_threads.specs.GettingOn.{OpensAs}
 use Rattle.hart_threads.specs.declared.record.Record.{Record}
 use Rattle.hart_threads.specs.declared.fault.Fault.{Fault}
 use Rattle.hart_threads.specs.declared.fault.Fault.TheVariants as fault
@@ -31,12 +33,14 @@ pub record IsMerged (n : ℕ) (o : Start) (es : List Entry) (given : List SeatVi
   pub complete : IsComplete (length o.harts) given
   pub parts : All (GrowsInto n es) given
 
--- an act of hart h, the least such hart, found no such hart in the bank, though the seats make a record
+-- an act of hart h, the least such hart, found no such hart in the bank, though the seats make a record, at
+-- whose end hart h asks the bank
 pub record IsLost (B M n : ℕ) (o : Start) (given : List SeatView) (h : ℕ) : Type 0 where
   pub within : h < length o.harts
   pub made : Record B M
   pub record_of : IsRecord B M o made
   pub merge : IsMerged n o made.trace.entries given
+  pub asks : All (OpensAs M o) given → IsSomeAnd (state_of M made.trace h) AsksBank
 
 -- with at most n entries more in its diary the seat belongs to these memory entries
 pub record CanBelong (M n : ℕ) (o : Start) (us : List Entry) (s : SeatView) : Type 0 where

@@ -1,9 +1,9 @@
 //! What one thread does with its seat.
 
 ghost use Rattle.std.specs.Prelude.{◌≡◌, ◌<◌, ◌≤◌, ◌+◌, ◌-◌, ◌^◌, true, false, IfOk, IfSome, IsSomeAnd};
-ghost use Rattle.hart_threads.specs.Seats.{SeatView, Answers, Notes, state_in};
-ghost use Rattle.hart_threads.specs.inner.Threads.{Continues, EndsBy, GotOn, IsEnding, Ran, WhereDone, ending_of, last_answer, no_calls};
-ghost use Rattle.hart_threads.specs.declared.turns.Ending.TheVariants.{HeldBack};
+ghost use Rattle.hart_threads.specs.Seats.{SeatView, Answers, AsksBank, Notes, state_in};
+ghost use Rattle.hart_threads.specs.inner.Threads.{ActsAlone, Continues, EndsBy, GotOn, IsEnding, Ran, WhereDone, ending_of, last_answer, no_calls};
+ghost use Rattle.hart_threads.specs.declared.turns.Ending.TheVariants.{HeldBack, NoHart};
 
 use crate::gate::Gate;
 use crate::held::Held;
@@ -105,6 +105,7 @@ fn acting_turns<G: Gate, R: Wait, const B: usize, const M: usize>(
     requires { seat.old.acts ≡ true }
     ensures on { Continues turns seat.old seat.new }
     ensures got_on { G.is_open gate.now → WhereDone result.0 (GotOn turns seat.old seat.new) }
+    ensures asks { result.0 ≡ NoHart → IsSomeAnd (state_in seat.new) AsksBank }
     ensures ends { IsEnding turns result.0 result.1 }
 {
     let mut calls = Calls::none();
@@ -130,6 +131,7 @@ fn turn<R: Wait, const B: usize, const M: usize>(
     requires { seat.old.acts ≡ true }
     ensures diary { Notes seat.old result seat.new }
     ensures answers { IfOk result (λ o. IsSomeAnd (state_in seat.old) (λ s. Answers s o)) }
+    ensures alone { IfOk result (λ o. IsSomeAnd (state_in seat.old) (λ s. ActsAlone seat.old.hart s o)) }
 {
     match seat.local()? {
         Local::Did(entry) => Ok(Outcome::Did(entry)),

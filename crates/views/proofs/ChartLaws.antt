@@ -1,22 +1,30 @@
--- A test's chart is one text, or one refusal.
-use Rattle.std.proofs.Common.{◌≡◌, ℕ, ◌<◌, ◌≤◌, List, length, Result, Ok, Err, refl, sym, ap, ◌∙◌, subst, arith}
+-- A test's chart is one text, or one refusal, and no text of its rows stands on another one.
+use Rattle.std.proofs.Common.{◌≡◌, ℕ, ◌<◌, ◌≤◌, List, length, map, All, Result, Ok, Err, refl, sym, ap, ◌∙◌, subst, arith}
+use Rattle.std.proofs.lemmas.List.{length-map}
 use Rattle.step_machine.specs.declared.events.Entry.{Entry}
-use Rattle.step_machine.specs.History.{History}
+use Rattle.step_machine.specs.Entries.{hart_of}
+use Rattle.step_machine.specs.History.{Start, History, unrun}
+use Rattle.step_machine.proofs.Running.{kept-run, kept-unrun}
 use Rattle.litmus.specs.LitmusTests.{LitmusTest}
 use Rattle.litmus.proofs.VerdictLaws.{one_verdict}
+use Rattle.litmus_reader.specs.Grammar.{IsTestOf}
 use Rattle.litmus_reader.specs.Headings.{HeadingOf}
+use Rattle.litmus_reader.specs.Reading.{hart_content}
 use Rattle.litmus_reader.proofs.HeadingLaws.{one_heading}
-use Rattle.recorder.specs.Versions.{Said}
-use Rattle.chart.specs.Layout.{AboutOf}
+use Rattle.recorder.specs.Versions.{Said, events_said}
+use Rattle.chart.specs.Layout.{AboutOf, layout}
+use Rattle.chart.specs.Pictures.{IsClear}
+use Rattle.chart.proofs.PictureLaws.{picture_clear, heads_of_picture}
 use Rattle.engine_parts.specs.declared.fault.Fault.{Fault}
 use Rattle.engine_parts.specs.declared.fault.Fault.TheVariants.{Refused}
 use Rattle.engine_parts.specs.declared.fault.Refusal.{Refusal}
 use Rattle.engine_parts.specs.Engines.{Output, AreOneAnswer}
 use Rattle.engine_parts.specs.Faults.{AnswersAs, too_large}
 use Rattle.engine_parts.specs.Histories.{Runs}
-use Rattle.engine_parts.proofs.RunLaws.{one_difference, one_run, runs_or_differs}
+use Rattle.engine_parts.proofs.RunLaws.{one_difference, one_run, opening_stays, runs_or_differs}
 use Rattle.views.specs.About.{IsAbout, about_of}
 use Rattle.views.specs.Chart.{Drawing, IsChartOf, IsNotCharted, differs, too_long, IsChart, Headed, IsChartAnswer}
+use Rattle.views.proofs.ShrinkLaws.{runs_events}
 use Rattle.engine_parts.proofs.OneInput.{alike_by_schedule}
 
 one_about : (M : ℕ) (q : LitmusTest) (heading : HeadingOf) (t : History) (a b : AboutOf)
@@ -64,9 +72,9 @@ module _ (B M : ℕ) (draws : Drawing) (heading : HeadingOf) (q : LitmusTest) (s
   one_answer (Err r) (Ok b) refusal is = absurd (drawn_or_not b r is refusal)
   one_answer (Err r) (Err s) first other = ap (λ (x : Refusal). x.number) (one_reason r s first other)
 
-pub one_chart : (B M : ℕ) (draws : Drawing) (file schedule : List ℕ) (a b : Result Output Refusal)
+pub charts_alike : (B M : ℕ) (draws : Drawing) (file schedule : List ℕ) (a b : Result Output Refusal)
     → IsChartAnswer B M draws file schedule a → IsChartAnswer B M draws file schedule b → AreOneAnswer a b
-one_chart B M draws file schedule =
+charts_alike B M draws file schedule =
     alike_by_schedule AreOneAnswer (λ (r s : Refusal) (e : r.number ≡ s.number). e)
     (Headed (IsChart B M draws) file) one file schedule
   where
@@ -75,3 +83,21 @@ one_chart B M draws file schedule =
     one q said a b (heading, is, tells) (other, also, holds) =
         one_answer B M draws heading q said a b tells
         (subst (λ (h : HeadingOf). IsChart B M draws h q said b) (one_heading file other heading also is) holds)
+
+pub clear_chart : (B M : ℕ) (draws : Drawing) (file : List ℕ) (heading : HeadingOf) (q : LitmusTest) (said : Said) (answer : Output)
+    → IsTestOf file q → (chart : IsChartOf B M draws heading q said answer)
+    → All IsClear (layout chart.about chart.history.entries).body × IsClear (layout chart.about chart.history.entries).heads
+unfolding IsTestOf
+clear_chart B M draws file heading q said answer is_test chart =
+    let t = chart.history in
+    let stays : length t.opening.harts ≡ length q.opening.harts =
+    ap (λ (o : Start). length o.harts) (opening_stays B M q.opening said t chart.ran) in
+    let harts : chart.about.harts ≡ length t.opening.harts = ap (λ (a : AboutOf). a.harts) chart.is_about.2 in
+    let most : length (map hart_content q.opening.harts) ≤ 64 = is_test.0.tabled.few in
+    let few : chart.about.harts ≤ 255 = omega (arith, harts, stays, most, length-map q.opening.harts hart_content) in
+    let rows : length t.entries ≤ 10000 = chart.few in
+    let kept = kept-run B M (unrun q.opening) (events_said said) t (kept-unrun B M q.opening) (runs_events B M q.opening said t chart.ran) in (
+      picture_clear chart.about t.entries few
+          (subst (λ (n : ℕ). All (λ (e : Entry). hart_of e < n) t.entries) (sym harts) kept.of_harts) (omega (arith, rows)),
+      heads_of_picture chart.about t.entries few,
+    )

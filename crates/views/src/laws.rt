@@ -1,11 +1,15 @@
 //! Laws of what the commands answer.
 
-ghost use Rattle.std.specs.Prelude.{ℕ, List, Result};
+ghost use Rattle.std.specs.Prelude.{ℕ, List, All, Result};
 ghost use Rattle.litmus.specs.LitmusTests.{LitmusTest};
+ghost use Rattle.litmus_reader.specs.Grammar.{IsTestOf};
+ghost use Rattle.litmus_reader.specs.Headings.{HeadingOf};
 ghost use Rattle.recorder.specs.Versions.{Said};
+ghost use Rattle.chart.specs.Layout.{layout};
+ghost use Rattle.chart.specs.Pictures.{IsClear};
 ghost use Rattle.engine_parts.specs.declared.fault.Refusal.{Refusal};
 ghost use Rattle.engine_parts.specs.Engines.{Output, AreAlike, AreOneAnswer};
-ghost use Rattle.views.specs.Chart.{Drawing, IsChartAnswer};
+ghost use Rattle.views.specs.Chart.{Drawing, IsChartAnswer, IsChartOf};
 ghost use Rattle.views.specs.Shrink.{AreOfOneKind, IsShrink, IsShrinkAnswer};
 
 /// Two answers to one input are both schedules, or refusals of one number: a run is refused exactly where
@@ -19,6 +23,13 @@ pub fn shrinks_alike()
 
 /// Two charts of one input are one text, or refusals of one number. Of a refused litmus text it isn't said
 /// on which line its first fault stands. It does nothing.
+#[tactic(auto, using(crate::proofs::ChartLaws::charts_alike))]
 pub fn one_chart()
     ensures { (B M : ℕ) (draws : Drawing) (file schedule : List ℕ) (a b : Result Output Refusal) → IsChartAnswer B M draws file schedule a → IsChartAnswer B M draws file schedule b → AreOneAnswer a b }
+{}
+
+/// In the chart of a text's test no text of a row stands on another text or on a line, and no head of a column
+/// on another head. It does nothing.
+pub fn charts_are_clear()
+    ensures { (B M : ℕ) (draws : Drawing) (file : List ℕ) (heading : HeadingOf) (test : LitmusTest) (said : Said) (answer : Output) → IsTestOf file test → (chart : IsChartOf B M draws heading test said answer) → All IsClear (layout chart.about chart.history.entries).body × IsClear (layout chart.about chart.history.entries).heads }
 {}

@@ -1,10 +1,10 @@
--- Commands described argument by argument, and subcommand by subcommand.
-use Rattle.std.proofs.Common.{◌∙◌, ap, ap₂, Bool, ◌||◌, List, [], ◌∷◌, subst}
+-- Commands described argument by argument.
+use Rattle.std.proofs.Common.{◌∙◌, ap₂, Bool, ◌||◌, List, [], ◌∷◌, subst}
 use Rattle.std.specs.List.{AllZip}
-use Rattle.clap.specs.Words.{AddsArg, AddsInTurn, AddsSubcommand, App, Rule, with_rule, with_subcommand}
+use Rattle.clap.specs.Words.{AddsArg, AddsInTurn, App, Rule, with_rule}
 use Rattle.clap.specs.declared.builder.arg.Arg.{Arg}
 use Rattle.clap.specs.declared.builder.command.Command.{Command}
-use Rattle.ztso.specs.Descriptions.{HasRule, IsDescribed, with_commands, with_rules}
+use Rattle.ztso.specs.Descriptions.{HasRule, IsDescribed, with_rules}
 
 -- one fact and others after it
 infixr 5 ◌&◌
@@ -22,15 +22,3 @@ with_args old new app (arg ∷ args) (rule ∷ rules) is (has, all) (mid, adds, 
       local = adds.globals ∙ ap₂ (λ (a b : Bool). a || b) is.local has.local;
     } in
     with_args mid new (with_rule app rule) args rules next all later
-
-pub with_subcommands : (old new : Command) (app : App) (subs : List Command) (apps : List App) → IsDescribed old app → AllZip IsDescribed subs apps
-    → AddsInTurn AddsSubcommand old subs new → IsDescribed new (with_commands app apps)
-with_subcommands old new app [] [] is all same = subst (λ (command : Command). IsDescribed command app) same is
-with_subcommands old new app [] (a ∷ apps) is all same = absurd all
-with_subcommands old new app (sub ∷ subs) [] is all added = absurd all
-with_subcommands old new app (sub ∷ subs) (a ∷ apps) is (has, all) (mid, adds, later) =
-    let next : IsDescribed mid (with_subcommand app a.top) = record {
-      app_is = adds.shape has.local ∙ ap₂ with_subcommand is.app_is (ap (λ (b : App). b.top) has.app_is);
-      local = adds.globals ∙ ap₂ (λ (a b : Bool). a || b) is.local has.local;
-    } in
-    with_subcommands mid new (with_subcommand app a.top) subs apps next all later

@@ -61,6 +61,7 @@ impl<'a, R: Clock + Eprint> Progress for ProgressLine<'a, R> {
     fn report(&mut self, done: u32, runs: u32, outcomes: usize)
         ensures some { 1 ≤ self.old.round → 1 ≤ self.new.round }
         ensures growth { self.new.round ≤ max 1 (self.old.round * MOST_GROWTH) }
+        ensures begun { self.new.begun ≡ self.old.begun }
     {
         let _ = eprint!(self.rt; "\rruns {done} of {runs}, outcomes {outcomes}");
         if let Some(milliseconds) = self.milliseconds() {

@@ -14,40 +14,22 @@ use Rattle.ztso_axioms.specs.Axioms.{times_named, is_named, is_before, in_progra
 use Rattle.ztso_axioms.proofs.Listing.{Once, times-none, times-some, named-some, named_at, index_of, split_at, is_before-index}
 
 pub once_of : (es : List Entry) (gs : List ℕ) → NamesEachOnce es gs → Once gs
-once_of es gs n =
-    record { once = λ p. subst (λ k. k ≤ 1) (sym (n p)) (cond_both (is_at is_operation es p) 1 0 (λ k. k ≤ 1) (λ _. omega arith) (λ _. omega arith)) }
+once_of es gs n = grind (arith, cond_both)
 
 -- an operation is named
 pub named_op : (es : List Entry) (gs : List ℕ) (p : ℕ) → NamesEachOnce es gs → is_at is_operation es p ≡ true → is_named p gs ≡ true
-named_op es gs p n op =
-    let one : times_named p gs ≡ 1 = n p ∙ ap (λ b. if b then 1 else 0) op in
-    named-some p gs (omega arith)
+named_op es gs p n op = grind (arith, named-some)
 
 -- each operation of the trace is named once, and nothing else is
 pub names_from : (es : List Entry) (gs : List ℕ) → ((p : ℕ) → p < length es → is_at is_operation es p ≡ true → times_named p gs ≡ 1)
     → All (λ (g : ℕ). is_at is_operation es g ≡ true) gs → NamesEachOnce es gs
-names_from es gs once operations p = at (is_at is_operation es p) refl
-  where
-    at : (b : Bool) → is_at is_operation es p ≡ b → times_named p gs ≡ (if b then 1 else 0)
-    at true op = once p (ltb-true p (length es) (true_from_ne_false _ (λ past.
-        let none : is_at is_operation es p ≡ false = ap (passes is_operation) (slice_get_past es p (ltb-false p (length es) past)) in
-        (cc)))) op
-    at false none = times-none p gs (false_from_ne_true _ (λ is.
-        let there : (i : ℕ) × (i < length gs) × (get_or gs i 0 ≡ p) = index_of p gs is in
-        let op : is_at is_operation es p ≡ true = subst (λ (x : ℕ). is_at is_operation es x ≡ true) there.2 (operations there.0 0 there.1) in
-        (cc)))
+names_from es gs once operations p = grind (arith, ltb-true, true_from_ne_false, slice_get_past, ltb-false, times-none, false_from_ne_true, index_of)
 
 pub operations_from : (es : List Entry) (gs : List ℕ) → NamesEachOnce es gs → All (λ (g : ℕ). is_at is_operation es g ≡ true) gs
-operations_from es gs n k d lt = true_from_ne_false _ (λ no.
-    let none : times_named (get_or gs k d) gs ≡ 0 = n (get_or gs k d) ∙ ap (λ b. if b then 1 else 0) no in
-    let some : 1 ≤ times_named (get_or gs k d) gs = times-some (get_or gs k d) gs (named_at gs k d lt) in
-    omega arith)
+operations_from es gs n k d lt = grind (arith, true_from_ne_false, times-some, named_at)
 
 preserved_parts : (es : List Entry) (p q : ℕ) → is_preserved es p q ≡ true → (is_at is_operation es p ≡ true) × (is_at is_operation es q ≡ true)
-preserved_parts es p q is =
-    let a : ((is_at is_operation es p && is_at is_operation es q && in_program_order es p q) ≡ true) × (not (may_pass es p q) ≡ true) = and_parts _ _ is in
-    let b : ((is_at is_operation es p && is_at is_operation es q) ≡ true) × (in_program_order es p q ≡ true) = and_parts _ _ a.0 in
-    and_parts _ _ b.0
+preserved_parts es p q is = grind (arith, and_parts)
 
 -- nothing that stands from the operation at i on has to stand before it
 abbrev pub NoneBelongsBefore : List Entry → List ℕ → ℕ → Type 0
@@ -82,8 +64,7 @@ indices_from_keeps es gs i n keeps lt k d within = false_from_ne_true _ (λ is.
 -- one more operation that is not seen, before those of which none is
 pub none_seen_more : (seen : ℕ → Bool) (gs : List ℕ) (j : ℕ) → j < length gs → seen (get_or gs j 0) ≡ false
     → filter seen (drop (j + 1) gs) ≡ [] → filter seen (drop j gs) ≡ []
-none_seen_more seen gs j lt is none =
-    ap (filter seen) (drop_more gs j 0 lt) ∙ ap (λ b. if b then get_or gs j 0 ∷ filter seen (drop (j + 1) gs) else filter seen (drop (j + 1) gs)) is ∙ none
+none_seen_more seen gs j lt is none = grind (arith, drop_more)
 
 -- nothing that is seen among these operations writes to the address
 abbrev pub NoneWrites : List Entry → ℕ → (ℕ → Bool) → List ℕ → Type 0
@@ -102,10 +83,7 @@ written_first : (es : List Entry) (a w x : ℕ) (seen : ℕ → Bool) (xs : List
 written_first es a w x seen xs none = grind (arith, none (unwrap_or (written_at es a x) w), none w)
 
 pub none_more : (es : List Entry) (a j : ℕ) (seen : ℕ → Bool) (gs : List ℕ) → j < length gs → written_if es a seen (get_or gs j 0) ≡ None → NoneWrites es a seen (drop (j + 1) gs) → NoneWrites es a seen (drop j gs)
-none_more es a j seen gs lt is none w =
-    ap (λ zs. last_written es a w (filter seen zs)) (drop_more gs j 0 lt)
-    ∙ written_first es a w (get_or gs j 0) seen (drop (j + 1) gs) none
-    ∙ ap (λ o. unwrap_or o w) is
+none_more es a j seen gs lt is none w = grind (arith, drop_more, written_first)
 
 pub last_found : (es : List Entry) (a w j b : ℕ) (seen : ℕ → Bool) (gs : List ℕ) → j < length gs → written_if es a seen (get_or gs j 0) ≡ Some b → NoneWrites es a seen (drop (j + 1) gs) → b ≡ last_written es a w (filter seen gs)
 last_found es a w j b seen gs lt is none =
@@ -118,13 +96,7 @@ last_found es a w j b seen gs lt is none =
 
 -- a place that is read is an operation's
 pub read_op : (es : List Entry) (q : ℕ) (r : ℕ × ℕ × ℕ) → read_at es q ≡ Some r → is_at is_operation es q ≡ true
-read_op es q r is = at (slice_get es q) is
-  where
-    at : (so : Option Entry) → option_and_then read_of so ≡ Some r → passes is_operation so ≡ true
-    at (Some (entry.Load h a width v)) e = refl
-    at (Some (entry.Store h a width v)) e = refl
-    at (Some (entry.Amo h a old new)) e = refl
-    at other e = cc
+read_op es q r is = grind arith
 
 pub values_from_indices : (o : Start) (es : List Entry) (gs : List ℕ) → NamesEachOnce es gs → ((i : ℕ) → i < length gs → HasLoadValue o es gs (get_or gs i 0)) → (q : ℕ) → HasLoadValue o es gs q
 values_from_indices o es gs n values q a width v is =
@@ -133,26 +105,17 @@ values_from_indices o es gs n values q a width v is =
 
 -- the same of the slice from i on, and the operation as it was read
 pub slice_from_none : (es : List Entry) (gs : List ℕ) (i x : ℕ) → i < length gs → x ≡ get_or gs i x → NoneBelongsBefore es gs i → All (λ (p : ℕ). is_preserved es p x ≡ false) (take (length gs - i) (drop i gs))
-slice_from_none es gs i x lt read none =
-    subst (λ (zs : List ℕ). All (λ (p : ℕ). is_preserved es p x ≡ false) zs) (sym (take_rest gs i))
-    (subst (λ (y : ℕ). All (λ (p : ℕ). is_preserved es p y ≡ false) (drop i gs)) (sym (get_or_read gs i x lt read 0)) none)
+slice_from_none es gs i x lt read none = grind (arith, take_rest, get_or_read)
 
 pub none_from_slice : (es : List Entry) (gs : List ℕ) (i x : ℕ) → i < length gs → x ≡ get_or gs i x → All (λ (p : ℕ). is_preserved es p x ≡ false) (take (length gs - i) (drop i gs)) → NoneBelongsBefore es gs i
-none_from_slice es gs i x lt read none =
-    subst (λ (y : ℕ). All (λ (p : ℕ). is_preserved es p y ≡ false) (drop i gs)) (get_or_read gs i x lt read 0)
-    (subst (λ (zs : List ℕ). All (λ (p : ℕ). is_preserved es p x ≡ false) zs) (take_rest gs i) none)
+none_from_slice es gs i x lt read none = grind (arith, get_or_read, take_rest)
 
 -- what the operation at i sees of the one at j, by their indices
 pub is_seen-index : (es : List Entry) (gs : List ℕ) (i j x y : ℕ) → Once gs → i < length gs → j < length gs → x ≡ get_or gs i x → y ≡ get_or gs j y → is_seen es gs (get_or gs i 0) (get_or gs j 0) ≡ (nat_lt j i || in_program_order es y x)
-is_seen-index es gs i j x y o lt_i lt_j read_x read_y =
-    ap (λ b. b || in_program_order es (get_or gs j 0) (get_or gs i 0)) (is_before-index gs j i o lt_j lt_i)
-    ∙ ap (λ k. nat_lt j i || in_program_order es (get_or gs j 0) k) (sym (get_or_read gs i x lt_i read_x 0))
-    ∙ ap (λ k. nat_lt j i || in_program_order es k x) (sym (get_or_read gs j y lt_j read_y 0))
+is_seen-index es gs i j x y o lt_i lt_j read_x read_y = grind (arith, is_before-index, nat_lt, get_or_read)
 
 pub seen_in_front : (es : List Entry) (gs : List ℕ) (i j : ℕ) → Once gs → i < length gs → j < length gs → j < i → nat_lt j i ≡ is_seen es gs (get_or gs i 0) (get_or gs j 0)
-seen_in_front es gs i j o lt_i lt_j front =
-    let here : nat_lt j i ≡ true = lt-ltb j i front in
-    here ∙ ap (λ b. b || in_program_order es (get_or gs j 0) (get_or gs i 0)) (sym here ∙ sym (is_before-index gs j i o lt_j lt_i))
+seen_in_front es gs i j o lt_i lt_j front = grind (arith, nat_lt, lt-ltb, is_before-index)
 
 pub seen_behind : (es : List Entry) (gs : List ℕ) (i j x y : ℕ) (r : Bool) → Once gs → i < length gs → j < length gs → x ≡ get_or gs i x → y ≡ get_or gs j y → i ≤ j → r ≡ in_program_order es y x → r ≡ is_seen es gs (get_or gs i 0) (get_or gs j 0)
 seen_behind es gs i j x y r o lt_i lt_j read_x read_y behind is =

@@ -24,11 +24,7 @@ use Rattle.memory.specs.Writes.{write}
 -- entries by place
 
 pub some_at : (test : Entry → Bool) (es : List Entry) (p : ℕ) → is_at test es p ≡ true → (e : Entry) × (slice_get es p ≡ Some e) × (test e ≡ true)
-some_at test es p is = at (slice_get es p) refl is
-  where
-    at : (so : Option Entry) → slice_get es p ≡ so → passes test so ≡ true → (e : Entry) × (slice_get es p ≡ Some e) × (test e ≡ true)
-    at None here pass = cc
-    at (Some e) here pass = (e, here, pass)
+some_at test es p is = grind arith
 
 pub split_entry : (es : List Entry) (p : ℕ) (e : Entry) → slice_get es p ≡ Some e → es ≡ take p es ++ e ∷ drop (suc p) es
 split_entry [] p e is = cc
@@ -49,10 +45,7 @@ at_past test us p le = ap (passes test) (slice_get_past us p le)
 -- what the front performed stands before all else
 
 pub order-front : (es us ws : List Entry) → es ≡ us ++ ws → performed_after es [] es ++ left_below (hart_bound es) es ≡ performed_after es [] us ++ (performed_after es us ws ++ left_below (hart_bound es) es)
-order-front es us ws split =
-    ap (λ zs. performed_after es [] zs ++ left_below (hart_bound es) es) split
-    ∙ ap (λ zs. zs ++ left_below (hart_bound es) es) (performed_after-append es [] us ws)
-    ∙ append_assoc (performed_after es [] us) (performed_after es us ws) (left_below (hart_bound es) es)
+order-front es us ws split = grind (arith, performed_after-append, append_assoc)
 
 -- a load or an AMO is performed by the front that holds it
 pub read_in_front : (es us ws : List Entry) (p : ℕ) → es ≡ us ++ ws → reads_at es p ≡ true → is_named p (performed_after es [] us) ≡ is_at is_reader us p
@@ -84,15 +77,7 @@ AreWritten-drop all (suc n) (g ∷ gs) (p ∷ ps) written = AreWritten-drop all 
 AreWritten-drop all (suc n) gs ps written = absurd written
 
 written_before : (all us : List Entry) (e : Entry) (ws : List Entry) (h : ℕ) (rest : List Entry) → all ≡ us ++ e ∷ ws → (gs : List ℕ) → AreWritten all gs (stores h rest) → AreWritten all (place_of (is_store_of h) (length us) e ++ gs) (store_of h e ++ stores h rest)
-written_before all us e ws h rest split gs written = at e split
-  where
-    at : (d : Entry) → all ≡ us ++ d ∷ ws → AreWritten all (place_of (is_store_of h) (length us) d ++ gs) (store_of h d ++ stores h rest)
-    at (entry.Store g a width v) here =
-        let writes : (b : ℕ) → written_at all b (length us) ≡ byte_in (write a width v) b
-        = λ b. ap (λ zs. written_at zs b (length us)) here ∙ ap (option_and_then (written_to b)) (entry_here us (entry.Store g a width v) ws) in
-        elim (g == h) as (λ b. AreWritten all ((if b then length us ∷ [] else []) ++ gs) ((if b then write a width v ∷ [] else []) ++ stores h rest))
-        [ true ↦ (writes, written) | false ↦ written ]
-    at other here = written
+written_before all us e ws h rest split gs written = grind (arith, place_of, entry_here)
 
 pub written_stores : (all us es ws : List Entry) (h : ℕ) → all ≡ us ++ (es ++ ws) → AreWritten all (places_of (is_store_of h) (length us) es) (stores h es)
 written_stores all us [] ws h split = tt
@@ -153,8 +138,4 @@ store_not_yet B o es us ws h q legal split own le =
 
 -- an AMO or a full fence finds nothing pending of its hart
 pub barrier_waits : (B : ℕ) (o : Start) (us : List Entry) (h : ℕ) (e : Entry) → is_barrier h e ≡ true → Allowed B o us e → pending h us ≡ []
-barrier_waits B o us h (entry.Amo g a old new) is may = subst (λ (k : ℕ). pending k us ≡ []) (eqb-true g h is) may.0
-barrier_waits B o us h (entry.Fence g full) is may =
-    let parts : (full ≡ true) × ((g == h) ≡ true) = and_parts full (g == h) is in
-    subst (λ (k : ℕ). pending k us ≡ []) (eqb-true g h parts.1) (may parts.0)
-barrier_waits B o us h other is may = cc
+barrier_waits B o us h e is may = grind (arith, eqb-true, and_parts)

@@ -37,9 +37,7 @@ named_at xs i d lt = list_any_at (λ g. g == get_or xs i d) xs i d lt (eq-eqb (g
 
 -- a place that is named stands at an index
 pub index_of : (p : ℕ) (xs : List ℕ) → is_named p xs ≡ true → (i : ℕ) × (i < length xs) × (get_or xs i 0 ≡ p)
-index_of p xs some =
-    let found = Any-from_list_any (λ g. g == p) xs some in
-    (found.0, found.2, get_or_default xs found.0 0 found.1 found.2 ∙ found.3 ∙ eqb-true _ _ found.4)
+index_of p xs some = grind (arith, Any-from_list_any, get_or_default, eqb-true)
 
 -- what stands before a place that the front does not name
 pub before-at : (q : ℕ) (xs ys : List ℕ) → times_named q xs ≡ 0 → before q (xs ++ q ∷ ys) ≡ xs

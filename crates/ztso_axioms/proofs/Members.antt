@@ -21,9 +21,7 @@ pub passes_by_name : (test : ℕ → Bool) (xs : List ℕ) → ((x : ℕ) → is
 passes_by_name test xs each k d lt = each (get_or xs k d) (named_at xs k d lt)
 
 pub named_passes : (test : ℕ → Bool) (xs : List ℕ) (x : ℕ) → AllPass test xs → is_named x xs ≡ true → test x ≡ true
-named_passes test xs x each is =
-    let there : (i : ℕ) × (i < length xs) × (get_or xs i 0 ≡ x) = index_of x xs is in
-    subst (λ (y : ℕ). test y ≡ true) there.2 (each there.0 0 there.1)
+named_passes test xs x each is = grind (arith, index_of)
 
 pub AllPass-get : (test : ℕ → Bool) (xs : List ℕ) (k : ℕ) → AllPass test xs → AllPass test (option_to_list (slice_get xs k))
 AllPass-get test [] k each = each
@@ -47,9 +45,7 @@ filter-none test (x ∷ xs) each =
 -- two tests that agree at each place that the list names
 pub filter-same : (test other : ℕ → Bool) (xs : List ℕ) → ((x : ℕ) → is_named x xs ≡ true → test x ≡ other x) → filter test xs ≡ filter other xs
 filter-same test other [] agree = refl
-filter-same test other (x ∷ xs) agree =
-    ap (λ b. if b then x ∷ filter test xs else filter test xs) (agree x (or_left (x == x) (is_named x xs) (eq-eqb x x refl)))
-    ∙ ap (λ zs. if other x then x ∷ zs else zs) (filter-same test other xs (λ y is. agree y (or_right (x == y) (is_named y xs) is)))
+filter-same test other (x ∷ xs) agree = grind (arith, or_left, eq-eqb, or_right, filter-same test other xs)
 
 pub filter-both : (test other : ℕ → Bool) (xs : List ℕ) → filter (λ x. test x && other x) xs ≡ filter other (filter test xs)
 filter-both test other [] = refl
@@ -82,22 +78,12 @@ before-split (x ∷ xs) ys p q some none = grind (arith, before-split xs ys p q)
 
 pub times-low : (test : Entry → Bool) (p n : ℕ) (es : List Entry) → p < n → times_named p (places_of test n es) ≡ 0
 times-low test p n [] lt = refl
-times-low test p n (e ∷ es) lt =
-    let rest : times_named p (places_of test (suc n) es) ≡ 0 = times-low test p (suc n) es (omega arith) in
-    let other : (n == p) ≡ false = ne_eqb n p (λ e. omega arith) in
-    grind (arith, rest, other)
+times-low test p n (e ∷ es) lt = grind (arith, ne_eqb, times-low test p (suc n) es)
 
 pub times-places : (test : Entry → Bool) (n i : ℕ) (es : List Entry) → times_named (n + i) (places_of test n es) ≡ (if is_at test es i then 1 else 0)
 times-places test n i [] = refl
-times-places test n zero (e ∷ es) =
-    let same : (n == (n + 0)) ≡ true = eq-eqb n (n + 0) (omega arith) in
-    let rest : times_named (n + 0) (places_of test (suc n) es) ≡ 0 = times-low test (n + 0) (suc n) es (omega arith) in
-    grind (arith, rest, same)
-times-places test n (suc i) (e ∷ es) =
-    let other : (n == (n + suc i)) ≡ false = ne_eqb n (n + suc i) (λ e. omega arith) in
-    let there : n + suc i ≡ suc n + i = omega arith in
-    let rest : times_named (n + suc i) (places_of test (suc n) es) ≡ (if is_at test es i then 1 else 0) = ap (λ k. times_named k (places_of test (suc n) es)) there ∙ times-places test (suc n) i es in
-    grind (arith, rest, other)
+times-places test n zero (e ∷ es) = grind (arith, eq-eqb, times-low)
+times-places test n (suc i) (e ∷ es) = grind (arith, ne_eqb, times-places test (suc n) i es)
 
 pub times-all_places : (test : Entry → Bool) (p : ℕ) (es : List Entry) → times_named p (places_of test 0 es) ≡ (if is_at test es p then 1 else 0)
 times-all_places test p es = let same : p ≡ 0 + p = omega arith in ap (λ k. times_named k (places_of test 0 es)) same ∙ times-places test 0 p es
@@ -119,13 +105,7 @@ places_of-cons test n e es = elim (test e) as (λ b. (if b then n ∷ places_of 
 
 pub places_of-append : (test : Entry → Bool) (n : ℕ) (es fs : List Entry) → places_of test n (es ++ fs) ≡ places_of test n es ++ places_of test (n + length es) fs
 places_of-append test n [] fs = let same : n ≡ n + 0 = omega arith in ap (λ k. places_of test k fs) same
-places_of-append test n (e ∷ es) fs =
-    let same : suc n + length es ≡ n + suc (length es) = omega arith in
-    places_of-cons test n e (es ++ fs)
-    ∙ ap (λ zs. place_of test n e ++ zs) (places_of-append test (suc n) es fs)
-    ∙ ap (λ k. place_of test n e ++ (places_of test (suc n) es ++ places_of test k fs)) same
-    ∙ sym (append_assoc (place_of test n e) (places_of test (suc n) es) (places_of test (n + suc (length es)) fs))
-    ∙ ap (λ zs. zs ++ places_of test (n + suc (length es)) fs) (sym (places_of-cons test n e es))
+places_of-append test n (e ∷ es) fs = grind (arith, places_of-cons, append_assoc, places_of-append test (suc n) es fs)
 
 -- the places among a list's front, and then those among the rest
 pub places_of-split : (test : Entry → Bool) (es fs : List Entry) → places_of test 0 (es ++ fs) ≡ places_of test 0 es ++ places_of test (length es) fs
@@ -133,10 +113,7 @@ places_of-split test es fs = let same : 0 + length es ≡ length es = omega arit
 
 pub performed_after-append : (all before es fs : List Entry) → performed_after all before (es ++ fs) ≡ performed_after all before es ++ performed_after all (before ++ es) fs
 performed_after-append all before [] fs = ap (λ b. performed_after all b fs) (sym (append-nil before))
-performed_after-append all before (e ∷ es) fs =
-    ap (λ t. performed_by all before e ++ t) (performed_after-append all (before ++ e ∷ []) es fs)
-    ∙ ap (λ b. performed_by all before e ++ (performed_after all (before ++ e ∷ []) es ++ performed_after all b fs)) (append_assoc before (e ∷ []) es)
-    ∙ sym (append_assoc (performed_by all before e) (performed_after all (before ++ e ∷ []) es) (performed_after all (before ++ e ∷ es) fs))
+performed_after-append all before (e ∷ es) fs = grind (arith, append_assoc, performed_after-append all (before ++ e ∷ []) es fs)
 
 pub performed-last : (all es : List Entry) (e : Entry) → performed_after all [] (es ++ e ∷ []) ≡ performed_after all [] es ++ performed_by all es e
 performed-last all es e = performed_after-append all [] es (e ∷ []) ∙ ap (λ t. performed_after all [] es ++ t) (append-nil (performed_by all es e))

@@ -24,25 +24,13 @@ performed_order es = performed_after es [] es ++ left_below (hart_bound es) es
 
 -- an operation reads memory, or is a store of its hart
 pub kind_at : (es : List Entry) (p : ℕ) → is_at is_operation es p ≡ true → (reads_at es p ≡ true) ⊎ (stores_at es (hart_at es p) p ≡ true)
-kind_at es p op = at (slice_get es p) op
-  where
-    at : (so : Option Entry) → passes is_operation so ≡ true → (passes is_reader so ≡ true) ⊎ (passes (is_store_of (option_map_or hart_of so 0)) so ≡ true)
-    at (Some (entry.Load h a width v)) e = inl refl
-    at (Some (entry.Store h a width v)) e = inr (eq-eqb h h refl)
-    at (Some (entry.Amo h a old new)) e = inl refl
-    at other e = cc
+kind_at es p op = grind (arith, is_reader, eq-eqb)
 
 load_or_amo : (es : List Entry) (q : ℕ) → reads_at es q ≡ true → (is_at is_load es q ≡ true) ⊎ (is_at is_amo es q ≡ true)
-load_or_amo es q reads = at (slice_get es q) reads
-  where
-    at : (so : Option Entry) → passes is_reader so ≡ true → (passes is_load so ≡ true) ⊎ (passes is_amo so ≡ true)
-    at None e = cc
-    at (Some d) e = or_cases (is_load d) (is_amo d) e
+load_or_amo es q reads = grind (arith, is_reader, or_cases)
 
 store_plain : (es : List Entry) (h p : ℕ) → stores_at es h p ≡ true → is_at is_store es p ≡ true
-store_plain es h p own =
-    let found : (e : Entry) × (slice_get es p ≡ Some e) × (is_store_of h e ≡ true) = some_at (is_store_of h) es p own in
-    ap (passes is_store) found.1 ∙ (and_parts (is_store found.0) (hart_of found.0 == h) found.2).0
+store_plain es h p own = grind (arith, some_at, and_parts)
 
 -- each operation is named once, and nothing else is
 pub order-once : (es : List Entry) → NamesEachOnce es (performed_order es)
@@ -78,10 +66,7 @@ front_of es q = sym (take-append-drop q es)
 
 -- a store and a later read with a barrier of their hart between them
 by_barrier : (B : ℕ) (o : Start) (es us : List Entry) (e : Entry) (ws : List Entry) (h p q : ℕ) → LegalAfter B o [] es → es ≡ us ++ e ∷ ws → is_barrier h e ≡ true → stores_at es h p ≡ true → p < length us → reads_at es q ≡ true → length us ≤ q → is_before (performed_order es) p q ≡ true
-by_barrier B o es us e ws h p q legal split barrier own lt reads le =
-    by_front es us (e ∷ ws) p q split
-    (store_performed B o es us (e ∷ ws) h p legal split (barrier_waits B o us h e barrier (front_allows B o es us e ws legal split)) own lt)
-    (read_not_yet es us (e ∷ ws) q split reads le)
+by_barrier B o es us e ws h p q legal split barrier own lt reads le = grind (arith, by_front, store_performed, barrier_waits, front_allows, read_not_yet)
 
 any_split : (test : Entry → Bool) (xs : List Entry) → list_any test xs ≡ true → (ys : List Entry) × (e : Entry) × (zs : List Entry) × (xs ≡ ys ++ e ∷ zs) × (test e ≡ true)
 any_split test [] some = cc
@@ -156,18 +141,4 @@ by_store B o es h p q legal own hart held lt within reads = at (load_or_amo es q
         by_barrier B o es (take q es) found.0 (drop (suc q) es) h p q legal (split_entry es q found.0 found.1) (amo_barrier found.0 found.1 found.2) own (omega arith) reads (omega arith)
 
 pub order-program : (B : ℕ) (o : Start) (es : List Entry) → LegalAfter B o [] es → KeepsProgramOrder es (performed_order es)
-order-program B o es legal p q is =
-    let a : ((is_at is_operation es p && is_at is_operation es q && in_program_order es p q) ≡ true) × (not (may_pass es p q) ≡ true) = and_parts _ _ is in
-    let b : ((is_at is_operation es p && is_at is_operation es q) ≡ true) × (in_program_order es p q ≡ true) = and_parts _ _ a.0 in
-    let ops : (is_at is_operation es p ≡ true) × (is_at is_operation es q ≡ true) = and_parts _ _ b.0 in
-    let order : ((hart_at es p == hart_at es q) ≡ true) × (nat_lt p q ≡ true) = and_parts _ _ b.1 in
-    let hart : hart_at es p ≡ hart_at es q = eqb-true (hart_at es p) (hart_at es q) order.0 in
-    let lt : p < q = ltb-true p q order.1 in
-    let there : (e : Entry) × (slice_get es q ≡ Some e) × (is_operation e ≡ true) = some_at is_operation es q ops.1 in
-    let within : q < length es = slice_get_within es q there.0 there.1 in
-    at hart lt within (not-true (may_pass es p q) a.1) (kind_at es p ops.0) (kind_at es q ops.1)
-  where
-    at : hart_at es p ≡ hart_at es q → p < q → q < length es → may_pass es p q ≡ false → (reads_at es p ≡ true) ⊎ (stores_at es (hart_at es p) p ≡ true) → (reads_at es q ≡ true) ⊎ (stores_at es (hart_at es q) q ≡ true) → is_before (performed_order es) p q ≡ true
-    at hart lt within held (inl reads) kind = by_read B o es p q legal reads kind lt within
-    at hart lt within held (inr own) (inl reads) = by_store B o es (hart_at es p) p q legal own hart held lt within reads
-    at hart lt within held (inr own) (inr other) = by_stores es (hart_at es p) p q own (subst (λ (k : ℕ). stores_at es k q ≡ true) (sym hart) other) lt within
+order-program B o es legal p q is = grind (arith, and_parts, nat_lt, eqb-true, ltb-true, some_at, slice_get_within, not-true, kind_at, reads_at, stores_at, by_read, by_store, by_stores)

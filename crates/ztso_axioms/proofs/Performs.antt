@@ -41,18 +41,11 @@ take_next (x ∷ xs) (suc k) n = let one : suc k + 1 ≡ suc (k + 1) = omega ari
 
 -- a store of one hart is none of another's
 others_not : (all : List Entry) (h g : ℕ) → (g ≡ h → ⊥) → (x : ℕ) → stores_at all g x ≡ true → not (stores_at all h x) ≡ true
-others_not all h g ne x is = at (slice_get all x) is
-  where
-    at : (so : Option Entry) → passes (is_store_of g) so ≡ true → not (passes (is_store_of h) so) ≡ true
-    at None e = refl
-    at (Some d) e =
-        let mine : (hart_of d == g) ≡ true = (and_parts (is_store d) (hart_of d == g) e).1 in
-        grind (arith, eqb-true (hart_of d) g, eqb-true (hart_of d) h, and_parts (is_store d) (hart_of d == h))
+others_not all h g ne x is = grind (arith, and_parts, eqb-true)
 
 -- a list of one hart's stores has none of another's
 pub filter_others : (all : List Entry) (h g : ℕ) (xs : List ℕ) → (g ≡ h → ⊥) → AllPass (stores_at all g) xs → filter (stores_at all h) xs ≡ []
-filter_others all h g xs ne each =
-    filter-none (stores_at all h) xs (All-weaker (IsPassed (stores_at all g)) (IsPassed (λ y. not (stores_at all h y))) (others_not all h g ne) xs each)
+filter_others all h g xs ne each = grind (arith, filter-none, All-weaker, IsPassed, others_not)
 
 -- the store that a landing of hart h performs after the entries us
 abbrev landed_store : List Entry → List Entry → ℕ → List ℕ
@@ -96,53 +89,27 @@ stores_by all us e ws h split n = at e (at_here (is_store_of h) all us e ws spli
 -- of a hart's stores, those are performed that its landings number
 pub stores_performed : (all us es ws : List Entry) (h : ℕ) → all ≡ us ++ (es ++ ws) → filter (stores_at all h) (performed_after all us es) ≡ take (lands h es) (drop (lands h us) (store_places h all))
 stores_performed all us [] ws h split = refl
-stores_performed all us (e ∷ es) ws h split =
-    filter-append (stores_at all h) (performed_by all us e) (performed_after all (us ++ e ∷ []) es)
-    ∙ ap (λ zs. filter (stores_at all h) (performed_by all us e) ++ zs)
-    (stores_performed all (us ++ e ∷ []) es ws h (split ∙ sym (append_assoc us (e ∷ []) (es ++ ws))) ∙ ap (λ k. take (lands h es) (drop k (store_places h all))) (lands-last h us e))
-    ∙ stores_by all us e (es ++ ws) h split (lands h es)
+stores_performed all us (e ∷ es) ws h split = grind (arith, filter-append, append_assoc, lands-last, stores_by, stores_performed all (us ++ e ∷ []) es ws h)
 
 -- what is left of hart h's stores
 left_of : (all : List Entry) (h m : ℕ) (b : Bool) → (m == h) ≡ b → filter (stores_at all h) (left_places m all) ≡ (if b then left_places h all else [])
-left_of all h m true is =
-    let mine : m ≡ h = eqb-true m h is in
-    ap (λ k. filter (stores_at all h) (left_places k all)) mine
-    ∙ filter-every (stores_at all h) (left_places h all) (left_own all h)
+left_of all h m true is = grind (arith, eqb-true, filter-every, left_own)
 left_of all h m false is = filter_others all h m (left_places m all) (eqb-false m h is) (left_own all m)
 
 left_past : (all : List Entry) (h n : ℕ) → n ≤ h → filter (stores_at all h) (left_below n all) ≡ []
 left_past all h zero le = refl
-left_past all h (suc n) le =
-    let other : (n == h) ≡ false = ne_eqb n h (λ e. omega arith) in
-    filter-append (stores_at all h) (left_below n all) (left_places n all)
-    ∙ ap (λ zs. zs ++ filter (stores_at all h) (left_places n all)) (left_past all h n (omega arith))
-    ∙ left_of all h n false other
+left_past all h (suc n) le = grind (arith, ne_eqb, filter-append, left_of, left_past all h n)
 
 pub stores_left : (all : List Entry) (h n : ℕ) → h < n → filter (stores_at all h) (left_below n all) ≡ left_places h all
 stores_left all h zero lt = absurd (omega arith)
-stores_left all h (suc n) lt =
-    filter-append (stores_at all h) (left_below n all) (left_places n all) ∙ at (n == h) refl (stores_left all h n)
-  where
-    at : (b : Bool) → (n == h) ≡ b → (h < n → filter (stores_at all h) (left_below n all) ≡ left_places h all) → filter (stores_at all h) (left_below n all) ++ filter (stores_at all h) (left_places n all) ≡ left_places h all
-    at true is more =
-        let mine : n ≡ h = eqb-true n h is in
-        ap (λ zs. zs ++ filter (stores_at all h) (left_places n all)) (left_past all h n (omega arith)) ∙ left_of all h n true is
-    at false is more =
-        let ne : n ≡ h → ⊥ = eqb-false n h is in
-        let under : h < n = omega arith in
-        ap (λ zs. filter (stores_at all h) (left_below n all) ++ zs) (left_of all h n false is) ∙ append-nil _ ∙ more under
+stores_left all h (suc n) lt = grind (arith, filter-append, eqb-true, left_past, left_of, eqb-false, append-nil, stores_left all h n)
 
 -- a store is no reader, and is an operation
 store_kinds : (all : List Entry) (h x : ℕ) → stores_at all h x ≡ true → (not (reads_at all x) ≡ true) × (is_at is_operation all x ≡ true)
-store_kinds all h x is = at (slice_get all x) is
-  where
-    at : (so : Option Entry) → passes (is_store_of h) so ≡ true → (not (passes is_reader so) ≡ true) × (passes is_operation so ≡ true)
-    at (Some (entry.Store g a width v)) e = (refl, refl)
-    at other e = cc
+store_kinds all h x is = grind arith
 
 no_reads : (all : List Entry) (h : ℕ) (xs : List ℕ) → AllPass (stores_at all h) xs → filter (reads_at all) xs ≡ []
-no_reads all h xs each =
-    filter-none (reads_at all) xs (All-weaker (IsPassed (stores_at all h)) (IsPassed (λ y. not (reads_at all y))) (λ x is. (store_kinds all h x is).0) xs each)
+no_reads all h xs each = grind (arith, filter-none, All-weaker, IsPassed, store_kinds)
 
 reads_by : (all us : List Entry) (e : Entry) (ws : List Entry) → all ≡ us ++ e ∷ ws → filter (reads_at all) (performed_by all us e) ≡ place_of is_reader (length us) e
 reads_by all us e ws split = at e (at_here is_reader all us e ws split)
@@ -156,12 +123,7 @@ reads_by all us e ws split = at e (at_here is_reader all us e ws split)
 -- the loads and AMOs are performed at their places
 pub reads_performed : (all us es ws : List Entry) → all ≡ us ++ (es ++ ws) → filter (reads_at all) (performed_after all us es) ≡ places_of is_reader (length us) es
 reads_performed all us [] ws split = refl
-reads_performed all us (e ∷ es) ws split =
-    let len : length (us ++ e ∷ []) ≡ suc (length us) = omega (arith, length-append us (e ∷ [])) in
-    filter-append (reads_at all) (performed_by all us e) (performed_after all (us ++ e ∷ []) es)
-    ∙ ap (λ zs. zs ++ filter (reads_at all) (performed_after all (us ++ e ∷ []) es)) (reads_by all us e (es ++ ws) split)
-    ∙ ap (λ zs. place_of is_reader (length us) e ++ zs) (reads_performed all (us ++ e ∷ []) es ws (split ∙ sym (append_assoc us (e ∷ []) (es ++ ws))) ∙ ap (λ k. places_of is_reader k es) len)
-    ∙ sym (places_of-cons is_reader (length us) e es)
+reads_performed all us (e ∷ es) ws split = grind (arith, length-append, filter-append, reads_by, place_of, append_assoc, places_of-cons, reads_performed all (us ++ e ∷ []) es ws)
 
 pub reads_left : (all : List Entry) (n : ℕ) → filter (reads_at all) (left_below n all) ≡ []
 reads_left all zero = refl

@@ -49,9 +49,7 @@ first_of (x ∷ xs) ys zero lt = refl
 first_of (x ∷ xs) ys (suc k) lt = first_of xs ys k (omega arith)
 
 written_first : (all : List Entry) (gs : List ℕ) (ps : List Write) → AreWritten all gs ps → AreWritten all (take 1 gs) (take 1 ps)
-written_first all [] [] written = tt
-written_first all (g ∷ gs) (p ∷ ps) written = (written.0, tt)
-written_first all gs ps written = absurd written
+written_first all gs ps written = grind arith
 
 -- what one entry performs writes what it writes to memory
 writes_by : (B : ℕ) (o : Start) (all us : List Entry) (e : Entry) (ws : List Entry) (a w : ℕ) (found : Option ℕ) → all ≡ us ++ e ∷ ws → Allowed B o us e → last_written all a (unwrap_or found w) (performed_by all us e) ≡ unwrap_or (newest_of a found (write_of us e)) w
@@ -90,23 +88,7 @@ front_memory B o es us ws a legal split =
 
 -- of what a hart's read does not find performed, it sees its own stores before it
 sees_own : (es : List Entry) (q x : ℕ) (us ws : List Entry) → es ≡ us ++ ws → length us ≡ q → is_named x (performed_after es [] us) ≡ false → is_at is_operation es x ≡ true → in_program_order es x q ≡ (stores_at es (hart_at es q) x && nat_lt x q)
-sees_own es q x us ws split len out op = at (kind_at es x op)
-  where
-    reader : reads_at es x ≡ true → in_program_order es x q ≡ (stores_at es (hart_at es q) x && nat_lt x q)
-    reader reads =
-        let later : nat_lt x q ≡ false = false_from_ne_true _ (λ is.
-        let lt : x < q = ltb-true x q is in
-        let in_front : is_named x (performed_after es [] us) ≡ true = read_performed es us ws x split reads (omega arith) in
-        (cc)) in
-        and_right (hart_at es x == hart_at es q) _ later ∙ sym (and_right (stores_at es (hart_at es q) x) _ later)
-
-    writer : (so : Option Entry) → passes (is_store_of (option_map_or hart_of so 0)) so ≡ true → (option_map_or hart_of so 0 == hart_at es q) ≡ passes (is_store_of (hart_at es q)) so
-    writer (Some (entry.Store h a width v)) own = refl
-    writer other own = cc
-
-    at : (reads_at es x ≡ true) ⊎ (stores_at es (hart_at es x) x ≡ true) → in_program_order es x q ≡ (stores_at es (hart_at es q) x && nat_lt x q)
-    at (inl reads) = reader reads
-    at (inr own) = ap (λ b. b && nat_lt x q) (writer (slice_get es x) own)
+sees_own es q x us ws split len out op = grind (arith, kind_at, reads_at, stores_at, nat_lt, false_from_ne_true, ltb-true, read_performed, and_right)
 
 -- the stores of a hart that the front has not performed
 back_stores : (es us ws : List Entry) (h : ℕ) → es ≡ us ++ ws → filter (stores_at es h) (performed_after es us ws ++ left_below (hart_bound es) es) ≡ drop (lands h us) (store_places h es)
@@ -146,9 +128,7 @@ pending_places B o es us ws h q legal split len =
 
 -- a read performs itself
 reader_performs : (es us : List Entry) (e : Entry) → is_reader e ≡ true → performed_by es us e ≡ length us ∷ []
-reader_performs es us (entry.Load g a width v) is = refl
-reader_performs es us (entry.Amo g a old new) is = refl
-reader_performs es us other is = cc
+reader_performs es us e is = grind arith
 
 -- what stands before a read is what the front performed
 before_read : (es us : List Entry) (e : Entry) (ws : List Entry) (q : ℕ) → es ≡ us ++ e ∷ ws → length us ≡ q → is_reader e ≡ true → reads_at es q ≡ true → before q (performed_order es) ≡ performed_after es [] us
@@ -208,13 +188,7 @@ byte_of_read B o es us e ws q a legal split len reader reads =
     (AreWritten-drop es (lands (hart_at es q) us) (store_places (hart_at es q) us) (stores (hart_at es q) us) (front_written es us (e ∷ ws) (hart_at es q) split))
 
 reads_what : (B : ℕ) (o : Start) (us : List Entry) (e : Entry) (a n v : ℕ) → read_of e ≡ Some (a, n, v) → Allowed B o us e → (is_reader e ≡ true) × (v ≡ read o us (hart_of e) a n)
-reads_what B o us (entry.Load g b width w) a n v is may =
-    let same : (b, width, w) ≡ (a, n, v) = cc in
-    (refl, ap (λ (r : ℕ × ℕ × ℕ). r.2) (sym same) ∙ may ∙ ap (λ (r : ℕ × ℕ × ℕ). read o us g r.0 r.1) same)
-reads_what B o us (entry.Amo g b old new) a n v is may =
-    let same : (b, 4, old) ≡ (a, n, v) = cc in
-    (refl, ap (λ (r : ℕ × ℕ × ℕ). r.2) (sym same) ∙ may.1 ∙ ap (λ (r : ℕ × ℕ × ℕ). read o us g r.0 r.1) same)
-reads_what B o us other a n v is may = cc
+reads_what B o us e a n v is may = grind arith
 
 pub order-values : (B : ℕ) (o : Start) (es : List Entry) → LegalAfter B o [] es → (q : ℕ) → HasLoadValue o es (performed_order es) q
 order-values B o es legal q a width v is = at (slice_get es q) refl is
@@ -235,11 +209,7 @@ order-values B o es legal q a width v is = at (slice_get es q) refl is
 
 -- a legal trace satisfies the axioms in the order in which it performed
 pub legal-ztso : (B : ℕ) (t : History) → Legal B t → Ztso t (order t)
-legal-ztso B t legal = record {
-  operations = order-once t.entries;
-  program_order = order-program B t.opening t.entries legal;
-  load_values = order-values B t.opening t.entries legal;
-}
+legal-ztso B t legal = grind (arith, order-once, order-program, order-values)
 
 -- ---- A read's value against the bytes that the order gives it
 
@@ -247,9 +217,7 @@ byte_in_below : (w : Write) (a b : ℕ) → b < 256 → unwrap_or (byte_in w a) 
 byte_in_below w a b small = cond_both (covers w a) _ _ (λ found. unwrap_or found b < 256) (λ _. byte_below (a - w.addr) w.value) (λ _. small)
 
 written_below : (a b : ℕ) (so : Option Entry) → b < 256 → unwrap_or (option_and_then (written_to a) so) b < 256
-written_below a b (Some (entry.Store h x width v)) small = byte_in_below (write x width v) a b small
-written_below a b (Some (entry.Amo h x old new)) small = byte_in_below (write x 4 new) a b small
-written_below a b other small = small
+written_below a b so small = grind (arith, byte_in_below)
 
 last_below : (es : List Entry) (a b : ℕ) (gs : List ℕ) → b < 256 → last_written es a b gs < 256
 last_below es a b [] small = small
@@ -263,8 +231,7 @@ pub value_from_bytes : (o : Start) (es : List Entry) (gs : List ℕ) (q a width 
 value_from_bytes o es gs q a width v below same = number_of_bytes (λ i. byte_for o es gs q (a + i)) v width below same
 
 pub bytes_from_value : (o : Start) (es : List Entry) (gs : List ℕ) (q a width v i : ℕ) → v ≡ value_for o es gs q a width → i < width → byte_at i v ≡ byte_for o es gs q (a + i)
-bytes_from_value o es gs q a width v i is lt =
-    ap (byte_at i) is ∙ byte_of_joined-any (λ j. byte_for o es gs q (a + j)) (λ j. byte_for-below o es gs q (a + j)) width i lt
+bytes_from_value o es gs q a width v i is lt = grind (arith, byte_of_joined-any, byte_for-below)
 
 pub below_from_value : (o : Start) (es : List Entry) (gs : List ℕ) (q a width v : ℕ) → v ≡ value_for o es gs q a width → v < 256 ^ width
 below_from_value o es gs q a width v is = subst (λ (n : ℕ). n < 256 ^ width) (sym is) (joined-below (λ j. byte_for o es gs q (a + j)) (λ j. byte_for-below o es gs q (a + j)) width)

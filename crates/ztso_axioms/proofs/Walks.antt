@@ -113,11 +113,7 @@ lands_more h es i d lt = ap (lands h) (take_more es i d lt) ∙ lands-last h (ta
 
 -- what an entry performs, by the list of landings
 pub performed_by-there : (es : List Entry) (i : ℕ) (e : Entry) (landed : List (Option ℕ)) (stands : Option ℕ) → NamesLandings es (hart_bound es) landed → slice_get es i ≡ Some e → i ≡ length (take i es) → stands ≡ get_or landed i None → performed_by es (take i es) e ≡ option_to_list (performed_there e i stands)
-performed_by-there es i (entry.Load h a width v) landed stands named is len read = ap (λ n. n ∷ []) (sym len)
-performed_by-there es i (entry.Amo h a old new) landed stands named is len read = ap (λ n. n ∷ []) (sym len)
-performed_by-there es i (entry.Land h) landed stands named is len read =
-    ap option_to_list (sym (read ∙ named i h (hart_below es i (entry.Land h) is) is))
-performed_by-there es i other landed stands named is len read = refl
+performed_by-there es i e landed stands named is len read = grind (arith, hart_below)
 
 pub performed_more : (es : List Entry) (i : ℕ) (d : Entry) → i < length es → performed_after es [] (take (i + 1) es) ≡ performed_after es [] (take i es) ++ performed_by es (take i es) (get_or es i d)
 performed_more es i d lt = ap (performed_after es []) (take_more es i d lt) ∙ performed-last es (take i es) (get_or es i d)
@@ -175,8 +171,7 @@ land_of-land : (h : ℕ) → land_of h (entry.Land h) ≡ 1
 land_of-land h = ap (λ b. if b then 1 else 0) (eq-eqb h h refl)
 
 land_of-else : (h : ℕ) (e : Entry) → (e ≡ entry.Land h → ⊥) → land_of h e ≡ 0
-land_of-else h (entry.Land g) ne = ap (λ b. if b then 1 else 0) (ne_eqb g h (λ e. ne (ap entry.Land e)))
-land_of-else h other ne = refl
+land_of-else h e ne = grind (arith, ne_eqb)
 
 pub naming_none : (es : List Entry) (h : ℕ) (old : List (Option ℕ)) → length old ≡ length es → Naming es h 0 0 old old
 naming_none es h old len = record { few = omega arith; counted = refl; len = len; added = λ k lt is. absurd (omega arith); others = λ k no. refl }

@@ -10,7 +10,6 @@ use Rattle.recorder.specs.declared.replaying.CheckError.{CheckError}
 use Rattle.recorder.specs.declared.replaying.CheckError.TheVariants as check
 use Rattle.recorder.specs.Replaying.{DiffersAt, Differs}
 use Rattle.recorder.specs.Records.{Step}
-use Rattle.poll_close.specs.Layout.{Layout}
 use Rattle.poll_close.specs.Laws.{AcceptedAt, Ring}
 use Rattle.poll_close.specs.Places.{layout_of}
 use Rattle.poll_close.specs.Refusals.{RefusesAt}
@@ -19,19 +18,19 @@ use Rattle.poll_close.specs.declared.faults.RefusedAt.{RefusedAt}
 use Rattle.poll_close.specs.declared.faults.RefusedAt.TheVariants as why
 use Rattle.poll_close.specs.declared.place.Place.{Place}
 use Rattle.engine_parts.specs.declared.fault.Fault.{Fault}
-use Rattle.engine_parts.specs.declared.fault.Fault.TheVariants.{ReadFailed, WriteFailed, NoMemory, Refused}
+use Rattle.engine_parts.specs.declared.fault.Fault.TheVariants.{NoMemory, Refused}
 use Rattle.engine_parts.specs.declared.fault.Refusal.{Refusal}
 use Rattle.engine_parts.specs.Engines.{Output, OfInput, AnswersBoth}
 use Rattle.engine_parts.specs.Faults.{AnswersAs}
-use Rattle.engine_parts.specs.Histories.{Runs, differing, fault_of_check}
+use Rattle.engine_parts.specs.Histories.{Runs, fault_of_check}
 use Rattle.engine_parts.specs.Schedules.{IsNoSchedule}
-use Rattle.ztso_engines.specs.Channels.{fault_from, IsUnfilled, IsDelivery, IsOtherRun, IsReported, IsUnreported, IsChannelAnswer, Reported, opening_over}
+use Rattle.ztso_engines.specs.Channels.{fault_from, IsUnfilled, IsDelivery, IsReported, IsUnreported, IsChannelAnswer, Reported, opening_over}
 use Rattle.ztso_engines.specs.Channels.IsChannelAnswer.{no_schedule, no_lists, unreported, delivered}
 use Rattle.engine_parts.specs.inner.Making.{Finds, FindsBy}
 use Rattle.engine_parts.specs.inner.Inputs.{IsReadAsSchedule}
 use Rattle.ztso_engines.specs.inner.Inputs.{IsReadAsLists}
 use Rattle.ztso_engines.specs.inner.Reporting.{Checks, IsChecked, Reports}
-use Rattle.engine_parts.proofs.Endings.{weaker}
+use Rattle.engine_parts.proofs.Endings.{answered_by, handed_on, weaker}
 
 -- ---- what a schedule and lists give
 
@@ -40,15 +39,8 @@ module _ (ring : Ring) (B M : ℕ) (place : Place) (lists : List (List ℕ)) whe
   refusal_as : (because : RefusedAt) → RefusesAt ring M lists (layout_of place []) because
       → (fault_from because ≡ NoMemory) ⊎ ((r : Refusal) × (fault_from because ≡ Refused r) × IsUnfilled because)
   refusal_as (why.Lists refused.NoMemory) refuses = inl refl
-  refusal_as (why.Lists (refused.ZeroWord sender word)) refuses = inr (_, refl, tt)
-  refusal_as (why.Lists refused.NoSenders) refuses = inr (_, refl, tt)
-  refusal_as (why.Lists refused.TooManySenders) refuses = inr (_, refl, tt)
-  refusal_as (why.Lists refused.RingTooSmall) refuses = inr (_, refl, tt)
-  refusal_as (why.Lists refused.DoesNotFit) refuses = inr (_, refl, tt)
-  refusal_as why.UnevenBase refuses = inr (_, refl, tt)
-  refusal_as why.UnevenStride refuses = inr (_, refl, tt)
-  refusal_as why.BlocksMeet refuses = inr (_, refl, tt)
   refusal_as (why.FilledBlock word) refuses = absurd (refuses.2.filled refl)
+  refusal_as other refuses = inr (_, refl, tt)
 
   -- where there is no channel, whatever must hold of an answer that may be such a refusal
   pub no_channel : {X Y : Type 0} (IsAnswer : Result Y Refusal → Type 0) (view : X → Y) (said : Said)
@@ -101,6 +93,9 @@ module _ (ring : Ring) (B M : ℕ) (place : Place) (finish : Bool) (first second
   abbrev ReadsLists : List (List ℕ) → Type 0
   ReadsLists lists = OfInput second (λ bytes. IsReadAsLists bytes (Ok lists))
 
+  abbrev GivesReports : Said → List (List ℕ) → Result (List Report) Refusal → Type 0
+  GivesReports = Reports ring B M (layout_of place []) finish
+
   -- both were read, and there are reports
   pub answers_delivered : (said : Said) (lists : List (List ℕ)) (answer : Output) → ReadsSchedule said → ReadsLists lists
       → IsDelivery ring B M (layout_of place []) finish said lists answer → Answers (Ok answer)
@@ -130,31 +125,17 @@ module _ (ring : Ring) (B M : ℕ) (place : Place) (finish : Bool) (first second
 
   module _ {X : Type 0} (seen : X → Output) (result : Result X Fault) (fault : Fault) (is : result ≡ Err fault) where
     pub schedule_fault : {Y : Type 0} (view : Y → Said) → FindsBy IsReadAsSchedule view first (Err fault) → Finds Answers seen result
-    schedule_fault view finds = rw is (at fault finds)
-      where
-        at : (f : Fault) → FindsBy IsReadAsSchedule view first (Err f) → Finds {X = X} Answers seen (Err f)
-        at (Refused r) finds = answers_no_schedule r finds
-        at NoMemory finds = tt
-        at ReadFailed finds = tt
-        at WriteFailed finds = finds
+    schedule_fault view = handed_on (λ (a : Result Said Refusal). OfInput first (λ bytes. IsReadAsSchedule bytes a)) Answers view seen result fault answers_no_schedule is
 
     pub lists_fault : {Y : Type 0} (view : Y → List (List ℕ)) (said : Said) → ReadsSchedule said → FindsBy IsReadAsLists view second (Err fault)
         → Finds Answers seen result
-    lists_fault view said schedule finds = rw is (at fault finds)
-      where
-        at : (f : Fault) → FindsBy IsReadAsLists view second (Err f) → Finds {X = X} Answers seen (Err f)
-        at (Refused r) finds = answers_no_lists said r schedule finds
-        at NoMemory finds = tt
-        at ReadFailed finds = tt
-        at WriteFailed finds = finds
+    lists_fault view said schedule =
+        handed_on (λ (a : Result (List (List ℕ)) Refusal). OfInput second (λ bytes. IsReadAsLists bytes a)) Answers view seen result fault
+        (λ r. answers_no_lists said r schedule) is
 
     pub reports_fault : {Y : Type 0} (view : Y → List Report) (said : Said) (lists given : List (List ℕ)) → ReadsSchedule said → ReadsLists lists
-        → given ≡ lists → AnswersAs (Reports ring B M (layout_of place []) finish said given) view (Err fault) → Finds Answers seen result
+        → given ≡ lists → AnswersAs (GivesReports said given) view (Err fault) → Finds Answers seen result
     reports_fault view said lists given schedule input same answers =
-        rw is (at fault (subst (λ (ls : List (List ℕ)). AnswersAs (Reports ring B M (layout_of place []) finish said ls) view (Err fault)) same answers))
-      where
-        at : (f : Fault) → AnswersAs (Reports ring B M (layout_of place []) finish said lists) view (Err f) → Finds {X = X} Answers seen (Err f)
-        at (Refused r) none = answers_unreported said lists r schedule input none
-        at NoMemory answers = tt
-        at ReadFailed answers = absurd answers
-        at WriteFailed answers = absurd answers
+        handed_on (GivesReports said lists) Answers view seen result fault (λ r. answers_unreported said lists r schedule input) is
+        (answered_by (GivesReports said given) (GivesReports said lists) view (Err fault)
+        (λ answer. subst (λ (ls : List (List ℕ)). GivesReports said ls answer) same) answers)

@@ -3,7 +3,8 @@ use Rattle.std.proofs.Common.{◌≡◌, ℕ, ◌-◌, ◌/◌, ◌%◌, ◌<◌
 use Rattle.std.specs.Prelude.{codes}
 use Rattle.std.specs.List.{AllZip}
 use Rattle.std.specs.Str.{bytes_eq}
-use Rattle.std.proofs.lemmas.Bool.{cases_Bool, or_parts, or_from, eqb-true, eq-eqb, eqb-false, ne_eqb, ltb-false, le-ltb, leb-false, lt-leb, not-false, not_from_true}
+use Rattle.std.proofs.lemmas.Bool.{cases_Bool}
+use Rattle.std.proofs.lemmas.Bool.Decides.{nat_tests}
 use Rattle.std.proofs.lemmas.Slice.Eq.{bytes_eq-Decides}
 use Rattle.texts.specs.Numbers.{IsHexWord}
 use Rattle.texts.specs.Formats.{Settles}
@@ -66,9 +67,7 @@ unfolding with_hart
 hart_settles harts text =
     settles_then (AllZip IsHexWord text) (λ code made. ((length harts < 64) × (length code ≤ 4096)) × (made ≡ harts ++ fresh code ∷ [])) (code_at text) (λ code. cond (leb 64 (length harts) || ltb 4096 (length code)) (Err bad_line) (Ok (harts ++ fresh code ∷ []))) (code_settles text)
     (λ code is. settles_unless (λ made. made ≡ harts ++ fresh code ∷ []) ((length harts < 64) × (length code ≤ 4096)) (leb 64 (length harts) || ltb 4096 (length code)) bad_line (Ok (harts ++ fresh code ∷ []))
-    (λ e. let tests = or_parts (leb 64 (length harts)) (ltb 4096 (length code)) e in (leb-false 64 (length harts) tests.0, ltb-false 4096 (length code) tests.1))
-    (λ fits. or_from _ _ (lt-leb 64 (length harts) fits.0) (le-ltb 4096 (length code) fits.1))
-    (λ small. settles_ok ℕ (harts ++ fresh code ∷ [])))
+    (λ e. grind (arith, nat_tests)) (λ fits. grind (arith, nat_tests)) (λ small. settles_ok ℕ (harts ++ fresh code ∷ [])))
 
 -- a hart that there is, and a register but x0
 abbrev IsRegister : List HartStart → Three → Type 0
@@ -77,35 +76,30 @@ IsRegister harts s = (s.0 < length harts) × (1 ≤ s.1) × (s.1 < 32)
 register_settles : (harts : List HartStart) (text : List (List ℕ)) → Settles (λ made. (s : Three) × SayThree text s × (IsRegister harts s × (made ≡ register_set harts s.0 s.1 s.2))) (with_register harts text)
 unfolding with_register
 register_settles harts text =
-    settles_then (SayThree text) (λ s made. IsRegister harts s × (made ≡ register_set harts s.0 s.1 s.2)) (three_numbers text) (λ s. cond (leb (length harts) s.0 || eqb s.1 0 || leb 32 s.1) (Err bad_line) (Ok (register_set harts s.0 s.1 s.2))) (three_settles text)
-    (λ s is. settles_unless (λ made. made ≡ register_set harts s.0 s.1 s.2) (IsRegister harts s) (leb (length harts) s.0 || eqb s.1 0 || leb 32 s.1) bad_line (Ok (register_set harts s.0 s.1 s.2)) (passes s.0 s.1) (fits s.0 s.1) (λ small. settles_ok ℕ (register_set harts s.0 s.1 s.2)))
+    settles_then (SayThree text) (λ s made. IsRegister harts s × (made ≡ register_set harts s.0 s.1 s.2)) (three_numbers text)
+    (λ s. cond (leb (length harts) s.0 || eqb s.1 0 || leb 32 s.1) (Err bad_line) (Ok (register_set harts s.0 s.1 s.2))) (three_settles text)
+    (λ s is. settles_unless (λ made. made ≡ register_set harts s.0 s.1 s.2) (IsRegister harts s) (leb (length harts) s.0 || eqb s.1 0 || leb 32 s.1)
+    bad_line (Ok (register_set harts s.0 s.1 s.2)) (passes s.0 s.1) (fits s.0 s.1) (λ small. settles_ok ℕ (register_set harts s.0 s.1 s.2)))
   where
     passes : (h n : ℕ) → (leb (length harts) h || eqb n 0 || leb 32 n) ≡ false → (h < length harts) × (1 ≤ n) × (n < 32)
-    passes h n e =
-        let tests = or_parts (leb (length harts) h || eqb n 0) (leb 32 n) e in
-        let first = or_parts (leb (length harts) h) (eqb n 0) tests.0 in
-        let some : n ≡ 0 → ⊥ = eqb-false n 0 first.1 in
-        (leb-false (length harts) h first.0, omega arith, leb-false 32 n tests.1)
+    passes h n e = grind (arith, nat_tests)
 
     fits : (h n : ℕ) → (h < length harts) × (1 ≤ n) × (n < 32) → (leb (length harts) h || eqb n 0 || leb 32 n) ≡ false
-    fits h n (lt, low, high) = or_from _ _ (or_from _ _ (lt-leb (length harts) h lt) (ne_eqb n 0 (λ z. omega arith))) (lt-leb 32 n high)
+    fits h n register = grind (arith, nat_tests)
 
 word_settles : (memory : List ℕ) (text : List (List ℕ)) → Settles (λ made. (s : ℕ × ℕ) × SayTwo text s × (IsAddress (length memory) s.0 × (made ≡ set memory (s.0 / 4) s.1))) (with_word memory text)
 unfolding with_word
 word_settles memory text =
-    settles_then (SayTwo text) (λ s made. IsAddress (length memory) s.0 × (made ≡ set memory (s.0 / 4) s.1)) (two_numbers text) (λ s. cond (not (eqb (s.0 % 4) 0) || leb (length memory) (s.0 / 4)) (Err bad_line) (Ok (set memory (s.0 / 4) s.1))) (two_settles text)
-    (λ s is. settles_unless (λ made. made ≡ set memory (s.0 / 4) s.1) (IsAddress (length memory) s.0) (not (eqb (s.0 % 4) 0) || leb (length memory) (s.0 / 4)) bad_line (Ok (set memory (s.0 / 4) s.1)) (passes s.0) (fits s.0) (λ small. settles_ok ℕ (set memory (s.0 / 4) s.1)))
+    settles_then (SayTwo text) (λ s made. IsAddress (length memory) s.0 × (made ≡ set memory (s.0 / 4) s.1)) (two_numbers text)
+    (λ s. cond (not (eqb (s.0 % 4) 0) || leb (length memory) (s.0 / 4)) (Err bad_line) (Ok (set memory (s.0 / 4) s.1))) (two_settles text)
+    (λ s is. settles_unless (λ made. made ≡ set memory (s.0 / 4) s.1) (IsAddress (length memory) s.0) (not (eqb (s.0 % 4) 0) || leb (length memory) (s.0 / 4))
+    bad_line (Ok (set memory (s.0 / 4) s.1)) (passes s.0) (fits s.0) (λ small. settles_ok ℕ (set memory (s.0 / 4) s.1)))
   where
     passes : (a : ℕ) → (not (eqb (a % 4) 0) || leb (length memory) (a / 4)) ≡ false → IsAddress (length memory) a
-    passes a e =
-        let tests = or_parts (not (eqb (a % 4) 0)) (leb (length memory) (a / 4)) e in
-        let within : a / 4 < length memory = leb-false (length memory) (a / 4) tests.1 in
-        (eqb-true (a % 4) 0 (not-false (eqb (a % 4) 0) tests.0), omega arith)
+    passes a e = grind (arith, nat_tests)
 
     fits : (a : ℕ) → IsAddress (length memory) a → (not (eqb (a % 4) 0) || leb (length memory) (a / 4)) ≡ false
-    fits a address =
-        let within : a / 4 < length memory = omega (arith, address.1) in
-        or_from _ _ (not_from_true (eqb (a % 4) 0) (eq-eqb (a % 4) 0 address.0)) (lt-leb (length memory) (a / 4) within)
+    fits a address = grind (arith, nat_tests)
 
 steps_settle : (events : List Event) (text : List ℕ) → length events ≤ 1048576 → Settles (λ made. (more : List Event) × (IsTokensOf text more × (length more ≤ 1048576 - length events)) × (made ≡ events ++ more)) (with_steps events text)
 unfolding with_steps
@@ -128,56 +122,60 @@ cut_of name rest = Some (name, rest)
 with_name : (line name rest : List ℕ) (k : Keyword) → first_cut line ≡ Some (name, rest) → keyword_named name ≡ Some k → tokens line ≡ spelling k ∷ tokens rest
 with_name line name rest k cut e = tokens_cut line name rest cut ∙ ap (λ (w : List ℕ). w ∷ tokens rest) (named name k e)
 
-hart_made : (t : Scenario) (line name rest : List ℕ) (made : Scenario) → first_cut line ≡ Some (name, rest) → keyword_named name ≡ Some keyword.Hart → by_keyword t (Some keyword.Hart) rest ≡ Ok made → LineMakes t line made
-hart_made t line name rest made cut k e =
-    let read = bind_ok (with_hart t.harts (tokens rest)) (λ harts. Ok (record t { harts = harts })) made e in
-    let (code, say, (fits, same)) = settled_found _ (with_hart t.harts (tokens rest)) read.0 (hart_settles t.harts (tokens rest)) read.1 in
-    inr (
-      hart code,
-      (tokens rest, with_name line name rest keyword.Hart cut k, say),
-      fits,
-      sym (ok_is ℕ (record t { harts = read.0 }) made read.2) ∙ ap (λ (harts : List HartStart). record t { harts = harts }) same,
-    )
+module _ (t : Scenario) (line name rest : List ℕ) (made : Scenario) (cut : first_cut line ≡ Some (name, rest)) where
+  abbrev Makes : Keyword → Type 0
+  Makes k = keyword_named name ≡ Some k → by_keyword t (Some k) rest ≡ Ok made → LineMakes t line made
 
-register_made : (t : Scenario) (line name rest : List ℕ) (made : Scenario) → first_cut line ≡ Some (name, rest) → keyword_named name ≡ Some keyword.Register → by_keyword t (Some keyword.Register) rest ≡ Ok made → LineMakes t line made
-register_made t line name rest made cut k e =
-    let read = bind_ok (with_register t.harts (tokens rest)) (λ harts. Ok (record t { harts = harts })) made e in
-    let (s, (H, N, V, are, h, n, v), (fits, same)) = settled_found _ (with_register t.harts (tokens rest)) read.0 (register_settles t.harts (tokens rest)) read.1 in
-    inr (
-      reg s.0 s.1 s.2,
-      (H, N, V, with_name line name rest keyword.Register cut k ∙ ap (λ (ws : List (List ℕ)). codes "reg" ∷ ws) are, h, n, v),
-      fits,
-      sym (ok_is ℕ (record t { harts = read.0 }) made read.2) ∙ ap (λ (harts : List HartStart). record t { harts = harts }) same,
-    )
+  hart_made : Makes keyword.Hart
+  hart_made k e =
+      let read = bind_ok (with_hart t.harts (tokens rest)) (λ harts. Ok (record t { harts = harts })) made e in
+      let (code, say, (fits, same)) = settled_found _ (with_hart t.harts (tokens rest)) read.0 (hart_settles t.harts (tokens rest)) read.1 in
+      inr (
+        hart code,
+        (tokens rest, with_name line name rest keyword.Hart cut k, say),
+        fits,
+        sym (ok_is ℕ (record t { harts = read.0 }) made read.2) ∙ ap (λ (harts : List HartStart). record t { harts = harts }) same,
+      )
 
-word_made : (t : Scenario) (line name rest : List ℕ) (made : Scenario) → first_cut line ≡ Some (name, rest) → keyword_named name ≡ Some keyword.Word → by_keyword t (Some keyword.Word) rest ≡ Ok made → LineMakes t line made
-word_made t line name rest made cut k e =
-    let read = bind_ok (with_word t.words (tokens rest)) (λ memory. Ok (record t { words = memory })) made e in
-    let (s, (A, V, are, a, v), (fits, same)) = settled_found _ (with_word t.words (tokens rest)) read.0 (word_settles t.words (tokens rest)) read.1 in
-    inr (
-      word s.0 s.1,
-      (A, V, with_name line name rest keyword.Word cut k ∙ ap (λ (ws : List (List ℕ)). codes "word" ∷ ws) are, a, v),
-      fits,
-      sym (ok_is ℕ (record t { words = read.0 }) made read.2) ∙ ap (λ (memory : List ℕ). record t { words = memory }) same,
-    )
+  register_made : Makes keyword.Register
+  register_made k e =
+      let read = bind_ok (with_register t.harts (tokens rest)) (λ harts. Ok (record t { harts = harts })) made e in
+      let (s, (H, N, V, are, h, n, v), (fits, same)) = settled_found _ (with_register t.harts (tokens rest)) read.0 (register_settles t.harts (tokens rest)) read.1 in
+      inr (
+        reg s.0 s.1 s.2,
+        (H, N, V, with_name line name rest keyword.Register cut k ∙ ap (λ (ws : List (List ℕ)). codes "reg" ∷ ws) are, h, n, v),
+        fits,
+        sym (ok_is ℕ (record t { harts = read.0 }) made read.2) ∙ ap (λ (harts : List HartStart). record t { harts = harts }) same,
+      )
 
-steps_made : (t : Scenario) (line name rest : List ℕ) (made : Scenario) → first_cut line ≡ Some (name, rest) → keyword_named name ≡ Some keyword.Steps → length t.events ≤ 1048576 → by_keyword t (Some keyword.Steps) rest ≡ Ok made → LineMakes t line made
-steps_made t line name rest made cut k few e =
-    let read = bind_ok (with_steps t.events rest) (λ events. Ok (record t { events = events })) made e in
-    let (more, (are, room), same) = settled_found _ (with_steps t.events rest) read.0 (steps_settle t.events rest few) read.1 in
-    inr (
-      steps more,
-      (rest, subst (λ (w : List ℕ). first_cut line ≡ cut_of w rest) (named name keyword.Steps k) cut, are),
-      omega (arith, room),
-      sym (ok_is ℕ (record t { events = read.0 }) made read.2) ∙ ap (λ (events : List Event). record t { events = events }) same,
-    )
+  word_made : Makes keyword.Word
+  word_made k e =
+      let read = bind_ok (with_word t.words (tokens rest)) (λ memory. Ok (record t { words = memory })) made e in
+      let (s, (A, V, are, a, v), (fits, same)) = settled_found _ (with_word t.words (tokens rest)) read.0 (word_settles t.words (tokens rest)) read.1 in
+      inr (
+        word s.0 s.1,
+        (A, V, with_name line name rest keyword.Word cut k ∙ ap (λ (ws : List (List ℕ)). codes "word" ∷ ws) are, a, v),
+        fits,
+        sym (ok_is ℕ (record t { words = read.0 }) made read.2) ∙ ap (λ (memory : List ℕ). record t { words = memory }) same,
+      )
 
-name_made : (t : Scenario) (line name rest : List ℕ) (made : Scenario) → first_cut line ≡ Some (name, rest) → (k : Option Keyword) → keyword_named name ≡ k → length t.events ≤ 1048576 → by_keyword t k rest ≡ Ok made → LineMakes t line made
-name_made t line name rest made cut None k few e = absurd cc
-name_made t line name rest made cut (Some keyword.Hart) k few e = hart_made t line name rest made cut k e
-name_made t line name rest made cut (Some keyword.Register) k few e = register_made t line name rest made cut k e
-name_made t line name rest made cut (Some keyword.Word) k few e = word_made t line name rest made cut k e
-name_made t line name rest made cut (Some keyword.Steps) k few e = steps_made t line name rest made cut k few e
+  steps_made : length t.events ≤ 1048576 → Makes keyword.Steps
+  steps_made few k e =
+      let read = bind_ok (with_steps t.events rest) (λ events. Ok (record t { events = events })) made e in
+      let (more, (are, room), same) = settled_found _ (with_steps t.events rest) read.0 (steps_settle t.events rest few) read.1 in
+      inr (
+        steps more,
+        (rest, subst (λ (w : List ℕ). first_cut line ≡ cut_of w rest) (named name keyword.Steps k) cut, are),
+        omega (arith, room),
+        sym (ok_is ℕ (record t { events = read.0 }) made read.2) ∙ ap (λ (events : List Event). record t { events = events }) same,
+      )
+
+  name_made : (k : Option Keyword) → keyword_named name ≡ k → length t.events ≤ 1048576 → by_keyword t k rest ≡ Ok made → LineMakes t line made
+  name_made None k few e = absurd cc
+  name_made (Some keyword.Hart) k few e = hart_made k e
+  name_made (Some keyword.Register) k few e = register_made k e
+  name_made (Some keyword.Word) k few e = word_made k e
+  name_made (Some keyword.Steps) k few e = steps_made few k e
 
 cut_made : (t : Scenario) (line : List ℕ) (made : Scenario) (cut : Option (List ℕ × List ℕ)) → first_cut line ≡ cut → length t.events ≤ 1048576 → by_cut t cut ≡ Ok made → LineMakes t line made
 cut_made t line made None cut few e = inl (tokens_uncut line cut, sym (ok_is ℕ t made e))

@@ -1,12 +1,10 @@
 -- What answers an input is one answer.
-use Rattle.std.proofs.Common.{◌≡◌, ℕ, Bool, true, false, cond, ltb, List, ◌++◌, length, Option, Some, Result, Ok, Err, refl, sym, ap, ◌∙◌, subst}
+use Rattle.std.proofs.Common.{◌≡◌, ℕ, Bool, List, ◌++◌, Option, Some, Result, Ok, Err, refl, sym, ap, ◌∙◌}
 use Rattle.std.specs.List.{flat_map}
 use Rattle.std.specs.Result.{IsErr}
-use Rattle.std.specs.Str.{is_utf8}
 use Rattle.rand_core.specs.Stream.{Stream}
 use Rattle.rv_decode.specs.declared.instruction.Instr.{Instr}
 use Rattle.step_machine.specs.History.{History, unrun}
-use Rattle.step_machine.specs.declared.events.Event.{Event}
 use Rattle.step_machine.proofs.Running.{run-one}
 use Rattle.assembler.specs.Drafts.{assembled}
 use Rattle.assembler.specs.Faults.{Refusal as AsmRefusal}
@@ -14,24 +12,11 @@ use Rattle.assembler.specs.Program.{IsCode}
 use Rattle.assembler.proofs.OneCode.{refused_without_program}
 use Rattle.assembler.proofs.OneCode as assembler
 use Rattle.recorder.specs.Records.{record_text}
-use Rattle.recorder.specs.Versions.{Said, Says, events_said, said_at}
-use Rattle.texts.proofs.FormatLaws.{settled_only}
-use Rattle.recorder.proofs.HeadLaws.{plain_settles, one_said, said_settles}
+use Rattle.recorder.specs.Versions.{Said, events_said}
 use Rattle.litmus.specs.LitmusTests.{LitmusTest}
-use Rattle.litmus.specs.Verdicts.{IsVerdict}
 use Rattle.litmus.specs.declared.verdict.Verdict.{Verdict}
-use Rattle.litmus_reader.specs.declared.faults.LitmusFault.{LitmusFault}
-use Rattle.litmus_reader.specs.Faults.{fault_number}
-use Rattle.litmus_reader.specs.Grammar.{IsTestOf}
-use Rattle.litmus_reader.specs.Reading.{Content, content_of, test_at}
-use Rattle.litmus_reader.proofs.TestGrammar.{one_test, read_exactly}
-use Rattle.engine_parts.specs.declared.fault.Position.TheVariants.{Line}
 use Rattle.engine_parts.specs.declared.fault.Refusal.{Refusal}
 use Rattle.engine_parts.specs.Engines.{Output, Accepted, AreOneAnswer, judged}
-use Rattle.engine_parts.specs.Faults.{too_large, not_text}
-use Rattle.engine_parts.specs.Tests.{ByTest, IsNoTest, refused_test, test_of}
-use Rattle.engine_parts.specs.Tests as tests
-use Rattle.engine_parts.specs.Schedules.{IsNoSchedule, schedule_of}
 use Rattle.ztso_engines.specs.Asm.{IsAsmAnswer, asm_at, hex_line, refused_program}
 use Rattle.ztso_engines.specs.Scenario.{Scenario, opening_of}
 use Rattle.ztso_engines.specs.StepsText.{Describes}
@@ -39,46 +24,41 @@ use Rattle.ztso_engines.specs.StepsReading.{script_at}
 use Rattle.engine_parts.specs.StateText.{shown}
 use Rattle.ztso_engines.specs.Steps.{IsStateText, IsStepsAnswer}
 use Rattle.ztso_engines.specs.Dis.{SaysCode, dis_at, instr_line, IsDisAnswer}
+use Rattle.engine_parts.specs.Histories.{AnswersEvents, AnswersRun}
 use Rattle.recorder.specs.Outcomes.{entry_line}
-use Rattle.engine_parts.specs.Histories.{AnswersEvents, AnswersRun, BySchedule}
-use Rattle.engine_parts.specs.Histories as histories
 use Rattle.ztso_engines.specs.Run.{IsJudged, IsRunAnswer, verdict_line}
 use Rattle.ztso_engines.specs.Move.{IsMoved, IsMoveAnswer}
 use Rattle.ztso_engines.specs.Replay.{IsReplay, IsReplayAnswer}
 use Rattle.debugger.specs.Transcripts.{IsDebugAnswer, IsTranscript}
 use Rattle.tries.specs.Outcomes.{IsTriedOf, IsTryAnswer}
-use Rattle.engine_parts.proofs.Judging.{accepted_judged, judged_text}
+use Rattle.engine_parts.proofs.Judging.{judged_text}
 use Rattle.ztso_engines.proofs.Describing.{text_read, one_scenario}
 use Rattle.ztso_engines.proofs.CodeTexts.{code_read, one_code}
 use Rattle.litmus.proofs.VerdictLaws.{one_verdict}
 use Rattle.tries.proofs.OneText.{one_try}
 use Rattle.debugger.proofs.OneTranscript.{one_transcript_of}
 use Rattle.engine_parts.proofs.RunLaws.{one_record}
-use Rattle.engine_parts.proofs.OneInput.{alike_by_schedule, alike_by_test, equal_alike, one_of_history, one_refusal, same_output}
+use Rattle.engine_parts.proofs.OneInput.{alike_by_schedule, alike_by_test, equal_alike, one_by_value, one_of_history, same_output, value_or_refusal}
 
--- ---- `steps`
+-- ---- `steps`, `dis` and `asm`
 
-one_state : (B M : ℕ) (scenario : Scenario) (a b : List ℕ) → IsStateText B M scenario a → IsStateText B M scenario b → a ≡ b
-one_state B M scenario a b is other = is.is_shown ∙ ap (shown M) (run-one B M (unrun (opening_of scenario)) scenario.events is.history other.history is.ran other.ran) ∙ sym other.is_shown
+one_state : (B M : ℕ) (scenario : Scenario) (a b : Output) → IsStateText B M scenario a.0 → IsStateText B M scenario b.0 → a ≡ b
+one_state B M scenario a b is other =
+    same_output a b (is.is_shown ∙ ap (shown M) (run-one B M (unrun (opening_of scenario)) scenario.events is.history other.history is.ran other.ran) ∙ sym other.is_shown)
 
 pub one_steps : (B M : ℕ) (input : List ℕ) (a b : Result Output Refusal) → IsStepsAnswer B M input a → IsStepsAnswer B M input b → a ≡ b
-one_steps B M input (Ok a) (Ok b) (scenario, is, tells) (said, also, shows) =
-    let same : said ≡ scenario = one_scenario M input said scenario also.value_is is.value_is in
-    ap (λ (out : Output). Ok out) (same_output a b (one_state B M scenario a.0 b.0 tells (subst (λ (t : Scenario). IsStateText B M t b.0) same shows)))
-one_steps B M input (Ok a) (Err r) (scenario, is, tells) refused = absurd (let read : judged (script_at M) input ≡ Ok scenario = accepted_judged (script_at M) (Describes M) input scenario (text_read M input scenario) is in cc)
-one_steps B M input (Err r) (Ok a) refused (scenario, is, tells) = absurd (let read : judged (script_at M) input ≡ Ok scenario = accepted_judged (script_at M) (Describes M) input scenario (text_read M input scenario) is in cc)
-one_steps B M input (Err r) (Err s) refused other = ap (λ (x : Refusal). Err x) (one_refusal (judged (script_at M) input) r s refused other)
+one_steps B M input =
+    one_by_value (Describes M) (script_at M) (λ scenario out. IsStateText B M scenario out.0) input (one_scenario M input)
+    (λ scenario r. value_or_refusal (script_at M) (Describes M) input scenario r (text_read M input scenario)) (one_state B M)
 
--- ---- `dis`
+-- outputs of one text
+one_lines : (text : List ℕ) (a b : Output) → a.0 ≡ text → b.0 ≡ text → a ≡ b
+one_lines text a b is other = same_output a b (is ∙ sym other)
 
 pub one_dis : (input : List ℕ) (a b : Result Output Refusal) → IsDisAnswer input a → IsDisAnswer input b → a ≡ b
-one_dis input (Ok a) (Ok b) (code, is, written) (said, also, lines) =
-    ap (λ (out : Output). Ok out) (same_output a b (written ∙ ap (flat_map instr_line) (one_code input code said is.value_is also.value_is) ∙ sym lines))
-one_dis input (Ok a) (Err r) (code, is, written) refused = absurd (let read : judged dis_at input ≡ Ok code = accepted_judged dis_at SaysCode input code (code_read input code) is in cc)
-one_dis input (Err r) (Ok a) refused (code, is, written) = absurd (let read : judged dis_at input ≡ Ok code = accepted_judged dis_at SaysCode input code (code_read input code) is in cc)
-one_dis input (Err r) (Err s) refused other = ap (λ (x : Refusal). Err x) (one_refusal (judged dis_at input) r s refused other)
-
--- ---- `asm`
+one_dis input =
+    one_by_value SaysCode dis_at (λ code out. out.0 ≡ flat_map instr_line code) input (one_code input)
+    (λ code r. value_or_refusal dis_at SaysCode input code r (code_read input code)) (λ code. one_lines (flat_map instr_line code))
 
 unread_program : (text : List ℕ) (r : Refusal) → asm_at text ≡ Err r → IsErr (assembled text)
 unfolding asm_at
@@ -94,11 +74,9 @@ code_or_refusal input words r is refused =
     (refused_without_program input).0 no_program is.value_is.instrs is.value_is.program
 
 pub one_asm : (input : List ℕ) (a b : Result Output Refusal) → IsAsmAnswer input a → IsAsmAnswer input b → a ≡ b
-one_asm input (Ok a) (Ok b) (words, is, written) (others, also, lines) =
-    ap (λ (out : Output). Ok out) (same_output a b (written ∙ ap (flat_map hex_line) (assembler.one_code input words others is.value_is also.value_is) ∙ sym lines))
-one_asm input (Ok a) (Err r) (words, is, written) refused = absurd (code_or_refusal input words r is refused)
-one_asm input (Err r) (Ok a) refused (words, is, written) = absurd (code_or_refusal input words r is refused)
-one_asm input (Err r) (Err s) refused other = ap (λ (x : Refusal). Err x) (one_refusal (judged asm_at input) r s refused other)
+one_asm input =
+    one_by_value IsCode asm_at (λ words out. out.0 ≡ flat_map hex_line words) input (assembler.one_code input) (code_or_refusal input)
+    (λ words. one_lines (flat_map hex_line words))
 
 -- ---- `run`, `replay`, `move` and `debug`
 
@@ -109,43 +87,44 @@ one_judged M q t a b is other =
     λ i. (texts i, verdicts i)
 
 one_replayed : (q : LitmusTest) (t : History) (a b : Output) → IsReplay q t a → IsReplay q t b → a ≡ b
-one_replayed q t a b is other = same_output a b (is ∙ sym other)
+one_replayed q t = one_lines (flat_map entry_line t.entries)
 
-one_talked : (B M : ℕ) (input : List ℕ) (q : LitmusTest) (said : Said) (a b : Result Output Refusal)
-    → AnswersEvents (IsTranscript B M (Some input)) q said a → AnswersEvents (IsTranscript B M (Some input)) q said b → AreOneAnswer a b
-one_talked B M input q said (Ok a) (Ok b) is other = one_transcript_of B M input q (events_said said) a b is other
-one_talked B M input q said (Ok a) (Err s) is none = absurd none
-one_talked B M input q said (Err r) b none other = absurd none
+module _ (B M : ℕ) where
+  one_talked : (input : List ℕ) (q : LitmusTest) (said : Said) (a b : Result Output Refusal)
+      → AnswersEvents (IsTranscript B M (Some input)) q said a → AnswersEvents (IsTranscript B M (Some input)) q said b → AreOneAnswer a b
+  one_talked input q said (Ok a) (Ok b) is other = one_transcript_of B M input q (events_said said) a b is other
+  one_talked input q said (Ok a) (Err s) is none = absurd none
+  one_talked input q said (Err r) b none other = absurd none
 
-one_moved : (B M : ℕ) (q : LitmusTest) (said : Said) (a b : Result Output Refusal) → IsMoved B M q said a → IsMoved B M q said b → AreOneAnswer a b
-one_moved B M q said (Ok a) (Ok b) (steps, records, is) (others, also, other) =
-    let records_same = one_record B M q.opening said (Ok steps) (Ok others) records also in
-    let same : steps ≡ others = cc in
-    same_output a b (is ∙ ap record_text same ∙ sym other)
-one_moved B M q said (Ok a) (Err s) (steps, records, is) differs = equal_alike _ _ (one_record B M q.opening said (Ok steps) (Err s) records differs)
-one_moved B M q said (Err r) (Ok b) differs (steps, records, is) = equal_alike _ _ (one_record B M q.opening said (Err r) (Ok steps) differs records)
-one_moved B M q said (Err r) (Err s) differs other = equal_alike _ _ (one_record B M q.opening said (Err r) (Err s) differs other)
+  one_moved : (q : LitmusTest) (said : Said) (a b : Result Output Refusal) → IsMoved B M q said a → IsMoved B M q said b → AreOneAnswer a b
+  one_moved q said (Ok a) (Ok b) (steps, records, is) (others, also, other) =
+      let records_same = one_record B M q.opening said (Ok steps) (Ok others) records also in
+      let same : steps ≡ others = cc in
+      same_output a b (is ∙ ap record_text same ∙ sym other)
+  one_moved q said (Ok a) (Err s) (steps, records, is) differs = equal_alike _ _ (one_record B M q.opening said (Ok steps) (Err s) records differs)
+  one_moved q said (Err r) (Ok b) differs (steps, records, is) = equal_alike _ _ (one_record B M q.opening said (Err r) (Ok steps) differs records)
+  one_moved q said (Err r) (Err s) differs other = equal_alike _ _ (one_record B M q.opening said (Err r) (Err s) differs other)
 
-pub one_run : (B M : ℕ) (file schedule : List ℕ) (a b : Result (List ℕ × Verdict) Refusal) → IsRunAnswer B M file schedule a → IsRunAnswer B M file schedule b → AreOneAnswer a b
-one_run B M = alike_by_schedule AreOneAnswer (λ r s e. e) (AnswersRun B M (IsJudged M)) (one_of_history B M (IsJudged M) (one_judged M))
+  pub one_run : (file schedule : List ℕ) (a b : Result (List ℕ × Verdict) Refusal) → IsRunAnswer B M file schedule a → IsRunAnswer B M file schedule b → AreOneAnswer a b
+  one_run = alike_by_schedule AreOneAnswer (λ r s e. e) (AnswersRun B M (IsJudged M)) (one_of_history B M (IsJudged M) (one_judged M))
 
-pub one_replay : (B M : ℕ) (file schedule : List ℕ) (a b : Result Output Refusal) → IsReplayAnswer B M file schedule a → IsReplayAnswer B M file schedule b → AreOneAnswer a b
-one_replay B M = alike_by_schedule AreOneAnswer (λ r s e. e) (AnswersRun B M IsReplay) (one_of_history B M IsReplay one_replayed)
+  pub one_replay : (file schedule : List ℕ) (a b : Result Output Refusal) → IsReplayAnswer B M file schedule a → IsReplayAnswer B M file schedule b → AreOneAnswer a b
+  one_replay = alike_by_schedule AreOneAnswer (λ r s e. e) (AnswersRun B M IsReplay) (one_of_history B M IsReplay one_replayed)
 
-pub one_move : (B M : ℕ) (file schedule : List ℕ) (a b : Result Output Refusal)
-    → IsMoveAnswer B M file schedule a → IsMoveAnswer B M file schedule b → AreOneAnswer a b
-one_move B M = alike_by_schedule AreOneAnswer (λ r s e. e) (IsMoved B M) (one_moved B M)
+  pub one_move : (file schedule : List ℕ) (a b : Result Output Refusal)
+      → IsMoveAnswer B M file schedule a → IsMoveAnswer B M file schedule b → AreOneAnswer a b
+  one_move = alike_by_schedule AreOneAnswer (λ r s e. e) (IsMoved B M) one_moved
 
-pub one_debug : (B M : ℕ) (input file schedule : List ℕ) (a b : Result Output Refusal)
-    → IsDebugAnswer B M (Some input) file schedule a → IsDebugAnswer B M (Some input) file schedule b → AreOneAnswer a b
-one_debug B M input = alike_by_schedule AreOneAnswer (λ r s e. e) (AnswersEvents (IsTranscript B M (Some input))) (one_talked B M input)
+  pub one_debug : (input file schedule : List ℕ) (a b : Result Output Refusal)
+      → IsDebugAnswer B M (Some input) file schedule a → IsDebugAnswer B M (Some input) file schedule b → AreOneAnswer a b
+  one_debug input = alike_by_schedule AreOneAnswer (λ r s e. e) (AnswersEvents (IsTranscript B M (Some input))) (one_talked input)
 
--- ---- `try`
+  -- ---- `try`
 
-one_tried_of : (B M : ℕ) (stream : Stream) (runs size : ℕ) (q : LitmusTest) (a b : Result (List ℕ × Bool) Refusal) → IsTriedOf B M stream runs size q a → IsTriedOf B M stream runs size q b → AreOneAnswer a b
-one_tried_of B M stream runs size q (Ok a) (Ok b) is other = one_try B M stream runs size q a b is other
-one_tried_of B M stream runs size q (Ok a) (Err s) is none = absurd none
-one_tried_of B M stream runs size q (Err r) b none other = absurd none
+  one_tried_of : (stream : Stream) (runs size : ℕ) (q : LitmusTest) (a b : Result (List ℕ × Bool) Refusal) → IsTriedOf B M stream runs size q a → IsTriedOf B M stream runs size q b → AreOneAnswer a b
+  one_tried_of stream runs size q (Ok a) (Ok b) is other = one_try B M stream runs size q a b is other
+  one_tried_of stream runs size q (Ok a) (Err s) is none = absurd none
+  one_tried_of stream runs size q (Err r) b none other = absurd none
 
-pub one_tried : (B M : ℕ) (stream : Stream) (runs size : ℕ) (file : List ℕ) (a b : Result (List ℕ × Bool) Refusal) → IsTryAnswer B M stream runs size file a → IsTryAnswer B M stream runs size file b → AreOneAnswer a b
-one_tried B M stream runs size = alike_by_test AreOneAnswer (λ r s e. e) (IsTriedOf B M stream runs size) (one_tried_of B M stream runs size)
+  pub one_tried : (stream : Stream) (runs size : ℕ) (file : List ℕ) (a b : Result (List ℕ × Bool) Refusal) → IsTryAnswer B M stream runs size file a → IsTryAnswer B M stream runs size file b → AreOneAnswer a b
+  one_tried stream runs size = alike_by_test AreOneAnswer (λ r s e. e) (IsTriedOf B M stream runs size) (one_tried_of stream runs size)

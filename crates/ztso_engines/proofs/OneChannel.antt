@@ -1,8 +1,8 @@
 -- What answers `channel` is one answer.
-use Rattle.std.proofs.Common.{◌≡◌, ℕ, zero, suc, ◌%◌, ◌≤◌, ◌<◌, ◌⊎◌, inl, inr, Bool, false, List, [], ◌∷◌, All, length, take, Result, Ok, Err, refl, sym, ap, ap₂, ◌∙◌, subst, arith}
+use Rattle.std.proofs.Common.{◌≡◌, ℕ, zero, suc, ◌%◌, ◌≤◌, ◌<◌, inl, inr, Bool, false, List, [], ◌∷◌, All, length, take, Result, Ok, Err, refl, sym, ap, ap₂, ◌∙◌, subst, arith}
 use Rattle.std.specs.List.{flat_map, slice_index_or}
 use Rattle.std.specs.Prelude.{slice_index}
-use Rattle.std.proofs.lemmas.Bool.{cases_lt, cases_eq}
+use Rattle.std.proofs.lemmas.Bool.{cases_eq}
 use Rattle.std.proofs.lemmas.List.{get_or-take, length-take-le}
 use Rattle.step_machine.specs.History.{History, unrun}
 use Rattle.step_machine.specs.Entries.{reported}
@@ -20,32 +20,21 @@ use Rattle.engine_parts.specs.declared.fault.Position.TheVariants.{Nowhere, Word
 use Rattle.engine_parts.specs.declared.fault.Refusal.{Refusal}
 use Rattle.engine_parts.specs.Engines.{Output, Accepted, AreAlike, judged}
 use Rattle.engine_parts.specs.Schedules.{schedule_of}
-use Rattle.engine_parts.proofs.Judging.{accepted_judged}
-use Rattle.engine_parts.proofs.RunLaws.{one_run}
+use Rattle.engine_parts.proofs.RunLaws.{one_difference, runs_or_differs}
 use Rattle.recorder.proofs.HeadLaws.{one_said}
 use Rattle.ztso_engines.specs.Lists.{SaysLists, lists_at}
 use Rattle.ztso_engines.specs.Channels.{HasNoChannel, IsUnfilled, IsChannelAnswer, IsDelivery, IsNoLists, IsUnreported, fault_from, opening_over, report_line}
 use Rattle.ztso_engines.specs.Channels.IsChannelAnswer.{no_schedule, no_lists, unreported, delivered}
 use Rattle.ztso_engines.proofs.ListTexts.{lists_read, one_lists}
-use Rattle.engine_parts.proofs.OneInput.{same_output, one_refusal, said_or_refusal}
+use Rattle.engine_parts.proofs.OneInput.{same_output, one_refusal, said_or_refusal, value_or_refusal}
 
 lists_or_refusal : (input : List ℕ) (lists : List (List ℕ)) (r : Refusal) → Accepted SaysLists input lists → IsNoLists input r → ⊥
-lists_or_refusal input lists r is refused =
-    let read : judged lists_at input ≡ Ok lists = accepted_judged lists_at SaysLists input lists (lists_read input lists) is in
-    absurd cc
-
-abbrev refused_run : Refusal → Result History Refusal
-refused_run r = Err r
+lists_or_refusal input lists r = value_or_refusal lists_at SaysLists input lists r (lists_read input lists)
 
 -- ---- the first word that is 0
 
 neither_before : (i m : ℕ) → (i < m → ⊥) → (m < i → ⊥) → i ≡ m
-neither_before i m early late = at (cases_lt i m) (cases_lt m i)
-  where
-    at : (i < m) ⊎ (m ≤ i) → (m < i) ⊎ (i ≤ m) → i ≡ m
-    at (inl less) other = absurd (early less)
-    at (inr ge) (inl less) = absurd (late less)
-    at (inr ge) (inr le) = omega (arith, ge, le)
+neither_before i m early late = omega arith
 
 none_before : (ws : List ℕ) (j n : ℕ) → ZeroAt ws j → ZeroAt ws n → j < n → ⊥
 none_before ws j n first other less =
@@ -205,16 +194,11 @@ module _ (ring : Ring) (B M : ℕ) (l : Layout) (said : Said) (lists : List (Lis
   one_reason r s (inl none) (inl other) = one_stop ring M l lists r s (stopped r none) (stopped s other)
   one_reason r s (inl none) (inr other) = absurd (no_stop ring M l lists r other.within (stopped r none))
   one_reason r s (inr other) (inl none) = absurd (no_stop ring M l lists s other.within (stopped s none))
-  one_reason r s (inr first) (inr other) =
-      let same : refused_run r ≡ refused_run s = one_run B M (opening_over ring l lists) said (Err r) (Err s) first.differs other.differs in
-      cc
+  one_reason r s (inr first) (inr other) = one_difference B M (opening_over ring l lists) said r s first.differs other.differs
 
   no_reason : (finish : Bool) (a : Output) (r : Refusal) → IsDelivery ring B M l finish said lists a → IsReason r → ⊥
   no_reason finish a r is (inl none) = no_stop ring M l lists r is.is_reported.within (stopped r none)
-  no_reason finish a r is (inr other) =
-      let ran = is.is_reported.ran in
-      let same : Ok ran.0 ≡ refused_run r = one_run B M (opening_over ring l lists) said (Ok ran.0) (Err r) ran.1 other.differs in
-      cc
+  no_reason finish a r is (inr other) = runs_or_differs B M (opening_over ring l lists) said is.is_reported.ran.0 r is.is_reported.ran.1 other.differs
 
 -- a text has one value
 module _ (P : Said → List (List ℕ) → Type 0) (schedule input : List ℕ) where

@@ -1,6 +1,6 @@
 -- A register set in a list of harts.
 use Rattle.std.proofs.Common.{◌≡◌, ℕ, zero, suc, ◌<◌, false, ◌||◌, eqb, leb, List, [], ◌∷◌, length, get_or, set, Ok, sym, ap, arith}
-use Rattle.std.proofs.lemmas.Bool.{lt-leb, ne_eqb, or_from}
+use Rattle.std.proofs.lemmas.Bool.Decides.{nat_tests}
 use Rattle.step_machine.specs.History.{HartStart}
 use Rattle.ztso_engines.specs.Scenario.{register_set}
 use Rattle.ztso_engines.specs.StepsReading.{three_numbers, with_register}
@@ -18,5 +18,5 @@ pub with_register_done : (harts : List HartStart) (text : List (List ℕ)) (h n 
     → three_numbers text ≡ Ok (h, n, v) → h < length harts → (n ≡ 0 → ⊥) → n < 32 → x ≡ get_or harts h x → with_register harts text ≡ Ok (set harts h (with_value x n v))
 unfolding with_register
 with_register_done harts text h n v x said lt some below e =
-    let within : (leb (length harts) h || eqb n 0 || leb 32 n) ≡ false = or_from _ _ (or_from _ _ (lt-leb (length harts) h lt) (ne_eqb n 0 some)) (lt-leb 32 n below) in
+    let within : (leb (length harts) h || eqb n 0 || leb 32 n) ≡ false = grind (arith, nat_tests) in
     rw (said, within) (ap (λ (ys : List HartStart). Ok ys) (register_set_is harts h n v x lt e))

@@ -1,5 +1,5 @@
 -- The command `asm`: the words of an assembly text, a line each.
-use Rattle.std.specs.Prelude.{ℕ, ◌≡◌, ◌-◌, false, List, ◌∷◌, [], ◌++◌, length, replicate, Option, Result, Ok, Err}
+use Rattle.std.specs.Prelude.{ℕ, ◌≡◌, ◌-◌, false, List, ◌∷◌, [], ◌++◌, length, replicate, Option, Result}
 use Rattle.std.specs.List.{flat_map}
 use Rattle.std.specs.Fmt.{digits}
 use Rattle.texts.specs.Results.{map_err}
@@ -9,7 +9,7 @@ use Rattle.assembler.specs.Program.{IsCode}
 use Rattle.assembler.specs.Faults.{fault_number, Refusal as AsmRefusal}
 use Rattle.engine_parts.specs.declared.fault.Refusal.{Refusal}
 use Rattle.engine_parts.specs.Faults.{refused_at}
-use Rattle.engine_parts.specs.Engines.{Output, Accepted, judged}
+use Rattle.engine_parts.specs.Engines.{ByValue, Output}
 
 -- a fault of an assembly text, refused by its number at its line
 abbrev pub refused_program : {V : Type 0} → Result V AsmRefusal → Result V Refusal
@@ -27,8 +27,6 @@ hex_text word = replicate (8 - length (digits 16 false word)) 48 ++ digits 16 fa
 abbrev pub hex_line : ℕ → List ℕ
 hex_line word = hex_text word ++ 10 ∷ []
 
--- What answers an input: the lines of the words that it is assembled to, where it is a text within the
--- limit that is, else the refusal for its first fault.
+-- What answers an input: the lines of the words that it is assembled to.
 abbrev pub IsAsmAnswer : List ℕ → Result Output Refusal → Type 0
-IsAsmAnswer input (Ok answer) = (words : List ℕ) × Accepted IsCode input words × (answer.0 ≡ flat_map hex_line words)
-IsAsmAnswer input (Err refusal) = judged asm_at input ≡ Err refusal
+IsAsmAnswer = ByValue IsCode asm_at (λ words answer. answer.0 ≡ flat_map hex_line words)

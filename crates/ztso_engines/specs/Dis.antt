@@ -1,5 +1,5 @@
 -- The command `dis`: the instructions of words in hex, a line each.
-use Rattle.std.specs.Prelude.{ℕ, ◌≡◌, ◌+◌, List, [], ◌∷◌, ◌++◌, Option, Some, None, Result, Ok, Err, codes}
+use Rattle.std.specs.Prelude.{ℕ, ◌≡◌, ◌+◌, List, [], ◌∷◌, ◌++◌, Option, Some, None, Result, Ok, codes}
 use Rattle.std.specs.List.{AllZip, flat_map}
 use Rattle.std.specs.Str.Lines.{lines}
 use Rattle.texts.specs.Numbers.{IsHexWord}
@@ -12,7 +12,7 @@ use Rattle.engine_parts.specs.declared.fault.Refusal.{Refusal}
 use Rattle.texts.specs.Cutting.{tokens}
 use Rattle.engine_parts.specs.LineFaults.{at_line}
 use Rattle.ztso_engines.specs.Code.{code_at}
-use Rattle.engine_parts.specs.Engines.{Output, Accepted, judged}
+use Rattle.engine_parts.specs.Engines.{ByValue, Output}
 
 -- The text says these instruction words: each word of its lines is 8 hex digits that say the next one.
 abbrev pub SaysCode : List ℕ → List ℕ → Type 0
@@ -38,8 +38,6 @@ meant_text (Some instr) = text_of instr
 abbrev pub instr_line : ℕ → List ℕ
 instr_line word = meant_text (meaning word) ++ 10 ∷ []
 
--- What answers an input: the lines of what its words mean, where it is a text of words within the
--- limit, else the refusal for its first fault.
+-- What answers an input: the lines of what its words mean.
 abbrev pub IsDisAnswer : List ℕ → Result Output Refusal → Type 0
-IsDisAnswer input (Ok answer) = (code : List ℕ) × Accepted SaysCode input code × (answer.0 ≡ flat_map instr_line code)
-IsDisAnswer input (Err refusal) = judged dis_at input ≡ Err refusal
+IsDisAnswer = ByValue SaysCode dis_at (λ code answer. answer.0 ≡ flat_map instr_line code)

@@ -1,13 +1,15 @@
 //! The command `asm`: an assembly text in, its words out.
 
-ghost use Rattle.std.specs.Prelude.{◌≡◌, ◌<◌, ◌≤◌, ◌^◌, ◌++◌, List, map, length, IfOk, OnOk};
+ghost use Rattle.std.specs.Prelude.{◌≡◌, ◌<◌, ◌≤◌, ◌^◌, ◌++◌, Err, List, map, length, IfOk, OnOk};
+ghost use Rattle.std.specs.Str.{IsUtf8};
 ghost use Rattle.std.specs.List.{All, flat_map};
 ghost use Rattle.std.specs.String.{string_bytes};
 ghost use Rattle.rv_decode.specs.Meaning.{meaning};
 ghost use Rattle.rv_decode.specs.declared.instruction.Instr.{Instr};
 ghost use Rattle.assembler.specs.Drafts.{AllPlain};
 ghost use Rattle.assembler.specs.Program.{IsProgram, AreWordsOf};
-ghost use Rattle.engine_parts.specs.Faults.{Answers, AnswersAs};
+ghost use Rattle.engine_parts.specs.Faults.{Answers, AnswersAs, not_text};
+ghost use Rattle.engine_parts.specs.declared.fault.Fault.TheVariants.{Refused};
 ghost use Rattle.engine_parts.specs.Engines.{EndsBy, judged};
 ghost use Rattle.ztso_engines.specs.Asm.{asm_at, hex_line, IsAsmAnswer};
 ghost use Rattle.engine_parts.specs.inner.Making.{FindsBy, text_and_value};
@@ -39,6 +41,7 @@ fn code_of_input(alloc: Global, input: &[u8]) -> Result<Vec<u32>, Fault>
     requires { length input.now ≤ INPUT_BYTES }
     ensures found { IfOk result (λ code. (instrs : List Instr) × IsProgram input.now instrs × AreWordsOf code.items instrs) }
     ensures exact { Answers (λ code. map meaning code.items) result (judged asm_at input.now) }
+    ensures no_text { (IsUtf8 input.now → ⊥) → result ≡ Err (Refused not_text) }
     ensures plain { IfOk result (λ code. AllPlain code.items) }
 {
     code_of(alloc, text_of(input)?)
@@ -65,7 +68,8 @@ fn code_text(alloc: Global, code: &[u32]) -> Result<String, AllocError>
 
 fn answer(alloc: Global, input: &[u8]) -> Result<(String, ()), Fault>
     requires { length input.now ≤ INPUT_BYTES }
-    ensures { AnswersAs (IsAsmAnswer input.now) text_and_value result }
+    ensures answer { AnswersAs (IsAsmAnswer input.now) text_and_value result }
+    ensures no_text { (IsUtf8 input.now → ⊥) → result ≡ Err (Refused not_text) }
 {
     let code = code_of_input(alloc, input)?;
     let text = code_text(alloc, &code)?;

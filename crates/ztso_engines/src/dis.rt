@@ -1,10 +1,12 @@
 //! The command `dis`: words in hex in, what they mean out.
 
-ghost use Rattle.std.specs.Prelude.{◌≡◌, ◌≤◌, ◌++◌, length, IfOk, OnOk};
+ghost use Rattle.std.specs.Prelude.{◌≡◌, ◌≤◌, ◌++◌, Err, length, IfOk, OnOk};
+ghost use Rattle.std.specs.Str.{IsUtf8};
 ghost use Rattle.std.specs.List.{flat_map};
 ghost use Rattle.std.specs.String.{string_bytes};
 ghost use Rattle.rv_decode.specs.Meaning.{meaning};
-ghost use Rattle.engine_parts.specs.Faults.{Answers, AnswersAs};
+ghost use Rattle.engine_parts.specs.Faults.{Answers, AnswersAs, not_text};
+ghost use Rattle.engine_parts.specs.declared.fault.Fault.TheVariants.{Refused};
 ghost use Rattle.engine_parts.specs.Engines.{EndsBy, judged};
 ghost use Rattle.texts.specs.Cutting.{tokens};
 ghost use Rattle.engine_parts.specs.LineFaults.{at_line as line_at};
@@ -55,7 +57,8 @@ fn code_of_text(alloc: Global, text: &[u8]) -> Result<Vec<u32>, Fault>
 #[tactic(auto, using(engine_parts::proofs::Judging::judged_text, engine_parts::proofs::Judging::judged_no_text))]
 fn code_of_input(alloc: Global, input: &[u8]) -> Result<Vec<u32>, Fault>
     requires { length input.now ≤ INPUT_BYTES }
-    ensures { Answers (λ code. code.items) result (judged dis_at input.now) }
+    ensures exact { Answers (λ code. code.items) result (judged dis_at input.now) }
+    ensures no_text { (IsUtf8 input.now → ⊥) → result ≡ Err (Refused not_text) }
 {
     code_of_text(alloc, text_of(input)?.as_bytes())
 }
@@ -89,7 +92,8 @@ fn code_text(alloc: Global, code: &[u32]) -> Result<String, AllocError>
 
 fn answer(alloc: Global, input: &[u8]) -> Result<(String, ()), Fault>
     requires { length input.now ≤ INPUT_BYTES }
-    ensures { AnswersAs (IsDisAnswer input.now) text_and_value result }
+    ensures answer { AnswersAs (IsDisAnswer input.now) text_and_value result }
+    ensures no_text { (IsUtf8 input.now → ⊥) → result ≡ Err (Refused not_text) }
 {
     let code = code_of_input(alloc, input)?;
     let text = code_text(alloc, &code)?;

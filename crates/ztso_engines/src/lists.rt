@@ -1,8 +1,10 @@
 //! Lists of words, a line each: the input of `channel`.
 
-ghost use Rattle.std.specs.Prelude.{◌≡◌, ◌≤◌, length, map};
+ghost use Rattle.std.specs.Prelude.{◌≡◌, ◌≤◌, Err, length, map};
+ghost use Rattle.std.specs.Str.{IsUtf8};
 ghost use Rattle.texts.specs.Results.{Gives, refusal_of};
-ghost use Rattle.engine_parts.specs.Faults.{Answers};
+ghost use Rattle.engine_parts.specs.Faults.{Answers, not_text};
+ghost use Rattle.engine_parts.specs.declared.fault.Fault.TheVariants.{Refused};
 ghost use Rattle.engine_parts.specs.Engines.{judged};
 ghost use Rattle.engine_parts.specs.LineFaults.{at_line as line_at};
 ghost use Rattle.ztso_engines.specs.Lists.{list_of as list_said, lists_at};
@@ -65,7 +67,8 @@ fn lists_of_text(alloc: Global, text: &[u8]) -> Result<Vec<Vec<u32>>, Fault>
 #[tactic(auto, using(engine_parts::proofs::Judging::judged_text, engine_parts::proofs::Judging::judged_no_text))]
 fn lists_of_input(alloc: Global, input: &[u8]) -> Result<Vec<Vec<u32>>, Fault>
     requires { length input.now ≤ INPUT_BYTES }
-    ensures { Answers (λ lists. map (λ list. list.items) lists.items) result (judged lists_at input.now) }
+    ensures exact { Answers (λ lists. map (λ list. list.items) lists.items) result (judged lists_at input.now) }
+    ensures no_text { (IsUtf8 input.now → ⊥) → result ≡ Err (Refused not_text) }
 {
     lists_of_text(alloc, text_of(input)?.as_bytes())
 }

@@ -1,8 +1,10 @@
 //! The command `steps`: a steps text in, the state text of its run out.
 
-ghost use Rattle.std.specs.Prelude.{◌≡◌, ◌≤◌, length, IfOk, vec_len};
+ghost use Rattle.std.specs.Prelude.{◌≡◌, ◌≤◌, Err, length, IfOk, vec_len};
+ghost use Rattle.std.specs.Str.{IsUtf8};
 ghost use Rattle.step_machine.specs.History.{FitsIn};
-ghost use Rattle.engine_parts.specs.Faults.{Answers, AnswersAs};
+ghost use Rattle.engine_parts.specs.Faults.{Answers, AnswersAs, not_text};
+ghost use Rattle.engine_parts.specs.declared.fault.Fault.TheVariants.{Refused};
 ghost use Rattle.engine_parts.specs.Engines.{EndsBy, judged};
 ghost use Rattle.ztso_engines.specs.Scenario.{scenario_of, opening_of};
 ghost use Rattle.ztso_engines.specs.StepsReading.{script_at};
@@ -28,6 +30,7 @@ mod script;
 fn script_of_input<const M: usize>(alloc: Global, input: &[u8]) -> Result<Script, Fault>
     requires { length input.now ≤ INPUT_BYTES }
     ensures exact { Answers scenario_of result (judged (script_at M) input.now) }
+    ensures no_text { (IsUtf8 input.now → ⊥) → result ≡ Err (Refused not_text) }
     ensures fits { IfOk result (λ script. FitsIn M (opening_of (scenario_of script))) }
 {
     read_script::<M>(alloc, text_of(input)?)
@@ -43,7 +46,8 @@ fn answer<const B: usize, const M: usize>(
     requires some_word { 1 ≤ M }
     requires size { M ≤ 65536 }
     requires few { vec_len input ≤ INPUT_BYTES }
-    ensures { AnswersAs (IsStepsAnswer B M input.items) text_and_value result }
+    ensures answer { AnswersAs (IsStepsAnswer B M input.items) text_and_value result }
+    ensures no_text { (IsUtf8 input.items → ⊥) → result ≡ Err (Refused not_text) }
 {
     let script = script_of_input::<M>(alloc, &input)?;
     drop(input);

@@ -1,7 +1,7 @@
 //! The command `threads`: a litmus text in; out the schedule of a run that threads made, its state text
 //! and its verdict.
 
-ghost use Rattle.std.specs.Prelude.{ℕ, ◌≡◌, ◌≤◌, ◌⊎◌, IfErr, length};
+ghost use Rattle.std.specs.Prelude.{ℕ, ◌≡◌, ◌<◌, ◌≤◌, ◌⊎◌, Err, IfErr, length};
 ghost use Rattle.hart_threads.specs.GettingOn.{AllGetOn, AtMost};
 ghost use Rattle.hart_threads.specs.Records.{IsRecord};
 ghost use Rattle.engine_parts.specs.Engines.{EndsBy};
@@ -11,6 +11,7 @@ ghost use Rattle.ztso_engines.specs.Threads.{fault_of_threads, IsThreadsGiven, I
 ghost use Rattle.engine_parts.specs.inner.Making.{FindsBy, text_and_value};
 ghost use Rattle.step_machine.specs.declared.opening.TheConstants.{MAX_HARTS};
 ghost use Rattle.litmus.specs.declared.litmus_test.TheConstants.{MAX_LOCATIONS};
+ghost use Rattle.recorder.specs.declared.reading.TheConstants.{MAX_EVENTS};
 
 use crate::run::judged_text;
 use engine_parts::fault::{Fault, Position, TOO_LARGE};
@@ -49,6 +50,7 @@ fn record_text<const B: usize, const M: usize>(
     requires runs { IsRecord B M test.now.opening made.now }
     ensures given { (n : ℕ) → AtMost n made.now.trace → AllGetOn n M made.now.trace → AnswersAs (IsThreadsGiven B M n test.now) text_and_value result }
     ensures refused { IfErr result (λ fault. (fault ≡ NoMemory) ⊎ (fault ≡ Refused too_large)) }
+    ensures long { MAX_EVENTS < length made.now.events.items → result ≡ Err (Refused too_large) }
 {
     if made.events.len() > MAX_EVENTS {
         return Err(Fault::refused(TOO_LARGE, Position::Nowhere));

@@ -4,14 +4,12 @@ use Rattle.step_machine.specs.declared.events.Event.{Event}
 use Rattle.litmus.specs.LitmusTests.{LitmusTest}
 use Rattle.debugger.specs.DebuggerStates.{DebuggerState, at_start}
 use Rattle.engine_parts.specs.declared.fault.Fault.{Fault}
-use Rattle.engine_parts.specs.declared.fault.Fault.TheVariants.{ReadFailed, WriteFailed, NoMemory, Refused}
+use Rattle.engine_parts.specs.declared.fault.Fault.TheVariants.{Refused}
 
 -- not by a refusal
 abbrev pub IsFailure : Fault → Type 0
 IsFailure (Refused refusal) = ⊥
-IsFailure ReadFailed = Unit {0}
-IsFailure WriteFailed = Unit {0}
-IsFailure NoMemory = Unit {0}
+IsFailure other = Unit {0}
 
 -- a debugger at a test's opening, along these events
 abbrev pub IsAtStart : LitmusTest → List Event → DebuggerState → Type 0

@@ -1,6 +1,6 @@
 //! Where the debugger stops a run.
 
-ghost use Rattle.std.specs.Prelude.{◌≡◌, ◌++◌, ℕ, List, OnOk, position};
+ghost use Rattle.std.specs.Prelude.{◌≡◌, ◌++◌, ℕ, List, OnErr, OnOk, position};
 ghost use Rattle.std.specs.String.{string_bytes};
 ghost use Rattle.debugger.specs.Debugging.{is_point, point_before, stop_before, Toggled, Breaks};
 
@@ -56,7 +56,8 @@ pub fn stop_before<const B: usize, const M: usize>(
 
 /// Sets a breakpoint, or clears it.
 fn toggle(points: &mut Vec<(u32, u32)>, hart: u32, pc: u32) -> Result<(), AllocError>
-    ensures { OnOk result (Toggled hart pc points.old.items points.new.items) }
+    ensures ok { OnOk result (Toggled hart pc points.old.items points.new.items) }
+    ensures err { OnErr result (points.new.items ≡ points.old.items) }
 {
     match place_of(points, hart, pc) {
         Some(at) => {
@@ -78,8 +79,9 @@ pub fn set_breakpoint<const B: usize, const M: usize>(
     hart: u32,
     pc: u32,
 ) -> Result<(), AllocError>
-    ensures { OnOk result ((text : List ℕ) × (string_bytes out.new ≡ string_bytes out.old ++ text)
+    ensures ok { OnOk result ((text : List ℕ) × (string_bytes out.new ≡ string_bytes out.old ++ text)
         × Breaks machine.now.history hart pc points.old.items points.new.items text) }
+    ensures err { OnErr result (points.new.items ≡ points.old.items) }
 {
     if hart < machine.harts() {
         toggle(points, hart, pc)

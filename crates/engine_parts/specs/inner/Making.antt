@@ -27,9 +27,7 @@ FindsBy IsAnswer view input result = Finds (λ answer. OfInput input (λ bytes. 
 abbrev pub IsEndOf : {X V W : Type 0} → (X → List ℕ × V) → Result X Fault → Result V Fault → (contents : W → Option (List ℕ)) → (old new : W) → Type 0
 IsEndOf view (Ok x) (Ok v) contents old new = (v ≡ (view x).1) × Appends (contents old) (contents new) (view x).0
 IsEndOf view (Ok x) (Err WriteFailed) contents old new = Unit {0}
-IsEndOf view (Ok x) (Err ReadFailed) contents old new = ⊥
-IsEndOf view (Ok x) (Err NoMemory) contents old new = ⊥
-IsEndOf view (Ok x) (Err (Refused refusal)) contents old new = ⊥
+IsEndOf view (Ok x) failed contents old new = ⊥
 IsEndOf view (Err fault) result contents old new = (result ≡ Err fault) × (new ≡ old)
 
 -- a text and a value, seen as its bytes and the value

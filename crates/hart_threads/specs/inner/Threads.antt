@@ -1,12 +1,14 @@
 -- What a thread makes of its seat, and how it ends.
 use Rattle.std.specs.Prelude.{ℕ, ◌≡◌, ◌+◌, ◌≤◌, ◌⊎◌, true, false, List, ◌++◌, length, IsSomeAnd, Result, Ok, Err, Option, Some, None}
+use Rattle.hart.specs.State.{HartState}
 use Rattle.hart.specs.Steps.{need_of}
 use Rattle.hart.specs.declared.status.Status.TheVariants as status
-use Rattle.step_machine.specs.Banks.{is_over}
+use Rattle.step_machine.specs.Banks.{asks_memory, is_over}
+use Rattle.step_machine.specs.Paths.{entry_of}
 use Rattle.step_machine.specs.declared.events.Entry.{Entry}
 use Rattle.step_machine.specs.declared.events.Outcome.{Outcome}
 use Rattle.step_machine.specs.declared.events.Outcome.TheVariants as outcome
-use Rattle.hart_threads.specs.Seats.{SeatView, state_in, may_wait}
+use Rattle.hart_threads.specs.Seats.{SeatView, AsksBank, state_in, may_wait}
 use Rattle.hart_threads.specs.declared.turns.Ending.{Ending}
 use Rattle.hart_threads.specs.declared.turns.Ending.TheVariants as ending
 use Rattle.hart_threads.specs.declared.turns.Calls.{Calls}
@@ -45,6 +47,10 @@ EndsBy ending.Over last = last ≡ Some outcome.Over
 EndsBy ending.TurnsDone last = ⊥
 EndsBy ending.NoHart last = last ≡ Some outcome.NoHart
 EndsBy ending.NoMemory last = last ≡ None
+
+-- a running hart whose next instruction asks for no memory does it, whatever the bank is
+abbrev pub ActsAlone : ℕ → HartState → Outcome → Type 0
+ActsAlone h s o = s.status ≡ status.Running → asks_memory (need_of s) ≡ false → o ≡ outcome.Did (entry_of h (need_of s) 0)
 
 -- ---- the seat
 
@@ -87,3 +93,4 @@ pub record Ran (unheld : Type 0) (n : ℕ) (s : SeatView) (e : Ending) (calls : 
   pub ends : IsEnding n e calls
   pub free : s.acts ≡ false → e ≡ ending.HeldBack → ⊥
   pub got_on : s.acts ≡ true → unheld → WhereDone e (GotOn n s t)
+  pub asks : s.acts ≡ true → e ≡ ending.NoHart → IsSomeAnd (state_in t) AsksBank

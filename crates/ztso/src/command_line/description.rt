@@ -2,7 +2,7 @@
 
 ghost use Rattle.std.specs.Prelude.{◌≡◌, List, IfOk};
 ghost use Rattle.std.specs.List.{AllZip};
-ghost use Rattle.clap.specs.Words.{Rule, app_of, new_app};
+ghost use Rattle.clap.specs.Words.{App, Rule, new_app, with_subcommand};
 ghost use Rattle.ztso.specs.Descriptions.{HasRule, IsDescribed, buffer_option, channel_command, chart_command, flag, option_or, option_said, option_wanted, schedule_command, steps_command, threads_command, try_command, with_rules, word_wanted, ztso_command};
 
 use clap::{Arg, ArgAction, Command};
@@ -48,6 +48,13 @@ fn option_wanted<'a>(alloc: Global, name: &'a str) -> Arg<'a>
         .required(true)
 }
 
+/// A command with no arguments.
+fn new_command<'a>(alloc: Global, name: &'a str) -> Command<'a>
+    ensures { IsDescribed result (new_app name.entry.now) }
+{
+    Command::new(alloc, name)
+}
+
 /// A command with these arguments.
 fn command_with<'a>(
     alloc: Global,
@@ -56,7 +63,7 @@ fn command_with<'a>(
 ) -> Result<Command<'a>, AllocError>
     ensures { (rules : List Rule) → AllZip HasRule args.entry.items rules → IfOk result (λ command. IsDescribed command (with_rules (new_app name.entry.now) rules)) }
 {
-    Command::new(alloc, name).args(args)
+    new_command(alloc, name).args(args)
 }
 
 fn steps_command<'a>(alloc: Global) -> Result<Command<'a>, AllocError>
@@ -139,23 +146,31 @@ fn chart_command<'a>(alloc: Global) -> Result<Command<'a>, AllocError>
     command_with(alloc, "chart", args)
 }
 
+/// The command with a subcommand, where both were made.
+fn and<'a>(
+    command: Result<Command<'a>, AllocError>,
+    subcommand: Result<Command<'a>, AllocError>,
+) -> Result<Command<'a>, AllocError>
+    ensures { (app sub : App) → IfOk command.entry (λ made. IsDescribed made app) → IfOk subcommand.entry (λ made. IsDescribed made sub) → IfOk result (λ whole. IsDescribed whole (with_subcommand app sub.top)) }
+{
+    command?.subcommand(subcommand?)
+}
+
 /// The whole command line.
 pub fn ztso_command<'a>(alloc: Global) -> Result<Command<'a>, AllocError>
-    ensures { IfOk result (λ command. app_of command ≡ ztso_command) }
+    ensures { IfOk result (λ command. IsDescribed command ztso_command) }
 {
-    let commands = vec![in alloc;
-        steps_command(alloc)?,
-        Command::new(alloc, "asm"),
-        Command::new(alloc, "dis"),
-        schedule_command(alloc, "run")?,
-        schedule_command(alloc, "replay")?,
-        schedule_command(alloc, "move")?,
-        schedule_command(alloc, "shrink")?,
-        chart_command(alloc)?,
-        schedule_command(alloc, "debug")?,
-        try_command(alloc)?,
-        channel_command(alloc)?,
-        threads_command(alloc)?,
-    ]?;
-    Command::new(alloc, "ztso").subcommands(commands)
+    let command = Ok(new_command(alloc, "ztso"));
+    let command = and(command, steps_command(alloc));
+    let command = and(command, Ok(new_command(alloc, "asm")));
+    let command = and(command, Ok(new_command(alloc, "dis")));
+    let command = and(command, schedule_command(alloc, "run"));
+    let command = and(command, schedule_command(alloc, "replay"));
+    let command = and(command, schedule_command(alloc, "move"));
+    let command = and(command, schedule_command(alloc, "shrink"));
+    let command = and(command, chart_command(alloc));
+    let command = and(command, schedule_command(alloc, "debug"));
+    let command = and(command, try_command(alloc));
+    let command = and(command, channel_command(alloc));
+    and(command, threads_command(alloc))
 }

@@ -6,7 +6,7 @@ use Rattle.recorder.specs.Replaying.{IsRunRecord}
 use Rattle.recorder.specs.Versions.{Said}
 use Rattle.recorder.specs.Versions.Said.{plain, recorded}
 use Rattle.poll_close.specs.Layout.{Layout}
-use Rattle.poll_close.specs.Laws.{Ring, AcceptedAt}
+use Rattle.poll_close.specs.Laws.{Ring}
 use Rattle.engine_parts.specs.declared.fault.Refusal.{Refusal}
 use Rattle.ztso_engines.specs.Channels.{IsReported, IsUnreported, opening_over}
 

@@ -1,6 +1,6 @@
 //! The steps text: harts, registers, words and events, a line each.
 
-ghost use Rattle.std.specs.Prelude.{◌≡◌, Ok, IfOk};
+ghost use Rattle.std.specs.Prelude.{◌≡◌, Ok, IfOk, OnErr};
 ghost use Rattle.std.specs.Str.Lines.{lines};
 ghost use Rattle.texts.specs.Results.{Gives, refusal_of};
 ghost use Rattle.step_machine.specs.History.{FitsIn};
@@ -40,7 +40,8 @@ impl Script {
     /// Follows one more line.
     #[tactic(auto, unfolding(crate::specs::StepsReading::after_line))]
     fn add_line(&mut self, alloc: Global, line: &[u8]) -> Result<(), LineFault>
-        ensures { Gives refusal_of (λ x. scenario_of self.new) result (after_line (scenario_of self.old) line.now) }
+        ensures exact { Gives refusal_of (λ x. scenario_of self.new) result (after_line (scenario_of self.old) line.now) }
+        ensures err { OnErr result (scenario_of self.new ≡ scenario_of self.old) }
     {
         let Some((name, rest)) = first_token(line) else {
             return Ok(());
@@ -56,7 +57,8 @@ impl Script {
     /// Follows the line of this number.
     #[tactic(auto, using(engine_parts::proofs::LineFaulted::refused_at_line))]
     fn add_line_at(&mut self, alloc: Global, line: &[u8], number: usize) -> Result<(), Fault>
-        ensures { Answers (λ x. scenario_of self.new) result (line_at number (after_line (scenario_of self.old) line.now)) }
+        ensures exact { Answers (λ x. scenario_of self.new) result (line_at number (after_line (scenario_of self.old) line.now)) }
+        ensures err { OnErr result (scenario_of self.new ≡ scenario_of self.old) }
     {
         match self.add_line(alloc, line) {
             Ok(()) => Ok(()),

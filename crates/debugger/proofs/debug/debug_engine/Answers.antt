@@ -1,12 +1,11 @@
-use Rattle.std.proofs.lemmas.Result.{err_from_is_err_and}
+use Rattle.engine_parts.proofs.Endings.{is_handed}
 use Rattle.debugger.specs.DebuggerStates.{DebuggerState}
 use Rattle.debugger.proofs.TranscriptLaws.{left_begun, left_nothing, not_begun, not_refused, transcribed}
 use Rattle.debugger.proofs.debug.debug_engine.Goals as goal
 
 pub returns-in_err-debugger-clause-ends : goal.returns-in_err-debugger-clause-ends
 returns-in_err-debugger-clause-ends g c =
-    let p = err_from_is_err_and c.from_residual.result c.from_residual.ensures.1 in
-    not_begun g.row.B g.row.M (g.F.Read.remaining c.args.file.now) (g.S.Read.remaining c.args.schedule.now) (g.C.Read.remaining c.args.commands.now) g.W.Write.contents (λ (debugger : DebuggerState). debugger) c.from_residual.result c.in_err-debugger.field-0.0 c.args.writer.now (rw p.2 at p.1) c.in_err-debugger.ensures.debugger
+    not_begun g.row.B g.row.M (g.F.Read.remaining c.args.file.now) (g.S.Read.remaining c.args.schedule.now) (g.C.Read.remaining c.args.commands.now) g.W.Write.contents (λ (debugger : DebuggerState). debugger) c.from_residual.result c.in_err-debugger.field-0.0 c.args.writer.now (is_handed c.from_residual.result _ c.from_residual.ensures.1) c.in_err-debugger.ensures.debugger
 
 pub returns-clause-ends : goal.returns-clause-ends
 returns-clause-ends g c = transcribed g.row.B g.row.M (g.F.Read.remaining c.args.file.now) (g.S.Read.remaining c.args.schedule.now) (g.C.Read.remaining c.args.commands.now) g.W.Write.contents c.converse.result c.in_ok-debugger.debugger c.args.writer.now c.converse.new.writer c.in_ok-debugger.ensures.debugger c.converse.ensures.printed c.converse.ensures.err

@@ -1,5 +1,5 @@
 use Rattle.std.proofs.Common.{Ok, refl}
-use Rattle.std.proofs.lemmas.Result.{err_from_is_err_and}
+use Rattle.engine_parts.proofs.Endings.{is_handed}
 use Rattle.litmus.specs.LitmusTests.{LitmusTest}
 use Rattle.recorder.specs.Versions.{Said, said_of}
 use Rattle.engine_parts.specs.inner.Inputs.{AreRead, test_and_said}
@@ -8,14 +8,12 @@ use Rattle.engine_parts.proofs.running.read_both.Goals as goal
 
 pub returns-in_err-test-clause-read : goal.returns-in_err-test-clause-read
 returns-in_err-test-clause-read g c =
-    let p = err_from_is_err_and c.from_residual.result c.from_residual.ensures.1 in
-    test_fault _ _ AreRead test_and_said c.from_residual.result (λ (q : LitmusTest). q) c.in_err-test.field-0.0 (rw p.2 at p.1) c.in_err-test.ensures.test
+    test_fault _ _ AreRead test_and_said c.from_residual.result (λ (q : LitmusTest). q) c.in_err-test.field-0.0 (is_handed c.from_residual.result _ c.from_residual.ensures.1) c.in_err-test.ensures.test
 
 pub returns-in_err-said-clause-read : goal.returns-in_err-said-clause-read
 returns-in_err-said-clause-read g c =
-    let p = err_from_is_err_and c.from_residual-in_err-said.result c.from_residual-in_err-said.ensures.1 in
     schedule_fault _ _ AreRead test_and_said c.from_residual-in_err-said.result (λ (said : Said). said) c.in_ok-test.test c.in_err-said.field-0.0
-    (rw p.2 at p.1) c.in_ok-test.ensures.test c.in_err-said.ensures.schedule
+    (is_handed c.from_residual-in_err-said.result _ c.from_residual-in_err-said.ensures.1) c.in_ok-test.ensures.test c.in_err-said.ensures.schedule
 
 pub returns-clause-read : goal.returns-clause-read
 returns-clause-read g c =

@@ -10,7 +10,7 @@ use Rattle.hart_threads.specs.declared.turns.Ending.{Ending}
 use Rattle.hart_threads.specs.declared.turns.Calls.{Calls}
 use Rattle.hart_threads.specs.inner.Threads.{Continues, Ran}
 use Rattle.hart_threads.proofs.Coming.{none_is_first, merged_from, fails_from}
-use Rattle.hart_threads.proofs.Returning.{came, all_get_on, lost_within}
+use Rattle.hart_threads.proofs.Returning.{came, all_get_on, lost_within, lost_asks}
 use Rattle.hart_threads.proofs.harts.run_harts.Goals as goal
 
 complete_by : (n m : ℕ) (given seats : List SeatView) → n ≡ m → given ≡ seats → IsComplete n given → IsComplete m seats
@@ -50,6 +50,8 @@ returns-in-Some-lost-clause-fault g c =
       made = c.in_ok-record.record;
       record_of = c.in_ok-record.ensures.record;
       merge = merged_from c.args.turns c.args.shared c.in_ok-record.record.trace.entries c.args.seats.items c.release_all-seats.result.items complete come c.in_ok-record.ensures.merge;
+      asks = lost_asks (λ r. r.0.seat) (λ r. r.1) (λ r. r.2) _ c.args.turns c.args.seats.items c.run_all-back.result.0.items ran g.row.M c.args.shared c.in_ok-record.record.trace c.in-Some-lost.hart _ c.in_ok-record.ensures.record.opening
+          (rw c.as_slice-3.ensures.value at c.in-Some-lost.ensures) (subst (Merge (length c.args.shared.harts) c.in_ok-record.record.trace.entries) c.release_all-seats.ensures c.in_ok-record.ensures.merge);
     })
 
 pub returns-in-None-clause-missing : goal.returns-in-None-clause-missing

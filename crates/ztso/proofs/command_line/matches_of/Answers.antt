@@ -8,7 +8,7 @@ use Rattle.ztso.proofs.command_line.matches_of.Goals as goal
 
 pub returns : goal.returns
 returns g c =
-    let is : app_of c.in_ok-command.command ≡ ztso_command = c.in_ok-command.ensures in
+    let is : app_of c.in_ok-command.command ≡ ztso_command = c.in_ok-command.ensures.app_is in
     let parse = c.try_get_matches_from in
     record {
       kinds = fails_as parse.result _ _ (ap (λ (a : App). fault_of a (map g.S.AsStr.text c.args.words.now)) is)

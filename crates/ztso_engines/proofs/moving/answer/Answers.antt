@@ -1,5 +1,5 @@
 use Rattle.std.specs.Global.{Vec}
-use Rattle.std.proofs.lemmas.Result.{err_from_is_err_and}
+use Rattle.engine_parts.proofs.Endings.{is_handed}
 use Rattle.recorder.specs.Records.{Step}
 use Rattle.recorder.specs.Versions.{said_of}
 use Rattle.engine_parts.specs.Histories.{Records}
@@ -13,6 +13,5 @@ returns g c = (c.in_ok-steps.steps.items, c.in_ok-steps.ensures, rw c.deref.ensu
 
 pub returns-in_err-steps : goal.returns-in_err-steps
 returns-in_err-steps g c =
-    let p = err_from_is_err_and c.from_residual.result c.from_residual.ensures.1 in
     stopped_by (Records g.row.B g.row.M c.args.test.now.opening (said_of c.args.said)) (IsMoved g.row.B g.row.M c.args.test.now (said_of c.args.said))
-    (λ (steps : Vec Step). steps.items) text_and_value c.from_residual.result c.in_err-steps.field-0.0 (λ refusal differs. differs) (rw p.2 at p.1) c.in_err-steps.ensures
+    (λ (steps : Vec Step). steps.items) text_and_value c.from_residual.result c.in_err-steps.field-0.0 (λ refusal differs. differs) (is_handed c.from_residual.result _ c.from_residual.ensures.1) c.in_err-steps.ensures

@@ -1,6 +1,6 @@
 use Rattle.std.proofs.Common.{ap, ◌∙◌}
 use Rattle.std.specs.List.{flat_map}
-use Rattle.std.proofs.lemmas.Result.{err_from_is_err_and}
+use Rattle.engine_parts.proofs.Endings.{is_handed}
 use Rattle.step_machine.specs.History.{Progress}
 use Rattle.recorder.specs.Outcomes.{entry_line}
 use Rattle.recorder.specs.Versions.{said_of}
@@ -19,6 +19,5 @@ returns g c = record {
 
 pub returns-in_err-machine : goal.returns-in_err-machine
 returns-in_err-machine g c =
-    let p = err_from_is_err_and c.from_residual.result c.from_residual.ensures.1 in
     stopped_by (Runs g.row.B g.row.M c.args.test.now.opening (said_of c.args.said)) (AnswersRun g.row.B g.row.M IsReplay c.args.test.now (said_of c.args.said))
-    (λ (machine : Progress). machine.history) text_and_value c.from_residual.result c.in_err-machine.field-0.0 (λ refusal differs. differs) (rw p.2 at p.1) c.in_err-machine.ensures.ran
+    (λ (machine : Progress). machine.history) text_and_value c.from_residual.result c.in_err-machine.field-0.0 (λ refusal differs. differs) (is_handed c.from_residual.result _ c.from_residual.ensures.1) c.in_err-machine.ensures.ran

@@ -1,5 +1,5 @@
 use Rattle.std.proofs.Common.{refl}
-use Rattle.std.proofs.lemmas.Result.{err_from_is_err_and}
+use Rattle.engine_parts.proofs.Endings.{is_handed}
 use Rattle.recorder.specs.Versions.{said_of}
 use Rattle.engine_parts.specs.Histories.{AnswersRun}
 use Rattle.ztso_engines.specs.Replay.{IsReplay}
@@ -13,5 +13,4 @@ returns-clause-made g c =
 
 pub returns-in_err-test-clause-made : goal.returns-in_err-test-clause-made
 returns-in_err-test-clause-made g c =
-    let p = err_from_is_err_and c.from_residual.result c.from_residual.ensures.1 in
-    read_fault _ _ (AnswersRun g.row.B g.row.M IsReplay) text_and_value c.from_residual.result c.in_err-test.field-0.0 (rw p.2 at p.1) c.in_err-test.ensures.read
+    read_fault _ _ (AnswersRun g.row.B g.row.M IsReplay) text_and_value c.from_residual.result c.in_err-test.field-0.0 (is_handed c.from_residual.result _ c.from_residual.ensures.1) c.in_err-test.ensures.read

@@ -1,4 +1,4 @@
-use Rattle.std.proofs.lemmas.Result.{err_from_is_err_and}
+use Rattle.engine_parts.proofs.Endings.{is_handed}
 use Rattle.step_machine.specs.History.{History}
 use Rattle.recorder.specs.Versions.{said_of}
 use Rattle.engine_parts.specs.Histories.{AnswersRun, Runs}
@@ -14,6 +14,5 @@ returns g c =
 
 pub returns-in_err-machine : goal.returns-in_err-machine
 returns-in_err-machine g c =
-    let p = err_from_is_err_and c.from_residual.result c.from_residual.ensures.1 in
     stopped_by (Runs g.row.B g.row.M c.args.test.now.opening (said_of c.args.said)) (AnswersRun g.row.B g.row.M (IsJudged g.row.M) c.args.test.now (said_of c.args.said))
-    (λ (t : History). t) text_and_value c.from_residual.result c.in_err-machine.field-0.0 (λ refusal differs. differs) (rw p.2 at p.1) c.in_err-machine.ensures.ran
+    (λ (t : History). t) text_and_value c.from_residual.result c.in_err-machine.field-0.0 (λ refusal differs. differs) (is_handed c.from_residual.result _ c.from_residual.ensures.1) c.in_err-machine.ensures.ran

@@ -5,8 +5,8 @@ use Rattle.engine_parts.proofs.Judging.{accepted_well}
 use Rattle.ztso_engines.proofs.Describing.{text_sound}
 use Rattle.ztso_engines.proofs.steps.answer.Goals as goal
 
-pub returns : goal.returns
-returns g c =
+pub returns-clause-answer : goal.returns-clause-answer
+returns-clause-answer g c =
     let scenario = scenario_of c.in_ok-script.script in
     let stood = c.in_ok-machine.ensures in
     let ran = rw c.deref-2.ensures.value at stood.1 in (

@@ -1,4 +1,4 @@
-use Rattle.std.proofs.lemmas.Result.{err_from_is_err_and}
+use Rattle.engine_parts.proofs.Endings.{is_handed}
 use Rattle.litmus.specs.LitmusTests.{LitmusTest}
 use Rattle.ztso_engines.specs.Threads.{IsThreadsGiven}
 use Rattle.engine_parts.specs.inner.Making.{text_and_value}
@@ -10,5 +10,4 @@ returns g c = by_test (IsThreadsGiven g.row.B g.row.M c.args.turns) _ _ c.in_ok-
 
 pub returns-in_err-test : goal.returns-in_err-test
 returns-in_err-test g c =
-    let p = err_from_is_err_and c.from_residual.result c.from_residual.ensures.1 in
-    by_no_test (IsThreadsGiven g.row.B g.row.M c.args.turns) text_and_value _ (λ (q : LitmusTest). q) c.from_residual.result c.in_err-test.field-0.0 (rw p.2 at p.1) c.in_err-test.ensures.test
+    by_no_test (IsThreadsGiven g.row.B g.row.M c.args.turns) text_and_value _ (λ (q : LitmusTest). q) c.from_residual.result c.in_err-test.field-0.0 (is_handed c.from_residual.result _ c.from_residual.ensures.1) c.in_err-test.ensures.test

@@ -16,7 +16,8 @@ returns-in-Some-stop_before g c =
     ap (λ (t : History). stop_before g.row.M c.args.points.now c.loop-event.first t c.in-Some.event) (sym here) ∙ sym c.stop_before.ensures ∙ stops in (
       so_far.0 ++ break_line point.0 point.1,
       c.in_ok-push_break_line.ensures ∙ ap (λ (xs : List ℕ). xs ++ break_line point.0 point.1) so_far.1 ∙ append_assoc _ so_far.0 (break_line point.0 point.1),
-      so_far.2 (break_line point.0 point.1) c.loop-event.debugger (held_up g.row.B g.row.M c.args.points.now c.loop-event.first c.loop-event.debugger c.in-Some.event point (sym c.in-Some.ensures) held),
+      so_far.2 (break_line point.0 point.1) c.loop-event.debugger
+          (held_up g.row.B g.row.M c.args.points.now c.loop-event.first c.loop-event.debugger c.in-Some.event point (sym c.in-Some.ensures) held),
     )
 
 pub loop-event-preserved : goal.loop-event-preserved
@@ -29,7 +30,8 @@ loop-event-preserved g c =
       so_far.0 ++ did.0,
       did.1 ∙ ap (λ (xs : List ℕ). xs ++ did.0) so_far.1 ∙ append_assoc _ so_far.0 did.0,
       λ text new h. subst (λ (xs : List ℕ). DoesAll g.row.B g.row.M c.args.points.now (drop c.args.debugger.place c.args.debugger.schedule) true c.args.debugger xs new) (sym (append_assoc so_far.0 did.0 text))
-          (so_far.2 (did.0 ++ text) new (runs_more g.row.B g.row.M c.args.points.now c.loop-event.first c.loop-event.debugger c.in-Some.event did.0 c.in_ok-debugger.debugger text new (sym c.in-Some.ensures) free did.2 h)),
+          (so_far.2 (did.0 ++ text) new
+          (runs_more g.row.B g.row.M c.args.points.now c.loop-event.first c.loop-event.debugger c.in-Some.event did.0 c.in_ok-debugger.debugger text new (sym c.in-Some.ensures) free did.2 h)),
     )
 
 pub returns : goal.returns

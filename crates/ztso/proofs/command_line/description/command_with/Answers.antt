@@ -4,5 +4,4 @@ use Rattle.ztso.proofs.command_line.description.command_with.Goals as goal
 
 pub returns : goal.returns
 returns c = λ rules all.
-    IfOk-weaker c.args-2.result _ _
-    (λ command added. with_args c.new.result command _ _ rules (record { app_is = c.new.ensures.app; local = c.new.ensures.local }) all added) c.args-2.ensures
+    IfOk-weaker c.args-2.result _ _ (λ command added. with_args c.new_command.result command _ _ rules c.new_command.ensures all added) c.args-2.ensures

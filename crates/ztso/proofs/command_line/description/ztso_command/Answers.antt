@@ -1,21 +1,11 @@
-use Rattle.std.specs.Prelude.{codes}
-use Rattle.std.proofs.lemmas.Result.{IfOk-weaker}
-use Rattle.clap.specs.Words.{new_app}
-use Rattle.ztso.specs.Descriptions.{IsDescribed, asm_command, dis_command, ztso_commands}
-use Rattle.ztso.proofs.Described.{◌&◌, with_subcommands}
 use Rattle.ztso.proofs.command_line.description.ztso_command.Goals as goal
 
 pub returns : goal.returns
 returns c =
-    let asm : IsDescribed c.new.result asm_command = record { app_is = c.new.ensures.app; local = c.new.ensures.local } in
-    let dis : IsDescribed c.new-2.result dis_command = record { app_is = c.new-2.ensures.app; local = c.new-2.ensures.local } in
-    let top : IsDescribed c.new-3.result (new_app (codes "ztso")) = record { app_is = c.new-3.ensures.app; local = c.new-3.ensures.local } in
-    IfOk-weaker c.subcommands.result _ _
-    (λ command added.
-    (with_subcommands c.new-3.result command (new_app (codes "ztso")) _ ztso_commands top
-    (rw c.in_ok-commands.ensures.items
-    (c.in_ok-steps_command.ensures & asm & dis & c.in_ok-schedule_command.ensures
-    & c.in_ok-schedule_command-2.ensures & c.in_ok-schedule_command-3.ensures & c.in_ok-schedule_command-4.ensures & c.in_ok-chart_command.ensures
-    & c.in_ok-schedule_command-5.ensures & c.in_ok-try_command.ensures & c.in_ok-channel_command.ensures & c.in_ok-threads_command.ensures & tt))
-    added).app_is)
-    c.subcommands.ensures
+    let on_input = c.and-command-3.ensures _ _ (c.and-command-2.ensures _ _ (c.and-command.ensures _ _ c.new_command.ensures
+    c.steps_command.ensures) c.new_command-2.ensures) c.new_command-3.ensures in
+    let on_schedules = c.and-command-9.ensures _ _ (c.and-command-8.ensures _ _ (c.and-command-7.ensures _ _ (c.and-command-6.ensures _ _
+    (c.and-command-5.ensures _ _ (c.and-command-4.ensures _ _ on_input c.schedule_command.ensures) c.schedule_command-2.ensures)
+    c.schedule_command-3.ensures) c.schedule_command-4.ensures) c.chart_command.ensures) c.schedule_command-5.ensures in
+    c.and.ensures _ _ (c.and-command-11.ensures _ _ (c.and-command-10.ensures _ _ on_schedules c.try_command.ensures) c.channel_command.ensures)
+    c.threads_command.ensures
