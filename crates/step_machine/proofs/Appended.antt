@@ -1,12 +1,12 @@
 -- What one more entry at the end does to a hart's own entries, its stores and landings, its pending
 -- stores, what landed, and its path.
-use Rattle.std.proofs.Common.{◌≡◌, ℕ, ◌+◌, ◌≤◌, true, false, if◌then◌else◌, List, [], ◌∷◌, ◌++◌, length, drop, refl, sym, ◌∙◌, ap, append_assoc, add_assoc, zero-add, arith, append-nil}
+use Rattle.std.proofs.Common.{◌≡◌, ℕ, ◌+◌, ◌≤◌, List, [], ◌∷◌, ◌++◌, length, drop, refl, sym, ◌∙◌, ap, append_assoc, add_assoc, zero-add, arith, append-nil}
 use Rattle.std.proofs.lemmas.List.{drop-append-le, drop-drop}
 use Rattle.hart.specs.State.{HartState}
 use Rattle.hart.specs.Steps.{advanced}
 use Rattle.step_machine.specs.declared.events.Entry.{Entry}
 use Rattle.step_machine.specs.History.{Start}
-use Rattle.step_machine.specs.Entries.{is_own, own, store_of, stores, land_of, lands, pending, write_of, landed_after, landed, report_of, reported}
+use Rattle.step_machine.specs.Entries.{own, store_of, stores, land_of, lands, pending, write_of, landed_after, landed, report_of, reported}
 use Rattle.step_machine.specs.Paths.{value_of, after_entries, Makes}
 use Rattle.step_machine.specs.Legal.{LegalAfter}
 

@@ -1,11 +1,10 @@
 -- On a legal list no hart has more landings than stores, and none more than B pending.
-use Rattle.std.proofs.Common.{◌≡◌, ℕ, ◌+◌, ◌-◌, ◌≤◌, ◌<◌, ◌==◌, Bool, true, false, if◌then◌else◌, List, [], ◌∷◌, ◌++◌, length, refl, ◌∙◌, ap, subst, arith, length-append, length-drop, append-nil, append_assoc}
+use Rattle.std.proofs.Common.{◌≡◌, ℕ, ◌≤◌, ◌<◌, ◌==◌, Bool, if◌then◌else◌, List, [], ◌∷◌, ◌++◌, length, arith, length-append, length-drop, append-nil, append_assoc}
 use Rattle.std.proofs.lemmas.Bool.{eqb-true}
 use Rattle.step_machine.specs.declared.events.Entry.{Entry}
-use Rattle.step_machine.specs.Access.{Access, land, access_of}
 use Rattle.step_machine.specs.History.{Start, History}
-use Rattle.step_machine.specs.Entries.{hart_of, stores, landed_by, land_of, lands, pending, read}
-use Rattle.step_machine.specs.Legal.{AllowedBy, Allowed, LegalAfter, Legal}
+use Rattle.step_machine.specs.Entries.{stores, land_of, lands, pending}
+use Rattle.step_machine.specs.Legal.{Allowed, LegalAfter, Legal}
 use Rattle.step_machine.proofs.Appended.{stores-append, lands-append}
 
 land_of_allowed : (B : ℕ) (o : Start) (before : List Entry) (h g : ℕ) (b : Bool) → (g == h) ≡ b → 0 < length (pending g before) → (if b then 1 else 0) ≤ length (pending h before)

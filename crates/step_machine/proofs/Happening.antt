@@ -1,5 +1,5 @@
 -- What a machine that holds what its history says does is what happens to the history.
-use Rattle.std.proofs.Common.{◌≡◌, ℕ, ◌<◌, List, [], ◌∷◌, length, Option, Some, None, refl, sym, ◌∙◌, ap, subst, arith}
+use Rattle.std.proofs.Common.{◌≡◌, ℕ, ◌<◌, List, [], length, Option, Some, None, refl, sym, ◌∙◌, ap, arith}
 use Rattle.std.specs.Prelude.{option_map}
 use Rattle.std.specs.List.{slice_get}
 use Rattle.std.proofs.lemmas.Option.{slice_get_within}
@@ -12,10 +12,10 @@ use Rattle.step_machine.specs.declared.events.Event.TheVariants as event
 use Rattle.step_machine.specs.declared.events.Entry.{Entry}
 use Rattle.step_machine.specs.declared.events.Outcome.{Outcome}
 use Rattle.step_machine.specs.declared.events.Outcome.TheVariants as outcome
-use Rattle.step_machine.specs.History.{HartStart, History, with_entry}
-use Rattle.step_machine.specs.Entries.{hart_of, own, pending}
-use Rattle.step_machine.specs.Paths.{entry_of, value_of, CanMake, state_of, Path}
-use Rattle.step_machine.specs.Legal.{Allowed, WellFormed}
+use Rattle.step_machine.specs.History.{History}
+use Rattle.step_machine.specs.Entries.{hart_of, pending}
+use Rattle.step_machine.specs.Paths.{state_of}
+use Rattle.step_machine.specs.Legal.{WellFormed}
 use Rattle.step_machine.specs.Banks.{is_over}
 use Rattle.step_machine.specs.Runs.{CanFollow, NoEntry, idle_of, idle_in, Happens}
 use Rattle.step_machine.specs.Ranges.{IsInRange}

@@ -1,12 +1,11 @@
 -- On a legal list the k-th landing of a hart writes its k-th store, counted over the whole list.
-use Rattle.std.proofs.Common.{◌≡◌, ℕ, zero, suc, ◌-◌, ◌<◌, List, [], ◌∷◌, ◌++◌, length, take, drop, refl, sym, ◌∙◌, ap, arith, append_assoc, length-drop}
+use Rattle.std.proofs.Common.{◌≡◌, ℕ, zero, suc, ◌<◌, List, [], ◌∷◌, ◌++◌, length, take, drop, refl, ◌∙◌, ap, arith, append_assoc, length-drop}
 use Rattle.std.specs.Prelude.{option_to_list}
 use Rattle.std.specs.List.{slice_get}
 use Rattle.step_machine.specs.declared.events.Entry.{Entry}
-use Rattle.step_machine.specs.Access.{Access, land, access_of}
 use Rattle.step_machine.specs.History.{Start, History}
-use Rattle.step_machine.specs.Entries.{hart_of, written_by, read, stores, lands, pending, write_of, landed_after, landed, write_by_count, landed_by_count_after, landed_by_count}
-use Rattle.step_machine.specs.Legal.{AllowedBy, Allowed, LegalAfter, Legal}
+use Rattle.step_machine.specs.Entries.{write_of, landed_after, landed, write_by_count, landed_by_count_after, landed_by_count}
+use Rattle.step_machine.specs.Legal.{Allowed, LegalAfter, Legal}
 use Rattle.step_machine.proofs.Appended.{stores-append}
 use Rattle.memory.specs.declared.writes.Write.{Write}
 

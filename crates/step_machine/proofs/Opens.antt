@@ -1,13 +1,11 @@
 -- What an opening gives is fit, and is what the history of no entry says.
-use Rattle.std.proofs.Common.{◌≡◌, ℕ, zero, suc, ◌+◌, ◌-◌, ◌/◌, ◌%◌, ◌≤◌, List, [], ◌∷◌, ◌++◌, length, drop, get_or, replicate, Option, Some, None, refl, sym, ◌∙◌, ap, subst, arith, length-append, length-drop}
+use Rattle.std.proofs.Common.{◌≡◌, ℕ, zero, suc, ◌+◌, ◌-◌, ◌≤◌, List, [], ◌∷◌, ◌++◌, length, drop, get_or, replicate, Option, Some, refl, sym, ◌∙◌, ap, subst, arith, length-append, length-drop}
 use Rattle.std.specs.Prelude.{option_map, All}
 use Rattle.std.specs.List.{slice_get}
 use Rattle.std.proofs.lemmas.List.{length-map, length-replicate, drop-replicate}
 use Rattle.std.proofs.lemmas.List.Elements.{All-map, All-nil, All-replicate}
 use Rattle.std.proofs.lemmas.Option.{slice_get-map}
-use Rattle.std.specs.Int.{byte_at}
 use Rattle.memory.specs.Words.{opened_words}
-use Rattle.memory.specs.Writes.{WritesInWord, byte_of}
 use Rattle.hart.specs.State.{HartView}
 use Rattle.step_machine.specs.History.{HartStart, Start, unrun, FitsIn}
 use Rattle.step_machine.specs.Paths.{opens_as}

@@ -1,5 +1,5 @@
 -- A sound machine stays sound, whatever the event.
-use Rattle.std.proofs.Common.{◌≡◌, ℕ, ◌-◌, ◌≤◌, List, [], length, get_or, Option, Some, None, refl, sym, ◌∙◌, ap, subst, arith}
+use Rattle.std.proofs.Common.{◌≡◌, ℕ, ◌-◌, ◌≤◌, List, [], length, get_or, Option, Some, None, sym, ◌∙◌, ap, subst, arith}
 use Rattle.std.specs.Prelude.{map, option_map, All}
 use Rattle.std.specs.List.{slice_get}
 use Rattle.std.proofs.lemmas.List.{length-map}
@@ -9,12 +9,9 @@ use Rattle.hart.specs.Steps.{stepped}
 use Rattle.hart.specs.declared.need.Report.{Report}
 use Rattle.step_machine.specs.declared.events.Event.{Event}
 use Rattle.step_machine.specs.declared.events.Entry.{Entry}
-use Rattle.step_machine.specs.declared.events.Entry.TheVariants as entry
 use Rattle.step_machine.specs.declared.events.Outcome.{Outcome}
-use Rattle.step_machine.specs.declared.events.Outcome.TheVariants as outcome
 use Rattle.step_machine.specs.History.{Start, History, unrun, FitsIn}
-use Rattle.step_machine.specs.Entries.{hart_of, reported}
-use Rattle.step_machine.specs.Paths.{value_of}
+use Rattle.step_machine.specs.Entries.{reported}
 use Rattle.step_machine.specs.Runs.{Happens}
 use Rattle.step_machine.specs.inner.Stored.{Stored, FitStored}
 use Rattle.step_machine.specs.inner.Config.{Config, Fit, AllHaveRoom, SameButRoom, without_room, beginning, step_at, after_entry, after_outcome, entries_after, outcome_of, opened_config}

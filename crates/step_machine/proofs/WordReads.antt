@@ -1,18 +1,18 @@
 -- The law of word reads: where all stores and AMOs are of whole words, a word access by bytes reads the
 -- word, without bytes.
-use Rattle.std.proofs.Common.{◌≡◌, ℕ, ◌+◌, ◌/◌, ◌%◌, ◌<◌, ◌==◌, Bool, true, false, List, [], ◌∷◌, ◌++◌, if◌then◌else◌, Some, None, refl, ◌∙◌, ap, arith, append-nil}
+use Rattle.std.proofs.Common.{◌≡◌, ℕ, ◌+◌, ◌/◌, ◌%◌, ◌<◌, ◌==◌, Bool, List, [], ◌∷◌, ◌++◌, if◌then◌else◌, None, ◌∙◌, ap, arith, append-nil}
 use Rattle.std.specs.Prelude.{All, take, slice_index, unwrap_or}
 use Rattle.std.specs.Int.{byte_at}
 use Rattle.std.proofs.lemmas.List.Elements.{All-nil, All-cons, All-append, All-take, All-drop}
 use Rattle.memory.specs.declared.writes.Write.{Write}
-use Rattle.memory.specs.Writes.{write, newest_of, newest_word, IsWholeWord}
+use Rattle.memory.specs.Writes.{newest_of, newest_word, IsWholeWord}
 use Rattle.memory.proofs.Bytes.{joined-same}
 use Rattle.memory.proofs.Newest.{newest_word-last}
 use Rattle.memory.proofs.WholeWords.{word_reads}
 use Rattle.step_machine.specs.declared.events.Entry.{Entry}
-use Rattle.step_machine.specs.Access.{Access, store, exchange, land, access_of}
+use Rattle.step_machine.specs.Access.{Access, access_of}
 use Rattle.step_machine.specs.History.{Start}
-use Rattle.step_machine.specs.Entries.{hart_of, stored_by, written_by, store_of, stores, lands, pending, write_of, landed_after, landed, opening_byte, memory_byte, memory_word, read_byte, read}
+use Rattle.step_machine.specs.Entries.{hart_of, stored_by, written_by, store_of, stores, lands, pending, write_of, landed_after, landed, opening_byte, memory_byte, memory_word, read}
 use Rattle.step_machine.proofs.Appended.{landed-last}
 use Rattle.step_machine.specs.WordReads.{WritesWord, AllWriteWords, OpensWithWords, word_in_memory, word_read}
 

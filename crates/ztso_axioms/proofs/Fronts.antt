@@ -1,6 +1,5 @@
 -- The front of a trace, and what it has performed.
-use Rattle.std.proofs.Common.{◌≡◌, ℕ, zero, suc, ◌≤◌, ◌<◌, ◌==◌, Bool, true, false, if◌then◌else◌, List, [], ◌∷◌, ◌++◌, length, take, drop, Option, Some, None, refl, sym, ◌∙◌, ap, subst, arith, append_assoc, length-append, length-drop}
-use Rattle.std.specs.Prelude.{option_and_then}
+use Rattle.std.proofs.Common.{◌≡◌, ℕ, zero, suc, ◌≤◌, ◌<◌, Bool, true, false, List, [], ◌∷◌, ◌++◌, length, take, drop, Some, refl, sym, ◌∙◌, ap, subst, arith, append_assoc, length-append, length-drop}
 use Rattle.std.specs.List.{slice_get, AllZip}
 use Rattle.std.proofs.lemmas.Bool.{eqb-true, and_parts, or_left, false_from_ne_true}
 use Rattle.std.proofs.lemmas.List.{take-append-drop, take-append-le, take_all}
@@ -9,17 +8,15 @@ use Rattle.step_machine.specs.History.{Start}
 use Rattle.step_machine.specs.Entries.{store_of, stores, lands, pending}
 use Rattle.step_machine.specs.Legal.{Allowed, LegalAfter}
 use Rattle.step_machine.specs.declared.events.Entry.{Entry}
-use Rattle.step_machine.specs.declared.events.Entry.TheVariants as entry
 use Rattle.step_machine.proofs.Appended.{LegalAfter-front, LegalAfter-back}
 use Rattle.step_machine.proofs.Balanced.{balanced-after}
-use Rattle.ztso_axioms.specs.Operations.{passes, is_at, byte_in, written_to, written_at}
+use Rattle.ztso_axioms.specs.Operations.{passes, is_at, byte_in, written_at}
 use Rattle.ztso_axioms.specs.Axioms.{is_named, is_barrier}
 use Rattle.ztso_axioms.specs.Performed.{places_of, is_store_of, store_places, performed_after, left_below, hart_bound}
 use Rattle.ztso_axioms.proofs.Listing.{named-append}
 use Rattle.ztso_axioms.proofs.Members.{places_of-cons, places_of-split, place_of, performed_after-append, named-filter, named-places}
 use Rattle.ztso_axioms.proofs.Performs.{is_reader, stores_at, reads_at, entry_here, stores_performed, reads_performed}
 use Rattle.memory.specs.declared.writes.Write.{Write}
-use Rattle.memory.specs.Writes.{write}
 
 -- entries by place
 

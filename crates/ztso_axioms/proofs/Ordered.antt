@@ -1,5 +1,5 @@
 -- The order of performing names each operation once and keeps the preserved program order.
-use Rattle.std.proofs.Common.{◌≡◌, ℕ, suc, ◌+◌, ◌≤◌, ◌<◌, ◌==◌, Bool, true, false, not, ◌&&◌, ◌||◌, if◌then◌else◌, nat_lt, ◌⊎◌, inl, inr, List, [], ◌∷◌, ◌++◌, length, take, drop, Option, Some, None, refl, sym, ◌∙◌, ap, subst, arith, append_assoc, length-append}
+use Rattle.std.proofs.Common.{◌≡◌, ℕ, suc, ◌+◌, ◌≤◌, ◌<◌, ◌==◌, Bool, true, false, not, ◌&&◌, ◌||◌, if◌then◌else◌, nat_lt, ◌⊎◌, inl, inr, List, [], ◌∷◌, ◌++◌, length, take, drop, Some, refl, sym, ◌∙◌, ap, subst, arith, append_assoc, length-append}
 use Rattle.std.specs.List.{slice_get, list_any}
 use Rattle.std.specs.Option.{option_map_or}
 use Rattle.std.proofs.lemmas.Bool.{eqb-true, eq-eqb, and_parts, or_cases, ltb-true, not-true, not-false, false_from_ne_true}
@@ -9,9 +9,8 @@ use Rattle.step_machine.specs.History.{Start}
 use Rattle.step_machine.specs.Entries.{hart_of}
 use Rattle.step_machine.specs.Legal.{LegalAfter}
 use Rattle.step_machine.specs.declared.events.Entry.{Entry}
-use Rattle.step_machine.specs.declared.events.Entry.TheVariants as entry
-use Rattle.ztso_axioms.specs.Operations.{is_load, is_store, is_amo, is_full_fence, is_operation, passes, is_at, hart_at}
-use Rattle.ztso_axioms.specs.Axioms.{times_named, is_named, is_before, in_program_order, is_barrier, is_fenced, may_pass, NamesEachOnce, KeepsProgramOrder}
+use Rattle.ztso_axioms.specs.Operations.{is_load, is_store, is_amo, is_full_fence, is_operation, is_at, hart_at}
+use Rattle.ztso_axioms.specs.Axioms.{times_named, is_named, is_before, is_barrier, is_fenced, may_pass, NamesEachOnce, KeepsProgramOrder}
 use Rattle.ztso_axioms.specs.Performed.{places_of, is_store_of, store_places, performed_after, left_below, hart_bound}
 use Rattle.ztso_axioms.proofs.Listing.{times-none}
 use Rattle.ztso_axioms.proofs.Members.{named_passes, times-filter, times-all_places, named-places, before-split, is_before-filter}

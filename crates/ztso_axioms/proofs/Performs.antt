@@ -1,6 +1,6 @@
 -- What the entries of a trace perform: of each hart its stores in order, as many as it has landings,
 -- and each load and AMO at its place.
-use Rattle.std.proofs.Common.{◌≡◌, ℕ, zero, suc, ◌+◌, ◌≤◌, ◌<◌, ◌==◌, Bool, true, false, not, ◌||◌, if◌then◌else◌, nat_lt, List, [], ◌∷◌, ◌++◌, length, take, drop, Option, Some, None, refl, sym, ◌∙◌, ap, arith, append-nil, append_assoc, length-append}
+use Rattle.std.proofs.Common.{◌≡◌, ℕ, zero, suc, ◌+◌, ◌≤◌, ◌<◌, ◌==◌, Bool, true, false, not, ◌||◌, if◌then◌else◌, nat_lt, List, [], ◌∷◌, ◌++◌, length, take, drop, Some, refl, sym, ◌∙◌, ap, arith, append-nil, append_assoc, length-append}
 use Rattle.std.specs.Prelude.{filter, option_to_list}
 use Rattle.std.specs.List.{AllPass, slice_get}
 use Rattle.std.proofs.lemmas.Bool.{eqb-true, eqb-false, ne_eqb, and_parts, ltb-true, ltb-false}
@@ -10,7 +10,7 @@ use Rattle.std.proofs.lemmas.List.Elements.{All-append, All-cons, All-drop, All-
 use Rattle.step_machine.specs.Entries.{hart_of, land_of, lands}
 use Rattle.step_machine.specs.declared.events.Entry.{Entry}
 use Rattle.step_machine.specs.declared.events.Entry.TheVariants as entry
-use Rattle.ztso_axioms.specs.Operations.{is_load, is_store, is_amo, is_operation, passes, is_at}
+use Rattle.ztso_axioms.specs.Operations.{is_load, is_amo, is_operation, passes, is_at}
 use Rattle.ztso_axioms.specs.Performed.{places_of, is_store_of, store_places, performed_by, performed_after, left_places, left_below, hart_bound}
 use Rattle.ztso_axioms.proofs.Members.{IsPassed, places_of-cons, place_of, lands-last, AllPass-get, AllPass-places, filter-every, filter-none}
 use Rattle.ztso_axioms.proofs.Walks.{no_stores, hart_below}
