@@ -73,8 +73,7 @@ IsNoAmo P need.Exit = Unit {0}
 IsNoAmo P (need.Stop why) = ⊥
 
 whole_width : (width : ℕ) (b : Bool) → (width == 4) ≡ b → Holds b → width ≡ 4
-whole_width width true is plain = grind (arith, nat_tests)
-whole_width width false is plain = absurd plain
+whole_width width b is plain = grind (arith, nat_tests)
 
 -- the entry that hart h makes of a need, as each definition sees it
 record Seen (h k : ℕ) (same : Bool) (es : List Entry) (n : Need) (e : Entry) : Type 0 where
@@ -110,29 +109,11 @@ seen P h k same es (need.Stop why) v is plain = absurd plain
 
 -- such a need's entry is no stop
 goes_on : (P : ℕ → Type 0) (h : ℕ) (n : Need) (v : ℕ) → IsNoAmo P n → GoesOn (entry_of h n v)
-goes_on P h need.Inner v plain = tt
-goes_on P h (need.Load a width) v plain = tt
-goes_on P h (need.Store a width w) v plain = tt
-goes_on P h (need.Amo a op rs2) v plain = absurd plain
-goes_on P h (need.Fence full) v plain = tt
-goes_on P h (need.Next w) v plain = tt
-goes_on P h (need.Report (report.Took i w)) v plain = tt
-goes_on P h (need.Report (report.Closed i)) v plain = tt
-goes_on P h need.Exit v plain = tt
-goes_on P h (need.Stop why) v plain = absurd plain
+goes_on P h n v plain = grind arith
 
 -- and it touches such an address, if any
 touches : (P : ℕ → Type 0) (l : Layout) (k h : ℕ) (n : Need) (v : ℕ) → IsNoAmo P n → ((a : ℕ) → P a → StaysWithin l k h a 4) → Touches l k (entry_of h n v)
-touches P l k h need.Inner v plain reach = tt
-touches P l k h (need.Load a width) v plain reach = subst (StaysWithin l k h a) (sym (whole_width width (width == 4) refl plain.0)) (reach a plain.1)
-touches P l k h (need.Store a width w) v plain reach = subst (StaysWithin l k h a) (sym (whole_width width (width == 4) refl plain.0)) (reach a plain.1)
-touches P l k h (need.Amo a op rs2) v plain reach = absurd plain
-touches P l k h (need.Fence full) v plain reach = tt
-touches P l k h (need.Next w) v plain reach = tt
-touches P l k h (need.Report (report.Took i w)) v plain reach = tt
-touches P l k h (need.Report (report.Closed i)) v plain reach = tt
-touches P l k h need.Exit v plain reach = tt
-touches P l k h (need.Stop why) v plain reach = absurd plain
+touches P l k h n v plain reach = grind (arith, whole_width)
 
 -- and what it writes, if it writes, is a whole word
 writes_word : (P : ℕ → Type 0) (h : ℕ) (n : Need) (v : ℕ) → IsNoAmo P n

@@ -95,25 +95,15 @@ to_block-one k ws w on = filter-append (is_to k) ws (w ∷ []) ∙ ap (λ b. to_
 -- at most one store is made: within the block it joins the block's part, and no other's
 pub to_block-stored : (k : Block) (ws : List Write) (qs : List (ℕ × ℕ)) → (qs ≡ []) ⊎ ((x : ℕ × ℕ) × (qs ≡ x ∷ []))
     → ((x : ℕ × ℕ) → qs ≡ x ∷ [] → Within k x.0) → to_block k (ws ++ as_writes qs) ≡ to_block k ws ++ as_writes qs
-to_block-stored k ws qs (inl none) inside = rw none (ap (to_block k) (append-nil ws) ∙ sym (append-nil (to_block k ws)))
-to_block-stored k ws qs (inr one) inside = rw one.1 (to_block-one k ws (as_write one.0) (within_true k one.0.0 (inside one.0 one.1)))
+to_block-stored k ws qs h3 inside = grind (arith, append-nil, to_block-one, within_true)
 
 pub to_block-elsewhere : (k : Block) (ws : List Write) (qs : List (ℕ × ℕ))
     → (qs ≡ []) ⊎ ((x : ℕ × ℕ) × (qs ≡ x ∷ [])) → ((x : ℕ × ℕ) → qs ≡ x ∷ [] → Within k x.0 → ⊥)
     → to_block k (ws ++ as_writes qs) ≡ to_block k ws
-to_block-elsewhere k ws qs (inl none) outside = rw none (ap (to_block k) (append-nil ws))
-to_block-elsewhere k ws qs (inr one) outside = rw one.1 (to_block-none k ws (as_write one.0) (off (is_within k one.0.0) refl))
-  where
-    off : (b : Bool) → is_within k one.0.0 ≡ b → is_within k one.0.0 ≡ false
-    off true is = absurd (outside one.0 one.1 (within_from k one.0.0 is))
-    off false is = is
+to_block-elsewhere k ws qs h3 outside = grind (arith, append-nil, to_block-none, within_from)
 
 pub outside_differs : (k : Block) (a b : ℕ) → Within k a → is_within k b ≡ false → (b == a) ≡ false
-outside_differs k a b h off =
-    elim (cases_eq b a) [
-      | inl same ↦ let on : is_within k a ≡ true = within_true k a h in let both : is_within k b ≡ is_within k a = ap (is_within k) same in cc
-      | inr other ↦ grind (arith, nat_tests)
-    ]
+outside_differs k a b h off = grind (arith, cases_eq, within_true, nat_tests)
 
 newest_first : (k : Block) (a : ℕ) (found : Option ℕ) (w : Write) (ws : List Write) → Within k a → (b : Bool)
     → is_within k w.addr ≡ b → ((f : Option ℕ) → newest_word a f (to_block k ws) ≡ newest_word a f ws)

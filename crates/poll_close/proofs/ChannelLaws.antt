@@ -2,21 +2,20 @@
 -- it gives clean reports, and no hart is stopped.
 use Rattle.std.proofs.Common.{ℕ, zero, suc, ◌+◌, ◌-◌, ◌*◌, ◌<◌, ◌≤◌, ◌≡◌, ◌==◌, ◌⊎◌, inl, inr, false, List, [], ◌∷◌}
 use Rattle.std.proofs.Common.{◌++◌, length, take, Some, refl, sym, ◌∙◌, ap, subst, arith, append-nil, add-one}
-use Rattle.std.specs.Prelude.{◌/◌, option_map, slice_index}
+use Rattle.std.specs.Prelude.{◌/◌, slice_index}
 use Rattle.std.specs.List.{slice_get, slice_index_or}
-use Rattle.std.proofs.lemmas.Bool.{cases_lt}
 use Rattle.std.proofs.lemmas.Bool.Decides.{nat_tests}
 use Rattle.std.proofs.lemmas.Nat.{row_fits}
 use Rattle.std.proofs.lemmas.Option.{slice_get_past}
 use Rattle.std.proofs.Math.Nat.{mul_assoc}
 use Rattle.step_machine.specs.declared.events.Entry.{Entry}
 use Rattle.step_machine.specs.declared.events.Entry.TheVariants as entry
-use Rattle.step_machine.specs.History.{HartStart, Start, History, unrun, with_entry}
+use Rattle.step_machine.specs.History.{History, unrun, with_entry}
 use Rattle.step_machine.specs.Entries.{hart_of, is_land, reported}
 use Rattle.step_machine.specs.Access.{access_of}
 use Rattle.step_machine.specs.WordReads.{WritesWord, AllWriteWords, OpensWithWords}
 use Rattle.step_machine.proofs.WordReads.{AllWriteWords-append}
-use Rattle.step_machine.specs.Paths.{state_of, opens_as}
+use Rattle.step_machine.specs.Paths.{state_of}
 use Rattle.step_machine.specs.Runs.{CanFollow}
 use Rattle.step_machine.proofs.Appended.{reported-last}
 use Rattle.step_machine.proofs.Follows.{Path-hart, state_of-other}
@@ -65,46 +64,24 @@ sender_start : (code : List ℕ) (S : Layout) (j i : ℕ) (lists : List (List �
     ≡ Some (record { code = code; registers = sender_registers S (j + i); inbox = slice_index_or lists i [] })
 sender_start code S j i [] within = absurd (omega arith)
 sender_start code S j zero (ws ∷ lists) within = let same : j + 0 ≡ j = omega arith in rw same refl
-sender_start code S j (suc i) (ws ∷ lists) within = let same : j + suc i ≡ j + 1 + i = omega arith in
-    rw same (sender_start code S (j + 1) i lists (omega arith))
+sender_start code S j (suc i) (ws ∷ lists) within = grind (arith, sender_start code S (j + 1) i lists)
 
 start_state : (code receiver : List ℕ) (M : ℕ) (S : Layout) (lists : List (List ℕ)) (i : ℕ) → i < length lists
     → state_of M (unrun (opening_at code receiver lists S)) (i + 1) ≡ Some (opens_with code (block_of M S lists i))
-start_state code receiver M S lists i within =
-    let start : HartStart = record { code = code; registers = sender_registers S i; inbox = slice_index_or lists i [] } in
-    let same : 0 + i ≡ i = omega arith in
-    let later : slice_get (senders_from code S 0 lists) i ≡ Some start = rw same at (sender_start code S 0 i lists within) in
-    let at_hart : slice_get (opening_at code receiver lists S).harts (i + 1) ≡ Some start = rw (add-one i) later in
-    ap (option_map (opens_as M)) at_hart
+start_state code receiver M S lists i within = grind (arith, sender_start, add-one)
 
 clean-none : (lists : List (List ℕ)) → Clean [] lists
 clean-none lists = record { in_order = λ i. (slice_index_or lists i [], refl); whole = λ i k h. cc; no_more = λ i j k r l h g. cc; known = λ k r h. cc }
 
 act_or_land : (e : Entry) → (is_land e ≡ false) ⊎ ((h : ℕ) × (e ≡ entry.Land h))
-act_or_land (entry.Inner h) = inl refl
-act_or_land (entry.Load h a width v) = inl refl
-act_or_land (entry.Store h a width v) = inl refl
-act_or_land (entry.Amo h a old new) = inl refl
-act_or_land (entry.Fence h full) = inl refl
-act_or_land (entry.Next h w) = inl refl
-act_or_land (entry.Took h i w) = inl refl
-act_or_land (entry.Closed h i) = inl refl
-act_or_land (entry.Ended h) = inl refl
-act_or_land (entry.Stopped h why) = inl refl
-act_or_land (entry.Land h) = inr (h, refl)
+act_or_land e = grind arith
 
 not_zero : (h j : ℕ) → h ≡ suc j → (h == 0) ≡ false
 not_zero h j is = grind (arith, nat_tests)
 
 is_hart : (code receiver : List ℕ) (B M : ℕ) (S : Layout) (lists : List (List ℕ)) (t : History) (e : Entry)
     → t.opening ≡ opening_at code receiver lists S → CanFollow B M t e → hart_of e < suc (length lists)
-is_hart code receiver B M S lists t e is can =
-    elim (cases_lt (hart_of e) (suc (length lists))) [
-      | inl less ↦ less
-      | inr past ↦
-          let harts : length t.opening.harts ≡ suc (length lists) = ap (λ (o : Start). length o.harts) is ∙ ap (λ n. suc n) (senders-length code S 0 lists) in
-          absurd (Path-hart M (with_entry t e) (hart_of e) can.path (slice_get_past t.opening.harts (hart_of e) (omega arith)))
-    ]
+is_hart code receiver B M S lists t e is can = grind (arith, senders-length, Path-hart, slice_get_past)
 
 all_more : (P : Entry → Type 0) (es : List Entry) (e : Entry)
     → ((j : ℕ) (d : Entry) → slice_get es j ≡ Some d → P d) → P e → (j : ℕ) (d : Entry)

@@ -1,6 +1,6 @@
 -- One report more keeps reports clean.
-use Rattle.std.proofs.Common.{ℕ, zero, suc, ◌+◌, ◌<◌, ◌≡◌, ◌≢◌, ◌==◌, ◌⊎◌, inl, inr, Bool, true, false, if◌then◌else◌}
-use Rattle.std.proofs.Common.{List, [], ◌∷◌, ◌++◌, length, take, drop, Some, refl, sym, ◌∙◌, ap, subst, arith}
+use Rattle.std.proofs.Common.{ℕ, zero, suc, ◌+◌, ◌<◌, ◌≡◌, ◌≢◌, ◌==◌, ◌⊎◌, inl, inr, if◌then◌else◌}
+use Rattle.std.proofs.Common.{List, [], ◌∷◌, ◌++◌, length, take, drop, Some, refl, sym, ◌∙◌, ap, arith}
 use Rattle.std.proofs.Common.{append-nil, length-append, eq-eqb}
 use Rattle.std.specs.Prelude.{slice_index}
 use Rattle.std.specs.List.{slice_get, slice_index_or}
@@ -18,11 +18,7 @@ get_last : (xs : List Report) (x y : Report) (k : ℕ) → slice_get (xs ++ x �
 get_last [] x y zero is = inr (refl, (let same : x ≡ y = cc in same))
 get_last [] x y (suc k) is = cc
 get_last (z ∷ xs) x y zero is = inl (omega arith, is)
-get_last (z ∷ xs) x y (suc k) is =
-    elim (get_last xs x y k is) [
-      | inl a ↦ inl (omega (arith, a.0), a.1)
-      | inr b ↦ inr (omega (arith, b.0), b.1)
-    ]
+get_last (z ∷ xs) x y (suc k) is = grind (arith, get_last xs x y k is)
 
 pub get_front : (xs ys : List Report) (k : ℕ) (x : Report) → slice_get xs k ≡ Some x → slice_get (xs ++ ys) k ≡ Some x
 get_front [] ys k x is = cc
@@ -31,14 +27,7 @@ get_front (z ∷ xs) ys (suc k) x is = get_front xs ys k x is
 
 taken-append : (xs ys : List Report) (i : ℕ) → taken (xs ++ ys) i ≡ taken xs i ++ taken ys i
 taken-append [] ys i = refl
-taken-append (report.Took j w ∷ xs) ys i = took_append j w xs ys i (j == i) refl (taken-append xs ys i)
-  where
-    took_append : (j w : ℕ) (xs ys : List Report) (i : ℕ) (b : Bool) → (j == i) ≡ b
-        → taken (xs ++ ys) i ≡ taken xs i ++ taken ys i
-        → (if b then w ∷ taken (xs ++ ys) i else taken (xs ++ ys) i) ≡ (if b then w ∷ taken xs i else taken xs i)
-        ++ taken ys i
-    took_append j w xs ys i true is more = ap (λ zs. w ∷ zs) more
-    took_append j w xs ys i false is more = more
+taken-append (report.Took j w ∷ xs) ys i = grind (arith, taken-append xs ys i)
 taken-append (report.Closed j ∷ xs) ys i = taken-append xs ys i
 
 pub taken-took : (rs : List Report) (j w i : ℕ) → taken (rs ++ report.Took j w ∷ []) i ≡ taken rs i ++ (if j == i then w ∷ [] else [])
@@ -51,72 +40,21 @@ pub clean_more : (rs : List Report) (lists : List (List ℕ)) (x : Report) → C
     → sender_of x < length lists → ((k : ℕ) → slice_get rs k ≡ Some (report.Closed (sender_of x)) → ⊥)
     → ((i : ℕ) → IsPrefixOf (taken (rs ++ x ∷ []) i) (slice_index_or lists i []))
     → ((i : ℕ) → x ≡ report.Closed i → taken rs i ≡ slice_index_or lists i []) → Clean (rs ++ x ∷ []) lists
-clean_more rs lists x clean known unclosed prefix all = record { in_order = prefix; whole = whole; no_more = no_more; known = knows }
-  where
-    whole : (i k : ℕ) → slice_get (rs ++ x ∷ []) k ≡ Some (report.Closed i) → taken (take k (rs ++ x ∷ [])) i ≡ slice_index_or lists i []
-    whole i k is =
-        elim (get_last rs x (report.Closed i) k is) [
-          | inl a ↦ ap (λ ys. taken ys i) (take-append-le k rs (x ∷ []) (omega (arith, a.0))) ∙ clean.whole i k a.1
-          | inr b ↦ ap (λ ys. taken ys i) (ap (λ m. take m (rs ++ x ∷ [])) b.0 ∙ take-append_seam rs (x ∷ [])) ∙ all i b.1
-        ]
-
-    no_more : (i j k : ℕ) (r : Report) → j < k → slice_get (rs ++ x ∷ []) j ≡ Some (report.Closed i) → slice_get (rs ++ x ∷ []) k ≡ Some r → sender_of r ≢ i
-    no_more i j k r less first second =
-        elim (get_last rs x (report.Closed i) j first) [
-          | inl a ↦ elim (get_last rs x r k second) [
-            | inl b ↦ clean.no_more i j k r less a.1 b.1
-            | inr b ↦ λ same. unclosed j (a.1 ∙ ap (λ z. Some (report.Closed z)) (sym same ∙ ap sender_of (sym b.1)))
-          ]
-          | inr a ↦ elim (get_last rs x r k second) [
-            | inl b ↦ absurd (omega (arith, a.0, b.0))
-            | inr b ↦ absurd (omega (arith, a.0, b.0))
-          ]
-        ]
-
-    knows : (k : ℕ) (r : Report) → slice_get (rs ++ x ∷ []) k ≡ Some r → sender_of r < length lists
-    knows k r is =
-        elim (get_last rs x r k is) [
-          | inl a ↦ clean.known k r a.1
-          | inr b ↦ subst (λ (y : Report). sender_of y < length lists) b.1 known
-        ]
+clean_more rs lists x clean known unclosed prefix all = grind (arith, get_last, take-append-le, take-append_seam)
 
 -- another sender's report
 pub taken_other : (rs : List Report) (i : ℕ) (y : Report) → sender_of y ≢ i → taken (rs ++ y ∷ []) i ≡ taken rs i
-taken_other rs i (report.Took j w) differ = taken-took rs j w i ∙ (let off : (j == i) ≡ false = grind (arith, nat_tests) in rw off (append-nil (taken rs i)))
-taken_other rs i (report.Closed j) differ = taken-closed rs j i
+taken_other rs i y differ = grind (arith, taken-took, nat_tests, append-nil, taken-closed)
 
 pub reports_other : (rs : List Report) (i : ℕ) (list : List ℕ) (took closings : ℕ) (x : Report) → sender_of x ≢ i
     → ReportsOf rs i list took closings → ReportsOf (rs ++ x ∷ []) i list took closings
-reports_other rs i list took closings x other reports = record {
-  words = taken_other rs i x other ∙ reports.words;
-  closed = closed;
-  said = λ is. (let old = reports.said is in (old.0, get_front rs (x ∷ []) old.0 (report.Closed i) old.1));
-}
-  where
-    closed : (k : ℕ) → slice_get (rs ++ x ∷ []) k ≡ Some (report.Closed i) → closings ≡ 1
-    closed k is =
-        elim (get_last rs x (report.Closed i) k is) [
-          | inl a ↦ reports.closed k a.1
-          | inr b ↦ absurd (other (ap sender_of b.1))
-        ]
+reports_other rs i list took closings x other reports = grind (arith, taken_other, get_front, get_last)
 
 -- a word of the sender's own
 pub reports_took : (rs : List Report) (i : ℕ) (list : List ℕ) (took closings : ℕ) → took < length list
     → ReportsOf rs i list took closings
     → ReportsOf (rs ++ report.Took i (slice_index list took) ∷ []) i list (took + 1) closings
-reports_took rs i list took closings less reports = record {
-  words = taken-took rs i (slice_index list took) i ∙ (let on : (i == i) ≡ true = eq-eqb i i refl in
-      rw on (ap (λ ys. ys ++ slice_index list took ∷ []) reports.words ∙ sym (take_more list took 0 less)));
-  closed = closed;
-  said = λ is. (let old = reports.said is in (old.0, get_front rs (report.Took i (slice_index list took) ∷ []) old.0 (report.Closed i) old.1));
-}
-  where
-    closed : (k : ℕ) → slice_get (rs ++ report.Took i (slice_index list took) ∷ []) k ≡ Some (report.Closed i) → closings ≡ 1
-    closed k is =
-        elim (get_last rs (report.Took i (slice_index list took)) (report.Closed i) k is) [
-          | inl a ↦ reports.closed k a.1
-          | inr b ↦ cc (b.1)
-        ]
+reports_took rs i list took closings less reports = grind (arith, taken-took, eq-eqb, take_more, get_front, get_last)
 
 -- its closing
 pub reports_closed : (rs : List Report) (i : ℕ) (list : List ℕ) (took closings : ℕ) → ReportsOf rs i list took closings

@@ -1,5 +1,5 @@
 -- A meaning that every entry keeps holds at the end of every run, and gives clean reports there.
-use Rattle.std.proofs.Common.{◌≡◌, ℕ, suc, ◌+◌, ◌≤◌, inl, inr, List, [], ◌∷◌, length, All, Result, Ok, Err, refl, sym, ap, subst, arith}
+use Rattle.std.proofs.Common.{◌≡◌, ℕ, suc, ◌+◌, ◌≤◌, inl, inr, List, [], ◌∷◌, length, All, Result, refl, sym, ap, subst, arith}
 use Rattle.std.specs.Prelude.{IfOk}
 use Rattle.std.proofs.lemmas.List.Elements.{All-nil, All-cons}
 use Rattle.hart.specs.declared.need.Report.{Report}
@@ -71,18 +71,11 @@ senders-length code S i (ws ∷ lists) = ap (λ n. suc n) (senders-length code S
 
 pub channel-fits : (ring : Ring) (M : ℕ) (lists : List (List ℕ)) (S : Layout) (o : Start) → AreShort ring
     → AcceptedAt ring M lists S → o ≡ opening_over ring lists S → FitsIn M o
-channel-fits ring M lists S o short accepted is =
-    subst (FitsIn M) (sym is) (record {
-      some_hart = omega arith;
-      harts = omega (arith, senders-length ring.sender S 0 lists, accepted.senders);
-      code = All-cons IsShort _ _ short.1 (senders-short ring.sender S 0 lists short.0);
-      words = accepted.opens;
-    })
+channel-fits ring M lists S o short accepted is = grind (arith, senders-length, All-cons, senders-short)
 
 -- what holds of the value of an Ok holds of it by implication
 pub if_ok : {A E : Type 0} (P Q : A → Type 0) → ((a : A) → P a → Q a) → (r : Result A E) → IfOk r P → IfOk r Q
-if_ok P Q more (Ok a) h = more a h
-if_ok P Q more (Err e) h = tt
+if_ok P Q more h3 h = grind arith
 
 pub delivers-as : (B M : ℕ) (o p : Start) (lists : List (List ℕ)) (evs : List Event) (reports : List Report) → o ≡ p
     → Delivers B M o lists evs reports → Delivers B M p lists evs reports

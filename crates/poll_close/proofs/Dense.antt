@@ -1,6 +1,6 @@
 -- The dense layout is one of those that are accepted.
-use Rattle.std.proofs.Common.{ℕ, ◌+◌, ◌-◌, ◌*◌, ◌≤◌, ◌≡◌, List, length, refl, ap, arith}
-use Rattle.poll_close.specs.Layout.{block_size, dense}
+use Rattle.std.proofs.Common.{ℕ, ◌+◌, ◌-◌, ◌*◌, ◌≤◌, ◌≡◌, List, ap, arith}
+use Rattle.poll_close.specs.Layout.{dense}
 use Rattle.poll_close.specs.Laws.{Ring, Accepted, AcceptedAt}
 
 pub rows_before : (n T : ℕ) → 1 ≤ n → (n - 1) * T + T ≡ n * T
@@ -10,17 +10,4 @@ rows_before n T some =
     omega (arith, same)
 
 pub dense-accepted : (ring : Ring) (M : ℕ) (lists : List (List ℕ)) (S : ℕ) → Accepted ring M lists S → AcceptedAt ring M lists (dense S)
-dense-accepted ring M lists S accepted = record {
-  some_sender = accepted.some_sender;
-  senders = accepted.senders;
-  size = accepted.size;
-  base = refl;
-  stride = omega arith;
-  room = omega arith;
-  ends = omega (arith, accepted.fits, accepted.memory);
-  fits = omega (arith, accepted.fits, rows_before (length lists) (block_size S) accepted.some_sender);
-  memory = omega (arith, accepted.memory);
-  words = accepted.words;
-  opens = omega arith;
-  empty = record { small = λ j. omega arith; empty = λ j inside. refl };
-}
+dense-accepted ring M lists S accepted = grind (arith, rows_before)

@@ -1,9 +1,9 @@
 -- How far the receiver is from its next report: the lemmas by which each line's reason shows that it comes nearer,
 -- and what a ring shows of one block for the plan.
-use Rattle.std.proofs.Common.{ℕ, suc, ◌+◌, ◌-◌, ◌*◌, ◌<◌, ◌≤◌, ◌≡◌, ◌==◌, inl, inr, Bool, true, false, not, ◌&&◌, ◌||◌}
+use Rattle.std.proofs.Common.{ℕ, suc, ◌+◌, ◌-◌, ◌*◌, ◌<◌, ◌≤◌, ◌≡◌, ◌==◌, Bool, true, false, not, ◌&&◌, ◌||◌}
 use Rattle.std.proofs.Common.{if◌then◌else◌, List, [], ◌∷◌, Some, refl, sym, ◌∙◌, ap, arith, add-one}
 use Rattle.std.specs.Prelude.{nat_lt}
-use Rattle.std.proofs.lemmas.Bool.{cases_lt, and_parts}
+use Rattle.std.proofs.lemmas.Bool.{and_parts}
 use Rattle.std.proofs.lemmas.Bool.Decides.{nat_tests}
 use Rattle.hart.specs.State.{HartState}
 use Rattle.hart.specs.Steps.{need_of, advanced}
@@ -30,29 +30,11 @@ are_short (row ∷ rows) = is_short row.rank && are_short rows
 
 module _ (a : Around) (x : List ℕ) where
   length_short : (w : Way) → is_short w ≡ true → length_of a x w ≤ 22 + a.rest + a.start
-  length_short (Near n) short = let less : n < 23 = grind (arith, nat_tests) in omega (arith, less)
-  length_short (Round n) short = let less : n < 23 = grind (arith, nat_tests) in omega (arith, less)
-  length_short (Over n) short = let less : n < 23 = grind (arith, nat_tests) in omega (arith, less)
-  length_short (Visit stale n other) short = at (stale a x)
-    where
-      both : (nat_lt n 23 ≡ true) × (nat_lt other 23 ≡ true)
-      both = and_parts (nat_lt n 23) (nat_lt other 23) short
-
-      at : (b : Bool) → (if b then n + a.rest else other) ≤ 22 + a.rest + a.start
-      at true = let test : nat_lt n 23 ≡ true = both.0 in let less : n < 23 = grind (arith, nat_tests) in omega (arith, less)
-      at false = let test : nat_lt other 23 ≡ true = both.1 in let less : other < 23 = grind (arith, nat_tests) in omega (arith, less)
+  length_short w short = grind (arith, nat_tests, and_parts)
 
   pub rank_short : {Held : Type 1} (rows : List (Row Way Held)) → are_short rows ≡ true → (here : ℕ) → rank_in (length_of a x) rows here ≤ 22 + a.rest + a.start
   rank_short [] short here = omega arith
-  rank_short (row ∷ rows) short here = at (row.at == here) (rank_short rows both.1 here)
-    where
-      both : (is_short row.rank ≡ true) × (are_short rows ≡ true)
-      both = and_parts (is_short row.rank) (are_short rows) short
-
-      at : (b : Bool) → rank_in (length_of a x) rows here ≤ 22 + a.rest + a.start
-          → (if b then length_of a x row.rank else rank_in (length_of a x) rows here) ≤ 22 + a.rest + a.start
-      at true later = length_short row.rank both.0
-      at false later = later
+  rank_short (row ∷ rows) short here = grind (arith, and_parts, length_short, rank_short rows)
 
 -- what a ring shows of one block for the plan. The least size of a ring is known here.
 pub record BlockProgress (m : BlockMeaning) (least : ℕ) : Type 0 where
@@ -72,19 +54,11 @@ pub record BlockProgress (m : BlockMeaning) (least : ℕ) : Type 0 where
 -- from a visit that may find nothing to one that may so too, or that finds something
 pub flags : {rest : ℕ} (a b c d : ℕ) (new old : Bool) → (a < b) × (c < d) × (c ≤ 40) → 40 ≤ rest
     → (new ≡ true → old ≡ true) → (if new then a + rest else c) < (if old then b + rest else d)
-flags a b c d true true less off same = omega arith
-flags a b c d true false less off same = let bad : false ≡ true = same refl in cc
-flags a b c d false true less off same = omega arith
-flags a b c d false false less off same = omega arith
+flags a b c d new old less off same = grind arith
 
 -- it finds what is there once the mark is read, or where the sender runs
 pub not_stale : (mark : ℕ) (ended : Bool) → (ended ≡ true → mark ≡ 1) → ((mark == 0) && ended) ≡ false
-not_stale mark true some = let off : (mark == 0) ≡ false = let one : mark ≡ 1 = some refl in grind (arith, nat_tests) in rw off refl
-not_stale mark false some = both (mark == 0)
-  where
-    both : (b : Bool) → (b && false) ≡ false
-    both true = refl
-    both false = refl
+not_stale mark ended some = grind (arith, nat_tests)
 
 -- the round: some block is open, so it comes nearer on its way to one
 module _ (rs : List Report) (n : ℕ) where
@@ -92,18 +66,10 @@ module _ (rs : List Report) (n : ℕ) where
   wrap b = if b then 0 else 40 * (n + 2)
 
   pub far_off : (j : ℕ) → 40 ≤ rest_from rs n j
-  far_off j =
-      elim (cases_lt j n) [
-        | inl less ↦ omega arith
-        | inr past ↦ let none : n - j ≡ 0 = omega arith in rw none (omega arith)
-      ]
+  far_off j = grind arith
 
   pub not_far : (j : ℕ) → rest_from rs n j ≤ 40 * n + 40 * (n + 2)
-  not_far j = let most : wrap (some_open rs j (n - j)) ≤ 40 * (n + 2) = at (some_open rs j (n - j)) in omega arith
-    where
-      at : (b : Bool) → wrap b ≤ 40 * (n + 2)
-      at true = omega arith
-      at false = omega arith
+  not_far j = grind arith
 
   pub arrives : (j : ℕ) → j < n → (if is_closed rs j then 17 + rest_from rs n (j + 1) else 22) < 1 + rest_from rs n j
   arrives j less = at (n - (j + 1)) refl (omega arith) (is_closed rs j) refl
@@ -118,9 +84,4 @@ module _ (rs : List Report) (n : ℕ) where
       at c one two false is = omega (arith, far_off j)
 
   pub wraps : some_open rs 0 n ≡ true → rest_from rs n 0 ≤ rest_from rs n n
-  wraps open_one =
-      let all : n - 0 ≡ n = omega arith in
-      let none : n - n ≡ 0 = omega arith in
-      let first : rest_from rs n 0 ≡ 40 * n = rw all (rw open_one (omega arith)) in
-      let last : rest_from rs n n ≡ 40 * 0 + 40 * (n + 2) = rw none refl in
-      omega (arith, first, last)
+  wraps open_one = grind arith

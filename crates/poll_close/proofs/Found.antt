@@ -1,6 +1,6 @@
 -- What a hart finds at an address where the stores of a window are pending: the newest of them there, else the word of
 -- memory.
-use Rattle.std.proofs.Common.{ℕ, suc, ◌<◌, ◌≤◌, ◌≡◌, ◌≢◌, List, Some, None, ◌∙◌, ap, arith}
+use Rattle.std.proofs.Common.{ℕ, suc, ◌<◌, ◌≤◌, ◌≡◌, ◌≢◌, List, Some, None, ap, arith}
 use Rattle.std.specs.Prelude.{unwrap_or}
 use Rattle.std.specs.List.{slice_get}
 use Rattle.poll_close.specs.Invariant.Blocks.{window}
@@ -22,5 +22,4 @@ module _ (xs : List (ℕ × ℕ)) (i j : ℕ) (word : ℕ → ℕ) (a : ℕ) whe
 
   -- where the last one goes there
   pub last_found : (v s : ℕ) → j ≡ suc s → i ≤ s → slice_get xs s ≡ Some (a, v) → found_in (window xs i j) word a ≡ v
-  last_found v s last pending store =
-      ap (λ n. found_in (window xs i n) word a) last ∙ ap (λ o. unwrap_or o (word a)) (newest_made xs i s a v pending store)
+  last_found v s last pending store = grind (arith, found_in, newest_made)

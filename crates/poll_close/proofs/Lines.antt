@@ -1,5 +1,5 @@
 -- One line of a program: what a hart wants there, and the state that it leaves.
-use Rattle.std.proofs.Common.{ℕ, ℤ, pos, negsuc, zero, suc, ◌+◌, ◌*◌, ◌/◌, ◌%◌, ◌^◌, ◌<◌, ◌≤◌, ◌≡◌, ◌≢◌, ◌==◌, ◌+ℤ◌}
+use Rattle.std.proofs.Common.{ℕ, ℤ, pos, negsuc, zero, suc, ◌+◌, ◌*◌, ◌%◌, ◌^◌, ◌<◌, ◌≤◌, ◌≡◌, ◌≢◌, ◌==◌, ◌+ℤ◌}
 use Rattle.std.proofs.Common.{true, false, not, List, [], ◌∷◌, length, Some, refl, add-zero, ◌∙◌, ap, arith}
 use Rattle.std.specs.Prelude.{map, slice_index}
 use Rattle.std.specs.List.{slice_get}
@@ -41,19 +41,14 @@ pub word_plus : (a k : ℕ) → a + k < 2 ^ 32 → word (pos a +ℤ pos k) ≡ a
 word_plus a k h = omega (arith, ints)
 
 pub word_minus : (a y : ℕ) → a ≡ y + 1 → y + 1 < 2 ^ 32 → word (pos a +ℤ negsuc 0) ≡ y
-word_minus a y is small =
-    let less : pos a +ℤ negsuc 0 ≡ pos y +ℤ pos 0 = omega (arith, ints) in
-    ap word less ∙ word_plus y 0 (omega arith) ∙ add-zero y
+word_minus a y is small = grind (arith, pos, negsuc, ints, word_plus, add-zero)
 
 -- a table means a listing where the decoder finds its lines
 pub all_mean : (ws : List ℕ) (is : List Instr) → map meaning ws ≡ map Some is → AllMean ws is
 all_mean [] [] e = tt
 all_mean [] (i ∷ is) e = cc
 all_mean (w ∷ ws) [] e = cc
-all_mean (w ∷ ws) (i ∷ is) e = (
-  (meaning_iff w i).0 (let first : meaning w ≡ Some i = cc in first),
-  all_mean ws is (let rest : map meaning ws ≡ map Some is = cc in rest),
-)
+all_mean (w ∷ ws) (i ∷ is) e = grind (arith, meaning_iff, all_mean ws is)
 
 -- and such a table has line j at 4 * j
 
@@ -63,10 +58,7 @@ at_in (w ∷ ws) zero i is = (omega arith, let same : meaning w ≡ Some i = cc 
 at_in (w ∷ ws) (suc j) i is = let more = at_in ws j i is in (omega (arith, more.0), more.1)
 
 pub at_line : (s : HartState) (j : ℕ) {i : Instr} → s.pc ≡ 4 * j → slice_get (map meaning s.code) j ≡ Some (Some i) → IsAt s i
-at_line s j {i} pc is =
-    let both = at_in s.code j i is in
-    let place : s.pc / 4 ≡ j = omega arith in
-    record { inside = omega (arith, pc, both.0); says = ap (λ q. meaning (slice_index s.code q)) place ∙ both.1 }
+at_line s j pc is = grind (arith, at_in)
 
 -- ---- a line by its instruction
 

@@ -14,9 +14,7 @@ pub senders-last : (code : List ℕ) (S : Layout) (j : ℕ) (lists : List (List 
     → senders_from code S j (lists ++ ws ∷ []) ≡ senders_from code S j lists
     ++ record { code = code; registers = sender_registers S i; inbox = ws } ∷ []
 senders-last code S j [] ws i at = let same : j ≡ i = omega arith in rw same refl
-senders-last code S j (xs ∷ lists) ws i at =
-    ap (λ hs. record { code = code; registers = sender_registers S j; inbox = xs } ∷ hs)
-    (senders-last code S (j + 1) lists ws i (omega arith))
+senders-last code S j (xs ∷ lists) ws i at = grind (arith, senders-last code S (j + 1) lists ws i)
 
 abbrev pub items_of : Vec ℕ Global → List ℕ
 items_of v = v.items
@@ -67,8 +65,4 @@ lists-all lists n past all = subst (λ (vs : List (Vec ℕ Global)). All AreWord
 pub list-found : (lists : List (Vec ℕ Global)) (i j : ℕ) (list : Vec ℕ Global) → i < length lists
     → list ≡ get_or lists i list → ZeroAt list.items j → All AreWords (map items_of (take i lists))
     → ZeroWordAt (map items_of lists) i j
-list-found lists i j list less is zero so_far = record {
-  within = omega (arith, length-map lists items_of, less);
-  zero = subst (λ (ws : List ℕ). ZeroAt ws j) (ap items_of is ∙ sym (get_or-map items_of lists i list [] less)) zero;
-  first = subst (All AreWords) (sym (take-map items_of i lists)) so_far;
-}
+list-found lists i j list less is zero so_far = grind (arith, length-map, get_or-map, All, take-map)

@@ -153,8 +153,7 @@ module _ (m : BlockMeaning) (g : Sender m) (k : Block) (n : Count m) (word : ℕ
   }
 
   pub still : m.Ordered k n → (here : ℕ) → Still here
-  still order here there written line holds nearer = goes here there need.Inner n.sender (λ w. written) tt line
-      order refl holds (λ free. nearer)
+  still order here there written line holds nearer = grind (arith, goes)
 
   -- where the line at this offset is that instruction
   pub at_in : (q : SenderRegisters) (inbox : List ℕ) (j : ℕ) {i : Instr}

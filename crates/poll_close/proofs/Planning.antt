@@ -21,7 +21,6 @@ use Rattle.step_machine.proofs.Balanced.{balanced}
 use Rattle.step_machine.proofs.Appended.{pending-last}
 use Rattle.step_machine.proofs.Stays.{pending-land, pending-other, land_of-other, store_of-other}
 use Rattle.memory.specs.declared.writes.Write.{Write}
-use Rattle.memory.specs.Writes.{write}
 use Rattle.hart.specs.declared.need.Report.{Report}
 use Rattle.hart.specs.declared.need.Report.TheVariants as report
 use Rattle.std.specs.Prelude.{map}
@@ -64,11 +63,7 @@ each_closed rs (suc n) all i less = at (is_closed rs n) refl all (cases_eq i n) 
     at false is both any more = cc
 
 pub open_one : (rs : List Report) (n i : ℕ) → i < n → is_closed rs i ≡ false → all_closed rs n ≡ false
-open_one rs n i less open_yet = at (all_closed rs n) refl
-  where
-    at : (b : Bool) → all_closed rs n ≡ b → all_closed rs n ≡ false
-    at false is = is
-    at true is = let closings : is_closed rs i ≡ true = each_closed rs n is i less in cc
+open_one rs n i less open_yet = grind (arith, each_closed)
 
 pub finished : (ring : Ring) (means : Meaning) (B M : ℕ) (t : History) → Cleans ring means → Stands ring means B M t → is_done t ≡ true → Finished t
 finished ring means B M t cleans s done = record {
@@ -103,8 +98,7 @@ module _ {ring : Ring} {means : Meaning} {B M : ℕ} where
   planned-done {t = t} cleans p done = record { history = t; run = p.run; finished = finished ring means B M t cleans p.stands done }
 
 drop_one : (ps : List Write) → 0 < length ps → length (drop 1 ps) < length ps
-drop_one [] some = absurd (omega arith)
-drop_one (p ∷ ps) some = omega arith
+drop_one ps some = grind arith
 
 pub record Less (t new : History) (h : ℕ) : Type 0 where
   pub fewer : length (pending h new.entries) < length (pending h t.entries)
@@ -128,34 +122,13 @@ lands_one B M t h o new kept hart some hap =
     ]
 
 pick : (g h : ℕ) (p : Write) (b : Bool) → length (if b then p ∷ [] else []) ≤ 1
-pick g h p true = omega arith
-pick g h p false = omega arith
+pick g h p b = grind arith
 
 few : (h : ℕ) (e : Entry) → is_land e ≡ false → length (drop (land_of h e) (store_of h e)) ≤ 1
-few h (entry.Inner g) act = omega arith
-few h (entry.Load g a width v) act = omega arith
-few h (entry.Store g a width v) act = pick g h (write a width v) (g == h)
-few h (entry.Amo g a old new) act = omega arith
-few h (entry.Fence g full) act = omega arith
-few h (entry.Next g w) act = omega arith
-few h (entry.Took g i w) act = omega arith
-few h (entry.Closed g i) act = omega arith
-few h (entry.Ended g) act = omega arith
-few h (entry.Stopped g why) act = omega arith
-few h (entry.Land g) act = cc
+few h e act = grind (arith, pick)
 
 elsewhere : (k : ℕ) (e : Entry) → is_land e ≡ false → k ≢ hart_of e → (store_of k e ≡ []) × (land_of k e ≡ 0)
-elsewhere k (entry.Inner g) act other = (refl, refl)
-elsewhere k (entry.Load g a width v) act other = (refl, refl)
-elsewhere k (entry.Store g a width v) act other = (store_of-other g k a width v other, refl)
-elsewhere k (entry.Amo g a old new) act other = (refl, refl)
-elsewhere k (entry.Fence g full) act other = (refl, refl)
-elsewhere k (entry.Next g w) act other = (refl, refl)
-elsewhere k (entry.Took g i w) act other = (refl, refl)
-elsewhere k (entry.Closed g i) act other = (refl, refl)
-elsewhere k (entry.Ended g) act other = (refl, refl)
-elsewhere k (entry.Stopped g why) act other = (refl, refl)
-elsewhere k (entry.Land g) act other = cc
+elsewhere k e act other = grind (arith, store_of-other)
 
 pub record Stepped (left : History → ℕ) (t new : History) (h : ℕ) : Type 0 where
   pub less : left new < left t
@@ -196,8 +169,7 @@ all_again t new h harts all others none k within =
     ]
 
 pub not_done : (b d : Bool) → b ≡ d → not b ≡ true → d ≡ false
-not_done true d same on = cc
-not_done false d same on = sym same
+not_done b d same on = grind arith
 
 -- one turn: the chosen hart has acted
 pub record Turned (ring : Ring) (means : Meaning) (B M : ℕ) (left : History → ℕ) (start : History) (evs : List Event) (t new : History) (h : ℕ) : Type 0 where
@@ -255,9 +227,7 @@ turn_quiet {t = t} {mid} {h} all turn none = record {
 -- what ran the events of a history's own entries is that history
 pub same_run : (B M : ℕ) (t new : History) (o : Start) (evs : List Event) → IsOwnRun B M t → o ≡ t.opening
     → evs ≡ map event_of t.entries → RunFrom B M (unrun o) evs new → new ≡ t
-same_run B M t new o evs own opening events run = run-one B M (unrun t.opening) (map event_of t.entries) new t
-    (subst (λ (es : List Event). RunFrom B M (unrun t.opening) es new) events
-    (subst (λ (p : Start). RunFrom B M (unrun p) evs new) opening run)) own
+same_run B M t new o evs own opening events run = grind (arith, run-one)
 
 -- the last report, if there is one, tells whether the reports end in a word
 last_at : (rs : List Report) (k : ℕ) (x : Report) → suc k ≡ length rs → slice_get rs k ≡ Some x → ends_in_word rs ≡ is_word x
@@ -368,8 +338,7 @@ landed_more es h before none k below = elim (cases_eq k h) [
 -- ---- such a plan exists, whether or not it is computed
 
 done_or : (b : Bool) → (b ≡ true) ⊎ (b ≡ false)
-done_or true = inl refl
-done_or false = inr refl
+done_or b = grind arith
 
 module _ (ring : Ring) (means : Meaning) (left next : ℕ → History → ℕ) (keeps : Keeps ring means)
     (cleans : Cleans ring means) (falls : Decreases ring means left next) (B M : ℕ) (some : 1 ≤ B) (start : History)

@@ -1,10 +1,9 @@
 -- From what a ring shows of one block to the law of the plan: where nothing is pending and some sender is
 -- not reported closed, the hart that comes next can act, and less is left after its act.
 use Rattle.std.proofs.Common.{◌==◌, ℕ, zero, suc, ◌+◌, ◌-◌, ◌%◌, ◌<◌, ◌≤◌, ◌≡◌, ◌≢◌, ◌⊎◌, inl, inr, Bool, true, false}
-use Rattle.std.proofs.Common.{not, ◌&&◌, if◌then◌else◌, List, [], ◌∷◌, ◌++◌, length, take, min, length-take, Some, None}
+use Rattle.std.proofs.Common.{not, ◌&&◌, if◌then◌else◌, List, [], ◌∷◌, ◌++◌, length, length-take, Some}
 use Rattle.std.proofs.Common.{refl, sym, ◌∙◌, ap, subst, arith, add-one, append-nil, lit<}
-use Rattle.std.specs.Prelude.{slice_index, unwrap_or}
-use Rattle.std.specs.List.{slice_index_or}
+use Rattle.std.specs.Prelude.{slice_index}
 use Rattle.std.proofs.lemmas.Bool.{cases_eq, and_parts}
 use Rattle.std.proofs.Math.Nat.{mul-div_cancel_left}
 use Rattle.hart.specs.State.{HartState}
@@ -12,11 +11,9 @@ use Rattle.hart.specs.Steps.{need_of, advanced}
 use Rattle.hart.specs.declared.status.Status.{Status}
 use Rattle.hart.specs.declared.status.Status.TheVariants as status
 use Rattle.hart.specs.declared.need.Need.{Need}
-use Rattle.hart.specs.declared.need.Need.TheVariants as need
 use Rattle.hart.specs.declared.need.Report.{Report}
 use Rattle.hart.specs.declared.need.Report.TheVariants as report
 use Rattle.memory.specs.declared.writes.Write.{Write}
-use Rattle.memory.specs.Writes.{newest_word}
 use Rattle.step_machine.specs.declared.events.Event.TheVariants as event
 use Rattle.step_machine.specs.declared.events.Entry.{Entry}
 use Rattle.step_machine.specs.declared.events.Entry.TheVariants as entry
@@ -37,9 +34,9 @@ use Rattle.poll_close.specs.Rankings.{Ranking, Around, around, Nearer, Decreases
 use Rattle.poll_close.specs.Rankings.{runs, receiver_rank, receiver_rank_if, rank_by_states, rank_of, ring_size}
 use Rattle.poll_close.specs.Rankings.{ready_if, is_ready, next_of, next_by}
 use Rattle.poll_close.specs.Plans.{AllLanded, is_closed, is_done, senders_of}
-use Rattle.poll_close.specs.Invariant.Blocks.{Block, block_of, as_writes, to_block}
-use Rattle.poll_close.specs.Invariant.ReceiverState.{ReceiverRegisters, whole_of, receiver_of, receiving, received, receives, closings_due}
-use Rattle.poll_close.specs.Invariant.BlockMeaning.{BlockMeaning, unsent_of, unread_of, ReceiverIs, rows_of, ranking_of}
+use Rattle.poll_close.specs.Invariant.Blocks.{Block, block_of, as_writes}
+use Rattle.poll_close.specs.Invariant.ReceiverState.{ReceiverRegisters, whole_of, receiver_of, receives, closings_due}
+use Rattle.poll_close.specs.Invariant.BlockMeaning.{BlockMeaning, unsent_of, unread_of, rows_of, ranking_of}
 use Rattle.poll_close.specs.Invariant.Channels.{Channel, means_by}
 use Rattle.poll_close.proofs.Acts.{Acted, acted, said_by}
 use Rattle.poll_close.proofs.Blocks.{IsBlock}
@@ -78,15 +75,7 @@ next_is ready (suc n) = at (ready (suc n)) refl (next_is ready n)
 
 -- a running hart with nothing pending can act
 no_wait : (B : ℕ) (ws : List Write) (n : Need) → 1 ≤ B → ws ≡ [] → HasToWait B ws n → ⊥
-no_wait B ws need.Inner some none wait = wait
-no_wait B ws (need.Load a width) some none wait = wait
-no_wait B ws (need.Store a width v) some none wait = let full : B ≤ length ws = wait in omega (arith, ap length none, full)
-no_wait B ws (need.Amo a op rs2) some none wait = wait none
-no_wait B ws (need.Fence full) some none wait = wait.1 none
-no_wait B ws (need.Next w) some none wait = wait
-no_wait B ws (need.Report r) some none wait = wait
-no_wait B ws need.Exit some none wait = wait
-no_wait B ws (need.Stop why) some none wait = wait
+no_wait B ws n some none wait = grind arith
 
 pub can_act : (B M : ℕ) (t : History) (h : ℕ) (s : HartState) → WellFormed B M t → state_of M t h ≡ Some s
     → s.status ≡ status.Running → 1 ≤ B → pending h t.entries ≡ [] → NoEntry B M t (event.Act h) → ⊥
@@ -101,21 +90,16 @@ no_writes [] none = refl
 no_writes (x ∷ xs) none = cc
 
 running_is : (st : Status) → is_running st ≡ true → st ≡ status.Running
-running_is status.Running is = refl
-running_is status.Ended is = cc
-running_is (status.Stopped why) is = cc
+running_is st is = grind arith
 
 not_true : (b : Bool) → not b ≡ true → b ≡ false
-not_true true is = cc
-not_true false is = refl
+not_true b is = grind arith
 
 pub not_false : (b : Bool) → not b ≡ false → b ≡ true
-not_false true is = refl
-not_false false is = cc
+not_false b is = grind arith
 
 not_ready : (a b : Bool) → (a && not b) ≡ false → a ≡ true → b ≡ true
-not_ready true b off on = not_false b off
-not_ready false b off on = cc
+not_ready a b off on = grind (arith, not_false)
 
 -- everything that is known of a channel's history, with nothing pending
 is_equal : (a b : ℕ) → (a == b) ≡ true → a ≡ b
@@ -157,8 +141,7 @@ module _ (m : BlockMeaning) (laws : BlockLaws m) (least : ℕ) (some_least : 1 �
   unsent j within = no_writes (unsent_of m (block_of M S lists j) (ch.numbers j)) (sym (ch.parts j within).sender.buffer ∙ quiet_buffer (j + 1) (omega arith))
 
   unread : (j : ℕ) (within : j < length lists) → unread_of m (block_of M S lists j) (ch.numbers j) ≡ []
-  unread j within = no_writes (unread_of m (block_of M S lists j) (ch.numbers j))
-      (sym (ch.parts j within).theirs ∙ ap (to_block (block_of M S lists j)) (quiet_buffer 0 (omega arith)))
+  unread j within = grind (arith, no_writes, quiet_buffer)
 
   -- what is left, over the lists and the ring size of the channel
   rank_is : (new : History) → new.opening ≡ t.opening
@@ -199,9 +182,7 @@ module _ (m : BlockMeaning) (laws : BlockLaws m) (least : ℕ) (some_least : 1 �
     running = running_is s.status is_on.0
 
     act_found : (a : ℕ) → a % 4 ≡ 0 → read t.opening t.entries (j + 1) a 4 ≡ word_in_memory t.opening t.entries a
-    act_found a aligned = read_is t (j + 1) a opens_words ch.written aligned
-        ∙ ap (λ ws. unwrap_or (newest_word a None ws) (word_in_memory t.opening t.entries a))
-        (quiet_buffer (j + 1) (omega arith))
+    act_found a aligned = grind (arith, read_is, opens_words, quiet_buffer)
 
     sender_falls : (e : Entry) → IsFor (event.Act (j + 1)) e → CanFollow B M t e → rank_of p M (with_entry t e) < rank_of p M t
     sender_falls e for_event can =
@@ -244,17 +225,11 @@ module _ (m : BlockMeaning) (laws : BlockLaws m) (least : ℕ) (some_least : 1 �
       (ap (is_closed rs) (let same : 0 + some_one.0 ≡ some_one.0 = omega arith in same) ∙ some_one.2)
 
   each_shut : (j : ℕ) → j < length lists → (ch.numbers j).receiver.closings ≤ 1
-  each_shut j less = omega (
-    arith,
-    laws.shut_done (block_of M S lists j) (ch.numbers j) (ch.parts j less).order,
-    laws.dones_one (block_of M S lists j) (ch.numbers j) (ch.parts j less).order,
-  )
+  each_shut j less = grind arith
 
   -- who is reported closed is noted so, and the other way round
   shut_said : (j : ℕ) → j < length lists → (ch.numbers j).receiver.closings ≢ 0 → is_closed rs j ≡ true
-  shut_said j less closings =
-      let old = (ch.reports.senders j less).said (omega (arith, closings, each_shut j less)) in
-      closed_from rs old.0 j old.1
+  shut_said j less closings = grind (arith, senders, each_shut, closed_from)
 
   owing : closings_due ch.receiver.place < ch.receiver.noted.x20
   owing =
@@ -269,15 +244,7 @@ module _ (m : BlockMeaning) (laws : BlockLaws m) (least : ℕ) (some_least : 1 �
 
   took_is : (j : ℕ) (less : j < length lists) → (ch.numbers j).receiver.took ≡ (ch.numbers j).receiver.tails
       → length (taken rs j) ≡ (ch.numbers j).receiver.took
-  took_is j less same =
-      let words : length (taken rs j) ≡ length (take ((ch.numbers j).receiver.took) (slice_index_or lists j [])) =
-      ap length (ch.reports.senders j less).words in
-      let long : length (take ((ch.numbers j).receiver.took) (slice_index_or lists j []))
-      ≡ min ((ch.numbers j).receiver.took) (length (slice_index_or lists j [])) =
-      length-take ((ch.numbers j).receiver.took) (slice_index_or lists j []) in
-      let most : (ch.numbers j).receiver.tails ≤ length (slice_index_or lists j []) =
-      laws.tails_all (block_of M S lists j) (ch.numbers j) (ch.parts j less).order in
-      omega (arith, words, long, same, most)
+  took_is j less same = grind (arith, senders, length-take)
 
   -- the receiver, where every sender waits or has ended
   module _ (idle : (i : ℕ) → i < length lists → is_ready p M t (i + 1) ≡ false) where
@@ -315,28 +282,10 @@ module _ (m : BlockMeaning) (laws : BlockLaws m) (least : ℕ) (some_least : 1 �
 
     -- it has not ended, since some sender is owed
     running_st : st.status ≡ status.Running
-    running_st = at (ch.receiver.place == 0x80) refl
-      where
-        at : (b : Bool) → (ch.receiver.place == 0x80) ≡ b
-            → (if b then received m.middle (whole_of receiver_block (length lists)) r
-            else receiving m.middle (whole_of receiver_block (length lists)) ch.receiver.place r).status
-            ≡ status.Running
-        at true over =
-            let end : ch.receiver.place ≡ 0x80 = is_equal ch.receiver.place 0x80 over in
-            let h : ReceiverIs m receiver_block b 0x80 (ch.numbers b).receiver r = subst
-            (λ (here : ℕ). ReceiverIs m receiver_block b here (ch.numbers b).receiver r) end ch.receiver.holds in
-            absurd (omega (arith, owing, h.1))
-        at false on = refl
+    running_st = grind (arith, is_equal, owing)
 
     idle_at : Idle m receiver_block b (length lists) ch.receiver.place (ch.numbers b) r rs (λ h. state_of M t h)
-    idle_at = record {
-      took = λ index same. ap (λ j. length (taken rs j)) index ∙ took_is b ch.receiver.known same;
-      closings = λ index closings. ap (is_closed rs) index ∙ shut_said b ch.receiver.known closings;
-      marked = λ index ended. marked (ap (λ j. runs (state_of M t (j + 1))) (sym index) ∙ not_true (runs (state_of M t (r.x22 + 1))) ended);
-      ready = λ index on. ready (ap (λ j. runs (state_of M t (j + 1))) (sym index) ∙ not_false (runs (state_of M t (r.x22 + 1))) on);
-      open_yet = some_is_open;
-      owing = owing;
-    }
+    idle_at = grind (arith, took_is, shut_said, marked, not_true, ready, not_false, some_is_open, owing)
 
     receiver_falls : (e : Entry) → IsFor (event.Act 0) e → CanFollow B M t e → rank_of p M (with_entry t e) < rank_of p M t
     unfolding Keeps

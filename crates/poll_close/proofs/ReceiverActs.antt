@@ -1,5 +1,5 @@
 -- An act of the receiver, over the whole channel.
-use Rattle.std.proofs.Common.{ℕ, ◌==◌, Bool, true, if◌then◌else◌, zero, suc, ◌+◌, ◌<◌, ◌≤◌, ◌≡◌, ◌≢◌, ◌⊎◌, inl, inr}
+use Rattle.std.proofs.Common.{ℕ, zero, suc, ◌+◌, ◌<◌, ◌≤◌, ◌≡◌, ◌≢◌, ◌⊎◌, inl, inr}
 use Rattle.std.proofs.Common.{false, List, [], ◌∷◌, ◌++◌, length, take, Some, None, refl, sym, ◌∙◌, ap, subst, arith}
 use Rattle.std.proofs.Common.{append-nil}
 use Rattle.std.specs.Prelude.{slice_index, unwrap_or}
@@ -11,7 +11,6 @@ use Rattle.hart.specs.State.{HartState}
 use Rattle.hart.specs.Steps.{need_of}
 use Rattle.hart.specs.declared.status.Status.TheVariants as status
 use Rattle.hart.specs.declared.need.Need.{Need}
-use Rattle.hart.specs.declared.need.Need.TheVariants as need
 use Rattle.hart.specs.declared.need.Report.{Report}
 use Rattle.hart.specs.declared.need.Report.TheVariants as report
 use Rattle.step_machine.specs.declared.events.Entry.{Entry}
@@ -44,15 +43,7 @@ use Rattle.poll_close.proofs.AllBlocks.{would_read, read_is, untouched}
 
 -- a need stores nothing or one pair
 stored_cases : (w : Need) → (stored_by w ≡ []) ⊎ ((x : ℕ × ℕ) × (stored_by w ≡ x ∷ []))
-stored_cases need.Inner = inl refl
-stored_cases (need.Load a width) = inl refl
-stored_cases (need.Store a width w) = inr ((a, w), refl)
-stored_cases (need.Amo a op rs2) = inl refl
-stored_cases (need.Fence full) = inl refl
-stored_cases (need.Next w) = inl refl
-stored_cases (need.Report r) = inl refl
-stored_cases need.Exit = inl refl
-stored_cases (need.Stop why) = inl refl
+stored_cases w = grind arith
 
 pub shuts_put : (m : BlockMeaning) (f : ℕ → Count m) (j : ℕ) (n : Count m) (count : ℕ) → j < count
     → all_closings m (put f j n) count + (f j).receiver.closings ≡ all_closings m f count + n.receiver.closings
@@ -133,10 +124,7 @@ module _ (m : BlockMeaning) (M : ℕ) (S : Layout) (lists : List (List ℕ)) (f 
 
   pub said_reports : (said : List Report) (n : Count m)
       → Says m (block_of M S lists b) b (f b).receiver n.receiver said → ReportPart m lists (rs ++ said) (put f b n)
-  said_reports said n (inl none) = subst (λ (ys : List Report). ReportPart m lists ys (put f b n)) (sym (ap (λ ys. rs ++ ys) none.0 ∙ append-nil rs)) (record {
-    clean = reports.clean;
-    senders = reports_put rs n (rw (none.1, none.2) (reports.senders b known)) (λ j within other. reports.senders j within);
-  })
+  said_reports said n (inl none) = grind (arith, put, append-nil, reports, reports_put)
   said_reports said n (inr (inl word)) = subst (λ (ys : List Report). ReportPart m lists (rs ++ ys) (put f b n)) (sym word.0)
       (one_said (report.Took b (slice_index (slice_index_or lists b []) ((f b).receiver.took))) n refl word.4
       (rw (word.1, word.2) (reports_took rs b (slice_index_or lists b []) ((f b).receiver.took) ((f b).receiver.closings) word.3 (reports.senders b known)))
@@ -154,15 +142,10 @@ module _ (m : BlockMeaning) (laws : BlockLaws m) (B M : ℕ) (S : Layout) (lists
     (parts : (i : ℕ) → i < length lists → BlockPart m (block_of M S lists i) M i t (f i))
     (part : ReceiverPart m M S lists t f) (reports : ReportPart m lists (reported 0 t.entries) f) where
   pub each_shut : (j : ℕ) → j < length lists → (f j).receiver.closings ≤ 1
-  each_shut j within =
-      omega (arith, laws.shut_done (block_of M S lists j) (f j) (parts j within).order, laws.dones_one (block_of M S lists j) (f j) (parts j within).order)
+  each_shut j within = grind (arith, parts)
 
   due_one : (here : ℕ) → closings_due here ≤ 1
-  due_one here = at (here == 0x60)
-    where
-      at : (b : Bool) → (if b then 1 else 0) ≤ 1
-      at true = omega arith
-      at false = omega arith
+  due_one here = grind arith
 
   pub small : part.noted.x20 ≤ 64
   small = omega (arith, few, due_one part.place, part.count)
@@ -277,10 +260,7 @@ module _ (m : BlockMeaning) (laws : BlockLaws m) (B M : ℕ) (S : Layout) (lists
           }
 
       each : (i : ℕ) → i < length lists → (i ≡ part.block) ⊎ (i ≢ part.block) → BlockPart m (block_of M S lists i) M i new (put f part.block n i)
-      each i within (inl same) =
-          subst (λ (z : Count m). BlockPart m (block_of M S lists i) M i new z)
-          (sym (ap (put f part.block n) same ∙ put_same f part.block n))
-          (subst (λ (z : ℕ). BlockPart m (block_of M S lists z) M z new n) (sym same) visited)
+      each i within (inl same) = grind (arith, put, put_same, visited)
       each i within (inr other) =
           subst (λ (z : Count m). BlockPart m (block_of M S lists i) M i new z)
           (sym (put_other f part.block n i other))

@@ -1,6 +1,6 @@
 -- The reasons of the receiver's rows, whatever the ring: from what holds at each line to what holds where it goes
 -- on, and nearer to its next report.
-use Rattle.std.proofs.Common.{ℕ, pos, negsuc, ◌+◌, ◌*◌, ◌≡◌, ◌⊎◌, inl, List, [], ◌∷◌, Option, Some, refl, ◌∙◌, ap}
+use Rattle.std.proofs.Common.{ℕ, ◌+◌, ◌*◌, ◌≡◌, ◌⊎◌, inl, [], ◌∷◌, Some, refl, ◌∙◌, ap}
 use Rattle.std.proofs.Common.{◌-◌, ◌<◌, ◌≤◌, ◌≢◌, ◌==◌, inr, true, false, not, ◌&&◌, length, sym, subst}
 use Rattle.std.proofs.Common.{add-zero, arith, lit<}
 use Rattle.std.specs.Prelude.{map, slice_index}

@@ -1,14 +1,12 @@
 -- What holds of the receiver goes on holding as others act and stores land.
-use Rattle.std.proofs.Common.{ℕ, zero, suc, ◌<◌, ◌≡◌, refl, List, [], length, sym, ◌∙◌, ap, subst, arith}
-use Rattle.std.specs.List.{slice_index_or}
+use Rattle.std.proofs.Common.{ℕ, zero, suc, ◌<◌, ◌≡◌, refl, List, length, sym, ◌∙◌, ap, subst, arith}
 use Rattle.hart.specs.declared.need.Report.{Report}
 use Rattle.step_machine.specs.History.{History}
 use Rattle.step_machine.specs.Paths.{state_of}
 use Rattle.poll_close.specs.Layout.{Layout}
-use Rattle.poll_close.specs.Reports.{Clean}
 use Rattle.poll_close.specs.Invariant.Blocks.{block_of}
 use Rattle.poll_close.specs.Invariant.BlockMeaning.{BlockMeaning, Taken, Count, AllReported, ReceiverIs}
-use Rattle.poll_close.specs.Invariant.Channels.{ReceiverPart, ReportsOf, ReportPart, all_closings}
+use Rattle.poll_close.specs.Invariant.Channels.{ReceiverPart, ReportPart, all_closings}
 use Rattle.poll_close.proofs.AllBlocks.{BlocksAfter}
 
 -- sums over all senders
@@ -16,10 +14,7 @@ pub shuts_same : (m : BlockMeaning) (f g : ℕ → Count m) (count : ℕ)
     → ((i : ℕ) → i < count → (g i).receiver.closings ≡ (f i).receiver.closings)
     → all_closings m g count ≡ all_closings m f count
 shuts_same m f g zero same = refl
-shuts_same m f g (suc i) same =
-    let last : (g i).receiver.closings ≡ (f i).receiver.closings = same i (omega arith) in
-    let more : all_closings m g i ≡ all_closings m f i = shuts_same m f g i (λ j less. same j (omega arith)) in
-    omega (arith, last, more)
+shuts_same m f g (suc i) same = grind (arith, shuts_same m f g i)
 
 -- an event that is not the receiver's act keeps its part, and what is reported
 module _ (m : BlockMeaning) (M : ℕ) (S : Layout) (lists : List (List ℕ)) (t new : History) (f : ℕ → Count m) (after : BlocksAfter m M S lists new f) where
@@ -40,12 +35,4 @@ module _ (m : BlockMeaning) (M : ℕ) (S : Layout) (lists : List (List ℕ)) (t 
   }
 
   pub reports_stay : (rs now : List Report) → now ≡ rs → ReportPart m lists rs f → ReportPart m lists now after.numbers
-  reports_stay rs now same part = record {
-    senders =
-        λ j within. subst (λ (o : Taken m.Own). ReportsOf now j (slice_index_or lists j []) o.took o.closings)
-        (sym (after.same j within))
-        (subst (λ (ys : List Report).
-        ReportsOf ys j (slice_index_or lists j []) ((f j).receiver.took) ((f j).receiver.closings)) (sym same)
-        (part.senders j within));
-    clean = subst (λ (ys : List Report). Clean ys lists) (sym same) part.clean;
-  }
+  reports_stay rs now same part = grind arith

@@ -66,17 +66,13 @@ module _ (ring : Ring) (means : Meaning) (B M : ℕ) where
   stands-goes t goes s = goes B M s.opens.lists s.opens.layout t s.opens.accepted s.meant
 
   pub stands-receiver : (t : History) → Stands ring means B M t → 0 < length t.opening.harts
-  stands-receiver t s =
-      let count : length t.opening.harts ≡ length (opening_over ring s.opens.lists s.opens.layout).harts =
-      ap (λ (o : Start). length o.harts) s.opens.opening in
-      omega (arith, count)
+  stands-receiver t s = grind arith
 
   -- one event, and a list of events, as a machine answers them
   pub stands-step : {E : Type 0} (old new : Progress) (ev : Event) (r : Result Outcome E) → Keeps ring means
       → Stands ring means B M old.history → IfOk r (λ o. Happens B M old.history ev o new.history) → OnErr r (new ≡ old)
       → Stands ring means B M new.history
-  stands-step old new ev (Ok o) keeps s happens same = stands-happens old.history ev o new.history keeps s happens
-  stands-step old new ev (Err e) keeps s happens same = subst (λ (p : Progress). Stands ring means B M p.history) (sym same) s
+  stands-step old new ev r keeps s happens same = grind (arith, stands-happens)
 
   pub stands-ran : {A E : Type 0} (old new : Progress) (evs : List Event) (r : Result A (ℕ × E)) → Keeps ring means
       → Stands ring means B M old.history → OnOk r (RunFrom B M old.history evs new.history)

@@ -2,7 +2,7 @@
 -- not landed.
 use Rattle.std.proofs.Common.{ℕ, zero, suc, ◌-◌, ◌<◌, ◌≤◌, ◌≡◌, ◌≢◌, ◌==◌, true, false, if◌then◌else◌, List, [], ◌∷◌}
 use Rattle.std.proofs.Common.{◌++◌, length, take, length-drop, length-take, min, Option, Some, None, refl, sym, ◌∙◌, ap}
-use Rattle.std.proofs.Common.{subst, arith, append-nil, eq-eqb, ◌+◌, ◌*◌, ◌⊎◌, inl, inr}
+use Rattle.std.proofs.Common.{arith, append-nil, eq-eqb, ◌+◌, ◌*◌, ◌⊎◌, inl, inr}
 use Rattle.std.specs.List.{slice_get}
 use Rattle.std.proofs.Math.ListN.{drop_of_length-le}
 use Rattle.std.proofs.lemmas.Bool.Decides.{nat_tests}
@@ -18,9 +18,7 @@ one_made (y ∷ ys) (suc k) (suc n) x less is = one_made ys k n x (omega arith) 
 
 -- the next store is made, or none
 pub window_made : (xs : List (ℕ × ℕ)) (k i j : ℕ) (made : List (ℕ × ℕ)) → k ≤ i → AreNext xs i j made → window xs k i ++ made ≡ window xs k j
-window_made xs k i j [] less next = append-nil (window xs k i) ∙ ap (window xs k) (sym next)
-window_made xs k i j (x ∷ []) less next = one_made xs k i x less next.1 ∙ ap (window xs k) (sym next.0)
-window_made xs k i j (x ∷ y ∷ more) less next = absurd next
+window_made xs k i j made less next = grind (arith, append-nil, one_made)
 
 -- the head of a window is the store of its number
 pub window_head : (xs : List (ℕ × ℕ)) (i j : ℕ) (x : ℕ × ℕ) (rest : List (ℕ × ℕ)) → window xs i j ≡ x ∷ rest
@@ -186,18 +184,9 @@ pair_is f g last (w ∷ ws) (suc (suc n)) x is =
 -- what holds of each of them
 pub singles_each : (P : ℕ × ℕ → Type 0) (each : ℕ → ℕ → ℕ × ℕ) (last : ℕ × ℕ) (ws : List ℕ)
     → ((k : ℕ) → k < length ws → P (each k (slice_index ws k))) → P last → Each P (singles each last ws)
-singles_each P each last ws all end n x is =
-    elim (single_is each last ws n x is) [
-      | inl of ↦ subst P (sym of.3) (all of.0 of.1)
-      | inr over ↦ subst P (sym over.1) end
-    ]
+singles_each P each last ws all end n x is = grind (arith, single_is)
 
 pub pairs_each : (P : ℕ × ℕ → Type 0) (f g : ℕ → ℕ → ℕ × ℕ) (last : ℕ × ℕ) (ws : List ℕ)
     → ((k : ℕ) → k < length ws → P (f k (slice_index ws k)) × P (g k (slice_index ws k))) → P last
     → Each P (pairs f g last ws)
-pairs_each P f g last ws all end n x is =
-    elim (pair_is f g last ws n x is) [
-      | inl of ↦ subst P (sym of.3) (all of.0 of.1).0
-      | inr (inl of) ↦ subst P (sym of.3) (all of.0 of.1).1
-      | inr (inr over) ↦ subst P (sym over.1) end
-    ]
+pairs_each P f g last ws all end n x is = grind (arith, pair_is)
