@@ -17,38 +17,21 @@ use Rattle.litmus_tokens.specs.Names.{core, begins_name, goes_on_name, is_spelle
 -- ---- a byte that is none of some others
 
 pub other_byte : (q : ℕ → Bool) (b x : ℕ) → q b ≡ false → q x ≡ true → is_byte b x ≡ false
-other_byte q b x none one = go (x == b) refl
-  where
-    go : (t : Bool) → (x == b) ≡ t → is_byte b x ≡ false
-    go true e = (let same = eqb-true x b e in let never = rw same at one in absurd cc)
-    go false e = e
+other_byte q b x none one = grind (arith, eqb-true)
 
 pub none_name : (b : ℕ) → goes_on_name b ≡ false → (text : List ℕ) → list_all goes_on_name text ≡ true → NonePass (is_byte b) text
 none_name b none [] all = tt
-none_name b none (x ∷ text) all =
-    let both = and_parts (goes_on_name x) (list_all goes_on_name text) all in
-    (other_byte goes_on_name b x none both.0, none_name b none text both.1)
+none_name b none (x ∷ text) all = grind (arith, and_parts, other_byte, none_name b none text)
 
 -- ---- what gaps round a text leave out
 
 none_behind : (p : ℕ → Bool) → ((x : ℕ) → is_gap x ≡ true → p x ≡ false) → (text : List ℕ) → NonePass p (without_leading is_gap text) → NonePass p text
 none_behind p gaps [] h = tt
-none_behind p gaps (x ∷ text) h = elim (cases_Bool (is_gap x)) [
-  | inl gap ↦ (gaps x gap, none_behind p gaps text (rw gap at h))
-  | inr solid ↦ (rw solid at h)
-]
+none_behind p gaps (x ∷ text) h = grind (arith, cases_Bool, none_behind p gaps text)
 
 none_before : (p : ℕ → Bool) → ((x : ℕ) → is_gap x ≡ true → p x ≡ false) → (text : List ℕ) → NonePass p (without_trailing is_gap text) → NonePass p text
 none_before p gaps [] h = tt
-none_before p gaps (x ∷ text) h = go (none_before p gaps text) (without_trailing is_gap text) refl h
-  where
-    alone : (b : Bool) → is_gap x ≡ b → NonePass p (onto_kept is_gap x []) → p x ≡ false
-    alone true gap k = gaps x gap
-    alone false solid k = (let one = rw solid at k in one.0)
-
-    go : (NonePass p (without_trailing is_gap text) → NonePass p text) → (ys : List ℕ) → without_trailing is_gap text ≡ ys → NonePass p (onto_kept is_gap x ys) → NonePass p (x ∷ text)
-    go rest [] is k = (alone (is_gap x) refl k, rest (rw is tt))
-    go rest (y ∷ ys) is k = (k.0, rest (rw is k.1))
+none_before p gaps (x ∷ text) h = grind (arith, none_before p gaps text)
 
 pub none_round : (b : ℕ) → is_gap b ≡ false → (text : List ℕ) → NonePass (is_byte b) (core text) → NonePass (is_byte b) text
 unfolding stripped
@@ -63,23 +46,16 @@ none_round_name b no_name no_gap text name is all = none_round b no_gap text (rw
 -- ---- names, digits and registers have a name's bytes
 
 pub name_bytes : (name : List ℕ) → is_name name ≡ true → list_all goes_on_name name ≡ true
-name_bytes [] is = absurd cc
-name_bytes (c ∷ rest) is =
-    let spelled = (and_parts (is_spelled (c ∷ rest)) (not (is_not (c ∷ rest))) is).0 in
-    (and_parts (begins_name c) (list_all goes_on_name (c ∷ rest)) spelled).1
+name_bytes name is = grind (arith, and_parts)
 
 digit_range : (d : ℕ) → digit_value d < 10 → (48 ≤ d) × (d < 58)
 digit_range d h = grind arith
 
 pub digit_begins_none : (d : ℕ) → digit_value d < 10 → begins_name d ≡ false
-digit_begins_none d h =
-    let range = digit_range d h in
-    rw (le-ltb 64 d (omega arith), le-ltb 96 d (omega arith), ne_eqb d 95 (λ same. omega arith)) refl
+digit_begins_none d h = grind (arith, digit_range, le-ltb, ne_eqb)
 
 digit_goes_on : (d : ℕ) → digit_value d < 10 → goes_on_name d ≡ true
-digit_goes_on d h =
-    let range = digit_range d h in
-    rw (digit_begins_none d h, lt-ltb 47 d (omega arith), lt-ltb d 58 (omega arith)) refl
+digit_goes_on d h = grind (arith, digit_range, digit_begins_none, lt-ltb)
 
 pub digit_bytes : (digits : List ℕ) → AllDigits 10 digits → list_all goes_on_name digits ≡ true
 digit_bytes [] h = refl
@@ -88,12 +64,7 @@ digit_bytes (d ∷ digits) h = rw (digit_goes_on d h.0, digit_bytes digits h.1) 
 -- what holds of each row's name holds of a text that is one
 row_passes : {R V : Type 0} (p : List ℕ → Bool) (name : R → List ℕ) (value : R → V) (rows : List R) (text : List ℕ) (v : V) → list_all (λ row. p (name row)) rows ≡ true → row_of name value rows text ≡ Some v → p text ≡ true
 row_passes p name value [] text v all e = absurd cc
-row_passes p name value (row ∷ rows) text v all e =
-    let both = and_parts (p (name row)) (list_all (λ other. p (name other)) rows) all in
-    elim (cases_Bool (bytes_eq (name row) text)) [
-      | inl passes ↦ subst (λ (t : List ℕ). p t ≡ true) ((bytes_eq-Decides (name row) text).0 passes) both.0
-      | inr other ↦ row_passes p name value rows text v both.1 (rw other at e)
-    ]
+row_passes p name value (row ∷ rows) text v all e = grind (arith, and_parts, cases_Bool, bytes_eq-Decides, row_passes p name value rows text v)
 
 pub register_bytes : (name : List ℕ) (register : Reg) → register_named name ≡ Some register → list_all goes_on_name name ≡ true
 unfolding register_named

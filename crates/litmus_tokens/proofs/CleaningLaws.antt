@@ -38,5 +38,4 @@ first_missing (c ∷ rest) zero le = absurd (omega arith)
 first_missing (c ∷ rest) (suc i) le = first_missing rest i (omega arith)
 
 pub is_first : (text : List ℕ) (i : ℕ) (got : Option (Bor ℕ)) → MatchOption got (length text ≤ i) (λ x. (i < length text) × HoldsAt (λ y. x.now ≡ y) text i) → option_copied got ≡ next_byte (drop i text)
-is_first text i None h = sym (first_missing text i h)
-is_first text i (Some x) h = ap (λ (c : ℕ). Some c) (h.1 0) ∙ sym (first_found text i h.0)
+is_first text i got h = grind (arith, first_missing, first_found)

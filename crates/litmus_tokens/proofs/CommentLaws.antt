@@ -9,8 +9,7 @@ use Rattle.litmus_tokens.specs.Cleaning.IsCleaned.{ended, commented, unclosed, l
 -- ---- bytes that are known by the tests
 
 is_second : (byte : ℕ) (rest : List ℕ) → is_next byte (next_byte rest) ≡ true → (behind : List ℕ) × (rest ≡ byte ∷ behind)
-is_second byte [] e = absurd cc
-is_second byte (d ∷ rest) e = let same = eqb-true d byte e in (rest, cc)
+is_second byte rest e = grind (arith, eqb-true)
 
 -- ---- the inside of a comment
 

@@ -13,28 +13,17 @@ use Rattle.litmus_tokens.proofs.Bytes.{digit_begins_none}
 
 magnitude_plain : (text : List ℕ) (n : ℕ) → IsMagnitude text n → (is_negative text ≡ false) × (is_name text ≡ false)
 magnitude_plain text n (decimal [] m says) = (refl, refl)
-magnitude_plain text n (decimal (a ∷ digits) m says) =
-    let range : (48 ≤ a) × (a < 58) = grind (arith, says.0.1.0) in
-    (and_right (nat_lt 0 (length (a ∷ digits))) (a == 45) (ne_eqb a 45 (λ same. omega arith)), rw (digit_begins_none a says.0.1.0) refl)
+magnitude_plain text n (decimal (a ∷ digits) m says) = grind (arith, and_right, ne_eqb, digit_begins_none)
 magnitude_plain text n (hex digits m says) = (and_right (nat_lt 0 (suc (suc (length digits)))) false refl, refl)
 
 -- ---- with a sign
 
 -- the word of a number below 0
 below_zero : (n : ℕ) → n ≤ 2 ^ 31 → word_from (neg_ℤ (pos n)) ≡ Some ((2 ^ 32 - n) % 2 ^ 32)
-below_zero zero le = refl
-below_zero (suc n) le =
-    let small : n < 2 ^ 31 = omega arith in
-    let same : 2 ^ 32 - 1 - n ≡ (2 ^ 32 - suc n) % 2 ^ 32 = omega arith in
-    rw (lt-ltb n (2 ^ 31) small) (ap (λ (w : ℕ). Some w) same)
+below_zero n le = grind (arith, lt-ltb)
 
 above_least : (n w : ℕ) → word_from (neg_ℤ (pos n)) ≡ Some w → n ≤ 2 ^ 31
-above_least zero w e = omega arith
-above_least (suc n) w e = go (nat_lt n (2 ^ 31)) refl
-  where
-    go : (t : Bool) → nat_lt n (2 ^ 31) ≡ t → suc n ≤ 2 ^ 31
-    go true x = omega (arith, ltb-true n (2 ^ 31) x)
-    go false x = (let never = rw x at e in absurd cc)
+above_least n w e = grind (arith, ltb-true)
 
 some_is : (a b : ℕ) → Some a ≡ Some b → a ≡ b
 some_is a b e = cc

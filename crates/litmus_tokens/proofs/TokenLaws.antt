@@ -23,20 +23,14 @@ not_or_less c rest other less = go (starts_with nat_eq (c ∷ rest) (codes "not"
     go false isnt = rw isnt less
 
 atom_less : (c : ℕ) (rest : List ℕ) (equation : Option Equation) → is_mark c ≡ false → LeavesLess (c ∷ rest) (atom_from equation (from_first is_mark (c ∷ rest)))
-atom_less c rest None other = tt
-atom_less c rest (Some equation) other = rw other (omega (arith, length-from_first is_mark rest))
+atom_less c rest equation other = grind (arith, length-from_first)
 
 unmarked_less : (c : ℕ) (rest : List ℕ) → is_mark c ≡ false → LeavesLess (c ∷ rest) (unmarked (c ∷ rest))
 unfolding unmarked
 unmarked_less c rest other = not_or_less c rest (atom_from (setting_at (before is_mark (c ∷ rest))) (from_first is_mark (c ∷ rest))) (atom_less c rest (setting_at (before is_mark (c ∷ rest))) other)
 
 paired_less : (c : ℕ) (rest : List ℕ) (token : Token) (second : ℕ) → LeavesLess (c ∷ rest) (paired token second rest)
-paired_less c [] token second = tt
-paired_less c (d ∷ rest) token second = go (d == second) refl
-  where
-    go : (b : Bool) → (d == second) ≡ b → LeavesLess (c ∷ d ∷ rest) (paired token second (d ∷ rest))
-    go true is = rw is (omega arith)
-    go false isnt = rw isnt tt
+paired_less c rest token second = grind arith
 
 begun_less : (text : List ℕ) → LeavesLess text (begun text)
 unfolding begun
@@ -52,9 +46,7 @@ begun_less (c ∷ rest) = go (c == 40) refl (c == 41) refl (c == 126) refl (c ==
     go false e1 false e2 false e3 false e4 false e5 = (let other : is_mark c ≡ false = rw (e1, e2, e3, e4, e5) refl in rw (e1, e2, e3, e4, e5) (unmarked_less c rest other))
 
 less_more : (short long : List ℕ) (b : Beginning) → length short ≤ length long → LeavesLess short b → LeavesLess long b
-less_more short long nothing le less = tt
-less_more short long (begins token rest) le less = omega arith
-less_more short long no_token le less = tt
+less_more short long b le less = grind arith
 
 pub leaves_less : (text : List ℕ) → LeavesLess text (beginning_of text)
 unfolding beginning_of

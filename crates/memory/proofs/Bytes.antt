@@ -11,18 +11,14 @@ use Rattle.memory.specs.Writes.{covers, byte_after, newest_of, joined, over, ove
 -- two numbers of bytes that agree are one
 pub joined-same : (f g : ℕ → ℕ) (n : ℕ) → ((i : ℕ) → i < n → f i ≡ g i) → joined f n ≡ joined g n
 joined-same f g zero same = refl
-joined-same f g (suc n) same =
-    let front : joined f n ≡ joined g n = joined-same f g n (λ i lt. same i (omega arith)) in
-    let last : f n ≡ g n = same n (omega arith) in
-    cc
+joined-same f g (suc n) same = grind (arith, joined-same f g n)
 
 -- a word is the number of its bytes
 pub word_of_bytes : (v : ℕ) → v < 2 ^ 32 → joined (λ i. byte_at i v) 4 ≡ v
 word_of_bytes v small = omega arith
 
 pub byte_below : (i v : ℕ) → byte_at i v < 256
-byte_below zero v = mod_below v 256 (omega arith)
-byte_below (suc i) v = mod_below (v / 256 ^ suc i) 256 (omega arith)
+byte_below i v = grind (arith, mod_below)
 
 -- a byte of a number of bytes
 pub byte_of_joined : (f : ℕ → ℕ) → ((i : ℕ) → f i < 256) → (i : ℕ) → i < 4 → byte_at i (joined f 4) ≡ f i
@@ -40,31 +36,17 @@ pub covers_yes : (w : Write) (a : ℕ) → w.addr ≤ a → a < w.addr + w.width
 covers_yes w a from below = rw (le-leb w.addr a from) (lt-ltb a (w.addr + w.width) below)
 
 pub covers_from : (w : Write) (a : ℕ) → covers w a ≡ true → (w.addr ≤ a) × (a < w.addr + w.width)
-covers_from w a held = at (nat_le w.addr a) (nat_lt a (w.addr + w.width)) refl refl held
-  where
-    at : (b c : Bool) → nat_le w.addr a ≡ b → nat_lt a (w.addr + w.width) ≡ c → b && c ≡ true → (w.addr ≤ a) × (a < w.addr + w.width)
-    at true true from below both = (leb-true w.addr a from, ltb-true a (w.addr + w.width) below)
-    at true false from below both = cc
-    at false c from below both = cc
+covers_from w a held = grind (arith, leb-true, ltb-true)
 
 -- a write of a whole word leaves its own value
 over_whole_byte : (w : Write) (i b : ℕ) → w.width ≡ 4 → WritesInWord w → i < 4 → byte_after w (w.addr / 4 * 4 + i) b ≡ byte_at i w.value
-over_whole_byte w i b whole small lt =
-    let is : covers w (w.addr / 4 * 4 + i) ≡ true = covers_yes w (w.addr / 4 * 4 + i) (omega arith) (omega arith) in
-    let offset : w.addr / 4 * 4 + i - w.addr ≡ i = omega arith in
-    ap (λ c. if c then byte_at (w.addr / 4 * 4 + i - w.addr) w.value else b) is ∙ ap (λ j. byte_at j w.value) offset
+over_whole_byte w i b whole small lt = grind (arith, covers_yes)
 
 pub over_whole : (w : Write) (word : ℕ) → w.width ≡ 4 → WritesInWord w → w.value < 2 ^ 32 → over w word ≡ w.value
-over_whole w word whole small fits =
-    joined-same (λ i. byte_after w (w.addr / 4 * 4 + i) (byte_at i word)) (λ i. byte_at i w.value) 4 (λ i lt. over_whole_byte w i (byte_at i word) whole small lt)
-    ∙ word_of_bytes w.value fits
+over_whole w word whole small fits = grind (arith, joined-same, over_whole_byte, word_of_bytes)
 
 byte_after_below : (w : Write) (a b : ℕ) → b < 256 → byte_after w a b < 256
-byte_after_below w a b small = at (covers w a)
-  where
-    at : (c : Bool) → (if c then byte_at (a - w.addr) w.value else b) < 256
-    at true = byte_below (a - w.addr) w.value
-    at false = small
+byte_after_below w a b small = grind (arith, byte_below)
 
 -- each byte of the word in which a write is, after it
 pub over_byte : (w : Write) (word i : ℕ) → i < 4 → byte_at i (over w word) ≡ byte_after w (w.addr / 4 * 4 + i) (byte_at i word)
@@ -73,15 +55,7 @@ over_byte w word i lt =
 
 -- a write covers no byte of another word
 pub covers_other : (w : Write) (a : ℕ) → WritesInWord w → (a / 4 ≡ w.addr / 4 → ⊥) → covers w a ≡ false
-covers_other w a small other = at (covers w a) refl
-  where
-    at : (b : Bool) → covers w a ≡ b → b ≡ false
-    at false is = refl
-    at true is =
-        let both : (w.addr ≤ a) × (a < w.addr + w.width) = covers_from w a is in
-        let from : w.addr ≤ a = both.0 in
-        let below : a < w.addr + w.width = both.1 in
-        absurd (other (omega arith))
+covers_other w a small other = grind (arith, covers_from)
 
 -- byte by byte, the word around an address after writes is what the last of them to cover it put there
 overlaid_byte-found : (a word : ℕ) (ws : List Write) (i b : ℕ) (found : Option ℕ) → All WritesInWord ws → i < 4 → byte_at i word ≡ unwrap_or found b → byte_at i (overlaid a word ws) ≡ unwrap_or (newest_of (a / 4 * 4 + i) found ws) b
@@ -111,15 +85,4 @@ overlaid_byte a word ws i small lt = overlaid_byte-found a word ws i (byte_at i 
 
 -- an access of n bytes to the word around its address, after writes to it
 pub overlaid_part : (a n : ℕ) (words : List ℕ) (ws : List Write) → All WritesInWord ws → IsInWord n a → joined (λ i. byte_at (a % 4 + i) (overlaid a (slice_index words (a / 4)) ws)) n ≡ joined (λ i. unwrap_or (newest_of (a + i) None ws) (byte_of words (a + i))) n
-overlaid_part a n words ws small within =
-    joined-same (λ i. byte_at (a % 4 + i) (overlaid a (slice_index words (a / 4)) ws)) (λ i. unwrap_or (newest_of (a + i) None ws) (byte_of words (a + i))) n (λ i lt. at i lt)
-  where
-    at : (i : ℕ) → i < n → byte_at (a % 4 + i) (overlaid a (slice_index words (a / 4)) ws) ≡ unwrap_or (newest_of (a + i) None ws) (byte_of words (a + i))
-    at i lt =
-        let place : a / 4 * 4 + (a % 4 + i) ≡ a + i = omega arith in
-        let word : (a + i) / 4 ≡ a / 4 = omega arith in
-        let byte : (a + i) % 4 ≡ a % 4 + i = omega arith in
-        overlaid_byte a (slice_index words (a / 4)) ws (a % 4 + i) small (omega arith)
-        ∙ ap (λ x. unwrap_or (newest_of x None ws) (byte_at (a % 4 + i) (slice_index words (a / 4)))) place
-        ∙ ap (λ j. unwrap_or (newest_of (a + i) None ws) (byte_at j (slice_index words (a / 4)))) (sym byte)
-        ∙ ap (λ q. unwrap_or (newest_of (a + i) None ws) (byte_at ((a + i) % 4) (slice_index words q))) (sym word)
+overlaid_part a n words ws small within = grind (arith, joined-same, overlaid_byte)

@@ -9,8 +9,7 @@ use Rattle.memory.specs.Writes.{joined}
 use Rattle.memory.proofs.Bytes.{joined-same}
 
 pub byte_at-is : (i v : ℕ) → byte_at i v ≡ v / 256 ^ i % 256
-byte_at-is zero v = omega arith
-byte_at-is (suc i) v = refl
+byte_at-is i v = grind arith
 
 some_bytes : (n : ℕ) → 0 < 256 ^ n
 some_bytes zero = omega arith
@@ -39,12 +38,7 @@ byte_low l f i n lt =
 
 pub joined-below : (f : ℕ → ℕ) → ((i : ℕ) → f i < 256) → (n : ℕ) → joined f n < 256 ^ n
 joined-below f small zero = omega arith
-joined-below f small (suc n) =
-    let front : joined f n < 256 ^ n = joined-below f small n in
-    let byte : f n ≤ 255 = omega (arith, small n) in
-    let product : f n * 256 ^ n ≤ 255 * 256 ^ n = mul-le (f n) (256 ^ n) 255 (256 ^ n) byte (omega arith) in
-    let power : 256 ^ suc n ≡ 256 ^ n * 256 = pow-suc 256 n in
-    omega arith
+joined-below f small (suc n) = grind (arith, mul-le (f n) (256 ^ n) 255 (256 ^ n), pow-suc 256 n, joined-below f small n)
 
 -- each byte of a number of bytes
 pub byte_of_joined-any : (f : ℕ → ℕ) → ((i : ℕ) → f i < 256) → (n i : ℕ) → i < n → byte_at i (joined f n) ≡ f i
@@ -70,13 +64,7 @@ byte_of_joined-any f small (suc n) i lt = at (i == n) refl (λ below. byte_of_jo
 -- a number of n bytes is that of its bytes
 pub joined_bytes : (v n : ℕ) → joined (λ i. byte_at i v) n ≡ v % 256 ^ n
 joined_bytes v zero = omega arith
-joined_bytes v (suc n) =
-    let front : joined (λ i. byte_at i v) n ≡ v % 256 ^ n = joined_bytes v n in
-    let split : v % (256 * 256 ^ n) ≡ (v / 256 ^ n % 256) * 256 ^ n + v % 256 ^ n = mod-mul v (omega arith) (some_bytes n) in
-    let power : 256 ^ suc n ≡ 256 * 256 ^ n = pow-suc 256 n ∙ omega arith in
-    let byte : byte_at n v * 256 ^ n ≡ (v / 256 ^ n % 256) * 256 ^ n = ap (λ b. b * 256 ^ n) (byte_at-is n v) in
-    let whole : v % 256 ^ suc n ≡ v % (256 * 256 ^ n) = ap (λ m. v % m) power in
-    omega arith
+joined_bytes v (suc n) = grind (arith, mod-mul, some_bytes, pow-suc, byte_at-is, joined_bytes v n)
 
 pub number_of_bytes : (f : ℕ → ℕ) (v n : ℕ) → v < 256 ^ n → ((i : ℕ) → i < n → byte_at i v ≡ f i) → v ≡ joined f n
 number_of_bytes f v n below same = sym (mod-eq_of_lt below) ∙ sym (joined_bytes v n) ∙ joined-same (λ i. byte_at i v) f n same

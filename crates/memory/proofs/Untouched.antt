@@ -11,10 +11,4 @@ later n m xs ys le same =
 
 -- a word before the place is written
 pub written_before : (M : ℕ) (words first : List ℕ) (n m i v : ℕ) → IsMemory M words first n → n ≤ m → i < m → m ≤ M → IsMemory M (set words i v) first m
-written_before M words first n m i v kept le within fits = record {
-  size = length-set words i v ∙ kept.size;
-  first_size = kept.first_size;
-  limit = kept.limit;
-  place = fits;
-  same = drop-set-lt m words i v within ∙ later n m words first le kept.same;
-}
+written_before M words first n m i v kept le within fits = grind (arith, length-set, drop-set-lt, later)

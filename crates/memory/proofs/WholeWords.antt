@@ -36,20 +36,13 @@ newest_byte-found a i found (w ∷ ws) aligned lt all =
 
 -- so does a read: of bytes over the bytes of a word, and of words
 pub read_byte_of_word : (a i word : ℕ) (ws : List Write) → a % 4 ≡ 0 → i < 4 → All IsWholeWord ws → unwrap_or (newest_of (a + i) None ws) (byte_at i word) ≡ byte_at i (unwrap_or (newest_word a None ws) word)
-read_byte_of_word a i word ws aligned lt all = ap (λ f. unwrap_or f (byte_at i word)) (newest_byte-found a i None ws aligned lt all) ∙ out (newest_word a None ws)
-  where
-    out : (o : Option ℕ) → unwrap_or (option_map (byte_at i) o) (byte_at i word) ≡ byte_at i (unwrap_or o word)
-    out None = refl
-    out (Some v) = refl
+read_byte_of_word a i word ws aligned lt all = grind (arith, newest_byte-found)
 
 -- what is found among words below 2 ^ 32 is one
 pub newest_word-small : (a word : ℕ) (found : Option ℕ) (ws : List Write) → unwrap_or found word < 2 ^ 32 → All IsWholeWord ws → unwrap_or (newest_word a found ws) word < 2 ^ 32
 newest_word-small a word found [] small all = small
-newest_word-small a word found (w ∷ ws) small all = newest_word-small a word (if w.addr == a then Some w.value else found) ws (at (w.addr == a)) (All-tail IsWholeWord w ws all)
-  where
-    at : (c : Bool) → unwrap_or (if c then Some w.value else found) word < 2 ^ 32
-    at true = (All-head IsWholeWord w ws all).small
-    at false = small
+newest_word-small a word found (w ∷ ws) small all = grind (arith, All-tail IsWholeWord w ws all, All-head IsWholeWord w ws all,
+    newest_word-small a word (if w.addr == a then Some w.value else found) ws)
 
 -- The law of word reads: of writes of whole words, those of `late` after those of `early`, over a word
 -- below 2 ^ 32, a word access at a multiple of 4 reads the last one at its address

@@ -51,5 +51,4 @@ lines_found text i e = grind (arith, slice_split_found, lines_of_parts-cons, len
 
 -- and is all that is left where there is none
 pub lines_whole : (text : List ℕ) → position (λ byte. byte == 10) text ≡ None → 0 < length text → lines text ≡ text ∷ []
-lines_whole [] e some = absurd (omega arith)
-lines_whole (byte ∷ text) e some = ap lines_of_parts (slice_split_whole (λ b. b == 10) (byte ∷ text) e) ∙ rw (eqb-suc-zero (length text)) refl
+lines_whole text e some = grind (arith, slice_split_whole, eqb-suc-zero)
