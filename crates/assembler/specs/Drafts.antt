@@ -25,10 +25,8 @@ pub record Line : Type 0 where
 -- how many words a statement makes
 abbrev pub size_of : Option Made → ℕ
 size_of None = 0
-size_of (Some (one i)) = 1
 size_of (Some (two i j)) = 2
-size_of (Some (jump rd name)) = 1
-size_of (Some (branch op rs1 rs2 name)) = 1
+size_of other = 1
 
 abbrev pub words_of : List Line → ℕ
 words_of [] = 0

@@ -120,15 +120,13 @@ pub data Kind : Type 0 where
 -- what it stands for
 abbrev pub Value : Kind → Type 0
 Value register = Reg
-Value upper = ℕ
-Value amount = ℕ
 Value short = ℤ
 Value word = ℤ
 Value address = Reg × ℤ
 Value pointer = Reg × ℤ
 Value near = Target
 Value far = Target
-Value set = ℕ
+Value other = ℕ
 
 abbrev pub value_in : (kind : Kind) → List ℕ → Result (Value kind) AsmFault
 value_in register text = register_in text

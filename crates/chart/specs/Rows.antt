@@ -18,12 +18,9 @@ sources_at before h a (suc n) = sources_at before h a n ++ source_of before h (a
 
 -- the sources of the bytes that an access of hart h reads
 abbrev pub sources_of : List Entry → ℕ → Access → List Source
-sources_of before h nothing = []
 sources_of before h (load a width v) = sources_at before h a width
-sources_of before h (store w) = []
 sources_of before h (exchange a old new) = sources_at before h a 4
-sources_of before h (fence full) = []
-sources_of before h land = []
+sources_of before h a = []
 
 -- the row of an entry after these
 abbrev pub row_after : List Entry → Entry → RowOf

@@ -51,16 +51,11 @@ enclosed (here ∷ around) f = Some (completed around here f)
 abbrev pub taken : Stage → Symbol → Option Stage
 taken (awaits around here) (symbol.Is place value) = Some (completed around here (is place value))
 taken (awaits around here) symbol.Not = Some (awaits around (record here { negations = here.negations + 1 }))
-taken (awaits around here) symbol.And = None
-taken (awaits around here) symbol.Or = None
 taken (awaits around here) symbol.Open = Some (awaits (here ∷ around) empty_group)
-taken (awaits around here) symbol.Close = None
-taken (has around here f) (symbol.Is place value) = None
-taken (has around here f) symbol.Not = None
 taken (has around here f) symbol.And = Some (awaits around (record here { conjuncts = Some (conjunction_of here f) }))
 taken (has around here f) symbol.Or = Some (awaits around (record { disjuncts = Some (disjunction_of here f); conjuncts = None; negations = 0 }))
-taken (has around here f) symbol.Open = None
 taken (has around here f) symbol.Close = enclosed around (disjunction_of here f)
+taken other s = None
 
 abbrev pub taken_from : Option Stage → Symbol → Option Stage
 taken_from None next = None

@@ -115,8 +115,4 @@ condition_of names final = record { quantifier = final.quantifier; formula = fin
 -- the locations in a token have the shapes of names
 abbrev pub TokenHasNames : token.Token → Type 0
 TokenHasNames (token.Token.atom equation) = HasNames equation
-TokenHasNames token.Token.negation = Unit {0}
-TokenHasNames token.Token.conjunction = Unit {0}
-TokenHasNames token.Token.disjunction = Unit {0}
-TokenHasNames token.Token.opening = Unit {0}
-TokenHasNames token.Token.closing = Unit {0}
+TokenHasNames t = Unit {0}

@@ -15,17 +15,10 @@ pub record StaysWithin (l : Layout) (n hart a width : ℕ) : Type 0 where
   pub below : a + width ≤ base_of l block + block_size l.size
 
 abbrev pub Touches : Layout → ℕ → Entry → Type 0
-Touches l n (entry.Inner h) = Unit {0}
 Touches l n (entry.Load h a width v) = StaysWithin l n h a width
 Touches l n (entry.Store h a width v) = StaysWithin l n h a width
 Touches l n (entry.Amo h a old new) = StaysWithin l n h a 4
-Touches l n (entry.Fence h full) = Unit {0}
-Touches l n (entry.Next h w) = Unit {0}
-Touches l n (entry.Took h i w) = Unit {0}
-Touches l n (entry.Closed h i) = Unit {0}
-Touches l n (entry.Ended h) = Unit {0}
-Touches l n (entry.Stopped h why) = Unit {0}
-Touches l n (entry.Land h) = Unit {0}
+Touches l n e = Unit {0}
 
 -- each entry with an address has it in such a block
 abbrev pub AllTouch : Layout → ℕ → List Entry → Type 0

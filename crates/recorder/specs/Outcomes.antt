@@ -112,15 +112,10 @@ outcome_rows =
 -- nothing to land
 abbrev pub may_have : Event → Outcome → Bool
 may_have (Act h) (Did e) = not (is_land e)
-may_have (Act h) Waited = true
 may_have (Act h) NothingToLand = false
-may_have (Act h) Over = true
-may_have (Act h) NoHart = true
 may_have (Land h) (Did e) = is_land e
 may_have (Land h) Waited = false
-may_have (Land h) NothingToLand = true
-may_have (Land h) Over = true
-may_have (Land h) NoHart = true
+may_have ev o = true
 
 -- The words say an outcome that the event can have.
 abbrev pub SaysOutcome : Event → List (List ℕ) → Outcome → Type 0

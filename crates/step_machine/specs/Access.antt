@@ -15,14 +15,9 @@ pub data Access : Type 0 where
   land : Access
 
 abbrev pub access_of : Entry → Access
-access_of (entry.Inner h) = nothing
 access_of (entry.Load h a width v) = load a width v
 access_of (entry.Store h a width v) = store (write a width v)
 access_of (entry.Amo h a old new) = exchange a old new
 access_of (entry.Fence h full) = fence full
-access_of (entry.Next h w) = nothing
-access_of (entry.Took h i w) = nothing
-access_of (entry.Closed h i) = nothing
-access_of (entry.Ended h) = nothing
-access_of (entry.Stopped h why) = nothing
 access_of (entry.Land h) = land
+access_of e = nothing

@@ -10,12 +10,9 @@ use Rattle.step_machine.specs.Entries.{pending, landed}
 
 -- an access that writes, if it does, a whole word
 abbrev pub WritesWord : Access → Type 0
-WritesWord nothing = Unit {0}
-WritesWord (load a width v) = Unit {0}
 WritesWord (store w) = IsWholeWord w
 WritesWord (exchange a old new) = IsWholeWord (write a 4 new)
-WritesWord (fence full) = Unit {0}
-WritesWord land = Unit {0}
+WritesWord a = Unit {0}
 
 abbrev pub AllWriteWords : List Entry → Type 0
 AllWriteWords [] = Unit {0}

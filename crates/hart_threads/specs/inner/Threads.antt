@@ -26,11 +26,9 @@ last_answer (Err e) = None
 -- how a thread ends by the answer of a call, if it does
 abbrev pub ending_of : {E : Type 0} → Result Outcome E → Option Ending
 ending_of (Ok outcome.Over) = Some ending.Over
-ending_of (Ok (outcome.Did e)) = None
-ending_of (Ok outcome.Waited) = None
-ending_of (Ok outcome.NothingToLand) = None
 ending_of (Ok outcome.NoHart) = Some ending.NoHart
 ending_of (Err e) = Some ending.NoMemory
+ending_of other = None
 
 -- a thread that was to make n calls ends so after these
 abbrev pub IsEnding : ℕ → Ending → Calls → Type 0
@@ -81,11 +79,9 @@ GotOn n s t = IsOver t ⊎ Goes n s t
 
 -- where a thread had what it needs, a hart in the bank and memory
 abbrev pub WhereDone : Ending → Type 0 → Type 0
-WhereDone ending.HeldBack P = P
-WhereDone ending.Over P = P
-WhereDone ending.TurnsDone P = P
 WhereDone ending.NoHart P = Unit {0}
 WhereDone ending.NoMemory P = Unit {0}
+WhereDone e P = P
 
 -- what n turns make of a seat, by its calls and how it ended, where the gate is open if unheld holds
 pub record Ran (unheld : Type 0) (n : ℕ) (s : SeatView) (e : Ending) (calls : Calls) (t : SeatView) : Type 0 where

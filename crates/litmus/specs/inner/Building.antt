@@ -60,16 +60,11 @@ with_close b (Some mark) = Some (with_operand (all_closed b.here b.steps) (take 
 abbrev pub built_at : Bool → Build → Symbol → Option Build
 built_at false b (symbol.Is place value) = Some (with_operand (b.steps ++ step.Is place value ∷ []) b.around b.here)
 built_at false b symbol.Not = Some (with_negation b)
-built_at false b symbol.And = None
-built_at false b symbol.Or = None
 built_at false b symbol.Open = Some (with_group b)
-built_at false b symbol.Close = None
-built_at true b (symbol.Is place value) = None
-built_at true b symbol.Not = None
 built_at true b symbol.And = Some (with_and b)
 built_at true b symbol.Or = Some (with_or b)
-built_at true b symbol.Open = None
 built_at true b symbol.Close = with_close b (slice_get b.around (length b.around - 1))
+built_at other b s = None
 
 unfoldable pub built : Build → Symbol → Option Build
 built b next = built_at b.has_operand b next

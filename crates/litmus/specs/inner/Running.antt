@@ -20,9 +20,7 @@ all_done value_of so_far (suc skip) (s ∷ rest) = all_done value_of so_far skip
 -- the place that a step asks for, if it asks for one, is there
 abbrev pub AsksThere : (harts locations : ℕ) → Step → Type 0
 AsksThere harts locations (step.Is place value) = IsThere harts locations place
-AsksThere harts locations step.Not = Unit {0}
-AsksThere harts locations (step.And skip) = Unit {0}
-AsksThere harts locations (step.Or skip) = Unit {0}
+AsksThere harts locations s = Unit {0}
 
 -- the places that some steps ask for, from the left
 abbrev pub step_places : List Step → List Place

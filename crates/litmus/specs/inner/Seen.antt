@@ -20,15 +20,11 @@ unless_seen seen p = cond (is_seen seen p) [] (p ∷ [])
 
 abbrev pub after_place : List Bool → Step → List Place
 after_place seen (step.Is p value) = unless_seen seen p
-after_place seen step.Not = []
-after_place seen (step.And skip) = []
-after_place seen (step.Or skip) = []
+after_place seen s = []
 
 abbrev pub after_seen : List Bool → Step → List Bool
 after_seen seen (step.Is p value) = slice_set seen (index_of p) true
-after_seen seen step.Not = seen
-after_seen seen (step.And skip) = seen
-after_seen seen (step.Or skip) = seen
+after_seen seen s = seen
 
 -- those that are left to be seen first among these steps
 abbrev pub left_to_see : List Bool → List Step → List Place
