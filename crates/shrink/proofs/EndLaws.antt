@@ -1,5 +1,5 @@
 -- How a list of events ends depends on its run alone.
-use Rattle.std.proofs.Common.{◌≡◌, ◌↔◌, ◌<◌, ℕ, Bool, IsTrue, List, length, sym, ap, subst, ◌∙◌}
+use Rattle.std.proofs.Common.{arith, ◌≡◌, ◌↔◌, ◌<◌, ℕ, Bool, IsTrue, List, length, sym, ap, subst, ◌∙◌}
 use Rattle.std.specs.Prelude.{map}
 use Rattle.step_machine.specs.declared.events.Event.{Event}
 use Rattle.step_machine.specs.History.{Start, History}
@@ -13,12 +13,7 @@ use Rattle.shrink.proofs.PartLaws.{part_of_part, part_of_run}
 pub run_ends : (B M : ℕ) (q : LitmusTest) (o : Start) (events : List Event) (t : History) (last : List ℕ)
     → o ≡ q.opening → Run B M o events t → IsFinished M t → last ≡ map (final_value M t) (left_sides q.condition)
     → EndsWith B M q events last
-run_ends B M q o events t last same run finished values = record {
-  history = t;
-  run = subst (λ (p : Start). Run B M p events t) same run;
-  finished = finished;
-  values = sym values;
-}
+run_ends B M q o events t last same run finished values = grind arith
 
 -- where these are the values of the one run, an answer by them is right
 pub ends_by_values : (B M : ℕ) (q : LitmusTest) (o : Start) (events : List Event) (t : History)
@@ -38,10 +33,4 @@ pub shrunk_of_run : (B M : ℕ) (q : LitmusTest) (o : Start) (given own answer :
     → last ≡ map (final_value M t) (left_sides q.condition) → own ≡ map event_of t.entries → IsPartOf answer own
     → EndsWith B M q answer last → ((i : ℕ) → i < length answer → EndsWith B M q (without i 1 answer) last → ⊥)
     → IsShrunk B M q given answer
-shrunk_of_run B M q o given own answer t last same run finished values is part ends minimal = record {
-  last = last;
-  given_ends = run_ends B M q o given t last same run finished values;
-  part = part_of_part answer (map event_of t.entries) given (subst (λ (es : List Event). IsPartOf answer es) is part) (part_of_run B M o given t run);
-  ends = ends;
-  minimal = minimal;
-}
+shrunk_of_run B M q o given own answer t last same run finished values is part ends minimal = grind (arith, run_ends, part_of_part, part_of_run)

@@ -36,8 +36,7 @@ part_without (suc from) count (ev ∷ es) =
 -- ---- the entries of a run
 
 event_of-for : (ev : Event) (e : Entry) → IsFor ev e → event_of e ≡ ev
-event_of-for (event.Act h) e for_it = rw (for_it.1, for_it.0) refl
-event_of-for (event.Land h) e for_it = ap event_of for_it
+event_of-for ev e for_it = grind arith
 
 -- the entries that some events add
 record Added (t : History) (evs : List Event) (new : History) : Type 0 where
@@ -59,10 +58,7 @@ added_first B M t mid new ev evs (outcome.Did e) happens added = record {
   after = added.after ∙ ap (λ (u : History). u.entries ++ added.es) happens.after ∙ append_assoc t.entries (e ∷ []) added.es;
   part = rw (event_of-for ev e happens.for_event) (with_first ev (map event_of added.es) evs added.part);
 }
-added_first B M t mid new ev evs outcome.Waited happens added = idle_first ev evs t mid new happens.after added
-added_first B M t mid new ev evs outcome.NothingToLand happens added = idle_first ev evs t mid new happens.after added
-added_first B M t mid new ev evs outcome.Over happens added = idle_first ev evs t mid new happens.after added
-added_first B M t mid new ev evs outcome.NoHart happens added = idle_first ev evs t mid new happens.after added
+added_first B M t mid new ev evs x happens added = idle_first ev evs t mid new happens.after added
 
 added_by : (B M : ℕ) (t : History) (evs : List Event) (new : History) → RunFrom B M t evs new → Added t evs new
 added_by B M t [] new run = record { es = []; after = ap (λ (u : History). u.entries) run ∙ sym (append-nil t.entries); part = empty }
@@ -70,6 +66,4 @@ added_by B M t (ev ∷ evs) new run = added_first B M t run.1 new ev evs run.0 r
 
 -- a run's entries come about by a part of its events
 pub part_of_run : (B M : ℕ) (o : Start) (evs : List Event) (t : History) → Run B M o evs t → IsPartOf (map event_of t.entries) evs
-part_of_run B M o evs t run =
-    let added = added_by B M (unrun o) evs t run in
-    subst (λ (es : List Entry). IsPartOf (map event_of es) evs) (sym added.after) added.part
+part_of_run B M o evs t run = grind (arith, added_by)

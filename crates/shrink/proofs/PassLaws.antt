@@ -22,41 +22,21 @@ pub record Passing (Ends : List Event → Type 0) (old now : List Event) (size f
   pub none_can : gone ≡ false → NoneBefore Ends now size from
 
 pub pass_start : (Ends : List Event → Type 0) (old : List Event) (size : ℕ) → Ends old → Passing Ends old old size 0 false
-pass_start Ends old size ends = record {
-  ends = ends;
-  part = part_whole old;
-  went = λ other. absurd cc;
-  stayed = λ _. refl;
-  none_can = λ _. record { pieces = 0; there = omega arith; none = λ k below. absurd (omega (arith, below)) };
-}
+pass_start Ends old size ends = grind (arith, part_whole)
 
 pub length-without : (from count : ℕ) (es : List Event) → from + count ≤ length es → length (without from count es) + count ≡ length es
-length-without from count es within =
-    omega (arith, within, length-append (take from es) (drop (from + count) es), length-take from es, length-drop (from + count) es)
+length-without from count es within = grind (arith, length-append, length-take, length-drop)
 
 -- the piece goes
 pub pass_without : (Ends : List Event → Type 0) (old now left : List Event) (size from count : ℕ) (gone : Bool)
     → Passing Ends old now size from gone → 1 ≤ count → from + count ≤ length now → left ≡ without from count now
     → Ends left → Passing Ends old left size from true
-pass_without Ends old now left size from count gone pass some within is ends = record {
-  ends = ends;
-  part = rw is (part_of_part (without from count now) now old (part_without from count now) pass.part);
-  went = λ _. shorter gone refl;
-  stayed = λ other. absurd cc;
-  none_can = λ other. absurd cc;
-}
-  where
-    less : length left < length now
-    less = rw is (omega (arith, length-without from count now within, some))
-
-    shorter : (b : Bool) → gone ≡ b → length left < length old
-    shorter true was = omega (arith, less, pass.went was)
-    shorter false same = subst (λ (es : List Event). length left < length es) (pass.stayed same) less
+pass_without Ends old now left size from count gone pass some within is ends = grind (arith,
+    part_of_part (without from count now) now old (part_without from count now) pass.part, part_without from count now,
+    length-without from count now within)
 
 without-min : (from size : ℕ) (es : List Event) → from ≤ length es → without from (min size (length es - from)) es ≡ without from size es
-without-min from size es within =
-    let same : from + min size (length es - from) ≡ min (from + size) (length es) = omega (arith, within) in
-    rw same (ap (λ (rest : List Event). take from es ++ rest) (drop_min (from + size) es))
+without-min from size es within = grind (arith, drop_min (from + size) es)
 
 -- the piece stays
 pub pass_beyond : (Ends : List Event → Type 0) (old now left : List Event) (size from count : ℕ) (gone : Bool)
