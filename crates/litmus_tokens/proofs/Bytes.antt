@@ -1,18 +1,18 @@
 -- Bytes that stand in no name, and where texts are cut at them.
-use Rattle.std.proofs.Common.{◌≡◌, ℕ, ◌<◌, ◌≤◌, Bool, true, false, not, ◌==◌, List, [], ◌∷◌, Option, Some, None, refl, subst, inl, inr, arith}
+use Rattle.std.proofs.Common.{◌≡◌, ℕ, ◌<◌, ◌≤◌, Bool, true, false, List, [], ◌∷◌, Option, Some, None, refl, arith}
 use Rattle.std.specs.List.{list_all}
 use Rattle.std.specs.Char.{digit_value}
 use Rattle.std.specs.Str.Parse.{AllDigits}
 use Rattle.std.proofs.lemmas.Bool.{cases_Bool, and_parts, eqb-true, ne_eqb, lt-ltb, le-ltb}
-use Rattle.texts.specs.Cutting.{is_byte, stripped, NonePass, without_leading, without_trailing, onto_kept}
+use Rattle.texts.specs.Cutting.{is_byte, stripped, NonePass, without_leading, without_trailing}
 use Rattle.rv_decode.specs.Registers.{register_named, register_names}
 use Rattle.rv_decode.specs.Tables.{row_of}
 use Rattle.rv_decode.specs.Meaning.{reg_of}
 use Rattle.rv_decode.specs.declared.instruction.Reg.{Reg}
-use Rattle.std.specs.Prelude.{option_map, bytes_eq}
+use Rattle.std.specs.Prelude.{option_map}
 use Rattle.std.proofs.lemmas.Slice.Eq.{bytes_eq-Decides}
 use Rattle.texts.specs.Pieces.{is_gap}
-use Rattle.litmus_tokens.specs.Names.{core, begins_name, goes_on_name, is_spelled, is_not, is_name}
+use Rattle.litmus_tokens.specs.Names.{core, begins_name, goes_on_name, is_name}
 
 -- ---- a byte that is none of some others
 

@@ -1,5 +1,5 @@
 -- The numbers that are read are those that stand there, and no name is one.
-use Rattle.std.proofs.Common.{◌≡◌, ℕ, suc, zero, ◌-◌, ◌%◌, ◌^◌, ◌<◌, ◌≤◌, Bool, true, false, ◌==◌, List, [], ◌∷◌, length, drop, Option, Some, None, refl, sym, ap, subst, ◌∙◌, arith}
+use Rattle.std.proofs.Common.{◌≡◌, ℕ, suc, ◌-◌, ◌%◌, ◌^◌, ◌≤◌, Bool, true, false, List, [], ◌∷◌, length, drop, Option, Some, None, refl, sym, subst, ◌∙◌, arith}
 use Rattle.std.specs.Prelude.{pos, neg_ℤ, nat_lt, option_map}
 use Rattle.std.proofs.lemmas.Bool.{and_right, ltb-true, lt-ltb, ne_eqb}
 use Rattle.texts.specs.Numbers.{IsMagnitude, is_negative, magnitude_of, integer_of}

@@ -1,12 +1,11 @@
 -- The bytes of a memory after a write.
-use Rattle.std.proofs.Common.{◌≡◌, ℕ, ◌+◌, ◌-◌, ◌*◌, ◌^◌, ◌%◌, ◌/◌, ◌<◌, ◌==◌, Bool, true, false, List, length, set, get_or, refl, sym, ◌∙◌, ap, arith}
-use Rattle.std.specs.Prelude.{if◌then◌else◌, slice_index}
-use Rattle.std.specs.Int.{byte_at}
+use Rattle.std.proofs.Common.{◌≡◌, ℕ, ◌+◌, ◌^◌, ◌%◌, ◌/◌, ◌<◌, List, length, set, get_or, arith}
+use Rattle.std.specs.Prelude.{slice_index}
 use Rattle.std.proofs.lemmas.Bool.{eqb-true, eqb-false}
 use Rattle.std.proofs.lemmas.Nat.{mod_below}
 use Rattle.std.proofs.lemmas.List.{get_or-set_same, get_or-set_other}
 use Rattle.memory.specs.declared.writes.Write.{Write}
-use Rattle.memory.specs.Writes.{covers, byte_after, over, byte_of, joined, WritesInWord}
+use Rattle.memory.specs.Writes.{byte_after, over, byte_of, joined, WritesInWord}
 use Rattle.memory.proofs.Bytes.{over_byte, covers_other, word_of_bytes, joined-same}
 
 -- a write to a list of words changes the bytes that it covers, and no other

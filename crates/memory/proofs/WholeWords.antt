@@ -41,8 +41,12 @@ read_byte_of_word a i word ws aligned lt all = grind (arith, newest_byte-found)
 -- what is found among words below 2 ^ 32 is one
 pub newest_word-small : (a word : ℕ) (found : Option ℕ) (ws : List Write) → unwrap_or found word < 2 ^ 32 → All IsWholeWord ws → unwrap_or (newest_word a found ws) word < 2 ^ 32
 newest_word-small a word found [] small all = small
-newest_word-small a word found (w ∷ ws) small all = grind (arith, All-tail IsWholeWord w ws all, All-head IsWholeWord w ws all,
-    newest_word-small a word (if w.addr == a then Some w.value else found) ws)
+newest_word-small a word found (w ∷ ws) small all = grind (
+  arith,
+  All-tail IsWholeWord w ws all,
+  All-head IsWholeWord w ws all,
+  newest_word-small a word (if w.addr == a then Some w.value else found) ws,
+)
 
 -- The law of word reads: of writes of whole words, those of `late` after those of `early`, over a word
 -- below 2 ^ 32, a word access at a multiple of 4 reads the last one at its address
