@@ -1,5 +1,5 @@
 -- The symbols that are taken are those with which a condition begins.
-use Rattle.std.proofs.Common.{◌≡◌, ◌∙◌, ap, List, [], ◌∷◌, ◌++◌, Option, Some, None, Ok, Err, refl}
+use Rattle.std.proofs.Common.{arith, ◌≡◌, ◌∙◌, ap, List, [], ◌∷◌, ◌++◌, Option, Some, None, Ok, Err, refl}
 use Rattle.litmus.specs.declared.symbols.Place.TheVariants as place
 use Rattle.litmus.specs.declared.symbols.Symbol.{Symbol}
 use Rattle.litmus.specs.declared.symbols.Symbol.TheVariants as symbol
@@ -41,8 +41,7 @@ begins_at symbols stage same =
     )
 
 begins-some : (symbols : List Symbol) (o : Option Stage) (b : Build) → stage_after symbols ≡ o → build_at o ≡ Some b → Begins symbols
-begins-some symbols None b same built = absurd (cc)
-begins-some symbols (Some stage) b same built = begins_at symbols stage same
+begins-some symbols o b same built = grind (arith, begins_at)
 
 pub begins_built : (symbols : List Symbol) (b : Build) → build_at (stage_after symbols) ≡ Some b → Begins symbols
 begins_built symbols b built = begins-some symbols (stage_after symbols) b refl built
@@ -53,18 +52,10 @@ all_taken-none (w ∷ symbols) = all_taken-none symbols
 
 pub begins_taken : (symbols : List Symbol) → stage_after symbols ≡ None → ¬ Begins symbols
 unfolding finished stage_after
-begins_taken symbols nowhere = λ begun.
-    let read : finished (symbols ++ begun.0) ≡ Ok begun.1 = finished_only (symbols ++ begun.0) begun.1 begun.2 in
-    let refused : finished (symbols ++ begun.0) ≡ Err tt =
-    ap (λ (o : Option Stage). or_misplaced (formula_at o))
-    (all_taken-append (Some (awaits [] empty_group)) symbols begun.0
-    ∙ ap (λ (o : Option Stage). all_taken o begun.0) nowhere
-    ∙ all_taken-none begun.0) in
-    absurd (cc)
+begins_taken symbols nowhere = grind (arith, finished_only, all_taken-append, all_taken-none)
 
 refused-none : (symbols : List Symbol) (next : Symbol) (o : Option Stage) → or_misplaced (with_symbol symbols next o) ≡ Err tt → o ≡ None
-refused-none symbols next None refused = refl
-refused-none symbols next (Some stage) refused = absurd (cc)
+refused-none symbols next o refused = grind arith
 
 pub refused_begins : (symbols : List Symbol) (next : Symbol) → symbol_added symbols next ≡ Err tt → ¬ Begins (symbols ++ next ∷ [])
 unfolding symbol_added

@@ -19,27 +19,25 @@ replicate_last (suc n) s = ap (λ (rest : List Step). s ∷ rest) (replicate_las
 
 pub steps_of-negated_by : (n : ℕ) (f : Formula) → steps_of (negated_by n f) ≡ steps_of f ++ replicate n step.Not
 steps_of-negated_by zero f = sym (append-nil (steps_of f))
-steps_of-negated_by (suc n) f =
-    ap (λ (s : List Step). s ++ step.Not ∷ []) (steps_of-negated_by n f)
-    ∙ append_assoc (steps_of f) (replicate n step.Not) (step.Not ∷ [])
-    ∙ ap (λ (s : List Step). steps_of f ++ s) (replicate_last n step.Not)
+steps_of-negated_by (suc n) f = grind (arith, append_assoc, replicate_last, steps_of-negated_by n f)
 
 abbrev building : List Frame → Frame → List Step → Build
 building around here steps = record { steps = steps; around = around; here = here; has_operand = true }
 
 pub with_operand-completed : (around : List Group) (g : Group) (f : Formula) → with_operand (steps_around (g ∷ around) ++ steps_of f) (marks_around around) (mark_of (steps_around around) g) ≡ build_of (completed around g f)
-with_operand-completed around g f =
-    ap (building (marks_around around) (mark_of (steps_around around) (record g { negations = 0 })))
-    (append_assoc (steps_around (g ∷ around)) (steps_of f) (replicate g.negations step.Not)
-    ∙ ap (λ (s : List Step). steps_around (g ∷ around) ++ s) (sym (steps_of-negated_by g.negations f)))
+with_operand-completed around g f = grind (arith, append_assoc, steps_of-negated_by)
 
 -- the step of an operator learns the length of what follows it
 pub set-operator : (front left right : List Step) (old : Step) (placed : ℕ → Step) → slice_set ((front ++ (left ++ old ∷ [])) ++ right) (length front + length left) (placed (length ((front ++ (left ++ old ∷ [])) ++ right) - (length front + length left) - 1)) ≡ front ++ (left ++ placed (length right) ∷ right)
-set-operator front left right old placed =
-    let same : (front ++ (left ++ old ∷ [])) ++ right ≡ (front ++ left) ++ old ∷ right = ap (λ (s : List Step). s ++ right) (sym (append_assoc front left (old ∷ []))) ∙ append_assoc (front ++ left) (old ∷ []) right in
-    let at : length front + length left ≡ length (front ++ left) = sym (length-append front left) in
-    let skip : length ((front ++ left) ++ old ∷ right) - length (front ++ left) - 1 ≡ length right = omega (arith, length-append (front ++ left) (old ∷ right)) in
-    rw (same, at, skip) (set-append_seam (front ++ left) old right (placed (length right)) ∙ append_assoc front left (placed (length right) ∷ right))
+set-operator front left right old placed = grind (
+  arith,
+  append_assoc front left (old ∷ []),
+  append_assoc (front ++ left) (old ∷ []) right,
+  append_assoc front left (placed (length right) ∷ right),
+  length-append front left,
+  length-append (front ++ left) (old ∷ right),
+  set-append_seam (front ++ left) old right (placed (length right)),
+)
 
 pub and_closed-law : (front : List Step) (c : Option Formula) (f : Formula) → and_closed (end_of (length front) c) ((front ++ and_steps c) ++ steps_of f) ≡ front ++ steps_of (conjoined c f)
 and_closed-law front None f = ap (λ (s : List Step). s ++ steps_of f) (append-nil front)
@@ -50,9 +48,7 @@ or_closed-law front None f = ap (λ (s : List Step). s ++ steps_of f) (append-ni
 or_closed-law front (Some left) f = set-operator front (steps_of left) (steps_of f) (step.Or 0) (λ n. step.Or n)
 
 pub all_closed-law : (front : List Step) (g : Group) (f : Formula) → all_closed (mark_of front g) (((front ++ or_steps g.disjuncts) ++ and_steps g.conjuncts) ++ steps_of f) ≡ front ++ steps_of (disjunction_of g f)
-all_closed-law front g f =
-    ap (λ (s : List Step). or_closed (end_of (length front) g.disjuncts) s) (and_closed-law (front ++ or_steps g.disjuncts) g.conjuncts f)
-    ∙ or_closed-law front g.disjuncts (conjunction_of g f)
+all_closed-law front g f = grind (arith, and_closed-law, or_closed-law)
 
 abbrev after_and : List Frame → Frame → List Step → Build
 after_and around here steps = record { steps = steps ++ step.And 0 ∷ []; around = around; here = record { or_at = here.or_at; and_at = Some (length steps); negations = here.negations }; has_operand = false }
@@ -67,20 +63,10 @@ abbrev awaiting_first : List Frame → List Step → ℕ → Build
 awaiting_first around steps or_at = record { steps = steps; around = around; here = record { or_at = Some or_at; and_at = None; negations = 0 }; has_operand = false }
 
 pub with_and-law : (around : List Group) (here : Group) (f : Formula) → with_and (build_of (has around here f)) ≡ build_of (awaits around (record here { conjuncts = Some (conjunction_of here f) }))
-with_and-law around here f =
-    let front : List Step = steps_around around ++ or_steps here.disjuncts in
-    let or_at : Option ℕ = end_of (length (steps_around around)) here.disjuncts in
-    ap (after_and (marks_around around) (mark_of (steps_around around) here)) (and_closed-law front here.conjuncts f)
-    ∙ ap (λ (s : List Step). awaiting (marks_around around) or_at here.negations s (length (front ++ steps_of (conjunction_of here f)))) (append_assoc front (steps_of (conjunction_of here f)) (step.And 0 ∷ []))
-    ∙ ap (λ (n : ℕ). awaiting (marks_around around) or_at here.negations (front ++ (steps_of (conjunction_of here f) ++ step.And 0 ∷ [])) n) (length-append front (steps_of (conjunction_of here f)))
+with_and-law around here f = grind (arith, and_closed-law, append_assoc, length-append)
 
 pub with_or-law : (around : List Group) (here : Group) (f : Formula) → with_or (build_of (has around here f)) ≡ build_of (awaits around (record { disjuncts = Some (disjunction_of here f); conjuncts = None; negations = 0 }))
-with_or-law around here f =
-    let front : List Step = steps_around around in
-    let left : List Step = steps_of (disjunction_of here f) in
-    ap (after_or (marks_around around)) (all_closed-law front here f)
-    ∙ ap (λ (s : List Step). awaiting_first (marks_around around) s (length (front ++ left))) (append_assoc front left (step.Or 0 ∷ []) ∙ sym (append-nil (front ++ (left ++ step.Or 0 ∷ []))))
-    ∙ ap (λ (n : ℕ). awaiting_first (marks_around around) ((front ++ (left ++ step.Or 0 ∷ [])) ++ []) n) (length-append front left)
+with_or-law around here f = grind (arith, all_closed-law, append_assoc, append-nil, length-append)
 
 pub slice_get-last : (marks : List Frame) (mark : Frame) → slice_get (marks ++ mark ∷ []) (length marks) ≡ Some mark
 slice_get-last [] mark = refl
@@ -90,10 +76,7 @@ pub length-last : (marks : List Frame) (mark : Frame) → length (marks ++ mark 
 length-last marks mark = omega (arith, length-append marks (mark ∷ []))
 
 pub with_close-law : (outer : List Group) (g here : Group) (f : Formula) → with_close (build_of (has (g ∷ outer) here f)) (slice_get (marks_around (g ∷ outer)) (length (marks_around (g ∷ outer)) - 1)) ≡ Some (build_of (completed outer g (disjunction_of here f)))
-with_close-law outer g here f =
-    let mark : Frame = mark_of (steps_around outer) g in
-    rw (length-last (marks_around outer) mark, slice_get-last (marks_around outer) mark, length-last (marks_around outer) mark, take-append_seam (marks_around outer) (mark ∷ []), all_closed-law (steps_around (g ∷ outer)) here f)
-    (ap (λ (b : Build). Some b) (with_operand-completed outer g (disjunction_of here f)))
+with_close-law outer g here f = grind (arith, length-last, slice_get-last, take-append_seam, all_closed-law, with_operand-completed)
 
 abbrev opened : List Frame → List Step → Option Build
 opened around steps = Some (record { steps = steps; around = around; here = empty_mark; has_operand = false })
@@ -101,15 +84,8 @@ opened around steps = Some (record { steps = steps; around = around; here = empt
 pub built-law : (stage : Stage) (next : Symbol) → built (build_of stage) next ≡ build_at (taken stage next)
 unfolding built
 built-law (awaits around here) (symbol.Is place value) = ap (λ (b : Build). Some b) (with_operand-completed around here (is place value))
-built-law (awaits around here) symbol.Not = refl
-built-law (awaits around here) symbol.And = refl
-built-law (awaits around here) symbol.Or = refl
 built-law (awaits around here) symbol.Open = ap (opened (marks_around around ++ mark_of (steps_around around) here ∷ [])) (sym (append-nil (steps_around (here ∷ around))) ∙ sym (append-nil (steps_around (here ∷ around) ++ [])))
-built-law (awaits around here) symbol.Close = refl
-built-law (has around here f) (symbol.Is place value) = refl
-built-law (has around here f) symbol.Not = refl
 built-law (has around here f) symbol.And = ap (λ (b : Build). Some b) (with_and-law around here f)
 built-law (has around here f) symbol.Or = ap (λ (b : Build). Some b) (with_or-law around here f)
-built-law (has around here f) symbol.Open = refl
-built-law (has [] here f) symbol.Close = refl
 built-law (has (g ∷ outer) here f) symbol.Close = with_close-law outer g here f
+built-law x y = refl

@@ -66,45 +66,17 @@ negated_by-stands zero symbols f stands = stands
 negated_by-stands (suc n) symbols f stands = negated (replicate n symbol.Not ++ symbols) (negated_by n f) (negated_by-stands n symbols f stands)
 
 completed-reached : (around : List Group) (here : Group) (f : Formula) (outer inner last symbols : List Symbol) → Around around outer → Front here inner → Stands operand last f → symbols ≡ (outer ++ inner) ++ last → Standing around (record here { negations = 0 }) (negated_by here.negations f) symbols
-completed-reached around here f outer inner last symbols outside front stands same =
-    record {
-      outer = outer;
-      ors = front.ors;
-      ands = front.ands;
-      last = replicate here.negations symbol.Not ++ last;
-      outside = outside;
-      or_front = front.or_front;
-      and_front = front.and_front;
-      stands = negated_by-stands here.negations last f stands;
-      none = refl;
-      is = same ∙ ap (λ (ws : List Symbol). (outer ++ ws) ++ last) front.is ∙ simp (append_assoc) refl;
-    }
+completed-reached around here f outer inner last symbols outside front stands same = grind (arith, negated_by-stands, append_assoc)
 
 replicate_last : (n : ℕ) (w : Symbol) → replicate n w ++ w ∷ [] ≡ replicate (n + 1) w
 replicate_last zero w = refl
 replicate_last (suc n) w = let next : suc n + 1 ≡ suc (n + 1) = omega arith in rw next (ap (λ (rest : List Symbol). w ∷ rest) (replicate_last n w))
 
 negation-reached : (around : List Group) (here : Group) (symbols : List Symbol) → Awaited around here symbols → Awaited around (record here { negations = here.negations + 1 }) (symbols ++ symbol.Not ∷ [])
-negation-reached around here symbols before =
-    record {
-      outer = before.outer;
-      inner = (before.front.ors ++ before.front.ands) ++ replicate (here.negations + 1) symbol.Not;
-      outside = before.outside;
-      front = record { ors = before.front.ors; ands = before.front.ands; or_front = before.front.or_front; and_front = before.front.and_front; is = refl };
-      is =
-          ap (λ (ws : List Symbol). ws ++ symbol.Not ∷ []) (before.is ∙ ap (λ (ws : List Symbol). before.outer ++ ws) before.front.is)
-          ∙ rw (← replicate_last here.negations symbol.Not) (simp (append_assoc) refl);
-    }
+negation-reached around here symbols before = grind (arith, replicate_last, append_assoc)
 
 group-reached : (around : List Group) (here : Group) (symbols : List Symbol) → Awaited around here symbols → Awaited (here ∷ around) empty_group (symbols ++ symbol.Open ∷ [])
-group-reached around here symbols before =
-    record {
-      outer = symbols ++ symbol.Open ∷ [];
-      inner = [];
-      outside = (before.outer, before.inner, before.outside, before.front, ap (λ (ws : List Symbol). ws ++ symbol.Open ∷ []) before.is);
-      front = record { ors = []; ands = []; or_front = refl; and_front = refl; is = refl };
-      is = sym (append-nil (symbols ++ symbol.Open ∷ []));
-    }
+group-reached around here symbols before = grind (arith, append-nil (symbols ++ symbol.Open ∷ []))
 
 and-reached : (around : List Group) (here : Group) (f : Formula) (symbols : List Symbol) → Standing around here f symbols → Awaited around (record here { conjuncts = Some (conjunction_of here f) }) (symbols ++ symbol.And ∷ [])
 and-reached around here f symbols before =
@@ -126,20 +98,13 @@ whole-stands : (around : List Group) (here : Group) (f : Formula) (symbols : Lis
 whole-stands around here f symbols before = disjoined-stands here.disjuncts before.ors (before.ands ++ before.last) (conjunction_of here f) before.or_front (conjoined-stands here.conjuncts before.ands before.last f before.and_front before.stands)
 
 or-reached : (around : List Group) (here : Group) (f : Formula) (symbols : List Symbol) → Standing around here f symbols → Awaited around (record { disjuncts = Some (disjunction_of here f); conjuncts = None; negations = 0 }) (symbols ++ symbol.Or ∷ [])
-or-reached around here f symbols before =
-    record {
-      outer = before.outer;
-      inner = (before.ors ++ (before.ands ++ before.last)) ++ symbol.Or ∷ [];
-      outside = before.outside;
-      front = record {
-        ors = (before.ors ++ (before.ands ++ before.last)) ++ symbol.Or ∷ [];
-        ands = [];
-        or_front = (before.ors ++ (before.ands ++ before.last), whole-stands around here f symbols before, refl);
-        and_front = refl;
-        is = sym (append-nil (((before.ors ++ (before.ands ++ before.last)) ++ symbol.Or ∷ []) ++ []) ∙ append-nil ((before.ors ++ (before.ands ++ before.last)) ++ symbol.Or ∷ []));
-      };
-      is = ap (λ (ws : List Symbol). ws ++ symbol.Or ∷ []) before.is ∙ simp (append_assoc) refl;
-    }
+or-reached around here f symbols before = grind (
+  arith,
+  whole-stands around here f symbols before,
+  append-nil (((before.ors ++ (before.ands ++ before.last)) ++ symbol.Or ∷ []) ++ []),
+  append-nil ((before.ors ++ (before.ands ++ before.last)) ++ symbol.Or ∷ []),
+  append_assoc,
+)
 
 close-reached : (around : List Group) (here : Group) (f : Formula) (symbols : List Symbol) → Standing around here f symbols → Reached (closed_into around (disjunction_of here f)) (symbols ++ symbol.Close ∷ [])
 close-reached [] here f symbols before = tt
@@ -152,20 +117,14 @@ close-reached (g ∷ around) here f symbols before =
 reached-taken : (stage : Stage) (symbols : List Symbol) (next : Symbol) → Reached (Some stage) symbols → Reached (taken stage next) (symbols ++ next ∷ [])
 reached-taken (awaits around here) symbols (symbol.Is place value) before = completed-reached around here (is place value) before.outer before.inner (symbol.Is place value ∷ []) (symbols ++ symbol.Is place value ∷ []) before.outside before.front (atom place value) (ap (λ (ws : List Symbol). ws ++ symbol.Is place value ∷ []) before.is)
 reached-taken (awaits around here) symbols symbol.Not before = negation-reached around here symbols before
-reached-taken (awaits around here) symbols symbol.And before = tt
-reached-taken (awaits around here) symbols symbol.Or before = tt
 reached-taken (awaits around here) symbols symbol.Open before = group-reached around here symbols before
-reached-taken (awaits around here) symbols symbol.Close before = tt
-reached-taken (has around here f) symbols (symbol.Is place value) before = tt
-reached-taken (has around here f) symbols symbol.Not before = tt
 reached-taken (has around here f) symbols symbol.And before = and-reached around here f symbols before
 reached-taken (has around here f) symbols symbol.Or before = or-reached around here f symbols before
-reached-taken (has around here f) symbols symbol.Open before = tt
 reached-taken (has around here f) symbols symbol.Close before = close-reached around here f symbols before
+reached-taken x symbols y before = tt
 
 reached-taken_from : (stage : Option Stage) (symbols : List Symbol) (next : Symbol) → Reached stage symbols → Reached (taken_from stage next) (symbols ++ next ∷ [])
-reached-taken_from None symbols next before = tt
-reached-taken_from (Some stage) symbols next before = reached-taken stage symbols next before
+reached-taken_from stage symbols next before = grind (arith, reached-taken)
 
 reached-all_taken : (stage : Option Stage) (before symbols : List Symbol) → Reached stage before → Reached (all_taken stage symbols) (before ++ symbols)
 reached-all_taken stage before [] reached = subst (λ (ws : List Symbol). Reached stage ws) (sym (append-nil before)) reached
@@ -173,13 +132,11 @@ reached-all_taken stage before (w ∷ symbols) reached =
     subst (λ (ws : List Symbol). Reached (all_taken (taken_from stage w) symbols) ws) (append_assoc before (w ∷ []) symbols) (reached-all_taken (taken_from stage w) (before ++ w ∷ []) symbols (reached-taken_from stage before w reached))
 
 found-at : (stage : Option Stage) (symbols : List Symbol) (f : Formula) → Reached stage symbols → or_misplaced (formula_at stage) ≡ Ok f → IsConditionOf symbols f
-found-at None symbols f reached same = absurd (cc)
-found-at (Some (awaits around here)) symbols f reached same = absurd (cc)
 found-at (Some (has [] here g)) symbols f reached same =
     let formula : disjunction_of here g ≡ f = cc in
     let all : symbols ≡ reached.ors ++ (reached.ands ++ reached.last) = reached.is ∙ ap (λ (ws : List Symbol). ws ++ (reached.ors ++ (reached.ands ++ reached.last))) reached.outside in
     subst (λ (ws : List Symbol). Stands disjunction ws f) (sym all) (subst (λ (h : Formula). Stands disjunction (reached.ors ++ (reached.ands ++ reached.last)) h) formula (whole-stands [] here g symbols reached))
-found-at (Some (has (h ∷ around) here g)) symbols f reached same = absurd (cc)
+found-at x symbols f reached same = absurd (cc)
 
 -- symbols that are read as a formula are a condition of it
 pub finished_found : (symbols : List Symbol) (f : Formula) → finished symbols ≡ Ok f → IsConditionOf symbols f

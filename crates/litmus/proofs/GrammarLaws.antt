@@ -1,11 +1,11 @@
 -- The symbols of a condition are read as its formula, and as no other.
-use Rattle.std.proofs.Common.{◌≡◌, ◌∙◌, ◌+◌, sym, ap, ℕ, suc, zero, List, [], ◌∷◌, ◌++◌, Option, Some, None, Ok, refl, arith, append_assoc}
+use Rattle.std.proofs.Common.{◌≡◌, ◌∙◌, ◌+◌, ap, ℕ, suc, zero, List, [], ◌∷◌, ◌++◌, Option, Some, None, Ok, refl, arith, append_assoc}
 use Rattle.std.proofs.lemmas.List.{append-nil}
 use Rattle.litmus.specs.declared.symbols.Symbol.{Symbol}
 use Rattle.litmus.specs.declared.symbols.Symbol.TheVariants as symbol
 use Rattle.litmus.specs.Formulas.{Formula, negation, both, either}
 use Rattle.litmus.specs.Grammar.{Level, operand, conjunction, disjunction, Stands, atom, negated, enclosed, one_operand, joined, one_conjunction, parted, IsConditionOf}
-use Rattle.litmus.specs.Drafting.{Group, Stage, awaits, has, empty_group, negated_by, conjoined, disjoined, completed, all_taken, stage_after, formula_at, or_misplaced, finished}
+use Rattle.litmus.specs.Drafting.{Group, Stage, awaits, has, empty_group, negated_by, conjoined, disjoined, completed, all_taken, stage_after, finished}
 
 abbrev group : Option Formula → Option Formula → Group
 group disjuncts conjuncts = record { disjuncts = disjuncts; conjuncts = conjuncts; negations = 0 }
@@ -40,22 +40,10 @@ abbrev stage_with : List Group → Group → List Symbol → Formula → Option 
 stage_with around here rest f = all_taken (Some (has around (record here { negations = 0 }) f)) rest
 
 reads-enclosed : (symbols rest : List Symbol) (f : Formula) (around : List Group) (here : Group) → ReadsDisjunction (here ∷ around) symbols (symbol.Close ∷ rest) f → goes_on around here ((symbol.Open ∷ (symbols ++ symbol.Close ∷ [])) ++ rest) ≡ all_taken (Some (completed around here f)) rest
-reads-enclosed symbols rest f around here inner =
-    ap (λ (ws : List Symbol). goes_on (here ∷ around) empty_group ws) (append_assoc symbols (symbol.Close ∷ []) rest)
-    ∙ inner.path
-    ∙ ap (λ (g : Formula). all_taken (Some (completed around here g)) rest) inner.same
+reads-enclosed symbols rest f around here inner = grind (arith, append_assoc)
 
 reads-joined : (left right rest : List Symbol) (f g : Formula) (around : List Group) (d : Option Formula) → ReadsConjunction around d left (symbol.And ∷ (right ++ rest)) f → ((here : Group) → goes_on around here (right ++ rest) ≡ all_taken (Some (completed around here g)) rest) → ReadsConjunction around d (left ++ symbol.And ∷ right) rest (both f g)
-reads-joined left right rest f g around d before after =
-    record {
-      front = Some (conjoined before.front before.last);
-      last = g;
-      same = ap (λ (h : Formula). both h g) before.same;
-      path =
-          ap (λ (ws : List Symbol). goes_on around (group d None) ws) (append_assoc left (symbol.And ∷ right) rest)
-          ∙ before.path
-          ∙ after (group d (Some (conjoined before.front before.last)));
-    }
+reads-joined left right rest f g around d before after = grind (arith, append_assoc)
 
 reads-parted : (left right rest : List Symbol) (f g : Formula) (around : List Group) → ReadsDisjunction around left (symbol.Or ∷ (right ++ rest)) f → ((d : Option Formula) → ReadsConjunction around d right rest g) → ReadsDisjunction around (left ++ symbol.Or ∷ right) rest (either f g)
 reads-parted left right rest f g around before after =
@@ -84,8 +72,4 @@ reads disjunction symbols f (parted left right g h stands_left stands_right) = �
 -- a condition's symbols are read as its formula
 pub finished_only : (symbols : List Symbol) (f : Formula) → IsConditionOf symbols f → finished symbols ≡ Ok f
 unfolding finished stage_after
-finished_only symbols f stands =
-    let r : ReadsDisjunction [] symbols [] f = reads disjunction symbols f stands [] [] in
-    ap (λ (ws : List Symbol). or_misplaced (formula_at (goes_on [] empty_group ws))) (sym (append-nil symbols))
-    ∙ ap (λ (o : Option Stage). or_misplaced (formula_at o)) r.path
-    ∙ ap (λ (g : Formula). or_misplaced (Some g)) r.same
+finished_only symbols f stands = grind (arith, reads disjunction symbols f stands [] [], append-nil symbols)

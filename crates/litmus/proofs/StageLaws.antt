@@ -1,12 +1,9 @@
 -- One more symbol, and the end of the symbols: stages against what is built.
-use Rattle.std.proofs.Common.{◌≡◌, ◌∙◌, ◌≤◌, ◌<◌, ◌+◌, sym, ap, subst, ℕ, true, false, suc, List, [], ◌∷◌, ◌++◌, length, Option, Some, None, Ok, Err, IfSome, refl, arith, length-append}
+use Rattle.std.proofs.Common.{◌≡◌, ◌∙◌, ◌≤◌, ◌<◌, ◌+◌, sym, ap, subst, ℕ, true, false, List, [], ◌∷◌, ◌++◌, length, Option, Some, None, Ok, Err, IfSome, refl, arith, length-append}
 use Rattle.litmus.specs.declared.symbols.Symbol.{Symbol}
-use Rattle.litmus.specs.declared.symbols.Symbol.TheVariants as symbol
 use Rattle.litmus.specs.declared.symbols.Step.{Step}
-use Rattle.litmus.specs.declared.symbols.Step.TheVariants as step
 use Rattle.litmus.specs.declared.symbols.Frame.{Frame}
 use Rattle.litmus.specs.declared.draft.ConditionError.{ConditionError}
-use Rattle.litmus.specs.declared.draft.ConditionError.TheVariants.{NoMemory, Misplaced}
 use Rattle.litmus.specs.Formulas.{Formula}
 use Rattle.litmus.specs.Steps.{steps_of, formula_of}
 use Rattle.litmus.specs.inner.StepLaws.{formula_of-steps_of}
@@ -27,27 +24,22 @@ some_same : {A : Type 0} (a b : A) → Some a ≡ Some b → a ≡ b
 some_same a b same = cc
 
 ok_some : (o : Option Build) (b : Build) → or_misplaced o ≡ Ok b → o ≡ Some b
-ok_some None b same = cc
-ok_some (Some a) b same = let inner : a ≡ b = cc in ap (λ (x : Build). Some x) inner
+ok_some o b same = grind arith
 
 err_none : (o : Option Build) → or_misplaced o ≡ Err tt → o ≡ None
-err_none None same = refl
-err_none (Some a) same = cc
+err_none o same = grind arith
 
 built-at : (o : Option Stage) (next : Symbol) (b : Build) → build_at o ≡ Some b → build_at (taken_from o next) ≡ built b next
-built-at None next b same = cc
-built-at (Some stage) next b same = sym (built-law stage next) ∙ ap (λ (x : Build). built x next) (some_same (build_of stage) b same)
+built-at o next b same = grind (arith, built-law, some_same)
 
 pub built-push : (symbols : List Symbol) (next : Symbol) (b : Build) → build_at (stage_after symbols) ≡ Some b → build_at (stage_after (symbols ++ next ∷ [])) ≡ built b next
 built-push symbols next b same = ap (λ (o : Option Stage). build_at o) (stage_after-push symbols next) ∙ built-at (stage_after symbols) next b same
 
 added-at : (symbols : List Symbol) (next : Symbol) (o : Option Stage) (b : Build) → build_at o ≡ Some b → or_misplaced (with_symbol symbols next o) ≡ Ok (symbols ++ next ∷ [])
-added-at symbols next None b same = cc
-added-at symbols next (Some stage) b same = refl
+added-at symbols next o b same = grind arith
 
 refused-at : (symbols : List Symbol) (next : Symbol) (o : Option Stage) → build_at o ≡ None → or_misplaced (with_symbol symbols next o) ≡ Err tt
-refused-at symbols next None same = refl
-refused-at symbols next (Some stage) same = cc
+refused-at symbols next o same = grind arith
 
 -- a symbol that is built on is recorded
 pub push_laid : (symbols : List Symbol) (next : Symbol) (b new : Build) → build_at (stage_after symbols) ≡ Some b → or_misplaced (built b next) ≡ Ok new → build_at (stage_after (symbols ++ next ∷ [])) ≡ Some new
@@ -60,8 +52,7 @@ push_added symbols next b new same done = added-at symbols next (stage_after (sy
 -- and one that isn't is refused
 pub push_refused : (symbols : List Symbol) (next : Symbol) (b : Build) (e : ConditionError) → build_at (stage_after symbols) ≡ Some b → IfSome (fault_of e) (λ fault. or_misplaced (built b next) ≡ Err fault) → IfSome (fault_of e) (λ fault. symbol_added symbols next ≡ Err fault)
 unfolding symbol_added
-push_refused symbols next b NoMemory same refused = tt
-push_refused symbols next b Misplaced same refused = refused-at symbols next (stage_after (symbols ++ next ∷ [])) (built-push symbols next b same ∙ err_none (built b next) refused)
+push_refused symbols next b e same refused = grind (arith, refused-at, built-push, err_none)
 
 -- ---- limits
 
@@ -82,64 +73,38 @@ few-more n [] few = tt
 few-more n (g ∷ around) few = (omega (arith, few.0), few-more n around few.1)
 
 few-enclosed : (n : ℕ) (around : List Group) (f : Formula) → Few n around → FewAfter (n + 1) (enclosed around f)
-few-enclosed n [] f few = tt
-few-enclosed n (g ∷ around) f few = (omega arith, few-more n around few.1)
+few-enclosed n around f few = grind (arith, few-more)
 
 few-taken : (n : ℕ) (stage : Stage) (next : Symbol) → FewAt n stage → FewAfter (n + 1) (taken stage next)
-few-taken n (awaits around here) (symbol.Is place value) few = (omega arith, few-more n around few.1)
-few-taken n (awaits around here) symbol.Not few = (omega (arith, few.0), few-more n around few.1)
-few-taken n (awaits around here) symbol.And few = tt
-few-taken n (awaits around here) symbol.Or few = tt
-few-taken n (awaits around here) symbol.Open few = (omega arith, (omega (arith, few.0), few-more n around few.1))
-few-taken n (awaits around here) symbol.Close few = tt
-few-taken n (has around here f) (symbol.Is place value) few = tt
-few-taken n (has around here f) symbol.Not few = tt
-few-taken n (has around here f) symbol.And few = (omega (arith, few.0), few-more n around few.1)
-few-taken n (has around here f) symbol.Or few = (omega arith, few-more n around few.1)
-few-taken n (has around here f) symbol.Open few = tt
-few-taken n (has around here f) symbol.Close few = few-enclosed n around (disjunction_of here f) few.1
+few-taken n stage next few = grind (arith, few-more, few-enclosed)
 
 few-taken_from : (n : ℕ) (stage : Option Stage) (next : Symbol) → FewAfter n stage → FewAfter (n + 1) (taken_from stage next)
-few-taken_from n None next few = tt
-few-taken_from n (Some stage) next few = few-taken n stage next few
+few-taken_from n stage next few = grind (arith, few-taken)
 
 few-all_taken : (n : ℕ) (stage : Option Stage) (symbols : List Symbol) → FewAfter n stage → FewAfter (n + length symbols) (all_taken stage symbols)
 few-all_taken n stage [] few = let same : n ≡ n + 0 = omega arith in subst (λ (m : ℕ). FewAfter m stage) same few
-few-all_taken n stage (w ∷ symbols) few =
-    let same : n + 1 + length symbols ≡ n + suc (length symbols) = omega arith in
-    subst (λ (m : ℕ). FewAfter m (all_taken (taken_from stage w) symbols)) same (few-all_taken (n + 1) (taken_from stage w) symbols (few-taken_from n stage w few))
+few-all_taken n stage (w ∷ symbols) few = grind (arith, few-taken_from, few-all_taken (n + 1) (taken_from stage w) symbols (few-taken_from n stage w few))
 
 few-at : (n : ℕ) (o : Option Stage) (b : Build) → build_at o ≡ Some b → FewAfter n o → b.here.negations ≤ n
-few-at n None b same few = absurd (cc)
-few-at n (Some (awaits around here)) b same few = subst (λ (x : Build). x.here.negations ≤ n) (some_same (build_of (awaits around here)) b same) few.0
-few-at n (Some (has around here f)) b same few = subst (λ (x : Build). x.here.negations ≤ n) (some_same (build_of (has around here f)) b same) few.0
+few-at n o b same few = grind (arith, some_same)
 
 pub few_negations : (symbols : List Symbol) (b : Build) → build_at (stage_after symbols) ≡ Some b → b.here.negations ≤ length symbols
 unfolding stage_after
-few_negations symbols b same =
-    let few : FewAfter (0 + length symbols) (all_taken (Some (awaits [] empty_group)) symbols) = few-all_taken 0 (Some (awaits [] empty_group)) symbols (omega arith, tt) in
-    omega (arith, few-at (0 + length symbols) (stage_after symbols) b same few)
+few_negations symbols b same = grind (arith, few-all_taken 0 (Some (awaits [] empty_group)) symbols, few-at (0 + length symbols) (stage_after symbols) b same)
 
 -- ---- places of the operators
 
 or-within : (front : List Step) (o : Option Formula) (n : ℕ) → length (front ++ or_steps o) ≤ n → IfSome (end_of (length front) o) (λ at. at < n)
-or-within front None n within = tt
-or-within front (Some f) n within = omega (arith, within, length-append front (steps_of f ++ step.Or 0 ∷ []), length-append (steps_of f) (step.Or 0 ∷ []))
+or-within front o n within = grind (arith, length-append)
 
 and-within : (front : List Step) (o : Option Formula) (n : ℕ) → length (front ++ and_steps o) ≤ n → IfSome (end_of (length front) o) (λ at. at < n)
-and-within front None n within = tt
-and-within front (Some f) n within = omega (arith, within, length-append front (steps_of f ++ step.And 0 ∷ []), length-append (steps_of f) (step.And 0 ∷ []))
+and-within front o n within = grind (arith, length-append)
 
 within-group : (front : List Step) (g : Group) (n : ℕ) → length ((front ++ or_steps g.disjuncts) ++ and_steps g.conjuncts) ≤ n → IsWithin n (mark_of front g)
-within-group front g n within =
-    record {
-      or_at = or-within front g.disjuncts n (omega (arith, within, length-append (front ++ or_steps g.disjuncts) (and_steps g.conjuncts)));
-      and_at = and-within (front ++ or_steps g.disjuncts) g.conjuncts n within;
-    }
+within-group front g n within = grind (arith, or-within, length-append, and-within)
 
 within-stage : (stage : Stage) → IsWithin (length (build_of stage).steps) (build_of stage).here
-within-stage (awaits around here) = within-group (steps_around around) here (length (steps_around (here ∷ around))) (omega arith)
-within-stage (has around here f) = within-group (steps_around around) here (length (steps_around (here ∷ around) ++ steps_of f)) (omega (arith, length-append (steps_around (here ∷ around)) (steps_of f)))
+within-stage stage = grind (arith, within-group, length-append)
 
 within-at : (o : Option Stage) (b : Build) → build_at o ≡ Some b → IsWithin (length b.steps) b.here
 within-at None b same = absurd (cc)
@@ -166,24 +131,14 @@ ends-at (has [] here f) complete = record { formula = disjunction_of here f; fou
 ends-at (has (g ∷ around) here f) complete = let open_still : is_empty (marks_around (g ∷ around)) ≡ false = last_not_empty (marks_around around) (mark_of (steps_around around) g) in absurd (cc)
 
 open-at : (stage : Stage) → is_finished (build_of stage) ≡ false → or_misplaced (formula_at (Some stage)) ≡ Err tt
-open-at (awaits around here) incomplete = refl
-open-at (has [] here f) incomplete = absurd (cc)
-open-at (has (g ∷ around) here f) incomplete = refl
+open-at stage incomplete = grind arith
 
 pub finished_complete : (symbols : List Symbol) (b : Build) → build_at (stage_after symbols) ≡ Some b → is_finished b ≡ true → Ends (stage_after symbols) b
-finished_complete symbols b same complete = go (stage_after symbols) same
-  where
-    go : (o : Option Stage) → build_at o ≡ Some b → Ends o b
-    go None same = absurd (cc)
-    go (Some stage) same = let here : build_of stage ≡ b = some_same (build_of stage) b same in subst (λ (x : Build). Ends (Some stage) x) here (ends-at stage (subst (λ (x : Build). is_finished x ≡ true) (sym here) complete))
+finished_complete symbols b same complete = grind (arith, some_same, ends-at)
 
 pub finished_open : (symbols : List Symbol) (b : Build) → build_at (stage_after symbols) ≡ Some b → is_finished b ≡ false → finished symbols ≡ Err tt
 unfolding finished
-finished_open symbols b same incomplete = go (stage_after symbols) same
-  where
-    go : (o : Option Stage) → build_at o ≡ Some b → or_misplaced (formula_at o) ≡ Err tt
-    go None same = refl
-    go (Some stage) same = open-at stage (subst (λ (x : Build). is_finished x ≡ false) (sym (some_same (build_of stage) b same)) incomplete)
+finished_open symbols b same incomplete = grind (arith, open-at, some_same)
 
 -- the steps of a formula are a condition's
 pub steps_again : (steps : List Step) (f : Formula) → steps ≡ steps_of f → steps_of (formula_of steps) ≡ steps
@@ -193,12 +148,8 @@ pub formula_again : (steps : List Step) (f : Formula) → steps ≡ steps_of f �
 formula_again steps f same = ap formula_of same ∙ formula_of-steps_of f
 
 pub condition_steps : (symbols : List Symbol) (b : Build) (steps : List Step) → build_at (stage_after symbols) ≡ Some b → is_finished b ≡ true → steps ≡ all_closed b.here b.steps → steps_of (formula_of steps) ≡ steps
-condition_steps symbols b steps same complete closed =
-    let ends : Ends (stage_after symbols) b = finished_complete symbols b same complete in
-    steps_again steps ends.formula (closed ∙ ends.steps)
+condition_steps symbols b steps same complete closed = grind (arith, finished_complete symbols b same complete, steps_again steps)
 
 pub finished_steps : (symbols : List Symbol) (b : Build) (steps : List Step) (f : Formula) → build_at (stage_after symbols) ≡ Some b → is_finished b ≡ true → steps ≡ all_closed b.here b.steps → f ≡ formula_of steps → finished symbols ≡ Ok f
 unfolding finished
-finished_steps symbols b steps f same complete closed answer =
-    let ends : Ends (stage_after symbols) b = finished_complete symbols b same complete in
-    ends.found ∙ ap (λ (g : Formula). or_misplaced (Some g)) (sym (formula_again steps ends.formula (closed ∙ ends.steps)) ∙ sym answer)
+finished_steps symbols b steps f same complete closed answer = grind (arith, finished_complete symbols b same complete, formula_again steps)

@@ -19,10 +19,7 @@ left_sides-steps f steps lefts same found = found ∙ ap firsts (ap step_places 
 
 -- in a machine with this number of harts and words
 pub condition_there : (q other : LitmusTest) (harts M : ℕ) → IsTest q → q ≡ other → harts ≡ length other.opening.harts → length other.names ≤ M → All (IsThere harts M) (places q.condition)
-condition_there q other harts M test same harts_same names_few =
-    let harts_many : length q.opening.harts ≤ harts = subst (λ (r : LitmusTest). length r.opening.harts ≤ harts) (sym same) (omega (arith, harts_same)) in
-    let names_fit : length q.names ≤ M = subst (λ (r : LitmusTest). length r.names ≤ M) (sym same) names_few in
-    AreThere-more (length q.opening.harts) harts (length q.names) M (places q.condition) harts_many names_fit test.places
+condition_there q other harts M test same harts_same names_few = grind (arith, AreThere-more)
 
 pub lefts_there : (q other : LitmusTest) (harts M : ℕ) (lefts : List Place) → IsTest q → q ≡ other → harts ≡ length other.opening.harts → length other.names ≤ M → lefts ≡ left_sides q.condition → All (IsThere harts M) lefts
 lefts_there q other harts M lefts test same harts_same names_few are =
