@@ -1,5 +1,5 @@
 -- Addresses and targets: what is read of them is what the grammar says.
-use Rattle.std.proofs.Common.{◌≡◌, ℕ, ◌<◌, ◌^◌, ◌%◌, Bool, true, false, not, ◌&&◌, ◌||◌, eqb, ltb, List, [], ◌∷◌, ◌++◌, length, Option, Some, None, Ok, refl, sym, ap, subst, ◌∙◌, inl, inr, arith, ℤ, pos, negsuc, append_assoc}
+use Rattle.std.proofs.Common.{◌≡◌, ℕ, ◌<◌, ◌^◌, Bool, true, false, not, ◌||◌, eqb, ltb, List, [], ◌∷◌, ◌++◌, length, Option, Some, None, Ok, refl, sym, ap, subst, ◌∙◌, inl, inr, arith, ℤ, pos, append_assoc}
 use Rattle.std.specs.Prelude.{neg_ℤ, int_lt, unsigned_abs, ◌≤ℤ◌, ◌<ℤ◌}
 use Rattle.std.specs.List.{list_all}
 use Rattle.std.specs.Char.{digit_value}
@@ -15,8 +15,8 @@ use Rattle.texts.proofs.ResultLaws.{ok_is, bind_ok}
 use Rattle.rv_decode.specs.Fits.{IsEven}
 use Rattle.rv_decode.specs.declared.instruction.Reg.{Reg}
 use Rattle.assembler.specs.declared.faults.AsmFault.{AsmFault}
-use Rattle.assembler.specs.Names.{is_name, begins_name, goes_on_name}
-use Rattle.assembler.specs.Operands.{register_in, Target, bytes, label, is_even, is_reached, in_reach, IsReached, target_in, closed, opened, base_in, or_zero, offset_in, address_in}
+use Rattle.assembler.specs.Names.{is_name, begins_name}
+use Rattle.assembler.specs.Operands.{register_in, Target, bytes, label, is_reached, in_reach, IsReached, target_in, closed, opened, base_in, or_zero, offset_in, address_in}
 use Rattle.texts.specs.Numbers.{IsMagnitude}
 use Rattle.texts.specs.Numbers.IsMagnitude.{decimal, hex}
 use Rattle.assembler.specs.Spelled.{IsNumber, IsRegister, IsOffset, IsAddress, IsTarget}
@@ -29,8 +29,7 @@ use Rattle.assembler.proofs.Leaves.{is_word_byte, is_operand_byte, Reads, all_we
 -- ---- names
 
 pub name_word : (t : List ℕ) → is_name t ≡ true → list_all is_word_byte t ≡ true
-name_word [] e = absurd cc
-name_word (c ∷ rest) e = all_weaker goes_on_name is_word_byte (λ d h. rw h refl) (c ∷ rest) (and_parts (begins_name c) (list_all goes_on_name (c ∷ rest)) e).1
+name_word t e = grind (arith, all_weaker, is_word_byte, and_parts)
 
 begins_test : ℕ → Bool
 begins_test c = not (ltb (digit_value c) 10) || not (begins_name c)
@@ -41,21 +40,17 @@ all_begins_test = refl
 
 digit_begins_none : (c : ℕ) → digit_value c < 10 → begins_name c ≡ false
 unfolding begins_test
-digit_begins_none c small =
-    let f : (not (ltb (digit_value c) 10) || not (begins_name c)) ≡ true = below_all 123 begins_test all_begins_test c (digit_low c (omega arith)) in
-    not-true (begins_name c) (rw (lt-ltb (digit_value c) 10 small) at f)
+digit_begins_none c small = grind (arith, ltb, below_all, begins_test, all_begins_test, digit_low, not-true, lt-ltb)
 
 digits_no_name : (ds : List ℕ) → AllDigits 10 ds → is_name ds ≡ false
-digits_no_name [] h = refl
-digits_no_name (c ∷ ds) h = rw (digit_begins_none c h.0) refl
+digits_no_name ds h = grind (arith, digit_begins_none)
 
 magnitude_no_name : (t : List ℕ) (n : ℕ) → IsMagnitude t n → is_name t ≡ false
 magnitude_no_name t n (decimal digits m says) = digits_no_name digits says.0.1
 magnitude_no_name t n (hex digits m says) = refl
 
 number_no_name : (t : List ℕ) (z : ℤ) → IsNumber t z → is_name t ≡ false
-number_no_name t z (plain text n is) = magnitude_no_name text n is
-number_no_name t z (negative text n is) = refl
+number_no_name t z h2 = grind (arith, magnitude_no_name)
 
 -- ---- targets
 
@@ -68,15 +63,10 @@ pub record IsReach (bound : ℤ) : Type 0 where
   pub high : bound <ℤ pos (2 ^ 31)
 
 small_reached : (bound z : ℤ) → IsReach bound → neg_ℤ bound ≤ℤ z → z <ℤ bound → unsigned_abs z < 2 ^ 32
-small_reached bound (pos n) reach low high = let a = reach.low in let b = reach.high in omega (arith, ints)
-small_reached bound (negsuc n) reach low high = let a = reach.low in let b = reach.high in omega (arith, ints)
+small_reached bound z reach low high = grind (arith, ints)
 
 pub reached_true : (bound z : ℤ) → is_reached bound z ≡ true → IsReached bound (bytes z)
-reached_true bound z passes =
-    let outer = and_parts (is_even z && not (int_lt z (neg_ℤ bound))) (int_lt z bound) passes in
-    let inner = and_parts (is_even z) (not (int_lt z (neg_ℤ bound))) outer.0 in
-    let above = not-true (int_lt z (neg_ℤ bound)) inner.1 in
-    (omega (arith, ints), omega (arith, ints, outer.1), eqb-true (unsigned_abs z % 2) 0 inner.0)
+reached_true bound z passes = grind (arith, and_parts, not-true, ints, eqb-true)
 
 record Reached (bound : ℤ) (o : Option ℤ) (to : Target) : Type 0 where
   number : ℤ
@@ -85,11 +75,7 @@ record Reached (bound : ℤ) (o : Option ℤ) (to : Target) : Type 0 where
   is : bytes number ≡ to
 
 reached : (bound : ℤ) (o : Option ℤ) (to : Target) → in_reach bound o ≡ Ok to → Reached bound o to
-reached bound None to e = absurd cc
-reached bound (Some z) to e = elim (cases_Bool (is_reached bound z)) [
-  | inl passes ↦ record { number = z; said = refl; near = reached_true bound z passes; is = ok_is AsmFault (bytes z) to (rw passes at e) }
-  | inr fails ↦ absurd (let f = rw fails at e in cc)
-]
+reached bound o to e = grind (arith, cases_Bool, reached_true, ok_is)
 
 target_found : (bound : ℤ) → IsReach bound → (t : List ℕ) (to : Target) → target_in bound t ≡ Ok to → IsTarget bound t to
 target_found bound reach t to e = elim (cases_Bool (is_name t)) [
@@ -100,30 +86,19 @@ target_found bound reach t to e = elim (cases_Bool (is_name t)) [
 ]
 
 less : (a b : ℤ) → a <ℤ b → int_lt a b ≡ true
-less a b lt = go (int_lt a b) refl
-  where
-    go : (c : Bool) → int_lt a b ≡ c → int_lt a b ≡ true
-    go true e = e
-    go false e = absurd (omega (arith, ints))
+less a b lt = grind (arith, ints)
 
 pub is_reached_only : (bound z : ℤ) → neg_ℤ bound ≤ℤ z → z <ℤ bound → IsEven z → is_reached bound z ≡ true
 is_reached_only bound z low high even = rw (even, not_less z (neg_ℤ bound) low, less z bound high) refl
 
 target_only : (bound : ℤ) → IsReach bound → (t : List ℕ) (to : Target) → IsTarget bound t to → target_in bound (trimmed t) ≡ Ok to
-target_only bound reach t (label name) is = subst (λ (s : List ℕ). target_in bound (trimmed s) ≡ Ok (label name)) (sym is.0) (rw (word_trimmed name (name_word name is.1), is.1) refl)
-target_only bound reach t (bytes z) is =
-    rw (word_trimmed t (number_word t z is.0), number_no_name t z is.0, number_only t z is.0 (small_reached bound z reach is.1 is.2), is_reached_only bound z is.1 is.2 is.3) refl
+target_only bound reach t to is = grind (arith, word_trimmed, name_word, number_word, number_no_name, number_only, small_reached, is_reached_only)
 
 target_bytes : (bound : ℤ) (t : List ℕ) (to : Target) → IsTarget bound t to → list_all is_operand_byte t ≡ true
-target_bytes bound t (label name) is = subst (λ (s : List ℕ). list_all is_operand_byte s ≡ true) (sym is.0) (word_operand name (name_word name is.1))
-target_bytes bound t (bytes z) is = word_operand t (number_word t z is.0)
+target_bytes bound t to is = grind (arith, is_operand_byte, word_operand, name_word, number_word)
 
 pub reads_target : (bound : ℤ) → IsReach bound → Reads (target_in bound) (IsTarget bound)
-reads_target bound reach = record {
-  found = target_found bound reach;
-  only = target_only bound reach;
-  bytes = target_bytes bound;
-}
+reads_target bound reach = grind (arith, target_found, target_only, target_bytes)
 
 -- ---- addresses
 
@@ -150,9 +125,7 @@ empty_text [] e = refl
 empty_text (x ∷ xs) e = absurd (let f : length (x ∷ xs) ≡ 0 = eqb-true (length (x ∷ xs)) 0 e in omega arith)
 
 pub blanks_of_trimmed : (t : List ℕ) → trimmed t ≡ [] → AreBlanks t
-blanks_of_trimmed t e =
-    let pad : IsPadded [] t = subst (λ (s : List ℕ). IsPadded s t) e (padded_stripped is_blank t) in
-    subst (λ (s : List ℕ). AreBlanks s) (sym pad.4) (all-append is_blank pad.0 pad.1 pad.2 pad.3)
+blanks_of_trimmed t e = grind (arith, padded_stripped is_blank t, all-append is_blank)
 
 offset_found : (low high : ℤ) → IsWithin low high → (t : List ℕ) (z : ℤ) → or_zero low high (trimmed t) ≡ Ok z → IsOffset low high t z
 offset_found low high within t z e = elim (cases_Bool (eqb (length (trimmed t)) 0)) [
@@ -188,35 +161,21 @@ pub both_all : (p : ℕ → Bool) (xs ys : List ℕ) → list_all p xs ≡ true 
 both_all p xs ys h k = list_all-append p xs ys ∙ rw (h, k) refl
 
 padded_spaced : (core text : List ℕ) → IsPadded core text → list_all is_word_byte core ≡ true → list_all is_spaced_byte text ≡ true
-padded_spaced core text pad word =
-    let middle = all_weaker is_word_byte is_spaced_byte (λ c h. rw h refl) core word in
-    subst (λ (s : List ℕ). list_all is_spaced_byte s ≡ true) (sym pad.4) (both_all is_spaced_byte pad.0 (core ++ pad.1) (blanks_spaced pad.0 pad.2) (both_all is_spaced_byte core pad.1 middle (blanks_spaced pad.1 pad.3)))
+padded_spaced core text pad word = grind (arith, all_weaker, is_word_byte, both_all, blanks_spaced)
 
 offset_spaced : (low high : ℤ) (t : List ℕ) (z : ℤ) → IsOffset low high t z → list_all is_spaced_byte t ≡ true
-offset_spaced low high t z (inl none) = blanks_spaced t none.0
-offset_spaced low high t z (inr some) = padded_spaced some.0 t some.1 (number_word some.0 z some.2.0)
+offset_spaced low high t z h4 = grind (arith, blanks_spaced, padded_spaced, number_word)
 
 spaced_operand : (c : ℕ) → is_spaced_byte c ≡ true → is_operand_byte c ≡ true
-spaced_operand c e = go (is_word_byte c) (is_blank c) e
-  where
-    go : (a b : Bool) → (a || b) ≡ true → (a || (b || (eqb c 40 || eqb c 41))) ≡ true
-    go true b h = refl
-    go false true h = refl
-    go false false h = absurd cc
+spaced_operand c e = grind (arith, is_word_byte, eqb)
 
 front_all : (p : ℕ → Bool) (xs : List ℕ) → list_all p xs ≡ true → list_all p (without_front xs) ≡ true
 front_all p [] h = refl
-front_all p (x ∷ xs) h = elim (cases_Bool (is_blank x)) [
-  | inl blank ↦ rw blank (front_all p xs (and_parts (p x) (list_all p xs) h).1)
-  | inr solid ↦ rw solid h
-]
+front_all p (x ∷ xs) h = grind (arith, cases_Bool, and_parts, front_all p xs (and_parts (p x) (list_all p xs) h).1)
 
 front_twice : (xs : List ℕ) → without_front (without_front xs) ≡ without_front xs
 front_twice [] = refl
-front_twice (x ∷ xs) = elim (cases_Bool (is_blank x)) [
-  | inl blank ↦ rw blank (front_twice xs)
-  | inr solid ↦ rw (solid, solid) refl
-]
+front_twice (x ∷ xs) = grind (arith, cases_Bool, front_twice xs)
 
 trimmed_after_front : (xs : List ℕ) → trimmed (without_front xs) ≡ trimmed xs
 unfolding stripped
@@ -224,10 +183,7 @@ trimmed_after_front xs = ap without_end (front_twice xs)
 
 pub front_stop : (xs : List ℕ) (c : ℕ) (ys : List ℕ) → is_blank c ≡ false → without_front (xs ++ c ∷ ys) ≡ without_front xs ++ c ∷ ys
 front_stop [] c ys solid = rw solid refl
-front_stop (x ∷ xs) c ys solid = elim (cases_Bool (is_blank x)) [
-  | inl blank ↦ rw blank (front_stop xs c ys solid)
-  | inr other ↦ rw other refl
-]
+front_stop (x ∷ xs) c ys solid = grind (arith, cases_Bool, front_stop xs c ys solid)
 
 trimmed_address : (a b : List ℕ) → trimmed (a ++ 40 ∷ (b ++ 41 ∷ [])) ≡ without_front a ++ 40 ∷ (b ++ 41 ∷ [])
 unfolding stripped
@@ -274,8 +230,4 @@ address_bytes low high t at is =
     subst (λ (s : List ℕ). list_all is_operand_byte s ≡ true) (sym is.whole) (both_all is_operand_byte is.before (40 ∷ (is.inside ++ 41 ∷ [])) front (both_all is_operand_byte is.inside (41 ∷ []) inner refl))
 
 pub reads_address : (low high : ℤ) → IsWithin low high → Reads (address_in low high) (IsAddress low high)
-reads_address low high within = record {
-  found = address_found low high within;
-  only = address_only low high within;
-  bytes = address_bytes low high;
-}
+reads_address low high within = grind (arith, address_found low high within, address_only low high within, address_bytes low high)

@@ -8,7 +8,7 @@ use Rattle.assembler.specs.Kept.{line_of, IsKept, place_in}
 use Rattle.std.proofs.lemmas.Slice.Eq.{bytes_eq-Decides}
 use Rattle.assembler.specs.declared.faults.AsmFault.{AsmFault}
 use Rattle.assembler.specs.declared.faults.AsmFault.TheVariants.{LabelTwice, TooLong}
-use Rattle.assembler.specs.Statements.{Made, one, two, jump, branch}
+use Rattle.assembler.specs.Statements.{Made}
 use Rattle.assembler.specs.Lines.{label_of, statement_text, made_in}
 use Rattle.assembler.specs.Drafts.{Line, size_of, words_of, is_label, place_from, place_of, is_twice, line_below, drafted, placed, all_placed, Fitting, AllFit, over, finished}
 use Rattle.assembler.proofs.LabelLaws.{fresh_apart, once-push}
@@ -39,30 +39,17 @@ or_else (Some place) other = Some place
 
 place_from-push : (name : List ℕ) (at : ℕ) (all : List Line) (line : Line) → place_from name at (all ++ line ∷ []) ≡ or_else (place_from name at all) (cond (is_label name line.label) (Some (at + words_of all)) None)
 place_from-push name at [] line = let same : at + 0 ≡ at = omega arith in rw same refl
-place_from-push name at (first ∷ rest) line = elim (cases_Bool (is_label name first.label)) [
-  | inl here ↦ rw here refl
-  | inr other ↦ (
-      let sum : at + size_of first.made + words_of rest ≡ at + (size_of first.made + words_of rest) = omega arith in
-      rw (other, ← sum) (place_from-push name (at + size_of first.made) rest line))
-]
+place_from-push name at (first ∷ rest) line = grind (arith, cases_Bool, place_from-push name (at + size_of first.made) rest line)
 
 place_from-le : (name : List ℕ) (at : ℕ) (all : List Line) → IfSome (place_from name at all) (λ place. place ≤ at + words_of all)
 place_from-le name at [] = tt
-place_from-le name at (first ∷ rest) = elim (cases_Bool (is_label name first.label)) [
-  | inl here ↦ (let le : at ≤ at + (size_of first.made + words_of rest) = omega arith in rw here le)
-  | inr other ↦ (
-      let sum : at + size_of first.made + words_of rest ≡ at + (size_of first.made + words_of rest) = omega arith in
-      rw (other, ← sum) (place_from-le name (at + size_of first.made) rest))
-]
+place_from-le name at (first ∷ rest) = grind (arith, cases_Bool, place_from-le name (at + size_of first.made) rest)
 
 -- no label's place is after the last word
 pub place_within : (all : List Line) (name : List ℕ) (most : ℕ) → words_of all ≤ most → (r : Option ℕ) → r ≡ place_of all name → IfSome r (λ place. place ≤ most)
 unfolding place_of
 place_within all name most few None e = tt
-place_within all name most few (Some place) e =
-    let bound : IfSome (place_from name 0 all) (λ p. p ≤ 0 + words_of all) = place_from-le name 0 all in
-    let within : place ≤ 0 + words_of all = rw (← e) at bound in
-    omega arith
+place_within all name most few (Some place) e = grind (arith, place_from-le name 0 all)
 
 -- ---- what a draft knows
 
@@ -75,17 +62,14 @@ AllFit-push [] line all_fit fits = (fits, tt)
 AllFit-push (first ∷ rest) line all_fit fits = (all_fit.0, AllFit-push rest line all_fit.1 fits)
 
 none_of_fresh : (r : Option ℕ) → is_some r ≡ false → r ≡ None
-none_of_fresh None e = refl
-none_of_fresh (Some place) e = absurd cc
+none_of_fresh r e = grind arith
 
 -- a fresh label's name has no place yet
 fresh_place : (all : List Line) (name : List ℕ) (label : Option (List ℕ)) → is_twice all label ≡ false → is_label name label ≡ true → place_of all name ≡ None
-fresh_place all name None fresh here = absurd cc
-fresh_place all name (Some other) fresh here = subst (λ (l : List ℕ). place_of all l ≡ None) ((bytes_eq-Decides other name).0 here) (none_of_fresh (place_of all other) fresh)
+fresh_place all name label fresh here = grind (arith, bytes_eq-Decides, none_of_fresh)
 
 or_none : (r : Option ℕ) → or_else r None ≡ r
-or_none None = refl
-or_none (Some place) = refl
+or_none r = grind arith
 
 found_last : (all : List Line) (line : Line) (name : List ℕ) → is_label name line.label ≡ true → place_of all name ≡ None → place_of (all ++ line ∷ []) name ≡ Some (words_of all)
 unfolding place_of
@@ -102,19 +86,10 @@ place_of-push all line name fresh = elim (cases_Bool (is_label name line.label))
 ]
 
 pub kept_more : (found after : List ℕ → Option ℕ) (words : ℕ) (all : List Line) (line : Line) → IsKept found words all → ((name : List ℕ) → after name ≡ cond (is_label name line.label) (Some words) (found name)) → is_twice all line.label ≡ false → Fitting line.made → IsKept after (words + size_of line.made) (all ++ line ∷ [])
-kept_more found after words all line kept defined fresh fits = record {
-  places = λ name. defined name ∙ rw (kept.size, kept.places name) (place_of-push all line name fresh);
-  size = rw kept.size (sym (words_of-push all line));
-  fits = AllFit-push all line kept.fits fits;
-  once = once-push all line kept.once (fresh_apart all line.label fresh);
-}
+kept_more found after words all line kept defined fresh fits = grind (arith, place_of-push, words_of-push, AllFit-push, once-push, fresh_apart)
 
 size_le : (made : Option Made) → size_of made ≤ 2
-size_le None = omega arith
-size_le (Some (one i)) = omega arith
-size_le (Some (two i j)) = omega arith
-size_le (Some (jump rd name)) = omega arith
-size_le (Some (branch op rs1 rs2 name)) = omega arith
+size_le made = grind arith
 
 -- a line makes two words at most
 pub words_le : (all : List Line) → words_of all ≤ 2 * length all
@@ -124,11 +99,7 @@ words_le (first ∷ rest) = let here = size_le first.made in let more = words_le
 -- ---- the same places, the same words
 
 placed-same : (f g : List ℕ → Option ℕ) → ((name : List ℕ) → f name ≡ g name) → (at : ℕ) (made : Option Made) → placed f at made ≡ placed g at made
-placed-same f g same at None = refl
-placed-same f g same at (Some (one i)) = refl
-placed-same f g same at (Some (two i j)) = refl
-placed-same f g same at (Some (jump rd name)) = rw (same name) refl
-placed-same f g same at (Some (branch op rs1 rs2 name)) = rw (same name) refl
+placed-same f g same at made = grind arith
 
 pub all_placed-same : (f g : List ℕ → Option ℕ) → ((name : List ℕ) → f name ≡ g name) → (at line : ℕ) (all : List Line) → all_placed f at line all ≡ all_placed g at line all
 all_placed-same f g same at line [] = refl

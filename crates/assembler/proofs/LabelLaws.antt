@@ -1,5 +1,5 @@
 -- Labels of lines: which of them are defined twice.
-use Rattle.std.proofs.Common.{◌≡◌, ℕ, ◌+◌, true, false, List, [], ◌∷◌, ◌++◌, Option, Some, None, refl, sym, ap, subst, ◌∙◌, inl, inr}
+use Rattle.std.proofs.Common.{arith, ◌≡◌, ℕ, ◌+◌, true, false, List, [], ◌∷◌, ◌++◌, Option, Some, None, refl, sym, ap, subst, ◌∙◌, inl, inr}
 use Rattle.std.specs.Prelude.{◌≢◌}
 use Rattle.std.specs.Option.{is_some}
 use Rattle.std.specs.List.{AllByRecursion}
@@ -35,8 +35,7 @@ apart_from name at (line ∷ above) e = elim (cases_Bool (is_label name line.lab
 
 pub fresh_apart : (above : List Line) (label : Option (List ℕ)) → is_twice above label ≡ false → Apart above label
 unfolding place_of
-fresh_apart above None e = apart_none above
-fresh_apart above (Some name) e = apart_from name 0 above e
+fresh_apart above label e = grind (arith, apart_none, apart_from)
 
 apart_place : (name : List ℕ) (at : ℕ) (above : List Line) → Apart above (Some name) → place_from name at above ≡ None
 apart_place name at [] h = refl
@@ -47,8 +46,7 @@ apart_place name at (line ∷ above) h = elim (cases_Bool (is_label name line.la
 
 pub apart_fresh : (above : List Line) (label : Option (List ℕ)) → Apart above label → is_twice above label ≡ false
 unfolding place_of
-apart_fresh above None h = refl
-apart_fresh above (Some name) h = rw (apart_place name 0 above h) refl
+apart_fresh above label h = grind (arith, apart_place)
 
 pub apart-append : (above : List Line) (line : Line) (label : Option (List ℕ)) → Apart above label → ((name : List ℕ) → line.label ≡ Some name → label ≢ Some name) → Apart (above ++ line ∷ []) label
 apart-append [] line label h k = (k, tt)

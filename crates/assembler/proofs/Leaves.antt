@@ -1,5 +1,5 @@
 -- What a function reads of an operand, and the relation of the grammar that says the same.
-use Rattle.std.proofs.Common.{◌≡◌, ℕ, ◌<◌, ◌≤◌, ◌^◌, Bool, true, false, not, ◌||◌, eqb, ltb, List, [], ◌∷◌, length, Option, Some, None, Result, Ok, refl, sym, ap, subst, ◌∙◌, inl, inr, arith, ℤ, pos, negsuc}
+use Rattle.std.proofs.Common.{◌≡◌, ℕ, ◌<◌, ◌≤◌, ◌^◌, Bool, true, false, not, ◌||◌, eqb, ltb, List, [], ◌∷◌, length, Option, Some, None, Result, Ok, refl, sym, ap, subst, inl, inr, arith, ℤ, pos}
 use Rattle.std.specs.Prelude.{◌==◌, neg_ℤ, int_lt, unsigned_abs, option_map, ◌≤ℤ◌, ◌<ℤ◌, slice_index, drop}
 use Rattle.std.specs.List.{Contains, list_all}
 use Rattle.std.specs.Char.{digit_value}
@@ -16,7 +16,6 @@ use Rattle.rv_decode.specs.Meaning.{reg_of}
 use Rattle.rv_decode.proofs.Meanings.{reg_of_number}
 use Rattle.rv_decode.specs.declared.instruction.Reg.{Reg}
 use Rattle.assembler.specs.declared.faults.AsmFault.{AsmFault}
-use Rattle.assembler.specs.declared.faults.AsmFault.TheVariants.{OutOfRange}
 use Rattle.rv_decode.specs.Registers.{register_names, register_named}
 use Rattle.assembler.specs.Sets.{set_names, set_named}
 use Rattle.assembler.specs.Names.{goes_on_name}
@@ -53,10 +52,7 @@ none_of_all p q other (x ∷ xs) h = let both = and_parts (p x) (list_all p xs) 
 
 -- no byte that passes is this one
 pub not_this : (p : ℕ → Bool) (byte : ℕ) → p byte ≡ false → (c : ℕ) → p c ≡ true → eqb c byte ≡ false
-not_this p byte fails c passes = elim (cases_Bool (eqb c byte)) [
-  | inl same ↦ absurd (let f : p byte ≡ true = subst (λ (d : ℕ). p d ≡ true) (eqb-true c byte same) passes in let g : false ≡ true = sym fails ∙ f in cc)
-  | inr other ↦ other
-]
+not_this p byte fails c passes = grind (arith, cases_Bool, eqb, eqb-true)
 
 word_is_operand : (c : ℕ) → is_word_byte c ≡ true → is_operand_byte c ≡ true
 word_is_operand c e = rw e refl
@@ -144,12 +140,7 @@ reads_set = record {
 -- ---- digits
 
 pub digit_low : (c : ℕ) → digit_value c < 16 → c < 123
-digit_low c small = elim (cases_lt c 123) [
-  | inl lt ↦ lt
-  | inr le ↦ absurd (
-      let high : digit_value c ≡ 36 = rw (le-ltb c 48 (omega arith), le-ltb c 58 (omega arith), le-ltb c 65 (omega arith), le-ltb c 91 (omega arith), le-ltb c 97 (omega arith), le-ltb c 123 le) refl in
-      omega arith)
-]
+digit_low c small = grind (arith, cases_lt, le-ltb)
 
 digit_test : ℕ → Bool
 digit_test c = not (ltb (digit_value c) 16) || is_word_byte c
@@ -169,8 +160,7 @@ digits_word radix most (c ∷ digits) h = rw (digit_word c (omega (arith, h.0)),
 -- ---- magnitudes
 
 magnitude_word : (t : List ℕ) (n : ℕ) → IsMagnitude t n → list_all is_word_byte t ≡ true
-magnitude_word t n (decimal digits m says) = digits_word 10 (omega arith) digits says.0.1
-magnitude_word t n (hex digits m says) = digits_word 16 (omega arith) digits says.0.1
+magnitude_word t n h2 = grind (arith, digits_word)
 
 -- no magnitude begins with the byte, as none begins with a `-` or a letter
 pub magnitude_first : (byte : ℕ) → 10 ≤ digit_value byte → (t : List ℕ) (n : ℕ) → IsMagnitude t n → eqb (slice_index t 0) byte ≡ false
@@ -187,8 +177,7 @@ not_negative : (t : List ℕ) → eqb (slice_index t 0) 45 ≡ false → is_nega
 not_negative t other = rw other (and_right (ltb 0 (length t)) false refl)
 
 mapped : (view : ℕ → ℤ) (o : Option ℕ) (z : ℤ) → option_map view o ≡ Some z → (n : ℕ) × (o ≡ Some n) × (view n ≡ z)
-mapped view None z e = absurd cc
-mapped view (Some n) z e = (n, refl, cc)
+mapped view o z e = grind arith
 
 pub number_found : (t : List ℕ) (z : ℤ) → integer_of t ≡ Some z → unsigned_abs z < 2 ^ 32 → IsNumber t z
 unfolding integer_of
@@ -211,21 +200,15 @@ number_found t z e small = elim (cases_Bool (is_negative t)) [
 
 pub number_only : (t : List ℕ) (z : ℤ) → IsNumber t z → unsigned_abs z < 2 ^ 32 → integer_of t ≡ Some z
 unfolding integer_of
-number_only t z (plain text n is) small = rw (not_negative text (magnitude_first 45 (omega arith) text n is)) (ap (option_map pos) (magnitude_only text n is small))
-number_only t z (negative text n is) small = (let few : n < 2 ^ 32 = omega (arith, ints) in rw (lt-ltb 0 (length (45 ∷ text)) (omega arith)) (ap (option_map (λ m. neg_ℤ (pos m))) (magnitude_only text n is few)))
+number_only t z h2 small = grind (arith, not_negative, magnitude_first, magnitude_only, ints, lt-ltb)
 
 pub number_word : (t : List ℕ) (z : ℤ) → IsNumber t z → list_all is_word_byte t ≡ true
-number_word t z (plain text n is) = magnitude_word text n is
-number_word t z (negative text n is) = magnitude_word text n is
+number_word t z h2 = grind (arith, magnitude_word)
 
 -- ---- numbers in a range
 
 pub not_less : (a b : ℤ) → b ≤ℤ a → int_lt a b ≡ false
-not_less a b le = go (int_lt a b) refl
-  where
-    go : (c : Bool) → int_lt a b ≡ c → int_lt a b ≡ false
-    go true e = absurd (omega (arith, ints))
-    go false e = e
+not_less a b le = grind (arith, ints)
 
 -- a range within words of 32 bits and a sign
 pub record IsWithin (low high : ℤ) : Type 0 where
@@ -233,17 +216,10 @@ pub record IsWithin (low high : ℤ) : Type 0 where
   pub below : high <ℤ pos (2 ^ 32)
 
 pub small_within : (low high z : ℤ) → IsWithin low high → low ≤ℤ z → z ≤ℤ high → unsigned_abs z < 2 ^ 32
-small_within low high (pos n) within above below = let h = within.below in omega (arith, ints)
-small_within low high (negsuc n) within above below = let l = within.above in omega (arith, ints)
+small_within low high z within above below = grind (arith, ints)
 
 ranged_found : (low high : ℤ) (o : Option ℤ) (z : ℤ) → in_range low high o ≡ Ok z → (o ≡ Some z) × (low ≤ℤ z) × (z ≤ℤ high)
-ranged_found low high None z e = absurd cc
-ranged_found low high (Some y) z e =
-    let passed = guard_ok (int_lt y low || int_lt high y) OutOfRange y z e in
-    let tests = or_parts (int_lt y low) (int_lt high y) passed.0 in
-    let above : low ≤ℤ y = omega (arith, ints, tests.0) in
-    let below : y ≤ℤ high = omega (arith, ints, tests.1) in
-    (ap Some passed.1, subst (λ (x : ℤ). low ≤ℤ x) passed.1 above, subst (λ (x : ℤ). x ≤ℤ high) passed.1 below)
+ranged_found low high o z e = grind (arith, guard_ok, or_parts, ints)
 
 pub ranged_only : (low high z : ℤ) → low ≤ℤ z → z ≤ℤ high → in_range low high (Some z) ≡ Ok z
 ranged_only low high z above below = rw (not_less z low above, not_less high z below) refl
@@ -257,30 +233,16 @@ pub from_only : (low high : ℤ) → IsWithin low high → (t : List ℕ) (z : �
 from_only low high within t z is = rw (number_only t z is.0 (small_within low high z within is.1 is.2)) (ranged_only low high z is.1 is.2)
 
 pub reads_number : (low high : ℤ) → IsWithin low high → Reads (number_in low high) (IsNumberFrom low high)
-reads_number low high within = record {
-  found = from_found low high within;
-  only = λ t z is. rw (word_trimmed t (number_word t z is.0)) (from_only low high within t z is);
-  bytes = λ t z is. word_operand t (number_word t z is.0);
-}
+reads_number low high within = grind (arith, from_found, word_trimmed, number_word, from_only, word_operand)
 
 natural_within : (most : ℕ) → most < 2 ^ 32 → IsWithin (pos 0) (pos most)
 natural_within most small = record { above = omega (arith, ints); below = omega (arith, ints) }
 
 natural_found : (most : ℕ) → most < 2 ^ 32 → (t : List ℕ) (n : ℕ) → natural_in most t ≡ Ok n → IsNumberUpTo most t n
-natural_found most small t n e =
-    let said = bind_ok (number_in (pos 0) (pos most) t) (λ z. Ok (unsigned_abs z)) n e in
-    natural said.0 (from_found (pos 0) (pos most) (natural_within most small) t said.0 said.1) (ok_is AsmFault (unsigned_abs said.0) n said.2)
-  where
-    natural : (z : ℤ) → IsNumberFrom (pos 0) (pos most) t z → unsigned_abs z ≡ n → IsNumberUpTo most t n
-    natural (pos m) is same = (subst (λ (k : ℕ). IsNumber t (pos k)) same is.0, omega (arith, ints, is.2))
-    natural (negsuc m) is same = absurd (omega (arith, ints, is.1))
+natural_found most small t n e = grind (arith, bind_ok, from_found, natural_within, ok_is, ints)
 
 natural_only : (most : ℕ) → most < 2 ^ 32 → (t : List ℕ) (n : ℕ) → IsNumberUpTo most t n → natural_in most t ≡ Ok n
 natural_only most small t n is = rw (from_only (pos 0) (pos most) (natural_within most small) t (pos n) (is.0, omega (arith, ints), omega (arith, ints, is.1))) refl
 
 pub reads_natural : (most : ℕ) → most < 2 ^ 32 → Reads (natural_in most) (IsNumberUpTo most)
-reads_natural most small = record {
-  found = natural_found most small;
-  only = λ t n is. rw (word_trimmed t (number_word t (pos n) is.0)) (natural_only most small t n is);
-  bytes = λ t n is. word_operand t (number_word t (pos n) is.0);
-}
+reads_natural most small = grind (arith, natural_found, word_trimmed, number_word, natural_only, word_operand)

@@ -1,5 +1,5 @@
 -- A line's parts are those of the grammar.
-use Rattle.std.proofs.Common.{◌≡◌, ℕ, true, false, List, ◌∷◌, ◌++◌, Option, Some, None, Ok, refl, sym, ap, subst, ◌∙◌, inl, inr, append_assoc}
+use Rattle.std.proofs.Common.{arith, ◌≡◌, ℕ, true, false, List, ◌∷◌, ◌++◌, Option, Some, None, Ok, refl, sym, ap, subst, ◌∙◌, inl, inr, append_assoc}
 use Rattle.std.specs.List.{list_all}
 use Rattle.std.proofs.lemmas.Bool.{cases_Bool}
 use Rattle.texts.specs.Cutting.{before, after, is_byte, without_front, trimmed, AreBlanks, NonePass}
@@ -93,12 +93,7 @@ pub record Reading (text : List ℕ) (line : Line) : Type 0 where
 
 reading : (text inner : List ℕ) (line : Line) → code_of text ≡ inner → IsUncommented inner line → Reading text line
 unfolding label_of statement_text
-reading text inner line same is =
-    let p = parts inner line is in
-    record {
-      label = ap (λ t. (parts_of t).0) same ∙ p.label;
-      made = ap (λ t. made_in (trimmed (parts_of t).1)) same ∙ p.made;
-    }
+reading text inner line same is = grind (arith, parts)
 
 pub line_only : (text : List ℕ) (line : Line) → IsLine text line → Reading text line
 line_only text line (code whole said is) = reading whole whole said (before_none (is_byte 35) whole (no_hash whole said is)) is

@@ -1,5 +1,5 @@
 -- What `li` makes puts its number in the register.
-use Rattle.std.proofs.Common.{◌≡◌, ℕ, ◌-◌, ◌*◌, ◌/◌, ◌%◌, ◌^◌, ◌<◌, ◌≤◌, true, not, eqb, refl, sym, ap, subst, ◌∙◌, inl, inr, ◌⊎◌, arith, ℤ, pos, negsuc}
+use Rattle.std.proofs.Common.{◌≡◌, ℕ, ◌-◌, ◌*◌, ◌/◌, ◌%◌, ◌^◌, ◌<◌, ◌≤◌, true, not, eqb, refl, ap, subst, inl, inr, ◌⊎◌, arith, ℤ, pos, negsuc}
 use Rattle.std.specs.Prelude.{◌+ℤ◌, ◌-ℤ◌, ◌≤ℤ◌, ◌<ℤ◌, int_lt, unsigned_abs}
 use Rattle.std.specs.Int.{int_rem_euclid, int_div_euclid}
 use Rattle.std.proofs.lemmas.Bool.{and_parts, not-true, cases_Bool, cases_lt, eqb-true}
@@ -21,17 +21,13 @@ raised v = unsigned_abs (v +ℤ pos 4294969344)
 
 raised_is : (v : ℤ) → IsWordNumber v → (v +ℤ pos 2048) +ℤ pos (1048576 * 4096) ≡ pos (raised v)
 unfolding raised
-raised_is (pos a) is = ap pos (omega arith)
-raised_is (negsuc a) is = let few : a < 2147483648 = (let l = is.low in omega (arith, ints)) in omega (arith, ints)
+raised_is v is = grind (arith, ints)
 
 low_is : (v : ℤ) → IsWordNumber v → low_of v ≡ pos (raised v % 4096) -ℤ pos 2048
 low_is v is = ap (λ r. r -ℤ pos 2048) (int_rem_euclid_is (v +ℤ pos 2048) (pos 4096) 4096 1048576 (raised v) (omega arith) refl (raised_is v is))
 
 low_signed : (v : ℤ) → IsWordNumber v → IsSigned 11 (low_of v)
-low_signed v is = subst (IsSigned 11) (sym (low_is v is)) (signed (raised v % 4096) (omega arith))
-  where
-    signed : (r : ℕ) → r < 4096 → IsSigned 11 (pos r -ℤ pos 2048)
-    signed r lt = (omega (arith, ints), omega (arith, ints))
+low_signed v is = grind (arith, low_is, raised, ints)
 
 left_is : (v : ℤ) → IsWordNumber v → v -ℤ low_of v ≡ pos (4096 * (raised v / 4096)) -ℤ pos 4294967296
 left_is v is = let r = raised_is v is in let low = low_is v is in omega (arith, ints)
@@ -41,15 +37,11 @@ high_from z = unsigned_abs (int_rem_euclid (int_div_euclid z (pos 4096)) (pos 10
 
 -- where the word has no sign
 high_plain : (q : ℕ) → 1048576 ≤ q → q < 2097152 → high_from (pos (4096 * q) -ℤ pos 4294967296) ≡ q - 1048576
-high_plain q le lt =
-    let plain : pos (4096 * q) -ℤ pos 4294967296 ≡ pos (4096 * (q - 1048576)) = omega (arith, ints) in
-    rw plain (omega arith)
+high_plain q le lt = grind (arith, ints)
 
 -- and where it has one
 high_signed : (q : ℕ) → q < 1048576 → high_from (pos (4096 * q) -ℤ pos 4294967296) ≡ q
-high_signed q lt =
-    let signed : pos (4096 * q) -ℤ pos 4294967296 ≡ negsuc (4096 * (1048576 - q) - 1) = omega (arith, ints) in
-    rw signed (omega arith)
+high_signed q lt = grind (arith, ints)
 
 record Halves (v : ℤ) : Type 0 where
   high : high_of v < 2 ^ 20
@@ -57,31 +49,13 @@ record Halves (v : ℤ) : Type 0 where
   whole : (pos (4096 * high_of v) +ℤ low_of v ≡ v) ⊎ (pos (4096 * high_of v) +ℤ low_of v ≡ v +ℤ pos 4294967296)
 
 halves : (v : ℤ) → IsWordNumber v → Halves v
-halves v is =
-    let r = raised_is v is in
-    let low = low_is v is in
-    let below = is.high in
-    let few : raised v < 6442452992 = omega (arith, ints) in
-    elim (cases_lt (raised v / 4096) 1048576) [
-      | inl lt ↦ (
-          let high : high_of v ≡ raised v / 4096 = ap high_from (left_is v is) ∙ high_signed (raised v / 4096) lt in
-          record { high = omega (arith, high); low = low_signed v is; whole = inr (rw high (omega (arith, ints))) })
-      | inr le ↦ (
-          let high : high_of v ≡ raised v / 4096 - 1048576 = ap high_from (left_is v is) ∙ high_plain (raised v / 4096) le (omega arith) in
-          record { high = omega (arith, high); low = low_signed v is; whole = inl (rw high (omega (arith, ints))) })
-    ]
+halves v is = grind (arith, raised_is, low_is, raised, ints, cases_lt, left_is, high_signed, low_signed, high_plain)
 
 same_word : (n v s : ℤ) → (n ≡ v) ⊎ (n ≡ v +ℤ pos 4294967296) → (s ≡ v) ⊎ (s ≡ v +ℤ pos 4294967296) → IsSameWord n s
-same_word n v s (inl a) (inl b) = inl (a ∙ sym b)
-same_word n v s (inl a) (inr b) = inr (inr (b ∙ ap (λ x. x +ℤ pos 4294967296) (sym a)))
-same_word n v s (inr a) (inl b) = inr (inl (a ∙ ap (λ x. x +ℤ pos 4294967296) (sym b)))
-same_word n v s (inr a) (inr b) = inl (a ∙ sym b)
+same_word n v s h3 h4 = grind arith
 
 wrapped_word : (n : ℤ) → negsuc 2147483647 ≤ℤ n → n ≤ℤ pos 4294967295 → IsWordNumber (wrapped n) × ((n ≡ wrapped n) ⊎ (n ≡ wrapped n +ℤ pos 4294967296))
-wrapped_word n low high = elim (cases_Bool (int_lt n (pos (2 ^ 31)))) [
-  | inl lt ↦ rw lt (record { low = low; high = omega (arith, ints, lt) }, inl refl)
-  | inr ge ↦ rw ge (record { low = omega (arith, ints, ge); high = omega (arith, ints, ge) }, inr (omega (arith, ints)))
-]
+wrapped_word n low high = grind (arith, cases_Bool, ints)
 
 puts : (rd : Reg) (n v : ℤ) → IsWordNumber v → (n ≡ v) ⊎ (n ≡ v +ℤ pos 4294967296) → Puts rd n (loaded rd v)
 puts rd n v is same = elim (cases_Bool (is_short v)) [

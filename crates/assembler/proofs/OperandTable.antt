@@ -61,17 +61,14 @@ OperandBytes operands = AllByRecursion (λ operand. list_all is_operand_byte ope
 
 kinds_found : (kinds : List Kind) (make : Maker kinds) (list : List (List ℕ)) (made : Made) → reads kinds make list ≡ Ok made → AreSpelled kinds make list made
 kinds_found [] make [] made e = (refl, sym (ok_is AsmFault make made e))
-kinds_found [] make (a ∷ rest) made e = absurd cc
-kinds_found (kind ∷ kinds) make [] made e = absurd cc
 kinds_found (kind ∷ kinds) make (a ∷ rest) made e =
     let x = bind_ok (value_in kind a) (λ v. reads kinds (make v) rest) made e in
     (a, rest, x.0, refl, (reads_kind kind).found a x.0 x.1, kinds_found kinds (make x.0) rest made x.2)
+kinds_found x make y made e = absurd cc
 
 kinds_only : (kinds : List Kind) (make : Maker kinds) (list : List (List ℕ)) (made : Made) → AreSpelled kinds make list made → reads kinds make (map trimmed list) ≡ Ok made
 kinds_only [] make list made is = subst (λ (os : List (List ℕ)). reads [] make (map trimmed os) ≡ Ok made) (sym is.0) (ap Ok (sym is.1))
-kinds_only (kind ∷ kinds) make list made is =
-    subst (λ (os : List (List ℕ)). reads (kind ∷ kinds) make (map trimmed os) ≡ Ok made) (sym is.3)
-    (rw ((reads_kind kind).only is.0 is.2 is.4) (kinds_only kinds (make is.2) is.1 made is.5))
+kinds_only (kind ∷ kinds) make list made is = grind (arith, reads_kind, kinds_only kinds (make is.2) is.1 made is.5)
 
 kinds_bytes : (kinds : List Kind) (make : Maker kinds) (list : List (List ℕ)) (made : Made) → AreSpelled kinds make list made → OperandBytes list
 kinds_bytes [] make list made is = subst OperandBytes (sym is.0) tt
@@ -89,9 +86,7 @@ found_makes form list made e = kinds_found (row form (length list)).kinds (row f
 
 -- and what the table says is made of the operands, whatever blanks are round them
 pub only_makes : (form : Form) (list : List (List ℕ)) (made : Made) → Makes form list made → statement_of form (map trimmed list) ≡ Ok made
-only_makes form list made is =
-    subst (λ (given : ℕ). reads (row form given).kinds (row form given).make (map trimmed list) ≡ Ok made) (sym (length-map list trimmed))
-    (kinds_only (row form (length list)).kinds (row form (length list)).make list made is)
+only_makes form list made is = grind (arith, length-map, kinds_only)
 
 pub makes_bytes : (form : Form) (list : List (List ℕ)) (made : Made) → Makes form list made → OperandBytes list
 makes_bytes form list made is = kinds_bytes (row form (length list)).kinds (row form (length list)).make list made is
@@ -124,14 +119,10 @@ fence_sets list a others e = subst (λ (l : List (List ℕ)). statement_of Fence
 
 pub jalr_pair : (list : List (List ℕ)) → is_pair list ≡ true → statement_of Jalr list ≡ reads (register ∷ address ∷ []) (λ rd at. one (instr.Jalr rd at.0 at.1)) list
 unfolding row
-jalr_pair [] e = absurd cc
-jalr_pair (a ∷ []) e = absurd cc
 jalr_pair (a ∷ b ∷ []) e = refl
-jalr_pair (a ∷ b ∷ c ∷ rest) e = absurd cc
+jalr_pair x e = absurd cc
 
 pub jalr_other : (list : List (List ℕ)) → is_pair list ≡ false → statement_of Jalr list ≡ reads (register ∷ register ∷ short ∷ []) (λ rd rs1 n. one (instr.Jalr rd rs1 n)) list
 unfolding row
-jalr_other [] e = refl
-jalr_other (a ∷ []) e = refl
 jalr_other (a ∷ b ∷ []) e = absurd cc
-jalr_other (a ∷ b ∷ c ∷ rest) e = refl
+jalr_other x e = refl

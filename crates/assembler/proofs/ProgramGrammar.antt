@@ -50,9 +50,7 @@ drafted_found above text more e = go (is_twice above (label_of text)) refl (made
     }
 
 pub drafted_only : (above : List Line) (text : List ℕ) (line : Line) → IsLine text line → Apart above line.label → drafted above text ≡ Ok (above ++ line ∷ [])
-drafted_only above text line is apart =
-    let read = line_only text line is in
-    drafted_added above text line.made (ap (is_twice above) read.label ∙ apart_fresh above line.label apart) read.made ∙ ap (λ label. Ok (above ++ (record { label = label; made = line.made }) ∷ [])) read.label
+drafted_only above text line is apart = grind (arith, line_only, drafted_added, apart_fresh)
 
 -- each of the lines below is apart from each line above
 abbrev pub AllApart : List Line → List Line → Type 0
@@ -137,9 +135,7 @@ defines_from name at (line ∷ all) place e = elim (cases_Bool (is_label name li
 
 place_found : (all : List Line) (name : List ℕ) (place : ℕ) → place_of all name ≡ Some place → Defines all name place
 unfolding place_of
-place_found all name place e =
-    let from = defines_from name 0 all place e in
-    record { above = from.above; line = from.line; below = from.below; whole = from.whole; defined = from.defined; counted = omega (arith, from.counted) }
+place_found all name place e = grind (arith, defines_from name 0 all place e)
 
 apart_in : (first : Line) (above : List Line) (line : Line) (below : List Line) → AllByRecursion (λ other. AreApart first other) (above ++ line ∷ below) → AreApart first line
 apart_in first [] line below h = h.0
@@ -156,10 +152,7 @@ place_at name at (first ∷ above) line below defined once = elim (cases_Bool (i
 
 place_only : (all : List Line) (name : List ℕ) (place : ℕ) → EachOnce all → Defines all name place → place_of all name ≡ Some place
 unfolding place_of
-place_only all name place once is =
-    let there = place_at name 0 is.above is.line is.below is.defined (subst EachOnce is.whole once) in
-    let counted : 0 + words_of is.above ≡ place = omega (arith, is.counted) in
-    ap (place_from name 0) is.whole ∙ (there ∙ ap Some counted)
+place_only all name place once is = grind (arith, place_at)
 
 -- ---- instructions
 
@@ -204,11 +197,7 @@ placed_found all at (Some (branch op rs1 rs2 name)) front e =
     record { instrs = instr.Branch op rs1 rs2 (in_bytes at r.place) ∷ []; is = branching op rs1 rs2 name r.place r.defined r.near; same = ap (λ m. Some (instr.Branch op rs1 rs2 m) ∷ []) r.is ∙ ok_is AsmFault (Some (instr.Branch op rs1 rs2 n.0) ∷ []) front n.2 }
 
 placed_only : (all : List Line) (at : ℕ) (made : Option Made) (instrs : List Instr) → EachOnce all → IsPlaced all at made instrs → placed (place_of all) at made ≡ Ok (map some_instr instrs)
-placed_only all at made instrs once nothing = refl
-placed_only all at made instrs once (single i) = refl
-placed_only all at made instrs once (double i j) = refl
-placed_only all at made instrs once (jumping rd name place defined near) = rw (distance_only all (pos 1048576) at name place once defined near) refl
-placed_only all at made instrs once (branching op rs1 rs2 name place defined near) = rw (distance_only all (pos 4096) at name place once defined near) refl
+placed_only all at made instrs once h5 = grind (arith, distance_only)
 
 record AllPlacing (all : List Line) (at : ℕ) (below : List Line) (answers : List (Option Instr)) : Type 0 where
   instrs : List Instr
@@ -216,8 +205,7 @@ record AllPlacing (all : List Line) (at : ℕ) (below : List Line) (answers : Li
   same : map some_instr instrs ≡ answers
 
 at_line_ok : {A : Type 0} (line : ℕ) (r : Result A AsmFault) (x : A) → at_line line r ≡ Ok x → r ≡ Ok x
-at_line_ok line (Ok y) x e = ap Ok (ok_is Refusal y x e)
-at_line_ok line (Err fault) x e = absurd cc
+at_line_ok line r x e = grind (arith, ok_is)
 
 all_placed_found : (all : List Line) (at line : ℕ) (below : List Line) (answers : List (Option Instr)) → all_placed (place_of all) at line below ≡ Ok answers → AllPlacing all at below answers
 all_placed_found all at line [] answers e = record { instrs = []; are = refl; same = ok_is Refusal [] answers e }
@@ -294,12 +282,11 @@ some_is i j e = cc
 
 pub same_instrs : (a b : List Instr) → map some_instr a ≡ map some_instr b → a ≡ b
 same_instrs [] [] e = refl
-same_instrs [] (j ∷ b) e = absurd cc
-same_instrs (i ∷ a) [] e = absurd cc
 same_instrs (i ∷ a) (j ∷ b) e =
     let head : some_instr i ≡ some_instr j = cc in
     let tail : map some_instr a ≡ map some_instr b = cc in
     rw (some_is i j head, same_instrs a b tail) refl
+same_instrs x y e = absurd cc
 
 pub one_program : (text : List ℕ) (a b : List Instr) → IsProgram text a → IsProgram text b → a ≡ b
 one_program text a b h k = same_instrs a b (ok_is Refusal (map some_instr a) (map some_instr b) (sym (program_only text a h) ∙ program_only text b k))
@@ -308,12 +295,11 @@ one_program text a b h k = same_instrs a b (ok_is Refusal (map some_instr a) (ma
 
 pub words_of_instrs : (words : List ℕ) (instrs : List Instr) → map meaning words ≡ map some_instr instrs → AreWordsOf words instrs
 words_of_instrs [] [] e = refl
-words_of_instrs [] (i ∷ instrs) e = absurd cc
-words_of_instrs (word ∷ words) [] e = absurd cc
 words_of_instrs (word ∷ words) (i ∷ instrs) e =
     let head : meaning word ≡ Some i = cc in
     let tail : map meaning words ≡ map some_instr instrs = cc in
     (i, instrs, refl, (meaning_iff word i).0 head, words_of_instrs words instrs tail)
+words_of_instrs x y e = absurd cc
 
 -- ---- what a function answered
 

@@ -1,5 +1,5 @@
 -- The operands that an instruction's text is made of are spelled as the grammar asks.
-use Rattle.std.proofs.Common.{◌≡◌, ℕ, suc, ◌+◌, ◌^◌, ◌<◌, ◌≤◌, Bool, true, false, [], ◌∷◌, ◌++◌, length, Option, Some, None, refl, ap, arith, inl, inr, ℤ, pos, negsuc}
+use Rattle.std.proofs.Common.{◌≡◌, ℕ, suc, ◌+◌, ◌^◌, ◌<◌, ◌≤◌, Bool, true, false, [], ◌∷◌, ◌++◌, length, Option, Some, None, refl, arith, inl, inr, ℤ, pos, negsuc}
 use Rattle.std.specs.Prelude.{nat_eq}
 use Rattle.std.specs.Fmt.{digits, decimal, signed_decimal}
 use Rattle.std.proofs.lemmas.Bool.{eqb-true}
@@ -25,8 +25,7 @@ is_number None n = false
 is_number (Some m) n = nat_eq m n
 
 is_number_of : (r : Option ℕ) (n : ℕ) → is_number r n ≡ true → r ≡ Some n
-is_number_of None n e = absurd cc
-is_number_of (Some m) n e = ap Some (eqb-true m n e)
+is_number_of r n e = grind (arith, eqb-true)
 
 abbrev numbered : ℕ → Option ℕ
 numbered n = found_in register_names (120 ∷ decimal n)
@@ -66,8 +65,7 @@ signed_none p sign digit (pos n) fits = decimal_none p digit n (omega (arith, in
 signed_none p sign digit (negsuc n) fits = (sign, decimal_none p digit (suc n) (omega (arith, ints)))
 
 pub signed_some : (z : ℤ) → IsSigned 31 z → 0 < length (signed_decimal z)
-signed_some (pos n) fits = decimal_nonempty n (omega (arith, ints))
-signed_some (negsuc n) fits = omega arith
+signed_some z fits = grind (arith, decimal_nonempty, ints)
 
 -- ---- addresses
 

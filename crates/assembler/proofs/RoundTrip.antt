@@ -1,5 +1,5 @@
 -- The text of an instruction is assembled to it again.
-use Rattle.std.proofs.Common.{◌≡◌, ℕ, ◌^◌, ◌<◌, ◌≤◌, Bool, true, false, not, ◌&&◌, List, [], ◌∷◌, ◌++◌, length, Some, None, Ok, refl, ap, subst, ◌∙◌, arith, ℤ, pos}
+use Rattle.std.proofs.Common.{◌≡◌, ℕ, ◌^◌, ◌<◌, ◌≤◌, Bool, true, false, not, ◌&&◌, List, [], ◌∷◌, ◌++◌, length, Some, Ok, refl, subst, ◌∙◌, arith, ℤ, pos}
 use Rattle.std.specs.Prelude.{nat_lt, codes}
 use Rattle.std.proofs.lemmas.Int.{ints}
 use Rattle.rv_decode.specs.Fits.{Fits, IsSigned}
@@ -13,12 +13,12 @@ use Rattle.rv_decode.specs.declared.instruction.Instr.{Instr}
 use Rattle.rv_decode.specs.declared.instruction.Instr.TheVariants as instr
 use Rattle.assembler.specs.declared.form.Form.{Form}
 use Rattle.assembler.specs.declared.form.Form.TheVariants as form
-use Rattle.texts.specs.Cutting.{before, is_byte, without_front, trimmed, NonePass}
+use Rattle.texts.specs.Cutting.{is_byte, trimmed, NonePass}
 use Rattle.assembler.specs.Mnemonics.{form_named}
 use Rattle.assembler.specs.Operands.{bytes, Kind, register, upper, amount, short, address, pointer, near, far, set, Value, value_in}
 use Rattle.assembler.specs.Statements.{one, row, statement_of}
 use Rattle.assembler.specs.Spelled.{IsSpelled}
-use Rattle.assembler.specs.Lines.{label_and_rest, parts_of, label_of, statement_text, made_in, made_for, between_commas, some_text}
+use Rattle.assembler.specs.Lines.{label_of, statement_text, made_in, made_for, between_commas, some_text}
 use Rattle.assembler.specs.Drafts.{assembled, drafted, line_below, finished}
 use Rattle.assembler.specs.Writing.{register_text, address_text, set_text, branch_name, load_name, store_name, immediate_name, shift_name, register_name, amo_name, order_name, with_two, with_three, text_of}
 use Rattle.texts.proofs.CuttingLaws.{none-append, before_none, after_none, before_stop, after_stop, one_line, decimal_none, not_byte, not_low_byte, digit_no_blank}
@@ -69,11 +69,7 @@ register_word : (r : Reg) → IsWord (register_text r)
 register_word r = word-append (120 ∷ []) (decimal r.number) x_word (decimal_word r.number (omega arith))
 
 register_operand : (r : Reg) → IsOperand (register_text r)
-register_operand r = record {
-  commas = (refl, decimal_none (is_byte 44) (λ d lt. not_low_byte 44 d (omega arith)) r.number (omega arith));
-  blanks = (register_word r).blanks;
-  some = omega arith;
-}
+register_operand r = grind (arith, decimal_none (is_byte 44), not_low_byte 44, register_word r)
 
 -- ---- a line of a mnemonic and operands
 
@@ -93,13 +89,7 @@ made_text name ops h k =
 -- a text of one statement, which makes one instruction
 assembled_one : (text : List ℕ) (i : Instr) → 0 < length text → NonePass (is_byte 10) text → NonePass (is_byte 35) text → NonePass (is_byte 58) text → trimmed text ≡ text → made_in text ≡ Ok (Some (one i)) → assembled text ≡ Ok (Some i ∷ [])
 unfolding assembled drafted line_below label_of statement_text finished
-assembled_one text i some feeds hashes colons same made =
-    let code = before_none (is_byte 35) text hashes in
-    let uncut = after_none (is_byte 58) text colons in
-    let front = without_front (before (is_byte 58) text) in
-    let label : label_of text ≡ None = ap (λ t. (parts_of t).0) code ∙ ap (λ o. (label_and_rest text front o).0) uncut in
-    let rest : statement_text text ≡ text = ap (λ t. trimmed (parts_of t).1) code ∙ (ap (λ o. trimmed (label_and_rest text front o).1) uncut ∙ same) in
-    rw (one_line text some feeds, label, rest, made) refl
+assembled_one text i some feeds hashes colons same made = grind (arith, before_none, after_none, one_line)
 
 assembled_text : (name ops : List ℕ) (i : Instr) → IsWord name → IsWord ops → made_for (form_named name) (between_commas (Some ops)) ≡ Ok (Some (one i)) → assembled (name ++ 32 ∷ ops) ≡ Ok (Some i ∷ [])
 assembled_text name ops i h k made = assembled_one (name ++ 32 ∷ ops) i (long name)
@@ -114,23 +104,14 @@ assembled_text name ops i h k made = assembled_one (name ++ 32 ∷ ops) i (long 
     long (x ∷ xs) = omega arith
 
 not_split : (a b : Bool) → (not a && b) ≡ true → (a ≡ false) × (b ≡ true)
-not_split true b e = absurd cc
-not_split false b e = (refl, e)
+not_split a b e = grind arith
 
 plain_split : (c : ℕ) → is_plain c ≡ true → (is_blank c ≡ false) × (is_byte 10 c ≡ false) × (is_byte 35 c ≡ false) × (is_byte 58 c ≡ false)
-plain_split c e =
-    let first = not_split (is_blank c) (not (is_byte 10 c) && (not (is_byte 35 c) && not (is_byte 58 c))) e in
-    let second = not_split (is_byte 10 c) (not (is_byte 35 c) && not (is_byte 58 c)) first.1 in
-    let third = not_split (is_byte 35 c) (not (is_byte 58 c)) second.1 in
-    (first.0, second.0, third.0, not-true (is_byte 58 c) third.1)
+plain_split c e = grind (arith, not_split, not-true)
 
 plain_none : (xs : List ℕ) → list_all is_plain xs ≡ true → NonePass is_blank xs × NonePass (is_byte 10) xs × NonePass (is_byte 35) xs × NonePass (is_byte 58) xs
 plain_none [] e = (tt, tt, tt, tt)
-plain_none (x ∷ xs) e =
-    let both = and_parts (is_plain x) (list_all is_plain xs) e in
-    let here = plain_split x both.0 in
-    let rest = plain_none xs both.1 in
-    ((here.0, rest.0), (here.1, rest.1), (here.2, rest.2), (here.3, rest.3))
+plain_none (x ∷ xs) e = grind (arith, and_parts, is_plain, plain_split, plain_none xs)
 
 word_of_test : (xs : List ℕ) → is_word xs ≡ true → IsWord xs
 word_of_test xs e =

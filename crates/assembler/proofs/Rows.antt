@@ -30,12 +30,8 @@ other_name name (row ∷ rows) text value (suc k) fresh lt e = let split = and_p
 
 row_at : {V : Type 0} (rows : List (List ℕ × V)) (text : List ℕ) (value : V) (k : ℕ) → are_apart rows ≡ true → k < length rows → get_or rows k (text, value) ≡ (text, value) → found_in rows text ≡ Some value
 row_at [] text value k apart lt e = absurd (omega arith)
-row_at (row ∷ rows) text value zero apart lt e =
-    let same : bytes_eq row.0 text ≡ true = equal_bytes row.0 text (ap (λ r. r.0) e) in
-    rw same (ap (λ r. Some r.1) e)
-row_at (row ∷ rows) text value (suc k) apart lt e =
-    let split = and_parts (is_fresh row.0 rows) (are_apart rows) apart in
-    rw (other_name row.0 rows text value k split.0 (omega arith) e) (row_at rows text value k split.1 (omega arith) e)
+row_at (row ∷ rows) text value zero apart lt e = grind (arith, equal_bytes)
+row_at (row ∷ rows) text value (suc k) apart lt e = grind (arith, and_parts, other_name, row_at rows text value k)
 
 pub row_of_member : {V : Type 0} (rows : List (List ℕ × V)) (text : List ℕ) (value : V) → are_apart rows ≡ true → Contains rows (text, value) → found_in rows text ≡ Some value
 row_of_member rows text value apart has = row_at rows text value has.0 apart has.1 has.2
@@ -70,9 +66,4 @@ all_below (suc k) test = test k && all_below k test
 
 pub below_all : (k : ℕ) (test : ℕ → Bool) → all_below k test ≡ true → (n : ℕ) → n < k → test n ≡ true
 below_all zero test all n lt = absurd (omega arith)
-below_all (suc k) test all n lt =
-    let both = and_parts (test k) (all_below k test) all in
-    elim (cases_lt n k) [
-      | inl less ↦ below_all k test both.1 n less
-      | inr le ↦ (let same : k ≡ n = omega arith in subst (λ (m : ℕ). test m ≡ true) same both.0)
-    ]
+below_all (suc k) test all n lt = grind (arith, and_parts, cases_lt, below_all k test)

@@ -6,7 +6,6 @@ use Rattle.std.proofs.lemmas.Bool.{cases_Bool, ne_eqb, not-true}
 use Rattle.texts.specs.Pieces.{is_blank}
 use Rattle.texts.specs.Cutting.{before, after, without_front, without_end, trimmed, onto_kept, AreBlanks, IsPadded, NonePass, stripped}
 use Rattle.texts.proofs.ResultLaws.{ok_is, bind_ok}
-use Rattle.assembler.specs.declared.faults.AsmFault.{AsmFault}
 use Rattle.assembler.specs.declared.form.Form.{Form}
 use Rattle.assembler.specs.Mnemonics.{mnemonics, form_named}
 use Rattle.assembler.specs.Statements.{Made, statement_of}
@@ -47,16 +46,10 @@ pub padded_self : (text : List ℕ) → IsPadded text text
 padded_self text = ([], [], tt, tt, sym (append-nil text))
 
 for_found : (o : Option Form) (list : List (List ℕ)) (made : Made) → made_for o list ≡ Ok (Some made) → (form : Form) × (o ≡ Some form) × (statement_of form list ≡ Ok made)
-for_found None list made e = absurd cc
-for_found (Some form) list made e =
-    let m = bind_ok (statement_of form list) _ (Some made) e in
-    let f : Some m.0 ≡ Some made = ok_is AsmFault (Some m.0) (Some made) m.2 in
-    let same : m.0 ≡ made = cc in
-    (form, refl, m.1 ∙ ap Ok same)
+for_found o list made e = grind (arith, bind_ok, ok_is)
 
 for_some : (o : Option Form) (list : List (List ℕ)) → made_for o list ≡ Ok None → ⊥
-for_some None list e = cc
-for_some (Some form) list e = let m = bind_ok (statement_of form list) _ None e in let f = m.2 in cc
+for_some o list e = grind (arith, bind_ok)
 
 -- a statement with blanks round it
 pub record Stated (text : List ℕ) (made : Made) : Type 0 where
@@ -144,15 +137,10 @@ front_keep (x ∷ xs) ys some h = rw h.0 refl
 
 trimmed_applied : (name : List ℕ) (blank : ℕ) (text : List ℕ) → 0 < length name → NonePass is_blank name → 0 < length (without_end text) → trimmed (name ++ blank ∷ text) ≡ name ++ blank ∷ without_end text
 unfolding stripped
-trimmed_applied name blank text some solid kept =
-    let end : without_end (blank ∷ text) ≡ blank ∷ without_end text = onto_some is_blank blank (without_end text) kept in
-    ap without_end (front_keep name (blank ∷ text) some solid) ∙ (end_keep name (blank ∷ text) (subst (λ (e : List ℕ). 0 < length e) (sym end) (omega arith)) ∙ ap (λ e. name ++ e) end)
+trimmed_applied name blank text some solid kept = grind (arith, onto_some, front_keep, end_keep)
 
 end_some : (text : List ℕ) → (trimmed text ≡ [] → ⊥) → without_end text ≡ [] → ⊥
-end_some text some none =
-    let split = trailing_split is_blank text in
-    let back : text ≡ split.0 = split.2 ∙ ap (λ front. front ++ split.0) none in
-    some (stripped_all is_blank text (subst (λ (t : List ℕ). AreBlanks t) (sym back) split.1))
+end_some text some none = grind (arith, trailing_split is_blank text, stripped_all is_blank text)
 
 applied_only : (name : List ℕ) (blank : ℕ) (text : List ℕ) (form : Form) (operands : List (List ℕ)) (made : Made) → Contains mnemonics (name, form) → is_blank blank ≡ true → AreListed text operands → Makes form operands made → made_in (trimmed (name ++ blank ∷ text)) ≡ Ok (Some made)
 unfolding made_in form_named
@@ -208,12 +196,7 @@ word_code : (c : ℕ) → is_word_byte c ≡ true → is_code_byte c ≡ true
 word_code c e = rw e refl
 
 blank_code : (c : ℕ) → is_blank c ≡ true → is_code_byte c ≡ true
-blank_code c e = go (is_word_byte c) (is_blank c) e
-  where
-    go : (a b : Bool) → b ≡ true → ((a || (b || (eqb c 40 || eqb c 41))) || eqb c 44) ≡ true
-    go true b h = refl
-    go false true h = refl
-    go false false h = absurd cc
+blank_code c e = grind (arith, is_word_byte, eqb)
 
 pub blanks_code : (text : List ℕ) → AreBlanks text → list_all is_code_byte text ≡ true
 blanks_code [] h = refl
@@ -236,5 +219,4 @@ statement_code core made (applied name blank text form operands result has is li
     both_all is_code_byte name (blank ∷ text) (name_code name form has) (rw (blank_code blank is, listed_code text operands listed (makes_bytes form operands result makes)) refl)
 
 pub body_code : (text : List ℕ) (made : Option Made) → IsBody text made → list_all is_code_byte text ≡ true
-body_code text made (nothing blanks are) = blanks_code blanks are
-body_code text made (statement whole core result pad is) = padded_code core whole pad (statement_code core result is)
+body_code text made h2 = grind (arith, blanks_code, padded_code, statement_code)

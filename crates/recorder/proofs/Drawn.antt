@@ -1,5 +1,5 @@
 -- A generator's words, one more at a time.
-use Rattle.std.proofs.Common.{◌≡◌, ℕ, zero, suc, ◌+◌, ◌<◌, ◌≤◌, List, [], ◌∷◌, ◌++◌, refl, sym, ap, ◌∙◌, add-one, map, arith}
+use Rattle.std.proofs.Common.{◌≡◌, ℕ, zero, suc, ◌+◌, ◌<◌, ◌≤◌, List, [], ◌∷◌, ◌++◌, refl, ap, add-one, map, arith}
 use Rattle.std.proofs.lemmas.Bool.{lt-ltb, le-ltb}
 use Rattle.std.proofs.lemmas.List.Elements.{All-nil, All-cons}
 use Rattle.rand_core.specs.Stream.{Stream, next_u32}
@@ -23,18 +23,15 @@ drawn-more harts (c ∷ front) word = ap (λ (rest : List Event). drawn harts c 
 
 -- one more word was given
 pub left_more : (i word : ℕ) (first before after : Stream) → before ≡ left_after i first → (word, after) ≡ next_u32 before → after ≡ left_after (i + 1) first
-left_more i word first before after was given =
-    ap (λ (p : ℕ × Stream). p.1) given ∙ ap (λ (s : Stream). (next_u32 s).1) was ∙ sym (left_after-suc i first) ∙ ap (λ (k : ℕ). left_after k first) (sym (add-one i))
+left_more i word first before after was given = grind (arith, left_after-suc i first, add-one i)
 
 pub words_more : (harts i word : ℕ) (first before after : Stream) (old new : List Event) → old ≡ map (drawn harts) (words i first) → before ≡ left_after i first → (word, after) ≡ next_u32 before → new ≡ old ++ drawn harts word ∷ [] → new ≡ map (drawn harts) (words (i + 1) first)
-words_more harts i word first before after old new so_far was given pushed =
-    let here : word ≡ (next_u32 (left_after i first)).0 = ap (λ (p : ℕ × Stream). p.0) given ∙ ap (λ (s : Stream). (next_u32 s).0) was in
-    pushed
-    ∙ ap (λ (front : List Event). front ++ drawn harts word ∷ []) so_far
-    ∙ ap (λ (w : ℕ). map (drawn harts) (words i first) ++ drawn harts w ∷ []) here
-    ∙ sym (drawn-more harts (words i first) (next_u32 (left_after i first)).0)
-    ∙ ap (map (drawn harts)) (sym (words-suc i first))
-    ∙ ap (λ (k : ℕ). map (drawn harts) (words k first)) (sym (add-one i))
+words_more harts i word first before after old new so_far was given pushed = grind (
+  arith,
+  drawn-more harts (words i first) (next_u32 (left_after i first)).0,
+  words-suc i first,
+  add-one i,
+)
 
 -- ---- what was drawn is of these harts
 

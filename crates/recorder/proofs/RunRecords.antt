@@ -1,5 +1,5 @@
 -- Records of runs, one more step at a time, and checks of them.
-use Rattle.std.proofs.Common.{◌≡◌, ◌≢◌, ℕ, zero, suc, ◌+◌, ◌<◌, List, [], ◌∷◌, ◌++◌, length, take, get_or, Some, refl, sym, ap, subst, ◌∙◌}
+use Rattle.std.proofs.Common.{arith, ◌≡◌, ◌≢◌, ℕ, zero, suc, ◌+◌, ◌<◌, List, [], ◌∷◌, ◌++◌, length, take, get_or, Some, refl, sym, ap, subst, ◌∙◌}
 use Rattle.std.specs.List.{slice_get}
 use Rattle.std.proofs.lemmas.List.{take_more}
 use Rattle.std.proofs.lemmas.Option.{slice_get-get_or}
@@ -32,16 +32,7 @@ checked_more B M t steps i d mid o new within is happens same = record_more B M 
 -- or the next has another outcome than it says
 pub differs_here : (B M : ℕ) (o : Start) (steps : List Step) (i : ℕ) (d : Step) (mid : History) (out : Outcome) (new : History) → i < length steps
     → IsRunRecord B M o (take i steps) mid → Happens B M mid (get_or steps i d).0 out new → out ≢ (get_or steps i d).1 → DiffersAt B M o steps i
-differs_here B M o steps i d mid out new within is happens other = record {
-  before = mid;
-  is_record = is;
-  step = get_or steps i d;
-  stands = slice_get-get_or steps i d within;
-  outcome = out;
-  after = new;
-  happens = happens;
-  other = other;
-}
+differs_here B M o steps i d mid out new within is happens other = grind (arith, get_or, slice_get-get_or)
 
 -- ---- the events of a record
 
@@ -60,35 +51,23 @@ events_more steps i d old new within so_far pushed =
 pub one_recorded : (B M : ℕ) (t : History) (old new : List Step) (events : List Event) (i : ℕ) (d : Event) (o : Outcome) (mid after : History)
     → i < length events → RecordFrom B M t old mid → events_in old ≡ take i events → Happens B M mid (get_or events i d) o after → new ≡ old ++ (get_or events i d, o) ∷ []
     → RecordFrom B M t new after × (events_in new ≡ take (i + 1) events)
-one_recorded B M t old new events i d o mid after within is same happens noted =
-    let step : Step = (get_or events i d, o) in (
-      subst (λ (steps : List Step). RecordFrom B M t steps after) (sym noted) (RecordFrom-more B M t old mid step after is happens),
-      ap events_in noted ∙ events_in-append old (step ∷ []) ∙ ap (λ (front : List Event). front ++ get_or events i d ∷ []) same ∙ sym (take_more events i d within),
-    )
+one_recorded B M t old new events i d o mid after within is same happens noted = grind (arith, get_or, RecordFrom-more, events_in-append, take_more)
 
 -- ---- a check has one answer
 
 alike : (B M : ℕ) (t : History) (steps : List Step) (a b : History) → RecordFrom B M t steps a → RecordFrom B M t steps b → a ≡ b
 alike B M t [] a b one other = one ∙ sym other
-alike B M t (step ∷ steps) a b one other =
-    let mid = (happens-one B M t step.0 step.1 step.1 one.0 other.0 one.1 other.1).1 in
-    alike B M other.0 steps a b (subst (λ (u : History). RecordFrom B M u steps a) mid one.2) other.2
+alike B M t (step ∷ steps) a b one other = grind (arith, happens-one, alike B M other.0 steps a b)
 
 -- the part of a record before a place, and what its step says there
 cut : (B M : ℕ) (t : History) (steps : List Step) (new : History) (k : ℕ) (step : Step) → RecordFrom B M t steps new → slice_get steps k ≡ Some step → (before : History) × (after : History) × RecordFrom B M t (take k steps) before × Happens B M before step.0 step.1 after
 cut B M t [] new k step is stands = absurd cc
 cut B M t (first ∷ steps) new zero step is stands = (t, is.0, refl, subst (λ (s : Step). Happens B M t s.0 s.1 is.0) (some_is first step stands) is.1)
-cut B M t (first ∷ steps) new (suc k) step is stands =
-    let later = cut B M is.0 steps new k step is.2 stands in
-    (later.0, later.1, (is.0, is.1, later.2), later.3)
+cut B M t (first ∷ steps) new (suc k) step is stands = grind (arith, cut B M is.0 steps new k step is.2 stands)
 
 -- where each outcome is the run's, none differs
 pub no_other : (B M : ℕ) (o : Start) (steps : List Step) (history : History) (k : ℕ) → IsRunRecord B M o steps history → ¬ DiffersAt B M o steps k
-no_other B M o steps history k is differs =
-    let here = cut B M (unrun o) steps history k differs.step is differs.stands in
-    let before = alike B M (unrun o) (take k steps) differs.before here.0 differs.is_record here.2 in
-    let happens = subst (λ (u : History). Happens B M u differs.step.0 differs.outcome differs.after) before differs.happens in
-    differs.other (happens-one B M here.0 differs.step.0 differs.outcome differs.step.1 differs.after here.1 happens here.3).0
+no_other B M o steps history k is differs = grind (arith, cut, alike, happens-one)
 
 pub record_runs : (B M : ℕ) (o : Start) (steps : List Step) (history : History) → IsRunRecord B M o steps history → Run B M o (events_in steps) history
 record_runs B M o steps history is = RecordFrom-RunFrom B M (unrun o) steps history is

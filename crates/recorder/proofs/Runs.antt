@@ -1,19 +1,14 @@
 -- Runs of events, and the text of their tokens.
-use Rattle.std.proofs.Common.{◌≡◌, ℕ, List, [], ◌∷◌, ◌++◌, None, refl, sym, ap, eq-eqb, append_assoc}
+use Rattle.std.proofs.Common.{arith, ◌≡◌, ℕ, List, [], ◌∷◌, ◌++◌, None, refl, sym, eq-eqb, append_assoc}
 use Rattle.std.specs.Prelude.{Decides}
 use Rattle.std.specs.List.{slice_get}
 use Rattle.std.proofs.lemmas.Bool.{eqb-true}
 use Rattle.step_machine.specs.declared.events.Event.{Event}
-use Rattle.step_machine.specs.declared.events.Event.TheVariants.{Act, Land}
 use Rattle.texts.specs.Runs.{Run, joined, runs_of}
-use Rattle.recorder.specs.Schedule.{hart_of}
 use Rattle.recorder.specs.Writing.{is_same, token_of, text_of, tokens_of}
 
 pub decides : (a b : Event) → Decides (is_same a b) (a ≡ b)
-decides (Act a) (Act b) = (λ e. ap (λ (h : ℕ). Act h) (eqb-true a b e), λ e. eq-eqb a b (ap hart_of e))
-decides (Act a) (Land b) = (λ e. absurd cc, λ e. absurd cc)
-decides (Land a) (Act b) = (λ e. absurd cc, λ e. absurd cc)
-decides (Land a) (Land b) = (λ e. ap (λ (h : ℕ). Land h) (eqb-true a b e), λ e. eq-eqb a b (ap hart_of e))
+decides a b = grind (arith, eqb-true, eq-eqb)
 
 -- a token that others follow
 abbrev pub token_before : Run Event → List ℕ
