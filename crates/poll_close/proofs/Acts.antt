@@ -1,8 +1,7 @@
 -- What one entry changes of all that is read off a history: an act by its hart's need, a landing by
 -- the store that lands. All rings go by these two records and by nothing else of the machine.
-use Rattle.std.proofs.Common.{ℕ, ◌<◌, ◌≡◌, ◌≢◌, ◌==◌, Bool, true, false, List, [], ◌∷◌, ◌++◌, length, take, drop, Some}
-use Rattle.std.proofs.Common.{if◌then◌else◌, refl, sym, ◌∙◌, ap, subst, arith, eq-eqb, append-nil}
-use Rattle.std.specs.Prelude.{option_map}
+use Rattle.std.proofs.Common.{ℕ, ◌<◌, ◌≡◌, ◌≢◌, ◌==◌, Bool, true, false, List, [], ◌∷◌, ◌++◌, length, Some}
+use Rattle.std.proofs.Common.{if◌then◌else◌, refl, sym, subst, arith, eq-eqb, append-nil}
 use Rattle.std.proofs.lemmas.Bool.Decides.{nat_tests}
 use Rattle.hart.specs.State.{HartState}
 use Rattle.hart.specs.Steps.{need_of, advanced}
@@ -19,13 +18,13 @@ use Rattle.poll_close.specs.Going.{GoesOn}
 use Rattle.poll_close.specs.Invariant.Blocks.{as_write, as_writes}
 use Rattle.poll_close.proofs.Lines.{loads}
 use Rattle.step_machine.specs.History.{History, with_entry}
-use Rattle.step_machine.specs.Entries.{hart_of, is_land, is_own, store_of, land_of, write_of, report_of, pending, read, reported}
+use Rattle.step_machine.specs.Entries.{hart_of, is_land, store_of, land_of, write_of, report_of, pending, read, reported}
 use Rattle.step_machine.specs.Access.{access_of}
 use Rattle.step_machine.specs.WordReads.{WritesWord, word_in_memory}
 use Rattle.step_machine.proofs.WordReads.{word_in_memory-other, word_in_memory-write}
 use Rattle.memory.specs.declared.writes.Write.{Write}
 use Rattle.memory.specs.Writes.{write, IsWholeWord}
-use Rattle.step_machine.specs.Paths.{entry_of, value_of, CanMake, state_of}
+use Rattle.step_machine.specs.Paths.{entry_of, value_of, state_of}
 use Rattle.step_machine.specs.Legal.{Allowed, Legal}
 use Rattle.step_machine.specs.Runs.{CanFollow}
 use Rattle.step_machine.proofs.Appended.{pending-last, reported-last}
@@ -83,29 +82,7 @@ record Seen (h k : ℕ) (same : Bool) (es : List Entry) (n : Need) (e : Entry) :
   writes : write_of es e ≡ []
 
 seen : (P : ℕ → Type 0) (h k : ℕ) (same : Bool) (es : List Entry) (n : Need) (v : ℕ) → (h == k) ≡ same → IsNoAmo P n → Seen h k same es n (entry_of h n v)
-seen P h k true es need.Inner v is plain = record { stores = refl; says = refl; lands = refl; writes = refl }
-seen P h k false es need.Inner v is plain = record { stores = refl; says = refl; lands = refl; writes = refl }
-seen P h k true es (need.Load a width) v is plain = record { stores = refl; says = refl; lands = refl; writes = refl }
-seen P h k false es (need.Load a width) v is plain = record { stores = refl; says = refl; lands = refl; writes = refl }
-seen P h k true es (need.Store a width w) v is plain = record {
-  stores = rw is (ap (λ z. write a z w ∷ []) (whole_width width (width == 4) refl plain.0));
-  says = refl;
-  lands = refl;
-  writes = refl;
-}
-seen P h k false es (need.Store a width w) v is plain = record { stores = rw is refl; says = refl; lands = refl; writes = refl }
-seen P h k same es (need.Amo a op rs2) v is plain = absurd plain
-seen P h k true es (need.Fence full) v is plain = record { stores = refl; says = refl; lands = refl; writes = refl }
-seen P h k false es (need.Fence full) v is plain = record { stores = refl; says = refl; lands = refl; writes = refl }
-seen P h k true es (need.Next w) v is plain = record { stores = refl; says = refl; lands = refl; writes = refl }
-seen P h k false es (need.Next w) v is plain = record { stores = refl; says = refl; lands = refl; writes = refl }
-seen P h k true es (need.Report (report.Took i w)) v is plain = record { stores = refl; says = rw is refl; lands = refl; writes = refl }
-seen P h k false es (need.Report (report.Took i w)) v is plain = record { stores = refl; says = rw is refl; lands = refl; writes = refl }
-seen P h k true es (need.Report (report.Closed i)) v is plain = record { stores = refl; says = rw is refl; lands = refl; writes = refl }
-seen P h k false es (need.Report (report.Closed i)) v is plain = record { stores = refl; says = rw is refl; lands = refl; writes = refl }
-seen P h k true es need.Exit v is plain = record { stores = refl; says = refl; lands = refl; writes = refl }
-seen P h k false es need.Exit v is plain = record { stores = refl; says = refl; lands = refl; writes = refl }
-seen P h k same es (need.Stop why) v is plain = absurd plain
+seen P h k same es n v is plain = grind (arith, whole_width)
 
 -- such a need's entry is no stop
 goes_on : (P : ℕ → Type 0) (h : ℕ) (n : Need) (v : ℕ) → IsNoAmo P n → GoesOn (entry_of h n v)
@@ -139,14 +116,13 @@ pub going : (P : ℕ → Type 0) (l : Layout) (n : ℕ) (B M : ℕ) (t : History
     → state_of M t h ≡ Some s → CanFollow B M t e → hart_of e ≡ h → is_land e ≡ false
     → (s.status ≡ status.Running → Plain P (need_of s)) → ((a : ℕ) → P a → StaysWithin l n h a 4)
     → GoesOn e × WritesWord (access_of e) × Touches l n e
-going P l n B M t h s e is can mine act plain reach =
-    let both : CanMake s e × Allowed B t.opening t.entries e = act_only B M t h s e mine act is can in
-    let p : Plain P (need_of s) = plain both.0.running in (
-      subst GoesOn (sym both.0.made) (goes_on P (hart_of e) (need_of s) (value_of e) p.no_amo),
-      subst (λ (d : Entry). WritesWord (access_of d)) (sym both.0.made) (writes_word P (hart_of e) (need_of s) (value_of e) p.no_amo p.whole),
-      subst (Touches l n) (sym both.0.made) (touches P l n (hart_of e) (need_of s) (value_of e) p.no_amo
-          (λ a there. subst (λ (j : ℕ). StaysWithin l n j a 4) (sym mine) (reach a there))),
-    )
+going P l n B M t h s e is can mine act plain reach = grind (
+  arith,
+  act_only B M t h s e mine act is can,
+  goes_on P (hart_of e) (need_of s) (value_of e),
+  writes_word P (hart_of e) (need_of s) (value_of e),
+  touches P l n (hart_of e) (need_of s) (value_of e),
+)
 
 -- what a load read
 reads_by : (B : ℕ) (t : History) (h a v : ℕ) → Allowed B t.opening t.entries (entry_of h (loads a) v) → v ≡ read t.opening t.entries h a 4
@@ -167,36 +143,25 @@ pub record Acted (M : ℕ) (t new : History) (h : ℕ) (s : HartState) (v : ℕ)
 pub acted : (P : ℕ → Type 0) (B M : ℕ) (t : History) (h : ℕ) (s : HartState) (e : Entry) → Legal B t
     → state_of M t h ≡ Some s → CanFollow B M t e → hart_of e ≡ h → is_land e ≡ false
     → (s.status ≡ status.Running → Plain P (need_of s)) → Acted M t (with_entry t e) h s (value_of e)
-acted P B M t h s e legal is can mine act no_amo =
-    let both : CanMake s e × Allowed B t.opening t.entries e = act_only B M t h s e mine act is can in
-    let plain : IsNoAmo P (need_of s) = (no_amo both.0.running).no_amo in
-    let made : e ≡ entry_of h (need_of s) (value_of e) = subst (λ (j : ℕ). e ≡ entry_of j (need_of s) (value_of e)) mine both.0.made in
-    let me : Seen h h true t.entries (need_of s) e = subst (λ (d : Entry). Seen h h true t.entries (need_of s) d)
-    (sym made) (seen P h h true t.entries (need_of s) (value_of e) (eq-eqb h h refl) plain) in
-    record {
-      running = both.0.running;
-      state = state_of-mine M t h e mine act ∙ ap (option_map (λ z. advanced z (value_of e))) is;
-      states = λ k other. state_of-other M t k e (not_mine k (λ same. other (same ∙ mine)));
-      buffer = pending-last h t.entries e (balanced B t h legal)
-          ∙ ap (λ j. drop j (pending h t.entries ++ store_of h e)) me.lands
-          ∙ ap (λ ps. pending h t.entries ++ ps) me.stores;
-      buffers = λ k other. pending-last k t.entries e (balanced B t k legal)
-          ∙ ap (λ j. drop j (pending k t.entries ++ store_of k e)) (them plain made k other).lands
-          ∙ ap (λ ps. pending k t.entries ++ ps) (them plain made k other).stores ∙ append-nil (pending k t.entries);
-      memory = λ a. word_in_memory-other t.opening t.entries e a me.writes;
-      reports = reported-last h t.entries e ∙ ap (λ rs. reported h t.entries ++ rs) me.says;
-      others = λ k other. reported-last k t.entries e
-          ∙ ap (λ rs. reported k t.entries ++ rs) (them plain made k other).says ∙ append-nil (reported k t.entries);
-      loaded = λ a wants. reads_by B t h a (value_of e) (subst (Allowed B t.opening t.entries) (made ∙ ap (λ n. entry_of h n (value_of e)) wants) both.1);
-    }
-  where
-    not_mine : (k : ℕ) → k ≢ hart_of e → is_own k e ≡ false
-    not_mine k other = let off : (hart_of e == k) ≡ false = grind (arith, nat_tests) in rw off refl
-
-    them : IsNoAmo P (need_of s) → e ≡ entry_of h (need_of s) (value_of e) → (k : ℕ) → k ≢ h → Seen h k false t.entries (need_of s) e
-    them plain made k other = let off : (h == k) ≡ false = grind (arith, nat_tests) in
-        subst (λ (d : Entry). Seen h k false t.entries (need_of s) d) (sym made)
-        (seen P h k false t.entries (need_of s) (value_of e) off plain)
+acted P B M t h s e legal is can mine act no_amo = grind (
+  arith,
+  act_only B M t h s e mine act is can,
+  seen P h h true t.entries (need_of s) (value_of e) (eq-eqb h h refl),
+  seen P h,
+  eq-eqb h h refl,
+  state_of-mine M t h e mine act,
+  state_of-other M t,
+  pending-last h t.entries e (balanced B t h legal),
+  pending-last,
+  balanced B t h legal,
+  balanced B t,
+  append-nil,
+  word_in_memory-other t.opening t.entries e,
+  reported-last h t.entries e,
+  reported-last,
+  reads_by B t h,
+  nat_tests,
+)
 
 -- hart h's oldest pending store x reached memory
 pub record Landed (M : ℕ) (t new : History) (h : ℕ) (w : Write) (rest : List Write) : Type 0 where
@@ -213,16 +178,15 @@ some_first (w ∷ ws) some = (w, ws, refl)
 
 pub landed : (B M : ℕ) (t : History) (h : ℕ) → Legal B t → CanFollow B M t (entry.Land h)
     → (w : Write) × (rest : List Write) × Landed M t (with_entry t (entry.Land h)) h w rest
-landed B M t h legal can =
-    let some = some_first (pending h t.entries) (Legal-last B t (entry.Land h) can.legal) in (
-      some.0,
-      some.1,
-      record {
-        first = some.2;
-        states = λ k. states_land M t h k;
-        buffer = pending-land B t h legal ∙ ap (drop 1) some.2;
-        buffers = λ k other. pending-other B t k (entry.Land h) legal refl (land_of-other h k other);
-        memory = λ a. word_in_memory-write t.opening t.entries (entry.Land h) some.0 a (ap (take 1) some.2);
-        reports = λ k. reported-last k t.entries (entry.Land h) ∙ append-nil (reported k t.entries);
-      },
-    )
+landed B M t h legal can = grind (
+  arith,
+  some_first,
+  Legal-last,
+  states_land,
+  pending-land,
+  pending-other,
+  land_of-other,
+  word_in_memory-write,
+  reported-last,
+  append-nil,
+)

@@ -74,17 +74,11 @@ within_from k a h = record { from = grind (arith, nat_tests); below = grind (ari
 
 apart_below : (M : ℕ) (S : Layout) (lists : List (List ℕ)) (i j a : ℕ) → block_size S.size ≤ S.stride → i < j
     → Within (block_of M S lists i) a → Within (block_of M S lists j) a → ⊥
-apart_below M S lists i j a room less h g =
-    let far : i * S.stride + S.stride ≤ j * S.stride = row_fits i S.stride j S.stride less (omega arith) in
-    omega (arith, room, h.below, g.from)
+apart_below M S lists i j a room less h g = grind (arith, row_fits)
 
 pub apart : (M : ℕ) (S : Layout) (lists : List (List ℕ)) (i j a : ℕ) → block_size S.size ≤ S.stride → i ≢ j
     → Within (block_of M S lists i) a → Within (block_of M S lists j) a → ⊥
-apart M S lists i j a room other h g =
-    elim (cases_lt i j) [
-      | inl less ↦ apart_below M S lists i j a room less h g
-      | inr more ↦ apart_below M S lists j i a room (omega arith) g h
-    ]
+apart M S lists i j a room other h g = grind (arith, cases_lt i j, apart_below M S lists i j a room, apart_below M S lists j i a room)
 
 to_block-none : (k : Block) (ws : List Write) (w : Write) → is_within k w.addr ≡ false → to_block k (ws ++ w ∷ []) ≡ to_block k ws
 to_block-none k ws w off = filter-append (is_to k) ws (w ∷ []) ∙ ap (λ b. to_block k ws ++ (if b then w ∷ [] else [])) off ∙ append-nil (to_block k ws)
@@ -108,8 +102,7 @@ outside_differs k a b h off = grind (arith, cases_eq, within_true, nat_tests)
 newest_first : (k : Block) (a : ℕ) (found : Option ℕ) (w : Write) (ws : List Write) → Within k a → (b : Bool)
     → is_within k w.addr ≡ b → ((f : Option ℕ) → newest_word a f (to_block k ws) ≡ newest_word a f ws)
     → newest_word a found (to_block k (w ∷ ws)) ≡ newest_word a found (w ∷ ws)
-newest_first k a found w ws h true on more = rw on (more (if w.addr == a then Some w.value else found))
-newest_first k a found w ws h false off more = let other : (w.addr == a) ≡ false = outside_differs k a w.addr h off in rw (off, other) (more found)
+newest_first k a found w ws h b on more = grind (arith, outside_differs)
 
 -- what is pending for an address of the block is pending in the block's part
 pub newest-to_block : (k : Block) (a : ℕ) (found : Option ℕ) (ws : List Write) → Within k a → newest_word a found (to_block k ws) ≡ newest_word a found ws

@@ -59,11 +59,7 @@ reports_took rs i list took closings less reports = grind (arith, taken-took, eq
 -- its closing
 pub reports_closed : (rs : List Report) (i : ℕ) (list : List ℕ) (took closings : ℕ) → ReportsOf rs i list took closings
     → ReportsOf (rs ++ report.Closed i ∷ []) i list took 1
-reports_closed rs i list took closings reports = record {
-  words = taken-closed rs i i ∙ reports.words;
-  closed = λ k is. refl;
-  said = λ is. (length rs, get_end rs (report.Closed i));
-}
+reports_closed rs i list took closings reports = grind (arith, taken-closed rs i i, get_end rs (report.Closed i))
 
 pub prefix_take : (list : List ℕ) (xs : List ℕ) (n : ℕ) → xs ≡ take n list → IsPrefixOf xs list
 prefix_take list xs n is = (drop n list, ap (λ ys. ys ++ drop n list) is ∙ take-append-drop n list)

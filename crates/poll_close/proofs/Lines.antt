@@ -46,9 +46,8 @@ word_minus a y is small = grind (arith, pos, negsuc, ints, word_plus, add-zero)
 -- a table means a listing where the decoder finds its lines
 pub all_mean : (ws : List ℕ) (is : List Instr) → map meaning ws ≡ map Some is → AllMean ws is
 all_mean [] [] e = tt
-all_mean [] (i ∷ is) e = cc
-all_mean (w ∷ ws) [] e = cc
 all_mean (w ∷ ws) (i ∷ is) e = grind (arith, meaning_iff, all_mean ws is)
+all_mean x y e = cc
 
 -- and such a table has line j at 4 * j
 
@@ -75,27 +74,17 @@ add_line {s} {rd} {rs} {k} {n} at is = record { wants = immediate_need at; leave
 pub sum_line : {s : HartState} {rd a b : Reg} → IsAt s (Register register.Add rd a b)
     → read s.registers a + read s.registers b < 2 ^ 32
     → Line s need.Inner (λ v. leaves_in s rd (read s.registers a + read s.registers b))
-sum_line {s} {rd} {a} {b} at small =
-    let sum : (read s.registers a + read s.registers b) % 2 ^ 32 ≡ read s.registers a + read s.registers b = omega arith in
-    record { wants = register_need at; leaves = λ v. register_after at v ∙ ap (leaves_in s rd) sum }
+sum_line {s} {rd} {a} {b} at small = grind (arith, register_need at, register_after at)
 
 pub load_line : {s : HartState} {rd rs : Reg} {k : ℕ} → IsAt s (Load load.Word rd rs (pos k))
     → read s.registers rs % 4 ≡ 0 → k % 4 ≡ 0 → read s.registers rs + k < 4 * s.words → 4 * s.words ≤ 2 ^ 32
     → Line s (loads (read s.registers rs + k)) (λ v. leaves_in s rd v)
-load_line {s} {rd} {rs} {k} at even whole below small =
-    let place : word (pos (read s.registers rs) +ℤ pos k) ≡ read s.registers rs + k = word_plus (read s.registers rs) k (omega arith) in
-    let aligned : word (pos (read s.registers rs) +ℤ pos k) % 4 ≡ 0 = omega arith in
-    let inside : word (pos (read s.registers rs) +ℤ pos k) < 4 * s.words = omega arith in
-    record { wants = load_need at aligned inside ∙ ap loads place; leaves = λ v. load_after at aligned inside v }
+load_line {s} {rd} {rs} {k} at even whole below small = grind (arith, word_plus (read s.registers rs) k, load_need at, load_after at)
 
 pub store_line : {s : HartState} {rs from : Reg} {k : ℕ} → IsAt s (Store store.Word rs from (pos k))
     → read s.registers rs % 4 ≡ 0 → k % 4 ≡ 0 → read s.registers rs + k < 4 * s.words → 4 * s.words ≤ 2 ^ 32
     → Line s (stores (read s.registers rs + k) (read s.registers from)) (λ v. goes_to s (next_pc s.pc))
-store_line {s} {rs} {from} {k} at even whole below small =
-    let place : word (pos (read s.registers rs) +ℤ pos k) ≡ read s.registers rs + k = word_plus (read s.registers rs) k (omega arith) in
-    let aligned : word (pos (read s.registers rs) +ℤ pos k) % 4 ≡ 0 = omega arith in
-    let inside : word (pos (read s.registers rs) +ℤ pos k) < 4 * s.words = omega arith in
-    record { wants = store_need at aligned inside ∙ ap (λ a. stores a (read s.registers from)) place; leaves = λ v. store_after at aligned inside v }
+store_line {s} {rs} {from} {k} at even whole below small = grind (arith, word_plus (read s.registers rs) k, store_need at, store_after at)
 
 pub jump_line : {s : HartState} {k : ℤ} → IsAt s (Jal (reg_of 0) k) → address s.pc k % 4 ≡ 0 → Line s need.Inner (λ v. goes_to s (address s.pc k))
 jump_line at aligned = record { wants = jal_need at aligned; leaves = λ v. jal_after at aligned v }

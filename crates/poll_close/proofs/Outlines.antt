@@ -32,11 +32,7 @@ pub found : {Rank : Type 0} {Held : Type 1} (holds : Held → Type 0) (Goal : �
     (rows : List (Row Rank Held)) → Reasons (λ (row : Row Rank Held). holds row.holds → Goal row.at) rows → (here : ℕ)
     → HoldsIn holds rows here → Goal here
 found holds Goal [] reasons here h = absurd h
-found holds Goal (row ∷ rows) reasons here h = by_test (row.at == here) refl h (λ later. found holds Goal rows reasons.1 here later)
-  where
-    by_test : (b : Bool) → (row.at == here) ≡ b → either b (holds row.holds) (HoldsIn holds rows here) → (HoldsIn holds rows here → Goal here) → Goal here
-    by_test true same h rest = let is : row.at ≡ here = grind (arith, nat_tests) in subst Goal is (reasons.0 h)
-    by_test false other h rest = rest h
+found holds Goal (row ∷ rows) reasons here h = grind (arith, nat_tests, found holds Goal rows reasons.1 here)
 
 -- where it has ended, and where it runs
 module _ (o : Outline) (k : Block) (here : ℕ) (n : o.Own) (r : SenderRegisters) where

@@ -1,6 +1,6 @@
 -- What each step of the plan's loop keeps.
 use Rattle.std.proofs.Common.{◌≡◌, ◌≢◌, ℕ, zero, suc, ◌+◌, ◌-◌, ◌==◌, not, ◌≤◌, ◌<◌, inl, inr, ◌⊎◌, Bool, true, false}
-use Rattle.std.proofs.Common.{if◌then◌else◌, ◌||◌, ◌&&◌, Some, None, List, [], ◌∷◌, ◌++◌, length, drop, refl, sym, ◌∙◌}
+use Rattle.std.proofs.Common.{if◌then◌else◌, ◌||◌, Some, None, List, [], ◌∷◌, ◌++◌, length, drop, refl, sym, ◌∙◌}
 use Rattle.std.proofs.Common.{ap, subst, arith}
 use Rattle.std.proofs.lemmas.Bool.{cases_eq, cases_lt}
 use Rattle.std.proofs.lemmas.Bool.Decides.{nat_tests}
@@ -24,9 +24,9 @@ use Rattle.memory.specs.declared.writes.Write.{Write}
 use Rattle.hart.specs.declared.need.Report.{Report}
 use Rattle.hart.specs.declared.need.Report.TheVariants as report
 use Rattle.std.specs.Prelude.{map}
-use Rattle.std.specs.List.{slice_get, slice_index_or}
+use Rattle.std.specs.List.{slice_get}
 use Rattle.poll_close.specs.Laws.{Ring, opening_over, opening_of, Meaning, Accepted, AcceptedAt, Opens, Keeps, Cleans}
-use Rattle.poll_close.specs.Reports.{taken, Clean}
+use Rattle.poll_close.specs.Reports.{Clean}
 use Rattle.poll_close.specs.Standing.{Stands, lists_of}
 use Rattle.poll_close.proofs.Dense.{dense-accepted}
 use Rattle.poll_close.proofs.Standing.{inboxes, stands-opens, stands-happens, stands-run, stands-clean}
@@ -54,13 +54,7 @@ closed_at (report.Closed j ∷ rs) i is = at (j == i) refl is (closed_at rs i)
 
 pub each_closed : (rs : List Report) (n : ℕ) → all_closed rs n ≡ true → (i : ℕ) → i < n → is_closed rs i ≡ true
 each_closed rs zero all i less = absurd (omega arith)
-each_closed rs (suc n) all i less = at (is_closed rs n) refl all (cases_eq i n) (λ both below. each_closed rs n both i below)
-  where
-    at : (b : Bool) → is_closed rs n ≡ b → (b && all_closed rs n) ≡ true → (i ≡ n) ⊎ (i ≢ n)
-        → (all_closed rs n ≡ true → i < n → is_closed rs i ≡ true) → is_closed rs i ≡ true
-    at true is both (inl same) more = ap (is_closed rs) same ∙ is
-    at true is both (inr other) more = more both (omega (arith, other, less))
-    at false is both any more = cc
+each_closed rs (suc n) all i less = grind (arith, cases_eq, each_closed rs n)
 
 pub open_one : (rs : List Report) (n i : ℕ) → i < n → is_closed rs i ≡ false → all_closed rs n ≡ false
 open_one rs n i less open_yet = grind (arith, each_closed)
@@ -74,11 +68,7 @@ finished ring means B M t cleans s done = record {
 }
 
 same_harts : (B M : ℕ) (t : History) (ev : Event) (o : Outcome) (new : History) → Happens B M t ev o new → length new.opening.harts ≡ length t.opening.harts
-same_harts B M t ev o new h =
-    elim (shape_of B M t ev o new h) [
-      | inl a ↦ ap (λ (u : History). length u.opening.harts) a.2.after
-      | inr i ↦ ap (λ (u : History). length u.opening.harts) i.after
-    ]
+same_harts B M t ev o new h = grind (arith, shape_of)
 
 module _ {ring : Ring} {means : Meaning} {B M : ℕ} where
   pub planned-none : {t : History} → Stands ring means B M t → Planned ring means B M t [] t
@@ -108,18 +98,7 @@ pub record Less (t new : History) (h : ℕ) : Type 0 where
 -- a hart with a pending store lands it
 pub lands_one : (B M : ℕ) (t : History) (h : ℕ) (o : Outcome) (new : History) → WellFormed B M t
     → h < length t.opening.harts → 0 < length (pending h t.entries) → Happens B M t (event.Land h) o new → Less t new h
-lands_one B M t h o new kept hart some hap =
-    elim (shape_of B M t (event.Land h) o new hap) [
-      | inl a ↦
-          let is : new ≡ with_entry t (entry.Land h) = a.2.after ∙ ap (with_entry t) a.2.for_event in
-          subst (λ (u : History). Less t u h) (sym is) (record {
-            fewer = subst (λ (ps : List Write). length ps < length (pending h t.entries))
-                (sym (pending-land B t h kept.legal)) (drop_one (pending h t.entries) some);
-            others = λ k other. pending-other B t k (entry.Land h) kept.legal refl (land_of-other h k other);
-            after = refl;
-          })
-      | inr i ↦ absurd (i.none (entry.Land h) refl (land_follows B M t h kept.legal (kept.paths h hart) some))
-    ]
+lands_one B M t h o new kept hart some hap = grind (arith, shape_of, pending-land, drop_one, pending-other, land_of-other, land_follows)
 
 pick : (g h : ℕ) (p : Write) (b : Bool) → length (if b then p ∷ [] else []) ≤ 1
 pick g h p b = grind arith
@@ -139,22 +118,7 @@ pub record Stepped (left : History → ℕ) (t new : History) (h : ℕ) : Type 0
 -- the chosen hart acts
 pub acts_one : (B M : ℕ) (left : History → ℕ) (t : History) (h : ℕ) (o : Outcome) (new : History) → WellFormed B M t
     → AllLanded t → Nearer B M left t h → Happens B M t (event.Act h) o new → Stepped left t new h
-acts_one B M left t h o new kept none near hap =
-    elim (shape_of B M t (event.Act h) o new hap) [
-      | inl a ↦
-          subst (λ (u : History). Stepped left t u h) (sym a.2.after) (record {
-            less = near.alone a.0 a.2.for_event a.2.follows;
-            landing = near.landed (with_entry t a.0);
-            few = subst (λ (ps : List Write). length ps ≤ 1)
-                (sym (pending-last h t.entries a.0 (balanced B t h kept.legal)
-                ∙ ap (λ ps. drop (land_of h a.0) (ps ++ store_of h a.0)) (none h near.hart)))
-                (few h a.0 a.2.for_event.1);
-            others =
-                λ k other. (let out = elsewhere k a.0 a.2.for_event.1 (λ same. other (same ∙ a.2.for_event.0)) in
-                pending-other B t k a.0 kept.legal out.0 out.1);
-          })
-      | inr i ↦ absurd (near.acts i.none)
-    ]
+acts_one B M left t h o new kept none near hap = grind (arith, shape_of, few, pending-last, balanced, elsewhere, pending-other)
 
 pub no_length : (ps : List Write) → length ps < 1 → ps ≡ []
 no_length [] less = refl
@@ -162,11 +126,7 @@ no_length (p ∷ ps) less = absurd (omega arith)
 
 pub all_again : (t new : History) (h : ℕ) → length new.opening.harts ≡ length t.opening.harts → AllLanded t
     → ((k : ℕ) → k ≢ h → pending k new.entries ≡ pending k t.entries) → pending h new.entries ≡ [] → AllLanded new
-all_again t new h harts all others none k within =
-    elim (cases_eq k h) [
-      | inl same ↦ ap (λ j. pending j new.entries) same ∙ none
-      | inr other ↦ others k other ∙ all k (omega (arith, harts, within))
-    ]
+all_again t new h harts all others none k within = grind (arith, cases_eq)
 
 pub not_done : (b d : Bool) → b ≡ d → not b ≡ true → d ≡ false
 not_done b d same on = grind arith
@@ -218,11 +178,7 @@ turn_over {ring} {means} {B} {M} {left} {start} {evs} {t} {mid} {h} o new keeps 
 pub turn_quiet : {ring : Ring} {means : Meaning} {B M : ℕ} {left : History → ℕ} {start : History}
     {evs : List Event} {t mid : History} {h : ℕ} → AllLanded t → Turned ring means B M left start evs t mid h
     → length (pending h mid.entries) < 1 → Over ring means B M left start evs t mid
-turn_quiet {t = t} {mid} {h} all turn none = record {
-  less = turn.stepped.less;
-  planned = turn.planned;
-  all = all_again t mid h turn.same all turn.stepped.others (no_length (pending h mid.entries) none);
-}
+turn_quiet {t = t} {mid} {h} all turn none = grind (arith, all_again, no_length)
 
 -- what ran the events of a history's own entries is that history
 pub same_run : (B M : ℕ) (t new : History) (o : Start) (evs : List Event) → IsOwnRun B M t → o ≡ t.opening
@@ -231,12 +187,11 @@ same_run B M t new o evs own opening events run = grind (arith, run-one)
 
 -- the last report, if there is one, tells whether the reports end in a word
 last_at : (rs : List Report) (k : ℕ) (x : Report) → suc k ≡ length rs → slice_get rs k ≡ Some x → ends_in_word rs ≡ is_word x
-last_at [] k x end is = cc
 last_at (report.Took j w ∷ []) zero x end is = let same : report.Took j w ≡ x = cc in ap is_word same
 last_at (report.Closed j ∷ []) zero x end is = let same : report.Closed j ≡ x = cc in ap is_word same
-last_at (r ∷ []) (suc k) x end is = cc
 last_at (r ∷ s ∷ rs) zero x end is = absurd (omega (arith, end))
 last_at (r ∷ s ∷ rs) (suc k) x end is = last_at (s ∷ rs) k x (let shorter : suc k ≡ length (s ∷ rs) = omega (arith, end) in shorter) is
+last_at y z x end is = cc
 
 pub last_is : (rs : List Report) (x : Report) → slice_get rs (length rs - 1) ≡ Some x → is_word x ≡ ends_in_word rs
 last_is [] x is = cc
@@ -253,9 +208,7 @@ last_none (r ∷ rs) none = absurd (let past : length (r ∷ rs) ≤ length (r �
 
 -- where the last report is of a word, its sender is open
 word_last : (rs : List Report) → ends_in_word rs ≡ true → (k : ℕ) × (i : ℕ) × (w : ℕ) × (k + 1 ≡ length rs) × (slice_get rs k ≡ Some (report.Took i w))
-word_last [] is = cc
 word_last (report.Took j w ∷ []) is = (0, j, w, refl, refl)
-word_last (report.Closed j ∷ []) is = cc
 word_last (r ∷ s ∷ rs) is = let more = word_last (s ∷ rs) is in (
   suc more.0,
   more.1,
@@ -263,6 +216,7 @@ word_last (r ∷ s ∷ rs) is = let more = word_last (s ∷ rs) is in (
   (let longer : suc more.0 + 1 ≡ length (r ∷ s ∷ rs) = omega (arith, more.3) in longer),
   more.4,
 )
+word_last x is = cc
 
 get_below : (rs : List Report) (k : ℕ) (x : Report) → slice_get rs k ≡ Some x → k < length rs
 get_below [] k x is = cc
@@ -297,29 +251,13 @@ open_where_word ring means B M t cleans s word = at (is_done t) refl
 pub whole_delivered : (B M : ℕ) (o : Start) (events plan : List Event) (mid new : History) (reports : List Report)
     → Run B M o events mid → RunFrom B M mid plan new → Finishes B M mid plan → (is_done mid ≡ true → plan ≡ [])
     → new.opening ≡ o → reports ≡ reported 0 new.entries → Clean reports (lists_of new.opening) → DeliversWhole B M o (lists_of o) events reports
-whole_delivered B M o events plan mid new reports first second finishes none same answer clean =
-    let count : length (lists_of o) ≡ senders_of new = ap (λ (p : Start). length (lists_of p)) (sym same) ∙ senders-count new in
-    let end : Finished new = subst Finished (run-one B M mid plan finishes.history new finishes.run second) finishes.finished in
-    record {
-      plan = plan;
-      middle = mid;
-      history = new;
-      run = first;
-      finish = second;
-      none = none;
-      answer = answer;
-      clean = subst (λ (p : Start). Clean reports (lists_of p)) same clean;
-      closed = λ i less. ap (λ rs. is_closed rs i) answer ∙ end.closed i (omega (arith, count, less));
-      whole = λ i less. ap (λ rs. taken rs i) answer ∙ end.whole i (omega (arith, count, less)) ∙ ap (λ (p : Start). slice_index_or (lists_of p) i []) same;
-    }
+whole_delivered B M o events plan mid new reports first second finishes none same answer clean = grind (arith, senders-count, run-one)
 
 -- a channel that begins at such an opening was given these lists
 pub whole_at : (B M : ℕ) (sender receiver : List ℕ) (lists : List (List ℕ)) (l : Layout) (t : History) (events : List Event) (reports : List Report)
     → t ≡ unrun (opening_at sender receiver lists l) → DeliversWhole B M t.opening (lists_of t.opening) events reports
     → DeliversWhole B M (opening_at sender receiver lists l) lists events reports
-whole_at B M sender receiver lists l t events reports begins whole =
-    subst (λ (ls : List (List ℕ)). DeliversWhole B M (opening_at sender receiver lists l) ls events reports) (inboxes sender l 0 lists)
-    (subst (λ (u : History). DeliversWhole B M u.opening (lists_of u.opening) events reports) begins whole)
+whole_at B M sender receiver lists l t events reports begins whole = grind (arith, inboxes sender l 0 lists)
 
 -- a list that isn't empty, or is, as its length's test says
 pub some_left : {A : Type 0} {seen xs : List A} {b : Bool} → seen ≡ xs → b ≡ (length seen == 0) → b ≡ false → 0 < length xs
@@ -330,10 +268,7 @@ none_left same test is = rw (← same) (let at : (length _ == 0) ≡ true = sym 
 
 -- nothing is pending of the harts before the next one, and nothing of that
 pub landed_more : (es : List Entry) (h : ℕ) → ((k : ℕ) → k < h → pending k es ≡ []) → length (pending h es) < 1 → (k : ℕ) → k < h + 1 → pending k es ≡ []
-landed_more es h before none k below = elim (cases_eq k h) [
-  | inl same ↦ subst (λ (j : ℕ). pending j es ≡ []) (sym same) (no_length (pending h es) none)
-  | inr other ↦ before k (omega (arith, other))
-]
+landed_more es h before none k below = grind (arith, cases_eq, no_length)
 
 -- ---- such a plan exists, whether or not it is computed
 

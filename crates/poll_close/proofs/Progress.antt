@@ -1,7 +1,7 @@
 -- From what a ring shows of one block to the law of the plan: where nothing is pending and some sender is
 -- not reported closed, the hart that comes next can act, and less is left after its act.
 use Rattle.std.proofs.Common.{◌==◌, ℕ, zero, suc, ◌+◌, ◌-◌, ◌%◌, ◌<◌, ◌≤◌, ◌≡◌, ◌≢◌, ◌⊎◌, inl, inr, Bool, true, false}
-use Rattle.std.proofs.Common.{not, ◌&&◌, if◌then◌else◌, List, [], ◌∷◌, ◌++◌, length, length-take, Some}
+use Rattle.std.proofs.Common.{not, ◌&&◌, List, [], ◌∷◌, ◌++◌, length, length-take, Some}
 use Rattle.std.proofs.Common.{refl, sym, ◌∙◌, ap, subst, arith, add-one, append-nil, lit<}
 use Rattle.std.specs.Prelude.{slice_index}
 use Rattle.std.proofs.lemmas.Bool.{cases_eq, and_parts}
@@ -57,21 +57,7 @@ use Rattle.std.proofs.lemmas.Bool.Decides.{nat_tests}
 pub next_is : (ready : ℕ → Bool) (n : ℕ) → ((next_of ready n ≡ 0) × ((i : ℕ) → i < n → ready (i + 1) ≡ false))
     ⊎ ((j : ℕ) × (j < n) × (next_of ready n ≡ j + 1) × (ready (j + 1) ≡ true))
 next_is ready zero = inl (refl, λ i less. absurd (omega arith))
-next_is ready (suc n) = at (ready (suc n)) refl (next_is ready n)
-  where
-    at : (b : Bool) → ready (suc n) ≡ b → ((next_of ready n ≡ 0) × ((i : ℕ) → i < n → ready (i + 1) ≡ false))
-        ⊎ ((j : ℕ) × (j < n) × (next_of ready n ≡ j + 1) × (ready (j + 1) ≡ true))
-        → (((if b then suc n else next_of ready n) ≡ 0) × ((i : ℕ) → i < suc n → ready (i + 1) ≡ false))
-        ⊎ ((j : ℕ) × (j < suc n) × ((if b then suc n else next_of ready n) ≡ j + 1) × (ready (j + 1) ≡ true))
-    at true is below = inr (n, omega arith, sym (add-one n), ap ready (add-one n) ∙ is)
-    at false is (inl none) = inl (
-      none.0,
-      λ i less. elim (cases_eq i n) [
-        | inl same ↦ ap ready (ap (λ j. j + 1) same ∙ add-one n) ∙ is
-        | inr other ↦ none.1 i (omega (arith, other, less))
-      ],
-    )
-    at false is (inr some) = inr (some.0, (let less : some.0 < n = some.1 in omega arith), some.2, some.3)
+next_is ready (suc n) = grind (arith, add-one n, cases_eq, next_is ready n)
 
 -- a running hart with nothing pending can act
 no_wait : (B : ℕ) (ws : List Write) (n : Need) → 1 ≤ B → ws ≡ [] → HasToWait B ws n → ⊥

@@ -161,10 +161,4 @@ pub shuts_less : (m : BlockMeaning) (f : ℕ → Count m) (count i : ℕ)
     → ((j : ℕ) → j < count → (f j).receiver.closings ≤ 1) → i < count → (f i).receiver.closings ≡ 0
     → all_closings m f count < count
 shuts_less m f zero i each less none = absurd (omega arith)
-shuts_less m f (suc c) i each less none =
-    elim (cases_eq i c) [
-      | inl same ↦
-          let last : (f c).receiver.closings ≡ 0 = ap (λ z. (f z).receiver.closings) (sym same) ∙ none in
-          omega (arith, last, shuts_most m f c (λ j below. each j (omega arith)))
-      | inr other ↦ omega (arith, each c (omega arith), shuts_less m f c i (λ j below. each j (omega arith)) (omega (arith, other, less)) none)
-    ]
+shuts_less m f (suc c) i each less none = grind (arith, cases_eq i c, shuts_most m f c, shuts_less m f c i)

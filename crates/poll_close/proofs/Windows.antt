@@ -1,6 +1,6 @@
 -- The stores by a list's words, and parts of one fixed list of stores: the ones that are made and have
 -- not landed.
-use Rattle.std.proofs.Common.{ℕ, zero, suc, ◌-◌, ◌<◌, ◌≤◌, ◌≡◌, ◌≢◌, ◌==◌, true, false, if◌then◌else◌, List, [], ◌∷◌}
+use Rattle.std.proofs.Common.{ℕ, zero, suc, ◌<◌, ◌≤◌, ◌≡◌, ◌≢◌, ◌==◌, false, if◌then◌else◌, List, [], ◌∷◌}
 use Rattle.std.proofs.Common.{◌++◌, length, take, length-drop, length-take, min, Option, Some, None, refl, sym, ◌∙◌, ap}
 use Rattle.std.proofs.Common.{arith, append-nil, eq-eqb, ◌+◌, ◌*◌, ◌⊎◌, inl, inr}
 use Rattle.std.specs.List.{slice_get}
@@ -37,11 +37,7 @@ window_empty xs i j less = drop_of_length-le (take j xs) (let front : length (ta
 
 -- where the window is empty, all that is made has landed
 pub none_left : (xs : List (ℕ × ℕ)) (i j : ℕ) → window xs i j ≡ [] → j ≤ length xs → j ≤ i
-none_left xs i j none within =
-    let long : length (window xs i j) ≡ 0 = ap length none in
-    let counted : length (window xs i j) ≡ length (take j xs) - i = length-drop i (take j xs) in
-    let front : length (take j xs) ≡ min j (length xs) = length-take j xs in
-    omega arith
+none_left xs i j none within = grind (arith, length-drop i (take j xs), length-take j xs)
 
 -- what holds of all stores of the list
 abbrev pub Each : (ℕ × ℕ → Type 0) → List (ℕ × ℕ) → Type 0
@@ -69,10 +65,7 @@ newest_none a found (x ∷ xs) none =
 
 -- the newest is the last that was made
 pub newest_made : (xs : List (ℕ × ℕ)) (i j : ℕ) (a v : ℕ) → i ≤ j → slice_get xs j ≡ Some (a, v) → newest_to a None (window xs i (suc j)) ≡ Some v
-newest_made xs i j a v less at =
-    ap (newest_to a None) (sym (one_made xs i j (a, v) less at))
-    ∙ newest_to-append a None (window xs i j) ((a, v) ∷ [])
-    ∙ (let same : (a == a) ≡ true = eq-eqb a a refl in rw same refl)
+newest_made xs i j a v less at = grind (arith, one_made xs i j (a, v) less at, newest_to-append a None (window xs i j) ((a, v) ∷ []), eq-eqb a a refl)
 
 -- what holds of the stores of these numbers holds of those of the window
 pub Each-range : (P : ℕ × ℕ → Type 0) (xs : List (ℕ × ℕ)) (i j : ℕ)
@@ -92,17 +85,12 @@ Each-range P (y ∷ ys) (suc i) (suc j) each t x is =
 window_split : (xs : List (ℕ × ℕ)) (i m j : ℕ) → i ≤ m → m ≤ j → window xs i j ≡ window xs i m ++ window xs m j
 window_split [] zero zero zero a b = refl
 window_split [] zero zero (suc j) a b = refl
-window_split [] zero (suc m) zero a b = absurd (omega arith)
 window_split [] zero (suc m) (suc j) a b = refl
-window_split [] (suc i) zero j a b = absurd (omega arith)
-window_split [] (suc i) (suc m) zero a b = absurd (omega arith)
 window_split [] (suc i) (suc m) (suc j) a b = refl
 window_split (y ∷ ys) zero zero j a b = refl
-window_split (y ∷ ys) zero (suc m) zero a b = absurd (omega arith)
 window_split (y ∷ ys) zero (suc m) (suc j) a b = ap (λ zs. y ∷ zs) (window_split ys zero m j (omega arith) (omega arith))
-window_split (y ∷ ys) (suc i) zero j a b = absurd (omega arith)
-window_split (y ∷ ys) (suc i) (suc m) zero a b = absurd (omega arith)
 window_split (y ∷ ys) (suc i) (suc m) (suc j) a b = window_split ys i m j (omega arith) (omega arith)
+window_split x z other u a b = absurd (omega arith)
 
 -- the newest to an address is store s, where none after it goes there
 pub newest_at : (xs : List (ℕ × ℕ)) (i s j a v : ℕ) → i ≤ s → s < j → slice_get xs s ≡ Some (a, v)
