@@ -1,6 +1,6 @@
 -- The columns of a table, and the rows that their cells stand in.
-use Rattle.std.proofs.Common.{◌≡◌, ℕ, suc, zero, ◌+◌, ◌≤◌, List, [], ◌∷◌, ◌++◌, length, replicate, Option, Some, None, Result, Ok, Err, refl, sym, ap, subst, ◌∙◌, inl, inr, ◌⊎◌, arith}
-use Rattle.std.specs.Prelude.{nat_lt, ◌==◌, unwrap_or}
+use Rattle.std.proofs.Common.{◌≡◌, ℕ, suc, zero, ◌+◌, ◌≤◌, List, [], ◌∷◌, ◌++◌, length, replicate, Option, Some, None, Result, Ok, refl, sym, ap, subst, ◌∙◌, inl, inr, ◌⊎◌, arith}
+use Rattle.std.specs.Prelude.{unwrap_or}
 use Rattle.std.specs.List.{slice_index_or, AllByRecursion}
 use Rattle.std.proofs.lemmas.Bool.{cases_Bool, le-ltb, eq-eqb, eqb-true}
 use Rattle.std.proofs.lemmas.List.{length-replicate}
@@ -9,14 +9,13 @@ use Rattle.texts.specs.Cutting.{before, after, is_byte, AreBlanks}
 use Rattle.texts.proofs.ResultLaws.{ok_is, bind_ok}
 use Rattle.assembler.specs.Faults.{Refusal}
 use Rattle.assembler.specs.Drafts.{Line, words_of, drafted, all_drafted, finished}
-use Rattle.assembler.specs.Program.{AreLines, EachOnce}
 use Rattle.assembler.proofs.ProgramGrammar.{all_found, all_only, finished_found, finished_only, none_above}
 use Rattle.litmus_reader.specs.declared.faults.LitmusFault.{LitmusFault}
-use Rattle.litmus_reader.specs.Table.{Column, Code, as_instr, in_limit, cell_added, cells_added, row_added, line_added, lines_added, table_from, table_at, codes_of}
+use Rattle.litmus_reader.specs.Table.{Column, Code, as_instr, cell_added, cells_added, line_added, lines_added, table_from, table_at, codes_of}
 use Rattle.litmus_reader.specs.declared.marks.Mark.TheVariants as mark
 use Rattle.litmus_reader.specs.Marks.{before_line, from_line}
 use Rattle.texts.specs.Pieces.{pieces, pieces_after}
-use Rattle.litmus_reader.specs.Rows.{is_blank_line, row_in, cells_of, harts_in}
+use Rattle.litmus_reader.specs.Rows.{harts_in}
 use Rattle.litmus_reader.specs.Layout.{IsVisible}
 use Rattle.litmus_reader.specs.Columns.{Cells, IsRow, AreRows, IsTable, column_of, IsColumnCode}
 use Rattle.litmus_reader.specs.Columns.AreRows.{none, blank, row}
@@ -27,8 +26,7 @@ use Rattle.texts.specs.declared.pieces.Separators.TheVariants.{Byte}
 -- ---- one column
 
 as_instr_ok : {A : Type 0} (r : Result A Refusal) (x : A) → as_instr r ≡ Ok x → r ≡ Ok x
-as_instr_ok (Ok y) x e = ap Ok (ok_is LitmusFault y x e)
-as_instr_ok (Err refusal) x e = absurd cc
+as_instr_ok r x e = grind (arith, ok_is)
 
 words_of-append : (above below : List Line) → words_of (above ++ below) ≡ words_of above + words_of below
 words_of-append [] below = omega arith
@@ -36,22 +34,11 @@ words_of-append (line ∷ above) below = let rest = words_of-append above below 
 
 -- a column's words are no fewer with more cells
 words_grow : (above : Column) (texts : List (List ℕ)) (all : Column) → all_drafted above texts ≡ Ok all → words_of above ≤ words_of all
-words_grow above texts all e =
-    let shown = all_found above texts all e in
-    let sum : words_of all ≡ words_of above + words_of shown.below = ap words_of shown.whole ∙ words_of-append above shown.below in
-    omega (arith, sum)
+words_grow above texts all e = grind (arith, all_found above texts all e, words_of-append above)
 
 cell_found : (column : Column) (cell : List ℕ) (more : Column) → cell_added column cell ≡ Ok more → drafted column cell ≡ Ok more
 unfolding cell_added
-cell_found column cell more e =
-    let step = bind_ok (as_instr (drafted column cell)) in_limit more e in
-    as_instr_ok (drafted column cell) more (step.1 ∙ ap Ok (within step.0 step.2))
-  where
-    within : (made : Column) → in_limit made ≡ Ok more → made ≡ more
-    within made f = elim (cases_Bool (nat_lt 4096 (words_of made))) [
-      | inl long ↦ absurd (let g = rw long at f in cc)
-      | inr few ↦ ok_is LitmusFault made more (rw few at f)
-    ]
+cell_found column cell more e = grind (arith, bind_ok, as_instr_ok, cases_Bool, ok_is)
 
 cell_only : (column : Column) (cell : List ℕ) (more : Column) → drafted column cell ≡ Ok more → words_of more ≤ 4096 → cell_added column cell ≡ Ok more
 unfolding cell_added
@@ -149,16 +136,10 @@ AreCodes rows hart [] = Unit {0}
 AreCodes rows hart (code ∷ codes) = IsColumnCode (column_of hart rows) code × AreCodes rows (hart + 1) codes
 
 code_found : (cells : List (List ℕ)) (end : Column) (code : Code) → all_drafted [] cells ≡ Ok end → finished end ≡ Ok code → IsColumnCode cells code
-code_found cells end code e done =
-    let written = all_found [] cells end e in
-    let same : written.below ≡ end = sym written.whole in
-    let answer = finished_found end code done in
-    (end, answer.instrs, subst (λ (ls : List Line). AreLines cells ls) same written.written, record { once = subst EachOnce same written.once; few = answer.few; placed = answer.placed }, answer.same)
+code_found cells end code e done = grind (arith, all_found [] cells end e, finished_found end code done)
 
 codes_found : (rows : List Cells) (hart harts : ℕ) (ends : List Column) (codes : List Code) → AreEnds rows hart (replicate harts []) ends → codes_of ends ≡ Ok codes → AreCodes rows hart codes × (length codes ≡ harts)
-codes_found rows hart zero ends codes are e =
-    let none : [] ≡ codes = ok_is LitmusFault [] codes (ap codes_of (sym are) ∙ e) in
-    subst (λ (cs : List Code). AreCodes rows hart cs × (length cs ≡ 0)) none (tt, refl)
+codes_found rows hart zero ends codes are e = grind (arith, ok_is)
 codes_found rows hart (suc harts) ends codes are e =
     let all : codes_of (are.0 ∷ are.1) ≡ Ok codes = ap codes_of (sym are.2) ∙ e in
     let step = bind_ok (as_instr (finished are.0)) (λ (code : Code). codes_of are.1 >>= λ (others : List Code). Ok (code ∷ others)) codes all in
@@ -195,23 +176,11 @@ record IsLineOf (columns : List Column) (line : List ℕ) (more : List Column) :
 
 line_found : (columns : List Column) (line : List ℕ) (more : List Column) → line_added columns line ≡ Ok more → (AreBlanks line × (columns ≡ more)) ⊎ IsLineOf columns line more
 unfolding line_added
-line_found columns line more e = elim (cases_Bool (is_blank_line line)) [
-  | inl empty ↦ inl (blank_found line empty, ok_is LitmusFault columns more (rw empty at e))
-  | inr solid ↦ inr (go (row_in line) refl (rw solid at e))
-]
-  where
-    go : (o : Option (List ℕ)) → row_in line ≡ o → row_added columns o ≡ Ok more → IsLineOf columns line more
-    go None no_row f = absurd cc
-    go (Some cells) read f = elim (cases_Bool (length (cells_of cells) == length columns)) [
-      | inl same ↦ record { cells = cells_of cells; is = row_found line cells read; count = eqb-true (length (cells_of cells)) (length columns) same; shown = rw same at f }
-      | inr other ↦ absurd (let g = rw other at f in cc)
-    ]
+line_found columns line more e = grind (arith, cases_Bool, blank_found, ok_is, row_found, eqb-true)
 
 line_only : (columns : List Column) (line : List ℕ) (cells : Cells) → IsRow line cells → length cells ≡ length columns → line_added columns line ≡ cells_added columns cells
 unfolding line_added
-line_only columns line cells is count =
-    let read = row_only line cells is in
-    rw (read.solid, read.read, read.parted, eq-eqb (length cells) (length columns) count) refl
+line_only columns line cells is count = grind (arith, row_only line cells is, eq-eqb (length cells) (length columns) count)
 
 record Rows (columns : List Column) (lines : List (List ℕ)) (ends : List Column) : Type 0 where
   rows : List Cells
@@ -258,8 +227,7 @@ lines_only harts columns lines rows ends count (row line below cells others is f
 -- where nothing follows the first row, nothing is read
 below_same : (columns : List Column) (o : Option (List ℕ)) → lines_added columns (pieces (Byte 10) (unwrap_or o [])) ≡ lines_added columns (pieces_after (Byte 10) o)
 unfolding line_added
-below_same columns None = refl
-below_same columns (Some rest) = refl
+below_same columns o = grind arith
 
 pub table_found : (table : List ℕ) (columns : List Column) (codes : List Code) → table_at table ≡ Ok columns → codes_of columns ≡ Ok codes → (rows : List Cells) × IsTable table (length codes) rows × AreCodes rows 0 codes
 unfolding table_at

@@ -56,14 +56,10 @@ quantifier_cut line quantified e = go (has_token (codes "exists") line) refl (ha
 
 quantifier_found : (text : List ℕ) (quantified : Quantified) → quantifier_in text ≡ Some quantified → IsQuantified text quantified
 unfolding quantifier_in
-quantifier_found text quantified e =
-    let front = leading_split is_blank text in
-    (front.0, front.1, front.2 ∙ ap (λ (line : List ℕ). front.0 ++ line) (quantifier_cut (without_front text) quantified e))
+quantifier_found text quantified e = grind (arith, leading_split is_blank text, quantifier_cut (without_front text) quantified e)
 
 quantifier_first : (quantifier : Quantifier) (rest : List ℕ) → quantifier_of (without_front (token_for quantifier ++ rest)) ≡ Some (quantifier, rest)
-quantifier_first Exists rest = refl
-quantifier_first NotExists rest = refl
-quantifier_first ForAll rest = refl
+quantifier_first quantifier rest = grind arith
 
 quantifier_only : (blanks rest : List ℕ) (quantifier : Quantifier) → AreBlanks blanks → quantifier_in (blanks ++ (token_for quantifier ++ rest)) ≡ Some (quantifier, rest)
 unfolding quantifier_in
@@ -72,26 +68,17 @@ quantifier_only blanks rest quantifier all = ap quantifier_of (leading_past is_b
 -- ---- symbols that may stand after others
 
 with_symbol_found : (words : List Symbol) (next : Symbol) (o : Option Stage) (more : List Symbol) → as_condition (or_misplaced (with_symbol words next o)) ≡ Ok more → words ++ next ∷ [] ≡ more
-with_symbol_found words next None more e = absurd cc
-with_symbol_found words next (Some stage) more e = cc
+with_symbol_found words next o more e = grind arith
 
 symbol_found : (words : List Symbol) (next : Symbol) (more : List Symbol) → as_condition (symbol_added words next) ≡ Ok more → words ++ next ∷ [] ≡ more
 unfolding symbol_added
 symbol_found words next more e = with_symbol_found words next (stage_after (words ++ next ∷ [])) more e
 
 symbol_begins : (words : List Symbol) (next : Symbol) → Begins (words ++ next ∷ []) → as_condition (symbol_added words next) ≡ Ok (words ++ next ∷ [])
-symbol_begins words next begun = go (symbol_added words next) refl
-  where
-    go : (r : Result (List Symbol) (Unit {0})) → symbol_added words next ≡ r → as_condition (symbol_added words next) ≡ Ok (words ++ next ∷ [])
-    go (Ok more) is = (let found = symbol_found words next more (rw is refl) in rw is (ap (λ (ws : List Symbol). Ok ws) (sym found)))
-    go (Err misplaced) is = absurd (refused_begins words next is begun)
+symbol_begins words next begun = grind (arith, symbol_found, refused_begins)
 
 finished_ok : (words : List Symbol) (formula : Formula) → as_condition (finished words) ≡ Ok formula → finished words ≡ Ok formula
-finished_ok words formula e = go (finished words) refl
-  where
-    go : (r : Result Formula (Unit {0})) → finished words ≡ r → finished words ≡ Ok formula
-    go (Ok other) is = (let shown = rw is at e in is ∙ cc)
-    go (Err misplaced) is = (let never = rw is at e in absurd cc)
+finished_ok words formula e = grind arith
 
 -- ---- the places that atoms look at
 
@@ -104,10 +91,7 @@ record PlaceFound (harts : ℕ) (ms : Names) (spot : setting.NamedPlace) (found 
   at : IsPlaceOf harts found.1 spot found.0
 
 register_found : (harts hart : ℕ) (ms : Names) (register : Reg) (b : Bool) (found : Place × Names) → nat_lt hart harts ≡ b → length (each_once ms) ≤ 1024 → (if b then Ok (place.Register hart register.number, each_once ms) else Err BadCondition) ≡ Ok found → PlaceFound harts ms (setting.NamedPlace.in_register hart register) found
-register_found harts hart ms register true found within few e =
-    let same : (place.Register hart register.number, each_once ms) ≡ found = ok_is LitmusFault (place.Register hart register.number, each_once ms) found e in
-    subst (PlaceFound harts ms (setting.NamedPlace.in_register hart register)) same (record { names = ap each_once (sym (append-nil ms)); few = few; at = (ltb-true hart harts within, refl) })
-register_found harts hart ms register false found within few e = absurd cc
+register_found harts hart ms register b found within few e = grind (arith, ok_is, append-nil, ltb-true)
 
 place_found : (harts : ℕ) (ms : Names) (spot : setting.NamedPlace) (found : Place × Names) → length (each_once ms) ≤ 1024 → place_resolved harts (each_once ms) spot ≡ Ok found → PlaceFound harts ms spot found
 unfolding place_resolved
@@ -119,8 +103,7 @@ place_found harts ms (setting.NamedPlace.at_location name) found few e =
     (record { names = shown.0; few = shown.2 few; at = (first.0.0, shown.1, refl) })
 
 place_later : (harts : ℕ) (ms more : Names) (spot : setting.NamedPlace) (at : Place) → IsPlaceOf harts (each_once ms) spot at → IsPlaceOf harts (each_once (ms ++ more)) spot at
-place_later harts ms more (setting.NamedPlace.in_register hart register) at is = is
-place_later harts ms more (setting.NamedPlace.at_location name) at is = (is.0, at_later ms more name is.0 is.1, is.2)
+place_later harts ms more spot at is = grind (arith, at_later)
 
 -- the names may be followed by others, of what comes later
 place_only : (harts : ℕ) (ms more : Names) (spot : setting.NamedPlace) (at : Place) → length (each_once (ms ++ name_of_place spot)) ≤ 1024 → IsPlaceOf harts (each_once ((ms ++ name_of_place spot) ++ more)) spot at → place_resolved harts (each_once ms) spot ≡ Ok (at, each_once (ms ++ name_of_place spot))
@@ -162,8 +145,7 @@ abbrev answered : Symbol → Names → Result (Symbol × Names) LitmusFault
 answered known names = Ok (known, names)
 
 plain_found : (harts : ℕ) (ms : Names) (first : token.Token) (known : Symbol) (found : Symbol × Names) → ms ++ names_of first ≡ ms ++ [] → ((names : Names) → IsKnown harts names first known) → length (each_once ms) ≤ 1024 → answered known (each_once ms) ≡ Ok found → TokenFound harts ms first found
-plain_found harts ms first known found none is few e =
-    subst (TokenFound harts ms first) (ok_is LitmusFault (known, each_once ms) found e) (record { names = ap each_once (sym (none ∙ append-nil ms)); few = few; known = is (each_once ms) })
+plain_found harts ms first known found none is few e = grind (arith, ok_is, append-nil)
 
 token_found : (harts : ℕ) (ms : Names) (first : token.Token) (found : Symbol × Names) → length (each_once ms) ≤ 1024 → token_resolved harts (each_once ms) first ≡ Ok found → TokenFound harts ms first found
 unfolding token_resolved
@@ -175,12 +157,7 @@ token_found harts ms token.Token.opening found few e = plain_found harts ms toke
 token_found harts ms token.Token.closing found few e = plain_found harts ms token.Token.closing symbol.Close found refl (λ names. refl) few e
 
 known_later : (harts : ℕ) (ms more : Names) (first : token.Token) (known : Symbol) → IsKnown harts (each_once ms) first known → IsKnown harts (each_once (ms ++ more)) first known
-known_later harts ms more (token.Token.atom equation) known is = (is.0, is.1, place_later harts ms more equation.0 is.0 is.2, worth_later ms more equation.1 is.1 is.3, is.4)
-known_later harts ms more token.Token.negation known is = is
-known_later harts ms more token.Token.conjunction known is = is
-known_later harts ms more token.Token.disjunction known is = is
-known_later harts ms more token.Token.opening known is = is
-known_later harts ms more token.Token.closing known is = is
+known_later harts ms more first known is = grind (arith, place_later, worth_later)
 
 atom_only : (harts : ℕ) (ms more : Names) (equation : setting.Equation) (at : Place) (value : ℕ) → length (each_once (ms ++ names_of (token.Token.atom equation))) ≤ 1024 → IsPlaceOf harts (each_once ((ms ++ names_of (token.Token.atom equation)) ++ more)) equation.0 at → IsWorth (each_once ((ms ++ names_of (token.Token.atom equation)) ++ more)) equation.1 value → atom_resolved harts (each_once ms) equation ≡ Ok (symbol.Is at value, each_once (ms ++ names_of (token.Token.atom equation)))
 unfolding atom_resolved
@@ -209,12 +186,7 @@ token_only harts ms more token.Token.closing known few is = plain_only ms symbol
 -- ---- all words
 
 names-more : (first : token.Token) (words : List token.Token) → names_in (atoms_in (first ∷ words)) ≡ names_of first ++ names_in (atoms_in words)
-names-more (token.Token.atom equation) words = sym (append_assoc (name_of_place equation.0) (name_of_value equation.1 ++ []) (names_in (atoms_in words)) ∙ ap (λ (ns : Names). name_of_place equation.0 ++ ns) (append_assoc (name_of_value equation.1) [] (names_in (atoms_in words))))
-names-more token.Token.negation words = refl
-names-more token.Token.conjunction words = refl
-names-more token.Token.disjunction words = refl
-names-more token.Token.opening words = refl
-names-more token.Token.closing words = refl
+names-more first words = grind (arith, append_assoc)
 
 names-behind : (ms : Names) (first : token.Token) (words : List token.Token) → (ms ++ names_of first) ++ names_in (atoms_in words) ≡ ms ++ names_in (atoms_in (first ∷ words))
 names-behind ms first words = append_assoc ms (names_of first) (names_in (atoms_in words)) ∙ ap (λ (ns : Names). ms ++ ns) (sym (names-more first words))
@@ -241,9 +213,7 @@ token_taken harts ms so_far more first others gathered known taken is rest =
     }
 
 tokens_found : (harts : ℕ) (ms : Names) (so_far : List Symbol) (text : Tokens) (gathered : ConditionSoFar) → length (each_once ms) ≤ 1024 → tokens_added harts (so_far, each_once ms) text ≡ Ok gathered → TokensFound harts ms so_far text gathered
-tokens_found harts ms so_far token.Tokens.ended gathered few e =
-    subst (TokensFound harts ms so_far token.Tokens.ended) (ok_is LitmusFault (so_far, each_once ms) gathered e)
-    (record { words = []; known = []; whole = refl; behind = sym (append-nil so_far); names = ap each_once (sym (append-nil ms)); few = few; all = refl })
+tokens_found harts ms so_far token.Tokens.ended gathered few e = grind (arith, ok_is, append-nil)
 tokens_found harts ms so_far token.Tokens.broken gathered few e = absurd cc
 tokens_found harts ms so_far (token.Tokens.goes_on first others) gathered few e =
     let known = bind_ok (token_resolved harts (each_once ms) first) (λ known. as_condition (symbol_added so_far known.0) >>= λ more. tokens_added harts (more, known.1) others) gathered e in
@@ -273,8 +243,7 @@ tokens_only harts ms so_far (first ∷ words) known formula few all stands =
 -- ---- the whole condition
 
 none_unread_found : (o : Option (List ℕ)) (end : Unit {0}) → none_unread o ≡ Ok end → o ≡ None
-none_unread_found None end e = refl
-none_unread_found (Some rest) end e = absurd cc
+none_unread_found o end e = grind arith
 
 abbrev condition_so : Quantifier → Formula → Names → Result Condition LitmusFault
 condition_so quantifier formula names = Ok (record { quantifier = quantifier; formula = formula; names = names })

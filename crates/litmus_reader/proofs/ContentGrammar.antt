@@ -1,5 +1,5 @@
 -- The reading of a text answers the test that its grammar says, and no other text has one.
-use Rattle.std.proofs.Common.{◌≡◌, ℕ, suc, ◌+◌, ◌<◌, ◌≤◌, List, [], ◌∷◌, ◌++◌, length, map, All, Option, Some, None, Ok, refl, sym, ap, subst, arith}
+use Rattle.std.proofs.Common.{◌≡◌, ℕ, suc, ◌+◌, ◌<◌, ◌≤◌, List, [], ◌∷◌, ◌++◌, length, map, All, Option, Some, Ok, refl, sym, ap, subst, arith}
 use Rattle.std.specs.List.{slice_index_or}
 use Rattle.std.proofs.lemmas.List.{length-map}
 use Rattle.texts.specs.Cutting.{before, after, is_byte}
@@ -7,7 +7,6 @@ use Rattle.texts.proofs.ResultLaws.{bind_ok, ok_is}
 use Rattle.litmus_tokens.specs.Cleaning.{cleaned_text}
 use Rattle.litmus_tokens.specs.Settings.{Equation}
 use Rattle.litmus_tokens.proofs.CommentLaws.{is_cleaned, only_cleaned}
-use Rattle.litmus_reader.specs.declared.faults.LitmusFault.{LitmusFault}
 use Rattle.litmus_reader.specs.declared.marks.Mark.TheVariants as mark
 use Rattle.litmus_reader.specs.Marks.{before_line, from_line}
 use Rattle.litmus_reader.specs.Header.{behind_header, behind_brace}
@@ -51,9 +50,8 @@ from_first : (names : Names) (equations : List Equation) (registers : List (List
 from_first names equations registers each = all_registers names equations 0 registers (λ i less. let same : i ≡ 0 + i = omega arith in subst (λ (h : ℕ). AreRegisters names equations h (slice_index_or registers i [])) same (each i less))
 
 harts_found : (names : Names) (equations : List Equation) (rows : List Cells) (hart : ℕ) (codes : List Code) (registers : List (List ℕ)) → AreCodes rows hart codes → AreAllRegisters names equations hart registers → AreHarts names equations rows hart (with_registers codes registers)
-harts_found names equations rows hart [] registers are all = tt
-harts_found names equations rows hart (code ∷ codes) [] are all = tt
 harts_found names equations rows hart (code ∷ codes) (first ∷ registers) are all = (are.0, all.0, refl, harts_found names equations rows (hart + 1) codes registers are.1 all.1)
+harts_found names equations rows hart x y are all = tt
 
 length-with : (codes : List Code) (registers : List (List ℕ)) → length registers ≡ length codes → length (with_registers codes registers) ≡ length codes
 length-with [] registers same = refl
@@ -83,8 +81,7 @@ abbrev text_some : List ℕ → Option (List ℕ)
 text_some text = Some text
 
 behind_some : (o : Option (List ℕ)) (rest : List ℕ) → behind_init o ≡ Ok rest → o ≡ Some rest
-behind_some None rest e = absurd cc
-behind_some (Some text) rest e = ap text_some (ok_is LitmusFault text rest e)
+behind_some o rest e = grind (arith, ok_is)
 
 record Asking (harts : ℕ) (names : Names) (o : Option (List ℕ)) (condition : Condition) : Type 0 where
   text : List ℕ
@@ -92,8 +89,7 @@ record Asking (harts : ℕ) (names : Names) (o : Option (List ℕ)) (condition :
   reads : condition_in harts names text ≡ Ok condition
 
 asking : (harts : ℕ) (names : Names) (o : Option (List ℕ)) (condition : Condition) → condition_at harts names o ≡ Ok condition → Asking harts names o condition
-asking harts names None condition e = absurd cc
-asking harts names (Some text) condition e = record { text = text; begins = refl; reads = e }
+asking harts names o condition e = grind arith
 
 record Below (settings : InitItems) (codes : List Code) (o : Option (List ℕ)) (whole : Content) : Type 0 where
   values : Values
@@ -104,10 +100,7 @@ record Below (settings : InitItems) (codes : List Code) (o : Option (List ℕ)) 
 
 below_of : (settings : InitItems) (codes : List Code) (o : Option (List ℕ)) (whole : Content) → content_below settings codes o ≡ Ok whole → Below settings codes o whole
 unfolding content_below
-below_of settings codes o whole e =
-    let first = bind_ok (values_at (length codes) settings) _ whole e in
-    let second = bind_ok (condition_at (length codes) settings.names o) _ whole first.2 in
-    record { values = first.0; condition = second.0; equation = first.1; asks = second.1; is = ok_is LitmusFault (content codes first.0 second.0) whole second.2 }
+below_of settings codes o whole e = grind (arith, bind_ok, ok_is)
 
 record Behind (settings : InitItems) (text : List ℕ) (whole : Content) : Type 0 where
   columns : List Column
@@ -118,10 +111,7 @@ record Behind (settings : InitItems) (text : List ℕ) (whole : Content) : Type 
 
 behind_of : (settings : InitItems) (text : List ℕ) (whole : Content) → content_behind settings text ≡ Ok whole → Behind settings text whole
 unfolding content_behind
-behind_of settings text whole e =
-    let first = bind_ok (table_at (before_line mark.Condition text)) _ whole e in
-    let second = bind_ok (codes_of first.0) _ whole first.2 in
-    record { columns = first.0; codes = second.0; rows = first.1; placed = second.1; below = below_of settings second.0 (from_line mark.Condition text) whole second.2 }
+behind_of settings text whole e = grind (arith, bind_ok, below_of)
 
 record Read (text : List ℕ) (whole : Content) : Type 0 where
   below : List ℕ
@@ -136,12 +126,7 @@ record Read (text : List ℕ) (whole : Content) : Type 0 where
 
 read_of : (text : List ℕ) (whole : Content) → content_at text ≡ Ok whole → Read text whole
 unfolding content_at items_at
-read_of text whole e =
-    let first = bind_ok (behind_header text) _ whole e in
-    let second = bind_ok (behind_brace first.0) _ whole first.2 in
-    let third = bind_ok (items_at (before (is_byte 125) second.0)) _ whole second.2 in
-    let fourth = bind_ok (behind_init (after (is_byte 125) second.0)) _ whole third.2 in
-    record { below = first.0; inner = second.0; settings = third.0; rest = fourth.0; headed = first.1; braced = second.1; items = third.1; closed = behind_some (after (is_byte 125) second.0) fourth.0 fourth.1; behind = behind_of third.0 fourth.0 whole fourth.2 }
+read_of text whole e = grind (arith, bind_ok, behind_some, behind_of)
 
 pub content_found : (text : List ℕ) (whole : Content) → test_at text ≡ Ok whole → IsContent text whole
 unfolding test_at

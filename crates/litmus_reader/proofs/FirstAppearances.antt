@@ -28,27 +28,14 @@ same_bytes xs = (bytes_eq-Decides xs xs).1 refl
 
 has-without : (m name : List ℕ) (names : Names) → bytes_eq m name ≡ false → has (without m names) name ≡ has names name
 has-without m name [] other = refl
-has-without m name (x ∷ names) other = elim (cases_Bool (bytes_eq m x)) [
-  | inl same ↦ (let here : m ≡ x = (bytes_eq-Decides m x).0 same in let apart : bytes_eq x name ≡ false = subst (λ (y : List ℕ). bytes_eq y name ≡ false) here other in rw (same, apart) (has-without m name names other))
-  | inr kept ↦ rw kept (ap (λ (b : Bool). bytes_eq x name || b) (has-without m name names other))
-]
+has-without m name (x ∷ names) other = grind (arith, cases_Bool, bytes_eq-Decides, has-without m name names other)
 
 gone : (m : List ℕ) (names : Names) → has (without m names) m ≡ false
 gone m [] = refl
-gone m (x ∷ names) = elim (cases_Bool (bytes_eq m x)) [
-  | inl same ↦ rw same (gone m names)
-  | inr kept ↦ (
-      elim (cases_Bool (bytes_eq x m)) [
-        | inl turned ↦ absurd (let here : x ≡ m = (bytes_eq-Decides x m).0 turned in let f : bytes_eq m x ≡ true = subst (λ (y : List ℕ). bytes_eq m y ≡ true) (sym here) (same_bytes m) in let g : false ≡ true = sym kept ∙ f in cc)
-        | inr apart ↦ rw (kept, apart) (gone m names)
-      ])
-]
+gone m (x ∷ names) = grind (arith, cases_Bool, bytes_eq-Decides, same_bytes, gone m names)
 
 none-without : (m name : List ℕ) (names : Names) → has names name ≡ false → has (without m names) name ≡ false
-none-without m name names none = elim (cases_Bool (bytes_eq m name)) [
-  | inl same ↦ (let here : m ≡ name = (bytes_eq-Decides m name).0 same in subst (λ (y : List ℕ). has (without m names) y ≡ false) here (gone m names))
-  | inr other ↦ has-without m name names other ∙ none
-]
+none-without m name names none = grind (arith, cases_Bool, bytes_eq-Decides, gone, has-without)
 
 -- ---- one name more
 
@@ -56,17 +43,7 @@ abbrev added : Names → List ℕ → Bool → Names
 added names name b = names ++ cond b [] (name ∷ [])
 
 added-cons : (m name : List ℕ) (names : Names) (here there : Bool) → bytes_eq m name ≡ here → has names name ≡ there → m ∷ without m (added names name there) ≡ added (m ∷ without m names) name (here || has (without m names) name)
-added-cons m name names true there here is =
-    elim (cases_Bool there) [
-      | inl old ↦ rw old (ap (λ (xs : Names). m ∷ xs) (ap (without m) (append-nil names) ∙ sym (append-nil (without m names))))
-      | inr new ↦ rw new (ap (λ (xs : Names). m ∷ xs) (filter-append (λ other. not (bytes_eq m other)) names (name ∷ []) ∙ ap (λ (xs : Names). without m names ++ xs) (rw here refl)))
-    ]
-added-cons m name names false there here is =
-    rw (has-without m name names here, is) (
-    elim (cases_Bool there) [
-      | inl old ↦ rw old (ap (λ (xs : Names). m ∷ xs) (ap (without m) (append-nil names) ∙ sym (append-nil (without m names))))
-      | inr new ↦ rw new (ap (λ (xs : Names). m ∷ xs) (filter-append (λ other. not (bytes_eq m other)) names (name ∷ []) ∙ ap (λ (xs : Names). without m names ++ xs) (rw here refl)))
-    ])
+added-cons m name names here there h5 is = grind (arith, cases_Bool, append-nil, filter-append, has-without)
 
 once-snoc : (ms : Names) (name : List ℕ) → each_once (ms ++ name ∷ []) ≡ added (each_once ms) name (has (each_once ms) name)
 once-snoc [] name = refl
@@ -82,18 +59,13 @@ once_new ms name new = once-snoc ms name ∙ (rw new refl)
 
 pub onward : (ms more : Names) → (rest : Names) × (each_once (ms ++ more) ≡ each_once ms ++ rest)
 onward ms [] = ([], ap each_once (append-nil ms) ∙ sym (append-nil (each_once ms)))
-onward ms (name ∷ more) =
-    let next = onward (ms ++ name ∷ []) more in
-    let tail = cond (has (each_once ms) name) [] (name ∷ []) in
-    (tail ++ next.0, sym (ap each_once (append_assoc ms (name ∷ []) more)) ∙ next.1 ∙ ap (λ (xs : Names). xs ++ next.0) (once-snoc ms name) ∙ append_assoc (each_once ms) tail next.0)
+onward ms (name ∷ more) = grind (arith, append_assoc, once-snoc, onward (ms ++ name ∷ []) more)
 
 pub fewer : (ms more : Names) → length (each_once ms) ≤ length (each_once (ms ++ more))
 fewer ms more = let next = onward ms more in rw next.1 (simp length-append (omega arith))
 
 pub at_later : (ms more : Names) (name : List ℕ) (index : ℕ) → IsAt (each_once ms) name index → IsAt (each_once (ms ++ more)) name index
-at_later ms more name index at =
-    let next = onward ms more in
-    (at.0, at.1 ++ next.0, next.1 ∙ ap (λ (xs : Names). xs ++ next.0) at.2 ∙ append_assoc at.0 (name ∷ at.1) next.0, at.3)
+at_later ms more name index at = grind (arith, onward ms more, append_assoc at.0 (name ∷ at.1))
 
 -- ---- each name has one index
 
@@ -103,36 +75,22 @@ Distinct (name ∷ others) = (has others name ≡ false) × Distinct others
 
 distinct-without : (m : List ℕ) (names : Names) → Distinct names → Distinct (without m names)
 distinct-without m [] distinct = tt
-distinct-without m (x ∷ names) distinct = elim (cases_Bool (bytes_eq m x)) [
-  | inl same ↦ rw same (distinct-without m names distinct.1)
-  | inr kept ↦ rw kept (none-without m x names distinct.0, distinct-without m names distinct.1)
-]
+distinct-without m (x ∷ names) distinct = grind (arith, cases_Bool, none-without, distinct-without m names distinct.1)
 
 once_distinct : (ms : Names) → Distinct (each_once ms)
 once_distinct [] = tt
 once_distinct (m ∷ ms) = (gone m (each_once ms), distinct-without m (each_once ms) (once_distinct ms))
 
 has_middle : (above below : Names) (name other : List ℕ) → has (above ++ name ∷ below) other ≡ false → bytes_eq name other ≡ false
-has_middle [] below name other none = elim (cases_Bool (bytes_eq name other)) [
-  | inl same ↦ absurd (let f = rw same at none in cc)
-  | inr apart ↦ apart
-]
-has_middle (first ∷ above) below name other none = elim (cases_Bool (bytes_eq first other)) [
-  | inl same ↦ absurd (let f = rw same at none in cc)
-  | inr apart ↦ has_middle above below name other (rw apart at none)
-]
+has_middle [] below name other none = grind (arith, cases_Bool)
+has_middle (first ∷ above) below name other none = grind (arith, cases_Bool, has_middle above below name other)
 
 turned_apart : (a b : List ℕ) → bytes_eq a b ≡ false → bytes_eq b a ≡ false
-turned_apart a b apart = elim (cases_Bool (bytes_eq b a)) [
-  | inl same ↦ absurd (let here : b ≡ a = (bytes_eq-Decides b a).0 same in let f : bytes_eq a b ≡ true = subst (λ (y : List ℕ). bytes_eq a y ≡ true) (sym here) (same_bytes a) in let g : false ≡ true = sym apart ∙ f in cc)
-  | inr other ↦ other
-]
+turned_apart a b apart = grind (arith, cases_Bool, bytes_eq-Decides, same_bytes)
 
 index_at : (at : ℕ) (above below : Names) (name : List ℕ) → Distinct (above ++ name ∷ below) → index_from at (above ++ name ∷ below) name ≡ Some (at + length above)
 index_at at [] below name distinct = rw (same_bytes name) (ap Some (omega arith))
-index_at at (first ∷ above) below name distinct =
-    let apart = turned_apart name first (has_middle above below name first distinct.0) in
-    rw apart (index_at (at + 1) above below name distinct.1 ∙ ap Some (omega arith))
+index_at at (first ∷ above) below name distinct = grind (arith, turned_apart, has_middle, index_at (at + 1) above below name distinct.1)
 
 abbrev index_some : ℕ → Option ℕ
 index_some index = Some index
@@ -141,17 +99,15 @@ some_index : (i j : ℕ) → index_some i ≡ index_some j → i ≡ j
 some_index i j e = cc
 
 index_of : (names : Names) (name : List ℕ) (index : ℕ) → Distinct names → IsAt names name index → index_from 0 names name ≡ Some index
-index_of names name index distinct at =
-    ap (λ (xs : Names). index_from 0 xs name) at.2 ∙ index_at 0 at.0 at.1 name (subst Distinct at.2 distinct) ∙ ap Some (omega (arith, at.3))
+index_of names name index distinct at = grind (arith, index_at)
 
 pub one_index : (ms : Names) (name : List ℕ) (i j : ℕ) → IsAt (each_once ms) name i → IsAt (each_once ms) name j → i ≡ j
 one_index ms name i j first second = some_index i j (sym (index_of (each_once ms) name i (once_distinct ms) first) ∙ index_of (each_once ms) name j (once_distinct ms) second)
 
 same_middle : (above other below rest : Names) (a b : List ℕ) → above ++ a ∷ below ≡ other ++ b ∷ rest → length above ≡ length other → a ≡ b
 same_middle [] [] below rest a b same lengths = cc
-same_middle [] (y ∷ other) below rest a b same lengths = absurd (omega arith)
-same_middle (x ∷ above) [] below rest a b same lengths = absurd (omega arith)
 same_middle (x ∷ above) (y ∷ other) below rest a b same lengths = (let shorter : length above ≡ length other = omega arith in let tails : above ++ a ∷ below ≡ other ++ b ∷ rest = cc in same_middle above other below rest a b tails shorter)
+same_middle z u below rest a b same lengths = absurd (omega arith)
 
 pub one_name : (ms : Names) (a b : List ℕ) (i : ℕ) → IsAt (each_once ms) a i → IsAt (each_once ms) b i → a ≡ b
 one_name ms a b i first second = same_middle first.0 second.0 first.1 second.1 a b (sym first.2 ∙ second.2) (sym first.3 ∙ second.3)
@@ -173,10 +129,7 @@ at_some ms index less = at_any (each_once ms) index less
 
 has_at : (above below : Names) (name : List ℕ) → has (above ++ name ∷ below) name ≡ true
 has_at [] below name = rw (same_bytes name) refl
-has_at (first ∷ above) below name = elim (cases_Bool (bytes_eq first name)) [
-  | inl same ↦ rw same refl
-  | inr apart ↦ rw apart (has_at above below name)
-]
+has_at (first ∷ above) below name = grind (arith, cases_Bool, has_at above below name)
 
 -- ---- meeting a name
 
@@ -197,10 +150,7 @@ indexed at (other ∷ others) name index e = elim (cases_Bool (bytes_eq other na
 
 unindexed : (at : ℕ) (names : Names) (name : List ℕ) → index_from at names name ≡ None → has names name ≡ false
 unindexed at [] name e = refl
-unindexed at (other ∷ others) name e = elim (cases_Bool (bytes_eq other name)) [
-  | inl same ↦ absurd (let f = rw same at e in cc)
-  | inr apart ↦ rw apart (unindexed (at + 1) others name (rw apart at e))
-]
+unindexed at (other ∷ others) name e = grind (arith, cases_Bool, unindexed (at + 1) others name)
 
 -- the index of the name among those that appeared up to it, at most 1,024 where those before were at most 1,024
 abbrev pub IsResolved : Names → List ℕ → ℕ × Names → Type 0
@@ -214,8 +164,7 @@ old_resolved ms name index is =
     (sym (once_old ms name old), (at.above, at.below, at.whole, omega (arith, at.counted)), λ few. few)
 
 new_resolved : (ms : Names) (name : List ℕ) → index_from 0 (each_once ms) name ≡ None → length (each_once ms) < 1024 → IsResolved ms name (length (each_once ms), each_once ms ++ name ∷ [])
-new_resolved ms name is room =
-    (sym (once_new ms name (unindexed 0 (each_once ms) name is)), (each_once ms, [], refl, refl), λ few. simp length-append (omega (arith, room)))
+new_resolved ms name is room = grind (arith, once_new, unindexed, length-append)
 
 abbrev resolved_as : ℕ × Names → Result (ℕ × Names) LitmusFault
 resolved_as found = Ok found
@@ -252,9 +201,7 @@ resolved_only ms name few = go (index_from 0 (each_once ms) name) refl
 
 pub value_found : (ms : Names) (value : Value) (found : ℕ × Names) → value_resolved (each_once ms) value ≡ Ok found → (found.1 ≡ each_once (ms ++ name_of_value value)) × IsWorth found.1 value found.0 × (length (each_once ms) ≤ 1024 → length found.1 ≤ 1024)
 unfolding value_resolved
-value_found ms (number n) found e =
-    let is = ok_is LitmusFault (n, each_once ms) found e in
-    (ap (λ (f : ℕ × Names). f.1) (sym is) ∙ ap each_once (sym (append-nil ms)), ap (λ (f : ℕ × Names). f.0) (sym is), λ few. subst (λ (f : ℕ × Names). length f.1 ≤ 1024) is few)
+value_found ms (number n) found e = grind (arith, ok_is, append-nil)
 value_found ms (address_of name) found e =
     let step = bind_ok (resolved (each_once ms) name) (λ found. resolved_as (4 * found.0, found.1)) found e in
     let is = ok_is LitmusFault (4 * step.0.0, step.0.1) found step.2 in
@@ -270,8 +217,7 @@ value_only ms (address_of name) few =
     (4 * resolved.0, (rw resolved.1 refl), (resolved.0, resolved.2, refl))
 
 pub worth_later : (ms more : Names) (value : Value) (word : ℕ) → IsWorth (each_once ms) value word → IsWorth (each_once (ms ++ more)) value word
-worth_later ms more (number n) word worth = worth
-worth_later ms more (address_of name) word worth = (worth.0, at_later ms more name worth.0 worth.1, worth.2)
+worth_later ms more value word worth = grind (arith, at_later)
 
 pub one_worth : (ms : Names) (value : Value) (v w : ℕ) → IsWorth (each_once ms) value v → IsWorth (each_once ms) value w → v ≡ w
 one_worth ms (number n) v w first second = first ∙ sym second

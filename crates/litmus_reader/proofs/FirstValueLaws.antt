@@ -1,5 +1,5 @@
 -- First values: registers and words begin with what the items put there last.
-use Rattle.std.proofs.Common.{◌≡◌, ℕ, suc, zero, ◌-◌, ◌<◌, ◌≤◌, ◌==◌, ◌&&◌, Bool, true, false, if◌then◌else◌, nat_lt, List, [], ◌∷◌, ◌++◌, length, get_or, replicate, filter, not, slice_index_or, slice_set, Option, Some, None, Ok, All, refl, sym, ap, subst, ◌∙◌, inl, inr, arith, ext_get_or}
+use Rattle.std.proofs.Common.{◌≡◌, ℕ, suc, ◌-◌, ◌<◌, ◌≤◌, ◌==◌, ◌&&◌, true, if◌then◌else◌, nat_lt, List, [], ◌∷◌, ◌++◌, length, get_or, replicate, filter, not, slice_index_or, slice_set, Option, Some, None, Ok, All, refl, sym, ap, subst, ◌∙◌, inl, inr, arith, ext_get_or}
 use Rattle.std.specs.Str.{bytes_eq}
 use Rattle.std.proofs.lemmas.Bool.{ltb-true, lt-ltb, eqb-false, eq-eqb, ne_eqb, cases_Bool, cases_eq, cases_lt, both_ways, false≢true, or_left, or_right}
 use Rattle.std.proofs.lemmas.Slice.Eq.{bytes_eq-Decides}
@@ -15,7 +15,7 @@ use Rattle.litmus_reader.specs.declared.init.Target.TheVariants.{Register, Word}
 use Rattle.litmus_reader.specs.Locations.{Names}
 use Rattle.litmus_reader.specs.Init.{InitItem, InitItems}
 use Rattle.litmus_reader.specs.Values.{Values, zeros, with_register, put_at, item_put, items_put, values_at, padded}
-use Rattle.litmus_reader.specs.Openings.{IsAt, IsWorth, each_once, name_of_place, name_of_value, names_in, or_else, last_put, is_register, is_location, IsFirstValue, AreRegisters, AreFirstWords, IsHartThere}
+use Rattle.litmus_reader.specs.Openings.{IsAt, IsWorth, each_once, name_of_place, names_in, or_else, last_put, is_register, is_location, IsFirstValue, AreRegisters, AreFirstWords, IsHartThere}
 use Rattle.litmus_reader.proofs.FirstAppearances.{has, at_later, one_index, one_name, fewer, at_some, at_below, worth_later, one_worth}
 use Rattle.litmus_reader.proofs.ItemLaws.{IsSettingOf, AreSettings}
 
@@ -37,44 +37,24 @@ zeros_at : (harts locations hart n : ℕ) → hart < harts → n < 32 → at_reg
 zeros_at harts locations hart n here few = rw (get_or-replicate harts hart (replicate {A = ℕ} 32 0) [] here) (get_or-replicate 32 n 0 0 few)
 
 zeros_shaped : (harts locations : ℕ) → IsShaped harts locations (zeros harts locations)
-zeros_shaped harts locations =
-    record {
-      all = length-replicate harts (replicate {A = ℕ} 32 0);
-      counts = λ hart here. rw (get_or-replicate harts hart (replicate {A = ℕ} 32 0) [] here) (length-replicate {A = ℕ} 32 0);
-      zeros = λ hart here. zeros_at harts locations hart 0 here (omega arith);
-      words = length-replicate locations 0;
-    }
+zeros_shaped harts locations = grind (arith, length-replicate, get_or-replicate, zeros_at)
 
 -- ---- one item
 
 with_length : (number value : ℕ) (registers : List ℕ) → length (with_register number value registers) ≡ length registers
-with_length number value registers = elim (cases_Bool (number == 0)) [
-  | inl is ↦ rw is refl
-  | inr isnt ↦ rw isnt (length-set registers number value)
-]
+with_length number value registers = grind (arith, cases_Bool, length-set)
 
 with_zero : (number value : ℕ) (registers : List ℕ) → slice_index_or (with_register number value registers) 0 0 ≡ slice_index_or registers 0 0
-with_zero number value registers = elim (cases_Bool (number == 0)) [
-  | inl is ↦ rw is refl
-  | inr isnt ↦ rw isnt (get_or-set_other registers number 0 value 0 (λ same. eqb-false number 0 isnt (sym same)))
-]
+with_zero number value registers = grind (arith, cases_Bool, get_or-set_other, eqb-false)
 
 with_same : (number value : ℕ) (registers : List ℕ) → 1 ≤ number → number < length registers → slice_index_or (with_register number value registers) number 0 ≡ value
-with_same number value registers some few =
-    let isnt : (number == 0) ≡ false = ne_eqb number 0 (λ is. omega arith) in
-    rw isnt (get_or-set_same registers number value 0 few)
+with_same number value registers some few = grind (arith, ne_eqb, get_or-set_same)
 
 with_other : (number value : ℕ) (registers : List ℕ) (n : ℕ) → (n ≡ number → ⊥) → slice_index_or (with_register number value registers) n 0 ≡ slice_index_or registers n 0
-with_other number value registers n other = elim (cases_Bool (number == 0)) [
-  | inl is ↦ rw is refl
-  | inr isnt ↦ rw isnt (get_or-set_other registers number n value 0 other)
-]
+with_other number value registers n other = grind (arith, cases_Bool, get_or-set_other)
 
 each_set : (P : List ℕ → Type 0) (registers : List (List ℕ)) (other : ℕ) (changed : List ℕ) (hart : ℕ) → hart < length registers → P (slice_index_or registers hart []) → (other ≡ hart → P changed) → P (slice_index_or (slice_set registers other changed) hart [])
-each_set P registers other changed hart here old new = elim (cases_eq other hart) [
-  | inl same ↦ subst (λ (k : ℕ). P (slice_index_or (slice_set registers k changed) hart [])) (sym same) (subst P (sym (get_or-set_same registers hart changed [] here)) (new same))
-  | inr differs ↦ subst P (sym (get_or-set_other registers other hart changed [] (λ same. differs (sym same)))) old
-]
+each_set P registers other changed hart here old new = grind (arith, cases_eq, slice_index_or, slice_set, get_or-set_same, get_or-set_other)
 
 -- what an item puts, and what was there where it puts nothing
 abbrev IsValueOr : Names → Option Value → (start word : ℕ) → Type 0
@@ -82,34 +62,25 @@ IsValueOr names None start word = word ≡ start
 IsValueOr names (Some value) start word = IsWorth names value word
 
 later_wins : (names : Names) (later this : Option Value) (start between word : ℕ) → IsValueOr names later between word → IsValueOr names this start between → IsValueOr names (or_else later this) start word
-later_wins names None this start between word same before = subst (IsValueOr names this start) (sym same) before
-later_wins names (Some value) this start between word worth before = worth
+later_wins names later this start between word same before = grind arith
 
 first_value : (names : Names) (equation : Option Value) (start word : ℕ) → start ≡ 0 → IsValueOr names equation start word → IsFirstValue names equation word
-first_value names None start word none same = same ∙ none
-first_value names (Some value) start word none worth = worth
+first_value names equation start word none same = grind arith
 
 -- a register after an item for one
 register_put : (names : Names) (equation : Value) (registers : List (List ℕ)) (hart other number value n : ℕ) → IsWorth names equation value → hart < length registers → n < length (slice_index_or registers hart []) → 1 ≤ n → IsValueOr names (if (other == hart) && (number == n) then Some equation else None) (slice_index_or (slice_index_or registers hart []) n 0) (slice_index_or (slice_index_or (slice_set registers other (with_register number value (slice_index_or registers other []))) hart []) n 0)
-register_put names equation registers hart other number value n worth here few some = elim (cases_eq other hart) [
-  | inl same ↦ elim (cases_eq number n) [
-    | inl this ↦ (
-        let e : (other == hart) ≡ true = eq-eqb other hart same in
-        let f : (number == n) ≡ true = eq-eqb number n this in
-        let is = ap (λ (xs : List ℕ). slice_index_or xs n 0) (there same) ∙ ap (λ (k : ℕ). slice_index_or (with_register k value (slice_index_or registers hart [])) n 0) this ∙ with_same n value (slice_index_or registers hart []) some few in
-        rw (e, f) (subst (IsWorth names equation) (sym is) worth))
-    | inr differs ↦ (
-        let e : (other == hart) ≡ true = eq-eqb other hart same in
-        let f : (number == n) ≡ false = ne_eqb number n differs in
-        rw (e, f) (ap (λ (xs : List ℕ). slice_index_or xs n 0) (there same) ∙ with_other number value (slice_index_or registers hart []) n (λ is. differs (sym is))))
-  ]
-  | inr differs ↦ (
-      let e : (other == hart) ≡ false = ne_eqb other hart differs in
-      rw e (ap (λ (xs : List ℕ). slice_index_or xs n 0) (get_or-set_other registers other hart (with_register number value (slice_index_or registers other [])) [] (λ same. differs (sym same)))))
-]
-  where
-    there : other ≡ hart → slice_index_or (slice_set registers other (with_register number value (slice_index_or registers other []))) hart [] ≡ with_register number value (slice_index_or registers hart [])
-    there same = ap (λ (k : ℕ). slice_index_or (slice_set registers k (with_register number value (slice_index_or registers k []))) hart []) same ∙ get_or-set_same registers hart (with_register number value (slice_index_or registers hart [])) [] here
+register_put names equation registers hart other number value n worth here few some = grind (
+  arith,
+  cases_eq,
+  eq-eqb,
+  slice_index_or,
+  with_same,
+  ne_eqb,
+  with_other,
+  get_or-set_other,
+  slice_set,
+  get_or-set_same,
+)
 
 -- what putting an item's value leaves
 abbrev Left : Target → ℕ → Values → Values → Type 0
@@ -117,17 +88,7 @@ Left (Register hart register) value values more = (hart < length values.register
 Left (Word index) value values more = (more.registers ≡ values.registers) × (more.words ≡ slice_set values.words index value)
 
 left_by : (target : Target) (value : ℕ) (values more : Values) → put_at target value values ≡ Ok more → Left target value values more
-left_by (Register hart register) value values more e = go (nat_lt hart (length values.registers)) refl
-  where
-    go : (b : Bool) → nat_lt hart (length values.registers) ≡ b → Left (Register hart register) value values more
-    go true is =
-        let shown = rw is at e in
-        let same : record values { registers = slice_set values.registers hart (with_register register.number value (slice_index_or values.registers hart [])) } ≡ more = cc in
-        (ltb-true hart (length values.registers) is, ap (λ (v : Values). v.registers) (sym same), ap (λ (v : Values). v.words) (sym same))
-    go false isnt = (let never = rw isnt at e in absurd cc)
-left_by (Word index) value values more e =
-    let same : record values { words = slice_set values.words index value } ≡ more = cc in
-    (ap (λ (v : Values). v.registers) (sym same), ap (λ (v : Values). v.words) (sym same))
+left_by target value values more e = grind (arith, nat_lt, slice_set, slice_index_or, ltb-true)
 
 left_put : (item : InitItem) (values more : Values) → item_put values item ≡ Ok more → Left item.target item.value values more
 unfolding item_put
@@ -142,27 +103,13 @@ shaped_left harts locations (Register other register) value values more shaped l
       zeros = λ hart here. subst (λ (rs : List (List ℕ)). slice_index_or (slice_index_or rs hart []) 0 0 ≡ 0) (sym left.1) (each_set (λ (xs : List ℕ). slice_index_or xs 0 0 ≡ 0) values.registers other changed hart (omega (arith, shaped.all, here)) (shaped.zeros hart here) (λ same. with_zero register.number value (slice_index_or values.registers other []) ∙ shaped.zeros other (omega (arith, same, here))));
       words = ap length left.2 ∙ shaped.words;
     }
-shaped_left harts locations (Word index) value values more shaped left =
-    record {
-      all = ap length left.0 ∙ shaped.all;
-      counts = λ hart here. subst (λ (rs : List (List ℕ)). length (slice_index_or rs hart []) ≡ 32) (sym left.0) (shaped.counts hart here);
-      zeros = λ hart here. subst (λ (rs : List (List ℕ)). slice_index_or (slice_index_or rs hart []) 0 0 ≡ 0) (sym left.0) (shaped.zeros hart here);
-      words = ap length left.1 ∙ length-set values.words index value ∙ shaped.words;
-    }
+shaped_left harts locations (Word index) value values more shaped left = grind (arith, slice_index_or, length-set)
 
 register_added : (names : Names) (equation : Equation) (item : InitItem) (values more : Values) (harts locations hart n : ℕ) → IsShaped harts locations values → IsSettingOf names equation item → Left item.target item.value values more → hart < harts → 1 ≤ n → n < 32 → IsValueOr names (if is_register hart n equation.0 then Some equation.1 else None) (at_register values hart n) (at_register more hart n)
-register_added names (in_register other register, value) item values more harts locations hart n shaped setting left here some few =
-    let is : Left (Register other register) item.value values more = subst (λ (target : Target). Left target item.value values more) setting.0 left in
-    subst (λ (rs : List (List ℕ)). IsValueOr names (if (other == hart) && (register.number == n) then Some value else None) (at_register values hart n) (slice_index_or (slice_index_or rs hart []) n 0)) (sym is.1)
-    (register_put names value values.registers hart other register.number item.value n setting.1 (omega (arith, shaped.all, here)) (omega (arith, shaped.counts hart here, few)) some)
-register_added names (at_location name, value) item values more harts locations hart n shaped setting left here some few =
-    let is : Left (Word setting.0.0) item.value values more = subst (λ (target : Target). Left target item.value values more) setting.0.2 left in
-    ap (λ (rs : List (List ℕ)). slice_index_or (slice_index_or rs hart []) n 0) is.0
+register_added names equation item values more harts locations hart n shaped setting left here some few = grind (arith, slice_index_or, register_put)
 
 word_added : (ms : Names) (equation : Equation) (item : InitItem) (values more : Values) (index : ℕ) (name : List ℕ) → length values.words ≡ length (each_once ms) → IsSettingOf (each_once ms) equation item → Left item.target item.value values more → IsAt (each_once ms) name index → IsValueOr (each_once ms) (if is_location name equation.0 then Some equation.1 else None) (at_word values index) (at_word more index)
-word_added ms (in_register other register, value) item values more index name count setting left at =
-    let is : Left (Register other register) item.value values more = subst (λ (target : Target). Left target item.value values more) setting.0 left in
-    ap (λ (words : List ℕ). slice_index_or words index 0) is.2
+word_added ms (in_register other register, value) item values more index name count setting left at = grind (arith, slice_index_or)
 word_added ms (at_location other, value) item values more index name count setting left at = elim (cases_Bool (bytes_eq other name)) [
   | inl same ↦ (
       let named : other ≡ name = (bytes_eq-Decides other name).0 same in
@@ -179,10 +126,7 @@ word_added ms (at_location other, value) item values more index name count setti
     is = subst (λ (target : Target). Left target item.value values more) setting.0.2 left
 
 hart_there : (names : Names) (equation : Equation) (item : InitItem) (values more : Values) (harts : ℕ) → length values.registers ≡ harts → IsSettingOf names equation item → Left item.target item.value values more → IsHartThere harts equation
-hart_there names (in_register hart register, value) item values more harts count setting left =
-    let is : Left (Register hart register) item.value values more = subst (λ (target : Target). Left target item.value values more) setting.0 left in
-    subst (λ (n : ℕ). hart < n) count is.0
-hart_there names (at_location name, value) item values more harts count setting left = tt
+hart_there names equation item values more harts count setting left = grind arith
 
 -- ---- all items
 
@@ -202,8 +146,6 @@ all_put ms [] [] harts values out shaped settings e =
       registers = λ hart n here some few. refl;
       words = λ index name at. refl;
     })
-all_put ms [] (item ∷ items) harts values out shaped settings e = absurd settings
-all_put ms (equation ∷ equations) [] harts values out shaped settings e = absurd settings
 all_put ms (equation ∷ equations) (item ∷ items) harts values out shaped settings e =
     let step = bind_ok (item_put values item) (λ (more : Values). items_put more items) out e in
     let more = step.0 in
@@ -217,6 +159,7 @@ all_put ms (equation ∷ equations) (item ∷ items) harts values out shaped set
       words = λ index name at.
           later_wins (each_once ms) (last_put (is_location name) equations) _ (at_word values index) (at_word more index) (at_word out index) (next.words index name at) (word_added ms equation item values more index name shaped.words settings.0 left at);
     }
+all_put ms x y harts values out shaped settings e = absurd settings
 
 pub values_found : (harts : ℕ) (equations : List Equation) (settings : InitItems) (values : Values) → settings.names ≡ each_once (names_in equations) → AreSettings settings.names equations settings.items → values_at harts settings ≡ Ok values → All (IsHartThere harts) equations × (length values.registers ≡ harts) × ((hart : ℕ) → hart < harts → AreRegisters settings.names equations hart (slice_index_or values.registers hart [])) × AreFirstWords settings.names equations values.words
 unfolding values_at
@@ -255,12 +198,11 @@ item_there names (at_location name, value) item values harts count setting there
 
 all_there : (names : Names) (equations : List Equation) (items : List InitItem) (values : Values) (harts : ℕ) → length values.registers ≡ harts → AreSettings names equations items → All (IsHartThere harts) equations → (out : Values) × (items_put values items ≡ Ok out)
 all_there names [] [] values harts count settings there = (values, refl)
-all_there names [] (item ∷ items) values harts count settings there = absurd settings
-all_there names (equation ∷ equations) [] values harts count settings there = absurd settings
 all_there names (equation ∷ equations) (item ∷ items) values harts count settings there =
     let first = item_there names equation item values harts count settings.0 (All-head (IsHartThere harts) equation equations there) in
     let rest = all_there names equations items first.0 harts first.2 settings.1 (All-tail (IsHartThere harts) equation equations there) in
     (rest.0, rw first.1 rest.1)
+all_there names x y values harts count settings there = absurd settings
 
 pub values_only : (harts : ℕ) (equations : List Equation) (settings : InitItems) → settings.names ≡ each_once (names_in equations) → AreSettings settings.names equations settings.items → All (IsHartThere harts) equations → (values : Values) × (values_at harts settings ≡ Ok values)
 unfolding values_at
@@ -269,35 +211,22 @@ values_only harts equations settings same items there = all_there settings.names
 -- ---- more names change nothing
 
 first_later : (ms more : Names) (equation : Option Value) (word : ℕ) → IsFirstValue (each_once ms) equation word → IsFirstValue (each_once (ms ++ more)) equation word
-first_later ms more None word first = first
-first_later ms more (Some value) word first = worth_later ms more value word first
+first_later ms more equation word first = grind (arith, worth_later)
 
 pub registers_later : (ms more : Names) (equations : List Equation) (hart : ℕ) (registers : List ℕ) → AreRegisters (each_once ms) equations hart registers → AreRegisters (each_once (ms ++ more)) equations hart registers
-registers_later ms more equations hart registers are = record {
-  count = are.count;
-  zero = are.zero;
-  others = λ n some few. first_later ms more (last_put (is_register hart n) equations) (slice_index_or registers n 0) (are.others n some few);
-}
+registers_later ms more equations hart registers are = grind (arith, first_later, slice_index_or)
 
 has_behind : (xs ys : Names) (name : List ℕ) → has ys name ≡ true → has (xs ++ ys) name ≡ true
 has_behind [] ys name is = is
 has_behind (x ∷ xs) ys name is = or_right (bytes_eq x name) (has (xs ++ ys) name) (has_behind xs ys name is)
 
 has_put : (equation : Equation) (others : Names) (name : List ℕ) → is_location name equation.0 ≡ true → has (name_of_place equation.0 ++ others) name ≡ true
-has_put (in_register hart register, value) others name is = absurd (false≢true is)
-has_put (at_location other, value) others name is = or_left (bytes_eq other name) (has others name) is
+has_put equation others name is = grind (arith, or_left, has)
 
 -- where an item puts a value, its name is one of the items'
 has_last : (equations : List Equation) (name : List ℕ) (value : Value) → last_put (is_location name) equations ≡ Some value → has (names_in equations) name ≡ true
 has_last [] name value e = absurd cc
-has_last (equation ∷ equations) name value e = go (has_last equations name) (last_put (is_location name) equations) refl e
-  where
-    go : ((later : Value) → last_put (is_location name) equations ≡ Some later → has (names_in equations) name ≡ true) → (later : Option Value) → last_put (is_location name) equations ≡ later → or_else later (if is_location name equation.0 then Some equation.1 else None) ≡ Some value → has (names_in (equation ∷ equations)) name ≡ true
-    go behind (Some later) is shown = has_behind (name_of_place equation.0) (name_of_value equation.1 ++ names_in equations) name (has_behind (name_of_value equation.1) (names_in equations) name (behind later is))
-    go behind None is shown = elim (cases_Bool (is_location name equation.0)) [
-      | inl here ↦ has_put equation (name_of_value equation.1 ++ names_in equations) name here
-      | inr other ↦ absurd (let never = rw other at shown in cc)
-    ]
+has_last (equation ∷ equations) name value e = grind (arith, has, has_behind, cases_Bool, has_put, has_last equations name)
 
 -- a name that appeared has an index
 at_resolved : (ms : Names) (name : List ℕ) → has ms name ≡ true → (index : ℕ) × IsAt (each_once ms) name index
@@ -351,15 +280,10 @@ words_later equations more words are = record {
 -- ---- at most one list of first values
 
 one_first : (ms : Names) (equation : Option Value) (v w : ℕ) → IsFirstValue (each_once ms) equation v → IsFirstValue (each_once ms) equation w → v ≡ w
-one_first ms None v w one other = one ∙ sym other
-one_first ms (Some value) v w one other = one_worth ms value v w one other
+one_first ms equation v w one other = grind (arith, one_worth)
 
 pub registers_one : (ms : Names) (equations : List Equation) (hart : ℕ) (a b : List ℕ) → AreRegisters (each_once ms) equations hart a → AreRegisters (each_once ms) equations hart b → a ≡ b
-registers_one ms equations hart a b one other = ext_get_or 0 a b (one.count ∙ sym other.count) go
-  where
-    go : (i : ℕ) → i < length a → get_or a i 0 ≡ get_or b i 0
-    go zero within = one.zero ∙ sym other.zero
-    go (suc i) within = one_first ms (last_put (is_register hart (suc i)) equations) (get_or a (suc i) 0) (get_or b (suc i) 0) (one.others (suc i) (omega arith) (omega (arith, one.count))) (other.others (suc i) (omega arith) (omega (arith, one.count)))
+registers_one ms equations hart a b one other = grind (arith, ext_get_or 0 a b (one.count ∙ sym other.count), get_or a, get_or b, one_first ms)
 
 pub words_one : (ms : Names) (equations : List Equation) (a b : List ℕ) → AreFirstWords (each_once ms) equations a → AreFirstWords (each_once ms) equations b → a ≡ b
 words_one ms equations a b one other = ext_get_or 0 a b (one.count ∙ sym other.count) go

@@ -1,7 +1,7 @@
 -- What is read as a test's heading, and the words of a text in one line.
-use Rattle.std.proofs.Common.{◌≡◌, ◌↔◌, ℕ, false, List, [], ◌∷◌, ◌++◌, length, Option, Some, None, Result, Ok, Err, refl, sym, ap, subst, ◌∙◌, append-nil, append_assoc, arith}
-use Rattle.std.specs.Prelude.{IfOk, ◌==◌, nat_lt, codes, unwrap_or}
-use Rattle.std.specs.List.{filter, flat_map, join_with_byte, slice_index_or}
+use Rattle.std.proofs.Common.{◌≡◌, ◌↔◌, ℕ, List, [], ◌∷◌, ◌++◌, length, Option, Some, Result, Ok, refl, sym, ap, subst, ◌∙◌, append-nil, append_assoc, arith}
+use Rattle.std.specs.Prelude.{IfOk, nat_lt, codes, unwrap_or}
+use Rattle.std.specs.List.{filter, flat_map, join_with_byte}
 use Rattle.std.proofs.lemmas.Bool.{ne_eqb}
 use Rattle.texts.specs.declared.pieces.Separators.TheVariants.{Gaps}
 use Rattle.texts.specs.Pieces.{is_blank, pieces, pieces_after}
@@ -43,22 +43,15 @@ carried_word : (line piece : List ℕ) (pieces : List (List ℕ)) → carried (w
 carried_word [] [] pieces = refl
 carried_word [] (c ∷ piece) pieces = rw (filter_kept (c ∷ piece) pieces (omega arith)) (sym (joined (c ∷ piece) (kept pieces)))
 carried_word (b ∷ line) [] pieces = rw (ne_eqb (length (b ∷ line)) 0 (λ none. omega (arith, none)), append-nil line) refl
-carried_word (b ∷ line) (c ∷ piece) pieces =
-    let some : (length (b ∷ line) == 0) ≡ false = ne_eqb (length (b ∷ line)) 0 (λ none. omega (arith, none)) in
-    let more : (length (c ∷ piece) == 0) ≡ false = ne_eqb (length (c ∷ piece)) 0 (λ none. omega (arith, none)) in
-    rw (some, more, filter_kept (c ∷ piece) pieces (omega arith))
-    (ap (λ (ys : List ℕ). b ∷ ys) (append_assoc line (32 ∷ c ∷ piece) (flat_map (λ next. 32 ∷ next) (kept pieces))))
+carried_word (b ∷ line) (c ∷ piece) pieces = grind (arith, ne_eqb, filter_kept, append_assoc)
 
 pub carried_turn : (line piece new bytes whole : List ℕ) (after : Option (List ℕ)) → new ≡ with_word line piece
     → pieces Gaps bytes ≡ piece ∷ pieces_after Gaps after
     → carried line (kept (pieces Gaps bytes)) ≡ whole → carried new (kept (pieces_after Gaps after)) ≡ whole
-carried_turn line piece new bytes whole after is cut so_far =
-    ap (λ (ys : List ℕ). carried ys (kept (pieces_after Gaps after))) is ∙ carried_word line piece (pieces_after Gaps after)
-    ∙ ap (λ (ps : List (List ℕ)). carried line (kept ps)) (sym cut) ∙ so_far
+carried_turn line piece new bytes whole after is cut so_far = grind (arith, carried_word)
 
 pub carried_all : (line : List ℕ) → carried line [] ≡ line
-carried_all [] = refl
-carried_all (c ∷ line) = append-nil (c ∷ line)
+carried_all line = grind (arith, append-nil)
 
 -- ---- the name
 
@@ -102,12 +95,10 @@ record Asking (from : Option (List ℕ)) (condition : List ℕ) : Type 0 where
   is : condition ≡ in_one_line condition_text
 
 asking : (from : Option (List ℕ)) (condition : List ℕ) → condition_of from ≡ Ok condition → Asking from condition
-asking None condition e = absurd cc
-asking (Some condition_text) condition e = record { condition_text = condition_text; begins = refl; is = sym (ok_is LitmusFault (in_one_line condition_text) condition e) }
+asking from condition e = grind (arith, ok_is)
 
 some_behind : (from : Option (List ℕ)) (rest : List ℕ) → behind_init from ≡ Ok rest → from ≡ Some rest
-some_behind None rest e = absurd cc
-some_behind (Some text) rest e = ap (λ (t : List ℕ). Some t) (ok_is LitmusFault text rest e)
+some_behind from rest e = grind (arith, ok_is)
 
 pub heading_found : (text : List ℕ) (is : HeadingOf) → heading_at text ≡ Ok is → IsHeading text is
 unfolding heading_at heading_in
@@ -147,8 +138,7 @@ heading_only text is h =
 -- what a reader answers
 pub found_heading : {X E : Type 0} (fault_of : E → Option LitmusFault) (view : X → HeadingOf) (text : List ℕ) (result : Result X E)
     → Gives fault_of view result (heading_at text) → IfOk result (λ x. IsHeading text (view x))
-found_heading fault_of view text (Ok x) gives = heading_found text (view x) gives
-found_heading fault_of view text (Err e) gives = tt
+found_heading fault_of view text result gives = grind (arith, heading_found)
 
 pub only_heading : {X E : Type 0} (fault_of : E → Option LitmusFault) (view : X → HeadingOf) (text : List ℕ) (is : HeadingOf) (result : Result X E)
     → Gives fault_of view result (heading_at text) → IsHeading text is → Gives fault_of view result (Ok is)

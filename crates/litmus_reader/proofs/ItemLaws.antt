@@ -1,5 +1,5 @@
 -- Items of the init part: what is read stands there, and what stands there is read.
-use Rattle.std.proofs.Common.{◌≡◌, ◌∙◌, ℕ, ◌≤◌, true, false, List, [], ◌∷◌, ◌++◌, length, Option, Some, None, Result, Ok, refl, sym, ap, subst, ◌⊎◌, inl, inr, append_assoc, arith}
+use Rattle.std.proofs.Common.{◌≡◌, ℕ, ◌≤◌, true, false, List, [], ◌∷◌, ◌++◌, length, Option, Some, None, Result, Ok, refl, sym, ap, subst, ◌⊎◌, inl, inr, append_assoc, arith}
 use Rattle.std.specs.List.{list_all}
 use Rattle.std.proofs.lemmas.Bool.{cases_Bool, and_parts, and_from, and_right, false_from_ne_true}
 use Rattle.std.proofs.lemmas.List.{append-nil}
@@ -39,32 +39,27 @@ AreSettings names (equation ∷ equations) [] = ⊥
 AreSettings names (equation ∷ equations) (setting ∷ settings) = IsSettingOf names equation setting × AreSettings names equations settings
 
 target_later : (ms more : Names) (place : NamedPlace) (target : Target) → IsTarget (each_once ms) place target → IsTarget (each_once (ms ++ more)) place target
-target_later ms more (in_register hart register) target is = is
-target_later ms more (at_location name) target is = (is.0, at_later ms more name is.0 is.1, is.2)
+target_later ms more place target is = grind (arith, at_later)
 
 settings_later : (ms more : Names) (equations : List Equation) (items : List InitItem) → AreSettings (each_once ms) equations items → AreSettings (each_once (ms ++ more)) equations items
 settings_later ms more [] [] are = tt
-settings_later ms more [] (setting ∷ items) are = are
-settings_later ms more (equation ∷ equations) [] are = are
 settings_later ms more (equation ∷ equations) (setting ∷ items) are =
     ((target_later ms more equation.0 setting.target are.0.0, worth_later ms more equation.1 setting.value are.0.1), settings_later ms more equations items are.1)
+settings_later ms more x y are = are
 
 settings_push : (names : Names) (equations : List Equation) (items : List InitItem) (equation : Equation) (setting : InitItem) → AreSettings names equations items → IsSettingOf names equation setting → AreSettings names (equations ++ equation ∷ []) (items ++ setting ∷ [])
 settings_push names [] [] equation setting are last = (last, tt)
-settings_push names [] (first ∷ items) equation setting are last = absurd are
-settings_push names (first ∷ equations) [] equation setting are last = absurd are
 settings_push names (first ∷ equations) (one ∷ items) equation setting are last = (are.0, settings_push names equations items equation setting are.1 last)
+settings_push names x y equation setting are last = absurd are
 
 -- ---- the names in items
 
 names-append : (equations more : List Equation) → names_in (equations ++ more) ≡ names_in equations ++ names_in more
 names-append [] more = refl
-names-append (equation ∷ equations) more =
-    ap (λ (names : Names). name_of_place equation.0 ++ (name_of_value equation.1 ++ names)) (names-append equations more) ∙ simp append_assoc refl
+names-append (equation ∷ equations) more = grind (arith, append_assoc, names-append equations more)
 
 names_push : (equations : List Equation) (equation : Equation) → names_in (equations ++ equation ∷ []) ≡ (names_in equations ++ name_of_place equation.0) ++ name_of_value equation.1
-names_push equations equation =
-    names-append equations (equation ∷ []) ∙ ap (λ (names : Names). names_in equations ++ (name_of_place equation.0 ++ names)) (append-nil (name_of_value equation.1)) ∙ sym (append_assoc (names_in equations) (name_of_place equation.0) (name_of_value equation.1))
+names_push equations equation = grind (arith, names-append, append-nil, append_assoc)
 
 -- ---- a target's name
 
@@ -76,9 +71,7 @@ IsTargetResolved ms place found = (found.1 ≡ each_once (ms ++ name_of_place pl
 
 target_found : (ms : Names) (place : NamedPlace) (found : Target × Names) → target_resolved (each_once ms) place ≡ Ok found → IsTargetResolved ms place found
 unfolding target_resolved
-target_found ms (in_register hart register) found e =
-    let is = ok_is LitmusFault (Register hart register, each_once ms) found e in
-    (ap (λ (f : Target × Names). f.1) (sym is) ∙ ap each_once (sym (append-nil ms)), ap (λ (f : Target × Names). f.0) (sym is), λ few. subst (λ (f : Target × Names). length f.1 ≤ 1024) is few)
+target_found ms (in_register hart register) found e = grind (arith, ok_is, append-nil)
 target_found ms (at_location name) found e =
     let step = bind_ok (resolved (each_once ms) name) (λ found. resolved_as (Word found.0, found.1)) found e in
     let is = ok_is LitmusFault (Word step.0.0, step.0.1) found step.2 in
@@ -107,17 +100,7 @@ added_as settings = Ok settings
 
 -- one item more, where its target and its value are known
 with_put : (equations : List Equation) (so_far : InitItems) (equation : Equation) (target : Target) (word : ℕ) (names : Names) → AreAdded equations so_far → names ≡ each_once ((names_in equations ++ name_of_place equation.0) ++ name_of_value equation.1) → length names ≤ 1024 → IsTarget (each_once (names_in equations ++ name_of_place equation.0)) equation.0 target → IsWorth names equation.1 word → AreAdded (equations ++ equation ∷ []) (with_setting so_far target (word, names))
-with_put equations so_far equation target word names shown same few is_target is_worth =
-    let ms = names_in equations in
-    let more = ms ++ name_of_place equation.0 in
-    let all = more ++ name_of_value equation.1 in
-    let old = settings_later more (name_of_value equation.1) equations so_far.items (settings_later ms (name_of_place equation.0) equations so_far.items (subst (λ (ns : Names). AreSettings ns equations so_far.items) shown.names shown.settings)) in
-    let new : IsSettingOf (each_once all) equation (record { target = target; value = word }) = (target_later more (name_of_value equation.1) equation.0 target is_target, subst (λ (ns : Names). IsWorth ns equation.1 word) same is_worth) in
-    record {
-      names = same ∙ ap each_once (sym (names_push equations equation));
-      few = few;
-      settings = subst (λ (ns : Names). AreSettings ns (equations ++ equation ∷ []) (so_far.items ++ (record { target = target; value = word }) ∷ [])) (sym same) (settings_push (each_once all) equations so_far.items equation (record { target = target; value = word }) old new);
-    }
+with_put equations so_far equation target word names shown same few is_target is_worth = grind (arith, settings_later, target_later, names_push, settings_push)
 
 item_found_added : (equations : List Equation) (so_far more : InitItems) (equation : Equation) → AreAdded equations so_far → item_added so_far (Some equation) ≡ Ok more → AreAdded (equations ++ equation ∷ []) more
 unfolding item_added
@@ -155,13 +138,10 @@ no_core : (text : List ℕ) → list_all is_gap text ≡ true → core text ≡ 
 no_core text e = stripped_all is_gap text (gaps_in text e)
 
 declared_solid : (text : List ℕ) (place : NamedPlace) → IsDeclared text place → list_all is_gap text ≡ true → ⊥
-declared_solid text (in_register hart register) is gaps = is
-declared_solid text (at_location name) is gaps = let never = sym (no_core text gaps) ∙ is.2 in cc
+declared_solid text place is gaps = grind (arith, no_core)
 
 item_solid : (text : List ℕ) (equation : Equation) → IsItem text equation → list_all is_gap text ≡ false
-item_solid text equation (inl (left, right, is, place, value)) = rw is (list_all-append is_gap left (61 ∷ right) ∙ and_right (list_all is_gap left) false refl)
-item_solid text equation (inr (inl (left, right, is, place, value))) = rw is (list_all-append is_gap left (61 ∷ right) ∙ and_right (list_all is_gap left) false refl)
-item_solid text equation (inr (inr (declared, zero_is))) = false_from_ne_true (list_all is_gap text) (declared_solid text equation.0 declared)
+item_solid text equation h2 = grind (arith, list_all-append, and_right, false_from_ne_true, declared_solid)
 
 -- ---- piece by piece
 

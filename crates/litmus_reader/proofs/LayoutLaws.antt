@@ -1,5 +1,5 @@
 -- The layout of a text without comments, by relation and by function.
-use Rattle.std.proofs.Common.{◌≡◌, ℕ, true, false, not, List, [], ◌∷◌, ◌++◌, length, drop, Option, Some, None, Ok, refl, ap, subst, ◌∙◌, inl, inr, arith}
+use Rattle.std.proofs.Common.{◌≡◌, ℕ, true, false, not, List, [], ◌∷◌, ◌++◌, length, drop, Option, Some, None, Ok, refl, ap, subst, ◌∙◌, arith}
 use Rattle.std.specs.Prelude.{◌==◌, codes, unwrap_or}
 use Rattle.std.proofs.lemmas.Bool.{cases_Bool, and_parts, and_from, ne_eqb}
 use Rattle.texts.specs.Pieces.{is_blank}
@@ -8,7 +8,7 @@ use Rattle.texts.proofs.CuttingLaws.{before_stop, after_stop, cut_byte, before_p
 use Rattle.texts.proofs.TrimLaws.{leading_first, leading_split}
 use Rattle.litmus_reader.specs.declared.marks.Mark.TheVariants as mark
 use Rattle.litmus_reader.specs.Marks.{has_token, before_line, from_line}
-use Rattle.litmus_reader.specs.Header.{has_name, is_header, behind_line, behind_header, behind_front, behind_brace}
+use Rattle.litmus_reader.specs.Header.{has_name, is_header, behind_header, behind_front, behind_brace}
 use Rattle.litmus_reader.specs.Shapes.{IsCut, IsFirst}
 use Rattle.litmus_reader.specs.Shapes.IsFirst.{here, below as further}
 use Rattle.litmus_reader.specs.Layout.{IsVisible, BeginsWith, BeginsCondition, IsHeader, IsLaidOut}
@@ -55,11 +55,7 @@ header_found line h =
 
 header_only : (line : List ℕ) → IsHeader line → is_header line ≡ true
 unfolding is_header
-header_only line (blanks, gap, rest, b, c, are, apart, solid, whole) =
-    let front : without_front line ≡ codes "RISCV" ++ b ∷ (gap ++ c ∷ rest) = ap without_front whole ∙ front_of blanks 82 (codes "ISCV" ++ b ∷ (gap ++ c ∷ rest)) are refl in
-    let some : (length (c ∷ rest) == 0) ≡ false = ne_eqb (length (c ∷ rest)) 0 (λ none. omega (arith, none)) in
-    let name : has_name (drop 5 (without_front line)) ≡ true = rw (front, apart.0, front_of gap c rest apart.1 solid, some) refl in
-    and_from (has_token (codes "RISCV") (without_front line)) (has_name (drop 5 (without_front line))) (word_only 82 (codes "ISCV") line refl (blanks, b ∷ (gap ++ c ∷ rest), are, whole)) name
+header_only line h1 = grind (arith, front_of, ne_eqb, and_from, word_only)
 
 record Headed (text below : List ℕ) : Type 0 where
   headed : List ℕ
@@ -69,14 +65,7 @@ record Headed (text below : List ℕ) : Type 0 where
 
 headed_found : (text below : List ℕ) → behind_header text ≡ Ok below → Headed text below
 unfolding behind_header
-headed_found text below e = go (from_line mark.Visible text) refl e
-  where
-    go : (o : Option (List ℕ)) → from_line mark.Visible text ≡ o → behind_line o ≡ Ok below → Headed text below
-    go None first f = absurd cc
-    go (Some headed) first f = elim (cases_Bool (is_header (before (is_byte 10) headed))) [
-      | inl named ↦ record { headed = headed; first = first; named = named; behind = (let shown = rw named at f in cc) }
-      | inr other ↦ (let never = rw other at f in absurd cc)
-    ]
+headed_found text below e = grind (arith, cases_Bool)
 
 headed_only : (text blank_lines headed header below : List ℕ) → IsFirst IsVisible text blank_lines headed → IsCut headed header below → IsHeader header → behind_header text ≡ Ok below
 unfolding behind_header

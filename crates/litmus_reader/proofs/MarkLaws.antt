@@ -1,8 +1,8 @@
 -- Where the next line begins.
-use Rattle.std.proofs.Common.{◌≡◌, ℕ, suc, ◌+◌, ◌<◌, ◌≤◌, true, false, List, [], ◌∷◌, ◌++◌, length, take, drop, Option, Some, None, refl, sym, ap, subst, ◌∙◌, inl, inr, append_assoc, arith}
+use Rattle.std.proofs.Common.{◌≡◌, ℕ, ◌+◌, ◌<◌, ◌≤◌, true, false, List, [], ◌∷◌, ◌++◌, length, take, drop, Option, Some, None, refl, sym, ap, subst, ◌∙◌, append_assoc, arith}
 use Rattle.std.proofs.Math.Seq.{take-add}
 use Rattle.std.proofs.lemmas.List.{append-nil, drop-drop, length-drop, take-append-drop}
-use Rattle.std.specs.Prelude.{position, ◌==◌}
+use Rattle.std.specs.Prelude.{position}
 use Rattle.std.specs.List.{position_or_len}
 use Rattle.std.proofs.lemmas.Bool.{cases_Bool}
 use Rattle.texts.proofs.PieceLaws.{position_is, position_past}
@@ -12,38 +12,20 @@ use Rattle.litmus_reader.specs.Marks.{is_line_feed, begins, before_next, from_ne
 front_is : (mark : Mark) (xs : List ℕ) → position_or_len is_line_feed xs < length xs → before_next mark xs ≡ take (position_or_len is_line_feed xs + 1) xs ++ before_line mark (drop (position_or_len is_line_feed xs + 1) xs)
 unfolding before_line
 front_is mark [] less = absurd (omega arith)
-front_is mark (x ∷ xs) less = elim (cases_Bool (x == 10)) [
-  | inl ends ↦ rw ends refl
-  | inr goes_on ↦ (
-      let shorter : 1 + position_or_len is_line_feed xs < length (x ∷ xs) = rw goes_on at less in
-      let next : 1 + position_or_len is_line_feed xs + 1 ≡ suc (position_or_len is_line_feed xs + 1) = omega arith in
-      rw (goes_on, next) (ap (λ (ys : List ℕ). x ∷ ys) (front_is mark xs (omega arith))))
-]
+front_is mark (x ∷ xs) less = grind (arith, cases_Bool, front_is mark xs)
 
 back_is : (mark : Mark) (xs : List ℕ) → position_or_len is_line_feed xs < length xs → from_next mark xs ≡ from_line mark (drop (position_or_len is_line_feed xs + 1) xs)
 unfolding from_line
 back_is mark [] less = absurd (omega arith)
-back_is mark (x ∷ xs) less = elim (cases_Bool (x == 10)) [
-  | inl ends ↦ rw ends refl
-  | inr goes_on ↦ (
-      let shorter : 1 + position_or_len is_line_feed xs < length (x ∷ xs) = rw goes_on at less in
-      let next : 1 + position_or_len is_line_feed xs + 1 ≡ suc (position_or_len is_line_feed xs + 1) = omega arith in
-      rw (goes_on, next) (back_is mark xs (omega arith)))
-]
+back_is mark (x ∷ xs) less = grind (arith, cases_Bool, back_is mark xs)
 
 front_whole : (mark : Mark) (xs : List ℕ) → length xs ≤ position_or_len is_line_feed xs → before_next mark xs ≡ xs
 front_whole mark [] no_line = refl
-front_whole mark (x ∷ xs) no_line = elim (cases_Bool (x == 10)) [
-  | inl ends ↦ (let no_room : length (x ∷ xs) ≤ 0 = rw ends at no_line in absurd (omega arith))
-  | inr goes_on ↦ (let more : length (x ∷ xs) ≤ 1 + position_or_len is_line_feed xs = rw goes_on at no_line in rw goes_on (ap (λ (ys : List ℕ). x ∷ ys) (front_whole mark xs (omega arith))))
-]
+front_whole mark (x ∷ xs) no_line = grind (arith, cases_Bool, front_whole mark xs)
 
 back_none : (mark : Mark) (xs : List ℕ) → length xs ≤ position_or_len is_line_feed xs → from_next mark xs ≡ None
 back_none mark [] no_line = refl
-back_none mark (x ∷ xs) no_line = elim (cases_Bool (x == 10)) [
-  | inl ends ↦ (let no_room : length (x ∷ xs) ≤ 0 = rw ends at no_line in absurd (omega arith))
-  | inr goes_on ↦ (let more : length (x ∷ xs) ≤ 1 + position_or_len is_line_feed xs = rw goes_on at no_line in rw goes_on (back_none mark xs (omega arith)))
-]
+back_none mark (x ∷ xs) no_line = grind (arith, cases_Bool, back_none mark xs)
 
 -- a line that begins otherwise stands before, with its end
 pub next_front : (mark : Mark) (xs : List ℕ) (i : ℕ) → begins mark xs ≡ false → position is_line_feed xs ≡ Some i → before_line mark xs ≡ take (i + 1) xs ++ before_line mark (drop (i + 1) xs)

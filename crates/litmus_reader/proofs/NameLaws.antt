@@ -1,11 +1,9 @@
 -- The locations in settings have the shapes of names.
-use Rattle.std.proofs.Common.{◌≡◌, ℕ, Bool, true, false, List, [], ◌∷◌, Option, Some, None, refl, sym, subst, inl, inr}
-use Rattle.std.specs.Prelude.{◌==◌, if◌then◌else◌}
+use Rattle.std.proofs.Common.{arith, ◌≡◌, ℕ, Bool, List, Option, Some, sym, subst}
+use Rattle.std.specs.Prelude.{if◌then◌else◌}
 use Rattle.litmus_tokens.specs.Settings.{NamedPlace, Value, Equation, IsNamedPlace, IsValue, IsSetting, IsDeclared, IsItem}
-use Rattle.litmus_tokens.specs.Settings.NamedPlace.{in_register, at_location}
-use Rattle.litmus_tokens.specs.Settings.Value.{number, address_of}
 use Rattle.litmus_tokens.specs.Reading.{setting_at}
-use Rattle.litmus_tokens.specs.Tokens.{Token, Beginning, nothing, begins, no_token, conjunction, disjunction, is_mark, behind_not, paired, atom_from, negation_or, unmarked, begun, beginning_of}
+use Rattle.litmus_tokens.specs.Tokens.{Token, Beginning, nothing, begins, no_token, is_mark, behind_not, paired, atom_from, negation_or, unmarked, begun, beginning_of}
 use Rattle.texts.specs.Cutting.{before, from_first, without_leading}
 use Rattle.litmus_tokens.proofs.SettingLaws.{setting_found}
 use Rattle.litmus_reader.specs.Locations.{HasLocation, HasName, HasNames}
@@ -13,28 +11,19 @@ use Rattle.litmus_reader.specs.Condition.{TokenHasNames}
 use Rattle.texts.specs.Pieces.{is_gap}
 
 place_names : (text : List ℕ) (place : NamedPlace) → IsNamedPlace text place → HasLocation place
-place_names text (in_register hart register) is = tt
-place_names text (at_location name) is = is.0
+place_names text place is = grind arith
 
 value_names : (text : List ℕ) (value : Value) → IsValue text value → HasName value
-value_names text (number n) is = tt
-value_names text (address_of name) is = is.0
+value_names text value is = grind arith
 
 declared_names : (text : List ℕ) (place : NamedPlace) → IsDeclared text place → HasLocation place
-declared_names text (in_register hart register) is = tt
-declared_names text (at_location name) is = is.4
+declared_names text place is = grind arith
 
 setting_names : (text : List ℕ) (equation : Equation) → IsSetting text equation → HasNames equation
 setting_names text equation is = (place_names is.0 equation.0 is.3, value_names is.1 equation.1 is.4)
 
 item_names : (text : List ℕ) (equation : Equation) → IsItem text equation → HasNames equation
-item_names text equation is = elim is [
-  | inl setting ↦ setting_names text equation setting
-  | inr other ↦ elim other [
-    | inl valued ↦ (declared_names valued.0 equation.0 valued.3, value_names valued.1 equation.1 valued.4)
-    | inr declared ↦ (declared_names text equation.0 declared.0, subst (λ (value : Value). HasName value) (sym declared.1) tt)
-  ]
-]
+item_names text equation is = grind (arith, setting_names, declared_names, value_names)
 
 pub item_location : (text : List ℕ) (equation : Equation) → IsItem text equation → HasLocation equation.0
 item_location text equation is = (item_names text equation is).0
@@ -50,20 +39,16 @@ Named (begins token rest) = TokenHasNames token
 Named no_token = Unit {0}
 
 either_named : (b : Bool) (x y : Beginning) → Named x → Named y → Named (if b then x else y)
-either_named true x y first second = first
-either_named false x y first second = second
+either_named b x y first second = grind arith
 
 paired_named : (token : Token) (second : ℕ) (text : List ℕ) → TokenHasNames token → Named (paired token second text)
-paired_named token second [] names = tt
-paired_named token second (c ∷ rest) names = either_named (c == second) (begins token rest) no_token names tt
+paired_named token second text names = grind (arith, either_named)
 
 atom_named : (o : Option Equation) (rest : List ℕ) → ((equation : Equation) → o ≡ Some equation → HasNames equation) → Named (atom_from o rest)
-atom_named None rest names = tt
-atom_named (Some equation) rest names = names equation refl
+atom_named o rest names = grind arith
 
 not_named : (o : Option (List ℕ)) (other : Beginning) → Named other → Named (negation_or o other)
-not_named None other names = names
-not_named (Some rest) other names = tt
+not_named o other names = grind arith
 
 unmarked_named : (text : List ℕ) → Named (unmarked text)
 unfolding unmarked
@@ -71,8 +56,7 @@ unmarked_named text = not_named (behind_not text) _ (atom_named (setting_at (bef
 
 begun_named : (text : List ℕ) → Named (begun text)
 unfolding begun
-begun_named [] = tt
-begun_named (c ∷ rest) = either_named (c == 40) _ _ tt (either_named (c == 41) _ _ tt (either_named (c == 126) _ _ tt (either_named (c == 47) _ _ (paired_named conjunction 92 rest tt) (either_named (c == 92) _ _ (paired_named disjunction 47 rest tt) (unmarked_named (c ∷ rest))))))
+begun_named text = grind (arith, either_named, paired_named, unmarked_named)
 
 pub first_named : (text : List ℕ) → Named (beginning_of text)
 unfolding beginning_of

@@ -1,5 +1,5 @@
 -- A word of 32 bits is the only plain one of its instruction.
-use Rattle.std.proofs.Common.{◌≡◌, ◌∙◌, sym, ℕ, ◌+◌, ◌*◌, ◌^◌, ◌<◌, List, [], ◌∷◌, map, Some, refl, arith}
+use Rattle.std.proofs.Common.{◌≡◌, ℕ, ◌+◌, ◌*◌, ◌^◌, ◌<◌, List, [], ◌∷◌, map, Some, refl, arith}
 use Rattle.std.proofs.lemmas.Int.{ints}
 use Rattle.std.proofs.lemmas.List.Elements.{All-head, All-tail}
 use Rattle.rv_decode.specs.Word.{field, opcode_of, rd_of, funct3_of, rs1_of, rs2_of, funct7_of, imm_i, imm_s, imm_b, imm_u, imm_j}
@@ -7,7 +7,6 @@ use Rattle.rv_decode.specs.Means.{Means}
 use Rattle.rv_decode.specs.Meaning.{meaning}
 use Rattle.rv_decode.specs.Fits.{HasPlainFence}
 use Rattle.rv_decode.specs.declared.instruction.Instr.{Instr}
-use Rattle.rv_decode.specs.declared.instruction.Instr.TheVariants.{Lui, Auipc, Jal, Jalr, Branch, Load, Store, Immediate, Shift, Register, Fence, FenceTso, Ecall, Ebreak, Amo}
 use Rattle.rv_decode.proofs.Meanings.{meaning_iff}
 use Rattle.litmus_reader.specs.Table.{IsPlainCode}
 
@@ -20,39 +19,21 @@ whole_upper : (w : ℕ) → imm_u w ≡ funct3_of w + 2 ^ 3 * rs1_of w + 2 ^ 8 *
 whole_upper w = omega arith
 
 same_fields : (a b : ℕ) → a < 2 ^ 32 → b < 2 ^ 32 → opcode_of a ≡ opcode_of b → rd_of a ≡ rd_of b → funct3_of a ≡ funct3_of b → rs1_of a ≡ rs1_of b → rs2_of a ≡ rs2_of b → funct7_of a ≡ funct7_of b → a ≡ b
-same_fields a b fits small opcode rd funct3 rs1 rs2 funct7 =
-    same_upper a b fits small opcode rd (whole_upper a ∙ rw (funct3, rs1, rs2, funct7) (sym (whole_upper b)))
+same_fields a b fits small opcode rd funct3 rs1 rs2 funct7 = grind (arith, same_upper, whole_upper)
 
 -- ---- the fields of an immediate
 
 same_i : (a b : ℕ) → imm_i a ≡ imm_i b → (rs2_of a ≡ rs2_of b) × (funct7_of a ≡ funct7_of b)
-same_i a b same =
-    let low : field a 20 11 ≡ field b 20 11 = omega (arith, ints) in
-    let high : field a 31 1 ≡ field b 31 1 = omega (arith, ints) in
-    (omega (arith, low), omega (arith, low, high))
+same_i a b same = grind (arith, ints)
 
 same_s : (a b : ℕ) → imm_s a ≡ imm_s b → (rd_of a ≡ rd_of b) × (funct7_of a ≡ funct7_of b)
-same_s a b same =
-    let high : field a 31 1 ≡ field b 31 1 = omega (arith, ints) in
-    let low : field a 7 5 ≡ field b 7 5 = omega (arith, ints) in
-    let middle : field a 25 6 ≡ field b 25 6 = omega (arith, ints) in
-    (low, omega (arith, middle, high))
+same_s a b same = grind (arith, ints)
 
 same_b : (a b : ℕ) → imm_b a ≡ imm_b b → (rd_of a ≡ rd_of b) × (funct7_of a ≡ funct7_of b)
-same_b a b same =
-    let high : field a 31 1 ≡ field b 31 1 = omega (arith, ints) in
-    let low : field a 8 4 ≡ field b 8 4 = omega (arith, ints) in
-    let middle : field a 25 6 ≡ field b 25 6 = omega (arith, ints) in
-    let other : field a 7 1 ≡ field b 7 1 = omega (arith, ints) in
-    (omega (arith, low, other), omega (arith, middle, high))
+same_b a b same = grind (arith, ints)
 
 same_j : (a b : ℕ) → imm_j a ≡ imm_j b → imm_u a ≡ imm_u b
-same_j a b same =
-    let high : field a 31 1 ≡ field b 31 1 = omega (arith, ints) in
-    let low : field a 21 10 ≡ field b 21 10 = omega (arith, ints) in
-    let middle : field a 20 1 ≡ field b 20 1 = omega (arith, ints) in
-    let other : field a 12 8 ≡ field b 12 8 = omega (arith, ints) in
-    omega (arith, low, middle, other, high)
+same_j a b same = grind (arith, ints)
 
 -- those of a fence, and of an AMO
 
@@ -65,46 +46,12 @@ amo_fields a b op aq rl = omega arith
 -- ---- words
 
 pub one_word : (a b : ℕ) (i : Instr) → a < 2 ^ 32 → b < 2 ^ 32 → Means a i → Means b i → HasPlainFence a i → HasPlainFence b i → a ≡ b
-one_word a b (Lui rd upper) fits small m n p q = same_upper a b fits small (m.0 ∙ sym n.0) (sym m.1 ∙ n.1) (sym m.2 ∙ n.2)
-one_word a b (Auipc rd upper) fits small m n p q = same_upper a b fits small (m.0 ∙ sym n.0) (sym m.1 ∙ n.1) (sym m.2 ∙ n.2)
-one_word a b (Jal rd offset) fits small m n p q = same_upper a b fits small (m.0 ∙ sym n.0) (sym m.1 ∙ n.1) (same_j a b (sym m.2 ∙ n.2))
-one_word a b (Jalr rd rs1 offset) fits small m n p q =
-    let imm = same_i a b (sym m.4 ∙ n.4) in
-    same_fields a b fits small (m.0 ∙ sym n.0) (sym m.2 ∙ n.2) (m.1 ∙ sym n.1) (sym m.3 ∙ n.3) imm.0 imm.1
-one_word a b (Branch op rs1 rs2 offset) fits small m n p q =
-    let imm = same_b a b (sym m.4 ∙ n.4) in
-    same_fields a b fits small (m.0 ∙ sym n.0) imm.0 (m.1 ∙ sym n.1) (sym m.2 ∙ n.2) (sym m.3 ∙ n.3) imm.1
-one_word a b (Load op rd rs1 offset) fits small m n p q =
-    let imm = same_i a b (sym m.4 ∙ n.4) in
-    same_fields a b fits small (m.0 ∙ sym n.0) (sym m.2 ∙ n.2) (m.1 ∙ sym n.1) (sym m.3 ∙ n.3) imm.0 imm.1
-one_word a b (Store op rs1 rs2 offset) fits small m n p q =
-    let imm = same_s a b (sym m.4 ∙ n.4) in
-    same_fields a b fits small (m.0 ∙ sym n.0) imm.0 (m.1 ∙ sym n.1) (sym m.2 ∙ n.2) (sym m.3 ∙ n.3) imm.1
-one_word a b (Immediate op rd rs1 value) fits small m n p q =
-    let imm = same_i a b (sym m.4 ∙ n.4) in
-    same_fields a b fits small (m.0 ∙ sym n.0) (sym m.2 ∙ n.2) (m.1 ∙ sym n.1) (sym m.3 ∙ n.3) imm.0 imm.1
-one_word a b (Shift op rd rs1 amount) fits small m n p q =
-    same_fields a b fits small (m.0 ∙ sym n.0) (sym m.3 ∙ n.3) (m.1 ∙ sym n.1) (sym m.4 ∙ n.4) (sym m.5 ∙ n.5) (m.2 ∙ sym n.2)
-one_word a b (Register op rd rs1 rs2) fits small m n p q =
-    same_fields a b fits small (m.0 ∙ sym n.0) (sym m.3 ∙ n.3) (m.1 ∙ sym n.1) (sym m.4 ∙ n.4) (sym m.5 ∙ n.5) (m.2 ∙ sym n.2)
-one_word a b (Fence pred succ) fits small m n p q =
-    let sets = fence_fields a b (sym m.4 ∙ n.4) (sym m.3 ∙ n.3) (p.0 ∙ sym q.0) in
-    same_fields a b fits small (m.0 ∙ sym n.0) (p.1 ∙ sym q.1) (m.1 ∙ sym n.1) (p.2 ∙ sym q.2) sets.0 sets.1
-one_word a b FenceTso fits small m n p q =
-    let sets = fence_fields a b (m.2.2 ∙ sym n.2.2) (m.2.1 ∙ sym n.2.1) (m.2.0 ∙ sym n.2.0) in
-    same_fields a b fits small (m.0 ∙ sym n.0) (p.0 ∙ sym q.0) (m.1 ∙ sym n.1) (p.1 ∙ sym q.1) sets.0 sets.1
-one_word a b Ecall fits small m n p q = m ∙ sym n
-one_word a b Ebreak fits small m n p q = m ∙ sym n
-one_word a b (Amo op rd rs1 rs2 aq rl) fits small m n p q =
-    same_fields a b fits small (m.0 ∙ sym n.0) (sym m.3 ∙ n.3) (m.1 ∙ sym n.1) (sym m.4 ∙ n.4) (sym m.5 ∙ n.5) (amo_fields a b (m.2 ∙ sym n.2) (m.6 ∙ sym n.6) (m.7 ∙ sym n.7))
+one_word a b i fits small m n p q = grind (arith, same_upper, same_j, same_i, same_fields, same_b, same_s, fence_fields, amo_fields)
 
 -- ---- codes
 
 pub one_code : (a b : List ℕ) (instrs : List Instr) → IsPlainCode a → IsPlainCode b → map meaning a ≡ map Some instrs → map meaning b ≡ map Some instrs → a ≡ b
 one_code [] [] instrs p q m n = refl
-one_code [] (y ∷ ys) instrs p q m n = absurd cc
-one_code (x ∷ xs) [] instrs p q m n = absurd cc
-one_code (x ∷ xs) (y ∷ ys) [] p q m n = absurd cc
 one_code (x ∷ xs) (y ∷ ys) (i ∷ instrs) p q m n =
     let first : meaning x ≡ Some i = cc in
     let second : meaning y ≡ Some i = cc in
@@ -113,3 +60,4 @@ one_code (x ∷ xs) (y ∷ ys) (i ∷ instrs) p q m n =
     let below : ℕ → Type 0 = λ w. w < 2 ^ 32 in
     let here : x ≡ y = one_word x y i (All-head below x xs p.1) (All-head below y ys q.1) ((meaning_iff x i).0 first) ((meaning_iff y i).0 second) (rw first at p.0.0) (rw second at q.0.0) in
     rw (here, one_code xs ys instrs (p.0.1, All-tail below x xs p.1) (q.0.1, All-tail below y ys q.1) rest others) refl
+one_code z other u p q m n = absurd cc

@@ -1,5 +1,5 @@
 -- A table's rows are those of the grammar.
-use Rattle.std.proofs.Common.{◌≡◌, ℕ, ◌+◌, ◌^◌, ◌<◌, ◌≤◌, true, false, ltb, List, [], ◌∷◌, ◌++◌, length, Option, Some, None, Ok, refl, ap, subst, sym, ◌∙◌, inl, inr, arith}
+use Rattle.std.proofs.Common.{◌≡◌, ℕ, ◌+◌, ◌^◌, ◌<◌, ◌≤◌, true, false, ltb, List, [], ◌∷◌, ◌++◌, length, Option, Some, None, Ok, refl, ap, subst, ◌∙◌, inl, inr, arith}
 use Rattle.std.specs.Fmt.{decimal}
 use Rattle.std.proofs.lemmas.Bool.{cases_Bool, eqb-true, le-ltb, ltb-false, false_from_ne_true}
 use Rattle.std.proofs.lemmas.Slice.Eq.{bytes_eq-Decides}
@@ -8,9 +8,7 @@ use Rattle.texts.specs.Cutting.{before, after, is_byte, trimmed, AreBlanks, IsPa
 use Rattle.texts.proofs.ResultLaws.{ok_is, bind_ok, guard_ok}
 use Rattle.texts.proofs.CuttingLaws.{before_stop, after_stop, decimal_none, digit_no_blank, cut_byte, before_passes_not}
 use Rattle.texts.proofs.TrimLaws.{stripped_none, padded_stripped, stripped_padded}
-use Rattle.litmus_reader.specs.declared.faults.LitmusFault.{LitmusFault}
-use Rattle.litmus_reader.specs.declared.faults.LitmusFault.TheVariants.{TooMany}
-use Rattle.litmus_reader.specs.Rows.{is_blank_line, ended_by, row_in, cells_of, names_hart, name_harts, harts_within, all_named, harts_of, harts_in}
+use Rattle.litmus_reader.specs.Rows.{is_blank_line, ended_by, row_in, cells_of, names_hart, name_harts, harts_within, all_named, harts_in}
 use Rattle.litmus_reader.specs.Columns.{Cells, IsRow, AreNames}
 use Rattle.litmus_reader.proofs.ShapeLaws.{none_passes, has_none, parts_found, parts_only}
 
@@ -18,10 +16,7 @@ use Rattle.litmus_reader.proofs.ShapeLaws.{none_passes, has_none, parts_found, p
 
 pub blank_found : (line : List ℕ) → is_blank_line line ≡ true → AreBlanks line
 blank_found [] e = tt
-blank_found (c ∷ line) e = elim (cases_Bool (is_blank c)) [
-  | inl blank ↦ (blank, blank_found line (rw blank at e))
-  | inr solid ↦ absurd (let none : length (c ∷ line) ≡ 0 = eqb-true (length (c ∷ line)) 0 (rw solid at e) in omega arith)
-]
+blank_found (c ∷ line) e = grind (arith, cases_Bool, eqb-true, blank_found line)
 
 pub blank_only : (line : List ℕ) → AreBlanks line → is_blank_line line ≡ true
 blank_only [] are = refl
@@ -59,15 +54,7 @@ pub record RowRead (line : List ℕ) (cells : Cells) : Type 0 where
 
 pub row_only : (line : List ℕ) (cells : Cells) → IsRow line cells → RowRead line cells
 unfolding row_in
-row_only line cells is =
-    let none = none_passes 59 is.0 is.2 in
-    let solid : is_blank_line line ≡ false = false_from_ne_true (is_blank_line line) (λ blank. let no = among_blanks is.0 59 is.1 (subst AreBlanks is.4 (blank_found line blank)) in cc) in
-    record {
-      row = is.0;
-      solid = solid;
-      read = rw (is.4, before_stop (is_byte 59) is.0 59 is.1 none refl, after_stop (is_byte 59) is.0 59 is.1 none refl, blank_only is.1 is.3) refl;
-      parted = parts_only 124 is.0 cells is.5;
-    }
+row_only line cells is = grind (arith, none_passes, false_from_ne_true, among_blanks, blank_found, before_stop, after_stop, blank_only, parts_only)
 
 -- ---- the first row
 
@@ -96,31 +83,15 @@ pub record FirstRow (line : List ℕ) (harts : ℕ) : Type 0 where
   pub few : harts ≤ 64
 
 named_found : (cells : Cells) (harts : ℕ) → all_named cells ≡ Ok harts → AreNames 0 cells × (length cells ≡ harts)
-named_found cells harts e = elim (cases_Bool (name_harts 0 cells)) [
-  | inl named ↦ (names_found 0 cells named, ok_is LitmusFault (length cells) harts (rw named at e))
-  | inr other ↦ absurd (let f = rw other at e in cc)
-]
+named_found cells harts e = grind (arith, cases_Bool, names_found, ok_is)
 
 few_found : (all harts : ℕ) → harts_within all ≡ Ok harts → (all ≡ harts) × (harts ≤ 64)
-few_found all harts e =
-    let passed = guard_ok (ltb 64 all) TooMany all harts e in
-    (passed.1, subst (λ (n : ℕ). n ≤ 64) passed.1 (ltb-false 64 all passed.0))
+few_found all harts e = grind (arith, guard_ok, ltb, ltb-false)
 
 pub first_row_found : (line : List ℕ) (harts : ℕ) → harts_in line ≡ Ok harts → FirstRow line harts
 unfolding harts_in
-first_row_found line harts e = go (row_in line) refl e
-  where
-    go : (o : Option (List ℕ)) → row_in line ≡ o → harts_of o ≡ Ok harts → FirstRow line harts
-    go None none f = absurd cc
-    go (Some row) read f =
-        let step = bind_ok (harts_within (length (cells_of row))) (λ (all : ℕ). all_named (cells_of row)) harts f in
-        let few = few_found (length (cells_of row)) step.0 step.1 in
-        let named = named_found (cells_of row) harts step.2 in
-        record { names = cells_of row; row = row_found line row read; named = named.0; counted = named.1; few = subst (λ (n : ℕ). n ≤ 64) (sym few.0 ∙ named.1) few.1 }
+first_row_found line harts e = grind (arith, bind_ok, few_found, named_found, row_found)
 
 pub first_row_only : (line : List ℕ) (harts : ℕ) → FirstRow line harts → harts_in line ≡ Ok harts
 unfolding harts_in
-first_row_only line harts first =
-    let read = row_only line first.names first.row in
-    let named : name_harts 0 first.names ≡ true = names_only 0 first.names (omega (arith, first.counted, first.few)) first.named in
-    rw (read.read, read.parted, named, first.counted, le-ltb 64 harts first.few) refl
+first_row_only line harts first = grind (arith, row_only line first.names first.row, names_only 0 first.names, le-ltb 64 harts first.few)

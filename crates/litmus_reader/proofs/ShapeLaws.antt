@@ -1,5 +1,5 @@
 -- How a text is put together: its parts, its first line, and the first line that begins so, by relation and by function.
-use Rattle.std.proofs.Common.{◌≡◌, ℕ, Bool, true, false, List, [], ◌∷◌, ◌++◌, length, drop, Option, Some, None, refl, sym, ap, subst, ◌∙◌, inl, inr, ◌⊎◌}
+use Rattle.std.proofs.Common.{arith, ◌≡◌, ℕ, Bool, true, false, List, [], ◌∷◌, ◌++◌, length, drop, Some, None, refl, sym, ap, subst, ◌∙◌, inl, inr, ◌⊎◌}
 use Rattle.std.specs.Prelude.{◌==◌, ◌||◌, codes, unwrap_or}
 use Rattle.std.specs.List.{onto_first}
 use Rattle.std.proofs.lemmas.Bool.{cases_Bool, eq-eqb, eqb-true, or_cases, or_left, or_right, not-true, false_from_ne_true}
@@ -40,9 +40,7 @@ parts_found byte (c ∷ text) = elim (cases_Bool (c == byte)) [
 ]
 
 pub parts_only : (byte : ℕ) (text : List ℕ) (ps : List (List ℕ)) → AreParts byte text ps → pieces (Byte byte) text ≡ ps
-parts_only byte text ps (shape.AreParts.last part none) =
-    let passes = none_passes byte part none in
-    split_cut (is_byte byte) part ∙ rw (before_none (is_byte byte) part passes, after_none (is_byte byte) part passes) refl
+parts_only byte text ps (shape.AreParts.last part none) = grind (arith, none_passes, split_cut, before_none, after_none)
 parts_only byte text ps (shape.AreParts.more part rest others none below) =
     let passes = none_passes byte part none in
     let stops : is_byte byte byte ≡ true = eq-eqb byte byte refl in
@@ -51,19 +49,10 @@ parts_only byte text ps (shape.AreParts.more part rest others none below) =
 -- ---- the first line
 
 pub cut_found : (text : List ℕ) → IsCut text (before (is_byte 10) text) (unwrap_or (after (is_byte 10) text) [])
-cut_found text = (has_none 10 (before (is_byte 10) text) (before_passes_not (is_byte 10) text), ends (after (is_byte 10) text) refl)
-  where
-    ends : (o : Option (List ℕ)) → after (is_byte 10) text ≡ o → (text ≡ before (is_byte 10) text ++ 10 ∷ unwrap_or o []) ⊎ ((text ≡ before (is_byte 10) text) × (unwrap_or o [] ≡ []))
-    ends None e = inr (sym (uncut (is_byte 10) text e), refl)
-    ends (Some rest) e = inl (cut_byte 10 text rest e)
+cut_found text = grind (arith, has_none, before_passes_not, uncut, cut_byte)
 
 pub cut_only : (text line below : List ℕ) → IsCut text line below → (before (is_byte 10) text ≡ line) × (unwrap_or (after (is_byte 10) text) [] ≡ below)
-cut_only text line below cut =
-    let passes = none_passes 10 line cut.0 in
-    elim cut.1 [
-      | inl whole ↦ rw whole (before_stop (is_byte 10) line 10 below passes refl, rw (after_stop (is_byte 10) line 10 below passes refl) refl)
-      | inr last ↦ rw (last.0, last.1) (before_none (is_byte 10) line passes, rw (after_none (is_byte 10) line passes) refl)
-    ]
+cut_only text line below cut = grind (arith, none_passes, before_stop, after_stop, before_none, after_none)
 
 -- ---- how a line begins
 
@@ -76,24 +65,17 @@ front_of blanks c rest are solid = leading_past is_blank blanks (c ∷ rest) are
 
 split_visible : (text kept : List ℕ) → without_front text ≡ kept → is_visible kept ≡ true → IsVisible text
 split_visible text [] e h = absurd cc
-split_visible text (c ∷ rest) e h =
-    let front = leading_split is_blank text in
-    (front.0, rest, c, front.1, leading_first is_blank text c rest e, not-true (c == 10) h, front.2 ∙ ap (λ (ys : List ℕ). front.0 ++ ys) e)
+split_visible text (c ∷ rest) e h = grind (arith, leading_split is_blank text, leading_first is_blank text c rest e, not-true (c == 10) h)
 
 pub visible_matches : Matches mark.Visible IsVisible
 unfolding begins
-visible_matches = record {
-  found = λ text h. split_visible text (without_front text) refl h;
-  only = λ text is. rw (is.6, front_of is.0 is.2 is.1 is.3 is.4, is.5) refl;
-}
+visible_matches = grind (arith, split_visible, front_of)
 
 pub token_cut : (word line : List ℕ) → has_token word line ≡ true → line ≡ word ++ drop (length word) line
 token_cut word line h = (starts_is Decides-eqb line word (has_token word line) refl).0 h
 
 pub word_found : (word text : List ℕ) → has_token word (without_front text) ≡ true → BeginsWith word text
-word_found word text h =
-    let front = leading_split is_blank text in
-    (front.0, drop (length word) (without_front text), front.1, front.2 ∙ ap (λ (ys : List ℕ). front.0 ++ ys) (token_cut word (without_front text) h))
+word_found word text h = grind (arith, leading_split is_blank text, token_cut word (without_front text) h)
 
 pub word_only : (c : ℕ) (letters text : List ℕ) → is_blank c ≡ false → BeginsWith (c ∷ letters) text → has_token (c ∷ letters) (without_front text) ≡ true
 word_only c letters text solid is =
@@ -102,16 +84,11 @@ word_only c letters text solid is =
 
 split_brace : (text kept : List ℕ) → without_front text ≡ kept → is_brace kept ≡ true → BeginsWith (codes "{") text
 split_brace text [] e h = absurd cc
-split_brace text (c ∷ rest) e h =
-    let front = leading_split is_blank text in
-    (front.0, rest, front.1, front.2 ∙ ap (λ (ys : List ℕ). front.0 ++ ys) (e ∙ ap (λ (b : ℕ). b ∷ rest) (eqb-true c 123 h)))
+split_brace text (c ∷ rest) e h = grind (arith, leading_split is_blank text, eqb-true c 123 h)
 
 pub brace_matches : Matches mark.Brace (BeginsWith (codes "{"))
 unfolding begins
-brace_matches = record {
-  found = λ text h. split_brace text (without_front text) refl h;
-  only = λ text is. rw (is.3, front_of is.0 123 is.1 is.2 refl) refl;
-}
+brace_matches = grind (arith, split_brace, front_of)
 
 unread_found : (text : List ℕ) → is_unread (without_front text) ≡ true → BeginsUnread text
 unread_found text h = elim (or_cases (has_token (codes "locations") (without_front text)) (has_token (codes "filter") (without_front text)) h) [
@@ -120,10 +97,7 @@ unread_found text h = elim (or_cases (has_token (codes "locations") (without_fro
 ]
 
 unread_only : (text : List ℕ) → BeginsUnread text → is_unread (without_front text) ≡ true
-unread_only text is = elim is [
-  | inl locations ↦ or_left (has_token (codes "locations") (without_front text)) (has_token (codes "filter") (without_front text)) (word_only 108 (codes "ocations") text refl locations)
-  | inr filter ↦ or_right (has_token (codes "locations") (without_front text)) (has_token (codes "filter") (without_front text)) (word_only 102 (codes "ilter") text refl filter)
-]
+unread_only text is = grind (arith, or_left, word_only 108 (codes "ocations") text refl, word_only 102 (codes "ilter") text refl, or_right)
 
 pub unread_matches : Matches mark.Unread BeginsUnread
 unfolding begins
@@ -284,15 +258,11 @@ next_nowhere m B matches (c ∷ text) e = elim (cases_Bool (c == 10)) [
 
 pub nowhere_found : (m : Mark) (B : List ℕ → Type 0) → Matches m B → (text : List ℕ) → from_line m text ≡ None → NoneBegins B text
 unfolding from_line
-nowhere_found m B matches text e = elim (cases_Bool (begins m text)) [
-  | inl begun ↦ (let never = rw begun at e in absurd cc)
-  | inr other ↦ none_behind m B matches text other (next_nowhere m B matches text (rw other at e))
-]
+nowhere_found m B matches text e = grind (arith, cases_Bool, none_behind, next_nowhere)
 
 pub nowhere_only : (m : Mark) (B : List ℕ → Type 0) → Matches m B → (text : List ℕ) → NoneBegins B text → (before_line m text ≡ text) × (from_line m text ≡ None)
 unfolding before_line from_line
-nowhere_only m B matches text (shape.NoneBegins.last line none other) =
-    rw (starts_other m B matches line other) (front_of_last m line none, back_of_last m line none)
+nowhere_only m B matches text (shape.NoneBegins.last line none other) = grind (arith, starts_other, front_of_last, back_of_last)
 nowhere_only m B matches text (shape.NoneBegins.more line rest none other below) =
     let deeper = nowhere_only m B matches rest below in
     rw (starts_other m B matches (line ++ 10 ∷ rest) other, front_past_line m line rest none, back_past_line m line rest none, deeper.0, deeper.1) (refl, refl)

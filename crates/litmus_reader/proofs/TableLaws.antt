@@ -1,5 +1,5 @@
 -- The columns' instructions, one column after the other.
-use Rattle.std.proofs.Common.{◌≡◌, ℕ, suc, ltb-false, pos, ◌+◌, ◌≤◌, Bool, true, false, List, [], ◌∷◌, ◌++◌, length, Option, Some, None, Result, Ok, Err, refl, ap, sym, subst, ◌∙◌, append_assoc, length-append, map, arith}
+use Rattle.std.proofs.Common.{◌≡◌, ℕ, suc, ltb-false, ◌+◌, ◌≤◌, Bool, List, [], ◌∷◌, ◌++◌, length, Option, Some, None, Result, Ok, Err, refl, ap, sym, subst, ◌∙◌, append_assoc, length-append, map, arith}
 use Rattle.std.specs.Prelude.{nat_lt, if◌then◌else◌, IfOk}
 use Rattle.std.proofs.lemmas.List.{map-append, length-map}
 use Rattle.std.proofs.lemmas.List.Elements.{All-append, All-cons, All-nil}
@@ -9,8 +9,8 @@ use Rattle.texts.specs.Results.{◌>>=◌, Gives}
 use Rattle.rv_decode.specs.Meaning.{meaning}
 use Rattle.assembler.specs.declared.faults.AsmFault.{AsmFault}
 use Rattle.assembler.specs.Faults.{Refusal}
-use Rattle.assembler.specs.Statements.{Made, one, two, jump, branch}
-use Rattle.assembler.specs.Drafts.{Line, onto, finished, size_of, words_of, distance, placed, at_line, all_placed, place_of}
+use Rattle.assembler.specs.Statements.{Made}
+use Rattle.assembler.specs.Drafts.{Line, onto, finished, size_of, words_of, placed, at_line, all_placed, place_of}
 use Rattle.litmus_reader.specs.declared.faults.LitmusFault.{LitmusFault}
 use Rattle.litmus_reader.specs.declared.faults.LitmusFault.TheVariants.{BadInstr}
 use Rattle.texts.specs.declared.errors.TextError.{TextError}
@@ -26,8 +26,7 @@ going (Some row) codes others = Err BadInstr
 
 -- a column's instructions join those before it
 onto_more : (front : List Code) (code : Code) (others : Result (List Code) LitmusFault) → onto front (onto (code ∷ []) others) ≡ onto (front ++ code ∷ []) others
-onto_more front code (Ok codes) = ap (λ (all : List Code). Ok all) (sym (append_assoc front (code ∷ []) codes))
-onto_more front code (Err fault) = refl
+onto_more front code others = grind (arith, append_assoc)
 
 codes_more : (code : Code) (column : Column) (columns : List Column) → finished column ≡ Ok code → codes_of (column ∷ columns) ≡ onto (code ∷ []) (codes_of columns)
 codes_more code column columns done = rw done refl
@@ -49,27 +48,19 @@ Sized n (Ok list) = length list ≡ n
 Sized n (Err e) = Unit {0}
 
 after_sized : {A X E : Type 0} (n : ℕ) (r : Result A E) (f : A → Result (List X) E) → ((a : A) → Sized n (f a)) → Sized n (r >>= f)
-after_sized n (Ok a) f each = each a
-after_sized n (Err e) f each = tt
+after_sized n r f each = grind arith
 
 at_line_sized : {X : Type 0} (n line : ℕ) (r : Result (List X) AsmFault) → Sized n r → Sized n (at_line line r)
-at_line_sized n line (Ok list) sized = sized
-at_line_sized n line (Err fault) sized = tt
+at_line_sized n line r sized = grind arith
 
 placed_sized : (found : List ℕ → Option ℕ) (at : ℕ) (made : Option Made) → Sized (size_of made) (placed found at made)
-placed_sized found at None = refl
-placed_sized found at (Some (one i)) = refl
-placed_sized found at (Some (two i j)) = refl
-placed_sized found at (Some (jump rd name)) = after_sized 1 (distance (pos 1048576) at (found name)) _ (λ n. refl)
-placed_sized found at (Some (branch op rs1 rs2 name)) = after_sized 1 (distance (pos 4096) at (found name)) _ (λ n. refl)
+placed_sized found at made = grind (arith, after_sized)
 
 onto_sized : {X E : Type 0} (m n : ℕ) (front : List X) (r : Result (List X) E) → length front ≡ m → Sized n r → Sized (m + n) (onto front r)
-onto_sized m n front (Ok list) here sized = omega (arith, length-append front list)
-onto_sized m n front (Err e) here sized = tt
+onto_sized m n front r here sized = grind (arith, length-append)
 
 joined_sized : {X E : Type 0} (m n : ℕ) (r : Result (List X) E) (others : Result (List X) E) → Sized m r → Sized n others → Sized (m + n) (r >>= λ front. onto front others)
-joined_sized m n (Ok front) others here rest = onto_sized m n front others here rest
-joined_sized m n (Err e) others here rest = tt
+joined_sized m n r others here rest = grind (arith, onto_sized)
 
 all_placed_sized : (found : List ℕ → Option ℕ) (at line : ℕ) (lines : List Line) → Sized (words_of lines) (all_placed found at line lines)
 all_placed_sized found at line [] = refl
@@ -80,29 +71,24 @@ Short (Ok list) = length list ≤ 4096
 Short (Err e) = Unit {0}
 
 short_of : {X E : Type 0} (n : ℕ) (r : Result (List X) E) → n ≤ 4096 → Sized n r → Short r
-short_of n (Ok list) few sized = omega arith
-short_of n (Err e) few sized = tt
+short_of n r few sized = grind arith
 
 checked_short : {X : Type 0} {E : Type 0} (n : ℕ) (b : Bool) (e : E) (r : Result (List X) E) → nat_lt 4096 n ≡ b → Sized n r → Short (if b then Err e else r)
-checked_short n true e r over sized = tt
-checked_short n false e r over sized = short_of n r (let fits : n ≤ 4096 = omega (arith, ltb-false) in fits) sized
+checked_short n b e r over sized = grind (arith, short_of, ltb-false)
 
 finished_short : (column : Column) → Short (finished column)
 unfolding finished
 finished_short column = checked_short (words_of column) (nat_lt 4096 (words_of column)) _ _ refl (all_placed_sized (place_of column) 0 1 column)
 
 instr_short : {X : Type 0} (r : Result (List X) Refusal) → Short r → Short (as_instr r)
-instr_short (Ok list) short = short
-instr_short (Err refusal) short = tt
+instr_short r short = grind arith
 
 abbrev AllShort : ℕ → Result (List Code) LitmusFault → Type 0
 AllShort n (Ok codes) = (length codes ≡ n) × AreShort codes
 AllShort n (Err fault) = Unit {0}
 
 joined_short : (n : ℕ) (r : Result Code LitmusFault) (others : Result (List Code) LitmusFault) → Short r → AllShort n others → AllShort (suc n) (r >>= λ code. others >>= λ codes. Ok (code ∷ codes))
-joined_short n (Ok code) (Ok codes) here rest = (omega (arith, rest.0), (here, rest.1))
-joined_short n (Ok code) (Err fault) here rest = tt
-joined_short n (Err fault) others here rest = tt
+joined_short n r others here rest = grind arith
 
 codes_short : (columns : List Column) → AllShort (length columns) (codes_of columns)
 codes_short [] = (refl, tt)
@@ -113,8 +99,7 @@ answer_short columns codes shown = let P : Result (List Code) LitmusFault → Ty
 
 -- what is answered of the harts' words
 pub answered_count : (columns : List Column) (result : Result (Vec (Vec ℕ Global) Global) (TextError AtLeft)) → Gives fault_in instructions result (codes_of columns) → IfOk result (λ words. length words.items ≡ length columns)
-answered_count columns (Ok words) shown = let counted = (answer_short columns (instructions words) shown).0 in simp length-map at counted
-answered_count columns (Err e) shown = tt
+answered_count columns result shown = grind (arith, answer_short, length-map)
 
 pub answered_short : (columns : List Column) (result : Result (Vec (Vec ℕ Global) Global) (TextError AtLeft)) → Gives fault_in instructions result (codes_of columns) → IfOk result (λ words. AreShort (instructions words))
 answered_short columns (Ok words) shown = (answer_short columns (instructions words) shown).1

@@ -1,5 +1,5 @@
 -- What is answered of a text, and that it is one test, or refused.
-use Rattle.std.proofs.Common.{◌≡◌, ◌↔◌, ℕ, ◌+◌, List, [], ◌∷◌, map, All, Result, Ok, Err, refl, sym, ap, ◌∙◌}
+use Rattle.std.proofs.Common.{arith, ◌≡◌, ◌↔◌, ℕ, ◌+◌, List, [], ◌∷◌, map, All, Result, Ok, Err, refl, sym, ap, ◌∙◌}
 use Rattle.std.specs.Prelude.{IfOk}
 use Rattle.std.specs.Result.{IsErr}
 use Rattle.std.proofs.lemmas.List.Elements.{All-head, All-tail}
@@ -28,16 +28,11 @@ pub one_content : (text : List ℕ) (a b : Content) → IsContent text a → IsC
 one_content text a b first second = ok_is LitmusFault a b (sym (content_only text a first) ∙ content_only text b second)
 
 same_start : (a b : HartStart) → a.code ≡ b.code → hart_content a ≡ hart_content b → a ≡ b
-same_start a b code same =
-    let registers : a.registers ≡ b.registers = ap (λ (h : HartContent). h.registers) same in
-    let inbox : a.inbox ≡ b.inbox = ap (λ (h : HartContent). h.inbox) same in
-    rw (code, registers, inbox) refl
+same_start a b code same = grind arith
 
 -- harts of the same instructions have the same words
 same_harts : (names : Names) (equations : List Equation) (rows : List Cells) (hart : ℕ) (xs ys : List HartStart) → AreHarts names equations rows hart (map hart_content xs) → All HasPlainCode xs → All HasPlainCode ys → map hart_content xs ≡ map hart_content ys → xs ≡ ys
 same_harts names equations rows hart [] [] are p q same = refl
-same_harts names equations rows hart [] (y ∷ ys) are p q same = absurd cc
-same_harts names equations rows hart (x ∷ xs) [] are p q same = absurd cc
 same_harts names equations rows hart (x ∷ xs) (y ∷ ys) are p q same =
     let first : hart_content x ≡ hart_content y = cc in
     let rest : map hart_content xs ≡ map hart_content ys = cc in
@@ -45,6 +40,7 @@ same_harts names equations rows hart (x ∷ xs) (y ∷ ys) are p q same =
     let meant = are.0.4 in
     let code = one_code x.code y.code instrs (All-head HasPlainCode x xs p) (All-head HasPlainCode y ys q) meant (sym (ap (λ (h : HartContent). h.code) first) ∙ meant) in
     rw (same_start x y code first, same_harts names equations rows (hart + 1) xs ys are.3 (All-tail HasPlainCode x xs p) (All-tail HasPlainCode y ys q) rest) refl
+same_harts names equations rows hart z other are p q same = absurd cc
 
 same_test : (xs ys : List HartStart) (words others : List ℕ) (names more : Names) (q r : Quantifier) (f g : Formula) → xs ≡ ys → words ≡ others → names ≡ more → q ≡ r → f ≡ g → litmus_test_of xs words names q f ≡ litmus_test_of ys others more r g
 same_test xs ys words others names more q r f g a b c d e = rw (a, b, c, d, e) refl
@@ -62,8 +58,7 @@ one_test text a b first second =
 
 pub found_test : (text : List ℕ) (result : Result LitmusTest (TextError (AtLine LitmusFault))) → Gives fault_of content_of result (test_at text) → IfOk result (λ test. All HasPlainCode test.opening.harts) → IfOk result (IsTestOf text)
 unfolding IsTestOf
-found_test text (Ok test) e plain = (content_found text (content_of test) e, plain)
-found_test text (Err error) e plain = tt
+found_test text result e plain = grind (arith, content_found)
 
 pub only_test : (text : List ℕ) (whole : LitmusTest) (result : Result LitmusTest (TextError (AtLine LitmusFault))) → Gives fault_of content_of result (test_at text) → IfOk result (λ test. All HasPlainCode test.opening.harts) → IsTestOf text whole → Gives fault_of (λ (test : LitmusTest). test) result (Ok whole)
 unfolding IsTestOf

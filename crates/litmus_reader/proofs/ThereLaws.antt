@@ -1,5 +1,5 @@
 -- What a condition asks for is there.
-use Rattle.std.proofs.Common.{◌≡◌, ℕ, ◌+◌, ◌<◌, ◌≤◌, Bool, true, false, List, [], ◌∷◌, ◌++◌, length, Option, Some, None, Result, Ok, Err, All, refl, subst, ltb-true, length-append, arith}
+use Rattle.std.proofs.Common.{◌≡◌, ℕ, ◌+◌, ◌<◌, ◌≤◌, Bool, List, [], ◌∷◌, ◌++◌, length, Option, Some, None, Result, Ok, Err, All, refl, subst, ltb-true, length-append, arith}
 use Rattle.std.specs.Prelude.{nat_lt, if◌then◌else◌, IfOk}
 use Rattle.std.specs.Str.{bytes_eq}
 use Rattle.std.proofs.lemmas.List.Elements.{All-append, All-cons, All-nil}
@@ -44,16 +44,10 @@ AllThere harts n [] = Unit {0}
 AllThere harts n (t ∷ ts) = TokenThere harts n t × AllThere harts n ts
 
 place_more : (harts n m : ℕ) (p : Place) → n ≤ m → IsThere harts n p → IsThere harts m p
-place_more harts n m (place.Register h i) more there = there
-place_more harts n m (place.Word a) more there = let within = there.1 in (there.0, omega (arith, within))
+place_more harts n m p more there = grind arith
 
 token_more : (harts n m : ℕ) (t : Symbol) → n ≤ m → TokenThere harts n t → TokenThere harts m t
-token_more harts n m (symbol.Is p value) more there = place_more harts n m p more there
-token_more harts n m symbol.Not more there = tt
-token_more harts n m symbol.And more there = tt
-token_more harts n m symbol.Or more there = tt
-token_more harts n m symbol.Open more there = tt
-token_more harts n m symbol.Close more there = tt
+token_more harts n m t more there = grind (arith, place_more)
 
 all_more : (harts n m : ℕ) (ts : List Symbol) → n ≤ m → AllThere harts n ts → AllThere harts m ts
 all_more harts n m [] more there = tt
@@ -85,16 +79,14 @@ formula_there harts n disjunction words f (parted left right g h stands_left sta
 -- ---- locations
 
 after_ok : {A B E : Type 0} (P : A → Type 0) (Q : B → Type 0) (r : Result A E) (f : A → Result B E) → IfOk r P → ((a : A) → P a → IfOk (f a) Q) → IfOk (r >>= f) Q
-after_ok P Q (Ok a) f here next = next a here
-after_ok P Q (Err e) f here next = tt
+after_ok P Q r f here next = grind arith
 
 abbrev Within : ℕ → Option ℕ → Type 0
 Within n None = Unit {0}
 Within n (Some i) = i < n
 
 within_if : (n i : ℕ) (b : Bool) (o : Option ℕ) → i < n → Within n o → Within n (if b then Some i else o)
-within_if n i true o here other = here
-within_if n i false o here other = other
+within_if n i b o here other = grind arith
 
 index_within : (n at : ℕ) (names : Names) (name : List ℕ) → at + length names ≤ n → Within n (index_from at names name)
 index_within n at [] name few = tt
@@ -105,12 +97,10 @@ abbrev pub Resolved : Names → (ℕ × Names) → Type 0
 Resolved names found = (found.0 < length found.1) × (length names ≤ length found.1)
 
 new_resolved : (names : Names) (name : List ℕ) (b : Bool) (e : LitmusFault) → IfOk (if b then Ok (length names, names ++ name ∷ []) else Err e) (Resolved names)
-new_resolved names name true e = (omega (arith, length-append names (name ∷ [])), omega (arith, length-append names (name ∷ [])))
-new_resolved names name false e = tt
+new_resolved names name b e = grind (arith, length-append)
 
 joined_resolved : (names : Names) (name : List ℕ) (o : Option ℕ) → Within (length names) o → IfOk (locations.joined names name o) (Resolved names)
-joined_resolved names name None within = new_resolved names name (nat_lt (length names) 1024) _
-joined_resolved names name (Some i) within = (within, omega arith)
+joined_resolved names name o within = grind (arith, new_resolved)
 
 resolved_there : (names : Names) (name : List ℕ) → IfOk (resolved names name) (Resolved names)
 unfolding resolved
@@ -128,8 +118,7 @@ abbrev PlaceResolved : ℕ → Names → (Place × Names) → Type 0
 PlaceResolved harts names found = IsThere harts (length found.1) found.0 × (length names ≤ length found.1)
 
 register_resolved : (harts hart : ℕ) (names : Names) (register : Reg) (b : Bool) (e : LitmusFault) → nat_lt hart harts ≡ b → IfOk (if b then Ok (place.Register hart register.number, names) else Err e) (PlaceResolved harts names)
-register_resolved harts hart names register true e within = ((ltb-true hart harts within, register.below_32), omega arith)
-register_resolved harts hart names register false e within = tt
+register_resolved harts hart names register b e within = grind (arith, ltb-true)
 
 place_there : (harts : ℕ) (names : Names) (p : setting.NamedPlace) → IfOk (place_resolved harts names p) (PlaceResolved harts names)
 unfolding place_resolved
@@ -145,12 +134,7 @@ atom_there harts names equation = after_ok (PlaceResolved harts names) (TokenRes
 
 token_there : (harts : ℕ) (names : Names) (t : token.Token) → IfOk (token_resolved harts names t) (TokenResolved harts names)
 unfolding token_resolved
-token_there harts names (token.Token.atom equation) = atom_there harts names equation
-token_there harts names token.Token.negation = (tt, omega arith)
-token_there harts names token.Token.conjunction = (tt, omega arith)
-token_there harts names token.Token.disjunction = (tt, omega arith)
-token_there harts names token.Token.opening = (tt, omega arith)
-token_there harts names token.Token.closing = (tt, omega arith)
+token_there harts names t = grind (arith, atom_there)
 
 -- ---- all tokens of a condition
 
@@ -158,8 +142,7 @@ abbrev Fine : (harts : ℕ) → Names → ConditionSoFar → Type 0
 Fine harts names gathered = AllThere harts (length gathered.1) gathered.0 × (length names ≤ length gathered.1)
 
 pushed : (harts n : ℕ) (words : List Symbol) (t : Symbol) (o : Option Stage) → AllThere harts n words → TokenThere harts n t → IfOk (as_condition (or_misplaced (with_symbol words t o))) (λ more. AllThere harts n more)
-pushed harts n words t None there last = tt
-pushed harts n words t (Some stage) there last = there_with harts n words t there last
+pushed harts n words t o there last = grind (arith, there_with)
 
 symbol_there : (harts n : ℕ) (words : List Symbol) (t : Symbol) → AllThere harts n words → TokenThere harts n t → IfOk (as_condition (symbol_added words t)) (λ more. AllThere harts n more)
 unfolding symbol_added

@@ -57,16 +57,8 @@ nil_or (w ∷ ws) = inr (λ e. cc)
 pub decide : (B : ℕ) (o : Start) (es : List Entry) (h : ℕ) (n : Need) → ((v : ℕ) × Allowed B o es (entry_of h n v)) ⊎ HasToWait B (pending h es) n
 decide B o es h (need.Load a width) = inl (read o es h a width, refl)
 decide B o es h (need.Store a width w) = grind (arith, nat_tests)
-decide B o es h (need.Amo a op rs2) =
-    elim (nil_or (pending h es)) [
-      | inl none ↦ inl (read o es h a 4, (none, refl))
-      | inr some ↦ inr some
-    ]
-decide B o es h (need.Fence true) =
-    elim (nil_or (pending h es)) [
-      | inl none ↦ inl (0, λ full. none)
-      | inr some ↦ inr (refl, some)
-    ]
+decide B o es h (need.Amo a op rs2) = grind (arith, nil_or (pending h es))
+decide B o es h (need.Fence true) = grind (arith, nil_or (pending h es))
 decide B o es h (need.Fence false) = inl (0, λ full. absurd cc)
 decide B o es h (need.Report (report.Took i w)) = inl (0, tt)
 decide B o es h (need.Report (report.Closed i)) = inl (0, tt)
@@ -155,8 +147,7 @@ acts B M t h s status.Running kept is run =
       | inl can ↦ (outcome.Did (entry_of h (need_of s) can.0), with_entry t (entry_of h (need_of s) can.0), does B M t h s kept is run (need_of s) can.0 refl can.1)
       | inr wait ↦ (outcome.Waited, t, waits B M t h s kept is run (need_of s) refl wait)
     ]
-acts B M t h s status.Ended kept is run = (outcome.Over, t, over_happens B M t h s is (λ r. cc) (ap (λ x. idle_in x outcome.Waited) run))
-acts B M t h s (status.Stopped why) kept is run = (outcome.Over, t, over_happens B M t h s is (λ r. cc) (ap (λ x. idle_in x outcome.Waited) run))
+acts B M t h s x kept is run = (outcome.Over, t, over_happens B M t h s is (λ r. cc) (ap (λ x. idle_in x outcome.Waited) run))
 
 -- the state of a hart, if it is one
 pub state_or : (M : ℕ) (t : History) (h : ℕ) → ((s : HartState) × (state_of M t h ≡ Some s)) ⊎ (state_of M t h ≡ None)

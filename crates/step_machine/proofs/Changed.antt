@@ -12,9 +12,8 @@ by_none f [] = refl
 by_none f (x ∷ xs) = refl
 
 pub length-changed : {X Y : Type 0} (f : X → Y → X) (xs : List X) (ys : List Y) → length (changed_by f xs ys) ≡ length xs
-length-changed f [] ys = refl
-length-changed f (x ∷ xs) [] = refl
 length-changed f (x ∷ xs) (y ∷ ys) = ap suc (length-changed f xs ys)
+length-changed f y z = refl
 
 -- what is past the second list isn't changed yet
 pub not_yet : {X Y : Type 0} (f : X → Y → X) (xs : List X) (ys : List Y) (i : ℕ) (d : X) → get_or (changed_by f xs (take i ys)) i d ≡ get_or xs i d
@@ -27,10 +26,9 @@ not_yet f (x ∷ xs) (y ∷ ys) (suc i) d = not_yet f xs ys i d
 more_at : {X Y : Type 0} (f : X → Y → X) (xs : List X) (ys : List Y) (i : ℕ) (d : X) (e : Y) → i < length ys
     → set (changed_by f xs (take i ys)) i (f (get_or xs i d) (get_or ys i e)) ≡ changed_by f xs (take (suc i) ys)
 more_at f xs [] i d e within = let none : ⊥ = omega arith in absurd none
-more_at f [] (y ∷ ys) zero d e within = refl
-more_at f [] (y ∷ ys) (suc i) d e within = refl
 more_at f (x ∷ xs) (y ∷ ys) zero d e within = ap (λ zs. f x y ∷ zs) (sym (by_none f xs))
 more_at f (x ∷ xs) (y ∷ ys) (suc i) d e within = ap (λ zs. f x y ∷ zs) (more_at f xs ys i d e (omega arith))
+more_at f [] (y ∷ ys) x d e within = refl
 
 -- a loop that changes each element
 pub changed_at : {X Y : Type 0} (f : X → Y → X) (xs zs : List X) (ys : List Y) (i : ℕ) (d : X) (e : Y) → i < length ys → zs ≡ changed_by f xs (take i ys)
@@ -52,21 +50,18 @@ changed_all f xs zs ys i is all = is ∙ ap (λ n. changed_by f xs (take n ys)) 
 
 pub all_others : {X : Type 0} (xs ys : List X) → length ys ≡ length xs → changed_by (λ x y. y) xs ys ≡ ys
 all_others [] [] same = refl
-all_others [] (y ∷ ys) same = cc
-all_others (x ∷ xs) [] same = cc
 all_others (x ∷ xs) (y ∷ ys) same = ap (λ zs. y ∷ zs) (all_others xs ys (omega arith))
+all_others z other same = cc
 
 -- what each change keeps, all of them keep
 pub kept_at : {X Y : Type 0} (f : X → Y → X) (P : X → Type 0) → ((x : X) (y : Y) → P x → P (f x y)) → (xs : List X) (ys : List Y)
     → ((h : ℕ) (v : X) → slice_get xs h ≡ Some v → P v) → (h : ℕ) (v : X) → slice_get (changed_by f xs ys) h ≡ Some v → P v
-kept_at f P keeps [] ys all h v got = all h v got
-kept_at f P keeps (x ∷ xs) [] all h v got = all h v got
 kept_at f P keeps (x ∷ xs) (y ∷ ys) all zero v got = let v_is : f x y ≡ v = cc in subst P v_is (keeps x y (all zero x refl))
 kept_at f P keeps (x ∷ xs) (y ∷ ys) all (suc h) v got = kept_at f P keeps xs ys (λ k w is. all (suc k) w is) h v got
+kept_at f P keeps y z all h v got = all h v got
 
 pub all_kept : {X Y : Type 0} (f : X → Y → X) (P : X → Type 0) → ((x : X) (y : Y) → P x → P (f x y)) → (xs : List X) (ys : List Y) → All P xs
     → All P (changed_by f xs ys)
-all_kept f P keeps [] ys all = all
-all_kept f P keeps (x ∷ xs) [] all = all
 all_kept f P keeps (x ∷ xs) (y ∷ ys) all =
     All-cons P (f x y) (changed_by f xs ys) (keeps x y (All-head P x xs all)) (all_kept f P keeps xs ys (All-tail P x xs all))
+all_kept f P keeps y z all = all

@@ -1,9 +1,9 @@
 -- What a machine that holds what its history says answers is the outcome that the history allows.
-use Rattle.std.proofs.Common.{◌≡◌, ℕ, ◌+◌, ◌*◌, ◌%◌, ◌≤◌, ◌<◌, Bool, true, false, not, ◌&&◌, List, [], ◌∷◌, length, None, refl, sym, ◌∙◌, ap, subst, arith}
+use Rattle.std.proofs.Common.{◌≡◌, ℕ, ◌+◌, ◌*◌, ◌<◌, Bool, true, false, not, ◌&&◌, List, [], ◌∷◌, length, None, refl, ap, subst, arith}
 use Rattle.std.specs.Prelude.{nat_lt, unwrap_or}
 use Rattle.std.proofs.lemmas.Bool.{eqb-true, eq-eqb}
 use Rattle.std.proofs.lemmas.Bool.Decides.{nat_tests}
-use Rattle.memory.specs.Writes.{newest_of, joined, byte_of}
+use Rattle.memory.specs.Writes.{newest_of, joined}
 use Rattle.memory.proofs.Bytes.{joined-same}
 use Rattle.hart.specs.State.{HartState}
 use Rattle.hart.specs.Steps.{need_of}
@@ -47,21 +47,10 @@ pub record Sees (M : ℕ) (t : History) (c : Stored) (h : ℕ) : Type 0 where
   pub words : (a : ℕ) → IsPlace M 4 a → word_at c a ≡ memory_word t.opening t.entries a
 
 found_byte-read : (M : ℕ) (t : History) (c : Stored) (h x : ℕ) → Holds M t c → x < 4 * M → found_byte c h x ≡ read_byte t.opening t.entries h x
-found_byte-read M t c h x tied below =
-    ap (λ ws. unwrap_or (newest_of x None ws) (byte_of c.words x)) (tied.buffers h) ∙ ap (unwrap_or (newest_of x None (pending h t.entries))) (tied.bytes x below)
+found_byte-read M t c h x tied below = grind arith
 
 pub Holds-sees : (M : ℕ) (t : History) (c : Stored) (h : ℕ) → Holds M t c → Sees M t c h
-Holds-sees M t c h tied = record {
-  buffer = tied.buffers h;
-  finds = λ a width is. joined-same (λ i. found_byte c h (a + i)) (λ i. read_byte t.opening t.entries h (a + i)) width (λ i lt. (
-      let within : a % 4 + width ≤ 4 = is.1 in
-      let below : a < 4 * M = is.2 in
-      found_byte-read M t c h (a + i) tied (omega arith)));
-  words = λ a is. joined-same (λ i. byte_of c.words (a + i)) (λ i. memory_byte t.opening t.entries (a + i)) 4 (λ i lt. (
-      let within : a % 4 + 4 ≤ 4 = is.1 in
-      let below : a < 4 * M = is.2 in
-      tied.bytes (a + i) (omega arith)));
-}
+Holds-sees M t c h tied = grind (arith, joined-same, found_byte-read)
 
 is_empty-nil : (ps : List Write) → is_empty ps ≡ true → ps ≡ []
 is_empty-nil [] e = refl
@@ -79,45 +68,16 @@ alone : (B : ℕ) (t : History) (h : ℕ) (n : Need) (e : Entry) → hart_of e �
 alone B t h n e mine act made allowed only = (mine, act, record { made = made; allowed = allowed }, λ d does. only d does.made)
 
 decided_load : (B M : ℕ) (t : History) (c : Stored) (h a width : ℕ) → Sees M t c h → IsPlace M width a → Decided B t h (need.Load a width) (outcome.Did (entry.Load h a width (found c h a width)))
-decided_load B M t c h a width sees is = (
-  refl,
-  refl,
-  record { made = refl; allowed = sees.finds a width is },
-  λ d does. does.made ∙ ap (λ v. entry.Load h a width v) (subst (Allowed B t.opening t.entries) does.made does.allowed ∙ sym (sees.finds a width is)),
-)
+decided_load B M t c h a width sees is = grind arith
 
 decided_store : (B M : ℕ) (t : History) (c : Stored) (h a width w : ℕ) (b : Bool) → Sees M t c h → nat_lt (length (buffer_of c h)) B ≡ b → Decided B t h (need.Store a width w) (if_waits (not b) (entry.Store h a width w))
-decided_store B M t c h a width w true sees is =
-    let few : length (buffer_of c h) < B = grind (arith, nat_tests) in
-    alone B t h (need.Store a width w) (entry.Store h a width w) refl refl refl (subst (λ (ps : List Write). length ps < B) sees.buffer few) (λ d made. made)
-decided_store B M t c h a width w false sees is = λ d does.
-    let few : length (pending h t.entries) < B = subst (Allowed B t.opening t.entries) does.made does.allowed in
-    let same : length (buffer_of c h) ≡ length (pending h t.entries) = ap length sees.buffer in
-    let full : B ≤ length (buffer_of c h) = grind (arith, nat_tests) in
-    absurd (omega arith)
+decided_store B M t c h a width w b sees is = grind (arith, nat_tests, alone)
 
 decided_amo : (B M : ℕ) (t : History) (c : Stored) (h a : ℕ) (op : AmoOp) (rs2 : ℕ) (b : Bool) → Sees M t c h → IsPlace M 4 a → is_empty (buffer_of c h) ≡ b → Decided B t h (need.Amo a op rs2) (if_waits (not b) (entry.Amo h a (word_at c a) (updated op (word_at c a) rs2)))
-decided_amo B M t c h a op rs2 true sees is b =
-    let empty : pending h t.entries ≡ [] = sym sees.buffer ∙ is_empty-nil (buffer_of c h) b in
-    let word : word_at c a ≡ read t.opening t.entries h a 4 = sees.words a is ∙ sym (read-empty t.opening t.entries h a empty) in (
-      refl,
-      refl,
-      record { made = refl; allowed = (empty, word) },
-      λ d does. does.made ∙ ap (λ v. entry.Amo h a v (updated op v rs2)) ((subst (Allowed B t.opening t.entries) does.made does.allowed).1 ∙ sym word),
-    )
-decided_amo B M t c h a op rs2 false sees is b = λ d does.
-    let empty : pending h t.entries ≡ [] = (subst (Allowed B t.opening t.entries) does.made does.allowed).0 in
-    let yes : is_empty (buffer_of c h) ≡ true = nil-is_empty (buffer_of c h) (sees.buffer ∙ empty) in
-    cc
+decided_amo B M t c h a op rs2 b sees is h11 = grind (arith, is_empty-nil, read-empty, nil-is_empty)
 
 decided_fence : (B M : ℕ) (t : History) (c : Stored) (h : ℕ) (full b : Bool) → Sees M t c h → is_empty (buffer_of c h) ≡ b → Decided B t h (need.Fence full) (if_waits (full && not b) (entry.Fence h full))
-decided_fence B M t c h false b sees is = alone B t h (need.Fence false) (entry.Fence h false) refl refl refl (λ bad. absurd (cc)) (λ d made. made)
-decided_fence B M t c h true true sees is =
-    alone B t h (need.Fence true) (entry.Fence h true) refl refl refl (λ _. sym sees.buffer ∙ is_empty-nil (buffer_of c h) is) (λ d made. made)
-decided_fence B M t c h true false sees is = λ d does.
-    let empty : pending h t.entries ≡ [] = subst (Allowed B t.opening t.entries) does.made does.allowed refl in
-    let yes : is_empty (buffer_of c h) ≡ true = nil-is_empty (buffer_of c h) (sees.buffer ∙ empty) in
-    cc
+decided_fence B M t c h full b sees is = grind (arith, alone, is_empty-nil, nil-is_empty)
 
 -- what a running hart's act answers is decided
 pub outcome_for-decided : (B M : ℕ) (t : History) (c : Stored) (h : ℕ) (n : Need) → Sees M t c h → IsInRange M n → Decided B t h n (outcome_for B c h n)

@@ -1,6 +1,6 @@
 -- A step of one hart, a store, an AMO and a landing keep harts, buffers and memory fit for each other.
-use Rattle.std.proofs.Common.{◌≡◌, ℕ, ◌<◌, Bool, true, false, List, [], ◌∷◌, length, set, get_or, Option, Some, None, refl, sym, ◌∙◌, ap, subst}
-use Rattle.std.specs.Prelude.{All, IfSome, IsSomeAnd}
+use Rattle.std.proofs.Common.{arith, ◌≡◌, ℕ, ◌<◌, Bool, List, length, set, get_or, Option, Some, None, refl, sym, ◌∙◌, ap, subst}
+use Rattle.std.specs.Prelude.{All, IfSome}
 use Rattle.std.specs.List.{slice_get}
 use Rattle.std.proofs.lemmas.Option.{slice_get_within, slice_get_read, get_or_from_slice_get}
 use Rattle.std.proofs.lemmas.List.{length-set}
@@ -15,7 +15,7 @@ use Rattle.hart.specs.declared.status.Status.TheVariants as status
 use Rattle.hart.proofs.Advances.{advanced-words}
 use Rattle.step_machine.specs.Ranges.{IsInRange}
 use Rattle.step_machine.specs.inner.Stored.{Stored, stored_after_outcome, land_in, outcome_for}
-use Rattle.step_machine.specs.inner.Config.{after_outcome, Config, step_at, step_hart, Fit, IsNext, IsReady, act_in, act_outcome}
+use Rattle.step_machine.specs.inner.Config.{after_outcome, Config, step_at, step_hart, Fit, IsNext, act_in, act_outcome}
 use Rattle.step_machine.proofs.Decides.{need_of-in_range}
 
 -- the element x of the list, stepped in its place
@@ -23,8 +23,7 @@ pub stepped_in_place : (hs : List HartView) (h v : ℕ) (x : HartView) → h < l
 stepped_in_place hs h v x within is = ap (step_at hs h v) (sym (slice_get_read hs (length hs) h x refl within is))
 
 pub length-step_at : (hs : List HartView) (h v : ℕ) (so : Option HartView) → length (step_at hs h v so) ≡ length hs
-length-step_at hs h v None = refl
-length-step_at hs h v (Some x) = length-set hs h (stepped x v)
+length-step_at hs h v so = grind (arith, length-set)
 
 -- what a step keeps of a hart, it keeps of all harts
 all_step_at : (P : HartView → Type 0) (hs : List HartView) (h v : ℕ) (so : Option HartView) → ((x : HartView) → P x → P (stepped x v)) → slice_get hs h ≡ so → All P hs → All P (step_at hs h v so)
@@ -40,31 +39,16 @@ fit_step M c h v fit = record {
 }
 
 pub fit_stepped : (M : ℕ) (c : Config) (h v : ℕ) (x y : HartView) → h < length c.harts → x ≡ get_or c.harts h x → y ≡ stepped x v → Fit M c → Fit M (record c { harts = set c.harts h y })
-fit_stepped M c h v x y within is step fit =
-    subst (λ (hs : List HartView). Fit M (record c { harts = hs })) (sym (ap (set c.harts h) step ∙ stepped_in_place c.harts h v x within is)) (fit_step M c h v fit)
+fit_stepped M c h v x y within is step fit = grind (arith, stepped_in_place, fit_step)
 
 -- hart h, which is x, is ready to do what it needs
 pub ready_in_place : (M : ℕ) (c : Config) (h : ℕ) (x : HartView) (n : Need) → h < length c.harts → x ≡ get_or c.harts h x → x.state.status ≡ status.Running → n ≡ need_of x.state → IfSome (slice_get c.harts h) (λ (v : HartView). 0 < v.room) → Fit M c → IsNext c h n × (h < length c.harts) × IsInRange M n
-ready_in_place M c h x n within is running next room fit =
-    let here : slice_get c.harts h ≡ Some x = slice_get_read c.harts (length c.harts) h x refl within is in
-    let some : 0 < x.room = subst (λ (o : Option HartView). IfSome o (λ (v : HartView). 0 < v.room)) here room in
-    let words : x.state.words ≡ M = subst (λ (y : HartView). y.state.words ≡ M) (sym is) (fit.harts h x within) in (
-      subst (λ (o : Option HartView). IsSomeAnd o (IsReady n)) (sym here) (record { running = running; next = sym next; room = some }),
-      within,
-      subst (IsInRange M) (sym next) (need_of-in_range M x.state words),
-    )
+ready_in_place M c h x n within is running next room fit = grind (arith, slice_get_read, need_of-in_range)
 
 -- a landing leaves the harts
 pub land_leaves : (c : Config) (s : Stored) (o : Outcome) (ps : List Write) (h : ℕ) (over : Bool) → o ≡ land_in ps h over → s ≡ stored_after_outcome c.stored o → record c { stored = s } ≡ after_outcome c o
-land_leaves c s o ps h over is after = ap (λ (x : Stored). record c { stored = x }) after ∙ rw is (at ps over)
-  where
-    at : (qs : List Write) (b : Bool) → record c { stored = stored_after_outcome c.stored (land_in qs h b) } ≡ after_outcome c (land_in qs h b)
-    at [] true = refl
-    at [] false = refl
-    at (q ∷ qs) b = refl
+land_leaves c s o ps h over is after = grind arith
 
 -- an act of a hart in this status
 pub act_outcome-status : (B : ℕ) (c : Config) (h : ℕ) (x : HartView) (st : Status) → h < length c.harts → x ≡ get_or c.harts h x → x.state.status ≡ st → act_outcome B c h (slice_get c.harts h) ≡ act_in st (outcome_for B c.stored h (need_of x.state))
-act_outcome-status B c h x st within is status_is =
-    let here : slice_get c.harts h ≡ Some x = slice_get_read c.harts (length c.harts) h x refl within is in
-    ap (act_outcome B c h) here ∙ ap (λ s. act_in s (outcome_for B c.stored h (need_of x.state))) status_is
+act_outcome-status B c h x st within is status_is = grind (arith, slice_get_read)

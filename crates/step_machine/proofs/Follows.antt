@@ -1,5 +1,5 @@
 -- Which entries can follow a history: those that the hart's state makes and that memory and buffers allow.
-use Rattle.std.proofs.Common.{◌≡◌, ℕ, ◌==◌, Bool, true, false, ◌&&◌, List, [], ◌∷◌, ◌++◌, Option, Some, None, refl, sym, ◌∙◌, ap, subst, eq-eqb, append-nil}
+use Rattle.std.proofs.Common.{arith, ◌≡◌, ℕ, false, List, [], ◌∷◌, ◌++◌, Option, Some, None, sym, ◌∙◌, ap, subst, eq-eqb, append-nil}
 use Rattle.std.specs.List.{slice_get}
 use Rattle.std.specs.Prelude.{option_map, if◌then◌else◌}
 use Rattle.hart.specs.State.{HartState}
@@ -15,9 +15,7 @@ use Rattle.step_machine.proofs.Appended.{own-append, after_entries-append, Makes
 
 -- an entry of the hart's own at the end
 pub own-mine : (h : ℕ) (es : List Entry) (e : Entry) → hart_of e ≡ h → is_land e ≡ false → own h (es ++ e ∷ []) ≡ own h es ++ e ∷ []
-own-mine h es e mine act =
-    own-append h es (e ∷ [])
-    ∙ ap (λ b. own h es ++ (if b then e ∷ [] else [])) (let same : (hart_of e == h) ≡ true = eq-eqb (hart_of e) h mine in let both : is_own h e ≡ true = cc in both)
+own-mine h es e mine act = grind (arith, own-append, eq-eqb)
 
 pub own-other : (h : ℕ) (es : List Entry) (e : Entry) → is_own h e ≡ false → own h (es ++ e ∷ []) ≡ own h es
 own-other h es e other = own-append h es (e ∷ []) ∙ ap (λ b. own h es ++ (if b then e ∷ [] else [])) other ∙ append-nil (own h es)
@@ -30,37 +28,27 @@ abbrev pub advance_by : Entry → HartState → HartState
 advance_by e s = advanced s (value_of e)
 
 state_after-last : (M : ℕ) (so : Option HartStart) (es : List Entry) (e : Entry) → option_map (state_after M (es ++ e ∷ [])) so ≡ option_map (advance_by e) (option_map (state_after M es) so)
-state_after-last M None es e = refl
-state_after-last M (Some o) es e = ap Some (after_entries-append (opens_as M o) es (e ∷ []))
+state_after-last M so es e = grind (arith, after_entries-append)
 
 pub state_of-mine : (M : ℕ) (t : History) (h : ℕ) (e : Entry) → hart_of e ≡ h → is_land e ≡ false → state_of M (with_entry t e) h ≡ option_map (advance_by e) (state_of M t h)
-state_of-mine M t h e mine act =
-    ap (λ es. option_map (state_after M es) (slice_get t.opening.harts h)) (own-mine h t.entries e mine act)
-    ∙ state_after-last M (slice_get t.opening.harts h) (own h t.entries) e
+state_of-mine M t h e mine act = grind (arith, own-mine h t.entries e mine act, state_after-last M (slice_get t.opening.harts h) (own h t.entries) e)
 
 pub state_of-other : (M : ℕ) (t : History) (h : ℕ) (e : Entry) → is_own h e ≡ false → state_of M (with_entry t e) h ≡ state_of M t h
 state_of-other M t h e other = ap (λ es. option_map (state_after M es) (slice_get t.opening.harts h)) (own-other h t.entries e other)
 
 path_on : (M : ℕ) (so : Option HartStart) (es : List Entry) (e : Entry) (s : HartState) → PathOf M so es → option_map (state_after M es) so ≡ Some s → CanMake s e → PathOf M so (es ++ e ∷ [])
-path_on M None es e s p is can = p
-path_on M (Some o) es e s p is can =
-    let same : after_entries (opens_as M o) es ≡ s = cc in
-    Makes-append (opens_as M o) es (e ∷ []) p (subst (λ (z : HartState). CanMake z e) (sym same) can, tt)
+path_on M so es e s p is can = grind (arith, Makes-append)
 
 path_last : (M : ℕ) (so : Option HartStart) (es : List Entry) (e : Entry) (s : HartState) → PathOf M so (es ++ e ∷ []) → option_map (state_after M es) so ≡ Some s → CanMake s e
 path_last M None es e s p is = absurd p
-path_last M (Some o) es e s p is =
-    let same : after_entries (opens_as M o) es ≡ s = cc in
-    subst (λ (z : HartState). CanMake z e) same (Makes-back (opens_as M o) es (e ∷ []) p).0
+path_last M (Some o) es e s p is = grind (arith, Makes-back (opens_as M o) es (e ∷ []) p)
 
 path_front : (M : ℕ) (so : Option HartStart) (es : List Entry) (e : Entry) → PathOf M so (es ++ e ∷ []) → PathOf M so es
-path_front M None es e p = p
-path_front M (Some o) es e p = Makes-front (opens_as M o) es (e ∷ []) p
+path_front M so es e p = grind (arith, Makes-front)
 
 -- the hart's path goes on by an entry that its state makes
 pub Path-mine : (M : ℕ) (t : History) (h : ℕ) (e : Entry) (s : HartState) → hart_of e ≡ h → is_land e ≡ false → Path M t h → state_of M t h ≡ Some s → CanMake s e → Path M (with_entry t e) h
-Path-mine M t h e s mine act p is can =
-    subst (PathOf M (slice_get t.opening.harts h)) (sym (own-mine h t.entries e mine act)) (path_on M (slice_get t.opening.harts h) (own h t.entries) e s p is can)
+Path-mine M t h e s mine act p is can = grind (arith, own-mine, path_on)
 
 -- the last entry of a path is one that the state before it makes
 pub Path-last : (M : ℕ) (t : History) (h : ℕ) (e : Entry) (s : HartState) → hart_of e ≡ h → is_land e ≡ false → Path M (with_entry t e) h → state_of M t h ≡ Some s → CanMake s e
@@ -82,8 +70,7 @@ Legal-on B t e l a = LegalAfter-append B t.opening [] t.entries (e ∷ []) l (a,
 
 -- an entry that its hart's state makes and that memory and buffers allow can follow
 pub follows : (B M : ℕ) (t : History) (h : ℕ) (s : HartState) (e : Entry) → hart_of e ≡ h → is_land e ≡ false → Legal B t → Path M t h → state_of M t h ≡ Some s → CanMake s e → Allowed B t.opening t.entries e → CanFollow B M t e
-follows B M t h s e mine act l p is can a =
-    record { legal = Legal-on B t e l a; path = subst (Path M (with_entry t e)) (sym mine) (Path-mine M t h e s mine act p is can) }
+follows B M t h s e mine act l p is can a = grind (arith, Legal-on, Path-mine)
 
 -- and no other entry of the hart's own can
 pub act_only : (B M : ℕ) (t : History) (h : ℕ) (s : HartState) (d : Entry) → hart_of d ≡ h → is_land d ≡ false → state_of M t h ≡ Some s → CanFollow B M t d → CanMake s d × Allowed B t.opening t.entries d
@@ -91,10 +78,4 @@ act_only B M t h s d mine act is f = (Path-last M t h d s mine act (subst (Path 
 
 -- a landing of a hart that has a pending store can follow
 pub land_follows : (B M : ℕ) (t : History) (h : ℕ) → Legal B t → Path M t h → Allowed B t.opening t.entries (entry.Land h) → CanFollow B M t (entry.Land h)
-land_follows B M t h l p a =
-    let other : is_own h (entry.Land h) ≡ false = and_false (h == h) in
-    record { legal = Legal-on B t (entry.Land h) l a; path = Path-other M t h (entry.Land h) other p }
-  where
-    and_false : (b : Bool) → b && false ≡ false
-    and_false true = refl
-    and_false false = refl
+land_follows B M t h l p a = grind (arith, Legal-on, Path-other)

@@ -1,5 +1,5 @@
 -- What a machine that holds what its history says does is what happens to the history.
-use Rattle.std.proofs.Common.{◌≡◌, ℕ, ◌<◌, List, [], length, Option, Some, None, refl, sym, ◌∙◌, ap, arith}
+use Rattle.std.proofs.Common.{◌≡◌, ℕ, ◌<◌, List, [], length, Option, Some, None, refl, sym, ap, arith}
 use Rattle.std.specs.Prelude.{option_map}
 use Rattle.std.specs.List.{slice_get}
 use Rattle.std.proofs.lemmas.Option.{slice_get_within}
@@ -17,9 +17,9 @@ use Rattle.step_machine.specs.Entries.{hart_of, pending}
 use Rattle.step_machine.specs.Paths.{state_of}
 use Rattle.step_machine.specs.Legal.{WellFormed}
 use Rattle.step_machine.specs.Banks.{is_over}
-use Rattle.step_machine.specs.Runs.{CanFollow, NoEntry, idle_of, idle_in, Happens}
+use Rattle.step_machine.specs.Runs.{CanFollow, NoEntry, idle_in, Happens}
 use Rattle.step_machine.specs.Ranges.{IsInRange}
-use Rattle.step_machine.specs.inner.Stored.{buffer_of, outcome_for, land_in}
+use Rattle.step_machine.specs.inner.Stored.{outcome_for, land_in}
 use Rattle.step_machine.specs.inner.Config.{Config, entries_after, act_in, act_outcome, land_outcome, outcome_of}
 use Rattle.step_machine.specs.inner.Representation.{view_state, Represents}
 use Rattle.step_machine.proofs.Follows.{state_after, follows, act_only, land_follows, Path-hart, Legal-last}
@@ -51,12 +51,7 @@ running_happens B M t h s o kept is run d = grind (arith, state_of-hart, follows
 
 -- a hart that doesn't run does nothing more
 pub over_happens : (B M : ℕ) (t : History) (h : ℕ) (s : HartState) → state_of M t h ≡ Some s → (s.status ≡ status.Running → ⊥) → idle_in s.status outcome.Waited ≡ outcome.Over → Happens B M t (event.Act h) outcome.Over t
-over_happens B M t h s is over idles =
-    record {
-      none = λ x for_x f. over (act_only B M t h s x for_x.0 for_x.1 is f).0.running;
-      why = sym (ap (λ o. idle_of o outcome.Waited) is ∙ idles);
-      after = refl;
-    }
+over_happens B M t h s is over idles = grind (arith, act_only B M t h s)
 
 status_happens : (B M : ℕ) (t : History) (h : ℕ) (s : HartState) (st : Status) (o : Outcome) → WellFormed B M t → state_of M t h ≡ Some s → s.status ≡ st → Decided B t h (need_of s) o → Happens B M t (event.Act h) (act_in st o) (history_after t (act_in st o))
 status_happens B M t h s status.Running o kept is run d = running_happens B M t h s o kept is run d
@@ -80,10 +75,8 @@ pub some_land : (B M : ℕ) (t : History) (h : ℕ) (s : HartState) (ps : List W
 some_land B M t h s ps kept is ps8 = grind (arith, idle_land, follows, land_follows, state_of-hart)
 
 land_happens : (B M : ℕ) (t : History) (c : Config) (h : ℕ) (so : Option HartView) → Stands B M t c → option_map view_state so ≡ state_of M t h → Happens B M t (event.Land h) (land_outcome c h so) (history_after t (land_outcome c h so))
-land_happens B M t c h None stands is = grind (arith, none-no_hart)
-land_happens B M t c h (Some v) stands is = some_land B M t h v.state (buffer_of c.stored h) stands.kept (sym is) (stands.tied.holds.buffers h)
+land_happens B M t c h so stands is = grind (arith, none-no_hart, some_land)
 
 -- the outcome of an event is the one that the history allows, and the history goes on by it
 pub outcome_of-happens : (B M : ℕ) (t : History) (c : Config) (ev : Event) → Stands B M t c → ((h : ℕ) (v : HartView) → slice_get c.harts h ≡ Some v → v.state.words ≡ M) → Happens B M t ev (outcome_of B c ev) (history_after t (outcome_of B c ev))
-outcome_of-happens B M t c (event.Act h) stands words = act_happens B M t c h (slice_get c.harts h) stands (words h) (stands.tied.states h)
-outcome_of-happens B M t c (event.Land h) stands words = land_happens B M t c h (slice_get c.harts h) stands (stands.tied.states h)
+outcome_of-happens B M t c ev stands words = grind (arith, act_happens, land_happens)

@@ -1,7 +1,6 @@
 -- What an opening gives is fit, and is what the history of no entry says.
-use Rattle.std.proofs.Common.{◌≡◌, ℕ, zero, suc, ◌+◌, ◌-◌, ◌≤◌, List, [], ◌∷◌, ◌++◌, length, drop, get_or, replicate, Option, Some, refl, sym, ◌∙◌, ap, subst, arith, length-append, length-drop}
+use Rattle.std.proofs.Common.{◌≡◌, ℕ, zero, suc, ◌+◌, ◌-◌, ◌≤◌, List, [], ◌∷◌, ◌++◌, length, drop, get_or, replicate, Option, Some, refl, sym, ◌∙◌, subst, arith, length-append, length-drop}
 use Rattle.std.specs.Prelude.{option_map, All}
-use Rattle.std.specs.List.{slice_get}
 use Rattle.std.proofs.lemmas.List.{length-map, length-replicate, drop-replicate}
 use Rattle.std.proofs.lemmas.List.Elements.{All-map, All-nil, All-replicate}
 use Rattle.std.proofs.lemmas.Option.{slice_get-map}
@@ -53,14 +52,12 @@ reports_opened : (M : ℕ) (so : Option HartStart) (v : HartView) → option_map
 reports_opened M so v is = grind arith
 
 none_everywhere : (n h : ℕ) → get_or {A = List Write} (replicate n []) h [] ≡ []
-none_everywhere zero h = refl
-none_everywhere (suc n) zero = refl
 none_everywhere (suc n) (suc h) = none_everywhere n h
+none_everywhere x y = refl
 
 zeros_everywhere : (m i : ℕ) → get_or {A = ℕ} (replicate m 0) i 0 ≡ 0
-zeros_everywhere zero i = refl
-zeros_everywhere (suc m) zero = refl
 zeros_everywhere (suc m) (suc i) = zeros_everywhere m i
+zeros_everywhere x y = refl
 
 zeros_after : (xs : List ℕ) (m i : ℕ) → get_or (xs ++ replicate m 0) i 0 ≡ get_or xs i 0
 zeros_after [] m i = zeros_everywhere m i
@@ -71,9 +68,4 @@ pub holds_opened : (M : ℕ) (o : Start) (harts : ℕ) → Holds M (unrun o) (op
 holds_opened M o harts = grind (arith, none_everywhere, All-nil, drop-replicate, zeros_after)
 
 pub tied_opened : (M : ℕ) (o : Start) → Represents M (unrun o) (opened_config M o)
-tied_opened M o = record {
-  states = λ h. ap (option_map view_state) (slice_get-map (opened_hart M) o.harts h) ∙ view_opened M (slice_get o.harts h);
-  firsts = λ h. ap (option_map beginning) (slice_get-map (opened_hart M) o.harts h) ∙ first_opened M (slice_get o.harts h);
-  reports = λ h v is. reports_opened M (slice_get o.harts h) v (sym (slice_get-map (opened_hart M) o.harts h) ∙ is);
-  holds = holds_opened M o (length o.harts);
-}
+tied_opened M o = grind (arith, slice_get-map (opened_hart M) o.harts, view_opened M, first_opened M, reports_opened M, holds_opened M o (length o.harts))

@@ -1,16 +1,12 @@
 -- A kept history is the run of its own entries' events, and each front of it is kept.
-use Rattle.std.proofs.Common.{◌≡◌, ℕ, ◌<◌, Bool, true, false, List, [], ◌∷◌, ◌++◌, length, Option, Some, None, refl, sym, ◌∙◌, ap, subst, append-nil, append_assoc}
-use Rattle.std.specs.Prelude.{map, option_map, if◌then◌else◌, All}
+use Rattle.std.proofs.Common.{arith, ◌≡◌, ℕ, ◌<◌, true, false, List, [], ◌∷◌, ◌++◌, length, Option, Some, None, refl, sym, ◌∙◌, ap, subst, append-nil, append_assoc}
+use Rattle.std.specs.Prelude.{map, option_map, All}
 use Rattle.std.specs.List.{slice_get}
 use Rattle.std.proofs.lemmas.List.Elements.{All-nil, All-cons, All-head, All-tail}
 use Rattle.std.proofs.lemmas.Option.{slice_get-get_or}
 use Rattle.hart.specs.State.{HartState}
 use Rattle.hart.specs.Steps.{need_of}
-use Rattle.hart.specs.Effects.{updated}
 use Rattle.hart.specs.declared.need.Need.{Need}
-use Rattle.hart.specs.declared.need.Need.TheVariants as need
-use Rattle.hart.specs.declared.need.Report.TheVariants as report
-use Rattle.step_machine.specs.declared.events.Event.TheVariants as event
 use Rattle.step_machine.specs.declared.events.Entry.{Entry}
 use Rattle.step_machine.specs.declared.events.Entry.TheVariants as entry
 use Rattle.step_machine.specs.declared.events.Outcome.TheVariants as outcome
@@ -26,8 +22,7 @@ use Rattle.step_machine.proofs.Follows.{act_only}
 use Rattle.step_machine.proofs.Running.{hart_follows}
 
 path_front : (M : ℕ) (so : Option HartStart) (es fs : List Entry) → PathOf M so (es ++ fs) → PathOf M so es
-path_front M None es fs p = p
-path_front M (Some o) es fs p = Makes-front (opens_as M o) es fs p
+path_front M so es fs p = grind (arith, Makes-front)
 
 of_harts_front : (o : Start) (es fs : List Entry) → All (IsOfHarts o) (es ++ fs) → All (IsOfHarts o) es
 of_harts_front o [] fs all = All-nil (IsOfHarts o)
@@ -35,19 +30,11 @@ of_harts_front o (e ∷ es) fs all = All-cons (IsOfHarts o) e es (All-head (IsOf
 
 -- the front of a kept history is kept
 pub kept-front : (B M : ℕ) (o : Start) (es fs : List Entry) → WellFormed B M (history_of o (es ++ fs)) → WellFormed B M (history_of o es)
-kept-front B M o es fs kept = record {
-  legal = LegalAfter-front B o [] es fs kept.legal;
-  paths = λ h within. path_front M (slice_get o.harts h) (own h es) (own h fs) (subst (PathOf M (slice_get o.harts h)) (own-append h es fs) (kept.paths h within));
-  of_harts = of_harts_front o es fs kept.of_harts;
-}
+kept-front B M o es fs kept = grind (arith, LegalAfter-front B o [] es fs kept.legal, path_front M, own-append, of_harts_front o es fs kept.of_harts)
 
 -- two entries by which one state does what it needs, after the same entries, are one entry
 same_done : (B : ℕ) (o : Start) (before : List Entry) (h : ℕ) (n : Need) (v w : ℕ) → Allowed B o before (entry_of h n v) → Allowed B o before (entry_of h n w) → entry_of h n v ≡ entry_of h n w
-same_done B o before h (need.Load a width) v w one two = ap (λ u. entry.Load h a width u) (one ∙ sym two)
-same_done B o before h (need.Amo a op rs2) v w one two = ap (λ u. entry.Amo h a u (updated op u rs2)) (one.1 ∙ sym two.1)
-same_done B o before h (need.Report (report.Took i x)) v w one two = refl
-same_done B o before h (need.Report (report.Closed i)) v w one two = refl
-same_done B o before h other v w one two = refl
+same_done B o before h n v w one two = grind arith
 
 -- each of the opening's harts has a state
 pub state_there : (M : ℕ) (t : History) (h : ℕ) → h < length t.opening.harts → (s : HartState) × (state_of M t h ≡ Some s)
@@ -72,16 +59,11 @@ only_act B M t h e d within mine act f his does g =
         be ∙ same_done B t.opening t.entries h (need_of s) (value_of d) (value_of e) (subst (Allowed B t.opening t.entries) be two.1) (subst (Allowed B t.opening t.entries) is one.1) ∙ sym is
 
 landing : (e : Entry) → is_land e ≡ true → e ≡ entry.Land (hart_of e)
-landing (entry.Land h) is = refl
-landing e is = cc
+landing e is = grind arith
 
 -- an entry that can follow is added by its own event
 pub added : (B M : ℕ) (t : History) (e : Entry) → CanFollow B M t e → Adds B M t (event_of e) e (with_entry t e)
-added B M t e f = at (is_land e) refl
-  where
-    at : (b : Bool) → is_land e ≡ b → Adds B M t (if b then event.Land (hart_of e) else event.Act (hart_of e)) e (with_entry t e)
-    at true is = record { for_event = landing e is; follows = f; only = λ d for_d g. for_d ∙ sym (landing e is); after = refl }
-    at false is = record { for_event = (refl, is); follows = f; only = λ d for_d g. only_act B M t (hart_of e) e d (hart_follows B M t e f) refl is f for_d.0 for_d.1 g; after = refl }
+added B M t e f = grind (arith, landing e, only_act B M t (hart_of e) e, hart_follows B M t e f)
 
 run_on : (B M : ℕ) (o : Start) (before es : List Entry) → WellFormed B M (history_of o (before ++ es)) → RunFrom B M (history_of o before) (map event_of es) (history_of o (before ++ es))
 run_on B M o before [] kept = ap (history_of o) (append-nil before)

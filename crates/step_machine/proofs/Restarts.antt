@@ -1,11 +1,11 @@
 -- A machine that is put back holds what its opening gives.
-use Rattle.std.proofs.Common.{◌≡◌, ℕ, zero, suc, ◌≤◌, List, [], ◌∷◌, length, get_or, Option, Some, None, refl, sym, ◌∙◌, ap, subst}
+use Rattle.std.proofs.Common.{arith, ◌≡◌, ℕ, suc, ◌≤◌, List, [], ◌∷◌, length, get_or, Option, Some, refl, sym, ◌∙◌}
 use Rattle.std.specs.Prelude.{map, option_map, All}
 use Rattle.std.specs.List.{slice_get}
 use Rattle.std.proofs.lemmas.List.{length-map}
 use Rattle.std.proofs.lemmas.List.Elements.{All-nil, All-map}
 use Rattle.std.proofs.lemmas.Option.{slice_get-map}
-use Rattle.memory.specs.Writes.{WritesInWord, byte_of}
+use Rattle.memory.specs.Writes.{WritesInWord}
 use Rattle.hart.specs.State.{HartView}
 use Rattle.hart.specs.Steps.{restarted}
 use Rattle.step_machine.specs.declared.events.Entry.{Entry}
@@ -18,25 +18,20 @@ use Rattle.step_machine.proofs.Running.{kept-unrun}
 use Rattle.memory.specs.declared.writes.Write.{Write}
 
 no_stores_anywhere : (bs : List (List Write)) (h : ℕ) → get_or (map no_stores bs) h [] ≡ []
-no_stores_anywhere [] h = refl
-no_stores_anywhere (ps ∷ bs) zero = refl
 no_stores_anywhere (ps ∷ bs) (suc h) = no_stores_anywhere bs h
+no_stores_anywhere x y = refl
 
 state_again : (so : Option HartView) → option_map view_state (option_map restarted so) ≡ option_map beginning so
-state_again None = refl
-state_again (Some v) = refl
+state_again so = grind arith
 
 first_again : (so : Option HartView) → option_map beginning (option_map restarted so) ≡ option_map beginning so
-first_again None = refl
-first_again (Some v) = refl
+first_again so = grind arith
 
 none_reported : (so : Option HartView) (v : HartView) → option_map restarted so ≡ Some v → v.reports ≡ []
-none_reported None v is = cc
-none_reported (Some x) v is = let v_is : restarted x ≡ v = cc in sym (ap (λ (w : HartView). w.reports) v_is)
+none_reported so v is = grind arith
 
 roomy_again : (n : ℕ) (so : Option HartView) (v : HartView) → option_map restarted so ≡ Some v → ((w : HartView) → so ≡ Some w → n ≤ w.room) → n ≤ v.room
-roomy_again n None v is all = cc
-roomy_again n (Some x) v is all = let v_is : restarted x ≡ v = cc in subst (λ (w : HartView). n ≤ w.room) v_is (all x refl)
+roomy_again n so v is all = grind arith
 
 pub fit_put_back : (M : ℕ) (s : Stored) → FitStored M s → FitStored M (restarted_stored s)
 fit_put_back M s fit = record {
@@ -54,20 +49,10 @@ fit_restarted M c fit = record {
 }
 
 pub holds_restarted : (M : ℕ) (t : History) (s : Stored) → Holds M t s → Holds M (unrun t.opening) (restarted_stored s)
-holds_restarted M t s holds = record {
-  buffers = λ h. no_stores_anywhere s.buffers h;
-  in_words = All-nil WritesInWord;
-  opens = holds.opens;
-  bytes = λ a is. ap (λ (ws : List ℕ). byte_of ws a) holds.opens ∙ (holds_opened M t.opening (length s.buffers)).bytes a is;
-}
+holds_restarted M t s holds = grind (arith, no_stores_anywhere s.buffers, All-nil WritesInWord, holds_opened M t.opening (length s.buffers))
 
 pub tied_restarted : (M : ℕ) (t : History) (c : Config) → Represents M t c → Represents M (unrun t.opening) (restarted_config c)
-tied_restarted M t c tied = record {
-  states = λ h. ap (option_map view_state) (slice_get-map restarted c.harts h) ∙ state_again (slice_get c.harts h) ∙ tied.firsts h;
-  firsts = λ h. ap (option_map beginning) (slice_get-map restarted c.harts h) ∙ first_again (slice_get c.harts h) ∙ tied.firsts h;
-  reports = λ h v is. none_reported (slice_get c.harts h) v (sym (slice_get-map restarted c.harts h) ∙ is);
-  holds = holds_restarted M t c.stored tied.holds;
-}
+tied_restarted M t c tied = grind (arith, slice_get-map restarted c.harts, state_again, first_again, none_reported, holds_restarted M t c.stored tied.holds)
 
 pub sound_restarted : (B M n : ℕ) (t : History) (c : Config) → IsMachineAt B M t c n → IsMachineAt B M (unrun t.opening) (restarted_config c) n
 sound_restarted B M n t c sound = record {
@@ -81,6 +66,4 @@ sound_restarted B M n t c sound = record {
 
 -- the same of what the machine then holds
 pub sound_put_back : (B M n : ℕ) (o : Start) (es none : List Entry) (c d : Config) → IsMachineAt B M (record { opening = o; entries = es }) c n → none ≡ [] → d ≡ restarted_config c → IsMachineAt B M (record { opening = o; entries = none }) d n
-sound_put_back B M n o es none c d sound is_none is =
-    subst (λ (xs : List Entry). IsMachineAt B M (record { opening = o; entries = xs }) d n) (sym is_none)
-    (subst (λ (k : Config). IsMachineAt B M (unrun o) k n) (sym is) (sound_restarted B M n (record { opening = o; entries = es }) c sound))
+sound_put_back B M n o es none c d sound is_none is = grind (arith, sound_restarted B M n (record { opening = o; entries = es }) c sound)

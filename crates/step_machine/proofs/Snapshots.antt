@@ -29,24 +29,21 @@ use Rattle.step_machine.proofs.States.{state_keeps}
 pub saved_at : (ws : List HartView) (ss : List SavedHart) (h : ℕ) (x : SavedHart) → AreSaved ws ss → slice_get ss h ≡ Some x
     → (w : HartView) × (slice_get ws h ≡ Some w) × IsSavedOf w x
 saved_at [] [] h x are is = cc
-saved_at [] (y ∷ ss) h x are is = absurd are
-saved_at (w ∷ ws) [] h x are is = absurd are
 saved_at (w ∷ ws) (y ∷ ss) zero x are is = let x_is : y ≡ x = cc in (w, refl, subst (IsSavedOf w) x_is are.0)
 saved_at (w ∷ ws) (y ∷ ss) (suc h) x are is = saved_at ws ss h x are.1 is
+saved_at z other h x are is = absurd are
 
 length-saved : (ws : List HartView) (ss : List SavedHart) → AreSaved ws ss → length ss ≡ length ws
 length-saved [] [] are = refl
-length-saved [] (y ∷ ss) are = absurd are
-length-saved (w ∷ ws) [] are = absurd are
 length-saved (w ∷ ws) (y ∷ ss) are = ap suc (length-saved ws ss are.1)
+length-saved x z are = absurd are
 
 pub saved_next : (hs : List HartView) (ss : List SavedHart) (i : ℕ) (v : HartView) (x : SavedHart) → AreSaved (take i hs) ss → slice_get hs i ≡ Some v
     → IsSavedOf v x → AreSaved (take (suc i) hs) (ss ++ x ∷ [])
 saved_next [] ss i v x are is saved = cc
 saved_next (w ∷ hs) [] zero v x are is saved = let w_is : w ≡ v = cc in (subst (λ (y : HartView). IsSavedOf y x) (sym w_is) saved, tt)
-saved_next (w ∷ hs) (y ∷ ss) zero v x are is saved = absurd are
-saved_next (w ∷ hs) [] (suc i) v x are is saved = absurd are
 saved_next (w ∷ hs) (y ∷ ss) (suc i) v x are is saved = (are.0, saved_next hs ss i v x are.1 is saved)
+saved_next (w ∷ hs) z other v x are is saved = absurd are
 
 pub saved_more : (hs : List HartView) (ss rs : List SavedHart) (i : ℕ) (v : HartView) (x : SavedHart) → AreSaved (take i hs) ss → i < length hs
     → v ≡ get_or hs i v → IsSavedOf v x → rs ≡ ss ++ x ∷ [] → AreSaved (take (i + 1) hs) rs
@@ -83,12 +80,11 @@ same_restored : {X : Type 0} (f : HartView → X) (hs ws : List HartView) (ss : 
     → ((h : ℕ) (v w : HartView) (x : SavedHart) → slice_get hs h ≡ Some v → slice_get ws h ≡ Some w → IsSavedOf w x → f (put_back v x) ≡ f w)
     → map f (restored_harts hs ss) ≡ map f ws
 same_restored f [] [] ss are count same = refl
-same_restored f [] (w ∷ ws) ss are count same = cc
-same_restored f (v ∷ hs) [] ss are count same = cc
 same_restored f (v ∷ hs) (w ∷ ws) [] are count same = absurd are
 same_restored f (v ∷ hs) (w ∷ ws) (x ∷ ss) are count same =
     ap (λ y. y ∷ map f (restored_harts hs ss)) (same zero v w x refl refl are.0)
     ∙ ap (λ ys. f w ∷ ys) (same_restored f hs ws ss are.1 (omega arith) (λ h r s y. same (suc h) r s y))
+same_restored f x y ss are count same = cc
 
 same_seen : (v w : HartView) (x : SavedHart) → IsSavedOf w x → HasGoneOn w v → without_room (put_back v x) ≡ without_room w
 same_seen v w x saved on = grind (arith, state_again, reports_again)
@@ -117,9 +113,7 @@ sound_back B M n t c s now taken =
 pub sound_put_to : (B M n : ℕ) (o : Start) (es fs : List Entry) (c d : Config) (s : Taken) → IsMachineAt B M (record { opening = o; entries = es }) c n
     → IsTakenAt B M (up_to s.count (record { opening = o; entries = es })) s → fs ≡ take s.count es → d ≡ restored_config s c
     → IsMachineAt B M (record { opening = o; entries = fs }) d n
-sound_put_to B M n o es fs c d s now taken cut is =
-    subst (λ (xs : List Entry). IsMachineAt B M (record { opening = o; entries = xs }) d n) (sym cut)
-    (subst (λ (k : Config). IsMachineAt B M (up_to s.count (record { opening = o; entries = es })) k n) (sym is) (sound_back B M n (record { opening = o; entries = es }) c s now taken))
+sound_put_to B M n o es fs c d s now taken cut is = grind (arith, sound_back B M n (record { opening = o; entries = es }) c s now taken)
 
 reports_within : (v w : HartView) (x : SavedHart) → IsSavedOf w x → HasGoneOn w v → x.reports ≤ length v.reports
 reports_within v w x saved on =

@@ -11,11 +11,10 @@ use Rattle.step_machine.specs.declared.events.Event.{Event}
 use Rattle.step_machine.specs.declared.events.Entry.{Entry}
 use Rattle.step_machine.specs.declared.events.Outcome.{Outcome}
 use Rattle.step_machine.specs.History.{Start, History, unrun, FitsIn}
-use Rattle.step_machine.specs.Entries.{reported}
 use Rattle.step_machine.specs.Runs.{Happens}
 use Rattle.step_machine.specs.inner.Stored.{Stored, FitStored}
 use Rattle.step_machine.specs.inner.Config.{Config, Fit, AllHaveRoom, SameButRoom, without_room, beginning, step_at, after_entry, after_outcome, entries_after, outcome_of, opened_config}
-use Rattle.step_machine.specs.inner.Representation.{view_state, Holds, Represents, IsMachineAt}
+use Rattle.step_machine.specs.inner.Representation.{view_state, Represents, IsMachineAt}
 use Rattle.step_machine.proofs.Carried.{carried}
 use Rattle.step_machine.proofs.Fitting.{length-step_at}
 use Rattle.step_machine.proofs.Happening.{history_after, outcome_of-happens}
@@ -40,12 +39,7 @@ same_at : {X : Type 0} (f : HartView → X) (P : X → Type 0) (so : Option Hart
 same_at f P so v is all = grind arith
 
 pub tied_same : (M : ℕ) (t : History) (c d : Config) → Represents M t c → SameButRoom c d → Represents M t d
-tied_same M t c d tied same = record {
-  states = λ h. same_states (slice_get d.harts h) (slice_get c.harts h) (same_without_room c d h same) ∙ tied.states h;
-  firsts = λ h. first_same c.harts d.harts h same.firsts ∙ tied.firsts h;
-  reports = λ h v is. same_at without_room (λ p. p.1 ≡ reported h t.entries) (slice_get c.harts h) v (sym (same_without_room c d h same) ∙ ap (option_map without_room) is) (tied.reports h);
-  holds = subst (Holds M t) (sym same.stored) tied.holds;
-}
+tied_same M t c d tied same = grind (arith, same_states, same_without_room c d, first_same c.harts d.harts, same_at without_room)
 
 -- room after a step
 
@@ -112,20 +106,15 @@ sound_outcome : (B M n : ℕ) (t : History) (c : Config) (ev : Event) (o : Outco
 sound_outcome B M n t c ev o sound adds fit = grind (arith, kept_after, carried, entry_count, entry_room, still)
 
 pub sound_held : (B M : ℕ) (o : Start) (es : List Entry) (c : Config) → FitsIn M o → es ≡ [] → c ≡ opened_config M o → IsMachineAt B M (record { opening = o; entries = es }) c 0
-sound_held B M o es c fits none is =
-    subst (λ (k : Config). IsMachineAt B M (record { opening = o; entries = es }) k 0) (sym is)
-    (subst (λ (xs : List Entry). IsMachineAt B M (record { opening = o; entries = xs }) (opened_config M o) 0) (sym none) (sound_opened B M o fits))
+sound_held B M o es c fits none is = grind (arith, sound_opened B M o fits)
 
 -- the same entries and the same machine except for room
 pub sound_moved : (B M n m : ℕ) (o : Start) (es moved : List Entry) (c d : Config) → IsMachineAt B M (record { opening = o; entries = es }) c n → moved ≡ es → SameButRoom c d → AllHaveRoom m d.harts → IsMachineAt B M (record { opening = o; entries = moved }) d m
-sound_moved B M n m o es moved c d sound is same room =
-    subst (λ (xs : List Entry). IsMachineAt B M (record { opening = o; entries = xs }) d m) (sym is) (sound_same B M n m (record { opening = o; entries = es }) c d sound same room)
+sound_moved B M n m o es moved c d sound is same room = grind (arith, sound_same B M n m (record { opening = o; entries = es }) c d sound same room)
 
 -- a step of a sound machine, and what it leaves
 pub happens_stepped : (B M n : ℕ) (t : History) (c : Config) (ev : Event) (o : Outcome) (es : List Entry) → IsMachineAt B M t c n → o ≡ outcome_of B c ev → es ≡ entries_after t.entries o → Happens B M t ev o (record { opening = t.opening; entries = es })
-happens_stepped B M n t c ev o es sound is added =
-    subst (λ (xs : List Entry). Happens B M t ev o (record { opening = t.opening; entries = xs })) (sym added)
-    (subst (λ (p : Outcome). Happens B M t ev p (history_after t p)) (sym is) (sound_happens B M n t c ev sound))
+happens_stepped B M n t c ev o es sound is added = grind (arith, history_after t, sound_happens B M n t c ev sound)
 
 pub sound_stepped : (B M n : ℕ) (t : History) (c d : Config) (ev : Event) (o : Outcome) (es : List Entry) → IsMachineAt B M t c n → o ≡ outcome_of B c ev → d ≡ after_outcome c o → Fit M d → es ≡ entries_after t.entries o → IsMachineAt B M (record { opening = t.opening; entries = es }) d (n - 1)
 sound_stepped B M n t c d ev o es sound is after fit added =

@@ -1,6 +1,6 @@
 -- What a hart's state keeps of its opening, whatever its entries (for proofs about
 -- further programs).
-use Rattle.std.proofs.Common.{◌≡◌, ℕ, List, [], ◌∷◌, length, Some, refl, sym, ◌∙◌, ap, subst}
+use Rattle.std.proofs.Common.{arith, ◌≡◌, ℕ, List, [], ◌∷◌, length, Some, refl, sym, ◌∙◌, ap, subst}
 use Rattle.std.specs.Prelude.{option_map, slice_index, slice_set}
 use Rattle.std.specs.List.{slice_get}
 use Rattle.std.proofs.Math.ListN.{length-set}
@@ -29,13 +29,7 @@ opens_keeps M o = record { code = refl; words = refl; registers = length-set o.r
 
 after_entries_keep : (M : ℕ) (o : HartStart) (s : HartState) (es : List Entry) → KeepsOpening M o s → KeepsOpening M o (after_entries s es)
 after_entries_keep M o s [] keeps = keeps
-after_entries_keep M o s (e ∷ es) keeps =
-    after_entries_keep M o (advanced s (value_of e)) es (record {
-      code = advanced-code s (value_of e) ∙ keeps.code;
-      words = advanced-words s (value_of e) ∙ keeps.words;
-      registers = (registers_are_kept s (value_of e)).0 ∙ keeps.registers;
-      zero = (registers_are_kept s (value_of e)).1 ∙ keeps.zero;
-    })
+after_entries_keep M o s (e ∷ es) keeps = grind (arith, advanced-code, advanced-words, registers_are_kept, after_entries_keep M o (advanced s (value_of e)) es)
 
 pub state_keeps : (M : ℕ) (t : History) (h : ℕ) (o : HartStart) (s : HartState) → slice_get t.opening.harts h ≡ Some o → state_of M t h ≡ Some s → KeepsOpening M o s
 state_keeps M t h o s here is =

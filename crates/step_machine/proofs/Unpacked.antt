@@ -1,6 +1,5 @@
 -- What packed entries stand for once a head comes at their end, their last row grows by an entry, or a last head goes.
 use Rattle.std.proofs.Common.{◌≡◌, ℕ, ◌+◌, ◌≤◌, ◌-◌, List, [], ◌∷◌, ◌++◌, sym, ◌∙◌, ap, ap₂, subst, arith, append-nil, append_assoc, length, take, drop, length-append, length-drop}
-use Rattle.std.specs.Prelude.{replicate}
 use Rattle.std.proofs.Math.ListN.{get_or-append}
 use Rattle.std.proofs.lemmas.List.{length-take-le, drop-append-le, take-append-drop, take_at, replicate_more, nil_from_length, length_push}
 use Rattle.std.proofs.lemmas.List.Sums.{sum_by-cons, sum_by_push}
@@ -16,20 +15,18 @@ entry_stays h ns ms ps qs n p = grind (arith, get_or-append)
 unpacked_push : (hs : List Head) (ns ms : List ℕ) (ps qs : List Entry) (h : Head) → IsBalanced hs ns ps
     → unpacked (hs ++ h ∷ []) (ns ++ ms) (ps ++ qs) ≡ unpacked hs ns ps ++ row_of h ms qs
 unpacked_push [] ns ms ps qs h b = grind (arith, nil_from_length, append-nil)
-unpacked_push (g ∷ hs) ns ms ps qs h b =
-    let n : numbers_of g ≤ length ns = omega (arith, b.numbers, sum_by-cons numbers_of g hs) in
-    let p : plain_of g ≤ length ps = omega (arith, b.plain, sum_by-cons plain_of g hs) in
-    let after : IsBalanced hs (drop (numbers_of g) ns) (drop (plain_of g) ps) = record {
-      numbers = omega (arith, b.numbers, sum_by-cons numbers_of g hs, length-drop (numbers_of g) ns);
-      plain = omega (arith, b.plain, sum_by-cons plain_of g hs, length-drop (plain_of g) ps);
-    } in
-    rw (
-      entry_stays g ns ms ps qs n p,
-      drop-append-le (numbers_of g) ns ms n,
-      drop-append-le (plain_of g) ps qs p,
-      unpacked_push hs (drop (numbers_of g) ns) ms (drop (plain_of g) ps) qs h after,
-    )
-    (sym (append_assoc (row_of g ns ps) (unpacked hs (drop (numbers_of g) ns) (drop (plain_of g) ps)) (row_of h ms qs)))
+unpacked_push (g ∷ hs) ns ms ps qs h b = grind (
+  arith,
+  sum_by-cons numbers_of g hs,
+  sum_by-cons plain_of g hs,
+  length-drop (numbers_of g) ns,
+  length-drop (plain_of g) ps,
+  entry_stays g ns ms ps qs,
+  drop-append-le (numbers_of g) ns ms,
+  drop-append-le (plain_of g) ps qs,
+  append_assoc (row_of g ns ps) (unpacked hs (drop (numbers_of g) ns) (drop (plain_of g) ps)) (row_of h ms qs),
+  unpacked_push hs (drop (numbers_of g) ns) ms (drop (plain_of g) ps) qs h,
+)
 
 -- packed entries, and the same with this entry at the end
 pub record Added (hs : List Head) (ns : List ℕ) (ps : List Entry) (more : List Head) (ms : List ℕ) (qs : List Entry)
@@ -43,20 +40,7 @@ pub record Added (hs : List Head) (ns : List ℕ) (ps : List Entry) (more : List
 pub added_to : {hs more : List Head} {h : Head} {ns ms : List ℕ} {ps qs : List Entry} (ks : List ℕ) (rs : List Entry)
     → IsBalanced hs ns ps → more ≡ hs ++ h ∷ [] → ms ≡ ns ++ ks → qs ≡ ps ++ rs → IsSingle h (length ks) (length rs)
     → Added hs ns ps more ms qs (entry_of h ks rs)
-added_to {hs} {h} {ns} {ps} ks rs b hm nm pm is =
-    let entries : unpacked (hs ++ h ∷ []) (ns ++ ks) (ps ++ rs) ≡ unpacked hs ns ps ++ entry_of h ks rs ∷ [] =
-    unpacked_push hs ns ks ps rs h b
-    ∙ ap (λ k. unpacked hs ns ps ++ entry_of h ks rs ∷ replicate k (entry_of h ks rs)) is.further in
-    let after : IsBalanced (hs ++ h ∷ []) (ns ++ ks) (ps ++ rs) = record {
-      numbers = omega (arith, b.numbers, is.numbers, sum_by_push numbers_of hs h, length-append ns ks);
-      plain = omega (arith, b.plain, is.plain, sum_by_push plain_of hs h, length-append ps rs);
-    } in
-    rw (hm, nm, pm) (record {
-      before = b;
-      after = after;
-      entries = entries;
-      count = ap length entries ∙ length_push (unpacked hs ns ps) (entry_of h ks rs);
-    })
+added_to {hs} {h} {ns} {ps} ks rs b hm nm pm is = grind (arith, unpacked_push, sum_by_push, length-append, length_push)
 
 -- these are what is left without a last head of one entry
 pub dropped_to : {hs all : List Head} {ns ms : List ℕ} {ps qs : List Entry} (h : Head) (n p : ℕ)
@@ -115,6 +99,4 @@ shortened_to {h} {l} hs b ha hm is =
 -- the entries before are those after without the last
 pub without_last : {hs more : List Head} {ns ms : List ℕ} {ps qs : List Entry} {e : Entry}
     → Added hs ns ps more ms qs e → unpacked hs ns ps ≡ take (length (unpacked more ms qs) - 1) (unpacked more ms qs)
-without_last {hs} {more} {ns} {ms} {ps} {qs} {e} a =
-    let n : ℕ = length (unpacked more ms qs) - 1 in
-    sym (ap (take n) a.entries ∙ take_at (unpacked hs ns ps) (e ∷ []) n (omega (arith, a.count)))
+without_last {hs} {more} {ns} {ms} {ps} {qs} {e} a = grind (arith, take_at)
