@@ -1,8 +1,8 @@
 -- The laws of one block, all together, and so the laws of the ring.
-use Rattle.std.proofs.Common.{ℕ, ◌+◌, ◌<◌, ◌≡◌, length, refl, ◌∙◌, arith, lit≤, ◌∷◌, [], ◌≤◌}
+use Rattle.std.proofs.Common.{ℕ, ◌+◌, ◌<◌, ◌≡◌, length, refl, arith, lit≤, ◌∷◌, [], ◌≤◌}
 use Rattle.std.proofs.Math.Nat.{zero-mod}
 use Rattle.poll_close.specs.Laws.{AreShort, Opens, Keeps, Cleans, Goes, Stays}
-use Rattle.poll_close.specs.Invariant.Blocks.{Block, offset, slot}
+use Rattle.poll_close.specs.Invariant.Blocks.{Block, offset}
 use Rattle.poll_close.specs.Invariant.SenderState.{SenderRegisters}
 use Rattle.poll_close.proofs.Blocks.{IsBlock, Within, base_word, word_of, slot_of}
 use Rattle.poll_close.proofs.BlockLaws.{BlockLaws, Begins, Stepped, opens_with}
@@ -52,13 +52,7 @@ begins k is = record {
 }
 
 words_same : (k : Block) (n : Landed) (word new : ℕ → ℕ) → IsBlock k → ((a : ℕ) → Within k a → new a ≡ word a) → Words k n word → Words k n new
-words_same k n word new is same w = record {
-  head = same k.base (base_word k is).within ∙ w.head;
-  mark = same (k.base + 4) (word_of k is 4 (omega arith) refl).within ∙ w.mark;
-  tail = same (k.base + 8) (word_of k is 8 (omega arith) refl).within ∙ w.tail;
-  done = same (k.base + 12) (word_of k is 12 (omega arith) refl).within ∙ w.done;
-  slots = λ j from below. same (slot k.size k.base j) (slot_of k is j).within ∙ w.slots j from below;
-}
+words_same k n word new is same w = grind (arith, base_word, word_of, slot_of)
 
 -- the receiver's own numbers grow
 module _ (k : Block) (n : Numbers) (order : Ordered k n) where

@@ -15,10 +15,7 @@ use Rattle.lamport_ring.specs.Invariant.Numbers.{Numbers, Ordered, Words, freed,
 
 -- a tail store is none to the done word
 none_done : (k : Block) (t : ℕ) (x : ℕ × ℕ) → t < length k.list → slice_get (receiver_stores k) t ≡ Some x → x.0 ≢ k.base + 12
-none_done k t x less got same =
-    let store : slice_get (receiver_stores k) t ≡ Some (k.base + 8, offset k (t + 1)) = store_tail k t t less refl in
-    let tail : x.0 ≡ k.base + 8 = ap (λ (y : ℕ × ℕ). y.0) (let is : x ≡ (k.base + 8, offset k (t + 1)) = cc in is) in
-    omega (arith, tail, same)
+none_done k t x less got same = grind (arith, store_tail)
 
 module _ (k : Block) (n : Numbers) (word : ℕ → ℕ) (order : Ordered k n) (words : Words k n.landed word) where
   seen_none : (a : ℕ) → a ≢ k.base + 8 → a ≢ k.base + 12 → found_in (unread_of lamport_blocks k n) word a ≡ word a

@@ -35,9 +35,7 @@ none_before p gaps (x ∷ text) h = grind (arith, none_before p gaps text)
 
 pub none_round : (b : ℕ) → is_gap b ≡ false → (text : List ℕ) → NonePass (is_byte b) (core text) → NonePass (is_byte b) text
 unfolding stripped
-none_round b none text h =
-    let gaps = λ (x : ℕ) (gap : is_gap x ≡ true). other_byte is_gap b x none gap in
-    none_behind (is_byte b) gaps text (none_before (is_byte b) gaps (without_leading is_gap text) h)
+none_round b none text h = grind (arith, other_byte, none_behind, none_before)
 
 -- a text of a name's bytes, with gaps round it
 pub none_round_name : (b : ℕ) → goes_on_name b ≡ false → is_gap b ≡ false → (text name : List ℕ) → core text ≡ name → list_all goes_on_name name ≡ true → NonePass (is_byte b) text

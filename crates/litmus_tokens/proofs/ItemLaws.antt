@@ -1,7 +1,6 @@
 -- Items of init: what is read is what the text says, and what it says is read.
-use Rattle.std.proofs.Common.{◌≡◌, ℕ, Bool, true, false, ◌==◌, ◌&&◌, List, [], ◌∷◌, ◌++◌, drop, Option, Some, None, refl, sym, ap, subst, ◌∙◌, inl, inr, ◌⊎◌}
-use Rattle.std.specs.Prelude.{IfSome, nat_eq, codes}
-use Rattle.std.specs.List.{starts_with}
+use Rattle.std.proofs.Common.{arith, ◌≡◌, ℕ, Bool, true, false, ◌==◌, List, [], ◌∷◌, ◌++◌, Option, Some, None, refl, sym, subst, ◌∙◌, inl, inr, ◌⊎◌}
+use Rattle.std.specs.Prelude.{IfSome, codes}
 use Rattle.std.proofs.lemmas.Bool.{eqb-true, and_parts}
 use Rattle.std.proofs.lemmas.Bool.Decides.{Decides-eqb}
 use Rattle.std.proofs.lemmas.Slice.Eq.{starts_is}
@@ -9,7 +8,7 @@ use Rattle.texts.specs.Cutting.{NonePass, before, after, is_byte, stripped}
 use Rattle.texts.proofs.CuttingLaws.{before_none, after_none, before_stop, after_stop, cut_byte, uncut}
 use Rattle.texts.specs.Pieces.{is_gap}
 use Rattle.litmus_tokens.specs.Names.{core, goes_on_name}
-use Rattle.litmus_tokens.specs.Settings.{NamedPlace, Value, Equation, IsNamedPlace, IsDeclared, IsItem}
+use Rattle.litmus_tokens.specs.Settings.{NamedPlace, Equation, IsNamedPlace, IsDeclared, IsItem}
 use Rattle.litmus_tokens.specs.Settings.NamedPlace.{in_register, at_location}
 use Rattle.litmus_tokens.specs.Settings.Value.{number}
 use Rattle.litmus_tokens.specs.Reading.{value_in, inside, place_in, begins_with_gap, behind_int, declared_in, place_or, item_place_in, item_round, item_at}
@@ -33,16 +32,7 @@ core_behind gap rest is = rw is refl
 
 int_front : (text rest : List ℕ) → behind_int text ≡ Some rest → (text ≡ codes "int" ++ rest) × (begins_with_gap rest ≡ true)
 unfolding behind_int
-int_front text rest e = go (starts_with nat_eq text (codes "int") && begins_with_gap (drop 3 text)) refl
-  where
-    go : (t : Bool) → (starts_with nat_eq text (codes "int") && begins_with_gap (drop 3 text)) ≡ t → (text ≡ codes "int" ++ rest) × (begins_with_gap rest ≡ true)
-    go true is =
-        let shown = rw is at e in
-        let same : drop 3 text ≡ rest = cc in
-        let both = and_parts (starts_with nat_eq text (codes "int")) (begins_with_gap (drop 3 text)) is in
-        let cut = (starts_is Decides-eqb text (codes "int") (starts_with nat_eq text (codes "int")) refl).0 both.0 in
-        subst (λ (r : List ℕ). (text ≡ codes "int" ++ r) × (begins_with_gap r ≡ true)) same (cut, both.1)
-    go false isnt = (let never = rw isnt at e in absurd cc)
+int_front text rest e = grind (arith, and_parts, starts_is, Decides-eqb)
 
 declared_behind : (text : List ℕ) (place : NamedPlace) (behind : Option (List ℕ)) → behind_int (core text) ≡ behind → inside behind ≡ Some place → IsDeclared text place
 declared_behind text place None is e = absurd cc
@@ -58,8 +48,7 @@ declared_found text place e = declared_behind text place (behind_int (core text)
 
 declared_read : (text : List ℕ) (place : NamedPlace) → IsDeclared text place → declared_in text ≡ Some place
 unfolding declared_in behind_int
-declared_read text (in_register hart register) is = absurd is
-declared_read text (at_location name) (gap, rest, whole, gap_is, name_is, same) = rw whole (rw (gap_is, core_behind gap rest gap_is, same, name_is) refl)
+declared_read text place is = grind (arith, core_behind)
 
 -- a byte that stands in no name and no gap stands in no declaration
 declared_free : (b : ℕ) → goes_on_name b ≡ false → is_gap b ≡ false → (text : List ℕ) (place : NamedPlace) → IsDeclared text place → NonePass (is_byte b) text
@@ -79,10 +68,7 @@ declared_free b no_name no_gap text (at_location name) (gap, rest, whole, gap_is
 -- no place is a declaration
 declared_no_place : (text : List ℕ) (place : NamedPlace) → IsDeclared text place → place_in text ≡ None
 unfolding place_in
-declared_no_place text (in_register hart register) is = absurd is
-declared_no_place text (at_location name) (gap, rest, whole, gap_is, name_is, same) =
-    let free = declared_free 58 refl refl text (at_location name) (gap, rest, whole, gap_is, name_is, same) in
-    rw (before_none (is_byte 58) text free, after_none (is_byte 58) text free, whole) (rw (gap_no_name gap gap_is) refl)
+declared_no_place text place is = grind (arith, declared_free, before_none, after_none, gap_no_name)
 
 -- ---- items
 
@@ -118,15 +104,7 @@ undeclared left place (Some other) is at =
 
 pub item_read : (text : List ℕ) (equation : Equation) → IsItem text equation → item_at text ≡ Some equation
 unfolding item_at item_place_in
-item_read text equation (inl (left, right, is, place, value)) =
-    let free = place_free 61 refl refl refl refl refl left equation.0 place in
-    rw is (rw (before_stop (is_byte 61) left 61 right free refl, after_stop (is_byte 61) left 61 right free refl, undeclared left equation.0 (declared_in left) refl place, value_read right equation.1 value) refl)
-item_read text equation (inr (inl (left, right, is, declared, value))) =
-    let free = declared_free 61 refl refl left equation.0 declared in
-    rw is (rw (before_stop (is_byte 61) left 61 right free refl, after_stop (is_byte 61) left 61 right free refl, declared_read left equation.0 declared, value_read right equation.1 value) refl)
-item_read text equation (inr (inr (declared, zero_is))) =
-    let free = declared_free 61 refl refl text equation.0 declared in
-    rw (before_none (is_byte 61) text free, after_none (is_byte 61) text free, declared_read text equation.0 declared) (ap (λ (v : Value). Some (equation.0, v)) (sym zero_is))
+item_read text equation h2 = grind (arith, place_free, before_stop, after_stop, undeclared, value_read, declared_free, declared_read, before_none, after_none)
 
 -- ---- what the reader answers
 

@@ -1,5 +1,5 @@
 -- The numbers that are read are those that stand there, and no name is one.
-use Rattle.std.proofs.Common.{◌≡◌, ℕ, suc, ◌-◌, ◌%◌, ◌^◌, ◌≤◌, Bool, true, false, List, [], ◌∷◌, length, drop, Option, Some, None, refl, sym, subst, ◌∙◌, arith}
+use Rattle.std.proofs.Common.{◌≡◌, ℕ, suc, ◌-◌, ◌%◌, ◌^◌, ◌≤◌, Bool, true, false, List, [], ◌∷◌, length, Option, Some, None, refl, sym, subst, ◌∙◌, arith}
 use Rattle.std.specs.Prelude.{pos, neg_ℤ, nat_lt, option_map}
 use Rattle.std.proofs.lemmas.Bool.{and_right, ltb-true, lt-ltb, ne_eqb}
 use Rattle.texts.specs.Numbers.{IsMagnitude, is_negative, magnitude_of, integer_of}
@@ -48,16 +48,11 @@ negated_found digits w (Some n) is e =
 
 pub word_found : (text : List ℕ) (w : ℕ) → word_in text ≡ Some w → IsNumber text w
 unfolding word_in integer_of
-word_found text w e = go (is_negative text) refl
-  where
-    go : (t : Bool) → is_negative text ≡ t → IsNumber text w
-    go true x = subst (λ (s : List ℕ). IsNumber s w) (sym (negative_text text x)) (negated_found (drop 1 text) w (magnitude_of (drop 1 text)) refl (rw x at e))
-    go false x = plain_found text w (magnitude_of text) refl (rw x at e)
+word_found text w e = grind (arith, negative_text, negated_found, plain_found)
 
 pub number_word : (text : List ℕ) (w : ℕ) → IsNumber text w → word_in text ≡ Some w
 unfolding word_in integer_of
-number_word text w (plain digits n is small) = rw ((magnitude_plain digits n is).0, magnitude_only digits n is small) (rw (lt-ltb n (2 ^ 32) small) refl)
-number_word text w (negated digits n is le) = let some = lt-ltb 0 (suc (length digits)) (omega arith) in rw (some, magnitude_only digits n is (omega arith)) (below_zero n le)
+number_word text w h2 = grind (arith, magnitude_plain, magnitude_only, lt-ltb, below_zero)
 
 pub number_no_name : (text : List ℕ) (w : ℕ) → IsNumber text w → is_name text ≡ false
 number_no_name text w (plain digits n is small) = (magnitude_plain digits n is).1

@@ -1,5 +1,5 @@
 -- Settings: what is read is what the text says, and what it says is read.
-use Rattle.std.proofs.Common.{◌≡◌, ℕ, Bool, true, false, not, ◌==◌, List, [], ◌∷◌, ◌++◌, length, Option, Some, None, refl, sym, ap, subst, ◌∙◌, inl, inr}
+use Rattle.std.proofs.Common.{arith, ◌≡◌, ℕ, Bool, true, false, not, ◌==◌, List, [], ◌∷◌, ◌++◌, length, Option, Some, None, refl, sym, ap, subst, ◌∙◌, inl, inr}
 use Rattle.std.specs.Prelude.{IfSome}
 use Rattle.std.specs.List.{list_all}
 use Rattle.std.specs.Str.Parse.{digits_value}
@@ -41,8 +41,7 @@ value_found text v e = go (is_name (core text)) refl
 
 pub value_read : (text : List ℕ) (v : Value) → IsValue text v → value_in text ≡ Some v
 unfolding value_in
-value_read text (number n) is = rw (number_no_name (core text) n is, number_word (core text) n is) refl
-value_read text (address_of name) is = rw (is.1, is.0) refl
+value_read text v is = grind (arith, number_no_name, number_word)
 
 -- ---- places
 
@@ -77,12 +76,11 @@ location_found text (c ∷ rest) place is e = go (c == 91) refl
         subst (IsNamedPlace text) found.1 (found.0, inl is)
 
 register_found : (text front name : List ℕ) (place : NamedPlace) (hart : Option ℕ) (register : Option Reg) → text ≡ front ++ 58 ∷ name → number_of (core front) ≡ hart → register_named (core name) ≡ register → register_from hart register ≡ Some place → IsNamedPlace text place
-register_found text front name place None register whole says is e = absurd cc
-register_found text front name place (Some hart) None whole says is e = absurd cc
 register_found text front name place (Some hart) (Some register) whole says is e =
     let said = capped_value-said 10 (core front) hart says in
     let same : in_register hart register ≡ place = cc in
     subst (IsNamedPlace text) same (front, name, digits_value 10 (core front), whole, (said.0, refl), sym said.1, is)
+register_found text front name place x y whole says is e = absurd cc
 
 pub place_found : (text : List ℕ) (place : NamedPlace) → place_in text ≡ Some place → IsNamedPlace text place
 unfolding place_in
@@ -120,9 +118,7 @@ unfolding place_in
 place_read text (in_register hart register) (digits, name, n, is, says, shown, known) =
     let free = none_round_name 58 refl refl digits (core digits) refl (digit_bytes (core digits) says.0.1) in
     rw is (rw (before_stop (is_byte 58) digits 58 name free refl, after_stop (is_byte 58) digits 58 name free refl, says_number (core digits) n says, known, shown) refl)
-place_read text (at_location name) (is, inl same) =
-    let free = none_round_name 58 refl refl text name same (name_bytes name is) in
-    rw (before_none (is_byte 58) text free, after_none (is_byte 58) text free, same) (location_named name is)
+place_read text (at_location name) (is, inl same) = grind (arith, none_round_name, name_bytes, before_none, after_none, location_named)
 place_read text (at_location name) (is, inr (inner, whole, same)) =
     let free = none_round 58 refl text (rw whole (refl, none-append (is_byte 58) inner (93 ∷ []) (none_round_name 58 refl refl inner name same (name_bytes name is)) (refl, tt))) in
     rw (before_none (is_byte 58) text free, after_none (is_byte 58) text free, whole) (bracketed inner name is same)
@@ -133,11 +129,10 @@ pub equation_is : (a b : Equation) → Some a ≡ Some b → a ≡ b
 equation_is a b e = cc
 
 pub equation_from_found : (place : Option NamedPlace) (value : Option Value) (equation : Equation) → equation_from place value ≡ Some equation → (place ≡ Some equation.0) × (value ≡ Some equation.1)
-equation_from_found None value equation e = absurd cc
-equation_from_found (Some place) None equation e = absurd cc
 equation_from_found (Some place) (Some value) equation e =
     let same : (place, value) ≡ equation = equation_is (place, value) equation e in
     (ap (λ (p : Equation). Some p.0) same, ap (λ (p : Equation). Some p.1) same)
+equation_from_found x y equation e = absurd cc
 
 pub setting_found : (text : List ℕ) (equation : Equation) → setting_at text ≡ Some equation → IsSetting text equation
 unfolding setting_at
@@ -151,9 +146,7 @@ setting_found text equation e = go (after (is_byte 61) text) refl e
 
 pub setting_read : (text : List ℕ) (equation : Equation) → IsSetting text equation → setting_at text ≡ Some equation
 unfolding setting_at
-setting_read text equation (left, right, is, place, value) =
-    let free = place_free 61 refl refl refl refl refl left equation.0 place in
-    rw is (rw (before_stop (is_byte 61) left 61 right free refl, after_stop (is_byte 61) left 61 right free refl, place_read left equation.0 place, value_read right equation.1 value) refl)
+setting_read text equation h2 = grind (arith, place_free, before_stop, after_stop, place_read, value_read)
 
 -- ---- what the reader answers
 

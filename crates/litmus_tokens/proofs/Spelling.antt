@@ -1,7 +1,6 @@
 -- The tokens that are read are those that a text spells.
-use Rattle.std.proofs.Common.{◌≡◌, ℕ, ◌==◌, Bool, true, false, ◌&&◌, List, [], ◌∷◌, ◌++◌, drop, Option, Some, None, refl, sym, ap, subst, ◌∙◌}
-use Rattle.std.specs.Prelude.{nat_eq, codes}
-use Rattle.std.specs.List.{starts_with}
+use Rattle.std.proofs.Common.{arith, ◌≡◌, ℕ, ◌==◌, Bool, true, false, List, [], ◌∷◌, ◌++◌, Option, Some, None, refl, sym, ap, subst, ◌∙◌}
+use Rattle.std.specs.Prelude.{codes}
 use Rattle.std.proofs.lemmas.Bool.{and_parts, eqb-true}
 use Rattle.std.proofs.lemmas.Bool.Decides.{Decides-eqb}
 use Rattle.std.proofs.lemmas.Slice.Eq.{starts_is}
@@ -82,16 +81,12 @@ atom_read first others rest equation none ends no_name is =
 
 spelled_begun : (token : Token) (bytes rest : List ℕ) → Spells token bytes rest → beginning_of (bytes ++ rest) ≡ begins token rest
 unfolding beginning_of begun unmarked behind_not
-spelled_begun token bytes rest (opens more) = refl
-spelled_begun token bytes rest (closes more) = refl
-spelled_begun token bytes rest (tilde more) = refl
 spelled_begun token bytes rest (named_not more ends) = rw ends refl
-spelled_begun token bytes rest (both more) = refl
-spelled_begun token bytes rest (either more) = refl
 spelled_begun token bytes rest (says first others more equation solid none ends no_name is) =
     ap begun (at_solid first (others ++ more) solid)
     ∙ begun_plain first (others ++ more) (plain_is first none.0)
     ∙ atom_read first others more equation none ends no_name is
+spelled_begun token bytes rest x = refl
 
 beginning_behind : (gaps text : List ℕ) → AllPass is_gap gaps → beginning_of (gaps ++ text) ≡ beginning_of text
 unfolding beginning_of
@@ -140,16 +135,7 @@ one_found c d behind one token rest same spells e =
 
 not_front : (text rest : List ℕ) → behind_not text ≡ Some rest → (text ≡ codes "not" ++ rest) × (ends_name rest ≡ true)
 unfolding behind_not
-not_front text rest e = go (starts_with nat_eq text (codes "not") && ends_name (drop 3 text)) refl
-  where
-    go : (t : Bool) → (starts_with nat_eq text (codes "not") && ends_name (drop 3 text)) ≡ t → (text ≡ codes "not" ++ rest) × (ends_name rest ≡ true)
-    go true is =
-        let shown = rw is at e in
-        let same : drop 3 text ≡ rest = cc in
-        let parts = and_parts (starts_with nat_eq text (codes "not")) (ends_name (drop 3 text)) is in
-        let cut = (starts_is Decides-eqb text (codes "not") (starts_with nat_eq text (codes "not")) refl).0 parts.0 in
-        subst (λ (r : List ℕ). (text ≡ codes "not" ++ r) × (ends_name r ≡ true)) same (cut, parts.1)
-    go false isnt = (let never = rw isnt at e in absurd cc)
+not_front text rest e = grind (arith, and_parts, starts_is, Decides-eqb)
 
 atom_found : (c : ℕ) (behind : List ℕ) (token : Token) (rest : List ℕ) (equation : Option Equation) → is_gap c ≡ false → is_mark c ≡ false → behind_not (c ∷ behind) ≡ None → setting_at (c ∷ before is_mark behind) ≡ equation → atom_from equation (from_first is_mark behind) ≡ begins token rest → Spelled (c ∷ behind) token rest
 atom_found c behind token rest None solid plain no_name is e = absurd cc
@@ -216,16 +202,7 @@ unmarked_some text e = shown_some (behind_not text) (setting_at (before is_mark 
 
 begun_nothing : (solid : List ℕ) → begun solid ≡ nothing → solid ≡ []
 unfolding begun
-begun_nothing [] e = refl
-begun_nothing (c ∷ rest) e = absurd (go (c == 40) refl (c == 41) refl (c == 126) refl (c == 47) refl (c == 92) refl)
-  where
-    go : (a1 : Bool) → (c == 40) ≡ a1 → (a2 : Bool) → (c == 41) ≡ a2 → (a3 : Bool) → (c == 126) ≡ a3 → (a4 : Bool) → (c == 47) ≡ a4 → (a5 : Bool) → (c == 92) ≡ a5 → ⊥
-    go true e1 a2 e2 a3 e3 a4 e4 a5 e5 = (let never = rw e1 at e in absurd cc)
-    go false e1 true e2 a3 e3 a4 e4 a5 e5 = (let never = rw (e1, e2) at e in absurd cc)
-    go false e1 false e2 true e3 a4 e4 a5 e5 = (let never = rw (e1, e2, e3) at e in absurd cc)
-    go false e1 false e2 false e3 true e4 a5 e5 = paired_some conjunction 92 rest (rw (e1, e2, e3, e4) at e)
-    go false e1 false e2 false e3 false e4 true e5 = paired_some disjunction 47 rest (rw (e1, e2, e3, e4, e5) at e)
-    go false e1 false e2 false e3 false e4 false e5 = unmarked_some (c ∷ rest) (rw (e1, e2, e3, e4, e5) at e)
+begun_nothing solid e = grind (arith, paired_some, unmarked_some)
 
 pub are_tokens : (tokens : List Token) (text : List ℕ) → tokens_of text ≡ listed tokens → AreTokens text tokens
 unfolding beginning_of

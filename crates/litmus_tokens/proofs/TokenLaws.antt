@@ -1,14 +1,11 @@
 -- The tokens of a text are its first one and those of the rest.
-use Rattle.std.proofs.Common.{◌≡◌, ℕ, suc, zero, ◌<◌, ◌≤◌, ◌==◌, Bool, true, false, ◌&&◌, List, [], ◌∷◌, length, drop, Option, refl, ap, arith, length-drop}
-use Rattle.std.specs.Prelude.{nat_eq, codes}
-use Rattle.std.specs.List.{starts_with}
+use Rattle.std.proofs.Common.{◌≡◌, ℕ, suc, ◌<◌, ◌≤◌, false, List, ◌∷◌, length, Option, refl, ap, arith, length-drop}
 use Rattle.texts.specs.Cutting.{before, fails, from_first, without_leading}
 use Rattle.litmus_tokens.specs.Settings.{Equation}
 use Rattle.litmus_tokens.specs.Reading.{setting_at}
-use Rattle.litmus_tokens.specs.Tokens.{Token, Beginning, Tokens, is_mark, ends_name, behind_not, paired, atom_from, negation_or, unmarked, begun, beginning_of, tokens_from, tokens_within, tokens_of, LeavesLess}
+use Rattle.litmus_tokens.specs.Tokens.{Token, Beginning, Tokens, is_mark, behind_not, paired, atom_from, negation_or, unmarked, begun, beginning_of, tokens_from, tokens_within, tokens_of, LeavesLess}
 use Rattle.litmus_tokens.specs.Tokens.Beginning.{nothing, begins, no_token}
 use Rattle.litmus_tokens.specs.Tokens.Tokens.{goes_on}
-use Rattle.litmus_tokens.specs.Tokens.Token.{conjunction, disjunction}
 use Rattle.texts.proofs.CuttingLaws.{length-from_first}
 use Rattle.texts.specs.Pieces.{is_gap}
 
@@ -16,11 +13,7 @@ use Rattle.texts.specs.Pieces.{is_gap}
 
 not_or_less : (c : ℕ) (rest : List ℕ) (other : Beginning) → LeavesLess (c ∷ rest) other → LeavesLess (c ∷ rest) (negation_or (behind_not (c ∷ rest)) other)
 unfolding behind_not
-not_or_less c rest other less = go (starts_with nat_eq (c ∷ rest) (codes "not") && ends_name (drop 3 (c ∷ rest))) refl
-  where
-    go : (b : Bool) → (starts_with nat_eq (c ∷ rest) (codes "not") && ends_name (drop 3 (c ∷ rest))) ≡ b → LeavesLess (c ∷ rest) (negation_or (behind_not (c ∷ rest)) other)
-    go true is = rw is (omega (arith, length-drop 3 (c ∷ rest)))
-    go false isnt = rw isnt less
+not_or_less c rest other less = grind (arith, length-drop)
 
 atom_less : (c : ℕ) (rest : List ℕ) (equation : Option Equation) → is_mark c ≡ false → LeavesLess (c ∷ rest) (atom_from equation (from_first is_mark (c ∷ rest)))
 atom_less c rest equation other = grind (arith, length-from_first)
@@ -34,16 +27,7 @@ paired_less c rest token second = grind arith
 
 begun_less : (text : List ℕ) → LeavesLess text (begun text)
 unfolding begun
-begun_less [] = tt
-begun_less (c ∷ rest) = go (c == 40) refl (c == 41) refl (c == 126) refl (c == 47) refl (c == 92) refl
-  where
-    go : (a1 : Bool) → (c == 40) ≡ a1 → (a2 : Bool) → (c == 41) ≡ a2 → (a3 : Bool) → (c == 126) ≡ a3 → (a4 : Bool) → (c == 47) ≡ a4 → (a5 : Bool) → (c == 92) ≡ a5 → LeavesLess (c ∷ rest) (begun (c ∷ rest))
-    go true e1 a2 e2 a3 e3 a4 e4 a5 e5 = rw e1 (omega arith)
-    go false e1 true e2 a3 e3 a4 e4 a5 e5 = rw (e1, e2) (omega arith)
-    go false e1 false e2 true e3 a4 e4 a5 e5 = rw (e1, e2, e3) (omega arith)
-    go false e1 false e2 false e3 true e4 a5 e5 = rw (e1, e2, e3, e4) (paired_less c rest conjunction 92)
-    go false e1 false e2 false e3 false e4 true e5 = rw (e1, e2, e3, e4, e5) (paired_less c rest disjunction 47)
-    go false e1 false e2 false e3 false e4 false e5 = (let other : is_mark c ≡ false = rw (e1, e2, e3, e4, e5) refl in rw (e1, e2, e3, e4, e5) (unmarked_less c rest other))
+begun_less text = grind (arith, paired_less, unmarked_less)
 
 less_more : (short long : List ℕ) (b : Beginning) → length short ≤ length long → LeavesLess short b → LeavesLess long b
 less_more short long b le less = grind arith
@@ -56,20 +40,14 @@ leaves_less text = less_more (without_leading is_gap text) text (begun (without_
 
 same_tokens : (n : ℕ) (text : List ℕ) (m : ℕ) → length text < n → length text < m → tokens_within n text ≡ tokens_within m text
 unfolding tokens_within
-same_tokens zero text m lt lt' = absurd (omega arith)
-same_tokens (suc n) text zero lt lt' = absurd (omega arith)
 same_tokens (suc n) text (suc m) lt lt' = go (same_tokens n) (beginning_of text) (leaves_less text)
   where
     go : ((rest : List ℕ) (m : ℕ) → length rest < n → length rest < m → tokens_within n rest ≡ tokens_within m rest) → (b : Beginning) → LeavesLess text b → tokens_from (tokens_within n) b ≡ tokens_from (tokens_within m) b
     go same nothing less = refl
     go same (begins token rest) less = ap (λ (others : Tokens). goes_on token others) (same rest m (omega arith) (omega arith))
     go same no_token less = refl
+same_tokens x text y lt lt' = absurd (omega arith)
 
 pub tokens_cut : (text : List ℕ) → tokens_of text ≡ tokens_from tokens_of (beginning_of text)
 unfolding tokens_of tokens_within
-tokens_cut text = go (beginning_of text) (leaves_less text)
-  where
-    go : (b : Beginning) → LeavesLess text b → tokens_from (tokens_within (length text)) b ≡ tokens_from tokens_of b
-    go nothing less = refl
-    go (begins token rest) less = ap (λ (others : Tokens). goes_on token others) (same_tokens (length text) rest (suc (length rest)) less (omega arith))
-    go no_token less = refl
+tokens_cut text = grind (arith, leaves_less, same_tokens)
