@@ -1,12 +1,13 @@
 -- An engine's end as the job's.
-use Rattle.std.proofs.Common.{◌≡◌, ℕ, List, refl}
+use Rattle.std.proofs.Common.{◌≡◌, ℕ, List, refl, subst}
 use Rattle.std.specs.Prelude.{Option, Result, Ok, Err}
 use Rattle.engine_parts.specs.declared.fault.Fault.{Fault}
 use Rattle.engine_parts.specs.declared.fault.Fault.TheVariants.{ReadFailed, WriteFailed, NoMemory, Refused}
 use Rattle.engine_parts.specs.declared.fault.Refusal.{Refusal}
 use Rattle.engine_parts.specs.Engines.{Ends}
-use Rattle.debugger.specs.Transcripts.{EndsInteractive}
-use Rattle.ztso.specs.Work.{WithStatus, ended_with}
+use Rattle.debugger.specs.Transcripts.{EndsInteractive, OnRefused, OnStopped}
+use Rattle.ztso.specs.declared.job.MachineCommand.TheVariants.{Debug}
+use Rattle.ztso.specs.Work.{LeavesCommandsOf, WithStatus, done_status, ended_with}
 
 answered : {V W : Type 0} (status : V → ℕ) (IsAnswer : Result (List ℕ × V) Refusal → Type 0) (r : Result V Fault) (contents : W → Option (List ℕ)) (old new : W)
     → Ends IsAnswer r contents old new → Ends (WithStatus status IsAnswer) (ended_with status r) contents old new
@@ -31,3 +32,23 @@ interactive_with_status status IsAnswer (Err WriteFailed) contents old new h = h
 pub ends_interactive : {V W : Type 0} (status : V → ℕ) (IsAnswer : Result (List ℕ × V) Refusal → Type 0) (r : Result V Fault) (contents : W → Option (List ℕ)) (old new : W)
     → EndsInteractive IsAnswer r contents old new → (s : Result ℕ Fault) → s ≡ ended_with status r → EndsInteractive (WithStatus status IsAnswer) s contents old new
 ends_interactive status IsAnswer r contents old new h s is = rw is (interactive_with_status status IsAnswer r contents old new h)
+
+stopped : {V : Type 0} (status : V → ℕ) (P : Type 0) (r : Result V Fault) → OnStopped r P → OnStopped (ended_with status r) P
+stopped status P (Ok v) h = h
+stopped status P (Err (Refused refusal)) h = h
+stopped status P (Err ReadFailed) h = h
+stopped status P (Err NoMemory) h = h
+stopped status P (Err WriteFailed) h = h
+
+pub stopped_with_status : {V : Type 0} (status : V → ℕ) (P : Type 0) (r : Result V Fault) → OnStopped r P → (s : Result ℕ Fault) → s ≡ ended_with status r → OnStopped s P
+stopped_with_status status P r h s is = rw is (stopped status P r h)
+
+refused : (P : Type 0) (r : Result (Unit {0}) Fault) → OnRefused r P → LeavesCommandsOf Debug (ended_with done_status r) → P
+refused P (Err (Refused refusal)) h leaves = h
+refused P (Ok v) h leaves = absurd leaves
+refused P (Err ReadFailed) h leaves = absurd leaves
+refused P (Err NoMemory) h leaves = absurd leaves
+refused P (Err WriteFailed) h leaves = absurd leaves
+
+pub refused_with_status : (P : Type 0) (r : Result (Unit {0}) Fault) → OnRefused r P → (s : Result ℕ Fault) → s ≡ ended_with done_status r → LeavesCommandsOf Debug s → P
+refused_with_status P r h s is leaves = refused P r h (subst (LeavesCommandsOf Debug) is leaves)

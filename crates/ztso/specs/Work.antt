@@ -1,5 +1,6 @@
 -- How a job ends.
-use Rattle.std.specs.Prelude.{ℕ, ◌≡◌, ◌*◌, Bool, true, false, List, [], Option, Result, Ok, Err}
+use Rattle.std.specs.Prelude.{ℕ, ◌≡◌, ◌*◌, ◌⊎◌, Bool, true, false, List, [], Option, Result, Ok, Err}
+use Rattle.std.specs.Io.KnownBytes.{Appends}
 use Rattle.rand_core.specs.Stream.{Stream}
 use Rattle.rand_core.specs.Steps.{stream_of, steps_u32}
 use Rattle.rand_core.specs.Pcg32Seed.{pcg32_seed}
@@ -8,6 +9,7 @@ use Rattle.recorder.specs.Drawing.{left_after}
 use Rattle.litmus.specs.declared.verdict.Verdict.{Verdict}
 use Rattle.litmus.specs.declared.verdict.Verdict.TheVariants.{Holds}
 use Rattle.engine_parts.specs.declared.fault.Fault.{Fault}
+use Rattle.engine_parts.specs.declared.fault.Fault.TheVariants.{Refused}
 use Rattle.engine_parts.specs.declared.fault.Refusal.{Refusal}
 use Rattle.engine_parts.specs.Engines.{AnswersBoth, Ends, OfInput}
 use Rattle.ztso_engines.specs.Asm.{IsAsmAnswer}
@@ -19,7 +21,7 @@ use Rattle.ztso_engines.specs.Move.{IsMoveAnswer}
 use Rattle.views.specs.Chart.{IsChartAnswer, drawing}
 use Rattle.views.specs.Shrink.{IsShrinkAnswer}
 use Rattle.ztso_engines.specs.Replay.{IsReplayAnswer}
-use Rattle.debugger.specs.Transcripts.{EndsInteractive, IsDebugAnswer}
+use Rattle.debugger.specs.Transcripts.{EndsInteractive, IsDebugAnswer, IsDebugFront, OnStopped}
 use Rattle.tries.specs.Outcomes.{IsTryAnswer}
 use Rattle.engine_parts.specs.Schedules.{HasNoSchedule}
 use Rattle.poll_close.specs.Places.{layout_of}
@@ -109,20 +111,19 @@ IsAnswerOf B (Try seed runs) given =
     WithStatusBy tried_status (IsTryAnswer B WORDS (left_after (runs.skip * runs.length) (drawn_from seed)) runs.number runs.length) given
 IsAnswerOf B (Channel ring place finish) given = WithStatusByBoth done_status (IsChannelAnswer (tables_of ring) B WORDS (layout_of place []) finish) given
 
--- the debugger's commands alone are read
-abbrev pub reads_commands : MachineCommand → Bool
-reads_commands Debug = true
-reads_commands other = false
+-- Where a read failed or memory ran out, the debugger wrote what the first of the user's commands print, or
+-- nothing.
+abbrev pub LeavesFront : {V W : Type 0} → (B : ℕ) → Given → Result V Fault → (contents : W → Option (List ℕ)) → (old new : W) → Type 0
+LeavesFront B given result contents old new = OnStopped result ((out : List ℕ) × Appends (contents old) (contents new) out
+    × ((out ≡ []) ⊎ AnswersBoth (IsDebugFront B WORDS given.commands) given.first given.second (Ok (out, tt))))
 
 -- What was written and the exit status answer the inputs, or the refusal does and nothing was written.
 -- Where a read failed or memory ran out nothing was written; where a write failed nothing is said of it.
--- An interactive command writes as it reads, so there nothing is said of what was written in these three cases.
-abbrev pub EndsAs : {W : Type 0} → (is_interactive : Bool) → (Answer → Type 0) → Result ℕ Fault → (contents : W → Option (List ℕ)) → (old new : W) → Type 0
-EndsAs false IsAnswer result contents old new = Ends IsAnswer result contents old new
-EndsAs true IsAnswer result contents old new = EndsInteractive IsAnswer result contents old new
-
+-- The debugger alone writes as it reads.
 abbrev pub DoesMachine : {W : Type 0} → (B : ℕ) → MachineCommand → Result ℕ Fault → Given → (contents : W → Option (List ℕ)) → (old new : W) → Type 0
-DoesMachine B command result given contents old new = EndsAs (reads_commands command) (IsAnswerOf B command given) result contents old new
+DoesMachine B Debug result given contents old new =
+    EndsInteractive (IsAnswerOf B Debug given) result contents old new × LeavesFront B given result contents old new
+DoesMachine B command result given contents old new = Ends (IsAnswerOf B command given) result contents old new
 
 abbrev pub DoesPlain : {W : Type 0} → PlainCommand → Result ℕ Fault → Given → (contents : W → Option (List ℕ)) → (old new : W) → Type 0
 DoesPlain Asm result given contents old new = Ends (WithStatusBy done_status IsAsmAnswer given) result contents old new
@@ -149,9 +150,12 @@ LeavesSecond Asm first = Unit {0}
 LeavesSecond Dis first = Unit {0}
 LeavesSecond (Machine command capacity) first = LeavesSecondOf command first
 
--- ---- what a user's commands are left
+-- An end with which a user's commands are left unread: any, except the debugger's; of those a refusal.
+abbrev pub LeavesCommandsOf : MachineCommand → Result ℕ Fault → Type 0
+LeavesCommandsOf Debug (Err (Refused refusal)) = Unit {0}
+LeavesCommandsOf Debug other = ⊥
+LeavesCommandsOf command result = Unit {0}
 
-abbrev pub LeavesCommands : PlainCommand → Type 0
-LeavesCommands Asm = Unit {0}
-LeavesCommands Dis = Unit {0}
-LeavesCommands (Machine command capacity) = reads_commands command ≡ false
+abbrev pub LeavesCommands : PlainCommand → Result ℕ Fault → Type 0
+LeavesCommands (Machine command capacity) result = LeavesCommandsOf command result
+LeavesCommands other result = Unit {0}

@@ -39,6 +39,10 @@ impl<'a, R: Files + StandardInput> LazyInput<'a, R> {
 }
 
 impl<'a, R: Files + StandardInput> Read for LazyInput<'a, R> {
+    ghost use Rattle.ztso.specs.Inputs.{left_in};
+
+    ghost remaining = { λ r. left_in R.Reader.remaining R.File.remaining r.opened };
+
     fn read(&mut self, buf: &mut [u8]) -> io::Result<usize> {
         if self.opened.is_none() {
             let input = self.input.ok_or(ErrorKind::NotFound)?;

@@ -1,6 +1,6 @@
 //! A user's commands.
 
-ghost use Rattle.std.specs.Prelude.{◌≡◌, None, true};
+ghost use Rattle.std.specs.Prelude.{◌≡◌, None, option_and_then, true};
 
 use std::io;
 use std::io::{Input, IsTerminal, Read};
@@ -37,6 +37,8 @@ impl<'a, R: Input + Eprint> Read for PromptReader<'a, R>
 where
     R::Reader: IsTerminal,
 {
+    ghost remaining = { λ r. option_and_then R.Reader.remaining r.reader };
+
     fn read(&mut self, buf: &mut [u8]) -> io::Result<usize> {
         if self.reader.is_none() {
             let reader = self.rt.reader();

@@ -1,14 +1,14 @@
 //! Which engine does a job.
 
-ghost use Rattle.std.specs.Prelude.{◌≡◌, ◌≤◌, ◌*◌, [], false, IfOk};
+ghost use Rattle.std.specs.Prelude.{◌≡◌, ◌≤◌, ◌*◌, [], IfOk};
 ghost use Rattle.ztso.specs.declared.work.TheConstants.{WORDS};
-ghost use Rattle.ztso.specs.Work.{LeavesCommands, reads_commands, DoesPlain, DoesThreads, DoesMachine, LeavesSecond, LeavesSecondOf, WithStatus, done_status, drawn_from, ended_with, tables_of, tried_status, verdict_status};
+ghost use Rattle.ztso.specs.Work.{DoesPlain, DoesThreads, DoesMachine, LeavesCommands, LeavesCommandsOf, LeavesFront, LeavesSecond, LeavesSecondOf, WithStatus, done_status, drawn_from, ended_with, tables_of, tried_status, verdict_status};
 ghost use Rattle.recorder.specs.Drawing.{left_after};
 ghost use Rattle.poll_close.specs.Places.{layout_of};
 ghost use Rattle.ztso_engines.specs.Channels.{IsChannelAnswer};
 ghost use Rattle.engine_parts.specs.Engines.{AnswersBoth, Ends, EndsBy, EndsByBoth, OfInput};
 ghost use Rattle.engine_parts.specs.Schedules.{HasNoSchedule};
-ghost use Rattle.debugger.specs.Transcripts.{EndsInteractive, IsDebugAnswer};
+ghost use Rattle.debugger.specs.Transcripts.{EndsInteractive, IsDebugAnswer, OnRefused};
 ghost use Rattle.engine_parts.specs.Tests.{HasNoTest};
 ghost use Rattle.tries.specs.Outcomes.{IsTryAnswer};
 ghost use Rattle.ztso_engines.specs.Threads.{IsThreadsAnswer};
@@ -83,11 +83,15 @@ fn debug<const B: usize, F: Read, S: Read, C: Read, W: Write>(
     requires capacity { B ≤ 64 }
     ensures ends { EndsInteractive (AnswersBoth (IsDebugAnswer B WORDS (C.remaining commands.old)) (F.remaining file.old) (S.remaining schedule.old)) result W.contents writer.old writer.new }
     ensures unread { HasNoTest (F.remaining file.old) → schedule.new ≡ schedule.old }
+    ensures unasked { OnRefused result (commands.new ≡ commands.old) }
+    ensures left { LeavesFront B (record { first = F.remaining file.old; second = S.remaining schedule.old; commands = C.remaining commands.old }) result W.contents writer.old writer.new }
 {
     let Ok(mut commands) = BufReader::new(alloc, commands) else {
         return Err(Fault::NoMemory);
     };
-    debug_engine::<B, WORDS, _, _, _, _>(alloc, file, schedule, &mut commands, writer)
+    let ended = debug_engine::<B, WORDS, _, _, _, _>(alloc, file, schedule, &mut commands, writer);
+    commands.into_inner();
+    ended
 }
 
 /// Runs a test by schedules that are drawn from a generator of this seed.
@@ -149,7 +153,7 @@ fn do_machine<const B: usize, F: Read, S: Read, C: Read, W: Write, T: Threads + 
     requires capacity { B ≤ 64 }
     ensures does { DoesMachine B command result (record { first = F.remaining first.old; second = S.remaining second.old; commands = C.remaining commands.old }) W.contents writer.old writer.new }
     ensures unread { LeavesSecondOf command (F.remaining first.old) → second.new ≡ second.old }
-    ensures unasked { reads_commands command ≡ false → commands.new ≡ commands.old }
+    ensures unasked { LeavesCommandsOf command result → commands.new ≡ commands.old }
     ensures status { IfOk result (λ status. status ≤ 1) }
 {
     match command {
@@ -203,7 +207,7 @@ pub fn do_plain<F: Read, S: Read, C: Read, W: Write, T: Threads + Sync, P: Progr
 ) -> Result<u8, Fault>
     ensures does { DoesPlain command result (record { first = F.remaining first.old; second = S.remaining second.old; commands = C.remaining commands.old }) W.contents writer.old writer.new }
     ensures unread { LeavesSecond command (F.remaining first.old) → second.new ≡ second.old }
-    ensures unasked { LeavesCommands command → commands.new ≡ commands.old }
+    ensures unasked { LeavesCommands command result → commands.new ≡ commands.old }
     ensures status { IfOk result (λ status. status ≤ 1) }
 {
     match command {

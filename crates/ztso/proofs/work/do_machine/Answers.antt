@@ -13,7 +13,7 @@ use Rattle.ztso_engines.specs.Replay.{IsReplayAnswer}
 use Rattle.ztso_engines.specs.Run.{IsRunAnswer}
 use Rattle.ztso_engines.specs.Steps.{IsStepsAnswer}
 use Rattle.ztso.specs.Work.{done_status, drawn_from, tables_of, tried_status, verdict_status}
-use Rattle.ztso.proofs.Endings.{ends_interactive, ends_with_status}
+use Rattle.ztso.proofs.Endings.{ends_interactive, ends_with_status, refused_with_status, stopped_with_status}
 use Rattle.ztso.proofs.work.do_machine.Goals as goal
 
 pub returns-in-Steps-clause-does : goal.returns-in-Steps-clause-does
@@ -58,11 +58,18 @@ returns-in-Chart-clause-does g c = rw c.in-Chart.is
     c.after-in-Chart.result c.after-in-Chart.ensures.ended)
 
 pub returns-in-Debug-clause-does : goal.returns-in-Debug-clause-does
-returns-in-Debug-clause-does g c = rw c.in-Debug.is
-    (ends_interactive done_status (AnswersBoth (IsDebugAnswer g.row.B 4096 (g.C.Read.remaining c.args.commands.now))
-    (g.F.Read.remaining c.args.first.now) (g.S.Read.remaining c.args.second.now))
-    c.debug.result g.W.Write.contents c.args.writer.now c.debug.new.writer c.debug.ensures.ends
-    c.after-in-Debug.result c.after-in-Debug.ensures.ended)
+returns-in-Debug-clause-does g c = rw c.in-Debug.is (
+  (ends_interactive done_status (AnswersBoth (IsDebugAnswer g.row.B 4096 (g.C.Read.remaining c.args.commands.now))
+      (g.F.Read.remaining c.args.first.now) (g.S.Read.remaining c.args.second.now))
+      c.debug.result g.W.Write.contents c.args.writer.now c.debug.new.writer c.debug.ensures.ends
+      c.after-in-Debug.result c.after-in-Debug.ensures.ended),
+  stopped_with_status done_status _ c.debug.result c.debug.ensures.left
+      c.after-in-Debug.result c.after-in-Debug.ensures.ended,
+)
+
+pub returns-in-Debug-clause-unasked : goal.returns-in-Debug-clause-unasked
+returns-in-Debug-clause-unasked g c = rw c.in-Debug.is
+    (refused_with_status _ c.debug.result c.debug.ensures.unasked c.after-in-Debug.result c.after-in-Debug.ensures.ended)
 
 pub returns-in-Try-clause-does : goal.returns-in-Try-clause-does
 returns-in-Try-clause-does g c = rw c.in-Try.is
