@@ -19,9 +19,9 @@ use Rattle.debugger.specs.DebuggerStates.{DebuggerState, at_start}
 use Rattle.debugger.specs.Commands.{command_in}
 use Rattle.engine_parts.specs.declared.fault.Fault.{Fault}
 use Rattle.engine_parts.specs.declared.fault.Fault.TheVariants.{ReadFailed, WriteFailed, NoMemory, Refused}
-use Rattle.debugger.specs.Transcripts.{AnswersLine, EndsInteractive, IsDebugAnswer, IsDebugFront, IsTranscript, OnRefused, OnStopped, Prints, PrintsFront, Transcript, quits}
+use Rattle.debugger.specs.Transcripts.{AnswersLine, EndsInteractive, IsDebugAnswer, IsDebugFront, IsDebugSome, IsTranscript, OnRefused, OnStopped, OnUnwritten, Prints, PrintsFront, PrintsSome, Transcript, quits}
 use Rattle.engine_parts.specs.inner.Making.{Finds, IsEndOf, text_and_value}
-use Rattle.debugger.specs.inner.Failures.{IsFailure, IsAtStart}
+use Rattle.debugger.specs.inner.Failures.{IsFailure, IsReadFailure, IsAtStart}
 use Rattle.engine_parts.specs.Engines.{AnswersBoth, Output}
 use Rattle.engine_parts.specs.Histories.{AnswersEvents, ByEvents}
 use Rattle.engine_parts.specs.Histories.BySchedule.{both}
@@ -173,6 +173,19 @@ module _ {B M : ℕ} {input left old new : Option (List ℕ)} {start now : Debug
         at None is = ([], tt)
         at (Some bytes) is = (lines (drop_through 10 bytes), first_line_of bytes line none (ap lines (sym is) ∙ says))
 
+    -- it is answered, whether the writer takes what it prints or not
+    pub talked_some : (then : DebuggerState) (others : List (ℕ × ℕ)) (text : List ℕ) → quits (command_in (tokens line)) ≡ false → AnswersLine B M line now then points others text
+        → (out : List ℕ) × PrintsSome B M input start [] out
+    talked_some then others text goes answers =
+        (t.so_far ++ (text ++ []), at input left t.are_done is (t.leads (line ∷ []) (text ++ []) (on_false (quits (command_in (tokens line))) _ _ goes (text, then, others, [], answers, refl, refl))))
+      where
+        at : (input left : Option (List ℕ)) → AreDone input left t.done → IfSome left (λ bytes. read ≡ take_through 10 bytes)
+            → Transcript B M (t.done ++ line ∷ []) start [] (t.so_far ++ (text ++ [])) → PrintsSome B M input start [] (t.so_far ++ (text ++ []))
+        at None left done is talks = (t.done, line, talks)
+        at (Some bytes) None done is talks = absurd done
+        at (Some bytes) (Some rest) done is talks =
+            (t.done, line, lines (drop_through 10 rest), done ∙ ap (λ (ls : List (List ℕ)). t.done ++ ls) (first_line_of rest line none (ap lines (sym is) ∙ says)), talks)
+
     -- it is answered, and the writer has got what it prints
     pub talked_on : (next newer : Option (List ℕ)) (then : DebuggerState) (others : List (ℕ × ℕ)) (text : List ℕ) → DropsThrough left next 10
         → quits (command_in (tokens line)) ≡ false → AnswersLine B M line now then points others text → Appends new newer text
@@ -198,6 +211,16 @@ pub stopped : {V : Type 0} (result : Result V Fault) (P : Type 0) → P → OnSt
 stopped (Err ReadFailed) P p = p
 stopped (Err NoMemory) P p = p
 stopped other P p = tt
+
+pub unwritten : {V : Type 0} (result : Result V Fault) (P : Type 0) → P → OnUnwritten result P
+unwritten (Err WriteFailed) P p = p
+unwritten other P p = tt
+
+-- what only reads fails by no refusal and no write
+pub read_fails : (result : Result (Unit {0}) Fault) (fault : Fault) (P : Type 0) → result ≡ Err fault → IsReadFailure fault → IfErr result IsFailure × OnUnwritten result P
+read_fails result ReadFailed P is failed = rw is (tt, tt)
+read_fails result NoMemory P is failed = rw is (tt, tt)
+read_fails result other P is failed = absurd failed
 
 -- a write that failed is no stop
 pub write_stops : {W : Type 0} (made : String Global × Unit {0}) (result : Result (Unit {0}) Fault) (fault : Fault) (contents : W → Option (List ℕ)) (old new : W) (P : Type 0) → result ≡ Err fault → IsEndOf text_and_value (Ok made) (Err fault) contents old new → OnStopped result P
@@ -264,6 +287,21 @@ module _ (B M : ℕ) (first second input : Option (List ℕ)) {W : Type 0} (cont
         refl,
       )
   not_begun view result other old is finds = rw is tt
+
+  pub not_unwritten : {X : Type 0} (view : X → DebuggerState) (result : Result (Unit {0}) Fault) (fault : Fault) (P : Type 0) → result ≡ Err fault
+      → Finds (AnswersBoth (ByEvents IsAtStart) first second) view (Err fault) → OnUnwritten result P
+  not_unwritten view result WriteFailed P is finds = absurd finds
+  not_unwritten view result other P is finds = rw is tt
+
+  -- where a write failed, the first lines print what was to be written
+  pub unwritten_begun : (result : Result (Unit {0}) Fault) (debugger : DebuggerState) → Opens debugger → OnUnwritten result ((out : List ℕ) × PrintsSome B M input debugger [] out)
+      → OnUnwritten result ((out : List ℕ) × AnswersBoth (IsDebugSome B M input) first second (Ok (out, tt)))
+  unwritten_begun (Err WriteFailed) debugger opens (out, prints) = (
+    out,
+    opened (λ test events answer. PrintsSome B M input (at_start test.opening events) [] answer.0) debugger (out, tt)
+        (λ test events set. subst (λ (w : DebuggerState). PrintsSome B M input w [] out) set prints) opens,
+  )
+  unwritten_begun other debugger opens prints = tt
 
   -- what was written where it stops: nothing, or what the first lines print
   abbrev Left : (old new : W) → Type 0

@@ -7,7 +7,7 @@ use Rattle.litmus.specs.LitmusTests.{LitmusTest}
 use Rattle.debugger.specs.declared.debug.command.Command.{Command}
 use Rattle.debugger.specs.declared.debug.command.Command.TheVariants as command
 use Rattle.engine_parts.specs.declared.fault.Fault.{Fault}
-use Rattle.engine_parts.specs.declared.fault.Fault.TheVariants.{ReadFailed, NoMemory, Refused}
+use Rattle.engine_parts.specs.declared.fault.Fault.TheVariants.{ReadFailed, WriteFailed, NoMemory, Refused}
 use Rattle.engine_parts.specs.declared.fault.Refusal.{Refusal}
 use Rattle.texts.specs.Cutting.{tokens}
 use Rattle.engine_parts.specs.Histories.{ByEvents}
@@ -42,11 +42,21 @@ abbrev pub PrintsFront : (B M : ℕ) → (input : Option (List ℕ)) → Debugge
 PrintsFront B M None debugger points out = (done : List (List ℕ)) × Transcript B M done debugger points out
 PrintsFront B M (Some bytes) debugger points out = (done : List (List ℕ)) × (rest : List (List ℕ)) × (lines bytes ≡ done ++ rest) × Transcript B M done debugger points out
 
+-- the same of one line at least
+abbrev pub PrintsSome : (B M : ℕ) → (input : Option (List ℕ)) → DebuggerState → (points : List (ℕ × ℕ)) → (out : List ℕ) → Type 0
+PrintsSome B M None debugger points out = (done : List (List ℕ)) × (line : List ℕ) × Transcript B M (done ++ line ∷ []) debugger points out
+PrintsSome B M (Some bytes) debugger points out = (done : List (List ℕ)) × (line : List ℕ) × (rest : List (List ℕ)) × (lines bytes ≡ done ++ line ∷ rest) × Transcript B M (done ++ line ∷ []) debugger points out
+
 -- this holds where a read failed or memory ran out
 abbrev pub OnStopped : {V : Type 0} → Result V Fault → Type 0 → Type 0
 OnStopped (Err ReadFailed) P = P
 OnStopped (Err NoMemory) P = P
 OnStopped other P = Unit {0}
+
+-- this holds where a write failed
+abbrev pub OnUnwritten : {V : Type 0} → Result V Fault → Type 0 → Type 0
+OnUnwritten (Err WriteFailed) P = P
+OnUnwritten other P = Unit {0}
 
 -- what the user's lines print at a test's opening; there is no other value
 abbrev pub IsTranscript : (B M : ℕ) → (input : Option (List ℕ)) → LitmusTest → List Event → (answer : Output) → Type 0
@@ -60,6 +70,10 @@ IsDebugAnswer B M input = ByEvents (IsTranscript B M input)
 -- What the first of the user's lines print, for a test and a schedule that are read.
 abbrev pub IsDebugFront : (B M : ℕ) → (input : Option (List ℕ)) → (file schedule : List ℕ) → Result Output Refusal → Type 0
 IsDebugFront B M input = ByEvents (λ test events answer. PrintsFront B M input (at_start test.opening events) [] answer.0)
+
+-- and what the first of them print, one line at least
+abbrev pub IsDebugSome : (B M : ℕ) → (input : Option (List ℕ)) → (file schedule : List ℕ) → Result Output Refusal → Type 0
+IsDebugSome B M input = ByEvents (λ test events answer. PrintsSome B M input (at_start test.opening events) [] answer.0)
 
 -- How an engine ends that writes as it reads: it wrote an output that is an answer together with what it
 -- returned, or a refusal is the answer and nothing was written. Where a read or a write failed or memory

@@ -5,7 +5,7 @@ ghost use Rattle.std.specs.Io.KnownBytes.{Appends};
 ghost use Rattle.engine_parts.specs.Engines.{AnswersBoth};
 ghost use Rattle.engine_parts.specs.Tests.{HasNoTest};
 ghost use Rattle.engine_parts.specs.Histories.{ByEvents};
-ghost use Rattle.debugger.specs.Transcripts.{EndsInteractive, IsDebugAnswer, IsDebugFront, OnRefused, OnStopped};
+ghost use Rattle.debugger.specs.Transcripts.{EndsInteractive, IsDebugAnswer, IsDebugFront, IsDebugSome, OnRefused, OnStopped, OnUnwritten};
 ghost use Rattle.engine_parts.specs.inner.Making.{Finds};
 ghost use Rattle.debugger.specs.inner.Failures.{IsAtStart};
 ghost use Rattle.litmus.specs.declared.litmus_test.TheConstants.{MAX_LOCATIONS};
@@ -76,6 +76,10 @@ pub fn debug_engine<const B: usize, const M: usize, F: Read, S: Read, C: BufRead
     // where a read failed or memory ran out, what the first lines print was written, or nothing
     ensures left { OnStopped result ((out : List ℕ) × Appends (W.contents writer.old) (W.contents writer.new) out
         × ((out ≡ []) ⊎ AnswersBoth (IsDebugFront B M (C.remaining commands.old)) (F.remaining file.old) (S.remaining schedule.old) (Ok (out, tt)))) }
+
+    // where a write failed, both texts were accepted, and a line was answered
+    ensures unwritten { OnUnwritten result ((out : List ℕ)
+        × AnswersBoth (IsDebugSome B M (C.remaining commands.old)) (F.remaining file.old) (S.remaining schedule.old) (Ok (out, tt))) }
 {
     let debugger = open_debugger::<B, M, F, S>(alloc, file, schedule)?;
     converse(alloc, debugger, commands, writer)

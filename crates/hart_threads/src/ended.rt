@@ -1,5 +1,7 @@
 //! Which harts' threads have ended. A lander's pace depends on it, and no contract.
 
+ghost use Rattle.std.specs.Prelude.{◌≡◌, IfOk, vec_len};
+
 use std::alloc::{AllocError, Global};
 use std::sync::atomic::{AtomicBool, Ordering};
 
@@ -11,7 +13,9 @@ pub(crate) struct Ended {
 
 impl Ended {
     /// Of this many harts, none.
-    pub(crate) fn none(alloc: Global, harts: usize) -> Result<Ended, AllocError> {
+    pub(crate) fn none(alloc: Global, harts: usize) -> Result<Ended, AllocError>
+        ensures { IfOk result (λ ended. vec_len ended.threads ≡ harts) }
+    {
         let mut threads = Vec::new(alloc);
         threads.resize_with(harts, || AtomicBool::new(false))?;
         Ok(Ended { threads })

@@ -1,6 +1,6 @@
 //! One thread for each seat.
 
-ghost use Rattle.std.specs.Prelude.{◌≡◌, ◌≤◌, ◌<◌, ℕ, [], true, length, map, All, MatchBool, Err, IfOk, IfErr, vec_len, vec_capacity};
+ghost use Rattle.std.specs.Prelude.{◌≡◌, ◌≤◌, ◌<◌, ℕ, [], true, false, length, map, All, MatchBool, Err, IfOk, IfErr, vec_len, vec_capacity};
 ghost use Rattle.std.specs.List.{AllZip, HoldsAt};
 ghost use Rattle.hart_threads.specs.Missing.{is_missing, IsFirst};
 ghost use Rattle.hart_threads.specs.Records.{IsRecord};
@@ -52,6 +52,7 @@ fn start_all<'s, E, G: Gate + Sync, R: Wait + Sync, const B: usize, const M: usi
     requires room { vec_len seats ≤ vec_capacity handles }
     requires empty { handles.items ≡ [] }
     ensures few { vec_len result.0 ≤ vec_len seats.entry }
+    ensures refused { result.1 ≡ false → vec_len result.0 < vec_len seats.entry }
     ensures same { result.1 ≡ true → map (λ h. h.promise.given.value.seat) result.0.items ≡ map (λ h. h.seat) seats.entry.items }
     ensures asked { All (λ h. (h.promise.gate.value ≡ gate.now) × (h.promise.turns ≡ turns)) result.0.items }
 {
@@ -104,6 +105,7 @@ fn run_all<G: Gate + Sync, R: Threads + Wait + Sync, const B: usize, const M: us
     requires room { vec_len held ≤ vec_capacity handles }
     requires space { vec_len held ≤ vec_capacity back }
     ensures few { vec_len result.0 ≤ vec_len held.entry }
+    ensures refused { result.1 ≡ false → vec_len result.0 < vec_len held.entry }
     ensures ran { result.1 ≡ true → AllZip (λ s r. Ran (G.is_open gate.now) turns s r.1 r.2 r.0.seat) (map (λ h. h.seat) held.entry.items) result.0.items }
 {
     thread::scope(
@@ -112,6 +114,7 @@ fn run_all<G: Gate + Sync, R: Threads + Wait + Sync, const B: usize, const M: us
         |scope| -> (Vec<Returned<M>>, bool)
             requires { (handles.items ≡ []) × (back.items ≡ []) × (vec_len held ≤ vec_capacity handles) × (vec_len held ≤ vec_capacity back) }
             ensures few { vec_len result.0 ≤ vec_len held }
+            ensures refused { result.1 ≡ false → vec_len result.0 < vec_len held }
             ensures ran { result.1 ≡ true → AllZip (λ s r. Ran (G.is_open gate.entry.now) turns s r.1 r.2 r.0.seat) (map (λ h. h.seat) held.items) result.0.items }
         {
             let (handles, started) = start_all(scope, rt, shared, gate, turns, held, handles);

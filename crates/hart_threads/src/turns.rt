@@ -1,8 +1,8 @@
 //! What one thread does with its seat.
 
-ghost use Rattle.std.specs.Prelude.{◌≡◌, ◌<◌, ◌≤◌, ◌+◌, ◌-◌, ◌^◌, true, false, IfOk, IfSome, IsSomeAnd};
+ghost use Rattle.std.specs.Prelude.{◌≡◌, ◌<◌, ◌≤◌, ◌+◌, ◌-◌, ◌^◌, true, false, IfOk, IsSomeAnd};
 ghost use Rattle.hart_threads.specs.Seats.{SeatView, Answers, AsksBank, Notes, state_in};
-ghost use Rattle.hart_threads.specs.inner.Threads.{ActsAlone, Continues, EndsBy, GotOn, IsEnding, Ran, WhereDone, ending_of, last_answer, no_calls};
+ghost use Rattle.hart_threads.specs.inner.Threads.{ActsAlone, Continues, GotOn, IsEnding, Ran, WhereDone, ending_by, ending_of, last_answer, no_calls};
 ghost use Rattle.hart_threads.specs.declared.turns.Ending.TheVariants.{HeldBack, NoHart};
 
 use crate::gate::Gate;
@@ -191,7 +191,7 @@ fn land_calls<R: Wait, const B: usize, const M: usize>(
     ensures some { calls.old.made < calls.new.made }
     ensures most { calls.new.made ≤ calls.old.made + most }
     ensures on { (s : SeatView) → Continues calls.old.made s seat.old → Continues calls.new.made s seat.new }
-    ensures ends { IfSome result (λ e. EndsBy e calls.new.last) }
+    ensures ends { result ≡ ending_by calls.new.last }
 {
     let mut locked = shared.bank.lock(rt);
     let bank = &mut *locked;

@@ -6,8 +6,8 @@ ghost use Rattle.std.specs.Io.BufRead.{take_through, DropsThrough};
 ghost use Rattle.std.specs.Io.KnownBytes.{Appends, IsAtEnd};
 ghost use Rattle.texts.specs.Cutting.{tokens};
 ghost use Rattle.debugger.specs.Commands.{command_in};
-ghost use Rattle.debugger.specs.Transcripts.{AnswersLine, OnStopped, Prints, PrintsFront, quits};
-ghost use Rattle.debugger.specs.inner.Failures.{IsFailure};
+ghost use Rattle.debugger.specs.Transcripts.{AnswersLine, OnStopped, OnUnwritten, Prints, PrintsFront, PrintsSome, quits};
+ghost use Rattle.debugger.specs.inner.Failures.{IsFailure, IsReadFailure};
 
 use crate::debug::answers::answer;
 use crate::debug::command::{Command, command_of};
@@ -23,7 +23,7 @@ use texts::first_line;
 fn read_line<C: BufRead>(alloc: Global, commands: &mut C) -> Result<Vec<u8>, Fault>
     ensures bytes { IfOk result (λ line. IfSome (C.remaining commands.old) (λ bytes. line.items ≡ take_through 10 bytes)) }
     ensures rest { OnOk result (DropsThrough (C.remaining commands.old) (C.remaining commands.new) 10) }
-    ensures err { IfErr result IsFailure }
+    ensures err { IfErr result IsReadFailure }
 {
     let mut line = Vec::new(alloc);
     match commands.read_until(b'\n', &mut line) {
@@ -73,6 +73,7 @@ pub fn converse<const B: usize, const M: usize, C: BufRead, W: Write>(
     ensures err { IfErr result IsFailure }
     ensures left { OnStopped result ((out : List ℕ) × Appends (W.contents writer.old) (W.contents writer.new) out
         × PrintsFront B M (C.remaining commands.old) debugger.entry [] out) }
+    ensures unwritten { OnUnwritten result ((out : List ℕ) × PrintsSome B M (C.remaining commands.old) debugger.entry [] out) }
 {
     let mut debugger = debugger;
     let mut points = Vec::new(alloc);

@@ -23,12 +23,15 @@ abbrev pub last_answer : {E : Type 0} → Result Outcome E → Option Outcome
 last_answer (Ok o) = Some o
 last_answer (Err e) = None
 
--- how a thread ends by the answer of a call, if it does
+-- how a thread ends by what its last call answered, if it does
+abbrev pub ending_by : Option Outcome → Option Ending
+ending_by (Some outcome.Over) = Some ending.Over
+ending_by (Some outcome.NoHart) = Some ending.NoHart
+ending_by None = Some ending.NoMemory
+ending_by other = None
+
 abbrev pub ending_of : {E : Type 0} → Result Outcome E → Option Ending
-ending_of (Ok outcome.Over) = Some ending.Over
-ending_of (Ok outcome.NoHart) = Some ending.NoHart
-ending_of (Err e) = Some ending.NoMemory
-ending_of other = None
+ending_of answer = ending_by (last_answer answer)
 
 -- a thread that was to make n calls ends so after these
 abbrev pub IsEnding : ℕ → Ending → Calls → Type 0
@@ -37,14 +40,6 @@ IsEnding n ending.Over calls = calls.last ≡ Some outcome.Over
 IsEnding n ending.TurnsDone calls = calls.made ≡ n
 IsEnding n ending.NoHart calls = calls.last ≡ Some outcome.NoHart
 IsEnding n ending.NoMemory calls = (1 ≤ calls.made) × (calls.last ≡ None)
-
--- a thread that no gate holds back ends so by its last call
-abbrev pub EndsBy : Ending → Option Outcome → Type 0
-EndsBy ending.HeldBack last = ⊥
-EndsBy ending.Over last = last ≡ Some outcome.Over
-EndsBy ending.TurnsDone last = ⊥
-EndsBy ending.NoHart last = last ≡ Some outcome.NoHart
-EndsBy ending.NoMemory last = last ≡ None
 
 -- a running hart whose next instruction asks for no memory does it, whatever the bank is
 abbrev pub ActsAlone : ℕ → HartState → Outcome → Type 0

@@ -9,6 +9,7 @@ use Rattle.hart_threads.proofs.harts.fn.run_all.scope.Goals as goal
 pub returns : goal.returns
 returns g c = record {
   few = omega (arith, c.join_all.ensures.few, c.start_all-handles.ensures.few);
+  refused = λ refused. omega (arith, c.join_all.ensures.few, c.start_all-handles.ensures.refused refused);
   ran = λ started.
       subst (λ (xs : List SeatView). AllZip (λ s r. Ran (g.G.Gate.is_open c.captures.gate.now) c.captures.turns s r.1 r.2 r.0.seat) xs c.join_all.result.items)
       (c.start_all-handles.ensures.same started)
