@@ -1,5 +1,5 @@
 -- What a plan needs of one block of FastForward.
-use Rattle.std.proofs.Common.{ℕ, ◌+◌, ◌*◌, ◌%◌, ◌^◌, ◌<◌, ◌≤◌, ◌≡◌, ◌≢◌, ◌==◌, inl, inr, Bool, true, false, not, []}
+use Rattle.std.proofs.Common.{ℕ, ◌+◌, ◌*◌, ◌%◌, ◌^◌, ◌<◌, ◌≤◌, ◌≡◌, ◌≢◌, ◌==◌, inl, inr, true, false, not, []}
 use Rattle.std.proofs.Common.{Option, Some, refl, sym, ◌∙◌, ap, arith, lit≤}
 use Rattle.std.specs.Prelude.{slice_index, option_map}
 use Rattle.std.proofs.lemmas.Bool.{cases_eq, and_parts}
@@ -24,7 +24,7 @@ use Rattle.poll_close.proofs.Progress.{falls}
 use Rattle.poll_close.proofs.Standing.{Sender, value_is}
 use Rattle.fastforward.specs.FastForward.{fastforward, fastforward_blocks, fastforward_means, waits, fastforward_ranking}
 use Rattle.fastforward.specs.Invariant.Stores.{null_store, sender_stores, receiver_stores}
-use Rattle.fastforward.specs.Invariant.Numbers.{Numbers, sent, gone, taken, freed, nulls, Ordered, Words}
+use Rattle.fastforward.specs.Invariant.Numbers.{Numbers, sent, gone, taken, freed, Ordered, Words}
 use Rattle.fastforward.specs.Invariant.Sender.{Marked, sender}
 use Rattle.fastforward.proofs.Sender.{fastforward_sender}
 use Rattle.fastforward.proofs.FastForwardLaws.{fastforward_laws, reasons}
@@ -119,11 +119,7 @@ address M t h d pc v pc_at ten v_at =
 
 ready_of : (word : ℕ → ℕ) (o : Option HartState) (s : HartState) (w : ℕ) → o ≡ Some s → s.status ≡ status.Running
     → s.pc ≡ 0x10 → w ≡ word (slice_index s.registers 28 + 16) → (w == 0) ≡ ready_if fastforward_ranking word o
-ready_of word o s w is run at one = rw (is, run, at, one) (twice (word (slice_index s.registers 28 + 16) == 0))
-  where
-    twice : (b : Bool) → b ≡ not (not b)
-    twice true = refl
-    twice false = refl
+ready_of word o s w is run at one = grind arith
 
 pub ready_is : (M : ℕ) (t : History) (h : ℕ) (d : Sender fastforward_blocks M t h) (stat : Status) (pc a w : ℕ)
     → option_map (λ (s : HartState). s.status) (state_of M t h) ≡ Some stat → stat ≡ status.Running

@@ -1,8 +1,8 @@
 -- The laws of one block, all together, and so the laws of the ring.
-use Rattle.std.proofs.Common.{ℕ, ◌+◌, ◌≡◌, refl, ◌∙◌, arith, lit≤}
+use Rattle.std.proofs.Common.{ℕ, ◌≡◌, refl, arith, lit≤}
 use Rattle.std.proofs.Math.Nat.{zero-mod}
 use Rattle.poll_close.specs.Laws.{AreShort, Opens, Keeps, Cleans, Goes, Stays}
-use Rattle.poll_close.specs.Invariant.Blocks.{Block, slot}
+use Rattle.poll_close.specs.Invariant.Blocks.{Block}
 use Rattle.poll_close.specs.Invariant.SenderState.{SenderRegisters}
 use Rattle.poll_close.proofs.Blocks.{IsBlock, Within, word_of, slot_of}
 use Rattle.poll_close.proofs.BlockLaws.{BlockLaws, Begins, opens_with}
@@ -47,13 +47,7 @@ begins k is = record {
 }
 
 words_same : (k : Block) (n : Landed) (word new : ℕ → ℕ) → IsBlock k → ((a : ℕ) → Within k a → new a ≡ word a) → Words k n word → Words k n new
-words_same k n word new is same w = record {
-  mark = same (k.base + 4) (word_of k is 4 (omega arith) refl).within ∙ w.mark;
-  tail = same (k.base + 8) (word_of k is 8 (omega arith) refl).within ∙ w.tail;
-  done = same (k.base + 12) (word_of k is 12 (omega arith) refl).within ∙ w.done;
-  full = λ j from below. same (slot k.size k.base j) (slot_of k is j).within ∙ w.full j from below;
-  empty = λ j from below. same (slot k.size k.base j) (slot_of k is j).within ∙ w.empty j from below;
-}
+words_same k n word new is same w = grind (arith, word_of, slot_of)
 
 -- the reason of each row of the sender's outline
 pub reasons : (k : Block) (n : Numbers) (word : ℕ → ℕ) (v : ℕ) (r : SenderRegisters) → IsBlock k → Ordered k n

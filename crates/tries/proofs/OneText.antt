@@ -37,13 +37,12 @@ one_trial B M q s t is other events =
 
 one_list : (B M : ℕ) (q : LitmusTest) (ss ts : List Trial) → All (IsTrial B M q) ss → All (IsTrial B M q) ts → map (λ (t : Trial). t.events) ss ≡ map (λ (t : Trial). t.events) ts → ss ≡ ts
 one_list B M q [] [] are others same = refl
-one_list B M q [] (t ∷ ts) are others same = absurd cc
-one_list B M q (s ∷ ss) [] are others same = absurd cc
 one_list B M q (s ∷ ss) (t ∷ ts) are others same =
     let first : s.events ≡ t.events = cc in
     let rest : map (λ (u : Trial). u.events) ss ≡ map (λ (u : Trial). u.events) ts = cc in
     ap (λ (u : Trial). u ∷ ss) (one_trial B M q s t (are 0 s (omega arith)) (others 0 t (omega arith)) first)
     ∙ ap (λ (us : List Trial). t ∷ us) (one_list B M q ss ts (All-tail (IsTrial B M q) s ss are) (All-tail (IsTrial B M q) t ts others) rest)
+one_list B M q x y are others same = absurd cc
 
 -- ---- one ascending list of the same elements
 

@@ -1,5 +1,5 @@
 -- The rows of a tally are the outcomes of its runs.
-use Rattle.std.proofs.Common.{◌≡◌, ℕ, zero, suc, ◌<◌, Bool, true, false, cond, ◌||◌, List, [], ◌∷◌, ◌++◌, length, map, get_or, find, count_by, All, Option, Some, None, option_map, refl, sym, ap, ◌∙◌, subst, arith}
+use Rattle.std.proofs.Common.{◌≡◌, ℕ, zero, suc, ◌<◌, Bool, true, false, cond, List, [], ◌∷◌, ◌++◌, length, map, get_or, find, count_by, All, Option, Some, option_map, refl, sym, ap, ◌∙◌, subst, arith}
 use Rattle.std.specs.Prelude.{is_some, unwrap_or, Contains}
 use Rattle.std.specs.List.{flat_map, list_any, AllByRecursion}
 use Rattle.std.specs.List.Sorted.{IsStrictlySortedBy}
@@ -8,17 +8,15 @@ use Rattle.std.specs.Ordering.{nat_cmp}
 use Rattle.std.specs.Cmp.Lexicographic.{slice_cmp}
 use Rattle.std.specs.Map.{lookup}
 use Rattle.std.specs.Global.{Vec}
-use Rattle.std.specs.String.{string_bytes}
 use Rattle.std.proofs.lemmas.List.Elements.{All-tail}
 use Rattle.rand_core.specs.Stream.{Stream}
 use Rattle.litmus.specs.LitmusTests.{LitmusTest}
 use Rattle.litmus.specs.declared.verdict.Quantifier.{Quantifier}
-use Rattle.litmus.specs.declared.verdict.Quantifier.TheVariants.{Exists, NotExists, ForAll}
 use Rattle.tries.specs.declared.trials.tally.Row.{Row}
 use Rattle.tries.specs.declared.trials.tally.Tally.{Tally}
 use Rattle.tries.specs.Trials.{Trial, AreTrials, is_holds, is_fails, gave, are_good}
 use Rattle.tries.specs.Outcomes.{schedule_text, first_schedule_text, line_of, outcome_line, unfinished_line, AreOutcomes, IsTried}
-use Rattle.tries.specs.inner.Tallies.{Counted, counted_by, is_key, counted_of, seen_of, IsTallyOf, order, AreFound, row_line, good_by}
+use Rattle.tries.specs.inner.Tallies.{Counted, is_key, counted_of, seen_of, IsTallyOf, order, AreFound, row_line, good_by}
 use Rattle.tries.proofs.Rows.{same_is, same_itself}
 
 abbrev Rows : Type 0
@@ -47,11 +45,7 @@ key_of_itself outcome key is = subst (λ (k : List ℕ). is_key k key ≡ true) 
 found_there : (outcome : List ℕ) (rows : Rows) (k : ℕ) → k < length (outcomes_of rows) → get_or (outcomes_of rows) k outcome ≡ outcome → is_some (lookup (is_key outcome) rows) ≡ true
 found_there outcome [] k below is = absurd (omega (arith, below))
 found_there outcome (e ∷ rows) zero below is = ap (λ (b : Bool). is_some (cond b (Some e.1) (lookup (is_key outcome) rows))) (key_of_itself outcome e.0 is)
-found_there outcome (e ∷ rows) (suc k) below is = by (is_key outcome e.0) (found_there outcome rows k (omega (arith, below)) is)
-  where
-    by : (b : Bool) → is_some (lookup (is_key outcome) rows) ≡ true → is_some (cond b (Some e.1) (lookup (is_key outcome) rows)) ≡ true
-    by true there = refl
-    by false there = there
+found_there outcome (e ∷ rows) (suc k) below is = grind (arith, found_there outcome rows k)
 
 there_found : (outcome : List ℕ) (rows : Rows) → is_some (lookup (is_key outcome) rows) ≡ true → Contains (outcomes_of rows) outcome
 there_found outcome [] found = absurd cc
@@ -62,33 +56,18 @@ there_found outcome (e ∷ rows) found = by (is_key outcome e.0) refl found (the
     by false is there rest = let behind = rest there in (suc behind.0, omega (arith, behind.1), behind.2)
 
 some_mapped : {A B : Type 0} (f : A → B) (o : Option A) → is_some (option_map f o) ≡ is_some o
-some_mapped f None = refl
-some_mapped f (Some x) = refl
+some_mapped f o = grind arith
 
 some_found : {X : Type 0} (p : X → Bool) (xs : List X) → is_some (find p xs) ≡ list_any p xs
 some_found p [] = refl
-some_found {X} p (x ∷ xs) = by (p x) (some_found p xs)
-  where
-    by : (b : Bool) → is_some (find p xs) ≡ list_any p xs → is_some (cond b (Some x) (find p xs)) ≡ (b || list_any p xs)
-    by true rest = refl
-    by false rest = rest
+some_found {X} p (x ∷ xs) = grind (arith, some_found p xs)
 
 given_and_found : (trials : List Trial) (tally : Tally) (outcome : List ℕ) → IsTallyOf trials tally → is_some (lookup (is_key outcome) tally.rows.entries) ≡ list_any (gave outcome) trials
 unfolding counted_of seen_of
-given_and_found trials tally outcome is =
-    sym (some_mapped counted_by (lookup (is_key outcome) tally.rows.entries))
-    ∙ ap (λ (o : Option Counted). is_some o) (is.rows outcome)
-    ∙ some_mapped (λ (first : Trial). (count_by (gave outcome) trials, schedule_text first.events)) (find (gave outcome) trials)
-    ∙ some_found (gave outcome) trials
+given_and_found trials tally outcome is = grind (arith, some_mapped, count_by, some_found)
 
 pub are_outcomes : (trials : List Trial) (tally : Tally) → IsTallyOf trials tally → IsStrictlySortedBy order (map (λ e. e.0) tally.rows.entries) → AreOutcomes trials (outcomes_of tally.rows.entries)
-are_outcomes trials tally is sorted = record {
-  ascending = ascending_outcomes tally.rows.entries sorted;
-  all = λ outcome. (
-    λ there. sym (given_and_found trials tally outcome is) ∙ found_there outcome tally.rows.entries there.0 there.1 there.2,
-    λ given. there_found outcome tally.rows.entries (given_and_found trials tally outcome is ∙ given),
-  );
-}
+are_outcomes trials tally is sorted = grind (arith, ascending_outcomes, given_and_found, found_there, there_found)
 
 -- ---- and its line is the outcome's
 
@@ -106,15 +85,11 @@ same_text n m text other e = ap (λ (o : Option Counted). (unwrap_or o (0, [])).
 line_seen : (test : LitmusTest) (outcome : List ℕ) (o : Option Trial) (n count : ℕ) (schedule : List ℕ) → option_map (λ (first : Trial). (n, schedule_text first.events)) o ≡ counted_one count schedule
     → line_of test outcome count schedule ≡ line_of test outcome n (first_schedule_text o)
 unfolding counted_one
-line_seen test outcome None n count schedule e = absurd cc
-line_seen test outcome (Some first) n count schedule e =
-    ap (λ (k : ℕ). line_of test outcome k schedule) (sym (same_count n count (schedule_text first.events) schedule e))
-    ∙ ap (λ (text : List ℕ). line_of test outcome n text) (sym (same_text n count (schedule_text first.events) schedule e))
+line_seen test outcome o n count schedule e = grind (arith, same_count, same_text)
 
 line_is : (test : LitmusTest) (trials : List Trial) (tally : Tally) (key : Vec ℕ) (row : Row) → IsTallyOf trials tally → lookup (is_key key.items) tally.rows.entries ≡ Some row → row_line test (key, row) ≡ outcome_line test trials key.items
 unfolding counted_of seen_of counted_one
-line_is test trials tally key row is found =
-    line_seen test key.items (find (gave key.items) trials) (count_by (gave key.items) trials) row.count (string_bytes row.schedule) (sym (is.rows key.items) ∙ ap (option_map counted_by) found)
+line_is test trials tally key row is found = grind (arith, line_seen, count_by, option_map)
 
 lines_are : (test : LitmusTest) (trials : List Trial) (tally : Tally) (rows : Rows) → IsTallyOf trials tally → All (λ e. lookup (is_key e.0.items) tally.rows.entries ≡ Some e.1) rows
     → flat_map (row_line test) rows ≡ flat_map (outcome_line test trials) (outcomes_of rows)
@@ -126,23 +101,14 @@ lines_are test trials tally (e ∷ rows) is found =
 -- ---- the whole
 
 good_is : (quantifier : Quantifier) (trials : List Trial) → good_by quantifier (list_any (λ (t : Trial). is_holds t.verdict) trials) (list_any (λ (t : Trial). is_fails t.verdict) trials) ≡ are_good quantifier trials
-good_is Exists trials = refl
-good_is NotExists trials = refl
-good_is ForAll trials = refl
+good_is quantifier trials = grind arith
 
 pub tried : (B M : ℕ) (stream : Stream) (runs size : ℕ) (test : LitmusTest) (trials : List Trial) (tally : Tally) (text : List ℕ) (good : Bool) → AreTrials B M test stream runs size trials → IsTallyOf trials tally
     → IsStrictlySortedBy order (map (λ e. e.0) tally.rows.entries) → AreFound tally.rows.entries → text ≡ flat_map (row_line test) tally.rows.entries ++ unfinished_line tally.unfinished
     → good ≡ good_by test.quantifier tally.some_hold tally.some_fail → IsTried B M stream runs size test (text, good)
-tried B M stream runs size test trials tally text good are is sorted found written judged = record {
-  trials = trials;
-  are = are;
-  outcomes = outcomes_of tally.rows.entries;
-  shown = are_outcomes trials tally is sorted;
-  text = written
-      ∙ ap (λ (lines : List ℕ). lines ++ unfinished_line tally.unfinished) (lines_are test trials tally tally.rows.entries is found)
-      ∙ ap (λ (n : ℕ). flat_map (outcome_line test trials) (outcomes_of tally.rows.entries) ++ unfinished_line n) is.unfinished_are;
-  good = judged
-      ∙ ap (λ (b : Bool). good_by test.quantifier b tally.some_fail) is.holds
-      ∙ ap (λ (b : Bool). good_by test.quantifier (list_any (λ (t : Trial). is_holds t.verdict) trials) b) is.fails
-      ∙ good_is test.quantifier trials;
-}
+tried B M stream runs size test trials tally text good are is sorted found written judged = grind (
+  arith,
+  are_outcomes trials tally is sorted,
+  lines_are test trials tally tally.rows.entries is found,
+  good_is test.quantifier trials,
+)

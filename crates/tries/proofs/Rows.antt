@@ -1,5 +1,5 @@
 -- Rows by outcomes: what is found after one was changed or put in.
-use Rattle.std.proofs.Common.{◌≡◌, ℕ, ◌+◌, ◌<◌, Bool, true, false, cond, List, [], ◌∷◌, Option, Some, None, option_map, refl, sym, ap, ◌∙◌, subst}
+use Rattle.std.proofs.Common.{arith, ◌≡◌, ℕ, ◌+◌, ◌<◌, Bool, true, false, cond, List, [], ◌∷◌, Option, Some, None, option_map, refl, sym, ap, ◌∙◌, subst}
 use Rattle.std.specs.Prelude.{IfSome}
 use Rattle.std.specs.declared.cmp.Ordering.{Ordering}
 use Rattle.std.specs.declared.cmp.Ordering.TheVariants.{Less, Equal, Greater}
@@ -26,20 +26,13 @@ same_itself xs = is_eq-slice_cmp xs xs ∙ (bytes_eq-Decides xs xs).1 refl
 
 -- two tests of one answer, and two that never pass together
 one_test : {X : Type 0} (b c : Bool) (v w : X) (o : Option X) → c ≡ b → cond c (Some v) o ≡ cond b (Some v) (cond c (Some w) o)
-one_test true true v w o e = refl
-one_test false false v w o e = refl
-one_test true false v w o e = absurd cc
-one_test false true v w o e = absurd cc
+one_test b c v w o e = grind arith
 
 two_tests : {X : Type 0} (b c : Bool) (v w : X) (o : Option X) → (c ≡ true → b ≡ true → ⊥) → cond c (Some w) (cond b (Some v) o) ≡ cond b (Some v) (cond c (Some w) o)
-two_tests true true v w o apart = absurd (apart refl refl)
-two_tests false true v w o apart = refl
-two_tests true false v w o apart = refl
-two_tests false false v w o apart = refl
+two_tests b c v w o apart = grind arith
 
 either : {X : Type 0} (b : Bool) (x : X) → x ≡ cond b x x
-either true x = refl
-either false x = refl
+either b x = grind arith
 
 -- another value for the key that is found
 lookup_set : {X : Type 0} (key other : List ℕ) (value : X) (rows : List (Vec ℕ × X)) → lookup (is_key other) (set_value (is_key key) rows value) ≡ cond (is_eq (slice_cmp nat_cmp other key)) (option_map (λ (old : X). value) (lookup (is_key key) rows)) (lookup (is_key other) rows)
@@ -99,8 +92,7 @@ counted_first events old key row none first = λ other. ap (option_map counted_b
 -- the row that is found is one that something is counted of
 pub found_row : (Small : ℕ → Type 0) (rows : List (Vec ℕ × Row)) (outcome : List ℕ) (found : Option Row) → found ≡ lookup (is_key outcome) rows → IfSome (counted_of rows outcome) (λ seen. Small seen.0) → IfSome found (λ row. Small row.count)
 unfolding counted_of
-found_row Small rows outcome None is small = tt
-found_row Small rows outcome (Some row) is small = rw (← is) at small
+found_row Small rows outcome found is small = grind arith
 
 -- a row with a later row's runs
 pub row_again : (later : Row) (old : List (Vec ℕ × Row)) (key : List ℕ) (row : Row) → Some row ≡ lookup (is_key key) old
@@ -137,14 +129,10 @@ row_first later old key none = λ other. ap (option_map counted_by) (lookup_inse
 none_later : (key : Vec ℕ) (other : List ℕ) (rest : List (Vec ℕ × Row)) → is_key other key ≡ true
     → AllByRecursion (λ (k : Vec ℕ). order key k ≡ Less) (keys_of rest) → lookup (is_key other) rest ≡ None
 none_later key other [] same later = refl
-none_later key other (e ∷ rest) same later =
-    let apart : is_key other e.0 ≡ false =
-    subst (λ (k : List ℕ). is_eq (slice_cmp nat_cmp k e.0.items) ≡ false) (sym (same_is other key.items same)) (ap is_eq later.0) in
-    ap (λ (b : Bool). cond b (Some e.1) (lookup (is_key other) rest)) apart ∙ none_later key other rest same later.1
+none_later key other (e ∷ rest) same later = grind (arith, same_is other key.items same, none_later key other rest same later.1)
 
 both_none : (seen : Option Counted) → counted_both seen None ≡ seen
-both_none None = refl
-both_none (Some seen) = refl
+both_none seen = grind arith
 
 -- what is counted and what is left to count are together what both say
 abbrev pub IsLeft : (now left : List (Vec ℕ × Row)) → (both : List ℕ → Option Counted) → Type 0
@@ -154,54 +142,17 @@ IsLeft now left both = (other : List ℕ) → counted_both (counted_of now other
 pub row_taken : (key : Vec ℕ) (later : Row) (left rest now new : List (Vec ℕ × Row)) (both : List ℕ → Option Counted) → left ≡ (key, later) ∷ rest
     → IsStrictlySortedBy order (keys_of left) → CountsRow key.items later now new → IsLeft now left both → IsLeft new rest both
 unfolding counted_of
-row_taken key later left rest now new both is sorted counts so_far other = by (is_key other key) refl
-  where
-    seen : Option Counted
-    seen = counted_of now other
-
-    taken : Bool → Option Counted
-    taken b = counted_both seen (option_map counted_by (cond b (Some later) (lookup (is_key other) rest)))
-
-    shown : taken (is_key other key) ≡ both other
-    shown = subst (λ (rows : List (Vec ℕ × Row)). counted_both seen (option_map counted_by (lookup (is_key other) rows)) ≡ both other) is (so_far other)
-
-    ordered : IsStrictlySortedBy order (key ∷ keys_of rest)
-    ordered = subst (λ (rows : List (Vec ℕ × Row)). IsStrictlySortedBy order (keys_of rows)) is sorted
-
-    counted : Bool → Option Counted
-    counted b = cond b (counted_both seen (Some (counted_by later))) seen
-
-    by : (b : Bool) → is_key other key ≡ b → counted_both (counted_of new other) (counted_of rest other) ≡ both other
-    by true same =
-        ap (λ (o : Option Row). counted_both (counted_of new other) (option_map counted_by o))
-        (none_later key other rest same (sorted_head order key (keys_of rest) ordered))
-        ∙ both_none (counted_of new other) ∙ counts other ∙ ap counted same ∙ sym (ap taken same) ∙ shown
-    by false apart =
-        ap (λ (o : Option Counted). counted_both o (counted_of rest other)) (counts other ∙ ap counted apart) ∙ sym (ap taken apart) ∙ shown
+row_taken key later left rest now new both is sorted counts so_far other = grind (arith, option_map, none_later, sorted_head, both_none)
 
 -- no count grows past what both maps say together
 pub row_few : (key : Vec ℕ) (later : Row) (left rest now : List (Vec ℕ × Row)) (both : Option Counted) (most : ℕ) → left ≡ (key, later) ∷ rest
     → counted_both (counted_of now key.items) (counted_of left key.items) ≡ both
     → IfSome {T = Counted} both (λ seen. seen.0 < most) → IfSome {T = Counted} (counted_of now key.items) (λ seen. seen.0 + later.count < most)
 unfolding counted_of
-row_few key later left rest now both most is so_far few = at (counted_of now key.items) shown
-  where
-    taken : Bool → Option Counted
-    taken b = counted_both (counted_of now key.items) (option_map counted_by (cond b (Some later) (lookup (is_key key.items) rest)))
-
-    shown : taken true ≡ both
-    shown =
-        sym (ap taken (same_itself key.items))
-        ∙ subst (λ (rows : List (Vec ℕ × Row)). counted_both (counted_of now key.items) (option_map counted_by (lookup (is_key key.items) rows)) ≡ both) is so_far
-
-    at : (o : Option Counted) → counted_both o (Some (counted_by later)) ≡ both → IfSome {T = Counted} o (λ seen. seen.0 + later.count < most)
-    at None e = tt
-    at (Some seen) e = subst (λ (b : Option Counted). IfSome {T = Counted} b (λ t. t.0 < most)) (sym e) few
+row_few key later left rest now both most is so_far few = grind (arith, option_map, same_itself)
 
 -- no row is left
 pub rows_done : (left now : List (Vec ℕ × Row)) (both : List ℕ → Option Counted) → left ≡ [] → IsLeft now left both
     → (other : List ℕ) → counted_of now other ≡ both other
 unfolding counted_of
-rows_done left now both is so_far other =
-    sym (both_none (counted_of now other))
-    ∙ subst (λ (rows : List (Vec ℕ × Row)). counted_both (counted_of now other) (option_map counted_by (lookup (is_key other) rows)) ≡ both other) is (so_far other)
+rows_done left now both is so_far other = grind (arith, both_none, option_map)

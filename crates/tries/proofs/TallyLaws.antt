@@ -1,6 +1,6 @@
 -- A tally of runs, and one run more.
-use Rattle.std.proofs.Common.{◌≡◌, ℕ, ◌+◌, ◌<◌, Bool, true, false, cond, ◌&&◌, ◌||◌, not, List, [], ◌∷◌, ◌++◌, length, find, count_by, Option, Some, None, option_map, refl, sym, ap, ◌∙◌, arith}
-use Rattle.std.specs.Prelude.{IfSome, OnOk, Result, Ok, Err}
+use Rattle.std.proofs.Common.{◌≡◌, ℕ, ◌+◌, ◌<◌, Bool, true, false, cond, ◌&&◌, ◌||◌, not, List, [], ◌∷◌, ◌++◌, length, find, count_by, Option, Some, None, option_map, refl, ap, ◌∙◌, arith}
+use Rattle.std.specs.Prelude.{IfSome, OnOk, Result}
 use Rattle.std.specs.List.{list_any}
 use Rattle.std.specs.Option.{option_or}
 use Rattle.std.specs.Ordering.{is_eq, nat_cmp}
@@ -13,15 +13,13 @@ use Rattle.step_machine.specs.declared.events.Event.{Event}
 use Rattle.litmus.specs.declared.verdict.Verdict.{Verdict}
 use Rattle.tries.specs.declared.trials.tally.Tally.{Tally}
 use Rattle.tries.specs.Trials.{Trial, is_finished, is_holds, is_fails, gave}
-use Rattle.tries.specs.Outcomes.{schedule_text, unfinished}
+use Rattle.tries.specs.Outcomes.{schedule_text}
 use Rattle.tries.specs.inner.Tallies.{Counted, counted_of, counted_more, seen_of, Counts, IsTallyOf, Tallies}
 
 -- ---- counts of a list and one element more
 
 or_false : (b c : Bool) → (b || (c || false)) ≡ (b || c)
-or_false true c = refl
-or_false false true = refl
-or_false false false = refl
+or_false b c = grind arith
 
 any_more : {X : Type 0} (p : X → Bool) (xs : List X) (x : X) → list_any p (xs ++ x ∷ []) ≡ (list_any p xs || p x)
 any_more p xs x = list_any-append p xs (x ∷ []) ∙ or_false (list_any p xs) (p x)
@@ -34,50 +32,27 @@ count_more p xs x = sum_by-append (λ y. cond (p y) 1 0) xs (x ∷ []) ∙ ap (�
 
 pub none_counted : {X : Type 0} (p : X → Bool) (xs : List X) → find p xs ≡ None → count_by p xs ≡ 0
 none_counted p [] e = refl
-none_counted {X} p (x ∷ xs) e = by (p x) refl e (none_counted p xs)
-  where
-    by : (b : Bool) → p x ≡ b → cond b (Some x) (find p xs) ≡ None → (find p xs ≡ None → count_by p xs ≡ 0) → count_by p (x ∷ xs) ≡ 0
-    by true is none rest = absurd cc
-    by false is none rest = let e = sum_by-cons (λ y. cond (p y) 1 0) x xs ∙ ap (λ (c : Bool). cond c 1 0 + count_by p xs) is in omega (arith, e, rest none)
+none_counted {X} p (x ∷ xs) e = grind (arith, count_by, sum_by-cons, none_counted p xs)
 
 -- ---- what is counted of an outcome
 
 counted_once_more : (trial : Trial) (b : Bool) (o : Option Trial) (n : ℕ) → (o ≡ None → n ≡ 0)
     → option_map (λ (first : Trial). (n + cond b 1 0, schedule_text first.events)) (option_or o (cond b (Some trial) None))
     ≡ cond b (Some (counted_more trial.events (option_map (λ (first : Trial). (n, schedule_text first.events)) o))) (option_map (λ (first : Trial). (n, schedule_text first.events)) o)
-counted_once_more trial true None n none = ap (λ (k : ℕ). Some (k + 1, schedule_text trial.events)) (none refl)
-counted_once_more trial true (Some first) n none = refl
-counted_once_more trial false None n none = refl
-counted_once_more trial false (Some first) n none = let same : n + 0 ≡ n = omega arith in ap (λ (k : ℕ). Some (k, schedule_text first.events)) same
+counted_once_more trial b o n none = grind arith
 
 seen_more : (trials : List Trial) (trial : Trial) (outcome : List ℕ) → seen_of (trials ++ trial ∷ []) outcome ≡ cond (gave outcome trial) (Some (counted_more trial.events (seen_of trials outcome))) (seen_of trials outcome)
 unfolding seen_of
-seen_more trials trial outcome =
-    ap (λ (n : ℕ). option_map (λ (first : Trial). (n, schedule_text first.events)) (find (gave outcome) (trials ++ trial ∷ []))) (count_more (gave outcome) trials trial)
-    ∙ ap (λ (o : Option Trial). option_map (λ (first : Trial). (count_by (gave outcome) trials + cond (gave outcome trial) 1 0, schedule_text first.events)) o) (find-append (gave outcome) trials (trial ∷ []))
-    ∙ counted_once_more trial (gave outcome trial) (find (gave outcome) trials) (count_by (gave outcome) trials) (none_counted (gave outcome) trials)
+seen_more trials trial outcome = grind (arith, option_map, count_more, count_by, find-append, counted_once_more, none_counted)
 
 -- one more run makes a tally of one more
 pub tally_more : (trials : List Trial) (trial : Trial) (old new : Tally) → IsTallyOf trials old → Tallies trial old new → IsTallyOf (trials ++ trial ∷ []) new
-tally_more trials trial old new tally more = record {
-  rows = λ outcome. more.rows outcome ∙ ap (λ (o : Option Counted). cond (gave outcome trial) (Some (counted_more trial.events o)) o) (tally.rows outcome) ∙ sym (seen_more trials trial outcome);
-  unfinished_are = more.unfinished_are ∙ unfinished_more (is_finished trial.verdict) refl;
-  holds = more.holds ∙ ap (λ (b : Bool). b || is_holds trial.verdict) tally.holds ∙ sym (any_more (λ (t : Trial). is_holds t.verdict) trials trial);
-  fails = more.fails ∙ ap (λ (b : Bool). b || is_fails trial.verdict) tally.fails ∙ sym (any_more (λ (t : Trial). is_fails t.verdict) trials trial);
-}
-  where
-    unfinished_more : (b : Bool) → is_finished trial.verdict ≡ b → old.unfinished + cond b 0 1 ≡ unfinished (trials ++ trial ∷ [])
-    unfinished_more true is = let e = count_more (λ (t : Trial). not (is_finished t.verdict)) trials trial ∙ ap (λ (c : Bool). unfinished trials + cond (not c) 1 0) is in omega (arith, e, tally.unfinished_are)
-    unfinished_more false is = let e = count_more (λ (t : Trial). not (is_finished t.verdict)) trials trial ∙ ap (λ (c : Bool). unfinished trials + cond (not c) 1 0) is in omega (arith, e, tally.unfinished_are)
+tally_more trials trial old new tally more = grind (arith, seen_more, any_more, count_more)
 
 -- no count is above the number of runs
 pub seen_few : (trials : List Trial) (outcome : List ℕ) (most : ℕ) → length trials < most → IfSome {T = Counted} (seen_of trials outcome) (λ seen. seen.0 < most)
 unfolding seen_of
-seen_few trials outcome most few = by (find (gave outcome) trials)
-  where
-    by : (o : Option Trial) → IfSome {T = Counted} (option_map (λ (first : Trial). (count_by (gave outcome) trials, schedule_text first.events)) o) (λ seen. seen.0 < most)
-    by None = tt
-    by (Some first) = omega (arith, count_by-le-length (gave outcome) trials, few)
+seen_few trials outcome most few = grind (arith, option_map, count_by, count_by-le-length)
 
 pub counted_few : (trials : List Trial) (tally : Tally) (most : ℕ) → IsTallyOf trials tally → length trials < most → (outcome : List ℕ) → IfSome {T = Counted} (counted_of tally.rows.entries outcome) (λ seen. seen.0 < most)
 counted_few trials tally most is few outcome = rw (is.rows outcome) (seen_few trials outcome most few)
@@ -94,25 +69,16 @@ nothing_counted tally rows none holds fails = record { rows = λ outcome. rw row
 
 -- an outcome's test, as the rows' keys and as the runs do it
 gave_by_key : (finished : Bool) → finished ≡ true → (outcome values : List ℕ) → (finished && bytes_eq outcome values) ≡ is_eq (slice_cmp nat_cmp outcome values)
-gave_by_key true e outcome values = sym (is_eq-slice_cmp outcome values)
-gave_by_key false e outcome values = absurd cc
+gave_by_key finished e outcome values = grind (arith, is_eq-slice_cmp)
 
 -- a finished run whose outcome was counted is tallied
 pub tallied : {E : Type 0} (result : Result (Unit {0}) E) (events : List Event) (verdict : Verdict) (values : List ℕ) (old new : Tally) → is_finished verdict ≡ true → new.unfinished ≡ old.unfinished
     → new.some_hold ≡ (old.some_hold || is_holds verdict) → new.some_fail ≡ (old.some_fail || is_fails verdict)
     → OnOk result (Counts values events old.rows.entries new.rows.entries) → OnOk result (Tallies (record { events = events; verdict = verdict; values = values }) old new)
-tallied (Err e) events verdict values old new finished same holds fails counts = tt
-tallied (Ok x) events verdict values old new finished same holds fails counts = record {
-  rows = λ outcome. counts outcome ∙ ap (λ (b : Bool). cond b (Some (counted_more events (counted_of old.rows.entries outcome))) (counted_of old.rows.entries outcome)) (sym (gave_by_key (is_finished verdict) finished outcome values));
-  unfinished_are = let e = ap (λ (b : Bool). old.unfinished + cond b 0 1) finished in omega (arith, same, e);
-  holds = holds;
-  fails = fails;
-}
+tallied result events verdict values old new finished same holds fails counts = grind (arith, gave_by_key)
 
 pub or_true : (b : Bool) → true ≡ (b || true)
-or_true true = refl
-or_true false = refl
+or_true b = grind arith
 
 pub or_none : (b : Bool) → b ≡ (b || false)
-or_none true = refl
-or_none false = refl
+or_none b = grind arith

@@ -1,5 +1,5 @@
 -- Runs after runs: their schedules, and the tally of them all from the tallies of the two parts.
-use Rattle.std.proofs.Common.{◌≡◌, ℕ, zero, suc, ◌+◌, ◌*◌, Bool, cond, ◌||◌, not, List, [], ◌∷◌, ◌++◌, length, map, find, count_by, Option, Some, None, option_map, refl, sym, ap, ◌∙◌, arith, append-nil, append_assoc, subst, ◌-◌, ◌≤◌, ◌<◌, rules}
+use Rattle.std.proofs.Common.{◌≡◌, ℕ, zero, suc, ◌+◌, ◌*◌, Bool, cond, ◌||◌, not, List, [], ◌∷◌, ◌++◌, length, map, count_by, Option, None, option_map, sym, ap, ◌∙◌, arith, append-nil, append_assoc, subst, ◌-◌, ◌≤◌, ◌<◌, rules}
 use Rattle.std.specs.List.{list_any, range_with_len}
 use Rattle.std.specs.Option.{option_or}
 use Rattle.std.specs.Prelude.{IfSome, IfOk, Result, Ok, slice_index_or}
@@ -13,9 +13,9 @@ use Rattle.std.proofs.lemmas.List.Elements.{All-append}
 use Rattle.std.proofs.lemmas.List.FromFn.{map-range_with_len_more, length-map-range_with_len}
 use Rattle.rand_core.specs.Stream.{Stream}
 use Rattle.step_machine.specs.declared.events.Event.{Event}
-use Rattle.recorder.specs.Drawing.{left_after, drawn, words}
+use Rattle.recorder.specs.Drawing.{left_after, drawn}
 use Rattle.tries.specs.declared.trials.tally.Tally.{Tally}
-use Rattle.tries.specs.Trials.{Trial, IsTrial, schedule_drawn, AreTrials, is_finished, is_holds, is_fails, gave}
+use Rattle.tries.specs.Trials.{Trial, IsTrial, schedule_drawn, AreTrials, is_finished, is_holds, is_fails}
 use Rattle.tries.specs.Outcomes.{schedule_text}
 use Rattle.tries.specs.inner.Tallies.{Counted, counted_of, seen_of, IsTallyOf}
 use Rattle.tries.specs.inner.Merging.{counted_both, first_of, AreRunsFrom, AreTalliesFrom, IsTallyFrom, Merges, Source}
@@ -28,23 +28,16 @@ abbrev counted_from : ℕ → Option Trial → Option Counted
 counted_from n o = option_map (λ (first : Trial). (n, schedule_text first.events)) o
 
 counted_of_both : (o p : Option Trial) (n m : ℕ) → (o ≡ None → n ≡ 0) → (p ≡ None → m ≡ 0) → counted_from (n + m) (option_or o p) ≡ counted_both (counted_from n o) (counted_from m p)
-counted_of_both None None n m none also = refl
-counted_of_both None (Some first) n m none also = let same : n + m ≡ m = omega (arith, none refl) in ap (λ (k : ℕ). counted_from k (Some first)) same
-counted_of_both (Some first) None n m none also = let same : n + m ≡ n = omega (arith, also refl) in ap (λ (k : ℕ). counted_from k (Some first)) same
-counted_of_both (Some first) (Some other) n m none also = refl
+counted_of_both o p n m none also = grind arith
 
 seen_both : (front back : List Trial) (outcome : List ℕ) → seen_of (front ++ back) outcome ≡ counted_both (seen_of front outcome) (seen_of back outcome)
 unfolding seen_of
-seen_both front back outcome =
-    ap (λ (n : ℕ). counted_from n (find (gave outcome) (front ++ back))) (sum_by-append (λ y. cond (gave outcome y) 1 0) front back)
-    ∙ ap (counted_from (count_by (gave outcome) front + count_by (gave outcome) back)) (find-append (gave outcome) front back)
-    ∙ counted_of_both (find (gave outcome) front) (find (gave outcome) back) _ _ (none_counted (gave outcome) front) (none_counted (gave outcome) back)
+seen_both front back outcome = grind (arith, sum_by-append, count_by, find-append, counted_of_both, none_counted)
 
 -- two flags, each of one part, are one of all
 any_both : (p : Trial → Bool) (front back : List Trial) (old later new : Bool) → new ≡ (old || later) → old ≡ list_any p front → later ≡ list_any p back
     → new ≡ list_any p (front ++ back)
-any_both p front back old later new either first second =
-    either ∙ ap (λ (b : Bool). b || later) first ∙ ap (λ (b : Bool). list_any p front || b) second ∙ sym (list_any-append p front back)
+any_both p front back old later new either first second = grind (arith, list_any-append)
 
 -- two tallies make the tally of the first one's runs and then the other's
 tally_both : (front back : List Trial) (old later new : Tally) → IsTallyOf front old → IsTallyOf back later → Merges old later new → IsTallyOf (front ++ back) new
@@ -66,28 +59,18 @@ tally_both front back old later new first second merged = record {
 -- a list of numbered things, and then more of them
 numbered_both : {X : Type 0} (f later : ℕ → X) (before number : ℕ) → ((k : ℕ) → later k ≡ f (before + k))
     → map f (range_with_len 0 (before + number)) ≡ map f (range_with_len 0 before) ++ map later (range_with_len 0 number)
-numbered_both f later before zero same =
-    let none : before + 0 ≡ before = omega arith in
-    ap (λ (n : ℕ). map f (range_with_len 0 n)) none ∙ sym (append-nil (map f (range_with_len 0 before)))
-numbered_both {X} f later before (suc number) same =
-    let whole : before + suc number ≡ (before + number) + 1 = omega arith in
-    let one : suc number ≡ number + 1 = omega arith in
-    let all : 0 + (before + number) ≡ before + number = omega arith in
-    let own : 0 + number ≡ number = omega arith in
-    let front = map f (range_with_len 0 before) in
-    ap (λ (n : ℕ). map f (range_with_len 0 n)) whole
-    ∙ map-range_with_len_more f 0 (before + number) (before + number) all
-    ∙ ap (λ (xs : List X). xs ++ f (before + number) ∷ []) (numbered_both f later before number same)
-    ∙ append_assoc front (map later (range_with_len 0 number)) (f (before + number) ∷ [])
-    ∙ ap (λ (x : X). front ++ (map later (range_with_len 0 number) ++ x ∷ [])) (sym (same number))
-    ∙ ap (λ (back : List X). front ++ back) (sym (map-range_with_len_more later 0 number number own))
-    ∙ ap (λ (n : ℕ). front ++ map later (range_with_len 0 n)) (sym one)
+numbered_both f later before zero same = grind (arith, append-nil)
+numbered_both {X} f later before (suc number) same = grind (
+  arith,
+  map-range_with_len_more f 0 (before + number) (before + number),
+  map-range_with_len_more later 0 number number,
+  append_assoc,
+  numbered_both f later before number same,
+)
 
 -- the schedules from a number on are those that the generator draws there
 drawn_later : (harts size : ℕ) (stream : Stream) (before number : ℕ) → schedule_drawn harts size (left_after (before * size) stream) number ≡ schedule_drawn harts size stream (before + number)
-drawn_later harts size stream before number =
-    let place : before * size + number * size ≡ (before + number) * size = omega arith in
-    ap (λ (s : Stream). map (drawn harts) (words size s)) (left_after-sum (number * size) (before * size) stream ∙ ap (λ (n : ℕ). left_after n stream) place)
+drawn_later harts size stream before number = grind (arith, left_after-sum)
 
 at_start : (size : ℕ) (stream : Stream) → left_after (0 * size) stream ≡ stream
 unfolding left_after
@@ -222,10 +205,7 @@ pub all_placed : (runs jobs job : ℕ) → 1 ≤ jobs → job ≡ jobs → first
 all_placed runs jobs job some last = search rules
 
 pub placed_later : (runs jobs job : ℕ) → 1 ≤ jobs → first_of runs jobs job ≤ first_of runs jobs (job + 1)
-placed_later runs jobs job some =
-    let before = div-mul-le_self (runs * job) jobs in
-    let more : runs * (job + 1) ≡ runs * job + runs = omega arith in
-    le-div (first_of runs jobs job) (runs * (job + 1)) jobs (omega (arith, some)) (omega (arith, before, more))
+placed_later runs jobs job some = grind (arith, div-mul-le_self, le-div)
 
 pub placed_within : (runs jobs job : ℕ) → 1 ≤ jobs → job ≤ jobs → first_of runs jobs job ≤ runs
 placed_within runs jobs job some most = search rules

@@ -1,11 +1,9 @@
 -- Runs by drawn schedules, one more at a time.
-use Rattle.std.proofs.Common.{◌≡◌, ℕ, zero, suc, ◌+◌, ◌*◌, List, [], ◌∷◌, ◌++◌, length, map, refl, sym, ap, ◌∙◌, arith}
-use Rattle.std.specs.List.{range_with_len}
+use Rattle.std.proofs.Common.{◌≡◌, ℕ, zero, suc, ◌+◌, ◌*◌, List, [], ◌∷◌, ◌++◌, length, refl, ap, ◌∙◌, arith}
 use Rattle.std.proofs.lemmas.List.{map-append}
 use Rattle.std.proofs.lemmas.List.FromFn.{map-range_with_len_more}
 use Rattle.std.proofs.lemmas.List.Elements.{All-append, All-cons, All-nil}
 use Rattle.rand_core.specs.Stream.{Stream, next_u32}
-use Rattle.step_machine.specs.declared.events.Event.{Event}
 use Rattle.litmus.specs.LitmusTests.{LitmusTest}
 use Rattle.recorder.specs.Drawing.{left_after}
 use Rattle.tries.specs.Trials.{Trial, IsTrial, schedule_drawn, AreTrials}
@@ -20,9 +18,7 @@ left_after-sum more (suc before) stream =
 
 -- one more schedule was drawn
 pub left_more : (size number : ℕ) (first before after : Stream) → before ≡ left_after (number * size) first → after ≡ left_after size before → after ≡ left_after ((number + 1) * size) first
-left_more size number first before after was drawn =
-    let more : number * size + size ≡ (number + 1) * size = omega arith in
-    drawn ∙ ap (left_after size) was ∙ left_after-sum size (number * size) first ∙ ap (λ (n : ℕ). left_after n first) more
+left_more size number first before after was drawn = grind (arith, left_after-sum)
 
 -- no run
 pub no_trials : (B M : ℕ) (test : LitmusTest) (stream : Stream) (size : ℕ) → AreTrials B M test stream 0 size []
@@ -31,13 +27,11 @@ no_trials B M test stream size = record { schedules = refl; ran = All-nil (IsTri
 -- and one run more
 pub trials_more : (B M : ℕ) (test : LitmusTest) (stream : Stream) (number size : ℕ) (trials : List Trial) (trial : Trial) → AreTrials B M test stream number size trials
     → trial.events ≡ schedule_drawn (length test.opening.harts) size stream number → IsTrial B M test trial → AreTrials B M test stream (number + 1) size (trials ++ trial ∷ [])
-trials_more B M test stream number size trials trial are drawn is =
-    let same : 0 + number ≡ number = omega arith in
-    record {
-      schedules =
-          map-append (λ (t : Trial). t.events) trials (trial ∷ [])
-          ∙ ap (λ (front : List (List Event)). front ++ trial.events ∷ []) are.schedules
-          ∙ ap (λ (events : List Event). map (schedule_drawn (length test.opening.harts) size stream) (range_with_len 0 number) ++ events ∷ []) drawn
-          ∙ sym (map-range_with_len_more (schedule_drawn (length test.opening.harts) size stream) 0 number number same);
-      ran = All-append (IsTrial B M test) trials (trial ∷ []) are.ran (All-cons (IsTrial B M test) trial [] is (All-nil (IsTrial B M test)));
-    }
+trials_more B M test stream number size trials trial are drawn is = grind (
+  arith,
+  map-append,
+  map-range_with_len_more (schedule_drawn (length test.opening.harts) size stream) 0 number number,
+  All-append (IsTrial B M test) trials (trial ∷ []) are.ran (All-cons (IsTrial B M test) trial [] is (All-nil (IsTrial B M test))),
+  All-cons (IsTrial B M test) trial [] is (All-nil (IsTrial B M test)),
+  All-nil (IsTrial B M test),
+)
