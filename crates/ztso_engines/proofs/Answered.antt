@@ -1,5 +1,5 @@
 -- What the reader of steps texts answers, in the words of the text.
-use Rattle.std.proofs.Common.{ℕ, List, Result, Ok, Err, subst}
+use Rattle.std.proofs.Common.{arith, ℕ, List, Result, Ok, Err, subst}
 use Rattle.std.specs.Prelude.{IfOk}
 use Rattle.step_machine.specs.History.{FitsIn}
 use Rattle.engine_parts.specs.declared.fault.Fault.{Fault}
@@ -12,8 +12,7 @@ use Rattle.ztso_engines.proofs.Describing.{text_sound, text_read}
 use Rattle.ztso_engines.proofs.Limits.{scenario_fits}
 
 pub found_script : {X : Type 0} (view : X → Scenario) (M : ℕ) (text : List ℕ) (result : Result X Fault) → Answers view result (script_at M text) → IfOk result (λ x. Describes M text (view x))
-found_script view M text (Ok x) answers = text_sound M text (view x) answers
-found_script view M text (Err e) answers = tt
+found_script view M text result answers = grind (arith, text_sound)
 
 pub only_script : {X : Type 0} (view : X → Scenario) (M : ℕ) (text : List ℕ) (scenario : Scenario) (result : Result X Fault) → Answers view result (script_at M text) → Describes M text scenario → Answers view result (Ok scenario)
 only_script view M text scenario result answers tells = subst (λ (answer : Result Scenario Refusal). Answers view result answer) (text_read M text scenario tells) answers

@@ -1,8 +1,8 @@
 -- Words written in hex, a line each, and read again.
 use Rattle.std.proofs.Common.{◌≡◌, ℕ, zero, suc, ◌-◌, ◌^◌, ◌<◌, ◌≤◌, Bool, false, eqb, ltb, List, [], ◌∷◌, ◌++◌, length, get_or, refl, ap, ◌∙◌, arith, append_assoc, ◌+◌, ◌*◌, ◌/◌, ◌%◌, inl, inr, length-append}
-use Rattle.std.specs.List.{All, AllByRecursion, flat_map, filter, slice_split}
+use Rattle.std.specs.List.{All, AllByRecursion, flat_map}
 use Rattle.std.specs.Char.{digit_value}
-use Rattle.std.specs.Str.Lines.{lines, lines_of_parts}
+use Rattle.std.specs.Str.Lines.{lines}
 use Rattle.std.specs.Str.Parse.{AllDigits, digits_value}
 use Rattle.std.proofs.lemmas.Bool.{ne_eqb, cases_Bool, eqb-false}
 use Rattle.std.proofs.lemmas.List.Elements.{recursion_from_All}
@@ -79,17 +79,11 @@ none_pass p fails (d ∷ ds) all = (fails d all.0, none_pass p fails ds all.1)
 -- ---- a line of hex digits
 
 lines_after : (ds rest : List ℕ) → AllDigits 16 ds → lines (ds ++ 10 ∷ rest) ≡ ds ∷ lines rest
-lines_after ds rest all =
-    let parts = slice_split (λ b. eqb b 10) rest in
-    ap lines_of_parts (split_stop (λ b. eqb b 10) ds 10 rest (none_pass (λ b. eqb b 10) no_line_feed ds all) refl)
-    ∙ lines_of_parts-cons ds parts (omega (arith, length-slice_split (λ b. eqb b 10) rest))
-    ∙ rw (no_carriage_return ds (length ds - 1) all) refl
+lines_after ds rest all = grind (arith, eqb, split_stop, none_pass, no_line_feed, lines_of_parts-cons, length-slice_split, no_carriage_return)
 
 one_word : (ds : List ℕ) → 0 < length ds → AllDigits 16 ds → tokens ds ≡ ds ∷ []
 unfolding tokens
-one_word ds some all =
-    ap (filter (λ piece. ltb 0 (length piece))) (split_none is_blank ds (none_pass is_blank no_blank ds all))
-    ∙ filter_kept ds [] some
+one_word ds some all = grind (arith, ltb, split_none, none_pass, no_blank, filter_kept)
 
 -- ---- a text of them
 
@@ -108,6 +102,4 @@ written_says code small = words_written code (recursion_from_All (λ word. word 
 -- what `{:08x}` makes of digits
 pub eight_digits : (ds : List ℕ) → padded_integral (format_spec 32 0 4 8 (2 ^ 64 - 1)) false [] ds ≡ replicate (8 - length ds) 48 ++ ds
 unfolding padded_integral char_count
-eight_digits ds =
-    let none : 8 - length ds - 0 - 0 ≡ 8 - length ds = omega arith in
-    rw (append-nil ds, none)
+eight_digits ds = grind (arith, append-nil)

@@ -5,7 +5,7 @@ use Rattle.std.specs.Str.Lines.{lines}
 use Rattle.std.proofs.lemmas.List.{length-replicate}
 use Rattle.std.proofs.lemmas.List.Elements.{All-from_recursion}
 use Rattle.step_machine.specs.History.{HartStart, FitsIn, IsShort}
-use Rattle.ztso_engines.specs.Scenario.{Scenario, no_scenario, opening_of, fresh, register_set, Statement, hart, reg, word, steps, with_statement, MayCome}
+use Rattle.ztso_engines.specs.Scenario.{Scenario, no_scenario, opening_of, fresh, register_set, Statement, with_statement, MayCome}
 use Rattle.ztso_engines.specs.StepsText.{LinesDescribe, Describes}
 
 record Within (M : ℕ) (t : Scenario) : Type 0 where
@@ -23,15 +23,11 @@ short_kept (first ∷ others) zero n v all = all
 short_kept (first ∷ others) (suc h) n v all = (all.0, short_kept others h n v all.1)
 
 length-register_set : (harts : List HartStart) (h n v : ℕ) → length (register_set harts h n v) ≡ length harts
-length-register_set [] h n v = refl
-length-register_set (first ∷ others) zero n v = refl
 length-register_set (first ∷ others) (suc h) n v = ap suc (length-register_set others h n v)
+length-register_set x y n v = refl
 
 within_stays : (M : ℕ) (t : Scenario) (s : Statement) → Within M t → MayCome t s → Within M (with_statement t s)
-within_stays M t (hart code) w fits = record { harts = simp length-append (omega (arith, fits.0)); code = short_added t.harts code w.code fits.1; memory = w.memory }
-within_stays M t (reg h n v) w fits = record { harts = rw length-register_set w.harts; code = short_kept t.harts h n v w.code; memory = w.memory }
-within_stays M t (word a v) w fits = record { harts = w.harts; code = w.code; memory = simp length-set w.memory }
-within_stays M t (steps events) w fits = record { harts = w.harts; code = w.code; memory = w.memory }
+within_stays M t s w fits = grind (arith, length-append, short_added, length-register_set, short_kept, length-set)
 
 within_lines : (M : ℕ) (t : Scenario) (left : List (List ℕ)) (scenario : Scenario) → Within M t → LinesDescribe t left scenario → Within M scenario
 within_lines M t [] scenario w tell = rw tell w

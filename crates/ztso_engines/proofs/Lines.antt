@@ -1,8 +1,7 @@
 -- A line of a steps text: what is read of it is what it says.
-use Rattle.std.proofs.Common.{◌≡◌, ℕ, ◌-◌, ◌/◌, ◌%◌, ◌<◌, ◌≤◌, true, false, not, ◌||◌, cond, eqb, ltb, leb, List, [], ◌∷◌, ◌++◌, length, set, Option, Some, None, Ok, Err, refl, sym, ap, subst, ◌∙◌, ◌⊎◌, inl, inr, arith}
+use Rattle.std.proofs.Common.{◌≡◌, ℕ, ◌-◌, ◌/◌, ◌%◌, ◌<◌, ◌≤◌, false, not, ◌||◌, cond, eqb, ltb, leb, List, [], ◌∷◌, ◌++◌, length, set, Option, Some, None, Ok, Err, refl, sym, ap, subst, ◌∙◌, ◌⊎◌, inl, inr, arith}
 use Rattle.std.specs.Prelude.{codes}
 use Rattle.std.specs.List.{AllZip}
-use Rattle.std.specs.Str.{bytes_eq}
 use Rattle.std.proofs.lemmas.Bool.{cases_Bool}
 use Rattle.std.proofs.lemmas.Bool.Decides.{nat_tests}
 use Rattle.std.proofs.lemmas.Slice.Eq.{bytes_eq-Decides}
@@ -13,9 +12,7 @@ use Rattle.memory.specs.Words.{IsAddress}
 use Rattle.step_machine.specs.History.{HartStart}
 use Rattle.step_machine.specs.declared.events.Event.{Event}
 use Rattle.recorder.specs.Schedule.{IsTokensOf}
-use Rattle.recorder.specs.Reading.{tokens_after}
 use Rattle.texts.proofs.FormatLaws.{settled_found, settled_only, settles_then, settles_unless, settles_ok, settles_map_err}
-use Rattle.recorder.specs.Faults.{fault_number}
 use Rattle.recorder.proofs.TextLaws.{further_settles}
 use Rattle.ztso_engines.specs.declared.steps.line.Keyword.{Keyword}
 use Rattle.ztso_engines.specs.declared.steps.line.Keyword.TheVariants as keyword
@@ -23,8 +20,7 @@ use Rattle.texts.specs.Cutting.{tokens, first_cut}
 use Rattle.ztso_engines.specs.Scenario.{Scenario, Statement, hart, reg, word, steps, fresh, register_set, with_statement, MayCome}
 use Rattle.ztso_engines.specs.StepsText.{LineSays}
 use Rattle.engine_parts.specs.LineFaults.{bad_line}
-use Rattle.ztso_engines.specs.Code.{code_at}
-use Rattle.ztso_engines.specs.StepsReading.{two_numbers, three_numbers, with_hart, with_register, with_word, with_steps, numbered, keyword_named, by_keyword, by_cut, after_line}
+use Rattle.ztso_engines.specs.StepsReading.{two_numbers, three_numbers, with_hart, with_register, with_word, with_steps, keyword_named, by_keyword, by_cut, after_line}
 use Rattle.texts.proofs.TokenLaws.{tokens_cut, tokens_uncut, tokens_first, tokens_none}
 use Rattle.ztso_engines.proofs.NumberWords.{code_settles, SayTwo, two_settles, Three, SayThree, three_settles}
 
@@ -43,31 +39,13 @@ some_is : (a b : Keyword) → some a ≡ some b → a ≡ b
 some_is a b e = cc
 
 named : (name : List ℕ) (k : Keyword) → keyword_named name ≡ Some k → name ≡ spelling k
-named name k e = elim (cases_Bool (bytes_eq name (codes "hart"))) [
-  | inl is ↦ is_spelled keyword.Hart is (rw is at e)
-  | inr no_hart ↦ elim (cases_Bool (bytes_eq name (codes "reg"))) [
-    | inl is ↦ is_spelled keyword.Register is (rw (no_hart, is) at e)
-    | inr no_reg ↦ elim (cases_Bool (bytes_eq name (codes "word"))) [
-      | inl is ↦ is_spelled keyword.Word is (rw (no_hart, no_reg, is) at e)
-      | inr no_word ↦ elim (cases_Bool (bytes_eq name (codes "steps"))) [
-        | inl is ↦ is_spelled keyword.Steps is (rw (no_hart, no_reg, no_word, is) at e)
-        | inr no_steps ↦ absurd (let f = rw (no_hart, no_reg, no_word, no_steps) at e in cc)
-      ]
-    ]
-  ]
-]
-  where
-    is_spelled : (j : Keyword) → bytes_eq name (spelling j) ≡ true → some j ≡ some k → name ≡ spelling k
-    is_spelled j is f = (bytes_eq-Decides name (spelling j)).0 is ∙ ap spelling (some_is j k f)
+named name k e = grind (arith, cases_Bool, bytes_eq-Decides, some_is)
 
 -- ---- what each kind of line changes
 
 hart_settles : (harts : List HartStart) (text : List (List ℕ)) → Settles (λ made. (code : List ℕ) × AllZip IsHexWord text code × (((length harts < 64) × (length code ≤ 4096)) × (made ≡ harts ++ fresh code ∷ []))) (with_hart harts text)
 unfolding with_hart
-hart_settles harts text =
-    settles_then (AllZip IsHexWord text) (λ code made. ((length harts < 64) × (length code ≤ 4096)) × (made ≡ harts ++ fresh code ∷ [])) (code_at text) (λ code. cond (leb 64 (length harts) || ltb 4096 (length code)) (Err bad_line) (Ok (harts ++ fresh code ∷ []))) (code_settles text)
-    (λ code is. settles_unless (λ made. made ≡ harts ++ fresh code ∷ []) ((length harts < 64) × (length code ≤ 4096)) (leb 64 (length harts) || ltb 4096 (length code)) bad_line (Ok (harts ++ fresh code ∷ []))
-    (λ e. grind (arith, nat_tests)) (λ fits. grind (arith, nat_tests)) (λ small. settles_ok ℕ (harts ++ fresh code ∷ [])))
+hart_settles harts text = grind (arith, settles_then, leb, ltb, code_settles, settles_unless, nat_tests, settles_ok)
 
 -- a hart that there is, and a register but x0
 abbrev IsRegister : List HartStart → Three → Type 0
@@ -103,10 +81,7 @@ word_settles memory text =
 
 steps_settle : (events : List Event) (text : List ℕ) → length events ≤ 1048576 → Settles (λ made. (more : List Event) × (IsTokensOf text more × (length more ≤ 1048576 - length events)) × (made ≡ events ++ more)) (with_steps events text)
 unfolding with_steps
-steps_settle events text few =
-    settles_then (λ more. IsTokensOf text more × (length more ≤ 1048576 - length events)) (λ more made. made ≡ events ++ more) (numbered (tokens_after (length events) text)) (λ more. Ok (events ++ more))
-    (settles_map_err (λ more. IsTokensOf text more × (length more ≤ 1048576 - length events)) (λ refused. fault_number refused.fault) (tokens_after (length events) text) (further_settles (length events) text))
-    (λ more is. settles_ok ℕ (events ++ more))
+steps_settle events text few = grind (arith, settles_then, settles_map_err, further_settles, settles_ok)
 
 -- ---- a line
 
@@ -212,10 +187,7 @@ unfolding after_line
 steps_read t line events said fits = rw (said.1, settled_only _ (with_steps t.events said.0) (t.events ++ events) (steps_settle t.events said.0 (omega (arith, fits))) (events, (said.2, omega (arith, fits)), refl)) refl
 
 pub statement_read : (t : Scenario) (line : List ℕ) (s : Statement) → LineSays line s → MayCome t s → after_line t line ≡ Ok (with_statement t s)
-statement_read t line (hart code) said fits = hart_read t line code said fits
-statement_read t line (reg h n v) said fits = register_read t line h n v said fits
-statement_read t line (word a v) said fits = word_read t line a v said fits
-statement_read t line (steps events) said fits = steps_read t line events said fits
+statement_read t line s said fits = grind (arith, hart_read, register_read, word_read, steps_read)
 
 pub blank_read : (t : Scenario) (line : List ℕ) → tokens line ≡ [] → after_line t line ≡ Ok t
 unfolding after_line

@@ -1,7 +1,7 @@
 -- Words that say numbers: what is read is what they say, and what they say is read.
-use Rattle.std.proofs.Common.{◌≡◌, ℕ, List, [], ◌∷◌, Ok, refl, sym, ap, ◌∙◌}
+use Rattle.std.proofs.Common.{arith, ◌≡◌, ℕ, List, [], ◌∷◌, Ok, refl, ap, ◌∙◌}
 use Rattle.std.specs.List.{AllZip}
-use Rattle.texts.specs.Numbers.{SaysWord, IsHexWord, word_of, hex_word_of}
+use Rattle.texts.specs.Numbers.{SaysWord, IsHexWord, hex_word_of}
 use Rattle.texts.specs.Results.{◌>>=◌}
 use Rattle.texts.specs.Formats.{Settles}
 use Rattle.texts.proofs.FormatLaws.{settles_as, settles_then, settles_ok, settles_word, settles_each, settles_hex_word}
@@ -25,19 +25,12 @@ IsCut text cut = (N : List ℕ) × (text ≡ N ∷ cut.1) × SaysWord N cut.0
 
 pub number_settles : (text : List (List ℕ)) → Settles (IsCut text) (number_at text)
 unfolding number_at
-number_settles [] = λ cut (N, is, says). absurd cc
-number_settles (digits ∷ others) =
-    settles_as _ (IsCut (digits ∷ others)) (number_at (digits ∷ others))
-    (settles_then (SaysWord digits) (λ n (cut : Cut). cut ≡ (n, others)) (or_bad (word_of digits)) (λ n. Ok (n, others))
-    (settles_word bad_line digits) (λ n is. settles_ok ℕ (n, others)))
-    (λ cut (n, says, same). rw same (digits, refl, says))
-    (λ cut (N, is, says). let name : digits ≡ N = cc in let rest : others ≡ cut.1 = cc in (cut.0, rw name says, λ i. (cut.0, sym rest i)))
+number_settles text = grind (arith, settles_as, settles_then, settles_word, settles_ok)
 
 -- ---- two and three numbers
 
 more_settles : {A : Type 0} (x : A) (rest : List (List ℕ)) → Settles (λ v. (rest ≡ []) × (v ≡ x)) (with_no_more x rest)
-more_settles x [] = ((refl, refl), λ v both. both.1)
-more_settles x (digits ∷ others) = λ v both. absurd (let never = both.0 in cc)
+more_settles x rest = grind arith
 
 abbrev pub SayTwo : List (List ℕ) → ℕ × ℕ → Type 0
 SayTwo text s = (A B : List ℕ) × (text ≡ A ∷ B ∷ []) × SaysWord A s.0 × SaysWord B s.1

@@ -1,13 +1,11 @@
 -- What answers an input is one answer.
-use Rattle.std.proofs.Common.{◌≡◌, ℕ, Bool, List, ◌++◌, Option, Some, Result, Ok, Err, refl, sym, ap, ◌∙◌}
+use Rattle.std.proofs.Common.{arith, ◌≡◌, ℕ, Bool, List, Some, Result, Ok, Err, sym, ap, ◌∙◌}
 use Rattle.std.specs.List.{flat_map}
 use Rattle.std.specs.Result.{IsErr}
 use Rattle.rand_core.specs.Stream.{Stream}
-use Rattle.rv_decode.specs.declared.instruction.Instr.{Instr}
-use Rattle.step_machine.specs.History.{History, unrun}
+use Rattle.step_machine.specs.History.{History}
 use Rattle.step_machine.proofs.Running.{run-one}
 use Rattle.assembler.specs.Drafts.{assembled}
-use Rattle.assembler.specs.Faults.{Refusal as AsmRefusal}
 use Rattle.assembler.specs.Program.{IsCode}
 use Rattle.assembler.proofs.OneCode.{refused_without_program}
 use Rattle.assembler.proofs.OneCode as assembler
@@ -17,16 +15,15 @@ use Rattle.litmus.specs.LitmusTests.{LitmusTest}
 use Rattle.litmus.specs.declared.verdict.Verdict.{Verdict}
 use Rattle.engine_parts.specs.declared.fault.Refusal.{Refusal}
 use Rattle.engine_parts.specs.Engines.{Output, Accepted, AreOneAnswer, judged}
-use Rattle.ztso_engines.specs.Asm.{IsAsmAnswer, asm_at, hex_line, refused_program}
-use Rattle.ztso_engines.specs.Scenario.{Scenario, opening_of}
+use Rattle.ztso_engines.specs.Asm.{IsAsmAnswer, asm_at, hex_line}
+use Rattle.ztso_engines.specs.Scenario.{Scenario}
 use Rattle.ztso_engines.specs.StepsText.{Describes}
 use Rattle.ztso_engines.specs.StepsReading.{script_at}
-use Rattle.engine_parts.specs.StateText.{shown}
 use Rattle.ztso_engines.specs.Steps.{IsStateText, IsStepsAnswer}
 use Rattle.ztso_engines.specs.Dis.{SaysCode, dis_at, instr_line, IsDisAnswer}
 use Rattle.engine_parts.specs.Histories.{AnswersEvents, AnswersRun}
 use Rattle.recorder.specs.Outcomes.{entry_line}
-use Rattle.ztso_engines.specs.Run.{IsJudged, IsRunAnswer, verdict_line}
+use Rattle.ztso_engines.specs.Run.{IsJudged, IsRunAnswer}
 use Rattle.ztso_engines.specs.Move.{IsMoved, IsMoveAnswer}
 use Rattle.ztso_engines.specs.Replay.{IsReplay, IsReplayAnswer}
 use Rattle.debugger.specs.Transcripts.{IsDebugAnswer, IsTranscript}
@@ -43,8 +40,7 @@ use Rattle.engine_parts.proofs.OneInput.{alike_by_schedule, alike_by_test, equal
 -- ---- `steps`, `dis` and `asm`
 
 one_state : (B M : ℕ) (scenario : Scenario) (a b : Output) → IsStateText B M scenario a.0 → IsStateText B M scenario b.0 → a ≡ b
-one_state B M scenario a b is other =
-    same_output a b (is.is_shown ∙ ap (shown M) (run-one B M (unrun (opening_of scenario)) scenario.events is.history other.history is.ran other.ran) ∙ sym other.is_shown)
+one_state B M scenario a b is other = grind (arith, same_output, run-one)
 
 pub one_steps : (B M : ℕ) (input : List ℕ) (a b : Result Output Refusal) → IsStepsAnswer B M input a → IsStepsAnswer B M input b → a ≡ b
 one_steps B M input =
@@ -62,11 +58,7 @@ one_dis input =
 
 unread_program : (text : List ℕ) (r : Refusal) → asm_at text ≡ Err r → IsErr (assembled text)
 unfolding asm_at
-unread_program text r e = go (assembled text) e
-  where
-    go : (read : Result (List (Option Instr)) AsmRefusal) → refused_program read ≡ Err r → IsErr read
-    go (Ok found) f = absurd cc
-    go (Err why) f = refl
+unread_program text r e = grind arith
 
 code_or_refusal : (input words : List ℕ) (r : Refusal) → Accepted IsCode input words → judged asm_at input ≡ Err r → ⊥
 code_or_refusal input words r is refused =
@@ -81,10 +73,7 @@ one_asm input =
 -- ---- `run`, `replay`, `move` and `debug`
 
 one_judged : (M : ℕ) (q : LitmusTest) (t : History) (a b : List ℕ × Verdict) → IsJudged M q t a → IsJudged M q t b → a ≡ b
-one_judged M q t a b is other =
-    let verdicts : a.1 ≡ b.1 = one_verdict M q t a.1 b.1 is.verdict other.verdict in
-    let texts : a.0 ≡ b.0 = is.is_shown ∙ ap (λ (v : Verdict). shown M t ++ verdict_line v) verdicts ∙ sym other.is_shown in
-    λ i. (texts i, verdicts i)
+one_judged M q t a b is other = grind (arith, one_verdict)
 
 one_replayed : (q : LitmusTest) (t : History) (a b : Output) → IsReplay q t a → IsReplay q t b → a ≡ b
 one_replayed q t = one_lines (flat_map entry_line t.entries)

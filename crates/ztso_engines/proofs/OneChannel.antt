@@ -1,6 +1,6 @@
 -- What answers `channel` is one answer.
-use Rattle.std.proofs.Common.{◌≡◌, ℕ, zero, suc, ◌%◌, ◌≤◌, ◌<◌, inl, inr, Bool, false, List, [], ◌∷◌, All, length, take, Result, Ok, Err, refl, sym, ap, ap₂, ◌∙◌, subst, arith}
-use Rattle.std.specs.List.{flat_map, slice_index_or}
+use Rattle.std.proofs.Common.{◌≡◌, ℕ, zero, suc, ◌%◌, ◌≤◌, ◌<◌, inl, inr, Bool, false, List, [], ◌∷◌, All, length, Result, Ok, Err, refl, sym, ap, ap₂, ◌∙◌, subst, arith}
+use Rattle.std.specs.List.{flat_map}
 use Rattle.std.specs.Prelude.{slice_index}
 use Rattle.std.proofs.lemmas.Bool.{cases_eq}
 use Rattle.std.proofs.lemmas.List.{get_or-take, length-take-le}
@@ -37,22 +37,13 @@ neither_before : (i m : ℕ) → (i < m → ⊥) → (m < i → ⊥) → i ≡ m
 neither_before i m early late = omega arith
 
 none_before : (ws : List ℕ) (j n : ℕ) → ZeroAt ws j → ZeroAt ws n → j < n → ⊥
-none_before ws j n first other less =
-    let long : j < length (take n ws) = omega (arith, length-take-le n ws (omega (arith, other.within)), less) in
-    (other.first j 0 long).1 (get_or-take n ws j 0 less ∙ first.zero)
+none_before ws j n first other less = grind (arith, length-take-le, get_or-take)
 
 no_list_before : (lists : List (List ℕ)) (i j m n : ℕ) → ZeroWordAt lists i j → ZeroWordAt lists m n → i < m → ⊥
-no_list_before lists i j m n first other less =
-    let long : i < length (take m lists) = omega (arith, length-take-le m lists (omega (arith, other.within)), less) in
-    let words : AreWords (slice_index_or lists i []) = subst AreWords (get_or-take m lists i [] less) (other.first i [] long) in
-    (words j 0 first.zero.within).1 first.zero.zero
+no_list_before lists i j m n first other less = grind (arith, length-take-le, get_or-take)
 
 one_zero : (lists : List (List ℕ)) (i j m n : ℕ) → ZeroWordAt lists i j → ZeroWordAt lists m n → (i ≡ m) × (j ≡ n)
-one_zero lists i j m n first other =
-    let lists_same : m ≡ i = neither_before m i (no_list_before lists m n i j other first) (no_list_before lists i j m n first other) in
-    let there : ZeroAt (slice_index_or lists i []) n = subst (λ (k : ℕ). ZeroAt (slice_index_or lists k []) n) lists_same other.zero in
-    let places_same : j ≡ n = neither_before j n (none_before _ j n first.zero there) (none_before _ n j there first.zero) in
-    (sym lists_same, places_same)
+one_zero lists i j m n first other = grind (arith, neither_before, no_list_before, none_before)
 
 -- ---- the first reason
 

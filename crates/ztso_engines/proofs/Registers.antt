@@ -1,5 +1,5 @@
 -- A register set in a list of harts.
-use Rattle.std.proofs.Common.{◌≡◌, ℕ, zero, suc, ◌<◌, false, ◌||◌, eqb, leb, List, [], ◌∷◌, length, get_or, set, Ok, sym, ap, arith}
+use Rattle.std.proofs.Common.{◌≡◌, ℕ, zero, suc, ◌<◌, eqb, leb, List, [], ◌∷◌, length, get_or, set, Ok, sym, ap, arith}
 use Rattle.std.proofs.lemmas.Bool.Decides.{nat_tests}
 use Rattle.step_machine.specs.History.{HartStart}
 use Rattle.ztso_engines.specs.Scenario.{register_set}
@@ -17,6 +17,4 @@ register_set_is (first ∷ others) (suc h) n v x lt e = ap (λ (ys : List HartSt
 pub with_register_done : (harts : List HartStart) (text : List (List ℕ)) (h n v : ℕ) (x : HartStart)
     → three_numbers text ≡ Ok (h, n, v) → h < length harts → (n ≡ 0 → ⊥) → n < 32 → x ≡ get_or harts h x → with_register harts text ≡ Ok (set harts h (with_value x n v))
 unfolding with_register
-with_register_done harts text h n v x said lt some below e =
-    let within : (leb (length harts) h || eqb n 0 || leb 32 n) ≡ false = grind (arith, nat_tests) in
-    rw (said, within) (ap (λ (ys : List HartStart). Ok ys) (register_set_is harts h n v x lt e))
+with_register_done harts text h n v x said lt some below e = grind (arith, leb, eqb, nat_tests, register_set_is)
