@@ -1,5 +1,5 @@
 -- Writes with their rows are the writes, and each row named has made its write.
-use Rattle.std.proofs.Common.{◌≡◌, ℕ, suc, ◌+◌, ◌-◌, ◌<◌, ◌==◌, min, get_or, Bool, true, false, if◌then◌else◌, List, []}
+use Rattle.std.proofs.Common.{◌≡◌, ℕ, ◌+◌, ◌-◌, ◌<◌, ◌==◌, min, get_or, Bool, true, false, if◌then◌else◌, List, []}
 use Rattle.std.proofs.Common.{◌∷◌, ◌++◌, length, take, drop, map, Option, Some, None, All, refl, sym, ◌∙◌, ap, subst}
 use Rattle.std.proofs.Common.{arith, append_assoc, append-nil}
 use Rattle.std.specs.Prelude.{option_map, option_to_list, IfSome}
@@ -10,7 +10,7 @@ use Rattle.std.proofs.lemmas.List.Elements.{All-nil, All-cons, All-head, All-tai
 use Rattle.memory.specs.declared.writes.Write.{Write}
 use Rattle.memory.specs.Writes.{covers, newest_of}
 use Rattle.step_machine.specs.declared.events.Entry.{Entry}
-use Rattle.step_machine.specs.Access.{Access, nothing, load, store, exchange, fence, land, access_of}
+use Rattle.step_machine.specs.Access.{Access, access_of}
 use Rattle.step_machine.specs.Entries.{hart_of, stored_by, written_by, store_of, stores, lands, pending, write_of, landed_after, landed}
 use Rattle.step_machine.proofs.Appended.{lands-append}
 use Rattle.chart.specs.declared.sources.RowWrite.{RowWrite}
@@ -28,17 +28,14 @@ writes-at_row n (w ∷ ws) = ap (λ (vs : List Write). w ∷ vs) (writes-at_row 
 
 writes-stores : (h n : ℕ) (es : List Entry) → writes (stores_by_row h n es) ≡ stores h es
 writes-stores h n [] = refl
-writes-stores h n (e ∷ es) = map-append write_in (at_row n (store_of h e)) (stores_by_row h (n + 1) es)
-    ∙ rw (writes-at_row n (store_of h e), writes-stores h (n + 1) es) refl
+writes-stores h n (e ∷ es) = grind (arith, map-append, writes-at_row, writes-stores h (n + 1) es)
 
 pub writes-pending : (h : ℕ) (es : List Entry) → writes (pending_by_row h es) ≡ pending h es
 writes-pending h es = sym (drop-map write_in (lands h es) (stores_by_row h 0 es)) ∙ ap (λ (ws : List Write). drop (lands h es) ws) (writes-stores h 0 es)
 
 writes-landed_after : (before : List Entry) (n : ℕ) (es : List Entry) → writes (landed_by_row_after before n es) ≡ landed_after before es
 writes-landed_after before n [] = refl
-writes-landed_after before n (e ∷ es) =
-    map-append write_in (at_row n (write_of before e)) (landed_by_row_after (before ++ e ∷ []) (n + 1) es)
-    ∙ rw (writes-at_row n (write_of before e), writes-landed_after (before ++ e ∷ []) (n + 1) es) refl
+writes-landed_after before n (e ∷ es) = grind (arith, map-append, writes-at_row, writes-landed_after (before ++ e ∷ []) (n + 1) es)
 
 pub writes-landed : (es : List Entry) → writes (landed_by_row es) ≡ landed es
 writes-landed es = writes-landed_after [] 0 es
@@ -51,11 +48,7 @@ byte_by a w = byte_at (a - w.write.addr) w.write.value
 pub newest-bytes : (a : ℕ) (found : Option RowWrite) (ws : List RowWrite)
     → newest_of a (option_map (byte_by a) found) (writes ws) ≡ option_map (byte_by a) (newest_from a found ws)
 newest-bytes a found [] = refl
-newest-bytes a found (w ∷ ws) =
-    elim (covers w.write a) as
-    (λ b. newest_of a (if b then Some (byte_by a w) else option_map (byte_by a) found) (writes ws)
-    ≡ option_map (byte_by a) (newest_from a (if b then Some w else found) ws))
-    [ true ↦ newest-bytes a (Some w) ws | false ↦ newest-bytes a found ws ]
+newest-bytes a found (w ∷ ws) = grind (arith, newest-bytes a (Some w) ws, newest-bytes a found ws)
 
 pub newest-is : (P : RowWrite → Type 0) (a : ℕ) (found : Option RowWrite) (ws : List RowWrite) → IfSome found P → All P ws → IfSome (newest_from a found ws) P
 newest-is P a found [] was all = was
@@ -76,30 +69,16 @@ entries_before (b ∷ before) e es = ap (λ (bs : List Entry). b ∷ bs) (entrie
 -- a list of one write at most
 one_stored : (P : RowWrite → Type 0) (n : ℕ) (b : Bool) (x : Access)
     → ((w : Write) → stored_by b x ≡ w ∷ [] → P (record { row = n; write = w })) → All P (at_row n (stored_by b x))
-one_stored P n true (store w) holds = All-cons P (record { row = n; write = w }) [] (holds w refl) (All-nil P)
-one_stored P n false (store w) holds = All-nil P
-one_stored P n b nothing holds = All-nil P
-one_stored P n b (load a width v) holds = All-nil P
-one_stored P n b (exchange a old new) holds = All-nil P
-one_stored P n b (fence full) holds = All-nil P
-one_stored P n b land holds = All-nil P
+one_stored P n b x holds = grind (arith, All-cons, All-nil)
 
 one_oldest : (P : RowWrite → Type 0) (n : ℕ) (ws : List Write)
     → ((w : Write) → take 1 ws ≡ w ∷ [] → P (record { row = n; write = w })) → All P (at_row n (take 1 ws))
-one_oldest P n [] holds = All-nil P
-one_oldest P n (w ∷ ws) holds = All-cons P (record { row = n; write = w }) [] (holds w refl) (All-nil P)
+one_oldest P n ws holds = grind (arith, All-nil, All-cons)
 
 one_written : (P : RowWrite → Type 0) (n : ℕ) (ws : List Write) (x : Access)
     → ((w : Write) → written_by (take 1 ws) x ≡ w ∷ [] → P (record { row = n; write = w }))
     → All P (at_row n (written_by (take 1 ws) x))
-one_written P n ws (exchange a old new) holds =
-    All-cons P (record { row = n; write = record { addr = a; width = 4; value = new } }) []
-    (holds (record { addr = a; width = 4; value = new }) refl) (All-nil P)
-one_written P n ws land holds = one_oldest P n ws holds
-one_written P n ws nothing holds = All-nil P
-one_written P n ws (load a width v) holds = All-nil P
-one_written P n ws (store w) holds = All-nil P
-one_written P n ws (fence full) holds = All-nil P
+one_written P n ws x holds = grind (arith, All-cons, All-nil, one_oldest)
 
 -- the row has stored this, or written it to memory
 abbrev pub HasStored : ℕ → List Entry → RowWrite → Type 0
@@ -138,21 +117,13 @@ landed_written es = written_from [] es 0 refl
 pub stores_by_row-last : (h n : ℕ) (es : List Entry) (e : Entry)
     → stores_by_row h n (es ++ e ∷ []) ≡ stores_by_row h n es ++ at_row (n + length es) (store_of h e)
 stores_by_row-last h n [] e = let here : n + 0 ≡ n = omega arith in rw here (append-nil (at_row n (store_of h e)))
-stores_by_row-last h n (x ∷ es) e =
-    let there : n + 1 + length es ≡ n + suc (length es) = omega arith in
-    ap (λ (ws : List RowWrite). at_row n (store_of h x) ++ ws) (stores_by_row-last h (n + 1) es e)
-    ∙ rw there (sym (append_assoc (at_row n (store_of h x)) (stores_by_row h (n + 1) es) (at_row (n + suc (length es)) (store_of h e))))
+stores_by_row-last h n (x ∷ es) e = grind (arith, append_assoc, stores_by_row-last h (n + 1) es e)
 
 landed_after-last : (before : List Entry) (n : ℕ) (es : List Entry) (e : Entry)
     → landed_by_row_after before n (es ++ e ∷ []) ≡ landed_by_row_after before n es
     ++ at_row (n + length es) (write_of (before ++ es) e)
 landed_after-last before n [] e = let here : n + 0 ≡ n = omega arith in rw (here, append-nil before) (append-nil (at_row n (write_of before e)))
-landed_after-last before n (x ∷ es) e =
-    let there : n + 1 + length es ≡ n + suc (length es) = omega arith in
-    ap (λ (ws : List RowWrite). at_row n (write_of before x) ++ ws) (landed_after-last (before ++ x ∷ []) (n + 1) es e)
-    ∙ rw (there, append_assoc before (x ∷ []) es)
-    (sym (append_assoc (at_row n (write_of before x)) (landed_by_row_after (before ++ x ∷ []) (n + 1) es)
-    (at_row (n + suc (length es)) (write_of (before ++ x ∷ es) e))))
+landed_after-last before n (x ∷ es) e = grind (arith, append_assoc, landed_after-last (before ++ x ∷ []) (n + 1) es e)
 
 pub landed_by_row-last : (es : List Entry) (e : Entry) → landed_by_row (es ++ e ∷ []) ≡ landed_by_row es ++ at_row (length es) (write_of es e)
 landed_by_row-last es e = let here : 0 + length es ≡ length es = omega arith in rw (← here) (landed_after-last [] 0 es e)
@@ -160,15 +131,11 @@ landed_by_row-last es e = let here : 0 + length es ≡ length es = omega arith i
 -- the same of the front of a list
 pub stores_next : (h i : ℕ) (es : List Entry) (d : Entry) → i < length es
     → stores_by_row h 0 (take (i + 1) es) ≡ stores_by_row h 0 (take i es) ++ at_row i (store_of h (get_or es i d))
-stores_next h i es d within =
-    let so_far : 0 + length (take i es) ≡ i = omega (arith, length-take i es, within) in
-    rw (take_more es i d within, stores_by_row-last h 0 (take i es) (get_or es i d), so_far) refl
+stores_next h i es d within = grind (arith, length-take i es, take_more es i d within, stores_by_row-last h 0 (take i es) (get_or es i d), get_or es i d)
 
 pub landed_next : (i : ℕ) (es : List Entry) (d : Entry) → i < length es
     → landed_by_row (take (i + 1) es) ≡ landed_by_row (take i es) ++ at_row i (write_of (take i es) (get_or es i d))
-landed_next i es d within =
-    let so_far : length (take i es) ≡ i = omega (arith, length-take i es, within) in
-    rw (take_more es i d within, landed_by_row-last (take i es) (get_or es i d), so_far) refl
+landed_next i es d within = grind (arith, length-take i es, take_more es i d within, landed_by_row-last (take i es) (get_or es i d), get_or es i d)
 
 pub lands_next : (h i : ℕ) (es : List Entry) (d : Entry) → i < length es → lands h (take (i + 1) es) ≡ lands h (take i es) + lands h (get_or es i d ∷ [])
 lands_next h i es d within = rw (take_more es i d within) (lands-append h (take i es) (get_or es i d ∷ []))
@@ -193,7 +160,4 @@ oldest_written h es = rw (← writes-pending h es) (at (pending_by_row h es))
 
 -- what is left of a list of stores without its first n
 pub left_over : (n m : ℕ) (ws all : List RowWrite) → ws ≡ all → m ≡ min n (length ws) → take (length ws - m) (drop m ws) ≡ drop n all
-left_over n m ws all same cut =
-    rw (cut, drop_min n ws)
-    (take_all (length ws - min n (length ws)) (drop n ws) (omega (arith, length-drop n ws))
-    ∙ ap (λ (vs : List RowWrite). drop n vs) same)
+left_over n m ws all same cut = grind (arith, drop_min, take_all, length-drop)

@@ -1,6 +1,6 @@
 -- No text of a picture's row stands on another text or on a stroke.
-use Rattle.std.proofs.Common.{◌≡◌, ℕ, suc, ◌+◌, ◌-◌, ◌*◌, ◌<◌, ◌≤◌, ◌^◌, Bool, true, false, cond, if◌then◌else◌}
-use Rattle.std.proofs.Common.{◌⊎◌, inl, inr, List, [], ◌∷◌, ◌++◌, length, map, Option, Some, None, All, refl, ap, subst, arith}
+use Rattle.std.proofs.Common.{◌≡◌, ℕ, ◌+◌, ◌-◌, ◌*◌, ◌<◌, ◌≤◌, ◌^◌, Bool, true, cond, if◌then◌else◌}
+use Rattle.std.proofs.Common.{◌⊎◌, inl, inr, List, [], ◌∷◌, ◌++◌, length, map, Option, Some, None, All, refl, ap, arith}
 use Rattle.std.specs.Prelude.{nat_lt, nat_le, ◌&&◌, option_map, IfSome}
 use Rattle.std.specs.List.{slice_index_or, flat_map, list_any, AllByRecursion}
 use Rattle.std.specs.Fmt.{decimal}
@@ -10,10 +10,9 @@ use Rattle.std.proofs.lemmas.Fmt.{length-decimal-le}
 use Rattle.std.proofs.lemmas.List.Concat.{flat_map-cons}
 use Rattle.std.proofs.lemmas.List.Elements.{All-nil, All-cons, All-head, All-tail, All-append, All-from_recursion}
 use Rattle.step_machine.specs.declared.events.Entry.{Entry}
-use Rattle.step_machine.specs.declared.events.Entry.TheVariants as entry
 use Rattle.chart.specs.declared.lanes.Held.{Held}
 use Rattle.chart.specs.declared.pictures.Sign.{Sign}
-use Rattle.chart.specs.declared.pictures.Sign.TheVariants.{Flat, Double, Reads, Down, Bend, Lands, From, Reader, To, Joins, Cut}
+use Rattle.chart.specs.declared.pictures.Sign.TheVariants.{Down, To, Joins}
 use Rattle.chart.specs.declared.pictures.Stroke.{Stroke}
 use Rattle.chart.specs.declared.pictures.Weight.TheVariants.{Loud}
 use Rattle.chart.specs.declared.sources.Source.{Source}
@@ -34,56 +33,22 @@ abbrev Avoids : (from behind memory : ℕ) → Stroke → Type 0
 Avoids from behind memory s = (cell : ℕ) → strikes s cell ≡ true → Outside from behind memory cell
 
 pub struck_at : (at count cell : ℕ) → (nat_le at cell && nat_lt (cell - at) count) ≡ true → (at ≤ cell) × (cell < at + count)
-struck_at at count cell is =
-    let both = and_parts (nat_le at cell) (nat_lt (cell - at) count) is in
-    let low : at ≤ cell = leb-true at cell both.0 in
-    let high : cell - at < count = ltb-true (cell - at) count both.1 in
-    (low, omega (low, high, arith))
+struck_at at count cell is = grind (arith, and_parts, leb-true, ltb-true)
 
 sign_avoids : (from behind memory : ℕ) (sign : Sign) (cell column : ℕ) → Outside from behind memory cell →
     Avoids from behind memory (sign_at sign cell column)
-sign_avoids from behind memory sign cell column there other is =
-    let at = struck_at cell 1 other is in
-    let same : cell ≡ other = omega (at.0, at.1, arith) in
-    subst (λ (c : ℕ). Outside from behind memory c) same there
+sign_avoids from behind memory sign cell column there other is = grind (arith, struck_at)
 
 across_avoids : (from behind memory : ℕ) (sign : Sign) (first to column : ℕ) → 7 ≤ first → behind ≤ first → to ≤ memory →
     Avoids from behind memory (across sign first to column)
-across_avoids from behind memory sign first to column low right high cell is =
-    let at = struck_at first (to - first) cell is in
-    (omega (low, at.0, arith), omega (high, at.0, at.1, arith), inr (omega (right, at.0, arith)))
+across_avoids from behind memory sign first to column low right high cell is = grind (arith, struck_at)
 
 to_memory : (from behind memory column : ℕ) → 7 ≤ from → from ≤ behind → behind + 6 ≤ memory → Avoids from behind memory (sign_at To (memory - 2) column)
-to_memory from behind memory column low right high =
-    sign_avoids from behind memory To (memory - 2) column (omega (low, right, high, arith), omega (high, arith), inr (omega (high, arith)))
+to_memory from behind memory column low right high = grind (arith, sign_avoids)
 
 own_avoids : (from behind memory column : ℕ) (lane : Option ℕ) (e : Entry) → 7 ≤ from → from ≤ behind → behind + 6 ≤ memory →
     IfSome lane (λ l. (behind ≤ l) × (l < memory)) → AllByRecursion (Avoids from behind memory) (own_strokes column behind memory lane e)
-own_avoids from behind memory column None (entry.Store h a width v) low right high placed =
-    (sign_avoids from behind memory Cut (behind + 1) column (omega (low, right, arith), omega (high, arith), inr (omega arith)), tt)
-own_avoids from behind memory column (Some lane) (entry.Store h a width v) low right high placed = (
-  across_avoids from behind memory Flat (behind + 1) lane column (omega (low, right, arith)) (omega arith) (omega (placed.1, arith)),
-  (sign_avoids from behind memory Bend lane column (omega (low, right, placed.0, arith), placed.1, inr placed.0), tt),
-)
-own_avoids from behind memory column None (entry.Land h) low right high placed = (
-  sign_avoids from behind memory Cut (memory - 3) column (omega (low, right, high, arith), omega (high, arith), inr (omega (high, arith))),
-  (to_memory from behind memory column low right high, tt),
-)
-own_avoids from behind memory column (Some lane) (entry.Land h) low right high placed = (
-  across_avoids from behind memory Flat (lane + 1) (memory - 2) column (omega (low, right, placed.0, arith)) (omega (placed.0, arith)) (omega arith),
-  (
-    sign_avoids from behind memory Lands lane column (omega (low, right, placed.0, arith), placed.1, inr placed.0),
-    (to_memory from behind memory column low right high, tt),
-  ),
-)
-own_avoids from behind memory column lane (entry.Amo h a old new) low right high placed = (
-  sign_avoids from behind memory From (behind + 1) column (omega (low, right, arith), omega (high, arith), inr (omega arith)),
-  (
-    across_avoids from behind memory Double (behind + 2) (memory - 2) column (omega (low, right, arith)) (omega arith) (omega arith),
-    (to_memory from behind memory column low right high, tt),
-  ),
-)
-own_avoids from behind memory column lane other low right high placed = tt
+own_avoids from behind memory column lane e low right high placed = grind (arith, sign_avoids, across_avoids, to_memory)
 
 -- ---- a row
 
@@ -94,19 +59,7 @@ Placed p h = (rank p h.column < columns p) × (h.lane < p.lanes)
 read_avoids : (p : PlacesOf) (from behind column : ℕ) (sources : List Source) (h : Held) → 7 ≤ from → from ≤ behind →
     behind + 6 ≤ memory_cell p → lane_cell p h < memory_cell p →
     AllByRecursion (Avoids from behind (memory_cell p)) (read_strokes p sources column behind h)
-read_avoids p from behind column sources h low right high placed =
-    elim (is_read sources h) as (λ b. AllByRecursion (Avoids from behind (memory_cell p))
-    (if b then sign_at Reader (behind + 1) column ∷ across Reads (behind + 2) (lane_cell p h) column ∷ [] else [])) [
-      | true ↦ (
-        sign_avoids from behind (memory_cell p) Reader (behind + 1) column (omega (low, right, arith), omega (high, arith), inr (omega arith)),
-        (
-          across_avoids from behind (memory_cell p) Reads (behind + 2) (lane_cell p h) column
-              (omega (low, right, arith)) (omega arith) (omega (placed, arith)),
-          tt,
-        ),
-      )
-      | false ↦ tt
-    ]
+read_avoids p from behind column sources h low right high placed = grind (arith, sign_avoids, across_avoids)
 
 reads_avoid : (p : PlacesOf) (from behind column : ℕ) (sources : List Source) (hs : List Held) → 7 ≤ from → from ≤ behind →
     behind + 6 ≤ memory_cell p → All (λ h. Outside from behind (memory_cell p) (lane_cell p h)) hs →
@@ -142,51 +95,30 @@ any_avoids from behind memory cell (s ∷ ss) all is =
 pub one_of : (a b c d : Bool) → (a ≡ true → b ≡ true → ⊥) → (a ≡ true → c ≡ true → ⊥) → (a ≡ true → d ≡ true → ⊥) → (b ≡ true → c ≡ true → ⊥) →
     (b ≡ true → d ≡ true → ⊥) → (c ≡ true → d ≡ true → ⊥) →
     0 + cond a 1 0 + cond b 1 0 + cond c 1 0 + (if d then 1 else 0) ≤ 1
-one_of true true c d ab ac ad bc bd cd = absurd (ab refl refl)
-one_of true false true d ab ac ad bc bd cd = absurd (ac refl refl)
-one_of true false false true ab ac ad bc bd cd = absurd (ad refl refl)
-one_of true false false false ab ac ad bc bd cd = omega arith
-one_of false true true d ab ac ad bc bd cd = absurd (bc refl refl)
-one_of false true false true ab ac ad bc bd cd = absurd (bd refl refl)
-one_of false true false false ab ac ad bc bd cd = omega arith
-one_of false false true true ab ac ad bc bd cd = absurd (cd refl refl)
-one_of false false true false ab ac ad bc bd cd = omega arith
-one_of false false false true ab ac ad bc bd cd = omega arith
-one_of false false false false ab ac ad bc bd cd = omega arith
+one_of a b c d ab ac ad bc bd cd = grind arith
 
 -- a number that ends before cell 7, a text, one in memory, and strokes beside them
 pub pieces_clear : (number said kept : MarkOf) (ss : List Stroke) → number.at + length number.text ≤ 7 → 7 ≤ said.at →
     said.at + length said.text ≤ kept.at → All (Avoids said.at (said.at + length said.text) kept.at) ss →
     IsClear (record { marks = number ∷ said ∷ kept ∷ []; strokes = ss })
-pieces_clear number said kept ss left low right all cell =
-    let n = struck_at number.at (length number.text) cell in
-    let s = struck_at said.at (length said.text) cell in
-    let k = struck_at kept.at (length kept.text) cell in
-    let l = any_avoids said.at (said.at + length said.text) kept.at cell ss all in
-    one_of (stands_in cell number) (stands_in cell said) (stands_in cell kept) (list_any (λ s. strikes s cell) ss)
-    (λ a b. omega ((n a).1, (s b).0, left, low, arith)) (λ a c. omega ((n a).1, (k c).0, left, low, right, arith))
-    (λ a d. omega ((n a).1, (l d).0, left, arith)) (λ b c. omega ((s b).1, (k c).0, right, arith))
-    (λ b d. elim (l d).2 [ inl before ↦ omega (before, (s b).0, arith) | inr after ↦ omega (after, (s b).1, arith) ])
-    (λ c d. omega ((k c).0, (l d).1, arith))
+pieces_clear number said kept ss left low right all cell = grind (
+  arith,
+  struck_at number.at (length number.text) cell,
+  struck_at said.at (length said.text) cell,
+  struck_at kept.at (length kept.text) cell,
+  any_avoids said.at (said.at + length said.text) kept.at cell ss all,
+  one_of (stands_in cell number) (stands_in cell said) (stands_in cell kept),
+)
 
 -- ---- cells of lanes
 
 room_left : (a n w : ℕ) → a < n → a * w + w ≤ n * w
-room_left a n w below =
-    let more : suc a ≤ n = omega (below, arith) in
-    let whole : suc a * w ≤ n * w = mul-le-mul more (omega arith) in
-    rw (suc-mul a w) at whole
+room_left a n w below = grind (arith, mul-le-mul, suc-mul)
 
 -- the lane of a column, beside the text of this column or another one
 lane_beside : (w text lanes lane a b n : ℕ) → w ≡ text + 2 * lanes + 4 → a < n → b < n → lane < lanes →
     Outside (7 + b * w) (7 + b * w + text + 2) (9 + n * w) (7 + a * w + text + 2 * (lanes - lane))
-lane_beside w text lanes lane a b n is first second below =
-    let room : a * w + w ≤ n * w = room_left a n w first in
-    (omega arith, omega (room, is, arith, below), beside (cases_lt a b))
-  where
-    beside : ((a < b) ⊎ (b ≤ a)) → (7 + a * w + text + 2 * (lanes - lane) < 7 + b * w) ⊎ (7 + b * w + text + 2 ≤ 7 + a * w + text + 2 * (lanes - lane))
-    beside (inl left) = let left_room : a * w + w ≤ b * w = room_left a b w left in inl (omega (left_room, is, arith, below))
-    beside (inr right) = let more : b * w ≤ a * w = mul-le-mul right (omega arith) in inr (omega (more, arith, below))
+lane_beside w text lanes lane a b n is first second below = grind (arith, room_left, cases_lt, mul-le-mul)
 
 lane_outside : (p : PlacesOf) (column : ℕ) (h : Held) → rank p column < columns p → Placed p h →
     Outside (begins p column) (begins p column + p.text + 2) (memory_cell p) (lane_cell p h)

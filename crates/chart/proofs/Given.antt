@@ -10,9 +10,9 @@ use Rattle.step_machine.specs.declared.events.Entry.{Entry}
 use Rattle.step_machine.specs.declared.events.Entry.TheVariants as entry
 use Rattle.step_machine.specs.History.{Start}
 use Rattle.step_machine.specs.Legal.{Allowed}
-use Rattle.step_machine.specs.Entries.{pending, landed, opening_byte, read_byte, read, write_of}
+use Rattle.step_machine.specs.Entries.{opening_byte, read_byte, read, write_of}
 use Rattle.chart.specs.declared.sources.RowWrite.{RowWrite}
-use Rattle.chart.specs.Sources.{pending_by_row, landed_by_row, newest, named, source_of, row_of, landed_store, stored_at, byte_from}
+use Rattle.chart.specs.Sources.{pending_by_row, newest, named, source_of, row_of, landed_store, stored_at, byte_from}
 use Rattle.chart.proofs.ByRow.{writes, byte_by, HasStored, HasWritten, writes-pending, writes-landed, newest-bytes, newest-is, pending_stored, landed_written}
 
 -- the newest write to cover a byte, where the rows have it
@@ -23,21 +23,14 @@ given_by : (o : Start) (es : List Entry) (h a : ℕ) (own memory : Option RowWri
     → IfSome memory (HasWritten es)
     → unwrap_or (option_map (byte_by a) own) (unwrap_or (option_map (byte_by a) memory) (opening_byte o a))
     ≡ byte_from o es h a (named own memory)
-given_by o es h a (Some w) memory stored written = rw stored refl
-given_by o es h a None (Some w) stored written = rw written refl
-given_by o es h a None None stored written = refl
+given_by o es h a own memory stored written = grind arith
 
 -- the byte that a hart reads is the one that its source gives
 pub byte_given : (o : Start) (es : List Entry) (h a : ℕ) → read_byte o es h a ≡ byte_from o es h a (source_of es h a)
-byte_given o es h a =
-    rw (newest_row a (pending_by_row h es) (pending h es) (writes-pending h es), newest_row a (landed_by_row es) (landed es) (writes-landed es))
-    (given_by o es h a (newest a (pending_by_row h es)) (newest a (landed_by_row es))
-    (newest-is (HasStored h es) a None (pending_by_row h es) tt (pending_stored h es))
-    (newest-is (HasWritten es) a None (landed_by_row es) tt (landed_written es)))
+byte_given o es h a = grind (arith, newest_row, writes-pending, writes-landed, given_by, newest-is, pending_stored, landed_written)
 
 pub read_given : (o : Start) (es : List Entry) (h a width : ℕ) → read o es h a width ≡ joined (λ i. byte_from o es h (a + i) (source_of es h (a + i))) width
-read_given o es h a width = joined-same (λ i. read_byte o es h (a + i))
-    (λ i. byte_from o es h (a + i) (source_of es h (a + i))) width (λ i below. byte_given o es h (a + i))
+read_given o es h a width = grind (arith, joined-same, byte_given)
 
 pub load_given : (B : ℕ) (o : Start) (before : List Entry) (h a width v : ℕ)
     → Allowed B o before (entry.Load h a width v)

@@ -1,9 +1,8 @@
 -- No head of a column stands on another one.
-use Rattle.std.proofs.Common.{◌≡◌, ℕ, zero, suc, ◌+◌, ◌*◌, ◌<◌, ◌≤◌, min, Bool, true, false, cond, if◌then◌else◌}
-use Rattle.std.proofs.Common.{◌⊎◌, inl, inr, List, [], ◌∷◌, ◌++◌, length, map, refl, subst, arith, append-nil}
+use Rattle.std.proofs.Common.{◌≡◌, ℕ, zero, suc, ◌+◌, ◌*◌, ◌<◌, ◌≤◌, min, Bool, true, false, if◌then◌else◌}
+use Rattle.std.proofs.Common.{◌⊎◌, inl, inr, List, [], ◌∷◌, ◌++◌, length, map, refl, arith, append-nil}
 use Rattle.std.specs.Prelude.{nat_lt, codes}
 use Rattle.std.specs.List.{count_by}
-use Rattle.std.specs.Fmt.{decimal}
 use Rattle.std.proofs.Math.Nat.{suc-mul}
 use Rattle.std.proofs.lemmas.Bool.{cases_Bool, cases_eq, lt-ltb, le-ltb}
 use Rattle.std.proofs.lemmas.Fmt.{length-decimal-le}
@@ -21,74 +20,34 @@ use Rattle.chart.proofs.Placed.{shown_few, count-append}
 
 all_below : (h n : ℕ) (es : List Entry) → n ≤ h → count_by (λ other. nat_lt other h) (shown_harts es n) ≡ length (shown_harts es n)
 all_below h zero es within = refl
-all_below h (suc n) es within =
-    let xs = shown_harts es n in
-    let rest : count_by (λ other. nat_lt other h) xs ≡ length xs = all_below h n es (omega (within, arith)) in
-    let one : count_by (λ other. nat_lt other h) (n ∷ []) ≡ 1 = rw (lt-ltb n h (omega (within, arith))) refl in
-    elim (is_shown es n) as
-    (λ b. count_by (λ other. nat_lt other h) (xs ++ (if b then n ∷ [] else [])) ≡ length (xs ++ (if b then n ∷ [] else []))) [
-      | true ↦ omega (count-append (λ other. nat_lt other h) xs (n ∷ []), one, rest, length-append xs (n ∷ []), arith)
-      | false ↦ rw (append-nil xs) rest
-    ]
+all_below h (suc n) es within = grind (arith, lt-ltb, count-append, length-append, append-nil, all_below h n es)
 
 shown_before : (h n : ℕ) (es : List Entry) → h ≤ n → count_by (λ other. nat_lt other h) (shown_harts es n) ≡ length (shown_harts es h)
-shown_before h zero es within =
-    let none : zero ≡ h = omega (within, arith) in
-    subst (λ (k : ℕ). count_by (λ other. nat_lt other k) (shown_harts es zero) ≡ length (shown_harts es k)) none refl
-shown_before h (suc n) es within =
-    let xs = shown_harts es n in
-    elim (cases_eq (suc n) h) [
-      | inl last ↦ subst (λ (k : ℕ). count_by (λ other. nat_lt other k) (shown_harts es (suc n)) ≡ length (shown_harts es k)) last
-          (all_below (suc n) (suc n) es (omega arith))
-      | inr before ↦
-          let rest : count_by (λ other. nat_lt other h) xs ≡ length (shown_harts es h) = shown_before h n es (omega (within, before, arith)) in
-          let none : count_by (λ other. nat_lt other h) (n ∷ []) ≡ 0 = rw (le-ltb n h (omega (within, before, arith))) refl in
-          elim (is_shown es n) as (λ b. count_by (λ other. nat_lt other h) (xs ++ (if b then n ∷ [] else [])) ≡ length (shown_harts es h)) [
-            | true ↦ omega (count-append (λ other. nat_lt other h) xs (n ∷ []), none, rest, arith)
-            | false ↦ rw (append-nil xs) rest
-          ]
-    ]
+shown_before h zero es within = grind arith
+shown_before h (suc n) es within = grind (arith, cases_eq (suc n) h, all_below (suc n) (suc n) es, le-ltb n h, count-append, append-nil, shown_before h n es)
 
 abbrev apart : (es : List Entry) (harts text lanes : ℕ) → PlacesOf
 apart es harts text lanes = record { listed = false; shown = shown_harts es harts; text = text; lanes = lanes }
 
 starts : (es : List Entry) (harts text lanes n : ℕ) → n ≤ harts → harts ≤ 255 →
     begins (apart es harts text lanes) n ≡ 7 + length (shown_harts es n) * pitch (apart es harts text lanes)
-starts es harts text lanes n within few =
-    let rank : min (count_by (λ other. nat_lt other n) (shown_harts es harts)) 255 ≡ length (shown_harts es n) =
-    omega (shown_before n harts es within, shown_few es n, within, few, arith) in
-    rw rank refl
+starts es harts text lanes n within few = grind (arith, shown_before, shown_few)
 
 -- ---- heads
 
 short_name : (n : ℕ) → n ≤ 255 → length (hart_name n) ≤ 4
-short_name n few =
-    let digits : length (decimal n) ≤ 3 = length-decimal-le 3 n (omega arith) (omega (few, arith)) (omega (few, arith)) in
-    omega (digits, length-append (codes "P") (decimal n), arith)
+short_name n few = grind (arith, length-decimal-le, length-append)
 
 -- one head more: at its cells none of those before stands
 one_more : (before one left length width cell : ℕ) → before ≤ 1 → (7 + left ≤ cell → before ≡ 0) →
     ((one ≡ 1) × (7 + left ≤ cell) × (cell < 7 + left + length) × (length ≤ width)) ⊎ (one ≡ 0) →
     (before + one ≤ 1) × (7 + (left + width) ≤ cell → before + one ≡ 0)
-one_more before one left length width cell most past (inl here) =
-    let none : before ≡ 0 = past here.1 in
-    let is : one ≡ 1 = here.0 in
-    let high : cell < 7 + left + length = here.2 in
-    let short : length ≤ width = here.3 in
-    (omega (none, is, arith), λ later. absurd (omega (later, high, short, arith)))
-one_more before one left length width cell most past (inr none) =
-    (omega (most, none, arith), λ later. let zero_before : before ≡ 0 = past (omega (later, arith)) in omega (zero_before, none, arith))
+one_more before one left length width cell most past h8 = grind arith
 
 head_there : (p : PlacesOf) (n cell : ℕ) → n ≤ 255 → (left : ℕ) → begins p n ≡ 7 + left →
     ((count_by (stands_in cell) (head_mark p n ∷ []) ≡ 1) × (7 + left ≤ cell) × (cell < 7 + left + length (hart_name n)) × (length (hart_name n) ≤ pitch p))
     ⊎ (count_by (stands_in cell) (head_mark p n ∷ []) ≡ 0)
-head_there p n cell few left at =
-    elim (cases_Bool (stands_in cell (head_mark p n))) [
-      | inl here ↦
-          let cells = struck_at (begins p n) (length (hart_name n)) cell here in
-          inl (rw here refl, omega (cells.0, at, arith), omega (cells.1, at, arith), omega (short_name n few, arith))
-      | inr other ↦ inr (rw other refl)
-    ]
+head_there p n cell few left at = grind (arith, cases_Bool, struck_at, short_name)
 
 heads_apart : (es : List Entry) (harts text lanes n cell : ℕ) → n ≤ harts → harts ≤ 255 →
     (count_by (stands_in cell) (map (head_mark (apart es harts text lanes)) (shown_harts es n)) ≤ 1)
@@ -143,13 +102,5 @@ with_memory es harts text lanes cell few =
 
 pub heads_clear : (es : List Entry) (harts : ℕ) (listed : Bool) (text lanes : ℕ) → harts ≤ 255 →
     IsClear (heads_line (record { listed = listed; shown = shown_harts es harts; text = text; lanes = lanes }))
-heads_clear es harts true text lanes few cell =
-    let p : PlacesOf = record { listed = true; shown = shown_harts es harts; text = text; lanes = lanes } in
-    let all = struck_at 7 5 cell in
-    let memory = struck_at (memory_cell p) 6 cell in
-    let one : 0 + cond (stands_in cell (text_at 7 Bold (codes "harts"))) 1 0 + cond
-    (stands_in cell (text_at (memory_cell p) Bold (codes "memory"))) 1 0 + 0 + 0 ≤ 1 =
-    one_of (stands_in cell (text_at 7 Bold (codes "harts"))) (stands_in cell (text_at (memory_cell p) Bold (codes "memory"))) false false
-    (λ a b. omega ((all a).1, (memory b).0, arith)) (λ a c. cc) (λ a d. cc) (λ b c. cc) (λ b d. cc) (λ c d. cc) in
-    omega (one, arith)
+heads_clear es harts true text lanes few cell = grind (arith, struck_at, one_of)
 heads_clear es harts false text lanes few cell = with_memory es harts text lanes cell few

@@ -1,13 +1,13 @@
 -- Lanes of one more row, and which lane is free.
 use Rattle.std.proofs.Common.{◌≡◌, ℕ, zero, suc, ◌+◌, ◌-◌, ◌<◌, ◌==◌, true, false, if◌then◌else◌, List, []}
-use Rattle.std.proofs.Common.{◌∷◌, ◌++◌, length, take, drop, get_or, Some, None, inl, inr, refl, sym, ap, ◌∙◌, subst, arith}
+use Rattle.std.proofs.Common.{◌∷◌, ◌++◌, length, take, drop, get_or, Some, None, refl, sym, ap, ◌∙◌, arith}
 use Rattle.std.proofs.lemmas.Bool.{cases_Bool}
 use Rattle.std.proofs.lemmas.List.{take_more, length-take}
 use Rattle.std.proofs.Math.Seq.{drop-cons}
 use Rattle.chart.specs.declared.lanes.Held.{Held}
 use Rattle.chart.specs.declared.lanes.Shape.{Shape}
 use Rattle.chart.specs.Rows.{RowOf}
-use Rattle.chart.specs.Lanes.{LanedOf, is_held, first_free, held_by, laned_row, held_after, held_from, lanes_from, lanes_of, held_at_end}
+use Rattle.chart.specs.Lanes.{is_held, first_free, held_by, laned_row, held_after, held_from, lanes_from, lanes_of, held_at_end}
 
 -- ---- a step of each loop
 
@@ -27,10 +27,7 @@ first_free_all held column n = let none : n - n ≡ zero = omega arith in rw non
 
 pub held_by_more : (row i : ℕ) (hs : List Held) (d : Held) → i < length hs → ((get_or hs i d).row == row) ≡ false →
     held_by row (drop (i + 1) hs) ≡ held_by row (drop i hs)
-held_by_more row i hs d within is = sym (ap (held_by row) (drop_step hs i d within) ∙ rw is refl)
-  where
-    drop_step : (hs : List Held) (i : ℕ) (d : Held) → i < length hs → drop i hs ≡ get_or hs i d ∷ drop (i + 1) hs
-    drop_step hs i d within = let more : i + 1 ≡ suc i = omega arith in rw more (drop-cons hs i d within)
+held_by_more row i hs d within is = grind (arith, get_or, drop-cons)
 
 pub held_by_here : (row i : ℕ) (hs : List Held) (d : Held) → i < length hs → ((get_or hs i d).row == row) ≡ true →
     held_by row (drop i hs) ≡ Some (get_or hs i d)
@@ -39,39 +36,24 @@ held_by_here row i hs d within is = ap (held_by row) (drop-cons hs i d within) �
 -- the first free lane is one of those that were looked at, and nobody holds it
 pub first_free_is : (held : List Held) (column k n j : ℕ) → first_free held column k n ≡ Some j → (j < k + n) × (is_held held column j ≡ false)
 first_free_is held column k zero j is = cc
-first_free_is held column k (suc n) j is =
-    elim (cases_Bool (is_held held column k)) [
-      | inl busy ↦ let rest = first_free_is held column (k + 1) n j (rw busy at is) in (omega (rest.0, arith), rest.1)
-      | inr free ↦
-          let here : Some k ≡ Some j = rw free at is in
-          let same : k ≡ j = cc in
-          (omega (same, arith), subst (λ (i : ℕ). is_held held column i ≡ false) same free)
-    ]
+first_free_is held column k (suc n) j is = grind (arith, cases_Bool, first_free_is held column (k + 1) n j)
 
 -- ---- one more row
 
 lanes_from-last : (shape : Shape) (n : ℕ) (held : List Held) (rs : List RowOf) (r : RowOf) →
     lanes_from shape n held (rs ++ r ∷ []) ≡ lanes_from shape n held rs ++ laned_row shape (n + length rs) (held_from shape n held rs) r ∷ []
 lanes_from-last shape n held [] r = let here : n + 0 ≡ n = omega arith in rw here refl
-lanes_from-last shape n held (x ∷ rs) r =
-    let there : n + 1 + length rs ≡ n + suc (length rs) = omega arith in
-    ap (λ (ls : List LanedOf). laned_row shape n held x ∷ ls) (lanes_from-last shape (n + 1) (held_after shape n held x) rs r ∙ rw there refl)
+lanes_from-last shape n held (x ∷ rs) r = grind (arith, lanes_from-last shape (n + 1) (held_after shape n held x) rs r)
 
 held_from-last : (shape : Shape) (n : ℕ) (held : List Held) (rs : List RowOf) (r : RowOf) →
     held_from shape n held (rs ++ r ∷ []) ≡ held_after shape (n + length rs) (held_from shape n held rs) r
 held_from-last shape n held [] r = let here : n + 0 ≡ n = omega arith in rw here refl
-held_from-last shape n held (x ∷ rs) r =
-    let there : n + 1 + length rs ≡ n + suc (length rs) = omega arith in
-    held_from-last shape (n + 1) (held_after shape n held x) rs r ∙ rw there refl
+held_from-last shape n held (x ∷ rs) r = grind (arith, held_from-last shape (n + 1) (held_after shape n held x) rs r)
 
 pub lanes_next : (shape : Shape) (i : ℕ) (rs : List RowOf) (d : RowOf) → i < length rs →
     lanes_of shape (take (i + 1) rs) ≡ lanes_of shape (take i rs) ++ laned_row shape i (held_at_end shape (take i rs)) (get_or rs i d) ∷ []
-lanes_next shape i rs d within =
-    let so_far : 0 + length (take i rs) ≡ i = omega (arith, length-take i rs, within) in
-    rw (take_more rs i d within, lanes_from-last shape 0 [] (take i rs) (get_or rs i d), so_far) refl
+lanes_next shape i rs d within = grind (arith, length-take i rs, take_more rs i d within, lanes_from-last shape 0 [] (take i rs) (get_or rs i d), get_or rs i d)
 
 pub held_next : (shape : Shape) (i : ℕ) (rs : List RowOf) (d : RowOf) → i < length rs →
     held_at_end shape (take (i + 1) rs) ≡ held_after shape i (held_at_end shape (take i rs)) (get_or rs i d)
-held_next shape i rs d within =
-    let so_far : 0 + length (take i rs) ≡ i = omega (arith, length-take i rs, within) in
-    rw (take_more rs i d within, held_from-last shape 0 [] (take i rs) (get_or rs i d), so_far) refl
+held_next shape i rs d within = grind (arith, length-take i rs, take_more rs i d within, held_from-last shape 0 [] (take i rs) (get_or rs i d), get_or rs i d)

@@ -1,7 +1,6 @@
 -- No text of a picture's rows stands on another text or on a stroke, and no head of a column on another one.
 use Rattle.std.proofs.Common.{◌≡◌, ℕ, zero, suc, ◌+◌, ◌<◌, ◌≤◌, ◌^◌, true, false, if◌then◌else◌}
-use Rattle.std.proofs.Common.{inl, inr, List, [], ◌∷◌, length, map, Option, Some, None, All, refl, sym, ◌∙◌, ap, arith}
-use Rattle.std.specs.Prelude.{nat_le}
+use Rattle.std.proofs.Common.{List, [], ◌∷◌, length, Option, Some, All, refl, sym, ◌∙◌, ap, arith}
 use Rattle.std.specs.List.{slice_get, list_any}
 use Rattle.std.proofs.lemmas.Bool.{cases_eq}
 use Rattle.std.proofs.lemmas.List.{length-map}
@@ -12,12 +11,12 @@ use Rattle.chart.specs.declared.lanes.Held.{Held}
 use Rattle.chart.specs.declared.pictures.Stroke.{Stroke}
 use Rattle.chart.specs.declared.scenes.Form.{Form}
 use Rattle.chart.specs.Rows.{RowOf, rows_of}
-use Rattle.chart.specs.Lanes.{LanedOf, column_of, held_at_end}
+use Rattle.chart.specs.Lanes.{LanedOf, held_at_end}
 use Rattle.chart.specs.Pictures.{strikes, IsClear}
 use Rattle.chart.specs.Places.{PlacesOf}
-use Rattle.chart.specs.Scenes.{SceneOf, scene_of, said_at, kept_at, widest_said, said_cells, shape_of, lanes_in, places_of, used_after}
-use Rattle.chart.specs.Lines.{laned_line, line_in, line_at, lines_of, open_stroke, open_lines}
-use Rattle.chart.specs.Layout.{AboutOf, layout, limit, width_of, form_or, form_of, body_of, wide, brief, listed, brief_listed, narrowest}
+use Rattle.chart.specs.Scenes.{SceneOf, scene_of, said_at, widest_said, said_cells, shape_of, lanes_in, places_of, used_after}
+use Rattle.chart.specs.Lines.{laned_line, line_in, line_at, lines_of, open_lines}
+use Rattle.chart.specs.Layout.{AboutOf, layout, limit, form_or, form_of, body_of}
 use Rattle.chart.proofs.Clear.{row_clear}
 use Rattle.chart.proofs.Placed.{RowFits, row_fits, columns_there}
 use Rattle.chart.proofs.HeadLaws.{heads_clear}
@@ -30,25 +29,17 @@ no_texts ss cell = elim (list_any (λ s. strikes s cell) ss) as (λ b. 0 + (if b
 
 laned_clear : (form : Form) (scene : SceneOf) (p : PlacesOf) (i : ℕ) (r : RowOf) (lo : Option LanedOf) → i + 1 < 10 ^ 7 →
     length (said_at form scene i) ≤ p.text → RowFits p (shape_of form) (Some r) lo → IsClear (laned_line form scene p i r lo)
-laned_clear form scene p i r None few room fits = no_texts []
-laned_clear form scene p i r (Some l) few room fits =
-    row_clear p i (column_of (shape_of form) (hart_of r.entry)) (said_at form scene i) (kept_at form scene i) r l few fits.0 room fits.1
+laned_clear form scene p i r lo few room fits = grind (arith, no_texts, row_clear)
 
 line_clear : (form : Form) (scene : SceneOf) (p : PlacesOf) (lanes : List LanedOf) (i : ℕ) (ro : Option RowOf) → i + 1 < 10 ^ 7 →
     length (said_at form scene i) ≤ p.text → RowFits p (shape_of form) ro (slice_get lanes i) → IsClear (line_in form scene p lanes i ro)
-line_clear form scene p lanes i None few room fits = no_texts []
-line_clear form scene p lanes i (Some r) few room fits = laned_clear form scene p i r (slice_get lanes i) few room fits
+line_clear form scene p lanes i ro few room fits = grind (arith, no_texts, laned_clear)
 
 -- ---- all lines
 
 said_most : (form : Form) (scene : SceneOf) (i n : ℕ) → i < n → length (said_at form scene i) ≤ widest_said form scene n
 said_most form scene i zero below = absurd (omega (below, arith))
-said_most form scene i (suc n) below =
-    elim (cases_eq n i) [
-      | inl last ↦ rw last (omega arith)
-      | inr before ↦ let rest : length (said_at form scene i) ≤ widest_said form scene n = said_most form scene i n (omega (below, before, arith)) in
-          omega (rest, arith)
-    ]
+said_most form scene i (suc n) below = grind (arith, cases_eq, said_most form scene i n)
 
 lines_clear : (form : Form) (scene : SceneOf) (p : PlacesOf) (lanes : List LanedOf) (n : ℕ) → n ≤ length scene.rows → length scene.rows < 10 ^ 7 →
     p.text ≡ said_cells form scene → ((i : ℕ) → RowFits p (shape_of form) (slice_get scene.rows i) (slice_get lanes i)) →
@@ -63,22 +54,15 @@ lines_clear form scene p lanes (suc n) within few room fits =
     (All-nil IsClear))
 
 open_clear : (p : PlacesOf) (hs : List Held) → All IsClear (open_lines p hs)
-open_clear p [] = All-nil IsClear
-open_clear p (h ∷ hs) =
-    All-cons IsClear (record { marks = []; strokes = map (open_stroke p) (h ∷ hs) }) [] (no_texts (map (open_stroke p) (h ∷ hs))) (All-nil IsClear)
+open_clear p hs = grind (arith, All-nil, All-cons, no_texts)
 
 -- ---- the picture
 
 form_or_lanes : (scene : SceneOf) (most : ℕ) (form other : Form) → form.lanes ≤ 6 → other.lanes ≤ 6 → (form_or scene most form other).lanes ≤ 6
-form_or_lanes scene most form other first second =
-    elim (nat_le (width_of form scene) most) as (λ b. (if b then form else other).lanes ≤ 6) [ true ↦ first | false ↦ second ]
+form_or_lanes scene most form other first second = grind arith
 
 form_lanes : (scene : SceneOf) (most : ℕ) → (form_of scene most).lanes ≤ 6
-form_lanes scene most =
-    let last = form_or_lanes scene most brief_listed narrowest (omega arith) (omega arith) in
-    let third = form_or_lanes scene most listed (form_or scene most brief_listed narrowest) (omega arith) last in
-    let second = form_or_lanes scene most brief (form_or scene most listed (form_or scene most brief_listed narrowest)) (omega arith) third in
-    form_or_lanes scene most wide (form_or scene most brief (form_or scene most listed (form_or scene most brief_listed narrowest))) (omega arith) second
+form_lanes scene most = grind (arith, form_or_lanes)
 
 rows_count : (es : List Entry) → length (rows_of es) ≡ length es
 rows_count es = sym (length-map (rows_of es) (λ (r : RowOf). r.entry)) ∙ ap (λ (fs : List Entry). length fs) (entries_of_rows es)

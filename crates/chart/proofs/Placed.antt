@@ -1,6 +1,6 @@
 -- Each line of a row stands in a column and a lane that the picture has, and a row's own line in its hart's column.
-use Rattle.std.proofs.Common.{◌≡◌, ℕ, zero, suc, ◌+◌, ◌<◌, ◌≤◌, ◌==◌, min, max, get_or, Bool, true, false, not, cond, if◌then◌else◌}
-use Rattle.std.proofs.Common.{inl, inr, List, [], ◌∷◌, ◌++◌, length, Option, Some, None, All, refl, sym, ◌∙◌, ap, subst, arith}
+use Rattle.std.proofs.Common.{◌≡◌, ℕ, zero, suc, ◌+◌, ◌<◌, ◌≤◌, ◌==◌, max, get_or, Bool, true, false, not, cond}
+use Rattle.std.proofs.Common.{List, [], ◌∷◌, ◌++◌, length, Option, Some, None, All, refl, ◌∙◌, subst, arith}
 use Rattle.std.specs.Prelude.{nat_lt, option_to_list, IfSome}
 use Rattle.std.specs.List.{slice_get, slice_index_or, count_by}
 use Rattle.std.proofs.lemmas.Bool.{cases_Bool, cases_eq, eq-eqb, eqb-true, ne_eqb, le-ltb}
@@ -12,17 +12,17 @@ use Rattle.std.proofs.lemmas.Option.{IfSome_then}
 use Rattle.memory.specs.declared.writes.Write.{Write}
 use Rattle.step_machine.specs.declared.events.Entry.{Entry}
 use Rattle.step_machine.specs.declared.events.Entry.TheVariants as entry
-use Rattle.step_machine.specs.Access.{Access, nothing, load, store, exchange, fence, land, access_of}
+use Rattle.step_machine.specs.Access.{Access}
 use Rattle.step_machine.specs.Entries.{hart_of, stored_by, store_of}
 use Rattle.chart.specs.declared.lanes.Held.{Held}
 use Rattle.chart.specs.declared.lanes.Shape.{Shape}
 use Rattle.chart.specs.declared.sources.RowWrite.{RowWrite}
-use Rattle.chart.specs.Sources.{pending_by_row, row_of, landed_store, stored_in, stored_at}
+use Rattle.chart.specs.Sources.{pending_by_row, row_of, landed_store, stored_at}
 use Rattle.chart.specs.Rows.{RowOf, row_after, rows_after}
 use Rattle.chart.specs.Lanes.{LanedOf, column_of, first_free, in_lane, held_by, own_line, passing_lines}
 use Rattle.chart.specs.Lanes.{laned_row, held_after_entry, held_after, lanes_from}
 use Rattle.chart.specs.Places.{PlacesOf, rank, columns}
-use Rattle.chart.specs.Scenes.{is_shown, has_entry, shown_harts, lanes_to, lanes_at, used_after}
+use Rattle.chart.specs.Scenes.{is_shown, shown_harts, lanes_to, lanes_at, used_after}
 use Rattle.chart.proofs.ByRow.{HasStored, entry_there, pending_stored}
 use Rattle.chart.proofs.Clear.{Placed, IsPlacedIn}
 use Rattle.chart.proofs.LaneLaws.{first_free_is}
@@ -51,8 +51,7 @@ all_placed : (p : PlacesOf) (shape : Shape) (before : List Entry) (hs : List Hel
 all_placed p shape before = All-weaker (Kept p shape before) (Placed p) (λ h kept. kept.placed)
 
 one_held : (P : Held → Type 0) (o : Option Held) → IfSome o P → All P (option_to_list o)
-one_held P None holds = All-nil P
-one_held P (Some h) holds = All-cons P h [] holds (All-nil P)
+one_held P o holds = grind (arith, All-nil, All-cons)
 
 -- ---- the line of a store
 
@@ -63,11 +62,7 @@ record Taken (p : PlacesOf) (row column : ℕ) (h : Held) : Type 0 where
 
 in_lane_placed : (p : PlacesOf) (row column most : ℕ) (o : Option ℕ) → rank p column < columns p → most ≤ 254 →
     lanes_to (in_lane row column o) ≤ p.lanes → ((j : ℕ) → o ≡ Some j → j < most) → IfSome (in_lane row column o) (Taken p row column)
-in_lane_placed p row column most None shown few used free = tt
-in_lane_placed p row column most (Some lane) shown few used free =
-    let below : lane < most = free lane refl in
-    let lanes : min lane 254 + 1 ≤ p.lanes = used in
-    record { placed = (shown, omega (below, few, lanes, arith)); in_column = refl; of_row = refl }
+in_lane_placed p row column most o shown few used free = grind arith
 
 taken_placed : (p : PlacesOf) (shape : Shape) (row column : ℕ) (held : List Held) → rank p column < columns p → shape.lanes ≤ 254 →
     lanes_to (in_lane row column (first_free held column 0 shape.lanes)) ≤ p.lanes →
@@ -79,27 +74,13 @@ taken_placed p shape row column held shown few used = in_lane_placed p row colum
 
 found_held : (P : Held → Type 0) (row : ℕ) (hs : List Held) → All P hs → IfSome (held_by row hs) (λ h. P h × (h.row ≡ row))
 found_held P row [] all = tt
-found_held P row (x ∷ hs) all =
-    elim (cases_Bool (x.row == row)) [
-      | inl here ↦ rw here (All-head P x hs all, eqb-true x.row row here)
-      | inr other ↦ rw other (found_held P row hs (All-tail P x hs all))
-    ]
+found_held P row (x ∷ hs) all = grind (arith, cases_Bool, All-head, eqb-true, All-tail, found_held P row hs (All-tail P x hs all))
 
 not_stored : (x : Access) → stored_by false x ≡ []
-not_stored nothing = refl
-not_stored (load a width v) = refl
-not_stored (store w) = refl
-not_stored (exchange a old new) = refl
-not_stored (fence full) = refl
-not_stored land = refl
+not_stored x = grind arith
 
 hart_stored : (h : ℕ) (e : Entry) (w : Write) → store_of h e ≡ w ∷ [] → hart_of e ≡ h
-hart_stored h e w is =
-    elim (cases_eq (hart_of e) h) [
-      | inl same ↦ same
-      | inr other ↦ let gone = subst (λ (b : Bool). stored_by b (access_of e) ≡ w ∷ []) (ne_eqb (hart_of e) h other) is in
-          let never = sym (not_stored (access_of e)) ∙ gone in cc
-    ]
+hart_stored h e w is = grind (arith, cases_eq, ne_eqb, not_stored)
 
 oldest_stored : (h : ℕ) (before : List Entry) (ws : List RowWrite) (row : ℕ) → All (HasStored h before) ws → row_of (slice_get ws 0) ≡ Some row →
     (w : Write) × (stored_at h before row ≡ w ∷ [])
@@ -111,10 +92,7 @@ oldest_stored h before (w ∷ ws) row all is =
 
 column_same : (shape : Shape) (before : List Entry) (h row : ℕ) (w : Write) (k : Held) → stored_at h before row ≡ w ∷ [] → k.row ≡ row →
     InItsColumn shape before k → k.column ≡ column_of shape h
-column_same shape before h row w k stored same its =
-    let there : stored_at h before k.row ≡ w ∷ [] = subst (λ (n : ℕ). stored_at h before n ≡ w ∷ []) (sym same) stored in
-    let own : store_of h its.0 ≡ w ∷ [] = subst (λ (o : Option Entry). stored_in h o ≡ w ∷ []) its.1 there in
-    its.2 ∙ ap (column_of shape) (hart_stored h its.0 w own)
+column_same shape before h row w k stored same its = grind (arith, hart_stored)
 
 landed_placed : (p : PlacesOf) (shape : Shape) (before : List Entry) (h row : ℕ) (held : List Held) →
     landed_store before (entry.Land h) ≡ Some row → All (Kept p shape before) held →
@@ -197,67 +175,44 @@ rows_fit p shape before (e ∷ es) held n (suc i) here all shown few used =
 
 used_least : (used : ℕ) (ls : List LanedOf) → used ≤ used_after used ls
 used_least used [] = omega arith
-used_least used (l ∷ ls) =
-    let rest : max used (lanes_at l) ≤ used_after (max used (lanes_at l)) ls = used_least (max used (lanes_at l)) ls in
-    omega (rest, arith)
+used_least used (l ∷ ls) = grind (arith, used_least (max used (lanes_at l)) ls)
 
 used_all : (used : ℕ) (ls : List LanedOf) → All (λ l. lanes_at l ≤ used_after used ls) ls
 used_all used [] = All-nil (λ l. lanes_at l ≤ used)
-used_all used (l ∷ ls) =
-    let rest : max used (lanes_at l) ≤ used_after (max used (lanes_at l)) ls = used_least (max used (lanes_at l)) ls in
-    All-cons (λ x. lanes_at x ≤ used_after (max used (lanes_at l)) ls) l ls (omega (rest, arith)) (used_all (max used (lanes_at l)) ls)
+used_all used (l ∷ ls) = grind (arith, used_least, All-cons, used_all (max used (lanes_at l)) ls)
 
 pub row_fits : (p : PlacesOf) (shape : Shape) (es : List Entry) (i : ℕ) → p.lanes ≡ used_after 0 (lanes_from shape 0 [] (rows_after [] es)) →
     All (HasColumn p shape) es → shape.lanes ≤ 254 →
     RowFits p shape (slice_get (rows_after [] es) i) (slice_get (lanes_from shape 0 [] (rows_after [] es)) i)
-row_fits p shape es i lanes shown few =
-    rows_fit p shape [] es [] 0 i refl (All-nil (Kept p shape [])) shown few
-    (subst (λ (n : ℕ). All (λ l. lanes_at l ≤ n) (lanes_from shape 0 [] (rows_after [] es))) (sym lanes)
-    (used_all 0 (lanes_from shape 0 [] (rows_after [] es))))
+row_fits p shape es i lanes shown few = grind (arith, rows_fit, All-nil, used_all)
 
 -- ---- columns
 
 pub shown_few : (es : List Entry) (n : ℕ) → length (shown_harts es n) ≤ n
 shown_few es zero = omega arith
-shown_few es (suc n) =
-    elim (is_shown es n) as (λ b. length (shown_harts es n ++ (if b then n ∷ [] else [])) ≤ suc n) [
-      | true ↦ omega (length-append (shown_harts es n) (n ∷ []), shown_few es n, arith)
-      | false ↦ omega (length-append (shown_harts es n) [], shown_few es n, arith)
-    ]
+shown_few es (suc n) = grind (arith, length-append, shown_few es n)
 
 pub count-append : {X : Type 0} (p : X → Bool) (xs ys : List X) → count_by p (xs ++ ys) ≡ count_by p xs + count_by p ys
 count-append p xs ys = sum_by-append (λ x. cond (p x) 1 0) xs ys
 
 count_more : (p : ℕ → Bool) (xs ys : List ℕ) → count_by p xs < length xs → count_by p (xs ++ ys) < length (xs ++ ys)
-count_more p xs ys less =
-    omega (count-append p xs ys, less, count_by-le-length p ys, length-append xs ys, arith)
+count_more p xs ys less = grind (arith, count-append, count_by-le-length, length-append)
 
 count_last : (p : ℕ → Bool) (xs : List ℕ) (x : ℕ) → p x ≡ false → count_by p (xs ++ x ∷ []) < length (xs ++ x ∷ [])
-count_last p xs x fails =
-    let none : count_by p (x ∷ []) ≡ 0 = rw fails refl in
-    omega (count-append p xs (x ∷ []), none, count_by-le-length p xs, length-append xs (x ∷ []), arith)
+count_last p xs x fails = grind (arith, count-append, count_by-le-length, length-append)
 
 ranked : (es : List Entry) (h n : ℕ) → h < n → is_shown es h ≡ true →
     count_by (λ other. nat_lt other h) (shown_harts es n) < length (shown_harts es n)
 ranked es h zero below is = absurd (omega (below, arith))
-ranked es h (suc n) below is =
-    elim (cases_eq n h) [
-      | inl last ↦ rw (last, is) (count_last (λ other. nat_lt other h) (shown_harts es h) h (le-ltb h h (omega arith)))
-      | inr before ↦ count_more (λ other. nat_lt other h) (shown_harts es n) (if is_shown es n then n ∷ [] else [])
-          (ranked es h n (omega (below, before, arith)) is)
-    ]
+ranked es h (suc n) below is = grind (arith, cases_eq, count_last, le-ltb, count_more, ranked es h n)
 
 column_there : (listed : Bool) (shown : List ℕ) (text lanes most h : ℕ) → length shown ≤ 255 → count_by (λ other. nat_lt other h) shown < length shown →
     rank (record { listed = listed; shown = shown; text = text; lanes = lanes }) (column_of (record { listed = listed; lanes = most }) h)
     < columns (record { listed = listed; shown = shown; text = text; lanes = lanes })
-column_there true shown text lanes most h few less = omega arith
-column_there false shown text lanes most h few less = omega (few, less, arith)
+column_there listed shown text lanes most h few less = grind arith
 
 is_shown_hart : (es : List Entry) (k : ℕ) (d : Entry) → k < length es → is_shown es (hart_of (get_or es k d)) ≡ true
-is_shown_hart es k d below =
-    let has : has_entry es (hart_of (get_or es k d)) ≡ true =
-    list_any_at (λ e. hart_of e == hart_of (get_or es k d)) es k d below (eq-eqb (hart_of (get_or es k d)) (hart_of (get_or es k d)) refl) in
-    elim (length es == 0) as (λ b. (if b then true else has_entry es (hart_of (get_or es k d))) ≡ true) [ true ↦ refl | false ↦ has ]
+is_shown_hart es k d below = grind (arith, get_or, list_any_at, eq-eqb)
 
 pub columns_there : (es : List Entry) (harts : ℕ) (listed : Bool) (text lanes most : ℕ) → harts ≤ 255 → All (λ e. hart_of e < harts) es →
     All (HasColumn (record { listed = listed; shown = shown_harts es harts; text = text; lanes = lanes }) (record { listed = listed; lanes = most })) es

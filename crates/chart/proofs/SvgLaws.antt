@@ -1,5 +1,5 @@
 -- One more line, and one more text.
-use Rattle.std.proofs.Common.{◌≡◌, ℕ, suc, ◌+◌, ◌<◌, List, [], ◌∷◌, ◌++◌, length}
+use Rattle.std.proofs.Common.{◌≡◌, ℕ, ◌+◌, ◌<◌, List, [], ◌∷◌, ◌++◌, length}
 use Rattle.std.proofs.Common.{take, get_or, map, max, refl, sym, ap, ◌∙◌, arith, append_assoc, append-nil}
 use Rattle.std.proofs.lemmas.List.{take_more, length-take, length-map, map-append}
 use Rattle.chart.specs.Svg.{by_line, widest}
@@ -7,10 +7,7 @@ use Rattle.chart.specs.Svg.{by_line, widest}
 by_line-last : {A : Type 0} (f : ℕ → A → List ℕ) (line : ℕ) (xs : List A) (x : A) →
     by_line f line (xs ++ x ∷ []) ≡ by_line f line xs ++ f (line + length xs) x
 by_line-last f line [] x = let here : line + 0 ≡ line = omega arith in rw here (append-nil (f line x))
-by_line-last f line (y ∷ xs) x =
-    let there : line + 1 + length xs ≡ line + suc (length xs) = omega arith in
-    ap (λ (out : List ℕ). f line y ++ out) (by_line-last f (line + 1) xs x ∙ rw there refl)
-    ∙ sym (append_assoc (f line y) (by_line f (line + 1) xs) (f (line + suc (length xs)) x))
+by_line-last f line (y ∷ xs) x = grind (arith, append_assoc, by_line-last f (line + 1) xs x)
 
 -- what is written after one more element, where t is what is written of it
 pub mapped_grown : {A B : Type 0} (f : ℕ → B → List ℕ) (g : A → B) (i : ℕ) (xs : List A) (x : A) (t : B)

@@ -6,17 +6,11 @@ use Rattle.std.proofs.lemmas.List.{append-nil}
 
 flat_map_from : (f : ℕ → List ℕ) (a n : ℕ) → flat_map f (range_with_len a (suc n)) ≡ flat_map f (range_with_len a n) ++ f (a + n)
 flat_map_from f a zero = append-nil (f a) ∙ ap f (let e : a ≡ a + 0 = omega arith in e)
-flat_map_from f a (suc n) =
-    ap (λ (xs : List ℕ). f a ++ xs) (flat_map_from f (a + 1) n)
-    ∙ sym (append_assoc (f a) (flat_map f (range_with_len (a + 1) n)) (f (a + 1 + n)))
-    ∙ ap (λ (k : ℕ). (f a ++ flat_map f (range_with_len (a + 1) n)) ++ f k) (let e : a + 1 + n ≡ a + suc n = omega arith in e)
+flat_map_from f a (suc n) = grind (arith, append_assoc, flat_map_from f (a + 1) n)
 
 -- one number more
 pub flat_map_counted : (f : ℕ → List ℕ) (n : ℕ) → flat_map f (range_with_len 0 (n + 1)) ≡ flat_map f (range_with_len 0 n) ++ f n
-flat_map_counted f n =
-    let more : n + 1 ≡ suc n = omega arith in
-    let same : 0 + n ≡ n = omega arith in
-    ap (λ (k : ℕ). flat_map f (range_with_len 0 k)) more ∙ flat_map_from f 0 n ∙ ap (λ (k : ℕ). flat_map f (range_with_len 0 n) ++ f k) same
+flat_map_counted f n = grind (arith, flat_map_from)
 
 -- ---- a text to which line by line is added
 
@@ -26,8 +20,7 @@ none_added old shown none = sym (append-nil old) ∙ ap (λ (xs : List ℕ). old
 
 -- one line more
 pub one_added : (old mid new shown more line : List ℕ) → mid ≡ old ++ shown → new ≡ mid ++ line → more ≡ shown ++ line → new ≡ old ++ more
-one_added old mid new shown more line before added is =
-    added ∙ ap (λ (xs : List ℕ). xs ++ line) before ∙ append_assoc old shown line ∙ ap (λ (xs : List ℕ). old ++ xs) (sym is)
+one_added old mid new shown more line before added is = grind (arith, append_assoc)
 
 -- two parts, the second of which may fail, for each x of which this holds
 pub two_added : {E X : Type 0} (Of : X → Type 0) (r : Result (Unit {0}) E) (old mid new first : List ℕ) (second both : X → List ℕ) → mid ≡ old ++ first

@@ -25,22 +25,14 @@ too_large_found (Some bytes) fault is many = rw is (refl, many)
 
 -- what was read and this chunk are too many
 pub too_many : (known left after : Option (List ℕ)) (before chunk : List ℕ) (count : ℕ) → Consumes known left before → Consumes left after (take count chunk) → count ≤ length chunk → 1048576 < length before + count → IfSome known (λ bytes. 1048576 < length bytes)
-too_many None left after before chunk count was is within many = tt
-too_many (Some bytes) None after before chunk count was is within many = absurd was
-too_many (Some bytes) (Some mid) None before chunk count was is within many = absurd is
-too_many (Some bytes) (Some mid) (Some rest) before chunk count was is within many =
-    let first = simp length-append at (ap length was) in
-    let second = simp length-append at (ap length is) in
-    omega (arith, first, second, length-take {A = ℕ} count chunk)
+too_many known left after before chunk count was is within many = grind (arith, length-append, length-take)
 
 -- what holds of the bytes more weakly
 pub weaker : (known : Option (List ℕ)) (P Q : List ℕ → Type 0) → ((bytes : List ℕ) → P bytes → Q bytes) → OfInput known P → OfInput known Q
-weaker None P Q more (bytes, holds) = (bytes, more bytes holds)
-weaker (Some bytes) P Q more holds = more bytes holds
+weaker known P Q more holds = grind arith
 
 no_write : (known : Option (List ℕ)) → OfInput known (λ bytes. ⊥) → ⊥
-no_write None is = is.1
-no_write (Some bytes) is = is
+no_write known is = grind arith
 
 -- ---- an input, and what answers it
 
@@ -51,18 +43,13 @@ is_handed result fault is = let (e, failed, same) = err_from_is_err_and result i
 -- what reads nothing answers, and so does what has read, where each answer of the one is one of the other
 pub answered_by : {A X : Type 0} (P Q : Result A Refusal → Type 0) (view : X → A) (result : Result X Fault)
     → ((answer : Result A Refusal) → P answer → Q answer) → AnswersAs P view result → Finds Q view result
-answered_by P Q view (Ok x) more answers = more (Ok (view x)) answers
-answered_by P Q view (Err (Refused r)) more answers = more (Err r) answers
-answered_by P Q view (Err WriteFailed) more answers = answers
-answered_by P Q view failed more answers = tt
+answered_by P Q view result more answers = grind arith
 
 -- a fault that is handed on, where each refusal that answers one thing answers the other
 pub handed_on : {A C X Y : Type 0} (P : Result A Refusal → Type 0) (Q : Result C Refusal → Type 0) (view : X → A) (seen : Y → C)
     (result : Result Y Fault) (fault : Fault) → ((refusal : Refusal) → P (Err refusal) → Q (Err refusal)) → result ≡ Err fault
     → Finds P view (Err fault) → Finds Q seen result
-handed_on P Q view seen result (Refused r) more is finds = rw is (more r finds)
-handed_on P Q view seen result WriteFailed more is finds = absurd finds
-handed_on P Q view seen result other more is finds = rw is tt
+handed_on P Q view seen result fault more is finds = grind arith
 
 module _ {X Y : Type 0} (IsAnswer : List ℕ → Result Y Refusal → Type 0) (view : X → Y) (known : Option (List ℕ)) where
   -- what answers the input that was read

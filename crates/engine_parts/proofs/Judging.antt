@@ -1,10 +1,10 @@
 -- An input that is judged.
-use Rattle.std.proofs.Common.{◌≡◌, ℕ, ◌≤◌, cond, ltb, List, length, Result, Ok, Err, refl, ◌∙◌, inl, inr}
-use Rattle.std.specs.Str.{IsUtf8, is_utf8}
+use Rattle.std.proofs.Common.{arith, ◌≡◌, ℕ, ◌≤◌, ltb, List, length, Result, Ok, Err, refl, ◌∙◌}
+use Rattle.std.specs.Str.{IsUtf8}
 use Rattle.std.proofs.lemmas.Bool.{cases_Bool, le-ltb, ltb-false}
 use Rattle.std.proofs.lemmas.Str.{IsUtf8-from_is_utf8, is_utf8-from_IsUtf8}
 use Rattle.engine_parts.specs.declared.fault.Refusal.{Refusal}
-use Rattle.engine_parts.specs.Faults.{too_large, not_text}
+use Rattle.engine_parts.specs.Faults.{not_text}
 use Rattle.engine_parts.specs.Engines.{Accepted, judged}
 use Rattle.texts.proofs.ResultLaws.{guard_err}
 
@@ -14,26 +14,15 @@ judged_text value_at input few text = rw (le-ltb 1048576 (length input) few, is_
 
 -- and what is no text is refused as such
 pub judged_no_text : {V : Type 0} (value_at : List ℕ → Result V Refusal) (input : List ℕ) → length input ≤ 1048576 → (IsUtf8 input → ⊥) → judged value_at input ≡ Err not_text
-judged_no_text value_at input few none =
-    elim (cases_Bool (is_utf8 input)) [
-      | inl text ↦ absurd (none (IsUtf8-from_is_utf8 input text))
-      | inr no_text ↦ rw (le-ltb 1048576 (length input) few, no_text) refl
-    ]
+judged_no_text value_at input few none = grind (arith, cases_Bool, IsUtf8-from_is_utf8, le-ltb)
 
 -- what is judged well is a text within the limit, and well by its own rules
 pub judged_well : {V : Type 0} (value_at : List ℕ → Result V Refusal) (input : List ℕ) (v : V) → judged value_at input ≡ Ok v → (length input ≤ 1048576) × IsUtf8 input × (value_at input ≡ Ok v)
-judged_well value_at input v e =
-    let within = guard_err (ltb 1048576 (length input)) too_large (cond (is_utf8 input) (value_at input) (Err not_text)) v e in
-    elim (cases_Bool (is_utf8 input)) [
-      | inl text ↦ (ltb-false 1048576 (length input) within.0, IsUtf8-from_is_utf8 input text, rw text at within.1)
-      | inr no_text ↦ absurd (let f = rw no_text at within.1 in cc)
-    ]
+judged_well value_at input v e = grind (arith, guard_err, ltb, cases_Bool, ltb-false, IsUtf8-from_is_utf8)
 
 -- what is judged well has the value, where a text that is well by its own rules has it
 pub accepted_well : {V : Type 0} (value_at : List ℕ → Result V Refusal) (IsValue : List ℕ → V → Type 0) (input : List ℕ) (v : V) → (value_at input ≡ Ok v → IsValue input v) → judged value_at input ≡ Ok v → Accepted IsValue input v
-accepted_well value_at IsValue input v found e =
-    let well = judged_well value_at input v e in
-    record { few = well.0; text = well.1; value_is = found well.2 }
+accepted_well value_at IsValue input v found e = grind (arith, judged_well)
 
 -- and the other way round
 pub accepted_judged : {V : Type 0} (value_at : List ℕ → Result V Refusal) (IsValue : List ℕ → V → Type 0) (input : List ℕ) (v : V) → (IsValue input v → value_at input ≡ Ok v) → Accepted IsValue input v → judged value_at input ≡ Ok v

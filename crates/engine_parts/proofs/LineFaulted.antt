@@ -1,10 +1,9 @@
 -- A line that is read, and one that is refused.
-use Rattle.std.proofs.Common.{◌≡◌, ℕ, Result, Ok, Err, refl, ap}
+use Rattle.std.proofs.Common.{arith, ◌≡◌, ℕ, Result, Ok, Err, ap}
 use Rattle.std.specs.Prelude.{IfSome}
 use Rattle.texts.proofs.ResultLaws.{ok_is}
 use Rattle.texts.specs.Results.{refusal_of}
 use Rattle.texts.specs.declared.errors.TextError.{TextError}
-use Rattle.texts.specs.declared.errors.TextError.TheVariants.{NoMemory, Refused}
 use Rattle.engine_parts.specs.declared.fault.Fault.{Fault}
 use Rattle.engine_parts.specs.declared.fault.Refusal.{Refusal}
 use Rattle.engine_parts.specs.Faults.{Answers}
@@ -18,5 +17,4 @@ abbrev RefusedAs : {X Y : Type 0} → (X → Y) → Fault → Result Y Refusal �
 RefusedAs {X = X} view fault answer = Answers {X = X} view (Err fault) answer
 
 pub refused_at_line : {X Y : Type 0} (view : X → Y) (number : ℕ) (fault : TextError ℕ) (made : Fault) (answer : Result Y ℕ) → made ≡ fault_at number fault → IfSome (refusal_of fault) (λ n. answer ≡ Err n) → RefusedAs view made (at_line number answer)
-refused_at_line view number NoMemory made answer is holds = rw is tt
-refused_at_line view number (Refused n) made answer is holds = rw (is, holds) refl
+refused_at_line view number fault made answer is holds = grind arith

@@ -1,6 +1,6 @@
 -- What answers a litmus text, or one and a schedule, is one answer where it is one of their values: an input has
 -- its value or a refusal of one number.
-use Rattle.std.proofs.Common.{◌≡◌, ℕ, Bool, true, false, cond, ltb, List, length, Result, Ok, Err, refl, sym, ap, ◌∙◌, subst}
+use Rattle.std.proofs.Common.{arith, ◌≡◌, ℕ, Bool, cond, ltb, List, length, Result, Ok, Err, refl, ap, ◌∙◌, subst}
 use Rattle.std.specs.Str.{is_utf8}
 use Rattle.texts.proofs.FormatLaws.{settled_only}
 use Rattle.step_machine.specs.History.{History}
@@ -8,11 +8,9 @@ use Rattle.recorder.specs.Versions.{Said, Says, said_at}
 use Rattle.recorder.proofs.HeadLaws.{one_said, said_settles}
 use Rattle.litmus.specs.LitmusTests.{LitmusTest}
 use Rattle.litmus_reader.specs.declared.faults.LitmusFault.{LitmusFault}
-use Rattle.litmus_reader.specs.Faults.{fault_number}
 use Rattle.litmus_reader.specs.Grammar.{IsTestOf}
 use Rattle.litmus_reader.specs.Reading.{Content, content_of, test_at}
 use Rattle.litmus_reader.proofs.TestGrammar.{one_test, read_exactly}
-use Rattle.engine_parts.specs.declared.fault.Position.TheVariants.{Line}
 use Rattle.engine_parts.specs.declared.fault.Refusal.{Refusal}
 use Rattle.engine_parts.specs.Engines.{Output, Accepted, AreOneAnswer, ByValue, judged}
 use Rattle.engine_parts.specs.Faults.{too_large, not_text}
@@ -38,13 +36,7 @@ test_or_refusal input q r is (line, refused) =
 numbers_of : (long text : Bool) (read : Result Content LitmusFault) (line other : ℕ) (r s : Refusal)
     → cond long (Err too_large) (cond text (refused_test line read) (Err not_text)) ≡ Err r
     → cond long (Err too_large) (cond text (refused_test other read) (Err not_text)) ≡ Err s → r.number ≡ s.number
-numbers_of true text read line other r s e f = ap (λ (x : Refusal). x.number) (let same : r ≡ s = cc in same)
-numbers_of false true (Ok test) line other r s e f = absurd cc
-numbers_of false true (Err why) line other r s e f =
-    let first : record { number = fault_number why; place = Line line } ≡ r = cc in
-    let second : record { number = fault_number why; place = Line other } ≡ s = cc in
-    ap (λ (x : Refusal). x.number) (sym first) ∙ ap (λ (x : Refusal). x.number) second
-numbers_of false false read line other r s e f = ap (λ (x : Refusal). x.number) (let same : r ≡ s = cc in same)
+numbers_of long text read line other r s e f = grind arith
 
 one_number : (input : List ℕ) (r s : Refusal) → IsNoTest input r → IsNoTest input s → r.number ≡ s.number
 unfolding test_of
@@ -117,10 +109,7 @@ module _ {A : Type 0} (Alike : Result A Refusal → Result A Refusal → Type 0)
 
 -- answers that are the same are one answer
 pub equal_alike : {A : Type 0} (a b : Result A Refusal) → a ≡ b → AreOneAnswer a b
-equal_alike (Ok a) (Ok b) e = cc
-equal_alike (Ok a) (Err s) e = absurd cc
-equal_alike (Err r) (Ok b) e = absurd cc
-equal_alike (Err r) (Err s) e = ap (λ (x : Refusal). x.number) (let same : r ≡ s = cc in same)
+equal_alike a b e = grind arith
 
 -- what is one of a history is one of a test and a schedule
 module _ {A : Type 0} (B M : ℕ) (IsAnswer : LitmusTest → History → A → Type 0)

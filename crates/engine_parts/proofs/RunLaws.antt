@@ -1,5 +1,5 @@
 -- Running a schedule gives one thing, and so does noting its outcomes.
-use Rattle.std.proofs.Common.{◌≡◌, ℕ, zero, suc, ◌<◌, ◌≤◌, ◌⊎◌, List, [], ◌∷◌, take, Result, Ok, Err, refl, sym, ap, ap₂, subst, ◌∙◌, arith}
+use Rattle.std.proofs.Common.{◌≡◌, ℕ, zero, suc, ◌<◌, List, [], ◌∷◌, take, Result, Ok, Err, refl, sym, ap, ap₂, subst, ◌∙◌, arith}
 use Rattle.std.specs.List.{slice_get}
 use Rattle.step_machine.specs.History.{Start, History, unrun}
 use Rattle.step_machine.specs.Runs.{Happens, Run}
@@ -53,14 +53,13 @@ one_run B M o (recorded steps) (Err r) (Err s) (i, first, named) (j, other, also
 -- the outcomes of some events
 same_outcomes : (B M : ℕ) (t : History) (steps others : List Step) (new last : History) → RecordFrom B M t steps new → RecordFrom B M t others last → events_in steps ≡ events_in others → steps ≡ others
 same_outcomes B M t [] [] new last is other same = refl
-same_outcomes B M t [] (step ∷ others) new last is other same = absurd cc
-same_outcomes B M t (step ∷ steps) [] new last is other same = absurd cc
 same_outcomes B M t ((event, outcome) ∷ steps) ((again, result) ∷ others) new last is other same =
     let events : event ≡ again = cc in
     let later : events_in steps ≡ events_in others = cc in
     let once = happens-one B M t again outcome result is.0 other.0 (subst (λ (e : Event). Happens B M t e outcome is.0) events is.1) other.1 in
     ap₂ (λ (x : Step) (xs : List Step). x ∷ xs) (λ i. (events i, once.0 i))
     (same_outcomes B M other.0 steps others new last (subst (λ (u : History). RecordFrom B M u steps new) once.1 is.2) other.2 later)
+same_outcomes B M t x y new last is other same = absurd cc
 
 abbrev refused : Refusal → Result History Refusal
 refused r = Err r
@@ -73,10 +72,7 @@ pub one_difference : (B M : ℕ) (o : Start) (said : Said) (r s : Refusal) → R
 one_difference B M o said r s differ other = let same : refused r ≡ refused s = one_run B M o said (Err r) (Err s) differ other in cc
 
 pub one_record : (B M : ℕ) (o : Start) (said : Said) (a b : Result (List Step) Refusal) → Records B M o said a → Records B M o said b → a ≡ b
-one_record B M o said (Ok steps) (Ok others) (events, (t, runs, is)) (more, (u, also, other)) = ap (λ (xs : List Step). Ok xs) (same_outcomes B M (unrun o) steps others t u is other (events ∙ sym more))
-one_record B M o said (Ok steps) (Err r) (events, (t, runs, is)) differs = absurd (runs_or_differs B M o said t r runs differs)
-one_record B M o said (Err r) (Ok steps) differs (events, (t, runs, is)) = absurd (runs_or_differs B M o said t r runs differs)
-one_record B M o said (Err r) (Err s) first other = ap (λ (x : Refusal). Err x) (one_difference B M o said r s first other)
+one_record B M o said a b differs other = grind (arith, same_outcomes, runs_or_differs, one_difference)
 
 -- a schedule's run keeps the opening
 pub opening_stays : (B M : ℕ) (o : Start) (said : Said) (t : History) → Runs B M o said (Ok t) → t.opening ≡ o

@@ -1,10 +1,9 @@
 -- What answers a litmus text and a schedule of either version, from what was read and made of them.
-use Rattle.std.proofs.Common.{◌≡◌, ℕ, List, [], Result, Ok, Err, subst}
+use Rattle.std.proofs.Common.{arith, ◌≡◌, ℕ, List, [], Result, Ok, Err, subst}
 use Rattle.std.specs.Prelude.{Option, Some, None}
 use Rattle.litmus.specs.LitmusTests.{LitmusTest}
 use Rattle.recorder.specs.Versions.{Said}
 use Rattle.engine_parts.specs.declared.fault.Fault.{Fault}
-use Rattle.engine_parts.specs.declared.fault.Fault.TheVariants.{Refused}
 use Rattle.engine_parts.specs.declared.fault.Refusal.{Refusal}
 use Rattle.engine_parts.specs.Engines.{OfInput, AnswersBoth}
 use Rattle.engine_parts.specs.Faults.{AnswersAs}
@@ -26,8 +25,7 @@ by_schedule_as P Q refusal more file schedule (both test said answer is_test rea
 pub stopped_by : {A C X Y : Type 0} (P : Result A Refusal → Type 0) (Q : Result C Refusal → Type 0) (view : X → A) (seen : Y → C)
     (result : Result Y Fault) (fault : Fault) → ((refusal : Refusal) → P (Err refusal) → Q (Err refusal)) → result ≡ Err fault
     → AnswersAs P view (Err fault) → AnswersAs Q seen result
-stopped_by P Q view seen result (Refused r) more is answers = rw is (more r answers)
-stopped_by P Q view seen result other more is answers = rw is answers
+stopped_by P Q view seen result fault more is answers = grind arith
 
 module _ (first second : Option (List ℕ)) where
   -- what answers both, by their bytes

@@ -1,6 +1,5 @@
 -- The lines of a state text, one more at a time.
-use Rattle.std.proofs.Common.{◌≡◌, ℕ, ◌+◌, ◌*◌, [], ◌++◌, get_or, Option, Some, None, option_map, refl, ap, ◌∙◌}
-use Rattle.std.specs.List.{flat_map, range_with_len}
+use Rattle.std.proofs.Common.{arith, ◌≡◌, ℕ, ◌+◌, ◌*◌, [], ◌++◌, get_or, Option, Some, option_map, refl}
 use Rattle.texts.proofs.ResultLaws.{some_is}
 use Rattle.hart.specs.State.{HartState}
 use Rattle.hart.specs.declared.status.Status.{Status}
@@ -11,23 +10,16 @@ use Rattle.engine_parts.proofs.Counted.{flat_map_counted}
 
 pub registers_shown_none : (o : Option HartState) → registers_shown o 0 ≡ []
 unfolding registers_shown
-registers_shown_none None = refl
-registers_shown_none (Some s) = refl
+registers_shown_none o = grind arith
 
 pub registers_shown_more : (o : Option HartState) (n v : ℕ) → option_map (λ (s : HartState). get_or s.registers n 0) o ≡ Some v → registers_shown o (n + 1) ≡ registers_shown o n ++ register_line n v
 unfolding registers_shown
-registers_shown_more None n v e = absurd cc
-registers_shown_more (Some s) n v e =
-    flat_map_counted (λ k. register_line k (get_or s.registers k 0)) n
-    ∙ ap (λ (w : ℕ). flat_map (λ k. register_line k (get_or s.registers k 0)) (range_with_len 0 n) ++ register_line n w) (some_is (get_or s.registers n 0) v e)
+registers_shown_more o n v e = grind (arith, flat_map_counted, get_or, some_is)
 
 pub hart_text_is : (h count pc : ℕ) (status : Status) (o : Option HartState) → option_map (λ (s : HartState). s.status) o ≡ Some status → option_map (λ (s : HartState). s.pc) o ≡ Some pc
     → hart_text h o count ≡ hart_line h status pc count ++ registers_shown o 32
 unfolding hart_text
-hart_text_is h count pc status None e f = absurd cc
-hart_text_is h count pc status (Some s) e f =
-    ap (λ (x : Status). hart_line h x s.pc count ++ registers_shown (Some s) 32) (some_is s.status status e)
-    ∙ ap (λ (x : ℕ). hart_line h status x count ++ registers_shown (Some s) 32) (some_is s.pc pc f)
+hart_text_is h count pc status o e f = grind (arith, some_is)
 
 pub harts_shown_none : (M : ℕ) (t : History) → harts_shown M t 0 ≡ []
 unfolding harts_shown

@@ -1,6 +1,6 @@
 -- Inputs that are litmus texts.
-use Rattle.std.proofs.Common.{◌≡◌, ℕ, List, Result, Ok, Err, refl, sym, ◌∙◌}
-use Rattle.std.specs.Prelude.{Option, Some, None, IfSome, IsErr}
+use Rattle.std.proofs.Common.{arith, ◌≡◌, ℕ, List, Result, Ok, Err, refl}
+use Rattle.std.specs.Prelude.{Option, IfSome, IsErr}
 use Rattle.std.specs.Global.{Vec}
 use Rattle.litmus_reader.specs.declared.faults.LitmusFault.{LitmusFault}
 use Rattle.texts.specs.declared.errors.AtLine.{AtLine}
@@ -24,17 +24,12 @@ answered_refusal view text (error.Refused refusal) is = (refusal.line, rw is ref
 
 -- an input that has a test isn't refused, at whichever line
 well_or_refused : (r : Result Content LitmusFault) (line other : ℕ) (test : Content) (refusal : Refusal) → refused_test line r ≡ Ok test → refused_test other r ≡ Err refusal → ⊥
-well_or_refused (Ok v) line other test refusal e f = cc
-well_or_refused (Err x) line other test refusal e f = cc
+well_or_refused r line other test refusal e f = grind arith
 
 pub test_or_none : (input : List ℕ) (line other : ℕ) (test : Content) (refusal : Refusal) → judged (test_of line) input ≡ Ok test → judged (test_of other) input ≡ Err refusal → ⊥
 unfolding test_of
-test_or_none input line other test refusal e f =
-    let well = judged_well (test_of line) input test e in
-    well_or_refused (test_at input) line other test refusal well.2 (sym (judged_text (test_of other) input well.0 well.1) ∙ f)
+test_or_none input line other test refusal e f = grind (arith, judged_well, well_or_refused, judged_text)
 
 -- so what reads such an input answers no test
 pub no_test_no_answer : (known : Option (List ℕ)) (input : Vec ℕ) (result : Result LitmusTest Fault) → OfInput known (λ bytes. input.items ≡ bytes) → (line : ℕ) × Answers content_of result (judged (test_of line) input.items) → HasNoTest known → IsErr result
-no_test_no_answer known input (Err fault) is answers none = refl
-no_test_no_answer (Some bytes) input (Ok q) is answers none = absurd (test_or_none bytes answers.0 none.1.0 (content_of q) none.0 (rw is at answers.1) none.1.1)
-no_test_no_answer None input (Ok q) is answers none = absurd none
+no_test_no_answer known input result is answers none = grind (arith, test_or_none)

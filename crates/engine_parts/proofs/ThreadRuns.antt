@@ -1,9 +1,8 @@
 -- What threads made is a schedule of harts below 64, and what answers its test answers the input.
-use Rattle.std.proofs.Common.{◌≡◌, ℕ, ◌<◌, ◌≤◌, Bool, true, false, cond, List, ◌++◌, length, refl, sym, subst, arith, Result, Err}
+use Rattle.std.proofs.Common.{◌≡◌, ℕ, ◌<◌, ◌≤◌, List, ◌++◌, length, sym, subst, arith, Result, Err}
 use Rattle.std.specs.Prelude.{map, All, Option}
 use Rattle.std.proofs.lemmas.List.Elements.{All-map, All-weaker}
 use Rattle.step_machine.specs.declared.events.Event.{Event}
-use Rattle.step_machine.specs.declared.events.Event.TheVariants as event
 use Rattle.step_machine.specs.declared.events.Entry.{Entry}
 use Rattle.step_machine.specs.History.{Start}
 use Rattle.step_machine.specs.Entries as entries
@@ -24,11 +23,7 @@ use Rattle.engine_parts.specs.inner.Inputs.{IsReadAsTest}
 use Rattle.engine_parts.proofs.Endings.{answered_by, handed_on, weaker}
 
 event_hart : (e : Entry) → hart_of (event_of e) ≡ entries.hart_of e
-event_hart e = at (is_land e)
-  where
-    at : (b : Bool) → hart_of (cond b (event.Land (entries.hart_of e)) (event.Act (entries.hart_of e))) ≡ entries.hart_of e
-    at true = refl
-    at false = refl
+event_hart e = grind arith
 
 pub of_64 : (o : Start) (evs : List Event) (es : List Entry) → evs ≡ map event_of es → All (IsOfHarts o) es → length o.harts ≤ 64 → OfHarts evs
 of_64 o evs es each of few =
