@@ -22,15 +22,14 @@ use Rattle.engine_parts.specs.Engines.{Output, AreOneAnswer}
 use Rattle.engine_parts.specs.Faults.{AnswersAs, too_large}
 use Rattle.engine_parts.specs.Histories.{Runs}
 use Rattle.engine_parts.proofs.RunLaws.{one_difference, one_run, opening_stays, runs_or_differs}
-use Rattle.views.specs.About.{IsAbout, about_of}
+use Rattle.views.specs.About.{IsAbout}
 use Rattle.views.specs.Chart.{Drawing, IsChartOf, IsNotCharted, differs, too_long, IsChart, Headed, IsChartAnswer}
 use Rattle.views.proofs.ShrinkLaws.{runs_events}
 use Rattle.engine_parts.proofs.OneInput.{alike_by_schedule}
 
 one_about : (M : ℕ) (q : LitmusTest) (heading : HeadingOf) (t : History) (a b : AboutOf)
     → IsAbout M q heading t a → IsAbout M q heading t b → a ≡ b
-one_about M q heading t a b (v, is, made) (w, other, also) =
-    made ∙ ap (about_of M q heading t) (one_verdict M q t v w is other) ∙ sym also
+one_about M q heading t a b h6 h7 = grind (arith, one_verdict)
 
 module _ (B M : ℕ) (draws : Drawing) (heading : HeadingOf) (q : LitmusTest) (said : Said) where
   -- a run of too many entries is refused

@@ -1,6 +1,6 @@
 -- Inputs that are litmus texts, read with their headings, and what answers them beside a schedule.
-use Rattle.std.proofs.Common.{◌≡◌, ℕ, List, length, Result, Ok, Err, refl}
-use Rattle.std.specs.Prelude.{Option, Some, None, IsErr}
+use Rattle.std.proofs.Common.{arith, ◌≡◌, ℕ, List, length, Result, Ok, Err}
+use Rattle.std.specs.Prelude.{Option, IsErr}
 use Rattle.std.specs.Global.{Vec}
 use Rattle.litmus.specs.LitmusTests.{LitmusTest}
 use Rattle.litmus_reader.specs.Grammar.{IsTestOf}
@@ -27,15 +27,11 @@ use Rattle.views.specs.inner.Headings.{IsReadAsHeaded}
 pub no_test_no_answer : {X : Type 0} (view : X → Content) (known : Option (List ℕ)) (input : Vec ℕ)
     (result : Result X Fault) → OfInput known (λ bytes. input.items ≡ bytes)
     → (line : ℕ) × Answers view result (judged (test_of line) input.items) → HasNoTest known → IsErr result
-no_test_no_answer view known input (Err fault) is answers none = refl
-no_test_no_answer view (Some bytes) input (Ok x) is answers none =
-    absurd (test_or_none bytes answers.0 none.1.0 (view x) none.0 (rw is at answers.1) none.1.1)
-no_test_no_answer view None input (Ok x) is answers none = absurd none
+no_test_no_answer view known input result is answers none = grind (arith, test_or_none)
 
 -- what holds of an input that is known or not holds of some bytes
 some_bytes : (known : Option (List ℕ)) (P : List ℕ → Type 0) → OfInput known P → (bytes : List ℕ) × P bytes
-some_bytes None P is = is
-some_bytes (Some bytes) P is = (bytes, is)
+some_bytes known P is = grind arith
 
 module _ (known : Option (List ℕ)) where
   -- a fault in reading a test with its heading is one in reading the test

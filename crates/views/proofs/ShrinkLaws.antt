@@ -1,11 +1,11 @@
 -- What answers a test and a schedule, by the schedule's run.
-use Rattle.std.proofs.Common.{◌≡◌, ℕ, Result, Ok, Err, refl, ap, subst}
+use Rattle.std.proofs.Common.{arith, ◌≡◌, ℕ, Result, Ok, Err, refl, subst}
 use Rattle.step_machine.specs.History.{Start, History, unrun}
 use Rattle.step_machine.specs.Runs.{Run}
 use Rattle.step_machine.proofs.Running.{run-one}
 use Rattle.litmus.specs.LitmusTests.{LitmusTest}
 use Rattle.litmus.specs.Verdicts.{IsFinished}
-use Rattle.recorder.specs.Versions.{Said, plain, recorded, events_said}
+use Rattle.recorder.specs.Versions.{Said, events_said}
 use Rattle.recorder.proofs.RunRecords.{record_runs}
 use Rattle.shrink.specs.Shrinking.{RefusesRun}
 use Rattle.shrink.specs.declared.faults.ShrinkError.{ShrinkError}
@@ -20,8 +20,7 @@ use Rattle.views.specs.Shrink.{AreOfOneKind, IsNotShrunk, IsShrink, IsShrinkOf, 
 
 -- a schedule's run is the run of its events
 pub runs_events : (B M : ℕ) (o : Start) (said : Said) (t : History) → Runs B M o said (Ok t) → Run B M o (events_said said) t
-runs_events B M o (plain events) t ran = ran
-runs_events B M o (recorded steps) t ran = record_runs B M o steps t ran
+runs_events B M o said t ran = grind (arith, record_runs)
 
 module _ (B M : ℕ) (q : LitmusTest) (said : Said) where
   -- why the run isn't shrunk is why the schedule isn't
@@ -52,7 +51,4 @@ alike_run B M q said (Err r) (Err s) first other = one_reason B M q said r s fir
 
 -- what is alike is of one kind
 pub of_one_kind : {A : Type 0} (a b : Result A Refusal) → AreAlike a b → AreOfOneKind a b
-of_one_kind (Ok a) (Ok b) alike = alike
-of_one_kind (Ok a) (Err s) alike = alike
-of_one_kind (Err r) (Ok b) alike = alike
-of_one_kind (Err r) (Err s) alike = ap (λ (x : Refusal). x.number) alike
+of_one_kind a b alike = grind arith
