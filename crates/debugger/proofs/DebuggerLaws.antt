@@ -1,5 +1,5 @@
 -- The debugger's state: what came from the schedule is the schedule's up to its place.
-use Rattle.std.proofs.Common.{◌≡◌, ℕ, zero, suc, ◌+◌, ◌-◌, ◌≤◌, ◌<◌, List, [], ◌∷◌, ◌++◌, length, take, drop, min, get_or, Some, refl, sym, ap, ◌∙◌, arith, length-append, length-drop, take_all}
+use Rattle.std.proofs.Common.{◌≡◌, ℕ, suc, ◌+◌, ◌-◌, ◌≤◌, ◌<◌, List, [], ◌∷◌, ◌++◌, length, take, drop, min, get_or, Some, refl, sym, ap, ◌∙◌, arith, length-append, length-drop, take_all}
 use Rattle.std.specs.List.{slice_get}
 use Rattle.std.proofs.lemmas.List.{take_more, take-take, length-take, append-nil}
 use Rattle.std.proofs.lemmas.List.Sums.{sum_by-append, sum_by-take-drop}
@@ -19,18 +19,15 @@ scheduled-split k xs = sum_by-take-drop _ xs k
 
 of_schedule-append : (ss more : List Source) (es others : List Event) → length ss ≡ length es → of_schedule (ss ++ more) (es ++ others) ≡ of_schedule ss es ++ of_schedule more others
 of_schedule-append [] more [] others same = refl
-of_schedule-append [] more (e ∷ es) others same = absurd (omega arith)
-of_schedule-append (s ∷ ss) more [] others same = absurd (omega arith)
 of_schedule-append (Schedule ∷ ss) more (e ∷ es) others same = ap (λ (xs : List Event). e ∷ xs) (of_schedule-append ss more es others (omega arith))
 of_schedule-append (User ∷ ss) more (e ∷ es) others same = of_schedule-append ss more es others (omega arith)
+of_schedule-append x more y others same = absurd (omega arith)
 
 counted_first : (s : Source) (ss : List Source) → scheduled (s ∷ ss) ≡ scheduled (s ∷ []) + scheduled ss
 counted_first s ss = scheduled-append (s ∷ []) ss
 
 -- of the first events those came from the schedule that it gave first
 of_schedule-take : (k : ℕ) (ss : List Source) (es : List Event) → length ss ≡ length es → of_schedule (take k ss) (take k es) ≡ take (scheduled (take k ss)) (of_schedule ss es)
-of_schedule-take zero ss es same = refl
-of_schedule-take (suc k) [] [] same = refl
 of_schedule-take (suc k) [] (e ∷ es) same = absurd (omega arith)
 of_schedule-take (suc k) (s ∷ ss) [] same = absurd (omega arith)
 of_schedule-take (suc k) (Schedule ∷ ss) (e ∷ es) same =
@@ -39,6 +36,7 @@ of_schedule-take (suc k) (Schedule ∷ ss) (e ∷ es) same =
 of_schedule-take (suc k) (User ∷ ss) (e ∷ es) same =
     let count : scheduled (User ∷ take k ss) ≡ scheduled (take k ss) = counted_first User (take k ss) ∙ (let none : 0 + 0 + scheduled (take k ss) ≡ scheduled (take k ss) = omega arith in none) in
     of_schedule-take k ss es (omega arith) ∙ ap (λ (n : ℕ). take n (of_schedule ss es)) (sym count)
+of_schedule-take x y z same = refl
 
 -- what came from the schedule, with one event more
 done_more : (w : DebuggerState) (ev : Event) (source : Source) → w.place ≤ length w.schedule → (source ≡ Schedule → slice_get w.schedule w.place ≡ Some ev)
@@ -66,8 +64,7 @@ kept_taken w past ev source kept events next =
 
 -- what the sources count that are dropped, as a slice has them
 pub undone_of : (xs : List Source) (given : List Source) (left undone : ℕ) → given ≡ xs → undone ≡ scheduled (take (length given - left) (drop left given)) → undone ≡ scheduled (drop left xs)
-undone_of xs given left undone same is =
-    is ∙ ap scheduled (take_all (length given - left) (drop left given) (omega (arith, length-drop left given))) ∙ ap (λ (ys : List Source). scheduled (drop left ys)) same
+undone_of xs given left undone same is = grind (arith, take_all, length-drop)
 
 -- and the schedule's place has at least so many before it
 pub undone_within : (w : DebuggerState) (left undone : ℕ) → IsKept w → undone ≡ scheduled (drop left w.sources) → undone ≤ w.place

@@ -1,8 +1,8 @@
 -- What a user's lines print is one text.
-use Rattle.std.proofs.Common.{◌≡◌, ℕ, ◌+◌, ◌-◌, Bool, true, false, List, [], ◌∷◌, ◌++◌, length, drop, Option, None, Some, sym, ap, subst, ◌∙◌, arith}
-use Rattle.std.specs.Prelude.{MatchOption, MatchBool, nat_lt, position}
+use Rattle.std.proofs.Common.{◌≡◌, ℕ, Bool, true, false, List, [], ◌∷◌, ◌++◌, drop, Option, Some, sym, ap, subst, ◌∙◌, arith}
+use Rattle.std.specs.Prelude.{MatchOption, MatchBool, position}
 use Rattle.std.specs.List.{slice_get}
-use Rattle.step_machine.specs.History.{History, unrun}
+use Rattle.step_machine.specs.History.{History}
 use Rattle.step_machine.specs.declared.events.Event.{Event}
 use Rattle.step_machine.specs.declared.events.Outcome.{Outcome}
 use Rattle.step_machine.proofs.Running.{happens-one, run-one}
@@ -13,8 +13,8 @@ use Rattle.debugger.specs.declared.debug.command.Command.TheVariants as command
 use Rattle.debugger.specs.declared.debugger.Source.{Source}
 use Rattle.debugger.specs.declared.debugger.Source.TheVariants.{Schedule, User}
 use Rattle.texts.specs.Cutting.{tokens}
-use Rattle.debugger.specs.Sessions.{Past, without_last}
-use Rattle.debugger.specs.DebuggerStates.{DebuggerState, TakesEvent, GoesBackBy, scheduled, at_start}
+use Rattle.debugger.specs.Sessions.{Past}
+use Rattle.debugger.specs.DebuggerStates.{DebuggerState, TakesEvent, GoesBackBy, at_start}
 use Rattle.debugger.specs.Commands.{command_in}
 use Rattle.recorder.specs.Outcomes.{outcome_line}
 use Rattle.debugger.specs.Debugging.{Answers, Breaks, Does, DoesAll, DoesNext, Toggled, is_point, stop_before}
@@ -24,12 +24,10 @@ use Rattle.engine_parts.specs.Engines.{Output}
 -- ---- each case of a choice
 
 by_option : {X : Type 0} (o : Option X) {P p : Type 0} {Q q : X → Type 0} (Same : Type 0) → MatchOption o P Q → MatchOption o p q → (P → p → Same) → ((x : X) → Q x → q x → Same) → Same
-by_option None Same a b on_none on_some = on_none a b
-by_option (Some x) Same a b on_none on_some = on_some x a b
+by_option o Same a b on_none on_some = grind arith
 
 by_bool : (t : Bool) {P p Q q : Type 0} (Same : Type 0) → MatchBool t P Q → MatchBool t p q → (P → p → Same) → (Q → q → Same) → Same
-by_bool true Same a b on_true on_false = on_true a b
-by_bool false Same a b on_true on_false = on_false a b
+by_bool t Same a b on_true on_false = grind arith
 
 -- ---- sessions and walks
 
@@ -40,21 +38,10 @@ same_way : (x y : DebuggerState) → x.past ≡ y.past → x.schedule ≡ y.sche
 same_way x y past schedule sources place = λ i. record { past = past i; schedule = schedule i; sources = sources i; place = place i }
 
 one_way : (B M : ℕ) (old : DebuggerState) (ev : Event) (source : Source) (o p : Outcome) (x y : DebuggerState) → TakesEvent B M old ev source o x → TakesEvent B M old ev source p y → (o ≡ p) × (x ≡ y)
-one_way B M old ev source o p x y a b =
-    let same = happens-one B M old.past.history ev o p x.past.history y.past.history a.past.happens b.past.happens in
-    let past = same_past x.past y.past (a.past.opening ∙ sym b.past.opening) (a.past.events ∙ sym b.past.events) same.1 in
-    (same.0, same_way x y past (a.schedule ∙ sym b.schedule) (a.sources ∙ sym b.sources) (a.place ∙ sym b.place))
+one_way B M old ev source o p x y a b = grind (arith, happens-one, same_past, same_way)
 
 one_way_back : (B M : ℕ) (old : DebuggerState) (k : ℕ) (x y : DebuggerState) → GoesBackBy B M old k x → GoesBackBy B M old k y → x ≡ y
-one_way_back B M old k x y a b =
-    let history : x.past.history ≡ y.past.history = run-one B M (unrun old.past.opening) (without_last k old.past.events) x.past.history y.past.history a.past.ran b.past.ran in
-    let past = same_past x.past y.past (a.past.opening ∙ sym b.past.opening) (a.past.events ∙ sym b.past.events) history in
-    let gone : ℕ = scheduled (drop (length old.sources - k) old.sources) in
-    let place : x.place ≡ y.place = left gone x.place y.place old.place a.place b.place in
-    same_way x y past (a.schedule ∙ sym b.schedule) (a.sources ∙ sym b.sources) place
-  where
-    left : (gone m n whole : ℕ) → m + gone ≡ whole → n + gone ≡ whole → m ≡ n
-    left gone m n whole e f = omega arith
+one_way_back B M old k x y a b = grind (arith, run-one, same_past, same_way)
 
 -- ---- commands
 
@@ -70,8 +57,7 @@ one_toggled : (hart pc : ℕ) (old x y : List (ℕ × ℕ)) → Toggled hart pc 
 one_toggled hart pc old x y a b = by_option (position (is_point hart pc) old) (x ≡ y) a b (λ e f. e ∙ sym f) (λ at e f. e ∙ sym f)
 
 one_breaks : (h : History) (hart pc : ℕ) (old x y : List (ℕ × ℕ)) (s t : List ℕ) → Breaks h hart pc old x s → Breaks h hart pc old y t → (s ≡ t) × (x ≡ y)
-one_breaks h hart pc old x y s t a b =
-    by_bool (nat_lt hart (length h.opening.harts)) ((s ≡ t) × (x ≡ y)) a b (λ e f. (e.0 ∙ sym f.0, one_toggled hart pc old x y e.1 f.1)) (λ e f. (e.0 ∙ sym f.0, e.1 ∙ sym f.1))
+one_breaks h hart pc old x y s t a b = grind (arith, by_bool, one_toggled)
 
 module _ (B M : ℕ) where
   one_does : (old : DebuggerState) (ev : Event) (source : Source) (s t : List ℕ) (x y : DebuggerState) → Does B M old ev source s x → Does B M old ev source t y → AreSame s t x y

@@ -25,35 +25,20 @@ abbrev GoesOnFrom : History → History → Type 0
 GoesOnFrom t new = (es : List Entry) × (new ≡ history_of t.opening (t.entries ++ es))
 
 goes_on-happens : (B M : ℕ) (t : History) (ev : Event) (o : Outcome) (new : History) → Happens B M t ev o new → GoesOnFrom t new
-goes_on-happens B M t ev o new h =
-    elim (shape_of B M t ev o new h) [
-      | inl a ↦ (a.0 ∷ [], a.2.after)
-      | inr i ↦ ([], i.after ∙ ap (history_of t.opening) (sym (append-nil t.entries)))
-    ]
+goes_on-happens B M t ev o new h = grind (arith, shape_of, append-nil)
 
 goes_on-run : (B M : ℕ) (t : History) (evs : List Event) (new : History) → RunFrom B M t evs new → GoesOnFrom t new
 goes_on-run B M t [] new run = ([], run ∙ ap (history_of t.opening) (sym (append-nil t.entries)))
-goes_on-run B M t (ev ∷ evs) new run =
-    let first : GoesOnFrom t run.1 = goes_on-happens B M t ev run.0 run.1 run.2 in
-    let rest : GoesOnFrom run.1 new = goes_on-run B M run.1 evs new run.3 in (
-      first.0 ++ rest.0,
-      rest.1 ∙ ap (λ (m : History). history_of m.opening (m.entries ++ rest.0)) first.1 ∙ ap (history_of t.opening) (append_assoc t.entries first.0 rest.0),
-    )
+goes_on-run B M t (ev ∷ evs) new run = grind (arith, goes_on-happens, append_assoc, goes_on-run B M run.1 evs new run.3)
 
 -- a run's events, cut in two
 run_cut : (B M : ℕ) (t : History) (evs more : List Event) (new : History) → RunFrom B M t (evs ++ more) new → (mid : History) × RunFrom B M t evs mid × RunFrom B M mid more new
 run_cut B M t [] more new run = (t, refl, run)
-run_cut B M t (ev ∷ evs) more new run =
-    let rest = run_cut B M run.1 evs more new run.3 in
-    (rest.0, (run.0, run.1, run.2, rest.1), rest.2)
+run_cut B M t (ev ∷ evs) more new run = grind (arith, run_cut B M run.1 evs more new run.3)
 
 -- what the first events make is the front of what all of them make
 run_front : (B M : ℕ) (t : History) (evs more : List Event) (new mid : History) → RunFrom B M t (evs ++ more) new → RunFrom B M t evs mid → up_to (length mid.entries) new ≡ mid
-run_front B M t evs more new mid run first =
-    let cut = run_cut B M t evs more new run in
-    let same : cut.0 ≡ mid = run-one B M t evs cut.0 mid cut.1 first in
-    let on : GoesOnFrom mid new = subst (λ (u : History). GoesOnFrom u new) same (goes_on-run B M cut.0 more new cut.2) in
-    ap (up_to (length mid.entries)) on.1 ∙ ap (history_of mid.opening) (take-append_seam mid.entries on.0)
+run_front B M t evs more new mid run first = grind (arith, run_cut, run-one, goes_on-run, take-append_seam)
 
 -- ---- the snapshots
 
@@ -67,10 +52,7 @@ still_taken B M o evs ev ss k d has within =
 -- an event more, after which none is taken
 pub none_taken : (B M : ℕ) (o : Start) (evs : List Event) (ev : Event) (ss : List Taken) → HasSnapshots B M o evs ss → ((length evs + 1) % SNAPSHOT_EVENTS ≡ 0 → ⊥)
     → HasSnapshots B M o (evs ++ ev ∷ []) ss
-none_taken B M o evs ev ss has between = record {
-  count = let longer = length-append evs (ev ∷ []) in omega (arith, has.count, longer, between);
-  taken = λ k d within. still_taken B M o evs ev ss k d has within;
-}
+none_taken B M o evs ev ss has between = grind (arith, length-append, still_taken)
 
 -- an event more, after which one is taken
 pub one_taken : (B M : ℕ) (o : Start) (evs : List Event) (ev : Event) (ss : List Taken) (t : History) (s : Taken) → HasSnapshots B M o evs ss → (length evs + 1) % SNAPSHOT_EVENTS ≡ 0
@@ -129,10 +111,9 @@ nearest_of B M p ss place evs rest s ran has within cut is since =
 
 -- one of those that are left
 get_front : (m : ℕ) (ss : List Taken) (k : ℕ) (s : Taken) → slice_get (take m ss) k ≡ Some s → slice_get ss k ≡ Some s
-get_front zero ss k s is = cc
-get_front (suc m) [] k s is = cc
 get_front (suc m) (x ∷ ss) zero s is = is
 get_front (suc m) (x ∷ ss) (suc k) s is = get_front m ss k s is
+get_front x y k s is = cc
 
 -- the events since the nearest snapshot, run from there, make what all up to the place make
 run_from_nearest : (B M : ℕ) (p : Past) (place : ℕ) (s : Taken) (rest : List Event) (new : History) → IsNearest B M p place s rest

@@ -1,5 +1,5 @@
 -- A user's lines, read one by one.
-use Rattle.std.proofs.Common.{◌≡◌, ℕ, suc, ◌+◌, ◌<◌, Bool, true, false, List, [], ◌∷◌, ◌++◌, length, take, drop, Option, Some, None, Result, Ok, Err, refl, sym, ap, subst, ◌∙◌, ◌⊎◌, inl, inr, arith}
+use Rattle.std.proofs.Common.{◌≡◌, ℕ, ◌+◌, ◌<◌, Bool, true, false, List, [], ◌∷◌, ◌++◌, length, take, drop, Option, Some, None, Result, Ok, Err, refl, sym, ap, subst, ◌∙◌, ◌⊎◌, inl, inr, arith}
 use Rattle.std.specs.Prelude.{position, IfSome, IfErr, OnOk, MatchBool}
 use Rattle.std.specs.List.{position_or_len}
 use Rattle.std.specs.declared.string.String.{String}
@@ -34,13 +34,7 @@ line_len bytes = position_or_len is_line_feed bytes
 
 through_is : (bytes : List ℕ) → (take_through 10 bytes ≡ take (line_len bytes + 1) bytes) × (drop_through 10 bytes ≡ drop (line_len bytes + 1) bytes) × (line_len (take_through 10 bytes) ≡ line_len bytes)
 through_is [] = (refl, refl, refl)
-through_is (byte ∷ bytes) = elim (cases_Bool (is_line_feed byte)) [
-  | inl is ↦ rw is (rw is (refl, refl, refl))
-  | inr other ↦
-      (let behind = through_is bytes in
-      let one : 1 + line_len bytes + 1 ≡ suc (line_len bytes + 1) = omega arith in
-      rw other (rw one (rw other (ap (λ (xs : List ℕ). byte ∷ xs) behind.0, behind.1, ap (λ (n : ℕ). 1 + n) behind.2))))
-]
+through_is (byte ∷ bytes) = grind (arith, cases_Bool, through_is bytes)
 
 position_at : (bytes : List ℕ) (i : ℕ) → line_len bytes ≡ i → i < length bytes → position is_line_feed bytes ≡ Some i
 position_at bytes i is within = rw is (rw (lt-ltb i (length bytes) within) refl)
@@ -83,14 +77,10 @@ no_byte (byte ∷ bytes) e = elim (cases_Bool (is_line_feed byte)) [
 -- ---- what a writer holds, where that is known
 
 pub appends_nothing : (known : Option (List ℕ)) → Appends known known []
-appends_nothing None = tt
-appends_nothing (Some xs) = sym (append-nil xs)
+appends_nothing known = grind (arith, append-nil)
 
 appends_more : (old mid new : Option (List ℕ)) (xs ys : List ℕ) → Appends old mid xs → Appends mid new ys → Appends old new (xs ++ ys)
-appends_more None mid new xs ys a b = tt
-appends_more (Some o) None new xs ys a b = absurd a
-appends_more (Some o) (Some m) None xs ys a b = b
-appends_more (Some o) (Some m) (Some n) xs ys a b = b ∙ ap (λ (zs : List ℕ). zs ++ ys) a ∙ append_assoc o xs ys
+appends_more old mid new xs ys a b = grind (arith, append_assoc)
 
 -- the writer has got an output of which this holds
 abbrev pub Printed : (old new : Option (List ℕ)) → (List ℕ → Type 0) → Type 0
@@ -99,12 +89,10 @@ Printed old new Holds = (out : List ℕ) × Appends old new out × Holds out
 -- ---- a conversation, line by line
 
 on_true : (b : Bool) (P Q : Type 0) → b ≡ true → P → MatchBool b P Q
-on_true true P Q e p = p
-on_true false P Q e p = cc
+on_true b P Q e p = grind arith
 
 on_false : (b : Bool) (P Q : Type 0) → b ≡ false → Q → MatchBool b P Q
-on_false true P Q e q = cc
-on_false false P Q e q = q
+on_false b P Q e q = grind arith
 
 -- where the input is known, its lines are these and then those that are left of it
 abbrev AreDone : (input left : Option (List ℕ)) → List (List ℕ) → Type 0
@@ -208,24 +196,18 @@ module _ {B M : ℕ} {input left old new : Option (List ℕ)} {start now : Debug
             ∙ sym (append_assoc t.done (line ∷ []) (lines (drop_through 10 rest))))
 
 pub stopped : {V : Type 0} (result : Result V Fault) (P : Type 0) → P → OnStopped result P
-stopped (Err ReadFailed) P p = p
-stopped (Err NoMemory) P p = p
-stopped other P p = tt
+stopped result P p = grind arith
 
 pub unwritten : {V : Type 0} (result : Result V Fault) (P : Type 0) → P → OnUnwritten result P
-unwritten (Err WriteFailed) P p = p
-unwritten other P p = tt
+unwritten result P p = grind arith
 
 -- what only reads fails by no refusal and no write
 pub read_fails : (result : Result (Unit {0}) Fault) (fault : Fault) (P : Type 0) → result ≡ Err fault → IsReadFailure fault → IfErr result IsFailure × OnUnwritten result P
-read_fails result ReadFailed P is failed = rw is (tt, tt)
-read_fails result NoMemory P is failed = rw is (tt, tt)
-read_fails result other P is failed = absurd failed
+read_fails result fault P is failed = grind arith
 
 -- a write that failed is no stop
 pub write_stops : {W : Type 0} (made : String Global × Unit {0}) (result : Result (Unit {0}) Fault) (fault : Fault) (contents : W → Option (List ℕ)) (old new : W) (P : Type 0) → result ≡ Err fault → IsEndOf text_and_value (Ok made) (Err fault) contents old new → OnStopped result P
-write_stops made result WriteFailed contents old new P is end = rw is tt
-write_stops made result other contents old new P is end = absurd end
+write_stops made result fault contents old new P is end = grind arith
 
 -- ---- what a transcript was, once it is over
 
@@ -243,8 +225,7 @@ no_line read (byte ∷ text) is none = absurd (some_line byte text none)
 
 -- a write that failed is no refusal
 pub failed_end : {W : Type 0} (made : String Global × Unit {0}) (fault : Fault) (contents : W → Option (List ℕ)) (old new : W) → IsEndOf text_and_value (Ok made) (Err fault) contents old new → IsFailure fault
-failed_end made (Refused refusal) contents old new end = end
-failed_end made other contents old new end = tt
+failed_end made fault contents old new end = grind arith
 
 -- a result that is such a fault
 pub fails : (result : Result (Unit {0}) Fault) (fault : Fault) → result ≡ Err fault → IsFailure fault → IfErr result IsFailure
@@ -326,5 +307,4 @@ module _ (B M : ℕ) (first second input : Option (List ℕ)) {W : Type 0} (cont
 
 -- answering lines refuses nothing
 pub not_refused : (result : Result (Unit {0}) Fault) (P : Type 0) → IfErr result IsFailure → OnRefused result P
-not_refused (Err (Refused refusal)) P failed = absurd failed
-not_refused other P failed = tt
+not_refused result P failed = grind arith

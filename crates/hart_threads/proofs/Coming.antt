@@ -1,5 +1,5 @@
 -- Seats that come back with perhaps more in their diaries, and what is known of them by those given.
-use Rattle.std.proofs.Common.{inl, inr, ◌≡◌, ℕ, ◌+◌, ◌<◌, Bool, true, not, ◌&&◌, eqb, cond, List, [], ◌∷◌, ◌++◌, length, get_or, refl, sym, ◌∙◌, ap, subst, append_assoc}
+use Rattle.std.proofs.Common.{arith, inl, inr, ◌≡◌, ℕ, ◌+◌, ◌<◌, Bool, true, not, ◌&&◌, eqb, cond, List, [], ◌∷◌, ◌++◌, length, get_or, refl, sym, ◌∙◌, ap, subst, append_assoc}
 use Rattle.std.specs.Prelude.{map, fold, count_by, All}
 use Rattle.std.specs.List.{AllZip, list_any, Contains}
 use Rattle.std.proofs.lemmas.Bool.{cases_lt, eq-eqb, true≢false}
@@ -10,7 +10,7 @@ use Rattle.step_machine.specs.declared.events.Entry.{Entry}
 use Rattle.step_machine.specs.History.{Start}
 use Rattle.hart_threads.specs.Seats.{SeatView}
 use Rattle.hart_threads.specs.Missing.{is_missing, IsFirst, IsComplete, sits_at, acts_for, lands_for}
-use Rattle.hart_threads.specs.Parts.{Fits, Merge, Belongs, part_of}
+use Rattle.hart_threads.specs.Parts.{Fits, Merge, Belongs}
 use Rattle.hart_threads.specs.Records.{Refuses}
 use Rattle.hart_threads.specs.Returns.{GrowsInto, IsMerged, CanBelong, Fails}
 use Rattle.hart_threads.specs.Faults.{fault_of}
@@ -23,30 +23,26 @@ use Rattle.hart_threads.proofs.FirstMissing.{missing_past}
 
 pub zip_left : {A B : Type 0} (R : A → B → Type 0) (P : B → Type 0) (Q : A → Type 0) → ((x : A) (y : B) → R x y → P y → Q x) → (xs : List A) (ys : List B) → AllZip R xs ys → All P ys → All Q xs
 zip_left R P Q step [] [] zip all = All-nil Q
-zip_left R P Q step [] (y ∷ ys) zip all = absurd zip
-zip_left R P Q step (x ∷ xs) [] zip all = absurd zip
 zip_left R P Q step (x ∷ xs) (y ∷ ys) (here, more) all =
     All-cons Q x xs (step x y here (All-head P y ys all)) (zip_left R P Q step xs ys more (All-tail P y ys all))
+zip_left R P Q step z other zip all = absurd zip
 
 pub zip_right : {A B : Type 0} (R : A → B → Type 0) (P : A → Type 0) (Q : B → Type 0) → ((x : A) (y : B) → R x y → P x → Q y) → (xs : List A) (ys : List B) → AllZip R xs ys → All P xs → All Q ys
 zip_right R P Q step [] [] zip all = All-nil Q
-zip_right R P Q step [] (y ∷ ys) zip all = absurd zip
-zip_right R P Q step (x ∷ xs) [] zip all = absurd zip
 zip_right R P Q step (x ∷ xs) (y ∷ ys) (here, more) all =
     All-cons Q y ys (step x y here (All-head P x xs all)) (zip_right R P Q step xs ys more (All-tail P x xs all))
+zip_right R P Q step z other zip all = absurd zip
 
 -- the same of what the elements of one list show
 pub zip_before : {A B C : Type 0} (R : A → B → Type 0) (S : C → B → Type 0) (P : A → Type 0) (f : A → C) → ((x : A) (y : B) → R x y → P x → S (f x) y) → (xs : List A) (ys : List B) → AllZip R xs ys → All P xs → AllZip S (map f xs) ys
 zip_before R S P f step [] [] zip all = tt
-zip_before R S P f step [] (y ∷ ys) zip all = absurd zip
-zip_before R S P f step (x ∷ xs) [] zip all = absurd zip
 zip_before R S P f step (x ∷ xs) (y ∷ ys) (here, more) all = (step x y here (All-head P x xs all), zip_before R S P f step xs ys more (All-tail P x xs all))
+zip_before R S P f step z other zip all = absurd zip
 
 pub zip_after : {A B C : Type 0} (R : A → B → Type 0) (S : A → C → Type 0) (f : B → C) → ((x : A) (y : B) → R x y → S x (f y)) → (xs : List A) (ys : List B) → AllZip R xs ys → AllZip S xs (map f ys)
 zip_after R S f step [] [] zip = tt
-zip_after R S f step [] (y ∷ ys) zip = absurd zip
-zip_after R S f step (x ∷ xs) [] zip = absurd zip
 zip_after R S f step (x ∷ xs) (y ∷ ys) (here, more) = (step x y here, zip_after R S f step xs ys more)
+zip_after R S f step z other zip = absurd zip
 
 -- some of the first list's elements have been joined, and these are out
 pub record Joined {A B : Type 0} (R : A → B → Type 0) (whole out : List A) (came : List B) : Type 0 where
@@ -55,11 +51,7 @@ pub record Joined {A B : Type 0} (R : A → B → Type 0) (whole out : List A) (
   pub zip : AllZip R front came
 
 pub joined_more : {A B : Type 0} (R : A → B → Type 0) (whole out later : List A) (came grown : List B) (x : A) (y : B) → Joined R whole out came → out ≡ x ∷ later → R x y → grown ≡ came ++ y ∷ [] → Joined R whole later grown
-joined_more {A = A} {B = B} R whole out later came grown x y joined next here is = record {
-  front = joined.front ++ x ∷ [];
-  split = joined.split ∙ ap (λ (xs : List A). joined.front ++ xs) next ∙ sym (append_assoc joined.front (x ∷ []) later);
-  zip = subst (AllZip R (joined.front ++ x ∷ [])) (sym is) (all_zipped_more R joined.front came x y joined.zip here);
-}
+joined_more {A = A} {B = B} R whole out later came grown x y joined next here is = grind (arith, append_assoc, all_zipped_more)
 
 -- ---- roles
 
@@ -73,36 +65,33 @@ role_of s = record { hart = s.hart; acts = s.acts }
 
 same_roles : (n : ℕ) (given back : List SeatView) → AllZip (Continues n) given back → map role_of back ≡ map role_of given
 same_roles n [] [] come = refl
-same_roles n [] (t ∷ back) come = absurd come
-same_roles n (s ∷ given) [] come = absurd come
 same_roles n (s ∷ given) (t ∷ back) (on, come) =
     let head : role_of t ≡ role_of s = ap role_of on.is in
     let tail : map role_of back ≡ map role_of given = same_roles n given back come in
     cc
+same_roles n x y come = absurd come
 
 -- a test of roles counts alike
 same_fold : (p : Role → Bool) (n : ℕ) (xs ys : List SeatView) → map role_of xs ≡ map role_of ys → fold (λ a s. a + cond (p (role_of s)) 1 0) n xs ≡ fold (λ a s. a + cond (p (role_of s)) 1 0) n ys
 same_fold p n [] [] is = refl
-same_fold p n [] (y ∷ ys) is = cc
-same_fold p n (x ∷ xs) [] is = cc
 same_fold p n (x ∷ xs) (y ∷ ys) is =
     let head : role_of x ≡ role_of y = cc in
     let tail : map role_of xs ≡ map role_of ys = cc in
     ap (λ (r : Role). fold (λ a s. a + cond (p (role_of s)) 1 0) (n + cond (p r) 1 0) xs) head ∙ same_fold p (n + cond (p (role_of y)) 1 0) xs ys tail
+same_fold p n z other is = cc
 
 same_count : (p : Role → Bool) (xs ys : List SeatView) → map role_of xs ≡ map role_of ys → count_by (λ s. p (role_of s)) xs ≡ count_by (λ s. p (role_of s)) ys
 same_count p xs ys is = same_fold p 0 xs ys is
 
 same_any : (p : Role → Bool) (xs ys : List SeatView) → map role_of xs ≡ map role_of ys → list_any (λ s. p (role_of s)) xs ≡ list_any (λ s. p (role_of s)) ys
 same_any p [] [] is = refl
-same_any p [] (y ∷ ys) is = cc
-same_any p (x ∷ xs) [] is = cc
 same_any p (x ∷ xs) (y ∷ ys) is =
     let head : role_of x ≡ role_of y = cc in
     let tail : map role_of xs ≡ map role_of ys = cc in
     let first : p (role_of x) ≡ p (role_of y) = ap p head in
     let rest : list_any (λ s. p (role_of s)) xs ≡ list_any (λ s. p (role_of s)) ys = same_any p xs ys tail in
     rw (first, rest) refl
+same_any p z other is = cc
 
 -- what is missing depends on harts and roles alone
 same_missing : (k n h : ℕ) (given back : List SeatView) → AllZip (Continues k) given back → is_missing n back h ≡ is_missing n given h
@@ -130,21 +119,13 @@ harts_within n seats complete k d lt = elim (cases_lt (get_or seats k d).hart n)
 -- ---- what is gathered of the seats that come back, by those that were given
 
 grown : (n : ℕ) (es : List Entry) (s t : SeatView) → Continues n s t → Fits es t → GrowsInto n es s
-grown n es s t on fits = record {
-  more = on.more;
-  whole = sym (ap (λ (v : SeatView). part_of v es) on.is) ∙ sym fits ∙ ap (λ (v : SeatView). v.diary) on.is;
-  few = on.few;
-}
+grown n es s t on fits = grind arith
 
 pub merged_from : (n : ℕ) (o : Start) (es : List Entry) (given back : List SeatView) → IsComplete (length o.harts) given → AllZip (Continues n) given back → Merge (length o.harts) es back → IsMerged n o es given
 merged_from n o es given back complete come merge = record { complete = complete; parts = zip_left (Continues n) (Fits es) (GrowsInto n es) (grown n es) given back come merge.fit }
 
 can_belong : (M n : ℕ) (o : Start) (us : List Entry) (h : ℕ) (s t : SeatView) → Continues n s t → (t.hart < h → Belongs M o us t) → s.hart < h → CanBelong M n o us s
-can_belong M n o us h s t on good low = record {
-  more = on.more;
-  few = on.few;
-  belongs = subst (Belongs M o us) on.is (good (subst (λ (k : ℕ). k < h) (sym (ap (λ (v : SeatView). v.hart) on.is)) low));
-}
+can_belong M n o us h s t on good low = grind arith
 
 -- a refusal to gather the seats that come back
 pub fails_from : (B M n : ℕ) (o : Start) (given back : List SeatView) (e : Gather) → IsComplete (length o.harts) given → AllZip (Continues n) given back → Refuses B M o back e → Fails B M n o given (fault_of e)

@@ -1,6 +1,6 @@
 -- A diary against its part of the entries, entry by entry.
 use Rattle.std.proofs.Common.{◌≡◌, ℕ, ◌+◌, ◌<◌, Bool, true, false, not, cond, List, [], ◌∷◌, ◌++◌, length, get_or, take, drop, Option, Some, None, refl, sym, ◌∙◌, ap, arith, append-nil, append_assoc}
-use Rattle.std.specs.Prelude.{MatchBool, All, is_some, if◌then◌else◌}
+use Rattle.std.specs.Prelude.{MatchBool, All, is_some}
 use Rattle.std.specs.List.{filter, slice_get}
 use Rattle.std.proofs.Math.Seq.{get_or-append_seam, take-length}
 use Rattle.std.proofs.lemmas.List.{take-append-drop, length-append}
@@ -9,7 +9,7 @@ use Rattle.step_machine.specs.declared.events.Entry.{Entry}
 use Rattle.step_machine.specs.Entries.{own, is_own}
 use Rattle.hart_threads.specs.Seats.{SeatView}
 use Rattle.step_machine.specs.Placing.{IsOwn}
-use Rattle.hart_threads.specs.Parts.{Fits, HasPart, HasPartAs, part_of, landings, is_landing_of}
+use Rattle.hart_threads.specs.Parts.{Fits, HasPart, part_of}
 use Rattle.hart_threads.specs.inner.Searches.{counted, keeps}
 
 own-filter : (h : ℕ) (es : List Entry) → own h es ≡ filter (is_own h) es
@@ -17,11 +17,7 @@ own-filter h [] = refl
 own-filter h (e ∷ es) = ap (λ (xs : List Entry). cond (is_own h e) (e ∷ xs) xs) (own-filter h es)
 
 pub part-filter : (s : SeatView) (es : List Entry) → part_of s es ≡ filter (keeps s) es
-part-filter s es = at s.acts
-  where
-    at : (b : Bool) → cond b (own s.hart es) (landings s.hart es) ≡ filter (λ e. cond b (is_own s.hart e) (is_landing_of s.hart e)) es
-    at true = own-filter s.hart es
-    at false = refl
+part-filter s es = grind (arith, own-filter)
 
 -- what passes, at a place where the entry passes
 filter_at : (p : Entry → Bool) (es : List Entry) (i : ℕ) (d : Entry) → i < length es → p (get_or es i d) ≡ true → filter p es ≡ filter p (take i es) ++ get_or es i d ∷ filter p (drop (i + 1) es)
@@ -35,8 +31,7 @@ none_left [] is = refl
 none_left (x ∷ xs) is = absurd (cc)
 
 pub first_left : (xs : List Entry) (x : Entry) → slice_get xs 0 ≡ Some x → xs ≡ x ∷ drop 1 xs
-first_left [] x is = absurd (cc)
-first_left (y ∷ xs) x is = cc
+first_left xs x is = grind arith
 
 -- the diary is at its end and an entry more passes
 pub too_short : (s : SeatView) (es : List Entry) (i : ℕ) (d : Entry) (rest : List Entry) → i < length es → keeps s (get_or es i d) ≡ true → slice_get rest 0 ≡ None → s.diary ≡ filter (keeps s) (take i es) ++ rest → Fits es s → ⊥
@@ -74,11 +69,4 @@ at_the_end s es i rest o b end first some so_far =
 -- what counts of a seat's diary decides whether it has its part
 pub part_has : (us : List Entry) (s : SeatView) (b : Bool) → (s.acts ≡ true → All (IsOwn s.hart) s.diary) → MatchBool b (counted s.acts s.diary ≡ part_of s us) (counted s.acts s.diary ≡ part_of s us → ⊥)
     → MatchBool b (HasPart us s) (HasPart us s → ⊥)
-part_has us s b mine known = at b s.acts mine known
-  where
-    at : (b a : Bool) → (a ≡ true → All (IsOwn s.hart) s.diary) → MatchBool b (counted a s.diary ≡ (if a then own s.hart us else landings s.hart us)) (counted a s.diary ≡ (if a then own s.hart us else landings s.hart us) → ⊥)
-        → MatchBool b (HasPartAs a us s) (HasPartAs a us s → ⊥)
-    at true true mine same = (same, mine refl)
-    at true false mine same = same
-    at false true mine other = λ has. other has.0
-    at false false mine other = other
+part_has us s b mine known = grind arith

@@ -1,5 +1,5 @@
 -- The least number that is missing: first among the harts, then past them.
-use Rattle.std.proofs.Common.{◌≡◌, ◌⊎◌, inl, inr, ℕ, ◌+◌, ◌<◌, ◌≤◌, Bool, true, false, not, eqb, cond, List, Option, Some, None, refl, sym, ◌∙◌, ap, arith, below_more}
+use Rattle.std.proofs.Common.{◌≡◌, ℕ, ◌+◌, ◌<◌, ◌≤◌, Bool, true, false, not, eqb, cond, List, Option, sym, ◌∙◌, ap, arith, below_more}
 use Rattle.std.specs.Prelude.{All, MatchOption}
 use Rattle.std.specs.List.{list_any}
 use Rattle.std.proofs.lemmas.Bool.{cases_lt, eq-eqb, le-ltb, lt-ltb, ne_eqb}
@@ -28,29 +28,7 @@ none_at : (k : ℕ) (seats : List SeatView) → All (λ (s : SeatView). s.hart <
 none_at k seats all = list_any_none (sits_at k) seats (All-weaker (λ (s : SeatView). s.hart < k) (λ (s : SeatView). sits_at k s ≡ false) (λ s lt. ne_eqb s.hart k (λ is. omega arith)) seats all)
 
 none_between : (n h k : ℕ) (seats : List SeatView) → n ≤ k → k < h → All (λ (s : SeatView). s.hart < h → s.hart < n) seats → list_any (sits_at k) seats ≡ false
-none_between n h k seats le lt all = list_any_none (sits_at k) seats (All-weaker (λ (s : SeatView). s.hart < h → s.hart < n) (λ (s : SeatView). sits_at k s ≡ false) (λ s only. at s only (eqb s.hart k) refl) seats all)
-  where
-    at : (s : SeatView) → (s.hart < h → s.hart < n) → (b : Bool) → eqb s.hart k ≡ b → b ≡ false
-    at s only true is = (let here : s.hart ≡ k = grind (arith, nat_tests) in let low : s.hart < n = only (omega arith) in absurd (omega arith))
-    at s only false is = refl
+none_between n h k seats le lt all = grind (arith, list_any_none, All-weaker, eqb, nat_tests)
 
 pub first_past : (n i : ℕ) (seats : List SeatView) (o : Option ℕ) → n ≤ i → ((k : ℕ) → k < i → is_missing n seats k ≡ false) → Found (λ s. s.hart) (λ s. s.hart < n) (λ s. n ≤ s.hart) seats o → MatchOption o (IsComplete n seats) (IsFirst (is_missing n seats))
-first_past n i seats None le below all = λ k. at k (cases_lt k n)
-  where
-    at : (k : ℕ) → (k < n) ⊎ (n ≤ k) → is_missing n seats k ≡ false
-    at k side = elim side [
-      | inl lt ↦ below k (omega arith)
-      | inr ge ↦ missing_past n k seats ge ∙ none_at k seats (All-weaker (λ (s : SeatView). s.hart < n) (λ (s : SeatView). s.hart < k) (λ s lt. omega arith) seats all)
-    ]
-first_past n i seats (Some h) le below least =
-    let there : n ≤ h = omega (arith, least.bad.2, least.bad.3) in
-    record {
-      here = missing_past n h seats there ∙ list_any-from_Any (sits_at h) seats (least.bad.1.0, least.bad.0, least.bad.1.1, least.bad.1.2, eq-eqb least.bad.0.hart h least.bad.2);
-      below = λ k lt. at k lt (cases_lt k n);
-    }
-  where
-    at : (k : ℕ) → k < h → (k < n) ⊎ (n ≤ k) → is_missing n seats k ≡ false
-    at k lt side = elim side [
-      | inl low ↦ below k (omega arith)
-      | inr ge ↦ missing_past n k seats ge ∙ none_between n h k seats ge lt least.below
-    ]
+first_past n i seats o le below all = grind (arith, cases_lt, missing_past, none_at, All-weaker, list_any-from_Any, eq-eqb, none_between)

@@ -1,5 +1,5 @@
 -- The seats of an opening, which have done nothing: what running them says of a record.
-use Rattle.std.proofs.Common.{◌⊎◌, inl, inr, ◌≡◌, ℕ, zero, suc, ◌<◌, ◌≤◌, List, [], ◌∷◌, ◌++◌, length, refl, sym, ◌∙◌, ap, subst, arith}
+use Rattle.std.proofs.Common.{◌⊎◌, inl, inr, ◌≡◌, ℕ, zero, suc, ◌<◌, ◌≤◌, List, [], ◌∷◌, length, refl, sym, ap, subst, arith}
 use Rattle.std.specs.Prelude.{All}
 use Rattle.std.specs.List.{Contains}
 use Rattle.std.proofs.lemmas.Bool.{cases_lt}
@@ -14,10 +14,7 @@ use Rattle.hart_threads.specs.Returns.{GrowsInto, IsMerged}
 -- ---- each hart's seats are among them
 
 later : (h n : ℕ) → h < suc n → (h < n) ⊎ (h ≡ n)
-later h n lt = elim (cases_lt h n) [
-  | inl less ↦ inl less
-  | inr ge ↦ inr (omega arith)
-]
+later h n lt = grind (arith, cases_lt)
 
 acting_below : (M : ℕ) (o : Start) (n h : ℕ) → h < n → Contains (seats_below M o n) (acting_seat M o h)
 acting_below M o zero h lt = absurd (omega arith)
@@ -36,10 +33,7 @@ landing_below M o (suc n) h lt = elim (later h n lt) [
 -- ---- each hart makes at most n entries, and at most n of its stores land
 
 short : (n : ℕ) (es : List Entry) (s : SeatView) → s.diary ≡ [] → GrowsInto n es s → length (part_of s es) ≤ n
-short n es s none grows =
-    let whole : part_of s es ≡ [] ++ grows.more = grows.whole ∙ ap (λ (d : List Entry). d ++ grows.more) none in
-    let count : length (part_of s es) ≡ length grows.more = ap length whole in
-    omega (arith, grows.few)
+short n es s none grows = grind arith
 
 pub fresh_few : (n M : ℕ) (o : Start) (seats : List SeatView) (t : History) → seats ≡ seats_of M o → t.opening ≡ o → IsMerged n o t.entries seats → AtMost n t
 fresh_few n M o seats t fresh opening merge h lt =

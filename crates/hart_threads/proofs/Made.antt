@@ -1,11 +1,11 @@
 -- A kept history's entries come about one by one, each by its own event.
-use Rattle.std.proofs.Common.{◌≡◌, ℕ, ◌+◌, ◌<◌, List, [], ◌∷◌, ◌++◌, length, get_or, take, drop, sym, subst}
+use Rattle.std.proofs.Common.{arith, ◌≡◌, ℕ, ◌+◌, ◌<◌, List, [], ◌∷◌, ◌++◌, length, get_or, take, drop, sym, subst}
 use Rattle.std.proofs.lemmas.List.{take-append-drop, take_more}
 use Rattle.step_machine.specs.declared.events.Entry.{Entry}
 use Rattle.step_machine.specs.declared.events.Event.{Event}
 use Rattle.step_machine.specs.declared.events.Outcome.{Outcome}
 use Rattle.step_machine.specs.declared.events.Outcome.TheVariants as outcome
-use Rattle.step_machine.specs.History.{Start, History, history_of, with_entry}
+use Rattle.step_machine.specs.History.{Start, History, history_of}
 use Rattle.step_machine.specs.Entries.{hart_of}
 use Rattle.step_machine.specs.Legal.{WellFormed}
 use Rattle.step_machine.specs.Runs.{CanFollow, Happens, event_of}
@@ -23,8 +23,4 @@ follows B M o es i d within kept =
 -- so an event that makes another one, or none, is of no kept history
 pub other_made : (B M : ℕ) (o : Start) (es : List Entry) (i : ℕ) (d : Entry) (t new : History) (ev : Event) (out : Outcome) → i < length es → t ≡ history_of o (take i es) → ev ≡ event_of (get_or es i d)
     → Happens B M t ev out new → (out ≡ outcome.Did (get_or es i d) → ⊥) → WellFormed B M (history_of o es) → ⊥
-other_made B M o es i d t new ev out within is next happens other kept =
-    let e = get_or es i d in
-    let so_far = history_of o (take i es) in
-    let now : Happens B M (history_of o (take i es)) (event_of (get_or es i d)) out new = subst (λ (u : History). Happens B M u (event_of e) out new) is (subst (λ (x : Event). Happens B M t x out new) next happens) in
-    other (happens-one B M so_far (event_of e) out (outcome.Did e) new (with_entry so_far e) now (added B M so_far e (follows B M o es i d within kept))).0
+other_made B M o es i d t new ev out within is next happens other kept = grind (arith, get_or, happens-one, added, follows)

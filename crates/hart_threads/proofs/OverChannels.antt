@@ -1,16 +1,14 @@
 -- A record of a channel's opening is a run of it, so that the laws of channels speak of it.
-use Rattle.std.proofs.Common.{◌≡◌, ℕ, List, subst}
+use Rattle.std.proofs.Common.{arith, ◌≡◌, ℕ, List, subst}
 use Rattle.step_machine.specs.History.{Start}
 use Rattle.step_machine.specs.Runs.{Run}
 use Rattle.poll_close.specs.Layout.{Layout}
 use Rattle.poll_close.specs.Laws.{Ring, opening_of, opening_over, Accepted, AcceptedAt}
 use Rattle.hart_threads.specs.declared.fault.ChannelFault.{ChannelFault}
-use Rattle.hart_threads.specs.declared.fault.ChannelFault.TheVariants as channel
 use Rattle.hart_threads.specs.declared.record.Record.{Record}
-use Rattle.hart_threads.specs.Seats.{seats_of}
 use Rattle.hart_threads.specs.Records.{IsRecord}
 use Rattle.hart_threads.specs.Faults.{channel_fault_at}
-use Rattle.hart_threads.specs.Returns.{Fails, RecordFails, ChannelFails, ChannelFailsAt}
+use Rattle.hart_threads.specs.Returns.{RecordFails, ChannelFails, ChannelFailsAt}
 
 pub run_of : (B M : ℕ) (o p : Start) (r : Record B M) → o ≡ p → IsRecord B M o r → Run B M p r.events.items r.trace
 run_of B M o p r is made = subst (λ (q : Start). Run B M q r.events.items r.trace) is made.run
@@ -18,13 +16,9 @@ run_of B M o p r is made = subst (λ (q : Start). Run B M q r.events.items r.tra
 -- a channel that opens and gives no record has a fault of threads, or memory ran out
 pub channel_fails : (ring : Ring) (B M n S : ℕ) (lists : List (List ℕ)) (o : Start) (e : ChannelFault)
     → o ≡ opening_of ring lists S → Accepted ring M lists S → RecordFails B M n o e → ChannelFails ring B M n lists S e
-channel_fails ring B M n S lists o (channel.Lists refused) is accepted fails = rw fails accepted
-channel_fails ring B M n S lists o (channel.Threads fault) is accepted fails =
-    (accepted, subst (λ (p : Start). Fails B M n p (seats_of M p) fault) is fails)
+channel_fails ring B M n S lists o e is accepted fails = grind arith
 
 pub channel_fails_at : (ring : Ring) (B M n : ℕ) (l : Layout) (lists : List (List ℕ)) (o : Start) (e : ChannelFault)
     → o ≡ opening_over ring lists l → AcceptedAt ring M lists l → RecordFails B M n o e
     → ChannelFailsAt ring B M n lists l (channel_fault_at e)
-channel_fails_at ring B M n l lists o (channel.Lists refused) is accepted fails = rw fails accepted
-channel_fails_at ring B M n l lists o (channel.Threads fault) is accepted fails =
-    (accepted, subst (λ (p : Start). Fails B M n p (seats_of M p) fault) is fails)
+channel_fails_at ring B M n l lists o e is accepted fails = grind arith

@@ -1,5 +1,5 @@
 -- What threads made of the seats that were given, and how far each hart got in the record.
-use Rattle.std.proofs.Common.{◌⊎◌, inl, inr, ◌≡◌, ℕ, ◌<◌, ◌≤◌, Bool, true, refl, List, length, get_or, Option, Some, None, sym, ◌∙◌, ap, subst, arith}
+use Rattle.std.proofs.Common.{◌⊎◌, inl, inr, ◌≡◌, ℕ, ◌<◌, ◌≤◌, Bool, true, List, length, get_or, Option, Some, None, sym, ◌∙◌, ap, subst, arith}
 use Rattle.std.specs.Prelude.{map, All, IsSomeAnd, option_map, if◌then◌else◌}
 use Rattle.std.specs.List.{AllZip, Contains, slice_get}
 use Rattle.std.proofs.lemmas.List.{get_or-map, length-map}
@@ -41,21 +41,14 @@ abbrev WentInto : ℕ → ℕ → History → SeatView → Type 0
 WentInto n M t s = Went n s × OpensInto M t.opening t.entries s
 
 where_done : (e : Ending) (P : Type 0) → (e ≡ ending.NoMemory → ⊥) → (e ≡ ending.NoHart → ⊥) → WhereDone e P → P
-where_done ending.HeldBack P found served done = done
-where_done ending.Over P found served done = done
-where_done ending.TurnsDone P found served done = done
-where_done ending.NoHart P found served done = absurd (served (refl))
-where_done ending.NoMemory P found served done = absurd (found (refl))
+where_done e P found served done = grind arith
 
 got_there : (n : ℕ) (s t : SeatView) → GotOn n s t → GotThere n t
-got_there n s t (inl is_over) = inl is_over
-got_there n s t (inr (inl more)) = inr (inl (omega arith))
-got_there n s t (inr (inr waited)) = inr (inr waited)
+got_there n s t h3 = grind arith
 
 went : (unheld : Type 0) (n : ℕ) (s : SeatView) (e : Ending) (c : Calls) (t : SeatView)
     → unheld → Ran unheld n s e c t → (e ≡ ending.NoMemory → ⊥) → (t.acts ≡ true → e ≡ ending.NoHart → ⊥) → Went n t
-went unheld n s e c t is_open ran found served acts =
-    got_there n s t (where_done e (GotOn n s t) found (served acts) (ran.got_on (sym (same_role n s t ran.on) ∙ acts) is_open))
+went unheld n s e c t is_open ran found served acts = grind (arith, got_there, where_done, same_role)
 
 -- ---- in the record
 
