@@ -31,9 +31,12 @@ length-without from count es within = grind (arith, length-append, length-take, 
 pub pass_without : (Ends : List Event → Type 0) (old now left : List Event) (size from count : ℕ) (gone : Bool)
     → Passing Ends old now size from gone → 1 ≤ count → from + count ≤ length now → left ≡ without from count now
     → Ends left → Passing Ends old left size from true
-pass_without Ends old now left size from count gone pass some within is ends = grind (arith,
-    part_of_part (without from count now) now old (part_without from count now) pass.part, part_without from count now,
-    length-without from count now within)
+pass_without Ends old now left size from count gone pass some within is ends = grind (
+  arith,
+  part_of_part (without from count now) now old (part_without from count now) pass.part,
+  part_without from count now,
+  length-without from count now within,
+)
 
 without-min : (from size : ℕ) (es : List Event) → from ≤ length es → without from (min size (length es - from)) es ≡ without from size es
 without-min from size es within = grind (arith, drop_min (from + size) es)
