@@ -212,6 +212,7 @@ fn judge_at<K: RingKind>(
     requires memory { m ≤ 65536 }
     ensures ok { OnOk result (AcceptedAt K.ring m (map (λ v. v.items) lists.now) (layout_of place words.now)) }
     ensures err { IfErr result (λ e. RefusesAt K.ring m (map (λ v. v.items) lists.now) (layout_of place words.now) e) }
+    ensures accepts { AcceptedAt K.ring m (map (λ v. v.items) lists.now) (layout_of place words.now) → IsOk result }
 {
     if lists.is_empty() {
         return Err(RefusedAt::Lists(Refused::NoSenders));
