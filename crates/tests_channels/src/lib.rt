@@ -4,6 +4,19 @@
 
 #![tactic(auto)]
 
+/// As `assert_eq!`, but proved once, in `same`: a branch costs the proof of its test more than a call.
+#[cfg(test)]
+macro_rules! assert_same {
+    ($rt:expr; $left:expr, $right:expr) => {
+        $crate::same($left, $right).expect(&$rt, stringify!($left))
+    };
+}
+
+#[cfg(test)]
+fn same<T: PartialEq + Drop>(left: T, right: T) -> Result<(), (T, T)> {
+    (left == right).then_some(()).ok_or((left, right))
+}
+
 #[cfg(test)]
 mod of_hart_threads;
 #[cfg(test)]

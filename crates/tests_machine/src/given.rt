@@ -1,4 +1,4 @@
-//! Openings, events and entries.
+//! Openings, events and entries, and what compares.
 
 use std::alloc::{AllocError, Global};
 use step_machine::{Entry, Event, HartOpening, Opening};
@@ -88,6 +88,11 @@ pub fn store(hart: u32, addr: u32, value: u32) -> Entry {
         width: 4,
         value,
     }
+}
+
+/// What `assert_same!` expects.
+pub fn same<T: PartialEq + Drop>(left: T, right: T) -> Result<(), (T, T)> {
+    (left == right).then_some(()).ok_or((left, right))
 }
 
 pub fn amo(hart: u32, addr: u32, old: u32, new: u32) -> Entry {

@@ -5,6 +5,14 @@
 
 #![tactic(auto)]
 
+/// As `assert_eq!`, but proved once, in `same`: a branch costs the proof of its test more than a call.
+#[cfg(test)]
+macro_rules! assert_same {
+    ($rt:expr; $left:expr, $right:expr) => {
+        $crate::given::same($left, $right).expect(&$rt, stringify!($left))
+    };
+}
+
 #[cfg(test)]
 mod given;
 #[cfg(test)]

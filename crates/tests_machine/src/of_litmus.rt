@@ -22,27 +22,27 @@ fn condition(alloc: Global) -> Result<Condition, ConditionError> {
 }
 
 #[test]
-fn a_condition_asks_for_harts_and_locations(rt: HostRuntime) -> Result<(), Fail> {
-    let condition = condition(rt.alloc())?;
-    assert!(rt; condition.asks_within(2, 1));
-    assert!(rt; !condition.asks_within(1, 1));
-    assert!(rt; !condition.asks_within(2, 0));
-    Ok(())
+fn a_condition_asks_for_harts_and_locations(rt: HostRuntime) {
+    let condition = condition(rt.alloc()).expect(&rt, "a condition");
+    assert_same!(rt; condition.asks_within(2, 1), true);
+    assert_same!(rt; condition.asks_within(1, 1), false);
+    assert_same!(rt; condition.asks_within(2, 0), false);
 }
 
 #[test]
-fn a_misplaced_symbol_leaves_the_draft(rt: HostRuntime) -> Result<(), Fail> {
+fn a_misplaced_symbol_leaves_the_draft(rt: HostRuntime) {
     let mut draft = ConditionDraft::new(rt.alloc());
-    draft.push(Symbol::Not)?;
+    draft.push(Symbol::Not).expect(&rt, "memory");
     let misplaced = ConditionError::Misplaced;
-    assert_eq!(rt; draft.push(Symbol::And), Err(misplaced));
-    draft.push(Symbol::Is {
+    assert_same!(rt; draft.push(Symbol::And), Err(misplaced));
+    let is = Symbol::Is {
         place: Place::Word { address: 0 },
         value: 0,
-    })?;
-    assert!(rt; draft.finish()?.asks_within(1, 1));
-    assert_eq!(rt; misplaced.to_string(rt.alloc())?.as_str(), "bad condition");
-    Ok(())
+    };
+    draft.push(is).expect(&rt, "memory");
+    assert_same!(rt; draft.finish().expect(&rt, "a condition").asks_within(1, 1), true);
+    let text = misplaced.to_string(rt.alloc()).expect(&rt, "a text");
+    assert_same!(rt; text.as_str(), "bad condition");
 }
 
 #[test]
@@ -57,8 +57,8 @@ fn faults_have_their_numbers_and_texts(rt: HostRuntime) -> Result<(), Fail> {
     ];
     for (fault, number, text) in faults {
         let error = LitmusError::at_line(fault, 9);
-        assert_eq!(rt; error.number(), number);
-        assert_eq!(rt; error.to_string(rt.alloc())?.as_str(), text);
+        assert_same!(rt; error.number(), number);
+        assert_same!(rt; error.to_string(rt.alloc())?.as_str(), text);
     }
     Ok(())
 }

@@ -1,8 +1,10 @@
 //! The crate `shrink`.
 
 use crate::given::{A0, A1, BOTH_READ_0, L0, L1};
+use litmus::Test;
 use shrink::{ShrinkError, shrink};
-use std::test::Fail;
+use std::alloc::Global;
+use step_machine::Event;
 
 const STORE_BUFFERING: &str = "RISCV SB
 {
@@ -15,19 +17,22 @@ const STORE_BUFFERING: &str = "RISCV SB
 exists (0:x7=0 /\\ 1:x7=0)
 ";
 
+fn shrunk(alloc: Global, test: &Test, events: &[Event]) -> Result<Vec<Event>, ShrinkError> {
+    shrink::<8, 1024>(alloc, test, events)
+}
+
 #[test]
-fn store_buffering_needs_six_events(rt: HostRuntime) -> Result<(), Fail> {
-    let test = litmus_reader::read(rt.alloc(), STORE_BUFFERING)?;
+fn store_buffering_needs_six_events(rt: HostRuntime) {
+    let test = litmus_reader::read(rt.alloc(), STORE_BUFFERING).expect(&rt, "a test");
     let longer = [L1, A0, L1, A1, A0, A0, L0, A1, A1, L0, L1, A0, L1];
-    let events = shrink::<8, 1024>(rt.alloc(), &test, &longer)?;
-    assert_eq!(rt; events.len(), 6);
-    let again = shrink::<8, 1024>(rt.alloc(), &test, &BOTH_READ_0)?;
-    assert_eq!(rt; again.as_slice(), BOTH_READ_0.as_slice());
-    let unfinished = shrink::<8, 1024>(rt.alloc(), &test, &BOTH_READ_0[..5]);
+    let events = shrunk(rt.alloc(), &test, &longer).expect(&rt, "events");
+    assert_same!(rt; events.len(), 6);
+    let again = shrunk(rt.alloc(), &test, &BOTH_READ_0).expect(&rt, "events");
+    assert_same!(rt; again.as_slice(), BOTH_READ_0.as_slice());
+    let unfinished = shrunk(rt.alloc(), &test, &BOTH_READ_0[..5]);
     assert!(rt; matches!(unfinished, Err(ShrinkError::NotFinished)));
-    assert_eq!(rt;
-        ShrinkError::NotFinished.to_string(rt.alloc())?.as_str(),
-        "not finished"
-    );
-    Ok(())
+    let text = ShrinkError::NotFinished
+        .to_string(rt.alloc())
+        .expect(&rt, "a text");
+    assert_same!(rt; text.as_str(), "not finished");
 }

@@ -4,7 +4,6 @@
 use crate::given::{ZEROS, amo, both_read_0, full_fence, land, load, opening_of, store};
 use std::alloc::{AllocError, Global};
 use std::process::Abort;
-use std::test::Fail;
 use step_machine::{Entry, Trace};
 use ztso_axioms::{Op, check, order_of};
 
@@ -49,45 +48,41 @@ fn listed(alloc: Global, places: &[usize]) -> Result<Vec<Op>, AllocError> {
     Ok(order)
 }
 
+/// Whether `check` accepts the order of these places.
+fn accepts(rt: &(impl Abort + AllocGlobal), trace: &Trace, places: &[usize]) -> bool {
+    check(trace, &listed(rt.alloc(), places).expect(rt, "memory"))
+}
+
 /// The trace's order names these places, and is accepted.
-fn expect_order(
-    rt: &impl Abort,
-    alloc: Global,
-    entries: &[Entry],
-    places: &[usize],
-) -> Result<(), AllocError> {
-    let trace = trace_of(alloc, entries)?;
-    let order = order_of(alloc, &trace)?;
-    assert_eq!(rt; order.as_slice(), listed(alloc, places)?.as_slice());
-    assert!(rt; check(&trace, &order));
-    Ok(())
+fn expect_order(rt: &(impl Abort + AllocGlobal), entries: &[Entry], places: &[usize]) {
+    let trace = trace_of(rt.alloc(), entries).expect(rt, "a trace");
+    let order = order_of(rt.alloc(), &trace).expect(rt, "an order");
+    let wanted = listed(rt.alloc(), places).expect(rt, "memory");
+    assert_same!(rt; order.as_slice(), wanted.as_slice());
+    assert_same!(rt; check(&trace, &order), true);
 }
 
 #[test]
-fn pending_stores_come_behind_the_loads(rt: HostRuntime) -> Result<(), Fail> {
-    expect_order(&rt, rt.alloc(), &both_read_0(), &[2, 3, 0, 1])?;
-    Ok(())
+fn pending_stores_come_behind_the_loads(rt: HostRuntime) {
+    expect_order(&rt, &both_read_0(), &[2, 3, 0, 1]);
 }
 
 #[test]
-fn an_own_store_is_seen_before_its_place(rt: HostRuntime) -> Result<(), Fail> {
-    expect_order(&rt, rt.alloc(), &own_stores_early(), &[2, 3, 0, 5, 1])?;
-    Ok(())
+fn an_own_store_is_seen_before_its_place(rt: HostRuntime) {
+    expect_order(&rt, &own_stores_early(), &[2, 3, 0, 5, 1]);
 }
 
 #[test]
-fn fenced_stores_come_before_the_loads(rt: HostRuntime) -> Result<(), Fail> {
-    expect_order(&rt, rt.alloc(), &fenced(), &[0, 4, 1, 7])?;
-    Ok(())
+fn fenced_stores_come_before_the_loads(rt: HostRuntime) {
+    expect_order(&rt, &fenced(), &[0, 4, 1, 7]);
 }
 
 #[test]
-fn an_order_names_every_operation(rt: HostRuntime) -> Result<(), Fail> {
-    let trace = trace_of(rt.alloc(), &both_read_0())?;
-    assert!(rt; check(&trace, &listed(rt.alloc(), &[2, 3, 1, 0])?));
-    assert!(rt; !check(&trace, &listed(rt.alloc(), &[2, 3, 0])?));
-    assert!(rt; !check(&trace, &listed(rt.alloc(), &[2, 3, 0, 1, 4])?));
-    Ok(())
+fn an_order_names_every_operation(rt: HostRuntime) {
+    let trace = trace_of(rt.alloc(), &both_read_0()).expect(&rt, "a trace");
+    assert_same!(rt; accepts(&rt, &trace, &[2, 3, 1, 0]), true);
+    assert_same!(rt; accepts(&rt, &trace, &[2, 3, 0]), false);
+    assert_same!(rt; accepts(&rt, &trace, &[2, 3, 0, 1, 4]), false);
 }
 
 /// What an operation does to memory.
@@ -243,56 +238,49 @@ fn numbered_list(alloc: Global, places: &[usize], number: usize) -> Result<Vec<O
 
 /// How many lists over the operations `check` accepts; each as the plain program does.
 fn expect_accepted(
-    rt: &impl Abort,
-    alloc: Global,
+    rt: &(impl Abort + AllocGlobal),
     entries: &[Entry],
     places: &[usize],
     wanted: usize,
-) -> Result<(), AllocError> {
-    let trace = trace_of(alloc, entries)?;
+) {
+    let trace = trace_of(rt.alloc(), entries).expect(rt, "a trace");
     let mut lists = 1usize;
     for _ in 0..places.len() {
         lists = lists.saturating_mul(places.len());
     }
     let mut accepted = 0usize;
     for number in 0..lists {
-        let order = numbered_list(alloc, places, number)?;
+        let order = numbered_list(rt.alloc(), places, number).expect(rt, "memory");
         let is_accepted = check(&trace, &order);
-        assert_eq!(rt; is_accepted, allows(entries, &order));
-        if is_accepted {
-            accepted = accepted.saturating_add(1);
-        }
+        assert_same!(rt; is_accepted, allows(entries, &order));
+        accepted = accepted.saturating_add(usize::from(is_accepted));
     }
-    assert_eq!(rt; accepted, wanted);
-    Ok(())
+    assert_same!(rt; accepted, wanted);
 }
 
 /// Store buffering's loads come each before the other hart's store, in any of six ways.
 #[test]
-fn lists_of_store_buffering(rt: HostRuntime) -> Result<(), Fail> {
-    expect_accepted(&rt, rt.alloc(), &both_read_0(), &[0, 1, 2, 3], 6)?;
-    Ok(())
+fn lists_of_store_buffering(rt: HostRuntime) {
+    expect_accepted(&rt, &both_read_0(), &[0, 1, 2, 3], 6);
 }
 
 /// Hart 1's loads come before and between the stores; hart 0's load of its own store anywhere.
 #[test]
-fn lists_of_own_stores(rt: HostRuntime) -> Result<(), Fail> {
-    expect_accepted(&rt, rt.alloc(), &own_stores_early(), &[0, 1, 2, 3, 5], 5)?;
-    Ok(())
+fn lists_of_own_stores(rt: HostRuntime) {
+    expect_accepted(&rt, &own_stores_early(), &[0, 1, 2, 3, 5], 5);
 }
 
 /// An AMO's halves are one operation: of two increments one sees the other.
 #[test]
-fn lists_of_increments(rt: HostRuntime) -> Result<(), Fail> {
+fn lists_of_increments(rt: HostRuntime) {
     let both = [amo(0, 0, 0, 1), amo(1, 0, 1, 2), load(0, 0, 1)];
-    expect_accepted(&rt, rt.alloc(), &both, &[0, 1, 2], 1)?;
+    expect_accepted(&rt, &both, &[0, 1, 2], 1);
     let lost = [amo(0, 0, 0, 1), amo(1, 0, 0, 1)];
-    expect_accepted(&rt, rt.alloc(), &lost, &[0, 1], 0)?;
-    Ok(())
+    expect_accepted(&rt, &lost, &[0, 1], 0);
 }
 
 #[test]
-fn a_fence_tso_leaves_store_buffering_allowed(rt: HostRuntime) -> Result<(), Fail> {
+fn a_fence_tso_leaves_store_buffering_allowed(rt: HostRuntime) {
     let tso = Entry::Fence {
         hart: 0,
         full: false,
@@ -304,12 +292,11 @@ fn a_fence_tso_leaves_store_buffering_allowed(rt: HostRuntime) -> Result<(), Fai
         store(1, 4, 1),
         load(1, 0, 0),
     ];
-    expect_accepted(&rt, rt.alloc(), &open, &[0, 2, 3, 4], 6)?;
-    Ok(())
+    expect_accepted(&rt, &open, &[0, 2, 3, 4], 6);
 }
 
 #[test]
-fn an_amo_and_a_full_fence_forbid_store_buffering(rt: HostRuntime) -> Result<(), Fail> {
+fn an_amo_and_a_full_fence_forbid_store_buffering(rt: HostRuntime) {
     let closed = [
         store(0, 0, 1),
         amo(0, 8, 0, 1),
@@ -318,39 +305,35 @@ fn an_amo_and_a_full_fence_forbid_store_buffering(rt: HostRuntime) -> Result<(),
         full_fence(1),
         load(1, 0, 0),
     ];
-    expect_accepted(&rt, rt.alloc(), &closed, &[0, 1, 2, 3, 5], 0)?;
-    Ok(())
+    expect_accepted(&rt, &closed, &[0, 1, 2, 3, 5], 0);
 }
 
 #[test]
-fn a_flag_does_not_pass_its_message(rt: HostRuntime) -> Result<(), Fail> {
+fn a_flag_does_not_pass_its_message(rt: HostRuntime) {
     let passing = [store(0, 0, 1), store(0, 4, 1), load(1, 4, 1), load(1, 0, 0)];
-    expect_accepted(&rt, rt.alloc(), &passing, &[0, 1, 2, 3], 0)?;
-    Ok(())
+    expect_accepted(&rt, &passing, &[0, 1, 2, 3], 0);
 }
 
 #[test]
-fn loads_see_no_later_store(rt: HostRuntime) -> Result<(), Fail> {
+fn loads_see_no_later_store(rt: HostRuntime) {
     let buffering = [load(0, 0, 1), store(0, 4, 1), load(1, 4, 1), store(1, 0, 1)];
-    expect_accepted(&rt, rt.alloc(), &buffering, &[0, 1, 2, 3], 0)?;
-    Ok(())
+    expect_accepted(&rt, &buffering, &[0, 1, 2, 3], 0);
 }
 
 /// Two harts, whose stores each come last to the word that the other wrote first.
 #[test]
-fn stores_do_not_cross(rt: HostRuntime) -> Result<(), Fail> {
+fn stores_do_not_cross(rt: HostRuntime) {
     let crossed = [
         amo(0, 0, 2, 1),
         store(0, 4, 2),
         amo(1, 4, 2, 1),
         store(1, 0, 2),
     ];
-    expect_accepted(&rt, rt.alloc(), &crossed, &[0, 1, 2, 3], 0)?;
-    Ok(())
+    expect_accepted(&rt, &crossed, &[0, 1, 2, 3], 0);
 }
 
 #[test]
-fn two_readers_agree(rt: HostRuntime) -> Result<(), Fail> {
+fn two_readers_agree(rt: HostRuntime) {
     let readers = [
         store(0, 0, 1),
         store(1, 4, 1),
@@ -359,6 +342,5 @@ fn two_readers_agree(rt: HostRuntime) -> Result<(), Fail> {
         load(3, 4, 1),
         load(3, 0, 0),
     ];
-    expect_accepted(&rt, rt.alloc(), &readers, &[0, 1, 2, 3, 4, 5], 0)?;
-    Ok(())
+    expect_accepted(&rt, &readers, &[0, 1, 2, 3, 4, 5], 0);
 }

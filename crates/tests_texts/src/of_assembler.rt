@@ -3,19 +3,18 @@ use std::test::Fail;
 use texts::Numbered;
 
 #[test]
-fn a_refused_line_leaves_the_draft(rt: HostRuntime) -> Result<(), Fail> {
+fn a_refused_line_leaves_the_draft(rt: HostRuntime) {
     let mut draft = Draft::new(rt.alloc());
-    draft.line("li x5,0x12345FFF")?;
+    draft.line("li x5,0x12345FFF").expect(&rt, "two words");
     let refused = AsmError::at_line(AsmFault::UnknownName, 2);
-    assert_eq!(rt; draft.line("a: lwx x5"), Err(refused));
-    assert_eq!(rt; draft.words(), 2);
-    draft.line("a: nop")?;
-    let words = draft.finish()?;
-    assert_eq!(rt;
+    assert_same!(rt; draft.line("a: lwx x5"), Err(refused));
+    assert_same!(rt; draft.words(), 2);
+    draft.line("a: nop").expect(&rt, "a word");
+    let words = draft.finish().expect(&rt, "words");
+    assert_same!(rt;
         words.as_slice(),
         [0x123462B7, 0xFFF28293, 0x00000013].as_slice()
     );
-    Ok(())
 }
 
 #[test]
@@ -30,10 +29,10 @@ fn faults_have_their_numbers_and_texts(rt: HostRuntime) -> Result<(), Fail> {
     ];
     for (fault, number, text) in faults {
         let error = AsmError::at_line(fault, 9);
-        assert_eq!(rt; error.number(), number);
-        assert_eq!(rt; error.to_string(rt.alloc())?.as_str(), text);
+        assert_same!(rt; error.number(), number);
+        assert_same!(rt; error.to_string(rt.alloc())?.as_str(), text);
     }
     let none = AsmError::NoMemory;
-    assert_eq!(rt; none.to_string(rt.alloc())?.as_str(), "no memory");
+    assert_same!(rt; none.to_string(rt.alloc())?.as_str(), "no memory");
     Ok(())
 }

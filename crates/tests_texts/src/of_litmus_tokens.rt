@@ -1,5 +1,4 @@
 use litmus_tokens::{Front, Setting, Spot, Worth, cleaned, first_token, item_in, setting_in};
-use std::test::Fail;
 
 /// The setting of a number at a location.
 fn at<'a>(name: &'a [u8], number: u32) -> Setting<'a> {
@@ -10,22 +9,22 @@ fn at<'a>(name: &'a [u8], number: u32) -> Setting<'a> {
 }
 
 #[test]
-fn comments_are_blanks(rt: HostRuntime) -> Result<(), Fail> {
+fn comments_are_blanks(rt: HostRuntime) {
     let text = b"a(*)b\r\n*)c\r\nb\r(* (* *) *)";
     let wanted = b"a        c \nb\r         *)";
-    assert_eq!(rt; cleaned(rt.alloc(), text)?.as_slice(), wanted.as_slice());
-    Ok(())
+    let blank = cleaned(rt.alloc(), text).expect(&rt, "memory");
+    assert_same!(rt; blank.as_slice(), wanted.as_slice());
 }
 
 #[test]
 fn an_item_may_declare_where_a_setting_may_not(rt: HostRuntime) {
-    assert_eq!(rt; item_in(b" int\tx "), Some(at(b"x", 0)));
-    assert_eq!(rt; setting_in(b" int\tx "), None);
-    assert_eq!(rt; setting_in(b"\n[ x\t] = -1"), Some(at(b"x", 4294967295)));
+    assert_same!(rt; item_in(b" int\tx "), Some(at(b"x", 0)));
+    assert_same!(rt; setting_in(b" int\tx "), None);
+    assert_same!(rt; setting_in(b"\n[ x\t] = -1"), Some(at(b"x", 4294967295)));
 }
 
 #[test]
 fn a_token_is_the_whole_front_of_a_text(rt: HostRuntime) {
-    assert_eq!(rt; first_token(b"x=1 y=2"), Front::NoToken);
-    assert_eq!(rt; first_token(b" \n"), Front::End);
+    assert_same!(rt; first_token(b"x=1 y=2"), Front::NoToken);
+    assert_same!(rt; first_token(b" \n"), Front::End);
 }

@@ -13,7 +13,7 @@ fn words_are_encoded_as_they_were(rt: HostRuntime) -> Result<(), Fail> {
     for word in words {
         let instr = decode(word).ok_or("a word of the table")?;
         assert!(rt; fits(&instr), "at {word:#010x}");
-        assert_eq!(rt; encode(&instr), word, "at {word:#010x}");
+        assert_same!(rt; encode(&instr), word);
     }
     Ok(())
 }
