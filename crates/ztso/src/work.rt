@@ -90,6 +90,7 @@ fn debug<const B: usize, F: Read, S: Read, C: Read, W: Write>(
         return Err(Fault::NoMemory);
     };
     let ended = debug_engine::<B, WORDS, _, _, _, _>(alloc, file, schedule, &mut commands, writer);
+    // a contract speaks of the reader inside
     commands.into_inner();
     ended
 }
