@@ -5,7 +5,7 @@ use Rattle.engine_parts.specs.declared.fault.Fault.{Fault}
 use Rattle.engine_parts.specs.declared.fault.Fault.TheVariants.{ReadFailed, WriteFailed, NoMemory, Refused}
 use Rattle.engine_parts.specs.declared.fault.Refusal.{Refusal}
 use Rattle.engine_parts.specs.Engines.{Ends}
-use Rattle.debugger.specs.Transcripts.{EndsInteractive, OnRefused, OnStopped}
+use Rattle.debugger.specs.Transcripts.{EndsInteractive, OnRefused, OnStopped, OnUnwritten}
 use Rattle.ztso.specs.declared.job.MachineCommand.TheVariants.{Debug}
 use Rattle.ztso.specs.Work.{LeavesCommandsOf, WithStatus, done_status, ended_with}
 
@@ -33,15 +33,17 @@ pub ends_interactive : {V W : Type 0} (status : V → ℕ) (IsAnswer : Result (L
     → EndsInteractive IsAnswer r contents old new → (s : Result ℕ Fault) → s ≡ ended_with status r → EndsInteractive (WithStatus status IsAnswer) s contents old new
 ends_interactive status IsAnswer r contents old new h s is = rw is (interactive_with_status status IsAnswer r contents old new h)
 
-stopped : {V : Type 0} (status : V → ℕ) (P : Type 0) (r : Result V Fault) → OnStopped r P → OnStopped (ended_with status r) P
-stopped status P (Ok v) h = h
-stopped status P (Err (Refused refusal)) h = h
-stopped status P (Err ReadFailed) h = h
-stopped status P (Err NoMemory) h = h
-stopped status P (Err WriteFailed) h = h
+left : {V : Type 0} (status : V → ℕ) (P Q : Type 0) (r : Result V Fault) → OnStopped r P × OnUnwritten r Q
+    → OnStopped (ended_with status r) P × OnUnwritten (ended_with status r) Q
+left status P Q (Ok v) h = h
+left status P Q (Err (Refused refusal)) h = h
+left status P Q (Err ReadFailed) h = h
+left status P Q (Err NoMemory) h = h
+left status P Q (Err WriteFailed) h = h
 
-pub stopped_with_status : {V : Type 0} (status : V → ℕ) (P : Type 0) (r : Result V Fault) → OnStopped r P → (s : Result ℕ Fault) → s ≡ ended_with status r → OnStopped s P
-stopped_with_status status P r h s is = rw is (stopped status P r h)
+pub left_with_status : {V : Type 0} (status : V → ℕ) (P Q : Type 0) (r : Result V Fault) → OnStopped r P × OnUnwritten r Q
+    → (s : Result ℕ Fault) → s ≡ ended_with status r → OnStopped s P × OnUnwritten s Q
+left_with_status status P Q r h s is = rw is (left status P Q r h)
 
 refused : (P : Type 0) (r : Result (Unit {0}) Fault) → OnRefused r P → LeavesCommandsOf Debug (ended_with done_status r) → P
 refused P (Err (Refused refusal)) h leaves = h

@@ -21,7 +21,7 @@ use Rattle.ztso_engines.specs.Move.{IsMoveAnswer}
 use Rattle.views.specs.Chart.{IsChartAnswer, drawing}
 use Rattle.views.specs.Shrink.{IsShrinkAnswer}
 use Rattle.ztso_engines.specs.Replay.{IsReplayAnswer}
-use Rattle.debugger.specs.Transcripts.{EndsInteractive, IsDebugAnswer, IsDebugFront, OnStopped}
+use Rattle.debugger.specs.Transcripts.{EndsInteractive, IsDebugAnswer, IsDebugFront, IsDebugSome, OnStopped, OnUnwritten}
 use Rattle.tries.specs.Outcomes.{IsTryAnswer}
 use Rattle.engine_parts.specs.Schedules.{HasNoSchedule}
 use Rattle.poll_close.specs.Places.{layout_of}
@@ -112,10 +112,12 @@ IsAnswerOf B (Try seed runs) given =
 IsAnswerOf B (Channel ring place finish) given = WithStatusByBoth done_status (IsChannelAnswer (tables_of ring) B WORDS (layout_of place []) finish) given
 
 -- Where a read failed or memory ran out, the debugger wrote what the first of the user's commands print, or
--- nothing.
+-- nothing; where a write failed, it had answered one of them at least.
 abbrev pub LeavesFront : {V W : Type 0} → (B : ℕ) → Given → Result V Fault → (contents : W → Option (List ℕ)) → (old new : W) → Type 0
-LeavesFront B given result contents old new = OnStopped result ((out : List ℕ) × Appends (contents old) (contents new) out
+LeavesFront B given result contents old new =
+    OnStopped result ((out : List ℕ) × Appends (contents old) (contents new) out
     × ((out ≡ []) ⊎ AnswersBoth (IsDebugFront B WORDS given.commands) given.first given.second (Ok (out, tt))))
+    × OnUnwritten result ((out : List ℕ) × AnswersBoth (IsDebugSome B WORDS given.commands) given.first given.second (Ok (out, tt)))
 
 -- What was written and the exit status answer the inputs, or the refusal does and nothing was written.
 -- Where a read failed or memory ran out nothing was written; where a write failed nothing is said of it.

@@ -19,4 +19,4 @@ returns-clause-left g c =
     subst
     (λ (known : Option (List ℕ)). LeavesFront g.row.B (record { first = g.F.Read.remaining c.args.file.now; second = g.S.Read.remaining c.args.schedule.now; commands = known })
     c.debug_engine-ended.result g.W.Write.contents c.args.writer.now c.debug_engine-ended.new.writer)
-    same c.debug_engine-ended.ensures.left
+    same (c.debug_engine-ended.ensures.left, c.debug_engine-ended.ensures.unwritten)

@@ -13,7 +13,7 @@ use Rattle.ztso_engines.specs.Replay.{IsReplayAnswer}
 use Rattle.ztso_engines.specs.Run.{IsRunAnswer}
 use Rattle.ztso_engines.specs.Steps.{IsStepsAnswer}
 use Rattle.ztso.specs.Work.{done_status, drawn_from, tables_of, tried_status, verdict_status}
-use Rattle.ztso.proofs.Endings.{ends_interactive, ends_with_status, refused_with_status, stopped_with_status}
+use Rattle.ztso.proofs.Endings.{ends_interactive, ends_with_status, left_with_status, refused_with_status}
 use Rattle.ztso.proofs.work.do_machine.Goals as goal
 
 pub returns-in-Steps-clause-does : goal.returns-in-Steps-clause-does
@@ -63,7 +63,7 @@ returns-in-Debug-clause-does g c = rw c.in-Debug.is (
       (g.F.Read.remaining c.args.first.now) (g.S.Read.remaining c.args.second.now))
       c.debug.result g.W.Write.contents c.args.writer.now c.debug.new.writer c.debug.ensures.ends
       c.after-in-Debug.result c.after-in-Debug.ensures.ended),
-  stopped_with_status done_status _ c.debug.result c.debug.ensures.left
+  left_with_status done_status _ _ c.debug.result c.debug.ensures.left
       c.after-in-Debug.result c.after-in-Debug.ensures.ended,
 )
 
