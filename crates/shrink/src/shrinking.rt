@@ -21,6 +21,27 @@ fn events_of(alloc: Global, entries: Entries<'_>) -> Result<Vec<Event>, AllocErr
     entries.map(|entry| entry.event()).collect(alloc)
 }
 
+/// Leaves events out of the run whose end the machine stands at, as [`shrink_run`] does. The machine ends
+/// elsewhere.
+fn shrink_from_end<const B: usize, const M: usize>(
+    alloc: Global,
+    test: &Test,
+    machine: &mut Machine<B, M>,
+) -> Result<Vec<Event>, ShrinkError>
+    requires opening { machine.old.history.opening ≡ test.now.opening }
+    requires names { length test.now.names ≤ M }
+    ensures shrunk { (given : List Event) → Run B M test.now.opening given machine.old.history → IfOk result (λ answer. IsShrunk B M test.now given answer.items) }
+    ensures refused { IfErr result (λ why. RefusesRun M machine.old.history why) }
+{
+    if !is_finished(test, machine) {
+        return Err(ShrinkError::NotFinished);
+    }
+    let last = test.values(alloc, machine.machine_state())?;
+    let mut left = events_of(alloc, machine.entries())?;
+    leave_out(alloc, test, machine, &last, &mut left)?;
+    Ok(left)
+}
+
 /// Leaves events out of a test's run, until each one that is left is needed for the outcome: for a run
 /// that is finished, with the same last values of the left sides. The machine stands at the end of the
 /// run; it has store buffers of `B` stores and `M` words of memory.
@@ -37,14 +58,8 @@ pub fn shrink_run<const B: usize, const M: usize>(
     ensures shrunk { (given : List Event) → Run B M test.now.opening given machine.entry.history → IfOk result (λ answer. IsShrunk B M test.now given answer.items) }
     ensures refused { IfErr result (λ why. RefusesRun M machine.entry.history why) }
 {
-    if !is_finished(test, &machine) {
-        return Err(ShrinkError::NotFinished);
-    }
-    let last = test.values(alloc, machine.machine_state())?;
-    let mut left = events_of(alloc, machine.entries())?;
     let mut again = machine;
-    leave_out(alloc, test, &mut again, &last, &mut left)?;
-    Ok(left)
+    shrink_from_end(alloc, test, &mut again)
 }
 
 /// Leaves events out of a schedule of the test, as [`shrink_run`] does of the schedule's run.
