@@ -111,6 +111,40 @@ fn next_hart<K: Finish<B, M>, const B: usize, const M: usize>(machine: &Machine<
     next
 }
 
+/// The events of [`plan_of`]. The machine ends where they lead.
+fn plan_in<K: Finish<B, M>, const B: usize, const M: usize>(
+    alloc: Global,
+    machine: &mut Machine<B, M>,
+) -> Result<Vec<Event>, AllocError>
+    requires some_capacity { 1 ≤ B }
+    requires stands { Stands K.RingKind.ring K.RingKind.meaning B M machine.old.history }
+    ensures finishes { IfOk result (λ plan. Finishes B M machine.old.history plan.items) }
+    ensures none { IfOk result (λ plan. is_done machine.old.history ≡ true → plan.items ≡ []) }
+{
+    K::laws();
+    K::falls();
+    let mut plan = Vec::new(alloc);
+    if is_finished::<K, B, M>(machine) {
+        return Ok(plan);
+    }
+    for hart in 0..machine.harts() {
+        while !machine.pending(hart).is_empty() {
+            machine.step(Event::Land(hart))?;
+            plan.push(Event::Land(hart))?;
+        }
+    }
+    while !is_finished::<K, B, M>(machine) {
+        let next = next_hart::<K, B, M>(machine);
+        machine.step(Event::Act(next))?;
+        plan.push(Event::Act(next))?;
+        if !machine.pending(next).is_empty() {
+            machine.step(Event::Land(next))?;
+            plan.push(Event::Land(next))?;
+        }
+    }
+    Ok(plan)
+}
+
 /// Events that finish a channel from where the machine stands: after them every sender is reported
 /// closed and its whole list is taken. There are none where that is so already. The machine is used up.
 pub fn plan_of<K: Finish<B, M>, const B: usize, const M: usize>(
@@ -122,26 +156,5 @@ pub fn plan_of<K: Finish<B, M>, const B: usize, const M: usize>(
     ensures finishes { IfOk result (λ plan. Finishes B M machine.entry.history plan.items) }
     ensures none { IfOk result (λ plan. is_done machine.entry.history ≡ true → plan.items ≡ []) }
 {
-    K::laws();
-    K::falls();
-    let mut plan = Vec::new(alloc);
-    if is_finished::<K, B, M>(&machine) {
-        return Ok(plan);
-    }
-    for hart in 0..machine.harts() {
-        while !machine.pending(hart).is_empty() {
-            machine.step(Event::Land(hart))?;
-            plan.push(Event::Land(hart))?;
-        }
-    }
-    while !is_finished::<K, B, M>(&machine) {
-        let next = next_hart::<K, B, M>(&machine);
-        machine.step(Event::Act(next))?;
-        plan.push(Event::Act(next))?;
-        if !machine.pending(next).is_empty() {
-            machine.step(Event::Land(next))?;
-            plan.push(Event::Land(next))?;
-        }
-    }
-    Ok(plan)
+    plan_in::<K, B, M>(alloc, &mut machine)
 }

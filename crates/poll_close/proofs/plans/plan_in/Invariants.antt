@@ -3,7 +3,7 @@ use Rattle.step_machine.specs.Entries.{pending}
 use Rattle.poll_close.specs.Rankings.{rank_of}
 use Rattle.poll_close.specs.Plans.{AllLanded}
 use Rattle.poll_close.proofs.Planning.{Planned}
-use Rattle.poll_close.proofs.plans.plan_of.Given as goal
+use Rattle.poll_close.proofs.plans.plan_in.Given as goal
 
 abbrev pub invariant-loop-hart : goal.invariant-loop-hart
 invariant-loop-hart g l = Planned g.K.RingKind.ring g.K.RingKind.meaning g.row.B g.row.M l.fn.machine.history

@@ -4,7 +4,7 @@ use Rattle.poll_close.specs.Rankings.{rank_of, next_by}
 use Rattle.poll_close.specs.Plans.{is_done}
 use Rattle.poll_close.proofs.Planning.{Planned, planned-none, planned-more, planned-done, lands_one, turned, turn_over}
 use Rattle.poll_close.proofs.Planning.{turn_quiet, some_left, none_left, landed_more}
-use Rattle.poll_close.proofs.plans.plan_of.Goals as goal
+use Rattle.poll_close.proofs.plans.plan_in.Goals as goal
 
 pub is_finished-requires-in-loop-machine-2 : goal.is_finished-requires-in-loop-machine-2
 is_finished-requires-in-loop-machine-2 g c = (lit< tt, c.loop-machine-2.invariant.0.stands)
@@ -22,7 +22,7 @@ loop-machine-preserved g c =
     let less = lands_one g.row.B g.row.M c.loop-machine.machine.history c.loop-hart.hart c.in_ok-step.field-0
     c.step.new.self.history p.stands.kept (omega (arith, p.harts, c.harts-hart-end.ensures, c.loop-hart-test.true))
     (some_left c.pending.ensures c.is_empty.ensures c.loop-machine-test.true) c.in_ok-step.ensures.happens in (
-      subst (λ evs. Planned g.K.RingKind.ring g.K.RingKind.meaning g.row.B g.row.M c.args.machine.history evs
+      subst (λ evs. Planned g.K.RingKind.ring g.K.RingKind.meaning g.row.B g.row.M c.args.machine.now.history evs
           c.step.new.self.history) (sym c.in_ok-push.ensures.items)
           (planned-more _ c.in_ok-step.field-0 c.step.new.self.history c.laws.ensures.keeps p c.in_ok-step.ensures.happens),
       λ k below. less.others k (omega arith) ∙ c.loop-machine.invariant.1 k below,
@@ -63,7 +63,7 @@ loop-machine-2-preserved-in-Continue-branch-6 g c =
     let over = turn_over c.in_ok-step-3.field-0 c.step-then-not-is_empty.new.self.history c.laws.ensures.keeps c.loop-machine-2.invariant.1 turn
     (some_left c.pending-in-loop-machine-2.ensures c.is_empty-in-loop-machine-2.ensures c.if-not-is_empty.true)
     c.in_ok-step-3.ensures.happens in (
-      subst (λ evs. Planned g.K.RingKind.ring g.K.RingKind.meaning g.row.B g.row.M c.args.machine.history evs
+      subst (λ evs. Planned g.K.RingKind.ring g.K.RingKind.meaning g.row.B g.row.M c.args.machine.now.history evs
           c.step-then-not-is_empty.new.self.history)
           (sym (c.in_ok-push-3.ensures.items
           ∙ ap (λ evs. evs ++ event.Land c.next_hart-next.result ∷ []) c.in_ok-push-2.ensures.items)) over.planned,
@@ -86,7 +86,7 @@ loop-machine-2-preserved g c =
     (sym c.is_finished-in-loop-machine-2.ensures ∙ c.loop-machine-2-test.true) c.next_hart-next.ensures c.in_ok-step-2.ensures.happens in
     let over = turn_quiet c.loop-machine-2.invariant.1 turn
     (none_left c.pending-in-loop-machine-2.ensures c.is_empty-in-loop-machine-2.ensures c.if-not-is_empty.false) in (
-      subst (λ evs. Planned g.K.RingKind.ring g.K.RingKind.meaning g.row.B g.row.M c.args.machine.history evs
+      subst (λ evs. Planned g.K.RingKind.ring g.K.RingKind.meaning g.row.B g.row.M c.args.machine.now.history evs
           c.step-in-loop-machine-2.new.self.history) (sym c.in_ok-push-2.ensures.items) over.planned,
       over.all,
     )
@@ -94,7 +94,7 @@ loop-machine-2-preserved g c =
 pub returns-then-is_finished-clause-finishes : goal.returns-then-is_finished-clause-finishes
 returns-then-is_finished-clause-finishes g c = planned-done c.laws.ensures.cleans
     (subst (λ evs.
-    Planned g.K.RingKind.ring g.K.RingKind.meaning g.row.B g.row.M c.args.machine.history evs c.args.machine.history)
+    Planned g.K.RingKind.ring g.K.RingKind.meaning g.row.B g.row.M c.args.machine.now.history evs c.args.machine.now.history)
     (sym c.new-plan.ensures.items)
     (planned-none c.requires.stands))
     (sym c.is_finished.ensures ∙ c.if-is_finished.true)
