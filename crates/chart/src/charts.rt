@@ -19,7 +19,7 @@ use std::marker::Model;
 use step_machine::Entry;
 
 /// A left side of the condition, with its last value.
-#[derive(Debug, Drop)]
+#[derive(Drop)]
 pub struct LastValue {
     pub left: String,
     pub value: u32,
@@ -37,7 +37,7 @@ impl Model for LastValue {
 /// What is known of a run beside its entries: the test's name, how many harts it has, the locations' names
 /// in the order of their words, the instruction of each entry (none where the list has ended), the last
 /// values of the condition's left sides, the verdict and the condition's text.
-#[derive(Debug, Drop)]
+#[derive(Drop)]
 pub struct About {
     pub name: String,
     pub harts: u32,

@@ -9,14 +9,14 @@ use std::marker::Model;
 use step_machine::Entry;
 
 /// How a picture has its lanes: whether all harts share one column, and how many lanes a column has.
-#[derive(Clone, Copy, Debug, PartialEq, Eq)]
+#[derive(Clone, Copy, PartialEq, Eq)]
 pub struct Shape {
     pub listed: bool,
     pub lanes: usize,
 }
 
 /// A lane of a column, which the pending store of this row holds. Lane 0 is the rightmost one.
-#[derive(Clone, Copy, Debug, PartialEq, Eq)]
+#[derive(Clone, Copy, PartialEq, Eq)]
 pub struct Held {
     pub row: usize,
     pub column: u32,
@@ -24,7 +24,7 @@ pub struct Held {
 }
 
 /// The lines of a row: its own, of the store that it makes or lands, and those that pass it.
-#[derive(Debug, Drop)]
+#[derive(Drop)]
 pub struct Laned {
     pub own: Option<Held>,
     pub passing: Vec<Held>,

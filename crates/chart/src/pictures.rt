@@ -6,7 +6,7 @@ ghost use Rattle.chart.specs.Pictures.{sign_byte, strikes};
 use std::marker::Model;
 
 /// What a stroke is a part of.
-#[derive(Clone, Copy, Debug, PartialEq, Eq)]
+#[derive(Clone, Copy, PartialEq, Eq)]
 pub enum Sign {
     /// The horizontal line of a row.
     Flat,
@@ -36,7 +36,7 @@ pub enum Sign {
 
 /// A sign in `count` cells of a line, from one on, and the hart whose line it is. The last stroke of a
 /// cell is the one that is seen in the text.
-#[derive(Clone, Copy, Debug, PartialEq, Eq)]
+#[derive(Clone, Copy, PartialEq, Eq)]
 pub struct Stroke {
     pub sign: Sign,
     pub at: usize,
@@ -46,7 +46,7 @@ pub struct Stroke {
 
 /// How a text is written: the numbers of rows are quiet, what rows say is loud, and the heads of columns are
 /// bold.
-#[derive(Clone, Copy, Debug, PartialEq, Eq)]
+#[derive(Clone, Copy, PartialEq, Eq)]
 pub enum Weight {
     Quiet,
     Loud,
@@ -54,7 +54,7 @@ pub enum Weight {
 }
 
 /// A text of a line, from a cell on.
-#[derive(Debug, Drop)]
+#[derive(Drop)]
 pub struct Mark {
     pub at: usize,
     pub weight: Weight,
@@ -71,7 +71,7 @@ impl Model for Mark {
 }
 
 /// A line of a picture: its texts and its strokes.
-#[derive(Debug, Drop)]
+#[derive(Drop)]
 pub struct Line {
     pub marks: Vec<Mark>,
     pub strokes: Vec<Stroke>,
@@ -87,7 +87,7 @@ impl Model for Line {
 
 /// A picture of a run: the lines above it, the heads of its columns, its lines, and those below it. A
 /// line has `width` cells.
-#[derive(Debug, Drop)]
+#[derive(Drop)]
 pub struct Picture {
     pub head: Vec<String>,
     pub heads: Line,

@@ -14,7 +14,7 @@ use std::marker::Model;
 use step_machine::Entry;
 
 /// The texts of a row: what its hart did, where what it read came from, and what it leaves in memory.
-#[derive(Debug, Drop)]
+#[derive(Drop)]
 pub struct RowText {
     pub hart: u32,
     pub effect: String,

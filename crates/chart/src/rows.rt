@@ -15,7 +15,7 @@ use step_machine::Entry;
 
 /// What a row of the picture says: its entry, where each byte that it read came from (the lowest first),
 /// and for a landing the row of the store that landed.
-#[derive(Debug, Drop)]
+#[derive(Drop)]
 pub struct Row {
     pub entry: Entry,
     pub sources: Vec<Source>,

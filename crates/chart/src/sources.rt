@@ -11,14 +11,14 @@ use std::alloc::{AllocError, Global};
 use step_machine::Entry;
 
 /// A write, and the row that made it.
-#[derive(Clone, Copy, Debug, PartialEq, Eq)]
+#[derive(Clone, Copy, PartialEq, Eq)]
 pub struct RowWrite {
     pub row: usize,
     pub write: Write,
 }
 
 /// Where a byte comes from that a hart reads. Rows are the places of a run's entries, from 0.
-#[derive(Clone, Copy, Debug, PartialEq, Eq)]
+#[derive(Clone, Copy, PartialEq, Eq)]
 pub enum Source {
     /// The hart's own pending store of this row.
     Own { row: usize },

@@ -12,7 +12,7 @@ use std::marker::Model;
 use step_machine::{Event, Opening, Outcome};
 
 /// Where an event of a debugger came from.
-#[derive(Clone, Copy, Debug, PartialEq, Eq)]
+#[derive(Clone, Copy, PartialEq, Eq)]
 pub enum Source {
     Schedule,
     User,

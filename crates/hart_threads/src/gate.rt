@@ -14,7 +14,7 @@ pub trait Gate {
 }
 
 /// The gate that lets every turn pass.
-#[derive(Clone, Copy, Debug)]
+#[derive(Clone, Copy)]
 pub struct Open;
 
 impl Gate for Open {

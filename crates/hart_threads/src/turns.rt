@@ -23,7 +23,7 @@ const MOST_YIELDS: u32 = 16;
 
 /// How a thread ended: held back by its gate; at its hart's end; after its turns; since the bank has no such
 /// hart; or for want of memory.
-#[derive(Clone, Copy, Debug, PartialEq, Eq)]
+#[derive(Clone, Copy, PartialEq, Eq)]
 pub(crate) enum Ending {
     HeldBack,
     Over,
@@ -36,7 +36,7 @@ pub(crate) enum Ending {
 pub(crate) type Returned<const M: usize> = (Held<M>, Ending, Calls);
 
 /// The calls that a thread has made: how many, and what the last one answered, if it found memory.
-#[derive(Clone, Copy, Debug)]
+#[derive(Clone, Copy)]
 pub(crate) struct Calls {
     made: u32,
     last: Option<Outcome>,

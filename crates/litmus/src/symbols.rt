@@ -1,7 +1,7 @@
 //! The symbols of a condition.
 
 /// A place whose last value a condition asks for.
-#[derive(Clone, Copy, Debug, PartialEq, Eq)]
+#[derive(Clone, Copy, PartialEq, Eq)]
 pub enum Place {
     /// Register x`number` of a hart.
     Register { hart: u32, number: u8 },
@@ -10,7 +10,7 @@ pub enum Place {
 }
 
 /// A symbol of a condition, its place known.
-#[derive(Clone, Copy, Debug, PartialEq, Eq)]
+#[derive(Clone, Copy, PartialEq, Eq)]
 pub enum Symbol {
     /// The place has this value.
     Is { place: Place, value: u32 },
@@ -22,7 +22,7 @@ pub enum Symbol {
 }
 
 /// A step of a condition that is evaluated from the left, with one truth value and no other memory.
-#[derive(Clone, Copy, Debug, PartialEq, Eq)]
+#[derive(Clone, Copy, PartialEq, Eq)]
 pub(crate) enum Step {
     /// The value becomes whether the place has this value.
     Is { place: Place, value: u32 },
@@ -35,7 +35,7 @@ pub(crate) enum Step {
 }
 
 /// What stands in front of the operand that comes next, within one pair of parentheses.
-#[derive(Clone, Copy, Debug)]
+#[derive(Clone, Copy)]
 pub(crate) struct Frame {
     /// Where the `Or` step stands that joins the disjuncts so far to what comes.
     pub(crate) or_at: Option<usize>,

@@ -3,7 +3,7 @@
 ghost use Rattle.std.specs.Prelude.{◌≡◌};
 
 /// Which outcomes a test asks for.
-#[derive(Clone, Copy, Debug, PartialEq, Eq)]
+#[derive(Clone, Copy, PartialEq, Eq)]
 pub enum Quantifier {
     /// `exists`: outcomes in which the condition is true.
     Exists,
@@ -14,7 +14,7 @@ pub enum Quantifier {
 }
 
 /// What a test says of a machine.
-#[derive(Clone, Copy, Debug, PartialEq, Eq)]
+#[derive(Clone, Copy, PartialEq, Eq)]
 pub enum Verdict {
     /// The machine is finished, and its outcome is one that the test asks for.
     Holds,

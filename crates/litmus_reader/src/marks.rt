@@ -7,7 +7,7 @@ ghost use Rattle.litmus_reader.specs.Marks.{begins, before_line, from_line, is_l
 use texts::cutting::without_front;
 
 /// How a line begins, past its blanks.
-#[derive(Clone, Copy, Debug, PartialEq, Eq)]
+#[derive(Clone, Copy, PartialEq, Eq)]
 pub enum Mark {
     /// With any byte: the line isn't blank.
     Visible,

@@ -13,7 +13,7 @@ pub struct Reg {
 }
 
 /// The comparison of a conditional branch, in the order of the manual's table.
-#[derive(Clone, Copy, Debug, PartialEq, Eq)]
+#[derive(Clone, Copy, PartialEq, Eq)]
 pub enum BranchOp {
     Equal,
     NotEqual,
@@ -24,7 +24,7 @@ pub enum BranchOp {
 }
 
 /// How wide a load is, and how a narrow one is extended.
-#[derive(Clone, Copy, Debug, PartialEq, Eq)]
+#[derive(Clone, Copy, PartialEq, Eq)]
 pub enum LoadOp {
     Byte,
     Half,
@@ -34,7 +34,7 @@ pub enum LoadOp {
 }
 
 /// How wide a store is.
-#[derive(Clone, Copy, Debug, PartialEq, Eq)]
+#[derive(Clone, Copy, PartialEq, Eq)]
 pub enum StoreOp {
     Byte,
     Half,
@@ -42,7 +42,7 @@ pub enum StoreOp {
 }
 
 /// An operation of a register and an immediate.
-#[derive(Clone, Copy, Debug, PartialEq, Eq)]
+#[derive(Clone, Copy, PartialEq, Eq)]
 pub enum ImmediateOp {
     Add,
     SetLess,
@@ -53,7 +53,7 @@ pub enum ImmediateOp {
 }
 
 /// A shift by a constant amount.
-#[derive(Clone, Copy, Debug, PartialEq, Eq)]
+#[derive(Clone, Copy, PartialEq, Eq)]
 pub enum ShiftOp {
     Left,
     Right,
@@ -61,7 +61,7 @@ pub enum ShiftOp {
 }
 
 /// An operation of two registers.
-#[derive(Clone, Copy, Debug, PartialEq, Eq)]
+#[derive(Clone, Copy, PartialEq, Eq)]
 pub enum RegisterOp {
     Add,
     Sub,
@@ -93,7 +93,7 @@ pub enum AmoOp {
 ///
 /// Offsets and immediates are signed numbers of bytes or plain numbers, as the instruction uses
 /// them; `upper` is the 20-bit number that the instruction shifts left by 12.
-#[derive(Clone, Copy, Debug, PartialEq, Eq)]
+#[derive(Clone, Copy, PartialEq, Eq)]
 pub enum Instr {
     Lui {
         rd: Reg,

@@ -14,7 +14,7 @@ use std::marker::Model;
 pub const MAX_HARTS: usize = 64;
 
 /// One hart's beginning: its instruction words, its registers and the words it will be given.
-#[derive(Debug, Drop)]
+#[derive(Drop)]
 pub struct HartOpening {
     pub code: Vec<u32>,
     /// x0 to x31; whatever stands for x0 is read as 0.
@@ -31,7 +31,7 @@ impl Model for HartOpening {
 }
 
 /// A machine's beginning: its harts and its first memory words; missing words are 0.
-#[derive(Debug, Drop)]
+#[derive(Drop)]
 pub struct Opening {
     pub harts: Vec<HartOpening>,
     pub words: Vec<u32>,
@@ -106,7 +106,7 @@ pub fn open_harts(
 }
 
 /// A history by itself: where a machine began, and what was done since, oldest first.
-#[derive(Debug, Drop)]
+#[derive(Drop)]
 pub struct Trace {
     pub opening: Opening,
     pub entries: Vec<Entry>,

@@ -10,7 +10,7 @@ use std::marker::Model;
 
 /// A row of equal entries, in four bytes. Landings and inner entries come in rows of up to 65,536; `further`
 /// is how many follow the first.
-#[derive(Clone, Copy, Debug, PartialEq, Eq)]
+#[derive(Clone, Copy, PartialEq, Eq)]
 pub(crate) enum Head {
     Inner { hart: u8, further: u16 },
     Land { hart: u8, further: u16 },

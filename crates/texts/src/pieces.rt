@@ -7,7 +7,7 @@ ghost use Rattle.texts.specs.Pieces.{separates, pieces, pieces_after, bytes_left
 use crate::cutting::cut_at_any;
 
 /// Which bytes part the pieces of a text, and stand round what a text says.
-#[derive(Clone, Copy, Debug, PartialEq, Eq)]
+#[derive(Clone, Copy, PartialEq, Eq)]
 pub enum Separators {
     /// This byte alone.
     Byte(u8),

@@ -29,7 +29,7 @@ use step_machine::Entry;
 pub const MAX_ROWS: usize = 10_000;
 
 /// How a run is drawn.
-#[derive(Clone, Copy, Debug, PartialEq, Eq)]
+#[derive(Clone, Copy, PartialEq, Eq)]
 pub enum Style {
     Text,
     Svg,

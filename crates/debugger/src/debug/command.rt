@@ -8,7 +8,7 @@ use step_machine::Event;
 use texts::{first_token, number, word};
 
 /// A command. Its numbers are as they were given, and judged by no machine yet.
-#[derive(Clone, Copy, Debug, PartialEq, Eq)]
+#[derive(Clone, Copy, PartialEq, Eq)]
 pub enum Command {
     /// The schedule's next event.
     Step,
