@@ -6,8 +6,7 @@ use Rattle.std.proofs.Math.Seq.{take-append_seam}
 use Rattle.std.proofs.lemmas.Option.{slice_get_read}
 use Rattle.std.proofs.lemmas.List.{take-append-drop}
 use Rattle.hart.specs.State.{HartState, HartView}
-use Rattle.hart.specs.Saved.{IsSavedOf, put_back}
-use Rattle.hart.specs.declared.saved.SavedHart.{SavedHart}
+use Rattle.hart.specs.Saved.{SavedView, IsSavedOf, put_back}
 use Rattle.hart.specs.declared.need.Report.{Report}
 use Rattle.hart.proofs.PutBack.{HasGoneOn, state_again, reports_again}
 use Rattle.memory.specs.declared.writes.Write.{Write}
@@ -26,26 +25,26 @@ use Rattle.step_machine.proofs.Follows.{state_after}
 use Rattle.step_machine.proofs.Standings.{hart_at, sound_same}
 use Rattle.step_machine.proofs.States.{state_keeps}
 
-pub saved_at : (ws : List HartView) (ss : List SavedHart) (h : ℕ) (x : SavedHart) → AreSaved ws ss → slice_get ss h ≡ Some x
+pub saved_at : (ws : List HartView) (ss : List SavedView) (h : ℕ) (x : SavedView) → AreSaved ws ss → slice_get ss h ≡ Some x
     → (w : HartView) × (slice_get ws h ≡ Some w) × IsSavedOf w x
 saved_at [] [] h x are is = cc
 saved_at (w ∷ ws) (y ∷ ss) zero x are is = let x_is : y ≡ x = cc in (w, refl, subst (IsSavedOf w) x_is are.0)
 saved_at (w ∷ ws) (y ∷ ss) (suc h) x are is = saved_at ws ss h x are.1 is
 saved_at z other h x are is = absurd are
 
-length-saved : (ws : List HartView) (ss : List SavedHart) → AreSaved ws ss → length ss ≡ length ws
+length-saved : (ws : List HartView) (ss : List SavedView) → AreSaved ws ss → length ss ≡ length ws
 length-saved [] [] are = refl
 length-saved (w ∷ ws) (y ∷ ss) are = ap suc (length-saved ws ss are.1)
 length-saved x z are = absurd are
 
-pub saved_next : (hs : List HartView) (ss : List SavedHart) (i : ℕ) (v : HartView) (x : SavedHart) → AreSaved (take i hs) ss → slice_get hs i ≡ Some v
+pub saved_next : (hs : List HartView) (ss : List SavedView) (i : ℕ) (v : HartView) (x : SavedView) → AreSaved (take i hs) ss → slice_get hs i ≡ Some v
     → IsSavedOf v x → AreSaved (take (suc i) hs) (ss ++ x ∷ [])
 saved_next [] ss i v x are is saved = cc
 saved_next (w ∷ hs) [] zero v x are is saved = let w_is : w ≡ v = cc in (subst (λ (y : HartView). IsSavedOf y x) (sym w_is) saved, tt)
 saved_next (w ∷ hs) (y ∷ ss) (suc i) v x are is saved = (are.0, saved_next hs ss i v x are.1 is saved)
 saved_next (w ∷ hs) z other v x are is saved = absurd are
 
-pub saved_more : (hs : List HartView) (ss rs : List SavedHart) (i : ℕ) (v : HartView) (x : SavedHart) → AreSaved (take i hs) ss → i < length hs
+pub saved_more : (hs : List HartView) (ss rs : List SavedView) (i : ℕ) (v : HartView) (x : SavedView) → AreSaved (take i hs) ss → i < length hs
     → v ≡ get_or hs i v → IsSavedOf v x → rs ≡ ss ++ x ∷ [] → AreSaved (take (i + 1) hs) rs
 saved_more hs ss rs i v x are within v_is saved more = grind (arith, saved_next, slice_get_read)
 
@@ -76,8 +75,8 @@ gone_on B M n k t c d now then h v w is_v is_w = record {
 
 -- ---- harts put back
 
-same_restored : {X : Type 0} (f : HartView → X) (hs ws : List HartView) (ss : List SavedHart) → AreSaved ws ss → length hs ≡ length ws
-    → ((h : ℕ) (v w : HartView) (x : SavedHart) → slice_get hs h ≡ Some v → slice_get ws h ≡ Some w → IsSavedOf w x → f (put_back v x) ≡ f w)
+same_restored : {X : Type 0} (f : HartView → X) (hs ws : List HartView) (ss : List SavedView) → AreSaved ws ss → length hs ≡ length ws
+    → ((h : ℕ) (v w : HartView) (x : SavedView) → slice_get hs h ≡ Some v → slice_get ws h ≡ Some w → IsSavedOf w x → f (put_back v x) ≡ f w)
     → map f (restored_harts hs ss) ≡ map f ws
 same_restored f [] [] ss are count same = refl
 same_restored f (v ∷ hs) (w ∷ ws) [] are count same = absurd are
@@ -86,7 +85,7 @@ same_restored f (v ∷ hs) (w ∷ ws) (x ∷ ss) are count same =
     ∙ ap (λ ys. f w ∷ ys) (same_restored f hs ws ss are.1 (omega arith) (λ h r s y. same (suc h) r s y))
 same_restored f x y ss are count same = cc
 
-same_seen : (v w : HartView) (x : SavedHart) → IsSavedOf w x → HasGoneOn w v → without_room (put_back v x) ≡ without_room w
+same_seen : (v w : HartView) (x : SavedView) → IsSavedOf w x → HasGoneOn w v → without_room (put_back v x) ≡ without_room w
 same_seen v w x saved on = grind (arith, state_again, reports_again)
 
 same_stored : (s : Taken) (a b : Stored) → a.first ≡ b.first → s.buffers ≡ b.buffers → s.words ++ drop (length s.words) b.first ≡ b.words
@@ -115,7 +114,7 @@ pub sound_put_to : (B M n : ℕ) (o : Start) (es fs : List Entry) (c d : Config)
     → IsMachineAt B M (record { opening = o; entries = fs }) d n
 sound_put_to B M n o es fs c d s now taken cut is = grind (arith, sound_back B M n (record { opening = o; entries = es }) c s now taken)
 
-reports_within : (v w : HartView) (x : SavedHart) → IsSavedOf w x → HasGoneOn w v → x.reports ≤ length v.reports
+reports_within : (v w : HartView) (x : SavedView) → IsSavedOf w x → HasGoneOn w v → x.reports ≤ length v.reports
 reports_within v w x saved on =
     let taken : length (take (length w.reports) v.reports) ≡ length w.reports = ap length on.reports in
     let few : length (take (length w.reports) v.reports) ≤ length v.reports = few_taken (length w.reports) v.reports in

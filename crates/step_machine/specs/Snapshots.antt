@@ -1,8 +1,7 @@
 -- Snapshots: what a machine held at the end of a history, without the history.
 use Rattle.std.specs.Prelude.{ℕ, ◌≡◌, ◌≤◌, ◌++◌, List, [], ◌∷◌, length, drop}
 use Rattle.hart.specs.State.{HartView}
-use Rattle.hart.specs.Saved.{IsSavedOf}
-use Rattle.hart.specs.declared.saved.SavedHart.{SavedHart}
+use Rattle.hart.specs.Saved.{SavedView, IsSavedOf}
 use Rattle.memory.specs.declared.writes.Write.{Write}
 use Rattle.step_machine.specs.History.{History}
 use Rattle.step_machine.specs.Standing.{StandsAt}
@@ -12,12 +11,12 @@ use Rattle.step_machine.specs.inner.Config.{Config}
 -- pending, and the words of memory up to the last that was written
 pub record Taken : Type 0 where
   pub count : ℕ
-  pub harts : List SavedHart
+  pub harts : List SavedView
   pub buffers : List (List Write)
   pub words : List ℕ
 
 -- where each of these harts stands
-abbrev pub AreSaved : List HartView → List SavedHart → Type 0
+abbrev pub AreSaved : List HartView → List SavedView → Type 0
 AreSaved [] [] = Unit {0}
 AreSaved [] (x ∷ xs) = ⊥
 AreSaved (v ∷ vs) [] = ⊥

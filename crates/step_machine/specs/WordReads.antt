@@ -4,7 +4,7 @@
 use Rattle.std.specs.Prelude.{ℕ, ◌/◌, ◌^◌, ◌<◌, List, [], ◌∷◌, None, slice_index, unwrap_or}
 use Rattle.memory.specs.Writes.{write, newest_word, IsWholeWord}
 use Rattle.step_machine.specs.declared.events.Entry.{Entry}
-use Rattle.step_machine.specs.Access.{Access, nothing, load, store, exchange, fence, land, access_of}
+use Rattle.step_machine.specs.Access.{Access, store, exchange, access_of}
 use Rattle.step_machine.specs.History.{Start}
 use Rattle.step_machine.specs.Entries.{pending, landed}
 

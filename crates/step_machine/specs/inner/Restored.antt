@@ -2,8 +2,7 @@
 use Rattle.std.specs.Prelude.{ℕ, ◌≡◌, ◌≤◌, ◌++◌, List, [], ◌∷◌, length, drop, Some}
 use Rattle.std.specs.List.{slice_get}
 use Rattle.hart.specs.State.{HartView}
-use Rattle.hart.specs.Saved.{put_back}
-use Rattle.hart.specs.declared.saved.SavedHart.{SavedHart}
+use Rattle.hart.specs.Saved.{SavedView, put_back}
 use Rattle.memory.specs.declared.writes.Write.{Write}
 use Rattle.step_machine.specs.Snapshots.{Taken}
 use Rattle.step_machine.specs.inner.Stored.{Stored}
@@ -15,7 +14,7 @@ changed_by f [] ys = []
 changed_by f (x ∷ xs) [] = x ∷ xs
 changed_by f (x ∷ xs) (y ∷ ys) = f x y ∷ changed_by f xs ys
 
-abbrev pub restored_harts : List HartView → List SavedHart → List HartView
+abbrev pub restored_harts : List HartView → List SavedView → List HartView
 restored_harts hs ss = changed_by put_back hs ss
 
 abbrev pub restored_stored : List (List Write) → List ℕ → Stored → Stored
@@ -25,7 +24,7 @@ abbrev pub restored_config : Taken → Config → Config
 restored_config s c = record { harts = restored_harts c.harts s.harts; stored = restored_stored s.buffers s.words c.stored }
 
 -- each hart has been given as many words and has made as many reports
-pub record AreWithin (hs : List HartView) (ss : List SavedHart) : Type 0 where
+pub record AreWithin (hs : List HartView) (ss : List SavedView) : Type 0 where
   pub count : length ss ≡ length hs
-  pub given : (h : ℕ) (v : HartView) (x : SavedHart) → slice_get hs h ≡ Some v → slice_get ss h ≡ Some x → x.given ≤ length v.first.inbox
-  pub reports : (h : ℕ) (v : HartView) (x : SavedHart) → slice_get hs h ≡ Some v → slice_get ss h ≡ Some x → x.reports ≤ length v.reports
+  pub given : (h : ℕ) (v : HartView) (x : SavedView) → slice_get hs h ≡ Some v → slice_get ss h ≡ Some x → x.given ≤ length v.first.inbox
+  pub reports : (h : ℕ) (v : HartView) (x : SavedView) → slice_get hs h ≡ Some v → slice_get ss h ≡ Some x → x.reports ≤ length v.reports
