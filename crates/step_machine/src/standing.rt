@@ -39,10 +39,12 @@ impl<const B: usize, const M: usize> MachineState<B, M> {
         Ok(self.happen(event))
     }
 
-    /// The events one after the other. An error names how many of them came before it.
+    /// The events one after the other. An error names how many of them came before it, which is fewer than
+    /// there are.
     pub fn run(&mut self, events: &[Event]) -> Result<(), (usize, AllocError)>
         ensures ok { OnOk result (RunsBy B M events.now self.old self.new) }
         ensures err { IfErr result (λ e. RunsBy B M (take e.0 events.now) self.old self.new) }
+        ensures below { IfErr result (λ e. e.0 < length events.now) }
     {
         for (done, event) in events.iter().enumerate() {
             match self.step(*event) {
