@@ -26,7 +26,6 @@ use std::marker::Model;
 const STEPS_AT_ONCE: usize = 64;
 
 /// Harts, a store buffer of `B` stores for each, and a memory of `M` words.
-#[derive(Drop)]
 pub struct MachineState<const B: usize, const M: usize> {
     harts: Vec<Hart>,
     stores: Stores<B, M>,
@@ -41,6 +40,16 @@ impl<const B: usize, const M: usize> Model for MachineState<B, M> {
     ghost view = { λ c. record { harts = c.harts.items; stored = c.stores } };
 
     ghost invariant = { λ c. (B ≤ 64) × Fit M (record { harts = c.harts.items; stored = c.stores }) };
+}
+
+// One call at each way out of a function that owns one, as of a `Machine`.
+impl<const B: usize, const M: usize> Drop for MachineState<B, M> {
+    fn drop(self) {
+        let MachineState {
+            harts: _,
+            stores: _,
+        } = self;
+    }
 }
 
 impl<const B: usize, const M: usize> MachineState<B, M> {
