@@ -1,8 +1,8 @@
 //! Entries in few bytes: a head of four bytes for each row of equal entries, and beside the heads the numbers
 //! that don't fit there.
 
-ghost use Rattle.std.specs.Prelude.{◌≡◌, ◌≢◌, ◌+◌, ◌≤◌, ◌<◌, [], ◌∷◌, ◌++◌, true, false, length, take, ◌-◌, IfOk, MatchOption, IsErr, OnOk, OnErr, vec_len, vec_capacity, if◌then◌else◌};
-ghost use Rattle.step_machine.specs.inner.Packed.{CanGrow, IsSingle, IsLonger, entry_of, further_of};
+ghost use Rattle.std.specs.Prelude.{◌≡◌, ◌+◌, ◌≤◌, ◌<◌, [], ◌∷◌, ◌++◌, true, false, length, take, ◌-◌, IfOk, IfSome, is_some, MatchOption, IsErr, OnOk, OnErr, vec_len, vec_capacity, if◌then◌else◌};
+ghost use Rattle.step_machine.specs.inner.Packed.{IsSingle, IsLonger, entry_of, further_of, longer, longer_last};
 
 use crate::events::Entry;
 use std::alloc::{AllocError, Global};
@@ -113,7 +113,8 @@ impl Head {
     }
 }
 
-/// A list of entries in few bytes. A contract sees the list, and for how many more entries there is room.
+/// A list of entries in few bytes. A contract sees the list, the last head, and for how many more entries there
+/// is room.
 #[derive(Drop)]
 pub(crate) struct PackedEntries {
     heads: Vec<Head>,
@@ -125,11 +126,11 @@ pub(crate) struct PackedEntries {
 
 impl Model for PackedEntries {
     ghost use Rattle.std.specs.Prelude.{◌≡◌, ◌+◌, ◌≤◌, ◌<◌, ◌^◌, ◌*◌, length, vec_len, vec_capacity};
-    ghost use Rattle.step_machine.specs.inner.Packed.{Packing, IsBalanced, unpacked};
+    ghost use Rattle.step_machine.specs.inner.Packed.{Packing, IsBalanced, last_of, unpacked};
 
     ghost Value = { Packing };
 
-    ghost view = { λ p. record { entries = unpacked p.heads.items p.numbers.items p.plain.items; room = p.room } };
+    ghost view = { λ p. record { entries = unpacked p.heads.items p.numbers.items p.plain.items; last = last_of p.heads.items; room = p.room } };
 
     ghost invariant = { λ p. IsBalanced p.heads.items p.numbers.items p.plain.items
         × (p.count ≡ length (unpacked p.heads.items p.numbers.items p.plain.items))
@@ -181,16 +182,26 @@ impl PackedEntries {
         Ok(())
     }
 
-    /// Adds an entry, for which there is room.
+    /// Adds an entry, for which there is room: to the last row where that may have it.
     #[inline(always)]
     pub fn push(&mut self, entry: Entry)
         requires { 0 < self.old.room }
         ensures entries { self.new.entries ≡ self.old.entries ++ entry ∷ [] }
+        ensures longest { IfSome (longer_last self.old.last entry) (λ row. self.new.last ≡ Some row) }
         ensures room { self.new.room + 1 ≡ self.old.room }
     {
-        if self.lengthen(entry) {
-            return;
+        if !self.lengthen(entry) {
+            self.begin(entry);
         }
+    }
+
+    /// Adds an entry as a row of its own.
+    #[inline(always)]
+    fn begin(&mut self, entry: Entry)
+        requires { 0 < self.old.room }
+        ensures entries { self.new.entries ≡ self.old.entries ++ entry ∷ [] }
+        ensures room { self.new.room + 1 ≡ self.old.room }
+    {
         match entry {
             Entry::Inner { hart } if hart < 256 => {
                 let head = Head::Inner {
@@ -270,7 +281,9 @@ impl PackedEntries {
     #[inline(always)]
     fn lengthen(&mut self, entry: Entry) -> bool
         requires { 0 < self.old.room }
+        ensures value { result ≡ is_some (longer_last self.old.last entry) }
         ensures entries { self.new.entries ≡ (if result then self.old.entries ++ entry ∷ [] else self.old.entries) }
+        ensures last { self.new.last ≡ (if result then longer_last self.old.last entry else self.old.last) }
         ensures room { self.old.room ≡ (if result then self.new.room + 1 else self.new.room) }
     {
         let Some(last) = self.heads.pop() else {
@@ -296,6 +309,7 @@ impl PackedEntries {
         requires single { IsSingle head (length numbers.now) (length plain.now) }
         requires room { 0 < self.old.room }
         ensures entries { self.new.entries ≡ self.old.entries ++ entry_of head numbers.now plain.now ∷ [] }
+        ensures last { self.new.last ≡ Some head }
         ensures room { self.new.room + 1 ≡ self.old.room }
     {
         self.heads.push_reserved(head);
@@ -376,7 +390,8 @@ fn extend_reserved<T: Copy>(list: &mut Vec<T>, items: &[T])
 /// The head with one entry more, if the entry is that of its row and the row may grow.
 #[inline(always)]
 fn lengthened(head: Head, entry: Entry) -> Option<Head>
-    ensures { MatchOption result (CanGrow head → entry_of head [] [] ≢ entry) (λ longer. IsLonger head entry longer) }
+    ensures value { result ≡ longer head entry }
+    ensures row { IfSome result (IsLonger head entry) }
 {
     match (head, entry) {
         (Head::Inner { hart, further }, Entry::Inner { hart: number })

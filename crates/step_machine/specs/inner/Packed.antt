@@ -1,16 +1,21 @@
 -- What packed entries stand for. A head is a row of equal entries; its numbers, or the plain entry that it is, are
 -- the first of those that no head before it took.
-use Rattle.std.specs.Prelude.{ℕ, ◌+◌, ◌≡◌, ◌<◌, List, [], ◌∷◌, ◌++◌, Some, length, drop, replicate, slice_index}
-use Rattle.std.specs.List.{sum_by, slice_index_or}
+use Rattle.std.specs.Prelude.{ℕ, ◌+◌, ◌-◌, ◌≡◌, ◌==◌, ◌&&◌, nat_lt, if◌then◌else◌, List, [], ◌∷◌, ◌++◌, Option, Some, None, length, drop, replicate, slice_index}
+use Rattle.std.specs.List.{sum_by, slice_get, slice_index_or}
 use Rattle.step_machine.specs.declared.events.Entry.{Entry}
 use Rattle.step_machine.specs.declared.events.Entry.TheVariants as entry
 use Rattle.step_machine.specs.declared.packed.Head.{Head}
 use Rattle.step_machine.specs.declared.packed.Head.TheVariants as head
 
--- what a contract sees of packed entries: the entries, oldest first, and for how many more there is room
+-- what a contract sees of packed entries: the entries, oldest first, the last head, and for how many more
+-- there is room
 pub record Packing : Type 0 where
   pub entries : List Entry
+  pub last : Option Head
   pub room : ℕ
+
+abbrev pub last_of : List Head → Option Head
+last_of hs = slice_get hs (length hs - 1)
 
 -- how many numbers belong to a head
 abbrev pub numbers_of : Head → ℕ
@@ -71,8 +76,12 @@ pub record IsLonger (h : Head) (e : Entry) (longer : Head) : Type 0 where
   pub first : (ns : List ℕ) (ps : List Entry) → entry_of h ns ps ≡ e
   pub same : (ns : List ℕ) (ps : List Entry) → entry_of longer ns ps ≡ e
 
--- a row that may have one entry more
-abbrev pub CanGrow : Head → Type 0
-CanGrow (head.Inner h further) = further < 65535
-CanGrow (head.Land h further) = further < 65535
-CanGrow other = ⊥
+-- the row with this entry more, where it is a row of such entries and may grow
+abbrev pub longer : Head → Entry → Option Head
+longer (head.Inner h further) (entry.Inner n) = if (h == n) && nat_lt further 65535 then Some (head.Inner h (further + 1)) else None
+longer (head.Land h further) (entry.Land n) = if (h == n) && nat_lt further 65535 then Some (head.Land h (further + 1)) else None
+longer h e = None
+
+abbrev pub longer_last : Option Head → Entry → Option Head
+longer_last None e = None
+longer_last (Some h) e = longer h e
