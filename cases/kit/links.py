@@ -54,8 +54,16 @@ def is_there(word):
     return True
 
 
+def named():
+    """The names of tests and of cases that a page may name, as `test NAME` and `case NAME`."""
+    tests = [re.findall(r"^ *fn (\w+)\(", path.read_text(), re.M) for path in ROOT.glob("crates/tests_*/src/*.rt")]
+    cases = [re.findall(r"^== (\S+)$", path.read_text(), re.M) for path in ROOT.glob("cases/*.cases")]
+    return {"test": set(sum(tests, [])), "case": set(sum(cases, []))}
+
+
 def wrong():
-    """A line for each link and file that isn't there, and for each page that README.md doesn't link."""
+    """A line for each link, file, test and case that isn't there, and for each page that README.md doesn't link."""
+    names = named()
     for page in pages():
         text, name = page.read_text(), page.relative_to(ROOT)
         for match in LINK.finditer(text):
@@ -66,6 +74,9 @@ def wrong():
         for word in sorted(set(PATH.findall(bare))):
             if not is_there(word):
                 yield f"{name}: {word}: no such file"
+        for kind, word in re.findall(r"`(test|case) ([\w./-]+)`", text):
+            if word not in names[kind]:
+                yield f"{name}: {word}: no such {kind}"
     front = ROOT / "README.md"
     linked = {(front.parent / match["target"].split("#")[0]).resolve() for match in LINK.finditer(front.read_text())}
     for page in pages():

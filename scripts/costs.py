@@ -1,0 +1,57 @@
+"""What the checks of crates cost, as scripts/costs.tsv has it: processor seconds of one machine."""
+
+from statistics import median
+
+from crates import TOP
+
+FILE = TOP / "scripts/costs.tsv"
+KINDS = ("proof", "tests", "mutants")
+# by how much a crate's proof may become dearer, and how many seconds it must be at least
+DEARER, SECONDS = 1.2, 10
+
+
+class Costs:
+    """Processor seconds by crate and kind."""
+
+    def __init__(self, crates, seconds):
+        self.crates, self.seconds = crates, seconds
+
+    @classmethod
+    def read(cls, crates):
+        rows = [line.split("\t") for line in FILE.read_text().splitlines()[1:]] if FILE.is_file() else []
+        return cls(crates, {name: dict(zip(KINDS, map(int, values))) for name, *values in rows})
+
+    def write(self):
+        rows = [[name, *(str(self.seconds[name].get(kind, 0)) for kind in KINDS)] for name in sorted(self.seconds)]
+        FILE.write_text("".join("\t".join(row) + "\n" for row in [["crate", *KINDS], *rows]))
+
+    def proof(self, name):
+        """What a crate's proof costs; for one that was never measured, a middle one."""
+        known = [row["proof"] for row in self.seconds.values() if row.get("proof")]
+        return self.seconds.get(name, {}).get("proof") or (median(known) if known else 100)
+
+    def chain(self, name, among):
+        """The costs of a crate and of the dearest chain of crates above it."""
+        above = [other for other in among if name in self.crates.uses[other]]
+        return self.proof(name) + max((self.chain(other, among) for other in above), default=0)
+
+    def length(self, names, lanes):
+        """How long the proofs of these crates take side by side, on so many processors as there are lanes."""
+        ends, free, left = {}, [0.0] * lanes, set(names)
+        while left:
+            ready = [name for name in left if not any(low in left for low in self.crates.uses[name])]
+            name = max(ready, key=lambda one: self.chain(one, names))
+            lane = min(range(lanes), key=free.__getitem__)
+            begins = max([free[lane], *(ends[low] for low in self.crates.uses[name] if low in ends)])
+            free[lane] = ends[name] = begins + self.proof(name)
+            left.remove(name)
+        return max(free)
+
+    def dearer(self, other):
+        """The crates whose proofs became dearer than in `other`, with both numbers, after the machines' ratio."""
+        both = [name for name, row in self.seconds.items() if row.get("proof") and other.seconds.get(name, {}).get("proof")]
+        if not both:
+            return []
+        ratio = median(self.seconds[name]["proof"] / other.seconds[name]["proof"] for name in both)
+        rows = [(name, other.seconds[name]["proof"] * ratio, self.seconds[name]["proof"]) for name in both]
+        return [(name, round(was), now) for name, was, now in rows if now > DEARER * was and now > was + SECONDS]
