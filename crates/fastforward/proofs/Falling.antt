@@ -22,7 +22,8 @@ use Rattle.poll_close.proofs.Outlines.{stands_at, has_ended, nearer}
 use Rattle.poll_close.proofs.Distance.{BlockProgress}
 use Rattle.poll_close.proofs.Progress.{falls}
 use Rattle.poll_close.proofs.Standing.{Sender, value_is}
-use Rattle.fastforward.specs.FastForward.{fastforward, fastforward_blocks, fastforward_means, waits, fastforward_ranking}
+use Rattle.fastforward.specs.Listing.{fastforward}
+use Rattle.fastforward.specs.FastForward.{fastforward_blocks, fastforward_means, waits, fastforward_ranking}
 use Rattle.fastforward.specs.Invariant.Stores.{null_store, sender_stores, receiver_stores}
 use Rattle.fastforward.specs.Invariant.Numbers.{Numbers, sent, gone, taken, freed, Ordered, Words}
 use Rattle.fastforward.specs.Invariant.Sender.{Marked, sender}

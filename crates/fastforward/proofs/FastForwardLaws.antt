@@ -8,8 +8,8 @@ use Rattle.poll_close.proofs.Blocks.{IsBlock, Within, word_of, slot_of}
 use Rattle.poll_close.proofs.BlockLaws.{BlockLaws, Begins, opens_with}
 use Rattle.poll_close.proofs.Outlines.{Right, also, sends}
 use Rattle.poll_close.proofs.ChannelLaws.{opens, keeps, cleans, goes, stays}
-use Rattle.fastforward.specs.Listing.{sender_code}
-use Rattle.fastforward.specs.FastForward.{fastforward, fastforward_blocks, fastforward_means}
+use Rattle.fastforward.specs.Listing.{sender_code, fastforward}
+use Rattle.fastforward.specs.FastForward.{fastforward_blocks, fastforward_means}
 use Rattle.fastforward.specs.Invariant.Numbers.{Numbers, Landed, Ordered, Words}
 use Rattle.fastforward.specs.Invariant.Sender.{sender}
 use Rattle.fastforward.proofs.Means.{receiver_decoded}

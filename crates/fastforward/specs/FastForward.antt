@@ -1,19 +1,15 @@
 -- FastForward, what its histories mean, and how far its harts are from their ends.
 use Rattle.std.specs.Prelude.{ℕ, ◌+◌, ◌==◌, Bool, not, ◌&&◌, slice_index, ◌<◌}
 use Rattle.hart.specs.State.{HartState}
-use Rattle.poll_close.specs.Laws.{Ring, Meaning}
+use Rattle.poll_close.specs.Laws.{Meaning}
 use Rattle.poll_close.specs.Rankings.{Ranking}
 use Rattle.poll_close.specs.Invariant.BlockMeaning.{BlockMeaning, ranking_of}
 use Rattle.poll_close.specs.Invariant.Channels.{means_by}
-use Rattle.fastforward.specs.Listing.{sender_code, receiver_code, middle}
+use Rattle.fastforward.specs.Listing.{middle}
 use Rattle.fastforward.specs.Invariant.Stores.{sender_stores, receiver_stores}
 use Rattle.fastforward.specs.Invariant.Numbers.{Landed, sent, gone, taken, freed, Ordered, Words}
 use Rattle.fastforward.specs.Invariant.Sender.{sender}
 use Rattle.fastforward.specs.Invariant.Middle.{Level, Filled, rows}
-
--- the slots themselves say what is free, so one is enough
-abbrev pub fastforward : Ring
-fastforward = record { sender = sender_code; receiver = receiver_code; least = 1 }
 
 -- it is about to read its slot, and will find a word there
 abbrev pub waits : HartState → (ℕ → ℕ) → Bool

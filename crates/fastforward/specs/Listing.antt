@@ -8,6 +8,7 @@ use Rattle.rv_decode.specs.declared.instruction.LoadOp.TheVariants as load
 use Rattle.rv_decode.specs.declared.instruction.StoreOp.TheVariants as store
 use Rattle.rv_decode.specs.declared.instruction.Instr.{Instr}
 use Rattle.rv_decode.specs.declared.instruction.Instr.TheVariants.{Jal, Branch, Load, Store, Immediate, Register, Ecall}
+use Rattle.poll_close.specs.Laws.{Ring}
 use Rattle.poll_close.specs.Listing.{Listed, line, words_of, lines_of, Middle, receiver_with}
 
 abbrev pub sender_listing : List Listed
@@ -49,3 +50,7 @@ receiver_code = words_of (receiver_with middle)
 
 abbrev pub receiver_lines : List Instr
 receiver_lines = lines_of (receiver_with middle)
+
+-- the ring: the slots themselves say what is free, so one is enough
+abbrev pub fastforward : Ring
+fastforward = record { sender = sender_code; receiver = receiver_code; least = 1 }

@@ -5,7 +5,7 @@
 #![tactic(auto)]
 
 ghost use Rattle.fastforward.specs.Listing.{sender_lines, receiver_lines};
-ghost use Rattle.fastforward.specs.FastForward.{fastforward};
+ghost use Rattle.fastforward.specs.Listing.{fastforward};
 ghost use Rattle.poll_close.specs.Means.{AllMean};
 
 use hart::status::Status;

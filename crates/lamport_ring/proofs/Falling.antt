@@ -21,7 +21,8 @@ use Rattle.poll_close.proofs.Outlines.{base_is, stands_at, has_ended, nearer}
 use Rattle.poll_close.proofs.Distance.{BlockProgress}
 use Rattle.poll_close.proofs.Progress.{falls}
 use Rattle.poll_close.proofs.Standing.{Sender, value_is}
-use Rattle.lamport_ring.specs.Lamport.{lamport, lamport_blocks, lamport_means, waits, lamport_ranking}
+use Rattle.lamport_ring.specs.Listing.{lamport}
+use Rattle.lamport_ring.specs.Lamport.{lamport_blocks, lamport_means, waits, lamport_ranking}
 use Rattle.lamport_ring.specs.Invariant.Stores.{head_store, sender_stores, receiver_stores}
 use Rattle.lamport_ring.specs.Invariant.Numbers.{Numbers, sent, gone, Ordered, Words, taken, freed}
 use Rattle.lamport_ring.specs.Invariant.Sender.{Marked, sender}

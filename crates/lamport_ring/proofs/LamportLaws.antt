@@ -8,8 +8,8 @@ use Rattle.poll_close.proofs.Blocks.{IsBlock, Within, base_word, word_of, slot_o
 use Rattle.poll_close.proofs.BlockLaws.{BlockLaws, Begins, Stepped, opens_with}
 use Rattle.poll_close.proofs.Outlines.{Right, also, sends}
 use Rattle.poll_close.proofs.ChannelLaws.{opens, keeps, cleans, goes, stays}
-use Rattle.lamport_ring.specs.Listing.{sender_code}
-use Rattle.lamport_ring.specs.Lamport.{lamport, lamport_blocks, lamport_means}
+use Rattle.lamport_ring.specs.Listing.{sender_code, lamport}
+use Rattle.lamport_ring.specs.Lamport.{lamport_blocks, lamport_means}
 use Rattle.lamport_ring.specs.Invariant.Numbers.{Numbers, Landed, taken, Ordered, Words}
 use Rattle.lamport_ring.specs.Invariant.Sender.{sender}
 use Rattle.lamport_ring.proofs.Means.{receiver_decoded}

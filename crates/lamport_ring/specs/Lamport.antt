@@ -1,19 +1,15 @@
 -- Lamport's ring, what its histories mean, and how far its harts are from their ends.
 use Rattle.std.specs.Prelude.{ℕ, ◌+◌, ◌==◌, Bool, ◌&&◌, slice_index, ◌<◌}
 use Rattle.hart.specs.State.{HartState}
-use Rattle.poll_close.specs.Laws.{Ring, Meaning}
+use Rattle.poll_close.specs.Laws.{Meaning}
 use Rattle.poll_close.specs.Rankings.{Ranking}
 use Rattle.poll_close.specs.Invariant.BlockMeaning.{BlockMeaning, ranking_of}
 use Rattle.poll_close.specs.Invariant.Channels.{means_by}
-use Rattle.lamport_ring.specs.Listing.{sender_code, receiver_code, middle}
+use Rattle.lamport_ring.specs.Listing.{middle}
 use Rattle.lamport_ring.specs.Invariant.Stores.{sender_stores, receiver_stores}
 use Rattle.lamport_ring.specs.Invariant.Numbers.{Landed, sent, gone, taken, freed, Ordered, Words}
 use Rattle.lamport_ring.specs.Invariant.Sender.{sender}
 use Rattle.lamport_ring.specs.Invariant.Middle.{More, rows}
-
--- one slot stays free, so a ring has at least two
-abbrev pub lamport : Ring
-lamport = record { sender = sender_code; receiver = receiver_code; least = 2 }
 
 -- it is about to read the tail, and will find its ring full
 abbrev pub waits : HartState → (ℕ → ℕ) → Bool

@@ -5,7 +5,7 @@
 #![tactic(auto)]
 
 ghost use Rattle.lamport_ring.specs.Listing.{sender_lines, receiver_lines};
-ghost use Rattle.lamport_ring.specs.Lamport.{lamport};
+ghost use Rattle.lamport_ring.specs.Listing.{lamport};
 ghost use Rattle.poll_close.specs.Means.{AllMean};
 
 use hart::status::Status;

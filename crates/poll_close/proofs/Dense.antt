@@ -1,7 +1,10 @@
--- The dense layout is one of those that are accepted.
+-- The dense layout: its place is never why lists are refused.
 use Rattle.std.proofs.Common.{ℕ, ◌+◌, ◌-◌, ◌*◌, ◌≤◌, ◌≡◌, List, ap, arith}
 use Rattle.poll_close.specs.Layout.{dense}
-use Rattle.poll_close.specs.Laws.{Ring, Accepted, AcceptedAt}
+use Rattle.poll_close.specs.Laws.{Ring}
+use Rattle.poll_close.specs.Refusals.{RefusesAt, IsOfLists}
+use Rattle.poll_close.specs.declared.faults.RefusedAt.{RefusedAt}
+use Rattle.poll_close.specs.declared.faults.RefusedAt.TheVariants.{Lists, UnevenBase, UnevenStride, BlocksMeet, FilledBlock}
 
 pub rows_before : (n T : ℕ) → 1 ≤ n → (n - 1) * T + T ≡ n * T
 rows_before n T some =
@@ -9,5 +12,9 @@ rows_before n T some =
     let same : n * T ≡ (n - 1 + 1) * T = ap (λ j. j * T) next in
     omega (arith, same)
 
-pub dense-accepted : (ring : Ring) (M : ℕ) (lists : List (List ℕ)) (S : ℕ) → Accepted ring M lists S → AcceptedAt ring M lists (dense S)
-dense-accepted ring M lists S accepted = grind (arith, rows_before)
+pub dense_refusal : (ring : Ring) (M : ℕ) (lists : List (List ℕ)) (S : ℕ) (why : RefusedAt) → RefusesAt ring M lists (dense S) why → IsOfLists why
+dense_refusal ring M lists S (Lists refused) h = tt
+dense_refusal ring M lists S UnevenBase h = omega (arith, h.1)
+dense_refusal ring M lists S UnevenStride h = omega (arith, h.2)
+dense_refusal ring M lists S BlocksMeet h = omega (arith, h.3)
+dense_refusal ring M lists S (FilledBlock word) h = grind arith

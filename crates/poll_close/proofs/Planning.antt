@@ -25,12 +25,11 @@ use Rattle.hart.specs.declared.need.Report.{Report}
 use Rattle.hart.specs.declared.need.Report.TheVariants as report
 use Rattle.std.specs.Prelude.{map}
 use Rattle.std.specs.List.{slice_get}
-use Rattle.poll_close.specs.Laws.{Ring, opening_over, opening_of, Meaning, Accepted, AcceptedAt, Opens, Keeps, Cleans}
+use Rattle.poll_close.specs.Laws.{Ring, opening_over, Meaning, AcceptedAt, Opens, Keeps, Cleans}
 use Rattle.poll_close.specs.Reports.{Clean}
 use Rattle.poll_close.specs.Standing.{Stands, lists_of}
-use Rattle.poll_close.proofs.Dense.{dense-accepted}
 use Rattle.poll_close.proofs.Standing.{inboxes, stands-opens, stands-happens, stands-run, stands-clean}
-use Rattle.poll_close.specs.Layout.{Layout, dense, opening_at}
+use Rattle.poll_close.specs.Layout.{Layout, opening_at}
 use Rattle.poll_close.specs.Delivery.{DeliversWhole}
 use Rattle.poll_close.proofs.CleanReports.{closed_whole}
 use Rattle.poll_close.specs.Rankings.{Nearer, Decreases}
@@ -350,11 +349,3 @@ run_can_finish ring means left next opens keeps cleans falls B M lists S evs t s
     can_finish ring means left next keeps cleans falls B M some t
     (stands-run ring means B M (unrun (opening_over ring lists S)) evs t keeps
     (stands-opens ring means B M lists S (unrun (opening_over ring lists S)) opens accepted refl) run)
-
-pub dense_can_finish : (ring : Ring) (means : Meaning) (left next : ℕ → History → ℕ) → Opens ring means
-    → Keeps ring means → Cleans ring means → Decreases ring means left next
-    → (B M : ℕ) (lists : List (List ℕ)) (S : ℕ) (evs : List Event) (t : History) → 1 ≤ B → Accepted ring M lists S
-    → Run B M (opening_of ring lists S) evs t → CanFinish B M t
-dense_can_finish ring means left next opens keeps cleans falls B M lists S evs t some accepted run =
-    run_can_finish ring means left next opens keeps cleans falls B M lists (dense S) evs t some
-    (dense-accepted ring M lists S accepted) run

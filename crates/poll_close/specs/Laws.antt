@@ -28,15 +28,6 @@ opening_of ring lists S = opening_over ring lists (dense S)
 abbrev pub AreWords : List ℕ → Type 0
 AreWords ws = All (λ w. (w < 2 ^ 32) × (w ≢ 0)) ws
 
--- the lists and the ring size are within the limits, over a memory of M words
-pub record Accepted (ring : Ring) (M : ℕ) (lists : List (List ℕ)) (S : ℕ) : Type 0 where
-  pub some_sender : 1 ≤ length lists
-  pub senders : length lists ≤ 63
-  pub size : ring.least ≤ S
-  pub fits : length lists * block_size S ≤ 4 * M
-  pub memory : M ≤ 65536
-  pub words : All AreWords lists
-
 -- address a is one of the n blocks'
 pub record IsInBlocks (l : Layout) (n a : ℕ) : Type 0 where
   pub block : ℕ
@@ -53,9 +44,10 @@ pub record OpensEmpty (l : Layout) (n : ℕ) : Type 0 where
   pub small : (j : ℕ) → slice_index l.words j < 2 ^ 32
   pub empty : (j : ℕ) → IsEmptyAt l n j
 
--- the same for a layout: it begins at a word, a stride is of whole words and has room for a block, the
--- receiver's registers can hold where the strides end, the last block ends within memory, whose addresses are
--- 32 bits wide, and the blocks' words open as 0, whatever the other words are
+-- the lists and a layout are within the limits, over a memory of M words: the layout begins at a word, a stride
+-- is of whole words and has room for a block, the receiver's registers can hold where the strides end, the last
+-- block ends within memory, whose addresses are 32 bits wide, and the blocks' words open as 0, whatever the other
+-- words are
 pub record AcceptedAt (ring : Ring) (M : ℕ) (lists : List (List ℕ)) (l : Layout) : Type 0 where
   pub some_sender : 1 ≤ length lists
   pub senders : length lists ≤ 63
@@ -69,6 +61,10 @@ pub record AcceptedAt (ring : Ring) (M : ℕ) (lists : List (List ℕ)) (l : Lay
   pub words : All AreWords lists
   pub opens : length l.words ≤ M
   pub empty : OpensEmpty l (length lists)
+
+-- and with rings of S slots in the dense layout
+abbrev pub Accepted : Ring → ℕ → List (List ℕ) → ℕ → Type 0
+Accepted ring M lists S = AcceptedAt ring M lists (dense S)
 
 -- a meaning of histories: for capacity B, memory M, the lists and the layout
 abbrev pub Meaning : Type 1

@@ -1,9 +1,9 @@
--- When lists are refused, and why: the cases in their order, of which each comes only where none before
--- it does.
+-- When lists at a place are refused, and why: the cases in their order, of which each comes only where none
+-- before it does.
 use Rattle.std.specs.Prelude.{ℕ, ◌≡◌, ◌*◌, ◌%◌, ◌≢◌, ◌^◌, ◌≤◌, ◌<◌, ◌⊎◌, List, [], All, length, take, slice_index}
 use Rattle.std.specs.List.{slice_index_or}
-use Rattle.poll_close.specs.Layout.{block_size, base_of, end_of, Layout}
-use Rattle.poll_close.specs.Laws.{Ring, AreWords, Accepted, IsInBlocks, IsEmptyAt, OpensEmpty, AcceptedAt}
+use Rattle.poll_close.specs.Layout.{block_size, base_of, end_of, Layout, dense}
+use Rattle.poll_close.specs.Laws.{Ring, AreWords, IsInBlocks, IsEmptyAt, OpensEmpty, AcceptedAt}
 use Rattle.poll_close.specs.declared.faults.Refused.{Refused}
 use Rattle.poll_close.specs.declared.faults.RefusedAt.{RefusedAt}
 use Rattle.poll_close.specs.declared.faults.RefusedAt.TheVariants.{Lists, UnevenBase, UnevenStride, BlocksMeet, FilledBlock}
@@ -35,15 +35,6 @@ pub record HasRing (ring : Ring) (lists : List (List ℕ)) (S : ℕ) : Type 0 wh
   pub senders : length lists ≤ 63
   pub size : ring.least ≤ S
 
-abbrev pub Refuses : Ring → ℕ → List (List ℕ) → ℕ → Refused → Type 0
-Refuses ring M lists S NoSenders = length lists ≡ 0
-Refuses ring M lists S TooManySenders = 63 < length lists
-Refuses ring M lists S RingTooSmall = (1 ≤ length lists) × (length lists ≤ 63) × (S < ring.least)
-Refuses ring M lists S DoesNotFit = HasRing ring lists S × (4 * M < length lists * block_size S)
-Refuses ring M lists S (ZeroWord sender place) = HasRing ring lists S × (length lists * block_size S ≤ 4 * M) × ZeroWordAt lists sender place
-Refuses ring M lists S NoMemory = Accepted ring M lists S
-
--- the same at a place
 abbrev pub fault_number_at : RefusedAt → ℕ
 fault_number_at (Lists refused) = fault_number refused
 fault_number_at UnevenBase = 41
@@ -85,3 +76,15 @@ RefusesAt ring M lists l (FilledBlock word) = HasPlace ring lists l × FitsAt M 
 RefusesAt ring M lists l (Lists (ZeroWord sender place)) =
     HasPlace ring lists l × FitsAt M (length lists) l × OpensEmpty l (length lists) × ZeroWordAt lists sender place
 RefusesAt ring M lists l (Lists NoMemory) = AcceptedAt ring M lists l
+
+-- a refusal of the lists, and not of their place
+abbrev pub IsOfLists : RefusedAt → Type 0
+IsOfLists (Lists refused) = Unit {0}
+IsOfLists UnevenBase = ⊥
+IsOfLists UnevenStride = ⊥
+IsOfLists BlocksMeet = ⊥
+IsOfLists (FilledBlock word) = ⊥
+
+-- and with rings of S slots in the dense layout, where the place is never why
+abbrev pub Refuses : Ring → ℕ → List (List ℕ) → ℕ → Refused → Type 0
+Refuses ring M lists S refused = RefusesAt ring M lists (dense S) (Lists refused)

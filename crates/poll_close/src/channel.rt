@@ -8,7 +8,7 @@ ghost use Rattle.poll_close.specs.Refusals.{Refuses, RefusesAt};
 
 use crate::faults::{Refused, RefusedAt};
 use crate::kind::RingKind;
-use crate::openings::{opening, opening_at};
+use crate::openings::opening_at;
 use crate::place::Place;
 use crate::plans::{Finish, plan_of};
 use hart::need::Report;
@@ -46,7 +46,9 @@ impl<K: RingKind, const B: usize, const M: usize> Channel<K, B, M> {
     ghost use Rattle.poll_close.specs.Reports.{Clean};
     ghost use Rattle.poll_close.specs.Standing.{IsOpeningOf, lists_of};
 
-    /// A channel over these lists at its opening. Err as [`opening`].
+    /// A channel over these lists at its opening, with rings of `ring` slots in the dense layout. Err as
+    /// [`opening`](crate::openings::opening).
+    #[tactic(auto, using(crate::proofs::Dense::dense_refusal))]
     pub fn open(alloc: Global, lists: &[Vec<u32>], ring: u32) -> Result<Self, Refused>
         requires some_capacity { 1 ≤ B }
         requires capacity { B ≤ 64 }
@@ -56,13 +58,10 @@ impl<K: RingKind, const B: usize, const M: usize> Channel<K, B, M> {
         ensures accepted { OnOk result (Accepted K.ring M (map (λ v. v.items) lists.now) ring) }
         ensures refused { IfErr result (λ e. Refuses K.ring M (map (λ v. v.items) lists.now) ring e) }
     {
-        K::laws();
-        let opening = opening::<K>(alloc, lists, ring, M)?;
-        let machine = Machine::open(alloc, opening)?;
-        Ok(Channel {
-            machine,
-            kind: PhantomData,
-        })
+        match Self::open_at(alloc, lists, Place::dense(ring), &[]) {
+            Ok(channel) => Ok(channel),
+            Err(why) => Err(why.of_lists()),
+        }
     }
 
     /// A channel over these lists at a place, over a memory that opens with these words, at its opening.

@@ -19,7 +19,7 @@ ghost use Rattle.poll_close.specs.Plans.{CanFinish};
 use crate::channel::Channel;
 use crate::faults::{Refused, RefusedAt};
 use crate::kind::RingKind;
-use crate::openings::{opening, opening_at};
+use crate::openings::opening_at;
 use crate::place::Place;
 use crate::plans::Finish;
 use hart::need::Report;
@@ -49,28 +49,9 @@ fn reports_of<K: RingKind, const B: usize, const M: usize>(
     Vec::from_slice(alloc, machine.reports(0))
 }
 
-/// What the receiver of a channel of this kind reports when these events run from its opening over
-/// these lists: exactly the run's reports, and they are clean. Err as [`opening`].
-pub fn deliver<K: RingKind, const B: usize, const M: usize>(
-    alloc: Global,
-    lists: &[Vec<u32>],
-    ring: u32,
-    events: &[Event],
-) -> Result<Vec<Report>, Refused>
-    requires some_capacity { 1 ≤ B }
-    requires capacity { B ≤ 64 }
-    requires some_word { 1 ≤ M }
-    requires memory { M ≤ 65536 }
-    ensures delivers { IfOk result (λ r. DeliversOver K.ring B M (map (λ v. v.items) lists.now) (dense ring) events.now r.items) }
-    ensures accepted { OnOk result (Accepted K.ring M (map (λ v. v.items) lists.now) ring) }
-    ensures refused { IfErr result (λ e. Refuses K.ring M (map (λ v. v.items) lists.now) ring e) }
-{
-    let opening = opening::<K>(alloc, lists, ring, M)?;
-    Ok(reports_of::<K, B, M>(alloc, opening, lists, events)?)
-}
-
-/// What the receiver of such a channel at a place, over a memory that opens with these words, reports
-/// when these events run from its opening. Err as [`opening_at`].
+/// What the receiver of a channel of this kind at a place, over a memory that opens with these words, reports
+/// when these events run from its opening over these lists: exactly the run's reports, and they are clean. Err
+/// as [`opening_at`].
 pub fn deliver_at<K: RingKind, const B: usize, const M: usize>(
     alloc: Global,
     lists: &[Vec<u32>],
@@ -88,6 +69,29 @@ pub fn deliver_at<K: RingKind, const B: usize, const M: usize>(
 {
     let opening = opening_at::<K>(alloc, lists, place, words, M)?;
     Ok(reports_of::<K, B, M>(alloc, opening, lists, events)?)
+}
+
+/// The same with rings of `ring` slots in the dense layout, where all memory is zero. Err as
+/// [`opening`](crate::openings::opening).
+#[tactic(auto, using(crate::proofs::Dense::dense_refusal))]
+pub fn deliver<K: RingKind, const B: usize, const M: usize>(
+    alloc: Global,
+    lists: &[Vec<u32>],
+    ring: u32,
+    events: &[Event],
+) -> Result<Vec<Report>, Refused>
+    requires some_capacity { 1 ≤ B }
+    requires capacity { B ≤ 64 }
+    requires some_word { 1 ≤ M }
+    requires memory { M ≤ 65536 }
+    ensures delivers { IfOk result (λ r. DeliversOver K.ring B M (map (λ v. v.items) lists.now) (dense ring) events.now r.items) }
+    ensures accepted { OnOk result (Accepted K.ring M (map (λ v. v.items) lists.now) ring) }
+    ensures refused { IfErr result (λ e. Refuses K.ring M (map (λ v. v.items) lists.now) ring e) }
+{
+    match deliver_at::<K, B, M>(alloc, lists, Place::dense(ring), &[], events) {
+        Ok(reports) => Ok(reports),
+        Err(why) => Err(why.of_lists()),
+    }
 }
 
 /// What the receiver of a channel reports when these events run, and then its plan.
@@ -111,28 +115,9 @@ fn whole_of<K: Finish<B, M>, const B: usize, const M: usize>(
     Vec::from_slice(alloc, channel.reports())
 }
 
-/// What the receiver of such a channel reports when these events run from its opening and then its plan:
-/// clean reports of each list's whole words, and of each sender that it is closed. Err as [`opening`].
-pub fn deliver_whole<K: Finish<B, M>, const B: usize, const M: usize>(
-    alloc: Global,
-    lists: &[Vec<u32>],
-    ring: u32,
-    events: &[Event],
-) -> Result<Vec<Report>, Refused>
-    requires some_capacity { 1 ≤ B }
-    requires capacity { B ≤ 64 }
-    requires some_word { 1 ≤ M }
-    requires memory { M ≤ 65536 }
-    ensures whole { IfOk result (λ r. DeliversWholeOver K.RingKind.ring B M (map (λ v. v.items) lists.now) (dense ring) events.now r.items) }
-    ensures accepted { OnOk result (Accepted K.RingKind.ring M (map (λ v. v.items) lists.now) ring) }
-    ensures refused { IfErr result (λ e. Refuses K.RingKind.ring M (map (λ v. v.items) lists.now) ring e) }
-{
-    let channel = Channel::<K, B, M>::open(alloc, lists, ring)?;
-    Ok(whole_of(alloc, channel, events)?)
-}
-
 /// What the receiver of such a channel at a place, over a memory that opens with these words, reports
-/// when these events run from its opening and then its plan, as [`deliver_whole`]. Err as [`opening_at`].
+/// when these events run from its opening and then its plan: clean reports of each list's whole words, and
+/// of each sender that it is closed. Err as [`opening_at`].
 pub fn deliver_whole_at<K: Finish<B, M>, const B: usize, const M: usize>(
     alloc: Global,
     lists: &[Vec<u32>],
@@ -152,18 +137,14 @@ pub fn deliver_whole_at<K: Finish<B, M>, const B: usize, const M: usize>(
     Ok(whole_of(alloc, channel, events)?)
 }
 
-/// The laws of channels of this kind: each opening fits its memory, and in each run from it what the
-/// receiver reports is clean, no hart is stopped, and each hart touches its blocks alone, whatever made
-/// the events. It does nothing.
+/// The laws of channels of this kind, in any layout: each opening fits its memory, and in each run from it
+/// what the receiver reports is clean, no hart is stopped, and each hart touches its blocks alone, whatever
+/// made the events. It does nothing.
 pub fn laws_of_channels<K: RingKind>()
-    ensures fits { (M : ℕ) (lists : List (List ℕ)) (S : ℕ) → Accepted K.ring M lists S → FitsIn M (opening_of K.ring lists S) }
-    ensures clean { (B M : ℕ) (lists : List (List ℕ)) (S : ℕ) (events : List Event) (t : History) → Accepted K.ring M lists S → Run B M (opening_of K.ring lists S) events t → Clean (reported 0 t.entries) lists }
-    ensures stands { (B M : ℕ) (lists : List (List ℕ)) (S : ℕ) (events : List Event) (t : History) → Accepted K.ring M lists S → Run B M (opening_of K.ring lists S) events t → Stands K.ring K.meaning B M t }
-    ensures goes { (B M : ℕ) (lists : List (List ℕ)) (S : ℕ) (events : List Event) (t : History) → Accepted K.ring M lists S → Run B M (opening_of K.ring lists S) events t → AllGoOn t.entries }
-    ensures fits_at { (M : ℕ) (lists : List (List ℕ)) (l : Layout) → AcceptedAt K.ring M lists l → FitsIn M (opening_over K.ring lists l) }
-    ensures clean_at { (B M : ℕ) (lists : List (List ℕ)) (l : Layout) (events : List Event) (t : History) → AcceptedAt K.ring M lists l → Run B M (opening_over K.ring lists l) events t → Clean (reported 0 t.entries) lists }
-    ensures stands_at { (B M : ℕ) (lists : List (List ℕ)) (l : Layout) (events : List Event) (t : History) → AcceptedAt K.ring M lists l → Run B M (opening_over K.ring lists l) events t → Stands K.ring K.meaning B M t }
-    ensures goes_at { (B M : ℕ) (lists : List (List ℕ)) (l : Layout) (events : List Event) (t : History) → AcceptedAt K.ring M lists l → Run B M (opening_over K.ring lists l) events t → AllGoOn t.entries }
+    ensures fits { (M : ℕ) (lists : List (List ℕ)) (l : Layout) → AcceptedAt K.ring M lists l → FitsIn M (opening_over K.ring lists l) }
+    ensures clean { (B M : ℕ) (lists : List (List ℕ)) (l : Layout) (events : List Event) (t : History) → AcceptedAt K.ring M lists l → Run B M (opening_over K.ring lists l) events t → Clean (reported 0 t.entries) lists }
+    ensures stands { (B M : ℕ) (lists : List (List ℕ)) (l : Layout) (events : List Event) (t : History) → AcceptedAt K.ring M lists l → Run B M (opening_over K.ring lists l) events t → Stands K.ring K.meaning B M t }
+    ensures goes { (B M : ℕ) (lists : List (List ℕ)) (l : Layout) (events : List Event) (t : History) → AcceptedAt K.ring M lists l → Run B M (opening_over K.ring lists l) events t → AllGoOn t.entries }
     ensures touches { (B M : ℕ) (lists : List (List ℕ)) (l : Layout) (events : List Event) (t : History) → AcceptedAt K.ring M lists l → Run B M (opening_over K.ring lists l) events t → AllTouch l (length lists) t.entries }
 {
     K::laws();
@@ -171,11 +152,10 @@ pub fn laws_of_channels<K: RingKind>()
 
 /// The law of plans: from every state of a channel of this kind, and so from every one that events lead
 /// to, further events finish it, where a buffer holds a store at least. It does nothing.
-#[tactic(auto, using(crate::proofs::Planning::can_finish, crate::proofs::Planning::run_can_finish, crate::proofs::Planning::dense_can_finish))]
+#[tactic(auto, using(crate::proofs::Planning::can_finish, crate::proofs::Planning::run_can_finish))]
 pub fn laws_of_plans<K: Finish<B, M>, const B: usize, const M: usize>()
     ensures standing { (capacity memory : ℕ) (t : History) → 1 ≤ capacity → Stands K.RingKind.ring K.RingKind.meaning capacity memory t → CanFinish capacity memory t }
-    ensures running { (capacity memory : ℕ) (lists : List (List ℕ)) (S : ℕ) (events : List Event) (t : History) → 1 ≤ capacity → Accepted K.RingKind.ring memory lists S → Run capacity memory (opening_of K.RingKind.ring lists S) events t → CanFinish capacity memory t }
-    ensures running_at { (capacity memory : ℕ) (lists : List (List ℕ)) (l : Layout) (events : List Event) (t : History) → 1 ≤ capacity → AcceptedAt K.RingKind.ring memory lists l → Run capacity memory (opening_over K.RingKind.ring lists l) events t → CanFinish capacity memory t }
+    ensures running { (capacity memory : ℕ) (lists : List (List ℕ)) (l : Layout) (events : List Event) (t : History) → 1 ≤ capacity → AcceptedAt K.RingKind.ring memory lists l → Run capacity memory (opening_over K.RingKind.ring lists l) events t → CanFinish capacity memory t }
 {
     K::laws();
     K::falls();

@@ -86,7 +86,7 @@ pub enum RefusedAt {
 }
 
 impl RefusedAt {
-    ghost use Rattle.poll_close.specs.Refusals.{fault_number_at};
+    ghost use Rattle.poll_close.specs.Refusals.{fault_number_at, IsOfLists};
 
     /// The number by which texts name it.
     pub fn number(self) -> u8
@@ -98,6 +98,17 @@ impl RefusedAt {
             RefusedAt::UnevenStride => 42,
             RefusedAt::BlocksMeet => 43,
             RefusedAt::FilledBlock { .. } => 44,
+        }
+    }
+
+    /// The refusal of the lists, where the place is not why.
+    pub fn of_lists(self) -> Refused
+        requires lists { IsOfLists self }
+        ensures { self ≡ Lists result }
+    {
+        match self {
+            RefusedAt::Lists(refused) => refused,
+            _ => unreachable!(),
         }
     }
 }

@@ -14,9 +14,7 @@ pub mod place;
 pub mod plans;
 
 pub use channel::Channel;
-pub use delivery::{
-    deliver, deliver_at, deliver_whole, deliver_whole_at, laws_of_channels, laws_of_plans,
-};
+pub use delivery::{deliver, deliver_at, deliver_whole_at, laws_of_channels, laws_of_plans};
 pub use faults::{Refused, RefusedAt};
 pub use kind::RingKind;
 pub use openings::{MAX_SENDERS, opening, opening_at};

@@ -40,31 +40,6 @@ fn zero_word(lists: &[Vec<u32>]) -> Option<(usize, usize)>
     None
 }
 
-/// Whether a channel of this kind over these lists fits a memory of `m` words, and if not why.
-fn judge<K: RingKind>(lists: &[Vec<u32>], ring: u32, m: usize) -> Result<(), Refused>
-    requires memory { m ≤ 65536 }
-    ensures ok { OnOk result (Accepted K.ring m (map (λ v. v.items) lists.now) ring) }
-    ensures err { IfErr result (λ e. Refuses K.ring m (map (λ v. v.items) lists.now) ring e) }
-    ensures accepts { Accepted K.ring m (map (λ v. v.items) lists.now) ring → IsOk result }
-{
-    if lists.is_empty() {
-        return Err(Refused::NoSenders);
-    }
-    if lists.len() > MAX_SENDERS {
-        return Err(Refused::TooManySenders);
-    }
-    if ring < K::least_size() {
-        return Err(Refused::RingTooSmall);
-    }
-    if lists.len() * (4 + ring as usize) > m {
-        return Err(Refused::DoesNotFit);
-    }
-    match zero_word(lists) {
-        Some((sender, place)) => Err(Refused::ZeroWord { sender, place }),
-        None => Ok(()),
-    }
-}
-
 /// The registers with which sender `index` opens.
 fn sender_registers(place: Place, index: u32) -> [u32; 32]
     requires begins { base_of (layout_of place []) index < 2 ^ 32 }
@@ -133,29 +108,6 @@ fn lay_out<K: RingKind>(
         harts,
         words: Vec::from_slice(alloc, words)?,
     })
-}
-
-/// The opening of a channel of this kind over a memory of `m` words: hart 0 receives, hart i + 1 sends
-/// list i through a ring of `ring` slots. Err with the first refusal that applies, or that memory ran
-/// out where none does.
-pub fn opening<K: RingKind>(
-    alloc: Global,
-    lists: &[Vec<u32>],
-    ring: u32,
-    m: usize,
-) -> Result<Opening, Refused>
-    requires memory { m ≤ 65536 }
-    ensures accepted { OnOk result (Accepted K.ring m (map (λ v. v.items) lists.now) ring) }
-    ensures value { IfOk result (λ o. o ≡ opening_of K.ring (map (λ v. v.items) lists.now) ring) }
-    ensures refused { IfErr result (λ e. Refuses K.ring m (map (λ v. v.items) lists.now) ring e) }
-{
-    judge::<K>(lists, ring, m)?;
-    let place = Place {
-        ring,
-        base: 0,
-        stride: None,
-    };
-    Ok(lay_out::<K>(alloc, lists, place, &[])?)
 }
 
 /// Whether this address is in one of the first `count` blocks.
@@ -246,9 +198,9 @@ fn judge_at<K: RingKind>(
     }
 }
 
-/// The opening of a channel of this kind at a place, over a memory that opens with these words, as
-/// [`opening`] is that of one whose blocks lie one after the other from address 0 on, where all memory
-/// is zero.
+/// The opening of a channel of this kind at a place, over a memory of `m` words that opens with these: hart 0
+/// receives, hart i + 1 sends list i through block i. Err with the first refusal that applies, or that
+/// memory ran out where none does.
 pub fn opening_at<K: RingKind>(
     alloc: Global,
     lists: &[Vec<u32>],
@@ -263,4 +215,24 @@ pub fn opening_at<K: RingKind>(
 {
     judge_at::<K>(lists, place, words, m)?;
     Ok(lay_out::<K>(alloc, lists, place, words)?)
+}
+
+/// The opening of a channel of this kind through rings of `ring` slots in the dense layout, where all memory
+/// is zero. Err as [`opening_at`].
+#[tactic(auto, using(crate::proofs::Dense::dense_refusal))]
+pub fn opening<K: RingKind>(
+    alloc: Global,
+    lists: &[Vec<u32>],
+    ring: u32,
+    m: usize,
+) -> Result<Opening, Refused>
+    requires memory { m ≤ 65536 }
+    ensures accepted { OnOk result (Accepted K.ring m (map (λ v. v.items) lists.now) ring) }
+    ensures value { IfOk result (λ o. o ≡ opening_of K.ring (map (λ v. v.items) lists.now) ring) }
+    ensures refused { IfErr result (λ e. Refuses K.ring m (map (λ v. v.items) lists.now) ring e) }
+{
+    match opening_at::<K>(alloc, lists, Place::dense(ring), &[], m) {
+        Ok(opening) => Ok(opening),
+        Err(why) => Err(why.of_lists()),
+    }
 }

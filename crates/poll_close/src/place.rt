@@ -1,7 +1,8 @@
 //! Where a channel's blocks lie.
 
-ghost use Rattle.std.specs.Prelude.{◌≡◌, ◌<◌, ◌^◌};
-ghost use Rattle.poll_close.specs.Places.{stride_or_dense};
+ghost use Rattle.std.specs.Prelude.{◌≡◌, ◌<◌, ◌^◌, []};
+ghost use Rattle.poll_close.specs.Layout.{dense};
+ghost use Rattle.poll_close.specs.Places.{layout_of, stride_or_dense};
 
 /// Where the blocks of a channel lie in memory.
 #[derive(Clone, Copy, PartialEq, Eq)]
@@ -16,6 +17,17 @@ pub struct Place {
 }
 
 impl Place {
+    /// Rings of `ring` slots, one block after the other from address 0 on.
+    pub fn dense(ring: u32) -> Place
+        ensures { layout_of result [] ≡ dense ring }
+    {
+        Place {
+            ring,
+            base: 0,
+            stride: None,
+        }
+    }
+
     /// How many bytes after the beginning of a block the next one begins.
     pub fn stride_or_dense(self) -> u64
         ensures value { result ≡ stride_or_dense self.ring self.stride }

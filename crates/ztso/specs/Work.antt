@@ -28,8 +28,8 @@ use Rattle.poll_close.specs.Places.{layout_of}
 use Rattle.ztso_engines.specs.Channels.{IsChannelAnswer}
 use Rattle.ztso_engines.specs.Threads.{IsThreadsAnswer}
 use Rattle.poll_close.specs.Laws.{Ring as RingTables}
-use Rattle.lamport_ring.specs.Lamport.{lamport}
-use Rattle.fastforward.specs.FastForward.{fastforward}
+use Rattle.lamport_ring.specs.Listing.{lamport}
+use Rattle.fastforward.specs.Listing.{fastforward}
 use Rattle.ztso.specs.declared.job.Capacity.{Capacity}
 use Rattle.ztso.specs.declared.job.Capacity.TheVariants.{One, Two, Four, Sixteen}
 use Rattle.ztso.specs.declared.job.Ring.{Ring}

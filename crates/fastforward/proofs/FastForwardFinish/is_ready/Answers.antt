@@ -1,7 +1,8 @@
 use Rattle.std.proofs.Common.{lit<, lit≤, arith, ◌≡◌, ◌+◌, ◌^◌, ◌<◌}
 use Rattle.std.proofs.lemmas.Bool.Decides.{nat_tests}
 use Rattle.poll_close.proofs.Standing.{sender_at}
-use Rattle.fastforward.specs.FastForward.{fastforward, fastforward_blocks}
+use Rattle.fastforward.specs.Listing.{fastforward}
+use Rattle.fastforward.specs.FastForward.{fastforward_blocks}
 use Rattle.fastforward.proofs.Falling.{address, ready_is}
 use Rattle.fastforward.proofs.FastForwardFinish.is_ready.Goals as goal
 

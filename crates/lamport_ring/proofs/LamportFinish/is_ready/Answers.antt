@@ -1,7 +1,8 @@
 use Rattle.std.proofs.Common.{lit<, lit≤, arith, ◌≡◌, ◌+◌, ◌^◌, ◌<◌}
 use Rattle.std.proofs.lemmas.Bool.Decides.{nat_tests}
 use Rattle.poll_close.proofs.Standing.{sender_at}
-use Rattle.lamport_ring.specs.Lamport.{lamport, lamport_blocks}
+use Rattle.lamport_ring.specs.Listing.{lamport}
+use Rattle.lamport_ring.specs.Lamport.{lamport_blocks}
 use Rattle.lamport_ring.proofs.Falling.{address, ready_is}
 use Rattle.lamport_ring.proofs.LamportFinish.is_ready.Goals as goal
 

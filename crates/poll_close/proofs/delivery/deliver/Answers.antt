@@ -1,6 +1,9 @@
--- The opening that was made is the one that is named.
-use Rattle.poll_close.proofs.Delivering.{delivers-as}
+-- The place is the dense one.
+use Rattle.std.proofs.Common.{ℕ, Vec, Global, map, subst}
+use Rattle.poll_close.specs.Delivery.{DeliversOver}
 use Rattle.poll_close.proofs.delivery.deliver.Goals as goal
 
-pub returns-clause-delivers : goal.returns-clause-delivers
-returns-clause-delivers g c = delivers-as g.row.B g.row.M _ _ _ _ _ c.in_ok-opening.ensures.value c.in_ok-reports_of.ensures
+pub returns-in-Ok-clause-delivers : goal.returns-in-Ok-clause-delivers
+returns-in-Ok-clause-delivers g c =
+    subst (λ l. DeliversOver g.K.RingKind.ring g.row.B g.row.M (map (λ (v : Vec ℕ Global). v.items) c.args.lists.now) l
+    c.args.events.now c.in-Ok.reports.items) c.dense.ensures c.in-Ok.ensures.delivers

@@ -1,44 +1,25 @@
 -- The meaning holds at the opening, and each event keeps it.
 use Rattle.std.proofs.Common.{refl}
-use Rattle.poll_close.specs.Layout.{dense}
-use Rattle.poll_close.proofs.Dense.{dense-accepted}
 use Rattle.poll_close.proofs.Delivering.{delivers, run-known, channel-fits}
 use Rattle.poll_close.proofs.Standing.{stands-opens, stands-run, stands-goes}
 use Rattle.poll_close.proofs.delivery.laws_of_channels.Goals as goal
 
 pub returns-clause-fits : goal.returns-clause-fits
-returns-clause-fits g c = λ M lists S accepted. channel-fits g.K.RingKind.ring M lists (dense S) _
-    c.laws.ensures.short (dense-accepted g.K.RingKind.ring M lists S accepted) refl
-
-pub returns-clause-fits_at : goal.returns-clause-fits_at
-returns-clause-fits_at g c = λ M lists l accepted. channel-fits g.K.RingKind.ring M lists l _ c.laws.ensures.short accepted refl
+returns-clause-fits g c = λ M lists l accepted. channel-fits g.K.RingKind.ring M lists l _ c.laws.ensures.short accepted refl
 
 pub returns-clause-clean : goal.returns-clause-clean
-returns-clause-clean g c = λ B M lists S evs t accepted run.
-    (delivers g.K.RingKind.ring g.K.RingKind.meaning B M lists (dense S) evs t _ _ c.laws.ensures.opens
-    c.laws.ensures.keeps c.laws.ensures.cleans (dense-accepted g.K.RingKind.ring M lists S accepted) refl run refl).clean
-
-pub returns-clause-clean_at : goal.returns-clause-clean_at
-returns-clause-clean_at g c = λ B M lists l evs t accepted run.
+returns-clause-clean g c = λ B M lists l evs t accepted run.
     (delivers g.K.RingKind.ring g.K.RingKind.meaning B M lists l evs t _ _ c.laws.ensures.opens c.laws.ensures.keeps
     c.laws.ensures.cleans accepted refl run refl).clean
 
-pub returns-clause-stands_at : goal.returns-clause-stands_at
-returns-clause-stands_at g c = λ B M lists l evs t accepted run.
+pub returns-clause-stands : goal.returns-clause-stands
+returns-clause-stands g c = λ B M lists l evs t accepted run.
     stands-run g.K.RingKind.ring g.K.RingKind.meaning B M _ evs t c.laws.ensures.keeps
     (stands-opens g.K.RingKind.ring g.K.RingKind.meaning B M lists l _ c.laws.ensures.opens accepted refl) run
 
-pub returns-clause-goes_at : goal.returns-clause-goes_at
-returns-clause-goes_at g c = λ B M lists l evs t accepted run.
-    stands-goes g.K.RingKind.ring g.K.RingKind.meaning B M t c.laws.ensures.goes (returns-clause-stands_at g c B M lists l evs t accepted run)
-
-pub returns-clause-stands : goal.returns-clause-stands
-returns-clause-stands g c = λ B M lists S evs t accepted run.
-    returns-clause-stands_at g c B M lists (dense S) evs t (dense-accepted g.K.RingKind.ring M lists S accepted) run
-
 pub returns-clause-goes : goal.returns-clause-goes
-returns-clause-goes g c = λ B M lists S evs t accepted run.
-    returns-clause-goes_at g c B M lists (dense S) evs t (dense-accepted g.K.RingKind.ring M lists S accepted) run
+returns-clause-goes g c = λ B M lists l evs t accepted run.
+    stands-goes g.K.RingKind.ring g.K.RingKind.meaning B M t c.laws.ensures.goes (returns-clause-stands g c B M lists l evs t accepted run)
 
 pub returns-clause-touches : goal.returns-clause-touches
 returns-clause-touches g c = λ B M lists l evs t accepted run.
