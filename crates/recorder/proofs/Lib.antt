@@ -8,3 +8,4 @@ pub mod Drawn
 pub mod OutcomeLaws
 pub mod RecordLaws
 pub mod RunRecords
+pub mod CanBeWritten

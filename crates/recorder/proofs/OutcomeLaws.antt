@@ -22,7 +22,7 @@ use Rattle.recorder.specs.declared.faults.AtByte.{AtByte}
 use Rattle.recorder.specs.declared.faults.ScheduleFault.TheVariants.{BadOutcome}
 use Rattle.recorder.specs.Schedule.{hart_of}
 use Rattle.recorder.specs.Reading.{at_byte}
-use Rattle.recorder.specs.Outcomes.{HartOutcome, stop_of, stopped, outcome_rows, may_have, event_outcome, SaysOutcome, entry_row, outcome_row, outcome_text, IsWidth, Word, Fits, OutcomeFits, IsOutcomeOf, is_same_outcome}
+use Rattle.recorder.specs.Outcomes.{HartOutcome, stop_of, stopped, outcome_rows, may_have, event_outcome, SaysOutcome, entry_row, outcome_row, outcome_text, IsWidth, Word, Fits, OutcomeFits, IsOutcomeOf, HasWords, OutcomeHasWords, is_same_outcome}
 
 -- no two rows of the table are filled by the same words
 rows_apart : are_apart outcome_rows ≡ true
@@ -73,27 +73,27 @@ store_says h a width v hart (inl (inl is)) a' v' = rw is (inr (inr (inr (inr (in
 store_says h a width v hart (inl (inr is)) a' v' = rw is (inr (inr (inr (inr (inr (inr (inl ((refl, (h, small h hart, (a, small a a', (v, small v v', refl))))))))))), (solid_by_test (codes "store2") refl, (solid h hart, (solid a a', (solid v v', tt)))))
 store_says h a width v hart (inr is) a' v' = rw is (inr (inr (inr (inr (inl ((refl, (h, small h hart, (a, small a a', (v, small v v', refl))))))))), (solid_by_test (codes "store") refl, (solid h hart, (solid a a', (solid v v', tt)))))
 
-said_here : (h : ℕ) (e : Entry) → Word h → Fits h e → IsSaid h (Did e) (entry_row e)
-said_here h (entry.Inner g) hart is = rw (← is) (inl ((refl, (h, small h hart, refl))), (solid_by_test (codes "inner") refl, (solid h hart, tt)))
-said_here h (entry.Load g a width v) hart (is, width', a', v') = rw (← is) (load_says h a width v hart width' a' v')
-said_here h (entry.Store g a width v) hart (is, width', a', v') = rw (← is) (store_says h a width v hart width' a' v')
-said_here h (entry.Amo g a old new) hart (is, a', old', new') = rw (← is) (inr (inr (inr (inr (inr (inr (inr (inl ((refl, (h, small h hart, (a, small a a', (old, small old old', (new, small new new', refl))))))))))))), (solid_by_test (codes "amo") refl, (solid h hart, (solid a a', (solid old old', (solid new new', tt))))))
-said_here h (entry.Fence g true) hart is = rw (← is) (inr (inr (inr (inr (inr (inr (inr (inr (inl ((refl, (h, small h hart, (refl, refl)))))))))))), (solid_by_test (codes "fence") refl, (solid h hart, (solid_by_test (codes "full") refl, tt))))
-said_here h (entry.Fence g false) hart is = rw (← is) (inr (inr (inr (inr (inr (inr (inr (inr (inr (inl ((refl, (h, small h hart, (refl, refl))))))))))))), (solid_by_test (codes "fence") refl, (solid h hart, (solid_by_test (codes "part") refl, tt))))
-said_here h (entry.Next g (Some w)) hart (is, w') = rw (← is) (inr (inr (inr (inr (inr (inr (inr (inr (inr (inr (inl ((refl, (h, small h hart, (w, small w w', refl)))))))))))))), (solid_by_test (codes "next") refl, (solid h hart, (solid w w', tt))))
-said_here h (entry.Next g None) hart is = rw (← is) (inr (inr (inr (inr (inr (inr (inr (inr (inr (inr (inr (inl ((refl, (h, small h hart, (refl, refl))))))))))))))), (solid_by_test (codes "next") refl, (solid h hart, (solid_by_test (codes "end") refl, tt))))
-said_here h (entry.Took g i w) hart (is, i', w') = rw (← is) (inr (inr (inr (inr (inr (inr (inr (inr (inr (inr (inr (inr (inl ((refl, (h, small h hart, (i, small i i', (w, small w w', refl))))))))))))))))), (solid_by_test (codes "took") refl, (solid h hart, (solid i i', (solid w w', tt)))))
-said_here h (entry.Closed g i) hart (is, i') = rw (← is) (inr (inr (inr (inr (inr (inr (inr (inr (inr (inr (inr (inr (inr (inl ((refl, (h, small h hart, (i, small i i', refl))))))))))))))))), (solid_by_test (codes "closed") refl, (solid h hart, (solid i i', tt))))
-said_here h (entry.Ended g) hart is = rw (← is) (inr (inr (inr (inr (inr (inr (inr (inr (inr (inr (inr (inr (inr (inr (inl ((refl, (h, small h hart, refl))))))))))))))))), (solid_by_test (codes "ended") refl, (solid h hart, tt)))
-said_here h (entry.Stopped g why) hart is = let n = stop_number why in let again = stop_again why in let n' = again.1 in rw (← is) (inr (inr (inr (inr (inr (inr (inr (inr (inr (inr (inr (inr (inr (inr (inr (inl ((refl, (h, small h hart, (n, small n n', ap (stopped h) again.0))))))))))))))))))), (solid_by_test (codes "stopped") refl, (solid h hart, (solid n n', tt))))
-said_here h (entry.Land g) hart is = rw (← is) (inr (inr (inr (inr (inr (inr (inr (inr (inr (inr (inr (inr (inr (inr (inr (inr (inl ((refl, (h, small h hart, refl))))))))))))))))))), (solid_by_test (codes "land") refl, (solid h hart, tt)))
+said_here : (h : ℕ) (e : Entry) → Word h → Fits h e → HasWords e → IsSaid h (Did e) (entry_row e)
+said_here h (entry.Inner g) hart is words = rw (← is) (inl ((refl, (h, small h hart, refl))), (solid_by_test (codes "inner") refl, (solid h hart, tt)))
+said_here h (entry.Load g a width v) hart (is, width') (a', v') = rw (← is) (load_says h a width v hart width' a' v')
+said_here h (entry.Store g a width v) hart (is, width') (a', v') = rw (← is) (store_says h a width v hart width' a' v')
+said_here h (entry.Amo g a old new) hart is (a', old', new') = rw (← is) (inr (inr (inr (inr (inr (inr (inr (inl ((refl, (h, small h hart, (a, small a a', (old, small old old', (new, small new new', refl))))))))))))), (solid_by_test (codes "amo") refl, (solid h hart, (solid a a', (solid old old', (solid new new', tt))))))
+said_here h (entry.Fence g true) hart is words = rw (← is) (inr (inr (inr (inr (inr (inr (inr (inr (inl ((refl, (h, small h hart, (refl, refl)))))))))))), (solid_by_test (codes "fence") refl, (solid h hart, (solid_by_test (codes "full") refl, tt))))
+said_here h (entry.Fence g false) hart is words = rw (← is) (inr (inr (inr (inr (inr (inr (inr (inr (inr (inl ((refl, (h, small h hart, (refl, refl))))))))))))), (solid_by_test (codes "fence") refl, (solid h hart, (solid_by_test (codes "part") refl, tt))))
+said_here h (entry.Next g (Some w)) hart is w' = rw (← is) (inr (inr (inr (inr (inr (inr (inr (inr (inr (inr (inl ((refl, (h, small h hart, (w, small w w', refl)))))))))))))), (solid_by_test (codes "next") refl, (solid h hart, (solid w w', tt))))
+said_here h (entry.Next g None) hart is words = rw (← is) (inr (inr (inr (inr (inr (inr (inr (inr (inr (inr (inr (inl ((refl, (h, small h hart, (refl, refl))))))))))))))), (solid_by_test (codes "next") refl, (solid h hart, (solid_by_test (codes "end") refl, tt))))
+said_here h (entry.Took g i w) hart is (i', w') = rw (← is) (inr (inr (inr (inr (inr (inr (inr (inr (inr (inr (inr (inr (inl ((refl, (h, small h hart, (i, small i i', (w, small w w', refl))))))))))))))))), (solid_by_test (codes "took") refl, (solid h hart, (solid i i', (solid w w', tt)))))
+said_here h (entry.Closed g i) hart is i' = rw (← is) (inr (inr (inr (inr (inr (inr (inr (inr (inr (inr (inr (inr (inr (inl ((refl, (h, small h hart, (i, small i i', refl))))))))))))))))), (solid_by_test (codes "closed") refl, (solid h hart, (solid i i', tt))))
+said_here h (entry.Ended g) hart is words = rw (← is) (inr (inr (inr (inr (inr (inr (inr (inr (inr (inr (inr (inr (inr (inr (inl ((refl, (h, small h hart, refl))))))))))))))))), (solid_by_test (codes "ended") refl, (solid h hart, tt)))
+said_here h (entry.Stopped g why) hart is words = let n = stop_number why in let again = stop_again why in let n' = again.1 in rw (← is) (inr (inr (inr (inr (inr (inr (inr (inr (inr (inr (inr (inr (inr (inr (inr (inl ((refl, (h, small h hart, (n, small n n', ap (stopped h) again.0))))))))))))))))))), (solid_by_test (codes "stopped") refl, (solid h hart, (solid n n', tt))))
+said_here h (entry.Land g) hart is words = rw (← is) (inr (inr (inr (inr (inr (inr (inr (inr (inr (inr (inr (inr (inr (inr (inr (inr (inl ((refl, (h, small h hart, refl))))))))))))))))))), (solid_by_test (codes "land") refl, (solid h hart, tt)))
 
-pub outcome_says : (h : ℕ) (outcome : Outcome) → Word h → OutcomeFits h outcome → IsSaid h outcome (outcome_row h outcome)
-outcome_says h (Did e) hart fits = said_here h e hart fits
-outcome_says h Waited hart fits = (inr (inr (inr (inr (inr (inr (inr (inr (inr (inr (inr (inr (inr (inr (inr (inr (inr (inl ((refl, (h, small h hart, refl)))))))))))))))))))), (solid_by_test (codes "waited") refl, (solid h hart, tt)))
-outcome_says h NothingToLand hart fits = (inr (inr (inr (inr (inr (inr (inr (inr (inr (inr (inr (inr (inr (inr (inr (inr (inr (inr (inl ((refl, (h, small h hart, refl))))))))))))))))))))), (solid_by_test (codes "nothing") refl, (solid h hart, tt)))
-outcome_says h Over hart fits = (inr (inr (inr (inr (inr (inr (inr (inr (inr (inr (inr (inr (inr (inr (inr (inr (inr (inr (inr (inl ((refl, (h, small h hart, refl)))))))))))))))))))))), (solid_by_test (codes "over") refl, (solid h hart, tt)))
-outcome_says h NoHart hart fits = (inr (inr (inr (inr (inr (inr (inr (inr (inr (inr (inr (inr (inr (inr (inr (inr (inr (inr (inr (inr (inl ((refl, (h, small h hart, refl))))))))))))))))))))))), (solid_by_test (codes "nohart") refl, (solid h hart, tt)))
+pub outcome_says : (h : ℕ) (outcome : Outcome) → Word h → OutcomeFits h outcome → OutcomeHasWords outcome → IsSaid h outcome (outcome_row h outcome)
+outcome_says h (Did e) hart fits words = said_here h e hart fits words
+outcome_says h Waited hart fits words = (inr (inr (inr (inr (inr (inr (inr (inr (inr (inr (inr (inr (inr (inr (inr (inr (inr (inl ((refl, (h, small h hart, refl)))))))))))))))))))), (solid_by_test (codes "waited") refl, (solid h hart, tt)))
+outcome_says h NothingToLand hart fits words = (inr (inr (inr (inr (inr (inr (inr (inr (inr (inr (inr (inr (inr (inr (inr (inr (inr (inr (inl ((refl, (h, small h hart, refl))))))))))))))))))))), (solid_by_test (codes "nothing") refl, (solid h hart, tt)))
+outcome_says h Over hart fits words = (inr (inr (inr (inr (inr (inr (inr (inr (inr (inr (inr (inr (inr (inr (inr (inr (inr (inr (inr (inl ((refl, (h, small h hart, refl)))))))))))))))))))))), (solid_by_test (codes "over") refl, (solid h hart, tt)))
+outcome_says h NoHart hart fits words = (inr (inr (inr (inr (inr (inr (inr (inr (inr (inr (inr (inr (inr (inr (inr (inr (inr (inr (inr (inr (inl ((refl, (h, small h hart, refl))))))))))))))))))))))), (solid_by_test (codes "nohart") refl, (solid h hart, tt)))
 
 pub outcome_read : (event : Event) (words : List (List ℕ)) (outcome : Outcome) → SaysOutcome event words outcome ↔ (event_outcome event (rows_at outcome_rows words) ≡ Some outcome)
 outcome_read event words outcome = go (event_outcome event (rows_at outcome_rows words)) (outcome_settles (at_byte BadOutcome 0) event words)
@@ -102,8 +102,8 @@ outcome_read event words outcome = go (event_outcome event (rows_at outcome_rows
     go None settles = (λ tells. absurd (settles outcome tells), λ e. absurd cc)
     go (Some x) settles = (λ tells. ap (λ (o : Outcome). some o) (sym (settles.1 outcome tells)), λ e. subst (SaysOutcome event words) (some_is x outcome e) settles.0)
 
-pub outcome_again : (event : Event) (outcome : Outcome) → hart_of event < 64 → IsOutcomeOf event outcome → SaysOutcome event (tokens (outcome_text (hart_of event) outcome)) outcome
-outcome_again event outcome hart can = grind (arith, outcome_says, row_again)
+pub outcome_again : (event : Event) (outcome : Outcome) → hart_of event < 64 → IsOutcomeOf event outcome → OutcomeHasWords outcome → SaysOutcome event (tokens (outcome_text (hart_of event) outcome)) outcome
+outcome_again event outcome hart can words = grind (arith, outcome_says, row_again)
 
 -- words are read by how many they are, and by the first
 pub outcome_chain : (name : List ℕ) (words : List (List ℕ)) → rows_at outcome_rows (name ∷ words) ≡ chain_at (of_length (suc (length words)) outcome_rows) name words

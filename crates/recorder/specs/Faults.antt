@@ -1,7 +1,9 @@
--- The numbers by which texts name the faults of schedules.
+-- The numbers by which texts name the faults of schedules, and that a record's run differs.
 use Rattle.std.specs.Prelude.{ℕ}
 use Rattle.recorder.specs.declared.faults.ScheduleFault.{ScheduleFault}
 use Rattle.recorder.specs.declared.faults.ScheduleFault.TheVariants.{BadHead, BadToken, BadHart, BadCount, Truncated, BadOutcome}
+use Rattle.recorder.specs.declared.replaying.CheckError.{CheckError}
+use Rattle.recorder.specs.declared.replaying.CheckError.TheVariants.{NoMemory, Differs}
 
 abbrev pub fault_number : ScheduleFault → ℕ
 fault_number BadHead = 27
@@ -10,3 +12,7 @@ fault_number BadHart = 29
 fault_number BadCount = 30
 fault_number Truncated = 31
 fault_number BadOutcome = 39
+
+abbrev pub check_number : CheckError → ℕ
+check_number NoMemory = 0
+check_number (Differs place) = 38

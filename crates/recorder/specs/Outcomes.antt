@@ -10,7 +10,7 @@ use Rattle.step_machine.specs.declared.events.Entry.TheVariants as entry
 use Rattle.step_machine.specs.declared.events.Outcome.{Outcome}
 use Rattle.step_machine.specs.declared.events.Outcome.TheVariants.{Did, Waited, NothingToLand, Over, NoHart}
 use Rattle.step_machine.specs.contracts.events.OutcomePartialEq.TheImpl as outcome_eq
-use Rattle.step_machine.specs.Entries.{is_land}
+use Rattle.step_machine.specs.Entries.{is_land, hart_of as hart_of_entry}
 use Rattle.texts.specs.Rows.{Row, fixed, any, IsRowOf, Written, plain, number, row_text}
 use Rattle.recorder.specs.Schedule.{hart_of}
 
@@ -133,28 +133,33 @@ IsWidth width = ((width ≡ 1) ⊎ (width ≡ 2)) ⊎ (width ≡ 4)
 abbrev pub Word : ℕ → Type 0
 Word n = n < 2 ^ 32
 
--- an entry of words, of this hart
+-- an entry of this hart, of a width that has a name
 abbrev pub Fits : ℕ → Entry → Type 0
-Fits h (entry.Inner g) = h ≡ g
-Fits h (entry.Load g a width v) = (h ≡ g) × IsWidth width × Word a × Word v
-Fits h (entry.Store g a width v) = (h ≡ g) × IsWidth width × Word a × Word v
-Fits h (entry.Amo g a old new) = (h ≡ g) × Word a × Word old × Word new
-Fits h (entry.Fence g full) = h ≡ g
-Fits h (entry.Next g None) = h ≡ g
-Fits h (entry.Next g (Some w)) = (h ≡ g) × Word w
-Fits h (entry.Took g i w) = (h ≡ g) × Word i × Word w
-Fits h (entry.Closed g i) = (h ≡ g) × Word i
-Fits h (entry.Ended g) = h ≡ g
-Fits h (entry.Stopped g why) = h ≡ g
-Fits h (entry.Land g) = h ≡ g
+Fits h (entry.Load g a width v) = (h ≡ g) × IsWidth width
+Fits h (entry.Store g a width v) = (h ≡ g) × IsWidth width
+Fits h e = h ≡ hart_of_entry e
 
 abbrev pub OutcomeFits : ℕ → Outcome → Type 0
 OutcomeFits h (Did e) = Fits h e
 OutcomeFits h outcome = Unit {0}
 
--- an outcome whose text is read again for the event
+-- an outcome of the event's hart, which the event can have
 abbrev pub IsOutcomeOf : Event → Outcome → Type 0
 IsOutcomeOf event outcome = OutcomeFits (hart_of event) outcome × (may_have event outcome ≡ true)
+
+-- its numbers are words, as those of every entry in a program are
+abbrev pub HasWords : Entry → Type 0
+HasWords (entry.Load h a width v) = Word a × Word v
+HasWords (entry.Store h a width v) = Word a × Word v
+HasWords (entry.Amo h a old new) = Word a × Word old × Word new
+HasWords (entry.Next h (Some w)) = Word w
+HasWords (entry.Took h i w) = Word i × Word w
+HasWords (entry.Closed h i) = Word i
+HasWords other = Unit {0}
+
+abbrev pub OutcomeHasWords : Outcome → Type 0
+OutcomeHasWords (Did e) = HasWords e
+OutcomeHasWords outcome = Unit {0}
 
 -- ---- equal outcomes
 

@@ -1,6 +1,6 @@
 //! Laws of the grammar and of what is written.
 
-ghost use Rattle.std.specs.Prelude.{◌≡◌, ◌≤◌, ◌<◌, ◌↔◌, ◌+◌, ℕ, List, Some, length};
+ghost use Rattle.std.specs.Prelude.{◌≡◌, ◌≤◌, ◌<◌, ◌↔◌, ◌+◌, ℕ, List, All, Some, length};
 ghost use Rattle.std.specs.Result.{IsErr};
 ghost use Rattle.step_machine.specs.declared.events.Event.{Event};
 ghost use Rattle.recorder.specs.Schedule.{hart_of, OfHarts, IsTokensOf};
@@ -12,8 +12,8 @@ ghost use Rattle.step_machine.specs.History.{Start, History};
 ghost use Rattle.step_machine.specs.Runs.{Run};
 ghost use Rattle.recorder.specs.Replaying.{IsRunRecord, DiffersAt};
 ghost use Rattle.recorder.specs.Writing.{is_same, tokens_of};
-ghost use Rattle.recorder.specs.Outcomes.{outcome_rows, outcome_text, event_outcome, SaysOutcome, IsOutcomeOf};
-ghost use Rattle.recorder.specs.Records.{Step, events_in, IsRecordOf, record_at};
+ghost use Rattle.recorder.specs.Outcomes.{outcome_rows, outcome_text, event_outcome, SaysOutcome, IsOutcomeOf, OutcomeHasWords};
+ghost use Rattle.recorder.specs.Records.{Step, events_in, IsRecordOf, record_at, is_same_step, CanBeWritten};
 ghost use Rattle.recorder.specs.Versions.{Said, Says, said_at};
 ghost use Rattle.recorder.specs.declared.reading.TheConstants.{MAX_EVENTS};
 ghost use Rattle.step_machine.specs.declared.opening.TheConstants.{MAX_HARTS};
@@ -39,11 +39,15 @@ pub fn refused_without_value()
 {}
 
 /// The runs that are written for some events are those events, and no two of them could be one; there
-/// is one such list of runs only. It does nothing.
+/// is one such list of runs only. The same holds of a record's runs, of events with their outcomes. It does
+/// nothing.
 pub fn longest_runs()
     ensures same { (events : List Event) → expanded (runs_of is_same events) ≡ events }
     ensures longest { (events : List Event) → AreLongest (runs_of is_same events) }
     ensures one { (runs : List (Event × ℕ)) → AreLongest runs → runs_of is_same (expanded runs) ≡ runs }
+    ensures record_same { (steps : List Step) → expanded (runs_of is_same_step steps) ≡ steps }
+    ensures record_longest { (steps : List Step) → AreLongest (runs_of is_same_step steps) }
+    ensures record_one { (runs : List (Step × ℕ)) → AreLongest runs → runs_of is_same_step (expanded runs) ≡ runs }
 {}
 
 /// The tokens that are written for some events stand for these events. It does nothing.
@@ -56,7 +60,7 @@ pub fn tokens_are_read_again()
 /// 4 and of words, says this outcome; words are read as an outcome exactly where they say it. It does
 /// nothing.
 pub fn outcomes_are_read_again()
-    ensures again { (event : Event) (outcome : Outcome) → hart_of event < MAX_HARTS → IsOutcomeOf event outcome → SaysOutcome event (tokens (outcome_text (hart_of event) outcome)) outcome }
+    ensures again { (event : Event) (outcome : Outcome) → hart_of event < MAX_HARTS → IsOutcomeOf event outcome → OutcomeHasWords outcome → SaysOutcome event (tokens (outcome_text (hart_of event) outcome)) outcome }
     ensures read { (event : Event) (words : List (List ℕ)) (outcome : Outcome) → SaysOutcome event words outcome ↔ (event_outcome event (rows_at outcome_rows words) ≡ Some outcome) }
 {}
 
@@ -64,4 +68,12 @@ pub fn outcomes_are_read_again()
 pub fn records_are_runs()
     ensures runs { (B M : ℕ) (o : Start) (steps : List Step) (history : History) → IsRunRecord B M o steps history → Run B M o (events_in steps) history }
     ensures no_other { (B M : ℕ) (o : Start) (steps : List Step) (history : History) (place : ℕ) → IsRunRecord B M o steps history → ¬ DiffersAt B M o steps place }
+{}
+
+/// The steps of a record's text can be written, and so can those of a run's record, where its events are of
+/// harts below 64: [`crate::write_record`] then writes a record of them. It does nothing.
+pub fn records_can_be_written()
+    ensures texts { (text : List ℕ) (steps : List Step) → IsRecordOf text steps → All CanBeWritten steps }
+    ensures few { (text : List ℕ) (steps : List Step) → IsRecordOf text steps → length steps ≤ MAX_EVENTS }
+    ensures runs { (B M : ℕ) (o : Start) (steps : List Step) (history : History) → IsRunRecord B M o steps history → OfHarts (events_in steps) → All CanBeWritten steps }
 {}

@@ -12,6 +12,7 @@ ghost use Rattle.texts.specs.Runs.{runs_of};
 ghost use Rattle.texts.specs.declared.errors.TextError.TheVariants.{Refused};
 ghost use Rattle.recorder.specs.declared.faults.ScheduleFault.TheVariants.{BadHead};
 ghost use Rattle.recorder.specs.Schedule.{OfHarts};
+ghost use Rattle.recorder.specs.Outcomes.{OutcomeHasWords};
 ghost use Rattle.recorder.specs.Reading.{has_head, Pushes};
 ghost use Rattle.recorder.specs.Records.{Step, events_in, ends_early, steps_at, records_from, record_head, record_at, IsRecordOf, is_same_step, record_line, record_text, CanBeWritten};
 
@@ -158,9 +159,15 @@ fn push_record_line(
     push_outcome_line(out, event, outcome)
 }
 
-/// The lines of the steps.
+/// Each number of an outcome is a word, as its type says. It does nothing.
+fn numbers_are_words(outcome: Outcome)
+    ensures { OutcomeHasWords outcome }
+{}
+
+/// The lines of the steps, and that their numbers are words.
 fn lines(alloc: Global, steps: &[(Event, Outcome)]) -> Result<String, AllocError>
-    ensures { IfOk result (λ text. string_bytes text ≡ flat_map record_line (runs_of is_same_step steps.now)) }
+    ensures lines { IfOk result (λ text. string_bytes text ≡ flat_map record_line (runs_of is_same_step steps.now)) }
+    ensures words { IfOk result (λ _. All (λ step. OutcomeHasWords step.1) steps.now) }
 {
     let mut text = String::new(alloc);
     let Some(first) = steps.first() else {
@@ -169,6 +176,7 @@ fn lines(alloc: Global, steps: &[(Event, Outcome)]) -> Result<String, AllocError
     let mut step = *first;
     let mut times = 0;
     for next in steps {
+        numbers_are_words(next.1);
         let goes_on = are_same(step, *next);
         if goes_on {
             times += 1;
@@ -186,7 +194,8 @@ fn lines(alloc: Global, steps: &[(Event, Outcome)]) -> Result<String, AllocError
 /// with equal outcomes. Words have one space between them, numbers no leading zeros, and lines end with LF.
 ///
 /// It is read as these steps again where they are at most [`MAX_EVENTS`], of harts below 64, and each
-/// event can have its outcome, which speaks of the event's hart, of widths 1, 2 and 4 alone, and of words.
+/// event can have its outcome, which speaks of the event's hart and of widths 1, 2 and 4 alone. So are the
+/// steps of a text and of a run ([`crate::records_can_be_written`]).
 pub fn write_record(alloc: Global, steps: &[(Event, Outcome)]) -> Result<String, AllocError>
     ensures canonical { IfOk result (λ text. string_bytes text ≡ record_text steps.now) }
     ensures again { All CanBeWritten steps.now → length steps.now ≤ MAX_EVENTS → IfOk result (λ text. IsRecordOf (string_bytes text) steps.now) }

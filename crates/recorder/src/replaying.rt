@@ -9,6 +9,7 @@ ghost use Rattle.recorder.specs.Replaying.{IsRunRecord, DiffersAt, Differs as Sa
 use std::alloc::{AllocError, Global};
 use step_machine::events::{Event, Outcome};
 use step_machine::{Machine, Opening};
+use texts::Numbered;
 use thiserror::Error;
 
 /// The machine that these events make of the opening, one after the other.
@@ -48,6 +49,20 @@ impl From<AllocError> for CheckError {
 
     fn from(_error: AllocError) -> CheckError {
         CheckError::NoMemory
+    }
+}
+
+/// The number of what went wrong: 38 where an outcome differs, and 0 where memory ran out.
+impl Numbered for CheckError {
+    ghost use Rattle.recorder.specs.Faults.{check_number};
+
+    ghost number = { check_number };
+
+    fn number(self) -> u8 {
+        match self {
+            CheckError::NoMemory => 0,
+            CheckError::Differs { .. } => 38,
+        }
     }
 }
 
