@@ -8,15 +8,14 @@ use Rattle.std.proofs.lemmas.Slice.Zip.{all_zipped_more}
 use Rattle.std.proofs.lemmas.List.Folds.{list_any-from_Any}
 use Rattle.step_machine.specs.declared.events.Entry.{Entry}
 use Rattle.step_machine.specs.History.{Start}
-use Rattle.hart_threads.specs.Seats.{SeatView}
+use Rattle.hart_threads.specs.Seats.{SeatView, Continues}
 use Rattle.hart_threads.specs.Missing.{is_missing, IsFirst, IsComplete, sits_at, acts_for, lands_for}
-use Rattle.hart_threads.specs.Parts.{Fits, Merge, Belongs}
+use Rattle.hart_threads.specs.Parts.{Fits, Merge}
 use Rattle.hart_threads.specs.Records.{Refuses}
-use Rattle.hart_threads.specs.Returns.{GrowsInto, IsMerged, CanBelong, Fails}
+use Rattle.hart_threads.specs.Returns.{GrowsInto, IsMerged, Fails}
 use Rattle.hart_threads.specs.Faults.{fault_of}
 use Rattle.hart_threads.specs.declared.record.Gather.{Gather}
 use Rattle.hart_threads.specs.declared.record.Gather.TheVariants as gather
-use Rattle.hart_threads.specs.inner.Threads.{Continues}
 use Rattle.hart_threads.proofs.FirstMissing.{missing_past}
 
 -- ---- two lists, element by element
@@ -124,9 +123,6 @@ grown n es s t on fits = grind arith
 pub merged_from : (n : ℕ) (o : Start) (es : List Entry) (given back : List SeatView) → IsComplete (length o.harts) given → AllZip (Continues n) given back → Merge (length o.harts) es back → IsMerged n o es given
 merged_from n o es given back complete come merge = record { complete = complete; parts = zip_left (Continues n) (Fits es) (GrowsInto n es) (grown n es) given back come merge.fit }
 
-can_belong : (M n : ℕ) (o : Start) (us : List Entry) (h : ℕ) (s t : SeatView) → Continues n s t → (t.hart < h → Belongs M o us t) → s.hart < h → CanBelong M n o us s
-can_belong M n o us h s t on good low = grind arith
-
 -- a refusal to gather the seats that come back
 pub fails_from : (B M n : ℕ) (o : Start) (given back : List SeatView) (e : Gather) → IsComplete (length o.harts) given → AllZip (Continues n) given back → Refuses B M o back e → Fails B M n o given (fault_of e)
 fails_from B M n o given back gather.NoMemory complete come why = complete
@@ -138,7 +134,7 @@ fails_from B M n o given back (gather.Mismatch h es) complete come why =
     record {
       complete = complete;
       within = subst (λ (k : ℕ). k < length o.harts) bad.2 (All-contains (λ (s : SeatView). s.hart < length o.harts) back bad.0 all bad.1);
-      legal = why.legal;
-      memory = why.memory;
-      below = zip_left (Continues n) (λ (t : SeatView). t.hart < h → Belongs M o es.items t) (λ (s : SeatView). s.hart < h → CanBelong M n o es.items s) (can_belong M n o es.items h) given back come why.misfit.below;
+      back = back;
+      come = come;
+      refused = why;
     }

@@ -9,7 +9,7 @@ use Rattle.step_machine.specs.declared.events.Entry.{Entry}
 use Rattle.step_machine.specs.History.{HartStart, Start, History}
 use Rattle.step_machine.specs.Entries.{own}
 use Rattle.step_machine.specs.Paths.{after_entries, opens_as, state_of}
-use Rattle.hart_threads.specs.Seats.{SeatView, AsksBank, state_in}
+use Rattle.hart_threads.specs.Seats.{SeatView, AsksBank, Continues, state_in}
 use Rattle.hart_threads.specs.Missing.{IsComplete}
 use Rattle.hart_threads.specs.Parts.{Fits, Merge, IsLeast, landings}
 use Rattle.hart_threads.specs.GettingOn.{GetsOn, AllGetOn, OpensAs}
@@ -17,7 +17,7 @@ use Rattle.hart_threads.specs.GettingOn.GetsOn.{over, goes, waits}
 use Rattle.hart_threads.specs.declared.turns.Ending.{Ending}
 use Rattle.hart_threads.specs.declared.turns.Calls.{Calls}
 use Rattle.hart_threads.specs.declared.turns.Ending.TheVariants as ending
-use Rattle.hart_threads.specs.inner.Threads.{Continues, Ran, WhereDone, GotOn, IsOver, MayHaveWaited}
+use Rattle.hart_threads.specs.inner.Threads.{Ran, WhereDone, GotOn, IsOver, MayHaveWaited}
 use Rattle.hart_threads.specs.Diaries.{acting_diary}
 use Rattle.hart_threads.proofs.Coming.{zip_right, zip_after, harts_within}
 use Rattle.hart_threads.proofs.Gathering.{Acting, its_acting, role_of, number_of}

@@ -1,18 +1,17 @@
 -- What running harts on threads answers, by the seats that were given.
 use Rattle.std.specs.Prelude.{ℕ, ◌≡◌, ◌≤◌, ◌<◌, ◌⊎◌, List, ◌++◌, length, All, IsSomeAnd}
+use Rattle.std.specs.List.{AllZip}
 use Rattle.step_machine.specs.declared.events.Entry.{Entry}
-use Rattle.step_machine.specs.History.{Start, history_of}
-use Rattle.step_machine.specs.Legal.{Legal}
+use Rattle.step_machine.specs.History.{Start}
 use Rattle.step_machine.specs.Paths.{state_of}
-use Rattle.step_machine.specs.Placing.{IsMemory}
 use Rattle.poll_close.specs.Layout.{Layout}
 use Rattle.poll_close.specs.Laws.{Ring, opening_of, opening_over, Accepted, AcceptedAt}
 use Rattle.poll_close.specs.Refusals as refusals
 use Rattle.poll_close.specs.declared.faults.Refused.TheVariants.{NoMemory}
-use Rattle.hart_threads.specs.Seats.{SeatView, AsksBank, seats_of}
+use Rattle.hart_threads.specs.Seats.{SeatView, AsksBank, Continues, seats_of}
 use Rattle.hart_threads.specs.Missing.{is_missing, IsFirst, IsComplete}
-use Rattle.hart_threads.specs.Parts.{part_of, Belongs}
-use Rattle.hart_threads.specs.Records.{IsRecord}
+use Rattle.hart_threads.specs.Parts.{part_of}
+use Rattle.hart_threads.specs.Records.{IsRecord, IsMismatch}
 use Rattle.hart_threads.specs.GettingOn.{OpensAs}
 use Rattle.hart_threads.specs.declared.record.Record.{Record}
 use Rattle.hart_threads.specs.declared.fault.Fault.{Fault}
@@ -33,8 +32,9 @@ pub record IsMerged (n : ℕ) (o : Start) (es : List Entry) (given : List SeatVi
   pub complete : IsComplete (length o.harts) given
   pub parts : All (GrowsInto n es) given
 
--- an act of hart h, the least such hart, found no such hart in the bank, though the seats make a record, at
--- whose end hart h asks the bank
+-- An act of hart h, one of the opening's, found no such hart in the bank, though the seats make a record. What a
+-- contract can say of that is in the record: at its end hart h is over or asks for memory next. That no lesser
+-- hart was lost isn't in it, since no contract sees what the bank answered.
 pub record IsLost (B M n : ℕ) (o : Start) (given : List SeatView) (h : ℕ) : Type 0 where
   pub within : h < length o.harts
   pub made : Record B M
@@ -42,20 +42,14 @@ pub record IsLost (B M n : ℕ) (o : Start) (given : List SeatView) (h : ℕ) : 
   pub merge : IsMerged n o made.trace.entries given
   pub asks : All (OpensAs M o) given → IsSomeAnd (state_of M made.trace h) AsksBank
 
--- with at most n entries more in its diary the seat belongs to these memory entries
-pub record CanBelong (M n : ℕ) (o : Start) (us : List Entry) (s : SeatView) : Type 0 where
-  pub more : List Entry
-  pub few : length more ≤ n
-  pub belongs : Belongs M o us (record s { diary = s.diary ++ more })
-
--- the seats are all there, these memory entries are legal over the opening, and the seats of harts below
--- hart h belong to them as they come back
+-- The seats are all there. They come back, each with at most n entries more in its diary, and gathering those is
+-- refused: of hart h, the least such hart, a diary doesn't belong to these memory entries.
 pub record IsMismatched (B M n : ℕ) (o : Start) (given : List SeatView) (h : ℕ) (us : List Entry) : Type 0 where
   pub complete : IsComplete (length o.harts) given
   pub within : h < length o.harts
-  pub legal : Legal B (history_of o us)
-  pub memory : All IsMemory us
-  pub below : All (λ s. s.hart < h → CanBelong M n o us s) given
+  pub back : List SeatView
+  pub come : AllZip (Continues n) given back
+  pub refused : IsMismatch B M o back h us
 
 -- why there is no record after n turns or less; where a seat is missing, that is the answer
 abbrev pub Fails : ℕ → ℕ → ℕ → Start → List SeatView → Fault → Type 0

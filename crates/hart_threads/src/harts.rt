@@ -2,7 +2,7 @@
 
 ghost use Rattle.std.specs.Prelude.{◌≡◌, ◌≤◌, ◌<◌, ℕ, [], true, false, length, map, All, MatchBool, Err, IfOk, IfErr, vec_len, vec_capacity};
 ghost use Rattle.std.specs.List.{AllZip, HoldsAt};
-ghost use Rattle.hart_threads.specs.Missing.{is_missing, IsFirst};
+ghost use Rattle.hart_threads.specs.Missing.{is_missing, IsComplete, IsFirst};
 ghost use Rattle.hart_threads.specs.Records.{IsRecord};
 ghost use Rattle.hart_threads.specs.GettingOn.{AllGetOn, OpensAs};
 ghost use Rattle.hart_threads.specs.Returns.{IsMerged, Fails};
@@ -19,11 +19,18 @@ use crate::record::Record;
 use crate::seat::Seat;
 use crate::shared::Shared;
 use crate::turns::{Ending, Returned, turns_of};
-use std::alloc::Global;
+use std::alloc::{AllocError, Global};
 use std::snapshot::Snapshot;
 use std::sync::Wait;
 use std::thread;
 use std::thread::{Promise, PromisedHandle, Scope, Threads};
+
+/// Room for the threads' handles, for what they return, and for the seats that they bring back.
+type Rooms<G, const M: usize> = (
+    Vec<PromisedHandle<Returned<M>, Pledge<G, M>>>,
+    Vec<Returned<M>>,
+    Vec<Seat<M>>,
+);
 
 /// What a thread makes of the seat that it is given, with this gate and this many turns.
 #[derive(Drop)]
@@ -149,6 +156,56 @@ fn least_lost<const M: usize>(back: &[Returned<M>]) -> Option<u32>
     least
 }
 
+/// The rooms that threads for this many seats need: for their handles, for what they return, and for the seats.
+fn make_rooms<G: Gate, const M: usize>(
+    alloc: Global,
+    count: usize,
+) -> Result<Rooms<G, M>, AllocError>
+    ensures handles { IfOk result (λ r. (r.0.items ≡ []) × (count ≤ vec_capacity r.0)) }
+    ensures back { IfOk result (λ r. (r.1.items ≡ []) × (count ≤ vec_capacity r.1)) }
+    ensures seats { IfOk result (λ r. (r.2.items ≡ []) × (count ≤ vec_capacity r.2)) }
+{
+    let handles = Vec::with_capacity(alloc, count)?;
+    let back = Vec::with_capacity(alloc, count)?;
+    let seats = Vec::with_capacity(alloc, count)?;
+    Ok((handles, back, seats))
+}
+
+/// Runs a thread for each seat to its end, where the seats are all there: what each returns, and a vector with
+/// room for their seats. All room is made before a thread starts, so that each seat that comes back has its place.
+fn run_seats<G: Gate + Sync, R: Threads + Wait + Sync, const B: usize, const M: usize>(
+    rt: &R,
+    alloc: Global,
+    shared: &Shared<B, M>,
+    seats: Vec<Seat<M>>,
+    gate: &G,
+    turns: u32,
+) -> Result<(Vec<Returned<M>>, Vec<Seat<M>>), Fault>
+    ensures missing { (h : ℕ) → IsFirst (is_missing (length shared.now.harts) seats.entry.items) h → result ≡ Err (Fault.Missing h) }
+    ensures fault { IfErr result (Fails B M turns shared.now seats.entry.items) }
+    ensures complete { IfOk result (λ r. IsComplete (length shared.now.harts) seats.entry.items) }
+    ensures ran { IfOk result (λ r. AllZip (λ s x. Ran (G.is_open gate.now) turns s x.1 x.2 x.0.seat) seats.entry.items r.0.items) }
+    ensures found { IfOk result (λ r. All (λ x. x.1 ≡ ending.NoMemory → ⊥) r.0.items) }
+    ensures room { IfOk result (λ r. (r.1.items ≡ []) × (vec_len r.0 ≤ vec_capacity r.1)) }
+{
+    if let Some(hart) = first_missing(shared.harts(), seats.as_slice()) {
+        spend(seats);
+        return Err(Fault::Missing { hart });
+    }
+    let held = hold(alloc, seats)?;
+    let (handles, back, room) = make_rooms(alloc, held.len())?;
+    let (back, started) = run_all(rt, shared, gate, turns, held, handles, back);
+    if !started {
+        room.destroy_empty();
+        return Err(Fault::NoThread);
+    }
+    if lacked_memory(back.as_slice()) {
+        room.destroy_empty();
+        return Err(Fault::NoMemory);
+    }
+    Ok((back, room))
+}
+
 /// Runs each seat on a thread of its own, waits for all of them and gathers what they did.
 ///
 /// A turn of a hart's thread is one question to the gate, by the turn's number from 1, and one instruction:
@@ -172,30 +229,9 @@ pub fn run_harts<G: Gate + Sync, R: Threads + Wait + Sync, const B: usize, const
     ensures merge { IfOk result (λ r. IsMerged turns shared.entry r.trace.entries seats.entry.items) }
     ensures gets_on { G.is_open gate.now → All (OpensAs M shared.entry) seats.entry.items → IfOk result (λ r. AllGetOn turns M r.trace) }
 {
-    if let Some(hart) = first_missing(shared.harts(), seats.as_slice()) {
-        spend(seats);
-        return Err(Fault::Missing { hart });
-    }
-    // all room is made before a thread starts, so that each seat that comes back has its place
-    let held = hold(alloc, seats)?;
-    let handles = Vec::with_capacity(alloc, held.len())?;
-    let back = Vec::with_capacity(alloc, held.len())?;
-    let Ok(seats) = Vec::with_capacity(alloc, held.len()) else {
-        return Err(Fault::NoMemory);
-    };
-    let (back, started) = run_all(rt, &shared, gate, turns, held, handles, back);
-    let lacked = lacked_memory(back.as_slice());
+    let (back, room) = run_seats(rt, alloc, &shared, seats, gate, turns)?;
     let lost = least_lost(back.as_slice());
-    let seats = release_all(back, seats);
-    if !started {
-        spend(seats);
-        return Err(Fault::NoThread);
-    }
-    if lacked {
-        spend(seats);
-        return Err(Fault::NoMemory);
-    }
-    let record = shared.gather(alloc, seats)?;
+    let record = shared.gather(alloc, release_all(back, room))?;
     match lost {
         Some(hart) => Err(Fault::Missing { hart }),
         None => Ok(record),

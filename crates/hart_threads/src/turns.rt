@@ -1,8 +1,8 @@
 //! What one thread does with its seat.
 
 ghost use Rattle.std.specs.Prelude.{◌≡◌, ◌<◌, ◌≤◌, ◌+◌, ◌-◌, ◌^◌, true, false, IfOk, IsSomeAnd};
-ghost use Rattle.hart_threads.specs.Seats.{SeatView, Answers, AsksBank, Notes, state_in};
-ghost use Rattle.hart_threads.specs.inner.Threads.{ActsAlone, Continues, GotOn, IsEnding, Ran, WhereDone, ending_by, ending_of, last_answer, no_calls};
+ghost use Rattle.hart_threads.specs.Seats.{SeatView, Answers, AsksBank, Continues, Notes, state_in};
+ghost use Rattle.hart_threads.specs.inner.Threads.{ActsAlone, GotOn, IsEnding, Ran, WhereDone, ending_by, ending_of, last_answer, no_calls};
 ghost use Rattle.hart_threads.specs.declared.turns.Ending.TheVariants.{HeldBack, NoHart};
 
 use crate::gate::Gate;

@@ -8,7 +8,7 @@ use Rattle.step_machine.specs.Paths.{entry_of}
 use Rattle.step_machine.specs.declared.events.Entry.{Entry}
 use Rattle.step_machine.specs.declared.events.Outcome.{Outcome}
 use Rattle.step_machine.specs.declared.events.Outcome.TheVariants as outcome
-use Rattle.hart_threads.specs.Seats.{SeatView, AsksBank, state_in, may_wait}
+use Rattle.hart_threads.specs.Seats.{SeatView, AsksBank, Continues, state_in, may_wait}
 use Rattle.hart_threads.specs.declared.turns.Ending.{Ending}
 use Rattle.hart_threads.specs.declared.turns.Ending.TheVariants as ending
 use Rattle.hart_threads.specs.declared.turns.Calls.{Calls}
@@ -46,12 +46,6 @@ abbrev pub ActsAlone : ℕ → HartState → Outcome → Type 0
 ActsAlone h s o = s.status ≡ status.Running → asks_memory (need_of s) ≡ false → o ≡ outcome.Did (entry_of h (need_of s) 0)
 
 -- ---- the seat
-
--- t is the seat s with at most n entries more in its diary
-pub record Continues (n : ℕ) (s t : SeatView) : Type 0 where
-  pub more : List Entry
-  pub few : length more ≤ n
-  pub is : t ≡ record s { diary = s.diary ++ more }
 
 -- the seat's hart has ended or stopped
 abbrev pub IsOver : SeatView → Type 0

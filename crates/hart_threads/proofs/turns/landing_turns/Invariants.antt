@@ -1,5 +1,5 @@
 use Rattle.std.proofs.Common.{◌≡◌, ◌-◌, ◌≤◌, false}
-use Rattle.hart_threads.specs.inner.Threads.{Continues}
+use Rattle.hart_threads.specs.Seats.{Continues}
 use Rattle.hart_threads.proofs.turns.landing_turns.Given as goal
 
 abbrev pub invariant-loop-calls : goal.invariant-loop-calls
