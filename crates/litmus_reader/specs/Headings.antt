@@ -1,5 +1,5 @@
 -- A test's name and the text of its condition, as pictures of its runs show them.
-use Rattle.std.specs.Prelude.{◌≡◌, ℕ, ◌==◌, ◌||◌, nat_lt, if◌then◌else◌, ◌++◌, List, [], ◌∷◌, length, Option, Some, None, Result, Ok, Err, codes, unwrap_or}
+use Rattle.std.specs.Prelude.{◌≡◌, ℕ, ◌==◌, ◌||◌, nat_lt, if◌then◌else◌, ◌++◌, List, [], ◌∷◌, length, Option, Some, None, Result, Ok, Err, codes}
 use Rattle.std.specs.List.{filter, join_with_byte, slice_index_or}
 use Rattle.texts.specs.declared.pieces.Separators.TheVariants.{Gaps}
 use Rattle.texts.specs.Pieces.{pieces}

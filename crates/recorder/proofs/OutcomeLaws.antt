@@ -1,9 +1,11 @@
 -- The texts of outcomes: what is read of words, against what they say, and what is written, read again.
-use Rattle.std.proofs.Common.{◌≡◌, ◌↔◌, inl, inr, ℕ, ◌<◌, ◌==◌, Bool, true, false, cond, ◌&&◌, List, [], ◌∷◌, length, map, suc, Option, Some, None, refl, sym, ap, subst, ◌∙◌, arith, rules}
+use Rattle.std.proofs.Common.{◌≡◌, ◌↔◌, inl, inr, ℕ, ◌<◌, ◌≤◌, ◌==◌, Bool, true, false, cond, ◌&&◌, List, [], ◌∷◌, ◌++◌, length, map, take, append_assoc, suc, Option, Some, None, refl, sym, ap, subst, ◌∙◌, arith, rules}
 use Rattle.std.specs.Prelude.{codes, Decides}
 use Rattle.std.specs.Fmt.{decimal}
 use Rattle.std.specs.Str.{bytes_eq}
+use Rattle.std.specs.List.{flat_map}
 use Rattle.std.proofs.lemmas.Bool.{and_parts, eqb-true, eq-eqb}
+use Rattle.std.proofs.lemmas.List.{append-nil, take_all}
 use Rattle.std.proofs.lemmas.Slice.Eq.{bytes_eq-Decides}
 use Rattle.hart.specs.declared.status.Stop.{Stop}
 use Rattle.hart.specs.Steps.{stop_number}
@@ -15,7 +17,7 @@ use Rattle.step_machine.specs.declared.events.Outcome.TheVariants.{Did, Waited, 
 use Rattle.texts.specs.Numbers.{SaysWord, word_of}
 use Rattle.texts.specs.Cutting.{tokens}
 use Rattle.texts.specs.Formats.{Settles, or_fault}
-use Rattle.texts.specs.Rows.{IsRowOf, rows_at, of_length, chain_at, are_apart, Written, word_text}
+use Rattle.texts.specs.Rows.{IsRowOf, rows_at, of_length, chain_at, are_apart, Written, plain, number, word_text, row_text}
 use Rattle.texts.proofs.ResultLaws.{some, some_is}
 use Rattle.texts.proofs.RowLaws.{rows_settle, rows_of_length, rows_by_name, Solid, AreSolid, decimal_says, decimal_solid, solid_by_test, row_again}
 use Rattle.recorder.specs.declared.faults.AtByte.{AtByte}
@@ -109,9 +111,27 @@ outcome_again event outcome hart can words = grind (arith, outcome_says, row_aga
 pub outcome_chain : (name : List ℕ) (words : List (List ℕ)) → rows_at outcome_rows (name ∷ words) ≡ chain_at (of_length (suc (length words)) outcome_rows) name words
 outcome_chain name words = rows_of_length outcome_rows (name ∷ words) ∙ rows_by_name (of_length (suc (length words)) outcome_rows) name words
 
+-- one word says nothing
+pub outcome_alone : (name : List ℕ) → rows_at outcome_rows (name ∷ []) ≡ None
+outcome_alone name = outcome_chain name []
+
 pub end_is_no_number : (word : List ℕ) → bytes_eq word (codes "end") ≡ true → word_of word ≡ None
 unfolding word_of
 end_is_no_number word e = let is : word ≡ codes "end" = (bytes_eq-Decides word (codes "end")).0 e in rw is refl
+
+-- ---- a name and numbers
+
+-- a number, and the space (32) before it
+abbrev pub number_text : ℕ → List ℕ
+number_text n = 32 ∷ decimal n
+
+row-numbers : (word : Written) (numbers : List ℕ) → row_text (word ∷ map number numbers) ≡ word_text word ++ flat_map number_text numbers
+row-numbers word [] = sym (append-nil (word_text word))
+row-numbers word (n ∷ numbers) = ap (λ (rest : List ℕ). word_text word ++ 32 ∷ rest) (row-numbers (number n) numbers)
+
+pub numbers_written : (old name text new : List ℕ) (numbers : List ℕ) (n : ℕ) → length numbers ≤ n → text ≡ old ++ name ++ flat_map number_text (take n numbers)
+    → new ≡ text ++ 10 ∷ [] → new ≡ old ++ (row_text (plain name ∷ map number numbers) ++ 10 ∷ [])
+numbers_written old name text new numbers n past so_far written = rw (row-numbers (plain name) numbers) (grind (arith, take_all, append_assoc))
 
 -- ---- equal outcomes
 

@@ -1,7 +1,7 @@
 //! Replaying schedules, and checking records as they are replayed.
 
-ghost use Rattle.std.specs.Prelude.{◌≡◌, ◌≤◌, ◌↔◌, IsTrue, IfOk, IfErr};
-ghost use Rattle.step_machine.specs.History.{FitsIn};
+ghost use Rattle.std.specs.Prelude.{◌≡◌, ◌≤◌, ◌↔◌, IsTrue, IfOk, IfErr, OnOk};
+ghost use Rattle.step_machine.specs.History.{FitsIn, unrun};
 ghost use Rattle.step_machine.specs.Runs.{Run};
 ghost use Rattle.recorder.specs.Outcomes.{is_same_outcome};
 ghost use Rattle.recorder.specs.Replaying.{IsRunRecord, DiffersAt, Differs as SaysDiffers};
@@ -74,10 +74,29 @@ pub(crate) fn are_same_outcomes(outcome: Outcome, other: Outcome) -> bool
     outcome == other
 }
 
+/// Does the steps of a record on a machine that stands at its opening, as [`replay_checked`] does. It owns
+/// no machine, so that its ways out drop none.
+fn do_steps<const B: usize, const M: usize>(
+    machine: &mut Machine<B, M>,
+    steps: &[(Event, Outcome)],
+) -> Result<(), CheckError>
+    requires { machine.old.history ≡ unrun machine.old.history.opening }
+    ensures checked { OnOk result (IsRunRecord B M machine.old.history.opening steps.now machine.new.history) }
+    ensures differs { IfErr result (SaysDiffers (DiffersAt B M machine.old.history.opening steps.now)) }
+{
+    for (place, step) in steps.iter().enumerate() {
+        let (event, said) = *step;
+        let outcome = machine.step(event)?;
+        if !are_same_outcomes(outcome, said) {
+            return Err(CheckError::Differs { event: place });
+        }
+    }
+    Ok(())
+}
+
 /// The machine that the events of a record make of the opening, one after the other, where each has the
 /// outcome that the record says. Else the first whose outcome is another one is answered by its place,
 /// and the machine is given up.
-#[tactic(auto, using(crate::proofs::RunRecords::checked_more))]
 pub fn replay_checked<const B: usize, const M: usize>(
     alloc: Global,
     opening: Opening,
@@ -92,12 +111,6 @@ pub fn replay_checked<const B: usize, const M: usize>(
     ensures differs { IfErr result (SaysDiffers (DiffersAt B M opening steps.now)) }
 {
     let mut machine = Machine::open(alloc, opening)?;
-    for (place, step) in steps.iter().enumerate() {
-        let (event, said) = *step;
-        let outcome = machine.step(event)?;
-        if !are_same_outcomes(outcome, said) {
-            return Err(CheckError::Differs { event: place });
-        }
-    }
+    do_steps::<B, M>(&mut machine, steps)?;
     Ok(machine)
 }
