@@ -5,7 +5,7 @@ use Rattle.engine_parts.specs.Histories.{AnswersRun, Runs}
 use Rattle.engine_parts.specs.inner.Making.{text_and_value}
 use Rattle.engine_parts.proofs.ScheduleLaws.{stopped_by}
 use Rattle.ztso_engines.specs.Run.{IsJudged}
-use Rattle.ztso_engines.proofs.run.answer.Goals as goal
+use Rattle.ztso_engines.proofs.run.RunScheduleCommand.answer.Goals as goal
 
 pub returns : goal.returns
 returns g c =

@@ -8,7 +8,7 @@ use Rattle.engine_parts.specs.Histories.{AnswersRun, Runs}
 use Rattle.engine_parts.specs.inner.Making.{text_and_value}
 use Rattle.engine_parts.proofs.ScheduleLaws.{stopped_by}
 use Rattle.ztso_engines.specs.Replay.{IsReplay}
-use Rattle.ztso_engines.proofs.replay.answer.Goals as goal
+use Rattle.ztso_engines.proofs.replay.ReplayScheduleCommand.answer.Goals as goal
 
 pub returns : goal.returns
 returns g c = record {

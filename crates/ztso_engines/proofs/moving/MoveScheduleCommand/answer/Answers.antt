@@ -6,7 +6,7 @@ use Rattle.engine_parts.specs.Histories.{Records}
 use Rattle.engine_parts.specs.inner.Making.{text_and_value}
 use Rattle.engine_parts.proofs.ScheduleLaws.{stopped_by}
 use Rattle.ztso_engines.specs.Move.{IsMoved}
-use Rattle.ztso_engines.proofs.moving.answer.Goals as goal
+use Rattle.ztso_engines.proofs.moving.MoveScheduleCommand.answer.Goals as goal
 
 pub returns : goal.returns
 returns g c = (c.in_ok-steps.steps.items, c.in_ok-steps.ensures, rw c.deref.ensures.value at c.in_ok-text.ensures.canonical)
