@@ -17,10 +17,10 @@ PLAIN = "plain"
 def install():
     """Installs what the build needs."""
     try:
-        subprocess.run(["apt-get", "install", "--yes", "--no-install-recommends", *PACKAGES], check=True,
-                       stdout=subprocess.DEVNULL)
+        for words in (["update"], ["install", "--yes", "--no-install-recommends", *PACKAGES]):
+            subprocess.run(["apt-get", *words], check=True, stdout=subprocess.DEVNULL)
     except (OSError, subprocess.CalledProcessError) as error:
-        raise Wrong(f"apt-get installs no {' '.join(PACKAGES)}: {error}") from error
+        raise Wrong(f"{' '.join(PACKAGES)} can't be installed: {error}") from error
 
 
 def edited(sources, edit):

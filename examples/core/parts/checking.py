@@ -83,7 +83,7 @@ def checked(asked, path):
     try:
         return report_of(asked, path)
     except (Fault, OSError, UnicodeDecodeError, log.LogError) as error:
-        raise Wrong(f"{path}: {error}") from error
+        raise Wrong(f"{path}: {getattr(error, 'strerror', None) or error}") from error
 
 
 def report_of(asked, path):

@@ -15,7 +15,7 @@ def refused(asked, path, events, line):
     if event is None:
         return line
     step = events[event].step
-    place = "" if isinstance(step, Drained) else f", pc {step.pc}"
+    place = "" if isinstance(step, Drained) else f" (pc {step.pc})"
     picture, _ = judge.ask(asked.program, "chart", path, record.text(events[:event]), asked.buffer)
     rows = picture.partition("\n\n")[2].partition("\n\n")[0]
     return "\n".join([f"{line}{place}", rows, *register(asked, path, events[:event + 1])]).rstrip()
