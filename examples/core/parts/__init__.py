@@ -1,0 +1,14 @@
+"""The parts of examples/core/check, which stand on tools/core-log-to-record, on the reference's readers and on the
+shelf's."""
+
+import sys
+from pathlib import Path
+
+HERE = Path(__file__).resolve().parent.parent
+ROOT = HERE.parent.parent
+PROGRAM = ROOT / "crates/ztso/out/ztso"
+sys.path[:0] = [str(ROOT / "tools"), str(ROOT / "cases"), str(ROOT / "tools/reference")]
+
+
+class Wrong(Exception):
+    """It can't go on; the text says what to do."""

@@ -1,0 +1,77 @@
+"""Builds the test bench by Verilator, as it stands or with a fault, and runs it."""
+
+import re
+import shutil
+import subprocess
+
+from . import HERE, Wrong
+
+# in the order in which they name each other
+SOURCES = [f"{name}.sv" for name in
+           ("types", "chance", "decode", "alu", "store_buffer", "hart", "memory", "core_log", "bench")]
+PACKAGES = ("verilator", "g++", "make")
+OUT = HERE / "out"
+PLAIN = "plain"
+
+
+def install():
+    """Installs what the build needs."""
+    try:
+        for words in (["update"], ["install", "--yes", "--no-install-recommends", *PACKAGES]):
+            subprocess.run(["apt-get", *words], check=True, stdout=subprocess.DEVNULL)
+    except (OSError, subprocess.CalledProcessError) as error:
+        raise Wrong(f"{' '.join(PACKAGES)} can't be installed: {error}") from error
+
+
+def edited(sources, edit):
+    """The sources, by name, after the edits of a file that has the form of crates/*/must-fail/*.edit."""
+    sources = dict(sources)
+    for part in re.split("^file: ", edit.read_text(), flags=re.MULTILINE)[1:]:
+        name, _, changes = part.partition("\n")
+        for old, new in re.findall("^old: (.*)\nnew: (.*)$", changes, re.MULTILINE):
+            if sources[name].count(old) != 1:
+                raise Wrong(f"{edit.name}: `{old}` doesn't stand exactly once in {name}")
+            sources[name] = sources[name].replace(old, new)
+    return sources
+
+
+def built(edit=None):
+    """The bench, built anew where a source has changed since; with the edits of a file where one is given."""
+    if shutil.which("verilator") is None:
+        raise Wrong("no verilator: --install gets it by apt-get")
+    name = edit.stem if edit else PLAIN
+    folder = OUT / name
+    texts = {source: (HERE / "rtl" / source).read_text() for source in SOURCES}
+    if edit:
+        texts = edited(texts, edit)
+    bench = folder / "bench"
+    if bench.exists() and all((folder / "rtl" / source).exists() and (folder / "rtl" / source).read_text() == text
+                              for source, text in texts.items()):
+        return bench
+    shutil.rmtree(folder, ignore_errors=True)
+    if edit and (OUT / PLAIN).exists():
+        # the runtime of Verilator is compiled there already
+        shutil.copytree(OUT / PLAIN, folder)
+        bench.unlink(missing_ok=True)
+    (folder / "rtl").mkdir(parents=True, exist_ok=True)
+    for source, text in texts.items():
+        (folder / "rtl" / source).write_text(text)
+    words = ["verilator", "--binary", "-O3", "--x-assign", "0", "--x-initial", "0", "--top-module", "bench", "-Mdir",
+             str(folder), "-o", "bench", *(str(folder / "rtl" / source) for source in SOURCES)]
+    with open(folder / "build.log", "w") as log:
+        status = subprocess.run(words, stdout=log, stderr=log, check=False).returncode
+    if status:
+        raise Wrong(f"verilator builds no bench: see {folder / 'build.log'}")
+    return bench
+
+
+def log_of(bench, steps, seed, runs):
+    """The lines of the log of a test's runs, where the file `steps` has the test's opening."""
+    try:
+        done = subprocess.run([bench, f"+test={steps}", f"+seed={seed}", f"+runs={runs}"], stdin=subprocess.DEVNULL,
+                              capture_output=True, text=True, check=False)
+    except OSError as error:
+        raise Wrong(f"{bench}: {error.strerror}") from error
+    if done.returncode:
+        raise Wrong(f"{bench} fails on {steps}: {done.stderr.strip() or done.stdout.strip()[-200:]}")
+    return done.stdout.splitlines()

@@ -1,0 +1,109 @@
+"""Runs a test on a core, has ztso judge each run, and compares what a record can't say."""
+
+import tempfile
+from collections import Counter
+from dataclasses import dataclass, field
+from itertools import islice
+from pathlib import Path
+
+from core_log_parts import log, record
+from core_log_parts.opening import Fault, opening
+from shelf import Entry
+
+from . import Wrong, bench, explaining, judge
+
+
+@dataclass
+class Asked:
+    """What a test is run with."""
+    bench: Path
+    program: Path
+    seed: int = 1
+    runs: int = 1
+    order: str = record.ORDERS[0]
+    buffer: int = 4
+    registers: bool = False
+
+
+@dataclass
+class Report:
+    """What came of a test's runs. The kinds of faults are `refused`, `unfinished`, `cut`, `state`, `drain`,
+    `outcome` and `register`."""
+    name: str
+    runs: int = 0
+    failed: int = 0
+    events: int = 0
+    records: set = field(default_factory=set)
+    outcomes: Counter = field(default_factory=Counter)
+    witnessed: set = field(default_factory=set)
+    faults: Counter = field(default_factory=Counter)
+    first: dict = field(default_factory=dict)  # of each kind of fault the first one, in words
+
+    def add(self, kind, seed, words):
+        self.faults[kind] += 1
+        self.first.setdefault(kind, f"{self.name}, run {seed}: {words()}")
+
+
+def differences(run, state):
+    """Where the core's last state isn't the machine's."""
+    harts = {place for place in state if place.endswith(":pc")}
+    known = {place: value for place, value in run.state.items() if place.startswith("word ")
+             or f"{place.partition(':')[0]}:pc" in harts}
+    return [f"{place} is {known.get(place, 0)}, the machine's {state.get(place, 0)}"
+            for place in sorted(known.keys() | state.keys()) if known.get(place, 0) != state.get(place, 0)]
+
+
+def check_run(report, asked, entry, run, events, line):
+    """Notes what is wrong with a run, given the line of its judgement."""
+    text, path = record.text(events), entry.path
+    if run.timed_out:
+        report.add("cut", run.seed, lambda: f"no end within {run.cycles} cycles")
+    for drain in islice(record.wrong_drains(run), 1):
+        report.add("drain", run.seed, lambda: drain)
+    if line not in (judge.ACCEPTED, judge.UNFINISHED):
+        report.add("refused", run.seed, lambda: explaining.refused(asked, path, events, line))
+        return
+    # where a hart stopped, no test is finished
+    if line == judge.UNFINISHED and all(event.name != "stopped" for event in events):
+        report.add("unfinished", run.seed, lambda: "the record is accepted, and doesn't finish the test")
+    wrong = differences(run, judge.last_state(asked.program, path, text, asked.buffer))
+    if wrong:
+        report.add("state", run.seed, lambda: "accepted, but " + "; ".join([*wrong, *explaining.register(asked, path, events)]))
+    elif asked.registers and (different := explaining.register(asked, path, events)):
+        report.add("register", run.seed, lambda: different[0])
+    if line == judge.ACCEPTED:
+        values = judge.outcome(asked.program, entry, text, asked.buffer)
+        report.outcomes[values] += 1
+        if report.witnessed and values not in report.witnessed:
+            report.add("outcome", run.seed, lambda: f"the outcome {'-'.join(map(str, values))} has no witness")
+
+
+def checked(asked, path):
+    """The report of a test's runs."""
+    try:
+        return report_of(asked, path)
+    except (Fault, OSError, UnicodeDecodeError, log.LogError) as error:
+        raise Wrong(f"{path}: {getattr(error, 'strerror', None) or error}") from error
+
+
+def report_of(asked, path):
+    """The report, where nothing keeps the test from being run."""
+    entry, test = Entry(Path(path)), opening(path)
+    report = Report(entry.name, witnessed=set(entry.witnesses()))
+    with tempfile.NamedTemporaryFile("w", suffix=".steps") as steps:
+        steps.write(test.text())
+        steps.flush()
+        lines = bench.log_of(asked.bench, steps.name, asked.seed, asked.runs)
+    found = [(run, record.events(run, test, asked.order)) for run in log.runs(lines)]
+    if len(found) != asked.runs:
+        raise Wrong(f"{asked.bench} wrote the logs of {len(found)} runs, not of {asked.runs}")
+    answers = judge.judge(asked.program, entry.path, [record.text(events) for _, events in found], asked.buffer)
+    for (run, events), line in zip(found, answers):
+        before = report.faults.total()
+        check_run(report, asked, entry, run, events, line)
+        report.runs += 1
+        report.failed += report.faults.total() > before
+        report.events += len(events)
+        report.records.add(record.text(events))
+    judge.ask.cache_clear()
+    return report

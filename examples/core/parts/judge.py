@@ -1,0 +1,84 @@
+"""Asks ztso whether records are runs of a test, and for the last states of those that are.
+
+`judge` stands for the command `ztso check`, which judges any number of records at once: it returns the same lines
+from `run` and `move`, so that the command can take its place."""
+
+import re
+import subprocess
+from functools import lru_cache
+
+from shelf import shown
+
+from . import Wrong
+
+ACCEPTED, UNFINISHED, DIFFERS = "accepted", "unfinished", "refused 38 "
+EVENTS_HEAD = "ztso-schedule 1\n"
+RECORD = "/dev/stdin"
+
+
+def judge(program, path, records, buffer=4):
+    """A line for each record, as `ztso check` numbers them: `accepted`, `unfinished`,
+    `refused 38 at event E line L: OUTCOME, the run has OUTCOME`, or another refusal."""
+    return [judged(program, path, record, buffer) for record in records]
+
+
+def judged(program, path, record, buffer):
+    output, fault = ask(program, "run", path, record, buffer)
+    if not fault:
+        return UNFINISHED if output.endswith("Unfinished\n") else ACCEPTED
+    differs = re.fullmatch(r"ztso: refused 38 at event ([0-9]+)", fault)
+    if not differs:
+        return fault.removeprefix("ztso: ")
+    event = int(differs[1])
+    outcome = record.splitlines()[event + 1].partition(" ")[2]
+    return f"refused 38 at event {event} line {event + 2}: {outcome}, the run has {found(program, path, record, event, buffer)}"
+
+
+def found(program, path, record, event, buffer):
+    """The machine's outcome of an event. The record has an event a line, after its head line."""
+    tokens = [line.split()[0] for line in record.splitlines()[1:event + 2]]
+    output, _ = ask(program, "move", path, f"{EVENTS_HEAD}{' '.join(tokens)}\n", buffer)
+    return output.splitlines()[-1].partition(" ")[2]
+
+
+def event_of(line):
+    """The event at which a record is refused by 38, or None."""
+    differs = re.match(f"{DIFFERS}at event ([0-9]+) ", line)
+    return int(differs[1]) if differs else None
+
+
+def last_state(program, path, record, buffer=4):
+    """The last state that `run` prints for an accepted record, as the log of a core has it: "0:pc", "0:pending",
+    "0:x5" or "word 4", with values."""
+    state, hart = {}, None
+    for line in ask(program, "run", path, record, buffer)[0].splitlines()[:-1]:
+        words = line.split()
+        if words[0] == "hart":
+            hart = words[1]
+            state[f"{hart}:pc"], state[f"{hart}:pending"] = int(words[-3]), int(words[-1])
+        else:
+            place, _, value = line.partition(" = ")
+            state[place if place.startswith("word ") else f"{hart}:{place}"] = int(value)
+    return state
+
+
+def outcome(program, entry, record, buffer=4):
+    """The values of the condition's left sides at the end of an accepted record."""
+    return shown(entry, ask(program, "run", entry.path, record, buffer)[0])
+
+
+@lru_cache(maxsize=20_000)
+def ask(program, command, path, text, buffer):
+    """What a command prints for a schedule's text, and its fault."""
+    return call(program, [command, path, RECORD, "--buffer", buffer], text)
+
+
+def call(program, words, text):
+    """The output of a command and its fault, which is empty where there is none."""
+    try:
+        done = subprocess.run([str(program), *map(str, words)], input=text, capture_output=True, text=True, check=False)
+    except OSError as error:
+        raise Wrong(f"{program}: {error.strerror}: scripts/build makes the program") from error
+    if done.stderr and not done.stderr.startswith("ztso: refused "):
+        raise Wrong(f"{' '.join(map(str, words))}: {done.stderr.strip()}")
+    return done.stdout, done.stderr.strip()

@@ -1,0 +1,115 @@
+"""The record of a core's run: its events in one order, each with what the core says came of it."""
+
+from dataclasses import dataclass
+
+from . import placing
+from .log import Drained, LogError, Retired
+
+HEAD = "ztso-schedule 2\n"
+ORDERS = ("performed", "placed", "retired")
+# the number of the machine's stop for each cause of an exception
+STOPS = {0: 12, 1: 13, 2: 8, 3: 15, 4: 9, 5: 11, 6: 9, 7: 11, 11: 14}
+FETCH_FAULT = 1
+ECALL, MISC_MEM, FENCE_TSO = 0x73, 0x0F, 0x833
+SUFFIXES = {4: "", 2: "2", 1: "1"}
+
+
+@dataclass(frozen=True)
+class Event:
+    """An event, its outcome (a name and what follows the hart), and the step of the log that it is."""
+    letter: str
+    hart: int
+    name: str
+    values: tuple
+    step: object
+
+    def line(self):
+        return " ".join([f"{self.letter}{self.hart}", self.outcome()])
+
+    def outcome(self):
+        return " ".join(map(str, [self.name, self.hart, *self.values]))
+
+
+def access(name, address, lanes, data):
+    """The outcome of a load or a store: the bytes of its lanes, as one number."""
+    low = (lanes & -lanes).bit_length() - 1
+    width = lanes.bit_count()
+    if width not in SUFFIXES or lanes >> low != (1 << width) - 1:
+        raise LogError(f"the mask {lanes:x} is of no load and no store")
+    return name + SUFFIXES[width], (address + low, data >> 8 * low & (1 << 8 * width) - 1)
+
+
+def retired(step):
+    """The outcome of a retired instruction."""
+    if step.read_lanes and step.write_lanes:
+        return "amo", (step.address, step.read, step.written)
+    if step.read_lanes:
+        return access("load", step.address, step.read_lanes, step.read)
+    if step.write_lanes:
+        return access("store", step.address, step.write_lanes, step.written)
+    if step.insn & 0x7F == MISC_MEM:
+        stores_before_loads = step.insn >> 24 & 1 and step.insn >> 21 & 1
+        return "fence", ("full" if stores_before_loads and step.insn >> 20 != FENCE_TSO else "part",)
+    return ("ended" if step.insn == ECALL else "inner"), ()
+
+
+def event(step, opening):
+    """The event of a step, or None where it is none: a hart that runs past its code's end has ended."""
+    if step.hart >= len(opening.codes):
+        raise LogError(f"the log has a hart {step.hart}, and the test has {len(opening.codes)} harts")
+    if isinstance(step, Drained):
+        return Event("l", step.hart, "land", (), step)
+    if isinstance(step, Retired):
+        return Event("a", step.hart, *retired(step), step)
+    if step.cause == FETCH_FAULT and step.pc == 4 * len(opening.codes[step.hart]):
+        return None
+    if step.cause not in STOPS:
+        raise LogError(f"no hart of the machine stops for the cause {step.cause}")
+    return Event("a", step.hart, "stopped", (STOPS[step.cause],), step)
+
+
+def times(events, order):
+    """When each event happened: a cycle, then acts before landings. A hart's acts stay in the log's order, so
+    an act is never earlier than the one before it."""
+    latest = {}
+    for each in events:
+        if each.letter == "l":
+            yield each.step.cycle, 1
+            continue
+        known = order == "performed" or not each.name.startswith("load")
+        cycle = max(each.step.performed if known else each.step.cycle, latest.get(each.hart, 0))
+        latest[each.hart] = cycle
+        yield cycle, 0
+
+
+def events(run, opening, order="performed"):
+    """A run's events. The order is by the cycle in which each took effect; `placed`, which knows of loads only
+    when they retired; or `retired`, as the log has them."""
+    found = [made for step in run.steps if (made := event(step, opening))]
+    if order == "retired":
+        return found
+    stamps = list(times(found, order))
+    found = [found[at] for at in sorted(range(len(found)), key=lambda at: (stamps[at], at))]
+    return placing.placed(found, opening.words) if order == "placed" else found
+
+
+def text(found):
+    return HEAD + "".join(f"{each.line()}\n" for each in found)
+
+
+def wrong_drains(run):
+    """A line for each drain that isn't its hart's oldest store, which a record can't say."""
+    pending = {}
+    for step in run.steps:
+        stores = pending.setdefault(step.hart, [])
+        if isinstance(step, Retired) and step.write_lanes and not step.read_lanes:
+            stores.append((step.address, step.write_lanes, step.written))
+        elif isinstance(step, Drained):
+            left = step.address, step.lanes, step.data
+            oldest = stores.pop(0) if stores else None
+            if left != oldest:
+                yield f"cycle {step.cycle}: hart {step.hart} drains {store_text(left)}, its oldest store is {store_text(oldest)}"
+
+
+def store_text(store):
+    return "none" if store is None else "{:x} mask {:x} data {:x}".format(*store)
