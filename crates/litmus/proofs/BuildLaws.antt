@@ -1,5 +1,5 @@
 -- What is built symbol by symbol is what stands built at the stage of the symbols.
-use Rattle.std.proofs.Common.{◌≡◌, ◌∙◌, ◌+◌, ◌-◌, sym, ap, ℕ, true, false, suc, zero, List, [], ◌∷◌, ◌++◌, length, replicate, slice_set, Option, Some, None, refl, arith, append_assoc, length-append}
+use Rattle.std.proofs.Common.{◌≡◌, ◌∙◌, ◌+◌, ◌-◌, sym, ap, ℕ, false, suc, zero, List, [], ◌∷◌, ◌++◌, length, replicate, slice_set, Option, Some, None, refl, arith, append_assoc, length-append}
 use Rattle.std.specs.List.{slice_get}
 use Rattle.std.proofs.Math.Seq.{take-append_seam, set-append_seam}
 use Rattle.std.proofs.lemmas.List.{append-nil}
@@ -20,9 +20,6 @@ replicate_last (suc n) s = ap (λ (rest : List Step). s ∷ rest) (replicate_las
 pub steps_of-negated_by : (n : ℕ) (f : Formula) → steps_of (negated_by n f) ≡ steps_of f ++ replicate n step.Not
 steps_of-negated_by zero f = sym (append-nil (steps_of f))
 steps_of-negated_by (suc n) f = grind (arith, append_assoc, replicate_last, steps_of-negated_by n f)
-
-abbrev building : List Frame → Frame → List Step → Build
-building around here steps = record { steps = steps; around = around; here = here; has_operand = true }
 
 pub with_operand-completed : (around : List Group) (g : Group) (f : Formula) → with_operand (steps_around (g ∷ around) ++ steps_of f) (marks_around around) (mark_of (steps_around around) g) ≡ build_of (completed around g f)
 with_operand-completed around g f = grind (arith, append_assoc, steps_of-negated_by)
@@ -49,18 +46,6 @@ or_closed-law front (Some left) f = set-operator front (steps_of left) (steps_of
 
 pub all_closed-law : (front : List Step) (g : Group) (f : Formula) → all_closed (mark_of front g) (((front ++ or_steps g.disjuncts) ++ and_steps g.conjuncts) ++ steps_of f) ≡ front ++ steps_of (disjunction_of g f)
 all_closed-law front g f = grind (arith, and_closed-law, or_closed-law)
-
-abbrev after_and : List Frame → Frame → List Step → Build
-after_and around here steps = record { steps = steps ++ step.And 0 ∷ []; around = around; here = record { or_at = here.or_at; and_at = Some (length steps); negations = here.negations }; has_operand = false }
-
-abbrev after_or : List Frame → List Step → Build
-after_or around steps = record { steps = steps ++ step.Or 0 ∷ []; around = around; here = record { or_at = Some (length steps); and_at = None; negations = 0 }; has_operand = false }
-
-abbrev awaiting : List Frame → Option ℕ → ℕ → List Step → ℕ → Build
-awaiting around or_at negations steps and_at = record { steps = steps; around = around; here = record { or_at = or_at; and_at = Some and_at; negations = negations }; has_operand = false }
-
-abbrev awaiting_first : List Frame → List Step → ℕ → Build
-awaiting_first around steps or_at = record { steps = steps; around = around; here = record { or_at = Some or_at; and_at = None; negations = 0 }; has_operand = false }
 
 pub with_and-law : (around : List Group) (here : Group) (f : Formula) → with_and (build_of (has around here f)) ≡ build_of (awaits around (record here { conjuncts = Some (conjunction_of here f) }))
 with_and-law around here f = grind (arith, and_closed-law, append_assoc, length-append)

@@ -77,9 +77,6 @@ harts_only ms equations rows hart (first ∷ others) (next ∷ registers) same a
 
 -- ---- the whole, from its reading
 
-abbrev text_some : List ℕ → Option (List ℕ)
-text_some text = Some text
-
 behind_some : (o : Option (List ℕ)) (rest : List ℕ) → behind_init o ≡ Ok rest → o ≡ Some rest
 behind_some o rest e = grind (arith, ok_is)
 
