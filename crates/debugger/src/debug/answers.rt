@@ -94,34 +94,30 @@ pub fn answer<const B: usize, const M: usize>(
     ensures { IfOk result (λ new. (text : List ℕ) × (string_bytes out.new ≡ string_bytes out.old ++ text)
         × Answers B M command debugger.entry new points.old.items points.new.items text) }
 {
-    let machine = debugger.session().machine();
     match command {
         Command::Step => step(out, debugger),
         Command::Go => go(out, debugger, points),
         Command::Give(event) => give(out, debugger, event),
-        Command::Back(events) => {
-            let debugger = debugger.back(events as usize)?;
-            Ok(debugger)
-        }
+        Command::Back(events) => debugger.back(events as usize),
         Command::Break(hart, pc) => {
-            set_breakpoint(out, machine, points, hart, pc)?;
-            Ok(debugger)
+            let set = set_breakpoint(out, debugger.session().machine(), points, hart, pc);
+            set.and(Ok(debugger))
         }
         Command::Hart(hart) => {
-            push_hart_answer(out, machine, hart)?;
-            Ok(debugger)
+            let shown = push_hart_answer(out, debugger.session().machine(), hart);
+            shown.and(Ok(debugger))
         }
         Command::Pending(hart) => {
-            push_pending_answer(out, machine, hart)?;
-            Ok(debugger)
+            let shown = push_pending_answer(out, debugger.session().machine(), hart);
+            shown.and(Ok(debugger))
         }
         Command::Word(addr) => {
-            push_word_answer(out, machine, addr)?;
-            Ok(debugger)
+            let shown = push_word_answer(out, debugger.session().machine(), addr);
+            shown.and(Ok(debugger))
         }
         Command::Count => {
-            push_number_line(out, debugger.session().events().len())?;
-            Ok(debugger)
+            let shown = push_number_line(out, debugger.session().events().len());
+            shown.and(Ok(debugger))
         }
         Command::Quit => Ok(debugger),
     }
