@@ -27,8 +27,7 @@ fn follow_schedule<const B: usize, const M: usize>(
     ensures { IfOk result (λ new. (text : List ℕ) × (string_bytes out.new ≡ string_bytes out.old ++ text) × Does B M debugger.entry event Schedule text new) }
 {
     let (debugger, outcome) = debugger.step(event)?;
-    push_outcome_line(out, event, outcome)?;
-    Ok(debugger)
+    push_outcome_line(out, event, outcome).and(Ok(debugger))
 }
 
 /// Does an event of the user's.
@@ -40,8 +39,7 @@ fn give<const B: usize, const M: usize>(
     ensures { IfOk result (λ new. (text : List ℕ) × (string_bytes out.new ≡ string_bytes out.old ++ text) × Does B M debugger.entry event User text new) }
 {
     let (debugger, outcome) = debugger.inject(event)?;
-    push_outcome_line(out, event, outcome)?;
-    Ok(debugger)
+    push_outcome_line(out, event, outcome).and(Ok(debugger))
 }
 
 /// Does the schedule's next event, or tells that there is none.
@@ -53,10 +51,7 @@ fn step<const B: usize, const M: usize>(
 {
     match debugger.next() {
         Some(event) => follow_schedule(out, debugger, event),
-        None => {
-            push_end_line(out)?;
-            Ok(debugger)
-        }
+        None => push_end_line(out).and(Ok(debugger)),
     }
 }
 
@@ -74,14 +69,12 @@ fn go<const B: usize, const M: usize>(
     while let Some(event) = debugger.next() {
         let machine = debugger.session().machine();
         if let Some((hart, pc)) = stop_before(machine, points, first, event) {
-            push_break_line(out, hart, pc)?;
-            return Ok(debugger);
+            return push_break_line(out, hart, pc).and(Ok(debugger));
         }
         debugger = follow_schedule(out, debugger, event)?;
         first = false;
     }
-    push_end_line(out)?;
-    Ok(debugger)
+    push_end_line(out).and(Ok(debugger))
 }
 
 /// Does what a command asks for, and appends what it prints.
@@ -98,7 +91,10 @@ pub fn answer<const B: usize, const M: usize>(
         Command::Step => step(out, debugger),
         Command::Go => go(out, debugger, points),
         Command::Give(event) => give(out, debugger, event),
-        Command::Back(events) => debugger.back(events as usize),
+        Command::Back(events) => {
+            let debugger = debugger.back(events as usize)?;
+            Ok(debugger)
+        }
         Command::Break(hart, pc) => {
             let set = set_breakpoint(out, debugger.session().machine(), points, hart, pc);
             set.and(Ok(debugger))
