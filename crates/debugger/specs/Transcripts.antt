@@ -22,9 +22,13 @@ abbrev pub quits : Option Command → Bool
 quits (Some command.Quit) = true
 quits other = false
 
--- the line prints this text, and leads from a debugger and breakpoints to others
+-- what is asked for prints this text, and leads from a debugger and breakpoints to others
+abbrev pub AnswersSaid : (B M : ℕ) → Option Command → (old new : DebuggerState) (points others : List (ℕ × ℕ)) (text : List ℕ) → Type 0
+AnswersSaid B M said old new points others text = MatchOption said ((text ≡ unknown_line) × (new ≡ old) × (others ≡ points)) (λ command. Answers B M command old new points others text)
+
+-- the same of what a line asks for
 abbrev pub AnswersLine : (B M : ℕ) → (line : List ℕ) → (old new : DebuggerState) (points others : List (ℕ × ℕ)) (text : List ℕ) → Type 0
-AnswersLine B M line old new points others text = MatchOption (command_in (tokens line)) ((text ≡ unknown_line) × (new ≡ old) × (others ≡ points)) (λ said. Answers B M said old new points others text)
+AnswersLine B M line old new points others text = AnswersSaid B M (command_in (tokens line)) old new points others text
 
 -- these lines print this, up to the one that ends the transcript
 abbrev pub Transcript : (B M : ℕ) → List (List ℕ) → DebuggerState → (points : List (ℕ × ℕ)) → (out : List ℕ) → Type 0

@@ -20,10 +20,10 @@ invariant_of-session g c =
     let ran = runs_on g.row.B g.row.M before evs c.args.event c.in_ok-outcome.outcome after c.self.invariant.0 c.in_ok-outcome.ensures.happens in
     let held : HasSnapshots g.row.B g.row.M before.opening more c.if-len-eq0.snapshots.items = elim c.if-len-eq0.branch [
       | then-len-eq0+in_ok-snapshot+in_ok-push-2 w ↦
-          subst (HasSnapshots g.row.B g.row.M before.opening more) (sym (ap (λ v. v.items) w.snapshots-is ∙ w.in_ok-push-2.ensures.items))
+          subst (HasSnapshots g.row.B g.row.M before.opening more) (sym {b = ss ++ w.in_ok-snapshot.snapshot ∷ []} (◌∙◌ {c = ss ++ w.in_ok-snapshot.snapshot ∷ []} (ap (λ v. v.items) w.snapshots-is) w.in_ok-push-2.ensures.items))
           (one_taken g.row.B g.row.M before.opening evs c.args.event ss after w.in_ok-snapshot.snapshot c.self.invariant.1 (rw count at w.if-len-eq0.true) ran w.in_ok-snapshot.ensures)
       | else-len-eq0 w ↦
-          subst (HasSnapshots g.row.B g.row.M before.opening more) (sym (ap (λ v. v.items) w.snapshots-is))
+          subst (HasSnapshots g.row.B g.row.M before.opening more) (sym {b = ss} (ap (λ v. v.items) w.snapshots-is))
           (none_taken g.row.B g.row.M before.opening evs c.args.event ss c.self.invariant.1 (rw count at w.if-len-eq0.false))
     ] in
     rw c.in_ok-push.ensures.items (subst (λ (o : Start). Run g.row.B g.row.M o more after × HasSnapshots g.row.B g.row.M o more c.if-len-eq0.snapshots.items) (sym c.step.ensures.opening) (ran, held))
