@@ -4,7 +4,7 @@ ghost use Rattle.std.specs.Prelude.{◌≡◌, ◌++◌, ◌≤◌, ℕ, List, t
 ghost use Rattle.std.specs.List.{slice_get};
 ghost use Rattle.std.specs.String.{string_bytes};
 ghost use Rattle.step_machine.specs.Runs.{Run};
-ghost use Rattle.debugger.specs.declared.debugger.Source.TheVariants.{Schedule, User};
+ghost use Rattle.debugger.specs.declared.debugger.Source.TheVariants.{Schedule};
 ghost use Rattle.debugger.specs.DebuggerStates.{DebuggerState};
 ghost use Rattle.debugger.specs.Debugging.{Answers, Does, DoesAll, DoesNext};
 
@@ -12,33 +12,22 @@ use crate::debug::breakpoints::{set_breakpoint, stop_before};
 use crate::debug::command::Command;
 use crate::debug::lines::{push_break_line, push_end_line, push_number_line};
 use crate::debug::looking::{push_hart_answer, push_pending_answer, push_word_answer};
-use crate::debugger::Debugger;
+use crate::debugger::{Debugger, Source};
 use recorder::push_outcome_line;
 use std::alloc::AllocError;
 use step_machine::Event;
 
-/// Does the schedule's next event, which is this one.
-fn follow_schedule<const B: usize, const M: usize>(
+/// Does an event from this source, and appends its outcome.
+fn do_event<const B: usize, const M: usize>(
     out: &mut String,
     debugger: Debugger<B, M>,
     event: Event,
+    source: Source,
 ) -> Result<Debugger<B, M>, AllocError>
-    requires { slice_get debugger.schedule debugger.place ≡ Some event }
-    ensures { IfOk result (λ new. (text : List ℕ) × (string_bytes out.new ≡ string_bytes out.old ++ text) × Does B M debugger.entry event Schedule text new) }
+    requires { source ≡ Schedule → slice_get debugger.schedule debugger.place ≡ Some event }
+    ensures { IfOk result (λ new. (text : List ℕ) × (string_bytes out.new ≡ string_bytes out.old ++ text) × Does B M debugger.entry event source text new) }
 {
-    let (debugger, outcome) = debugger.step(event)?;
-    push_outcome_line(out, event, outcome).and(Ok(debugger))
-}
-
-/// Does an event of the user's.
-fn give<const B: usize, const M: usize>(
-    out: &mut String,
-    debugger: Debugger<B, M>,
-    event: Event,
-) -> Result<Debugger<B, M>, AllocError>
-    ensures { IfOk result (λ new. (text : List ℕ) × (string_bytes out.new ≡ string_bytes out.old ++ text) × Does B M debugger.entry event User text new) }
-{
-    let (debugger, outcome) = debugger.inject(event)?;
+    let (debugger, outcome) = debugger.event(event, source)?;
     push_outcome_line(out, event, outcome).and(Ok(debugger))
 }
 
@@ -50,7 +39,7 @@ fn step<const B: usize, const M: usize>(
     ensures { IfOk result (λ new. (text : List ℕ) × (string_bytes out.new ≡ string_bytes out.old ++ text) × DoesNext B M debugger.entry text new) }
 {
     match debugger.next() {
-        Some(event) => follow_schedule(out, debugger, event),
+        Some(event) => do_event(out, debugger, event, Source::Schedule),
         None => push_end_line(out).and(Ok(debugger)),
     }
 }
@@ -71,7 +60,7 @@ fn go<const B: usize, const M: usize>(
         if let Some((hart, pc)) = stop_before(machine, points, first, event) {
             return push_break_line(out, hart, pc).and(Ok(debugger));
         }
-        debugger = follow_schedule(out, debugger, event)?;
+        debugger = do_event(out, debugger, event, Source::Schedule)?;
         first = false;
     }
     push_end_line(out).and(Ok(debugger))
@@ -90,7 +79,7 @@ pub fn answer<const B: usize, const M: usize>(
     match command {
         Command::Step => step(out, debugger),
         Command::Go => go(out, debugger, points),
-        Command::Give(event) => give(out, debugger, event),
+        Command::Give(event) => do_event(out, debugger, event, Source::User),
         Command::Back(events) => {
             let debugger = debugger.back(events as usize)?;
             Ok(debugger)

@@ -3,8 +3,8 @@ use Rattle.std.specs.List.{slice_get}
 use Rattle.debugger.specs.DebuggerStates.{DebuggerState, scheduled}
 use Rattle.debugger.specs.declared.debugger.Source.TheVariants.{Schedule}
 use Rattle.debugger.proofs.DebuggerLaws.{kept_taken}
-use Rattle.debugger.proofs.debugger.Debugger.take.Goals.{in-Schedule, in-User}
-use Rattle.debugger.proofs.debugger.Debugger.take.Goals as goal
+use Rattle.debugger.proofs.debugger.Debugger.event.Goals.{in-Schedule, in-User}
+use Rattle.debugger.proofs.debugger.Debugger.event.Goals as goal
 
 pub invariant_of-debugger : goal.invariant_of-debugger
 invariant_of-debugger g c =
