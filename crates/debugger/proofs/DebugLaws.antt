@@ -1,5 +1,6 @@
 -- What the debugger does of a schedule, event by event.
-use Rattle.std.proofs.Common.{◌≡◌, ℕ, zero, suc, ◌+◌, Bool, false, List, [], ◌∷◌, ◌++◌, drop, None, Some, Result, Ok, Err, IfOk, OnOk, refl, sym, ap, ◌∙◌, append_assoc, arith}
+use Rattle.std.proofs.Common.{◌≡◌, ℕ, zero, suc, ◌+◌, Bool, false, List, [], ◌∷◌, ◌++◌, drop, None, Some, Result, Ok}
+use Rattle.std.proofs.Common.{Err, IfOk, OnOk, refl, sym, ap, ◌∙◌, append_assoc, arith}
 use Rattle.std.specs.List.{slice_get}
 use Rattle.std.specs.Result.{result_and}
 use Rattle.step_machine.specs.declared.events.Event.{Event}
@@ -37,7 +38,8 @@ module _ (B M : ℕ) (points : List (ℕ × ℕ)) (first : Bool) (old : Debugger
 
   -- the event is done, and then those behind it
   pub runs_more : (ev : Event) (line : List ℕ) (mid : DebuggerState) (later : List ℕ) (new : DebuggerState) → slice_get old.schedule old.place ≡ Some ev
-      → stop_before M points first old.past.history ev ≡ None → Does B M old ev Schedule line mid → DoesRest false mid later new → DoesRest first old (line ++ later) new
+      → stop_before M points first old.past.history ev ≡ None → Does B M old ev Schedule line mid
+      → DoesRest false mid later new → DoesRest first old (line ++ later) new
   runs_more ev line mid later new e stop does then =
       let behind : drop mid.place mid.schedule ≡ drop (old.place + 1) old.schedule = rw (does.1.schedule, does.1.place) refl in
       let rest : DoesAll B M points (drop (old.place + 1) old.schedule) false mid later new = rw behind at then in

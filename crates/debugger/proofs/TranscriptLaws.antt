@@ -1,5 +1,6 @@
 -- A user's lines, read one by one.
-use Rattle.std.proofs.Common.{◌≡◌, ℕ, ◌+◌, ◌<◌, Bool, true, false, List, [], ◌∷◌, ◌++◌, length, take, drop, Option, Some, None, Result, Ok, Err, refl, sym, ap, subst, ◌∙◌, ◌⊎◌, inl, inr, arith}
+use Rattle.std.proofs.Common.{◌≡◌, ℕ, ◌+◌, ◌<◌, Bool, true, false, List, [], ◌∷◌, ◌++◌, length, take, drop, Option}
+use Rattle.std.proofs.Common.{Some, None, Result, Ok, Err, refl, sym, ap, subst, ◌∙◌, ◌⊎◌, inl, inr, arith}
 use Rattle.std.specs.Prelude.{position, IfSome, IfOk, IfErr, OnOk, MatchBool}
 use Rattle.std.specs.Result.{result_and}
 use Rattle.std.specs.String.{string_bytes}
@@ -23,7 +24,9 @@ use Rattle.debugger.specs.declared.debug.command.Command.{Command}
 use Rattle.debugger.specs.declared.debug.command.Command.TheVariants.{Quit}
 use Rattle.engine_parts.specs.declared.fault.Fault.{Fault}
 use Rattle.engine_parts.specs.declared.fault.Fault.TheVariants.{ReadFailed, WriteFailed, NoMemory, Refused}
-use Rattle.debugger.specs.Transcripts.{AnswersLine, AnswersSaid, EndsInteractive, IsDebugAnswer, IsDebugFront, IsDebugSome, IsTranscript, OnRefused, OnStopped, OnUnwritten, Prints, PrintsFront, PrintsSome, Transcript, quits}
+use Rattle.debugger.specs.Transcripts.{AnswersLine, AnswersSaid, EndsInteractive, IsDebugAnswer, IsDebugFront}
+use Rattle.debugger.specs.Transcripts.{IsDebugSome, IsTranscript, OnRefused, OnStopped, OnUnwritten, Prints}
+use Rattle.debugger.specs.Transcripts.{PrintsFront, PrintsSome, Transcript, quits}
 use Rattle.engine_parts.specs.inner.Making.{Finds, IsEndOf, text_and_value}
 use Rattle.debugger.specs.inner.Asking.{AsksNext, IsNextLine}
 use Rattle.debugger.specs.inner.Failures.{IsFailure, IsReadFailure, IsAtStart}
@@ -37,7 +40,8 @@ use Rattle.engine_parts.proofs.ScheduleLaws.{by_schedule_as, weaker_both}
 abbrev line_len : List ℕ → ℕ
 line_len bytes = position_or_len is_line_feed bytes
 
-through_is : (bytes : List ℕ) → (take_through 10 bytes ≡ take (line_len bytes + 1) bytes) × (drop_through 10 bytes ≡ drop (line_len bytes + 1) bytes) × (line_len (take_through 10 bytes) ≡ line_len bytes)
+through_is : (bytes : List ℕ) → (take_through 10 bytes ≡ take (line_len bytes + 1) bytes)
+    × (drop_through 10 bytes ≡ drop (line_len bytes + 1) bytes) × (line_len (take_through 10 bytes) ≡ line_len bytes)
 through_is [] = (refl, refl, refl)
 through_is (byte ∷ bytes) = grind (arith, cases_Bool, through_is bytes)
 
@@ -45,7 +49,8 @@ position_at : (bytes : List ℕ) (i : ℕ) → line_len bytes ≡ i → i < leng
 position_at bytes i is within = rw is (rw (lt-ltb i (length bytes) within) refl)
 
 -- the first line depends on its own bytes alone
-pub first_line_of : (bytes line : List ℕ) (none : List (List ℕ)) → lines (take_through 10 bytes) ≡ line ∷ none → lines bytes ≡ line ∷ lines (drop_through 10 bytes)
+pub first_line_of : (bytes line : List ℕ) (none : List (List ℕ)) → lines (take_through 10 bytes) ≡ line ∷ none
+    → lines bytes ≡ line ∷ lines (drop_through 10 bytes)
 first_line_of [] line none is = absurd cc
 first_line_of (byte ∷ bytes) line none is = at (position is_line_feed (byte ∷ bytes)) refl
   where
@@ -60,7 +65,10 @@ first_line_of (byte ∷ bytes) line none is = at (position is_line_feed (byte �
         let long : length (take_through 10 all) ≡ i + 1 = ap length front ∙ length-take-le (i + 1) all (omega arith) in
         let again : position is_line_feed (take_through 10 all) ≡ Some i = position_at (take_through 10 all) i (through.2 ∙ place.1) (omega arith) in
         let same : take i (take_through 10 all) ≡ take i all = ap (take i) front ∙ take-take i (i + 1) all (omega arith) in
-        let reads_line : line ≡ strip_carriage_return (take i all) = let first_line = lines_found (take_through 10 all) i again in let e : line ≡ strip_carriage_return (take i (take_through 10 all)) = cc in e ∙ ap strip_carriage_return same in
+        let reads_line : line ≡ strip_carriage_return (take i all) =
+        let first_line = lines_found (take_through 10 all) i again in
+        let e : line ≡ strip_carriage_return (take i (take_through 10 all)) = cc in
+        e ∙ ap strip_carriage_return same in
         lines_found all i found ∙ ap (λ (l : List ℕ). l ∷ lines (drop (i + 1) all)) (sym reads_line) ∙ ap (λ (rest : List ℕ). line ∷ lines rest) (sym back)
     at None none_found =
         let all = byte ∷ bytes in
@@ -167,7 +175,8 @@ module _ {B M : ℕ} {input left old new : Option (List ℕ)} {start now : Debug
   -- ---- what was asked for next
 
   -- it ends the transcript
-  pub talked_enough : (next : Option (List ℕ)) (said : Option Command) → AsksNext left next said → quits said ≡ true → Printed old new (Prints B M input start [])
+  pub talked_enough : (next : Option (List ℕ)) (said : Option Command) → AsksNext left next said → quits said ≡ true
+      → Printed old new (Prints B M input start [])
   talked_enough next said (inl (none, end)) quit = ends [] none refl
   talked_enough next said (inr (line, asks, is)) quit =
       let here = at left next is in ends (line ∷ here.0) here.1 (on_true (quits (command_in (tokens line))) _ _ (ap quits (sym asks) ∙ quit) refl)
@@ -188,7 +197,8 @@ module _ {B M : ℕ} {input left old new : Option (List ℕ)} {start now : Debug
 
     -- what it prints, in a transcript whose other lines go on from there
     prints : (then : DebuggerState) (others : List (ℕ × ℕ)) (text : List ℕ) → AnswersSaid B M said now then points others text
-        → (more : List (List ℕ)) (later : List ℕ) → Transcript B M more then others later → Transcript B M (t.done ++ asked.0 ∷ more) start [] (t.so_far ++ (text ++ later))
+        → (more : List (List ℕ)) (later : List ℕ) → Transcript B M more then others later
+        → Transcript B M (t.done ++ asked.0 ∷ more) start [] (t.so_far ++ (text ++ later))
     prints then others text answers more later talks =
         let answers_line : AnswersLine B M asked.0 now then points others text =
         subst (λ (o : Option Command). AnswersSaid B M o now then points others text) asked.1 answers in
@@ -217,7 +227,8 @@ module _ {B M : ℕ} {input left old new : Option (List ℕ)} {start now : Debug
       so_far = t.so_far ++ text;
       are_done = at input left next t.are_done asked.2;
       appends = appends_more old new newer t.so_far text t.appends appends;
-      leads = λ more later talks. rw (append_assoc t.done (asked.0 ∷ []) more, append_assoc t.so_far text later) (prints then others text answers more later talks);
+      leads = λ more later talks. rw (append_assoc t.done (asked.0 ∷ []) more, append_assoc t.so_far text later)
+          (prints then others text answers more later talks);
     }
       where
         at : (input left next : Option (List ℕ)) → AreDone input left t.done → IsNextLine left next asked.0 → AreDone input next (t.done ++ asked.0 ∷ [])
@@ -234,7 +245,8 @@ pub unwritten : {V : Type 0} (result : Result V Fault) (P : Type 0) → P → On
 unwritten result P p = grind arith
 
 -- what only reads fails by no refusal and no write
-pub read_fails : (result : Result (Unit {0}) Fault) (fault : Fault) (P : Type 0) → result ≡ Err fault → IsReadFailure fault → IfErr result IsFailure × OnUnwritten result P
+pub read_fails : (result : Result (Unit {0}) Fault) (fault : Fault) (P : Type 0) → result ≡ Err fault
+    → IsReadFailure fault → IfErr result IsFailure × OnUnwritten result P
 read_fails result fault P is failed = grind arith
 
 -- ---- a reply
@@ -258,7 +270,8 @@ module _ (result : Result (Unit {0}) Fault) (fault : Fault) (is : result ≡ Err
   pub reply_fails : IsFailure fault → IfErr result IsFailure
   reply_fails failed = rw is failed
 
-  pub reply_stops : {W : Type 0} (before after : W) (P : W → Type 0) → OnStopped {V = DebuggerState} (Err fault) (after ≡ before) → P before → OnStopped result (P after)
+  pub reply_stops : {W : Type 0} (before after : W) (P : W → Type 0)
+      → OnStopped {V = DebuggerState} (Err fault) (after ≡ before) → P before → OnStopped result (P after)
   reply_stops before after P same holds = at fault is same
     where
       at : (fault : Fault) → result ≡ Err fault → OnStopped {V = DebuggerState} (Err fault) (after ≡ before) → OnStopped result (P after)
@@ -295,8 +308,12 @@ module _ (B M : ℕ) (first second input : Option (List ℕ)) {W : Type 0} (cont
   -- a transcript that is over ends the command
   pub transcribed : (result : Result (Unit {0}) Fault) (debugger : DebuggerState) (old new : W) → Opens debugger
       → OnOk result (Printed (contents old) (contents new) (Prints B M input debugger [])) → IfErr result IsFailure → Ends result old new
-  transcribed (Ok x) debugger old new opens (out, appends, prints) failed =
-      (out, opened (IsTranscript B M input) debugger (out, x) (λ test events set. subst (λ (w : DebuggerState). Prints B M input w [] out) set prints) opens, appends)
+  transcribed (Ok x) debugger old new opens (out, appends, prints) failed = (
+    out,
+    opened (IsTranscript B M input) debugger (out, x)
+        (λ test events set. subst (λ (w : DebuggerState). Prints B M input w [] out) set prints) opens,
+    appends,
+  )
   transcribed (Err (Refused refusal)) debugger old new opens printed failed = absurd failed
   transcribed other debugger old new opens printed failed = tt
 
@@ -317,7 +334,8 @@ module _ (B M : ℕ) (first second input : Option (List ℕ)) {W : Type 0} (cont
   not_unwritten view result other P is finds = rw is tt
 
   -- where a write failed, the first lines print what was to be written
-  pub unwritten_begun : (result : Result (Unit {0}) Fault) (debugger : DebuggerState) → Opens debugger → OnUnwritten result ((out : List ℕ) × PrintsSome B M input debugger [] out)
+  pub unwritten_begun : (result : Result (Unit {0}) Fault) (debugger : DebuggerState) → Opens debugger
+      → OnUnwritten result ((out : List ℕ) × PrintsSome B M input debugger [] out)
       → OnUnwritten result ((out : List ℕ) × AnswersBoth (IsDebugSome B M input) first second (Ok (out, tt)))
   unwritten_begun (Err WriteFailed) debugger opens (out, prints) = (
     out,

@@ -14,4 +14,5 @@ IsNextLine (Some bytes) (Some rest) line = lines bytes ≡ line ∷ lines rest
 
 -- what the next line asks for; where there is none, to quit
 abbrev pub AsksNext : (old new : Option (List ℕ)) → Option Command → Type 0
-AsksNext old new said = (IfSome old (λ bytes. lines bytes ≡ []) × (said ≡ Some Quit)) ⊎ ((line : List ℕ) × (said ≡ command_in (tokens line)) × IsNextLine old new line)
+AsksNext old new said = (IfSome old (λ bytes. lines bytes ≡ []) × (said ≡ Some Quit))
+    ⊎ ((line : List ℕ) × (said ≡ command_in (tokens line)) × IsNextLine old new line)

@@ -1,21 +1,26 @@
 use Rattle.engine_parts.proofs.Endings.{is_handed}
 use Rattle.std.proofs.Common.{[], sym, ◌∙◌}
-use Rattle.debugger.proofs.TranscriptLaws.{Printed, read_fails, reply_fails, reply_stops, reply_unwritten, stopped, talked_enough, talked_nothing, talked_on, talked_so_far, talked_some}
+use Rattle.debugger.proofs.TranscriptLaws.{Printed, read_fails, reply_fails, reply_stops, reply_unwritten, stopped}
+use Rattle.debugger.proofs.TranscriptLaws.{talked_enough, talked_nothing, talked_on, talked_so_far, talked_some}
 use Rattle.debugger.specs.Transcripts.{PrintsFront}
 use Rattle.debugger.proofs.debug.conversation.converse.Goals as goal
 
 pub loop-init : goal.loop-init
 loop-init g c =
-    rw c.new-points.ensures.items (talked_nothing g.row.B g.row.M (g.C.Read.remaining c.args.commands.now) (g.W.Write.contents c.args.writer.now) c.args.debugger)
+    rw c.new-points.ensures.items
+    (talked_nothing g.row.B g.row.M (g.C.Read.remaining c.args.commands.now) (g.W.Write.contents c.args.writer.now)
+    c.args.debugger)
 
 pub returns-then-does_quit-clause-printed : goal.returns-then-does_quit-clause-printed
 returns-then-does_quit-clause-printed g c =
-    talked_enough c.loop.invariant (g.C.Read.remaining c.next_said.new.commands) c.in_ok-said.said c.in_ok-said.ensures.asks (sym c.does_quit.ensures ∙ c.if-does_quit.true)
+    talked_enough c.loop.invariant (g.C.Read.remaining c.next_said.new.commands) c.in_ok-said.said
+    c.in_ok-said.ensures.asks (sym c.does_quit.ensures ∙ c.if-does_quit.true)
 
 pub loop-preserved : goal.loop-preserved
 loop-preserved g c =
     let did = c.in_ok-debugger.ensures.answered in
-    talked_on c.loop.invariant (g.C.Read.remaining c.next_said.new.commands) c.in_ok-said.said c.in_ok-said.ensures.asks (sym c.does_quit.ensures ∙ c.if-does_quit.false)
+    talked_on c.loop.invariant (g.C.Read.remaining c.next_said.new.commands) c.in_ok-said.said
+    c.in_ok-said.ensures.asks (sym c.does_quit.ensures ∙ c.if-does_quit.false)
     (g.W.Write.contents c.reply.new.writer) c.in_ok-debugger.debugger c.reply.new.points.items did.0 did.1 did.2
 
 pub returns-in_err-said-clause-left : goal.returns-in_err-said-clause-left
@@ -31,19 +36,23 @@ returns-in_err-said-clause-unwritten g c =
 
 pub returns-in_err-debugger-clause-err : goal.returns-in_err-debugger-clause-err
 returns-in_err-debugger-clause-err g c =
-    reply_fails c.from_residual-in_err-debugger.result c.in_err-debugger.field-0.0 (is_handed c.from_residual-in_err-debugger.result _ c.from_residual-in_err-debugger.ensures.1)
+    reply_fails c.from_residual-in_err-debugger.result c.in_err-debugger.field-0.0
+    (is_handed c.from_residual-in_err-debugger.result _ c.from_residual-in_err-debugger.ensures.1)
     c.in_err-debugger.ensures.err
 
 pub returns-in_err-debugger-clause-left : goal.returns-in_err-debugger-clause-left
 returns-in_err-debugger-clause-left g c =
-    reply_stops c.from_residual-in_err-debugger.result c.in_err-debugger.field-0.0 (is_handed c.from_residual-in_err-debugger.result _ c.from_residual-in_err-debugger.ensures.1)
+    reply_stops c.from_residual-in_err-debugger.result c.in_err-debugger.field-0.0
+    (is_handed c.from_residual-in_err-debugger.result _ c.from_residual-in_err-debugger.ensures.1)
     c.loop.writer c.reply.new.writer
-    (λ w. Printed (g.W.Write.contents c.args.writer.now) (g.W.Write.contents w) (PrintsFront g.row.B g.row.M (g.C.Read.remaining c.args.commands.now) c.args.debugger []))
+    (λ w. Printed (g.W.Write.contents c.args.writer.now) (g.W.Write.contents w)
+    (PrintsFront g.row.B g.row.M (g.C.Read.remaining c.args.commands.now) c.args.debugger []))
     c.in_err-debugger.ensures.left (talked_so_far c.loop.invariant)
 
 pub returns-in_err-debugger-clause-unwritten : goal.returns-in_err-debugger-clause-unwritten
 returns-in_err-debugger-clause-unwritten g c =
-    reply_unwritten c.from_residual-in_err-debugger.result c.in_err-debugger.field-0.0 (is_handed c.from_residual-in_err-debugger.result _ c.from_residual-in_err-debugger.ensures.1)
+    reply_unwritten c.from_residual-in_err-debugger.result c.in_err-debugger.field-0.0
+    (is_handed c.from_residual-in_err-debugger.result _ c.from_residual-in_err-debugger.ensures.1)
     _ _ c.in_err-debugger.ensures.unwritten
     (λ did. talked_some c.loop.invariant (g.C.Read.remaining c.next_said.new.commands) c.in_ok-said.said c.in_ok-said.ensures.asks
     (sym c.does_quit.ensures ∙ c.if-does_quit.false) did.0 did.1 did.2 did.3)

@@ -9,5 +9,6 @@ returns-clause-asks g c =
 
 pub returns-in-Some-clause-asks : goal.returns-in-Some-clause-asks
 returns-in-Some-clause-asks g c =
-    asks_line (g.C.Read.remaining c.args.commands.now) (g.C.Read.remaining c.read_line.new.commands) c.in_ok-bytes.bytes.items c.deref.result.now c.in-Some.line.now _
+    asks_line (g.C.Read.remaining c.args.commands.now) (g.C.Read.remaining c.read_line.new.commands)
+    c.in_ok-bytes.bytes.items c.deref.result.now c.in-Some.line.now _
     c.command_of.result c.in_ok-bytes.ensures.bytes c.in_ok-bytes.ensures.rest c.deref.ensures.value c.in-Some.ensures.line c.command_of.ensures
