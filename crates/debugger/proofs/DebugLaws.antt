@@ -1,6 +1,8 @@
 -- What the debugger does of a schedule, event by event.
-use Rattle.std.proofs.Common.{◌≡◌, ℕ, zero, suc, ◌+◌, Bool, false, List, [], ◌∷◌, ◌++◌, drop, None, Some, refl, sym, ap, ◌∙◌, arith}
+use Rattle.std.proofs.Common.{◌≡◌, ℕ, zero, suc, ◌+◌, Bool, false, List, [], ◌∷◌, ◌++◌, drop, None, Some, Result, Ok}
+use Rattle.std.proofs.Common.{Err, IfOk, OnOk, refl, sym, ap, ◌∙◌, append_assoc, arith}
 use Rattle.std.specs.List.{slice_get}
+use Rattle.std.specs.Result.{result_and}
 use Rattle.step_machine.specs.declared.events.Event.{Event}
 use Rattle.debugger.specs.declared.debugger.Source.TheVariants.{Schedule}
 use Rattle.debugger.specs.DebuggerStates.{DebuggerState}
@@ -36,8 +38,17 @@ module _ (B M : ℕ) (points : List (ℕ × ℕ)) (first : Bool) (old : Debugger
 
   -- the event is done, and then those behind it
   pub runs_more : (ev : Event) (line : List ℕ) (mid : DebuggerState) (later : List ℕ) (new : DebuggerState) → slice_get old.schedule old.place ≡ Some ev
-      → stop_before M points first old.past.history ev ≡ None → Does B M old ev Schedule line mid → DoesRest false mid later new → DoesRest first old (line ++ later) new
+      → stop_before M points first old.past.history ev ≡ None → Does B M old ev Schedule line mid
+      → DoesRest false mid later new → DoesRest first old (line ++ later) new
   runs_more ev line mid later new e stop does then =
       let behind : drop mid.place mid.schedule ≡ drop (old.place + 1) old.schedule = rw (does.1.schedule, does.1.place) refl in
       let rest : DoesAll B M points (drop (old.place + 1) old.schedule) false mid later new = rw behind at then in
       rw (drop_at old.schedule old.place ev e, stop) (line, mid, later, does, refl, rest)
+
+  -- what was done so far, and then its last line
+  pub ends_with : {E : Type 0} (from mid to so_far line : List ℕ) (written : Result (Unit {0}) E) (now : DebuggerState) (result : Result DebuggerState E)
+      → result ≡ result_and written (Ok now) → mid ≡ from ++ so_far → OnOk written (to ≡ mid ++ line) → DoesRest first old (so_far ++ line) now
+      → IfOk result (λ new. (text : List ℕ) × (to ≡ from ++ text) × DoesRest first old text new)
+  ends_with from mid to so_far line (Ok x) now result is done wrote does =
+      rw is (so_far ++ line, wrote ∙ ap (λ (xs : List ℕ). xs ++ line) done ∙ append_assoc from so_far line, does)
+  ends_with from mid to so_far line (Err e) now result is done wrote does = rw is tt

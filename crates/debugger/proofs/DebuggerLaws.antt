@@ -1,5 +1,6 @@
 -- The debugger's state: what came from the schedule is the schedule's up to its place.
-use Rattle.std.proofs.Common.{◌≡◌, ℕ, suc, ◌+◌, ◌-◌, ◌≤◌, ◌<◌, List, [], ◌∷◌, ◌++◌, length, take, drop, min, get_or, Some, refl, sym, ap, ◌∙◌, arith, length-append, length-drop, take_all}
+use Rattle.std.proofs.Common.{◌≡◌, ℕ, suc, ◌+◌, ◌-◌, ◌≤◌, ◌<◌, List, [], ◌∷◌, ◌++◌, length, take, drop, min, get_or}
+use Rattle.std.proofs.Common.{Some, refl, sym, ap, ◌∙◌, arith, length-append, length-drop, take_all}
 use Rattle.std.specs.List.{slice_get}
 use Rattle.std.proofs.lemmas.List.{take_more, take-take, length-take, append-nil}
 use Rattle.std.proofs.lemmas.List.Sums.{sum_by-append, sum_by-take-drop}
@@ -17,7 +18,8 @@ scheduled-append xs ys = sum_by-append _ xs ys
 pub scheduled-split : (k : ℕ) (xs : List Source) → scheduled (take k xs) + scheduled (drop k xs) ≡ scheduled xs
 scheduled-split k xs = sum_by-take-drop _ xs k
 
-of_schedule-append : (ss more : List Source) (es others : List Event) → length ss ≡ length es → of_schedule (ss ++ more) (es ++ others) ≡ of_schedule ss es ++ of_schedule more others
+of_schedule-append : (ss more : List Source) (es others : List Event) → length ss ≡ length es
+    → of_schedule (ss ++ more) (es ++ others) ≡ of_schedule ss es ++ of_schedule more others
 of_schedule-append [] more [] others same = refl
 of_schedule-append (Schedule ∷ ss) more (e ∷ es) others same = ap (λ (xs : List Event). e ∷ xs) (of_schedule-append ss more es others (omega arith))
 of_schedule-append (User ∷ ss) more (e ∷ es) others same = of_schedule-append ss more es others (omega arith)
@@ -27,20 +29,24 @@ counted_first : (s : Source) (ss : List Source) → scheduled (s ∷ ss) ≡ sch
 counted_first s ss = scheduled-append (s ∷ []) ss
 
 -- of the first events those came from the schedule that it gave first
-of_schedule-take : (k : ℕ) (ss : List Source) (es : List Event) → length ss ≡ length es → of_schedule (take k ss) (take k es) ≡ take (scheduled (take k ss)) (of_schedule ss es)
+of_schedule-take : (k : ℕ) (ss : List Source) (es : List Event) → length ss ≡ length es
+    → of_schedule (take k ss) (take k es) ≡ take (scheduled (take k ss)) (of_schedule ss es)
 of_schedule-take (suc k) [] (e ∷ es) same = absurd (omega arith)
 of_schedule-take (suc k) (s ∷ ss) [] same = absurd (omega arith)
 of_schedule-take (suc k) (Schedule ∷ ss) (e ∷ es) same =
-    let count : scheduled (Schedule ∷ take k ss) ≡ suc (scheduled (take k ss)) = counted_first Schedule (take k ss) ∙ (let one : 0 + 1 + scheduled (take k ss) ≡ suc (scheduled (take k ss)) = omega arith in one) in
+    let count : scheduled (Schedule ∷ take k ss) ≡ suc (scheduled (take k ss)) = counted_first Schedule (take k ss)
+    ∙ (let one : 0 + 1 + scheduled (take k ss) ≡ suc (scheduled (take k ss)) = omega arith in one) in
     ap (λ (xs : List Event). e ∷ xs) (of_schedule-take k ss es (omega arith)) ∙ ap (λ (n : ℕ). take n (e ∷ of_schedule ss es)) (sym count)
 of_schedule-take (suc k) (User ∷ ss) (e ∷ es) same =
-    let count : scheduled (User ∷ take k ss) ≡ scheduled (take k ss) = counted_first User (take k ss) ∙ (let none : 0 + 0 + scheduled (take k ss) ≡ scheduled (take k ss) = omega arith in none) in
+    let count : scheduled (User ∷ take k ss) ≡ scheduled (take k ss) = counted_first User (take k ss)
+    ∙ (let none : 0 + 0 + scheduled (take k ss) ≡ scheduled (take k ss) = omega arith in none) in
     of_schedule-take k ss es (omega arith) ∙ ap (λ (n : ℕ). take n (of_schedule ss es)) (sym count)
 of_schedule-take x y z same = refl
 
 -- what came from the schedule, with one event more
 done_more : (w : DebuggerState) (ev : Event) (source : Source) → w.place ≤ length w.schedule → (source ≡ Schedule → slice_get w.schedule w.place ≡ Some ev)
-    → (w.place + scheduled (source ∷ []) ≤ length w.schedule) × (take w.place w.schedule ++ of_schedule (source ∷ []) (ev ∷ []) ≡ take (w.place + scheduled (source ∷ [])) w.schedule)
+    → (w.place + scheduled (source ∷ []) ≤ length w.schedule) × (take w.place w.schedule
+    ++ of_schedule (source ∷ []) (ev ∷ []) ≡ take (w.place + scheduled (source ∷ [])) w.schedule)
 done_more w ev Schedule within next =
     let less : w.place < length w.schedule = slice_get_within w.schedule w.place ev (next refl) in
     let is : get_or w.schedule w.place ev ≡ ev = get_or_from_slice_get w.schedule w.place ev ev (next refl) in
@@ -50,7 +56,8 @@ done_more w ev User within next =
     (omega arith, append-nil (take w.place w.schedule) ∙ ap (λ (n : ℕ). take n w.schedule) none)
 
 -- an event from this source was done
-pub kept_taken : (w : DebuggerState) (past : Past) (ev : Event) (source : Source) → IsKept w → past.events ≡ w.past.events ++ ev ∷ [] → (source ≡ Schedule → slice_get w.schedule w.place ≡ Some ev)
+pub kept_taken : (w : DebuggerState) (past : Past) (ev : Event) (source : Source) → IsKept w
+    → past.events ≡ w.past.events ++ ev ∷ [] → (source ≡ Schedule → slice_get w.schedule w.place ≡ Some ev)
     → IsKept (record { past = past; schedule = w.schedule; sources = w.sources ++ source ∷ []; place = w.place + scheduled (source ∷ []) })
 kept_taken w past ev source kept events next =
     let more = done_more w ev source kept.within next in
@@ -63,7 +70,8 @@ kept_taken w past ev source kept events next =
     }
 
 -- what the sources count that are dropped, as a slice has them
-pub undone_of : (xs : List Source) (given : List Source) (left undone : ℕ) → given ≡ xs → undone ≡ scheduled (take (length given - left) (drop left given)) → undone ≡ scheduled (drop left xs)
+pub undone_of : (xs : List Source) (given : List Source) (left undone : ℕ) → given ≡ xs
+    → undone ≡ scheduled (take (length given - left) (drop left given)) → undone ≡ scheduled (drop left xs)
 undone_of xs given left undone same is = grind (arith, take_all, length-drop)
 
 -- and the schedule's place has at least so many before it

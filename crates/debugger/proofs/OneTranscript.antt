@@ -23,7 +23,8 @@ use Rattle.engine_parts.specs.Engines.{Output}
 
 -- ---- each case of a choice
 
-by_option : {X : Type 0} (o : Option X) {P p : Type 0} {Q q : X → Type 0} (Same : Type 0) → MatchOption o P Q → MatchOption o p q → (P → p → Same) → ((x : X) → Q x → q x → Same) → Same
+by_option : {X : Type 0} (o : Option X) {P p : Type 0} {Q q : X → Type 0} (Same : Type 0) → MatchOption o P Q
+    → MatchOption o p q → (P → p → Same) → ((x : X) → Q x → q x → Same) → Same
 by_option o Same a b on_none on_some = grind arith
 
 by_bool : (t : Bool) {P p Q q : Type 0} (Same : Type 0) → MatchBool t P Q → MatchBool t p q → (P → p → Same) → (Q → q → Same) → Same
@@ -37,7 +38,8 @@ same_past x y opening events history = λ i. record { opening = opening i; event
 same_way : (x y : DebuggerState) → x.past ≡ y.past → x.schedule ≡ y.schedule → x.sources ≡ y.sources → x.place ≡ y.place → x ≡ y
 same_way x y past schedule sources place = λ i. record { past = past i; schedule = schedule i; sources = sources i; place = place i }
 
-one_way : (B M : ℕ) (old : DebuggerState) (ev : Event) (source : Source) (o p : Outcome) (x y : DebuggerState) → TakesEvent B M old ev source o x → TakesEvent B M old ev source p y → (o ≡ p) × (x ≡ y)
+one_way : (B M : ℕ) (old : DebuggerState) (ev : Event) (source : Source) (o p : Outcome) (x y : DebuggerState)
+    → TakesEvent B M old ev source o x → TakesEvent B M old ev source p y → (o ≡ p) × (x ≡ y)
 one_way B M old ev source o p x y a b = grind (arith, happens-one, same_past, same_way)
 
 one_way_back : (B M : ℕ) (old : DebuggerState) (k : ℕ) (x y : DebuggerState) → GoesBackBy B M old k x → GoesBackBy B M old k y → x ≡ y
@@ -60,7 +62,8 @@ one_breaks : (h : History) (hart pc : ℕ) (old x y : List (ℕ × ℕ)) (s t : 
 one_breaks h hart pc old x y s t a b = grind (arith, by_bool, one_toggled)
 
 module _ (B M : ℕ) where
-  one_does : (old : DebuggerState) (ev : Event) (source : Source) (s t : List ℕ) (x y : DebuggerState) → Does B M old ev source s x → Does B M old ev source t y → AreSame s t x y
+  one_does : (old : DebuggerState) (ev : Event) (source : Source) (s t : List ℕ) (x y : DebuggerState)
+      → Does B M old ev source s x → Does B M old ev source t y → AreSame s t x y
   one_does old ev source s t x y a b =
       let same = one_way B M old ev source a.0 b.0 x y a.1 b.1 in
       (a.2 ∙ ap (outcome_line ev) same.0 ∙ sym b.2, same.1)
@@ -79,9 +82,12 @@ module _ (B M : ℕ) where
       (e.4 ∙ ap (λ (line : List ℕ). line ++ e.2) here.0 ∙ ap (λ (later : List ℕ). f.0 ++ later) behind.0 ∙ sym f.4, behind.1))
       (λ point e f. (e.0 ∙ sym f.0, e.1 ∙ sym f.1))
 
-  one_answers : (said : Command) (old x y : DebuggerState) (points p q : List (ℕ × ℕ)) (s t : List ℕ) → Answers B M said old x points p s → Answers B M said old y points q t → AreAlike s t x y p q
+  one_answers : (said : Command) (old x y : DebuggerState) (points p q : List (ℕ × ℕ)) (s t : List ℕ)
+      → Answers B M said old x points p s → Answers B M said old y points q t → AreAlike s t x y p q
   one_answers command.Step old x y points p q s t a b = let same = one_next old s t x y a.0 b.0 in (same.0, same.1, a.1 ∙ sym b.1)
-  one_answers command.Go old x y points p q s t a b = let same = one_all points (drop old.place old.schedule) true old s t x y a.0 b.0 in (same.0, same.1, a.1 ∙ sym b.1)
+  one_answers command.Go old x y points p q s t a b =
+      let same = one_all points (drop old.place old.schedule) true old s t x y a.0 b.0 in
+      (same.0, same.1, a.1 ∙ sym b.1)
   one_answers (command.Give ev) old x y points p q s t a b = let same = one_does old ev User s t x y a.0 b.0 in (same.0, same.1, a.1 ∙ sym b.1)
   one_answers (command.Break hart pc) old x y points p q s t a b =
       let same = one_breaks old.past.history hart pc points p q s t a.0 b.0 in (same.0, a.1 ∙ sym b.1, same.1)
@@ -90,18 +96,25 @@ module _ (B M : ℕ) where
 
   -- ---- lines
 
-  one_line : (line : List ℕ) (old x y : DebuggerState) (points p q : List (ℕ × ℕ)) (s t : List ℕ) → AnswersLine B M line old x points p s → AnswersLine B M line old y points q t → AreAlike s t x y p q
+  one_line : (line : List ℕ) (old x y : DebuggerState) (points p q : List (ℕ × ℕ)) (s t : List ℕ)
+      → AnswersLine B M line old x points p s → AnswersLine B M line old y points q t → AreAlike s t x y p q
   one_line line old x y points p q s t a b =
-      by_option (command_in (tokens line)) (AreAlike s t x y p q) a b (λ e f. (e.0 ∙ sym f.0, e.1 ∙ sym f.1, e.2 ∙ sym f.2)) (λ said. one_answers said old x y points p q s t)
+      by_option (command_in (tokens line)) (AreAlike s t x y p q) a b
+      (λ e f. (e.0 ∙ sym f.0, e.1 ∙ sym f.1, e.2 ∙ sym f.2)) (λ said. one_answers said old x y points p q s t)
 
-  one_transcript : (ls : List (List ℕ)) (old : DebuggerState) (points : List (ℕ × ℕ)) (s t : List ℕ) → Transcript B M ls old points s → Transcript B M ls old points t → s ≡ t
+  one_transcript : (ls : List (List ℕ)) (old : DebuggerState) (points : List (ℕ × ℕ)) (s t : List ℕ)
+      → Transcript B M ls old points s → Transcript B M ls old points t → s ≡ t
   one_transcript [] old points s t a b = a ∙ sym b
   one_transcript (line ∷ ls) old points s t a b =
       by_bool (quits (command_in (tokens line))) (s ≡ t) a b (λ e f. e ∙ sym f)
       (λ e f. let here = one_line line old e.1 f.1 points e.2 f.2 e.0 f.0 e.4 f.4 in
-      let moved = subst (λ (left : List (ℕ × ℕ)). Transcript B M ls e.1 left f.3) (sym here.2) (subst (λ (w : DebuggerState). Transcript B M ls w f.2 f.3) (sym here.1) f.6) in
+      let moved = subst (λ (left : List (ℕ × ℕ)). Transcript B M ls e.1 left f.3) (sym here.2)
+      (subst (λ (w : DebuggerState). Transcript B M ls w f.2 f.3) (sym here.1) f.6) in
       e.5 ∙ ap (λ (text : List ℕ). text ++ e.3) here.0 ∙ ap (λ (later : List ℕ). f.0 ++ later) (one_transcript ls e.1 e.2 e.3 f.3 e.6 moved) ∙ sym f.5)
 
   -- of a test, its events and a user's lines
-  pub one_transcript_of : (input : List ℕ) (test : LitmusTest) (events : List Event) (a b : Output) → IsTranscript B M (Some input) test events a → IsTranscript B M (Some input) test events b → a ≡ b
-  one_transcript_of input test events a b is other = let same = one_transcript (lines input) (at_start test.opening events) [] a.0 b.0 is other in λ i. (same i, tt)
+  pub one_transcript_of : (input : List ℕ) (test : LitmusTest) (events : List Event) (a b : Output)
+      → IsTranscript B M (Some input) test events a → IsTranscript B M (Some input) test events b → a ≡ b
+  one_transcript_of input test events a b is other =
+      let same = one_transcript (lines input) (at_start test.opening events) [] a.0 b.0 is other in
+      λ i. (same i, tt)

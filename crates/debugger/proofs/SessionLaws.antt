@@ -1,11 +1,18 @@
--- What a session's history is: the run of its events from its opening.
-use Rattle.std.proofs.Common.{ℕ, List, [], ◌∷◌, ◌++◌}
+-- What a session's history and snapshots are after one event more.
+use Rattle.std.proofs.Common.{◌≡◌, ℕ, List, [], ◌∷◌, ◌++◌, sym, subst}
 use Rattle.step_machine.specs.declared.events.Event.{Event}
 use Rattle.step_machine.specs.declared.events.Outcome.{Outcome}
-use Rattle.step_machine.specs.History.{History, unrun}
+use Rattle.step_machine.specs.History.{Start, History, unrun}
 use Rattle.step_machine.specs.Runs.{Happens, Run}
+use Rattle.step_machine.specs.Snapshots.{Taken}
 use Rattle.step_machine.proofs.Running.{RunFrom-more}
+use Rattle.debugger.specs.inner.SnapshotsHeld.{HasSnapshots}
 
--- of one event more
-pub runs_on : (B M : ℕ) (t : History) (evs : List Event) (ev : Event) (o : Outcome) (new : History) → Run B M t.opening evs t → Happens B M t ev o new → Run B M t.opening (evs ++ ev ∷ []) new
-runs_on B M t evs ev o new ran happens = RunFrom-more B M (unrun t.opening) evs t ev o new ran happens
+-- the run of all events, and the snapshots that are held for it
+pub went_on : (B M : ℕ) (t : History) (evs : List Event) (ev : Event) (o : Outcome) (new : History) (ss : List Taken)
+    → Run B M t.opening evs t → Happens B M t ev o new → new.opening ≡ t.opening
+    → (Run B M t.opening (evs ++ ev ∷ []) new → HasSnapshots B M t.opening (evs ++ ev ∷ []) ss)
+    → Run B M new.opening (evs ++ ev ∷ []) new × HasSnapshots B M new.opening (evs ++ ev ∷ []) ss
+went_on B M t evs ev o new ss ran happens kept held =
+    let on = RunFrom-more B M (unrun t.opening) evs t ev o new ran happens in
+    subst (λ (opening : Start). Run B M opening (evs ++ ev ∷ []) new × HasSnapshots B M opening (evs ++ ev ∷ []) ss) (sym kept) (on, held on)

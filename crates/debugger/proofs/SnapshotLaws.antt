@@ -1,6 +1,9 @@
 -- A session's snapshots: each was taken where the run of the first events ended, and the session's own
 -- history began so.
-use Rattle.std.proofs.Common.{◌≡◌, ℕ, zero, suc, ◌+◌, ◌-◌, ◌*◌, ◌/◌, ◌%◌, ◌<◌, ◌≤◌, ◌⊎◌, inl, inr, List, [], ◌∷◌, ◌++◌, length, take, drop, get_or, Some, refl, sym, ◌∙◌, ap, subst, arith, append-nil, append_assoc, length-append, length-drop, length-take-le, take-append-drop, take_all, take-take}
+use Rattle.std.proofs.Common.{◌≡◌, ℕ, zero, suc, ◌+◌, ◌-◌, ◌*◌, ◌/◌, ◌%◌, ◌<◌, ◌≤◌, ◌⊎◌, inl, inr, List, [], ◌∷◌, ◌++◌}
+use Rattle.std.proofs.Common.{length, take, drop, get_or, Some, refl, sym, ◌∙◌, ap, subst, arith, append-nil}
+use Rattle.std.proofs.Common.{append_assoc, length-append, length-drop, length-take-le, take-append-drop, take_all}
+use Rattle.std.proofs.Common.{take-take}
 use Rattle.std.specs.List.{slice_get}
 use Rattle.std.proofs.Math.Seq.{take-append_seam}
 use Rattle.std.proofs.lemmas.Bool.{cases_lt}
@@ -32,12 +35,14 @@ goes_on-run B M t [] new run = ([], run ∙ ap (history_of t.opening) (sym (appe
 goes_on-run B M t (ev ∷ evs) new run = grind (arith, goes_on-happens, append_assoc, goes_on-run B M run.1 evs new run.3)
 
 -- a run's events, cut in two
-run_cut : (B M : ℕ) (t : History) (evs more : List Event) (new : History) → RunFrom B M t (evs ++ more) new → (mid : History) × RunFrom B M t evs mid × RunFrom B M mid more new
+run_cut : (B M : ℕ) (t : History) (evs more : List Event) (new : History) → RunFrom B M t (evs ++ more) new
+    → (mid : History) × RunFrom B M t evs mid × RunFrom B M mid more new
 run_cut B M t [] more new run = (t, refl, run)
 run_cut B M t (ev ∷ evs) more new run = grind (arith, run_cut B M run.1 evs more new run.3)
 
 -- what the first events make is the front of what all of them make
-run_front : (B M : ℕ) (t : History) (evs more : List Event) (new mid : History) → RunFrom B M t (evs ++ more) new → RunFrom B M t evs mid → up_to (length mid.entries) new ≡ mid
+run_front : (B M : ℕ) (t : History) (evs more : List Event) (new mid : History) → RunFrom B M t (evs ++ more) new
+    → RunFrom B M t evs mid → up_to (length mid.entries) new ≡ mid
 run_front B M t evs more new mid run first = grind (arith, run_cut, run-one, goes_on-run, take-append_seam)
 
 -- ---- the snapshots
@@ -50,19 +55,22 @@ still_taken B M o evs ev ss k d has within =
     subst (λ (es : List Event). IsTakenAfter B M o es (get_or ss k d)) (sym (take-append-le (k * SNAPSHOT_EVENTS) evs (ev ∷ []) before)) (has.taken k d within)
 
 -- an event more, after which none is taken
-pub none_taken : (B M : ℕ) (o : Start) (evs : List Event) (ev : Event) (ss : List Taken) → HasSnapshots B M o evs ss → ((length evs + 1) % SNAPSHOT_EVENTS ≡ 0 → ⊥)
+pub none_taken : (B M : ℕ) (o : Start) (evs : List Event) (ev : Event) (ss : List Taken) → HasSnapshots B M o evs ss
+    → ((length evs + 1) % SNAPSHOT_EVENTS ≡ 0 → ⊥)
     → HasSnapshots B M o (evs ++ ev ∷ []) ss
 none_taken B M o evs ev ss has between = grind (arith, length-append, still_taken)
 
 -- an event more, after which one is taken
-pub one_taken : (B M : ℕ) (o : Start) (evs : List Event) (ev : Event) (ss : List Taken) (t : History) (s : Taken) → HasSnapshots B M o evs ss → (length evs + 1) % SNAPSHOT_EVENTS ≡ 0
+pub one_taken : (B M : ℕ) (o : Start) (evs : List Event) (ev : Event) (ss : List Taken) (t : History) (s : Taken)
+    → HasSnapshots B M o evs ss → (length evs + 1) % SNAPSHOT_EVENTS ≡ 0
     → Run B M o (evs ++ ev ∷ []) t → IsTakenAt B M t s → HasSnapshots B M o (evs ++ ev ∷ []) (ss ++ s ∷ [])
 one_taken B M o evs ev ss t s has due ran taken =
     let longer : length (evs ++ ev ∷ []) ≡ length evs + 1 = length-append evs (ev ∷ []) in
     let one_more : length (ss ++ s ∷ []) ≡ length ss + 1 = length-append ss (s ∷ []) in
     record { count = omega (arith, has.count, longer, one_more, due); taken = λ k d within. at k d longer one_more within (cases_lt k (length ss)) }
   where
-    at : (k : ℕ) (d : Taken) → length (evs ++ ev ∷ []) ≡ length evs + 1 → length (ss ++ s ∷ []) ≡ length ss + 1 → k < length (ss ++ s ∷ []) → (k < length ss) ⊎ (length ss ≤ k)
+    at : (k : ℕ) (d : Taken) → length (evs ++ ev ∷ []) ≡ length evs + 1 → length (ss ++ s ∷ []) ≡ length ss + 1
+        → k < length (ss ++ s ∷ []) → (k < length ss) ⊎ (length ss ≤ k)
         → IsTakenAfter B M o (take (k * SNAPSHOT_EVENTS) (evs ++ ev ∷ [])) (get_or (ss ++ s ∷ []) k d)
     at k d longer one_more within (inl old) = rw (get_or_append_left ss (s ∷ []) d k old) (still_taken B M o evs ev ss k d has old)
     at k d longer one_more within (inr new) =
@@ -75,10 +83,12 @@ cut_to : (B M : ℕ) (o : Start) (evs : List Event) (ss : List Taken) (n : ℕ) 
     → HasSnapshots B M o (take n evs) (take (n / SNAPSHOT_EVENTS + 1) ss)
 cut_to B M o evs ss n has within =
     let few : length (take n evs) ≡ n = length-take-le n evs within in
-    let held : length (take (n / SNAPSHOT_EVENTS + 1) ss) ≡ n / SNAPSHOT_EVENTS + 1 = length-take-le (n / SNAPSHOT_EVENTS + 1) ss (omega (arith, has.count, within)) in
+    let held : length (take (n / SNAPSHOT_EVENTS + 1) ss) ≡ n / SNAPSHOT_EVENTS + 1 =
+    length-take-le (n / SNAPSHOT_EVENTS + 1) ss (omega (arith, has.count, within)) in
     record { count = held ∙ ap (λ (m : ℕ). m / SNAPSHOT_EVENTS + 1) (sym few); taken = λ k d below. at k d (omega (arith, held, below)) }
   where
-    at : (k : ℕ) (d : Taken) → k < n / SNAPSHOT_EVENTS + 1 → IsTakenAfter B M o (take (k * SNAPSHOT_EVENTS) (take n evs)) (get_or (take (n / SNAPSHOT_EVENTS + 1) ss) k d)
+    at : (k : ℕ) (d : Taken) → k < n / SNAPSHOT_EVENTS + 1
+        → IsTakenAfter B M o (take (k * SNAPSHOT_EVENTS) (take n evs)) (get_or (take (n / SNAPSHOT_EVENTS + 1) ss) k d)
     at k d below =
         rw (get_or-take (n / SNAPSHOT_EVENTS + 1) ss k d below)
         (rw (take-take (k * SNAPSHOT_EVENTS) n evs (omega (arith, below))) (has.taken k d (omega (arith, has.count, within, below))))

@@ -1,6 +1,9 @@
 -- A user's lines, read one by one.
-use Rattle.std.proofs.Common.{◌≡◌, ℕ, ◌+◌, ◌<◌, Bool, true, false, List, [], ◌∷◌, ◌++◌, length, take, drop, Option, Some, None, Result, Ok, Err, refl, sym, ap, subst, ◌∙◌, ◌⊎◌, inl, inr, arith}
-use Rattle.std.specs.Prelude.{position, IfSome, IfErr, OnOk, MatchBool}
+use Rattle.std.proofs.Common.{◌≡◌, ℕ, ◌+◌, ◌<◌, Bool, true, false, List, [], ◌∷◌, ◌++◌, length, take, drop, Option}
+use Rattle.std.proofs.Common.{Some, None, Result, Ok, Err, refl, sym, ap, subst, ◌∙◌, ◌⊎◌, inl, inr, arith}
+use Rattle.std.specs.Prelude.{position, IfSome, IfOk, IfErr, OnOk, MatchBool}
+use Rattle.std.specs.Result.{result_and}
+use Rattle.std.specs.String.{string_bytes}
 use Rattle.std.specs.List.{position_or_len}
 use Rattle.std.specs.declared.string.String.{String}
 use Rattle.std.specs.Global.{Global}
@@ -17,10 +20,15 @@ use Rattle.step_machine.specs.declared.events.Event.{Event}
 use Rattle.recorder.specs.Versions.{events_said}
 use Rattle.debugger.specs.DebuggerStates.{DebuggerState, at_start}
 use Rattle.debugger.specs.Commands.{command_in}
+use Rattle.debugger.specs.declared.debug.command.Command.{Command}
+use Rattle.debugger.specs.declared.debug.command.Command.TheVariants.{Quit}
 use Rattle.engine_parts.specs.declared.fault.Fault.{Fault}
 use Rattle.engine_parts.specs.declared.fault.Fault.TheVariants.{ReadFailed, WriteFailed, NoMemory, Refused}
-use Rattle.debugger.specs.Transcripts.{AnswersLine, EndsInteractive, IsDebugAnswer, IsDebugFront, IsDebugSome, IsTranscript, OnRefused, OnStopped, OnUnwritten, Prints, PrintsFront, PrintsSome, Transcript, quits}
+use Rattle.debugger.specs.Transcripts.{AnswersLine, AnswersSaid, EndsInteractive, IsDebugAnswer, IsDebugFront}
+use Rattle.debugger.specs.Transcripts.{IsDebugSome, IsTranscript, OnRefused, OnStopped, OnUnwritten, Prints}
+use Rattle.debugger.specs.Transcripts.{PrintsFront, PrintsSome, Transcript, quits}
 use Rattle.engine_parts.specs.inner.Making.{Finds, IsEndOf, text_and_value}
+use Rattle.debugger.specs.inner.Asking.{AsksNext, IsNextLine}
 use Rattle.debugger.specs.inner.Failures.{IsFailure, IsReadFailure, IsAtStart}
 use Rattle.engine_parts.specs.Engines.{AnswersBoth, Output}
 use Rattle.engine_parts.specs.Histories.{AnswersEvents, ByEvents}
@@ -32,7 +40,8 @@ use Rattle.engine_parts.proofs.ScheduleLaws.{by_schedule_as, weaker_both}
 abbrev line_len : List ℕ → ℕ
 line_len bytes = position_or_len is_line_feed bytes
 
-through_is : (bytes : List ℕ) → (take_through 10 bytes ≡ take (line_len bytes + 1) bytes) × (drop_through 10 bytes ≡ drop (line_len bytes + 1) bytes) × (line_len (take_through 10 bytes) ≡ line_len bytes)
+through_is : (bytes : List ℕ) → (take_through 10 bytes ≡ take (line_len bytes + 1) bytes)
+    × (drop_through 10 bytes ≡ drop (line_len bytes + 1) bytes) × (line_len (take_through 10 bytes) ≡ line_len bytes)
 through_is [] = (refl, refl, refl)
 through_is (byte ∷ bytes) = grind (arith, cases_Bool, through_is bytes)
 
@@ -40,7 +49,8 @@ position_at : (bytes : List ℕ) (i : ℕ) → line_len bytes ≡ i → i < leng
 position_at bytes i is within = rw is (rw (lt-ltb i (length bytes) within) refl)
 
 -- the first line depends on its own bytes alone
-pub first_line_of : (bytes line : List ℕ) (none : List (List ℕ)) → lines (take_through 10 bytes) ≡ line ∷ none → lines bytes ≡ line ∷ lines (drop_through 10 bytes)
+pub first_line_of : (bytes line : List ℕ) (none : List (List ℕ)) → lines (take_through 10 bytes) ≡ line ∷ none
+    → lines bytes ≡ line ∷ lines (drop_through 10 bytes)
 first_line_of [] line none is = absurd cc
 first_line_of (byte ∷ bytes) line none is = at (position is_line_feed (byte ∷ bytes)) refl
   where
@@ -55,7 +65,10 @@ first_line_of (byte ∷ bytes) line none is = at (position is_line_feed (byte �
         let long : length (take_through 10 all) ≡ i + 1 = ap length front ∙ length-take-le (i + 1) all (omega arith) in
         let again : position is_line_feed (take_through 10 all) ≡ Some i = position_at (take_through 10 all) i (through.2 ∙ place.1) (omega arith) in
         let same : take i (take_through 10 all) ≡ take i all = ap (take i) front ∙ take-take i (i + 1) all (omega arith) in
-        let reads_line : line ≡ strip_carriage_return (take i all) = let first_line = lines_found (take_through 10 all) i again in let e : line ≡ strip_carriage_return (take i (take_through 10 all)) = cc in e ∙ ap strip_carriage_return same in
+        let reads_line : line ≡ strip_carriage_return (take i all) =
+        let first_line = lines_found (take_through 10 all) i again in
+        let e : line ≡ strip_carriage_return (take i (take_through 10 all)) = cc in
+        e ∙ ap strip_carriage_return same in
         lines_found all i found ∙ ap (λ (l : List ℕ). l ∷ lines (drop (i + 1) all)) (sym reads_line) ∙ ap (λ (rest : List ℕ). line ∷ lines rest) (sym back)
     at None none_found =
         let all = byte ∷ bytes in
@@ -73,6 +86,23 @@ no_byte (byte ∷ bytes) e = elim (cases_Bool (is_line_feed byte)) [
   | inl is ↦ (let f : byte ∷ [] ≡ [] = rw is at e in cc)
   | inr other ↦ (let f : byte ∷ take_through 10 bytes ≡ [] = rw other at e in cc)
 ]
+
+-- what was read through the first LF is nothing, so the input has ended
+pub asks_end : (old new : Option (List ℕ)) (read text : List ℕ) → IfSome old (λ bytes. read ≡ take_through 10 bytes) → text ≡ read → text ≡ []
+    → AsksNext old new (Some Quit)
+asks_end None new read text is whole none = inl (tt, refl)
+asks_end (Some bytes) new read text is whole none = inl (ap lines (no_byte bytes (sym is ∙ sym whole ∙ none)), refl)
+
+-- or it is the next line
+pub asks_line : (old new : Option (List ℕ)) (read text line : List ℕ) (others : List (List ℕ)) (said : Option Command)
+    → IfSome old (λ bytes. read ≡ take_through 10 bytes) → DropsThrough old new 10 → text ≡ read → lines text ≡ line ∷ others → said ≡ command_in (tokens line)
+    → AsksNext old new said
+asks_line None new read text line others said is drops whole says asks = inr (line, asks, tt)
+asks_line (Some bytes) new read text line others said is drops whole says asks = inr (
+  line,
+  asks,
+  rw drops (first_line_of bytes line others (ap lines (sym is ∙ sym whole) ∙ says)),
+)
 
 -- ---- what a writer holds, where that is known
 
@@ -133,14 +163,6 @@ module _ {B M : ℕ} {input left old new : Option (List ℕ)} {start now : Debug
       at (Some bytes) None done are = absurd done
       at (Some bytes) (Some rest) done are = rw (done, are) (t.leads more [] talks)
 
-  -- nothing was left to read
-  pub talked_out : (read : List ℕ) → IfSome left (λ bytes. read ≡ take_through 10 bytes) → read ≡ [] → Printed old new (Prints B M input start [])
-  talked_out read is none = ends [] (at left is) refl
-    where
-      at : (left : Option (List ℕ)) → IfSome left (λ bytes. read ≡ take_through 10 bytes) → IfSome left (λ rest. lines rest ≡ [])
-      at None is = tt
-      at (Some bytes) is = ap lines (no_byte bytes (sym is ∙ none))
-
   -- what the lines print that were answered
   pub talked_so_far : Printed old new (PrintsFront B M input start [])
   talked_so_far = (t.so_far ++ [], rw append-nil t.appends, at input left t.are_done)
@@ -150,50 +172,71 @@ module _ {B M : ℕ} {input left old new : Option (List ℕ)} {start now : Debug
       at (Some bytes) None done = absurd done
       at (Some bytes) (Some rest) done = (t.done ++ [], lines rest, rw append-nil done, t.leads [] [] refl)
 
-  -- ---- a line that was read
+  -- ---- what was asked for next
 
-  module _ (read line : List ℕ) (none : List (List ℕ)) (is : IfSome left (λ bytes. read ≡ take_through 10 bytes)) (says : lines read ≡ line ∷ none) where
-    -- it ends the transcript
-    pub talked_enough : quits (command_in (tokens line)) ≡ true → Printed old new (Prints B M input start [])
-    talked_enough quit = let here = at left is in ends (line ∷ here.0) here.1 (on_true (quits (command_in (tokens line))) _ _ quit refl)
+  -- it ends the transcript
+  pub talked_enough : (next : Option (List ℕ)) (said : Option Command) → AsksNext left next said → quits said ≡ true
+      → Printed old new (Prints B M input start [])
+  talked_enough next said (inl (none, end)) quit = ends [] none refl
+  talked_enough next said (inr (line, asks, is)) quit =
+      let here = at left next is in ends (line ∷ here.0) here.1 (on_true (quits (command_in (tokens line))) _ _ (ap quits (sym asks) ∙ quit) refl)
+    where
+      at : (left next : Option (List ℕ)) → IsNextLine left next line → (others : List (List ℕ)) × IfSome left (λ rest. lines rest ≡ line ∷ others)
+      at None next is = ([], tt)
+      at (Some bytes) None is = absurd is
+      at (Some bytes) (Some rest) is = (lines rest, is)
+
+  module _ (next : Option (List ℕ)) (said : Option Command) (asks : AsksNext left next said) (goes : quits said ≡ false) where
+    -- a line asked for it
+    asked : (line : List ℕ) × (said ≡ command_in (tokens line)) × IsNextLine left next line
+    asked = at asks
       where
-        at : (left : Option (List ℕ)) → IfSome left (λ bytes. read ≡ take_through 10 bytes) → (others : List (List ℕ)) × IfSome left (λ rest. lines rest ≡ line ∷ others)
-        at None is = ([], tt)
-        at (Some bytes) is = (lines (drop_through 10 bytes), first_line_of bytes line none (ap lines (sym is) ∙ says))
+        at : AsksNext left next said → (line : List ℕ) × (said ≡ command_in (tokens line)) × IsNextLine left next line
+        at (inl (none, end)) = absurd (let quit : quits said ≡ true = ap quits end in cc)
+        at (inr by_line) = by_line
+
+    -- what it prints, in a transcript whose other lines go on from there
+    prints : (then : DebuggerState) (others : List (ℕ × ℕ)) (text : List ℕ) → AnswersSaid B M said now then points others text
+        → (more : List (List ℕ)) (later : List ℕ) → Transcript B M more then others later
+        → Transcript B M (t.done ++ asked.0 ∷ more) start [] (t.so_far ++ (text ++ later))
+    prints then others text answers more later talks =
+        let answers_line : AnswersLine B M asked.0 now then points others text =
+        subst (λ (o : Option Command). AnswersSaid B M o now then points others text) asked.1 answers in
+        t.leads (asked.0 ∷ more) (text ++ later)
+        (on_false (quits (command_in (tokens asked.0))) _ _ (ap quits (sym asked.1) ∙ goes) (text, then, others, later, answers_line, refl, talks))
 
     -- it is answered, whether the writer takes what it prints or not
-    pub talked_some : (then : DebuggerState) (others : List (ℕ × ℕ)) (text : List ℕ) → quits (command_in (tokens line)) ≡ false → AnswersLine B M line now then points others text
+    pub talked_some : (then : DebuggerState) (others : List (ℕ × ℕ)) (text : List ℕ) → AnswersSaid B M said now then points others text
         → (out : List ℕ) × PrintsSome B M input start [] out
-    talked_some then others text goes answers =
-        (t.so_far ++ (text ++ []), at input left t.are_done is (t.leads (line ∷ []) (text ++ []) (on_false (quits (command_in (tokens line))) _ _ goes (text, then, others, [], answers, refl, refl))))
+    talked_some then others text answers =
+        (t.so_far ++ (text ++ []), at input left next t.are_done asked.2 (prints then others text answers [] [] refl))
       where
-        at : (input left : Option (List ℕ)) → AreDone input left t.done → IfSome left (λ bytes. read ≡ take_through 10 bytes)
-            → Transcript B M (t.done ++ line ∷ []) start [] (t.so_far ++ (text ++ [])) → PrintsSome B M input start [] (t.so_far ++ (text ++ []))
-        at None left done is talks = (t.done, line, talks)
-        at (Some bytes) None done is talks = absurd done
-        at (Some bytes) (Some rest) done is talks =
-            (t.done, line, lines (drop_through 10 rest), done ∙ ap (λ (ls : List (List ℕ)). t.done ++ ls) (first_line_of rest line none (ap lines (sym is) ∙ says)), talks)
+        at : (input left next : Option (List ℕ)) → AreDone input left t.done → IsNextLine left next asked.0
+            → Transcript B M (t.done ++ asked.0 ∷ []) start [] (t.so_far ++ (text ++ [])) → PrintsSome B M input start [] (t.so_far ++ (text ++ []))
+        at None left next done is talks = (t.done, asked.0, talks)
+        at (Some bytes) None next done is talks = absurd done
+        at (Some bytes) (Some rest) None done is talks = absurd is
+        at (Some bytes) (Some rest) (Some later) done is talks =
+            (t.done, asked.0, lines later, done ∙ ap (λ (ls : List (List ℕ)). t.done ++ ls) is, talks)
 
     -- it is answered, and the writer has got what it prints
-    pub talked_on : (next newer : Option (List ℕ)) (then : DebuggerState) (others : List (ℕ × ℕ)) (text : List ℕ) → DropsThrough left next 10
-        → quits (command_in (tokens line)) ≡ false → AnswersLine B M line now then points others text → Appends new newer text
-        → Talked B M input next old newer start then others
-    talked_on next newer then others text drops goes answers appends = record {
-      done = t.done ++ line ∷ [];
+    pub talked_on : (newer : Option (List ℕ)) (then : DebuggerState) (others : List (ℕ × ℕ)) (text : List ℕ) → AnswersSaid B M said now then points others text
+        → Appends new newer text → Talked B M input next old newer start then others
+    talked_on newer then others text answers appends = record {
+      done = t.done ++ asked.0 ∷ [];
       so_far = t.so_far ++ text;
-      are_done = at input left t.are_done is drops;
+      are_done = at input left next t.are_done asked.2;
       appends = appends_more old new newer t.so_far text t.appends appends;
-      leads = λ more later talks. rw (append_assoc t.done (line ∷ []) more, append_assoc t.so_far text later)
-          (t.leads (line ∷ more) (text ++ later) (on_false (quits (command_in (tokens line))) _ _ goes (text, then, others, later, answers, refl, talks)));
+      leads = λ more later talks. rw (append_assoc t.done (asked.0 ∷ []) more, append_assoc t.so_far text later)
+          (prints then others text answers more later talks);
     }
       where
-        at : (input left : Option (List ℕ)) → AreDone input left t.done → IfSome left (λ bytes. read ≡ take_through 10 bytes) → DropsThrough left next 10
-            → AreDone input next (t.done ++ line ∷ [])
-        at None left done is drops = tt
-        at (Some bytes) None done is drops = absurd done
-        at (Some bytes) (Some rest) done is drops =
-            rw drops (done ∙ ap (λ (ls : List (List ℕ)). t.done ++ ls) (first_line_of rest line none (ap lines (sym is) ∙ says))
-            ∙ sym (append_assoc t.done (line ∷ []) (lines (drop_through 10 rest))))
+        at : (input left next : Option (List ℕ)) → AreDone input left t.done → IsNextLine left next asked.0 → AreDone input next (t.done ++ asked.0 ∷ [])
+        at None left next done is = tt
+        at (Some bytes) None next done is = absurd done
+        at (Some bytes) (Some rest) None done is = absurd is
+        at (Some bytes) (Some rest) (Some later) done is =
+            done ∙ ap (λ (ls : List (List ℕ)). t.done ++ ls) is ∙ sym (append_assoc t.done (asked.0 ∷ []) (lines later))
 
 pub stopped : {V : Type 0} (result : Result V Fault) (P : Type 0) → P → OnStopped result P
 stopped result P p = grind arith
@@ -202,34 +245,46 @@ pub unwritten : {V : Type 0} (result : Result V Fault) (P : Type 0) → P → On
 unwritten result P p = grind arith
 
 -- what only reads fails by no refusal and no write
-pub read_fails : (result : Result (Unit {0}) Fault) (fault : Fault) (P : Type 0) → result ≡ Err fault → IsReadFailure fault → IfErr result IsFailure × OnUnwritten result P
+pub read_fails : (result : Result (Unit {0}) Fault) (fault : Fault) (P : Type 0) → result ≡ Err fault
+    → IsReadFailure fault → IfErr result IsFailure × OnUnwritten result P
 read_fails result fault P is failed = grind arith
 
--- a write that failed is no stop
-pub write_stops : {W : Type 0} (made : String Global × Unit {0}) (result : Result (Unit {0}) Fault) (fault : Fault) (contents : W → Option (List ℕ)) (old new : W) (P : Type 0) → result ≡ Err fault → IsEndOf text_and_value (Ok made) (Err fault) contents old new → OnStopped result P
-write_stops made result fault contents old new P is end = grind arith
+-- ---- a reply
 
--- ---- what a transcript was, once it is over
+-- what was answered is written, or a write failed
+pub replied : {W : Type 0} (B M : ℕ) (said : Option Command) (old kept : DebuggerState) (points others : List (ℕ × ℕ)) (made : String Global × Unit {0})
+    (written : Result (Unit {0}) Fault) (result : Result DebuggerState Fault) (contents : W → Option (List ℕ)) (before after : W) (text : List ℕ)
+    → result ≡ result_and written (Ok kept) → IsEndOf text_and_value (Ok made) written contents before after → string_bytes made.0 ≡ text
+    → AnswersSaid B M said old kept points others text
+    → IfOk result (λ new. (text : List ℕ) × AnswersSaid B M said old new points others text × Appends (contents before) (contents after) text)
+    × IfErr result IsFailure × OnStopped result (after ≡ before)
+    × OnUnwritten result ((new : DebuggerState) × (left : List (ℕ × ℕ)) × (text : List ℕ) × AnswersSaid B M said old new points left text)
+replied B M said old kept points others made (Ok v) result contents before after text is end whole answers =
+    rw is ((text, answers, subst (Appends (contents before) (contents after)) whole end.1), tt, tt, tt)
+replied B M said old kept points others made (Err WriteFailed) result contents before after text is end whole answers =
+    rw is (tt, tt, tt, (kept, others, text, answers))
+replied B M said old kept points others made (Err other) result contents before after text is end whole answers = absurd end
 
--- no line was read
-pub no_line : (read text : List ℕ) → text ≡ read → lines text ≡ [] → read ≡ []
-no_line read [] is none = sym is
-no_line read (byte ∷ text) is none = absurd (some_line byte text none)
-  where
-    some_line : (byte : ℕ) (text : List ℕ) → lines (byte ∷ text) ≡ [] → ⊥
-    some_line byte text none = at (position is_line_feed (byte ∷ text)) refl
-      where
-        at : (o : Option ℕ) → position is_line_feed (byte ∷ text) ≡ o → ⊥
-        at (Some i) found = let e = lines_found (byte ∷ text) i found in cc
-        at None whole = let e = lines_whole (byte ∷ text) whole (omega arith) in cc
+-- a fault of it is handed on
+module _ (result : Result (Unit {0}) Fault) (fault : Fault) (is : result ≡ Err fault) where
+  pub reply_fails : IsFailure fault → IfErr result IsFailure
+  reply_fails failed = rw is failed
 
--- a write that failed is no refusal
-pub failed_end : {W : Type 0} (made : String Global × Unit {0}) (fault : Fault) (contents : W → Option (List ℕ)) (old new : W) → IsEndOf text_and_value (Ok made) (Err fault) contents old new → IsFailure fault
-failed_end made fault contents old new end = grind arith
+  pub reply_stops : {W : Type 0} (before after : W) (P : W → Type 0)
+      → OnStopped {V = DebuggerState} (Err fault) (after ≡ before) → P before → OnStopped result (P after)
+  reply_stops before after P same holds = at fault is same
+    where
+      at : (fault : Fault) → result ≡ Err fault → OnStopped {V = DebuggerState} (Err fault) (after ≡ before) → OnStopped result (P after)
+      at ReadFailed is same = rw is (subst P (sym same) holds)
+      at NoMemory is same = rw is (subst P (sym same) holds)
+      at other is same = rw is tt
 
--- a result that is such a fault
-pub fails : (result : Result (Unit {0}) Fault) (fault : Fault) → result ≡ Err fault → IsFailure fault → IfErr result IsFailure
-fails result fault is failed = rw is failed
+  pub reply_unwritten : (P Q : Type 0) → OnUnwritten {V = DebuggerState} (Err fault) P → (P → Q) → OnUnwritten result Q
+  reply_unwritten P Q holds more = at fault is holds
+    where
+      at : (fault : Fault) → result ≡ Err fault → OnUnwritten {V = DebuggerState} (Err fault) P → OnUnwritten result Q
+      at WriteFailed is holds = rw is (more holds)
+      at other is holds = rw is tt
 
 -- ---- the whole command
 
@@ -253,8 +308,12 @@ module _ (B M : ℕ) (first second input : Option (List ℕ)) {W : Type 0} (cont
   -- a transcript that is over ends the command
   pub transcribed : (result : Result (Unit {0}) Fault) (debugger : DebuggerState) (old new : W) → Opens debugger
       → OnOk result (Printed (contents old) (contents new) (Prints B M input debugger [])) → IfErr result IsFailure → Ends result old new
-  transcribed (Ok x) debugger old new opens (out, appends, prints) failed =
-      (out, opened (IsTranscript B M input) debugger (out, x) (λ test events set. subst (λ (w : DebuggerState). Prints B M input w [] out) set prints) opens, appends)
+  transcribed (Ok x) debugger old new opens (out, appends, prints) failed = (
+    out,
+    opened (IsTranscript B M input) debugger (out, x)
+        (λ test events set. subst (λ (w : DebuggerState). Prints B M input w [] out) set prints) opens,
+    appends,
+  )
   transcribed (Err (Refused refusal)) debugger old new opens printed failed = absurd failed
   transcribed other debugger old new opens printed failed = tt
 
@@ -275,7 +334,8 @@ module _ (B M : ℕ) (first second input : Option (List ℕ)) {W : Type 0} (cont
   not_unwritten view result other P is finds = rw is tt
 
   -- where a write failed, the first lines print what was to be written
-  pub unwritten_begun : (result : Result (Unit {0}) Fault) (debugger : DebuggerState) → Opens debugger → OnUnwritten result ((out : List ℕ) × PrintsSome B M input debugger [] out)
+  pub unwritten_begun : (result : Result (Unit {0}) Fault) (debugger : DebuggerState) → Opens debugger
+      → OnUnwritten result ((out : List ℕ) × PrintsSome B M input debugger [] out)
       → OnUnwritten result ((out : List ℕ) × AnswersBoth (IsDebugSome B M input) first second (Ok (out, tt)))
   unwritten_begun (Err WriteFailed) debugger opens (out, prints) = (
     out,

@@ -1,5 +1,7 @@
 -- What each command of the debugger does, and what it prints.
-use Rattle.std.specs.Prelude.{ℕ, ◌≡◌, ◌/◌, ◌%◌, ◌==◌, ◌&&◌, nat_lt, if◌then◌else◌, Bool, true, false, List, [], ◌∷◌, ◌++◌, length, drop, position, remove, option_map, Option, None, Some, MatchOption, MatchBool}
+use Rattle.std.specs.Prelude.{ℕ, ◌≡◌, ◌/◌, ◌%◌, ◌==◌, ◌&&◌, nat_lt, if◌then◌else◌, Bool, true, false, List, [], ◌∷◌}
+use Rattle.std.specs.Prelude.{◌++◌, length, drop, position, remove, option_map, Option, None, Some, MatchOption}
+use Rattle.std.specs.Prelude.{MatchBool}
 use Rattle.std.specs.List.{slice_get}
 use Rattle.hart.specs.State.{HartState}
 use Rattle.step_machine.specs.History.{History}
@@ -71,7 +73,8 @@ DoesNext B M old text new = MatchOption (slice_get old.schedule old.place) ((tex
 abbrev pub DoesAll : (B M : ℕ) → List (ℕ × ℕ) → List Event → (first : Bool) (old : DebuggerState) (text : List ℕ) (new : DebuggerState) → Type 0
 DoesAll B M points [] first old text new = (text ≡ end_line) × (new ≡ old)
 DoesAll B M points (ev ∷ evs) first old text new = MatchOption (stop_before M points first old.past.history ev)
-    ((line : List ℕ) × (mid : DebuggerState) × (later : List ℕ) × Does B M old ev Schedule line mid × (text ≡ line ++ later) × DoesAll B M points evs false mid later new)
+    ((line : List ℕ) × (mid : DebuggerState) × (later : List ℕ) × Does B M old ev Schedule line mid
+    × (text ≡ line ++ later) × DoesAll B M points evs false mid later new)
     (λ point. (text ≡ break_line point.0 point.1) × (new ≡ old))
 
 -- ---- a command

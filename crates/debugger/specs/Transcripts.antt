@@ -22,15 +22,22 @@ abbrev pub quits : Option Command → Bool
 quits (Some command.Quit) = true
 quits other = false
 
--- the line prints this text, and leads from a debugger and breakpoints to others
+-- what is asked for prints this text, and leads from a debugger and breakpoints to others
+abbrev pub AnswersSaid : (B M : ℕ) → Option Command → (old new : DebuggerState) (points others : List (ℕ × ℕ)) (text : List ℕ) → Type 0
+AnswersSaid B M said old new points others text =
+    MatchOption said ((text ≡ unknown_line) × (new ≡ old) × (others ≡ points))
+    (λ command. Answers B M command old new points others text)
+
+-- the same of what a line asks for
 abbrev pub AnswersLine : (B M : ℕ) → (line : List ℕ) → (old new : DebuggerState) (points others : List (ℕ × ℕ)) (text : List ℕ) → Type 0
-AnswersLine B M line old new points others text = MatchOption (command_in (tokens line)) ((text ≡ unknown_line) × (new ≡ old) × (others ≡ points)) (λ said. Answers B M said old new points others text)
+AnswersLine B M line old new points others text = AnswersSaid B M (command_in (tokens line)) old new points others text
 
 -- these lines print this, up to the one that ends the transcript
 abbrev pub Transcript : (B M : ℕ) → List (List ℕ) → DebuggerState → (points : List (ℕ × ℕ)) → (out : List ℕ) → Type 0
 Transcript B M [] old points out = out ≡ []
 Transcript B M (line ∷ others) old points out = MatchBool (quits (command_in (tokens line))) (out ≡ [])
-    ((text : List ℕ) × (new : DebuggerState) × (left : List (ℕ × ℕ)) × (later : List ℕ) × AnswersLine B M line old new points left text × (out ≡ text ++ later) × Transcript B M others new left later)
+    ((text : List ℕ) × (new : DebuggerState) × (left : List (ℕ × ℕ)) × (later : List ℕ)
+    × AnswersLine B M line old new points left text × (out ≡ text ++ later) × Transcript B M others new left later)
 
 -- what the user's lines print from here on: those of the bytes that are known, or else some lines
 abbrev pub Prints : (B M : ℕ) → (input : Option (List ℕ)) → DebuggerState → (points : List (ℕ × ℕ)) → (out : List ℕ) → Type 0
@@ -40,12 +47,14 @@ Prints B M (Some bytes) debugger points out = Transcript B M (lines bytes) debug
 -- what the first of the user's lines print from here on
 abbrev pub PrintsFront : (B M : ℕ) → (input : Option (List ℕ)) → DebuggerState → (points : List (ℕ × ℕ)) → (out : List ℕ) → Type 0
 PrintsFront B M None debugger points out = (done : List (List ℕ)) × Transcript B M done debugger points out
-PrintsFront B M (Some bytes) debugger points out = (done : List (List ℕ)) × (rest : List (List ℕ)) × (lines bytes ≡ done ++ rest) × Transcript B M done debugger points out
+PrintsFront B M (Some bytes) debugger points out = (done : List (List ℕ)) × (rest : List (List ℕ))
+    × (lines bytes ≡ done ++ rest) × Transcript B M done debugger points out
 
 -- the same of one line at least
 abbrev pub PrintsSome : (B M : ℕ) → (input : Option (List ℕ)) → DebuggerState → (points : List (ℕ × ℕ)) → (out : List ℕ) → Type 0
 PrintsSome B M None debugger points out = (done : List (List ℕ)) × (line : List ℕ) × Transcript B M (done ++ line ∷ []) debugger points out
-PrintsSome B M (Some bytes) debugger points out = (done : List (List ℕ)) × (line : List ℕ) × (rest : List (List ℕ)) × (lines bytes ≡ done ++ line ∷ rest) × Transcript B M (done ++ line ∷ []) debugger points out
+PrintsSome B M (Some bytes) debugger points out = (done : List (List ℕ)) × (line : List ℕ) × (rest : List (List ℕ))
+    × (lines bytes ≡ done ++ line ∷ rest) × Transcript B M (done ++ line ∷ []) debugger points out
 
 -- this holds where a read failed or memory ran out
 abbrev pub OnStopped : {V : Type 0} → Result V Fault → Type 0 → Type 0
@@ -78,7 +87,8 @@ IsDebugSome B M input = ByEvents (λ test events answer. PrintsSome B M input (a
 -- How an engine ends that writes as it reads: it wrote an output that is an answer together with what it
 -- returned, or a refusal is the answer and nothing was written. Where a read or a write failed or memory
 -- ran out nothing is said.
-abbrev pub EndsInteractive : {V W : Type 0} → (Result (List ℕ × V) Refusal → Type 0) → Result V Fault → (contents : W → Option (List ℕ)) → (old new : W) → Type 0
+abbrev pub EndsInteractive : {V W : Type 0} → (Result (List ℕ × V) Refusal → Type 0) → Result V Fault
+    → (contents : W → Option (List ℕ)) → (old new : W) → Type 0
 EndsInteractive IsAnswer (Ok v) contents old new = (out : List ℕ) × IsAnswer (Ok (out, v)) × Appends (contents old) (contents new) out
 EndsInteractive IsAnswer (Err (Refused refusal)) contents old new = IsAnswer (Err refusal) × (new ≡ old)
 EndsInteractive IsAnswer failed contents old new = Unit {0}

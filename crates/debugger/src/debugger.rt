@@ -4,7 +4,7 @@ ghost use Rattle.std.specs.Prelude.{◌≡◌, ◌≤◌, List, IfOk};
 ghost use Rattle.std.specs.List.{slice_get};
 ghost use Rattle.step_machine.specs.History.{FitsIn};
 ghost use Rattle.debugger.specs.DebuggerStates.{scheduled};
-ghost use Rattle.debugger.specs.declared.debugger.Source.TheVariants.{Schedule, User};
+ghost use Rattle.debugger.specs.declared.debugger.Source.TheVariants.{Schedule};
 
 use crate::session::Session;
 use std::alloc::{AllocError, Global};
@@ -75,23 +75,9 @@ impl<const B: usize, const M: usize> Debugger<B, M> {
         self.schedule.get(self.place).copied()
     }
 
-    /// Does the schedule's next event, and answers its outcome.
-    pub fn step(self, event: Event) -> Result<(Self, Outcome), AllocError>
-        requires { slice_get self.schedule self.place ≡ Some event }
-        ensures { IfOk result (λ done. TakesEvent B M self.entry event Schedule done.1 done.0) }
-    {
-        self.take(event, Source::Schedule)
-    }
-
-    /// Does an event of the user's, and answers its outcome. The schedule's place stays.
-    pub fn inject(self, event: Event) -> Result<(Self, Outcome), AllocError>
-        ensures { IfOk result (λ done. TakesEvent B M self.entry event User done.1 done.0) }
-    {
-        self.take(event, Source::User)
-    }
-
-    /// Does an event from this source, and answers its outcome.
-    fn take(self, event: Event, source: Source) -> Result<(Self, Outcome), AllocError>
+    /// Does an event from this source, the schedule's next one or any of the user's, and answers its outcome. The
+    /// schedule's place stays at one of the user's.
+    pub fn event(self, event: Event, source: Source) -> Result<(Self, Outcome), AllocError>
         requires { source ≡ Schedule → slice_get self.schedule self.place ≡ Some event }
         ensures { IfOk result (λ done. TakesEvent B M self.entry event source done.1 done.0) }
     {

@@ -1,9 +1,10 @@
 //! A machine that is given event after event, and that goes back.
 
-ghost use Rattle.std.specs.Prelude.{◌≡◌, ◌≤◌, ◌<◌, ◌/◌, Some, IfOk, length, drop};
+ghost use Rattle.std.specs.Prelude.{◌≡◌, ◌≤◌, ◌<◌, ◌/◌, ◌∷◌, [], ◌++◌, Some, IfOk, OnOk, length, drop};
 ghost use Rattle.std.specs.List.{slice_get};
 ghost use Rattle.step_machine.specs.History.{FitsIn};
-ghost use Rattle.step_machine.specs.Runs.{Run};
+ghost use Rattle.step_machine.specs.Runs.{Happens, Run};
+ghost use Rattle.debugger.specs.inner.SnapshotsHeld.{HasSnapshots};
 ghost use Rattle.debugger.specs.Sessions.{begun, GoesOn, GoesBack};
 ghost use Rattle.debugger.specs.Nearest.{snapshot_before, IsNearest};
 ghost use Rattle.debugger.specs.declared.session.TheConstants.{SNAPSHOT_EVENTS};
@@ -68,12 +69,7 @@ impl<const B: usize, const M: usize> Session<B, M> {
             mut events,
             mut snapshots,
         } = self;
-        events.push(event)?;
-        let outcome = machine.step(event)?;
-        if events.len() % SNAPSHOT_EVENTS == 0 {
-            let snapshot = machine.snapshot()?;
-            snapshots.push(snapshot)?;
-        }
+        let outcome = go_on(&mut machine, &mut events, &mut snapshots, event)?;
         let session = Session {
             machine,
             events,
@@ -130,6 +126,30 @@ impl<const B: usize, const M: usize> Session<B, M> {
     {
         &self.events
     }
+}
+
+/// Does one more event of a session whose parts these are, and answers its outcome.
+fn go_on<const B: usize, const M: usize>(
+    machine: &mut Machine<B, M>,
+    events: &mut Vec<Event>,
+    snapshots: &mut Vec<Snapshot<B, M>>,
+    event: Event,
+) -> Result<Outcome, AllocError>
+    requires ran { Run B M machine.old.history.opening events.old.items machine.old.history }
+    requires held { HasSnapshots B M machine.old.history.opening events.old.items snapshots.old.items }
+    ensures events { OnOk result (events.new.items ≡ events.old.items ++ event ∷ []) }
+    ensures happens { IfOk result (λ outcome. Happens B M machine.old.history event outcome machine.new.history) }
+    ensures opening { machine.new.history.opening ≡ machine.old.history.opening }
+    ensures kept { OnOk result (Run B M machine.new.history.opening events.new.items machine.new.history
+        × HasSnapshots B M machine.new.history.opening events.new.items snapshots.new.items) }
+{
+    events.push(event)?;
+    let outcome = machine.step(event)?;
+    if events.len() % SNAPSHOT_EVENTS == 0 {
+        let snapshot = machine.snapshot()?;
+        snapshots.push(snapshot)?;
+    }
+    Ok(outcome)
 }
 
 /// The latest of the snapshots that some events have, and those of the events that come after it.

@@ -4,7 +4,7 @@ ghost use Rattle.std.specs.Prelude.{◌≡◌, ◌++◌, ◌≤◌, ℕ, List, t
 ghost use Rattle.std.specs.List.{slice_get};
 ghost use Rattle.std.specs.String.{string_bytes};
 ghost use Rattle.step_machine.specs.Runs.{Run};
-ghost use Rattle.debugger.specs.declared.debugger.Source.TheVariants.{Schedule, User};
+ghost use Rattle.debugger.specs.declared.debugger.Source.TheVariants.{Schedule};
 ghost use Rattle.debugger.specs.DebuggerStates.{DebuggerState};
 ghost use Rattle.debugger.specs.Debugging.{Answers, Does, DoesAll, DoesNext};
 
@@ -12,36 +12,23 @@ use crate::debug::breakpoints::{set_breakpoint, stop_before};
 use crate::debug::command::Command;
 use crate::debug::lines::{push_break_line, push_end_line, push_number_line};
 use crate::debug::looking::{push_hart_answer, push_pending_answer, push_word_answer};
-use crate::debugger::Debugger;
+use crate::debugger::{Debugger, Source};
 use recorder::push_outcome_line;
 use std::alloc::AllocError;
 use step_machine::Event;
 
-/// Does the schedule's next event, which is this one.
-fn follow_schedule<const B: usize, const M: usize>(
+/// Does an event from this source, and appends its outcome.
+fn do_event<const B: usize, const M: usize>(
     out: &mut String,
     debugger: Debugger<B, M>,
     event: Event,
+    source: Source,
 ) -> Result<Debugger<B, M>, AllocError>
-    requires { slice_get debugger.schedule debugger.place ≡ Some event }
-    ensures { IfOk result (λ new. (text : List ℕ) × (string_bytes out.new ≡ string_bytes out.old ++ text) × Does B M debugger.entry event Schedule text new) }
+    requires { source ≡ Schedule → slice_get debugger.schedule debugger.place ≡ Some event }
+    ensures { IfOk result (λ new. (text : List ℕ) × (string_bytes out.new ≡ string_bytes out.old ++ text) × Does B M debugger.entry event source text new) }
 {
-    let (debugger, outcome) = debugger.step(event)?;
-    push_outcome_line(out, event, outcome)?;
-    Ok(debugger)
-}
-
-/// Does an event of the user's.
-fn give<const B: usize, const M: usize>(
-    out: &mut String,
-    debugger: Debugger<B, M>,
-    event: Event,
-) -> Result<Debugger<B, M>, AllocError>
-    ensures { IfOk result (λ new. (text : List ℕ) × (string_bytes out.new ≡ string_bytes out.old ++ text) × Does B M debugger.entry event User text new) }
-{
-    let (debugger, outcome) = debugger.inject(event)?;
-    push_outcome_line(out, event, outcome)?;
-    Ok(debugger)
+    let (debugger, outcome) = debugger.event(event, source)?;
+    push_outcome_line(out, event, outcome).and(Ok(debugger))
 }
 
 /// Does the schedule's next event, or tells that there is none.
@@ -52,11 +39,8 @@ fn step<const B: usize, const M: usize>(
     ensures { IfOk result (λ new. (text : List ℕ) × (string_bytes out.new ≡ string_bytes out.old ++ text) × DoesNext B M debugger.entry text new) }
 {
     match debugger.next() {
-        Some(event) => follow_schedule(out, debugger, event),
-        None => {
-            push_end_line(out)?;
-            Ok(debugger)
-        }
+        Some(event) => do_event(out, debugger, event, Source::Schedule),
+        None => push_end_line(out).and(Ok(debugger)),
     }
 }
 
@@ -74,14 +58,12 @@ fn go<const B: usize, const M: usize>(
     while let Some(event) = debugger.next() {
         let machine = debugger.session().machine();
         if let Some((hart, pc)) = stop_before(machine, points, first, event) {
-            push_break_line(out, hart, pc)?;
-            return Ok(debugger);
+            return push_break_line(out, hart, pc).and(Ok(debugger));
         }
-        debugger = follow_schedule(out, debugger, event)?;
+        debugger = do_event(out, debugger, event, Source::Schedule)?;
         first = false;
     }
-    push_end_line(out)?;
-    Ok(debugger)
+    push_end_line(out).and(Ok(debugger))
 }
 
 /// Does what a command asks for, and appends what it prints.
@@ -94,34 +76,33 @@ pub fn answer<const B: usize, const M: usize>(
     ensures { IfOk result (λ new. (text : List ℕ) × (string_bytes out.new ≡ string_bytes out.old ++ text)
         × Answers B M command debugger.entry new points.old.items points.new.items text) }
 {
-    let machine = debugger.session().machine();
     match command {
         Command::Step => step(out, debugger),
         Command::Go => go(out, debugger, points),
-        Command::Give(event) => give(out, debugger, event),
+        Command::Give(event) => do_event(out, debugger, event, Source::User),
         Command::Back(events) => {
             let debugger = debugger.back(events as usize)?;
             Ok(debugger)
         }
         Command::Break(hart, pc) => {
-            set_breakpoint(out, machine, points, hart, pc)?;
-            Ok(debugger)
+            let set = set_breakpoint(out, debugger.session().machine(), points, hart, pc);
+            set.and(Ok(debugger))
         }
         Command::Hart(hart) => {
-            push_hart_answer(out, machine, hart)?;
-            Ok(debugger)
+            let shown = push_hart_answer(out, debugger.session().machine(), hart);
+            shown.and(Ok(debugger))
         }
         Command::Pending(hart) => {
-            push_pending_answer(out, machine, hart)?;
-            Ok(debugger)
+            let shown = push_pending_answer(out, debugger.session().machine(), hart);
+            shown.and(Ok(debugger))
         }
         Command::Word(addr) => {
-            push_word_answer(out, machine, addr)?;
-            Ok(debugger)
+            let shown = push_word_answer(out, debugger.session().machine(), addr);
+            shown.and(Ok(debugger))
         }
         Command::Count => {
-            push_number_line(out, debugger.session().events().len())?;
-            Ok(debugger)
+            let shown = push_number_line(out, debugger.session().events().len());
+            shown.and(Ok(debugger))
         }
         Command::Quit => Ok(debugger),
     }

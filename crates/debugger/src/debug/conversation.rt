@@ -1,12 +1,12 @@
 //! A user's lines, each answered as soon as it is read.
 
-ghost use Rattle.std.specs.Prelude.{◌≡◌, ◌++◌, ℕ, List, [], IfOk, IfErr, IfSome, IfNone, OnOk, MatchOption};
+ghost use Rattle.std.specs.Prelude.{◌≡◌, ◌++◌, ℕ, List, [], IfOk, IfErr, IfSome, OnOk};
 ghost use Rattle.std.specs.String.{string_bytes};
 ghost use Rattle.std.specs.Io.BufRead.{take_through, DropsThrough};
-ghost use Rattle.std.specs.Io.KnownBytes.{Appends, IsAtEnd};
-ghost use Rattle.texts.specs.Cutting.{tokens};
-ghost use Rattle.debugger.specs.Commands.{command_in};
-ghost use Rattle.debugger.specs.Transcripts.{AnswersLine, OnStopped, OnUnwritten, Prints, PrintsFront, PrintsSome, quits};
+ghost use Rattle.std.specs.Io.KnownBytes.{Appends};
+ghost use Rattle.debugger.specs.DebuggerStates.{DebuggerState};
+ghost use Rattle.debugger.specs.Transcripts.{AnswersSaid, OnStopped, OnUnwritten, Prints, PrintsFront, PrintsSome, quits};
+ghost use Rattle.debugger.specs.inner.Asking.{AsksNext};
 ghost use Rattle.debugger.specs.inner.Failures.{IsFailure, IsReadFailure};
 
 use crate::debug::answers::answer;
@@ -33,32 +33,61 @@ fn read_line<C: BufRead>(alloc: Global, commands: &mut C) -> Result<Vec<u8>, Fau
     }
 }
 
-fn does_quit(line: &[u8]) -> bool
-    ensures { result ≡ quits (command_in (tokens line.now)) }
+/// What the next line asks for, if anything. The end of the input quits.
+fn next_said<C: BufRead>(alloc: Global, commands: &mut C) -> Result<Option<Command>, Fault>
+    ensures asks { IfOk result (AsksNext (C.remaining commands.old) (C.remaining commands.new)) }
+    ensures err { IfErr result IsReadFailure }
 {
-    match command_of(line) {
+    let bytes = read_line(alloc, commands)?;
+    match first_line(&bytes) {
+        Some((line, _)) => Ok(command_of(line)),
+        None => Ok(Some(Command::Quit)),
+    }
+}
+
+fn does_quit(said: Option<Command>) -> bool
+    ensures { result ≡ quits said }
+{
+    match said {
         Some(Command::Quit) => true,
         _ => false,
     }
 }
 
-/// Does what a line asks for, and appends what it prints.
-fn answer_line<const B: usize, const M: usize>(
+/// Does what is asked for, and appends what it prints.
+fn answer_said<const B: usize, const M: usize>(
     out: &mut String,
     debugger: Debugger<B, M>,
     points: &mut Vec<(u32, u32)>,
-    line: &[u8],
+    said: Option<Command>,
 ) -> Result<Debugger<B, M>, AllocError>
     ensures { IfOk result (λ new. (text : List ℕ) × (string_bytes out.new ≡ string_bytes out.old ++ text)
-        × AnswersLine B M line.now debugger.entry new points.old.items points.new.items text) }
+        × AnswersSaid B M said debugger.entry new points.old.items points.new.items text) }
 {
-    match command_of(line) {
+    match said {
         Some(command) => answer(out, debugger, points, command),
-        None => {
-            push_unknown_line(out)?;
-            Ok(debugger)
-        }
+        None => push_unknown_line(out).and(Ok(debugger)),
     }
+}
+
+/// Does what is asked for, and writes what it prints.
+fn reply<const B: usize, const M: usize, W: Write>(
+    alloc: Global,
+    debugger: Debugger<B, M>,
+    points: &mut Vec<(u32, u32)>,
+    said: Option<Command>,
+    writer: &mut W,
+) -> Result<Debugger<B, M>, Fault>
+    ensures answered { IfOk result (λ new. (text : List ℕ) × AnswersSaid B M said debugger.entry new points.old.items points.new.items text
+        × Appends (W.contents writer.old) (W.contents writer.new) text) }
+    ensures err { IfErr result IsFailure }
+    ensures left { OnStopped result (writer.new ≡ writer.old) }
+    ensures unwritten { OnUnwritten result ((new : DebuggerState) × (others : List (ℕ × ℕ)) × (text : List ℕ)
+        × AnswersSaid B M said debugger.entry new points.old.items others text) }
+{
+    let mut out = String::new(alloc);
+    let debugger = answer_said(&mut out, debugger, points, said)?;
+    end_with(Ok((out, ())), writer).and(Ok(debugger))
 }
 
 /// Answers all lines from here on, to the one that quits or to their end.
@@ -78,16 +107,11 @@ pub fn converse<const B: usize, const M: usize, C: BufRead, W: Write>(
     let mut debugger = debugger;
     let mut points = Vec::new(alloc);
     for _ in 0..u64::MAX {
-        let bytes = read_line(alloc, commands)?;
-        let Some((line, _)) = first_line(&bytes) else {
-            return Ok(());
-        };
-        if does_quit(line) {
+        let said = next_said(alloc, commands)?;
+        if does_quit(said) {
             return Ok(());
         }
-        let mut out = String::new(alloc);
-        debugger = answer_line(&mut out, debugger, &mut points, line)?;
-        end_with(Ok((out, ())), writer)?;
+        debugger = reply(alloc, debugger, &mut points, said, writer)?;
     }
     Err(Fault::ReadFailed)
 }

@@ -9,7 +9,9 @@ use Rattle.debugger.proofs.debug.open_debugger.Goals as goal
 
 pub returns-in_err-test-clause-debugger : goal.returns-in_err-test-clause-debugger
 returns-in_err-test-clause-debugger g c =
-    test_fault _ _ (AnswersEvents IsAtStart) _ c.from_residual.result (λ (q : LitmusTest). q) c.in_err-test.field-0.0 (is_handed c.from_residual.result _ c.from_residual.ensures.1) c.in_err-test.ensures.test
+    test_fault _ _ (AnswersEvents IsAtStart) _ c.from_residual.result (λ (q : LitmusTest). q)
+    c.in_err-test.field-0.0 (is_handed c.from_residual.result _ c.from_residual.ensures.1)
+    c.in_err-test.ensures.test
 
 pub returns-in_err-said-clause-debugger : goal.returns-in_err-said-clause-debugger
 returns-in_err-said-clause-debugger g c =
@@ -18,5 +20,6 @@ returns-in_err-said-clause-debugger g c =
 
 pub returns-clause-debugger : goal.returns-clause-debugger
 returns-clause-debugger g c =
-    both_read _ _ (AnswersEvents IsAtStart) c.in_ok-test.test (said_of c.in_ok-said.said) (Ok c.in_ok-debugger.debugger) c.in_ok-test.ensures.test c.in_ok-said.ensures.schedule
+    both_read _ _ (AnswersEvents IsAtStart) c.in_ok-test.test (said_of c.in_ok-said.said)
+    (Ok c.in_ok-debugger.debugger) c.in_ok-test.ensures.test c.in_ok-said.ensures.schedule
     (rw (c.in_ok-opening.ensures.copy, c.in_ok-events.ensures) at c.in_ok-debugger.ensures)

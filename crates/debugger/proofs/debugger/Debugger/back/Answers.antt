@@ -5,13 +5,23 @@ use Rattle.debugger.proofs.debugger.Debugger.back.Goals as goal
 
 pub overflow_sub-result : goal.overflow_sub-result
 overflow_sub-result g c =
-    let way : DebuggerState = record { past = c.self.inside.session; schedule = c.self.inside.schedule.items; sources = c.self.inside.sources.items; place = c.self.inside.place } in
+    let way : DebuggerState = record {
+      past = c.self.inside.session;
+      schedule = c.self.inside.schedule.items;
+      sources = c.self.inside.sources.items;
+      place = c.self.inside.place;
+    } in
     let undone = undone_of c.self.inside.sources.items c.deref.result.now _ c.scheduled_in-undone.result c.deref.ensures.value c.scheduled_in-undone.ensures in
     undone_within way c.saturating_sub-left.result c.scheduled_in-undone.result c.self.invariant undone
 
 pub invariant_of-result : goal.invariant_of-result
 invariant_of-result g c =
-    let way : DebuggerState = record { past = c.self.inside.session; schedule = c.self.inside.schedule.items; sources = c.self.inside.sources.items; place = c.self.inside.place } in
+    let way : DebuggerState = record {
+      past = c.self.inside.session;
+      schedule = c.self.inside.schedule.items;
+      sources = c.self.inside.sources.items;
+      place = c.self.inside.place;
+    } in
     let undone = undone_of c.self.inside.sources.items c.deref.result.now _ c.scheduled_in-undone.result c.deref.ensures.value c.scheduled_in-undone.ensures in
     let back = gone_back g.row.B g.row.M way c.in_ok-session.session c.args.k c.saturating_sub-left.result _ c.self.invariant c.in_ok-session.ensures
     (omega (arith, c.saturating_sub-left.ensures, c.len.ensures, c.self.inside.sources.ok.0)) undone in
@@ -19,7 +29,12 @@ invariant_of-result g c =
 
 pub returns : goal.returns
 returns g c =
-    let way : DebuggerState = record { past = c.self.inside.session; schedule = c.self.inside.schedule.items; sources = c.self.inside.sources.items; place = c.self.inside.place } in
+    let way : DebuggerState = record {
+      past = c.self.inside.session;
+      schedule = c.self.inside.schedule.items;
+      sources = c.self.inside.sources.items;
+      place = c.self.inside.place;
+    } in
     let undone = undone_of c.self.inside.sources.items c.deref.result.now _ c.scheduled_in-undone.result c.deref.ensures.value c.scheduled_in-undone.ensures in
     let back = gone_back g.row.B g.row.M way c.in_ok-session.session c.args.k c.saturating_sub-left.result _ c.self.invariant c.in_ok-session.ensures
     (omega (arith, c.saturating_sub-left.ensures, c.len.ensures, c.self.inside.sources.ok.0)) undone in
