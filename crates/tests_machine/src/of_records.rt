@@ -110,8 +110,27 @@ fn records_are_refused_at_their_bytes(rt: HostRuntime) {
 /// Each line is read, and written again as it stands.
 #[test]
 fn each_outcome_has_its_text(rt: HostRuntime) {
-    let text =
-        "ztso-schedule 2\na0*3 inner 0\na1 load1 1 5 255\na1 load2 1 6 65535\na0 store1 0 0 1\na0 store2 0 2 1\na0 amo 0 4 1 2\na0 fence 0 full\na0 fence 0 part\na0 next 0 7\na0 next 0 end\na0 took 0 1 7\na0 closed 0 1\na0 waited 0\nl0 nothing 0\na0 ended 0\na1 stopped 1 15\na0 over 0\nl0 over 0\na2 nohart 2\n";
+    let text = "ztso-schedule 2
+a0*3 inner 0
+a1 load1 1 5 255
+a1 load2 1 6 65535
+a0 store1 0 0 1
+a0 store2 0 2 1
+a0 amo 0 4 1 2
+a0 fence 0 full
+a0 fence 0 part
+a0 next 0 7
+a0 next 0 end
+a0 took 0 1 7
+a0 closed 0 1
+a0 waited 0
+l0 nothing 0
+a0 ended 0
+a1 stopped 1 15
+a0 over 0
+l0 over 0
+a2 nohart 2
+";
     let steps = read(&rt, text);
     assert_same!(rt; steps.len(), 21);
     assert_same!(rt; written(&rt, &steps).as_str(), text);
