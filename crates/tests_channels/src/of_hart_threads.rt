@@ -7,7 +7,6 @@ use std::process::Abort;
 use std::sync::Wait;
 use std::sync::atomic::{AtomicBool, AtomicU32, Ordering};
 use std::test::Fail;
-use std::thread;
 use std::thread::Threads;
 use step_machine::{Entry, HartOpening, Machine, Opening, Outcome};
 
@@ -105,36 +104,6 @@ fn taken(rt: &impl Abort, seats: &mut Vec<Seat<16>>, place: usize) -> Seat<16> {
     seats.remove(place)
 }
 
-/// Opens at the second hart's first call for the first one, and the other way round.
-#[derive(Drop)]
-struct Meeting {
-    first: AtomicBool,
-    second: AtomicBool,
-}
-
-impl Gate for Meeting {
-    ghost is_open = { λ _. ⊥ };
-
-    fn pass(&self, hart: u32, call: u32) -> bool {
-        if call > 1 {
-            return true;
-        }
-        let (mine, theirs) = if hart == 0 {
-            (&self.first, &self.second)
-        } else {
-            (&self.second, &self.first)
-        };
-        mine.store(true, Ordering::SeqCst);
-        for _ in 0..10_000_000 {
-            if theirs.load(Ordering::SeqCst) {
-                return true;
-            }
-            thread::yield_now();
-        }
-        false
-    }
-}
-
 /// Another machine that runs the record's events does what the record says.
 fn is_replayed(rt: &(impl Abort + AllocGlobal), record: &Record<4, 16>) {
     let opening = store_buffering(rt.alloc()).expect(rt, "memory");
@@ -149,19 +118,6 @@ fn is_replayed(rt: &(impl Abort + AllocGlobal), record: &Record<4, 16>) {
 fn holds_trace(rt: &(impl Abort + AllocGlobal), machine: &Machine<4, 16>, record: &Record<4, 16>) {
     let held = machine.trace(rt.alloc()).expect(rt, "memory");
     assert_same!(rt; held.entries.as_slice(), record.trace.entries.as_slice());
-}
-
-#[test]
-fn two_harts_pass_the_gate_and_end(rt: HostRuntime) {
-    let gate = Meeting {
-        first: AtomicBool::new(false),
-        second: AtomicBool::new(false),
-    };
-    let record = ran(&rt, shared(&rt), &gate, 10_000_000).expect(&rt, "a record");
-    assert_same!(rt; record.machine.harts(), 2);
-    assert_same!(rt; status_of(&rt, &record.machine, 0), Status::Ended);
-    assert_same!(rt; status_of(&rt, &record.machine, 1), Status::Ended);
-    is_replayed(&rt, &record);
 }
 
 /// What the acting seat at this place does.

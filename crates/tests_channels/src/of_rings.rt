@@ -1,10 +1,6 @@
-//! Both rings: their tables against the listings that docs/channels.md tells, and channels with what they
-//! report worked out apart from the program.
-
-ghost use Rattle.std.specs.Prelude.{◌≤◌};
+//! Channels over both rings, with what they report worked out apart from the program.
 
 use crate::of_hart_threads::{Thrice, status_of};
-use assembler::assemble;
 use fastforward::FastForward;
 use hart::{Report, Status};
 use hart_threads::{Open, Record, deliver_threads, deliver_threads_at};
@@ -17,129 +13,7 @@ use std::process::Abort;
 use std::sync::Wait;
 use std::test::Fail;
 use std::thread::Threads;
-use step_machine::{Entry, Event, Outcome};
-
-const LAMPORT_SENDER: &str = "next: addi x17,x0,1
-ecall
-beq x11,x0,done
-addi x6,x5,4
-bne x6,x9,test
-addi x6,x0,0
-test: lw x7,8(x8)
-beq x7,x6,test
-add x28,x8,x5
-sw x10,16(x28)
-sw x6,0(x8)
-addi x5,x6,0
-jal x0,next
-done: addi x6,x0,1
-sw x6,4(x8)
-addi x17,x0,93
-ecall
-";
-
-const LAMPORT_RECEIVER: &str = "round: addi x8,x21,0
-addi x22,x0,0
-visit: lw x5,12(x8)
-bne x5,x0,step
-lw x30,4(x8)
-lw x6,0(x8)
-lw x7,8(x8)
-beq x6,x7,empty
-add x28,x8,x7
-lw x11,16(x28)
-addi x7,x7,4
-bne x7,x9,keep
-addi x7,x0,0
-keep: sw x7,8(x8)
-addi x10,x22,0
-addi x17,x0,2
-ecall
-jal x0,step
-empty: beq x30,x0,step
-addi x5,x0,1
-sw x5,12(x8)
-addi x10,x22,0
-addi x17,x0,3
-ecall
-addi x20,x20,-1
-beq x20,x0,quit
-step: add x8,x8,x18
-addi x22,x22,1
-bne x8,x19,visit
-jal x0,round
-quit: addi x17,x0,93
-ecall
-";
-
-const FAST_FORWARD_SENDER: &str = "next: addi x17,x0,1
-ecall
-beq x11,x0,done
-add x28,x8,x5
-test: lw x7,16(x28)
-bne x7,x0,test
-sw x10,16(x28)
-addi x5,x5,4
-bne x5,x9,next
-addi x5,x0,0
-jal x0,next
-done: addi x6,x0,1
-sw x6,4(x8)
-addi x17,x0,93
-ecall
-";
-
-const FAST_FORWARD_RECEIVER: &str = "round: addi x8,x21,0
-addi x22,x0,0
-visit: lw x5,12(x8)
-bne x5,x0,step
-lw x30,4(x8)
-lw x7,8(x8)
-add x28,x8,x7
-lw x11,16(x28)
-beq x11,x0,empty
-sw x0,16(x28)
-addi x7,x7,4
-bne x7,x9,keep
-addi x7,x0,0
-keep: sw x7,8(x8)
-addi x10,x22,0
-addi x17,x0,2
-ecall
-jal x0,step
-empty: beq x30,x0,step
-addi x5,x0,1
-sw x5,12(x8)
-addi x10,x22,0
-addi x17,x0,3
-ecall
-addi x20,x20,-1
-beq x20,x0,quit
-step: add x8,x8,x18
-addi x22,x22,1
-bne x8,x19,visit
-jal x0,round
-quit: addi x17,x0,93
-ecall
-";
-
-/// The words of a ring's tables are those of these listings.
-fn expect_tables<K: RingKind>(rt: &(impl Abort + AllocGlobal), sender: &str, receiver: &str) {
-    let words = assemble(rt.alloc(), sender).expect(rt, "a sender");
-    assert_same!(rt; words.as_slice(), K::sender());
-    let words = assemble(rt.alloc(), receiver).expect(rt, "a receiver");
-    assert_same!(rt; words.as_slice(), K::receiver());
-}
-
-#[test]
-fn lamport_s_listing_is_its_table(rt: HostRuntime) {
-    expect_tables::<Lamport>(&rt, LAMPORT_SENDER, LAMPORT_RECEIVER);
-}
-
-#[test]
-fn fast_forward_s_listing_is_its_table(rt: HostRuntime) {
-    expect_tables::<FastForward>(&rt, FAST_FORWARD_SENDER, FAST_FORWARD_RECEIVER);
-}
+use step_machine::{Entry, Event};
 
 const A0: Event = Event::Act(0);
 
@@ -168,92 +42,27 @@ fn one_list(alloc: Global, list: &[u32]) -> Result<Vec<Vec<u32>>, AllocError> {
 }
 
 /// A channel over these lists.
-fn channel_of<K: RingKind, const B: usize>(
+fn channel_of<K: RingKind>(
     rt: &(impl Abort + AllocGlobal),
     lists: &[Vec<u32>],
     ring: u32,
-) -> Channel<K, B, 4096>
-    requires some { 1 ≤ B }
-    requires capacity { B ≤ 64 }
-{
+) -> Channel<K, 4, 4096> {
     Channel::open(rt.alloc(), lists, ring).expect(rt, "a channel")
-}
-
-/// A channel with one sender that runs these events reports this, and so does `deliver`.
-fn expect_run<K: RingKind, const B: usize>(
-    rt: &(impl Abort + AllocGlobal),
-    list: &[u32],
-    ring: u32,
-    events: &[Event],
-    wanted: &[Report],
-)
-    requires some { 1 ≤ B }
-    requires capacity { B ≤ 64 }
-{
-    let lists = one_list(rt.alloc(), list).expect(rt, "a list");
-    let mut channel = channel_of::<K, B>(rt, &lists, ring);
-    channel.run(events).expect(rt, "memory");
-    assert_same!(rt; channel.reports(), wanted);
-    let delivered = deliver::<K, B, 4096>(rt.alloc(), &lists, ring, events).expect(rt, "reports");
-    assert_same!(rt; delivered.as_slice(), wanted);
-}
-
-/// And so does one that takes them one by one, where this many of them wait.
-fn expect_steps<K: RingKind, const B: usize>(
-    rt: &(impl Abort + AllocGlobal),
-    list: &[u32],
-    ring: u32,
-    events: &[Event],
-    wanted: &[Report],
-    waiting: u32,
-)
-    requires some { 1 ≤ B }
-    requires capacity { B ≤ 64 }
-{
-    let lists = one_list(rt.alloc(), list).expect(rt, "a list");
-    let mut channel = channel_of::<K, B>(rt, &lists, ring);
-    let mut waited = 0u32;
-    for event in events {
-        if channel.step(*event).expect(rt, "memory") == Outcome::Waited {
-            waited = waited.saturating_add(1);
-        }
-    }
-    assert_same!(rt; channel.reports(), wanted);
-    assert_same!(rt; waited, waiting);
 }
 
 const TOOK: Report = Report::Took { sender: 0, word: 9 };
 
 /// The slot lands before the head, so the receiver's first round finds the ring empty.
 #[test]
-fn lamport_s_run_and_steps_report_the_same(rt: HostRuntime) {
+fn run_and_deliver_report_the_same(rt: HostRuntime) {
     let steps = [(A1, 10), (L1, 1), (A0, 13), (L1, 1), (A0, 16)];
     let events = events_of(rt.alloc(), &steps).expect(&rt, "events");
-    expect_run::<Lamport, 2>(&rt, &[9, 9, 9], 2, &events, &[TOOK]);
-    expect_steps::<Lamport, 2>(&rt, &[9, 9, 9], 2, &events, &[TOOK], 0);
-}
-
-/// The sender's mark and the receiver's tail wait each for the store before.
-#[test]
-fn fast_forward_s_run_and_steps_report_the_same(rt: HostRuntime) {
-    let steps = [
-        (A1, 16),
-        (L1, 1),
-        (A1, 3),
-        (L1, 1),
-        (A0, 14),
-        (L0, 1),
-        (A0, 20),
-        (L0, 1),
-        (A0, 4),
-    ];
-    let events = events_of(rt.alloc(), &steps).expect(&rt, "events");
-    let all = [
-        Report::Took { sender: 0, word: 7 },
-        Report::Closed { sender: 0 },
-    ];
-    expect_run::<FastForward, 1>(&rt, &[7], 1, &events, &all);
-    expect_steps::<FastForward, 1>(&rt, &[7], 1, &events, &all, 2);
+    let lists = one_list(rt.alloc(), &[9, 9, 9]).expect(&rt, "a list");
+    let mut channel = channel_of::<Lamport>(&rt, &lists, 2);
+    channel.run(&events).expect(&rt, "memory");
+    assert_same!(rt; channel.reports(), [TOOK].as_slice());
+    let delivered = deliver::<Lamport, 4, 4096>(rt.alloc(), &lists, 2, &events);
+    assert_same!(rt; delivered.expect(&rt, "reports").as_slice(), [TOOK].as_slice());
 }
 
 /// `count` words: 0 in the six of a block at word 256, and 7 elsewhere.
@@ -309,22 +118,6 @@ fn expect_run_among(
     assert_same!(rt; delivered.expect(rt, "reports").as_slice(), [TOOK].as_slice());
 }
 
-/// The blocks of a place without a stride have no gap: memory ends with the second one.
-#[test]
-fn a_place_without_a_stride_is_dense(rt: HostRuntime) {
-    let mut lists = one_list(rt.alloc(), &[9]).expect(&rt, "a list");
-    lists
-        .push(Vec::from_slice(rt.alloc(), &[5]).expect(&rt, "a list"))
-        .expect(&rt, "lists");
-    let place = Place {
-        ring: 2,
-        base: 16336,
-        stride: None,
-    };
-    let whole = deliver_whole_at::<FastForward, 2, 4096>(rt.alloc(), &lists, place, &[], &[]);
-    assert_same!(rt; whole.expect(&rt, "reports").len(), 4);
-}
-
 /// The number by which one sender's place is refused over 262 words, or 0.
 fn refused_at(rt: &(impl Abort + AllocGlobal), base: u32, stride: u32) -> Result<u8, AllocError> {
     let lists = one_list(rt.alloc(), &[9])?;
@@ -362,7 +155,7 @@ fn places_are_refused_by_number(rt: HostRuntime) -> Result<(), Fail> {
 /// How many harts of a channel with one sender end where they act and land in turns.
 fn ended_of<K: RingKind>(rt: &(impl Abort + AllocGlobal), list: &[u32], ring: u32) -> usize {
     let lists = one_list(rt.alloc(), list).expect(rt, "a list");
-    let mut channel = channel_of::<K, 4>(rt, &lists, ring);
+    let mut channel = channel_of::<K>(rt, &lists, ring);
     for _ in 0..400 {
         for event in [A0, A1, L0, L1] {
             channel.step(event).expect(rt, "memory");

@@ -40,6 +40,7 @@ fn refusals_have_their_numbers_and_texts(rt: HostRuntime) -> Result<(), Fail> {
         (ScheduleFault::BadHart, 29, "bad hart at byte 16"),
         (ScheduleFault::BadCount, 30, "bad count at byte 16"),
         (ScheduleFault::Truncated, 31, "truncated at byte 16"),
+        (ScheduleFault::BadOutcome, 39, "bad outcome at byte 16"),
     ];
     for (fault, number, text) in faults {
         let refused = ScheduleError::Refused(AtByte { fault, place: 16 });

@@ -1,12 +1,10 @@
 use crate::given::{BOTH_READ_0, store_buffering};
 use recorder::{
-    AtByte, CheckError, ScheduleError, ScheduleFault, read_plain, read_record, read_schedule,
-    record, replay_checked, write_record,
+    CheckError, read_plain, read_record, read_schedule, record, replay_checked, write_record,
 };
 use std::alloc::AllocError;
 use std::process::Abort;
 use step_machine::{Event, Machine, Outcome};
-use texts::Numbered;
 
 const STORE_BUFFERING: &str =
     "ztso-schedule 2\na0 store 0 0 1\na1 store 1 4 1\na0 load 0 4 0\na1 load 1 0 0\nl0 land 0\nl1 land 1\n";
@@ -52,66 +50,30 @@ fn a_run_is_recorded_and_checked(rt: HostRuntime) {
     assert_same!(rt; machine.trace(rt.alloc()).expect(&rt, "a trace").entries.len(), 6);
 }
 
-#[test]
-fn another_outcome_is_found(rt: HostRuntime) {
-    let text = "ztso-schedule 2\na0 store 0 0 1\na1 store 1 4 1\na0 load 0 4 1\na1 load 1 0 1\n";
-    let answer = replayed(&rt, &read(&rt, text));
-    assert_same!(rt; answer.err(), Some(CheckError::Differs { event: 2 }));
-}
-
-#[test]
-fn records_are_refused_at_their_bytes(rt: HostRuntime) {
-    let refused = [
-        ("ztso-schedule 1\na0 inner 0\n", ScheduleFault::BadHead, 0),
-        ("ztso-schedule 3\n", ScheduleFault::BadHead, 0),
-        ("ztso-schedule 2\na0", ScheduleFault::Truncated, 18),
-        ("ztso-schedule 2\na0*", ScheduleFault::Truncated, 19),
-        ("ztso-schedule 2\nl", ScheduleFault::Truncated, 17),
-        ("ztso-schedule 2\nb0 inner 0\n", ScheduleFault::BadToken, 16),
-        (
-            "ztso-schedule 2\na64 inner 64\n",
-            ScheduleFault::BadHart,
-            16,
-        ),
-        (
-            "ztso-schedule 2\n\na0*0 inner 0\n",
-            ScheduleFault::BadCount,
-            17,
-        ),
-        ("ztso-schedule 2\na0\n", ScheduleFault::BadOutcome, 16),
-        (
-            "ztso-schedule 2\nl0 inner 0\n",
-            ScheduleFault::BadOutcome,
-            16,
-        ),
-        (
-            "ztso-schedule 2\na0 inner 1\n",
-            ScheduleFault::BadOutcome,
-            16,
-        ),
-        (
-            "ztso-schedule 2\na0 stopped 0 7\n",
-            ScheduleFault::BadOutcome,
-            16,
-        ),
-        (
-            "ztso-schedule 2\na0 inner 0 0\n",
-            ScheduleFault::BadOutcome,
-            16,
-        ),
-    ];
-    for (text, fault, place) in refused {
-        let wanted = ScheduleError::Refused(AtByte { fault, place });
-        assert_same!(rt; read_record(rt.alloc(), text).err(), Some(wanted));
-    }
-    assert_same!(rt; ScheduleFault::BadOutcome.number(), 39);
-}
-
 /// Each line is read, and written again as it stands.
 #[test]
 fn each_outcome_has_its_text(rt: HostRuntime) {
-    let text =
-        "ztso-schedule 2\na0*3 inner 0\na1 load1 1 5 255\na1 load2 1 6 65535\na0 store1 0 0 1\na0 store2 0 2 1\na0 amo 0 4 1 2\na0 fence 0 full\na0 fence 0 part\na0 next 0 7\na0 next 0 end\na0 took 0 1 7\na0 closed 0 1\na0 waited 0\nl0 nothing 0\na0 ended 0\na1 stopped 1 15\na0 over 0\nl0 over 0\na2 nohart 2\n";
+    let text = "ztso-schedule 2
+a0*3 inner 0
+a1 load1 1 5 255
+a1 load2 1 6 65535
+a0 store1 0 0 1
+a0 store2 0 2 1
+a0 amo 0 4 1 2
+a0 fence 0 full
+a0 fence 0 part
+a0 next 0 7
+a0 next 0 end
+a0 took 0 1 7
+a0 closed 0 1
+a0 waited 0
+l0 nothing 0
+a0 ended 0
+a1 stopped 1 15
+a0 over 0
+l0 over 0
+a2 nohart 2
+";
     let steps = read(&rt, text);
     assert_same!(rt; steps.len(), 21);
     assert_same!(rt; written(&rt, &steps).as_str(), text);

@@ -2,9 +2,7 @@
 
 ghost use Rattle.std.specs.Prelude.{◌≤◌};
 
-use crate::given::{
-    A0, A1, BOTH_READ_0, L0, L1, ZEROS, amo, both_read_0, land, opening_of, store, store_buffering,
-};
+use crate::given::{A0, A1, L0, L1, ZEROS, amo, land, opening_of, store, store_buffering};
 use hart::status::Status;
 use std::alloc::{AllocError, Global};
 use std::process::Abort;
@@ -43,24 +41,6 @@ fn expect_entries<const B: usize>(
 ) {
     let trace = machine.trace(rt.alloc()).expect(rt, "a trace");
     assert_same!(rt; trace.entries.as_slice(), wanted);
-}
-
-#[test]
-fn steps_within_reserved_room_succeed(rt: HostRuntime) {
-    let mut machine = machine_at::<4>(&rt, store_buffering(rt.alloc()));
-    machine.reserve(6).expect(&rt, "memory");
-    machine.run(&BOTH_READ_0).unwrap();
-    expect_entries(&rt, &machine, &both_read_0());
-}
-
-#[test]
-fn a_trace_is_a_copy_of_the_history(rt: HostRuntime) {
-    let mut machine = machine_at::<4>(&rt, store_buffering(rt.alloc()));
-    machine.run(&BOTH_READ_0).expect(&rt, "memory");
-    let trace = machine.trace(rt.alloc()).expect(&rt, "a trace");
-    assert_same!(rt; trace.entries.as_slice(), both_read_0().as_slice());
-    let harts = machine.opening().harts.len();
-    assert_same!(rt; (trace.opening.harts.len(), harts), (2, 2));
 }
 
 #[test]

@@ -59,3 +59,18 @@ pub fn count_and_store(alloc: Global) -> Result<Opening, AllocError> {
     let words = Vec::new(alloc);
     Ok(Opening { harts, words })
 }
+
+/// Store buffering: each hart stores 1 to a word of its own and then loads the other's.
+pub fn store_buffering(alloc: Global) -> Result<Opening, AllocError> {
+    let mut harts = Vec::new(alloc);
+    for (own, other) in [(0, 4), (4, 0)] {
+        // sw x5,0(x6); lw x7,0(x8)
+        let mut hart = hart_with(alloc, &[0x0053_2023, 0x0004_2383])?;
+        hart.registers[5] = 1;
+        hart.registers[6] = own;
+        hart.registers[8] = other;
+        harts.push(hart)?;
+    }
+    let words = Vec::new(alloc);
+    Ok(Opening { harts, words })
+}

@@ -18,7 +18,7 @@ fn open(alloc: Global) -> Result<Ring, Refused> {
 }
 
 fn opened(rt: &(impl Abort + AllocGlobal)) -> Ring {
-    again!(rt, open(rt.alloc()))
+    again!(rt, open(rt.alloc()), Refused::NoMemory)
 }
 
 fn step(rt: &impl Abort, channel: &mut Ring, event: Event) -> Outcome {

@@ -4,12 +4,12 @@ use crate::given::{A0, A1, L0, L1};
 use assembler::{AsmError, Draft};
 use rand_core::Rng;
 use rand_pcg::Pcg32;
-use recorder::{push_tokens_of, seeded};
+use recorder::{ScheduleError, push_tokens_of, seeded};
 use std::process::Abort;
 use step_machine::Event;
 
 fn line(rt: &impl Abort, draft: &mut Draft, line: &str) {
-    again!(rt, draft.line(line))
+    again!(rt, draft.line(line), AsmError::NoMemory)
 }
 
 #[test]
@@ -28,7 +28,7 @@ fn a_draft_takes_lines(rt: HostRuntime) {
 }
 
 fn push(rt: &impl Abort, events: &mut Vec<Event>, text: &[u8]) {
-    again!(rt, push_tokens_of(events, text))
+    again!(rt, push_tokens_of(events, text), ScheduleError::NoMemory)
 }
 
 #[test]

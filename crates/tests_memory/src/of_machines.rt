@@ -6,7 +6,7 @@ use std::process::Abort;
 use step_machine::{Entry, Event, Machine, Outcome};
 
 fn open(rt: &(impl Abort + AllocGlobal)) -> Result<Machine<4, 16>, AllocError> {
-    let opening = count_and_store(rt.alloc())?;
+    let opening = count_and_store(rt.alloc())?.copy(rt.alloc())?;
     assert!(rt; opening.fits(16));
     Machine::open(rt.alloc(), opening)
 }

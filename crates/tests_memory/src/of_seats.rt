@@ -1,7 +1,7 @@
 //! Seats, on a bank that is lent and on one behind the lock.
 
 use crate::given::{INNER, LAND, LOAD, STORE, count_and_store};
-use hart_threads::{Gather, Local, Seat, Shared};
+use hart_threads::{Gather, Local, Record, Seat, Shared};
 use std::alloc::AllocError;
 use std::process::Abort;
 use std::sync::Wait;
@@ -74,20 +74,52 @@ fn seats_act_and_land_on_a_bank(rt: HostRuntime) {
     give_up_all(&rt, seats);
 }
 
-/// A refused gathering takes the seats with it, so it isn't made again.
+/// What seats do behind the lock. A refused gathering takes them with it.
+fn gathered(rt: &(impl Abort + Wait + AllocGlobal)) -> Result<Record<4, 16>, Gather> {
+    let (shared, mut seats) = opened(rt);
+    assert!(rt; seats.len() == 4);
+    assert!(rt; act(rt, &shared, &mut seats[0]) == Outcome::Did(INNER));
+    assert!(rt; act(rt, &shared, &mut seats[0]) == Outcome::Did(STORE));
+    assert!(rt; land(rt, &shared, &mut seats[1]) == Outcome::Did(LAND));
+    assert!(rt; act(rt, &shared, &mut seats[2]) == Outcome::Did(LOAD));
+    shared.gather(rt.alloc(), seats)
+}
+
 #[test]
 fn seats_act_and_land_behind_the_lock(rt: HostRuntime) {
-    let (shared, mut seats) = opened(&rt);
-    assert!(rt; seats.len() == 4);
-    assert!(rt; act(&rt, &shared, &mut seats[0]) == Outcome::Did(INNER));
-    assert!(rt; act(&rt, &shared, &mut seats[0]) == Outcome::Did(STORE));
-    assert!(rt; land(&rt, &shared, &mut seats[1]) == Outcome::Did(LAND));
-    assert!(rt; act(&rt, &shared, &mut seats[2]) == Outcome::Did(LOAD));
+    let record = again!(&rt, gathered(&rt), Gather::NoMemory);
+    let wanted = [INNER, STORE, LAND, LOAD];
+    assert!(rt; record.trace.entries.as_slice() == wanted.as_slice());
+}
+
+/// The hart of which a seat is missing.
+fn missing(rt: &(impl Abort + AllocGlobal)) -> Result<u32, Gather> {
+    let (shared, mut seats) = opened(rt);
+    seats.pop().expect(rt, "a seat").give_up();
     match shared.gather(rt.alloc(), seats) {
-        Ok(record) => {
-            let wanted = [INNER, STORE, LAND, LOAD];
-            assert!(rt; record.trace.entries.as_slice() == wanted.as_slice());
-        }
-        Err(error) => assert!(rt; matches!(error, Gather::NoMemory)),
+        Err(Gather::Missing { hart }) => Ok(hart),
+        Err(other) => Err(other),
+        Ok(_) => panic!(rt; "no seat is missing"),
     }
+}
+
+/// The hart whose seats did something on another machine, and how many memory entries there are.
+fn mismatched(rt: &(impl Abort + Wait + AllocGlobal)) -> Result<(u32, usize), Gather> {
+    let (shared, own) = opened(rt);
+    give_up_all(rt, own);
+    let (other, mut seats) = opened(rt);
+    assert!(rt; seats.len() == 4);
+    assert!(rt; act(rt, &other, &mut seats[0]) == Outcome::Did(INNER));
+    assert!(rt; act(rt, &other, &mut seats[0]) == Outcome::Did(STORE));
+    match shared.gather(rt.alloc(), seats) {
+        Err(Gather::Mismatch { hart, history }) => Ok((hart, history.len())),
+        Err(other) => Err(other),
+        Ok(_) => panic!(rt; "a record of two machines"),
+    }
+}
+
+#[test]
+fn seats_that_make_no_record_are_named(rt: HostRuntime) {
+    assert!(rt; again!(&rt, missing(&rt), Gather::NoMemory) == 1);
+    assert!(rt; again!(&rt, mismatched(&rt), Gather::NoMemory) == (0, 0));
 }

@@ -1,0 +1,140 @@
+//! The engines under one call.
+
+use crate::devices::{Reader, Writer};
+use debugger::debug::debug_engine;
+use engine_parts::fault::Fault;
+use lamport_ring::Lamport;
+use poll_close::Place;
+use rand_pcg::Pcg32;
+use std::io::BufReader;
+use std::sync::Wait;
+use std::thread::Threads;
+use tries::progress::Progress;
+use tries::trials::{Runs, try_engine};
+use views::charting::{Style, chart_engine};
+use views::shrinking::shrink_engine;
+use ztso_engines::asm::asm_engine;
+use ztso_engines::channel::channel_engine;
+use ztso_engines::dis::dis_engine;
+use ztso_engines::moving::move_engine;
+use ztso_engines::replay::replay_engine;
+use ztso_engines::run::run_engine;
+use ztso_engines::steps::steps_engine;
+use ztso_engines::threads::threads_engine;
+
+/// An engine, with buffers of 4 pairs and 4,096 words of memory.
+#[derive(Clone, Copy)]
+pub enum Engine {
+    Asm,
+    /// As text.
+    Chart,
+    /// A Lamport ring of 2 slots.
+    Channel,
+    Debug,
+    Dis,
+    Move,
+    Replay,
+    Run,
+    Shrink,
+    Steps,
+    /// Threads of no turn.
+    Threads,
+    /// One run of four events, drawn by the generator of PCG's own demonstration.
+    Try,
+}
+
+/// What the engines read, in their order. Most read fewer than three.
+#[derive(Drop)]
+pub struct Inputs<'a> {
+    pub first: Reader<'a>,
+    pub second: Reader<'a>,
+    pub third: Reader<'a>,
+}
+
+impl Inputs<'_> {
+    /// Whether a call failed.
+    pub fn failed(&self) -> bool {
+        self.first.failed() || self.second.failed() || self.third.failed()
+    }
+}
+
+const RING: Place = Place {
+    ring: 2,
+    base: 0,
+    stride: None,
+};
+
+const ONE_RUN: Runs = Runs {
+    skip: 0,
+    number: 1,
+    length: 4,
+    jobs: 1,
+};
+
+/// Nobody waits for the runs.
+#[derive(Drop)]
+struct Nobody;
+
+impl Progress for Nobody {
+    fn next_round(&mut self, left: u32) -> u32 {
+        left
+    }
+
+    fn report(&mut self, _done: u32, _runs: u32, _outcomes: usize) {}
+
+    fn end(&mut self) {}
+}
+
+/// How an engine ends.
+pub fn answer(
+    rt: &(impl AllocGlobal + Threads + Wait + Sync),
+    engine: Engine,
+    inputs: &mut Inputs,
+    writer: &mut Writer,
+) -> Result<(), Fault> {
+    let alloc = rt.alloc();
+    let Inputs {
+        first,
+        second,
+        third,
+    } = inputs;
+    match engine {
+        Engine::Asm => asm_engine(alloc, first, writer),
+        Engine::Chart => {
+            chart_engine::<4, 4096, _, _, _>(alloc, Style::Text, first, second, writer)
+        }
+        Engine::Channel => {
+            channel_engine::<Lamport, 2, 4096, Reader, Reader, Writer>(
+                alloc, RING, false, first, second, writer,
+            )
+        }
+        Engine::Debug => {
+            let mut commands = BufReader::with_capacity(alloc, 8, third).map_err(
+                |_| Fault::NoMemory,
+            )?;
+            debug_engine::<4, 4096, _, _, _, _>(alloc, first, second, &mut commands, writer)
+        }
+        Engine::Dis => dis_engine(alloc, first, writer),
+        Engine::Move => move_engine::<4, 4096, _, _, _>(alloc, first, second, writer),
+        Engine::Replay => replay_engine::<4, 4096, _, _, _>(alloc, first, second, writer),
+        Engine::Run => run_engine::<4, 4096, _, _, _>(alloc, first, second, writer).map(|_| ()),
+        Engine::Shrink => shrink_engine::<4, 4096, _, _, _>(alloc, first, second, writer),
+        Engine::Steps => steps_engine::<4, 4096, _, _>(alloc, first, writer),
+        Engine::Threads => {
+            threads_engine::<4, 4096, _, _, _>(rt, alloc, first, 0, writer).map(|_| ())
+        }
+        Engine::Try => {
+            let generator = Pcg32::new(42, 54);
+            let runs = ONE_RUN;
+            try_engine::<4, 4096, _, _, _, _, _>(
+                rt,
+                alloc,
+                first,
+                &generator,
+                runs,
+                &mut Nobody,
+                writer,
+            ).map(|_| ())
+        }
+    }
+}
