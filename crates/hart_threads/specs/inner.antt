@@ -2,3 +2,4 @@
 pub mod Seating
 pub mod Searches
 pub mod Threads
+pub mod RunsAgain
