@@ -137,9 +137,7 @@ fn value_text(alloc: Global, left: &str, value: u32) -> Result<String, AllocErro
     ensures { IfOk result (λ line. string_bytes line ≡ value_text left.now value) }
 {
     let mut line = String::new(alloc);
-    line.push_str("last value: ")?;
-    line.push_str(left)?;
-    write!(line, " = {value}")?;
+    write!(line, "last value: {left} = {value}")?;
     Ok(line)
 }
 
@@ -162,9 +160,7 @@ fn verdict_text(alloc: Global, verdict: &str, condition: &str) -> Result<String,
     ensures { IfOk result (λ line. string_bytes line ≡ verdict_text verdict.now condition.now) }
 {
     let mut line = String::new(alloc);
-    line.push_str(verdict)?;
-    line.push_str(": ")?;
-    line.push_str(condition)?;
+    write!(line, "{verdict}: {condition}")?;
     Ok(line)
 }
 

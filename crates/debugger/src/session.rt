@@ -128,7 +128,8 @@ impl<const B: usize, const M: usize> Session<B, M> {
     }
 }
 
-/// Does one more event of a session whose parts these are, and answers its outcome.
+/// Does one more event of a session whose parts these are, and answers its outcome. At an error they are the parts of
+/// no session any more.
 fn go_on<const B: usize, const M: usize>(
     machine: &mut Machine<B, M>,
     events: &mut Vec<Event>,
