@@ -105,7 +105,7 @@ def inputs():
     yield ["debug", SB, "schedule"], b"a 4294967295\na 4294967296\nu " + b"9" * 100_000 + b"\nt\n", None
 
 
-def channels(runs):
+def channels(short):
     """Channels: the number of senders, the size of their rings and of their text."""
     for kind, least in LEAST.items():
         for senders, wanted in ((1, None), (63, None), (64, refused(18))):
@@ -113,7 +113,7 @@ def channels(runs):
         for slots, wanted in ((least, None), (least - 1, refused(19)), (2**32 - 1, refused(20)),
                               (2**32, BAD_COMMAND_LINE)):
             yield ["channel", kind, str(slots), "schedule"], b"7\n", wanted
-        for senders in (1, 2, 31, 62, 63) if runs.short else range(1, 64):
+        for senders in (1, 2, 31, 62, 63) if short else range(1, 64):
             most = (16384 // senders - 16) // 4
             for slots, wanted in ((most, None), (most + 1, refused(20))):
                 yield ["channel", kind, str(slots), "schedule", "--finish"], b"7\n" * senders, wanted
@@ -151,8 +151,10 @@ def options(short):
         yield ["threads", SB, "--turns", value], wanted
 
 
-def hold(runs, kind, words, stdin, wanted):
-    """Holds a run against what is wanted here, and against the reference."""
+def hold(runs, kind, text, words, stdin, wanted):
+    """Holds a run against what is wanted here, and against the reference. Where the text is a file's, the words name
+    it `text`."""
+    runs.put({"schedule": NONE + b"a0*3 l0\n", "text": text})
     came = runs.run(words, stdin)
     right = came == wanted if wanted else came[0] in (0, 1) and not came[1]
     if words[0] == "threads":
@@ -162,25 +164,25 @@ def hold(runs, kind, words, stdin, wanted):
     runs.hold(kind, right, f"{came[:2]}, wanted {wanted}", words, stdin[:200])
 
 
-def part(runs):
-    runs.put({"schedule": NONE + b"a0*3 l0\n"})
+def rows(short):
+    """What `hold` takes, for each limit."""
     for text, wanted in tests():
-        runs.put({"text": text})
-        hold(runs, "litmus", ["run", "text", "schedule"], b"", wanted)
+        yield "litmus", text, ["run", "text", "schedule"], b"", wanted
     for text, wanted in schedules():
-        runs.put({"text": text})
-        hold(runs, "schedules", ["replay", SB, "text"], b"", wanted)
+        yield "schedules", text, ["replay", SB, "text"], b"", wanted
     for text, wanted in records():
-        runs.put({"text": text})
         for command in ("replay", "move"):
-            hold(runs, "records", [command, SB, "text"], b"", wanted)
+            yield "records", text, [command, SB, "text"], b"", wanted
     for text, wanted in finished():
-        runs.put({"text": text})
-        hold(runs, "shrink", ["shrink", SB, "text"], b"", wanted)
+        yield "shrink", text, ["shrink", SB, "text"], b"", wanted
     for words, stdin, wanted in inputs():
-        hold(runs, words[0], words, stdin, wanted)
-    for words, stdin, wanted in channels(runs):
-        hold(runs, "channels", words, stdin, wanted)
-    for words, wanted in options(runs.short):
-        hold(runs, "options", words, b"", wanted)
+        yield words[0], b"", words, stdin, wanted
+    for words, stdin, wanted in channels(short):
+        yield "channels", b"", words, stdin, wanted
+    for words, wanted in options(short):
+        yield "options", b"", words, b"", wanted
+
+
+def part(runs):
+    runs.side_by_side(hold, rows(runs.short))
     runs.counts("limits", KINDS)

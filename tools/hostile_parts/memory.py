@@ -64,6 +64,11 @@ def part(runs):
     commands = 0
     # some stand on two pages
     rows = list({(row[0], *row[1].values()): row for row in examples.sessions()}.values())
+    # later ones read what these write
+    for command, files, _ in rows:
+        if " > " in command:
+            runs.put(files)
+            answer_of_shell(runs, command, {})
     for command, files, page in rows[1::7] if runs.short else rows:
         if "ulimit" in command:
             continue

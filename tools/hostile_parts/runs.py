@@ -8,6 +8,7 @@ import subprocess
 import sys
 import tempfile
 from collections import Counter
+from multiprocessing import get_context
 from pathlib import Path
 
 from faults import Fault
@@ -34,13 +35,16 @@ class Runs:
     def __init__(self, program, seed, short):
         self.program, self.short = str(program), short
         self.draw = random.Random(seed)
-        self.folder = tempfile.mkdtemp(prefix="ztso-hostile-")
-        for name in ("litmus", "examples"):
-            Path(self.folder, name).symlink_to(ROOT / name)
-        os.chdir(self.folder)
         self.passed = self.failed = self.shown = 0
         self.came = Counter()
-        self.files = {}
+        self.move_to(tempfile.mkdtemp(prefix="ztso-hostile-"))
+
+    def move_to(self, folder):
+        """Runs from now on in this folder, which is empty."""
+        self.folder, self.files = folder, {}
+        for name in ("litmus", "examples"):
+            Path(folder, name).symlink_to(ROOT / name)
+        os.chdir(folder)
 
     def put(self, files):
         """Writes the files of a run, except those that lie there already."""
@@ -104,10 +108,38 @@ class Runs:
         buffer = words[words.index("--buffer"):][:2] if "--buffer" in words else []
         return self.reference(["run", words[1], "of-threads.schedule", *buffer]) == (status, b"", b"hart 0 " + rest)
 
+    def side_by_side(self, hold, rows):
+        """Calls `hold(runs, *row)` for each row, on all cores, and takes in what was counted."""
+        rows = list(rows)
+        with get_context("fork").Pool(initializer=begin_worker, initargs=(self, hold, rows)) as pool:
+            for passed, failed, came in pool.imap_unordered(work_on, range(len(rows))):
+                self.passed += passed
+                self.failed += failed
+                self.came += came
+
     def counts(self, title, kinds):
         """Prints how often each kind came, and forgets it."""
         counts = ", ".join(f"{self.came.pop(kind)} {kind}" for kind in kinds if self.came[kind])
         print(f"{title}: {counts or 'nothing'}", flush=True)
+
+
+# what a worker of `side_by_side` has: its own runs, what it calls, and all rows
+WORKER = None
+
+
+def begin_worker(runs, hold, rows):
+    global WORKER
+    runs.move_to(tempfile.mkdtemp(dir=runs.folder))
+    WORKER = runs, hold, rows
+
+
+def work_on(number):
+    """Holds one row, and answers what was counted of it."""
+    runs, hold, rows = WORKER
+    runs.passed = runs.failed = 0
+    runs.came.clear()
+    hold(runs, *rows[number])
+    return runs.passed, runs.failed, Counter(runs.came)
 
 
 def brief(answer):

@@ -69,19 +69,22 @@ def count(runs, title):
 
 
 def cut(runs):
-    for grammar, text, words, stdin in grammars():
-        step = 7 if runs.short else 1
-        for end in range(len(text), -1, -step):
-            hold(runs, grammar, text[:end], words, stdin)
+    runs.side_by_side(hold, ((grammar, text[:end], words, stdin) for grammar, text, words, stdin in grammars()
+                             for end in range(len(text), -1, -1)))
     count(runs, "cut texts")
 
 
 def changed(runs):
+    runs.side_by_side(hold, changes(runs))
+    count(runs, "changed texts")
+
+
+def changes(runs):
+    """Texts with one byte changed, so many of each as are drawn."""
     for grammar, text, words, stdin in grammars():
         every = len(text) * len(TELLING)
         most = DRAWN_SHORT if runs.short else DRAWN
         drawn = range(every) if every <= most else runs.draw.sample(range(every), most)
         for number in drawn:
             at, byte = divmod(number, len(TELLING))
-            hold(runs, grammar, text[:at] + TELLING[byte:byte + 1] + text[at + 1:], words, stdin)
-    count(runs, "changed texts")
+            yield grammar, text[:at] + TELLING[byte:byte + 1] + text[at + 1:], words, stdin

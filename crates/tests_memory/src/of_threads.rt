@@ -35,7 +35,7 @@ impl Gate for Meeting {
             (&self.second, &self.first)
         };
         mine.store(true, Ordering::SeqCst);
-        for _ in 0..10_000_000 {
+        for _ in 0..1_000_000 {
             if theirs.load(Ordering::SeqCst) {
                 return true;
             }
