@@ -1,0 +1,65 @@
+"""What the tools that bring tests in and out share: tools/from-c, from-herd, to-litmus-log, allowed and
+compare-mappings. Litmus texts and schedules are read by tools/reference, and by nothing here."""
+
+import argparse
+import os
+import subprocess
+import sys
+from pathlib import Path
+
+TOOLS = Path(__file__).resolve().parent.parent
+ROOT = TOOLS.parent
+BUILT, REFERENCE = ROOT / "crates/ztso/out/ztso", TOOLS / "reference/ztso"
+sys.path.insert(0, str(TOOLS / "reference"))
+
+# what the program reads of a text at most
+MOST = 1 << 20
+
+
+class Refused(Exception):
+    """What can't be brought, in words for its author."""
+
+
+class Words(argparse.ArgumentParser):
+    """The words of a tool's command line, by the text at the tool's top: that is its help, and the lines that begin
+    with `tools/` its usage."""
+
+    def __init__(self, text):
+        lines = [line for line in text.splitlines() if line.startswith(("tools/", "ztso try"))]
+        super().__init__(usage="\n       ".join(lines))
+        self.text = text
+
+    def format_help(self):
+        return self.text.strip() + "\n"
+
+
+def text_of(path, most=MOST):
+    """The text of a file."""
+    try:
+        with open(path, "rb") as file:
+            content = file.read(most + 1)
+    except OSError as error:
+        raise Refused(f"{path}: {error.strerror}") from None
+    if len(content) > most:
+        raise Refused(f"{path}: it has more than {most} bytes")
+    try:
+        return content.decode()
+    except UnicodeDecodeError:
+        raise Refused(f"{path}: it is no UTF-8") from None
+
+
+def program_of(named=None):
+    """The program that is named, or the built one, or the reference where none is built."""
+    program = Path(named) if named else BUILT if BUILT.exists() else REFERENCE
+    if program.is_dir() or not os.access(program, os.X_OK):
+        raise Refused(f"{program}: no such program; scripts/build makes crates/ztso/out/ztso")
+    return program.resolve()
+
+
+def answer(program, *words):
+    """What the program prints. A verdict that doesn't hold is no fault."""
+    done = subprocess.run([str(program), *map(str, words)], stdin=subprocess.DEVNULL, capture_output=True, text=True,
+                          check=False)
+    if done.returncode not in (0, 1) or done.stderr:
+        raise Refused(f"{' '.join(map(str, words))}: {done.stderr.strip() or f'status {done.returncode}'}")
+    return done.stdout
