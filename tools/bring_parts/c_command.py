@@ -1,0 +1,81 @@
+"""The options of tools/from-c, and the text that it makes by them."""
+
+import re
+import shlex
+from dataclasses import dataclass
+from pathlib import Path
+
+from bring_parts import ROOT, Refused, c_source, c_tests, columns, compilers, text_of
+
+MAPPINGS = ROOT / "examples/mappings"
+LONGEST = 44
+
+
+@dataclass(frozen=True)
+class Way:
+    """How a C file is compiled."""
+    compiler: str = "gcc"
+    mapping: str = None
+    fences: str = "all"
+    flags: tuple = ()
+    lines: bool = False
+
+    @staticmethod
+    def of(asked):
+        return Way(asked.compiler, asked.mapping, asked.fences, tuple(asked.flag), asked.lines)
+
+    def words(self):
+        """The options as they are typed."""
+        words = ["--compiler", self.compiler]
+        words += ["--mapping", Path(self.mapping).name] if self.mapping else []
+        words += ["--fences", self.fences] if self.fences != "all" else []
+        words += [f"--flag={flag}" for flag in self.flags] + ["--lines"] * self.lines
+        return shlex.join(words)
+
+
+def add_options(words):
+    words.add_argument("--compiler", default="gcc")
+    words.add_argument("--mapping")
+    words.add_argument("--fences", choices=columns.FENCES, default="all")
+    words.add_argument("--flag", action="append", default=[])
+    words.add_argument("--lines", action="store_true")
+
+
+def mapping_of(name):
+    """The file of a mapping, which may be one of examples/mappings."""
+    for path in (Path(name), MAPPINGS / name):
+        if path.is_file():
+            return path.resolve()
+    names = " ".join(path.name for path in sorted(MAPPINGS.glob("*.h")))
+    raise Refused(f"there is no mapping {name}: examples/mappings has {names}")
+
+
+def made(file, way):
+    """The litmus text that a compiler makes of a C file."""
+    text = text_of(file)
+    source = c_source.read(text, Path(file).name)
+    compiler = compilers.Compiler(way.compiler)
+    flags = [*way.flags, *(["-include", mapping_of(way.mapping)] if way.mapping else [])]
+    note = noted(source, text.split("\n")) if way.lines else None
+    told = [f"tools/from-c {shlex.quote(Path(file).name)} {way.words()}", compiler.version(),
+            " ".join([*compiler.flags, *way.flags])]
+    return c_tests.litmus_text(source, compiler, flags, [Path(file).resolve().parent], way.fences, note, told)
+
+
+def noted(source, lines):
+    """What gives for each hart the comments beside its instructions: the number of the C line, and its text where it is
+    another than the one before. A cell's comment has no `|` and no `;`."""
+    def hart():
+        before = None
+
+        def note(instruction):
+            nonlocal before
+            if instruction.file != source.file or not 1 <= instruction.line <= len(lines):
+                return instruction.where()
+            is_same, before = instruction.line == before, instruction.line
+            text = re.sub(r"[^\x20-\x7e]", " ", lines[instruction.line - 1]).strip(" ;{}")
+            text = " ".join(text.replace("|", "¦").replace(";", ",").replace("(*", "( *").replace("*)", "* )").split())
+            text = text if len(text) <= LONGEST else text[:LONGEST - 2] + ".."
+            return str(instruction.line) if is_same or not text else f"{instruction.line}: {text}"
+        return note
+    return hart
