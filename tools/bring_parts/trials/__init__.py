@@ -1,0 +1,1 @@
+"""What tools/bring-tests and tools/bring-trials try."""

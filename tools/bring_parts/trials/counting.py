@@ -1,0 +1,40 @@
+"""How many trials passed, and what is said of those that failed."""
+
+import subprocess
+from pathlib import Path
+
+from bring_parts import TOOLS
+
+SECONDS = 60
+
+
+class Count:
+    def __init__(self):
+        self.passed = self.failed = 0
+
+    def told(self, name, good, why=""):
+        """Takes in a trial's end."""
+        self.passed, self.failed = self.passed + bool(good), self.failed + (not good)
+        if not good:
+            print(f"failed: {name}: {why}", flush=True)
+
+    def last_line(self):
+        return f"{self.passed} passed, {self.failed} failed"
+
+
+def run(tool, *words, text="", seconds=SECONDS):
+    """The status, standard output and standard error of a tool."""
+    stdin = text.encode() if isinstance(text, str) else text
+    try:
+        done = subprocess.run([str(TOOLS / tool), *map(str, words)], input=stdin, capture_output=True, timeout=seconds,
+                              check=False)
+    except subprocess.TimeoutExpired:
+        return None, "", f"more than {seconds} seconds"
+    return done.returncode, done.stdout.decode(errors="replace"), done.stderr.decode(errors="replace")
+
+
+def write(folder, name, text):
+    """A file of the folder with this text."""
+    path = Path(folder, name)
+    path.write_bytes(text if isinstance(text, bytes) else text.encode())
+    return path
