@@ -1,6 +1,7 @@
 """What the tools that bring tests in and out share: tools/from-c, from-herd, to-litmus-log, allowed and
 compare-mappings. Litmus texts and schedules are read by tools/reference, and by nothing here."""
 
+import argparse
 import os
 import subprocess
 import sys
@@ -17,6 +18,19 @@ MOST = 1 << 20
 
 class Refused(Exception):
     """What can't be brought, in words for its author."""
+
+
+class Words(argparse.ArgumentParser):
+    """The words of a tool's command line, by the text at the tool's top: that is its help, and the lines that begin
+    with `tools/` its usage."""
+
+    def __init__(self, text):
+        lines = [line for line in text.splitlines() if line.startswith(("tools/", "ztso try"))]
+        super().__init__(usage="\n       ".join(lines))
+        self.text = text
+
+    def format_help(self):
+        return self.text.strip() + "\n"
 
 
 def text_of(path, most=MOST):

@@ -1,6 +1,5 @@
 """The options of tools/from-c, and the text that it makes by them."""
 
-import argparse
 import re
 import shlex
 from dataclasses import dataclass
@@ -35,11 +34,11 @@ class Way:
 
 
 def add_options(words):
-    words.add_argument("--compiler", default="gcc", help=argparse.SUPPRESS)
-    words.add_argument("--mapping", help=argparse.SUPPRESS)
-    words.add_argument("--fences", choices=columns.FENCES, default="all", help=argparse.SUPPRESS)
-    words.add_argument("--flag", action="append", default=[], help=argparse.SUPPRESS)
-    words.add_argument("--lines", action="store_true", help=argparse.SUPPRESS)
+    words.add_argument("--compiler", default="gcc")
+    words.add_argument("--mapping")
+    words.add_argument("--fences", choices=columns.FENCES, default="all")
+    words.add_argument("--flag", action="append", default=[])
+    words.add_argument("--lines", action="store_true")
 
 
 def mapping_of(name):

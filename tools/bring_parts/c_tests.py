@@ -5,7 +5,7 @@ import tempfile
 import textwrap
 from pathlib import Path
 
-from bring_parts import MOST, Refused, columns, objects, search
+from bring_parts import MOST, Refused, columns, objects, texts
 from bring_parts.compilers import HERE
 
 # where a local's last value is kept for the condition
@@ -61,7 +61,18 @@ def c_text(source, results):
         end = at
     code = "".join([*parts, source.code[:end]][::-1])
     include = f"#include \"{source.header}\"\n" if source.header else ""
-    return f"{include}#line 1 \"{source.file}\"\n{code}\n#line 1 \"parameters\"\n{storage_of(source)}"
+    further = storage_of(source) + returns_checked(source, results)
+    return f"{include}#line 1 \"{source.file}\"\n{code}\n#line 1 \"further declarations\"\n{further}"
+
+
+def returns_checked(source, results):
+    """C that the compiler refuses where a value that is asked for has more than 32 bits."""
+    lines, lefts = [], [left.partition(":") for left in source.ending.lefts()]
+    for hart, (function, kept) in enumerate(zip(source.functions, results)):
+        if any(colon and int(number) == hart and name not in kept for number, colon, name in lefts):
+            zeros = ", ".join("0" for _ in function.parameters)
+            lines.append(f"_Static_assert(sizeof(P{hart}({zeros})) <= 4, \"P{hart} returns more than 32 bits\");\n")
+    return "".join(lines)
 
 
 def storage_of(source):
@@ -109,8 +120,8 @@ class Words:
 
     def __init__(self, values, symbols):
         self.values, self.names = values, [None] * len(values)
-        # the word of an object's name, and of its further words
-        self.places = {}
+        # the word of an object's name, and of its further words; the names of those with fewer than 4 bytes
+        self.places, self.small = {}, {name for _, size, name in symbols if size < 4}
         words = [(address // 4 + at, name, at) for address, size, name in symbols for at in range((size + 3) // 4 or 1)]
         for place, name, at in sorted(words, key=lambda word: word[2]):
             self.places.setdefault((name, at), place)
@@ -189,6 +200,10 @@ def condition(source, results, words):
             return f"{hart}:x{RESULTS[results[int(hart)].get(name, 'a0')]}"
         return words.named(left, "the condition asks for")
 
+    for each in source.ending.equations():
+        if each.left in words.small and each.value.startswith("-"):
+            raise Refused(f"the condition asks for {each.left}={each.value}, and {each.left} has fewer than 32 bits: as a "
+                          "word it is never negative")
     return source.ending.renamed(left_of, lambda value: words.value(value, "the condition has the value")).text()
 
 
@@ -220,7 +235,7 @@ def litmus_text(source, compiler, flags, folders, fences, note, told):
                       condition(source, results, words)]) + "\n"
     if len(text.encode()) > MOST:
         raise Refused(f"the litmus text has more than {MOST} bytes")
-    search.test_of(text, "the text that was made")
+    texts.read(text, "the text that was made")
     return text
 
 

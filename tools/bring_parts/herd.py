@@ -3,7 +3,7 @@ rewritten in its place, and all else stays as its author wrote it."""
 
 import re
 
-from bring_parts import Refused, conditions, statements
+from bring_parts import Refused, conditions, statements, texts
 
 import litmus
 from faults import Fault
@@ -99,7 +99,7 @@ def rewritten(text):
         made = rewriter.made()
         litmus.read(made)
     except Fault as fault:
-        raise Refused(f"{fault.line.removeprefix('ztso: ')} (tools/explain {fault.line.split()[2]})") from None
+        raise Refused(texts.said_of(fault)) from None
     return made, {**notes, **rewriter.notes}
 
 

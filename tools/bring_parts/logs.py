@@ -61,10 +61,9 @@ def names_in(text):
     return {f"{hart}:{register}": f"{hart}:{name}" for hart, register, name in NAMED.findall(text)}
 
 
-def condition_in(clean, names):
-    """A text's condition on one line, without the parts that stand there for their left sides alone, by these names."""
-    end = clean[re.search(r"^[ \t]*(~?exists|forall)", clean, re.MULTILINE).start():]
-    condition = PARTS_OF_LOCATIONS.sub("", " ".join(end.split()))
+def condition_by(names, condition):
+    """A condition without the parts that stand there for their left sides alone, by these names of registers."""
+    condition = PARTS_OF_LOCATIONS.sub("", condition)
     condition = re.sub(r"^(\S+) \(\((.*)\)\)$", r"\1 (\2)", condition)
     return re.sub(r"\b[0-9]+:x[0-9]+\b", lambda left: names.get(left[0], left[0]), condition)
 
@@ -85,9 +84,9 @@ def written(name, kind, condition, states, notes=()):
     return "\n".join(lines) + "\n\n"
 
 
-def of_table(text, clean, test, table, brackets=False):
-    """The log of a table that `ztso try` printed of a test. `clean` is the test's text without its comments."""
-    names, states = names_in(text), []
+def of_table(text, table, brackets=False):
+    """The log of a table that `ztso try` printed of a text's test."""
+    names, test, states = names_in(text.text), text.test, []
     for line in table.split("\n")[:-1]:
         count, _, settings = line.partition(" ;")[0].partition(" ")
         if count == "unfinished" and settings.isdecimal():
@@ -104,6 +103,5 @@ def of_table(text, clean, test, table, brackets=False):
         states.append((int(count), is_true, shown(state)))
     else:
         raise Refused("the table that `ztso try` prints ends with a line `unfinished N`")
-    information = clean[:re.search(r"^[ \t]*\{", clean, re.MULTILINE).start()]
-    notes = [f"Hash={found}" for found in re.findall(r"^[ \t]*Hash=(\S+)", information, re.MULTILINE)]
-    return written(clean.split()[1], test.kind, condition_in(clean, names), states, notes)
+    notes = [f"Hash={found}" for found in re.findall(r"^[ \t]*Hash=(\S+)", text.information, re.MULTILINE)]
+    return written(text.name, test.kind, condition_by(names, text.condition), states, notes)

@@ -5,11 +5,10 @@ import runpy
 from dataclasses import dataclass
 from functools import lru_cache
 
-from bring_parts import Refused, TOOLS
+from bring_parts import TOOLS
 
 import litmus
 import schedules
-from faults import Fault
 from machine import RUNNING, WIDTHS, Machine
 
 STATES = 200_000
@@ -18,13 +17,12 @@ REACHABLE = runpy.run_path(str(TOOLS / "reference/explore"))["reachable"]
 
 class Eager(Machine):
     """The machine with fewer ways: an instruction that needs no memory comes at once, since it can be moved before
-    what other harts do, and a finished run has it anyway. So outcomes and the least lengths of their runs stay. With
-    `in_order` a store lands at once, which leaves the sequentially consistent runs. After `states` states nothing
-    more happens."""
+    what other harts do, and a finished run has it anyway. So outcomes and the least lengths of their runs stay. After
+    `states` states nothing more happens. A search asks for all events of a state before those of the next one."""
 
-    def __init__(self, test, buffer, states, in_order):
+    def __init__(self, test, buffer, states):
         super().__init__(test, buffer)
-        self.left, self.in_order = states, in_order
+        self.left = states
         self.local = [[needs_no_memory(each) for each in code] for code in test.codes]
         self.at = self.only = None
 
@@ -38,9 +36,7 @@ class Eager(Machine):
 
     def first(self, state):
         """The event that comes before all others, or None."""
-        for hart, (pc, _, status, pending, _) in enumerate(state[0]):
-            if self.in_order and pending:
-                return "l", hart
+        for hart, (pc, _, status, _, _) in enumerate(state[0]):
             if status == RUNNING and pc // 4 < len(self.local[hart]) and self.local[hart][pc // 4]:
                 return "a", hart
         return None
@@ -62,19 +58,11 @@ class Found:
         return f"not shown in {self.states} states" + (", where the search stopped" if self.cut else "")
 
 
-def test_of(text, name):
-    """The test of a litmus text."""
-    try:
-        return litmus.read(text)
-    except Fault as fault:
-        raise Refused(f"{name}: {fault.line.removeprefix('ztso: ')} (tools/explain {fault.line.split()[2]})") from None
-
-
 @lru_cache(maxsize=64)
-def outcomes(text, buffer=4, states=STATES, in_order=False):
+def outcomes(text, buffer=4, states=STATES):
     """Every outcome that the search shows of a litmus text."""
     test = litmus.read(text)
-    machine = Eager(test, buffer, states, in_order)
+    machine = Eager(test, buffer, states)
     try:
         found, seen = REACHABLE(test, machine)
     except OverflowError:

@@ -7,7 +7,7 @@ import tempfile
 from multiprocessing import get_context
 from pathlib import Path
 
-from bring_parts import ROOT, TOOLS, Refused, herd, logs, search
+from bring_parts import ROOT, TOOLS, Refused, herd, logs, search, texts
 from bring_parts.trials.counting import run
 
 import litmus
@@ -40,7 +40,7 @@ def trials(program, path, text):
     test = litmus.read(text)
     yield "from-herd leaves it", herd.rewritten(text) == (text, {}), "it was rewritten"
     table, is_shown = table_of(program, path, test)
-    log = logs.of_table(text, litmus.without_comments(text), test, table)
+    log = logs.of_table(texts.read(text, path), table)
     results = logs.read(log)
     yield "its log has one test", len(results) == 1, str(list(results))
     rows = [line.partition(" ;")[0].split(" ") for line in table.split("\n")[:-2]]
