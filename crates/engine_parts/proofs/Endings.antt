@@ -1,7 +1,6 @@
 -- How an engine ends, from what it made of its inputs.
 use Rattle.std.proofs.Common.{◌≡◌, ℕ, ◌+◌, ◌<◌, ◌≤◌, List, length, take, Result, Ok, Err, refl, sym, ap, ◌∙◌, subst, arith, length-append, length-take}
 use Rattle.std.specs.Prelude.{Option, Some, None, IfSome, IsErrAnd, replicate}
-use Rattle.std.specs.Global.{Vec}
 use Rattle.std.specs.Io.KnownBytes.{Consumes}
 use Rattle.std.proofs.lemmas.List.{length-replicate}
 use Rattle.std.proofs.lemmas.Result.{err_from_is_err_and}
@@ -11,7 +10,7 @@ use Rattle.engine_parts.specs.declared.fault.Refusal.{Refusal}
 use Rattle.engine_parts.specs.Faults.{too_large, AnswersAs}
 use Rattle.engine_parts.specs.Input.{IsInput}
 use Rattle.engine_parts.specs.Engines.{OfInput, Ends}
-use Rattle.engine_parts.specs.inner.Making.{Finds, FindsBy, IsEndOf}
+use Rattle.engine_parts.specs.inner.Making.{Finds, IsEndOf}
 
 -- ---- what a reader tells
 
@@ -50,18 +49,6 @@ pub handed_on : {A C X Y : Type 0} (P : Result A Refusal → Type 0) (Q : Result
     (result : Result Y Fault) (fault : Fault) → ((refusal : Refusal) → P (Err refusal) → Q (Err refusal)) → result ≡ Err fault
     → Finds P view (Err fault) → Finds Q seen result
 handed_on P Q view seen result fault more is finds = grind arith
-
-module _ {X Y : Type 0} (IsAnswer : List ℕ → Result Y Refusal → Type 0) (view : X → Y) (known : Option (List ℕ)) where
-  -- what answers the input that was read
-  pub found_by : (input : Vec ℕ) (result : Result X Fault) → OfInput known (λ bytes. input.items ≡ bytes) → AnswersAs (IsAnswer input.items) view result → FindsBy IsAnswer view known result
-  found_by input result is = answered_by (IsAnswer input.items) _ view result
-      (λ answer holds. weaker known _ _ (λ bytes e. subst (λ (xs : List ℕ). IsAnswer xs answer) e holds) is)
-
-  -- nothing was read
-  pub found_unread : (fault : Fault) → OfInput known (λ bytes. IsInput bytes (Err fault)) → ((bytes : List ℕ) → 1048576 < length bytes → IsAnswer bytes (Err too_large)) → FindsBy IsAnswer view known (Err fault)
-  found_unread (Refused r) is large = weaker known _ _ (λ bytes why. subst (λ (s : Refusal). IsAnswer bytes (Err s)) (sym why.0) (large bytes why.1)) is
-  found_unread WriteFailed is large = no_write known is
-  found_unread other is large = tt
 
 -- ---- the end
 

@@ -1,12 +1,13 @@
 -- An input that is judged.
-use Rattle.std.proofs.Common.{arith, ◌≡◌, ℕ, ◌≤◌, ltb, List, length, Result, Ok, Err, refl, ◌∙◌}
-use Rattle.std.specs.Str.{IsUtf8}
-use Rattle.std.proofs.lemmas.Bool.{cases_Bool, le-ltb, ltb-false}
+use Rattle.std.proofs.Common.{arith, ◌≡◌, ℕ, ◌<◌, ◌≤◌, ltb, Bool, true, false, List, length, Result, Ok, Err, refl, subst, ◌∙◌}
+use Rattle.std.specs.Prelude.{nat_lt, if◌then◌else◌}
+use Rattle.std.specs.Str.{IsUtf8, is_utf8}
+use Rattle.std.proofs.lemmas.Bool.{cases_Bool, le-ltb, lt-ltb, ltb-false}
 use Rattle.std.proofs.lemmas.Str.{IsUtf8-from_is_utf8, is_utf8-from_IsUtf8}
 use Rattle.engine_parts.specs.declared.fault.Refusal.{Refusal}
-use Rattle.engine_parts.specs.Faults.{not_text}
+use Rattle.engine_parts.specs.Faults.{not_text, too_large}
 use Rattle.engine_parts.specs.Engines.{Accepted, judged}
-use Rattle.texts.proofs.ResultLaws.{guard_err}
+use Rattle.texts.proofs.ResultLaws.{guard_err, ok_is}
 
 -- a text within the limit is judged by its own rules
 pub judged_text : {V : Type 0} (value_at : List ℕ → Result V Refusal) (input : List ℕ) → length input ≤ 1048576 → IsUtf8 input → judged value_at input ≡ value_at input
@@ -15,6 +16,10 @@ judged_text value_at input few text = rw (le-ltb 1048576 (length input) few, is_
 -- and what is no text is refused as such
 pub judged_no_text : {V : Type 0} (value_at : List ℕ → Result V Refusal) (input : List ℕ) → length input ≤ 1048576 → (IsUtf8 input → ⊥) → judged value_at input ≡ Err not_text
 judged_no_text value_at input few none = grind (arith, cases_Bool, IsUtf8-from_is_utf8, le-ltb)
+
+-- what is past the limit too
+pub judged_large : {V : Type 0} (value_at : List ℕ → Result V Refusal) (input : List ℕ) → 1048576 < length input → judged value_at input ≡ Err too_large
+judged_large value_at input many = rw (lt-ltb 1048576 (length input) many) refl
 
 -- what is judged well is a text within the limit, and well by its own rules
 pub judged_well : {V : Type 0} (value_at : List ℕ → Result V Refusal) (input : List ℕ) (v : V) → judged value_at input ≡ Ok v → (length input ≤ 1048576) × IsUtf8 input × (value_at input ≡ Ok v)
@@ -27,3 +32,22 @@ accepted_well value_at IsValue input v found e = grind (arith, judged_well)
 -- and the other way round
 pub accepted_judged : {V : Type 0} (value_at : List ℕ → Result V Refusal) (IsValue : List ℕ → V → Type 0) (input : List ℕ) (v : V) → (IsValue input v → value_at input ≡ Ok v) → Accepted IsValue input v → judged value_at input ≡ Ok v
 accepted_judged value_at IsValue input v only accepted = judged_text value_at input accepted.few accepted.text ∙ only accepted.value_is
+
+-- an input that is judged a text is that text
+pub judged_as_text : (input text : List ℕ) → judged (λ bytes. Ok bytes) input ≡ Ok text → (input ≡ text) × (length text ≤ 1048576) × IsUtf8 text
+judged_as_text input text e =
+    let (few, is_text, is) = judged_well (λ bytes. Ok bytes) input text e in
+    let same = ok_is Refusal input text is in
+    (same, subst (λ (bytes : List ℕ). length bytes ≤ 1048576) same few, subst IsUtf8 same is_text)
+
+guarded : {V W : Type 0} (large is_text : Bool) (value : Result V Refusal) (other : W) (refusal : Refusal)
+    → (if large then Err too_large else (if is_text then Ok other else Err not_text)) ≡ Err refusal
+    → (if large then Err too_large else (if is_text then value else Err not_text)) ≡ Err refusal
+guarded true is_text value other refusal e = grind arith
+guarded false true value other refusal e = grind arith
+guarded false false value other refusal e = grind arith
+
+-- and one that is refused as a text is refused so by every rule
+pub refused_as_text : {V : Type 0} (value_at : List ℕ → Result V Refusal) (input : List ℕ) (refusal : Refusal)
+    → judged (λ bytes. Ok bytes) input ≡ Err refusal → judged value_at input ≡ Err refusal
+refused_as_text value_at input refusal e = guarded (nat_lt 1048576 (length input)) (is_utf8 input) (value_at input) input refusal e

@@ -9,3 +9,4 @@ pub mod ThreadRuns
 pub mod RunLaws
 pub mod ScheduleLaws
 pub mod OneInput
+pub mod TextInputs

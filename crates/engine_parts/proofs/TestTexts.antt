@@ -1,20 +1,19 @@
 -- Inputs that are litmus texts.
-use Rattle.std.proofs.Common.{arith, ◌≡◌, ℕ, List, Result, Ok, Err, refl}
-use Rattle.std.specs.Prelude.{Option, IfSome, IsErr}
-use Rattle.std.specs.Global.{Vec}
+use Rattle.std.proofs.Common.{arith, ◌≡◌, ℕ, List, Result, Ok, Err, refl, ◌∙◌}
+use Rattle.std.specs.Prelude.{Option, Some, None, IfSome, IsErr}
 use Rattle.litmus_reader.specs.declared.faults.LitmusFault.{LitmusFault}
 use Rattle.texts.specs.declared.errors.AtLine.{AtLine}
 use Rattle.texts.specs.declared.errors.TextError.{TextError}
 use Rattle.texts.specs.declared.errors.TextError.TheVariants as error
 use Rattle.litmus_reader.specs.Faults.{fault_of, fault_number}
-use Rattle.litmus.specs.LitmusTests.{LitmusTest}
-use Rattle.litmus_reader.specs.Reading.{Content, content_of, test_at}
+use Rattle.litmus_reader.specs.Reading.{Content, test_at}
 use Rattle.engine_parts.specs.declared.fault.Fault.{Fault}
 use Rattle.engine_parts.specs.declared.fault.Refusal.{Refusal}
 use Rattle.engine_parts.specs.Faults.{Answers, fault_for, refused_at}
 use Rattle.engine_parts.specs.Engines.{judged, OfInput}
 use Rattle.engine_parts.specs.Tests.{refused_test, test_of, HasNoTest}
-use Rattle.engine_parts.proofs.Judging.{judged_text, judged_well}
+use Rattle.engine_parts.specs.inner.Inputs.{IsReadAsText}
+use Rattle.engine_parts.proofs.Judging.{judged_as_text, judged_text, judged_well}
 
 -- an error tells the fault at some line
 pub answered_refusal : {X : Type 0} (view : X → Content) (text : List ℕ) (e : TextError (AtLine LitmusFault)) → IfSome (fault_of e) (λ f. test_at text ≡ Err f) → (line : ℕ) × Answers view (Err (fault_for (refused_at fault_number) e)) (test_of line text)
@@ -31,5 +30,10 @@ unfolding test_of
 test_or_none input line other test refusal e f = grind (arith, judged_well, well_or_refused, judged_text)
 
 -- so what reads such an input answers no test
-pub no_test_no_answer : (known : Option (List ℕ)) (input : Vec ℕ) (result : Result LitmusTest Fault) → OfInput known (λ bytes. input.items ≡ bytes) → (line : ℕ) × Answers content_of result (judged (test_of line) input.items) → HasNoTest known → IsErr result
-no_test_no_answer known input result is answers none = grind (arith, test_or_none)
+pub no_test_no_answer : {X : Type 0} (view : X → Content) (known : Option (List ℕ)) (text : List ℕ) (result : Result X Fault)
+    → OfInput known (λ bytes. IsReadAsText bytes (Ok text)) → (line : ℕ) × Answers view result (test_of line text) → HasNoTest known → IsErr result
+no_test_no_answer view known text (Err fault) read answers none = refl
+no_test_no_answer view (Some bytes) text (Ok x) read (line, e) (refusal, (other, f)) =
+    let (same, few, is_text) = judged_as_text bytes text read in
+    absurd (test_or_none text line other (view x) refusal (judged_text (test_of line) text few is_text ∙ e) (rw same at f))
+no_test_no_answer view None text (Ok x) read answers none = absurd none

@@ -1,11 +1,11 @@
-//! An input as a whole, with its limit.
+//! Inputs as texts, with their limit.
 
-ghost use Rattle.std.specs.Prelude.{◌≡◌, ◌≤◌, IfOk, IfErr, vec_len};
-ghost use Rattle.std.specs.Str.{IsUtf8};
-ghost use Rattle.engine_parts.specs.declared.fault.Fault.TheVariants.{Refused};
+ghost use Rattle.std.specs.Prelude.{◌≤◌, IfOk, length};
+ghost use Rattle.std.specs.String.{string_bytes};
 ghost use Rattle.engine_parts.specs.Engines.{OfInput};
-ghost use Rattle.engine_parts.specs.Faults.{not_text};
 ghost use Rattle.engine_parts.specs.Input.{IsInput};
+ghost use Rattle.engine_parts.specs.inner.Inputs.{IsReadAsText};
+ghost use Rattle.engine_parts.specs.inner.Making.{FindsBy};
 ghost use Rattle.engine_parts.specs.declared.input.TheConstants.{INPUT_BYTES};
 
 use crate::fault::{Fault, NOT_TEXT, Position, TOO_LARGE};
@@ -19,9 +19,9 @@ const CHUNK_BYTES: usize = 4096;
 
 /// All that the reader gives, where that is within the limit. A reader without end is refused soon
 /// after the limit.
-pub fn read_input<R: Read>(alloc: Global, reader: &mut R) -> Result<Vec<u8>, Fault>
+fn read_input<R: Read>(alloc: Global, reader: &mut R) -> Result<Vec<u8>, Fault>
     ensures input { OfInput (R.remaining reader.old) (λ bytes. IsInput bytes result) }
-    ensures few { IfOk result (λ input. vec_len input ≤ INPUT_BYTES) }
+    ensures few { IfOk result (λ input. length input.items ≤ INPUT_BYTES) }
 {
     let mut input = Vec::new(alloc);
     let mut chunk = [0; CHUNK_BYTES];
@@ -39,12 +39,12 @@ pub fn read_input<R: Read>(alloc: Global, reader: &mut R) -> Result<Vec<u8>, Fau
     Err(Fault::ReadFailed)
 }
 
-/// The input as a text, where it is UTF-8.
-pub fn text_of(input: &[u8]) -> Result<&str, Fault>
-    ensures text { IfOk result (λ text. (text.now ≡ input.now) × IsUtf8 input.now) }
-    ensures refused { IfErr result (λ fault. (fault ≡ Refused not_text) × (IsUtf8 input.now → ⊥)) }
+/// All that the reader gives, where that is a text.
+pub fn read_text<R: Read>(alloc: Global, reader: &mut R) -> Result<String, Fault>
+    ensures { FindsBy IsReadAsText string_bytes (R.remaining reader.old) result }
 {
-    match str::from_utf8(input) {
+    let input = read_input(alloc, reader)?;
+    match String::from_utf8(input) {
         Ok(text) => Ok(text),
         Err(_) => Err(Fault::refused(NOT_TEXT, Position::Nowhere)),
     }

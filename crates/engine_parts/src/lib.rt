@@ -7,6 +7,7 @@
 
 #![tactic(auto)]
 
+pub mod command;
 pub mod fault;
 pub mod input;
 pub mod litmus_text;

@@ -1,18 +1,16 @@
 //! Inputs that are schedules.
 
-ghost use Rattle.std.specs.Prelude.{◌≡◌, ◌≤◌, IfOk, IsErr, length, vec_len};
+ghost use Rattle.std.specs.Prelude.{◌≡◌, ◌≤◌, IfOk, IsErr, length};
 ghost use Rattle.recorder.specs.Schedule.{OfHarts};
 ghost use Rattle.recorder.specs.Versions.{Says, events_said, said_of};
 ghost use Rattle.recorder.specs.declared.reading.TheConstants.{MAX_EVENTS};
 ghost use Rattle.engine_parts.specs.Faults.{Answers, fault_for};
-ghost use Rattle.engine_parts.specs.Engines.{Accepted, judged};
 ghost use Rattle.engine_parts.specs.Schedules.{refused_at_byte, schedule_of as schedule_said, HasNoSchedule};
 ghost use Rattle.engine_parts.specs.inner.Making.{FindsBy};
 ghost use Rattle.engine_parts.specs.inner.Inputs.{IsReadAsSchedule};
-ghost use Rattle.engine_parts.specs.declared.input.TheConstants.{INPUT_BYTES};
 
 use crate::fault::{Fault, Position};
-use crate::input::{read_input, text_of};
+use crate::input::read_text;
 use recorder::{AtByte, Schedule, ScheduleError, read_either};
 use std::alloc::Global;
 use std::io::Read;
@@ -45,18 +43,6 @@ fn schedule_of_text(alloc: Global, text: &str) -> Result<Schedule, Fault>
     }
 }
 
-/// What an input says as a schedule of either version. The input is let go.
-#[tactic(auto, using(crate::proofs::Judging::judged_text, crate::proofs::Judging::judged_no_text))]
-fn schedule_of_input(alloc: Global, input: Vec<u8>) -> Result<Schedule, Fault>
-    requires { vec_len input ≤ INPUT_BYTES }
-    ensures found { IfOk result (λ schedule. Accepted Says input.items (said_of schedule)) }
-    ensures exact { Answers said_of result (judged schedule_said input.items) }
-    ensures harts { IfOk result (λ schedule. OfHarts (events_said (said_of schedule))) }
-    ensures few { IfOk result (λ schedule. length (events_said (said_of schedule)) ≤ MAX_EVENTS) }
-{
-    schedule_of_text(alloc, text_of(&input)?)
-}
-
 /// The schedule of either version that a reader gives. A record's outcomes are not checked here.
 pub fn read_schedule<R: Read>(alloc: Global, reader: &mut R) -> Result<Schedule, Fault>
     ensures schedule { FindsBy IsReadAsSchedule said_of (R.remaining reader.old) result }
@@ -64,6 +50,6 @@ pub fn read_schedule<R: Read>(alloc: Global, reader: &mut R) -> Result<Schedule,
     ensures harts { IfOk result (λ schedule. OfHarts (events_said (said_of schedule))) }
     ensures few { IfOk result (λ schedule. length (events_said (said_of schedule)) ≤ MAX_EVENTS) }
 {
-    let input = read_input(alloc, reader)?;
-    schedule_of_input(alloc, input)
+    let text = read_text(alloc, reader)?;
+    schedule_of_text(alloc, &text)
 }

@@ -3,21 +3,17 @@ use Rattle.std.proofs.Common.{arith, ◌≡◌, ℕ, List, subst}
 use Rattle.step_machine.specs.History.{Start}
 use Rattle.step_machine.specs.Runs.{Run}
 use Rattle.poll_close.specs.Layout.{Layout}
-use Rattle.poll_close.specs.Laws.{Ring, opening_of, opening_over, Accepted, AcceptedAt}
+use Rattle.poll_close.specs.Laws.{Ring, opening_over, AcceptedAt}
 use Rattle.hart_threads.specs.declared.fault.ChannelFault.{ChannelFault}
 use Rattle.hart_threads.specs.declared.record.Record.{Record}
 use Rattle.hart_threads.specs.Records.{IsRecord}
 use Rattle.hart_threads.specs.Faults.{channel_fault_at}
-use Rattle.hart_threads.specs.Returns.{RecordFails, ChannelFails, ChannelFailsAt}
+use Rattle.hart_threads.specs.Returns.{RecordFails, ChannelFailsAt}
 
 pub run_of : (B M : ℕ) (o p : Start) (r : Record B M) → o ≡ p → IsRecord B M o r → Run B M p r.events.items r.trace
 run_of B M o p r is made = subst (λ (q : Start). Run B M q r.events.items r.trace) is made.run
 
 -- a channel that opens and gives no record has a fault of threads, or memory ran out
-pub channel_fails : (ring : Ring) (B M n S : ℕ) (lists : List (List ℕ)) (o : Start) (e : ChannelFault)
-    → o ≡ opening_of ring lists S → Accepted ring M lists S → RecordFails B M n o e → ChannelFails ring B M n lists S e
-channel_fails ring B M n S lists o e is accepted fails = grind arith
-
 pub channel_fails_at : (ring : Ring) (B M n : ℕ) (l : Layout) (lists : List (List ℕ)) (o : Start) (e : ChannelFault)
     → o ≡ opening_over ring lists l → AcceptedAt ring M lists l → RecordFails B M n o e
     → ChannelFailsAt ring B M n lists l (channel_fault_at e)

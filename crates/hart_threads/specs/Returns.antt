@@ -4,14 +4,15 @@ use Rattle.std.specs.List.{AllZip}
 use Rattle.step_machine.specs.declared.events.Entry.{Entry}
 use Rattle.step_machine.specs.History.{Start}
 use Rattle.step_machine.specs.Paths.{state_of}
-use Rattle.poll_close.specs.Layout.{Layout}
-use Rattle.poll_close.specs.Laws.{Ring, opening_of, opening_over, Accepted, AcceptedAt}
+use Rattle.poll_close.specs.Layout.{Layout, dense}
+use Rattle.poll_close.specs.Laws.{Ring, opening_over, AcceptedAt}
 use Rattle.poll_close.specs.Refusals as refusals
 use Rattle.poll_close.specs.declared.faults.Refused.TheVariants.{NoMemory}
 use Rattle.hart_threads.specs.Seats.{SeatView, AsksBank, Continues, seats_of}
 use Rattle.hart_threads.specs.Missing.{is_missing, IsFirst, IsComplete}
 use Rattle.hart_threads.specs.Parts.{part_of}
 use Rattle.hart_threads.specs.Records.{IsRecord, IsMismatch}
+use Rattle.hart_threads.specs.Faults.{channel_fault_at}
 use Rattle.hart_threads.specs.GettingOn.{OpensAs}
 use Rattle.hart_threads.specs.declared.record.Record.{Record}
 use Rattle.hart_threads.specs.declared.fault.Fault.{Fault}
@@ -66,14 +67,12 @@ abbrev pub RecordFails : ℕ → ℕ → ℕ → Start → ChannelFault → Type
 RecordFails B M n o (channel.Lists refused) = refused ≡ NoMemory
 RecordFails B M n o (channel.Threads fault) = Fails B M n o (seats_of M o) fault
 
--- why a channel over these lists, with rings of S slots, delivers nothing
-abbrev pub ChannelFails : Ring → ℕ → ℕ → ℕ → List (List ℕ) → ℕ → ChannelFault → Type 0
-ChannelFails ring B M n lists S (channel.Lists refused) = refusals.Refuses ring M lists S refused
-ChannelFails ring B M n lists S (channel.Threads fault) =
-    Accepted ring M lists S × Fails B M n (opening_of ring lists S) (seats_of M (opening_of ring lists S)) fault
-
--- and why one in a layout does
+-- why a channel over these lists in a layout delivers nothing
 abbrev pub ChannelFailsAt : Ring → ℕ → ℕ → ℕ → List (List ℕ) → Layout → ChannelFaultAt → Type 0
 ChannelFailsAt ring B M n lists l (channel_at.Place refused) = refusals.RefusesAt ring M lists l refused
 ChannelFailsAt ring B M n lists l (channel_at.Threads fault) =
     AcceptedAt ring M lists l × Fails B M n (opening_over ring lists l) (seats_of M (opening_over ring lists l)) fault
+
+-- and why one with rings of S slots in the dense layout does
+abbrev pub ChannelFails : Ring → ℕ → ℕ → ℕ → List (List ℕ) → ℕ → ChannelFault → Type 0
+ChannelFails ring B M n lists S fault = ChannelFailsAt ring B M n lists (dense S) (channel_fault_at fault)

@@ -18,7 +18,7 @@ use crate::harts::run_harts;
 use crate::record::Record;
 use crate::shared::Shared;
 use hart::need::Report;
-use poll_close::{Place, RingKind, laws_of_channels, opening, opening_at};
+use poll_close::{Place, RingKind, laws_of_channels, opening_at};
 use std::alloc::Global;
 use std::sync::Wait;
 use std::thread::Threads;
@@ -50,47 +50,14 @@ fn record_over<const B: usize, const M: usize, G: Gate + Sync, R: Threads + Wait
     Ok((record, reports))
 }
 
-/// Runs a channel of this kind over these lists, through rings of `ring` slots, with a thread for each
-/// hart and each lander: the record, and what the receiver reports in it. Whatever the threads do, these
-/// reports are clean, no hart is stopped, and each hart makes at most `turns` entries, and each lander too.
-/// Under an open gate each hart gets on: it ends, makes `turns` entries, or comes to what may have to wait.
+/// Runs a channel of this kind over these lists at a place, over a memory that opens with these words, with a
+/// thread for each hart and each lander: the record, and what the receiver reports in it. Whatever the threads
+/// do, these reports are clean, no hart is stopped or touches memory outside its blocks, and each hart makes at
+/// most `turns` entries, and each lander too. Under an open gate each hart gets on: it ends, makes `turns`
+/// entries, or comes to what may have to wait.
 ///
-/// Lists are refused as [`opening`] refuses them, and the threads run and fail as in [`run_harts`], with
-/// fresh seats. It may wait, for the lock and for the threads.
-pub fn deliver_threads<
-    K: RingKind,
-    const B: usize,
-    const M: usize,
-    G: Gate + Sync,
-    R: Threads + Wait + Sync,
->(
-    rt: &R,
-    alloc: Global,
-    lists: &[Vec<u32>],
-    ring: u32,
-    gate: &G,
-    turns: u32,
-) -> Result<(Record<B, M>, Vec<Report>), ChannelFault>
-    requires some_capacity { 1 ≤ B }
-    requires capacity { B ≤ 64 }
-    requires some_word { 1 ≤ M }
-    requires memory { M ≤ 65536 }
-    ensures accepted { OnOk result (Accepted K.ring M (map (λ v. v.items) lists.now) ring) }
-    ensures record { IfOk result (λ r. IsRecord B M (opening_of K.ring (map (λ v. v.items) lists.now) ring) r.0) }
-    ensures reports { IfOk result (λ r. r.1.items ≡ reported 0 r.0.trace.entries) }
-    ensures clean { IfOk result (λ r. Clean r.1.items (map (λ v. v.items) lists.now)) }
-    ensures goes { IfOk result (λ r. AllGoOn r.0.trace.entries) }
-    ensures few { IfOk result (λ r. AtMost turns r.0.trace) }
-    ensures gets_on { G.is_open gate.now → IfOk result (λ r. AllGetOn turns M r.0.trace) }
-    ensures fault { IfErr result (ChannelFails K.ring B M turns (map (λ v. v.items) lists.now) ring) }
-{
-    laws_of_channels::<K>();
-    let opening = opening::<K>(alloc, lists, ring, M)?;
-    Ok(record_over(rt, alloc, opening, gate, turns)?)
-}
-
-/// Runs such a channel at a place, over a memory that opens with these words, as [`deliver_threads`] does one
-/// at address 0. No hart touches memory outside its blocks. A place is refused as [`opening_at`] refuses it.
+/// Lists and places are refused as [`opening_at`] refuses them, and the threads run and fail as in
+/// [`run_harts`], with fresh seats. It may wait, for the lock and for the threads.
 pub fn deliver_threads_at<
     K: RingKind,
     const B: usize,
@@ -123,4 +90,49 @@ pub fn deliver_threads_at<
     laws_of_channels::<K>();
     let opening = opening_at::<K>(alloc, lists, place, words, M)?;
     Ok(record_over(rt, alloc, opening, gate, turns)?)
+}
+
+/// The same through rings of `ring` slots in the dense layout, where all memory is zero. Lists are refused as
+/// [`opening`](poll_close::opening) refuses them.
+#[tactic(auto, using(poll_close::proofs::Dense::dense_refusal))]
+pub fn deliver_threads<
+    K: RingKind,
+    const B: usize,
+    const M: usize,
+    G: Gate + Sync,
+    R: Threads + Wait + Sync,
+>(
+    rt: &R,
+    alloc: Global,
+    lists: &[Vec<u32>],
+    ring: u32,
+    gate: &G,
+    turns: u32,
+) -> Result<(Record<B, M>, Vec<Report>), ChannelFault>
+    requires some_capacity { 1 ≤ B }
+    requires capacity { B ≤ 64 }
+    requires some_word { 1 ≤ M }
+    requires memory { M ≤ 65536 }
+    ensures accepted { OnOk result (Accepted K.ring M (map (λ v. v.items) lists.now) ring) }
+    ensures record { IfOk result (λ r. IsRecord B M (opening_of K.ring (map (λ v. v.items) lists.now) ring) r.0) }
+    ensures reports { IfOk result (λ r. r.1.items ≡ reported 0 r.0.trace.entries) }
+    ensures clean { IfOk result (λ r. Clean r.1.items (map (λ v. v.items) lists.now)) }
+    ensures goes { IfOk result (λ r. AllGoOn r.0.trace.entries) }
+    ensures few { IfOk result (λ r. AtMost turns r.0.trace) }
+    ensures gets_on { G.is_open gate.now → IfOk result (λ r. AllGetOn turns M r.0.trace) }
+    ensures fault { IfErr result (ChannelFails K.ring B M turns (map (λ v. v.items) lists.now) ring) }
+{
+    match deliver_threads_at::<K, B, M, G, R>(
+        rt,
+        alloc,
+        lists,
+        Place::dense(ring),
+        &[],
+        gate,
+        turns,
+    ) {
+        Ok(record) => Ok(record),
+        Err(ChannelFaultAt::Place(why)) => Err(ChannelFault::Lists(why.of_lists())),
+        Err(ChannelFaultAt::Threads(fault)) => Err(ChannelFault::Threads(fault)),
+    }
 }

@@ -1,37 +1,24 @@
 -- Inputs that are litmus texts, read with their headings, and what answers them beside a schedule.
-use Rattle.std.proofs.Common.{arith, ◌≡◌, ℕ, List, length, Result, Ok, Err}
-use Rattle.std.specs.Prelude.{Option, IsErr}
-use Rattle.std.specs.Global.{Vec}
+use Rattle.std.proofs.Common.{◌≡◌, ℕ, List, length, Result, Ok, Err}
+use Rattle.std.specs.Prelude.{Option}
 use Rattle.litmus.specs.LitmusTests.{LitmusTest}
 use Rattle.litmus_reader.specs.Grammar.{IsTestOf}
 use Rattle.litmus_reader.specs.Headings.{HeadingOf}
-use Rattle.litmus_reader.specs.Reading.{Content}
 use Rattle.recorder.specs.Versions.{Said}
 use Rattle.engine_parts.specs.declared.fault.Fault.{Fault}
 use Rattle.engine_parts.specs.declared.fault.Fault.TheVariants.{ReadFailed, WriteFailed, NoMemory, Refused}
 use Rattle.engine_parts.specs.declared.fault.Refusal.{Refusal}
-use Rattle.engine_parts.specs.Engines.{OfInput, AnswersBoth, judged}
-use Rattle.engine_parts.specs.Faults.{Answers, AnswersAs}
-use Rattle.engine_parts.specs.Tests.{test_of, HasNoTest}
+use Rattle.engine_parts.specs.Engines.{OfInput, AnswersBoth}
+use Rattle.engine_parts.specs.Faults.{AnswersAs}
 use Rattle.engine_parts.specs.Histories.{BySchedule}
 use Rattle.engine_parts.specs.Histories.BySchedule.{no_test, no_schedule, both}
 use Rattle.engine_parts.specs.inner.Making.{Finds, FindsBy}
 use Rattle.engine_parts.specs.inner.Inputs.{IsReadAsTest, IsReadAsSchedule}
 use Rattle.engine_parts.proofs.Endings.{weaker}
 use Rattle.engine_parts.proofs.ScheduleLaws.{weaker_both}
-use Rattle.engine_parts.proofs.TestTexts.{test_or_none}
+use Rattle.engine_parts.proofs.TextInputs.{some_bytes}
 use Rattle.views.specs.Chart.{ByHeading}
 use Rattle.views.specs.inner.Headings.{IsReadAsHeaded}
-
--- what reads an input without a test answers none, whatever it answers beside
-pub no_test_no_answer : {X : Type 0} (view : X → Content) (known : Option (List ℕ)) (input : Vec ℕ)
-    (result : Result X Fault) → OfInput known (λ bytes. input.items ≡ bytes)
-    → (line : ℕ) × Answers view result (judged (test_of line) input.items) → HasNoTest known → IsErr result
-no_test_no_answer view known input result is answers none = grind (arith, test_or_none)
-
--- what holds of an input that is known or not holds of some bytes
-some_bytes : (known : Option (List ℕ)) (P : List ℕ → Type 0) → OfInput known P → (bytes : List ℕ) × P bytes
-some_bytes known P is = grind arith
 
 module _ (known : Option (List ℕ)) where
   -- a fault in reading a test with its heading is one in reading the test

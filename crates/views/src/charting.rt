@@ -1,11 +1,12 @@
 //! The command `chart`: a litmus text and a schedule in, a picture of the run out.
 
-ghost use Rattle.std.specs.Prelude.{◌≡◌, ◌≤◌, IfOk, length};
+ghost use Rattle.std.specs.Prelude.{◌≡◌, ◌≤◌, IfOk, Ok, length};
 ghost use Rattle.std.specs.String.{string_bytes};
-ghost use Rattle.recorder.specs.Versions.{said_of};
+ghost use Rattle.recorder.specs.Versions.{Said, said_of};
 ghost use Rattle.litmus_reader.specs.Headings.{heading_of};
 ghost use Rattle.engine_parts.specs.Engines.{AnswersBoth, EndsByBoth};
 ghost use Rattle.engine_parts.specs.Faults.{AnswersAs};
+ghost use Rattle.engine_parts.specs.Histories.{Runs};
 ghost use Rattle.engine_parts.specs.Tests.{HasNoTest};
 ghost use Rattle.engine_parts.specs.inner.Making.{Finds, text_and_value};
 ghost use Rattle.views.specs.Chart.{IsChart, IsChartAnswer, drawing};
@@ -23,7 +24,7 @@ use litmus_reader::Heading;
 use recorder::Schedule;
 use std::alloc::{AllocError, Global};
 use std::io::{Read, Write};
-use step_machine::Entry;
+use step_machine::{Entry, Machine};
 
 /// The most entries of a run that is drawn.
 pub const MAX_ROWS: usize = 10_000;
@@ -45,6 +46,29 @@ fn drawn(alloc: Global, style: Style, about: About, entries: &[Entry]) -> Result
     }
 }
 
+/// The picture of the run of a test that a machine has made, whose entries it runs anew.
+fn picture_of_run<const B: usize, const M: usize>(
+    alloc: Global,
+    style: Style,
+    test: &Test,
+    heading: &Heading,
+    machine: &mut Machine<B, M>,
+) -> Result<(String, ()), Fault>
+    requires size { M ≤ 65536 }
+    requires opening { machine.old.history.opening ≡ test.now.opening }
+    requires locations { length test.now.opening.words ≡ length test.now.names }
+    requires names { length test.now.names ≤ M }
+    ensures { (said : Said) → Runs B M test.now.opening said (Ok machine.old.history) → AnswersAs (IsChart B M (drawing style) (heading_of heading.now) test.now said) text_and_value result }
+{
+    let entries = machine.entries().into_vec(alloc)?;
+    if entries.len() > MAX_ROWS {
+        return Err(Fault::refused(TOO_LARGE, Position::Nowhere));
+    }
+    let about = about_run(alloc, test, heading, machine, &entries)?;
+    let text = drawn(alloc, style, about, &entries)?;
+    Ok((text, ()))
+}
+
 /// The picture of a test's run by a schedule.
 fn picture<const B: usize, const M: usize>(
     alloc: Global,
@@ -60,14 +84,10 @@ fn picture<const B: usize, const M: usize>(
     requires locations { length test.now.opening.words ≡ length test.now.names }
     ensures { AnswersAs (IsChart B M (drawing style) (heading_of heading.now) test.now (said_of schedule)) text_and_value result }
 {
-    let mut machine = machine_of_schedule::<B, M>(alloc, test, schedule)?;
-    let entries = machine.entries().into_vec(alloc)?;
-    if entries.len() > MAX_ROWS {
-        return Err(Fault::refused(TOO_LARGE, Position::Nowhere));
+    match machine_of_schedule::<B, M>(alloc, test, schedule) {
+        Ok(mut machine) => picture_of_run(alloc, style, test, heading, &mut machine),
+        Err(fault) => Err(fault),
     }
-    let about = about_run(alloc, test, heading, &mut machine, &entries)?;
-    let text = drawn(alloc, style, about, &entries)?;
-    Ok((text, ()))
 }
 
 /// What is to be written for the inputs that the readers give.

@@ -1,18 +1,16 @@
 //! Inputs that are litmus texts, read with their headings.
 
-ghost use Rattle.std.specs.Prelude.{◌≤◌, ℕ, IfOk, IsErr, vec_len};
+ghost use Rattle.std.specs.Prelude.{ℕ, IfOk, IsErr};
 ghost use Rattle.litmus_reader.specs.Reading.{content_of};
 ghost use Rattle.litmus_reader.specs.Grammar.{IsTestOf};
 ghost use Rattle.litmus_reader.specs.Headings.{IsHeading, heading_of};
 ghost use Rattle.engine_parts.specs.Faults.{Answers};
-ghost use Rattle.engine_parts.specs.Engines.{Accepted, judged};
 ghost use Rattle.engine_parts.specs.Tests.{test_of, HasNoTest};
 ghost use Rattle.engine_parts.specs.inner.Making.{FindsBy};
-ghost use Rattle.engine_parts.specs.declared.input.TheConstants.{INPUT_BYTES};
 ghost use Rattle.views.specs.inner.Headings.{IsReadAsHeaded};
 
 use engine_parts::fault::Fault;
-use engine_parts::input::{read_input, text_of};
+use engine_parts::input::read_text;
 use litmus::Test;
 use litmus_reader::{Heading, read_heading};
 use std::alloc::Global;
@@ -36,22 +34,11 @@ fn headed_of_text(alloc: Global, text: &str) -> Result<(Test, Heading), Fault>
     }
 }
 
-/// The test and the heading of an input, which is let go.
-#[tactic(auto, using(engine_parts::proofs::Judging::judged_text, engine_parts::proofs::Judging::judged_no_text))]
-fn headed_of_input(alloc: Global, input: Vec<u8>) -> Result<(Test, Heading), Fault>
-    requires { vec_len input ≤ INPUT_BYTES }
-    ensures test { IfOk result (λ read. Accepted IsTestOf input.items read.0) }
-    ensures heading { IfOk result (λ read. IsHeading input.items (heading_of read.1)) }
-    ensures exact { (line : ℕ) × Answers (λ read. content_of read.0) result (judged (test_of line) input.items) }
-{
-    headed_of_text(alloc, text_of(&input)?)
-}
-
 /// The test and the heading of the input that a reader gives.
 pub fn read_headed<R: Read>(alloc: Global, reader: &mut R) -> Result<(Test, Heading), Fault>
     ensures read { FindsBy IsReadAsHeaded (λ read. (read.0, heading_of read.1)) (R.remaining reader.old) result }
     ensures refused { HasNoTest (R.remaining reader.old) → IsErr result }
 {
-    let input = read_input(alloc, reader)?;
-    headed_of_input(alloc, input)
+    let text = read_text(alloc, reader)?;
+    headed_of_text(alloc, &text)
 }

@@ -1,20 +1,15 @@
 //! The command `shrink`: a litmus text and a schedule in, a schedule with the same outcome out, from which
 //! nothing can be left out.
 
-ghost use Rattle.std.specs.Prelude.{◌≡◌, ◌≤◌, length};
-ghost use Rattle.recorder.specs.Schedule.{OfHarts};
-ghost use Rattle.recorder.specs.Versions.{events_said, said_of};
-ghost use Rattle.recorder.specs.declared.reading.TheConstants.{MAX_EVENTS};
-ghost use Rattle.engine_parts.specs.Engines.{AnswersBoth, EndsByBoth};
-ghost use Rattle.engine_parts.specs.Faults.{AnswersAs};
+ghost use Rattle.std.specs.Prelude.{◌≡◌, ◌≤◌};
+ghost use Rattle.engine_parts.specs.Engines.{EndsByBoth};
 ghost use Rattle.engine_parts.specs.Tests.{HasNoTest};
-ghost use Rattle.engine_parts.specs.inner.Making.{Finds, text_and_value};
 ghost use Rattle.views.specs.Shrink.{IsShrink, IsShrinkAnswer, fault_of_shrink};
 ghost use Rattle.litmus.specs.declared.litmus_test.TheConstants.{MAX_LOCATIONS};
 
+use engine_parts::command::{ScheduleCommand, schedule_engine};
 use engine_parts::fault::{Fault, Position};
-use engine_parts::output::end_with;
-use engine_parts::running::{machine_of_schedule, read_both};
+use engine_parts::running::machine_of_schedule;
 use litmus::Test;
 use recorder::{Schedule, write_schedule};
 use shrink::{ShrinkError, shrink_run};
@@ -31,45 +26,23 @@ fn shrink_fault(error: ShrinkError) -> Fault
     }
 }
 
-/// The shortened schedule of a test's schedule, as a text.
-fn shrunk_text<const B: usize, const M: usize>(
-    alloc: Global,
-    test: &Test,
-    schedule: Schedule,
-) -> Result<(String, ()), Fault>
-    requires some_capacity { 1 ≤ B }
-    requires capacity { B ≤ 64 }
-    requires words { MAX_LOCATIONS ≤ M }
-    requires size { M ≤ 65536 }
-    requires harts { OfHarts (events_said (said_of schedule)) }
-    requires few { length (events_said (said_of schedule)) ≤ MAX_EVENTS }
-    ensures { AnswersAs (IsShrink B M test.now (said_of schedule)) text_and_value result }
-{
-    let machine = machine_of_schedule::<B, M>(alloc, test, schedule)?;
-    match shrink_run(alloc, test, machine) {
-        Ok(events) => {
-            let text = write_schedule(alloc, &events)?;
-            Ok((text, ()))
-        }
-        Err(error) => Err(shrink_fault(error)),
-    }
-}
+struct Shrink;
 
-/// What is to be written for the inputs that the readers give.
-fn made<const B: usize, const M: usize, F: Read, S: Read>(
-    alloc: Global,
-    file: &mut F,
-    schedule: &mut S,
-) -> Result<(String, ()), Fault>
-    requires some_capacity { 1 ≤ B }
-    requires capacity { B ≤ 64 }
-    requires words { MAX_LOCATIONS ≤ M }
-    requires size { M ≤ 65536 }
-    ensures made { Finds (AnswersBoth (IsShrinkAnswer B M) (F.remaining file.old) (S.remaining schedule.old)) text_and_value result }
-    ensures unread { HasNoTest (F.remaining file.old) → schedule.new ≡ schedule.old }
-{
-    let (test, said) = read_both(alloc, file, schedule)?;
-    shrunk_text::<B, M>(alloc, &test, said)
+impl<const B: usize, const M: usize> ScheduleCommand<B, M> for Shrink {
+    type Value = ();
+
+    ghost is_answer = { IsShrink B M };
+
+    fn answer(alloc: Global, test: &Test, said: Schedule) -> Result<(String, ()), Fault> {
+        let machine = machine_of_schedule::<B, M>(alloc, test, said)?;
+        match shrink_run(alloc, test, machine) {
+            Ok(events) => {
+                let text = write_schedule(alloc, &events)?;
+                Ok((text, ()))
+            }
+            Err(error) => Err(shrink_fault(error)),
+        }
+    }
 }
 
 /// Reads a litmus text and then a schedule of either version, each to its end, runs the schedule from the
@@ -98,5 +71,5 @@ pub fn shrink_engine<const B: usize, const M: usize, F: Read, S: Read, W: Write>
     ensures ends { EndsByBoth (IsShrinkAnswer B M) result (F.remaining file.old) (S.remaining schedule.old) W.contents writer.old writer.new }
     ensures unread { HasNoTest (F.remaining file.old) → schedule.new ≡ schedule.old }
 {
-    end_with(made::<B, M, F, S>(alloc, file, schedule), writer)
+    schedule_engine::<Shrink, B, M, F, S, W>(alloc, file, schedule, writer)
 }

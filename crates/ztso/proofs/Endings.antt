@@ -7,7 +7,7 @@ use Rattle.engine_parts.specs.declared.fault.Refusal.{Refusal}
 use Rattle.engine_parts.specs.Engines.{Ends}
 use Rattle.debugger.specs.Transcripts.{EndsInteractive, OnRefused, OnStopped, OnUnwritten}
 use Rattle.ztso.specs.declared.job.MachineCommand.TheVariants.{Debug}
-use Rattle.ztso.specs.Work.{LeavesCommandsOf, WithStatus, done_status, ended_with}
+use Rattle.ztso.specs.Work.{LeavesCommands, WithStatus, done_status, ended_with}
 
 answered : {V W : Type 0} (status : V → ℕ) (IsAnswer : Result (List ℕ × V) Refusal → Type 0) (r : Result V Fault) (contents : W → Option (List ℕ)) (old new : W)
     → Ends IsAnswer r contents old new → Ends (WithStatus status IsAnswer) (ended_with status r) contents old new
@@ -45,12 +45,12 @@ pub left_with_status : {V : Type 0} (status : V → ℕ) (P Q : Type 0) (r : Res
     → (s : Result ℕ Fault) → s ≡ ended_with status r → OnStopped s P × OnUnwritten s Q
 left_with_status status P Q r h s is = rw is (left status P Q r h)
 
-refused : (P : Type 0) (r : Result (Unit {0}) Fault) → OnRefused r P → LeavesCommandsOf Debug (ended_with done_status r) → P
+refused : (P : Type 0) (r : Result (Unit {0}) Fault) → OnRefused r P → LeavesCommands Debug (ended_with done_status r) → P
 refused P (Err (Refused refusal)) h leaves = h
 refused P (Ok v) h leaves = absurd leaves
 refused P (Err ReadFailed) h leaves = absurd leaves
 refused P (Err NoMemory) h leaves = absurd leaves
 refused P (Err WriteFailed) h leaves = absurd leaves
 
-pub refused_with_status : (P : Type 0) (r : Result (Unit {0}) Fault) → OnRefused r P → (s : Result ℕ Fault) → s ≡ ended_with done_status r → LeavesCommandsOf Debug s → P
-refused_with_status P r h s is leaves = refused P r h (subst (LeavesCommandsOf Debug) is leaves)
+pub refused_with_status : (P : Type 0) (r : Result (Unit {0}) Fault) → OnRefused r P → (s : Result ℕ Fault) → s ≡ ended_with done_status r → LeavesCommands Debug s → P
+refused_with_status P r h s is leaves = refused P r h (subst (LeavesCommands Debug) is leaves)

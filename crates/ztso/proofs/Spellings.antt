@@ -14,8 +14,8 @@ use Rattle.ztso.specs.declared.failure.Failure.{Failure}
 use Rattle.ztso.specs.declared.job.Capacity.{Capacity}
 use Rattle.ztso.specs.declared.job.Capacity.TheVariants.{One, Two, Four, Sixteen}
 use Rattle.ztso.specs.declared.job.Job.{Job}
-use Rattle.ztso.specs.declared.job.PlainCommand.TheVariants.{Asm, Dis, Machine}
-use Rattle.ztso.specs.declared.job.Command.TheVariants.{Alone, Threads}
+use Rattle.ztso.specs.declared.job.CodeCommand.TheVariants.{Asm, Dis}
+use Rattle.ztso.specs.declared.job.Command.TheVariants.{Code, Machine, Threads}
 use Rattle.ztso.specs.declared.job.MachineCommand.{MachineCommand}
 use Rattle.ztso.specs.declared.job.MachineCommand.TheVariants.{Steps, Run, Replay, Move, Shrink, Chart, Debug, Try, Channel}
 use Rattle.poll_close.specs.declared.place.Place.{Place}
@@ -70,7 +70,7 @@ capacity_spelled capacity options (inr (inl is)) = record { tail = blank; text =
 capacity_spelled capacity options (inr (inr is)) = record { tail = equals; text = text_of capacity; is = is; says = text_says capacity; are = tt }
 
 abbrev machine_of : Option Capacity → Option MachineCommand → Option Command
-machine_of found command = command >>= (λ w. found >>= (λ capacity. Some (Alone (Machine w capacity))))
+machine_of found command = command >>= (λ w. found >>= (λ capacity. Some (Machine w capacity)))
 
 abbrev on_file_of : Text → Option Command → Option Wanted
 on_file_of file command = command >>= (λ wanted. Some (one_input wanted (File file)))
@@ -132,11 +132,11 @@ number_spelled option usual default least most number words usually (inr (said, 
 
 -- ---- `asm`, `dis` and `steps`
 
-of_asm : (name : Text) → job_said (name ∷ codes "asm" ∷ []) ≡ Some (one_input (Alone Asm) Standard)
+of_asm : (name : Text) → job_said (name ∷ codes "asm" ∷ []) ≡ Some (one_input (Code Asm) Standard)
 unfolding clap_on_literals job_said
 of_asm name = refl
 
-of_dis : (name : Text) → job_said (name ∷ codes "dis" ∷ []) ≡ Some (one_input (Alone Dis) Standard)
+of_dis : (name : Text) → job_said (name ∷ codes "dis" ∷ []) ≡ Some (one_input (Code Dis) Standard)
 unfolding clap_on_literals job_said
 of_dis name = refl
 
@@ -151,7 +151,7 @@ steps_read blank t = refl
 steps_read equals t = refl
 
 steps_says : (capacity : Capacity) (found : Option Capacity) → found ≡ Some capacity
-    → on_standard_of (machine_of found (Some Steps)) ≡ Some (one_input (Alone (Machine Steps capacity)) Standard)
+    → on_standard_of (machine_of found (Some Steps)) ≡ Some (one_input (Machine Steps capacity) Standard)
 steps_says capacity found a = rw a refl
 
 -- ---- `run`, `replay`, `move`, `shrink` and `debug`
@@ -205,7 +205,7 @@ on_files_read debugging file schedule blank t = refl
 on_files_read debugging file schedule equals t = refl
 
 on_files_says : (command : MachineCommand) (file schedule : Text) (capacity : Capacity) (found : Option Capacity) → found ≡ Some capacity
-    → on_files_of file schedule (machine_of found (Some command)) ≡ Some (two_inputs (Alone (Machine command capacity)) (File file) (File schedule))
+    → on_files_of file schedule (machine_of found (Some command)) ≡ Some (two_inputs (Machine command capacity) (File file) (File schedule))
 on_files_says command file schedule capacity found a = rw a refl
 
 of_files : (name : Text) (rest : List Text) (command : OnFiles) (capacity : Capacity) (wanted : Wanted)
@@ -270,7 +270,7 @@ tried file s n l k j found = on_file_of file (machine_of found (do
 tried_says : (file s n l k j : Text) (seed : ℕ) (runs : Runs) (capacity : Capacity) (found : Option Capacity)
     → number_within 0 18446744073709551615 s ≡ Some seed → number_within 0 18446744073709551615 k ≡ Some runs.skip → number_within 1 100000 n ≡ Some runs.number
     → number_within 0 1048576 l ≡ Some runs.length → number_within 1 64 j ≡ Some runs.jobs → found ≡ Some capacity
-    → tried file s n l k j found ≡ Some (one_input (Alone (Machine (Try seed runs) capacity)) (File file))
+    → tried file s n l k j found ≡ Some (one_input (Machine (Try seed runs) capacity) (File file))
 tried_says file s n l k j seed runs capacity found a b c d e f = rw (a, b, c, d, e, f) refl
 
 try_read : (file s n l : Text) (skip jobs : Option Text) (tail : Tail) (t : Text)
@@ -332,7 +332,7 @@ carried_says : (ring : Ring) (place : Place) (kind number schedule base : Text) 
     (capacity : Capacity) (found : Option Capacity)
     → ring_said kind ≡ Some ring → number_within 0 4294967295 number ≡ Some place.ring → number_within 0 4294967295 base ≡ Some place.base
     → number_if_said stride ≡ Some place.stride → found ≡ Some capacity
-    → carried kind number schedule base stride finish found ≡ Some (two_inputs (Alone (Machine (Channel ring place finish) capacity)) (File schedule) Standard)
+    → carried kind number schedule base stride finish found ≡ Some (two_inputs (Machine (Channel ring place finish) capacity) (File schedule) Standard)
 carried_says ring place kind number schedule base stride finish capacity found a b c d e = rw (a, b, c, d, e) refl
 
 abbrev place_pieces : (base stride : Option Text) → List Piece → List Piece
@@ -421,25 +421,25 @@ most_turns = refl
 -- ---- each command
 
 spelled_of : (name : Text) (rest : List Text) (command : Command) (wanted : Wanted) → IsSpellingOf command wanted rest → job_said (name ∷ rest) ≡ Some wanted
-spelled_of name rest (Alone Asm) wanted (is, wants) = ap (λ (words : List Text). job_said (name ∷ words)) is ∙ of_asm name ∙ ap (λ (w : Wanted). Some w) (sym wants)
-spelled_of name rest (Alone Dis) wanted (is, wants) = ap (λ (words : List Text). job_said (name ∷ words)) is ∙ of_dis name ∙ ap (λ (w : Wanted). Some w) (sym wants)
-spelled_of name rest (Alone (Machine Steps capacity)) wanted (options, is, asks, wants) =
+spelled_of name rest (Code Asm) wanted (is, wants) = ap (λ (words : List Text). job_said (name ∷ words)) is ∙ of_asm name ∙ ap (λ (w : Wanted). Some w) (sym wants)
+spelled_of name rest (Code Dis) wanted (is, wants) = ap (λ (words : List Text). job_said (name ∷ words)) is ∙ of_dis name ∙ ap (λ (w : Wanted). Some w) (sym wants)
+spelled_of name rest (Machine Steps capacity) wanted (options, is, asks, wants) =
     let to = capacity_spelled capacity options asks in
     by_pieces name (codes "steps") (tail_of to.tail to.text) rest wanted steps_is_command to.are (is ∙ ap (λ (o : List Text). codes "steps" ∷ o) to.is)
     (steps_read to.tail to.text ∙ steps_says capacity _ to.says ∙ ap (λ (w : Wanted). Some w) (sym wants))
-spelled_of name rest (Alone (Machine Run capacity)) wanted spelling = of_files name rest running capacity wanted spelling
-spelled_of name rest (Alone (Machine Replay capacity)) wanted spelling = of_files name rest replaying capacity wanted spelling
-spelled_of name rest (Alone (Machine Move capacity)) wanted spelling = of_files name rest moving capacity wanted spelling
-spelled_of name rest (Alone (Machine Shrink capacity)) wanted spelling = of_files name rest shrinking capacity wanted spelling
-spelled_of name rest (Alone (Machine (Chart drawn) capacity)) wanted (file, schedule, first, options, is, f, s, draws, asks, wants) =
+spelled_of name rest (Machine Run capacity) wanted spelling = of_files name rest running capacity wanted spelling
+spelled_of name rest (Machine Replay capacity) wanted spelling = of_files name rest replaying capacity wanted spelling
+spelled_of name rest (Machine Move capacity) wanted spelling = of_files name rest moving capacity wanted spelling
+spelled_of name rest (Machine Shrink capacity) wanted spelling = of_files name rest shrinking capacity wanted spelling
+spelled_of name rest (Machine (Chart drawn) capacity) wanted (file, schedule, first, options, is, f, s, draws, asks, wants) =
     let to = capacity_spelled capacity options asks in
     let end = tail_of to.tail to.text in
     by_pieces name (codes "chart") (plain file ∷ plain schedule ∷ style_pieces drawn end) rest wanted chart_is_command
     (f, (s, style_plain drawn end to.are))
     (is ∙ ap (λ (o : List Text). codes "chart" ∷ file ∷ schedule ∷ o) (style_texts drawn first options end draws to.is))
     (chart_read file schedule drawn to.tail to.text ∙ on_files_says (Chart drawn) file schedule capacity _ to.says ∙ ap (λ (w : Wanted). Some w) (sym wants))
-spelled_of name rest (Alone (Machine Debug capacity)) wanted spelling = of_files name rest debugging capacity wanted spelling
-spelled_of name rest (Alone (Machine (Try seed runs) capacity)) wanted (file, s, n, l, first, second, options, is, f, seed_is, runs_are, events_are, skips, jobs_are, asks, wants) =
+spelled_of name rest (Machine Debug capacity) wanted spelling = of_files name rest debugging capacity wanted spelling
+spelled_of name rest (Machine (Try seed runs) capacity) wanted (file, s, n, l, first, second, options, is, f, seed_is, runs_are, events_are, skips, jobs_are, asks, wants) =
     let to = capacity_spelled capacity options asks in
     let jobs = number_spelled (codes "--jobs") (codes "1") 1 1 64 runs.jobs second one_job jobs_are in
     let skip = number_spelled (codes "--skip") (codes "0") 0 0 18446744073709551615 runs.skip first no_skip skips in
@@ -451,7 +451,7 @@ spelled_of name rest (Alone (Machine (Try seed runs) capacity)) wanted (file, s,
     (skip.is (second ++ options) with_jobs (jobs.is options end to.is)))
     (try_read file s n l skip.text jobs.text to.tail to.text
     ∙ tried_says file s n l _ _ seed runs capacity _ seed_is.1 skip.says runs_are.1 events_are.1 jobs.says to.says ∙ ap (λ (w : Wanted). Some w) (sym wants))
-spelled_of name rest (Alone (Machine (Channel ring place finish) capacity)) wanted
+spelled_of name rest (Machine (Channel ring place finish) capacity) wanted
     (number, schedule, first, second, third, options, is, slots_are, s, base_is, stride_is, finishes, asks, wants) =
     let to = capacity_spelled capacity options asks in
     let end = tail_of to.tail to.text in

@@ -12,9 +12,9 @@ use Rattle.ztso.specs.declared.job.Job.{Job}
 use Rattle.ztso.specs.Descriptions.{ztso_command}
 use Rattle.ztso.specs.declared.job.Ring.{Ring}
 use Rattle.ztso.specs.declared.job.Ring.TheVariants.{Lamport, FastForward}
-use Rattle.ztso.specs.declared.job.PlainCommand.TheVariants.{Asm, Dis, Machine}
+use Rattle.ztso.specs.declared.job.CodeCommand.TheVariants.{Asm, Dis}
 use Rattle.ztso.specs.declared.job.Command.{Command}
-use Rattle.ztso.specs.declared.job.Command.TheVariants.{Alone, Threads}
+use Rattle.ztso.specs.declared.job.Command.TheVariants.{Code, Machine, Threads}
 use Rattle.ztso.specs.declared.job.MachineCommand.{MachineCommand}
 use Rattle.views.specs.declared.charting.Style.{Style}
 use Rattle.views.specs.declared.charting.Style.TheVariants.{Svg}
@@ -95,7 +95,7 @@ abbrev pub machine_in : List Row → Option MachineCommand → Option Command
 machine_in options found = do
   command ← found
   capacity ← capacity_in options
-  Some (Alone (Machine command capacity))
+  Some (Machine command capacity)
 
 -- the run on threads, from its options
 abbrev pub threads_in : List Row → Option Command
@@ -143,8 +143,8 @@ on_standard found = do
 abbrev pub job_in : Text × List Row → Option Wanted
 job_in p =
     if bytes_eq p.0 (codes "steps") then on_standard (machine_in p.1 (Some Steps))
-    else (if bytes_eq p.0 (codes "asm") then on_standard (Some (Alone Asm))
-    else (if bytes_eq p.0 (codes "dis") then on_standard (Some (Alone Dis))
+    else (if bytes_eq p.0 (codes "asm") then on_standard (Some (Code Asm))
+    else (if bytes_eq p.0 (codes "dis") then on_standard (Some (Code Dis))
     else (if bytes_eq p.0 (codes "run") then on_file_and_schedule p.1 (machine_in p.1 (Some Run))
     else (if bytes_eq p.0 (codes "replay") then on_file_and_schedule p.1 (machine_in p.1 (Some Replay))
     else (if bytes_eq p.0 (codes "move") then on_file_and_schedule p.1 (machine_in p.1 (Some Move))

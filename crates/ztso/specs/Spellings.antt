@@ -6,8 +6,8 @@ use Rattle.ztso.specs.declared.job.Capacity.TheVariants.{One, Two, Four, Sixteen
 use Rattle.ztso.specs.declared.job.Ring.{Ring}
 use Rattle.ztso.specs.declared.job.Ring.TheVariants.{Lamport, FastForward}
 use Rattle.ztso.specs.declared.job.Command.{Command}
-use Rattle.ztso.specs.declared.job.PlainCommand.TheVariants.{Asm, Dis, Machine}
-use Rattle.ztso.specs.declared.job.Command.TheVariants.{Alone, Threads}
+use Rattle.ztso.specs.declared.job.CodeCommand.TheVariants.{Asm, Dis}
+use Rattle.ztso.specs.declared.job.Command.TheVariants.{Code, Machine, Threads}
 use Rattle.ztso.specs.declared.job.MachineCommand.{MachineCommand}
 use Rattle.views.specs.declared.charting.Style.{Style}
 use Rattle.views.specs.declared.charting.Style.TheVariants.{Svg}
@@ -88,38 +88,38 @@ abbrev pub IsOnFiles : (name : Text) → MachineCommand → Capacity → Wanted 
 IsOnFiles name command capacity wanted words =
     (file schedule : Text) × (options : List Text) × (words ≡ name ∷ file ∷ schedule ∷ options)
     × IsWord file × IsWord schedule × AsksFor capacity options
-    × (wanted ≡ two_inputs (Alone (Machine command capacity)) (File file) (File schedule))
+    × (wanted ≡ two_inputs (Machine command capacity) (File file) (File schedule))
 
 -- The words after the program's name that ask for this command, by the command: the table's rows. Options may
 -- also stand in other places, and those with a number be written with an equals sign, which isn't said
 -- here.
 abbrev pub IsSpellingOf : Command → Wanted → List Text → Type 0
-IsSpellingOf (Alone Asm) wanted words = (words ≡ codes "asm" ∷ []) × (wanted ≡ one_input (Alone Asm) Standard)
-IsSpellingOf (Alone Dis) wanted words = (words ≡ codes "dis" ∷ []) × (wanted ≡ one_input (Alone Dis) Standard)
-IsSpellingOf (Alone (Machine Steps capacity)) wanted words =
+IsSpellingOf (Code Asm) wanted words = (words ≡ codes "asm" ∷ []) × (wanted ≡ one_input (Code Asm) Standard)
+IsSpellingOf (Code Dis) wanted words = (words ≡ codes "dis" ∷ []) × (wanted ≡ one_input (Code Dis) Standard)
+IsSpellingOf (Machine Steps capacity) wanted words =
     (options : List Text) × (words ≡ codes "steps" ∷ options) × AsksFor capacity options
-    × (wanted ≡ one_input (Alone (Machine Steps capacity)) Standard)
-IsSpellingOf (Alone (Machine Run capacity)) wanted words = IsOnFiles (codes "run") Run capacity wanted words
-IsSpellingOf (Alone (Machine Replay capacity)) wanted words = IsOnFiles (codes "replay") Replay capacity wanted words
-IsSpellingOf (Alone (Machine Move capacity)) wanted words = IsOnFiles (codes "move") Move capacity wanted words
-IsSpellingOf (Alone (Machine Shrink capacity)) wanted words = IsOnFiles (codes "shrink") Shrink capacity wanted words
-IsSpellingOf (Alone (Machine (Chart style) capacity)) wanted words =
+    × (wanted ≡ one_input (Machine Steps capacity) Standard)
+IsSpellingOf (Machine Run capacity) wanted words = IsOnFiles (codes "run") Run capacity wanted words
+IsSpellingOf (Machine Replay capacity) wanted words = IsOnFiles (codes "replay") Replay capacity wanted words
+IsSpellingOf (Machine Move capacity) wanted words = IsOnFiles (codes "move") Move capacity wanted words
+IsSpellingOf (Machine Shrink capacity) wanted words = IsOnFiles (codes "shrink") Shrink capacity wanted words
+IsSpellingOf (Machine (Chart style) capacity) wanted words =
     (file schedule : Text) × (first options : List Text) × (words ≡ codes "chart" ∷ file ∷ schedule ∷ (first ++ options))
     × IsWord file × IsWord schedule × AsksForStyle style first × AsksFor capacity options
-    × (wanted ≡ two_inputs (Alone (Machine (Chart style) capacity)) (File file) (File schedule))
-IsSpellingOf (Alone (Machine Debug capacity)) wanted words = IsOnFiles (codes "debug") Debug capacity wanted words
-IsSpellingOf (Alone (Machine (Try seed runs) capacity)) wanted words =
+    × (wanted ≡ two_inputs (Machine (Chart style) capacity) (File file) (File schedule))
+IsSpellingOf (Machine Debug capacity) wanted words = IsOnFiles (codes "debug") Debug capacity wanted words
+IsSpellingOf (Machine (Try seed runs) capacity) wanted words =
     (file s n l : Text) × (first second options : List Text)
     × (words ≡ codes "try" ∷ file ∷ codes "--seed" ∷ s ∷ codes "--runs" ∷ n ∷ codes "--length" ∷ l ∷ (first ++ (second ++ options)))
     × IsWord file × SaysNumber 0 18446744073709551615 seed s × SaysNumber 1 100000 runs.number n × SaysNumber 0 MAX_EVENTS runs.length l
     × AsksToSkip runs.skip first × AsksForJobs runs.jobs second × AsksFor capacity options
-    × (wanted ≡ one_input (Alone (Machine (Try seed runs) capacity)) (File file))
-IsSpellingOf (Alone (Machine (Channel ring place finish) capacity)) wanted words =
+    × (wanted ≡ one_input (Machine (Try seed runs) capacity) (File file))
+IsSpellingOf (Machine (Channel ring place finish) capacity) wanted words =
     (said schedule : Text) × (first second third options : List Text)
     × (words ≡ codes "channel" ∷ name_of ring ∷ said ∷ schedule ∷ (first ++ (second ++ (third ++ options))))
     × SaysNumber 0 4294967295 place.ring said × IsWord schedule
     × AsksForBase place.base first × AsksForStride place.stride second × AsksToFinish finish third × AsksFor capacity options
-    × (wanted ≡ two_inputs (Alone (Machine (Channel ring place finish) capacity)) (File schedule) Standard)
+    × (wanted ≡ two_inputs (Machine (Channel ring place finish) capacity) (File schedule) Standard)
 IsSpellingOf (Threads turns capacity) wanted words =
     (file : Text) × (first options : List Text) × (words ≡ codes "threads" ∷ file ∷ (first ++ options))
     × IsWord file × AsksForTurns turns first × AsksFor capacity options

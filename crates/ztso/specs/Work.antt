@@ -34,8 +34,8 @@ use Rattle.ztso.specs.declared.job.Capacity.{Capacity}
 use Rattle.ztso.specs.declared.job.Capacity.TheVariants.{One, Two, Four, Sixteen}
 use Rattle.ztso.specs.declared.job.Ring.{Ring}
 use Rattle.ztso.specs.declared.job.Ring.TheVariants.{Lamport, FastForward}
-use Rattle.ztso.specs.declared.job.PlainCommand.{PlainCommand}
-use Rattle.ztso.specs.declared.job.PlainCommand.TheVariants.{Asm, Dis, Machine}
+use Rattle.ztso.specs.declared.job.CodeCommand.{CodeCommand}
+use Rattle.ztso.specs.declared.job.CodeCommand.TheVariants.{Asm, Dis}
 use Rattle.ztso.specs.declared.job.MachineCommand.{MachineCommand}
 use Rattle.ztso.specs.declared.job.MachineCommand.TheVariants.{Steps, Run, Replay, Move, Shrink, Chart, Debug, Try, Channel}
 use Rattle.ztso.specs.declared.work.TheConstants.{WORDS}
@@ -127,12 +127,12 @@ DoesMachine B Debug result given contents old new =
     EndsInteractive (IsAnswerOf B Debug given) result contents old new × LeavesFront B given result contents old new
 DoesMachine B command result given contents old new = Ends (IsAnswerOf B command given) result contents old new
 
-abbrev pub DoesPlain : {W : Type 0} → PlainCommand → Result ℕ Fault → Given → (contents : W → Option (List ℕ)) → (old new : W) → Type 0
-DoesPlain Asm result given contents old new = Ends (WithStatusBy done_status IsAsmAnswer given) result contents old new
-DoesPlain Dis result given contents old new = Ends (WithStatusBy done_status IsDisAnswer given) result contents old new
-DoesPlain (Machine command capacity) result given contents old new = DoesMachine (stores_of capacity) command result given contents old new
+-- the same of a command on code, by the input that was read
+abbrev pub DoesCode : {W : Type 0} → CodeCommand → Result ℕ Fault → (input : Option (List ℕ)) → (contents : W → Option (List ℕ)) → (old new : W) → Type 0
+DoesCode Asm result input contents old new = Ends (WithStatus done_status (λ answer. OfInput input (λ bytes. IsAsmAnswer bytes answer))) result contents old new
+DoesCode Dis result input contents old new = Ends (WithStatus done_status (λ answer. OfInput input (λ bytes. IsDisAnswer bytes answer))) result contents old new
 
--- the same of a run of a litmus test on threads, with n turns each and buffers of this capacity, by the
+-- and of a run of a litmus test on threads, with n turns each and buffers of this capacity, by the
 -- file that was read
 abbrev pub DoesThreads : {W : Type 0} → ℕ → Capacity → Result ℕ Fault → (file : Option (List ℕ)) → (contents : W → Option (List ℕ)) → (old new : W) → Type 0
 DoesThreads n capacity result file contents old new = Ends (WithStatus verdict_status (λ answer. OfInput file (λ bytes. IsThreadsAnswer (stores_of capacity) WORDS n bytes answer))) result contents old new
@@ -141,23 +141,14 @@ DoesThreads n capacity result file contents old new = Ends (WithStatus verdict_s
 
 -- A first input with which the second is left unread: any, where there is only one; else one that is
 -- known, and refused.
-abbrev pub LeavesSecondOf : MachineCommand → (first : Option (List ℕ)) → Type 0
-LeavesSecondOf Steps first = Unit {0}
-LeavesSecondOf (Try seed runs) first = Unit {0}
-LeavesSecondOf (Channel ring place finish) first = HasNoSchedule first
-LeavesSecondOf other first = HasNoTest first
-
-abbrev pub LeavesSecond : PlainCommand → (first : Option (List ℕ)) → Type 0
-LeavesSecond Asm first = Unit {0}
-LeavesSecond Dis first = Unit {0}
-LeavesSecond (Machine command capacity) first = LeavesSecondOf command first
+abbrev pub LeavesSecond : MachineCommand → (first : Option (List ℕ)) → Type 0
+LeavesSecond Steps first = Unit {0}
+LeavesSecond (Try seed runs) first = Unit {0}
+LeavesSecond (Channel ring place finish) first = HasNoSchedule first
+LeavesSecond other first = HasNoTest first
 
 -- An end with which a user's commands are left unread: any, except the debugger's; of those a refusal.
-abbrev pub LeavesCommandsOf : MachineCommand → Result ℕ Fault → Type 0
-LeavesCommandsOf Debug (Err (Refused refusal)) = Unit {0}
-LeavesCommandsOf Debug other = ⊥
-LeavesCommandsOf command result = Unit {0}
-
-abbrev pub LeavesCommands : PlainCommand → Result ℕ Fault → Type 0
-LeavesCommands (Machine command capacity) result = LeavesCommandsOf command result
-LeavesCommands other result = Unit {0}
+abbrev pub LeavesCommands : MachineCommand → Result ℕ Fault → Type 0
+LeavesCommands Debug (Err (Refused refusal)) = Unit {0}
+LeavesCommands Debug other = ⊥
+LeavesCommands command result = Unit {0}

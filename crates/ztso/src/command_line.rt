@@ -8,7 +8,7 @@ ghost use Rattle.ztso.specs.Spellings.{IsSpelling};
 ghost use Rattle.ztso.specs.Jobs.{Wanted, wanted_by};
 
 use crate::failure::Failure;
-use crate::job::{Capacity, Command, Input, Job, MachineCommand, PlainCommand, Ring};
+use crate::job::{Capacity, CodeCommand, Command, Input, Job, MachineCommand, Ring};
 use clap::ArgMatches;
 use description::ztso_command;
 use numbers::{count_of, number_of};
@@ -61,8 +61,8 @@ fn job_in<'a>(matches: &ArgMatches<'a>) -> Option<Job<'a>>
 {
     match matches.subcommand()? {
         ("steps", options) => on_standard(machine_in(options, Some(MachineCommand::Steps))),
-        ("asm", _) => on_standard(Some(Command::Alone(PlainCommand::Asm))),
-        ("dis", _) => on_standard(Some(Command::Alone(PlainCommand::Dis))),
+        ("asm", _) => on_standard(Some(Command::Code(CodeCommand::Asm))),
+        ("dis", _) => on_standard(Some(Command::Code(CodeCommand::Dis))),
         ("run", options) => on_file_and_schedule(
             options,
             machine_in(options, Some(MachineCommand::Run)),
@@ -152,7 +152,7 @@ fn machine_in(options: &ArgMatches<'_>, command: Option<MachineCommand>) -> Opti
 {
     let command = command?;
     let capacity = capacity_of(word_in(options, "buffer")?)?;
-    Some(Command::Alone(PlainCommand::Machine { command, capacity }))
+    Some(Command::Machine { command, capacity })
 }
 
 /// The run on threads that `threads` is to make.

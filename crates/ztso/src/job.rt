@@ -61,28 +61,30 @@ pub enum MachineCommand {
     },
 }
 
-/// What one thread does, which waits for no other.
+/// What is done with code, without a machine.
 #[derive(Clone, Copy)]
-pub enum PlainCommand {
+pub enum CodeCommand {
     /// To make words of assembly.
     Asm,
     /// To name the instructions of words.
     Dis,
-    /// To do this on a machine whose harts have buffers of this capacity.
-    Machine {
-        command: MachineCommand,
-        capacity: Capacity,
-    },
 }
 
 /// What is to be done.
 #[derive(Clone, Copy)]
 pub enum Command {
-    /// A command of the program's own thread.
-    Alone(PlainCommand),
+    Code(CodeCommand),
+    /// To do this on a machine whose harts have buffers of this capacity. It waits for no other thread.
+    Machine {
+        command: MachineCommand,
+        capacity: Capacity,
+    },
     /// To run a litmus test with a thread for each hart and each lander, each of which makes at most
     /// `turns` calls. The harts have buffers of this capacity.
-    Threads { turns: u32, capacity: Capacity },
+    Threads {
+        turns: u32,
+        capacity: Capacity,
+    },
 }
 
 /// What a command line asks for: a command, and its inputs in the order in which they are read.

@@ -1,10 +1,11 @@
 //! The program `ztso`: its command line, and the streams and files for the engine that a job wants.
 //!
-//! The contract: [`command_line::job_of`] says which words ask for which job, [`work::do_plain`] and
-//! [`work::do_threads`] which engine does it with what capacity and with which exit status, and
-//! [`failure::Failure`] the exit status of each failure. This crate knows no text, no instruction and no
-//! machine. Only the command `threads` may wait, for the lock and for its threads: [`work::do_threads`]
-//! does. The jobs of `try` are threads too, but no job other than `threads` has leave to wait.
+//! The contract: [`command_line::job_of`] says which words ask for which job, [`work::do_code`],
+//! [`work::do_machine`] and [`work::do_threads`] which engine does it with what capacity and with which exit
+//! status, and [`failure::Failure`] the exit status of each failure. This crate knows no text, no
+//! instruction and no machine. Only the command `threads` may wait, for the lock and for its threads:
+//! [`work::do_threads`] does. The jobs of `try` are threads too, but no job other than `threads` has leave
+//! to wait.
 
 #![tactic(auto)]
 
@@ -31,7 +32,7 @@ use std::sync::Wait;
 use std::thread::Threads;
 use std::{env, io};
 use tries::progress::Progress;
-use work::{do_plain, do_threads};
+use work::{do_code, do_machine, do_threads};
 
 fn main(rt: HostRuntime) -> ExitCode {
     let line = ProgressLine::new(&rt);
@@ -59,10 +60,12 @@ where
     let mut first = LazyInput::new(rt, Some(job.first));
     let mut writer = io::writer(rt);
     let status = match job.command {
-        Command::Alone(command) => do_plain(
+        Command::Code(command) => do_code(rt.alloc(), command, &mut first, &mut writer)?,
+        Command::Machine { command, capacity } => do_machine(
             rt,
             rt.alloc(),
             command,
+            capacity,
             &mut first,
             &mut LazyInput::new(rt, job.second),
             &mut PromptReader::new(rt),

@@ -2,7 +2,7 @@
 
 ghost use Rattle.std.specs.Prelude.{◌≡◌, ◌≤◌, ◌*◌, [], IfOk};
 ghost use Rattle.ztso.specs.declared.work.TheConstants.{WORDS};
-ghost use Rattle.ztso.specs.Work.{DoesPlain, DoesThreads, DoesMachine, LeavesCommands, LeavesCommandsOf, LeavesFront, LeavesSecond, LeavesSecondOf, WithStatus, done_status, drawn_from, ended_with, tables_of, tried_status, verdict_status};
+ghost use Rattle.ztso.specs.Work.{DoesCode, DoesMachine, DoesThreads, LeavesCommands, LeavesFront, LeavesSecond, WithStatus, done_status, drawn_from, ended_with, stores_of, tables_of, tried_status, verdict_status};
 ghost use Rattle.recorder.specs.Drawing.{left_after};
 ghost use Rattle.poll_close.specs.Places.{layout_of};
 ghost use Rattle.ztso_engines.specs.Channels.{IsChannelAnswer};
@@ -13,7 +13,7 @@ ghost use Rattle.engine_parts.specs.Tests.{HasNoTest};
 ghost use Rattle.tries.specs.Outcomes.{IsTryAnswer};
 ghost use Rattle.ztso_engines.specs.Threads.{IsThreadsAnswer};
 
-use crate::job::{Capacity, MachineCommand, PlainCommand, Ring};
+use crate::job::{Capacity, CodeCommand, MachineCommand, Ring};
 use debugger::debug::debug_engine;
 use engine_parts::fault::Fault;
 use fastforward::FastForward;
@@ -140,7 +140,7 @@ fn run_rings<const B: usize, S: Read, L: Read, W: Write>(
 }
 
 /// Does a command on a machine whose harts' buffers hold `B` stores.
-fn do_machine<const B: usize, F: Read, S: Read, C: Read, W: Write, T: Threads + Sync, P: Progress>(
+fn do_buffered<const B: usize, F: Read, S: Read, C: Read, W: Write, T: Threads + Sync, P: Progress>(
     rt: &T,
     alloc: Global,
     command: MachineCommand,
@@ -153,8 +153,8 @@ fn do_machine<const B: usize, F: Read, S: Read, C: Read, W: Write, T: Threads + 
     requires some_capacity { 1 ≤ B }
     requires capacity { B ≤ 64 }
     ensures does { DoesMachine B command result (record { first = F.remaining first.old; second = S.remaining second.old; commands = C.remaining commands.old }) W.contents writer.old writer.new }
-    ensures unread { LeavesSecondOf command (F.remaining first.old) → second.new ≡ second.old }
-    ensures unasked { LeavesCommandsOf command result → commands.new ≡ commands.old }
+    ensures unread { LeavesSecond command (F.remaining first.old) → second.new ≡ second.old }
+    ensures unasked { LeavesCommands command result → commands.new ≡ commands.old }
     ensures status { IfOk result (λ status. status ≤ 1) }
 {
     match command {
@@ -188,46 +188,59 @@ fn do_machine<const B: usize, F: Read, S: Read, C: Read, W: Write, T: Threads + 
     }
 }
 
-/// Does the command: reads its inputs, and then writes what it answers. It answers the exit status: 0, but 1
-/// where the verdict is that the test fails or is unfinished, or the runs that were tried don't show what
-/// the test asks.
+/// Does a command on code: reads its input, and then writes what it answers. It answers the exit status.
+pub fn do_code<F: Read, W: Write>(
+    alloc: Global,
+    command: CodeCommand,
+    input: &mut F,
+    writer: &mut W,
+) -> Result<u8, Fault>
+    ensures does { DoesCode command result (F.remaining input.old) W.contents writer.old writer.new }
+    ensures status { IfOk result (λ status. status ≤ 1) }
+{
+    match command {
+        CodeCommand::Asm => after(asm_engine(alloc, input, writer)),
+        CodeCommand::Dis => after(dis_engine(alloc, input, writer)),
+    }
+}
+
+/// Does a command on a machine: reads its inputs, and then writes what it answers. It answers the exit status:
+/// 0, but 1 where the verdict is that the test fails or is unfinished, or the runs that were tried don't show
+/// what the test asks.
 ///
 /// `first` is what the command reads first, and `second` what it reads behind that, if it has two inputs and
 /// the first one was accepted. `commands` is what a user types to the debugger, which writes as it reads.
 /// `progress` gets the reports of runs that are tried. Their jobs are threads; it has no leave to wait for
 /// anything else.
-pub fn do_plain<F: Read, S: Read, C: Read, W: Write, T: Threads + Sync, P: Progress>(
+pub fn do_machine<F: Read, S: Read, C: Read, W: Write, T: Threads + Sync, P: Progress>(
     rt: &T,
     alloc: Global,
-    command: PlainCommand,
+    command: MachineCommand,
+    capacity: Capacity,
     first: &mut F,
     second: &mut S,
     commands: &mut C,
     progress: &mut P,
     writer: &mut W,
 ) -> Result<u8, Fault>
-    ensures does { DoesPlain command result (record { first = F.remaining first.old; second = S.remaining second.old; commands = C.remaining commands.old }) W.contents writer.old writer.new }
+    ensures does { DoesMachine (stores_of capacity) command result (record { first = F.remaining first.old; second = S.remaining second.old; commands = C.remaining commands.old }) W.contents writer.old writer.new }
     ensures unread { LeavesSecond command (F.remaining first.old) → second.new ≡ second.old }
     ensures unasked { LeavesCommands command result → commands.new ≡ commands.old }
     ensures status { IfOk result (λ status. status ≤ 1) }
 {
-    match command {
-        PlainCommand::Asm => after(asm_engine(alloc, first, writer)),
-        PlainCommand::Dis => after(dis_engine(alloc, first, writer)),
-        PlainCommand::Machine { command, capacity } => match capacity {
-            Capacity::One => do_machine::<1, _, _, _, _, _, _>(
-                rt, alloc, command, first, second, commands, progress, writer,
-            ),
-            Capacity::Two => do_machine::<2, _, _, _, _, _, _>(
-                rt, alloc, command, first, second, commands, progress, writer,
-            ),
-            Capacity::Four => do_machine::<4, _, _, _, _, _, _>(
-                rt, alloc, command, first, second, commands, progress, writer,
-            ),
-            Capacity::Sixteen => do_machine::<16, _, _, _, _, _, _>(
-                rt, alloc, command, first, second, commands, progress, writer,
-            ),
-        },
+    match capacity {
+        Capacity::One => do_buffered::<1, _, _, _, _, _, _>(
+            rt, alloc, command, first, second, commands, progress, writer,
+        ),
+        Capacity::Two => do_buffered::<2, _, _, _, _, _, _>(
+            rt, alloc, command, first, second, commands, progress, writer,
+        ),
+        Capacity::Four => do_buffered::<4, _, _, _, _, _, _>(
+            rt, alloc, command, first, second, commands, progress, writer,
+        ),
+        Capacity::Sixteen => do_buffered::<16, _, _, _, _, _, _>(
+            rt, alloc, command, first, second, commands, progress, writer,
+        ),
     }
 }
 

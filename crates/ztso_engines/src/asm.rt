@@ -1,23 +1,20 @@
 //! The command `asm`: an assembly text in, its words out.
 
-ghost use Rattle.std.specs.Prelude.{◌≡◌, ◌<◌, ◌≤◌, ◌^◌, ◌++◌, Err, List, map, length, IfOk, OnOk};
-ghost use Rattle.std.specs.Str.{IsUtf8};
+ghost use Rattle.std.specs.Prelude.{◌≡◌, ◌<◌, ◌^◌, ◌++◌, List, map, IfOk, OnOk};
 ghost use Rattle.std.specs.List.{All, flat_map};
 ghost use Rattle.std.specs.String.{string_bytes};
 ghost use Rattle.rv_decode.specs.Meaning.{meaning};
 ghost use Rattle.rv_decode.specs.declared.instruction.Instr.{Instr};
 ghost use Rattle.assembler.specs.Drafts.{AllPlain};
 ghost use Rattle.assembler.specs.Program.{IsProgram, AreWordsOf};
-ghost use Rattle.engine_parts.specs.Faults.{Answers, AnswersAs, not_text};
-ghost use Rattle.engine_parts.specs.declared.fault.Fault.TheVariants.{Refused};
-ghost use Rattle.engine_parts.specs.Engines.{EndsBy, judged};
+ghost use Rattle.engine_parts.specs.Faults.{Answers};
+ghost use Rattle.engine_parts.specs.Engines.{EndsBy};
 ghost use Rattle.ztso_engines.specs.Asm.{asm_at, hex_line, IsAsmAnswer};
 ghost use Rattle.engine_parts.specs.inner.Making.{FindsBy, text_and_value};
-ghost use Rattle.engine_parts.specs.declared.input.TheConstants.{INPUT_BYTES};
 
 use assembler::assemble;
 use engine_parts::fault::Fault;
-use engine_parts::input::{read_input, text_of};
+use engine_parts::input::read_text;
 use engine_parts::output::end_with;
 use std::alloc::{AllocError, Global};
 use std::io::{Read, Write};
@@ -33,18 +30,6 @@ fn code_of(alloc: Global, text: &str) -> Result<Vec<u32>, Fault>
         Ok(code) => Ok(code),
         Err(error) => Err(Fault::from(error)),
     }
-}
-
-/// What an input is assembled to.
-#[tactic(auto, using(engine_parts::proofs::Judging::judged_text, engine_parts::proofs::Judging::judged_no_text))]
-fn code_of_input(alloc: Global, input: &[u8]) -> Result<Vec<u32>, Fault>
-    requires { length input.now ≤ INPUT_BYTES }
-    ensures found { IfOk result (λ code. (instrs : List Instr) × IsProgram input.now instrs × AreWordsOf code.items instrs) }
-    ensures exact { Answers (λ code. map meaning code.items) result (judged asm_at input.now) }
-    ensures no_text { (IsUtf8 input.now → ⊥) → result ≡ Err (Refused not_text) }
-    ensures plain { IfOk result (λ code. AllPlain code.items) }
-{
-    code_of(alloc, text_of(input)?)
 }
 
 #[tactic(auto, using(crate::proofs::HexTexts::eight_digits))]
@@ -66,22 +51,14 @@ fn code_text(alloc: Global, code: &[u32]) -> Result<String, AllocError>
     Ok(out)
 }
 
-fn answer(alloc: Global, input: &[u8]) -> Result<(String, ()), Fault>
-    requires { length input.now ≤ INPUT_BYTES }
-    ensures answer { AnswersAs (IsAsmAnswer input.now) text_and_value result }
-    ensures no_text { (IsUtf8 input.now → ⊥) → result ≡ Err (Refused not_text) }
-{
-    let code = code_of_input(alloc, input)?;
-    let text = code_text(alloc, &code)?;
-    Ok((text, ()))
-}
-
 /// What is to be written for the input that a reader gives.
 fn made<R: Read>(alloc: Global, reader: &mut R) -> Result<(String, ()), Fault>
     ensures { FindsBy IsAsmAnswer text_and_value (R.remaining reader.old) result }
 {
-    let input = read_input(alloc, reader)?;
-    answer(alloc, &input)
+    let text = read_text(alloc, reader)?;
+    let code = code_of(alloc, &text)?;
+    let lines = code_text(alloc, &code)?;
+    Ok((lines, ()))
 }
 
 /// Reads an assembly text to its end, and writes its words, each as 8 hex digits on a line.

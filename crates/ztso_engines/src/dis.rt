@@ -1,24 +1,21 @@
 //! The command `dis`: words in hex in, what they mean out.
 
-ghost use Rattle.std.specs.Prelude.{◌≡◌, ◌≤◌, ◌++◌, Err, length, IfOk, OnOk};
-ghost use Rattle.std.specs.Str.{IsUtf8};
+ghost use Rattle.std.specs.Prelude.{◌≡◌, ◌++◌, IfOk, OnOk};
 ghost use Rattle.std.specs.List.{flat_map};
 ghost use Rattle.std.specs.String.{string_bytes};
 ghost use Rattle.rv_decode.specs.Meaning.{meaning};
-ghost use Rattle.engine_parts.specs.Faults.{Answers, AnswersAs, not_text};
-ghost use Rattle.engine_parts.specs.declared.fault.Fault.TheVariants.{Refused};
-ghost use Rattle.engine_parts.specs.Engines.{EndsBy, judged};
+ghost use Rattle.engine_parts.specs.Faults.{Answers};
+ghost use Rattle.engine_parts.specs.Engines.{EndsBy};
 ghost use Rattle.texts.specs.Cutting.{tokens};
 ghost use Rattle.engine_parts.specs.LineFaults.{at_line as line_at};
 ghost use Rattle.ztso_engines.specs.Code.{code_at};
 ghost use Rattle.ztso_engines.specs.Dis.{dis_at, meant_text, instr_line, IsDisAnswer};
 ghost use Rattle.engine_parts.specs.inner.Making.{FindsBy, text_and_value};
-ghost use Rattle.engine_parts.specs.declared.input.TheConstants.{INPUT_BYTES};
 
 use crate::code::code_of;
 use assembler::write_instr;
 use engine_parts::fault::{Fault, at_line};
-use engine_parts::input::{read_input, text_of};
+use engine_parts::input::read_text;
 use engine_parts::output::end_with;
 use rv_decode::decode;
 use std::alloc::{AllocError, Global};
@@ -53,16 +50,6 @@ fn code_of_text(alloc: Global, text: &[u8]) -> Result<Vec<u32>, Fault>
     Ok(all)
 }
 
-/// The instruction words of an input.
-#[tactic(auto, using(engine_parts::proofs::Judging::judged_text, engine_parts::proofs::Judging::judged_no_text))]
-fn code_of_input(alloc: Global, input: &[u8]) -> Result<Vec<u32>, Fault>
-    requires { length input.now ≤ INPUT_BYTES }
-    ensures exact { Answers (λ code. code.items) result (judged dis_at input.now) }
-    ensures no_text { (IsUtf8 input.now → ⊥) → result ≡ Err (Refused not_text) }
-{
-    code_of_text(alloc, text_of(input)?.as_bytes())
-}
-
 /// Appends what a word means.
 fn push_meant(out: &mut String, word: u32) -> Result<(), AllocError>
     ensures { OnOk result (string_bytes out.new ≡ string_bytes out.old ++ meant_text (meaning word)) }
@@ -90,22 +77,14 @@ fn code_text(alloc: Global, code: &[u32]) -> Result<String, AllocError>
     Ok(out)
 }
 
-fn answer(alloc: Global, input: &[u8]) -> Result<(String, ()), Fault>
-    requires { length input.now ≤ INPUT_BYTES }
-    ensures answer { AnswersAs (IsDisAnswer input.now) text_and_value result }
-    ensures no_text { (IsUtf8 input.now → ⊥) → result ≡ Err (Refused not_text) }
-{
-    let code = code_of_input(alloc, input)?;
-    let text = code_text(alloc, &code)?;
-    Ok((text, ()))
-}
-
 /// What is to be written for the input that a reader gives.
 fn made<R: Read>(alloc: Global, reader: &mut R) -> Result<(String, ()), Fault>
     ensures { FindsBy IsDisAnswer text_and_value (R.remaining reader.old) result }
 {
-    let input = read_input(alloc, reader)?;
-    answer(alloc, &input)
+    let text = read_text(alloc, reader)?;
+    let code = code_of_text(alloc, text.as_bytes())?;
+    let lines = code_text(alloc, &code)?;
+    Ok((lines, ()))
 }
 
 /// Reads words of 8 hex digits to the end, parted by blanks and line ends, and writes what each means

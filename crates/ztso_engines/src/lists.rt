@@ -1,19 +1,15 @@
 //! Lists of words, a line each: the input of `channel`.
 
-ghost use Rattle.std.specs.Prelude.{◌≡◌, ◌≤◌, Err, length, map};
-ghost use Rattle.std.specs.Str.{IsUtf8};
+ghost use Rattle.std.specs.Prelude.{map};
 ghost use Rattle.texts.specs.Results.{Gives, refusal_of};
-ghost use Rattle.engine_parts.specs.Faults.{Answers, not_text};
-ghost use Rattle.engine_parts.specs.declared.fault.Fault.TheVariants.{Refused};
-ghost use Rattle.engine_parts.specs.Engines.{judged};
+ghost use Rattle.engine_parts.specs.Faults.{Answers};
 ghost use Rattle.engine_parts.specs.LineFaults.{at_line as line_at};
 ghost use Rattle.ztso_engines.specs.Lists.{list_of as list_said, lists_at};
 ghost use Rattle.engine_parts.specs.inner.Making.{FindsBy};
 ghost use Rattle.ztso_engines.specs.inner.Inputs.{IsReadAsLists};
-ghost use Rattle.engine_parts.specs.declared.input.TheConstants.{INPUT_BYTES};
 
 use engine_parts::fault::{BAD, Fault, LineFault, at_line};
-use engine_parts::input::{read_input, text_of};
+use engine_parts::input::read_text;
 use std::alloc::Global;
 use std::io::Read;
 use texts::{Separators, first_line, first_piece, word};
@@ -63,20 +59,10 @@ fn lists_of_text(alloc: Global, text: &[u8]) -> Result<Vec<Vec<u32>>, Fault>
     Ok(lists)
 }
 
-/// The lists of an input.
-#[tactic(auto, using(engine_parts::proofs::Judging::judged_text, engine_parts::proofs::Judging::judged_no_text))]
-fn lists_of_input(alloc: Global, input: &[u8]) -> Result<Vec<Vec<u32>>, Fault>
-    requires { length input.now ≤ INPUT_BYTES }
-    ensures exact { Answers (λ lists. map (λ list. list.items) lists.items) result (judged lists_at input.now) }
-    ensures no_text { (IsUtf8 input.now → ⊥) → result ≡ Err (Refused not_text) }
-{
-    lists_of_text(alloc, text_of(input)?.as_bytes())
-}
-
 /// The lists of the input that a reader gives.
 pub fn read_lists<R: Read>(alloc: Global, reader: &mut R) -> Result<Vec<Vec<u32>>, Fault>
     ensures { FindsBy IsReadAsLists (λ lists. map (λ list. list.items) lists.items) (R.remaining reader.old) result }
 {
-    let input = read_input(alloc, reader)?;
-    lists_of_input(alloc, &input)
+    let text = read_text(alloc, reader)?;
+    lists_of_text(alloc, text.as_bytes())
 }

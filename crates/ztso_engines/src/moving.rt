@@ -1,53 +1,31 @@
 //! The command `move`: a litmus text and a schedule in, the schedule's text of version 2 out.
 
 ghost use Rattle.std.specs.Prelude.{◌≡◌, ◌≤◌};
-ghost use Rattle.recorder.specs.Versions.{said_of};
-ghost use Rattle.engine_parts.specs.Engines.{AnswersBoth, EndsByBoth};
-ghost use Rattle.engine_parts.specs.Faults.{AnswersAs};
+ghost use Rattle.engine_parts.specs.Engines.{EndsByBoth};
 ghost use Rattle.engine_parts.specs.Tests.{HasNoTest};
 ghost use Rattle.ztso_engines.specs.Move.{IsMoved, IsMoveAnswer};
-ghost use Rattle.engine_parts.specs.inner.Making.{Finds, text_and_value};
 ghost use Rattle.litmus.specs.declared.litmus_test.TheConstants.{MAX_LOCATIONS};
 
+use engine_parts::command::{ScheduleCommand, schedule_engine};
 use engine_parts::fault::Fault;
-use engine_parts::output::end_with;
-use engine_parts::running::{read_both, record_of_schedule};
+use engine_parts::running::record_of_schedule;
 use litmus::Test;
 use recorder::{Schedule, write_record};
 use std::alloc::Global;
 use std::io::{Read, Write};
 
-/// What is to be written for a test and a schedule.
-fn answer<const B: usize, const M: usize>(
-    alloc: Global,
-    test: &Test,
-    said: Schedule,
-) -> Result<(String, ()), Fault>
-    requires capacity { B ≤ 64 }
-    requires words { MAX_LOCATIONS ≤ M }
-    requires size { M ≤ 65536 }
-    ensures { AnswersAs (IsMoved B M test.now (said_of said)) text_and_value result }
-{
-    let steps = record_of_schedule::<B, M>(alloc, test, said)?;
-    let text = write_record(alloc, &steps)?;
-    Ok((text, ()))
-}
+struct Move;
 
-/// What is to be written for the inputs that the readers give.
-fn made<const B: usize, const M: usize, F: Read, S: Read>(
-    alloc: Global,
-    file: &mut F,
-    schedule: &mut S,
-) -> Result<(String, ()), Fault>
-    requires some_capacity { 1 ≤ B }
-    requires capacity { B ≤ 64 }
-    requires words { MAX_LOCATIONS ≤ M }
-    requires size { M ≤ 65536 }
-    ensures made { Finds (AnswersBoth (IsMoveAnswer B M) (F.remaining file.old) (S.remaining schedule.old)) text_and_value result }
-    ensures unread { HasNoTest (F.remaining file.old) → schedule.new ≡ schedule.old }
-{
-    let (test, said) = read_both(alloc, file, schedule)?;
-    answer::<B, M>(alloc, &test, said)
+impl<const B: usize, const M: usize> ScheduleCommand<B, M> for Move {
+    type Value = ();
+
+    ghost is_answer = { IsMoved B M };
+
+    fn answer(alloc: Global, test: &Test, said: Schedule) -> Result<(String, ()), Fault> {
+        let steps = record_of_schedule::<B, M>(alloc, test, said)?;
+        let text = write_record(alloc, &steps)?;
+        Ok((text, ()))
+    }
 }
 
 /// Reads a litmus text and then a schedule of either version, each to its end, runs the schedule from the
@@ -69,5 +47,5 @@ pub fn move_engine<const B: usize, const M: usize, F: Read, S: Read, W: Write>(
     ensures ends { EndsByBoth (IsMoveAnswer B M) result (F.remaining file.old) (S.remaining schedule.old) W.contents writer.old writer.new }
     ensures unread { HasNoTest (F.remaining file.old) → schedule.new ≡ schedule.old }
 {
-    end_with(made::<B, M, F, S>(alloc, file, schedule), writer)
+    schedule_engine::<Move, B, M, F, S, W>(alloc, file, schedule, writer)
 }

@@ -3,19 +3,16 @@
 ghost use Rattle.std.specs.Prelude.{◌≡◌, ◌≤◌, IfOk};
 ghost use Rattle.std.specs.List.{flat_map};
 ghost use Rattle.std.specs.String.{string_bytes};
-ghost use Rattle.recorder.specs.Versions.{said_of};
-ghost use Rattle.engine_parts.specs.Engines.{AnswersBoth, EndsByBoth};
-ghost use Rattle.engine_parts.specs.Faults.{AnswersAs};
+ghost use Rattle.engine_parts.specs.Engines.{EndsByBoth};
 ghost use Rattle.engine_parts.specs.Histories.{AnswersRun};
 ghost use Rattle.engine_parts.specs.Tests.{HasNoTest};
 ghost use Rattle.recorder.specs.Outcomes.{entry_line};
 ghost use Rattle.ztso_engines.specs.Replay.{IsReplay, IsReplayAnswer};
-ghost use Rattle.engine_parts.specs.inner.Making.{Finds, text_and_value};
 ghost use Rattle.litmus.specs.declared.litmus_test.TheConstants.{MAX_LOCATIONS};
 
+use engine_parts::command::{ScheduleCommand, schedule_engine};
 use engine_parts::fault::Fault;
-use engine_parts::output::end_with;
-use engine_parts::running::{machine_of_schedule, read_both};
+use engine_parts::running::machine_of_schedule;
 use litmus::Test;
 use recorder::{Schedule, push_entry_line};
 use std::alloc::{AllocError, Global};
@@ -33,38 +30,18 @@ fn entries_text(alloc: Global, entries: Entries<'_>) -> Result<String, AllocErro
     Ok(text)
 }
 
-/// What is to be written for a test and a schedule.
-fn answer<const B: usize, const M: usize>(
-    alloc: Global,
-    test: &Test,
-    said: Schedule,
-) -> Result<(String, ()), Fault>
-    requires some_capacity { 1 ≤ B }
-    requires capacity { B ≤ 64 }
-    requires words { MAX_LOCATIONS ≤ M }
-    requires size { M ≤ 65536 }
-    ensures { AnswersAs (AnswersRun B M IsReplay test.now (said_of said)) text_and_value result }
-{
-    let machine = machine_of_schedule::<B, M>(alloc, test, said)?;
-    let text = entries_text(alloc, machine.entries())?;
-    Ok((text, ()))
-}
+struct Replay;
 
-/// What is to be written for the inputs that the readers give.
-fn made<const B: usize, const M: usize, F: Read, S: Read>(
-    alloc: Global,
-    file: &mut F,
-    schedule: &mut S,
-) -> Result<(String, ()), Fault>
-    requires some_capacity { 1 ≤ B }
-    requires capacity { B ≤ 64 }
-    requires words { MAX_LOCATIONS ≤ M }
-    requires size { M ≤ 65536 }
-    ensures made { Finds (AnswersBoth (IsReplayAnswer B M) (F.remaining file.old) (S.remaining schedule.old)) text_and_value result }
-    ensures unread { HasNoTest (F.remaining file.old) → schedule.new ≡ schedule.old }
-{
-    let (test, said) = read_both(alloc, file, schedule)?;
-    answer::<B, M>(alloc, &test, said)
+impl<const B: usize, const M: usize> ScheduleCommand<B, M> for Replay {
+    type Value = ();
+
+    ghost is_answer = { AnswersRun B M IsReplay };
+
+    fn answer(alloc: Global, test: &Test, said: Schedule) -> Result<(String, ()), Fault> {
+        let machine = machine_of_schedule::<B, M>(alloc, test, said)?;
+        let text = entries_text(alloc, machine.entries())?;
+        Ok((text, ()))
+    }
 }
 
 /// Reads a litmus text and then a schedule of either version, each to its end, runs the schedule from the
@@ -86,5 +63,5 @@ pub fn replay_engine<const B: usize, const M: usize, F: Read, S: Read, W: Write>
     ensures ends { EndsByBoth (IsReplayAnswer B M) result (F.remaining file.old) (S.remaining schedule.old) W.contents writer.old writer.new }
     ensures unread { HasNoTest (F.remaining file.old) → schedule.new ≡ schedule.old }
 {
-    end_with(made::<B, M, F, S>(alloc, file, schedule), writer)
+    schedule_engine::<Replay, B, M, F, S, W>(alloc, file, schedule, writer)
 }

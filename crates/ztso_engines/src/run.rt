@@ -3,18 +3,16 @@
 ghost use Rattle.std.specs.Prelude.{◌≡◌, ◌≤◌, ◌++◌, length, IfOk, OnOk};
 ghost use Rattle.std.specs.String.{string_bytes};
 ghost use Rattle.step_machine.specs.Standing.{OfEach};
-ghost use Rattle.recorder.specs.Versions.{said_of};
-ghost use Rattle.engine_parts.specs.Engines.{AnswersBoth, EndsByBoth};
-ghost use Rattle.engine_parts.specs.Faults.{AnswersAs};
+ghost use Rattle.engine_parts.specs.Engines.{EndsByBoth};
 ghost use Rattle.engine_parts.specs.Histories.{AnswersRun};
 ghost use Rattle.engine_parts.specs.Tests.{HasNoTest};
 ghost use Rattle.ztso_engines.specs.Run.{verdict_line, IsJudged, IsRunAnswer};
-ghost use Rattle.engine_parts.specs.inner.Making.{Finds, text_and_value};
+ghost use Rattle.engine_parts.specs.inner.Making.{text_and_value};
 ghost use Rattle.litmus.specs.declared.litmus_test.TheConstants.{MAX_LOCATIONS};
 
+use engine_parts::command::{ScheduleCommand, schedule_engine};
 use engine_parts::fault::Fault;
-use engine_parts::output::end_with;
-use engine_parts::running::{read_both, state_of_schedule};
+use engine_parts::running::state_of_schedule;
 use engine_parts::state_text::state_text;
 use litmus::{Test, Verdict};
 use recorder::Schedule;
@@ -49,37 +47,18 @@ pub(crate) fn judged_text<const B: usize, const M: usize>(
     Ok((text, verdict))
 }
 
-/// What is to be written for a test and a schedule, and the verdict.
-fn answer<const B: usize, const M: usize>(
-    alloc: Global,
-    test: &Test,
-    said: Schedule,
-) -> Result<(String, Verdict), Fault>
-    requires capacity { B ≤ 64 }
-    requires words { MAX_LOCATIONS ≤ M }
-    requires size { M ≤ 65536 }
-    ensures { AnswersAs (AnswersRun B M (IsJudged M) test.now (said_of said)) text_and_value result }
-{
-    let machine = state_of_schedule::<B, M>(alloc, test, said)?;
-    let judged = judged_text(alloc, test, &machine)?;
-    Ok(judged)
-}
+struct Run;
 
-/// What is to be written for the inputs that the readers give, and the verdict.
-fn made<const B: usize, const M: usize, F: Read, S: Read>(
-    alloc: Global,
-    file: &mut F,
-    schedule: &mut S,
-) -> Result<(String, Verdict), Fault>
-    requires some_capacity { 1 ≤ B }
-    requires capacity { B ≤ 64 }
-    requires words { MAX_LOCATIONS ≤ M }
-    requires size { M ≤ 65536 }
-    ensures made { Finds (AnswersBoth (IsRunAnswer B M) (F.remaining file.old) (S.remaining schedule.old)) text_and_value result }
-    ensures unread { HasNoTest (F.remaining file.old) → schedule.new ≡ schedule.old }
-{
-    let (test, said) = read_both(alloc, file, schedule)?;
-    answer::<B, M>(alloc, &test, said)
+impl<const B: usize, const M: usize> ScheduleCommand<B, M> for Run {
+    type Value = Verdict;
+
+    ghost is_answer = { AnswersRun B M (IsJudged M) };
+
+    fn answer(alloc: Global, test: &Test, said: Schedule) -> Result<(String, Verdict), Fault> {
+        let machine = state_of_schedule::<B, M>(alloc, test, said)?;
+        let judged = judged_text(alloc, test, &machine)?;
+        Ok(judged)
+    }
 }
 
 /// Reads a litmus text and then a schedule of either version, each to its end, runs the schedule from the
@@ -105,5 +84,5 @@ pub fn run_engine<const B: usize, const M: usize, F: Read, S: Read, W: Write>(
     ensures ends { EndsByBoth (IsRunAnswer B M) result (F.remaining file.old) (S.remaining schedule.old) W.contents writer.old writer.new }
     ensures unread { HasNoTest (F.remaining file.old) → schedule.new ≡ schedule.old }
 {
-    end_with(made::<B, M, F, S>(alloc, file, schedule), writer)
+    schedule_engine::<Run, B, M, F, S, W>(alloc, file, schedule, writer)
 }

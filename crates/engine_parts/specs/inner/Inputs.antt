@@ -1,13 +1,17 @@
--- What inputs are read as: litmus texts and schedules.
+-- What inputs are read as: texts, litmus texts and schedules.
 use Rattle.std.specs.Prelude.{ℕ, ◌≡◌, List, Result, Ok, Err}
 use Rattle.recorder.specs.declared.versions.Schedule.{Schedule}
 use Rattle.recorder.specs.Versions.{Said, said_of, Says}
 use Rattle.litmus.specs.LitmusTests.{LitmusTest}
 use Rattle.litmus_reader.specs.Grammar.{IsTestOf}
 use Rattle.engine_parts.specs.declared.fault.Refusal.{Refusal}
-use Rattle.engine_parts.specs.Engines.{Accepted}
+use Rattle.engine_parts.specs.Engines.{Accepted, judged}
 use Rattle.engine_parts.specs.Tests.{IsNoTest}
 use Rattle.engine_parts.specs.Schedules.{IsNoSchedule}
+
+-- the input, where it is a text within the limit
+abbrev pub IsReadAsText : List ℕ → Result (List ℕ) Refusal → Type 0
+IsReadAsText input answer = judged (λ bytes. Ok bytes) input ≡ answer
 
 -- the input's test, or why it has none
 abbrev pub IsReadAsTest : List ℕ → Result LitmusTest Refusal → Type 0

@@ -83,11 +83,11 @@ impl Script {
 }
 
 #[tactic(auto, unfolding(crate::specs::StepsReading::script_at))]
-fn script_of<const M: usize>(alloc: Global, text: &str) -> Result<Script, Fault>
+fn script_of<const M: usize>(alloc: Global, text: &[u8]) -> Result<Script, Fault>
     ensures { Answers scenario_of result (script_at M text.now) }
 {
     let mut script = Script::new::<M>(alloc)?;
-    script.add_lines(alloc, text.as_bytes())?;
+    script.add_lines(alloc, text)?;
     if script.harts.is_empty() {
         return Err(Fault::refused(BAD_LINE, Position::Nowhere));
     }
@@ -99,7 +99,7 @@ fn script_of<const M: usize>(alloc: Global, text: &str) -> Result<Script, Fault>
 /// A line that says nothing that may come there is [`BAD_LINE`] at the line, and so is a text without
 /// a hart, at no line; tokens behind `steps` are refused as [`recorder::push_tokens_of`] refuses them, at the
 /// line. The first faulty line is answered.
-pub fn read_script<const M: usize>(alloc: Global, text: &str) -> Result<Script, Fault>
+pub fn read_script<const M: usize>(alloc: Global, text: &[u8]) -> Result<Script, Fault>
     ensures found { IfOk result (λ script. Describes M text.now (scenario_of script)) }
     ensures only { (scenario : Scenario) → Describes M text.now scenario → Answers scenario_of result (Ok scenario) }
     ensures exact { Answers scenario_of result (script_at M text.now) }

@@ -1,7 +1,9 @@
+use Rattle.std.specs.String.{string_bytes}
 use Rattle.recorder.specs.Versions.{said_of}
-use Rattle.engine_parts.specs.Schedules.{schedule_of}
 use Rattle.engine_parts.proofs.ScheduleTexts.{no_schedule_no_answer}
 use Rattle.engine_parts.proofs.schedule.read_schedule.Goals as goal
 
 pub returns-clause-refused : goal.returns-clause-refused
-returns-clause-refused g c = no_schedule_no_answer said_of schedule_of _ c.in_ok-input.input c.schedule_of_input.result c.in_ok-input.ensures.input c.schedule_of_input.ensures.exact
+returns-clause-refused g c =
+    no_schedule_no_answer said_of _ (string_bytes c.in_ok-text.text) c.schedule_of_text.result c.in_ok-text.ensures
+    (rw c.deref.ensures at c.schedule_of_text.ensures.exact)

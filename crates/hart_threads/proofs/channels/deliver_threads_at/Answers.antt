@@ -16,7 +16,7 @@ pub record_over-requires-after_bounds : goal.record_over-requires-after_bounds
 record_over-requires-after_bounds g c κs within =
     let fits : FitsIn g.row.M c.in_ok-opening.opening =
     subst (FitsIn g.row.M) (sym c.in_ok-opening.ensures.value)
-    (c.laws_of_channels.ensures.fits_at g.row.M _ (layout_of c.args.place c.args.words.now) c.in_ok-opening.ensures.accepted) in
+    (c.laws_of_channels.ensures.fits g.row.M _ (layout_of c.args.place c.args.words.now) c.in_ok-opening.ensures.accepted) in
     (lit< tt, (c.requires.some_capacity, (c.requires.capacity, (c.requires.some_word, (c.requires.memory, fits)))))
 
 pub returns-in_err-record_over-clause-fault : goal.returns-in_err-record_over-clause-fault
@@ -35,14 +35,14 @@ returns-clause-record g c =
 pub returns-clause-clean : goal.returns-clause-clean
 returns-clause-clean g c =
     subst (λ (rs : List Report). Clean rs (map (λ v. v.items) c.args.lists.now)) (sym c.in_ok-record_over.ensures.reports)
-    (c.laws_of_channels.ensures.clean_at g.row.B g.row.M _ (layout_of c.args.place c.args.words.now)
+    (c.laws_of_channels.ensures.clean g.row.B g.row.M _ (layout_of c.args.place c.args.words.now)
     c.in_ok-record_over.field-0.0.events.items c.in_ok-record_over.field-0.0.trace c.in_ok-opening.ensures.accepted
     (run_of g.row.B g.row.M c.in_ok-opening.opening _ c.in_ok-record_over.field-0.0 c.in_ok-opening.ensures.value
     c.in_ok-record_over.ensures.record))
 
 pub returns-clause-goes : goal.returns-clause-goes
 returns-clause-goes g c =
-    c.laws_of_channels.ensures.goes_at g.row.B g.row.M _ (layout_of c.args.place c.args.words.now)
+    c.laws_of_channels.ensures.goes g.row.B g.row.M _ (layout_of c.args.place c.args.words.now)
     c.in_ok-record_over.field-0.0.events.items c.in_ok-record_over.field-0.0.trace c.in_ok-opening.ensures.accepted
     (run_of g.row.B g.row.M c.in_ok-opening.opening _ c.in_ok-record_over.field-0.0 c.in_ok-opening.ensures.value
     c.in_ok-record_over.ensures.record)

@@ -10,7 +10,7 @@ use Rattle.ztso_engines.proofs.channel.check_steps.Goals as goal
 
 pub check_record-requires : goal.check_record-requires
 check_record-requires g c =
-    let fits = subst (λ (o : Start). FitsIn g.row.M o) (sym c.in-Ok.ensures.value) (c.laws_of_channels.ensures.fits_at g.row.M _ _ c.in-Ok.ensures.accepted) in
+    let fits = subst (λ (o : Start). FitsIn g.row.M o) (sym c.in-Ok.ensures.value) (c.laws_of_channels.ensures.fits g.row.M _ _ c.in-Ok.ensures.accepted) in
     (omega arith, (c.requires.capacity, (c.requires.size, fits)))
 
 pub returns-in-Err : goal.returns-in-Err

@@ -1,7 +1,14 @@
+use Rattle.std.specs.String.{string_bytes}
+use Rattle.engine_parts.proofs.Judging.{judged_text}
+use Rattle.engine_parts.proofs.TextInputs.{answered_text}
+use Rattle.ztso_engines.specs.Lists.{lists_at}
 use Rattle.ztso_engines.specs.inner.Inputs.{IsReadAsLists}
-use Rattle.engine_parts.proofs.Endings.{found_by}
 use Rattle.ztso_engines.proofs.ListTexts.{read_as_lists}
 use Rattle.ztso_engines.proofs.lists.read_lists.Goals as goal
 
 pub returns : goal.returns
-returns g c = found_by IsReadAsLists _ _ c.in_ok-input.input c.lists_of_input.result c.in_ok-input.ensures.input (read_as_lists _ c.in_ok-input.input.items c.lists_of_input.result (rw c.deref.ensures.value at c.lists_of_input.ensures.exact))
+returns g c =
+    let text = string_bytes c.in_ok-text.text in
+    let answers = rw c.as_bytes.ensures.value at c.lists_of_text.ensures in
+    answered_text IsReadAsLists _ _ text c.lists_of_text.result c.in_ok-text.ensures
+    (λ few is_text. read_as_lists _ text c.lists_of_text.result (rw (judged_text lists_at text few is_text) answers))

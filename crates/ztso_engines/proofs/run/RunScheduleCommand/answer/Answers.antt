@@ -1,0 +1,18 @@
+use Rattle.engine_parts.proofs.Endings.{is_handed}
+use Rattle.step_machine.specs.History.{History}
+use Rattle.recorder.specs.Versions.{said_of}
+use Rattle.engine_parts.specs.Histories.{AnswersRun, Runs}
+use Rattle.engine_parts.specs.inner.Making.{text_and_value}
+use Rattle.engine_parts.proofs.ScheduleLaws.{stopped_by}
+use Rattle.ztso_engines.specs.Run.{IsJudged}
+use Rattle.ztso_engines.proofs.run.RunScheduleCommand.answer.Goals as goal
+
+pub returns : goal.returns
+returns g c =
+    let ran = c.in_ok-machine.ensures.ran in
+    record { history = ran.0; ran = ran.1; answers = c.in_ok-judged.ensures ran.0 ran.2 }
+
+pub returns-in_err-machine : goal.returns-in_err-machine
+returns-in_err-machine g c =
+    stopped_by (Runs g.row.B g.row.M c.args.test.now.opening (said_of c.args.said)) (AnswersRun g.row.B g.row.M (IsJudged g.row.M) c.args.test.now (said_of c.args.said))
+    (λ (t : History). t) text_and_value c.from_residual.result c.in_err-machine.field-0.0 (λ refusal differs. differs) (is_handed c.from_residual.result _ c.from_residual.ensures.1) c.in_err-machine.ensures.ran
