@@ -1,7 +1,7 @@
 -- The rows of a picture: one for each entry, with the sources of what it read and the store that landed.
 use Rattle.std.specs.Prelude.{ℕ, zero, suc, ◌+◌, List, [], ◌∷◌, ◌++◌, Option}
 use Rattle.step_machine.specs.declared.events.Entry.{Entry}
-use Rattle.step_machine.specs.Access.{Access, nothing, load, store, exchange, fence, land, access_of}
+use Rattle.step_machine.specs.Access.{Access, load, exchange, access_of}
 use Rattle.step_machine.specs.Entries.{hart_of}
 use Rattle.chart.specs.declared.sources.Source.{Source}
 use Rattle.chart.specs.Sources.{source_of, landed_store}
