@@ -63,6 +63,7 @@ def blanked(text, is_litmus):
 
 def read(text, file):
     """The source of a file's text. `file` is its name; a test that has no other is named after it."""
+    text = text.replace("\r\n", "\n")
     head = HEAD.match(blanked(text, True))
     source = of_litmus(text, head) if head else of_comments(text)
     source.name = plain_name(source.name or file.removesuffix(".c"))
@@ -117,9 +118,9 @@ def of_comments(text):
         named = re.search(r"^[ \t]*test[ \t]+(\S+)[ \t]*$", body, re.MULTILINE)
         name = name or (named[1] if named else "")
         init += re.findall(r"^[ \t]*init[ \t]+([^\n]*)", body, re.MULTILINE)
-        found = conditions.KEYWORD.search(body)
-        if found and end is None:
-            end = body[found.start():]
+        marks = list(conditions.KEYWORD.finditer(body))
+        if end is None and any(mark[1] not in ("locations", "filter") for mark in marks):
+            end = body[marks[0].start():]
     if end is None:
         raise Refused("no comment has a condition, such as `// exists (0:a0=0 /\\ 1:a0=0)`")
     source = Source(name, "", text, False, conditions.ending(end))

@@ -54,7 +54,7 @@ class Comparison:
             try:
                 self.ways[name] = compiled(path, compiler, options, states)
             except Refused as refused:
-                self.refused[name] = str(refused).replace("\n", " ")[:120]
+                self.refused[name] = " ".join(str(refused).split("\n")[:2])
 
     def is_whole(self):
         """Whether each way was taken, and searched to the end."""
@@ -71,10 +71,12 @@ class Comparison:
             if name in self.ways:
                 yield [f"{self.compiler}, {name}", *self.ways[name].row(self.added(name))]
             else:
-                yield [f"{self.compiler}, {name}", "refused: " + self.refused[name], "", "", "", "", ""]
+                yield [f"{self.compiler}, {name}", "refused", "", "", "", "", ""]
 
     def told(self):
-        """What the ways say of the compiler's fences."""
+        """What is refused, and what the ways say of the compiler's fences."""
+        for reason in dict.fromkeys(self.refused.values()):
+            yield f"{self.compiler}: refused: {reason}"
         if KEPT not in self.ways or FULL not in self.ways or NONE not in self.ways:
             return
         kept, full = self.ways[KEPT], self.ways[FULL]

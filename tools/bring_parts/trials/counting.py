@@ -5,7 +5,8 @@ from pathlib import Path
 
 from bring_parts import TOOLS
 
-SECONDS = 60
+# a tool that takes so long hangs; on a machine with nothing else to do none takes more than 3
+SECONDS = 300
 
 
 class Count:
