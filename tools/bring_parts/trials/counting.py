@@ -1,6 +1,7 @@
 """How many trials passed, and what is said of those that failed."""
 
 import subprocess
+import sys
 from pathlib import Path
 
 from bring_parts import TOOLS
@@ -27,8 +28,8 @@ def run(tool, *words, text="", seconds=SECONDS):
     """The status, standard output and standard error of a tool."""
     stdin = text.encode() if isinstance(text, str) else text
     try:
-        done = subprocess.run([str(TOOLS / tool), *map(str, words)], input=stdin, capture_output=True, timeout=seconds,
-                              check=False)
+        done = subprocess.run([sys.executable, str(TOOLS / tool), *map(str, words)], input=stdin, capture_output=True,
+                              timeout=seconds, check=False)
     except subprocess.TimeoutExpired:
         return None, "", f"more than {seconds} seconds"
     return done.returncode, done.stdout.decode(errors="replace"), done.stderr.decode(errors="replace")
