@@ -1,0 +1,185 @@
+"""The page's questions, each answered by commands of the program. What the program printed is taken apart here, and
+put into words by the page."""
+
+import itertools
+import re
+
+from page_parts import bringing, faults
+from page_parts.faults import Fault
+from page_parts.listing import cells, listed
+from page_parts.questions import EVENTS, ROWS, too_long
+
+HEAD = "ztso-schedule 1\n"
+# how many instructions an act goes on over that touch no memory
+ONWARD = 400
+# the assembler's own refusals of a cell: its name, its operands, its numbers
+OF_CELLS = (2, 3, 4)
+
+
+def printed(calls, command, asked, *options, schedule=None, typed=""):
+    """What a command printed on the test that is asked about, and its status."""
+    buffer = ("--buffer", str(asked["buffer"])) if "buffer" in asked else ()
+    status, out, err = calls.ztso(command, *options, *buffer, text=asked["text"], schedule=schedule, typed=typed)
+    if err or status > 1:
+        raise faults.of_line(err or f"status {status}")
+    return out, status
+
+
+def printed_of_run(calls, command, asked, *options, typed=""):
+    """What a command printed on the run that is asked about."""
+    return printed(calls, command, asked, *options, schedule=f"{HEAD}{asked['tokens']}\n", typed=typed)[0]
+
+
+def tokens_of(schedule):
+    """The tokens of a schedule's text as the program writes it."""
+    return schedule.partition("\n")[2].strip()
+
+
+def counted(tokens):
+    """How many events tokens are."""
+    return sum(int(count or 1) for count in re.findall(r"[al][0-9]+(?:\*([0-9]+))?", tokens))
+
+
+def moved(text):
+    """Each event of a record with its outcome; equal ones that follow one another are a line of it."""
+    for line in text.splitlines()[1:]:
+        token, _, outcome = line.partition(" ")
+        event, _, count = token.partition("*")
+        yield from itertools.repeat((event, outcome), int(count or 1))
+
+
+def test(calls, asked):
+    """What a test is, or the fault of its text."""
+    # the program judges the text; a run of no events is cheap
+    try:
+        printed(calls, "run", asked, schedule=HEAD)
+    except Fault as fault:
+        if fault.said["name"] == "BadInstr":
+            fault.said["cell"] = faulty_cell(calls, asked["text"], fault.said["place"]["line"])
+        raise
+    return listed(asked["text"])
+
+
+def faulty_cell(calls, text, line):
+    """The first cell of a row that the assembler refuses for its own sake, and what it says."""
+    for hart, cell in enumerate(cells(text, line)):
+        _, _, err = calls.ztso("asm", typed=cell)
+        fault = faults.of_line(err).said if err else {}
+        if fault.get("number") in OF_CELLS:
+            return {"hart": hart, "text": cell.strip(), "words": fault["words"][:1]}
+    return None
+
+
+def view(calls, asked):
+    """The state after these events, what each of them did, and what each hart's next event would do."""
+    harts, words, verdict = state_of(printed_of_run(calls, "run", asked))
+    # an empty line is answered by `?`, so it ends each answer
+    typed = "g\n\n" + "".join(f"p {h}\n\na {h}\nu 1\n\nl {h}\nu 1\n\n" for h in range(len(harts)))
+    out = printed_of_run(calls, "debug", asked, typed=typed)
+    outcomes, *rest = [part.splitlines() for part in out.removesuffix("?\n").split("?\n")]
+    for hart, (pending, act, land) in zip(harts, zip(*[iter(rest)] * 3)):
+        hart |= {"pending": [store_of(line) for line in pending], "act": act[0], "land": land[0]}
+        if hart["stop"] is not None:
+            hart["stopped"] = faults.of_stop(hart["stop"])
+    return {"harts": harts, "words": words, "outcomes": outcomes[:-1], "verdict": verdict}
+
+
+def state_of(text):
+    """The harts, the words and the verdict that `run` printed."""
+    harts, words = [], {}
+    *lines, verdict = text.splitlines()
+    for line in lines:
+        name, number, *rest = line.replace(" = ", " ").split(" ")
+        if name == "hart":
+            stop = int(rest.pop(1)) if rest[0] == "stopped" else None
+            harts.append({"status": rest[0], "stop": stop, "pc": int(rest[2]), "registers": {}})
+        elif name == "word":
+            words[int(number)] = int(rest[0])
+        else:
+            harts[-1]["registers"][int(name[1:])] = int(number)
+    return harts, words, verdict
+
+
+def store_of(line):
+    """A pending store, as `p H` prints it."""
+    address, value, width = (*map(int, line.split(" ")), 4)[:3]
+    return {"address": address, "value": value, "bytes": width}
+
+
+def chart(calls, asked):
+    """The picture of a run, and each event's outcome: an event that did nothing has no row."""
+    outcomes = [outcome for _, outcome in moved(printed_of_run(calls, "move", asked))]
+    if "svg" in calls.can:
+        return {"svg": printed_of_run(calls, "chart", asked, "--svg"), "outcomes": outcomes}
+    return {"text": printed_of_run(calls, "chart", asked), "outcomes": outcomes}
+
+
+def shrink(calls, asked):
+    """A schedule with the same outcome, from which no event can be left out."""
+    return {"tokens": tokens_of(printed_of_run(calls, "shrink", asked))}
+
+
+def verdict(calls, asked):
+    """The verdict on a run."""
+    return {"verdict": printed_of_run(calls, "run", asked).splitlines()[-1]}
+
+
+def onward(calls, asked):
+    """How many acts of a hart go on to its next access of memory: one, and the ones after it that touch none."""
+    hart = asked["hart"]
+    out = printed_of_run(calls, "debug", asked, typed="g\n\n" + f"a {hart}\n" * ONWARD)
+    after = out.partition("?\n")[2].splitlines()[1:]
+    inner = itertools.takewhile(lambda line: line.startswith("inner "), after)
+    return {"count": min(1 + sum(1 for _ in inner), EVENTS - counted(asked["tokens"]))}
+
+
+def seek(calls, asked):
+    """How many events are done where a breakpoint stops the schedule, from a place on, or all of them."""
+    typed = "s\n" * asked["place"] + "".join(f"b {hart} {pc}\n" for hart, pc in asked["breaks"][:100]) + "g\nt\n"
+    return {"place": int(printed_of_run(calls, "debug", asked, typed=typed).splitlines()[-1])}
+
+
+def read(calls, asked):
+    """The events of a schedule's text of either version, checked by the program."""
+    out, _ = printed(calls, "move", asked, schedule=asked["schedule"])
+    events = [event for event, _ in moved(out)]
+    if len(events) > EVENTS:
+        raise too_long(len(events))
+    return {"events": events}
+
+
+def draw(calls, asked):
+    """The outcomes of a part of a seed's runs. `left` runs had outcomes that aren't listed."""
+    out, status = printed(calls, "try", asked, "--seed", asked["seed"], "--runs", str(asked["runs"]),
+                          "--length", str(asked["length"]), "--skip", str(asked["skip"]))
+    *lines, last = out.splitlines()
+    rows = []
+    for line in lines:
+        said, _, tokens = line.partition(" ;")
+        count, *values = said.split(" ")
+        rows.append({"count": int(count), "values": values, "tokens": tokens.strip()})
+    return {"rows": rows[:ROWS], "left": sum(row["count"] for row in rows[ROWS:]),
+            "unfinished": int(last.split(" ")[1]), "shown": status == 0}
+
+
+def threads(calls, asked):
+    """The schedule that threads of the system made."""
+    out, _ = printed(calls, "threads", asked, "--turns", str(EVENTS))
+    tokens = tokens_of(out[:out.index("hart 0 ")])
+    if counted(tokens) > EVENTS:
+        raise too_long(counted(tokens))
+    return {"tokens": tokens}
+
+
+def find(calls, asked):
+    """The shortest schedule of the outcome that the condition asks about."""
+    out, _ = printed(calls, "find", asked)
+    if counted(tokens_of(out)) > EVENTS:
+        raise too_long(counted(tokens_of(out)))
+    return {"tokens": tokens_of(out)}
+
+
+ANSWERS = {"test": test, "herd": bringing.of_herd, "c": bringing.of_c, "view": view, "chart": chart, "shrink": shrink,
+           "verdict": verdict, "onward": onward, "seek": seek, "read": read, "draw": draw}
+# questions for which a program needs a command that not each of them has
+IF_IT_CAN = {"threads": threads, "find": find}

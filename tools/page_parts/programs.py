@@ -1,0 +1,73 @@
+"""The program that answers: the built one, or one that is named; and which of its commands it has."""
+
+import os
+import shutil
+import subprocess
+import sys
+import tempfile
+from dataclasses import dataclass
+from pathlib import Path
+
+from page_parts import ROOT, TOOLS
+
+BUILT, REFERENCE = ROOT / "crates/ztso/out/ztso", TOOLS / "reference/ztso"
+SMALL = "RISCV SMALL\n{ }\n P0 ;\n nop ;\nexists (x=0)\n"
+# commands and options that not every program has, each with words that it takes
+PROBES = {"threads": ["threads", "test.litmus", "--turns", "1"], "find": ["find", "test.litmus", "--states", "1"],
+          "svg": ["chart", "--svg", "test.litmus", "test.schedule"]}
+
+
+class Missing(Exception):
+    """There is no program, in words for who asked."""
+
+
+@dataclass(frozen=True)
+class Program:
+    path: Path
+    # the names of PROBES that it takes
+    can: frozenset
+
+    def named(self):
+        """How the page names it."""
+        return str(self.path.relative_to(ROOT)) if self.path.is_relative_to(ROOT) else self.path.name
+
+    def is_reference(self):
+        return self.path == REFERENCE
+
+
+def found(named=None):
+    """The program that is named, or the built one, which is built first where it isn't there."""
+    if named:
+        path = Path(named).resolve()
+    elif BUILT.exists():
+        path = BUILT
+    else:
+        path = built()
+    if path.is_dir() or not os.access(path, os.X_OK):
+        raise Missing(f"{path}: no such program")
+    return Program(path, frozenset(name for name, words in PROBES.items() if takes(path, words)))
+
+
+def built():
+    if not shutil.which("rt"):
+        print("page: the command rt isn't on the PATH, so the program can't be built: the second implementation "
+              "answers, tools/reference/ztso, of which nothing is proved", file=sys.stderr)
+        return REFERENCE
+    print("page: builds the program first. In another terminal `tools/page --program tools/reference/ztso` starts at "
+          "once, with the second implementation", file=sys.stderr)
+    if subprocess.run([ROOT / "scripts/build"], stdin=subprocess.DEVNULL, check=False).returncode:
+        raise Missing("the program wasn't built; tools/page --program tools/reference/ztso needs no build")
+    return BUILT
+
+
+def takes(path, words):
+    """Whether a command line is one of the program's."""
+    with tempfile.TemporaryDirectory(prefix="ztso-page-") as folder:
+        Path(folder, "test.litmus").write_text(SMALL)
+        Path(folder, "test.schedule").write_text("ztso-schedule 1\n")
+        try:
+            done = subprocess.run([path, *words], cwd=folder, stdin=subprocess.DEVNULL, capture_output=True,
+                                  timeout=60, check=False)
+        except (OSError, subprocess.TimeoutExpired) as error:
+            raise Missing(f"{path}: {error}") from None
+    return b"bad command line" not in done.stderr

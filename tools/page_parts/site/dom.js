@@ -1,0 +1,34 @@
+// Elements of the page. Texts reach it by textContent alone.
+
+export const by = id => document.getElementById(id);
+
+const SVG = ["svg", "rect"];
+
+export function el(tag, attributes = {}, ...children) {
+  const space = SVG.includes(tag) ? "http://www.w3.org/2000/svg" : "http://www.w3.org/1999/xhtml";
+  const made = document.createElementNS(space, tag);
+  for (const [name, value] of Object.entries(attributes)) {
+    if (value !== null && value !== undefined && value !== false) made.setAttribute(name, value === true ? "" : value);
+  }
+  made.append(...children.filter(child => child !== null));
+  return made;
+}
+
+// words of docs/errors.md, in which backquotes stand round code
+export const prose = text => text.split("`").map((part, at) => at % 2 ? el("code", {}, part) : part);
+
+// a button that can't be used now keeps the focus and its name
+export const can = id => by(id).getAttribute("aria-disabled") !== "true";
+
+export function allow(id, yes) {
+  by(id).setAttribute("aria-disabled", String(!yes));
+}
+
+// what a press of a button does, where it can be used
+export function onPress(id, does) {
+  by(id).addEventListener("click", () => can(id) && does());
+}
+
+export function say(words) {
+  by("said").textContent = words;
+}

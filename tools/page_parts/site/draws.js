@@ -1,0 +1,148 @@
+// Drawn runs, in parts that follow one another along the seed's stream, so that bars grow and a stop keeps what was
+// drawn; and schedules that the program makes by other ways.
+
+import { ask, isStopped, stop, trouble } from "./ask.js";
+import { by, el } from "./dom.js";
+import { note, setEvents, shrunk } from "./run.js";
+import { expanded } from "./schedules.js";
+import { known, state } from "./state.js";
+import { many, stores } from "./words.js";
+
+// the first part's runs, how long a part is to take, and how many outcomes are listed
+const FIRST = 100, MILLISECONDS = 400, LISTED = 200;
+
+// what was drawn: rows by their values
+let table = null;
+let drawing = false;
+
+const number = value => Number(value.slice(value.lastIndexOf("=") + 1));
+
+function ascending({ values: one }, { values: other }) {
+  const at = one.findIndex((value, place) => number(value) !== number(other[place]));
+  return at < 0 ? 0 : number(one[at]) - number(other[at]);
+}
+
+export function forget() {
+  table = null;
+  stop("draw");
+  by("drawn").replaceChildren();
+  const rows = known.test.harts.flatMap(hart => hart.rows);
+  const size = rows.length + rows.filter(stores).length;
+  by("length").value = Math.min(known.limits.events, Math.max(20, 10 * size));
+}
+
+export async function drawRuns() {
+  if (drawing) {
+    drawing = false;
+    stop("draw");
+    return;
+  }
+  drawing = true;
+  by("go").textContent = "Stop";
+  table = { rows: new Map(), done: 0, left: 0, unfinished: 0, shown: known.test.kind !== "exists", text: state.text,
+    runs: Number(by("runs").value) };
+  try {
+    await drawParts(table);
+  } catch (error) {
+    if (!isStopped(error)) by("drawn").prepend(el("p", { role: "alert" }, error.message));
+    trouble();
+  } finally {
+    drawing = false;
+    by("go").textContent = "Draw";
+    if (table?.done) showTable(table);
+  }
+}
+
+async function drawParts(table) {
+  const asked = { text: state.text, buffer: state.buffer, seed: by("seed").value.trim(), length: Number(by("length").value) };
+  let size = FIRST;
+  by("drawn").replaceChildren(el("p", { class: "quiet" }, `Drawing ${many(table.runs, "run")} ..`));
+  do {
+    const begun = performance.now();
+    const runs = table.runs > 0 ? Math.min(size, table.runs - table.done) : table.runs;
+    add(table, await ask("draw", { ...asked, runs, skip: table.done }), runs);
+    showTable(table);
+    await mark(table, asked);
+    if (performance.now() - begun < MILLISECONDS) size *= 2;
+  } while (drawing && table.done < table.runs);
+}
+
+function add(table, { rows, left, unfinished, shown }, runs) {
+  for (const row of rows) {
+    const key = row.values.join(" "), before = table.rows.get(key);
+    if (before) before.count += row.count;
+    else table.rows.set(key, { ...row });
+  }
+  table.left += left;
+  table.unfinished += unfinished;
+  table.shown = known.test.kind === "exists" ? table.shown || shown : table.shown && shown;
+  table.done += runs;
+}
+
+// which rows are what the condition asks about, as the program's verdict on each says
+async function mark(table, { text, buffer }) {
+  const wanted = known.test.kind === "exists" ? "Holds" : "Fails";
+  for (const row of [...table.rows.values()].sort(ascending).slice(0, LISTED)) {
+    if (row.wanted !== undefined) continue;
+    row.wanted = (await ask("verdict", { text, buffer, tokens: row.tokens })).verdict === wanted;
+    if (row.wanted) showTable(table);
+  }
+}
+
+function answer({ shown }) {
+  return { exists: shown ? "Holds: a drawn run shows it." : "No drawn run shows it. That doesn't say that it can't happen.",
+    "~exists": shown ? "Holds in these runs: none shows it. That doesn't say that it can't happen."
+      : "Fails: a drawn run shows it.",
+    forall: shown ? "Holds in these runs." : "Fails: a drawn run breaks it." }[known.test.kind];
+}
+
+function showTable(table) {
+  const { rows, done, runs, unfinished, left, shown } = table;
+  const sorted = [...rows.values()].sort(ascending), listed = sorted.slice(0, LISTED);
+  const most = Math.max(unfinished, ...listed.map(row => row.count), 1);
+  const key = document.activeElement?.dataset?.key;
+  const word = known.test.kind === "exists" && !shown ? "Unfinished" : shown ? "Holds" : "Fails";
+  by("drawn").replaceChildren(
+    el("p", { class: "quiet" }, done < runs ? `${done} of ${many(runs, "run")}${drawing ? " .." : ", then stopped"}`
+      : many(runs, "run")),
+    el("table", {}, el("thead", {}, el("tr", {}, ...["outcome", "runs"].map(name => el("th", { scope: "col" }, name)),
+      el("td"), el("td"))),
+    el("tbody", {}, ...listed.map(row => rowOf(row, most)),
+      unfinished || !listed.length ? rowOf({ values: ["unfinished"], count: unfinished }, most) : null)),
+    sorted.length > LISTED ? el("p", { class: "quiet" }, `and ${sorted.length - LISTED} outcomes more`) : "",
+    left ? el("p", { class: "quiet" }, `${many(left, "run")} had outcomes that aren't counted here: too many differ.`) : "",
+    drawing ? "" : el("p", { class: `word ${word}`, role: "status" }, answer(table)),
+    unfinished > done / 2 ? el("p", { class: "quiet" }, "Most runs didn't finish: draw longer ones.") : "");
+  if (key) document.querySelector(`[data-key="${CSS.escape(key)}"]`)?.focus();
+}
+
+function rowOf({ values, count, tokens, wanted }, most) {
+  const key = values.join(" ");
+  const bar = el("svg", { viewBox: "0 0 64 10", "aria-hidden": "true" },
+    el("rect", { x: 0, y: 1, height: 8, rx: 1, width: Math.max(count ? 1 : 0, 64 * count / most) }));
+  return el("tr", { class: tokens === undefined ? "quiet" : wanted ? "wanted" : null },
+    el("td", { class: "values" }, ...values.flatMap(value => [el("span", {}, value), " "])),
+    el("td", { class: "count" }, String(count)), el("td", {}, bar),
+    el("td", {}, tokens === undefined ? "" : el("button", { "data-key": `row ${key}`, "aria-label": `Step through ${key}`,
+      title: `Shrink the schedule of this outcome and step through it: ${tokens}` }, "Step")));
+}
+
+// the drawn run of a row, shrunk
+export async function stepRow(key) {
+  const { tokens, values } = table.rows.get(key);
+  const events = expanded(await shrunk(tokens));
+  note(`${values.join(" ")}: ${events.length} of the drawn run's ${expanded(tokens).length} events are needed.`);
+  await setEvents(events);
+}
+
+// a schedule that a command of the program makes of the test: `find` the shortest, `threads` their own
+export async function made(route, words) {
+  try {
+    const { tokens } = await ask(route, { text: state.text, buffer: state.buffer });
+    note(words);
+    await setEvents(expanded(tokens));
+  } catch (error) {
+    if (error.fault) note(error.message);
+    else if (!isStopped(error)) throw error;
+  }
+}

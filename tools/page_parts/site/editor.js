@@ -1,0 +1,101 @@
+// The text of the test, its faults at their line, and what the shelf has of it.
+
+import { ask } from "./ask.js";
+import { by, el, prose } from "./dom.js";
+import { forget } from "./draws.js";
+import { close, move, note, setEvents } from "./run.js";
+import { expanded } from "./schedules.js";
+import { keep, known, state } from "./state.js";
+
+const LINE = 18, NUMBERED = 5000;
+
+// the text whose machine is shown
+let shown = "";
+
+// another text, with a schedule or with the one that was there
+export async function take(text, { events = null, place = null } = {}) {
+  state.text = text;
+  if (events) Object.assign(state, { events, place: place ?? events.length });
+  if (by("text").value !== text) by("text").value = text;
+  number();
+  keep();
+  close();
+  try {
+    known.test = await ask("test", { text });
+  } catch (error) {
+    if (error.fault) showFault(error.fault);
+    return;
+  }
+  by("fault").replaceChildren();
+  by("question").textContent = by("question").title = known.test.question;
+  document.title = `${known.test.title} - ztso`;
+  if (text !== shown) renew(text);
+  showShelf();
+  await move();
+}
+
+function renew(text) {
+  if (shown) state.breaks = [];
+  shown = text;
+  known.before = null;
+  forget();
+}
+
+function number(wrong) {
+  const count = Math.min(state.text.split("\n").length, NUMBERED);
+  by("numbers").replaceChildren(...Array.from({ length: count }, (_, at) =>
+    at + 1 === wrong ? el("b", {}, String(at + 1)) : `${at + 1}\n`));
+  by("numbers").scrollTop = by("text").scrollTop;
+}
+
+function showFault({ line, number: refusal, name, words, place, cell }) {
+  const where = place.line ? `Line ${place.line}${cell ? `, P${cell.hart}` : ""}: ` : "";
+  by("fault").replaceChildren(
+    el("p", {}, el("strong", {}, `${where}${refusal ? `${name} (${refusal}) ` : ""}`),
+      cell ? el("code", {}, cell.text) : ""),
+    ...(cell ? cell.words : words.length ? words : [line]).map(text => el("p", {}, ...prose(text))));
+  number(place.line);
+  if (place.line && document.activeElement !== by("text")) by("text").scrollTop = (place.line - 5) * LINE;
+}
+
+// the shelf
+
+export function listShelf() {
+  const families = new Map();
+  for (const test of known.tests) families.set(test.family, [...families.get(test.family) ?? [], test]);
+  by("shelf").replaceChildren(el("option", { value: "" }, "own text"), ...[...families].map(([family, tests]) =>
+    el("optgroup", { label: family.replaceAll("-", " ") },
+      ...tests.map(one => el("option", { value: one.name, title: one.question }, one.title)))));
+}
+
+export function choose(name) {
+  const found = known.tests.find(one => one.name === name);
+  if (!found) return null;
+  note();
+  return take(found.text, { events: [] });
+}
+
+function showShelf() {
+  const found = known.tests.find(one => one.text === state.text);
+  by("shelf").value = found?.name ?? "";
+  by("witnesses").replaceChildren(...(found ? [el("span", { class: "quiet" }, "witnesses")] : []),
+    ...(found?.witnesses ?? []).map(([outcome, schedule]) => el("button", { "data-schedule": schedule,
+      title: `Load the shelf's shortest schedule of this outcome: ${schedule}` }, outcome)));
+  showExcluded(found?.excluded ?? "");
+}
+
+export function loadWitness(button) {
+  note(`The shelf's shortest schedule of ${button.textContent}.`);
+  return setEvents(expanded(button.dataset.schedule));
+}
+
+// what a source says can't happen, and which source that is
+function showExcluded(excluded) {
+  const marks = [...excluded.matchAll(/\[([^\]]+)\]/g)].map(match => match[1]);
+  by("excluded").hidden = !excluded;
+  by("excluded").open = false;
+  by("excluded").replaceChildren(el("summary", {}, "excluded by a source: ", ...prose(excluded)),
+    ...[...new Set(marks)].filter(mark => known.sources[mark]).map(mark =>
+      el("p", {}, el("b", {}, `[${mark}] `), ...prose(known.sources[mark].replaceAll("*", "")))),
+    el("p", {}, "The page, like the program, shows only what can happen. That something can't is the source's word."));
+}

@@ -1,0 +1,22 @@
+// Keys: digits are harts, and the rest press buttons.
+
+import { by } from "./dom.js";
+import { happen } from "./run.js";
+
+const PRESSED = { ArrowLeft: "back", ArrowRight: "forward", Home: "to-start", End: "to-end", s: "shrink", c: "copy",
+  d: "go", b: "to-break", f: "find", m: "onward", o: "open", "?": "keys" };
+const FOCUSED = { t: "shelf", e: "text" };
+
+export function onKey(pressed) {
+  if (pressed.ctrlKey || pressed.metaKey || pressed.altKey || by("help").open) return;
+  if (pressed.target.matches("textarea, select, input:not([type=checkbox])")) {
+    if (pressed.key === "Escape") pressed.target.blur();
+    return;
+  }
+  const digit = /^(?:Digit|Numpad)(\d)$/.exec(pressed.code)?.[1];
+  if (digit) happen(`${pressed.shiftKey ? "l" : "a"}${digit}`, by("onward").checked);
+  else if (PRESSED[pressed.key] && !by(PRESSED[pressed.key]).hidden) by(PRESSED[pressed.key]).click();
+  else if (FOCUSED[pressed.key]) by(FOCUSED[pressed.key]).focus();
+  else return;
+  pressed.preventDefault();
+}

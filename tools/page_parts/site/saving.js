@@ -1,0 +1,135 @@
+// Schedules and runs come in and go out: copied, pasted, saved, and as links. A link has the whole run after its `#`,
+// which a browser sends nowhere.
+
+import { ask, waiting } from "./ask.js";
+import { svg } from "./chart.js";
+import { by, el } from "./dom.js";
+import { take } from "./editor.js";
+import { note, setEvents } from "./run.js";
+import { HEAD, expanded, tokens } from "./schedules.js";
+import { known, state } from "./state.js";
+
+const MARK = "#run=", LONGEST = 32000, MOST = 2 << 20;
+
+const scheduleText = () => `${HEAD}${tokens(state.events)}\n`;
+
+export const copySchedule = () => copy(scheduleText(), "Copied, with the head line.");
+
+async function copy(text, words, ...more) {
+  try {
+    await navigator.clipboard.writeText(text);
+    note(words, ...more);
+  } catch {
+    showPasting(true);
+    by("pasted").value = text;
+    by("pasted").select();
+    note("The browser keeps the clipboard to itself; copy from here. ", ...more);
+  }
+}
+
+export function showPasting(shows) {
+  by("pasting").hidden = !shows;
+  by("paste").setAttribute("aria-expanded", String(shows));
+  if (shows) by("pasted").focus();
+}
+
+export async function load() {
+  const text = by("pasted").value.trim();
+  try {
+    if (text.includes(MARK)) await loadLink(text);
+    else await loadSchedule(text.startsWith("ztso-schedule") ? text : HEAD + text);
+    showPasting(false);
+  } catch (error) {
+    if (!error.fault) throw error;
+    note(`${error.message} ${error.fault.line ? `(${error.fault.line})` : ""}`);
+  }
+}
+
+export async function loadSchedule(schedule) {
+  const { events } = await ask("read", { text: state.text, buffer: state.buffer, schedule });
+  note();
+  await setEvents(events);
+}
+
+// files
+
+function save(text, kind, suffix) {
+  const address = URL.createObjectURL(new Blob([text], { type: kind }));
+  const name = known.test.title.replace(/[^\w.+-]+/g, "-").slice(0, 60);
+  el("a", { href: address, download: `${name}${suffix}` }).click();
+  setTimeout(() => URL.revokeObjectURL(address), 1000);
+}
+
+export const saveSchedule = () => save(scheduleText(), "text/plain", ".schedule");
+
+export const saveTest = () => save(state.text, "text/plain", ".litmus");
+
+export function savePicture() {
+  if (svg()) save(svg(), "image/svg+xml", ".svg");
+  else note("There is no picture yet.");
+}
+
+// links
+
+// bytes that went through a stream, which may be this many at most
+async function piped(bytes, through) {
+  const reader = new Blob([bytes]).stream().pipeThrough(through).getReader(), parts = [];
+  let size = 0;
+  waiting(1);
+  try {
+    for (let part = await reader.read(); !part.done; part = await reader.read()) {
+      size += part.value.length;
+      if (size > MOST) throw new Error("it holds too much");
+      parts.push(part.value);
+    }
+    return new Uint8Array(await new Blob(parts).arrayBuffer());
+  } finally {
+    waiting(-1);
+  }
+}
+
+async function fragment() {
+  const { text, buffer, events, place } = state;
+  const bytes = new TextEncoder().encode(JSON.stringify({ text, buffer, tokens: tokens(events), place }));
+  const packed = await piped(bytes, new CompressionStream("deflate-raw"));
+  const letters = Array.from(packed, byte => String.fromCharCode(byte)).join("");
+  return MARK + btoa(letters).replaceAll("+", "-").replaceAll("/", "_").replaceAll("=", "");
+}
+
+export async function copyLink() {
+  const link = await fragment();
+  if (link.length > LONGEST) {
+    note("This test is too long for a link: save it, and its schedule.");
+    return;
+  }
+  const opens = el("a", { href: link, target: "_blank", rel: "noopener" }, "Open it in another tab");
+  await copy(link, "Copied: put it after the address of any such page, or into its Paste. ", opens, ".");
+}
+
+// the run that a link holds, or null
+export async function runOf(link) {
+  const packed = link.slice(link.indexOf(MARK) + MARK.length).trim().replaceAll("-", "+").replaceAll("_", "/");
+  try {
+    const bytes = Uint8Array.from(atob(packed), letter => letter.charCodeAt(0));
+    const run = JSON.parse(new TextDecoder().decode(await piped(bytes, new DecompressionStream("deflate-raw"))));
+    const isRun = typeof run.text === "string" && typeof run.tokens === "string" && [1, 2, 4, 16].includes(run.buffer);
+    return isRun && expanded(run.tokens).length <= known.limits.events ? run : null;
+  } catch {
+    return null;
+  }
+}
+
+export async function loadLink(link) {
+  const run = await runOf(link);
+  if (!run) {
+    note("This isn't a whole link of such a page.");
+    return false;
+  }
+  state.buffer = run.buffer;
+  by("buffer").value = String(run.buffer);
+  note();
+  await take(run.text, { events: expanded(run.tokens), place: Number.isInteger(run.place) ? run.place : null });
+  return true;
+}
+
+export const isLink = text => text.startsWith(MARK);
