@@ -34,7 +34,9 @@ def listed(text):
 def question(text):
     """The first comment of a text, in which the shelf's tests have their question."""
     comment = re.search(r"\(\*(.*?)\*\)", text, re.DOTALL)
-    return " ".join(comment[1].split()) if comment else ""
+    words = comment[1].strip() if comment else ""
+    # how a test of C was made: the compiler's flags follow
+    return words.partition("\n")[0] if words.startswith("tools/from-c ") else " ".join(words.split())
 
 
 def cells(text, line):

@@ -45,6 +45,8 @@ export function stop(route) {
   asking[route]?.abort();
 }
 
+export const isAsked = route => route in asking;
+
 export function stopAll() {
   Object.keys(asking).forEach(stop);
 }

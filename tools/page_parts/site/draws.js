@@ -1,7 +1,7 @@
 // Drawn runs, in parts that follow one another along the seed's stream, so that bars grow and a stop keeps what was
 // drawn; and schedules that the program makes by other ways.
 
-import { ask, isStopped, stop, trouble } from "./ask.js";
+import { ask, isAsked, isStopped, stop, trouble } from "./ask.js";
 import { by, el } from "./dom.js";
 import { note, setEvents, shrunk } from "./run.js";
 import { expanded } from "./schedules.js";
@@ -10,6 +10,8 @@ import { many, stores } from "./words.js";
 
 // the first part's runs, how long a part is to take, and how many outcomes are listed
 const FIRST = 100, MILLISECONDS = 400, LISTED = 200;
+
+const RANGES = { runs: [1, () => known.limits.runs], length: [0, () => known.limits.events] };
 
 // what was drawn: rows by their values
 let table = null;
@@ -24,11 +26,20 @@ function ascending({ values: one }, { values: other }) {
 
 export function forget() {
   table = null;
+  drawing = false;
   stop("draw");
   by("drawn").replaceChildren();
   const rows = known.test.harts.flatMap(hart => hart.rows);
   const size = rows.length + rows.filter(stores).length;
   by("length").value = Math.min(known.limits.events, Math.max(20, 10 * size));
+}
+
+// a number of the form, or what it may be
+function asked(id) {
+  const [least, most] = RANGES[id], value = by(id).value.trim();
+  if (/^[0-9]{1,9}$/.test(value) && Number(value) >= least && Number(value) <= most()) return Number(value);
+  by("drawn").replaceChildren(el("p", { role: "alert" }, `${id}: a number from ${least} to ${most()}`));
+  return null;
 }
 
 export async function drawRuns() {
@@ -37,10 +48,11 @@ export async function drawRuns() {
     stop("draw");
     return;
   }
+  const runs = asked("runs"), length = asked("length");
+  if (runs === null || length === null) return;
   drawing = true;
   by("go").textContent = "Stop";
-  table = { rows: new Map(), done: 0, left: 0, unfinished: 0, shown: known.test.kind !== "exists", text: state.text,
-    runs: Number(by("runs").value) };
+  table = { rows: new Map(), done: 0, left: 0, unfinished: 0, shown: known.test.kind !== "exists", runs, length };
   try {
     await drawParts(table);
   } catch (error) {
@@ -54,12 +66,12 @@ export async function drawRuns() {
 }
 
 async function drawParts(table) {
-  const asked = { text: state.text, buffer: state.buffer, seed: by("seed").value.trim(), length: Number(by("length").value) };
+  const asked = { text: state.text, buffer: state.buffer, seed: by("seed").value.trim(), length: table.length };
   let size = FIRST;
   by("drawn").replaceChildren(el("p", { class: "quiet" }, `Drawing ${many(table.runs, "run")} ..`));
   do {
     const begun = performance.now();
-    const runs = table.runs > 0 ? Math.min(size, table.runs - table.done) : table.runs;
+    const runs = Math.min(size, table.runs - table.done);
     add(table, await ask("draw", { ...asked, runs, skip: table.done }), runs);
     showTable(table);
     await mark(table, asked);
@@ -137,12 +149,17 @@ export async function stepRow(key) {
 
 // a schedule that a command of the program makes of the test: `find` the shortest, `threads` their own
 export async function made(route, words) {
+  if (isAsked(route)) {
+    stop(route);
+    return;
+  }
+  const name = by(route).textContent;
+  by(route).textContent = "Stop";
   try {
     const { tokens } = await ask(route, { text: state.text, buffer: state.buffer });
     note(words);
     await setEvents(expanded(tokens));
-  } catch (error) {
-    if (error.fault) note(error.message);
-    else if (!isStopped(error)) throw error;
+  } finally {
+    by(route).textContent = name;
   }
 }

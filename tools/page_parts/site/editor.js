@@ -20,6 +20,7 @@ export async function take(text, { events = null, place = null } = {}) {
   number();
   keep();
   close();
+  showShelf();
   try {
     known.test = await ask("test", { text });
   } catch (error) {
@@ -27,11 +28,15 @@ export async function take(text, { events = null, place = null } = {}) {
     return;
   }
   by("fault").replaceChildren();
-  by("question").textContent = by("question").title = known.test.question;
+  showQuestion(known.test.question);
   document.title = `${known.test.title} - ztso`;
   if (text !== shown) renew(text);
-  showShelf();
   await move();
+}
+
+// what the test asks
+function showQuestion(question) {
+  by("question").textContent = by("question").title = question;
 }
 
 function renew(text) {
@@ -54,6 +59,7 @@ function showFault({ line, number: refusal, name, words, place, cell }) {
     el("p", {}, el("strong", {}, `${where}${refusal ? `${name} (${refusal}) ` : ""}`),
       cell ? el("code", {}, cell.text) : ""),
     ...(cell ? cell.words : words.length ? words : [line]).map(text => el("p", {}, ...prose(text))));
+  showQuestion("");
   number(place.line);
   if (place.line && document.activeElement !== by("text")) by("text").scrollTop = (place.line - 5) * LINE;
 }

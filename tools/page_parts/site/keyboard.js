@@ -13,6 +13,8 @@ export function onKey(pressed) {
     if (pressed.key === "Escape") pressed.target.blur();
     return;
   }
+  // the picture is scrolled by the arrows while it has the focus
+  if (pressed.target.matches("#chart") && pressed.key.startsWith("Arrow")) return;
   const digit = /^(?:Digit|Numpad)(\d)$/.exec(pressed.code)?.[1];
   if (digit) happen(`${pressed.shiftKey ? "l" : "a"}${digit}`, by("onward").checked);
   else if (PRESSED[pressed.key] && !by(PRESSED[pressed.key]).hidden) by(PRESSED[pressed.key]).click();

@@ -23,9 +23,14 @@ export function showMachine() {
   document.querySelectorAll(".code").forEach((code, at) => showLine(code, scrolled[at] ?? 0));
   by("memory").replaceChildren(el("span", { class: "quiet" }, "memory"), ...memory(last));
   for (const id of PARTS) by(id).inert = false;
-  if (last && view.outcomes.length > last.outcomes.length) say(told(view.outcomes.at(-1)));
+  if (last && view.outcomes.length > last.outcomes.length) sayEvent(view);
   known.before = view;
   if (key) refocus(key);
+}
+
+function sayEvent({ outcomes, verdict }) {
+  const end = verdict === "Unfinished" ? "" : `. The run is finished: ${values().join(", ")}. ${verdict}`;
+  say(told(outcomes.at(-1)) + end);
 }
 
 // long code is scrolled to its current line

@@ -2,7 +2,7 @@
 
 import { known } from "./state.js";
 
-const LONGEST = 16;
+const LONGEST = 12;
 
 export const short = name => name.length > LONGEST ? `${name.slice(0, LONGEST - 1)}…` : name;
 

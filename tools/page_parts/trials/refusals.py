@@ -11,7 +11,6 @@ def part(count, program):
         questions(count, served)
     finally:
         count.told("Ctrl-C ends it", served.end() == 0)
-    opening(count, program)
 
 
 def let_in(count, served):
@@ -81,23 +80,3 @@ def questions(count, served):
     fault = served.ask("draw", **draw | {"seed": "--skip"})[1].get("fault", {})
     count.told("an option as a seed is no seed", fault.get("name") == "BadSeed", fault)
 
-
-def opening(count, program):
-    """The browser that --open starts gets an address that leads to the page once."""
-    from page_parts import programs, server
-    import threading
-    served = server.Server(0, programs.found(program))
-    threading.Thread(target=served.serve_forever, daemon=True).start()
-    try:
-        once = served.opening()
-        count.told("the address for the browser isn't the page's", served.secret not in once)
-        own = Served.__new__(Served)
-        own.port, own.host = served.server_port, f"127.0.0.1:{served.server_port}"
-        path = "/" + once.split("/", 3)[3]
-        status, _, reply = own.request("GET", path)
-        count.told("it leads to the page", (status, reply.getheader("Location")) == (303, f"/{served.secret}/"), status)
-        count.told("and no second time", own.request("GET", path)[0] == 404)
-    finally:
-        served.shutdown()
-        served.end()
-        served.server_close()

@@ -2,6 +2,7 @@
 
 import http.client
 import json
+import os
 import signal
 import subprocess
 from pathlib import Path
@@ -15,9 +16,10 @@ LOOP = SB.replace(" lw x7,0(x8) | lw x7,0(x8) ;", " lw x7,0(x8) | lw x7,0(x8) ;\
 
 
 class Served:
-    def __init__(self, program=None, *words):
+    def __init__(self, program=None, *words, **environment):
         named = ["--program", str(program)] if program else []
-        self.process = subprocess.Popen([TOOLS / "page", *named, *words], stdout=subprocess.PIPE, text=True)
+        self.process = subprocess.Popen([TOOLS / "page", *named, *words], stdout=subprocess.PIPE, text=True,
+                                        env=os.environ | environment)
         self.address = self.process.stdout.readline().strip()
         _, _, self.host, self.secret, _ = self.address.split("/")
         self.port = int(self.host.split(":")[1])

@@ -3,6 +3,7 @@
 import os
 import subprocess
 import tempfile
+import time
 from pathlib import Path
 
 from page_parts import TOOLS, programs
@@ -21,20 +22,42 @@ def part(count, program):
     done = subprocess.run(words, capture_output=True, text=True, timeout=60, check=False)
     count.told("a port that is taken", done.returncode == 1 and "take another one" in done.stderr, done)
     served.end()
-    found(count, program)
-
-
-def found(count, program):
-    """A program that has `find`: a stand-in, which hands on what else it is asked."""
     with tempfile.TemporaryDirectory(prefix="ztso-page-") as folder:
-        stand_in = Path(folder, "ztso")
-        stand_in.write_text(f"#!/bin/sh\nif [ \"$1\" = find ]; then printf 'ztso-schedule 1\\na0*2 a1*2 l0 l1\\n'\n"
-                            f"else exec '{program or programs.REFERENCE}' \"$@\"; fi\n")
-        os.chmod(stand_in, 0o755)
-        served = Served(stand_in)
-        try:
-            count.told("a program with find is known", served.shelf()["can"]["find"])
-            answer = served.ask("find", text=SB, buffer=4)[1]
-            count.told("the shortest schedule", answer == {"tokens": "a0*2 a1*2 l0 l1"}, answer)
-        finally:
-            served.end()
+        found(count, program, Path(folder, "ztso"))
+        opened(count, program, Path(folder))
+
+
+def script(path, text):
+    path.write_text(f"#!/bin/sh\n{text}\n")
+    os.chmod(path, 0o755)
+    return path
+
+
+def found(count, program, stand_in):
+    """A program that has `find`: a stand-in, which hands on what else it is asked."""
+    served = Served(script(stand_in, "if [ \"$1\" = find ]; then printf 'ztso-schedule 1\\na0*2 a1*2 l0 l1\\n'\n"
+                           f"else exec '{program or programs.REFERENCE}' \"$@\"; fi"))
+    try:
+        count.told("a program with find is known", served.shelf()["can"]["find"])
+        answer = served.ask("find", text=SB, buffer=4)[1]
+        count.told("the shortest schedule", answer == {"tokens": "a0*2 a1*2 l0 l1"}, answer)
+    finally:
+        served.end()
+
+
+def opened(count, program, folder):
+    """The browser that --open starts gets an address that leads to the page once."""
+    given = folder / "given"
+    browser = script(folder / "browser", f"echo \"$1\" > '{given}.new'; mv '{given}.new' '{given}'")
+    served = Served(program, "--open", BROWSER=str(browser))
+    try:
+        until = time.monotonic() + 20
+        while not given.exists() and time.monotonic() < until:
+            time.sleep(0.02)
+        path = "/" + given.read_text().strip().split("/", 3)[3]
+        count.told("the address for the browser isn't the page's", served.secret not in path, path)
+        status, _, reply = served.request("GET", path)
+        count.told("it leads to the page", (status, reply.getheader("Location")) == (303, served.own), status)
+        count.told("and no second time", served.request("GET", path)[0] == 404)
+    finally:
+        served.end()

@@ -1,0 +1,150 @@
+"""Tests stepped through by clicks and keys."""
+
+from page_parts import ROOT
+
+DEKKER = (ROOT / "examples/c/dekker.gcc.litmus").read_text()
+NOT_SHOWN = "That doesn't say that it can't happen."
+
+
+def part(count, page):
+    page.open()
+    store_buffering(count, page)
+    message_passing(count, page)
+    back(count, page)
+    keys(count, page)
+    onward(count, page)
+    drawn(count, page)
+    long_runs(count, page)
+
+
+def store_buffering(count, page):
+    count.told("the page begins with store buffering", page.run("document.getElementById('shelf').value") == "sb")
+    page.event("a0", "a0", "a1", "a1", "l0", "l1")
+    count.told("store buffering by clicks", (page.strip(), page.word()) == ("a0*2 a1*2 l0 l1", "Holds"), page.strip())
+    said = page.text("#said")
+    count.told("what an event did is said", said == "P1 lands its oldest store. The run is finished: "
+               "0:x7 = 0, 1:x7 = 0. Holds", said)
+    if page.run("!!document.querySelector('#threads:not([hidden])')"):
+        page.click("#threads")
+        count.told("a run on threads", page.word() in ("Holds", "Fails") and "threads" in page.note(), page.note())
+    page.click("#witnesses button")
+    count.told("a witness of the shelf", page.strip() == "a0*2 a1*2 l0 l1" and page.word() == "Holds", page.strip())
+
+
+def message_passing(count, page):
+    page.press("t")
+    for key in "MP":
+        page.press(key)
+    page.idle()
+    page.press("Escape")
+    count.told("a test is chosen by keys", page.run("document.getElementById('shelf').value") == "mp")
+    page.event("a0", "a0")
+    buttons = page.run("document.querySelectorAll('.hart')[0].querySelectorAll('.queue .event').length")
+    count.told("the newer store can't land first", buttons == 1 and "only the oldest can land" in page.text(".buffer"))
+    page.event("l0", "l0", "a1", "a1")
+    values = page.texts("#verdict .mono")
+    count.told("message passing by clicks", page.word() == "Fails" and values == ["1:x5 = 1", "1:x7 = 1"], values)
+    page.draw()
+    count.told("drawn runs don't show it", NOT_SHOWN in page.text("#drawn") and not page.texts("#drawn .wanted"),
+               page.text("#drawn"))
+    said = page.text("#excluded")
+    count.told("a source excludes it, and is named", "1-0: [Ztso]" in said and "RISC-V Instruction Set Manual" in said, said)
+
+
+def back(count, page):
+    page.keys(*["ArrowLeft"] * 4)
+    page.event("a1")
+    count.told("another way from the middle", page.strip() == "a0*2 a1" and "left out" in page.note(), page.note())
+    if page.run("!!document.querySelector('#chart img')"):
+        where = page.run("""(() => { const box = document.querySelector('.rows').getBoundingClientRect();
+            return [box.x + 100, box.y + 11]; })()""")
+        page.browser.click_at(*where)
+        page.idle()
+        count.told("a click on the picture's first row", page.place() == "1 of 3 events", page.place())
+        page.keys("End")
+    page.click("#note button")
+    count.told("and back to the first one", page.strip() == "a0*2 l0*2 a1*2", page.strip())
+    page.keys("Home", "ArrowRight")
+    count.told("Home and Right", page.place() == "1 of 6 events" and page.strip() == "a0 a0 l0*2 a1*2", page.strip())
+    page.click('[data-key="to 4"]')
+    count.told("a click on an event", page.place() == "4 of 6 events", page.place())
+    page.click('[data-key="break 1 4"]')
+    page.keys("b")
+    count.told("to a breakpoint", page.place() == "5 of 6 events", page.place())
+
+
+def keys(count, page):
+    page.choose("sb+fence.rw.rws")
+    page.keys("0")
+    count.told("a full fence waits, with the reason", page.text(".why") == "Waits: P0's store buffer must be empty first."
+               and page.run("document.querySelector('[data-key=a0]').getAttribute('aria-disabled')") == "true")
+    page.keys("0")
+    page.keys("0", shift=True)
+    page.keys("0", "0")
+    count.told("by keys alone", page.strip() == "a0 l0 a0*2", page.strip())
+    page.run("document.querySelector('[data-key=a1]').focus()")
+    page.keys("Enter")
+    key = page.run("document.activeElement.dataset.key")
+    count.told("the focus goes on", key == "l1", key)
+    page.choose("sb")
+    for key in "0011":
+        page.press(key)
+    page.idle()
+    page.browser.until("document.getElementById('place').textContent === '4 of 4 events'")
+    count.told("quick keys are all done", page.strip() == "a0*2 a1*2", page.strip())
+    page.keys("?")
+    count.told("the keys are listed", page.run("document.getElementById('help').open"))
+    page.keys("Escape")
+
+
+def onward(count, page):
+    """Compiled code: most instructions touch no memory."""
+    page.over("text", DEKKER)
+    page.run("document.activeElement.blur()")
+    page.click("#to-start")
+    page.click('[data-key="a0"]', shift=True)
+    first, ahead = page.strip(), page.text('[data-key="a0"] .does')
+    count.told("an act goes on to the next memory access", first == "a0*3" and ahead == "fence", f"{first}, {ahead}")
+    page.keys("m", "0")
+    there = page.text('[data-key="a0"] .does')
+    count.told("and by a key", page.run("document.getElementById('onward').checked") and there != ahead, there)
+    page.keys("m")
+    count.told("or not", not page.run("document.getElementById('onward').checked"))
+
+
+def drawn(count, page):
+    page.choose("sb")
+    page.draw()
+    rows = page.run("""[...document.querySelectorAll('#drawn tbody tr')].map(one => `${one.className} ${
+        one.querySelector('.values').textContent.trim()} ${one.querySelector('.count').textContent}`)""")
+    count.told("drawn runs in parts", len(rows) == 4 and rows[0].startswith("wanted 0:x7=0 1:x7=0 188"), rows)
+    page.click('#drawn tbody tr:nth-child(2) button')
+    count.told("a row's schedule, shrunk", "of the drawn run's" in page.note() and page.word() == "Fails", page.note())
+    page.over("runs", "100000")
+    page.over("length", "2000")
+    page.browser.click("#go")
+    page.browser.until("document.querySelectorAll('#drawn tbody tr').length > 1")
+    page.browser.click("#go")
+    page.browser.until("document.getElementById('go').textContent === 'Draw'")
+    page.idle()
+    said = page.text("#drawn p")
+    count.told("a stop keeps what was drawn", "of 100000 runs, then stopped" in said and page.texts("#drawn td.count"), said)
+    page.over("runs", "100001")
+    page.draw()
+    count.told("too many runs", page.text("#drawn") == "runs: a number from 1 to 100000", page.text("#drawn"))
+    page.over("runs", "1000")
+    page.over("seed", "--skip")
+    page.draw()
+    count.told("a seed that is none", "A seed is a number" in page.text("#drawn"), page.text("#drawn"))
+    page.open()
+
+
+def long_runs(count, page):
+    page.choose("spinlock")
+    page.paste("a0 a1*1998")
+    count.told("equal events are one", page.strip() == "a0 a1*1998", page.strip())
+    page.run("document.activeElement.blur()")
+    page.keys("0")
+    count.told("one event after 1,999", page.place() == "2000 of 2000 events", page.place())
+    page.keys("0")
+    count.told("and no further one", "at most 2000" in page.note(), page.note())

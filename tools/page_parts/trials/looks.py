@@ -1,0 +1,87 @@
+"""What is seen: contrast, names of controls, narrow windows and large type; and the pictures of docs/page.md."""
+
+from page_parts.trials import pngs
+
+# the texts whose contrast with what is under them is below 4.5
+PALE = """(() => {
+    const numbers = text => { const found = /color\\(srgb ([^)]+)\\)/.exec(text);
+        return found ? found[1].split(/[\\s/]+/).map((one, at) => at < 3 ? 255 * one : Number(one))
+            : /rgba?\\(([^)]+)\\)/.exec(text)[1].split(/[\\s,/]+/).map(Number); };
+    const under = element => { for (let at = element; at; at = at.parentElement) {
+        const found = numbers(getComputedStyle(at).backgroundColor);
+        if ((found[3] ?? 1) === 1) return found; } return [255, 255, 255]; };
+    const light = colour => { const [red, green, blue] = colour.slice(0, 3).map(one => one / 255)
+        .map(one => one <= 0.04045 ? one / 12.92 : ((one + 0.055) / 1.055) ** 2.4);
+        return 0.2126 * red + 0.7152 * green + 0.0722 * blue; };
+    const found = [], texts = document.createTreeWalker(document.body, NodeFilter.SHOW_TEXT);
+    while (texts.nextNode()) {
+        const element = texts.currentNode.parentElement, style = getComputedStyle(element);
+        if (!texts.currentNode.textContent.trim() || !element.checkVisibility() || element.closest(".unseen, option")) continue;
+        const both = [light(numbers(style.color)), light(under(element))].sort((one, other) => other - one);
+        const ratio = (both[0] + 0.05) / (both[1] + 0.05);
+        if (ratio < 4.5) found.push(`${element.tagName}.${element.className} ${ratio.toFixed(1)} ${texts.currentNode.textContent.trim().slice(0, 20)}`);
+    }
+    return [...new Set(found)]; })()"""
+CONTROLS = ("button", "combobox", "textbox", "checkbox", "region", "dialog", "image", "img")
+
+
+def part(count, page):
+    page.open()
+    for dark in (False, True):
+        page.browser.dark(dark)
+        shown(page)
+        pale = page.run(PALE)
+        count.told(f"contrast, {'dark' if dark else 'light'}", not pale, pale)
+    page.browser.dark(False)
+    nameless = [role for role, name in page.browser.nodes() if role in CONTROLS and not name]
+    count.told("each control has a name", not nameless, nameless)
+    tabbed(count, page)
+    page.over("text", page.run("document.getElementById('text').value").replace("RISCV SB", "RISC SB"))
+    for width, height, scale in ((400, 800, 1), (640, 400, 2), (320, 640, 1)):
+        page.browser.size(width, height, scale)
+        count.told(f"nothing is wider than {width} pixels", not page.wide())
+    page.browser.size(1280, 800)
+    page.choose("sb")
+
+
+def shown(page):
+    """A test with something of everything: a schedule that goes on, drawn runs, a break, a waiting hart."""
+    page.choose("sb+fence.rw.rws")
+    page.paste("a0 a1 a0 l0 a0 l1")
+    page.keys("Home", "ArrowRight")
+    page.click('[data-key="break 1 4"]')
+    page.draw()
+
+
+def tabbed(count, page):
+    """Every control is reached by Tab, in the page's order."""
+    page.choose("sb")
+    page.run("document.querySelector('.skip').focus()")
+    reached = []
+    for _ in range(60):
+        page.press("Tab")
+        reached.append(page.run("document.activeElement.id || document.activeElement.dataset.key || document.activeElement.tagName"))
+        if reached[-1] == "chart":
+            break
+    wanted = ["keys", "shelf", "open", "buffer", "text", "runs", "go", "break 0 0", "a0", "a1", "onward", "paste", "chart"]
+    places = [reached.index(one) if one in reached else -1 for one in wanted]
+    count.told("Tab goes through the page in order", places == sorted(places) and -1 not in places, reached)
+
+
+def pictures(page, folder):
+    """The pictures of docs/page.md, and some to look at beside them."""
+    def made(name, whole=False):
+        (folder / name).write_bytes(pngs.smaller(page.browser.picture(whole)))
+    page.open()
+    page.choose("sb")
+    page.event("a0", "a0", "a1", "a1", "l0", "l1")
+    page.draw()
+    page.run("document.activeElement.blur(), scrollTo(0, 0)")
+    made("page.png")
+    page.choose("sb+rfi-pos")
+    page.click("#witnesses button")
+    page.keys("ArrowLeft", "ArrowLeft")
+    page.browser.dark(True)
+    page.run("document.activeElement.blur(), scrollTo(0, 0)")
+    made("page-dark.png")
+    page.browser.dark(False)

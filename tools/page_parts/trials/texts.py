@@ -1,0 +1,137 @@
+"""Texts that are typed, pasted, dropped or linked: faults, hostile names, many harts, files, links."""
+
+import tempfile
+import time
+from pathlib import Path
+
+from page_parts import ROOT
+from page_parts.trials.served import SB
+
+FAULTY = SB.replace("lw x7,0(x8) ;", "lq x7,0(x8) ;")
+EVIL = SB.replace("RISCV SB", "RISCV <script>document.title='broken'</script><img/src=x/onerror=alert(1)>") \
+    .replace("may both", "<b onclick=x>may</b> both")
+LONG = SB.replace("RISCV SB", f"RISCV {'n' * 3000}").replace("=x;", f"={'n' * 3000};")
+MANY = (f"RISCV many\n{{ }}\n {' | '.join(f'P{hart}' for hart in range(64))} ;\n"
+        f" {' | '.join(['sw x5,0(x6)'] * 64)} ;\nexists (0:x5=1)\n")
+
+
+def part(count, page):
+    page.open()
+    typed(count, page)
+    sizes(count, page)
+    pasted(count, page)
+    links(count, page)
+    with tempfile.TemporaryDirectory(prefix="ztso-page-") as folder:
+        saved(count, page, Path(folder))
+        dropped(count, page, Path(folder))
+
+
+def typed(count, page):
+    page.choose("sb")
+    page.event("a0", "a1")
+    page.over("text", FAULTY)
+    said = page.text("#fault")
+    count.told("a fault at its line, in words", page.text("#numbers b") == "9" and "The mnemonic isn't known" in said, said)
+    stale = page.text("#question") + page.text("#witnesses") + page.run("document.getElementById('shelf').value")
+    count.told("nothing is left of the test before", page.run("document.getElementById('machine').inert") and not stale, stale)
+    fenced = SB.replace(" lw x7,0(x8) | lw x7,0(x8) ;", " fence rw,rw | fence rw,rw ;\n lw x7,0(x8) | lw x7,0(x8) ;")
+    page.over("text", fenced)
+    count.told("the schedule stays while the text changes", page.strip() == "a0 a1" and not page.text("#fault"), page.strip())
+    page.over("text", EVIL)
+    page.run("document.activeElement.blur()")
+    page.click("#harts .event:not([aria-disabled=true])")
+    broken = page.run("document.querySelectorAll('#test b, #chart script').length + (document.title === 'broken')")
+    count.told("tags in a name stay text", broken == 0 and "<b onclick=x>" in page.text("#question"), broken)
+
+
+def sizes(count, page):
+    page.over("text", LONG)
+    page.click("#to-start")
+    page.event("a0")
+    page.draw()
+    count.told("long names widen nothing", not page.wide())
+    page.over("text", MANY)
+    page.event("a63")
+    count.told("64 harts", page.run("document.querySelectorAll('.hart').length") == 64 and not page.wide())
+
+
+def pasted(count, page):
+    page.choose("sb")
+    page.paste("ztso-schedule 2\na0*1 store 0 0 1\na1 store 1 4 1\nl0 land 0\n")
+    count.told("a pasted record", page.strip() == "a0 a1 l0", page.strip() + page.note())
+    page.browser.send("Browser.grantPermissions", permissions=["clipboardReadWrite", "clipboardSanitizedWrite"], session=None)
+    page.click("#copy")
+    time.sleep(0.2)
+    said = page.run("navigator.clipboard.readText()")
+    count.told("copied, with the head line", said == "ztso-schedule 1\na0 a1 l0\n", said)
+    page.paste("a0 b1")
+    count.told("a pasted fault", "28 at byte 19" in page.note(), page.note())
+    page.paste("#run=abc")
+    count.told("a link that isn't whole", "isn't a whole link" in page.note(), page.note())
+    page.run("location.reload()")
+    page.browser.until("document.readyState === 'complete'")
+    page.idle()
+    count.told("loaded again, the tab keeps its run", page.strip() == "a0 a1 l0", page.strip())
+
+
+def links(count, page):
+    page.keys("ArrowLeft")
+    page.click("#saving summary")
+    page.click("#link")
+    page.browser.until("document.getElementById('note').textContent.startsWith('Copied')")
+    link = page.run("navigator.clipboard.readText()")
+    count.told("a link has no address", link.startswith("#run=") and page.served.secret not in link, link)
+    page.choose("mp")
+    page.paste(link)
+    count.told("a pasted link", page.place() == "2 of 3 events" and page.strip() == "a0 a1 l0", page.place())
+    page.choose("mp")
+    page.open(link)
+    count.told("an address with a link", page.place() == "2 of 3 events" and page.run("location.hash") == "", page.place())
+
+
+def saved(count, page, folder):
+    page.browser.send("Browser.setDownloadBehavior", behavior="allow", downloadPath=str(folder), session=None)
+    for button, name, begins in (("save-schedule", "SB.schedule", "ztso-schedule 1\na0 a1 l0"),
+                                 ("save-test", "SB.litmus", "RISCV SB"), ("save-picture", "SB.svg", "<?xml")):
+        if button == "save-picture" and not page.run("!!document.querySelector('#chart img')"):
+            continue
+        page.click("#saving summary")
+        page.click(f"#{button}")
+        path, until = folder / name, time.monotonic() + 20
+        while not (path.exists() and path.stat().st_size) and time.monotonic() < until:
+            time.sleep(0.05)
+        count.told(f"saved: {name}", path.exists() and path.read_text().startswith(begins))
+
+
+def dropped(count, page, folder):
+    for path, in_text in ((ROOT / "litmus/two-harts/lb.litmus", "RISCV LB"),
+                          (ROOT / "examples/herd/LB+typed.litmus", "RISCV LB+typed")):
+        drop(page, path)
+        text = page.run("document.getElementById('text').value")
+        count.told(f"dropped: {path.name}", text.startswith(in_text) and not page.text("#fault"), page.note())
+    count.told("what was rewritten is said", page.note().startswith("Rewritten: "), page.note())
+    schedule = folder / "some.schedule"
+    schedule.write_text("ztso-schedule 1\na0 a1\n")
+    drop(page, schedule)
+    count.told("dropped: a schedule", page.strip() == "a0 a1", page.strip())
+    drop(page, ROOT / "examples/c/dekker.c")
+    compilers = page.served.shelf()["can"]["c"]
+    if not compilers:
+        count.told("C without a compiler", "No compiler" in page.note(), page.note())
+        return
+    count.told("dropped: C", page.note().startswith("Made by tools/from-c") and "exists" in page.text("#verdict code")
+               and page.text("#question") == f"tools/from-c dropped.c --compiler {compilers[0]}", page.note())
+    page.run("document.getElementById('fences').value = 'none', document.getElementById('fences').dispatchEvent(new Event('change'))")
+    page.browser.until("document.getElementById('note').textContent.includes('fences none')")
+    page.idle()
+    text = page.run("document.getElementById('text').value")
+    count.told("and made anew without fences", "fence" not in text.partition("*)")[2], text)
+    page.choose("sb")
+    count.told("another test is of no C", page.run("document.getElementById('compiling').hidden"))
+
+
+def drop(page, path):
+    page.browser.drop(path)
+    page.idle()
+    time.sleep(0.3)
+    page.idle()
