@@ -7,7 +7,7 @@ import re
 from page_parts import bringing, faults
 from page_parts.faults import Fault
 from page_parts.listing import cells, listed
-from page_parts.questions import EVENTS, ROWS, too_long
+from page_parts.questions import EVENTS, HARTS, ROWS, too_long
 
 HEAD = "ztso-schedule 1\n"
 # how many instructions an act goes on over that touch no memory
@@ -163,12 +163,13 @@ def draw(calls, asked):
 
 
 def threads(calls, asked):
-    """The schedule that threads of the system made."""
-    out, _ = printed(calls, "threads", asked, "--turns", str(EVENTS))
-    tokens = tokens_of(out[:out.index("hart 0 ")])
-    if counted(tokens) > EVENTS:
-        raise too_long(counted(tokens))
-    return {"tokens": tokens}
+    """The schedule that threads of the system made: a finished run, or of a loop that is too long a part."""
+    for turns in ((), ("--turns", str(EVENTS // HARTS))):
+        out, _ = printed(calls, "threads", asked, *turns)
+        tokens = tokens_of(out[:out.index("hart 0 ")])
+        if counted(tokens) <= EVENTS:
+            return {"tokens": tokens}
+    raise too_long(counted(tokens))
 
 
 def find(calls, asked):

@@ -11,10 +11,12 @@ import { many, stores } from "./words.js";
 // the first part's runs, how long a part is to take, and how many outcomes are listed
 const FIRST = 100, MILLISECONDS = 400, LISTED = 200;
 
+const ASKED = "what the condition asks about";
+
 const RANGES = { runs: [1, () => known.limits.runs], length: [0, () => known.limits.events] };
 
-// what was drawn: rows by their values
-let table = null;
+// what was drawn last, with its rows by their values
+let last = null;
 let drawing = false;
 
 const number = value => Number(value.slice(value.lastIndexOf("=") + 1));
@@ -25,7 +27,7 @@ function ascending({ values: one }, { values: other }) {
 }
 
 export function forget() {
-  table = null;
+  last = null;
   drawing = false;
   stop("draw");
   by("drawn").replaceChildren();
@@ -52,17 +54,21 @@ export async function drawRuns() {
   if (runs === null || length === null) return;
   drawing = true;
   by("go").textContent = "Stop";
-  table = { rows: new Map(), done: 0, left: 0, unfinished: 0, shown: known.test.kind !== "exists", runs, length };
+  const table = last = { rows: new Map(), done: 0, left: 0, unfinished: 0, shown: known.test.kind !== "exists", runs, length };
   try {
     await drawParts(table);
   } catch (error) {
     if (!isStopped(error)) by("drawn").prepend(el("p", { role: "alert" }, error.message));
     trouble();
   } finally {
-    drawing = false;
-    by("go").textContent = "Draw";
-    if (table?.done) showTable(table);
+    if (last === table || !last) finish(table);
   }
+}
+
+function finish(table) {
+  drawing = false;
+  by("go").textContent = "Draw";
+  if (last === table && table.done) showTable(table);
 }
 
 async function drawParts(table) {
@@ -76,7 +82,7 @@ async function drawParts(table) {
     showTable(table);
     await mark(table, asked);
     if (performance.now() - begun < MILLISECONDS) size *= 2;
-  } while (drawing && table.done < table.runs);
+  } while (drawing && last === table && table.done < table.runs);
 }
 
 function add(table, { rows, left, unfinished, shown }, runs) {
@@ -125,7 +131,7 @@ function showTable(table) {
     left ? el("p", { class: "quiet" }, `${many(left, "run")} had outcomes that aren't counted here: too many differ.`) : "",
     drawing ? "" : el("p", { class: `word ${word}`, role: "status" }, answer(table)),
     unfinished > done / 2 ? el("p", { class: "quiet" }, "Most runs didn't finish: draw longer ones.") : "");
-  if (key) document.querySelector(`[data-key="${CSS.escape(key)}"]`)?.focus();
+  if (key?.startsWith("row ")) by("drawn").querySelector(`[data-key="${CSS.escape(key)}"]`)?.focus();
 }
 
 function rowOf({ values, count, tokens, wanted }, most) {
@@ -133,7 +139,8 @@ function rowOf({ values, count, tokens, wanted }, most) {
   const bar = el("svg", { viewBox: "0 0 64 10", "aria-hidden": "true" },
     el("rect", { x: 0, y: 1, height: 8, rx: 1, width: Math.max(count ? 1 : 0, 64 * count / most) }));
   return el("tr", { class: tokens === undefined ? "quiet" : wanted ? "wanted" : null },
-    el("td", { class: "values" }, ...values.flatMap(value => [el("span", {}, value), " "])),
+    el("td", { class: "values", title: wanted ? ASKED : null },
+      wanted ? el("span", { class: "unseen" }, `${ASKED}: `) : "", ...values.flatMap(value => [el("span", {}, value), " "])),
     el("td", { class: "count" }, String(count)), el("td", {}, bar),
     el("td", {}, tokens === undefined ? "" : el("button", { "data-key": `row ${key}`, "aria-label": `Step through ${key}`,
       title: `Shrink the schedule of this outcome and step through it: ${tokens}` }, "Step")));
@@ -141,7 +148,7 @@ function rowOf({ values, count, tokens, wanted }, most) {
 
 // the drawn run of a row, shrunk
 export async function stepRow(key) {
-  const { tokens, values } = table.rows.get(key);
+  const { tokens, values } = last.rows.get(key);
   const events = expanded(await shrunk(tokens));
   note(`${values.join(" ")}: ${events.length} of the drawn run's ${expanded(tokens).length} events are needed.`);
   await setEvents(events);

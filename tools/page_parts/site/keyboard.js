@@ -16,9 +16,12 @@ export function onKey(pressed) {
   // the picture is scrolled by the arrows while it has the focus
   if (pressed.target.matches("#chart") && pressed.key.startsWith("Arrow")) return;
   const digit = /^(?:Digit|Numpad)(\d)$/.exec(pressed.code)?.[1];
-  if (digit) happen(`${pressed.shiftKey ? "l" : "a"}${digit}`, by("onward").checked);
-  else if (PRESSED[pressed.key] && !by(PRESSED[pressed.key]).hidden) by(PRESSED[pressed.key]).click();
-  else if (FOCUSED[pressed.key]) by(FOCUSED[pressed.key]).focus();
-  else return;
+  const used = by(digit ? "machine" : PRESSED[pressed.key] ?? FOCUSED[pressed.key]);
+  if (!used) return;
   pressed.preventDefault();
+  // what can't be clicked has no key either
+  if (used.hidden || used.closest("[inert]")) return;
+  if (digit) happen(`${pressed.shiftKey ? "l" : "a"}${digit}`, by("onward").checked);
+  else if (PRESSED[pressed.key]) used.click();
+  else used.focus();
 }

@@ -6,7 +6,7 @@ import sys
 from concurrent.futures import ThreadPoolExecutor
 
 from page_parts import ROOT, TOOLS
-from page_parts.trials.served import SB, Served
+from page_parts.trials.served import LOOP, SB, Served
 
 sys.path.insert(0, str(TOOLS / "reference"))
 
@@ -101,6 +101,8 @@ def others(count, served, can):
         tokens = served.ask("threads", **RUN)[1]["tokens"]
         answer = served.ask("verdict", **RUN, tokens=tokens)[1]
         count.told("threads make a run that is finished", answer["verdict"] in ("Holds", "Fails"), answer)
+        answer = served.ask("threads", text=LOOP, buffer=4)[1]
+        count.told("of a loop they make a part", "tokens" in answer, answer)
     status, _, _ = served.request("POST", served.own + "find", RUN)
     count.told("find is there where the program has it", (status == 200) == can["find"], status)
 

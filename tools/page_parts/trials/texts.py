@@ -34,6 +34,10 @@ def typed(count, page):
     count.told("a fault at its line, in words", page.text("#numbers b") == "9" and "The mnemonic isn't known" in said, said)
     stale = page.text("#question") + page.text("#witnesses") + page.run("document.getElementById('shelf').value")
     count.told("nothing is left of the test before", page.run("document.getElementById('machine').inert") and not stale, stale)
+    page.run("document.activeElement.blur()")
+    for key in ("0", "ArrowLeft", "d"):
+        page.press(key)
+    count.told("by keys neither", page.strip() == "a0 a1" and not page.text("#drawn"), page.strip())
     fenced = SB.replace(" lw x7,0(x8) | lw x7,0(x8) ;", " fence rw,rw | fence rw,rw ;\n lw x7,0(x8) | lw x7,0(x8) ;")
     page.over("text", fenced)
     count.told("the schedule stays while the text changes", page.strip() == "a0 a1" and not page.text("#fault"), page.strip())
