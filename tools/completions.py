@@ -96,7 +96,8 @@ def zsh(rows):
     for command in commands:
         words = [*map(zsh_option, command.options), *map(zsh_input, range(1, 9), command.inputs)]
         yield f"    {command.name})"
-        yield "        " + " \\\n            ".join(["_arguments", *map(zsh_quoted, words)] if words else ["_message 'no more words'"])
+        words = ["_arguments", *map(zsh_quoted, words)] if words else ["_message 'no more words'"]
+        yield "        " + " \\\n            ".join(words)
         yield "        ;;"
     yield "    esac"
     yield "}"
@@ -125,7 +126,8 @@ def fish(rows):
     yield "complete -c ztso -f"
     for command in commands:
         yield f"complete -c ztso -n __fish_use_subcommand -a {command.name} -d {fish_quoted(command.prints)}"
-    listed = {command: next((kind for _, kind in command.inputs if kind and kind != FILES), []) for command in commands}
+    listed = {command: next((kind for _, kind in command.inputs if kind and kind != FILES), [])
+              for command in commands}
     plain = [command.name for command in commands if not listed[command] and FILES in dict(command.inputs).values()]
     yield f"complete -c ztso -n '{fish_seen(plain)}' -F"
     for command, words in listed.items():
