@@ -3,6 +3,8 @@
 import signal
 import subprocess
 
+import tree
+
 from . import SB, below, call, install, workplace
 
 
@@ -17,6 +19,7 @@ def part(count, program):
         runs(count, prefix, elsewhere, alone)
         manual(count, prefix / "share/man", elsewhere)
         page(count, prefix, elsewhere)
+        whole_parts(count, prefix / "share/ztso")
         count.same("what is installed stays as it is", contents(prefix), whole)
         repairs(count, prefix, alone, whole)
         taken_away(count, prefix, alone)
@@ -71,6 +74,16 @@ def page(count, prefix, elsewhere):
     count.told("ztso-page", address.startswith("http://127.0.0.1:") and served.returncode == 0, address + faults)
 
 
+def whole_parts(count, share):
+    """The pages that the commands name are there, and the page for the browser has all its parts."""
+    rows = [line.split("\t") for line in (share / "docs/commands.tsv").read_text().splitlines()]
+    named = sorted({row[4].split("#")[0] for row in rows if row[0] == "command"})
+    count.same("pages that are named", [name for name in named if not (share / name).is_file()], [])
+    parts = "tools/page_parts"
+    wanted = [name for name in below(tree.TOP / parts) if not {"trials", "__pycache__"} & set(name.split("/"))]
+    count.same("the parts of the page", below(share / parts), wanted)
+
+
 def repairs(count, prefix, alone, whole):
     """A second call puts right what is missing, changed or of another version."""
     (prefix / "bin/ztso").unlink()
@@ -123,6 +136,7 @@ def refusals(count, folder, alone):
     count.same("it stays alone", below(prefix), ["bin", "bin/ztso"])
     foreign.unlink()
     refused(count, "no program", prefix, "is no program", "--program", folder)
+    refused(count, "no prefix", "", "--prefix", "--program", alone)
     (folder / "file").write_text("")
     refused(count, "a prefix that is a file", folder / "file", str(folder / "file"), "--program", alone)
     listed = prefix / "share/ztso/installed"
