@@ -1,6 +1,6 @@
-# Of docs/commands.tsv: the words and options of `command`, or all commands where it is none. Given are also `version`,
-# `columns` of the terminal, `manual`, the command that shows the manual page, `shelf`, the folder of the litmus
-# tests, and `at`, what stands before the name of a page.
+# Of docs/commands.tsv: the words and options of the command ASKED, or all commands where it is none. The environment
+# also has COLUMNS of the terminal, VERSION, MANUAL, the command that shows the manual page, and FRONT, what stands
+# before the names of files.
 
 # Prints a text in lines of the width; the later ones begin below the end of `front`. An option in brackets is one word.
 function wrapped(front, text,    count, word, i, line, blanks) {
@@ -25,17 +25,18 @@ function first_word(text,    word) {
 }
 
 function all_commands(    i) {
-    print "ztso " version " runs small RISC-V programs under the memory model Ztso."
+    print "ztso " ENVIRON["VERSION"] " runs small RISC-V programs under the memory model Ztso."
     for (i = 1; i <= commands; i++) {
         sub(/ --.*/, " ..", form[i])
         sub(/[,:;(].*/, "", prints[i])
         wrapped(sprintf("  %-27s ", form[i]), prints[i])
     }
-    print "`ztso COMMAND --help`: its words and options; more: " manual
-    print "litmus tests: " shelf
+    print "`ztso COMMAND --help`: its words and options; more: " ENVIRON["MANUAL"]
+    print "litmus tests: " ENVIRON["FRONT"] "litmus"
 }
 
-function one_command(number,    i, line) {
+function one_command(number,    i, line, command) {
+    command = ENVIRON["ASKED"]
     line = "ztso " form[number]
     for (i = 1; i <= options; i++)
         # an option that has to be given stands in the form already
@@ -48,11 +49,12 @@ function one_command(number,    i, line) {
         if (takers[i] ~ " " command " ")
             wrapped(sprintf("  %-11s ", option[i]), does[i])
     sub(/#.*/, "", page[number])
-    print "more: " manual "; " at page[number]
+    print "more: " ENVIRON["MANUAL"] "; " ENVIRON["FRONT"] page[number]
 }
 
 BEGIN {
     FS = "\t"
+    columns = ENVIRON["COLUMNS"] + 0
     width = columns < 40 ? 79 : columns < 100 ? columns - 1 : 99
 }
 
@@ -62,7 +64,7 @@ $1 == "command" {
     reads[commands] = $3
     prints[commands] = $4
     page[commands] = $5
-    if (first_word($2) == command)
+    if (first_word($2) == ENVIRON["ASKED"])
         known = commands
 }
 
