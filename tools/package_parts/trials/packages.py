@@ -10,6 +10,9 @@ from . import SB, below, call, is_binary, prefix, workplace
 
 # in place of the program where that is no binary: it is packed, and not run
 STAND_IN = Path("/bin/true")
+# functions of the C library that docs/security.md says the program doesn't call: its file has no such name
+UNCALLED = ("socket connect bind accept listen sendto recvfrom fork vfork clone execve execvp posix_spawn system popen "
+            "dlopen dlsym getenv secure_getenv fopen openat creat unlink rename mkdir chmod mmap mprotect").split()
 
 
 def part(count, program):
@@ -30,6 +33,9 @@ def part(count, program):
             count.told(f"{name} is the same twice", one == other)
         count.same("sums", call("sha256sum", "--quiet", "-c", "SHA256SUMS", folder=folder / "first"), (0, "", ""))
         refusals(count, folder, packed)
+        if packed == alone:
+            there = [name for name in UNCALLED if b"\0%s\0" % name.encode() in alone.read_bytes()]
+            count.same("functions that the program calls", there, [])
         archive(count, folder, folder / "first" / made[1], packed)
         debian(count, folder, folder / "first" / made[2], packed)
 
