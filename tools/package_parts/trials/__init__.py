@@ -1,8 +1,11 @@
 """What the trials of tools/install-tests share."""
 
 import os
+import pty
+import select
 import shutil
 import subprocess
+import time
 from contextlib import contextmanager
 from pathlib import Path
 from tempfile import TemporaryDirectory
@@ -58,3 +61,32 @@ def install(*words, **options):
 def below(folder):
     """What is in a folder, by the names from there."""
     return sorted(path.relative_to(folder).as_posix() for path in folder.rglob("*"))
+
+
+class Typed:
+    """A command of which all streams are a pseudoterminal."""
+
+    def __init__(self, words, folder, variables=None):
+        self.content = b""
+        self.number, self.outer = pty.fork()
+        if not self.number:
+            os.chdir(folder)
+            os.execvpe(words[0], list(map(str, words)), {**os.environ, **(variables or {})})
+
+    def type(self, text):
+        os.write(self.outer, text.encode())
+
+    def until(self, mark, seconds=20):
+        """What came up to a mark."""
+        end = time.monotonic() + seconds
+        while mark not in self.content and time.monotonic() < end:
+            if select.select([self.outer], [], [], 0.1)[0]:
+                try:
+                    self.content += os.read(self.outer, 1 << 16)
+                except OSError:
+                    break
+        return self.content
+
+    def end(self):
+        os.close(self.outer)
+        os.waitpid(self.number, 0)

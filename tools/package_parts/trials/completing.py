@@ -1,14 +1,11 @@
 """The completions in the shells themselves: what comes after the words of a line."""
 
 import os
-import pty
 import re
-import select
-import time
 
 import tree
 
-from . import call, workplace
+from . import Typed, call, workplace
 
 BUFFERS = ["1", "16", "2", "4"]
 # the words of a line so far, and what can come next; `files` stands for the files of the folder
@@ -73,41 +70,12 @@ builtin compadd -O asked "$@"; print -rl -- "came:"${{^asked}}; builtin compadd 
 """
 
 
-class Typed:
-    """A zsh at a pseudoterminal."""
-
-    def __init__(self, inside, folder):
-        self.content = b""
-        self.number, self.outer = pty.fork()
-        if not self.number:
-            os.chdir(inside)
-            os.execvpe("zsh", ["zsh", "-f", "-i"], {**os.environ, "TERM": "dumb", "HOME": str(folder), "COLUMNS": "200"})
-
-    def type(self, text):
-        os.write(self.outer, text.encode())
-
-    def until(self, mark, seconds=20):
-        """What came up to a mark."""
-        end = time.monotonic() + seconds
-        while mark not in self.content and time.monotonic() < end:
-            if select.select([self.outer], [], [], 0.1)[0]:
-                try:
-                    self.content += os.read(self.outer, 1 << 16)
-                except OSError:
-                    break
-        return self.content
-
-    def end(self):
-        os.close(self.outer)
-        os.waitpid(self.number, 0)
-
-
 def in_zsh(line, inside, folder):
     """The words that zsh would add: each goes through `compadd`, which writes them down."""
     fpath = folder / "fpath"
     fpath.mkdir(exist_ok=True)
     (fpath / "_ztso").write_bytes((tree.TOP / "scripts/completion.zsh").read_bytes())
-    typed = Typed(inside, folder)
+    typed = Typed(["zsh", "-f", "-i"], inside, {"TERM": "dumb", "HOME": str(folder), "COLUMNS": "200"})
     try:
         typed.type(ZSH.format(fpath=fpath, dump=folder / "dump"))
         typed.until(b"ready\r\n")

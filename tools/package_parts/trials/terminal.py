@@ -7,7 +7,7 @@ import subprocess
 import tree
 from kit import terminal
 
-from . import SB, SECONDS, call, install, is_binary, workplace
+from . import SB, SECONDS, Typed, call, install, is_binary, workplace
 
 BAD = "ztso: bad command line\n"
 RUN = """\
@@ -56,6 +56,7 @@ def part(count, program):
         short_names(count, places, prefix, top)
         if is_binary(program):
             progress(count, places[0], share)
+            prompt(count, places[0], share)
 
 
 def checkout(top, program):
@@ -152,3 +153,15 @@ def progress(count, place, share):
     done, written = terminal.run(list(map(str, words)), stdout=subprocess.PIPE, timeout=SECONDS)
     shown, gone = terminal.shown(written)
     count.told("the progress of try", shown == b"" and gone.startswith(b"runs ") and done.stdout, (shown, gone))
+
+
+def prompt(count, place, share):
+    """`debug` asks for a line before one is typed."""
+    typed = Typed([place.wrapper, "debug", *(share / name for name in SB)], share)
+    try:
+        asked = typed.until(b"\n> ")
+        typed.type("s\nq\n")
+        said = typed.until(b"store 0 0 1")
+    finally:
+        typed.end()
+    count.told("the prompt of debug", asked.endswith(b"\n> ") and b"store 0 0 1" in said, said)
