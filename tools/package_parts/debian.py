@@ -28,7 +28,7 @@ Copyright (C) 2026 the authors of ztso
 No licence is granted yet; the choice is open. All rights are reserved.
 """
 # lintian asks for a program without its table of symbols. This one is, byte for byte, the one that was proved and
-# tested, so that its sum is that of lib/ztso/ztso wherever the same commit is built.
+# tested.
 OVERRIDES = """\
 # the very bytes of the program that was proved and tested
 ztso: unstripped-binary-or-object [usr/lib/ztso/ztso]
